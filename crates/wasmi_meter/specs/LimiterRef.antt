@@ -1,0 +1,36 @@
+-- What a reference to a limiter leads to.
+use Rattle.std.specs.Prelude.{◌≡◌, ◌⊎◌, Option, Some, None}
+use Rattle.std.proofs.Common.{inl, inr}
+use Rattle.std.specs.Option.{option_copied_mut}
+use Rattle.std.specs.Borrow.{MutBor}
+use Rattle.wasmi_meter.specs.declared.limiter_ref.LimiterRef.{LimiterRef}
+
+-- what is lent, if anything
+abbrev pub loan : {R : Type 0} → LimiterRef R → Option R
+loan r = r.limiter
+
+-- the present value of the limiter that is lent, or none
+abbrev pub state : {L : Type 0} → LimiterRef (MutBor L) → Option L
+state r = option_copied_mut r.limiter
+
+-- one loan before and after a call: both absent, or under one name
+abbrev pub SameLoan : {L : Type 0} → Option (MutBor L) → Option (MutBor L) → Type 0
+SameLoan None None = Unit {0}
+SameLoan None (Some r') = ⊥
+SameLoan (Some r) None = ⊥
+SameLoan (Some r) (Some r') = r'.ghost_name ≡ r.ghost_name
+
+-- r' leads to what r leads to
+abbrev pub KeepsLoan : {L : Type 0} → LimiterRef (MutBor L) → LimiterRef (MutBor L) → Type 0
+KeepsLoan r r' = SameLoan r.limiter r'.limiter
+
+-- what a reference shows, if there is one
+abbrev pub shown_of : {R L : Type 0} → (R → L) → Option R → Option L
+shown_of shown None = None
+shown_of shown (Some r) = Some (shown r)
+
+-- the value that an optional reference leaves behind it, in the terms of a clause's `.exit`
+abbrev pub left_behind : {A B C T : Type 0} → (B → T) → A ⊎ (B ⊎ C) → Option T
+left_behind value (inl none) = None
+left_behind value (inr (inl some)) = Some (value some)
+left_behind value (inr (inr other)) = None

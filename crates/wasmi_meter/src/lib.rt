@@ -1,0 +1,14 @@
+//! Fuel metering, resource limits of growth, and the errors of memories and tables.
+#![tactic(auto)]
+
+mod error;
+mod fuel;
+mod limiter;
+mod limiter_ref;
+
+pub use error::{LimiterError, MemoryError, TableError};
+pub use fuel::{
+    CustomFuelCosts, Fuel, FuelCosts, FuelCostsProvider, FuelError, ValueSize,
+};
+pub use limiter::{Kind, NoLimits, ResourceLimiter};
+pub use limiter_ref::{Lender, LimiterRef, ResourceLimiterRef};

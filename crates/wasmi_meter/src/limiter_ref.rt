@@ -1,0 +1,160 @@
+//! A limiter that is lent, or none.
+ghost use Rattle.std.specs.Prelude.{◌≡◌, ◌≤◌, ℕ, Option, Some, None, Result, Ok, Bool, true};
+ghost use Rattle.std.specs.Option.{option_copied_mut};
+ghost use Rattle.std.specs.Borrow.{sem, Lends};
+ghost use denote.Ref.{at_last};
+ghost use Rattle.wasmi_meter.specs.Limiter.{Question, MemoryFailure, TableFailure, AskedIf, NoticedIf};
+ghost use Rattle.wasmi_meter.specs.LimiterRef.{loan, state, KeepsLoan, shown_of};
+ghost use Rattle.wasmi_meter.specs.Lending.{LendsLimiter};
+ghost use Rattle.wasmi_meter.specs.declared.limiter.Kind.TheVariants.{Bytes, Elements};
+
+use crate::error::{LimiterError, MemoryError, TableError};
+use crate::limiter::ResourceLimiter;
+
+mod sealed {
+    pub trait Sealed {}
+
+    impl<'a, L> Sealed for &'a mut L {}
+}
+
+/// What leads to a value that it can lend: a `&mut` reference, and nothing else.
+pub trait Lender: sealed::Sealed {
+    /// The type of what is lent.
+    type Lent;
+
+    /// The present value of what is lent.
+    ghost shown: { Self → Self.Lent };
+
+    /// The lender, once this value was the last one of what it lent.
+    ghost last: { Self → Self.Lent → Self };
+
+    /// Lends it.
+    fn lend(&mut self) -> &mut Self::Lent
+        ensures* writes_back { sem 𝓛 (Lends Self.row Self.Lent.row self.entry result (last self.old)) }
+        ensures value { result.now ≡ shown self.old };
+}
+
+impl<'a, L> Lender for &'a mut L {
+    type Lent = L;
+
+    ghost shown = { λ l. l.now };
+
+    ghost last = { at_last };
+
+    fn lend(&mut self) -> &mut Self::Lent {
+        &mut **self
+    }
+}
+
+/// What leads to a limiter, or nothing. Its name in signatures is [`ResourceLimiterRef`].
+#[derive(Drop, Debug)]
+pub struct LimiterRef<R> {
+    limiter: Option<R>,
+}
+
+/// A limiter that is lent, or none. Without a limiter every growth is permitted.
+///
+/// Upstream: `wasmi_core::ResourceLimiterRef`.
+pub type ResourceLimiterRef<'a, L> = LimiterRef<&'a mut L>;
+
+impl<'a, L> Default for LimiterRef<&'a mut L> {
+    ghost is_default = { λ r. loan r ≡ None };
+
+    fn default() -> Self {
+        LimiterRef { limiter: None }
+    }
+}
+
+impl<'a, L> From<&'a mut L> for LimiterRef<&'a mut L> {
+    ghost from_gives = { λ l r. loan r ≡ Some l };
+
+    fn from(limiter: &'a mut L) -> Self {
+        LimiterRef {
+            limiter: Some(limiter),
+        }
+    }
+}
+
+impl<R> LimiterRef<R> {
+    /// The reference that leads to the limiter. A caller that ends its loan with this call knows what its limiter
+    /// has become.
+    pub fn into_resource_limiter(self) -> Option<R>
+        ensures { result ≡ loan self }
+    {
+        let LimiterRef { limiter } = self;
+        limiter
+    }
+
+    /// The limiter, if there is one.
+    pub fn as_resource_limiter(&mut self) -> Option<&mut R::Lent>
+    where
+        R: Lender,
+        ensures* writes_back { sem 𝓛 (LendsLimiter R.row R.Lent.row R.Lender.last self.entry result) }
+        ensures value { option_copied_mut result ≡ shown_of R.Lender.shown (loan self.old) }
+    {
+        match &mut self.limiter {
+            Some(limiter) => Some(limiter.lend()),
+            None => None,
+        }
+    }
+}
+
+impl<'a, L: ResourceLimiter> LimiterRef<&'a mut L> {
+    /// Asks the limiter, if there is one, whether a memory may grow from `current` to `desired` bytes.
+    pub fn memory_growing(
+        &mut self,
+        current: usize,
+        desired: usize,
+        maximum: Option<usize>,
+    ) -> Result<bool, LimiterError>
+        requires { current ≤ desired }
+        ensures loan { KeepsLoan self.old self.new }
+        ensures asked { AskedIf L.asked (state self.old)
+            (record { kind = Bytes; current = current; desired = desired; maximum = maximum }) result (state self.new) }
+    {
+        match &mut self.limiter {
+            Some(limiter) => limiter.memory_growing(current, desired, maximum),
+            None => Ok(true),
+        }
+    }
+
+    /// Asks the limiter, if there is one, whether a table may grow from `current` to `desired` elements.
+    pub fn table_growing(
+        &mut self,
+        current: usize,
+        desired: usize,
+        maximum: Option<usize>,
+    ) -> Result<bool, LimiterError>
+        requires { current ≤ desired }
+        ensures loan { KeepsLoan self.old self.new }
+        ensures asked { AskedIf L.asked (state self.old)
+            (record { kind = Elements; current = current; desired = desired; maximum = maximum }) result (state self.new) }
+    {
+        match &mut self.limiter {
+            Some(limiter) => limiter.table_growing(current, desired, maximum),
+            None => Ok(true),
+        }
+    }
+
+    /// Tells the limiter, if there is one, that a memory which it permitted to grow did not.
+    pub fn memory_grow_failed(&mut self, error: &MemoryError) -> Result<(), LimiterError>
+        ensures loan { KeepsLoan self.old self.new }
+        ensures noticed { NoticedIf L.noticed (state self.old) (MemoryFailure error.now) result (state self.new) }
+    {
+        match &mut self.limiter {
+            Some(limiter) => limiter.memory_grow_failed(error),
+            None => Ok(()),
+        }
+    }
+
+    /// Tells the limiter, if there is one, that a table which it permitted to grow did not.
+    pub fn table_grow_failed(&mut self, error: &TableError) -> Result<(), LimiterError>
+        ensures loan { KeepsLoan self.old self.new }
+        ensures noticed { NoticedIf L.noticed (state self.old) (TableFailure error.now) result (state self.new) }
+    {
+        match &mut self.limiter {
+            Some(limiter) => limiter.table_grow_failed(error),
+            None => Ok(()),
+        }
+    }
+}

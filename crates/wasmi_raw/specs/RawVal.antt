@@ -1,0 +1,33 @@
+-- What the two words of a raw value mean, by type.
+use Rattle.std.specs.Prelude.{ℕ, ◌%◌, ◌/◌, ◌^◌, ◌==◌, Bool, not, ℤ}
+use Rattle.std.specs.Int.{Width, cast_signed}
+use mir.Val.{bits}
+use Rattle.wasmi_raw.specs.Vector.{vector_of}
+use Rattle.wasmi_raw.specs.declared.raw.RawVal.{RawVal}
+
+-- the low word cut to a width: the unsigned integer, and the signed one
+abbrev pub unsigned_in : Width → RawVal → ℕ
+unsigned_in w raw = raw.lo % 2 ^ bits w
+
+abbrev pub signed_in : Width → RawVal → ℤ
+signed_in w raw = cast_signed w (raw.lo % 2 ^ bits w)
+
+-- whether the low word is not 0
+abbrev pub bool_in : RawVal → Bool
+bool_in raw = not (raw.lo == 0)
+
+-- the vector of both words
+abbrev pub vector_in : RawVal → ℕ
+vector_in raw = vector_of raw.lo raw.hi
+
+-- the low word becomes n, and the high word is kept
+abbrev pub with_low : RawVal → ℕ → RawVal
+with_low raw n = record raw { lo = n }
+
+-- the low word is n, and the high word is 0
+abbrev pub raw_of : ℕ → RawVal
+raw_of n = record { lo = n; hi = 0 }
+
+-- the words of a vector
+abbrev pub raw_of_vector : ℕ → RawVal
+raw_of_vector v = record { lo = v % 2 ^ 64; hi = v / 2 ^ 64 }

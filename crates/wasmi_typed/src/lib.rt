@@ -1,0 +1,2 @@
+//! Under construction.
+#![tactic(auto)]

@@ -1,0 +1,30 @@
+use Rattle.std.specs.Prelude.{Bool, true, false, Option, Some, None}
+use Rattle.wasmi_types.specs.declared.value.ValType.{ValType}
+use Rattle.wasmi_types.specs.declared.value.ValType.TheVariants.{I32, I64, F32, F64, V128, FuncRef, ExternRef}
+use Rattle.wasmi_types.specs.declared.value.RefType.{RefType}
+use Rattle.wasmi_types.specs.declared.value.RefType.TheVariants.{Func, Extern}
+
+-- whether a value type is a number type
+abbrev pub is_number_type : ValType → Bool
+is_number_type I32 = true
+is_number_type I64 = true
+is_number_type F32 = true
+is_number_type F64 = true
+is_number_type V128 = false
+is_number_type FuncRef = false
+is_number_type ExternRef = false
+
+-- the reference type of a value type, if it is one
+abbrev pub reference_of : ValType → Option RefType
+reference_of I32 = None
+reference_of I64 = None
+reference_of F32 = None
+reference_of F64 = None
+reference_of V128 = None
+reference_of FuncRef = Some Func
+reference_of ExternRef = Some Extern
+
+-- the value type of a reference type
+abbrev pub value_of : RefType → ValType
+value_of Func = FuncRef
+value_of Extern = ExternRef
