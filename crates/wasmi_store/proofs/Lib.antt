@@ -1,0 +1,3 @@
+pub mod Fronts
+pub mod Attempts
+pub mod Growths

@@ -1,0 +1,171 @@
+//! The bytes of a linear memory.
+ghost use Rattle.std.specs.Prelude.{◌≡◌, ◌≤◌, ◌<◌, length, take, drop, replicate, IfOk, IfErr, IsOk, ◌↔◌, ◌+◌, ◌-◌, OnOk, OnErr, Some};
+ghost use Rattle.std.specs.Borrow.{sem, Lends, Array, u8};
+ghost use Rattle.wasmi_types.specs.Access.{overwrite};
+
+use crate::region::Region;
+use std::alloc::Global;
+use std::marker::Model;
+use wasmi_meter::MemoryError;
+
+#[derive(Debug, Drop)]
+enum Storage {
+    Owned(Vec<u8>),
+    // So many bytes at the front of the region.
+    Lent(usize),
+}
+
+impl Storage {
+    ghost use Rattle.wasmi_store.specs.Storage.{used_of, IsOwned, owned_items, LendsOwned};
+
+    fn used(&self) -> Option<usize>
+        ensures { result ≡ used_of self.now }
+    {
+        match self {
+            Storage::Owned(_) => None,
+            Storage::Lent(used) => Some(*used),
+        }
+    }
+
+    fn owned(&self) -> &[u8]
+        requires { IsOwned self.now }
+        ensures { result.now ≡ owned_items self.now }
+    {
+        match self {
+            Storage::Owned(bytes) => bytes.as_slice(),
+            Storage::Lent(_) => unreachable!(),
+        }
+    }
+
+    fn owned_mut(&mut self) -> &mut [u8]
+        requires { IsOwned self.old }
+        ensures* writes_back { sem 𝓛 (LendsOwned self.entry result) }
+        ensures value { result.now ≡ owned_items self.old }
+    {
+        match self {
+            Storage::Owned(bytes) => bytes.as_mut_slice(),
+            Storage::Lent(_) => unreachable!(),
+        }
+    }
+}
+
+/// Bytes that lie in memory of their own, or at the front of a region. Its name in signatures is [`ByteBuffer`].
+#[derive(Debug, Drop)]
+pub struct Buffer<R: Region> {
+    storage: Storage,
+    // Empty where the bytes are owned.
+    region: R,
+}
+
+impl<R: Region> Model for Buffer<R> {
+    ghost use Rattle.wasmi_store.specs.Buffer.{BufferValue};
+    ghost use Rattle.wasmi_store.specs.Storage.{view_of, EndsWithin};
+
+    ghost Value = { BufferValue };
+
+    ghost view = { λ b. view_of b.storage (R.bytes b.region) };
+
+    ghost invariant = { λ b. EndsWithin b.storage (R.bytes b.region) };
+}
+
+/// A growable buffer of bytes; `'r` is the loan of a region that they may lie in.
+///
+/// Upstream: `ByteBuffer` of `wasmi_core`'s module `memory`.
+pub type ByteBuffer<'r> = Buffer<&'r mut [u8]>;
+
+impl<R: Region> Buffer<R> {
+    ghost use Rattle.wasmi_store.specs.Buffer.{with_bytes, grown, CanFail, CanGrow};
+    ghost use Rattle.wasmi_store.specs.contracts.buffer.Buffer.{the_row};
+
+    /// The bytes.
+    pub fn data(&self) -> &[u8]
+        ensures { result.now ≡ self.now.bytes }
+    {
+        match self.storage.used() {
+            Some(end) => {
+                let bytes = self.region.whole();
+                &bytes[..end]
+            }
+            None => self.storage.owned(),
+        }
+    }
+
+    /// The bytes, to be written over.
+    pub fn data_mut(&mut self) -> &mut [u8]
+        ensures* writes_back { sem 𝓛 (Lends (the_row R.row R.Region) (Array u8 0) self.entry result (with_bytes self.old)) }
+        ensures value { result.now ≡ self.old.bytes }
+    {
+        match self.storage.used() {
+            Some(end) => self.region.front_mut(end),
+            None => self.storage.owned_mut(),
+        }
+    }
+
+    /// The number of bytes.
+    pub fn len(&self) -> usize
+        ensures { result ≡ length self.now.bytes }
+    {
+        match &self.storage {
+            Storage::Owned(bytes) => bytes.len(),
+            Storage::Lent(used) => *used,
+        }
+    }
+
+    pub(crate) fn write(&mut self, offset: usize, source: &[u8])
+        requires { offset + length source.now ≤ length self.old.bytes }
+        ensures bytes { overwrite self.old.bytes offset source.now ≡ Some self.new.bytes }
+        ensures room { self.new.room ≡ self.old.room }
+    {
+        let data = self.data_mut();
+        let part = &mut data[offset..offset + source.len()];
+        part.copy_from_slice(source);
+    }
+
+    /// Appends zeros, up to a new number of bytes that isn't below the present one.
+    ///
+    /// An owned buffer is refused only for want of memory (`OutOfSystemMemory`), a lent one only where its region is
+    /// too short (`InvalidStaticBufferSize`).
+    pub fn grow(&mut self, new_size: usize) -> Result<(), MemoryError>
+        requires { length self.old.bytes ≤ new_size }
+        ensures ok { OnOk result (self.new ≡ grown self.old (new_size - length self.old.bytes)) }
+        ensures fits { OnOk result (CanGrow self.old.room (new_size - length self.old.bytes)) }
+        ensures err { OnErr result (self.new ≡ self.old) }
+        ensures cause { IfErr result (CanFail self.old.room (new_size - length self.old.bytes)) }
+    {
+        match &mut self.storage {
+            Storage::Owned(bytes) => match bytes.resize(new_size, 0) {
+                Ok(()) => Ok(()),
+                Err(_) => Err(MemoryError::OutOfSystemMemory),
+            },
+            Storage::Lent(used) => {
+                if self.region.whole().len() < new_size {
+                    return Err(MemoryError::InvalidStaticBufferSize);
+                }
+                let end = *used;
+                let bytes = self.region.front_mut(new_size);
+                let added = &mut bytes[end..];
+                added.fill(0);
+                *used = new_size;
+                Ok(())
+            }
+        }
+    }
+}
+
+impl<'r> Buffer<&'r mut [u8]> {
+    ghost use Rattle.wasmi_store.specs.Buffer.{zeros_owned};
+
+    /// So many zeros in memory of their own. It is refused only for want of memory.
+    pub fn new(alloc: Global, size: usize) -> Result<ByteBuffer<'r>, MemoryError>
+        ensures ok { IfOk result (λ b. b ≡ zeros_owned size) }
+        ensures err { IfErr result (λ e. e ≡ MemoryError.OutOfSystemMemory) }
+    {
+        match vec![in alloc; 0u8; size] {
+            Ok(bytes) => Ok(Buffer {
+                storage: Storage::Owned(bytes),
+                region: &mut [],
+            }),
+            Err(_) => Err(MemoryError::OutOfSystemMemory),
+        }
+    }
+}

@@ -1,0 +1,249 @@
+//! Linear memories.
+ghost use Rattle.std.specs.Prelude.{◌≡◌, ◌+◌, ◌-◌, ◌*◌, ◌/◌, ◌%◌, ◌<◌, ◌≤◌, ◌^◌, ◌++◌, ◌↔◌, replicate, length, ℕ, Option, Some, None, Result, Ok, Err, MatchOption, OnOk, OnErr, IfErr, true, false, nat_lt, if◌then◌else◌};
+ghost use Rattle.std.specs.Option.{option_copied_mut};
+ghost use Rattle.std.specs.Borrow.{sem, Lends, Array, u8};
+ghost use Rattle.wasmi_types.specs.Access.{at};
+ghost use Rattle.wasmi_meter.specs.Limiter.{AskedIf, NoticedIf};
+ghost use Rattle.wasmi_meter.specs.LimiterRef.{state, KeepsLoan, left_behind};
+ghost use Rattle.wasmi_meter.specs.declared.limiter.Kind.TheVariants.{Bytes};
+ghost use Rattle.wasmi_meter.specs.Costs.{copy_cost};
+ghost use Rattle.wasmi_store.specs.MemoryType.{page_bytes, in_bounds};
+ghost use Rattle.wasmi_store.specs.Memory.{Asks, Charges, Tells};
+
+use crate::buffer::Buffer;
+use crate::memory_type::MemoryType;
+use crate::region::Region;
+use std::alloc::Global;
+use std::marker::Model;
+use wasmi_meter::{
+    Fuel, FuelCostsProvider, FuelError, MemoryError, ResourceLimiter, ResourceLimiterRef,
+};
+
+/// A linear memory. Its name in signatures is [`Memory`].
+#[derive(Debug, Drop)]
+pub struct LinearMemory<R: Region> {
+    buffer: Buffer<R>,
+    ty: MemoryType,
+}
+
+impl<R: Region> Model for LinearMemory<R> {
+    ghost use Rattle.std.specs.Prelude.{length};
+    ghost use Rattle.wasmi_store.specs.Memory.{MemoryValue, IsWhole};
+
+    ghost Value = { MemoryValue };
+
+    ghost view = { λ m. record { ty = m.ty; bytes = m.buffer.bytes; room = m.buffer.room } };
+
+    ghost invariant = { λ m. IsWhole m.ty (length m.buffer.bytes) };
+}
+
+/// A linear memory of whole pages; `'r` is the loan of a region that its bytes may lie in.
+///
+/// Core specification, memory instances. Upstream: `wasmi_core::Memory`.
+pub type Memory<'r> = LinearMemory<&'r mut [u8]>;
+
+impl<'r> LinearMemory<&'r mut [u8]> {
+    ghost use Rattle.wasmi_store.specs.Memory.{MakesMemory};
+
+    /// A memory of zeros, at the minimum of its type. It takes no fuel.
+    ///
+    /// Refusals in their order: `MinimumSizeOverflow` where the minimum has 2^64 bytes or more;
+    /// `ResourceLimiterDeniedAllocation` where the limiter doesn't permit; `OutOfSystemMemory`, of which the limiter
+    /// is told.
+    pub fn new<L: ResourceLimiter>(
+        alloc: Global,
+        ty: MemoryType,
+        limiter: &mut ResourceLimiterRef<L>,
+    ) -> Result<Memory<'r>, MemoryError>
+        ensures loan { KeepsLoan limiter.old limiter.new }
+        ensures made { MakesMemory (AskedIf L.asked) (NoticedIf L.noticed) ty (state limiter.old) result (state limiter.new) }
+    {
+        let Some(size) = ty.minimum_size() else {
+            return Err(MemoryError::MinimumSizeOverflow);
+        };
+        ask(limiter, 0, size, ty.maximum_size(), MemoryError::ResourceLimiterDeniedAllocation)?;
+        match Buffer::new(alloc, size) {
+            Ok(buffer) => Ok(LinearMemory { buffer, ty }),
+            Err(cause) => Err(tell(limiter, cause)),
+        }
+    }
+}
+
+impl<R: Region> LinearMemory<R> {
+    ghost use Rattle.wasmi_store.specs.Memory.{pages_of, GrowsMemory, WritesMemory, with_bytes};
+    ghost use Rattle.wasmi_store.specs.contracts.memory.LinearMemory.{the_row};
+
+    /// The type that it was made with.
+    pub fn ty(&self) -> MemoryType
+        ensures { result ≡ self.now.ty }
+    {
+        self.ty
+    }
+
+    /// The size in pages.
+    pub fn size(&self) -> u64
+        ensures { result ≡ pages_of self.now }
+    {
+        self.buffer.len() as u64 / u64::from(self.ty.page_size())
+    }
+
+    /// The size in bytes.
+    pub fn data_size(&self) -> usize
+        ensures { result ≡ length self.now.bytes }
+    {
+        self.buffer.len()
+    }
+
+    /// The bytes.
+    pub fn data(&self) -> &[u8]
+        ensures { result.now ≡ self.now.bytes }
+    {
+        self.buffer.data()
+    }
+
+    /// The bytes, to be written over.
+    pub fn data_mut(&mut self) -> &mut [u8]
+        ensures* writes_back { sem 𝓛 (Lends (the_row R.row R.Region) (Array u8 0) self.entry result (with_bytes self.old)) }
+        ensures value { result.now ≡ self.old.bytes }
+    {
+        self.buffer.data_mut()
+    }
+
+    /// Grows by so many pages of zeros, and answers the old size in pages. A growth by 0 touches nothing.
+    ///
+    /// Refusals in their order: `OutOfBoundsGrowth` above the greatest number of pages or the maximum, or at 2^64
+    /// bytes or more; what the limiter answers (`OutOfBoundsGrowth` where it says no,
+    /// `ResourceLimiterDeniedAllocation` for an error); `OutOfFuel` where the meter is on and the added bytes cost
+    /// more than is left; want of memory, or a lent region that is too short, which leaves the charge taken. Of the
+    /// last two the limiter is told, and if it answers an error they become `ResourceLimiterDeniedAllocation`.
+    pub fn grow<L: ResourceLimiter>(
+        &mut self,
+        additional: u64,
+        fuel: Option<&mut Fuel>,
+        limiter: &mut ResourceLimiterRef<L>,
+    ) -> Result<u64, MemoryError>
+        ensures loan { KeepsLoan limiter.old limiter.new }
+        ensures grown { (charge : ℕ) × GrowsMemory (AskedIf L.asked) (NoticedIf L.noticed)
+            self.old (option_copied_mut fuel.entry) (state limiter.old) additional result charge
+            self.new (left_behind (λ lent. lent.0.now) fuel.exit) (state limiter.new) }
+    {
+        match fuel {
+            Some(fuel) => self.grow_metered(additional, fuel, limiter),
+            None => {
+                let mut unmetered = Fuel::new(false, FuelCostsProvider::default());
+                self.grow_metered(additional, &mut unmetered, limiter)
+            }
+        }
+    }
+
+    fn grow_metered<L: ResourceLimiter>(
+        &mut self,
+        additional: u64,
+        fuel: &mut Fuel,
+        limiter: &mut ResourceLimiterRef<L>,
+    ) -> Result<u64, MemoryError>
+        ensures loan { KeepsLoan limiter.old limiter.new }
+        ensures grown { (charge : ℕ) × GrowsMemory (AskedIf L.asked) (NoticedIf L.noticed)
+            self.old (Some fuel.old) (state limiter.old) additional result charge
+            self.new (Some fuel.new) (state limiter.new) }
+    {
+        let old_pages = self.size();
+        if additional == 0 {
+            return Ok(old_pages);
+        }
+        let Some(size) = self.grown_size(additional) else {
+            return Err(MemoryError::OutOfBoundsGrowth);
+        };
+        let old_size = self.buffer.len();
+        ask(limiter, old_size, size, self.ty.maximum_size(), MemoryError::OutOfBoundsGrowth)?;
+        if let Err(cause) = charge(fuel, (size - old_size) as u64) {
+            return Err(tell(limiter, cause));
+        }
+        if let Err(cause) = self.buffer.grow(size) {
+            return Err(tell(limiter, cause));
+        }
+        Ok(old_pages)
+    }
+
+    /// The number of bytes after a growth, if the type allows it.
+    fn grown_size(&self, additional: u64) -> Option<usize>
+        ensures { MatchOption result
+            (in_bounds self.now.ty (pages_of self.now + additional) ≡ false)
+            (λ size. (in_bounds self.now.ty (pages_of self.now + additional) ≡ true)
+                × (size ≡ length self.now.bytes + additional * page_bytes self.now.ty.page)) }
+    {
+        let pages = self.size().checked_add(additional)?;
+        self.ty.size_of_pages(pages)
+    }
+
+    /// Copies the bytes from an offset on into a buffer, which is filled; it is `OutOfBoundsAccess` where they end
+    /// past the memory, and then nothing is copied.
+    pub fn read(&self, offset: usize, buffer: &mut [u8]) -> Result<(), MemoryError>
+        ensures ok { OnOk result (at self.now.bytes offset (length buffer.old) ≡ Some buffer.new) }
+        ensures err { IfErr result (λ error. (error ≡ MemoryError.OutOfBoundsAccess) × (at self.now.bytes offset (length buffer.old) ≡ None) × (buffer.new ≡ buffer.old)) }
+    {
+        let bytes = self.buffer.data();
+        if bytes.len() < offset || bytes.len() - offset < buffer.len() {
+            return Err(MemoryError::OutOfBoundsAccess);
+        }
+        let end = offset + buffer.len();
+        buffer.copy_from_slice(&bytes[offset..end]);
+        Ok(())
+    }
+
+    /// Writes bytes over those from an offset on; it is `OutOfBoundsAccess` where they would end past the memory, and
+    /// then nothing is written.
+    pub fn write(&mut self, offset: usize, buffer: &[u8]) -> Result<(), MemoryError>
+        ensures { WritesMemory self.old offset buffer.now result self.new }
+    {
+        let size = self.buffer.len();
+        if size < offset || size - offset < buffer.len() {
+            return Err(MemoryError::OutOfBoundsAccess);
+        }
+        self.buffer.write(offset, buffer);
+        Ok(())
+    }
+}
+
+/// Asks the limiter whether a memory may grow, in bytes. Where it says no, the error is the one that is given.
+fn ask<L: ResourceLimiter>(
+    limiter: &mut ResourceLimiterRef<L>,
+    current: usize,
+    desired: usize,
+    maximum: Option<usize>,
+    denial: MemoryError,
+) -> Result<(), MemoryError>
+    requires { current ≤ desired }
+    ensures loan { KeepsLoan limiter.old limiter.new }
+    ensures asked { Asks (AskedIf L.asked) (state limiter.old)
+        (record { kind = Bytes; current = current; desired = desired; maximum = maximum }) denial result (state limiter.new) }
+{
+    match limiter.memory_growing(current, desired, maximum) {
+        Ok(true) => Ok(()),
+        Ok(false) => Err(denial),
+        Err(error) => Err(error.into()),
+    }
+}
+
+/// Tells the limiter why a memory was not made or did not grow, and answers the error that its reply makes of it.
+fn tell<L: ResourceLimiter>(limiter: &mut ResourceLimiterRef<L>, cause: MemoryError) -> MemoryError
+    ensures loan { KeepsLoan limiter.old limiter.new }
+    ensures told { Tells (NoticedIf L.noticed) (state limiter.old) cause result (state limiter.new) }
+{
+    match limiter.memory_grow_failed(&cause) {
+        Ok(()) => cause,
+        Err(error) => error.into(),
+    }
+}
+
+/// Takes the fuel for so many bytes, if the meter is on.
+fn charge(fuel: &mut Fuel, bytes: u64) -> Result<(), MemoryError>
+    ensures { Charges fuel.old (copy_cost fuel.old.costs bytes 1) result fuel.new }
+{
+    match fuel.consume_fuel_if(|costs| costs.fuel_for_copying_values::<u8>(bytes)) {
+        Err(FuelError::OutOfFuel { required_fuel }) => {
+            Err(MemoryError::OutOfFuel { required_fuel })
+        }
+        Ok(()) | Err(FuelError::FuelMeteringDisabled) => Ok(()),
+    }
+}

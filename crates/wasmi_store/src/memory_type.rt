@@ -1,0 +1,257 @@
+//! The types of linear memories.
+ghost use Rattle.std.specs.Prelude.{◌≡◌, ◌*◌, ◌^◌, ◌≤◌, ◌<◌, ◌↔◌, ℕ, Option, Some, None, IsTrue, true, false, MatchOption, MatchResult, IsSomeAnd, nat_lt, if◌then◌else◌};
+
+use std::marker::Model;
+use wasmi_meter::MemoryError;
+use wasmi_types::IndexType;
+
+/// A page has one byte or 64 KiB.
+#[derive(Clone, Copy, Debug, PartialEq, Eq)]
+pub(crate) enum PageSize {
+    Byte,
+    Wasm,
+}
+
+impl PageSize {
+    ghost use Rattle.wasmi_store.specs.MemoryType.{page_bytes, page_log2, page_of_log2};
+
+    fn from_log2(log2: u8) -> Option<Self>
+        ensures { result ≡ page_of_log2 log2 }
+    {
+        match log2 {
+            0 => Some(PageSize::Byte),
+            16 => Some(PageSize::Wasm),
+            _ => None,
+        }
+    }
+
+    fn bytes(self) -> u32
+        ensures { result ≡ page_bytes self }
+    {
+        match self {
+            PageSize::Byte => 1,
+            PageSize::Wasm => 65536,
+        }
+    }
+
+    fn log2(self) -> u8
+        ensures { result ≡ page_log2 self }
+    {
+        match self {
+            PageSize::Byte => 0,
+            PageSize::Wasm => 16,
+        }
+    }
+}
+
+/// The type of a linear memory: its address type, its page size, and its minimum and optional maximum in pages.
+///
+/// Core specification, memory types. Upstream: `wasmi_core::MemoryType`.
+#[derive(Clone, Copy, Debug, PartialEq, Eq)]
+pub struct MemoryType {
+    index: IndexType,
+    page: PageSize,
+    minimum: u64,
+    maximum: Option<u64>,
+}
+
+impl Model for MemoryType {
+    ghost use Rattle.wasmi_store.specs.MemoryType.{MemoryTypeValue, IsValid};
+
+    ghost Value = { MemoryTypeValue };
+
+    ghost view = { λ t. record { index = t.index; page = t.page; minimum = t.minimum; maximum = t.maximum } };
+
+    ghost invariant = { λ t. IsValid (record { index = t.index; page = t.page; minimum = t.minimum; maximum = t.maximum }) };
+
+    ghost inverse = { λ t. record { index = t.index; page = t.page; minimum = t.minimum; maximum = t.maximum } };
+}
+
+impl MemoryType {
+    ghost use Rattle.wasmi_store.specs.MemoryType.{page_bytes, page_log2, minimum_bytes, maximum_bytes, in_bounds, default_settings};
+    ghost use Rattle.wasmi_types.specs.declared.index_ty.IndexType.TheVariants.{I64};
+
+    /// A builder at the defaults: no page at first, no maximum, pages of 64 KiB, 32-bit addresses.
+    pub fn builder() -> MemoryTypeBuilder
+        ensures { result ≡ default_settings }
+    {
+        MemoryTypeBuilder::default()
+    }
+
+    /// Whether addresses have 64 bits.
+    pub fn is_64(&self) -> bool
+        ensures { IsTrue result ↔ (self.now.index ≡ I64) }
+    {
+        self.index.is_64()
+    }
+
+    /// The minimum in pages.
+    pub fn minimum(self) -> u64
+        ensures { result ≡ self.minimum }
+    {
+        self.minimum
+    }
+
+    /// The maximum in pages, if there is one.
+    pub fn maximum(self) -> Option<u64>
+        ensures { result ≡ self.maximum }
+    {
+        self.maximum
+    }
+
+    /// The bytes of a page: 1 or 65,536.
+    pub fn page_size(self) -> u32
+        ensures { result ≡ page_bytes self.page }
+    {
+        self.page.bytes()
+    }
+
+    /// The base-2 logarithm of a page's bytes: 0 or 16.
+    pub fn page_size_log2(self) -> u8
+        ensures { result ≡ page_log2 self.page }
+    {
+        self.page.log2()
+    }
+
+    /// The minimum in bytes, if it is below 2^64.
+    pub(crate) fn minimum_size(self) -> Option<usize>
+        ensures { result ≡ (if nat_lt (minimum_bytes self) (2 ^ 64) then Some (minimum_bytes self) else None) }
+    {
+        let size = self.minimum.checked_mul(u64::from(self.page.bytes()))?;
+        Some(size as usize)
+    }
+
+    /// The maximum in bytes, cut at the greatest `usize`.
+    pub(crate) fn maximum_size(self) -> Option<usize>
+        ensures { result ≡ maximum_bytes self }
+    {
+        match self.maximum {
+            Some(pages) => Some(pages.saturating_mul(u64::from(self.page.bytes())) as usize),
+            None => None,
+        }
+    }
+
+    /// The bytes of so many pages, if a memory of this type may have them.
+    pub(crate) fn size_of_pages(self, pages: u64) -> Option<usize>
+        ensures { MatchOption result
+            (in_bounds self pages ≡ false)
+            (λ size. (in_bounds self pages ≡ true) × (size ≡ pages * page_bytes self.page)) }
+    {
+        if u128::from(pages) > self.index.max_size() / u128::from(self.page.bytes()) {
+            return None;
+        }
+        if let Some(maximum) = self.maximum {
+            if pages > maximum {
+                return None;
+            }
+        }
+        let size = pages.checked_mul(u64::from(self.page.bytes()))?;
+        Some(size as usize)
+    }
+}
+
+/// Builds a [`MemoryType`] step by step.
+///
+/// Upstream: `wasmi_core::MemoryTypeBuilder`.
+#[derive(Drop)]
+pub struct MemoryTypeBuilder {
+    index: IndexType,
+    page_size_log2: u8,
+    minimum: u64,
+    maximum: Option<u64>,
+}
+
+impl Model for MemoryTypeBuilder {
+    ghost use Rattle.wasmi_store.specs.MemoryType.{Settings};
+
+    ghost Value = { Settings };
+
+    ghost view = { λ b. record { index = b.index; page_size_log2 = b.page_size_log2; minimum = b.minimum; maximum = b.maximum } };
+}
+
+impl Default for MemoryTypeBuilder {
+    ghost use Rattle.wasmi_store.specs.MemoryType.{default_settings};
+
+    ghost is_default = { λ b. b ≡ default_settings };
+
+    fn default() -> Self {
+        MemoryTypeBuilder {
+            index: IndexType::I32,
+            page_size_log2: 16,
+            minimum: 0,
+            maximum: None,
+        }
+    }
+}
+
+impl MemoryTypeBuilder {
+    ghost use Rattle.wasmi_store.specs.MemoryType.{IsValid, named_type};
+    ghost use Rattle.wasmi_types.specs.declared.index_ty.IndexType.TheVariants.{I32, I64};
+
+    /// Sets whether addresses have 64 bits. At first they have 32.
+    pub fn memory64(&mut self, memory64: bool) -> &mut Self
+        ensures same_reference { result.ghost_name ≡ self.entry.ghost_name }
+        ensures value { result.now ≡ record self.old { index = (if memory64 then I64 else I32) } }
+    {
+        self.index = if memory64 {
+            IndexType::I64
+        } else {
+            IndexType::I32
+        };
+        self
+    }
+
+    /// Sets the minimum in pages. At first it is 0.
+    pub fn min(&mut self, minimum: u64) -> &mut Self
+        ensures same_reference { result.ghost_name ≡ self.entry.ghost_name }
+        ensures value { result.now ≡ record self.old { minimum = minimum } }
+    {
+        self.minimum = minimum;
+        self
+    }
+
+    /// Sets the maximum in pages, or that there is none, as at first.
+    pub fn max(&mut self, maximum: Option<u64>) -> &mut Self
+        ensures same_reference { result.ghost_name ≡ self.entry.ghost_name }
+        ensures value { result.now ≡ record self.old { maximum = maximum } }
+    {
+        self.maximum = maximum;
+        self
+    }
+
+    /// Sets the base-2 logarithm of a page's bytes. At first it is 16.
+    pub fn page_size_log2(&mut self, page_size_log2: u8) -> &mut Self
+        ensures same_reference { result.ghost_name ≡ self.entry.ghost_name }
+        ensures value { result.now ≡ record self.old { page_size_log2 = page_size_log2 } }
+    {
+        self.page_size_log2 = page_size_log2;
+        self
+    }
+
+    /// The type. It is `InvalidMemoryType` for a page size other than 1 byte and 64 KiB, for limits above what the
+    /// address type reaches, and for a minimum above the maximum.
+    pub fn build(self) -> Result<MemoryType, MemoryError>
+        ensures { MatchResult result
+            (λ ty. (named_type self ≡ Some ty) × IsValid ty)
+            (λ error. (error ≡ MemoryError.InvalidMemoryType) × ¬ (IsSomeAnd (named_type self) IsValid)) }
+    {
+        let Some(page) = PageSize::from_log2(self.page_size_log2) else {
+            return Err(MemoryError::InvalidMemoryType);
+        };
+        let greatest = self.index.max_size() / u128::from(page.bytes());
+        if u128::from(self.minimum) > greatest {
+            return Err(MemoryError::InvalidMemoryType);
+        }
+        if let Some(maximum) = self.maximum {
+            if u128::from(maximum) > greatest || self.minimum > maximum {
+                return Err(MemoryError::InvalidMemoryType);
+            }
+        }
+        Ok(MemoryType {
+            index: self.index,
+            page,
+            minimum: self.minimum,
+            maximum: self.maximum,
+        })
+    }
+}
