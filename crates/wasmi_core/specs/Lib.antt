@@ -1,0 +1,5 @@
+pub mod State
+pub mod FuelRows
+pub mod MemoryRows
+pub mod Steps
+pub mod Runs

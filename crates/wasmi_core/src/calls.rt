@@ -1,0 +1,105 @@
+//! What a machine can be asked, and what it replies.
+ghost use Rattle.std.specs.Prelude.{◌≡◌};
+
+use std::marker::Model;
+use wasmi_meter::{FuelError, MemoryError};
+use wasmi_store::MemoryType;
+
+/// One call on a machine. Memories go by their indices, which count from 0 and aren't used again.
+#[derive(Debug, Drop)]
+pub enum Call {
+    /// Sets the fuel that is left: `Done`, or `Fuel` where metering is off.
+    SetFuel(u64),
+    /// The fuel that is left: `Number`, or `Fuel` where metering is off.
+    GetFuel,
+    /// Makes a memory of zeros: `Made` with its index, `NoRoom` where its slot can't be had, or `Memory`.
+    NewMemory(MemoryType),
+    /// Grows a memory by so many pages: `Number` of the old size in pages, or `Memory`.
+    GrowMemory { memory: usize, pages: u64 },
+    /// So many bytes of a memory: `Bytes`, `Memory` where they end past it, or then `NoRoom` where the reply's buffer
+    /// can't be had.
+    Read {
+        memory: usize,
+        offset: usize,
+        len: usize,
+    },
+    /// Writes bytes over those of a memory from an offset on: `Done`, or `Memory` where they would end past it.
+    Write {
+        memory: usize,
+        offset: usize,
+        bytes: Vec<u8>,
+    },
+}
+
+/// The reply to one call.
+#[derive(Debug, Drop, PartialEq, Eq)]
+pub enum Reply {
+    /// It is done.
+    Done,
+    /// The index of what was made.
+    Made(usize),
+    /// A number.
+    Number(u64),
+    /// The bytes that were read.
+    Bytes(ByteList),
+    /// Why a call on a memory was refused.
+    Memory(MemoryError),
+    /// Why a call on the meter was refused.
+    Fuel(FuelError),
+    /// An index names nothing; nothing was asked or changed.
+    NoSuch,
+    /// Memory for a slot or for the reply was refused; nothing was asked or changed.
+    NoRoom,
+}
+
+/// A list of bytes.
+#[derive(Debug, Drop)]
+pub struct ByteList {
+    bytes: Vec<u8>,
+}
+
+impl Model for ByteList {
+    ghost use Rattle.std.specs.Prelude.{ℕ, List};
+
+    ghost Value = { List ℕ };
+
+    ghost view = { λ b. b.bytes.items };
+}
+
+impl From<Vec<u8>> for ByteList {
+    ghost from_gives = { λ bytes list. list ≡ bytes.items };
+
+    fn from(bytes: Vec<u8>) -> Self {
+        ByteList { bytes }
+    }
+}
+
+impl ByteList {
+    /// The bytes.
+    pub fn as_slice(&self) -> &[u8]
+        ensures { result.now ≡ self.now }
+    {
+        self.bytes.as_slice()
+    }
+}
+
+impl PartialEq for ByteList {
+    ghost use Rattle.std.specs.Prelude.{nat_eq};
+    ghost use Rattle.std.specs.Cmp.Lexicographic.{pointwise};
+    ghost use Rattle.std.specs.Cmp.{partial_equiv_from_equiv};
+    ghost use Rattle.std.proofs.lemmas.Cmp.{nat_list_eq_equiv};
+
+    ghost eq = { pointwise nat_eq };
+
+    ghost laws = { partial_equiv_from_equiv nat_list_eq_equiv };
+
+    fn eq(&self, other: &Self) -> bool {
+        self.as_slice() == other.as_slice()
+    }
+}
+
+impl Eq for ByteList {
+    ghost use Rattle.std.proofs.lemmas.Cmp.{nat_list_eq_equiv};
+
+    ghost laws = { nat_list_eq_equiv };
+}

@@ -1,0 +1,112 @@
+//! The machine.
+ghost use Rattle.std.specs.Prelude.{◌≡◌, ℕ};
+ghost use Rattle.std.specs.Option.{option_copied};
+ghost use Rattle.wasmi_meter.specs.Limiter.{AskedIf, NoticedIf};
+ghost use Rattle.wasmi_meter.specs.LimiterRef.{state, KeepsLoan};
+
+use crate::calls::{Call, Reply};
+use crate::memories::{grow_memory, new_memory, read_memory, write_memory};
+use crate::slots::MemorySlot;
+use std::alloc::Global;
+use std::marker::Model;
+use wasmi_meter::{Fuel, ResourceLimiter, ResourceLimiterRef};
+use wasmi_store::Memory;
+
+/// Memories by their indices, and one fuel meter; `'r` is the loan of a region that a memory may lie in.
+#[derive(Debug, Drop)]
+pub struct Machine<'r> {
+    pub(crate) alloc: Global,
+    memories: Vec<MemorySlot<'r>>,
+    fuel: Fuel,
+}
+
+impl<'r> Model for Machine<'r> {
+    ghost use Rattle.wasmi_core.specs.State.{State};
+
+    ghost Value = { State };
+
+    ghost view = { λ m. record { memories = m.memories.items; meter = m.fuel } };
+}
+
+impl<'r> Machine<'r> {
+    ghost use Rattle.wasmi_core.specs.State.{new_state, memory_at};
+    ghost use Rattle.wasmi_core.specs.FuelRows.{set_fuel_reply, with_fuel, get_fuel_reply};
+    ghost use Rattle.wasmi_core.specs.Steps.{Step};
+
+    /// A machine with this meter, on which nothing was made yet. It takes no memory.
+    pub fn new(alloc: Global, fuel: Fuel) -> Machine<'r>
+        ensures { result ≡ new_state fuel }
+    {
+        Machine {
+            alloc,
+            memories: Vec::new(alloc),
+            fuel,
+        }
+    }
+
+    /// The meter.
+    pub fn fuel(&self) -> &Fuel
+        ensures { result.now ≡ self.now.meter }
+    {
+        &self.fuel
+    }
+
+    /// The memory of an index, if there is one that wasn't dropped.
+    pub fn memory(&self, index: usize) -> Option<&Memory<'r>>
+        ensures { option_copied result ≡ memory_at self.now.memories index }
+    {
+        match self.memories.get(index) {
+            Some(MemorySlot::Live(memory)) => Some(memory),
+            _ => None,
+        }
+    }
+
+    fn set_fuel(&mut self, fuel: u64) -> Reply
+        ensures reply { result ≡ set_fuel_reply self.old.meter }
+        ensures state { self.new ≡ with_fuel self.old fuel }
+    {
+        match self.fuel.set_fuel(fuel) {
+            Ok(()) => Reply::Done,
+            Err(error) => Reply::Fuel(error),
+        }
+    }
+
+    fn get_fuel(&self) -> Reply
+        ensures { result ≡ get_fuel_reply self.now.meter }
+    {
+        match self.fuel.get_fuel() {
+            Ok(left) => Reply::Number(left),
+            Err(error) => Reply::Fuel(error),
+        }
+    }
+
+    /// Answers one call.
+    pub(crate) fn step<L: ResourceLimiter>(
+        &mut self,
+        call: &Call,
+        limiter: &mut ResourceLimiterRef<L>,
+    ) -> Reply
+        ensures loan { KeepsLoan limiter.old limiter.new }
+        ensures step { (charge : ℕ) × (written : ℕ) × Step (AskedIf L.asked) (NoticedIf L.noticed)
+            self.old (state limiter.old) call.now result charge written self.new (state limiter.new) }
+    {
+        match call {
+            Call::SetFuel(fuel) => self.set_fuel(*fuel),
+            Call::GetFuel => self.get_fuel(),
+            Call::NewMemory(ty) => new_memory(self.alloc, &mut self.memories, *ty, limiter),
+            Call::GrowMemory { memory, pages } => {
+                grow_memory(&mut self.memories, *memory, *pages, &mut self.fuel, limiter)
+            }
+            Call::Read {
+                memory,
+                offset,
+                len,
+            } => read_memory(self.alloc, &self.memories, *memory, *offset, *len),
+            Call::Write {
+                memory,
+                offset,
+                bytes,
+            } => write_memory(&mut self.memories, *memory, *offset, bytes),
+        }
+    }
+}
