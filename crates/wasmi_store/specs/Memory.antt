@@ -34,9 +34,15 @@ extended x n = record { ty = x.ty; bytes = x.bytes ++ replicate n 0; room = room
 abbrev pub with_bytes : MemoryValue → List ℕ → MemoryValue
 with_bytes x ws = record { ty = x.ty; bytes = refill (length x.bytes) x.bytes ws; room = x.room }
 
--- the bytes are whole pages
-abbrev pub IsWhole : MemoryTypeValue → ℕ → Type 0
-IsWhole ty size = size % page_bytes ty.page ≡ 0
+-- so many bytes are whole pages, as many as the type allows
+pub record IsSized (ty : MemoryTypeValue) (size : ℕ) : Type 0 where
+  pub whole : size % page_bytes ty.page ≡ 0
+  pub minimum : ty.minimum ≤ size / page_bytes ty.page
+  pub within : in_bounds ty (size / page_bytes ty.page) ≡ true
+
+-- its type with the present size as the minimum
+abbrev pub dynamic_type : MemoryValue → MemoryTypeValue
+dynamic_type x = record x.ty { minimum = pages_of x }
 
 -- memory of one's own may be refused; a lent region has place for n more bytes or not
 abbrev pub storage_for : Room → ℕ → Storage MemoryError

@@ -48,6 +48,19 @@ abbrev pub in_bounds : MemoryTypeValue → ℕ → Bool
 in_bounds ty pages =
     nat_le pages (greatest_pages ty) && option_map_or (λ maximum. nat_le pages maximum) ty.maximum true && nat_lt (pages * page_bytes ty.page) (2 ^ 64)
 
+-- an optional maximum is no looser than another
+abbrev pub IsWithin : Option ℕ → Option ℕ → Type 0
+IsWithin own None = Unit {0}
+IsWithin None (Some most) = ⊥
+IsWithin (Some maximum) (Some most) = maximum ≤ most
+
+-- a memory of type a may be given where one of type b is asked for (core specification, import matching)
+pub record IsSubtype (a b : MemoryTypeValue) : Type 0 where
+  pub index : a.index ≡ b.index
+  pub page : a.page ≡ b.page
+  pub minimum : b.minimum ≤ a.minimum
+  pub maximum : IsWithin a.maximum b.maximum
+
 -- what a builder was told: as a memory type, with the page size as a power of two
 pub record Settings : Type 0 where
   pub index : IndexType

@@ -2,6 +2,7 @@
 #![tactic(auto)]
 
 mod buffer;
+pub mod laws;
 mod memory;
 mod memory_type;
 mod region;

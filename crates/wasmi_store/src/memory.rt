@@ -28,13 +28,13 @@ pub struct LinearMemory<R: Region> {
 
 impl<R: Region> Model for LinearMemory<R> {
     ghost use Rattle.std.specs.Prelude.{length};
-    ghost use Rattle.wasmi_store.specs.Memory.{MemoryValue, IsWhole};
+    ghost use Rattle.wasmi_store.specs.Memory.{MemoryValue, IsSized};
 
     ghost Value = { MemoryValue };
 
     ghost view = { λ m. record { ty = m.ty; bytes = m.buffer.bytes; room = m.buffer.room } };
 
-    ghost invariant = { λ m. IsWhole m.ty (length m.buffer.bytes) };
+    ghost invariant = { λ m. IsSized m.ty (length m.buffer.bytes) };
 }
 
 /// A linear memory of whole pages; `'r` is the loan of a region that its bytes may lie in.
@@ -70,7 +70,8 @@ impl<'r> LinearMemory<&'r mut [u8]> {
 }
 
 impl<R: Region> LinearMemory<R> {
-    ghost use Rattle.wasmi_store.specs.Memory.{pages_of, GrowsMemory, WritesMemory, with_bytes};
+    ghost use Rattle.wasmi_store.specs.Memory.{pages_of, dynamic_type, GrowsMemory, WritesMemory, with_bytes};
+    ghost use Rattle.wasmi_store.specs.MemoryType.{IsSubtype};
     ghost use Rattle.wasmi_store.specs.contracts.memory.LinearMemory.{the_row};
 
     /// The type that it was made with.
@@ -78,6 +79,14 @@ impl<R: Region> LinearMemory<R> {
         ensures { result ≡ self.now.ty }
     {
         self.ty
+    }
+
+    /// The type that it was made with, with the present size as its minimum: a subtype of that type.
+    pub fn dynamic_ty(&self) -> MemoryType
+        ensures value { result ≡ dynamic_type self.now }
+        ensures subtype { IsSubtype result self.now.ty }
+    {
+        self.ty.with_minimum(self.size())
     }
 
     /// The size in pages.

@@ -1,5 +1,6 @@
 //! The types of linear memories.
 ghost use Rattle.std.specs.Prelude.{◌≡◌, ◌*◌, ◌^◌, ◌≤◌, ◌<◌, ◌↔◌, ℕ, Option, Some, None, IsTrue, true, false, MatchOption, MatchResult, IsSomeAnd, nat_lt, if◌then◌else◌};
+ghost use Rattle.wasmi_store.specs.MemoryType.{IsWithin};
 
 use std::marker::Model;
 use wasmi_meter::MemoryError;
@@ -68,7 +69,7 @@ impl Model for MemoryType {
 }
 
 impl MemoryType {
-    ghost use Rattle.wasmi_store.specs.MemoryType.{page_bytes, page_log2, minimum_bytes, maximum_bytes, in_bounds, default_settings};
+    ghost use Rattle.wasmi_store.specs.MemoryType.{page_bytes, page_log2, minimum_bytes, maximum_bytes, in_bounds, IsSubtype, IsValid, default_settings};
     ghost use Rattle.wasmi_types.specs.declared.index_ty.IndexType.TheVariants.{I64};
 
     /// A builder at the defaults: no page at first, no maximum, pages of 64 KiB, 32-bit addresses.
@@ -83,6 +84,13 @@ impl MemoryType {
         ensures { IsTrue result ↔ (self.now.index ≡ I64) }
     {
         self.index.is_64()
+    }
+
+    /// The type of the addresses.
+    pub fn index_ty(&self) -> IndexType
+        ensures { result ≡ self.now.index }
+    {
+        self.index
     }
 
     /// The minimum in pages.
@@ -113,9 +121,29 @@ impl MemoryType {
         self.page.log2()
     }
 
+    /// Whether a memory of this type may be given where one of the other type is asked for: with the same address type
+    /// and page size, a minimum that isn't smaller, and a maximum that isn't above the other's, if that has one.
+    pub fn is_subtype_of(&self, other: &Self) -> bool
+        ensures { IsTrue result ↔ IsSubtype self.now other.now }
+    {
+        self.index == other.index
+            && self.page == other.page
+            && self.minimum >= other.minimum
+            && is_within(self.maximum, other.maximum)
+    }
+
+    /// The type with another minimum.
+    pub(crate) fn with_minimum(self, minimum: u64) -> Self
+        requires { in_bounds self minimum ≡ true }
+        ensures { result ≡ record self { minimum = minimum } }
+    {
+        MemoryType { minimum, ..self }
+    }
+
     /// The minimum in bytes, if it is below 2^64.
     pub(crate) fn minimum_size(self) -> Option<usize>
-        ensures { result ≡ (if nat_lt (minimum_bytes self) (2 ^ 64) then Some (minimum_bytes self) else None) }
+        ensures size { result ≡ (if nat_lt (minimum_bytes self) (2 ^ 64) then Some (minimum_bytes self) else None) }
+        ensures valid { IsValid self }
     {
         let size = self.minimum.checked_mul(u64::from(self.page.bytes()))?;
         Some(size as usize)
@@ -147,6 +175,17 @@ impl MemoryType {
         }
         let size = pages.checked_mul(u64::from(self.page.bytes()))?;
         Some(size as usize)
+    }
+}
+
+/// Whether an optional maximum is no looser than another.
+fn is_within(own: Option<u64>, other: Option<u64>) -> bool
+    ensures { IsTrue result ↔ IsWithin own other }
+{
+    match (own, other) {
+        (_, None) => true,
+        (None, Some(_)) => false,
+        (Some(maximum), Some(most)) => maximum <= most,
     }
 }
 
