@@ -3,7 +3,6 @@ use Rattle.std.proofs.Common.{◌≡◌, ℕ, ◌-◌, Bool, true, false, Option
 use Rattle.std.specs.Prelude.{if◌then◌else◌, MatchBool, is_none, ◌&&◌}
 use Rattle.std.proofs.Common.{subst}
 use Rattle.wasmi_meter.specs.Limiter.{Question, Answer, Reply, Failure, IsDenial}
-
 use Rattle.wasmi_meter.specs.Meter.{Meter, can_pay, taken, paid, spent}
 use Rattle.wasmi_meter.specs.Attempt.{Storage, CanHold, CanRefuse, Effort, Fate, Unasked, Denied, Met, Failed, Attempt}
 
@@ -12,9 +11,9 @@ pub paid_nothing : (m : Option Meter) → m ≡ paid m 0
 paid_nothing None = refl
 paid_nothing (Some m) = ap Some (unchanged m.left m.costs)
   where
-  unchanged : (left : Option ℕ) (costs : _) → (let m : Meter = record { left = left; costs = costs } in m) ≡ spent (record { left = left; costs = costs }) 0
-  unchanged None costs = refl
-  unchanged (Some n) costs = ap (λ (k : ℕ). let m : Meter = record { left = Some k; costs = costs } in m) (omega arith)
+    unchanged : (left : Option ℕ) (costs : _) → (let m : Meter = record { left = left; costs = costs } in m) ≡ spent (record { left = left; costs = costs }) 0
+    unchanged None costs = refl
+    unchanged (Some n) costs = ap (λ (k : ℕ). let m : Meter = record { left = Some k; costs = costs } in m) (omega arith)
 
 module _ {E S : Type 0} (asked : S → Question → Answer → S → Type 0) (noticed : S → Failure → Reply → S → Type 0) (e : Effort E) (m : Option Meter) (l : S) where
   pub attempt_unasked : (cause : E) → e.early ≡ Some cause → Attempt asked noticed e m l (Unasked cause) 0 m l

@@ -33,16 +33,16 @@ pub refused : (room : Room) (n : ℕ) (cause : MemoryError) → CanFail room n c
 refused Owned n cause fails = fails
 refused (Lent rest) n cause fails = rw fails.0 (short rest n fails.1)
   where
-  short : (rest : List ℕ) (n : ℕ) → (n ≤ length rest → ⊥) → (if nat_lt (length rest) n then Some InvalidStaticBufferSize else None) ≡ Some InvalidStaticBufferSize
-  short rest n above = grind (arith, nat_tests)
+    short : (rest : List ℕ) (n : ℕ) → (n ≤ length rest → ⊥) → (if nat_lt (length rest) n then Some InvalidStaticBufferSize else None) ≡ Some InvalidStaticBufferSize
+    short rest n above = grind (arith, nat_tests)
 
 module _ {S : Type 0} (asked : S → Question → Answer → S → Type 0) (noticed : S → Failure → Reply → S → Type 0) (ty : MemoryTypeValue) (l : S) where
   pub makes_unasked : (let none : Option ℕ = None in none) ≡ (if nat_lt (minimum_bytes ty) (2 ^ 64) then Some (minimum_bytes ty) else None) → MakesMemory asked noticed ty l (Err MinimumSizeOverflow) l
   makes_unasked over =
       (Unasked MinimumSizeOverflow, attempt_unasked asked noticed (creation_of ty) None l MinimumSizeOverflow (early (nat_lt (minimum_bytes ty) (2 ^ 64)) (untested (nat_lt (minimum_bytes ty) (2 ^ 64)) (minimum_bytes ty) over)), refl)
     where
-    early : (b : Bool) → b ≡ false → (let none : Option MemoryError = None in if b then none else Some MinimumSizeOverflow) ≡ Some MinimumSizeOverflow
-    early b h = rw h refl
+      early : (b : Bool) → b ≡ false → (let none : Option MemoryError = None in if b then none else Some MinimumSizeOverflow) ≡ Some MinimumSizeOverflow
+      early b h = rw h refl
 
   module _ (size : ℕ) (fits : Some size ≡ (if nat_lt (minimum_bytes ty) (2 ^ 64) then Some (minimum_bytes ty) else None)) (maximum : Option ℕ) (cut : maximum ≡ maximum_bytes ty) where
     early : (let none : Option MemoryError = None in if nat_lt (minimum_bytes ty) (2 ^ 64) then none else Some MinimumSizeOverflow) ≡ None
@@ -61,13 +61,17 @@ module _ {S : Type 0} (asked : S → Question → Answer → S → Type 0) (noti
 
 module _ {S : Type 0} (asked : S → Question → Answer → S → Type 0) (noticed : S → Failure → Reply → S → Type 0) (x : MemoryValue) (m : Meter) (l : S) (pages : ℕ) (some : pages ≡ 0 → ⊥) where
   pub grows_unasked : in_bounds x.ty (pages_of x + pages) ≡ false → (charge : ℕ) × GrowsMemory asked noticed x (Some m) l pages (Err OutOfBoundsGrowth) charge x (Some m) l
-  grows_unasked outside =
-      (0, inr (record {
-        some = omega (arith, some); fate = Unasked OutOfBoundsGrowth;
-        attempt = attempt_unasked asked noticed (growth_of x (Some m) pages) (Some m) l OutOfBoundsGrowth
+  grows_unasked outside = (
+    0,
+    inr (record {
+      some = omega (arith, some);
+      fate = Unasked OutOfBoundsGrowth;
+      attempt = attempt_unasked asked noticed (growth_of x (Some m) pages) (Some m) l OutOfBoundsGrowth
           (ap (λ (b : Bool). let none : Option MemoryError = None in if b then none else Some OutOfBoundsGrowth) outside);
-        answered = refl; memory = refl;
-      }))
+      answered = refl;
+      memory = refl;
+    }),
+  )
 
   module _ (within : in_bounds x.ty (pages_of x + pages) ≡ true) (size desired : ℕ) (maximum : Option ℕ) (sized : size ≡ length x.bytes) (reaches : desired ≡ length x.bytes + pages * page_bytes x.ty.page) (cut : maximum ≡ maximum_bytes x.ty) where
     in_time : (let none : Option MemoryError = None in if in_bounds x.ty (pages_of x + pages) then none else Some OutOfBoundsGrowth) ≡ None
@@ -77,23 +81,31 @@ module _ {S : Type 0} (asked : S → Question → Answer → S → Type 0) (noti
     added = rw (sized, reaches) (omega arith)
 
     pub grows_denied : (l' : S) (error : MemoryError) → Asks asked l (record { kind = Bytes; current = size; desired = desired; maximum = maximum }) OutOfBoundsGrowth (Err error) l' → (charge : ℕ) × GrowsMemory asked noticed x (Some m) l pages (Err error) charge x (Some m) l'
-    grows_denied l' error asks =
-        (0, inr (record {
-          some = omega (arith, some); fate = Denied asks.0;
-          attempt = attempt_denied asked noticed (growth_of x (Some m) pages) (Some m) l asks.0 l' in_time asks.1 (rw (sized, reaches, cut) at asks.2);
-          answered = ap Err asks.3; memory = refl;
-        }))
+    grows_denied l' error asks = (
+      0,
+      inr (record {
+        some = omega (arith, some);
+        fate = Denied asks.0;
+        attempt = attempt_denied asked noticed (growth_of x (Some m) pages) (Some m) l asks.0 l' in_time asks.1 (rw (sized, reaches, cut) at asks.2);
+        answered = ap Err asks.3;
+        memory = refl;
+      }),
+    )
 
     module _ (p : S) (asks : asked l (record { kind = Bytes; current = size; desired = desired; maximum = maximum }) (Ok true) p) (m' : Meter) where
       pub grows_unpaid : (l' : S) (cause error : MemoryError) → Charges m (copy_cost m.costs (desired - size) 1) (Err cause) m' → Tells noticed p cause error l' → (charge : ℕ) × GrowsMemory asked noticed x (Some m) l pages (Err error) charge x (Some m') l'
       grows_unpaid l' cause error short tells =
           let paid_not = rw added at short in
-          rw paid_not.2
-          (0, inr (record {
-            some = omega (arith, some); fate = Failed (OutOfFuel (copy_cost m.costs (pages * page_bytes x.ty.page) 1)) tells.0;
-            attempt = attempt_unpaid asked noticed (growth_of x (Some m) pages) (Some m) l p l' tells.0 in_time refl paid_not.0 (rw (sized, reaches, cut) at asks) (rw paid_not.1 at tells.1);
-            answered = ap Err (tells.2 ∙ ap (λ e. noticed_error ResourceLimiterDeniedAllocation e tells.0) paid_not.1); memory = refl;
-          }))
+          rw paid_not.2 (
+            0,
+            inr (record {
+              some = omega (arith, some);
+              fate = Failed (OutOfFuel (copy_cost m.costs (pages * page_bytes x.ty.page) 1)) tells.0;
+              attempt = attempt_unpaid asked noticed (growth_of x (Some m) pages) (Some m) l p l' tells.0 in_time refl paid_not.0 (rw (sized, reaches, cut) at asks) (rw paid_not.1 at tells.1);
+              answered = ap Err (tells.2 ∙ ap (λ e. noticed_error ResourceLimiterDeniedAllocation e tells.0) paid_not.1);
+              memory = refl;
+            }),
+          )
 
       module _ (pays : Charges m (copy_cost m.costs (desired - size) 1) (Ok tt) m') where
         price : ℕ
@@ -103,20 +115,28 @@ module _ {S : Type 0} (asked : S → Question → Answer → S → Type 0) (noti
         unfolding price
         grows_unstored l' cause error x' fails same tells =
             let done = rw added at pays in
-            rw done.1
-            (taken (Some m) price, inr (record {
-              some = omega (arith, some); fate = Failed cause tells.0;
-              attempt = attempt_unstored asked noticed (growth_of x (Some m) pages) (Some m) l p l' cause tells.0 in_time refl done.0 (refused x.room (pages * page_bytes x.ty.page) cause (rw added at fails)) (rw (sized, reaches, cut) at asks) tells.1;
-              answered = ap Err tells.2; memory = same;
-            }))
+            rw done.1 (
+              taken (Some m) price,
+              inr (record {
+                some = omega (arith, some);
+                fate = Failed cause tells.0;
+                attempt = attempt_unstored asked noticed (growth_of x (Some m) pages) (Some m) l p l' cause tells.0 in_time refl done.0 (refused x.room (pages * page_bytes x.ty.page) cause (rw added at fails)) (rw (sized, reaches, cut) at asks) tells.1;
+                answered = ap Err tells.2;
+                memory = same;
+              }),
+            )
 
         pub grows_met : (x' : MemoryValue) → CanGrow x.room (desired - size) → x' ≡ extended x (desired - size) → (old : ℕ) → old ≡ pages_of x → (charge : ℕ) × GrowsMemory asked noticed x (Some m) l pages (Ok old) charge x' (Some m') p
         unfolding price
         grows_met x' fits grows old answers =
             let done = rw added at pays in
-            rw done.1
-            (taken (Some m) price, inr (record {
-              some = omega (arith, some); fate = Met;
-              attempt = attempt_met asked noticed (growth_of x (Some m) pages) (Some m) l p in_time refl done.0 (held x.room (pages * page_bytes x.ty.page) (rw added at fits)) (rw (sized, reaches, cut) at asks);
-              answered = ap Ok answers; memory = rw added at grows;
-            }))
+            rw done.1 (
+              taken (Some m) price,
+              inr (record {
+                some = omega (arith, some);
+                fate = Met;
+                attempt = attempt_met asked noticed (growth_of x (Some m) pages) (Some m) l p in_time refl done.0 (held x.room (pages * page_bytes x.ty.page) (rw added at fits)) (rw (sized, reaches, cut) at asks);
+                answered = ap Ok answers;
+                memory = rw added at grows;
+              }),
+            )

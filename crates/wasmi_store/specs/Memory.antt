@@ -65,7 +65,7 @@ creation_of ty = record {
   late = None;
   price = 0;
   unpaid = OutOfFuel 0;
-  storage = OwnedStorage OutOfSystemMemory
+  storage = OwnedStorage OutOfSystemMemory;
 }
 
 -- what is asked and paid where a memory grows by so many pages, and the causes of a refusal
@@ -79,7 +79,7 @@ growth_of x m pages = let added = pages * page_bytes x.ty.page in record {
   late = None;
   price = byte_cost m added;
   unpaid = OutOfFuel (byte_cost m added);
-  storage = storage_for x.room added
+  storage = storage_for x.room added;
 }
 
 module _ {S : Type 0} (asked : S → Question → Answer → S → Type 0) (noticed : S → Failure → Reply → S → Type 0) where

@@ -4,11 +4,9 @@ ghost use Rattle.wasmi_store.specs.MemoryType.{MemoryTypeValue, IsSubtype};
 /// Each memory type is a subtype of itself.
 pub fn memory_subtyping_is_reflexive()
     ensures { (a : MemoryTypeValue) → IsSubtype a a }
-{
-}
+{}
 
 /// A subtype of a subtype is a subtype.
 pub fn memory_subtyping_is_transitive()
     ensures { (a b c : MemoryTypeValue) → IsSubtype a b → IsSubtype b c → IsSubtype a c }
-{
-}
+{}

@@ -61,7 +61,13 @@ impl<'r> LinearMemory<&'r mut [u8]> {
         let Some(size) = ty.minimum_size() else {
             return Err(MemoryError::MinimumSizeOverflow);
         };
-        ask(limiter, 0, size, ty.maximum_size(), MemoryError::ResourceLimiterDeniedAllocation)?;
+        ask(
+            limiter,
+            0,
+            size,
+            ty.maximum_size(),
+            MemoryError::ResourceLimiterDeniedAllocation,
+        )?;
         match Buffer::new(alloc, size) {
             Ok(buffer) => Ok(LinearMemory { buffer, ty }),
             Err(cause) => Err(tell(limiter, cause)),
@@ -164,7 +170,13 @@ impl<R: Region> LinearMemory<R> {
             return Err(MemoryError::OutOfBoundsGrowth);
         };
         let old_size = self.buffer.len();
-        ask(limiter, old_size, size, self.ty.maximum_size(), MemoryError::OutOfBoundsGrowth)?;
+        ask(
+            limiter,
+            old_size,
+            size,
+            self.ty.maximum_size(),
+            MemoryError::OutOfBoundsGrowth,
+        )?;
         if let Err(cause) = charge(fuel, (size - old_size) as u64) {
             return Err(tell(limiter, cause));
         }
@@ -179,7 +191,7 @@ impl<R: Region> LinearMemory<R> {
         ensures { MatchOption result
             (in_bounds self.now.ty (pages_of self.now + additional) ≡ false)
             (λ size. (in_bounds self.now.ty (pages_of self.now + additional) ≡ true)
-                × (size ≡ length self.now.bytes + additional * page_bytes self.now.ty.page)) }
+            × (size ≡ length self.now.bytes + additional * page_bytes self.now.ty.page)) }
     {
         let pages = self.size().checked_add(additional)?;
         self.ty.size_of_pages(pages)
