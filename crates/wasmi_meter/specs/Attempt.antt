@@ -1,5 +1,5 @@
 -- One creation or growth of what a limiter and a meter watch: how it can end, and what each end means.
-use Rattle.std.specs.Prelude.{◌≡◌, ℕ, Bool, true, is_none, ◌&&◌, if◌then◌else◌, MatchBool, Option, Some, None, Result, Ok, Err}
+use Rattle.std.specs.Prelude.{◌≡◌, ℕ, true, is_none, ◌&&◌, if◌then◌else◌, MatchBool, Option, Some, None, Result, Ok, Err}
 use Rattle.wasmi_meter.specs.Limiter.{Question, Failure, Answer, Reply, IsDenial}
 use Rattle.wasmi_meter.specs.Meter.{Meter, can_pay, taken, paid}
 
@@ -64,9 +64,9 @@ module _ {E : Type 0} where
   charge_of e m (Failed cause reply) = if is_none e.late && can_pay m e.price then taken m e.price else 0
 
   -- the error of an answer that is no permission
-  abbrev pub denied_error : Effort E → Answer → E
-  denied_error e (Ok _) = e.denial
-  denied_error e (Err _) = e.refusal
+  abbrev pub denied_error : E → E → Answer → E
+  denied_error denial refusal (Ok _) = denial
+  denied_error denial refusal (Err _) = refusal
 
   -- the error of a failure, by the reply to its notice
   abbrev pub noticed_error : E → E → Reply → E
@@ -76,7 +76,7 @@ module _ {E : Type 0} where
   -- what is answered
   abbrev pub answer_of : {T : Type 0} → Effort E → T → Fate E → Result T E
   answer_of e value (Unasked cause) = Err cause
-  answer_of e value (Denied answer) = Err (denied_error e answer)
+  answer_of e value (Denied answer) = Err (denied_error e.denial e.refusal answer)
   answer_of e value Met = Ok value
   answer_of e value (Failed cause reply) = Err (noticed_error e.refusal cause reply)
 

@@ -4,3 +4,7 @@ pub mod Lending
 pub mod Costs
 pub mod Meter
 pub mod Attempt
+pub mod MemoryError
+pub mod TableError
+pub mod LimiterError
+pub mod FuelError

@@ -1,73 +1,139 @@
 //! Why memories and tables refuse, and what a resource limiter answers in place of a permission.
-use thiserror::Error;
+use std::fmt;
 
 /// What a resource limiter answers in place of a permission, or to a notice.
 ///
 /// Upstream: `wasmi_core::LimiterError`.
-#[derive(Clone, Copy, Debug, PartialEq, Eq, Error)]
+#[derive(Clone, Copy, Debug, PartialEq, Eq)]
 pub enum LimiterError {
-    #[error("resource limiter denied allocation")]
     ResourceLimiterDeniedAllocation,
 }
+
+impl fmt::Display for LimiterError {
+    ghost use Rattle.std.specs.Prelude.{Some};
+    ghost use Rattle.wasmi_meter.specs.LimiterError.{limiter_error_text};
+
+    ghost output = { λ error. Some (limiter_error_text error) };
+
+    fn fmt<W: fmt::Write>(&self, f: &mut fmt::Formatter<W>) -> fmt::Result {
+        match self {
+            Self::ResourceLimiterDeniedAllocation => f.write_str(
+                "resource limiter denied allocation",
+            ),
+        }
+    }
+}
+
+impl std::error::Error for LimiterError {}
 
 /// Why a call on a linear memory or a memory type is refused.
 ///
 /// Upstream: `wasmi_core::MemoryError`.
-#[derive(Clone, Copy, Debug, PartialEq, Eq, Error)]
+#[derive(Clone, Copy, Debug, PartialEq, Eq)]
 pub enum MemoryError {
-    #[error("tried to allocate more virtual memory than available on the system")]
     OutOfSystemMemory,
-    #[error("out of bounds memory growth")]
     OutOfBoundsGrowth,
-    #[error("out of bounds memory access")]
     OutOfBoundsAccess,
-    #[error("tried to create an invalid linear memory type")]
     InvalidMemoryType,
-    #[error("tried to use too small static buffer")]
     InvalidStaticBufferSize,
-    #[error("a resource limiter denied to allocate or grow the linear memory")]
     ResourceLimiterDeniedAllocation,
-    #[error("the minimum size of the memory type overflows the system index type")]
     MinimumSizeOverflow,
     /// Never answered where `usize` has 64 bits.
-    #[error("the maximum size of the memory type overflows the system index type")]
     MaximumSizeOverflow,
     /// A growth costs more fuel than is left.
-    #[error("not enough fuel. required={required_fuel}")]
     OutOfFuel { required_fuel: u64 },
 }
+
+impl fmt::Display for MemoryError {
+    ghost use Rattle.std.specs.Prelude.{Some};
+    ghost use Rattle.wasmi_meter.specs.MemoryError.{memory_error_text};
+
+    ghost output = { λ error. Some (memory_error_text error) };
+
+    fn fmt<W: fmt::Write>(&self, f: &mut fmt::Formatter<W>) -> fmt::Result {
+        match self {
+            Self::OutOfSystemMemory => f.write_str(
+                "tried to allocate more virtual memory than available on the system",
+            ),
+            Self::OutOfBoundsGrowth => f.write_str("out of bounds memory growth"),
+            Self::OutOfBoundsAccess => f.write_str("out of bounds memory access"),
+            Self::InvalidMemoryType => f.write_str("tried to create an invalid linear memory type"),
+            Self::InvalidStaticBufferSize => f.write_str("tried to use too small static buffer"),
+            Self::ResourceLimiterDeniedAllocation => f.write_str(
+                "a resource limiter denied to allocate or grow the linear memory",
+            ),
+            Self::MinimumSizeOverflow => f.write_str(
+                "the minimum size of the memory type overflows the system index type",
+            ),
+            Self::MaximumSizeOverflow => f.write_str(
+                "the maximum size of the memory type overflows the system index type",
+            ),
+            Self::OutOfFuel { required_fuel } => write!(
+                f,
+                "not enough fuel. required={required_fuel}"
+            ),
+        }
+    }
+}
+
+impl std::error::Error for MemoryError {}
 
 /// Why a call on a table is refused.
 ///
 /// Upstream: `wasmi_core::TableError`.
-#[derive(Clone, Copy, Debug, PartialEq, Eq, Error)]
+#[derive(Clone, Copy, Debug, PartialEq, Eq)]
 pub enum TableError {
-    #[error("tried to allocate more virtual memory than available on the system")]
     OutOfSystemMemory,
     /// Never answered where `usize` has 64 bits.
-    #[error("the minimum table size overflows the system bounds")]
     MinimumSizeOverflow,
     /// Never answered where `usize` has 64 bits.
-    #[error("the maximum table size overflows the system bounds")]
     MaximumSizeOverflow,
-    #[error("a resource limiter denied to allocate or grow the table")]
     ResourceLimiterDeniedAllocation,
-    #[error("out of bounds table access: `table.growth`")]
     GrowOutOfBounds,
-    #[error("out of bounds table access: `table.init`")]
     InitOutOfBounds,
-    #[error("out of bounds table access: `table.fill`")]
     FillOutOfBounds,
-    #[error("out of bounds table access: `table.set`")]
     SetOutOfBounds,
-    #[error("out of bounds table access: `table.copy`")]
     CopyOutOfBounds,
-    #[error("encountered mismatching table element type")]
     ElementTypeMismatch,
     /// A call costs more fuel than is left.
-    #[error("not enough fuel: required={required_fuel}")]
     OutOfFuel { required_fuel: u64 },
 }
+
+impl fmt::Display for TableError {
+    ghost use Rattle.std.specs.Prelude.{Some};
+    ghost use Rattle.wasmi_meter.specs.TableError.{table_error_text};
+
+    ghost output = { λ error. Some (table_error_text error) };
+
+    fn fmt<W: fmt::Write>(&self, f: &mut fmt::Formatter<W>) -> fmt::Result {
+        match self {
+            Self::OutOfSystemMemory => f.write_str(
+                "tried to allocate more virtual memory than available on the system",
+            ),
+            Self::MinimumSizeOverflow => f.write_str(
+                "the minimum table size overflows the system bounds",
+            ),
+            Self::MaximumSizeOverflow => f.write_str(
+                "the maximum table size overflows the system bounds",
+            ),
+            Self::ResourceLimiterDeniedAllocation => f.write_str(
+                "a resource limiter denied to allocate or grow the table",
+            ),
+            Self::GrowOutOfBounds => f.write_str("out of bounds table access: `table.growth`"),
+            Self::InitOutOfBounds => f.write_str("out of bounds table access: `table.init`"),
+            Self::FillOutOfBounds => f.write_str("out of bounds table access: `table.fill`"),
+            Self::SetOutOfBounds => f.write_str("out of bounds table access: `table.set`"),
+            Self::CopyOutOfBounds => f.write_str("out of bounds table access: `table.copy`"),
+            Self::ElementTypeMismatch => f.write_str("encountered mismatching table element type"),
+            Self::OutOfFuel { required_fuel } => write!(
+                f,
+                "not enough fuel: required={required_fuel}"
+            ),
+        }
+    }
+}
+
+impl std::error::Error for TableError {}
 
 impl From<LimiterError> for MemoryError {
     ghost use Rattle.std.specs.Prelude.{◌≡◌};

@@ -3,8 +3,8 @@ ghost use Rattle.std.specs.Prelude.{◌≡◌, ℕ, ◌-◌, ◌≤◌, ◌<◌,
 ghost use Rattle.std.specs.Fn.{FnOnceReturnsAt};
 ghost use Rattle.wasmi_meter.specs.declared.fuel.CustomFuelCosts.{CustomFuelCosts};
 
+use std::fmt;
 use std::marker::Model;
-use thiserror::Error;
 
 /// The number of bytes that a copied value counts for, in place of its size in memory.
 pub trait ValueSize {
@@ -166,12 +166,10 @@ impl FuelCostsProvider {
 /// Why a call on a fuel meter is refused.
 ///
 /// Upstream: `wasmi_core::FuelError`.
-#[derive(Clone, Debug, PartialEq, Eq, Drop, Error)]
+#[derive(Clone, Debug, PartialEq, Eq, Drop)]
 pub enum FuelError {
-    #[error("fuel metering is disabled")]
     FuelMeteringDisabled,
     /// So much was asked for, and less is left. The text is upstream's.
-    #[error("ouf of fuel. required={required_fuel}")]
     OutOfFuel { required_fuel: u64 },
 }
 
@@ -192,6 +190,22 @@ impl FuelError {
         FuelError::OutOfFuel { required_fuel }
     }
 }
+
+impl fmt::Display for FuelError {
+    ghost use Rattle.std.specs.Prelude.{Some};
+    ghost use Rattle.wasmi_meter.specs.FuelError.{fuel_error_text};
+
+    ghost output = { λ error. Some (fuel_error_text error) };
+
+    fn fmt<W: fmt::Write>(&self, f: &mut fmt::Formatter<W>) -> fmt::Result {
+        match self {
+            Self::FuelMeteringDisabled => f.write_str("fuel metering is disabled"),
+            Self::OutOfFuel { required_fuel } => write!(f, "ouf of fuel. required={required_fuel}"),
+        }
+    }
+}
+
+impl std::error::Error for FuelError {}
 
 /// A fuel meter, on or off for good.
 ///
@@ -264,15 +278,18 @@ impl Fuel {
     pub fn consume_fuel_unchecked(&mut self, delta: u64) -> Result<u64, FuelError>
         ensures { Spends self.old delta (amount_left self.old - delta) result self.new }
     {
-        if self.remaining < delta {
+        let Some(left) = self.remaining.checked_sub(delta) else {
             return Err(FuelError::out_of_fuel(delta));
-        }
-        self.remaining -= delta;
-        Ok(self.remaining)
+        };
+        self.remaining = left;
+        Ok(left)
     }
 
     /// Takes what `f` computes from the costs, and answers what is left. Where the meter is off, `f` isn't called.
-    pub fn consume_fuel<C: FnOnce(&FuelCostsProvider) -> u64>(&mut self, f: C) -> Result<u64, FuelError>
+    pub fn consume_fuel<C: FnOnce(&FuelCostsProvider) -> u64>(
+        &mut self,
+        f: C,
+    ) -> Result<u64, FuelError>
         requires { C.IsAlwaysCallable f }
         ensures on { IsSome self.old.left → (amount : ℕ) × (costs : _) × (costs_of costs ≡ self.old.costs)
             × FnOnceReturnsAt C.FnOnce f costs amount
@@ -285,7 +302,10 @@ impl Fuel {
     }
 
     /// Takes what `f` computes from the costs if the meter is on. Where it is off, `f` isn't called.
-    pub fn consume_fuel_if<C: FnOnce(&FuelCostsProvider) -> u64>(&mut self, f: C) -> Result<(), FuelError>
+    pub fn consume_fuel_if<C: FnOnce(&FuelCostsProvider) -> u64>(
+        &mut self,
+        f: C,
+    ) -> Result<(), FuelError>
         requires { C.IsAlwaysCallable f }
         ensures on { IsSome self.old.left → (amount : ℕ) × (costs : _) × (costs_of costs ≡ self.old.costs)
             × FnOnceReturnsAt C.FnOnce f costs amount

@@ -5,10 +5,10 @@ mod error;
 mod fuel;
 mod limiter;
 mod limiter_ref;
+#[cfg(test)]
+mod tests;
 
 pub use error::{LimiterError, MemoryError, TableError};
-pub use fuel::{
-    CustomFuelCosts, Fuel, FuelCosts, FuelCostsProvider, FuelError, ValueSize,
-};
+pub use fuel::{CustomFuelCosts, Fuel, FuelCosts, FuelCostsProvider, FuelError, ValueSize};
 pub use limiter::{Kind, NoLimits, ResourceLimiter};
 pub use limiter_ref::{Lender, LimiterRef, ResourceLimiterRef};

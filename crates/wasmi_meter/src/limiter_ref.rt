@@ -10,6 +10,7 @@ ghost use Rattle.wasmi_meter.specs.declared.limiter.Kind.TheVariants.{Bytes, Ele
 
 use crate::error::{LimiterError, MemoryError, TableError};
 use crate::limiter::ResourceLimiter;
+use std::fmt;
 
 mod sealed {
     pub trait Sealed {}
@@ -47,9 +48,15 @@ impl<'a, L> Lender for &'a mut L {
 }
 
 /// What leads to a limiter, or nothing. Its name in signatures is [`ResourceLimiterRef`].
-#[derive(Drop, Debug)]
+#[derive(Drop)]
 pub struct LimiterRef<R> {
     limiter: Option<R>,
+}
+
+impl<R> fmt::Debug for LimiterRef<R> {
+    fn fmt<W: fmt::Write>(&self, f: &mut fmt::Formatter<W>) -> fmt::Result {
+        f.write_str("ResourceLimiterRef(...)")
+    }
 }
 
 /// A limiter that is lent, or none. Without a limiter every growth is permitted.
