@@ -2,9 +2,9 @@
 
 ghost use Rattle.std.specs.Prelude.{◌≡◌};
 
-/// A raw value: two words of 64 bits, whose type only the program knows.
+/// A raw value: two words of 64 bits, without a type.
 ///
-/// Values of up to 64 bits stand in `lo`. A vector takes both words. The order is that of `lo`, then of `hi`.
+/// A value of up to 64 bits stands in `lo`, and a vector in both words. The order is that of `lo`, then of `hi`.
 /// Upstream: `wasmi_core::RawVal`.
 #[derive(Clone, Copy, Debug, Default, PartialEq, Eq, PartialOrd, Ord)]
 pub struct RawVal {
@@ -34,9 +34,10 @@ impl RawVal {
 
 /// What can be read as a `T`.
 ///
-/// Upstream: `wasmi_core::ReadAs`.
+/// Of a raw value, an integer is the low word cut to the width of the integer, and a `bool` is whether the low
+/// word is not 0. A vector is both words. Upstream: `wasmi_core::ReadAs`.
 pub trait ReadAs<T> {
-    // The `T` that a value is read as.
+    // The `T` that `self` is read as.
     ghost read: { Self → T };
 
     /// Reads `self` as a `T`.
@@ -46,15 +47,17 @@ pub trait ReadAs<T> {
 
 /// What a `T` can be written to.
 ///
+/// An integer or a `bool` sets the low word of a raw value and keeps the high word. The low word is then the
+/// integer's unsigned image at its own width, so `-1i32` gives 4294967295. A vector or a raw value sets both words.
 /// Upstream: `wasmi_core::WriteAs`.
 pub trait WriteAs<T> {
-    // What a value becomes when a `T` is written to it.
+    // What `self` becomes when the `T` is written to it.
     ghost written: { Self → T → Self };
 
-    // Reading the value gives the `T`.
+    // Reading `self` gives the `T`.
     ghost reads_as: { Self → T → Type 0 };
 
-    /// Writes `value` to `self`, which then reads back as `value`.
+    /// Writes `value` to `self`.
     fn write_as(&mut self, value: T)
         ensures written { self.new ≡ written self.old value }
         ensures read_back { reads_as self.new value };

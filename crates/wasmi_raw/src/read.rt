@@ -14,38 +14,6 @@ impl ReadAs<RawVal> for RawVal {
     }
 }
 
-impl ReadAs<u8> for RawVal {
-    ghost read = { unsigned_in w8 };
-
-    fn read_as(&self) -> u8 {
-        (self.lo & 0xff) as u8
-    }
-}
-
-impl ReadAs<u16> for RawVal {
-    ghost read = { unsigned_in w16 };
-
-    fn read_as(&self) -> u16 {
-        (self.lo & 0xffff) as u16
-    }
-}
-
-impl ReadAs<u32> for RawVal {
-    ghost read = { unsigned_in w32 };
-
-    fn read_as(&self) -> u32 {
-        (self.lo & 0xffff_ffff) as u32
-    }
-}
-
-impl ReadAs<u64> for RawVal {
-    ghost read = { unsigned_in w64 };
-
-    fn read_as(&self) -> u64 {
-        self.lo
-    }
-}
-
 impl ReadAs<i8> for RawVal {
     ghost read = { signed_in w8 };
 
@@ -82,11 +50,35 @@ impl ReadAs<i64> for RawVal {
     }
 }
 
-impl ReadAs<bool> for RawVal {
-    ghost read = { bool_in };
+impl ReadAs<u8> for RawVal {
+    ghost read = { unsigned_in w8 };
 
-    fn read_as(&self) -> bool {
-        self.lo != 0
+    fn read_as(&self) -> u8 {
+        (self.lo & 0xff) as u8
+    }
+}
+
+impl ReadAs<u16> for RawVal {
+    ghost read = { unsigned_in w16 };
+
+    fn read_as(&self) -> u16 {
+        (self.lo & 0xffff) as u16
+    }
+}
+
+impl ReadAs<u32> for RawVal {
+    ghost read = { unsigned_in w32 };
+
+    fn read_as(&self) -> u32 {
+        (self.lo & 0xffff_ffff) as u32
+    }
+}
+
+impl ReadAs<u64> for RawVal {
+    ghost read = { unsigned_in w64 };
+
+    fn read_as(&self) -> u64 {
+        self.lo
     }
 }
 
@@ -95,5 +87,13 @@ impl ReadAs<V128> for RawVal {
 
     fn read_as(&self) -> V128 {
         V128::from_words(self.lo, self.hi)
+    }
+}
+
+impl ReadAs<bool> for RawVal {
+    ghost read = { bool_in };
+
+    fn read_as(&self) -> bool {
+        self.lo != 0
     }
 }

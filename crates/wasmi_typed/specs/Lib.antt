@@ -1,0 +1,4 @@
+pub mod ShiftAmount
+pub mod Global
+pub mod Lending
+pub mod GlobalError

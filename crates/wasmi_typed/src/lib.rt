@@ -1,2 +1,13 @@
-//! Under construction.
 #![tactic(auto)]
+//! Raw values with their types, shift amounts, and global variables.
+
+mod global;
+mod shift_amount;
+mod typed;
+
+pub use global::{Global, GlobalError, GlobalType, Mutability};
+pub use shift_amount::{IntoShiftAmount, ShiftAmount};
+pub use typed::{Typed, TypedRawVal};
+
+#[cfg(test)]
+mod tests;

@@ -1,0 +1,236 @@
+//! The amount of a shift: how many bits a number is shifted by.
+
+ghost use Rattle.std.specs.Prelude.{◌≡◌, ◌==◌, ℕ, ℤ, pos, if◌then◌else◌};
+ghost use Rattle.wasmi_typed.specs.ShiftAmount.{shift_amount};
+
+use std::marker::Model;
+
+/// By how many bits a number is shifted. Contracts see it as that number.
+///
+/// Upstream: `wasmi_core::ShiftAmount`.
+#[derive(Clone, Copy, Debug, PartialEq, Eq)]
+pub struct ShiftAmount {
+    bits: u8,
+}
+
+impl Model for ShiftAmount {
+    ghost use Rattle.std.specs.Prelude.{ℕ};
+
+    ghost Value = { ℕ };
+
+    ghost view = { λ amount. amount.bits };
+
+    ghost inverse = { λ bits. record { bits = bits } };
+}
+
+impl From<u8> for ShiftAmount {
+    ghost from_gives = { λ bits amount. amount ≡ bits };
+
+    fn from(bits: u8) -> ShiftAmount {
+        ShiftAmount { bits }
+    }
+}
+
+impl From<ShiftAmount> for u8 {
+    ghost from_gives = { λ amount bits. bits ≡ amount };
+
+    fn from(amount: ShiftAmount) -> u8 {
+        amount.bits
+    }
+}
+
+/// A number whose bits are shifted, or a vector the bits of whose lanes are.
+///
+/// Upstream: `wasmi_core::IntoShiftAmount`.
+pub trait IntoShiftAmount {
+    /// The type in which the amount is given.
+    type ShiftSource: Copy;
+
+    // How many bits the number has, or a lane of the vector.
+    ghost WIDTH: { ℕ };
+
+    // The amount that is given.
+    ghost amount: { Self.ShiftSource → ℤ };
+
+    /// The remainder of `source` by the number of bits, or `None` where that is 0 and nothing is shifted.
+    fn into_shift_amount(source: Self::ShiftSource) -> Option<ShiftAmount>
+        ensures { result ≡ shift_amount WIDTH (amount source) };
+}
+
+fn unless_zero(bits: u8) -> Option<ShiftAmount>
+    ensures { result ≡ (if bits == 0 then None else Some bits) }
+{
+    if bits == 0 {
+        None
+    } else {
+        Some(ShiftAmount { bits })
+    }
+}
+
+impl IntoShiftAmount for i8 {
+    type ShiftSource = i8;
+
+    ghost WIDTH = { 8 };
+
+    ghost amount = { λ source. source };
+
+    fn into_shift_amount(source: i8) -> Option<ShiftAmount> {
+        unless_zero(source.rem_euclid(8) as u8)
+    }
+}
+
+impl IntoShiftAmount for u8 {
+    type ShiftSource = u8;
+
+    ghost WIDTH = { 8 };
+
+    ghost amount = { pos };
+
+    fn into_shift_amount(source: u8) -> Option<ShiftAmount> {
+        unless_zero(source % 8)
+    }
+}
+
+impl IntoShiftAmount for i16 {
+    type ShiftSource = i16;
+
+    ghost WIDTH = { 16 };
+
+    ghost amount = { λ source. source };
+
+    fn into_shift_amount(source: i16) -> Option<ShiftAmount> {
+        unless_zero(source.rem_euclid(16) as u8)
+    }
+}
+
+impl IntoShiftAmount for u16 {
+    type ShiftSource = u16;
+
+    ghost WIDTH = { 16 };
+
+    ghost amount = { pos };
+
+    fn into_shift_amount(source: u16) -> Option<ShiftAmount> {
+        unless_zero((source % 16) as u8)
+    }
+}
+
+impl IntoShiftAmount for i32 {
+    type ShiftSource = i32;
+
+    ghost WIDTH = { 32 };
+
+    ghost amount = { λ source. source };
+
+    fn into_shift_amount(source: i32) -> Option<ShiftAmount> {
+        unless_zero(source.rem_euclid(32) as u8)
+    }
+}
+
+impl IntoShiftAmount for u32 {
+    type ShiftSource = u32;
+
+    ghost WIDTH = { 32 };
+
+    ghost amount = { pos };
+
+    fn into_shift_amount(source: u32) -> Option<ShiftAmount> {
+        unless_zero((source % 32) as u8)
+    }
+}
+
+impl IntoShiftAmount for i64 {
+    type ShiftSource = i64;
+
+    ghost WIDTH = { 64 };
+
+    ghost amount = { λ source. source };
+
+    fn into_shift_amount(source: i64) -> Option<ShiftAmount> {
+        unless_zero(source.rem_euclid(64) as u8)
+    }
+}
+
+impl IntoShiftAmount for u64 {
+    type ShiftSource = u64;
+
+    ghost WIDTH = { 64 };
+
+    ghost amount = { pos };
+
+    fn into_shift_amount(source: u64) -> Option<ShiftAmount> {
+        unless_zero((source % 64) as u8)
+    }
+}
+
+impl IntoShiftAmount for i128 {
+    type ShiftSource = i128;
+
+    ghost WIDTH = { 128 };
+
+    ghost amount = { λ source. source };
+
+    fn into_shift_amount(source: i128) -> Option<ShiftAmount> {
+        unless_zero(source.rem_euclid(128) as u8)
+    }
+}
+
+impl IntoShiftAmount for u128 {
+    type ShiftSource = u128;
+
+    ghost WIDTH = { 128 };
+
+    ghost amount = { pos };
+
+    fn into_shift_amount(source: u128) -> Option<ShiftAmount> {
+        unless_zero((source % 128) as u8)
+    }
+}
+
+impl IntoShiftAmount for [u8; 16] {
+    type ShiftSource = u32;
+
+    ghost WIDTH = { 8 };
+
+    ghost amount = { pos };
+
+    fn into_shift_amount(source: u32) -> Option<ShiftAmount> {
+        unless_zero((source % 8) as u8)
+    }
+}
+
+impl IntoShiftAmount for [u16; 8] {
+    type ShiftSource = u32;
+
+    ghost WIDTH = { 16 };
+
+    ghost amount = { pos };
+
+    fn into_shift_amount(source: u32) -> Option<ShiftAmount> {
+        unless_zero((source % 16) as u8)
+    }
+}
+
+impl IntoShiftAmount for [u32; 4] {
+    type ShiftSource = u32;
+
+    ghost WIDTH = { 32 };
+
+    ghost amount = { pos };
+
+    fn into_shift_amount(source: u32) -> Option<ShiftAmount> {
+        unless_zero((source % 32) as u8)
+    }
+}
+
+impl IntoShiftAmount for [u64; 2] {
+    type ShiftSource = u32;
+
+    ghost WIDTH = { 64 };
+
+    ghost amount = { pos };
+
+    fn into_shift_amount(source: u32) -> Option<ShiftAmount> {
+        unless_zero((source % 64) as u8)
+    }
+}
