@@ -1,2 +1,10 @@
-//! Under construction.
+//! Loads and stores of little-endian numbers in a linear memory.
 #![tactic(auto)]
+
+pub mod access;
+mod convert;
+mod integer;
+pub mod laws;
+#[cfg(test)]
+mod tests;
+pub mod wasm;

@@ -15,7 +15,10 @@ pub enum Call {
     /// Makes a memory of zeros: `Made` with its index, `NoRoom` where its slot can't be had, or `Memory`.
     NewMemory(MemoryType),
     /// Grows a memory by so many pages: `Number` of the old size in pages, or `Memory`.
-    GrowMemory { memory: usize, pages: u64 },
+    GrowMemory {
+        memory: usize,
+        pages: u64,
+    },
     /// So many bytes of a memory: `Bytes`, `Memory` where they end past it, or then `NoRoom` where the reply's buffer
     /// can't be had.
     Read {

@@ -8,3 +8,5 @@ pub mod MemoryError
 pub mod TableError
 pub mod LimiterError
 pub mod FuelError
+pub mod Holdings
+pub mod Quota

@@ -5,6 +5,7 @@ mod error;
 mod fuel;
 mod limiter;
 mod limiter_ref;
+mod quota;
 #[cfg(test)]
 mod tests;
 
@@ -12,3 +13,4 @@ pub use error::{LimiterError, MemoryError, TableError};
 pub use fuel::{CustomFuelCosts, Fuel, FuelCosts, FuelCostsProvider, FuelError, ValueSize};
 pub use limiter::{Kind, NoLimits, ResourceLimiter};
 pub use limiter_ref::{Lender, LimiterRef, ResourceLimiterRef};
+pub use quota::Quota;

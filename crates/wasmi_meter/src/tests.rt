@@ -398,3 +398,37 @@ fn same_costs(provider: &FuelCostsProvider) -> Result<FuelCostsProvider, AllocEr
 {
     provider.clone()
 }
+
+#[test]
+fn quota_gives_back_once(rt: HostRuntime) {
+    let mut quota = Quota::new(10, 3);
+    assert_eq!(rt; quota.memory_growing(0, 5, None), Ok(true));
+    assert_eq!(rt; quota.memory_growing(5, 11, Some(20)), Ok(false));
+    assert_eq!(rt; quota.table_growing(0, 4, None), Ok(false));
+    assert_eq!(rt; (quota.held_bytes(), quota.held_elements()), (5, 0));
+    assert_eq!(rt;
+        quota.table_grow_failed(&TableError::OutOfSystemMemory),
+        Ok(())
+    );
+    assert_eq!(rt; (quota.held_bytes(), quota.held_elements()), (5, 0));
+    assert_eq!(rt;
+        quota.memory_grow_failed(&MemoryError::OutOfSystemMemory),
+        Ok(())
+    );
+    assert_eq!(rt;
+        quota.memory_grow_failed(&MemoryError::OutOfSystemMemory),
+        Ok(())
+    );
+    assert_eq!(rt; (quota.held_bytes(), quota.held_elements()), (0, 0));
+    assert_eq!(rt; quota.memory_growing(0, 10, None), Ok(true));
+    assert_eq!(rt; quota.table_growing(0, 3, None), Ok(true));
+    assert_eq!(rt;
+        quota.table_grow_failed(&TableError::OutOfSystemMemory),
+        Ok(())
+    );
+    assert_eq!(rt; (quota.held_bytes(), quota.held_elements()), (10, 0));
+    assert_eq!(rt;
+        (quota.instances(), quota.tables(), quota.memories()),
+        (usize::MAX, usize::MAX, usize::MAX)
+    );
+}

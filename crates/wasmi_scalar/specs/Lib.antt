@@ -1,0 +1,2 @@
+pub mod Numerics
+pub mod Wide

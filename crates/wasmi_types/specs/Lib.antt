@@ -1,5 +1,12 @@
 pub mod Bytes
 pub mod Access
+pub mod Wrapping
 pub mod Value
 pub mod IndexType
 pub mod Trap
+pub mod TrapReason
+pub mod FunctionType
+pub mod FuncTypeInner
+pub mod Reading
+pub mod FunctionTypeLaws
+pub mod ValTypeLaws

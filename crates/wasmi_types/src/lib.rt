@@ -1,10 +1,18 @@
 //! The value types, traps and function types of WebAssembly.
 #![tactic(auto)]
 
+mod func_type;
+pub mod hint;
+mod host_error;
 mod index_ty;
 mod trap;
 mod value;
 
+pub use func_type::{FuncType, FuncTypeError};
+pub use host_error::HostError;
 pub use index_ty::IndexType;
-pub use trap::{InvalidTrapCode, TrapCode};
+pub use trap::{InvalidTrapCode, Trap, TrapCode};
 pub use value::{RefType, ValType};
+
+#[cfg(test)]
+mod tests;

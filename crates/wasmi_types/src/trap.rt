@@ -1,7 +1,161 @@
-ghost use Rattle.std.specs.Prelude.{◌≡◌};
+ghost use Rattle.std.specs.Prelude.{◌≡◌, Some};
+ghost use Rattle.std.specs.Option.{option_copied, option_copied_mut};
+ghost use Rattle.std.specs.Borrow.{sem, LendsIf};
 ghost use Rattle.wasmi_types.specs.Trap.{code_number, code_message, IsCodeOf};
+ghost use Rattle.wasmi_types.specs.declared.trap.TrapReason.TheVariants as reason;
 
+use crate::HostError;
+use std::error::Error;
 use std::fmt;
+use std::marker::Model;
+
+/// Why a call of WebAssembly code or of the host ended early: a trap code, an exit status, a message
+/// or an error of the host. It stands in the value, and nothing is allocated for it.
+///
+/// Upstream: `wasmi_core::Trap`.
+#[derive(Debug, Drop)]
+pub struct Trap<H> {
+    reason: TrapReason<H>,
+}
+
+#[derive(Debug, Drop)]
+enum TrapReason<H> {
+    InstructionTrap(TrapCode),
+    I32Exit(i32),
+    Message(String),
+    Host(H),
+}
+
+impl<H> Model for Trap<H> {
+    ghost use Rattle.wasmi_types.specs.declared.trap.TrapReason.{TrapReason};
+
+    ghost Value = { TrapReason H };
+
+    ghost view = { λ trap. trap.reason };
+}
+
+impl<H: HostError> Trap<H> {
+    ghost use Rattle.wasmi_types.specs.TrapReason.{exit_status_of, code_of, host_error_of, with_host_error};
+    ghost use Rattle.wasmi_types.specs.contracts.trap.Trap.{the_row};
+
+    /// A trap that a message describes.
+    pub fn new(message: String) -> Self
+        ensures { result ≡ reason.Message message }
+    {
+        Trap {
+            reason: TrapReason::Message(message),
+        }
+    }
+
+    /// An exit of the program with a status.
+    pub fn i32_exit(status: i32) -> Self
+        ensures { result ≡ reason.I32Exit status }
+    {
+        Trap {
+            reason: TrapReason::I32Exit(status),
+        }
+    }
+
+    /// The exit status, if this is an exit.
+    pub fn i32_exit_status(&self) -> Option<i32>
+        ensures { result ≡ exit_status_of self.now }
+    {
+        match &self.reason {
+            TrapReason::I32Exit(status) => Some(*status),
+            _ => None,
+        }
+    }
+
+    /// The trap code, if an instruction trapped.
+    pub fn trap_code(&self) -> Option<TrapCode>
+        ensures { result ≡ code_of self.now }
+    {
+        match &self.reason {
+            TrapReason::InstructionTrap(code) => Some(*code),
+            _ => None,
+        }
+    }
+
+    /// The error of the host, if this carries one.
+    pub fn downcast_ref(&self) -> Option<&H>
+        ensures { option_copied result ≡ host_error_of self.now }
+    {
+        match &self.reason {
+            TrapReason::Host(error) => Some(error),
+            _ => None,
+        }
+    }
+
+    /// The error of the host to be changed, if this carries one.
+    pub fn downcast_mut(&mut self) -> Option<&mut H>
+        ensures* writes_back { sem 𝓛 (LendsIf (the_row H.row) H.row self.entry result (with_host_error self.old) self.old) }
+        ensures value { option_copied_mut result ≡ host_error_of self.old }
+    {
+        self.reason.as_host_mut()
+    }
+
+    /// The error of the host, if this carries one. A trap without one is dropped.
+    pub fn downcast(self) -> Option<H>
+        ensures { result ≡ host_error_of self }
+    {
+        match self.reason {
+            TrapReason::Host(error) => Some(error),
+            _ => None,
+        }
+    }
+}
+
+impl<H> TrapReason<H> {
+    ghost use Rattle.wasmi_types.specs.TrapReason.{host_error_of, with_host_error};
+    ghost use Rattle.wasmi_types.specs.contracts.trap.TrapReason.{the_row};
+
+    fn as_host_mut(&mut self) -> Option<&mut H>
+        ensures* writes_back { sem 𝓛 (LendsIf (the_row H.row) H.row self.entry result (with_host_error self.old) self.old) }
+        ensures value { option_copied_mut result ≡ host_error_of self.old }
+    {
+        match self {
+            TrapReason::Host(error) => Some(error),
+            _ => None,
+        }
+    }
+}
+
+impl<H: HostError> fmt::Display for Trap<H> {
+    ghost use Rattle.wasmi_types.specs.TrapReason.{text_of};
+
+    ghost output = { text_of H.output };
+
+    fn fmt<W: fmt::Write>(&self, f: &mut fmt::Formatter<W>) -> fmt::Result {
+        match &self.reason {
+            TrapReason::InstructionTrap(code) => fmt::Display::fmt(code, f),
+            TrapReason::I32Exit(status) => write!(f, "Exited with i32 exit status {status}"),
+            TrapReason::Message(message) => f.write_str(message),
+            TrapReason::Host(error) => fmt::Display::fmt(error, f),
+        }
+    }
+}
+
+impl<H: HostError> Error for Trap<H> {}
+
+impl<H: HostError> From<TrapCode> for Trap<H> {
+    ghost from_gives = { λ code trap. trap ≡ reason.InstructionTrap code };
+
+    fn from(code: TrapCode) -> Self {
+        Trap {
+            reason: TrapReason::InstructionTrap(code),
+        }
+    }
+}
+
+impl<H: HostError> From<H> for Trap<H> {
+    ghost from_gives = { λ error trap. trap ≡ reason.Host error };
+
+    fn from(error: H) -> Self {
+        Trap {
+            reason: TrapReason::Host(error),
+        }
+    }
+}
 
 /// A number that no trap code has.
 ///
@@ -63,6 +217,8 @@ impl TrapCode {
 }
 
 impl fmt::Display for TrapCode {
+    ghost output = { λ code. Some (code_message code) };
+
     fn fmt<W: fmt::Write>(&self, f: &mut fmt::Formatter<W>) -> fmt::Result {
         f.write_str(self.trap_message())
     }

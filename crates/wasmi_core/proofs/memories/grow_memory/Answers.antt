@@ -9,19 +9,26 @@ returns-then-index-len-clause-grown g c =
 
 pub returns-in-Ok-clause-grown : goal.returns-in-Ok-clause-grown
 returns-in-Ok-clause-grown g c =
-    let grown = c.in-Ok.ensures.grown in
-    (grown.0, bytes_appended c.in-Live.memory c.args.pages (Ok c.in-Ok.size),
+    let grown = c.in-Ok.ensures.grown in (
+      grown.0,
+      bytes_appended c.in-Live.memory c.args.pages (Ok c.in-Ok.size),
       rw (memory_live c.args.slots.now.items c.args.index c.index_mut.result.now c.in-Live.memory (omega arith) c.index_mut.ensures.value c.in-Live.is)
-      (Ok c.in-Ok.size, c.grow.new.self, grown.1, refl, refl, refl))
+          (Ok c.in-Ok.size, c.grow.new.self, grown.1, refl, refl, refl),
+    )
 
 pub returns-in-Err-clause-grown : goal.returns-in-Err-clause-grown
 returns-in-Err-clause-grown g c =
-    let grown = c.in-Err.ensures.grown in
-    (grown.0, 0,
+    let grown = c.in-Err.ensures.grown in (
+      grown.0,
+      0,
       rw (memory_live c.args.slots.now.items c.args.index c.index_mut.result.now c.in-Live.memory (omega arith) c.index_mut.ensures.value c.in-Live.is)
-      (Err c.in-Err.error, c.grow.new.self, grown.1, refl, refl, refl))
+          (Err c.in-Err.error, c.grow.new.self, grown.1, refl, refl, refl),
+    )
 
 pub returns-in-Gone-clause-grown : goal.returns-in-Gone-clause-grown
-returns-in-Gone-clause-grown g c =
-    (0, 0, rw (memory_gone c.args.slots.now.items c.args.index c.index_mut.result.now _ (omega arith) c.index_mut.ensures.value c.in-Gone.is)
-      (refl, refl, refl, set_read c.args.slots.now.items c.args.index _ c.index_mut.ensures.value, refl, refl))
+returns-in-Gone-clause-grown g c = (
+  0,
+  0,
+  rw (memory_gone c.args.slots.now.items c.args.index c.index_mut.result.now _ (omega arith) c.index_mut.ensures.value c.in-Gone.is)
+      (refl, refl, refl, set_read c.args.slots.now.items c.args.index _ c.index_mut.ensures.value, refl, refl),
+)

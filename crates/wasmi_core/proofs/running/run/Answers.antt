@@ -14,11 +14,13 @@ loop-call-init g c = record {
 pub loop-call-preserved : goal.loop-call-preserved
 loop-call-preserved g c = record {
   ran =
-    let ran = c.loop-call.invariant.ran in
-    let step = c.step-reply.ensures.step in
-    (ran.0 ++ step.0 ∷ [], ran.1 ++ step.1 ∷ [],
-      rw (take_more c.args.calls.now c.loop-call.call-index c.call-item.result c.loop-call-test.true, ← c.call-item.is, c.in-Ok.ensures.items)
-      (Run-push _ _ _ _ _ _ _ _ _ _ ran.2 _ _ _ _ _ _ step.2));
+      let ran = c.loop-call.invariant.ran in
+      let step = c.step-reply.ensures.step in (
+        ran.0 ++ step.0 ∷ [],
+        ran.1 ++ step.1 ∷ [],
+        rw (take_more c.args.calls.now c.loop-call.call-index c.call-item.result c.loop-call-test.true, ← c.call-item.is, c.in-Ok.ensures.items)
+            (Run-push _ _ _ _ _ _ _ _ _ _ ran.2 _ _ _ _ _ _ step.2),
+      );
   loan = search rules;
   count = c.in-Ok.ensures.len ∙ ap (λ n. n + 1) c.loop-call.invariant.count;
   room = omega (arith, c.in-Ok.ensures.capacity);

@@ -1,0 +1,113 @@
+-- Reading what was written.
+use Rattle.std.proofs.Common.{◌≡◌, ℕ, zero, suc, ◌+◌, ◌*◌, ◌%◌, ◌^◌, ◌≤◌, Bool, true, false, List, length, take, drop, ◌++◌, Some, None, refl, ap, sym, ◌∙◌, arith, append_assoc, div-one, length-append, mod-eq_of_lt, ◌<◌}
+use Rattle.std.proofs.Math.Nat.{pow-suc}
+use Rattle.std.specs.Prelude.{nat_le, if◌then◌else◌, Ok, ℤ}
+use mir.Val.{SFits, bits}
+use Rattle.std.proofs.lemmas.List.{length-take-le}
+use Rattle.std.proofs.lemmas.Nat.{pow-add, pow_pos, mod_below}
+use Rattle.std.proofs.lemmas.Int.{to_z-of_z}
+use Rattle.std.proofs.lemmas.Bool.{leb-true}
+use Rattle.std.proofs.lemmas.Grind.{common_steps}
+use Rattle.std.proofs.Math.Seq.{drop-append_seam, take-append_seam}
+use Rattle.std.specs.Int.{Width, bytes_low_first, cast_signed, cast_unsigned}
+use Rattle.wasmi_types.specs.Bytes.{number_of, le_bytes}
+use Rattle.wasmi_types.specs.Access.{at, overwrite}
+use Rattle.wasmi_access.specs.LoadStore.{loaded, value_of_bytes, IsSameOutside}
+use Rattle.wasmi_access.proofs.ByteLemmas.{number_of-low_first}
+
+chosen : (b : Bool) (zs new : List ℕ) → (if b then Some zs else None) ≡ Some new → (b ≡ true) × (zs ≡ new)
+chosen true zs new e = grind (arith, common_steps, e)
+chosen false zs new e = cc
+
+-- an accepted write: there is room, and the list is in three parts
+accepted : (xs : List ℕ) (a : ℕ) (ys new : List ℕ) → overwrite xs a ys ≡ Some new
+    → (a + length ys ≤ length xs) × (take a xs ++ ys ++ drop (a + length ys) xs ≡ new) × (nat_le (a + length ys) (length xs) ≡ true)
+accepted xs a ys new e =
+    let both : (nat_le (a + length ys) (length xs) ≡ true) × (take a xs ++ ys ++ drop (a + length ys) xs ≡ new) =
+    chosen (nat_le (a + length ys) (length xs)) (take a xs ++ ys ++ drop (a + length ys) xs) new e in
+    (leb-true (a + length ys) (length xs) both.0, both.1, both.0)
+
+-- the list from a place on, and before it
+from_place : (ps zs : List ℕ) (a : ℕ) → length ps ≡ a → drop a (ps ++ zs) ≡ zs
+from_place ps zs a e = ap (λ n. drop n (ps ++ zs)) (sym e) ∙ drop-append_seam ps zs
+
+to_place : (ps zs : List ℕ) (a : ℕ) → length ps ≡ a → take a (ps ++ zs) ≡ ps
+to_place ps zs a e = ap (λ n. take n (ps ++ zs)) (sym e) ∙ take-append_seam ps zs
+
+-- what lies at a after ys was put there
+written : (xs : List ℕ) (a : ℕ) (ys : List ℕ) → a ≤ length xs → take (length ys) (drop a (take a xs ++ ys ++ drop (a + length ys) xs)) ≡ ys
+written xs a ys h =
+    ap (λ zs. take (length ys) (drop a zs)) (append_assoc (take a xs) ys (drop (a + length ys) xs))
+    ∙ ap (take (length ys)) (from_place (take a xs) (ys ++ drop (a + length ys) xs) a (length-take-le a xs h))
+    ∙ take-append_seam ys (drop (a + length ys) xs)
+
+kept : (xs : List ℕ) (a : ℕ) (ys : List ℕ) → a + length ys ≤ length xs → length (take a xs ++ ys ++ drop (a + length ys) xs) ≡ length xs
+kept xs a ys h = grind (arith, common_steps)
+
+at-overwrite : (xs : List ℕ) (a : ℕ) (ys new : List ℕ) → overwrite xs a ys ≡ Some new → at new a (length ys) ≡ Some ys
+at-overwrite xs a ys new e =
+    let facts = accepted xs a ys new e in
+    let fits : a + length ys ≤ length xs = facts.0 in
+    let same : length new ≡ length xs = ap length (sym facts.1) ∙ kept xs a ys fits in
+    let yes : nat_le (a + length ys) (length new) ≡ true = ap (nat_le (a + length ys)) same ∙ facts.2 in
+    let there : take (length ys) (drop a new) ≡ ys = ap (λ zs. take (length ys) (drop a zs)) (sym facts.1) ∙ written xs a ys (omega (arith, fits)) in
+    ap (λ b. if b then Some (take (length ys) (drop a new)) else None) yes ∙ ap Some there
+
+outside_by_length : (old new : List ℕ) (a : ℕ) (ys : List ℕ) → overwrite old a ys ≡ Some new → IsSameOutside old new a (length ys)
+outside_by_length old new a ys e =
+    let facts = accepted old a ys new e in
+    let fits : a + length ys ≤ length old = facts.0 in
+    let before : length (take a old) ≡ a = length-take-le a old (omega (arith, fits)) in
+    let through : length (take a old ++ ys) ≡ a + length ys = length-append (take a old) ys ∙ ap (λ n. n + length ys) before in (
+      ap (take a) (sym facts.1 ∙ append_assoc (take a old) ys (drop (a + length ys) old)) ∙ to_place (take a old) (ys ++ drop (a + length ys) old) a before,
+      ap (drop (a + length ys)) (sym facts.1) ∙ from_place (take a old ++ ys) (drop (a + length ys) old) (a + length ys) through,
+    )
+
+-- ---- the bytes of a number
+
+length-low_first : (i k n : ℕ) → length (bytes_low_first i k n) ≡ k
+length-low_first i zero n = refl
+length-low_first i (suc k) n = ap suc (length-low_first (suc i) k n)
+
+bytes_power : (k : ℕ) → 256 ^ k ≡ 2 ^ (8 * k)
+bytes_power zero = refl
+bytes_power (suc k) =
+    let more : 8 * suc k ≡ 8 * k + 8 = omega arith in
+    pow-suc 256 k ∙ ap (λ p. p * 256) (bytes_power k) ∙ sym (ap (λ n. 2 ^ n) more ∙ pow-add 2 (8 * k) 8)
+
+-- a load of what was stored
+pub loaded-overwrite : {V : Type 0} (k n a : ℕ) (old new : List ℕ) (value : ℕ → V) → overwrite old a (le_bytes k n) ≡ Some new
+    → loaded k value new a ≡ Ok (value (n % 2 ^ (8 * k)))
+loaded-overwrite k n a old new value e =
+    let number : number_of (le_bytes k n) ≡ n % 2 ^ (8 * k) =
+    number_of-low_first 0 k n ∙ ap (λ m. m % 256 ^ k) (div-one n) ∙ ap (λ m. n % m) (bytes_power k) in
+    ap (λ j. value_of_bytes value (at new a j)) (sym (length-low_first 0 k n))
+    ∙ ap (value_of_bytes value) (at-overwrite old a (le_bytes k n) new e)
+    ∙ ap (λ m. Ok (value m)) number
+
+-- what a store leaves alone
+pub outside-overwrite : (k n a : ℕ) (old new : List ℕ) → overwrite old a (le_bytes k n) ≡ Some new → IsSameOutside old new a k
+outside-overwrite k n a old new e =
+    let whole : IsSameOutside old new a (length (le_bytes k n)) = outside_by_length old new a (le_bytes k n) e in
+    let long : length (le_bytes k n) ≡ k = length-low_first 0 k n in
+    (whole.0, ap (λ j. drop (a + j) new) (sym long) ∙ whole.1 ∙ ap (λ j. drop (a + j) old) long)
+
+-- a number read by an accepted load where an accepted store wrapped a signed number to v bits
+pub read_wrapped : (w v : Width) (k : ℕ) (z : ℤ) (a : ℕ) (old new : List ℕ) (value : ℕ → ℤ) (r : ℤ) → SFits w z → 2 ^ (8 * k) ≡ 2 ^ bits v
+    → overwrite old a (le_bytes k (cast_unsigned w (cast_signed w (cast_unsigned w z)) % 2 ^ bits v)) ≡ Some new
+    → Ok r ≡ loaded k value new a → r ≡ value (cast_unsigned w z % 2 ^ bits v)
+read_wrapped w v k z a old new value r f e wrote read =
+    let stored = cast_unsigned w (cast_signed w (cast_unsigned w z)) % 2 ^ bits v in
+    let found : Ok r ≡ Ok (value (stored % 2 ^ (8 * k))) = read ∙ loaded-overwrite k stored a old new value wrote in
+    let got : r ≡ value (stored % 2 ^ (8 * k)) = cc in
+    let same : stored % 2 ^ (8 * k) ≡ cast_unsigned w z % 2 ^ bits v =
+    ap (λ m. stored % m) e ∙ mod-eq_of_lt (mod_below (cast_unsigned w (cast_signed w (cast_unsigned w z))) (2 ^ bits v) (pow_pos (bits v)))
+    ∙ ap (λ y. cast_unsigned w y % 2 ^ bits v) (to_z-of_z w z f) in
+    got ∙ ap value same
+
+-- the same of an unsigned number that k bytes hold
+pub read_whole : (k n a : ℕ) (old new : List ℕ) (r : ℕ) → n < 2 ^ (8 * k) → overwrite old a (le_bytes k n) ≡ Some new → Ok r ≡ loaded k (λ m. m) new a → r ≡ n
+read_whole k n a old new r small wrote read =
+    let found : Ok r ≡ Ok (n % 2 ^ (8 * k)) = read ∙ loaded-overwrite k n a old new (λ m. m) wrote in
+    let got : r ≡ n % 2 ^ (8 * k) = cc in
+    got ∙ mod-eq_of_lt small

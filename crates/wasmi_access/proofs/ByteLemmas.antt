@@ -1,0 +1,101 @@
+-- The number of a list of bytes.
+use Rattle.std.proofs.Common.{◌≡◌, ℕ, zero, suc, ◌+◌, ◌*◌, ◌/◌, ◌%◌, ◌^◌, ◌<◌, List, [], ◌∷◌, ◌++◌, length, take, get_or, refl, ap, sym, ◌∙◌, arith, div-one, mod-eq_of_lt, lit<, mul-one, mul_comm, mul_assoc}
+use Rattle.std.proofs.Math.Nat.{div-div-eq-div-mul, pow-suc, mod-one}
+use Rattle.std.proofs.lemmas.List.{length-take-le, take_all}
+use Rattle.std.proofs.Math.Seq.{take-suc}
+use Rattle.std.specs.Int.{bytes_low_first, byte_at, byte_worth, sum_through, from_le_bytes, to_le_bytes, w8, w16, w32, w64, w128}
+use Rattle.wasmi_types.specs.Bytes.{number_of, le_bytes}
+use lib.Arith.{mod-mul}
+
+-- ---- the bytes of a number
+
+pow-pos : (k : ℕ) → 0 < 256 ^ k
+pow-pos zero = lit< tt
+pow-pos (suc k) = let before : 0 < 256 ^ k = pow-pos k in let e : 256 ^ suc k ≡ 256 ^ k * 256 = pow-suc 256 k in omega (arith, before, e)
+
+byte_at-is : (i n : ℕ) → byte_at i n ≡ n / 256 ^ i % 256
+byte_at-is zero n = ap (λ m. m % 256) (sym (div-one n))
+byte_at-is (suc i) n = refl
+
+pub number_of-low_first : (i k n : ℕ) → number_of (bytes_low_first i k n) ≡ n / 256 ^ i % 256 ^ k
+unfolding number_of
+number_of-low_first i zero n = sym (mod-one (n / 256 ^ i))
+number_of-low_first i (suc k) n =
+    let here : byte_at i n ≡ n / 256 ^ i % 256 = byte_at-is i n in
+    let rest : number_of (bytes_low_first (suc i) k n) ≡ n / 256 ^ suc i % 256 ^ k = number_of-low_first (suc i) k n in
+    let next : n / 256 ^ suc i ≡ n / 256 ^ i / 256 = ap (λ d. n / d) (pow-suc 256 i) ∙ sym (div-div-eq-div-mul n (256 ^ i) 256) in
+    let power : 256 ^ suc k ≡ 256 ^ k * 256 = pow-suc 256 k in
+    let split : n / 256 ^ i % (256 ^ k * 256) ≡ (n / 256 ^ i / 256 % 256 ^ k) * 256 + n / 256 ^ i % 256 = mod-mul (n / 256 ^ i) (pow-pos k) (lit< tt) in
+    ap (λ b. b + 256 * number_of (bytes_low_first (suc i) k n)) here
+    ∙ ap (λ r. n / 256 ^ i % 256 + 256 * r) (rest ∙ ap (λ q. q % 256 ^ k) next)
+    ∙ omega arith
+    ∙ sym (ap (λ m. n / 256 ^ i % m) power ∙ split)
+
+-- ---- the number of some bytes
+
+byte_worth-is : (i b : ℕ) → byte_worth i b ≡ b * 256 ^ i
+byte_worth-is zero b = sym (mul-one b)
+byte_worth-is (suc i) b = refl
+
+number_of-push : (bs : List ℕ) (b : ℕ) → number_of (bs ++ b ∷ []) ≡ number_of bs + b * 256 ^ length bs
+unfolding number_of
+number_of-push [] b = omega arith
+number_of-push (c ∷ bs) b =
+    let rest : number_of (bs ++ b ∷ []) ≡ number_of bs + b * 256 ^ length bs = number_of-push bs b in
+    let power : b * 256 ^ suc (length bs) ≡ 256 * (b * 256 ^ length bs) =
+    ap (λ p. b * p) (pow-suc 256 (length bs)) ∙ sym (mul_assoc b (256 ^ length bs) 256) ∙ mul_comm (b * 256 ^ length bs) 256 in
+    omega (arith, rest, power)
+
+pub sum_through-number_of : (bs : List ℕ) (k : ℕ) → k < length bs → sum_through (λ i. byte_worth i (get_or bs i 0)) k ≡ number_of (take (suc k) bs)
+unfolding number_of
+sum_through-number_of [] zero h = absurd (omega arith)
+sum_through-number_of (b ∷ bs) zero h = omega arith
+sum_through-number_of bs (suc k) h =
+    let before : sum_through (λ i. byte_worth i (get_or bs i 0)) k ≡ number_of (take (suc k) bs) = sum_through-number_of bs k (omega arith) in
+    let more : take (suc (suc k)) bs ≡ take (suc k) bs ++ (get_or bs (suc k) 0 ∷ []) = take-suc bs (suc k) 0 h in
+    let pushed : number_of (take (suc k) bs ++ (get_or bs (suc k) 0 ∷ [])) ≡ number_of (take (suc k) bs) + get_or bs (suc k) 0 * 256 ^ length (take (suc k) bs) = number_of-push (take (suc k) bs) (get_or bs (suc k) 0) in
+    let long : length (take (suc k) bs) ≡ suc k = length-take-le (suc k) bs (omega arith) in
+    ap (λ n. n + get_or bs (suc k) 0 * 256 ^ suc k) before
+    ∙ sym (ap number_of more ∙ pushed ∙ ap (λ e. number_of (take (suc k) bs) + get_or bs (suc k) 0 * 256 ^ e) long)
+
+-- ---- at the widths of the numbers
+
+pub number_of-bytes : (k n : ℕ) → n < 256 ^ k → number_of (le_bytes k n) ≡ n
+number_of-bytes k n h = number_of-low_first 0 k n ∙ ap (λ m. m % 256 ^ k) (div-one n) ∙ mod-eq_of_lt h
+
+pub number_of-whole : (bs : List ℕ) (k : ℕ) → length bs ≡ suc k → sum_through (λ i. byte_worth i (get_or bs i 0)) k ≡ number_of bs
+number_of-whole bs k e = sum_through-number_of bs k (omega arith) ∙ ap number_of (take_all (suc k) bs (omega arith))
+
+pub number_of_bytes_1 : (n : ℕ) → n < 2 ^ 8 → number_of (to_le_bytes w8 n) ≡ n
+number_of_bytes_1 n h = number_of-bytes 1 n h
+
+pub number_of_whole_1 : (bs : List ℕ) → length bs ≡ 1 → from_le_bytes w8 bs ≡ number_of bs
+number_of_whole_1 bs e = number_of-whole bs 0 e
+
+pub number_of_bytes_2 : (n : ℕ) → n < 2 ^ 16 → number_of (to_le_bytes w16 n) ≡ n
+number_of_bytes_2 n h = number_of-bytes 2 n h
+
+pub number_of_whole_2 : (bs : List ℕ) → length bs ≡ 2 → from_le_bytes w16 bs ≡ number_of bs
+number_of_whole_2 bs e = number_of-whole bs 1 e
+
+pub number_of_bytes_4 : (n : ℕ) → n < 2 ^ 32 → number_of (to_le_bytes w32 n) ≡ n
+number_of_bytes_4 n h = number_of-bytes 4 n h
+
+pub number_of_whole_4 : (bs : List ℕ) → length bs ≡ 4 → from_le_bytes w32 bs ≡ number_of bs
+number_of_whole_4 bs e = number_of-whole bs 3 e
+
+pub number_of_bytes_8 : (n : ℕ) → n < 2 ^ 64 → number_of (to_le_bytes w64 n) ≡ n
+number_of_bytes_8 n h = number_of-bytes 8 n h
+
+pub number_of_whole_8 : (bs : List ℕ) → length bs ≡ 8 → from_le_bytes w64 bs ≡ number_of bs
+number_of_whole_8 bs e = number_of-whole bs 7 e
+
+pub number_of_bytes_16 : (n : ℕ) → n < 2 ^ 128 → number_of (to_le_bytes w128 n) ≡ n
+number_of_bytes_16 n h = number_of-bytes 16 n h
+
+pub number_of_whole_16 : (bs : List ℕ) → length bs ≡ 16 → from_le_bytes w128 bs ≡ number_of bs
+number_of_whole_16 bs e = number_of-whole bs 15 e
+
+pub number_of_single : (b : ℕ) → number_of (b ∷ []) ≡ b
+unfolding number_of
+number_of_single b = omega arith

@@ -1,0 +1,224 @@
+//! Loads and stores of any type that has little-endian bytes.
+//!
+//! A memory is a slice of bytes, and an address counts bytes from its start. An access to `ptr + offset` has the unbounded
+//! sum for its address. Upstream: the module `memory::access`, private there. Core specification: memory instructions, and
+//! the storage of integers under numerics.
+
+ghost use Rattle.std.specs.Prelude.{◌≡◌, ℕ, ◌+◌, ◌^◌, ◌≤◌, List, MatchResult};
+ghost use Rattle.wasmi_types.specs.Bytes.{number_of, le_bytes};
+ghost use Rattle.wasmi_access.specs.LoadStore.{loaded, IsStore, IsCopy};
+
+use wasmi_types::TrapCode;
+
+/// A conversion to the low bits of a number, read signed.
+///
+/// Upstream: `WrapInto`, private there.
+pub trait WrapInto<T> {
+    ghost wrapped: { Self → T };
+
+    /// The low bits of `self`, as many as `T` has.
+    fn wrap_into(self) -> T
+        ensures { result ≡ wrapped self };
+}
+
+/// A conversion to a wider number.
+///
+/// Upstream: `ExtendInto`, private there. A signed number is extended by its sign, an unsigned one by zeros.
+pub trait ExtendInto<T> {
+    ghost extended: { Self → T };
+
+    /// The number of `self` as a `T`.
+    fn extend_into(self) -> T
+        ensures { result ≡ extended self };
+}
+
+/// An array of bytes, as the contracts of this module see it.
+pub trait ByteArray {
+    ghost LEN: { ℕ };
+
+    ghost bytes_of: { Self → List ℕ };
+}
+
+impl<const N: usize> ByteArray for [u8; N] {
+    ghost LEN = { N };
+
+    ghost bytes_of = { λ bytes. bytes };
+}
+
+/// Bytes that are read from a memory.
+///
+/// Upstream: `LoadInto`, private there.
+pub trait LoadInto: ByteArray {
+    /// Copies the bytes at `address` into `self`.
+    ///
+    /// The only error is `MemoryOutOfBounds`, where the memory ends before the last byte.
+    fn load_into(&mut self, memory: &[u8], address: usize) -> Result<(), TrapCode>
+        ensures { IsCopy memory.now address Self.LEN (Self.bytes_of self.old) (Self.bytes_of self.new) result };
+}
+
+impl<const N: usize> LoadInto for [u8; N] {
+    #[inline]
+    fn load_into(&mut self, memory: &[u8], address: usize) -> Result<(), TrapCode> {
+        if address > memory.len() || memory.len() - address < N {
+            return Err(TrapCode::MemoryOutOfBounds);
+        }
+        self.copy_from_slice(&memory[address..address + N]);
+        Ok(())
+    }
+}
+
+/// Bytes that are written to a memory.
+///
+/// Upstream: `StoreFrom`, private there.
+pub trait StoreFrom: ByteArray {
+    /// Copies `self` to the bytes at `address`.
+    ///
+    /// The only error is `MemoryOutOfBounds`, where the memory ends before the last byte; nothing is written then.
+    fn store_from(&self, memory: &mut [u8], address: usize) -> Result<(), TrapCode>
+        ensures { IsStore memory.old address (Self.bytes_of self.now) memory.new result };
+}
+
+impl<const N: usize> StoreFrom for [u8; N] {
+    #[inline]
+    fn store_from(&self, memory: &mut [u8], address: usize) -> Result<(), TrapCode> {
+        if address > memory.len() || memory.len() - address < N {
+            return Err(TrapCode::MemoryOutOfBounds);
+        }
+        memory[address..address + N].copy_from_slice(self);
+        Ok(())
+    }
+}
+
+/// A number that is stored in little-endian bytes.
+///
+/// Upstream: `LittleEndianConvert`, private there.
+pub trait LittleEndianConvert {
+    /// As many bytes as the number has.
+    type Bytes: Default + Drop + LoadInto + StoreFrom;
+
+    // The value read as an unsigned number of that many bytes, and the value that such a number stands for.
+    ghost image: { Self → ℕ };
+
+    ghost of_image: { ℕ → Self };
+
+    /// The bytes of `self`, the lowest first.
+    fn into_le_bytes(self) -> Self::Bytes
+        ensures bytes { Self.Bytes.bytes_of result ≡ le_bytes Self.Bytes.LEN (image self) }
+        ensures number { number_of (Self.Bytes.bytes_of result) ≡ image self }
+        ensures round_trip { of_image (number_of (Self.Bytes.bytes_of result)) ≡ self };
+
+    /// The value of some bytes, the lowest first.
+    fn from_le_bytes(bytes: Self::Bytes) -> Self
+        ensures { result ≡ of_image (number_of (Self.Bytes.bytes_of bytes)) };
+}
+
+// The address of an access, where it is below 2 to the power 64.
+#[inline]
+fn effective_address(ptr: u64, offset: u64) -> Result<usize, TrapCode>
+    ensures { MatchResult result
+        (λ address. address ≡ ptr + offset)
+        (λ trap. (trap ≡ TrapCode.MemoryOutOfBounds) × (2 ^ 64 ≤ ptr + offset)) }
+{
+    match ptr.checked_add(offset) {
+        Some(address) => Ok(address as usize),
+        None => Err(TrapCode::MemoryOutOfBounds),
+    }
+}
+
+/// The number at `ptr + offset`.
+///
+/// The only error is `MemoryOutOfBounds`.
+pub fn load<T>(memory: &[u8], ptr: u64, offset: u64) -> Result<T, TrapCode>
+where
+    T: LittleEndianConvert,
+    ensures { result ≡ loaded T.Bytes.LEN T.of_image memory.now (ptr + offset) }
+{
+    let address = effective_address(ptr, offset)?;
+    load_at::<T>(memory, address)
+}
+
+/// The number at `address`.
+///
+/// The only error is `MemoryOutOfBounds`.
+pub fn load_at<T>(memory: &[u8], address: usize) -> Result<T, TrapCode>
+where
+    T: LittleEndianConvert,
+    ensures { result ≡ loaded T.Bytes.LEN T.of_image memory.now address }
+{
+    let mut buffer = T::Bytes::default();
+    buffer.load_into(memory, address)?;
+    Ok(T::from_le_bytes(buffer))
+}
+
+/// The number at `ptr + offset`, read as a `U` and extended to a `T`.
+///
+/// The only error is `MemoryOutOfBounds`.
+pub fn load_extend<T, U>(memory: &[u8], ptr: u64, offset: u64) -> Result<T, TrapCode>
+where
+    U: LittleEndianConvert + ExtendInto<T>,
+    ensures { result ≡ loaded U.Bytes.LEN (λ n. U.extended (U.of_image n)) memory.now (ptr + offset) }
+{
+    let address = effective_address(ptr, offset)?;
+    load_extend_at::<T, U>(memory, address)
+}
+
+/// The number at `address`, read as a `U` and extended to a `T`.
+///
+/// The only error is `MemoryOutOfBounds`.
+pub fn load_extend_at<T, U>(memory: &[u8], address: usize) -> Result<T, TrapCode>
+where
+    U: LittleEndianConvert + ExtendInto<T>,
+    ensures { result ≡ loaded U.Bytes.LEN (λ n. U.extended (U.of_image n)) memory.now address }
+{
+    let value = load_at::<U>(memory, address)?;
+    Ok(value.extend_into())
+}
+
+/// Writes a number at `ptr + offset`.
+///
+/// The only error is `MemoryOutOfBounds`; nothing is written then.
+pub fn store<T>(memory: &mut [u8], ptr: u64, offset: u64, value: T) -> Result<(), TrapCode>
+where
+    T: LittleEndianConvert + Drop,
+    ensures { IsStore memory.old (ptr + offset) (le_bytes T.Bytes.LEN (T.image value)) memory.new result }
+{
+    let address = effective_address(ptr, offset)?;
+    store_at::<T>(memory, address, value)
+}
+
+/// Writes a number at `address`.
+///
+/// The only error is `MemoryOutOfBounds`; nothing is written then.
+pub fn store_at<T>(memory: &mut [u8], address: usize, value: T) -> Result<(), TrapCode>
+where
+    T: LittleEndianConvert,
+    ensures { IsStore memory.old address (le_bytes T.Bytes.LEN (T.image value)) memory.new result }
+{
+    let buffer = value.into_le_bytes();
+    buffer.store_from(memory, address)
+}
+
+/// Writes a number at `ptr + offset`, wrapped to a `U`.
+///
+/// The only error is `MemoryOutOfBounds`; nothing is written then.
+pub fn store_wrap<T, U>(memory: &mut [u8], ptr: u64, offset: u64, value: T) -> Result<(), TrapCode>
+where
+    T: WrapInto<U> + Drop,
+    U: LittleEndianConvert,
+    ensures { IsStore memory.old (ptr + offset) (le_bytes U.Bytes.LEN (U.image (T.wrapped value))) memory.new result }
+{
+    let address = effective_address(ptr, offset)?;
+    store_wrap_at::<T, U>(memory, address, value)
+}
+
+/// Writes a number at `address`, wrapped to a `U`.
+///
+/// The only error is `MemoryOutOfBounds`; nothing is written then.
+pub fn store_wrap_at<T, U>(memory: &mut [u8], address: usize, value: T) -> Result<(), TrapCode>
+where
+    T: WrapInto<U>,
+    U: LittleEndianConvert,
+    ensures { IsStore memory.old address (le_bytes U.Bytes.LEN (U.image (T.wrapped value))) memory.new result }
+{
+    store_at::<U>(memory, address, value.wrap_into())
+}

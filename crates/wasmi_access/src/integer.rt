@@ -1,0 +1,205 @@
+// The integers of 8 to 128 bits in little-endian bytes.
+
+ghost use Rattle.std.specs.Int.{w8, w16, w32, w64, w128, cast_signed, cast_unsigned};
+
+use crate::access::LittleEndianConvert;
+
+impl LittleEndianConvert for u8 {
+    type Bytes = [u8; 1];
+
+    ghost image = { λ n. n };
+
+    ghost of_image = { λ n. n };
+
+    #[inline]
+    #[tactic(auto, using(crate::proofs::ByteLemmas::number_of_single))]
+    fn into_le_bytes(self) -> [u8; 1] {
+        self.to_le_bytes()
+    }
+
+    #[inline]
+    #[tactic(auto, using(crate::proofs::ByteLemmas::number_of_whole_1))]
+    fn from_le_bytes(bytes: [u8; 1]) -> u8 {
+        u8::from_le_bytes(bytes)
+    }
+}
+
+impl LittleEndianConvert for u16 {
+    type Bytes = [u8; 2];
+
+    ghost image = { λ n. n };
+
+    ghost of_image = { λ n. n };
+
+    #[inline]
+    #[tactic(auto, using(crate::proofs::ByteLemmas::number_of_bytes_2))]
+    fn into_le_bytes(self) -> [u8; 2] {
+        self.to_le_bytes()
+    }
+
+    #[inline]
+    #[tactic(auto, using(crate::proofs::ByteLemmas::number_of_whole_2))]
+    fn from_le_bytes(bytes: [u8; 2]) -> u16 {
+        u16::from_le_bytes(bytes)
+    }
+}
+
+impl LittleEndianConvert for u32 {
+    type Bytes = [u8; 4];
+
+    ghost image = { λ n. n };
+
+    ghost of_image = { λ n. n };
+
+    #[inline]
+    #[tactic(auto, using(crate::proofs::ByteLemmas::number_of_bytes_4))]
+    fn into_le_bytes(self) -> [u8; 4] {
+        self.to_le_bytes()
+    }
+
+    #[inline]
+    #[tactic(auto, using(crate::proofs::ByteLemmas::number_of_whole_4))]
+    fn from_le_bytes(bytes: [u8; 4]) -> u32 {
+        u32::from_le_bytes(bytes)
+    }
+}
+
+impl LittleEndianConvert for u64 {
+    type Bytes = [u8; 8];
+
+    ghost image = { λ n. n };
+
+    ghost of_image = { λ n. n };
+
+    #[inline]
+    #[tactic(auto, using(crate::proofs::ByteLemmas::number_of_bytes_8))]
+    fn into_le_bytes(self) -> [u8; 8] {
+        self.to_le_bytes()
+    }
+
+    #[inline]
+    #[tactic(auto, using(crate::proofs::ByteLemmas::number_of_whole_8))]
+    fn from_le_bytes(bytes: [u8; 8]) -> u64 {
+        u64::from_le_bytes(bytes)
+    }
+}
+
+impl LittleEndianConvert for u128 {
+    type Bytes = [u8; 16];
+
+    ghost image = { λ n. n };
+
+    ghost of_image = { λ n. n };
+
+    #[inline]
+    #[tactic(auto, using(crate::proofs::ByteLemmas::number_of_bytes_16))]
+    fn into_le_bytes(self) -> [u8; 16] {
+        self.to_le_bytes()
+    }
+
+    #[inline]
+    #[tactic(auto, using(crate::proofs::ByteLemmas::number_of_whole_16))]
+    fn from_le_bytes(bytes: [u8; 16]) -> u128 {
+        u128::from_le_bytes(bytes)
+    }
+}
+
+impl LittleEndianConvert for i8 {
+    type Bytes = [u8; 1];
+
+    ghost image = { cast_unsigned w8 };
+
+    ghost of_image = { cast_signed w8 };
+
+    #[inline]
+    #[tactic(auto, using(crate::proofs::ByteLemmas::number_of_single))]
+    fn into_le_bytes(self) -> [u8; 1] {
+        self.to_le_bytes()
+    }
+
+    #[inline]
+    #[tactic(auto, using(crate::proofs::ByteLemmas::number_of_whole_1))]
+    fn from_le_bytes(bytes: [u8; 1]) -> i8 {
+        i8::from_le_bytes(bytes)
+    }
+}
+
+impl LittleEndianConvert for i16 {
+    type Bytes = [u8; 2];
+
+    ghost image = { cast_unsigned w16 };
+
+    ghost of_image = { cast_signed w16 };
+
+    #[inline]
+    #[tactic(auto, using(crate::proofs::ByteLemmas::number_of_bytes_2))]
+    fn into_le_bytes(self) -> [u8; 2] {
+        self.to_le_bytes()
+    }
+
+    #[inline]
+    #[tactic(auto, using(crate::proofs::ByteLemmas::number_of_whole_2))]
+    fn from_le_bytes(bytes: [u8; 2]) -> i16 {
+        i16::from_le_bytes(bytes)
+    }
+}
+
+impl LittleEndianConvert for i32 {
+    type Bytes = [u8; 4];
+
+    ghost image = { cast_unsigned w32 };
+
+    ghost of_image = { cast_signed w32 };
+
+    #[inline]
+    #[tactic(auto, using(crate::proofs::ByteLemmas::number_of_bytes_4))]
+    fn into_le_bytes(self) -> [u8; 4] {
+        self.to_le_bytes()
+    }
+
+    #[inline]
+    #[tactic(auto, using(crate::proofs::ByteLemmas::number_of_whole_4))]
+    fn from_le_bytes(bytes: [u8; 4]) -> i32 {
+        i32::from_le_bytes(bytes)
+    }
+}
+
+impl LittleEndianConvert for i64 {
+    type Bytes = [u8; 8];
+
+    ghost image = { cast_unsigned w64 };
+
+    ghost of_image = { cast_signed w64 };
+
+    #[inline]
+    #[tactic(auto, using(crate::proofs::ByteLemmas::number_of_bytes_8))]
+    fn into_le_bytes(self) -> [u8; 8] {
+        self.to_le_bytes()
+    }
+
+    #[inline]
+    #[tactic(auto, using(crate::proofs::ByteLemmas::number_of_whole_8))]
+    fn from_le_bytes(bytes: [u8; 8]) -> i64 {
+        i64::from_le_bytes(bytes)
+    }
+}
+
+impl LittleEndianConvert for i128 {
+    type Bytes = [u8; 16];
+
+    ghost image = { cast_unsigned w128 };
+
+    ghost of_image = { cast_signed w128 };
+
+    #[inline]
+    #[tactic(auto, using(crate::proofs::ByteLemmas::number_of_bytes_16))]
+    fn into_le_bytes(self) -> [u8; 16] {
+        self.to_le_bytes()
+    }
+
+    #[inline]
+    #[tactic(auto, using(crate::proofs::ByteLemmas::number_of_whole_16))]
+    fn from_le_bytes(bytes: [u8; 16]) -> i128 {
+        i128::from_le_bytes(bytes)
+    }
+}

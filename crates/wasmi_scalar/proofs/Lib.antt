@@ -1,0 +1,3 @@
+pub mod AnswerLemmas
+pub mod ShiftLemmas
+pub mod WideLemmas

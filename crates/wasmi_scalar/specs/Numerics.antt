@@ -1,0 +1,135 @@
+-- The integer operations of the WebAssembly core specification (section "Numerics"), over whole numbers.
+-- A number of a signed type is read signed, one of an unsigned type unsigned, and `w` is the width of the type, of `bits w`
+-- bits. std's words for the two readings: `int_wrap w z` is the number of the signed type that differs from z by a multiple
+-- of 2 to the power `bits w`, `cast_unsigned w z` the unsigned number with the bits of z, `cast_signed w n` the signed
+-- number with the bits of n.
+use Rattle.std.specs.Prelude.{ℕ, ◌+◌, ◌-◌, ◌*◌, ◌/◌, ◌%◌, ◌^◌, ℤ, pos, ◌+ℤ◌, ◌-ℤ◌, ◌*ℤ◌, int_div, int_rem, int_lt, int_le, nat_lt, nat_le, ◌==◌, not, Bool, bit_and, bit_or, bit_xor, count_ones, Result, Ok, Err, if◌then◌else◌, MatchResult, ◌≡◌}
+use Rattle.std.specs.Int.{Width, cast_signed, cast_unsigned, int_wrap, int_shr, leading_zeros, trailing_zeros}
+use Rattle.std.specs.Ordering.{int_eq}
+use mir.Val.{bits}
+use Rattle.wasmi_types.specs.declared.trap.TrapCode.{TrapCode}
+use Rattle.wasmi_types.specs.declared.trap.TrapCode.TheVariants.{IntegerDivisionByZero, IntegerOverflow}
+
+-- ---- sums and products
+
+abbrev pub iadd : Width → ℤ → ℤ → ℤ
+iadd w x y = int_wrap w (x +ℤ y)
+
+abbrev pub isub : Width → ℤ → ℤ → ℤ
+isub w x y = int_wrap w (x -ℤ y)
+
+abbrev pub imul : Width → ℤ → ℤ → ℤ
+imul w x y = int_wrap w (x *ℤ y)
+
+-- ---- quotients towards zero, and their remainders
+
+-- the one quotient that no signed number of the width is, 2 to the power `bits w - 1`, is that of the least number by -1
+abbrev pub idiv_s : Width → ℤ → ℤ → Result ℤ TrapCode
+idiv_s w x y =
+    if int_eq y (pos 0) then Err IntegerDivisionByZero
+    else if int_eq (int_div x y) (pos (2 ^ (bits w - 1))) then Err IntegerOverflow
+    else Ok (int_div x y)
+
+abbrev pub idiv_u : ℕ → ℕ → Result ℕ TrapCode
+idiv_u n d = if d == 0 then Err IntegerDivisionByZero else Ok (n / d)
+
+-- with the sign of x
+abbrev pub irem_s : ℤ → ℤ → Result ℤ TrapCode
+irem_s x y = if int_eq y (pos 0) then Err IntegerDivisionByZero else Ok (int_rem x y)
+
+abbrev pub irem_u : ℕ → ℕ → Result ℕ TrapCode
+irem_u n d = if d == 0 then Err IntegerDivisionByZero else Ok (n % d)
+
+-- ---- bits
+
+abbrev pub iand : Width → ℤ → ℤ → ℤ
+iand w x y = cast_signed w (bit_and (cast_unsigned w x) (cast_unsigned w y))
+
+abbrev pub ior : Width → ℤ → ℤ → ℤ
+ior w x y = cast_signed w (bit_or (cast_unsigned w x) (cast_unsigned w y))
+
+abbrev pub ixor : Width → ℤ → ℤ → ℤ
+ixor w x y = cast_signed w (bit_xor (cast_unsigned w x) (cast_unsigned w y))
+
+-- the amount of a shift or a rotation, modulo the width
+abbrev pub amount_of : Width → ℤ → ℕ
+amount_of w y = cast_unsigned w y % bits w
+
+abbrev pub ishl : Width → ℤ → ℤ → ℤ
+ishl w x y = int_wrap w (x *ℤ pos (2 ^ amount_of w y))
+
+-- the quotient by 2 to the power of the amount, rounded down
+abbrev pub ishr_s : Width → ℤ → ℤ → ℤ
+ishr_s w x y = int_shr x (amount_of w y)
+
+abbrev pub ishr_u : Width → ℕ → ℕ → ℕ
+ishr_u w n k = n / 2 ^ (k % bits w)
+
+-- n of b bits, rotated left by k of them: the low bits go up, the k highest come in below
+abbrev pub rotated_left : ℕ → ℕ → ℕ → ℕ
+rotated_left b n k = n * 2 ^ k % 2 ^ b + n / 2 ^ (b - k)
+
+abbrev pub irotl : Width → ℤ → ℤ → ℤ
+irotl w x y = cast_signed w (rotated_left (bits w) (cast_unsigned w x) (amount_of w y))
+
+-- to the right by k is to the left by the rest of the bits
+abbrev pub irotr : Width → ℤ → ℤ → ℤ
+irotr w x y = cast_signed w (rotated_left (bits w) (cast_unsigned w x) (bits w - amount_of w y))
+
+-- ---- counts
+
+abbrev pub iclz : Width → ℤ → ℤ
+iclz w x = pos (leading_zeros w (cast_unsigned w x))
+
+abbrev pub ictz : Width → ℤ → ℤ
+ictz w x = pos (trailing_zeros w (cast_unsigned w x))
+
+abbrev pub ipopcnt : Width → ℤ → ℤ
+ipopcnt w x = pos (count_ones (cast_unsigned w x))
+
+-- ---- comparisons
+
+abbrev pub ieqz : ℤ → Bool
+ieqz x = int_eq x (pos 0)
+
+abbrev pub ieq : ℤ → ℤ → Bool
+ieq x y = int_eq x y
+
+abbrev pub ine : ℤ → ℤ → Bool
+ine x y = not (int_eq x y)
+
+abbrev pub ilt_s : ℤ → ℤ → Bool
+ilt_s x y = int_lt x y
+
+abbrev pub ilt_u : ℕ → ℕ → Bool
+ilt_u m n = nat_lt m n
+
+abbrev pub igt_s : ℤ → ℤ → Bool
+igt_s x y = int_lt y x
+
+abbrev pub igt_u : ℕ → ℕ → Bool
+igt_u m n = nat_lt n m
+
+abbrev pub ile_s : ℤ → ℤ → Bool
+ile_s x y = int_le x y
+
+abbrev pub ile_u : ℕ → ℕ → Bool
+ile_u m n = nat_le m n
+
+abbrev pub ige_s : ℤ → ℤ → Bool
+ige_s x y = int_le y x
+
+abbrev pub ige_u : ℕ → ℕ → Bool
+ige_u m n = nat_le n m
+
+-- ---- conversions
+
+-- the low bits of x, as many as v has, read signed: `wrap`, and `extendM_s` at the width v
+abbrev pub iwrap : Width → ℤ → ℤ
+iwrap v x = int_wrap v x
+
+-- ---- answers
+
+-- a call answers what the table says, where `number` reads its value
+abbrev pub Answers : {V N : Type 0} → (V → N) → Result V TrapCode → Result N TrapCode → Type 0
+Answers number answer expected = MatchResult answer (λ value. expected ≡ Ok (number value)) (λ trap. expected ≡ Err trap)

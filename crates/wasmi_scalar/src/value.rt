@@ -1,0 +1,316 @@
+//! The traits of the integer types.
+//!
+//! Upstream: the module `value`, private there. Core specification: integer operations, under numerics.
+
+ghost use Rattle.std.specs.Prelude.{◌≡◌, ℕ, ℤ};
+ghost use Rattle.std.specs.Int.{Width, w8, w16, w32, w64, int_wrap};
+ghost use Rattle.wasmi_scalar.specs.Numerics.{Answers, idiv_s, idiv_u, irem_s, irem_u, ishl, ishr_s, ishr_u, irotl, irotr, iclz, ictz, ipopcnt, ieqz, iwrap};
+
+use wasmi_access::access::WrapInto;
+use wasmi_types::TrapCode;
+
+/// A conversion to the same type that keeps the low bits, as many as `T` has, and reads them signed.
+///
+/// Upstream: `SignExtendFrom`, private there.
+pub trait SignExtendFrom<T> {
+    ghost sign_extended: { Self → Self };
+
+    /// The low bits of `self`, extended by their sign.
+    fn sign_extend_from(self) -> Self
+        ensures { result ≡ sign_extended self };
+}
+
+/// An integer type with an unsigned type of the same width.
+///
+/// Upstream: `Unsigned`, private there.
+pub trait Unsigned {
+    type Uint;
+}
+
+impl Unsigned for i32 {
+    type Uint = u32;
+}
+
+impl Unsigned for i64 {
+    type Uint = u64;
+}
+
+/// An integer type of WebAssembly.
+///
+/// Upstream: `Integer`, private there. The amount of a shift or a rotation is taken modulo the width.
+pub trait Integer: Unsigned {
+    ghost width: { Width };
+
+    // The number that a value stands for.
+    ghost number: { Self → ℤ };
+
+    ghost unsigned_number: { Self.Uint → ℕ };
+
+    /// Whether the number is 0.
+    fn is_zero(self) -> bool
+        ensures { result ≡ ieqz (number self) };
+
+    /// The zeros above the highest bit that is set, the width for 0.
+    fn leading_zeros(self) -> Self
+        ensures { number result ≡ iclz width (number self) };
+
+    /// The zeros below the lowest bit that is set, the width for 0.
+    fn trailing_zeros(self) -> Self
+        ensures { number result ≡ ictz width (number self) };
+
+    /// The bits that are set.
+    fn count_ones(self) -> Self
+        ensures { number result ≡ ipopcnt width (number self) };
+
+    /// Shifts to the left.
+    fn shl(lhs: Self, rhs: Self) -> Self
+        ensures { number result ≡ ishl width (number lhs) (number rhs) };
+
+    /// Shifts to the right, filling with the highest bit.
+    fn shr_s(lhs: Self, rhs: Self) -> Self
+        ensures { number result ≡ ishr_s width (number lhs) (number rhs) };
+
+    /// Shifts to the right, filling with zeros.
+    fn shr_u(lhs: Self::Uint, rhs: Self::Uint) -> Self::Uint
+        ensures { unsigned_number result ≡ ishr_u width (unsigned_number lhs) (unsigned_number rhs) };
+
+    /// Rotates to the left.
+    fn rotl(lhs: Self, rhs: Self) -> Self
+        ensures { number result ≡ irotl width (number lhs) (number rhs) };
+
+    /// Rotates to the right.
+    fn rotr(lhs: Self, rhs: Self) -> Self
+        ensures { number result ≡ irotr width (number lhs) (number rhs) };
+
+    /// The quotient towards zero.
+    ///
+    /// `IntegerDivisionByZero` for a divisor of 0, then `IntegerOverflow` for the least number by -1.
+    fn div_s(lhs: Self, rhs: Self) -> Result<Self, TrapCode>
+        ensures { Answers number result (idiv_s width (number lhs) (number rhs)) };
+
+    /// The quotient.
+    ///
+    /// `IntegerDivisionByZero` for a divisor of 0.
+    fn div_u(lhs: Self::Uint, rhs: Self::Uint) -> Result<Self::Uint, TrapCode>
+        ensures { Answers unsigned_number result (idiv_u (unsigned_number lhs) (unsigned_number rhs)) };
+
+    /// The remainder, with the sign of the dividend; 0 for the least number by -1.
+    ///
+    /// `IntegerDivisionByZero` for a divisor of 0.
+    fn rem_s(lhs: Self, rhs: Self) -> Result<Self, TrapCode>
+        ensures { Answers number result (irem_s (number lhs) (number rhs)) };
+
+    /// The remainder.
+    ///
+    /// `IntegerDivisionByZero` for a divisor of 0.
+    fn rem_u(lhs: Self::Uint, rhs: Self::Uint) -> Result<Self::Uint, TrapCode>
+        ensures { Answers unsigned_number result (irem_u (unsigned_number lhs) (unsigned_number rhs)) };
+}
+
+impl Integer for i32 {
+    ghost width = { w32 };
+
+    ghost number = { λ z. z };
+
+    ghost unsigned_number = { λ n. n };
+
+    #[inline]
+    fn is_zero(self) -> bool {
+        self == 0
+    }
+
+    #[inline]
+    fn leading_zeros(self) -> i32 {
+        self.leading_zeros() as i32
+    }
+
+    #[inline]
+    fn trailing_zeros(self) -> i32 {
+        self.trailing_zeros() as i32
+    }
+
+    #[inline]
+    fn count_ones(self) -> i32 {
+        self.count_ones() as i32
+    }
+
+    #[inline]
+    fn shl(lhs: i32, rhs: i32) -> i32 {
+        lhs.wrapping_shl(rhs.cast_unsigned())
+    }
+
+    #[inline]
+    fn shr_s(lhs: i32, rhs: i32) -> i32 {
+        lhs.wrapping_shr(rhs.cast_unsigned())
+    }
+
+    #[inline]
+    fn shr_u(lhs: u32, rhs: u32) -> u32 {
+        lhs.wrapping_shr(rhs)
+    }
+
+    #[inline]
+    fn rotl(lhs: i32, rhs: i32) -> i32 {
+        lhs.rotate_left(rhs.cast_unsigned())
+    }
+
+    #[inline]
+    fn rotr(lhs: i32, rhs: i32) -> i32 {
+        lhs.rotate_right(rhs.cast_unsigned())
+    }
+
+    #[inline]
+    fn div_s(lhs: i32, rhs: i32) -> Result<i32, TrapCode> {
+        if rhs == 0 {
+            return Err(TrapCode::IntegerDivisionByZero);
+        }
+        lhs.checked_div(rhs).ok_or(TrapCode::IntegerOverflow)
+    }
+
+    #[inline]
+    fn div_u(lhs: u32, rhs: u32) -> Result<u32, TrapCode> {
+        lhs.checked_div(rhs).ok_or(TrapCode::IntegerDivisionByZero)
+    }
+
+    #[inline]
+    fn rem_s(lhs: i32, rhs: i32) -> Result<i32, TrapCode> {
+        if rhs == 0 {
+            return Err(TrapCode::IntegerDivisionByZero);
+        }
+        Ok(lhs.wrapping_rem(rhs))
+    }
+
+    #[inline]
+    fn rem_u(lhs: u32, rhs: u32) -> Result<u32, TrapCode> {
+        lhs.checked_rem(rhs).ok_or(TrapCode::IntegerDivisionByZero)
+    }
+}
+
+impl Integer for i64 {
+    ghost width = { w64 };
+
+    ghost number = { λ z. z };
+
+    ghost unsigned_number = { λ n. n };
+
+    #[inline]
+    fn is_zero(self) -> bool {
+        self == 0
+    }
+
+    #[inline]
+    fn leading_zeros(self) -> i64 {
+        self.leading_zeros() as i64
+    }
+
+    #[inline]
+    fn trailing_zeros(self) -> i64 {
+        self.trailing_zeros() as i64
+    }
+
+    #[inline]
+    fn count_ones(self) -> i64 {
+        self.count_ones() as i64
+    }
+
+    #[inline]
+    fn shl(lhs: i64, rhs: i64) -> i64 {
+        lhs.wrapping_shl((rhs.cast_unsigned() % 64) as u32)
+    }
+
+    #[inline]
+    fn shr_s(lhs: i64, rhs: i64) -> i64 {
+        lhs.wrapping_shr((rhs.cast_unsigned() % 64) as u32)
+    }
+
+    #[inline]
+    fn shr_u(lhs: u64, rhs: u64) -> u64 {
+        lhs.wrapping_shr((rhs % 64) as u32)
+    }
+
+    #[inline]
+    fn rotl(lhs: i64, rhs: i64) -> i64 {
+        lhs.rotate_left((rhs.cast_unsigned() % 64) as u32)
+    }
+
+    #[inline]
+    fn rotr(lhs: i64, rhs: i64) -> i64 {
+        lhs.rotate_right((rhs.cast_unsigned() % 64) as u32)
+    }
+
+    #[inline]
+    fn div_s(lhs: i64, rhs: i64) -> Result<i64, TrapCode> {
+        if rhs == 0 {
+            return Err(TrapCode::IntegerDivisionByZero);
+        }
+        lhs.checked_div(rhs).ok_or(TrapCode::IntegerOverflow)
+    }
+
+    #[inline]
+    fn div_u(lhs: u64, rhs: u64) -> Result<u64, TrapCode> {
+        lhs.checked_div(rhs).ok_or(TrapCode::IntegerDivisionByZero)
+    }
+
+    #[inline]
+    fn rem_s(lhs: i64, rhs: i64) -> Result<i64, TrapCode> {
+        if rhs == 0 {
+            return Err(TrapCode::IntegerDivisionByZero);
+        }
+        Ok(lhs.wrapping_rem(rhs))
+    }
+
+    #[inline]
+    fn rem_u(lhs: u64, rhs: u64) -> Result<u64, TrapCode> {
+        lhs.checked_rem(rhs).ok_or(TrapCode::IntegerDivisionByZero)
+    }
+}
+
+impl SignExtendFrom<i8> for i32 {
+    ghost sign_extended = { iwrap w8 };
+
+    #[inline]
+    fn sign_extend_from(self) -> i32 {
+        let low: i8 = self.wrap_into();
+        low as i32
+    }
+}
+
+impl SignExtendFrom<i16> for i32 {
+    ghost sign_extended = { iwrap w16 };
+
+    #[inline]
+    fn sign_extend_from(self) -> i32 {
+        let low: i16 = self.wrap_into();
+        low as i32
+    }
+}
+
+impl SignExtendFrom<i8> for i64 {
+    ghost sign_extended = { iwrap w8 };
+
+    #[inline]
+    fn sign_extend_from(self) -> i64 {
+        let low: i8 = self.wrap_into();
+        low as i64
+    }
+}
+
+impl SignExtendFrom<i16> for i64 {
+    ghost sign_extended = { iwrap w16 };
+
+    #[inline]
+    fn sign_extend_from(self) -> i64 {
+        let low: i16 = self.wrap_into();
+        low as i64
+    }
+}
+
+impl SignExtendFrom<i32> for i64 {
+    ghost sign_extended = { iwrap w32 };
+
+    #[inline]
+    fn sign_extend_from(self) -> i64 {
+        let low: i32 = self.wrap_into();
+        low as i64
+    }
+}

@@ -1,0 +1,3 @@
+pub mod SoFar
+pub mod Parts
+pub mod FunctionTypeOrder

@@ -1,0 +1,12 @@
+use Rattle.std.proofs.Common.{refl}
+use Rattle.std.proofs.lemmas.Result.{err_from_is_err_and}
+use Rattle.wasmi_types.proofs.Parts.{refused_results, refused_end}
+use Rattle.wasmi_types.proofs.func_type.FuncType.read.Goals as goal
+
+pub returns-in_err-len_results : goal.returns-in_err-len_results
+returns-in_err-len_results g c =
+    let p = err_from_is_err_and c.from_residual-in_err-len_results.result c.from_residual-in_err-len_results.ensures.1 in
+    rw (p.1, p.2) (refused_results c.new-entries.ensures c.in_ok-len_params.ensures.ok c.in_err-len_results.ensures.err)
+
+pub returns : goal.returns
+returns g c = refused_end c.new-entries.ensures c.in_ok-len_params.ensures.ok c.in_ok-len_results.ensures.ok (c.in-Err.ensures.refused refl)

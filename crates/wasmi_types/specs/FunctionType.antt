@@ -1,0 +1,50 @@
+-- A function type is the pair of its lists of parameters and results (core specification 2.3, function types).
+use Rattle.std.specs.Prelude.{ℕ, ◌+◌, Bool, ◌&&◌, List, ◌∷◌, ◌++◌, length, map, nat_le, if◌then◌else◌}
+use Rattle.std.specs.Cmp.Lexicographic.{pointwise, slice_cmp}
+use Rattle.std.specs.Hash.{slice}
+use Rattle.std.specs.Ordering.{nat_cmp, on}
+use Rattle.std.specs.declared.cmp.Ordering.{Ordering}
+use Rattle.wasmi_types.specs.declared.value.ValType.{ValType}
+use Rattle.wasmi_types.specs.declared.value.ValType.TheVariants.{I32, I64, F32, F64, V128, FuncRef, ExternRef}
+
+pub record FunctionType : Type 0 where
+  pub params : List ValType
+  pub results : List ValType
+
+-- the parameters, then the results
+abbrev pub entries : FunctionType → List ValType
+entries ty = ty.params ++ ty.results
+
+-- how many parameters and results there are together
+abbrev pub entry_count : FunctionType → ℕ
+entry_count ty = length ty.params + length ty.results
+
+-- whether both lists are the same, by a test of value types
+abbrev pub same_lists : (ValType → ValType → Bool) → FunctionType → FunctionType → Bool
+same_lists same a b = pointwise same a.params b.params && pointwise same a.results b.results
+
+-- the place of a value type in their order
+abbrev pub type_number : ValType → ℕ
+type_number I32 = 0
+type_number I64 = 1
+type_number F32 = 2
+type_number F64 = 3
+type_number V128 = 4
+type_number FuncRef = 5
+type_number ExternRef = 6
+
+-- what function types are ordered by, place by place: small ones (at most 21 entries) come first, then the number
+-- of parameters counts, among small ones then that of results, then the entries
+abbrev pub order_key : FunctionType → List ℕ
+order_key ty =
+    if nat_le (entry_count ty) 21
+    then 0 ∷ length ty.params ∷ length ty.results ∷ map type_number (entries ty)
+    else 1 ∷ length ty.params ∷ map type_number (entries ty)
+
+-- the order of two function types
+abbrev pub function_type_cmp : FunctionType → FunctionType → Ordering
+function_type_cmp = on order_key (slice_cmp nat_cmp)
+
+-- what a function type gives to a hasher: the parameters, then the results
+abbrev pub lists_input : (ValType → List (List ℕ)) → FunctionType → List (List ℕ)
+lists_input input ty = slice input ty.params ++ slice input ty.results

@@ -1,0 +1,89 @@
+-- Two function types have one order key exactly if both of their lists are the same.
+use Rattle.std.specs.Prelude.{◌≡◌, ℕ, zero, suc, Bool, true, false, ◌&&◌, List, [], ◌∷◌, length, map, take, drop, slice_index, nat_le, if◌then◌else◌, refl}
+use Rattle.std.proofs.Common.{ap, sym, ◌∙◌, arith}
+use Rattle.std.proofs.Math.Seq.{take-append_seam, drop-append_seam}
+use Rattle.std.specs.Bool.{Decides, one_answer}
+use Rattle.std.specs.Ordering.{nat_cmp, eq_by_cmp}
+use Rattle.std.specs.Cmp.{IsEquivalence, and_equiv, on_equiv, first_so, second_so, unsigned_ties}
+use Rattle.std.specs.Cmp.Lexicographic.{pointwise_decides, bytes_decides, lists_ties, lists_equiv}
+use Rattle.wasmi_types.specs.declared.value.ValType.{ValType}
+use Rattle.wasmi_types.specs.declared.value.ValType.TheVariants.{I32, I64, F32, F64, V128, FuncRef, ExternRef}
+use Rattle.wasmi_types.specs.FunctionType.{FunctionType, entries, entry_count, same_lists, type_number, order_key, function_type_cmp}
+
+-- the value type at a place
+type_at : ℕ → ValType
+type_at zero = I32
+type_at (suc zero) = I64
+type_at (suc (suc zero)) = F32
+type_at (suc (suc (suc zero))) = F64
+type_at (suc (suc (suc (suc zero)))) = V128
+type_at (suc (suc (suc (suc (suc zero))))) = FuncRef
+type_at (suc (suc (suc (suc (suc (suc n)))))) = ExternRef
+
+type_at-type_number : (x : ValType) → type_at (type_number x) ≡ x
+unfolding type_at
+type_at-type_number I32 = refl
+type_at-type_number I64 = refl
+type_at-type_number F32 = refl
+type_at-type_number F64 = refl
+type_at-type_number V128 = refl
+type_at-type_number FuncRef = refl
+type_at-type_number ExternRef = refl
+
+types_from_numbers : (xs : List ValType) → map type_at (map type_number xs) ≡ xs
+types_from_numbers [] = refl
+types_from_numbers (x ∷ xs) = λ i. type_at-type_number x i ∷ types_from_numbers xs i
+
+same_key : (v w : Bool) (m n m' n' : ℕ) (xs ys : List ℕ)
+    → (if v then 0 ∷ m ∷ n ∷ xs else 1 ∷ m ∷ xs) ≡ (if w then 0 ∷ m' ∷ n' ∷ ys else 1 ∷ m' ∷ ys) → (m ≡ m') × (xs ≡ ys)
+same_key true true m n m' n' xs ys e = (ap (λ l. slice_index l 1) e, ap (drop 3) e)
+same_key true false m n m' n' xs ys e = let no : 0 ≡ 1 = ap (λ l. slice_index l 0) e in absurd (omega (arith, no))
+same_key false true m n m' n' xs ys e = let no : 1 ≡ 0 = ap (λ l. slice_index l 0) e in absurd (omega (arith, no))
+same_key false false m n m' n' xs ys e = (ap (λ l. slice_index l 1) e, ap (drop 2) e)
+
+-- one order key, one function type
+pub order_key-one : (a b : FunctionType) → order_key a ≡ order_key b → a ≡ b
+order_key-one a b e =
+    let parts = same_key (nat_le (entry_count a) 21) (nat_le (entry_count b) 21) (length a.params) (length a.results) (length b.params) (length b.results) _ _ e in
+    let joined : entries a ≡ entries b = sym (types_from_numbers (entries a)) ∙ ap (map type_at) parts.1 ∙ types_from_numbers (entries b) in
+    let params : a.params ≡ b.params =
+    sym (take-append_seam a.params a.results) ∙ (λ i. take (parts.0 i) (joined i)) ∙ take-append_seam b.params b.results in
+    let results : a.results ≡ b.results =
+    sym (drop-append_seam a.params a.results) ∙ (λ i. drop (parts.0 i) (joined i)) ∙ drop-append_seam b.params b.results in
+    λ i. record { params = params i; results = results i }
+
+-- a test that decides whether two values are the same is an equivalence
+equivalence_from_decides : {A : Type 0} {E : A → A → Bool} → ((x y : A) → Decides (E x y) (x ≡ y)) → IsEquivalence E
+equivalence_from_decides {E = E} d = record {
+  refl = λ x. (d x x).1 refl;
+  symm = λ x y. one_answer (E x y) (E y x) (d x y) (λ e. sym ((d y x).0 e), λ e. (d y x).1 (sym e));
+  congr = λ x y z e. ap (λ v. E v z) ((d x y).0 e);
+}
+
+module _ {E : ValType → ValType → Bool} (decides : (x y : ValType) → Decides (E x y) (x ≡ y)) where
+  -- the test of both lists decides whether two function types are the same
+  pub same_lists_decides : (a b : FunctionType) → Decides (same_lists E a b) (a ≡ b)
+  same_lists_decides a b = (
+    λ e. let p = (pointwise_decides decides a.params b.params).0 (first_so _ _ e) in
+        let r = (pointwise_decides decides a.results b.results).0 (second_so _ _ e) in
+        λ i. record { params = p i; results = r i },
+    λ e. let p = (pointwise_decides decides a.params b.params).1 (ap (λ ty. ty.params) e) in
+        let r = (pointwise_decides decides a.results b.results).1 (ap (λ ty. ty.results) e) in
+        λ i. p i && r i,
+  )
+
+  -- it answers as the order does
+  pub same_lists_by_cmp : (a b : FunctionType) → same_lists E a b ≡ eq_by_cmp function_type_cmp a b
+  same_lists_by_cmp a b =
+      let keys = bytes_decides (order_key a) (order_key b) in
+      one_answer _ _ (same_lists_decides a b) (λ e. order_key-one a b (keys.0 e), λ e. keys.1 (ap order_key e))
+      ∙ lists_ties nat_cmp unsigned_ties (order_key a) (order_key b)
+
+  pub same_lists_equiv : IsEquivalence (same_lists E)
+  same_lists_equiv =
+      let types : IsEquivalence E = equivalence_from_decides decides in
+      and_equiv (on_equiv (λ (ty : FunctionType). ty.params) (lists_equiv types)) (on_equiv (λ (ty : FunctionType). ty.results) (lists_equiv types))
+
+  -- the same function types have the same of anything
+  pub same_lists_alike : {B : Type 0} (f : FunctionType → B) (a b : FunctionType) → same_lists E a b ≡ true → f a ≡ f b
+  same_lists_alike f a b e = ap f ((same_lists_decides a b).0 e)

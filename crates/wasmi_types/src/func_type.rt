@@ -1,0 +1,437 @@
+ghost use Rattle.std.specs.Prelude.{◌≡◌, not, nat_le, if◌then◌else◌, ◌↔◌, IsTrue, ◌+◌, ◌<◌, ◌≤◌, ◌++◌, ◌∷◌, [], length, take, drop, IfOk, IfErr, IsErr, OnOk, OnErr};
+ghost use Rattle.wasmi_types.specs.FunctionType.{entries, entry_count, same_lists, order_key, function_type_cmp};
+
+use crate::ValType;
+use std::alloc::{AllocError, Global};
+use std::cmp::Ordering;
+use std::fmt;
+use std::hash::{Hash, Hasher};
+use std::marker::Model;
+use std::rc::RcSlice;
+use thiserror::Error;
+
+/// Why a function type cannot be made.
+///
+/// Upstream: `wasmi_core::FuncTypeError`.
+#[derive(Clone, Copy, Debug, PartialEq, Eq, Error)]
+pub enum FuncTypeError {
+    /// There are more than 1,000 parameters.
+    #[error("encountered a function with too many parameters")]
+    TooManyFunctionParams,
+    /// There are more than 1,000 results.
+    #[error("encountered a function with too many results")]
+    TooManyFunctionResults,
+    /// The system refused memory.
+    #[error("out of memory")]
+    OutOfMemory,
+}
+
+/// The type of a function: the types of its parameters and those of its results, at most 1,000 each.
+///
+/// Up to 21 of them together stand in the value; more are shared by all clones of it.
+/// Core specification 2.3, function types. Upstream: `wasmi_core::FuncType`.
+#[derive(Drop)]
+pub struct FuncType {
+    inner: FuncTypeInner,
+}
+
+#[derive(Drop)]
+enum FuncTypeInner {
+    /// The parameters, then the results, then entries that mean nothing.
+    Inline {
+        len_params: u8,
+        len_results: u8,
+        params_results: [ValType; INLINE_SIZE],
+    },
+    /// The parameters, then the results.
+    Big {
+        len_params: u16,
+        params_results: RcSlice<ValType>,
+    },
+}
+
+/// How many parameters there are at most, and how many results.
+const MAX_LEN: u16 = 1_000;
+
+/// How many entries stand inline at most.
+const INLINE_SIZE: usize = 21;
+
+impl Model for FuncType {
+    ghost use Rattle.wasmi_types.specs.FunctionType.{FunctionType};
+    ghost use Rattle.wasmi_types.specs.FuncTypeInner.{function_type_of, IsKept};
+
+    ghost Value = { FunctionType };
+
+    ghost view = { λ ty. function_type_of ty.inner };
+
+    ghost invariant = { λ ty. IsKept ty.inner };
+}
+
+impl FuncType {
+    ghost use Rattle.wasmi_types.specs.Reading.{IsReading, IsReadingOf};
+
+    /// Makes the type of a function with these parameters and results.
+    ///
+    /// Takes the first `None` of an iterator as its end, and reads at most 1,001 items of each.
+    /// More than 1,000 parameters are refused before any result is read, then more than 1,000
+    /// results. Memory is taken, and can be refused, only where there are more than 21 items.
+    pub fn new<P, R>(alloc: Global, params: P, results: R) -> Result<Self, FuncTypeError>
+    where
+        P: IntoIterator<Item = ValType>,
+        R: IntoIterator<Item = ValType>,
+        requires params { (it : P.IntoIter) → P.into_iter_gives params it → P.IntoIter.can_next it }
+        requires results { (it : R.IntoIter) → R.into_iter_gives results it → R.IntoIter.can_next it }
+        ensures { IsReadingOf P.into_iter_gives P.IntoIter.next_gives R.into_iter_gives R.IntoIter.next_gives params results result }
+    {
+        let mut params = params.into_iter();
+        let mut results = results.into_iter();
+        Self::read(alloc, &mut params, &mut results)
+    }
+
+    /// Reads the parameters, then the results.
+    fn read<P, R>(alloc: Global, params: &mut P, results: &mut R) -> Result<Self, FuncTypeError>
+    where
+        P: Iterator<Item = ValType>,
+        R: Iterator<Item = ValType>,
+        requires params { P.can_next params.old }
+        requires results { R.can_next results.old }
+        ensures { IsReading P.next_gives R.next_gives params.old results.old result params.new results.new }
+    {
+        let mut entries = Entries::new(alloc);
+        let len_params = entries.read(params, FuncTypeError::TooManyFunctionParams)?;
+        let len_results = entries.read(results, FuncTypeError::TooManyFunctionResults)?;
+        match Self::from_entries(alloc, &entries, len_params, len_results) {
+            Ok(ty) => Ok(ty),
+            Err(_) => Err(FuncTypeError::OutOfMemory),
+        }
+    }
+
+    /// The function type of entries of which so many are parameters.
+    fn from_entries(
+        alloc: Global,
+        entries: &Entries,
+        len_params: u16,
+        len_results: u16,
+    ) -> Result<Self, AllocError>
+        requires count { length entries.now ≡ len_params + len_results }
+        requires params { len_params ≤ 1000 }
+        requires results { len_results ≤ 1000 }
+        ensures params { IfOk result (λ ty. ty.params ≡ take len_params entries.now) }
+        ensures results { IfOk result (λ ty. ty.results ≡ drop len_params entries.now) }
+        ensures refused { IsErr result → 21 < length entries.now }
+    {
+        if entries.rest.is_empty() {
+            return Ok(FuncType {
+                inner: FuncTypeInner::Inline {
+                    len_params: len_params as u8,
+                    len_results: len_results as u8,
+                    params_results: entries.inline,
+                },
+            });
+        }
+        let mut params_results = Vec::from_slice(alloc, &entries.inline)?;
+        params_results.extend_from_slice(entries.rest.as_slice())?;
+        Ok(FuncType {
+            inner: FuncTypeInner::Big {
+                len_params,
+                params_results: RcSlice::from_vec(params_results)?,
+            },
+        })
+    }
+
+    /// The types of the parameters.
+    pub fn params(&self) -> &[ValType]
+        ensures { result.now ≡ self.now.params }
+    {
+        self.params_results().0
+    }
+
+    /// The types of the results.
+    pub fn results(&self) -> &[ValType]
+        ensures { result.now ≡ self.now.results }
+    {
+        self.params_results().1
+    }
+
+    /// How many parameters there are.
+    pub fn len_params(&self) -> u16
+        ensures { result ≡ length self.now.params }
+    {
+        match &self.inner {
+            FuncTypeInner::Inline { len_params, .. } => u16::from(*len_params),
+            FuncTypeInner::Big { len_params, .. } => *len_params,
+        }
+    }
+
+    /// How many results there are.
+    pub fn len_results(&self) -> u16
+        ensures { result ≡ length self.now.results }
+    {
+        match &self.inner {
+            FuncTypeInner::Inline { len_results, .. } => u16::from(*len_results),
+            FuncTypeInner::Big {
+                len_params,
+                params_results,
+            } => params_results.len() as u16 - *len_params,
+        }
+    }
+
+    /// The types of the parameters, and those of the results.
+    pub fn params_results(&self) -> (&[ValType], &[ValType])
+        ensures params { result.0.now ≡ self.now.params }
+        ensures results { result.1.now ≡ self.now.results }
+    {
+        match &self.inner {
+            FuncTypeInner::Inline {
+                len_params,
+                len_results,
+                params_results,
+            } => {
+                let end_params = usize::from(*len_params);
+                params_results[..end_params + usize::from(*len_results)].split_at(end_params)
+            }
+            FuncTypeInner::Big {
+                len_params,
+                params_results,
+            } => params_results.as_slice().split_at(usize::from(*len_params)),
+        }
+    }
+
+    /// What function types are ordered by, place by place.
+    fn order_key(&self) -> (bool, u16, u16, &[ValType])
+        ensures big { result.0 ≡ not (nat_le (entry_count self.now) 21) }
+        ensures params { result.1 ≡ length self.now.params }
+        ensures results { result.2 ≡ (if nat_le (entry_count self.now) 21 then length self.now.results else 0) }
+        ensures entries { result.3.now ≡ entries self.now }
+    {
+        match &self.inner {
+            FuncTypeInner::Inline { .. } => (
+                false,
+                self.len_params(),
+                self.len_results(),
+                self.entries(),
+            ),
+            FuncTypeInner::Big { .. } => (true, self.len_params(), 0, self.entries()),
+        }
+    }
+
+    /// The types of the parameters, then those of the results.
+    fn entries(&self) -> &[ValType]
+        ensures { result.now ≡ entries self.now }
+    {
+        match &self.inner {
+            FuncTypeInner::Inline {
+                len_params,
+                len_results,
+                params_results,
+            } => &params_results[..usize::from(*len_params) + usize::from(*len_results)],
+            FuncTypeInner::Big { params_results, .. } => params_results.as_slice(),
+        }
+    }
+}
+
+impl Clone for FuncType {
+    ghost is_clone = { λ ty copy. copy ≡ ty };
+
+    /// The same function type. Memory can be refused only where it has more than 21 entries.
+    fn clone(&self) -> Result<Self, AllocError>
+        ensures is_clone { IfOk result (λ copy. copy ≡ self.now) }
+        ensures refused { IsErr result → 21 < entry_count self.now }
+    {
+        Ok(FuncType {
+            inner: match &self.inner {
+                FuncTypeInner::Inline {
+                    len_params,
+                    len_results,
+                    params_results,
+                } => FuncTypeInner::Inline {
+                    len_params: *len_params,
+                    len_results: *len_results,
+                    params_results: *params_results,
+                },
+                FuncTypeInner::Big {
+                    len_params,
+                    params_results,
+                } => FuncTypeInner::Big {
+                    len_params: *len_params,
+                    params_results: params_results.clone()?,
+                },
+            },
+        })
+    }
+}
+
+impl PartialEq for FuncType {
+    ghost use Rattle.std.specs.Cmp.{partial_equiv_from_equiv};
+    ghost use Rattle.wasmi_types.specs.FunctionTypeLaws.{same_lists_equiv};
+    ghost use Rattle.wasmi_types.specs.ValTypeLaws.{same_type_decides};
+
+    ghost eq = { same_lists ⟦<ValType as PartialEq>⟧.eq };
+
+    ghost laws = { partial_equiv_from_equiv (same_lists_equiv same_type_decides) };
+
+    fn eq(&self, other: &Self) -> bool
+        ensures eq { result ≡ same_lists ⟦<ValType as PartialEq>⟧.eq self.now other.now }
+        ensures same { IsTrue result ↔ (self.now ≡ other.now) }
+    {
+        self.params_results() == other.params_results()
+    }
+}
+
+impl Eq for FuncType {
+    ghost use Rattle.wasmi_types.specs.FunctionTypeLaws.{same_lists_equiv};
+    ghost use Rattle.wasmi_types.specs.ValTypeLaws.{same_type_decides};
+
+    ghost laws = { same_lists_equiv same_type_decides };
+}
+
+impl Ord for FuncType {
+    ghost use Rattle.wasmi_types.specs.FunctionTypeLaws.{same_lists_by_cmp};
+    ghost use Rattle.wasmi_types.specs.ValTypeLaws.{same_type_decides};
+    ghost use Rattle.std.specs.Cmp.Lexicographic.{on_texts};
+    ghost use Rattle.std.specs.Ordering.{as_partial_cmp};
+    ghost use Rattle.std.proofs.Common.{refl};
+
+    ghost cmp = { function_type_cmp };
+
+    ghost total = { on_texts order_key };
+
+    ghost matches_partial_cmp = { λ a b. refl };
+
+    ghost matches_eq = { same_lists_by_cmp same_type_decides };
+
+    fn cmp(&self, other: &Self) -> Ordering
+        ensures cmp { result ≡ function_type_cmp self.now other.now }
+        ensures equal { (result ≡ Ordering.Equal) ↔ (self.now ≡ other.now) }
+    {
+        self.order_key().cmp(&other.order_key())
+    }
+}
+
+impl PartialOrd for FuncType {
+    ghost use Rattle.wasmi_types.specs.FunctionTypeLaws.{same_lists_by_cmp};
+    ghost use Rattle.wasmi_types.specs.ValTypeLaws.{same_type_decides};
+    ghost use Rattle.std.specs.Cmp.Lexicographic.{on_texts};
+    ghost use Rattle.std.specs.Cmp.{partial_order_from_agreeing_total};
+    ghost use Rattle.std.specs.Ordering.{as_partial_cmp};
+    ghost use Rattle.std.proofs.Common.{refl};
+
+    ghost partial_cmp = { as_partial_cmp function_type_cmp };
+
+    ghost laws = { partial_order_from_agreeing_total function_type_cmp (on_texts order_key) (λ a b. refl) (same_lists_by_cmp same_type_decides) };
+
+    fn partial_cmp(&self, other: &Self) -> Option<Ordering> {
+        Some(self.cmp(other))
+    }
+}
+
+impl Hash for FuncType {
+    ghost use Rattle.wasmi_types.specs.FunctionTypeLaws.{same_lists_alike};
+    ghost use Rattle.wasmi_types.specs.ValTypeLaws.{same_type_decides};
+    ghost use Rattle.wasmi_types.specs.FunctionType.{lists_input};
+
+    ghost hash_input = { lists_input ⟦<ValType as Hash>⟧.hash_input };
+
+    ghost respects_eq = { same_lists_alike same_type_decides (lists_input ⟦<ValType as Hash>⟧.hash_input) };
+
+    fn hash<H: Hasher>(&self, state: &mut H) {
+        self.params().hash(state);
+        self.results().hash(state);
+    }
+}
+
+impl fmt::Debug for FuncType {
+    fn fmt<W: fmt::Write>(&self, f: &mut fmt::Formatter<W>) -> fmt::Result {
+        f.debug_struct("FuncType")
+            .field("params", &self.params())
+            .field("results", &self.results())
+            .finish()
+    }
+}
+
+/// The entries of a function type while they are read.
+#[derive(Drop)]
+struct Entries {
+    /// The first 21 entries, then types that mean nothing.
+    inline: [ValType; INLINE_SIZE],
+    /// How many entries stand inline.
+    len: usize,
+    /// The entries after the first 21.
+    rest: Vec<ValType>,
+}
+
+impl Model for Entries {
+    ghost use Rattle.std.specs.Prelude.{◌≡◌, ◌<◌, ◌≤◌, ◌++◌, [], List, length, take};
+    ghost use Rattle.wasmi_types.specs.declared.value.ValType.{ValType};
+
+    ghost Value = { List ValType };
+
+    ghost view = { λ entries. take entries.len entries.inline ++ entries.rest.items };
+
+    ghost invariant = { λ entries. (length entries.inline ≡ 21) × (entries.len ≤ 21) × (entries.len < 21 → entries.rest.items ≡ []) };
+}
+
+impl Entries {
+    ghost use Rattle.wasmi_types.specs.Reading.{IsNextPart, IsPart, IsPartRefusal};
+
+    fn new(alloc: Global) -> Self
+        ensures { result ≡ [] }
+    {
+        Entries {
+            inline: [ValType::I32; INLINE_SIZE],
+            len: 0,
+            rest: Vec::new(alloc),
+        }
+    }
+
+    /// Appends a type. Memory is taken only after the first 21.
+    fn push(&mut self, ty: ValType) -> Result<(), AllocError>
+        ensures ok { OnOk result (self.new ≡ self.old ++ ty ∷ []) }
+        ensures refused { OnErr result (21 ≤ length self.old) }
+    {
+        if self.len < INLINE_SIZE {
+            self.inline[self.len] = ty;
+            self.len += 1;
+        } else {
+            self.rest.push(ty)?;
+        }
+        Ok(())
+    }
+
+    /// Appends the next type, and answers whether there was one.
+    fn push_next<I>(&mut self, types: &mut I) -> Result<bool, AllocError>
+    where
+        I: Iterator<Item = ValType>,
+        requires { I.can_next types.old }
+        ensures { IsNextPart I.next_gives I.can_next types.old self.old result types.new self.new }
+    {
+        match types.next() {
+            Some(ty) => {
+                self.push(ty)?;
+                Ok(true)
+            }
+            None => Ok(false),
+        }
+    }
+
+    /// Appends what an iterator gives until its first `None`, and answers how many came.
+    fn read<I>(&mut self, types: &mut I, too_many: FuncTypeError) -> Result<u16, FuncTypeError>
+    where
+        I: Iterator<Item = ValType>,
+        requires { I.can_next types.old }
+        ensures ok { IfOk result (λ count. IsPart I.next_gives types.old self.old count types.new self.new) }
+        ensures err { IfErr result (λ error. IsPartRefusal I.next_gives too_many types.old self.old error types.new) }
+    {
+        for count in 0..MAX_LEN {
+            match self.push_next(types) {
+                Ok(true) => {}
+                Ok(false) => return Ok(count),
+                Err(_) => return Err(FuncTypeError::OutOfMemory),
+            }
+        }
+        match types.next() {
+            Some(_) => Err(too_many),
+            None => Ok(MAX_LEN),
+        }
+    }
+}

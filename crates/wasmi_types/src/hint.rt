@@ -1,0 +1,35 @@
+//! Hints on which branch is taken.
+ghost use Rattle.std.specs.Prelude.{◌≡◌};
+
+/// Does nothing. A branch that calls it is unlikely.
+///
+/// Upstream: `wasmi_core::hint::cold`.
+#[cold]
+#[inline]
+pub fn cold() {}
+
+/// The condition, which is likely true.
+///
+/// Upstream: `wasmi_core::hint::likely`.
+#[inline]
+pub fn likely(condition: bool) -> bool
+    ensures { result ≡ condition }
+{
+    if !condition {
+        cold();
+    }
+    condition
+}
+
+/// The condition, which is unlikely true.
+///
+/// Upstream: `wasmi_core::hint::unlikely`.
+#[inline]
+pub fn unlikely(condition: bool) -> bool
+    ensures { result ≡ condition }
+{
+    if condition {
+        cold();
+    }
+    condition
+}
