@@ -1,5 +1,3 @@
-ghost use Rattle.std.specs.Prelude.{◌≤◌};
-
 use super::access::{
     ExtendInto, LittleEndianConvert, WrapInto, load, load_at, load_extend, store, store_at,
     store_wrap,
@@ -13,134 +11,329 @@ use wasmi_types::TrapCode;
 
 const REFUSED: TrapCode = TrapCode::MemoryOutOfBounds;
 
+const ONES: [u8; 16] = [255; 16];
+
 const NONE: [u8; 16] = [7; 16];
 
-// A load of `width` bytes from 16 bytes 255: at the last address that fits, one past it, and past 2 to the power 64.
-fn check_load<T, F, G>(rt: &impl Abort, width: u64, load: F, load_at: G, expected: T)
-where
-    T: PartialEq + Debug + Drop + Copy,
-    F: Fn(&[u8], u64, u64) -> Result<T, TrapCode>,
-    G: Fn(&[u8], usize) -> Result<T, TrapCode>,
-    requires width { width ≤ 8 }
-    requires load { F.IsAlwaysCallable load }
-    requires load_at { G.IsAlwaysCallable load_at }
-{
-    let memory = [255u8; 16];
-    let last = 16 - width;
-    for (ptr, offset) in [(last, 0), (3, last - 3), (0, last)] {
-        assert_eq!(rt; load(&memory, ptr, offset), Ok(expected));
-    }
-    let past = [
-        (last, 1),
-        (u64::MAX, 0),
-        (u64::MAX, 1),
-        (1, u64::MAX),
-        (u64::MAX, u64::MAX),
+// Each load of 16 bytes 255: at the last address that fits, one past it, and at sums of 2 to the power 64 or more.
+
+#[test]
+fn i32_loads_of_8_bits(rt: HostRuntime) {
+    let memory = ONES;
+    let rows = [
+        (i32_load8_s(&memory, 15, 0), Ok(-1)),
+        (i32_load8_s(&memory, 15, 1), Err(REFUSED)),
+        (i32_load8_s(&memory, u64::MAX, 1), Err(REFUSED)),
+        (i32_load8_s(&memory, u64::MAX, u64::MAX), Err(REFUSED)),
+        (i32_load8_s_at(&memory, 15), Ok(-1)),
+        (i32_load8_s_at(&memory, 16), Err(REFUSED)),
+        (i32_load8_s_at(&memory, usize::MAX), Err(REFUSED)),
+        (i32_load8_u(&memory, 15, 0), Ok(255)),
+        (i32_load8_u(&memory, 15, 1), Err(REFUSED)),
+        (i32_load8_u(&memory, u64::MAX, 1), Err(REFUSED)),
+        (i32_load8_u(&memory, u64::MAX, u64::MAX), Err(REFUSED)),
+        (i32_load8_u_at(&memory, 15), Ok(255)),
+        (i32_load8_u_at(&memory, 16), Err(REFUSED)),
+        (i32_load8_u_at(&memory, usize::MAX), Err(REFUSED)),
     ];
-    for (ptr, offset) in past {
-        assert_eq!(rt; load(&memory, ptr, offset), Err(REFUSED));
+    for (answer, expected) in rows {
+        assert_eq!(rt; answer, expected);
     }
-    assert_eq!(rt; load_at(&memory, last as usize), Ok(expected));
-    assert_eq!(rt; load_at(&memory, last as usize + 1), Err(REFUSED));
-    assert_eq!(rt; load_at(&memory, usize::MAX), Err(REFUSED));
 }
 
 #[test]
-fn loads_at_the_edges(rt: HostRuntime) {
-    check_load(&rt, 1, i32_load8_s, i32_load8_s_at, -1);
-    check_load(&rt, 1, i32_load8_u, i32_load8_u_at, 255);
-    check_load(&rt, 2, i32_load16_s, i32_load16_s_at, -1);
-    check_load(&rt, 2, i32_load16_u, i32_load16_u_at, 65535);
-    check_load(&rt, 1, i64_load8_s, i64_load8_s_at, -1);
-    check_load(&rt, 1, i64_load8_u, i64_load8_u_at, 255);
-    check_load(&rt, 2, i64_load16_s, i64_load16_s_at, -1);
-    check_load(&rt, 2, i64_load16_u, i64_load16_u_at, 65535);
-    check_load(&rt, 4, i64_load32_s, i64_load32_s_at, -1);
-    check_load(&rt, 4, i64_load32_u, i64_load32_u_at, 4294967295);
-    check_load(&rt, 4, load_u32, load_u32_at, 4294967295);
-    check_load(&rt, 8, load_u64, load_u64_at, 18446744073709551615);
+fn i32_loads_of_16_bits(rt: HostRuntime) {
+    let memory = ONES;
+    let rows = [
+        (i32_load16_s(&memory, 14, 0), Ok(-1)),
+        (i32_load16_s(&memory, 14, 1), Err(REFUSED)),
+        (i32_load16_s(&memory, u64::MAX, 1), Err(REFUSED)),
+        (i32_load16_s(&memory, u64::MAX, u64::MAX), Err(REFUSED)),
+        (i32_load16_s_at(&memory, 14), Ok(-1)),
+        (i32_load16_s_at(&memory, 15), Err(REFUSED)),
+        (i32_load16_s_at(&memory, usize::MAX), Err(REFUSED)),
+        (i32_load16_u(&memory, 14, 0), Ok(65535)),
+        (i32_load16_u(&memory, 14, 1), Err(REFUSED)),
+        (i32_load16_u(&memory, u64::MAX, 1), Err(REFUSED)),
+        (i32_load16_u(&memory, u64::MAX, u64::MAX), Err(REFUSED)),
+        (i32_load16_u_at(&memory, 14), Ok(65535)),
+        (i32_load16_u_at(&memory, 15), Err(REFUSED)),
+        (i32_load16_u_at(&memory, usize::MAX), Err(REFUSED)),
+    ];
+    for (answer, expected) in rows {
+        assert_eq!(rt; answer, expected);
+    }
 }
 
-// A store of bytes 1, 2, .. to 16 bytes 7: at the last address that fits, one past it, and past 2 to the power 64.
-fn check_store<T, F, G>(
-    rt: &impl Abort,
-    expected: [u8; 16],
-    width: u64,
-    store: F,
-    store_at: G,
-    value: T,
-)
-where
-    T: Drop + Copy,
-    F: Fn(&mut [u8], u64, u64, T) -> Result<(), TrapCode>,
-    G: Fn(&mut [u8], usize, T) -> Result<(), TrapCode>,
-    requires width { width ≤ 8 }
-    requires store { F.IsAlwaysCallable store }
-    requires store_at { G.IsAlwaysCallable store_at }
-{
-    let last = 16 - width;
-    for (ptr, offset) in [(last, 0), (3, last - 3), (0, last)] {
-        let mut memory = NONE;
-        assert_eq!(rt; store(&mut memory, ptr, offset, value), Ok(()));
-        assert_eq!(rt; memory, expected);
-    }
-    let past = [
-        (last, 1),
-        (u64::MAX, 0),
-        (u64::MAX, 1),
-        (1, u64::MAX),
-        (u64::MAX, u64::MAX),
+#[test]
+fn i64_loads_of_8_bits(rt: HostRuntime) {
+    let memory = ONES;
+    let rows = [
+        (i64_load8_s(&memory, 15, 0), Ok(-1)),
+        (i64_load8_s(&memory, 15, 1), Err(REFUSED)),
+        (i64_load8_s(&memory, u64::MAX, 1), Err(REFUSED)),
+        (i64_load8_s(&memory, u64::MAX, u64::MAX), Err(REFUSED)),
+        (i64_load8_s_at(&memory, 15), Ok(-1)),
+        (i64_load8_s_at(&memory, 16), Err(REFUSED)),
+        (i64_load8_s_at(&memory, usize::MAX), Err(REFUSED)),
+        (i64_load8_u(&memory, 15, 0), Ok(255)),
+        (i64_load8_u(&memory, 15, 1), Err(REFUSED)),
+        (i64_load8_u(&memory, u64::MAX, 1), Err(REFUSED)),
+        (i64_load8_u(&memory, u64::MAX, u64::MAX), Err(REFUSED)),
+        (i64_load8_u_at(&memory, 15), Ok(255)),
+        (i64_load8_u_at(&memory, 16), Err(REFUSED)),
+        (i64_load8_u_at(&memory, usize::MAX), Err(REFUSED)),
     ];
-    for (ptr, offset) in past {
-        let mut memory = NONE;
-        assert_eq!(rt; store(&mut memory, ptr, offset, value), Err(REFUSED));
-        assert_eq!(rt; memory, NONE);
+    for (answer, expected) in rows {
+        assert_eq!(rt; answer, expected);
     }
+}
+
+#[test]
+fn i64_loads_of_16_bits(rt: HostRuntime) {
+    let memory = ONES;
+    let rows = [
+        (i64_load16_s(&memory, 14, 0), Ok(-1)),
+        (i64_load16_s(&memory, 14, 1), Err(REFUSED)),
+        (i64_load16_s(&memory, u64::MAX, 1), Err(REFUSED)),
+        (i64_load16_s(&memory, u64::MAX, u64::MAX), Err(REFUSED)),
+        (i64_load16_s_at(&memory, 14), Ok(-1)),
+        (i64_load16_s_at(&memory, 15), Err(REFUSED)),
+        (i64_load16_s_at(&memory, usize::MAX), Err(REFUSED)),
+        (i64_load16_u(&memory, 14, 0), Ok(65535)),
+        (i64_load16_u(&memory, 14, 1), Err(REFUSED)),
+        (i64_load16_u(&memory, u64::MAX, 1), Err(REFUSED)),
+        (i64_load16_u(&memory, u64::MAX, u64::MAX), Err(REFUSED)),
+        (i64_load16_u_at(&memory, 14), Ok(65535)),
+        (i64_load16_u_at(&memory, 15), Err(REFUSED)),
+        (i64_load16_u_at(&memory, usize::MAX), Err(REFUSED)),
+    ];
+    for (answer, expected) in rows {
+        assert_eq!(rt; answer, expected);
+    }
+}
+
+#[test]
+fn i64_loads_of_32_bits(rt: HostRuntime) {
+    let memory = ONES;
+    let rows = [
+        (i64_load32_s(&memory, 12, 0), Ok(-1)),
+        (i64_load32_s(&memory, 12, 1), Err(REFUSED)),
+        (i64_load32_s(&memory, u64::MAX, 1), Err(REFUSED)),
+        (i64_load32_s(&memory, u64::MAX, u64::MAX), Err(REFUSED)),
+        (i64_load32_s_at(&memory, 12), Ok(-1)),
+        (i64_load32_s_at(&memory, 13), Err(REFUSED)),
+        (i64_load32_s_at(&memory, usize::MAX), Err(REFUSED)),
+        (i64_load32_u(&memory, 12, 0), Ok(4294967295)),
+        (i64_load32_u(&memory, 12, 1), Err(REFUSED)),
+        (i64_load32_u(&memory, u64::MAX, 1), Err(REFUSED)),
+        (i64_load32_u(&memory, u64::MAX, u64::MAX), Err(REFUSED)),
+        (i64_load32_u_at(&memory, 12), Ok(4294967295)),
+        (i64_load32_u_at(&memory, 13), Err(REFUSED)),
+        (i64_load32_u_at(&memory, usize::MAX), Err(REFUSED)),
+    ];
+    for (answer, expected) in rows {
+        assert_eq!(rt; answer, expected);
+    }
+}
+
+#[test]
+fn whole_loads(rt: HostRuntime) {
+    let memory = ONES;
+    let rows = [
+        (load_u32(&memory, 12, 0), Ok(4294967295)),
+        (load_u32(&memory, 12, 1), Err(REFUSED)),
+        (load_u32(&memory, u64::MAX, 1), Err(REFUSED)),
+        (load_u32(&memory, u64::MAX, u64::MAX), Err(REFUSED)),
+        (load_u32_at(&memory, 12), Ok(4294967295)),
+        (load_u32_at(&memory, 13), Err(REFUSED)),
+        (load_u32_at(&memory, usize::MAX), Err(REFUSED)),
+    ];
+    for (answer, expected) in rows {
+        assert_eq!(rt; answer, expected);
+    }
+    let rows = [
+        (load_u64(&memory, 8, 0), Ok(18446744073709551615)),
+        (load_u64(&memory, 8, 1), Err(REFUSED)),
+        (load_u64(&memory, u64::MAX, 1), Err(REFUSED)),
+        (load_u64(&memory, u64::MAX, u64::MAX), Err(REFUSED)),
+        (load_u64_at(&memory, 8), Ok(18446744073709551615)),
+        (load_u64_at(&memory, 9), Err(REFUSED)),
+        (load_u64_at(&memory, usize::MAX), Err(REFUSED)),
+    ];
+    for (answer, expected) in rows {
+        assert_eq!(rt; answer, expected);
+    }
+}
+
+// Each store to 16 bytes 7, at the same places.
+
+#[test]
+fn i32_store8_at_the_edges(rt: HostRuntime) {
     let mut memory = NONE;
-    assert_eq!(rt; store_at(&mut memory, usize::MAX, value), Err(REFUSED));
-    assert_eq!(rt;
-        store_at(&mut memory, last as usize + 1, value),
-        Err(REFUSED)
-    );
+    let refused = [
+        i32_store8(&mut memory, 15, 1, 0x0403_0201),
+        i32_store8(&mut memory, u64::MAX, 1, 0x0403_0201),
+        i32_store8(&mut memory, u64::MAX, u64::MAX, 0x0403_0201),
+        i32_store8_at(&mut memory, 16, 0x0403_0201),
+        i32_store8_at(&mut memory, usize::MAX, 0x0403_0201),
+    ];
+    assert_eq!(rt; refused, [Err(REFUSED); 5]);
     assert_eq!(rt; memory, NONE);
-    assert_eq!(rt; store_at(&mut memory, last as usize, value), Ok(()));
-    assert_eq!(rt; memory, expected);
+    let mut other = NONE;
+    let accepted = [
+        i32_store8(&mut memory, 15, 0, 0x0403_0201),
+        i32_store8_at(&mut other, 15, 0x0403_0201),
+    ];
+    assert_eq!(rt; accepted, [Ok(()); 2]);
+    assert_eq!(rt;
+        [memory, other],
+        [[7, 7, 7, 7, 7, 7, 7, 7, 7, 7, 7, 7, 7, 7, 7, 1]; 2]
+    );
 }
 
 #[test]
-fn stores_at_the_edges(rt: HostRuntime) {
-    let one = [7, 7, 7, 7, 7, 7, 7, 7, 7, 7, 7, 7, 7, 7, 7, 1];
-    let two = [7, 7, 7, 7, 7, 7, 7, 7, 7, 7, 7, 7, 7, 7, 1, 2];
-    let four = [7, 7, 7, 7, 7, 7, 7, 7, 7, 7, 7, 7, 1, 2, 3, 4];
-    let eight = [7, 7, 7, 7, 7, 7, 7, 7, 1, 2, 3, 4, 5, 6, 7, 8];
-    check_store(&rt, one, 1, i32_store8, i32_store8_at, 0x0403_0201);
-    check_store(&rt, two, 2, i32_store16, i32_store16_at, 0x0403_0201);
-    check_store(
-        &rt,
-        one,
-        1,
-        i64_store8,
-        i64_store8_at,
-        0x0807_0605_0403_0201,
+fn i32_store16_at_the_edges(rt: HostRuntime) {
+    let mut memory = NONE;
+    let refused = [
+        i32_store16(&mut memory, 14, 1, 0x0403_0201),
+        i32_store16(&mut memory, u64::MAX, 1, 0x0403_0201),
+        i32_store16(&mut memory, u64::MAX, u64::MAX, 0x0403_0201),
+        i32_store16_at(&mut memory, 15, 0x0403_0201),
+        i32_store16_at(&mut memory, usize::MAX, 0x0403_0201),
+    ];
+    assert_eq!(rt; refused, [Err(REFUSED); 5]);
+    assert_eq!(rt; memory, NONE);
+    let mut other = NONE;
+    let accepted = [
+        i32_store16(&mut memory, 14, 0, 0x0403_0201),
+        i32_store16_at(&mut other, 14, 0x0403_0201),
+    ];
+    assert_eq!(rt; accepted, [Ok(()); 2]);
+    assert_eq!(rt;
+        [memory, other],
+        [[7, 7, 7, 7, 7, 7, 7, 7, 7, 7, 7, 7, 7, 7, 1, 2]; 2]
     );
-    check_store(
-        &rt,
-        two,
-        2,
-        i64_store16,
-        i64_store16_at,
-        0x0807_0605_0403_0201,
+}
+
+#[test]
+fn i64_store8_at_the_edges(rt: HostRuntime) {
+    let mut memory = NONE;
+    let refused = [
+        i64_store8(&mut memory, 15, 1, 0x0807_0605_0403_0201),
+        i64_store8(&mut memory, u64::MAX, 1, 0x0807_0605_0403_0201),
+        i64_store8(&mut memory, u64::MAX, u64::MAX, 0x0807_0605_0403_0201),
+        i64_store8_at(&mut memory, 16, 0x0807_0605_0403_0201),
+        i64_store8_at(&mut memory, usize::MAX, 0x0807_0605_0403_0201),
+    ];
+    assert_eq!(rt; refused, [Err(REFUSED); 5]);
+    assert_eq!(rt; memory, NONE);
+    let mut other = NONE;
+    let accepted = [
+        i64_store8(&mut memory, 15, 0, 0x0807_0605_0403_0201),
+        i64_store8_at(&mut other, 15, 0x0807_0605_0403_0201),
+    ];
+    assert_eq!(rt; accepted, [Ok(()); 2]);
+    assert_eq!(rt;
+        [memory, other],
+        [[7, 7, 7, 7, 7, 7, 7, 7, 7, 7, 7, 7, 7, 7, 7, 1]; 2]
     );
-    check_store(
-        &rt,
-        four,
-        4,
-        i64_store32,
-        i64_store32_at,
-        0x0807_0605_0403_0201,
+}
+
+#[test]
+fn i64_store16_at_the_edges(rt: HostRuntime) {
+    let mut memory = NONE;
+    let refused = [
+        i64_store16(&mut memory, 14, 1, 0x0807_0605_0403_0201),
+        i64_store16(&mut memory, u64::MAX, 1, 0x0807_0605_0403_0201),
+        i64_store16(&mut memory, u64::MAX, u64::MAX, 0x0807_0605_0403_0201),
+        i64_store16_at(&mut memory, 15, 0x0807_0605_0403_0201),
+        i64_store16_at(&mut memory, usize::MAX, 0x0807_0605_0403_0201),
+    ];
+    assert_eq!(rt; refused, [Err(REFUSED); 5]);
+    assert_eq!(rt; memory, NONE);
+    let mut other = NONE;
+    let accepted = [
+        i64_store16(&mut memory, 14, 0, 0x0807_0605_0403_0201),
+        i64_store16_at(&mut other, 14, 0x0807_0605_0403_0201),
+    ];
+    assert_eq!(rt; accepted, [Ok(()); 2]);
+    assert_eq!(rt;
+        [memory, other],
+        [[7, 7, 7, 7, 7, 7, 7, 7, 7, 7, 7, 7, 7, 7, 1, 2]; 2]
     );
-    check_store(&rt, four, 4, store32, store32_at, 0x0403_0201);
-    check_store(&rt, eight, 8, store64, store64_at, 0x0807_0605_0403_0201);
+}
+
+#[test]
+fn i64_store32_at_the_edges(rt: HostRuntime) {
+    let mut memory = NONE;
+    let refused = [
+        i64_store32(&mut memory, 12, 1, 0x0807_0605_0403_0201),
+        i64_store32(&mut memory, u64::MAX, 1, 0x0807_0605_0403_0201),
+        i64_store32(&mut memory, u64::MAX, u64::MAX, 0x0807_0605_0403_0201),
+        i64_store32_at(&mut memory, 13, 0x0807_0605_0403_0201),
+        i64_store32_at(&mut memory, usize::MAX, 0x0807_0605_0403_0201),
+    ];
+    assert_eq!(rt; refused, [Err(REFUSED); 5]);
+    assert_eq!(rt; memory, NONE);
+    let mut other = NONE;
+    let accepted = [
+        i64_store32(&mut memory, 12, 0, 0x0807_0605_0403_0201),
+        i64_store32_at(&mut other, 12, 0x0807_0605_0403_0201),
+    ];
+    assert_eq!(rt; accepted, [Ok(()); 2]);
+    assert_eq!(rt;
+        [memory, other],
+        [[7, 7, 7, 7, 7, 7, 7, 7, 7, 7, 7, 7, 1, 2, 3, 4]; 2]
+    );
+}
+
+#[test]
+fn store32_at_the_edges(rt: HostRuntime) {
+    let mut memory = NONE;
+    let refused = [
+        store32(&mut memory, 12, 1, 0x0403_0201),
+        store32(&mut memory, u64::MAX, 1, 0x0403_0201),
+        store32(&mut memory, u64::MAX, u64::MAX, 0x0403_0201),
+        store32_at(&mut memory, 13, 0x0403_0201),
+        store32_at(&mut memory, usize::MAX, 0x0403_0201),
+    ];
+    assert_eq!(rt; refused, [Err(REFUSED); 5]);
+    assert_eq!(rt; memory, NONE);
+    let mut other = NONE;
+    let accepted = [
+        store32(&mut memory, 12, 0, 0x0403_0201),
+        store32_at(&mut other, 12, 0x0403_0201),
+    ];
+    assert_eq!(rt; accepted, [Ok(()); 2]);
+    assert_eq!(rt;
+        [memory, other],
+        [[7, 7, 7, 7, 7, 7, 7, 7, 7, 7, 7, 7, 1, 2, 3, 4]; 2]
+    );
+}
+
+#[test]
+fn store64_at_the_edges(rt: HostRuntime) {
+    let mut memory = NONE;
+    let refused = [
+        store64(&mut memory, 8, 1, 0x0807_0605_0403_0201),
+        store64(&mut memory, u64::MAX, 1, 0x0807_0605_0403_0201),
+        store64(&mut memory, u64::MAX, u64::MAX, 0x0807_0605_0403_0201),
+        store64_at(&mut memory, 9, 0x0807_0605_0403_0201),
+        store64_at(&mut memory, usize::MAX, 0x0807_0605_0403_0201),
+    ];
+    assert_eq!(rt; refused, [Err(REFUSED); 5]);
+    assert_eq!(rt; memory, NONE);
+    let mut other = NONE;
+    let accepted = [
+        store64(&mut memory, 8, 0, 0x0807_0605_0403_0201),
+        store64_at(&mut other, 8, 0x0807_0605_0403_0201),
+    ];
+    assert_eq!(rt; accepted, [Ok(()); 2]);
+    assert_eq!(rt;
+        [memory, other],
+        [[7, 7, 7, 7, 7, 7, 7, 7, 1, 2, 3, 4, 5, 6, 7, 8]; 2]
+    );
 }
 
 #[test]

@@ -3,3 +3,4 @@ pub mod FuelRows
 pub mod MemoryRows
 pub mod Steps
 pub mod Runs
+pub mod AccessOps

@@ -8,10 +8,16 @@ use Rattle.wasmi_meter.specs.Meter.{Meter}
 use Rattle.wasmi_store.specs.MemoryType.{MemoryTypeValue, page_bytes}
 use Rattle.wasmi_store.specs.Memory.{MemoryValue, MakesMemory, GrowsMemory, WritesMemory}
 use Rattle.wasmi_core.specs.declared.calls.Reply.{Reply}
-use Rattle.wasmi_core.specs.declared.calls.Reply.TheVariants.{Done, Made, Number, Bytes, Memory, NoSuch, NoRoom}
+use Rattle.wasmi_core.specs.declared.calls.Reply.TheVariants.{Done, Made, Value, Number, Bytes, Memory, Trap, NoSuch, NoRoom}
 use Rattle.wasmi_core.specs.declared.slots.MemorySlot.{MemorySlot}
 use Rattle.wasmi_core.specs.declared.slots.MemorySlot.TheVariants.{Live}
 use Rattle.wasmi_core.specs.State.{memory_at}
+use Rattle.wasmi_types.specs.declared.trap.TrapCode.{TrapCode}
+use Rattle.wasmi_raw.specs.declared.raw.RawVal.{RawVal}
+use Rattle.wasmi_access.specs.LoadStore.{IsStore}
+use Rattle.wasmi_core.specs.declared.ops.LoadOp.{LoadOp}
+use Rattle.wasmi_core.specs.declared.ops.StoreOp.{StoreOp}
+use Rattle.wasmi_core.specs.AccessOps.{loaded_raw, stored_bytes}
 
 -- the reply to a creation, and the slots after it: a new one at the end where it succeeds
 abbrev pub Appends : List MemorySlot → Result MemoryValue MemoryError → Reply → List MemorySlot → Type 0
@@ -73,3 +79,32 @@ WritesLive slots k (Some x) offset bytes reply slots' =
 
 abbrev pub WritesMemoryAt : List MemorySlot → ℕ → ℕ → List ℕ → Reply → List MemorySlot → Type 0
 WritesMemoryAt slots k offset bytes reply slots' = WritesLive slots k (memory_at slots k) offset bytes reply slots'
+
+-- a load
+abbrev pub load_reply : Result RawVal TrapCode → Reply
+load_reply (Ok value) = Value value
+load_reply (Err trap) = Trap trap
+
+abbrev pub LoadsLive : Option MemoryValue → LoadOp → ℕ → Reply → Type 0
+LoadsLive None op a reply = reply ≡ NoSuch
+LoadsLive (Some x) op a reply = reply ≡ load_reply (loaded_raw op x.bytes a)
+
+abbrev pub LoadsMemoryAt : List MemorySlot → LoadOp → ℕ → ℕ → Reply → Type 0
+LoadsMemoryAt slots op k a reply = LoadsLive (memory_at slots k) op a reply
+
+-- a store: the memory has the bytes at the address, or the store traps and the memory is the same
+abbrev pub StoresMemory : MemoryValue → ℕ → List ℕ → Result (Unit {0}) TrapCode → MemoryValue → Type 0
+StoresMemory x a stored result x' = IsStore x.bytes a stored x'.bytes result × (x'.ty ≡ x.ty) × (x'.room ≡ x.room)
+
+abbrev pub store_reply : Result (Unit {0}) TrapCode → Reply
+store_reply (Ok _) = Done
+store_reply (Err trap) = Trap trap
+
+abbrev pub StoresLive : List MemorySlot → ℕ → Option MemoryValue → ℕ → List ℕ → Reply → List MemorySlot → Type 0
+StoresLive slots k None a stored reply slots' = (reply ≡ NoSuch) × (slots' ≡ slots)
+StoresLive slots k (Some x) a stored reply slots' =
+    (result : Result (Unit {0}) TrapCode) × (x' : MemoryValue) × StoresMemory x a stored result x'
+    × (reply ≡ store_reply result) × (slots' ≡ slice_set slots k (Live x'))
+
+abbrev pub StoresMemoryAt : List MemorySlot → StoreOp → ℕ → ℕ → RawVal → Reply → List MemorySlot → Type 0
+StoresMemoryAt slots op k a value reply slots' = StoresLive slots k (memory_at slots k) a (stored_bytes op value) reply slots'

@@ -1,14 +1,14 @@
 -- One step of the machine, by cases on the call.
-use Rattle.std.specs.Prelude.{◌≡◌, ℕ, List}
+use Rattle.std.specs.Prelude.{◌≡◌, ◌+◌, ℕ, List}
 use Rattle.wasmi_meter.specs.Limiter.{Question, Failure, Answer, Reply as Heed}
 use Rattle.wasmi_meter.specs.Meter.{Meter}
 use Rattle.wasmi_core.specs.declared.calls.Call.{Call}
-use Rattle.wasmi_core.specs.declared.calls.Call.TheVariants.{SetFuel, GetFuel, NewMemory, GrowMemory, Read, Write}
+use Rattle.wasmi_core.specs.declared.calls.Call.TheVariants.{SetFuel, GetFuel, NewMemory, GrowMemory, Read, Write, Load, Store}
 use Rattle.wasmi_core.specs.declared.calls.Reply.{Reply}
 use Rattle.wasmi_core.specs.declared.slots.MemorySlot.{MemorySlot}
 use Rattle.wasmi_core.specs.State.{State}
 use Rattle.wasmi_core.specs.FuelRows.{set_fuel_reply, with_fuel, get_fuel_reply}
-use Rattle.wasmi_core.specs.MemoryRows.{CreatesMemory, GrowsMemoryAt, ReadsMemoryAt, WritesMemoryAt}
+use Rattle.wasmi_core.specs.MemoryRows.{CreatesMemory, GrowsMemoryAt, ReadsMemoryAt, WritesMemoryAt, LoadsMemoryAt, StoresMemoryAt}
 
 -- a call that neither charges nor writes memories, and doesn't reach the limiter
 pub record IsFree {S : Type 0} (l : S) (charge written : ℕ) (l' : S) : Type 0 where
@@ -34,3 +34,8 @@ module _ {S : Type 0} (asked : S → Question → Answer → S → Type 0) (noti
   Step s l (Write k offset bytes) reply charge written s' l' =
       IsFree l charge written l' × (slots : List MemorySlot)
       × WritesMemoryAt s.memories k offset bytes.items reply slots × (s' ≡ record s { memories = slots })
+  Step s l (Load op k ptr offset) reply charge written s' l' =
+      IsFree l charge written l' × LoadsMemoryAt s.memories op k (ptr + offset) reply × (s' ≡ s)
+  Step s l (Store op k ptr offset value) reply charge written s' l' =
+      IsFree l charge written l' × (slots : List MemorySlot)
+      × StoresMemoryAt s.memories op k (ptr + offset) value reply slots × (s' ≡ record s { memories = slots })

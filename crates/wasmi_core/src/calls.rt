@@ -1,9 +1,12 @@
 //! What a machine can be asked, and what it replies.
 ghost use Rattle.std.specs.Prelude.{◌≡◌};
 
+use crate::ops::{LoadOp, StoreOp};
 use std::marker::Model;
 use wasmi_meter::{FuelError, MemoryError};
+use wasmi_raw::RawVal;
 use wasmi_store::MemoryType;
+use wasmi_types::TrapCode;
 
 /// One call on a machine. Memories go by their indices, which count from 0 and aren't used again.
 #[derive(Debug, Drop)]
@@ -32,6 +35,21 @@ pub enum Call {
         offset: usize,
         bytes: Vec<u8>,
     },
+    /// Loads a number from a memory at `ptr + offset`: `Value`, or `Trap` where it ends past it.
+    Load {
+        op: LoadOp,
+        memory: usize,
+        ptr: u64,
+        offset: u64,
+    },
+    /// Stores a number to a memory at `ptr + offset`: `Done`, or `Trap` where it would end past it.
+    Store {
+        op: StoreOp,
+        memory: usize,
+        ptr: u64,
+        offset: u64,
+        value: RawVal,
+    },
 }
 
 /// The reply to one call.
@@ -41,6 +59,8 @@ pub enum Reply {
     Done,
     /// The index of what was made.
     Made(usize),
+    /// A raw value.
+    Value(RawVal),
     /// A number.
     Number(u64),
     /// The bytes that were read.
@@ -49,6 +69,8 @@ pub enum Reply {
     Memory(MemoryError),
     /// Why a call on the meter was refused.
     Fuel(FuelError),
+    /// Why an instruction trapped.
+    Trap(TrapCode),
     /// An index names nothing; nothing was asked or changed.
     NoSuch,
     /// Memory for a slot or for the reply was refused; nothing was asked or changed.

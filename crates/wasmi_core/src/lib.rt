@@ -4,6 +4,7 @@
 mod calls;
 mod machine;
 mod memories;
+mod ops;
 mod running;
 mod slots;
 #[cfg(test)]
@@ -11,9 +12,21 @@ mod tests;
 
 pub use calls::{ByteList, Call, Reply};
 pub use machine::Machine;
+pub use ops::{LoadOp, StoreOp};
 pub use running::run;
+pub use wasmi_access::access;
 pub use wasmi_meter::{
     CustomFuelCosts, Fuel, FuelCosts, FuelCostsProvider, FuelError, Kind, LimiterError,
     MemoryError, NoLimits, Quota, ResourceLimiter, ResourceLimiterRef, TableError, ValueSize,
 };
-pub use wasmi_store::{Memory, MemoryType, MemoryTypeBuilder};
+pub use wasmi_raw::{F32, F64, RawVal, ReadAs, V128, WriteAs};
+pub use wasmi_scalar::value::{Integer, SignExtendFrom, Unsigned};
+pub use wasmi_scalar::wasm;
+pub use wasmi_store::{ByteBuffer, Memory, MemoryType, MemoryTypeBuilder};
+pub use wasmi_typed::{
+    Global, GlobalError, GlobalType, IntoShiftAmount, Mutability, ShiftAmount, Typed, TypedRawVal,
+};
+pub use wasmi_types::{
+    FuncType, FuncTypeError, HostError, IndexType, InvalidTrapCode, RefType, Trap, TrapCode,
+    ValType, hint,
+};

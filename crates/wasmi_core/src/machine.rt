@@ -5,7 +5,9 @@ ghost use Rattle.wasmi_meter.specs.Limiter.{AskedIf, NoticedIf};
 ghost use Rattle.wasmi_meter.specs.LimiterRef.{state, KeepsLoan};
 
 use crate::calls::{Call, Reply};
-use crate::memories::{grow_memory, new_memory, read_memory, write_memory};
+use crate::memories::{
+    grow_memory, load_memory, new_memory, read_memory, store_memory, write_memory,
+};
 use crate::slots::MemorySlot;
 use std::alloc::Global;
 use std::marker::Model;
@@ -107,6 +109,19 @@ impl<'r> Machine<'r> {
                 offset,
                 bytes,
             } => write_memory(&mut self.memories, *memory, *offset, bytes),
+            Call::Load {
+                op,
+                memory,
+                ptr,
+                offset,
+            } => load_memory(&self.memories, *op, *memory, *ptr, *offset),
+            Call::Store {
+                op,
+                memory,
+                ptr,
+                offset,
+                value,
+            } => store_memory(&mut self.memories, *op, *memory, *ptr, *offset, *value),
         }
     }
 }

@@ -1,15 +1,19 @@
 //! Calls on the memories in a list of slots.
-ghost use Rattle.std.specs.Prelude.{◌≡◌, ℕ, Some};
+ghost use Rattle.std.specs.Prelude.{◌≡◌, ◌+◌, ℕ, Some};
 ghost use Rattle.wasmi_meter.specs.Limiter.{AskedIf, NoticedIf};
 ghost use Rattle.wasmi_meter.specs.LimiterRef.{state, KeepsLoan};
-ghost use Rattle.wasmi_core.specs.MemoryRows.{CreatesMemory, GrowsMemoryAt, ReadsMemoryAt, ReadsBytes, WritesMemoryAt};
+ghost use Rattle.wasmi_core.specs.MemoryRows.{CreatesMemory, GrowsMemoryAt, ReadsMemoryAt, ReadsBytes, WritesMemoryAt, LoadsMemoryAt, StoresMemoryAt, StoresMemory};
+ghost use Rattle.wasmi_core.specs.AccessOps.{stored_bytes};
 ghost use Rattle.wasmi_types.specs.Access.{at};
 
 use crate::calls::{ByteList, Reply};
+use crate::ops::{LoadOp, StoreOp};
 use crate::slots::MemorySlot;
 use std::alloc::Global;
 use wasmi_meter::{Fuel, MemoryError, ResourceLimiter, ResourceLimiterRef};
+use wasmi_raw::RawVal;
 use wasmi_store::{Memory, MemoryType};
+use wasmi_types::TrapCode;
 
 /// Makes a memory in a new slot, which is reserved before the limiter is asked.
 pub(crate) fn new_memory<L: ResourceLimiter>(
@@ -110,4 +114,62 @@ pub(crate) fn write_memory(
         },
         MemorySlot::Gone(_) => Reply::NoSuch,
     }
+}
+
+/// Loads a number from a memory that is live.
+pub(crate) fn load_memory(
+    slots: &Vec<MemorySlot>,
+    op: LoadOp,
+    index: usize,
+    ptr: u64,
+    offset: u64,
+) -> Reply
+    ensures { LoadsMemoryAt slots.now.items op index (ptr + offset) result }
+{
+    if index >= slots.len() {
+        return Reply::NoSuch;
+    }
+    match &slots[index] {
+        MemorySlot::Live(memory) => match op.load(memory.data(), ptr, offset) {
+            Ok(value) => Reply::Value(value),
+            Err(trap) => Reply::Trap(trap),
+        },
+        MemorySlot::Gone(_) => Reply::NoSuch,
+    }
+}
+
+/// Stores a number to a memory that is live.
+pub(crate) fn store_memory(
+    slots: &mut Vec<MemorySlot>,
+    op: StoreOp,
+    index: usize,
+    ptr: u64,
+    offset: u64,
+    value: RawVal,
+) -> Reply
+    ensures { StoresMemoryAt slots.old.items op index (ptr + offset) value result slots.new.items }
+{
+    if index >= slots.len() {
+        return Reply::NoSuch;
+    }
+    match &mut slots[index] {
+        MemorySlot::Live(memory) => match store(memory, op, ptr, offset, value) {
+            Ok(()) => Reply::Done,
+            Err(trap) => Reply::Trap(trap),
+        },
+        MemorySlot::Gone(_) => Reply::NoSuch,
+    }
+}
+
+/// Stores a number to a memory.
+fn store(
+    memory: &mut Memory,
+    op: StoreOp,
+    ptr: u64,
+    offset: u64,
+    value: RawVal,
+) -> Result<(), TrapCode>
+    ensures { StoresMemory memory.old (ptr + offset) (stored_bytes op value) result memory.new }
+{
+    op.store(memory.data_mut(), ptr, offset, value)
 }

@@ -128,7 +128,10 @@ fn quota_watches_a_run(rt: HostRuntime) -> Result<(), Fail> {
     let calls = vec![in rt.alloc();
         Call::NewMemory(page),
         Call::NewMemory(page),
-        Call::GrowMemory { memory: 0, pages: 1 }
+        Call::GrowMemory {
+            memory: 0,
+            pages: 1
+        },
     ]?;
     let mut quota = Quota::new(131071, 0);
     let mut limiter = ResourceLimiterRef::from(&mut quota);
@@ -136,10 +139,12 @@ fn quota_watches_a_run(rt: HostRuntime) -> Result<(), Fail> {
     let expected = vec![in rt.alloc();
         Reply::Made(0),
         Reply::Memory(MemoryError::ResourceLimiterDeniedAllocation),
-        Reply::Memory(MemoryError::OutOfBoundsGrowth)
+        Reply::Memory(MemoryError::OutOfBoundsGrowth),
     ]?;
     assert!(rt; replies == expected);
-    let Some(quota) = limiter.into_resource_limiter() else { unreachable!() };
+    let Some(quota) = limiter.into_resource_limiter() else {
+        unreachable!()
+    };
     assert_eq!(rt; (quota.held_bytes(), quota.held_elements()), (65536, 0));
     Ok(())
 }
@@ -162,5 +167,75 @@ fn writes_through_a_loan(rt: HostRuntime) -> Result<(), Fail> {
     let mut memory = Memory::new(rt.alloc(), page_type(3, None, 0)?, &mut limiter)?;
     put_first(&mut memory);
     assert!(rt; memory.data() == [7, 0, 0].as_slice());
+    Ok(())
+}
+
+#[test]
+fn loads_what_was_stored(rt: HostRuntime) -> Result<(), Fail> {
+    let mut machine = Machine::new(rt.alloc(), Fuel::new(false, FuelCostsProvider::default()));
+    let calls = vec![in rt.alloc();
+        Call::NewMemory(page_type(1, None, 16)?),
+        Call::Store {
+            op: StoreOp::I32Store8,
+            memory: 0,
+            ptr: 0,
+            offset: 0,
+            value: RawVal::from(300u32)
+        },
+        Call::Load {
+            op: LoadOp::I32Load8U,
+            memory: 0,
+            ptr: 0,
+            offset: 0
+        },
+        Call::Store {
+            op: StoreOp::Store64,
+            memory: 0,
+            ptr: 65000,
+            offset: 528,
+            value: RawVal::from(-2i64)
+        },
+        Call::Load {
+            op: LoadOp::I64Load32S,
+            memory: 0,
+            ptr: 65528,
+            offset: 0
+        },
+        Call::Load {
+            op: LoadOp::LoadU64,
+            memory: 0,
+            ptr: 0,
+            offset: 65529
+        },
+        Call::Store {
+            op: StoreOp::Store32,
+            memory: 0,
+            ptr: u64::MAX,
+            offset: 1,
+            value: RawVal::from(1u32)
+        },
+        Call::Load {
+            op: LoadOp::LoadU32,
+            memory: 1,
+            ptr: 0,
+            offset: 0
+        },
+    ]?;
+    let replies = run(
+        &mut machine,
+        &calls,
+        &mut ResourceLimiterRef::<NoLimits>::default(),
+    )?;
+    let expected = vec![in rt.alloc();
+        Reply::Made(0),
+        Reply::Done,
+        Reply::Value(RawVal::from(44u32)),
+        Reply::Done,
+        Reply::Value(RawVal::from(-2i64)),
+        Reply::Trap(TrapCode::MemoryOutOfBounds),
+        Reply::Trap(TrapCode::MemoryOutOfBounds),
+        Reply::NoSuch,
+    ]?;
+    assert!(rt; replies == expected);
     Ok(())
 }

@@ -1,9 +1,9 @@
 -- Shifts and rotations.
-use Rattle.std.proofs.Common.{◌≡◌, ℕ, zero, suc, ◌+◌, ◌-◌, ◌*◌, ◌/◌, ◌%◌, ◌^◌, ◌<◌, ◌≤◌, ◌∙◌, sym, refl, ap, arith, lit<, lit≤, add-mul, mul_comm, mul-one, add-zero, zero-add, div-one, mod-eq_of_lt, subst}
+use Rattle.std.proofs.Common.{◌≡◌, ℕ, zero, suc, ◌+◌, ◌-◌, ◌*◌, ◌/◌, ◌%◌, ◌^◌, ◌<◌, ◌≤◌, ◌∙◌, sym, refl, ap, arith, add-mul, mul_comm, mul-one, add-zero, zero-add, div-one, mod-eq_of_lt, subst}
 use Rattle.std.specs.Prelude.{ℤ, pos, negsuc, ◌+ℤ◌, ◌*ℤ◌, neg_ℤ, bit_or}
 use Rattle.std.specs.Int.{Width, cast_signed, cast_unsigned, int_wrap, int_shl, int_rem_euclid, rotate_left, rotate_right}
 use Rattle.std.specs.Int.RustNames.{unsigned_abs}
-use Rattle.std.proofs.lemmas.Int.{to_z-of_z, of_z-to_z, int_rem_euclid_is, ints}
+use Rattle.std.proofs.lemmas.Int.{to_z-of_z, int_rem_euclid_is, ints}
 use Rattle.std.proofs.lemmas.Nat.{mod_below, or_shifted, or_comm, mod-pow-add, shl-shr, shr_below, pow_pos}
 use Rattle.std.proofs.Math.Nat.{mul-mod_left, sub-zero, mod_self, div-eq_of_lt}
 use Rattle.wasmi_scalar.specs.Numerics.{amount_of, ishl, rotated_left, irotl, irotr}

@@ -1,8 +1,8 @@
 use super::*;
 use std::test::Fail;
 use wasmi_meter::{
-    CustomFuelCosts, Fuel, FuelCostsProvider, LimiterError, MemoryError, NoLimits, Quota, ResourceLimiter,
-    ResourceLimiterRef, TableError,
+    CustomFuelCosts, Fuel, FuelCostsProvider, LimiterError, MemoryError, NoLimits, Quota,
+    ResourceLimiter, ResourceLimiterRef, TableError,
 };
 
 const DENIED: MemoryError = MemoryError::ResourceLimiterDeniedAllocation;
@@ -414,16 +414,29 @@ fn records_growths(rt: HostRuntime) -> Result<(), Fail> {
 #[test]
 fn quota_bounds_growth(rt: HostRuntime) -> Result<(), Fail> {
     for (fuel, outcome, left, held) in [
-        (1000, Err(MemoryError::OutOfFuel { required_fuel: 1024 }), 1000, 65536),
+        (
+            1000,
+            Err(MemoryError::OutOfFuel {
+                required_fuel: 1024,
+            }),
+            1000,
+            65536,
+        ),
         (1024, Ok(1), 0, 131072),
     ] {
         let mut quota = Quota::new(131072, 0);
         let mut limiter = ResourceLimiterRef::from(&mut quota);
-        let mut memory = Memory::new(rt.alloc(), memory_type(1, Some(2), 16, false)?, &mut limiter)?;
+        let mut memory = Memory::new(
+            rt.alloc(),
+            memory_type(1, Some(2), 16, false)?,
+            &mut limiter,
+        )?;
         let mut meter = metered(64, fuel);
         assert_eq!(rt; memory.grow(1, Some(&mut meter), &mut limiter), outcome);
         assert_eq!(rt; meter.get_fuel(), Ok(left));
-        let Some(quota) = limiter.into_resource_limiter() else { unreachable!() };
+        let Some(quota) = limiter.into_resource_limiter() else {
+            unreachable!()
+        };
         assert_eq!(rt; quota.held_bytes(), held);
     }
     Ok(())
@@ -433,9 +446,21 @@ fn quota_bounds_growth(rt: HostRuntime) -> Result<(), Fail> {
 fn growth_to_all_addresses_is_out_of_bounds(rt: HostRuntime) -> Result<(), Fail> {
     let mut recorder = Recorder::new(Ok(true), Ok(()));
     let mut limiter = ResourceLimiterRef::from(&mut recorder);
-    let mut memory = Memory::new(rt.alloc(), memory_type(0, Some(1 << 48), 16, true)?, &mut limiter)?;
-    assert_eq!(rt; memory.grow(1 << 48, None, &mut limiter), Err(MemoryError::OutOfBoundsGrowth));
-    let Some(recorder) = limiter.into_resource_limiter() else { unreachable!() };
-    assert_eq!(rt; (recorder.questions, recorder.question), (1, Some((0, 0, Some(usize::MAX)))));
+    let mut memory = Memory::new(
+        rt.alloc(),
+        memory_type(0, Some(1 << 48), 16, true)?,
+        &mut limiter,
+    )?;
+    assert_eq!(rt;
+        memory.grow(1 << 48, None, &mut limiter),
+        Err(MemoryError::OutOfBoundsGrowth)
+    );
+    let Some(recorder) = limiter.into_resource_limiter() else {
+        unreachable!()
+    };
+    assert_eq!(rt;
+        (recorder.questions, recorder.question),
+        (1, Some((0, 0, Some(usize::MAX))))
+    );
     Ok(())
 }

@@ -10,3 +10,4 @@ pub mod FuncTypeInner
 pub mod Reading
 pub mod FunctionTypeLaws
 pub mod ValTypeLaws
+pub mod FuncTypeError

@@ -4,27 +4,41 @@ ghost use Rattle.wasmi_types.specs.FunctionType.{entries, entry_count, same_list
 use crate::ValType;
 use std::alloc::{AllocError, Global};
 use std::cmp::Ordering;
+use std::error::Error;
 use std::fmt;
 use std::hash::{Hash, Hasher};
 use std::marker::Model;
 use std::rc::RcSlice;
-use thiserror::Error;
 
 /// Why a function type cannot be made.
 ///
 /// Upstream: `wasmi_core::FuncTypeError`.
-#[derive(Clone, Copy, Debug, PartialEq, Eq, Error)]
+#[derive(Clone, Copy, Debug, PartialEq, Eq)]
 pub enum FuncTypeError {
     /// There are more than 1,000 parameters.
-    #[error("encountered a function with too many parameters")]
     TooManyFunctionParams,
     /// There are more than 1,000 results.
-    #[error("encountered a function with too many results")]
     TooManyFunctionResults,
     /// The system refused memory.
-    #[error("out of memory")]
     OutOfMemory,
 }
+
+impl fmt::Display for FuncTypeError {
+    ghost use Rattle.std.specs.Prelude.{Some};
+    ghost use Rattle.wasmi_types.specs.FuncTypeError.{func_type_error_text};
+
+    ghost output = { λ error. Some (func_type_error_text error) };
+
+    fn fmt<W: fmt::Write>(&self, f: &mut fmt::Formatter<W>) -> fmt::Result {
+        f.write_str(match self {
+            Self::TooManyFunctionParams => "encountered a function with too many parameters",
+            Self::TooManyFunctionResults => "encountered a function with too many results",
+            Self::OutOfMemory => "out of memory",
+        })
+    }
+}
+
+impl Error for FuncTypeError {}
 
 /// The type of a function: the types of its parameters and those of its results, at most 1,000 each.
 ///

@@ -23,3 +23,10 @@ returns-in-Read-clause-step g c = (0, 0, rw (c.in-Read.is, ← c.self-in-Read.vi
 pub returns-in-Write-clause-step : goal.returns-in-Write-clause-step
 returns-in-Write-clause-step g c =
     (0, 0, rw (c.in-Write.is, ← c.self-in-Write.view_is) (free _, c.write_memory.new.slots.items, rw c.deref.ensures.value at c.write_memory.ensures, refl))
+
+pub returns-in-Load-clause-step : goal.returns-in-Load-clause-step
+returns-in-Load-clause-step g c = (0, 0, rw (c.in-Load.is, ← c.self-in-Load.view_is) (free _, c.load_memory.ensures, refl))
+
+pub returns-in-Store-clause-step : goal.returns-in-Store-clause-step
+returns-in-Store-clause-step g c =
+    (0, 0, rw (c.in-Store.is, ← c.self-in-Store.view_is) (free _, c.store_memory.new.slots.items, c.store_memory.ensures, refl))

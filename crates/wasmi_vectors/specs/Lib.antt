@@ -1,0 +1,3 @@
+pub mod Statuses
+pub mod Tallies
+pub mod Verdicts

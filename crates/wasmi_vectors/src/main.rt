@@ -1,0 +1,23 @@
+//! Compares a table of answers with what the scalar instructions answer.
+//!
+//! Each line is the name of an instruction, its operands, `->` and the answer, as `i32_div_s -2147483648 -1 -> trap
+//! IntegerOverflow`, with one space between words. A number is in decimal, a truth value 0 or 1, and a number of two
+//! words its low word and its high word.
+#![tactic(auto)]
+
+mod answer;
+mod comparison;
+mod instruction;
+mod line;
+mod number;
+#[cfg(test)]
+mod tests;
+
+use comparison::compare;
+use std::process::ExitCode;
+
+fn main(rt: HostRuntime) -> ExitCode {
+    let mut writer = rt.stdout();
+    let status = compare(rt.alloc(), rt.stdin(), &mut writer);
+    ExitCode::from(status.code())
+}
