@@ -116,7 +116,7 @@ const METERED_PRINTED: &[u8] =
     b"done\nmemory 0\ndone\nvalue 1\nerror out of bounds memory growth\nbytes 44 0\nvalue 976\n";
 
 // Scripts, and what they print.
-const ANSWERED: [(&[u8], &[u8]); 9] = [
+const ANSWERED: [(&[u8], &[u8]); 14] = [
     (METERED, METERED_PRINTED),
     (b"", b""),
     (
@@ -147,10 +147,30 @@ const ANSWERED: [(&[u8], &[u8]); 9] = [
         b"meter off\nmemory 1 none 16 64\nmemory 0 none 0 64\nread 1 0 1\nread 2 0 1",
         b"memory 0\nmemory 1\nerror out of bounds memory access\nno such\n",
     ),
+    (
+        b"meter on 64\nquota 131072 0\nfuel 2000\nmemory 1 2 16 32\nwrite 0 65535 44\ngrow 0 1\ngrow 0 1\nread 0 65535 2\nleft\n",
+        b"done\nmemory 0\ndone\nvalue 1\nerror out of bounds memory growth\nbytes 44 0\nvalue 976\nheld 131072 0\n",
+    ),
+    (
+        b"quota 65535 0\nmemory 1 none 16 32\nmemory 0 none 16 32\ngrow 0 0",
+        b"error a resource limiter denied to allocate or grow the linear memory\nmemory 0\nvalue 0\nheld 0 0\n",
+    ),
+    (
+        b"memory 1 none 16 32\nstore i32_store8 0 0 0 300\nload i32_load8_u 0 0 0\nload load_u64 0 65529 0",
+        b"memory 0\ndone\nraw 44 0\nerror out of bounds memory access\n",
+    ),
+    (
+        b"memory 1 none 16 32\nwrite 0 0 255\nload i32_load8_s 0 0 0\nload i64_load8_s 0 0 0",
+        b"memory 0\ndone\nraw 4294967295 0\nraw 18446744073709551615 0\n",
+    ),
+    (
+        b"memory 1 none 16 32\nstore store32 0 65533 0 1\nread 0 65533 3\nload load_u32 0 18446744073709551615 1",
+        b"memory 0\nerror out of bounds memory access\nbytes 0 0 0\nerror out of bounds memory access\n",
+    ),
 ];
 
 // Lines that are no commands.
-const BAD_LINES: [&[u8]; 22] = [
+const BAD_LINES: [&[u8]; 26] = [
     b"fuel",
     b"fuel +1",
     b"fuel -1",
@@ -173,6 +193,10 @@ const BAD_LINES: [&[u8]; 22] = [
     b"fuel\t1",
     b"left\r",
     b"left \xff",
+    b"quota 1",
+    b"quota 1 18446744073709551616",
+    b"load load_u16 0 0 0",
+    b"store store32 0 0 0",
 ];
 
 fn assert_prints<R: Abort, I: Read>(
@@ -216,11 +240,12 @@ fn names_the_first_bad_line(rt: HostRuntime) {
 
 #[test]
 fn names_a_later_bad_line(rt: HostRuntime) {
-    let rows: [(&[u8], &[u8]); 5] = [
+    let rows: [(&[u8], &[u8]); 6] = [
         (b"fuel 1\nmeter on 64\nmeter", b"line 2: bad command\n"),
         (b"meter off\nmeter off", b"line 2: bad command\n"),
         (b"meter on 1\nmeter off\n", b"line 2: bad command\n"),
         (b"left\nquota 1 1", b"line 2: bad command\n"),
+        (b"quota 1 1\nquota 1 1", b"line 2: bad command\n"),
         (b"meter off\n\ngrow 0", b"line 3: bad command\n"),
     ];
     for (script, printed) in rows {
