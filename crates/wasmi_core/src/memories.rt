@@ -83,13 +83,13 @@ pub(crate) fn read_memory(
 }
 
 /// A part of a list of bytes: its bounds are tested before the reply's buffer is had.
-fn read_bytes(alloc: Global, data: &[u8], offset: usize, len: usize) -> Reply
-    ensures { ReadsBytes (at data.now offset len) result }
+fn read_bytes(alloc: Global, memory: &[u8], offset: usize, len: usize) -> Reply
+    ensures { ReadsBytes (at memory.now offset len) result }
 {
-    if data.len() < offset || data.len() - offset < len {
+    if memory.len() < offset || memory.len() - offset < len {
         return Reply::Memory(MemoryError::OutOfBoundsAccess);
     }
-    match data[offset..offset + len].to_vec(alloc) {
+    match memory[offset..offset + len].to_vec(alloc) {
         Ok(bytes) => Reply::Bytes(ByteList::from(bytes)),
         Err(_) => Reply::NoRoom,
     }
