@@ -6,6 +6,8 @@ mod machine;
 mod memories;
 mod ops;
 mod running;
+#[cfg(test)]
+mod simd_tests;
 mod slots;
 #[cfg(test)]
 mod tests;
@@ -15,6 +17,7 @@ pub use machine::Machine;
 pub use ops::{LoadOp, StoreOp};
 pub use running::run;
 pub use wasmi_access::access;
+pub use wasmi_lanewise::simd;
 pub use wasmi_meter::{
     CustomFuelCosts, Fuel, FuelCosts, FuelCostsProvider, FuelError, Kind, LimiterError,
     MemoryError, NoLimits, Quota, ResourceLimiter, ResourceLimiterRef, TableError, ValueSize,

@@ -1,0 +1,7 @@
+use Rattle.std.proofs.Common.{ℕ, ◌<◌, slice_index_or}
+use Rattle.wasmi_lanes.proofs.lanes.LaneArrayLanes.lanewise_binary.Given as goal
+
+abbrev pub invariant-loop-i : goal.invariant-loop-i
+invariant-loop-i g l =
+    let default = g.T.LaneItem.ALL_ZEROS in
+    (k : ℕ) → k < l.i → goal.F-post g l.f (slice_index_or l.fn.self.items k default) (slice_index_or l.fn.other.items k default) (slice_index_or l.items k default)

@@ -1,0 +1,23 @@
+-- A vector is a number below 2 ^ 128. Its lanes of one width are its digits to the base 2 ^ width, lane 0 the lowest
+-- (the WebAssembly core specification, section "Numerics": storage in little-endian order).
+use Rattle.std.specs.Prelude.{ℕ, zero, suc, ◌*◌, ◌/◌, ◌%◌, ◌^◌, ◌<◌, ◌≡◌, FitsSigned}
+use Rattle.std.proofs.Math.Facts.{sfits_to_z}
+use mir.Val.{Fits}
+use Rattle.wasmi_types.specs.Wrapping.{Width, bits, signed}
+
+-- lane i of the vector v
+abbrev pub lane : Width → ℕ → ℕ → ℕ
+lane w v i = v / 2 ^ (bits w * i) % 2 ^ bits w
+
+-- a lane's number as it is; `signed` reads it as a signed number
+abbrev pub unsigned : ℕ → ℕ
+unsigned n = n
+
+-- a number of w bits, read signed, is in the range of the signed type
+pub signed_fits : (w : Width) (n : ℕ) → n < 2 ^ bits w → FitsSigned w (signed w n)
+signed_fits w n below = let fits : Fits w n = record { fits = below } in sfits_to_z fits
+
+-- the steps at 0, 1 and so on, n of them, lead from `first` to `last`
+abbrev pub ReducesTo : {A : Type 0} → (ℕ → A → A → Type 0) → ℕ → A → A → Type 0
+ReducesTo Step zero first last = last ≡ first
+ReducesTo {A} Step (suc n) first last = (middle : A) × ReducesTo Step n first middle × Step n middle last

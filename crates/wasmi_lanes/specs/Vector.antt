@@ -1,0 +1,34 @@
+-- Vectors by their lanes, in the terms of the WebAssembly core specification (section "Numerics", "Vector Operations").
+-- Everywhere `read` is how a lane's number is read, as it is or signed, and `row` is the number of the resulting lane.
+use Rattle.std.specs.Prelude.{ℕ, zero, suc, ◌+◌, ◌-◌, ◌*◌, ◌/◌, ◌%◌, ◌^◌, Bool, if◌then◌else◌, ◌==◌}
+use Rattle.wasmi_types.specs.Wrapping.{Width, bits}
+use Rattle.wasmi_lanes.specs.Lane.{lane}
+
+-- the number whose first n lanes are f 0, f 1 and so on, and whose others are 0
+unfoldable pub first_lanes : Width → ℕ → (ℕ → ℕ) → ℕ
+first_lanes w zero f = 0
+first_lanes w (suc n) f = first_lanes w n f + f n % 2 ^ bits w * 2 ^ (bits w * n)
+
+-- the vector whose lane i is f i
+abbrev pub from_lanes : Width → (ℕ → ℕ) → ℕ
+from_lanes w f = first_lanes w (128 / bits w) f
+
+-- the vector whose lane i is the row of the operands' lanes i
+unfoldable pub lanewise_unary : {A : Type 0} → (w : Width) → (ℕ → A) → (A → ℕ) → ℕ → ℕ
+lanewise_unary w read row a = from_lanes w (λ i. row (read (lane w a i)))
+
+unfoldable pub lanewise_binary : {A : Type 0} → (w : Width) → (ℕ → A) → (A → A → ℕ) → ℕ → ℕ → ℕ
+lanewise_binary w read row a b = from_lanes w (λ i. row (read (lane w a i)) (read (lane w b i)))
+
+-- all ones where the test of the operands' lanes i holds, else all zeros
+unfoldable pub lanewise_comparison : {A : Type 0} → (w : Width) → (ℕ → A) → (A → A → Bool) → ℕ → ℕ → ℕ
+lanewise_comparison w read test a b =
+    from_lanes w (λ i. if test (read (lane w a i)) (read (lane w b i)) then 2 ^ bits w - 1 else 0)
+
+-- n in each lane
+unfoldable pub splat_of : Width → ℕ → ℕ
+splat_of w n = from_lanes w (λ _. n)
+
+-- v with n in lane k
+unfoldable pub replaced : Width → ℕ → ℕ → ℕ → ℕ
+replaced w v k n = from_lanes w (λ i. if i == k then n else lane w v i)

@@ -1,0 +1,10 @@
+use Rattle.std.specs.Prelude.{bit_and}
+use Rattle.std.proofs.lemmas.Nat.{and_shr, and_mod}
+use Rattle.wasmi_lanewise.proofs.Words.{on_words}
+use Rattle.wasmi_lanewise.proofs.simd.bitwise.v128_and.Goals as goal
+
+pub returns : goal.returns
+returns c =
+    let a = c.words-a_low.ensures in
+    let b = c.words-b_low.ensures in
+    on_words bit_and and_shr and_mod c.args.lhs c.args.rhs _ _ _ _ c.from_words.result a.low a.high b.low b.high c.from_words.ensures

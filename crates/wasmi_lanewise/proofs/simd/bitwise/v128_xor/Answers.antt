@@ -1,0 +1,10 @@
+use Rattle.std.specs.Prelude.{bit_xor}
+use Rattle.std.proofs.lemmas.Nat.{xor_shr, xor_mod}
+use Rattle.wasmi_lanewise.proofs.Words.{on_words}
+use Rattle.wasmi_lanewise.proofs.simd.bitwise.v128_xor.Goals as goal
+
+pub returns : goal.returns
+returns c =
+    let a = c.words-a_low.ensures in
+    let b = c.words-b_low.ensures in
+    on_words bit_xor xor_shr xor_mod c.args.lhs c.args.rhs _ _ _ _ c.from_words.result a.low a.high b.low b.high c.from_words.ensures

@@ -1,0 +1,4 @@
+//! The vector instructions of WebAssembly that work lane by lane.
+#![tactic(auto)]
+
+pub mod simd;

@@ -1,0 +1,320 @@
+// Binary instructions.
+
+ghost use Rattle.std.specs.Prelude.{◌≡◌, pos, negsuc, true, int_le};
+ghost use Rattle.wasmi_types.specs.Wrapping.{w8, w16, w32, w64, clamp_signed};
+ghost use Rattle.wasmi_lanewise.specs.VectorTable as vector;
+
+use wasmi_lanes::lanewise::lanewise_binary;
+use wasmi_lanes::{I8x16, I16x8, I32x4, U8x16, U16x8, U32x4, U64x2};
+use wasmi_raw::V128;
+
+/// The sums of the lanes, modulo 2 to the power 8.
+#[inline]
+pub fn i8x16_add(lhs: V128, rhs: V128) -> V128
+    ensures { result ≡ vector.add w8 lhs rhs }
+{
+    lanewise_binary::<U8x16, _>(lhs, rhs, |x, y| x.wrapping_add(y))
+}
+
+/// The sums of the lanes, modulo 2 to the power 16.
+#[inline]
+pub fn i16x8_add(lhs: V128, rhs: V128) -> V128
+    ensures { result ≡ vector.add w16 lhs rhs }
+{
+    lanewise_binary::<U16x8, _>(lhs, rhs, |x, y| x.wrapping_add(y))
+}
+
+/// The sums of the lanes, modulo 2 to the power 32.
+#[inline]
+pub fn i32x4_add(lhs: V128, rhs: V128) -> V128
+    ensures { result ≡ vector.add w32 lhs rhs }
+{
+    lanewise_binary::<U32x4, _>(lhs, rhs, |x, y| x.wrapping_add(y))
+}
+
+/// The sums of the lanes, modulo 2 to the power 64.
+#[inline]
+pub fn i64x2_add(lhs: V128, rhs: V128) -> V128
+    ensures { result ≡ vector.add w64 lhs rhs }
+{
+    lanewise_binary::<U64x2, _>(lhs, rhs, |x, y| x.wrapping_add(y))
+}
+
+/// The differences of the lanes, modulo 2 to the power 8.
+#[inline]
+pub fn i8x16_sub(lhs: V128, rhs: V128) -> V128
+    ensures { result ≡ vector.sub w8 lhs rhs }
+{
+    lanewise_binary::<U8x16, _>(lhs, rhs, |x, y| x.wrapping_sub(y))
+}
+
+/// The differences of the lanes, modulo 2 to the power 16.
+#[inline]
+pub fn i16x8_sub(lhs: V128, rhs: V128) -> V128
+    ensures { result ≡ vector.sub w16 lhs rhs }
+{
+    lanewise_binary::<U16x8, _>(lhs, rhs, |x, y| x.wrapping_sub(y))
+}
+
+/// The differences of the lanes, modulo 2 to the power 32.
+#[inline]
+pub fn i32x4_sub(lhs: V128, rhs: V128) -> V128
+    ensures { result ≡ vector.sub w32 lhs rhs }
+{
+    lanewise_binary::<U32x4, _>(lhs, rhs, |x, y| x.wrapping_sub(y))
+}
+
+/// The differences of the lanes, modulo 2 to the power 64.
+#[inline]
+pub fn i64x2_sub(lhs: V128, rhs: V128) -> V128
+    ensures { result ≡ vector.sub w64 lhs rhs }
+{
+    lanewise_binary::<U64x2, _>(lhs, rhs, |x, y| x.wrapping_sub(y))
+}
+
+/// The products of the lanes, modulo 2 to the power 8.
+#[inline]
+pub fn i8x16_mul(lhs: V128, rhs: V128) -> V128
+    ensures { result ≡ vector.mul w8 lhs rhs }
+{
+    lanewise_binary::<U8x16, _>(lhs, rhs, |x, y| x.wrapping_mul(y))
+}
+
+/// The products of the lanes, modulo 2 to the power 16.
+#[inline]
+pub fn i16x8_mul(lhs: V128, rhs: V128) -> V128
+    ensures { result ≡ vector.mul w16 lhs rhs }
+{
+    lanewise_binary::<U16x8, _>(lhs, rhs, |x, y| x.wrapping_mul(y))
+}
+
+/// The products of the lanes, modulo 2 to the power 32.
+#[inline]
+pub fn i32x4_mul(lhs: V128, rhs: V128) -> V128
+    ensures { result ≡ vector.mul w32 lhs rhs }
+{
+    lanewise_binary::<U32x4, _>(lhs, rhs, |x, y| x.wrapping_mul(y))
+}
+
+/// The products of the lanes, modulo 2 to the power 64.
+#[inline]
+pub fn i64x2_mul(lhs: V128, rhs: V128) -> V128
+    ensures { result ≡ vector.mul w64 lhs rhs }
+{
+    lanewise_binary::<U64x2, _>(lhs, rhs, |x, y| x.wrapping_mul(y))
+}
+
+/// The sums of the lanes, read signed and clamped to the signed range of 8 bits.
+#[inline]
+pub fn i8x16_add_sat_s(lhs: V128, rhs: V128) -> V128
+    ensures { result ≡ vector.add_sat_s w8 lhs rhs }
+{
+    lanewise_binary::<I8x16, _>(lhs, rhs, |x, y| x.saturating_add(y))
+}
+
+/// The sums of the lanes, read unsigned and clamped to the unsigned range of 8 bits.
+#[inline]
+pub fn i8x16_add_sat_u(lhs: V128, rhs: V128) -> V128
+    ensures { result ≡ vector.add_sat_u w8 lhs rhs }
+{
+    lanewise_binary::<U8x16, _>(lhs, rhs, |x, y| x.saturating_add(y))
+}
+
+/// The sums of the lanes, read signed and clamped to the signed range of 16 bits.
+#[inline]
+pub fn i16x8_add_sat_s(lhs: V128, rhs: V128) -> V128
+    ensures { result ≡ vector.add_sat_s w16 lhs rhs }
+{
+    lanewise_binary::<I16x8, _>(lhs, rhs, |x, y| x.saturating_add(y))
+}
+
+/// The sums of the lanes, read unsigned and clamped to the unsigned range of 16 bits.
+#[inline]
+pub fn i16x8_add_sat_u(lhs: V128, rhs: V128) -> V128
+    ensures { result ≡ vector.add_sat_u w16 lhs rhs }
+{
+    lanewise_binary::<U16x8, _>(lhs, rhs, |x, y| x.saturating_add(y))
+}
+
+/// The differences of the lanes, read signed and clamped to the signed range of 8 bits.
+#[inline]
+pub fn i8x16_sub_sat_s(lhs: V128, rhs: V128) -> V128
+    ensures { result ≡ vector.sub_sat_s w8 lhs rhs }
+{
+    lanewise_binary::<I8x16, _>(lhs, rhs, |x, y| x.saturating_sub(y))
+}
+
+/// The differences of the lanes, read unsigned and clamped to the unsigned range of 8 bits.
+#[inline]
+pub fn i8x16_sub_sat_u(lhs: V128, rhs: V128) -> V128
+    ensures { result ≡ vector.sub_sat_u w8 lhs rhs }
+{
+    lanewise_binary::<U8x16, _>(lhs, rhs, |x, y| x.saturating_sub(y))
+}
+
+/// The differences of the lanes, read signed and clamped to the signed range of 16 bits.
+#[inline]
+pub fn i16x8_sub_sat_s(lhs: V128, rhs: V128) -> V128
+    ensures { result ≡ vector.sub_sat_s w16 lhs rhs }
+{
+    lanewise_binary::<I16x8, _>(lhs, rhs, |x, y| x.saturating_sub(y))
+}
+
+/// The differences of the lanes, read unsigned and clamped to the unsigned range of 16 bits.
+#[inline]
+pub fn i16x8_sub_sat_u(lhs: V128, rhs: V128) -> V128
+    ensures { result ≡ vector.sub_sat_u w16 lhs rhs }
+{
+    lanewise_binary::<U16x8, _>(lhs, rhs, |x, y| x.saturating_sub(y))
+}
+
+/// The products of the lanes, read as signed fractions of 2 to the power 15, rounded and clamped to the signed range.
+#[inline]
+pub fn i16x8_q15mulr_sat_s(lhs: V128, rhs: V128) -> V128
+    ensures { result ≡ vector.q15mulr_sat_s lhs rhs }
+{
+    lanewise_binary::<I16x8, _>(lhs, rhs, |x, y| q15mulr_sat_s(x, y))
+}
+
+/// The smaller ones of the lanes, read signed.
+#[inline]
+pub fn i8x16_min_s(lhs: V128, rhs: V128) -> V128
+    ensures { result ≡ vector.min_s w8 lhs rhs }
+{
+    lanewise_binary::<I8x16, _>(lhs, rhs, |x, y| x.min(y))
+}
+
+/// The smaller ones of the lanes, read unsigned.
+#[inline]
+pub fn i8x16_min_u(lhs: V128, rhs: V128) -> V128
+    ensures { result ≡ vector.min_u w8 lhs rhs }
+{
+    lanewise_binary::<U8x16, _>(lhs, rhs, |x, y| x.min(y))
+}
+
+/// The smaller ones of the lanes, read signed.
+#[inline]
+pub fn i16x8_min_s(lhs: V128, rhs: V128) -> V128
+    ensures { result ≡ vector.min_s w16 lhs rhs }
+{
+    lanewise_binary::<I16x8, _>(lhs, rhs, |x, y| x.min(y))
+}
+
+/// The smaller ones of the lanes, read unsigned.
+#[inline]
+pub fn i16x8_min_u(lhs: V128, rhs: V128) -> V128
+    ensures { result ≡ vector.min_u w16 lhs rhs }
+{
+    lanewise_binary::<U16x8, _>(lhs, rhs, |x, y| x.min(y))
+}
+
+/// The smaller ones of the lanes, read signed.
+#[inline]
+pub fn i32x4_min_s(lhs: V128, rhs: V128) -> V128
+    ensures { result ≡ vector.min_s w32 lhs rhs }
+{
+    lanewise_binary::<I32x4, _>(lhs, rhs, |x, y| x.min(y))
+}
+
+/// The smaller ones of the lanes, read unsigned.
+#[inline]
+pub fn i32x4_min_u(lhs: V128, rhs: V128) -> V128
+    ensures { result ≡ vector.min_u w32 lhs rhs }
+{
+    lanewise_binary::<U32x4, _>(lhs, rhs, |x, y| x.min(y))
+}
+
+/// The larger ones of the lanes, read signed.
+#[inline]
+pub fn i8x16_max_s(lhs: V128, rhs: V128) -> V128
+    ensures { result ≡ vector.max_s w8 lhs rhs }
+{
+    lanewise_binary::<I8x16, _>(lhs, rhs, |x, y| x.max(y))
+}
+
+/// The larger ones of the lanes, read unsigned.
+#[inline]
+pub fn i8x16_max_u(lhs: V128, rhs: V128) -> V128
+    ensures { result ≡ vector.max_u w8 lhs rhs }
+{
+    lanewise_binary::<U8x16, _>(lhs, rhs, |x, y| x.max(y))
+}
+
+/// The larger ones of the lanes, read signed.
+#[inline]
+pub fn i16x8_max_s(lhs: V128, rhs: V128) -> V128
+    ensures { result ≡ vector.max_s w16 lhs rhs }
+{
+    lanewise_binary::<I16x8, _>(lhs, rhs, |x, y| x.max(y))
+}
+
+/// The larger ones of the lanes, read unsigned.
+#[inline]
+pub fn i16x8_max_u(lhs: V128, rhs: V128) -> V128
+    ensures { result ≡ vector.max_u w16 lhs rhs }
+{
+    lanewise_binary::<U16x8, _>(lhs, rhs, |x, y| x.max(y))
+}
+
+/// The larger ones of the lanes, read signed.
+#[inline]
+pub fn i32x4_max_s(lhs: V128, rhs: V128) -> V128
+    ensures { result ≡ vector.max_s w32 lhs rhs }
+{
+    lanewise_binary::<I32x4, _>(lhs, rhs, |x, y| x.max(y))
+}
+
+/// The larger ones of the lanes, read unsigned.
+#[inline]
+pub fn i32x4_max_u(lhs: V128, rhs: V128) -> V128
+    ensures { result ≡ vector.max_u w32 lhs rhs }
+{
+    lanewise_binary::<U32x4, _>(lhs, rhs, |x, y| x.max(y))
+}
+
+/// The averages of the lanes, read unsigned, halves rounded up.
+#[inline]
+pub fn i8x16_avgr_u(lhs: V128, rhs: V128) -> V128
+    ensures { result ≡ vector.avgr_u w8 lhs rhs }
+{
+    lanewise_binary::<U8x16, _>(lhs, rhs, |x, y| average_u8(x, y))
+}
+
+/// The averages of the lanes, read unsigned, halves rounded up.
+#[inline]
+pub fn i16x8_avgr_u(lhs: V128, rhs: V128) -> V128
+    ensures { result ≡ vector.avgr_u w16 lhs rhs }
+{
+    lanewise_binary::<U16x8, _>(lhs, rhs, |x, y| average_u16(x, y))
+}
+
+#[inline]
+fn average_u8(x: u8, y: u8) -> u8
+    ensures { result ≡ vector.average x y }
+{
+    ((u16::from(x) + u16::from(y) + 1) / 2) as u8
+}
+
+#[inline]
+fn average_u16(x: u16, y: u16) -> u16
+    ensures { result ≡ vector.average x y }
+{
+    ((u32::from(x) + u32::from(y) + 1) / 2) as u16
+}
+
+// The product of two fractions of 2 to the power 15, halves rounded up, clamped to the signed range.
+#[inline]
+fn q15mulr_sat_s(x: i16, y: i16) -> i16
+    ensures { result ≡ clamp_signed w16 (vector.q15mulr x y) }
+{
+    rounded_product(x, y).min(0x7fff) as i16
+}
+
+#[inline]
+fn rounded_product(x: i16, y: i16) -> i32
+    ensures value { result ≡ vector.q15mulr x y }
+    ensures at_least { int_le (negsuc 32767) result ≡ true }
+    ensures at_most { int_le result (pos 32768) ≡ true }
+{
+    (i32::from(x) * i32::from(y) + 0x4000) >> 15
+}

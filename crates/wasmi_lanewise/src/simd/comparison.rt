@@ -1,0 +1,297 @@
+// Comparisons.
+
+ghost use Rattle.std.specs.Prelude.{◌≡◌};
+ghost use Rattle.wasmi_types.specs.Wrapping.{w8, w16, w32, w64};
+ghost use Rattle.wasmi_lanewise.specs.VectorTable as vector;
+
+use wasmi_lanes::lanewise::lanewise_comparison;
+use wasmi_lanes::{I8x16, I16x8, I32x4, I64x2, U8x16, U16x8, U32x4, U64x2};
+use wasmi_raw::V128;
+
+/// All ones in the lanes that are equal, else all zeros.
+#[inline]
+pub fn i8x16_eq(lhs: V128, rhs: V128) -> V128
+    ensures { result ≡ vector.eq w8 lhs rhs }
+{
+    lanewise_comparison::<U8x16, _>(lhs, rhs, |x, y| x == y)
+}
+
+/// All ones in the lanes that are equal, else all zeros.
+#[inline]
+pub fn i16x8_eq(lhs: V128, rhs: V128) -> V128
+    ensures { result ≡ vector.eq w16 lhs rhs }
+{
+    lanewise_comparison::<U16x8, _>(lhs, rhs, |x, y| x == y)
+}
+
+/// All ones in the lanes that are equal, else all zeros.
+#[inline]
+pub fn i32x4_eq(lhs: V128, rhs: V128) -> V128
+    ensures { result ≡ vector.eq w32 lhs rhs }
+{
+    lanewise_comparison::<U32x4, _>(lhs, rhs, |x, y| x == y)
+}
+
+/// All ones in the lanes that are equal, else all zeros.
+#[inline]
+pub fn i64x2_eq(lhs: V128, rhs: V128) -> V128
+    ensures { result ≡ vector.eq w64 lhs rhs }
+{
+    lanewise_comparison::<U64x2, _>(lhs, rhs, |x, y| x == y)
+}
+
+/// All ones in the lanes that are different, else all zeros.
+#[inline]
+pub fn i8x16_ne(lhs: V128, rhs: V128) -> V128
+    ensures { result ≡ vector.ne w8 lhs rhs }
+{
+    lanewise_comparison::<U8x16, _>(lhs, rhs, |x, y| x != y)
+}
+
+/// All ones in the lanes that are different, else all zeros.
+#[inline]
+pub fn i16x8_ne(lhs: V128, rhs: V128) -> V128
+    ensures { result ≡ vector.ne w16 lhs rhs }
+{
+    lanewise_comparison::<U16x8, _>(lhs, rhs, |x, y| x != y)
+}
+
+/// All ones in the lanes that are different, else all zeros.
+#[inline]
+pub fn i32x4_ne(lhs: V128, rhs: V128) -> V128
+    ensures { result ≡ vector.ne w32 lhs rhs }
+{
+    lanewise_comparison::<U32x4, _>(lhs, rhs, |x, y| x != y)
+}
+
+/// All ones in the lanes that are different, else all zeros.
+#[inline]
+pub fn i64x2_ne(lhs: V128, rhs: V128) -> V128
+    ensures { result ≡ vector.ne w64 lhs rhs }
+{
+    lanewise_comparison::<U64x2, _>(lhs, rhs, |x, y| x != y)
+}
+
+/// All ones where the lane of `lhs` is less than that of `rhs`, both read signed, else all zeros.
+#[inline]
+pub fn i8x16_lt_s(lhs: V128, rhs: V128) -> V128
+    ensures { result ≡ vector.lt_s w8 lhs rhs }
+{
+    lanewise_comparison::<I8x16, _>(lhs, rhs, |x, y| x < y)
+}
+
+/// All ones where the lane of `lhs` is less than that of `rhs`, both read signed, else all zeros.
+#[inline]
+pub fn i16x8_lt_s(lhs: V128, rhs: V128) -> V128
+    ensures { result ≡ vector.lt_s w16 lhs rhs }
+{
+    lanewise_comparison::<I16x8, _>(lhs, rhs, |x, y| x < y)
+}
+
+/// All ones where the lane of `lhs` is less than that of `rhs`, both read signed, else all zeros.
+#[inline]
+pub fn i32x4_lt_s(lhs: V128, rhs: V128) -> V128
+    ensures { result ≡ vector.lt_s w32 lhs rhs }
+{
+    lanewise_comparison::<I32x4, _>(lhs, rhs, |x, y| x < y)
+}
+
+/// All ones where the lane of `lhs` is less than that of `rhs`, both read signed, else all zeros.
+#[inline]
+pub fn i64x2_lt_s(lhs: V128, rhs: V128) -> V128
+    ensures { result ≡ vector.lt_s w64 lhs rhs }
+{
+    lanewise_comparison::<I64x2, _>(lhs, rhs, |x, y| x < y)
+}
+
+/// All ones where the lane of `lhs` is less than that of `rhs`, both read unsigned, else all zeros.
+#[inline]
+pub fn i8x16_lt_u(lhs: V128, rhs: V128) -> V128
+    ensures { result ≡ vector.lt_u w8 lhs rhs }
+{
+    lanewise_comparison::<U8x16, _>(lhs, rhs, |x, y| x < y)
+}
+
+/// All ones where the lane of `lhs` is less than that of `rhs`, both read unsigned, else all zeros.
+#[inline]
+pub fn i16x8_lt_u(lhs: V128, rhs: V128) -> V128
+    ensures { result ≡ vector.lt_u w16 lhs rhs }
+{
+    lanewise_comparison::<U16x8, _>(lhs, rhs, |x, y| x < y)
+}
+
+/// All ones where the lane of `lhs` is less than that of `rhs`, both read unsigned, else all zeros.
+#[inline]
+pub fn i32x4_lt_u(lhs: V128, rhs: V128) -> V128
+    ensures { result ≡ vector.lt_u w32 lhs rhs }
+{
+    lanewise_comparison::<U32x4, _>(lhs, rhs, |x, y| x < y)
+}
+
+/// All ones where the lane of `lhs` is at most that of `rhs`, both read signed, else all zeros.
+#[inline]
+pub fn i8x16_le_s(lhs: V128, rhs: V128) -> V128
+    ensures { result ≡ vector.le_s w8 lhs rhs }
+{
+    lanewise_comparison::<I8x16, _>(lhs, rhs, |x, y| x <= y)
+}
+
+/// All ones where the lane of `lhs` is at most that of `rhs`, both read signed, else all zeros.
+#[inline]
+pub fn i16x8_le_s(lhs: V128, rhs: V128) -> V128
+    ensures { result ≡ vector.le_s w16 lhs rhs }
+{
+    lanewise_comparison::<I16x8, _>(lhs, rhs, |x, y| x <= y)
+}
+
+/// All ones where the lane of `lhs` is at most that of `rhs`, both read signed, else all zeros.
+#[inline]
+pub fn i32x4_le_s(lhs: V128, rhs: V128) -> V128
+    ensures { result ≡ vector.le_s w32 lhs rhs }
+{
+    lanewise_comparison::<I32x4, _>(lhs, rhs, |x, y| x <= y)
+}
+
+/// All ones where the lane of `lhs` is at most that of `rhs`, both read signed, else all zeros.
+#[inline]
+pub fn i64x2_le_s(lhs: V128, rhs: V128) -> V128
+    ensures { result ≡ vector.le_s w64 lhs rhs }
+{
+    lanewise_comparison::<I64x2, _>(lhs, rhs, |x, y| x <= y)
+}
+
+/// All ones where the lane of `lhs` is at most that of `rhs`, both read unsigned, else all zeros.
+#[inline]
+pub fn i8x16_le_u(lhs: V128, rhs: V128) -> V128
+    ensures { result ≡ vector.le_u w8 lhs rhs }
+{
+    lanewise_comparison::<U8x16, _>(lhs, rhs, |x, y| x <= y)
+}
+
+/// All ones where the lane of `lhs` is at most that of `rhs`, both read unsigned, else all zeros.
+#[inline]
+pub fn i16x8_le_u(lhs: V128, rhs: V128) -> V128
+    ensures { result ≡ vector.le_u w16 lhs rhs }
+{
+    lanewise_comparison::<U16x8, _>(lhs, rhs, |x, y| x <= y)
+}
+
+/// All ones where the lane of `lhs` is at most that of `rhs`, both read unsigned, else all zeros.
+#[inline]
+pub fn i32x4_le_u(lhs: V128, rhs: V128) -> V128
+    ensures { result ≡ vector.le_u w32 lhs rhs }
+{
+    lanewise_comparison::<U32x4, _>(lhs, rhs, |x, y| x <= y)
+}
+
+/// All ones where the lane of `lhs` is greater than that of `rhs`, both read signed, else all zeros.
+#[inline]
+pub fn i8x16_gt_s(lhs: V128, rhs: V128) -> V128
+    ensures { result ≡ vector.gt_s w8 lhs rhs }
+{
+    lanewise_comparison::<I8x16, _>(lhs, rhs, |x, y| x > y)
+}
+
+/// All ones where the lane of `lhs` is greater than that of `rhs`, both read signed, else all zeros.
+#[inline]
+pub fn i16x8_gt_s(lhs: V128, rhs: V128) -> V128
+    ensures { result ≡ vector.gt_s w16 lhs rhs }
+{
+    lanewise_comparison::<I16x8, _>(lhs, rhs, |x, y| x > y)
+}
+
+/// All ones where the lane of `lhs` is greater than that of `rhs`, both read signed, else all zeros.
+#[inline]
+pub fn i32x4_gt_s(lhs: V128, rhs: V128) -> V128
+    ensures { result ≡ vector.gt_s w32 lhs rhs }
+{
+    lanewise_comparison::<I32x4, _>(lhs, rhs, |x, y| x > y)
+}
+
+/// All ones where the lane of `lhs` is greater than that of `rhs`, both read signed, else all zeros.
+#[inline]
+pub fn i64x2_gt_s(lhs: V128, rhs: V128) -> V128
+    ensures { result ≡ vector.gt_s w64 lhs rhs }
+{
+    lanewise_comparison::<I64x2, _>(lhs, rhs, |x, y| x > y)
+}
+
+/// All ones where the lane of `lhs` is greater than that of `rhs`, both read unsigned, else all zeros.
+#[inline]
+pub fn i8x16_gt_u(lhs: V128, rhs: V128) -> V128
+    ensures { result ≡ vector.gt_u w8 lhs rhs }
+{
+    lanewise_comparison::<U8x16, _>(lhs, rhs, |x, y| x > y)
+}
+
+/// All ones where the lane of `lhs` is greater than that of `rhs`, both read unsigned, else all zeros.
+#[inline]
+pub fn i16x8_gt_u(lhs: V128, rhs: V128) -> V128
+    ensures { result ≡ vector.gt_u w16 lhs rhs }
+{
+    lanewise_comparison::<U16x8, _>(lhs, rhs, |x, y| x > y)
+}
+
+/// All ones where the lane of `lhs` is greater than that of `rhs`, both read unsigned, else all zeros.
+#[inline]
+pub fn i32x4_gt_u(lhs: V128, rhs: V128) -> V128
+    ensures { result ≡ vector.gt_u w32 lhs rhs }
+{
+    lanewise_comparison::<U32x4, _>(lhs, rhs, |x, y| x > y)
+}
+
+/// All ones where the lane of `lhs` is at least that of `rhs`, both read signed, else all zeros.
+#[inline]
+pub fn i8x16_ge_s(lhs: V128, rhs: V128) -> V128
+    ensures { result ≡ vector.ge_s w8 lhs rhs }
+{
+    lanewise_comparison::<I8x16, _>(lhs, rhs, |x, y| x >= y)
+}
+
+/// All ones where the lane of `lhs` is at least that of `rhs`, both read signed, else all zeros.
+#[inline]
+pub fn i16x8_ge_s(lhs: V128, rhs: V128) -> V128
+    ensures { result ≡ vector.ge_s w16 lhs rhs }
+{
+    lanewise_comparison::<I16x8, _>(lhs, rhs, |x, y| x >= y)
+}
+
+/// All ones where the lane of `lhs` is at least that of `rhs`, both read signed, else all zeros.
+#[inline]
+pub fn i32x4_ge_s(lhs: V128, rhs: V128) -> V128
+    ensures { result ≡ vector.ge_s w32 lhs rhs }
+{
+    lanewise_comparison::<I32x4, _>(lhs, rhs, |x, y| x >= y)
+}
+
+/// All ones where the lane of `lhs` is at least that of `rhs`, both read signed, else all zeros.
+#[inline]
+pub fn i64x2_ge_s(lhs: V128, rhs: V128) -> V128
+    ensures { result ≡ vector.ge_s w64 lhs rhs }
+{
+    lanewise_comparison::<I64x2, _>(lhs, rhs, |x, y| x >= y)
+}
+
+/// All ones where the lane of `lhs` is at least that of `rhs`, both read unsigned, else all zeros.
+#[inline]
+pub fn i8x16_ge_u(lhs: V128, rhs: V128) -> V128
+    ensures { result ≡ vector.ge_u w8 lhs rhs }
+{
+    lanewise_comparison::<U8x16, _>(lhs, rhs, |x, y| x >= y)
+}
+
+/// All ones where the lane of `lhs` is at least that of `rhs`, both read unsigned, else all zeros.
+#[inline]
+pub fn i16x8_ge_u(lhs: V128, rhs: V128) -> V128
+    ensures { result ≡ vector.ge_u w16 lhs rhs }
+{
+    lanewise_comparison::<U16x8, _>(lhs, rhs, |x, y| x >= y)
+}
+
+/// All ones where the lane of `lhs` is at least that of `rhs`, both read unsigned, else all zeros.
+#[inline]
+pub fn i32x4_ge_u(lhs: V128, rhs: V128) -> V128
+    ensures { result ≡ vector.ge_u w32 lhs rhs }
+{
+    lanewise_comparison::<U32x4, _>(lhs, rhs, |x, y| x >= y)
+}
