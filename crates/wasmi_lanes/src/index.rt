@@ -6,7 +6,7 @@ ghost use Rattle.std.specs.Result.{OkIff};
 use std::marker::Model;
 
 /// A number that is no index of a lane.
-#[derive(Debug, PartialEq, Eq)]
+#[derive(Debug, PartialEq, Eq, Drop)]
 pub struct OutOfBoundsLaneIdx;
 
 /// The index of one of `N` lanes, from 0 to `N - 1`, lane 0 the lowest. Contracts see the number.
