@@ -15,6 +15,24 @@ const ONES: [u8; 16] = [255; 16];
 
 const NONE: [u8; 16] = [7; 16];
 
+/// Compares answers with what they have to be. The comparison is proved here once, and not in each test.
+fn expect_rows<T>(rt: &impl Abort, rows: &[(T, T)])
+where
+    T: PartialEq + Debug,
+{
+    for (answer, expected) in rows {
+        assert_eq!(rt; answer, expected);
+    }
+}
+
+/// Compares an answer with what it has to be. The comparison is proved here once, and not in each test.
+fn expect<T>(rt: &impl Abort, answer: T, expected: T)
+where
+    T: PartialEq + Debug + Drop,
+{
+    assert_eq!(rt; answer, expected);
+}
+
 // Each load of 16 bytes 255: at the last address that fits, one past it, and at sums of 2 to the power 64 or more.
 
 #[test]
@@ -36,9 +54,7 @@ fn i32_loads_of_8_bits(rt: HostRuntime) {
         (i32_load8_u_at(&memory, 16), Err(REFUSED)),
         (i32_load8_u_at(&memory, usize::MAX), Err(REFUSED)),
     ];
-    for (answer, expected) in rows {
-        assert_eq!(rt; answer, expected);
-    }
+    expect_rows(&rt, &rows);
 }
 
 #[test]
@@ -60,9 +76,7 @@ fn i32_loads_of_16_bits(rt: HostRuntime) {
         (i32_load16_u_at(&memory, 15), Err(REFUSED)),
         (i32_load16_u_at(&memory, usize::MAX), Err(REFUSED)),
     ];
-    for (answer, expected) in rows {
-        assert_eq!(rt; answer, expected);
-    }
+    expect_rows(&rt, &rows);
 }
 
 #[test]
@@ -84,9 +98,7 @@ fn i64_loads_of_8_bits(rt: HostRuntime) {
         (i64_load8_u_at(&memory, 16), Err(REFUSED)),
         (i64_load8_u_at(&memory, usize::MAX), Err(REFUSED)),
     ];
-    for (answer, expected) in rows {
-        assert_eq!(rt; answer, expected);
-    }
+    expect_rows(&rt, &rows);
 }
 
 #[test]
@@ -108,9 +120,7 @@ fn i64_loads_of_16_bits(rt: HostRuntime) {
         (i64_load16_u_at(&memory, 15), Err(REFUSED)),
         (i64_load16_u_at(&memory, usize::MAX), Err(REFUSED)),
     ];
-    for (answer, expected) in rows {
-        assert_eq!(rt; answer, expected);
-    }
+    expect_rows(&rt, &rows);
 }
 
 #[test]
@@ -132,9 +142,7 @@ fn i64_loads_of_32_bits(rt: HostRuntime) {
         (i64_load32_u_at(&memory, 13), Err(REFUSED)),
         (i64_load32_u_at(&memory, usize::MAX), Err(REFUSED)),
     ];
-    for (answer, expected) in rows {
-        assert_eq!(rt; answer, expected);
-    }
+    expect_rows(&rt, &rows);
 }
 
 #[test]
@@ -149,9 +157,7 @@ fn whole_loads(rt: HostRuntime) {
         (load_u32_at(&memory, 13), Err(REFUSED)),
         (load_u32_at(&memory, usize::MAX), Err(REFUSED)),
     ];
-    for (answer, expected) in rows {
-        assert_eq!(rt; answer, expected);
-    }
+    expect_rows(&rt, &rows);
     let rows = [
         (load_u64(&memory, 8, 0), Ok(18446744073709551615)),
         (load_u64(&memory, 8, 1), Err(REFUSED)),
@@ -161,9 +167,7 @@ fn whole_loads(rt: HostRuntime) {
         (load_u64_at(&memory, 9), Err(REFUSED)),
         (load_u64_at(&memory, usize::MAX), Err(REFUSED)),
     ];
-    for (answer, expected) in rows {
-        assert_eq!(rt; answer, expected);
-    }
+    expect_rows(&rt, &rows);
 }
 
 // Each store to 16 bytes 7, at the same places.
@@ -178,17 +182,18 @@ fn i32_store8_at_the_edges(rt: HostRuntime) {
         i32_store8_at(&mut memory, 16, 0x0403_0201),
         i32_store8_at(&mut memory, usize::MAX, 0x0403_0201),
     ];
-    assert_eq!(rt; refused, [Err(REFUSED); 5]);
-    assert_eq!(rt; memory, NONE);
+    expect(&rt, refused, [Err(REFUSED); 5]);
+    expect(&rt, memory, NONE);
     let mut other = NONE;
     let accepted = [
         i32_store8(&mut memory, 15, 0, 0x0403_0201),
         i32_store8_at(&mut other, 15, 0x0403_0201),
     ];
-    assert_eq!(rt; accepted, [Ok(()); 2]);
-    assert_eq!(rt;
+    expect(&rt, accepted, [Ok(()); 2]);
+    expect(
+        &rt,
         [memory, other],
-        [[7, 7, 7, 7, 7, 7, 7, 7, 7, 7, 7, 7, 7, 7, 7, 1]; 2]
+        [[7, 7, 7, 7, 7, 7, 7, 7, 7, 7, 7, 7, 7, 7, 7, 1]; 2],
     );
 }
 
@@ -202,17 +207,18 @@ fn i32_store16_at_the_edges(rt: HostRuntime) {
         i32_store16_at(&mut memory, 15, 0x0403_0201),
         i32_store16_at(&mut memory, usize::MAX, 0x0403_0201),
     ];
-    assert_eq!(rt; refused, [Err(REFUSED); 5]);
-    assert_eq!(rt; memory, NONE);
+    expect(&rt, refused, [Err(REFUSED); 5]);
+    expect(&rt, memory, NONE);
     let mut other = NONE;
     let accepted = [
         i32_store16(&mut memory, 14, 0, 0x0403_0201),
         i32_store16_at(&mut other, 14, 0x0403_0201),
     ];
-    assert_eq!(rt; accepted, [Ok(()); 2]);
-    assert_eq!(rt;
+    expect(&rt, accepted, [Ok(()); 2]);
+    expect(
+        &rt,
         [memory, other],
-        [[7, 7, 7, 7, 7, 7, 7, 7, 7, 7, 7, 7, 7, 7, 1, 2]; 2]
+        [[7, 7, 7, 7, 7, 7, 7, 7, 7, 7, 7, 7, 7, 7, 1, 2]; 2],
     );
 }
 
@@ -226,17 +232,18 @@ fn i64_store8_at_the_edges(rt: HostRuntime) {
         i64_store8_at(&mut memory, 16, 0x0807_0605_0403_0201),
         i64_store8_at(&mut memory, usize::MAX, 0x0807_0605_0403_0201),
     ];
-    assert_eq!(rt; refused, [Err(REFUSED); 5]);
-    assert_eq!(rt; memory, NONE);
+    expect(&rt, refused, [Err(REFUSED); 5]);
+    expect(&rt, memory, NONE);
     let mut other = NONE;
     let accepted = [
         i64_store8(&mut memory, 15, 0, 0x0807_0605_0403_0201),
         i64_store8_at(&mut other, 15, 0x0807_0605_0403_0201),
     ];
-    assert_eq!(rt; accepted, [Ok(()); 2]);
-    assert_eq!(rt;
+    expect(&rt, accepted, [Ok(()); 2]);
+    expect(
+        &rt,
         [memory, other],
-        [[7, 7, 7, 7, 7, 7, 7, 7, 7, 7, 7, 7, 7, 7, 7, 1]; 2]
+        [[7, 7, 7, 7, 7, 7, 7, 7, 7, 7, 7, 7, 7, 7, 7, 1]; 2],
     );
 }
 
@@ -250,17 +257,18 @@ fn i64_store16_at_the_edges(rt: HostRuntime) {
         i64_store16_at(&mut memory, 15, 0x0807_0605_0403_0201),
         i64_store16_at(&mut memory, usize::MAX, 0x0807_0605_0403_0201),
     ];
-    assert_eq!(rt; refused, [Err(REFUSED); 5]);
-    assert_eq!(rt; memory, NONE);
+    expect(&rt, refused, [Err(REFUSED); 5]);
+    expect(&rt, memory, NONE);
     let mut other = NONE;
     let accepted = [
         i64_store16(&mut memory, 14, 0, 0x0807_0605_0403_0201),
         i64_store16_at(&mut other, 14, 0x0807_0605_0403_0201),
     ];
-    assert_eq!(rt; accepted, [Ok(()); 2]);
-    assert_eq!(rt;
+    expect(&rt, accepted, [Ok(()); 2]);
+    expect(
+        &rt,
         [memory, other],
-        [[7, 7, 7, 7, 7, 7, 7, 7, 7, 7, 7, 7, 7, 7, 1, 2]; 2]
+        [[7, 7, 7, 7, 7, 7, 7, 7, 7, 7, 7, 7, 7, 7, 1, 2]; 2],
     );
 }
 
@@ -274,17 +282,18 @@ fn i64_store32_at_the_edges(rt: HostRuntime) {
         i64_store32_at(&mut memory, 13, 0x0807_0605_0403_0201),
         i64_store32_at(&mut memory, usize::MAX, 0x0807_0605_0403_0201),
     ];
-    assert_eq!(rt; refused, [Err(REFUSED); 5]);
-    assert_eq!(rt; memory, NONE);
+    expect(&rt, refused, [Err(REFUSED); 5]);
+    expect(&rt, memory, NONE);
     let mut other = NONE;
     let accepted = [
         i64_store32(&mut memory, 12, 0, 0x0807_0605_0403_0201),
         i64_store32_at(&mut other, 12, 0x0807_0605_0403_0201),
     ];
-    assert_eq!(rt; accepted, [Ok(()); 2]);
-    assert_eq!(rt;
+    expect(&rt, accepted, [Ok(()); 2]);
+    expect(
+        &rt,
         [memory, other],
-        [[7, 7, 7, 7, 7, 7, 7, 7, 7, 7, 7, 7, 1, 2, 3, 4]; 2]
+        [[7, 7, 7, 7, 7, 7, 7, 7, 7, 7, 7, 7, 1, 2, 3, 4]; 2],
     );
 }
 
@@ -298,17 +307,18 @@ fn store32_at_the_edges(rt: HostRuntime) {
         store32_at(&mut memory, 13, 0x0403_0201),
         store32_at(&mut memory, usize::MAX, 0x0403_0201),
     ];
-    assert_eq!(rt; refused, [Err(REFUSED); 5]);
-    assert_eq!(rt; memory, NONE);
+    expect(&rt, refused, [Err(REFUSED); 5]);
+    expect(&rt, memory, NONE);
     let mut other = NONE;
     let accepted = [
         store32(&mut memory, 12, 0, 0x0403_0201),
         store32_at(&mut other, 12, 0x0403_0201),
     ];
-    assert_eq!(rt; accepted, [Ok(()); 2]);
-    assert_eq!(rt;
+    expect(&rt, accepted, [Ok(()); 2]);
+    expect(
+        &rt,
         [memory, other],
-        [[7, 7, 7, 7, 7, 7, 7, 7, 7, 7, 7, 7, 1, 2, 3, 4]; 2]
+        [[7, 7, 7, 7, 7, 7, 7, 7, 7, 7, 7, 7, 1, 2, 3, 4]; 2],
     );
 }
 
@@ -322,30 +332,35 @@ fn store64_at_the_edges(rt: HostRuntime) {
         store64_at(&mut memory, 9, 0x0807_0605_0403_0201),
         store64_at(&mut memory, usize::MAX, 0x0807_0605_0403_0201),
     ];
-    assert_eq!(rt; refused, [Err(REFUSED); 5]);
-    assert_eq!(rt; memory, NONE);
+    expect(&rt, refused, [Err(REFUSED); 5]);
+    expect(&rt, memory, NONE);
     let mut other = NONE;
     let accepted = [
         store64(&mut memory, 8, 0, 0x0807_0605_0403_0201),
         store64_at(&mut other, 8, 0x0807_0605_0403_0201),
     ];
-    assert_eq!(rt; accepted, [Ok(()); 2]);
-    assert_eq!(rt;
+    expect(&rt, accepted, [Ok(()); 2]);
+    expect(
+        &rt,
         [memory, other],
-        [[7, 7, 7, 7, 7, 7, 7, 7, 1, 2, 3, 4, 5, 6, 7, 8]; 2]
+        [[7, 7, 7, 7, 7, 7, 7, 7, 1, 2, 3, 4, 5, 6, 7, 8]; 2],
     );
 }
 
 #[test]
 fn one_page(rt: HostRuntime) -> Result<(), Fail> {
     let mut page = vec![in rt.alloc(); 0u8; 65536]?;
-    assert_eq!(rt; load_u64(&page, 65528, 0), Ok(0));
-    assert_eq!(rt; load_u64(&page, 65529, 0), Err(REFUSED));
-    assert_eq!(rt; load_u64(&page, u64::MAX, 1), Err(REFUSED));
-    assert_eq!(rt; i32_store8(&mut page, 0, 0, 300), Ok(()));
-    assert_eq!(rt; i32_load8_u(&page, 0, 0), Ok(44));
-    assert_eq!(rt; store32(&mut page, 4, 0, 305419896), Ok(()));
-    assert_eq!(rt; page.get(4..8), Some([0x78, 0x56, 0x34, 0x12].as_slice()));
+    expect(&rt, load_u64(&page, 65528, 0), Ok(0));
+    expect(&rt, load_u64(&page, 65529, 0), Err(REFUSED));
+    expect(&rt, load_u64(&page, u64::MAX, 1), Err(REFUSED));
+    expect(&rt, i32_store8(&mut page, 0, 0, 300), Ok(()));
+    expect(&rt, i32_load8_u(&page, 0, 0), Ok(44));
+    expect(&rt, store32(&mut page, 4, 0, 305419896), Ok(()));
+    expect(
+        &rt,
+        page.get(4..8),
+        Some([0x78, 0x56, 0x34, 0x12].as_slice()),
+    );
     Ok(())
 }
 
@@ -407,25 +422,37 @@ fn wrapped_and_extended(rt: HostRuntime) {
 #[test]
 fn stores_then_loads(rt: HostRuntime) {
     let mut memory = NONE;
-    assert_eq!(rt;
+    expect(
+        &rt,
         i32_store8_then_load(&mut memory, 0, 0, 384),
-        Ok((-128, 128))
+        Ok((-128, 128)),
     );
-    assert_eq!(rt;
+    expect(
+        &rt,
         i32_store16_then_load(&mut memory, 0, 0, -1),
-        Ok((-1, 65535))
+        Ok((-1, 65535)),
     );
-    assert_eq!(rt; i64_store8_then_load(&mut memory, 0, 0, 255), Ok((-1, 255)));
-    assert_eq!(rt; i64_store16_then_load(&mut memory, 0, 0, 65536), Ok((0, 0)));
-    assert_eq!(rt;
+    expect(
+        &rt,
+        i64_store8_then_load(&mut memory, 0, 0, 255),
+        Ok((-1, 255)),
+    );
+    expect(
+        &rt,
+        i64_store16_then_load(&mut memory, 0, 0, 65536),
+        Ok((0, 0)),
+    );
+    expect(
+        &rt,
         i64_store32_then_load(&mut memory, 0, 0, -2),
-        Ok((-2, 4294967294))
+        Ok((-2, 4294967294)),
     );
-    assert_eq!(rt; store32_then_load(&mut memory, 0, 0, 5), Ok(5));
-    assert_eq!(rt;
+    expect(&rt, store32_then_load(&mut memory, 0, 0, 5), Ok(5));
+    expect(
+        &rt,
         store64_then_load(&mut memory, 0, 0, u64::MAX),
-        Ok(u64::MAX)
+        Ok(u64::MAX),
     );
-    assert_eq!(rt; store64_then_load(&mut memory, 9, 0, 0), Err(REFUSED));
+    expect(&rt, store64_then_load(&mut memory, 9, 0, 0), Err(REFUSED));
     stored_number_is_loaded();
 }

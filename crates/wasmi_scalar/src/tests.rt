@@ -8,6 +8,24 @@ const BY_ZERO: TrapCode = TrapCode::IntegerDivisionByZero;
 
 const OVERFLOW: TrapCode = TrapCode::IntegerOverflow;
 
+/// Compares answers with what they have to be. The comparison is proved here once, and not in each test.
+fn expect_rows<T>(rt: &impl Abort, rows: &[(T, T)])
+where
+    T: PartialEq + Debug,
+{
+    for (answer, expected) in rows {
+        assert_eq!(rt; answer, expected);
+    }
+}
+
+/// Compares an answer with what it has to be. The comparison is proved here once, and not in each test.
+fn expect<T>(rt: &impl Abort, answer: T, expected: T)
+where
+    T: PartialEq + Debug + Drop,
+{
+    assert_eq!(rt; answer, expected);
+}
+
 #[test]
 fn i32_arithmetic(rt: HostRuntime) {
     let rows = [
@@ -24,9 +42,7 @@ fn i32_arithmetic(rt: HostRuntime) {
         (i32_bitxor(-1, -1), 0),
         (i32_bitxor(-2147483648, 1), -2147483647),
     ];
-    for (answer, expected) in rows {
-        assert_eq!(rt; answer, expected);
-    }
+    expect_rows(&rt, &rows);
 }
 
 #[test]
@@ -41,16 +57,12 @@ fn i32_shifts_and_rotations(rt: HostRuntime) {
         (i32_rotr(-2147483648, 33), 1073741824),
         (i32_rotr(2971, 1855346), 48676864),
     ];
-    for (answer, expected) in rows {
-        assert_eq!(rt; answer, expected);
-    }
+    expect_rows(&rt, &rows);
     let rows = [
         (i32_shr_u(4294967295, 33), 2147483647),
         (i32_shr_u(52870, 369097), 103),
     ];
-    for (answer, expected) in rows {
-        assert_eq!(rt; answer, expected);
-    }
+    expect_rows(&rt, &rows);
 }
 
 #[test]
@@ -61,18 +73,14 @@ fn i32_divisions(rt: HostRuntime) {
         (i32_rem_s(-2147483648, -1), Ok(0)),
         (i32_rem_s(1, 0), Err(BY_ZERO)),
     ];
-    for (answer, expected) in rows {
-        assert_eq!(rt; answer, expected);
-    }
+    expect_rows(&rt, &rows);
     let rows = [
         (i32_div_u(1, 0), Err(BY_ZERO)),
         (i32_div_u(4294967295, 7), Ok(613566756)),
         (i32_rem_u(1, 0), Err(BY_ZERO)),
         (i32_rem_u(4294967295, 7), Ok(3)),
     ];
-    for (answer, expected) in rows {
-        assert_eq!(rt; answer, expected);
-    }
+    expect_rows(&rt, &rows);
 }
 
 #[test]
@@ -85,13 +93,9 @@ fn i32_counts(rt: HostRuntime) {
         (i32_popcnt(0), 0),
         (i32_popcnt(-1), 32),
     ];
-    for (answer, expected) in rows {
-        assert_eq!(rt; answer, expected);
-    }
+    expect_rows(&rt, &rows);
     let rows = [(i32_eqz(0), true), (i32_eqz(-1), false)];
-    for (answer, expected) in rows {
-        assert_eq!(rt; answer, expected);
-    }
+    expect_rows(&rt, &rows);
 }
 
 #[test]
@@ -110,9 +114,7 @@ fn i32_comparisons(rt: HostRuntime) {
         (i32_ge_s(-1, -1), true),
         (i32_ge_s(-2147483648, 1), false),
     ];
-    for (answer, expected) in rows {
-        assert_eq!(rt; answer, expected);
-    }
+    expect_rows(&rt, &rows);
 }
 
 #[test]
@@ -127,9 +129,7 @@ fn i32_unsigned_comparisons(rt: HostRuntime) {
         (i32_ge_u(0, 4294967295), false),
         (i32_ge_u(7, 7), true),
     ];
-    for (answer, expected) in rows {
-        assert_eq!(rt; answer, expected);
-    }
+    expect_rows(&rt, &rows);
 }
 
 #[test]
@@ -148,9 +148,7 @@ fn i64_arithmetic(rt: HostRuntime) {
         (i64_bitxor(-1, -1), 0),
         (i64_bitxor(-9223372036854775808, 1), -9223372036854775807),
     ];
-    for (answer, expected) in rows {
-        assert_eq!(rt; answer, expected);
-    }
+    expect_rows(&rt, &rows);
 }
 
 #[test]
@@ -165,16 +163,12 @@ fn i64_shifts_and_rotations(rt: HostRuntime) {
         (i64_rotr(-9223372036854775808, 65), 4611686018427387904),
         (i64_rotr(599390628466267, 6035993), -4690730459086155200),
     ];
-    for (answer, expected) in rows {
-        assert_eq!(rt; answer, expected);
-    }
+    expect_rows(&rt, &rows);
     let rows = [
         (i64_shr_u(18446744073709551615, 65), 9223372036854775807),
         (i64_shr_u(1373066, 63500323), 0),
     ];
-    for (answer, expected) in rows {
-        assert_eq!(rt; answer, expected);
-    }
+    expect_rows(&rt, &rows);
 }
 
 #[test]
@@ -185,18 +179,14 @@ fn i64_divisions(rt: HostRuntime) {
         (i64_rem_s(-9223372036854775808, -1), Ok(0)),
         (i64_rem_s(1, 0), Err(BY_ZERO)),
     ];
-    for (answer, expected) in rows {
-        assert_eq!(rt; answer, expected);
-    }
+    expect_rows(&rt, &rows);
     let rows = [
         (i64_div_u(1, 0), Err(BY_ZERO)),
         (i64_div_u(18446744073709551615, 7), Ok(2635249153387078802)),
         (i64_rem_u(1, 0), Err(BY_ZERO)),
         (i64_rem_u(18446744073709551615, 7), Ok(1)),
     ];
-    for (answer, expected) in rows {
-        assert_eq!(rt; answer, expected);
-    }
+    expect_rows(&rt, &rows);
 }
 
 #[test]
@@ -209,13 +199,9 @@ fn i64_counts(rt: HostRuntime) {
         (i64_popcnt(0), 0),
         (i64_popcnt(-1), 64),
     ];
-    for (answer, expected) in rows {
-        assert_eq!(rt; answer, expected);
-    }
+    expect_rows(&rt, &rows);
     let rows = [(i64_eqz(0), true), (i64_eqz(-1), false)];
-    for (answer, expected) in rows {
-        assert_eq!(rt; answer, expected);
-    }
+    expect_rows(&rt, &rows);
 }
 
 #[test]
@@ -234,9 +220,7 @@ fn i64_comparisons(rt: HostRuntime) {
         (i64_ge_s(-1, -1), true),
         (i64_ge_s(-9223372036854775808, 1), false),
     ];
-    for (answer, expected) in rows {
-        assert_eq!(rt; answer, expected);
-    }
+    expect_rows(&rt, &rows);
 }
 
 #[test]
@@ -251,9 +235,7 @@ fn i64_unsigned_comparisons(rt: HostRuntime) {
         (i64_ge_u(0, 18446744073709551615), false),
         (i64_ge_u(7, 7), true),
     ];
-    for (answer, expected) in rows {
-        assert_eq!(rt; answer, expected);
-    }
+    expect_rows(&rt, &rows);
 }
 
 #[test]
@@ -266,9 +248,7 @@ fn conversions(rt: HostRuntime) {
         (i32_extend16_s(0), 0),
         (i32_extend16_s(-1), -1),
     ];
-    for (answer, expected) in rows {
-        assert_eq!(rt; answer, expected);
-    }
+    expect_rows(&rt, &rows);
     let rows = [
         (i64_extend_i32_s(0), 0),
         (i64_extend_i32_s(-1), -1),
@@ -279,16 +259,12 @@ fn conversions(rt: HostRuntime) {
         (i64_extend32_s(0), 0),
         (i64_extend32_s(-1), -1),
     ];
-    for (answer, expected) in rows {
-        assert_eq!(rt; answer, expected);
-    }
+    expect_rows(&rt, &rows);
     let rows = [
         (i64_extend_i32_u(0), 0),
         (i64_extend_i32_u(876118897), 876118897),
     ];
-    for (answer, expected) in rows {
-        assert_eq!(rt; answer, expected);
-    }
+    expect_rows(&rt, &rows);
 }
 
 #[test]
@@ -309,18 +285,16 @@ fn wide_arithmetic(rt: HostRuntime) {
             (-9223372036854775808, 0),
         ),
     ];
-    for (answer, expected) in rows {
-        assert_eq!(rt; answer, expected);
-    }
+    expect_rows(&rt, &rows);
 }
 
 #[test]
 fn worked_rows(rt: HostRuntime) {
-    assert_eq!(rt; i32_div_s(-2147483648, -1), Err(OVERFLOW));
-    assert_eq!(rt; i32_rem_s(-2147483648, -1), Ok(0));
-    assert_eq!(rt; i32_div_u(1, 0), Err(BY_ZERO));
-    assert_eq!(rt; i64_mul_wide_u(-1, -1), (1, -2));
-    assert_eq!(rt; i64_add128(-1, 0, 1, 0), (0, 1));
+    expect(&rt, i32_div_s(-2147483648, -1), Err(OVERFLOW));
+    expect(&rt, i32_rem_s(-2147483648, -1), Ok(0));
+    expect(&rt, i32_div_u(1, 0), Err(BY_ZERO));
+    expect(&rt, i64_mul_wide_u(-1, -1), (1, -2));
+    expect(&rt, i64_add128(-1, 0, 1, 0), (0, 1));
 }
 
 // The trait's calls through its bound.
