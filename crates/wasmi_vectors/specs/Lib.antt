@@ -1,3 +1,5 @@
+pub mod Answers
+pub mod Operands
 pub mod Statuses
 pub mod Tallies
 pub mod Verdicts

@@ -4,6 +4,7 @@ ghost use Rattle.wasmi_vectors.specs.declared.answer.Answer.TheVariants.{Number,
 
 use crate::number::number;
 use std::fmt;
+use wasmi_raw::V128;
 use wasmi_types::TrapCode;
 
 /// What an instruction answers.
@@ -11,8 +12,8 @@ use wasmi_types::TrapCode;
 pub enum Answer {
     /// A number. A truth value is 0 or 1.
     Number(i128),
-    /// The low and the high word of a number.
-    Pair(i64, i64),
+    /// The low and the high word of a number or a vector.
+    Pair(i128, i128),
     Trap(TrapCode),
 }
 
@@ -75,7 +76,18 @@ impl From<(i64, i64)> for Answer {
     ghost from_gives = { λ words answer. answer ≡ Pair words.0 words.1 };
 
     fn from((lo, hi): (i64, i64)) -> Self {
-        Answer::Pair(lo, hi)
+        Answer::Pair(lo as i128, hi as i128)
+    }
+}
+
+impl From<V128> for Answer {
+    ghost use Rattle.wasmi_vectors.specs.Answers.{vector_answer};
+
+    ghost from_gives = { λ vector answer. answer ≡ vector_answer vector };
+
+    fn from(vector: V128) -> Self {
+        let (low, high) = vector.words();
+        Answer::Pair(low as i128, high as i128)
     }
 }
 

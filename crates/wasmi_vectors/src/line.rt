@@ -2,7 +2,7 @@
 ghost use Rattle.wasmi_vectors.specs.Verdicts.{Compares};
 
 use crate::answer::Answer;
-use crate::instruction::Instruction;
+use crate::instruction;
 use std::alloc::{AllocError, Global};
 use std::str;
 
@@ -38,7 +38,7 @@ fn answers(words: &[&str]) -> Option<(Answer, Answer)> {
         return None;
     };
     let expected = Answer::written(&words[arrow + 1..])?;
-    let answer = Instruction::named(name)?.execute(operands)?;
+    let answer = instruction::answer(name, operands)?;
     Some((expected, answer))
 }
 
