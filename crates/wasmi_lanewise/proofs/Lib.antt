@@ -1,3 +1,4 @@
 pub mod Chosen
 pub mod Rounding
+pub mod SignedOrder
 pub mod Words

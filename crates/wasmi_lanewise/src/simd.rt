@@ -8,6 +8,7 @@ mod binary;
 mod bitwise;
 mod comparison;
 mod lanes;
+mod quarters;
 mod shuffle;
 mod unary;
 

@@ -30,8 +30,5 @@ pub fn vector(low: &str, high: &str) -> Option<V128>
 pub fn lane<L: TryFrom<u8, Error = OutOfBoundsLaneIdx>>(word: &str) -> Option<L>
     ensures { IfSome result (λ lane. (index : ℕ) × WritesNumber word.now index × L.try_from_gives index (Ok lane)) }
 {
-    match L::try_from(number(word)?) {
-        Ok(lane) => Some(lane),
-        Err(OutOfBoundsLaneIdx) => None,
-    }
+    L::try_from(number(word)?).ok()
 }

@@ -4,8 +4,9 @@ ghost use Rattle.std.specs.Prelude.{◌≡◌};
 ghost use Rattle.wasmi_types.specs.Wrapping.{w8, w16, w32, w64};
 ghost use Rattle.wasmi_lanewise.specs.VectorTable as vector;
 
+use crate::simd::quarters;
 use wasmi_lanes::lanewise::lanewise_comparison;
-use wasmi_lanes::{I8x16, I16x8, I32x4, I64x2, U8x16, U16x8, U32x4, U64x2};
+use wasmi_lanes::{I8x16, I16x8, I64x2, U8x16, U16x8, U32x4, U64x2};
 use wasmi_raw::V128;
 
 /// All ones in the lanes that are equal, else all zeros.
@@ -93,7 +94,7 @@ pub fn i16x8_lt_s(lhs: V128, rhs: V128) -> V128
 pub fn i32x4_lt_s(lhs: V128, rhs: V128) -> V128
     ensures { result ≡ vector.lt_s w32 lhs rhs }
 {
-    lanewise_comparison::<I32x4, _>(lhs, rhs, |x, y| x < y)
+    quarters::less(lhs, rhs)
 }
 
 /// All ones where the lane of `lhs` is less than that of `rhs`, both read signed, else all zeros.
@@ -149,7 +150,7 @@ pub fn i16x8_le_s(lhs: V128, rhs: V128) -> V128
 pub fn i32x4_le_s(lhs: V128, rhs: V128) -> V128
     ensures { result ≡ vector.le_s w32 lhs rhs }
 {
-    lanewise_comparison::<I32x4, _>(lhs, rhs, |x, y| x <= y)
+    quarters::at_most(lhs, rhs)
 }
 
 /// All ones where the lane of `lhs` is at most that of `rhs`, both read signed, else all zeros.
@@ -205,7 +206,7 @@ pub fn i16x8_gt_s(lhs: V128, rhs: V128) -> V128
 pub fn i32x4_gt_s(lhs: V128, rhs: V128) -> V128
     ensures { result ≡ vector.gt_s w32 lhs rhs }
 {
-    lanewise_comparison::<I32x4, _>(lhs, rhs, |x, y| x > y)
+    quarters::less(rhs, lhs)
 }
 
 /// All ones where the lane of `lhs` is greater than that of `rhs`, both read signed, else all zeros.
@@ -261,7 +262,7 @@ pub fn i16x8_ge_s(lhs: V128, rhs: V128) -> V128
 pub fn i32x4_ge_s(lhs: V128, rhs: V128) -> V128
     ensures { result ≡ vector.ge_s w32 lhs rhs }
 {
-    lanewise_comparison::<I32x4, _>(lhs, rhs, |x, y| x >= y)
+    quarters::at_most(rhs, lhs)
 }
 
 /// All ones where the lane of `lhs` is at least that of `rhs`, both read signed, else all zeros.
