@@ -6,7 +6,7 @@ ghost use Rattle.wasmi_lanes.specs.Lane.{lane};
 ghost use Rattle.wasmi_lanewise.specs.VectorTable as vector;
 
 use std::simd::prelude::*;
-use wasmi_lanes::LaneItem;
+use wasmi_lanes::{LaneItem, bytes_of};
 use wasmi_raw::V128;
 
 /// All ones where the lane of `lhs` is less than that of `rhs`.
@@ -30,9 +30,14 @@ pub(super) fn at_most(lhs: V128, rhs: V128) -> V128
 fn raised(v: V128) -> u32x4
     ensures lanes { (i : ℕ) → i < 4 → slice_index result i ≡ (lane w32 v i + 2 ^ 31) % 2 ^ 32 }
 {
-    let mut items = [0; 4];
-    u32::read_into(v, &mut items);
-    u32x4::from_array(items) + u32x4::splat(0x8000_0000)
+    quarters_of(v) + u32x4::splat(0x8000_0000)
+}
+
+#[inline(always)]
+fn quarters_of(v: V128) -> u32x4
+    ensures lanes { (i : ℕ) → i < 4 → slice_index result i ≡ lane w32 v i }
+{
+    u32x4::from_le_bytes(bytes_of(v))
 }
 
 #[inline(always)]
