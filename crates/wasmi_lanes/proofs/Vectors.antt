@@ -1,5 +1,5 @@
 -- A vector is made of its lanes.
-use Rattle.std.proofs.Common.{ℕ, zero, suc, ◌+◌, ◌*◌, ◌/◌, ◌%◌, ◌^◌, ◌<◌, ◌≡◌, sym, ◌∙◌, ap, arith, add_comm, subst, Bool, true, false, if◌then◌else◌}
+use Rattle.std.proofs.Common.{ℕ, zero, suc, ◌+◌, ◌*◌, ◌/◌, ◌%◌, ◌^◌, ◌<◌, ◌≡◌, sym, ◌∙◌, ap, arith, add_comm, Bool, true, false, if◌then◌else◌}
 use Rattle.std.proofs.lemmas.Nat.{pow_pos, mod-pow-add}
 use Rattle.std.proofs.Math.Nat.{mod-eq_of_lt, mod-lt, mod-one, mul-suc}
 use Rattle.wasmi_lanes.specs.Lane.{lane}
@@ -59,10 +59,3 @@ pub image_of_choice :
     → (t : Bool) → image (if t then ones else zeros) ≡ (if t then n else 0)
 image_of_choice image ones zeros n is_ones is_zeros true = is_ones
 image_of_choice image ones zeros n is_ones is_zeros false = is_zeros
-
--- the same for a choice of items, of which the chosen one fits
-pub image_of_either :
-    {A : Type 0} (image : A → ℕ) (Fits : A → Type 0) (x y z : A) (m n : ℕ) (t : Bool)
-    → z ≡ (if t then x else y) → Fits z → (Fits x → image x ≡ m) → image y ≡ n → image z ≡ (if t then m else n)
-image_of_either image Fits x y z m n true e fits is_x is_y = ap image e ∙ is_x (subst Fits e fits)
-image_of_either image Fits x y z m n false e fits is_x is_y = ap image e ∙ is_y

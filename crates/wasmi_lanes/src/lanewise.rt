@@ -1,8 +1,7 @@
 //! Lane by lane work on whole vectors: each function gives the vector of whatever row its closure computes.
 
 ghost use Rattle.std.specs.Prelude.{◌≡◌, ℕ, Bool};
-ghost use Rattle.wasmi_lanes.specs.Lane.{lane};
-ghost use Rattle.wasmi_lanes.specs.Vector.{lanewise_unary, lanewise_binary, lanewise_comparison, splat_of, replaced};
+ghost use Rattle.wasmi_lanes.specs.Vector.{lanewise_unary, lanewise_binary, lanewise_comparison, splat_of};
 
 use crate::lanes::Lanes;
 use wasmi_raw::V128;
@@ -54,21 +53,4 @@ pub fn splat<L: Lanes>(value: L::Item) -> V128
     ensures lanes { (number : ℕ) → (L.Fits value → L.image value ≡ number) → result ≡ splat_of L.width number }
 {
     L::splat(value).into_v128()
-}
-
-/// The item of one lane.
-#[inline(always)]
-pub fn extract_lane<L: Lanes>(vector: V128, at: L::LaneIdx) -> L::Item
-    ensures item { result ≡ L.read (lane L.width vector (L.index at)) }
-{
-    L::from_v128(vector).extract_lane(at)
-}
-
-/// The vector with `value` in one lane.
-#[inline(always)]
-pub fn replace_lane<L: Lanes>(vector: V128, at: L::LaneIdx, value: L::Item) -> V128
-    ensures lanes { (number : ℕ) → (L.Fits value → L.image value ≡ number)
-        → result ≡ replaced L.width vector (L.index at) number }
-{
-    L::from_v128(vector).replace_lane(at, value).into_v128()
 }

@@ -1,4 +1,5 @@
 pub mod Chosen
+pub mod OneLane
 pub mod Rounding
 pub mod SignedOrder
 pub mod Words

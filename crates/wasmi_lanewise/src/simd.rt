@@ -8,6 +8,7 @@ mod binary;
 mod bitwise;
 mod comparison;
 mod lanes;
+mod one_lane;
 mod quarters;
 mod shuffle;
 mod unary;

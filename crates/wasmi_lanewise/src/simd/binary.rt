@@ -1,6 +1,6 @@
 // Binary instructions.
 
-ghost use Rattle.std.specs.Prelude.{◌≡◌, pos, negsuc, true, int_le};
+ghost use Rattle.std.specs.Prelude.{◌≡◌, ◌*◌, ◌%◌, ◌^◌, pos, negsuc, true, int_le};
 ghost use Rattle.wasmi_types.specs.Wrapping.{w8, w16, w32, w64, clamp_signed};
 ghost use Rattle.wasmi_lanewise.specs.VectorTable as vector;
 
@@ -101,7 +101,18 @@ pub fn i32x4_mul(lhs: V128, rhs: V128) -> V128
 pub fn i64x2_mul(lhs: V128, rhs: V128) -> V128
     ensures { result ≡ vector.mul w64 lhs rhs }
 {
-    lanewise_binary::<U64x2, _>(lhs, rhs, |x, y| x.wrapping_mul(y))
+    let (a_low, a_high) = lhs.words();
+    let (b_low, b_high) = rhs.words();
+    V128::from_words(a_low.wrapping_mul(b_low), product_by_u128(a_high, b_high))
+}
+
+// The product modulo 2 to the power 64, as the high word of one of 128 bits. Beside a product of two words LLVM doesn't
+// take it for a lane of the same vector, whose product (three of `pmuludq`) is slower than two of words.
+#[inline(always)]
+fn product_by_u128(x: u64, y: u64) -> u64
+    ensures { result ≡ x * y % 2 ^ 64 }
+{
+    ((u128::from(x) << 64).wrapping_mul(u128::from(y)) >> 64) as u64
 }
 
 /// The sums of the lanes, read signed and clamped to the signed range of 8 bits.

@@ -1,8 +1,10 @@
 // Instructions that work bit by bit on whole vectors.
 
-ghost use Rattle.std.specs.Prelude.{◌≡◌};
+ghost use Rattle.std.specs.Prelude.{◌≡◌, ℕ, ◌/◌, ◌%◌, ◌^◌, [], ◌∷◌};
+ghost use Rattle.wasmi_raw.specs.Vector.{vector_of};
 ghost use Rattle.wasmi_lanewise.specs.VectorTable as vector;
 
+use std::simd::prelude::*;
 use wasmi_raw::V128;
 
 /// Bitwise and.
@@ -57,5 +59,23 @@ pub fn v128_andnot(lhs: V128, rhs: V128) -> V128
 pub fn v128_bitselect(v1: V128, v2: V128, c: V128) -> V128
     ensures { result ≡ vector.v128_bitselect v1 v2 c }
 {
-    v128_or(v128_and(v1, c), v128_andnot(v2, c))
+    let ones = words_of(c);
+    from_words((words_of(v1) & ones) | (words_of(v2) & !ones))
+}
+
+// The two words of a vector as one value of the processor's.
+#[inline(always)]
+fn words_of(vector: V128) -> u64x2
+    ensures { result ≡ vector % 2 ^ 64 ∷ vector / 2 ^ 64 ∷ [] }
+{
+    let (low, high) = vector.words();
+    u64x2::from_array([low, high])
+}
+
+#[inline(always)]
+fn from_words(words: u64x2) -> V128
+    ensures { (low high : ℕ) → words ≡ low ∷ high ∷ [] → result ≡ vector_of low high }
+{
+    let [low, high] = words.to_array();
+    V128::from_words(low, high)
 }

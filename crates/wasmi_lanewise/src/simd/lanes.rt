@@ -4,9 +4,13 @@ ghost use Rattle.std.specs.Prelude.{◌≡◌};
 ghost use Rattle.wasmi_types.specs.Wrapping.{w8, w16, w32, w64};
 ghost use Rattle.wasmi_lanewise.specs.VectorTable as vector;
 
-use wasmi_lanes::lanewise::{extract_lane, replace_lane, splat};
+use super::one_lane::{
+    lane_of_8, lane_of_16, lane_of_32, lane_of_64, with_lane_of_8, with_lane_of_16,
+    with_lane_of_32, with_lane_of_64,
+};
+use wasmi_lanes::lanewise::splat;
 use wasmi_lanes::{
-    I8x16, I16x8, I32x4, I64x2, ImmLaneIdx2, ImmLaneIdx4, ImmLaneIdx8, ImmLaneIdx16, U8x16, U16x8,
+    I8x16, I16x8, I32x4, I64x2, ImmLaneIdx2, ImmLaneIdx4, ImmLaneIdx8, ImmLaneIdx16,
 };
 use wasmi_raw::V128;
 
@@ -47,7 +51,7 @@ pub fn i64x2_splat(item: i64) -> V128
 pub fn i8x16_extract_lane_s(v: V128, lane: ImmLaneIdx16) -> i32
     ensures { result ≡ vector.extract_lane_s w8 v lane }
 {
-    i32::from(extract_lane::<I8x16>(v, lane))
+    i32::from(lane_of_8(v, lane).cast_signed())
 }
 
 /// One lane, read unsigned.
@@ -55,7 +59,7 @@ pub fn i8x16_extract_lane_s(v: V128, lane: ImmLaneIdx16) -> i32
 pub fn i8x16_extract_lane_u(v: V128, lane: ImmLaneIdx16) -> u32
     ensures { result ≡ vector.extract_lane_u w8 v lane }
 {
-    u32::from(extract_lane::<U8x16>(v, lane))
+    u32::from(lane_of_8(v, lane))
 }
 
 /// One lane, read signed.
@@ -63,7 +67,7 @@ pub fn i8x16_extract_lane_u(v: V128, lane: ImmLaneIdx16) -> u32
 pub fn i16x8_extract_lane_s(v: V128, lane: ImmLaneIdx8) -> i32
     ensures { result ≡ vector.extract_lane_s w16 v lane }
 {
-    i32::from(extract_lane::<I16x8>(v, lane))
+    i32::from(lane_of_16(v, lane).cast_signed())
 }
 
 /// One lane, read unsigned.
@@ -71,7 +75,7 @@ pub fn i16x8_extract_lane_s(v: V128, lane: ImmLaneIdx8) -> i32
 pub fn i16x8_extract_lane_u(v: V128, lane: ImmLaneIdx8) -> u32
     ensures { result ≡ vector.extract_lane_u w16 v lane }
 {
-    u32::from(extract_lane::<U16x8>(v, lane))
+    u32::from(lane_of_16(v, lane))
 }
 
 /// One lane, read signed.
@@ -79,7 +83,7 @@ pub fn i16x8_extract_lane_u(v: V128, lane: ImmLaneIdx8) -> u32
 pub fn i32x4_extract_lane(v: V128, lane: ImmLaneIdx4) -> i32
     ensures { result ≡ vector.extract_lane_s w32 v lane }
 {
-    extract_lane::<I32x4>(v, lane)
+    lane_of_32(v, lane).cast_signed()
 }
 
 /// One lane, read signed.
@@ -87,7 +91,7 @@ pub fn i32x4_extract_lane(v: V128, lane: ImmLaneIdx4) -> i32
 pub fn i64x2_extract_lane(v: V128, lane: ImmLaneIdx2) -> i64
     ensures { result ≡ vector.extract_lane_s w64 v lane }
 {
-    extract_lane::<I64x2>(v, lane)
+    lane_of_64(v, lane).cast_signed()
 }
 
 /// `v` with the item in one lane.
@@ -95,7 +99,7 @@ pub fn i64x2_extract_lane(v: V128, lane: ImmLaneIdx2) -> i64
 pub fn i8x16_replace_lane(v: V128, lane: ImmLaneIdx16, item: i8) -> V128
     ensures { result ≡ vector.replace_lane w8 v lane item }
 {
-    replace_lane::<I8x16>(v, lane, item)
+    with_lane_of_8(v, lane, item.cast_unsigned())
 }
 
 /// `v` with the item in one lane.
@@ -103,7 +107,7 @@ pub fn i8x16_replace_lane(v: V128, lane: ImmLaneIdx16, item: i8) -> V128
 pub fn i16x8_replace_lane(v: V128, lane: ImmLaneIdx8, item: i16) -> V128
     ensures { result ≡ vector.replace_lane w16 v lane item }
 {
-    replace_lane::<I16x8>(v, lane, item)
+    with_lane_of_16(v, lane, item.cast_unsigned())
 }
 
 /// `v` with the item in one lane.
@@ -111,7 +115,7 @@ pub fn i16x8_replace_lane(v: V128, lane: ImmLaneIdx8, item: i16) -> V128
 pub fn i32x4_replace_lane(v: V128, lane: ImmLaneIdx4, item: i32) -> V128
     ensures { result ≡ vector.replace_lane w32 v lane item }
 {
-    replace_lane::<I32x4>(v, lane, item)
+    with_lane_of_32(v, lane, item.cast_unsigned())
 }
 
 /// `v` with the item in one lane.
@@ -119,5 +123,5 @@ pub fn i32x4_replace_lane(v: V128, lane: ImmLaneIdx4, item: i32) -> V128
 pub fn i64x2_replace_lane(v: V128, lane: ImmLaneIdx2, item: i64) -> V128
     ensures { result ≡ vector.replace_lane w64 v lane item }
 {
-    replace_lane::<I64x2>(v, lane, item)
+    with_lane_of_64(v, lane, item.cast_unsigned())
 }

@@ -1,0 +1,44 @@
+-- One lane of a vector: in the word that holds it, and among lanes that are chosen by their numbers.
+use Rattle.std.proofs.Common.{ℕ, ◌+◌, ◌-◌, ◌/◌, ◌%◌, ◌^◌, ◌<◌, ◌≤◌, ◌≡◌, List, length, get_or, replicate, map, sym, ap, ap₂, ◌∙◌, arith, if◌then◌else◌, Bool, false, cond, eqb, zero-add}
+use Rattle.std.proofs.lemmas.Nat.{field_of, shr-shr}
+use Rattle.std.proofs.Math.Pow.{mod-mod-pow}
+use Rattle.std.specs.Simd.Lanes.{zip2, sel_l}
+use Rattle.std.proofs.lemmas.Simd.{length-zip2, get_or-zip2, get_or-replicate, length-replicate, get_or-sel_l, tops_compared}
+use Rattle.std.proofs.lemmas.List.FromFn.{get_or-range_with_len, length-range_with_len}
+use Rattle.std.specs.List.{range_with_len}
+use Rattle.wasmi_types.specs.Wrapping.{Width, bits}
+use mir.Val.{hbits}
+use lib.Lanes.{top}
+
+-- the n bits from f on, where the low word has them
+pub bits_of_low : (v f n word : ℕ) → f < 64 → f % 64 + n ≤ 64 → word ≡ v % 2 ^ 64 → word / 2 ^ (f % 64) % 2 ^ n ≡ v / 2 ^ f % 2 ^ n
+bits_of_low v f n word below inside is =
+    let at : f % 64 ≡ f = omega arith in
+    let whole : 64 ≡ (64 - f) + f = omega arith in
+    let rest : 64 - f ≡ (64 - f - n) + n = omega arith in
+    ap₂ (λ x k. x / 2 ^ k % 2 ^ n) is at
+    ∙ ap (λ k. v % 2 ^ k / 2 ^ f % 2 ^ n) whole
+    ∙ ap (λ x. x % 2 ^ n) (field_of v (64 - f) f)
+    ∙ ap (λ k. v / 2 ^ f % 2 ^ k % 2 ^ n) rest
+    ∙ mod-mod-pow (v / 2 ^ f) (64 - f - n) n
+
+-- the same, where the high word has them
+pub bits_of_high : (v f n word : ℕ) → 64 ≤ f → f < 128 → word ≡ v / 2 ^ 64 → word / 2 ^ (f % 64) % 2 ^ n ≡ v / 2 ^ f % 2 ^ n
+bits_of_high v f n word above below is =
+    let at : 64 + f % 64 ≡ f = omega arith in
+    ap (λ x. x / 2 ^ (f % 64) % 2 ^ n) is ∙ ap (λ x. x % 2 ^ n) (shr-shr v 64 (f % 64)) ∙ ap (λ k. v / 2 ^ k % 2 ^ n) at
+
+-- of n lanes, an item where the number of the lane is k, else the lane as it was
+pub item_at : (w : Width) (n k item : ℕ) (numbers lanes : List ℕ) (i : ℕ) → numbers ≡ range_with_len 0 n → length lanes ≡ n → i < n
+    → get_or (sel_l (map (top (hbits w)) (zip2 (λ a b. cond (eqb a b) (2 ^ bits w - 1) 0) numbers (replicate n k))) (replicate n item) lanes) i 0
+    ≡ (if eqb i k then item else get_or lanes i 0)
+item_at w n k item numbers lanes i counted long inside =
+    let tests : List Bool = zip2 eqb numbers (replicate n k) in
+    let many : length numbers ≡ n = ap length counted ∙ length-range_with_len 0 n in
+    let tested : length tests ≡ n = length-zip2 eqb numbers (replicate n k) (many ∙ sym (length-replicate n k)) ∙ many in
+    let number : get_or numbers i 0 ≡ i = ap (λ xs. get_or xs i 0) counted ∙ get_or-range_with_len 0 n i 0 inside ∙ zero-add i in
+    let test : get_or tests i false ≡ eqb i k =
+    get_or-zip2 eqb numbers (replicate n k) i 0 0 false (omega arith) (omega (arith, length-replicate n k)) ∙ ap₂ eqb number (get_or-replicate n i k 0 inside) in
+    ap (λ ms. get_or (sel_l ms (replicate n item) lanes) i 0) (tops_compared w eqb numbers (replicate n k))
+    ∙ get_or-sel_l tests (replicate n item) lanes i 0 (omega arith) (omega (arith, length-replicate n item)) (omega arith)
+    ∙ ap₂ (λ t x. cond t x (get_or lanes i 0)) test (get_or-replicate n i item 0 inside)

@@ -1,0 +1,129 @@
+// One lane of a vector, at an index that is known only when the program runs. An array of the lanes would go through
+// memory: a lane is shifted out of its word, and put where the number of a lane is the index.
+
+ghost use Rattle.std.specs.Prelude.{◌≡◌, ℕ, ◌+◌, ◌/◌, ◌%◌, ◌^◌, ◌<◌, ◌≤◌, ◌==◌, slice_index, if◌then◌else◌};
+ghost use Rattle.std.specs.List.{range_with_len};
+ghost use Rattle.wasmi_types.specs.Wrapping.{w8, w16, w32, w64};
+ghost use Rattle.wasmi_lanes.specs.Lane.{lane};
+ghost use Rattle.wasmi_lanes.specs.Vector.{replaced};
+
+use std::simd::prelude::*;
+use wasmi_lanes::{ImmLaneIdx2, ImmLaneIdx4, ImmLaneIdx8, ImmLaneIdx16, LaneItem, bytes_of};
+use wasmi_raw::V128;
+
+/// One lane of 8 bits.
+#[inline(always)]
+pub(super) fn lane_of_8(vector: V128, at: ImmLaneIdx16) -> u8
+    ensures { result ≡ lane w8 vector at }
+{
+    (bits_from(vector, 8 * u32::from(u8::from(at))) & 0xff) as u8
+}
+
+/// One lane of 16 bits.
+#[inline(always)]
+pub(super) fn lane_of_16(vector: V128, at: ImmLaneIdx8) -> u16
+    ensures { result ≡ lane w16 vector at }
+{
+    (bits_from(vector, 16 * u32::from(u8::from(at))) & 0xffff) as u16
+}
+
+/// One lane of 32 bits.
+#[inline(always)]
+pub(super) fn lane_of_32(vector: V128, at: ImmLaneIdx4) -> u32
+    ensures { result ≡ lane w32 vector at }
+{
+    (bits_from(vector, 32 * u32::from(u8::from(at))) & 0xffff_ffff) as u32
+}
+
+/// One lane of 64 bits.
+#[inline(always)]
+pub(super) fn lane_of_64(vector: V128, at: ImmLaneIdx2) -> u64
+    ensures { result ≡ lane w64 vector at }
+{
+    bits_from(vector, 64 * u32::from(u8::from(at)))
+}
+
+// The bits of a vector from the one at `first` on, to the end of the word that has it.
+#[inline(always)]
+fn bits_from(vector: V128, first: u32) -> u64
+    requires inside { first < 128 }
+    ensures bits { (n : ℕ) → first % 64 + n ≤ 64 → result % 2 ^ n ≡ vector / 2 ^ first % 2 ^ n }
+{
+    let (low, high) = vector.words();
+    let word = if first < 64 { low } else { high };
+    word >> (first % 64)
+}
+
+/// `vector` with `item` in one lane of 8 bits.
+#[inline(always)]
+pub(super) fn with_lane_of_8(vector: V128, at: ImmLaneIdx16, item: u8) -> V128
+    ensures { result ≡ replaced w8 vector at item }
+{
+    let here = numbers_of_8().simd_eq(u8x16::splat(u8::from(at)));
+    let items = here.select(u8x16::splat(item), bytes_of(vector)).to_array();
+    u8::write_from(&items)
+}
+
+/// `vector` with `item` in one lane of 16 bits.
+#[inline(always)]
+pub(super) fn with_lane_of_16(vector: V128, at: ImmLaneIdx8, item: u16) -> V128
+    ensures { result ≡ replaced w16 vector at item }
+{
+    let here = numbers_of_16().simd_eq(u16x8::splat(u16::from(u8::from(at))));
+    let items = here
+        .select(u16x8::splat(item), u16x8::from_le_bytes(bytes_of(vector)))
+        .to_array();
+    u16::write_from(&items)
+}
+
+/// `vector` with `item` in one lane of 32 bits.
+#[inline(always)]
+pub(super) fn with_lane_of_32(vector: V128, at: ImmLaneIdx4, item: u32) -> V128
+    ensures { result ≡ replaced w32 vector at item }
+{
+    let here = numbers_of_32().simd_eq(u32x4::splat(u32::from(u8::from(at))));
+    let items = here
+        .select(u32x4::splat(item), u32x4::from_le_bytes(bytes_of(vector)))
+        .to_array();
+    u32::write_from(&items)
+}
+
+/// `vector` with `item` in one lane of 64 bits.
+#[inline(always)]
+pub(super) fn with_lane_of_64(vector: V128, at: ImmLaneIdx2, item: u64) -> V128
+    ensures { result ≡ replaced w64 vector at item }
+{
+    let here = numbers_of_64().simd_eq(u64x2::splat(u64::from(u8::from(at))));
+    let items = here
+        .select(u64x2::splat(item), u64x2::from_le_bytes(bytes_of(vector)))
+        .to_array();
+    u64::write_from(&items)
+}
+
+#[inline(always)]
+fn numbers_of_8() -> u8x16
+    ensures { result ≡ range_with_len 0 16 }
+{
+    u8x16::from_array([0, 1, 2, 3, 4, 5, 6, 7, 8, 9, 10, 11, 12, 13, 14, 15])
+}
+
+#[inline(always)]
+fn numbers_of_16() -> u16x8
+    ensures { result ≡ range_with_len 0 8 }
+{
+    u16x8::from_array([0, 1, 2, 3, 4, 5, 6, 7])
+}
+
+#[inline(always)]
+fn numbers_of_32() -> u32x4
+    ensures { result ≡ range_with_len 0 4 }
+{
+    u32x4::from_array([0, 1, 2, 3])
+}
+
+#[inline(always)]
+fn numbers_of_64() -> u64x2
+    ensures { result ≡ range_with_len 0 2 }
+{
+    u64x2::from_array([0, 1])
+}
