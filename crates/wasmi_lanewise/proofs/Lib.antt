@@ -1,3 +1,4 @@
+pub mod Average
 pub mod Chosen
 pub mod OneLane
 pub mod Rounding

@@ -303,14 +303,14 @@ pub fn i16x8_avgr_u(lhs: V128, rhs: V128) -> V128
 fn average_u8(x: u8, y: u8) -> u8
     ensures { result ≡ vector.average x y }
 {
-    x / 2 + y / 2 + (x % 2 + y % 2 + 1) / 2
+    (x | y) - (x ^ y) / 2
 }
 
 #[inline]
 fn average_u16(x: u16, y: u16) -> u16
     ensures { result ≡ vector.average x y }
 {
-    x / 2 + y / 2 + (x % 2 + y % 2 + 1) / 2
+    (x | y) - (x ^ y) / 2
 }
 
 // The product of two fractions of 2 to the power 15, halves rounded up, clamped to the signed range.
