@@ -1,5 +1,6 @@
 //! A script from its reader to the printed lines.
 ghost use Rattle.std.specs.Prelude.{◌≡◌, ◌≤◌, ℕ, List, None, Some, length, IfOk, IfSome, OnOk};
+ghost use Rattle.wasmi_replay.specs.Lines.{WritesScript};
 ghost use Rattle.wasmi_replay.specs.Replays.{Answers, AnswersUnder, QuotaRun};
 ghost use Rattle.wasmi_replay.specs.Status.{code_of, status_after};
 
@@ -74,6 +75,7 @@ pub fn replay<R: io::Read, W: io::Write>(alloc: Global, reader: &mut R, writer: 
 }
 
 fn answer<R: io::Read>(alloc: Global, reader: &mut R) -> Result<Replayed, ReplayError>
+    ensures script { IfOk result (λ replayed. IfSome (R.remaining reader.old) (λ bytes. WritesScript bytes replayed.script)) }
     ensures run { IfOk result (λ replayed. Answers replayed.script replayed.ran) }
     ensures limited { OnOk result (IfSome (R.remaining reader.old) (λ bytes. length bytes ≤ LIMIT)) }
 {

@@ -1,5 +1,6 @@
 //! The script's lines: header lines, and then commands.
 ghost use Rattle.std.specs.Prelude.{◌≡◌, [], ℕ, ◌+◌, ◌<◌, ◌≤◌, length, vec_len, IfOk, IfErr, OnOk};
+ghost use Rattle.wasmi_replay.specs.Lines.{WritesScript};
 
 mod command;
 mod header;
@@ -60,6 +61,7 @@ impl Script {
 
 /// The script that the bytes write. Of several bad lines the first is named.
 pub fn parse(alloc: Global, bytes: &[u8]) -> Result<Script, ReplayError>
+    ensures script { IfOk result (WritesScript bytes.now) }
     ensures calls { IfOk result (λ script. vec_len script.calls ≤ length bytes.now + 1) }
     ensures line { IfErr result (λ error. (line : ℕ) → error ≡ ReplayError.BadCommand line → (0 < line) × (line ≤ length bytes.now + 1)) }
 {

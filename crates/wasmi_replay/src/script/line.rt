@@ -1,5 +1,6 @@
 //! A line as words.
-ghost use Rattle.std.specs.Prelude.{◌≡◌, ◌<◌, All, IfOk, length};
+ghost use Rattle.std.specs.Prelude.{◌≡◌, IfOk, map};
+ghost use Rattle.wasmi_replay.specs.Lines.{words_in};
 ghost use Rattle.wasmi_replay.specs.declared.script.line.LineError.TheVariants.{OutOfMemory};
 
 use std::alloc::{AllocError, AllocFailed, Global};
@@ -29,13 +30,9 @@ impl<T: Drop> From<AllocFailed<T>> for LineError {
 
 /// The words of a line, which spaces alone separate.
 pub fn words_of<'a>(alloc: Global, line: &'a str) -> Result<Vec<&'a str>, AllocError>
-    ensures { IfOk result (λ words. All (λ word. 0 < length word.now) words.items) }
+    ensures { IfOk result (λ words. map (λ word. word.now) words.items ≡ words_in line.now) }
 {
-    let mut words = Vec::new(alloc);
-    for word in line.split(' ') {
-        if !word.is_empty() {
-            words.push(word)?;
-        }
-    }
-    Ok(words)
+    line.split(' ')
+        .filter(|word| !word.is_empty())
+        .collect(alloc)
 }
