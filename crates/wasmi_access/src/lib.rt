@@ -5,6 +5,4 @@ pub mod access;
 mod convert;
 mod integer;
 pub mod laws;
-#[cfg(test)]
-mod tests;
 pub mod wasm;

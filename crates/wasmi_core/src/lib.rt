@@ -6,11 +6,7 @@ mod machine;
 mod memories;
 mod ops;
 mod running;
-#[cfg(test)]
-mod simd_tests;
 mod slots;
-#[cfg(test)]
-mod tests;
 
 pub use calls::{ByteList, Call, Reply};
 pub use machine::Machine;

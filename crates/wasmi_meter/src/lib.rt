@@ -6,8 +6,6 @@ mod fuel;
 mod limiter;
 mod limiter_ref;
 mod quota;
-#[cfg(test)]
-mod tests;
 
 pub use error::{LimiterError, MemoryError, TableError};
 pub use fuel::{CustomFuelCosts, Fuel, FuelCosts, FuelCostsProvider, FuelError, ValueSize};

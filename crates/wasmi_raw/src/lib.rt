@@ -11,6 +11,3 @@ mod write;
 pub use float::{F32, F64};
 pub use raw::{RawVal, ReadAs, WriteAs};
 pub use vector::V128;
-
-#[cfg(test)]
-mod tests;

@@ -1,20 +1,12 @@
 //! Runs a script of calls on a metered machine, and prints what each call answers.
 #![tactic(auto)]
 
-mod error;
-mod print;
-mod reading;
-mod replay;
-mod script;
-#[cfg(test)]
-mod tests;
-
-use std::io;
 use std::process::ExitCode;
+use wasmi_script::replay;
 
 fn main(rt: HostRuntime) -> ExitCode {
     let mut reader = rt.stdin();
     let mut writer = rt.stdout();
-    let status = replay::replay(rt.alloc(), &mut reader, &mut writer);
+    let status = replay(rt.alloc(), &mut reader, &mut writer);
     ExitCode::from(status.code())
 }

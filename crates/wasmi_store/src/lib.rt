@@ -6,8 +6,6 @@ pub mod laws;
 mod memory;
 mod memory_type;
 mod region;
-#[cfg(test)]
-mod tests;
 
 pub use buffer::{Buffer, ByteBuffer};
 pub use memory::{LinearMemory, Memory};

@@ -8,6 +8,3 @@ mod typed;
 pub use global::{Global, GlobalError, GlobalType, Mutability};
 pub use shift_amount::{IntoShiftAmount, ShiftAmount};
 pub use typed::{Typed, TypedRawVal};
-
-#[cfg(test)]
-mod tests;

@@ -13,6 +13,3 @@ pub use host_error::HostError;
 pub use index_ty::IndexType;
 pub use trap::{InvalidTrapCode, Trap, TrapCode};
 pub use value::{RefType, ValType};
-
-#[cfg(test)]
-mod tests;

@@ -1,0 +1,132 @@
+//! The table from its reader to the printed lines.
+ghost use Rattle.std.specs.Prelude.{◌≡◌, ◌↔◌, ◌+◌, ◌<◌, ◌^◌};
+
+use crate::line::{Verdict, compare_line};
+use std::alloc::Global;
+use std::io::{BufRead, BufReader, ErrorKind};
+use std::{fmt, io};
+
+/// How a comparison ended.
+#[derive(Clone, Copy, Debug, PartialEq, Eq)]
+pub enum Status {
+    /// Each line agrees.
+    Agreed,
+    /// A line doesn't agree, or is malformed.
+    Differed,
+    /// There wasn't enough memory for a line.
+    OutOfMemory,
+    /// The reader or the writer failed.
+    Fault,
+}
+
+impl Status {
+    ghost use Rattle.wasmi_comparison.specs.Statuses.{code_of};
+
+    /// The exit status of the program.
+    pub fn code(self) -> u8
+        ensures { result ≡ code_of self }
+    {
+        match self {
+            Status::Agreed => 0,
+            Status::Differed => 1,
+            Status::OutOfMemory => 3,
+            Status::Fault => 4,
+        }
+    }
+}
+
+/// How many lines agree, and how many don't.
+#[derive(Clone, Copy, Debug, Default, PartialEq, Eq)]
+pub struct Tally {
+    pub agreeing: u64,
+    pub differing: u64,
+}
+
+impl Tally {
+    ghost use Rattle.wasmi_comparison.specs.Tallies.{tally_after};
+
+    /// Counts a line.
+    fn count(&mut self, verdict: Verdict)
+        requires { self.old.agreeing + self.old.differing + 1 < 2 ^ 64 }
+        ensures { self.new ≡ tally_after self.old verdict }
+    {
+        match verdict {
+            Verdict::Agrees => self.agreeing += 1,
+            Verdict::Differs(_) | Verdict::Malformed => self.differing += 1,
+        }
+    }
+
+    /// How a comparison with these counts ends.
+    fn status(self) -> Status
+        ensures agreed { result ≡ Status.Agreed ↔ self.differing ≡ 0 }
+        ensures differed { result ≡ Status.Differed ↔ 0 < self.differing }
+    {
+        if self.differing == 0 {
+            Status::Agreed
+        } else {
+            Status::Differed
+        }
+    }
+}
+
+impl fmt::Display for Tally {
+    fn fmt<W: fmt::Write>(&self, f: &mut fmt::Formatter<W>) -> fmt::Result {
+        let Tally {
+            agreeing,
+            differing,
+        } = self;
+        write!(f, "{agreeing} agree, {differing} don't")
+    }
+}
+
+/// Compares each line of the reader with its instruction, and prints those that don't agree, and the counts.
+pub fn compare<R: io::Read + Drop, W: io::Write>(
+    alloc: Global,
+    reader: R,
+    writer: &mut W,
+) -> Status {
+    match compare_lines(alloc, reader, writer) {
+        Ok(tally) => tally.status(),
+        Err(error) if error.kind() == ErrorKind::OutOfMemory => Status::OutOfMemory,
+        Err(_) => Status::Fault,
+    }
+}
+
+fn compare_lines<R: io::Read + Drop, W: io::Write>(
+    alloc: Global,
+    reader: R,
+    writer: &mut W,
+) -> io::Result<Tally> {
+    let mut reader = BufReader::new(alloc, reader)?;
+    let mut tally = Tally::default();
+    let mut line = Vec::new(alloc);
+    for index in 0..u64::MAX {
+        line.clear();
+        if reader.read_until(b'\n', &mut line)? == 0 {
+            break;
+        }
+        let verdict = compare_line(alloc, without_break(line.as_slice()))?;
+        tally.count(verdict);
+        print(writer, index + 1, verdict)?;
+    }
+    writeln!(writer, "{tally}")?;
+    writer.flush()?;
+    Ok(tally)
+}
+
+/// The bytes of a line before its line break, which the last line may lack.
+fn without_break(line: &[u8]) -> &[u8] {
+    match line {
+        [text @ .., b'\n'] => text,
+        text => text,
+    }
+}
+
+/// Prints why a line doesn't agree, if it doesn't.
+fn print<W: io::Write>(writer: &mut W, line: u64, verdict: Verdict) -> io::Result<()> {
+    match verdict {
+        Verdict::Agrees => Ok(()),
+        Verdict::Differs(answer) => writeln!(writer, "line {line}: the answer is {answer}"),
+        Verdict::Malformed => writeln!(writer, "line {line}: malformed"),
+    }
+}

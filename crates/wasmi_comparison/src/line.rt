@@ -1,0 +1,53 @@
+//! A line of the table, and what its instruction answers.
+ghost use Rattle.wasmi_comparison.specs.Verdicts.{Compares};
+
+use crate::answer::Answer;
+use crate::instruction;
+use std::alloc::{AllocError, Global};
+use std::str;
+
+/// How a line compares with its instruction.
+#[derive(Clone, Copy, Debug, PartialEq, Eq)]
+pub enum Verdict {
+    Agrees,
+    /// The instruction answers something else, which is given.
+    Differs(Answer),
+    /// The line names no instruction, or its numbers aren't those that the instruction takes.
+    Malformed,
+}
+
+/// How a line, which is without its line break, compares with its instruction.
+pub fn compare_line(alloc: Global, line: &[u8]) -> Result<Verdict, AllocError> {
+    let Ok(text) = str::from_utf8(line) else {
+        return Ok(Verdict::Malformed);
+    };
+    let mut words = Vec::new(alloc);
+    for word in text.split(' ') {
+        words.push(word)?;
+    }
+    match answers(words.as_slice()) {
+        Some((expected, answer)) => Ok(compared(expected, answer)),
+        None => Ok(Verdict::Malformed),
+    }
+}
+
+/// The answer that the words of a line give, and the answer of the instruction.
+fn answers(words: &[&str]) -> Option<(Answer, Answer)> {
+    let arrow = words.iter().position(|word| *word == "->")?;
+    let [name, operands @ ..] = &words[..arrow] else {
+        return None;
+    };
+    let expected = Answer::written(&words[arrow + 1..])?;
+    let answer = instruction::answer(name, operands)?;
+    Some((expected, answer))
+}
+
+fn compared(expected: Answer, answer: Answer) -> Verdict
+    ensures { Compares expected answer result }
+{
+    if answer == expected {
+        Verdict::Agrees
+    } else {
+        Verdict::Differs(answer)
+    }
+}

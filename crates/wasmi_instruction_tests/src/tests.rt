@@ -1,0 +1,32 @@
+use std::fmt::Debug;
+use std::process::Abort;
+
+/// Compares the answers of some calls, which have one type, with what they have to be.
+macro_rules! answers {
+    ($rt:expr; $($call:expr => $expected:expr),* $(,)?) => {
+        same_rows($rt, &[$(stringify!($call)),*], &[$($call),*], &[$($expected),*]);
+    };
+}
+
+mod access;
+mod lanes;
+mod lanewise;
+mod scalar;
+
+/// Compares an answer with what it has to be. The comparison is proved here once, and not in each test.
+fn same<T>(rt: &impl Abort, what: &str, answer: T, expected: T)
+where
+    T: PartialEq + Debug + Drop,
+{
+    assert_eq!(rt; answer, expected, "{what}");
+}
+
+/// Compares the answers of some calls with what they have to be.
+fn same_rows<T>(rt: &impl Abort, calls: &[&str], answers: &[T], expected: &[T])
+where
+    T: PartialEq + Debug,
+{
+    for (row, call) in calls.iter().enumerate() {
+        same(rt, call, answers.get(row), expected.get(row));
+    }
+}

@@ -1,0 +1,24 @@
+use super::same_rows;
+use wasmi_lanewise::simd::*;
+use wasmi_raw::V128;
+
+#[test]
+fn v128_or_works(rt: HostRuntime) {
+    answers!(&rt; v128_or(i16x8_splat(0), i16x8_splat(-1)) => i16x8_splat(-1));
+}
+
+#[test]
+fn lanes_do_not_touch_their_neighbours(rt: HostRuntime) {
+    let zero = V128::from(0);
+    answers!(&rt;
+        i8x16_add(i16x8_splat(255), i16x8_splat(1)) => zero,
+        i8x16_sub(i16x8_splat(256), i16x8_splat(1)) => i16x8_splat(511),
+        i8x16_eq(i16x8_splat(256), i16x8_splat(0)) => i16x8_splat(255),
+        i8x16_abs(i8x16_splat(-128)) => i8x16_splat(-128),
+        i16x8_avgr_u(i16x8_splat(-1), i16x8_splat(0)) => i16x8_splat(-32768),
+        i8x16_swizzle(i8x16_splat(5), i8x16_splat(16)) => zero,
+        i8x16_lt_u(i8x16_splat(127), i8x16_splat(-128)) => i8x16_splat(-1),
+        i8x16_lt_s(i8x16_splat(127), i8x16_splat(-128)) => zero,
+        i16x8_q15mulr_sat_s(i16x8_splat(-32768), i16x8_splat(-32768)) => i16x8_splat(32767),
+    );
+}

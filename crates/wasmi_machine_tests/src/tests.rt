@@ -1,0 +1,133 @@
+//! What the tests share: short words for calls and replies, and runs that compare the replies.
+mod absent;
+mod accesses;
+mod loans;
+mod runs;
+
+use std::alloc::{AllocError, Global};
+use std::fmt::Debug;
+use std::process::Abort;
+use std::test::Fail;
+use wasmi_core::{
+    ByteList, Call, CustomFuelCosts, Fuel, FuelCostsProvider, LoadOp, Machine, MemoryError,
+    MemoryType, NoLimits, RawVal, Reply, ResourceLimiter, ResourceLimiterRef, StoreOp, run,
+};
+
+/// Compares an answer with the expected one; `what` says in the message what was compared.
+fn same<T: PartialEq + Debug + Drop>(rt: &impl Abort, what: &str, answer: T, expected: T) {
+    assert_eq!(rt; answer, expected, "{what}");
+}
+
+/// A call, and the reply that is expected.
+type Step = (Call, Reply);
+
+/// Runs calls under a limiter, and compares the replies.
+fn runs_under<L: ResourceLimiter>(
+    rt: &(impl Abort + AllocGlobal),
+    machine: &mut Machine,
+    steps: Vec<Step>,
+    limiter: &mut ResourceLimiterRef<L>,
+) -> Result<(), Fail> {
+    let mut calls = Vec::new(rt.alloc());
+    let mut expected = Vec::new(rt.alloc());
+    for (call, reply) in steps {
+        calls.push(call)?;
+        expected.push(reply)?;
+    }
+    let replies = run(machine, &calls, limiter)?;
+    same(rt, "replies", replies, expected);
+    Ok(())
+}
+
+/// Runs calls without a limiter, and compares the replies.
+fn runs_to(
+    rt: &(impl Abort + AllocGlobal),
+    machine: &mut Machine,
+    steps: Vec<Step>,
+) -> Result<(), Fail> {
+    let mut limiter = ResourceLimiterRef::<NoLimits>::default();
+    runs_under(rt, machine, steps, &mut limiter)
+}
+
+/// A new machine whose meter is off.
+fn unmetered(alloc: Global) -> Machine<'static> {
+    Machine::new(alloc, Fuel::new(false, FuelCostsProvider::default()))
+}
+
+/// A new machine whose meter takes one fuel for 64 copied bytes.
+fn metered(alloc: Global) -> Machine<'static> {
+    let costs = CustomFuelCosts {
+        bytes_copied_per_fuel: 64,
+        fuel_per_bytes_translated: 7,
+        fuel_per_bytes_validated: 2,
+    };
+    Machine::new(alloc, Fuel::new(true, FuelCostsProvider::custom(costs)))
+}
+
+fn memory_type(
+    minimum: u64,
+    maximum: Option<u64>,
+    page_size_log2: u8,
+) -> Result<MemoryType, MemoryError> {
+    let mut builder = MemoryType::builder();
+    builder
+        .min(minimum)
+        .max(maximum)
+        .page_size_log2(page_size_log2);
+    builder.build()
+}
+
+/// A new memory with pages of 64 KiB.
+fn new_pages(minimum: u64, maximum: Option<u64>) -> Result<Call, MemoryError> {
+    Ok(Call::NewMemory(memory_type(minimum, maximum, 16)?))
+}
+
+/// A new memory with pages of one byte, and without a maximum.
+fn new_bytes(minimum: u64) -> Result<Call, MemoryError> {
+    Ok(Call::NewMemory(memory_type(minimum, None, 0)?))
+}
+
+fn grow(memory: usize, pages: u64) -> Call {
+    Call::GrowMemory { memory, pages }
+}
+
+fn read(memory: usize, offset: usize, len: usize) -> Call {
+    Call::Read {
+        memory,
+        offset,
+        len,
+    }
+}
+
+fn write(alloc: Global, memory: usize, offset: usize, bytes: &[u8]) -> Result<Call, AllocError> {
+    let bytes = bytes.to_vec(alloc)?;
+    Ok(Call::Write {
+        memory,
+        offset,
+        bytes,
+    })
+}
+
+fn load(op: LoadOp, memory: usize, ptr: u64, offset: u64) -> Call {
+    Call::Load {
+        op,
+        memory,
+        ptr,
+        offset,
+    }
+}
+
+fn store(op: StoreOp, memory: usize, ptr: u64, offset: u64, value: RawVal) -> Call {
+    Call::Store {
+        op,
+        memory,
+        ptr,
+        offset,
+        value,
+    }
+}
+
+/// The reply with these bytes.
+fn bytes(alloc: Global, bytes: &[u8]) -> Result<Reply, AllocError> {
+    Ok(Reply::Bytes(ByteList::from(bytes.to_vec(alloc)?)))
+}

@@ -1,9 +1,0 @@
-use Rattle.std.proofs.Common.{◌≤◌, ◌≡◌, length, vec_len, map, [], None}
-use Rattle.wasmi_replay.specs.declared.script.Script.{Script}
-use Rattle.wasmi_replay.specs.Lines.{TakesLines}
-use Rattle.wasmi_replay.proofs.script.parse.Given as goal
-
-abbrev pub invariant-loop-index : goal.invariant-loop-index
-invariant-loop-index l =
-    (vec_len l.script.calls ≤ length l.yielded)
-    × (empty : Script) × (empty.header ≡ record { meter = None; quota = None }) × (empty.calls.items ≡ []) × TakesLines (map (λ item. item.1.now) l.yielded) empty l.script

@@ -1,0 +1,53 @@
+use Rattle.std.proofs.Common.{ℕ, rules, tests, arith, refl, sym, ap, subst, ◌∙◌, ◌≡◌, ◌∷◌, [], map, List, ◌==◌, Bor}
+use Rattle.std.proofs.lemmas.Grind.{common_steps}
+use Rattle.std.proofs.lemmas.List.{map-append}
+use Rattle.std.proofs.lemmas.Simd.{map-map}
+use Rattle.std.proofs.lemmas.Iterator.Consumers.{YieldsList-at, YieldsList-end, YieldsList-from_enumerate}
+use Rattle.std.proofs.lemmas.Iterator.Splits.{YieldsList-from_slice_split}
+use Rattle.std.specs.List.{slice_split}
+use Rattle.wasmi_script.specs.Lines.{TakesLine, TakesLines, lines_in, words_in}
+use Rattle.wasmi_script.proofs.Scripts.{one_more, without_numbers}
+use Rattle.wasmi_script.proofs.script.parse.Goals as goal
+
+abbrev line_of : ℕ × Bor (List ℕ) → List ℕ
+line_of item = item.1.now
+
+pub loop-index-init : goal.loop-index-init
+loop-index-init c = (search rules, record { header = c.default.result; calls = c.new.result }, search rules, c.new.ensures.items, refl)
+
+pub loop-index-preserved : goal.loop-index-preserved
+loop-index-preserved c =
+    let (_, empty, no_header, no_calls, taken) = c.loop-index.invariant in
+    let yielded = c.loop-index.yielded in
+    let new = c.take_line.new.self in
+    let same : map (λ word. word.now) c.as_slice.result.now ≡ words_in c.in-Some.bytes.now =
+    ap (map (λ word. word.now)) c.as_slice.ensures.value ∙ c.in_ok-words.ensures ∙ ap words_in c.in-Ok.ensures.cases.0 in
+    let line_taken : TakesLine c.loop-index.script c.in-Some.bytes.now new = (c.as_slice.result.now, same, c.in-Ok-take_line.ensures) in (
+      grind (arith, common_steps),
+      empty,
+      no_header,
+      no_calls,
+      subst (λ lines. TakesLines lines empty new) (sym (map-append line_of yielded ((c.in-Some.index, c.in-Some.bytes) ∷ [])))
+          (one_more (map line_of yielded) c.in-Some.bytes.now empty c.loop-index.script new taken line_taken),
+    )
+
+pub returns-clause-script : goal.returns-clause-script
+unfolding lines_in
+returns-clause-script c =
+    let (_, empty, no_header, no_calls, taken) = c.loop-index.invariant in
+    let split = c.split.ensures in
+    let all = YieldsList-end
+    (YieldsList-at c.into_iter-index-iterator.ensures.into_iter_gives
+    (YieldsList-from_enumerate
+    (YieldsList-at c.enumerate-index-items.ensures.source (YieldsList-from_slice_split _ (λ byte. byte == 10) c.args.bytes.now split.rest split.done split.closure (λ x b q k. search (rules, tests))))
+    c.enumerate-index-items.ensures.count))
+    c.loop-index.yielded _ c.loop-index.yielded_by _ _ c.in-None.is c.next.ensures.steps in
+    let number_and_line : ℕ × Bor (List ℕ) → ℕ × List ℕ = λ item. (item.0, item.1.now) in
+    let line : ℕ × List ℕ → List ℕ = λ numbered. numbered.1 in
+    let whole = sym (map-map line number_and_line c.loop-index.yielded) ∙ ap (map line) all.0 ∙ without_numbers 0 (slice_split (λ byte. byte == 10) c.args.bytes.now) in
+    record {
+      empty = empty;
+      no_header = no_header;
+      no_calls = no_calls;
+      lines = subst (λ lines. TakesLines lines empty c.loop-index.script) whole taken;
+    }

@@ -1,0 +1,34 @@
+-- What the words of a header line mean, and what the header lines ask for.
+use Rattle.std.specs.Prelude.{◌≡◌, ℕ, List, Some, None, length, codes}
+use Rattle.std.specs.Option.{option_map_or}
+use Rattle.std.specs.Borrow.{Bor}
+use Rattle.wasmi_meter.specs.Costs.{default_costs}
+use Rattle.wasmi_meter.specs.Meter.{Meter}
+use Rattle.wasmi_script.specs.declared.script.header.Header.{Header}
+use Rattle.wasmi_script.specs.declared.script.header.MeterLine.{MeterLine}
+use Rattle.wasmi_script.specs.declared.script.header.QuotaLine.{QuotaLine}
+use Rattle.wasmi_script.specs.declared.script.header.MeterLine.TheVariants.{Off, On}
+use Rattle.wasmi_script.specs.Commands.{word_at}
+use Rattle.wasmi_script.specs.Numbers.{Writes}
+
+-- the words after `meter` say this
+abbrev pub NamesMeter : List (Bor (List ℕ)) → MeterLine → Type 0
+NamesMeter words Off = (length words ≡ 1) × (word_at words 0 ≡ codes "off")
+NamesMeter words (On bytes_per_fuel) = (length words ≡ 2) × (word_at words 0 ≡ codes "on") × Writes (word_at words 1) bytes_per_fuel
+
+-- the words after `quota` say this
+abbrev pub NamesQuota : List (Bor (List ℕ)) → QuotaLine → Type 0
+NamesQuota words line = (length words ≡ 2) × Writes (word_at words 0) line.bytes × Writes (word_at words 1) line.elements
+
+-- a meter that is off
+abbrev pub meter_off : Meter
+meter_off = record { left = None; costs = default_costs }
+
+-- the meter that a line asks for, with no fuel left yet
+abbrev pub meter_said : MeterLine → Meter
+meter_said Off = meter_off
+meter_said (On bytes_per_fuel) = record { left = Some 0; costs = record default_costs { bytes_copied_per_fuel = bytes_per_fuel } }
+
+-- the meter that a script starts with: off without a line that says more
+abbrev pub meter_of : Header → Meter
+meter_of header = option_map_or meter_said header.meter meter_off

@@ -1,0 +1,11 @@
+//! Scripts of calls on a metered machine: reading, parsing, running, printing.
+#![tactic(auto)]
+
+mod error;
+mod print;
+mod reading;
+mod replaying;
+mod script;
+
+pub use reading::LIMIT;
+pub use replaying::{Status, replay};

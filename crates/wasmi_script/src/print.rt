@@ -1,0 +1,90 @@
+//! Printing without memory.
+ghost use Rattle.std.specs.Prelude.{◌≡◌, IsOk};
+ghost use Rattle.std.specs.Io.KnownBytes.{Appends};
+ghost use Rattle.wasmi_script.specs.Printing.{AppendsFront};
+
+use std::{fmt, io};
+use wasmi_core::{Call, Reply};
+
+/// Text that goes to a writer as it is made. Any error of the writer ends the printing, and so does a write that takes
+/// no byte.
+#[derive(Drop)]
+pub struct Printer<'w, W> {
+    writer: &'w mut W,
+}
+
+impl<'w, W: io::Write> Printer<'w, W> {
+    pub fn new(writer: &'w mut W) -> Self {
+        Printer { writer }
+    }
+
+    pub fn flush(&mut self) -> fmt::Result {
+        self.writer.flush().map_err(|_| fmt::Error)
+    }
+}
+
+impl<W: io::Write> fmt::Write for Printer<'_, W> {
+    ghost write_str_gives = { λ printer text printer'. Appends (W.contents printer.writer.now) (W.contents printer'.writer.now) text };
+
+    fn write_str(&mut self, text: &str) -> fmt::Result
+        ensures ok { IsOk result → Appends (W.contents self.old.writer.now) (W.contents self.new.writer.now) text.now }
+        ensures front { AppendsFront (W.contents self.old.writer.now) (W.contents self.new.writer.now) text.now }
+    {
+        let mut rest = text.as_bytes();
+        while !rest.is_empty() {
+            match self.writer.write(rest) {
+                Ok(0) => return Err(fmt::Error),
+                Ok(count) => rest = &rest[count..],
+                Err(_) => return Err(fmt::Error),
+            }
+        }
+        Ok(())
+    }
+}
+
+/// A call's reply, as the program prints it.
+#[derive(Clone, Copy)]
+pub struct ReplyLine<'a> {
+    pub call: &'a Call,
+    pub reply: &'a Reply,
+}
+
+impl fmt::Display for ReplyLine<'_> {
+    fn fmt<W: fmt::Write>(&self, f: &mut fmt::Formatter<W>) -> fmt::Result {
+        match self.reply {
+            Reply::Done => write!(f, "done"),
+            Reply::Made(index) => {
+                let kind = kind_made(self.call);
+                write!(f, "{kind} {index}")
+            }
+            Reply::Value(value) => write!(f, "raw {} {}", value.lo, value.hi),
+            Reply::Number(number) => write!(f, "value {number}"),
+            Reply::Bytes(bytes) => {
+                write!(f, "bytes")?;
+                for byte in bytes.as_slice() {
+                    write!(f, " {byte}")?;
+                }
+                Ok(())
+            }
+            Reply::Memory(error) => write!(f, "error {error}"),
+            Reply::Fuel(error) => write!(f, "error {error}"),
+            Reply::Trap(code) => write!(f, "error {code}"),
+            Reply::NoSuch => write!(f, "no such"),
+            Reply::NoRoom => write!(f, "no room"),
+        }
+    }
+}
+
+/// The word for what the call makes. Only creations make anything.
+fn kind_made(call: &Call) -> &'static str {
+    match call {
+        Call::NewMemory(_) => "memory",
+        Call::SetFuel(_)
+        | Call::GetFuel
+        | Call::GrowMemory { .. }
+        | Call::Read { .. }
+        | Call::Write { .. }
+        | Call::Load { .. }
+        | Call::Store { .. } => "nothing",
+    }
+}

@@ -1,0 +1,171 @@
+//! A script from its reader to the printed lines.
+ghost use Rattle.std.specs.Prelude.{◌≡◌, ◌≤◌, ℕ, List, None, Some, length, IfOk, IfSome, OnOk};
+ghost use Rattle.wasmi_script.specs.Lines.{WritesScript};
+ghost use Rattle.wasmi_script.specs.Replays.{Answers, AnswersUnder, QuotaRun};
+ghost use Rattle.wasmi_script.specs.Status.{code_of, status_after};
+
+use crate::error::ReplayError;
+use crate::print::{Printer, ReplyLine};
+use crate::reading::{LIMIT, read};
+use crate::script::{QuotaLine, Script, parse};
+use std::alloc::{AllocError, Global};
+use std::fmt::Write;
+use std::{fmt, io};
+use wasmi_core::{Call, Machine, NoLimits, Quota, Reply, ResourceLimiterRef, run};
+
+/// How a replay ended.
+#[derive(Clone, Copy, Debug, PartialEq, Eq)]
+pub enum Status {
+    /// Each call was answered, refusals included.
+    Answered,
+    /// A line is no command, or the script is too long.
+    BadScript,
+    /// There wasn't enough memory to read, to parse or for the replies.
+    OutOfMemory,
+    /// The reader or the writer failed.
+    Fault,
+}
+
+impl Status {
+    /// The exit status of the program.
+    pub fn code(self) -> u8
+        ensures { result ≡ code_of self }
+    {
+        match self {
+            Status::Answered => 0,
+            Status::BadScript => 2,
+            Status::OutOfMemory => 3,
+            Status::Fault => 4,
+        }
+    }
+}
+
+/// A script and what its run answered.
+#[derive(Drop)]
+struct Replayed {
+    script: Script,
+    ran: Ran,
+}
+
+/// A reply to each call, and what the quota holds afterwards, if there is one.
+#[derive(Drop)]
+struct Ran {
+    replies: Vec<Reply>,
+    held: Option<Held>,
+}
+
+/// What a quota holds: bytes and elements.
+#[derive(Clone, Copy, Debug, PartialEq, Eq)]
+struct Held {
+    bytes: u64,
+    elements: u64,
+}
+
+/// Reads the script, runs it and prints its replies, or prints why it isn't run. A line that can't be printed makes
+/// the status `Fault`; what went out before it stays.
+pub fn replay<R: io::Read, W: io::Write>(alloc: Global, reader: &mut R, writer: &mut W) -> Status
+    ensures { result ≡ Status.Answered → IfSome (R.remaining reader.old) (λ bytes. length bytes ≤ LIMIT) }
+{
+    let outcome = answer(alloc, reader);
+    let mut printer = Printer::new(writer);
+    match print(&mut printer, &outcome) {
+        Ok(()) => status_of(&outcome),
+        Err(_) => Status::Fault,
+    }
+}
+
+fn answer<R: io::Read>(alloc: Global, reader: &mut R) -> Result<Replayed, ReplayError>
+    ensures script { IfOk result (λ replayed. IfSome (R.remaining reader.old) (λ bytes. WritesScript bytes replayed.script)) }
+    ensures run { IfOk result (λ replayed. Answers replayed.script replayed.ran) }
+    ensures limited { OnOk result (IfSome (R.remaining reader.old) (λ bytes. length bytes ≤ LIMIT)) }
+{
+    let bytes = read(alloc, reader)?;
+    let script = parse(alloc, bytes.as_slice())?;
+    let ran = run_script(alloc, &script)?;
+    Ok(Replayed { script, ran })
+}
+
+/// Runs the script's calls on a new machine with its meter, under its quota or without a limiter.
+fn run_script(alloc: Global, script: &Script) -> Result<Ran, AllocError>
+    ensures { IfOk result (Answers script.now) }
+{
+    let mut machine = Machine::new(alloc, script.header.fuel());
+    match script.header.quota {
+        None => run_freely(&mut machine, &script.calls),
+        Some(line) => run_under(&mut machine, &script.calls, line),
+    }
+}
+
+fn run_freely(machine: &mut Machine, calls: &Vec<Call>) -> Result<Ran, AllocError>
+    ensures { IfOk result (AnswersUnder None machine.old calls.now.items) }
+{
+    let mut limiter = ResourceLimiterRef::<NoLimits>::default();
+    let replies = run(machine, calls.as_slice(), &mut limiter)?;
+    Ok(Ran {
+        replies,
+        held: None,
+    })
+}
+
+fn run_under(machine: &mut Machine, calls: &Vec<Call>, line: QuotaLine) -> Result<Ran, AllocError>
+    ensures { IfOk result (AnswersUnder (Some line) machine.old calls.now.items) }
+{
+    let mut quota = Quota::new(line.bytes, line.elements);
+    let replies = run_lent(machine, calls, &mut quota)?;
+    let held = Held {
+        bytes: quota.held_bytes(),
+        elements: quota.held_elements(),
+    };
+    Ok(Ran {
+        replies,
+        held: Some(held),
+    })
+}
+
+/// Runs the calls under a quota, which afterwards is what the run made of it.
+fn run_lent(
+    machine: &mut Machine,
+    calls: &Vec<Call>,
+    quota: &mut Quota,
+) -> Result<Vec<Reply>, AllocError>
+    ensures { IfOk result (λ replies. (charges : List ℕ) × (written : List ℕ)
+        × QuotaRun machine.old (Some quota.old) calls.now.items replies.items charges written machine.new (Some quota.new)) }
+{
+    let mut lent = ResourceLimiterRef::from(quota);
+    let replies = run(machine, calls.as_slice(), &mut lent);
+    let Some(_quota) = lent.into_resource_limiter() else {
+        unreachable!()
+    };
+    replies
+}
+
+fn print<W: io::Write>(
+    printer: &mut Printer<'_, W>,
+    outcome: &Result<Replayed, ReplayError>,
+) -> fmt::Result {
+    match outcome {
+        Ok(Replayed { script, ran }) => {
+            for (call, reply) in script.calls.iter().zip(ran.replies.iter()) {
+                let line = ReplyLine { call, reply };
+                writeln!(printer, "{line}")?;
+            }
+            if let Some(Held { bytes, elements }) = ran.held {
+                writeln!(printer, "held {bytes} {elements}")?;
+            }
+        }
+        Err(error) => writeln!(printer, "{error}")?,
+    }
+    printer.flush()
+}
+
+/// How the replay ends if its lines can be printed.
+fn status_of(outcome: &Result<Replayed, ReplayError>) -> Status
+    ensures { result ≡ status_after outcome.now }
+{
+    match outcome {
+        Ok(_) => Status::Answered,
+        Err(ReplayError::BadCommand { .. } | ReplayError::TooLong) => Status::BadScript,
+        Err(ReplayError::OutOfMemory) => Status::OutOfMemory,
+        Err(ReplayError::ReadFault) => Status::Fault,
+    }
+}

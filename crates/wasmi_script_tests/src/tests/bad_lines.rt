@@ -1,0 +1,119 @@
+//! Lines that are no commands.
+use super::prints;
+use super::streams::Source;
+use std::alloc::Global;
+use std::process::Abort;
+use std::test::Fail;
+use wasmi_script::Status;
+
+// No line but the script's only one, which is no command.
+const BAD_LINES: [&[u8]; 26] = [
+    b"fuel",
+    b"fuel +1",
+    b"fuel -1",
+    b"fuel 1 2",
+    b"fuel 18446744073709551616",
+    b"fuels 1",
+    b"Fuel 1",
+    b"left 0",
+    b"memory 2 1 16 32",
+    b"memory 0 none 1 32",
+    b"memory 65537 none 16 32",
+    b"memory 1 none 16 064",
+    b"memory 1 None 16 32",
+    b"write 0 0 256",
+    b"write 0",
+    b"read 0 0",
+    b"meter on",
+    b"meter on 4294967296",
+    b"meter",
+    b"fuel\t1",
+    b"left\r",
+    b"left \xff",
+    b"quota 1",
+    b"quota 1 18446744073709551616",
+    b"load load_u16 0 0 0",
+    b"store store32 0 0 0",
+];
+
+// More of them: numbers that are none or too large, words too many or too few.
+const MORE_BAD_LINES: [&[u8]; 20] = [
+    b"fuel 99999999999999999999",
+    b"fuel 184467440737095516150",
+    b"fuel 0x10",
+    b"fuel 1_000",
+    b"fuel \xd9\xa3",
+    b"memory 281474976710657 none 16 64",
+    b"memory 4294967297 none 0 32",
+    b"memory 1 none 16",
+    b"memory 1 none 16 32 0",
+    b"grow 0 1 2",
+    b"grow 18446744073709551616 1",
+    b"read 0 0 1 2",
+    b"write 0 0 -1",
+    b"meter off 1",
+    b"meter on 1 2",
+    b"quota 1 2 3",
+    b"load i32_load32_s 0 0 0",
+    b"load i32_store8 0 0 0",
+    b"store i32_load8_u 0 0 0 0",
+    b"drop memory 0",
+];
+
+fn is_bad<R: Abort>(rt: &R, alloc: Global, script: &[u8], printed: &str) {
+    prints(
+        rt,
+        alloc,
+        &mut Source::of(script),
+        printed,
+        Status::BadScript,
+    );
+}
+
+#[test]
+fn names_the_first_bad_line(rt: HostRuntime) {
+    for script in BAD_LINES {
+        is_bad(&rt, rt.alloc(), script, "line 1: bad command\n");
+    }
+}
+
+#[test]
+fn takes_no_other_numbers_or_words(rt: HostRuntime) {
+    for script in MORE_BAD_LINES {
+        is_bad(&rt, rt.alloc(), script, "line 1: bad command\n");
+    }
+}
+
+#[test]
+fn names_a_later_bad_line(rt: HostRuntime) {
+    let rows: [(&str, &str); 9] = [
+        ("fuel 1\nmeter on 64\nmeter", "line 2: bad command\n"),
+        ("meter off\nmeter off", "line 2: bad command\n"),
+        ("meter on 1\nmeter off\n", "line 2: bad command\n"),
+        ("left\nquota 1 1", "line 2: bad command\n"),
+        ("quota 1 1\nquota 1 1", "line 2: bad command\n"),
+        ("meter off\n\ngrow 0", "line 3: bad command\n"),
+        ("\n\n\n\n\n\n\n\n\nleft 1", "line 10: bad command\n"),
+        ("\n \nleft\n\nmeter off\nleft 1", "line 5: bad command\n"),
+        ("left\nleft 1\nleft 2\nmeter off", "line 2: bad command\n"),
+    ];
+    for (script, printed) in rows {
+        is_bad(&rt, rt.alloc(), script.as_bytes(), printed);
+    }
+}
+
+#[test]
+fn names_a_line_far_down(rt: HostRuntime) -> Result<(), Fail> {
+    let rows: [(usize, &str); 4] = [
+        (9, "line 10: bad command\n"),
+        (98, "line 99: bad command\n"),
+        (122, "line 123: bad command\n"),
+        (12344, "line 12345: bad command\n"),
+    ];
+    for (before, printed) in rows {
+        let mut script = "left\n".repeat(rt.alloc(), before)?;
+        script.push_str("left 1\nleft")?;
+        is_bad(&rt, rt.alloc(), script.as_bytes(), printed);
+    }
+    Ok(())
+}

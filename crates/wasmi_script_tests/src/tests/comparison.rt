@@ -1,0 +1,147 @@
+//! Tables of answers.
+use super::streams::{After, Source, Target};
+use super::{same, same_text};
+use std::alloc::Global;
+use std::io::ErrorKind;
+use std::process::Abort;
+use std::test::Fail;
+use wasmi_comparison::{Status, compare};
+
+// What is printed of a table, and how that ends.
+fn compares<R: Abort>(rt: &R, alloc: Global, table: Source<'_>, printed: &str, status: Status) {
+    let mut writer = Target::new(alloc);
+    let ended = compare(alloc, table, &mut writer);
+    same(rt, ended, status, printed);
+    same_text(rt, writer.text(), printed.as_bytes());
+}
+
+// Tables, what is printed of them, and how that ends.
+const TABLES: [(&str, &str, Status); 7] = [
+    (
+        "i32_div_s -2147483648 -1 -> trap IntegerOverflow\ni64_mul_wide_u -1 -1 -> 1 -2\ni32_eqz 0 -> 1",
+        "3 agree, 0 don't\n",
+        Status::Agreed,
+    ),
+    (
+        "i32_add 1 1 -> 3\ni64_lt_u 1 2 -> 0\ni64_add128 -1 0 1 0 -> 0 0\n",
+        "line 1: the answer is 2\nline 2: the answer is 1\nline 3: the answer is 0 1\n0 agree, 3 don't\n",
+        Status::Differed,
+    ),
+    (
+        "i32_rem_u 1 0 -> trap IntegerOverflow\ni32_add 1 1 -> 2\n",
+        "line 1: the answer is trap IntegerDivisionByZero\n1 agree, 1 don't\n",
+        Status::Differed,
+    ),
+    (
+        "i32_add 1 2147483648 -> 0\n\ni32_add 1 -> 1\ni32_none 1 1 -> 2\ni32_add 1 1 -> 2\r\ni32_add 1 +1 -> 2",
+        "line 1: malformed\nline 2: malformed\nline 3: malformed\nline 4: malformed\nline 5: malformed\nline 6: malformed\n0 agree, 6 don't\n",
+        Status::Differed,
+    ),
+    (
+        "i8x16_extract_lane_s 0 0 15 -> 0\ni16x8_extract_lane_u 0 0 7 -> 0\ni32x4_extract_lane 0 0 3 -> 0\ni64x2_replace_lane 0 0 1 -1 -> 0 18446744073709551615\ni8x16_shuffle 0 0 1 2 16 17 18 19 20 21 22 23 24 25 26 27 28 29 30 31 -> 1 2\nv128_bitselect 1 2 3 4 5 6 -> 3 2",
+        "6 agree, 0 don't\n",
+        Status::Agreed,
+    ),
+    (
+        "i8x16_splat -1 -> 0 18446744073709551615\nv128_not 0 1 -> -1 -2\nv128_or 1 2 4 8 -> 10 5\n",
+        "line 1: the answer is 18446744073709551615 18446744073709551615\nline 2: the answer is 18446744073709551615 18446744073709551614\nline 3: the answer is 5 10\n0 agree, 3 don't\n",
+        Status::Differed,
+    ),
+    (
+        "i8x16_extract_lane_s 0 0 16 -> 0\ni16x8_extract_lane_u 0 0 8 -> 0\ni32x4_replace_lane 0 0 4 0 -> 0 0\ni64x2_extract_lane 0 0 2 -> 0\ni8x16_shuffle 0 0 0 0 0 1 2 3 4 5 6 7 8 9 10 11 12 13 14 32 -> 0 0\ni8x16_splat 128 -> 0 0\nv128_and 0 0 0 -> 0 0",
+        "line 1: malformed\nline 2: malformed\nline 3: malformed\nline 4: malformed\nline 5: malformed\nline 6: malformed\nline 7: malformed\n0 agree, 7 don't\n",
+        Status::Differed,
+    ),
+];
+
+#[test]
+fn compares_lines(rt: HostRuntime) {
+    for (table, printed, status) in TABLES {
+        compares(
+            &rt,
+            rt.alloc(),
+            Source::of(table.as_bytes()),
+            printed,
+            status,
+        );
+    }
+}
+
+#[test]
+fn names_a_line_far_down(rt: HostRuntime) -> Result<(), Fail> {
+    let mut table = "i32_eqz 0 -> 1\n".repeat(rt.alloc(), 122)?;
+    table.push_str("i32_eqz 1 -> 1\ni32_eqz 1 -> 0")?;
+    let printed = "line 123: the answer is 0\n123 agree, 1 don't\n";
+    compares(
+        &rt,
+        rt.alloc(),
+        Source::of(table.as_bytes()),
+        printed,
+        Status::Differed,
+    );
+    Ok(())
+}
+
+#[test]
+fn tells_of_faults(rt: HostRuntime) {
+    for (error, good_turns, status) in [
+        (ErrorKind::BrokenPipe, 0, Status::Fault),
+        (ErrorKind::BrokenPipe, 2, Status::Fault),
+        (ErrorKind::OutOfMemory, 0, Status::OutOfMemory),
+        (ErrorKind::OutOfMemory, 2, Status::OutOfMemory),
+    ] {
+        let mut reader = Source::of(b"i32_eqz 0 -> 1");
+        reader.at_once = 7;
+        reader.good_turns = good_turns;
+        reader.error = error;
+        compares(&rt, rt.alloc(), reader, "", status);
+    }
+}
+
+// A table of which two lines don't agree, and what is printed of it.
+const MIXED: &str = "i32_eqz 1 -> 1\ni32_eqz 0 -> 1\ni32_none 1 -> 1";
+
+const MIXED_PRINTED: &str = "line 1: the answer is 0\nline 3: malformed\n1 agree, 2 don't\n";
+
+#[test]
+fn reads_from_slow_readers(rt: HostRuntime) {
+    for at_once in [1, 2, 7, 30] {
+        let mut reader = Source::of(MIXED.as_bytes());
+        reader.at_once = at_once;
+        compares(&rt, rt.alloc(), reader, MIXED_PRINTED, Status::Differed);
+    }
+}
+
+// What of the mixed table's lines reaches this writer.
+fn ends<R: Abort>(rt: &R, alloc: Global, writer: &mut Target, sent: usize, status: Status) {
+    let ended = compare(alloc, Source::of(MIXED.as_bytes()), writer);
+    same(rt, ended, status, "how it ends");
+    let sent = sent.min(MIXED_PRINTED.len());
+    same_text(rt, writer.text(), &MIXED_PRINTED.as_bytes()[..sent]);
+}
+
+#[test]
+fn prints_to_slow_writers(rt: HostRuntime) {
+    for at_once in [1, 2, 7, 500] {
+        let mut writer = Target::new(rt.alloc());
+        writer.at_once = at_once;
+        ends(&rt, rt.alloc(), &mut writer, usize::MAX, Status::Differed);
+        same(&rt, writer.is_flushed, true, "all is flushed");
+    }
+}
+
+#[test]
+fn tells_of_writers_that_fail(rt: HostRuntime) {
+    for good_turns in 0..MIXED_PRINTED.len() {
+        for after in [After::Fails(ErrorKind::BrokenPipe), After::TakesNothing] {
+            let mut writer = Target::new(rt.alloc());
+            writer.at_once = 1;
+            writer.good_turns = good_turns;
+            writer.after = after;
+            ends(&rt, rt.alloc(), &mut writer, good_turns, Status::Fault);
+        }
+    }
+    let mut writer = Target::new(rt.alloc());
+    writer.flush_fails = true;
+    ends(&rt, rt.alloc(), &mut writer, usize::MAX, Status::Fault);
+}

@@ -1,0 +1,112 @@
+//! Writers that are slow or fail.
+use super::streams::{After, Source, Target};
+use super::{METERED, METERED_PRINTED, same, same_text};
+use std::alloc::Global;
+use std::process::Abort;
+use wasmi_script::{Status, replay};
+
+// What the metered script prints to this writer, of which it takes so many bytes.
+fn ends<R: Abort>(rt: &R, alloc: Global, writer: &mut Target, sent: usize, status: Status) {
+    let ended = replay(alloc, &mut Source::of(METERED.as_bytes()), writer);
+    same(rt, ended, status, "how it ends");
+    let sent = sent.min(METERED_PRINTED.len());
+    same_text(rt, writer.text(), &METERED_PRINTED.as_bytes()[..sent]);
+}
+
+#[test]
+fn prints_byte_by_byte(rt: HostRuntime) {
+    let mut writer = Target::new(rt.alloc());
+    writer.at_once = 1;
+    ends(
+        &rt,
+        rt.alloc(),
+        &mut writer,
+        METERED_PRINTED.len(),
+        Status::Answered,
+    );
+    same(
+        &rt,
+        writer.turns,
+        METERED_PRINTED.len(),
+        "a turn for each byte",
+    );
+}
+
+#[test]
+fn prints_to_slow_writers(rt: HostRuntime) {
+    for at_once in [2, 3, 7, 40, 500] {
+        let mut writer = Target::new(rt.alloc());
+        writer.at_once = at_once;
+        ends(
+            &rt,
+            rt.alloc(),
+            &mut writer,
+            METERED_PRINTED.len(),
+            Status::Answered,
+        );
+        same(&rt, writer.is_flushed, true, "all is flushed");
+    }
+}
+
+#[test]
+fn stops_where_a_write_fails(rt: HostRuntime) {
+    for good_turns in 0..METERED_PRINTED.len() {
+        let mut writer = Target::new(rt.alloc());
+        writer.at_once = 1;
+        writer.good_turns = good_turns;
+        ends(&rt, rt.alloc(), &mut writer, good_turns, Status::Fault);
+    }
+}
+
+#[test]
+fn stops_where_no_byte_is_taken(rt: HostRuntime) {
+    for good_turns in 0..METERED_PRINTED.len() {
+        let mut writer = Target::new(rt.alloc());
+        writer.at_once = 1;
+        writer.good_turns = good_turns;
+        writer.after = After::TakesNothing;
+        ends(&rt, rt.alloc(), &mut writer, good_turns, Status::Fault);
+    }
+}
+
+#[test]
+fn a_flush_that_fails_is_a_fault(rt: HostRuntime) {
+    for at_once in [1, 7, 500] {
+        let mut writer = Target::new(rt.alloc());
+        writer.at_once = at_once;
+        writer.flush_fails = true;
+        ends(
+            &rt,
+            rt.alloc(),
+            &mut writer,
+            METERED_PRINTED.len(),
+            Status::Fault,
+        );
+    }
+}
+
+#[test]
+fn a_reason_that_cannot_be_printed_is_a_fault(rt: HostRuntime) {
+    let rows: [(&str, usize, bool, &str); 6] = [
+        ("", usize::MAX, true, ""),
+        ("left 1", 0, false, ""),
+        ("left 1", 12, false, "line 1: bad "),
+        ("left 1", 19, false, "line 1: bad command"),
+        ("left 1", usize::MAX, true, "line 1: bad command\n"),
+        (
+            "quota 1 2\nleft",
+            40,
+            false,
+            "error fuel metering is disabled\nheld 0 0",
+        ),
+    ];
+    for (script, good_turns, flush_fails, printed) in rows {
+        let mut writer = Target::new(rt.alloc());
+        writer.at_once = 1;
+        writer.good_turns = good_turns;
+        writer.flush_fails = flush_fails;
+        let ended = replay(rt.alloc(), &mut Source::of(script.as_bytes()), &mut writer);
+        same(&rt, ended, Status::Fault, script);
+        same_text(&rt, writer.text(), printed.as_bytes());
+    }
+}

@@ -1,0 +1,139 @@
+//! The texts of errors, and conversions between them.
+use super::{same, same_text};
+use std::test::Fail;
+use wasmi_meter::{FuelError, LimiterError, MemoryError, TableError};
+
+static MEMORY_TEXTS: [(MemoryError, &str); 9] = [
+    (
+        MemoryError::OutOfSystemMemory,
+        "tried to allocate more virtual memory than available on the system",
+    ),
+    (
+        MemoryError::OutOfBoundsGrowth,
+        "out of bounds memory growth",
+    ),
+    (
+        MemoryError::OutOfBoundsAccess,
+        "out of bounds memory access",
+    ),
+    (
+        MemoryError::InvalidMemoryType,
+        "tried to create an invalid linear memory type",
+    ),
+    (
+        MemoryError::InvalidStaticBufferSize,
+        "tried to use too small static buffer",
+    ),
+    (
+        MemoryError::ResourceLimiterDeniedAllocation,
+        "a resource limiter denied to allocate or grow the linear memory",
+    ),
+    (
+        MemoryError::MinimumSizeOverflow,
+        "the minimum size of the memory type overflows the system index type",
+    ),
+    (
+        MemoryError::MaximumSizeOverflow,
+        "the maximum size of the memory type overflows the system index type",
+    ),
+    (
+        MemoryError::OutOfFuel {
+            required_fuel: 1024,
+        },
+        "not enough fuel. required=1024",
+    ),
+];
+
+#[test]
+fn memory_errors_have_their_texts(rt: HostRuntime) -> Result<(), Fail> {
+    for (error, text) in &MEMORY_TEXTS {
+        same_text(&rt, rt.alloc(), error, text)?;
+    }
+    Ok(())
+}
+
+static TABLE_TEXTS: [(TableError, &str); 11] = [
+    (
+        TableError::OutOfSystemMemory,
+        "tried to allocate more virtual memory than available on the system",
+    ),
+    (
+        TableError::MinimumSizeOverflow,
+        "the minimum table size overflows the system bounds",
+    ),
+    (
+        TableError::MaximumSizeOverflow,
+        "the maximum table size overflows the system bounds",
+    ),
+    (
+        TableError::ResourceLimiterDeniedAllocation,
+        "a resource limiter denied to allocate or grow the table",
+    ),
+    (
+        TableError::GrowOutOfBounds,
+        "out of bounds table access: `table.growth`",
+    ),
+    (
+        TableError::InitOutOfBounds,
+        "out of bounds table access: `table.init`",
+    ),
+    (
+        TableError::FillOutOfBounds,
+        "out of bounds table access: `table.fill`",
+    ),
+    (
+        TableError::CopyOutOfBounds,
+        "out of bounds table access: `table.copy`",
+    ),
+    (
+        TableError::SetOutOfBounds,
+        "out of bounds table access: `table.set`",
+    ),
+    (
+        TableError::ElementTypeMismatch,
+        "encountered mismatching table element type",
+    ),
+    (
+        TableError::OutOfFuel {
+            required_fuel: u64::MAX,
+        },
+        "not enough fuel: required=18446744073709551615",
+    ),
+];
+
+#[test]
+fn table_errors_have_their_texts(rt: HostRuntime) -> Result<(), Fail> {
+    for (error, text) in &TABLE_TEXTS {
+        same_text(&rt, rt.alloc(), error, text)?;
+    }
+    Ok(())
+}
+
+#[test]
+fn fuel_and_limiter_errors_have_their_texts(rt: HostRuntime) -> Result<(), Fail> {
+    let limiter = LimiterError::ResourceLimiterDeniedAllocation;
+    let disabled = FuelError::fuel_metering_disabled();
+    let out = FuelError::out_of_fuel(7);
+    same_text(
+        &rt,
+        rt.alloc(),
+        &limiter,
+        "resource limiter denied allocation",
+    )?;
+    same_text(&rt, rt.alloc(), &disabled, "fuel metering is disabled")?;
+    same_text(&rt, rt.alloc(), &out, "ouf of fuel. required=7")?;
+    let expected = FuelError::OutOfFuel { required_fuel: 7 };
+    same(&rt, "a clone", out.clone()?, expected);
+    let expected = FuelError::FuelMeteringDisabled;
+    same(&rt, "metering is off", disabled, expected);
+    Ok(())
+}
+
+#[test]
+fn a_limiter_error_becomes_a_denial(rt: HostRuntime) {
+    let error = LimiterError::ResourceLimiterDeniedAllocation;
+    let of_memory = MemoryError::ResourceLimiterDeniedAllocation;
+    same(&rt, "of a memory", error.into(), of_memory);
+    let of_table = TableError::ResourceLimiterDeniedAllocation;
+    same(&rt, "of a table", error.into(), of_table);
+}

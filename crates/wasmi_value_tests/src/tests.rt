@@ -1,0 +1,21 @@
+mod function_types;
+mod globals;
+mod raw_values;
+mod traps;
+mod typed_values;
+mod value_types;
+
+use std::alloc::Global;
+use std::fmt::{Debug, Display};
+use std::process::Abort;
+
+/// Compares an answer with what it has to be. The comparison is proved here once, and not at each row.
+fn same<T: PartialEq + Debug + Drop>(rt: &impl Abort, answer: T, expected: T) {
+    assert_eq!(rt; answer, expected);
+}
+
+/// Compares the text of a value with what it has to be.
+fn same_text(rt: &impl Abort, alloc: Global, value: &impl Display, expected: &str) {
+    let text = format!(in alloc; "{value}").expect(rt, "memory");
+    same(rt, text.as_str(), expected);
+}

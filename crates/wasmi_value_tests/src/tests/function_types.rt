@@ -1,0 +1,210 @@
+use super::{same, same_text};
+use FuncTypeError::{TooManyFunctionParams, TooManyFunctionResults};
+use ValType::{ExternRef, F32, F64, I32, I64, V128};
+use std::alloc::Global;
+use std::cmp::Ordering;
+use std::hash::{DefaultHasher, Hash, Hasher};
+use std::process::Abort;
+use wasmi_types::{FuncType, FuncTypeError, ValType};
+
+/// The types of the parameters, and those of the results.
+type Lists<'a> = (&'a [ValType], &'a [ValType]);
+
+/// The function type of two lists, after a look at each way to read it.
+fn function_type(rt: &impl Abort, alloc: Global, lists: Lists) -> FuncType {
+    let (params, results) = lists;
+    let made = FuncType::new(alloc, params.iter().copied(), results.iter().copied());
+    let ty = made.expect(rt, "a function type");
+    same(rt, ty.params_results(), lists);
+    same(rt, (ty.params(), ty.results()), lists);
+    same(rt, usize::from(ty.len_params()), params.len());
+    same(rt, usize::from(ty.len_results()), results.len());
+    ty
+}
+
+fn hash_of(ty: &FuncType) -> u64 {
+    let mut hasher = DefaultHasher::new();
+    ty.hash(&mut hasher);
+    hasher.finish()
+}
+
+/// Compares a copy of a function type with another one of the same lists.
+fn check_copy(rt: &impl Abort, alloc: Global, lists: Lists) {
+    let ty = function_type(rt, alloc, lists);
+    let copy = ty.clone().expect(rt, "memory");
+    same(rt, hash_of(&copy), hash_of(&ty));
+    same(rt, copy, function_type(rt, alloc, lists));
+}
+
+/// Compares two function types, of which the first is below the second.
+fn check_order(rt: &impl Abort, alloc: Global, lower: Lists, higher: Lists) {
+    let lower = function_type(rt, alloc, lower);
+    let higher = function_type(rt, alloc, higher);
+    same(rt, lower.cmp(&higher), Ordering::Less);
+    same(rt, higher.cmp(&lower), Ordering::Greater);
+    same(rt, (lower < higher, lower == higher), (true, false));
+}
+
+#[test]
+fn new_empty_works(rt: HostRuntime) {
+    check_copy(&rt, rt.alloc(), (&[], &[]));
+}
+
+static INLINE: [&[ValType]; 9] = [
+    &[I32],
+    &[I64],
+    &[F32],
+    &[F64],
+    &[I32, I32],
+    &[I32, I32, I32],
+    &[I32, I32, I32, I32],
+    &[I32, I32, I32, I32, I32, I32, I32, I32],
+    &[I32, I64, F32, F64],
+];
+
+#[test]
+fn new_inline_works(rt: HostRuntime) {
+    for list in &INLINE {
+        check_order(&rt, rt.alloc(), (&[], list), (list, &[]));
+        check_copy(&rt, rt.alloc(), (list, list));
+    }
+}
+
+#[test]
+fn new_big_works(rt: HostRuntime) {
+    let big: Lists = (&[I32; 100], &[I64; 100]);
+    check_copy(&rt, rt.alloc(), big);
+    check_order(&rt, rt.alloc(), (&[I32; 100], &[I64; 99]), big);
+}
+
+/// Pairs of function types, the lower one first.
+static ASCENDING: [(Lists, Lists); 8] = [
+    // at most 21 entries come first
+    ((&[V128; 21], &[]), (&[I32; 22], &[])),
+    ((&[I32; 11], &[I32; 10]), (&[I32; 10], &[I32; 12])),
+    // then fewer parameters
+    ((&[], &[I64, I64]), (&[I32], &[])),
+    ((&[ExternRef; 22], &[]), (&[I32; 23], &[])),
+    // then, among small ones, fewer results
+    ((&[I32], &[ExternRef]), (&[I32], &[I32, I32])),
+    // then the entries
+    ((&[I32, F32], &[V128]), (&[I32, F64], &[I32])),
+    ((&[I32; 22], &[I32, I32]), (&[I32; 22], &[ExternRef])),
+    // a list comes before its extensions
+    ((&[I32; 22], &[I64]), (&[I32; 22], &[I64, I32])),
+];
+
+#[test]
+fn function_types_are_ordered(rt: HostRuntime) {
+    for &(lower, higher) in &ASCENDING {
+        check_order(&rt, rt.alloc(), lower, higher);
+    }
+}
+
+/// Gives `I32` until the read that gives `None`, then `I64` for ever, and counts the reads.
+#[derive(Drop)]
+struct Source<'a> {
+    reads: &'a mut usize,
+    end: usize,
+}
+
+impl Iterator for Source<'_> {
+    type Item = ValType;
+
+    fn next(&mut self) -> Option<ValType> {
+        let read = *self.reads;
+        *self.reads = read.wrapping_add(1);
+        if read == self.end {
+            return None;
+        }
+        Some(if read < self.end { I32 } else { I64 })
+    }
+
+    // More than there is memory for: nobody may trust it.
+    fn size_hint(&self) -> (usize, Option<usize>) {
+        (usize::MAX, None)
+    }
+}
+
+/// The function type of two sources that end at these reads, and how often each was read.
+fn read(alloc: Global, ends: (usize, usize)) -> (Result<FuncType, FuncTypeError>, (usize, usize)) {
+    let mut reads = (0, 0);
+    let params = Source {
+        reads: &mut reads.0,
+        end: ends.0,
+    };
+    let results = Source {
+        reads: &mut reads.1,
+        end: ends.1,
+    };
+    let made = FuncType::new(alloc, params, results);
+    (made, reads)
+}
+
+const ENDLESS: usize = usize::MAX;
+
+/// For the parameters and the results: the read that gives `None`, and how often each is read. Then the refusal.
+static READS: [((usize, usize), (usize, usize), Option<FuncTypeError>); 7] = [
+    ((0, 0), (1, 1), None),
+    ((2, 3), (3, 4), None),
+    ((1_000, 1_000), (1_001, 1_001), None),
+    ((ENDLESS, 0), (1_001, 0), Some(TooManyFunctionParams)),
+    ((1_001, 1_001), (1_001, 0), Some(TooManyFunctionParams)),
+    (
+        (1_000, ENDLESS),
+        (1_001, 1_001),
+        Some(TooManyFunctionResults),
+    ),
+    ((0, 1_001), (1, 1_001), Some(TooManyFunctionResults)),
+];
+
+#[test]
+fn reads_until_the_first_none(rt: HostRuntime) {
+    for &(ends, expected, refusal) in &READS {
+        let (made, reads) = read(rt.alloc(), ends);
+        same(&rt, (ends, reads), (ends, expected));
+        match made {
+            Ok(ty) => {
+                let counts = (usize::from(ty.len_params()), usize::from(ty.len_results()));
+                same(&rt, (counts, None), (ends, refusal));
+            }
+            Err(error) => same(&rt, Some(error), refusal),
+        }
+    }
+}
+
+/// The reads that give `None`, and the types that are taken.
+static ENDED: [((usize, usize), Lists); 4] = [
+    ((0, 1), (&[], &[I32])),
+    ((2, 0), (&[I32, I32], &[])),
+    ((2, 3), (&[I32, I32], &[I32, I32, I32])),
+    ((12, 11), (&[I32; 12], &[I32; 11])),
+];
+
+#[test]
+fn types_after_the_first_none_are_not_taken(rt: HostRuntime) {
+    for &(ends, taken) in &ENDED {
+        let (made, _) = read(rt.alloc(), ends);
+        let ty = made.expect(&rt, "a function type");
+        same(&rt, ty.params_results(), taken);
+    }
+}
+
+static REFUSALS: [(FuncTypeError, &str); 3] = [
+    (
+        FuncTypeError::TooManyFunctionParams,
+        "encountered a function with too many parameters",
+    ),
+    (
+        FuncTypeError::TooManyFunctionResults,
+        "encountered a function with too many results",
+    ),
+    (FuncTypeError::OutOfMemory, "out of memory"),
+];
+
+#[test]
+fn refusals_have_their_texts(rt: HostRuntime) {
+    for (error, text) in &REFUSALS {
+        same_text(&rt, rt.alloc(), error, text);
+    }
+}

@@ -1,0 +1,83 @@
+ghost use Rattle.std.specs.Prelude.{◌≡◌};
+ghost use Rattle.wasmi_typed.specs.Global.{with_value};
+
+use super::{same, same_text};
+use wasmi_raw::RawVal;
+use wasmi_typed::{Global, GlobalError, GlobalType, Mutability, TypedRawVal};
+use wasmi_types::ValType;
+
+#[test]
+fn constants_are_not_written(rt: HostRuntime) {
+    let constant = GlobalType::new(ValType::I32, Mutability::Const);
+    let mut global = Global::new(RawVal::from(7u32), constant);
+    let set = global.set(TypedRawVal::from(1i64));
+    same(&rt, set, Err(GlobalError::ImmutableWrite));
+    same(&rt, global.get(), TypedRawVal::from(7u32));
+}
+
+#[test]
+fn variables_are_written_with_their_type(rt: HostRuntime) {
+    let variable = GlobalType::new(ValType::I32, Mutability::Var);
+    let mut global = Global::new(RawVal::from(7u32), variable);
+    let set = global.set(TypedRawVal::from(1i64));
+    same(&rt, set, Err(GlobalError::TypeMismatch));
+    same(&rt, *global.get_raw(), RawVal::from(7u32));
+    same(&rt, global.set(TypedRawVal::from(8u32)), Ok(()));
+    same(&rt, global.get(), TypedRawVal::from(8u32));
+    same(&rt, global.ty(), variable);
+}
+
+#[test]
+fn global_types_are_constant_or_variable(rt: HostRuntime) {
+    for (mutability, is_mut) in [(Mutability::Const, false), (Mutability::Var, true)] {
+        let ty = GlobalType::new(ValType::I32, mutability);
+        same(
+            &rt,
+            (ty.content(), ty.mutability()),
+            (ValType::I32, mutability),
+        );
+        same(
+            &rt,
+            (mutability.is_const(), mutability.is_mut()),
+            (!is_mut, is_mut),
+        );
+    }
+}
+
+/// A caller of `get_raw_mut` knows what the variable holds after the loan.
+fn replace(global: &mut Global, value: RawVal) -> RawVal
+    requires { global.old.ty.mutability ≡ Mutability.Var }
+    ensures after { global.new ≡ with_value global.old value }
+    ensures before { result ≡ global.old.value }
+{
+    let raw = global.get_raw_mut();
+    let before = *raw;
+    *raw = value;
+    before
+}
+
+#[test]
+fn globals_are_written_in_place(rt: HostRuntime) {
+    let variable = GlobalType::new(ValType::V128, Mutability::Var);
+    let mut global = Global::new(RawVal::default(), variable);
+    let before = replace(&mut global, RawVal { lo: 1, hi: 2 });
+    same(&rt, before, RawVal::default());
+    global.get_raw_mut().hi = 5;
+    same(&rt, *global.get_raw(), RawVal { lo: 1, hi: 5 });
+}
+
+#[test]
+fn errors_say_what_is_wrong(rt: HostRuntime) {
+    same_text(
+        &rt,
+        rt.alloc(),
+        &GlobalError::ImmutableWrite,
+        "tried to write to immutable global variable",
+    );
+    same_text(
+        &rt,
+        rt.alloc(),
+        &GlobalError::TypeMismatch,
+        "tried to write value of non-matching type to global variable",
+    );
+}

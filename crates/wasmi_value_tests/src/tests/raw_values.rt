@@ -1,0 +1,165 @@
+use super::same;
+use std::fmt::Debug;
+use std::num::{
+    NonZeroI8, NonZeroI16, NonZeroI32, NonZeroI64, NonZeroU8, NonZeroU16, NonZeroU32, NonZeroU64,
+};
+use std::process::Abort;
+use wasmi_raw::{F32, F64, RawVal, ReadAs, V128, WriteAs};
+
+const ONES: RawVal = RawVal {
+    lo: u64::MAX,
+    hi: u64::MAX,
+};
+
+/// All ones, with `value` written to it.
+fn over<T>(value: T) -> RawVal
+where
+    RawVal: WriteAs<T>,
+{
+    let mut raw = ONES;
+    raw.write_as(value);
+    raw
+}
+
+/// Writes a value over all ones, and reads it back.
+fn check_read_back<T: Copy + PartialEq + Debug>(rt: &impl Abort, value: T)
+where
+    RawVal: WriteAs<T> + ReadAs<T>,
+{
+    same(rt, over(value).read_as(), value);
+}
+
+#[test]
+fn what_is_written_is_read_back(rt: HostRuntime) {
+    check_read_back(&rt, -1i8);
+    check_read_back(&rt, -2i16);
+    check_read_back(&rt, -3i32);
+    check_read_back(&rt, i64::MIN);
+    check_read_back(&rt, 200u8);
+    check_read_back(&rt, 60000u16);
+    check_read_back(&rt, 0u32);
+    check_read_back(&rt, 5u64);
+    check_read_back(&rt, true);
+    check_read_back(&rt, V128::from(u128::MAX));
+    check_read_back(&rt, RawVal { lo: 1, hi: 2 });
+}
+
+/// Makes a raw value of a value, and writes the value over all ones: this sets the low word alone.
+fn check_low_word<T: Copy + Into<RawVal>>(rt: &impl Abort, value: T, lo: u64)
+where
+    RawVal: WriteAs<T>,
+{
+    same(rt, value.into(), RawVal { lo, hi: 0 });
+    same(rt, over(value), RawVal { lo, hi: u64::MAX });
+}
+
+#[test]
+fn integers_and_bools_set_the_low_word_alone(rt: HostRuntime) {
+    check_low_word(&rt, -1i8, 255);
+    check_low_word(&rt, -1i16, 65535);
+    check_low_word(&rt, -1i32, 4294967295);
+    check_low_word(&rt, -1i64, u64::MAX);
+    check_low_word(&rt, 7u8, 7);
+    check_low_word(&rt, 7u16, 7);
+    check_low_word(&rt, 7u32, 7);
+    check_low_word(&rt, 7u64, 7);
+    check_low_word(&rt, 0u32, 0);
+    check_low_word(&rt, true, 1);
+    check_low_word(&rt, false, 0);
+}
+
+#[test]
+fn non_zero_integers_set_the_low_word_alone(rt: HostRuntime) {
+    check_low_word(&rt, NonZeroI8::MIN, 128);
+    check_low_word(&rt, NonZeroI16::MIN, 32768);
+    check_low_word(&rt, NonZeroI32::MIN, 2147483648);
+    check_low_word(&rt, NonZeroI64::MIN, 9223372036854775808);
+    check_low_word(&rt, NonZeroU8::MAX, 255);
+    check_low_word(&rt, NonZeroU16::MAX, 65535);
+    check_low_word(&rt, NonZeroU32::MAX, 4294967295);
+    check_low_word(&rt, NonZeroU64::MIN, 1);
+}
+
+#[test]
+fn equality_looks_at_both_words(rt: HostRuntime) {
+    let mut raw = RawVal::from(V128::from(u128::MAX));
+    raw.write_as(0u32);
+    same(&rt, (raw.lo, raw.hi), (0, 18446744073709551615));
+    same(&rt, raw == RawVal::from(0u32), false);
+}
+
+#[test]
+fn floats_and_bits_are_the_low_word(rt: HostRuntime) {
+    same(
+        &rt,
+        RawVal::from(F32::from_bits(9)),
+        RawVal { lo: 9, hi: 0 },
+    );
+    same(
+        &rt,
+        RawVal::from(F64::from_bits(9)),
+        RawVal { lo: 9, hi: 0 },
+    );
+    same(&rt, RawVal::from_bits64(3), RawVal { lo: 3, hi: 0 });
+    same(&rt, RawVal::default(), RawVal { lo: 0, hi: 0 });
+}
+
+#[test]
+fn a_vector_is_both_words(rt: HostRuntime) {
+    let vector = V128::from((2 << 64) + 1);
+    same(&rt, RawVal::from(vector), RawVal { lo: 1, hi: 2 });
+    same(&rt, vector.words(), (1, 2));
+    same(&rt, V128::from_words(1, 2), vector);
+    same(&rt, V128::from(ONES).as_u128(), u128::MAX);
+}
+
+#[test]
+fn a_raw_value_becomes_an_integer(rt: HostRuntime) {
+    let signed = (
+        i8::from(ONES),
+        i16::from(ONES),
+        i32::from(ONES),
+        i64::from(ONES),
+    );
+    same(&rt, signed, (-1, -1, -1, -1));
+    let unsigned = (
+        u8::from(ONES),
+        u16::from(ONES),
+        u32::from(ONES),
+        u64::from(ONES),
+    );
+    same(&rt, unsigned, (255, 65535, 4294967295, u64::MAX));
+}
+
+#[test]
+fn a_raw_value_becomes_a_bool_or_a_float(rt: HostRuntime) {
+    let raw = RawVal::from_bits64(256);
+    let truth: bool = raw.read_as();
+    let byte: u8 = raw.read_as();
+    same(&rt, (truth, byte), (true, 0));
+    same(
+        &rt,
+        (bool::from(raw), bool::from(RawVal::default())),
+        (true, false),
+    );
+    same(&rt, raw.to_bits64(), 256);
+    same(&rt, F32::from(ONES).to_bits(), u32::MAX);
+    same(&rt, F64::from(ONES).to_bits(), u64::MAX);
+}
+
+static ASCENDING: [RawVal; 4] = [
+    RawVal { lo: 0, hi: 9 },
+    RawVal { lo: 1, hi: 0 },
+    RawVal { lo: 1, hi: 1 },
+    RawVal { lo: 2, hi: 0 },
+];
+
+#[test]
+fn is_ordered_by_the_low_word_first(rt: HostRuntime) {
+    let mut below = None;
+    for raw in &ASCENDING {
+        let raw = Some(*raw);
+        same(&rt, (raw, below < raw), (raw, true));
+        below = raw;
+    }
+}

@@ -1,0 +1,64 @@
+use super::same;
+use ValType::{ExternRef, F32, F64, FuncRef, I32, I64, V128};
+use wasmi_types::{IndexType, RefType, ValType, hint};
+
+/// Each value type, whether it is a number type, and its reference type. In ascending order.
+static VALUE_TYPES: [(ValType, bool, Option<RefType>); 7] = [
+    (I32, true, None),
+    (I64, true, None),
+    (F32, true, None),
+    (F64, true, None),
+    (V128, false, None),
+    (FuncRef, false, Some(RefType::Func)),
+    (ExternRef, false, Some(RefType::Extern)),
+];
+
+#[test]
+fn value_types_are_numbers_vectors_or_references(rt: HostRuntime) {
+    for &(ty, is_num, reference) in &VALUE_TYPES {
+        same(&rt, (ty, ty.is_num()), (ty, is_num));
+        same(&rt, (ty, ty.is_ref()), (ty, reference.is_some()));
+        same(&rt, (ty, ty.as_ref()), (ty, reference));
+        if let Some(reference) = reference {
+            same(&rt, ValType::from(reference), ty);
+        }
+    }
+}
+
+#[test]
+fn value_types_ascend(rt: HostRuntime) {
+    let mut below = None;
+    for &(ty, _, _) in &VALUE_TYPES {
+        let ty = Some(ty);
+        same(&rt, (ty, below < ty), (ty, true));
+        below = ty;
+    }
+    same(&rt, RefType::Func < RefType::Extern, true);
+}
+
+#[test]
+fn index_types_are_32_or_64_bits_wide(rt: HostRuntime) {
+    let (narrow, wide) = (IndexType::I32, IndexType::I64);
+    same(&rt, (narrow.ty(), narrow.is_64()), (I32, false));
+    same(&rt, (wide.ty(), wide.is_64()), (I64, true));
+    same(&rt, narrow.max_size(), 4_294_967_296);
+    same(&rt, wide.max_size(), 18_446_744_073_709_551_616);
+}
+
+#[test]
+fn the_narrower_index_type_is_the_minimum(rt: HostRuntime) {
+    let (narrow, wide) = (IndexType::I32, IndexType::I64);
+    same(&rt, wide.min(&wide), wide);
+    same(&rt, wide.min(&narrow), narrow);
+    same(&rt, narrow.min(&wide), narrow);
+    same(&rt, narrow.min(&narrow), narrow);
+}
+
+#[test]
+fn hints_answer_their_condition(rt: HostRuntime) {
+    hint::cold();
+    for condition in [false, true] {
+        same(&rt, hint::likely(condition), condition);
+        same(&rt, hint::unlikely(condition), condition);
+    }
+}
