@@ -1,18 +1,17 @@
--- A run goes on by one step.
-use Rattle.std.proofs.Common.{◌≡◌, ℕ, List, [], ◌∷◌, ◌++◌, refl}
-use Rattle.wasmi_meter.specs.Limiter.{Question, Failure, Answer, Reply as Heed}
+-- A run goes on by one turn.
+use Rattle.std.proofs.Common.{List, [], ◌∷◌, ◌++◌, refl}
+use Rattle.wasmi_meter.specs.Limiter.{Rules}
 use Rattle.wasmi_core.specs.declared.calls.Call.{Call}
 use Rattle.wasmi_core.specs.declared.calls.Reply.{Reply}
-use Rattle.wasmi_core.specs.State.{State}
-use Rattle.wasmi_core.specs.Steps.{Step, IsFree}
+use Rattle.wasmi_core.specs.World.{World, Turn, IsFree}
+use Rattle.wasmi_core.specs.Steps.{Step}
 use Rattle.wasmi_core.specs.Runs.{Run}
 
-pub free : {S : Type 0} (l : S) → IsFree l 0 0 l
-free l = record { uncharged = refl; unwritten = refl; limiter = refl }
+-- a turn with no charge and no written bytes
+pub free : (call : Call) (reply : Reply) → IsFree (record { call = call; reply = reply; charge = 0; written = 0 })
+free call reply = record { uncharged = refl; unwritten = refl }
 
-module _ {S : Type 0} (asked : S → Question → Answer → S → Type 0) (noticed : S → Failure → Heed → S → Type 0) where
-  pub Run-push : (s : State) (l : S) (calls : List Call) (replies : List Reply) (charges written : List ℕ) (t : State) (k : S) → Run asked noticed s l calls replies charges written t k → (call : Call) (reply : Reply) (charge bytes : ℕ) (u : State) (j : S) → Step asked noticed t k call reply charge bytes u j → Run asked noticed s l (calls ++ call ∷ []) (replies ++ reply ∷ []) (charges ++ charge ∷ []) (written ++ bytes ∷ []) u j
-  Run-push s l [] [] [] [] t k h call reply charge bytes u j step = (u, j, rw (← h.0, ← h.1) step, (refl, refl))
-  Run-push s l (c ∷ calls) (r ∷ replies) (x ∷ charges) (w ∷ written) t k h call reply charge bytes u j step =
-      (h.0, h.1, h.2, Run-push h.0 h.1 calls replies charges written t k h.3 call reply charge bytes u j step)
-  Run-push s l _ _ _ _ t k h call reply charge bytes u j step = absurd h
+module _ {S : Type 0} (rules : Rules S) where
+  pub Run-push : (u : World S) (turns : List Turn) (v : World S) → Run rules u turns v → (turn : Turn) (w : World S) → Step rules v turn w → Run rules u (turns ++ turn ∷ []) w
+  Run-push u [] v ran turn w step = (w, rw (← ran) step, refl)
+  Run-push u (t ∷ turns) v ran turn w step = (ran.0, ran.1, Run-push ran.0 turns v ran.2 turn w step)

@@ -1,4 +1,5 @@
 pub mod State
+pub mod World
 pub mod FuelRows
 pub mod MemoryRows
 pub mod Steps

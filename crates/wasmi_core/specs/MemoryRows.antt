@@ -1,110 +1,130 @@
--- The calls on memories: what each does to the slots, the meter and the limiter.
+-- The calls on memories: what each does to the list of slots, and in a turn.
 use Rattle.std.specs.Prelude.{◌≡◌, ◌⊎◌, ◌*◌, ◌++◌, ℕ, Option, Some, None, Result, Ok, Err, List, [], ◌∷◌, length, slice_set}
 use Rattle.wasmi_types.specs.Access.{at}
+use Rattle.wasmi_types.specs.declared.trap.TrapCode.{TrapCode}
+use Rattle.wasmi_raw.specs.declared.raw.RawVal.{RawVal}
+use Rattle.wasmi_access.specs.LoadStore.{IsStore}
 use Rattle.wasmi_meter.specs.declared.error.MemoryError.{MemoryError}
 use Rattle.wasmi_meter.specs.declared.error.MemoryError.TheVariants.{OutOfBoundsAccess}
-use Rattle.wasmi_meter.specs.Limiter.{Question, Failure, Answer, Reply as Heed}
+use Rattle.wasmi_meter.specs.Limiter.{Rules}
 use Rattle.wasmi_meter.specs.Meter.{Meter}
+use Rattle.wasmi_meter.specs.Attempt.{Situation, with_value}
+use Rattle.wasmi_store.specs.Buffer.{Owned}
 use Rattle.wasmi_store.specs.MemoryType.{MemoryTypeValue, page_bytes}
 use Rattle.wasmi_store.specs.Memory.{MemoryValue, MakesMemory, GrowsMemory, WritesMemory}
 use Rattle.wasmi_core.specs.declared.calls.Reply.{Reply}
 use Rattle.wasmi_core.specs.declared.calls.Reply.TheVariants.{Done, Made, Value, Number, Bytes, Memory, Trap, NoSuch, NoRoom}
 use Rattle.wasmi_core.specs.declared.slots.MemorySlot.{MemorySlot}
 use Rattle.wasmi_core.specs.declared.slots.MemorySlot.TheVariants.{Live}
-use Rattle.wasmi_core.specs.State.{memory_at}
-use Rattle.wasmi_types.specs.declared.trap.TrapCode.{TrapCode}
-use Rattle.wasmi_raw.specs.declared.raw.RawVal.{RawVal}
-use Rattle.wasmi_access.specs.LoadStore.{IsStore}
 use Rattle.wasmi_core.specs.declared.ops.LoadOp.{LoadOp}
 use Rattle.wasmi_core.specs.declared.ops.StoreOp.{StoreOp}
 use Rattle.wasmi_core.specs.AccessOps.{loaded_raw, stored_bytes}
+use Rattle.wasmi_core.specs.State.{memory_at}
+use Rattle.wasmi_core.specs.World.{World, Turn, IsFree}
+
+-- a fact of the live value of an index; where the index names none, the other fact
+abbrev pub OnLive : {X : Type 0} → Option X → Type 0 → (X → Type 0) → Type 0
+OnLive None Missing Fact = Missing
+OnLive (Some x) Missing Fact = Fact x
+
+-- the live memory of an index has become another; where the index names none it is `NoSuch`, and nothing has changed
+abbrev pub ChangesAt : ℕ → List MemorySlot → Reply → List MemorySlot → (MemoryValue → MemoryValue → Type 0) → Type 0
+ChangesAt k slots reply slots' Change = OnLive (memory_at slots k) ((reply ≡ NoSuch) × (slots' ≡ slots))
+    (λ x. (x' : MemoryValue) × Change x x' × (slots' ≡ slice_set slots k (Live x')))
 
 -- the reply to a creation, and the slots after it: a new one at the end where it succeeds
-abbrev pub Appends : List MemorySlot → Result MemoryValue MemoryError → Reply → List MemorySlot → Type 0
-Appends slots (Ok x) reply slots' = (reply ≡ Made (length slots)) × (slots' ≡ slots ++ Live x ∷ [])
-Appends slots (Err error) reply slots' = (reply ≡ Memory error) × (slots' ≡ slots)
+abbrev pub AppendsSlot : Result MemoryValue MemoryError → List MemorySlot → Reply → List MemorySlot → Type 0
+AppendsSlot (Ok x) slots reply slots' = (reply ≡ Made (length slots)) × (slots' ≡ slots ++ Live x ∷ [])
+AppendsSlot (Err error) slots reply slots' = (reply ≡ Memory error) × (slots' ≡ slots)
 
 -- the reply to a growth
 abbrev pub growth_reply : Result ℕ MemoryError → Reply
 growth_reply (Ok size) = Number size
 growth_reply (Err error) = Memory error
 
--- the bytes that a growth by so many pages has appended
-abbrev pub bytes_appended : MemoryValue → ℕ → Result ℕ MemoryError → ℕ
-bytes_appended x pages (Ok size) = pages * page_bytes x.ty.page
-bytes_appended x pages (Err error) = 0
-
 -- the reply to a write
 abbrev pub write_reply : Result (Unit {0}) MemoryError → Reply
 write_reply (Ok _) = Done
 write_reply (Err error) = Memory error
 
-module _ {S : Type 0} (asked : S → Question → Answer → S → Type 0) (noticed : S → Failure → Heed → S → Type 0) where
-  -- a creation: without room for a slot nothing is asked
-  abbrev pub CreatesMemory : List MemorySlot → S → MemoryTypeValue → Reply → List MemorySlot → S → Type 0
-  CreatesMemory slots l ty reply slots' l' =
-      ((reply ≡ NoRoom) × (slots' ≡ slots) × (l' ≡ l))
-      ⊎ ((result : Result MemoryValue MemoryError) × MakesMemory asked noticed ty l result l' × Appends slots result reply slots')
+-- the reply to a load
+abbrev pub load_reply : Result RawVal TrapCode → Reply
+load_reply (Ok value) = Value value
+load_reply (Err trap) = Trap trap
 
-  -- a growth, with its charge and the bytes that it has written
-  abbrev pub GrowsLive : List MemorySlot → ℕ → Option MemoryValue → Meter → S → ℕ → Reply → ℕ → ℕ → List MemorySlot → Meter → S → Type 0
-  GrowsLive slots k None m l pages reply charge written slots' m' l' =
-      (reply ≡ NoSuch) × (charge ≡ 0) × (written ≡ 0) × (slots' ≡ slots) × (m' ≡ m) × (l' ≡ l)
-  GrowsLive slots k (Some x) m l pages reply charge written slots' m' l' =
-      (result : Result ℕ MemoryError) × (x' : MemoryValue) × GrowsMemory asked noticed x (Some m) l pages result charge x' (Some m') l'
-      × (reply ≡ growth_reply result) × (written ≡ bytes_appended x pages result) × (slots' ≡ slice_set slots k (Live x'))
+-- the reply to a store
+abbrev pub store_reply : Result (Unit {0}) TrapCode → Reply
+store_reply (Ok _) = Done
+store_reply (Err trap) = Trap trap
 
-  abbrev pub GrowsMemoryAt : List MemorySlot → Meter → S → ℕ → ℕ → Reply → ℕ → ℕ → List MemorySlot → Meter → S → Type 0
-  GrowsMemoryAt slots m l k pages reply charge written slots' m' l' =
-      GrowsLive slots k (memory_at slots k) m l pages reply charge written slots' m' l'
+-- a creation: without room for a slot nothing is asked
+abbrev pub CreatesMemory : {S : Type 0} → Rules S → MemoryTypeValue → List MemorySlot → S → Reply → List MemorySlot → S → Type 0
+CreatesMemory rules ty slots l reply slots' l' =
+    ((reply ≡ NoRoom) × (slots' ≡ slots) × (l' ≡ l))
+    ⊎ ((result : Result MemoryValue MemoryError) × MakesMemory rules Owned ty l result l' × AppendsSlot result slots reply slots')
+
+-- a growth, with its charge
+abbrev pub GrowsMemoryAt : {S : Type 0} → Rules S → ℕ → ℕ → Situation (List MemorySlot) S → Reply → ℕ → Situation (List MemorySlot) S → Type 0
+GrowsMemoryAt rules k pages s reply charge s' = OnLive (memory_at s.value k) ((reply ≡ NoSuch) × (charge ≡ 0) × (s' ≡ s))
+    (λ x. (result : Result ℕ MemoryError) × (x' : MemoryValue) × GrowsMemory rules pages (with_value s x) result charge (with_value s' x')
+    × (reply ≡ growth_reply result) × (s'.value ≡ slice_set s.value k (Live x')))
+
+-- the bytes that a growth by so many pages has appended, by its reply
+abbrev pub bytes_appended : Option MemoryValue → ℕ → Reply → ℕ
+bytes_appended None pages reply = 0
+bytes_appended (Some x) pages (Number size) = pages * page_bytes x.ty.page
+bytes_appended (Some x) pages reply = 0
 
 -- a read: its bounds come before the want of memory for the reply
 abbrev pub ReadsBytes : Option (List ℕ) → Reply → Type 0
 ReadsBytes None reply = reply ≡ Memory OutOfBoundsAccess
 ReadsBytes (Some bytes) reply = (reply ≡ NoRoom) ⊎ (reply ≡ Bytes bytes)
 
-abbrev pub ReadsLive : Option MemoryValue → ℕ → ℕ → Reply → Type 0
-ReadsLive None offset len reply = reply ≡ NoSuch
-ReadsLive (Some x) offset len reply = ReadsBytes (at x.bytes offset len) reply
-
-abbrev pub ReadsMemoryAt : List MemorySlot → ℕ → ℕ → ℕ → Reply → Type 0
-ReadsMemoryAt slots k offset len reply = ReadsLive (memory_at slots k) offset len reply
+abbrev pub ReadsMemoryAt : ℕ → ℕ → ℕ → List MemorySlot → Reply → Type 0
+ReadsMemoryAt k offset len slots reply =
+    OnLive (memory_at slots k) (reply ≡ NoSuch) (λ x. ReadsBytes (at x.bytes offset len) reply)
 
 -- a write
-abbrev pub WritesLive : List MemorySlot → ℕ → Option MemoryValue → ℕ → List ℕ → Reply → List MemorySlot → Type 0
-WritesLive slots k None offset bytes reply slots' = (reply ≡ NoSuch) × (slots' ≡ slots)
-WritesLive slots k (Some x) offset bytes reply slots' =
-    (result : Result (Unit {0}) MemoryError) × (x' : MemoryValue) × WritesMemory x offset bytes result x'
-    × (reply ≡ write_reply result) × (slots' ≡ slice_set slots k (Live x'))
-
-abbrev pub WritesMemoryAt : List MemorySlot → ℕ → ℕ → List ℕ → Reply → List MemorySlot → Type 0
-WritesMemoryAt slots k offset bytes reply slots' = WritesLive slots k (memory_at slots k) offset bytes reply slots'
+abbrev pub WritesMemoryAt : ℕ → ℕ → List ℕ → List MemorySlot → Reply → List MemorySlot → Type 0
+WritesMemoryAt k offset bytes slots reply slots' = ChangesAt k slots reply slots'
+    (λ x x'. (result : Result (Unit {0}) MemoryError) × WritesMemory x offset bytes result x' × (reply ≡ write_reply result))
 
 -- a load
-abbrev pub load_reply : Result RawVal TrapCode → Reply
-load_reply (Ok value) = Value value
-load_reply (Err trap) = Trap trap
-
-abbrev pub LoadsLive : Option MemoryValue → LoadOp → ℕ → Reply → Type 0
-LoadsLive None op a reply = reply ≡ NoSuch
-LoadsLive (Some x) op a reply = reply ≡ load_reply (loaded_raw op x.bytes a)
-
-abbrev pub LoadsMemoryAt : List MemorySlot → LoadOp → ℕ → ℕ → Reply → Type 0
-LoadsMemoryAt slots op k a reply = LoadsLive (memory_at slots k) op a reply
+abbrev pub LoadsMemoryAt : LoadOp → ℕ → ℕ → List MemorySlot → Reply → Type 0
+LoadsMemoryAt op k a slots reply =
+    OnLive (memory_at slots k) (reply ≡ NoSuch) (λ x. reply ≡ load_reply (loaded_raw op x.bytes a))
 
 -- a store: the memory has the bytes at the address, or the store traps and the memory is the same
 abbrev pub StoresMemory : MemoryValue → ℕ → List ℕ → Result (Unit {0}) TrapCode → MemoryValue → Type 0
 StoresMemory x a stored result x' = IsStore x.bytes a stored x'.bytes result × (x'.ty ≡ x.ty) × (x'.room ≡ x.room)
 
-abbrev pub store_reply : Result (Unit {0}) TrapCode → Reply
-store_reply (Ok _) = Done
-store_reply (Err trap) = Trap trap
+abbrev pub StoresMemoryAt : StoreOp → ℕ → ℕ → RawVal → List MemorySlot → Reply → List MemorySlot → Type 0
+StoresMemoryAt op k a value slots reply slots' = ChangesAt k slots reply slots'
+    (λ x x'. (result : Result (Unit {0}) TrapCode) × StoresMemory x a (stored_bytes op value) result x' × (reply ≡ store_reply result))
 
-abbrev pub StoresLive : List MemorySlot → ℕ → Option MemoryValue → ℕ → List ℕ → Reply → List MemorySlot → Type 0
-StoresLive slots k None a stored reply slots' = (reply ≡ NoSuch) × (slots' ≡ slots)
-StoresLive slots k (Some x) a stored reply slots' =
-    (result : Result (Unit {0}) TrapCode) × (x' : MemoryValue) × StoresMemory x a stored result x'
-    × (reply ≡ store_reply result) × (slots' ≡ slice_set slots k (Live x'))
+module _ {S : Type 0} where
+  -- a turn that changes nothing but what its reply tells
+  abbrev pub OnlyReplies : World S → Turn → World S → (List MemorySlot → Reply → Type 0) → Type 0
+  OnlyReplies w turn w' Row = IsFree turn × Row w.state.memories turn.reply × (w' ≡ w)
 
-abbrev pub StoresMemoryAt : List MemorySlot → StoreOp → ℕ → ℕ → RawVal → Reply → List MemorySlot → Type 0
-StoresMemoryAt slots op k a value reply slots' = StoresLive slots k (memory_at slots k) a (stored_bytes op value) reply slots'
+  -- a turn that changes the memories alone
+  abbrev pub ChangesMemories : World S → Turn → World S → (List MemorySlot → Reply → List MemorySlot → Type 0) → Type 0
+  ChangesMemories w turn w' Row = IsFree turn × (slots : List MemorySlot) × Row w.state.memories turn.reply slots
+      × (w' ≡ record w { state = record w.state { memories = slots } })
+
+  -- a turn that makes a memory
+  abbrev pub MakesMemoryIn : Rules S → MemoryTypeValue → World S → Turn → World S → Type 0
+  MakesMemoryIn rules ty w turn w' = IsFree turn × (slots : List MemorySlot) × (l : S)
+      × CreatesMemory rules ty w.state.memories w.limiter turn.reply slots l
+      × (w' ≡ record { state = record w.state { memories = slots }; limiter = l })
+
+  -- the memories of a world, with its meter and its limiter
+  abbrev pub memories_in : World S → Situation (List MemorySlot) S
+  memories_in w = record { value = w.state.memories; meter = Some w.state.meter; limiter = w.limiter }
+
+  -- a turn that grows a memory
+  abbrev pub GrowsMemoryIn : Rules S → ℕ → ℕ → World S → Turn → World S → Type 0
+  GrowsMemoryIn rules k pages w turn w' = (slots : List MemorySlot) × (m : Meter) × (l : S)
+      × GrowsMemoryAt rules k pages (memories_in w) turn.reply turn.charge (record { value = slots; meter = Some m; limiter = l })
+      × (turn.written ≡ bytes_appended (memory_at w.state.memories k) pages turn.reply)
+      × (w' ≡ record { state = record w.state { memories = slots; meter = m }; limiter = l })

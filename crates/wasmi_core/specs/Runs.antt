@@ -1,15 +1,17 @@
 -- Whole runs of the machine.
-use Rattle.std.specs.Prelude.{◌≡◌, ℕ, List, [], ◌∷◌}
-use Rattle.wasmi_meter.specs.Limiter.{Question, Failure, Answer, Reply as Heed}
+use Rattle.std.specs.Prelude.{◌≡◌, List, [], ◌∷◌, map}
+use Rattle.wasmi_meter.specs.Limiter.{Rules}
 use Rattle.wasmi_core.specs.declared.calls.Call.{Call}
 use Rattle.wasmi_core.specs.declared.calls.Reply.{Reply}
-use Rattle.wasmi_core.specs.State.{State}
+use Rattle.wasmi_core.specs.World.{World, Turn}
 use Rattle.wasmi_core.specs.Steps.{Step}
 
-module _ {S : Type 0} (asked : S → Question → Answer → S → Type 0) (noticed : S → Failure → Heed → S → Type 0) where
-  -- the calls one after another, each with its reply, its charge and the bytes it has written
-  abbrev pub Run : State → S → List Call → List Reply → List ℕ → List ℕ → State → S → Type 0
-  Run s l [] [] [] [] s' l' = (s' ≡ s) × (l' ≡ l)
-  Run s l (call ∷ calls) (reply ∷ replies) (charge ∷ charges) (bytes ∷ written) s' l' =
-      (t : State) × (k : S) × Step asked noticed s l call reply charge bytes t k × Run t k calls replies charges written s' l'
-  Run s l _ _ _ _ s' l' = ⊥
+-- turns one after another, from one world to another
+abbrev pub Run : {S : Type 0} → Rules S → World S → List Turn → World S → Type 0
+Run rules w [] w' = w' ≡ w
+Run rules w (turn ∷ turns) w' = (v : World _) × Step rules w turn v × Run rules v turns w'
+
+-- the replies are those of a run of the calls, from one world to another
+abbrev pub IsRunOf : {S : Type 0} → Rules S → List Call → World S → List Reply → World S → Type 0
+IsRunOf rules calls w replies w' =
+    (turns : List Turn) × (map Turn.call turns ≡ calls) × (map Turn.reply turns ≡ replies) × Run rules w turns w'

@@ -11,7 +11,7 @@ mod slots;
 pub use calls::{ByteList, Call, Reply};
 pub use machine::Machine;
 pub use ops::{LoadOp, StoreOp};
-pub use running::run;
+pub use running::{run, run_lending};
 pub use wasmi_access::access;
 pub use wasmi_lanewise::simd;
 pub use wasmi_meter::{

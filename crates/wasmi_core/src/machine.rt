@@ -1,14 +1,11 @@
 //! The machine.
 ghost use Rattle.std.specs.Prelude.{◌≡◌, ℕ};
 ghost use Rattle.std.specs.Option.{option_copied};
-ghost use Rattle.wasmi_meter.specs.Limiter.{AskedIf, NoticedIf};
+ghost use Rattle.wasmi_meter.specs.Limiter.{optional_rules};
 ghost use Rattle.wasmi_meter.specs.LimiterRef.{state, KeepsLoan};
 
 use crate::calls::{Call, Reply};
-use crate::memories::{
-    grow_memory, load_memory, new_memory, read_memory, store_memory, write_memory,
-};
-use crate::slots::MemorySlot;
+use crate::memories::Memories;
 use std::alloc::Global;
 use std::marker::Model;
 use wasmi_meter::{Fuel, ResourceLimiter, ResourceLimiterRef};
@@ -18,7 +15,7 @@ use wasmi_store::Memory;
 #[derive(Debug, Drop)]
 pub struct Machine<'r> {
     pub(crate) alloc: Global,
-    memories: Vec<MemorySlot<'r>>,
+    memories: Memories<'r>,
     fuel: Fuel,
 }
 
@@ -27,13 +24,13 @@ impl<'r> Model for Machine<'r> {
 
     ghost Value = { State };
 
-    ghost view = { λ m. record { memories = m.memories.items; meter = m.fuel } };
+    ghost view = { λ m. record { memories = m.memories; meter = m.fuel } };
 }
 
 impl<'r> Machine<'r> {
     ghost use Rattle.wasmi_core.specs.State.{new_state, memory_at};
     ghost use Rattle.wasmi_core.specs.FuelRows.{set_fuel_reply, with_fuel, get_fuel_reply};
-    ghost use Rattle.wasmi_core.specs.Steps.{Step};
+    ghost use Rattle.wasmi_core.specs.Steps.{Step, IsMemoryCall};
 
     /// A machine with this meter, on which nothing was made yet. It takes no memory.
     pub fn new(alloc: Global, fuel: Fuel) -> Machine<'r>
@@ -41,7 +38,7 @@ impl<'r> Machine<'r> {
     {
         Machine {
             alloc,
-            memories: Vec::new(alloc),
+            memories: Memories::new(alloc),
             fuel,
         }
     }
@@ -57,10 +54,7 @@ impl<'r> Machine<'r> {
     pub fn memory(&self, index: usize) -> Option<&Memory<'r>>
         ensures { option_copied result ≡ memory_at self.now.memories index }
     {
-        match self.memories.get(index) {
-            Some(MemorySlot::Live(memory)) => Some(memory),
-            _ => None,
-        }
+        self.memories.live(index)
     }
 
     fn set_fuel(&mut self, fuel: u64) -> Reply
@@ -89,39 +83,60 @@ impl<'r> Machine<'r> {
         limiter: &mut ResourceLimiterRef<L>,
     ) -> Reply
         ensures loan { KeepsLoan limiter.old limiter.new }
-        ensures step { (charge : ℕ) × (written : ℕ) × Step (AskedIf L.asked) (NoticedIf L.noticed)
-            self.old (state limiter.old) call.now result charge written self.new (state limiter.new) }
+        ensures step { (charge : ℕ) × (written : ℕ) × Step (optional_rules L.rules)
+            (record { state = self.old; limiter = state limiter.old })
+            (record { call = call.now; reply = result; charge = charge; written = written })
+            (record { state = self.new; limiter = state limiter.new }) }
     {
         match call {
             Call::SetFuel(fuel) => self.set_fuel(*fuel),
             Call::GetFuel => self.get_fuel(),
-            Call::NewMemory(ty) => new_memory(self.alloc, &mut self.memories, *ty, limiter),
+            _ => self.step_memory(call, limiter),
+        }
+    }
+
+    /// Answers one call on memories.
+    fn step_memory<L: ResourceLimiter>(
+        &mut self,
+        call: &Call,
+        limiter: &mut ResourceLimiterRef<L>,
+    ) -> Reply
+        requires { IsMemoryCall call.now }
+        ensures loan { KeepsLoan limiter.old limiter.new }
+        ensures step { (charge : ℕ) × (written : ℕ) × Step (optional_rules L.rules)
+            (record { state = self.old; limiter = state limiter.old })
+            (record { call = call.now; reply = result; charge = charge; written = written })
+            (record { state = self.new; limiter = state limiter.new }) }
+    {
+        match call {
+            Call::NewMemory(ty) => self.memories.create(self.alloc, *ty, limiter),
             Call::GrowMemory { memory, pages } => {
-                grow_memory(&mut self.memories, *memory, *pages, &mut self.fuel, limiter)
+                self.memories.grow(*memory, *pages, &mut self.fuel, limiter)
             }
             Call::Read {
                 memory,
                 offset,
                 len,
-            } => read_memory(self.alloc, &self.memories, *memory, *offset, *len),
+            } => self.memories.read(self.alloc, *memory, *offset, *len),
             Call::Write {
                 memory,
                 offset,
                 bytes,
-            } => write_memory(&mut self.memories, *memory, *offset, bytes),
+            } => self.memories.write(*memory, *offset, bytes),
             Call::Load {
                 op,
                 memory,
                 ptr,
                 offset,
-            } => load_memory(&self.memories, *op, *memory, *ptr, *offset),
+            } => self.memories.load(*op, *memory, *ptr, *offset),
             Call::Store {
                 op,
                 memory,
                 ptr,
                 offset,
                 value,
-            } => store_memory(&mut self.memories, *op, *memory, *ptr, *offset, *value),
+            } => self.memories.store(*op, *memory, *ptr, *offset, *value),
+            Call::SetFuel(_) | Call::GetFuel => unreachable!(),
         }
     }
 }

@@ -1,84 +1,166 @@
-//! Calls on the memories in a list of slots.
-ghost use Rattle.std.specs.Prelude.{◌≡◌, ◌+◌, ℕ, Some};
-ghost use Rattle.wasmi_meter.specs.Limiter.{AskedIf, NoticedIf};
+//! The memories of a machine, by their indices.
+ghost use Rattle.std.specs.Prelude.{◌≡◌, ◌+◌, ℕ, [], Some, None};
+ghost use Rattle.std.specs.Option.{option_copied};
+ghost use Rattle.wasmi_meter.specs.Limiter.{optional_rules};
 ghost use Rattle.wasmi_meter.specs.LimiterRef.{state, KeepsLoan};
-ghost use Rattle.wasmi_core.specs.MemoryRows.{CreatesMemory, GrowsMemoryAt, ReadsMemoryAt, ReadsBytes, WritesMemoryAt, LoadsMemoryAt, StoresMemoryAt, StoresMemory};
 ghost use Rattle.wasmi_core.specs.AccessOps.{stored_bytes};
+ghost use Rattle.wasmi_core.specs.MemoryRows.{CreatesMemory, GrowsMemoryAt, ReadsMemoryAt, ReadsBytes, WritesMemoryAt, LoadsMemoryAt, StoresMemoryAt, StoresMemory};
+ghost use Rattle.wasmi_core.specs.State.{memory_at};
 ghost use Rattle.wasmi_types.specs.Access.{at};
 
 use crate::calls::{ByteList, Reply};
 use crate::ops::{LoadOp, StoreOp};
 use crate::slots::MemorySlot;
 use std::alloc::Global;
+use std::marker::Model;
 use wasmi_meter::{Fuel, MemoryError, ResourceLimiter, ResourceLimiterRef};
 use wasmi_raw::RawVal;
 use wasmi_store::{Memory, MemoryType};
 use wasmi_types::TrapCode;
 
-/// Makes a memory in a new slot, which is reserved before the limiter is asked.
-pub(crate) fn new_memory<L: ResourceLimiter>(
-    alloc: Global,
-    slots: &mut Vec<MemorySlot>,
-    ty: MemoryType,
-    limiter: &mut ResourceLimiterRef<L>,
-) -> Reply
-    ensures loan { KeepsLoan limiter.old limiter.new }
-    ensures made { CreatesMemory (AskedIf L.asked) (NoticedIf L.noticed) slots.old.items (state limiter.old) ty result slots.new.items (state limiter.new) }
-{
-    if slots.try_reserve(1).is_err() {
-        return Reply::NoRoom;
-    }
-    let index = slots.len();
-    match Memory::new(alloc, ty, limiter) {
-        Ok(memory) => match slots.push(MemorySlot::Live(memory)) {
-            Ok(()) => Reply::Made(index),
-            Err(_) => unreachable!(),
-        },
-        Err(error) => Reply::Memory(error),
-    }
+/// The memories that were made, each in the slot of its index.
+#[derive(Debug, Drop)]
+pub(crate) struct Memories<'r> {
+    slots: Vec<MemorySlot<'r>>,
 }
 
-/// Grows a memory that is live.
-pub(crate) fn grow_memory<L: ResourceLimiter>(
-    slots: &mut Vec<MemorySlot>,
-    index: usize,
-    pages: u64,
-    fuel: &mut Fuel,
-    limiter: &mut ResourceLimiterRef<L>,
-) -> Reply
-    ensures loan { KeepsLoan limiter.old limiter.new }
-    ensures grown { (charge : ℕ) × (written : ℕ) × GrowsMemoryAt (AskedIf L.asked) (NoticedIf L.noticed)
-        slots.old.items fuel.old (state limiter.old) index pages result charge written
-        slots.new.items fuel.new (state limiter.new) }
-{
-    if index >= slots.len() {
-        return Reply::NoSuch;
+impl<'r> Model for Memories<'r> {
+    ghost use Rattle.std.specs.Prelude.{List};
+    ghost use Rattle.wasmi_core.specs.declared.slots.MemorySlot.{MemorySlot};
+
+    ghost Value = { List MemorySlot };
+
+    ghost view = { λ m. m.slots.items };
+}
+
+impl<'r> Memories<'r> {
+    /// No memory yet. It takes no memory.
+    pub(crate) fn new(alloc: Global) -> Self
+        ensures { result ≡ [] }
+    {
+        Memories {
+            slots: Vec::new(alloc),
+        }
     }
-    match &mut slots[index] {
-        MemorySlot::Live(memory) => match memory.grow(pages, Some(fuel), limiter) {
-            Ok(size) => Reply::Number(size),
+
+    /// The memory of an index, if there is one that wasn't dropped.
+    pub(crate) fn live(&self, index: usize) -> Option<&Memory<'r>>
+        ensures { option_copied result ≡ memory_at self.now index }
+    {
+        match self.slots.get(index) {
+            Some(MemorySlot::Live(memory)) => Some(memory),
+            _ => None,
+        }
+    }
+
+    /// Makes a memory in a new slot, which is reserved before the limiter is asked.
+    pub(crate) fn create<L: ResourceLimiter>(
+        &mut self,
+        alloc: Global,
+        ty: MemoryType,
+        limiter: &mut ResourceLimiterRef<L>,
+    ) -> Reply
+        ensures loan { KeepsLoan limiter.old limiter.new }
+        ensures made { CreatesMemory (optional_rules L.rules) ty self.old (state limiter.old) result self.new (state limiter.new) }
+    {
+        if self.slots.try_reserve(1).is_err() {
+            return Reply::NoRoom;
+        }
+        let index = self.slots.len();
+        match Memory::new(alloc, ty, limiter) {
+            Ok(memory) => match self.slots.push(MemorySlot::Live(memory)) {
+                Ok(()) => Reply::Made(index),
+                Err(_) => unreachable!(),
+            },
             Err(error) => Reply::Memory(error),
-        },
-        MemorySlot::Gone(_) => Reply::NoSuch,
+        }
     }
-}
 
-/// Reads a part of a memory that is live.
-pub(crate) fn read_memory(
-    alloc: Global,
-    slots: &Vec<MemorySlot>,
-    index: usize,
-    offset: usize,
-    len: usize,
-) -> Reply
-    ensures { ReadsMemoryAt slots.now.items index offset len result }
-{
-    if index >= slots.len() {
-        return Reply::NoSuch;
+    /// Grows a memory by so many pages.
+    pub(crate) fn grow<L: ResourceLimiter>(
+        &mut self,
+        index: usize,
+        pages: u64,
+        fuel: &mut Fuel,
+        limiter: &mut ResourceLimiterRef<L>,
+    ) -> Reply
+        ensures loan { KeepsLoan limiter.old limiter.new }
+        ensures grown { (charge : ℕ) × GrowsMemoryAt (optional_rules L.rules) index pages
+            (record { value = self.old; meter = Some fuel.old; limiter = state limiter.old }) result charge
+            (record { value = self.new; meter = Some fuel.new; limiter = state limiter.new }) }
+    {
+        if index >= self.slots.len() {
+            return Reply::NoSuch;
+        }
+        match &mut self.slots[index] {
+            MemorySlot::Live(memory) => match memory.grow(pages, Some(fuel), limiter) {
+                Ok(size) => Reply::Number(size),
+                Err(error) => Reply::Memory(error),
+            },
+            MemorySlot::Gone(_) => Reply::NoSuch,
+        }
     }
-    match &slots[index] {
-        MemorySlot::Live(memory) => read_bytes(alloc, memory.data(), offset, len),
-        MemorySlot::Gone(_) => Reply::NoSuch,
+
+    /// Reads a part of a memory.
+    pub(crate) fn read(&self, alloc: Global, index: usize, offset: usize, len: usize) -> Reply
+        ensures { ReadsMemoryAt index offset len self.now result }
+    {
+        match self.live(index) {
+            Some(memory) => read_bytes(alloc, memory.data(), offset, len),
+            None => Reply::NoSuch,
+        }
+    }
+
+    /// Writes into a memory.
+    pub(crate) fn write(&mut self, index: usize, offset: usize, bytes: &[u8]) -> Reply
+        ensures { WritesMemoryAt index offset bytes.now self.old result self.new }
+    {
+        if index >= self.slots.len() {
+            return Reply::NoSuch;
+        }
+        match &mut self.slots[index] {
+            MemorySlot::Live(memory) => match memory.write(offset, bytes) {
+                Ok(()) => Reply::Done,
+                Err(error) => Reply::Memory(error),
+            },
+            MemorySlot::Gone(_) => Reply::NoSuch,
+        }
+    }
+
+    /// Loads a number from a memory.
+    pub(crate) fn load(&self, op: LoadOp, index: usize, ptr: u64, offset: u64) -> Reply
+        ensures { LoadsMemoryAt op index (ptr + offset) self.now result }
+    {
+        match self.live(index) {
+            Some(memory) => match op.load(memory.data(), ptr, offset) {
+                Ok(value) => Reply::Value(value),
+                Err(trap) => Reply::Trap(trap),
+            },
+            None => Reply::NoSuch,
+        }
+    }
+
+    /// Stores a number to a memory.
+    pub(crate) fn store(
+        &mut self,
+        op: StoreOp,
+        index: usize,
+        ptr: u64,
+        offset: u64,
+        value: RawVal,
+    ) -> Reply
+        ensures { StoresMemoryAt op index (ptr + offset) value self.old result self.new }
+    {
+        if index >= self.slots.len() {
+            return Reply::NoSuch;
+        }
+        match &mut self.slots[index] {
+            MemorySlot::Live(memory) => match store(memory, op, ptr, offset, value) {
+                Ok(()) => Reply::Done,
+                Err(trap) => Reply::Trap(trap),
+            },
+            MemorySlot::Gone(_) => Reply::NoSuch,
+        }
     }
 }
 
@@ -92,72 +174,6 @@ fn read_bytes(alloc: Global, memory: &[u8], offset: usize, len: usize) -> Reply
     match memory[offset..offset + len].to_vec(alloc) {
         Ok(bytes) => Reply::Bytes(ByteList::from(bytes)),
         Err(_) => Reply::NoRoom,
-    }
-}
-
-/// Writes into a memory that is live.
-pub(crate) fn write_memory(
-    slots: &mut Vec<MemorySlot>,
-    index: usize,
-    offset: usize,
-    bytes: &[u8],
-) -> Reply
-    ensures { WritesMemoryAt slots.old.items index offset bytes.now result slots.new.items }
-{
-    if index >= slots.len() {
-        return Reply::NoSuch;
-    }
-    match &mut slots[index] {
-        MemorySlot::Live(memory) => match memory.write(offset, bytes) {
-            Ok(()) => Reply::Done,
-            Err(error) => Reply::Memory(error),
-        },
-        MemorySlot::Gone(_) => Reply::NoSuch,
-    }
-}
-
-/// Loads a number from a memory that is live.
-pub(crate) fn load_memory(
-    slots: &Vec<MemorySlot>,
-    op: LoadOp,
-    index: usize,
-    ptr: u64,
-    offset: u64,
-) -> Reply
-    ensures { LoadsMemoryAt slots.now.items op index (ptr + offset) result }
-{
-    if index >= slots.len() {
-        return Reply::NoSuch;
-    }
-    match &slots[index] {
-        MemorySlot::Live(memory) => match op.load(memory.data(), ptr, offset) {
-            Ok(value) => Reply::Value(value),
-            Err(trap) => Reply::Trap(trap),
-        },
-        MemorySlot::Gone(_) => Reply::NoSuch,
-    }
-}
-
-/// Stores a number to a memory that is live.
-pub(crate) fn store_memory(
-    slots: &mut Vec<MemorySlot>,
-    op: StoreOp,
-    index: usize,
-    ptr: u64,
-    offset: u64,
-    value: RawVal,
-) -> Reply
-    ensures { StoresMemoryAt slots.old.items op index (ptr + offset) value result slots.new.items }
-{
-    if index >= slots.len() {
-        return Reply::NoSuch;
-    }
-    match &mut slots[index] {
-        MemorySlot::Live(memory) => match store(memory, op, ptr, offset, value) {
-            Ok(()) => Reply::Done,
-            Err(trap) => Reply::Trap(trap),
-        },
-        MemorySlot::Gone(_) => Reply::NoSuch,
     }
 }
 

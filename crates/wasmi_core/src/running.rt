@@ -1,8 +1,8 @@
 //! Runs of calls.
-ghost use Rattle.std.specs.Prelude.{◌≡◌, ℕ, List, IfOk, OnErr};
-ghost use Rattle.wasmi_meter.specs.Limiter.{AskedIf, NoticedIf};
+ghost use Rattle.std.specs.Prelude.{◌≡◌, Some, IfOk, OnErr};
+ghost use Rattle.wasmi_meter.specs.Limiter.{optional_rules};
 ghost use Rattle.wasmi_meter.specs.LimiterRef.{state, KeepsLoan};
-ghost use Rattle.wasmi_core.specs.Runs.{Run};
+ghost use Rattle.wasmi_core.specs.Runs.{IsRunOf};
 
 use crate::calls::{Call, Reply};
 use crate::machine::Machine;
@@ -18,8 +18,9 @@ pub fn run<L: ResourceLimiter>(
     limiter: &mut ResourceLimiterRef<L>,
 ) -> Result<Vec<Reply>, AllocError>
     ensures loan { KeepsLoan limiter.old limiter.new }
-    ensures run { IfOk result (λ replies. (charges : List ℕ) × (written : List ℕ) × Run (AskedIf L.asked) (NoticedIf L.noticed)
-        machine.old (state limiter.old) calls.now replies.items charges written machine.new (state limiter.new)) }
+    ensures run { IfOk result (λ replies. IsRunOf (optional_rules L.rules) calls.now
+        (record { state = machine.old; limiter = state limiter.old }) replies.items
+        (record { state = machine.new; limiter = state limiter.new })) }
     ensures err { OnErr result ((machine.new ≡ machine.old) × (limiter.new ≡ limiter.old)) }
 {
     let mut replies = Vec::with_capacity(machine.alloc, calls.len())?;
@@ -30,4 +31,23 @@ pub fn run<L: ResourceLimiter>(
         };
     }
     Ok(replies)
+}
+
+/// Answers calls in turn, as `run`, under a limiter that is lent for this run alone.
+pub fn run_lending<L: ResourceLimiter>(
+    machine: &mut Machine,
+    calls: &[Call],
+    limiter: &mut L,
+) -> Result<Vec<Reply>, AllocError>
+    ensures run { IfOk result (λ replies. IsRunOf (optional_rules L.rules) calls.now
+        (record { state = machine.old; limiter = Some limiter.old }) replies.items
+        (record { state = machine.new; limiter = Some limiter.new })) }
+    ensures err { OnErr result ((machine.new ≡ machine.old) × (limiter.new ≡ limiter.old)) }
+{
+    let mut lent = ResourceLimiterRef::from(limiter);
+    let replies = run(machine, calls, &mut lent);
+    let Some(_limiter) = lent.into_resource_limiter() else {
+        unreachable!()
+    };
+    replies
 }

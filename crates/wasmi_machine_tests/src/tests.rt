@@ -11,6 +11,7 @@ use std::test::Fail;
 use wasmi_core::{
     ByteList, Call, CustomFuelCosts, Fuel, FuelCostsProvider, LoadOp, Machine, MemoryError,
     MemoryType, NoLimits, RawVal, Reply, ResourceLimiter, ResourceLimiterRef, StoreOp, run,
+    run_lending,
 };
 
 /// Compares an answer with the expected one; `what` says in the message what was compared.
@@ -21,20 +22,26 @@ fn same<T: PartialEq + Debug + Drop>(rt: &impl Abort, what: &str, answer: T, exp
 /// A call, and the reply that is expected.
 type Step = (Call, Reply);
 
+/// The calls, and the replies that are expected.
+fn split(alloc: Global, steps: Vec<Step>) -> Result<(Vec<Call>, Vec<Reply>), AllocError> {
+    let mut calls = Vec::new(alloc);
+    let mut expected = Vec::new(alloc);
+    for (call, reply) in steps {
+        calls.push(call)?;
+        expected.push(reply)?;
+    }
+    Ok((calls, expected))
+}
+
 /// Runs calls under a limiter, and compares the replies.
 fn runs_under<L: ResourceLimiter>(
     rt: &(impl Abort + AllocGlobal),
     machine: &mut Machine,
     steps: Vec<Step>,
-    limiter: &mut ResourceLimiterRef<L>,
+    limiter: &mut L,
 ) -> Result<(), Fail> {
-    let mut calls = Vec::new(rt.alloc());
-    let mut expected = Vec::new(rt.alloc());
-    for (call, reply) in steps {
-        calls.push(call)?;
-        expected.push(reply)?;
-    }
-    let replies = run(machine, &calls, limiter)?;
+    let (calls, expected) = split(rt.alloc(), steps)?;
+    let replies = run_lending(machine, &calls, limiter)?;
     same(rt, "replies", replies, expected);
     Ok(())
 }
@@ -45,8 +52,11 @@ fn runs_to(
     machine: &mut Machine,
     steps: Vec<Step>,
 ) -> Result<(), Fail> {
+    let (calls, expected) = split(rt.alloc(), steps)?;
     let mut limiter = ResourceLimiterRef::<NoLimits>::default();
-    runs_under(rt, machine, steps, &mut limiter)
+    let replies = run(machine, &calls, &mut limiter)?;
+    same(rt, "replies", replies, expected);
+    Ok(())
 }
 
 /// A new machine whose meter is off.

@@ -1,103 +1,127 @@
 -- One creation or growth of what a limiter and a meter watch: how it can end, and what each end means.
-use Rattle.std.specs.Prelude.{◌≡◌, ℕ, true, is_none, ◌&&◌, if◌then◌else◌, MatchBool, Option, Some, None, Result, Ok, Err}
-use Rattle.wasmi_meter.specs.Limiter.{Question, Failure, Answer, Reply, IsDenial}
-use Rattle.wasmi_meter.specs.Meter.{Meter, can_pay, taken, paid}
+use Rattle.std.specs.Prelude.{◌≡◌, ℕ, Bool, true, nat_le, is_none, ◌&&◌, if◌then◌else◌, MatchBool, Option, Some, None, Result, Ok, Err}
+use Rattle.std.specs.Option.{option_map}
+use Rattle.wasmi_meter.specs.declared.fuel.CustomFuelCosts.{CustomFuelCosts}
+use Rattle.wasmi_meter.specs.Limiter.{Question, Failure, Answer, Heed, IsDenial, Rules}
+use Rattle.wasmi_meter.specs.Meter.{Meter, amount_left, meter_after, due}
 
--- what is grown into: memory of its own, which may be refused with an error, or a lent region, which has room or not
-pub data Storage (E : Type 0) : Type 0 where
-  Owned : E → Storage E
-  Lent : Option E → Storage E
+-- a value that may grow, the meter that is charged, if there is one, and the limiter that is asked
+pub record Situation (V S : Type 0) : Type 0 where
+  pub value : V
+  pub meter : Option Meter
+  pub limiter : S
+
+-- another value in the same situation
+abbrev pub with_value : {V W S : Type 0} → Situation V S → W → Situation W S
+with_value s value = record { value = value; meter = s.meter; limiter = s.limiter }
+
+-- a limiter that is asked for what isn't there yet, and no meter
+abbrev pub alone : {S : Type 0} → S → Situation (Unit {0}) S
+alone l = record { value = tt; meter = None; limiter = l }
 
 -- what is asked and paid, and the causes of a refusal in their order
-pub record Effort (E : Type 0) : Type 0 where
+pub record Effort (V E : Type 0) : Type 1 where
   -- the first cause before the question
   pub early : Option E
   pub question : Question
-  -- what is answered where the limiter says no, and where its answer, or its reply to the notice, is an error
+  -- the error where the limiter says no, and where it answers an error, to the question or to the notice
   pub denial : E
   pub refusal : E
   -- how the limiter is told of a cause
   pub notice : E → Failure
   -- the first cause after the permission that stands before the charge
   pub late : Option E
-  -- the charge, and the cause where it can't be paid
-  pub price : ℕ
-  pub unpaid : E
-  -- what is grown into after the charge
-  pub storage : Storage E
+  -- the price by a meter's costs, if there is one, and the cause where so much can't be paid
+  pub price : Option (CustomFuelCosts → ℕ)
+  pub unpaid : ℕ → E
+  -- what is grown into after the charge: that it has room, and the causes by which it may refuse
+  pub fits : Type 0
+  pub refuses : E → Type 0
+  -- the value once it has grown
+  pub grown : V
 
--- the four ends: refused unasked, denied by the limiter, met, or failed after the permission, with the reply to the notice
+-- the four ends: refused unasked, denied by the limiter, met, or failed after the permission, with the answer to the notice
 pub data Fate (E : Type 0) : Type 0 where
   Unasked : E → Fate E
   Denied : Answer → Fate E
   Met : Fate E
-  Failed : E → Reply → Fate E
+  Failed : E → Heed → Fate E
 
-module _ {E : Type 0} where
-  -- the storage holds what is grown
-  abbrev pub CanHold : Storage E → Type 0
-  CanHold (Owned cause) = Unit {0}
-  CanHold (Lent short) = short ≡ None
+-- what is due for a price: nothing where there is no price or no meter, or where the meter is off
+abbrev pub amount_due : Option Meter → Option (CustomFuelCosts → ℕ) → ℕ
+amount_due (Some m) (Some price) = due m price
+amount_due (Some m) None = 0
+amount_due None price = 0
 
-  -- the storage refuses, for this cause
-  abbrev pub CanRefuse : Storage E → E → Type 0
-  CanRefuse (Owned wanting) cause = cause ≡ wanting
-  CanRefuse (Lent short) cause = short ≡ Some cause
+-- whether so much is left
+abbrev pub can_pay : Option Meter → ℕ → Bool
+can_pay (Some m) amount = nat_le amount (amount_left m)
+can_pay None amount = true
 
-  -- the first cause after the permission: the late one, then fuel, then storage
-  abbrev pub IsFirstCause : Effort E → Option Meter → Option E → E → Type 0
-  IsFirstCause e m (Some late) cause = cause ≡ late
-  IsFirstCause e m None cause = MatchBool (can_pay m e.price) (CanRefuse e.storage cause) (cause ≡ e.unpaid)
+-- the error of an answer that is no permission
+abbrev pub error_of_answer : {E : Type 0} → E → E → Answer → E
+error_of_answer denial refusal (Ok _) = denial
+error_of_answer denial refusal (Err _) = refusal
 
-  -- when an attempt may end so
-  abbrev pub MayEnd : Effort E → Option Meter → Fate E → Type 0
-  MayEnd e m (Unasked cause) = e.early ≡ Some cause
-  MayEnd e m (Denied answer) = (e.early ≡ None) × IsDenial answer
-  MayEnd e m Met = (e.early ≡ None) × (e.late ≡ None) × (can_pay m e.price ≡ true) × CanHold e.storage
-  MayEnd e m (Failed cause reply) = (e.early ≡ None) × IsFirstCause e m e.late cause
+-- the error of a failure, by the answer to its notice
+abbrev pub error_of_failure : {E : Type 0} → E → E → Heed → E
+error_of_failure refusal cause (Ok _) = cause
+error_of_failure refusal cause (Err _) = refusal
 
-  -- what is charged: the price, once the late cause is absent and it can be paid, also where storage then refuses
-  abbrev pub charge_of : Effort E → Option Meter → Fate E → ℕ
-  charge_of e m (Unasked cause) = 0
-  charge_of e m (Denied answer) = 0
-  charge_of e m Met = taken m e.price
-  charge_of e m (Failed cause reply) = if is_none e.late && can_pay m e.price then taken m e.price else 0
+-- what a limiter's answer comes to: nothing where it permits, else the error
+abbrev pub Permits : {E : Type 0} → E → E → Answer → Result (Unit {0}) E → Type 0
+Permits denial refusal answer (Ok _) = answer ≡ Ok true
+Permits denial refusal answer (Err error) = IsDenial answer × (error ≡ error_of_answer denial refusal answer)
 
-  -- the error of an answer that is no permission
-  abbrev pub denied_error : E → E → Answer → E
-  denied_error denial refusal (Ok _) = denial
-  denied_error denial refusal (Err _) = refusal
+module _ {V E : Type 0} (e : Effort V E) where
+  -- what is answered, where success answers this value
+  abbrev pub answer_of : {T : Type 0} → T → Fate E → Result T E
+  answer_of value (Unasked cause) = Err cause
+  answer_of value (Denied answer) = Err (error_of_answer e.denial e.refusal answer)
+  answer_of value Met = Ok value
+  answer_of value (Failed cause heed) = Err (error_of_failure e.refusal cause heed)
 
-  -- the error of a failure, by the reply to its notice
-  abbrev pub noticed_error : E → E → Reply → E
-  noticed_error refusal cause (Ok _) = cause
-  noticed_error refusal cause (Err _) = refusal
+  -- the value afterwards: the grown one where the attempt was met, else the same
+  abbrev pub value_after : V → Fate E → V
+  value_after value (Unasked cause) = value
+  value_after value (Denied answer) = value
+  value_after value Met = e.grown
+  value_after value (Failed cause heed) = value
 
-  -- what is answered
-  abbrev pub answer_of : {T : Type 0} → Effort E → T → Fate E → Result T E
-  answer_of e value (Unasked cause) = Err cause
-  answer_of e value (Denied answer) = Err (denied_error e.denial e.refusal answer)
-  answer_of e value Met = Ok value
-  answer_of e value (Failed cause reply) = Err (noticed_error e.refusal cause reply)
+  module _ (m : Option Meter) where
+    -- the first cause after the permission: the late one, then fuel, then what is grown into
+    abbrev pub IsFirstCause : Option E → E → Type 0
+    IsFirstCause (Some late) cause = cause ≡ late
+    IsFirstCause None cause =
+        MatchBool (can_pay m (amount_due m e.price)) (e.refuses cause) (cause ≡ e.unpaid (amount_due m e.price))
 
-  -- the value afterwards: the grown one where it was met, else the same
-  abbrev pub value_after : {V : Type 0} → V → V → Fate E → V
-  value_after value grown (Unasked cause) = value
-  value_after value grown (Denied answer) = value
-  value_after value grown Met = grown
-  value_after value grown (Failed cause reply) = value
+    -- when an attempt may end so
+    abbrev pub MayEnd : Fate E → Type 0
+    MayEnd (Unasked cause) = e.early ≡ Some cause
+    MayEnd (Denied answer) = (e.early ≡ None) × IsDenial answer
+    MayEnd Met = (e.early ≡ None) × (e.late ≡ None) × (can_pay m (amount_due m e.price) ≡ true) × e.fits
+    MayEnd (Failed cause heed) = (e.early ≡ None) × IsFirstCause e.late cause
 
-module _ {E S : Type 0} (asked : S → Question → Answer → S → Type 0) (noticed : S → Failure → Reply → S → Type 0) where
+    -- what is charged: what is due, once the late cause is absent and so much is left, also where there is then no room
+    abbrev pub charge_of : Fate E → ℕ
+    charge_of (Unasked cause) = 0
+    charge_of (Denied answer) = 0
+    charge_of Met = amount_due m e.price
+    charge_of (Failed cause heed) =
+        if is_none e.late && can_pay m (amount_due m e.price) then amount_due m e.price else 0
+
   -- What the limiter sees: nothing, a denial, or a permission, which is followed by the growth or by just one notice.
-  abbrev pub Follows : Effort E → S → Fate E → S → Type 0
-  Follows e l (Unasked cause) l' = l' ≡ l
-  Follows e l (Denied answer) l' = asked l e.question answer l'
-  Follows e l Met l' = asked l e.question (Ok true) l'
-  Follows e l (Failed cause reply) l' = (permitted : S) × asked l e.question (Ok true) permitted × noticed permitted (e.notice cause) reply l'
+  abbrev pub Follows : {S : Type 0} → Rules S → S → Fate E → S → Type 0
+  Follows rules l (Unasked cause) l' = l' ≡ l
+  Follows rules l (Denied answer) l' = rules.asked l e.question answer l'
+  Follows rules l Met l' = rules.asked l e.question (Ok true) l'
+  Follows rules l (Failed cause heed) l' =
+      (permitted : _) × rules.asked l e.question (Ok true) permitted × rules.noticed permitted (e.notice cause) heed l'
 
-  -- one attempt, with a meter that may be absent: its end, its charge, and the meter and the limiter afterwards
-  pub record Attempt (e : Effort E) (m : Option Meter) (l : S) (fate : Fate E) (charge : ℕ) (m' : Option Meter) (l' : S) : Type 0 where
-    pub may_end : MayEnd e m fate
-    pub follows : Follows e l fate l'
-    pub charged : charge ≡ charge_of e m fate
-    pub meter : m' ≡ paid m charge
+-- one attempt: its end, its charge, and the value, the meter and the limiter afterwards
+pub record Attempt {V E S : Type 0} (rules : Rules S) (e : Effort V E) (s : Situation V S) (fate : Fate E) (charge : ℕ) (s' : Situation V S) : Type 0 where
+  pub may_end : MayEnd e s.meter fate
+  pub follows : Follows e rules s.limiter fate s'.limiter
+  pub charged : charge ≡ charge_of e s.meter fate
+  pub meter : s'.meter ≡ option_map (λ m. meter_after m charge) s.meter
+  pub value : s'.value ≡ value_after e s.value fate

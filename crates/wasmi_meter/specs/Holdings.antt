@@ -1,5 +1,5 @@
 -- What a limiter holds that counts its permissions.
-use Rattle.std.specs.Prelude.{◌≡◌, ℕ, ◌+◌, ◌-◌, Option, Some, None}
+use Rattle.std.specs.Prelude.{ℕ, ◌+◌, ◌-◌, Option, Some, None}
 use Rattle.wasmi_meter.specs.declared.limiter.Kind.{Kind}
 use Rattle.wasmi_meter.specs.declared.limiter.Kind.TheVariants.{Bytes, Elements}
 
@@ -9,20 +9,22 @@ pub record Holdings : Type 0 where
   pub elements : ℕ
   pub last : Option (Kind × ℕ)
 
-abbrev pub held : Holdings → Kind → ℕ
-held h Bytes = h.bytes
-held h Elements = h.elements
+-- what is held of a kind
+abbrev pub amount_held : Holdings → Kind → ℕ
+amount_held h Bytes = h.bytes
+amount_held h Elements = h.elements
 
 -- n more of a kind
 abbrev pub with_more : Holdings → Kind → ℕ → Holdings
 with_more h Bytes n = record { bytes = h.bytes + n; elements = h.elements; last = Some (Bytes, n) }
 with_more h Elements n = record { bytes = h.bytes; elements = h.elements + n; last = Some (Elements, n) }
 
--- a notice of a kind gives back the last difference of that kind, once; with nothing of that kind to give back, all stays
-abbrev pub given_back_of : Kind → Holdings → Option (Kind × ℕ) → Holdings
-given_back_of Bytes h (Some (Bytes, n)) = record { bytes = h.bytes - n; elements = h.elements; last = None }
-given_back_of Elements h (Some (Elements, n)) = record { bytes = h.bytes; elements = h.elements - n; last = None }
-given_back_of kind h last = h
+-- a notice of a kind takes back the last difference of that kind, once; with nothing of that kind to take back, all stays
+abbrev pub without_last_of : Kind → Holdings → Option (Kind × ℕ) → Holdings
+without_last_of Bytes h (Some (Bytes, n)) = record { bytes = h.bytes - n; elements = h.elements; last = None }
+without_last_of Elements h (Some (Elements, n)) = record { bytes = h.bytes; elements = h.elements - n; last = None }
+without_last_of kind h last = h
 
-abbrev pub given_back : Kind → Holdings → Holdings
-given_back kind h = given_back_of kind h h.last
+-- what is held after a notice of a kind
+abbrev pub without_last : Kind → Holdings → Holdings
+without_last kind h = without_last_of kind h h.last

@@ -13,12 +13,12 @@ pub record Question : Type 0 where
   pub desired : ℕ
   pub maximum : Option ℕ
 
--- the answer to a question, and to a notice
+-- what a limiter answers to a question, and to a notice
 abbrev pub Answer : Type 0
 Answer = Result Bool LimiterError
 
-abbrev pub Reply : Type 0
-Reply = Result (Unit {0}) LimiterError
+abbrev pub Heed : Type 0
+Heed = Result (Unit {0}) LimiterError
 
 -- the answer is no permission
 abbrev pub IsDenial : Answer → Type 0
@@ -36,23 +36,32 @@ abbrev pub kind_of : Failure → Kind
 kind_of (MemoryFailure error) = Bytes
 kind_of (TableFailure error) = Elements
 
--- a permission that changes nothing, and a notice that changes nothing
-abbrev pub Permits : {L : Type 0} → L → Answer → L → Type 0
-Permits l answer l' = (answer ≡ Ok true) × (l' ≡ l)
+-- what a limiter may answer in each of its states, and the state after it
+pub record Rules (S : Type 0) : Type 1 where
+  pub asked : S → Question → Answer → S → Type 0
+  pub noticed : S → Failure → Heed → S → Type 0
 
-abbrev pub Ignores : {L : Type 0} → L → Reply → L → Type 0
-Ignores l reply l' = (reply ≡ Ok tt) × (l' ≡ l)
+-- the rules of a limiter that permits everything, heeds each notice, and stays the same
+abbrev pub unlimited_rules : {S : Type 0} → Rules S
+unlimited_rules = record {
+  asked = λ l question answer l'. (answer ≡ Ok true) × (l' ≡ l);
+  noticed = λ l failure heed l'. (heed ≡ Ok tt) × (l' ≡ l);
+}
 
 -- a question to a limiter that may be absent: without one it is permitted
-abbrev pub AskedIf : {L : Type 0} → (L → Question → Answer → L → Type 0) → Option L → Question → Answer → Option L → Type 0
-AskedIf asked (Some l) q answer (Some l') = asked l q answer l'
-AskedIf asked None q answer None = answer ≡ Ok true
-AskedIf asked (Some l) q answer None = ⊥
-AskedIf asked None q answer (Some l') = ⊥
+abbrev pub AskedIf : {S : Type 0} → Rules S → Option S → Question → Answer → Option S → Type 0
+AskedIf rules (Some l) question answer (Some l') = rules.asked l question answer l'
+AskedIf rules None question answer None = answer ≡ Ok true
+AskedIf rules (Some l) question answer None = ⊥
+AskedIf rules None question answer (Some l') = ⊥
 
--- a notice to a limiter that may be absent: without one nobody complains
-abbrev pub NoticedIf : {L : Type 0} → (L → Failure → Reply → L → Type 0) → Option L → Failure → Reply → Option L → Type 0
-NoticedIf noticed (Some l) failure reply (Some l') = noticed l failure reply l'
-NoticedIf noticed None failure reply None = reply ≡ Ok tt
-NoticedIf noticed (Some l) failure reply None = ⊥
-NoticedIf noticed None failure reply (Some l') = ⊥
+-- a notice to a limiter that may be absent: without one it is heeded
+abbrev pub NoticedIf : {S : Type 0} → Rules S → Option S → Failure → Heed → Option S → Type 0
+NoticedIf rules (Some l) failure heed (Some l') = rules.noticed l failure heed l'
+NoticedIf rules None failure heed None = heed ≡ Ok tt
+NoticedIf rules (Some l) failure heed None = ⊥
+NoticedIf rules None failure heed (Some l') = ⊥
+
+-- the rules of a limiter that may be absent
+abbrev pub optional_rules : {S : Type 0} → Rules S → Rules (Option S)
+optional_rules rules = record { asked = AskedIf rules; noticed = NoticedIf rules }

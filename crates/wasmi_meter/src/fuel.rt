@@ -230,7 +230,7 @@ impl Model for Fuel {
 }
 
 impl Fuel {
-    ghost use Rattle.wasmi_meter.specs.Meter.{Meter, amount_left, refueled, Spends};
+    ghost use Rattle.wasmi_meter.specs.Meter.{Meter, amount_left, meter_set, Spends};
     ghost use Rattle.wasmi_meter.specs.Costs.{costs_of};
 
     /// A meter with no fuel left yet.
@@ -256,7 +256,7 @@ impl Fuel {
 
     /// Sets the fuel that is left.
     pub fn set_fuel(&mut self, fuel: u64) -> Result<(), FuelError>
-        ensures on { IsSome self.old.left → (result ≡ Ok tt) × (self.new ≡ refueled self.old fuel) }
+        ensures on { IsSome self.old.left → (result ≡ Ok tt) × (self.new ≡ meter_set self.old fuel) }
         ensures off { self.old.left ≡ None → (result ≡ Err FuelError.FuelMeteringDisabled) × (self.new ≡ self.old) }
     {
         self.check_fuel_metering_enabled()?;

@@ -3,6 +3,7 @@
 
 mod error;
 mod fuel;
+pub mod growth;
 mod limiter;
 mod limiter_ref;
 mod quota;

@@ -1,6 +1,6 @@
 //! Who may grow: a limiter is asked before each growth, and told of one that it permitted and that then failed.
-ghost use Rattle.std.specs.Prelude.{◌≡◌, ◌≤◌, ℕ, Option, Result, Bool};
-ghost use Rattle.wasmi_meter.specs.Limiter.{Question, Failure, MemoryFailure, TableFailure, Answer, Reply, Permits, Ignores};
+ghost use Rattle.std.specs.Prelude.{◌≡◌, ◌≤◌};
+ghost use Rattle.wasmi_meter.specs.Limiter.{MemoryFailure, TableFailure, Rules, unlimited_rules};
 ghost use Rattle.wasmi_meter.specs.declared.limiter.Kind.TheVariants.{Bytes, Elements};
 
 use crate::error::{LimiterError, MemoryError, TableError};
@@ -14,16 +14,13 @@ pub enum Kind {
 
 /// Decides which memories and tables may be made and may grow.
 ///
-/// `asked` and `noticed` relate the limiter's state before and after a call to the question or the notice and to
-/// what was answered; each implementation names its own. A creation asks with a current size of 0.
+/// Its `rules` relate the limiter before and after a call to the question or the notice and to what was answered;
+/// each implementation names its own. A creation asks with a current size of 0.
 ///
 /// Upstream: `wasmi_core::ResourceLimiter`, whose notices have default bodies; here each implementation writes them.
 pub trait ResourceLimiter {
-    /// A question, its answer and the limiter after it.
-    ghost asked: { Self → Question → Answer → Self → Type 0 };
-
-    /// A notice of a failed growth, its answer and the limiter after it.
-    ghost noticed: { Self → Failure → Reply → Self → Type 0 };
+    /// What it may answer to a question and to a notice, and what it is afterwards.
+    ghost rules: { Rules Self };
 
     /// May a memory grow from `current` to `desired` bytes? `maximum`, in bytes, is the most that its type allows.
     fn memory_growing(
@@ -33,7 +30,7 @@ pub trait ResourceLimiter {
         maximum: Option<usize>,
     ) -> Result<bool, LimiterError>
         requires { current ≤ desired }
-        ensures { asked self.old (record { kind = Bytes; current = current; desired = desired; maximum = maximum }) result self.new };
+        ensures { rules.asked self.old (record { kind = Bytes; current = current; desired = desired; maximum = maximum }) result self.new };
 
     /// May a table grow from `current` to `desired` elements? `maximum` is the most that its type allows.
     fn table_growing(
@@ -43,15 +40,15 @@ pub trait ResourceLimiter {
         maximum: Option<usize>,
     ) -> Result<bool, LimiterError>
         requires { current ≤ desired }
-        ensures { asked self.old (record { kind = Elements; current = current; desired = desired; maximum = maximum }) result self.new };
+        ensures { rules.asked self.old (record { kind = Elements; current = current; desired = desired; maximum = maximum }) result self.new };
 
     /// A memory was permitted to grow and did not, for this error.
     fn memory_grow_failed(&mut self, error: &MemoryError) -> Result<(), LimiterError>
-        ensures { noticed self.old (MemoryFailure error.now) result self.new };
+        ensures { rules.noticed self.old (MemoryFailure error.now) result self.new };
 
     /// A table was permitted to grow and did not, for this error.
     fn table_grow_failed(&mut self, error: &TableError) -> Result<(), LimiterError>
-        ensures { noticed self.old (TableFailure error.now) result self.new };
+        ensures { rules.noticed self.old (TableFailure error.now) result self.new };
 
     /// The greatest number of instances of a store. Nothing in this library calls it.
     fn instances(&self) -> usize;
@@ -68,9 +65,7 @@ pub trait ResourceLimiter {
 pub struct NoLimits;
 
 impl ResourceLimiter for NoLimits {
-    ghost asked = { λ l _ answer l'. Permits l answer l' };
-
-    ghost noticed = { λ l _ reply l'. Ignores l reply l' };
+    ghost rules = { unlimited_rules };
 
     fn memory_growing(
         &mut self,

@@ -3,7 +3,7 @@ ghost use Rattle.std.specs.Prelude.{◌≡◌, ◌≤◌, ℕ, Option, Some, Non
 ghost use Rattle.std.specs.Option.{option_copied_mut};
 ghost use Rattle.std.specs.Borrow.{sem, Lends};
 ghost use denote.Ref.{at_last};
-ghost use Rattle.wasmi_meter.specs.Limiter.{Question, MemoryFailure, TableFailure, AskedIf, NoticedIf};
+ghost use Rattle.wasmi_meter.specs.Limiter.{MemoryFailure, TableFailure, optional_rules};
 ghost use Rattle.wasmi_meter.specs.LimiterRef.{loan, state, KeepsLoan, shown_of};
 ghost use Rattle.wasmi_meter.specs.Lending.{LendsLimiter};
 ghost use Rattle.wasmi_meter.specs.declared.limiter.Kind.TheVariants.{Bytes, Elements};
@@ -116,7 +116,7 @@ impl<'a, L: ResourceLimiter> LimiterRef<&'a mut L> {
     ) -> Result<bool, LimiterError>
         requires { current ≤ desired }
         ensures loan { KeepsLoan self.old self.new }
-        ensures asked { AskedIf L.asked (state self.old)
+        ensures asked { (optional_rules L.rules).asked (state self.old)
             (record { kind = Bytes; current = current; desired = desired; maximum = maximum }) result (state self.new) }
     {
         match &mut self.limiter {
@@ -134,7 +134,7 @@ impl<'a, L: ResourceLimiter> LimiterRef<&'a mut L> {
     ) -> Result<bool, LimiterError>
         requires { current ≤ desired }
         ensures loan { KeepsLoan self.old self.new }
-        ensures asked { AskedIf L.asked (state self.old)
+        ensures asked { (optional_rules L.rules).asked (state self.old)
             (record { kind = Elements; current = current; desired = desired; maximum = maximum }) result (state self.new) }
     {
         match &mut self.limiter {
@@ -146,7 +146,7 @@ impl<'a, L: ResourceLimiter> LimiterRef<&'a mut L> {
     /// Tells the limiter, if there is one, that a memory which it permitted to grow did not.
     pub fn memory_grow_failed(&mut self, error: &MemoryError) -> Result<(), LimiterError>
         ensures loan { KeepsLoan self.old self.new }
-        ensures noticed { NoticedIf L.noticed (state self.old) (MemoryFailure error.now) result (state self.new) }
+        ensures noticed { (optional_rules L.rules).noticed (state self.old) (MemoryFailure error.now) result (state self.new) }
     {
         match &mut self.limiter {
             Some(limiter) => limiter.memory_grow_failed(error),
@@ -157,7 +157,7 @@ impl<'a, L: ResourceLimiter> LimiterRef<&'a mut L> {
     /// Tells the limiter, if there is one, that a table which it permitted to grow did not.
     pub fn table_grow_failed(&mut self, error: &TableError) -> Result<(), LimiterError>
         ensures loan { KeepsLoan self.old self.new }
-        ensures noticed { NoticedIf L.noticed (state self.old) (TableFailure error.now) result (state self.new) }
+        ensures noticed { (optional_rules L.rules).noticed (state self.old) (TableFailure error.now) result (state self.new) }
     {
         match &mut self.limiter {
             Some(limiter) => limiter.table_grow_failed(error),

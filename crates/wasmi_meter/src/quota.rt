@@ -19,12 +19,12 @@ pub struct Quota {
 }
 
 impl Quota {
-    ghost use Rattle.wasmi_meter.specs.Quota.{holdings, cap};
+    ghost use Rattle.wasmi_meter.specs.Quota.{holdings, cap_of};
 
     /// A quota of so many bytes and elements, of which nothing is held yet.
     pub fn new(bytes: u64, elements: u64) -> Self
-        ensures bytes { cap result Bytes ≡ bytes }
-        ensures elements { cap result Elements ≡ elements }
+        ensures bytes { cap_of result Bytes ≡ bytes }
+        ensures elements { cap_of result Elements ≡ elements }
         ensures nothing_held { holdings result ≡ record { bytes = 0; elements = 0; last = None } }
     {
         Quota {
@@ -52,11 +52,9 @@ impl Quota {
 }
 
 impl ResourceLimiter for Quota {
-    ghost use Rattle.wasmi_meter.specs.Quota.{Asked, Noticed};
+    ghost use Rattle.wasmi_meter.specs.Quota.{quota_rules};
 
-    ghost asked = { Asked };
-
-    ghost noticed = { Noticed };
+    ghost rules = { quota_rules };
 
     fn memory_growing(
         &mut self,

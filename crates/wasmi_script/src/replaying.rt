@@ -1,7 +1,7 @@
 //! A script from its reader to the printed lines.
-ghost use Rattle.std.specs.Prelude.{◌≡◌, ◌≤◌, ℕ, List, None, Some, length, IfOk, IfSome, OnOk};
+ghost use Rattle.std.specs.Prelude.{◌≡◌, ◌≤◌, None, Some, length, IfOk, IfSome, OnOk};
 ghost use Rattle.wasmi_script.specs.Lines.{WritesScript};
-ghost use Rattle.wasmi_script.specs.Replays.{Answers, AnswersUnder, QuotaRun};
+ghost use Rattle.wasmi_script.specs.Replays.{IsReplayOf, IsReplayUnder};
 ghost use Rattle.wasmi_script.specs.Status.{code_of, status_after};
 
 use crate::error::ReplayError;
@@ -11,7 +11,7 @@ use crate::script::{QuotaLine, Script, parse};
 use std::alloc::{AllocError, Global};
 use std::fmt::Write;
 use std::{fmt, io};
-use wasmi_core::{Call, Machine, NoLimits, Quota, Reply, ResourceLimiterRef, run};
+use wasmi_core::{Call, Machine, NoLimits, Quota, Reply, ResourceLimiterRef, run, run_lending};
 
 /// How a replay ended.
 #[derive(Clone, Copy, Debug, PartialEq, Eq)]
@@ -76,7 +76,7 @@ pub fn replay<R: io::Read, W: io::Write>(alloc: Global, reader: &mut R, writer: 
 
 fn answer<R: io::Read>(alloc: Global, reader: &mut R) -> Result<Replayed, ReplayError>
     ensures script { IfOk result (λ replayed. IfSome (R.remaining reader.old) (λ bytes. WritesScript bytes replayed.script)) }
-    ensures run { IfOk result (λ replayed. Answers replayed.script replayed.ran) }
+    ensures run { IfOk result (λ replayed. IsReplayOf replayed.script replayed.ran) }
     ensures limited { OnOk result (IfSome (R.remaining reader.old) (λ bytes. length bytes ≤ LIMIT)) }
 {
     let bytes = read(alloc, reader)?;
@@ -87,7 +87,7 @@ fn answer<R: io::Read>(alloc: Global, reader: &mut R) -> Result<Replayed, Replay
 
 /// Runs the script's calls on a new machine with its meter, under its quota or without a limiter.
 fn run_script(alloc: Global, script: &Script) -> Result<Ran, AllocError>
-    ensures { IfOk result (Answers script.now) }
+    ensures { IfOk result (IsReplayOf script.now) }
 {
     let mut machine = Machine::new(alloc, script.header.fuel());
     match script.header.quota {
@@ -96,22 +96,24 @@ fn run_script(alloc: Global, script: &Script) -> Result<Ran, AllocError>
     }
 }
 
-fn run_freely(machine: &mut Machine, calls: &Vec<Call>) -> Result<Ran, AllocError>
-    ensures { IfOk result (AnswersUnder None machine.old calls.now.items) }
+/// Runs the calls without a limiter.
+fn run_freely(machine: &mut Machine, calls: &[Call]) -> Result<Ran, AllocError>
+    ensures { IfOk result (IsReplayUnder None machine.old calls.now) }
 {
     let mut limiter = ResourceLimiterRef::<NoLimits>::default();
-    let replies = run(machine, calls.as_slice(), &mut limiter)?;
+    let replies = run(machine, calls, &mut limiter)?;
     Ok(Ran {
         replies,
         held: None,
     })
 }
 
-fn run_under(machine: &mut Machine, calls: &Vec<Call>, line: QuotaLine) -> Result<Ran, AllocError>
-    ensures { IfOk result (AnswersUnder (Some line) machine.old calls.now.items) }
+/// Runs the calls under the quota that a line asks for.
+fn run_under(machine: &mut Machine, calls: &[Call], line: QuotaLine) -> Result<Ran, AllocError>
+    ensures { IfOk result (IsReplayUnder (Some line) machine.old calls.now) }
 {
     let mut quota = Quota::new(line.bytes, line.elements);
-    let replies = run_lent(machine, calls, &mut quota)?;
+    let replies = run_lending(machine, calls, &mut quota)?;
     let held = Held {
         bytes: quota.held_bytes(),
         elements: quota.held_elements(),
@@ -120,23 +122,6 @@ fn run_under(machine: &mut Machine, calls: &Vec<Call>, line: QuotaLine) -> Resul
         replies,
         held: Some(held),
     })
-}
-
-/// Runs the calls under a quota, which afterwards is what the run made of it.
-fn run_lent(
-    machine: &mut Machine,
-    calls: &Vec<Call>,
-    quota: &mut Quota,
-) -> Result<Vec<Reply>, AllocError>
-    ensures { IfOk result (λ replies. (charges : List ℕ) × (written : List ℕ)
-        × QuotaRun machine.old (Some quota.old) calls.now.items replies.items charges written machine.new (Some quota.new)) }
-{
-    let mut lent = ResourceLimiterRef::from(quota);
-    let replies = run(machine, calls.as_slice(), &mut lent);
-    let Some(_quota) = lent.into_resource_limiter() else {
-        unreachable!()
-    };
-    replies
 }
 
 fn print<W: io::Write>(

@@ -1,3 +1,2 @@
 pub mod Fronts
-pub mod Attempts
-pub mod Growths
+pub mod GrowthLemmas

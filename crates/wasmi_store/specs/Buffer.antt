@@ -15,8 +15,8 @@ pub record BufferValue : Type 0 where
   pub room : Room
 
 -- so many zeros in memory of their own
-abbrev pub zeros_owned : ℕ → BufferValue
-zeros_owned n = record { bytes = replicate n 0; room = Owned }
+abbrev pub owned_zeros : ℕ → BufferValue
+owned_zeros n = record { bytes = replicate n 0; room = Owned }
 
 -- the buffer whose bytes were written over, by as many
 abbrev pub with_bytes : BufferValue → List ℕ → BufferValue
@@ -38,5 +38,5 @@ room_after Owned n = Owned
 room_after (Lent rest) n = Lent (drop n rest)
 
 -- the buffer with n zeros after its bytes
-abbrev pub grown : BufferValue → ℕ → BufferValue
-grown b n = record { bytes = b.bytes ++ replicate n 0; room = room_after b.room n }
+abbrev pub with_zeros : BufferValue → ℕ → BufferValue
+with_zeros b n = record { bytes = b.bytes ++ replicate n 0; room = room_after b.room n }

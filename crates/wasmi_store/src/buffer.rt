@@ -74,7 +74,7 @@ impl<R: Region> Model for Buffer<R> {
 pub type ByteBuffer<'r> = Buffer<&'r mut [u8]>;
 
 impl<R: Region> Buffer<R> {
-    ghost use Rattle.wasmi_store.specs.Buffer.{with_bytes, grown, CanFail, CanGrow};
+    ghost use Rattle.wasmi_store.specs.Buffer.{with_bytes, with_zeros, CanFail, CanGrow};
     ghost use Rattle.wasmi_store.specs.contracts.buffer.Buffer.{the_row};
 
     /// The bytes.
@@ -127,7 +127,7 @@ impl<R: Region> Buffer<R> {
     /// too short (`InvalidStaticBufferSize`).
     pub fn grow(&mut self, new_size: usize) -> Result<(), MemoryError>
         requires { length self.old.bytes ≤ new_size }
-        ensures ok { OnOk result (self.new ≡ grown self.old (new_size - length self.old.bytes)) }
+        ensures ok { OnOk result (self.new ≡ with_zeros self.old (new_size - length self.old.bytes)) }
         ensures fits { OnOk result (CanGrow self.old.room (new_size - length self.old.bytes)) }
         ensures err { OnErr result (self.new ≡ self.old) }
         ensures cause { IfErr result (CanFail self.old.room (new_size - length self.old.bytes)) }
@@ -153,11 +153,11 @@ impl<R: Region> Buffer<R> {
 }
 
 impl<'r> Buffer<&'r mut [u8]> {
-    ghost use Rattle.wasmi_store.specs.Buffer.{zeros_owned};
+    ghost use Rattle.wasmi_store.specs.Buffer.{owned_zeros};
 
     /// So many zeros in memory of their own. It is refused only for want of memory.
     pub fn new(alloc: Global, size: usize) -> Result<ByteBuffer<'r>, MemoryError>
-        ensures ok { IfOk result (λ b. b ≡ zeros_owned size) }
+        ensures ok { IfOk result (λ b. b ≡ owned_zeros size) }
         ensures err { IfErr result (λ e. e ≡ MemoryError.OutOfSystemMemory) }
     {
         match vec![in alloc; 0u8; size] {

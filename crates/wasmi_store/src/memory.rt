@@ -3,21 +3,22 @@ ghost use Rattle.std.specs.Prelude.{◌≡◌, ◌+◌, ◌-◌, ◌*◌, ◌/�
 ghost use Rattle.std.specs.Option.{option_copied_mut};
 ghost use Rattle.std.specs.Borrow.{sem, Lends, Array, u8};
 ghost use Rattle.wasmi_types.specs.Access.{at};
-ghost use Rattle.wasmi_meter.specs.Limiter.{AskedIf, NoticedIf};
+ghost use Rattle.wasmi_meter.specs.Limiter.{Heed, MemoryFailure, optional_rules};
 ghost use Rattle.wasmi_meter.specs.LimiterRef.{state, KeepsLoan, left_behind};
-ghost use Rattle.wasmi_meter.specs.declared.limiter.Kind.TheVariants.{Bytes};
-ghost use Rattle.wasmi_meter.specs.Costs.{copy_cost};
+ghost use Rattle.wasmi_meter.specs.Attempt.{error_of_failure};
+ghost use Rattle.wasmi_meter.specs.declared.error.MemoryError.TheVariants.{ResourceLimiterDeniedAllocation};
 ghost use Rattle.wasmi_store.specs.MemoryType.{page_bytes, in_bounds};
-ghost use Rattle.wasmi_store.specs.Memory.{Asks, Charges, Tells};
 
 use crate::buffer::Buffer;
 use crate::memory_type::MemoryType;
 use crate::region::Region;
 use std::alloc::Global;
 use std::marker::Model;
-use wasmi_meter::{
-    Fuel, FuelCostsProvider, FuelError, MemoryError, ResourceLimiter, ResourceLimiterRef,
-};
+use wasmi_meter::growth::{charge, failure, permission};
+use wasmi_meter::{Fuel, FuelCostsProvider, MemoryError, ResourceLimiter, ResourceLimiterRef};
+
+/// What a memory answers where the limiter answers an error.
+const DENIED: MemoryError = MemoryError::ResourceLimiterDeniedAllocation;
 
 /// A linear memory. Its name in signatures is [`Memory`].
 #[derive(Debug, Drop)]
@@ -43,6 +44,7 @@ impl<R: Region> Model for LinearMemory<R> {
 pub type Memory<'r> = LinearMemory<&'r mut [u8]>;
 
 impl<'r> LinearMemory<&'r mut [u8]> {
+    ghost use Rattle.wasmi_store.specs.Buffer.{Owned};
     ghost use Rattle.wasmi_store.specs.Memory.{MakesMemory};
 
     /// A memory of zeros, at the minimum of its type. It takes no fuel.
@@ -56,18 +58,13 @@ impl<'r> LinearMemory<&'r mut [u8]> {
         limiter: &mut ResourceLimiterRef<L>,
     ) -> Result<Memory<'r>, MemoryError>
         ensures loan { KeepsLoan limiter.old limiter.new }
-        ensures made { MakesMemory (AskedIf L.asked) (NoticedIf L.noticed) ty (state limiter.old) result (state limiter.new) }
+        ensures made { MakesMemory (optional_rules L.rules) Owned ty (state limiter.old) result (state limiter.new) }
     {
         let Some(size) = ty.minimum_size() else {
             return Err(MemoryError::MinimumSizeOverflow);
         };
-        ask(
-            limiter,
-            0,
-            size,
-            ty.maximum_size(),
-            MemoryError::ResourceLimiterDeniedAllocation,
-        )?;
+        let answer = limiter.memory_growing(0, size, ty.maximum_size());
+        permission(answer, DENIED, DENIED)?;
         match Buffer::new(alloc, size) {
             Ok(buffer) => Ok(LinearMemory { buffer, ty }),
             Err(cause) => Err(tell(limiter, cause)),
@@ -138,9 +135,9 @@ impl<R: Region> LinearMemory<R> {
         limiter: &mut ResourceLimiterRef<L>,
     ) -> Result<u64, MemoryError>
         ensures loan { KeepsLoan limiter.old limiter.new }
-        ensures grown { (charge : ℕ) × GrowsMemory (AskedIf L.asked) (NoticedIf L.noticed)
-            self.old (option_copied_mut fuel.entry) (state limiter.old) additional result charge
-            self.new (left_behind (λ lent. lent.0.now) fuel.exit) (state limiter.new) }
+        ensures grown { (charge : ℕ) × GrowsMemory (optional_rules L.rules) additional
+            (record { value = self.old; meter = option_copied_mut fuel.entry; limiter = state limiter.old }) result charge
+            (record { value = self.new; meter = left_behind (λ lent. lent.0.now) fuel.exit; limiter = state limiter.new }) }
     {
         match fuel {
             Some(fuel) => self.grow_metered(additional, fuel, limiter),
@@ -158,9 +155,9 @@ impl<R: Region> LinearMemory<R> {
         limiter: &mut ResourceLimiterRef<L>,
     ) -> Result<u64, MemoryError>
         ensures loan { KeepsLoan limiter.old limiter.new }
-        ensures grown { (charge : ℕ) × GrowsMemory (AskedIf L.asked) (NoticedIf L.noticed)
-            self.old (Some fuel.old) (state limiter.old) additional result charge
-            self.new (Some fuel.new) (state limiter.new) }
+        ensures grown { (charge : ℕ) × GrowsMemory (optional_rules L.rules) additional
+            (record { value = self.old; meter = Some fuel.old; limiter = state limiter.old }) result charge
+            (record { value = self.new; meter = Some fuel.new; limiter = state limiter.new }) }
     {
         let old_pages = self.size();
         if additional == 0 {
@@ -170,15 +167,10 @@ impl<R: Region> LinearMemory<R> {
             return Err(MemoryError::OutOfBoundsGrowth);
         };
         let old_size = self.buffer.len();
-        ask(
-            limiter,
-            old_size,
-            size,
-            self.ty.maximum_size(),
-            MemoryError::OutOfBoundsGrowth,
-        )?;
-        if let Err(cause) = charge(fuel, (size - old_size) as u64) {
-            return Err(tell(limiter, cause));
+        let answer = limiter.memory_growing(old_size, size, self.ty.maximum_size());
+        permission(answer, MemoryError::OutOfBoundsGrowth, DENIED)?;
+        if let Err(required_fuel) = charge::<u8>(fuel, (size - old_size) as u64) {
+            return Err(tell(limiter, MemoryError::OutOfFuel { required_fuel }));
         }
         if let Err(cause) = self.buffer.grow(size) {
             return Err(tell(limiter, cause));
@@ -226,45 +218,12 @@ impl<R: Region> LinearMemory<R> {
     }
 }
 
-/// Asks the limiter whether a memory may grow, in bytes. Where it says no, the error is the one that is given.
-fn ask<L: ResourceLimiter>(
-    limiter: &mut ResourceLimiterRef<L>,
-    current: usize,
-    desired: usize,
-    maximum: Option<usize>,
-    denial: MemoryError,
-) -> Result<(), MemoryError>
-    requires { current ≤ desired }
-    ensures loan { KeepsLoan limiter.old limiter.new }
-    ensures asked { Asks (AskedIf L.asked) (state limiter.old)
-        (record { kind = Bytes; current = current; desired = desired; maximum = maximum }) denial result (state limiter.new) }
-{
-    match limiter.memory_growing(current, desired, maximum) {
-        Ok(true) => Ok(()),
-        Ok(false) => Err(denial),
-        Err(error) => Err(error.into()),
-    }
-}
-
-/// Tells the limiter why a memory was not made or did not grow, and answers the error that its reply makes of it.
+/// Tells the limiter why a memory was not made or did not grow, and answers the error that its answer makes of it.
 fn tell<L: ResourceLimiter>(limiter: &mut ResourceLimiterRef<L>, cause: MemoryError) -> MemoryError
     ensures loan { KeepsLoan limiter.old limiter.new }
-    ensures told { Tells (NoticedIf L.noticed) (state limiter.old) cause result (state limiter.new) }
+    ensures told { (heed : Heed) × (optional_rules L.rules).noticed (state limiter.old) (MemoryFailure cause) heed (state limiter.new)
+        × (result ≡ error_of_failure ResourceLimiterDeniedAllocation cause heed) }
 {
-    match limiter.memory_grow_failed(&cause) {
-        Ok(()) => cause,
-        Err(error) => error.into(),
-    }
-}
-
-/// Takes the fuel for so many bytes, if the meter is on.
-fn charge(fuel: &mut Fuel, bytes: u64) -> Result<(), MemoryError>
-    ensures { Charges fuel.old (copy_cost fuel.old.costs bytes 1) result fuel.new }
-{
-    match fuel.consume_fuel_if(|costs| costs.fuel_for_copying_values::<u8>(bytes)) {
-        Err(FuelError::OutOfFuel { required_fuel }) => {
-            Err(MemoryError::OutOfFuel { required_fuel })
-        }
-        Ok(()) | Err(FuelError::FuelMeteringDisabled) => Ok(()),
-    }
+    let heed = limiter.memory_grow_failed(&cause);
+    failure(heed, cause, DENIED)
 }

@@ -13,6 +13,10 @@ module _ {I : Type 0} (steps : I → Option ValType → I → Type 0) where
     pub run : YieldsThen steps s xs None t
     pub short : length xs ≤ 1000
 
+  -- a fact that holds once calls from s gave all types, and then the end
+  abbrev pub AfterAll : I → Type 0 → Type 0
+  AfterAll s Fact = (types : List ValType) (t : I) → ReadsAll s types t → Fact
+
   -- calls from s to t gave 1,000 types and one more
   pub record ReadsTooMany (s t : I) : Type 0 where
     pub types : List ValType

@@ -82,19 +82,18 @@ impl Model for FuncType {
 }
 
 impl FuncType {
-    ghost use Rattle.wasmi_types.specs.Reading.{IsReading, IsReadingOf};
+    ghost use Rattle.wasmi_types.specs.Reading.{IsReading, IsReadingOf, AfterAll};
 
-    /// Makes the type of a function with these parameters and results.
+    /// Makes the type of a function with these parameters and results, which `read` reads.
     ///
-    /// Takes the first `None` of an iterator as its end, and reads at most 1,001 items of each.
-    /// More than 1,000 parameters are refused before any result is read, then more than 1,000
-    /// results. Memory is taken, and can be refused, only where there are more than 21 items.
+    /// Upstream: `FuncType::new`, there of iterators that know their lengths.
     pub fn new<P, R>(alloc: Global, params: P, results: R) -> Result<Self, FuncTypeError>
     where
         P: IntoIterator<Item = ValType>,
         R: IntoIterator<Item = ValType>,
         requires params { (it : P.IntoIter) → P.into_iter_gives params it → P.IntoIter.can_next it }
-        requires results { (it : R.IntoIter) → R.into_iter_gives results it → R.IntoIter.can_next it }
+        requires results { (first : P.IntoIter) (second : R.IntoIter) → P.into_iter_gives params first → R.into_iter_gives results second
+            → AfterAll P.IntoIter.next_gives first (R.IntoIter.can_next second) }
         ensures { IsReadingOf P.into_iter_gives P.IntoIter.next_gives R.into_iter_gives R.IntoIter.next_gives params results result }
     {
         let mut params = params.into_iter();
@@ -102,13 +101,19 @@ impl FuncType {
         Self::read(alloc, &mut params, &mut results)
     }
 
-    /// Reads the parameters, then the results.
-    fn read<P, R>(alloc: Global, params: &mut P, results: &mut R) -> Result<Self, FuncTypeError>
+    /// Reads the parameters, then the results, each up to the first `None`, which is taken as the end.
+    ///
+    /// Of each it reads at most 1,001 items: more than 1,000 parameters are refused before any result is read, then
+    /// more than 1,000 results. Memory is taken, and can be refused, only where there are more than 21 items. Nothing
+    /// is read after the end or after a refusal, and the results may be read only once the parameters have ended.
+    ///
+    /// Own: `new` takes its iterators by value, so that its contract can't say what is left of them.
+    pub fn read<P, R>(alloc: Global, params: &mut P, results: &mut R) -> Result<Self, FuncTypeError>
     where
         P: Iterator<Item = ValType>,
         R: Iterator<Item = ValType>,
         requires params { P.can_next params.old }
-        requires results { R.can_next results.old }
+        requires results { AfterAll P.next_gives params.old (R.can_next results.old) }
         ensures { IsReading P.next_gives R.next_gives params.old results.old result params.new results.new }
     {
         let mut entries = Entries::new(alloc);

@@ -9,7 +9,7 @@ use std::alloc::Global;
 use std::fmt::{Debug, Display};
 use std::process::Abort;
 
-/// Compares an answer with what it has to be. The comparison is proved here once, and not at each row.
+/// Compares an answer with what it has to be. It is proved here once, and not at each row.
 fn same<T: PartialEq + Debug + Drop>(rt: &impl Abort, answer: T, expected: T) {
     assert_eq!(rt; answer, expected);
 }

@@ -4,7 +4,7 @@ use super::{
 };
 use std::alloc::{AllocError, Global};
 use std::test::Fail;
-use wasmi_core::{Call, LoadOp, Quota, RawVal, Reply, ResourceLimiterRef, StoreOp};
+use wasmi_core::{Call, LoadOp, Quota, RawVal, Reply, StoreOp};
 
 /// Each call that takes a memory's index, at an index that names none, and at a place in it.
 fn absent_steps(alloc: Global, memory: usize, place: usize) -> Result<Vec<Step>, AllocError> {
@@ -37,13 +37,12 @@ fn calls_on_absent_memories_do_nothing(rt: HostRuntime) -> Result<(), Fail> {
         (Call::GetFuel, Reply::Number(2000)),
     ]?;
     let mut quota = Quota::new(100, 0);
-    let mut limiter = ResourceLimiterRef::from(&mut quota);
-    runs_under(&rt, &mut machine, made, &mut limiter)?;
+    runs_under(&rt, &mut machine, made, &mut quota)?;
     for (memory, place) in [(1, 1), (1, usize::MAX), (usize::MAX, 1)] {
         let steps = absent_steps(rt.alloc(), memory, place)?;
-        runs_under(&rt, &mut machine, steps, &mut limiter)?;
+        runs_under(&rt, &mut machine, steps, &mut quota)?;
     }
-    runs_under(&rt, &mut machine, unchanged, &mut limiter)?;
+    runs_under(&rt, &mut machine, unchanged, &mut quota)?;
     same(&rt, "the bytes of one memory", quota.held_bytes(), 3);
     Ok(())
 }

@@ -3,7 +3,7 @@ use super::{
     bytes, grow, metered, new_bytes, new_pages, read, runs_to, runs_under, same, unmetered, write,
 };
 use std::test::Fail;
-use wasmi_core::{Call, FuelError, MemoryError, Quota, Reply, ResourceLimiterRef};
+use wasmi_core::{Call, FuelError, MemoryError, Quota, Reply};
 
 #[test]
 fn ample_memory_runs(rt: HostRuntime) -> Result<(), Fail> {
@@ -52,11 +52,7 @@ fn quota_watches_a_run(rt: HostRuntime) -> Result<(), Fail> {
         (grow(0, 1), refused),
     ]?;
     let mut quota = Quota::new(131071, 0);
-    let mut limiter = ResourceLimiterRef::from(&mut quota);
-    runs_under(&rt, &mut unmetered(rt.alloc()), steps, &mut limiter)?;
-    let Some(quota) = limiter.into_resource_limiter() else {
-        unreachable!()
-    };
+    runs_under(&rt, &mut unmetered(rt.alloc()), steps, &mut quota)?;
     let held = (quota.held_bytes(), quota.held_elements());
     same(&rt, "what is held", held, (65536, 0));
     Ok(())

@@ -15,7 +15,7 @@ pub struct Source<'a> {
 }
 
 impl<'a> Source<'a> {
-    pub fn of(bytes: &'a [u8]) -> Self {
+    pub(super) fn of(bytes: &'a [u8]) -> Self {
         Source {
             bytes,
             at_once: usize::MAX,
@@ -59,7 +59,7 @@ pub struct Target {
 }
 
 impl Target {
-    pub fn new(alloc: Global) -> Target {
+    pub(super) fn new(alloc: Global) -> Target {
         Target {
             bytes: Vec::new(alloc),
             at_once: usize::MAX,
@@ -71,7 +71,7 @@ impl Target {
         }
     }
 
-    pub fn text(&self) -> &[u8] {
+    pub(super) fn text(&self) -> &[u8] {
         self.bytes.as_slice()
     }
 }

@@ -1,6 +1,6 @@
 //! References to limiters, and what a lender knows of its limiter afterwards.
 ghost use Rattle.std.specs.Prelude.{None};
-ghost use Rattle.wasmi_meter.specs.Limiter.{AskedIf};
+ghost use Rattle.wasmi_meter.specs.Limiter.{optional_rules};
 ghost use Rattle.wasmi_meter.specs.LimiterRef.{state, KeepsLoan};
 ghost use Rattle.wasmi_meter.specs.declared.limiter.Kind.TheVariants.{Bytes};
 
@@ -13,7 +13,7 @@ use wasmi_meter::{
 
 /// Lends its limiter for one question, and knows what became of it.
 fn ask_once<L: ResourceLimiter>(limiter: &mut L) -> Result<bool, LimiterError>
-    ensures { L.asked limiter.old (record { kind = Bytes; current = 0; desired = 5; maximum = None }) result limiter.new }
+    ensures { L.rules.asked limiter.old (record { kind = Bytes; current = 0; desired = 5; maximum = None }) result limiter.new }
 {
     let mut lent = ResourceLimiterRef::from(limiter);
     let answer = lent.memory_growing(0, 5, None);
@@ -26,7 +26,7 @@ fn ask_once<L: ResourceLimiter>(limiter: &mut L) -> Result<bool, LimiterError>
 /// Asks the limiter itself, where the reference leads to one.
 fn ask_through<L: ResourceLimiter>(lent: &mut ResourceLimiterRef<L>) -> Result<bool, LimiterError>
     ensures loan { KeepsLoan lent.old lent.new }
-    ensures asked { AskedIf L.asked (state lent.old) (record { kind = Bytes; current = 0; desired = 5; maximum = None }) result (state lent.new) }
+    ensures asked { (optional_rules L.rules).asked (state lent.old) (record { kind = Bytes; current = 0; desired = 5; maximum = None }) result (state lent.new) }
 {
     match lent.as_resource_limiter() {
         Some(limiter) => limiter.memory_growing(0, 5, None),

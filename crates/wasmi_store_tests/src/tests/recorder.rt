@@ -28,7 +28,7 @@ pub struct Recorder {
 }
 
 impl Recorder {
-    pub fn new(answer: Result<bool, LimiterError>, reply: Result<(), LimiterError>) -> Self {
+    pub(super) fn new(answer: Result<bool, LimiterError>, reply: Result<(), LimiterError>) -> Self {
         Recorder {
             answer,
             reply,
@@ -48,9 +48,10 @@ impl Recorder {
 }
 
 impl ResourceLimiter for Recorder {
-    ghost asked = { λ _ _ _ _. Unit {0} };
-
-    ghost noticed = { λ _ _ _ _. Unit {0} };
+    ghost rules = { record {
+      asked = λ _ _ _ _. Unit {0};
+      noticed = λ _ _ _ _. Unit {0};
+    } };
 
     fn memory_growing(
         &mut self,
@@ -106,7 +107,11 @@ impl ResourceLimiter for Recorder {
 }
 
 /// A question whether a memory may grow, in bytes.
-pub fn memory_question(current: usize, desired: usize, maximum: Option<usize>) -> Option<Question> {
+pub(super) fn memory_question(
+    current: usize,
+    desired: usize,
+    maximum: Option<usize>,
+) -> Option<Question> {
     Some(Question {
         kind: Kind::Bytes,
         current,
@@ -116,7 +121,7 @@ pub fn memory_question(current: usize, desired: usize, maximum: Option<usize>) -
 }
 
 /// Compares what a limiter was asked and told: each of them once, or not at all.
-pub fn same_record(
+pub(super) fn same_record(
     rt: &impl Abort,
     what: &str,
     recorder: &Recorder,

@@ -17,8 +17,8 @@ fn function_type(rt: &impl Abort, alloc: Global, lists: Lists) -> FuncType {
     let ty = made.expect(rt, "a function type");
     same(rt, ty.params_results(), lists);
     same(rt, (ty.params(), ty.results()), lists);
-    same(rt, usize::from(ty.len_params()), params.len());
-    same(rt, usize::from(ty.len_results()), results.len());
+    let counts = (usize::from(ty.len_params()), usize::from(ty.len_results()));
+    same(rt, counts, (params.len(), results.len()));
     ty
 }
 
@@ -37,12 +37,20 @@ fn check_copy(rt: &impl Abort, alloc: Global, lists: Lists) {
 }
 
 /// Compares two function types, of which the first is below the second.
-fn check_order(rt: &impl Abort, alloc: Global, lower: Lists, higher: Lists) {
-    let lower = function_type(rt, alloc, lower);
-    let higher = function_type(rt, alloc, higher);
-    same(rt, lower.cmp(&higher), Ordering::Less);
-    same(rt, higher.cmp(&lower), Ordering::Greater);
-    same(rt, (lower < higher, lower == higher), (true, false));
+fn check_order(rt: &impl Abort, alloc: Global, pair: (Lists, Lists)) {
+    let lower = function_type(rt, alloc, pair.0);
+    let higher = function_type(rt, alloc, pair.1);
+    let orders = (lower.cmp(&higher), higher.cmp(&lower));
+    same(
+        rt,
+        (pair, orders),
+        (pair, (Ordering::Less, Ordering::Greater)),
+    );
+    same(
+        rt,
+        (pair, lower < higher, lower != higher),
+        (pair, true, true),
+    );
 }
 
 #[test]
@@ -65,7 +73,7 @@ static INLINE: [&[ValType]; 9] = [
 #[test]
 fn new_inline_works(rt: HostRuntime) {
     for list in &INLINE {
-        check_order(&rt, rt.alloc(), (&[], list), (list, &[]));
+        check_order(&rt, rt.alloc(), ((&[], list), (list, &[])));
         check_copy(&rt, rt.alloc(), (list, list));
     }
 }
@@ -74,7 +82,8 @@ fn new_inline_works(rt: HostRuntime) {
 fn new_big_works(rt: HostRuntime) {
     let big: Lists = (&[I32; 100], &[I64; 100]);
     check_copy(&rt, rt.alloc(), big);
-    check_order(&rt, rt.alloc(), (&[I32; 100], &[I64; 99]), big);
+    let shorter: Lists = (&[I32; 100], &[I64; 99]);
+    check_order(&rt, rt.alloc(), (shorter, big));
 }
 
 /// Pairs of function types, the lower one first.
@@ -96,8 +105,8 @@ static ASCENDING: [(Lists, Lists); 8] = [
 
 #[test]
 fn function_types_are_ordered(rt: HostRuntime) {
-    for &(lower, higher) in &ASCENDING {
-        check_order(&rt, rt.alloc(), lower, higher);
+    for pair in &ASCENDING {
+        check_order(&rt, rt.alloc(), *pair);
     }
 }
 
@@ -143,7 +152,8 @@ fn read(alloc: Global, ends: (usize, usize)) -> (Result<FuncType, FuncTypeError>
 
 const ENDLESS: usize = usize::MAX;
 
-/// For the parameters and the results: the read that gives `None`, and how often each is read. Then the refusal.
+/// For the parameters and the results, the read that gives `None` and the number of reads.
+/// Then the refusal.
 static READS: [((usize, usize), (usize, usize), Option<FuncTypeError>); 7] = [
     ((0, 0), (1, 1), None),
     ((2, 3), (3, 4), None),
@@ -168,13 +178,13 @@ fn reads_until_the_first_none(rt: HostRuntime) {
                 let counts = (usize::from(ty.len_params()), usize::from(ty.len_results()));
                 same(&rt, (counts, None), (ends, refusal));
             }
-            Err(error) => same(&rt, Some(error), refusal),
+            Err(error) => same(&rt, (ends, Some(error)), (ends, refusal)),
         }
     }
 }
 
 /// The reads that give `None`, and the types that are taken.
-static ENDED: [((usize, usize), Lists); 4] = [
+static TAKEN: [((usize, usize), Lists); 4] = [
     ((0, 1), (&[], &[I32])),
     ((2, 0), (&[I32, I32], &[])),
     ((2, 3), (&[I32, I32], &[I32, I32, I32])),
@@ -183,7 +193,7 @@ static ENDED: [((usize, usize), Lists); 4] = [
 
 #[test]
 fn types_after_the_first_none_are_not_taken(rt: HostRuntime) {
-    for &(ends, taken) in &ENDED {
+    for &(ends, taken) in &TAKEN {
         let (made, _) = read(rt.alloc(), ends);
         let ty = made.expect(&rt, "a function type");
         same(&rt, ty.params_results(), taken);

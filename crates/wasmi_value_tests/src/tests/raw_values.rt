@@ -44,40 +44,40 @@ fn what_is_written_is_read_back(rt: HostRuntime) {
     check_read_back(&rt, RawVal { lo: 1, hi: 2 });
 }
 
-/// Makes a raw value of a value, and writes the value over all ones: this sets the low word alone.
-fn check_low_word<T: Copy + Into<RawVal>>(rt: &impl Abort, value: T, lo: u64)
+/// Makes a raw value of a value, and writes the value over all ones. Both set the low word alone.
+fn check_low_word<T: Copy + Into<RawVal>>(rt: &impl Abort, what: &str, value: T, lo: u64)
 where
     RawVal: WriteAs<T>,
 {
-    same(rt, value.into(), RawVal { lo, hi: 0 });
-    same(rt, over(value), RawVal { lo, hi: u64::MAX });
+    same(rt, (what, value.into()), (what, RawVal { lo, hi: 0 }));
+    same(rt, (what, over(value)), (what, RawVal { lo, hi: u64::MAX }));
 }
 
 #[test]
 fn integers_and_bools_set_the_low_word_alone(rt: HostRuntime) {
-    check_low_word(&rt, -1i8, 255);
-    check_low_word(&rt, -1i16, 65535);
-    check_low_word(&rt, -1i32, 4294967295);
-    check_low_word(&rt, -1i64, u64::MAX);
-    check_low_word(&rt, 7u8, 7);
-    check_low_word(&rt, 7u16, 7);
-    check_low_word(&rt, 7u32, 7);
-    check_low_word(&rt, 7u64, 7);
-    check_low_word(&rt, 0u32, 0);
-    check_low_word(&rt, true, 1);
-    check_low_word(&rt, false, 0);
+    check_low_word(&rt, "i8", -1i8, 255);
+    check_low_word(&rt, "i16", -1i16, 65535);
+    check_low_word(&rt, "i32", -1i32, 4294967295);
+    check_low_word(&rt, "i64", -1i64, u64::MAX);
+    check_low_word(&rt, "u8", 7u8, 7);
+    check_low_word(&rt, "u16", 7u16, 7);
+    check_low_word(&rt, "u32", 7u32, 7);
+    check_low_word(&rt, "u64", 7u64, 7);
+    check_low_word(&rt, "u32", 0u32, 0);
+    check_low_word(&rt, "bool", true, 1);
+    check_low_word(&rt, "bool", false, 0);
 }
 
 #[test]
 fn non_zero_integers_set_the_low_word_alone(rt: HostRuntime) {
-    check_low_word(&rt, NonZeroI8::MIN, 128);
-    check_low_word(&rt, NonZeroI16::MIN, 32768);
-    check_low_word(&rt, NonZeroI32::MIN, 2147483648);
-    check_low_word(&rt, NonZeroI64::MIN, 9223372036854775808);
-    check_low_word(&rt, NonZeroU8::MAX, 255);
-    check_low_word(&rt, NonZeroU16::MAX, 65535);
-    check_low_word(&rt, NonZeroU32::MAX, 4294967295);
-    check_low_word(&rt, NonZeroU64::MIN, 1);
+    check_low_word(&rt, "NonZeroI8", NonZeroI8::MIN, 128);
+    check_low_word(&rt, "NonZeroI16", NonZeroI16::MIN, 32768);
+    check_low_word(&rt, "NonZeroI32", NonZeroI32::MIN, 2147483648);
+    check_low_word(&rt, "NonZeroI64", NonZeroI64::MIN, 9223372036854775808);
+    check_low_word(&rt, "NonZeroU8", NonZeroU8::MAX, 255);
+    check_low_word(&rt, "NonZeroU16", NonZeroU16::MAX, 65535);
+    check_low_word(&rt, "NonZeroU32", NonZeroU32::MAX, 4294967295);
+    check_low_word(&rt, "NonZeroU64", NonZeroU64::MIN, 1);
 }
 
 #[test]
@@ -90,16 +90,9 @@ fn equality_looks_at_both_words(rt: HostRuntime) {
 
 #[test]
 fn floats_and_bits_are_the_low_word(rt: HostRuntime) {
-    same(
-        &rt,
-        RawVal::from(F32::from_bits(9)),
-        RawVal { lo: 9, hi: 0 },
-    );
-    same(
-        &rt,
-        RawVal::from(F64::from_bits(9)),
-        RawVal { lo: 9, hi: 0 },
-    );
+    let floats = (F32::from_bits(9), F64::from_bits(9));
+    let raws = [RawVal::from(floats.0), RawVal::from(floats.1)];
+    same(&rt, raws, [RawVal { lo: 9, hi: 0 }; 2]);
     same(&rt, RawVal::from_bits64(3), RawVal { lo: 3, hi: 0 });
     same(&rt, RawVal::default(), RawVal { lo: 0, hi: 0 });
 }
@@ -137,29 +130,23 @@ fn a_raw_value_becomes_a_bool_or_a_float(rt: HostRuntime) {
     let truth: bool = raw.read_as();
     let byte: u8 = raw.read_as();
     same(&rt, (truth, byte), (true, 0));
-    same(
-        &rt,
-        (bool::from(raw), bool::from(RawVal::default())),
-        (true, false),
-    );
+    let truths = (bool::from(raw), bool::from(RawVal::default()));
+    same(&rt, truths, (true, false));
     same(&rt, raw.to_bits64(), 256);
     same(&rt, F32::from(ONES).to_bits(), u32::MAX);
     same(&rt, F64::from(ONES).to_bits(), u64::MAX);
 }
 
-static ASCENDING: [RawVal; 4] = [
-    RawVal { lo: 0, hi: 9 },
-    RawVal { lo: 1, hi: 0 },
-    RawVal { lo: 1, hi: 1 },
-    RawVal { lo: 2, hi: 0 },
+static ASCENDING: [(RawVal, RawVal); 3] = [
+    (RawVal { lo: 0, hi: 9 }, RawVal { lo: 1, hi: 0 }),
+    (RawVal { lo: 1, hi: 0 }, RawVal { lo: 1, hi: 1 }),
+    (RawVal { lo: 1, hi: 1 }, RawVal { lo: 2, hi: 0 }),
 ];
 
 #[test]
 fn is_ordered_by_the_low_word_first(rt: HostRuntime) {
-    let mut below = None;
-    for raw in &ASCENDING {
-        let raw = Some(*raw);
-        same(&rt, (raw, below < raw), (raw, true));
-        below = raw;
+    for &(lower, higher) in &ASCENDING {
+        let answer = (lower, higher, lower < higher);
+        same(&rt, answer, (lower, higher, true));
     }
 }

@@ -6,32 +6,42 @@ use wasmi_typed::{IntoShiftAmount, ShiftAmount, Typed, TypedRawVal};
 use wasmi_types::ValType;
 
 /// Makes a typed value, which has to have this type and this low word.
-fn check_typed<T: Typed + Into<RawVal>>(rt: &impl Abort, value: T, ty: ValType, lo: u64) {
+fn check_typed<T: Typed + Into<RawVal>>(
+    rt: &impl Abort,
+    what: &str,
+    value: T,
+    ty: ValType,
+    lo: u64,
+) {
     let typed = TypedRawVal::from(value);
     let raw = RawVal { lo, hi: 0 };
-    same(rt, (typed.ty(), typed.raw()), (ty, raw));
-    same(rt, typed, TypedRawVal::new(ty, RawVal::from(lo)));
-    same(rt, RawVal::from(typed), raw);
+    same(rt, (what, typed.ty(), typed.raw()), (what, ty, raw));
+    same(
+        rt,
+        (what, typed),
+        (what, TypedRawVal::new(ty, RawVal::from(lo))),
+    );
+    same(rt, (what, RawVal::from(typed)), (what, raw));
 }
 
 #[test]
 fn typed_values_have_their_type_and_bits(rt: HostRuntime) {
-    check_typed(&rt, true, ValType::I32, 1);
-    check_typed(&rt, -1i8, ValType::I32, 255);
-    check_typed(&rt, -1i16, ValType::I32, 65535);
-    check_typed(&rt, -1i32, ValType::I32, 4294967295);
-    check_typed(&rt, -1i64, ValType::I64, u64::MAX);
-    check_typed(&rt, 7u8, ValType::I32, 7);
-    check_typed(&rt, 7u16, ValType::I32, 7);
-    check_typed(&rt, 7u32, ValType::I32, 7);
-    check_typed(&rt, 7u64, ValType::I64, 7);
-    check_typed(&rt, F32::from_bits(9), ValType::F32, 9);
-    check_typed(&rt, F64::from_bits(9), ValType::F64, 9);
-    check_typed(&rt, V128::from(5), ValType::V128, 5);
-    check_typed(&rt, NonZeroI32::MIN, ValType::I32, 2147483648);
-    check_typed(&rt, NonZeroU32::MIN, ValType::I32, 1);
-    check_typed(&rt, NonZeroI64::MIN, ValType::I64, 9223372036854775808);
-    check_typed(&rt, NonZeroU64::MIN, ValType::I64, 1);
+    check_typed(&rt, "bool", true, ValType::I32, 1);
+    check_typed(&rt, "i8", -1i8, ValType::I32, 255);
+    check_typed(&rt, "i16", -1i16, ValType::I32, 65535);
+    check_typed(&rt, "i32", -1i32, ValType::I32, 4294967295);
+    check_typed(&rt, "i64", -1i64, ValType::I64, u64::MAX);
+    check_typed(&rt, "u8", 7u8, ValType::I32, 7);
+    check_typed(&rt, "u16", 7u16, ValType::I32, 7);
+    check_typed(&rt, "u32", 7u32, ValType::I32, 7);
+    check_typed(&rt, "u64", 7u64, ValType::I64, 7);
+    check_typed(&rt, "F32", F32::from_bits(9), ValType::F32, 9);
+    check_typed(&rt, "F64", F64::from_bits(9), ValType::F64, 9);
+    check_typed(&rt, "V128", V128::from(5), ValType::V128, 5);
+    check_typed(&rt, "NonZeroI32", NonZeroI32::MIN, ValType::I32, 1 << 31);
+    check_typed(&rt, "NonZeroU32", NonZeroU32::MIN, ValType::I32, 1);
+    check_typed(&rt, "NonZeroI64", NonZeroI64::MIN, ValType::I64, 1 << 63);
+    check_typed(&rt, "NonZeroU64", NonZeroU64::MIN, ValType::I64, 1);
     same(&rt, ShiftAmount::TY, ValType::I32);
 }
 
@@ -57,27 +67,33 @@ fn typed_values_are_read_by_their_bits(rt: HostRuntime) {
 }
 
 /// Compares the remainder of an amount, which is `None` where nothing is shifted.
-fn check_shift<T: IntoShiftAmount>(rt: &impl Abort, amount: T::ShiftSource, bits: Option<u8>) {
-    same(rt, T::into_shift_amount(amount).map(u8::from), bits);
+fn check_shift<T: IntoShiftAmount>(
+    rt: &impl Abort,
+    what: &str,
+    amount: T::ShiftSource,
+    bits: Option<u8>,
+) {
+    let answer = T::into_shift_amount(amount).map(u8::from);
+    same(rt, (what, answer), (what, bits));
 }
 
 #[test]
 fn shift_amounts_are_remainders(rt: HostRuntime) {
-    check_shift::<i32>(&rt, 32, None);
-    check_shift::<i32>(&rt, 33, Some(1));
-    check_shift::<i32>(&rt, -1, Some(31));
-    check_shift::<i8>(&rt, -9, Some(7));
-    check_shift::<i16>(&rt, i16::MIN, None);
-    check_shift::<i64>(&rt, -1, Some(63));
-    check_shift::<i128>(&rt, -1, Some(127));
-    check_shift::<u8>(&rt, 255, Some(7));
-    check_shift::<u16>(&rt, 17, Some(1));
-    check_shift::<u32>(&rt, u32::MAX, Some(31));
-    check_shift::<u64>(&rt, 128, None);
-    check_shift::<u128>(&rt, 129, Some(1));
-    check_shift::<[u8; 16]>(&rt, 17, Some(1));
-    check_shift::<[u16; 8]>(&rt, 17, Some(1));
-    check_shift::<[u32; 4]>(&rt, 64, None);
-    check_shift::<[u64; 2]>(&rt, 65, Some(1));
+    check_shift::<i32>(&rt, "i32", 32, None);
+    check_shift::<i32>(&rt, "i32", 33, Some(1));
+    check_shift::<i32>(&rt, "i32", -1, Some(31));
+    check_shift::<i8>(&rt, "i8", -9, Some(7));
+    check_shift::<i16>(&rt, "i16", i16::MIN, None);
+    check_shift::<i64>(&rt, "i64", -1, Some(63));
+    check_shift::<i128>(&rt, "i128", -1, Some(127));
+    check_shift::<u8>(&rt, "u8", 255, Some(7));
+    check_shift::<u16>(&rt, "u16", 17, Some(1));
+    check_shift::<u32>(&rt, "u32", u32::MAX, Some(31));
+    check_shift::<u64>(&rt, "u64", 128, None);
+    check_shift::<u128>(&rt, "u128", 129, Some(1));
+    check_shift::<[u8; 16]>(&rt, "[u8; 16]", 17, Some(1));
+    check_shift::<[u16; 8]>(&rt, "[u16; 8]", 17, Some(1));
+    check_shift::<[u32; 4]>(&rt, "[u32; 4]", 64, None);
+    check_shift::<[u64; 2]>(&rt, "[u64; 2]", 65, Some(1));
     same(&rt, u8::from(ShiftAmount::from(200)), 200);
 }

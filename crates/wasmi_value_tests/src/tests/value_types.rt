@@ -2,7 +2,7 @@ use super::same;
 use ValType::{ExternRef, F32, F64, FuncRef, I32, I64, V128};
 use wasmi_types::{IndexType, RefType, ValType, hint};
 
-/// Each value type, whether it is a number type, and its reference type. In ascending order.
+/// Each value type, whether it is a number type, and its reference type.
 static VALUE_TYPES: [(ValType, bool, Option<RefType>); 7] = [
     (I32, true, None),
     (I64, true, None),
@@ -27,12 +27,16 @@ fn value_types_are_numbers_vectors_or_references(rt: HostRuntime) {
 
 #[test]
 fn value_types_ascend(rt: HostRuntime) {
-    let mut below = None;
-    for &(ty, _, _) in &VALUE_TYPES {
-        let ty = Some(ty);
-        same(&rt, (ty, below < ty), (ty, true));
-        below = ty;
-    }
+    let ascending = [
+        I32 < I64,
+        I64 < F32,
+        F32 < F64,
+        F64 < V128,
+        V128 < FuncRef,
+        FuncRef < ExternRef,
+    ];
+    same(&rt, ascending, [true; 6]);
+    same(&rt, None < Some(I32), true);
     same(&rt, RefType::Func < RefType::Extern, true);
 }
 
@@ -48,17 +52,20 @@ fn index_types_are_32_or_64_bits_wide(rt: HostRuntime) {
 #[test]
 fn the_narrower_index_type_is_the_minimum(rt: HostRuntime) {
     let (narrow, wide) = (IndexType::I32, IndexType::I64);
-    same(&rt, wide.min(&wide), wide);
-    same(&rt, wide.min(&narrow), narrow);
-    same(&rt, narrow.min(&wide), narrow);
-    same(&rt, narrow.min(&narrow), narrow);
+    let least = [
+        wide.min(&wide),
+        wide.min(&narrow),
+        narrow.min(&wide),
+        narrow.min(&narrow),
+    ];
+    same(&rt, least, [wide, narrow, narrow, narrow]);
 }
 
 #[test]
 fn hints_answer_their_condition(rt: HostRuntime) {
     hint::cold();
     for condition in [false, true] {
-        same(&rt, hint::likely(condition), condition);
-        same(&rt, hint::unlikely(condition), condition);
+        let answers = (hint::likely(condition), hint::unlikely(condition));
+        same(&rt, answers, (condition, condition));
     }
 }

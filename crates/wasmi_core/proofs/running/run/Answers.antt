@@ -1,27 +1,23 @@
-use Rattle.std.proofs.Common.{◌≡◌, ◌+◌, [], ◌∷◌, ◌++◌, ◌∙◌, refl, ap, arith, rules}
-use Rattle.std.proofs.lemmas.List.{take_more}
+use Rattle.std.proofs.Common.{◌+◌, [], ◌∷◌, ◌++◌, ◌∙◌, refl, ap, arith, rules}
+use Rattle.std.proofs.lemmas.List.{take_more, map_push}
+use Rattle.wasmi_meter.specs.Limiter.{optional_rules}
+use Rattle.wasmi_core.specs.World.{Turn}
 use Rattle.wasmi_core.proofs.Turns.{Run-push}
 use Rattle.wasmi_core.proofs.running.run.Goals as goal
 
-pub loop-call-init : goal.loop-call-init
-loop-call-init g c = record {
-  ran = ([], [], rw c.in_ok-replies.ensures.items (refl, refl));
-  loan = search rules;
-  count = c.in_ok-replies.ensures.len;
-  room = c.in_ok-replies.ensures.capacity;
-}
-
+-- the turn of this call stands after the turns so far
 pub loop-call-preserved : goal.loop-call-preserved
-loop-call-preserved g c = record {
-  ran =
-      let ran = c.loop-call.invariant.ran in
-      let step = c.step-reply.ensures.step in (
-        ran.0 ++ step.0 ∷ [],
-        ran.1 ++ step.1 ∷ [],
-        rw (take_more c.args.calls.now c.loop-call.call-index c.call-item.result c.loop-call-test.true, ← c.call-item.is, c.in-Ok.ensures.items)
-            (Run-push _ _ _ _ _ _ _ _ _ _ ran.2 _ _ _ _ _ _ step.2),
+loop-call-preserved g c =
+    let ran = c.loop-call.invariant.ran in
+    let step = c.step-reply.ensures.step in
+    record {
+      ran = (
+        ran.0 ++ record { call = _; reply = _; charge = step.0; written = step.1 } ∷ [],
+        search (rules, map_push Turn.call ran.0, ran.1, take_more),
+        rw (map_push Turn.reply ran.0 (record { call = _; reply = _; charge = step.0; written = step.1 }), ran.2, c.in-Ok.ensures.items) refl,
+        Run-push (optional_rules g.L.ResourceLimiter.rules) _ _ _ ran.3 _ _ step.2,
       );
-  loan = search rules;
-  count = c.in-Ok.ensures.len ∙ ap (λ n. n + 1) c.loop-call.invariant.count;
-  room = omega (arith, c.in-Ok.ensures.capacity);
-}
+      loan = search rules;
+      count = c.in-Ok.ensures.len ∙ ap (λ n. n + 1) c.loop-call.invariant.count;
+      room = omega (arith, c.in-Ok.ensures.capacity);
+    }

@@ -1,30 +1,53 @@
-use Rattle.std.proofs.Common.{◌≡◌, refl, ap, arith}
+use Rattle.std.proofs.Common.{ap}
 use Rattle.std.proofs.lemmas.Result.{err_from_is_err_and}
+use Rattle.wasmi_meter.specs.Limiter.{optional_rules}
 use Rattle.wasmi_store.specs.Buffer.{BufferValue}
 use Rattle.wasmi_store.specs.Memory.{MemoryValue}
-use Rattle.wasmi_store.proofs.Growths.{grows_unasked, grows_denied, grows_unpaid, grows_unstored, grows_met}
+use Rattle.wasmi_store.proofs.GrowthLemmas.{grows_unasked, grows_denied, grows_unpaid, grows_refused, grows_met}
 use Rattle.wasmi_store.proofs.memory.LinearMemory.grow_metered.Goals as goal
 
 pub returns-in_default-clause-grown : goal.returns-in_default-clause-grown
-returns-in_default-clause-grown g c = grows_unasked _ _ c.args.self.now c.args.fuel.now _ c.args.additional c.if-additional-eq0.false c.in_default.ensures
+returns-in_default-clause-grown g c =
+    grows_unasked (optional_rules g.L.ResourceLimiter.rules) c.args.self.now c.args.fuel.now _ c.args.additional c.if-additional-eq0.false c.in_default.ensures
 
-pub returns-in_err-ask-clause-grown : goal.returns-in_err-ask-clause-grown
-returns-in_err-ask-clause-grown g c =
+pub returns-in_err-permission-clause-grown : goal.returns-in_err-permission-clause-grown
+returns-in_err-permission-clause-grown g c =
     let p = err_from_is_err_and c.from_residual.result c.from_residual.ensures.1 in
-    rw (p.1, p.2, ← c.self.view_is)
-    (grows_denied _ _ _ c.args.fuel.now _ c.args.additional c.if-additional-eq0.false (rw (← c.self.view_is) at c.in-Some.ensures.0) c.len-old_size.result c.in-Some.size c.maximum_size.result c.len-old_size.ensures (rw (← c.self.view_is) at c.in-Some.ensures.1) c.maximum_size.ensures _ _ c.in_err-ask.ensures.asked)
+    let sizes = rw (← c.self.view_is) at c.in-Some.ensures in
+    rw (p.1, p.2, ← c.self.view_is) (
+    grows_denied (optional_rules g.L.ResourceLimiter.rules) _ c.args.fuel.now _ c.args.additional c.if-additional-eq0.false sizes.0 c.len-old_size.result c.in-Some.size c.maximum_size.result c.len-old_size.ensures sizes.1 c.maximum_size.ensures
+    _ _ c.memory_growing-answer.ensures.asked _ c.in_err-permission.ensures
+    )
 
 pub returns-in-Err-clause-grown : goal.returns-in-Err-clause-grown
 returns-in-Err-clause-grown g c =
-    rw (← c.self.view_is)
-    (grows_unpaid _ _ _ c.args.fuel.now _ c.args.additional c.if-additional-eq0.false (rw (← c.self.view_is) at c.in-Some.ensures.0) c.len-old_size.result c.in-Some.size c.maximum_size.result c.len-old_size.ensures (rw (← c.self.view_is) at c.in-Some.ensures.1) c.maximum_size.ensures _ c.in_ok-ask.ensures.asked c.charge.new.fuel _ _ _ c.in-Err.ensures c.tell.ensures.told)
+    let sizes = rw (← c.self.view_is) at c.in-Some.ensures in
+    rw (← c.self.view_is) (
+    grows_unpaid (optional_rules g.L.ResourceLimiter.rules) _ c.args.fuel.now _ c.args.additional c.if-additional-eq0.false sizes.0 c.len-old_size.result c.in-Some.size c.maximum_size.result c.len-old_size.ensures sizes.1 c.maximum_size.ensures
+    _ (rw c.in_ok-permission.ensures at c.memory_growing-answer.ensures.asked)
+    c.charge.new.fuel _ _ _ c.in-Err.ensures c.tell.ensures.told.1 _ c.tell.ensures.told.2
+    )
 
 pub returns-in-Err-grow-clause-grown : goal.returns-in-Err-grow-clause-grown
 returns-in-Err-grow-clause-grown g c =
-    rw (← c.self.view_is)
-    (grows_unstored _ _ _ c.args.fuel.now _ c.args.additional c.if-additional-eq0.false (rw (← c.self.view_is) at c.in-Some.ensures.0) c.len-old_size.result c.in-Some.size c.maximum_size.result c.len-old_size.ensures (rw (← c.self.view_is) at c.in-Some.ensures.1) c.maximum_size.ensures _ c.in_ok-ask.ensures.asked c.charge.new.fuel c.in_default-charge.ensures _ _ _ _ (rw c.len-old_size.ensures c.in-Err-grow.ensures.cause) (ap (λ (b : BufferValue). let x : MemoryValue = record { ty = c.self.inside.ty; bytes = b.bytes; room = b.room } in x) c.in-Err-grow.ensures.err) c.tell-in-Err-grow.ensures.told)
+    let sizes = rw (← c.self.view_is) at c.in-Some.ensures in
+    rw (← c.self.view_is) (
+    grows_refused (optional_rules g.L.ResourceLimiter.rules) _ c.args.fuel.now _ c.args.additional c.if-additional-eq0.false sizes.0 c.len-old_size.result c.in-Some.size c.maximum_size.result c.len-old_size.ensures sizes.1 c.maximum_size.ensures
+    _ (rw c.in_ok-permission.ensures at c.memory_growing-answer.ensures.asked)
+    c.charge.new.fuel c.in_default-charge.ensures _ _ _ _
+    (ap (λ (b : BufferValue). let x : MemoryValue = record { ty = c.self.inside.ty; bytes = b.bytes; room = b.room } in x) c.in-Err-grow.ensures.err)
+    (rw c.len-old_size.ensures c.in-Err-grow.ensures.cause)
+    c.tell-in-Err-grow.ensures.told.1 _ c.tell-in-Err-grow.ensures.told.2
+    )
 
 pub returns-clause-grown : goal.returns-clause-grown
 returns-clause-grown g c =
-    rw (← c.self.view_is)
-    (grows_met _ _ _ c.args.fuel.now _ c.args.additional c.if-additional-eq0.false (rw (← c.self.view_is) at c.in-Some.ensures.0) c.len-old_size.result c.in-Some.size c.maximum_size.result c.len-old_size.ensures (rw (← c.self.view_is) at c.in-Some.ensures.1) c.maximum_size.ensures _ c.in_ok-ask.ensures.asked c.charge.new.fuel c.in_default-charge.ensures _ (rw c.len-old_size.ensures c.in_default-grow.ensures.fits) (rw c.len-old_size.ensures (ap (λ (b : BufferValue). let x : MemoryValue = record { ty = c.self.inside.ty; bytes = b.bytes; room = b.room } in x) c.in_default-grow.ensures.ok)) _ (rw (← c.self.view_is) at c.size-old_pages.ensures))
+    let sizes = rw (← c.self.view_is) at c.in-Some.ensures in
+    rw (← c.self.view_is) (
+    grows_met (optional_rules g.L.ResourceLimiter.rules) _ c.args.fuel.now _ c.args.additional c.if-additional-eq0.false sizes.0 c.len-old_size.result c.in-Some.size c.maximum_size.result c.len-old_size.ensures sizes.1 c.maximum_size.ensures
+    _ (rw c.in_ok-permission.ensures at c.memory_growing-answer.ensures.asked)
+    c.charge.new.fuel c.in_default-charge.ensures _
+    (rw c.len-old_size.ensures (ap (λ (b : BufferValue). let x : MemoryValue = record { ty = c.self.inside.ty; bytes = b.bytes; room = b.room } in x) c.in_default-grow.ensures.ok))
+    (rw c.len-old_size.ensures c.in_default-grow.ensures.fits)
+    _ (rw (← c.self.view_is) at c.size-old_pages.ensures)
+    )

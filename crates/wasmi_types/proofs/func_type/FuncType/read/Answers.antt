@@ -10,3 +10,6 @@ returns-in_err-len_results g c =
 
 pub returns : goal.returns
 returns g c = refused_end c.new-entries.ensures c.in_ok-len_params.ensures.ok c.in_ok-len_results.ensures.ok (c.in-Err.ensures.refused refl)
+
+pub read-requires-2 : goal.read-requires-2
+read-requires-2 g c = let first = c.in_ok-len_params.ensures.ok in c.requires.results first.types _ first.read

@@ -1,0 +1,22 @@
+-- A machine with the limiter that it asks, and what one call does.
+use Rattle.std.specs.Prelude.{◌≡◌, ℕ}
+use Rattle.wasmi_core.specs.declared.calls.Call.{Call}
+use Rattle.wasmi_core.specs.declared.calls.Reply.{Reply}
+use Rattle.wasmi_core.specs.State.{State}
+
+-- what a call can reach: the machine's state and the limiter
+pub record World (S : Type 0) : Type 0 where
+  pub state : State
+  pub limiter : S
+
+-- one call: its reply, the fuel that it was charged and the bytes that it has written by growing or copying
+pub record Turn : Type 0 where
+  pub call : Call
+  pub reply : Reply
+  pub charge : ℕ
+  pub written : ℕ
+
+-- a turn that is neither charged nor written by
+pub record IsFree (turn : Turn) : Type 0 where
+  pub uncharged : turn.charge ≡ 0
+  pub unwritten : turn.written ≡ 0
