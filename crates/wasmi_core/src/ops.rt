@@ -10,17 +10,29 @@ use wasmi_types::TrapCode;
 /// A scalar load.
 #[derive(Clone, Copy, Debug, PartialEq, Eq)]
 pub enum LoadOp {
+    /// `i32_load8_s`
     I32Load8S,
+    /// `i32_load8_u`
     I32Load8U,
+    /// `i32_load16_s`
     I32Load16S,
+    /// `i32_load16_u`
     I32Load16U,
+    /// `i64_load8_s`
     I64Load8S,
+    /// `i64_load8_u`
     I64Load8U,
+    /// `i64_load16_s`
     I64Load16S,
+    /// `i64_load16_u`
     I64Load16U,
+    /// `i64_load32_s`
     I64Load32S,
+    /// `i64_load32_u`
     I64Load32U,
+    /// `load_u32`
     LoadU32,
+    /// `load_u64`
     LoadU64,
 }
 
@@ -49,12 +61,19 @@ impl LoadOp {
 /// A scalar store.
 #[derive(Clone, Copy, Debug, PartialEq, Eq)]
 pub enum StoreOp {
+    /// `i32_store8`
     I32Store8,
+    /// `i32_store16`
     I32Store16,
+    /// `i64_store8`
     I64Store8,
+    /// `i64_store16`
     I64Store16,
+    /// `i64_store32`
     I64Store32,
+    /// `store32`
     Store32,
+    /// `store64`
     Store64,
 }
 

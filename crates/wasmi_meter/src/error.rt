@@ -6,6 +6,7 @@ use std::fmt;
 /// Upstream: `wasmi_core::LimiterError`.
 #[derive(Clone, Copy, Debug, PartialEq, Eq)]
 pub enum LimiterError {
+    /// The limiter refuses, or complains of what it is told.
     ResourceLimiterDeniedAllocation,
 }
 
@@ -31,12 +32,19 @@ impl std::error::Error for LimiterError {}
 /// Upstream: `wasmi_core::MemoryError`.
 #[derive(Clone, Copy, Debug, PartialEq, Eq)]
 pub enum MemoryError {
+    /// The system refused memory for an owned memory.
     OutOfSystemMemory,
+    /// A growth above the greatest number of pages or the maximum, or one that the limiter says no to.
     OutOfBoundsGrowth,
+    /// A read or a write that ends past the memory.
     OutOfBoundsAccess,
+    /// A page size other than 1 byte and 64 KiB, or limits above the greatest number of pages or out of order.
     InvalidMemoryType,
+    /// A lent region that is too short.
     InvalidStaticBufferSize,
+    /// The limiter said no to a creation, or answered an error to a question or a notice.
     ResourceLimiterDeniedAllocation,
+    /// A creation whose minimum has 2^64 bytes or more.
     MinimumSizeOverflow,
     /// Never answered where `usize` has 64 bits.
     MaximumSizeOverflow,
@@ -83,17 +91,25 @@ impl std::error::Error for MemoryError {}
 /// Upstream: `wasmi_core::TableError`.
 #[derive(Clone, Copy, Debug, PartialEq, Eq)]
 pub enum TableError {
+    /// The system refused memory.
     OutOfSystemMemory,
     /// Never answered where `usize` has 64 bits.
     MinimumSizeOverflow,
     /// Never answered where `usize` has 64 bits.
     MaximumSizeOverflow,
+    /// The limiter said no to a creation, or answered an error to a question or a notice.
     ResourceLimiterDeniedAllocation,
+    /// A growth above the greatest number of elements or the maximum, or one that the limiter says no to.
     GrowOutOfBounds,
+    /// An initialization that ends past the table or the element segment.
     InitOutOfBounds,
+    /// A fill that ends past the table.
     FillOutOfBounds,
+    /// A write past the table.
     SetOutOfBounds,
+    /// A copy that ends past one of its tables.
     CopyOutOfBounds,
+    /// A reference or an element segment of another type than the table's elements.
     ElementTypeMismatch,
     /// A call costs more fuel than is left.
     OutOfFuel { required_fuel: u64 },

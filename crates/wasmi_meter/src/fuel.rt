@@ -8,8 +8,10 @@ use std::marker::Model;
 
 /// The number of bytes that a copied value counts for, in place of its size in memory.
 pub trait ValueSize {
+    /// The number of bytes, in contracts.
     ghost SIZE: { ℕ };
 
+    /// The number of bytes.
     const SIZE: u64;
 }
 
@@ -254,7 +256,7 @@ impl Fuel {
         Ok(())
     }
 
-    /// Sets the fuel that is left.
+    /// Sets the fuel that is left. It is `FuelMeteringDisabled` where the meter is off.
     pub fn set_fuel(&mut self, fuel: u64) -> Result<(), FuelError>
         ensures on { IsSome self.old.left → (result ≡ Ok tt) × (self.new ≡ meter_set self.old fuel) }
         ensures off { self.old.left ≡ None → (result ≡ Err FuelError.FuelMeteringDisabled) × (self.new ≡ self.old) }
@@ -264,7 +266,7 @@ impl Fuel {
         Ok(())
     }
 
-    /// The fuel that is left.
+    /// The fuel that is left. It is `FuelMeteringDisabled` where the meter is off.
     pub fn get_fuel(&self) -> Result<u64, FuelError>
         ensures on { IsSome self.now.left → result ≡ Ok (amount_left self.now) }
         ensures off { self.now.left ≡ None → result ≡ Err FuelError.FuelMeteringDisabled }
@@ -273,8 +275,8 @@ impl Fuel {
         Ok(self.remaining)
     }
 
-    /// Takes an amount, and answers what is left. It doesn't look at whether the meter is on: one that is off has
-    /// nothing left.
+    /// Takes an amount, and answers what is left. It is `OutOfFuel` with the amount where less is left, and then
+    /// nothing is taken. It doesn't look at whether the meter is on: one that is off has nothing left.
     pub fn consume_fuel_unchecked(&mut self, delta: u64) -> Result<u64, FuelError>
         ensures { Spends self.old delta (amount_left self.old - delta) result self.new }
     {
@@ -285,7 +287,8 @@ impl Fuel {
         Ok(left)
     }
 
-    /// Takes what `f` computes from the costs, and answers what is left. Where the meter is off, `f` isn't called.
+    /// Takes what `f` computes from the costs, and answers what is left. Where the meter is off it is
+    /// `FuelMeteringDisabled`, and `f` isn't called; where less is left, `OutOfFuel`, and nothing is taken.
     pub fn consume_fuel<C: FnOnce(&FuelCostsProvider) -> u64>(
         &mut self,
         f: C,
@@ -301,7 +304,8 @@ impl Fuel {
         self.consume_fuel_unchecked(delta)
     }
 
-    /// Takes what `f` computes from the costs if the meter is on. Where it is off, `f` isn't called.
+    /// Takes what `f` computes from the costs if the meter is on. Where it is off, `f` isn't called. It is `OutOfFuel`
+    /// where less is left, and then nothing is taken.
     pub fn consume_fuel_if<C: FnOnce(&FuelCostsProvider) -> u64>(
         &mut self,
         f: C,

@@ -8,7 +8,9 @@ use crate::error::{LimiterError, MemoryError, TableError};
 /// What grows: a linear memory, in bytes, or a table, in elements.
 #[derive(Clone, Copy, Debug, PartialEq, Eq)]
 pub enum Kind {
+    /// The bytes of linear memories.
     Bytes,
+    /// The elements of tables.
     Elements,
 }
 

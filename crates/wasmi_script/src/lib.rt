@@ -7,5 +7,7 @@ mod reading;
 mod replaying;
 mod script;
 
+pub use error::ReplayError;
+pub use print::ReplyLine;
 pub use reading::LIMIT;
 pub use replaying::{Status, replay};

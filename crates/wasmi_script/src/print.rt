@@ -14,10 +14,12 @@ pub struct Printer<'w, W> {
 }
 
 impl<'w, W: io::Write> Printer<'w, W> {
+    /// Text that goes to this writer.
     pub fn new(writer: &'w mut W) -> Self {
         Printer { writer }
     }
 
+    /// Flushes the writer.
     pub fn flush(&mut self) -> fmt::Result {
         self.writer.flush().map_err(|_| fmt::Error)
     }
@@ -45,7 +47,9 @@ impl<W: io::Write> fmt::Write for Printer<'_, W> {
 /// A call's reply, as the program prints it.
 #[derive(Clone, Copy)]
 pub struct ReplyLine<'a> {
+    /// The call, which tells what a creation has made.
     pub call: &'a Call,
+    /// Its reply.
     pub reply: &'a Reply,
 }
 

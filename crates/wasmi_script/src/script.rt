@@ -19,7 +19,9 @@ use wasmi_core::Call;
 /// What a script asks for.
 #[derive(Drop)]
 pub struct Script {
+    /// What its header lines say.
     pub header: Header,
+    /// The call of each command, in order.
     pub calls: Vec<Call>,
 }
 

@@ -16,14 +16,18 @@ pub enum MeterLine {
 /// What a `quota` line says: the most bytes and the most elements that the limiter permits.
 #[derive(Clone, Copy, Debug, PartialEq, Eq)]
 pub struct QuotaLine {
+    /// The most bytes of memories.
     pub bytes: u64,
+    /// The most elements of tables.
     pub elements: u64,
 }
 
 /// The header lines that a script has.
 #[derive(Clone, Copy, Debug, PartialEq, Eq, Default)]
 pub struct Header {
+    /// The `meter` line, if there is one.
     pub meter: Option<MeterLine>,
+    /// The `quota` line, if there is one.
     pub quota: Option<QuotaLine>,
 }
 

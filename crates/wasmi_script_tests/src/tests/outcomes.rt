@@ -1,0 +1,46 @@
+//! Texts and statuses, also those that a script with ample memory never meets.
+use super::same;
+use std::alloc::Global;
+use std::fmt::Display;
+use std::process::Abort;
+use std::test::Fail;
+use wasmi_core::{Call, Reply};
+use wasmi_script::{ReplayError, ReplyLine, Status};
+
+fn has_text<T: Display>(rt: &impl Abort, alloc: Global, value: &T, text: &str) -> Result<(), Fail> {
+    let printed = format!(in alloc; "{value}")?;
+    same(rt, printed.as_str(), text, text);
+    Ok(())
+}
+
+#[test]
+fn each_status_has_its_number(rt: HostRuntime) {
+    same(&rt, Status::Answered.code(), 0, "all is answered");
+    same(&rt, Status::BadScript.code(), 2, "a bad script");
+    same(&rt, Status::OutOfMemory.code(), 3, "want of memory");
+    same(
+        &rt,
+        Status::Fault.code(),
+        4,
+        "a reader or writer that fails",
+    );
+}
+
+#[test]
+fn each_reason_has_its_text(rt: HostRuntime) -> Result<(), Fail> {
+    let alloc = rt.alloc();
+    let bad = ReplayError::BadCommand { line: 123 };
+    has_text(&rt, alloc, &bad, "line 123: bad command")?;
+    has_text(&rt, alloc, &ReplayError::TooLong, "script too long")?;
+    has_text(&rt, alloc, &ReplayError::OutOfMemory, "out of memory")?;
+    has_text(&rt, alloc, &ReplayError::ReadFault, "read fault")
+}
+
+#[test]
+fn want_of_memory_in_a_call_is_no_room(rt: HostRuntime) -> Result<(), Fail> {
+    let line = ReplyLine {
+        call: &Call::GetFuel,
+        reply: &Reply::NoRoom,
+    };
+    has_text(&rt, rt.alloc(), &line, "no room")
+}
