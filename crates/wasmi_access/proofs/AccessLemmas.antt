@@ -1,18 +1,16 @@
 -- Reading what was written.
-use Rattle.std.proofs.Common.{◌≡◌, ℕ, zero, suc, ◌+◌, ◌*◌, ◌%◌, ◌^◌, ◌≤◌, Bool, true, false, List, length, take, drop, ◌++◌, Some, None, refl, ap, sym, ◌∙◌, arith, append_assoc, div-one, length-append, mod-eq_of_lt, ◌<◌}
+use Rattle.std.proofs.Common.{◌≡◌, ℕ, zero, suc, ◌+◌, ◌*◌, ◌%◌, ◌^◌, ◌≤◌, Bool, true, false, List, length, take, drop, ◌++◌, Some, None, refl, ap, sym, ◌∙◌, arith, append_assoc, div-one, length-append}
 use Rattle.std.proofs.Math.Nat.{pow-suc}
-use Rattle.std.specs.Prelude.{nat_le, if◌then◌else◌, Ok, ℤ}
-use mir.Val.{SFits, bits}
+use Rattle.std.specs.Prelude.{nat_le, nat_lt, if◌then◌else◌, Option, Ok}
 use Rattle.std.proofs.lemmas.List.{length-take-le}
-use Rattle.std.proofs.lemmas.Nat.{pow-add, pow_pos, mod_below}
-use Rattle.std.proofs.lemmas.Int.{to_z-of_z}
+use Rattle.std.proofs.lemmas.Nat.{pow-add}
 use Rattle.std.proofs.lemmas.Bool.{leb-true}
 use Rattle.std.proofs.lemmas.Grind.{common_steps}
 use Rattle.std.proofs.Math.Seq.{drop-append_seam, take-append_seam}
-use Rattle.std.specs.Int.{Width, bytes_low_first, cast_signed, cast_unsigned}
+use Rattle.std.specs.Int.{bytes_low_first}
 use Rattle.wasmi_types.specs.Bytes.{number_of, le_bytes}
 use Rattle.wasmi_types.specs.Access.{at, overwrite}
-use Rattle.wasmi_access.specs.LoadStore.{loaded, value_of_bytes, IsSameOutside}
+use Rattle.wasmi_access.specs.LoadStore.{loaded, value_of_bytes, IsStore, IsSameOutside}
 use Rattle.wasmi_access.proofs.ByteLemmas.{number_of-low_first}
 
 chosen : (b : Bool) (zs new : List ℕ) → (if b then Some zs else None) ≡ Some new → (b ≡ true) × (zs ≡ new)
@@ -75,39 +73,27 @@ bytes_power (suc k) =
     let more : 8 * suc k ≡ 8 * k + 8 = omega arith in
     pow-suc 256 k ∙ ap (λ p. p * 256) (bytes_power k) ∙ sym (ap (λ n. 2 ^ n) more ∙ pow-add 2 (8 * k) 8)
 
+-- an accepted store: its address is below 2 to the power 64, and the list has its bytes
+stored_there : (b : Bool) (found : Option (List ℕ)) (new : List ℕ) → (if b then found else None) ≡ Some new → (b ≡ true) × (found ≡ Some new)
+stored_there true found new e = (refl, e)
+stored_there false found new e = cc
+
 -- a load of what was stored
-pub loaded-overwrite : {V : Type 0} (k n a : ℕ) (old new : List ℕ) (value : ℕ → V) → overwrite old a (le_bytes k n) ≡ Some new
+pub loaded-stored : {V : Type 0} (k n a : ℕ) (old new : List ℕ) (value : ℕ → V) → IsStore old a (le_bytes k n) new (Ok (tt {0}))
     → loaded k value new a ≡ Ok (value (n % 2 ^ (8 * k)))
-loaded-overwrite k n a old new value e =
+loaded-stored k n a old new value e =
+    let facts = stored_there (nat_lt a (2 ^ 64)) (overwrite old a (le_bytes k n)) new e in
     let number : number_of (le_bytes k n) ≡ n % 2 ^ (8 * k) =
     number_of-low_first 0 k n ∙ ap (λ m. m % 256 ^ k) (div-one n) ∙ ap (λ m. n % m) (bytes_power k) in
-    ap (λ j. value_of_bytes value (at new a j)) (sym (length-low_first 0 k n))
-    ∙ ap (value_of_bytes value) (at-overwrite old a (le_bytes k n) new e)
+    ap (λ b. value_of_bytes value (if b then at new a k else None)) facts.0
+    ∙ ap (λ j. value_of_bytes value (at new a j)) (sym (length-low_first 0 k n))
+    ∙ ap (value_of_bytes value) (at-overwrite old a (le_bytes k n) new facts.1)
     ∙ ap (λ m. Ok (value m)) number
 
 -- what a store leaves alone
-pub outside-overwrite : (k n a : ℕ) (old new : List ℕ) → overwrite old a (le_bytes k n) ≡ Some new → IsSameOutside old new a k
-outside-overwrite k n a old new e =
-    let whole : IsSameOutside old new a (length (le_bytes k n)) = outside_by_length old new a (le_bytes k n) e in
+pub outside-stored : (k n a : ℕ) (old new : List ℕ) → IsStore old a (le_bytes k n) new (Ok (tt {0})) → IsSameOutside old new a k
+outside-stored k n a old new e =
+    let facts = stored_there (nat_lt a (2 ^ 64)) (overwrite old a (le_bytes k n)) new e in
+    let whole : IsSameOutside old new a (length (le_bytes k n)) = outside_by_length old new a (le_bytes k n) facts.1 in
     let long : length (le_bytes k n) ≡ k = length-low_first 0 k n in
     (whole.0, ap (λ j. drop (a + j) new) (sym long) ∙ whole.1 ∙ ap (λ j. drop (a + j) old) long)
-
--- a number read by an accepted load where an accepted store wrapped a signed number to v bits
-pub read_wrapped : (w v : Width) (k : ℕ) (z : ℤ) (a : ℕ) (old new : List ℕ) (value : ℕ → ℤ) (r : ℤ) → SFits w z → 2 ^ (8 * k) ≡ 2 ^ bits v
-    → overwrite old a (le_bytes k (cast_unsigned w (cast_signed w (cast_unsigned w z)) % 2 ^ bits v)) ≡ Some new
-    → Ok r ≡ loaded k value new a → r ≡ value (cast_unsigned w z % 2 ^ bits v)
-read_wrapped w v k z a old new value r f e wrote read =
-    let stored = cast_unsigned w (cast_signed w (cast_unsigned w z)) % 2 ^ bits v in
-    let found : Ok r ≡ Ok (value (stored % 2 ^ (8 * k))) = read ∙ loaded-overwrite k stored a old new value wrote in
-    let got : r ≡ value (stored % 2 ^ (8 * k)) = cc in
-    let same : stored % 2 ^ (8 * k) ≡ cast_unsigned w z % 2 ^ bits v =
-    ap (λ m. stored % m) e ∙ mod-eq_of_lt (mod_below (cast_unsigned w (cast_signed w (cast_unsigned w z))) (2 ^ bits v) (pow_pos (bits v)))
-    ∙ ap (λ y. cast_unsigned w y % 2 ^ bits v) (to_z-of_z w z f) in
-    got ∙ ap value same
-
--- the same of an unsigned number that k bytes hold
-pub read_whole : (k n a : ℕ) (old new : List ℕ) (r : ℕ) → n < 2 ^ (8 * k) → overwrite old a (le_bytes k n) ≡ Some new → Ok r ≡ loaded k (λ m. m) new a → r ≡ n
-read_whole k n a old new r small wrote read =
-    let found : Ok r ≡ Ok (n % 2 ^ (8 * k)) = read ∙ loaded-overwrite k n a old new (λ m. m) wrote in
-    let got : r ≡ n % 2 ^ (8 * k) = cc in
-    got ∙ mod-eq_of_lt small

@@ -1,9 +1,12 @@
 -- The number of a list of bytes.
-use Rattle.std.proofs.Common.{◌≡◌, ℕ, zero, suc, ◌+◌, ◌*◌, ◌/◌, ◌%◌, ◌^◌, ◌<◌, List, [], ◌∷◌, ◌++◌, length, take, get_or, refl, ap, sym, ◌∙◌, arith, div-one, mod-eq_of_lt, lit<, mul-one, mul_comm, mul_assoc}
+use Rattle.std.proofs.Common.{◌≡◌, ℕ, zero, suc, ◌+◌, ◌*◌, ◌/◌, ◌%◌, ◌^◌, ◌<◌, List, [], ◌∷◌, ◌++◌, length, take, get_or, refl, ap, sym, subst, ◌∙◌, arith, div-one, mod-eq_of_lt, lit<, mul-one, mul_comm, mul_assoc}
 use Rattle.std.proofs.Math.Nat.{div-div-eq-div-mul, pow-suc, mod-one}
+use Rattle.std.specs.Prelude.{ℤ}
+use Rattle.std.proofs.lemmas.Int.{to_z-of_z, of_z-to_z}
+use mir.Val.{SFits, bits}
 use Rattle.std.proofs.lemmas.List.{length-take-le, take_all}
 use Rattle.std.proofs.Math.Seq.{take-suc}
-use Rattle.std.specs.Int.{bytes_low_first, byte_at, byte_worth, sum_through, from_le_bytes, to_le_bytes, w8, w16, w32, w64, w128}
+use Rattle.std.specs.Int.{bytes_low_first, byte_at, byte_worth, sum_through, from_le_bytes, to_le_bytes, Width, cast_signed, cast_unsigned, w8, w16, w32, w64, w128}
 use Rattle.wasmi_types.specs.Bytes.{number_of, le_bytes}
 use lib.Arith.{mod-mul}
 
@@ -58,6 +61,39 @@ sum_through-number_of bs (suc k) h =
     ap (λ n. n + get_or bs (suc k) 0 * 256 ^ suc k) before
     ∙ sym (ap number_of more ∙ pushed ∙ ap (λ e. number_of (take (suc k) bs) + get_or bs (suc k) 0 * 256 ^ e) long)
 
+-- ---- the bytes of the number of some bytes
+
+low_first-next : (i k n : ℕ) → bytes_low_first (suc i) k n ≡ bytes_low_first i k (n / 256)
+low_first-next i zero n = refl
+low_first-next i (suc k) n =
+    let quotient : n / 256 ^ suc i ≡ n / 256 / 256 ^ i =
+    ap (λ p. n / p) (pow-suc 256 i ∙ mul_comm (256 ^ i) 256) ∙ sym (div-div-eq-div-mul n 256 (256 ^ i)) in
+    let here : byte_at (suc i) n ≡ byte_at i (n / 256) = ap (λ m. m % 256) quotient ∙ sym (byte_at-is i (n / 256)) in
+    ap (λ b. b ∷ bytes_low_first (suc (suc i)) k n) here ∙ ap (λ bs. byte_at i (n / 256) ∷ bs) (low_first-next (suc i) k n)
+
+low_first-number_of : (bs : List ℕ) → ((i : ℕ) → get_or bs i 0 < 256) → le_bytes (length bs) (number_of bs) ≡ bs
+unfolding number_of
+low_first-number_of [] h = refl
+low_first-number_of (b ∷ bs) h =
+    let small : b < 256 = h 0 in
+    let first : (b + 256 * number_of bs) % 256 ≡ b = omega (arith, small) in
+    let quotient : (b + 256 * number_of bs) / 256 ≡ number_of bs = omega (arith, small) in
+    let rest : le_bytes (length bs) (number_of bs) ≡ bs = low_first-number_of bs (λ i. h (suc i)) in
+    ap (λ c. c ∷ bytes_low_first 1 (length bs) (b + 256 * number_of bs)) first
+    ∙ ap (λ cs. b ∷ cs) (low_first-next 0 (length bs) (b + 256 * number_of bs) ∙ ap (bytes_low_first 0 (length bs)) quotient ∙ rest)
+
+le_bytes-number_of : (bs : List ℕ) (k : ℕ) → length bs ≡ k → ((i : ℕ) → get_or bs i 0 < 256) → le_bytes k (number_of bs) ≡ bs
+le_bytes-number_of bs k e h = ap (λ j. le_bytes j (number_of bs)) (sym e) ∙ low_first-number_of bs h
+
+number_of-below : (bs : List ℕ) → ((i : ℕ) → get_or bs i 0 < 256) → number_of bs < 256 ^ length bs
+unfolding number_of
+number_of-below [] h = lit< tt
+number_of-below (b ∷ bs) h =
+    let small : b < 256 = h 0 in
+    let rest : number_of bs < 256 ^ length bs = number_of-below bs (λ i. h (suc i)) in
+    let power : 256 ^ suc (length bs) ≡ 256 ^ length bs * 256 = pow-suc 256 (length bs) in
+    omega (arith, small, rest, power)
+
 -- ---- at the widths of the numbers
 
 pub number_of-bytes : (k n : ℕ) → n < 256 ^ k → number_of (le_bytes k n) ≡ n
@@ -66,8 +102,19 @@ number_of-bytes k n h = number_of-low_first 0 k n ∙ ap (λ m. m % 256 ^ k) (di
 pub number_of-whole : (bs : List ℕ) (k : ℕ) → length bs ≡ suc k → sum_through (λ i. byte_worth i (get_or bs i 0)) k ≡ number_of bs
 number_of-whole bs k e = sum_through-number_of bs k (omega arith) ∙ ap number_of (take_all (suc k) bs (omega arith))
 
-pub number_of_bytes_1 : (n : ℕ) → n < 2 ^ 8 → number_of (to_le_bytes w8 n) ≡ n
-number_of_bytes_1 n h = number_of-bytes 1 n h
+pub le_bytes-whole : (bs : List ℕ) (k n : ℕ) → length bs ≡ suc k → ((i : ℕ) → get_or bs i 0 < 256) → n ≡ sum_through (λ i. byte_worth i (get_or bs i 0)) k → le_bytes (suc k) n ≡ bs
+le_bytes-whole bs k n e h is = ap (le_bytes (suc k)) (is ∙ number_of-whole bs k e) ∙ le_bytes-number_of bs (suc k) e h
+
+-- the same of a signed number, as the code's calls say it
+pub le_bytes-signed : (w : Width) (bs : List ℕ) (k : ℕ) (z : ℤ) → 256 ^ suc k ≡ 2 ^ bits w → SFits w z → length bs ≡ suc k → ((i : ℕ) → get_or bs i 0 < 256)
+    → z ≡ cast_signed w (sum_through (λ i. byte_worth i (get_or bs i 0)) k) → le_bytes (suc k) (cast_unsigned w (cast_signed w (cast_unsigned w z))) ≡ bs
+le_bytes-signed w bs k z wide f e h is =
+    let whole = sum_through (λ i. byte_worth i (get_or bs i 0)) k in
+    let below : whole < 2 ^ bits w =
+    let P : ℕ → Type 0 = λ m. m < 2 ^ bits w in
+    let Q : ℕ → Type 0 = λ m. number_of bs < m in
+    subst P (sym (number_of-whole bs k e)) (subst Q (ap (λ j. 256 ^ j) e ∙ wide) (number_of-below bs h)) in
+    ap (λ y. le_bytes (suc k) (cast_unsigned w y)) (to_z-of_z w z f ∙ is) ∙ ap (le_bytes (suc k)) (of_z-to_z w whole below) ∙ le_bytes-whole bs k whole e h refl
 
 pub number_of_whole_1 : (bs : List ℕ) → length bs ≡ 1 → from_le_bytes w8 bs ≡ number_of bs
 number_of_whole_1 bs e = number_of-whole bs 0 e

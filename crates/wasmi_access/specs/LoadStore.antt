@@ -1,11 +1,14 @@
 -- Loads and stores of little-endian numbers in a linear memory, which is a list of bytes.
--- An address is the unbounded sum of a pointer and an offset. A program's list of bytes is shorter than 2 ^ 64, so an
--- access at 2 ^ 64 or more is one past the end.
-use Rattle.std.specs.Prelude.{◌≡◌, ℕ, ◌+◌, List, take, drop, Option, Some, None, Result, Ok, Err, MatchResult}
+-- An address is the unbounded sum of a pointer and an offset.
+use Rattle.std.specs.Prelude.{◌≡◌, ℕ, ◌+◌, ◌^◌, nat_lt, if◌then◌else◌, List, take, drop, Option, Some, None, Result, Ok, Err, MatchResult}
 use Rattle.wasmi_types.specs.declared.trap.TrapCode.{TrapCode}
 use Rattle.wasmi_types.specs.declared.trap.TrapCode.TheVariants.{MemoryOutOfBounds}
 use Rattle.wasmi_types.specs.Bytes.{number_of}
 use Rattle.wasmi_types.specs.Access.{at, overwrite}
+
+-- an access at the address a, which is what is found there; none where a is 2 ^ 64 or more
+abbrev pub accessed : {X : Type 0} → ℕ → Option X → Option X
+accessed a found = if nat_lt a (2 ^ 64) then found else None
 
 -- the value that the number of the bytes stands for, or the trap where there are none
 abbrev pub value_of_bytes : {V : Type 0} → (ℕ → V) → Option (List ℕ) → Result V TrapCode
@@ -14,19 +17,19 @@ value_of_bytes value None = Err MemoryOutOfBounds
 
 -- what a load of n bytes at a answers
 abbrev pub loaded : {V : Type 0} → ℕ → (ℕ → V) → List ℕ → ℕ → Result V TrapCode
-loaded n value memory a = value_of_bytes value (at memory a n)
+loaded n value memory a = value_of_bytes value (accessed a (at memory a n))
 
 -- a store of ys at a: the memory has them there, or the store traps and the memory is the same
 abbrev pub IsStore : {V : Type 0} → List ℕ → ℕ → List ℕ → List ℕ → Result V TrapCode → Type 0
 IsStore old a ys new answer = MatchResult answer
-    (λ _. overwrite old a ys ≡ Some new)
-    (λ trap. (trap ≡ MemoryOutOfBounds) × (overwrite old a ys ≡ None) × (new ≡ old))
+    (λ _. accessed a (overwrite old a ys) ≡ Some new)
+    (λ trap. (trap ≡ MemoryOutOfBounds) × (accessed a (overwrite old a ys) ≡ None) × (new ≡ old))
 
 -- the n bytes into which a load copies the memory at a: they are those, or the load traps and they are the same
 abbrev pub IsCopy : List ℕ → ℕ → ℕ → List ℕ → List ℕ → Result (Unit {0}) TrapCode → Type 0
 IsCopy memory a n old new answer = MatchResult answer
-    (λ _. at memory a n ≡ Some new)
-    (λ trap. (trap ≡ MemoryOutOfBounds) × (at memory a n ≡ None) × (new ≡ old))
+    (λ _. accessed a (at memory a n) ≡ Some new)
+    (λ trap. (trap ≡ MemoryOutOfBounds) × (accessed a (at memory a n) ≡ None) × (new ≡ old))
 
 -- the bytes before a and those from a + n on are the same
 abbrev pub IsSameOutside : List ℕ → List ℕ → ℕ → ℕ → Type 0

@@ -4,38 +4,40 @@
 //! sum for its address. Upstream: the module `memory::access`, private there. Core specification: memory instructions, and
 //! the storage of integers under numerics.
 
-ghost use Rattle.std.specs.Prelude.{◌≡◌, ℕ, ◌+◌, ◌^◌, ◌≤◌, List, MatchResult};
+ghost use Rattle.std.specs.Prelude.{◌≡◌, ℕ, ◌+◌, ◌^◌, ◌≤◌, List, MatchResult, length};
+ghost use Rattle.std.specs.Int.{int_wrap};
 ghost use Rattle.wasmi_types.specs.Bytes.{number_of, le_bytes};
 ghost use Rattle.wasmi_access.specs.LoadStore.{loaded, IsStore, IsCopy};
 
+use wasmi_raw::Number;
 use wasmi_types::TrapCode;
 
-/// A conversion to the low bits of a number, read signed.
+/// A conversion to the low bits of a number, as many as `T` has.
 ///
 /// Upstream: `WrapInto`, private there.
-pub trait WrapInto<T> {
-    ghost wrapped: { Self → T };
-
-    /// The low bits of `self`, as many as `T` has.
+pub trait WrapInto<T: Number>: Number {
+    /// The number of `T` that differs from that of `self` by a multiple of 2 to the power of the
+    /// width of `T`.
     fn wrap_into(self) -> T
-        ensures { result ≡ wrapped self };
+        ensures { result ≡ T.of_number (int_wrap T.width (Self.number self)) };
 }
 
 /// A conversion to a wider number.
 ///
-/// Upstream: `ExtendInto`, private there. A signed number is extended by its sign, an unsigned one by zeros.
-pub trait ExtendInto<T> {
-    ghost extended: { Self → T };
-
+/// A signed number is extended by its sign, an unsigned one by zeros. Upstream: `ExtendInto`,
+/// private there.
+pub trait ExtendInto<T: Number>: Number {
     /// The number of `self` as a `T`.
     fn extend_into(self) -> T
-        ensures { result ≡ extended self };
+        ensures { result ≡ T.of_number (Self.number self) };
 }
 
 /// An array of bytes, as the contracts of this module see it.
 pub trait ByteArray {
+    /// How many bytes there are.
     ghost LEN: { ℕ };
 
+    /// The bytes, in their order.
     ghost bytes_of: { Self → List ℕ };
 }
 
@@ -53,7 +55,8 @@ pub trait LoadInto: ByteArray {
     ///
     /// The only error is `MemoryOutOfBounds`, where the memory ends before the last byte.
     fn load_into(&mut self, memory: &[u8], address: usize) -> Result<(), TrapCode>
-        ensures { IsCopy memory.now address Self.LEN (Self.bytes_of self.old) (Self.bytes_of self.new) result };
+        ensures copied { IsCopy memory.now address Self.LEN (Self.bytes_of self.old) (Self.bytes_of self.new) result }
+        ensures length { length (Self.bytes_of self.new) ≡ Self.LEN };
 }
 
 impl<const N: usize> LoadInto for [u8; N] {
@@ -75,7 +78,8 @@ pub trait StoreFrom: ByteArray {
     ///
     /// The only error is `MemoryOutOfBounds`, where the memory ends before the last byte; nothing is written then.
     fn store_from(&self, memory: &mut [u8], address: usize) -> Result<(), TrapCode>
-        ensures { IsStore memory.old address (Self.bytes_of self.now) memory.new result };
+        ensures stored { IsStore memory.old address (Self.bytes_of self.now) memory.new result }
+        ensures length { length (Self.bytes_of self.now) ≡ Self.LEN };
 }
 
 impl<const N: usize> StoreFrom for [u8; N] {
@@ -96,9 +100,10 @@ pub trait LittleEndianConvert {
     /// As many bytes as the number has.
     type Bytes: Default + Drop + LoadInto + StoreFrom;
 
-    // The value read as an unsigned number of that many bytes, and the value that such a number stands for.
+    /// The value read as an unsigned number of that many bytes.
     ghost image: { Self → ℕ };
 
+    /// The value of such a number.
     ghost of_image: { ℕ → Self };
 
     /// The bytes of `self`, the lowest first.
@@ -109,7 +114,8 @@ pub trait LittleEndianConvert {
 
     /// The value of some bytes, the lowest first.
     fn from_le_bytes(bytes: Self::Bytes) -> Self
-        ensures { result ≡ of_image (number_of (Self.Bytes.bytes_of bytes)) };
+        ensures value { result ≡ of_image (number_of (Self.Bytes.bytes_of bytes)) }
+        ensures round_trip { le_bytes Self.Bytes.LEN (image result) ≡ Self.Bytes.bytes_of bytes };
 }
 
 // The address of an access, where it is below 2 to the power 64.
@@ -155,8 +161,9 @@ where
 /// The only error is `MemoryOutOfBounds`.
 pub fn load_extend<T, U>(memory: &[u8], ptr: u64, offset: u64) -> Result<T, TrapCode>
 where
+    T: Number,
     U: LittleEndianConvert + ExtendInto<T>,
-    ensures { result ≡ loaded U.Bytes.LEN (λ n. U.extended (U.of_image n)) memory.now (ptr + offset) }
+    ensures { result ≡ loaded U.Bytes.LEN (λ n. T.of_number (U.number (U.of_image n))) memory.now (ptr + offset) }
 {
     let address = effective_address(ptr, offset)?;
     load_extend_at::<T, U>(memory, address)
@@ -167,8 +174,9 @@ where
 /// The only error is `MemoryOutOfBounds`.
 pub fn load_extend_at<T, U>(memory: &[u8], address: usize) -> Result<T, TrapCode>
 where
+    T: Number,
     U: LittleEndianConvert + ExtendInto<T>,
-    ensures { result ≡ loaded U.Bytes.LEN (λ n. U.extended (U.of_image n)) memory.now address }
+    ensures { result ≡ loaded U.Bytes.LEN (λ n. T.of_number (U.number (U.of_image n))) memory.now address }
 {
     let value = load_at::<U>(memory, address)?;
     Ok(value.extend_into())
@@ -204,8 +212,8 @@ where
 pub fn store_wrap<T, U>(memory: &mut [u8], ptr: u64, offset: u64, value: T) -> Result<(), TrapCode>
 where
     T: WrapInto<U> + Drop,
-    U: LittleEndianConvert,
-    ensures { IsStore memory.old (ptr + offset) (le_bytes U.Bytes.LEN (U.image (T.wrapped value))) memory.new result }
+    U: LittleEndianConvert + Number,
+    ensures { IsStore memory.old (ptr + offset) (le_bytes U.Bytes.LEN (U.image (U.of_number (int_wrap U.width (T.number value))))) memory.new result }
 {
     let address = effective_address(ptr, offset)?;
     store_wrap_at::<T, U>(memory, address, value)
@@ -217,8 +225,8 @@ where
 pub fn store_wrap_at<T, U>(memory: &mut [u8], address: usize, value: T) -> Result<(), TrapCode>
 where
     T: WrapInto<U>,
-    U: LittleEndianConvert,
-    ensures { IsStore memory.old address (le_bytes U.Bytes.LEN (U.image (T.wrapped value))) memory.new result }
+    U: LittleEndianConvert + Number,
+    ensures { IsStore memory.old address (le_bytes U.Bytes.LEN (U.image (U.of_number (int_wrap U.width (T.number value))))) memory.new result }
 {
     store_at::<U>(memory, address, value.wrap_into())
 }

@@ -1,13 +1,8 @@
-// Widening and wrapping between the integers.
-
-ghost use Rattle.std.specs.Prelude.{pos};
-ghost use Rattle.std.specs.Int.{w8, w16, w32, int_wrap};
+//! Widening and wrapping between the integers.
 
 use crate::access::{ExtendInto, WrapInto};
 
 impl ExtendInto<u16> for u8 {
-    ghost extended = { λ n. n };
-
     #[inline]
     fn extend_into(self) -> u16 {
         self as u16
@@ -15,8 +10,6 @@ impl ExtendInto<u16> for u8 {
 }
 
 impl ExtendInto<u32> for u16 {
-    ghost extended = { λ n. n };
-
     #[inline]
     fn extend_into(self) -> u32 {
         self as u32
@@ -24,8 +17,6 @@ impl ExtendInto<u32> for u16 {
 }
 
 impl ExtendInto<u64> for u32 {
-    ghost extended = { λ n. n };
-
     #[inline]
     fn extend_into(self) -> u64 {
         self as u64
@@ -33,8 +24,6 @@ impl ExtendInto<u64> for u32 {
 }
 
 impl ExtendInto<i16> for i8 {
-    ghost extended = { λ z. z };
-
     #[inline]
     fn extend_into(self) -> i16 {
         self as i16
@@ -42,8 +31,6 @@ impl ExtendInto<i16> for i8 {
 }
 
 impl ExtendInto<i32> for i8 {
-    ghost extended = { λ z. z };
-
     #[inline]
     fn extend_into(self) -> i32 {
         self as i32
@@ -51,8 +38,6 @@ impl ExtendInto<i32> for i8 {
 }
 
 impl ExtendInto<i64> for i8 {
-    ghost extended = { λ z. z };
-
     #[inline]
     fn extend_into(self) -> i64 {
         self as i64
@@ -60,8 +45,6 @@ impl ExtendInto<i64> for i8 {
 }
 
 impl ExtendInto<i32> for i16 {
-    ghost extended = { λ z. z };
-
     #[inline]
     fn extend_into(self) -> i32 {
         self as i32
@@ -69,8 +52,6 @@ impl ExtendInto<i32> for i16 {
 }
 
 impl ExtendInto<i64> for i16 {
-    ghost extended = { λ z. z };
-
     #[inline]
     fn extend_into(self) -> i64 {
         self as i64
@@ -78,8 +59,6 @@ impl ExtendInto<i64> for i16 {
 }
 
 impl ExtendInto<i64> for i32 {
-    ghost extended = { λ z. z };
-
     #[inline]
     fn extend_into(self) -> i64 {
         self as i64
@@ -87,8 +66,6 @@ impl ExtendInto<i64> for i32 {
 }
 
 impl ExtendInto<i32> for u8 {
-    ghost extended = { pos };
-
     #[inline]
     fn extend_into(self) -> i32 {
         self as i32
@@ -96,8 +73,6 @@ impl ExtendInto<i32> for u8 {
 }
 
 impl ExtendInto<i64> for u8 {
-    ghost extended = { pos };
-
     #[inline]
     fn extend_into(self) -> i64 {
         self as i64
@@ -105,8 +80,6 @@ impl ExtendInto<i64> for u8 {
 }
 
 impl ExtendInto<i32> for u16 {
-    ghost extended = { pos };
-
     #[inline]
     fn extend_into(self) -> i32 {
         self as i32
@@ -114,8 +87,6 @@ impl ExtendInto<i32> for u16 {
 }
 
 impl ExtendInto<i64> for u16 {
-    ghost extended = { pos };
-
     #[inline]
     fn extend_into(self) -> i64 {
         self as i64
@@ -123,8 +94,6 @@ impl ExtendInto<i64> for u16 {
 }
 
 impl ExtendInto<i64> for u32 {
-    ghost extended = { pos };
-
     #[inline]
     fn extend_into(self) -> i64 {
         self as i64
@@ -132,8 +101,6 @@ impl ExtendInto<i64> for u32 {
 }
 
 impl WrapInto<i8> for i32 {
-    ghost wrapped = { int_wrap w8 };
-
     #[inline]
     #[tactic(auto, using(crate::proofs::WrapLemmas::wraps_down))]
     fn wrap_into(self) -> i8 {
@@ -142,8 +109,6 @@ impl WrapInto<i8> for i32 {
 }
 
 impl WrapInto<i16> for i32 {
-    ghost wrapped = { int_wrap w16 };
-
     #[inline]
     #[tactic(auto, using(crate::proofs::WrapLemmas::wraps_down))]
     fn wrap_into(self) -> i16 {
@@ -152,8 +117,6 @@ impl WrapInto<i16> for i32 {
 }
 
 impl WrapInto<i8> for i64 {
-    ghost wrapped = { int_wrap w8 };
-
     #[inline]
     #[tactic(auto, using(crate::proofs::WrapLemmas::wraps_down))]
     fn wrap_into(self) -> i8 {
@@ -162,8 +125,6 @@ impl WrapInto<i8> for i64 {
 }
 
 impl WrapInto<i16> for i64 {
-    ghost wrapped = { int_wrap w16 };
-
     #[inline]
     #[tactic(auto, using(crate::proofs::WrapLemmas::wraps_down))]
     fn wrap_into(self) -> i16 {
@@ -172,8 +133,6 @@ impl WrapInto<i16> for i64 {
 }
 
 impl WrapInto<i32> for i64 {
-    ghost wrapped = { int_wrap w32 };
-
     #[inline]
     #[tactic(auto, using(crate::proofs::WrapLemmas::wraps_down))]
     fn wrap_into(self) -> i32 {

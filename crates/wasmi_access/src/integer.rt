@@ -1,4 +1,4 @@
-// The integers of 8 to 128 bits in little-endian bytes.
+//! The integers of 8 to 128 bits in little-endian bytes.
 
 ghost use Rattle.std.specs.Int.{w8, w16, w32, w64, w128, cast_signed, cast_unsigned};
 

@@ -1,5 +1,5 @@
 pub mod Answers
 pub mod Operands
-pub mod Statuses
+pub mod Status
 pub mod Tallies
 pub mod Verdicts

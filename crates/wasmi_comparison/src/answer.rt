@@ -1,5 +1,6 @@
 //! What an instruction answers.
-ghost use Rattle.std.specs.Prelude.{◌≡◌, pos, if◌then◌else◌, MatchResult};
+ghost use Rattle.std.specs.Prelude.{◌≡◌, pos, if◌then◌else◌, IfSome, MatchResult};
+ghost use Rattle.wasmi_comparison.specs.Answers.{WritesAnswer};
 ghost use Rattle.wasmi_comparison.specs.declared.answer.Answer.TheVariants.{Number, Pair, Trap};
 
 use crate::number::number;
@@ -14,12 +15,15 @@ pub enum Answer {
     Number(i128),
     /// The low and the high word of a number or a vector.
     Pair(i128, i128),
+    /// The trap that ends it.
     Trap(TrapCode),
 }
 
 impl Answer {
     /// The answer that these words write.
-    pub fn written(words: &[&str]) -> Option<Answer> {
+    pub fn written(words: &[&str]) -> Option<Answer>
+        ensures { IfSome result (WritesAnswer words.now) }
+    {
         match words {
             ["trap", "IntegerDivisionByZero"] => Some(Answer::Trap(
                 TrapCode::IntegerDivisionByZero,

@@ -20,11 +20,11 @@ pub enum Status {
 }
 
 impl Status {
-    ghost use Rattle.wasmi_comparison.specs.Statuses.{code_of};
+    ghost use Rattle.wasmi_comparison.specs.Status.{status_number};
 
     /// The exit status of the program.
     pub fn code(self) -> u8
-        ensures { result ≡ code_of self }
+        ensures { result ≡ status_number self }
     {
         match self {
             Status::Agreed => 0,
@@ -38,7 +38,9 @@ impl Status {
 /// How many lines agree, and how many don't.
 #[derive(Clone, Copy, Debug, Default, PartialEq, Eq)]
 pub struct Tally {
+    /// Lines whose answer is their instruction's.
     pub agreeing: u64,
+    /// Lines whose answer is another, and malformed ones.
     pub differing: u64,
 }
 

@@ -9,6 +9,7 @@ use std::str;
 /// How a line compares with its instruction.
 #[derive(Clone, Copy, Debug, PartialEq, Eq)]
 pub enum Verdict {
+    /// The instruction answers what the line says.
     Agrees,
     /// The instruction answers something else, which is given.
     Differs(Answer),

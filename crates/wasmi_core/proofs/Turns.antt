@@ -1,15 +1,9 @@
 -- A run goes on by one turn.
 use Rattle.std.proofs.Common.{List, [], ◌∷◌, ◌++◌, refl}
 use Rattle.wasmi_meter.specs.Limiter.{Rules}
-use Rattle.wasmi_core.specs.declared.calls.Call.{Call}
-use Rattle.wasmi_core.specs.declared.calls.Reply.{Reply}
-use Rattle.wasmi_core.specs.World.{World, Turn, IsFree}
+use Rattle.wasmi_core.specs.World.{World, Turn}
 use Rattle.wasmi_core.specs.Steps.{Step}
 use Rattle.wasmi_core.specs.Runs.{Run}
-
--- a turn with no charge and no written bytes
-pub free : (call : Call) (reply : Reply) → IsFree (record { call = call; reply = reply; charge = 0; written = 0 })
-free call reply = record { uncharged = refl; unwritten = refl }
 
 module _ {S : Type 0} (rules : Rules S) where
   pub Run-push : (u : World S) (turns : List Turn) (v : World S) → Run rules u turns v → (turn : Turn) (w : World S) → Step rules v turn w → Run rules u (turns ++ turn ∷ []) w

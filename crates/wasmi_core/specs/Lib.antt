@@ -1,5 +1,6 @@
 pub mod State
 pub mod World
+pub mod Rows
 pub mod FuelRows
 pub mod MemoryRows
 pub mod Steps

@@ -1,25 +1,36 @@
 -- What a machine is to its callers (core specification, the store).
 use Rattle.std.specs.Prelude.{ℕ, List, [], Option, Some, None, slice_get}
+use Rattle.std.specs.Option.{option_and_then}
+use Rattle.std.specs.Vec.{with_item}
 use Rattle.wasmi_meter.specs.Meter.{Meter}
 use Rattle.wasmi_store.specs.Memory.{MemoryValue}
-use Rattle.wasmi_core.specs.declared.slots.MemorySlot.{MemorySlot}
-use Rattle.wasmi_core.specs.declared.slots.MemorySlot.TheVariants.{Live, Gone}
+use Rattle.wasmi_core.specs.declared.slots.Slot.{Slot}
+use Rattle.wasmi_core.specs.declared.slots.Slot.TheVariants.{Live, Gone}
+use Rattle.wasmi_core.specs.declared.slots.Slots.{Slots}
+
+module _ {X : Type 0} where
+  -- the value in a slot, if it wasn't dropped
+  abbrev pub live_value : Slot X → Option X
+  live_value (Live x) = Some x
+  live_value (Gone size) = None
+
+  -- the live value of an index, if there is one
+  abbrev pub live_at : List (Slot X) → ℕ → Option X
+  live_at slots k = option_and_then live_value (slice_get slots k)
+
+  -- the slots with this live value at an index
+  abbrev pub with_live : Slots X → ℕ → X → Slots X
+  with_live s k x = record { slots = with_item s.slots k (Live x) }
 
 -- the memories that were made, in their order, and the meter
 pub record State : Type 0 where
-  pub memories : List MemorySlot
+  pub memories : List (Slot MemoryValue)
   pub meter : Meter
 
 -- a machine on which nothing was made yet
 abbrev pub new_state : Meter → State
 new_state meter = record { memories = []; meter = meter }
 
--- the memory in a slot, if it wasn't dropped
-abbrev pub live_memory : Option MemorySlot → Option MemoryValue
-live_memory (Some (Live x)) = Some x
-live_memory (Some (Gone size)) = None
-live_memory None = None
-
--- the memory of an index, if there is one
-abbrev pub memory_at : List MemorySlot → ℕ → Option MemoryValue
-memory_at slots k = live_memory (slice_get slots k)
+-- the state with other memories
+abbrev pub with_memories : State → List (Slot MemoryValue) → State
+with_memories s memories = record s { memories = memories }

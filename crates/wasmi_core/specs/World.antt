@@ -17,6 +17,5 @@ pub record Turn : Type 0 where
   pub written : ℕ
 
 -- a turn that is neither charged nor written by
-pub record IsFree (turn : Turn) : Type 0 where
-  pub uncharged : turn.charge ≡ 0
-  pub unwritten : turn.written ≡ 0
+abbrev pub IsFree : Turn → Type 0
+IsFree turn = (turn.charge ≡ 0) × (turn.written ≡ 0)

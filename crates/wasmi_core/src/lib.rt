@@ -7,6 +7,7 @@ mod memories;
 mod ops;
 mod running;
 mod slots;
+pub mod wasm;
 
 pub use calls::{ByteList, Call, Reply};
 pub use machine::Machine;
@@ -18,9 +19,8 @@ pub use wasmi_meter::{
     CustomFuelCosts, Fuel, FuelCosts, FuelCostsProvider, FuelError, Kind, LimiterError,
     MemoryError, NoLimits, Quota, ResourceLimiter, ResourceLimiterRef, TableError, ValueSize,
 };
-pub use wasmi_raw::{F32, F64, RawVal, ReadAs, V128, WriteAs};
+pub use wasmi_raw::{F32, F64, Number, RawVal, ReadAs, ReadBack, V128, WriteAs};
 pub use wasmi_scalar::value::{Integer, SignExtendFrom, Unsigned};
-pub use wasmi_scalar::wasm;
 pub use wasmi_store::{ByteBuffer, Memory, MemoryType, MemoryTypeBuilder};
 pub use wasmi_typed::{
     Global, GlobalError, GlobalType, IntoShiftAmount, Mutability, ShiftAmount, Typed, TypedRawVal,

@@ -24,12 +24,12 @@ impl<'r> Model for Machine<'r> {
 
     ghost Value = { State };
 
-    ghost view = { λ m. record { memories = m.memories; meter = m.fuel } };
+    ghost view = { λ m. record { memories = m.memories.slots.items; meter = m.fuel } };
 }
 
 impl<'r> Machine<'r> {
-    ghost use Rattle.wasmi_core.specs.State.{new_state, memory_at};
-    ghost use Rattle.wasmi_core.specs.FuelRows.{set_fuel_reply, with_fuel, get_fuel_reply};
+    ghost use Rattle.wasmi_core.specs.State.{new_state, live_at};
+    ghost use Rattle.wasmi_core.specs.FuelRows.{SetsFuel, get_fuel_reply};
     ghost use Rattle.wasmi_core.specs.Steps.{Step, IsMemoryCall};
 
     /// A machine with this meter, on which nothing was made yet. It takes no memory.
@@ -52,14 +52,13 @@ impl<'r> Machine<'r> {
 
     /// The memory of an index, if there is one that wasn't dropped.
     pub fn memory(&self, index: usize) -> Option<&Memory<'r>>
-        ensures { option_copied result ≡ memory_at self.now.memories index }
+        ensures { option_copied result ≡ live_at self.now.memories index }
     {
         self.memories.live(index)
     }
 
     fn set_fuel(&mut self, fuel: u64) -> Reply
-        ensures reply { result ≡ set_fuel_reply self.old.meter }
-        ensures state { self.new ≡ with_fuel self.old fuel }
+        ensures { SetsFuel fuel self.old result self.new }
     {
         match self.fuel.set_fuel(fuel) {
             Ok(()) => Reply::Done,

@@ -1,58 +1,27 @@
 //! The memories of a machine, by their indices.
-ghost use Rattle.std.specs.Prelude.{◌≡◌, ◌+◌, ℕ, [], Some, None};
-ghost use Rattle.std.specs.Option.{option_copied};
+ghost use Rattle.std.specs.Prelude.{◌+◌, ℕ, Some};
 ghost use Rattle.wasmi_meter.specs.Limiter.{optional_rules};
 ghost use Rattle.wasmi_meter.specs.LimiterRef.{state, KeepsLoan};
+ghost use Rattle.wasmi_store.specs.Buffer.{Owned};
+ghost use Rattle.wasmi_store.specs.Memory.{MakesMemory, GrowsMemory};
 ghost use Rattle.wasmi_core.specs.AccessOps.{stored_bytes};
-ghost use Rattle.wasmi_core.specs.MemoryRows.{CreatesMemory, GrowsMemoryAt, ReadsMemoryAt, ReadsBytes, WritesMemoryAt, LoadsMemoryAt, StoresMemoryAt, StoresMemory};
-ghost use Rattle.wasmi_core.specs.State.{memory_at};
+ghost use Rattle.wasmi_core.specs.Rows.{reply_of, ActsAt, Creates};
+ghost use Rattle.wasmi_core.specs.MemoryRows.{ReadsMemoryAt, ReadsBytes, WritesMemoryAt, LoadsMemoryAt, StoresMemoryAt, StoresMemory};
 ghost use Rattle.wasmi_types.specs.Access.{at};
 
 use crate::calls::{ByteList, Reply};
 use crate::ops::{LoadOp, StoreOp};
-use crate::slots::MemorySlot;
+use crate::slots::Slots;
 use std::alloc::Global;
-use std::marker::Model;
 use wasmi_meter::{Fuel, MemoryError, ResourceLimiter, ResourceLimiterRef};
 use wasmi_raw::RawVal;
 use wasmi_store::{Memory, MemoryType};
 use wasmi_types::TrapCode;
 
 /// The memories that were made, each in the slot of its index.
-#[derive(Debug, Drop)]
-pub(crate) struct Memories<'r> {
-    slots: Vec<MemorySlot<'r>>,
-}
+pub(crate) type Memories<'r> = Slots<Memory<'r>>;
 
-impl<'r> Model for Memories<'r> {
-    ghost use Rattle.std.specs.Prelude.{List};
-    ghost use Rattle.wasmi_core.specs.declared.slots.MemorySlot.{MemorySlot};
-
-    ghost Value = { List MemorySlot };
-
-    ghost view = { λ m. m.slots.items };
-}
-
-impl<'r> Memories<'r> {
-    /// No memory yet. It takes no memory.
-    pub(crate) fn new(alloc: Global) -> Self
-        ensures { result ≡ [] }
-    {
-        Memories {
-            slots: Vec::new(alloc),
-        }
-    }
-
-    /// The memory of an index, if there is one that wasn't dropped.
-    pub(crate) fn live(&self, index: usize) -> Option<&Memory<'r>>
-        ensures { option_copied result ≡ memory_at self.now index }
-    {
-        match self.slots.get(index) {
-            Some(MemorySlot::Live(memory)) => Some(memory),
-            _ => None,
-        }
-    }
-
+impl<'r> Slots<Memory<'r>> {
     /// Makes a memory in a new slot, which is reserved before the limiter is asked.
     pub(crate) fn create<L: ResourceLimiter>(
         &mut self,
@@ -61,17 +30,13 @@ impl<'r> Memories<'r> {
         limiter: &mut ResourceLimiterRef<L>,
     ) -> Reply
         ensures loan { KeepsLoan limiter.old limiter.new }
-        ensures made { CreatesMemory (optional_rules L.rules) ty self.old (state limiter.old) result self.new (state limiter.new) }
+        ensures made { Creates Reply.Memory (MakesMemory (optional_rules L.rules) Owned ty) self.old.slots.items (state limiter.old) result self.new.slots.items (state limiter.new) }
     {
-        if self.slots.try_reserve(1).is_err() {
+        if !self.reserve() {
             return Reply::NoRoom;
         }
-        let index = self.slots.len();
         match Memory::new(alloc, ty, limiter) {
-            Ok(memory) => match self.slots.push(MemorySlot::Live(memory)) {
-                Ok(()) => Reply::Made(index),
-                Err(_) => unreachable!(),
-            },
+            Ok(memory) => Reply::Made(self.push(memory)),
             Err(error) => Reply::Memory(error),
         }
     }
@@ -85,25 +50,22 @@ impl<'r> Memories<'r> {
         limiter: &mut ResourceLimiterRef<L>,
     ) -> Reply
         ensures loan { KeepsLoan limiter.old limiter.new }
-        ensures grown { (charge : ℕ) × GrowsMemoryAt (optional_rules L.rules) index pages
-            (record { value = self.old; meter = Some fuel.old; limiter = state limiter.old }) result charge
-            (record { value = self.new; meter = Some fuel.new; limiter = state limiter.new }) }
+        ensures grown { (charge : ℕ) × ActsAt index (reply_of Reply.Number Reply.Memory) (GrowsMemory (optional_rules L.rules) pages)
+            (record { value = self.old.slots.items; meter = Some fuel.old; limiter = state limiter.old }) result charge
+            (record { value = self.new.slots.items; meter = Some fuel.new; limiter = state limiter.new }) }
     {
-        if index >= self.slots.len() {
+        let Some(memory) = self.live_mut(index) else {
             return Reply::NoSuch;
-        }
-        match &mut self.slots[index] {
-            MemorySlot::Live(memory) => match memory.grow(pages, Some(fuel), limiter) {
-                Ok(size) => Reply::Number(size),
-                Err(error) => Reply::Memory(error),
-            },
-            MemorySlot::Gone(_) => Reply::NoSuch,
+        };
+        match memory.grow(pages, Some(fuel), limiter) {
+            Ok(size) => Reply::Number(size),
+            Err(error) => Reply::Memory(error),
         }
     }
 
     /// Reads a part of a memory.
     pub(crate) fn read(&self, alloc: Global, index: usize, offset: usize, len: usize) -> Reply
-        ensures { ReadsMemoryAt index offset len self.now result }
+        ensures { ReadsMemoryAt index offset len self.now.slots.items result }
     {
         match self.live(index) {
             Some(memory) => read_bytes(alloc, memory.data(), offset, len),
@@ -113,23 +75,20 @@ impl<'r> Memories<'r> {
 
     /// Writes into a memory.
     pub(crate) fn write(&mut self, index: usize, offset: usize, bytes: &[u8]) -> Reply
-        ensures { WritesMemoryAt index offset bytes.now self.old result self.new }
+        ensures { WritesMemoryAt index offset bytes.now self.old.slots.items result self.new.slots.items }
     {
-        if index >= self.slots.len() {
+        let Some(memory) = self.live_mut(index) else {
             return Reply::NoSuch;
-        }
-        match &mut self.slots[index] {
-            MemorySlot::Live(memory) => match memory.write(offset, bytes) {
-                Ok(()) => Reply::Done,
-                Err(error) => Reply::Memory(error),
-            },
-            MemorySlot::Gone(_) => Reply::NoSuch,
+        };
+        match memory.write(offset, bytes) {
+            Ok(()) => Reply::Done,
+            Err(error) => Reply::Memory(error),
         }
     }
 
     /// Loads a number from a memory.
     pub(crate) fn load(&self, op: LoadOp, index: usize, ptr: u64, offset: u64) -> Reply
-        ensures { LoadsMemoryAt op index (ptr + offset) self.now result }
+        ensures { LoadsMemoryAt op index (ptr + offset) self.now.slots.items result }
     {
         match self.live(index) {
             Some(memory) => match op.load(memory.data(), ptr, offset) {
@@ -149,17 +108,14 @@ impl<'r> Memories<'r> {
         offset: u64,
         value: RawVal,
     ) -> Reply
-        ensures { StoresMemoryAt op index (ptr + offset) value self.old result self.new }
+        ensures { StoresMemoryAt op index (ptr + offset) value self.old.slots.items result self.new.slots.items }
     {
-        if index >= self.slots.len() {
+        let Some(memory) = self.live_mut(index) else {
             return Reply::NoSuch;
-        }
-        match &mut self.slots[index] {
-            MemorySlot::Live(memory) => match store(memory, op, ptr, offset, value) {
-                Ok(()) => Reply::Done,
-                Err(trap) => Reply::Trap(trap),
-            },
-            MemorySlot::Gone(_) => Reply::NoSuch,
+        };
+        match store(memory, op, ptr, offset, value) {
+            Ok(()) => Reply::Done,
+            Err(trap) => Reply::Trap(trap),
         }
     }
 }

@@ -1,9 +1,104 @@
-//! Places for memories. A place outlives what it holds.
-use wasmi_store::Memory;
+//! Slots: what was made, each at the index of its making.
+ghost use Rattle.std.specs.Prelude.{◌≡◌, ◌<◌, ◌++◌, [], ◌∷◌, length, IsTrue, IsSome, Some};
+ghost use Rattle.std.specs.Borrow.{sem, Lends, LendsIf};
+ghost use Rattle.std.specs.Option.{option_copied, option_copied_mut};
+ghost use Rattle.std.specs.Vec.{vec_capacity};
+ghost use Rattle.wasmi_core.specs.State.{live_value, live_at, with_live};
+ghost use Rattle.wasmi_core.specs.declared.slots.Slot.TheVariants.{Live};
 
-/// A memory, or the number of bytes that it had when it was dropped.
+use std::alloc::Global;
+
+/// A live value, or the size that it had when it was dropped.
 #[derive(Debug, Drop)]
-pub(crate) enum MemorySlot<'r> {
-    Live(Memory<'r>),
+pub(crate) enum Slot<T> {
+    Live(T),
+    // No call reaches this yet: it comes with the calls that drop.
     Gone(usize),
+}
+
+impl<T> Slot<T> {
+    ghost use Rattle.wasmi_core.specs.contracts.slots.Slot.{the_row};
+
+    fn value_mut(&mut self) -> &mut T
+        requires { IsSome (live_value self.old) }
+        ensures* writes_back { sem 𝓛 (Lends (the_row T.row) T.row self.entry result Live) }
+        ensures value { live_value self.old ≡ Some result.now }
+    {
+        match self {
+            Slot::Live(value) => value,
+            Slot::Gone(_) => unreachable!(),
+        }
+    }
+}
+
+/// Slots by their indices, which count from 0.
+#[derive(Debug, Drop)]
+pub(crate) struct Slots<T> {
+    pub(crate) slots: Vec<Slot<T>>,
+}
+
+impl<T> Slots<T> {
+    ghost use Rattle.wasmi_core.specs.contracts.slots.Slots.{the_row};
+
+    /// No slot yet. It takes no memory.
+    pub(crate) fn new(alloc: Global) -> Self
+        ensures { result.slots.items ≡ [] }
+    {
+        Slots {
+            slots: Vec::new(alloc),
+        }
+    }
+
+    /// The live value of an index, if there is one.
+    pub(crate) fn live(&self, index: usize) -> Option<&T>
+        ensures { option_copied result ≡ live_at self.now.slots.items index }
+    {
+        match self.slots.get(index) {
+            Some(Slot::Live(value)) => Some(value),
+            _ => None,
+        }
+    }
+
+    /// The live value of an index, if there is one, to be changed.
+    pub(crate) fn live_mut(&mut self, index: usize) -> Option<&mut T>
+        ensures* writes_back { sem 𝓛 (LendsIf (the_row T.row) T.row self.entry result (with_live self.old index) self.old) }
+        ensures value { option_copied_mut result ≡ live_at self.old.slots.items index }
+    {
+        if self.live(index).is_some() {
+            Some(self.value_mut(index))
+        } else {
+            None
+        }
+    }
+
+    fn value_mut(&mut self, index: usize) -> &mut T
+        requires { IsSome (live_at self.old.slots.items index) }
+        ensures* writes_back { sem 𝓛 (Lends (the_row T.row) T.row self.entry result (with_live self.old index)) }
+        ensures value { live_at self.old.slots.items index ≡ Some result.now }
+    {
+        self.slots[index].value_mut()
+    }
+
+    /// Has room for one more slot, if memory isn't refused.
+    pub(crate) fn reserve(&mut self) -> bool
+        ensures room { IsTrue result → length self.new.slots.items < vec_capacity self.new.slots }
+        ensures same { self.new.slots.items ≡ self.old.slots.items }
+    {
+        self.slots.try_reserve(1).is_ok()
+    }
+
+    /// Puts a value into a new slot, and answers its index.
+    pub(crate) fn push(&mut self, value: T) -> usize
+    where
+        T: Drop,
+        requires { length self.old.slots.items < vec_capacity self.old.slots }
+        ensures index { result ≡ length self.old.slots.items }
+        ensures slots { self.new.slots.items ≡ self.old.slots.items ++ Live value ∷ [] }
+    {
+        let index = self.slots.len();
+        let Ok(()) = self.slots.push(Slot::Live(value)) else {
+            unreachable!();
+        };
+        index
+    }
 }

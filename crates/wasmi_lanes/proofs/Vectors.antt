@@ -1,7 +1,8 @@
 -- A vector is made of its lanes.
-use Rattle.std.proofs.Common.{ℕ, zero, suc, ◌+◌, ◌*◌, ◌/◌, ◌%◌, ◌^◌, ◌<◌, ◌≡◌, sym, ◌∙◌, ap, arith, add_comm, Bool, true, false, if◌then◌else◌}
+use Rattle.std.proofs.Common.{ℕ, zero, suc, ◌+◌, ◌-◌, ◌*◌, ◌/◌, ◌%◌, ◌^◌, ◌<◌, ◌≡◌, sym, ◌∙◌, ap, subst, arith, add_comm, Bool, true, false, if◌then◌else◌}
 use Rattle.std.proofs.lemmas.Nat.{pow_pos, mod-pow-add}
 use Rattle.std.proofs.Math.Nat.{mod-eq_of_lt, mod-lt, mod-one, mul-suc}
+use Rattle.wasmi_lanes.specs.declared.item.LaneInteger.{Ghosts}
 use Rattle.wasmi_lanes.specs.Lane.{lane}
 use Rattle.wasmi_lanes.specs.Vector.{first_lanes, from_lanes}
 use Rattle.wasmi_types.specs.Wrapping.{Width, w8, w16, w32, w64, bits}
@@ -41,21 +42,28 @@ lanes_make_vector w n v f filled below each =
     let whole : bits w * n ≡ 128 = omega arith in
     sym (ap (λ k. first_lanes w k f) (lanes_of_width w n filled) ∙ first_lanes_are w v f n each ∙ ap (λ k. v % 2 ^ k) whole ∙ mod-eq_of_lt below)
 
--- a vector whose lanes read as items has the numbers of these items as its lanes
-pub items_make_vector :
-    {A : Type 0} (w : Width) (n : ℕ) (read : ℕ → A) (image : A → ℕ) (items : ℕ → A) (r : ℕ) (f : ℕ → ℕ)
-    → n * bits w ≡ 128
-    → ((k : ℕ) → k < 2 ^ bits w → image (read k) ≡ k)
-    → ((i : ℕ) → i < n → items i ≡ read (lane w r i))
-    → r < 2 ^ 128
-    → ((i : ℕ) → i < n → image (items i) ≡ f i)
-    → r ≡ from_lanes w f
-items_make_vector w n read image items r f filled back is below rows =
-    lanes_make_vector w n r f filled below
-    (λ i h. sym (back (lane w r i) (lane_below w r i)) ∙ ap image (sym (is i h)) ∙ rows i h)
+-- lanes as items, an integer each
+module _ {A : Type 0} (item : Ghosts A) where
+  -- what is read from a lane is in the range of its type
+  pub item_fits : (v i : ℕ) (x : A) → x ≡ item.read (lane item.width v i) → item.Fits x
+  item_fits v i x is = subst item.Fits (sym is) (item.read_fits (lane item.width v i) (lane_below item.width v i))
 
-pub image_of_choice :
-    {A : Type 0} (image : A → ℕ) (ones zeros : A) (n : ℕ) → image ones ≡ n → image zeros ≡ 0
-    → (t : Bool) → image (if t then ones else zeros) ≡ (if t then n else 0)
-image_of_choice image ones zeros n is_ones is_zeros true = is_ones
-image_of_choice image ones zeros n is_ones is_zeros false = is_zeros
+  -- a vector whose lanes read as items has the numbers of these items as its lanes
+  pub items_make_vector :
+      (n : ℕ) (items : ℕ → A) (r : ℕ) (f : ℕ → ℕ)
+      → n * bits item.width ≡ 128
+      → ((i : ℕ) → i < n → items i ≡ item.read (lane item.width r i))
+      → r < 2 ^ 128
+      → ((i : ℕ) → i < n → item.Fits (items i) → item.image (items i) ≡ f i)
+      → r ≡ from_lanes item.width f
+  items_make_vector n items r f filled is below rows =
+      lanes_make_vector item.width n r f filled below
+      (λ i h.
+      sym (item.image_of_read (lane item.width r i) (lane_below item.width r i))
+      ∙ ap item.image (sym (is i h))
+      ∙ rows i h (item_fits r i (items i) (is i h)))
+
+  -- the number of an item that is all ones or all zeros
+  pub image_of_choice : (t : Bool) → item.image (if t then item.ALL_ONES else item.ALL_ZEROS) ≡ (if t then 2 ^ bits item.width - 1 else 0)
+  image_of_choice true = item.image_of_ones
+  image_of_choice false = item.image_of_zeros

@@ -1,6 +1,6 @@
 -- A vector is a number below 2 ^ 128. Its lanes of one width are its digits to the base 2 ^ width, lane 0 the lowest
 -- (the WebAssembly core specification, section "Numerics": storage in little-endian order).
-use Rattle.std.specs.Prelude.{ℕ, zero, suc, ◌*◌, ◌/◌, ◌%◌, ◌^◌, ◌<◌, ◌≡◌, FitsSigned}
+use Rattle.std.specs.Prelude.{ℕ, zero, suc, ◌*◌, ◌/◌, ◌%◌, ◌^◌, ◌<◌, ◌≡◌, ◌⊎◌, FitsSigned}
 use Rattle.std.proofs.Math.Facts.{sfits_to_z}
 use mir.Val.{Fits}
 use Rattle.wasmi_types.specs.Wrapping.{Width, bits, signed}
@@ -16,6 +16,10 @@ unsigned n = n
 -- a number of w bits, read signed, is in the range of the signed type
 pub signed_fits : (w : Width) (n : ℕ) → n < 2 ^ bits w → FitsSigned w (signed w n)
 signed_fits w n below = let fits : Fits w n = record { fits = below } in sfits_to_z fits
+
+-- a number of lanes: of one vector, or of two vectors of bytes
+abbrev pub IsLaneCount : ℕ → Type 0
+IsLaneCount n = (n ≡ 2) ⊎ (n ≡ 4) ⊎ (n ≡ 8) ⊎ (n ≡ 16) ⊎ (n ≡ 32)
 
 -- the steps at 0, 1 and so on, n of them, lead from `first` to `last`
 abbrev pub ReducesTo : {A : Type 0} → (ℕ → A → A → Type 0) → ℕ → A → A → Type 0

@@ -14,15 +14,15 @@ abbrev pub from_lanes : Width → (ℕ → ℕ) → ℕ
 from_lanes w f = first_lanes w (128 / bits w) f
 
 -- the vector whose lane i is the row of the operands' lanes i
-unfoldable pub lanewise_unary : {A : Type 0} → (w : Width) → (ℕ → A) → (A → ℕ) → ℕ → ℕ
-lanewise_unary w read row a = from_lanes w (λ i. row (read (lane w a i)))
+unfoldable pub unary_of_lanes : {A : Type 0} → (w : Width) → (ℕ → A) → (A → ℕ) → ℕ → ℕ
+unary_of_lanes w read row a = from_lanes w (λ i. row (read (lane w a i)))
 
-unfoldable pub lanewise_binary : {A : Type 0} → (w : Width) → (ℕ → A) → (A → A → ℕ) → ℕ → ℕ → ℕ
-lanewise_binary w read row a b = from_lanes w (λ i. row (read (lane w a i)) (read (lane w b i)))
+unfoldable pub binary_of_lanes : {A : Type 0} → (w : Width) → (ℕ → A) → (A → A → ℕ) → ℕ → ℕ → ℕ
+binary_of_lanes w read row a b = from_lanes w (λ i. row (read (lane w a i)) (read (lane w b i)))
 
 -- all ones where the test of the operands' lanes i holds, else all zeros
-unfoldable pub lanewise_comparison : {A : Type 0} → (w : Width) → (ℕ → A) → (A → A → Bool) → ℕ → ℕ → ℕ
-lanewise_comparison w read test a b =
+unfoldable pub comparison_of_lanes : {A : Type 0} → (w : Width) → (ℕ → A) → (A → A → Bool) → ℕ → ℕ → ℕ
+comparison_of_lanes w read test a b =
     from_lanes w (λ i. if test (read (lane w a i)) (read (lane w b i)) then 2 ^ bits w - 1 else 0)
 
 -- n in each lane
@@ -30,5 +30,5 @@ unfoldable pub splat_of : Width → ℕ → ℕ
 splat_of w n = from_lanes w (λ _. n)
 
 -- v with n in lane k
-unfoldable pub replaced : Width → ℕ → ℕ → ℕ → ℕ
-replaced w v k n = from_lanes w (λ i. if i == k then n else lane w v i)
+unfoldable pub with_lane : Width → ℕ → ℕ → ℕ → ℕ
+with_lane w v k n = from_lanes w (λ i. if i == k then n else lane w v i)

@@ -1,8 +1,12 @@
-// Immediate lane indices.
+//! Immediate lane indices.
 
-ghost use Rattle.std.specs.Prelude.{◌≡◌, ◌<◌, ◌≤◌, ◌+◌, ◌^◌, MatchResult, OnOk, IsOk, ℕ};
+ghost use Rattle.std.specs.Prelude.{◌≡◌, ◌<◌, ◌≤◌, ◌*◌, ℕ, Ok, Err, refl};
 ghost use Rattle.std.specs.Result.{OkIff};
+ghost use Rattle.std.proofs.Common.{rules, inl, inr};
+ghost use Rattle.wasmi_types.specs.Wrapping.{bits};
+ghost use Rattle.wasmi_lanes.specs.Lane.{IsLaneCount};
 
+use crate::item::LaneInteger;
 use std::marker::Model;
 
 /// A number that is no index of a lane.
@@ -11,7 +15,8 @@ pub struct OutOfBoundsLaneIdx;
 
 /// The index of one of `N` lanes, from 0 to `N - 1`, lane 0 the lowest. Contracts see the number.
 ///
-/// The WebAssembly core specification calls it `laneidx`. Upstream: `ImmLaneIdx`, whose `N` is a `u8`.
+/// `N` is 2, 4, 8, 16 or 32: no other number of lanes has an index. The WebAssembly core specification calls it
+/// `laneidx`. Upstream: `ImmLaneIdx`, whose `N` is a `u8`.
 #[derive(Clone, Copy, Debug, PartialEq, Eq)]
 pub struct ImmLaneIdx<const N: usize> {
     index: u8,
@@ -22,9 +27,45 @@ impl<const N: usize> Model for ImmLaneIdx<N> {
 
     ghost view = { λ lane. lane.index };
 
-    ghost invariant = { λ lane. lane.index < N };
+    ghost invariant = { λ lane. (lane.index < N) × IsLaneCount N };
 
     ghost inverse = { λ number. record { index = number } };
+}
+
+/// The index of a lane of 64 bits.
+pub type ImmLaneIdx2 = ImmLaneIdx<2>;
+/// The index of a lane of 32 bits.
+pub type ImmLaneIdx4 = ImmLaneIdx<4>;
+/// The index of a lane of 16 bits.
+pub type ImmLaneIdx8 = ImmLaneIdx<8>;
+/// The index of a lane of 8 bits.
+pub type ImmLaneIdx16 = ImmLaneIdx<16>;
+/// The index of a lane of 8 bits of two vectors, the second counted on from 16.
+pub type ImmLaneIdx32 = ImmLaneIdx<32>;
+
+/// A type of lane indices of which there are as many as a vector, or two vectors, have lanes.
+pub trait CountsLanes<const N: usize> {
+    ghost is_lane_count: { IsLaneCount N };
+}
+
+impl CountsLanes<2> for ImmLaneIdx2 {
+    ghost is_lane_count = { inl refl };
+}
+
+impl CountsLanes<4> for ImmLaneIdx4 {
+    ghost is_lane_count = { inr (inl refl) };
+}
+
+impl CountsLanes<8> for ImmLaneIdx8 {
+    ghost is_lane_count = { inr (inr (inl refl)) };
+}
+
+impl CountsLanes<16> for ImmLaneIdx16 {
+    ghost is_lane_count = { inr (inr (inr (inl refl))) };
+}
+
+impl CountsLanes<32> for ImmLaneIdx32 {
+    ghost is_lane_count = { inr (inr (inr (inr refl))) };
 }
 
 impl<const N: usize> From<ImmLaneIdx<N>> for u8 {
@@ -36,7 +77,10 @@ impl<const N: usize> From<ImmLaneIdx<N>> for u8 {
     }
 }
 
-impl<const N: usize> TryFrom<u8> for ImmLaneIdx<N> {
+impl<const N: usize> TryFrom<u8> for ImmLaneIdx<N>
+where
+    ImmLaneIdx<N>: CountsLanes<N>,
+{
     type Error = OutOfBoundsLaneIdx;
 
     ghost try_from_gives = { λ number lane. OkIff lane (number < N) number };
@@ -51,50 +95,113 @@ impl<const N: usize> TryFrom<u8> for ImmLaneIdx<N> {
     }
 }
 
-/// The index of a lane of 64 bits.
-pub type ImmLaneIdx2 = ImmLaneIdx<2>;
-/// The index of a lane of 32 bits.
-pub type ImmLaneIdx4 = ImmLaneIdx<4>;
-/// The index of a lane of 16 bits.
-pub type ImmLaneIdx8 = ImmLaneIdx<8>;
-/// The index of a lane of 8 bits.
-pub type ImmLaneIdx16 = ImmLaneIdx<16>;
-/// The index of a lane of 8 bits of two vectors, the second counted on from 16.
-pub type ImmLaneIdx32 = ImmLaneIdx<32>;
+/// An index of a lane, which is made of its number and gives it back.
+pub trait LaneIndex: Copy + Into<u8> {
+    /// How many lanes there are.
+    ghost COUNT: { ℕ };
+
+    /// The number of an index.
+    ghost number: { Self → ℕ };
+
+    ghost number_is: { (lane : Self) (n : ℕ) → Self.converts lane n → (n ≡ number lane) × (n < COUNT) };
+}
+
+impl<const N: usize> LaneIndex for ImmLaneIdx<N> {
+    ghost COUNT = { N };
+
+    ghost number = { λ lane. lane };
+
+    ghost number_is = { λ lane n is. is };
+}
 
 /// An integer with the index of one of its lanes in a vector, of which there are 128 divided by its width.
-pub trait IntoLaneIdx {
-    type LaneIdx: Copy + TryFrom<u8, Error = OutOfBoundsLaneIdx> + Into<u8>;
+pub trait IntoLaneIdx: LaneInteger {
+    /// The index of a lane of these integers.
+    type LaneIdx: LaneIndex + TryFrom<u8, Error = OutOfBoundsLaneIdx>;
+
+    ghost count: { Self.LaneIdx.COUNT * bits Self.width ≡ 128 };
+
+    ghost taken: { (n : ℕ) (lane : Self.LaneIdx) → Self.LaneIdx.try_from_gives n (Ok lane) → (Self.LaneIdx.number lane ≡ n) × (n < Self.LaneIdx.COUNT) };
+
+    ghost refused: { (n : ℕ) (error : _) → Self.LaneIdx.try_from_gives n (Err error) → Self.LaneIdx.COUNT ≤ n };
 }
 
 impl IntoLaneIdx for i8 {
     type LaneIdx = ImmLaneIdx16;
+
+    ghost count = { refl };
+
+    ghost taken = { λ n lane is. Prim.search rules };
+
+    ghost refused = { λ n error is. Prim.search rules };
 }
 
 impl IntoLaneIdx for u8 {
     type LaneIdx = ImmLaneIdx16;
+
+    ghost count = { refl };
+
+    ghost taken = { λ n lane is. Prim.search rules };
+
+    ghost refused = { λ n error is. Prim.search rules };
 }
 
 impl IntoLaneIdx for i16 {
     type LaneIdx = ImmLaneIdx8;
+
+    ghost count = { refl };
+
+    ghost taken = { λ n lane is. Prim.search rules };
+
+    ghost refused = { λ n error is. Prim.search rules };
 }
 
 impl IntoLaneIdx for u16 {
     type LaneIdx = ImmLaneIdx8;
+
+    ghost count = { refl };
+
+    ghost taken = { λ n lane is. Prim.search rules };
+
+    ghost refused = { λ n error is. Prim.search rules };
 }
 
 impl IntoLaneIdx for i32 {
     type LaneIdx = ImmLaneIdx4;
+
+    ghost count = { refl };
+
+    ghost taken = { λ n lane is. Prim.search rules };
+
+    ghost refused = { λ n error is. Prim.search rules };
 }
 
 impl IntoLaneIdx for u32 {
     type LaneIdx = ImmLaneIdx4;
+
+    ghost count = { refl };
+
+    ghost taken = { λ n lane is. Prim.search rules };
+
+    ghost refused = { λ n error is. Prim.search rules };
 }
 
 impl IntoLaneIdx for i64 {
     type LaneIdx = ImmLaneIdx2;
+
+    ghost count = { refl };
+
+    ghost taken = { λ n lane is. Prim.search rules };
+
+    ghost refused = { λ n error is. Prim.search rules };
 }
 
 impl IntoLaneIdx for u64 {
     type LaneIdx = ImmLaneIdx2;
+
+    ghost count = { refl };
+
+    ghost taken = { λ n lane is. Prim.search rules };
+
+    ghost refused = { λ n error is. Prim.search rules };
 }

@@ -1,47 +1,38 @@
-// The integers that are lanes.
+//! The integers that are lanes.
 
 ghost use Rattle.std.specs.Prelude.{FitsSigned, refl, pos, negsuc, ◌≡◌, ℕ, ◌*◌, ◌-◌, ◌^◌, ◌<◌, slice_index_or};
-ghost use Rattle.std.proofs.Common.{rules};
 ghost use Rattle.std.proofs.lemmas.Int.{of_z-to_z};
 ghost use Rattle.wasmi_types.specs.Wrapping.{Width, bits, w8, w16, w32, w64, signed};
 ghost use Rattle.std.specs.Int.{cast_unsigned};
 ghost use Rattle.wasmi_lanes.specs.Lane.{lane, unsigned, signed_fits};
 
-use crate::bytes::{bytes_of, from_bytes};
+use crate::vector_bytes::{bytes_of, from_bytes};
 use std::simd::prelude::*;
 use wasmi_raw::V128;
 
-/// An integer of 8 to 64 bits that fills a vector `N` times.
-pub trait LaneItem<const N: usize>: Copy {
+/// An integer of 8 to 64 bits, as which a lane of its width is read.
+pub trait LaneInteger: Copy {
+    /// The width of a lane.
     ghost width: { Width };
 
-    /// The item as which a lane's number is read, and the number of an item.
+    /// The item as which a lane's number is read.
     ghost read: { ℕ → Self };
 
+    /// The number of an item.
     ghost image: { Self → ℕ };
 
     /// The item is in its type's range.
     ghost Fits: { Self → Type 0 };
 
-    /// The items whose bits are all ones, and all zeros.
+    /// The item whose bits are all ones.
     const ALL_ONES: Self;
 
+    /// The item whose bits are all zeros.
     const ALL_ZEROS: Self;
 
     ghost ALL_ONES: { Self };
 
     ghost ALL_ZEROS: { Self };
-
-    /// Fills `items` with the lanes of a vector, lane 0 first.
-    fn read_into(vector: V128, items: &mut [Self; N])
-        ensures { (i : ℕ) → i < N → slice_index_or items.new i ALL_ZEROS ≡ read (lane width vector i) };
-
-    /// The vector with these lanes, lane 0 first.
-    fn write_from(items: &[Self; N]) -> V128
-        ensures lanes { (i : ℕ) → i < N → slice_index_or items.now i ALL_ZEROS ≡ read (lane width result i) }
-        ensures in_range { result < 2 ^ 128 };
-
-    ghost filled: { N * bits width ≡ 128 };
 
     ghost image_of_ones: { image ALL_ONES ≡ 2 ^ bits width - 1 };
 
@@ -52,7 +43,21 @@ pub trait LaneItem<const N: usize>: Copy {
     ghost read_fits: { (n : ℕ) → n < 2 ^ bits width → Fits (read n) };
 }
 
-impl LaneItem<16> for u8 {
+/// An integer of which `N` fill a vector.
+pub trait LaneItem<const N: usize>: LaneInteger {
+    /// Fills `items` with the lanes of a vector, lane 0 first.
+    fn read_into(vector: V128, items: &mut [Self; N])
+        ensures { (i : ℕ) → i < N → slice_index_or items.new i Self.ALL_ZEROS ≡ Self.read (lane Self.width vector i) };
+
+    /// The vector with these lanes, lane 0 first.
+    fn write_from(items: &[Self; N]) -> V128
+        ensures lanes { (i : ℕ) → i < N → slice_index_or items.now i Self.ALL_ZEROS ≡ Self.read (lane Self.width result i) }
+        ensures in_range { result < 2 ^ 128 };
+
+    ghost filled: { N * bits Self.width ≡ 128 };
+}
+
+impl LaneInteger for u8 {
     const ALL_ONES: u8 = u8::MAX;
 
     const ALL_ZEROS: u8 = 0;
@@ -69,15 +74,17 @@ impl LaneItem<16> for u8 {
 
     ghost Fits = { λ item. item < 2 ^ 8 };
 
-    ghost filled = { Prim.search rules };
+    ghost image_of_ones = { refl };
 
-    ghost image_of_ones = { Prim.search rules };
+    ghost image_of_zeros = { refl };
 
-    ghost image_of_zeros = { Prim.search rules };
-
-    ghost image_of_read = { λ n below. Prim.search rules };
+    ghost image_of_read = { λ n below. refl };
 
     ghost read_fits = { λ n below. below };
+}
+
+impl LaneItem<16> for u8 {
+    ghost filled = { refl };
 
     #[inline(always)]
     fn read_into(vector: V128, items: &mut [u8; 16]) {
@@ -91,7 +98,7 @@ impl LaneItem<16> for u8 {
     }
 }
 
-impl LaneItem<16> for i8 {
+impl LaneInteger for i8 {
     const ALL_ONES: i8 = -1;
 
     const ALL_ZEROS: i8 = 0;
@@ -108,15 +115,17 @@ impl LaneItem<16> for i8 {
 
     ghost Fits = { FitsSigned w8 };
 
-    ghost filled = { Prim.search rules };
+    ghost image_of_ones = { refl };
 
-    ghost image_of_ones = { Prim.search rules };
-
-    ghost image_of_zeros = { Prim.search rules };
+    ghost image_of_zeros = { refl };
 
     ghost image_of_read = { of_z-to_z w8 };
 
     ghost read_fits = { signed_fits w8 };
+}
+
+impl LaneItem<16> for i8 {
+    ghost filled = { refl };
 
     #[inline(always)]
     fn read_into(vector: V128, items: &mut [i8; 16]) {
@@ -137,7 +146,7 @@ impl LaneItem<16> for i8 {
     }
 }
 
-impl LaneItem<8> for u16 {
+impl LaneInteger for u16 {
     const ALL_ONES: u16 = u16::MAX;
 
     const ALL_ZEROS: u16 = 0;
@@ -154,15 +163,17 @@ impl LaneItem<8> for u16 {
 
     ghost Fits = { λ item. item < 2 ^ 16 };
 
-    ghost filled = { Prim.search rules };
+    ghost image_of_ones = { refl };
 
-    ghost image_of_ones = { Prim.search rules };
+    ghost image_of_zeros = { refl };
 
-    ghost image_of_zeros = { Prim.search rules };
-
-    ghost image_of_read = { λ n below. Prim.search rules };
+    ghost image_of_read = { λ n below. refl };
 
     ghost read_fits = { λ n below. below };
+}
+
+impl LaneItem<8> for u16 {
+    ghost filled = { refl };
 
     #[inline(always)]
     fn read_into(vector: V128, items: &mut [u16; 8]) {
@@ -176,7 +187,7 @@ impl LaneItem<8> for u16 {
     }
 }
 
-impl LaneItem<8> for i16 {
+impl LaneInteger for i16 {
     const ALL_ONES: i16 = -1;
 
     const ALL_ZEROS: i16 = 0;
@@ -193,15 +204,17 @@ impl LaneItem<8> for i16 {
 
     ghost Fits = { FitsSigned w16 };
 
-    ghost filled = { Prim.search rules };
+    ghost image_of_ones = { refl };
 
-    ghost image_of_ones = { Prim.search rules };
-
-    ghost image_of_zeros = { Prim.search rules };
+    ghost image_of_zeros = { refl };
 
     ghost image_of_read = { of_z-to_z w16 };
 
     ghost read_fits = { signed_fits w16 };
+}
+
+impl LaneItem<8> for i16 {
+    ghost filled = { refl };
 
     #[inline(always)]
     fn read_into(vector: V128, items: &mut [i16; 8]) {
@@ -222,7 +235,7 @@ impl LaneItem<8> for i16 {
     }
 }
 
-impl LaneItem<4> for u32 {
+impl LaneInteger for u32 {
     const ALL_ONES: u32 = u32::MAX;
 
     const ALL_ZEROS: u32 = 0;
@@ -239,15 +252,17 @@ impl LaneItem<4> for u32 {
 
     ghost Fits = { λ item. item < 2 ^ 32 };
 
-    ghost filled = { Prim.search rules };
+    ghost image_of_ones = { refl };
 
-    ghost image_of_ones = { Prim.search rules };
+    ghost image_of_zeros = { refl };
 
-    ghost image_of_zeros = { Prim.search rules };
-
-    ghost image_of_read = { λ n below. Prim.search rules };
+    ghost image_of_read = { λ n below. refl };
 
     ghost read_fits = { λ n below. below };
+}
+
+impl LaneItem<4> for u32 {
+    ghost filled = { refl };
 
     #[inline(always)]
     fn read_into(vector: V128, items: &mut [u32; 4]) {
@@ -261,7 +276,7 @@ impl LaneItem<4> for u32 {
     }
 }
 
-impl LaneItem<4> for i32 {
+impl LaneInteger for i32 {
     const ALL_ONES: i32 = -1;
 
     const ALL_ZEROS: i32 = 0;
@@ -278,15 +293,17 @@ impl LaneItem<4> for i32 {
 
     ghost Fits = { FitsSigned w32 };
 
-    ghost filled = { Prim.search rules };
+    ghost image_of_ones = { refl };
 
-    ghost image_of_ones = { Prim.search rules };
-
-    ghost image_of_zeros = { Prim.search rules };
+    ghost image_of_zeros = { refl };
 
     ghost image_of_read = { of_z-to_z w32 };
 
     ghost read_fits = { signed_fits w32 };
+}
+
+impl LaneItem<4> for i32 {
+    ghost filled = { refl };
 
     #[inline(always)]
     fn read_into(vector: V128, items: &mut [i32; 4]) {
@@ -307,7 +324,7 @@ impl LaneItem<4> for i32 {
     }
 }
 
-impl LaneItem<2> for u64 {
+impl LaneInteger for u64 {
     const ALL_ONES: u64 = u64::MAX;
 
     const ALL_ZEROS: u64 = 0;
@@ -324,15 +341,17 @@ impl LaneItem<2> for u64 {
 
     ghost Fits = { λ item. item < 2 ^ 64 };
 
-    ghost filled = { Prim.search rules };
+    ghost image_of_ones = { refl };
 
-    ghost image_of_ones = { Prim.search rules };
+    ghost image_of_zeros = { refl };
 
-    ghost image_of_zeros = { Prim.search rules };
-
-    ghost image_of_read = { λ n below. Prim.search rules };
+    ghost image_of_read = { λ n below. refl };
 
     ghost read_fits = { λ n below. below };
+}
+
+impl LaneItem<2> for u64 {
+    ghost filled = { refl };
 
     #[inline(always)]
     fn read_into(vector: V128, items: &mut [u64; 2]) {
@@ -346,7 +365,7 @@ impl LaneItem<2> for u64 {
     }
 }
 
-impl LaneItem<2> for i64 {
+impl LaneInteger for i64 {
     const ALL_ONES: i64 = -1;
 
     const ALL_ZEROS: i64 = 0;
@@ -363,15 +382,17 @@ impl LaneItem<2> for i64 {
 
     ghost Fits = { FitsSigned w64 };
 
-    ghost filled = { Prim.search rules };
+    ghost image_of_ones = { refl };
 
-    ghost image_of_ones = { Prim.search rules };
-
-    ghost image_of_zeros = { Prim.search rules };
+    ghost image_of_zeros = { refl };
 
     ghost image_of_read = { of_z-to_z w64 };
 
     ghost read_fits = { signed_fits w64 };
+}
+
+impl LaneItem<2> for i64 {
+    ghost filled = { refl };
 
     #[inline(always)]
     fn read_into(vector: V128, items: &mut [i64; 2]) {

@@ -1,45 +1,33 @@
-// Vectors as lanes of one item.
+//! Vectors as lanes of one item.
 
-ghost use Rattle.std.specs.Prelude.{◌≡◌, ℕ, ◌*◌, ◌-◌, ◌^◌, ◌<◌, slice_index_or, if◌then◌else◌, ◌==◌, Bool};
-ghost use Rattle.wasmi_types.specs.Wrapping.{Width, bits};
+ghost use Rattle.std.specs.Prelude.{◌≡◌, refl, ℕ, ◌*◌, ◌^◌, ◌<◌, slice_index_or, if◌then◌else◌, ◌==◌, Bool};
+ghost use Rattle.wasmi_types.specs.Wrapping.{bits};
 ghost use Rattle.wasmi_lanes.specs.Lane.{lane, ReducesTo};
 
-use crate::index::ImmLaneIdx;
-use crate::item::LaneItem;
+use crate::index::{ImmLaneIdx, LaneIndex};
+use crate::item::{LaneInteger, LaneItem};
 use wasmi_raw::V128;
 
-/// A vector as lanes of one item, lane 0 the lowest.
-///
-/// The `lanewise` functions call `f` once for each lane index. Upstream: `simd::Lanes`.
+/// A vector as lanes of one item, lane 0 the lowest. Upstream: `simd::Lanes`.
 pub trait Lanes: Copy {
-    type Item: Copy;
+    /// The integer of one lane.
+    type Item: LaneInteger;
 
-    type LaneIdx: Copy;
-
-    /// The width of a lane.
-    ghost width: { Width };
-
-    /// The item as which a lane's number is read, and the number of an item.
-    ghost read: { ℕ → Self.Item };
-
-    ghost image: { Self.Item → ℕ };
-
-    /// The item is in its type's range.
-    ghost Fits: { Self.Item → Type 0 };
+    /// The index of a lane.
+    type LaneIdx: LaneIndex;
 
     /// The item of the lane at an index.
     ghost item: { Self → ℕ → Self.Item };
-
-    ghost index: { Self.LaneIdx → ℕ };
 
     /// The number of lanes.
     const LANES: usize;
 
     ghost LANES: { ℕ };
 
-    /// The items whose bits are all ones, and all zeros.
+    /// The item whose bits are all ones.
     const ALL_ONES: Self::Item;
 
+    /// The item whose bits are all zeros.
     const ALL_ZEROS: Self::Item;
 
     ghost ALL_ONES: { Self.Item };
@@ -48,32 +36,37 @@ pub trait Lanes: Copy {
 
     /// The lanes of a vector.
     fn from_v128(vector: V128) -> Self
-        ensures lanes { (i : ℕ) → i < LANES → item result i ≡ read (lane width vector i) };
+        ensures lanes { (i : ℕ) → i < LANES → item result i ≡ Self.Item.read (lane Self.Item.width vector i) };
 
     /// The vector with these lanes.
     fn into_v128(self) -> V128
-        ensures lanes { (i : ℕ) → i < LANES → item self i ≡ read (lane width result i) }
+        ensures lanes { (i : ℕ) → i < LANES → item self i ≡ Self.Item.read (lane Self.Item.width result i) }
         ensures in_range { result < 2 ^ 128 };
 
     /// The same item in all lanes.
     fn splat(value: Self::Item) -> Self
         ensures lanes { (i : ℕ) → i < LANES → item result i ≡ value };
 
+    /// The item of one lane.
     fn extract_lane(self, lane: Self::LaneIdx) -> Self::Item
-        ensures item { result ≡ item self (index lane) }
-        ensures inside { index lane < LANES };
+        ensures item { result ≡ item self (Self.LaneIdx.number lane) }
+        ensures inside { Self.LaneIdx.number lane < LANES };
 
+    /// The lanes with `value` in one of them.
     fn replace_lane(self, lane: Self::LaneIdx, value: Self::Item) -> Self
-        ensures lanes { (i : ℕ) → i < LANES → item result i ≡ (if i == index lane then value else item self i) };
+        ensures lanes { (i : ℕ) → i < LANES → item result i ≡ (if i == Self.LaneIdx.number lane then value else item self i) };
 
+    /// What `f` gives for each lane.
     fn lanewise_unary<F: Fn(Self::Item) -> Self::Item>(self, f: F) -> Self
         requires callable { F.IsAlwaysCallable f }
         ensures lanes { (i : ℕ) → i < LANES → F.post f (item self i) (item result i) };
 
+    /// What `f` gives for the lanes of two vectors at each index.
     fn lanewise_binary<F: Fn(Self::Item, Self::Item) -> Self::Item>(self, other: Self, f: F) -> Self
         requires callable { F.IsAlwaysCallable f }
         ensures lanes { (i : ℕ) → i < LANES → F.post f (item self i) (item other i) (item result i) };
 
+    /// What `f` gives for the lanes of three vectors at each index.
     fn lanewise_ternary<F: Fn(Self::Item, Self::Item, Self::Item) -> Self::Item>(
         self,
         b: Self,
@@ -94,15 +87,13 @@ pub trait Lanes: Copy {
         requires callable { F.IsAlwaysCallable f }
         ensures steps { ReducesTo (λ i before after. F.post f i (item self i) before after) LANES acc result };
 
-    ghost filled: { LANES * bits width ≡ 128 };
+    ghost filled: { LANES * bits Self.Item.width ≡ 128 };
 
-    ghost image_of_ones: { image ALL_ONES ≡ 2 ^ bits width - 1 };
+    ghost counted: { Self.LaneIdx.COUNT ≡ LANES };
 
-    ghost image_of_zeros: { image ALL_ZEROS ≡ 0 };
+    ghost ones: { ALL_ONES ≡ Self.Item.ALL_ONES };
 
-    ghost image_of_read: { (n : ℕ) → n < 2 ^ bits width → image (read n) ≡ n };
-
-    ghost read_fits: { (n : ℕ) → n < 2 ^ bits width → Fits (read n) };
+    ghost zeros: { ALL_ZEROS ≡ Self.Item.ALL_ZEROS };
 }
 
 /// The `N` lanes of a vector, which each lane type names for its item.
@@ -113,7 +104,7 @@ pub struct LaneArray<T, const N: usize> {
 
 // All ones where `holds`, else all zeros.
 #[inline(always)]
-fn ones_if<T: LaneItem<N>, const N: usize>(holds: bool) -> T
+fn ones_if<T: LaneInteger>(holds: bool) -> T
     ensures { result ≡ (if holds then T.ALL_ONES else T.ALL_ZEROS) }
 {
     if holds { T::ALL_ONES } else { T::ALL_ZEROS }
@@ -124,17 +115,7 @@ impl<T: LaneItem<N>, const N: usize> Lanes for LaneArray<T, N> {
 
     type LaneIdx = ImmLaneIdx<N>;
 
-    ghost width = { T.width };
-
-    ghost read = { T.read };
-
-    ghost image = { T.image };
-
-    ghost Fits = { T.Fits };
-
     ghost item = { λ lanes i. slice_index_or lanes.items i T.ALL_ZEROS };
-
-    ghost index = { λ lane. lane };
 
     ghost LANES = { N };
 
@@ -142,15 +123,13 @@ impl<T: LaneItem<N>, const N: usize> Lanes for LaneArray<T, N> {
 
     ghost ALL_ZEROS = { T.ALL_ZEROS };
 
-    ghost image_of_ones = { T.image_of_ones };
-
-    ghost image_of_zeros = { T.image_of_zeros };
-
     ghost filled = { T.filled };
 
-    ghost image_of_read = { T.image_of_read };
+    ghost counted = { refl };
 
-    ghost read_fits = { T.read_fits };
+    ghost ones = { refl };
+
+    ghost zeros = { refl };
 
     const LANES: usize = N;
 
@@ -218,7 +197,7 @@ impl<T: LaneItem<N>, const N: usize> Lanes for LaneArray<T, N> {
     fn lanewise_comparison<F: Fn(T, T) -> bool>(self, other: Self, f: F) -> Self {
         let mut items = self.items;
         for i in 0..N {
-            items[i] = ones_if::<T, N>(f(self.items[i], other.items[i]));
+            items[i] = ones_if::<T>(f(self.items[i], other.items[i]));
         }
         LaneArray { items }
     }

@@ -1,21 +1,21 @@
 //! Lanes of 128-bit vectors: lane indices, lane types, and what works on a vector lane by lane.
 #![tactic(auto)]
 
-mod bytes;
 mod index;
 mod item;
 mod lanes;
-pub mod lanewise;
 pub mod laws;
 mod narrow;
+pub mod on_vectors;
 mod types;
+mod vector_bytes;
 
-pub use bytes::{bytes_of, from_bytes};
 pub use index::{
     ImmLaneIdx, ImmLaneIdx2, ImmLaneIdx4, ImmLaneIdx8, ImmLaneIdx16, ImmLaneIdx32, IntoLaneIdx,
-    OutOfBoundsLaneIdx,
+    LaneIndex, OutOfBoundsLaneIdx,
 };
-pub use item::LaneItem;
+pub use item::{LaneInteger, LaneItem};
 pub use lanes::{LaneArray, Lanes};
 pub use narrow::{FromNarrow, FromWide, Narrower};
 pub use types::{I8x16, I16x8, I32x4, I64x2, IntoLanes, U8x16, U16x8, U32x4, U64x2};
+pub use vector_bytes::{bytes_of, from_bytes};

@@ -1,11 +1,11 @@
-// Lanes made of narrower lanes, and of wider ones.
+//! Lanes made of narrower lanes, and of wider ones.
 
 ghost use Rattle.std.specs.Prelude.{◌≡◌, refl, ℕ, ◌+◌, ◌*◌, ◌<◌, [], ◌∷◌};
 
 use crate::item::LaneItem;
 use crate::lanes::{LaneArray, Lanes};
 
-/// An item of which twice as many fill a vector as of `U`, which has the same sign.
+/// An integer of which twice as many fill a vector as of `U`.
 pub trait Narrower<U: LaneItem<M>, const N: usize, const M: usize>: LaneItem<N> {
     ghost twice: { N ≡ 2 * M };
 }
@@ -34,43 +34,68 @@ impl Narrower<i64, 4, 2> for i32 {
     ghost twice = { refl };
 }
 
-/// Lanes that are made of narrower ones, of which there are twice as many.
-///
-/// Lane i is made, in `pairwise` forms, of the narrow lanes 2i and 2i + 1; in `low` forms, of narrow lane i; in `high`
-/// forms, of narrow lane i of the upper half. Binary forms take these lanes of both operands. Upstream: `simd::FromNarrow`.
-pub trait FromNarrow<S: Lanes>: Lanes {
+/// Lanes that are made of wider ones, of two vectors. Upstream: `simd::FromWide`.
+pub trait FromWide<W: Lanes>: Lanes {
+    /// Lanes made of each lane of `low`, then of each lane of `high`.
+    fn from_low_high<F: Fn(W::Item) -> Self::Item>(low: W, high: W, f: F) -> Self
+        requires callable { F.IsAlwaysCallable f }
+        ensures low { (i : ℕ) → i < W.LANES → F.post f (W.item low i) (Self.item result i) }
+        ensures high { (i : ℕ) → i < W.LANES → F.post f (W.item high i) (Self.item result (W.LANES + i)) };
+
+    ghost twice: { Self.LANES ≡ 2 * W.LANES };
+}
+
+impl<T: Narrower<U, N, M>, U: LaneItem<M>, const N: usize, const M: usize> FromWide<LaneArray<U, M>>
+    for LaneArray<T, N> {
+    ghost twice = { T.twice };
+
+    #[inline(always)]
+    fn from_low_high<F: Fn(U) -> T>(low: LaneArray<U, M>, high: LaneArray<U, M>, f: F) -> Self {
+        let mut items = [T::ALL_ZEROS; N];
+        for i in 0..M {
+            items[i] = f(low.items[i]);
+            items[M + i] = f(high.items[i]);
+        }
+        LaneArray { items }
+    }
+}
+
+/// Lanes that are made of narrower ones, of which there are twice as many. Upstream: `simd::FromNarrow`.
+pub trait FromNarrow<S: FromWide<Self>>: Lanes {
+    /// Lane i is made of the narrow lanes 2i and 2i + 1.
     fn pairwise_unary<F: Fn(S::Item, S::Item) -> Self::Item>(narrow: S, f: F) -> Self
         requires callable { F.IsAlwaysCallable f }
         ensures lanes { (i : ℕ) → i < Self.LANES → F.post f (S.item narrow (2 * i)) (S.item narrow (2 * i + 1)) (Self.item result i) };
 
+    /// Lane i is made of the narrow lanes 2i and 2i + 1 of both operands.
     fn pairwise_binary<F: Fn([S::Item; 2], [S::Item; 2]) -> Self::Item>(a: S, b: S, f: F) -> Self
         requires callable { F.IsAlwaysCallable f }
         ensures lanes { (i : ℕ) → i < Self.LANES → F.post f (S.item a (2 * i) ∷ S.item a (2 * i + 1) ∷ []) (S.item b (2 * i) ∷ S.item b (2 * i + 1) ∷ []) (Self.item result i) };
 
+    /// Lane i is made of the narrow lane i.
     fn low_unary<F: Fn(S::Item) -> Self::Item>(narrow: S, f: F) -> Self
         requires callable { F.IsAlwaysCallable f }
         ensures lanes { (i : ℕ) → i < Self.LANES → F.post f (S.item narrow i) (Self.item result i) };
 
+    /// Lane i is made of the narrow lane i of the upper half.
     fn high_unary<F: Fn(S::Item) -> Self::Item>(narrow: S, f: F) -> Self
         requires callable { F.IsAlwaysCallable f }
         ensures lanes { (i : ℕ) → i < Self.LANES → F.post f (S.item narrow (Self.LANES + i)) (Self.item result i) };
 
+    /// Lane i is made of the narrow lanes i of both operands.
     fn low_binary<F: Fn(S::Item, S::Item) -> Self::Item>(a: S, b: S, f: F) -> Self
         requires callable { F.IsAlwaysCallable f }
         ensures lanes { (i : ℕ) → i < Self.LANES → F.post f (S.item a i) (S.item b i) (Self.item result i) };
 
+    /// Lane i is made of the narrow lanes i of the upper halves of both operands.
     fn high_binary<F: Fn(S::Item, S::Item) -> Self::Item>(a: S, b: S, f: F) -> Self
         requires callable { F.IsAlwaysCallable f }
         ensures lanes { (i : ℕ) → i < Self.LANES → F.post f (S.item a (Self.LANES + i)) (S.item b (Self.LANES + i)) (Self.item result i) };
-
-    ghost twice: { S.LANES ≡ 2 * Self.LANES };
 }
 
 impl<T: Narrower<U, N, M>, U: LaneItem<M>, const N: usize, const M: usize> FromNarrow<
     LaneArray<T, N>,
 > for LaneArray<U, M> {
-    ghost twice = { T.twice };
-
     #[inline(always)]
     fn pairwise_unary<F: Fn(T, T) -> U>(narrow: LaneArray<T, N>, f: F) -> Self {
         let mut items = [U::ALL_ZEROS; M];
@@ -128,32 +153,6 @@ impl<T: Narrower<U, N, M>, U: LaneItem<M>, const N: usize, const M: usize> FromN
         let mut items = [U::ALL_ZEROS; M];
         for i in 0..M {
             items[i] = f(a.items[M + i], b.items[M + i]);
-        }
-        LaneArray { items }
-    }
-}
-
-/// Lanes that are made of wider ones, of two vectors. Upstream: `simd::FromWide`.
-pub trait FromWide<W: Lanes>: Lanes {
-    /// Lanes made of each lane of `low`, then of each lane of `high`.
-    fn from_low_high<F: Fn(W::Item) -> Self::Item>(low: W, high: W, f: F) -> Self
-        requires callable { F.IsAlwaysCallable f }
-        ensures low { (i : ℕ) → i < W.LANES → F.post f (W.item low i) (Self.item result i) }
-        ensures high { (i : ℕ) → i < W.LANES → F.post f (W.item high i) (Self.item result (W.LANES + i)) };
-
-    ghost twice: { Self.LANES ≡ 2 * W.LANES };
-}
-
-impl<T: Narrower<U, N, M>, U: LaneItem<M>, const N: usize, const M: usize> FromWide<LaneArray<U, M>>
-    for LaneArray<T, N> {
-    ghost twice = { T.twice };
-
-    #[inline(always)]
-    fn from_low_high<F: Fn(U) -> T>(low: LaneArray<U, M>, high: LaneArray<U, M>, f: F) -> Self {
-        let mut items = [T::ALL_ZEROS; N];
-        for i in 0..M {
-            items[i] = f(low.items[i]);
-            items[M + i] = f(high.items[i]);
         }
         LaneArray { items }
     }

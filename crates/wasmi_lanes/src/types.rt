@@ -1,4 +1,4 @@
-// The lane types.
+//! The lane types.
 
 use crate::index::{ImmLaneIdx2, ImmLaneIdx4, ImmLaneIdx8, ImmLaneIdx16};
 use crate::lanes::{LaneArray, Lanes};
@@ -20,10 +20,12 @@ pub type I8x16 = LaneArray<i8, 16>;
 /// Sixteen unsigned lanes of 8 bits.
 pub type U8x16 = LaneArray<u8, 16>;
 
-/// An integer that is the item of lanes.
+/// An integer that is the item of lanes. Upstream: `simd::IntoLanes`.
 pub trait IntoLanes: Sized {
+    /// The lanes of a vector that are such integers.
     type Lanes: Lanes<Item = Self, LaneIdx = Self::LaneIdx>;
 
+    /// The index of one of these lanes.
     type LaneIdx;
 }
 

@@ -41,14 +41,14 @@ abs_of_lane : (x : ℤ) → FitsSigned w16 x → unsigned_abs x ≤ 32768
 abs_of_lane (pos n) fits = let below = fits.sfits in omega arith
 abs_of_lane (negsuc n) fits = let below = fits.sfits in omega arith
 
--- a number as 32 bits hold it
-abbrev pub held : ℤ → ℤ
-held z = to_z w32 (of_z w32 z)
+-- a number cut to 32 bits
+abbrev pub in_32_bits : ℤ → ℤ
+in_32_bits z = to_z w32 (of_z w32 z)
 
 -- no step of the computation in 32 bits overflows
 module _ (x y : ℤ) (fits_x : FitsSigned w16 x) (fits_y : FitsSigned w16 y) where
-  held_lane : (z : ℤ) → FitsSigned w16 z → held z ≡ z
-  held_lane z fits = to_z-of_z (fits_signed_from_abs w32 z (let small = abs_of_lane z fits in omega arith))
+  lane_in_32_bits : (z : ℤ) → FitsSigned w16 z → in_32_bits z ≡ z
+  lane_in_32_bits z fits = to_z-of_z (fits_signed_from_abs w32 z (let small = abs_of_lane z fits in omega arith))
 
   product_is_small : unsigned_abs (x *ℤ y) ≤ 2 ^ 30
   product_is_small =
@@ -58,15 +58,15 @@ module _ (x y : ℤ) (fits_x : FitsSigned w16 x) (fits_y : FitsSigned w16 y) whe
   sum : IsSum ((x *ℤ y) +ℤ pos 16384)
   sum = sum_of_product (x *ℤ y) product_is_small
 
-  held_product : held (held x *ℤ held y) ≡ x *ℤ y
-  held_product =
-      ap₂ (λ a b. held (a *ℤ b)) (held_lane x fits_x) (held_lane y fits_y)
+  product_in_32_bits : in_32_bits (in_32_bits x *ℤ in_32_bits y) ≡ x *ℤ y
+  product_in_32_bits =
+      ap₂ (λ a b. in_32_bits (a *ℤ b)) (lane_in_32_bits x fits_x) (lane_in_32_bits y fits_y)
       ∙ to_z-of_z (fits_signed_from_abs w32 (x *ℤ y) (let small = product_is_small in omega arith))
 
-  pub rounded_is : held (shr_z (held (held (held x *ℤ held y) +ℤ pos 16384)) 32768) ≡ shr_z ((x *ℤ y) +ℤ pos 16384) 32768
+  pub rounded_is : in_32_bits (shr_z (in_32_bits (in_32_bits (in_32_bits x *ℤ in_32_bits y) +ℤ pos 16384)) 32768) ≡ shr_z ((x *ℤ y) +ℤ pos 16384) 32768
   rounded_is =
-      ap (λ z. held (shr_z (held (z +ℤ pos 16384)) 32768)) held_product
-      ∙ ap (λ z. held (shr_z z 32768)) (to_z-of_z sum.fits)
+      ap (λ z. in_32_bits (shr_z (in_32_bits (z +ℤ pos 16384)) 32768)) product_in_32_bits
+      ∙ ap (λ z. in_32_bits (shr_z z 32768)) (to_z-of_z sum.fits)
       ∙ to_z-of_z (sfits_le (mag_shr ((x *ℤ y) +ℤ pos 16384) 32768) sum.fits)
 
   pub rounded_at_least : int_le (negsuc 32767) (shr_z ((x *ℤ y) +ℤ pos 16384) 32768) ≡ true

@@ -4,7 +4,7 @@ use Rattle.std.proofs.lemmas.Nat.{div-add-mod'}
 use Rattle.wasmi_raw.specs.Vector.{vector_of}
 use Rattle.wasmi_types.specs.Wrapping.{w64}
 use Rattle.wasmi_lanes.specs.Lane.{lane, unsigned}
-use Rattle.wasmi_lanes.specs.Vector.{first_lanes, lanewise_binary}
+use Rattle.wasmi_lanes.specs.Vector.{first_lanes, binary_of_lanes}
 
 -- where an operation on a number is the same operation on its high bits and on its low bits
 module _ (op : ℕ → ℕ → ℕ)
@@ -20,8 +20,8 @@ module _ (op : ℕ → ℕ → ℕ)
 -- lanes of 64 bits are the words
 pub lanes_are_words : (row : ℕ → ℕ → ℕ) (a b low high r : ℕ) → a < 2 ^ 128 → b < 2 ^ 128 → low < 2 ^ 64 → high < 2 ^ 64
     → low ≡ row (a % 2 ^ 64) (b % 2 ^ 64) → high ≡ row (a / 2 ^ 64) (b / 2 ^ 64)
-    → r ≡ vector_of low high → r ≡ lanewise_binary w64 unsigned row a b
-unfolding lanewise_binary first_lanes
+    → r ≡ vector_of low high → r ≡ binary_of_lanes w64 unsigned row a b
+unfolding binary_of_lanes first_lanes
 lanes_are_words row a b low high r fits_a fits_b fits_low fits_high is_low is_high is =
     let first : row (lane w64 a 0) (lane w64 b 0) ≡ low = ap₂ row (omega arith) (omega arith) ∙ sym is_low in
     let second : row (lane w64 a 1) (lane w64 b 1) ≡ high = ap₂ row (omega arith) (omega arith) ∙ sym is_high in

@@ -6,7 +6,7 @@ use Rattle.std.specs.Int.{int_min, int_max, int_shr}
 use Rattle.std.specs.Int.RustNames.{int_lt, int_le}
 use Rattle.wasmi_types.specs.Wrapping.{Width, w8, w16, bits, signed, wrap, clamp_signed, clamp_unsigned}
 use Rattle.wasmi_lanes.specs.Lane.{lane, unsigned}
-use Rattle.wasmi_lanes.specs.Vector.{from_lanes, lanewise_unary, lanewise_binary, lanewise_comparison, splat_of, replaced}
+use Rattle.wasmi_lanes.specs.Vector.{from_lanes, unary_of_lanes, binary_of_lanes, comparison_of_lanes, splat_of, with_lane}
 
 -- ---- making and taking lanes
 
@@ -20,7 +20,7 @@ abbrev pub extract_lane_u : Width → ℕ → ℕ → ℕ
 extract_lane_u w v k = lane w v k
 
 abbrev pub replace_lane : Width → ℕ → ℕ → ℤ → ℕ
-replace_lane w v k x = replaced w v k (wrap w x)
+replace_lane w v k x = with_lane w v k (wrap w x)
 
 -- of the 32 bytes of a and b, those at the indices s
 abbrev pub shuffle : ℕ → ℕ → List ℕ → ℕ
@@ -29,58 +29,58 @@ shuffle a b s =
 
 -- of the 16 bytes of a, those at the indices that the lanes of s are, and 0 where one is above 15
 abbrev pub swizzle : ℕ → ℕ → ℕ
-swizzle a s = lanewise_unary w8 unsigned (λ k. if nat_lt k 16 then lane w8 a k else 0) s
+swizzle a s = unary_of_lanes w8 unsigned (λ k. if nat_lt k 16 then lane w8 a k else 0) s
 
 -- ---- binary
 
 -- modulo 2 ^ w
 abbrev pub add : Width → ℕ → ℕ → ℕ
-add w = lanewise_binary w unsigned (λ x y. (x + y) % 2 ^ bits w)
+add w = binary_of_lanes w unsigned (λ x y. (x + y) % 2 ^ bits w)
 
 abbrev pub sub : Width → ℕ → ℕ → ℕ
-sub w = lanewise_binary w unsigned (λ x y. (x + (2 ^ bits w - y)) % 2 ^ bits w)
+sub w = binary_of_lanes w unsigned (λ x y. (x + (2 ^ bits w - y)) % 2 ^ bits w)
 
 abbrev pub mul : Width → ℕ → ℕ → ℕ
-mul w = lanewise_binary w unsigned (λ x y. (x * y) % 2 ^ bits w)
+mul w = binary_of_lanes w unsigned (λ x y. (x * y) % 2 ^ bits w)
 
 -- clamped to the signed range, or to the unsigned range
 abbrev pub add_sat_s : Width → ℕ → ℕ → ℕ
-add_sat_s w = lanewise_binary w (signed w) (λ x y. wrap w (clamp_signed w (x +ℤ y)))
+add_sat_s w = binary_of_lanes w (signed w) (λ x y. wrap w (clamp_signed w (x +ℤ y)))
 
 abbrev pub add_sat_u : Width → ℕ → ℕ → ℕ
-add_sat_u w = lanewise_binary w unsigned (λ x y. clamp_unsigned w (pos x +ℤ pos y))
+add_sat_u w = binary_of_lanes w unsigned (λ x y. clamp_unsigned w (pos x +ℤ pos y))
 
 abbrev pub sub_sat_s : Width → ℕ → ℕ → ℕ
-sub_sat_s w = lanewise_binary w (signed w) (λ x y. wrap w (clamp_signed w (x -ℤ y)))
+sub_sat_s w = binary_of_lanes w (signed w) (λ x y. wrap w (clamp_signed w (x -ℤ y)))
 
 abbrev pub sub_sat_u : Width → ℕ → ℕ → ℕ
-sub_sat_u w = lanewise_binary w unsigned (λ x y. clamp_unsigned w (pos x -ℤ pos y))
+sub_sat_u w = binary_of_lanes w unsigned (λ x y. clamp_unsigned w (pos x -ℤ pos y))
 
 -- (x * y + 2 ^ 14) / 2 ^ 15, rounded down
 abbrev pub q15mulr : ℤ → ℤ → ℤ
 q15mulr x y = int_shr ((x *ℤ y) +ℤ pos (2 ^ 14)) 15
 
 abbrev pub q15mulr_sat_s : ℕ → ℕ → ℕ
-q15mulr_sat_s = lanewise_binary w16 (signed w16) (λ x y. wrap w16 (clamp_signed w16 (q15mulr x y)))
+q15mulr_sat_s = binary_of_lanes w16 (signed w16) (λ x y. wrap w16 (clamp_signed w16 (q15mulr x y)))
 
 abbrev pub min_s : Width → ℕ → ℕ → ℕ
-min_s w = lanewise_binary w (signed w) (λ x y. wrap w (int_min x y))
+min_s w = binary_of_lanes w (signed w) (λ x y. wrap w (int_min x y))
 
 abbrev pub min_u : Width → ℕ → ℕ → ℕ
-min_u w = lanewise_binary w unsigned min
+min_u w = binary_of_lanes w unsigned min
 
 abbrev pub max_s : Width → ℕ → ℕ → ℕ
-max_s w = lanewise_binary w (signed w) (λ x y. wrap w (int_max x y))
+max_s w = binary_of_lanes w (signed w) (λ x y. wrap w (int_max x y))
 
 abbrev pub max_u : Width → ℕ → ℕ → ℕ
-max_u w = lanewise_binary w unsigned max
+max_u w = binary_of_lanes w unsigned max
 
 -- (x + y) / 2, halves rounded up
 abbrev pub average : ℕ → ℕ → ℕ
 average x y = (x + y + 1) / 2
 
 abbrev pub avgr_u : Width → ℕ → ℕ → ℕ
-avgr_u w = lanewise_binary w unsigned average
+avgr_u w = binary_of_lanes w unsigned average
 
 -- ---- bit by bit, on the whole number
 
@@ -107,42 +107,42 @@ v128_bitselect a b c = bit_or (bit_and a c) (bit_and b (v128_not c))
 
 -- modulo 2 ^ w
 abbrev pub neg : Width → ℕ → ℕ
-neg w = lanewise_unary w unsigned (λ x. (2 ^ bits w - x) % 2 ^ bits w)
+neg w = unary_of_lanes w unsigned (λ x. (2 ^ bits w - x) % 2 ^ bits w)
 
 abbrev pub abs : Width → ℕ → ℕ
-abs w = lanewise_unary w (signed w) (λ x. unsigned_abs x % 2 ^ bits w)
+abs w = unary_of_lanes w (signed w) (λ x. unsigned_abs x % 2 ^ bits w)
 
 abbrev pub popcnt : Width → ℕ → ℕ
-popcnt w = lanewise_unary w unsigned count_ones
+popcnt w = unary_of_lanes w unsigned count_ones
 
 -- ---- comparisons: all ones in the lanes where they hold, else all zeros
 
 abbrev pub eq : Width → ℕ → ℕ → ℕ
-eq w = lanewise_comparison w unsigned nat_eq
+eq w = comparison_of_lanes w unsigned nat_eq
 
 abbrev pub ne : Width → ℕ → ℕ → ℕ
-ne w = lanewise_comparison w unsigned (λ x y. not (nat_eq x y))
+ne w = comparison_of_lanes w unsigned (λ x y. not (nat_eq x y))
 
 abbrev pub lt_s : Width → ℕ → ℕ → ℕ
-lt_s w = lanewise_comparison w (signed w) int_lt
+lt_s w = comparison_of_lanes w (signed w) int_lt
 
 abbrev pub lt_u : Width → ℕ → ℕ → ℕ
-lt_u w = lanewise_comparison w unsigned nat_lt
+lt_u w = comparison_of_lanes w unsigned nat_lt
 
 abbrev pub gt_s : Width → ℕ → ℕ → ℕ
-gt_s w = lanewise_comparison w (signed w) (λ x y. int_lt y x)
+gt_s w = comparison_of_lanes w (signed w) (λ x y. int_lt y x)
 
 abbrev pub gt_u : Width → ℕ → ℕ → ℕ
-gt_u w = lanewise_comparison w unsigned (λ x y. nat_lt y x)
+gt_u w = comparison_of_lanes w unsigned (λ x y. nat_lt y x)
 
 abbrev pub le_s : Width → ℕ → ℕ → ℕ
-le_s w = lanewise_comparison w (signed w) int_le
+le_s w = comparison_of_lanes w (signed w) int_le
 
 abbrev pub le_u : Width → ℕ → ℕ → ℕ
-le_u w = lanewise_comparison w unsigned nat_le
+le_u w = comparison_of_lanes w unsigned nat_le
 
 abbrev pub ge_s : Width → ℕ → ℕ → ℕ
-ge_s w = lanewise_comparison w (signed w) (λ x y. int_le y x)
+ge_s w = comparison_of_lanes w (signed w) (λ x y. int_le y x)
 
 abbrev pub ge_u : Width → ℕ → ℕ → ℕ
-ge_u w = lanewise_comparison w unsigned (λ x y. nat_le y x)
+ge_u w = comparison_of_lanes w unsigned (λ x y. nat_le y x)

@@ -1,6 +1,7 @@
 //! What the tests share: short words for calls and replies, and runs that compare the replies.
 mod absent;
 mod accesses;
+mod examples;
 mod loans;
 mod runs;
 

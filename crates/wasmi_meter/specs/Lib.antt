@@ -4,9 +4,6 @@ pub mod Lending
 pub mod Costs
 pub mod Meter
 pub mod Attempt
-pub mod MemoryError
-pub mod TableError
-pub mod LimiterError
-pub mod FuelError
 pub mod Holdings
 pub mod Quota
+pub mod Texts

@@ -12,7 +12,7 @@ pub enum LimiterError {
 
 impl fmt::Display for LimiterError {
     ghost use Rattle.std.specs.Prelude.{Some};
-    ghost use Rattle.wasmi_meter.specs.LimiterError.{limiter_error_text};
+    ghost use Rattle.wasmi_meter.specs.Texts.{limiter_error_text};
 
     ghost output = { λ error. Some (limiter_error_text error) };
 
@@ -54,7 +54,7 @@ pub enum MemoryError {
 
 impl fmt::Display for MemoryError {
     ghost use Rattle.std.specs.Prelude.{Some};
-    ghost use Rattle.wasmi_meter.specs.MemoryError.{memory_error_text};
+    ghost use Rattle.wasmi_meter.specs.Texts.{memory_error_text};
 
     ghost output = { λ error. Some (memory_error_text error) };
 
@@ -117,7 +117,7 @@ pub enum TableError {
 
 impl fmt::Display for TableError {
     ghost use Rattle.std.specs.Prelude.{Some};
-    ghost use Rattle.wasmi_meter.specs.TableError.{table_error_text};
+    ghost use Rattle.wasmi_meter.specs.Texts.{table_error_text};
 
     ghost output = { λ error. Some (table_error_text error) };
 

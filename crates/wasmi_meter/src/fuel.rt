@@ -195,7 +195,7 @@ impl FuelError {
 
 impl fmt::Display for FuelError {
     ghost use Rattle.std.specs.Prelude.{Some};
-    ghost use Rattle.wasmi_meter.specs.FuelError.{fuel_error_text};
+    ghost use Rattle.wasmi_meter.specs.Texts.{fuel_error_text};
 
     ghost output = { λ error. Some (fuel_error_text error) };
 

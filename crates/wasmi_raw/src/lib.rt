@@ -1,13 +1,17 @@
-#![tactic(auto)]
 //! Raw values: what a register, a local or a global variable of WebAssembly holds, whatever its type.
+#![tactic(auto)]
 
 mod convert;
 mod float;
+pub mod laws;
+mod number;
 mod raw;
 mod read;
+mod read_back;
 mod vector;
 mod write;
 
 pub use float::{F32, F64};
-pub use raw::{RawVal, ReadAs, WriteAs};
+pub use number::Number;
+pub use raw::{RawVal, ReadAs, ReadBack, WriteAs};
 pub use vector::V128;

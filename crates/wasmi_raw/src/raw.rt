@@ -37,7 +37,7 @@ impl RawVal {
 /// Of a raw value, an integer is the low word cut to the width of the integer, and a `bool` is whether the low
 /// word is not 0. A vector is both words. Upstream: `wasmi_core::ReadAs`.
 pub trait ReadAs<T> {
-    // The `T` that `self` is read as.
+    /// The `T` that `self` is read as.
     ghost read: { Self → T };
 
     /// Reads `self` as a `T`.
@@ -45,20 +45,28 @@ pub trait ReadAs<T> {
         ensures { result ≡ read self.now };
 }
 
-/// What a `T` can be written to.
+/// A type whose values can be written, and what is read after that.
+///
+/// The crate has no such trait. There too a `NonZero` can be written, and its integer is read.
+pub trait ReadBack {
+    /// The type that is read after a `Self` was written: of a `NonZero` its integer type, else `Self`.
+    type Read;
+
+    /// The value that is read after the `Self` was written.
+    ghost read_back: { Self → Self.Read };
+}
+
+/// What a `T` can be written to, and read back from.
 ///
 /// An integer or a `bool` sets the low word of a raw value and keeps the high word. The low word is then the
 /// integer's unsigned image at its own width, so `-1i32` gives 4294967295. A vector or a raw value sets both words.
 /// Upstream: `wasmi_core::WriteAs`.
-pub trait WriteAs<T> {
-    // What `self` becomes when the `T` is written to it.
+pub trait WriteAs<T: ReadBack>: ReadAs<T::Read> {
+    /// What `self` becomes when the `T` is written to it.
     ghost written: { Self → T → Self };
-
-    // Reading `self` gives the `T`.
-    ghost reads_as: { Self → T → Type 0 };
 
     /// Writes `value` to `self`.
     fn write_as(&mut self, value: T)
         ensures written { self.new ≡ written self.old value }
-        ensures read_back { reads_as self.new value };
+        ensures read_back { Self.read self.new ≡ T.read_back value };
 }

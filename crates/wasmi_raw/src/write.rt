@@ -1,18 +1,15 @@
 //! Writing to a raw value, by type.
 
-ghost use Rattle.std.specs.Prelude.{◌≡◌};
 ghost use Rattle.std.specs.Int.{w8, w16, w32, w64, cast_unsigned, from_bool};
 ghost use Rattle.std.specs.Int.NonZero.{non_zero_i8_get, non_zero_i16_get, non_zero_i32_get, non_zero_i64_get, non_zero_u8_get, non_zero_u16_get, non_zero_u32_get, non_zero_u64_get};
 ghost use Rattle.wasmi_raw.specs.RawVal.{with_low, raw_of_vector};
 
-use crate::raw::{RawVal, ReadAs, WriteAs};
+use crate::raw::{RawVal, WriteAs};
 use crate::vector::V128;
 use std::num::NonZero;
 
 impl WriteAs<RawVal> for RawVal {
     ghost written = { λ _ value. value };
-
-    ghost reads_as = { λ raw value. ⟦<RawVal as ReadAs<RawVal>>⟧.read raw ≡ value };
 
     fn write_as(&mut self, value: RawVal) {
         *self = value;
@@ -22,8 +19,6 @@ impl WriteAs<RawVal> for RawVal {
 impl WriteAs<i8> for RawVal {
     ghost written = { λ raw value. with_low raw (cast_unsigned w8 value) };
 
-    ghost reads_as = { λ raw value. ⟦<RawVal as ReadAs<i8>>⟧.read raw ≡ value };
-
     fn write_as(&mut self, value: i8) {
         self.write_as(value.cast_unsigned());
     }
@@ -31,8 +26,6 @@ impl WriteAs<i8> for RawVal {
 
 impl WriteAs<NonZero<i8>> for RawVal {
     ghost written = { λ raw value. with_low raw (cast_unsigned w8 (non_zero_i8_get value)) };
-
-    ghost reads_as = { λ raw value. ⟦<RawVal as ReadAs<i8>>⟧.read raw ≡ non_zero_i8_get value };
 
     fn write_as(&mut self, value: NonZero<i8>) {
         self.write_as(value.get());
@@ -42,8 +35,6 @@ impl WriteAs<NonZero<i8>> for RawVal {
 impl WriteAs<i16> for RawVal {
     ghost written = { λ raw value. with_low raw (cast_unsigned w16 value) };
 
-    ghost reads_as = { λ raw value. ⟦<RawVal as ReadAs<i16>>⟧.read raw ≡ value };
-
     fn write_as(&mut self, value: i16) {
         self.write_as(value.cast_unsigned());
     }
@@ -51,8 +42,6 @@ impl WriteAs<i16> for RawVal {
 
 impl WriteAs<NonZero<i16>> for RawVal {
     ghost written = { λ raw value. with_low raw (cast_unsigned w16 (non_zero_i16_get value)) };
-
-    ghost reads_as = { λ raw value. ⟦<RawVal as ReadAs<i16>>⟧.read raw ≡ non_zero_i16_get value };
 
     fn write_as(&mut self, value: NonZero<i16>) {
         self.write_as(value.get());
@@ -62,8 +51,6 @@ impl WriteAs<NonZero<i16>> for RawVal {
 impl WriteAs<i32> for RawVal {
     ghost written = { λ raw value. with_low raw (cast_unsigned w32 value) };
 
-    ghost reads_as = { λ raw value. ⟦<RawVal as ReadAs<i32>>⟧.read raw ≡ value };
-
     fn write_as(&mut self, value: i32) {
         self.write_as(value.cast_unsigned());
     }
@@ -71,8 +58,6 @@ impl WriteAs<i32> for RawVal {
 
 impl WriteAs<NonZero<i32>> for RawVal {
     ghost written = { λ raw value. with_low raw (cast_unsigned w32 (non_zero_i32_get value)) };
-
-    ghost reads_as = { λ raw value. ⟦<RawVal as ReadAs<i32>>⟧.read raw ≡ non_zero_i32_get value };
 
     fn write_as(&mut self, value: NonZero<i32>) {
         self.write_as(value.get());
@@ -82,8 +67,6 @@ impl WriteAs<NonZero<i32>> for RawVal {
 impl WriteAs<i64> for RawVal {
     ghost written = { λ raw value. with_low raw (cast_unsigned w64 value) };
 
-    ghost reads_as = { λ raw value. ⟦<RawVal as ReadAs<i64>>⟧.read raw ≡ value };
-
     fn write_as(&mut self, value: i64) {
         self.write_as(value.cast_unsigned());
     }
@@ -91,8 +74,6 @@ impl WriteAs<i64> for RawVal {
 
 impl WriteAs<NonZero<i64>> for RawVal {
     ghost written = { λ raw value. with_low raw (cast_unsigned w64 (non_zero_i64_get value)) };
-
-    ghost reads_as = { λ raw value. ⟦<RawVal as ReadAs<i64>>⟧.read raw ≡ non_zero_i64_get value };
 
     fn write_as(&mut self, value: NonZero<i64>) {
         self.write_as(value.get());
@@ -102,8 +83,6 @@ impl WriteAs<NonZero<i64>> for RawVal {
 impl WriteAs<u8> for RawVal {
     ghost written = { with_low };
 
-    ghost reads_as = { λ raw value. ⟦<RawVal as ReadAs<u8>>⟧.read raw ≡ value };
-
     fn write_as(&mut self, value: u8) {
         self.lo = u64::from(value);
     }
@@ -111,8 +90,6 @@ impl WriteAs<u8> for RawVal {
 
 impl WriteAs<NonZero<u8>> for RawVal {
     ghost written = { λ raw value. with_low raw (non_zero_u8_get value) };
-
-    ghost reads_as = { λ raw value. ⟦<RawVal as ReadAs<u8>>⟧.read raw ≡ non_zero_u8_get value };
 
     fn write_as(&mut self, value: NonZero<u8>) {
         self.write_as(value.get());
@@ -122,8 +99,6 @@ impl WriteAs<NonZero<u8>> for RawVal {
 impl WriteAs<u16> for RawVal {
     ghost written = { with_low };
 
-    ghost reads_as = { λ raw value. ⟦<RawVal as ReadAs<u16>>⟧.read raw ≡ value };
-
     fn write_as(&mut self, value: u16) {
         self.lo = u64::from(value);
     }
@@ -131,8 +106,6 @@ impl WriteAs<u16> for RawVal {
 
 impl WriteAs<NonZero<u16>> for RawVal {
     ghost written = { λ raw value. with_low raw (non_zero_u16_get value) };
-
-    ghost reads_as = { λ raw value. ⟦<RawVal as ReadAs<u16>>⟧.read raw ≡ non_zero_u16_get value };
 
     fn write_as(&mut self, value: NonZero<u16>) {
         self.write_as(value.get());
@@ -142,8 +115,6 @@ impl WriteAs<NonZero<u16>> for RawVal {
 impl WriteAs<u32> for RawVal {
     ghost written = { with_low };
 
-    ghost reads_as = { λ raw value. ⟦<RawVal as ReadAs<u32>>⟧.read raw ≡ value };
-
     fn write_as(&mut self, value: u32) {
         self.lo = u64::from(value);
     }
@@ -151,8 +122,6 @@ impl WriteAs<u32> for RawVal {
 
 impl WriteAs<NonZero<u32>> for RawVal {
     ghost written = { λ raw value. with_low raw (non_zero_u32_get value) };
-
-    ghost reads_as = { λ raw value. ⟦<RawVal as ReadAs<u32>>⟧.read raw ≡ non_zero_u32_get value };
 
     fn write_as(&mut self, value: NonZero<u32>) {
         self.write_as(value.get());
@@ -162,8 +131,6 @@ impl WriteAs<NonZero<u32>> for RawVal {
 impl WriteAs<u64> for RawVal {
     ghost written = { with_low };
 
-    ghost reads_as = { λ raw value. ⟦<RawVal as ReadAs<u64>>⟧.read raw ≡ value };
-
     fn write_as(&mut self, value: u64) {
         self.lo = value;
     }
@@ -171,8 +138,6 @@ impl WriteAs<u64> for RawVal {
 
 impl WriteAs<NonZero<u64>> for RawVal {
     ghost written = { λ raw value. with_low raw (non_zero_u64_get value) };
-
-    ghost reads_as = { λ raw value. ⟦<RawVal as ReadAs<u64>>⟧.read raw ≡ non_zero_u64_get value };
 
     fn write_as(&mut self, value: NonZero<u64>) {
         self.write_as(value.get());
@@ -182,8 +147,6 @@ impl WriteAs<NonZero<u64>> for RawVal {
 impl WriteAs<bool> for RawVal {
     ghost written = { λ raw value. with_low raw (from_bool value) };
 
-    ghost reads_as = { λ raw value. ⟦<RawVal as ReadAs<bool>>⟧.read raw ≡ value };
-
     fn write_as(&mut self, value: bool) {
         self.lo = u64::from(value);
     }
@@ -191,8 +154,6 @@ impl WriteAs<bool> for RawVal {
 
 impl WriteAs<V128> for RawVal {
     ghost written = { λ _ value. raw_of_vector value };
-
-    ghost reads_as = { λ raw value. ⟦<RawVal as ReadAs<V128>>⟧.read raw ≡ value };
 
     fn write_as(&mut self, value: V128) {
         *self = RawVal::from(value);

@@ -2,28 +2,29 @@
 //!
 //! Upstream: the module `value`, private there. Core specification: integer operations, under numerics.
 
-ghost use Rattle.std.specs.Prelude.{◌≡◌, ℕ, ℤ};
-ghost use Rattle.std.specs.Int.{Width, w8, w16, w32, w64, int_wrap};
-ghost use Rattle.wasmi_scalar.specs.Numerics.{Answers, idiv_s, idiv_u, irem_s, irem_u, ishl, ishr_s, ishr_u, irotl, irotr, iclz, ictz, ipopcnt, ieqz, iwrap};
+ghost use Rattle.std.specs.Prelude.{◌≡◌, ℕ};
+ghost use Rattle.std.specs.Int.{int_wrap};
+ghost use Rattle.wasmi_scalar.specs.Numerics.{Answers, idiv_s, idiv_u, irem_s, irem_u, ishl, ishr_s, ishr_u, irotl, irotr, iclz, ictz, ipopcnt, ieqz};
 
 use wasmi_access::access::WrapInto;
+use wasmi_raw::Number;
 use wasmi_types::TrapCode;
 
-/// A conversion to the same type that keeps the low bits, as many as `T` has, and reads them signed.
+/// A conversion to the same type that keeps the low bits, as many as `T` has, and reads them
+/// signed.
 ///
 /// Upstream: `SignExtendFrom`, private there.
-pub trait SignExtendFrom<T> {
-    ghost sign_extended: { Self → Self };
-
+pub trait SignExtendFrom<T: Number>: Number {
     /// The low bits of `self`, extended by their sign.
     fn sign_extend_from(self) -> Self
-        ensures { result ≡ sign_extended self };
+        ensures { result ≡ Self.of_number (int_wrap T.width (Self.number self)) };
 }
 
 /// An integer type with an unsigned type of the same width.
 ///
 /// Upstream: `Unsigned`, private there.
 pub trait Unsigned {
+    /// The unsigned type.
     type Uint;
 }
 
@@ -38,55 +39,51 @@ impl Unsigned for i64 {
 /// An integer type of WebAssembly.
 ///
 /// Upstream: `Integer`, private there. The amount of a shift or a rotation is taken modulo the width.
-pub trait Integer: Unsigned {
-    ghost width: { Width };
-
-    // The number that a value stands for.
-    ghost number: { Self → ℤ };
-
+pub trait Integer: Unsigned + Number {
+    /// The number of a value of the unsigned type.
     ghost unsigned_number: { Self.Uint → ℕ };
 
     /// Whether the number is 0.
     fn is_zero(self) -> bool
-        ensures { result ≡ ieqz (number self) };
+        ensures { result ≡ ieqz (Self.number self) };
 
     /// The zeros above the highest bit that is set, the width for 0.
     fn leading_zeros(self) -> Self
-        ensures { number result ≡ iclz width (number self) };
+        ensures { Self.number result ≡ iclz Self.width (Self.number self) };
 
     /// The zeros below the lowest bit that is set, the width for 0.
     fn trailing_zeros(self) -> Self
-        ensures { number result ≡ ictz width (number self) };
+        ensures { Self.number result ≡ ictz Self.width (Self.number self) };
 
     /// The bits that are set.
     fn count_ones(self) -> Self
-        ensures { number result ≡ ipopcnt width (number self) };
+        ensures { Self.number result ≡ ipopcnt Self.width (Self.number self) };
 
     /// Shifts to the left.
     fn shl(lhs: Self, rhs: Self) -> Self
-        ensures { number result ≡ ishl width (number lhs) (number rhs) };
+        ensures { Self.number result ≡ ishl Self.width (Self.number lhs) (Self.number rhs) };
 
     /// Shifts to the right, filling with the highest bit.
     fn shr_s(lhs: Self, rhs: Self) -> Self
-        ensures { number result ≡ ishr_s width (number lhs) (number rhs) };
+        ensures { Self.number result ≡ ishr_s Self.width (Self.number lhs) (Self.number rhs) };
 
     /// Shifts to the right, filling with zeros.
     fn shr_u(lhs: Self::Uint, rhs: Self::Uint) -> Self::Uint
-        ensures { unsigned_number result ≡ ishr_u width (unsigned_number lhs) (unsigned_number rhs) };
+        ensures { unsigned_number result ≡ ishr_u Self.width (unsigned_number lhs) (unsigned_number rhs) };
 
     /// Rotates to the left.
     fn rotl(lhs: Self, rhs: Self) -> Self
-        ensures { number result ≡ irotl width (number lhs) (number rhs) };
+        ensures { Self.number result ≡ irotl Self.width (Self.number lhs) (Self.number rhs) };
 
     /// Rotates to the right.
     fn rotr(lhs: Self, rhs: Self) -> Self
-        ensures { number result ≡ irotr width (number lhs) (number rhs) };
+        ensures { Self.number result ≡ irotr Self.width (Self.number lhs) (Self.number rhs) };
 
     /// The quotient towards zero.
     ///
     /// `IntegerDivisionByZero` for a divisor of 0, then `IntegerOverflow` for the least number by -1.
     fn div_s(lhs: Self, rhs: Self) -> Result<Self, TrapCode>
-        ensures { Answers number result (idiv_s width (number lhs) (number rhs)) };
+        ensures { Answers Self.number result (idiv_s Self.width (Self.number lhs) (Self.number rhs)) };
 
     /// The quotient.
     ///
@@ -98,7 +95,7 @@ pub trait Integer: Unsigned {
     ///
     /// `IntegerDivisionByZero` for a divisor of 0.
     fn rem_s(lhs: Self, rhs: Self) -> Result<Self, TrapCode>
-        ensures { Answers number result (irem_s (number lhs) (number rhs)) };
+        ensures { Answers Self.number result (irem_s (Self.number lhs) (Self.number rhs)) };
 
     /// The remainder.
     ///
@@ -108,10 +105,6 @@ pub trait Integer: Unsigned {
 }
 
 impl Integer for i32 {
-    ghost width = { w32 };
-
-    ghost number = { λ z. z };
-
     ghost unsigned_number = { λ n. n };
 
     #[inline]
@@ -187,10 +180,6 @@ impl Integer for i32 {
 }
 
 impl Integer for i64 {
-    ghost width = { w64 };
-
-    ghost number = { λ z. z };
-
     ghost unsigned_number = { λ n. n };
 
     #[inline]
@@ -266,8 +255,6 @@ impl Integer for i64 {
 }
 
 impl SignExtendFrom<i8> for i32 {
-    ghost sign_extended = { iwrap w8 };
-
     #[inline]
     fn sign_extend_from(self) -> i32 {
         let low: i8 = self.wrap_into();
@@ -276,8 +263,6 @@ impl SignExtendFrom<i8> for i32 {
 }
 
 impl SignExtendFrom<i16> for i32 {
-    ghost sign_extended = { iwrap w16 };
-
     #[inline]
     fn sign_extend_from(self) -> i32 {
         let low: i16 = self.wrap_into();
@@ -286,8 +271,6 @@ impl SignExtendFrom<i16> for i32 {
 }
 
 impl SignExtendFrom<i8> for i64 {
-    ghost sign_extended = { iwrap w8 };
-
     #[inline]
     fn sign_extend_from(self) -> i64 {
         let low: i8 = self.wrap_into();
@@ -296,8 +279,6 @@ impl SignExtendFrom<i8> for i64 {
 }
 
 impl SignExtendFrom<i16> for i64 {
-    ghost sign_extended = { iwrap w16 };
-
     #[inline]
     fn sign_extend_from(self) -> i64 {
         let low: i16 = self.wrap_into();
@@ -306,8 +287,6 @@ impl SignExtendFrom<i16> for i64 {
 }
 
 impl SignExtendFrom<i32> for i64 {
-    ghost sign_extended = { iwrap w32 };
-
     #[inline]
     fn sign_extend_from(self) -> i64 {
         let low: i32 = self.wrap_into();

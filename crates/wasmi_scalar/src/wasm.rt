@@ -5,21 +5,14 @@
 //! `i64_mul_wide_u`: the wide-arithmetic proposal. Upstream: `wasmi_core::wasm`.
 
 ghost use Rattle.std.specs.Prelude.{◌≡◌, ◌*◌, ◌*ℤ◌};
-ghost use Rattle.std.specs.Int.{w8, w16, w32, w64, cast_unsigned};
-ghost use Rattle.wasmi_scalar.specs.Numerics.{iadd, isub, imul, idiv_s, idiv_u, irem_s, irem_u, iand, ior, ixor, ishl, ishr_s, ishr_u, irotl, irotr, iclz, ictz, ipopcnt, ieqz, ieq, ine, ilt_s, ilt_u, igt_s, igt_u, ile_s, ile_u, ige_s, ige_u, iwrap};
+ghost use Rattle.std.specs.Int.{w8, w16, w32, w64, cast_unsigned, int_wrap};
+ghost use Rattle.wasmi_scalar.specs.Numerics.{iadd, isub, imul, idiv_s, idiv_u, irem_s, irem_u, iand, ior, ixor, ishl, ishr_s, ishr_u, irotl, irotr, iclz, ictz, ipopcnt, ieqz, ieq, ine, ilt_s, ilt_u, igt_s, igt_u, ile_s, ile_u, ige_s, ige_u};
 ghost use Rattle.wasmi_scalar.specs.Wide.{unsigned_of, signed_of, add128, sub128};
 
 use crate::value::{Integer, SignExtendFrom};
 use wasmi_access::access::{ExtendInto, WrapInto};
-pub use wasmi_access::wasm::{
-    i32_load8_s, i32_load8_s_at, i32_load8_u, i32_load8_u_at, i32_load16_s, i32_load16_s_at,
-    i32_load16_u, i32_load16_u_at, i32_store8, i32_store8_at, i32_store16, i32_store16_at,
-    i64_load8_s, i64_load8_s_at, i64_load8_u, i64_load8_u_at, i64_load16_s, i64_load16_s_at,
-    i64_load16_u, i64_load16_u_at, i64_load32_s, i64_load32_s_at, i64_load32_u, i64_load32_u_at,
-    i64_store8, i64_store8_at, i64_store16, i64_store16_at, i64_store32, i64_store32_at, load_u32,
-    load_u32_at, load_u64, load_u64_at, store32, store32_at, store64, store64_at,
-};
 use wasmi_types::TrapCode;
+
 /// The sum modulo 2 to the power 32.
 #[inline]
 pub fn i32_add(lhs: i32, rhs: i32) -> i32
@@ -511,7 +504,7 @@ pub fn i64_ge_u(lhs: u64, rhs: u64) -> bool
 /// The low 32 bits.
 #[inline]
 pub fn i32_wrap_i64(value: i64) -> i32
-    ensures { result ≡ iwrap w32 value }
+    ensures { result ≡ int_wrap w32 value }
 {
     value.wrap_into()
 }
@@ -535,7 +528,7 @@ pub fn i64_extend_i32_u(value: u32) -> u64
 /// The low 8 bits, extended by their sign.
 #[inline]
 pub fn i32_extend8_s(value: i32) -> i32
-    ensures { result ≡ iwrap w8 value }
+    ensures { result ≡ int_wrap w8 value }
 {
     <i32 as SignExtendFrom<i8>>::sign_extend_from(value)
 }
@@ -543,7 +536,7 @@ pub fn i32_extend8_s(value: i32) -> i32
 /// The low 16 bits, extended by their sign.
 #[inline]
 pub fn i32_extend16_s(value: i32) -> i32
-    ensures { result ≡ iwrap w16 value }
+    ensures { result ≡ int_wrap w16 value }
 {
     <i32 as SignExtendFrom<i16>>::sign_extend_from(value)
 }
@@ -551,7 +544,7 @@ pub fn i32_extend16_s(value: i32) -> i32
 /// The low 8 bits, extended by their sign.
 #[inline]
 pub fn i64_extend8_s(value: i64) -> i64
-    ensures { result ≡ iwrap w8 value }
+    ensures { result ≡ int_wrap w8 value }
 {
     <i64 as SignExtendFrom<i8>>::sign_extend_from(value)
 }
@@ -559,7 +552,7 @@ pub fn i64_extend8_s(value: i64) -> i64
 /// The low 16 bits, extended by their sign.
 #[inline]
 pub fn i64_extend16_s(value: i64) -> i64
-    ensures { result ≡ iwrap w16 value }
+    ensures { result ≡ int_wrap w16 value }
 {
     <i64 as SignExtendFrom<i16>>::sign_extend_from(value)
 }
@@ -567,7 +560,7 @@ pub fn i64_extend16_s(value: i64) -> i64
 /// The low 32 bits, extended by their sign.
 #[inline]
 pub fn i64_extend32_s(value: i64) -> i64
-    ensures { result ≡ iwrap w32 value }
+    ensures { result ≡ int_wrap w32 value }
 {
     <i64 as SignExtendFrom<i32>>::sign_extend_from(value)
 }

@@ -1,24 +1,26 @@
 -- What the words of a header line mean, and what the header lines ask for.
-use Rattle.std.specs.Prelude.{◌≡◌, ℕ, List, Some, None, length, codes}
+use Rattle.std.specs.Prelude.{◌≡◌, Some, None, length, codes}
 use Rattle.std.specs.Option.{option_map_or}
-use Rattle.std.specs.Borrow.{Bor}
 use Rattle.wasmi_meter.specs.Costs.{default_costs}
 use Rattle.wasmi_meter.specs.Meter.{Meter}
 use Rattle.wasmi_script.specs.declared.script.header.Header.{Header}
 use Rattle.wasmi_script.specs.declared.script.header.MeterLine.{MeterLine}
-use Rattle.wasmi_script.specs.declared.script.header.QuotaLine.{QuotaLine}
 use Rattle.wasmi_script.specs.declared.script.header.MeterLine.TheVariants.{Off, On}
-use Rattle.wasmi_script.specs.Commands.{word_at}
-use Rattle.wasmi_script.specs.Numbers.{Writes}
+use Rattle.wasmi_script.specs.declared.script.header.LimiterLine.{LimiterLine}
+use Rattle.wasmi_script.specs.declared.script.header.LimiterLine.TheVariants.{Quota}
+use Rattle.wasmi_script.specs.Words.{Words, word_at}
+use Rattle.wasmi_script.specs.Numbers.{WritesNumber}
 
--- the words after `meter` say this
-abbrev pub NamesMeter : List (Bor (List ℕ)) → MeterLine → Type 0
-NamesMeter words Off = (length words ≡ 1) × (word_at words 0 ≡ codes "off")
-NamesMeter words (On bytes_per_fuel) = (length words ≡ 2) × (word_at words 0 ≡ codes "on") × Writes (word_at words 1) bytes_per_fuel
+-- the words of a line name this meter line
+abbrev pub NamesMeter : Words → MeterLine → Type 0
+NamesMeter words Off = (length words ≡ 2) × (word_at words 0 ≡ codes "meter") × (word_at words 1 ≡ codes "off")
+NamesMeter words (On bytes_per_fuel) = (length words ≡ 3) × (word_at words 0 ≡ codes "meter") × (word_at words 1 ≡ codes "on")
+    × WritesNumber 32 (word_at words 2) bytes_per_fuel
 
--- the words after `quota` say this
-abbrev pub NamesQuota : List (Bor (List ℕ)) → QuotaLine → Type 0
-NamesQuota words line = (length words ≡ 2) × Writes (word_at words 0) line.bytes × Writes (word_at words 1) line.elements
+-- the words of a line name this limiter line
+abbrev pub NamesLimiter : Words → LimiterLine → Type 0
+NamesLimiter words (Quota line) = (length words ≡ 3) × (word_at words 0 ≡ codes "quota")
+    × WritesNumber 64 (word_at words 1) line.bytes × WritesNumber 64 (word_at words 2) line.elements
 
 -- a meter that is off
 abbrev pub meter_off : Meter

@@ -1,7 +1,12 @@
+pub mod Words
+pub mod Numbers
+pub mod Acceptance
+pub mod AccessNames
+pub mod MemoryWords
 pub mod Commands
 pub mod Headers
 pub mod Lines
-pub mod Numbers
 pub mod Printing
 pub mod Replays
 pub mod Status
+pub mod Texts

@@ -1,48 +1,46 @@
 -- What the lines of a script add to it.
-use Rattle.std.specs.Prelude.{◌≡◌, ℕ, ◌⊎◌, List, [], ◌∷◌, ◌++◌, None, IsSomeAnd, codes, drop, filter, length, nat_lt, ◌==◌, map}
+use Rattle.std.specs.Prelude.{◌≡◌, ℕ, ◌⊎◌, List, [], ◌∷◌, ◌++◌, None, IsSomeAnd, filter, length, nat_lt, ◌==◌, map}
 use Rattle.std.specs.List.{slice_split}
-use Rattle.std.specs.Borrow.{Bor}
 use Rattle.wasmi_core.specs.declared.calls.Call.{Call}
 use Rattle.wasmi_script.specs.declared.script.Script.{Script}
-use Rattle.wasmi_script.specs.Commands.{word_at, Names}
-use Rattle.wasmi_script.specs.Headers.{NamesMeter, NamesQuota}
+use Rattle.wasmi_script.specs.Words.{Words}
+use Rattle.wasmi_script.specs.Commands.{Names}
+use Rattle.wasmi_script.specs.Headers.{NamesMeter, NamesLimiter}
 
 -- the words of a line: what stands between its spaces
 unfoldable pub words_in : List ℕ → List (List ℕ)
 words_in line = filter (λ word. nat_lt 0 (length word)) (slice_split (λ byte. byte == 32) line)
 
 -- a `meter` line, the first one and before all commands
-pub record AddsMeter (old : Script) (words : List (Bor (List ℕ))) (new : Script) : Type 0 where
-  pub name : word_at words 0 ≡ codes "meter"
+pub record AddsMeter (old : Script) (words : Words) (new : Script) : Type 0 where
   pub before_commands : old.calls.items ≡ []
   pub first : old.header.meter ≡ None
-  pub meter : IsSomeAnd new.header.meter (NamesMeter (drop 1 words))
-  pub quota : new.header.quota ≡ old.header.quota
+  pub meter : IsSomeAnd new.header.meter (NamesMeter words)
+  pub limiter : new.header.limiter ≡ old.header.limiter
   pub calls : new.calls.items ≡ old.calls.items
 
--- a `quota` line, the first one and before all commands
-pub record AddsQuota (old : Script) (words : List (Bor (List ℕ))) (new : Script) : Type 0 where
-  pub name : word_at words 0 ≡ codes "quota"
+-- a limiter line, the first one of any kind and before all commands
+pub record AddsLimiter (old : Script) (words : Words) (new : Script) : Type 0 where
   pub before_commands : old.calls.items ≡ []
-  pub first : old.header.quota ≡ None
-  pub quota : IsSomeAnd new.header.quota (NamesQuota (drop 1 words))
+  pub first : old.header.limiter ≡ None
+  pub limiter : IsSomeAnd new.header.limiter (NamesLimiter words)
   pub meter : new.header.meter ≡ old.header.meter
   pub calls : new.calls.items ≡ old.calls.items
 
 -- a command, whose call comes after those of the lines before
-pub record AddsCall (old : Script) (words : List (Bor (List ℕ))) (new : Script) : Type 0 where
+pub record AddsCall (old : Script) (words : Words) (new : Script) : Type 0 where
   pub call : Call
   pub named : Names words call
   pub calls : new.calls.items ≡ old.calls.items ++ call ∷ []
   pub header : new.header ≡ old.header
 
 -- a line without words adds nothing
-abbrev pub AddsLine : Script → List (Bor (List ℕ)) → Script → Type 0
-AddsLine old words new = ((words ≡ []) × (new ≡ old)) ⊎ AddsMeter old words new ⊎ AddsQuota old words new ⊎ AddsCall old words new
+abbrev pub AddsLine : Script → Words → Script → Type 0
+AddsLine old words new = ((words ≡ []) × (new ≡ old)) ⊎ AddsMeter old words new ⊎ AddsLimiter old words new ⊎ AddsCall old words new
 
 -- a line of a script, by its words
 abbrev pub TakesLine : Script → List ℕ → Script → Type 0
-TakesLine old line new = (words : List (Bor (List ℕ))) × (map (λ word. word.now) words ≡ words_in line) × AddsLine old words new
+TakesLine old line new = (words : Words) × (map (λ word. word.now) words ≡ words_in line) × AddsLine old words new
 
 -- lines taken one after the other
 abbrev pub TakesLines : List (List ℕ) → Script → Script → Type 0
@@ -56,6 +54,6 @@ lines_in text = slice_split (λ byte. byte == 10) text
 -- the script that a text writes: what its lines add to an empty one
 pub record WritesScript (text : List ℕ) (script : Script) : Type 0 where
   pub empty : Script
-  pub no_header : empty.header ≡ record { meter = None; quota = None }
+  pub no_header : empty.header ≡ record { meter = None; limiter = None }
   pub no_calls : empty.calls.items ≡ []
   pub lines : TakesLines (lines_in text) empty script

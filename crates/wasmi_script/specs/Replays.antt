@@ -10,6 +10,8 @@ use Rattle.wasmi_core.specs.State.{State, new_state}
 use Rattle.wasmi_core.specs.World.{World}
 use Rattle.wasmi_core.specs.Runs.{IsRunOf}
 use Rattle.wasmi_script.specs.declared.script.Script.{Script}
+use Rattle.wasmi_script.specs.declared.script.header.LimiterLine.{LimiterLine}
+use Rattle.wasmi_script.specs.declared.script.header.LimiterLine.TheVariants as Lines
 use Rattle.wasmi_script.specs.declared.script.header.QuotaLine.{QuotaLine}
 use Rattle.wasmi_script.specs.declared.replaying.Held.{Held}
 use Rattle.wasmi_script.specs.declared.replaying.Ran.{Ran}
@@ -25,14 +27,14 @@ pub record IsNewQuota (line : QuotaLine) (quota : Quota) : Type 0 where
 abbrev pub printed_holdings : Quota → Held
 printed_holdings quota = record { bytes = (holdings quota).bytes; elements = (holdings quota).elements }
 
--- the replies are those of a run of the calls from a machine, without a limiter or under the quota that a line asks for, and what is held is what that quota then holds
-abbrev pub IsReplayUnder : Option QuotaLine → State → List Call → Ran → Type 0
+-- the replies are those of a run of the calls from a machine, without a limiter or under the one that a line asks for, and what is held is what a quota then holds
+abbrev pub IsReplayUnder : Option LimiterLine → State → List Call → Ran → Type 0
 IsReplayUnder None start calls ran = (ran.held ≡ None) × (after : World (Option NoLimits))
     × IsRunOf (optional_rules unlimited_rules) calls (record { state = start; limiter = None }) ran.replies.items after
-IsReplayUnder (Some line) start calls ran = (quota : Quota) × IsNewQuota line quota × (end : State) × (after : Quota)
+IsReplayUnder (Some (Lines.Quota line)) start calls ran = (quota : Quota) × IsNewQuota line quota × (end : State) × (after : Quota)
     × IsRunOf (optional_rules quota_rules) calls (record { state = start; limiter = Some quota }) ran.replies.items (record { state = end; limiter = Some after })
     × (ran.held ≡ Some (printed_holdings after))
 
 -- the replies are those of a run of the script's calls on a new machine with its meter
 abbrev pub IsReplayOf : Script → Ran → Type 0
-IsReplayOf script ran = IsReplayUnder script.header.quota (new_state (meter_of script.header)) script.calls.items ran
+IsReplayOf script ran = IsReplayUnder script.header.limiter (new_state (meter_of script.header)) script.calls.items ran

@@ -7,11 +7,11 @@ use Rattle.wasmi_script.specs.declared.replaying.Status.{Status}
 use Rattle.wasmi_script.specs.declared.replaying.Status.TheVariants.{Answered, BadScript, OutOfMemory, Fault}
 
 -- the number that a process ends with
-abbrev pub code_of : Status → ℕ
-code_of Answered = 0
-code_of BadScript = 2
-code_of OutOfMemory = 3
-code_of Fault = 4
+abbrev pub status_number : Status → ℕ
+status_number Answered = 0
+status_number BadScript = 2
+status_number OutOfMemory = 3
+status_number Fault = 4
 
 -- how a replay ends whose lines could be printed
 abbrev pub status_after : {A : Type 0} → Result A ReplayError → Status

@@ -3,23 +3,38 @@ ghost use Rattle.std.specs.Prelude.{◌≡◌};
 ghost use Rattle.wasmi_script.specs.declared.error.ReplayError.TheVariants.{OutOfMemory};
 
 use std::alloc::{AllocError, AllocFailed};
-use thiserror::Error;
+use std::fmt;
 
 /// Why a script isn't run. The text is what the program prints.
-#[derive(Clone, Copy, Debug, PartialEq, Eq, Error)]
+#[derive(Clone, Copy, Debug, PartialEq, Eq)]
 pub enum ReplayError {
     /// The first line that is no command, counted from 1.
-    #[error("line {line}: bad command")]
     BadCommand { line: usize },
     /// More bytes than a script may have.
-    #[error("script too long")]
     TooLong,
-    #[error("out of memory")]
+    /// There wasn't enough memory to read, to parse or for the replies.
     OutOfMemory,
     /// The reader answered an error.
-    #[error("read fault")]
     ReadFault,
 }
+
+impl fmt::Display for ReplayError {
+    ghost use Rattle.std.specs.Prelude.{Some};
+    ghost use Rattle.wasmi_script.specs.Texts.{error_text};
+
+    ghost output = { λ error. Some (error_text error) };
+
+    fn fmt<W: fmt::Write>(&self, f: &mut fmt::Formatter<W>) -> fmt::Result {
+        match self {
+            Self::BadCommand { line } => write!(f, "line {line}: bad command"),
+            Self::TooLong => f.write_str("script too long"),
+            Self::OutOfMemory => f.write_str("out of memory"),
+            Self::ReadFault => f.write_str("read fault"),
+        }
+    }
+}
+
+impl std::error::Error for ReplayError {}
 
 impl From<AllocError> for ReplayError {
     ghost from_gives = { λ _ error. error ≡ OutOfMemory };

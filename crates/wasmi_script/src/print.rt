@@ -1,7 +1,8 @@
 //! Printing without memory.
 ghost use Rattle.std.specs.Prelude.{◌≡◌, IsOk};
-ghost use Rattle.std.specs.Io.KnownBytes.{Appends};
+ghost use Rattle.std.specs.Io.KnownBytes.{Appends, Keeps};
 ghost use Rattle.wasmi_script.specs.Printing.{AppendsFront};
+ghost use Rattle.wasmi_script.specs.Texts.{kind_text};
 
 use std::{fmt, io};
 use wasmi_core::{Call, Reply};
@@ -15,12 +16,16 @@ pub struct Printer<'w, W> {
 
 impl<'w, W: io::Write> Printer<'w, W> {
     /// Text that goes to this writer.
-    pub fn new(writer: &'w mut W) -> Self {
+    pub fn new(writer: &'w mut W) -> Self
+        ensures { result.writer ≡ writer.entry }
+    {
         Printer { writer }
     }
 
     /// Flushes the writer.
-    pub fn flush(&mut self) -> fmt::Result {
+    pub fn flush(&mut self) -> fmt::Result
+        ensures { Keeps (W.contents self.old.writer.now) (W.contents self.new.writer.now) }
+    {
         self.writer.flush().map_err(|_| fmt::Error)
     }
 }
@@ -54,6 +59,11 @@ pub struct ReplyLine<'a> {
 }
 
 impl fmt::Display for ReplyLine<'_> {
+    ghost use Rattle.std.specs.Prelude.{Some};
+    ghost use Rattle.wasmi_script.specs.Texts.{reply_text};
+
+    ghost output = { λ line. Some (reply_text line.call.now line.reply.now) };
+
     fn fmt<W: fmt::Write>(&self, f: &mut fmt::Formatter<W>) -> fmt::Result {
         match self.reply {
             Reply::Done => write!(f, "done"),
@@ -64,11 +74,8 @@ impl fmt::Display for ReplyLine<'_> {
             Reply::Value(value) => write!(f, "raw {} {}", value.lo, value.hi),
             Reply::Number(number) => write!(f, "value {number}"),
             Reply::Bytes(bytes) => {
-                write!(f, "bytes")?;
-                for byte in bytes.as_slice() {
-                    write!(f, " {byte}")?;
-                }
-                Ok(())
+                let numbers = ByteNumbers(bytes.as_slice());
+                write!(f, "bytes{numbers}")
             }
             Reply::Memory(error) => write!(f, "error {error}"),
             Reply::Fuel(error) => write!(f, "error {error}"),
@@ -79,8 +86,28 @@ impl fmt::Display for ReplyLine<'_> {
     }
 }
 
-/// The word for what the call makes. Only creations make anything.
-fn kind_made(call: &Call) -> &'static str {
+/// Bytes as the program prints them: a space and a number for each.
+#[derive(Clone, Copy)]
+struct ByteNumbers<'a>(&'a [u8]);
+
+impl fmt::Display for ByteNumbers<'_> {
+    ghost use Rattle.std.specs.Prelude.{Some};
+    ghost use Rattle.wasmi_script.specs.Texts.{bytes_text};
+
+    ghost output = { λ numbers. Some (bytes_text numbers.0.now) };
+
+    fn fmt<W: fmt::Write>(&self, f: &mut fmt::Formatter<W>) -> fmt::Result {
+        for byte in self.0 {
+            write!(f, " {byte}")?;
+        }
+        Ok(())
+    }
+}
+
+/// The word for what the call makes. Only creations make anything, and `Made` answers no other call.
+fn kind_made(call: &Call) -> &'static str
+    ensures { result.now ≡ kind_text call.now }
+{
     match call {
         Call::NewMemory(_) => "memory",
         Call::SetFuel(_)

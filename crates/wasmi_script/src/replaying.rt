@@ -2,12 +2,12 @@
 ghost use Rattle.std.specs.Prelude.{◌≡◌, ◌≤◌, None, Some, length, IfOk, IfSome, OnOk};
 ghost use Rattle.wasmi_script.specs.Lines.{WritesScript};
 ghost use Rattle.wasmi_script.specs.Replays.{IsReplayOf, IsReplayUnder};
-ghost use Rattle.wasmi_script.specs.Status.{code_of, status_after};
+ghost use Rattle.wasmi_script.specs.Status.{status_number, status_after};
 
 use crate::error::ReplayError;
 use crate::print::{Printer, ReplyLine};
 use crate::reading::{LIMIT, read};
-use crate::script::{QuotaLine, Script, parse};
+use crate::script::{LimiterLine, QuotaLine, Script, parse};
 use std::alloc::{AllocError, Global};
 use std::fmt::Write;
 use std::{fmt, io};
@@ -29,7 +29,7 @@ pub enum Status {
 impl Status {
     /// The exit status of the program.
     pub fn code(self) -> u8
-        ensures { result ≡ code_of self }
+        ensures { result ≡ status_number self }
     {
         match self {
             Status::Answered => 0,
@@ -43,21 +43,27 @@ impl Status {
 /// A script and what its run answered.
 #[derive(Drop)]
 struct Replayed {
+    /// What was run.
     script: Script,
+    /// What it answered.
     ran: Ran,
 }
 
-/// A reply to each call, and what the quota holds afterwards, if there is one.
+/// What the run of a script's calls answered.
 #[derive(Drop)]
 struct Ran {
+    /// A reply to each call, in order.
     replies: Vec<Reply>,
+    /// What the quota holds afterwards, if there is one.
     held: Option<Held>,
 }
 
-/// What a quota holds: bytes and elements.
-#[derive(Clone, Copy, Debug, PartialEq, Eq)]
+/// What a quota holds.
+#[derive(Clone, Copy)]
 struct Held {
+    /// Bytes of memories.
     bytes: u64,
+    /// Elements of tables.
     elements: u64,
 }
 
@@ -85,14 +91,14 @@ fn answer<R: io::Read>(alloc: Global, reader: &mut R) -> Result<Replayed, Replay
     Ok(Replayed { script, ran })
 }
 
-/// Runs the script's calls on a new machine with its meter, under its quota or without a limiter.
+/// Runs the script's calls on a new machine with its meter, under its limiter line or without a limiter.
 fn run_script(alloc: Global, script: &Script) -> Result<Ran, AllocError>
     ensures { IfOk result (IsReplayOf script.now) }
 {
     let mut machine = Machine::new(alloc, script.header.fuel());
-    match script.header.quota {
+    match &script.header.limiter {
         None => run_freely(&mut machine, &script.calls),
-        Some(line) => run_under(&mut machine, &script.calls, line),
+        Some(LimiterLine::Quota(line)) => run_under_quota(&mut machine, &script.calls, *line),
     }
 }
 
@@ -109,8 +115,12 @@ fn run_freely(machine: &mut Machine, calls: &[Call]) -> Result<Ran, AllocError>
 }
 
 /// Runs the calls under the quota that a line asks for.
-fn run_under(machine: &mut Machine, calls: &[Call], line: QuotaLine) -> Result<Ran, AllocError>
-    ensures { IfOk result (IsReplayUnder (Some line) machine.old calls.now) }
+fn run_under_quota(
+    machine: &mut Machine,
+    calls: &[Call],
+    line: QuotaLine,
+) -> Result<Ran, AllocError>
+    ensures { IfOk result (IsReplayUnder (Some (LimiterLine.Quota line)) machine.old calls.now) }
 {
     let mut quota = Quota::new(line.bytes, line.elements);
     let replies = run_lending(machine, calls, &mut quota)?;

@@ -1,5 +1,5 @@
 //! The script's lines: header lines, and then commands.
-ghost use Rattle.std.specs.Prelude.{◌≡◌, [], ℕ, ◌+◌, ◌<◌, ◌≤◌, length, vec_len, IfOk, IfErr, OnOk};
+ghost use Rattle.std.specs.Prelude.{◌≡◌, [], ℕ, ◌+◌, ◌<◌, ◌≤◌, length, vec_len, IfOk, IfErr, OnOk, OnErr, ◌≢◌};
 ghost use Rattle.wasmi_script.specs.Lines.{WritesScript};
 
 mod command;
@@ -10,7 +10,7 @@ mod number;
 use crate::error::ReplayError;
 use command::command;
 use header::Header;
-pub use header::QuotaLine;
+pub use header::{LimiterLine, QuotaLine};
 use line::{LineError, words_of};
 use std::alloc::Global;
 use std::str;
@@ -28,19 +28,22 @@ pub struct Script {
 impl Script {
     ghost use Rattle.wasmi_script.specs.Lines.{AddsLine};
 
-    /// Takes in one line's words. Header lines stand before all commands, and a line without words is skipped.
+    /// Takes in one line's words. Header lines stand before all commands, at most one `meter` line and one limiter line, and
+    /// a line without words is skipped.
     fn take_line(&mut self, alloc: Global, words: &[&str]) -> Result<(), LineError>
-        ensures { OnOk result (AddsLine self.old words.now self.new) }
+        ensures ok { OnOk result (AddsLine self.old words.now self.new) }
+        ensures refused { IfErr result (λ error. error ≡ LineError.BadCommand → (new : Script)
+            → ¬ (AddsLine self.old words.now new)) }
     {
         match words {
             [] => Ok(()),
-            ["meter", rest @ ..] => {
+            ["meter", ..] => {
                 self.expect_no_commands()?;
-                self.header.take_meter(rest)
+                self.header.take_meter(words)
             }
-            ["quota", rest @ ..] => {
+            ["quota", ..] => {
                 self.expect_no_commands()?;
-                self.header.take_quota(rest)
+                self.header.take_limiter(words)
             }
             _ => {
                 self.calls.push(command(alloc, words)?)?;
@@ -51,7 +54,8 @@ impl Script {
 
     /// Header lines stand before all commands.
     fn expect_no_commands(&self) -> Result<(), LineError>
-        ensures { OnOk result (self.now.calls.items ≡ []) }
+        ensures ok { OnOk result (self.now.calls.items ≡ []) }
+        ensures err { OnErr result (self.now.calls.items ≢ []) }
     {
         if self.calls.is_empty() {
             Ok(())

@@ -139,7 +139,6 @@ impl Global {
     /// Errors, in this order: `ImmutableWrite`, `TypeMismatch`.
     pub fn set(&mut self, new_value: TypedRawVal) -> Result<(), GlobalError>
         ensures ok { OnOk result (self.new ≡ with_value self.old new_value.raw) }
-
         ensures immutable { IsErrOf result GlobalError.ImmutableWrite ↔ (self.old.ty.mutability ≡ Mutability.Const) }
         ensures mismatch { IsErrOf result GlobalError.TypeMismatch
             ↔ ((self.old.ty.mutability ≡ Mutability.Var) × (self.old.ty.content ≢ new_value.ty)) }
@@ -169,7 +168,9 @@ impl Global {
         &self.value
     }
 
-    /// The present value, to be written in place.
+    /// The present value, to be written in place, of a variable that is no constant.
+    ///
+    /// What is written has no type, so it is read as a value of the variable's type.
     pub fn get_raw_mut(&mut self) -> &mut RawVal
         requires { self.old.ty.mutability ≡ Mutability.Var }
         ensures* writes_back { sem 𝓛 (LendsValue self.entry result) }

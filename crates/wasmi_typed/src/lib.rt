@@ -1,5 +1,5 @@
-#![tactic(auto)]
 //! Raw values with their types, shift amounts, and global variables.
+#![tactic(auto)]
 
 mod global;
 mod shift_amount;

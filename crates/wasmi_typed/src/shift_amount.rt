@@ -1,9 +1,11 @@
 //! The amount of a shift: how many bits a number is shifted by.
 
-ghost use Rattle.std.specs.Prelude.{◌≡◌, ◌==◌, ℕ, ℤ, pos, if◌then◌else◌};
+ghost use Rattle.std.specs.Prelude.{◌≡◌, ◌==◌, if◌then◌else◌};
+ghost use mir.Val.{bits};
 ghost use Rattle.wasmi_typed.specs.ShiftAmount.{shift_amount};
 
 use std::marker::Model;
+use wasmi_raw::Number;
 
 /// By how many bits a number is shifted. Contracts see it as that number.
 ///
@@ -44,17 +46,14 @@ impl From<ShiftAmount> for u8 {
 /// Upstream: `wasmi_core::IntoShiftAmount`.
 pub trait IntoShiftAmount {
     /// The type in which the amount is given.
-    type ShiftSource: Copy;
+    type ShiftSource: Copy + Number;
 
-    // How many bits the number has, or a lane of the vector.
-    ghost WIDTH: { ℕ };
-
-    // The amount that is given.
-    ghost amount: { Self.ShiftSource → ℤ };
+    /// The type of the number, or of a lane of the vector.
+    type Lane: Number;
 
     /// The remainder of `source` by the number of bits, or `None` where that is 0 and nothing is shifted.
     fn into_shift_amount(source: Self::ShiftSource) -> Option<ShiftAmount>
-        ensures { result ≡ shift_amount WIDTH (amount source) };
+        ensures { result ≡ shift_amount (bits Self.Lane.width) (Self.ShiftSource.number source) };
 }
 
 fn unless_zero(bits: u8) -> Option<ShiftAmount>
@@ -70,9 +69,7 @@ fn unless_zero(bits: u8) -> Option<ShiftAmount>
 impl IntoShiftAmount for i8 {
     type ShiftSource = i8;
 
-    ghost WIDTH = { 8 };
-
-    ghost amount = { λ source. source };
+    type Lane = i8;
 
     fn into_shift_amount(source: i8) -> Option<ShiftAmount> {
         unless_zero(source.rem_euclid(8) as u8)
@@ -82,9 +79,7 @@ impl IntoShiftAmount for i8 {
 impl IntoShiftAmount for u8 {
     type ShiftSource = u8;
 
-    ghost WIDTH = { 8 };
-
-    ghost amount = { pos };
+    type Lane = u8;
 
     fn into_shift_amount(source: u8) -> Option<ShiftAmount> {
         unless_zero(source % 8)
@@ -94,9 +89,7 @@ impl IntoShiftAmount for u8 {
 impl IntoShiftAmount for i16 {
     type ShiftSource = i16;
 
-    ghost WIDTH = { 16 };
-
-    ghost amount = { λ source. source };
+    type Lane = i16;
 
     fn into_shift_amount(source: i16) -> Option<ShiftAmount> {
         unless_zero(source.rem_euclid(16) as u8)
@@ -106,9 +99,7 @@ impl IntoShiftAmount for i16 {
 impl IntoShiftAmount for u16 {
     type ShiftSource = u16;
 
-    ghost WIDTH = { 16 };
-
-    ghost amount = { pos };
+    type Lane = u16;
 
     fn into_shift_amount(source: u16) -> Option<ShiftAmount> {
         unless_zero((source % 16) as u8)
@@ -118,9 +109,7 @@ impl IntoShiftAmount for u16 {
 impl IntoShiftAmount for i32 {
     type ShiftSource = i32;
 
-    ghost WIDTH = { 32 };
-
-    ghost amount = { λ source. source };
+    type Lane = i32;
 
     fn into_shift_amount(source: i32) -> Option<ShiftAmount> {
         unless_zero(source.rem_euclid(32) as u8)
@@ -130,9 +119,7 @@ impl IntoShiftAmount for i32 {
 impl IntoShiftAmount for u32 {
     type ShiftSource = u32;
 
-    ghost WIDTH = { 32 };
-
-    ghost amount = { pos };
+    type Lane = u32;
 
     fn into_shift_amount(source: u32) -> Option<ShiftAmount> {
         unless_zero((source % 32) as u8)
@@ -142,9 +129,7 @@ impl IntoShiftAmount for u32 {
 impl IntoShiftAmount for i64 {
     type ShiftSource = i64;
 
-    ghost WIDTH = { 64 };
-
-    ghost amount = { λ source. source };
+    type Lane = i64;
 
     fn into_shift_amount(source: i64) -> Option<ShiftAmount> {
         unless_zero(source.rem_euclid(64) as u8)
@@ -154,9 +139,7 @@ impl IntoShiftAmount for i64 {
 impl IntoShiftAmount for u64 {
     type ShiftSource = u64;
 
-    ghost WIDTH = { 64 };
-
-    ghost amount = { pos };
+    type Lane = u64;
 
     fn into_shift_amount(source: u64) -> Option<ShiftAmount> {
         unless_zero((source % 64) as u8)
@@ -166,9 +149,7 @@ impl IntoShiftAmount for u64 {
 impl IntoShiftAmount for i128 {
     type ShiftSource = i128;
 
-    ghost WIDTH = { 128 };
-
-    ghost amount = { λ source. source };
+    type Lane = i128;
 
     fn into_shift_amount(source: i128) -> Option<ShiftAmount> {
         unless_zero(source.rem_euclid(128) as u8)
@@ -178,9 +159,7 @@ impl IntoShiftAmount for i128 {
 impl IntoShiftAmount for u128 {
     type ShiftSource = u128;
 
-    ghost WIDTH = { 128 };
-
-    ghost amount = { pos };
+    type Lane = u128;
 
     fn into_shift_amount(source: u128) -> Option<ShiftAmount> {
         unless_zero((source % 128) as u8)
@@ -190,9 +169,7 @@ impl IntoShiftAmount for u128 {
 impl IntoShiftAmount for [u8; 16] {
     type ShiftSource = u32;
 
-    ghost WIDTH = { 8 };
-
-    ghost amount = { pos };
+    type Lane = u8;
 
     fn into_shift_amount(source: u32) -> Option<ShiftAmount> {
         unless_zero((source % 8) as u8)
@@ -202,9 +179,7 @@ impl IntoShiftAmount for [u8; 16] {
 impl IntoShiftAmount for [u16; 8] {
     type ShiftSource = u32;
 
-    ghost WIDTH = { 16 };
-
-    ghost amount = { pos };
+    type Lane = u16;
 
     fn into_shift_amount(source: u32) -> Option<ShiftAmount> {
         unless_zero((source % 16) as u8)
@@ -214,9 +189,7 @@ impl IntoShiftAmount for [u16; 8] {
 impl IntoShiftAmount for [u32; 4] {
     type ShiftSource = u32;
 
-    ghost WIDTH = { 32 };
-
-    ghost amount = { pos };
+    type Lane = u32;
 
     fn into_shift_amount(source: u32) -> Option<ShiftAmount> {
         unless_zero((source % 32) as u8)
@@ -226,9 +199,7 @@ impl IntoShiftAmount for [u32; 4] {
 impl IntoShiftAmount for [u64; 2] {
     type ShiftSource = u32;
 
-    ghost WIDTH = { 64 };
-
-    ghost amount = { pos };
+    type Lane = u64;
 
     fn into_shift_amount(source: u32) -> Option<ShiftAmount> {
         unless_zero((source % 64) as u8)

@@ -135,7 +135,7 @@ pub struct TypedRawVal {
 }
 
 impl TypedRawVal {
-    /// The raw value with a type. Any raw value can be read as one of any type.
+    /// The raw value with a type. None is refused: every raw value has a reading at every type.
     pub fn new(ty: ValType, raw: RawVal) -> TypedRawVal
         ensures { result ≡ record { ty = ty; raw = raw } }
     {

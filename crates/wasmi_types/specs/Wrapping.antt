@@ -1,6 +1,6 @@
 -- Numbers cut to a width of w bits.
 use Rattle.std.specs.Prelude.{ℕ, ◌^◌, ℤ, pos, unsigned_abs}
-use Rattle.std.specs.Int.{int_rem_euclid, int_max, int_min}
+use Rattle.std.specs.Int.{int_rem_euclid}
 pub use mir.Val.{bits}
 -- the widths of 8 to 64 bits; a number below 2 ^ w, less 2 ^ w where it is 2 ^ (w - 1) or more; the nearest number of a signed or unsigned width
 pub use Rattle.std.specs.Int.{Width, w8, w16, w32, w64, cast_signed as signed, saturate_signed as clamp_signed, saturate_unsigned as clamp_unsigned}
@@ -8,7 +8,3 @@ pub use Rattle.std.specs.Int.{Width, w8, w16, w32, w64, cast_signed as signed, s
 -- the number below 2 ^ w that differs from z by a multiple of 2 ^ w
 abbrev pub wrap : Width → ℤ → ℕ
 wrap w z = unsigned_abs (int_rem_euclid z (pos (2 ^ bits w)))
-
--- the number of the range from low to high that is nearest to z
-abbrev pub clamp : ℤ → ℤ → ℤ → ℤ
-clamp low high z = int_max low (int_min high z)

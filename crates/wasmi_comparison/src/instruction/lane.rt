@@ -2,7 +2,7 @@
 //! instructions.
 ghost use Rattle.std.specs.Prelude.{◌≡◌, length, drop, List, IfSome, OnSome, ℕ};
 ghost use Rattle.wasmi_comparison.specs.Answers.{vector_answer};
-ghost use Rattle.wasmi_comparison.specs.Operands.{HasLanes, HasVector, WritesNumber, word};
+ghost use Rattle.wasmi_comparison.specs.Operands.{HasLanes, HasVector, WritesNumber, word_at};
 
 use super::call::unary;
 use crate::answer::Answer;
@@ -80,7 +80,7 @@ where
     ensures count { OnSome result (length operands.now ≡ 3) }
     ensures answer { IfSome result (λ answer. (value : ℕ) × (index : ℕ) × (lane : L) × (output : R)
         × HasVector operands.now 0 value
-        × WritesNumber (word operands.now 2) index × L.try_from_gives index (Ok lane)
+        × WritesNumber (word_at operands.now 2) index × L.try_from_gives index (Ok lane)
         × F.post function value lane output × R.converts output answer) }
 {
     let [low, high, index] = operands else {
@@ -102,8 +102,8 @@ where
     ensures count { OnSome result (length operands.now ≡ 4) }
     ensures answer { IfSome result (λ answer. (value : ℕ) × (index : ℕ) × (lane : L) × (item : T) × (output : ℕ)
         × HasVector operands.now 0 value
-        × WritesNumber (word operands.now 2) index × L.try_from_gives index (Ok lane)
-        × T.from_str_gives (word operands.now 3) (Ok item)
+        × WritesNumber (word_at operands.now 2) index × L.try_from_gives index (Ok lane)
+        × T.from_str_gives (word_at operands.now 3) (Ok item)
         × F.post function value lane item output × (answer ≡ vector_answer output)) }
 {
     let [low, high, index, item] = operands else {

@@ -177,22 +177,34 @@ fn wrapped_and_extended(rt: HostRuntime) {
     wrapped_and_read::<i64, i32>(&rt, 0x1_8000_0000, -2147483648);
 }
 
+/// A store to 16 bytes 7, then each load of the same width at the same address.
+macro_rules! store_then_loads {
+    ($rt:expr; $store:ident, $value:expr; $($load:ident => $read:expr),+) => {{
+        let mut memory = SEVENS;
+        answers!($rt; $store(&mut memory, 3, 1, $value) => Ok(()));
+        answers!($rt; $($load(&memory, 4, 0) => Ok($read),)+);
+    }};
+}
+
 #[test]
 fn stores_then_loads(rt: HostRuntime) {
-    let mut memory = SEVENS;
-    answers!(&rt;
-        i32_store8_then_load(&mut memory, 0, 0, 384) => Ok((-128, 128)),
-        i32_store16_then_load(&mut memory, 0, 0, -1) => Ok((-1, 65535)),
-    );
-    answers!(&rt;
-        i64_store8_then_load(&mut memory, 0, 0, 255) => Ok((-1, 255)),
-        i64_store16_then_load(&mut memory, 0, 0, 65536) => Ok((0, 0)),
-        i64_store32_then_load(&mut memory, 0, 0, -2) => Ok((-2, 4294967294)),
-    );
-    answers!(&rt; store32_then_load(&mut memory, 0, 0, 5) => Ok(5));
-    answers!(&rt;
-        store64_then_load(&mut memory, 0, 0, u64::MAX) => Ok(u64::MAX),
-        store64_then_load(&mut memory, 9, 0, 0) => Err(REFUSED),
-    );
+    store_then_loads!(&rt; i32_store8, 384; i32_load8_s => -128, i32_load8_u => 128);
+    store_then_loads!(&rt; i32_store16, -1; i32_load16_s => -1, i32_load16_u => 65535);
+    store_then_loads!(&rt; i64_store8, 255; i64_load8_s => -1, i64_load8_u => 255);
+    store_then_loads!(&rt; i64_store16, 65536; i64_load16_s => 0, i64_load16_u => 0);
+    store_then_loads!(&rt; i64_store32, -2; i64_load32_s => -2, i64_load32_u => 4294967294);
+    store_then_loads!(&rt; store32, u32::MAX - 5; load_u32 => u32::MAX - 5);
+    store_then_loads!(&rt; store64, u64::MAX - 5; load_u64 => u64::MAX - 5);
+}
+
+#[test]
+fn laws(rt: HostRuntime) {
     stored_number_is_loaded();
+    same(
+        &rt,
+        "bytes",
+        bytes_of_their_value::<i16>([1, 255]),
+        [1, 255],
+    );
+    same(&rt, "value", value_of_its_bytes(-2i128), -2);
 }

@@ -1,6 +1,7 @@
 use super::{same, same_rows};
 use std::fmt::Debug;
 use std::process::Abort;
+use wasmi_raw::Number;
 use wasmi_scalar::value::{Integer, SignExtendFrom};
 use wasmi_scalar::wasm::*;
 use wasmi_types::TrapCode;
@@ -262,6 +263,7 @@ where
 fn extended_through_the_bound<T, U>(value: T) -> T
 where
     T: SignExtendFrom<U>,
+    U: Number,
 {
     value.sign_extend_from()
 }

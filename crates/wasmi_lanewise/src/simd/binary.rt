@@ -1,11 +1,10 @@
-// Binary instructions.
+//! Binary instructions.
 
 ghost use Rattle.std.specs.Prelude.{◌≡◌, ◌*◌, ◌%◌, ◌^◌, pos, negsuc, true, int_le};
 ghost use Rattle.wasmi_types.specs.Wrapping.{w8, w16, w32, w64, clamp_signed};
 ghost use Rattle.wasmi_lanewise.specs.VectorTable as vector;
 
-use wasmi_lanes::lanewise::lanewise_binary;
-use wasmi_lanes::{I8x16, I16x8, I32x4, U8x16, U16x8, U32x4, U64x2};
+use wasmi_lanes::{I8x16, I16x8, I32x4, U8x16, U16x8, U32x4, U64x2, on_vectors};
 use wasmi_raw::V128;
 
 /// The sums of the lanes, modulo 2 to the power 8.
@@ -13,7 +12,7 @@ use wasmi_raw::V128;
 pub fn i8x16_add(lhs: V128, rhs: V128) -> V128
     ensures { result ≡ vector.add w8 lhs rhs }
 {
-    lanewise_binary::<U8x16, _>(lhs, rhs, |x, y| x.wrapping_add(y))
+    on_vectors::binary::<U8x16, _>(lhs, rhs, |x, y| x.wrapping_add(y))
 }
 
 /// The sums of the lanes, modulo 2 to the power 16.
@@ -21,7 +20,7 @@ pub fn i8x16_add(lhs: V128, rhs: V128) -> V128
 pub fn i16x8_add(lhs: V128, rhs: V128) -> V128
     ensures { result ≡ vector.add w16 lhs rhs }
 {
-    lanewise_binary::<U16x8, _>(lhs, rhs, |x, y| x.wrapping_add(y))
+    on_vectors::binary::<U16x8, _>(lhs, rhs, |x, y| x.wrapping_add(y))
 }
 
 /// The sums of the lanes, modulo 2 to the power 32.
@@ -29,7 +28,7 @@ pub fn i16x8_add(lhs: V128, rhs: V128) -> V128
 pub fn i32x4_add(lhs: V128, rhs: V128) -> V128
     ensures { result ≡ vector.add w32 lhs rhs }
 {
-    lanewise_binary::<U32x4, _>(lhs, rhs, |x, y| x.wrapping_add(y))
+    on_vectors::binary::<U32x4, _>(lhs, rhs, |x, y| x.wrapping_add(y))
 }
 
 /// The sums of the lanes, modulo 2 to the power 64.
@@ -37,7 +36,7 @@ pub fn i32x4_add(lhs: V128, rhs: V128) -> V128
 pub fn i64x2_add(lhs: V128, rhs: V128) -> V128
     ensures { result ≡ vector.add w64 lhs rhs }
 {
-    lanewise_binary::<U64x2, _>(lhs, rhs, |x, y| x.wrapping_add(y))
+    on_vectors::binary::<U64x2, _>(lhs, rhs, |x, y| x.wrapping_add(y))
 }
 
 /// The differences of the lanes, modulo 2 to the power 8.
@@ -45,7 +44,7 @@ pub fn i64x2_add(lhs: V128, rhs: V128) -> V128
 pub fn i8x16_sub(lhs: V128, rhs: V128) -> V128
     ensures { result ≡ vector.sub w8 lhs rhs }
 {
-    lanewise_binary::<U8x16, _>(lhs, rhs, |x, y| x.wrapping_sub(y))
+    on_vectors::binary::<U8x16, _>(lhs, rhs, |x, y| x.wrapping_sub(y))
 }
 
 /// The differences of the lanes, modulo 2 to the power 16.
@@ -53,7 +52,7 @@ pub fn i8x16_sub(lhs: V128, rhs: V128) -> V128
 pub fn i16x8_sub(lhs: V128, rhs: V128) -> V128
     ensures { result ≡ vector.sub w16 lhs rhs }
 {
-    lanewise_binary::<U16x8, _>(lhs, rhs, |x, y| x.wrapping_sub(y))
+    on_vectors::binary::<U16x8, _>(lhs, rhs, |x, y| x.wrapping_sub(y))
 }
 
 /// The differences of the lanes, modulo 2 to the power 32.
@@ -61,7 +60,7 @@ pub fn i16x8_sub(lhs: V128, rhs: V128) -> V128
 pub fn i32x4_sub(lhs: V128, rhs: V128) -> V128
     ensures { result ≡ vector.sub w32 lhs rhs }
 {
-    lanewise_binary::<U32x4, _>(lhs, rhs, |x, y| x.wrapping_sub(y))
+    on_vectors::binary::<U32x4, _>(lhs, rhs, |x, y| x.wrapping_sub(y))
 }
 
 /// The differences of the lanes, modulo 2 to the power 64.
@@ -69,7 +68,7 @@ pub fn i32x4_sub(lhs: V128, rhs: V128) -> V128
 pub fn i64x2_sub(lhs: V128, rhs: V128) -> V128
     ensures { result ≡ vector.sub w64 lhs rhs }
 {
-    lanewise_binary::<U64x2, _>(lhs, rhs, |x, y| x.wrapping_sub(y))
+    on_vectors::binary::<U64x2, _>(lhs, rhs, |x, y| x.wrapping_sub(y))
 }
 
 /// The products of the lanes, modulo 2 to the power 8.
@@ -77,7 +76,7 @@ pub fn i64x2_sub(lhs: V128, rhs: V128) -> V128
 pub fn i8x16_mul(lhs: V128, rhs: V128) -> V128
     ensures { result ≡ vector.mul w8 lhs rhs }
 {
-    lanewise_binary::<U8x16, _>(lhs, rhs, |x, y| x.wrapping_mul(y))
+    on_vectors::binary::<U8x16, _>(lhs, rhs, |x, y| x.wrapping_mul(y))
 }
 
 /// The products of the lanes, modulo 2 to the power 16.
@@ -85,7 +84,7 @@ pub fn i8x16_mul(lhs: V128, rhs: V128) -> V128
 pub fn i16x8_mul(lhs: V128, rhs: V128) -> V128
     ensures { result ≡ vector.mul w16 lhs rhs }
 {
-    lanewise_binary::<U16x8, _>(lhs, rhs, |x, y| x.wrapping_mul(y))
+    on_vectors::binary::<U16x8, _>(lhs, rhs, |x, y| x.wrapping_mul(y))
 }
 
 /// The products of the lanes, modulo 2 to the power 32.
@@ -93,7 +92,7 @@ pub fn i16x8_mul(lhs: V128, rhs: V128) -> V128
 pub fn i32x4_mul(lhs: V128, rhs: V128) -> V128
     ensures { result ≡ vector.mul w32 lhs rhs }
 {
-    lanewise_binary::<U32x4, _>(lhs, rhs, |x, y| x.wrapping_mul(y))
+    on_vectors::binary::<U32x4, _>(lhs, rhs, |x, y| x.wrapping_mul(y))
 }
 
 /// The products of the lanes, modulo 2 to the power 64.
@@ -120,7 +119,7 @@ fn product_by_u128(x: u64, y: u64) -> u64
 pub fn i8x16_add_sat_s(lhs: V128, rhs: V128) -> V128
     ensures { result ≡ vector.add_sat_s w8 lhs rhs }
 {
-    lanewise_binary::<I8x16, _>(lhs, rhs, |x, y| x.saturating_add(y))
+    on_vectors::binary::<I8x16, _>(lhs, rhs, |x, y| x.saturating_add(y))
 }
 
 /// The sums of the lanes, read unsigned and clamped to the unsigned range of 8 bits.
@@ -128,7 +127,7 @@ pub fn i8x16_add_sat_s(lhs: V128, rhs: V128) -> V128
 pub fn i8x16_add_sat_u(lhs: V128, rhs: V128) -> V128
     ensures { result ≡ vector.add_sat_u w8 lhs rhs }
 {
-    lanewise_binary::<U8x16, _>(lhs, rhs, |x, y| x.saturating_add(y))
+    on_vectors::binary::<U8x16, _>(lhs, rhs, |x, y| x.saturating_add(y))
 }
 
 /// The sums of the lanes, read signed and clamped to the signed range of 16 bits.
@@ -136,7 +135,7 @@ pub fn i8x16_add_sat_u(lhs: V128, rhs: V128) -> V128
 pub fn i16x8_add_sat_s(lhs: V128, rhs: V128) -> V128
     ensures { result ≡ vector.add_sat_s w16 lhs rhs }
 {
-    lanewise_binary::<I16x8, _>(lhs, rhs, |x, y| x.saturating_add(y))
+    on_vectors::binary::<I16x8, _>(lhs, rhs, |x, y| x.saturating_add(y))
 }
 
 /// The sums of the lanes, read unsigned and clamped to the unsigned range of 16 bits.
@@ -144,7 +143,7 @@ pub fn i16x8_add_sat_s(lhs: V128, rhs: V128) -> V128
 pub fn i16x8_add_sat_u(lhs: V128, rhs: V128) -> V128
     ensures { result ≡ vector.add_sat_u w16 lhs rhs }
 {
-    lanewise_binary::<U16x8, _>(lhs, rhs, |x, y| x.saturating_add(y))
+    on_vectors::binary::<U16x8, _>(lhs, rhs, |x, y| x.saturating_add(y))
 }
 
 /// The differences of the lanes, read signed and clamped to the signed range of 8 bits.
@@ -152,7 +151,7 @@ pub fn i16x8_add_sat_u(lhs: V128, rhs: V128) -> V128
 pub fn i8x16_sub_sat_s(lhs: V128, rhs: V128) -> V128
     ensures { result ≡ vector.sub_sat_s w8 lhs rhs }
 {
-    lanewise_binary::<I8x16, _>(lhs, rhs, |x, y| x.saturating_sub(y))
+    on_vectors::binary::<I8x16, _>(lhs, rhs, |x, y| x.saturating_sub(y))
 }
 
 /// The differences of the lanes, read unsigned and clamped to the unsigned range of 8 bits.
@@ -160,7 +159,7 @@ pub fn i8x16_sub_sat_s(lhs: V128, rhs: V128) -> V128
 pub fn i8x16_sub_sat_u(lhs: V128, rhs: V128) -> V128
     ensures { result ≡ vector.sub_sat_u w8 lhs rhs }
 {
-    lanewise_binary::<U8x16, _>(lhs, rhs, |x, y| x.saturating_sub(y))
+    on_vectors::binary::<U8x16, _>(lhs, rhs, |x, y| x.saturating_sub(y))
 }
 
 /// The differences of the lanes, read signed and clamped to the signed range of 16 bits.
@@ -168,7 +167,7 @@ pub fn i8x16_sub_sat_u(lhs: V128, rhs: V128) -> V128
 pub fn i16x8_sub_sat_s(lhs: V128, rhs: V128) -> V128
     ensures { result ≡ vector.sub_sat_s w16 lhs rhs }
 {
-    lanewise_binary::<I16x8, _>(lhs, rhs, |x, y| x.saturating_sub(y))
+    on_vectors::binary::<I16x8, _>(lhs, rhs, |x, y| x.saturating_sub(y))
 }
 
 /// The differences of the lanes, read unsigned and clamped to the unsigned range of 16 bits.
@@ -176,7 +175,7 @@ pub fn i16x8_sub_sat_s(lhs: V128, rhs: V128) -> V128
 pub fn i16x8_sub_sat_u(lhs: V128, rhs: V128) -> V128
     ensures { result ≡ vector.sub_sat_u w16 lhs rhs }
 {
-    lanewise_binary::<U16x8, _>(lhs, rhs, |x, y| x.saturating_sub(y))
+    on_vectors::binary::<U16x8, _>(lhs, rhs, |x, y| x.saturating_sub(y))
 }
 
 /// The products of the lanes, read as signed fractions of 2 to the power 15, rounded and clamped to the signed range.
@@ -184,7 +183,7 @@ pub fn i16x8_sub_sat_u(lhs: V128, rhs: V128) -> V128
 pub fn i16x8_q15mulr_sat_s(lhs: V128, rhs: V128) -> V128
     ensures { result ≡ vector.q15mulr_sat_s lhs rhs }
 {
-    lanewise_binary::<I16x8, _>(lhs, rhs, |x, y| q15mulr_sat_s(x, y))
+    on_vectors::binary::<I16x8, _>(lhs, rhs, |x, y| q15mulr_sat_s(x, y))
 }
 
 /// The smaller ones of the lanes, read signed.
@@ -192,7 +191,7 @@ pub fn i16x8_q15mulr_sat_s(lhs: V128, rhs: V128) -> V128
 pub fn i8x16_min_s(lhs: V128, rhs: V128) -> V128
     ensures { result ≡ vector.min_s w8 lhs rhs }
 {
-    lanewise_binary::<I8x16, _>(lhs, rhs, |x, y| x.min(y))
+    on_vectors::binary::<I8x16, _>(lhs, rhs, |x, y| x.min(y))
 }
 
 /// The smaller ones of the lanes, read unsigned.
@@ -200,7 +199,7 @@ pub fn i8x16_min_s(lhs: V128, rhs: V128) -> V128
 pub fn i8x16_min_u(lhs: V128, rhs: V128) -> V128
     ensures { result ≡ vector.min_u w8 lhs rhs }
 {
-    lanewise_binary::<U8x16, _>(lhs, rhs, |x, y| x.min(y))
+    on_vectors::binary::<U8x16, _>(lhs, rhs, |x, y| x.min(y))
 }
 
 /// The smaller ones of the lanes, read signed.
@@ -208,7 +207,7 @@ pub fn i8x16_min_u(lhs: V128, rhs: V128) -> V128
 pub fn i16x8_min_s(lhs: V128, rhs: V128) -> V128
     ensures { result ≡ vector.min_s w16 lhs rhs }
 {
-    lanewise_binary::<I16x8, _>(lhs, rhs, |x, y| x.min(y))
+    on_vectors::binary::<I16x8, _>(lhs, rhs, |x, y| x.min(y))
 }
 
 /// The smaller ones of the lanes, read unsigned.
@@ -216,7 +215,7 @@ pub fn i16x8_min_s(lhs: V128, rhs: V128) -> V128
 pub fn i16x8_min_u(lhs: V128, rhs: V128) -> V128
     ensures { result ≡ vector.min_u w16 lhs rhs }
 {
-    lanewise_binary::<U16x8, _>(lhs, rhs, |x, y| x.min(y))
+    on_vectors::binary::<U16x8, _>(lhs, rhs, |x, y| x.min(y))
 }
 
 /// The smaller ones of the lanes, read signed.
@@ -224,7 +223,7 @@ pub fn i16x8_min_u(lhs: V128, rhs: V128) -> V128
 pub fn i32x4_min_s(lhs: V128, rhs: V128) -> V128
     ensures { result ≡ vector.min_s w32 lhs rhs }
 {
-    lanewise_binary::<I32x4, _>(lhs, rhs, |x, y| x.min(y))
+    on_vectors::binary::<I32x4, _>(lhs, rhs, |x, y| x.min(y))
 }
 
 /// The smaller ones of the lanes, read unsigned.
@@ -232,7 +231,7 @@ pub fn i32x4_min_s(lhs: V128, rhs: V128) -> V128
 pub fn i32x4_min_u(lhs: V128, rhs: V128) -> V128
     ensures { result ≡ vector.min_u w32 lhs rhs }
 {
-    lanewise_binary::<U32x4, _>(lhs, rhs, |x, y| x.min(y))
+    on_vectors::binary::<U32x4, _>(lhs, rhs, |x, y| x.min(y))
 }
 
 /// The larger ones of the lanes, read signed.
@@ -240,7 +239,7 @@ pub fn i32x4_min_u(lhs: V128, rhs: V128) -> V128
 pub fn i8x16_max_s(lhs: V128, rhs: V128) -> V128
     ensures { result ≡ vector.max_s w8 lhs rhs }
 {
-    lanewise_binary::<I8x16, _>(lhs, rhs, |x, y| x.max(y))
+    on_vectors::binary::<I8x16, _>(lhs, rhs, |x, y| x.max(y))
 }
 
 /// The larger ones of the lanes, read unsigned.
@@ -248,7 +247,7 @@ pub fn i8x16_max_s(lhs: V128, rhs: V128) -> V128
 pub fn i8x16_max_u(lhs: V128, rhs: V128) -> V128
     ensures { result ≡ vector.max_u w8 lhs rhs }
 {
-    lanewise_binary::<U8x16, _>(lhs, rhs, |x, y| x.max(y))
+    on_vectors::binary::<U8x16, _>(lhs, rhs, |x, y| x.max(y))
 }
 
 /// The larger ones of the lanes, read signed.
@@ -256,7 +255,7 @@ pub fn i8x16_max_u(lhs: V128, rhs: V128) -> V128
 pub fn i16x8_max_s(lhs: V128, rhs: V128) -> V128
     ensures { result ≡ vector.max_s w16 lhs rhs }
 {
-    lanewise_binary::<I16x8, _>(lhs, rhs, |x, y| x.max(y))
+    on_vectors::binary::<I16x8, _>(lhs, rhs, |x, y| x.max(y))
 }
 
 /// The larger ones of the lanes, read unsigned.
@@ -264,7 +263,7 @@ pub fn i16x8_max_s(lhs: V128, rhs: V128) -> V128
 pub fn i16x8_max_u(lhs: V128, rhs: V128) -> V128
     ensures { result ≡ vector.max_u w16 lhs rhs }
 {
-    lanewise_binary::<U16x8, _>(lhs, rhs, |x, y| x.max(y))
+    on_vectors::binary::<U16x8, _>(lhs, rhs, |x, y| x.max(y))
 }
 
 /// The larger ones of the lanes, read signed.
@@ -272,7 +271,7 @@ pub fn i16x8_max_u(lhs: V128, rhs: V128) -> V128
 pub fn i32x4_max_s(lhs: V128, rhs: V128) -> V128
     ensures { result ≡ vector.max_s w32 lhs rhs }
 {
-    lanewise_binary::<I32x4, _>(lhs, rhs, |x, y| x.max(y))
+    on_vectors::binary::<I32x4, _>(lhs, rhs, |x, y| x.max(y))
 }
 
 /// The larger ones of the lanes, read unsigned.
@@ -280,7 +279,7 @@ pub fn i32x4_max_s(lhs: V128, rhs: V128) -> V128
 pub fn i32x4_max_u(lhs: V128, rhs: V128) -> V128
     ensures { result ≡ vector.max_u w32 lhs rhs }
 {
-    lanewise_binary::<U32x4, _>(lhs, rhs, |x, y| x.max(y))
+    on_vectors::binary::<U32x4, _>(lhs, rhs, |x, y| x.max(y))
 }
 
 /// The averages of the lanes, read unsigned, halves rounded up.
@@ -288,7 +287,7 @@ pub fn i32x4_max_u(lhs: V128, rhs: V128) -> V128
 pub fn i8x16_avgr_u(lhs: V128, rhs: V128) -> V128
     ensures { result ≡ vector.avgr_u w8 lhs rhs }
 {
-    lanewise_binary::<U8x16, _>(lhs, rhs, |x, y| average_u8(x, y))
+    on_vectors::binary::<U8x16, _>(lhs, rhs, |x, y| average_u8(x, y))
 }
 
 /// The averages of the lanes, read unsigned, halves rounded up.
@@ -296,10 +295,11 @@ pub fn i8x16_avgr_u(lhs: V128, rhs: V128) -> V128
 pub fn i16x8_avgr_u(lhs: V128, rhs: V128) -> V128
     ensures { result ≡ vector.avgr_u w16 lhs rhs }
 {
-    lanewise_binary::<U16x8, _>(lhs, rhs, |x, y| average_u16(x, y))
+    on_vectors::binary::<U16x8, _>(lhs, rhs, |x, y| average_u16(x, y))
 }
 
 #[inline]
+#[tactic(auto, using(crate::proofs::Average::half_below, crate::proofs::Average::average_is))]
 fn average_u8(x: u8, y: u8) -> u8
     ensures { result ≡ vector.average x y }
 {
@@ -307,6 +307,7 @@ fn average_u8(x: u8, y: u8) -> u8
 }
 
 #[inline]
+#[tactic(auto, using(crate::proofs::Average::half_below, crate::proofs::Average::average_is))]
 fn average_u16(x: u16, y: u16) -> u16
     ensures { result ≡ vector.average x y }
 {

@@ -1,4 +1,4 @@
-// Instructions that work bit by bit on whole vectors.
+//! Instructions that work bit by bit on whole vectors.
 
 ghost use Rattle.std.specs.Prelude.{◌≡◌, ℕ, ◌/◌, ◌%◌, ◌^◌, [], ◌∷◌};
 ghost use Rattle.wasmi_raw.specs.Vector.{vector_of};

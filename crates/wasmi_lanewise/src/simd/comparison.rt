@@ -1,12 +1,11 @@
-// Comparisons.
+//! Comparisons.
 
 ghost use Rattle.std.specs.Prelude.{◌≡◌};
 ghost use Rattle.wasmi_types.specs.Wrapping.{w8, w16, w32, w64};
 ghost use Rattle.wasmi_lanewise.specs.VectorTable as vector;
 
-use crate::simd::quarters;
-use wasmi_lanes::lanewise::lanewise_comparison;
-use wasmi_lanes::{I8x16, I16x8, I64x2, U8x16, U16x8, U32x4, U64x2};
+use crate::simd::signed_i32x4;
+use wasmi_lanes::{I8x16, I16x8, I64x2, U8x16, U16x8, U32x4, U64x2, on_vectors};
 use wasmi_raw::V128;
 
 /// All ones in the lanes that are equal, else all zeros.
@@ -14,7 +13,7 @@ use wasmi_raw::V128;
 pub fn i8x16_eq(lhs: V128, rhs: V128) -> V128
     ensures { result ≡ vector.eq w8 lhs rhs }
 {
-    lanewise_comparison::<U8x16, _>(lhs, rhs, |x, y| x == y)
+    on_vectors::comparison::<U8x16, _>(lhs, rhs, |x, y| x == y)
 }
 
 /// All ones in the lanes that are equal, else all zeros.
@@ -22,7 +21,7 @@ pub fn i8x16_eq(lhs: V128, rhs: V128) -> V128
 pub fn i16x8_eq(lhs: V128, rhs: V128) -> V128
     ensures { result ≡ vector.eq w16 lhs rhs }
 {
-    lanewise_comparison::<U16x8, _>(lhs, rhs, |x, y| x == y)
+    on_vectors::comparison::<U16x8, _>(lhs, rhs, |x, y| x == y)
 }
 
 /// All ones in the lanes that are equal, else all zeros.
@@ -30,7 +29,7 @@ pub fn i16x8_eq(lhs: V128, rhs: V128) -> V128
 pub fn i32x4_eq(lhs: V128, rhs: V128) -> V128
     ensures { result ≡ vector.eq w32 lhs rhs }
 {
-    lanewise_comparison::<U32x4, _>(lhs, rhs, |x, y| x == y)
+    on_vectors::comparison::<U32x4, _>(lhs, rhs, |x, y| x == y)
 }
 
 /// All ones in the lanes that are equal, else all zeros.
@@ -38,7 +37,7 @@ pub fn i32x4_eq(lhs: V128, rhs: V128) -> V128
 pub fn i64x2_eq(lhs: V128, rhs: V128) -> V128
     ensures { result ≡ vector.eq w64 lhs rhs }
 {
-    lanewise_comparison::<U64x2, _>(lhs, rhs, |x, y| x == y)
+    on_vectors::comparison::<U64x2, _>(lhs, rhs, |x, y| x == y)
 }
 
 /// All ones in the lanes that are different, else all zeros.
@@ -46,7 +45,7 @@ pub fn i64x2_eq(lhs: V128, rhs: V128) -> V128
 pub fn i8x16_ne(lhs: V128, rhs: V128) -> V128
     ensures { result ≡ vector.ne w8 lhs rhs }
 {
-    lanewise_comparison::<U8x16, _>(lhs, rhs, |x, y| x != y)
+    on_vectors::comparison::<U8x16, _>(lhs, rhs, |x, y| x != y)
 }
 
 /// All ones in the lanes that are different, else all zeros.
@@ -54,7 +53,7 @@ pub fn i8x16_ne(lhs: V128, rhs: V128) -> V128
 pub fn i16x8_ne(lhs: V128, rhs: V128) -> V128
     ensures { result ≡ vector.ne w16 lhs rhs }
 {
-    lanewise_comparison::<U16x8, _>(lhs, rhs, |x, y| x != y)
+    on_vectors::comparison::<U16x8, _>(lhs, rhs, |x, y| x != y)
 }
 
 /// All ones in the lanes that are different, else all zeros.
@@ -62,7 +61,7 @@ pub fn i16x8_ne(lhs: V128, rhs: V128) -> V128
 pub fn i32x4_ne(lhs: V128, rhs: V128) -> V128
     ensures { result ≡ vector.ne w32 lhs rhs }
 {
-    lanewise_comparison::<U32x4, _>(lhs, rhs, |x, y| x != y)
+    on_vectors::comparison::<U32x4, _>(lhs, rhs, |x, y| x != y)
 }
 
 /// All ones in the lanes that are different, else all zeros.
@@ -70,7 +69,7 @@ pub fn i32x4_ne(lhs: V128, rhs: V128) -> V128
 pub fn i64x2_ne(lhs: V128, rhs: V128) -> V128
     ensures { result ≡ vector.ne w64 lhs rhs }
 {
-    lanewise_comparison::<U64x2, _>(lhs, rhs, |x, y| x != y)
+    on_vectors::comparison::<U64x2, _>(lhs, rhs, |x, y| x != y)
 }
 
 /// All ones where the lane of `lhs` is less than that of `rhs`, both read signed, else all zeros.
@@ -78,7 +77,7 @@ pub fn i64x2_ne(lhs: V128, rhs: V128) -> V128
 pub fn i8x16_lt_s(lhs: V128, rhs: V128) -> V128
     ensures { result ≡ vector.lt_s w8 lhs rhs }
 {
-    lanewise_comparison::<I8x16, _>(lhs, rhs, |x, y| x < y)
+    on_vectors::comparison::<I8x16, _>(lhs, rhs, |x, y| x < y)
 }
 
 /// All ones where the lane of `lhs` is less than that of `rhs`, both read signed, else all zeros.
@@ -86,7 +85,7 @@ pub fn i8x16_lt_s(lhs: V128, rhs: V128) -> V128
 pub fn i16x8_lt_s(lhs: V128, rhs: V128) -> V128
     ensures { result ≡ vector.lt_s w16 lhs rhs }
 {
-    lanewise_comparison::<I16x8, _>(lhs, rhs, |x, y| x < y)
+    on_vectors::comparison::<I16x8, _>(lhs, rhs, |x, y| x < y)
 }
 
 /// All ones where the lane of `lhs` is less than that of `rhs`, both read signed, else all zeros.
@@ -94,7 +93,7 @@ pub fn i16x8_lt_s(lhs: V128, rhs: V128) -> V128
 pub fn i32x4_lt_s(lhs: V128, rhs: V128) -> V128
     ensures { result ≡ vector.lt_s w32 lhs rhs }
 {
-    quarters::less(lhs, rhs)
+    signed_i32x4::less(lhs, rhs)
 }
 
 /// All ones where the lane of `lhs` is less than that of `rhs`, both read signed, else all zeros.
@@ -102,7 +101,7 @@ pub fn i32x4_lt_s(lhs: V128, rhs: V128) -> V128
 pub fn i64x2_lt_s(lhs: V128, rhs: V128) -> V128
     ensures { result ≡ vector.lt_s w64 lhs rhs }
 {
-    lanewise_comparison::<I64x2, _>(lhs, rhs, |x, y| x < y)
+    on_vectors::comparison::<I64x2, _>(lhs, rhs, |x, y| x < y)
 }
 
 /// All ones where the lane of `lhs` is less than that of `rhs`, both read unsigned, else all zeros.
@@ -110,7 +109,7 @@ pub fn i64x2_lt_s(lhs: V128, rhs: V128) -> V128
 pub fn i8x16_lt_u(lhs: V128, rhs: V128) -> V128
     ensures { result ≡ vector.lt_u w8 lhs rhs }
 {
-    lanewise_comparison::<U8x16, _>(lhs, rhs, |x, y| x < y)
+    on_vectors::comparison::<U8x16, _>(lhs, rhs, |x, y| x < y)
 }
 
 /// All ones where the lane of `lhs` is less than that of `rhs`, both read unsigned, else all zeros.
@@ -118,7 +117,7 @@ pub fn i8x16_lt_u(lhs: V128, rhs: V128) -> V128
 pub fn i16x8_lt_u(lhs: V128, rhs: V128) -> V128
     ensures { result ≡ vector.lt_u w16 lhs rhs }
 {
-    lanewise_comparison::<U16x8, _>(lhs, rhs, |x, y| x < y)
+    on_vectors::comparison::<U16x8, _>(lhs, rhs, |x, y| x < y)
 }
 
 /// All ones where the lane of `lhs` is less than that of `rhs`, both read unsigned, else all zeros.
@@ -126,7 +125,7 @@ pub fn i16x8_lt_u(lhs: V128, rhs: V128) -> V128
 pub fn i32x4_lt_u(lhs: V128, rhs: V128) -> V128
     ensures { result ≡ vector.lt_u w32 lhs rhs }
 {
-    lanewise_comparison::<U32x4, _>(lhs, rhs, |x, y| x < y)
+    on_vectors::comparison::<U32x4, _>(lhs, rhs, |x, y| x < y)
 }
 
 /// All ones where the lane of `lhs` is at most that of `rhs`, both read signed, else all zeros.
@@ -134,7 +133,7 @@ pub fn i32x4_lt_u(lhs: V128, rhs: V128) -> V128
 pub fn i8x16_le_s(lhs: V128, rhs: V128) -> V128
     ensures { result ≡ vector.le_s w8 lhs rhs }
 {
-    lanewise_comparison::<I8x16, _>(lhs, rhs, |x, y| x <= y)
+    on_vectors::comparison::<I8x16, _>(lhs, rhs, |x, y| x <= y)
 }
 
 /// All ones where the lane of `lhs` is at most that of `rhs`, both read signed, else all zeros.
@@ -142,7 +141,7 @@ pub fn i8x16_le_s(lhs: V128, rhs: V128) -> V128
 pub fn i16x8_le_s(lhs: V128, rhs: V128) -> V128
     ensures { result ≡ vector.le_s w16 lhs rhs }
 {
-    lanewise_comparison::<I16x8, _>(lhs, rhs, |x, y| x <= y)
+    on_vectors::comparison::<I16x8, _>(lhs, rhs, |x, y| x <= y)
 }
 
 /// All ones where the lane of `lhs` is at most that of `rhs`, both read signed, else all zeros.
@@ -150,7 +149,7 @@ pub fn i16x8_le_s(lhs: V128, rhs: V128) -> V128
 pub fn i32x4_le_s(lhs: V128, rhs: V128) -> V128
     ensures { result ≡ vector.le_s w32 lhs rhs }
 {
-    quarters::at_most(lhs, rhs)
+    signed_i32x4::at_most(lhs, rhs)
 }
 
 /// All ones where the lane of `lhs` is at most that of `rhs`, both read signed, else all zeros.
@@ -158,7 +157,7 @@ pub fn i32x4_le_s(lhs: V128, rhs: V128) -> V128
 pub fn i64x2_le_s(lhs: V128, rhs: V128) -> V128
     ensures { result ≡ vector.le_s w64 lhs rhs }
 {
-    lanewise_comparison::<I64x2, _>(lhs, rhs, |x, y| x <= y)
+    on_vectors::comparison::<I64x2, _>(lhs, rhs, |x, y| x <= y)
 }
 
 /// All ones where the lane of `lhs` is at most that of `rhs`, both read unsigned, else all zeros.
@@ -166,7 +165,7 @@ pub fn i64x2_le_s(lhs: V128, rhs: V128) -> V128
 pub fn i8x16_le_u(lhs: V128, rhs: V128) -> V128
     ensures { result ≡ vector.le_u w8 lhs rhs }
 {
-    lanewise_comparison::<U8x16, _>(lhs, rhs, |x, y| x <= y)
+    on_vectors::comparison::<U8x16, _>(lhs, rhs, |x, y| x <= y)
 }
 
 /// All ones where the lane of `lhs` is at most that of `rhs`, both read unsigned, else all zeros.
@@ -174,7 +173,7 @@ pub fn i8x16_le_u(lhs: V128, rhs: V128) -> V128
 pub fn i16x8_le_u(lhs: V128, rhs: V128) -> V128
     ensures { result ≡ vector.le_u w16 lhs rhs }
 {
-    lanewise_comparison::<U16x8, _>(lhs, rhs, |x, y| x <= y)
+    on_vectors::comparison::<U16x8, _>(lhs, rhs, |x, y| x <= y)
 }
 
 /// All ones where the lane of `lhs` is at most that of `rhs`, both read unsigned, else all zeros.
@@ -182,7 +181,7 @@ pub fn i16x8_le_u(lhs: V128, rhs: V128) -> V128
 pub fn i32x4_le_u(lhs: V128, rhs: V128) -> V128
     ensures { result ≡ vector.le_u w32 lhs rhs }
 {
-    lanewise_comparison::<U32x4, _>(lhs, rhs, |x, y| x <= y)
+    on_vectors::comparison::<U32x4, _>(lhs, rhs, |x, y| x <= y)
 }
 
 /// All ones where the lane of `lhs` is greater than that of `rhs`, both read signed, else all zeros.
@@ -190,7 +189,7 @@ pub fn i32x4_le_u(lhs: V128, rhs: V128) -> V128
 pub fn i8x16_gt_s(lhs: V128, rhs: V128) -> V128
     ensures { result ≡ vector.gt_s w8 lhs rhs }
 {
-    lanewise_comparison::<I8x16, _>(lhs, rhs, |x, y| x > y)
+    on_vectors::comparison::<I8x16, _>(lhs, rhs, |x, y| x > y)
 }
 
 /// All ones where the lane of `lhs` is greater than that of `rhs`, both read signed, else all zeros.
@@ -198,7 +197,7 @@ pub fn i8x16_gt_s(lhs: V128, rhs: V128) -> V128
 pub fn i16x8_gt_s(lhs: V128, rhs: V128) -> V128
     ensures { result ≡ vector.gt_s w16 lhs rhs }
 {
-    lanewise_comparison::<I16x8, _>(lhs, rhs, |x, y| x > y)
+    on_vectors::comparison::<I16x8, _>(lhs, rhs, |x, y| x > y)
 }
 
 /// All ones where the lane of `lhs` is greater than that of `rhs`, both read signed, else all zeros.
@@ -206,7 +205,7 @@ pub fn i16x8_gt_s(lhs: V128, rhs: V128) -> V128
 pub fn i32x4_gt_s(lhs: V128, rhs: V128) -> V128
     ensures { result ≡ vector.gt_s w32 lhs rhs }
 {
-    quarters::less(rhs, lhs)
+    signed_i32x4::less(rhs, lhs)
 }
 
 /// All ones where the lane of `lhs` is greater than that of `rhs`, both read signed, else all zeros.
@@ -214,7 +213,7 @@ pub fn i32x4_gt_s(lhs: V128, rhs: V128) -> V128
 pub fn i64x2_gt_s(lhs: V128, rhs: V128) -> V128
     ensures { result ≡ vector.gt_s w64 lhs rhs }
 {
-    lanewise_comparison::<I64x2, _>(lhs, rhs, |x, y| x > y)
+    on_vectors::comparison::<I64x2, _>(lhs, rhs, |x, y| x > y)
 }
 
 /// All ones where the lane of `lhs` is greater than that of `rhs`, both read unsigned, else all zeros.
@@ -222,7 +221,7 @@ pub fn i64x2_gt_s(lhs: V128, rhs: V128) -> V128
 pub fn i8x16_gt_u(lhs: V128, rhs: V128) -> V128
     ensures { result ≡ vector.gt_u w8 lhs rhs }
 {
-    lanewise_comparison::<U8x16, _>(lhs, rhs, |x, y| x > y)
+    on_vectors::comparison::<U8x16, _>(lhs, rhs, |x, y| x > y)
 }
 
 /// All ones where the lane of `lhs` is greater than that of `rhs`, both read unsigned, else all zeros.
@@ -230,7 +229,7 @@ pub fn i8x16_gt_u(lhs: V128, rhs: V128) -> V128
 pub fn i16x8_gt_u(lhs: V128, rhs: V128) -> V128
     ensures { result ≡ vector.gt_u w16 lhs rhs }
 {
-    lanewise_comparison::<U16x8, _>(lhs, rhs, |x, y| x > y)
+    on_vectors::comparison::<U16x8, _>(lhs, rhs, |x, y| x > y)
 }
 
 /// All ones where the lane of `lhs` is greater than that of `rhs`, both read unsigned, else all zeros.
@@ -238,7 +237,7 @@ pub fn i16x8_gt_u(lhs: V128, rhs: V128) -> V128
 pub fn i32x4_gt_u(lhs: V128, rhs: V128) -> V128
     ensures { result ≡ vector.gt_u w32 lhs rhs }
 {
-    lanewise_comparison::<U32x4, _>(lhs, rhs, |x, y| x > y)
+    on_vectors::comparison::<U32x4, _>(lhs, rhs, |x, y| x > y)
 }
 
 /// All ones where the lane of `lhs` is at least that of `rhs`, both read signed, else all zeros.
@@ -246,7 +245,7 @@ pub fn i32x4_gt_u(lhs: V128, rhs: V128) -> V128
 pub fn i8x16_ge_s(lhs: V128, rhs: V128) -> V128
     ensures { result ≡ vector.ge_s w8 lhs rhs }
 {
-    lanewise_comparison::<I8x16, _>(lhs, rhs, |x, y| x >= y)
+    on_vectors::comparison::<I8x16, _>(lhs, rhs, |x, y| x >= y)
 }
 
 /// All ones where the lane of `lhs` is at least that of `rhs`, both read signed, else all zeros.
@@ -254,7 +253,7 @@ pub fn i8x16_ge_s(lhs: V128, rhs: V128) -> V128
 pub fn i16x8_ge_s(lhs: V128, rhs: V128) -> V128
     ensures { result ≡ vector.ge_s w16 lhs rhs }
 {
-    lanewise_comparison::<I16x8, _>(lhs, rhs, |x, y| x >= y)
+    on_vectors::comparison::<I16x8, _>(lhs, rhs, |x, y| x >= y)
 }
 
 /// All ones where the lane of `lhs` is at least that of `rhs`, both read signed, else all zeros.
@@ -262,7 +261,7 @@ pub fn i16x8_ge_s(lhs: V128, rhs: V128) -> V128
 pub fn i32x4_ge_s(lhs: V128, rhs: V128) -> V128
     ensures { result ≡ vector.ge_s w32 lhs rhs }
 {
-    quarters::at_most(rhs, lhs)
+    signed_i32x4::at_most(rhs, lhs)
 }
 
 /// All ones where the lane of `lhs` is at least that of `rhs`, both read signed, else all zeros.
@@ -270,7 +269,7 @@ pub fn i32x4_ge_s(lhs: V128, rhs: V128) -> V128
 pub fn i64x2_ge_s(lhs: V128, rhs: V128) -> V128
     ensures { result ≡ vector.ge_s w64 lhs rhs }
 {
-    lanewise_comparison::<I64x2, _>(lhs, rhs, |x, y| x >= y)
+    on_vectors::comparison::<I64x2, _>(lhs, rhs, |x, y| x >= y)
 }
 
 /// All ones where the lane of `lhs` is at least that of `rhs`, both read unsigned, else all zeros.
@@ -278,7 +277,7 @@ pub fn i64x2_ge_s(lhs: V128, rhs: V128) -> V128
 pub fn i8x16_ge_u(lhs: V128, rhs: V128) -> V128
     ensures { result ≡ vector.ge_u w8 lhs rhs }
 {
-    lanewise_comparison::<U8x16, _>(lhs, rhs, |x, y| x >= y)
+    on_vectors::comparison::<U8x16, _>(lhs, rhs, |x, y| x >= y)
 }
 
 /// All ones where the lane of `lhs` is at least that of `rhs`, both read unsigned, else all zeros.
@@ -286,7 +285,7 @@ pub fn i8x16_ge_u(lhs: V128, rhs: V128) -> V128
 pub fn i16x8_ge_u(lhs: V128, rhs: V128) -> V128
     ensures { result ≡ vector.ge_u w16 lhs rhs }
 {
-    lanewise_comparison::<U16x8, _>(lhs, rhs, |x, y| x >= y)
+    on_vectors::comparison::<U16x8, _>(lhs, rhs, |x, y| x >= y)
 }
 
 /// All ones where the lane of `lhs` is at least that of `rhs`, both read unsigned, else all zeros.
@@ -294,5 +293,5 @@ pub fn i16x8_ge_u(lhs: V128, rhs: V128) -> V128
 pub fn i32x4_ge_u(lhs: V128, rhs: V128) -> V128
     ensures { result ≡ vector.ge_u w32 lhs rhs }
 {
-    lanewise_comparison::<U32x4, _>(lhs, rhs, |x, y| x >= y)
+    on_vectors::comparison::<U32x4, _>(lhs, rhs, |x, y| x >= y)
 }

@@ -1,11 +1,13 @@
-// One lane of a vector, at an index that is known only when the program runs. An array of the lanes would go through
-// memory: a lane is shifted out of its word, and put where the number of a lane is the index.
+//! One lane of a vector, at an index that is known only when the program runs.
+//!
+//! An array of the lanes would go through memory (docs/SPEED.md): a lane is shifted out of its word, and put where the
+//! number of a lane is the index.
 
 ghost use Rattle.std.specs.Prelude.{◌≡◌, ℕ, ◌+◌, ◌/◌, ◌%◌, ◌^◌, ◌<◌, ◌≤◌, ◌==◌, slice_index, if◌then◌else◌};
 ghost use Rattle.std.specs.List.{range_with_len};
 ghost use Rattle.wasmi_types.specs.Wrapping.{w8, w16, w32, w64};
 ghost use Rattle.wasmi_lanes.specs.Lane.{lane};
-ghost use Rattle.wasmi_lanes.specs.Vector.{replaced};
+ghost use Rattle.wasmi_lanes.specs.Vector.{with_lane};
 
 use std::simd::prelude::*;
 use wasmi_lanes::{ImmLaneIdx2, ImmLaneIdx4, ImmLaneIdx8, ImmLaneIdx16, LaneItem, bytes_of};
@@ -57,7 +59,7 @@ fn bits_from(vector: V128, first: u32) -> u64
 /// `vector` with `item` in one lane of 8 bits.
 #[inline(always)]
 pub(super) fn with_lane_of_8(vector: V128, at: ImmLaneIdx16, item: u8) -> V128
-    ensures { result ≡ replaced w8 vector at item }
+    ensures { result ≡ with_lane w8 vector at item }
 {
     let here = numbers_of_8().simd_eq(u8x16::splat(u8::from(at)));
     let items = here.select(u8x16::splat(item), bytes_of(vector)).to_array();
@@ -67,7 +69,7 @@ pub(super) fn with_lane_of_8(vector: V128, at: ImmLaneIdx16, item: u8) -> V128
 /// `vector` with `item` in one lane of 16 bits.
 #[inline(always)]
 pub(super) fn with_lane_of_16(vector: V128, at: ImmLaneIdx8, item: u16) -> V128
-    ensures { result ≡ replaced w16 vector at item }
+    ensures { result ≡ with_lane w16 vector at item }
 {
     let here = numbers_of_16().simd_eq(u16x8::splat(u16::from(u8::from(at))));
     let items = here
@@ -79,7 +81,7 @@ pub(super) fn with_lane_of_16(vector: V128, at: ImmLaneIdx8, item: u16) -> V128
 /// `vector` with `item` in one lane of 32 bits.
 #[inline(always)]
 pub(super) fn with_lane_of_32(vector: V128, at: ImmLaneIdx4, item: u32) -> V128
-    ensures { result ≡ replaced w32 vector at item }
+    ensures { result ≡ with_lane w32 vector at item }
 {
     let here = numbers_of_32().simd_eq(u32x4::splat(u32::from(u8::from(at))));
     let items = here
@@ -91,7 +93,7 @@ pub(super) fn with_lane_of_32(vector: V128, at: ImmLaneIdx4, item: u32) -> V128
 /// `vector` with `item` in one lane of 64 bits.
 #[inline(always)]
 pub(super) fn with_lane_of_64(vector: V128, at: ImmLaneIdx2, item: u64) -> V128
-    ensures { result ≡ replaced w64 vector at item }
+    ensures { result ≡ with_lane w64 vector at item }
 {
     let here = numbers_of_64().simd_eq(u64x2::splat(u64::from(u8::from(at))));
     let items = here

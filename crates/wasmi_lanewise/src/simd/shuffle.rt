@@ -1,4 +1,4 @@
-// Bytes chosen by their indices.
+//! Bytes chosen by their indices, by `std::simd`: an array of the bytes is slower (docs/SPEED.md).
 
 ghost use Rattle.std.specs.Prelude.{◌≡◌, ℕ, ◌%◌, ◌<◌, slice_index, length, nat_lt, if◌then◌else◌};
 ghost use Rattle.wasmi_lanewise.specs.VectorTable as vector;

@@ -1,11 +1,10 @@
-// Unary instructions.
+//! Unary instructions.
 
 ghost use Rattle.std.specs.Prelude.{◌≡◌};
 ghost use Rattle.wasmi_types.specs.Wrapping.{w8, w16, w32, w64};
 ghost use Rattle.wasmi_lanewise.specs.VectorTable as vector;
 
-use wasmi_lanes::lanewise::lanewise_unary;
-use wasmi_lanes::{I8x16, I16x8, I32x4, I64x2, U8x16, U16x8, U32x4, U64x2};
+use wasmi_lanes::{I8x16, I16x8, I32x4, I64x2, U8x16, U16x8, U32x4, U64x2, on_vectors};
 use wasmi_raw::V128;
 
 /// The lanes negated, modulo 2 to the power 8.
@@ -13,7 +12,7 @@ use wasmi_raw::V128;
 pub fn i8x16_neg(v: V128) -> V128
     ensures { result ≡ vector.neg w8 v }
 {
-    lanewise_unary::<U8x16, _>(v, |x| x.wrapping_neg())
+    on_vectors::unary::<U8x16, _>(v, |x| x.wrapping_neg())
 }
 
 /// The lanes negated, modulo 2 to the power 16.
@@ -21,7 +20,7 @@ pub fn i8x16_neg(v: V128) -> V128
 pub fn i16x8_neg(v: V128) -> V128
     ensures { result ≡ vector.neg w16 v }
 {
-    lanewise_unary::<U16x8, _>(v, |x| x.wrapping_neg())
+    on_vectors::unary::<U16x8, _>(v, |x| x.wrapping_neg())
 }
 
 /// The lanes negated, modulo 2 to the power 32.
@@ -29,7 +28,7 @@ pub fn i16x8_neg(v: V128) -> V128
 pub fn i32x4_neg(v: V128) -> V128
     ensures { result ≡ vector.neg w32 v }
 {
-    lanewise_unary::<U32x4, _>(v, |x| x.wrapping_neg())
+    on_vectors::unary::<U32x4, _>(v, |x| x.wrapping_neg())
 }
 
 /// The lanes negated, modulo 2 to the power 64.
@@ -37,7 +36,7 @@ pub fn i32x4_neg(v: V128) -> V128
 pub fn i64x2_neg(v: V128) -> V128
     ensures { result ≡ vector.neg w64 v }
 {
-    lanewise_unary::<U64x2, _>(v, |x| x.wrapping_neg())
+    on_vectors::unary::<U64x2, _>(v, |x| x.wrapping_neg())
 }
 
 /// The absolute values of the lanes, read signed; the least number is its own, modulo 2 to the power 8.
@@ -45,7 +44,7 @@ pub fn i64x2_neg(v: V128) -> V128
 pub fn i8x16_abs(v: V128) -> V128
     ensures { result ≡ vector.abs w8 v }
 {
-    lanewise_unary::<I8x16, _>(v, |x| x.wrapping_abs())
+    on_vectors::unary::<I8x16, _>(v, |x| x.wrapping_abs())
 }
 
 /// The absolute values of the lanes, read signed; the least number is its own, modulo 2 to the power 16.
@@ -53,7 +52,7 @@ pub fn i8x16_abs(v: V128) -> V128
 pub fn i16x8_abs(v: V128) -> V128
     ensures { result ≡ vector.abs w16 v }
 {
-    lanewise_unary::<I16x8, _>(v, |x| x.wrapping_abs())
+    on_vectors::unary::<I16x8, _>(v, |x| x.wrapping_abs())
 }
 
 /// The absolute values of the lanes, read signed; the least number is its own, modulo 2 to the power 32.
@@ -61,7 +60,7 @@ pub fn i16x8_abs(v: V128) -> V128
 pub fn i32x4_abs(v: V128) -> V128
     ensures { result ≡ vector.abs w32 v }
 {
-    lanewise_unary::<I32x4, _>(v, |x| x.wrapping_abs())
+    on_vectors::unary::<I32x4, _>(v, |x| x.wrapping_abs())
 }
 
 /// The absolute values of the lanes, read signed; the least number is its own, modulo 2 to the power 64.
@@ -69,7 +68,7 @@ pub fn i32x4_abs(v: V128) -> V128
 pub fn i64x2_abs(v: V128) -> V128
     ensures { result ≡ vector.abs w64 v }
 {
-    lanewise_unary::<I64x2, _>(v, |x| x.wrapping_abs())
+    on_vectors::unary::<I64x2, _>(v, |x| x.wrapping_abs())
 }
 
 /// How many bits of each lane are one.
@@ -77,5 +76,5 @@ pub fn i64x2_abs(v: V128) -> V128
 pub fn i8x16_popcnt(v: V128) -> V128
     ensures { result ≡ vector.popcnt w8 v }
 {
-    lanewise_unary::<U8x16, _>(v, |x| x.count_ones() as u8)
+    on_vectors::unary::<U8x16, _>(v, |x| x.count_ones() as u8)
 }

@@ -1,20 +1,31 @@
 //! The header lines of a script.
-ghost use Rattle.std.specs.Prelude.{◌≡◌, None, IsSomeAnd, OnOk, OnErr};
+ghost use Rattle.std.specs.Prelude.{◌≡◌, None, IsSomeAnd, IfErr, OnOk, OnErr};
+ghost use Rattle.wasmi_script.specs.Acceptance.{Accepts};
+ghost use Rattle.wasmi_script.specs.Headers.{NamesMeter, NamesLimiter, meter_of};
 
 use super::line::LineError;
 use super::number::number;
 use wasmi_core::{CustomFuelCosts, Fuel, FuelCostsProvider};
 
 /// What a `meter` line says.
-#[derive(Clone, Copy, Debug, PartialEq, Eq)]
+#[derive(Clone, Copy)]
 pub enum MeterLine {
+    /// `meter off`: no fuel is counted.
     Off,
-    /// On, with the number of bytes copied for one fuel.
+    /// `meter on R`: R bytes are copied for one fuel.
     On(u32),
 }
 
-/// What a `quota` line says: the most bytes and the most elements that the limiter permits.
-#[derive(Clone, Copy, Debug, PartialEq, Eq)]
+/// What a limiter line says. A script has at most one, of whatever kind.
+#[derive(Drop)]
+pub enum LimiterLine {
+    /// `quota B E`.
+    Quota(QuotaLine),
+}
+
+/// What a `quota` line says: the most bytes and the most elements that the limiter permits, of all memories and of all
+/// tables together.
+#[derive(Clone, Copy)]
 pub struct QuotaLine {
     /// The most bytes of memories.
     pub bytes: u64,
@@ -23,54 +34,44 @@ pub struct QuotaLine {
 }
 
 /// The header lines that a script has.
-#[derive(Clone, Copy, Debug, PartialEq, Eq, Default)]
+#[derive(Drop, Default)]
 pub struct Header {
-    /// The `meter` line, if there is one.
+    /// The `meter` line, if there is one. Without it the meter is off.
     pub meter: Option<MeterLine>,
-    /// The `quota` line, if there is one.
-    pub quota: Option<QuotaLine>,
+    /// The limiter line, if there is one. Without it no limiter is given.
+    pub limiter: Option<LimiterLine>,
 }
 
 impl Header {
-    ghost use Rattle.wasmi_script.specs.Headers.{NamesMeter, NamesQuota, meter_of};
-
-    /// Takes in a `meter` line, of which a script has at most one, without that word.
+    /// Takes in a `meter` line, of which a script has at most one.
     pub fn take_meter(&mut self, words: &[&str]) -> Result<(), LineError>
         ensures first { OnOk result (self.old.meter ≡ None) }
         ensures meter { OnOk result (IsSomeAnd self.new.meter (NamesMeter words.now)) }
-        ensures others { self.new.quota ≡ self.old.quota }
+        ensures others { self.new.limiter ≡ self.old.limiter }
         ensures err { OnErr result (self.new ≡ self.old) }
+        ensures refused { IfErr result (λ error. error ≡ LineError.BadCommand → self.old.meter ≡ None
+            → (line : MeterLine) → ¬ (NamesMeter words.now line)) }
     {
         if self.meter.is_some() {
             return Err(LineError::BadCommand);
         }
-        let meter = match words {
-            ["off"] => MeterLine::Off,
-            ["on", bytes_per_fuel] => MeterLine::On(number(bytes_per_fuel)?),
-            _ => return Err(LineError::BadCommand),
-        };
-        self.meter = Some(meter);
+        self.meter = Some(meter_line(words)?);
         Ok(())
     }
 
-    /// Takes in a `quota` line, of which a script has at most one, without that word.
-    pub fn take_quota(&mut self, words: &[&str]) -> Result<(), LineError>
-        ensures first { OnOk result (self.old.quota ≡ None) }
-        ensures quota { OnOk result (IsSomeAnd self.new.quota (NamesQuota words.now)) }
+    /// Takes in a limiter line, of which a script has at most one.
+    pub fn take_limiter(&mut self, words: &[&str]) -> Result<(), LineError>
+        ensures first { OnOk result (self.old.limiter ≡ None) }
+        ensures limiter { OnOk result (IsSomeAnd self.new.limiter (NamesLimiter words.now)) }
         ensures others { self.new.meter ≡ self.old.meter }
         ensures err { OnErr result (self.new ≡ self.old) }
+        ensures refused { IfErr result (λ error. error ≡ LineError.BadCommand → self.old.limiter ≡ None
+            → (line : LimiterLine) → ¬ (NamesLimiter words.now line)) }
     {
-        if self.quota.is_some() {
+        if self.limiter.is_some() {
             return Err(LineError::BadCommand);
         }
-        let [bytes, elements] = words else {
-            return Err(LineError::BadCommand);
-        };
-        let quota = QuotaLine {
-            bytes: number(bytes)?,
-            elements: number(elements)?,
-        };
-        self.quota = Some(quota);
+        self.limiter = Some(limiter_line(words)?);
         Ok(())
     }
 
@@ -89,5 +90,29 @@ impl Header {
             }
             Some(MeterLine::Off) | None => Fuel::new(false, FuelCostsProvider::default()),
         }
+    }
+}
+
+/// What the words of a `meter` line say.
+fn meter_line(words: &[&str]) -> Result<MeterLine, LineError>
+    ensures { Accepts result (NamesMeter words.now) }
+{
+    match words {
+        ["meter", "off"] => Ok(MeterLine::Off),
+        ["meter", "on", bytes_per_fuel] => Ok(MeterLine::On(number(bytes_per_fuel)?)),
+        _ => Err(LineError::BadCommand),
+    }
+}
+
+/// What the words of a limiter line say.
+fn limiter_line(words: &[&str]) -> Result<LimiterLine, LineError>
+    ensures { Accepts result (NamesLimiter words.now) }
+{
+    match words {
+        ["quota", bytes, elements] => Ok(LimiterLine::Quota(QuotaLine {
+            bytes: number(bytes)?,
+            elements: number(elements)?,
+        })),
+        _ => Err(LineError::BadCommand),
     }
 }

@@ -6,9 +6,11 @@ ghost use Rattle.wasmi_script.specs.declared.script.line.LineError.TheVariants.{
 use std::alloc::{AllocError, AllocFailed, Global};
 
 /// Why a line isn't taken.
-#[derive(Clone, Copy, Debug, PartialEq, Eq)]
+#[derive(Clone, Copy)]
 pub enum LineError {
+    /// It is no command, or no header line that may stand there.
     BadCommand,
+    /// There isn't enough memory for its words or its call.
     OutOfMemory,
 }
 

@@ -86,12 +86,13 @@ fn takes_no_other_numbers_or_words(rt: HostRuntime) {
 
 #[test]
 fn names_a_later_bad_line(rt: HostRuntime) {
-    let rows: [(&str, &str); 9] = [
+    let rows: [(&str, &str); 10] = [
         ("fuel 1\nmeter on 64\nmeter", "line 2: bad command\n"),
         ("meter off\nmeter off", "line 2: bad command\n"),
         ("meter on 1\nmeter off\n", "line 2: bad command\n"),
         ("left\nquota 1 1", "line 2: bad command\n"),
         ("quota 1 1\nquota 1 1", "line 2: bad command\n"),
+        ("quota 1 1\nmeter off\nquota 2 2", "line 3: bad command\n"),
         ("meter off\n\ngrow 0", "line 3: bad command\n"),
         ("\n\n\n\n\n\n\n\n\nleft 1", "line 10: bad command\n"),
         ("\n \nleft\n\nmeter off\nleft 1", "line 5: bad command\n"),

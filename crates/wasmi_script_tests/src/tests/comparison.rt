@@ -112,11 +112,11 @@ fn reads_from_slow_readers(rt: HostRuntime) {
     }
 }
 
-// What of the mixed table's lines reaches this writer.
-fn ends<R: Abort>(rt: &R, alloc: Global, writer: &mut Target, sent: usize, status: Status) {
+// What of the mixed table's lines reaches this writer, which takes one byte a turn where its good turns come to an end.
+fn ends<R: Abort>(rt: &R, alloc: Global, writer: &mut Target, status: Status) {
     let ended = compare(alloc, Source::of(MIXED.as_bytes()), writer);
     same(rt, ended, status, "how it ends");
-    let sent = sent.min(MIXED_PRINTED.len());
+    let sent = writer.good_turns.min(MIXED_PRINTED.len());
     same_text(rt, writer.text(), &MIXED_PRINTED.as_bytes()[..sent]);
 }
 
@@ -125,7 +125,7 @@ fn prints_to_slow_writers(rt: HostRuntime) {
     for at_once in [1, 2, 7, 500] {
         let mut writer = Target::new(rt.alloc());
         writer.at_once = at_once;
-        ends(&rt, rt.alloc(), &mut writer, usize::MAX, Status::Differed);
+        ends(&rt, rt.alloc(), &mut writer, Status::Differed);
         same(&rt, writer.is_flushed, true, "all is flushed");
     }
 }
@@ -138,10 +138,10 @@ fn tells_of_writers_that_fail(rt: HostRuntime) {
             writer.at_once = 1;
             writer.good_turns = good_turns;
             writer.after = after;
-            ends(&rt, rt.alloc(), &mut writer, good_turns, Status::Fault);
+            ends(&rt, rt.alloc(), &mut writer, Status::Fault);
         }
     }
     let mut writer = Target::new(rt.alloc());
     writer.flush_fails = true;
-    ends(&rt, rt.alloc(), &mut writer, usize::MAX, Status::Fault);
+    ends(&rt, rt.alloc(), &mut writer, Status::Fault);
 }

@@ -2,70 +2,41 @@
 use super::streams::{After, Source, Target};
 use super::{METERED, METERED_PRINTED, same, same_text};
 use std::alloc::Global;
+use std::io::ErrorKind;
 use std::process::Abort;
 use wasmi_script::{Status, replay};
 
-// What the metered script prints to this writer, of which it takes so many bytes.
-fn ends<R: Abort>(rt: &R, alloc: Global, writer: &mut Target, sent: usize, status: Status) {
+// What the metered script prints to this writer, which takes one byte a turn where its good turns come to an end.
+fn ends<R: Abort>(rt: &R, alloc: Global, writer: &mut Target, status: Status) {
     let ended = replay(alloc, &mut Source::of(METERED.as_bytes()), writer);
     same(rt, ended, status, "how it ends");
-    let sent = sent.min(METERED_PRINTED.len());
+    let sent = writer.good_turns.min(METERED_PRINTED.len());
     same_text(rt, writer.text(), &METERED_PRINTED.as_bytes()[..sent]);
 }
 
 #[test]
-fn prints_byte_by_byte(rt: HostRuntime) {
-    let mut writer = Target::new(rt.alloc());
-    writer.at_once = 1;
-    ends(
-        &rt,
-        rt.alloc(),
-        &mut writer,
-        METERED_PRINTED.len(),
-        Status::Answered,
-    );
-    same(
-        &rt,
-        writer.turns,
-        METERED_PRINTED.len(),
-        "a turn for each byte",
-    );
-}
-
-#[test]
 fn prints_to_slow_writers(rt: HostRuntime) {
-    for at_once in [2, 3, 7, 40, 500] {
+    for at_once in [1, 2, 3, 7, 40, 500] {
         let mut writer = Target::new(rt.alloc());
         writer.at_once = at_once;
-        ends(
-            &rt,
-            rt.alloc(),
-            &mut writer,
-            METERED_PRINTED.len(),
-            Status::Answered,
-        );
+        ends(&rt, rt.alloc(), &mut writer, Status::Answered);
         same(&rt, writer.is_flushed, true, "all is flushed");
+        if at_once == 1 {
+            same(&rt, writer.turns, METERED_PRINTED.len(), "turns");
+        }
     }
 }
 
 #[test]
-fn stops_where_a_write_fails(rt: HostRuntime) {
+fn stops_where_a_write_fails_or_takes_nothing(rt: HostRuntime) {
     for good_turns in 0..METERED_PRINTED.len() {
-        let mut writer = Target::new(rt.alloc());
-        writer.at_once = 1;
-        writer.good_turns = good_turns;
-        ends(&rt, rt.alloc(), &mut writer, good_turns, Status::Fault);
-    }
-}
-
-#[test]
-fn stops_where_no_byte_is_taken(rt: HostRuntime) {
-    for good_turns in 0..METERED_PRINTED.len() {
-        let mut writer = Target::new(rt.alloc());
-        writer.at_once = 1;
-        writer.good_turns = good_turns;
-        writer.after = After::TakesNothing;
-        ends(&rt, rt.alloc(), &mut writer, good_turns, Status::Fault);
+        for after in [After::Fails(ErrorKind::Interrupted), After::TakesNothing] {
+            let mut writer = Target::new(rt.alloc());
+            writer.at_once = 1;
+            writer.good_turns = good_turns;
+            writer.after = after;
+            ends(&rt, rt.alloc(), &mut writer, Status::Fault);
+        }
     }
 }
 
@@ -75,13 +46,7 @@ fn a_flush_that_fails_is_a_fault(rt: HostRuntime) {
         let mut writer = Target::new(rt.alloc());
         writer.at_once = at_once;
         writer.flush_fails = true;
-        ends(
-            &rt,
-            rt.alloc(),
-            &mut writer,
-            METERED_PRINTED.len(),
-            Status::Fault,
-        );
+        ends(&rt, rt.alloc(), &mut writer, Status::Fault);
     }
 }
 

@@ -4,7 +4,8 @@ use std::num::{
     NonZeroI8, NonZeroI16, NonZeroI32, NonZeroI64, NonZeroU8, NonZeroU16, NonZeroU32, NonZeroU64,
 };
 use std::process::Abort;
-use wasmi_raw::{F32, F64, RawVal, ReadAs, V128, WriteAs};
+use wasmi_raw::laws::written_value_is_read;
+use wasmi_raw::{F32, F64, RawVal, ReadAs, ReadBack, V128, WriteAs};
 
 const ONES: RawVal = RawVal {
     lo: u64::MAX,
@@ -12,7 +13,7 @@ const ONES: RawVal = RawVal {
 };
 
 /// All ones, with `value` written to it.
-fn over<T>(value: T) -> RawVal
+fn over<T: ReadBack>(value: T) -> RawVal
 where
     RawVal: WriteAs<T>,
 {
@@ -22,11 +23,13 @@ where
 }
 
 /// Writes a value over all ones, and reads it back.
-fn check_read_back<T: Copy + PartialEq + Debug>(rt: &impl Abort, value: T)
+fn check_read_back<T: Copy + PartialEq + Debug + ReadBack<Read = T>>(rt: &impl Abort, value: T)
 where
-    RawVal: WriteAs<T> + ReadAs<T>,
+    RawVal: WriteAs<T>,
 {
     same(rt, over(value).read_as(), value);
+    let mut raw = ONES;
+    same(rt, written_value_is_read(&mut raw, value), value);
 }
 
 #[test]
@@ -45,7 +48,7 @@ fn what_is_written_is_read_back(rt: HostRuntime) {
 }
 
 /// Makes a raw value of a value, and writes the value over all ones. Both set the low word alone.
-fn check_low_word<T: Copy + Into<RawVal>>(rt: &impl Abort, what: &str, value: T, lo: u64)
+fn check_low_word<T: Copy + Into<RawVal> + ReadBack>(rt: &impl Abort, what: &str, value: T, lo: u64)
 where
     RawVal: WriteAs<T>,
 {

@@ -22,7 +22,7 @@ loop-index-preserved c =
     let new = c.take_line.new.self in
     let same : map (λ word. word.now) c.as_slice.result.now ≡ words_in c.in-Some.bytes.now =
     ap (map (λ word. word.now)) c.as_slice.ensures.value ∙ c.in_ok-words.ensures ∙ ap words_in c.in-Ok.ensures.cases.0 in
-    let line_taken : TakesLine c.loop-index.script c.in-Some.bytes.now new = (c.as_slice.result.now, same, c.in-Ok-take_line.ensures) in (
+    let line_taken : TakesLine c.loop-index.script c.in-Some.bytes.now new = (c.as_slice.result.now, same, c.in-Ok-take_line.ensures.ok) in (
       grind (arith, common_steps),
       empty,
       no_header,

@@ -1,35 +1,34 @@
 use Rattle.std.proofs.Common.{refl}
 use Rattle.wasmi_meter.specs.LimiterRef.{state}
-use Rattle.wasmi_core.specs.State.{memory_at}
+use Rattle.wasmi_core.specs.State.{live_at}
 use Rattle.wasmi_core.specs.MemoryRows.{bytes_appended}
-use Rattle.wasmi_core.proofs.Turns.{free}
 use Rattle.wasmi_core.proofs.machine.Machine.step_memory.Goals as goal
 
 pub returns-in-NewMemory-clause-step : goal.returns-in-NewMemory-clause-step
 returns-in-NewMemory-clause-step g c = (
   0,
   0,
-  rw (c.in-NewMemory.is, ← c.self.view_is) (free _ _, c.create.new.self, state c.create.new.limiter, c.create.ensures.made, refl),
+  rw (c.in-NewMemory.is, ← c.self.view_is) ((refl, refl), c.create.new.self.slots.items, state c.create.new.limiter, c.create.ensures.made, refl),
 )
 
 pub returns-in-GrowMemory-clause-step : goal.returns-in-GrowMemory-clause-step
 returns-in-GrowMemory-clause-step g c =
     let grown = c.grow.ensures.grown in (
       grown.0,
-      bytes_appended (memory_at c.self.inside.memories c.in-GrowMemory.memory) c.in-GrowMemory.pages c.grow.result,
-      rw (c.in-GrowMemory.is, ← c.self.view_is) (c.grow.new.self, c.grow.new.fuel, state c.grow.new.limiter, grown.1, refl, refl),
+      bytes_appended (live_at c.self.inside.memories.slots.items c.in-GrowMemory.memory) c.in-GrowMemory.pages c.grow.result,
+      rw (c.in-GrowMemory.is, ← c.self.view_is) (c.grow.new.self.slots.items, c.grow.new.fuel, state c.grow.new.limiter, grown.1, refl, refl),
     )
 
 pub returns-in-Read-clause-step : goal.returns-in-Read-clause-step
-returns-in-Read-clause-step g c = (0, 0, rw (c.in-Read.is, ← c.self.view_is) (free _ _, c.read.ensures, refl))
+returns-in-Read-clause-step g c = (0, 0, rw (c.in-Read.is, ← c.self.view_is) ((refl, refl), c.read.ensures, refl))
 
 pub returns-in-Write-clause-step : goal.returns-in-Write-clause-step
 returns-in-Write-clause-step g c =
-    (0, 0, rw (c.in-Write.is, ← c.self.view_is) (free _ _, c.write.new.self, rw c.deref.ensures.value at c.write.ensures, refl))
+    (0, 0, rw (c.in-Write.is, ← c.self.view_is) ((refl, refl), c.write.new.self.slots.items, rw c.deref.ensures.value at c.write.ensures, refl))
 
 pub returns-in-Load-clause-step : goal.returns-in-Load-clause-step
-returns-in-Load-clause-step g c = (0, 0, rw (c.in-Load.is, ← c.self.view_is) (free _ _, c.load.ensures, refl))
+returns-in-Load-clause-step g c = (0, 0, rw (c.in-Load.is, ← c.self.view_is) ((refl, refl), c.load.ensures, refl))
 
 pub returns-in-Store-clause-step : goal.returns-in-Store-clause-step
 returns-in-Store-clause-step g c =
-    (0, 0, rw (c.in-Store.is, ← c.self.view_is) (free _ _, c.store.new.self, c.store.ensures, refl))
+    (0, 0, rw (c.in-Store.is, ← c.self.view_is) ((refl, refl), c.store.new.self.slots.items, c.store.ensures, refl))

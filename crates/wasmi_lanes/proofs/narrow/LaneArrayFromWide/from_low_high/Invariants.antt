@@ -3,7 +3,7 @@ use Rattle.wasmi_lanes.proofs.narrow.LaneArrayFromWide.from_low_high.Given as go
 
 abbrev pub invariant-loop-i : goal.invariant-loop-i
 invariant-loop-i g l =
-    let default = g.T.LaneItem.ALL_ZEROS in
-    let wide = g.U.LaneItem.ALL_ZEROS in
+    let default = g.T.LaneInteger.ALL_ZEROS in
+    let wide = g.U.LaneInteger.ALL_ZEROS in
     ((k : ℕ) → k < l.i → goal.F-post g l.f (slice_index_or l.fn.low.items k wide) (slice_index_or l.items k default))
     × ((k : ℕ) → k < l.i → goal.F-post g l.f (slice_index_or l.fn.high.items k wide) (slice_index_or l.items (g.row.M + k) default))

@@ -1,9 +1,9 @@
-use Rattle.std.proofs.Common.{◌*◌, ◌/◌, ◌%◌, ◌^◌, ◌∙◌, ap, arith}
-use Rattle.std.proofs.lemmas.Nat.{and_mask}
+use Rattle.std.proofs.Common.{◌∙◌, arith}
+use Rattle.wasmi_types.specs.Wrapping.{w16}
+use Rattle.wasmi_lanewise.proofs.OneLane.{lane_of_bits}
 use Rattle.wasmi_lanewise.proofs.simd.one_lane.lane_of_16.Goals as goal
 
 pub returns : goal.returns
 returns c =
     let index = c.from.ensures in
-    let at = c.from-2.ensures ∙ index.0 in
-    and_mask c.bits_from.result 16 ∙ c.bits_from.ensures.bits 16 (omega arith) ∙ ap (λ k. c.args.vector / 2 ^ (16 * k) % 2 ^ 16) at
+    lane_of_bits w16 c.args.vector _ c.args.at c.bits_from.result (c.from-2.ensures ∙ index.0) (c.bits_from.ensures.bits 16 (omega arith))

@@ -1,6 +1,6 @@
 use Rattle.std.proofs.Common.{◌%◌, ◌∙◌, refl, ap, slice_index, nat_lt, if◌then◌else◌, arith}
 use Rattle.wasmi_lanes.specs.Lane.{lane}
-use Rattle.wasmi_lanes.specs.Vector.{lanewise_unary}
+use Rattle.wasmi_lanes.specs.Vector.{unary_of_lanes}
 use Rattle.wasmi_lanes.proofs.Vectors.{lanes_make_vector}
 use Rattle.wasmi_types.specs.Wrapping.{w8}
 use Rattle.std.proofs.lemmas.Simd.{get_or-replicate}
@@ -8,7 +8,7 @@ use Rattle.wasmi_lanewise.proofs.Chosen.{first_or_other}
 use Rattle.wasmi_lanewise.proofs.simd.shuffle.i8x16_swizzle.Goals as goal
 
 pub returns : goal.returns
-unfolding lanewise_unary
+unfolding unary_of_lanes
 returns c =
     let index = slice_index c.bytes_of-indices.result in
     lanes_make_vector w8 16 c.from_bytes.result _ refl c.from_bytes.ensures.in_range

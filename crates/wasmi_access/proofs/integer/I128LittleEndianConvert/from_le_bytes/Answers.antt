@@ -1,0 +1,7 @@
+use Rattle.std.proofs.Common.{rules, refl}
+use Rattle.std.specs.Int.{w128}
+use Rattle.wasmi_access.proofs.ByteLemmas.{le_bytes-signed}
+use Rattle.wasmi_access.proofs.integer.I128LittleEndianConvert.from_le_bytes.Goals as goal
+
+pub returns-clause-round_trip : goal.returns-clause-round_trip
+returns-clause-round_trip c = le_bytes-signed w128 c.args.bytes 15 c.from_le_bytes.result refl (search rules) (search rules) (search rules) c.from_le_bytes.ensures

@@ -1,0 +1,64 @@
+-- What calls on slots have in common: what each does to the list of slots and in a turn.
+use Rattle.std.specs.Prelude.{◌≡◌, ◌⊎◌, ◌++◌, ℕ, Option, Some, None, Result, Ok, Err, List, [], ◌∷◌, length, slice_set}
+use Rattle.wasmi_meter.specs.Attempt.{Situation, with_value}
+use Rattle.wasmi_meter.specs.Meter.{Meter}
+use Rattle.wasmi_core.specs.declared.calls.Reply.{Reply}
+use Rattle.wasmi_core.specs.declared.calls.Reply.TheVariants.{Made, NoSuch, NoRoom}
+use Rattle.wasmi_core.specs.declared.slots.Slot.{Slot}
+use Rattle.wasmi_core.specs.declared.slots.Slot.TheVariants.{Live}
+use Rattle.wasmi_core.specs.State.{State, live_at}
+use Rattle.wasmi_core.specs.World.{World, Turn, IsFree}
+
+-- the reply to a call that answers or is refused
+abbrev pub reply_of : {T E : Type 0} → (T → Reply) → (E → Reply) → Result T E → Reply
+reply_of answer refusal (Ok value) = answer value
+reply_of answer refusal (Err error) = refusal error
+
+-- a fact of the live value of an index; where the index names none, the other fact
+abbrev pub OnLive : {X : Type 0} → Option X → Type 0 → (X → Type 0) → Type 0
+OnLive None Missing Fact = Missing
+OnLive (Some x) Missing Fact = Fact x
+
+-- the live value of an index has become another; where the index names none it is `NoSuch`, and nothing has changed
+abbrev pub ChangesAt : {X : Type 0} → ℕ → List (Slot X) → Reply → List (Slot X) → (X → X → Type 0) → Type 0
+ChangesAt k slots reply slots' Change = OnLive (live_at slots k) ((reply ≡ NoSuch) × (slots' ≡ slots))
+    (λ x. (x' : _) × Change x x' × (slots' ≡ slice_set slots k (Live x')))
+
+-- the reply to a creation, and the slots after it: a new one at the end where it succeeds
+abbrev pub AppendsSlot : {X E : Type 0} → (E → Reply) → Result X E → List (Slot X) → Reply → List (Slot X) → Type 0
+AppendsSlot refusal (Ok x) slots reply slots' = (reply ≡ Made (length slots)) × (slots' ≡ slots ++ Live x ∷ [])
+AppendsSlot refusal (Err error) slots reply slots' = (reply ≡ refusal error) × (slots' ≡ slots)
+
+-- a creation under a limiter: without room for a slot nothing is asked
+abbrev pub Creates : {X E S : Type 0} → (E → Reply) → (S → Result X E → S → Type 0) → List (Slot X) → S → Reply → List (Slot X) → S → Type 0
+Creates refusal Makes slots l reply slots' l' = ((reply ≡ NoRoom) × (slots' ≡ slots) × (l' ≡ l))
+    ⊎ ((result : _) × Makes l result l' × AppendsSlot refusal result slots reply slots')
+
+-- an index names nothing: there is no charge, and nothing has changed
+abbrev pub IsNoSuch : {A S : Type 0} → Situation A S → Reply → ℕ → Situation A S → Type 0
+IsNoSuch s reply charge s' = (reply ≡ NoSuch) × (charge ≡ 0) × (s' ≡ s)
+
+-- a call with a charge on the live value of an index, with the reply to each result
+abbrev pub ActsAt : {X R S : Type 0} → ℕ → (R → Reply) → (Situation X S → R → ℕ → Situation X S → Type 0) → Situation (List (Slot X)) S → Reply → ℕ → Situation (List (Slot X)) S → Type 0
+ActsAt k reply_to Acts s reply charge s' = OnLive (live_at s.value k) (IsNoSuch s reply charge s')
+    (λ x. (result : _) × (x' : _) × Acts (with_value s x) result charge (with_value s' x')
+    × (reply ≡ reply_to result) × (s'.value ≡ slice_set s.value k (Live x')))
+
+module _ {S : Type 0} (w : World S) (turn : Turn) (w' : World S) where
+  -- a turn that changes nothing but what its reply tells
+  abbrev pub OnlyReplies : (Reply → Type 0) → Type 0
+  OnlyReplies Row = IsFree turn × Row turn.reply × (w' ≡ w)
+
+  -- a turn that changes one part of the state
+  abbrev pub Changes : {A : Type 0} → (A → State) → (Reply → A → Type 0) → Type 0
+  Changes with_part Row = IsFree turn × (part : _) × Row turn.reply part × (w' ≡ record w { state = with_part part })
+
+  -- a turn that makes something under the limiter, without a charge
+  abbrev pub Asks : {A : Type 0} → (A → State) → (S → Reply → A → S → Type 0) → Type 0
+  Asks with_part Row = IsFree turn × (part : _) × (l : S) × Row w.limiter turn.reply part l × (w' ≡ record { state = with_part part; limiter = l })
+
+  -- a turn that acts on one part of the state, with a charge, and with the bytes that it has written by its reply
+  abbrev pub Pays : {A : Type 0} → A → (A → State) → (Situation A S → Reply → ℕ → Situation A S → Type 0) → (Reply → ℕ) → Type 0
+  Pays part with_part Row written = (part' : _) × (m : Meter) × (l : S)
+      × Row (record { value = part; meter = Some w.state.meter; limiter = w.limiter }) turn.reply turn.charge (record { value = part'; meter = Some m; limiter = l })
+      × (turn.written ≡ written turn.reply) × (w' ≡ record { state = record (with_part part') { meter = m }; limiter = l })

@@ -1,0 +1,52 @@
+//! Lane by lane work on whole vectors: each function gives the vector of whatever row its closure computes.
+
+ghost use Rattle.std.specs.Prelude.{◌≡◌, ℕ, Bool};
+ghost use Rattle.wasmi_lanes.specs.Vector.{unary_of_lanes, binary_of_lanes, comparison_of_lanes, splat_of};
+
+use crate::lanes::Lanes;
+use wasmi_raw::V128;
+
+/// Applies `f` to the lanes of a vector.
+#[inline(always)]
+pub fn unary<L: Lanes, F: Fn(L::Item) -> L::Item>(a: V128, f: F) -> V128
+    requires callable { F.IsAlwaysCallable f }
+    ensures lanes { (row : L.Item → ℕ)
+        → ((x z : L.Item) → L.Item.Fits x → L.Item.Fits z → F.post f x z → L.Item.image z ≡ row x)
+        → result ≡ unary_of_lanes L.Item.width L.Item.read row a }
+{
+    L::from_v128(a).lanewise_unary(f).into_v128()
+}
+
+/// Applies `f` to the lanes of two vectors.
+#[inline(always)]
+pub fn binary<L: Lanes, F: Fn(L::Item, L::Item) -> L::Item>(a: V128, b: V128, f: F) -> V128
+    requires callable { F.IsAlwaysCallable f }
+    ensures lanes { (row : L.Item → L.Item → ℕ)
+        → ((x y z : L.Item) → L.Item.Fits x → L.Item.Fits y → L.Item.Fits z → F.post f x y z → L.Item.image z ≡ row x y)
+        → result ≡ binary_of_lanes L.Item.width L.Item.read row a b }
+{
+    L::from_v128(a)
+        .lanewise_binary(L::from_v128(b), f)
+        .into_v128()
+}
+
+/// All ones in the lanes where `f` holds of the operands' lanes, else all zeros.
+#[inline(always)]
+pub fn comparison<L: Lanes, F: Fn(L::Item, L::Item) -> bool>(a: V128, b: V128, f: F) -> V128
+    requires callable { F.IsAlwaysCallable f }
+    ensures lanes { (test : L.Item → L.Item → Bool)
+        → ((x y : L.Item) (holds : Bool) → L.Item.Fits x → L.Item.Fits y → F.post f x y holds → holds ≡ test x y)
+        → result ≡ comparison_of_lanes L.Item.width L.Item.read test a b }
+{
+    L::from_v128(a)
+        .lanewise_comparison(L::from_v128(b), f)
+        .into_v128()
+}
+
+/// The vector with `value` in each lane.
+#[inline(always)]
+pub fn splat<L: Lanes>(value: L::Item) -> V128
+    ensures lanes { (number : ℕ) → (L.Item.Fits value → L.Item.image value ≡ number) → result ≡ splat_of L.Item.width number }
+{
+    L::splat(value).into_v128()
+}

@@ -1,0 +1,30 @@
+//! Vectors as the SIMD vectors of std.
+
+ghost use Rattle.std.specs.Prelude.{◌≡◌, ℕ, ◌^◌, ◌<◌, slice_index_or};
+ghost use Rattle.std.specs.Simd.Lanes.{number_l};
+ghost use Rattle.wasmi_types.specs.Wrapping.{w8};
+ghost use Rattle.wasmi_lanes.specs.Lane.{lane};
+
+use std::simd::prelude::*;
+use wasmi_raw::V128;
+
+/// The bytes of a vector, the lowest first.
+#[inline(always)]
+pub fn bytes_of(vector: V128) -> u8x16
+    ensures number { number_l (2 ^ 8) result ≡ vector }
+    ensures lanes { (i : ℕ) → i < 16 → slice_index_or result i 0 ≡ lane w8 vector i }
+{
+    let (low, high) = vector.words();
+    u64x2::from_array([low, high]).to_le_bytes()
+}
+
+/// The vector of these bytes, the lowest first.
+#[inline(always)]
+pub fn from_bytes(bytes: u8x16) -> V128
+    ensures number { result ≡ number_l (2 ^ 8) bytes }
+    ensures lanes { (i : ℕ) → i < 16 → lane w8 result i ≡ slice_index_or bytes i 0 }
+    ensures in_range { result < 2 ^ 128 }
+{
+    let [low, high] = u64x2::from_le_bytes(bytes).to_array();
+    V128::from_words(low, high)
+}

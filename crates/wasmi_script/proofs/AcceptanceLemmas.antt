@@ -1,0 +1,11 @@
+-- What is accepted, in other words.
+use Rattle.std.specs.Prelude.{Result, Ok, Err}
+use Rattle.wasmi_script.specs.declared.script.line.LineError.{LineError}
+use Rattle.wasmi_script.specs.declared.script.line.LineError.TheVariants.{BadCommand, OutOfMemory}
+use Rattle.wasmi_script.specs.Acceptance.{Accepts}
+
+-- what two facts mean that hold of the same values
+pub accepts_same : {A : Type 0} (r : Result A LineError) (P Q : A → Type 0) → ((a : A) → P a → Q a) → ((a : A) → Q a → P a) → Accepts r P → Accepts r Q
+accepts_same (Ok a) P Q there back p = there a p
+accepts_same (Err BadCommand) P Q there back p = λ a q. p a (back a q)
+accepts_same (Err OutOfMemory) P Q there back p = tt

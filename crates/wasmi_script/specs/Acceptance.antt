@@ -1,0 +1,10 @@
+-- What is taken of a line, and what is a bad command.
+use Rattle.std.specs.Prelude.{Result, Ok, Err, ⊤}
+use Rattle.wasmi_script.specs.declared.script.line.LineError.{LineError}
+use Rattle.wasmi_script.specs.declared.script.line.LineError.TheVariants.{BadCommand, OutOfMemory}
+
+-- what is accepted is meant, and where it is a bad command nothing is meant
+abbrev pub Accepts : {A : Type 0} → Result A LineError → (A → Type 0) → Type 0
+Accepts (Ok a) Means = Means a
+Accepts (Err BadCommand) Means = (a : _) → ¬ (Means a)
+Accepts (Err OutOfMemory) Means = ⊤

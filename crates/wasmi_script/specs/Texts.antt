@@ -1,0 +1,47 @@
+-- What the program prints of a reply, and why it runs no script.
+use Rattle.std.specs.Prelude.{ℕ, List, ◌++◌, codes, flat_map}
+use Rattle.std.specs.Fmt.{decimal}
+use Rattle.wasmi_types.specs.Trap.{code_message}
+use Rattle.wasmi_meter.specs.Texts.{fuel_error_text, memory_error_text}
+use Rattle.wasmi_core.specs.declared.calls.Call.{Call}
+use Rattle.wasmi_core.specs.declared.calls.Call.TheVariants.{SetFuel, GetFuel, NewMemory, GrowMemory, Read, Write, Load, Store}
+use Rattle.wasmi_core.specs.declared.calls.Reply.{Reply}
+use Rattle.wasmi_core.specs.declared.calls.Reply.TheVariants.{Done, Made, Value, Number, Bytes, Memory, Fuel, Trap, NoSuch, NoRoom}
+use Rattle.wasmi_script.specs.declared.error.ReplayError.{ReplayError}
+use Rattle.wasmi_script.specs.declared.error.ReplayError.TheVariants.{BadCommand, TooLong, ReadFault}
+use Rattle.wasmi_script.specs.declared.error.ReplayError.TheVariants as Errors
+
+-- the word for what a call makes; only creations make anything
+abbrev pub kind_text : Call → List ℕ
+kind_text (SetFuel fuel) = codes "nothing"
+kind_text GetFuel = codes "nothing"
+kind_text (NewMemory ty) = codes "memory"
+kind_text (GrowMemory memory pages) = codes "nothing"
+kind_text (Read memory offset len) = codes "nothing"
+kind_text (Write memory offset bytes) = codes "nothing"
+kind_text (Load op memory ptr offset) = codes "nothing"
+kind_text (Store op memory ptr offset value) = codes "nothing"
+
+-- a space and a number for each byte
+abbrev pub bytes_text : List ℕ → List ℕ
+bytes_text bytes = flat_map (λ byte. codes " " ++ decimal byte) bytes
+
+-- the reply to a call
+abbrev pub reply_text : Call → Reply → List ℕ
+reply_text call Done = codes "done"
+reply_text call (Made index) = kind_text call ++ (codes " " ++ decimal index)
+reply_text call (Value value) = codes "raw " ++ (decimal value.lo ++ (codes " " ++ decimal value.hi))
+reply_text call (Number number) = codes "value " ++ decimal number
+reply_text call (Bytes bytes) = codes "bytes" ++ bytes_text bytes
+reply_text call (Memory error) = codes "error " ++ memory_error_text error
+reply_text call (Fuel error) = codes "error " ++ fuel_error_text error
+reply_text call (Trap code) = codes "error " ++ code_message code
+reply_text call NoSuch = codes "no such"
+reply_text call NoRoom = codes "no room"
+
+-- why a script isn't run
+abbrev pub error_text : ReplayError → List ℕ
+error_text (BadCommand line) = codes "line " ++ (decimal line ++ codes ": bad command")
+error_text TooLong = codes "script too long"
+error_text Errors.OutOfMemory = codes "out of memory"
+error_text ReadFault = codes "read fault"

@@ -1,0 +1,127 @@
+//! Commands of memories.
+ghost use Rattle.std.specs.Prelude.{◌≡◌, codes, IfErr, IfOk};
+ghost use Rattle.wasmi_script.specs.Acceptance.{Accepts};
+ghost use Rattle.wasmi_script.specs.Commands.{NamesAfter};
+ghost use Rattle.wasmi_script.specs.MemoryWords.{HasSettings, NamesType, width_word};
+ghost use Rattle.wasmi_script.specs.Numbers.{AreBytes, WritesBytes, WritesLimit};
+
+use super::super::line::LineError;
+use super::super::number::number;
+use std::alloc::Global;
+use wasmi_core::{Call, IndexType, MemoryType};
+
+/// `memory MIN MAX LOG2 WIDTH`.
+pub fn new_memory(operands: &[&str]) -> Result<Call, LineError>
+    ensures { Accepts result (NamesAfter (codes "memory") operands.now) }
+{
+    let [min, max, log2, width] = operands else {
+        return Err(LineError::BadCommand);
+    };
+    Ok(Call::NewMemory(memory_type(min, max, log2, width)?))
+}
+
+/// `grow K PAGES`.
+pub fn grow(operands: &[&str]) -> Result<Call, LineError>
+    ensures { Accepts result (NamesAfter (codes "grow") operands.now) }
+{
+    let [memory, pages] = operands else {
+        return Err(LineError::BadCommand);
+    };
+    Ok(Call::GrowMemory {
+        memory: number(memory)?,
+        pages: number(pages)?,
+    })
+}
+
+/// `read K OFFSET LEN`.
+pub fn read(operands: &[&str]) -> Result<Call, LineError>
+    ensures { Accepts result (NamesAfter (codes "read") operands.now) }
+{
+    let [memory, offset, len] = operands else {
+        return Err(LineError::BadCommand);
+    };
+    Ok(Call::Read {
+        memory: number(memory)?,
+        offset: number(offset)?,
+        len: number(len)?,
+    })
+}
+
+/// `write K OFFSET BYTE ...`, which may have no byte.
+pub fn write(alloc: Global, operands: &[&str]) -> Result<Call, LineError>
+    ensures { Accepts result (NamesAfter (codes "write") operands.now) }
+{
+    let [memory, offset, bytes @ ..] = operands else {
+        return Err(LineError::BadCommand);
+    };
+    Ok(Call::Write {
+        memory: number(memory)?,
+        offset: number(offset)?,
+        bytes: bytes_of(alloc, bytes)?,
+    })
+}
+
+/// The bytes that the words write, one each.
+fn bytes_of(alloc: Global, words: &[&str]) -> Result<Vec<u8>, LineError>
+    ensures bytes { IfOk result (λ bytes. WritesBytes words.now bytes.items) }
+    ensures refused { IfErr result (λ error. error ≡ LineError.BadCommand → ¬ (AreBytes words.now)) }
+{
+    let mut bytes = Vec::new(alloc);
+    for word in words {
+        bytes.push(number(word)?)?;
+    }
+    Ok(bytes)
+}
+
+/// The memory type of these words, if there is such a type.
+fn memory_type(min: &str, max: &str, log2: &str, width: &str) -> Result<MemoryType, LineError>
+    ensures { Accepts result (NamesType min.now max.now log2.now width.now) }
+{
+    let minimum = number(min)?;
+    let maximum = number_or_none(max)?;
+    let page_size_log2 = number(log2)?;
+    let index = index_ty(width)?;
+    type_of(index, minimum, maximum, page_size_log2)
+}
+
+/// The memory type of these settings, if there is such a type.
+fn type_of(
+    index: IndexType,
+    minimum: u64,
+    maximum: Option<u64>,
+    page_size_log2: u8,
+) -> Result<MemoryType, LineError>
+    ensures { Accepts result (HasSettings index minimum maximum page_size_log2) }
+{
+    let mut builder = MemoryType::builder();
+    builder
+        .min(minimum)
+        .max(maximum)
+        .page_size_log2(page_size_log2)
+        .memory64(matches!(index, IndexType::I64));
+    match builder.build() {
+        Ok(ty) => Ok(ty),
+        Err(_) => Err(LineError::BadCommand),
+    }
+}
+
+/// The number that a word writes, or `None` for the word `none`.
+fn number_or_none(word: &str) -> Result<Option<u64>, LineError>
+    ensures { Accepts result (WritesLimit word.now) }
+{
+    match word {
+        "none" => Ok(None),
+        _ => Ok(Some(number(word)?)),
+    }
+}
+
+/// The address type of a width word, `32` or `64`.
+fn index_ty(width: &str) -> Result<IndexType, LineError>
+    ensures { Accepts result (λ index. width.now ≡ width_word index) }
+{
+    match width {
+        "32" => Ok(IndexType::I32),
+        "64" => Ok(IndexType::I64),
+        _ => Err(LineError::BadCommand),
+    }
+}
