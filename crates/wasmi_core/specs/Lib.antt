@@ -3,6 +3,8 @@ pub mod World
 pub mod Rows
 pub mod FuelRows
 pub mod MemoryRows
+pub mod TableRows
+pub mod ValueRows
 pub mod Steps
 pub mod Runs
 pub mod AccessOps

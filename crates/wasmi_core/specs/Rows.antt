@@ -62,3 +62,9 @@ module _ {S : Type 0} (w : World S) (turn : Turn) (w' : World S) where
   Pays part with_part Row written = (part' : _) × (m : Meter) × (l : S)
       × Row (record { value = part; meter = Some w.state.meter; limiter = w.limiter }) turn.reply turn.charge (record { value = part'; meter = Some m; limiter = l })
       × (turn.written ≡ written turn.reply) × (w' ≡ record { state = record (with_part part') { meter = m }; limiter = l })
+
+  -- the same where the limiter is not reached
+  abbrev pub PaysUnasked : {A : Type 0} → A → (A → State) → (Situation A (Unit {0}) → Reply → ℕ → Situation A (Unit {0}) → Type 0) → (Reply → ℕ) → Type 0
+  PaysUnasked part with_part Row written = (part' : _) × (m : Meter)
+      × Row (record { value = part; meter = Some w.state.meter; limiter = tt }) turn.reply turn.charge (record { value = part'; meter = Some m; limiter = tt })
+      × (turn.written ≡ written turn.reply) × (w' ≡ record w { state = record (with_part part') { meter = m } })

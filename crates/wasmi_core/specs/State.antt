@@ -3,7 +3,10 @@ use Rattle.std.specs.Prelude.{ℕ, List, [], Option, Some, None, slice_get}
 use Rattle.std.specs.Option.{option_and_then}
 use Rattle.std.specs.Vec.{with_item}
 use Rattle.wasmi_meter.specs.Meter.{Meter}
+use Rattle.wasmi_typed.specs.Global.{GlobalInstance}
 use Rattle.wasmi_store.specs.Memory.{MemoryValue}
+use Rattle.wasmi_store.specs.Segment.{SegmentValue}
+use Rattle.wasmi_store.specs.Table.{TableValue}
 use Rattle.wasmi_core.specs.declared.slots.Slot.{Slot}
 use Rattle.wasmi_core.specs.declared.slots.Slot.TheVariants.{Live, Gone}
 use Rattle.wasmi_core.specs.declared.slots.Slots.{Slots}
@@ -22,15 +25,27 @@ module _ {X : Type 0} where
   abbrev pub with_live : Slots X → ℕ → X → Slots X
   with_live s k x = record { slots = with_item s.slots k (Live x) }
 
--- the memories that were made, in their order, and the meter
+-- the memories, tables, element segments and globals that were made, each kind in its order, and the meter
 pub record State : Type 0 where
   pub memories : List (Slot MemoryValue)
+  pub tables : List (Slot TableValue)
+  pub segments : List (Slot SegmentValue)
+  pub globals : List (Slot GlobalInstance)
   pub meter : Meter
 
 -- a machine on which nothing was made yet
 abbrev pub new_state : Meter → State
-new_state meter = record { memories = []; meter = meter }
+new_state meter = record { memories = []; tables = []; segments = []; globals = []; meter = meter }
 
--- the state with other memories
+-- the state with other memories, tables, element segments or globals
 abbrev pub with_memories : State → List (Slot MemoryValue) → State
 with_memories s memories = record s { memories = memories }
+
+abbrev pub with_tables : State → List (Slot TableValue) → State
+with_tables s tables = record s { tables = tables }
+
+abbrev pub with_segments : State → List (Slot SegmentValue) → State
+with_segments s segments = record s { segments = segments }
+
+abbrev pub with_globals : State → List (Slot GlobalInstance) → State
+with_globals s globals = record s { globals = globals }

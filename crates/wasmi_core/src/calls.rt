@@ -3,12 +3,14 @@ ghost use Rattle.std.specs.Prelude.{◌≡◌};
 
 use crate::ops::{LoadOp, StoreOp};
 use std::marker::Model;
-use wasmi_meter::{FuelError, MemoryError};
-use wasmi_raw::RawVal;
-use wasmi_store::MemoryType;
-use wasmi_types::TrapCode;
+use wasmi_meter::{FuelError, MemoryError, TableError};
+use wasmi_raw::{RawRef, RawVal};
+use wasmi_store::{MemoryType, SegmentError, TableType};
+use wasmi_typed::{GlobalError, GlobalType, TypedRawRef, TypedRawVal};
+use wasmi_types::{RefType, TrapCode};
 
-/// One call on a machine. Memories go by their indices, which count from 0 and aren't used again.
+/// One call on a machine. Memories, tables, element segments and globals go by their indices, which count from 0 for
+/// each kind and aren't used again.
 #[derive(Debug, Drop)]
 pub enum Call {
     /// Sets the fuel that is left: `Done`, or `Fuel` where metering is off.
@@ -50,6 +52,70 @@ pub enum Call {
         offset: u64,
         value: RawVal,
     },
+    /// Makes a table of one reference: `Made` with its index, `NoRoom` where its slot can't be had, or `Table`.
+    NewTable {
+        ty: TableType,
+        init: TypedRawRef,
+    },
+    /// Grows a table by so many elements: `Number` of the old size in elements, or `Table`.
+    GrowTable {
+        table: usize,
+        delta: u64,
+        init: TypedRawRef,
+    },
+    /// The element of a table, if there is one: `Reference`.
+    GetElement {
+        table: usize,
+        index: u64,
+    },
+    /// Sets an element of a table: `Done` or `Table`.
+    SetElement {
+        table: usize,
+        index: u64,
+        value: TypedRawRef,
+    },
+    /// Copies a part of an element segment to a table: `Done` or `Table`.
+    InitTable {
+        table: usize,
+        segment: usize,
+        dst: u64,
+        src: u32,
+        len: u32,
+    },
+    /// Copies a part of a table to another or within it: `Done` or `Table`.
+    CopyTable {
+        dst_table: usize,
+        dst: u64,
+        src_table: usize,
+        src: u64,
+        len: u64,
+    },
+    /// Fills a part of a table with a reference: `Done` or `Table`.
+    FillTable {
+        table: usize,
+        dst: u64,
+        value: TypedRawRef,
+        len: u64,
+    },
+    /// Makes an element segment: `Made` with its index, `NoRoom` where its slot can't be had, or `Segment`.
+    NewSegment {
+        ty: RefType,
+        items: Vec<RawRef>,
+    },
+    /// Drops the items of an element segment, which stays: `Done`.
+    DropItems(usize),
+    /// Makes a global: `Made` with its index, or `NoRoom` where its slot can't be had.
+    NewGlobal {
+        value: RawVal,
+        ty: GlobalType,
+    },
+    /// Sets a global: `Done` or `Global`.
+    SetGlobal {
+        global: usize,
+        value: TypedRawVal,
+    },
+    /// The value of a global: `Value`.
+    GetGlobal(usize),
 }
 
 /// The reply to one call.
@@ -65,10 +131,18 @@ pub enum Reply {
     Number(u64),
     /// The bytes that were read.
     Bytes(ByteList),
+    /// An element of a table, or none past its end.
+    Reference(Option<TypedRawRef>),
     /// Why a call on a memory was refused.
     Memory(MemoryError),
+    /// Why a call on a table was refused.
+    Table(TableError),
     /// Why a call on the meter was refused.
     Fuel(FuelError),
+    /// Why a call on a global was refused.
+    Global(GlobalError),
+    /// Why an element segment could not be made.
+    Segment(SegmentError),
     /// Why an instruction trapped.
     Trap(TrapCode),
     /// An index names nothing; nothing was asked or changed.

@@ -1,4 +1,4 @@
-//! Metered WebAssembly memories under a resource limiter, and a machine that runs lists of calls on them.
+//! Metered WebAssembly memories and tables under a resource limiter, and a machine that runs lists of calls on them.
 #![tactic(auto)]
 
 mod calls;
@@ -7,6 +7,8 @@ mod memories;
 mod ops;
 mod running;
 mod slots;
+mod tables;
+mod values;
 pub mod wasm;
 
 pub use calls::{ByteList, Call, Reply};
@@ -19,11 +21,15 @@ pub use wasmi_meter::{
     CustomFuelCosts, Fuel, FuelCosts, FuelCostsProvider, FuelError, Kind, LimiterError,
     MemoryError, NoLimits, Quota, ResourceLimiter, ResourceLimiterRef, TableError, ValueSize,
 };
-pub use wasmi_raw::{F32, F64, Number, RawVal, ReadAs, ReadBack, V128, WriteAs};
+pub use wasmi_raw::{F32, F64, Number, RawRef, RawVal, ReadAs, ReadBack, V128, WriteAs};
 pub use wasmi_scalar::value::{Integer, SignExtendFrom, Unsigned};
-pub use wasmi_store::{ByteBuffer, Memory, MemoryType, MemoryTypeBuilder};
+pub use wasmi_store::{
+    ByteBuffer, ElementSegment, ElementSegmentRef, Memory, MemoryType, MemoryTypeBuilder,
+    SegmentError, Table, TableType,
+};
 pub use wasmi_typed::{
-    Global, GlobalError, GlobalType, IntoShiftAmount, Mutability, ShiftAmount, Typed, TypedRawVal,
+    Global, GlobalError, GlobalType, IntoShiftAmount, Mutability, NotAReference, ShiftAmount,
+    Typed, TypedRawRef, TypedRawVal,
 };
 pub use wasmi_types::{
     FuncType, FuncTypeError, HostError, IndexType, InvalidTrapCode, RefType, Trap, TrapCode,

@@ -5,17 +5,22 @@ ghost use Rattle.wasmi_meter.specs.Limiter.{optional_rules};
 ghost use Rattle.wasmi_meter.specs.LimiterRef.{state, KeepsLoan};
 
 use crate::calls::{Call, Reply};
-use crate::memories::Memories;
-use std::alloc::Global;
+use crate::slots::Slots;
+use std::alloc::Global as Allocator;
 use std::marker::Model;
 use wasmi_meter::{Fuel, ResourceLimiter, ResourceLimiterRef};
-use wasmi_store::Memory;
+use wasmi_store::{ElementSegment, ElementSegmentRef, Memory, Table};
+use wasmi_typed::Global;
 
-/// Memories by their indices, and one fuel meter; `'r` is the loan of a region that a memory may lie in.
+/// Memories, tables, element segments and globals by their indices, and one fuel meter; `'r` is the loan of a region that
+/// a memory may lie in.
 #[derive(Debug, Drop)]
 pub struct Machine<'r> {
-    pub(crate) alloc: Global,
-    memories: Memories<'r>,
+    pub(crate) alloc: Allocator,
+    memories: Slots<Memory<'r>>,
+    tables: Slots<Table>,
+    segments: Slots<ElementSegment>,
+    globals: Slots<Global>,
     fuel: Fuel,
 }
 
@@ -24,21 +29,30 @@ impl<'r> Model for Machine<'r> {
 
     ghost Value = { State };
 
-    ghost view = { λ m. record { memories = m.memories.slots.items; meter = m.fuel } };
+    ghost view = { λ m. record {
+      memories = m.memories.slots.items;
+      tables = m.tables.slots.items;
+      segments = m.segments.slots.items;
+      globals = m.globals.slots.items;
+      meter = m.fuel;
+    } };
 }
 
 impl<'r> Machine<'r> {
     ghost use Rattle.wasmi_core.specs.State.{new_state, live_at};
     ghost use Rattle.wasmi_core.specs.FuelRows.{SetsFuel, get_fuel_reply};
-    ghost use Rattle.wasmi_core.specs.Steps.{Step, IsMemoryCall};
+    ghost use Rattle.wasmi_core.specs.Steps.{Step, subject_of, Memories, Tables};
 
     /// A machine with this meter, on which nothing was made yet. It takes no memory.
-    pub fn new(alloc: Global, fuel: Fuel) -> Machine<'r>
+    pub fn new(alloc: Allocator, fuel: Fuel) -> Machine<'r>
         ensures { result ≡ new_state fuel }
     {
         Machine {
             alloc,
-            memories: Memories::new(alloc),
+            memories: Slots::new(alloc),
+            tables: Slots::new(alloc),
+            segments: Slots::new(alloc),
+            globals: Slots::new(alloc),
             fuel,
         }
     }
@@ -55,6 +69,27 @@ impl<'r> Machine<'r> {
         ensures { option_copied result ≡ live_at self.now.memories index }
     {
         self.memories.live(index)
+    }
+
+    /// The table of an index, if there is one that wasn't dropped.
+    pub fn table(&self, index: usize) -> Option<&Table>
+        ensures { option_copied result ≡ live_at self.now.tables index }
+    {
+        self.tables.live(index)
+    }
+
+    /// The element segment of an index, if there is one.
+    pub fn segment(&self, index: usize) -> Option<&ElementSegment>
+        ensures { option_copied result ≡ live_at self.now.segments index }
+    {
+        self.segments.live(index)
+    }
+
+    /// The global of an index, if there is one.
+    pub fn global(&self, index: usize) -> Option<&Global>
+        ensures { option_copied result ≡ live_at self.now.globals index }
+    {
+        self.globals.live(index)
     }
 
     fn set_fuel(&mut self, fuel: u64) -> Reply
@@ -90,7 +125,18 @@ impl<'r> Machine<'r> {
         match call {
             Call::SetFuel(fuel) => self.set_fuel(*fuel),
             Call::GetFuel => self.get_fuel(),
-            _ => self.step_memory(call, limiter),
+            Call::NewMemory(_)
+            | Call::GrowMemory { .. }
+            | Call::Read { .. }
+            | Call::Write { .. }
+            | Call::Load { .. }
+            | Call::Store { .. } => self.step_memory(call, limiter),
+            Call::NewSegment { ty, items } => self.segments.create(self.alloc, *ty, items),
+            Call::DropItems(segment) => self.segments.drop_items(*segment),
+            Call::NewGlobal { value, ty } => self.globals.create(*value, *ty),
+            Call::SetGlobal { global, value } => self.globals.set(*global, *value),
+            Call::GetGlobal(global) => self.globals.get(*global),
+            _ => self.step_table(call, limiter),
         }
     }
 
@@ -100,7 +146,7 @@ impl<'r> Machine<'r> {
         call: &Call,
         limiter: &mut ResourceLimiterRef<L>,
     ) -> Reply
-        requires { IsMemoryCall call.now }
+        requires { subject_of call.now ≡ Memories }
         ensures loan { KeepsLoan limiter.old limiter.new }
         ensures step { (charge : ℕ) × (written : ℕ) × Step (optional_rules L.rules)
             (record { state = self.old; limiter = state limiter.old })
@@ -135,7 +181,70 @@ impl<'r> Machine<'r> {
                 offset,
                 value,
             } => self.memories.store(*op, *memory, *ptr, *offset, *value),
-            Call::SetFuel(_) | Call::GetFuel => unreachable!(),
+            _ => unreachable!(),
+        }
+    }
+
+    /// Answers one call on tables.
+    fn step_table<L: ResourceLimiter>(
+        &mut self,
+        call: &Call,
+        limiter: &mut ResourceLimiterRef<L>,
+    ) -> Reply
+        requires { subject_of call.now ≡ Tables }
+        ensures loan { KeepsLoan limiter.old limiter.new }
+        ensures step { (charge : ℕ) × (written : ℕ) × Step (optional_rules L.rules)
+            (record { state = self.old; limiter = state limiter.old })
+            (record { call = call.now; reply = result; charge = charge; written = written })
+            (record { state = self.new; limiter = state limiter.new }) }
+    {
+        match call {
+            Call::NewTable { ty, init } => self.tables.create(self.alloc, *ty, *init, limiter),
+            Call::GrowTable { table, delta, init } => {
+                self.tables
+                    .grow(*table, *delta, *init, &mut self.fuel, limiter)
+            }
+            Call::GetElement { table, index } => self.tables.get(*table, *index),
+            Call::SetElement {
+                table,
+                index,
+                value,
+            } => self.tables.set(*table, *index, *value),
+            Call::InitTable {
+                table,
+                segment,
+                dst,
+                src,
+                len,
+            } => {
+                let Some(segment) = self.segments.live(*segment) else {
+                    return Reply::NoSuch;
+                };
+                self.tables.init(
+                    *table,
+                    ElementSegmentRef::from(segment),
+                    *dst,
+                    *src,
+                    *len,
+                    &mut self.fuel,
+                )
+            }
+            Call::CopyTable {
+                dst_table,
+                dst,
+                src_table,
+                src,
+                len,
+            } => self
+                .tables
+                .copy(*dst_table, *dst, *src_table, *src, *len, &mut self.fuel),
+            Call::FillTable {
+                table,
+                dst,
+                value,
+                len,
+            } => self.tables.fill(*table, *dst, *value, *len, &mut self.fuel),
+            _ => unreachable!(),
         }
     }
 }

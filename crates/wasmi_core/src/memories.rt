@@ -18,9 +18,6 @@ use wasmi_raw::RawVal;
 use wasmi_store::{Memory, MemoryType};
 use wasmi_types::TrapCode;
 
-/// The memories that were made, each in the slot of its index.
-pub(crate) type Memories<'r> = Slots<Memory<'r>>;
-
 impl<'r> Slots<Memory<'r>> {
     /// Makes a memory in a new slot, which is reserved before the limiter is asked.
     pub(crate) fn create<L: ResourceLimiter>(

@@ -7,7 +7,7 @@ use Rattle.wasmi_meter.specs.Meter.{Meter, meter_after}
 use Rattle.wasmi_meter.specs.Attempt.{Situation, Effort, Unasked, Denied, Met, Failed, Attempt, amount_due, can_pay}
 
 -- nothing taken leaves the meter
-meter_after_nothing : (m : Option Meter) → m ≡ option_map (λ m. meter_after m 0) m
+pub meter_after_nothing : (m : Option Meter) → m ≡ option_map (λ m. meter_after m 0) m
 meter_after_nothing None = refl
 meter_after_nothing (Some m) = ap Some (unchanged m.left m.costs)
   where

@@ -7,3 +7,4 @@ pub mod Attempt
 pub mod Holdings
 pub mod Quota
 pub mod Texts
+pub mod Errors

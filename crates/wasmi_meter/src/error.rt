@@ -1,4 +1,5 @@
 //! Why memories and tables refuse, and what a resource limiter answers in place of a permission.
+use crate::fuel::FuelError;
 use std::fmt;
 
 /// What a resource limiter answers in place of a permission, or to a notice.
@@ -170,5 +171,21 @@ impl From<LimiterError> for TableError {
 
     fn from(_: LimiterError) -> Self {
         TableError::ResourceLimiterDeniedAllocation
+    }
+}
+
+impl TryFrom<FuelError> for TableError {
+    ghost use Rattle.wasmi_meter.specs.Errors.{IsOfFuel};
+
+    type Error = FuelError;
+
+    ghost try_from_gives = { IsOfFuel };
+
+    // The error of a meter that is off is handed back. Upstream panics there.
+    fn try_from(error: FuelError) -> Result<TableError, FuelError> {
+        match error {
+            FuelError::OutOfFuel { required_fuel } => Ok(TableError::OutOfFuel { required_fuel }),
+            FuelError::FuelMeteringDisabled => Err(error),
+        }
     }
 }

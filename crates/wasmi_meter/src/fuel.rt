@@ -5,6 +5,7 @@ ghost use Rattle.wasmi_meter.specs.declared.fuel.CustomFuelCosts.{CustomFuelCost
 
 use std::fmt;
 use std::marker::Model;
+use wasmi_raw::RawRef;
 
 /// The number of bytes that a copied value counts for, in place of its size in memory.
 pub trait ValueSize {
@@ -19,6 +20,12 @@ impl ValueSize for u8 {
     ghost SIZE = { 1 };
 
     const SIZE: u64 = 1;
+}
+
+impl ValueSize for RawRef {
+    ghost SIZE = { 4 };
+
+    const SIZE: u64 = 4;
 }
 
 /// What work costs.

@@ -2,10 +2,14 @@
 ghost use Rattle.std.specs.Prelude.{◌≡◌};
 ghost use Rattle.wasmi_meter.specs.Attempt.{Permits, error_of_failure};
 ghost use Rattle.wasmi_meter.specs.Costs.{copy_cost};
+ghost use Rattle.wasmi_meter.specs.Limiter.{Failure, MemoryFailure, TableFailure, Heed, optional_rules};
+ghost use Rattle.wasmi_meter.specs.LimiterRef.{state, KeepsLoan};
 ghost use Rattle.wasmi_meter.specs.Meter.{Charges, due};
 
-use crate::error::LimiterError;
+use crate::error::{LimiterError, MemoryError, TableError};
 use crate::fuel::{Fuel, FuelError, ValueSize};
+use crate::limiter::ResourceLimiter;
+use crate::limiter_ref::ResourceLimiterRef;
 
 /// Goes on where a limiter permits: else it is `denial` where the limiter says no, and `refusal` for an error.
 pub fn permission<E: Drop>(
@@ -22,11 +26,54 @@ pub fn permission<E: Drop>(
     }
 }
 
-/// The error of a growth that failed after its permission: the cause, or `refusal` where the limiter answered an
-/// error when it was told.
-pub fn failure<E: Drop>(heed: Result<(), LimiterError>, cause: E, refusal: E) -> E
-    ensures { result ≡ error_of_failure refusal cause heed }
+/// An error of what grows, of which a limiter can be told.
+pub trait GrowthError: Drop {
+    /// How a limiter is told of it.
+    ghost notice: { Self → Failure };
+
+    /// Tells the limiter, if there is one, that a growth which it permitted failed for this error.
+    fn notify<L: ResourceLimiter>(
+        &self,
+        limiter: &mut ResourceLimiterRef<L>,
+    ) -> Result<(), LimiterError>
+        ensures loan { KeepsLoan limiter.old limiter.new }
+        ensures noticed { (optional_rules L.rules).noticed (state limiter.old) (notice self.now) result (state limiter.new) };
+}
+
+impl GrowthError for MemoryError {
+    ghost notice = { MemoryFailure };
+
+    fn notify<L: ResourceLimiter>(
+        &self,
+        limiter: &mut ResourceLimiterRef<L>,
+    ) -> Result<(), LimiterError> {
+        limiter.memory_grow_failed(self)
+    }
+}
+
+impl GrowthError for TableError {
+    ghost notice = { TableFailure };
+
+    fn notify<L: ResourceLimiter>(
+        &self,
+        limiter: &mut ResourceLimiterRef<L>,
+    ) -> Result<(), LimiterError> {
+        limiter.table_grow_failed(self)
+    }
+}
+
+/// Tells the limiter why a growth failed that it permitted, and answers the error that its answer makes of it: the
+/// cause, or `refusal` where it answers an error.
+pub fn tell<L: ResourceLimiter, E: GrowthError>(
+    limiter: &mut ResourceLimiterRef<L>,
+    cause: E,
+    refusal: E,
+) -> E
+    ensures loan { KeepsLoan limiter.old limiter.new }
+    ensures told { (heed : Heed) × (optional_rules L.rules).noticed (state limiter.old) (E.notice cause) heed (state limiter.new)
+        × (result ≡ error_of_failure refusal cause heed) }
 {
+    let heed = cause.notify(limiter);
     match heed {
         Ok(()) => cause,
         Err(_) => refusal,

@@ -1,3 +1,6 @@
 pub mod Scripts
 pub mod AcceptanceLemmas
+pub mod NumbersLemmas
+pub mod TypeWordsLemmas
 pub mod MemoryWordsLemmas
+pub mod TableWordsLemmas

@@ -1,25 +1,12 @@
 -- Words of a memory type mean one type at most.
-use Rattle.std.proofs.Common.{ℕ, ◌≡◌, ◌∙◌, List, Option, Some, None, refl, sym, ap, subst, rules, tests}
+use Rattle.std.proofs.Common.{ℕ, ◌≡◌, ◌∙◌, List, Option, sym, ap, subst}
 use Rattle.wasmi_types.specs.declared.index_ty.IndexType.{IndexType}
-use Rattle.wasmi_types.specs.declared.index_ty.IndexType.TheVariants.{I32, I64}
 use Rattle.wasmi_store.specs.MemoryType.{MemoryTypeValue}
-use Rattle.wasmi_script.specs.Numbers.{IsDecimal, WritesNumber, WritesLimit}
-use Rattle.wasmi_script.specs.MemoryWords.{HasSettings, NamesType, width_word}
-
--- a limit is written by one word at most
-pub same_limit : (word : List ℕ) (a b : Option ℕ) → WritesLimit word a → WritesLimit word b → a ≡ b
-unfolding IsDecimal
-same_limit word None None v w = refl
-same_limit word None (Some n) v w = absurd (search (rules, tests, v, w))
-same_limit word (Some n) None v w = absurd (search (rules, tests, v, w))
-same_limit word (Some m) (Some n) v w = ap (λ k. Some k) (v.1 ∙ sym w.1)
-
--- and an address type
-pub same_width : (i j : IndexType) → width_word i ≡ width_word j → i ≡ j
-same_width I32 I32 e = refl
-same_width I32 I64 e = absurd (search (rules, tests, e))
-same_width I64 I32 e = absurd (search (rules, tests, e))
-same_width I64 I64 e = refl
+use Rattle.wasmi_script.specs.Numbers.{WritesNumber, WritesLimit}
+use Rattle.wasmi_script.specs.MemoryWords.{HasSettings, NamesType}
+use Rattle.wasmi_script.specs.TypeWords.{width_word}
+use Rattle.wasmi_script.proofs.NumbersLemmas.{same_limit}
+use Rattle.wasmi_script.proofs.TypeWordsLemmas.{same_width}
 
 -- words that write a type's settings name it
 pub names_of : (min max log2 width : List ℕ) (i : IndexType) (m : ℕ) (x : Option ℕ) (l : ℕ) (ty : MemoryTypeValue)

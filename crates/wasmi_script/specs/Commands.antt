@@ -2,10 +2,12 @@
 use Rattle.std.specs.Prelude.{◌≡◌, ℕ, ◌≤◌, List, length, codes, drop}
 use Rattle.wasmi_raw.specs.RawVal.{raw_of}
 use Rattle.wasmi_core.specs.declared.calls.Call.{Call}
-use Rattle.wasmi_core.specs.declared.calls.Call.TheVariants.{SetFuel, GetFuel, NewMemory, GrowMemory, Read, Write, Load, Store}
+use Rattle.wasmi_core.specs.declared.calls.Call.TheVariants.{SetFuel, GetFuel, NewMemory, GrowMemory, Read, Write, Load, Store, NewTable, GrowTable, GetElement, SetElement, InitTable, CopyTable, FillTable, NewSegment, DropItems, NewGlobal, SetGlobal, GetGlobal}
 use Rattle.wasmi_script.specs.Words.{Words, word_at}
-use Rattle.wasmi_script.specs.Numbers.{WritesNumber, WritesBytes}
+use Rattle.wasmi_script.specs.Numbers.{WritesNumber, WritesNumbers}
 use Rattle.wasmi_script.specs.MemoryWords.{NamesType}
+use Rattle.wasmi_script.specs.TableWords.{NamesTableType}
+use Rattle.wasmi_script.specs.TypeWords.{reference_word, value_word, mutability_word, WritesReference}
 use Rattle.wasmi_script.specs.AccessNames.{load_name, store_name}
 
 -- the word that a command begins with
@@ -18,6 +20,18 @@ command_word (Read memory offset len) = codes "read"
 command_word (Write memory offset bytes) = codes "write"
 command_word (Load op memory ptr offset) = codes "load"
 command_word (Store op memory ptr offset value) = codes "store"
+command_word (NewTable ty init) = codes "table"
+command_word (GrowTable table delta init) = codes "tgrow"
+command_word (GetElement table index) = codes "get"
+command_word (SetElement table index value) = codes "tset"
+command_word (InitTable table segment dst src len) = codes "init"
+command_word (CopyTable dst_table dst src_table src len) = codes "copy"
+command_word (FillTable table dst value len) = codes "fill"
+command_word (NewSegment ty items) = codes "segment"
+command_word (DropItems segment) = codes "empty"
+command_word (NewGlobal value ty) = codes "global"
+command_word (SetGlobal global value) = codes "gset"
+command_word (GetGlobal global) = codes "gget"
 
 -- the words after the first write what the call is given
 abbrev pub WritesOperands : Words → Call → Type 0
@@ -28,12 +42,37 @@ WritesOperands words (GrowMemory memory pages) = (length words ≡ 2) × WritesN
 WritesOperands words (Read memory offset len) = (length words ≡ 3)
     × WritesNumber 64 (word_at words 0) memory × WritesNumber 64 (word_at words 1) offset × WritesNumber 64 (word_at words 2) len
 WritesOperands words (Write memory offset bytes) = (2 ≤ length words)
-    × WritesNumber 64 (word_at words 0) memory × WritesNumber 64 (word_at words 1) offset × WritesBytes (drop 2 words) bytes.items
+    × WritesNumber 64 (word_at words 0) memory × WritesNumber 64 (word_at words 1) offset × WritesNumbers 8 (drop 2 words) bytes.items
 WritesOperands words (Load op memory ptr offset) = (length words ≡ 4) × (word_at words 0 ≡ load_name op)
     × WritesNumber 64 (word_at words 1) memory × WritesNumber 64 (word_at words 2) ptr × WritesNumber 64 (word_at words 3) offset
 WritesOperands words (Store op memory ptr offset value) = (length words ≡ 5) × (word_at words 0 ≡ store_name op)
     × WritesNumber 64 (word_at words 1) memory × WritesNumber 64 (word_at words 2) ptr × WritesNumber 64 (word_at words 3) offset
     × (lo : ℕ) × WritesNumber 64 (word_at words 4) lo × (value ≡ raw_of lo)
+WritesOperands words (NewTable ty init) = (length words ≡ 6)
+    × NamesTableType (word_at words 0) (word_at words 1) (word_at words 2) (word_at words 3) ty × WritesReference (word_at words 4) (word_at words 5) init
+WritesOperands words (GrowTable table delta init) = (length words ≡ 4)
+    × WritesNumber 64 (word_at words 0) table × WritesNumber 64 (word_at words 1) delta × WritesReference (word_at words 2) (word_at words 3) init
+WritesOperands words (GetElement table index) = (length words ≡ 2) × WritesNumber 64 (word_at words 0) table × WritesNumber 64 (word_at words 1) index
+WritesOperands words (SetElement table index value) = (length words ≡ 4)
+    × WritesNumber 64 (word_at words 0) table × WritesNumber 64 (word_at words 1) index × WritesReference (word_at words 2) (word_at words 3) value
+WritesOperands words (InitTable table segment dst src len) = (length words ≡ 5)
+    × WritesNumber 64 (word_at words 0) table × WritesNumber 64 (word_at words 1) segment × WritesNumber 64 (word_at words 2) dst
+    × WritesNumber 32 (word_at words 3) src × WritesNumber 32 (word_at words 4) len
+WritesOperands words (CopyTable dst_table dst src_table src len) = (length words ≡ 5)
+    × WritesNumber 64 (word_at words 0) dst_table × WritesNumber 64 (word_at words 1) dst
+    × WritesNumber 64 (word_at words 2) src_table × WritesNumber 64 (word_at words 3) src × WritesNumber 64 (word_at words 4) len
+WritesOperands words (FillTable table dst value len) = (length words ≡ 5)
+    × WritesNumber 64 (word_at words 0) table × WritesNumber 64 (word_at words 1) dst
+    × WritesReference (word_at words 2) (word_at words 3) value × WritesNumber 64 (word_at words 4) len
+WritesOperands words (NewSegment ty items) = (1 ≤ length words) × (word_at words 0 ≡ reference_word ty) × WritesNumbers 32 (drop 1 words) items.items
+WritesOperands words (DropItems segment) = (length words ≡ 1) × WritesNumber 64 (word_at words 0) segment
+WritesOperands words (NewGlobal value ty) = (length words ≡ 4)
+    × (word_at words 0 ≡ value_word ty.content) × (word_at words 1 ≡ mutability_word ty.mutability)
+    × WritesNumber 64 (word_at words 2) value.lo × WritesNumber 64 (word_at words 3) value.hi
+WritesOperands words (SetGlobal global value) = (length words ≡ 4)
+    × WritesNumber 64 (word_at words 0) global × (word_at words 1 ≡ value_word value.ty)
+    × WritesNumber 64 (word_at words 2) value.raw.lo × WritesNumber 64 (word_at words 3) value.raw.hi
+WritesOperands words (GetGlobal global) = (length words ≡ 1) × WritesNumber 64 (word_at words 0) global
 
 -- the word that a command begins with, and the words after it, name this call
 abbrev pub NamesAfter : List ℕ → Words → Call → Type 0

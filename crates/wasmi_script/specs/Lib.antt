@@ -2,7 +2,9 @@ pub mod Words
 pub mod Numbers
 pub mod Acceptance
 pub mod AccessNames
+pub mod TypeWords
 pub mod MemoryWords
+pub mod TableWords
 pub mod Commands
 pub mod Headers
 pub mod Lines

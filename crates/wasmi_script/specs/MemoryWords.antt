@@ -1,14 +1,9 @@
 -- What the words of a memory type mean.
-use Rattle.std.specs.Prelude.{◌≡◌, ℕ, List, Option, codes}
+use Rattle.std.specs.Prelude.{◌≡◌, ℕ, List, Option}
 use Rattle.wasmi_types.specs.declared.index_ty.IndexType.{IndexType}
-use Rattle.wasmi_types.specs.declared.index_ty.IndexType.TheVariants.{I32, I64}
 use Rattle.wasmi_store.specs.MemoryType.{MemoryTypeValue, IsValid, page_log2}
 use Rattle.wasmi_script.specs.Numbers.{WritesNumber, WritesLimit}
-
--- the bits of an address, as a word
-abbrev pub width_word : IndexType → List ℕ
-width_word I32 = codes "32"
-width_word I64 = codes "64"
+use Rattle.wasmi_script.specs.TypeWords.{width_word}
 
 -- a memory type, which there is, of these settings
 pub record HasSettings (index : IndexType) (minimum : ℕ) (maximum : Option ℕ) (log2 : ℕ) (ty : MemoryTypeValue) : Type 0 where

@@ -15,13 +15,13 @@ decimal_value word = digits_value 10 word
 abbrev pub WritesNumber : ℕ → List ℕ → ℕ → Type 0
 WritesNumber bits word number = IsDecimal word × (number ≡ decimal_value word) × (number < 2 ^ bits)
 
--- each word writes a byte
-abbrev pub AreBytes : Words → Type 0
-AreBytes words = All (λ word. IsDecimal word.now × (decimal_value word.now < 2 ^ 8)) words
+-- each word writes a number that fits so many bits
+abbrev pub AreNumbers : ℕ → Words → Type 0
+AreNumbers bits words = All (λ word. IsDecimal word.now × (decimal_value word.now < 2 ^ bits)) words
 
--- each word writes one of these bytes, in order
-abbrev pub WritesBytes : Words → List ℕ → Type 0
-WritesBytes words bytes = AreBytes words × (bytes ≡ map (λ word. decimal_value word.now) words)
+-- each word writes one of these numbers, in order
+abbrev pub WritesNumbers : ℕ → Words → List ℕ → Type 0
+WritesNumbers bits words numbers = AreNumbers bits words × (numbers ≡ map (λ word. decimal_value word.now) words)
 
 -- the word `none`, or a word that writes the number
 abbrev pub WritesLimit : List ℕ → Option ℕ → Type 0

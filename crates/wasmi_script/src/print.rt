@@ -3,9 +3,10 @@ ghost use Rattle.std.specs.Prelude.{◌≡◌, IsOk};
 ghost use Rattle.std.specs.Io.KnownBytes.{Appends, Keeps};
 ghost use Rattle.wasmi_script.specs.Printing.{AppendsFront};
 ghost use Rattle.wasmi_script.specs.Texts.{kind_text};
+ghost use Rattle.wasmi_script.specs.TypeWords.{reference_word};
 
 use std::{fmt, io};
-use wasmi_core::{Call, Reply};
+use wasmi_core::{Call, RefType, Reply};
 
 /// Text that goes to a writer as it is made. Any error of the writer ends the printing, and so does a write that takes
 /// no byte.
@@ -77,8 +78,17 @@ impl fmt::Display for ReplyLine<'_> {
                 let numbers = ByteNumbers(bytes.as_slice());
                 write!(f, "bytes{numbers}")
             }
+            Reply::Reference(Some(reference)) => {
+                let ty = reference_word_of(reference.ty);
+                let raw = u32::from(reference.raw);
+                write!(f, "{ty} {raw}")
+            }
+            Reply::Reference(None) => write!(f, "none"),
             Reply::Memory(error) => write!(f, "error {error}"),
+            Reply::Table(error) => write!(f, "error {error}"),
             Reply::Fuel(error) => write!(f, "error {error}"),
+            Reply::Global(error) => write!(f, "error {error}"),
+            Reply::Segment(error) => write!(f, "error {error}"),
             Reply::Trap(code) => write!(f, "error {code}"),
             Reply::NoSuch => write!(f, "no such"),
             Reply::NoRoom => write!(f, "no room"),
@@ -110,12 +120,34 @@ fn kind_made(call: &Call) -> &'static str
 {
     match call {
         Call::NewMemory(_) => "memory",
+        Call::NewTable { .. } => "table",
+        Call::NewSegment { .. } => "segment",
+        Call::NewGlobal { .. } => "global",
         Call::SetFuel(_)
         | Call::GetFuel
         | Call::GrowMemory { .. }
         | Call::Read { .. }
         | Call::Write { .. }
         | Call::Load { .. }
-        | Call::Store { .. } => "nothing",
+        | Call::Store { .. }
+        | Call::GrowTable { .. }
+        | Call::GetElement { .. }
+        | Call::SetElement { .. }
+        | Call::InitTable { .. }
+        | Call::CopyTable { .. }
+        | Call::FillTable { .. }
+        | Call::DropItems(_)
+        | Call::SetGlobal { .. }
+        | Call::GetGlobal(_) => "nothing",
+    }
+}
+
+/// The word of a reference type.
+fn reference_word_of(ty: RefType) -> &'static str
+    ensures { result.now ≡ reference_word ty }
+{
+    match ty {
+        RefType::Func => "func",
+        RefType::Extern => "extern",
     }
 }

@@ -6,6 +6,7 @@ mod command;
 mod header;
 mod line;
 mod number;
+mod types;
 
 use crate::error::ReplayError;
 use command::command;

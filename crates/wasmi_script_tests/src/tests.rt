@@ -5,6 +5,8 @@ mod outcomes;
 mod printing;
 mod reading;
 mod streams;
+mod tables;
+mod values;
 mod writing;
 
 use std::alloc::Global;

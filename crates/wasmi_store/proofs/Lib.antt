@@ -1,2 +1,6 @@
 pub mod Fronts
 pub mod GrowthLemmas
+pub mod MemoryLemmas
+pub mod TableLemmas
+pub mod WriteLemmas
+pub mod SegmentLemmas

@@ -1,6 +1,12 @@
+pub mod Limits
+pub mod Growth
 pub mod Buffer
 pub mod Front
 pub mod Lending
 pub mod Storage
 pub mod MemoryType
 pub mod Memory
+pub mod TableType
+pub mod Segment
+pub mod Table
+pub mod SegmentError

@@ -1,5 +1,5 @@
 -- Linear memories: making one, growing it, reading and writing (core specification, memory instances).
-use Rattle.std.specs.Prelude.{◌≡◌, ◌+◌, ◌*◌, ◌/◌, ◌%◌, ◌<◌, ◌≤◌, ◌^◌, ◌⊎◌, ℕ, List, ◌++◌, length, replicate, nat_lt, true, if◌then◌else◌, Some, None, Result, Ok, Err}
+use Rattle.std.specs.Prelude.{◌≡◌, ◌+◌, ◌*◌, ◌/◌, ◌%◌, ◌≤◌, ◌^◌, ℕ, List, ◌++◌, length, replicate, nat_lt, true, if◌then◌else◌, Some, None, Result, Ok, Err}
 use Rattle.std.specs.List.{refill}
 use Rattle.wasmi_types.specs.Access.{overwrite}
 use Rattle.wasmi_meter.specs.declared.error.MemoryError.{MemoryError}
@@ -7,8 +7,9 @@ use Rattle.wasmi_meter.specs.declared.error.MemoryError.TheVariants.{OutOfBounds
 use Rattle.wasmi_meter.specs.declared.limiter.Kind.TheVariants.{Bytes}
 use Rattle.wasmi_meter.specs.Limiter.{MemoryFailure, Rules}
 use Rattle.wasmi_meter.specs.Costs.{copy_cost}
-use Rattle.wasmi_meter.specs.Attempt.{Situation, alone, Effort, Fate, Attempt, answer_of}
+use Rattle.wasmi_meter.specs.Attempt.{Situation, Effort}
 use Rattle.wasmi_store.specs.Buffer.{Room, CanGrow, CanFail, room_after}
+use Rattle.wasmi_store.specs.Growth.{Makes, Grows}
 use Rattle.wasmi_store.specs.MemoryType.{MemoryTypeValue, page_bytes, minimum_bytes, maximum_bytes, in_bounds}
 
 -- a memory: its type, its bytes, and the room that these may grow into
@@ -78,28 +79,12 @@ growth_of x pages = let added = pages * page_bytes x.ty.page in record {
 
 -- a memory of a type is made in a room
 abbrev pub MakesMemory : {S : Type 0} → Rules S → Room → MemoryTypeValue → S → Result MemoryValue MemoryError → S → Type 0
-MakesMemory rules room ty l result l' = (fate : Fate MemoryError)
-    × Attempt rules (creation_of room ty) (alone l) fate 0 (alone l')
-    × (result ≡ answer_of (creation_of room ty) (new_memory room ty) fate)
+MakesMemory rules room ty l result l' = Makes rules (creation_of room ty) (new_memory room ty) l result l'
 
--- a growth by no page answers the size, and nothing is touched
-pub record GrowsByNone {S : Type 0} (pages : ℕ) (s : Situation MemoryValue S) (result : Result ℕ MemoryError) (charge : ℕ) (s' : Situation MemoryValue S) : Type 0 where
-  pub none : pages ≡ 0
-  pub answered : result ≡ Ok (pages_of s.value)
-  pub uncharged : charge ≡ 0
-  pub same : s' ≡ s
-
--- a growth by at least a page is an attempt, and answers the old size in pages where it is met
-pub record GrowsByPages {S : Type 0} (rules : Rules S) (pages : ℕ) (s : Situation MemoryValue S) (result : Result ℕ MemoryError) (charge : ℕ) (s' : Situation MemoryValue S) : Type 0 where
-  pub some : 0 < pages
-  pub fate : Fate MemoryError
-  pub attempt : Attempt rules (growth_of s.value pages) s fate charge s'
-  pub answered : result ≡ answer_of (growth_of s.value pages) (pages_of s.value) fate
-
--- a memory grows by so many pages, with its charge
+-- a memory grows by so many pages, with its charge; it answers the old size in pages
 abbrev pub GrowsMemory : {S : Type 0} → Rules S → ℕ → Situation MemoryValue S → Result ℕ MemoryError → ℕ → Situation MemoryValue S → Type 0
 GrowsMemory rules pages s result charge s' =
-    GrowsByNone pages s result charge s' ⊎ GrowsByPages rules pages s result charge s'
+    Grows rules (record { amount = pages; size = pages_of s.value; effort = growth_of s.value pages }) s result charge s'
 
 -- bytes are written over those from an offset on where they end within the memory, and nothing is written else
 abbrev pub WritesMemory : MemoryValue → ℕ → List ℕ → Result (Unit {0}) MemoryError → MemoryValue → Type 0

@@ -4,8 +4,9 @@ use Rattle.std.specs.Option.{option_map, option_map_or, ForSome}
 use Rattle.wasmi_types.specs.declared.index_ty.IndexType.{IndexType}
 use Rattle.wasmi_types.specs.declared.index_ty.IndexType.TheVariants.{I32}
 use Rattle.wasmi_types.specs.IndexType.{address_bits}
-use Rattle.wasmi_store.specs.declared.memory_type.PageSize.{PageSize}
-use Rattle.wasmi_store.specs.declared.memory_type.PageSize.TheVariants.{Byte, Wasm}
+use Rattle.wasmi_store.specs.Limits.{IsWithin}
+use Rattle.wasmi_store.specs.declared.memory.ty.PageSize.{PageSize}
+use Rattle.wasmi_store.specs.declared.memory.ty.PageSize.TheVariants.{Byte, Wasm}
 
 -- a memory type: its address type, its page size, and its limits in pages
 pub record MemoryTypeValue : Type 0 where
@@ -47,12 +48,6 @@ pub record IsValid (ty : MemoryTypeValue) : Type 0 where
 abbrev pub in_bounds : MemoryTypeValue → ℕ → Bool
 in_bounds ty pages =
     nat_le pages (greatest_pages ty) && option_map_or (λ maximum. nat_le pages maximum) ty.maximum true && nat_lt (pages * page_bytes ty.page) (2 ^ 64)
-
--- an optional maximum is no looser than another
-abbrev pub IsWithin : Option ℕ → Option ℕ → Type 0
-IsWithin own None = Unit {0}
-IsWithin None (Some most) = ⊥
-IsWithin (Some maximum) (Some most) = maximum ≤ most
 
 -- a memory of type a may be given where one of type b is asked for (core specification, import matching)
 pub record IsSubtype (a b : MemoryTypeValue) : Type 0 where

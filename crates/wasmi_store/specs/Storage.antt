@@ -3,9 +3,9 @@ use Rattle.std.specs.Prelude.{◌≡◌, ℕ, ◌≤◌, List, [], length, take,
 use Rattle.std.specs.Borrow.{Lends, MutBor, Fml, Array, u8}
 use Rattle.std.specs.Vec.{with_items}
 use Rattle.wasmi_store.specs.Buffer as buffer
-use Rattle.wasmi_store.specs.declared.buffer.Storage.{Storage}
-use Rattle.wasmi_store.specs.declared.buffer.Storage.TheVariants.{Owned, Lent}
-use Rattle.wasmi_store.specs.contracts.buffer.Storage.{the_row}
+use Rattle.wasmi_store.specs.declared.memory.buffer.Storage.{Storage}
+use Rattle.wasmi_store.specs.declared.memory.buffer.Storage.TheVariants.{Owned, Lent}
+use Rattle.wasmi_store.specs.contracts.memory.buffer.Storage.{the_row}
 
 -- the buffer whose bytes lie so, beside this region
 abbrev pub view_of : Storage → List ℕ → buffer.BufferValue

@@ -1,13 +1,10 @@
-//! Linear memories: their types, their bytes, and the room that these may grow into.
+//! Linear memories and tables: their types, what they hold, and how they are made and grow.
 #![tactic(auto)]
 
-mod buffer;
 pub mod laws;
+mod limits;
 mod memory;
-mod memory_type;
-mod region;
+mod table;
 
-pub use buffer::{Buffer, ByteBuffer};
-pub use memory::{LinearMemory, Memory};
-pub use memory_type::{MemoryType, MemoryTypeBuilder};
-pub use region::Region;
+pub use memory::{Buffer, ByteBuffer, LinearMemory, Memory, MemoryType, MemoryTypeBuilder, Region};
+pub use table::{ElementSegment, ElementSegmentRef, SegmentError, Table, TableType};

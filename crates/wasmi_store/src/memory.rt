@@ -3,18 +3,20 @@ ghost use Rattle.std.specs.Prelude.{◌≡◌, ◌+◌, ◌-◌, ◌*◌, ◌/�
 ghost use Rattle.std.specs.Option.{option_copied_mut};
 ghost use Rattle.std.specs.Borrow.{sem, Lends, Array, u8};
 ghost use Rattle.wasmi_types.specs.Access.{at};
-ghost use Rattle.wasmi_meter.specs.Limiter.{Heed, MemoryFailure, optional_rules};
+ghost use Rattle.wasmi_meter.specs.Limiter.{optional_rules};
 ghost use Rattle.wasmi_meter.specs.LimiterRef.{state, KeepsLoan, left_behind};
-ghost use Rattle.wasmi_meter.specs.Attempt.{error_of_failure};
-ghost use Rattle.wasmi_meter.specs.declared.error.MemoryError.TheVariants.{ResourceLimiterDeniedAllocation};
 ghost use Rattle.wasmi_store.specs.MemoryType.{page_bytes, in_bounds};
 
-use crate::buffer::Buffer;
-use crate::memory_type::MemoryType;
-use crate::region::Region;
+mod buffer;
+mod region;
+mod ty;
+
+pub use buffer::{Buffer, ByteBuffer};
+pub use region::Region;
 use std::alloc::Global;
 use std::marker::Model;
-use wasmi_meter::growth::{charge, failure, permission};
+pub use ty::{MemoryType, MemoryTypeBuilder};
+use wasmi_meter::growth::{charge, permission, tell};
 use wasmi_meter::{Fuel, FuelCostsProvider, MemoryError, ResourceLimiter, ResourceLimiterRef};
 
 /// What a memory answers where the limiter answers an error.
@@ -67,7 +69,7 @@ impl<'r> LinearMemory<&'r mut [u8]> {
         permission(answer, DENIED, DENIED)?;
         match Buffer::new(alloc, size) {
             Ok(buffer) => Ok(LinearMemory { buffer, ty }),
-            Err(cause) => Err(tell(limiter, cause)),
+            Err(cause) => Err(tell(limiter, cause, DENIED)),
         }
     }
 }
@@ -170,10 +172,10 @@ impl<R: Region> LinearMemory<R> {
         let answer = limiter.memory_growing(old_size, size, self.ty.maximum_size());
         permission(answer, MemoryError::OutOfBoundsGrowth, DENIED)?;
         if let Err(required_fuel) = charge::<u8>(fuel, (size - old_size) as u64) {
-            return Err(tell(limiter, MemoryError::OutOfFuel { required_fuel }));
+            return Err(tell(limiter, MemoryError::OutOfFuel { required_fuel }, DENIED));
         }
         if let Err(cause) = self.buffer.grow(size) {
-            return Err(tell(limiter, cause));
+            return Err(tell(limiter, cause, DENIED));
         }
         Ok(old_pages)
     }
@@ -216,14 +218,4 @@ impl<R: Region> LinearMemory<R> {
         self.buffer.write(offset, buffer);
         Ok(())
     }
-}
-
-/// Tells the limiter why a memory was not made or did not grow, and answers the error that its answer makes of it.
-fn tell<L: ResourceLimiter>(limiter: &mut ResourceLimiterRef<L>, cause: MemoryError) -> MemoryError
-    ensures loan { KeepsLoan limiter.old limiter.new }
-    ensures told { (heed : Heed) × (optional_rules L.rules).noticed (state limiter.old) (MemoryFailure cause) heed (state limiter.new)
-        × (result ≡ error_of_failure ResourceLimiterDeniedAllocation cause heed) }
-{
-    let heed = limiter.memory_grow_failed(&cause);
-    failure(heed, cause, DENIED)
 }

@@ -1,4 +1,4 @@
-//! What the tests share: comparisons, and the types of memories.
+//! What the tests share: comparisons, types of memories, and references and tables of them.
 mod buffers;
 mod creations;
 mod errors;
@@ -9,15 +9,25 @@ mod memories;
 mod memory_types;
 mod quota;
 mod recorder;
+mod segments;
+mod subtypes;
+mod table_creations;
+mod table_growths;
+mod table_types;
+mod tables;
 
 use std::alloc::Global;
 use std::fmt::{Debug, Display};
 use std::process::Abort;
 use std::test::Fail;
 use wasmi_meter::{
-    CustomFuelCosts, Fuel, FuelCostsProvider, MemoryError, ResourceLimiter, ResourceLimiterRef,
+    CustomFuelCosts, Fuel, FuelCostsProvider, MemoryError, NoLimits, ResourceLimiter,
+    ResourceLimiterRef, TableError,
 };
-use wasmi_store::{Memory, MemoryType};
+use wasmi_raw::RawRef;
+use wasmi_store::{Memory, MemoryType, Table, TableType};
+use wasmi_typed::TypedRawRef;
+use wasmi_types::RefType;
 
 /// Compares an answer with the expected one; `what` says in the message of which call.
 fn same<T: PartialEq + Debug + Drop>(rt: &impl Abort, what: &str, answer: T, expected: T) {
@@ -63,8 +73,13 @@ fn wide_type(minimum: u64, maximum: Option<u64>) -> Result<MemoryType, MemoryErr
 
 /// A meter with so much fuel, of which one is taken for 64 copied bytes.
 fn metered(fuel: u64) -> Fuel {
+    metered_at(64, fuel)
+}
+
+/// A meter with so much fuel, of which one is taken for so many copied bytes.
+fn metered_at(bytes_copied_per_fuel: u32, fuel: u64) -> Fuel {
     let costs = CustomFuelCosts {
-        bytes_copied_per_fuel: 64,
+        bytes_copied_per_fuel,
         fuel_per_bytes_translated: 7,
         fuel_per_bytes_validated: 2,
     };
@@ -90,4 +105,33 @@ fn grow<L: ResourceLimiter>(
     limiter: &mut L,
 ) -> Result<u64, MemoryError> {
     memory.grow(pages, fuel, &mut ResourceLimiterRef::from(limiter))
+}
+
+/// A reference to a function.
+fn func(bits: u32) -> TypedRawRef {
+    TypedRawRef::new(RawRef::from(bits), RefType::Func)
+}
+
+/// A reference to an object of the host.
+fn external(bits: u32) -> TypedRawRef {
+    TypedRawRef::new(RawRef::from(bits), RefType::Extern)
+}
+
+/// A table of functions, 1 to 5.
+fn five_functions(alloc: Global) -> Result<Table, TableError> {
+    let ty = TableType::new(RefType::Func, 5, None);
+    let mut limits = NoLimits;
+    let mut limiter = ResourceLimiterRef::from(&mut limits);
+    let mut table = Table::new(alloc, ty, func(1), &mut limiter)?;
+    for index in 1..5u32 {
+        table.set(u64::from(index), func(index + 1))?;
+    }
+    Ok(table)
+}
+
+/// Compares the first five elements of a table of functions.
+fn same_elements(rt: &impl Abort, what: &str, table: &Table, expected: [u32; 5]) {
+    for (index, bits) in (0u64..5).zip(expected) {
+        same(rt, what, table.get(index), Some(func(bits)));
+    }
 }

@@ -1,6 +1,11 @@
 -- Global variables.
+use Rattle.std.specs.Prelude.{◌≡◌, ◌≢◌, Result, Ok, Err}
 use Rattle.wasmi_raw.specs.declared.raw.RawVal.{RawVal}
+use Rattle.wasmi_typed.specs.declared.typed.TypedRawVal.{TypedRawVal}
 use Rattle.wasmi_typed.specs.declared.global.GlobalType.{GlobalType}
+use Rattle.wasmi_typed.specs.declared.global.GlobalError.{GlobalError}
+use Rattle.wasmi_typed.specs.declared.global.GlobalError.TheVariants.{ImmutableWrite, TypeMismatch}
+use Rattle.wasmi_typed.specs.declared.global.Mutability.TheVariants.{Const, Var}
 
 -- a global variable: its present value and its type
 pub record GlobalInstance : Type 0 where
@@ -10,3 +15,11 @@ pub record GlobalInstance : Type 0 where
 -- the global variable with another value
 abbrev pub with_value : GlobalInstance → RawVal → GlobalInstance
 with_value global value = record global { value = value }
+
+-- a global variable is set, unless it is a constant or the value is of another type, in this order
+abbrev pub SetsGlobal : GlobalInstance → TypedRawVal → Result (Unit {0}) GlobalError → GlobalInstance → Type 0
+SetsGlobal global value (Ok _) global' =
+    (global.ty.mutability ≡ Var) × (global.ty.content ≡ value.ty) × (global' ≡ with_value global value.raw)
+SetsGlobal global value (Err ImmutableWrite) global' = (global.ty.mutability ≡ Const) × (global' ≡ global)
+SetsGlobal global value (Err TypeMismatch) global' =
+    (global.ty.mutability ≡ Var) × (global.ty.content ≢ value.ty) × (global' ≡ global)

@@ -1,8 +1,8 @@
 //! Global variables.
 
-ghost use Rattle.std.specs.Prelude.{◌≡◌, ◌≢◌, ◌↔◌, IsTrue, IsErrOf, OnOk, OnErr};
+ghost use Rattle.std.specs.Prelude.{◌≡◌, ◌↔◌, IsTrue};
 ghost use Rattle.std.specs.Borrow.{sem};
-ghost use Rattle.wasmi_typed.specs.Global.{with_value};
+ghost use Rattle.wasmi_typed.specs.Global.{SetsGlobal};
 ghost use Rattle.wasmi_typed.specs.Lending.{LendsValue};
 
 use crate::typed::TypedRawVal;
@@ -138,11 +138,7 @@ impl Global {
     ///
     /// Errors, in this order: `ImmutableWrite`, `TypeMismatch`.
     pub fn set(&mut self, new_value: TypedRawVal) -> Result<(), GlobalError>
-        ensures ok { OnOk result (self.new ≡ with_value self.old new_value.raw) }
-        ensures immutable { IsErrOf result GlobalError.ImmutableWrite ↔ (self.old.ty.mutability ≡ Mutability.Const) }
-        ensures mismatch { IsErrOf result GlobalError.TypeMismatch
-            ↔ ((self.old.ty.mutability ≡ Mutability.Var) × (self.old.ty.content ≢ new_value.ty)) }
-        ensures refused { OnErr result (self.new ≡ self.old) }
+        ensures { SetsGlobal self.old new_value result self.new }
     {
         if self.ty.mutability.is_const() {
             return Err(GlobalError::ImmutableWrite);

@@ -4,7 +4,9 @@
 mod global;
 mod shift_amount;
 mod typed;
+mod typed_ref;
 
 pub use global::{Global, GlobalError, GlobalType, Mutability};
 pub use shift_amount::{IntoShiftAmount, ShiftAmount};
 pub use typed::{Typed, TypedRawVal};
+pub use typed_ref::{NotAReference, TypedRawRef};

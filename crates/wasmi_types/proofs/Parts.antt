@@ -4,10 +4,11 @@ use Rattle.std.specs.Prelude.{Option}
 use Rattle.wasmi_types.specs.declared.value.ValType.{ValType}
 use Rattle.wasmi_types.specs.declared.func_type.FuncTypeError.{FuncTypeError}
 use Rattle.wasmi_types.specs.declared.func_type.FuncTypeError.TheVariants.{TooManyFunctionResults}
-use Rattle.wasmi_types.specs.Reading.{ReadsAll, ReadsSome, IsOutOfMemory, IsRefusal, IsPart, IsPartRefusal}
+use Rattle.wasmi_types.specs.Iteration.{ReadsAll}
+use Rattle.wasmi_types.specs.Reading.{ReadsSome, IsOutOfMemory, IsRefusal, IsPart, IsPartRefusal}
 
 -- what was read to its end was read
-some_from_all : {I : Type 0} {steps : I → Option ValType → I → Type 0} {s t : I} {xs : List ValType} → ReadsAll steps s xs t → ReadsSome steps s xs t
+some_from_all : {I : Type 0} {steps : I → Option ValType → I → Type 0} {s t : I} {xs : List ValType} → ReadsAll 1000 steps s xs t → ReadsSome steps s xs t
 some_from_all e = record { run = inr e.run; short = omega (arith, e.short) }
 
 module _ {P R : Type 0} {of_params : P → Option ValType → P → Type 0} {of_results : R → Option ValType → R → Type 0} {p p' : P} {r r' : R} {n : ℕ} {before entries : List ValType} where

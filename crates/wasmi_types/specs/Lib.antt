@@ -7,6 +7,7 @@ pub mod Trap
 pub mod TrapReason
 pub mod FunctionType
 pub mod FuncTypeInner
+pub mod Iteration
 pub mod Reading
 pub mod FunctionTypeLaws
 pub mod ValTypeLaws

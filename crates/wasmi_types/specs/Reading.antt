@@ -6,23 +6,12 @@ use Rattle.wasmi_types.specs.declared.value.ValType.{ValType}
 use Rattle.wasmi_types.specs.declared.func_type.FuncTypeError.{FuncTypeError}
 use Rattle.wasmi_types.specs.declared.func_type.FuncTypeError.TheVariants.{TooManyFunctionParams, TooManyFunctionResults, OutOfMemory}
 use Rattle.wasmi_types.specs.FunctionType.{FunctionType}
+use Rattle.wasmi_types.specs.Iteration.{ReadsAll, ReadsTooMany}
 
 module _ {I : Type 0} (steps : I → Option ValType → I → Type 0) where
-  -- calls from s to t gave the types xs, at most 1,000, and then the end
-  pub record ReadsAll (s : I) (xs : List ValType) (t : I) : Type 0 where
-    pub run : YieldsThen steps s xs None t
-    pub short : length xs ≤ 1000
-
   -- a fact that holds once calls from s gave all types, and then the end
   abbrev pub AfterAll : I → Type 0 → Type 0
-  AfterAll s Fact = (types : List ValType) (t : I) → ReadsAll s types t → Fact
-
-  -- calls from s to t gave 1,000 types and one more
-  pub record ReadsTooMany (s t : I) : Type 0 where
-    pub types : List ValType
-    pub last : ValType
-    pub run : YieldsThen steps s types (Some last) t
-    pub full : length types ≡ 1000
+  AfterAll s Fact = (types : List ValType) (t : I) → ReadsAll 1000 steps s types t → Fact
 
   -- calls from s to t gave the types xs, at most 1,000, and then perhaps the end
   pub record ReadsSome (s : I) (xs : List ValType) (t : I) : Type 0 where
@@ -36,18 +25,18 @@ module _ {P R : Type 0} (of_params : P → Option ValType → P → Type 0) (of_
     pub results : List ValType
     pub params_read : ReadsSome of_params p params p'
     pub results_read : ReadsSome of_results r results r'
-    pub in_order : ReadsAll of_params p params p' ⊎ (r' ≡ r)
+    pub in_order : ReadsAll 1000 of_params p params p' ⊎ (r' ≡ r)
     pub many : 21 < length params + length results
 
   -- why no function type was read
   abbrev pub IsRefusal : P → R → FuncTypeError → P → R → Type 0
-  IsRefusal p r TooManyFunctionParams p' r' = ReadsTooMany of_params p p' × (r' ≡ r)
-  IsRefusal p r TooManyFunctionResults p' r' = ((params : List ValType) × ReadsAll of_params p params p') × ReadsTooMany of_results r r'
+  IsRefusal p r TooManyFunctionParams p' r' = ReadsTooMany 1000 of_params p p' × (r' ≡ r)
+  IsRefusal p r TooManyFunctionResults p' r' = ((params : List ValType) × ReadsAll 1000 of_params p params p') × ReadsTooMany 1000 of_results r r'
   IsRefusal p r OutOfMemory p' r' = IsOutOfMemory p r p' r'
 
   -- the answer after calls from p to p' and from r to r': the function type of all that came, or the refusal
   abbrev pub IsReading : P → R → Result FunctionType FuncTypeError → P → R → Type 0
-  IsReading p r (Ok ty) p' r' = ReadsAll of_params p ty.params p' × ReadsAll of_results r ty.results r'
+  IsReading p r (Ok ty) p' r' = ReadsAll 1000 of_params p ty.params p' × ReadsAll 1000 of_results r ty.results r'
   IsReading p r (Err error) p' r' = IsRefusal p r error p' r'
 
 -- the answer after reading the iterators that x and y become
@@ -71,7 +60,7 @@ module _ {I : Type 0} (steps : I → Option ValType → I → Type 0) where
   -- calls from s to t gave so many types, at most 1,000, and then the end; they follow those before
   pub record IsPart (s : I) (before : List ValType) (count : ℕ) (t : I) (after : List ValType) : Type 0 where
     pub types : List ValType
-    pub read : ReadsAll steps s types t
+    pub read : ReadsAll 1000 steps s types t
     pub kept : after ≡ before ++ types
     pub counted : count ≡ length types
 
@@ -83,4 +72,4 @@ module _ {I : Type 0} (steps : I → Option ValType → I → Type 0) where
 
   -- why a part was not read
   abbrev pub IsPartRefusal : FuncTypeError → I → List ValType → FuncTypeError → I → Type 0
-  IsPartRefusal too_many s before error t = ((error ≡ too_many) × ReadsTooMany steps s t) ⊎ ((error ≡ OutOfMemory) × IsPartOutOfMemory s before t)
+  IsPartRefusal too_many s before error t = ((error ≡ too_many) × ReadsTooMany 1000 steps s t) ⊎ ((error ≡ OutOfMemory) × IsPartOutOfMemory s before t)

@@ -1,6 +1,7 @@
 mod function_types;
 mod globals;
 mod raw_values;
+mod references;
 mod traps;
 mod typed_values;
 mod value_types;

@@ -12,8 +12,8 @@ struct OnePage;
 
 impl ResourceLimiter for OnePage {
     ghost rules = { record {
-        asked = λ limiter question answer limiter'. Unit {0};
-        noticed = λ limiter failure heed limiter'. Unit {0};
+      asked = λ limiter question answer limiter'. Unit {0};
+      noticed = λ limiter failure heed limiter'. Unit {0};
     } };
 
     fn memory_growing(
@@ -74,7 +74,10 @@ fn a_run_under_a_quota(rt: HostRuntime) -> Result<(), Fail> {
     let fuel = Fuel::new(false, FuelCostsProvider::default());
     let mut machine = Machine::new(rt.alloc(), fuel);
     let mut quota = Quota::new(131072, 0);
-    let grow = Call::GrowMemory { memory: 0, pages: 2 };
+    let grow = Call::GrowMemory {
+        memory: 0,
+        pages: 2,
+    };
     let calls = vec![in rt.alloc(); Call::NewMemory(one_page), grow]?;
     let replies = run_lending(&mut machine, &calls, &mut quota)?;
     assert_eq!(rt; replies[0], Reply::Made(0));

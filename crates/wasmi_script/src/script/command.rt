@@ -1,10 +1,13 @@
 //! The commands of a script, each of which is one call.
 ghost use Rattle.wasmi_script.specs.Acceptance.{Accepts};
-ghost use Rattle.wasmi_script.specs.Commands.{Names};
+ghost use Rattle.wasmi_script.specs.Commands.{Names, NamesAfter};
 
 mod access;
 mod fuel;
+mod global;
 mod memory;
+mod segment;
+mod table;
 
 use super::line::LineError;
 use std::alloc::Global;
@@ -15,14 +18,36 @@ pub fn command(alloc: Global, words: &[&str]) -> Result<Call, LineError>
     ensures { Accepts result (Names words.now) }
 {
     match words {
-        ["fuel", operands @ ..] => fuel::set_fuel(operands),
-        ["left", operands @ ..] => fuel::get_fuel(operands),
-        ["memory", operands @ ..] => memory::new_memory(operands),
-        ["grow", operands @ ..] => memory::grow(operands),
-        ["read", operands @ ..] => memory::read(operands),
-        ["write", operands @ ..] => memory::write(alloc, operands),
-        ["load", operands @ ..] => access::load(operands),
-        ["store", operands @ ..] => access::store(operands),
+        [name, operands @ ..] => named(alloc, name, operands),
+        [] => Err(LineError::BadCommand),
+    }
+}
+
+/// The call of a command with this name and these operands.
+fn named(alloc: Global, name: &str, operands: &[&str]) -> Result<Call, LineError>
+    ensures { Accepts result (NamesAfter name.now operands.now) }
+{
+    match name {
+        "fuel" => fuel::set_fuel(operands),
+        "left" => fuel::get_fuel(operands),
+        "memory" => memory::new_memory(operands),
+        "grow" => memory::grow(operands),
+        "read" => memory::read(operands),
+        "write" => memory::write(alloc, operands),
+        "load" => access::load(operands),
+        "store" => access::store(operands),
+        "table" => table::new_table(operands),
+        "tgrow" => table::grow(operands),
+        "get" => table::get(operands),
+        "tset" => table::set(operands),
+        "init" => table::init(operands),
+        "copy" => table::copy(operands),
+        "fill" => table::fill(operands),
+        "segment" => segment::new_segment(alloc, operands),
+        "empty" => segment::empty(operands),
+        "global" => global::new_global(operands),
+        "gset" => global::set(operands),
+        "gget" => global::get(operands),
         _ => Err(LineError::BadCommand),
     }
 }

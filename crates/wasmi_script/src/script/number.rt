@@ -2,7 +2,8 @@
 ghost use Rattle.std.specs.Prelude.{◌≡◌, ◌↔◌, ◌<◌, ◌^◌, EachIndex, slice_index, IsTrue, IfOk, IfErr, Err, Ok};
 ghost use Rattle.std.specs.Char.{IsAsciiDigit};
 ghost use Rattle.std.specs.Result.{OkIff};
-ghost use Rattle.wasmi_script.specs.Numbers.{IsDecimal, decimal_value};
+ghost use Rattle.wasmi_script.specs.Numbers.{IsDecimal, WritesLimit, decimal_value};
+ghost use Rattle.wasmi_script.specs.Acceptance.{Accepts};
 
 use super::line::LineError;
 
@@ -20,6 +21,16 @@ where
     match T::try_from(number) {
         Ok(number) => Ok(number),
         Err(_) => Err(LineError::BadCommand),
+    }
+}
+
+/// The number that a word writes, or `None` for the word `none`.
+pub fn number_or_none(word: &str) -> Result<Option<u64>, LineError>
+    ensures { Accepts result (WritesLimit word.now) }
+{
+    match word {
+        "none" => Ok(None),
+        _ => Ok(Some(number(word)?)),
     }
 }
 

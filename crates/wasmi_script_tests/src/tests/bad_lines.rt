@@ -60,6 +60,52 @@ const MORE_BAD_LINES: [&[u8]; 20] = [
     b"drop memory 0",
 ];
 
+// Lines of tables, element segments and globals.
+const BAD_LINES_OF_TABLES: [&[u8]; 42] = [
+    b"table",
+    b"table func 0 none 32 func",
+    b"table func 0 none 32 func 0 0",
+    b"table funcref 0 none 32 func 0",
+    b"table func 0 none 16 func 0",
+    b"table func none none 32 func 0",
+    b"table func 4294967296 none 32 func 0",
+    b"table func 0 4294967296 32 func 0",
+    b"table func 2 1 64 func 0",
+    b"table func 18446744073709551616 none 64 func 0",
+    b"table func 0 18446744073709551616 64 func 0",
+    b"table func 0 none 32 func 4294967296",
+    b"tgrow 0 18446744073709551616 func 0",
+    b"tgrow 0 1 0",
+    b"get 0",
+    b"get 0 1 2",
+    b"get 18446744073709551616 0",
+    b"tset 0 0 func",
+    b"tset 0 0 none 0",
+    b"init 0 0 0 4294967296 0",
+    b"init 0 0 0 0 4294967296",
+    b"init 0 0 0 0",
+    b"copy 0 0 0 0 18446744073709551616",
+    b"copy 0 0 0 0",
+    b"fill 0 0 func 0",
+    b"fill 0 0 func 0 0 0",
+    b"segment",
+    b"segment 1 2",
+    b"segment func 1 -2",
+    b"segment func 4294967296",
+    b"empty",
+    b"empty 0 0",
+    b"global i32 mut 0 0",
+    b"global i8 var 0 0",
+    b"global i32 var 0",
+    b"global i32 var 0 0 0",
+    b"global i32 var 18446744073709551616 0",
+    b"gset 0 i32 0",
+    b"gset 0 const 0 0",
+    b"gset 0 i32 0 18446744073709551616",
+    b"gget",
+    b"gget 0 0",
+];
+
 fn is_bad<R: Abort>(rt: &R, alloc: Global, script: &[u8], printed: &str) {
     prints(
         rt,
@@ -80,6 +126,9 @@ fn names_the_first_bad_line(rt: HostRuntime) {
 #[test]
 fn takes_no_other_numbers_or_words(rt: HostRuntime) {
     for script in MORE_BAD_LINES {
+        is_bad(&rt, rt.alloc(), script, "line 1: bad command\n");
+    }
+    for script in BAD_LINES_OF_TABLES {
         is_bad(&rt, rt.alloc(), script, "line 1: bad command\n");
     }
 }

@@ -2,6 +2,7 @@
 use super::{same, same_text};
 use std::test::Fail;
 use wasmi_meter::{FuelError, LimiterError, MemoryError, TableError};
+use wasmi_store::SegmentError;
 
 static MEMORY_TEXTS: [(MemoryError, &str); 9] = [
     (
@@ -136,4 +137,23 @@ fn a_limiter_error_becomes_a_denial(rt: HostRuntime) {
     same(&rt, "of a memory", error.into(), of_memory);
     let of_table = TableError::ResourceLimiterDeniedAllocation;
     same(&rt, "of a table", error.into(), of_table);
+}
+
+#[test]
+fn segment_errors_have_their_texts(rt: HostRuntime) -> Result<(), Fail> {
+    let many = SegmentError::TooManyItems;
+    let text = "too many items in an element segment";
+    same_text(&rt, rt.alloc(), &many, text)?;
+    let memory = SegmentError::OutOfSystemMemory;
+    same_text(&rt, rt.alloc(), &memory, "out of memory")
+}
+
+#[test]
+fn a_fuel_error_becomes_one_of_a_table(rt: HostRuntime) {
+    let out = TableError::try_from(FuelError::out_of_fuel(7));
+    let expected = Ok(TableError::OutOfFuel { required_fuel: 7 });
+    same(&rt, "too little fuel", out, expected);
+    let off = TableError::try_from(FuelError::fuel_metering_disabled());
+    let expected = Err(FuelError::FuelMeteringDisabled);
+    same(&rt, "metering is off", off, expected);
 }

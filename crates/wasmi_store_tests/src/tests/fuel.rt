@@ -6,6 +6,7 @@ use super::same;
 use std::alloc::AllocError;
 use std::test::Fail;
 use wasmi_meter::{CustomFuelCosts, Fuel, FuelCosts, FuelCostsProvider, FuelError};
+use wasmi_raw::RawRef;
 
 const CUSTOM: CustomFuelCosts = CustomFuelCosts {
     bytes_copied_per_fuel: 0,
@@ -42,6 +43,15 @@ fn out_of_fuel<T>(required_fuel: u64) -> Result<T, FuelError> {
 
 fn off<T>() -> Result<T, FuelError> {
     Err(FuelError::FuelMeteringDisabled)
+}
+
+#[test]
+fn a_reference_has_four_bytes(rt: HostRuntime) {
+    let provider = FuelCostsProvider::default();
+    let of_references = [15, 16].map(|number| {
+        provider.fuel_for_copying_values::<RawRef>(number)
+    });
+    same(&rt, "the default costs", of_references, [0, 1]);
 }
 
 #[test]

@@ -1,66 +1,14 @@
 //! Types of memories: which are valid, and which stand for others.
+use super::subtypes::{SUBTYPES, Subtype};
 use super::{memory_type, page_type, same, wide_type};
 use std::process::Abort;
 use std::test::Fail;
 use wasmi_meter::MemoryError;
 use wasmi_store::MemoryType;
 
-/// Two types by their minimum and maximum, and whether the first is a subtype of the second.
-struct Subtype {
-    what: &'static str,
-    own: (u64, Option<u64>),
-    other: (u64, Option<u64>),
-    expected: bool,
-}
-
-static SUBTYPES: [Subtype; 7] = [
-    Subtype {
-        what: "the same maximum",
-        own: (0, Some(1)),
-        other: (0, Some(1)),
-        expected: true,
-    },
-    Subtype {
-        what: "a smaller maximum",
-        own: (0, Some(1)),
-        other: (0, Some(2)),
-        expected: true,
-    },
-    Subtype {
-        what: "a greater maximum",
-        own: (0, Some(2)),
-        other: (0, Some(1)),
-        expected: false,
-    },
-    Subtype {
-        what: "a greater minimum",
-        own: (2, None),
-        other: (1, None),
-        expected: true,
-    },
-    Subtype {
-        what: "the same minimum",
-        own: (0, None),
-        other: (0, None),
-        expected: true,
-    },
-    Subtype {
-        what: "a maximum where the other has none",
-        own: (0, Some(1)),
-        other: (0, None),
-        expected: true,
-    },
-    Subtype {
-        what: "no maximum where the other has one",
-        own: (0, None),
-        other: (0, Some(1)),
-        expected: false,
-    },
-];
-
 fn compare_subtype(rt: &impl Abort, row: &Subtype) -> Result<(), Fail> {
-    let own = page_type(row.own.0, row.own.1)?;
-    let other = page_type(row.other.0, row.other.1)?;
+    let own = page_type(u64::from(row.own.0), row.own.1.map(u64::from))?;
+    let other = page_type(u64::from(row.other.0), row.other.1.map(u64::from))?;
     same(rt, row.what, own.is_subtype_of(&other), row.expected);
     Ok(())
 }

@@ -120,7 +120,36 @@ pub(super) fn memory_question(
     })
 }
 
-/// Compares what a limiter was asked and told: each of them once, or not at all.
+/// A question whether a table may grow, in elements.
+pub(super) fn table_question(
+    current: usize,
+    desired: usize,
+    maximum: Option<usize>,
+) -> Option<Question> {
+    Some(Question {
+        kind: Kind::Elements,
+        current,
+        desired,
+        maximum,
+    })
+}
+
+/// Compares what a limiter was asked and told of a table: each of them once, or not at all.
+pub(super) fn same_table_record(
+    rt: &impl Abort,
+    what: &str,
+    recorder: &Recorder,
+    question: Option<Question>,
+    notice: Option<TableError>,
+) {
+    let numbers = (u32::from(question.is_some()), u32::from(notice.is_some()));
+    same(rt, what, (recorder.questions, recorder.notices), numbers);
+    same(rt, what, recorder.question, question);
+    same(rt, what, recorder.memory_notice, None);
+    same(rt, what, recorder.table_notice, notice);
+}
+
+/// Compares what a limiter was asked and told of a memory: each of them once, or not at all.
 pub(super) fn same_record(
     rt: &impl Abort,
     what: &str,

@@ -2,11 +2,12 @@
 ghost use Rattle.std.specs.Prelude.{◌≡◌, codes, IfErr, IfOk};
 ghost use Rattle.wasmi_script.specs.Acceptance.{Accepts};
 ghost use Rattle.wasmi_script.specs.Commands.{NamesAfter};
-ghost use Rattle.wasmi_script.specs.MemoryWords.{HasSettings, NamesType, width_word};
-ghost use Rattle.wasmi_script.specs.Numbers.{AreBytes, WritesBytes, WritesLimit};
+ghost use Rattle.wasmi_script.specs.MemoryWords.{HasSettings, NamesType};
+ghost use Rattle.wasmi_script.specs.Numbers.{AreNumbers, WritesNumbers};
 
 use super::super::line::LineError;
-use super::super::number::number;
+use super::super::number::{number, number_or_none};
+use super::super::types::index_ty;
 use std::alloc::Global;
 use wasmi_core::{Call, IndexType, MemoryType};
 
@@ -63,8 +64,8 @@ pub fn write(alloc: Global, operands: &[&str]) -> Result<Call, LineError>
 
 /// The bytes that the words write, one each.
 fn bytes_of(alloc: Global, words: &[&str]) -> Result<Vec<u8>, LineError>
-    ensures bytes { IfOk result (λ bytes. WritesBytes words.now bytes.items) }
-    ensures refused { IfErr result (λ error. error ≡ LineError.BadCommand → ¬ (AreBytes words.now)) }
+    ensures bytes { IfOk result (λ bytes. WritesNumbers 8 words.now bytes.items) }
+    ensures refused { IfErr result (λ error. error ≡ LineError.BadCommand → ¬ (AreNumbers 8 words.now)) }
 {
     let mut bytes = Vec::new(alloc);
     for word in words {
@@ -102,26 +103,5 @@ fn type_of(
     match builder.build() {
         Ok(ty) => Ok(ty),
         Err(_) => Err(LineError::BadCommand),
-    }
-}
-
-/// The number that a word writes, or `None` for the word `none`.
-fn number_or_none(word: &str) -> Result<Option<u64>, LineError>
-    ensures { Accepts result (WritesLimit word.now) }
-{
-    match word {
-        "none" => Ok(None),
-        _ => Ok(Some(number(word)?)),
-    }
-}
-
-/// The address type of a width word, `32` or `64`.
-fn index_ty(width: &str) -> Result<IndexType, LineError>
-    ensures { Accepts result (λ index. width.now ≡ width_word index) }
-{
-    match width {
-        "32" => Ok(IndexType::I32),
-        "64" => Ok(IndexType::I64),
-        _ => Err(LineError::BadCommand),
     }
 }

@@ -1,7 +1,7 @@
 use Rattle.std.proofs.lemmas.Result.{err_from_is_err_and}
 use Rattle.wasmi_meter.specs.Limiter.{optional_rules}
 use Rattle.wasmi_store.specs.Buffer.{Owned}
-use Rattle.wasmi_store.proofs.GrowthLemmas.{makes_unasked, makes_denied, makes_refused}
+use Rattle.wasmi_store.proofs.MemoryLemmas.{makes_unasked, makes_denied, makes_refused}
 use Rattle.wasmi_store.proofs.memory.LinearMemory+mut+slice+u8.new.Goals as goal
 
 pub returns-in_default-clause-made : goal.returns-in_default-clause-made

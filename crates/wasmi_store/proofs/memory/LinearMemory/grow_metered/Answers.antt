@@ -3,7 +3,7 @@ use Rattle.std.proofs.lemmas.Result.{err_from_is_err_and}
 use Rattle.wasmi_meter.specs.Limiter.{optional_rules}
 use Rattle.wasmi_store.specs.Buffer.{BufferValue}
 use Rattle.wasmi_store.specs.Memory.{MemoryValue}
-use Rattle.wasmi_store.proofs.GrowthLemmas.{grows_unasked, grows_denied, grows_unpaid, grows_refused, grows_met}
+use Rattle.wasmi_store.proofs.MemoryLemmas.{grows_unasked, grows_denied, grows_unpaid, grows_refused, grows_met}
 use Rattle.wasmi_store.proofs.memory.LinearMemory.grow_metered.Goals as goal
 
 pub returns-in_default-clause-grown : goal.returns-in_default-clause-grown

@@ -1,14 +1,14 @@
 //! The types of linear memories.
 ghost use Rattle.std.specs.Prelude.{◌≡◌, ◌*◌, ◌^◌, ◌≤◌, ◌<◌, ◌↔◌, ℕ, Option, Some, None, IsTrue, true, false, MatchOption, MatchResult, IsSomeAnd, nat_lt, if◌then◌else◌};
-ghost use Rattle.wasmi_store.specs.MemoryType.{IsWithin};
 
+use crate::limits::is_within;
 use std::marker::Model;
 use wasmi_meter::MemoryError;
 use wasmi_types::IndexType;
 
 /// A page has one byte or 64 KiB.
 #[derive(Clone, Copy, Debug, PartialEq, Eq)]
-pub(crate) enum PageSize {
+pub(super) enum PageSize {
     Byte,
     Wasm,
 }
@@ -133,7 +133,7 @@ impl MemoryType {
     }
 
     /// The type with another minimum.
-    pub(crate) fn with_minimum(self, minimum: u64) -> Self
+    pub(super) fn with_minimum(self, minimum: u64) -> Self
         requires { in_bounds self minimum ≡ true }
         ensures { result ≡ record self { minimum = minimum } }
     {
@@ -141,7 +141,7 @@ impl MemoryType {
     }
 
     /// The minimum in bytes, if it is below 2^64.
-    pub(crate) fn minimum_size(self) -> Option<usize>
+    pub(super) fn minimum_size(self) -> Option<usize>
         ensures size { result ≡ (if nat_lt (minimum_bytes self) (2 ^ 64) then Some (minimum_bytes self) else None) }
         ensures valid { IsValid self }
     {
@@ -150,7 +150,7 @@ impl MemoryType {
     }
 
     /// The maximum in bytes, cut at the greatest `usize`.
-    pub(crate) fn maximum_size(self) -> Option<usize>
+    pub(super) fn maximum_size(self) -> Option<usize>
         ensures { result ≡ maximum_bytes self }
     {
         match self.maximum {
@@ -160,7 +160,7 @@ impl MemoryType {
     }
 
     /// The bytes of so many pages, if a memory of this type may have them.
-    pub(crate) fn size_of_pages(self, pages: u64) -> Option<usize>
+    pub(super) fn size_of_pages(self, pages: u64) -> Option<usize>
         ensures { MatchOption result
             (in_bounds self pages ≡ false)
             (λ size. (in_bounds self pages ≡ true) × (size ≡ pages * page_bytes self.page)) }
@@ -175,17 +175,6 @@ impl MemoryType {
         }
         let size = pages.checked_mul(u64::from(self.page.bytes()))?;
         Some(size as usize)
-    }
-}
-
-/// Whether an optional maximum is no looser than another.
-fn is_within(own: Option<u64>, other: Option<u64>) -> bool
-    ensures { IsTrue result ↔ IsWithin own other }
-{
-    match (own, other) {
-        (_, None) => true,
-        (None, Some(_)) => false,
-        (Some(maximum), Some(most)) => maximum <= most,
     }
 }
 

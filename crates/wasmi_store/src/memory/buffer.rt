@@ -3,7 +3,7 @@ ghost use Rattle.std.specs.Prelude.{◌≡◌, ◌≤◌, ◌<◌, length, take,
 ghost use Rattle.std.specs.Borrow.{sem, Lends, Array, u8};
 ghost use Rattle.wasmi_types.specs.Access.{overwrite};
 
-use crate::region::Region;
+use super::region::Region;
 use std::alloc::Global;
 use std::marker::Model;
 use wasmi_meter::MemoryError;
@@ -75,7 +75,7 @@ pub type ByteBuffer<'r> = Buffer<&'r mut [u8]>;
 
 impl<R: Region> Buffer<R> {
     ghost use Rattle.wasmi_store.specs.Buffer.{with_bytes, with_zeros, CanFail, CanGrow};
-    ghost use Rattle.wasmi_store.specs.contracts.buffer.Buffer.{the_row};
+    ghost use Rattle.wasmi_store.specs.contracts.memory.buffer.Buffer.{the_row};
 
     /// The bytes.
     pub fn data(&self) -> &[u8]
@@ -111,7 +111,7 @@ impl<R: Region> Buffer<R> {
         }
     }
 
-    pub(crate) fn write(&mut self, offset: usize, source: &[u8])
+    pub(super) fn write(&mut self, offset: usize, source: &[u8])
         requires { offset + length source.now ≤ length self.old.bytes }
         ensures bytes { overwrite self.old.bytes offset source.now ≡ Some self.new.bytes }
         ensures room { self.new.room ≡ self.old.room }

@@ -1,0 +1,61 @@
+use Rattle.std.proofs.Common.{refl, subst}
+use Rattle.wasmi_meter.specs.LimiterRef.{state}
+use Rattle.wasmi_core.specs.TableRows.{WritesTableAt, initialization_from, metered, element_bytes}
+use Rattle.wasmi_core.proofs.machine.Machine.step_table.Goals as goal
+
+pub returns-in-NewTable-clause-step : goal.returns-in-NewTable-clause-step
+returns-in-NewTable-clause-step g c = (
+  0,
+  0,
+  rw (c.in-NewTable.is, ← c.self.view_is) ((refl, refl), c.create.new.self.slots.items, state c.create.new.limiter, c.create.ensures.made, refl),
+)
+
+pub returns-in-GrowTable-clause-step : goal.returns-in-GrowTable-clause-step
+returns-in-GrowTable-clause-step g c =
+    let grown = c.grow.ensures.grown in (
+      grown.0,
+      element_bytes c.in-GrowTable.delta c.grow.result,
+      rw (c.in-GrowTable.is, ← c.self.view_is) (c.grow.new.self.slots.items, c.grow.new.fuel, state c.grow.new.limiter, grown.1, refl, refl),
+    )
+
+pub returns-in-GetElement-clause-step : goal.returns-in-GetElement-clause-step
+returns-in-GetElement-clause-step g c = (0, 0, rw (c.in-GetElement.is, ← c.self.view_is) ((refl, refl), c.get.ensures, refl))
+
+pub returns-in-SetElement-clause-step : goal.returns-in-SetElement-clause-step
+returns-in-SetElement-clause-step g c =
+    (0, 0, rw (c.in-SetElement.is, ← c.self.view_is) ((refl, refl), c.set.new.self.slots.items, c.set.ensures, refl))
+
+-- no element segment of that index
+pub returns-in_default-live-clause-step : goal.returns-in_default-live-clause-step
+returns-in_default-live-clause-step g c = (
+  0,
+  0,
+  rw (c.in-InitTable.is, ← c.self.view_is) (c.self.inside.tables.slots.items, c.self.inside.fuel, rw (← c.in_default-live.ensures) (refl, refl, refl), refl, refl),
+)
+
+pub returns-in-Some-clause-step : goal.returns-in-Some-clause-step
+returns-in-Some-clause-step g c = (
+  c.init.ensures.0,
+  element_bytes c.in-InitTable.len c.init.result,
+  rw (c.in-InitTable.is, ← c.self.view_is) (
+    c.init.new.self.slots.items,
+    c.init.new.fuel,
+    rw (← c.in-Some.ensures) (subst (λ segment. WritesTableAt c.in-InitTable.table (initialization_from c.in-InitTable.dst c.in-InitTable.src c.in-InitTable.len segment) (metered c.self.inside.tables.slots.items c.self.inside.fuel) c.init.result c.init.ensures.0 (metered c.init.new.self.slots.items c.init.new.fuel)) c.from.ensures c.init.ensures.1),
+    refl,
+    refl,
+  ),
+)
+
+pub returns-in-CopyTable-clause-step : goal.returns-in-CopyTable-clause-step
+returns-in-CopyTable-clause-step g c = (
+  c.copy.ensures.0,
+  element_bytes c.in-CopyTable.len c.copy.result,
+  rw (c.in-CopyTable.is, ← c.self.view_is) (c.copy.new.self.slots.items, c.copy.new.fuel, c.copy.ensures.1, refl, refl),
+)
+
+pub returns-in-FillTable-clause-step : goal.returns-in-FillTable-clause-step
+returns-in-FillTable-clause-step g c = (
+  c.fill.ensures.0,
+  element_bytes c.in-FillTable.len c.fill.result,
+  rw (c.in-FillTable.is, ← c.self.view_is) (c.fill.new.self.slots.items, c.fill.new.fuel, c.fill.ensures.1, refl, refl),
+)

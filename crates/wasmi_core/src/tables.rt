@@ -1,0 +1,207 @@
+//! The tables of a machine, by their indices.
+ghost use Rattle.std.specs.Prelude.{◌≡◌, ◌≢◌, ◌<◌, length, ℕ, Some};
+ghost use Rattle.wasmi_meter.specs.Limiter.{optional_rules};
+ghost use Rattle.wasmi_meter.specs.LimiterRef.{state, KeepsLoan};
+ghost use Rattle.wasmi_store.specs.Segment.{segment_of};
+ghost use Rattle.wasmi_store.specs.Table.{MakesTable, GrowsTable};
+ghost use Rattle.wasmi_core.specs.Rows.{reply_of, ActsAt, Creates};
+ghost use Rattle.wasmi_core.specs.TableRows.{GetsElementAt, SetsElementAt, WritesTableAt, WritesTableFrom, filling, copy_from, initialization_from, metered, CopiesSlot};
+ghost use Rattle.wasmi_core.specs.State.{live_at};
+
+use crate::calls::Reply;
+use crate::slots::{Slot, Slots};
+use std::alloc::Global;
+use wasmi_meter::{Fuel, ResourceLimiter, ResourceLimiterRef, TableError};
+use wasmi_store::{ElementSegmentRef, Table, TableType};
+use wasmi_typed::TypedRawRef;
+
+impl Slots<Table> {
+    /// Makes a table in a new slot, which is reserved before the limiter is asked.
+    pub(crate) fn create<L: ResourceLimiter>(
+        &mut self,
+        alloc: Global,
+        ty: TableType,
+        init: TypedRawRef,
+        limiter: &mut ResourceLimiterRef<L>,
+    ) -> Reply
+        ensures loan { KeepsLoan limiter.old limiter.new }
+        ensures made { Creates Reply.Table (MakesTable (optional_rules L.rules) ty init) self.old.slots.items (state limiter.old) result self.new.slots.items (state limiter.new) }
+    {
+        if !self.reserve() {
+            return Reply::NoRoom;
+        }
+        match Table::new(alloc, ty, init, limiter) {
+            Ok(table) => Reply::Made(self.push(table)),
+            Err(error) => Reply::Table(error),
+        }
+    }
+
+    /// Grows a table by so many elements.
+    pub(crate) fn grow<L: ResourceLimiter>(
+        &mut self,
+        index: usize,
+        delta: u64,
+        init: TypedRawRef,
+        fuel: &mut Fuel,
+        limiter: &mut ResourceLimiterRef<L>,
+    ) -> Reply
+        ensures loan { KeepsLoan limiter.old limiter.new }
+        ensures grown { (charge : ℕ) × ActsAt index (reply_of Reply.Number Reply.Table) (GrowsTable (optional_rules L.rules) delta init)
+            (record { value = self.old.slots.items; meter = Some fuel.old; limiter = state limiter.old }) result charge
+            (record { value = self.new.slots.items; meter = Some fuel.new; limiter = state limiter.new }) }
+    {
+        let Some(table) = self.live_mut(index) else {
+            return Reply::NoSuch;
+        };
+        match table.grow(delta, init, Some(fuel), limiter) {
+            Ok(size) => Reply::Number(size),
+            Err(error) => Reply::Table(error),
+        }
+    }
+
+    /// The element of a table.
+    pub(crate) fn get(&self, index: usize, element: u64) -> Reply
+        ensures { GetsElementAt index element self.now.slots.items result }
+    {
+        match self.live(index) {
+            Some(table) => Reply::Reference(table.get(element)),
+            None => Reply::NoSuch,
+        }
+    }
+
+    /// Sets an element of a table.
+    pub(crate) fn set(&mut self, index: usize, element: u64, value: TypedRawRef) -> Reply
+        ensures { SetsElementAt index element value self.old.slots.items result self.new.slots.items }
+    {
+        let Some(table) = self.live_mut(index) else {
+            return Reply::NoSuch;
+        };
+        done(table.set(element, value))
+    }
+
+    /// Fills a part of a table.
+    pub(crate) fn fill(
+        &mut self,
+        index: usize,
+        dst: u64,
+        value: TypedRawRef,
+        len: u64,
+        fuel: &mut Fuel,
+    ) -> Reply
+        ensures { (charge : ℕ) × WritesTableAt index (filling dst value len)
+            (metered self.old.slots.items fuel.old) result charge (metered self.new.slots.items fuel.new) }
+    {
+        let Some(table) = self.live_mut(index) else {
+            return Reply::NoSuch;
+        };
+        done(table.fill(dst, value, len, Some(fuel)))
+    }
+
+    /// Initializes a part of a table from an element segment, if there is one.
+    pub(crate) fn init(
+        &mut self,
+        index: usize,
+        segment: ElementSegmentRef,
+        dst: u64,
+        src: u32,
+        len: u32,
+        fuel: &mut Fuel,
+    ) -> Reply
+        ensures { (charge : ℕ) × WritesTableAt index (initialization_from dst src len (segment_of segment.entry))
+            (metered self.old.slots.items fuel.old) result charge (metered self.new.slots.items fuel.new) }
+    {
+        let Some(table) = self.live_mut(index) else {
+            return Reply::NoSuch;
+        };
+        done(table.init(segment, dst, src, len, Some(fuel)))
+    }
+
+    /// Copies a part of a table to another, or within it.
+    pub(crate) fn copy(
+        &mut self,
+        dst_index: usize,
+        dst: u64,
+        src_index: usize,
+        src: u64,
+        len: u64,
+        fuel: &mut Fuel,
+    ) -> Reply
+        ensures { (charge : ℕ) × WritesTableFrom (live_at self.old.slots.items src_index) dst_index (copy_from dst src len)
+            (metered self.old.slots.items fuel.old) result charge (metered self.new.slots.items fuel.new) }
+    {
+        if dst_index == src_index {
+            return self.copy_within(dst_index, dst, src, len, fuel);
+        }
+        if dst_index >= self.slots.len() || src_index >= self.slots.len() {
+            return Reply::NoSuch;
+        }
+        let part = Part { dst, src, len };
+        copy_between(self.slots.as_mut_slice(), dst_index, src_index, part, fuel)
+    }
+
+    fn copy_within(&mut self, index: usize, dst: u64, src: u64, len: u64, fuel: &mut Fuel) -> Reply
+        ensures { (charge : ℕ) × WritesTableFrom (live_at self.old.slots.items index) index (copy_from dst src len)
+            (metered self.old.slots.items fuel.old) result charge (metered self.new.slots.items fuel.new) }
+    {
+        let Some(table) = self.live_mut(index) else {
+            return Reply::NoSuch;
+        };
+        done(table.copy_within(dst, src, len, Some(fuel)))
+    }
+}
+
+/// Which elements are copied to where.
+#[derive(Clone, Copy)]
+struct Part {
+    dst: u64,
+    src: u64,
+    len: u64,
+}
+
+/// Copies a part of a table to another one.
+fn copy_between(
+    slots: &mut [Slot<Table>],
+    dst_index: usize,
+    src_index: usize,
+    part: Part,
+    fuel: &mut Fuel,
+) -> Reply
+    requires dst { dst_index < length slots.old }
+    requires src { src_index < length slots.old }
+    requires other { dst_index ≢ src_index }
+    ensures { (charge : ℕ) × WritesTableFrom (live_at slots.old src_index) dst_index (copy_from part.dst part.src part.len)
+        (metered slots.old fuel.old) result charge (metered slots.new fuel.new) }
+{
+    if dst_index < src_index {
+        let (front, back) = slots.split_at_mut(src_index);
+        copy_slot(&mut front[dst_index], &back[0], part, fuel)
+    } else {
+        let (front, back) = slots.split_at_mut(dst_index);
+        copy_slot(&mut back[0], &front[src_index], part, fuel)
+    }
+}
+
+/// Copies a part of the table in a slot to that in another one.
+fn copy_slot(slot: &mut Slot<Table>, source: &Slot<Table>, part: Part, fuel: &mut Fuel) -> Reply
+    ensures { (charge : ℕ) × CopiesSlot (copy_from part.dst part.src part.len) source.now
+        (record { value = slot.old; meter = Some fuel.old; limiter = tt }) result charge
+        (record { value = slot.new; meter = Some fuel.new; limiter = tt }) }
+{
+    match (slot, source) {
+        (Slot::Live(table), Slot::Live(source)) => {
+            let Part { dst, src, len } = part;
+            done(Table::copy(table, dst, source, src, len, Some(fuel)))
+        }
+        _ => Reply::NoSuch,
+    }
+}
+
+/// The reply to a call on a table that answers nothing.
+fn done(answer: Result<(), TableError>) -> Reply
+    ensures { result ≡ reply_of (λ _. Reply.Done) Reply.Table answer }
+{
+    match answer {
+        Ok(()) => Reply::Done,
+        Err(error) => Reply::Table(error),
+    }
+}

@@ -1,0 +1,25 @@
+-- A word writes one limit at most, and words write numbers one after the other.
+use Rattle.std.proofs.Common.{ℕ, ◌+◌, ◌<◌, ◌^◌, ◌≡◌, ◌∙◌, ◌++◌, ◌∷◌, List, [], Bor, Option, Some, None, length, map, take, get_or, refl, sym, ap, subst, rules, tests}
+use Rattle.std.proofs.lemmas.List.{map_more}
+use Rattle.std.proofs.lemmas.List.Elements.{All-more}
+use Rattle.wasmi_script.specs.Words.{Words}
+use Rattle.wasmi_script.specs.Numbers.{IsDecimal, decimal_value, WritesNumber, WritesNumbers, WritesLimit}
+
+-- a limit is written by one word at most
+pub same_limit : (word : List ℕ) (a b : Option ℕ) → WritesLimit word a → WritesLimit word b → a ≡ b
+unfolding IsDecimal
+same_limit word None None v w = refl
+same_limit word None (Some n) v w = absurd (search (rules, tests, v, w))
+same_limit word (Some n) None v w = absurd (search (rules, tests, v, w))
+same_limit word (Some m) (Some n) v w = ap (λ k. Some k) (v.1 ∙ sym w.1)
+
+-- one word more, and the number that it writes
+pub one_number : (bits : ℕ) (words : Words) (i : ℕ) (none : Bor (List ℕ)) (numbers : List ℕ) (number : ℕ) → i < length words
+    → WritesNumbers bits (take i words) numbers → WritesNumber bits (get_or words i none).now number
+    → WritesNumbers bits (take (i + 1) words) (numbers ++ number ∷ [])
+one_number bits words i none numbers number below before last = (
+  All-more (λ word. IsDecimal word.now × (decimal_value word.now < 2 ^ bits)) words i none below before.0 (last.0, subst (λ n. n < 2 ^ bits) last.1 last.2),
+  ap (λ ns. ns ++ number ∷ []) before.1
+      ∙ ap (λ n. map (λ word. decimal_value word.now) (take i words) ++ n ∷ []) last.1
+      ∙ sym (map_more (λ word. decimal_value word.now) words i none below),
+)

@@ -1,0 +1,4 @@
+use Rattle.wasmi_store.proofs.table.Table.fill.Goals as goal
+
+pub returns-in-Some : goal.returns-in-Some
+returns-in-Some c = rw c.in-Some.is c.fill_metered.ensures

@@ -1,0 +1,65 @@
+use Rattle.std.proofs.Common.{ℕ, List, sym, ap, ◌∙◌}
+use Rattle.std.proofs.lemmas.Result.{err_from_is_err_and}
+use Rattle.wasmi_meter.specs.Limiter.{optional_rules}
+use Rattle.wasmi_store.specs.Table.{TableValue}
+use Rattle.wasmi_store.proofs.TableLemmas.{resized, grows_unasked, grows_denied, grows_above, grows_unpaid, grows_refused, grows_met}
+use Rattle.wasmi_store.proofs.table.Table.grow_raw_metered.Goals as goal
+
+pub returns-in_default-clause-grown : goal.returns-in_default-clause-grown
+returns-in_default-clause-grown g c =
+    let size = rw (← c.self.view_is) at c.size-size.ensures in
+    rw (← c.self.view_is) (grows_unasked (optional_rules g.L.ResourceLimiter.rules) _ c.args.fuel.now _ c.args.delta c.args.init c.if-delta-eq0.false (rw size at c.in_default.ensures))
+
+pub returns-in_err-permission-clause-grown : goal.returns-in_err-permission-clause-grown
+returns-in_err-permission-clause-grown g c =
+    let p = err_from_is_err_and c.from_residual.result c.from_residual.ensures.1 in
+    let size = rw (← c.self.view_is) at c.size-size.ensures in
+    let grown = rw size at c.in-Some.ensures in
+    rw (p.1, p.2, ← c.self.view_is) (
+    grows_denied (optional_rules g.L.ResourceLimiter.rules) _ c.args.fuel.now _ c.args.delta c.args.init c.if-delta-eq0.false grown.0 c.size-size.result c.in-Some.desired c.maximum_size.result size grown.1 c.maximum_size.ensures
+    _ _ c.table_growing-answer.ensures.asked _ c.in_err-permission.ensures
+    )
+
+pub returns-then-not-allows_size-clause-grown : goal.returns-then-not-allows_size-clause-grown
+returns-then-not-allows_size-clause-grown g c =
+    let size = rw (← c.self.view_is) at c.size-size.ensures in
+    let grown = rw size at c.in-Some.ensures in
+    rw (← c.self.view_is) (
+    grows_above (optional_rules g.L.ResourceLimiter.rules) _ c.args.fuel.now _ c.args.delta c.args.init c.if-delta-eq0.false grown.0 c.size-size.result c.in-Some.desired c.maximum_size.result size grown.1 c.maximum_size.ensures
+    _ (rw c.in_ok-permission.ensures at c.table_growing-answer.ensures.asked) (sym c.if-not-allows_size.ensures)
+    _ _ c.tell.ensures.told.1 _ c.tell.ensures.told.2
+    )
+
+pub returns-in-Err-clause-grown : goal.returns-in-Err-clause-grown
+returns-in-Err-clause-grown g c =
+    let size = rw (← c.self.view_is) at c.size-size.ensures in
+    let grown = rw size at c.in-Some.ensures in
+    rw (← c.self.view_is) (
+    grows_unpaid (optional_rules g.L.ResourceLimiter.rules) _ c.args.fuel.now _ c.args.delta c.args.init c.if-delta-eq0.false grown.0 c.size-size.result c.in-Some.desired c.maximum_size.result size grown.1 c.maximum_size.ensures
+    _ (rw c.in_ok-permission.ensures at c.table_growing-answer.ensures.asked) (sym c.if-not-allows_size.ensures)
+    c.charge.new.fuel _ _ _ c.in-Err.ensures c.tell-in-Err.ensures.told.1 _ c.tell-in-Err.ensures.told.2
+    )
+
+pub returns-then-is_err-clause-grown : goal.returns-then-is_err-clause-grown
+returns-then-is_err-clause-grown g c =
+    let size = rw (← c.self.view_is) at c.size-size.ensures in
+    let grown = rw size at c.in-Some.ensures in
+    rw (← c.self.view_is) (
+    grows_refused (optional_rules g.L.ResourceLimiter.rules) _ c.args.fuel.now _ c.args.delta c.args.init c.if-delta-eq0.false grown.0 c.size-size.result c.in-Some.desired c.maximum_size.result size grown.1 c.maximum_size.ensures
+    _ (rw c.in_ok-permission.ensures at c.table_growing-answer.ensures.asked) (sym c.if-not-allows_size.ensures)
+    c.charge.new.fuel c.in_default-charge.ensures _ _ _
+    (ap (λ (es : List ℕ). let x : TableValue = record { ty = c.self.inside.ty; elements = es } in x) (rw c.if-is_err.ensures.negation at c.resize.ensures.items))
+    c.tell-then-is_err.ensures.told.1 _ c.tell-then-is_err.ensures.told.2
+    )
+
+pub returns-clause-grown : goal.returns-clause-grown
+returns-clause-grown g c =
+    let size = rw (← c.self.view_is) at c.size-size.ensures in
+    let grown = rw size at c.in-Some.ensures in
+    rw (← c.self.view_is) (
+    grows_met (optional_rules g.L.ResourceLimiter.rules) _ c.args.fuel.now _ c.args.delta c.args.init c.if-delta-eq0.false grown.0 c.size-size.result c.in-Some.desired c.maximum_size.result size grown.1 c.maximum_size.ensures
+    _ (rw c.in_ok-permission.ensures at c.table_growing-answer.ensures.asked) (sym c.if-not-allows_size.ensures)
+    c.charge.new.fuel c.in_default-charge.ensures _
+    (ap (λ (es : List ℕ). let x : TableValue = record { ty = c.self.inside.ty; elements = es } in x) ((rw c.if-is_err.ensures.negation at c.resize.ensures.items) ∙ resized _ _ c.args.delta _ c.args.init c.self.inside.elements.ok.0 grown.1))
+    _ size
+    )

@@ -1,0 +1,5 @@
+use Rattle.wasmi_store.proofs.WriteLemmas.{overwritten_item}
+use Rattle.wasmi_store.proofs.table.set_item.Goals as goal
+
+pub returns : goal.returns
+returns c = overwritten_item c.args.elements.now c.args.index c.args.value c.requires

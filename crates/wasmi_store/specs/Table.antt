@@ -1,0 +1,154 @@
+-- Tables: making one, growing it, reading and writing its elements (core specification, table instances).
+use Rattle.std.specs.Prelude.{◌≡◌, ◌+◌, ◌≤◌, ℕ, Bool, true, false, List, [], ◌∷◌, ◌++◌, length, replicate, nat_eq, if◌then◌else◌, MatchBool, Option, Some, None, Result, Ok, Err, slice_get}
+use Rattle.std.specs.Option.{option_map, option_and_then}
+use Rattle.wasmi_types.specs.Access.{at, overwrite}
+use Rattle.wasmi_types.specs.declared.value.RefType.{RefType}
+use Rattle.wasmi_typed.specs.declared.typed_ref.TypedRawRef.{TypedRawRef}
+use Rattle.wasmi_meter.specs.declared.fuel.CustomFuelCosts.{CustomFuelCosts}
+use Rattle.wasmi_meter.specs.declared.error.TableError.{TableError}
+use Rattle.wasmi_meter.specs.declared.error.TableError.TheVariants.{OutOfSystemMemory, ResourceLimiterDeniedAllocation, GrowOutOfBounds, InitOutOfBounds, FillOutOfBounds, SetOutOfBounds, CopyOutOfBounds, ElementTypeMismatch, OutOfFuel}
+use Rattle.wasmi_meter.specs.declared.limiter.Kind.TheVariants.{Elements}
+use Rattle.wasmi_meter.specs.Limiter.{TableFailure, Rules}
+use Rattle.wasmi_meter.specs.Costs.{copy_cost}
+use Rattle.wasmi_meter.specs.Meter.{Meter, meter_after}
+use Rattle.wasmi_meter.specs.Attempt.{Situation, Effort, amount_due, can_pay}
+use Rattle.wasmi_store.specs.Growth.{Makes, Grows}
+use Rattle.wasmi_store.specs.TableType.{TableTypeValue, is_indexable, is_within_maximum, same_type}
+
+-- a table: its type, and its elements, each a reference or 0 for null
+pub record TableValue : Type 0 where
+  pub ty : TableTypeValue
+  pub elements : List ℕ
+
+-- its size
+abbrev pub size_of : TableValue → ℕ
+size_of x = length x.elements
+
+-- so many elements are as many as the type allows
+pub record IsSized (ty : TableTypeValue) (size : ℕ) : Type 0 where
+  pub minimum : ty.minimum ≤ size
+  pub indexable : is_indexable ty size ≡ true
+  pub within : is_within_maximum ty size ≡ true
+
+-- its type with the present size as the minimum
+abbrev pub dynamic_type : TableValue → TableTypeValue
+dynamic_type x = record x.ty { minimum = size_of x }
+
+-- a new table at the minimum of its type, with one reference in each place
+abbrev pub new_table : TableTypeValue → ℕ → TableValue
+new_table ty reference = record { ty = ty; elements = replicate ty.minimum reference }
+
+-- the table with n more elements
+abbrev pub with_more : TableValue → ℕ → ℕ → TableValue
+with_more x n reference = record { ty = x.ty; elements = x.elements ++ replicate n reference }
+
+-- the fuel for so many elements, of 4 bytes each
+abbrev pub element_price : ℕ → CustomFuelCosts → ℕ
+element_price n costs = copy_cost costs n 4
+
+-- what is asked where a table of a type is made of a reference, and the causes of a refusal; it costs no fuel
+abbrev pub creation_of : TableTypeValue → RefType → Effort (Unit {0}) TableError
+creation_of ty init = record {
+  early = if same_type ty.element init then None else Some ElementTypeMismatch;
+  question = record { kind = Elements; current = 0; desired = ty.minimum; maximum = ty.maximum };
+  denial = ResourceLimiterDeniedAllocation;
+  refusal = ResourceLimiterDeniedAllocation;
+  notice = TableFailure;
+  late = None;
+  price = None;
+  unpaid = OutOfFuel;
+  fits = Unit {0};
+  refuses = λ cause. cause ≡ OutOfSystemMemory;
+  grown = tt;
+}
+
+-- what is asked and paid where a table grows by n elements, and the causes of a refusal: the maximum is tested after the permission
+abbrev pub growth_of : TableValue → ℕ → ℕ → Effort TableValue TableError
+growth_of x n reference = record {
+  early = if is_indexable x.ty (size_of x + n) then None else Some GrowOutOfBounds;
+  question = record { kind = Elements; current = size_of x; desired = size_of x + n; maximum = x.ty.maximum };
+  denial = GrowOutOfBounds;
+  refusal = ResourceLimiterDeniedAllocation;
+  notice = TableFailure;
+  late = if is_within_maximum x.ty (size_of x + n) then None else Some GrowOutOfBounds;
+  price = Some (element_price n);
+  unpaid = OutOfFuel;
+  fits = Unit {0};
+  refuses = λ cause. cause ≡ OutOfSystemMemory;
+  grown = with_more x n reference;
+}
+
+-- a table of a type is made of a reference
+abbrev pub MakesTable : {S : Type 0} → Rules S → TableTypeValue → TypedRawRef → S → Result TableValue TableError → S → Type 0
+MakesTable rules ty init l result l' = Makes rules (creation_of ty init.ty) (new_table ty init.raw) l result l'
+
+-- a table grows by n elements, with its charge
+abbrev pub GrowsTableRaw : {S : Type 0} → Rules S → ℕ → ℕ → Situation TableValue S → Result ℕ TableError → ℕ → Situation TableValue S → Type 0
+GrowsTableRaw rules n reference s result charge s' =
+    Grows rules (record { amount = n; size = size_of s.value; effort = growth_of s.value n reference }) s result charge s'
+
+-- The same with a reference that has a type, which is tested first, also for no element: where it is another, nothing is touched.
+abbrev pub GrowsTable : {S : Type 0} → Rules S → ℕ → TypedRawRef → Situation TableValue S → Result ℕ TableError → ℕ → Situation TableValue S → Type 0
+GrowsTable rules n init s result charge s' = MatchBool (same_type s.value.ty.element init.ty)
+    (GrowsTableRaw rules n init.raw s result charge s')
+    ((result ≡ Err ElementTypeMismatch) × (charge ≡ 0) × (s' ≡ s))
+
+-- the element at an index with its type, or none past the end
+abbrev pub element_at : TableValue → ℕ → Option TypedRawRef
+element_at x index = option_map (λ reference. record { raw = reference; ty = x.ty.element }) (slice_get x.elements index)
+
+-- A call that writes over a part of a table: whether the types are the same; the elements afterwards, or none where a range ends past its list;
+-- the error there; and how many elements are paid for, if any.
+pub record TableWrite : Type 0 where
+  pub typed : Bool
+  pub written : Option (List ℕ)
+  pub outside : TableError
+  pub paid : Option ℕ
+
+-- one element is set to a reference
+abbrev pub setting_of : TableValue → ℕ → ℕ → TableWrite
+setting_of x index reference =
+    record { typed = true; written = overwrite x.elements index (reference ∷ []); outside = SetOutOfBounds; paid = None }
+
+-- so many elements from dst on are filled with a reference
+abbrev pub filling_of : TableValue → ℕ → ℕ → ℕ → TableWrite
+filling_of x dst reference len =
+    record { typed = true; written = overwrite x.elements dst (replicate len reference); outside = FillOutOfBounds; paid = Some len }
+
+-- elements whose part from dst on is written over by so many items of a list from src on
+abbrev pub copied : List ℕ → ℕ → List ℕ → ℕ → ℕ → Option (List ℕ)
+copied elements dst source src len = option_and_then (λ part. overwrite elements dst part) (at source src len)
+
+-- a part is copied from a table's elements, perhaps from its own
+abbrev pub copy_of : TableValue → ℕ → List ℕ → ℕ → ℕ → TableWrite
+copy_of x dst source src len = record { typed = true; written = copied x.elements dst source src len; outside = CopyOutOfBounds; paid = Some len }
+
+-- a part is initialized from an element segment's items; no item is free
+abbrev pub initialization_of : TableValue → ℕ → List ℕ → ℕ → ℕ → TableWrite
+initialization_of x dst items src len =
+    record { typed = true; written = copied x.elements dst items src len; outside = InitOutOfBounds; paid = if nat_eq len 0 then None else Some len }
+
+-- a call that is given references of a type, which is tested first
+abbrev pub typed_by : TableValue → RefType → TableWrite → TableWrite
+typed_by x ty w = record w { typed = same_type x.ty.element ty }
+
+module _ (w : TableWrite) (x : TableValue) (m : Option Meter) where
+  -- what is due for it
+  abbrev pub due_for : ℕ
+  due_for = amount_due m (option_map element_price w.paid)
+
+  -- refused for a cause: nothing is taken, and the table stays
+  abbrev pub Refuses : TableError → Result (Unit {0}) TableError → ℕ → TableValue → Type 0
+  Refuses cause result charge x' = (result ≡ Err cause) × (charge ≡ 0) × (x' ≡ x)
+
+  -- how it ends, by whether the types are the same, whether the ranges lie within, and whether so much can be paid
+  abbrev pub EndsBy : Bool → Option (List ℕ) → Bool → Result (Unit {0}) TableError → ℕ → TableValue → Type 0
+  EndsBy false written payable result charge x' = Refuses ElementTypeMismatch result charge x'
+  EndsBy true None payable result charge x' = Refuses w.outside result charge x'
+  EndsBy true (Some elements) false result charge x' = Refuses (OutOfFuel due_for) result charge x'
+  EndsBy true (Some elements) true result charge x' = (result ≡ Ok tt) × (charge ≡ due_for) × (x' ≡ record x { elements = elements })
+
+  -- a part of a table is written over, with its charge
+  pub record WritesTable (result : Result (Unit {0}) TableError) (charge : ℕ) (x' : TableValue) (m' : Option Meter) : Type 0 where
+    pub ends : EndsBy w.typed w.written (can_pay m due_for) result charge x'
+    pub meter : m' ≡ option_map (λ m. meter_after m charge) m

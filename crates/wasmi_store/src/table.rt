@@ -1,0 +1,495 @@
+//! Tables.
+ghost use Rattle.std.specs.Prelude.{◌≡◌, ◌+◌, ◌<◌, ◌≤◌, ◌∷◌, [], length, take, drop, replicate, ℕ, Some, None, nat_le};
+ghost use Rattle.std.specs.Option.{option_copied_mut};
+ghost use Rattle.wasmi_types.specs.Access.{overwrite};
+ghost use Rattle.wasmi_meter.specs.Limiter.{optional_rules};
+ghost use Rattle.wasmi_meter.specs.LimiterRef.{state, KeepsLoan, left_behind};
+ghost use Rattle.wasmi_store.specs.Segment.{segment_of};
+
+mod element;
+mod ty;
+
+pub use element::{ElementSegment, ElementSegmentRef, SegmentError};
+use std::alloc::Global;
+use std::marker::Model;
+pub use ty::TableType;
+use wasmi_meter::growth::{charge, permission, tell};
+use wasmi_meter::{Fuel, FuelCostsProvider, ResourceLimiter, ResourceLimiterRef, TableError};
+use wasmi_raw::RawRef;
+use wasmi_typed::TypedRawRef;
+
+/// What a table answers where the limiter answers an error.
+const DENIED: TableError = TableError::ResourceLimiterDeniedAllocation;
+
+/// A table: references of one type, null ones among them.
+///
+/// The calls that are paid take a meter, or none; one that is absent or off is charged nothing. 64 bytes are copied for
+/// a fuel where a host chooses no other costs, and an element has 4 bytes.
+///
+/// Core specification, table instances. Upstream: `wasmi_core::Table`.
+#[derive(Debug, Drop)]
+pub struct Table {
+    ty: TableType,
+    elements: Vec<RawRef>,
+}
+
+impl Model for Table {
+    ghost use Rattle.std.specs.Prelude.{length};
+    ghost use Rattle.wasmi_store.specs.Table.{TableValue, IsSized};
+
+    ghost Value = { TableValue };
+
+    ghost view = { λ t. record { ty = t.ty; elements = t.elements.items } };
+
+    ghost invariant = { λ t. IsSized t.ty (length t.elements.items) };
+}
+
+impl Table {
+    ghost use Rattle.wasmi_store.specs.TableType.{IsSubtype};
+    ghost use Rattle.wasmi_store.specs.Table.{TableValue, size_of, dynamic_type, element_at, element_price, MakesTable, GrowsTableRaw, GrowsTable, WritesTable, setting_of, filling_of, copy_of, initialization_of, typed_by};
+
+    /// A table with one reference in each place, at the minimum of its type. It takes no fuel.
+    ///
+    /// Refusals in their order: `ElementTypeMismatch`; `ResourceLimiterDeniedAllocation` where the limiter doesn't
+    /// permit; `OutOfSystemMemory`, of which the limiter is told.
+    pub fn new<L: ResourceLimiter>(
+        alloc: Global,
+        ty: TableType,
+        init: TypedRawRef,
+        limiter: &mut ResourceLimiterRef<L>,
+    ) -> Result<Self, TableError>
+        ensures loan { KeepsLoan limiter.old limiter.new }
+        ensures made { MakesTable (optional_rules L.rules) ty init (state limiter.old) result (state limiter.new) }
+    {
+        ty.ensure_element_type_matches(init.ty)?;
+        let size = ty.minimum() as usize;
+        let answer = limiter.table_growing(0, size, ty.maximum_size());
+        permission(answer, DENIED, DENIED)?;
+        match vec![in alloc; init.raw; size] {
+            Ok(elements) => Ok(Table { ty, elements }),
+            Err(_) => Err(tell(limiter, TableError::OutOfSystemMemory, DENIED)),
+        }
+    }
+
+    /// The type that it was made with.
+    pub fn ty(&self) -> TableType
+        ensures { result ≡ self.now.ty }
+    {
+        self.ty
+    }
+
+    /// The type that it was made with, with the present size as its minimum: a subtype of that type.
+    pub fn dynamic_ty(&self) -> TableType
+        ensures value { result ≡ dynamic_type self.now }
+        ensures subtype { IsSubtype result self.now.ty }
+    {
+        self.ty.with_minimum(self.size())
+    }
+
+    /// The size in elements.
+    pub fn size(&self) -> u64
+        ensures { result ≡ size_of self.now }
+    {
+        self.elements.len() as u64
+    }
+
+    /// Grows by so many elements, each the given reference, and answers the old size. The type of the reference is
+    /// tested first, also in a growth by 0 (`ElementTypeMismatch`); then as `grow_raw`.
+    pub fn grow<L: ResourceLimiter>(
+        &mut self,
+        delta: u64,
+        init: TypedRawRef,
+        fuel: Option<&mut Fuel>,
+        limiter: &mut ResourceLimiterRef<L>,
+    ) -> Result<u64, TableError>
+        ensures loan { KeepsLoan limiter.old limiter.new }
+        ensures grown { (charge : ℕ) × GrowsTable (optional_rules L.rules) delta init
+            (record { value = self.old; meter = option_copied_mut fuel.entry; limiter = state limiter.old }) result charge
+            (record { value = self.new; meter = left_behind (λ lent. lent.0.now) fuel.exit; limiter = state limiter.new }) }
+    {
+        match fuel {
+            Some(fuel) => self.grow_metered(delta, init, fuel, limiter),
+            None => {
+                let mut unmetered = Fuel::new(false, FuelCostsProvider::default());
+                self.grow_metered(delta, init, &mut unmetered, limiter)
+            }
+        }
+    }
+
+    fn grow_metered<L: ResourceLimiter>(
+        &mut self,
+        delta: u64,
+        init: TypedRawRef,
+        fuel: &mut Fuel,
+        limiter: &mut ResourceLimiterRef<L>,
+    ) -> Result<u64, TableError>
+        ensures loan { KeepsLoan limiter.old limiter.new }
+        ensures grown { (charge : ℕ) × GrowsTable (optional_rules L.rules) delta init
+            (record { value = self.old; meter = Some fuel.old; limiter = state limiter.old }) result charge
+            (record { value = self.new; meter = Some fuel.new; limiter = state limiter.new }) }
+    {
+        self.ty.ensure_element_type_matches(init.ty)?;
+        self.grow_raw_metered(delta, init.raw, fuel, limiter)
+    }
+
+    /// Grows by so many elements, each the given reference, and answers the old size. A growth by 0 touches nothing.
+    ///
+    /// Refusals in their order: `GrowOutOfBounds` where there would be as many elements as indices, 2^32 or 2^64; what
+    /// the limiter answers (`GrowOutOfBounds` where it says no, `ResourceLimiterDeniedAllocation` for an error);
+    /// `GrowOutOfBounds` above the maximum; `OutOfFuel` where the meter is on and the new elements cost more than is
+    /// left; `OutOfSystemMemory`, which leaves the charge taken. Of the last three the limiter is told, and if it
+    /// answers an error they become `ResourceLimiterDeniedAllocation`.
+    pub fn grow_raw<L: ResourceLimiter>(
+        &mut self,
+        delta: u64,
+        init: RawRef,
+        fuel: Option<&mut Fuel>,
+        limiter: &mut ResourceLimiterRef<L>,
+    ) -> Result<u64, TableError>
+        ensures loan { KeepsLoan limiter.old limiter.new }
+        ensures grown { (charge : ℕ) × GrowsTableRaw (optional_rules L.rules) delta init
+            (record { value = self.old; meter = option_copied_mut fuel.entry; limiter = state limiter.old }) result charge
+            (record { value = self.new; meter = left_behind (λ lent. lent.0.now) fuel.exit; limiter = state limiter.new }) }
+    {
+        match fuel {
+            Some(fuel) => self.grow_raw_metered(delta, init, fuel, limiter),
+            None => {
+                let mut unmetered = Fuel::new(false, FuelCostsProvider::default());
+                self.grow_raw_metered(delta, init, &mut unmetered, limiter)
+            }
+        }
+    }
+
+    fn grow_raw_metered<L: ResourceLimiter>(
+        &mut self,
+        delta: u64,
+        init: RawRef,
+        fuel: &mut Fuel,
+        limiter: &mut ResourceLimiterRef<L>,
+    ) -> Result<u64, TableError>
+        ensures loan { KeepsLoan limiter.old limiter.new }
+        ensures grown { (charge : ℕ) × GrowsTableRaw (optional_rules L.rules) delta init
+            (record { value = self.old; meter = Some fuel.old; limiter = state limiter.old }) result charge
+            (record { value = self.new; meter = Some fuel.new; limiter = state limiter.new }) }
+    {
+        let size = self.size();
+        if delta == 0 {
+            return Ok(size);
+        }
+        let Some(desired) = self.ty.grown_size(size, delta) else {
+            return Err(TableError::GrowOutOfBounds);
+        };
+        let answer = limiter.table_growing(size as usize, desired, self.ty.maximum_size());
+        permission(answer, TableError::GrowOutOfBounds, DENIED)?;
+        if !self.ty.allows_size(desired) {
+            return Err(tell(limiter, TableError::GrowOutOfBounds, DENIED));
+        }
+        if let Err(required_fuel) = charge::<RawRef>(fuel, delta) {
+            return Err(tell(limiter, TableError::OutOfFuel { required_fuel }, DENIED));
+        }
+        if self.elements.resize(desired, init).is_err() {
+            return Err(tell(limiter, TableError::OutOfSystemMemory, DENIED));
+        }
+        Ok(size)
+    }
+
+    /// The element at an index with its type, or `None` past the end.
+    pub fn get(&self, index: u64) -> Option<TypedRawRef>
+        ensures { result ≡ element_at self.now index }
+    {
+        let raw = *self.elements.as_slice().get(index as usize)?;
+        Some(TypedRawRef::new(raw, self.ty.element()))
+    }
+
+    /// Sets the element at an index. Refusals in their order: `ElementTypeMismatch`, `SetOutOfBounds`.
+    pub fn set(&mut self, index: u64, value: TypedRawRef) -> Result<(), TableError>
+        ensures { WritesTable (typed_by self.old value.ty (setting_of self.old index value.raw)) self.old None result 0 self.new None }
+    {
+        self.ty.ensure_element_type_matches(value.ty)?;
+        self.set_raw(index, value.raw)
+    }
+
+    /// Sets the element at an index; it is `SetOutOfBounds` past the end. The type is the caller's matter.
+    pub fn set_raw(&mut self, index: u64, value: RawRef) -> Result<(), TableError>
+        ensures { WritesTable (setting_of self.old index value) self.old None result 0 self.new None }
+    {
+        let index = index as usize;
+        if index >= self.elements.len() {
+            return Err(TableError::SetOutOfBounds);
+        }
+        set_item(self.elements.as_mut_slice(), index, value);
+        Ok(())
+    }
+
+    /// Copies so many items of an element segment, from `src` on, over the elements from `dst` on.
+    ///
+    /// Refusals in their order: `ElementTypeMismatch`; `InitOutOfBounds` where a range ends past the segment or the
+    /// table; `OutOfFuel`. No item is free.
+    pub fn init(
+        &mut self,
+        element: ElementSegmentRef,
+        dst: u64,
+        src: u32,
+        len: u32,
+        fuel: Option<&mut Fuel>,
+    ) -> Result<(), TableError>
+        ensures { (charge : ℕ) × WritesTable
+            (typed_by self.old (segment_of element.entry).ty (initialization_of self.old dst (segment_of element.entry).items src len))
+            self.old (option_copied_mut fuel.entry) result charge self.new (left_behind (λ lent. lent.0.now) fuel.exit) }
+    {
+        match fuel {
+            Some(fuel) => self.init_metered(element, dst, src, len, fuel),
+            None => {
+                let mut unmetered = Fuel::new(false, FuelCostsProvider::default());
+                self.init_metered(element, dst, src, len, &mut unmetered)
+            }
+        }
+    }
+
+    fn init_metered(
+        &mut self,
+        element: ElementSegmentRef,
+        dst: u64,
+        src: u32,
+        len: u32,
+        fuel: &mut Fuel,
+    ) -> Result<(), TableError>
+        ensures { (charge : ℕ) × WritesTable
+            (typed_by self.old (segment_of element.entry).ty (initialization_of self.old dst (segment_of element.entry).items src len))
+            self.old (Some fuel.old) result charge self.new (Some fuel.new) }
+    {
+        self.ty.ensure_element_type_matches(element.ty())?;
+        let (items, src, len) = (element.items(), u64::from(src), u64::from(len));
+        if !lies_within(items, src, len) || !lies_within(self.elements.as_slice(), dst, len) {
+            return Err(TableError::InitOutOfBounds);
+        }
+        if len == 0 {
+            return Ok(());
+        }
+        if let Err(required_fuel) = charge::<RawRef>(fuel, len) {
+            return Err(TableError::OutOfFuel { required_fuel });
+        }
+        let (dst, src, len) = (dst as usize, src as usize, len as usize);
+        copy_part(self.elements.as_mut_slice(), dst, &items[src..src + len]);
+        Ok(())
+    }
+
+    /// Copies so many elements of another table, from `src` on, over the elements of a table from `dst` on.
+    ///
+    /// Refusals in their order: `ElementTypeMismatch`; `CopyOutOfBounds` where a range ends past its table;
+    /// `OutOfFuel`, also for no element.
+    pub fn copy(
+        dst_table: &mut Table,
+        dst: u64,
+        src_table: &Table,
+        src: u64,
+        len: u64,
+        fuel: Option<&mut Fuel>,
+    ) -> Result<(), TableError>
+        ensures { (charge : ℕ) × WritesTable
+            (typed_by dst_table.old src_table.now.ty.element (copy_of dst_table.old dst src_table.now.elements src len))
+            dst_table.old (option_copied_mut fuel.entry) result charge dst_table.new (left_behind (λ lent. lent.0.now) fuel.exit) }
+    {
+        match fuel {
+            Some(fuel) => dst_table.copy_metered(dst, src_table, src, len, fuel),
+            None => {
+                let mut unmetered = Fuel::new(false, FuelCostsProvider::default());
+                dst_table.copy_metered(dst, src_table, src, len, &mut unmetered)
+            }
+        }
+    }
+
+    fn copy_metered(
+        &mut self,
+        dst: u64,
+        src_table: &Table,
+        src: u64,
+        len: u64,
+        fuel: &mut Fuel,
+    ) -> Result<(), TableError>
+        ensures { (charge : ℕ) × WritesTable
+            (typed_by self.old src_table.now.ty.element (copy_of self.old dst src_table.now.elements src len))
+            self.old (Some fuel.old) result charge self.new (Some fuel.new) }
+    {
+        self.ty.ensure_element_type_matches(src_table.ty.element())?;
+        let items = src_table.elements.as_slice();
+        if !lies_within(items, src, len) || !lies_within(self.elements.as_slice(), dst, len) {
+            return Err(TableError::CopyOutOfBounds);
+        }
+        if let Err(required_fuel) = charge::<RawRef>(fuel, len) {
+            return Err(TableError::OutOfFuel { required_fuel });
+        }
+        let (dst, src, len) = (dst as usize, src as usize, len as usize);
+        copy_part(self.elements.as_mut_slice(), dst, &items[src..src + len]);
+        Ok(())
+    }
+
+    /// Copies so many elements from `src` on over those from `dst` on. Where the ranges overlap, the old elements are
+    /// copied.
+    ///
+    /// Refusals in their order: `CopyOutOfBounds` where a range ends past the table; `OutOfFuel`, also for no element.
+    pub fn copy_within(
+        &mut self,
+        dst: u64,
+        src: u64,
+        len: u64,
+        fuel: Option<&mut Fuel>,
+    ) -> Result<(), TableError>
+        ensures { (charge : ℕ) × WritesTable (copy_of self.old dst self.old.elements src len)
+            self.old (option_copied_mut fuel.entry) result charge self.new (left_behind (λ lent. lent.0.now) fuel.exit) }
+    {
+        match fuel {
+            Some(fuel) => self.copy_within_metered(dst, src, len, fuel),
+            None => {
+                let mut unmetered = Fuel::new(false, FuelCostsProvider::default());
+                self.copy_within_metered(dst, src, len, &mut unmetered)
+            }
+        }
+    }
+
+    fn copy_within_metered(
+        &mut self,
+        dst: u64,
+        src: u64,
+        len: u64,
+        fuel: &mut Fuel,
+    ) -> Result<(), TableError>
+        ensures { (charge : ℕ) × WritesTable (copy_of self.old dst self.old.elements src len)
+            self.old (Some fuel.old) result charge self.new (Some fuel.new) }
+    {
+        let items = self.elements.as_slice();
+        if !lies_within(items, src, len) || !lies_within(items, dst, len) {
+            return Err(TableError::CopyOutOfBounds);
+        }
+        if let Err(required_fuel) = charge::<RawRef>(fuel, len) {
+            return Err(TableError::OutOfFuel { required_fuel });
+        }
+        let elements = self.elements.as_mut_slice();
+        copy_part_within(elements, dst as usize, src as usize, len as usize);
+        Ok(())
+    }
+
+    /// Fills so many elements from `dst` on with a reference. The type of the reference is tested first
+    /// (`ElementTypeMismatch`); then as `fill_raw`.
+    pub fn fill(
+        &mut self,
+        dst: u64,
+        val: TypedRawRef,
+        len: u64,
+        fuel: Option<&mut Fuel>,
+    ) -> Result<(), TableError>
+        ensures { (charge : ℕ) × WritesTable (typed_by self.old val.ty (filling_of self.old dst val.raw len))
+            self.old (option_copied_mut fuel.entry) result charge self.new (left_behind (λ lent. lent.0.now) fuel.exit) }
+    {
+        match fuel {
+            Some(fuel) => self.fill_metered(dst, val, len, fuel),
+            None => {
+                let mut unmetered = Fuel::new(false, FuelCostsProvider::default());
+                self.fill_metered(dst, val, len, &mut unmetered)
+            }
+        }
+    }
+
+    fn fill_metered(
+        &mut self,
+        dst: u64,
+        val: TypedRawRef,
+        len: u64,
+        fuel: &mut Fuel,
+    ) -> Result<(), TableError>
+        ensures { (charge : ℕ) × WritesTable (typed_by self.old val.ty (filling_of self.old dst val.raw len))
+            self.old (Some fuel.old) result charge self.new (Some fuel.new) }
+    {
+        self.ty.ensure_element_type_matches(val.ty)?;
+        self.fill_raw_metered(dst, val.raw, len, fuel)
+    }
+
+    /// Fills so many elements from `dst` on with a reference. Refusals in their order: `FillOutOfBounds` where they end
+    /// past the table; `OutOfFuel`, also for no element.
+    pub fn fill_raw(
+        &mut self,
+        dst: u64,
+        val: RawRef,
+        len: u64,
+        fuel: Option<&mut Fuel>,
+    ) -> Result<(), TableError>
+        ensures { (charge : ℕ) × WritesTable (filling_of self.old dst val len)
+            self.old (option_copied_mut fuel.entry) result charge self.new (left_behind (λ lent. lent.0.now) fuel.exit) }
+    {
+        match fuel {
+            Some(fuel) => self.fill_raw_metered(dst, val, len, fuel),
+            None => {
+                let mut unmetered = Fuel::new(false, FuelCostsProvider::default());
+                self.fill_raw_metered(dst, val, len, &mut unmetered)
+            }
+        }
+    }
+
+    fn fill_raw_metered(
+        &mut self,
+        dst: u64,
+        val: RawRef,
+        len: u64,
+        fuel: &mut Fuel,
+    ) -> Result<(), TableError>
+        ensures { (charge : ℕ) × WritesTable (filling_of self.old dst val len)
+            self.old (Some fuel.old) result charge self.new (Some fuel.new) }
+    {
+        if !lies_within(self.elements.as_slice(), dst, len) {
+            return Err(TableError::FillOutOfBounds);
+        }
+        if let Err(required_fuel) = charge::<RawRef>(fuel, len) {
+            return Err(TableError::OutOfFuel { required_fuel });
+        }
+        fill_part(
+            self.elements.as_mut_slice(),
+            dst as usize,
+            len as usize,
+            val,
+        );
+        Ok(())
+    }
+}
+
+/// Whether so many items from an index on lie within a list.
+fn lies_within(items: &[RawRef], index: u64, len: u64) -> bool
+    ensures { result ≡ nat_le (index + len) (length items.now) }
+{
+    let size = items.len() as u64;
+    index <= size && len <= size - index
+}
+
+/// Sets one item.
+fn set_item(elements: &mut [RawRef], index: usize, value: RawRef)
+    requires { index < length elements.old }
+    ensures { overwrite elements.old index (value ∷ []) ≡ Some elements.new }
+{
+    elements[index] = value;
+}
+
+/// Copies items over those from an index on.
+fn copy_part(elements: &mut [RawRef], index: usize, items: &[RawRef])
+    requires { index + length items.now ≤ length elements.old }
+    ensures { overwrite elements.old index items.now ≡ Some elements.new }
+{
+    let part = &mut elements[index..index + items.len()];
+    part.copy_from_slice(items);
+}
+
+/// Copies so many items over others of the same list.
+fn copy_part_within(elements: &mut [RawRef], dst: usize, src: usize, len: usize)
+    requires dst { dst + len ≤ length elements.old }
+    requires src { src + len ≤ length elements.old }
+    ensures { overwrite elements.old dst (take len (drop src elements.old)) ≡ Some elements.new }
+{
+    elements.copy_within(src..src + len, dst);
+}
+
+/// Fills so many items from an index on.
+fn fill_part(elements: &mut [RawRef], index: usize, len: usize, value: RawRef)
+    requires { index + len ≤ length elements.old }
+    ensures { overwrite elements.old index (replicate len value) ≡ Some elements.new }
+{
+    let part = &mut elements[index..index + len];
+    part.fill(value);
+}

@@ -1,0 +1,164 @@
+//! The types of tables.
+ghost use Rattle.std.specs.Prelude.{◌≡◌, ◌≤◌, ◌+◌, ◌↔◌, IfSome, IsTrue, true, false, MatchOption, MatchResult};
+
+use crate::limits::is_within;
+use std::marker::Model;
+use wasmi_meter::TableError;
+use wasmi_types::{IndexType, RefType};
+
+/// The type of a table: its index type, the type of its elements, and its minimum and optional maximum in elements.
+///
+/// Core specification, table types. Upstream: `wasmi_core::TableType`.
+#[derive(Clone, Copy, Debug, PartialEq, Eq)]
+pub struct TableType {
+    index: IndexType,
+    element: RefType,
+    minimum: u64,
+    maximum: Option<u64>,
+}
+
+impl Model for TableType {
+    ghost use Rattle.wasmi_store.specs.TableType.{TableTypeValue, IsValid};
+
+    ghost Value = { TableTypeValue };
+
+    ghost view = { λ t. record { index = t.index; element = t.element; minimum = t.minimum; maximum = t.maximum } };
+
+    ghost invariant = { λ t. IsValid (record { index = t.index; element = t.element; minimum = t.minimum; maximum = t.maximum }) };
+
+    ghost inverse = { λ t. record { index = t.index; element = t.element; minimum = t.minimum; maximum = t.maximum } };
+}
+
+impl TableType {
+    ghost use Rattle.wasmi_store.specs.TableType.{IsSubtype, IsValid, is_indexable, is_within_maximum, same_type};
+    ghost use Rattle.wasmi_types.specs.declared.index_ty.IndexType.TheVariants.{I32, I64};
+
+    /// A type with 32-bit indices. The minimum isn't above the maximum.
+    pub fn new(element: RefType, minimum: u32, maximum: Option<u32>) -> Self
+        requires { IfSome maximum (λ most. minimum ≤ most) }
+        ensures { result ≡ record { index = I32; element = element; minimum = minimum; maximum = maximum } }
+    {
+        TableType {
+            index: IndexType::I32,
+            element,
+            minimum: u64::from(minimum),
+            maximum: match maximum {
+                Some(maximum) => Some(u64::from(maximum)),
+                None => None,
+            },
+        }
+    }
+
+    /// A type with 64-bit indices. The minimum isn't above the maximum.
+    pub fn new64(element: RefType, minimum: u64, maximum: Option<u64>) -> Self
+        requires { IfSome maximum (λ most. minimum ≤ most) }
+        ensures { result ≡ record { index = I64; element = element; minimum = minimum; maximum = maximum } }
+    {
+        TableType {
+            index: IndexType::I64,
+            element,
+            minimum,
+            maximum,
+        }
+    }
+
+    /// Whether indices have 64 bits.
+    pub fn is_64(&self) -> bool
+        ensures { IsTrue result ↔ (self.now.index ≡ I64) }
+    {
+        self.index.is_64()
+    }
+
+    /// The type of the indices.
+    pub fn index_ty(&self) -> IndexType
+        ensures { result ≡ self.now.index }
+    {
+        self.index
+    }
+
+    /// The type of the elements.
+    pub fn element(&self) -> RefType
+        ensures { result ≡ self.now.element }
+    {
+        self.element
+    }
+
+    /// The minimum in elements.
+    pub fn minimum(&self) -> u64
+        ensures { result ≡ self.now.minimum }
+    {
+        self.minimum
+    }
+
+    /// The maximum in elements, if there is one.
+    pub fn maximum(&self) -> Option<u64>
+        ensures { result ≡ self.now.maximum }
+    {
+        self.maximum
+    }
+
+    /// Whether a table of this type may be given where one of the other type is asked for: with the same index type
+    /// and type of elements, a minimum that isn't smaller, and a maximum that isn't above the other's, if that has one.
+    pub fn is_subtype_of(&self, other: &Self) -> bool
+        ensures { IsTrue result ↔ IsSubtype self.now other.now }
+    {
+        self.index == other.index
+            && self.element == other.element
+            && self.minimum >= other.minimum
+            && is_within(self.maximum, other.maximum)
+    }
+
+    /// Goes on where references of a type are elements of this type.
+    pub(super) fn ensure_element_type_matches(self, ty: RefType) -> Result<(), TableError>
+        ensures { MatchResult result
+            (λ _. same_type self.element ty ≡ true)
+            (λ error. (error ≡ TableError.ElementTypeMismatch) × (same_type self.element ty ≡ false)) }
+    {
+        if self.element != ty {
+            return Err(TableError::ElementTypeMismatch);
+        }
+        Ok(())
+    }
+
+    /// The type with another minimum.
+    pub(super) fn with_minimum(self, minimum: u64) -> Self
+        requires indexable { is_indexable self minimum ≡ true }
+        requires within { is_within_maximum self minimum ≡ true }
+        ensures { result ≡ record self { minimum = minimum } }
+    {
+        TableType { minimum, ..self }
+    }
+
+    /// The number of elements after a growth, if there are more indices than that.
+    pub(super) fn grown_size(self, size: u64, delta: u64) -> Option<usize>
+        ensures { MatchOption result
+            (is_indexable self (size + delta) ≡ false)
+            (λ grown. (is_indexable self (size + delta) ≡ true) × (grown ≡ size + delta)) }
+    {
+        let grown = size.checked_add(delta)?;
+        if u128::from(grown) >= self.index.max_size() {
+            return None;
+        }
+        Some(grown as usize)
+    }
+
+    /// The maximum as a size.
+    pub(super) fn maximum_size(self) -> Option<usize>
+        ensures { result ≡ self.maximum }
+    {
+        match self.maximum {
+            Some(maximum) => Some(maximum as usize),
+            None => None,
+        }
+    }
+
+    /// Whether so many elements are no more than the maximum, if there is one.
+    pub(super) fn allows_size(self, size: usize) -> bool
+        ensures { result ≡ is_within_maximum self size }
+    {
+        match self.maximum {
+            Some(maximum) => size as u64 <= maximum,
+            None => true,
+        }
+    }
+}

@@ -1,0 +1,63 @@
+//! Element segments, and the iterators that they are read of.
+use super::{func, same};
+use std::process::Abort;
+use std::test::Fail;
+use wasmi_raw::RawRef;
+use wasmi_store::ElementSegment;
+use wasmi_types::RefType;
+
+/// Gives two references, then `None` once, then references without end.
+#[derive(Drop)]
+struct Wavering {
+    calls: u32,
+}
+
+impl Iterator for Wavering {
+    type Item = RawRef;
+
+    fn next(&mut self) -> Option<RawRef> {
+        let call = self.calls;
+        self.calls = call.saturating_add(1);
+        if call == 2 {
+            return None;
+        }
+        Some(RawRef::from(call))
+    }
+}
+
+#[test]
+fn ends_at_the_first_none(rt: HostRuntime) -> Result<(), Fail> {
+    let mut items = Wavering { calls: 0 };
+    let segment = ElementSegment::read(rt.alloc(), RefType::Func, &mut items)?;
+    same(&rt, "the calls", items.calls, 3);
+    let expected = [RawRef::from(0), RawRef::from(1)];
+    same(&rt, "the items", segment.items(), expected.as_slice());
+    let again = ElementSegment::new(rt.alloc(), RefType::Extern, Wavering { calls: 1 })?;
+    same(
+        &rt,
+        "the size",
+        (again.size(), again.ty()),
+        (1, RefType::Extern),
+    );
+    Ok(())
+}
+
+#[test]
+fn drops_its_items_and_keeps_its_type(rt: HostRuntime) -> Result<(), Fail> {
+    let items = [func(1).raw(), func(2).raw(), func(3).raw()];
+    let mut segment = ElementSegment::new(rt.alloc(), RefType::Func, items)?;
+    let shared = segment.as_ref();
+    same(&rt, "the type", shared.ty(), RefType::Func);
+    same(&rt, "the size", shared.size(), 3);
+    same(&rt, "the items", shared.items(), items.as_slice());
+    segment.drop_items();
+    same(
+        &rt,
+        "dropped",
+        (segment.ty(), segment.size()),
+        (RefType::Func, 0),
+    );
+    let empty: [RawRef; 0] = [];
+    same(&rt, "no items", segment.items(), empty.as_slice());
+    Ok(())
+}

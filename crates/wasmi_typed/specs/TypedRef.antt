@@ -1,0 +1,13 @@
+-- References with their types.
+use Rattle.std.specs.Prelude.{◌≡◌, Some, None, Result, Ok, Err}
+use Rattle.std.specs.Int.{w32}
+use Rattle.wasmi_types.specs.Value.{reference_of}
+use Rattle.wasmi_raw.specs.RawVal.{unsigned_in}
+use Rattle.wasmi_typed.specs.declared.typed.TypedRawVal.{TypedRawVal}
+use Rattle.wasmi_typed.specs.declared.typed_ref.TypedRawRef.{TypedRawRef}
+use Rattle.wasmi_typed.specs.declared.typed_ref.NotAReference.{NotAReference}
+
+-- the answer is the reference that a typed raw value is, or the error where its type is none of references
+abbrev pub IsReference : TypedRawVal → Result TypedRawRef NotAReference → Type 0
+IsReference typed (Ok reference) = (reference_of typed.ty ≡ Some reference.ty) × (reference.raw ≡ unsigned_in w32 typed.raw)
+IsReference typed (Err error) = reference_of typed.ty ≡ None

@@ -1,0 +1,16 @@
+-- Reading an iterator to its end, or past the greatest number of items that are taken.
+use Rattle.std.specs.Prelude.{◌≡◌, ℕ, ◌≤◌, List, length, Option, Some, None}
+use Rattle.std.specs.Iterator.{YieldsThen}
+
+module _ {I A : Type 0} (most : ℕ) (steps : I → Option A → I → Type 0) where
+  -- calls from s to t gave the items xs, at most so many, and then the end
+  pub record ReadsAll (s : I) (xs : List A) (t : I) : Type 0 where
+    pub run : YieldsThen steps s xs None t
+    pub short : length xs ≤ most
+
+  -- calls from s to t gave so many items and one more
+  pub record ReadsTooMany (s t : I) : Type 0 where
+    pub items : List A
+    pub last : A
+    pub run : YieldsThen steps s items (Some last) t
+    pub full : length items ≡ most
