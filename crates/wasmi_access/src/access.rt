@@ -4,9 +4,10 @@
 //! sum for its address. Upstream: the module `memory::access`, private there. Core specification: memory instructions, and
 //! the storage of integers under numerics.
 
-ghost use Rattle.std.specs.Prelude.{◌≡◌, ℕ, ◌+◌, ◌^◌, ◌≤◌, List, MatchResult, length};
+ghost use Rattle.std.specs.Prelude.{◌≡◌, ℕ, ◌+◌, ◌^◌, ◌≤◌, List, MatchResult, length, Some};
 ghost use Rattle.std.specs.Int.{int_wrap};
 ghost use Rattle.wasmi_types.specs.Bytes.{number_of, le_bytes};
+ghost use Rattle.wasmi_types.specs.Access.{overwrite};
 ghost use Rattle.wasmi_access.specs.LoadStore.{loaded, IsStore, IsCopy};
 
 use wasmi_raw::Number;
@@ -62,10 +63,13 @@ pub trait LoadInto: ByteArray {
 impl<const N: usize> LoadInto for [u8; N] {
     #[inline]
     fn load_into(&mut self, memory: &[u8], address: usize) -> Result<(), TrapCode> {
-        if address > memory.len() || memory.len() - address < N {
+        if address > memory.len() {
             return Err(TrapCode::MemoryOutOfBounds);
         }
-        self.copy_from_slice(&memory[address..address + N]);
+        let Some((bytes, _)) = memory[address..].split_first_chunk::<N>() else {
+            return Err(TrapCode::MemoryOutOfBounds);
+        };
+        *self = *bytes;
         Ok(())
     }
 }
@@ -88,8 +92,19 @@ impl<const N: usize> StoreFrom for [u8; N] {
         if address > memory.len() || memory.len() - address < N {
             return Err(TrapCode::MemoryOutOfBounds);
         }
-        memory[address..address + N].copy_from_slice(self);
+        put(memory, address, self);
         Ok(())
+    }
+}
+
+/// Writes bytes over those at an address. In this form a number is stored from a register.
+#[inline]
+fn put<const N: usize>(memory: &mut [u8], address: usize, bytes: &[u8; N])
+    requires { address + N ≤ length memory.old }
+    ensures { overwrite memory.old address bytes.now ≡ Some memory.new }
+{
+    for i in 0..N {
+        memory[address + i] = bytes[i];
     }
 }
 

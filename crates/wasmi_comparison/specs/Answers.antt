@@ -1,14 +1,10 @@
 -- What the program takes for an answer.
-use Rattle.std.specs.Prelude.{◌≡◌, ◌⊎◌, ℕ, ◌/◌, ◌%◌, ◌^◌, pos, List, length, codes}
+use Rattle.std.specs.Prelude.{◌≡◌, ◌⊎◌, ℕ, List, length, codes}
 use Rattle.wasmi_types.specs.declared.trap.TrapCode.{TrapCode}
 use Rattle.wasmi_types.specs.declared.trap.TrapCode.TheVariants.{IntegerDivisionByZero, IntegerOverflow}
 use Rattle.wasmi_comparison.specs.declared.answer.Answer.{Answer}
 use Rattle.wasmi_comparison.specs.declared.answer.Answer.TheVariants.{Number, Pair, Trap}
 use Rattle.wasmi_comparison.specs.Operands.{Words, word_at, WritesInteger}
-
--- the answer that is a vector, by its low and its high word
-abbrev pub vector_answer : ℕ → Answer
-vector_answer vector = Pair (pos (vector % 2 ^ 64)) (pos (vector / 2 ^ 64))
 
 -- the text names the trap, one of the two that a scalar instruction can end with
 abbrev pub NamesTrap : List ℕ → TrapCode → Type 0

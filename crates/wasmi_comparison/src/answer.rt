@@ -5,7 +5,6 @@ ghost use Rattle.wasmi_comparison.specs.declared.answer.Answer.TheVariants.{Numb
 
 use crate::number::number;
 use std::fmt;
-use wasmi_raw::V128;
 use wasmi_types::TrapCode;
 
 /// What an instruction answers.
@@ -13,7 +12,7 @@ use wasmi_types::TrapCode;
 pub enum Answer {
     /// A number. A truth value is 0 or 1.
     Number(i128),
-    /// The low and the high word of a number or a vector.
+    /// The low and the high word of a number.
     Pair(i128, i128),
     /// The trap that ends it.
     Trap(TrapCode),
@@ -81,17 +80,6 @@ impl From<(i64, i64)> for Answer {
 
     fn from((lo, hi): (i64, i64)) -> Self {
         Answer::Pair(lo as i128, hi as i128)
-    }
-}
-
-impl From<V128> for Answer {
-    ghost use Rattle.wasmi_comparison.specs.Answers.{vector_answer};
-
-    ghost from_gives = { λ vector answer. answer ≡ vector_answer vector };
-
-    fn from(vector: V128) -> Self {
-        let (low, high) = vector.words();
-        Answer::Pair(low as i128, high as i128)
     }
 }
 

@@ -1,5 +1,5 @@
 //! The table from its reader to the printed lines.
-ghost use Rattle.std.specs.Prelude.{◌≡◌, ◌↔◌, ◌+◌, ◌<◌, ◌^◌};
+ghost use Rattle.std.specs.Prelude.{◌≡◌, ◌↔◌, ◌⊎◌, ◌+◌, ◌<◌, ◌^◌};
 
 use crate::line::{Verdict, compare_line};
 use std::alloc::Global;
@@ -9,9 +9,9 @@ use std::{fmt, io};
 /// How a comparison ended.
 #[derive(Clone, Copy, Debug, PartialEq, Eq)]
 pub enum Status {
-    /// Each line agrees.
+    /// There are lines, and each agrees.
     Agreed,
-    /// A line doesn't agree, or is malformed.
+    /// A line doesn't agree or is malformed, or there is none.
     Differed,
     /// There wasn't enough memory for a line.
     OutOfMemory,
@@ -60,10 +60,10 @@ impl Tally {
 
     /// How a comparison with these counts ends.
     fn status(self) -> Status
-        ensures agreed { result ≡ Status.Agreed ↔ self.differing ≡ 0 }
-        ensures differed { result ≡ Status.Differed ↔ 0 < self.differing }
+        ensures agreed { result ≡ Status.Agreed ↔ ((self.differing ≡ 0) × (0 < self.agreeing)) }
+        ensures differed { result ≡ Status.Differed ↔ ((0 < self.differing) ⊎ (self.agreeing ≡ 0)) }
     {
-        if self.differing == 0 {
+        if self.differing == 0 && self.agreeing > 0 {
             Status::Agreed
         } else {
             Status::Differed
@@ -94,6 +94,7 @@ pub fn compare<R: io::Read + Drop, W: io::Write>(
     }
 }
 
+/// How many lines of the reader agree and how many don't, of which each is printed.
 fn compare_lines<R: io::Read + Drop, W: io::Write>(
     alloc: Global,
     reader: R,

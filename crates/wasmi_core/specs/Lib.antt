@@ -5,6 +5,7 @@ pub mod FuelRows
 pub mod MemoryRows
 pub mod TableRows
 pub mod ValueRows
+pub mod RegisterRows
 pub mod Steps
 pub mod Runs
 pub mod AccessOps

@@ -2,7 +2,6 @@
 use Rattle.std.specs.Prelude.{◌≡◌, ◌⊎◌, ◌*◌, ℕ, Option, Some, None, Result, List}
 use Rattle.wasmi_types.specs.Access.{at}
 use Rattle.wasmi_types.specs.declared.trap.TrapCode.{TrapCode}
-use Rattle.wasmi_raw.specs.declared.raw.RawVal.{RawVal}
 use Rattle.wasmi_access.specs.LoadStore.{IsStore}
 use Rattle.wasmi_meter.specs.declared.error.MemoryError.{MemoryError}
 use Rattle.wasmi_meter.specs.declared.error.MemoryError.TheVariants.{OutOfBoundsAccess}
@@ -12,8 +11,7 @@ use Rattle.wasmi_core.specs.declared.calls.Reply.{Reply}
 use Rattle.wasmi_core.specs.declared.calls.Reply.TheVariants.{Done, Value, Number, Bytes, Memory, Trap, NoSuch, NoRoom}
 use Rattle.wasmi_core.specs.declared.slots.Slot.{Slot}
 use Rattle.wasmi_core.specs.declared.ops.LoadOp.{LoadOp}
-use Rattle.wasmi_core.specs.declared.ops.StoreOp.{StoreOp}
-use Rattle.wasmi_core.specs.AccessOps.{loaded_raw, stored_bytes}
+use Rattle.wasmi_core.specs.AccessOps.{loaded_raw}
 use Rattle.wasmi_core.specs.State.{live_at}
 use Rattle.wasmi_core.specs.Rows.{reply_of, OnLive, ChangesAt}
 
@@ -46,6 +44,6 @@ LoadsMemoryAt op k a slots reply =
 abbrev pub StoresMemory : MemoryValue → ℕ → List ℕ → Result (Unit {0}) TrapCode → MemoryValue → Type 0
 StoresMemory x a stored result x' = IsStore x.bytes a stored x'.bytes result × (x'.ty ≡ x.ty) × (x'.room ≡ x.room)
 
-abbrev pub StoresMemoryAt : StoreOp → ℕ → ℕ → RawVal → List (Slot MemoryValue) → Reply → List (Slot MemoryValue) → Type 0
-StoresMemoryAt op k a value slots reply slots' = ChangesAt k slots reply slots'
-    (λ x x'. (result : Result (Unit {0}) TrapCode) × StoresMemory x a (stored_bytes op value) result x' × (reply ≡ reply_of (λ _. Done) Trap result))
+abbrev pub StoresMemoryAt : ℕ → ℕ → List ℕ → List (Slot MemoryValue) → Reply → List (Slot MemoryValue) → Type 0
+StoresMemoryAt k a stored slots reply slots' = ChangesAt k slots reply slots'
+    (λ x x'. (result : Result (Unit {0}) TrapCode) × StoresMemory x a stored result x' × (reply ≡ reply_of (λ _. Done) Trap result))

@@ -1,7 +1,9 @@
 -- What a machine is to its callers (core specification, the store).
-use Rattle.std.specs.Prelude.{ℕ, List, [], Option, Some, None, slice_get}
+use Rattle.std.specs.Prelude.{ℕ, List, [], Option, Some, None, slice_get, replicate}
 use Rattle.std.specs.Option.{option_and_then}
 use Rattle.std.specs.Vec.{with_item}
+use Rattle.wasmi_raw.specs.declared.raw.RawVal.{RawVal}
+use Rattle.wasmi_raw.specs.RawVal.{raw_of}
 use Rattle.wasmi_meter.specs.Meter.{Meter}
 use Rattle.wasmi_typed.specs.Global.{GlobalInstance}
 use Rattle.wasmi_store.specs.Memory.{MemoryValue}
@@ -25,19 +27,20 @@ module _ {X : Type 0} where
   abbrev pub with_live : Slots X → ℕ → X → Slots X
   with_live s k x = record { slots = with_item s.slots k (Live x) }
 
--- the memories, tables, element segments and globals that were made, each kind in its order, and the meter
+-- the memories, tables, element segments and globals that were made, each kind in its order, the registers, and the meter
 pub record State : Type 0 where
   pub memories : List (Slot MemoryValue)
   pub tables : List (Slot TableValue)
   pub segments : List (Slot SegmentValue)
   pub globals : List (Slot GlobalInstance)
+  pub registers : List RawVal
   pub meter : Meter
 
--- a machine on which nothing was made yet
+-- a machine on which nothing was made yet, with 16 registers of zeros
 abbrev pub new_state : Meter → State
-new_state meter = record { memories = []; tables = []; segments = []; globals = []; meter = meter }
+new_state meter = record { memories = []; tables = []; segments = []; globals = []; registers = replicate 16 (raw_of 0); meter = meter }
 
--- the state with other memories, tables, element segments or globals
+-- the state with other memories, tables, element segments, globals or registers
 abbrev pub with_memories : State → List (Slot MemoryValue) → State
 with_memories s memories = record s { memories = memories }
 
@@ -49,3 +52,6 @@ with_segments s segments = record s { segments = segments }
 
 abbrev pub with_globals : State → List (Slot GlobalInstance) → State
 with_globals s globals = record s { globals = globals }
+
+abbrev pub with_registers : State → List RawVal → State
+with_registers s registers = record s { registers = registers }

@@ -3,14 +3,20 @@ ghost use Rattle.std.specs.Prelude.{◌≡◌};
 
 use crate::ops::{LoadOp, StoreOp};
 use std::marker::Model;
+use wasmi_lanes::ImmLaneIdx32;
 use wasmi_meter::{FuelError, MemoryError, TableError};
 use wasmi_raw::{RawRef, RawVal};
 use wasmi_store::{MemoryType, SegmentError, TableType};
 use wasmi_typed::{GlobalError, GlobalType, TypedRawRef, TypedRawVal};
 use wasmi_types::{RefType, TrapCode};
+use wasmi_vector_ops::{
+    BinaryOp, ExtractOp, LoadLaneOp, MakeOp, ReplaceOp, ShiftOp, StoreLaneOp, TernaryOp, TestOp,
+    UnaryOp, VectorLoadOp,
+};
 
 /// One call on a machine. Memories, tables, element segments and globals go by their indices, which count from 0 for
-/// each kind and aren't used again.
+/// each kind and aren't used again. Registers go by their numbers from 0 to 15; `dst` is the one that takes the result,
+/// and a refused call keeps it.
 #[derive(Debug, Drop)]
 pub enum Call {
     /// Sets the fuel that is left: `Done`, or `Fuel` where metering is off.
@@ -116,6 +122,103 @@ pub enum Call {
     },
     /// The value of a global: `Value`.
     GetGlobal(usize),
+    /// Sets a register: `Done`.
+    SetRegister {
+        dst: u8,
+        value: RawVal,
+    },
+    /// The value of a register: `Value`.
+    GetRegister(u8),
+    /// Makes a vector of the item in register `a`: `Done`.
+    Make {
+        op: MakeOp,
+        dst: u8,
+        a: u8,
+    },
+    /// An instruction of one vector: `Done`.
+    Unary {
+        op: UnaryOp,
+        dst: u8,
+        a: u8,
+    },
+    /// An instruction of two vectors: `Done`.
+    Binary {
+        op: BinaryOp,
+        dst: u8,
+        a: u8,
+        b: u8,
+    },
+    /// An instruction of three vectors: `Done`.
+    Ternary {
+        op: TernaryOp,
+        dst: u8,
+        a: u8,
+        b: u8,
+        c: u8,
+    },
+    /// Shifts the lanes of a vector: `Done`.
+    Shift {
+        op: ShiftOp,
+        dst: u8,
+        a: u8,
+        amount: u32,
+    },
+    /// Tests a vector, or takes its mask: `Value`.
+    Test {
+        op: TestOp,
+        a: u8,
+    },
+    /// Takes a lane from a vector: `Value`.
+    Extract {
+        op: ExtractOp,
+        a: u8,
+    },
+    /// Puts the item in register `item` into a lane of a vector: `Done`.
+    Replace {
+        op: ReplaceOp,
+        dst: u8,
+        a: u8,
+        item: u8,
+    },
+    /// Picks bytes of two vectors: `Done`.
+    Shuffle {
+        dst: u8,
+        a: u8,
+        b: u8,
+        lanes: [ImmLaneIdx32; 16],
+    },
+    /// Loads a vector from a memory at `ptr + offset`: `Done`, or `Trap` where it ends past it.
+    VectorLoad {
+        op: VectorLoadOp,
+        dst: u8,
+        memory: usize,
+        ptr: u64,
+        offset: u64,
+    },
+    /// Loads a lane of a vector from a memory at `ptr + offset`: `Done`, or `Trap` where it ends past it.
+    LoadLane {
+        op: LoadLaneOp,
+        dst: u8,
+        a: u8,
+        memory: usize,
+        ptr: u64,
+        offset: u64,
+    },
+    /// Stores a vector to a memory at `ptr + offset`: `Done`, or `Trap` where it would end past it.
+    VectorStore {
+        a: u8,
+        memory: usize,
+        ptr: u64,
+        offset: u64,
+    },
+    /// Stores a lane of a vector to a memory at `ptr + offset`: `Done`, or `Trap` where it would end past it.
+    StoreLane {
+        op: StoreLaneOp,
+        a: u8,
+        memory: usize,
+        ptr: u64,
+        offset: u64,
+    },
 }
 
 /// The reply to one call.
@@ -145,7 +248,7 @@ pub enum Reply {
     Segment(SegmentError),
     /// Why an instruction trapped.
     Trap(TrapCode),
-    /// An index names nothing; nothing was asked or changed.
+    /// An index or a register names nothing; nothing was asked or changed.
     NoSuch,
     /// Memory for a slot or for the reply was refused; nothing was asked or changed.
     NoRoom,

@@ -5,7 +5,9 @@ mod calls;
 mod machine;
 mod memories;
 mod ops;
+mod registers;
 mod running;
+pub mod simd;
 mod slots;
 mod tables;
 mod values;
@@ -16,7 +18,6 @@ pub use machine::Machine;
 pub use ops::{LoadOp, StoreOp};
 pub use running::{run, run_lending};
 pub use wasmi_access::access;
-pub use wasmi_lanewise::simd;
 pub use wasmi_meter::{
     CustomFuelCosts, Fuel, FuelCosts, FuelCostsProvider, FuelError, Kind, LimiterError,
     MemoryError, NoLimits, Quota, ResourceLimiter, ResourceLimiterRef, TableError, ValueSize,
@@ -34,4 +35,8 @@ pub use wasmi_typed::{
 pub use wasmi_types::{
     FuncType, FuncTypeError, HostError, IndexType, InvalidTrapCode, RefType, Trap, TrapCode,
     ValType, hint,
+};
+pub use wasmi_vector_ops::{
+    BinaryOp, ExtractOp, LoadLaneOp, MakeOp, ReplaceOp, ShiftOp, StoreLaneOp, TernaryOp, TestOp,
+    UnaryOp, VectorLoadOp,
 };

@@ -1,18 +1,20 @@
 //! The machine.
-ghost use Rattle.std.specs.Prelude.{◌≡◌, ℕ};
+ghost use Rattle.std.specs.Prelude.{◌≡◌, ℕ, Option, slice_get};
 ghost use Rattle.std.specs.Option.{option_copied};
 ghost use Rattle.wasmi_meter.specs.Limiter.{optional_rules};
 ghost use Rattle.wasmi_meter.specs.LimiterRef.{state, KeepsLoan};
 
 use crate::calls::{Call, Reply};
+use crate::registers::Registers;
 use crate::slots::Slots;
 use std::alloc::Global as Allocator;
 use std::marker::Model;
 use wasmi_meter::{Fuel, ResourceLimiter, ResourceLimiterRef};
+use wasmi_raw::RawVal;
 use wasmi_store::{ElementSegment, ElementSegmentRef, Memory, Table};
 use wasmi_typed::Global;
 
-/// Memories, tables, element segments and globals by their indices, and one fuel meter; `'r` is the loan of a region that
+/// Memories, tables, element segments and globals by their indices, 16 registers of raw values, and one fuel meter; `'r` is the loan of a region that
 /// a memory may lie in.
 #[derive(Debug, Drop)]
 pub struct Machine<'r> {
@@ -21,6 +23,7 @@ pub struct Machine<'r> {
     tables: Slots<Table>,
     segments: Slots<ElementSegment>,
     globals: Slots<Global>,
+    registers: Registers,
     fuel: Fuel,
 }
 
@@ -34,6 +37,7 @@ impl<'r> Model for Machine<'r> {
       tables = m.tables.slots.items;
       segments = m.segments.slots.items;
       globals = m.globals.slots.items;
+      registers = m.registers.values;
       meter = m.fuel;
     } };
 }
@@ -41,7 +45,7 @@ impl<'r> Model for Machine<'r> {
 impl<'r> Machine<'r> {
     ghost use Rattle.wasmi_core.specs.State.{new_state, live_at};
     ghost use Rattle.wasmi_core.specs.FuelRows.{SetsFuel, get_fuel_reply};
-    ghost use Rattle.wasmi_core.specs.Steps.{Step, subject_of, Memories, Tables};
+    ghost use Rattle.wasmi_core.specs.Steps.{Step, subject_of, Memories, Tables, RegisterFile, Vectors};
 
     /// A machine with this meter, on which nothing was made yet. It takes no memory.
     pub fn new(alloc: Allocator, fuel: Fuel) -> Machine<'r>
@@ -53,6 +57,7 @@ impl<'r> Machine<'r> {
             tables: Slots::new(alloc),
             segments: Slots::new(alloc),
             globals: Slots::new(alloc),
+            registers: Registers::new(),
             fuel,
         }
     }
@@ -90,6 +95,13 @@ impl<'r> Machine<'r> {
         ensures { option_copied result ≡ live_at self.now.globals index }
     {
         self.globals.live(index)
+    }
+
+    /// The value of a register, if there is one: their numbers are 0 to 15.
+    pub fn register(&self, register: u8) -> Option<RawVal>
+        ensures { result ≡ slice_get self.now.registers register }
+    {
+        self.registers.get(register)
     }
 
     fn set_fuel(&mut self, fuel: u64) -> Reply
@@ -136,7 +148,18 @@ impl<'r> Machine<'r> {
             Call::NewGlobal { value, ty } => self.globals.create(*value, *ty),
             Call::SetGlobal { global, value } => self.globals.set(*global, *value),
             Call::GetGlobal(global) => self.globals.get(*global),
-            _ => self.step_table(call, limiter),
+            Call::NewTable { .. }
+            | Call::GrowTable { .. }
+            | Call::GetElement { .. }
+            | Call::SetElement { .. }
+            | Call::InitTable { .. }
+            | Call::CopyTable { .. }
+            | Call::FillTable { .. } => self.step_table(call, limiter),
+            Call::VectorLoad { .. }
+            | Call::LoadLane { .. }
+            | Call::VectorStore { .. }
+            | Call::StoreLane { .. } => self.step_vector_access::<L>(call),
+            _ => self.step_register::<L>(call),
         }
     }
 
@@ -244,6 +267,95 @@ impl<'r> Machine<'r> {
                 value,
                 len,
             } => self.tables.fill(*table, *dst, *value, *len, &mut self.fuel),
+            _ => unreachable!(),
+        }
+    }
+
+    /// Answers one call on registers, which doesn't reach the limiter: only the contract names `L`.
+    fn step_register<L: ResourceLimiter>(&mut self, call: &Call) -> Reply
+        requires { subject_of call.now ≡ RegisterFile }
+        ensures { (limiter : Option L) → Step (optional_rules L.rules)
+            (record { state = self.old; limiter = limiter })
+            (record { call = call.now; reply = result; charge = 0; written = 0 })
+            (record { state = self.new; limiter = limiter }) }
+    {
+        match call {
+            Call::SetRegister { dst, value } => self.registers.set(*dst, *value),
+            Call::GetRegister(register) => self.registers.get_register(*register),
+            Call::Make { op, dst, a } => self.registers.make(*op, *dst, *a),
+            Call::Unary { op, dst, a } => self.registers.unary(*op, *dst, *a),
+            Call::Binary { op, dst, a, b } => self.registers.binary(*op, *dst, *a, *b),
+            Call::Ternary { op, dst, a, b, c } => self.registers.ternary(*op, *dst, *a, *b, *c),
+            Call::Shift { op, dst, a, amount } => self.registers.shift(*op, *dst, *a, *amount),
+            Call::Test { op, a } => self.registers.test(*op, *a),
+            Call::Extract { op, a } => self.registers.extract(*op, *a),
+            Call::Replace { op, dst, a, item } => self.registers.replace(*op, *dst, *a, *item),
+            Call::Shuffle { dst, a, b, lanes } => self.registers.shuffle(*dst, *a, *b, *lanes),
+            _ => unreachable!(),
+        }
+    }
+
+    /// Answers one load or store of a vector, which doesn't reach the limiter: only the contract names `L`.
+    fn step_vector_access<L: ResourceLimiter>(&mut self, call: &Call) -> Reply
+        requires { subject_of call.now ≡ Vectors }
+        ensures { (limiter : Option L) → Step (optional_rules L.rules)
+            (record { state = self.old; limiter = limiter })
+            (record { call = call.now; reply = result; charge = 0; written = 0 })
+            (record { state = self.new; limiter = limiter }) }
+    {
+        match call {
+            Call::VectorLoad {
+                op,
+                dst,
+                memory,
+                ptr,
+                offset,
+            } => {
+                let Some(memory) = self.memories.live(*memory) else {
+                    return Reply::NoSuch;
+                };
+                self.registers.load(*op, *dst, memory.data(), *ptr, *offset)
+            }
+            Call::LoadLane {
+                op,
+                dst,
+                a,
+                memory,
+                ptr,
+                offset,
+            } => {
+                let Some(a) = self.registers.vector(*a) else {
+                    return Reply::NoSuch;
+                };
+                let Some(memory) = self.memories.live(*memory) else {
+                    return Reply::NoSuch;
+                };
+                self.registers
+                    .load_lane(*op, *dst, a, memory.data(), *ptr, *offset)
+            }
+            Call::VectorStore {
+                a,
+                memory,
+                ptr,
+                offset,
+            } => {
+                let Some(a) = self.registers.vector(*a) else {
+                    return Reply::NoSuch;
+                };
+                self.memories.store_vector(a, *memory, *ptr, *offset)
+            }
+            Call::StoreLane {
+                op,
+                a,
+                memory,
+                ptr,
+                offset,
+            } => {
+                let Some(a) = self.registers.vector(*a) else {
+                    return Reply::NoSuch;
+                };
+                self.memories.store_lane(*op, a, *memory, *ptr, *offset)
+            }
             _ => unreachable!(),
         }
     }

@@ -1,9 +1,11 @@
 //! The memories of a machine, by their indices.
-ghost use Rattle.std.specs.Prelude.{◌+◌, ℕ, Some};
+ghost use Rattle.std.specs.Prelude.{◌≡◌, ◌+◌, ℕ, Some};
+ghost use Rattle.wasmi_types.specs.Bytes.{le_bytes};
 ghost use Rattle.wasmi_meter.specs.Limiter.{optional_rules};
 ghost use Rattle.wasmi_meter.specs.LimiterRef.{state, KeepsLoan};
 ghost use Rattle.wasmi_store.specs.Buffer.{Owned};
 ghost use Rattle.wasmi_store.specs.Memory.{MakesMemory, GrowsMemory};
+ghost use Rattle.wasmi_vector_ops.specs.AccessOps.{stored_lane};
 ghost use Rattle.wasmi_core.specs.AccessOps.{stored_bytes};
 ghost use Rattle.wasmi_core.specs.Rows.{reply_of, ActsAt, Creates};
 ghost use Rattle.wasmi_core.specs.MemoryRows.{ReadsMemoryAt, ReadsBytes, WritesMemoryAt, LoadsMemoryAt, StoresMemoryAt, StoresMemory};
@@ -14,9 +16,11 @@ use crate::ops::{LoadOp, StoreOp};
 use crate::slots::Slots;
 use std::alloc::Global;
 use wasmi_meter::{Fuel, MemoryError, ResourceLimiter, ResourceLimiterRef};
-use wasmi_raw::RawVal;
+use wasmi_raw::{RawVal, V128};
 use wasmi_store::{Memory, MemoryType};
 use wasmi_types::TrapCode;
+use wasmi_vector_access::simd::v128_store;
+use wasmi_vector_ops::StoreLaneOp;
 
 impl<'r> Slots<Memory<'r>> {
     /// Makes a memory in a new slot, which is reserved before the limiter is asked.
@@ -105,15 +109,58 @@ impl<'r> Slots<Memory<'r>> {
         offset: u64,
         value: RawVal,
     ) -> Reply
-        ensures { StoresMemoryAt op index (ptr + offset) value self.old.slots.items result self.new.slots.items }
+        ensures { StoresMemoryAt index (ptr + offset) (stored_bytes op value) self.old.slots.items result self.new.slots.items }
     {
         let Some(memory) = self.live_mut(index) else {
             return Reply::NoSuch;
         };
-        match store(memory, op, ptr, offset, value) {
-            Ok(()) => Reply::Done,
-            Err(trap) => Reply::Trap(trap),
-        }
+        stored(store(memory, op, ptr, offset, value))
+    }
+}
+
+/// The stores of vectors.
+impl<'r> Slots<Memory<'r>> {
+    /// Stores a vector to a memory.
+    pub(crate) fn store_vector(
+        &mut self,
+        vector: V128,
+        index: usize,
+        ptr: u64,
+        offset: u64,
+    ) -> Reply
+        ensures { StoresMemoryAt index (ptr + offset) (le_bytes 16 vector) self.old.slots.items result self.new.slots.items }
+    {
+        let Some(memory) = self.live_mut(index) else {
+            return Reply::NoSuch;
+        };
+        stored(store_vector(memory, vector, ptr, offset))
+    }
+
+    /// Stores a lane of a vector to a memory.
+    pub(crate) fn store_lane(
+        &mut self,
+        op: StoreLaneOp,
+        vector: V128,
+        index: usize,
+        ptr: u64,
+        offset: u64,
+    ) -> Reply
+        ensures { StoresMemoryAt index (ptr + offset) (stored_lane op vector) self.old.slots.items result self.new.slots.items }
+    {
+        let Some(memory) = self.live_mut(index) else {
+            return Reply::NoSuch;
+        };
+        stored(store_lane(memory, op, vector, ptr, offset))
+    }
+}
+
+/// The reply to a store.
+fn stored(answer: Result<(), TrapCode>) -> Reply
+    ensures { result ≡ reply_of (λ _. Reply.Done) Reply.Trap answer }
+{
+    match answer {
+        Ok(()) => Reply::Done,
+        Err(trap) => Reply::Trap(trap),
     }
 }
 
@@ -141,4 +188,24 @@ fn store(
     ensures { StoresMemory memory.old (ptr + offset) (stored_bytes op value) result memory.new }
 {
     op.store(memory.data_mut(), ptr, offset, value)
+}
+
+/// Stores a vector to a memory.
+fn store_vector(memory: &mut Memory, vector: V128, ptr: u64, offset: u64) -> Result<(), TrapCode>
+    ensures { StoresMemory memory.old (ptr + offset) (le_bytes 16 vector) result memory.new }
+{
+    v128_store(memory.data_mut(), ptr, offset, vector)
+}
+
+/// Stores a lane of a vector to a memory.
+fn store_lane(
+    memory: &mut Memory,
+    op: StoreLaneOp,
+    vector: V128,
+    ptr: u64,
+    offset: u64,
+) -> Result<(), TrapCode>
+    ensures { StoresMemory memory.old (ptr + offset) (stored_lane op vector) result memory.new }
+{
+    op.store(memory.data_mut(), ptr, offset, vector)
 }

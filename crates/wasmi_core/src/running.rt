@@ -26,9 +26,7 @@ pub fn run<L: ResourceLimiter>(
     let mut replies = Vec::with_capacity(machine.alloc, calls.len())?;
     for call in calls {
         let reply = machine.step(call, limiter);
-        let Ok(()) = replies.push(reply) else {
-            unreachable!();
-        };
+        replies.push_reserved(reply);
     }
     Ok(replies)
 }

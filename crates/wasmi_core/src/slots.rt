@@ -96,9 +96,7 @@ impl<T> Slots<T> {
         ensures slots { self.new.slots.items ≡ self.old.slots.items ++ Live value ∷ [] }
     {
         let index = self.slots.len();
-        let Ok(()) = self.slots.push(Slot::Live(value)) else {
-            unreachable!();
-        };
+        self.slots.push_reserved(Slot::Live(value));
         index
     }
 }

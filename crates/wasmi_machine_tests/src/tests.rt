@@ -3,7 +3,9 @@ mod absent;
 mod accesses;
 mod examples;
 mod loans;
+mod registers;
 mod runs;
+mod tables;
 
 use std::alloc::{AllocError, Global};
 use std::fmt::Debug;

@@ -2,13 +2,15 @@
 use Rattle.std.specs.Prelude.{◌≡◌, ℕ, ◌≤◌, List, length, codes, drop}
 use Rattle.wasmi_raw.specs.RawVal.{raw_of}
 use Rattle.wasmi_core.specs.declared.calls.Call.{Call}
-use Rattle.wasmi_core.specs.declared.calls.Call.TheVariants.{SetFuel, GetFuel, NewMemory, GrowMemory, Read, Write, Load, Store, NewTable, GrowTable, GetElement, SetElement, InitTable, CopyTable, FillTable, NewSegment, DropItems, NewGlobal, SetGlobal, GetGlobal}
+use Rattle.wasmi_core.specs.declared.calls.Call.TheVariants.{SetFuel, GetFuel, NewMemory, GrowMemory, Read, Write, Load, Store, NewTable, GrowTable, GetElement, SetElement, InitTable, CopyTable, FillTable, NewSegment, DropItems, NewGlobal, SetGlobal, GetGlobal, SetRegister, GetRegister, Make, Unary, Binary, Ternary, Shift, Test, Extract, Replace, Shuffle, VectorLoad, LoadLane, VectorStore, StoreLane}
 use Rattle.wasmi_script.specs.Words.{Words, word_at}
 use Rattle.wasmi_script.specs.Numbers.{WritesNumber, WritesNumbers}
 use Rattle.wasmi_script.specs.MemoryWords.{NamesType}
 use Rattle.wasmi_script.specs.TableWords.{NamesTableType}
 use Rattle.wasmi_script.specs.TypeWords.{reference_word, value_word, mutability_word, WritesReference}
 use Rattle.wasmi_script.specs.AccessNames.{load_name, store_name}
+use Rattle.wasmi_script.specs.VectorNames.{NamesMake, NamesUnary, NamesBinary, NamesTernary, NamesShift, NamesTest, NamesLoad}
+use Rattle.wasmi_script.specs.LaneNames.{NamesExtract, NamesReplace, NamesLoadLane, NamesStoreLane, WritesLanes}
 
 -- the word that a command begins with
 abbrev pub command_word : Call → List ℕ
@@ -32,6 +34,21 @@ command_word (DropItems segment) = codes "empty"
 command_word (NewGlobal value ty) = codes "global"
 command_word (SetGlobal global value) = codes "gset"
 command_word (GetGlobal global) = codes "gget"
+command_word (SetRegister dst value) = codes "set"
+command_word (GetRegister a) = codes "show"
+command_word (Make op dst a) = codes "make"
+command_word (Unary op dst a) = codes "unary"
+command_word (Binary op dst a b) = codes "binary"
+command_word (Ternary op dst a b c) = codes "ternary"
+command_word (Shift op dst a amount) = codes "shift"
+command_word (Test op a) = codes "test"
+command_word (Extract op a) = codes "extract"
+command_word (Replace op dst a item) = codes "replace"
+command_word (Shuffle dst a b lanes) = codes "shuffle"
+command_word (VectorLoad op dst memory ptr offset) = codes "vload"
+command_word (LoadLane op dst a memory ptr offset) = codes "vloadlane"
+command_word (VectorStore a memory ptr offset) = codes "vstore"
+command_word (StoreLane op a memory ptr offset) = codes "vstorelane"
 
 -- the words after the first write what the call is given
 abbrev pub WritesOperands : Words → Call → Type 0
@@ -73,6 +90,38 @@ WritesOperands words (SetGlobal global value) = (length words ≡ 4)
     × WritesNumber 64 (word_at words 0) global × (word_at words 1 ≡ value_word value.ty)
     × WritesNumber 64 (word_at words 2) value.raw.lo × WritesNumber 64 (word_at words 3) value.raw.hi
 WritesOperands words (GetGlobal global) = (length words ≡ 1) × WritesNumber 64 (word_at words 0) global
+WritesOperands words (SetRegister dst value) = (length words ≡ 3)
+    × WritesNumber 8 (word_at words 0) dst × WritesNumber 64 (word_at words 1) value.lo × WritesNumber 64 (word_at words 2) value.hi
+WritesOperands words (GetRegister a) = (length words ≡ 1) × WritesNumber 8 (word_at words 0) a
+WritesOperands words (Make op dst a) = (length words ≡ 3) × NamesMake (word_at words 0) op
+    × WritesNumber 8 (word_at words 1) dst × WritesNumber 8 (word_at words 2) a
+WritesOperands words (Unary op dst a) = (length words ≡ 3) × NamesUnary (word_at words 0) op
+    × WritesNumber 8 (word_at words 1) dst × WritesNumber 8 (word_at words 2) a
+WritesOperands words (Binary op dst a b) = (length words ≡ 4) × NamesBinary (word_at words 0) op
+    × WritesNumber 8 (word_at words 1) dst × WritesNumber 8 (word_at words 2) a × WritesNumber 8 (word_at words 3) b
+WritesOperands words (Ternary op dst a b c) = (length words ≡ 5) × NamesTernary (word_at words 0) op
+    × WritesNumber 8 (word_at words 1) dst
+    × WritesNumber 8 (word_at words 2) a × WritesNumber 8 (word_at words 3) b × WritesNumber 8 (word_at words 4) c
+WritesOperands words (Shift op dst a amount) = (length words ≡ 4) × NamesShift (word_at words 0) op
+    × WritesNumber 8 (word_at words 1) dst × WritesNumber 8 (word_at words 2) a × WritesNumber 32 (word_at words 3) amount
+WritesOperands words (Test op a) = (length words ≡ 2) × NamesTest (word_at words 0) op × WritesNumber 8 (word_at words 1) a
+WritesOperands words (Extract op a) = (length words ≡ 3) × NamesExtract (word_at words 0) (word_at words 2) op × WritesNumber 8 (word_at words 1) a
+WritesOperands words (Replace op dst a item) = (length words ≡ 5) × NamesReplace (word_at words 0) (word_at words 3) op
+    × WritesNumber 8 (word_at words 1) dst × WritesNumber 8 (word_at words 2) a × WritesNumber 8 (word_at words 4) item
+WritesOperands words (Shuffle dst a b lanes) = (3 ≤ length words)
+    × WritesNumber 8 (word_at words 0) dst × WritesNumber 8 (word_at words 1) a × WritesNumber 8 (word_at words 2) b
+    × WritesLanes (drop 3 words) lanes
+WritesOperands words (VectorLoad op dst memory ptr offset) = (length words ≡ 5) × NamesLoad (word_at words 0) op
+    × WritesNumber 8 (word_at words 1) dst
+    × WritesNumber 64 (word_at words 2) memory × WritesNumber 64 (word_at words 3) ptr × WritesNumber 64 (word_at words 4) offset
+WritesOperands words (LoadLane op dst a memory ptr offset) = (length words ≡ 7) × NamesLoadLane (word_at words 0) (word_at words 3) op
+    × WritesNumber 8 (word_at words 1) dst × WritesNumber 8 (word_at words 2) a
+    × WritesNumber 64 (word_at words 4) memory × WritesNumber 64 (word_at words 5) ptr × WritesNumber 64 (word_at words 6) offset
+WritesOperands words (VectorStore a memory ptr offset) = (length words ≡ 4) × WritesNumber 8 (word_at words 0) a
+    × WritesNumber 64 (word_at words 1) memory × WritesNumber 64 (word_at words 2) ptr × WritesNumber 64 (word_at words 3) offset
+WritesOperands words (StoreLane op a memory ptr offset) = (length words ≡ 6) × NamesStoreLane (word_at words 0) (word_at words 2) op
+    × WritesNumber 8 (word_at words 1) a
+    × WritesNumber 64 (word_at words 3) memory × WritesNumber 64 (word_at words 4) ptr × WritesNumber 64 (word_at words 5) offset
 
 -- the word that a command begins with, and the words after it, name this call
 abbrev pub NamesAfter : List ℕ → Words → Call → Type 0

@@ -7,7 +7,7 @@ use Rattle.wasmi_typed.specs.GlobalError.{global_error_text}
 use Rattle.wasmi_typed.specs.declared.typed_ref.TypedRawRef.{TypedRawRef}
 use Rattle.wasmi_store.specs.SegmentError.{segment_error_text}
 use Rattle.wasmi_core.specs.declared.calls.Call.{Call}
-use Rattle.wasmi_core.specs.declared.calls.Call.TheVariants.{SetFuel, GetFuel, NewMemory, GrowMemory, Read, Write, Load, Store, NewTable, GrowTable, GetElement, SetElement, InitTable, CopyTable, FillTable, NewSegment, DropItems, NewGlobal, SetGlobal, GetGlobal}
+use Rattle.wasmi_core.specs.declared.calls.Call.TheVariants.{SetFuel, GetFuel, NewMemory, GrowMemory, Read, Write, Load, Store, NewTable, GrowTable, GetElement, SetElement, InitTable, CopyTable, FillTable, NewSegment, DropItems, NewGlobal, SetGlobal, GetGlobal, SetRegister, GetRegister, Make, Unary, Binary, Ternary, Shift, Test, Extract, Replace, Shuffle, VectorLoad, LoadLane, VectorStore, StoreLane}
 use Rattle.wasmi_core.specs.declared.calls.Reply.{Reply}
 use Rattle.wasmi_core.specs.declared.calls.Reply.TheVariants.{Done, Made, Value, Number, Bytes, Reference, Memory, Table, Fuel, Global, Segment, Trap, NoSuch, NoRoom}
 use Rattle.wasmi_script.specs.declared.error.ReplayError.{ReplayError}
@@ -37,6 +37,21 @@ kind_text (DropItems segment) = codes "nothing"
 kind_text (NewGlobal value ty) = codes "global"
 kind_text (SetGlobal global value) = codes "nothing"
 kind_text (GetGlobal global) = codes "nothing"
+kind_text (SetRegister dst value) = codes "nothing"
+kind_text (GetRegister a) = codes "nothing"
+kind_text (Make op dst a) = codes "nothing"
+kind_text (Unary op dst a) = codes "nothing"
+kind_text (Binary op dst a b) = codes "nothing"
+kind_text (Ternary op dst a b c) = codes "nothing"
+kind_text (Shift op dst a amount) = codes "nothing"
+kind_text (Test op a) = codes "nothing"
+kind_text (Extract op a) = codes "nothing"
+kind_text (Replace op dst a item) = codes "nothing"
+kind_text (Shuffle dst a b lanes) = codes "nothing"
+kind_text (VectorLoad op dst memory ptr offset) = codes "nothing"
+kind_text (LoadLane op dst a memory ptr offset) = codes "nothing"
+kind_text (VectorStore a memory ptr offset) = codes "nothing"
+kind_text (StoreLane op a memory ptr offset) = codes "nothing"
 
 -- a space and a number for each byte
 abbrev pub bytes_text : List ℕ → List ℕ

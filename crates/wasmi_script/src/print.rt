@@ -138,7 +138,22 @@ fn kind_made(call: &Call) -> &'static str
         | Call::FillTable { .. }
         | Call::DropItems(_)
         | Call::SetGlobal { .. }
-        | Call::GetGlobal(_) => "nothing",
+        | Call::GetGlobal(_)
+        | Call::SetRegister { .. }
+        | Call::GetRegister(_)
+        | Call::Make { .. }
+        | Call::Unary { .. }
+        | Call::Binary { .. }
+        | Call::Ternary { .. }
+        | Call::Shift { .. }
+        | Call::Test { .. }
+        | Call::Extract { .. }
+        | Call::Replace { .. }
+        | Call::Shuffle { .. }
+        | Call::VectorLoad { .. }
+        | Call::LoadLane { .. }
+        | Call::VectorStore { .. }
+        | Call::StoreLane { .. } => "nothing",
     }
 }
 

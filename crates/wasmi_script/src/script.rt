@@ -5,6 +5,7 @@ ghost use Rattle.wasmi_script.specs.Lines.{WritesScript};
 mod command;
 mod header;
 mod line;
+mod names;
 mod number;
 mod types;
 

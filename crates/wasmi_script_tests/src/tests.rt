@@ -7,6 +7,8 @@ mod reading;
 mod streams;
 mod tables;
 mod values;
+mod vector_names;
+mod vectors;
 mod writing;
 
 use std::alloc::Global;

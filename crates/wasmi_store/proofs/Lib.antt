@@ -3,4 +3,5 @@ pub mod GrowthLemmas
 pub mod MemoryLemmas
 pub mod TableLemmas
 pub mod WriteLemmas
+pub mod CopyLemmas
 pub mod SegmentLemmas

@@ -1,5 +1,5 @@
 -- An element segment in the midst of being read.
-use Rattle.std.proofs.Common.{◌≡◌, ℕ, ◌+◌, ◌<◌, List, [], ◌∷◌, ◌++◌, length, sym, subst, ap, ◌∙◌, arith, length-append}
+use Rattle.std.proofs.Common.{◌≡◌, ℕ, ◌<◌, List, [], ◌∷◌, ◌++◌, length, sym, subst, ap, ◌∙◌, arith, length-append}
 use Rattle.std.specs.Prelude.{Option, Some}
 use Rattle.wasmi_types.proofs.SoFar.{SoFar, SoFar-next, Yields-snoc}
 use Rattle.wasmi_store.specs.Segment.{most_items, IsOutOfMemory}

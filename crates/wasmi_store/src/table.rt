@@ -6,9 +6,11 @@ ghost use Rattle.wasmi_meter.specs.Limiter.{optional_rules};
 ghost use Rattle.wasmi_meter.specs.LimiterRef.{state, KeepsLoan, left_behind};
 ghost use Rattle.wasmi_store.specs.Segment.{segment_of};
 
+mod copy;
 mod element;
 mod ty;
 
+use copy::copy_part_within;
 pub use element::{ElementSegment, ElementSegmentRef, SegmentError};
 use std::alloc::Global;
 use std::marker::Model;
@@ -474,15 +476,6 @@ fn copy_part(elements: &mut [RawRef], index: usize, items: &[RawRef])
 {
     let part = &mut elements[index..index + items.len()];
     part.copy_from_slice(items);
-}
-
-/// Copies so many items over others of the same list.
-fn copy_part_within(elements: &mut [RawRef], dst: usize, src: usize, len: usize)
-    requires dst { dst + len ≤ length elements.old }
-    requires src { src + len ≤ length elements.old }
-    ensures { overwrite elements.old dst (take len (drop src elements.old)) ≡ Some elements.new }
-{
-    elements.copy_within(src..src + len, dst);
 }
 
 /// Fills so many items from an index on.

@@ -5,9 +5,13 @@ ghost use Rattle.wasmi_script.specs.Commands.{Names, NamesAfter};
 mod access;
 mod fuel;
 mod global;
+mod lane;
 mod memory;
+mod register;
 mod segment;
 mod table;
+mod vector;
+mod vector_access;
 
 use super::line::LineError;
 use std::alloc::Global;
@@ -48,6 +52,21 @@ fn named(alloc: Global, name: &str, operands: &[&str]) -> Result<Call, LineError
         "global" => global::new_global(operands),
         "gset" => global::set(operands),
         "gget" => global::get(operands),
+        "set" => register::set(operands),
+        "show" => register::show(operands),
+        "make" => vector::make(operands),
+        "unary" => vector::unary(operands),
+        "binary" => vector::binary(operands),
+        "ternary" => vector::ternary(operands),
+        "shift" => vector::shift(operands),
+        "test" => vector::test(operands),
+        "extract" => lane::extract(operands),
+        "replace" => lane::replace(operands),
+        "shuffle" => lane::shuffle(operands),
+        "vload" => vector_access::load(operands),
+        "vloadlane" => vector_access::load_lane(operands),
+        "vstore" => vector_access::store(operands),
+        "vstorelane" => vector_access::store_lane(operands),
         _ => Err(LineError::BadCommand),
     }
 }

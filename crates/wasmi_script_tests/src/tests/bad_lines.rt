@@ -106,6 +106,101 @@ const BAD_LINES_OF_TABLES: [&[u8]; 42] = [
     b"gget 0 0",
 ];
 
+// Lines of registers and of vector instructions on them.
+const BAD_LINES_OF_REGISTERS: [&[u8]; 38] = [
+    b"set 0 1",
+    b"set 0 1 2 3",
+    b"set 256 0 0",
+    b"set -1 0 0",
+    b"set 0 18446744073709551616 0",
+    b"set 0 0 18446744073709551616",
+    b"show",
+    b"show 256",
+    b"show 0 0",
+    b"make i8x16_splat 0",
+    b"make i8x16_splat 0 0 0",
+    b"make v128_not 0 0",
+    b"make i8x16_splat 256 0",
+    b"make i8x16_splat 0 256",
+    b"unary i32x4_add 0 0",
+    b"unary v128_not 0",
+    b"unary v128_not 0 0 0",
+    b"unary v128_not 256 0",
+    b"unary V128_not 0 0",
+    b"unary  0 0",
+    b"binary v128_not 0 0 0",
+    b"binary i32x4_add 0 0",
+    b"binary i32x4_add 0 0 0 0",
+    b"binary i32x4_add 0 0 256",
+    b"binary i32x4_added 0 0 0",
+    b"binary i32x4 0 0 0",
+    b"ternary v128_bitselect 0 0 0",
+    b"ternary v128_bitselect 0 0 0 0 0",
+    b"ternary v128_and 0 0 0 0",
+    b"ternary v128_bitselect 0 0 0 256",
+    b"shift i8x16_shl 0 0",
+    b"shift i8x16_shl 0 0 0 0",
+    b"shift i8x16_shl 0 0 4294967296",
+    b"shift i8x16_shr 0 0 1",
+    b"test v128_any_true",
+    b"test v128_any_true 0 0",
+    b"test v128_any_true 256",
+    b"test i8x16_any_true 0",
+];
+
+// Lines of lanes, of which there is none with that index, and of shuffles.
+const BAD_LINES_OF_LANES: [&[u8]; 22] = [
+    b"extract i8x16_extract_lane_u 0 16",
+    b"extract i16x8_extract_lane_s 0 8",
+    b"extract i32x4_extract_lane 0 4",
+    b"extract i64x2_extract_lane 0 2",
+    b"extract i64x2_extract_lane_s 0 0",
+    b"extract i64x2_extract_lane 0",
+    b"extract i64x2_extract_lane 256 0",
+    b"extract i8x16_extract_lane_u 0 256",
+    b"replace i8x16_replace_lane 0 0 16 0",
+    b"replace i16x8_replace_lane 0 0 8 0",
+    b"replace i32x4_replace_lane 0 0 4 0",
+    b"replace i64x2_replace_lane 0 0 2 0",
+    b"replace i64x2_replace_lane 0 0 0",
+    b"replace i64x2_replace_lane 0 0 0 256",
+    b"replace i64x2_extract_lane 0 0 0 0",
+    b"shuffle 0 0 0 0 0 0 0 0 0 0 0 0 0 0 0 0 0 0",
+    b"shuffle 0 0 0 0 0 0 0 0 0 0 0 0 0 0 0 0 0 0 0 0",
+    b"shuffle 0 0 0 0 0 0 0 0 0 0 0 0 0 0 0 0 0 0 32",
+    b"shuffle 0 0 0 32 0 0 0 0 0 0 0 0 0 0 0 0 0 0 0",
+    b"shuffle 0 0 0 0 0 0 0 0 0 0 0 0 x 0 0 0 0 0 0",
+    b"shuffle 0 0",
+    b"shuffle 256 0 0 0 0 0 0 0 0 0 0 0 0 0 0 0 0 0 0",
+];
+
+// Lines of vectors and their lanes in memories.
+const BAD_LINES_OF_VECTOR_ACCESSES: [&[u8]; 23] = [
+    b"vload v128_load 0 0 0",
+    b"vload v128_load 0 0 0 0 0",
+    b"vload load_u32 0 0 0 0",
+    b"vload v128_load_at 0 0 0 0",
+    b"vload v128_load 256 0 0 0",
+    b"vload v128_load 0 0 0 18446744073709551616",
+    b"vloadlane v128_load8_lane 0 0 16 0 0 0",
+    b"vloadlane v128_load16_lane 0 0 8 0 0 0",
+    b"vloadlane v128_load32_lane 0 0 4 0 0 0",
+    b"vloadlane v128_load64_lane 0 0 2 0 0 0",
+    b"vloadlane v128_load64_lane 0 0 0 0 0",
+    b"vloadlane v128_store64_lane 0 0 0 0 0 0",
+    b"vstore 0 0 0",
+    b"vstore 0 0 0 0 0",
+    b"vstore v128_store 0 0 0 0",
+    b"vstore 256 0 0 0",
+    b"vstorelane v128_store8_lane 0 16 0 0 0",
+    b"vstorelane v128_store16_lane 0 8 0 0 0",
+    b"vstorelane v128_store32_lane 0 4 0 0 0",
+    b"vstorelane v128_store64_lane 0 2 0 0 0",
+    b"vstorelane v128_store64_lane 0 0 0 0",
+    b"vstorelane v128_store64_lane 0 0 0 0 0 0",
+    b"vstorelane v128_store 0 0 0 0 0",
+];
+
 fn is_bad<R: Abort>(rt: &R, alloc: Global, script: &[u8], printed: &str) {
     prints(
         rt,
@@ -129,6 +224,19 @@ fn takes_no_other_numbers_or_words(rt: HostRuntime) {
         is_bad(&rt, rt.alloc(), script, "line 1: bad command\n");
     }
     for script in BAD_LINES_OF_TABLES {
+        is_bad(&rt, rt.alloc(), script, "line 1: bad command\n");
+    }
+}
+
+#[test]
+fn takes_no_other_registers_lanes_or_names(rt: HostRuntime) {
+    for script in BAD_LINES_OF_REGISTERS {
+        is_bad(&rt, rt.alloc(), script, "line 1: bad command\n");
+    }
+    for script in BAD_LINES_OF_LANES {
+        is_bad(&rt, rt.alloc(), script, "line 1: bad command\n");
+    }
+    for script in BAD_LINES_OF_VECTOR_ACCESSES {
         is_bad(&rt, rt.alloc(), script, "line 1: bad command\n");
     }
 }

@@ -1,4 +1,5 @@
 use Rattle.std.proofs.Common.{refl}
+use Rattle.wasmi_meter.specs.LimiterRef.{state}
 use Rattle.wasmi_core.proofs.machine.Machine.step.Goals as goal
 
 pub returns-in-SetFuel-clause-step : goal.returns-in-SetFuel-clause-step
@@ -25,3 +26,9 @@ returns-in-SetGlobal-clause-step g c =
 
 pub returns-in-GetGlobal-clause-step : goal.returns-in-GetGlobal-clause-step
 returns-in-GetGlobal-clause-step g c = (0, 0, rw (c.in-GetGlobal.is, ← c.self-in-GetGlobal.view_is) ((refl, refl), c.get.ensures, refl))
+
+pub returns-in-VectorLoad-clause-step : goal.returns-in-VectorLoad-clause-step
+returns-in-VectorLoad-clause-step g c = (0, 0, c.step_vector_access.ensures (state c.args.limiter.now))
+
+pub returns-in_default-clause-step : goal.returns-in_default-clause-step
+returns-in_default-clause-step g c = (0, 0, c.step_register.ensures (state c.args.limiter.now))

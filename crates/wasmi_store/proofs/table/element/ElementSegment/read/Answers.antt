@@ -1,4 +1,4 @@
-use Rattle.std.proofs.Common.{List, ◌∷◌, [], ◌++◌, ap, arith, length, length-append}
+use Rattle.std.proofs.Common.{◌∷◌, [], ap, arith, length, length-append}
 use Rattle.wasmi_store.proofs.SegmentLemmas.{read_next, read_refused}
 use Rattle.wasmi_store.proofs.table.element.ElementSegment.read.Goals as goal
 

@@ -1,0 +1,211 @@
+//! The registers of a machine.
+ghost use Rattle.std.specs.Prelude.{◌≡◌, ◌+◌, Some, Ok, slice_get, replicate, length};
+ghost use Rattle.std.specs.Option.{option_map, option_and_then};
+ghost use Rattle.wasmi_raw.specs.RawVal.{raw_of, raw_of_vector};
+ghost use Rattle.wasmi_lanewise.specs.VectorTable.{shuffle};
+ghost use Rattle.wasmi_vector_ops.specs.AccessOps.{loaded_vector, loaded_lane};
+ghost use Rattle.wasmi_vector_ops.specs.BinaryOps.{binary_vector};
+ghost use Rattle.wasmi_vector_ops.specs.LaneOps.{extracted_raw, replaced_vector};
+ghost use Rattle.wasmi_vector_ops.specs.MakeOps.{made_vector};
+ghost use Rattle.wasmi_vector_ops.specs.ShiftOps.{shifted_vector};
+ghost use Rattle.wasmi_vector_ops.specs.TernaryOps.{ternary_vector};
+ghost use Rattle.wasmi_vector_ops.specs.TestOps.{tested_raw};
+ghost use Rattle.wasmi_vector_ops.specs.UnaryOps.{unary_vector};
+ghost use Rattle.wasmi_core.specs.AccessOps.{as_raw};
+ghost use Rattle.wasmi_core.specs.RegisterRows.{TakesRegister, given_vector, of_one, of_two, of_three, raw_reply, vector_at};
+
+use crate::calls::Reply;
+use wasmi_lanes::ImmLaneIdx32;
+use wasmi_lanewise::simd::i8x16_shuffle;
+use wasmi_raw::{RawVal, ReadAs, V128};
+use wasmi_types::TrapCode;
+use wasmi_vector_ops::{
+    BinaryOp, ExtractOp, LoadLaneOp, MakeOp, ReplaceOp, ShiftOp, TernaryOp, TestOp, UnaryOp,
+    VectorLoadOp,
+};
+
+/// The 16 registers of raw values, by their numbers from 0.
+#[derive(Debug, Drop)]
+pub(crate) struct Registers {
+    pub(crate) values: [RawVal; 16],
+}
+
+impl Registers {
+    /// Registers of zeros.
+    pub(crate) fn new() -> Self
+        ensures { result.values ≡ replicate 16 (raw_of 0) }
+    {
+        Registers {
+            values: [RawVal::from_bits64(0); 16],
+        }
+    }
+
+    /// The value of a register, if there is one.
+    pub(crate) fn get(&self, register: u8) -> Option<RawVal>
+        ensures { result ≡ slice_get self.now.values register }
+    {
+        self.values.get(usize::from(register)).copied()
+    }
+
+    /// The vector in a register, if there is one.
+    pub(crate) fn vector(&self, register: u8) -> Option<V128>
+        ensures { result ≡ vector_at self.now.values register }
+    {
+        match self.get(register) {
+            Some(raw) => Some(raw.read_as()),
+            None => None,
+        }
+    }
+
+    /// Sets a register.
+    pub(crate) fn set(&mut self, dst: u8, value: RawVal) -> Reply
+        ensures { TakesRegister dst (Some (Ok value)) self.old.values result self.new.values }
+    {
+        let index = usize::from(dst);
+        if index >= self.values.len() {
+            return Reply::NoSuch;
+        }
+        self.values[index] = value;
+        Reply::Done
+    }
+
+    /// Sets a register to a vector that was loaded, or keeps it where the load has trapped.
+    fn set_loaded(&mut self, dst: u8, vector: Result<V128, TrapCode>) -> Reply
+        ensures { TakesRegister dst (Some (as_raw raw_of_vector vector)) self.old.values result self.new.values }
+    {
+        match vector {
+            Ok(vector) => self.set(dst, vector.into()),
+            Err(_) if self.get(dst).is_none() => Reply::NoSuch,
+            Err(trap) => Reply::Trap(trap),
+        }
+    }
+
+    /// The value of a register.
+    pub(crate) fn get_register(&self, register: u8) -> Reply
+        ensures { result ≡ raw_reply (slice_get self.now.values register) }
+    {
+        match self.get(register) {
+            Some(value) => Reply::Value(value),
+            None => Reply::NoSuch,
+        }
+    }
+
+    /// Makes a vector of an item.
+    pub(crate) fn make(&mut self, op: MakeOp, dst: u8, a: u8) -> Reply
+        ensures { TakesRegister dst (option_map (λ raw. given_vector (made_vector op raw)) (slice_get self.old.values a)) self.old.values result self.new.values }
+    {
+        let Some(a) = self.get(a) else {
+            return Reply::NoSuch;
+        };
+        self.set(dst, op.apply(a).into())
+    }
+
+    /// An instruction of one vector.
+    pub(crate) fn unary(&mut self, op: UnaryOp, dst: u8, a: u8) -> Reply
+        ensures { TakesRegister dst (of_one (unary_vector op) (vector_at self.old.values a)) self.old.values result self.new.values }
+    {
+        let Some(a) = self.vector(a) else {
+            return Reply::NoSuch;
+        };
+        self.set(dst, op.apply(a).into())
+    }
+
+    /// An instruction of two vectors.
+    pub(crate) fn binary(&mut self, op: BinaryOp, dst: u8, a: u8, b: u8) -> Reply
+        ensures { TakesRegister dst (of_two (binary_vector op) (vector_at self.old.values a) (vector_at self.old.values b)) self.old.values result self.new.values }
+    {
+        let (Some(a), Some(b)) = (self.vector(a), self.vector(b)) else {
+            return Reply::NoSuch;
+        };
+        self.set(dst, op.apply(a, b).into())
+    }
+
+    /// An instruction of three vectors.
+    pub(crate) fn ternary(&mut self, op: TernaryOp, dst: u8, a: u8, b: u8, c: u8) -> Reply
+        ensures { TakesRegister dst (of_three (ternary_vector op) (vector_at self.old.values a) (vector_at self.old.values b) (vector_at self.old.values c)) self.old.values result self.new.values }
+    {
+        let (Some(a), Some(b), Some(c)) = (self.vector(a), self.vector(b), self.vector(c)) else {
+            return Reply::NoSuch;
+        };
+        self.set(dst, op.apply(a, b, c).into())
+    }
+
+    /// A shift of the lanes of a vector.
+    pub(crate) fn shift(&mut self, op: ShiftOp, dst: u8, a: u8, amount: u32) -> Reply
+        ensures { TakesRegister dst (of_one (λ v. shifted_vector op v amount) (vector_at self.old.values a)) self.old.values result self.new.values }
+    {
+        let Some(a) = self.vector(a) else {
+            return Reply::NoSuch;
+        };
+        self.set(dst, op.apply(a, amount).into())
+    }
+
+    /// A test of a vector.
+    pub(crate) fn test(&self, op: TestOp, a: u8) -> Reply
+        ensures { result ≡ raw_reply (option_map (tested_raw op) (vector_at self.now.values a)) }
+    {
+        match self.vector(a) {
+            Some(a) => Reply::Value(op.apply(a)),
+            None => Reply::NoSuch,
+        }
+    }
+
+    /// A lane of a vector.
+    pub(crate) fn extract(&self, op: ExtractOp, a: u8) -> Reply
+        ensures { result ≡ raw_reply (option_map (extracted_raw op) (vector_at self.now.values a)) }
+    {
+        match self.vector(a) {
+            Some(a) => Reply::Value(op.apply(a)),
+            None => Reply::NoSuch,
+        }
+    }
+
+    /// A vector with an item in a lane.
+    pub(crate) fn replace(&mut self, op: ReplaceOp, dst: u8, a: u8, item: u8) -> Reply
+        ensures { TakesRegister dst (option_and_then (λ raw. of_one (λ v. replaced_vector op v raw) (vector_at self.old.values a)) (slice_get self.old.values item)) self.old.values result self.new.values }
+    {
+        let (Some(a), Some(item)) = (self.vector(a), self.get(item)) else {
+            return Reply::NoSuch;
+        };
+        self.set(dst, op.apply(a, item).into())
+    }
+
+    /// Bytes of two vectors.
+    pub(crate) fn shuffle(&mut self, dst: u8, a: u8, b: u8, lanes: [ImmLaneIdx32; 16]) -> Reply
+        ensures { TakesRegister dst (of_two (λ x y. shuffle x y lanes) (vector_at self.old.values a) (vector_at self.old.values b)) self.old.values result self.new.values }
+    {
+        let (Some(a), Some(b)) = (self.vector(a), self.vector(b)) else {
+            return Reply::NoSuch;
+        };
+        self.set(dst, i8x16_shuffle(a, b, lanes).into())
+    }
+
+    /// Loads a vector from a memory.
+    pub(crate) fn load(
+        &mut self,
+        op: VectorLoadOp,
+        dst: u8,
+        memory: &[u8],
+        ptr: u64,
+        offset: u64,
+    ) -> Reply
+        ensures { TakesRegister dst (Some (as_raw raw_of_vector (loaded_vector op memory.now (ptr + offset)))) self.old.values result self.new.values }
+    {
+        self.set_loaded(dst, op.load(memory, ptr, offset))
+    }
+
+    /// Loads a lane of a vector from a memory.
+    pub(crate) fn load_lane(
+        &mut self,
+        op: LoadLaneOp,
+        dst: u8,
+        vector: V128,
+        memory: &[u8],
+        ptr: u64,
+        offset: u64,
+    ) -> Reply
+        ensures { TakesRegister dst (Some (as_raw raw_of_vector (loaded_lane op vector memory.now (ptr + offset)))) self.old.values result self.new.values }
+    {
+        self.set_loaded(dst, op.load(memory, ptr, offset, vector))
+    }
+}

@@ -1,0 +1,74 @@
+//! Commands that load a vector or a lane from a memory, or store it there.
+ghost use Rattle.std.specs.Prelude.{codes};
+ghost use Rattle.wasmi_script.specs.Acceptance.{Accepts};
+ghost use Rattle.wasmi_script.specs.Commands.{NamesAfter};
+
+use super::super::line::LineError;
+use super::super::names::lane::{load_lane_op, store_lane_op};
+use super::super::names::load_op;
+use super::super::number::number;
+use wasmi_core::Call;
+
+/// `vload NAME D K PTR OFFSET`.
+pub fn load(operands: &[&str]) -> Result<Call, LineError>
+    ensures { Accepts result (NamesAfter (codes "vload") operands.now) }
+{
+    let [name, dst, memory, ptr, offset] = operands else {
+        return Err(LineError::BadCommand);
+    };
+    Ok(Call::VectorLoad {
+        op: load_op(name)?,
+        dst: number(dst)?,
+        memory: number(memory)?,
+        ptr: number(ptr)?,
+        offset: number(offset)?,
+    })
+}
+
+/// `vloadlane NAME D A LANE K PTR OFFSET`.
+pub fn load_lane(operands: &[&str]) -> Result<Call, LineError>
+    ensures { Accepts result (NamesAfter (codes "vloadlane") operands.now) }
+{
+    let [name, dst, a, lane, memory, ptr, offset] = operands else {
+        return Err(LineError::BadCommand);
+    };
+    Ok(Call::LoadLane {
+        op: load_lane_op(name, lane)?,
+        dst: number(dst)?,
+        a: number(a)?,
+        memory: number(memory)?,
+        ptr: number(ptr)?,
+        offset: number(offset)?,
+    })
+}
+
+/// `vstore A K PTR OFFSET`.
+pub fn store(operands: &[&str]) -> Result<Call, LineError>
+    ensures { Accepts result (NamesAfter (codes "vstore") operands.now) }
+{
+    let [a, memory, ptr, offset] = operands else {
+        return Err(LineError::BadCommand);
+    };
+    Ok(Call::VectorStore {
+        a: number(a)?,
+        memory: number(memory)?,
+        ptr: number(ptr)?,
+        offset: number(offset)?,
+    })
+}
+
+/// `vstorelane NAME A LANE K PTR OFFSET`.
+pub fn store_lane(operands: &[&str]) -> Result<Call, LineError>
+    ensures { Accepts result (NamesAfter (codes "vstorelane") operands.now) }
+{
+    let [name, a, lane, memory, ptr, offset] = operands else {
+        return Err(LineError::BadCommand);
+    };
+    Ok(Call::StoreLane {
+        op: store_lane_op(name, lane)?,
+        a: number(a)?,
+        memory: number(memory)?,
+        ptr: number(ptr)?,
+        offset: number(offset)?,
+    })
+}

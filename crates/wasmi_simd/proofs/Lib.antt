@@ -1,0 +1,3 @@
+pub mod WideningLemmas
+mod Halves
+mod Neighbours

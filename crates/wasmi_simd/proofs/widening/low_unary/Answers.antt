@@ -1,0 +1,27 @@
+use Rattle.std.proofs.Common.{◌≡◌, ◌+◌, ◌*◌, ◌<◌, ◌∙◌, ap, arith}
+use Rattle.wasmi_lanes.specs.Lane.{lane}
+use Rattle.wasmi_lanes.proofs.Vectors.{items_make_vector, item_fits}
+use Rattle.wasmi_simd.specs.Widening.{half_unary}
+use Rattle.wasmi_simd.proofs.widening.low_unary.Goals as goal
+
+pub returns : goal.returns
+unfolding half_unary
+returns g c =
+    let s = g.S.Lanes in
+    let l = g.L.Lanes in
+    let narrow = g.S.Item.LaneInteger in
+    let wide = g.L.Item.LaneInteger in
+    let twice : s.LANES ≡ 2 * l.LANES = g.met.S.FromWide.twice in
+    let x = s.item c.from_v128.result in
+    let z = l.item c.low_unary.result in
+    record {
+      lanes = λ row rows.
+          items_make_vector wide l.LANES z c.into_v128.result _ g.met.L.Lanes.filled c.into_v128.ensures.lanes c.into_v128.ensures.in_range
+          (λ i h fits.
+          let inside : i < s.LANES = omega arith in
+          let at : i ≡ 0 + i = omega arith in
+          let is = c.from_v128.ensures.lanes i inside in
+          rows (x i) (z i) (item_fits narrow c.args.v i (x i) is) fits (c.low_unary.ensures.lanes i h)
+          ∙ ap row is
+          ∙ ap (λ k. row (narrow.read (lane narrow.width c.args.v k))) at);
+    }

@@ -1,0 +1,107 @@
+-- The vector instructions of the WebAssembly core specification (section "Numerics", "Vector Operations") that change the
+-- width of lanes, shift lanes or test them, and the relaxed ones with the choice made here: what each gives, over whole
+-- numbers. A vector is a number below 2 ^ 128, and each lane's number is read as it is (`unsigned`) or as a signed number
+-- (`signed w`). A lane is computed without bounds, then wrapped or clamped.
+use Rattle.std.specs.Prelude.{ℕ, ◌+◌, ◌-◌, ◌*◌, ◌/◌, ◌%◌, ◌^◌, Bool, not, nat_eq, nat_le, ◌+ℤ◌, ◌*ℤ◌}
+use Rattle.std.specs.Int.{int_shr}
+use Rattle.wasmi_types.specs.Wrapping.{Width, w8, w16, w32, bits, signed, wrap, clamp_signed, clamp_unsigned}
+use Rattle.wasmi_lanes.specs.Lane.{unsigned}
+use Rattle.wasmi_lanes.specs.Vector.{unary_of_lanes, with_lane}
+use Rattle.wasmi_lanewise.specs.VectorTable.{add, swizzle, v128_bitselect, q15mulr_sat_s}
+use Rattle.wasmi_simd.specs.Widening.{lane_count, half_unary, half_binary, pairwise_unary, pairwise_binary, from_low_high, every_lane, lane_bits}
+
+-- ---- widening: each takes the narrow width, then the wide one
+
+abbrev pub extend_low_s : Width → Width → ℕ → ℕ
+extend_low_s narrow wide = half_unary narrow wide 0 (signed narrow) (wrap wide)
+
+abbrev pub extend_low_u : Width → Width → ℕ → ℕ
+extend_low_u narrow wide = half_unary narrow wide 0 unsigned (λ x. x)
+
+abbrev pub extend_high_s : Width → Width → ℕ → ℕ
+extend_high_s narrow wide = half_unary narrow wide (lane_count wide) (signed narrow) (wrap wide)
+
+abbrev pub extend_high_u : Width → Width → ℕ → ℕ
+extend_high_u narrow wide = half_unary narrow wide (lane_count wide) unsigned (λ x. x)
+
+abbrev pub extmul_low_s : Width → Width → ℕ → ℕ → ℕ
+extmul_low_s narrow wide = half_binary narrow wide 0 (signed narrow) (λ x y. wrap wide (x *ℤ y))
+
+abbrev pub extmul_low_u : Width → Width → ℕ → ℕ → ℕ
+extmul_low_u narrow wide = half_binary narrow wide 0 unsigned (λ x y. x * y)
+
+abbrev pub extmul_high_s : Width → Width → ℕ → ℕ → ℕ
+extmul_high_s narrow wide = half_binary narrow wide (lane_count wide) (signed narrow) (λ x y. wrap wide (x *ℤ y))
+
+abbrev pub extmul_high_u : Width → Width → ℕ → ℕ → ℕ
+extmul_high_u narrow wide = half_binary narrow wide (lane_count wide) unsigned (λ x y. x * y)
+
+abbrev pub extadd_pairwise_s : Width → Width → ℕ → ℕ
+extadd_pairwise_s narrow wide = pairwise_unary narrow wide (signed narrow) (λ x y. wrap wide (x +ℤ y))
+
+abbrev pub extadd_pairwise_u : Width → Width → ℕ → ℕ
+extadd_pairwise_u narrow wide = pairwise_unary narrow wide unsigned (λ x y. x + y)
+
+-- modulo 2 ^ wide
+abbrev pub dot_s : Width → Width → ℕ → ℕ → ℕ
+dot_s narrow wide = pairwise_binary narrow wide (signed narrow) (λ x x' y y'. wrap wide ((x *ℤ y) +ℤ (x' *ℤ y')))
+
+-- the narrow lanes of a number of 64 bits, extended
+abbrev pub widen_s : Width → Width → ℕ → ℕ
+widen_s narrow wide number = extend_low_s narrow wide number
+
+abbrev pub widen_u : Width → Width → ℕ → ℕ
+widen_u narrow wide number = extend_low_u narrow wide number
+
+-- the number in lane 0, and 0 in the others
+abbrev pub low_zero : Width → ℕ → ℕ
+low_zero w number = with_lane w 0 0 number
+
+-- ---- narrowing: each takes the wide width, then the narrow one, and reads signed lanes
+
+abbrev pub narrow_s : Width → Width → ℕ → ℕ → ℕ
+narrow_s wide narrow = from_low_high wide narrow (signed wide) (λ x. wrap narrow (clamp_signed narrow x))
+
+abbrev pub narrow_u : Width → Width → ℕ → ℕ → ℕ
+narrow_u wide narrow = from_low_high wide narrow (signed wide) (clamp_unsigned narrow)
+
+-- ---- shifts, by an amount modulo the width
+
+abbrev pub shl : Width → ℕ → ℕ → ℕ
+shl w v amount = unary_of_lanes w unsigned (λ x. (x * 2 ^ (amount % bits w)) % 2 ^ bits w) v
+
+abbrev pub shr_s : Width → ℕ → ℕ → ℕ
+shr_s w v amount = unary_of_lanes w (signed w) (λ x. wrap w (int_shr x (amount % bits w))) v
+
+abbrev pub shr_u : Width → ℕ → ℕ → ℕ
+shr_u w v amount = unary_of_lanes w unsigned (λ x. x / 2 ^ (amount % bits w)) v
+
+-- ---- tests
+
+abbrev pub all_true : Width → ℕ → Bool
+all_true w = every_lane w unsigned (λ x. not (nat_eq x 0))
+
+abbrev pub any_true : ℕ → Bool
+any_true v = not (nat_eq v 0)
+
+-- bit i is the highest bit of lane i
+abbrev pub bitmask : Width → ℕ → ℕ
+bitmask w = lane_bits w unsigned (λ x. nat_le (2 ^ (bits w - 1)) x)
+
+-- ---- relaxed instructions, each with one of the answers that the standard allows
+
+abbrev pub relaxed_swizzle : ℕ → ℕ → ℕ
+relaxed_swizzle a s = swizzle a s
+
+abbrev pub relaxed_laneselect : ℕ → ℕ → ℕ → ℕ
+relaxed_laneselect a b c = v128_bitselect a b c
+
+abbrev pub relaxed_q15mulr_s : ℕ → ℕ → ℕ
+relaxed_q15mulr_s a b = q15mulr_sat_s a b
+
+-- both operands are read signed, and the sums are modulo 2 ^ 16
+abbrev pub relaxed_dot_s : ℕ → ℕ → ℕ
+relaxed_dot_s a b = dot_s w8 w16 a b
+
+abbrev pub relaxed_dot_add_s : ℕ → ℕ → ℕ → ℕ
+relaxed_dot_add_s a b c = add w32 (extadd_pairwise_s w16 w32 (relaxed_dot_s a b)) c

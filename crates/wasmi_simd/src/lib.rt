@@ -1,0 +1,6 @@
+//! The vector instructions of WebAssembly that widen, narrow, shift or test lanes, and the relaxed
+//! ones.
+#![tactic(auto)]
+
+pub mod simd;
+mod widening;

@@ -1,0 +1,187 @@
+//! Lanes extended to twice their width.
+
+ghost use Rattle.std.specs.Prelude.{◌≡◌};
+ghost use Rattle.wasmi_types.specs.Wrapping.{w8, w16, w32, w64};
+ghost use Rattle.wasmi_simd.specs.WideningTable as vector;
+
+use super::halves::{high_bytes, high_eighths, low_bytes, low_eighths};
+use super::vectors::{from_eighths, from_quarters};
+use crate::widening::{high_unary, low_unary};
+use wasmi_lanes::{I8x16, I16x8, I32x4, I64x2, U32x4, U64x2};
+use wasmi_raw::V128;
+
+/// The lanes of the lower half, read signed.
+#[inline]
+pub fn i16x8_extend_low_i8x16_s(v: V128) -> V128
+    ensures { result ≡ vector.extend_low_s w8 w16 v }
+{
+    low_unary::<I8x16, I16x8, _>(v, |x| i16::from(x))
+}
+
+/// The lanes of the lower half, read unsigned.
+#[inline]
+pub fn i16x8_extend_low_i8x16_u(v: V128) -> V128
+    ensures { result ≡ vector.extend_low_u w8 w16 v }
+{
+    from_eighths(low_bytes(v))
+}
+
+/// The lanes of the upper half, read signed.
+#[inline]
+pub fn i16x8_extend_high_i8x16_s(v: V128) -> V128
+    ensures { result ≡ vector.extend_high_s w8 w16 v }
+{
+    high_unary::<I8x16, I16x8, _>(v, |x| i16::from(x))
+}
+
+/// The lanes of the upper half, read unsigned.
+#[inline]
+pub fn i16x8_extend_high_i8x16_u(v: V128) -> V128
+    ensures { result ≡ vector.extend_high_u w8 w16 v }
+{
+    from_eighths(high_bytes(v))
+}
+
+/// The lanes of the lower half, read signed.
+#[inline]
+pub fn i32x4_extend_low_i16x8_s(v: V128) -> V128
+    ensures { result ≡ vector.extend_low_s w16 w32 v }
+{
+    low_unary::<I16x8, I32x4, _>(v, |x| i32::from(x))
+}
+
+/// The lanes of the lower half, read unsigned.
+#[inline]
+pub fn i32x4_extend_low_i16x8_u(v: V128) -> V128
+    ensures { result ≡ vector.extend_low_u w16 w32 v }
+{
+    from_quarters(low_eighths(v))
+}
+
+/// The lanes of the upper half, read signed.
+#[inline]
+pub fn i32x4_extend_high_i16x8_s(v: V128) -> V128
+    ensures { result ≡ vector.extend_high_s w16 w32 v }
+{
+    high_unary::<I16x8, I32x4, _>(v, |x| i32::from(x))
+}
+
+/// The lanes of the upper half, read unsigned.
+#[inline]
+pub fn i32x4_extend_high_i16x8_u(v: V128) -> V128
+    ensures { result ≡ vector.extend_high_u w16 w32 v }
+{
+    from_quarters(high_eighths(v))
+}
+
+/// The lanes of the lower half, read signed.
+#[inline]
+pub fn i64x2_extend_low_i32x4_s(v: V128) -> V128
+    ensures { result ≡ vector.extend_low_s w32 w64 v }
+{
+    low_unary::<I32x4, I64x2, _>(v, |x| i64::from(x))
+}
+
+/// The lanes of the lower half, read unsigned.
+#[inline]
+pub fn i64x2_extend_low_i32x4_u(v: V128) -> V128
+    ensures { result ≡ vector.extend_low_u w32 w64 v }
+{
+    low_unary::<U32x4, U64x2, _>(v, |x| u64::from(x))
+}
+
+/// The lanes of the upper half, read signed.
+#[inline]
+pub fn i64x2_extend_high_i32x4_s(v: V128) -> V128
+    ensures { result ≡ vector.extend_high_s w32 w64 v }
+{
+    high_unary::<I32x4, I64x2, _>(v, |x| i64::from(x))
+}
+
+/// The lanes of the upper half, read unsigned.
+#[inline]
+pub fn i64x2_extend_high_i32x4_u(v: V128) -> V128
+    ensures { result ≡ vector.extend_high_u w32 w64 v }
+{
+    high_unary::<U32x4, U64x2, _>(v, |x| u64::from(x))
+}
+
+/// The 8 lanes of 8 bits of a number, read signed, lane 0 the lowest.
+///
+/// What the extending load `v128.load8x8_s` makes of the number that it reads. Upstream's own.
+#[inline]
+pub fn v128_widen8x8_s(number: u64) -> V128
+    ensures { result ≡ vector.widen_s w8 w16 number }
+{
+    i16x8_extend_low_i8x16_s(V128::from_words(number, 0))
+}
+
+/// The 8 lanes of 8 bits of a number, read unsigned, lane 0 the lowest.
+///
+/// What the extending load `v128.load8x8_u` makes of the number that it reads. Upstream's own.
+#[inline]
+pub fn v128_widen8x8_u(number: u64) -> V128
+    ensures { result ≡ vector.widen_u w8 w16 number }
+{
+    i16x8_extend_low_i8x16_u(V128::from_words(number, 0))
+}
+
+/// The 4 lanes of 16 bits of a number, read signed, lane 0 the lowest.
+///
+/// What the extending load `v128.load16x4_s` makes of the number that it reads. Upstream's own.
+#[inline]
+pub fn v128_widen16x4_s(number: u64) -> V128
+    ensures { result ≡ vector.widen_s w16 w32 number }
+{
+    i32x4_extend_low_i16x8_s(V128::from_words(number, 0))
+}
+
+/// The 4 lanes of 16 bits of a number, read unsigned, lane 0 the lowest.
+///
+/// What the extending load `v128.load16x4_u` makes of the number that it reads. Upstream's own.
+#[inline]
+pub fn v128_widen16x4_u(number: u64) -> V128
+    ensures { result ≡ vector.widen_u w16 w32 number }
+{
+    i32x4_extend_low_i16x8_u(V128::from_words(number, 0))
+}
+
+/// The 2 lanes of 32 bits of a number, read signed, lane 0 the lowest.
+///
+/// What the extending load `v128.load32x2_s` makes of the number that it reads. Upstream's own.
+#[inline]
+pub fn v128_widen32x2_s(number: u64) -> V128
+    ensures { result ≡ vector.widen_s w32 w64 number }
+{
+    i64x2_extend_low_i32x4_s(V128::from_words(number, 0))
+}
+
+/// The 2 lanes of 32 bits of a number, read unsigned, lane 0 the lowest.
+///
+/// What the extending load `v128.load32x2_u` makes of the number that it reads. Upstream's own.
+#[inline]
+pub fn v128_widen32x2_u(number: u64) -> V128
+    ensures { result ≡ vector.widen_u w32 w64 number }
+{
+    i64x2_extend_low_i32x4_u(V128::from_words(number, 0))
+}
+
+/// The number in lane 0, and 0 in the others.
+///
+/// What `v128.load32_zero` makes of the number that it reads. Upstream's own.
+#[inline]
+pub fn v128_low32_zero(number: u32) -> V128
+    ensures { result ≡ vector.low_zero w32 number }
+{
+    V128::from_words(u64::from(number), 0)
+}
+
+/// The number in lane 0, and 0 in the others.
+///
+/// What `v128.load64_zero` makes of the number that it reads. Upstream's own.
+#[inline]
+pub fn v128_low64_zero(number: u64) -> V128
+    ensures { result ≡ vector.low_zero w64 number }
+{
+    V128::from_words(number, 0)
+}

@@ -1,0 +1,130 @@
+//! Products of lanes, of twice their width.
+
+ghost use Rattle.std.specs.Prelude.{◌≡◌, ◌*◌, ◌*ℤ◌};
+ghost use Rattle.wasmi_types.specs.Wrapping.{w8, w16, w32, w64};
+ghost use Rattle.wasmi_simd.specs.WideningTable as vector;
+
+use super::halves::{
+    high_bytes, high_eighths, high_eighths_signed, low_bytes, low_eighths, low_eighths_signed,
+};
+use super::vectors::{from_eighths, from_quarters, product_of_eighths, product_of_quarters};
+use crate::widening::{high_binary, low_binary};
+use wasmi_lanes::{I8x16, I16x8, I32x4, I64x2, U32x4, U64x2};
+use wasmi_raw::V128;
+
+/// The products of the lanes of the lower halves, read signed.
+#[inline]
+pub fn i16x8_extmul_low_i8x16_s(lhs: V128, rhs: V128) -> V128
+    ensures { result ≡ vector.extmul_low_s w8 w16 lhs rhs }
+{
+    low_binary::<I8x16, I16x8, _>(lhs, rhs, |x, y| product_i8(x, y))
+}
+
+/// The products of the lanes of the lower halves, read unsigned.
+#[inline]
+pub fn i16x8_extmul_low_i8x16_u(lhs: V128, rhs: V128) -> V128
+    ensures { result ≡ vector.extmul_low_u w8 w16 lhs rhs }
+{
+    from_eighths(product_of_eighths(low_bytes(lhs), low_bytes(rhs)))
+}
+
+/// The products of the lanes of the upper halves, read signed.
+#[inline]
+pub fn i16x8_extmul_high_i8x16_s(lhs: V128, rhs: V128) -> V128
+    ensures { result ≡ vector.extmul_high_s w8 w16 lhs rhs }
+{
+    high_binary::<I8x16, I16x8, _>(lhs, rhs, |x, y| product_i8(x, y))
+}
+
+/// The products of the lanes of the upper halves, read unsigned.
+#[inline]
+pub fn i16x8_extmul_high_i8x16_u(lhs: V128, rhs: V128) -> V128
+    ensures { result ≡ vector.extmul_high_u w8 w16 lhs rhs }
+{
+    from_eighths(product_of_eighths(high_bytes(lhs), high_bytes(rhs)))
+}
+
+/// The products of the lanes of the lower halves, read signed.
+#[inline]
+pub fn i32x4_extmul_low_i16x8_s(lhs: V128, rhs: V128) -> V128
+    ensures { result ≡ vector.extmul_low_s w16 w32 lhs rhs }
+{
+    from_quarters(product_of_quarters(low_eighths_signed(lhs), low_eighths_signed(rhs)))
+}
+
+/// The products of the lanes of the lower halves, read unsigned.
+#[inline]
+pub fn i32x4_extmul_low_i16x8_u(lhs: V128, rhs: V128) -> V128
+    ensures { result ≡ vector.extmul_low_u w16 w32 lhs rhs }
+{
+    from_quarters(product_of_quarters(low_eighths(lhs), low_eighths(rhs)))
+}
+
+/// The products of the lanes of the upper halves, read signed.
+#[inline]
+pub fn i32x4_extmul_high_i16x8_s(lhs: V128, rhs: V128) -> V128
+    ensures { result ≡ vector.extmul_high_s w16 w32 lhs rhs }
+{
+    from_quarters(product_of_quarters(high_eighths_signed(lhs), high_eighths_signed(rhs)))
+}
+
+/// The products of the lanes of the upper halves, read unsigned.
+#[inline]
+pub fn i32x4_extmul_high_i16x8_u(lhs: V128, rhs: V128) -> V128
+    ensures { result ≡ vector.extmul_high_u w16 w32 lhs rhs }
+{
+    from_quarters(product_of_quarters(high_eighths(lhs), high_eighths(rhs)))
+}
+
+/// The products of the lanes of the lower halves, read signed.
+#[inline]
+pub fn i64x2_extmul_low_i32x4_s(lhs: V128, rhs: V128) -> V128
+    ensures { result ≡ vector.extmul_low_s w32 w64 lhs rhs }
+{
+    low_binary::<I32x4, I64x2, _>(lhs, rhs, |x, y| product_i32(x, y))
+}
+
+/// The products of the lanes of the lower halves, read unsigned.
+#[inline]
+pub fn i64x2_extmul_low_i32x4_u(lhs: V128, rhs: V128) -> V128
+    ensures { result ≡ vector.extmul_low_u w32 w64 lhs rhs }
+{
+    low_binary::<U32x4, U64x2, _>(lhs, rhs, |x, y| product_u32(x, y))
+}
+
+/// The products of the lanes of the upper halves, read signed.
+#[inline]
+pub fn i64x2_extmul_high_i32x4_s(lhs: V128, rhs: V128) -> V128
+    ensures { result ≡ vector.extmul_high_s w32 w64 lhs rhs }
+{
+    high_binary::<I32x4, I64x2, _>(lhs, rhs, |x, y| product_i32(x, y))
+}
+
+/// The products of the lanes of the upper halves, read unsigned.
+#[inline]
+pub fn i64x2_extmul_high_i32x4_u(lhs: V128, rhs: V128) -> V128
+    ensures { result ≡ vector.extmul_high_u w32 w64 lhs rhs }
+{
+    high_binary::<U32x4, U64x2, _>(lhs, rhs, |x, y| product_u32(x, y))
+}
+
+#[inline]
+fn product_i8(x: i8, y: i8) -> i16
+    ensures { result ≡ x *ℤ y }
+{
+    i16::from(x) * i16::from(y)
+}
+
+#[inline]
+fn product_i32(x: i32, y: i32) -> i64
+    ensures { result ≡ x *ℤ y }
+{
+    i64::from(x) * i64::from(y)
+}
+
+#[inline]
+fn product_u32(x: u32, y: u32) -> u64
+    ensures { result ≡ x * y }
+{
+    u64::from(x) * u64::from(y)
+}

@@ -1,0 +1,62 @@
+//! The lanes of half a vector at twice their width, as `std::simd` vectors: LLVM takes plain lanes
+//! out one by one.
+
+ghost use Rattle.std.specs.Prelude.{◌≡◌, ℕ, ◌+◌, ◌<◌, slice_index};
+ghost use Rattle.std.specs.Int.{cast_unsigned};
+ghost use Rattle.wasmi_types.specs.Wrapping.{w8, w16, w32, signed};
+ghost use Rattle.wasmi_lanes.specs.Lane.{lane};
+
+use super::vectors::{eighths_of, signed_eighths_of};
+use std::simd::prelude::*;
+use wasmi_lanes::bytes_of;
+use wasmi_raw::V128;
+
+/// The lower 8 lanes of 8 bits.
+#[inline(always)]
+pub(super) fn low_bytes(v: V128) -> u16x8
+    ensures lanes { (i : ℕ) → i < 8 → slice_index result i ≡ lane w8 v i }
+{
+    bytes_of(v).extract::<0, 8>().cast::<u16>()
+}
+
+/// The upper 8 lanes of 8 bits.
+#[inline(always)]
+pub(super) fn high_bytes(v: V128) -> u16x8
+    ensures lanes { (i : ℕ) → i < 8 → slice_index result i ≡ lane w8 v (8 + i) }
+{
+    bytes_of(v).extract::<8, 8>().cast::<u16>()
+}
+
+/// The lower 4 lanes of 16 bits.
+#[inline(always)]
+pub(super) fn low_eighths(v: V128) -> u32x4
+    ensures lanes { (i : ℕ) → i < 4 → slice_index result i ≡ lane w16 v i }
+{
+    eighths_of(v).extract::<0, 4>().cast::<u32>()
+}
+
+/// The upper 4 lanes of 16 bits.
+#[inline(always)]
+pub(super) fn high_eighths(v: V128) -> u32x4
+    ensures lanes { (i : ℕ) → i < 4 → slice_index result i ≡ lane w16 v (4 + i) }
+{
+    eighths_of(v).extract::<4, 4>().cast::<u32>()
+}
+
+/// The lower 4 lanes of 16 bits, the sign copied.
+#[inline(always)]
+pub(super) fn low_eighths_signed(v: V128) -> u32x4
+    ensures lanes { (i : ℕ) → i < 4 → slice_index result i ≡ cast_unsigned w32 (signed w16 (lane w16 v i)) }
+{
+    let items = signed_eighths_of(v).extract::<0, 4>().cast::<i32>();
+    u32x4::from_le_bytes(items.to_le_bytes())
+}
+
+/// The upper 4 lanes of 16 bits, the sign copied.
+#[inline(always)]
+pub(super) fn high_eighths_signed(v: V128) -> u32x4
+    ensures lanes { (i : ℕ) → i < 4 → slice_index result i ≡ cast_unsigned w32 (signed w16 (lane w16 v (4 + i))) }
+{
+    let items = signed_eighths_of(v).extract::<4, 4>().cast::<i32>();
+    u32x4::from_le_bytes(items.to_le_bytes())
+}

@@ -1,0 +1,44 @@
+//! Lanes narrowed to half of their width.
+
+ghost use Rattle.std.specs.Prelude.{◌≡◌};
+ghost use Rattle.wasmi_types.specs.Wrapping.{w8, w16, w32};
+ghost use Rattle.wasmi_simd.specs.WideningTable as vector;
+
+use crate::widening::from_low_high;
+use wasmi_lanes::{I8x16, I16x8, I32x4};
+use wasmi_raw::V128;
+
+/// The lanes of `low`, then those of `high`, read signed and clamped to the signed range of 8 bits.
+#[inline]
+pub fn i8x16_narrow_i16x8_s(low: V128, high: V128) -> V128
+    ensures { result ≡ vector.narrow_s w16 w8 low high }
+{
+    from_low_high::<I16x8, I8x16, _>(low, high, |x| x.clamp(-128, 127) as i8)
+}
+
+/// The lanes of `low`, then those of `high`, read signed and clamped to the unsigned range of 8
+/// bits.
+#[inline]
+pub fn i8x16_narrow_i16x8_u(low: V128, high: V128) -> V128
+    ensures { result ≡ vector.narrow_u w16 w8 low high }
+{
+    from_low_high::<I16x8, I8x16, _>(low, high, |x| (x.clamp(0, 255) as u8).cast_signed())
+}
+
+/// The lanes of `low`, then those of `high`, read signed and clamped to the signed range of 16
+/// bits.
+#[inline]
+pub fn i16x8_narrow_i32x4_s(low: V128, high: V128) -> V128
+    ensures { result ≡ vector.narrow_s w32 w16 low high }
+{
+    from_low_high::<I32x4, I16x8, _>(low, high, |x| x.clamp(-32768, 32767) as i16)
+}
+
+/// The lanes of `low`, then those of `high`, read signed and clamped to the unsigned range of 16
+/// bits.
+#[inline]
+pub fn i16x8_narrow_i32x4_u(low: V128, high: V128) -> V128
+    ensures { result ≡ vector.narrow_u w32 w16 low high }
+{
+    from_low_high::<I32x4, I16x8, _>(low, high, |x| (x.clamp(0, 65535) as u16).cast_signed())
+}

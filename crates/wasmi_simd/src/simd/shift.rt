@@ -1,0 +1,104 @@
+//! Shifts of lanes, by an amount modulo their width.
+
+ghost use Rattle.std.specs.Prelude.{◌≡◌};
+ghost use Rattle.wasmi_types.specs.Wrapping.{w8, w16, w32, w64};
+ghost use Rattle.wasmi_simd.specs.WideningTable as vector;
+
+use wasmi_lanes::{I8x16, I16x8, I32x4, I64x2, U8x16, U16x8, U32x4, U64x2, on_vectors};
+use wasmi_raw::V128;
+
+/// The lanes shifted to the left, the bits above each lane dropped. `amount` is taken modulo 8.
+#[inline]
+pub fn i8x16_shl(v: V128, amount: u32) -> V128
+    ensures { result ≡ vector.shl w8 v amount }
+{
+    on_vectors::unary::<U8x16, _>(v, |x| x.wrapping_shl(amount))
+}
+
+/// The lanes shifted to the right, the sign copied. `amount` is taken modulo 8.
+#[inline]
+pub fn i8x16_shr_s(v: V128, amount: u32) -> V128
+    ensures { result ≡ vector.shr_s w8 v amount }
+{
+    on_vectors::unary::<I8x16, _>(v, |x| x.wrapping_shr(amount))
+}
+
+/// The lanes shifted to the right, with zeros. `amount` is taken modulo 8.
+#[inline]
+pub fn i8x16_shr_u(v: V128, amount: u32) -> V128
+    ensures { result ≡ vector.shr_u w8 v amount }
+{
+    on_vectors::unary::<U8x16, _>(v, |x| x.wrapping_shr(amount))
+}
+
+/// The lanes shifted to the left, the bits above each lane dropped. `amount` is taken modulo 16.
+#[inline]
+pub fn i16x8_shl(v: V128, amount: u32) -> V128
+    ensures { result ≡ vector.shl w16 v amount }
+{
+    on_vectors::unary::<U16x8, _>(v, |x| x.wrapping_shl(amount))
+}
+
+/// The lanes shifted to the right, the sign copied. `amount` is taken modulo 16.
+#[inline]
+pub fn i16x8_shr_s(v: V128, amount: u32) -> V128
+    ensures { result ≡ vector.shr_s w16 v amount }
+{
+    on_vectors::unary::<I16x8, _>(v, |x| x.wrapping_shr(amount))
+}
+
+/// The lanes shifted to the right, with zeros. `amount` is taken modulo 16.
+#[inline]
+pub fn i16x8_shr_u(v: V128, amount: u32) -> V128
+    ensures { result ≡ vector.shr_u w16 v amount }
+{
+    on_vectors::unary::<U16x8, _>(v, |x| x.wrapping_shr(amount))
+}
+
+/// The lanes shifted to the left, the bits above each lane dropped. `amount` is taken modulo 32.
+#[inline]
+pub fn i32x4_shl(v: V128, amount: u32) -> V128
+    ensures { result ≡ vector.shl w32 v amount }
+{
+    on_vectors::unary::<U32x4, _>(v, |x| x.wrapping_shl(amount))
+}
+
+/// The lanes shifted to the right, the sign copied. `amount` is taken modulo 32.
+#[inline]
+pub fn i32x4_shr_s(v: V128, amount: u32) -> V128
+    ensures { result ≡ vector.shr_s w32 v amount }
+{
+    on_vectors::unary::<I32x4, _>(v, |x| x.wrapping_shr(amount))
+}
+
+/// The lanes shifted to the right, with zeros. `amount` is taken modulo 32.
+#[inline]
+pub fn i32x4_shr_u(v: V128, amount: u32) -> V128
+    ensures { result ≡ vector.shr_u w32 v amount }
+{
+    on_vectors::unary::<U32x4, _>(v, |x| x.wrapping_shr(amount))
+}
+
+/// The lanes shifted to the left, the bits above each lane dropped. `amount` is taken modulo 64.
+#[inline]
+pub fn i64x2_shl(v: V128, amount: u32) -> V128
+    ensures { result ≡ vector.shl w64 v amount }
+{
+    on_vectors::unary::<U64x2, _>(v, |x| x.wrapping_shl(amount))
+}
+
+/// The lanes shifted to the right, the sign copied. `amount` is taken modulo 64.
+#[inline]
+pub fn i64x2_shr_s(v: V128, amount: u32) -> V128
+    ensures { result ≡ vector.shr_s w64 v amount }
+{
+    on_vectors::unary::<I64x2, _>(v, |x| x.wrapping_shr(amount))
+}
+
+/// The lanes shifted to the right, with zeros. `amount` is taken modulo 64.
+#[inline]
+pub fn i64x2_shr_u(v: V128, amount: u32) -> V128
+    ensures { result ≡ vector.shr_u w64 v amount }
+{
+    on_vectors::unary::<U64x2, _>(v, |x| x.wrapping_shr(amount))
+}

@@ -1,0 +1,44 @@
+//! Copies of a part of a list over another part of it.
+ghost use Rattle.std.specs.Prelude.{◌≡◌, ◌+◌, ◌≤◌, ◌++◌, length, take, drop, Some};
+ghost use Rattle.wasmi_types.specs.Access.{overwrite};
+
+use wasmi_raw::RawRef;
+
+/// How many items are copied at once.
+const PART: usize = 4096;
+
+/// Copies so many items over others of the same list: those that move up from the last part on, so that each is read before it
+/// is written over.
+pub(super) fn copy_part_within(elements: &mut [RawRef], dst: usize, src: usize, len: usize)
+    requires dst { dst + len ≤ length elements.old }
+    requires src { src + len ≤ length elements.old }
+    ensures { overwrite elements.old dst (take len (drop src elements.old)) ≡ Some elements.new }
+{
+    if dst <= src {
+        let mut done = 0;
+        while done < len {
+            let count = PART.min(len - done);
+            copy_few_within(elements, dst + done, src + done, count);
+            done += count;
+        }
+    } else {
+        let mut left = len;
+        while 0 < left {
+            let count = PART.min(left);
+            left -= count;
+            copy_few_within(elements, dst + left, src + left, count);
+        }
+    }
+}
+
+/// Copies at most `PART` items over others of the same list. LLVM drops the buffer: the two copies become one `memmove`.
+fn copy_few_within(elements: &mut [RawRef], dst: usize, src: usize, len: usize)
+    requires few { len ≤ 4096 }
+    requires dst { dst + len ≤ length elements.old }
+    requires src { src + len ≤ length elements.old }
+    ensures { elements.new ≡ take dst elements.old ++ take len (drop src elements.old) ++ drop (dst + len) elements.old }
+{
+    let mut few = [RawRef::null(); PART];
+    few[..len].copy_from_slice(&elements[src..src + len]);
+    elements[dst..dst + len].copy_from_slice(&few[..len]);
+}

@@ -1,0 +1,110 @@
+//! Loads of 64 bits whose lanes are extended.
+
+ghost use Rattle.std.specs.Prelude.{◌≡◌, ◌+◌};
+ghost use Rattle.wasmi_types.specs.Wrapping.{w8, w16, w32, w64};
+ghost use Rattle.wasmi_access.specs.LoadStore.{loaded};
+ghost use Rattle.wasmi_simd.specs.WideningTable as vector;
+
+use wasmi_access::access::{load, load_at};
+use wasmi_raw::V128;
+use wasmi_simd::simd::{
+    v128_widen8x8_s, v128_widen8x8_u, v128_widen16x4_s, v128_widen16x4_u, v128_widen32x2_s,
+    v128_widen32x2_u,
+};
+use wasmi_types::TrapCode;
+
+/// `v128.load8x8_s`: 8 lanes of 8 bits, read signed and extended to 16.
+#[inline]
+pub fn v128_load8x8_s(memory: &[u8], ptr: u64, offset: u64) -> Result<V128, TrapCode>
+    ensures { result ≡ loaded 8 (vector.widen_s w8 w16) memory.now (ptr + offset) }
+{
+    Ok(v128_widen8x8_s(load::<u64>(memory, ptr, offset)?))
+}
+
+/// `v128.load8x8_s` at an address.
+#[inline]
+pub fn v128_load8x8_s_at(memory: &[u8], address: usize) -> Result<V128, TrapCode>
+    ensures { result ≡ loaded 8 (vector.widen_s w8 w16) memory.now address }
+{
+    Ok(v128_widen8x8_s(load_at::<u64>(memory, address)?))
+}
+
+/// `v128.load8x8_u`: 8 lanes of 8 bits, read unsigned and extended to 16.
+#[inline]
+pub fn v128_load8x8_u(memory: &[u8], ptr: u64, offset: u64) -> Result<V128, TrapCode>
+    ensures { result ≡ loaded 8 (vector.widen_u w8 w16) memory.now (ptr + offset) }
+{
+    Ok(v128_widen8x8_u(load::<u64>(memory, ptr, offset)?))
+}
+
+/// `v128.load8x8_u` at an address.
+#[inline]
+pub fn v128_load8x8_u_at(memory: &[u8], address: usize) -> Result<V128, TrapCode>
+    ensures { result ≡ loaded 8 (vector.widen_u w8 w16) memory.now address }
+{
+    Ok(v128_widen8x8_u(load_at::<u64>(memory, address)?))
+}
+
+/// `v128.load16x4_s`: 4 lanes of 16 bits, read signed and extended to 32.
+#[inline]
+pub fn v128_load16x4_s(memory: &[u8], ptr: u64, offset: u64) -> Result<V128, TrapCode>
+    ensures { result ≡ loaded 8 (vector.widen_s w16 w32) memory.now (ptr + offset) }
+{
+    Ok(v128_widen16x4_s(load::<u64>(memory, ptr, offset)?))
+}
+
+/// `v128.load16x4_s` at an address.
+#[inline]
+pub fn v128_load16x4_s_at(memory: &[u8], address: usize) -> Result<V128, TrapCode>
+    ensures { result ≡ loaded 8 (vector.widen_s w16 w32) memory.now address }
+{
+    Ok(v128_widen16x4_s(load_at::<u64>(memory, address)?))
+}
+
+/// `v128.load16x4_u`: 4 lanes of 16 bits, read unsigned and extended to 32.
+#[inline]
+pub fn v128_load16x4_u(memory: &[u8], ptr: u64, offset: u64) -> Result<V128, TrapCode>
+    ensures { result ≡ loaded 8 (vector.widen_u w16 w32) memory.now (ptr + offset) }
+{
+    Ok(v128_widen16x4_u(load::<u64>(memory, ptr, offset)?))
+}
+
+/// `v128.load16x4_u` at an address.
+#[inline]
+pub fn v128_load16x4_u_at(memory: &[u8], address: usize) -> Result<V128, TrapCode>
+    ensures { result ≡ loaded 8 (vector.widen_u w16 w32) memory.now address }
+{
+    Ok(v128_widen16x4_u(load_at::<u64>(memory, address)?))
+}
+
+/// `v128.load32x2_s`: 2 lanes of 32 bits, read signed and extended to 64.
+#[inline]
+pub fn v128_load32x2_s(memory: &[u8], ptr: u64, offset: u64) -> Result<V128, TrapCode>
+    ensures { result ≡ loaded 8 (vector.widen_s w32 w64) memory.now (ptr + offset) }
+{
+    Ok(v128_widen32x2_s(load::<u64>(memory, ptr, offset)?))
+}
+
+/// `v128.load32x2_s` at an address.
+#[inline]
+pub fn v128_load32x2_s_at(memory: &[u8], address: usize) -> Result<V128, TrapCode>
+    ensures { result ≡ loaded 8 (vector.widen_s w32 w64) memory.now address }
+{
+    Ok(v128_widen32x2_s(load_at::<u64>(memory, address)?))
+}
+
+/// `v128.load32x2_u`: 2 lanes of 32 bits, read unsigned and extended to 64.
+#[inline]
+pub fn v128_load32x2_u(memory: &[u8], ptr: u64, offset: u64) -> Result<V128, TrapCode>
+    ensures { result ≡ loaded 8 (vector.widen_u w32 w64) memory.now (ptr + offset) }
+{
+    Ok(v128_widen32x2_u(load::<u64>(memory, ptr, offset)?))
+}
+
+/// `v128.load32x2_u` at an address.
+#[inline]
+pub fn v128_load32x2_u_at(memory: &[u8], address: usize) -> Result<V128, TrapCode>
+    ensures { result ≡ loaded 8 (vector.widen_u w32 w64) memory.now address }
+{
+    Ok(v128_widen32x2_u(load_at::<u64>(memory, address)?))
+}

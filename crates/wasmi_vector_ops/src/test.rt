@@ -1,0 +1,49 @@
+//! The tests of vectors.
+ghost use Rattle.std.specs.Prelude.{◌≡◌};
+ghost use Rattle.wasmi_vector_ops.specs.TestOps.{tested_raw};
+
+use wasmi_raw::{RawVal, V128};
+use wasmi_simd::simd;
+
+/// A test of a vector, or its mask.
+#[derive(Clone, Copy, Debug, PartialEq, Eq)]
+pub enum TestOp {
+    /// `i8x16_all_true`
+    I8x16AllTrue,
+    /// `i16x8_all_true`
+    I16x8AllTrue,
+    /// `i32x4_all_true`
+    I32x4AllTrue,
+    /// `i64x2_all_true`
+    I64x2AllTrue,
+    /// `v128_any_true`
+    V128AnyTrue,
+    /// `i8x16_bitmask`
+    I8x16Bitmask,
+    /// `i16x8_bitmask`
+    I16x8Bitmask,
+    /// `i32x4_bitmask`
+    I32x4Bitmask,
+    /// `i64x2_bitmask`
+    I64x2Bitmask,
+}
+
+impl TestOp {
+    /// The truth value, as 0 or 1, or the mask.
+    #[inline]
+    pub fn apply(self, a: V128) -> RawVal
+        ensures { result ≡ tested_raw self a }
+    {
+        match self {
+            TestOp::I8x16AllTrue => simd::i8x16_all_true(a).into(),
+            TestOp::I16x8AllTrue => simd::i16x8_all_true(a).into(),
+            TestOp::I32x4AllTrue => simd::i32x4_all_true(a).into(),
+            TestOp::I64x2AllTrue => simd::i64x2_all_true(a).into(),
+            TestOp::V128AnyTrue => simd::v128_any_true(a).into(),
+            TestOp::I8x16Bitmask => simd::i8x16_bitmask(a).into(),
+            TestOp::I16x8Bitmask => simd::i16x8_bitmask(a).into(),
+            TestOp::I32x4Bitmask => simd::i32x4_bitmask(a).into(),
+            TestOp::I64x2Bitmask => simd::i64x2_bitmask(a).into(),
+        }
+    }
+}
