@@ -13,7 +13,7 @@ use Rattle.wasmi_core.specs.State.{live_at}
 use Rattle.wasmi_core.specs.TableRows.{Metered, metered, CopiesSlot, WritesTableFrom}
 
 -- what was read, written back
-set_read : {X : Type 0} (xs : List X) (k : ℕ) (y : X) → slice_get xs k ≡ Some y → set xs k y ≡ xs
+pub set_read : {X : Type 0} (xs : List X) (k : ℕ) (y : X) → slice_get xs k ≡ Some y → set xs k y ≡ xs
 set_read xs k y found = ap (set xs k) (sym (get_or_from_slice_get xs k y y found)) ∙ set-get_or xs k y
 
 module _ (write : TableValue → TableValue → TableWrite) (slots : List (Slot TableValue)) (i j : ℕ) (m : Meter) (reply : Reply) (charge : ℕ) (s' : Situation (Slot TableValue) (Unit {0})) where

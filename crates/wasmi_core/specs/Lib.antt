@@ -8,4 +8,8 @@ pub mod ValueRows
 pub mod RegisterRows
 pub mod Steps
 pub mod Runs
+pub mod Totals
+pub mod Exchange
+pub mod Account
+pub mod Laws
 pub mod AccessOps

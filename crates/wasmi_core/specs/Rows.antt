@@ -3,9 +3,9 @@ use Rattle.std.specs.Prelude.{◌≡◌, ◌⊎◌, ◌++◌, ℕ, Option, Some,
 use Rattle.wasmi_meter.specs.Attempt.{Situation, with_value}
 use Rattle.wasmi_meter.specs.Meter.{Meter}
 use Rattle.wasmi_core.specs.declared.calls.Reply.{Reply}
-use Rattle.wasmi_core.specs.declared.calls.Reply.TheVariants.{Made, NoSuch, NoRoom}
+use Rattle.wasmi_core.specs.declared.calls.Reply.TheVariants.{Done, Made, NoSuch, NoRoom}
 use Rattle.wasmi_core.specs.declared.slots.Slot.{Slot}
-use Rattle.wasmi_core.specs.declared.slots.Slot.TheVariants.{Live}
+use Rattle.wasmi_core.specs.declared.slots.Slot.TheVariants.{Live, Gone}
 use Rattle.wasmi_core.specs.State.{State, live_at}
 use Rattle.wasmi_core.specs.World.{World, Turn, IsFree}
 
@@ -33,6 +33,11 @@ AppendsSlot refusal (Err error) slots reply slots' = (reply ≡ refusal error) �
 abbrev pub Creates : {X E S : Type 0} → (E → Reply) → (S → Result X E → S → Type 0) → List (Slot X) → S → Reply → List (Slot X) → S → Type 0
 Creates refusal Makes slots l reply slots' l' = ((reply ≡ NoRoom) × (slots' ≡ slots) × (l' ≡ l))
     ⊎ ((result : _) × Makes l result l' × AppendsSlot refusal result slots reply slots')
+
+-- the live value of an index is dropped, and its slot keeps how many it had; where the index names none it is `NoSuch`, and nothing has changed
+abbrev pub DropsAt : {X : Type 0} → (X → ℕ) → ℕ → List (Slot X) → Reply → List (Slot X) → Type 0
+DropsAt count k slots reply slots' = OnLive (live_at slots k) ((reply ≡ NoSuch) × (slots' ≡ slots))
+    (λ x. (reply ≡ Done) × (slots' ≡ slice_set slots k (Gone (count x))))
 
 -- an index names nothing: there is no charge, and nothing has changed
 abbrev pub IsNoSuch : {A S : Type 0} → Situation A S → Reply → ℕ → Situation A S → Type 0

@@ -14,13 +14,14 @@ use Rattle.wasmi_vector_ops.specs.UnaryOps.{unary_vector}
 use Rattle.wasmi_meter.specs.Limiter.{Rules}
 use Rattle.wasmi_store.specs.Buffer.{Owned}
 use Rattle.wasmi_store.specs.Memory.{MakesMemory, GrowsMemory}
-use Rattle.wasmi_store.specs.Table.{MakesTable, GrowsTable}
+use Rattle.wasmi_store.specs.Table.{size_of, MakesTable, GrowsTable}
 use Rattle.wasmi_core.specs.declared.calls.Call.{Call}
-use Rattle.wasmi_core.specs.declared.calls.Call.TheVariants.{SetFuel, GetFuel, NewMemory, GrowMemory, Read, Write, Load, Store, NewTable, GrowTable, GetElement, SetElement, InitTable, CopyTable, FillTable, NewSegment, DropItems, NewGlobal, SetGlobal, GetGlobal, SetRegister, GetRegister, Make, Unary, Binary, Ternary, Shift, Test, Extract, Replace, Shuffle, VectorLoad, LoadLane, VectorStore, StoreLane}
+use Rattle.wasmi_core.specs.declared.calls.Call.TheVariants.{SetFuel, GetFuel, NewMemory, GrowMemory, DropMemory, Read, Write, Load, Store, NewTable, GrowTable, DropTable, GetElement, SetElement, InitTable, CopyTable, FillTable, NewSegment, DropItems, NewGlobal, SetGlobal, GetGlobal, SetRegister, GetRegister, Make, Unary, Binary, Ternary, Shift, Test, Extract, Replace, Shuffle, VectorLoad, LoadLane, VectorStore, StoreLane}
 use Rattle.wasmi_core.specs.declared.calls.Reply.TheVariants as reply
 use Rattle.wasmi_core.specs.World.{World, Turn}
 use Rattle.wasmi_core.specs.State.{live_at, with_memories, with_tables, with_segments, with_globals, with_registers}
-use Rattle.wasmi_core.specs.Rows.{reply_of, Creates, ActsAt, OnlyReplies, Changes, Asks, Pays, PaysUnasked}
+use Rattle.wasmi_core.specs.Rows.{reply_of, Creates, DropsAt, ActsAt, OnlyReplies, Changes, Asks, Pays, PaysUnasked}
+use Rattle.wasmi_core.specs.Totals.{byte_count}
 use Rattle.wasmi_core.specs.AccessOps.{stored_bytes}
 use Rattle.wasmi_core.specs.FuelRows.{SetsFuel, get_fuel_reply}
 use Rattle.wasmi_core.specs.MemoryRows.{bytes_appended, ReadsMemoryAt, WritesMemoryAt, LoadsMemoryAt, StoresMemoryAt}
@@ -42,12 +43,14 @@ subject_of (SetFuel fuel) = TheMeter
 subject_of GetFuel = TheMeter
 subject_of (NewMemory ty) = Memories
 subject_of (GrowMemory k pages) = Memories
+subject_of (DropMemory k) = Memories
 subject_of (Read k offset len) = Memories
 subject_of (Write k offset bytes) = Memories
 subject_of (Load op k ptr offset) = Memories
 subject_of (Store op k ptr offset value) = Memories
 subject_of (NewTable ty init) = Tables
 subject_of (GrowTable k n init) = Tables
+subject_of (DropTable k) = Tables
 subject_of (GetElement k index) = Tables
 subject_of (SetElement k index value) = Tables
 subject_of (InitTable k j dst src len) = Tables
@@ -81,6 +84,7 @@ StepBy rules GetFuel w turn w' = OnlyReplies w turn w' (λ answer. answer ≡ ge
 StepBy rules (NewMemory ty) w turn w' = Asks w turn w' (with_memories w.state) (Creates reply.Memory (MakesMemory rules Owned ty) w.state.memories)
 StepBy rules (GrowMemory k pages) w turn w' =
     Pays w turn w' w.state.memories (with_memories w.state) (ActsAt k (reply_of reply.Number reply.Memory) (GrowsMemory rules pages)) (bytes_appended (live_at w.state.memories k) pages)
+StepBy rules (DropMemory k) w turn w' = Changes w turn w' (with_memories w.state) (DropsAt byte_count k w.state.memories)
 StepBy rules (Read k offset len) w turn w' = OnlyReplies w turn w' (ReadsMemoryAt k offset len w.state.memories)
 StepBy rules (Write k offset bytes) w turn w' =
     Changes w turn w' (with_memories w.state) (WritesMemoryAt k offset bytes.items w.state.memories)
@@ -90,6 +94,7 @@ StepBy rules (Store op k ptr offset value) w turn w' =
 StepBy rules (NewTable ty init) w turn w' = Asks w turn w' (with_tables w.state) (Creates reply.Table (MakesTable rules ty init) w.state.tables)
 StepBy rules (GrowTable k n init) w turn w' =
     Pays w turn w' w.state.tables (with_tables w.state) (ActsAt k (reply_of reply.Number reply.Table) (GrowsTable rules n init)) (element_bytes n)
+StepBy rules (DropTable k) w turn w' = Changes w turn w' (with_tables w.state) (DropsAt size_of k w.state.tables)
 StepBy rules (GetElement k index) w turn w' = OnlyReplies w turn w' (GetsElementAt k index w.state.tables)
 StepBy rules (SetElement k index value) w turn w' = Changes w turn w' (with_tables w.state) (SetsElementAt k index value w.state.tables)
 StepBy rules (InitTable k j dst src len) w turn w' =

@@ -30,6 +30,8 @@ pub enum Call {
         memory: usize,
         pages: u64,
     },
+    /// Drops a memory, whose bytes are given back; its size still counts in the machine's total: `Done`.
+    DropMemory(usize),
     /// So many bytes of a memory: `Bytes`, `Memory` where they end past it, or then `NoRoom` where the reply's buffer
     /// can't be had.
     Read {
@@ -69,6 +71,8 @@ pub enum Call {
         delta: u64,
         init: TypedRawRef,
     },
+    /// Drops a table, whose elements are given back; its size still counts in the machine's total: `Done`.
+    DropTable(usize),
     /// The element of a table, if there is one: `Reference`.
     GetElement {
         table: usize,

@@ -2,6 +2,7 @@
 #![tactic(auto)]
 
 mod calls;
+pub mod laws;
 mod machine;
 mod memories;
 mod ops;
@@ -16,11 +17,12 @@ pub mod wasm;
 pub use calls::{ByteList, Call, Reply};
 pub use machine::Machine;
 pub use ops::{LoadOp, StoreOp};
-pub use running::{run, run_lending};
+pub use running::{run, run_lending, run_reserving};
 pub use wasmi_access::access;
 pub use wasmi_meter::{
     CustomFuelCosts, Fuel, FuelCosts, FuelCostsProvider, FuelError, Kind, LimiterError,
-    MemoryError, NoLimits, Quota, ResourceLimiter, ResourceLimiterRef, TableError, ValueSize,
+    MemoryError, NoLimits, Quota, Reserving, ResourceLimiter, ResourceLimiterRef, TableError,
+    ValueSize,
 };
 pub use wasmi_raw::{F32, F64, Number, RawRef, RawVal, ReadAs, ReadBack, V128, WriteAs};
 pub use wasmi_scalar::value::{Integer, SignExtendFrom, Unsigned};

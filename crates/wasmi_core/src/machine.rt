@@ -46,6 +46,8 @@ impl<'r> Machine<'r> {
     ghost use Rattle.wasmi_core.specs.State.{new_state, live_at};
     ghost use Rattle.wasmi_core.specs.FuelRows.{SetsFuel, get_fuel_reply};
     ghost use Rattle.wasmi_core.specs.Steps.{Step, subject_of, Memories, Tables, RegisterFile, Vectors};
+    ghost use Rattle.wasmi_core.specs.Totals.{total};
+    ghost use Rattle.wasmi_meter.specs.declared.limiter.Kind.TheVariants.{Bytes, Elements};
 
     /// A machine with this meter, on which nothing was made yet. It takes no memory.
     pub fn new(alloc: Allocator, fuel: Fuel) -> Machine<'r>
@@ -104,6 +106,20 @@ impl<'r> Machine<'r> {
         self.registers.get(register)
     }
 
+    /// The bytes of all memories, dropped ones at their last size.
+    pub fn total_bytes(&self) -> u128
+        ensures { result ≡ total self.now Bytes }
+    {
+        self.memories.total()
+    }
+
+    /// The elements of all tables, dropped ones at their last size.
+    pub fn total_elements(&self) -> u128
+        ensures { result ≡ total self.now Elements }
+    {
+        self.tables.total()
+    }
+
     fn set_fuel(&mut self, fuel: u64) -> Reply
         ensures { SetsFuel fuel self.old result self.new }
     {
@@ -139,6 +155,7 @@ impl<'r> Machine<'r> {
             Call::GetFuel => self.get_fuel(),
             Call::NewMemory(_)
             | Call::GrowMemory { .. }
+            | Call::DropMemory(_)
             | Call::Read { .. }
             | Call::Write { .. }
             | Call::Load { .. }
@@ -150,6 +167,7 @@ impl<'r> Machine<'r> {
             Call::GetGlobal(global) => self.globals.get(*global),
             Call::NewTable { .. }
             | Call::GrowTable { .. }
+            | Call::DropTable(_)
             | Call::GetElement { .. }
             | Call::SetElement { .. }
             | Call::InitTable { .. }
@@ -181,6 +199,7 @@ impl<'r> Machine<'r> {
             Call::GrowMemory { memory, pages } => {
                 self.memories.grow(*memory, *pages, &mut self.fuel, limiter)
             }
+            Call::DropMemory(memory) => self.memories.drop_live(*memory),
             Call::Read {
                 memory,
                 offset,
@@ -227,6 +246,7 @@ impl<'r> Machine<'r> {
                 self.tables
                     .grow(*table, *delta, *init, &mut self.fuel, limiter)
             }
+            Call::DropTable(table) => self.tables.drop_live(*table),
             Call::GetElement { table, index } => self.tables.get(*table, *index),
             Call::SetElement {
                 table,

@@ -3,11 +3,12 @@ ghost use Rattle.std.specs.Prelude.{◌≡◌, Some, IfOk, OnErr};
 ghost use Rattle.wasmi_meter.specs.Limiter.{optional_rules};
 ghost use Rattle.wasmi_meter.specs.LimiterRef.{state, KeepsLoan};
 ghost use Rattle.wasmi_core.specs.Runs.{IsRunOf};
+ghost use Rattle.wasmi_core.specs.Totals.{HoldsTotals};
 
 use crate::calls::{Call, Reply};
 use crate::machine::Machine;
 use std::alloc::AllocError;
-use wasmi_meter::{ResourceLimiter, ResourceLimiterRef};
+use wasmi_meter::{Reserving, ResourceLimiter, ResourceLimiterRef};
 
 /// Answers calls in turn. Room for the replies is had first; where it is refused, nothing happened.
 ///
@@ -48,4 +49,21 @@ pub fn run_lending<L: ResourceLimiter>(
         unreachable!()
     };
     replies
+}
+
+/// Answers calls in turn, as `run`, under a limiter that holds exactly what the machine has: it does so again
+/// afterwards.
+pub fn run_reserving<L: Reserving>(
+    machine: &mut Machine,
+    calls: &[Call],
+    limiter: &mut L,
+) -> Result<Vec<Reply>, AllocError>
+    requires { HoldsTotals (L.Reserving.holdings limiter.old) machine.old }
+    ensures run { IfOk result (λ replies. IsRunOf (optional_rules L.rules) calls.now
+        (record { state = machine.old; limiter = Some limiter.old }) replies.items
+        (record { state = machine.new; limiter = Some limiter.new })) }
+    ensures err { OnErr result ((machine.new ≡ machine.old) × (limiter.new ≡ limiter.old)) }
+    ensures held { HoldsTotals (L.Reserving.holdings limiter.new) machine.new }
+{
+    run_lending(machine, calls, limiter)
 }

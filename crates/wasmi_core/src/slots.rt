@@ -1,18 +1,50 @@
 //! Slots: what was made, each at the index of its making.
-ghost use Rattle.std.specs.Prelude.{◌≡◌, ◌<◌, ◌++◌, [], ◌∷◌, length, IsTrue, IsSome, Some};
+ghost use Rattle.std.specs.Prelude.{◌≡◌, ◌<◌, ◌++◌, ℕ, [], ◌∷◌, length, map, sum, IsTrue, IsSome, Some};
 ghost use Rattle.std.specs.Borrow.{sem, Lends, LendsIf};
 ghost use Rattle.std.specs.Option.{option_copied, option_copied_mut};
 ghost use Rattle.std.specs.Vec.{vec_capacity};
+ghost use Rattle.wasmi_core.specs.Rows.{DropsAt};
 ghost use Rattle.wasmi_core.specs.State.{live_value, live_at, with_live};
+ghost use Rattle.wasmi_core.specs.Totals.{slot_count};
 ghost use Rattle.wasmi_core.specs.declared.slots.Slot.TheVariants.{Live};
 
+use crate::calls::Reply;
 use std::alloc::Global;
+use wasmi_store::{Memory, Table};
+
+/// What counts in a machine's totals: a memory by its bytes, a table by its elements.
+pub(crate) trait Counted {
+    /// How many it has.
+    ghost count: { Self → ℕ };
+
+    fn count(&self) -> usize
+        ensures { result ≡ count self.now };
+}
+
+impl<'r> Counted for Memory<'r> {
+    ghost use Rattle.wasmi_store.specs.Memory.{MemoryValue};
+
+    ghost count = { λ x. length x.bytes };
+
+    fn count(&self) -> usize {
+        self.data_size()
+    }
+}
+
+impl Counted for Table {
+    ghost use Rattle.wasmi_store.specs.Table.{size_of};
+
+    ghost count = { size_of };
+
+    fn count(&self) -> usize {
+        self.size() as usize
+    }
+}
 
 /// A live value, or the size that it had when it was dropped.
 #[derive(Debug, Drop)]
 pub(crate) enum Slot<T> {
     Live(T),
-    // No call reaches this yet: it comes with the calls that drop.
     Gone(usize),
 }
 
@@ -27,6 +59,18 @@ impl<T> Slot<T> {
         match self {
             Slot::Live(value) => value,
             Slot::Gone(_) => unreachable!(),
+        }
+    }
+
+    /// How many it has, or had when it was dropped.
+    fn count(&self) -> usize
+    where
+        T: Counted,
+        ensures { result ≡ slot_count T.Counted.count self.now }
+    {
+        match self {
+            Slot::Live(value) => value.count(),
+            Slot::Gone(last) => *last,
         }
     }
 }
@@ -98,5 +142,32 @@ impl<T> Slots<T> {
         let index = self.slots.len();
         self.slots.push_reserved(Slot::Live(value));
         index
+    }
+}
+
+impl<T: Counted> Slots<T> {
+    /// Drops the live value of an index, and keeps how many it had.
+    pub(crate) fn drop_live(&mut self, index: usize) -> Reply
+    where
+        T: Drop,
+        ensures { DropsAt T.Counted.count index self.old.slots.items result self.new.slots.items }
+    {
+        let Some(value) = self.live(index) else {
+            return Reply::NoSuch;
+        };
+        let last = value.count();
+        self.slots[index] = Slot::Gone(last);
+        Reply::Done
+    }
+
+    /// How many all of them have, dropped ones as many as they had.
+    pub(crate) fn total(&self) -> u128
+        ensures { result ≡ sum (map (slot_count T.Counted.count) self.now.slots.items) }
+    {
+        let mut total = 0;
+        for slot in &self.slots {
+            total += slot.count() as u128;
+        }
+        total
     }
 }

@@ -1,11 +1,10 @@
 //! What the tests share: short words for calls and replies, and runs that compare the replies.
 mod absent;
-mod accesses;
 mod examples;
 mod loans;
-mod registers;
+mod reserving;
 mod runs;
-mod tables;
+mod views;
 
 use std::alloc::{AllocError, Global};
 use std::fmt::Debug;
@@ -13,8 +12,8 @@ use std::process::Abort;
 use std::test::Fail;
 use wasmi_core::{
     ByteList, Call, CustomFuelCosts, Fuel, FuelCostsProvider, LoadOp, Machine, MemoryError,
-    MemoryType, NoLimits, RawVal, Reply, ResourceLimiter, ResourceLimiterRef, StoreOp, run,
-    run_lending,
+    MemoryType, NoLimits, RawRef, RawVal, RefType, Reply, ResourceLimiter, ResourceLimiterRef,
+    StoreOp, TableType, TypedRawRef, run, run_lending,
 };
 
 /// Compares an answer with the expected one; `what` says in the message what was compared.
@@ -143,4 +142,17 @@ fn store(op: StoreOp, memory: usize, ptr: u64, offset: u64, value: RawVal) -> Ca
 /// The reply with these bytes.
 fn bytes(alloc: Global, bytes: &[u8]) -> Result<Reply, AllocError> {
     Ok(Reply::Bytes(ByteList::from(bytes.to_vec(alloc)?)))
+}
+
+/// A function reference.
+fn func(number: u32) -> TypedRawRef {
+    TypedRawRef::new(RawRef::from(number), RefType::Func)
+}
+
+/// A new table of null references to functions, without a maximum.
+fn new_table(minimum: u32) -> Call {
+    Call::NewTable {
+        ty: TableType::new(RefType::Func, minimum, None),
+        init: func(0),
+    }
 }

@@ -1,7 +1,8 @@
 -- What a limiter holds that counts its permissions.
-use Rattle.std.specs.Prelude.{ℕ, ◌+◌, ◌-◌, Option, Some, None}
+use Rattle.std.specs.Prelude.{◌≡◌, ℕ, ◌+◌, ◌-◌, Option, Some, None, Ok, Err, true, false}
 use Rattle.wasmi_meter.specs.declared.limiter.Kind.{Kind}
 use Rattle.wasmi_meter.specs.declared.limiter.Kind.TheVariants.{Bytes, Elements}
+use Rattle.wasmi_meter.specs.Limiter.{Question, Answer}
 
 -- what is held of each kind, and the last difference that was permitted and not given back
 pub record Holdings : Type 0 where
@@ -28,3 +29,18 @@ without_last_of kind h last = h
 -- what is held after a notice of a kind
 abbrev pub without_last : Kind → Holdings → Holdings
 without_last kind h = without_last_of kind h h.last
+
+-- as much is held of each kind
+pub record HoldsTheSame (h h' : Holdings) : Type 0 where
+  pub bytes : h'.bytes ≡ h.bytes
+  pub elements : h'.elements ≡ h.elements
+
+-- a permission adds the difference that was asked for, and another answer keeps what is held
+abbrev pub Reserves : Question → Answer → Holdings → Holdings → Type 0
+Reserves q (Ok true) h h' = h' ≡ with_more h q.kind (q.desired - q.current)
+Reserves q (Ok false) h h' = HoldsTheSame h h'
+Reserves q (Err error) h h' = HoldsTheSame h h'
+
+-- a notice of the kind of the last difference takes it back, once; another notice is left open
+abbrev pub GivesBack : Kind → Holdings → Holdings → Type 0
+GivesBack kind h h' = (n : ℕ) → h.last ≡ Some (kind, n) → h' ≡ without_last kind h

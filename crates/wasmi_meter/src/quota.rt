@@ -4,6 +4,7 @@ ghost use Rattle.wasmi_meter.specs.declared.limiter.Kind.TheVariants.{Bytes, Ele
 
 use crate::error::{LimiterError, MemoryError, TableError};
 use crate::limiter::{Kind, ResourceLimiter};
+use crate::reserving::Reserving;
 
 /// A limiter that permits what stays within two caps, and says no to the rest. It counts each difference that it
 /// permitted, and takes the last one back at a notice of its kind, once.
@@ -119,4 +120,23 @@ impl ResourceLimiter for Quota {
     {
         usize::MAX
     }
+}
+
+impl Reserving for Quota {
+    ghost use Rattle.wasmi_meter.specs.Quota.{holdings};
+    ghost use Rattle.wasmi_meter.specs.QuotaLaws.{asked_reserves};
+
+    ghost holdings = { holdings };
+
+    fn held_bytes(&self) -> u64 {
+        self.held_bytes
+    }
+
+    fn held_elements(&self) -> u64 {
+        self.held_elements
+    }
+
+    ghost reserves = { asked_reserves };
+
+    ghost gives_back = { λ l l' failure heed noticed n last. noticed.gives_back };
 }

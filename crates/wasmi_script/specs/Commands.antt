@@ -2,7 +2,7 @@
 use Rattle.std.specs.Prelude.{◌≡◌, ℕ, ◌≤◌, List, length, codes, drop}
 use Rattle.wasmi_raw.specs.RawVal.{raw_of}
 use Rattle.wasmi_core.specs.declared.calls.Call.{Call}
-use Rattle.wasmi_core.specs.declared.calls.Call.TheVariants.{SetFuel, GetFuel, NewMemory, GrowMemory, Read, Write, Load, Store, NewTable, GrowTable, GetElement, SetElement, InitTable, CopyTable, FillTable, NewSegment, DropItems, NewGlobal, SetGlobal, GetGlobal, SetRegister, GetRegister, Make, Unary, Binary, Ternary, Shift, Test, Extract, Replace, Shuffle, VectorLoad, LoadLane, VectorStore, StoreLane}
+use Rattle.wasmi_core.specs.declared.calls.Call.TheVariants.{SetFuel, GetFuel, NewMemory, GrowMemory, DropMemory, Read, Write, Load, Store, NewTable, GrowTable, DropTable, GetElement, SetElement, InitTable, CopyTable, FillTable, NewSegment, DropItems, NewGlobal, SetGlobal, GetGlobal, SetRegister, GetRegister, Make, Unary, Binary, Ternary, Shift, Test, Extract, Replace, Shuffle, VectorLoad, LoadLane, VectorStore, StoreLane}
 use Rattle.wasmi_script.specs.Words.{Words, word_at}
 use Rattle.wasmi_script.specs.Numbers.{WritesNumber, WritesNumbers}
 use Rattle.wasmi_script.specs.MemoryWords.{NamesType}
@@ -18,12 +18,14 @@ command_word (SetFuel fuel) = codes "fuel"
 command_word GetFuel = codes "left"
 command_word (NewMemory ty) = codes "memory"
 command_word (GrowMemory memory pages) = codes "grow"
+command_word (DropMemory memory) = codes "drop"
 command_word (Read memory offset len) = codes "read"
 command_word (Write memory offset bytes) = codes "write"
 command_word (Load op memory ptr offset) = codes "load"
 command_word (Store op memory ptr offset value) = codes "store"
 command_word (NewTable ty init) = codes "table"
 command_word (GrowTable table delta init) = codes "tgrow"
+command_word (DropTable table) = codes "drop"
 command_word (GetElement table index) = codes "get"
 command_word (SetElement table index value) = codes "tset"
 command_word (InitTable table segment dst src len) = codes "init"
@@ -56,6 +58,7 @@ WritesOperands words (SetFuel fuel) = (length words ≡ 1) × WritesNumber 64 (w
 WritesOperands words GetFuel = length words ≡ 0
 WritesOperands words (NewMemory ty) = (length words ≡ 4) × NamesType (word_at words 0) (word_at words 1) (word_at words 2) (word_at words 3) ty
 WritesOperands words (GrowMemory memory pages) = (length words ≡ 2) × WritesNumber 64 (word_at words 0) memory × WritesNumber 64 (word_at words 1) pages
+WritesOperands words (DropMemory memory) = (length words ≡ 2) × (word_at words 0 ≡ codes "memory") × WritesNumber 64 (word_at words 1) memory
 WritesOperands words (Read memory offset len) = (length words ≡ 3)
     × WritesNumber 64 (word_at words 0) memory × WritesNumber 64 (word_at words 1) offset × WritesNumber 64 (word_at words 2) len
 WritesOperands words (Write memory offset bytes) = (2 ≤ length words)
@@ -69,6 +72,7 @@ WritesOperands words (NewTable ty init) = (length words ≡ 6)
     × NamesTableType (word_at words 0) (word_at words 1) (word_at words 2) (word_at words 3) ty × WritesReference (word_at words 4) (word_at words 5) init
 WritesOperands words (GrowTable table delta init) = (length words ≡ 4)
     × WritesNumber 64 (word_at words 0) table × WritesNumber 64 (word_at words 1) delta × WritesReference (word_at words 2) (word_at words 3) init
+WritesOperands words (DropTable table) = (length words ≡ 2) × (word_at words 0 ≡ codes "table") × WritesNumber 64 (word_at words 1) table
 WritesOperands words (GetElement table index) = (length words ≡ 2) × WritesNumber 64 (word_at words 0) table × WritesNumber 64 (word_at words 1) index
 WritesOperands words (SetElement table index value) = (length words ≡ 4)
     × WritesNumber 64 (word_at words 0) table × WritesNumber 64 (word_at words 1) index × WritesReference (word_at words 2) (word_at words 3) value

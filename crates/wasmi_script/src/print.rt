@@ -123,37 +123,7 @@ fn kind_made(call: &Call) -> &'static str
         Call::NewTable { .. } => "table",
         Call::NewSegment { .. } => "segment",
         Call::NewGlobal { .. } => "global",
-        Call::SetFuel(_)
-        | Call::GetFuel
-        | Call::GrowMemory { .. }
-        | Call::Read { .. }
-        | Call::Write { .. }
-        | Call::Load { .. }
-        | Call::Store { .. }
-        | Call::GrowTable { .. }
-        | Call::GetElement { .. }
-        | Call::SetElement { .. }
-        | Call::InitTable { .. }
-        | Call::CopyTable { .. }
-        | Call::FillTable { .. }
-        | Call::DropItems(_)
-        | Call::SetGlobal { .. }
-        | Call::GetGlobal(_)
-        | Call::SetRegister { .. }
-        | Call::GetRegister(_)
-        | Call::Make { .. }
-        | Call::Unary { .. }
-        | Call::Binary { .. }
-        | Call::Ternary { .. }
-        | Call::Shift { .. }
-        | Call::Test { .. }
-        | Call::Extract { .. }
-        | Call::Replace { .. }
-        | Call::Shuffle { .. }
-        | Call::VectorLoad { .. }
-        | Call::LoadLane { .. }
-        | Call::VectorStore { .. }
-        | Call::StoreLane { .. } => "nothing",
+        _ => "nothing",
     }
 }
 

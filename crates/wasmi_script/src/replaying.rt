@@ -1,7 +1,8 @@
 //! A script from its reader to the printed lines.
 ghost use Rattle.std.specs.Prelude.{◌≡◌, ◌≤◌, None, Some, length, IfOk, IfSome, OnOk};
 ghost use Rattle.wasmi_script.specs.Lines.{WritesScript};
-ghost use Rattle.wasmi_script.specs.Replays.{IsReplayOf, IsReplayUnder};
+ghost use Rattle.wasmi_core.specs.Totals.{HoldsTotals};
+ghost use Rattle.wasmi_script.specs.Replays.{IsReplayOf, IsReplayUnder, nothing_held};
 ghost use Rattle.wasmi_script.specs.Status.{status_number, status_after};
 
 use crate::error::ReplayError;
@@ -11,7 +12,9 @@ use crate::script::{LimiterLine, QuotaLine, Script, parse};
 use std::alloc::{AllocError, Global};
 use std::fmt::Write;
 use std::{fmt, io};
-use wasmi_core::{Call, Machine, NoLimits, Quota, Reply, ResourceLimiterRef, run, run_lending};
+use wasmi_core::{
+    Call, Machine, NoLimits, Quota, Reply, ResourceLimiterRef, run, run_reserving,
+};
 
 /// How a replay ended.
 #[derive(Clone, Copy, Debug, PartialEq, Eq)]
@@ -120,10 +123,11 @@ fn run_under_quota(
     calls: &[Call],
     line: QuotaLine,
 ) -> Result<Ran, AllocError>
+    requires { HoldsTotals nothing_held machine.old }
     ensures { IfOk result (IsReplayUnder (Some (LimiterLine.Quota line)) machine.old calls.now) }
 {
     let mut quota = Quota::new(line.bytes, line.elements);
-    let replies = run_lending(machine, calls, &mut quota)?;
+    let replies = run_reserving(machine, calls, &mut quota)?;
     let held = Held {
         bytes: quota.held_bytes(),
         elements: quota.held_elements(),

@@ -3,6 +3,7 @@ ghost use Rattle.wasmi_script.specs.Acceptance.{Accepts};
 ghost use Rattle.wasmi_script.specs.Commands.{Names, NamesAfter};
 
 mod access;
+mod dropping;
 mod fuel;
 mod global;
 mod lane;
@@ -36,6 +37,7 @@ fn named(alloc: Global, name: &str, operands: &[&str]) -> Result<Call, LineError
         "left" => fuel::get_fuel(operands),
         "memory" => memory::new_memory(operands),
         "grow" => memory::grow(operands),
+        "drop" => dropping::drop_live(operands),
         "read" => memory::read(operands),
         "write" => memory::write(alloc, operands),
         "load" => access::load(operands),

@@ -61,7 +61,7 @@ const MORE_BAD_LINES: [&[u8]; 20] = [
 ];
 
 // Lines of tables, element segments and globals.
-const BAD_LINES_OF_TABLES: [&[u8]; 42] = [
+const BAD_LINES_OF_TABLES: [&[u8]; 48] = [
     b"table",
     b"table func 0 none 32 func",
     b"table func 0 none 32 func 0 0",
@@ -94,6 +94,12 @@ const BAD_LINES_OF_TABLES: [&[u8]; 42] = [
     b"segment func 4294967296",
     b"empty",
     b"empty 0 0",
+    b"drop",
+    b"drop memory",
+    b"drop 0",
+    b"drop segment 0",
+    b"drop memory 0 0",
+    b"drop table 18446744073709551616",
     b"global i32 mut 0 0",
     b"global i8 var 0 0",
     b"global i32 var 0",

@@ -2,7 +2,7 @@
 use super::{METERED, METERED_PRINTED, answers};
 use std::test::Fail;
 
-const ANSWERED: [(&str, &str); 14] = [
+const ANSWERED: [(&str, &str); 16] = [
     (METERED, METERED_PRINTED),
     ("", ""),
     (
@@ -40,6 +40,14 @@ const ANSWERED: [(&str, &str); 14] = [
     (
         "quota 65535 0\nmemory 1 none 16 32\nmemory 0 none 16 32\ngrow 0 0",
         "error a resource limiter denied to allocate or grow the linear memory\nmemory 0\nvalue 0\nheld 0 0\n",
+    ),
+    (
+        "quota 131072 0\nmemory 1 none 16 32\ndrop memory 0\nmemory 1 none 16 32\nmemory 1 none 16 32",
+        "memory 0\ndone\nmemory 1\nerror a resource limiter denied to allocate or grow the linear memory\nheld 131072 0\n",
+    ),
+    (
+        "quota 65536 3\ntable func 2 none 32 func 0\ndrop table 0\ndrop table 0\ntgrow 0 1 func 0\ntable func 2 none 32 func 0\ntable func 1 none 32 func 0",
+        "table 0\ndone\nno such\nno such\nerror a resource limiter denied to allocate or grow the table\ntable 1\nheld 0 3\n",
     ),
     (
         "memory 1 none 16 32\nstore i32_store8 0 0 0 300\nload i32_load8_u 0 0 0\nload load_u64 0 65529 0",

@@ -19,6 +19,10 @@ returns-in-GrowMemory-clause-step g c =
       rw (c.in-GrowMemory.is, ← c.self.view_is) (c.grow.new.self.slots.items, c.grow.new.fuel, state c.grow.new.limiter, grown.1, refl, refl),
     )
 
+pub returns-in-DropMemory-clause-step : goal.returns-in-DropMemory-clause-step
+returns-in-DropMemory-clause-step g c =
+    (0, 0, rw (c.in-DropMemory.is, ← c.self.view_is) ((refl, refl), c.drop_live.new.self.slots.items, c.drop_live.ensures, refl))
+
 pub returns-in-Read-clause-step : goal.returns-in-Read-clause-step
 returns-in-Read-clause-step g c = (0, 0, rw (c.in-Read.is, ← c.self.view_is) ((refl, refl), c.read.ensures, refl))
 

@@ -18,6 +18,10 @@ returns-in-GrowTable-clause-step g c =
       rw (c.in-GrowTable.is, ← c.self.view_is) (c.grow.new.self.slots.items, c.grow.new.fuel, state c.grow.new.limiter, grown.1, refl, refl),
     )
 
+pub returns-in-DropTable-clause-step : goal.returns-in-DropTable-clause-step
+returns-in-DropTable-clause-step g c =
+    (0, 0, rw (c.in-DropTable.is, ← c.self.view_is) ((refl, refl), c.drop_live.new.self.slots.items, c.drop_live.ensures, refl))
+
 pub returns-in-GetElement-clause-step : goal.returns-in-GetElement-clause-step
 returns-in-GetElement-clause-step g c = (0, 0, rw (c.in-GetElement.is, ← c.self.view_is) ((refl, refl), c.get.ensures, refl))
 

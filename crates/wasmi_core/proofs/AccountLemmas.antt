@@ -1,0 +1,183 @@
+-- What each turn takes of the meter.
+use Rattle.std.proofs.Common.{◌≡◌, ℕ, ◌+◌, ◌-◌, ◌≤◌, Bool, true, false, Option, Some, None, Result, List, [], ◌∷◌, refl, sym, ap, ◌∙◌, arith, inl, inr}
+use Rattle.std.proofs.lemmas.Bool.{and_parts}
+use Rattle.std.proofs.lemmas.Bool.Decides.{nat_tests}
+use Rattle.std.proofs.lemmas.Option.{same_Some}
+use Rattle.std.specs.Prelude.{nat_le, is_none, ◌&&◌, if◌then◌else◌, MatchBool, slice_get}
+use Rattle.std.specs.Option.{option_map, unwrap_or}
+use Rattle.wasmi_meter.specs.declared.error.MemoryError.{MemoryError}
+use Rattle.wasmi_meter.specs.declared.error.TableError.{TableError}
+use Rattle.wasmi_meter.specs.Limiter.{Rules}
+use Rattle.wasmi_meter.specs.Meter.{Meter, meter_after, amount_left}
+use Rattle.wasmi_meter.specs.Attempt.{Situation, Effort, Fate, Unasked, Denied, Met, Failed, Attempt, amount_due, can_pay}
+use Rattle.wasmi_typed.specs.declared.typed_ref.TypedRawRef.{TypedRawRef}
+use Rattle.wasmi_store.specs.Growth.{Growth, Grows}
+use Rattle.wasmi_store.specs.Memory.{MemoryValue, pages_of, GrowsMemory}
+use Rattle.wasmi_store.specs.Memory as memory
+use Rattle.wasmi_store.specs.Table as table
+use Rattle.wasmi_store.specs.Table.{TableValue, TableWrite, size_of, GrowsTable, GrowsTableRaw, WritesTable, EndsBy, due_for}
+use Rattle.wasmi_store.specs.TableType.{same_type}
+use Rattle.wasmi_core.specs.declared.calls.Call.{Call}
+use Rattle.wasmi_core.specs.declared.calls.Call.TheVariants.{SetFuel, GetFuel, NewMemory, GrowMemory, DropMemory, Read, Write, Load, Store, NewTable, GrowTable, DropTable, GetElement, SetElement, InitTable, CopyTable, FillTable, NewSegment, DropItems, NewGlobal, SetGlobal, GetGlobal, SetRegister, GetRegister, Make, Unary, Binary, Ternary, Shift, Test, Extract, Replace, Shuffle, VectorLoad, LoadLane, VectorStore, StoreLane}
+use Rattle.wasmi_core.specs.declared.calls.Reply.{Reply}
+use Rattle.wasmi_core.specs.declared.calls.Reply.TheVariants as replied
+use Rattle.wasmi_core.specs.declared.slots.Slot.{Slot}
+use Rattle.wasmi_core.specs.State.{State, live_at}
+use Rattle.wasmi_core.specs.World.{World, Turn}
+use Rattle.wasmi_core.specs.Rows.{reply_of, ActsAt, OnlyReplies, Changes, Asks, Pays, PaysUnasked}
+use Rattle.wasmi_core.specs.TableRows.{metered, WritesTableAt, WritesTableFrom, filling, copy_from, initialization_from}
+use Rattle.wasmi_core.specs.Steps.{Step, StepBy}
+use Rattle.wasmi_core.specs.Runs.{Run}
+use Rattle.wasmi_core.specs.Account.{Account, opened, charged_by, account_after, Balances}
+use Rattle.wasmi_core.proofs.RowLemmas.{on_live, on_test}
+
+-- a meter that is on stays on, and what is left and the charge are what was left
+abbrev Takes : Meter → ℕ → Meter → Type 0
+Takes m charge m' = (left : ℕ) → m.left ≡ Some left → (rest : ℕ) × (m'.left ≡ Some rest) × (rest + charge ≡ left)
+
+takes_nothing : (m m' : Meter) (charge : ℕ) → charge ≡ 0 → m' ≡ m → Takes m charge m'
+takes_nothing m m' charge free same left on = (left, ap (λ (m : Meter). m.left) same ∙ on, omega (arith, free))
+
+-- no more is charged than is left
+abbrev IsPaid : Meter → ℕ → Type 0
+IsPaid m charge = (left : ℕ) → m.left ≡ Some left → charge ≤ left
+
+takes_paid : (m m' : Meter) (charge : ℕ) → IsPaid m charge → Some m' ≡ Some (meter_after m charge) → Takes m charge m'
+takes_paid m m' charge paid same left on =
+    (left - charge, ap (λ (m : Meter). m.left) (same_Some m' (meter_after m charge) same) ∙ ap (option_map (λ n. n - charge)) on, omega (arith, paid left on))
+
+paid_free : (m : Meter) (charge : ℕ) → charge ≡ 0 → IsPaid m charge
+paid_free m charge free left on = omega (arith, free)
+
+paid_due : (m : Meter) (due charge : ℕ) → can_pay (Some m) due ≡ true → charge ≡ due → IsPaid m charge
+paid_due m due charge enough same left on =
+    let within : nat_le due left ≡ true = sym (ap (λ (o : Option ℕ). nat_le due (unwrap_or o 0)) on) ∙ enough in
+    grind (arith, nat_tests, within, same)
+
+paid_if : (m : Meter) (due charge : ℕ) (tested : Bool) → (tested ≡ true → can_pay (Some m) due ≡ true) → charge ≡ (if tested then due else 0) → IsPaid m charge
+paid_if m due charge true enough same = paid_due m due charge (enough refl) same
+paid_if m due charge false enough same = paid_free m charge same
+
+module _ {V E S : Type 0} (rules : Rules S) (e : Effort V E) (x : V) (m : Meter) (l : S) (charge : ℕ) (x' : V) (m' : Meter) (l' : S) where
+  attempt_paid : (fate : Fate E) → Attempt rules e (record { value = x; meter = Some m; limiter = l }) fate charge (record { value = x'; meter = Some m'; limiter = l' }) → IsPaid m charge
+  attempt_paid (Unasked cause) attempt = paid_free m charge attempt.charged
+  attempt_paid (Denied answer) attempt = paid_free m charge attempt.charged
+  attempt_paid Met attempt = paid_due m _ charge attempt.may_end.2 attempt.charged
+  attempt_paid (Failed cause heed) attempt =
+      paid_if m (amount_due (Some m) e.price) charge (is_none e.late && can_pay (Some m) (amount_due (Some m) e.price)) (λ both. (and_parts _ _ both).1) attempt.charged
+
+grows_takes : {V E S : Type 0} (rules : Rules S) (g : Growth V E) (x : V) (m : Meter) (l : S) (result : Result ℕ E) (charge : ℕ) (x' : V) (m' : Meter) (l' : S)
+    → Grows rules g (record { value = x; meter = Some m; limiter = l }) result charge (record { value = x'; meter = Some m'; limiter = l' }) → Takes m charge m'
+grows_takes {V = V} {S = S} rules g x m l result charge x' m' l' (inl none) = takes_nothing m m' charge none.uncharged (same_Some m' m (ap (λ (s : Situation V S). s.meter) none.same))
+grows_takes rules g x m l result charge x' m' l' (inr some) = takes_paid m m' charge (attempt_paid rules g.effort x m l charge x' m' l' some.fate some.attempt) some.attempt.meter
+
+table_grows_takes : {S : Type 0} (rules : Rules S) (n : ℕ) (init : TypedRawRef) (x : TableValue) (m : Meter) (l : S) (result : Result ℕ TableError) (charge : ℕ) (x' : TableValue) (m' : Meter) (l' : S)
+    → GrowsTable rules n init (record { value = x; meter = Some m; limiter = l }) result charge (record { value = x'; meter = Some m'; limiter = l' }) → Takes m charge m'
+table_grows_takes {S} rules n init x m l result charge x' m' l' grows =
+    on_test (same_type x.ty.element init.ty) _ _ grows
+    (λ h. grows_takes rules (record { amount = n; size = size_of x; effort = table.growth_of x n init.raw }) x m l result charge x' m' l' h)
+    (λ h. takes_nothing m m' charge h.1 (same_Some m' m (ap (λ (s : Situation TableValue S). s.meter) h.2)))
+
+module _ (w : TableWrite) (x : TableValue) (m : Meter) (result : Result (Unit {0}) TableError) (charge : ℕ) (x' : TableValue) where
+  ends_paid : (typed : Bool) (written : Option (List ℕ)) (payable : Bool) → can_pay (Some m) (due_for w x (Some m)) ≡ payable → EndsBy w x (Some m) typed written payable result charge x' → IsPaid m charge
+  ends_paid false written payable enough ends = paid_free m charge ends.1
+  ends_paid true None payable enough ends = paid_free m charge ends.1
+  ends_paid true (Some elements) false enough ends = paid_free m charge ends.1
+  ends_paid true (Some elements) true enough ends = paid_due m _ charge enough ends.1
+
+  pub write_takes : (m' : Meter) → WritesTable w x (Some m) result charge x' (Some m') → Takes m charge m'
+  write_takes m' writes = takes_paid m m' charge (ends_paid w.typed w.written _ refl writes.ends) writes.meter
+
+-- a call on what an index names
+acts_takes : {X R S : Type 0} (Acts : Situation X S → R → ℕ → Situation X S → Type 0) (k : ℕ) (reply_to : R → Reply) (slots : List (Slot X)) (m : Meter) (l : S) (reply : Reply) (charge : ℕ) (slots' : List (Slot X)) (m' : Meter) (l' : S)
+    → ((x : X) (result : R) (x' : X) → Acts (record { value = x; meter = Some m; limiter = l }) result charge (record { value = x'; meter = Some m'; limiter = l' }) → Takes m charge m')
+    → ActsAt k reply_to Acts (record { value = slots; meter = Some m; limiter = l }) reply charge (record { value = slots'; meter = Some m'; limiter = l' }) → Takes m charge m'
+acts_takes {X = X} {S = S} Acts k reply_to slots m l reply charge slots' m' l' takes acts =
+    on_live (live_at slots k) _ _ acts
+    (λ missing. takes_nothing m m' charge missing.1 (same_Some m' m (ap (λ (s : Situation (List (Slot X)) S). s.meter) missing.2)))
+    (λ x found act. takes x act.0 act.1 act.2)
+
+memory_growth_takes : {S : Type 0} (rules : Rules S) (k pages : ℕ) (slots : List (Slot MemoryValue)) (m : Meter) (l : S) (reply : Reply) (charge : ℕ) (slots' : List (Slot MemoryValue)) (m' : Meter) (l' : S)
+    → ActsAt k (reply_of replied.Number replied.Memory) (GrowsMemory rules pages) (record { value = slots; meter = Some m; limiter = l }) reply charge (record { value = slots'; meter = Some m'; limiter = l' }) → Takes m charge m'
+memory_growth_takes rules k pages slots m l reply charge slots' m' l' acts =
+    acts_takes (GrowsMemory rules pages) k (reply_of replied.Number replied.Memory) slots m l reply charge slots' m' l'
+    (λ x result x'. grows_takes rules (record { amount = pages; size = pages_of x; effort = memory.growth_of x pages }) x m l result charge x' m' l') acts
+
+table_growth_takes : {S : Type 0} (rules : Rules S) (k n : ℕ) (init : TypedRawRef) (slots : List (Slot TableValue)) (m : Meter) (l : S) (reply : Reply) (charge : ℕ) (slots' : List (Slot TableValue)) (m' : Meter) (l' : S)
+    → ActsAt k (reply_of replied.Number replied.Table) (GrowsTable rules n init) (record { value = slots; meter = Some m; limiter = l }) reply charge (record { value = slots'; meter = Some m'; limiter = l' }) → Takes m charge m'
+table_growth_takes rules k n init slots m l reply charge slots' m' l' acts =
+    acts_takes (GrowsTable rules n init) k (reply_of replied.Number replied.Table) slots m l reply charge slots' m' l'
+    (λ x result x'. table_grows_takes rules n init x m l result charge x' m' l') acts
+
+table_write_takes : (k : ℕ) (write : TableValue → TableWrite) (slots : List (Slot TableValue)) (m : Meter) (reply : Reply) (charge : ℕ) (slots' : List (Slot TableValue)) (m' : Meter)
+    → WritesTableAt k write (metered slots m) reply charge (metered slots' m') → Takes m charge m'
+table_write_takes k write slots m reply charge slots' m' writes =
+    acts_takes {S = Unit {0}} (λ s result charge s'. WritesTable (write s.value) s.value s.meter result charge s'.value s'.meter) k (reply_of (λ _. replied.Done) replied.Table) slots m tt reply charge slots' m' tt (λ x result x'. write_takes (write x) x m result charge x' m') writes
+
+table_copy_takes : {X : Type 0} (source : Option X) (k : ℕ) (write : X → TableValue → TableWrite) (slots : List (Slot TableValue)) (m : Meter) (reply : Reply) (charge : ℕ) (slots' : List (Slot TableValue)) (m' : Meter)
+    → WritesTableFrom source k write (metered slots m) reply charge (metered slots' m') → Takes m charge m'
+table_copy_takes source k write slots m reply charge slots' m' writes =
+    on_live source _ _ writes
+    (λ missing. takes_nothing m m' charge missing.1 (same_Some m' m (ap (λ (s : Situation (List (Slot TableValue)) (Unit {0})). s.meter) missing.2)))
+    (λ x found h. table_write_takes k (write x) slots m reply charge slots' m' h)
+
+module _ {S : Type 0} (account : Account) (w : World S) (turn : Turn) (w' : World S) where
+  -- the account after this turn, where it doesn't set the fuel
+  abbrev Goes : Type 0
+  Goes = Balances (record { granted = account.granted; charged = account.charged + turn.charge }) w'.state.meter
+
+  module _ (balances : Balances account w.state.meter) where
+    goes : (m' : Meter) → w'.state.meter ≡ m' → Takes w.state.meter turn.charge m' → Goes
+    goes m' same takes = let t = takes balances.0 balances.1 in (t.0, ap (λ (m : Meter). m.left) same ∙ t.1, omega (arith, t.2, balances.2))
+
+    uncharged : (s : State) → turn.charge ≡ 0 → w'.state ≡ s → s.meter ≡ w.state.meter → Goes
+    uncharged s free is same = goes w.state.meter (ap (λ (t : State). t.meter) is ∙ same) (takes_nothing w.state.meter w.state.meter turn.charge free refl)
+
+module _ {S : Type 0} (rules : Rules S) (account : Account) (w : World S) (turn : Turn) (w' : World S) where
+  step_balances : (call : Call) → StepBy rules call w turn w' → Balances account w.state.meter → Balances (charged_by account call turn.charge) w'.state.meter
+  step_balances (SetFuel fuel) step balances = (fuel, ap (λ (v : World S). v.state.meter.left) step.3 ∙ (ap (λ (s : State). s.meter.left) step.2.1 ∙ ap (option_map (λ n. fuel)) balances.1), omega arith)
+  step_balances GetFuel step balances = uncharged account w turn w' balances w.state step.0.0 (ap (λ (v : World S). v.state) step.2) refl
+  step_balances (NewMemory ty) step balances = uncharged account w turn w' balances _ step.0.0 (ap (λ (v : World S). v.state) step.4) refl
+  step_balances (GrowMemory k pages) step balances = goes account w turn w' balances step.1 (ap (λ (v : World S). v.state.meter) step.5) (memory_growth_takes rules k pages w.state.memories w.state.meter w.limiter turn.reply turn.charge step.0 step.1 step.2 step.3)
+  step_balances (DropMemory k) step balances = uncharged account w turn w' balances _ step.0.0 (ap (λ (v : World S). v.state) step.3) refl
+  step_balances (Read k offset len) step balances = uncharged account w turn w' balances w.state step.0.0 (ap (λ (v : World S). v.state) step.2) refl
+  step_balances (Write k offset bytes) step balances = uncharged account w turn w' balances _ step.0.0 (ap (λ (v : World S). v.state) step.3) refl
+  step_balances (Load op k ptr offset) step balances = uncharged account w turn w' balances w.state step.0.0 (ap (λ (v : World S). v.state) step.2) refl
+  step_balances (Store op k ptr offset value) step balances = uncharged account w turn w' balances _ step.0.0 (ap (λ (v : World S). v.state) step.3) refl
+  step_balances (NewTable ty init) step balances = uncharged account w turn w' balances _ step.0.0 (ap (λ (v : World S). v.state) step.4) refl
+  step_balances (GrowTable k n init) step balances = goes account w turn w' balances step.1 (ap (λ (v : World S). v.state.meter) step.5) (table_growth_takes rules k n init w.state.tables w.state.meter w.limiter turn.reply turn.charge step.0 step.1 step.2 step.3)
+  step_balances (DropTable k) step balances = uncharged account w turn w' balances _ step.0.0 (ap (λ (v : World S). v.state) step.3) refl
+  step_balances (GetElement k index) step balances = uncharged account w turn w' balances w.state step.0.0 (ap (λ (v : World S). v.state) step.2) refl
+  step_balances (SetElement k index value) step balances = uncharged account w turn w' balances _ step.0.0 (ap (λ (v : World S). v.state) step.3) refl
+  step_balances (InitTable k j dst src len) step balances = goes account w turn w' balances step.1 (ap (λ (v : World S). v.state.meter) step.4) (table_copy_takes (live_at w.state.segments j) k (initialization_from dst src len) w.state.tables w.state.meter turn.reply turn.charge step.0 step.1 step.2)
+  step_balances (CopyTable k dst j src len) step balances = goes account w turn w' balances step.1 (ap (λ (v : World S). v.state.meter) step.4) (table_copy_takes (live_at w.state.tables j) k (copy_from dst src len) w.state.tables w.state.meter turn.reply turn.charge step.0 step.1 step.2)
+  step_balances (FillTable k dst value len) step balances = goes account w turn w' balances step.1 (ap (λ (v : World S). v.state.meter) step.4) (table_write_takes k (filling dst value len) w.state.tables w.state.meter turn.reply turn.charge step.0 step.1 step.2)
+  step_balances (NewSegment ty items) step balances = uncharged account w turn w' balances _ step.0.0 (ap (λ (v : World S). v.state) step.3) refl
+  step_balances (DropItems k) step balances = uncharged account w turn w' balances _ step.0.0 (ap (λ (v : World S). v.state) step.3) refl
+  step_balances (NewGlobal value ty) step balances = uncharged account w turn w' balances _ step.0.0 (ap (λ (v : World S). v.state) step.3) refl
+  step_balances (SetGlobal k value) step balances = uncharged account w turn w' balances _ step.0.0 (ap (λ (v : World S). v.state) step.3) refl
+  step_balances (GetGlobal k) step balances = uncharged account w turn w' balances w.state step.0.0 (ap (λ (v : World S). v.state) step.2) refl
+  step_balances (SetRegister dst value) step balances = uncharged account w turn w' balances _ step.0.0 (ap (λ (v : World S). v.state) step.3) refl
+  step_balances (GetRegister a) step balances = uncharged account w turn w' balances w.state step.0.0 (ap (λ (v : World S). v.state) step.2) refl
+  step_balances (Make op dst a) step balances = uncharged account w turn w' balances _ step.0.0 (ap (λ (v : World S). v.state) step.3) refl
+  step_balances (Unary op dst a) step balances = uncharged account w turn w' balances _ step.0.0 (ap (λ (v : World S). v.state) step.3) refl
+  step_balances (Binary op dst a b) step balances = uncharged account w turn w' balances _ step.0.0 (ap (λ (v : World S). v.state) step.3) refl
+  step_balances (Ternary op dst a b c) step balances = uncharged account w turn w' balances _ step.0.0 (ap (λ (v : World S). v.state) step.3) refl
+  step_balances (Shift op dst a amount) step balances = uncharged account w turn w' balances _ step.0.0 (ap (λ (v : World S). v.state) step.3) refl
+  step_balances (Test op a) step balances = uncharged account w turn w' balances w.state step.0.0 (ap (λ (v : World S). v.state) step.2) refl
+  step_balances (Extract op a) step balances = uncharged account w turn w' balances w.state step.0.0 (ap (λ (v : World S). v.state) step.2) refl
+  step_balances (Replace op dst a item) step balances = uncharged account w turn w' balances _ step.0.0 (ap (λ (v : World S). v.state) step.3) refl
+  step_balances (Shuffle dst a b lanes) step balances = uncharged account w turn w' balances _ step.0.0 (ap (λ (v : World S). v.state) step.3) refl
+  step_balances (VectorLoad op dst k ptr offset) step balances = uncharged account w turn w' balances _ step.0.0 (ap (λ (v : World S). v.state) step.3) refl
+  step_balances (LoadLane op dst a k ptr offset) step balances = uncharged account w turn w' balances _ step.0.0 (ap (λ (v : World S). v.state) step.3) refl
+  step_balances (VectorStore a k ptr offset) step balances = uncharged account w turn w' balances _ step.0.0 (ap (λ (v : World S). v.state) step.3) refl
+  step_balances (StoreLane op a k ptr offset) step balances = uncharged account w turn w' balances _ step.0.0 (ap (λ (v : World S). v.state) step.3) refl
+
+module _ {S : Type 0} (rules : Rules S) where
+  run_balances : (account : Account) (w : World S) → Balances account w.state.meter → (turns : List Turn) (w' : World S) → Run rules w turns w' → Balances (account_after account turns) w'.state.meter
+  run_balances account w b [] w' ran = rw ran b
+  run_balances account w b (turn ∷ turns) w' (v, step, ran) =
+      run_balances (charged_by account turn.call turn.charge) v (step_balances rules account w turn v turn.call step b) turns w' ran
+
+  pub fuel_balances : (w : World S) (left : ℕ) → w.state.meter.left ≡ Some left → (turns : List Turn) (w' : World S) → Run rules w turns w' → Balances (account_after (opened left) turns) w'.state.meter
+  fuel_balances w left on turns w' ran = run_balances (opened left) w (left, on, omega arith) turns w' ran

@@ -1,0 +1,312 @@
+-- What passes between a machine and its limiter in each turn, and what has grown by it.
+use Rattle.std.proofs.Common.{◌≡◌, ◌≢◌, ℕ, ◌+◌, ◌-◌, ◌*◌, ◌≤◌, Bool, true, false, Option, Some, None, Result, Ok, Err, List, [], ◌∷◌, ◌++◌, length, take, drop, replicate, map, refl, sym, ap, ◌∙◌, arith, inl, inr}
+use Rattle.std.proofs.lemmas.Bool.Decides.{nat_tests}
+use Rattle.std.proofs.lemmas.List.{length-append, length-replicate, length-take-le, length-drop, map_push}
+use Rattle.std.proofs.lemmas.Option.{none-some, same_Some}
+use Rattle.std.specs.Prelude.{nat_le, if◌then◌else◌, slice_get, slice_set}
+use Rattle.std.specs.Option.{option_map, option_and_then}
+use Rattle.wasmi_types.specs.Bytes.{le_bytes}
+use Rattle.wasmi_vector_ops.specs.AccessOps.{stored_lane}
+use Rattle.wasmi_core.specs.AccessOps.{stored_bytes}
+use Rattle.wasmi_types.specs.Access.{at, overwrite}
+use Rattle.wasmi_types.specs.declared.trap.TrapCode.{TrapCode}
+use Rattle.wasmi_meter.specs.declared.error.MemoryError.{MemoryError}
+use Rattle.wasmi_meter.specs.declared.error.TableError.{TableError}
+use Rattle.wasmi_meter.specs.declared.limiter.Kind.{Kind}
+use Rattle.wasmi_meter.specs.declared.limiter.Kind.TheVariants.{Bytes, Elements}
+use Rattle.wasmi_meter.specs.Limiter.{Rules, Question, kind_of}
+use Rattle.wasmi_meter.specs.Meter.{Meter}
+use Rattle.wasmi_meter.specs.Attempt.{Situation, Effort, Fate, Unasked, Denied, Met, Failed, Attempt, MayEnd, Follows, value_after, answer_of}
+use Rattle.wasmi_typed.specs.declared.typed_ref.TypedRawRef.{TypedRawRef}
+use Rattle.wasmi_store.specs.Growth.{Growth, Grows, Makes}
+use Rattle.wasmi_store.specs.Buffer.{Room, Owned}
+use Rattle.wasmi_store.specs.MemoryType.{MemoryTypeValue, page_bytes, minimum_bytes}
+use Rattle.wasmi_store.specs.Memory.{MemoryValue, pages_of, new_memory, MakesMemory, GrowsMemory, WritesMemory}
+use Rattle.wasmi_store.specs.Memory as memory
+use Rattle.wasmi_store.specs.TableType.{TableTypeValue, same_type}
+use Rattle.wasmi_store.specs.Table.{TableValue, TableWrite, size_of, new_table, setting_of, typed_by, MakesTable, GrowsTable, WritesTable, EndsBy}
+use Rattle.wasmi_store.specs.Table as table
+use Rattle.wasmi_core.specs.declared.calls.Call.{Call}
+use Rattle.wasmi_core.specs.declared.calls.Call.TheVariants.{SetFuel, GetFuel, NewMemory, GrowMemory, DropMemory, Read, Write, Load, Store, NewTable, GrowTable, DropTable, GetElement, SetElement, InitTable, CopyTable, FillTable, NewSegment, DropItems, NewGlobal, SetGlobal, GetGlobal, SetRegister, GetRegister, Make, Unary, Binary, Ternary, Shift, Test, Extract, Replace, Shuffle, VectorLoad, LoadLane, VectorStore, StoreLane}
+use Rattle.wasmi_core.specs.declared.calls.Reply.{Reply}
+use Rattle.wasmi_core.specs.declared.calls.Reply.TheVariants as replied
+use Rattle.wasmi_core.specs.declared.slots.Slot.{Slot}
+use Rattle.wasmi_core.specs.declared.slots.Slot.TheVariants.{Live, Gone}
+use Rattle.wasmi_core.specs.State.{State, live_at, with_memories, with_tables}
+use Rattle.wasmi_core.specs.World.{World, Turn}
+use Rattle.wasmi_core.specs.Rows.{reply_of, ActsAt, Creates, AppendsSlot, ChangesAt, DropsAt}
+use Rattle.wasmi_core.specs.MemoryRows.{WritesMemoryAt, StoresMemory, StoresMemoryAt}
+use Rattle.wasmi_core.specs.TableRows.{Metered, metered, SetsElementAt, WritesTableAt, WritesTableFrom, filling, copy_from, initialization_from}
+use Rattle.wasmi_core.specs.RegisterRows.{StoresVectorAt, vector_at}
+use Rattle.wasmi_core.specs.Steps.{Step, StepBy}
+use Rattle.wasmi_core.specs.Exchange.{Exchange, Nothing, Denial, Permission, Notice, Passes, NothingGrows, GrowsAsAsked, GrowsBy, Exchanges}
+use Rattle.wasmi_core.specs.Totals.{slot_count, byte_count, sizes}
+use Rattle.wasmi_core.proofs.RowLemmas.{on_live, on_test}
+use Rattle.wasmi_core.proofs.TotalLemmas.{count_at, counts_set, counts_kept}
+
+-- what holds of one kind, and of the other, holds of each
+of_each : (P : Kind → Type 0) (one : Kind) → P one → ((kind : Kind) → kind ≢ one → P kind) → (kind : Kind) → P kind
+of_each P Bytes own others Bytes = own
+of_each P Bytes own others Elements = others Elements (λ e. cc)
+of_each P Elements own others Bytes = others Bytes (λ e. cc)
+of_each P Elements own others Elements = own
+
+module _ {S : Type 0} (rules : Rules S) (l l' : S) (before after : Kind → List ℕ) where
+  pub nothing_passes : l' ≡ l → NothingGrows before after → Exchanges rules l before l' after
+  nothing_passes same still = (Nothing, same, still)
+
+  -- An attempt passes by its fate. What is watched is one kind, with the sizes of the other kept.
+  module _ {V E : Type 0} (e : Effort V E) (tells : (cause : E) → kind_of (e.notice cause) ≡ e.question.kind) (others : (kind : Kind) → kind ≢ e.question.kind → after kind ≡ before kind) where
+    -- the sizes of the kind after an attempt with this fate
+    abbrev pub GrowsByFate : Fate E → Type 0
+    GrowsByFate (Unasked cause) = after e.question.kind ≡ before e.question.kind
+    GrowsByFate (Denied answer) = after e.question.kind ≡ before e.question.kind
+    GrowsByFate Met = GrowsAsAsked e.question (before e.question.kind) (after e.question.kind)
+    GrowsByFate (Failed cause heed) = after e.question.kind ≡ before e.question.kind
+
+    still : after e.question.kind ≡ before e.question.kind → NothingGrows before after
+    still own = of_each (λ kind. after kind ≡ before kind) e.question.kind own others
+
+    pub attempt_passes : (m : Option Meter) (fate : Fate E) → MayEnd e m fate → Follows e rules l fate l' → GrowsByFate fate → Exchanges rules l before l' after
+    attempt_passes m (Unasked cause) may follows own = (Nothing, follows, still own)
+    attempt_passes m (Denied answer) may follows own = (Denial e.question answer, (may.1, follows), still own)
+    attempt_passes m Met may follows own = (Permission e.question, follows, (own, others))
+    attempt_passes m (Failed cause heed) may follows own = (Notice e.question (e.notice cause) heed, (tells cause, follows.0, follows.1, follows.2), still own)
+
+-- One kind of slots, whose sizes are watched.
+module _ {S X : Type 0} (rules : Rules S) (l l' : S) (before after : Kind → List ℕ) (count : X → ℕ) (kind : Kind) (slots slots' : List (Slot X)) (own : before kind ≡ map (slot_count count) slots) (own' : after kind ≡ map (slot_count count) slots') (others : (other : Kind) → other ≢ kind → after other ≡ before other) where
+  -- the slots have the sizes that they had
+  pub kept_passes : l' ≡ l → map (slot_count count) slots' ≡ map (slot_count count) slots → Exchanges rules l before l' after
+  kept_passes same kept = nothing_passes rules l l' before after same (of_each (λ k. after k ≡ before k) kind (own' ∙ kept ∙ sym own) others)
+
+  same_count : (k : ℕ) (x x' : X) → live_at slots k ≡ Some x → slots' ≡ slice_set slots k (Live x') → count x' ≡ count x → map (slot_count count) slots' ≡ map (slot_count count) slots
+  same_count k x x' found put same = ap (map (slot_count count)) put ∙ counts_kept count slots k x (Live x') found same
+
+  module _ {E : Type 0} where
+    -- something is made
+    module _ (e : Effort (Unit {0}) E) (is : e.question.kind ≡ kind) (tells : (cause : E) → kind_of (e.notice cause) ≡ kind) (refusal : E → Reply) (made : X) (fresh : e.question.current ≡ 0) (full : count made ≡ e.question.desired) where
+      made_sizes : (fate : Fate E) (reply : Reply) → AppendsSlot refusal (answer_of e made fate) slots reply slots' → GrowsByFate rules l l' before after e (λ cause. tells cause ∙ sym is) (λ k other. others k (λ same. other (same ∙ sym is))) fate
+      made_sizes (Unasked cause) reply appends = rw is (own' ∙ ap (map (slot_count count)) appends.1 ∙ sym own)
+      made_sizes (Denied answer) reply appends = rw is (own' ∙ ap (map (slot_count count)) appends.1 ∙ sym own)
+      made_sizes Met reply appends = rw is (omega (arith, fresh), inl (fresh, own' ∙ ap (map (slot_count count)) appends.1 ∙ map_push (slot_count count) slots (Live made) ∙ ap (λ n. map (slot_count count) slots ++ n ∷ []) full ∙ ap (λ (ns : List ℕ). ns ++ e.question.desired ∷ []) (sym own)))
+      made_sizes (Failed cause heed) reply appends = rw is (own' ∙ ap (map (slot_count count)) appends.1 ∙ sym own)
+
+      pub makes_passes : (result : Result X E) (reply : Reply) → Makes rules e made l result l' → AppendsSlot refusal result slots reply slots' → Exchanges rules l before l' after
+      makes_passes result reply (fate, attempt, answered) appends =
+          attempt_passes rules l l' before after e (λ cause. tells cause ∙ sym is) (λ k other. others k (λ same. other (same ∙ sym is))) None fate attempt.may_end attempt.follows (made_sizes fate reply (rw answered at appends))
+
+    -- something grows
+    module _ (k : ℕ) (x x' : X) (found : live_at slots k ≡ Some x) (put : slots' ≡ slice_set slots k (Live x')) where
+      module _ (g : Growth X E) (is : g.effort.question.kind ≡ kind) (tells : (cause : E) → kind_of (g.effort.notice cause) ≡ kind) (now : g.effort.question.current ≡ count x) (full : count g.effort.grown ≡ g.effort.question.desired) (up : g.effort.question.current ≤ g.effort.question.desired) where
+        unchanged : x' ≡ x → after g.effort.question.kind ≡ before g.effort.question.kind
+        unchanged same = rw is (own' ∙ same_count k x x' found put (ap count same) ∙ sym own)
+
+        grown_sizes : (fate : Fate E) → x' ≡ value_after g.effort x fate → GrowsByFate rules l l' before after g.effort (λ cause. tells cause ∙ sym is) (λ o other. others o (λ same. other (same ∙ sym is))) fate
+        grown_sizes (Unasked cause) same = unchanged same
+        grown_sizes (Denied answer) same = unchanged same
+        grown_sizes Met same = rw is (up, inr (k, ap (λ (ns : List ℕ). slice_get ns k) own ∙ count_at count slots k x found ∙ ap Some (sym now), own' ∙ ap (map (slot_count count)) put ∙ counts_set count slots k (Live x') ∙ ap (slice_set (map (slot_count count) slots) k) (ap count same ∙ full) ∙ ap (λ (ns : List ℕ). slice_set ns k g.effort.question.desired) (sym own)))
+        grown_sizes (Failed cause heed) same = unchanged same
+
+        pub grows_passes : (m m' : Meter) (result : Result ℕ E) (charge : ℕ) → Grows rules g (record { value = x; meter = Some m; limiter = l }) result charge (record { value = x'; meter = Some m'; limiter = l' }) → Exchanges rules l before l' after
+        grows_passes m m' result charge (inl none) = kept_passes (ap (λ (s : Situation X S). s.limiter) none.same) (same_count k x x' found put (ap (λ (s : Situation X S). count s.value) none.same))
+        grows_passes m m' result charge (inr some) =
+            attempt_passes rules l l' before after g.effort (λ cause. tells cause ∙ sym is) (λ o other. others o (λ same. other (same ∙ sym is))) (Some m) some.fate some.attempt.may_end some.attempt.follows (grown_sizes some.fate some.attempt.value)
+
+-- what is written over a part of a list leaves its length
+overwritten : (xs ys zs : List ℕ) (a : ℕ) (fits : Bool) → nat_le (a + length ys) (length xs) ≡ fits → (if fits then Some (take a xs ++ ys ++ drop (a + length ys) xs) else None) ≡ Some zs → length zs ≡ length xs
+overwritten xs ys zs a true fits is =
+    let inside : a + length ys ≤ length xs = grind (arith, nat_tests, fits) in
+    let front : length (take a xs) ≡ a = length-take-le a xs (omega (arith, inside)) in
+    let back : length (drop (a + length ys) xs) ≡ length xs - (a + length ys) = length-drop (a + length ys) xs in
+    ap length (sym (same_Some _ zs is)) ∙ (length-append (take a xs ++ ys) (drop (a + length ys) xs) ∙ ap (λ n. n + length (drop (a + length ys) xs)) (length-append (take a xs) ys) ∙ omega (arith, inside, front, back))
+overwritten xs ys zs a false fits is = absurd (none-some zs is)
+
+overwrite_length : (xs ys zs : List ℕ) (a : ℕ) → overwrite xs a ys ≡ Some zs → length zs ≡ length xs
+overwrite_length xs ys zs a is = overwritten xs ys zs a _ refl is
+
+accessed_length : (xs ys zs : List ℕ) (a : ℕ) (low : Bool) → (if low then overwrite xs a ys else None) ≡ Some zs → length zs ≡ length xs
+accessed_length xs ys zs a true is = overwrite_length xs ys zs a is
+accessed_length xs ys zs a false is = absurd (none-some zs is)
+
+-- a write and a store leave the number of bytes
+written_count : (x x' : MemoryValue) (offset : ℕ) (source : List ℕ) (result : Result (Unit {0}) MemoryError) → WritesMemory x offset source result x' → byte_count x' ≡ byte_count x
+written_count x x' offset source (Ok _) writes = overwrite_length x.bytes source x'.bytes offset writes.0
+written_count x x' offset source (Err error) writes = ap byte_count writes.2
+
+stored_count : (x x' : MemoryValue) (a : ℕ) (stored : List ℕ) (result : Result (Unit {0}) TrapCode) → StoresMemory x a stored result x' → byte_count x' ≡ byte_count x
+stored_count x x' a stored (Ok _) stores = accessed_length x.bytes stored x'.bytes a _ stores.0
+stored_count x x' a stored (Err trap) stores = ap length stores.0.2
+
+-- what may be written over a table has as many elements
+abbrev KeepsLength : TableWrite → TableValue → Type 0
+KeepsLength w x = (elements : List ℕ) → w.written ≡ Some elements → length elements ≡ length x.elements
+
+copied_length : (elements written : List ℕ) (dst : ℕ) (part : Option (List ℕ)) → option_and_then (λ ys. overwrite elements dst ys) part ≡ Some written → length written ≡ length elements
+copied_length elements written dst (Some part) is = overwrite_length elements part written dst is
+copied_length elements written dst None is = absurd (none-some written is)
+
+module _ (w : TableWrite) (x : TableValue) (m : Option Meter) (result : Result (Unit {0}) TableError) (charge : ℕ) (x' : TableValue) (keeps : KeepsLength w x) where
+  ends_count : (typed : Bool) (written : Option (List ℕ)) (payable : Bool) → w.written ≡ written → EndsBy w x m typed written payable result charge x' → size_of x' ≡ size_of x
+  ends_count false written payable is ends = ap size_of ends.2
+  ends_count true None payable is ends = ap size_of ends.2
+  ends_count true (Some elements) false is ends = ap size_of ends.2
+  ends_count true (Some elements) true is ends = ap size_of ends.2 ∙ keeps elements is
+
+  pub write_count : (m' : Option Meter) → WritesTable w x m result charge x' m' → size_of x' ≡ size_of x
+  write_count m' writes = ends_count w.typed w.written _ refl writes.ends
+
+module _ {X : Type 0} (count : X → ℕ) (k : ℕ) (slots : List (Slot X)) (reply : Reply) (slots' : List (Slot X)) where
+  pub changes_kept : (Change : X → X → Type 0) → ((x x' : X) → Change x x' → count x' ≡ count x) → ChangesAt k slots reply slots' Change → map (slot_count count) slots' ≡ map (slot_count count) slots
+  changes_kept Change same changes =
+      on_live (live_at slots k) _ _ changes
+      (λ missing. ap (map (slot_count count)) missing.1)
+      (λ x found h. ap (map (slot_count count)) h.2 ∙ counts_kept count slots k x (Live h.0) found (same x h.0 h.1))
+
+  pub drops_kept : DropsAt count k slots reply slots' → map (slot_count count) slots' ≡ map (slot_count count) slots
+  drops_kept drops =
+      on_live (live_at slots k) _ _ drops
+      (λ missing. ap (map (slot_count count)) missing.1)
+      (λ x found h. ap (map (slot_count count)) h.1 ∙ counts_kept count slots k x (Gone (count x)) found refl)
+
+-- the writes over a table at an index
+module _ (k : ℕ) (slots : List (Slot TableValue)) (m : Meter) (reply : Reply) (charge : ℕ) (slots' : List (Slot TableValue)) (m' : Meter) where
+  pub write_kept : (write : TableValue → TableWrite) → ((x : TableValue) → KeepsLength (write x) x) → WritesTableAt k write (metered slots m) reply charge (metered slots' m') → map (slot_count size_of) slots' ≡ map (slot_count size_of) slots
+  write_kept write keeps writes =
+      on_live (live_at slots k) _ _ writes
+      (λ missing. ap (λ (s : Metered). map (slot_count size_of) s.value) missing.2)
+      (λ x found h. ap (map (slot_count size_of)) h.4 ∙ counts_kept size_of slots k x (Live h.1) found (write_count (write x) x (Some m) h.0 charge h.1 (keeps x) (Some m') h.2))
+
+  pub copy_kept : {X : Type 0} (source : Option X) (write : X → TableValue → TableWrite) → ((y : X) (x : TableValue) → KeepsLength (write y x) x) → WritesTableFrom source k write (metered slots m) reply charge (metered slots' m') → map (slot_count size_of) slots' ≡ map (slot_count size_of) slots
+  copy_kept source write keeps writes =
+      on_live source _ _ writes
+      (λ missing. ap (λ (s : Metered). map (slot_count size_of) s.value) missing.2)
+      (λ y found h. write_kept (write y) (keeps y) h)
+
+-- Rows of a world, by the part of the state that they change.
+each_kind : (P : Kind → Type 0) → P Bytes → P Elements → (kind : Kind) → P kind
+each_kind P bytes elements Bytes = bytes
+each_kind P bytes elements Elements = elements
+
+but_bytes : (P : Kind → Type 0) → P Elements → (kind : Kind) → kind ≢ Bytes → P kind
+but_bytes P elements Bytes other = absurd (other refl)
+but_bytes P elements Elements other = elements
+
+but_elements : (P : Kind → Type 0) → P Bytes → (kind : Kind) → kind ≢ Elements → P kind
+but_elements P bytes Bytes other = bytes
+but_elements P bytes Elements other = absurd (other refl)
+
+module _ {S : Type 0} (rules : Rules S) (w : World S) (turn : Turn) (w' : World S) where
+  abbrev Passed : Type 0
+  Passed = Exchanges rules w.limiter (sizes w.state) w'.limiter (sizes w'.state)
+
+  -- the limiter is the same, and so are the sizes of memories and tables
+  idle : w'.limiter ≡ w.limiter → (s : State) → w'.state ≡ s → sizes s Bytes ≡ sizes w.state Bytes → sizes s Elements ≡ sizes w.state Elements → Passed
+  idle unasked s is bytes elements =
+      nothing_passes rules w.limiter w'.limiter (sizes w.state) (sizes w'.state) unasked
+      (each_kind (λ kind. sizes w'.state kind ≡ sizes w.state kind) (ap (λ t. sizes t Bytes) is ∙ bytes) (ap (λ t. sizes t Elements) is ∙ elements))
+
+-- a memory or a table is made or grows
+module _ {S : Type 0} (rules : Rules S) (s : State) (l : S) (l' : S) where
+  module _ (slots : List (Slot MemoryValue)) (m : Meter) where
+    abbrev with_those_memories : State
+    with_those_memories = record (with_memories s slots) { meter = m }
+
+    module _ (reply : Reply) where
+      memory_made : (room : Room) (ty : MemoryTypeValue) → Creates replied.Memory (MakesMemory rules room ty) s.memories l reply slots l' → Exchanges rules l (sizes s) l' (sizes with_those_memories)
+      memory_made room ty (inl none) =
+          kept_passes rules l l' (sizes s) (sizes with_those_memories) byte_count Bytes s.memories slots refl refl (but_bytes (λ kind. sizes with_those_memories kind ≡ sizes s kind) refl) none.2 (ap (map (slot_count byte_count)) none.1)
+      memory_made room ty (inr (result, makes, appends)) =
+          makes_passes rules l l' (sizes s) (sizes with_those_memories) byte_count Bytes s.memories slots refl refl (but_bytes (λ kind. sizes with_those_memories kind ≡ sizes s kind) refl)
+          (memory.creation_of room ty) refl (λ cause. refl) replied.Memory (new_memory room ty) refl (length-replicate {A = ℕ} (minimum_bytes ty) 0) result reply makes appends
+
+      memory_grows : (k pages charge : ℕ) → ActsAt k (reply_of replied.Number replied.Memory) (GrowsMemory rules pages) (record { value = s.memories; meter = Some s.meter; limiter = l }) reply charge (record { value = slots; meter = Some m; limiter = l' }) → Exchanges rules l (sizes s) l' (sizes with_those_memories)
+      memory_grows k pages charge acts =
+          on_live (live_at s.memories k) _ _ acts
+          (λ missing. kept_passes rules l l' (sizes s) (sizes with_those_memories) byte_count Bytes s.memories slots refl refl (but_bytes (λ kind. sizes with_those_memories kind ≡ sizes s kind) refl)
+          (ap (λ (t : Situation (List (Slot MemoryValue)) S). t.limiter) missing.2) (ap (λ (t : Situation (List (Slot MemoryValue)) S). map (slot_count byte_count) t.value) missing.2))
+          (λ x found (result, x', grows, replied, put). let added = pages * page_bytes x.ty.page in
+          grows_passes rules l l' (sizes s) (sizes with_those_memories) byte_count Bytes s.memories slots refl refl (but_bytes (λ kind. sizes with_those_memories kind ≡ sizes s kind) refl)
+          k x x' found put (record { amount = pages; size = pages_of x; effort = memory.growth_of x pages }) refl (λ cause. refl) refl
+          (length-append x.bytes (replicate added 0) ∙ ap (λ n. length x.bytes + n) (length-replicate {A = ℕ} added 0)) (omega arith) s.meter m result charge grows)
+
+  module _ (slots : List (Slot TableValue)) (m : Meter) where
+    abbrev with_those_tables : State
+    with_those_tables = record (with_tables s slots) { meter = m }
+
+    module _ (reply : Reply) where
+      table_made : (ty : TableTypeValue) (init : TypedRawRef) → Creates replied.Table (MakesTable rules ty init) s.tables l reply slots l' → Exchanges rules l (sizes s) l' (sizes with_those_tables)
+      table_made ty init (inl none) =
+          kept_passes rules l l' (sizes s) (sizes with_those_tables) size_of Elements s.tables slots refl refl (but_elements (λ kind. sizes with_those_tables kind ≡ sizes s kind) refl) none.2 (ap (map (slot_count size_of)) none.1)
+      table_made ty init (inr (result, makes, appends)) =
+          makes_passes rules l l' (sizes s) (sizes with_those_tables) size_of Elements s.tables slots refl refl (but_elements (λ kind. sizes with_those_tables kind ≡ sizes s kind) refl)
+          (table.creation_of ty init.ty) refl (λ cause. refl) replied.Table (new_table ty init.raw) refl (length-replicate {A = ℕ} ty.minimum init.raw) result reply makes appends
+
+      table_grows : (k n charge : ℕ) (init : TypedRawRef) → ActsAt k (reply_of replied.Number replied.Table) (GrowsTable rules n init) (record { value = s.tables; meter = Some s.meter; limiter = l }) reply charge (record { value = slots; meter = Some m; limiter = l' }) → Exchanges rules l (sizes s) l' (sizes with_those_tables)
+      table_grows k n charge init acts =
+          on_live (live_at s.tables k) _ _ acts
+          (λ missing. kept_passes rules l l' (sizes s) (sizes with_those_tables) size_of Elements s.tables slots refl refl (but_elements (λ kind. sizes with_those_tables kind ≡ sizes s kind) refl)
+          (ap (λ (t : Situation (List (Slot TableValue)) S). t.limiter) missing.2) (ap (λ (t : Situation (List (Slot TableValue)) S). map (slot_count size_of) t.value) missing.2))
+          (λ x found (result, x', grows, replied, put). on_test (same_type x.ty.element init.ty) _ _ grows
+          (λ h. grows_passes rules l l' (sizes s) (sizes with_those_tables) size_of Elements s.tables slots refl refl (but_elements (λ kind. sizes with_those_tables kind ≡ sizes s kind) refl)
+          k x x' found put (record { amount = n; size = size_of x; effort = table.growth_of x n init.raw }) refl (λ cause. refl) refl
+          (length-append x.elements (replicate n init.raw) ∙ ap (λ n. length x.elements + n) (length-replicate {A = ℕ} n init.raw)) (omega arith) s.meter m result charge h)
+          (λ h. kept_passes rules l l' (sizes s) (sizes with_those_tables) size_of Elements s.tables slots refl refl (but_elements (λ kind. sizes with_those_tables kind ≡ sizes s kind) refl)
+          (ap (λ (t : Situation TableValue S). t.limiter) h.2) (ap (map (slot_count size_of)) put ∙ counts_kept size_of s.tables k x (Live x') found (ap (λ (t : Situation TableValue S). size_of t.value) h.2))))
+
+module _ (k : ℕ) (slots : List (Slot MemoryValue)) (reply : Reply) (slots' : List (Slot MemoryValue)) (a : ℕ) where
+  written_kept : (source : List ℕ) → WritesMemoryAt k a source slots reply slots' → map (slot_count byte_count) slots' ≡ map (slot_count byte_count) slots
+  written_kept source writes = changes_kept byte_count k slots reply slots' _ (λ x x' c. written_count x x' a source c.0 c.1) writes
+
+  store_kept : (stored : List ℕ) → StoresMemoryAt k a stored slots reply slots' → map (slot_count byte_count) slots' ≡ map (slot_count byte_count) slots
+  store_kept stored stores = changes_kept byte_count k slots reply slots' _ (λ x x' c. stored_count x x' a stored c.0 c.1) stores
+
+  vector_store_kept : (stored : Option (List ℕ)) → StoresVectorAt k a stored slots reply slots' → map (slot_count byte_count) slots' ≡ map (slot_count byte_count) slots
+  vector_store_kept None stores = ap (map (slot_count byte_count)) stores.1
+  vector_store_kept (Some stored) stores = store_kept stored stores
+
+set_kept : (k : ℕ) (slots : List (Slot TableValue)) (reply : Reply) (slots' : List (Slot TableValue)) (index : ℕ) (value : TypedRawRef) → SetsElementAt k index value slots reply slots' → map (slot_count size_of) slots' ≡ map (slot_count size_of) slots
+set_kept k slots reply slots' index value sets =
+    changes_kept size_of k slots reply slots' _ (λ x x' c. write_count (typed_by x value.ty (setting_of x index value.raw)) x None c.0 0 x' (λ elements is. overwrite_length x.elements (value.raw ∷ []) elements index is) None c.1) sets
+
+module _ {S : Type 0} (rules : Rules S) (w : World S) (turn : Turn) (w' : World S) where
+  step_passes : (call : Call) → StepBy rules call w turn w' → Exchanges rules w.limiter (sizes w.state) w'.limiter (sizes w'.state)
+  step_passes (SetFuel fuel) step = idle rules w turn w' (ap (λ (v : World S). v.limiter) step.3) _ (ap (λ (v : World S). v.state) step.3) (ap (λ t. sizes t Bytes) step.2.1) (ap (λ t. sizes t Elements) step.2.1)
+  step_passes GetFuel step = idle rules w turn w' (ap (λ (v : World S). v.limiter) step.2) w.state (ap (λ (v : World S). v.state) step.2) refl refl
+  step_passes (NewMemory ty) step = rw step.4 (memory_made rules w.state w.limiter step.2 step.1 w.state.meter turn.reply Owned ty step.3)
+  step_passes (GrowMemory k pages) step = rw step.5 (memory_grows rules w.state w.limiter step.2 step.0 step.1 turn.reply k pages turn.charge step.3)
+  step_passes (DropMemory k) step = idle rules w turn w' (ap (λ (v : World S). v.limiter) step.3) _ (ap (λ (v : World S). v.state) step.3) (drops_kept byte_count k w.state.memories turn.reply step.1 step.2) refl
+  step_passes (Read k offset len) step = idle rules w turn w' (ap (λ (v : World S). v.limiter) step.2) w.state (ap (λ (v : World S). v.state) step.2) refl refl
+  step_passes (Write k offset bytes) step = idle rules w turn w' (ap (λ (v : World S). v.limiter) step.3) _ (ap (λ (v : World S). v.state) step.3) (written_kept k w.state.memories turn.reply step.1 offset bytes.items step.2) refl
+  step_passes (Load op k ptr offset) step = idle rules w turn w' (ap (λ (v : World S). v.limiter) step.2) w.state (ap (λ (v : World S). v.state) step.2) refl refl
+  step_passes (Store op k ptr offset value) step = idle rules w turn w' (ap (λ (v : World S). v.limiter) step.3) _ (ap (λ (v : World S). v.state) step.3) (store_kept k w.state.memories turn.reply step.1 (ptr + offset) (stored_bytes op value) step.2) refl
+  step_passes (NewTable ty init) step = rw step.4 (table_made rules w.state w.limiter step.2 step.1 w.state.meter turn.reply ty init step.3)
+  step_passes (GrowTable k n init) step = rw step.5 (table_grows rules w.state w.limiter step.2 step.0 step.1 turn.reply k n turn.charge init step.3)
+  step_passes (DropTable k) step = idle rules w turn w' (ap (λ (v : World S). v.limiter) step.3) _ (ap (λ (v : World S). v.state) step.3) refl (drops_kept size_of k w.state.tables turn.reply step.1 step.2)
+  step_passes (GetElement k index) step = idle rules w turn w' (ap (λ (v : World S). v.limiter) step.2) w.state (ap (λ (v : World S). v.state) step.2) refl refl
+  step_passes (SetElement k index value) step = idle rules w turn w' (ap (λ (v : World S). v.limiter) step.3) _ (ap (λ (v : World S). v.state) step.3) refl (set_kept k w.state.tables turn.reply step.1 index value step.2)
+  step_passes (InitTable k j dst src len) step = idle rules w turn w' (ap (λ (v : World S). v.limiter) step.4) _ (ap (λ (v : World S). v.state) step.4) refl (copy_kept k w.state.tables w.state.meter turn.reply turn.charge step.0 step.1 (live_at w.state.segments j) (initialization_from dst src len) (λ y x elements is. copied_length x.elements elements dst (at y.items src len) is) step.2)
+  step_passes (CopyTable k dst j src len) step = idle rules w turn w' (ap (λ (v : World S). v.limiter) step.4) _ (ap (λ (v : World S). v.state) step.4) refl (copy_kept k w.state.tables w.state.meter turn.reply turn.charge step.0 step.1 (live_at w.state.tables j) (copy_from dst src len) (λ y x elements is. copied_length x.elements elements dst (at y.elements src len) is) step.2)
+  step_passes (FillTable k dst value len) step = idle rules w turn w' (ap (λ (v : World S). v.limiter) step.4) _ (ap (λ (v : World S). v.state) step.4) refl (write_kept k w.state.tables w.state.meter turn.reply turn.charge step.0 step.1 (filling dst value len) (λ x elements is. overwrite_length x.elements (replicate len value.raw) elements dst is) step.2)
+  step_passes (NewSegment ty items) step = idle rules w turn w' (ap (λ (v : World S). v.limiter) step.3) _ (ap (λ (v : World S). v.state) step.3) refl refl
+  step_passes (DropItems k) step = idle rules w turn w' (ap (λ (v : World S). v.limiter) step.3) _ (ap (λ (v : World S). v.state) step.3) refl refl
+  step_passes (NewGlobal value ty) step = idle rules w turn w' (ap (λ (v : World S). v.limiter) step.3) _ (ap (λ (v : World S). v.state) step.3) refl refl
+  step_passes (SetGlobal k value) step = idle rules w turn w' (ap (λ (v : World S). v.limiter) step.3) _ (ap (λ (v : World S). v.state) step.3) refl refl
+  step_passes (GetGlobal k) step = idle rules w turn w' (ap (λ (v : World S). v.limiter) step.2) w.state (ap (λ (v : World S). v.state) step.2) refl refl
+  step_passes (SetRegister dst value) step = idle rules w turn w' (ap (λ (v : World S). v.limiter) step.3) _ (ap (λ (v : World S). v.state) step.3) refl refl
+  step_passes (GetRegister a) step = idle rules w turn w' (ap (λ (v : World S). v.limiter) step.2) w.state (ap (λ (v : World S). v.state) step.2) refl refl
+  step_passes (Make op dst a) step = idle rules w turn w' (ap (λ (v : World S). v.limiter) step.3) _ (ap (λ (v : World S). v.state) step.3) refl refl
+  step_passes (Unary op dst a) step = idle rules w turn w' (ap (λ (v : World S). v.limiter) step.3) _ (ap (λ (v : World S). v.state) step.3) refl refl
+  step_passes (Binary op dst a b) step = idle rules w turn w' (ap (λ (v : World S). v.limiter) step.3) _ (ap (λ (v : World S). v.state) step.3) refl refl
+  step_passes (Ternary op dst a b c) step = idle rules w turn w' (ap (λ (v : World S). v.limiter) step.3) _ (ap (λ (v : World S). v.state) step.3) refl refl
+  step_passes (Shift op dst a amount) step = idle rules w turn w' (ap (λ (v : World S). v.limiter) step.3) _ (ap (λ (v : World S). v.state) step.3) refl refl
+  step_passes (Test op a) step = idle rules w turn w' (ap (λ (v : World S). v.limiter) step.2) w.state (ap (λ (v : World S). v.state) step.2) refl refl
+  step_passes (Extract op a) step = idle rules w turn w' (ap (λ (v : World S). v.limiter) step.2) w.state (ap (λ (v : World S). v.state) step.2) refl refl
+  step_passes (Replace op dst a item) step = idle rules w turn w' (ap (λ (v : World S). v.limiter) step.3) _ (ap (λ (v : World S). v.state) step.3) refl refl
+  step_passes (Shuffle dst a b lanes) step = idle rules w turn w' (ap (λ (v : World S). v.limiter) step.3) _ (ap (λ (v : World S). v.state) step.3) refl refl
+  step_passes (VectorLoad op dst k ptr offset) step = idle rules w turn w' (ap (λ (v : World S). v.limiter) step.3) _ (ap (λ (v : World S). v.state) step.3) refl refl
+  step_passes (LoadLane op dst a k ptr offset) step = idle rules w turn w' (ap (λ (v : World S). v.limiter) step.3) _ (ap (λ (v : World S). v.state) step.3) refl refl
+  step_passes (VectorStore a k ptr offset) step = idle rules w turn w' (ap (λ (v : World S). v.limiter) step.3) _ (ap (λ (v : World S). v.state) step.3) (vector_store_kept k w.state.memories turn.reply step.1 (ptr + offset) (option_map (le_bytes 16) (vector_at w.state.registers a)) step.2) refl
+  step_passes (StoreLane op a k ptr offset) step = idle rules w turn w' (ap (λ (v : World S). v.limiter) step.3) _ (ap (λ (v : World S). v.state) step.3) (vector_store_kept k w.state.memories turn.reply step.1 (ptr + offset) (option_map (stored_lane op) (vector_at w.state.registers a)) step.2) refl
+
+pub growths_are_permitted : {S : Type 0} (rules : Rules S) (w : World S) (turn : Turn) (w' : World S) → Step rules w turn w' → Exchanges rules w.limiter (sizes w.state) w'.limiter (sizes w'.state)
+growths_are_permitted rules w turn w' step = step_passes rules w turn w' turn.call step

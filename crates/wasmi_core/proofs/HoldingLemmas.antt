@@ -1,0 +1,85 @@
+-- What a reserving limiter holds, as what a machine has changes.
+use Rattle.std.proofs.Common.{◌≡◌, ◌≢◌, ℕ, ◌+◌, ◌-◌, ◌≤◌, Option, Some, None, Result, Ok, Err, true, false, List, [], ◌∷◌, sum, inl, inr, refl, sym, ap, ◌∙◌, arith}
+use Rattle.std.proofs.lemmas.Option.{same_Some}
+use Rattle.std.proofs.Common.{subst, IfOk, OnErr}
+use Rattle.wasmi_meter.specs.declared.limiter.Kind.{Kind}
+use Rattle.wasmi_meter.specs.declared.limiter.Kind.TheVariants.{Bytes, Elements}
+use Rattle.wasmi_meter.specs.Holdings.{Holdings, HoldsTheSame, Reserves, GivesBack, with_more, without_last}
+use Rattle.wasmi_meter.specs.Limiter.{Question, Answer, IsDenial, Failure, kind_of, Heed, Rules, optional_rules}
+use Rattle.wasmi_core.specs.declared.calls.Call.{Call}
+use Rattle.wasmi_core.specs.declared.calls.Reply.{Reply}
+use Rattle.wasmi_core.specs.State.{State}
+use Rattle.wasmi_core.specs.World.{World, Turn}
+use Rattle.wasmi_core.specs.Runs.{Run, IsRunOf}
+use Rattle.wasmi_core.specs.Exchange.{Exchange, Nothing, Denial, Permission, Notice, Passes, NothingGrows, GrowsAsAsked, GrowsBy}
+use Rattle.wasmi_core.specs.Totals.{sizes, HoldsTotals}
+use Rattle.wasmi_core.proofs.TotalLemmas.{sum_set, sum_push}
+use Rattle.wasmi_core.proofs.ExchangeLemmas.{growths_are_permitted}
+
+denial_keeps : (q : Question) (answer : Answer) (h h' : Holdings) → IsDenial answer → Reserves q answer h h' → HoldsTheSame h h'
+denial_keeps q (Ok true) h h' denial reserves = absurd denial
+denial_keeps q (Ok false) h h' denial reserves = reserves
+denial_keeps q (Err error) h h' denial reserves = reserves
+
+-- a difference that was added and taken back
+given_back : (kind : Kind) (n : ℕ) (h p h' : Holdings) → p ≡ with_more h kind n → GivesBack kind p h' → HoldsTheSame h h'
+given_back Bytes n h p h' more gives =
+    let less = gives n (ap (λ (x : Holdings). x.last) more) ∙ ap (without_last Bytes) more in
+    record { bytes = ap (λ (x : Holdings). x.bytes) less ∙ omega arith; elements = ap (λ (x : Holdings). x.elements) less }
+given_back Elements n h p h' more gives =
+    let less = gives n (ap (λ (x : Holdings). x.last) more) ∙ ap (without_last Elements) more in
+    record { bytes = ap (λ (x : Holdings). x.bytes) less; elements = ap (λ (x : Holdings). x.elements) less ∙ omega arith }
+
+grown_sum : (q : Question) (xs ys : List ℕ) → GrowsAsAsked q xs ys → sum ys ≡ sum xs + (q.desired - q.current)
+grown_sum q xs ys (up, inl (fresh, added)) = ap sum added ∙ sum_push xs q.desired ∙ omega (arith, fresh)
+grown_sum q xs ys (up, inr (k, found, put)) = ap sum put ∙ omega (arith, up, sum_set xs k q.current q.desired found)
+
+module _ (s s' : State) where
+  still_held : (h h' : Holdings) → HoldsTotals h s → HoldsTheSame h h' → NothingGrows (sizes s) (sizes s') → HoldsTotals h' s'
+  still_held h h' held same still =
+      record { bytes = same.bytes ∙ held.bytes ∙ ap sum (sym (still Bytes)); elements = same.elements ∙ held.elements ∙ ap sum (sym (still Elements)) }
+
+  more_held : (kind : Kind) (n : ℕ) (h h' : Holdings) → HoldsTotals h s → h' ≡ with_more h kind n → sum (sizes s' kind) ≡ sum (sizes s kind) + n → ((other : Kind) → other ≢ kind → sizes s' other ≡ sizes s other) → HoldsTotals h' s'
+  more_held Bytes n h h' held more grown others = record {
+    bytes = ap (λ (x : Holdings). x.bytes) more ∙ ap (λ k. k + n) held.bytes ∙ sym grown;
+    elements = ap (λ (x : Holdings). x.elements) more ∙ held.elements ∙ ap sum (sym (others Elements (λ e. cc)));
+  }
+  more_held Elements n h h' held more grown others = record {
+    bytes = ap (λ (x : Holdings). x.bytes) more ∙ held.bytes ∙ ap sum (sym (others Bytes (λ e. cc)));
+    elements = ap (λ (x : Holdings). x.elements) more ∙ ap (λ k. k + n) held.elements ∙ sym grown;
+  }
+
+module _ {L : Type 0} (rules : Rules L) (holdings : L → Holdings) (reserves : (l l' : L) (q : Question) (answer : Answer) → rules.asked l q answer l' → Reserves q answer (holdings l) (holdings l')) (gives_back : (l l' : L) (failure : Failure) (heed : Heed) → rules.noticed l failure heed l' → GivesBack (kind_of failure) (holdings l) (holdings l')) where
+  -- a limiter is there, and holds the totals
+  abbrev Holds : Option L → State → Type 0
+  Holds limiter s = (l : L) × (limiter ≡ Some l) × HoldsTotals (holdings l) s
+
+  exchange_holds : (s s' : State) (l : L) (limiter : Option L) (exchange : Exchange) → HoldsTotals (holdings l) s → Passes (optional_rules rules) (Some l) exchange limiter → GrowsBy exchange (sizes s) (sizes s') → Holds limiter s'
+  exchange_holds s s' l limiter Nothing held passes grows =
+      (l, passes, still_held s s' (holdings l) (holdings l) held (record { bytes = refl; elements = refl }) grows)
+  exchange_holds s s' l (Some l') (Denial q answer) held (denial, asks) grows =
+      (l', refl, still_held s s' (holdings l) (holdings l') held (denial_keeps q answer (holdings l) (holdings l') denial (reserves l l' q answer asks)) grows)
+  exchange_holds s s' l None (Denial q answer) held (denial, asks) grows = absurd asks
+  exchange_holds s s' l (Some l') (Permission q) held asks (grows, others) =
+      (l', refl, more_held s s' q.kind (q.desired - q.current) (holdings l) (holdings l') held (reserves l l' q (Ok true) asks) (grown_sum q (sizes s q.kind) (sizes s' q.kind) grows) others)
+  exchange_holds s s' l None (Permission q) held asks grows = absurd asks
+  exchange_holds s s' l (Some l') (Notice q failure heed) held (kind, Some p, asks, notices) grows =
+      (l', refl, still_held s s' (holdings l) (holdings l') held (given_back q.kind (q.desired - q.current) (holdings l) (holdings p) (holdings l') (reserves l p q (Ok true) asks) (rw kind at (gives_back p l' failure heed notices))) grows)
+  exchange_holds s s' l None (Notice q failure heed) held (kind, Some p, asks, notices) grows = absurd notices
+  exchange_holds s s' l limiter (Notice q failure heed) held (kind, None, asks, notices) grows = absurd asks
+
+  pub totals_are_held : (s : State) (l : L) → HoldsTotals (holdings l) s → (turns : List Turn) (w' : World (Option L)) → Run (optional_rules rules) (record { state = s; limiter = Some l }) turns w' → Holds w'.limiter w'.state
+  totals_are_held s l held [] w' ran =
+      rw ran (l, refl, held)
+  totals_are_held s l held (turn ∷ turns) w' (v, step, ran) =
+      let passed = growths_are_permitted (optional_rules rules) (record { state = s; limiter = Some l }) turn v step in
+      let next = exchange_holds s v.state l v.limiter passed.0 held passed.1 passed.2 in
+      totals_are_held v.state next.0 next.2 turns w' (rw next.1 at ran)
+
+  pub run_holds : {R E : Type 0} (items : R → List Reply) (s : State) (l : L) (s' : State) (l' : L) (calls : List Call) → HoldsTotals (holdings l) s → (result : Result R E)
+      → IfOk result (λ replies. IsRunOf (optional_rules rules) calls (record { state = s; limiter = Some l }) (items replies) (record { state = s'; limiter = Some l' }))
+      → OnErr result ((s' ≡ s) × (l' ≡ l)) → HoldsTotals (holdings l') s'
+  run_holds items s l s' l' calls held (Ok replies) ran same =
+      let after = totals_are_held s l held ran.0 (record { state = s'; limiter = Some l' }) ran.3 in
+      subst (λ k. HoldsTotals (holdings k) s') (sym (same_Some l' after.0 after.1)) after.2
+  run_holds items s l s' l' calls held (Err error) ran same = rw (same.0, same.1) held

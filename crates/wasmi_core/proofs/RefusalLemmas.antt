@@ -1,0 +1,227 @@
+-- What a refused turn leaves.
+use Rattle.std.proofs.Common.{◌≡◌, ℕ, ◌+◌, Bool, true, false, Option, Some, None, Result, Ok, Err, List, [], ◌∷◌, set, refl, sym, ap, ◌∙◌, inl, inr}
+use Rattle.std.proofs.lemmas.Option.{none-some, same_Some}
+use Rattle.std.specs.Prelude.{slice_get, slice_set}
+use Rattle.std.specs.Option.{option_map, option_and_then}
+use Rattle.wasmi_types.specs.Bytes.{le_bytes}
+use Rattle.wasmi_lanewise.specs.VectorTable.{shuffle}
+use Rattle.wasmi_vector_ops.specs.AccessOps.{stored_lane}
+use Rattle.wasmi_vector_ops.specs.BinaryOps.{binary_vector}
+use Rattle.wasmi_vector_ops.specs.LaneOps.{replaced_vector}
+use Rattle.wasmi_vector_ops.specs.MakeOps.{made_vector}
+use Rattle.wasmi_vector_ops.specs.ShiftOps.{shifted_vector}
+use Rattle.wasmi_vector_ops.specs.TernaryOps.{ternary_vector}
+use Rattle.wasmi_vector_ops.specs.UnaryOps.{unary_vector}
+use Rattle.wasmi_types.specs.declared.trap.TrapCode.{TrapCode}
+use Rattle.wasmi_raw.specs.declared.raw.RawVal.{RawVal}
+use Rattle.wasmi_meter.specs.declared.error.MemoryError.{MemoryError}
+use Rattle.wasmi_meter.specs.declared.error.TableError.{TableError}
+use Rattle.wasmi_meter.specs.Limiter.{Rules}
+use Rattle.wasmi_meter.specs.Meter.{Meter}
+use Rattle.wasmi_meter.specs.Attempt.{Situation, Effort, Fate, Unasked, Denied, Met, Failed, Attempt, answer_of, value_after}
+use Rattle.wasmi_typed.specs.declared.global.GlobalError.{GlobalError}
+use Rattle.wasmi_typed.specs.declared.global.GlobalError.TheVariants.{ImmutableWrite, TypeMismatch}
+use Rattle.wasmi_typed.specs.declared.typed.TypedRawVal.{TypedRawVal}
+use Rattle.wasmi_typed.specs.Global.{GlobalInstance, SetsGlobal}
+use Rattle.wasmi_store.specs.Growth.{Growth, Grows}
+use Rattle.wasmi_store.specs.Buffer.{Owned}
+use Rattle.wasmi_store.specs.Memory.{MemoryValue, MakesMemory, WritesMemory, GrowsMemory}
+use Rattle.wasmi_typed.specs.declared.typed_ref.TypedRawRef.{TypedRawRef}
+use Rattle.wasmi_store.specs.Table.{TableValue, TableWrite, size_of, MakesTable, GrowsTable, WritesTable, EndsBy}
+use Rattle.wasmi_store.specs.TableType.{same_type}
+use Rattle.wasmi_core.specs.declared.calls.Call.{Call}
+use Rattle.wasmi_core.specs.declared.calls.Call.TheVariants.{SetFuel, GetFuel, NewMemory, GrowMemory, DropMemory, Read, Write, Load, Store, NewTable, GrowTable, DropTable, GetElement, SetElement, InitTable, CopyTable, FillTable, NewSegment, DropItems, NewGlobal, SetGlobal, GetGlobal, SetRegister, GetRegister, Make, Unary, Binary, Ternary, Shift, Test, Extract, Replace, Shuffle, VectorLoad, LoadLane, VectorStore, StoreLane}
+use Rattle.wasmi_core.specs.declared.calls.Reply.{Reply}
+use Rattle.wasmi_core.specs.declared.calls.Reply.TheVariants as replied
+use Rattle.wasmi_core.specs.declared.slots.Slot.{Slot}
+use Rattle.wasmi_core.specs.declared.slots.Slot.TheVariants.{Live, Gone}
+use Rattle.wasmi_core.specs.State.{State, live_value, live_at, with_memories, with_tables, with_segments, with_globals, with_registers}
+use Rattle.wasmi_core.specs.World.{World, Turn}
+use Rattle.wasmi_core.specs.Rows.{reply_of, ActsAt, AppendsSlot, Creates, ChangesAt, DropsAt}
+use Rattle.wasmi_core.specs.MemoryRows.{WritesMemoryAt, StoresMemory, StoresMemoryAt}
+use Rattle.wasmi_types.specs.declared.value.RefType.{RefType}
+use Rattle.wasmi_store.specs.Segment.{SegmentValue}
+use Rattle.wasmi_core.specs.ValueRows.{CreatesSegment, DropsItemsAt, CreatesGlobal, SetsGlobalAt}
+use Rattle.wasmi_core.specs.TableRows.{Metered, metered, SetsElementAt, WritesTableAt, WritesTableFrom, filling, copy_from, initialization_from}
+use Rattle.wasmi_core.specs.RegisterRows.{TakesAt, StoresVectorAt, given_vector, of_one, of_two, of_three, vector_loaded, lane_loaded, vector_at}
+use Rattle.wasmi_core.specs.AccessOps.{stored_bytes}
+use Rattle.wasmi_core.specs.Totals.{byte_count}
+use Rattle.wasmi_core.specs.Steps.{Step, StepBy}
+use Rattle.wasmi_core.specs.Laws.{IsRefusal, SameContents}
+use Rattle.wasmi_core.proofs.CopyLemmas.{set_read}
+use Rattle.wasmi_core.proofs.RowLemmas.{on_live, on_test}
+
+-- a live value is put back into its slot
+module _ {X : Type 0} where
+  live_slot : (slot : Option (Slot X)) (x : X) → option_and_then live_value slot ≡ Some x → slot ≡ Some (Live x)
+  live_slot None x found = absurd (none-some x found)
+  live_slot (Some (Gone last)) x found = absurd (none-some x found)
+  live_slot (Some (Live y)) x found = ap (λ z. Some (Live z)) (same_Some y x found)
+
+  put_back : (slots : List (Slot X)) (k : ℕ) (x x' : X) → live_at slots k ≡ Some x → x' ≡ x → slice_set slots k (Live x') ≡ slots
+  put_back slots k x x' found same = ap (λ z. set slots k (Live z)) same ∙ set_read slots k (Live x) (live_slot (slice_get slots k) x found)
+
+  changes_back : (k : ℕ) (slots : List (Slot X)) (reply : Reply) (slots' : List (Slot X)) (Change : X → X → Type 0) → ((x x' : X) → Change x x' → x' ≡ x) → ChangesAt k slots reply slots' Change → slots' ≡ slots
+  changes_back k slots reply slots' Change same changes =
+      on_live (live_at slots k) _ _ changes (λ missing. missing.1) (λ x found h. h.2 ∙ put_back slots k x h.0 found (same x h.0 h.1))
+
+  drops_back : (count : X → ℕ) (k : ℕ) (slots : List (Slot X)) (reply : Reply) (slots' : List (Slot X)) → IsRefusal reply → DropsAt count k slots reply slots' → slots' ≡ slots
+  drops_back count k slots reply slots' refused drops =
+      on_live (live_at slots k) _ _ drops (λ missing. missing.1) (λ x found h. absurd (rw h.0 at refused))
+
+-- each work, refused
+module _ {E : Type 0} (refusal : E → Reply) where
+  appends_back : {X : Type 0} (result : Result X E) (slots : List (Slot X)) (reply : Reply) (slots' : List (Slot X)) → IsRefusal reply → AppendsSlot refusal result slots reply slots' → slots' ≡ slots
+  appends_back (Ok x) slots reply slots' refused appends = absurd (rw appends.0 at refused)
+  appends_back (Err error) slots reply slots' refused appends = appends.1
+
+  creates_back : {X S : Type 0} (Makes : S → Result X E → S → Type 0) (slots : List (Slot X)) (l : S) (reply : Reply) (slots' : List (Slot X)) (l' : S) → IsRefusal reply → Creates refusal Makes slots l reply slots' l' → slots' ≡ slots
+  creates_back Makes slots l reply slots' l' refused (inl none) = none.1
+  creates_back Makes slots l reply slots' l' refused (inr (result, makes, appends)) = appends_back result slots reply slots' refused appends
+
+  module _ {V S : Type 0} (rules : Rules S) (g : Growth V E) (x : V) (m : Meter) (l : S) (charge : ℕ) (x' : V) (m' : Meter) (l' : S) where
+    attempt_back : (fate : Fate E) → IsRefusal (reply_of replied.Number refusal (answer_of g.effort g.size fate)) → x' ≡ value_after g.effort x fate → x' ≡ x
+    attempt_back (Unasked cause) refused is = is
+    attempt_back (Denied answer) refused is = is
+    attempt_back Met refused is = absurd refused
+    attempt_back (Failed cause heed) refused is = is
+
+    grows_back : (result : Result ℕ E) → IsRefusal (reply_of replied.Number refusal result) → Grows rules g (record { value = x; meter = Some m; limiter = l }) result charge (record { value = x'; meter = Some m'; limiter = l' }) → x' ≡ x
+    grows_back result refused (inl none) = ap (λ (s : Situation V S). s.value) none.same
+    grows_back result refused (inr some) = attempt_back some.fate (rw some.answered at refused) some.attempt.value
+
+written_back : (x x' : MemoryValue) (offset : ℕ) (source : List ℕ) (result : Result (Unit {0}) MemoryError) → IsRefusal (reply_of (λ _. replied.Done) replied.Memory result) → WritesMemory x offset source result x' → x' ≡ x
+written_back x x' offset source (Ok _) refused writes = absurd refused
+written_back x x' offset source (Err error) refused writes = writes.2
+
+stored_back : (x x' : MemoryValue) (a : ℕ) (stored : List ℕ) (result : Result (Unit {0}) TrapCode) → IsRefusal (reply_of (λ _. replied.Done) replied.Trap result) → StoresMemory x a stored result x' → x' ≡ x
+stored_back x x' a stored (Ok _) refused stores = absurd refused
+stored_back x x' a stored (Err trap) refused (stores, ty, room) = λ k. record { ty = ty k; bytes = stores.2 k; room = room k }
+
+global_back : (x x' : GlobalInstance) (value : TypedRawVal) (result : Result (Unit {0}) GlobalError) → IsRefusal (reply_of (λ _. replied.Done) replied.Global result) → SetsGlobal x value result x' → x' ≡ x
+global_back x x' value (Ok _) refused sets = absurd refused
+global_back x x' value (Err ImmutableWrite) refused sets = sets.1
+global_back x x' value (Err TypeMismatch) refused sets = sets.2
+
+module _ (w : TableWrite) (x : TableValue) (m : Option Meter) (charge : ℕ) (x' : TableValue) where
+  ends_back : (typed : Bool) (written : Option (List ℕ)) (payable : Bool) (result : Result (Unit {0}) TableError) → IsRefusal (reply_of (λ _. replied.Done) replied.Table result) → EndsBy w x m typed written payable result charge x' → x' ≡ x
+  ends_back false written payable result refused ends = ends.2
+  ends_back true None payable result refused ends = ends.2
+  ends_back true (Some elements) false result refused ends = ends.2
+  ends_back true (Some elements) true result refused ends = absurd (rw ends.0 at refused)
+
+  write_back : (m' : Option Meter) (result : Result (Unit {0}) TableError) → IsRefusal (reply_of (λ _. replied.Done) replied.Table result) → WritesTable w x m result charge x' m' → x' ≡ x
+  write_back m' result refused writes = ends_back w.typed w.written _ result refused writes.ends
+
+module _ (k : ℕ) (slots : List (Slot TableValue)) (m : Meter) (reply : Reply) (refused : IsRefusal reply) (charge : ℕ) (slots' : List (Slot TableValue)) (m' : Meter) where
+  table_write_back : (write : TableValue → TableWrite) → WritesTableAt k write (metered slots m) reply charge (metered slots' m') → slots' ≡ slots
+  table_write_back write writes =
+      on_live (live_at slots k) _ _ writes
+      (λ missing. ap (λ (s : Metered). s.value) missing.2)
+      (λ x found h. h.4 ∙ put_back slots k x h.1 found (write_back (write x) x (Some m) charge h.1 (Some m') h.0 (rw h.3 at refused) h.2))
+
+  table_copy_back : {X : Type 0} (source : Option X) (write : X → TableValue → TableWrite) → WritesTableFrom source k write (metered slots m) reply charge (metered slots' m') → slots' ≡ slots
+  table_copy_back source write writes =
+      on_live source _ _ writes (λ missing. ap (λ (s : Metered). s.value) missing.2) (λ y found h. table_write_back (write y) h)
+
+store_back : (k : ℕ) (slots : List (Slot MemoryValue)) (reply : Reply) (slots' : List (Slot MemoryValue)) (a : ℕ) → IsRefusal reply → (stored : List ℕ) → StoresMemoryAt k a stored slots reply slots' → slots' ≡ slots
+store_back k slots reply slots' a refused stored stores =
+    changes_back k slots reply slots' _ (λ x x' c. stored_back x x' a stored c.0 (rw c.2 at refused) c.1) stores
+
+vector_store_back : (k : ℕ) (slots : List (Slot MemoryValue)) (reply : Reply) (slots' : List (Slot MemoryValue)) (a : ℕ) → IsRefusal reply → (stored : Option (List ℕ)) → StoresVectorAt k a stored slots reply slots' → slots' ≡ slots
+vector_store_back k slots reply slots' a refused None stores = stores.1
+vector_store_back k slots reply slots' a refused (Some stored) stores = store_back k slots reply slots' a refused stored stores
+
+takes_back : (given : Option (Result RawVal TrapCode)) (old : Option RawVal) (dst : ℕ) (registers : List RawVal) (reply : Reply) (registers' : List RawVal) → IsRefusal reply → TakesAt given old dst registers reply registers' → registers' ≡ registers
+takes_back None old dst registers reply registers' refused takes = takes.1
+takes_back (Some given) None dst registers reply registers' refused takes = takes.1
+takes_back (Some (Ok value)) (Some old) dst registers reply registers' refused takes = absurd (rw takes.0 at refused)
+takes_back (Some (Err trap)) (Some old) dst registers reply registers' refused takes = takes.1
+
+memory_growth_back : {S : Type 0} (rules : Rules S) (k pages : ℕ) (slots : List (Slot MemoryValue)) (m : Meter) (l : S) (reply : Reply) (charge : ℕ) (slots' : List (Slot MemoryValue)) (m' : Meter) (l' : S) → IsRefusal reply
+    → ActsAt k (reply_of replied.Number replied.Memory) (GrowsMemory rules pages) (record { value = slots; meter = Some m; limiter = l }) reply charge (record { value = slots'; meter = Some m'; limiter = l' }) → slots' ≡ slots
+memory_growth_back {S} rules k pages slots m l reply charge slots' m' l' refused acts =
+    on_live (live_at slots k) _ _ acts
+    (λ missing. ap (λ (s : Situation (List (Slot MemoryValue)) S). s.value) missing.2)
+    (λ x found a. a.4 ∙ put_back slots k x a.1 found (grows_back replied.Memory rules _ x m l charge a.1 m' l' a.0 (rw a.3 at refused) a.2))
+
+table_growth_back : {S : Type 0} (rules : Rules S) (k n : ℕ) (init : TypedRawRef) (slots : List (Slot TableValue)) (m : Meter) (l : S) (reply : Reply) (charge : ℕ) (slots' : List (Slot TableValue)) (m' : Meter) (l' : S) → IsRefusal reply
+    → ActsAt k (reply_of replied.Number replied.Table) (GrowsTable rules n init) (record { value = slots; meter = Some m; limiter = l }) reply charge (record { value = slots'; meter = Some m'; limiter = l' }) → slots' ≡ slots
+table_growth_back {S} rules k n init slots m l reply charge slots' m' l' refused acts =
+    on_live (live_at slots k) _ _ acts
+    (λ missing. ap (λ (s : Situation (List (Slot TableValue)) S). s.value) missing.2)
+    (λ x found a. a.4 ∙ put_back slots k x a.1 found
+    (on_test (same_type x.ty.element init.ty) _ _ a.2 (λ g. grows_back replied.Table rules _ x m l charge a.1 m' l' a.0 (rw a.3 at refused) g) (λ g. ap (λ (s : Situation TableValue S). s.value) g.2)))
+
+segment_back : (ty : RefType) (items : List ℕ) (slots : List (Slot SegmentValue)) (reply : Reply) (slots' : List (Slot SegmentValue)) → IsRefusal reply → CreatesSegment ty items slots reply slots' → slots' ≡ slots
+segment_back ty items slots reply slots' refused (inl none) = none.1
+segment_back ty items slots reply slots' refused (inr (result, is, appends)) = appends_back replied.Segment result slots reply slots' refused appends
+
+global_made_back : (global : GlobalInstance) (slots : List (Slot GlobalInstance)) (reply : Reply) (slots' : List (Slot GlobalInstance)) → IsRefusal reply → CreatesGlobal global slots reply slots' → slots' ≡ slots
+global_made_back global slots reply slots' refused (inl none) = none.1
+global_made_back global slots reply slots' refused (inr made) = absurd (rw made.0 at refused)
+
+write_refused : (k offset : ℕ) (source : List ℕ) (slots : List (Slot MemoryValue)) (reply : Reply) (slots' : List (Slot MemoryValue)) → IsRefusal reply → WritesMemoryAt k offset source slots reply slots' → slots' ≡ slots
+write_refused k offset source slots reply slots' refused writes =
+    changes_back k slots reply slots' _ (λ x x' c. written_back x x' offset source c.0 (rw c.2 at refused) c.1) writes
+
+set_refused : (k index : ℕ) (value : TypedRawRef) (slots : List (Slot TableValue)) (reply : Reply) (slots' : List (Slot TableValue)) → IsRefusal reply → SetsElementAt k index value slots reply slots' → slots' ≡ slots
+set_refused k index value slots reply slots' refused sets =
+    changes_back k slots reply slots' _ (λ x x' c. write_back _ x None 0 x' None c.0 (rw c.2 at refused) c.1) sets
+
+items_refused : (k : ℕ) (slots : List (Slot SegmentValue)) (reply : Reply) (slots' : List (Slot SegmentValue)) → IsRefusal reply → DropsItemsAt k slots reply slots' → slots' ≡ slots
+items_refused k slots reply slots' refused drops = changes_back k slots reply slots' _ (λ x x' c. absurd (rw c.0 at refused)) drops
+
+global_refused : (k : ℕ) (value : TypedRawVal) (slots : List (Slot GlobalInstance)) (reply : Reply) (slots' : List (Slot GlobalInstance)) → IsRefusal reply → SetsGlobalAt k value slots reply slots' → slots' ≡ slots
+global_refused k value slots reply slots' refused sets =
+    changes_back k slots reply slots' _ (λ x x' c. global_back x x' value c.0 (rw c.2 at refused) c.1) sets
+
+same_contents : (s s' : State) → s' ≡ s → SameContents s s'
+same_contents s s' same = rw same (record { memories = refl; tables = refl; segments = refl; globals = refl; registers = refl })
+
+-- the state with another meter
+paid_contents : (s s' : State) (m : Meter) → s' ≡ record s { meter = m } → SameContents s s'
+paid_contents s s' m same = rw same (record { memories = refl; tables = refl; segments = refl; globals = refl; registers = refl })
+
+module _ {S : Type 0} (rules : Rules S) (w : World S) (turn : Turn) (w' : World S) (refused : IsRefusal turn.reply) where
+  step_back : (call : Call) → StepBy rules call w turn w' → SameContents w.state w'.state
+  step_back (SetFuel fuel) step = paid_contents w.state w'.state _ (ap (λ (v : World S). v.state) step.3 ∙ step.2.1)
+  step_back GetFuel step = same_contents w.state w'.state (ap (λ (v : World S). v.state) step.2)
+  step_back (NewMemory ty) step = same_contents w.state w'.state ((ap (λ (v : World S). v.state) step.4) ∙ ap (with_memories w.state) (creates_back replied.Memory (MakesMemory rules Owned ty) w.state.memories w.limiter turn.reply step.1 step.2 refused step.3))
+  step_back (GrowMemory k pages) step = paid_contents w.state w'.state step.1 ((ap (λ (v : World S). v.state) step.5) ∙ ap (λ part. let s : State = record (with_memories w.state part) { meter = step.1 } in s) (memory_growth_back rules k pages w.state.memories w.state.meter w.limiter turn.reply turn.charge step.0 step.1 step.2 refused step.3))
+  step_back (DropMemory k) step = same_contents w.state w'.state ((ap (λ (v : World S). v.state) step.3) ∙ ap (with_memories w.state) (drops_back byte_count k w.state.memories turn.reply step.1 refused step.2))
+  step_back (Read k offset len) step = same_contents w.state w'.state (ap (λ (v : World S). v.state) step.2)
+  step_back (Write k offset bytes) step = same_contents w.state w'.state ((ap (λ (v : World S). v.state) step.3) ∙ ap (with_memories w.state) (write_refused k offset bytes.items w.state.memories turn.reply step.1 refused step.2))
+  step_back (Load op k ptr offset) step = same_contents w.state w'.state (ap (λ (v : World S). v.state) step.2)
+  step_back (Store op k ptr offset value) step = same_contents w.state w'.state ((ap (λ (v : World S). v.state) step.3) ∙ ap (with_memories w.state) (store_back k w.state.memories turn.reply step.1 (ptr + offset) refused (stored_bytes op value) step.2))
+  step_back (NewTable ty init) step = same_contents w.state w'.state ((ap (λ (v : World S). v.state) step.4) ∙ ap (with_tables w.state) (creates_back replied.Table (MakesTable rules ty init) w.state.tables w.limiter turn.reply step.1 step.2 refused step.3))
+  step_back (GrowTable k n init) step = paid_contents w.state w'.state step.1 ((ap (λ (v : World S). v.state) step.5) ∙ ap (λ part. let s : State = record (with_tables w.state part) { meter = step.1 } in s) (table_growth_back rules k n init w.state.tables w.state.meter w.limiter turn.reply turn.charge step.0 step.1 step.2 refused step.3))
+  step_back (DropTable k) step = same_contents w.state w'.state ((ap (λ (v : World S). v.state) step.3) ∙ ap (with_tables w.state) (drops_back size_of k w.state.tables turn.reply step.1 refused step.2))
+  step_back (GetElement k index) step = same_contents w.state w'.state (ap (λ (v : World S). v.state) step.2)
+  step_back (SetElement k index value) step = same_contents w.state w'.state ((ap (λ (v : World S). v.state) step.3) ∙ ap (with_tables w.state) (set_refused k index value w.state.tables turn.reply step.1 refused step.2))
+  step_back (InitTable k j dst src len) step = paid_contents w.state w'.state step.1 ((ap (λ (v : World S). v.state) step.4) ∙ ap (λ part. let s : State = record (with_tables w.state part) { meter = step.1 } in s) (table_copy_back k w.state.tables w.state.meter turn.reply refused turn.charge step.0 step.1 (live_at w.state.segments j) (initialization_from dst src len) step.2))
+  step_back (CopyTable k dst j src len) step = paid_contents w.state w'.state step.1 ((ap (λ (v : World S). v.state) step.4) ∙ ap (λ part. let s : State = record (with_tables w.state part) { meter = step.1 } in s) (table_copy_back k w.state.tables w.state.meter turn.reply refused turn.charge step.0 step.1 (live_at w.state.tables j) (copy_from dst src len) step.2))
+  step_back (FillTable k dst value len) step = paid_contents w.state w'.state step.1 ((ap (λ (v : World S). v.state) step.4) ∙ ap (λ part. let s : State = record (with_tables w.state part) { meter = step.1 } in s) (table_write_back k w.state.tables w.state.meter turn.reply refused turn.charge step.0 step.1 (filling dst value len) step.2))
+  step_back (NewSegment ty items) step = same_contents w.state w'.state ((ap (λ (v : World S). v.state) step.3) ∙ ap (with_segments w.state) (segment_back ty items.items w.state.segments turn.reply step.1 refused step.2))
+  step_back (DropItems k) step = same_contents w.state w'.state ((ap (λ (v : World S). v.state) step.3) ∙ ap (with_segments w.state) (items_refused k w.state.segments turn.reply step.1 refused step.2))
+  step_back (NewGlobal value ty) step = same_contents w.state w'.state ((ap (λ (v : World S). v.state) step.3) ∙ ap (with_globals w.state) (global_made_back (record { value = value; ty = ty }) w.state.globals turn.reply step.1 refused step.2))
+  step_back (SetGlobal k value) step = same_contents w.state w'.state ((ap (λ (v : World S). v.state) step.3) ∙ ap (with_globals w.state) (global_refused k value w.state.globals turn.reply step.1 refused step.2))
+  step_back (GetGlobal k) step = same_contents w.state w'.state (ap (λ (v : World S). v.state) step.2)
+  step_back (SetRegister dst value) step = same_contents w.state w'.state ((ap (λ (v : World S). v.state) step.3) ∙ ap (with_registers w.state) (takes_back (Some (Ok value)) (slice_get w.state.registers dst) dst w.state.registers turn.reply step.1 refused step.2))
+  step_back (GetRegister a) step = same_contents w.state w'.state (ap (λ (v : World S). v.state) step.2)
+  step_back (Make op dst a) step = same_contents w.state w'.state ((ap (λ (v : World S). v.state) step.3) ∙ ap (with_registers w.state) (takes_back (option_map (λ raw. given_vector (made_vector op raw)) (slice_get w.state.registers a)) (slice_get w.state.registers dst) dst w.state.registers turn.reply step.1 refused step.2))
+  step_back (Unary op dst a) step = same_contents w.state w'.state ((ap (λ (v : World S). v.state) step.3) ∙ ap (with_registers w.state) (takes_back (of_one (unary_vector op) (vector_at w.state.registers a)) (slice_get w.state.registers dst) dst w.state.registers turn.reply step.1 refused step.2))
+  step_back (Binary op dst a b) step = same_contents w.state w'.state ((ap (λ (v : World S). v.state) step.3) ∙ ap (with_registers w.state) (takes_back (of_two (binary_vector op) (vector_at w.state.registers a) (vector_at w.state.registers b)) (slice_get w.state.registers dst) dst w.state.registers turn.reply step.1 refused step.2))
+  step_back (Ternary op dst a b c) step = same_contents w.state w'.state ((ap (λ (v : World S). v.state) step.3) ∙ ap (with_registers w.state) (takes_back (of_three (ternary_vector op) (vector_at w.state.registers a) (vector_at w.state.registers b) (vector_at w.state.registers c)) (slice_get w.state.registers dst) dst w.state.registers turn.reply step.1 refused step.2))
+  step_back (Shift op dst a amount) step = same_contents w.state w'.state ((ap (λ (v : World S). v.state) step.3) ∙ ap (with_registers w.state) (takes_back (of_one (λ v. shifted_vector op v amount) (vector_at w.state.registers a)) (slice_get w.state.registers dst) dst w.state.registers turn.reply step.1 refused step.2))
+  step_back (Test op a) step = same_contents w.state w'.state (ap (λ (v : World S). v.state) step.2)
+  step_back (Extract op a) step = same_contents w.state w'.state (ap (λ (v : World S). v.state) step.2)
+  step_back (Replace op dst a item) step = same_contents w.state w'.state ((ap (λ (v : World S). v.state) step.3) ∙ ap (with_registers w.state) (takes_back (option_and_then (λ raw. of_one (λ v. replaced_vector op v raw) (vector_at w.state.registers a)) (slice_get w.state.registers item)) (slice_get w.state.registers dst) dst w.state.registers turn.reply step.1 refused step.2))
+  step_back (Shuffle dst a b lanes) step = same_contents w.state w'.state ((ap (λ (v : World S). v.state) step.3) ∙ ap (with_registers w.state) (takes_back (of_two (λ x y. shuffle x y lanes) (vector_at w.state.registers a) (vector_at w.state.registers b)) (slice_get w.state.registers dst) dst w.state.registers turn.reply step.1 refused step.2))
+  step_back (VectorLoad op dst k ptr offset) step = same_contents w.state w'.state ((ap (λ (v : World S). v.state) step.3) ∙ ap (with_registers w.state) (takes_back (vector_loaded op (ptr + offset) (live_at w.state.memories k)) (slice_get w.state.registers dst) dst w.state.registers turn.reply step.1 refused step.2))
+  step_back (LoadLane op dst a k ptr offset) step = same_contents w.state w'.state ((ap (λ (v : World S). v.state) step.3) ∙ ap (with_registers w.state) (takes_back (lane_loaded op (ptr + offset) (vector_at w.state.registers a) (live_at w.state.memories k)) (slice_get w.state.registers dst) dst w.state.registers turn.reply step.1 refused step.2))
+  step_back (VectorStore a k ptr offset) step = same_contents w.state w'.state ((ap (λ (v : World S). v.state) step.3) ∙ ap (with_memories w.state) (vector_store_back k w.state.memories turn.reply step.1 (ptr + offset) refused (option_map (le_bytes 16) (vector_at w.state.registers a)) step.2))
+  step_back (StoreLane op a k ptr offset) step = same_contents w.state w'.state ((ap (λ (v : World S). v.state) step.3) ∙ ap (with_memories w.state) (vector_store_back k w.state.memories turn.reply step.1 (ptr + offset) refused (option_map (stored_lane op) (vector_at w.state.registers a)) step.2))
+
+pub refusals_keep_contents : {S : Type 0} (rules : Rules S) (w : World S) (turn : Turn) (w' : World S) → Step rules w turn w' → IsRefusal turn.reply → SameContents w.state w'.state
+refusals_keep_contents rules w turn w' step refused = step_back rules w turn w' refused turn.call step

@@ -1,0 +1,14 @@
+-- The cases of a row.
+use Rattle.std.proofs.Common.{◌≡◌, Bool, true, false, Option, Some, None, refl}
+use Rattle.std.specs.Prelude.{MatchBool}
+use Rattle.wasmi_core.specs.Rows.{OnLive}
+
+-- whether an index names something live
+pub on_live : {X C : Type 0} (o : Option X) (Missing : Type 0) (Fact : X → Type 0) → OnLive o Missing Fact → (Missing → C) → ((x : X) → o ≡ Some x → Fact x → C) → C
+on_live None Missing Fact h missing live = missing h
+on_live (Some x) Missing Fact h missing live = live x refl h
+
+-- whether a test holds
+pub on_test : {C : Type 0} (test : Bool) (Holds Fails : Type 0) → MatchBool test Holds Fails → (Holds → C) → (Fails → C) → C
+on_test true Holds Fails h holds fails = holds h
+on_test false Holds Fails h holds fails = fails h

@@ -1,0 +1,28 @@
+-- What a meter was given, and what was taken of it.
+use Rattle.std.specs.Prelude.{◌≡◌, ◌+◌, ℕ, Some, List, fold}
+use Rattle.wasmi_meter.specs.Meter.{Meter}
+use Rattle.wasmi_core.specs.declared.calls.Call.{Call}
+use Rattle.wasmi_core.specs.declared.calls.Call.TheVariants.{SetFuel}
+use Rattle.wasmi_core.specs.World.{Turn}
+
+-- the fuel that was set last, or that was left at first, and the sum of the charges since then
+pub record Account : Type 0 where
+  pub granted : ℕ
+  pub charged : ℕ
+
+-- an account of so much fuel, of which nothing was charged yet
+abbrev pub opened : ℕ → Account
+opened fuel = record { granted = fuel; charged = 0 }
+
+-- an account after a call with a charge: setting the fuel opens it anew
+abbrev pub charged_by : Account → Call → ℕ → Account
+charged_by account (SetFuel fuel) charge = opened fuel
+charged_by account call charge = record { granted = account.granted; charged = account.charged + charge }
+
+-- an account after turns
+abbrev pub account_after : Account → List Turn → Account
+account_after account turns = fold (λ a turn. charged_by a turn.call turn.charge) account turns
+
+-- metering is on, and what is left and what was charged are what was granted
+abbrev pub Balances : Account → Meter → Type 0
+Balances account m = (left : ℕ) × (m.left ≡ Some left) × (left + account.charged ≡ account.granted)

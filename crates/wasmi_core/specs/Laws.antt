@@ -1,0 +1,59 @@
+-- What holds of all turns and runs of a machine.
+use Rattle.std.specs.Prelude.{◌≡◌, ℕ, Option, Some, List}
+use Rattle.wasmi_meter.specs.Holdings.{Holdings}
+use Rattle.wasmi_meter.specs.Limiter.{Rules, optional_rules}
+use Rattle.wasmi_core.specs.declared.calls.Reply.{Reply}
+use Rattle.wasmi_core.specs.declared.calls.Reply.TheVariants.{Done, Made, Value, Number, Bytes, Reference, Memory, Table, Fuel, Global, Segment, Trap, NoSuch, NoRoom}
+use Rattle.wasmi_core.specs.State.{State}
+use Rattle.wasmi_core.specs.World.{World, Turn}
+use Rattle.wasmi_core.specs.Steps.{Step}
+use Rattle.wasmi_core.specs.Runs.{Run}
+use Rattle.wasmi_core.specs.Account.{opened, account_after, Balances}
+use Rattle.wasmi_core.specs.Exchange.{Exchanges}
+use Rattle.wasmi_core.specs.Totals.{sizes, HoldsTotals}
+
+-- a reply that tells why nothing was done
+abbrev pub IsRefusal : Reply → Type 0
+IsRefusal Done = ⊥
+IsRefusal (Made index) = ⊥
+IsRefusal (Value value) = ⊥
+IsRefusal (Number number) = ⊥
+IsRefusal (Bytes bytes) = ⊥
+IsRefusal (Reference element) = ⊥
+IsRefusal (Memory error) = Unit {0}
+IsRefusal (Table error) = Unit {0}
+IsRefusal (Fuel error) = Unit {0}
+IsRefusal (Global error) = Unit {0}
+IsRefusal (Segment error) = Unit {0}
+IsRefusal (Trap code) = Unit {0}
+IsRefusal NoSuch = Unit {0}
+IsRefusal NoRoom = Unit {0}
+
+-- all but the meter is the same
+pub record SameContents (s s' : State) : Type 0 where
+  pub memories : s'.memories ≡ s.memories
+  pub tables : s'.tables ≡ s.tables
+  pub segments : s'.segments ≡ s.segments
+  pub globals : s'.globals ≡ s.globals
+  pub registers : s'.registers ≡ s.registers
+
+module _ {S : Type 0} (rules : Rules S) where
+  -- in each turn that is refused all but the meter stays
+  abbrev pub RefusalsKeepContents : Type 0
+  RefusalsKeepContents = (w : World S) (turn : Turn) (w' : World S) → Step rules w turn w' → IsRefusal turn.reply → SameContents w.state w'.state
+
+  -- in each turn a permission is followed by exactly the growth that was asked for, or by just one notice, and a denial by neither
+  abbrev pub GrowsAsPermitted : Type 0
+  GrowsAsPermitted = (w : World S) (turn : Turn) (w' : World S) → Step rules w turn w'
+      → Exchanges rules w.limiter (sizes w.state) w'.limiter (sizes w'.state)
+
+  -- while metering is on, what is left and the charges since the fuel was set last, or since the start, are what was set then, or left at the start
+  abbrev pub FuelBalances : Type 0
+  FuelBalances = (w : World S) (left : ℕ) → w.state.meter.left ≡ Some left
+      → (turns : List Turn) (w' : World S) → Run rules w turns w' → Balances (account_after (opened left) turns) w'.state.meter
+
+-- a limiter that holds the totals before a run is there after it, and holds the totals then
+abbrev pub HoldsTotalsAlways : {L : Type 0} → Rules L → (L → Holdings) → Type 0
+HoldsTotalsAlways {L} rules holdings = (s : State) (l : L) → HoldsTotals (holdings l) s
+    → (turns : List Turn) (w' : World (Option L)) → Run (optional_rules rules) (record { state = s; limiter = Some l }) turns w'
+    → (l' : L) × (w'.limiter ≡ Some l') × HoldsTotals (holdings l') w'.state

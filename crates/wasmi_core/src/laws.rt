@@ -1,0 +1,27 @@
+//! What holds of all runs. These functions do nothing: each states a law as its contract, for any limiter, of which a run may also have none.
+ghost use Rattle.wasmi_meter.specs.Limiter.{optional_rules};
+ghost use Rattle.wasmi_core.specs.Laws.{RefusalsKeepContents, GrowsAsPermitted, FuelBalances, HoldsTotalsAlways};
+
+use wasmi_meter::{Reserving, ResourceLimiter};
+
+/// In each turn that is refused all but the meter stays.
+pub fn refusals_keep_contents<L: ResourceLimiter>()
+    ensures { RefusalsKeepContents (optional_rules L.rules) }
+{}
+
+/// In each turn a permission is followed by exactly the growth that was asked for, or by just one notice, and a denial
+/// by neither.
+pub fn growths_are_permitted<L: ResourceLimiter>()
+    ensures { GrowsAsPermitted (optional_rules L.rules) }
+{}
+
+/// While metering is on, the fuel that is left and the charges since it was set last, or since the start of the run,
+/// are what was set then, or was left at the start.
+pub fn fuel_balances<L: ResourceLimiter>()
+    ensures { FuelBalances (optional_rules L.rules) }
+{}
+
+/// A reserving limiter that holds a machine's totals before a run holds them after it.
+pub fn totals_are_held<L: Reserving>()
+    ensures { HoldsTotalsAlways L.rules L.Reserving.holdings }
+{}
