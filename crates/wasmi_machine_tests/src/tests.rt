@@ -1,4 +1,7 @@
 //! What the tests share: short words for calls and replies, and runs that compare the replies.
+ghost use Rattle.std.specs.Prelude.{None};
+ghost use Rattle.wasmi_core.specs.Totals.{HoldsTotals};
+
 mod absent;
 mod examples;
 mod loans;
@@ -62,12 +65,16 @@ fn runs_to(
 }
 
 /// A new machine whose meter is off.
-fn unmetered(alloc: Global) -> Machine<'static> {
+fn unmetered(alloc: Global) -> Machine<'static>
+    ensures { HoldsTotals (record { bytes = 0; elements = 0; last = None }) result }
+{
     Machine::new(alloc, Fuel::new(false, FuelCostsProvider::default()))
 }
 
 /// A new machine whose meter takes one fuel for 64 copied bytes.
-fn metered(alloc: Global) -> Machine<'static> {
+fn metered(alloc: Global) -> Machine<'static>
+    ensures { HoldsTotals (record { bytes = 0; elements = 0; last = None }) result }
+{
     let costs = CustomFuelCosts {
         bytes_copied_per_fuel: 64,
         fuel_per_bytes_translated: 7,

@@ -55,5 +55,5 @@ module _ {V E S : Type 0} (rules : Rules S) (e : Effort V E) (s : Situation V S)
             value = refl;
           }
 
-          pub attempt_met : e.fits → Attempt rules e s Met (amount_due s.meter e.price) (record { value = e.grown; meter = option_map (λ m. meter_after m (amount_due s.meter e.price)) s.meter; limiter = p })
-          attempt_met fits = record { may_end = (early, late, enough, fits); follows = asks; charged = refl; meter = refl; value = refl }
+          pub attempt_met : Attempt rules e s Met (amount_due s.meter e.price) (record { value = e.grown; meter = option_map (λ m. meter_after m (amount_due s.meter e.price)) s.meter; limiter = p })
+          attempt_met = record { may_end = (early, late, enough); follows = asks; charged = refl; meter = refl; value = refl }

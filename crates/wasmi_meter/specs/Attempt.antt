@@ -34,8 +34,7 @@ pub record Effort (V E : Type 0) : Type 1 where
   -- the price by a meter's costs, if there is one, and the cause where so much can't be paid
   pub price : Option (CustomFuelCosts → ℕ)
   pub unpaid : ℕ → E
-  -- what is grown into after the charge: that it has room, and the causes by which it may refuse
-  pub fits : Type 0
+  -- the causes by which what is grown into may refuse after the charge
   pub refuses : E → Type 0
   -- the value once it has grown
   pub grown : V
@@ -99,7 +98,7 @@ module _ {V E : Type 0} (e : Effort V E) where
     abbrev pub MayEnd : Fate E → Type 0
     MayEnd (Unasked cause) = e.early ≡ Some cause
     MayEnd (Denied answer) = (e.early ≡ None) × IsDenial answer
-    MayEnd Met = (e.early ≡ None) × (e.late ≡ None) × (can_pay m (amount_due m e.price) ≡ true) × e.fits
+    MayEnd Met = (e.early ≡ None) × (e.late ≡ None) × (can_pay m (amount_due m e.price) ≡ true)
     MayEnd (Failed cause heed) = (e.early ≡ None) × IsFirstCause e.late cause
 
     -- what is charged: what is due, once the late cause is absent and so much is left, also where there is then no room

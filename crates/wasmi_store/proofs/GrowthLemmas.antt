@@ -30,13 +30,18 @@ module _ {T E S : Type 0} (rules : Rules S) (e : Effort (Unit {0}) E) (made : T)
     pub makes_denied : (answer : Answer) (l' : S) → rules.asked l e.question answer l' → (error : E) → Permits e.denial e.refusal answer (Err error) → Makes rules e made l (Err error) l'
     makes_denied answer l' asks error denies = (Denied answer, attempt_denied rules e (alone l) early answer l' denies.0 asks, ap Err denies.1)
 
-    module _ (p : S) (asks : rules.asked l e.question (Ok true) p) (late : e.late ≡ None) where
-      pub makes_refused : (cause : E) (heed : Heed) (l' : S) → e.refuses cause → rules.noticed p (e.notice cause) heed l' → (error : E) → error ≡ error_of_failure e.refusal cause heed → Makes rules e made l (Err error) l'
-      makes_refused cause heed l' refuses notices error answers =
-          (Failed cause heed, attempt_refused rules e (alone l) early p asks late refl cause heed l' refuses notices, ap Err answers)
+    module _ (p : S) (asks : rules.asked l e.question (Ok true) p) where
+      pub makes_late : (cause : E) (heed : Heed) (l' : S) → e.late ≡ Some cause → rules.noticed p (e.notice cause) heed l' → (error : E) → error ≡ error_of_failure e.refusal cause heed → Makes rules e made l (Err error) l'
+      makes_late cause heed l' late notices error answers =
+          (Failed cause heed, attempt_late rules e (alone l) early p asks cause heed l' late notices, ap Err answers)
 
-      pub makes_met : e.fits → (x : T) → x ≡ made → Makes rules e made l (Ok x) p
-      makes_met fits x is = (Met, attempt_met rules e (alone l) early p asks late refl fits, ap Ok is)
+      module _ (late : e.late ≡ None) where
+        pub makes_refused : (cause : E) (heed : Heed) (l' : S) → e.refuses cause → rules.noticed p (e.notice cause) heed l' → (error : E) → error ≡ error_of_failure e.refusal cause heed → Makes rules e made l (Err error) l'
+        makes_refused cause heed l' refuses notices error answers =
+            (Failed cause heed, attempt_refused rules e (alone l) early p asks late refl cause heed l' refuses notices, ap Err answers)
+
+        pub makes_met : (x : T) → x ≡ made → Makes rules e made l (Ok x) p
+        makes_met x is = (Met, attempt_met rules e (alone l) early p asks late refl, ap Ok is)
 
 module _ {V E S : Type 0} (rules : Rules S) (g : Growth V E) (x : V) (m : Meter) (l : S) (some : g.amount ≡ 0 → ⊥) where
   abbrev before : Situation V S
@@ -81,8 +86,8 @@ module _ {V E S : Type 0} (rules : Rules S) (g : Growth V E) (x : V) (m : Meter)
               (ap Err answers)
               )
 
-          pub grows_met : (x' : V) → x' ≡ g.effort.grown → g.effort.fits → (old : ℕ) → old ≡ g.size → (charge : ℕ) × Grows rules g before (Ok old) charge (record { value = x'; meter = Some m'; limiter = p })
-          grows_met x' grown fits old answers =
+          pub grows_met : (x' : V) → x' ≡ g.effort.grown → (old : ℕ) → old ≡ g.size → (charge : ℕ) × Grows rules g before (Ok old) charge (record { value = x'; meter = Some m'; limiter = p })
+          grows_met x' grown old answers =
               rw (enough.1, grown) (
-              grows Met price _ (attempt_met rules g.effort before early p asks late (payable m price enough.0) fits) _ (ap Ok answers)
+              grows Met price _ (attempt_met rules g.effort before early p asks late (payable m price enough.0)) _ (ap Ok answers)
               )

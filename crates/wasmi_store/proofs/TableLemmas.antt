@@ -38,7 +38,7 @@ module _ {S : Type 0} (rules : Rules S) (ty : TableTypeValue) (init : TypedRawRe
 
       pub makes_met : (x : TableValue) → x ≡ new_table ty init.raw → MakesTable rules ty init l (Ok x) p
       makes_met x made =
-          any.makes_met rules (creation_of ty init.ty) (new_table ty init.raw) l (no_cause _ _ same) p (rw (sized, most) at asks) refl tt x made
+          any.makes_met rules (creation_of ty init.ty) (new_table ty init.raw) l (no_cause _ _ same) p (rw (sized, most) at asks) refl x made
 
 module _ {S : Type 0} (rules : Rules S) (x : TableValue) (m : Meter) (l : S) (n reference : ℕ) (some : n ≡ 0 → ⊥) where
   abbrev before : Situation TableValue S
@@ -72,7 +72,7 @@ module _ {S : Type 0} (rules : Rules S) (x : TableValue) (m : Meter) (l : S) (n 
 
           pub grows_met : (x' : TableValue) → x' ≡ with_more x n reference → (old : ℕ) → old ≡ size_of x → (charge : ℕ) × GrowsTableRaw rules n reference before (Ok old) charge (record { value = x'; meter = Some m'; limiter = p })
           grows_met x' extended old answers =
-              any.grows_met rules growth x m l some (no_cause _ _ indexable) p (rw (sized, reaches, most) at asks) (no_cause _ _ (rw reaches at within)) m' charges x' extended tt old answers
+              any.grows_met rules growth x m l some (no_cause _ _ indexable) p (rw (sized, reaches, most) at asks) (no_cause _ _ (rw reaches at within)) m' charges x' extended old answers
 
 -- a growth with a meter that is off is one without a meter
 module _ {S : Type 0} (rules : Rules S) (n reference : ℕ) (x x' : TableValue) (l l' : S) (costs : CustomFuelCosts) (m' : Option Meter) (result : Result ℕ TableError) (charge : ℕ) where

@@ -1,5 +1,5 @@
 -- The bytes of a linear memory, and the room that they may grow into.
-use Rattle.std.specs.Prelude.{◌≡◌, ℕ, ◌≤◌, List, ◌++◌, length, drop, replicate}
+use Rattle.std.specs.Prelude.{◌≡◌, ℕ, Bool, true, nat_le, MatchBool, List, ◌++◌, length, drop, replicate}
 use Rattle.std.specs.List.{refill}
 use Rattle.wasmi_meter.specs.declared.error.MemoryError.{MemoryError}
 use Rattle.wasmi_meter.specs.declared.error.MemoryError.TheVariants.{OutOfSystemMemory, InvalidStaticBufferSize}
@@ -14,28 +14,32 @@ pub record BufferValue : Type 0 where
   pub bytes : List ℕ
   pub room : Room
 
--- so many zeros in memory of their own
-abbrev pub owned_zeros : ℕ → BufferValue
-owned_zeros n = record { bytes = replicate n 0; room = Owned }
-
 -- the buffer whose bytes were written over, by as many
 abbrev pub with_bytes : BufferValue → List ℕ → BufferValue
 with_bytes b ws = record { bytes = refill (length b.bytes) b.bytes ws; room = b.room }
 
--- a lent region has place for n more bytes; memory of one's own may be had
-abbrev pub CanGrow : Room → ℕ → Type 0
-CanGrow Owned n = Unit {0}
-CanGrow (Lent rest) n = n ≤ length rest
+-- whether a room has place for n more bytes: what is left of a lent region may be too short
+abbrev pub has_place_for : Room → ℕ → Bool
+has_place_for Owned n = true
+has_place_for (Lent rest) n = nat_le n (length rest)
 
--- why n more bytes could not be had: for want of memory, or since a lent region is too short
+-- why bytes that a room has place for could not be had: memory of one's own may be wanting, a lent region takes none
+abbrev pub LacksMemory : Room → MemoryError → Type 0
+LacksMemory Owned error = error ≡ OutOfSystemMemory
+LacksMemory (Lent rest) error = ⊥
+
+-- why n more bytes could not be had: a lent region is too short, or memory is wanting
 abbrev pub CanFail : Room → ℕ → MemoryError → Type 0
-CanFail Owned n error = error ≡ OutOfSystemMemory
-CanFail (Lent rest) n error = (error ≡ InvalidStaticBufferSize) × (n ≤ length rest → ⊥)
+CanFail room n error = MatchBool (has_place_for room n) (LacksMemory room error) (error ≡ InvalidStaticBufferSize)
 
 -- the room once n bytes of it are used
 abbrev pub room_after : Room → ℕ → Room
 room_after Owned n = Owned
 room_after (Lent rest) n = Lent (drop n rest)
+
+-- a buffer of n zeros in a room
+abbrev pub zeros_in : Room → ℕ → BufferValue
+zeros_in room n = record { bytes = replicate n 0; room = room_after room n }
 
 -- the buffer with n zeros after its bytes
 abbrev pub with_zeros : BufferValue → ℕ → BufferValue

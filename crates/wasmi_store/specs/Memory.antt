@@ -3,12 +3,12 @@ use Rattle.std.specs.Prelude.{◌≡◌, ◌+◌, ◌*◌, ◌/◌, ◌%◌, ◌
 use Rattle.std.specs.List.{refill}
 use Rattle.wasmi_types.specs.Access.{overwrite}
 use Rattle.wasmi_meter.specs.declared.error.MemoryError.{MemoryError}
-use Rattle.wasmi_meter.specs.declared.error.MemoryError.TheVariants.{OutOfBoundsGrowth, OutOfBoundsAccess, ResourceLimiterDeniedAllocation, MinimumSizeOverflow, OutOfFuel}
+use Rattle.wasmi_meter.specs.declared.error.MemoryError.TheVariants.{OutOfBoundsGrowth, OutOfBoundsAccess, ResourceLimiterDeniedAllocation, MinimumSizeOverflow, InvalidStaticBufferSize, OutOfFuel}
 use Rattle.wasmi_meter.specs.declared.limiter.Kind.TheVariants.{Bytes}
 use Rattle.wasmi_meter.specs.Limiter.{MemoryFailure, Rules}
 use Rattle.wasmi_meter.specs.Costs.{copy_cost}
 use Rattle.wasmi_meter.specs.Attempt.{Situation, Effort}
-use Rattle.wasmi_store.specs.Buffer.{Room, CanGrow, CanFail, room_after}
+use Rattle.wasmi_store.specs.Buffer.{Room, Owned, has_place_for, LacksMemory, room_after}
 use Rattle.wasmi_store.specs.Growth.{Makes, Grows}
 use Rattle.wasmi_store.specs.MemoryType.{MemoryTypeValue, page_bytes, minimum_bytes, maximum_bytes, in_bounds}
 
@@ -53,15 +53,14 @@ creation_of room ty = record {
   denial = ResourceLimiterDeniedAllocation;
   refusal = ResourceLimiterDeniedAllocation;
   notice = MemoryFailure;
-  late = None;
+  late = if has_place_for room (minimum_bytes ty) then None else Some InvalidStaticBufferSize;
   price = None;
   unpaid = OutOfFuel;
-  fits = CanGrow room (minimum_bytes ty);
-  refuses = CanFail room (minimum_bytes ty);
+  refuses = LacksMemory room;
   grown = tt;
 }
 
--- what is asked and paid where a memory grows by so many pages, and the causes of a refusal
+-- what is asked and paid where a memory grows by so many pages, and the causes of a refusal: a short region before want of fuel
 abbrev pub growth_of : MemoryValue → ℕ → Effort MemoryValue MemoryError
 growth_of x pages = let added = pages * page_bytes x.ty.page in record {
   early = if in_bounds x.ty (pages_of x + pages) then None else Some OutOfBoundsGrowth;
@@ -69,17 +68,22 @@ growth_of x pages = let added = pages * page_bytes x.ty.page in record {
   denial = OutOfBoundsGrowth;
   refusal = ResourceLimiterDeniedAllocation;
   notice = MemoryFailure;
-  late = None;
+  late = if has_place_for x.room added then None else Some InvalidStaticBufferSize;
   price = Some (λ costs. copy_cost costs added 1);
   unpaid = OutOfFuel;
-  fits = CanGrow x.room added;
-  refuses = CanFail x.room added;
+  refuses = LacksMemory x.room;
   grown = with_zeros x added;
 }
 
 -- a memory of a type is made in a room
 abbrev pub MakesMemory : {S : Type 0} → Rules S → Room → MemoryTypeValue → S → Result MemoryValue MemoryError → S → Type 0
 MakesMemory rules room ty l result l' = Makes rules (creation_of room ty) (new_memory room ty) l result l'
+
+-- the minimum of a type is permitted in bytes, or an error ends the making of a memory, whatever its room
+abbrev pub PermitsMinimum : {S : Type 0} → Rules S → MemoryTypeValue → S → Result ℕ MemoryError → S → Type 0
+PermitsMinimum rules ty l (Ok size) l' =
+    (size ≡ minimum_bytes ty) × (nat_lt (minimum_bytes ty) (2 ^ 64) ≡ true) × rules.asked l (creation_of Owned ty).question (Ok true) l'
+PermitsMinimum rules ty l (Err error) l' = (room : Room) → MakesMemory rules room ty l (Err error) l'
 
 -- a memory grows by so many pages, with its charge; it answers the old size in pages
 abbrev pub GrowsMemory : {S : Type 0} → Rules S → ℕ → Situation MemoryValue S → Result ℕ MemoryError → ℕ → Situation MemoryValue S → Type 0

@@ -57,7 +57,6 @@ creation_of ty init = record {
   late = None;
   price = None;
   unpaid = OutOfFuel;
-  fits = Unit {0};
   refuses = λ cause. cause ≡ OutOfSystemMemory;
   grown = tt;
 }
@@ -73,7 +72,6 @@ growth_of x n reference = record {
   late = if is_within_maximum x.ty (size_of x + n) then None else Some GrowOutOfBounds;
   price = Some (element_price n);
   unpaid = OutOfFuel;
-  fits = Unit {0};
   refuses = λ cause. cause ≡ OutOfSystemMemory;
   grown = with_more x n reference;
 }

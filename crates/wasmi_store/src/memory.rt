@@ -1,10 +1,11 @@
 //! Linear memories.
-ghost use Rattle.std.specs.Prelude.{◌≡◌, ◌+◌, ◌-◌, ◌*◌, ◌/◌, ◌%◌, ◌<◌, ◌≤◌, ◌^◌, ◌++◌, ◌↔◌, replicate, length, ℕ, Option, Some, None, Result, Ok, Err, MatchOption, OnOk, OnErr, IfErr, true, false, nat_lt, if◌then◌else◌};
+ghost use Rattle.std.specs.Prelude.{◌≡◌, ◌+◌, ◌-◌, ◌*◌, ◌/◌, ◌%◌, ◌<◌, ◌≤◌, ◌^◌, ◌++◌, ◌↔◌, replicate, length, ℕ, Option, Some, None, Result, Ok, Err, MatchOption, OnOk, OnErr, IfOk, IfErr, true, false, nat_lt, if◌then◌else◌};
 ghost use Rattle.std.specs.Option.{option_copied_mut};
 ghost use Rattle.std.specs.Borrow.{sem, Lends, Array, u8};
 ghost use Rattle.wasmi_types.specs.Access.{at};
 ghost use Rattle.wasmi_meter.specs.Limiter.{optional_rules};
 ghost use Rattle.wasmi_meter.specs.LimiterRef.{state, KeepsLoan, left_behind};
+ghost use Rattle.wasmi_store.specs.Memory.{PermitsMinimum, IsSized};
 ghost use Rattle.wasmi_store.specs.MemoryType.{page_bytes, in_bounds};
 
 mod buffer;
@@ -21,6 +22,23 @@ use wasmi_meter::{Fuel, FuelCostsProvider, MemoryError, ResourceLimiter, Resourc
 
 /// What a memory answers where the limiter answers an error.
 const DENIED: MemoryError = MemoryError::ResourceLimiterDeniedAllocation;
+
+/// Asks whether a memory of a type may be made, and answers its minimum in bytes.
+fn permitted_minimum<L: ResourceLimiter>(
+    ty: MemoryType,
+    limiter: &mut ResourceLimiterRef<L>,
+) -> Result<usize, MemoryError>
+    ensures loan { KeepsLoan limiter.old limiter.new }
+    ensures permitted { PermitsMinimum (optional_rules L.rules) ty (state limiter.old) result (state limiter.new) }
+    ensures sized { IfOk result (λ size. IsSized ty size) }
+{
+    let Some(size) = ty.minimum_size() else {
+        return Err(MemoryError::MinimumSizeOverflow);
+    };
+    let answer = limiter.memory_growing(0, size, ty.maximum_size());
+    permission(answer, DENIED, DENIED)?;
+    Ok(size)
+}
 
 /// A linear memory. Its name in signatures is [`Memory`].
 #[derive(Debug, Drop)]
@@ -46,7 +64,7 @@ impl<R: Region> Model for LinearMemory<R> {
 pub type Memory<'r> = LinearMemory<&'r mut [u8]>;
 
 impl<'r> LinearMemory<&'r mut [u8]> {
-    ghost use Rattle.wasmi_store.specs.Buffer.{Owned};
+    ghost use Rattle.wasmi_store.specs.Buffer.{Owned, Lent};
     ghost use Rattle.wasmi_store.specs.Memory.{MakesMemory};
 
     /// A memory of zeros, at the minimum of its type. It takes no fuel.
@@ -62,12 +80,30 @@ impl<'r> LinearMemory<&'r mut [u8]> {
         ensures loan { KeepsLoan limiter.old limiter.new }
         ensures made { MakesMemory (optional_rules L.rules) Owned ty (state limiter.old) result (state limiter.new) }
     {
-        let Some(size) = ty.minimum_size() else {
-            return Err(MemoryError::MinimumSizeOverflow);
-        };
-        let answer = limiter.memory_growing(0, size, ty.maximum_size());
-        permission(answer, DENIED, DENIED)?;
+        let size = permitted_minimum(ty, limiter)?;
         match Buffer::new(alloc, size) {
+            Ok(buffer) => Ok(LinearMemory { buffer, ty }),
+            Err(cause) => Err(tell(limiter, cause, DENIED)),
+        }
+    }
+
+    /// A memory of zeros at the front of a region, at the minimum of its type. It takes no fuel and no memory, and
+    /// leaves the bytes past the minimum alone.
+    ///
+    /// Refusals in their order: `MinimumSizeOverflow` where the minimum has 2^64 bytes or more;
+    /// `ResourceLimiterDeniedAllocation` where the limiter doesn't permit; `InvalidStaticBufferSize` where the region
+    /// is shorter than the minimum, of which the limiter is told. After a refusal the loan has ended, and the bytes of
+    /// the region are unchanged.
+    pub fn new_static<L: ResourceLimiter>(
+        ty: MemoryType,
+        limiter: &mut ResourceLimiterRef<L>,
+        region: &'r mut [u8],
+    ) -> Result<Memory<'r>, MemoryError>
+        ensures loan { KeepsLoan limiter.old limiter.new }
+        ensures made { MakesMemory (optional_rules L.rules) (Lent region.entry.now) ty (state limiter.old) result (state limiter.new) }
+    {
+        let size = permitted_minimum(ty, limiter)?;
+        match Buffer::new_static(region, size) {
             Ok(buffer) => Ok(LinearMemory { buffer, ty }),
             Err(cause) => Err(tell(limiter, cause, DENIED)),
         }
@@ -127,9 +163,11 @@ impl<R: Region> LinearMemory<R> {
     ///
     /// Refusals in their order: `OutOfBoundsGrowth` above the greatest number of pages or the maximum, or at 2^64
     /// bytes or more; what the limiter answers (`OutOfBoundsGrowth` where it says no,
-    /// `ResourceLimiterDeniedAllocation` for an error); `OutOfFuel` where the meter is on and the added bytes cost
-    /// more than is left; want of memory, or a lent region that is too short, which leaves the charge taken. Of the
-    /// last two the limiter is told, and if it answers an error they become `ResourceLimiterDeniedAllocation`.
+    /// `ResourceLimiterDeniedAllocation` for an error); `InvalidStaticBufferSize` where a lent region is shorter than
+    /// the new size, which charges nothing; `OutOfFuel` where the meter is on and the added bytes cost more than is
+    /// left; `OutOfSystemMemory`, never of a lent memory, which leaves the charge taken. Of the last three the limiter
+    /// is told, and if it answers an error they become `ResourceLimiterDeniedAllocation`. Bytes of a region past the
+    /// new size are left alone.
     pub fn grow<L: ResourceLimiter>(
         &mut self,
         additional: u64,
@@ -171,6 +209,9 @@ impl<R: Region> LinearMemory<R> {
         let old_size = self.buffer.len();
         let answer = limiter.memory_growing(old_size, size, self.ty.maximum_size());
         permission(answer, MemoryError::OutOfBoundsGrowth, DENIED)?;
+        if !self.buffer.has_room(size) {
+            return Err(tell(limiter, MemoryError::InvalidStaticBufferSize, DENIED));
+        }
         if let Err(required_fuel) = charge::<u8>(fuel, (size - old_size) as u64) {
             return Err(tell(limiter, MemoryError::OutOfFuel { required_fuel }, DENIED));
         }

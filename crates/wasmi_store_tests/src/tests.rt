@@ -9,6 +9,7 @@ mod memories;
 mod memory_types;
 mod quota;
 mod recorder;
+mod regions;
 mod segments;
 mod subtypes;
 mod table_creations;
@@ -95,6 +96,15 @@ fn new_memory<L: ResourceLimiter>(
     limiter: &mut L,
 ) -> Result<Memory<'static>, MemoryError> {
     Memory::new(alloc, ty, &mut ResourceLimiterRef::from(limiter))
+}
+
+/// A new memory on a lent region, under a limiter.
+fn lent_memory<'r, L: ResourceLimiter>(
+    ty: MemoryType,
+    limiter: &mut L,
+    region: &'r mut [u8],
+) -> Result<Memory<'r>, MemoryError> {
+    Memory::new_static(ty, &mut ResourceLimiterRef::from(limiter), region)
 }
 
 /// Grows a memory under a limiter.

@@ -1,5 +1,5 @@
 //! The bytes of a linear memory.
-ghost use Rattle.std.specs.Prelude.{◌≡◌, ◌≤◌, ◌<◌, length, take, drop, replicate, IfOk, IfErr, IsOk, ◌↔◌, ◌+◌, ◌-◌, OnOk, OnErr, Some};
+ghost use Rattle.std.specs.Prelude.{◌≡◌, ◌≤◌, ◌<◌, length, take, drop, replicate, IfOk, IfErr, IsOk, ◌↔◌, ◌+◌, ◌-◌, ◌++◌, OnOk, OnErr, Some, true, false};
 ghost use Rattle.std.specs.Borrow.{sem, Lends, Array, u8};
 ghost use Rattle.wasmi_types.specs.Access.{overwrite};
 
@@ -68,13 +68,22 @@ impl<R: Region> Model for Buffer<R> {
     ghost invariant = { λ b. EndsWithin b.storage (R.bytes b.region) };
 }
 
+/// Zeros the bytes of a slice from a place on.
+fn zero_from(bytes: &mut [u8], start: usize)
+    requires { start ≤ length bytes.old }
+    ensures { bytes.new ≡ take start bytes.old ++ replicate (length bytes.old - start) 0 }
+{
+    let added = &mut bytes[start..];
+    added.fill(0);
+}
+
 /// A growable buffer of bytes; `'r` is the loan of a region that they may lie in.
 ///
 /// Upstream: `ByteBuffer` of `wasmi_core`'s module `memory`.
 pub type ByteBuffer<'r> = Buffer<&'r mut [u8]>;
 
 impl<R: Region> Buffer<R> {
-    ghost use Rattle.wasmi_store.specs.Buffer.{with_bytes, with_zeros, CanFail, CanGrow};
+    ghost use Rattle.wasmi_store.specs.Buffer.{with_bytes, with_zeros, has_place_for, CanFail};
     ghost use Rattle.wasmi_store.specs.contracts.memory.buffer.Buffer.{the_row};
 
     /// The bytes.
@@ -111,6 +120,16 @@ impl<R: Region> Buffer<R> {
         }
     }
 
+    /// Whether there is room for a new number of bytes. It is false exactly for a lent region that is shorter.
+    pub fn has_room(&self, new_size: usize) -> bool
+        ensures { result ≡ has_place_for self.now.room (new_size - length self.now.bytes) }
+    {
+        match &self.storage {
+            Storage::Owned(_) => true,
+            Storage::Lent(_) => new_size <= self.region.whole().len(),
+        }
+    }
+
     pub(super) fn write(&mut self, offset: usize, source: &[u8])
         requires { offset + length source.now ≤ length self.old.bytes }
         ensures bytes { overwrite self.old.bytes offset source.now ≡ Some self.new.bytes }
@@ -124,27 +143,25 @@ impl<R: Region> Buffer<R> {
     /// Appends zeros, up to a new number of bytes that isn't below the present one.
     ///
     /// An owned buffer is refused only for want of memory (`OutOfSystemMemory`), a lent one only where its region is
-    /// too short (`InvalidStaticBufferSize`).
+    /// shorter (`InvalidStaticBufferSize`). A lent one takes no memory, and leaves the bytes past the new size alone.
     pub fn grow(&mut self, new_size: usize) -> Result<(), MemoryError>
         requires { length self.old.bytes ≤ new_size }
         ensures ok { OnOk result (self.new ≡ with_zeros self.old (new_size - length self.old.bytes)) }
-        ensures fits { OnOk result (CanGrow self.old.room (new_size - length self.old.bytes)) }
+        ensures fits { OnOk result (has_place_for self.old.room (new_size - length self.old.bytes) ≡ true) }
         ensures err { OnErr result (self.new ≡ self.old) }
         ensures cause { IfErr result (CanFail self.old.room (new_size - length self.old.bytes)) }
     {
+        if !self.has_room(new_size) {
+            return Err(MemoryError::InvalidStaticBufferSize);
+        }
         match &mut self.storage {
             Storage::Owned(bytes) => match bytes.resize(new_size, 0) {
                 Ok(()) => Ok(()),
                 Err(_) => Err(MemoryError::OutOfSystemMemory),
             },
             Storage::Lent(used) => {
-                if self.region.whole().len() < new_size {
-                    return Err(MemoryError::InvalidStaticBufferSize);
-                }
                 let end = *used;
-                let bytes = self.region.front_mut(new_size);
-                let added = &mut bytes[end..];
-                added.fill(0);
+                zero_from(self.region.front_mut(new_size), end);
                 *used = new_size;
                 Ok(())
             }
@@ -153,11 +170,11 @@ impl<R: Region> Buffer<R> {
 }
 
 impl<'r> Buffer<&'r mut [u8]> {
-    ghost use Rattle.wasmi_store.specs.Buffer.{owned_zeros};
+    ghost use Rattle.wasmi_store.specs.Buffer.{Owned, Lent, zeros_in, has_place_for};
 
     /// So many zeros in memory of their own. It is refused only for want of memory.
     pub fn new(alloc: Global, size: usize) -> Result<ByteBuffer<'r>, MemoryError>
-        ensures ok { IfOk result (λ b. b ≡ owned_zeros size) }
+        ensures ok { IfOk result (λ b. b ≡ zeros_in Owned size) }
         ensures err { IfErr result (λ e. e ≡ MemoryError.OutOfSystemMemory) }
     {
         match vec![in alloc; 0u8; size] {
@@ -167,5 +184,21 @@ impl<'r> Buffer<&'r mut [u8]> {
             }),
             Err(_) => Err(MemoryError::OutOfSystemMemory),
         }
+    }
+
+    /// So many zeros at the front of a region. It takes no memory, and leaves the bytes past them alone.
+    ///
+    /// It is refused only where the region is shorter (`InvalidStaticBufferSize`): then the loan has ended, and the
+    /// region's bytes are unchanged.
+    pub fn new_static(region: &'r mut [u8], size: usize) -> Result<ByteBuffer<'r>, MemoryError>
+        ensures ok { IfOk result (λ b. (has_place_for (Lent region.entry.now) size ≡ true) × (b ≡ zeros_in (Lent region.entry.now) size)) }
+        ensures err { IfErr result (λ e. (has_place_for (Lent region.entry.now) size ≡ false) × (e ≡ MemoryError.InvalidStaticBufferSize)) }
+    {
+        let mut buffer = Buffer {
+            storage: Storage::Lent(0),
+            region,
+        };
+        buffer.grow(size)?;
+        Ok(buffer)
     }
 }

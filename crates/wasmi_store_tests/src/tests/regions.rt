@@ -1,0 +1,300 @@
+//! Buffers and memories on lent regions, and what the lender finds there after the loan.
+use super::recorder::{COMPLAINT, Recorder, memory_question, same_record};
+use super::{grow, lent_memory, memory_type, metered, metered_at, page_type, same, wide_type};
+use std::process::Abort;
+use std::test::Fail;
+use wasmi_meter::{LimiterError, MemoryError, NoLimits};
+use wasmi_store::ByteBuffer;
+
+const DENIED: MemoryError = MemoryError::ResourceLimiterDeniedAllocation;
+
+const TOO_SHORT: MemoryError = MemoryError::InvalidStaticBufferSize;
+
+#[test]
+fn test_growing_static(rt: HostRuntime) -> Result<(), Fail> {
+    let mut region = [7; 10];
+    let mut buffer = ByteBuffer::new_static(&mut region, 5)?;
+    same(&rt, "five", buffer.data(), [0; 5].as_slice());
+    buffer.grow(8)?;
+    same(&rt, "eight", buffer.data(), [0; 8].as_slice());
+    buffer.grow(10)?;
+    same(&rt, "ten", buffer.data(), [0; 10].as_slice());
+    Ok(())
+}
+
+#[test]
+fn test_static_buffer_overflow(rt: HostRuntime) -> Result<(), Fail> {
+    let mut region = [7; 5];
+    let mut buffer = ByteBuffer::new_static(&mut region, 5)?;
+    same(&rt, "ten of five", buffer.grow(10), Err(TOO_SHORT));
+    same(&rt, "five", buffer.data(), [0; 5].as_slice());
+    Ok(())
+}
+
+#[test]
+fn test_static_buffer_initialization(rt: HostRuntime) -> Result<(), Fail> {
+    let mut region = [7; 10];
+    let mut buffer = ByteBuffer::new_static(&mut region, 5)?;
+    same(&rt, "length", buffer.len(), 5);
+    buffer.data_mut()[0] = 1;
+    drop(buffer);
+    let found = [1, 0, 0, 0, 0, 7, 7, 7, 7, 7];
+    same(&rt, "the lender's bytes", region, found);
+    Ok(())
+}
+
+#[test]
+fn only_a_shorter_region_has_no_room(rt: HostRuntime) -> Result<(), Fail> {
+    let mut region = [7; 10];
+    let lent = ByteBuffer::new_static(&mut region, 5)?;
+    let owned = ByteBuffer::new(rt.alloc(), 5)?;
+    for size in [0, 5, 10, 11, usize::MAX] {
+        let rooms = (size, lent.has_room(size), owned.has_room(size));
+        same(&rt, "room", rooms, (size, size <= 10, true));
+    }
+    Ok(())
+}
+
+/// A creation on a region of 4 bytes of 7, in pages of one byte, under a limiter with this answer and this reply: how
+/// it ends, what the limiter was told, and what the lender finds.
+#[derive(Clone, Copy)]
+struct Creation {
+    what: &'static str,
+    minimum: u64,
+    answer: Result<bool, LimiterError>,
+    reply: Result<(), LimiterError>,
+    outcome: Result<u64, MemoryError>,
+    notice: Option<MemoryError>,
+    found: [u8; 4],
+}
+
+const WITHIN: Creation = Creation {
+    what: "within the region",
+    minimum: 3,
+    answer: Ok(true),
+    reply: Ok(()),
+    outcome: Ok(3),
+    notice: None,
+    found: [0, 0, 0, 7],
+};
+
+const SHORT: Creation = Creation {
+    what: "a short region",
+    minimum: 5,
+    outcome: Err(TOO_SHORT),
+    notice: Some(TOO_SHORT),
+    found: [7; 4],
+    ..WITHIN
+};
+
+static CREATIONS: [Creation; 7] = [
+    WITHIN,
+    Creation {
+        what: "the whole region",
+        minimum: 4,
+        outcome: Ok(4),
+        found: [0; 4],
+        ..WITHIN
+    },
+    Creation {
+        what: "no page",
+        minimum: 0,
+        outcome: Ok(0),
+        found: [7; 4],
+        ..WITHIN
+    },
+    SHORT,
+    Creation {
+        what: "a short region, and the limiter replies an error",
+        reply: Err(COMPLAINT),
+        outcome: Err(DENIED),
+        ..SHORT
+    },
+    Creation {
+        what: "a short region, and the limiter says no",
+        answer: Ok(false),
+        outcome: Err(DENIED),
+        notice: None,
+        ..SHORT
+    },
+    Creation {
+        what: "the limiter answers an error",
+        answer: Err(COMPLAINT),
+        outcome: Err(DENIED),
+        found: [7; 4],
+        ..WITHIN
+    },
+];
+
+/// Makes the memory, ends the loan, and compares.
+fn compare_creation(rt: &impl Abort, row: &Creation) -> Result<(), Fail> {
+    let ty = memory_type(row.minimum, Some(9), 0, false)?;
+    let mut recorder = Recorder::new(row.answer, row.reply);
+    let mut region = [7; 4];
+    let made = lent_memory(ty, &mut recorder, &mut region);
+    let outcome = made.map(|memory| memory.size());
+    same(rt, row.what, outcome, row.outcome);
+    let question = memory_question(0, row.minimum as usize, Some(9));
+    same_record(rt, row.what, &recorder, question, row.notice);
+    same(rt, row.what, region, row.found);
+    Ok(())
+}
+
+#[test]
+fn records_creations(rt: HostRuntime) -> Result<(), Fail> {
+    for row in &CREATIONS {
+        compare_creation(&rt, row)?;
+    }
+    let mut recorder = Recorder::new(Ok(true), Ok(()));
+    let made = lent_memory(wide_type(1 << 48, None)?, &mut recorder, &mut []);
+    let outcome = made.map(|memory| memory.size());
+    let expected = Err(MemoryError::MinimumSizeOverflow);
+    same(&rt, "a minimum of all bytes", outcome, expected);
+    same_record(&rt, "a minimum of all bytes", &recorder, None, None);
+    Ok(())
+}
+
+/// A growth of the bytes 1, 2, 3 on a region of 6 bytes, in pages of one byte that costs one fuel, under a limiter
+/// with this answer and this reply: how it ends, what the limiter was told, the fuel that is left, and what the lender
+/// finds.
+#[derive(Clone, Copy)]
+struct Growth {
+    what: &'static str,
+    pages: u64,
+    fuel: u64,
+    answer: Result<bool, LimiterError>,
+    reply: Result<(), LimiterError>,
+    outcome: Result<u64, MemoryError>,
+    notice: Option<MemoryError>,
+    left: u64,
+    found: [u8; 6],
+}
+
+const UNCHANGED: [u8; 6] = [1, 2, 3, 7, 7, 7];
+
+const BY_TWO: Growth = Growth {
+    what: "within the region",
+    pages: 2,
+    fuel: 4,
+    answer: Ok(true),
+    reply: Ok(()),
+    outcome: Ok(3),
+    notice: None,
+    left: 2,
+    found: [1, 2, 3, 0, 0, 7],
+};
+
+const BY_FOUR: Growth = Growth {
+    what: "past the region",
+    pages: 4,
+    outcome: Err(TOO_SHORT),
+    notice: Some(TOO_SHORT),
+    left: 4,
+    found: UNCHANGED,
+    ..BY_TWO
+};
+
+const OUT_OF_FUEL: MemoryError = MemoryError::OutOfFuel { required_fuel: 3 };
+
+static GROWTHS: [Growth; 7] = [
+    BY_TWO,
+    Growth {
+        what: "to the end of the region",
+        pages: 3,
+        left: 1,
+        found: [1, 2, 3, 0, 0, 0],
+        ..BY_TWO
+    },
+    Growth {
+        what: "want of fuel",
+        pages: 3,
+        fuel: 2,
+        outcome: Err(OUT_OF_FUEL),
+        notice: Some(OUT_OF_FUEL),
+        found: UNCHANGED,
+        ..BY_TWO
+    },
+    BY_FOUR,
+    Growth {
+        what: "past the region, with too little fuel",
+        fuel: 3,
+        left: 3,
+        ..BY_FOUR
+    },
+    Growth {
+        what: "past the region, and the limiter replies an error",
+        reply: Err(COMPLAINT),
+        outcome: Err(DENIED),
+        ..BY_FOUR
+    },
+    Growth {
+        what: "past the region, and the limiter says no",
+        answer: Ok(false),
+        outcome: Err(MemoryError::OutOfBoundsGrowth),
+        notice: None,
+        ..BY_FOUR
+    },
+];
+
+/// Makes the memory, grows it, ends the loan, and compares.
+fn compare_growth(rt: &impl Abort, row: &Growth) -> Result<(), Fail> {
+    let ty = memory_type(3, Some(8), 0, false)?;
+    let mut region = [7; 6];
+    let mut memory = lent_memory(ty, &mut NoLimits, &mut region)?;
+    memory.write(0, &[1, 2, 3])?;
+    let mut meter = metered_at(1, row.fuel);
+    let mut recorder = Recorder::new(row.answer, row.reply);
+    let grown = grow(&mut memory, row.pages, Some(&mut meter), &mut recorder);
+    drop(memory);
+    same(rt, row.what, grown, row.outcome);
+    let desired = 3usize.saturating_add(row.pages as usize);
+    let question = memory_question(3, desired, Some(8));
+    same_record(rt, row.what, &recorder, question, row.notice);
+    same(rt, row.what, meter.get_fuel(), Ok(row.left));
+    same(rt, row.what, region, row.found);
+    Ok(())
+}
+
+#[test]
+fn records_growths(rt: HostRuntime) -> Result<(), Fail> {
+    for row in &GROWTHS {
+        compare_growth(&rt, row)?;
+    }
+    Ok(())
+}
+
+#[test]
+fn a_region_of_one_page_holds_one(rt: HostRuntime) -> Result<(), Fail> {
+    let mut region = vec![in rt.alloc(); 7u8; 65536]?;
+    let ty = page_type(0, Some(2))?;
+    let mut memory = lent_memory(ty, &mut NoLimits, region.as_mut_slice())?;
+    let mut meter = metered(2048);
+    let first = grow(&mut memory, 1, Some(&mut meter), &mut NoLimits);
+    same(&rt, "a page", first, Ok(0));
+    same(&rt, "fuel", meter.get_fuel(), Ok(1024));
+    let all_zero = memory.data().iter().all(|byte| *byte == 0);
+    same(&rt, "bytes", (memory.data_size(), all_zero), (65536, true));
+    let mut recorder = Recorder::new(Ok(true), Ok(()));
+    let second = grow(&mut memory, 1, Some(&mut meter), &mut recorder);
+    same(&rt, "one more", second, Err(TOO_SHORT));
+    let question = memory_question(65536, 131072, Some(131072));
+    same_record(&rt, "one more", &recorder, question, Some(TOO_SHORT));
+    same(&rt, "the same fuel", meter.get_fuel(), Ok(1024));
+    Ok(())
+}
+
+#[test]
+fn a_lender_finds_what_was_written(rt: HostRuntime) -> Result<(), Fail> {
+    let mut region = [7; 6];
+    let ty = memory_type(2, None, 0, false)?;
+    let mut memory = lent_memory(ty, &mut NoLimits, &mut region)?;
+    memory.data_mut().fill(1);
+    let grown = grow(&mut memory, 2, None, &mut NoLimits);
+    same(&rt, "two more", grown, Ok(2));
+    memory.write(3, &[2])?;
+    let past = Err(MemoryError::OutOfBoundsAccess);
+    same(&rt, "past the end", memory.write(4, &[3]), past);
+    drop(memory);
+    same(&rt, "the lender's bytes", region, [1, 1, 0, 2, 7, 7]);
+    Ok(())
+}
