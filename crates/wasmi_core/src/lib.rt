@@ -19,6 +19,7 @@ pub use machine::Machine;
 pub use ops::{LoadOp, StoreOp};
 pub use running::{run, run_lending, run_reserving};
 pub use wasmi_access::access;
+pub use wasmi_lanes::words;
 pub use wasmi_meter::{
     CustomFuelCosts, Fuel, FuelCosts, FuelCostsProvider, FuelError, Kind, LimiterError,
     MemoryError, NoLimits, Quota, Reserving, ResourceLimiter, ResourceLimiterRef, TableError,

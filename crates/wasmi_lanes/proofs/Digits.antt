@@ -1,9 +1,9 @@
 -- A number and its digits to the base 2 ^ b, as `digits_l` and `number_l` of std have them.
-use Rattle.std.proofs.Common.{ℕ, zero, suc, ◌+◌, ◌*◌, ◌/◌, ◌%◌, ◌^◌, ◌<◌, ◌≤◌, ◌≡◌, refl, sym, subst, ◌∙◌, ap, arith, List, [], ◌∷◌, length, get_or, mul_comm, mul-suc, mul-zero, zero-mul, suc-mul, div-one}
-use Rattle.std.specs.Simd.Lanes.{digits_l, number_l, Each1}
+use Rattle.std.proofs.Common.{ℕ, zero, suc, ◌+◌, ◌*◌, ◌/◌, ◌%◌, ◌^◌, ◌<◌, ◌≤◌, ◌≡◌, refl, sym, subst, ◌∙◌, ap, arith, List, [], ◌∷◌, length, get_or, replicate, mul_comm, mul-suc, mul-zero, zero-mul, suc-mul, div-one}
+use Rattle.std.specs.Simd.Lanes.{digits_l, number_l, Each1, zip2}
 use Rattle.std.proofs.Math.Nat.{mod-one, mul-add, mul-one, mod-eq_of_lt}
 use Rattle.std.proofs.lemmas.Nat.{mod-pow-add, div-mul-add, mod-mul-add, shr-shr, pow-add, mul-le}
-use Rattle.std.proofs.lemmas.Simd.{Each1-from_get_or}
+use Rattle.std.proofs.lemmas.Simd.{Each1-from_get_or, get_or-zip2, get_or-replicate, length-replicate}
 use Rattle.wasmi_types.specs.Wrapping.{Width, bits}
 use Rattle.wasmi_lanes.specs.Lane.{lane}
 
@@ -85,3 +85,9 @@ written_at w n xs r i filled long fits below is =
     let exponent : length xs * bits w ≡ 128 = ap (λ k. k * bits w) long ∙ filled in
     let whole : number % 2 ^ 128 ≡ number = mod-eq_of_lt (subst (λ k. number < 2 ^ k) exponent small) in
     lane_of_number w n xs r i long fits below (is ∙ number_of_digits 8 16 number ∙ whole)
+
+-- a lane of lanes to each of which x was added
+pub added_at : (w : Width) (n x : ℕ) (xs : List ℕ) (i : ℕ) → length xs ≡ n → i < n → get_or (zip2 (λ a b. (a + b) % 2 ^ bits w) xs (replicate n x)) i 0 ≡ (get_or xs i 0 + x) % 2 ^ bits w
+added_at w n x xs i long inside =
+    get_or-zip2 (λ a b. (a + b) % 2 ^ bits w) xs (replicate n x) i 0 0 0 (subst (λ k. i < k) (sym long) inside) (subst (λ k. i < k) (sym (length-replicate n x)) inside)
+    ∙ ap (λ b. (get_or xs i 0 + b) % 2 ^ bits w) (get_or-replicate n i x 0 inside)

@@ -7,8 +7,11 @@ mod lanes;
 pub mod laws;
 mod narrow;
 pub mod on_vectors;
+mod simd_lane;
 mod types;
 mod vector_bytes;
+mod word_lane;
+pub mod words;
 
 pub use index::{
     ImmLaneIdx, ImmLaneIdx2, ImmLaneIdx4, ImmLaneIdx8, ImmLaneIdx16, ImmLaneIdx32, IntoLaneIdx,
@@ -17,5 +20,7 @@ pub use index::{
 pub use item::{LaneInteger, LaneItem};
 pub use lanes::{LaneArray, Lanes};
 pub use narrow::{FromNarrow, FromWide, Narrower};
+pub use simd_lane::SimdLane;
 pub use types::{I8x16, I16x8, I32x4, I64x2, IntoLanes, U8x16, U16x8, U32x4, U64x2};
-pub use vector_bytes::{bytes_of, from_bytes};
+pub use vector_bytes::{bytes_of, from_bytes, from_words, words_of};
+pub use word_lane::WordLane;

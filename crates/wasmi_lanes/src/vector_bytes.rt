@@ -1,7 +1,8 @@
 //! Vectors as the SIMD vectors of std.
 
-ghost use Rattle.std.specs.Prelude.{◌≡◌, ℕ, ◌^◌, ◌<◌, slice_index_or};
+ghost use Rattle.std.specs.Prelude.{◌≡◌, ℕ, ◌/◌, ◌%◌, ◌^◌, ◌<◌, [], ◌∷◌, slice_index_or};
 ghost use Rattle.std.specs.Simd.Lanes.{number_l};
+ghost use Rattle.wasmi_raw.specs.Vector.{vector_of};
 ghost use Rattle.wasmi_types.specs.Wrapping.{w8};
 ghost use Rattle.wasmi_lanes.specs.Lane.{lane};
 
@@ -26,5 +27,23 @@ pub fn from_bytes(bytes: u8x16) -> V128
     ensures in_range { result < 2 ^ 128 }
 {
     let [low, high] = u64x2::from_le_bytes(bytes).to_array();
+    V128::from_words(low, high)
+}
+
+/// The words of a vector, the lower one first, as one value of the processor's.
+#[inline(always)]
+pub fn words_of(vector: V128) -> u64x2
+    ensures { result ≡ vector % 2 ^ 64 ∷ vector / 2 ^ 64 ∷ [] }
+{
+    let (low, high) = vector.words();
+    u64x2::from_array([low, high])
+}
+
+/// The vector of these words, the lower one first.
+#[inline(always)]
+pub fn from_words(words: u64x2) -> V128
+    ensures { (low high : ℕ) → words ≡ low ∷ high ∷ [] → result ≡ vector_of low high }
+{
+    let [low, high] = words.to_array();
     V128::from_words(low, high)
 }

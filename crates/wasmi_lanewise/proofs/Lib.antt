@@ -1,6 +1,8 @@
-pub mod Average
 pub mod Chosen
+pub mod CountLemmas
+pub mod MarkLemmas
+pub mod MeanLemmas
 pub mod OneLane
+pub mod OrderLemmas
 pub mod Rounding
-pub mod SignedOrder
 pub mod Words

@@ -8,10 +8,11 @@ mod binary;
 mod bitwise;
 mod comparison;
 mod one_lane;
+mod order;
 mod shuffle;
-mod signed_i32x4;
 mod splat_and_lanes;
 mod unary;
+mod words;
 
 pub use binary::i8x16_add;
 pub use binary::i8x16_add_sat_s;

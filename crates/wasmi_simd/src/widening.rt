@@ -1,7 +1,7 @@
 //! Whole vectors whose lanes are made of narrower or wider ones: each function gives the vector of
 //! whatever row its closure computes.
 
-ghost use Rattle.std.specs.Prelude.{◌≡◌, ℕ, Bool, ◌&&◌};
+ghost use Rattle.std.specs.Prelude.{◌≡◌, ℕ};
 ghost use Rattle.wasmi_simd.specs.Widening as made;
 
 use wasmi_lanes::{FromNarrow, FromWide, Lanes};
@@ -78,16 +78,4 @@ pub(crate) fn from_low_high<W: Lanes, L: FromWide<W>, F: Fn(W::Item) -> L::Item>
         → result ≡ made.from_low_high W.Item.width L.Item.width W.Item.read row low high }
 {
     L::from_low_high(W::from_v128(low), W::from_v128(high), f).into_v128()
-}
-
-/// Whether a test holds of every lane of a vector, where `f(i, lane i, holds)` is `holds` and the
-/// test of lane i.
-#[inline(always)]
-pub(crate) fn every_lane<L: Lanes, F: Fn(u8, L::Item, bool) -> bool>(v: V128, f: F) -> bool
-    requires callable { F.IsAlwaysCallable f }
-    ensures lanes { (test : L.Item → Bool)
-        → ((i : ℕ) (x : L.Item) (holds both : Bool) → L.Item.Fits x → F.post f i x holds both → both ≡ (holds && test x))
-        → result ≡ made.every_lane L.Item.width L.Item.read test v }
-{
-    L::from_v128(v).lanewise_reduce(true, f)
 }

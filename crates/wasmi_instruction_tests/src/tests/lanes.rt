@@ -1,5 +1,8 @@
 use super::same_rows;
-use wasmi_lanes::laws::lanes_there_and_back;
+use wasmi_lanes::laws::{
+    differences_of_lanes, lanes_there_and_back, sums_of_lanes, tops_of_different_lanes,
+};
+use wasmi_lanes::words::{word_add, word_differ, word_sub};
 use wasmi_lanes::{
     FromNarrow, FromWide, I8x16, I16x8, I32x4, I64x2, ImmLaneIdx2, ImmLaneIdx4, ImmLaneIdx8,
     ImmLaneIdx16, ImmLaneIdx32, IntoLaneIdx, IntoLanes, Lanes, OutOfBoundsLaneIdx, U8x16, U16x8,
@@ -312,5 +315,20 @@ fn lanes_are_made_of_wider_ones(rt: HostRuntime) {
         number(U8x16::from_low_high(low, high, high_byte)) => 0x0f0e0d0c_0b0a0908_07060504_03020100,
         number(I32x4::from_low_high(low_longs, high_longs, saturated))
             => 0x7fffffff_fffffffc_fffffffe_00000001,
+    );
+}
+
+#[test]
+fn words_of_unequal_lanes(rt: HostRuntime) {
+    // lanes of 16 and of 48 bits
+    let tops = 9223372036854808576;
+    answers!(&rt;
+        word_add(4294967295, 65537, tops) => 4294967296,
+        word_sub(4294967296, 65537, tops) => 4294967295,
+        word_differ(65536, 0, tops) => 9223372036854775808,
+        word_differ(1, 0, tops) => 32768,
+        sums_of_lanes(4294967295, 65537, tops) => 4294967296,
+        differences_of_lanes(4294967296, 65537, tops) => 4294967295,
+        tops_of_different_lanes(65536, 0, tops) => 9223372036854775808,
     );
 }

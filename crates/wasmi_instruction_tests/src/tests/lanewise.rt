@@ -22,3 +22,18 @@ fn lanes_do_not_touch_their_neighbours(rt: HostRuntime) {
         i16x8_q15mulr_sat_s(i16x8_splat(-32768), i16x8_splat(-32768)) => i16x8_splat(32767),
     );
 }
+
+#[test]
+fn carries_and_borrows_stay_in_their_lane(rt: HostRuntime) {
+    let zero = V128::from(0);
+    answers!(&rt;
+        i8x16_neg(i16x8_splat(1)) => i16x8_splat(255),
+        i64x2_add(i64x2_splat(-1), i64x2_splat(1)) => zero,
+        i16x8_eq(i32x4_splat(65536), i16x8_splat(0)) => i32x4_splat(65535),
+        i16x8_ne(i32x4_splat(65536), i16x8_splat(0)) => i32x4_splat(-65536),
+        i8x16_avgr_u(i16x8_splat(256), i16x8_splat(255)) => i16x8_splat(384),
+        i8x16_popcnt(i16x8_splat(511)) => i16x8_splat(264),
+        i8x16_max_u(i8x16_splat(-1), i8x16_splat(1)) => i8x16_splat(-1),
+        i8x16_max_s(i8x16_splat(-1), i8x16_splat(1)) => i8x16_splat(1),
+    );
+}

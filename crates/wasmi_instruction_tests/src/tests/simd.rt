@@ -4,7 +4,7 @@
 use super::{same, same_rows};
 use std::process::Abort;
 use wasmi_lanes::OutOfBoundsLaneIdx;
-use wasmi_lanewise::simd::{i8x16_splat, i16x8_splat, i32x4_splat};
+use wasmi_lanewise::simd::{i8x16_splat, i16x8_splat, i32x4_splat, i64x2_splat};
 use wasmi_raw::V128;
 use wasmi_simd::simd::*;
 use wasmi_types::TrapCode;
@@ -183,6 +183,22 @@ fn limits_of_sums_products_and_shifts(rt: HostRuntime) {
     answers!(&rt;
         i16x8_bitmask(i32x4_splat(-2147483648)) => 170,
         i8x16_bitmask(i8x16_splat(-1)) => 65535,
+    );
+}
+
+#[test]
+fn bits_stay_in_their_lane(rt: HostRuntime) {
+    let a = i32x4_splat(65536);
+    answers!(&rt;
+        i8x16_shl(i16x8_splat(255), 4) => i16x8_splat(240),
+        i8x16_shr_u(i16x8_splat(256), 1) => V128::from(0),
+    );
+    answers!(&rt;
+        i16x8_all_true(a) => false,
+        i32x4_all_true(a) => true,
+    );
+    answers!(&rt;
+        i32x4_bitmask(i64x2_splat(-9223372036854775808)) => 10,
     );
 }
 

@@ -1,10 +1,11 @@
 //! Binary instructions.
 
-ghost use Rattle.std.specs.Prelude.{◌≡◌, ◌*◌, ◌%◌, ◌^◌, pos, negsuc, true, int_le};
+ghost use Rattle.std.specs.Prelude.{◌≡◌, ◌*◌, ◌%◌, ◌^◌, ◌+ℤ◌, ◌-ℤ◌, pos, negsuc, true, int_le};
 ghost use Rattle.wasmi_types.specs.Wrapping.{w8, w16, w32, w64, clamp_signed};
 ghost use Rattle.wasmi_lanewise.specs.VectorTable as vector;
 
-use wasmi_lanes::{I8x16, I16x8, I32x4, U8x16, U16x8, U32x4, U64x2, on_vectors};
+use crate::simd::{order, words};
+use wasmi_lanes::{I8x16, I16x8, I32x4, U8x16, U16x8, U32x4, on_vectors};
 use wasmi_raw::V128;
 
 /// The sums of the lanes, modulo 2 to the power 8.
@@ -12,7 +13,7 @@ use wasmi_raw::V128;
 pub fn i8x16_add(lhs: V128, rhs: V128) -> V128
     ensures { result ≡ vector.add w8 lhs rhs }
 {
-    on_vectors::binary::<U8x16, _>(lhs, rhs, |x, y| x.wrapping_add(y))
+    words::sums::<u8>(lhs, rhs)
 }
 
 /// The sums of the lanes, modulo 2 to the power 16.
@@ -20,7 +21,7 @@ pub fn i8x16_add(lhs: V128, rhs: V128) -> V128
 pub fn i16x8_add(lhs: V128, rhs: V128) -> V128
     ensures { result ≡ vector.add w16 lhs rhs }
 {
-    on_vectors::binary::<U16x8, _>(lhs, rhs, |x, y| x.wrapping_add(y))
+    words::sums::<u16>(lhs, rhs)
 }
 
 /// The sums of the lanes, modulo 2 to the power 32.
@@ -28,7 +29,7 @@ pub fn i16x8_add(lhs: V128, rhs: V128) -> V128
 pub fn i32x4_add(lhs: V128, rhs: V128) -> V128
     ensures { result ≡ vector.add w32 lhs rhs }
 {
-    on_vectors::binary::<U32x4, _>(lhs, rhs, |x, y| x.wrapping_add(y))
+    words::sums::<u32>(lhs, rhs)
 }
 
 /// The sums of the lanes, modulo 2 to the power 64.
@@ -36,7 +37,7 @@ pub fn i32x4_add(lhs: V128, rhs: V128) -> V128
 pub fn i64x2_add(lhs: V128, rhs: V128) -> V128
     ensures { result ≡ vector.add w64 lhs rhs }
 {
-    on_vectors::binary::<U64x2, _>(lhs, rhs, |x, y| x.wrapping_add(y))
+    words::sums::<u64>(lhs, rhs)
 }
 
 /// The differences of the lanes, modulo 2 to the power 8.
@@ -44,7 +45,7 @@ pub fn i64x2_add(lhs: V128, rhs: V128) -> V128
 pub fn i8x16_sub(lhs: V128, rhs: V128) -> V128
     ensures { result ≡ vector.sub w8 lhs rhs }
 {
-    on_vectors::binary::<U8x16, _>(lhs, rhs, |x, y| x.wrapping_sub(y))
+    words::differences::<u8>(lhs, rhs)
 }
 
 /// The differences of the lanes, modulo 2 to the power 16.
@@ -52,7 +53,7 @@ pub fn i8x16_sub(lhs: V128, rhs: V128) -> V128
 pub fn i16x8_sub(lhs: V128, rhs: V128) -> V128
     ensures { result ≡ vector.sub w16 lhs rhs }
 {
-    on_vectors::binary::<U16x8, _>(lhs, rhs, |x, y| x.wrapping_sub(y))
+    words::differences::<u16>(lhs, rhs)
 }
 
 /// The differences of the lanes, modulo 2 to the power 32.
@@ -60,7 +61,7 @@ pub fn i16x8_sub(lhs: V128, rhs: V128) -> V128
 pub fn i32x4_sub(lhs: V128, rhs: V128) -> V128
     ensures { result ≡ vector.sub w32 lhs rhs }
 {
-    on_vectors::binary::<U32x4, _>(lhs, rhs, |x, y| x.wrapping_sub(y))
+    words::differences::<u32>(lhs, rhs)
 }
 
 /// The differences of the lanes, modulo 2 to the power 64.
@@ -68,7 +69,7 @@ pub fn i32x4_sub(lhs: V128, rhs: V128) -> V128
 pub fn i64x2_sub(lhs: V128, rhs: V128) -> V128
     ensures { result ≡ vector.sub w64 lhs rhs }
 {
-    on_vectors::binary::<U64x2, _>(lhs, rhs, |x, y| x.wrapping_sub(y))
+    words::differences::<u64>(lhs, rhs)
 }
 
 /// The products of the lanes, modulo 2 to the power 8.
@@ -119,7 +120,7 @@ fn product_by_u128(x: u64, y: u64) -> u64
 pub fn i8x16_add_sat_s(lhs: V128, rhs: V128) -> V128
     ensures { result ≡ vector.add_sat_s w8 lhs rhs }
 {
-    on_vectors::binary::<I8x16, _>(lhs, rhs, |x, y| x.saturating_add(y))
+    on_vectors::binary::<I8x16, _>(lhs, rhs, |x, y| clamped_i8(sum_i8(x, y)))
 }
 
 /// The sums of the lanes, read unsigned and clamped to the unsigned range of 8 bits.
@@ -151,7 +152,7 @@ pub fn i16x8_add_sat_u(lhs: V128, rhs: V128) -> V128
 pub fn i8x16_sub_sat_s(lhs: V128, rhs: V128) -> V128
     ensures { result ≡ vector.sub_sat_s w8 lhs rhs }
 {
-    on_vectors::binary::<I8x16, _>(lhs, rhs, |x, y| x.saturating_sub(y))
+    on_vectors::binary::<I8x16, _>(lhs, rhs, |x, y| clamped_i8(difference_i8(x, y)))
 }
 
 /// The differences of the lanes, read unsigned and clamped to the unsigned range of 8 bits.
@@ -191,7 +192,7 @@ pub fn i16x8_q15mulr_sat_s(lhs: V128, rhs: V128) -> V128
 pub fn i8x16_min_s(lhs: V128, rhs: V128) -> V128
     ensures { result ≡ vector.min_s w8 lhs rhs }
 {
-    on_vectors::binary::<I8x16, _>(lhs, rhs, |x, y| x.min(y))
+    order::smaller_s::<u8>(lhs, rhs)
 }
 
 /// The smaller ones of the lanes, read unsigned.
@@ -199,7 +200,7 @@ pub fn i8x16_min_s(lhs: V128, rhs: V128) -> V128
 pub fn i8x16_min_u(lhs: V128, rhs: V128) -> V128
     ensures { result ≡ vector.min_u w8 lhs rhs }
 {
-    on_vectors::binary::<U8x16, _>(lhs, rhs, |x, y| x.min(y))
+    order::smaller_u::<u8>(lhs, rhs)
 }
 
 /// The smaller ones of the lanes, read signed.
@@ -207,7 +208,7 @@ pub fn i8x16_min_u(lhs: V128, rhs: V128) -> V128
 pub fn i16x8_min_s(lhs: V128, rhs: V128) -> V128
     ensures { result ≡ vector.min_s w16 lhs rhs }
 {
-    on_vectors::binary::<I16x8, _>(lhs, rhs, |x, y| x.min(y))
+    order::smaller_s::<u16>(lhs, rhs)
 }
 
 /// The smaller ones of the lanes, read unsigned.
@@ -215,7 +216,7 @@ pub fn i16x8_min_s(lhs: V128, rhs: V128) -> V128
 pub fn i16x8_min_u(lhs: V128, rhs: V128) -> V128
     ensures { result ≡ vector.min_u w16 lhs rhs }
 {
-    on_vectors::binary::<U16x8, _>(lhs, rhs, |x, y| x.min(y))
+    order::smaller_u::<u16>(lhs, rhs)
 }
 
 /// The smaller ones of the lanes, read signed.
@@ -223,7 +224,7 @@ pub fn i16x8_min_u(lhs: V128, rhs: V128) -> V128
 pub fn i32x4_min_s(lhs: V128, rhs: V128) -> V128
     ensures { result ≡ vector.min_s w32 lhs rhs }
 {
-    on_vectors::binary::<I32x4, _>(lhs, rhs, |x, y| x.min(y))
+    order::smaller_s::<u32>(lhs, rhs)
 }
 
 /// The smaller ones of the lanes, read unsigned.
@@ -231,7 +232,7 @@ pub fn i32x4_min_s(lhs: V128, rhs: V128) -> V128
 pub fn i32x4_min_u(lhs: V128, rhs: V128) -> V128
     ensures { result ≡ vector.min_u w32 lhs rhs }
 {
-    on_vectors::binary::<U32x4, _>(lhs, rhs, |x, y| x.min(y))
+    order::smaller_u::<u32>(lhs, rhs)
 }
 
 /// The larger ones of the lanes, read signed.
@@ -239,7 +240,7 @@ pub fn i32x4_min_u(lhs: V128, rhs: V128) -> V128
 pub fn i8x16_max_s(lhs: V128, rhs: V128) -> V128
     ensures { result ≡ vector.max_s w8 lhs rhs }
 {
-    on_vectors::binary::<I8x16, _>(lhs, rhs, |x, y| x.max(y))
+    order::larger_s::<u8>(lhs, rhs)
 }
 
 /// The larger ones of the lanes, read unsigned.
@@ -247,7 +248,7 @@ pub fn i8x16_max_s(lhs: V128, rhs: V128) -> V128
 pub fn i8x16_max_u(lhs: V128, rhs: V128) -> V128
     ensures { result ≡ vector.max_u w8 lhs rhs }
 {
-    on_vectors::binary::<U8x16, _>(lhs, rhs, |x, y| x.max(y))
+    order::larger_u::<u8>(lhs, rhs)
 }
 
 /// The larger ones of the lanes, read signed.
@@ -255,7 +256,7 @@ pub fn i8x16_max_u(lhs: V128, rhs: V128) -> V128
 pub fn i16x8_max_s(lhs: V128, rhs: V128) -> V128
     ensures { result ≡ vector.max_s w16 lhs rhs }
 {
-    on_vectors::binary::<I16x8, _>(lhs, rhs, |x, y| x.max(y))
+    order::larger_s::<u16>(lhs, rhs)
 }
 
 /// The larger ones of the lanes, read unsigned.
@@ -263,7 +264,7 @@ pub fn i16x8_max_s(lhs: V128, rhs: V128) -> V128
 pub fn i16x8_max_u(lhs: V128, rhs: V128) -> V128
     ensures { result ≡ vector.max_u w16 lhs rhs }
 {
-    on_vectors::binary::<U16x8, _>(lhs, rhs, |x, y| x.max(y))
+    order::larger_u::<u16>(lhs, rhs)
 }
 
 /// The larger ones of the lanes, read signed.
@@ -271,7 +272,7 @@ pub fn i16x8_max_u(lhs: V128, rhs: V128) -> V128
 pub fn i32x4_max_s(lhs: V128, rhs: V128) -> V128
     ensures { result ≡ vector.max_s w32 lhs rhs }
 {
-    on_vectors::binary::<I32x4, _>(lhs, rhs, |x, y| x.max(y))
+    order::larger_s::<u32>(lhs, rhs)
 }
 
 /// The larger ones of the lanes, read unsigned.
@@ -279,7 +280,7 @@ pub fn i32x4_max_s(lhs: V128, rhs: V128) -> V128
 pub fn i32x4_max_u(lhs: V128, rhs: V128) -> V128
     ensures { result ≡ vector.max_u w32 lhs rhs }
 {
-    on_vectors::binary::<U32x4, _>(lhs, rhs, |x, y| x.max(y))
+    order::larger_u::<u32>(lhs, rhs)
 }
 
 /// The averages of the lanes, read unsigned, halves rounded up.
@@ -287,7 +288,7 @@ pub fn i32x4_max_u(lhs: V128, rhs: V128) -> V128
 pub fn i8x16_avgr_u(lhs: V128, rhs: V128) -> V128
     ensures { result ≡ vector.avgr_u w8 lhs rhs }
 {
-    on_vectors::binary::<U8x16, _>(lhs, rhs, |x, y| average_u8(x, y))
+    words::averages::<u8>(lhs, rhs)
 }
 
 /// The averages of the lanes, read unsigned, halves rounded up.
@@ -295,23 +296,29 @@ pub fn i8x16_avgr_u(lhs: V128, rhs: V128) -> V128
 pub fn i16x8_avgr_u(lhs: V128, rhs: V128) -> V128
     ensures { result ≡ vector.avgr_u w16 lhs rhs }
 {
-    on_vectors::binary::<U16x8, _>(lhs, rhs, |x, y| average_u16(x, y))
+    words::averages::<u16>(lhs, rhs)
 }
 
 #[inline]
-#[tactic(auto, using(crate::proofs::Average::half_below, crate::proofs::Average::average_is))]
-fn average_u8(x: u8, y: u8) -> u8
-    ensures { result ≡ vector.average x y }
+fn sum_i8(x: i8, y: i8) -> i16
+    ensures { result ≡ x +ℤ y }
 {
-    (x | y) - (x ^ y) / 2
+    i16::from(x) + i16::from(y)
 }
 
 #[inline]
-#[tactic(auto, using(crate::proofs::Average::half_below, crate::proofs::Average::average_is))]
-fn average_u16(x: u16, y: u16) -> u16
-    ensures { result ≡ vector.average x y }
+fn difference_i8(x: i8, y: i8) -> i16
+    ensures { result ≡ x -ℤ y }
 {
-    (x | y) - (x ^ y) / 2
+    i16::from(x) - i16::from(y)
+}
+
+// A number clamped to the signed range of 8 bits: what LLVM knows as a saturating sum or difference.
+#[inline]
+fn clamped_i8(x: i16) -> i8
+    ensures { result ≡ clamp_signed w8 x }
+{
+    x.clamp(-128, 127) as i8
 }
 
 // The product of two fractions of 2 to the power 15, halves rounded up, clamped to the signed range.

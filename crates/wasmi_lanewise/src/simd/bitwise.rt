@@ -1,10 +1,9 @@
 //! Instructions that work bit by bit on whole vectors.
 
-ghost use Rattle.std.specs.Prelude.{◌≡◌, ℕ, ◌/◌, ◌%◌, ◌^◌, [], ◌∷◌};
-ghost use Rattle.wasmi_raw.specs.Vector.{vector_of};
+ghost use Rattle.std.specs.Prelude.{◌≡◌};
 ghost use Rattle.wasmi_lanewise.specs.VectorTable as vector;
 
-use std::simd::prelude::*;
+use wasmi_lanes::{from_words, words_of};
 use wasmi_raw::V128;
 
 /// Bitwise and.
@@ -61,21 +60,4 @@ pub fn v128_bitselect(v1: V128, v2: V128, c: V128) -> V128
 {
     let ones = words_of(c);
     from_words((words_of(v1) & ones) | (words_of(v2) & !ones))
-}
-
-// The two words of a vector as one value of the processor's.
-#[inline(always)]
-fn words_of(vector: V128) -> u64x2
-    ensures { result ≡ vector % 2 ^ 64 ∷ vector / 2 ^ 64 ∷ [] }
-{
-    let (low, high) = vector.words();
-    u64x2::from_array([low, high])
-}
-
-#[inline(always)]
-fn from_words(words: u64x2) -> V128
-    ensures { (low high : ℕ) → words ≡ low ∷ high ∷ [] → result ≡ vector_of low high }
-{
-    let [low, high] = words.to_array();
-    V128::from_words(low, high)
 }

@@ -4,8 +4,7 @@ ghost use Rattle.std.specs.Prelude.{◌≡◌};
 ghost use Rattle.wasmi_types.specs.Wrapping.{w8, w16, w32, w64};
 ghost use Rattle.wasmi_lanewise.specs.VectorTable as vector;
 
-use crate::simd::signed_i32x4;
-use wasmi_lanes::{I8x16, I16x8, I64x2, U8x16, U16x8, U32x4, U64x2, on_vectors};
+use crate::simd::{order, words};
 use wasmi_raw::V128;
 
 /// All ones in the lanes that are equal, else all zeros.
@@ -13,7 +12,7 @@ use wasmi_raw::V128;
 pub fn i8x16_eq(lhs: V128, rhs: V128) -> V128
     ensures { result ≡ vector.eq w8 lhs rhs }
 {
-    on_vectors::comparison::<U8x16, _>(lhs, rhs, |x, y| x == y)
+    words::equal::<u8>(lhs, rhs)
 }
 
 /// All ones in the lanes that are equal, else all zeros.
@@ -21,7 +20,7 @@ pub fn i8x16_eq(lhs: V128, rhs: V128) -> V128
 pub fn i16x8_eq(lhs: V128, rhs: V128) -> V128
     ensures { result ≡ vector.eq w16 lhs rhs }
 {
-    on_vectors::comparison::<U16x8, _>(lhs, rhs, |x, y| x == y)
+    words::equal::<u16>(lhs, rhs)
 }
 
 /// All ones in the lanes that are equal, else all zeros.
@@ -29,7 +28,7 @@ pub fn i16x8_eq(lhs: V128, rhs: V128) -> V128
 pub fn i32x4_eq(lhs: V128, rhs: V128) -> V128
     ensures { result ≡ vector.eq w32 lhs rhs }
 {
-    on_vectors::comparison::<U32x4, _>(lhs, rhs, |x, y| x == y)
+    words::equal::<u32>(lhs, rhs)
 }
 
 /// All ones in the lanes that are equal, else all zeros.
@@ -37,7 +36,7 @@ pub fn i32x4_eq(lhs: V128, rhs: V128) -> V128
 pub fn i64x2_eq(lhs: V128, rhs: V128) -> V128
     ensures { result ≡ vector.eq w64 lhs rhs }
 {
-    on_vectors::comparison::<U64x2, _>(lhs, rhs, |x, y| x == y)
+    words::equal::<u64>(lhs, rhs)
 }
 
 /// All ones in the lanes that are different, else all zeros.
@@ -45,7 +44,7 @@ pub fn i64x2_eq(lhs: V128, rhs: V128) -> V128
 pub fn i8x16_ne(lhs: V128, rhs: V128) -> V128
     ensures { result ≡ vector.ne w8 lhs rhs }
 {
-    on_vectors::comparison::<U8x16, _>(lhs, rhs, |x, y| x != y)
+    words::different::<u8>(lhs, rhs)
 }
 
 /// All ones in the lanes that are different, else all zeros.
@@ -53,7 +52,7 @@ pub fn i8x16_ne(lhs: V128, rhs: V128) -> V128
 pub fn i16x8_ne(lhs: V128, rhs: V128) -> V128
     ensures { result ≡ vector.ne w16 lhs rhs }
 {
-    on_vectors::comparison::<U16x8, _>(lhs, rhs, |x, y| x != y)
+    words::different::<u16>(lhs, rhs)
 }
 
 /// All ones in the lanes that are different, else all zeros.
@@ -61,7 +60,7 @@ pub fn i16x8_ne(lhs: V128, rhs: V128) -> V128
 pub fn i32x4_ne(lhs: V128, rhs: V128) -> V128
     ensures { result ≡ vector.ne w32 lhs rhs }
 {
-    on_vectors::comparison::<U32x4, _>(lhs, rhs, |x, y| x != y)
+    words::different::<u32>(lhs, rhs)
 }
 
 /// All ones in the lanes that are different, else all zeros.
@@ -69,7 +68,7 @@ pub fn i32x4_ne(lhs: V128, rhs: V128) -> V128
 pub fn i64x2_ne(lhs: V128, rhs: V128) -> V128
     ensures { result ≡ vector.ne w64 lhs rhs }
 {
-    on_vectors::comparison::<U64x2, _>(lhs, rhs, |x, y| x != y)
+    words::different::<u64>(lhs, rhs)
 }
 
 /// All ones where the lane of `lhs` is less than that of `rhs`, both read signed, else all zeros.
@@ -77,7 +76,7 @@ pub fn i64x2_ne(lhs: V128, rhs: V128) -> V128
 pub fn i8x16_lt_s(lhs: V128, rhs: V128) -> V128
     ensures { result ≡ vector.lt_s w8 lhs rhs }
 {
-    on_vectors::comparison::<I8x16, _>(lhs, rhs, |x, y| x < y)
+    order::less_s::<u8>(lhs, rhs)
 }
 
 /// All ones where the lane of `lhs` is less than that of `rhs`, both read signed, else all zeros.
@@ -85,7 +84,7 @@ pub fn i8x16_lt_s(lhs: V128, rhs: V128) -> V128
 pub fn i16x8_lt_s(lhs: V128, rhs: V128) -> V128
     ensures { result ≡ vector.lt_s w16 lhs rhs }
 {
-    on_vectors::comparison::<I16x8, _>(lhs, rhs, |x, y| x < y)
+    order::less_s::<u16>(lhs, rhs)
 }
 
 /// All ones where the lane of `lhs` is less than that of `rhs`, both read signed, else all zeros.
@@ -93,7 +92,7 @@ pub fn i16x8_lt_s(lhs: V128, rhs: V128) -> V128
 pub fn i32x4_lt_s(lhs: V128, rhs: V128) -> V128
     ensures { result ≡ vector.lt_s w32 lhs rhs }
 {
-    signed_i32x4::less(lhs, rhs)
+    order::less_s::<u32>(lhs, rhs)
 }
 
 /// All ones where the lane of `lhs` is less than that of `rhs`, both read signed, else all zeros.
@@ -101,7 +100,7 @@ pub fn i32x4_lt_s(lhs: V128, rhs: V128) -> V128
 pub fn i64x2_lt_s(lhs: V128, rhs: V128) -> V128
     ensures { result ≡ vector.lt_s w64 lhs rhs }
 {
-    on_vectors::comparison::<I64x2, _>(lhs, rhs, |x, y| x < y)
+    order::less_s::<u64>(lhs, rhs)
 }
 
 /// All ones where the lane of `lhs` is less than that of `rhs`, both read unsigned, else all zeros.
@@ -109,7 +108,7 @@ pub fn i64x2_lt_s(lhs: V128, rhs: V128) -> V128
 pub fn i8x16_lt_u(lhs: V128, rhs: V128) -> V128
     ensures { result ≡ vector.lt_u w8 lhs rhs }
 {
-    on_vectors::comparison::<U8x16, _>(lhs, rhs, |x, y| x < y)
+    order::less_u::<u8>(lhs, rhs)
 }
 
 /// All ones where the lane of `lhs` is less than that of `rhs`, both read unsigned, else all zeros.
@@ -117,7 +116,7 @@ pub fn i8x16_lt_u(lhs: V128, rhs: V128) -> V128
 pub fn i16x8_lt_u(lhs: V128, rhs: V128) -> V128
     ensures { result ≡ vector.lt_u w16 lhs rhs }
 {
-    on_vectors::comparison::<U16x8, _>(lhs, rhs, |x, y| x < y)
+    order::less_u::<u16>(lhs, rhs)
 }
 
 /// All ones where the lane of `lhs` is less than that of `rhs`, both read unsigned, else all zeros.
@@ -125,7 +124,7 @@ pub fn i16x8_lt_u(lhs: V128, rhs: V128) -> V128
 pub fn i32x4_lt_u(lhs: V128, rhs: V128) -> V128
     ensures { result ≡ vector.lt_u w32 lhs rhs }
 {
-    on_vectors::comparison::<U32x4, _>(lhs, rhs, |x, y| x < y)
+    order::less_u::<u32>(lhs, rhs)
 }
 
 /// All ones where the lane of `lhs` is at most that of `rhs`, both read signed, else all zeros.
@@ -133,7 +132,7 @@ pub fn i32x4_lt_u(lhs: V128, rhs: V128) -> V128
 pub fn i8x16_le_s(lhs: V128, rhs: V128) -> V128
     ensures { result ≡ vector.le_s w8 lhs rhs }
 {
-    on_vectors::comparison::<I8x16, _>(lhs, rhs, |x, y| x <= y)
+    order::at_most_s::<u8>(lhs, rhs)
 }
 
 /// All ones where the lane of `lhs` is at most that of `rhs`, both read signed, else all zeros.
@@ -141,7 +140,7 @@ pub fn i8x16_le_s(lhs: V128, rhs: V128) -> V128
 pub fn i16x8_le_s(lhs: V128, rhs: V128) -> V128
     ensures { result ≡ vector.le_s w16 lhs rhs }
 {
-    on_vectors::comparison::<I16x8, _>(lhs, rhs, |x, y| x <= y)
+    order::at_most_s::<u16>(lhs, rhs)
 }
 
 /// All ones where the lane of `lhs` is at most that of `rhs`, both read signed, else all zeros.
@@ -149,7 +148,7 @@ pub fn i16x8_le_s(lhs: V128, rhs: V128) -> V128
 pub fn i32x4_le_s(lhs: V128, rhs: V128) -> V128
     ensures { result ≡ vector.le_s w32 lhs rhs }
 {
-    signed_i32x4::at_most(lhs, rhs)
+    order::at_most_s::<u32>(lhs, rhs)
 }
 
 /// All ones where the lane of `lhs` is at most that of `rhs`, both read signed, else all zeros.
@@ -157,7 +156,7 @@ pub fn i32x4_le_s(lhs: V128, rhs: V128) -> V128
 pub fn i64x2_le_s(lhs: V128, rhs: V128) -> V128
     ensures { result ≡ vector.le_s w64 lhs rhs }
 {
-    on_vectors::comparison::<I64x2, _>(lhs, rhs, |x, y| x <= y)
+    order::at_most_s::<u64>(lhs, rhs)
 }
 
 /// All ones where the lane of `lhs` is at most that of `rhs`, both read unsigned, else all zeros.
@@ -165,7 +164,7 @@ pub fn i64x2_le_s(lhs: V128, rhs: V128) -> V128
 pub fn i8x16_le_u(lhs: V128, rhs: V128) -> V128
     ensures { result ≡ vector.le_u w8 lhs rhs }
 {
-    on_vectors::comparison::<U8x16, _>(lhs, rhs, |x, y| x <= y)
+    order::at_most_u::<u8>(lhs, rhs)
 }
 
 /// All ones where the lane of `lhs` is at most that of `rhs`, both read unsigned, else all zeros.
@@ -173,7 +172,7 @@ pub fn i8x16_le_u(lhs: V128, rhs: V128) -> V128
 pub fn i16x8_le_u(lhs: V128, rhs: V128) -> V128
     ensures { result ≡ vector.le_u w16 lhs rhs }
 {
-    on_vectors::comparison::<U16x8, _>(lhs, rhs, |x, y| x <= y)
+    order::at_most_u::<u16>(lhs, rhs)
 }
 
 /// All ones where the lane of `lhs` is at most that of `rhs`, both read unsigned, else all zeros.
@@ -181,7 +180,7 @@ pub fn i16x8_le_u(lhs: V128, rhs: V128) -> V128
 pub fn i32x4_le_u(lhs: V128, rhs: V128) -> V128
     ensures { result ≡ vector.le_u w32 lhs rhs }
 {
-    on_vectors::comparison::<U32x4, _>(lhs, rhs, |x, y| x <= y)
+    order::at_most_u::<u32>(lhs, rhs)
 }
 
 /// All ones where the lane of `lhs` is greater than that of `rhs`, both read signed, else all zeros.
@@ -189,7 +188,7 @@ pub fn i32x4_le_u(lhs: V128, rhs: V128) -> V128
 pub fn i8x16_gt_s(lhs: V128, rhs: V128) -> V128
     ensures { result ≡ vector.gt_s w8 lhs rhs }
 {
-    on_vectors::comparison::<I8x16, _>(lhs, rhs, |x, y| x > y)
+    order::greater_s::<u8>(lhs, rhs)
 }
 
 /// All ones where the lane of `lhs` is greater than that of `rhs`, both read signed, else all zeros.
@@ -197,7 +196,7 @@ pub fn i8x16_gt_s(lhs: V128, rhs: V128) -> V128
 pub fn i16x8_gt_s(lhs: V128, rhs: V128) -> V128
     ensures { result ≡ vector.gt_s w16 lhs rhs }
 {
-    on_vectors::comparison::<I16x8, _>(lhs, rhs, |x, y| x > y)
+    order::greater_s::<u16>(lhs, rhs)
 }
 
 /// All ones where the lane of `lhs` is greater than that of `rhs`, both read signed, else all zeros.
@@ -205,7 +204,7 @@ pub fn i16x8_gt_s(lhs: V128, rhs: V128) -> V128
 pub fn i32x4_gt_s(lhs: V128, rhs: V128) -> V128
     ensures { result ≡ vector.gt_s w32 lhs rhs }
 {
-    signed_i32x4::less(rhs, lhs)
+    order::greater_s::<u32>(lhs, rhs)
 }
 
 /// All ones where the lane of `lhs` is greater than that of `rhs`, both read signed, else all zeros.
@@ -213,7 +212,7 @@ pub fn i32x4_gt_s(lhs: V128, rhs: V128) -> V128
 pub fn i64x2_gt_s(lhs: V128, rhs: V128) -> V128
     ensures { result ≡ vector.gt_s w64 lhs rhs }
 {
-    on_vectors::comparison::<I64x2, _>(lhs, rhs, |x, y| x > y)
+    order::greater_s::<u64>(lhs, rhs)
 }
 
 /// All ones where the lane of `lhs` is greater than that of `rhs`, both read unsigned, else all zeros.
@@ -221,7 +220,7 @@ pub fn i64x2_gt_s(lhs: V128, rhs: V128) -> V128
 pub fn i8x16_gt_u(lhs: V128, rhs: V128) -> V128
     ensures { result ≡ vector.gt_u w8 lhs rhs }
 {
-    on_vectors::comparison::<U8x16, _>(lhs, rhs, |x, y| x > y)
+    order::greater_u::<u8>(lhs, rhs)
 }
 
 /// All ones where the lane of `lhs` is greater than that of `rhs`, both read unsigned, else all zeros.
@@ -229,7 +228,7 @@ pub fn i8x16_gt_u(lhs: V128, rhs: V128) -> V128
 pub fn i16x8_gt_u(lhs: V128, rhs: V128) -> V128
     ensures { result ≡ vector.gt_u w16 lhs rhs }
 {
-    on_vectors::comparison::<U16x8, _>(lhs, rhs, |x, y| x > y)
+    order::greater_u::<u16>(lhs, rhs)
 }
 
 /// All ones where the lane of `lhs` is greater than that of `rhs`, both read unsigned, else all zeros.
@@ -237,7 +236,7 @@ pub fn i16x8_gt_u(lhs: V128, rhs: V128) -> V128
 pub fn i32x4_gt_u(lhs: V128, rhs: V128) -> V128
     ensures { result ≡ vector.gt_u w32 lhs rhs }
 {
-    on_vectors::comparison::<U32x4, _>(lhs, rhs, |x, y| x > y)
+    order::greater_u::<u32>(lhs, rhs)
 }
 
 /// All ones where the lane of `lhs` is at least that of `rhs`, both read signed, else all zeros.
@@ -245,7 +244,7 @@ pub fn i32x4_gt_u(lhs: V128, rhs: V128) -> V128
 pub fn i8x16_ge_s(lhs: V128, rhs: V128) -> V128
     ensures { result ≡ vector.ge_s w8 lhs rhs }
 {
-    on_vectors::comparison::<I8x16, _>(lhs, rhs, |x, y| x >= y)
+    order::at_least_s::<u8>(lhs, rhs)
 }
 
 /// All ones where the lane of `lhs` is at least that of `rhs`, both read signed, else all zeros.
@@ -253,7 +252,7 @@ pub fn i8x16_ge_s(lhs: V128, rhs: V128) -> V128
 pub fn i16x8_ge_s(lhs: V128, rhs: V128) -> V128
     ensures { result ≡ vector.ge_s w16 lhs rhs }
 {
-    on_vectors::comparison::<I16x8, _>(lhs, rhs, |x, y| x >= y)
+    order::at_least_s::<u16>(lhs, rhs)
 }
 
 /// All ones where the lane of `lhs` is at least that of `rhs`, both read signed, else all zeros.
@@ -261,7 +260,7 @@ pub fn i16x8_ge_s(lhs: V128, rhs: V128) -> V128
 pub fn i32x4_ge_s(lhs: V128, rhs: V128) -> V128
     ensures { result ≡ vector.ge_s w32 lhs rhs }
 {
-    signed_i32x4::at_most(rhs, lhs)
+    order::at_least_s::<u32>(lhs, rhs)
 }
 
 /// All ones where the lane of `lhs` is at least that of `rhs`, both read signed, else all zeros.
@@ -269,7 +268,7 @@ pub fn i32x4_ge_s(lhs: V128, rhs: V128) -> V128
 pub fn i64x2_ge_s(lhs: V128, rhs: V128) -> V128
     ensures { result ≡ vector.ge_s w64 lhs rhs }
 {
-    on_vectors::comparison::<I64x2, _>(lhs, rhs, |x, y| x >= y)
+    order::at_least_s::<u64>(lhs, rhs)
 }
 
 /// All ones where the lane of `lhs` is at least that of `rhs`, both read unsigned, else all zeros.
@@ -277,7 +276,7 @@ pub fn i64x2_ge_s(lhs: V128, rhs: V128) -> V128
 pub fn i8x16_ge_u(lhs: V128, rhs: V128) -> V128
     ensures { result ≡ vector.ge_u w8 lhs rhs }
 {
-    on_vectors::comparison::<U8x16, _>(lhs, rhs, |x, y| x >= y)
+    order::at_least_u::<u8>(lhs, rhs)
 }
 
 /// All ones where the lane of `lhs` is at least that of `rhs`, both read unsigned, else all zeros.
@@ -285,7 +284,7 @@ pub fn i8x16_ge_u(lhs: V128, rhs: V128) -> V128
 pub fn i16x8_ge_u(lhs: V128, rhs: V128) -> V128
     ensures { result ≡ vector.ge_u w16 lhs rhs }
 {
-    on_vectors::comparison::<U16x8, _>(lhs, rhs, |x, y| x >= y)
+    order::at_least_u::<u16>(lhs, rhs)
 }
 
 /// All ones where the lane of `lhs` is at least that of `rhs`, both read unsigned, else all zeros.
@@ -293,5 +292,5 @@ pub fn i16x8_ge_u(lhs: V128, rhs: V128) -> V128
 pub fn i32x4_ge_u(lhs: V128, rhs: V128) -> V128
     ensures { result ≡ vector.ge_u w32 lhs rhs }
 {
-    on_vectors::comparison::<U32x4, _>(lhs, rhs, |x, y| x >= y)
+    order::at_least_u::<u32>(lhs, rhs)
 }

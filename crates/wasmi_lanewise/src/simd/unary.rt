@@ -4,7 +4,8 @@ ghost use Rattle.std.specs.Prelude.{◌≡◌};
 ghost use Rattle.wasmi_types.specs.Wrapping.{w8, w16, w32, w64};
 ghost use Rattle.wasmi_lanewise.specs.VectorTable as vector;
 
-use wasmi_lanes::{I8x16, I16x8, I32x4, I64x2, U8x16, U16x8, U32x4, U64x2, on_vectors};
+use crate::simd::words;
+use wasmi_lanes::{I8x16, I16x8, I32x4, I64x2, on_vectors};
 use wasmi_raw::V128;
 
 /// The lanes negated, modulo 2 to the power 8.
@@ -12,7 +13,7 @@ use wasmi_raw::V128;
 pub fn i8x16_neg(v: V128) -> V128
     ensures { result ≡ vector.neg w8 v }
 {
-    on_vectors::unary::<U8x16, _>(v, |x| x.wrapping_neg())
+    words::negations::<u8>(v)
 }
 
 /// The lanes negated, modulo 2 to the power 16.
@@ -20,7 +21,7 @@ pub fn i8x16_neg(v: V128) -> V128
 pub fn i16x8_neg(v: V128) -> V128
     ensures { result ≡ vector.neg w16 v }
 {
-    on_vectors::unary::<U16x8, _>(v, |x| x.wrapping_neg())
+    words::negations::<u16>(v)
 }
 
 /// The lanes negated, modulo 2 to the power 32.
@@ -28,7 +29,7 @@ pub fn i16x8_neg(v: V128) -> V128
 pub fn i32x4_neg(v: V128) -> V128
     ensures { result ≡ vector.neg w32 v }
 {
-    on_vectors::unary::<U32x4, _>(v, |x| x.wrapping_neg())
+    words::negations::<u32>(v)
 }
 
 /// The lanes negated, modulo 2 to the power 64.
@@ -36,7 +37,7 @@ pub fn i32x4_neg(v: V128) -> V128
 pub fn i64x2_neg(v: V128) -> V128
     ensures { result ≡ vector.neg w64 v }
 {
-    on_vectors::unary::<U64x2, _>(v, |x| x.wrapping_neg())
+    words::negations::<u64>(v)
 }
 
 /// The absolute values of the lanes, read signed; the least number is its own, modulo 2 to the power 8.
@@ -76,5 +77,5 @@ pub fn i64x2_abs(v: V128) -> V128
 pub fn i8x16_popcnt(v: V128) -> V128
     ensures { result ≡ vector.popcnt w8 v }
 {
-    on_vectors::unary::<U8x16, _>(v, |x| x.count_ones() as u8)
+    words::counts_of_ones(v)
 }

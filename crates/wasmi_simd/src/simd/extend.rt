@@ -4,10 +4,13 @@ ghost use Rattle.std.specs.Prelude.{◌≡◌};
 ghost use Rattle.wasmi_types.specs.Wrapping.{w8, w16, w32, w64};
 ghost use Rattle.wasmi_simd.specs.WideningTable as vector;
 
-use super::halves::{high_bytes, high_eighths, low_bytes, low_eighths};
+use super::halves::{
+    high_bytes, high_bytes_signed, high_eighths, high_eighths_signed, low_bytes, low_bytes_signed,
+    low_eighths, low_eighths_signed,
+};
 use super::vectors::{from_eighths, from_quarters};
 use crate::widening::{high_unary, low_unary};
-use wasmi_lanes::{I8x16, I16x8, I32x4, I64x2, U32x4, U64x2};
+use wasmi_lanes::{I32x4, I64x2, U32x4, U64x2};
 use wasmi_raw::V128;
 
 /// The lanes of the lower half, read signed.
@@ -15,7 +18,7 @@ use wasmi_raw::V128;
 pub fn i16x8_extend_low_i8x16_s(v: V128) -> V128
     ensures { result ≡ vector.extend_low_s w8 w16 v }
 {
-    low_unary::<I8x16, I16x8, _>(v, |x| i16::from(x))
+    from_eighths(low_bytes_signed(v))
 }
 
 /// The lanes of the lower half, read unsigned.
@@ -31,7 +34,7 @@ pub fn i16x8_extend_low_i8x16_u(v: V128) -> V128
 pub fn i16x8_extend_high_i8x16_s(v: V128) -> V128
     ensures { result ≡ vector.extend_high_s w8 w16 v }
 {
-    high_unary::<I8x16, I16x8, _>(v, |x| i16::from(x))
+    from_eighths(high_bytes_signed(v))
 }
 
 /// The lanes of the upper half, read unsigned.
@@ -47,7 +50,7 @@ pub fn i16x8_extend_high_i8x16_u(v: V128) -> V128
 pub fn i32x4_extend_low_i16x8_s(v: V128) -> V128
     ensures { result ≡ vector.extend_low_s w16 w32 v }
 {
-    low_unary::<I16x8, I32x4, _>(v, |x| i32::from(x))
+    from_quarters(low_eighths_signed(v))
 }
 
 /// The lanes of the lower half, read unsigned.
@@ -63,7 +66,7 @@ pub fn i32x4_extend_low_i16x8_u(v: V128) -> V128
 pub fn i32x4_extend_high_i16x8_s(v: V128) -> V128
     ensures { result ≡ vector.extend_high_s w16 w32 v }
 {
-    high_unary::<I16x8, I32x4, _>(v, |x| i32::from(x))
+    from_quarters(high_eighths_signed(v))
 }
 
 /// The lanes of the upper half, read unsigned.

@@ -5,11 +5,12 @@ ghost use Rattle.wasmi_types.specs.Wrapping.{w8, w16, w32, w64};
 ghost use Rattle.wasmi_simd.specs.WideningTable as vector;
 
 use super::halves::{
-    high_bytes, high_eighths, high_eighths_signed, low_bytes, low_eighths, low_eighths_signed,
+    high_bytes, high_bytes_signed, high_eighths, high_eighths_signed, low_bytes, low_bytes_signed,
+    low_eighths, low_eighths_signed,
 };
 use super::vectors::{from_eighths, from_quarters, product_of_eighths, product_of_quarters};
 use crate::widening::{high_binary, low_binary};
-use wasmi_lanes::{I8x16, I16x8, I32x4, I64x2, U32x4, U64x2};
+use wasmi_lanes::{I32x4, I64x2, U32x4, U64x2};
 use wasmi_raw::V128;
 
 /// The products of the lanes of the lower halves, read signed.
@@ -17,7 +18,7 @@ use wasmi_raw::V128;
 pub fn i16x8_extmul_low_i8x16_s(lhs: V128, rhs: V128) -> V128
     ensures { result ≡ vector.extmul_low_s w8 w16 lhs rhs }
 {
-    low_binary::<I8x16, I16x8, _>(lhs, rhs, |x, y| product_i8(x, y))
+    from_eighths(product_of_eighths(low_bytes_signed(lhs), low_bytes_signed(rhs)))
 }
 
 /// The products of the lanes of the lower halves, read unsigned.
@@ -33,7 +34,7 @@ pub fn i16x8_extmul_low_i8x16_u(lhs: V128, rhs: V128) -> V128
 pub fn i16x8_extmul_high_i8x16_s(lhs: V128, rhs: V128) -> V128
     ensures { result ≡ vector.extmul_high_s w8 w16 lhs rhs }
 {
-    high_binary::<I8x16, I16x8, _>(lhs, rhs, |x, y| product_i8(x, y))
+    from_eighths(product_of_eighths(high_bytes_signed(lhs), high_bytes_signed(rhs)))
 }
 
 /// The products of the lanes of the upper halves, read unsigned.
@@ -106,13 +107,6 @@ pub fn i64x2_extmul_high_i32x4_u(lhs: V128, rhs: V128) -> V128
     ensures { result ≡ vector.extmul_high_u w32 w64 lhs rhs }
 {
     high_binary::<U32x4, U64x2, _>(lhs, rhs, |x, y| product_u32(x, y))
-}
-
-#[inline]
-fn product_i8(x: i8, y: i8) -> i16
-    ensures { result ≡ x *ℤ y }
-{
-    i16::from(x) * i16::from(y)
 }
 
 #[inline]

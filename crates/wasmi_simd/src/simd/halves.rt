@@ -1,7 +1,7 @@
 //! The lanes of half a vector at twice their width, as `std::simd` vectors: LLVM takes plain lanes
 //! out one by one.
 
-ghost use Rattle.std.specs.Prelude.{◌≡◌, ℕ, ◌+◌, ◌<◌, slice_index};
+ghost use Rattle.std.specs.Prelude.{◌≡◌, ℕ, ◌+◌, ◌^◌, ◌<◌, slice_index};
 ghost use Rattle.std.specs.Int.{cast_unsigned};
 ghost use Rattle.wasmi_types.specs.Wrapping.{w8, w16, w32, signed};
 ghost use Rattle.wasmi_lanes.specs.Lane.{lane};
@@ -25,6 +25,31 @@ pub(super) fn high_bytes(v: V128) -> u16x8
     ensures lanes { (i : ℕ) → i < 8 → slice_index result i ≡ lane w8 v (8 + i) }
 {
     bytes_of(v).extract::<8, 8>().cast::<u16>()
+}
+
+/// The lower 8 lanes of 8 bits, the sign copied.
+#[inline(always)]
+pub(super) fn low_bytes_signed(v: V128) -> u16x8
+    ensures lanes { (i : ℕ) → i < 8 → slice_index result i ≡ cast_unsigned w16 (signed w8 (lane w8 v i)) }
+{
+    sign_copied(low_bytes(v))
+}
+
+/// The upper 8 lanes of 8 bits, the sign copied.
+#[inline(always)]
+pub(super) fn high_bytes_signed(v: V128) -> u16x8
+    ensures lanes { (i : ℕ) → i < 8 → slice_index result i ≡ cast_unsigned w16 (signed w8 (lane w8 v (8 + i))) }
+{
+    sign_copied(high_bytes(v))
+}
+
+// Numbers of 8 bits, the sign copied to 16: their highest bit is flipped, and taken off again.
+#[inline(always)]
+fn sign_copied(bytes: u16x8) -> u16x8
+    ensures lanes { (i x : ℕ) → i < 8 → slice_index bytes i ≡ x → x < 2 ^ 8 → slice_index result i ≡ cast_unsigned w16 (signed w8 x) }
+{
+    let tops = u16x8::splat(0x80);
+    (bytes ^ tops) - tops
 }
 
 /// The lower 4 lanes of 16 bits.

@@ -1,8 +1,8 @@
-//! Vectors as `std::simd` vectors with lanes of 16, 32 or 64 bits, and back; sums and products of
+//! Vectors as `std::simd` vectors with lanes of 16 or 32 bits, and back; sums and products of
 //! these lanes.
 
 ghost use Rattle.std.specs.Prelude.{◌≡◌, ℕ, pos, ◌+◌, ◌*◌, ◌%◌, ◌^◌, ◌<◌, slice_index, slice_index_or};
-ghost use Rattle.wasmi_types.specs.Wrapping.{w16, w32, w64, signed};
+ghost use Rattle.wasmi_types.specs.Wrapping.{w16, w32, signed};
 ghost use Rattle.wasmi_lanes.specs.Lane.{lane};
 
 use std::simd::prelude::*;
@@ -23,14 +23,6 @@ pub(super) fn quarters_of(v: V128) -> u32x4
     ensures lanes { (i : ℕ) → i < 4 → slice_index result i ≡ lane w32 v i }
 {
     u32x4::from_le_bytes(bytes_of(v))
-}
-
-/// The lanes of 64 bits.
-#[inline(always)]
-pub(super) fn halves_of(v: V128) -> u64x2
-    ensures lanes { (i : ℕ) → i < 2 → slice_index result i ≡ lane w64 v i }
-{
-    u64x2::from_le_bytes(bytes_of(v))
 }
 
 /// The lanes of 16 bits, read signed.

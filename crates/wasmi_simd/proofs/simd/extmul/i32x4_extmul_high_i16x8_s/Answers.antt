@@ -1,16 +1,9 @@
-use Rattle.std.proofs.Common.{◌+◌, ◌*◌, ◌%◌, ◌^◌, ◌∙◌, refl, ap₂}
-use Rattle.wasmi_types.specs.Wrapping.{w16, w32, signed}
-use Rattle.wasmi_lanes.specs.Lane.{lane}
-use Rattle.wasmi_lanes.proofs.Vectors.{lanes_make_vector}
-use Rattle.wasmi_simd.specs.Widening.{half_binary}
-use Rattle.wasmi_simd.proofs.WideningLemmas.{product_of_bits, extended_fits}
+use Rattle.std.proofs.Common.{◌+◌, ◌∙◌, refl}
+use Rattle.wasmi_types.specs.Wrapping.{w16, w32}
+use Rattle.wasmi_simd.proofs.Halves.{products_make_vector}
 use Rattle.wasmi_simd.proofs.simd.extmul.i32x4_extmul_high_i16x8_s.Goals as goal
 
 pub returns : goal.returns
-unfolding half_binary
 returns c =
-    lanes_make_vector w32 4 c.from_quarters.result _ refl c.from_quarters.ensures.in_range
-    (λ i below.
-    c.from_quarters.ensures.lanes i below ∙ c.product_of_quarters.ensures.lanes i below
-    ∙ ap₂ (λ x y. x * y % 2 ^ 32) (c.high_eighths_signed.ensures.lanes i below) (c.high_eighths_signed-2.ensures.lanes i below)
-    ∙ product_of_bits w32 (signed w16 (lane w16 c.args.lhs (4 + i))) (signed w16 (lane w16 c.args.rhs (4 + i))) (extended_fits w16 w32 c.args.lhs (4 + i) tt) (extended_fits w16 w32 c.args.rhs (4 + i) tt))
+    products_make_vector w16 w32 4 4 c.from_quarters.result (λ i. 4 + i) refl tt c.from_quarters.ensures.in_range (λ i. refl) c.args.lhs c.args.rhs _ _
+    (λ i inside. c.from_quarters.ensures.lanes i inside ∙ c.product_of_quarters.ensures.lanes i inside) c.high_eighths_signed.ensures.lanes c.high_eighths_signed-2.ensures.lanes

@@ -1,14 +1,9 @@
-use Rattle.std.proofs.Common.{◌≡◌, length, refl, arith, rules}
+use Rattle.std.proofs.Common.{refl, arith, nat_le, ◌^◌}
 use Rattle.wasmi_types.specs.Wrapping.{w32}
-use Rattle.wasmi_simd.proofs.WideningLemmas.{tops_are, tops_below}
+use Rattle.wasmi_lanes.proofs.WordVectorLemmas.{words_of}
+use Rattle.wasmi_simd.proofs.TruthLemmas.{bitmask_by_words}
 use Rattle.wasmi_simd.proofs.simd.truth.i32x4_bitmask.Goals as goal
-
-pub overflow_cast-result : goal.overflow_cast-result
-overflow_cast-result c =
-    let long : length c.quarters_of.result ≡ 4 = search rules in
-    record { fits = omega (arith, tops_below w32 4 c.quarters_of.result c.args.v long refl c.quarters_of.ensures.lanes (omega arith)) }
 
 pub returns : goal.returns
 returns c =
-    let long : length c.quarters_of.result ≡ 4 = search rules in
-    tops_are w32 4 c.quarters_of.result c.args.v long refl c.quarters_of.ensures.lanes (omega arith)
+    bitmask_by_words w32 refl c.args.v _ _ (words_of c.words-low.ensures.low c.words-low.ensures.high) (λ x. nat_le (2 ^ 31) x) _ _ (omega arith) c.tops_of_32.ensures c.tops_of_32-2.ensures

@@ -1,0 +1,162 @@
+-- The bits of a word that belong to one lane (`field`), as those of the operands give them.
+use Rattle.std.proofs.Common.{◌≡◌, ℕ, zero, suc, ◌+◌, ◌-◌, ◌*◌, ◌/◌, ◌%◌, ◌^◌, ◌<◌, ◌≤◌, sym, ap, subst, ◌∙◌, arith, add-mul, mul-suc, mul-zero, mul_comm, div-one, mod-lt, mod-eq_of_lt, replicate, bit_and, bit_or, bit_xor}
+use Rattle.std.specs.Int.{bit_at}
+use Rattle.std.specs.Simd.Lanes.{number_l}
+use Rattle.std.proofs.Math.Nat.{zero-div, zero-mod, add-mod, add-mod_right, add-mul-mod_self_right, add-mul-mod_self_left, mod-add-mod, mod-mod}
+use Rattle.std.proofs.Math.Pow.{ones_split, shr_mono, mod-mod-pow}
+use Rattle.std.proofs.lemmas.Nat.{pow_pos, shr-shr, and_mask, div-add-mod', div-mul-add, mod-mul-add, and_shr, and_mod, or_shr, or_mod, xor_shr, xor_mod, field_of, shr_below}
+use Rattle.wasmi_lanes.specs.Words.{field}
+
+pub field_lt : (k w a : ℕ) → field k w a < 2 ^ w
+unfolding field
+field_lt k w a = mod-lt (a / 2 ^ k) (pow_pos w)
+
+pub field_and : (k w a b : ℕ) → field k w (bit_and a b) ≡ bit_and (field k w a) (field k w b)
+unfolding field
+field_and k w a b = ap (λ n. n % 2 ^ w) (and_shr a b k) ∙ and_mod (a / 2 ^ k) (b / 2 ^ k) w
+
+pub field_or : (k w a b : ℕ) → field k w (bit_or a b) ≡ bit_or (field k w a) (field k w b)
+unfolding field
+field_or k w a b = ap (λ n. n % 2 ^ w) (or_shr a b k) ∙ or_mod (a / 2 ^ k) (b / 2 ^ k) w
+
+pub field_xor : (k w a b : ℕ) → field k w (bit_xor a b) ≡ bit_xor (field k w a) (field k w b)
+unfolding field
+field_xor k w a b = ap (λ n. n % 2 ^ w) (xor_shr a b k) ∙ xor_mod (a / 2 ^ k) (b / 2 ^ k) w
+
+shr_add : (k a b : ℕ) → a % 2 ^ k + b % 2 ^ k < 2 ^ k → (a + b) / 2 ^ k ≡ a / 2 ^ k + b / 2 ^ k
+shr_add k a b h =
+    let parts : a + b ≡ (a / 2 ^ k + b / 2 ^ k) * 2 ^ k + (a % 2 ^ k + b % 2 ^ k) = omega (arith, div-add-mod' a (2 ^ k), div-add-mod' b (2 ^ k), add-mul (a / 2 ^ k) (b / 2 ^ k) (2 ^ k)) in
+    ap (λ n. n / 2 ^ k) parts ∙ div-mul-add (a / 2 ^ k + b / 2 ^ k) (2 ^ k) (a % 2 ^ k + b % 2 ^ k) h
+
+pub field_of_zero : (k w : ℕ) → field k w 0 ≡ 0
+unfolding field
+field_of_zero k w = ap (λ n. n % 2 ^ w) (zero-div (2 ^ k)) ∙ zero-mod (2 ^ w)
+
+-- no carry comes into the field from below
+pub field_add : (k w a b : ℕ) → a % 2 ^ k + b % 2 ^ k < 2 ^ k → field k w (a + b) ≡ (field k w a + field k w b) % 2 ^ w
+unfolding field
+field_add k w a b h = ap (λ n. n % 2 ^ w) (shr_add k a b h) ∙ add-mod (a / 2 ^ k) (b / 2 ^ k) (2 ^ w)
+
+-- the lower bits of a difference, where nothing is borrowed
+low_sub : (k a b : ℕ) → b ≤ a → b % 2 ^ k ≤ a % 2 ^ k → (a - b) % 2 ^ k + b % 2 ^ k < 2 ^ k
+low_sub k a b le low =
+    let p : ℕ = 2 ^ k in
+    let high : b / p ≤ a / p = shr_mono k le in
+    let c : ℕ = a / p - b / p in
+    let rows : a / p * p ≡ c * p + b / p * p = ap (λ n. n * p) (let e : a / p ≡ c + b / p = omega arith in e) ∙ add-mul c (b / p) p in
+    let split-a : a / p * p + a % p ≡ a = div-add-mod' a p in
+    let split-b : b / p * p + b % p ≡ b = div-add-mod' b p in
+    let below : a % p < p = mod-lt a (pow_pos k) in
+    let parts : a - b ≡ c * p + (a % p - b % p) = omega arith in
+    let rest : (a - b) % p ≡ a % p - b % p = ap (λ n. n % p) parts ∙ mod-mul-add c p (a % p - b % p) (omega arith) in
+    omega arith
+
+-- the laws of a number's two parts give those of a difference with no borrow
+shr_sub : (k a b : ℕ) → b ≤ a → b % 2 ^ k ≤ a % 2 ^ k → (a - b) / 2 ^ k + b / 2 ^ k ≡ a / 2 ^ k
+shr_sub k a b le low =
+    let whole : a ≡ (a - b) + b = omega arith in
+    let fits : (a - b) % 2 ^ k + b % 2 ^ k < 2 ^ k = low_sub k a b le low in
+    sym (shr_add k (a - b) b fits) ∙ ap (λ n. n / 2 ^ k) (sym whole)
+
+wrap_sub : (q a b c : ℕ) → 0 < q → c + b ≡ a → c % q ≡ (a % q + (q - b % q)) % q
+wrap_sub q a b c pos e =
+    let below : b % q < q = mod-lt b pos in
+    let whole : a + (q - b % q) ≡ c + (b / q + 1) * q = omega (arith, div-add-mod' b q, add-mul (b / q) 1 q) in
+    sym (add-mul-mod_self_right c (b / q + 1) q) ∙ ap (λ n. n % q) (sym whole) ∙ sym (mod-add-mod a q (q - b % q))
+
+-- nothing is borrowed from the field below
+pub field_sub : (k w a b : ℕ) → b ≤ a → b % 2 ^ k ≤ a % 2 ^ k → field k w (a - b) ≡ (field k w a + (2 ^ w - field k w b)) % 2 ^ w
+unfolding field
+field_sub k w a b le low = wrap_sub (2 ^ w) (a / 2 ^ k) (b / 2 ^ k) ((a - b) / 2 ^ k) (pow_pos w) (shr_sub k a b le low)
+
+-- what lies above the field does not count
+pub field_mod : (k w n a : ℕ) → k + w ≤ n → field k w (a % 2 ^ n) ≡ field k w a
+unfolding field
+field_mod k w n a within =
+    let i : ℕ = n - (k + w) in
+    let e : n ≡ (i + w) + k = omega arith in
+    ap (λ m. a % 2 ^ m / 2 ^ k % 2 ^ w) e ∙ ap (λ m. m % 2 ^ w) (field_of a (i + w) k) ∙ mod-mod-pow (a / 2 ^ k) i w
+
+complement : (j k v : ℕ) → v < 2 ^ (j + k) → 2 ^ (j + k) - 1 - v ≡ (2 ^ j - 1 - v / 2 ^ k) * 2 ^ k + (2 ^ k - 1 - v % 2 ^ k)
+complement j k v fits =
+    let d : ℕ = 2 ^ j - 1 - v / 2 ^ k in
+    let high : v / 2 ^ k < 2 ^ j = shr_below v j k fits in
+    let low : v % 2 ^ k < 2 ^ k = mod-lt v (pow_pos k) in
+    let all : d + v / 2 ^ k ≡ 2 ^ j - 1 = omega arith in
+    let rows : (2 ^ j - 1) * 2 ^ k ≡ d * 2 ^ k + v / 2 ^ k * 2 ^ k = ap (λ n. n * 2 ^ k) (sym all) ∙ add-mul d (v / 2 ^ k) (2 ^ k) in
+    let parts : v / 2 ^ k * 2 ^ k + v % 2 ^ k ≡ v = div-add-mod' v (2 ^ k) in
+    omega (arith, ones_split j k, rows, parts)
+
+complement_shr : (j k v : ℕ) → v < 2 ^ (j + k) → (2 ^ (j + k) - 1 - v) / 2 ^ k ≡ 2 ^ j - 1 - v / 2 ^ k
+complement_shr j k v fits =
+    ap (λ n. n / 2 ^ k) (complement j k v fits) ∙ div-mul-add (2 ^ j - 1 - v / 2 ^ k) (2 ^ k) (2 ^ k - 1 - v % 2 ^ k) (omega (arith, pow_pos k))
+
+complement_mod : (j k v : ℕ) → v < 2 ^ (j + k) → (2 ^ (j + k) - 1 - v) % 2 ^ k ≡ 2 ^ k - 1 - v % 2 ^ k
+complement_mod j k v fits =
+    ap (λ n. n % 2 ^ k) (complement j k v fits) ∙ mod-mul-add (2 ^ j - 1 - v / 2 ^ k) (2 ^ k) (2 ^ k - 1 - v % 2 ^ k) (omega (arith, pow_pos k))
+
+-- `!v` at n bits
+pub field_not : (k w n v : ℕ) → k + w ≤ n → v < 2 ^ n → field k w (2 ^ n - 1 - v) ≡ 2 ^ w - 1 - field k w v
+unfolding field
+field_not k w n v within fits =
+    let i : ℕ = n - (k + w) in
+    let e : n ≡ (i + w) + k = omega arith in
+    let fits' : v < 2 ^ ((i + w) + k) = subst (λ m. v < 2 ^ m) e fits in
+    ap (λ m. (2 ^ m - 1 - v) / 2 ^ k % 2 ^ w) e ∙ ap (λ m. m % 2 ^ w) (complement_shr (i + w) k v fits') ∙ complement_mod i w (v / 2 ^ k) (shr_below v (i + w) k fits')
+
+-- a difference modulo 2 ^ n
+pub field_wrapping_sub : (k w n a b : ℕ) → k + w ≤ n → b < 2 ^ n → b % 2 ^ k ≤ a % 2 ^ k → field k w ((a + (2 ^ n - b)) % 2 ^ n) ≡ (field k w a + (2 ^ w - field k w b)) % 2 ^ w
+field_wrapping_sub k w n a b within fits low =
+    let p : ℕ = 2 ^ n in
+    let sum : a + (p - b) ≡ (a + p) - b = omega arith in
+    let same : (a + p) % p ≡ a % p = add-mod_right a p in
+    let i : ℕ = n - k in
+    let e : n ≡ i + k = omega arith in
+    let lower : (v : ℕ) → v % p % 2 ^ k ≡ v % 2 ^ k = λ v. ap (λ m. v % 2 ^ m % 2 ^ k) e ∙ mod-mod-pow v i k in
+    let base : (a + p) % 2 ^ k ≡ a % 2 ^ k = sym (lower (a + p)) ∙ ap (λ m. m % 2 ^ k) same ∙ lower a in
+    let high : field k w (a + p) ≡ field k w a = sym (field_mod k w n (a + p) within) ∙ ap (field k w) same ∙ field_mod k w n a within in
+    field_mod k w n (a + (p - b)) within ∙ ap (field k w) sum ∙ field_sub k w (a + p) b (omega arith) (omega arith) ∙ ap (λ m. (m + (2 ^ w - field k w b)) % 2 ^ w) high
+
+-- ---- lanes of one width, the first at 0
+
+pub first_lane : (w v : ℕ) → field (w * 0) w v ≡ v % 2 ^ w
+unfolding field
+first_lane w v =
+    let none : w * 0 ≡ 0 = mul-zero w in
+    ap (λ k. v / 2 ^ k % 2 ^ w) none ∙ ap (λ n. n % 2 ^ w) (div-one v)
+
+pub next_lane : (w i v : ℕ) → field (w * suc i) w v ≡ field (w * i) w (v / 2 ^ w)
+unfolding field
+next_lane w i v =
+    let next : w * suc i ≡ w + w * i = omega (arith, mul-suc w i) in
+    ap (λ k. v / 2 ^ k % 2 ^ w) next ∙ ap (λ n. n % 2 ^ w) (sym (shr-shr v w (w * i)))
+
+-- n lanes of x
+pub repeated_lane : (w n i x : ℕ) → x < 2 ^ w → i < n → field (w * i) w (number_l (2 ^ w) (replicate n x)) ≡ x
+repeated_lane w zero i x fits lt = absurd (omega arith)
+repeated_lane w (suc n) zero x fits lt =
+    first_lane w (x + 2 ^ w * number_l (2 ^ w) (replicate n x)) ∙ add-mul-mod_self_left x (2 ^ w) (number_l (2 ^ w) (replicate n x)) ∙ mod-eq_of_lt fits
+repeated_lane w (suc n) (suc i) x fits lt =
+    let rest : ℕ = number_l (2 ^ w) (replicate n x) in
+    let turned : x + 2 ^ w * rest ≡ rest * 2 ^ w + x = omega (arith, mul_comm (2 ^ w) rest) in
+    let high : (x + 2 ^ w * rest) / 2 ^ w ≡ rest = ap (λ v. v / 2 ^ w) turned ∙ div-mul-add rest (2 ^ w) x fits in
+    next_lane w i (x + 2 ^ w * rest) ∙ ap (field (w * i) w) high ∙ repeated_lane w n i x fits (omega arith)
+
+-- the highest bit of a lane of h + 1 bits
+pub top_of_lane : (k h v : ℕ) → bit_at (field k (suc h) v) h ≡ bit_at v (k + h)
+unfolding field
+top_of_lane k h v =
+    let one : suc h ≡ 1 + h = omega arith in
+    ap (λ n. v / 2 ^ k % 2 ^ n / 2 ^ h % 2) one ∙ ap (λ n. n % 2) (field_of (v / 2 ^ k) 1 h) ∙ mod-mod (v / 2 ^ k / 2 ^ h) 2 ∙ ap (λ n. n % 2) (shr-shr v k h)
+
+-- a lane of a word that was shifted to the right by s, where only the bits of that lane are kept
+pub lane_shr : (w s r k v mask : ℕ) → r + s ≡ w → field k w mask ≡ 2 ^ r - 1 → field k w (bit_and (v / 2 ^ s) mask) ≡ field k w v / 2 ^ s
+unfolding field
+lane_shr w s r k v mask e is =
+    let turned : w ≡ s + r = omega arith in
+    let whole : w ≡ r + s = omega arith in
+    let swap : s + k ≡ k + s = omega arith in
+    field_and k w (v / 2 ^ s) mask ∙ ap (bit_and (v / 2 ^ s / 2 ^ k % 2 ^ w)) is ∙ and_mask (v / 2 ^ s / 2 ^ k % 2 ^ w) r
+    ∙ ap (λ n. v / 2 ^ s / 2 ^ k % 2 ^ n % 2 ^ r) turned ∙ mod-mod-pow (v / 2 ^ s / 2 ^ k) s r
+    ∙ ap (λ n. n % 2 ^ r) (shr-shr v s k ∙ ap (λ n. v / 2 ^ n) swap ∙ sym (shr-shr v k s))
+    ∙ sym (field_of (v / 2 ^ k) r s) ∙ ap (λ n. v / 2 ^ k % 2 ^ n / 2 ^ s) (sym whole)

@@ -1,0 +1,158 @@
+-- Vectors by their two words, and words of equal lanes.
+use Rattle.std.proofs.Common.{◌≡◌, ℕ, zero, suc, ◌+◌, ◌-◌, ◌*◌, ◌/◌, ◌%◌, ◌^◌, ◌<◌, ◌≤◌, ◌⊎◌, inl, inr, sym, ap, ap₂, subst, ◌∙◌, arith, mul-suc, mul-zero, mul-add, suc-mul, mul_comm, le_refl}
+use Rattle.std.proofs.lemmas.Bool.{cases_lt}
+use Rattle.std.proofs.lemmas.Nat.{pow_pos, shr-shr, mul-le}
+use Rattle.std.proofs.lemmas.Nat.Bits.{bit_at-pow_same}
+use Rattle.std.specs.Int.{bit_at}
+use Rattle.wasmi_raw.specs.Vector.{vector_of}
+use Rattle.wasmi_types.specs.Wrapping.{Width, w8, w16, w32, w64, bits}
+use Rattle.wasmi_lanes.specs.Lane.{lane}
+use Rattle.wasmi_lanes.specs.Vector.{from_lanes}
+use Rattle.wasmi_lanes.specs.Words.{field, IsLane, lanes_in_word, in_each_lane}
+use Rattle.wasmi_lanes.proofs.FieldLemmas.{field_mod, top_of_lane, repeated_lane}
+use Rattle.wasmi_lanes.proofs.Vectors.{lanes_make_vector}
+use mir.Syntax.{w128}
+
+-- the words of the vector v
+pub record AreWords (v low high : ℕ) : Type 0 where
+  pub low_is : low ≡ v % 2 ^ 64
+  pub high_is : high ≡ v / 2 ^ 64
+
+pub words_of : {v low high : ℕ} → low ≡ v % 2 ^ 64 → high ≡ v / 2 ^ 64 → AreWords v low high
+words_of low_is high_is = record { low_is = low_is; high_is = high_is }
+
+-- a fact of each lane of w bits of a word, by where it begins
+abbrev pub EachLane : Width → (ℕ → Type 0) → Type 0
+EachLane w P = (i : ℕ) → i < lanes_in_word w → P (bits w * i)
+
+module _ (w : Width) (whole : lanes_in_word w * bits w ≡ 64) where
+  pub lane_within : (i : ℕ) → i < lanes_in_word w → bits w * i + bits w ≤ 64
+  lane_within i inside =
+      omega (arith, whole, mul-le (suc i) (bits w) (lanes_in_word w) (bits w) (omega arith) (le_refl (bits w)), suc-mul i (bits w), mul_comm i (bits w))
+
+  pub filled : (lanes_in_word w + lanes_in_word w) * bits w ≡ 128
+  filled = omega (arith, whole, mul_comm (lanes_in_word w) (bits w), mul_comm (lanes_in_word w + lanes_in_word w) (bits w), mul-add (bits w) (lanes_in_word w) (lanes_in_word w))
+
+  -- the lanes of a vector, in its low word and in its high word
+  pub low_lane : (v i : ℕ) → i < lanes_in_word w → lane w v i ≡ field (bits w * i) (bits w) (v % 2 ^ 64)
+  unfolding field
+  low_lane v i inside = sym (field_mod (bits w * i) (bits w) 64 v (lane_within i inside))
+
+  pub high_lane : (v i : ℕ) → lane w v (lanes_in_word w + i) ≡ field (bits w * i) (bits w) (v / 2 ^ 64)
+  unfolding field
+  high_lane v i =
+      let place : bits w * (lanes_in_word w + i) ≡ 64 + bits w * i = omega (arith, whole, mul_comm (lanes_in_word w) (bits w), mul-add (bits w) (lanes_in_word w) i) in
+      ap (λ k. v / 2 ^ k % 2 ^ bits w) place ∙ ap (λ x. x % 2 ^ bits w) (sym (shr-shr v 64 (bits w * i)))
+
+  -- the vector of two words whose lanes are f of their numbers
+  words_make_vector : (low high r : ℕ) (f : ℕ → ℕ) → low < 2 ^ 64 → high < 2 ^ 64 → r ≡ vector_of low high
+      → ((i : ℕ) → i < lanes_in_word w → field (bits w * i) (bits w) low ≡ f i)
+      → ((i : ℕ) → i < lanes_in_word w → field (bits w * i) (bits w) high ≡ f (lanes_in_word w + i))
+      → r ≡ from_lanes w f
+  words_make_vector low high r f fits_low fits_high is low_is high_is =
+      let n : ℕ = lanes_in_word w in
+      let low_word : r % 2 ^ 64 ≡ low = omega arith in
+      let high_word : r / 2 ^ 64 ≡ high = omega arith in
+      let below : r < 2 ^ 128 = omega arith in
+      lanes_make_vector w (n + n) r f filled below
+      (λ i inside.
+      elim (cases_lt i n) as (λ _. lane w r i ≡ f i) [
+        | inl lower ↦ low_lane r i lower ∙ ap (field (bits w * i) (bits w)) low_word ∙ low_is i lower
+        | inr upper ↦
+            let at : i ≡ n + (i - n) = omega arith in
+            ap (lane w r) at ∙ high_lane r (i - n) ∙ ap (field (bits w * (i - n)) (bits w)) high_word ∙ high_is (i - n) (omega arith) ∙ ap f (sym at)
+      ])
+
+  -- words whose lanes are a row of an operand's make the vector whose lanes are that row of the operand's
+  pub words_make_unary : (row : ℕ → ℕ) (a low_a high_a low high r : ℕ) → AreWords a low_a high_a → low < 2 ^ 64 → high < 2 ^ 64
+      → EachLane w (λ k. field k (bits w) low ≡ row (field k (bits w) low_a))
+      → EachLane w (λ k. field k (bits w) high ≡ row (field k (bits w) high_a))
+      → r ≡ vector_of low high
+      → r ≡ from_lanes w (λ i. row (lane w a i))
+  words_make_unary row a low_a high_a low high r of_a fits_low fits_high low_is high_is is =
+      words_make_vector low high r (λ i. row (lane w a i)) fits_low fits_high is
+      (λ i inside. low_is i inside ∙ ap row (ap (field (bits w * i) (bits w)) of_a.low_is ∙ sym (low_lane a i inside)))
+      (λ i inside. high_is i inside ∙ ap row (ap (field (bits w * i) (bits w)) of_a.high_is ∙ sym (high_lane a i)))
+
+  -- and of two operands
+  pub words_make_binary : (row : ℕ → ℕ → ℕ) (a low_a high_a b low_b high_b low high r : ℕ) → AreWords a low_a high_a → AreWords b low_b high_b → low < 2 ^ 64 → high < 2 ^ 64
+      → EachLane w (λ k. field k (bits w) low ≡ row (field k (bits w) low_a) (field k (bits w) low_b))
+      → EachLane w (λ k. field k (bits w) high ≡ row (field k (bits w) high_a) (field k (bits w) high_b))
+      → r ≡ vector_of low high
+      → r ≡ from_lanes w (λ i. row (lane w a i) (lane w b i))
+  words_make_binary row a low_a high_a b low_b high_b low high r of_a of_b fits_low fits_high low_is high_is is =
+      let lower : (v x i : ℕ) → x ≡ v % 2 ^ 64 → i < lanes_in_word w → field (bits w * i) (bits w) x ≡ lane w v i =
+      λ v x i e inside. ap (field (bits w * i) (bits w)) e ∙ sym (low_lane v i inside) in
+      let upper : (v x i : ℕ) → x ≡ v / 2 ^ 64 → field (bits w * i) (bits w) x ≡ lane w v (lanes_in_word w + i) =
+      λ v x i e. ap (field (bits w * i) (bits w)) e ∙ sym (high_lane v i) in
+      words_make_vector low high r (λ i. row (lane w a i) (lane w b i)) fits_low fits_high is
+      (λ i inside. low_is i inside ∙ ap₂ row (lower a low_a i of_a.low_is inside) (lower b low_b i of_b.low_is inside))
+      (λ i inside. high_is i inside ∙ ap₂ row (upper a high_a i of_a.high_is) (upper b high_b i of_b.high_is))
+
+-- ---- the highest bits of lanes of one width
+
+top_below : (h n tops : ℕ) → ((j : ℕ) → j < n → field (suc h * j) (suc h) tops ≡ 2 ^ h) → (i : ℕ) → i < n → (suc h * i ≡ 0) ⊎ (bit_at tops (suc h * i - 1) ≡ 1)
+top_below h n tops each zero lt = inl (mul-zero (suc h))
+top_below h n tops each (suc j) lt =
+    let place : suc h * suc j - 1 ≡ suc h * j + h = omega (arith, mul-suc (suc h) j) in
+    inr (ap (bit_at tops) place ∙ sym (top_of_lane (suc h * j) h tops) ∙ ap (λ n. bit_at n h) (each j (omega arith)) ∙ bit_at-pow_same h)
+
+tops_each : (w n tops : ℕ) → 0 < w → n * w ≤ 64 → ((j : ℕ) → j < n → field (w * j) w tops ≡ 2 ^ (w - 1)) → (i : ℕ) → i < n → IsLane tops (w * i) w
+tops_each zero n tops pos fits each i lt = absurd (omega arith)
+tops_each (suc h) n tops pos fits each i lt = record {
+  starts = top_below h n tops (λ j below. each j below ∙ ap (λ k. 2 ^ k) (let back : suc h - 1 ≡ h = omega arith in back)) i lt;
+  top = each i lt;
+  within = omega (arith, mul-le (suc i) (suc h) n (suc h) (omega arith) (le_refl (suc h)), suc-mul i (suc h), mul_comm i (suc h));
+}
+
+pub some_bits : (w : Width) → 0 < bits w
+some_bits w8 = omega arith
+some_bits w16 = omega arith
+some_bits w32 = omega arith
+some_bits w64 = omega arith
+some_bits w128 = omega arith
+
+-- the lane i of a word with n in each lane
+pub lane_of_each : (w : Width) (n word : ℕ) → n < 2 ^ bits w → word ≡ in_each_lane w n → EachLane w (λ k. field k (bits w) word ≡ n)
+lane_of_each w n word fits is i inside = ap (field (bits w * i) (bits w)) is ∙ repeated_lane (bits w) (lanes_in_word w) i n fits inside
+
+pub top_in_range : (b : ℕ) → 0 < b → 2 ^ (b - 1) < 2 ^ b
+top_in_range zero pos = absurd (omega arith)
+top_in_range (suc h) pos =
+    let back : suc h - 1 ≡ h = omega arith in
+    subst (λ n. 2 ^ n < 2 ^ suc h) (sym back) (omega (arith, pow_pos h, doubled h))
+  where
+    doubled : (h : ℕ) → 2 ^ suc h ≡ 2 ^ h + 2 ^ h
+    doubled h = omega arith
+
+-- a word with the highest bit of each lane of w bits divides a word into these lanes
+pub equal_lanes : (w : Width) (tops : ℕ) → lanes_in_word w * bits w ≡ 64 → tops ≡ in_each_lane w (2 ^ (bits w - 1)) → EachLane w (λ k. IsLane tops k (bits w))
+equal_lanes w tops whole is =
+    tops_each (bits w) (lanes_in_word w) tops (some_bits w) (omega (arith, whole))
+    (lane_of_each w (2 ^ (bits w - 1)) tops (top_in_range (bits w) (some_bits w)) is)
+
+-- ---- words whose lanes of tops are a row of the operands' lanes make the vector of that row, which may name the width
+
+-- in each lane of tops r is the row of a, or of a and b
+abbrev pub UnaryInLanes : ℕ → (ℕ → ℕ → ℕ) → ℕ → ℕ → Type 0
+UnaryInLanes tops row r a = (start width : ℕ) → IsLane tops start width → field start width r ≡ row width (field start width a)
+
+abbrev pub BinaryInLanes : ℕ → (ℕ → ℕ → ℕ → ℕ) → ℕ → ℕ → ℕ → Type 0
+BinaryInLanes tops row r a b = (start width : ℕ) → IsLane tops start width → field start width r ≡ row width (field start width a) (field start width b)
+
+module _ (w : Width) (tops : ℕ) (whole : lanes_in_word w * bits w ≡ 64) (is : tops ≡ in_each_lane w (2 ^ (bits w - 1))) where
+  pub unary_by_words : {a low_a high_a low high r : ℕ} (row : ℕ → ℕ → ℕ) → AreWords a low_a high_a → low < 2 ^ 64 → high < 2 ^ 64
+      → UnaryInLanes tops row low low_a → UnaryInLanes tops row high high_a → r ≡ vector_of low high
+      → r ≡ from_lanes w (λ i. row (bits w) (lane w a i))
+  unary_by_words {a} {low_a} {high_a} {low} {high} {r} row of_a fits_low fits_high low_is high_is is_r =
+      let lanes = equal_lanes w tops whole is in
+      words_make_unary w whole (row (bits w)) a low_a high_a low high r of_a fits_low fits_high
+      (λ i inside. low_is (bits w * i) (bits w) (lanes i inside)) (λ i inside. high_is (bits w * i) (bits w) (lanes i inside)) is_r
+
+  pub binary_by_words : {a low_a high_a b low_b high_b low high r : ℕ} (row : ℕ → ℕ → ℕ → ℕ) → AreWords a low_a high_a → AreWords b low_b high_b → low < 2 ^ 64 → high < 2 ^ 64
+      → BinaryInLanes tops row low low_a low_b → BinaryInLanes tops row high high_a high_b → r ≡ vector_of low high
+      → r ≡ from_lanes w (λ i. row (bits w) (lane w a i) (lane w b i))
+  binary_by_words {a} {low_a} {high_a} {b} {low_b} {high_b} {low} {high} {r} row of_a of_b fits_low fits_high low_is high_is is_r =
+      let lanes = equal_lanes w tops whole is in
+      words_make_binary w whole (row (bits w)) a low_a high_a b low_b high_b low high r of_a of_b fits_low fits_high
+      (λ i inside. low_is (bits w * i) (bits w) (lanes i inside)) (λ i inside. high_is (bits w * i) (bits w) (lanes i inside)) is_r

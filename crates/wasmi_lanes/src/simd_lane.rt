@@ -1,0 +1,191 @@
+//! The lanes of a vector as a vector of `std::simd`.
+
+ghost use Rattle.std.specs.Prelude.{◌≡◌, refl, ℕ, ◌+◌, ◌-◌, ◌*◌, ◌%◌, ◌^◌, ◌<◌, nat_lt, slice_index, if◌then◌else◌};
+ghost use Rattle.wasmi_types.specs.Wrapping.{bits};
+ghost use Rattle.wasmi_lanes.specs.Lane.{lane};
+
+use crate::item::{LaneInteger, LaneItem};
+use crate::vector_bytes::{bytes_of, from_bytes};
+use std::simd::prelude::*;
+use wasmi_raw::V128;
+
+/// An unsigned integer whose lanes are a vector of `std::simd`.
+pub trait SimdLane: LaneInteger {
+    /// The lanes that fill a vector.
+    type Vector: Copy;
+
+    /// How many lanes there are.
+    ghost COUNT: { ℕ };
+
+    /// The number of the lane at an index.
+    ghost at: { Self.Vector → ℕ → ℕ };
+
+    /// The lanes of a vector.
+    fn lanes_of(vector: V128) -> Self::Vector
+        ensures lanes { (i : ℕ) → i < COUNT → at result i ≡ lane Self.width vector i };
+
+    /// The vector with these lanes.
+    fn vector_of(items: Self::Vector) -> V128
+        ensures lanes { (i : ℕ) → i < COUNT → lane Self.width result i ≡ at items i }
+        ensures in_range { result < 2 ^ 128 };
+
+    /// The same number in all lanes.
+    fn splat(number: Self) -> Self::Vector
+        ensures lanes { (i : ℕ) → i < COUNT → at result i ≡ Self.image number };
+
+    /// The lanes moved by half of their range, so that as unsigned numbers they stand in the order of the signed ones.
+    fn raised(items: Self::Vector) -> Self::Vector
+        ensures lanes { (i : ℕ) → i < COUNT → at result i ≡ (at items i + 2 ^ (bits Self.width - 1)) % 2 ^ bits Self.width };
+
+    /// The lanes of `chosen` where that of `a` is less than that of `b`, else those of `other`.
+    fn choose_if_less(
+        a: Self::Vector,
+        b: Self::Vector,
+        chosen: Self::Vector,
+        other: Self::Vector,
+    ) -> Self::Vector
+        ensures lanes { (i : ℕ) → i < COUNT
+            → at result i ≡ (if nat_lt (at a i) (at b i) then at chosen i else at other i) };
+
+    ghost filled: { COUNT * bits Self.width ≡ 128 };
+}
+
+impl SimdLane for u8 {
+    type Vector = u8x16;
+
+    ghost COUNT = { 16 };
+
+    ghost at = { λ items i. slice_index items i };
+
+    ghost filled = { refl };
+
+    #[inline(always)]
+    fn lanes_of(vector: V128) -> u8x16 {
+        bytes_of(vector)
+    }
+
+    #[inline(always)]
+    fn vector_of(items: u8x16) -> V128 {
+        from_bytes(items)
+    }
+
+    #[inline(always)]
+    fn splat(number: u8) -> u8x16 {
+        u8x16::splat(number)
+    }
+
+    #[inline(always)]
+    fn raised(items: u8x16) -> u8x16 {
+        items + u8x16::splat(0x80)
+    }
+
+    #[inline(always)]
+    fn choose_if_less(a: u8x16, b: u8x16, chosen: u8x16, other: u8x16) -> u8x16 {
+        a.simd_lt(b).select(chosen, other)
+    }
+}
+
+impl SimdLane for u16 {
+    type Vector = u16x8;
+
+    ghost COUNT = { 8 };
+
+    ghost at = { λ items i. slice_index items i };
+
+    ghost filled = { refl };
+
+    #[inline(always)]
+    fn lanes_of(vector: V128) -> u16x8 {
+        u16x8::from_le_bytes(bytes_of(vector))
+    }
+
+    #[inline(always)]
+    fn vector_of(items: u16x8) -> V128 {
+        u16::write_from(&items.to_array())
+    }
+
+    #[inline(always)]
+    fn splat(number: u16) -> u16x8 {
+        u16x8::splat(number)
+    }
+
+    #[inline(always)]
+    fn raised(items: u16x8) -> u16x8 {
+        items + u16x8::splat(0x8000)
+    }
+
+    #[inline(always)]
+    fn choose_if_less(a: u16x8, b: u16x8, chosen: u16x8, other: u16x8) -> u16x8 {
+        a.simd_lt(b).select(chosen, other)
+    }
+}
+
+impl SimdLane for u32 {
+    type Vector = u32x4;
+
+    ghost COUNT = { 4 };
+
+    ghost at = { λ items i. slice_index items i };
+
+    ghost filled = { refl };
+
+    #[inline(always)]
+    fn lanes_of(vector: V128) -> u32x4 {
+        u32x4::from_le_bytes(bytes_of(vector))
+    }
+
+    #[inline(always)]
+    fn vector_of(items: u32x4) -> V128 {
+        u32::write_from(&items.to_array())
+    }
+
+    #[inline(always)]
+    fn splat(number: u32) -> u32x4 {
+        u32x4::splat(number)
+    }
+
+    #[inline(always)]
+    fn raised(items: u32x4) -> u32x4 {
+        items + u32x4::splat(0x8000_0000)
+    }
+
+    #[inline(always)]
+    fn choose_if_less(a: u32x4, b: u32x4, chosen: u32x4, other: u32x4) -> u32x4 {
+        a.simd_lt(b).select(chosen, other)
+    }
+}
+
+impl SimdLane for u64 {
+    type Vector = u64x2;
+
+    ghost COUNT = { 2 };
+
+    ghost at = { λ items i. slice_index items i };
+
+    ghost filled = { refl };
+
+    #[inline(always)]
+    fn lanes_of(vector: V128) -> u64x2 {
+        u64x2::from_le_bytes(bytes_of(vector))
+    }
+
+    #[inline(always)]
+    fn vector_of(items: u64x2) -> V128 {
+        u64::write_from(&items.to_array())
+    }
+
+    #[inline(always)]
+    fn splat(number: u64) -> u64x2 {
+        u64x2::splat(number)
+    }
+
+    #[inline(always)]
+    fn raised(items: u64x2) -> u64x2 {
+        items + u64x2::splat(0x8000_0000_0000_0000)
+    }
+
+    #[inline(always)]
+    fn choose_if_less(a: u64x2, b: u64x2, chosen: u64x2, other: u64x2) -> u64x2 {
+        a.simd_lt(b).select(chosen, other)
+    }
+}

@@ -1,0 +1,173 @@
+-- Words whose lanes are 0 or their top bit alone, and their lanes filled with ones.
+use Rattle.std.proofs.Common.{◌≡◌, ℕ, zero, suc, ◌+◌, ◌-◌, ◌*◌, ◌/◌, ◌%◌, ◌^◌, ◌<◌, ◌≤◌, ◌⊎◌, inl, inr, cond, eqb, Bool, true, false, not, refl, sym, ap, ap₂, subst, ◌∙◌, arith, mod-eq_of_lt, mod-lt, lit<, bit_or, bit_xor, pow-suc, mul_comm, one-mul, mul-add, mul-one}
+use Rattle.std.proofs.Math.Nat.{zero-mod, mod_self, div-eq_of_lt, add-mod_right}
+use Rattle.std.proofs.lemmas.Nat.{pow_pos, shr-shr, mod-pow-add, field_of, shr_le, or_lt, or_shifted}
+use Rattle.std.proofs.lemmas.Nat.Bits.{bit_at-zero, bit_at-pow_same}
+use Rattle.std.proofs.lemmas.Bool.{ne_eqb, cases_lt}
+use Rattle.std.proofs.Math.Pow.{mod-mod-pow}
+use Rattle.std.specs.Int.Bits.{xor_self, xor_zero_l}
+use Rattle.std.specs.Int.{bit_at}
+use Rattle.wasmi_lanes.specs.Words.{field, IsLane, AreMarks}
+use Rattle.wasmi_types.specs.Wrapping.{Width, bits}
+use Rattle.wasmi_lanes.proofs.FieldLemmas.{field_or, field_sub, field_xor, top_of_lane}
+use Rattle.wasmi_lanes.proofs.WordVectorLemmas.{EachLane}
+
+-- the h bits of v from k are clear
+abbrev Clear : ℕ → ℕ → ℕ → Type 0
+Clear h v k = v / 2 ^ k % 2 ^ h ≡ 0
+
+mark_clear : (h k v : ℕ) → (field k (suc h) v ≡ 0) ⊎ (field k (suc h) v ≡ 2 ^ h) → Clear h v k
+unfolding field
+mark_clear h k v mark =
+    let one : suc h ≡ 1 + h = omega arith in
+    let low : v / 2 ^ k % 2 ^ suc h % 2 ^ h ≡ v / 2 ^ k % 2 ^ h = ap (λ n. v / 2 ^ k % 2 ^ n % 2 ^ h) one ∙ mod-mod-pow (v / 2 ^ k) 1 h in
+    elim mark [ inl e ↦ sym low ∙ ap (λ n. n % 2 ^ h) e ∙ zero-mod (2 ^ h) | inr e ↦ sym low ∙ ap (λ n. n % 2 ^ h) e ∙ mod_self (2 ^ h) ]
+
+-- the bits below k of marks that were shifted down
+low_shifted : (h k v : ℕ) → Clear h v k → v / 2 ^ h % 2 ^ k ≤ v % 2 ^ k
+low_shifted h k v clear =
+    let cut : v % 2 ^ (k + h) / 2 ^ h ≡ v / 2 ^ h % 2 ^ k = field_of v k h in
+    let turned : k + h ≡ h + k = omega arith in
+    let parts : v % 2 ^ (k + h) ≡ 0 * 2 ^ k + v % 2 ^ k = ap (λ n. v % 2 ^ n) turned ∙ mod-pow-add v h k ∙ ap (λ n. n * 2 ^ k + v % 2 ^ k) clear in
+    omega (arith, shr_le (v % 2 ^ (k + h)) h)
+
+-- a lane of marks that were shifted down to its lowest bit
+lane_shifted : (h k v : ℕ) → Clear h v (k + suc h) → field k (suc h) (v / 2 ^ h) ≡ bit_at v (k + h)
+unfolding field
+lane_shifted h k v clear =
+    let place : h + k ≡ k + h = omega arith in
+    let more : suc h ≡ h + 1 = omega arith in
+    let up : k + h + 1 ≡ k + suc h = omega arith in
+    let high : v / 2 ^ (k + h) / 2 ^ 1 % 2 ^ h ≡ 0 = ap (λ n. n % 2 ^ h) (shr-shr v (k + h) 1) ∙ ap (λ n. v / 2 ^ n % 2 ^ h) up ∙ clear in
+    let split : v / 2 ^ (k + h) % 2 ^ (h + 1) ≡ (v / 2 ^ (k + h) / 2 ^ 1 % 2 ^ h) * 2 ^ 1 + v / 2 ^ (k + h) % 2 ^ 1 = mod-pow-add (v / 2 ^ (k + h)) h 1 in
+    ap (λ n. n % 2 ^ suc h) (shr-shr v h k) ∙ ap₂ (λ m n. v / 2 ^ m % 2 ^ n) place more ∙ omega (arith, split, high)
+
+fill_case : (h f b : ℕ) → (f ≡ 0) ⊎ (f ≡ 2 ^ h) → b ≡ bit_at f h → bit_or f ((f + (2 ^ suc h - b)) % 2 ^ suc h) ≡ cond (eqb f 0) 0 (2 ^ suc h - 1)
+fill_case h f b (inl e) at =
+    let none : b ≡ 0 = at ∙ ap (λ n. bit_at n h) e ∙ bit_at-zero h in
+    let all : (0 + (2 ^ suc h - 0)) % 2 ^ suc h ≡ 0 = ap (λ n. n % 2 ^ suc h) (let e : 0 + (2 ^ suc h - 0) ≡ 2 ^ suc h = omega arith in e) ∙ mod_self (2 ^ suc h) in
+    ap₂ (λ m n. bit_or m ((m + (2 ^ suc h - n)) % 2 ^ suc h)) e none ∙ all ∙ ap (λ n. cond (eqb n 0) 0 (2 ^ suc h - 1)) (sym e)
+fill_case h f b (inr e) at =
+    let one : b ≡ 1 = at ∙ ap (λ n. bit_at n h) e ∙ bit_at-pow_same h in
+    let sum : 2 ^ h + (2 ^ suc h - 1) ≡ (2 ^ h - 1) + 2 ^ suc h = omega (arith, pow_pos h, pow_pos (suc h)) in
+    let small : 2 ^ h - 1 < 2 ^ suc h = omega (arith, pow-suc 2 h, pow_pos h) in
+    let low : (2 ^ h + (2 ^ suc h - 1)) % 2 ^ suc h ≡ 2 ^ h - 1 = ap (λ n. n % 2 ^ suc h) sum ∙ add-mod_right (2 ^ h - 1) (2 ^ suc h) ∙ mod-eq_of_lt small in
+    let top : 1 * 2 ^ h ≡ 2 ^ h = one-mul (2 ^ h) in
+    let below : 2 ^ h - 1 < 2 ^ h = omega (arith, pow_pos h) in
+    let joined : bit_or (2 ^ h) (2 ^ h - 1) ≡ 2 ^ suc h - 1 = ap (λ n. bit_or n (2 ^ h - 1)) (sym top) ∙ or_shifted 1 h (2 ^ h - 1) below ∙ omega (arith, pow-suc 2 h, pow_pos h) in
+    let some : eqb (2 ^ h) 0 ≡ false = ne_eqb (2 ^ h) 0 (λ z. absurd (omega (arith, pow_pos h))) in
+    ap₂ (λ m n. bit_or m ((m + (2 ^ suc h - n)) % 2 ^ suc h)) e one ∙ ap (bit_or (2 ^ h)) low ∙ joined ∙ sym (ap (λ n. cond (eqb n 0) 0 (2 ^ suc h - 1)) e ∙ ap (λ t. cond t 0 (2 ^ suc h - 1)) some)
+
+fill_lane : (h k v : ℕ) → (field k (suc h) v ≡ 0) ⊎ (field k (suc h) v ≡ 2 ^ h) → Clear h v (k + suc h) →
+    field k (suc h) (bit_or v (v - v / 2 ^ h)) ≡ cond (eqb (field k (suc h) v) 0) 0 (2 ^ suc h - 1)
+fill_lane h k v mark next =
+    let here : Clear h v k = mark_clear h k v mark in
+    let shifted : field k (suc h) (v / 2 ^ h) ≡ bit_at (field k (suc h) v) h = lane_shifted h k v next ∙ sym (top_of_lane k h v) in
+    field_or k (suc h) v (v - v / 2 ^ h)
+    ∙ ap (bit_or (field k (suc h) v)) (field_sub k (suc h) v (v / 2 ^ h) (shr_le v h) (low_shifted h k v here))
+    ∙ fill_case h (field k (suc h) v) (field k (suc h) (v / 2 ^ h)) mark shifted
+
+-- in lanes of b bits of a word, n of them, each is 0 or its highest bit alone
+abbrev Marked : ℕ → ℕ → ℕ → Type 0
+Marked b n v = (i : ℕ) → i < n → (field (b * i) b v ≡ 0) ⊎ (field (b * i) b v ≡ 2 ^ (b - 1))
+
+-- what follows a lane is the next lane, or nothing
+next_clear : (h n v : ℕ) → v < 2 ^ 64 → n * suc h ≡ 64 → Marked (suc h) n v → (i : ℕ) → i < n → Clear h v (suc h * i + suc h)
+next_clear h n v fits whole marks i lt = elim (cases_lt (i + 1) n) [
+  | inl more ↦
+      let place : suc h * i + suc h ≡ suc h * (i + 1) = omega (arith, mul-add (suc h) i 1, mul-one (suc h)) in
+      let back : suc h - 1 ≡ h = omega arith in
+      ap (λ k. v / 2 ^ k % 2 ^ h) place ∙ mark_clear h (suc h * (i + 1)) v (subst (λ m. (field (suc h * (i + 1)) (suc h) v ≡ 0) ⊎ (field (suc h * (i + 1)) (suc h) v ≡ 2 ^ m)) back (marks (i + 1) more))
+  | inr last ↦
+      let count : i + 1 ≡ n = omega arith in
+      let place : suc h * i + suc h ≡ 64 = omega (arith, mul-add (suc h) i 1, mul-one (suc h), mul_comm (suc h) (i + 1), ap (λ m. m * suc h) count, whole) in
+      ap (λ k. v / 2 ^ k % 2 ^ h) place ∙ ap (λ m. m % 2 ^ h) (div-eq_of_lt fits) ∙ zero-mod (2 ^ h)
+]
+
+-- marks that were filled, the difference modulo 2 ^ 64
+abbrev pub filled : ℕ → ℕ → ℕ
+filled v top = bit_or v ((v + (2 ^ 64 - v / 2 ^ top)) % 2 ^ 64)
+
+filled_is : (v top : ℕ) → v < 2 ^ 64 → filled v top ≡ bit_or v (v - v / 2 ^ top)
+filled_is v top fits =
+    let half : ℕ = v / 2 ^ top in
+    let less : half ≤ v = shr_le v top in
+    let sum : v + (2 ^ 64 - half) ≡ (v - half) + 2 ^ 64 = omega arith in
+    let small : v - half < 2 ^ 64 = omega arith in
+    ap (bit_or v) (ap (λ n. n % 2 ^ 64) sum ∙ add-mod_right (v - half) (2 ^ 64) ∙ mod-eq_of_lt small)
+
+pub filled_below : (v top : ℕ) → v < 2 ^ 64 → filled v top < 2 ^ 64
+filled_below v top fits = or_lt 64 v ((v + (2 ^ 64 - v / 2 ^ top)) % 2 ^ 64) fits (mod-lt (v + (2 ^ 64 - v / 2 ^ top)) (lit< tt))
+
+pub marks_filled : (b n v top : ℕ) → top ≡ b - 1 → v < 2 ^ 64 → n * b ≡ 64 → Marked b n v → (i : ℕ) → i < n
+    → field (b * i) b (filled v top) ≡ cond (eqb (field (b * i) b v) 0) 0 (2 ^ b - 1)
+marks_filled zero n v top is fits whole marks i lt = absurd (omega (arith, whole))
+marks_filled (suc h) n v top is fits whole marks i lt =
+    let back : suc h - 1 ≡ h = omega arith in
+    let at : top ≡ h = omega arith in
+    let mark : (field (suc h * i) (suc h) v ≡ 0) ⊎ (field (suc h * i) (suc h) v ≡ 2 ^ h) = subst (λ m. (field (suc h * i) (suc h) v ≡ 0) ⊎ (field (suc h * i) (suc h) v ≡ 2 ^ m)) back (marks i lt) in
+    ap (field (suc h * i) (suc h)) (filled_is v top fits) ∙ ap (λ m. field (suc h * i) (suc h) (bit_or v (v - v / 2 ^ m))) at ∙ fill_lane h (suc h * i) v mark (next_clear h n v fits whole marks i lt)
+
+-- ---- the lanes that differ, and those that are equal
+
+-- in lanes of w bits, r has the highest bits of those in which a and b differ
+abbrev pub Differs : Width → ℕ → ℕ → ℕ → Type 0
+Differs w a b r = EachLane w (λ k. field k (bits w) r ≡ cond (eqb (field k (bits w) a) (field k (bits w) b)) 0 (2 ^ (bits w - 1)))
+
+pub differs_in_lanes : (w : Width) (tops a b r : ℕ) → EachLane w (λ k. IsLane tops k (bits w))
+    → ((start width : ℕ) → IsLane tops start width → field start width r ≡ cond (eqb (field start width a) (field start width b)) 0 (2 ^ (width - 1)))
+    → Differs w a b r
+differs_in_lanes w tops a b r lanes differs i inside = differs (bits w * i) (bits w) (lanes i inside)
+
+pub differ_marks : (w : Width) (a b r : ℕ) → Differs w a b r → AreMarks w r
+differ_marks w a b r differs i inside =
+    let k : ℕ = bits w * i in
+    subst (λ n. (n ≡ 0) ⊎ (n ≡ 2 ^ (bits w - 1))) (sym (differs i inside)) (either_mark (eqb (field k (bits w) a) (field k (bits w) b)) (2 ^ (bits w - 1)))
+  where
+    either_mark : (t : Bool) (p : ℕ) → (cond t 0 p ≡ 0) ⊎ (cond t 0 p ≡ p)
+    either_mark true p = inl refl
+    either_mark false p = inr refl
+
+equal_lane : (w : Width) (tops a b r : ℕ) → EachLane w (λ k. IsLane tops k (bits w)) → Differs w a b r
+    → EachLane w (λ k. field k (bits w) (bit_xor r tops) ≡ cond (eqb (field k (bits w) a) (field k (bits w) b)) (2 ^ (bits w - 1)) 0)
+equal_lane w tops a b r lanes differs i inside =
+    let k : ℕ = bits w * i in
+    field_xor k (bits w) r tops ∙ ap₂ bit_xor (differs i inside) ((lanes i inside).top) ∙ other_mark (eqb (field k (bits w) a) (field k (bits w) b)) (2 ^ (bits w - 1))
+  where
+    other_mark : (t : Bool) (p : ℕ) → bit_xor (cond t 0 p) p ≡ cond t p 0
+    other_mark true p = xor_zero_l p
+    other_mark false p = xor_self p
+
+pub equal_marks : (w : Width) (tops a b r : ℕ) → EachLane w (λ k. IsLane tops k (bits w)) → Differs w a b r → AreMarks w (bit_xor r tops)
+equal_marks w tops a b r lanes differs i inside =
+    let k : ℕ = bits w * i in
+    subst (λ n. (n ≡ 0) ⊎ (n ≡ 2 ^ (bits w - 1))) (sym (equal_lane w tops a b r lanes differs i inside)) (either_mark (eqb (field k (bits w) a) (field k (bits w) b)) (2 ^ (bits w - 1)))
+  where
+    either_mark : (t : Bool) (p : ℕ) → (cond t p 0 ≡ 0) ⊎ (cond t p 0 ≡ p)
+    either_mark true p = inr refl
+    either_mark false p = inl refl
+
+-- the marked lanes of m are full of ones in f
+abbrev pub Fills : Width → ℕ → ℕ → Type 0
+Fills w m f = EachLane w (λ k. field k (bits w) f ≡ cond (eqb (field k (bits w) m) 0) 0 (2 ^ bits w - 1))
+
+pub different_filled : (w : Width) (a b r f : ℕ) → Differs w a b r → Fills w r f
+    → EachLane w (λ k. field k (bits w) f ≡ cond (not (eqb (field k (bits w) a) (field k (bits w) b))) (2 ^ bits w - 1) 0)
+different_filled w a b r f differs fills i inside =
+    let k : ℕ = bits w * i in
+    fills i inside ∙ ap (λ n. cond (eqb n 0) 0 (2 ^ bits w - 1)) (differs i inside) ∙ full (eqb (field k (bits w) a) (field k (bits w) b)) (2 ^ (bits w - 1)) (2 ^ bits w - 1) (pow_pos (bits w - 1))
+  where
+    full : (t : Bool) (p q : ℕ) → 0 < p → cond (eqb (cond t 0 p) 0) 0 q ≡ cond (not t) q 0
+    full true p q pos = refl
+    full false p q pos = ap (λ b. cond b 0 q) (ne_eqb p 0 (λ z. absurd (omega arith)))
+
+pub equal_filled : (w : Width) (tops a b r f : ℕ) → EachLane w (λ k. IsLane tops k (bits w)) → Differs w a b r → Fills w (bit_xor r tops) f
+    → EachLane w (λ k. field k (bits w) f ≡ cond (eqb (field k (bits w) a) (field k (bits w) b)) (2 ^ bits w - 1) 0)
+equal_filled w tops a b r f lanes differs fills i inside =
+    let k : ℕ = bits w * i in
+    fills i inside ∙ ap (λ n. cond (eqb n 0) 0 (2 ^ bits w - 1)) (equal_lane w tops a b r lanes differs i inside)
+    ∙ full (eqb (field k (bits w) a) (field k (bits w) b)) (2 ^ (bits w - 1)) (2 ^ bits w - 1) (pow_pos (bits w - 1))
+  where
+    full : (t : Bool) (p q : ℕ) → 0 < p → cond (eqb (cond t p 0) 0) 0 q ≡ cond t q 0
+    full true p q pos = ap (λ b. cond b 0 q) (ne_eqb p 0 (λ z. absurd (omega arith)))
+    full false p q pos = refl

@@ -1,0 +1,24 @@
+use Rattle.std.proofs.Common.{◌≡◌, ◌-◌, ◌∙◌, ap, refl}
+use Rattle.wasmi_types.specs.Wrapping.{bits}
+use Rattle.wasmi_lanes.specs.Words.{lanes_in_word}
+use Rattle.wasmi_lanewise.proofs.MarkLemmas.{filled, filled_below, marks_filled}
+use Rattle.wasmi_lanewise.proofs.simd.words.filled.Goals as goal
+
+pub returns : goal.returns
+returns g c =
+    let w = g.T.LaneInteger.width in
+    let law = g.met.T.WordLane in
+    let low = c.ranges.low.fits in
+    let high = c.ranges.high.fits in
+    let top : c.from.result ≡ bits w - 1 = c.from.ensures ∙ ap (λ n. n - 1) (c.BITS.ensures ∙ law.wide) in
+    record {
+      words = (
+        filled c.args.low c.from.result,
+        filled c.args.high c.from.result,
+        c.from_words.ensures _ _ refl,
+        filled_below c.args.low c.from.result low,
+        filled_below c.args.high c.from.result high,
+        marks_filled (bits w) (lanes_in_word w) c.args.low c.from.result top low law.whole c.requires.low,
+        marks_filled (bits w) (lanes_in_word w) c.args.high c.from.result top high law.whole c.requires.high,
+      );
+    }

@@ -1,0 +1,131 @@
+//! Order of lanes, and what is chosen by it, on vectors of `std::simd`.
+//!
+//! Lanes that are read signed are moved by half of their range, and then compared as unsigned ones.
+
+ghost use Rattle.std.specs.Prelude.{◌≡◌, ℕ, ◌-◌, ◌^◌, ◌<◌, nat_lt, if◌then◌else◌};
+ghost use Rattle.wasmi_types.specs.Wrapping.{bits};
+ghost use Rattle.wasmi_lanes.specs.Lane.{lane};
+ghost use Rattle.wasmi_lanewise.specs.VectorTable as vector;
+
+use wasmi_lanes::SimdLane;
+use wasmi_raw::V128;
+
+/// All ones where the lane of `lhs` is less than that of `rhs`, read unsigned, else all zeros.
+#[inline(always)]
+pub(super) fn less_u<T: SimdLane>(lhs: V128, rhs: V128) -> V128
+    ensures { result ≡ vector.lt_u T.width lhs rhs }
+{
+    ones_if_less::<T>(T::lanes_of(lhs), T::lanes_of(rhs))
+}
+
+/// All ones where the lane of `lhs` is greater than that of `rhs`, read unsigned, else all zeros.
+#[inline(always)]
+pub(super) fn greater_u<T: SimdLane>(lhs: V128, rhs: V128) -> V128
+    ensures { result ≡ vector.gt_u T.width lhs rhs }
+{
+    less_u::<T>(rhs, lhs)
+}
+
+/// All ones where the lane of `lhs` is at most that of `rhs`, read unsigned, else all zeros.
+#[inline(always)]
+pub(super) fn at_most_u<T: SimdLane>(lhs: V128, rhs: V128) -> V128
+    ensures { result ≡ vector.le_u T.width lhs rhs }
+{
+    zeros_if_less::<T>(T::lanes_of(rhs), T::lanes_of(lhs))
+}
+
+/// All ones where the lane of `lhs` is at least that of `rhs`, read unsigned, else all zeros.
+#[inline(always)]
+pub(super) fn at_least_u<T: SimdLane>(lhs: V128, rhs: V128) -> V128
+    ensures { result ≡ vector.ge_u T.width lhs rhs }
+{
+    at_most_u::<T>(rhs, lhs)
+}
+
+/// All ones where the lane of `lhs` is less than that of `rhs`, read signed, else all zeros.
+#[inline(always)]
+pub(super) fn less_s<T: SimdLane>(lhs: V128, rhs: V128) -> V128
+    ensures { result ≡ vector.lt_s T.width lhs rhs }
+{
+    ones_if_less::<T>(T::raised(T::lanes_of(lhs)), T::raised(T::lanes_of(rhs)))
+}
+
+/// All ones where the lane of `lhs` is greater than that of `rhs`, read signed, else all zeros.
+#[inline(always)]
+pub(super) fn greater_s<T: SimdLane>(lhs: V128, rhs: V128) -> V128
+    ensures { result ≡ vector.gt_s T.width lhs rhs }
+{
+    less_s::<T>(rhs, lhs)
+}
+
+/// All ones where the lane of `lhs` is at most that of `rhs`, read signed, else all zeros.
+#[inline(always)]
+pub(super) fn at_most_s<T: SimdLane>(lhs: V128, rhs: V128) -> V128
+    ensures { result ≡ vector.le_s T.width lhs rhs }
+{
+    zeros_if_less::<T>(T::raised(T::lanes_of(rhs)), T::raised(T::lanes_of(lhs)))
+}
+
+/// All ones where the lane of `lhs` is at least that of `rhs`, read signed, else all zeros.
+#[inline(always)]
+pub(super) fn at_least_s<T: SimdLane>(lhs: V128, rhs: V128) -> V128
+    ensures { result ≡ vector.ge_s T.width lhs rhs }
+{
+    at_most_s::<T>(rhs, lhs)
+}
+
+/// The smaller ones of the lanes, read unsigned.
+#[inline(always)]
+pub(super) fn smaller_u<T: SimdLane>(lhs: V128, rhs: V128) -> V128
+    ensures { result ≡ vector.min_u T.width lhs rhs }
+{
+    let (a, b) = (T::lanes_of(lhs), T::lanes_of(rhs));
+    T::vector_of(T::choose_if_less(b, a, b, a))
+}
+
+/// The larger ones of the lanes, read unsigned.
+#[inline(always)]
+pub(super) fn larger_u<T: SimdLane>(lhs: V128, rhs: V128) -> V128
+    ensures { result ≡ vector.max_u T.width lhs rhs }
+{
+    let (a, b) = (T::lanes_of(lhs), T::lanes_of(rhs));
+    T::vector_of(T::choose_if_less(b, a, a, b))
+}
+
+/// The smaller ones of the lanes, read signed.
+#[inline(always)]
+pub(super) fn smaller_s<T: SimdLane>(lhs: V128, rhs: V128) -> V128
+    ensures { result ≡ vector.min_s T.width lhs rhs }
+{
+    let (a, b) = (T::lanes_of(lhs), T::lanes_of(rhs));
+    T::vector_of(T::choose_if_less(T::raised(b), T::raised(a), b, a))
+}
+
+/// The larger ones of the lanes, read signed.
+#[inline(always)]
+pub(super) fn larger_s<T: SimdLane>(lhs: V128, rhs: V128) -> V128
+    ensures { result ≡ vector.max_s T.width lhs rhs }
+{
+    let (a, b) = (T::lanes_of(lhs), T::lanes_of(rhs));
+    T::vector_of(T::choose_if_less(T::raised(b), T::raised(a), a, b))
+}
+
+#[inline(always)]
+fn ones_if_less<T: SimdLane>(a: T::Vector, b: T::Vector) -> V128
+    ensures lanes { (i : ℕ) → i < T.COUNT → lane T.width result i ≡ (if nat_lt (T.at a i) (T.at b i) then 2 ^ bits T.width - 1 else 0) }
+    ensures in_range { result < 2 ^ 128 }
+{
+    let ones = T::splat(T::ALL_ONES);
+    let zeros = T::splat(T::ALL_ZEROS);
+    T::vector_of(T::choose_if_less(a, b, ones, zeros))
+}
+
+#[inline(always)]
+fn zeros_if_less<T: SimdLane>(a: T::Vector, b: T::Vector) -> V128
+    ensures lanes { (i : ℕ) → i < T.COUNT → lane T.width result i ≡ (if nat_lt (T.at a i) (T.at b i) then 0 else 2 ^ bits T.width - 1) }
+    ensures in_range { result < 2 ^ 128 }
+{
+    let ones = T::splat(T::ALL_ONES);
+    let zeros = T::splat(T::ALL_ZEROS);
+    T::vector_of(T::choose_if_less(a, b, zeros, ones))
+}

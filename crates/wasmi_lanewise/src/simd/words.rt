@@ -1,0 +1,129 @@
+//! Sums, differences, equality, averages and counted bits on the two words of a vector, whose lanes stay where they are.
+//!
+//! What is generic in a lane type takes the highest bits of a word's lanes from it.
+
+ghost use Rattle.std.specs.Prelude.{◌≡◌, ℕ, ◌*◌, ◌^◌, ◌<◌, count_ones};
+ghost use Rattle.wasmi_raw.specs.Vector.{vector_of};
+ghost use Rattle.wasmi_types.specs.Wrapping.{w8};
+ghost use Rattle.wasmi_lanes.specs.Words.{field, IsLane, AreMarks, AreFilled};
+ghost use Rattle.wasmi_lanewise.specs.VectorTable as vector;
+
+use std::simd::prelude::*;
+use wasmi_lanes::words::{word_add, word_differ, word_sub};
+use wasmi_lanes::{WordLane, from_words};
+use wasmi_raw::V128;
+
+/// The sums of the lanes, modulo 2 to the power of their width.
+#[inline(always)]
+pub(super) fn sums<T: WordLane>(lhs: V128, rhs: V128) -> V128
+    ensures { result ≡ vector.add T.width lhs rhs }
+{
+    let tops = T::TOPS;
+    let (a_low, a_high) = lhs.words();
+    let (b_low, b_high) = rhs.words();
+    V128::from_words(word_add(a_low, b_low, tops), word_add(a_high, b_high, tops))
+}
+
+/// The differences of the lanes, modulo 2 to the power of their width.
+#[inline(always)]
+pub(super) fn differences<T: WordLane>(lhs: V128, rhs: V128) -> V128
+    ensures { result ≡ vector.sub T.width lhs rhs }
+{
+    let tops = T::TOPS;
+    let (a_low, a_high) = lhs.words();
+    let (b_low, b_high) = rhs.words();
+    V128::from_words(word_sub(a_low, b_low, tops), word_sub(a_high, b_high, tops))
+}
+
+/// The lanes negated, modulo 2 to the power of their width.
+#[inline(always)]
+pub(super) fn negations<T: WordLane>(v: V128) -> V128
+    ensures { result ≡ vector.neg T.width v }
+{
+    let tops = T::TOPS;
+    let (low, high) = v.words();
+    V128::from_words(word_sub(0, low, tops), word_sub(0, high, tops))
+}
+
+/// All ones in the lanes that are equal, else all zeros.
+#[inline(always)]
+pub(super) fn equal<T: WordLane>(lhs: V128, rhs: V128) -> V128
+    ensures { result ≡ vector.eq T.width lhs rhs }
+{
+    let tops = T::TOPS;
+    let (a_low, a_high) = lhs.words();
+    let (b_low, b_high) = rhs.words();
+    filled::<T>(
+        word_differ(a_low, b_low, tops) ^ tops,
+        word_differ(a_high, b_high, tops) ^ tops,
+    )
+}
+
+/// All ones in the lanes that are different, else all zeros.
+#[inline(always)]
+pub(super) fn different<T: WordLane>(lhs: V128, rhs: V128) -> V128
+    ensures { result ≡ vector.ne T.width lhs rhs }
+{
+    let tops = T::TOPS;
+    let (a_low, a_high) = lhs.words();
+    let (b_low, b_high) = rhs.words();
+    filled::<T>(
+        word_differ(a_low, b_low, tops),
+        word_differ(a_high, b_high, tops),
+    )
+}
+
+// The vector of two words of which each lane is 0 or its highest bit alone, those with the bit filled with ones. Of plain
+// words LLVM would take two vectors a turn of a loop, and regroup their words before and after.
+#[inline(always)]
+fn filled<T: WordLane>(low: u64, high: u64) -> V128
+    requires low { AreMarks T.width low }
+    requires high { AreMarks T.width high }
+    ensures words { (x : ℕ) × (y : ℕ) × (result ≡ vector_of x y) × (x < 2 ^ 64) × (y < 2 ^ 64) × AreFilled T.width low x × AreFilled T.width high y }
+{
+    let marks = u64x2::from_array([low, high]);
+    let ones = marks >> u64x2::splat(u64::from(T::BITS - 1));
+    from_words(marks | (marks - ones))
+}
+
+/// The averages of the lanes, read unsigned, halves rounded up.
+#[inline(always)]
+pub(super) fn averages<T: WordLane>(lhs: V128, rhs: V128) -> V128
+    ensures { result ≡ vector.avgr_u T.width lhs rhs }
+{
+    let tops = T::TOPS;
+    let (a_low, a_high) = lhs.words();
+    let (b_low, b_high) = rhs.words();
+    V128::from_words(
+        word_averages(a_low, b_low, tops),
+        word_averages(a_high, b_high, tops),
+    )
+}
+
+// Common bits and half of the others, which never borrow from the lane below.
+#[inline(always)]
+fn word_averages(a: u64, b: u64, tops: u64) -> u64
+    ensures { (start width : ℕ) → IsLane tops start width
+        → field start width result ≡ vector.average (field start width a) (field start width b) }
+{
+    (a | b) - (((a ^ b) >> 1) & !tops)
+}
+
+/// How many bits of each lane of 8 bits are one.
+#[inline(always)]
+pub(super) fn counts_of_ones(v: V128) -> V128
+    ensures { result ≡ vector.popcnt w8 v }
+{
+    let (low, high) = v.words();
+    V128::from_words(word_counts(low), word_counts(high))
+}
+
+// Counted in lanes of 2, 4 and 8 bits in turn, each the sum of its halves.
+#[inline(always)]
+fn word_counts(v: u64) -> u64
+    ensures { (i : ℕ) → i < 8 → field (8 * i) 8 result ≡ count_ones (field (8 * i) 8 v) }
+{
+    let pairs = (v & 0x5555_5555_5555_5555) + ((v >> 1) & 0x5555_5555_5555_5555);
+    let nibbles = (pairs & 0x3333_3333_3333_3333) + ((pairs >> 2) & 0x3333_3333_3333_3333);
+    (nibbles & 0x0f0f_0f0f_0f0f_0f0f) + ((nibbles >> 4) & 0x0f0f_0f0f_0f0f_0f0f)
+}
