@@ -3,12 +3,11 @@ use Rattle.std.proofs.Common.{◌≡◌, ℕ, ◌+◌, ◌-◌, ◌≤◌, Bool,
 use Rattle.std.proofs.lemmas.Bool.{and_parts}
 use Rattle.std.proofs.lemmas.Bool.Decides.{nat_tests}
 use Rattle.std.proofs.lemmas.Option.{same_Some}
-use Rattle.std.specs.Prelude.{nat_le, is_none, ◌&&◌, if◌then◌else◌, MatchBool, slice_get}
+use Rattle.std.specs.Prelude.{nat_le, is_none, ◌&&◌, if◌then◌else◌}
 use Rattle.std.specs.Option.{option_map, unwrap_or}
-use Rattle.wasmi_meter.specs.declared.error.MemoryError.{MemoryError}
 use Rattle.wasmi_meter.specs.declared.error.TableError.{TableError}
 use Rattle.wasmi_meter.specs.Limiter.{Rules}
-use Rattle.wasmi_meter.specs.Meter.{Meter, meter_after, amount_left}
+use Rattle.wasmi_meter.specs.Meter.{Meter, meter_after}
 use Rattle.wasmi_meter.specs.Attempt.{Situation, Effort, Fate, Unasked, Denied, Met, Failed, Attempt, amount_due, can_pay}
 use Rattle.wasmi_typed.specs.declared.typed_ref.TypedRawRef.{TypedRawRef}
 use Rattle.wasmi_store.specs.Growth.{Growth, Grows}
@@ -24,18 +23,18 @@ use Rattle.wasmi_core.specs.declared.calls.Reply.TheVariants as replied
 use Rattle.wasmi_core.specs.declared.slots.Slot.{Slot}
 use Rattle.wasmi_core.specs.State.{State, live_at}
 use Rattle.wasmi_core.specs.World.{World, Turn}
-use Rattle.wasmi_core.specs.Rows.{reply_of, ActsAt, OnlyReplies, Changes, Asks, Pays, PaysUnasked}
+use Rattle.wasmi_core.specs.Rows.{reply_of, ActsAt}
 use Rattle.wasmi_core.specs.TableRows.{metered, WritesTableAt, WritesTableFrom, filling, copy_from, initialization_from}
-use Rattle.wasmi_core.specs.Steps.{Step, StepBy}
+use Rattle.wasmi_core.specs.Steps.{StepBy}
 use Rattle.wasmi_core.specs.Runs.{Run}
 use Rattle.wasmi_core.specs.Account.{Account, opened, charged_by, account_after, Balances}
 use Rattle.wasmi_core.proofs.RowLemmas.{on_live, on_test}
 
 -- a meter that is on stays on, and what is left and the charge are what was left
-abbrev Takes : Meter → ℕ → Meter → Type 0
+abbrev pub Takes : Meter → ℕ → Meter → Type 0
 Takes m charge m' = (left : ℕ) → m.left ≡ Some left → (rest : ℕ) × (m'.left ≡ Some rest) × (rest + charge ≡ left)
 
-takes_nothing : (m m' : Meter) (charge : ℕ) → charge ≡ 0 → m' ≡ m → Takes m charge m'
+pub takes_nothing : (m m' : Meter) (charge : ℕ) → charge ≡ 0 → m' ≡ m → Takes m charge m'
 takes_nothing m m' charge free same left on = (left, ap (λ (m : Meter). m.left) same ∙ on, omega (arith, free))
 
 -- no more is charged than is left
@@ -66,7 +65,7 @@ module _ {V E S : Type 0} (rules : Rules S) (e : Effort V E) (x : V) (m : Meter)
   attempt_paid (Failed cause heed) attempt =
       paid_if m (amount_due (Some m) e.price) charge (is_none e.late && can_pay (Some m) (amount_due (Some m) e.price)) (λ both. (and_parts _ _ both).1) attempt.charged
 
-grows_takes : {V E S : Type 0} (rules : Rules S) (g : Growth V E) (x : V) (m : Meter) (l : S) (result : Result ℕ E) (charge : ℕ) (x' : V) (m' : Meter) (l' : S)
+pub grows_takes : {V E S : Type 0} (rules : Rules S) (g : Growth V E) (x : V) (m : Meter) (l : S) (result : Result ℕ E) (charge : ℕ) (x' : V) (m' : Meter) (l' : S)
     → Grows rules g (record { value = x; meter = Some m; limiter = l }) result charge (record { value = x'; meter = Some m'; limiter = l' }) → Takes m charge m'
 grows_takes {V = V} {S = S} rules g x m l result charge x' m' l' (inl none) = takes_nothing m m' charge none.uncharged (same_Some m' m (ap (λ (s : Situation V S). s.meter) none.same))
 grows_takes rules g x m l result charge x' m' l' (inr some) = takes_paid m m' charge (attempt_paid rules g.effort x m l charge x' m' l' some.fate some.attempt) some.attempt.meter

@@ -14,9 +14,9 @@ use Rattle.wasmi_meter.specs.declared.error.MemoryError.{MemoryError}
 use Rattle.wasmi_meter.specs.declared.error.TableError.{TableError}
 use Rattle.wasmi_meter.specs.declared.limiter.Kind.{Kind}
 use Rattle.wasmi_meter.specs.declared.limiter.Kind.TheVariants.{Bytes, Elements}
-use Rattle.wasmi_meter.specs.Limiter.{Rules, Question, kind_of}
+use Rattle.wasmi_meter.specs.Limiter.{Rules, kind_of}
 use Rattle.wasmi_meter.specs.Meter.{Meter}
-use Rattle.wasmi_meter.specs.Attempt.{Situation, Effort, Fate, Unasked, Denied, Met, Failed, Attempt, MayEnd, Follows, value_after, answer_of}
+use Rattle.wasmi_meter.specs.Attempt.{Situation, Effort, Fate, Unasked, Denied, Met, Failed, MayEnd, Follows, value_after, answer_of}
 use Rattle.wasmi_typed.specs.declared.typed_ref.TypedRawRef.{TypedRawRef}
 use Rattle.wasmi_store.specs.Growth.{Growth, Grows, Makes}
 use Rattle.wasmi_store.specs.Buffer.{Room, Owned}
@@ -39,7 +39,7 @@ use Rattle.wasmi_core.specs.MemoryRows.{WritesMemoryAt, StoresMemory, StoresMemo
 use Rattle.wasmi_core.specs.TableRows.{Metered, metered, SetsElementAt, WritesTableAt, WritesTableFrom, filling, copy_from, initialization_from}
 use Rattle.wasmi_core.specs.RegisterRows.{StoresVectorAt, vector_at}
 use Rattle.wasmi_core.specs.Steps.{Step, StepBy}
-use Rattle.wasmi_core.specs.Exchange.{Exchange, Nothing, Denial, Permission, Notice, Passes, NothingGrows, GrowsAsAsked, GrowsBy, Exchanges}
+use Rattle.wasmi_core.specs.Exchange.{Nothing, Denial, Permission, Notice, NothingGrows, GrowsAsAsked, Exchanges}
 use Rattle.wasmi_core.specs.Totals.{slot_count, byte_count, sizes}
 use Rattle.wasmi_core.proofs.RowLemmas.{on_live, on_test}
 use Rattle.wasmi_core.proofs.TotalLemmas.{count_at, counts_set, counts_kept}

@@ -1,5 +1,5 @@
 -- What a reserving limiter holds, as what a machine has changes.
-use Rattle.std.proofs.Common.{◌≡◌, ◌≢◌, ℕ, ◌+◌, ◌-◌, ◌≤◌, Option, Some, None, Result, Ok, Err, true, false, List, [], ◌∷◌, sum, inl, inr, refl, sym, ap, ◌∙◌, arith}
+use Rattle.std.proofs.Common.{◌≡◌, ◌≢◌, ℕ, ◌+◌, ◌-◌, Option, Some, None, Result, Ok, Err, true, false, List, [], ◌∷◌, sum, inl, inr, refl, sym, ap, ◌∙◌, arith}
 use Rattle.std.proofs.lemmas.Option.{same_Some}
 use Rattle.std.proofs.Common.{subst, IfOk, OnErr}
 use Rattle.wasmi_meter.specs.declared.limiter.Kind.{Kind}

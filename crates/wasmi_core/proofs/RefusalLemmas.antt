@@ -1,5 +1,5 @@
 -- What a refused turn leaves.
-use Rattle.std.proofs.Common.{◌≡◌, ℕ, ◌+◌, Bool, true, false, Option, Some, None, Result, Ok, Err, List, [], ◌∷◌, set, refl, sym, ap, ◌∙◌, inl, inr}
+use Rattle.std.proofs.Common.{◌≡◌, ℕ, ◌+◌, Bool, true, false, Option, Some, None, Result, Ok, Err, List, set, refl, ap, ◌∙◌, inl, inr}
 use Rattle.std.proofs.lemmas.Option.{none-some, same_Some}
 use Rattle.std.specs.Prelude.{slice_get, slice_set}
 use Rattle.std.specs.Option.{option_map, option_and_then}
@@ -18,7 +18,7 @@ use Rattle.wasmi_meter.specs.declared.error.MemoryError.{MemoryError}
 use Rattle.wasmi_meter.specs.declared.error.TableError.{TableError}
 use Rattle.wasmi_meter.specs.Limiter.{Rules}
 use Rattle.wasmi_meter.specs.Meter.{Meter}
-use Rattle.wasmi_meter.specs.Attempt.{Situation, Effort, Fate, Unasked, Denied, Met, Failed, Attempt, answer_of, value_after}
+use Rattle.wasmi_meter.specs.Attempt.{Situation, Fate, Unasked, Denied, Met, Failed, answer_of, value_after}
 use Rattle.wasmi_typed.specs.declared.global.GlobalError.{GlobalError}
 use Rattle.wasmi_typed.specs.declared.global.GlobalError.TheVariants.{ImmutableWrite, TypeMismatch}
 use Rattle.wasmi_typed.specs.declared.typed.TypedRawVal.{TypedRawVal}

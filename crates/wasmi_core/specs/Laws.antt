@@ -1,5 +1,5 @@
 -- What holds of all turns and runs of a machine.
-use Rattle.std.specs.Prelude.{◌≡◌, ℕ, Option, Some, List}
+use Rattle.std.specs.Prelude.{◌≡◌, ◌<◌, ℕ, Option, Some, List}
 use Rattle.wasmi_meter.specs.Holdings.{Holdings}
 use Rattle.wasmi_meter.specs.Limiter.{Rules, optional_rules}
 use Rattle.wasmi_core.specs.declared.calls.Reply.{Reply}
@@ -10,6 +10,7 @@ use Rattle.wasmi_core.specs.Steps.{Step}
 use Rattle.wasmi_core.specs.Runs.{Run}
 use Rattle.wasmi_core.specs.Account.{opened, account_after, Balances}
 use Rattle.wasmi_core.specs.Exchange.{Exchanges}
+use Rattle.wasmi_core.specs.Writing.{IsBounded}
 use Rattle.wasmi_core.specs.Totals.{sizes, HoldsTotals}
 
 -- a reply that tells why nothing was done
@@ -51,6 +52,11 @@ module _ {S : Type 0} (rules : Rules S) where
   abbrev pub FuelBalances : Type 0
   FuelBalances = (w : World S) (left : ℕ) → w.state.meter.left ≡ Some left
       → (turns : List Turn) (w' : World S) → Run rules w turns w' → Balances (account_after (opened left) turns) w'.state.meter
+
+  -- while metering is on at a rate above 0, the bytes that a run writes by growing and copying are bounded by the fuel that is charged for them, and so by all the fuel that there was
+  abbrev pub FuelBoundsWriting : Type 0
+  FuelBoundsWriting = (w : World S) (left : ℕ) → w.state.meter.left ≡ Some left → 0 < w.state.meter.costs.bytes_copied_per_fuel
+      → (turns : List Turn) (w' : World S) → Run rules w turns w' → IsBounded w.state.meter.costs.bytes_copied_per_fuel left turns
 
 -- a limiter that holds the totals before a run is there after it, and holds the totals then
 abbrev pub HoldsTotalsAlways : {L : Type 0} → Rules L → (L → Holdings) → Type 0

@@ -11,5 +11,6 @@ pub mod Runs
 pub mod Totals
 pub mod Exchange
 pub mod Account
+pub mod Writing
 pub mod Laws
 pub mod AccessOps

@@ -1,6 +1,6 @@
 //! What holds of all runs. These functions do nothing: each states a law as its contract, for any limiter, of which a run may also have none.
 ghost use Rattle.wasmi_meter.specs.Limiter.{optional_rules};
-ghost use Rattle.wasmi_core.specs.Laws.{RefusalsKeepContents, GrowsAsPermitted, FuelBalances, HoldsTotalsAlways};
+ghost use Rattle.wasmi_core.specs.Laws.{RefusalsKeepContents, GrowsAsPermitted, FuelBalances, FuelBoundsWriting, HoldsTotalsAlways};
 
 use wasmi_meter::{Reserving, ResourceLimiter};
 
@@ -24,4 +24,12 @@ pub fn fuel_balances<L: ResourceLimiter>()
 /// A reserving limiter that holds a machine's totals before a run holds them after it.
 pub fn totals_are_held<L: Reserving>()
     ensures { HoldsTotalsAlways L.rules L.Reserving.holdings }
+{}
+
+/// While metering is on at a rate above 0, the bytes that a run writes by growing and copying are bounded by the fuel
+/// that is charged for them, and so by the fuel that was left at its start and all amounts that were set.
+///
+/// `IsBounded` gives each turn that writes less than one fuel's worth of bytes beyond what its charge pays for.
+pub fn fuel_bounds_writing<L: ResourceLimiter>()
+    ensures { FuelBoundsWriting (optional_rules L.rules) }
 {}

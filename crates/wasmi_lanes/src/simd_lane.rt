@@ -33,7 +33,8 @@ pub trait SimdLane: LaneInteger {
     fn splat(number: Self) -> Self::Vector
         ensures lanes { (i : ℕ) → i < COUNT → at result i ≡ Self.image number };
 
-    /// The lanes moved by half of their range, so that as unsigned numbers they stand in the order of the signed ones.
+    /// The lanes moved by half of their range, so that as unsigned numbers they stand in the order
+    /// of the signed ones.
     fn raised(items: Self::Vector) -> Self::Vector
         ensures lanes { (i : ℕ) → i < COUNT → at result i ≡ (at items i + 2 ^ (bits Self.width - 1)) % 2 ^ bits Self.width };
 

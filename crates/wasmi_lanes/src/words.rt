@@ -1,7 +1,7 @@
-//! Sums, differences and inequality of the lanes of a word of 64 bits, without taking the lanes out.
+//! Sums, differences and inequality of the lanes of a word, without taking the lanes out.
 //!
-//! `tops` has the highest bit of each lane, and no other; the widths may be unequal. The sums are modulo 2 to the
-//! power 64, and no carry or borrow leaves a lane: below each lane's highest bit the operands are made to leave room.
+//! `tops` has the highest bit of each lane, and no other; the widths may be unequal. No carry or
+//! borrow leaves a lane: at each lane's highest bit the operands are made to leave room.
 
 ghost use Rattle.std.specs.Prelude.{◌≡◌, ℕ, ◌+◌, ◌-◌, ◌%◌, ◌^◌, ◌==◌, if◌then◌else◌, bit_and};
 ghost use Rattle.wasmi_lanes.specs.Words.{field, IsLane};

@@ -313,7 +313,8 @@ fn difference_i8(x: i8, y: i8) -> i16
     i16::from(x) - i16::from(y)
 }
 
-// A number clamped to the signed range of 8 bits: what LLVM knows as a saturating sum or difference.
+// A number clamped to the signed range of 8 bits: of a sum or a difference LLVM makes a saturating
+// one, which it doesn't of `saturating_add` and `saturating_sub`.
 #[inline]
 fn clamped_i8(x: i16) -> i8
     ensures { result ≡ clamp_signed w8 x }

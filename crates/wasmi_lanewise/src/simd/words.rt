@@ -1,4 +1,5 @@
-//! Sums, differences, equality, averages and counted bits on the two words of a vector, whose lanes stay where they are.
+//! Sums, differences, equality, averages and counted bits on the two words of a vector, whose lanes
+//! stay where they are.
 //!
 //! What is generic in a lane type takes the highest bits of a word's lanes from it.
 
@@ -73,8 +74,9 @@ pub(super) fn different<T: WordLane>(lhs: V128, rhs: V128) -> V128
     )
 }
 
-// The vector of two words of which each lane is 0 or its highest bit alone, those with the bit filled with ones. Of plain
-// words LLVM would take two vectors a turn of a loop, and regroup their words before and after.
+// The vector of two words of which each lane is 0 or its highest bit alone, those with the bit
+// filled with ones. Of plain words LLVM would take two vectors a turn of a loop, and regroup their
+// words before and after.
 #[inline(always)]
 fn filled<T: WordLane>(low: u64, high: u64) -> V128
     requires low { AreMarks T.width low }

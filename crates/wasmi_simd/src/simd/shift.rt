@@ -1,7 +1,7 @@
 //! Shifts of lanes, by an amount modulo their width.
 //!
-//! The two words of the vector are shifted together, and the bits are masked that would leave their lane; with the sign it
-//! is done lane by lane.
+//! The two words of the vector are shifted together, and the bits are masked that would leave their
+//! lane; with the sign it is done lane by lane.
 
 ghost use Rattle.std.specs.Prelude.{◌≡◌, ℕ, ◌-◌, ◌*◌, ◌^◌, ◌<◌, [], ◌∷◌};
 ghost use Rattle.wasmi_types.specs.Wrapping.{w8, w16, w32, w64, bits};
@@ -126,7 +126,8 @@ fn shifted_right<T: WordLane>(v: V128, amount: u32) -> V128
     from_words((words_of(v) >> u64x2::splat(amount)) & kept)
 }
 
-// All bits of each lane but its highest ones, of which there are `dropped`: the power of 2 above them less 1.
+// All bits of each lane but its highest ones, of which there are `dropped`: the power of 2 above
+// them less 1.
 #[inline(always)]
 fn low_bits<T: WordLane>(dropped: u64) -> u64x2
     requires { dropped < bits T.width }

@@ -102,7 +102,8 @@ fn no_zero_in_word<T: WordLane>(word: u64) -> bool
     word_differ(word, 0, tops) == tops
 }
 
-// The highest bits of the lanes of 8 bits of a word: in each step those of two neighbouring lanes come together.
+// The highest bits of the lanes of 8 bits of a word: in each step those of two neighbouring lanes
+// come together.
 #[inline(always)]
 fn tops_of_8(word: u64) -> u32
     ensures { result ≡ first_bits 8 (λ i. nat_le (2 ^ 7) (field (8 * i) 8 word)) }

@@ -1,0 +1,48 @@
+-- The bytes that turns have written by growing and copying, and the fuel that they were charged for it.
+use Rattle.std.specs.Prelude.{ℕ, ◌+◌, ◌-◌, ◌*◌, ◌≤◌, Bool, true, false, ◌&&◌, if◌then◌else◌, List, count_by, sum_by}
+use Rattle.wasmi_core.specs.declared.calls.Call.{Call}
+use Rattle.wasmi_core.specs.declared.calls.Call.TheVariants.{SetFuel, GrowMemory, GrowTable, InitTable, CopyTable, FillTable}
+use Rattle.wasmi_core.specs.declared.calls.Reply.{Reply}
+use Rattle.wasmi_core.specs.declared.calls.Reply.TheVariants.{Done, Number}
+use Rattle.wasmi_core.specs.World.{Turn}
+
+-- the calls that are charged for what they write: growths, and those that write over a part of a table
+abbrev pub is_charged : Call → Bool
+is_charged (GrowMemory k pages) = true
+is_charged (GrowTable k n init) = true
+is_charged (InitTable k j dst src len) = true
+is_charged (CopyTable k dst j src len) = true
+is_charged (FillTable k dst value len) = true
+is_charged call = false
+
+-- whether such a call was accepted
+abbrev pub is_accepted : Reply → Bool
+is_accepted Done = true
+is_accepted (Number size) = true
+is_accepted reply = false
+
+abbrev pub has_written : Call → Reply → Bool
+has_written call reply = is_charged call && is_accepted reply
+
+-- how many turns have written, what they were charged, and how many bytes they have written
+abbrev pub writing_turns : List Turn → ℕ
+writing_turns turns = count_by (λ turn. has_written turn.call turn.reply) turns
+
+abbrev pub charges_for_writing : List Turn → ℕ
+charges_for_writing turns = sum_by (λ turn. if has_written turn.call turn.reply then turn.charge else 0) turns
+
+abbrev pub bytes_written : List Turn → ℕ
+bytes_written turns = sum_by (λ turn. turn.written) turns
+
+-- the sum of all amounts to which the fuel was set
+abbrev pub amount_set : Call → ℕ
+amount_set (SetFuel fuel) = fuel
+amount_set call = 0
+
+abbrev pub amounts_set : List Turn → ℕ
+amounts_set turns = sum_by (λ turn. amount_set turn.call) turns
+
+-- at a rate of so many bytes a fuel, no more is written than what was charged pays for, and less than a fuel's worth beyond it in each turn; and no more than all the fuel that there was
+pub record IsBounded (rate fuel : ℕ) (turns : List Turn) : Type 0 where
+  pub by_charges : bytes_written turns ≤ rate * charges_for_writing turns + writing_turns turns * (rate - 1)
+  pub by_fuel : bytes_written turns ≤ rate * (fuel + amounts_set turns) + writing_turns turns * (rate - 1)
