@@ -126,51 +126,54 @@ module _ {S : Type 0} (account : Account) (w : World S) (turn : Turn) (w' : Worl
   Goes = Balances (record { granted = account.granted; charged = account.charged + turn.charge }) w'.state.meter
 
   module _ (balances : Balances account w.state.meter) where
-    goes : (m' : Meter) → w'.state.meter ≡ m' → Takes w.state.meter turn.charge m' → Goes
-    goes m' same takes = let t = takes balances.0 balances.1 in (t.0, ap (λ (m : Meter). m.left) same ∙ t.1, omega (arith, t.2, balances.2))
+    -- the turn ends in this world
+    module _ {v : World S} (is : w' ≡ v) where
+      charged : Takes w.state.meter turn.charge v.state.meter → Goes
+      charged takes =
+          let t = takes balances.0 balances.1 in (t.0, ap (λ (u : World S). u.state.meter.left) is ∙ t.1, omega (arith, t.2, balances.2))
 
-    uncharged : (s : State) → turn.charge ≡ 0 → w'.state ≡ s → s.meter ≡ w.state.meter → Goes
-    uncharged s free is same = goes w.state.meter (ap (λ (t : State). t.meter) is ∙ same) (takes_nothing w.state.meter w.state.meter turn.charge free refl)
+      uncharged : turn.charge ≡ 0 → v.state.meter ≡ w.state.meter → Goes
+      uncharged free same = charged (takes_nothing w.state.meter v.state.meter turn.charge free same)
 
 module _ {S : Type 0} (rules : Rules S) (account : Account) (w : World S) (turn : Turn) (w' : World S) where
   step_balances : (call : Call) → StepBy rules call w turn w' → Balances account w.state.meter → Balances (charged_by account call turn.charge) w'.state.meter
   step_balances (SetFuel fuel) step balances = (fuel, ap (λ (v : World S). v.state.meter.left) step.3 ∙ (ap (λ (s : State). s.meter.left) step.2.1 ∙ ap (option_map (λ n. fuel)) balances.1), omega arith)
-  step_balances GetFuel step balances = uncharged account w turn w' balances w.state step.0.0 (ap (λ (v : World S). v.state) step.2) refl
-  step_balances (NewMemory ty) step balances = uncharged account w turn w' balances _ step.0.0 (ap (λ (v : World S). v.state) step.4) refl
-  step_balances (GrowMemory k pages) step balances = goes account w turn w' balances step.1 (ap (λ (v : World S). v.state.meter) step.5) (memory_growth_takes rules k pages w.state.memories w.state.meter w.limiter turn.reply turn.charge step.0 step.1 step.2 step.3)
-  step_balances (DropMemory k) step balances = uncharged account w turn w' balances _ step.0.0 (ap (λ (v : World S). v.state) step.3) refl
-  step_balances (Read k offset len) step balances = uncharged account w turn w' balances w.state step.0.0 (ap (λ (v : World S). v.state) step.2) refl
-  step_balances (Write k offset bytes) step balances = uncharged account w turn w' balances _ step.0.0 (ap (λ (v : World S). v.state) step.3) refl
-  step_balances (Load op k ptr offset) step balances = uncharged account w turn w' balances w.state step.0.0 (ap (λ (v : World S). v.state) step.2) refl
-  step_balances (Store op k ptr offset value) step balances = uncharged account w turn w' balances _ step.0.0 (ap (λ (v : World S). v.state) step.3) refl
-  step_balances (NewTable ty init) step balances = uncharged account w turn w' balances _ step.0.0 (ap (λ (v : World S). v.state) step.4) refl
-  step_balances (GrowTable k n init) step balances = goes account w turn w' balances step.1 (ap (λ (v : World S). v.state.meter) step.5) (table_growth_takes rules k n init w.state.tables w.state.meter w.limiter turn.reply turn.charge step.0 step.1 step.2 step.3)
-  step_balances (DropTable k) step balances = uncharged account w turn w' balances _ step.0.0 (ap (λ (v : World S). v.state) step.3) refl
-  step_balances (GetElement k index) step balances = uncharged account w turn w' balances w.state step.0.0 (ap (λ (v : World S). v.state) step.2) refl
-  step_balances (SetElement k index value) step balances = uncharged account w turn w' balances _ step.0.0 (ap (λ (v : World S). v.state) step.3) refl
-  step_balances (InitTable k j dst src len) step balances = goes account w turn w' balances step.1 (ap (λ (v : World S). v.state.meter) step.4) (table_copy_takes (live_at w.state.segments j) k (initialization_from dst src len) w.state.tables w.state.meter turn.reply turn.charge step.0 step.1 step.2)
-  step_balances (CopyTable k dst j src len) step balances = goes account w turn w' balances step.1 (ap (λ (v : World S). v.state.meter) step.4) (table_copy_takes (live_at w.state.tables j) k (copy_from dst src len) w.state.tables w.state.meter turn.reply turn.charge step.0 step.1 step.2)
-  step_balances (FillTable k dst value len) step balances = goes account w turn w' balances step.1 (ap (λ (v : World S). v.state.meter) step.4) (table_write_takes k (filling dst value len) w.state.tables w.state.meter turn.reply turn.charge step.0 step.1 step.2)
-  step_balances (NewSegment ty items) step balances = uncharged account w turn w' balances _ step.0.0 (ap (λ (v : World S). v.state) step.3) refl
-  step_balances (DropItems k) step balances = uncharged account w turn w' balances _ step.0.0 (ap (λ (v : World S). v.state) step.3) refl
-  step_balances (NewGlobal value ty) step balances = uncharged account w turn w' balances _ step.0.0 (ap (λ (v : World S). v.state) step.3) refl
-  step_balances (SetGlobal k value) step balances = uncharged account w turn w' balances _ step.0.0 (ap (λ (v : World S). v.state) step.3) refl
-  step_balances (GetGlobal k) step balances = uncharged account w turn w' balances w.state step.0.0 (ap (λ (v : World S). v.state) step.2) refl
-  step_balances (SetRegister dst value) step balances = uncharged account w turn w' balances _ step.0.0 (ap (λ (v : World S). v.state) step.3) refl
-  step_balances (GetRegister a) step balances = uncharged account w turn w' balances w.state step.0.0 (ap (λ (v : World S). v.state) step.2) refl
-  step_balances (Make op dst a) step balances = uncharged account w turn w' balances _ step.0.0 (ap (λ (v : World S). v.state) step.3) refl
-  step_balances (Unary op dst a) step balances = uncharged account w turn w' balances _ step.0.0 (ap (λ (v : World S). v.state) step.3) refl
-  step_balances (Binary op dst a b) step balances = uncharged account w turn w' balances _ step.0.0 (ap (λ (v : World S). v.state) step.3) refl
-  step_balances (Ternary op dst a b c) step balances = uncharged account w turn w' balances _ step.0.0 (ap (λ (v : World S). v.state) step.3) refl
-  step_balances (Shift op dst a amount) step balances = uncharged account w turn w' balances _ step.0.0 (ap (λ (v : World S). v.state) step.3) refl
-  step_balances (Test op a) step balances = uncharged account w turn w' balances w.state step.0.0 (ap (λ (v : World S). v.state) step.2) refl
-  step_balances (Extract op a) step balances = uncharged account w turn w' balances w.state step.0.0 (ap (λ (v : World S). v.state) step.2) refl
-  step_balances (Replace op dst a item) step balances = uncharged account w turn w' balances _ step.0.0 (ap (λ (v : World S). v.state) step.3) refl
-  step_balances (Shuffle dst a b lanes) step balances = uncharged account w turn w' balances _ step.0.0 (ap (λ (v : World S). v.state) step.3) refl
-  step_balances (VectorLoad op dst k ptr offset) step balances = uncharged account w turn w' balances _ step.0.0 (ap (λ (v : World S). v.state) step.3) refl
-  step_balances (LoadLane op dst a k ptr offset) step balances = uncharged account w turn w' balances _ step.0.0 (ap (λ (v : World S). v.state) step.3) refl
-  step_balances (VectorStore a k ptr offset) step balances = uncharged account w turn w' balances _ step.0.0 (ap (λ (v : World S). v.state) step.3) refl
-  step_balances (StoreLane op a k ptr offset) step balances = uncharged account w turn w' balances _ step.0.0 (ap (λ (v : World S). v.state) step.3) refl
+  step_balances GetFuel step balances = uncharged account w turn w' balances step.2 step.0.0 refl
+  step_balances (NewMemory ty) step balances = uncharged account w turn w' balances step.4 step.0.0 refl
+  step_balances (GrowMemory k pages) step balances = charged account w turn w' balances step.5 (memory_growth_takes rules k pages w.state.memories w.state.meter w.limiter turn.reply turn.charge step.0 step.1 step.2 step.3)
+  step_balances (DropMemory k) step balances = uncharged account w turn w' balances step.3 step.0.0 refl
+  step_balances (Read k offset len) step balances = uncharged account w turn w' balances step.2 step.0.0 refl
+  step_balances (Write k offset bytes) step balances = uncharged account w turn w' balances step.3 step.0.0 refl
+  step_balances (Load op k ptr offset) step balances = uncharged account w turn w' balances step.2 step.0.0 refl
+  step_balances (Store op k ptr offset value) step balances = uncharged account w turn w' balances step.3 step.0.0 refl
+  step_balances (NewTable ty init) step balances = uncharged account w turn w' balances step.4 step.0.0 refl
+  step_balances (GrowTable k n init) step balances = charged account w turn w' balances step.5 (table_growth_takes rules k n init w.state.tables w.state.meter w.limiter turn.reply turn.charge step.0 step.1 step.2 step.3)
+  step_balances (DropTable k) step balances = uncharged account w turn w' balances step.3 step.0.0 refl
+  step_balances (GetElement k index) step balances = uncharged account w turn w' balances step.2 step.0.0 refl
+  step_balances (SetElement k index value) step balances = uncharged account w turn w' balances step.3 step.0.0 refl
+  step_balances (InitTable k j dst src len) step balances = charged account w turn w' balances step.4 (table_copy_takes (live_at w.state.segments j) k (initialization_from dst src len) w.state.tables w.state.meter turn.reply turn.charge step.0 step.1 step.2)
+  step_balances (CopyTable k dst j src len) step balances = charged account w turn w' balances step.4 (table_copy_takes (live_at w.state.tables j) k (copy_from dst src len) w.state.tables w.state.meter turn.reply turn.charge step.0 step.1 step.2)
+  step_balances (FillTable k dst value len) step balances = charged account w turn w' balances step.4 (table_write_takes k (filling dst value len) w.state.tables w.state.meter turn.reply turn.charge step.0 step.1 step.2)
+  step_balances (NewSegment ty items) step balances = uncharged account w turn w' balances step.3 step.0.0 refl
+  step_balances (DropItems k) step balances = uncharged account w turn w' balances step.3 step.0.0 refl
+  step_balances (NewGlobal value ty) step balances = uncharged account w turn w' balances step.3 step.0.0 refl
+  step_balances (SetGlobal k value) step balances = uncharged account w turn w' balances step.3 step.0.0 refl
+  step_balances (GetGlobal k) step balances = uncharged account w turn w' balances step.2 step.0.0 refl
+  step_balances (SetRegister dst value) step balances = uncharged account w turn w' balances step.3 step.0.0 refl
+  step_balances (GetRegister a) step balances = uncharged account w turn w' balances step.2 step.0.0 refl
+  step_balances (Make op dst a) step balances = uncharged account w turn w' balances step.3 step.0.0 refl
+  step_balances (Unary op dst a) step balances = uncharged account w turn w' balances step.3 step.0.0 refl
+  step_balances (Binary op dst a b) step balances = uncharged account w turn w' balances step.3 step.0.0 refl
+  step_balances (Ternary op dst a b c) step balances = uncharged account w turn w' balances step.3 step.0.0 refl
+  step_balances (Shift op dst a amount) step balances = uncharged account w turn w' balances step.3 step.0.0 refl
+  step_balances (Test op a) step balances = uncharged account w turn w' balances step.2 step.0.0 refl
+  step_balances (Extract op a) step balances = uncharged account w turn w' balances step.2 step.0.0 refl
+  step_balances (Replace op dst a item) step balances = uncharged account w turn w' balances step.3 step.0.0 refl
+  step_balances (Shuffle dst a b lanes) step balances = uncharged account w turn w' balances step.3 step.0.0 refl
+  step_balances (VectorLoad op dst k ptr offset) step balances = uncharged account w turn w' balances step.3 step.0.0 refl
+  step_balances (LoadLane op dst a k ptr offset) step balances = uncharged account w turn w' balances step.3 step.0.0 refl
+  step_balances (VectorStore a k ptr offset) step balances = uncharged account w turn w' balances step.3 step.0.0 refl
+  step_balances (StoreLane op a k ptr offset) step balances = uncharged account w turn w' balances step.3 step.0.0 refl
 
 module _ {S : Type 0} (rules : Rules S) where
   run_balances : (account : Account) (w : World S) → Balances account w.state.meter → (turns : List Turn) (w' : World S) → Run rules w turns w' → Balances (account_after account turns) w'.state.meter

@@ -199,11 +199,10 @@ module _ {S : Type 0} (rules : Rules S) (w : World S) (turn : Turn) (w' : World 
   abbrev Passed : Type 0
   Passed = Exchanges rules w.limiter (sizes w.state) w'.limiter (sizes w'.state)
 
-  -- the limiter is the same, and so are the sizes of memories and tables
-  idle : w'.limiter ≡ w.limiter → (s : State) → w'.state ≡ s → sizes s Bytes ≡ sizes w.state Bytes → sizes s Elements ≡ sizes w.state Elements → Passed
-  idle unasked s is bytes elements =
-      nothing_passes rules w.limiter w'.limiter (sizes w.state) (sizes w'.state) unasked
-      (each_kind (λ kind. sizes w'.state kind ≡ sizes w.state kind) (ap (λ t. sizes t Bytes) is ∙ bytes) (ap (λ t. sizes t Elements) is ∙ elements))
+  -- the turn ends in a world with the same limiter and the same sizes of memories and tables
+  idle : {v : World S} → w' ≡ v → v.limiter ≡ w.limiter → sizes v.state Bytes ≡ sizes w.state Bytes → sizes v.state Elements ≡ sizes w.state Elements → Passed
+  idle {v} is unasked bytes elements =
+      rw is (nothing_passes rules w.limiter v.limiter (sizes w.state) (sizes v.state) unasked (each_kind (λ kind. sizes v.state kind ≡ sizes w.state kind) bytes elements))
 
 -- a memory or a table is made or grows
 module _ {S : Type 0} (rules : Rules S) (s : State) (l : S) (l' : S) where
@@ -270,43 +269,43 @@ set_kept k slots reply slots' index value sets =
 
 module _ {S : Type 0} (rules : Rules S) (w : World S) (turn : Turn) (w' : World S) where
   step_passes : (call : Call) → StepBy rules call w turn w' → Exchanges rules w.limiter (sizes w.state) w'.limiter (sizes w'.state)
-  step_passes (SetFuel fuel) step = idle rules w turn w' (ap (λ (v : World S). v.limiter) step.3) _ (ap (λ (v : World S). v.state) step.3) (ap (λ t. sizes t Bytes) step.2.1) (ap (λ t. sizes t Elements) step.2.1)
-  step_passes GetFuel step = idle rules w turn w' (ap (λ (v : World S). v.limiter) step.2) w.state (ap (λ (v : World S). v.state) step.2) refl refl
+  step_passes (SetFuel fuel) step = idle rules w turn w' step.3 refl (ap (λ t. sizes t Bytes) step.2.1) (ap (λ t. sizes t Elements) step.2.1)
+  step_passes GetFuel step = idle rules w turn w' step.2 refl refl refl
   step_passes (NewMemory ty) step = rw step.4 (memory_made rules w.state w.limiter step.2 step.1 w.state.meter turn.reply Owned ty step.3)
   step_passes (GrowMemory k pages) step = rw step.5 (memory_grows rules w.state w.limiter step.2 step.0 step.1 turn.reply k pages turn.charge step.3)
-  step_passes (DropMemory k) step = idle rules w turn w' (ap (λ (v : World S). v.limiter) step.3) _ (ap (λ (v : World S). v.state) step.3) (drops_kept byte_count k w.state.memories turn.reply step.1 step.2) refl
-  step_passes (Read k offset len) step = idle rules w turn w' (ap (λ (v : World S). v.limiter) step.2) w.state (ap (λ (v : World S). v.state) step.2) refl refl
-  step_passes (Write k offset bytes) step = idle rules w turn w' (ap (λ (v : World S). v.limiter) step.3) _ (ap (λ (v : World S). v.state) step.3) (written_kept k w.state.memories turn.reply step.1 offset bytes.items step.2) refl
-  step_passes (Load op k ptr offset) step = idle rules w turn w' (ap (λ (v : World S). v.limiter) step.2) w.state (ap (λ (v : World S). v.state) step.2) refl refl
-  step_passes (Store op k ptr offset value) step = idle rules w turn w' (ap (λ (v : World S). v.limiter) step.3) _ (ap (λ (v : World S). v.state) step.3) (store_kept k w.state.memories turn.reply step.1 (ptr + offset) (stored_bytes op value) step.2) refl
+  step_passes (DropMemory k) step = idle rules w turn w' step.3 refl (drops_kept byte_count k w.state.memories turn.reply step.1 step.2) refl
+  step_passes (Read k offset len) step = idle rules w turn w' step.2 refl refl refl
+  step_passes (Write k offset bytes) step = idle rules w turn w' step.3 refl (written_kept k w.state.memories turn.reply step.1 offset bytes.items step.2) refl
+  step_passes (Load op k ptr offset) step = idle rules w turn w' step.2 refl refl refl
+  step_passes (Store op k ptr offset value) step = idle rules w turn w' step.3 refl (store_kept k w.state.memories turn.reply step.1 (ptr + offset) (stored_bytes op value) step.2) refl
   step_passes (NewTable ty init) step = rw step.4 (table_made rules w.state w.limiter step.2 step.1 w.state.meter turn.reply ty init step.3)
   step_passes (GrowTable k n init) step = rw step.5 (table_grows rules w.state w.limiter step.2 step.0 step.1 turn.reply k n turn.charge init step.3)
-  step_passes (DropTable k) step = idle rules w turn w' (ap (λ (v : World S). v.limiter) step.3) _ (ap (λ (v : World S). v.state) step.3) refl (drops_kept size_of k w.state.tables turn.reply step.1 step.2)
-  step_passes (GetElement k index) step = idle rules w turn w' (ap (λ (v : World S). v.limiter) step.2) w.state (ap (λ (v : World S). v.state) step.2) refl refl
-  step_passes (SetElement k index value) step = idle rules w turn w' (ap (λ (v : World S). v.limiter) step.3) _ (ap (λ (v : World S). v.state) step.3) refl (set_kept k w.state.tables turn.reply step.1 index value step.2)
-  step_passes (InitTable k j dst src len) step = idle rules w turn w' (ap (λ (v : World S). v.limiter) step.4) _ (ap (λ (v : World S). v.state) step.4) refl (copy_kept k w.state.tables w.state.meter turn.reply turn.charge step.0 step.1 (live_at w.state.segments j) (initialization_from dst src len) (λ y x elements is. copied_length x.elements elements dst (at y.items src len) is) step.2)
-  step_passes (CopyTable k dst j src len) step = idle rules w turn w' (ap (λ (v : World S). v.limiter) step.4) _ (ap (λ (v : World S). v.state) step.4) refl (copy_kept k w.state.tables w.state.meter turn.reply turn.charge step.0 step.1 (live_at w.state.tables j) (copy_from dst src len) (λ y x elements is. copied_length x.elements elements dst (at y.elements src len) is) step.2)
-  step_passes (FillTable k dst value len) step = idle rules w turn w' (ap (λ (v : World S). v.limiter) step.4) _ (ap (λ (v : World S). v.state) step.4) refl (write_kept k w.state.tables w.state.meter turn.reply turn.charge step.0 step.1 (filling dst value len) (λ x elements is. overwrite_length x.elements (replicate len value.raw) elements dst is) step.2)
-  step_passes (NewSegment ty items) step = idle rules w turn w' (ap (λ (v : World S). v.limiter) step.3) _ (ap (λ (v : World S). v.state) step.3) refl refl
-  step_passes (DropItems k) step = idle rules w turn w' (ap (λ (v : World S). v.limiter) step.3) _ (ap (λ (v : World S). v.state) step.3) refl refl
-  step_passes (NewGlobal value ty) step = idle rules w turn w' (ap (λ (v : World S). v.limiter) step.3) _ (ap (λ (v : World S). v.state) step.3) refl refl
-  step_passes (SetGlobal k value) step = idle rules w turn w' (ap (λ (v : World S). v.limiter) step.3) _ (ap (λ (v : World S). v.state) step.3) refl refl
-  step_passes (GetGlobal k) step = idle rules w turn w' (ap (λ (v : World S). v.limiter) step.2) w.state (ap (λ (v : World S). v.state) step.2) refl refl
-  step_passes (SetRegister dst value) step = idle rules w turn w' (ap (λ (v : World S). v.limiter) step.3) _ (ap (λ (v : World S). v.state) step.3) refl refl
-  step_passes (GetRegister a) step = idle rules w turn w' (ap (λ (v : World S). v.limiter) step.2) w.state (ap (λ (v : World S). v.state) step.2) refl refl
-  step_passes (Make op dst a) step = idle rules w turn w' (ap (λ (v : World S). v.limiter) step.3) _ (ap (λ (v : World S). v.state) step.3) refl refl
-  step_passes (Unary op dst a) step = idle rules w turn w' (ap (λ (v : World S). v.limiter) step.3) _ (ap (λ (v : World S). v.state) step.3) refl refl
-  step_passes (Binary op dst a b) step = idle rules w turn w' (ap (λ (v : World S). v.limiter) step.3) _ (ap (λ (v : World S). v.state) step.3) refl refl
-  step_passes (Ternary op dst a b c) step = idle rules w turn w' (ap (λ (v : World S). v.limiter) step.3) _ (ap (λ (v : World S). v.state) step.3) refl refl
-  step_passes (Shift op dst a amount) step = idle rules w turn w' (ap (λ (v : World S). v.limiter) step.3) _ (ap (λ (v : World S). v.state) step.3) refl refl
-  step_passes (Test op a) step = idle rules w turn w' (ap (λ (v : World S). v.limiter) step.2) w.state (ap (λ (v : World S). v.state) step.2) refl refl
-  step_passes (Extract op a) step = idle rules w turn w' (ap (λ (v : World S). v.limiter) step.2) w.state (ap (λ (v : World S). v.state) step.2) refl refl
-  step_passes (Replace op dst a item) step = idle rules w turn w' (ap (λ (v : World S). v.limiter) step.3) _ (ap (λ (v : World S). v.state) step.3) refl refl
-  step_passes (Shuffle dst a b lanes) step = idle rules w turn w' (ap (λ (v : World S). v.limiter) step.3) _ (ap (λ (v : World S). v.state) step.3) refl refl
-  step_passes (VectorLoad op dst k ptr offset) step = idle rules w turn w' (ap (λ (v : World S). v.limiter) step.3) _ (ap (λ (v : World S). v.state) step.3) refl refl
-  step_passes (LoadLane op dst a k ptr offset) step = idle rules w turn w' (ap (λ (v : World S). v.limiter) step.3) _ (ap (λ (v : World S). v.state) step.3) refl refl
-  step_passes (VectorStore a k ptr offset) step = idle rules w turn w' (ap (λ (v : World S). v.limiter) step.3) _ (ap (λ (v : World S). v.state) step.3) (vector_store_kept k w.state.memories turn.reply step.1 (ptr + offset) (option_map (le_bytes 16) (vector_at w.state.registers a)) step.2) refl
-  step_passes (StoreLane op a k ptr offset) step = idle rules w turn w' (ap (λ (v : World S). v.limiter) step.3) _ (ap (λ (v : World S). v.state) step.3) (vector_store_kept k w.state.memories turn.reply step.1 (ptr + offset) (option_map (stored_lane op) (vector_at w.state.registers a)) step.2) refl
+  step_passes (DropTable k) step = idle rules w turn w' step.3 refl refl (drops_kept size_of k w.state.tables turn.reply step.1 step.2)
+  step_passes (GetElement k index) step = idle rules w turn w' step.2 refl refl refl
+  step_passes (SetElement k index value) step = idle rules w turn w' step.3 refl refl (set_kept k w.state.tables turn.reply step.1 index value step.2)
+  step_passes (InitTable k j dst src len) step = idle rules w turn w' step.4 refl refl (copy_kept k w.state.tables w.state.meter turn.reply turn.charge step.0 step.1 (live_at w.state.segments j) (initialization_from dst src len) (λ y x elements is. copied_length x.elements elements dst (at y.items src len) is) step.2)
+  step_passes (CopyTable k dst j src len) step = idle rules w turn w' step.4 refl refl (copy_kept k w.state.tables w.state.meter turn.reply turn.charge step.0 step.1 (live_at w.state.tables j) (copy_from dst src len) (λ y x elements is. copied_length x.elements elements dst (at y.elements src len) is) step.2)
+  step_passes (FillTable k dst value len) step = idle rules w turn w' step.4 refl refl (write_kept k w.state.tables w.state.meter turn.reply turn.charge step.0 step.1 (filling dst value len) (λ x elements is. overwrite_length x.elements (replicate len value.raw) elements dst is) step.2)
+  step_passes (NewSegment ty items) step = idle rules w turn w' step.3 refl refl refl
+  step_passes (DropItems k) step = idle rules w turn w' step.3 refl refl refl
+  step_passes (NewGlobal value ty) step = idle rules w turn w' step.3 refl refl refl
+  step_passes (SetGlobal k value) step = idle rules w turn w' step.3 refl refl refl
+  step_passes (GetGlobal k) step = idle rules w turn w' step.2 refl refl refl
+  step_passes (SetRegister dst value) step = idle rules w turn w' step.3 refl refl refl
+  step_passes (GetRegister a) step = idle rules w turn w' step.2 refl refl refl
+  step_passes (Make op dst a) step = idle rules w turn w' step.3 refl refl refl
+  step_passes (Unary op dst a) step = idle rules w turn w' step.3 refl refl refl
+  step_passes (Binary op dst a b) step = idle rules w turn w' step.3 refl refl refl
+  step_passes (Ternary op dst a b c) step = idle rules w turn w' step.3 refl refl refl
+  step_passes (Shift op dst a amount) step = idle rules w turn w' step.3 refl refl refl
+  step_passes (Test op a) step = idle rules w turn w' step.2 refl refl refl
+  step_passes (Extract op a) step = idle rules w turn w' step.2 refl refl refl
+  step_passes (Replace op dst a item) step = idle rules w turn w' step.3 refl refl refl
+  step_passes (Shuffle dst a b lanes) step = idle rules w turn w' step.3 refl refl refl
+  step_passes (VectorLoad op dst k ptr offset) step = idle rules w turn w' step.3 refl refl refl
+  step_passes (LoadLane op dst a k ptr offset) step = idle rules w turn w' step.3 refl refl refl
+  step_passes (VectorStore a k ptr offset) step = idle rules w turn w' step.3 refl (vector_store_kept k w.state.memories turn.reply step.1 (ptr + offset) (option_map (le_bytes 16) (vector_at w.state.registers a)) step.2) refl
+  step_passes (StoreLane op a k ptr offset) step = idle rules w turn w' step.3 refl (vector_store_kept k w.state.memories turn.reply step.1 (ptr + offset) (option_map (stored_lane op) (vector_at w.state.registers a)) step.2) refl
 
 pub growths_are_permitted : {S : Type 0} (rules : Rules S) (w : World S) (turn : Turn) (w' : World S) → Step rules w turn w' → Exchanges rules w.limiter (sizes w.state) w'.limiter (sizes w'.state)
 growths_are_permitted rules w turn w' step = step_passes rules w turn w' turn.call step

@@ -176,52 +176,53 @@ global_refused : (k : ℕ) (value : TypedRawVal) (slots : List (Slot GlobalInsta
 global_refused k value slots reply slots' refused sets =
     changes_back k slots reply slots' _ (λ x x' c. global_back x x' value c.0 (rw c.2 at refused) c.1) sets
 
-same_contents : (s s' : State) → s' ≡ s → SameContents s s'
-same_contents s s' same = rw same (record { memories = refl; tables = refl; segments = refl; globals = refl; registers = refl })
+-- the turn ends in a world with the same state, or with the same state but for its meter
+module _ {S : Type 0} (w w' : World S) where
+  kept : {v : World S} → w' ≡ v → v.state ≡ w.state → SameContents w.state w'.state
+  kept is same = rw (is, same) (record { memories = refl; tables = refl; segments = refl; globals = refl; registers = refl })
 
--- the state with another meter
-paid_contents : (s s' : State) (m : Meter) → s' ≡ record s { meter = m } → SameContents s s'
-paid_contents s s' m same = rw same (record { memories = refl; tables = refl; segments = refl; globals = refl; registers = refl })
+  paid : (m : Meter) → {v : World S} → w' ≡ v → v.state ≡ record w.state { meter = m } → SameContents w.state w'.state
+  paid m is same = rw (is, same) (record { memories = refl; tables = refl; segments = refl; globals = refl; registers = refl })
 
 module _ {S : Type 0} (rules : Rules S) (w : World S) (turn : Turn) (w' : World S) (refused : IsRefusal turn.reply) where
   step_back : (call : Call) → StepBy rules call w turn w' → SameContents w.state w'.state
-  step_back (SetFuel fuel) step = paid_contents w.state w'.state _ (ap (λ (v : World S). v.state) step.3 ∙ step.2.1)
-  step_back GetFuel step = same_contents w.state w'.state (ap (λ (v : World S). v.state) step.2)
-  step_back (NewMemory ty) step = same_contents w.state w'.state ((ap (λ (v : World S). v.state) step.4) ∙ ap (with_memories w.state) (creates_back replied.Memory (MakesMemory rules Owned ty) w.state.memories w.limiter turn.reply step.1 step.2 refused step.3))
-  step_back (GrowMemory k pages) step = paid_contents w.state w'.state step.1 ((ap (λ (v : World S). v.state) step.5) ∙ ap (λ part. let s : State = record (with_memories w.state part) { meter = step.1 } in s) (memory_growth_back rules k pages w.state.memories w.state.meter w.limiter turn.reply turn.charge step.0 step.1 step.2 refused step.3))
-  step_back (DropMemory k) step = same_contents w.state w'.state ((ap (λ (v : World S). v.state) step.3) ∙ ap (with_memories w.state) (drops_back byte_count k w.state.memories turn.reply step.1 refused step.2))
-  step_back (Read k offset len) step = same_contents w.state w'.state (ap (λ (v : World S). v.state) step.2)
-  step_back (Write k offset bytes) step = same_contents w.state w'.state ((ap (λ (v : World S). v.state) step.3) ∙ ap (with_memories w.state) (write_refused k offset bytes.items w.state.memories turn.reply step.1 refused step.2))
-  step_back (Load op k ptr offset) step = same_contents w.state w'.state (ap (λ (v : World S). v.state) step.2)
-  step_back (Store op k ptr offset value) step = same_contents w.state w'.state ((ap (λ (v : World S). v.state) step.3) ∙ ap (with_memories w.state) (store_back k w.state.memories turn.reply step.1 (ptr + offset) refused (stored_bytes op value) step.2))
-  step_back (NewTable ty init) step = same_contents w.state w'.state ((ap (λ (v : World S). v.state) step.4) ∙ ap (with_tables w.state) (creates_back replied.Table (MakesTable rules ty init) w.state.tables w.limiter turn.reply step.1 step.2 refused step.3))
-  step_back (GrowTable k n init) step = paid_contents w.state w'.state step.1 ((ap (λ (v : World S). v.state) step.5) ∙ ap (λ part. let s : State = record (with_tables w.state part) { meter = step.1 } in s) (table_growth_back rules k n init w.state.tables w.state.meter w.limiter turn.reply turn.charge step.0 step.1 step.2 refused step.3))
-  step_back (DropTable k) step = same_contents w.state w'.state ((ap (λ (v : World S). v.state) step.3) ∙ ap (with_tables w.state) (drops_back size_of k w.state.tables turn.reply step.1 refused step.2))
-  step_back (GetElement k index) step = same_contents w.state w'.state (ap (λ (v : World S). v.state) step.2)
-  step_back (SetElement k index value) step = same_contents w.state w'.state ((ap (λ (v : World S). v.state) step.3) ∙ ap (with_tables w.state) (set_refused k index value w.state.tables turn.reply step.1 refused step.2))
-  step_back (InitTable k j dst src len) step = paid_contents w.state w'.state step.1 ((ap (λ (v : World S). v.state) step.4) ∙ ap (λ part. let s : State = record (with_tables w.state part) { meter = step.1 } in s) (table_copy_back k w.state.tables w.state.meter turn.reply refused turn.charge step.0 step.1 (live_at w.state.segments j) (initialization_from dst src len) step.2))
-  step_back (CopyTable k dst j src len) step = paid_contents w.state w'.state step.1 ((ap (λ (v : World S). v.state) step.4) ∙ ap (λ part. let s : State = record (with_tables w.state part) { meter = step.1 } in s) (table_copy_back k w.state.tables w.state.meter turn.reply refused turn.charge step.0 step.1 (live_at w.state.tables j) (copy_from dst src len) step.2))
-  step_back (FillTable k dst value len) step = paid_contents w.state w'.state step.1 ((ap (λ (v : World S). v.state) step.4) ∙ ap (λ part. let s : State = record (with_tables w.state part) { meter = step.1 } in s) (table_write_back k w.state.tables w.state.meter turn.reply refused turn.charge step.0 step.1 (filling dst value len) step.2))
-  step_back (NewSegment ty items) step = same_contents w.state w'.state ((ap (λ (v : World S). v.state) step.3) ∙ ap (with_segments w.state) (segment_back ty items.items w.state.segments turn.reply step.1 refused step.2))
-  step_back (DropItems k) step = same_contents w.state w'.state ((ap (λ (v : World S). v.state) step.3) ∙ ap (with_segments w.state) (items_refused k w.state.segments turn.reply step.1 refused step.2))
-  step_back (NewGlobal value ty) step = same_contents w.state w'.state ((ap (λ (v : World S). v.state) step.3) ∙ ap (with_globals w.state) (global_made_back (record { value = value; ty = ty }) w.state.globals turn.reply step.1 refused step.2))
-  step_back (SetGlobal k value) step = same_contents w.state w'.state ((ap (λ (v : World S). v.state) step.3) ∙ ap (with_globals w.state) (global_refused k value w.state.globals turn.reply step.1 refused step.2))
-  step_back (GetGlobal k) step = same_contents w.state w'.state (ap (λ (v : World S). v.state) step.2)
-  step_back (SetRegister dst value) step = same_contents w.state w'.state ((ap (λ (v : World S). v.state) step.3) ∙ ap (with_registers w.state) (takes_back (Some (Ok value)) (slice_get w.state.registers dst) dst w.state.registers turn.reply step.1 refused step.2))
-  step_back (GetRegister a) step = same_contents w.state w'.state (ap (λ (v : World S). v.state) step.2)
-  step_back (Make op dst a) step = same_contents w.state w'.state ((ap (λ (v : World S). v.state) step.3) ∙ ap (with_registers w.state) (takes_back (option_map (λ raw. given_vector (made_vector op raw)) (slice_get w.state.registers a)) (slice_get w.state.registers dst) dst w.state.registers turn.reply step.1 refused step.2))
-  step_back (Unary op dst a) step = same_contents w.state w'.state ((ap (λ (v : World S). v.state) step.3) ∙ ap (with_registers w.state) (takes_back (of_one (unary_vector op) (vector_at w.state.registers a)) (slice_get w.state.registers dst) dst w.state.registers turn.reply step.1 refused step.2))
-  step_back (Binary op dst a b) step = same_contents w.state w'.state ((ap (λ (v : World S). v.state) step.3) ∙ ap (with_registers w.state) (takes_back (of_two (binary_vector op) (vector_at w.state.registers a) (vector_at w.state.registers b)) (slice_get w.state.registers dst) dst w.state.registers turn.reply step.1 refused step.2))
-  step_back (Ternary op dst a b c) step = same_contents w.state w'.state ((ap (λ (v : World S). v.state) step.3) ∙ ap (with_registers w.state) (takes_back (of_three (ternary_vector op) (vector_at w.state.registers a) (vector_at w.state.registers b) (vector_at w.state.registers c)) (slice_get w.state.registers dst) dst w.state.registers turn.reply step.1 refused step.2))
-  step_back (Shift op dst a amount) step = same_contents w.state w'.state ((ap (λ (v : World S). v.state) step.3) ∙ ap (with_registers w.state) (takes_back (of_one (λ v. shifted_vector op v amount) (vector_at w.state.registers a)) (slice_get w.state.registers dst) dst w.state.registers turn.reply step.1 refused step.2))
-  step_back (Test op a) step = same_contents w.state w'.state (ap (λ (v : World S). v.state) step.2)
-  step_back (Extract op a) step = same_contents w.state w'.state (ap (λ (v : World S). v.state) step.2)
-  step_back (Replace op dst a item) step = same_contents w.state w'.state ((ap (λ (v : World S). v.state) step.3) ∙ ap (with_registers w.state) (takes_back (option_and_then (λ raw. of_one (λ v. replaced_vector op v raw) (vector_at w.state.registers a)) (slice_get w.state.registers item)) (slice_get w.state.registers dst) dst w.state.registers turn.reply step.1 refused step.2))
-  step_back (Shuffle dst a b lanes) step = same_contents w.state w'.state ((ap (λ (v : World S). v.state) step.3) ∙ ap (with_registers w.state) (takes_back (of_two (λ x y. shuffle x y lanes) (vector_at w.state.registers a) (vector_at w.state.registers b)) (slice_get w.state.registers dst) dst w.state.registers turn.reply step.1 refused step.2))
-  step_back (VectorLoad op dst k ptr offset) step = same_contents w.state w'.state ((ap (λ (v : World S). v.state) step.3) ∙ ap (with_registers w.state) (takes_back (vector_loaded op (ptr + offset) (live_at w.state.memories k)) (slice_get w.state.registers dst) dst w.state.registers turn.reply step.1 refused step.2))
-  step_back (LoadLane op dst a k ptr offset) step = same_contents w.state w'.state ((ap (λ (v : World S). v.state) step.3) ∙ ap (with_registers w.state) (takes_back (lane_loaded op (ptr + offset) (vector_at w.state.registers a) (live_at w.state.memories k)) (slice_get w.state.registers dst) dst w.state.registers turn.reply step.1 refused step.2))
-  step_back (VectorStore a k ptr offset) step = same_contents w.state w'.state ((ap (λ (v : World S). v.state) step.3) ∙ ap (with_memories w.state) (vector_store_back k w.state.memories turn.reply step.1 (ptr + offset) refused (option_map (le_bytes 16) (vector_at w.state.registers a)) step.2))
-  step_back (StoreLane op a k ptr offset) step = same_contents w.state w'.state ((ap (λ (v : World S). v.state) step.3) ∙ ap (with_memories w.state) (vector_store_back k w.state.memories turn.reply step.1 (ptr + offset) refused (option_map (stored_lane op) (vector_at w.state.registers a)) step.2))
+  step_back (SetFuel fuel) step = paid w w' _ step.3 step.2.1
+  step_back GetFuel step = kept w w' step.2 refl
+  step_back (NewMemory ty) step = kept w w' step.4 (ap (with_memories w.state) (creates_back replied.Memory (MakesMemory rules Owned ty) w.state.memories w.limiter turn.reply step.1 step.2 refused step.3))
+  step_back (GrowMemory k pages) step = paid w w' step.1 step.5 (ap (λ part. let s : State = record (with_memories w.state part) { meter = step.1 } in s) (memory_growth_back rules k pages w.state.memories w.state.meter w.limiter turn.reply turn.charge step.0 step.1 step.2 refused step.3))
+  step_back (DropMemory k) step = kept w w' step.3 (ap (with_memories w.state) (drops_back byte_count k w.state.memories turn.reply step.1 refused step.2))
+  step_back (Read k offset len) step = kept w w' step.2 refl
+  step_back (Write k offset bytes) step = kept w w' step.3 (ap (with_memories w.state) (write_refused k offset bytes.items w.state.memories turn.reply step.1 refused step.2))
+  step_back (Load op k ptr offset) step = kept w w' step.2 refl
+  step_back (Store op k ptr offset value) step = kept w w' step.3 (ap (with_memories w.state) (store_back k w.state.memories turn.reply step.1 (ptr + offset) refused (stored_bytes op value) step.2))
+  step_back (NewTable ty init) step = kept w w' step.4 (ap (with_tables w.state) (creates_back replied.Table (MakesTable rules ty init) w.state.tables w.limiter turn.reply step.1 step.2 refused step.3))
+  step_back (GrowTable k n init) step = paid w w' step.1 step.5 (ap (λ part. let s : State = record (with_tables w.state part) { meter = step.1 } in s) (table_growth_back rules k n init w.state.tables w.state.meter w.limiter turn.reply turn.charge step.0 step.1 step.2 refused step.3))
+  step_back (DropTable k) step = kept w w' step.3 (ap (with_tables w.state) (drops_back size_of k w.state.tables turn.reply step.1 refused step.2))
+  step_back (GetElement k index) step = kept w w' step.2 refl
+  step_back (SetElement k index value) step = kept w w' step.3 (ap (with_tables w.state) (set_refused k index value w.state.tables turn.reply step.1 refused step.2))
+  step_back (InitTable k j dst src len) step = paid w w' step.1 step.4 (ap (λ part. let s : State = record (with_tables w.state part) { meter = step.1 } in s) (table_copy_back k w.state.tables w.state.meter turn.reply refused turn.charge step.0 step.1 (live_at w.state.segments j) (initialization_from dst src len) step.2))
+  step_back (CopyTable k dst j src len) step = paid w w' step.1 step.4 (ap (λ part. let s : State = record (with_tables w.state part) { meter = step.1 } in s) (table_copy_back k w.state.tables w.state.meter turn.reply refused turn.charge step.0 step.1 (live_at w.state.tables j) (copy_from dst src len) step.2))
+  step_back (FillTable k dst value len) step = paid w w' step.1 step.4 (ap (λ part. let s : State = record (with_tables w.state part) { meter = step.1 } in s) (table_write_back k w.state.tables w.state.meter turn.reply refused turn.charge step.0 step.1 (filling dst value len) step.2))
+  step_back (NewSegment ty items) step = kept w w' step.3 (ap (with_segments w.state) (segment_back ty items.items w.state.segments turn.reply step.1 refused step.2))
+  step_back (DropItems k) step = kept w w' step.3 (ap (with_segments w.state) (items_refused k w.state.segments turn.reply step.1 refused step.2))
+  step_back (NewGlobal value ty) step = kept w w' step.3 (ap (with_globals w.state) (global_made_back (record { value = value; ty = ty }) w.state.globals turn.reply step.1 refused step.2))
+  step_back (SetGlobal k value) step = kept w w' step.3 (ap (with_globals w.state) (global_refused k value w.state.globals turn.reply step.1 refused step.2))
+  step_back (GetGlobal k) step = kept w w' step.2 refl
+  step_back (SetRegister dst value) step = kept w w' step.3 (ap (with_registers w.state) (takes_back (Some (Ok value)) (slice_get w.state.registers dst) dst w.state.registers turn.reply step.1 refused step.2))
+  step_back (GetRegister a) step = kept w w' step.2 refl
+  step_back (Make op dst a) step = kept w w' step.3 (ap (with_registers w.state) (takes_back (option_map (λ raw. given_vector (made_vector op raw)) (slice_get w.state.registers a)) (slice_get w.state.registers dst) dst w.state.registers turn.reply step.1 refused step.2))
+  step_back (Unary op dst a) step = kept w w' step.3 (ap (with_registers w.state) (takes_back (of_one (unary_vector op) (vector_at w.state.registers a)) (slice_get w.state.registers dst) dst w.state.registers turn.reply step.1 refused step.2))
+  step_back (Binary op dst a b) step = kept w w' step.3 (ap (with_registers w.state) (takes_back (of_two (binary_vector op) (vector_at w.state.registers a) (vector_at w.state.registers b)) (slice_get w.state.registers dst) dst w.state.registers turn.reply step.1 refused step.2))
+  step_back (Ternary op dst a b c) step = kept w w' step.3 (ap (with_registers w.state) (takes_back (of_three (ternary_vector op) (vector_at w.state.registers a) (vector_at w.state.registers b) (vector_at w.state.registers c)) (slice_get w.state.registers dst) dst w.state.registers turn.reply step.1 refused step.2))
+  step_back (Shift op dst a amount) step = kept w w' step.3 (ap (with_registers w.state) (takes_back (of_one (λ v. shifted_vector op v amount) (vector_at w.state.registers a)) (slice_get w.state.registers dst) dst w.state.registers turn.reply step.1 refused step.2))
+  step_back (Test op a) step = kept w w' step.2 refl
+  step_back (Extract op a) step = kept w w' step.2 refl
+  step_back (Replace op dst a item) step = kept w w' step.3 (ap (with_registers w.state) (takes_back (option_and_then (λ raw. of_one (λ v. replaced_vector op v raw) (vector_at w.state.registers a)) (slice_get w.state.registers item)) (slice_get w.state.registers dst) dst w.state.registers turn.reply step.1 refused step.2))
+  step_back (Shuffle dst a b lanes) step = kept w w' step.3 (ap (with_registers w.state) (takes_back (of_two (λ x y. shuffle x y lanes) (vector_at w.state.registers a) (vector_at w.state.registers b)) (slice_get w.state.registers dst) dst w.state.registers turn.reply step.1 refused step.2))
+  step_back (VectorLoad op dst k ptr offset) step = kept w w' step.3 (ap (with_registers w.state) (takes_back (vector_loaded op (ptr + offset) (live_at w.state.memories k)) (slice_get w.state.registers dst) dst w.state.registers turn.reply step.1 refused step.2))
+  step_back (LoadLane op dst a k ptr offset) step = kept w w' step.3 (ap (with_registers w.state) (takes_back (lane_loaded op (ptr + offset) (vector_at w.state.registers a) (live_at w.state.memories k)) (slice_get w.state.registers dst) dst w.state.registers turn.reply step.1 refused step.2))
+  step_back (VectorStore a k ptr offset) step = kept w w' step.3 (ap (with_memories w.state) (vector_store_back k w.state.memories turn.reply step.1 (ptr + offset) refused (option_map (le_bytes 16) (vector_at w.state.registers a)) step.2))
+  step_back (StoreLane op a k ptr offset) step = kept w w' step.3 (ap (with_memories w.state) (vector_store_back k w.state.memories turn.reply step.1 (ptr + offset) refused (option_map (stored_lane op) (vector_at w.state.registers a)) step.2))
 
 pub refusals_keep_contents : {S : Type 0} (rules : Rules S) (w : World S) (turn : Turn) (w' : World S) → Step rules w turn w' → IsRefusal turn.reply → SameContents w.state w'.state
 refusals_keep_contents rules w turn w' step refused = step_back rules w turn w' refused turn.call step

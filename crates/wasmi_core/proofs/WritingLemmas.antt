@@ -179,8 +179,8 @@ table_growth_writes {S} rules k n init slots m l reply charge slots' m' l' acts 
     on_live (live_at slots k) _ _ acts
     (λ missing. rw missing.0 (idles m m' charge _ refl (same_Some m' m (ap (λ (s : Situation (List (Slot TableValue)) S). s.meter) missing.2))))
     (λ x found a. rw a.3 (on_test (same_type x.ty.element init.ty) _ _ a.2
-        (λ h. table_result rules x n init.raw m l charge a.1 m' l' a.0 h)
-        (λ h. rw h.0 (idles m m' charge _ refl (same_Some m' m (ap (λ (s : Situation TableValue S). s.meter) h.2))))))
+    (λ h. table_result rules x n init.raw m l charge a.1 m' l' a.0 h)
+    (λ h. rw h.0 (idles m m' charge _ refl (same_Some m' m (ap (λ (s : Situation TableValue S). s.meter) h.2))))))
 
 -- a call that writes over a part of a table
 module _ (w : TableWrite) (x : TableValue) (len : ℕ) (pays_len : (w.paid ≡ Some len) ⊎ (len ≡ 0)) (m : Meter) (charge : ℕ) (x' : TableValue) (m' : Meter) where
@@ -219,48 +219,53 @@ init_pays : (len : ℕ) (none : Bool) → nat_eq len 0 ≡ none → ((if none th
 init_pays len true is = inr (grind (arith, nat_tests, is))
 init_pays len false is = inl refl
 
-module _ {S : Type 0} (rules : Rules S) (w : World S) (turn : Turn) (w' : World S) where
-  writes_as : {m' : Meter} {n : ℕ} {wrote : Bool} → w'.state.meter ≡ m' → turn.written ≡ n → Wrote w.state.meter turn.charge n wrote 0 m' → Wrote w.state.meter turn.charge turn.written wrote 0 w'.state.meter
+module _ {S : Type 0} (w : World S) (turn : Turn) (w' : World S) where
+  -- the turn ends in this world
+  idle : {v : World S} → w' ≡ v → turn.written ≡ 0 → v.state.meter ≡ w.state.meter → Wrote w.state.meter turn.charge turn.written false 0 w'.state.meter
+  idle {v} is none same = rw is (idles w.state.meter v.state.meter turn.charge turn.written none same)
+
+  writes_as : {v : World S} {n : ℕ} {wrote : Bool} → w' ≡ v → turn.written ≡ n → Wrote w.state.meter turn.charge n wrote 0 v.state.meter → Wrote w.state.meter turn.charge turn.written wrote 0 w'.state.meter
   writes_as is written fact = rw (is, written) fact
 
+module _ {S : Type 0} (rules : Rules S) (w : World S) (turn : Turn) (w' : World S) where
   step_writes : (call : Call) → StepBy rules call w turn w' → Wrote w.state.meter turn.charge turn.written (has_written call turn.reply) (amount_set call) w'.state.meter
   step_writes (SetFuel fuel) step = sets fuel w.state.meter w'.state.meter turn.charge turn.written step.0.1 (ap (λ (v : World S). v.state.meter) step.3 ∙ ap (λ (s : State). s.meter) step.2.1)
-  step_writes GetFuel step = idles w.state.meter w'.state.meter turn.charge turn.written step.0.1 (ap (λ (v : World S). v.state.meter) step.2)
-  step_writes (NewMemory ty) step = idles w.state.meter w'.state.meter turn.charge turn.written step.0.1 (ap (λ (v : World S). v.state.meter) step.4)
-  step_writes (GrowMemory k pages) step = writes_as (ap (λ (v : World S). v.state.meter) step.5) step.4 (memory_growth_writes rules k pages w.state.memories w.state.meter w.limiter turn.reply turn.charge step.0 step.1 step.2 step.3)
-  step_writes (DropMemory k) step = idles w.state.meter w'.state.meter turn.charge turn.written step.0.1 (ap (λ (v : World S). v.state.meter) step.3)
-  step_writes (Read k offset len) step = idles w.state.meter w'.state.meter turn.charge turn.written step.0.1 (ap (λ (v : World S). v.state.meter) step.2)
-  step_writes (Write k offset bytes) step = idles w.state.meter w'.state.meter turn.charge turn.written step.0.1 (ap (λ (v : World S). v.state.meter) step.3)
-  step_writes (Load op k ptr offset) step = idles w.state.meter w'.state.meter turn.charge turn.written step.0.1 (ap (λ (v : World S). v.state.meter) step.2)
-  step_writes (Store op k ptr offset value) step = idles w.state.meter w'.state.meter turn.charge turn.written step.0.1 (ap (λ (v : World S). v.state.meter) step.3)
-  step_writes (NewTable ty init) step = idles w.state.meter w'.state.meter turn.charge turn.written step.0.1 (ap (λ (v : World S). v.state.meter) step.4)
-  step_writes (GrowTable k n init) step = writes_as (ap (λ (v : World S). v.state.meter) step.5) step.4 (table_growth_writes rules k n init w.state.tables w.state.meter w.limiter turn.reply turn.charge step.0 step.1 step.2 step.3)
-  step_writes (DropTable k) step = idles w.state.meter w'.state.meter turn.charge turn.written step.0.1 (ap (λ (v : World S). v.state.meter) step.3)
-  step_writes (GetElement k index) step = idles w.state.meter w'.state.meter turn.charge turn.written step.0.1 (ap (λ (v : World S). v.state.meter) step.2)
-  step_writes (SetElement k index value) step = idles w.state.meter w'.state.meter turn.charge turn.written step.0.1 (ap (λ (v : World S). v.state.meter) step.3)
-  step_writes (InitTable k j dst src len) step = writes_as (ap (λ (v : World S). v.state.meter) step.4) step.3 (table_copy_writes (live_at w.state.segments j) k (initialization_from dst src len) len w.state.tables w.state.meter turn.reply turn.charge step.0 step.1 (λ y x. init_pays len _ refl) step.2)
-  step_writes (CopyTable k dst j src len) step = writes_as (ap (λ (v : World S). v.state.meter) step.4) step.3 (table_copy_writes (live_at w.state.tables j) k (copy_from dst src len) len w.state.tables w.state.meter turn.reply turn.charge step.0 step.1 (λ y x. inl refl) step.2)
-  step_writes (FillTable k dst value len) step = writes_as (ap (λ (v : World S). v.state.meter) step.4) step.3 (table_write_writes k (filling dst value len) len w.state.tables w.state.meter turn.reply turn.charge step.0 step.1 (λ x. inl refl) step.2)
-  step_writes (NewSegment ty items) step = idles w.state.meter w'.state.meter turn.charge turn.written step.0.1 (ap (λ (v : World S). v.state.meter) step.3)
-  step_writes (DropItems k) step = idles w.state.meter w'.state.meter turn.charge turn.written step.0.1 (ap (λ (v : World S). v.state.meter) step.3)
-  step_writes (NewGlobal value ty) step = idles w.state.meter w'.state.meter turn.charge turn.written step.0.1 (ap (λ (v : World S). v.state.meter) step.3)
-  step_writes (SetGlobal k value) step = idles w.state.meter w'.state.meter turn.charge turn.written step.0.1 (ap (λ (v : World S). v.state.meter) step.3)
-  step_writes (GetGlobal k) step = idles w.state.meter w'.state.meter turn.charge turn.written step.0.1 (ap (λ (v : World S). v.state.meter) step.2)
-  step_writes (SetRegister dst value) step = idles w.state.meter w'.state.meter turn.charge turn.written step.0.1 (ap (λ (v : World S). v.state.meter) step.3)
-  step_writes (GetRegister a) step = idles w.state.meter w'.state.meter turn.charge turn.written step.0.1 (ap (λ (v : World S). v.state.meter) step.2)
-  step_writes (Make op dst a) step = idles w.state.meter w'.state.meter turn.charge turn.written step.0.1 (ap (λ (v : World S). v.state.meter) step.3)
-  step_writes (Unary op dst a) step = idles w.state.meter w'.state.meter turn.charge turn.written step.0.1 (ap (λ (v : World S). v.state.meter) step.3)
-  step_writes (Binary op dst a b) step = idles w.state.meter w'.state.meter turn.charge turn.written step.0.1 (ap (λ (v : World S). v.state.meter) step.3)
-  step_writes (Ternary op dst a b c) step = idles w.state.meter w'.state.meter turn.charge turn.written step.0.1 (ap (λ (v : World S). v.state.meter) step.3)
-  step_writes (Shift op dst a amount) step = idles w.state.meter w'.state.meter turn.charge turn.written step.0.1 (ap (λ (v : World S). v.state.meter) step.3)
-  step_writes (Test op a) step = idles w.state.meter w'.state.meter turn.charge turn.written step.0.1 (ap (λ (v : World S). v.state.meter) step.2)
-  step_writes (Extract op a) step = idles w.state.meter w'.state.meter turn.charge turn.written step.0.1 (ap (λ (v : World S). v.state.meter) step.2)
-  step_writes (Replace op dst a item) step = idles w.state.meter w'.state.meter turn.charge turn.written step.0.1 (ap (λ (v : World S). v.state.meter) step.3)
-  step_writes (Shuffle dst a b lanes) step = idles w.state.meter w'.state.meter turn.charge turn.written step.0.1 (ap (λ (v : World S). v.state.meter) step.3)
-  step_writes (VectorLoad op dst k ptr offset) step = idles w.state.meter w'.state.meter turn.charge turn.written step.0.1 (ap (λ (v : World S). v.state.meter) step.3)
-  step_writes (LoadLane op dst a k ptr offset) step = idles w.state.meter w'.state.meter turn.charge turn.written step.0.1 (ap (λ (v : World S). v.state.meter) step.3)
-  step_writes (VectorStore a k ptr offset) step = idles w.state.meter w'.state.meter turn.charge turn.written step.0.1 (ap (λ (v : World S). v.state.meter) step.3)
-  step_writes (StoreLane op a k ptr offset) step = idles w.state.meter w'.state.meter turn.charge turn.written step.0.1 (ap (λ (v : World S). v.state.meter) step.3)
+  step_writes GetFuel step = idle w turn w' step.2 step.0.1 refl
+  step_writes (NewMemory ty) step = idle w turn w' step.4 step.0.1 refl
+  step_writes (GrowMemory k pages) step = writes_as w turn w' step.5 step.4 (memory_growth_writes rules k pages w.state.memories w.state.meter w.limiter turn.reply turn.charge step.0 step.1 step.2 step.3)
+  step_writes (DropMemory k) step = idle w turn w' step.3 step.0.1 refl
+  step_writes (Read k offset len) step = idle w turn w' step.2 step.0.1 refl
+  step_writes (Write k offset bytes) step = idle w turn w' step.3 step.0.1 refl
+  step_writes (Load op k ptr offset) step = idle w turn w' step.2 step.0.1 refl
+  step_writes (Store op k ptr offset value) step = idle w turn w' step.3 step.0.1 refl
+  step_writes (NewTable ty init) step = idle w turn w' step.4 step.0.1 refl
+  step_writes (GrowTable k n init) step = writes_as w turn w' step.5 step.4 (table_growth_writes rules k n init w.state.tables w.state.meter w.limiter turn.reply turn.charge step.0 step.1 step.2 step.3)
+  step_writes (DropTable k) step = idle w turn w' step.3 step.0.1 refl
+  step_writes (GetElement k index) step = idle w turn w' step.2 step.0.1 refl
+  step_writes (SetElement k index value) step = idle w turn w' step.3 step.0.1 refl
+  step_writes (InitTable k j dst src len) step = writes_as w turn w' step.4 step.3 (table_copy_writes (live_at w.state.segments j) k (initialization_from dst src len) len w.state.tables w.state.meter turn.reply turn.charge step.0 step.1 (λ y x. init_pays len _ refl) step.2)
+  step_writes (CopyTable k dst j src len) step = writes_as w turn w' step.4 step.3 (table_copy_writes (live_at w.state.tables j) k (copy_from dst src len) len w.state.tables w.state.meter turn.reply turn.charge step.0 step.1 (λ y x. inl refl) step.2)
+  step_writes (FillTable k dst value len) step = writes_as w turn w' step.4 step.3 (table_write_writes k (filling dst value len) len w.state.tables w.state.meter turn.reply turn.charge step.0 step.1 (λ x. inl refl) step.2)
+  step_writes (NewSegment ty items) step = idle w turn w' step.3 step.0.1 refl
+  step_writes (DropItems k) step = idle w turn w' step.3 step.0.1 refl
+  step_writes (NewGlobal value ty) step = idle w turn w' step.3 step.0.1 refl
+  step_writes (SetGlobal k value) step = idle w turn w' step.3 step.0.1 refl
+  step_writes (GetGlobal k) step = idle w turn w' step.2 step.0.1 refl
+  step_writes (SetRegister dst value) step = idle w turn w' step.3 step.0.1 refl
+  step_writes (GetRegister a) step = idle w turn w' step.2 step.0.1 refl
+  step_writes (Make op dst a) step = idle w turn w' step.3 step.0.1 refl
+  step_writes (Unary op dst a) step = idle w turn w' step.3 step.0.1 refl
+  step_writes (Binary op dst a b) step = idle w turn w' step.3 step.0.1 refl
+  step_writes (Ternary op dst a b c) step = idle w turn w' step.3 step.0.1 refl
+  step_writes (Shift op dst a amount) step = idle w turn w' step.3 step.0.1 refl
+  step_writes (Test op a) step = idle w turn w' step.2 step.0.1 refl
+  step_writes (Extract op a) step = idle w turn w' step.2 step.0.1 refl
+  step_writes (Replace op dst a item) step = idle w turn w' step.3 step.0.1 refl
+  step_writes (Shuffle dst a b lanes) step = idle w turn w' step.3 step.0.1 refl
+  step_writes (VectorLoad op dst k ptr offset) step = idle w turn w' step.3 step.0.1 refl
+  step_writes (LoadLane op dst a k ptr offset) step = idle w turn w' step.3 step.0.1 refl
+  step_writes (VectorStore a k ptr offset) step = idle w turn w' step.3 step.0.1 refl
+  step_writes (StoreLane op a k ptr offset) step = idle w turn w' step.3 step.0.1 refl
 
 -- a run, by what is left at its start
 module _ {S : Type 0} (rules : Rules S) where
