@@ -12,9 +12,7 @@ use crate::script::{LimiterLine, QuotaLine, Script, parse};
 use std::alloc::{AllocError, Global};
 use std::fmt::Write;
 use std::{fmt, io};
-use wasmi_core::{
-    Call, Machine, NoLimits, Quota, Reply, ResourceLimiterRef, run, run_reserving,
-};
+use wasmi_core::{Call, Machine, NoLimits, Quota, Reply, ResourceLimiterRef, run, run_reserving};
 
 /// How a replay ended.
 #[derive(Clone, Copy, Debug, PartialEq, Eq)]
