@@ -57,7 +57,7 @@ const MORE_BAD_LINES: [&[u8]; 20] = [
     b"load i32_load32_s 0 0 0",
     b"load i32_store8 0 0 0",
     b"store i32_load8_u 0 0 0 0",
-    b"drop memory 0",
+    b"lent 1 none 16 32",
 ];
 
 // Lines of tables, element segments and globals.
