@@ -1,11 +1,11 @@
 -- What each turn writes, and what it is charged for that.
-use Rattle.std.proofs.Common.{◌≡◌, ◌⊎◌, ℕ, ◌+◌, ◌-◌, ◌*◌, ◌/◌, ◌^◌, ◌<◌, ◌≤◌, min, Bool, true, false, Option, Some, None, Result, Ok, Err, List, [], ◌∷◌, refl, sym, ap, subst, ◌∙◌, arith, inl, inr}
+use Rattle.std.proofs.Common.{◌≡◌, ◌⊎◌, ℕ, ◌+◌, ◌-◌, ◌*◌, ◌/◌, ◌^◌, ◌<◌, ◌≤◌, Bool, true, false, Option, Some, None, Result, Ok, Err, List, [], ◌∷◌, refl, ap, subst, ◌∙◌, arith, inl, inr}
 use Rattle.std.proofs.Math.Nat.{lt-div-mul-add, add-mul, mul-add, mul_comm, mul-le-mul_left}
 use Rattle.std.proofs.lemmas.Bool.{and_parts}
 use Rattle.std.proofs.lemmas.Bool.Decides.{nat_tests}
 use Rattle.std.proofs.lemmas.List.Sums.{sum_by-cons}
 use Rattle.std.proofs.lemmas.Option.{same_Some}
-use Rattle.std.specs.Prelude.{nat_eq, nat_le, nat_lt, is_some, cond, ◌&&◌, if◌then◌else◌, sum_by, count_by}
+use Rattle.std.specs.Prelude.{nat_eq, nat_le, nat_lt, is_some, cond, ◌&&◌, if◌then◌else◌}
 use Rattle.std.specs.Option.{option_map, option_map_or}
 use Rattle.wasmi_meter.specs.declared.error.MemoryError.{MemoryError}
 use Rattle.wasmi_meter.specs.declared.error.TableError.{TableError}
@@ -32,11 +32,11 @@ use Rattle.wasmi_core.specs.World.{World, Turn}
 use Rattle.wasmi_core.specs.Rows.{reply_of, ActsAt}
 use Rattle.wasmi_core.specs.MemoryRows.{bytes_appended}
 use Rattle.wasmi_core.specs.TableRows.{metered, WritesTableAt, WritesTableFrom, filling, copy_from, initialization_from, element_bytes}
-use Rattle.wasmi_core.specs.Steps.{Step, StepBy}
+use Rattle.wasmi_core.specs.Steps.{StepBy}
 use Rattle.wasmi_core.specs.Runs.{Run}
 use Rattle.wasmi_core.specs.Writing.{is_accepted, has_written, amount_set, writing_turns, charges_for_writing, bytes_written, amounts_set, IsBounded}
 use Rattle.wasmi_core.proofs.RowLemmas.{on_live, on_test}
-use Rattle.wasmi_core.proofs.AccountLemmas.{Takes, takes_nothing, grows_takes, write_takes}
+use Rattle.wasmi_core.proofs.AccountLemmas.{Takes, grows_takes, write_takes}
 
 -- the bytes that a fuel pays for
 abbrev rate : Meter → ℕ

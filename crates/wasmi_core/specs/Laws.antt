@@ -1,5 +1,5 @@
 -- What holds of all turns and runs of a machine.
-use Rattle.std.specs.Prelude.{◌≡◌, ◌<◌, ℕ, Option, Some, List}
+use Rattle.std.specs.Prelude.{◌≡◌, ◌<◌, ℕ, Option, Some, List, map}
 use Rattle.wasmi_meter.specs.Holdings.{Holdings}
 use Rattle.wasmi_meter.specs.Limiter.{Rules, optional_rules}
 use Rattle.wasmi_core.specs.declared.calls.Reply.{Reply}
@@ -10,6 +10,7 @@ use Rattle.wasmi_core.specs.Steps.{Step}
 use Rattle.wasmi_core.specs.Runs.{Run}
 use Rattle.wasmi_core.specs.Account.{opened, account_after, Balances}
 use Rattle.wasmi_core.specs.Exchange.{Exchanges}
+use Rattle.wasmi_core.specs.Determinism.{IsDeterministic, with_memory, HaveMemory}
 use Rattle.wasmi_core.specs.Writing.{IsBounded}
 use Rattle.wasmi_core.specs.Totals.{sizes, HoldsTotals}
 
@@ -57,6 +58,11 @@ module _ {S : Type 0} (rules : Rules S) where
   abbrev pub FuelBoundsWriting : Type 0
   FuelBoundsWriting = (w : World S) (left : ℕ) → w.state.meter.left ≡ Some left → 0 < w.state.meter.costs.bytes_copied_per_fuel
       → (turns : List Turn) (w' : World S) → Run rules w turns w' → IsBounded w.state.meter.costs.bytes_copied_per_fuel left turns
+
+-- where the limiter leaves no choice, two runs of one list of calls from one world, in which memory isn't wanting, are one
+abbrev pub RunsAreOne : {L : Type 0} → Rules L → Type 0
+RunsAreOne {L} rules = IsDeterministic rules → (w : World (Option L)) (turns turns' : List Turn) (v v' : World (Option L)) → map Turn.call turns ≡ map Turn.call turns'
+    → HaveMemory turns → HaveMemory turns' → Run (with_memory (optional_rules rules)) w turns v → Run (with_memory (optional_rules rules)) w turns' v' → (turns ≡ turns') × (v ≡ v')
 
 -- a limiter that holds the totals before a run is there after it, and holds the totals then
 abbrev pub HoldsTotalsAlways : {L : Type 0} → Rules L → (L → Holdings) → Type 0

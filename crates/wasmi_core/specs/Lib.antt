@@ -12,5 +12,6 @@ pub mod Totals
 pub mod Exchange
 pub mod Account
 pub mod Writing
+pub mod Determinism
 pub mod Laws
 pub mod AccessOps

@@ -1,6 +1,9 @@
 //! What holds of all runs. These functions do nothing: each states a law as its contract, for any limiter, of which a run may also have none.
-ghost use Rattle.wasmi_meter.specs.Limiter.{optional_rules};
-ghost use Rattle.wasmi_core.specs.Laws.{RefusalsKeepContents, GrowsAsPermitted, FuelBalances, FuelBoundsWriting, HoldsTotalsAlways};
+ghost use Rattle.wasmi_meter.specs.Limiter.{optional_rules, unlimited_rules};
+ghost use Rattle.wasmi_meter.specs.declared.limiter.NoLimits.{NoLimits};
+ghost use Rattle.wasmi_meter.specs.Quota.{quota_rules};
+ghost use Rattle.wasmi_core.specs.Determinism.{IsDeterministic};
+ghost use Rattle.wasmi_core.specs.Laws.{RefusalsKeepContents, GrowsAsPermitted, FuelBalances, FuelBoundsWriting, HoldsTotalsAlways, RunsAreOne};
 
 use wasmi_meter::{Reserving, ResourceLimiter};
 
@@ -32,4 +35,20 @@ pub fn totals_are_held<L: Reserving>()
 /// `IsBounded` gives each turn that writes less than one fuel's worth of bytes beyond what its charge pays for.
 pub fn fuel_bounds_writing<L: ResourceLimiter>()
     ensures { FuelBoundsWriting (optional_rules L.rules) }
+{}
+
+/// Where the limiter leaves no choice, two runs of one list of calls from one machine and one limiter are one, if in
+/// neither of them memory is wanting: no reply and no notice tells of it.
+pub fn runs_are_one<L: ResourceLimiter>()
+    ensures { RunsAreOne L.rules }
+{}
+
+/// The limiter that permits everything leaves no choice.
+pub fn no_limits_leave_no_choice()
+    ensures { IsDeterministic (unlimited_rules {S = NoLimits}) }
+{}
+
+/// A quota leaves no choice.
+pub fn quota_leaves_no_choice()
+    ensures { IsDeterministic quota_rules }
 {}

@@ -1,0 +1,37 @@
+-- Limiters that leave no choice, and runs in which memory isn't wanting.
+use Rattle.std.specs.Prelude.{◌≡◌, List, [], ◌∷◌}
+use Rattle.wasmi_meter.specs.declared.error.MemoryError.TheVariants as memory
+use Rattle.wasmi_meter.specs.declared.error.TableError.TheVariants as table
+use Rattle.wasmi_meter.specs.Limiter.{Question, Answer, Failure, MemoryFailure, TableFailure, Heed, Rules}
+use Rattle.wasmi_store.specs.declared.table.element.SegmentError.TheVariants as segment
+use Rattle.wasmi_core.specs.declared.calls.Reply.{Reply}
+use Rattle.wasmi_core.specs.declared.calls.Reply.TheVariants.{Memory, Table, Segment, NoRoom}
+use Rattle.wasmi_core.specs.World.{Turn}
+
+-- each question and each notice has one answer, and leaves one state
+pub record IsDeterministic {S : Type 0} (rules : Rules S) : Type 0 where
+  pub asked : (l : S) (question : Question) (answer answer' : Answer) (l' l'' : S) → rules.asked l question answer l' → rules.asked l question answer' l'' → (answer ≡ answer') × (l' ≡ l'')
+  pub noticed : (l : S) (failure : Failure) (heed heed' : Heed) (l' l'' : S) → rules.noticed l failure heed l' → rules.noticed l failure heed' l'' → (heed ≡ heed') × (l' ≡ l'')
+
+-- the failure isn't want of memory
+abbrev pub IsNoWant : Failure → Type 0
+IsNoWant (MemoryFailure memory.OutOfSystemMemory) = ⊥
+IsNoWant (TableFailure table.OutOfSystemMemory) = ⊥
+IsNoWant failure = Unit {0}
+
+-- the rules by which no limiter is told of want of memory
+abbrev pub with_memory : {S : Type 0} → Rules S → Rules S
+with_memory rules = record { asked = rules.asked; noticed = λ l failure heed l'. rules.noticed l failure heed l' × IsNoWant failure }
+
+-- the reply doesn't tell of want of memory
+abbrev pub HasMemory : Reply → Type 0
+HasMemory NoRoom = ⊥
+HasMemory (Memory memory.OutOfSystemMemory) = ⊥
+HasMemory (Table table.OutOfSystemMemory) = ⊥
+HasMemory (Segment segment.OutOfSystemMemory) = ⊥
+HasMemory reply = Unit {0}
+
+-- none of the turns does
+abbrev pub HaveMemory : List Turn → Type 0
+HaveMemory [] = Unit {0}
+HaveMemory (turn ∷ turns) = HasMemory turn.reply × HaveMemory turns
