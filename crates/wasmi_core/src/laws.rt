@@ -1,4 +1,5 @@
-//! What holds of all runs. These functions do nothing: each states a law as its contract, for any limiter, of which a run may also have none.
+//! What holds of all runs. These functions do nothing: each states a law as its contract, for any limiter, of which a
+//! run may also have none.
 ghost use Rattle.wasmi_meter.specs.Limiter.{optional_rules, unlimited_rules};
 ghost use Rattle.wasmi_meter.specs.declared.limiter.NoLimits.{NoLimits};
 ghost use Rattle.wasmi_meter.specs.Quota.{quota_rules};
