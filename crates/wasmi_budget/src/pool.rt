@@ -12,7 +12,7 @@ use std::marker::Model;
 use wasmi_core::{Call, Machine, Reply, run_reserving};
 
 /// Why a machine isn't added to a pool, in the order of the tests.
-#[derive(Debug, PartialEq, Eq)]
+#[derive(Debug, PartialEq, Eq, Drop)]
 pub enum AddError {
     /// The machine has bytes or elements, or had some that it dropped.
     NotEmpty,
@@ -21,7 +21,7 @@ pub enum AddError {
 }
 
 /// Why a pool makes no run, in the order of the tests.
-#[derive(Debug, PartialEq, Eq)]
+#[derive(Debug, PartialEq, Eq, Drop)]
 pub enum PoolError {
     /// No tenant has the index.
     NoTenant,
