@@ -20,7 +20,7 @@ use Rattle.wasmi_budget.specs.Amounts.{amount_of, amounts_of}
 use Rattle.wasmi_budget.specs.Tenant.{holdings, held_together, tenant_rules}
 use Rattle.wasmi_budget.specs.TenantLaws.{asked_reserves, noticed_gives_back}
 use Rattle.wasmi_budget.specs.Pool.{PoolValue, total_of, IsWithinCaps, IsKept, tenant_at, AddsTenant, RunsTenant}
-use Rattle.wasmi_budget.specs.Laws.{PoolTurn, Added, Ran, Refused, PoolStep, PoolRun}
+use Rattle.wasmi_budget.specs.Runs.{PoolTurn, Added, Ran, Refused, PoolStep, PoolRun}
 use Rattle.wasmi_budget.proofs.TenantLemmas.{StaysWithin, run_stays_within}
 
 module _ (machines : List State) (index : ℕ) (s : State) (found : slice_get machines index ≡ Some s) (kind : Kind) where
@@ -112,9 +112,9 @@ module _ (pool : PoolValue) (within : IsWithinCaps pool) (index : ℕ) (s : Stat
   ran_within turns ran = run_stays_within (tenant_at pool index s) first_stays.within _ (record { state = s'; limiter = Some tenant' }) turns tenant' refl refl ran
 
 -- what `Pool::run` has done: a tenant that the pool gave out, the machine that was read at its index, and what both have become
-module _ (pool : PoolValue) (index : ℕ) (tenant : Tenant) (given : option_map (tenant_at pool index) (slice_get pool.machines index) ≡ Some tenant) (s : State) (read : s ≡ get_or pool.machines index s) where
+module _ (pool now : PoolValue) (same : pool ≡ now) (index : ℕ) (tenant : Tenant) (given : option_map (tenant_at now index) (slice_get now.machines index) ≡ Some tenant) (s : State) (read : s ≡ get_or pool.machines index s) where
   machine_given : (x : State) × (slice_get pool.machines index ≡ Some x) × (tenant ≡ tenant_at pool index x)
-  machine_given = mapped (tenant_at pool index) (slice_get pool.machines index) tenant given
+  machine_given = mapped (tenant_at pool index) (slice_get pool.machines index) tenant (ap (λ p. option_map (tenant_at p index) (slice_get p.machines index)) same ∙ given)
 
   same_machine : machine_given.0 ≡ s
   same_machine = sym (read ∙ get_or_from_slice_get pool.machines index machine_given.0 s machine_given.1)
@@ -123,8 +123,8 @@ module _ (pool : PoolValue) (index : ℕ) (tenant : Tenant) (given : option_map 
   found_given = machine_given.1 ∙ ap Some same_machine
 
   -- the index is one of the pool's
-  pub given_inside : index < length pool.machines
-  given_inside = slice_get_within pool.machines index s found_given
+  pub given_inside : index < length now.machines
+  given_inside = subst (λ p. index < length p.machines) same (slice_get_within pool.machines index s found_given)
 
   -- the tenant is the one of the machine
   pub given_tenant : tenant ≡ tenant_at pool index s

@@ -2,4 +2,6 @@ pub mod Amounts
 pub mod Tenant
 pub mod TenantLaws
 pub mod Pool
+pub mod Runs
+pub mod Isolation
 pub mod Laws

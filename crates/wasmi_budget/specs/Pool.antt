@@ -1,8 +1,8 @@
 -- A pool of tenants: what its machines hold together, and what a run of one of them does.
-use Rattle.std.specs.Prelude.{◌≡◌, ◌≤◌, ◌<◌, ◌^◌, ◌++◌, ℕ, List, [], ◌∷◌, Some, None, slice_get, slice_set, sum_by, remove}
+use Rattle.std.specs.Prelude.{◌≡◌, ◌≤◌, ◌<◌, ◌^◌, ◌++◌, ℕ, List, [], ◌∷◌, Option, Some, None, slice_get, slice_set, sum_by, remove}
 use Rattle.wasmi_meter.specs.declared.limiter.Kind.{Kind}
 use Rattle.wasmi_meter.specs.declared.limiter.Kind.TheVariants.{Bytes, Elements}
-use Rattle.wasmi_meter.specs.Limiter.{optional_rules}
+use Rattle.wasmi_meter.specs.Limiter.{Rules, optional_rules}
 use Rattle.wasmi_core.specs.declared.calls.Call.{Call}
 use Rattle.wasmi_core.specs.declared.calls.Reply.{Reply}
 use Rattle.wasmi_core.specs.State.{State}
@@ -53,12 +53,16 @@ abbrev pub IsAddRefusal : State → AddError → Type 0
 IsAddRefusal s NotEmpty = ¬ HasNothing s
 IsAddRefusal s NoRoom = HasNothing s
 
--- the machine of an index has run these calls under its limiter, and all else is the same
-pub record RunsTenant (pool : PoolValue) (index : ℕ) (calls : List Call) (replies : List Reply) (pool' : PoolValue) : Type 0 where
+-- the machine of an index has run these calls under its limiter by some rules, and all else is the same
+pub record RunsTenantBy (rules : Rules (Option Tenant)) (pool : PoolValue) (index : ℕ) (calls : List Call) (replies : List Reply) (pool' : PoolValue) : Type 0 where
   pub machine : State
   pub found : slice_get pool.machines index ≡ Some machine
   pub machine' : State
   pub tenant' : Tenant
-  pub ran : IsRunOf (optional_rules tenant_rules) calls (record { state = machine; limiter = Some (tenant_at pool index machine) })
+  pub ran : IsRunOf rules calls (record { state = machine; limiter = Some (tenant_at pool index machine) })
       replies (record { state = machine'; limiter = Some tenant' })
   pub after : pool' ≡ record pool { machines = slice_set pool.machines index machine' }
+
+-- the same by a tenant's rules
+abbrev pub RunsTenant : PoolValue → ℕ → List Call → List Reply → PoolValue → Type 0
+RunsTenant = RunsTenantBy (optional_rules tenant_rules)

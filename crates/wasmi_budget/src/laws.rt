@@ -1,5 +1,5 @@
 //! What holds of all pools. These functions do nothing: each states a law as its contract.
-ghost use Rattle.wasmi_budget.specs.Laws.{CapsHold, OthersDontShow};
+ghost use Rattle.wasmi_budget.specs.Laws.{CapsHold, OthersDontShow, RunsAsAlone};
 
 /// From a pool whose machines are within its caps, as a new one's are, all calls lead to one whose machines are within
 /// the same caps.
@@ -11,4 +11,10 @@ pub fn caps_hold()
 /// machine, where they hold nothing.
 pub fn others_do_not_show()
     ensures { OthersDontShow }
+{}
+
+/// A tenant that is never denied gets, run after run, what it gets in a pool of its own with the same caps, whatever
+/// the others do in between.
+pub fn permitted_runs_as_alone()
+    ensures { RunsAsAlone }
 {}
