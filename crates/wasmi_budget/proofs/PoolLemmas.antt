@@ -112,50 +112,54 @@ module _ (pool : PoolValue) (within : IsWithinCaps pool) (index : ℕ) (s : Stat
   ran_within turns ran = run_stays_within (tenant_at pool index s) first_stays.within _ (record { state = s'; limiter = Some tenant' }) turns tenant' refl refl ran
 
 -- what `Pool::run` has done: a tenant that the pool gave out, the machine that was read at its index, and what both have become
-module _ (pool now : PoolValue) (same : pool ≡ now) (index : ℕ) (tenant : Tenant) (given : option_map (tenant_at now index) (slice_get now.machines index) ≡ Some tenant) (s : State) (read : s ≡ get_or pool.machines index s) where
+module _ (pool now : PoolValue) (same : pool ≡ now) (index : ℕ) (tenant : Tenant) (given : option_map (tenant_at now index) (slice_get now.machines index) ≡ Some tenant) where
   machine_given : (x : State) × (slice_get pool.machines index ≡ Some x) × (tenant ≡ tenant_at pool index x)
   machine_given = mapped (tenant_at pool index) (slice_get pool.machines index) tenant (ap (λ p. option_map (tenant_at p index) (slice_get p.machines index)) same ∙ given)
 
-  same_machine : machine_given.0 ≡ s
-  same_machine = sym (read ∙ get_or_from_slice_get pool.machines index machine_given.0 s machine_given.1)
-
-  found_given : slice_get pool.machines index ≡ Some s
-  found_given = machine_given.1 ∙ ap Some same_machine
-
   -- the index is one of the pool's
-  pub given_inside : index < length now.machines
-  given_inside = subst (λ p. index < length p.machines) same (slice_get_within pool.machines index s found_given)
+  pub given_inside : index < length pool.machines
+  given_inside = slice_get_within pool.machines index machine_given.0 machine_given.1
 
-  -- the tenant is the one of the machine
-  pub given_tenant : tenant ≡ tenant_at pool index s
-  given_tenant = machine_given.2 ∙ ap (tenant_at pool index) same_machine
+  module _ (s : State) (read : s ≡ get_or pool.machines index s) where
+    same_machine : machine_given.0 ≡ s
+    same_machine = sym (read ∙ get_or_from_slice_get pool.machines index machine_given.0 s machine_given.1)
 
-  module _ (s' : State) (tenant' : Tenant) (calls : List Call) where
-    given_ran : (replies : List Reply) → IsRunOf (optional_rules tenant_rules) calls (record { state = s; limiter = Some tenant }) replies (record { state = s'; limiter = Some tenant' })
-        → IsRunOf (optional_rules tenant_rules) calls (record { state = s; limiter = Some (tenant_at pool index s) }) replies (record { state = s'; limiter = Some tenant' })
-    given_ran replies ran = subst (λ t. IsRunOf (optional_rules tenant_rules) calls (record { state = s; limiter = Some t }) replies (record { state = s'; limiter = Some tenant' })) given_tenant ran
+    found_given : slice_get pool.machines index ≡ Some s
+    found_given = machine_given.1 ∙ ap Some same_machine
 
-    -- an accepted run
-    pub given_runs : (replies : List Reply) → IsRunOf (optional_rules tenant_rules) calls (record { state = s; limiter = Some tenant }) replies (record { state = s'; limiter = Some tenant' })
-        → RunsTenant pool index calls replies (record pool { machines = slice_set pool.machines index s' })
-    given_runs replies ran = record {
-      machine = s;
-      found = found_given;
-      machine' = s';
-      tenant' = tenant';
-      ran = given_ran replies ran;
-      after = refl;
-    }
+    given_tenant : tenant ≡ tenant_at pool index s
+    given_tenant = machine_given.2 ∙ ap (tenant_at pool index) same_machine
 
-    -- the pool stays within its caps, by the two outcomes
-    pub given_within : {R E : Type 0} (items : R → List Reply) (result : Result R E) → IsWithinCaps pool
-        → IfOk result (λ replies. IsRunOf (optional_rules tenant_rules) calls (record { state = s; limiter = Some tenant }) (items replies) (record { state = s'; limiter = Some tenant' }))
-        → OnErr result ((s' ≡ s) × (tenant' ≡ tenant)) → HoldsTotals (holdings tenant') s' → IsWithinCaps (record pool { machines = slice_set pool.machines index s' })
-    given_within items (Ok replies) within ran same held =
-        let own = given_ran (items replies) ran in
-        replaced_within pool within index s found_given s' tenant' (ran_within pool within index s found_given s' tenant' own.0 own.3) held
-    given_within items (Err error) within ran same held =
-        replaced_within pool within index s found_given s' tenant' (subst (StaysWithin (tenant_at pool index s)) (sym (same.1 ∙ given_tenant)) (first_stays pool within index s found_given s' tenant')) held
+    -- the tenant holds what its machine has
+    pub given_holds : HoldsTotals (holdings tenant) s
+    given_holds = subst (λ t. HoldsTotals (holdings t) s) (sym given_tenant) (record { bytes = refl; elements = refl })
+
+    module _ (s' : State) (tenant' : Tenant) (calls : List Call) where
+      given_ran : (replies : List Reply) → IsRunOf (optional_rules tenant_rules) calls (record { state = s; limiter = Some tenant }) replies (record { state = s'; limiter = Some tenant' })
+          → IsRunOf (optional_rules tenant_rules) calls (record { state = s; limiter = Some (tenant_at pool index s) }) replies (record { state = s'; limiter = Some tenant' })
+      given_ran replies ran = subst (λ t. IsRunOf (optional_rules tenant_rules) calls (record { state = s; limiter = Some t }) replies (record { state = s'; limiter = Some tenant' })) given_tenant ran
+
+      -- an accepted run
+      pub given_runs : (replies : List Reply) → IsRunOf (optional_rules tenant_rules) calls (record { state = s; limiter = Some tenant }) replies (record { state = s'; limiter = Some tenant' })
+          → RunsTenant pool index calls replies (record pool { machines = slice_set pool.machines index s' })
+      given_runs replies ran = record {
+        machine = s;
+        found = found_given;
+        machine' = s';
+        tenant' = tenant';
+        ran = given_ran replies ran;
+        after = refl;
+      }
+
+      -- the pool stays within its caps, by the two outcomes
+      pub given_within : {R E : Type 0} (items : R → List Reply) (result : Result R E) → IsWithinCaps pool
+          → IfOk result (λ replies. IsRunOf (optional_rules tenant_rules) calls (record { state = s; limiter = Some tenant }) (items replies) (record { state = s'; limiter = Some tenant' }))
+          → OnErr result ((s' ≡ s) × (tenant' ≡ tenant)) → HoldsTotals (holdings tenant') s' → IsWithinCaps (record pool { machines = slice_set pool.machines index s' })
+      given_within items (Ok replies) within ran same held =
+          let own = given_ran (items replies) ran in
+          replaced_within pool within index s found_given s' tenant' (ran_within pool within index s found_given s' tenant' own.0 own.3) held
+      given_within items (Err error) within ran same held =
+          replaced_within pool within index s found_given s' tenant' (subst (StaysWithin (tenant_at pool index s)) (sym (same.1 ∙ given_tenant)) (first_stays pool within index s found_given s' tenant')) held
 
 -- a run keeps the pool within its caps
 pub runs_within : (pool : PoolValue) (index : ℕ) (calls : List Call) (replies : List Reply) (pool' : PoolValue) → IsWithinCaps pool → RunsTenant pool index calls replies pool' → IsWithinCaps pool'

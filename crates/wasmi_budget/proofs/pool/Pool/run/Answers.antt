@@ -1,7 +1,17 @@
-use Rattle.std.proofs.Common.{◌∙◌, arith, sym}
-use Rattle.wasmi_budget.proofs.PoolLemmas.{given_inside, given_runs, given_within}
+use Rattle.std.proofs.Common.{◌∙◌, ap, arith, length, sym}
+use Rattle.wasmi_budget.specs.Pool.{PoolValue}
+use Rattle.wasmi_budget.proofs.PoolLemmas.{given_inside, given_holds, given_runs, given_within}
 use Rattle.wasmi_budget.proofs.pool.Pool.run.Goals as goal
 use Rattle.wasmi_budget.proofs.pool.Pool.run.Goals.{in-Ok, in-Err}
+
+pub index_mut-machine-requires : goal.index_mut-machine-requires
+index_mut-machine-requires c =
+    let inside = given_inside _ c.args.self.now c.self.view_is c.args.index c.in-Some.tenant (sym c.tenant.ensures ∙ c.in-Some.is) in
+    omega (arith, inside, c.self.inside.machines.ok)
+
+pub run_reserving-requires : goal.run_reserving-requires
+run_reserving-requires c =
+    given_holds _ c.args.self.now c.self.view_is c.args.index c.in-Some.tenant (sym c.tenant.ensures ∙ c.in-Some.is) c.index_mut-machine.result.now c.index_mut-machine.ensures.value
 
 pub invariant_of-self : goal.invariant_of-self
 invariant_of-self c =
@@ -21,8 +31,9 @@ returns-clause-ran c =
 
 pub returns-clause-no_tenant : goal.returns-clause-no_tenant
 returns-clause-no_tenant c =
-    let inside = given_inside _ c.args.self.now c.self.view_is c.args.index c.in-Some.tenant (sym c.tenant.ensures ∙ c.in-Some.is) c.index_mut-machine.result.now c.index_mut-machine.ensures.value in
+    let inside = given_inside _ c.args.self.now c.self.view_is c.args.index c.in-Some.tenant (sym c.tenant.ensures ∙ c.in-Some.is) in
+    let machines = ap (λ (pool : PoolValue). length pool.machines) c.self.view_is in
     elim c.match-run_reserving.branch [
-      | in-Ok w ↦ rw w.result-is (λ error. absurd cc, λ past. absurd (omega (arith, past, inside)))
-      | in-Err w ↦ rw w.result-is (λ error. absurd cc, λ past. absurd (omega (arith, past, inside)))
+      | in-Ok w ↦ rw w.result-is (λ error. absurd cc, λ past. absurd (omega (arith, past, inside, machines)))
+      | in-Err w ↦ rw w.result-is (λ error. absurd cc, λ past. absurd (omega (arith, past, inside, machines)))
     ]
