@@ -1,0 +1,29 @@
+-- What holds of all calls on a pool, and of all runs of a tenant's machine.
+use Rattle.std.specs.Prelude.{◌≡◌, ℕ, Some, List, [], ◌∷◌, slice_get}
+use Rattle.wasmi_meter.specs.Limiter.{optional_rules}
+use Rattle.wasmi_core.specs.State.{State}
+use Rattle.wasmi_core.specs.World.{Turn}
+use Rattle.wasmi_core.specs.Runs.{Run}
+use Rattle.wasmi_budget.specs.declared.tenant.Tenant.{Tenant}
+use Rattle.wasmi_budget.specs.Tenant.{tenant_rules, alone}
+use Rattle.wasmi_budget.specs.Pool.{PoolValue, IsWithinCaps}
+use Rattle.wasmi_budget.specs.Runs.{PoolTurn, PoolRun}
+use Rattle.wasmi_budget.specs.Isolation.{permitting, PermittingRun, own_turns}
+
+-- after all calls the caps are the same, and all machines together are within them
+abbrev pub CapsHold : Type 0
+CapsHold = (pool : PoolValue) → IsWithinCaps pool → (turns : List PoolTurn) (pool' : PoolValue) → PoolRun pool turns pool'
+    → (pool'.caps ≡ pool.caps) × IsWithinCaps pool'
+
+-- a run in which each question is permitted is one, with the same turns and the same machine, where the others hold nothing
+abbrev pub OthersDontShow : Type 0
+OthersDontShow = (s s' : State) (tenant tenant' : Tenant) (turns : List Turn)
+    → Run (permitting (optional_rules tenant_rules)) (record { state = s; limiter = Some tenant }) turns (record { state = s'; limiter = Some tenant' })
+    → Run (optional_rules tenant_rules) (record { state = s; limiter = Some (alone tenant) }) turns (record { state = s'; limiter = Some (alone tenant') })
+
+-- a tenant that is never denied gets, run after run, what it gets alone under the same caps
+abbrev pub RunsAsAlone : Type 0
+RunsAsAlone = (pool : PoolValue) (index : ℕ) (s : State) → slice_get pool.machines index ≡ Some s
+    → (turns : List PoolTurn) (pool' : PoolValue) → PermittingRun index pool turns pool'
+    → (s' : State) × (slice_get pool'.machines index ≡ Some s')
+    × PoolRun (record { caps = pool.caps; machines = s ∷ [] }) (own_turns index turns) (record { caps = pool.caps; machines = s' ∷ [] })

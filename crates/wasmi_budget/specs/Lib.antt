@@ -1,0 +1,7 @@
+pub mod Amounts
+pub mod Tenant
+pub mod TenantLaws
+pub mod Pool
+pub mod Runs
+pub mod Isolation
+pub mod Laws
