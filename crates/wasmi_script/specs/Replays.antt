@@ -17,6 +17,8 @@ use Rattle.wasmi_script.specs.declared.script.header.LimiterLine.TheVariants as 
 use Rattle.wasmi_script.specs.declared.script.header.QuotaLine.{QuotaLine}
 use Rattle.wasmi_script.specs.declared.replaying.Held.{Held}
 use Rattle.wasmi_script.specs.declared.replaying.Ran.{Ran}
+use Rattle.wasmi_script.specs.declared.answering.AnswerList.{AnswerList}
+use Rattle.wasmi_script.specs.Answers.{IsNewList, answer_rules}
 use Rattle.wasmi_script.specs.Headers.{meter_of}
 
 -- what a limiter holds that has permitted nothing yet
@@ -41,6 +43,8 @@ IsReplayUnder None start calls ran = (ran.held ≡ None) × (after : World (Opti
 IsReplayUnder (Some (Lines.Quota line)) start calls ran = (quota : Quota) × IsNewQuota line quota × (end : State) × (after : Quota)
     × IsRunOf (optional_rules quota_rules) calls (record { state = start; limiter = Some quota }) ran.replies.items (record { state = end; limiter = Some after })
     × HoldsTotals (holdings after) end × (ran.held ≡ Some (printed_holdings after))
+IsReplayUnder (Some (Lines.Answers words)) start calls ran = (ran.held ≡ None) × (list : AnswerList) × IsNewList words.items list × (after : World (Option AnswerList))
+    × IsRunOf (optional_rules answer_rules) calls (record { state = start; limiter = Some list }) ran.replies.items after
 
 -- the replies are those of a run of the script's calls on a new machine with its meter
 abbrev pub IsReplayOf : Script → Ran → Type 0

@@ -5,14 +5,15 @@ ghost use Rattle.wasmi_core.specs.Totals.{HoldsTotals};
 ghost use Rattle.wasmi_script.specs.Replays.{IsReplayOf, IsReplayUnder, nothing_held};
 ghost use Rattle.wasmi_script.specs.Status.{status_number, status_after};
 
+use crate::answering::AnswerList;
 use crate::error::ReplayError;
 use crate::print::{Printer, ReplyLine};
 use crate::reading::{LIMIT, read};
-use crate::script::{LimiterLine, QuotaLine, Script, parse};
+use crate::script::{AnswerWord, LimiterLine, QuotaLine, Script, parse};
 use std::alloc::{AllocError, Global};
 use std::fmt::Write;
 use std::{fmt, io};
-use wasmi_core::{Call, Machine, NoLimits, Quota, Reply, ResourceLimiterRef, run, run_reserving};
+use wasmi_core::{Call, Machine, NoLimits, Quota, Reply, ResourceLimiterRef, run, run_lending, run_reserving};
 
 /// How a replay ended.
 #[derive(Clone, Copy, Debug, PartialEq, Eq)]
@@ -100,6 +101,7 @@ fn run_script(alloc: Global, script: &Script) -> Result<Ran, AllocError>
     match &script.header.limiter {
         None => run_freely(&mut machine, &script.calls),
         Some(LimiterLine::Quota(line)) => run_under_quota(&mut machine, &script.calls, *line),
+        Some(LimiterLine::Answers(words)) => run_answered(&mut machine, &script.calls, words),
     }
 }
 
@@ -133,6 +135,22 @@ fn run_under_quota(
     Ok(Ran {
         replies,
         held: Some(held),
+    })
+}
+
+/// Runs the calls under a limiter that answers from a list of words.
+fn run_answered(
+    machine: &mut Machine,
+    calls: &[Call],
+    words: &Vec<AnswerWord>,
+) -> Result<Ran, AllocError>
+    ensures { IfOk result (IsReplayUnder (Some (LimiterLine.Answers words.now)) machine.old calls.now) }
+{
+    let mut limiter = AnswerList::new(words);
+    let replies = run_lending(machine, calls, &mut limiter)?;
+    Ok(Ran {
+        replies,
+        held: None,
     })
 }
 

@@ -12,7 +12,7 @@ mod types;
 use crate::error::ReplayError;
 use command::command;
 use header::Header;
-pub use header::{LimiterLine, QuotaLine};
+pub use header::{AnswerWord, LimiterLine, QuotaLine};
 use line::{LineError, words_of};
 use std::alloc::Global;
 use std::str;
@@ -43,9 +43,9 @@ impl Script {
                 self.expect_no_commands()?;
                 self.header.take_meter(words)
             }
-            ["quota", ..] => {
+            ["quota", ..] | ["answers", ..] => {
                 self.expect_no_commands()?;
-                self.header.take_limiter(words)
+                self.header.take_limiter(alloc, words)
             }
             _ => {
                 self.calls.push(command(alloc, words)?)?;

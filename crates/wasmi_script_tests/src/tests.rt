@@ -4,6 +4,7 @@ mod comparison;
 mod outcomes;
 mod printing;
 mod reading;
+mod refusing;
 mod streams;
 mod tables;
 mod values;

@@ -1,10 +1,15 @@
 //! The header lines of a script.
-ghost use Rattle.std.specs.Prelude.{◌≡◌, None, IsSomeAnd, IfErr, OnOk, OnErr};
+ghost use Rattle.std.specs.Prelude.{◌≡◌, codes, None, IsSomeAnd, IfErr, OnOk, OnErr};
 ghost use Rattle.wasmi_script.specs.Acceptance.{Accepts};
-ghost use Rattle.wasmi_script.specs.Headers.{NamesMeter, NamesLimiter, meter_of};
+ghost use Rattle.wasmi_script.specs.Headers.{NamesMeter, NamesLimiter, NamesLimiterAfter, meter_of};
+
+mod answers;
 
 use super::line::LineError;
 use super::number::number;
+pub use answers::AnswerWord;
+use answers::answers_of;
+use std::alloc::Global;
 use wasmi_core::{CustomFuelCosts, Fuel, FuelCostsProvider};
 
 /// What a `meter` line says.
@@ -21,6 +26,8 @@ pub enum MeterLine {
 pub enum LimiterLine {
     /// `quota B E`.
     Quota(QuotaLine),
+    /// `answers W ...`, which may have no word: one for each question, in order.
+    Answers(Vec<AnswerWord>),
 }
 
 /// What a `quota` line says: the most bytes and the most elements that the limiter permits, of all memories and of all
@@ -60,7 +67,7 @@ impl Header {
     }
 
     /// Takes in a limiter line, of which a script has at most one.
-    pub fn take_limiter(&mut self, words: &[&str]) -> Result<(), LineError>
+    pub fn take_limiter(&mut self, alloc: Global, words: &[&str]) -> Result<(), LineError>
         ensures first { OnOk result (self.old.limiter ≡ None) }
         ensures limiter { OnOk result (IsSomeAnd self.new.limiter (NamesLimiter words.now)) }
         ensures others { self.new.meter ≡ self.old.meter }
@@ -71,7 +78,7 @@ impl Header {
         if self.limiter.is_some() {
             return Err(LineError::BadCommand);
         }
-        self.limiter = Some(limiter_line(words)?);
+        self.limiter = Some(limiter_line(alloc, words)?);
         Ok(())
     }
 
@@ -104,15 +111,33 @@ fn meter_line(words: &[&str]) -> Result<MeterLine, LineError>
     }
 }
 
-/// What the words of a limiter line say.
-fn limiter_line(words: &[&str]) -> Result<LimiterLine, LineError>
+/// What the words of a limiter line say: the first word which limiter, the others how it answers.
+fn limiter_line(alloc: Global, words: &[&str]) -> Result<LimiterLine, LineError>
     ensures { Accepts result (NamesLimiter words.now) }
 {
     match words {
-        ["quota", bytes, elements] => Ok(LimiterLine::Quota(QuotaLine {
-            bytes: number(bytes)?,
-            elements: number(elements)?,
-        })),
+        ["quota", operands @ ..] => quota(operands),
+        ["answers", operands @ ..] => listed(alloc, operands),
         _ => Err(LineError::BadCommand),
     }
+}
+
+/// `quota B E`.
+fn quota(operands: &[&str]) -> Result<LimiterLine, LineError>
+    ensures { Accepts result (NamesLimiterAfter (codes "quota") operands.now) }
+{
+    let [bytes, elements] = operands else {
+        return Err(LineError::BadCommand);
+    };
+    Ok(LimiterLine::Quota(QuotaLine {
+        bytes: number(bytes)?,
+        elements: number(elements)?,
+    }))
+}
+
+/// `answers W ...`, which may have no word.
+fn listed(alloc: Global, operands: &[&str]) -> Result<LimiterLine, LineError>
+    ensures { Accepts result (NamesLimiterAfter (codes "answers") operands.now) }
+{
+    Ok(LimiterLine::Answers(answers_of(alloc, operands)?))
 }
