@@ -17,7 +17,7 @@ use Rattle.wasmi_store.specs.Table as table
 use Rattle.wasmi_store.specs.Table.{TableValue, TableWrite, size_of, GrowsTable, GrowsTableRaw, WritesTable, EndsBy, due_for}
 use Rattle.wasmi_store.specs.TableType.{same_type}
 use Rattle.wasmi_core.specs.declared.calls.Call.{Call}
-use Rattle.wasmi_core.specs.declared.calls.Call.TheVariants.{SetFuel, GetFuel, NewMemory, GrowMemory, DropMemory, Read, Write, Load, Store, NewTable, GrowTable, DropTable, GetElement, SetElement, InitTable, CopyTable, FillTable, NewSegment, DropItems, NewGlobal, SetGlobal, GetGlobal, SetRegister, GetRegister, Make, Unary, Binary, Ternary, Shift, Test, Extract, Replace, Shuffle, VectorLoad, LoadLane, VectorStore, StoreLane}
+use Rattle.wasmi_core.specs.declared.calls.Call.TheVariants.{SetFuel, GetFuel, NewMemory, NewLentMemory, GrowMemory, DropMemory, Read, Write, Load, Store, NewTable, GrowTable, DropTable, GetElement, SetElement, InitTable, CopyTable, FillTable, NewSegment, DropItems, NewGlobal, SetGlobal, GetGlobal, SetRegister, GetRegister, Make, Unary, Binary, Ternary, Shift, Test, Extract, Replace, Shuffle, VectorLoad, LoadLane, VectorStore, StoreLane}
 use Rattle.wasmi_core.specs.declared.calls.Reply.{Reply}
 use Rattle.wasmi_core.specs.declared.calls.Reply.TheVariants as replied
 use Rattle.wasmi_core.specs.declared.slots.Slot.{Slot}
@@ -140,6 +140,7 @@ module _ {S : Type 0} (rules : Rules S) (account : Account) (w : World S) (turn 
   step_balances (SetFuel fuel) step balances = (fuel, ap (λ (v : World S). v.state.meter.left) step.3 ∙ (ap (λ (s : State). s.meter.left) step.2.1 ∙ ap (option_map (λ n. fuel)) balances.1), omega arith)
   step_balances GetFuel step balances = uncharged account w turn w' balances step.2 step.0.0 refl
   step_balances (NewMemory ty) step balances = uncharged account w turn w' balances step.4 step.0.0 refl
+  step_balances (NewLentMemory ty) step balances = uncharged account w turn w' balances step.4 step.0.0 refl
   step_balances (GrowMemory k pages) step balances = charged account w turn w' balances step.5 (memory_growth_takes rules k pages w.state.memories w.state.meter w.limiter turn.reply turn.charge step.0 step.1 step.2 step.3)
   step_balances (DropMemory k) step balances = uncharged account w turn w' balances step.3 step.0.0 refl
   step_balances (Read k offset len) step balances = uncharged account w turn w' balances step.2 step.0.0 refl

@@ -34,6 +34,7 @@ use Rattle.wasmi_typed.specs.declared.typed_ref.TypedRawRef.{TypedRawRef}
 use Rattle.wasmi_typed.specs.Global.{GlobalInstance, SetsGlobal}
 use Rattle.wasmi_store.specs.Buffer.{Room, Owned, Lent, LacksMemory}
 use Rattle.wasmi_store.specs.Growth.{Growth, Makes, Grows}
+use Rattle.wasmi_store.specs.MemoryType.{MemoryTypeValue}
 use Rattle.wasmi_store.specs.Memory.{MemoryValue, pages_of, new_memory, MakesMemory, GrowsMemory, WritesMemory}
 use Rattle.wasmi_store.specs.Memory as memory
 use Rattle.wasmi_store.specs.Segment.{SegmentValue}
@@ -43,16 +44,16 @@ use Rattle.wasmi_store.specs.Table.{TableValue, TableWrite, size_of, new_table, 
 use Rattle.wasmi_store.specs.Table as table
 use Rattle.wasmi_store.specs.TableType.{same_type}
 use Rattle.wasmi_core.specs.declared.calls.Call.{Call}
-use Rattle.wasmi_core.specs.declared.calls.Call.TheVariants.{SetFuel, GetFuel, NewMemory, GrowMemory, DropMemory, Read, Write, Load, Store, NewTable, GrowTable, DropTable, GetElement, SetElement, InitTable, CopyTable, FillTable, NewSegment, DropItems, NewGlobal, SetGlobal, GetGlobal, SetRegister, GetRegister, Make, Unary, Binary, Ternary, Shift, Test, Extract, Replace, Shuffle, VectorLoad, LoadLane, VectorStore, StoreLane}
+use Rattle.wasmi_core.specs.declared.calls.Call.TheVariants.{SetFuel, GetFuel, NewMemory, NewLentMemory, GrowMemory, DropMemory, Read, Write, Load, Store, NewTable, GrowTable, DropTable, GetElement, SetElement, InitTable, CopyTable, FillTable, NewSegment, DropItems, NewGlobal, SetGlobal, GetGlobal, SetRegister, GetRegister, Make, Unary, Binary, Ternary, Shift, Test, Extract, Replace, Shuffle, VectorLoad, LoadLane, VectorStore, StoreLane}
 use Rattle.wasmi_core.specs.declared.calls.Reply.{Reply}
 use Rattle.wasmi_core.specs.declared.calls.Reply.TheVariants as replied
 use Rattle.wasmi_core.specs.declared.slots.Slot.{Slot}
 use Rattle.wasmi_core.specs.declared.slots.Slot.TheVariants.{Live}
 use Rattle.wasmi_core.specs.AccessOps.{loaded_raw, stored_bytes}
-use Rattle.wasmi_core.specs.State.{State, live_at, with_memories, with_tables, with_segments, with_globals, with_registers}
+use Rattle.wasmi_core.specs.State.{State, live_at, MemoryPart, memory_part, with_memory_part, with_memories, with_tables, with_segments, with_globals, with_registers}
 use Rattle.wasmi_core.specs.World.{World, Turn, IsFree}
 use Rattle.wasmi_core.specs.Rows.{reply_of, OnLive, ActsAt, AppendsSlot, Creates, ChangesAt, DropsAt}
-use Rattle.wasmi_core.specs.MemoryRows.{bytes_appended, ReadsBytes, ReadsMemoryAt, WritesMemoryAt, StoresMemory, StoresMemoryAt}
+use Rattle.wasmi_core.specs.MemoryRows.{bytes_appended, spare_after, CreatesLent, ReadsBytes, ReadsMemoryAt, WritesMemoryAt, StoresMemory, StoresMemoryAt}
 use Rattle.wasmi_core.specs.TableRows.{Metered, metered, SetsElementAt, WritesTableAt, WritesTableFrom, filling, copy_from, initialization_from, element_bytes}
 use Rattle.wasmi_core.specs.ValueRows.{IsSegmentOf, CreatesSegment, DropsItemsAt, CreatesGlobal, SetsGlobalAt}
 use Rattle.wasmi_core.specs.RegisterRows.{TakesAt, StoresVectorAt, given_vector, of_one, of_two, of_three, vector_loaded, lane_loaded, vector_at}
@@ -155,6 +156,15 @@ creates_same refusal Makes same slots l reply reply' slots' slots'' l' l'' room 
     let made = same l result result' l' l'' makes makes' in
     let put = appends_same refusal result slots reply reply' slots' slots'' appends (subst (λ r. AppendsSlot refusal r slots reply' slots'') (sym made.0) appends') in
     (put.0, put.1, made.1)
+
+-- a creation in the spare region
+lent_same : {S : Type 0} (rules : Rules S) → IsDeterministic rules → (ty : MemoryTypeValue) (part : MemoryPart) (l : S) (reply reply' : Reply) (part' part'' : MemoryPart) (l' l'' : S) → HasMemory reply → HasMemory reply'
+    → CreatesLent (with_memory rules) ty part l reply part' l' → CreatesLent (with_memory rules) ty part l reply' part'' l'' → (reply ≡ reply') × (part' ≡ part'') × (l' ≡ l'')
+lent_same rules once ty part l reply reply' part' part'' l' l'' room room' a b =
+    on_both part.spare _ _ _ _ a b (λ h h'. (h.0 ∙ sym h'.0, h.1 ∙ sym h'.1, h.2 ∙ sym h'.2))
+    (λ region h h'. let same = creates_same replied.Memory (MakesMemory (with_memory rules) (Lent region) ty) (makes_same rules once (memory.creation_of (Lent region) ty) (memory_wants (Lent region)) (new_memory (Lent region) ty)) part.slots l reply reply' part'.slots part''.slots l' l'' room room' h.0 h'.0 in
+    let spare = h.1 ∙ ap (λ r. spare_after r part.spare) same.0 ∙ sym h'.1 in
+    (same.0, λ i. record { slots = same.1 i; spare = spare i }, same.2))
 
 changes_same : {X : Type 0} (k : ℕ) (slots : List (Slot X)) (reply reply' : Reply) (slots' slots'' : List (Slot X)) (Change Change' : X → X → Type 0) → ((x x' x'' : X) → Change x x' → Change' x x'' → (reply ≡ reply') × (x' ≡ x''))
     → ChangesAt k slots reply slots' Change → ChangesAt k slots reply' slots'' Change' → (reply ≡ reply') × (slots' ≡ slots'')
@@ -342,6 +352,7 @@ module _ {S : Type 0} (rules : Rules S) (once : IsDeterministic rules) (w : Worl
   step_same (SetFuel fuel) step step' = changed w t t' v v' (λ s. s) step.1 step'.1 step.0 step'.0 (step.2.0 ∙ sym step'.2.0, step.2.1 ∙ sym step'.2.1) step.3 step'.3
   step_same GetFuel step step' = free w t t' v v' step.0 step'.0 (step.1 ∙ sym step'.1) step.2 step'.2
   step_same (NewMemory ty) step step' = asked w t t' v v' (with_memories w.state) step.1 step'.1 step.2 step'.2 step.0 step'.0 (creates_same replied.Memory (MakesMemory (with_memory rules) Owned ty) (makes_same rules once (memory.creation_of Owned ty) (memory_wants Owned) (new_memory Owned ty)) w.state.memories w.limiter t.reply t'.reply step.1 step'.1 step.2 step'.2 room room' step.3 step'.3) step.4 step'.4
+  step_same (NewLentMemory ty) step step' = asked w t t' v v' (with_memory_part w.state) step.1 step'.1 step.2 step'.2 step.0 step'.0 (lent_same rules once ty (memory_part w.state) w.limiter t.reply t'.reply step.1 step'.1 step.2 step'.2 room room' step.3 step'.3) step.4 step'.4
   step_same (GrowMemory k pages) step step' = paid w t t' v v' (with_memories w.state) step.0 step'.0 step.1 step'.1 (bytes_appended (live_at w.state.memories k) pages) step.2 step'.2 (acts_same (GrowsMemory (with_memory rules) pages) (λ s. grows_same rules once (record { amount = pages; size = pages_of s.value; effort = memory.growth_of s.value pages }) (memory_wants s.value.room) s) k (reply_of replied.Number replied.Memory) (record { value = w.state.memories; meter = Some w.state.meter; limiter = w.limiter }) t.reply t'.reply t.charge t'.charge (record { value = step.0; meter = Some step.1; limiter = step.2 }) (record { value = step'.0; meter = Some step'.1; limiter = step'.2 }) step.3 step'.3) step.4 step'.4 step.5 step'.5
   step_same (DropMemory k) step step' = changed w t t' v v' (with_memories w.state) step.1 step'.1 step.0 step'.0 (drops_same byte_count k w.state.memories t.reply t'.reply step.1 step'.1 step.2 step'.2) step.3 step'.3
   step_same (Read k offset len) step step' = free w t t' v v' step.0 step'.0 (reads_same k offset len w.state.memories t.reply t'.reply room room' step.1 step'.1) step.2 step'.2

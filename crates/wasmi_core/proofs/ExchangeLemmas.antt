@@ -19,7 +19,7 @@ use Rattle.wasmi_meter.specs.Meter.{Meter}
 use Rattle.wasmi_meter.specs.Attempt.{Situation, Effort, Fate, Unasked, Denied, Met, Failed, MayEnd, Follows, value_after, answer_of}
 use Rattle.wasmi_typed.specs.declared.typed_ref.TypedRawRef.{TypedRawRef}
 use Rattle.wasmi_store.specs.Growth.{Growth, Grows, Makes}
-use Rattle.wasmi_store.specs.Buffer.{Room, Owned}
+use Rattle.wasmi_store.specs.Buffer.{Room, Owned, Lent}
 use Rattle.wasmi_store.specs.MemoryType.{MemoryTypeValue, page_bytes, minimum_bytes}
 use Rattle.wasmi_store.specs.Memory.{MemoryValue, pages_of, new_memory, MakesMemory, GrowsMemory, WritesMemory}
 use Rattle.wasmi_store.specs.Memory as memory
@@ -27,15 +27,15 @@ use Rattle.wasmi_store.specs.TableType.{TableTypeValue, same_type}
 use Rattle.wasmi_store.specs.Table.{TableValue, TableWrite, size_of, new_table, setting_of, typed_by, MakesTable, GrowsTable, WritesTable, EndsBy}
 use Rattle.wasmi_store.specs.Table as table
 use Rattle.wasmi_core.specs.declared.calls.Call.{Call}
-use Rattle.wasmi_core.specs.declared.calls.Call.TheVariants.{SetFuel, GetFuel, NewMemory, GrowMemory, DropMemory, Read, Write, Load, Store, NewTable, GrowTable, DropTable, GetElement, SetElement, InitTable, CopyTable, FillTable, NewSegment, DropItems, NewGlobal, SetGlobal, GetGlobal, SetRegister, GetRegister, Make, Unary, Binary, Ternary, Shift, Test, Extract, Replace, Shuffle, VectorLoad, LoadLane, VectorStore, StoreLane}
+use Rattle.wasmi_core.specs.declared.calls.Call.TheVariants.{SetFuel, GetFuel, NewMemory, NewLentMemory, GrowMemory, DropMemory, Read, Write, Load, Store, NewTable, GrowTable, DropTable, GetElement, SetElement, InitTable, CopyTable, FillTable, NewSegment, DropItems, NewGlobal, SetGlobal, GetGlobal, SetRegister, GetRegister, Make, Unary, Binary, Ternary, Shift, Test, Extract, Replace, Shuffle, VectorLoad, LoadLane, VectorStore, StoreLane}
 use Rattle.wasmi_core.specs.declared.calls.Reply.{Reply}
 use Rattle.wasmi_core.specs.declared.calls.Reply.TheVariants as replied
 use Rattle.wasmi_core.specs.declared.slots.Slot.{Slot}
 use Rattle.wasmi_core.specs.declared.slots.Slot.TheVariants.{Live, Gone}
-use Rattle.wasmi_core.specs.State.{State, live_at, with_memories, with_tables}
+use Rattle.wasmi_core.specs.State.{State, live_at, with_memories, with_tables, MemoryPart, memory_part, with_memory_part}
 use Rattle.wasmi_core.specs.World.{World, Turn}
 use Rattle.wasmi_core.specs.Rows.{reply_of, ActsAt, Creates, AppendsSlot, ChangesAt, DropsAt}
-use Rattle.wasmi_core.specs.MemoryRows.{WritesMemoryAt, StoresMemory, StoresMemoryAt}
+use Rattle.wasmi_core.specs.MemoryRows.{CreatesLent, WritesMemoryAt, StoresMemory, StoresMemoryAt}
 use Rattle.wasmi_core.specs.TableRows.{Metered, metered, SetsElementAt, WritesTableAt, WritesTableFrom, filling, copy_from, initialization_from}
 use Rattle.wasmi_core.specs.RegisterRows.{StoresVectorAt, vector_at}
 use Rattle.wasmi_core.specs.Steps.{Step, StepBy}
@@ -228,6 +228,12 @@ module _ {S : Type 0} (rules : Rules S) (s : State) (l : S) (l' : S) where
           k x x' found put (record { amount = pages; size = pages_of x; effort = memory.growth_of x pages }) refl (λ cause. refl) refl
           (length-append x.bytes (replicate added 0) ∙ ap (λ n. length x.bytes + n) (length-replicate {A = ℕ} added 0)) (omega arith) s.meter m result charge grows)
 
+  lent_made : (reply : Reply) (part : MemoryPart) (ty : MemoryTypeValue) → CreatesLent rules ty (memory_part s) l reply part l' → Exchanges rules l (sizes s) l' (sizes (with_memory_part s part))
+  lent_made reply part ty creates =
+      on_live s.spare _ _ creates
+      (λ none. nothing_passes rules l l' (sizes s) (sizes (with_memory_part s part)) none.2 (each_kind (λ kind. sizes (with_memory_part s part) kind ≡ sizes s kind) (ap (λ (p : MemoryPart). map (slot_count byte_count) p.slots) none.1) refl))
+      (λ region found h. memory_made part.slots s.meter reply (Lent region) ty h.0)
+
   module _ (slots : List (Slot TableValue)) (m : Meter) where
     abbrev with_those_tables : State
     with_those_tables = record (with_tables s slots) { meter = m }
@@ -272,6 +278,7 @@ module _ {S : Type 0} (rules : Rules S) (w : World S) (turn : Turn) (w' : World 
   step_passes (SetFuel fuel) step = idle rules w turn w' step.3 refl (ap (λ t. sizes t Bytes) step.2.1) (ap (λ t. sizes t Elements) step.2.1)
   step_passes GetFuel step = idle rules w turn w' step.2 refl refl refl
   step_passes (NewMemory ty) step = rw step.4 (memory_made rules w.state w.limiter step.2 step.1 w.state.meter turn.reply Owned ty step.3)
+  step_passes (NewLentMemory ty) step = rw step.4 (lent_made rules w.state w.limiter step.2 turn.reply step.1 ty step.3)
   step_passes (GrowMemory k pages) step = rw step.5 (memory_grows rules w.state w.limiter step.2 step.0 step.1 turn.reply k pages turn.charge step.3)
   step_passes (DropMemory k) step = idle rules w turn w' step.3 refl (drops_kept byte_count k w.state.memories turn.reply step.1 step.2) refl
   step_passes (Read k offset len) step = idle rules w turn w' step.2 refl refl refl

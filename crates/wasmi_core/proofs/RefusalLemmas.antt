@@ -24,21 +24,22 @@ use Rattle.wasmi_typed.specs.declared.global.GlobalError.TheVariants.{ImmutableW
 use Rattle.wasmi_typed.specs.declared.typed.TypedRawVal.{TypedRawVal}
 use Rattle.wasmi_typed.specs.Global.{GlobalInstance, SetsGlobal}
 use Rattle.wasmi_store.specs.Growth.{Growth, Grows}
-use Rattle.wasmi_store.specs.Buffer.{Owned}
+use Rattle.wasmi_store.specs.Buffer.{Owned, Lent}
+use Rattle.wasmi_store.specs.MemoryType.{MemoryTypeValue}
 use Rattle.wasmi_store.specs.Memory.{MemoryValue, MakesMemory, WritesMemory, GrowsMemory}
 use Rattle.wasmi_typed.specs.declared.typed_ref.TypedRawRef.{TypedRawRef}
 use Rattle.wasmi_store.specs.Table.{TableValue, TableWrite, size_of, MakesTable, GrowsTable, WritesTable, EndsBy}
 use Rattle.wasmi_store.specs.TableType.{same_type}
 use Rattle.wasmi_core.specs.declared.calls.Call.{Call}
-use Rattle.wasmi_core.specs.declared.calls.Call.TheVariants.{SetFuel, GetFuel, NewMemory, GrowMemory, DropMemory, Read, Write, Load, Store, NewTable, GrowTable, DropTable, GetElement, SetElement, InitTable, CopyTable, FillTable, NewSegment, DropItems, NewGlobal, SetGlobal, GetGlobal, SetRegister, GetRegister, Make, Unary, Binary, Ternary, Shift, Test, Extract, Replace, Shuffle, VectorLoad, LoadLane, VectorStore, StoreLane}
+use Rattle.wasmi_core.specs.declared.calls.Call.TheVariants.{SetFuel, GetFuel, NewMemory, NewLentMemory, GrowMemory, DropMemory, Read, Write, Load, Store, NewTable, GrowTable, DropTable, GetElement, SetElement, InitTable, CopyTable, FillTable, NewSegment, DropItems, NewGlobal, SetGlobal, GetGlobal, SetRegister, GetRegister, Make, Unary, Binary, Ternary, Shift, Test, Extract, Replace, Shuffle, VectorLoad, LoadLane, VectorStore, StoreLane}
 use Rattle.wasmi_core.specs.declared.calls.Reply.{Reply}
 use Rattle.wasmi_core.specs.declared.calls.Reply.TheVariants as replied
 use Rattle.wasmi_core.specs.declared.slots.Slot.{Slot}
 use Rattle.wasmi_core.specs.declared.slots.Slot.TheVariants.{Live, Gone}
-use Rattle.wasmi_core.specs.State.{State, live_value, live_at, with_memories, with_tables, with_segments, with_globals, with_registers}
+use Rattle.wasmi_core.specs.State.{State, live_value, live_at, MemoryPart, memory_part, with_memories, with_tables, with_segments, with_globals, with_registers}
 use Rattle.wasmi_core.specs.World.{World, Turn}
 use Rattle.wasmi_core.specs.Rows.{reply_of, ActsAt, AppendsSlot, Creates, ChangesAt, DropsAt}
-use Rattle.wasmi_core.specs.MemoryRows.{WritesMemoryAt, StoresMemory, StoresMemoryAt}
+use Rattle.wasmi_core.specs.MemoryRows.{CreatesLent, WritesMemoryAt, StoresMemory, StoresMemoryAt}
 use Rattle.wasmi_types.specs.declared.value.RefType.{RefType}
 use Rattle.wasmi_store.specs.Segment.{SegmentValue}
 use Rattle.wasmi_core.specs.ValueRows.{CreatesSegment, DropsItemsAt, CreatesGlobal, SetsGlobalAt}
@@ -47,7 +48,7 @@ use Rattle.wasmi_core.specs.RegisterRows.{TakesAt, StoresVectorAt, given_vector,
 use Rattle.wasmi_core.specs.AccessOps.{stored_bytes}
 use Rattle.wasmi_core.specs.Totals.{byte_count}
 use Rattle.wasmi_core.specs.Steps.{Step, StepBy}
-use Rattle.wasmi_core.specs.Laws.{IsRefusal, SameContents}
+use Rattle.wasmi_core.specs.Laws.{IsRefusal, SameContents, KeepsSpare}
 use Rattle.wasmi_core.proofs.CopyLemmas.{set_read}
 use Rattle.wasmi_core.proofs.RowLemmas.{on_live, on_test}
 
@@ -138,6 +139,12 @@ takes_back (Some given) None dst registers reply registers' refused takes = take
 takes_back (Some (Ok value)) (Some old) dst registers reply registers' refused takes = absurd (rw takes.0 at refused)
 takes_back (Some (Err trap)) (Some old) dst registers reply registers' refused takes = takes.1
 
+lent_back : {S : Type 0} (rules : Rules S) (ty : MemoryTypeValue) (part : MemoryPart) (l : S) (reply : Reply) (part' : MemoryPart) (l' : S) → IsRefusal reply → CreatesLent rules ty part l reply part' l' → part'.slots ≡ part.slots
+lent_back rules ty part l reply part' l' refused creates =
+    on_live part.spare _ _ creates
+    (λ none. ap (λ (p : MemoryPart). p.slots) none.1)
+    (λ region found h. creates_back replied.Memory (MakesMemory rules (Lent region) ty) part.slots l reply part'.slots l' refused h.0)
+
 memory_growth_back : {S : Type 0} (rules : Rules S) (k pages : ℕ) (slots : List (Slot MemoryValue)) (m : Meter) (l : S) (reply : Reply) (charge : ℕ) (slots' : List (Slot MemoryValue)) (m' : Meter) (l' : S) → IsRefusal reply
     → ActsAt k (reply_of replied.Number replied.Memory) (GrowsMemory rules pages) (record { value = slots; meter = Some m; limiter = l }) reply charge (record { value = slots'; meter = Some m'; limiter = l' }) → slots' ≡ slots
 memory_growth_back {S} rules k pages slots m l reply charge slots' m' l' refused acts =
@@ -178,17 +185,18 @@ global_refused k value slots reply slots' refused sets =
 
 -- the turn ends in a world with the same state, or with the same state but for its meter
 module _ {S : Type 0} (w w' : World S) where
-  kept : {v : World S} → w' ≡ v → v.state ≡ w.state → SameContents w.state w'.state
-  kept is same = rw (is, same) (record { memories = refl; tables = refl; segments = refl; globals = refl; registers = refl })
+  kept : {v : World S} → w' ≡ v → v.state ≡ w.state → SameContents w.state w'.state × (w'.state.spare ≡ w.state.spare)
+  kept is same = rw (is, same) (record { memories = refl; tables = refl; segments = refl; globals = refl; registers = refl }, refl)
 
-  paid : (m : Meter) → {v : World S} → w' ≡ v → v.state ≡ record w.state { meter = m } → SameContents w.state w'.state
-  paid m is same = rw (is, same) (record { memories = refl; tables = refl; segments = refl; globals = refl; registers = refl })
+  paid : (m : Meter) → {v : World S} → w' ≡ v → v.state ≡ record w.state { meter = m } → SameContents w.state w'.state × (w'.state.spare ≡ w.state.spare)
+  paid m is same = rw (is, same) (record { memories = refl; tables = refl; segments = refl; globals = refl; registers = refl }, refl)
 
 module _ {S : Type 0} (rules : Rules S) (w : World S) (turn : Turn) (w' : World S) (refused : IsRefusal turn.reply) where
-  step_back : (call : Call) → StepBy rules call w turn w' → SameContents w.state w'.state
+  step_back : (call : Call) → StepBy rules call w turn w' → SameContents w.state w'.state × KeepsSpare call w.state w'.state
   step_back (SetFuel fuel) step = paid w w' _ step.3 step.2.1
   step_back GetFuel step = kept w w' step.2 refl
   step_back (NewMemory ty) step = kept w w' step.4 (ap (with_memories w.state) (creates_back replied.Memory (MakesMemory rules Owned ty) w.state.memories w.limiter turn.reply step.1 step.2 refused step.3))
+  step_back (NewLentMemory ty) step = (rw step.4 (record { memories = lent_back rules ty (memory_part w.state) w.limiter turn.reply step.1 step.2 refused step.3; tables = refl; segments = refl; globals = refl; registers = refl }), tt)
   step_back (GrowMemory k pages) step = paid w w' step.1 step.5 (ap (λ part. let s : State = record (with_memories w.state part) { meter = step.1 } in s) (memory_growth_back rules k pages w.state.memories w.state.meter w.limiter turn.reply turn.charge step.0 step.1 step.2 refused step.3))
   step_back (DropMemory k) step = kept w w' step.3 (ap (with_memories w.state) (drops_back byte_count k w.state.memories turn.reply step.1 refused step.2))
   step_back (Read k offset len) step = kept w w' step.2 refl
@@ -224,5 +232,5 @@ module _ {S : Type 0} (rules : Rules S) (w : World S) (turn : Turn) (w' : World 
   step_back (VectorStore a k ptr offset) step = kept w w' step.3 (ap (with_memories w.state) (vector_store_back k w.state.memories turn.reply step.1 (ptr + offset) refused (option_map (le_bytes 16) (vector_at w.state.registers a)) step.2))
   step_back (StoreLane op a k ptr offset) step = kept w w' step.3 (ap (with_memories w.state) (vector_store_back k w.state.memories turn.reply step.1 (ptr + offset) refused (option_map (stored_lane op) (vector_at w.state.registers a)) step.2))
 
-pub refusals_keep_contents : {S : Type 0} (rules : Rules S) (w : World S) (turn : Turn) (w' : World S) → Step rules w turn w' → IsRefusal turn.reply → SameContents w.state w'.state
+pub refusals_keep_contents : {S : Type 0} (rules : Rules S) (w : World S) (turn : Turn) (w' : World S) → Step rules w turn w' → IsRefusal turn.reply → SameContents w.state w'.state × KeepsSpare turn.call w.state w'.state
 refusals_keep_contents rules w turn w' step refused = step_back rules w turn w' refused turn.call step

@@ -8,6 +8,11 @@ pub on_live : {X C : Type 0} (o : Option X) (Missing : Type 0) (Fact : X → Typ
 on_live None Missing Fact h missing live = missing h
 on_live (Some x) Missing Fact h missing live = live x refl h
 
+-- two facts of one live value, or of none
+pub both_live : {X : Type 0} (o : Option X) (Missing Missing' : Type 0) (Fact Fact' : X → Type 0) → OnLive o Missing Fact → OnLive o Missing' Fact' → OnLive o (Missing × Missing') (λ x. Fact x × Fact' x)
+both_live None Missing Missing' Fact Fact' h h' = (h, h')
+both_live (Some x) Missing Missing' Fact Fact' h h' = (h, h')
+
 -- whether a test holds
 pub on_test : {C : Type 0} (test : Bool) (Holds Fails : Type 0) → MatchBool test Holds Fails → (Holds → C) → (Fails → C) → C
 on_test true Holds Fails h holds fails = holds h

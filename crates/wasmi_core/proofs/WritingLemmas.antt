@@ -23,7 +23,7 @@ use Rattle.wasmi_store.specs.Table.{TableValue, TableWrite, size_of, element_pri
 use Rattle.wasmi_store.specs.Table as table
 use Rattle.wasmi_store.specs.TableType.{same_type}
 use Rattle.wasmi_core.specs.declared.calls.Call.{Call}
-use Rattle.wasmi_core.specs.declared.calls.Call.TheVariants.{SetFuel, GetFuel, NewMemory, GrowMemory, DropMemory, Read, Write, Load, Store, NewTable, GrowTable, DropTable, GetElement, SetElement, InitTable, CopyTable, FillTable, NewSegment, DropItems, NewGlobal, SetGlobal, GetGlobal, SetRegister, GetRegister, Make, Unary, Binary, Ternary, Shift, Test, Extract, Replace, Shuffle, VectorLoad, LoadLane, VectorStore, StoreLane}
+use Rattle.wasmi_core.specs.declared.calls.Call.TheVariants.{SetFuel, GetFuel, NewMemory, NewLentMemory, GrowMemory, DropMemory, Read, Write, Load, Store, NewTable, GrowTable, DropTable, GetElement, SetElement, InitTable, CopyTable, FillTable, NewSegment, DropItems, NewGlobal, SetGlobal, GetGlobal, SetRegister, GetRegister, Make, Unary, Binary, Ternary, Shift, Test, Extract, Replace, Shuffle, VectorLoad, LoadLane, VectorStore, StoreLane}
 use Rattle.wasmi_core.specs.declared.calls.Reply.{Reply}
 use Rattle.wasmi_core.specs.declared.calls.Reply.TheVariants as replied
 use Rattle.wasmi_core.specs.declared.slots.Slot.{Slot}
@@ -232,6 +232,7 @@ module _ {S : Type 0} (rules : Rules S) (w : World S) (turn : Turn) (w' : World 
   step_writes (SetFuel fuel) step = sets fuel w.state.meter w'.state.meter turn.charge turn.written step.0.1 (ap (λ (v : World S). v.state.meter) step.3 ∙ ap (λ (s : State). s.meter) step.2.1)
   step_writes GetFuel step = idle w turn w' step.2 step.0.1 refl
   step_writes (NewMemory ty) step = idle w turn w' step.4 step.0.1 refl
+  step_writes (NewLentMemory ty) step = idle w turn w' step.4 step.0.1 refl
   step_writes (GrowMemory k pages) step = writes_as w turn w' step.5 step.4 (memory_growth_writes rules k pages w.state.memories w.state.meter w.limiter turn.reply turn.charge step.0 step.1 step.2 step.3)
   step_writes (DropMemory k) step = idle w turn w' step.3 step.0.1 refl
   step_writes (Read k offset len) step = idle w turn w' step.2 step.0.1 refl

@@ -13,5 +13,6 @@ pub mod Exchange
 pub mod Account
 pub mod Writing
 pub mod Determinism
+pub mod LentMemory
 pub mod Laws
 pub mod AccessOps

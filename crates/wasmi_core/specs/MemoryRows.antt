@@ -1,25 +1,37 @@
 -- The calls on memories: what each does to the list of slots.
-use Rattle.std.specs.Prelude.{◌≡◌, ◌⊎◌, ◌*◌, ℕ, Option, Some, None, Result, List}
+use Rattle.std.specs.Prelude.{◌≡◌, ◌⊎◌, ◌*◌, ℕ, Option, Some, None, Result, List, MatchOption}
 use Rattle.wasmi_types.specs.Access.{at}
 use Rattle.wasmi_types.specs.declared.trap.TrapCode.{TrapCode}
 use Rattle.wasmi_access.specs.LoadStore.{IsStore}
 use Rattle.wasmi_meter.specs.declared.error.MemoryError.{MemoryError}
 use Rattle.wasmi_meter.specs.declared.error.MemoryError.TheVariants.{OutOfBoundsAccess}
-use Rattle.wasmi_store.specs.MemoryType.{page_bytes}
-use Rattle.wasmi_store.specs.Memory.{MemoryValue, WritesMemory}
+use Rattle.wasmi_meter.specs.Limiter.{Rules}
+use Rattle.wasmi_store.specs.Buffer.{Lent}
+use Rattle.wasmi_store.specs.MemoryType.{MemoryTypeValue, page_bytes}
+use Rattle.wasmi_store.specs.Memory.{MemoryValue, MakesMemory, WritesMemory}
 use Rattle.wasmi_core.specs.declared.calls.Reply.{Reply}
-use Rattle.wasmi_core.specs.declared.calls.Reply.TheVariants.{Done, Value, Number, Bytes, Memory, Trap, NoSuch, NoRoom}
+use Rattle.wasmi_core.specs.declared.calls.Reply.TheVariants.{Done, Value, Number, Bytes, Memory, Trap, NoSuch, NoRegion, NoRoom}
 use Rattle.wasmi_core.specs.declared.slots.Slot.{Slot}
 use Rattle.wasmi_core.specs.declared.ops.LoadOp.{LoadOp}
 use Rattle.wasmi_core.specs.AccessOps.{loaded_raw}
-use Rattle.wasmi_core.specs.State.{live_at}
-use Rattle.wasmi_core.specs.Rows.{reply_of, OnLive, ChangesAt}
+use Rattle.wasmi_core.specs.State.{MemoryPart, live_at}
+use Rattle.wasmi_core.specs.Rows.{reply_of, OnLive, Creates, ChangesAt}
 
 -- the bytes that a growth by so many pages has appended, by its reply
 abbrev pub bytes_appended : Option MemoryValue → ℕ → Reply → ℕ
 bytes_appended None pages reply = 0
 bytes_appended (Some x) pages (Number size) = pages * page_bytes x.ty.page
 bytes_appended (Some x) pages reply = 0
+
+-- the spare region after a creation in it: it is spent, unless a slot could not be had
+abbrev pub spare_after : Reply → Option (List ℕ) → Option (List ℕ)
+spare_after NoRoom spare = spare
+spare_after reply spare = None
+
+-- a creation in the spare region; without one nothing is asked
+abbrev pub CreatesLent : {S : Type 0} → Rules S → MemoryTypeValue → MemoryPart → S → Reply → MemoryPart → S → Type 0
+CreatesLent rules ty part l reply part' l' = MatchOption part.spare ((reply ≡ NoRegion) × (part' ≡ part) × (l' ≡ l))
+    (λ region. Creates Memory (MakesMemory rules (Lent region) ty) part.slots l reply part'.slots l' × (part'.spare ≡ spare_after reply part.spare))
 
 -- a read: its bounds come before the want of memory for the reply
 abbrev pub ReadsBytes : Option (List ℕ) → Reply → Type 0

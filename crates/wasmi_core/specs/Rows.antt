@@ -1,5 +1,5 @@
 -- What calls on slots have in common: what each does to the list of slots and in a turn.
-use Rattle.std.specs.Prelude.{◌≡◌, ◌⊎◌, ◌++◌, ℕ, Option, Some, None, Result, Ok, Err, List, [], ◌∷◌, length, slice_set}
+use Rattle.std.specs.Prelude.{◌≡◌, ◌⊎◌, ◌++◌, ℕ, Option, Some, Result, Ok, Err, List, [], ◌∷◌, length, slice_set, MatchOption}
 use Rattle.wasmi_meter.specs.Attempt.{Situation, with_value}
 use Rattle.wasmi_meter.specs.Meter.{Meter}
 use Rattle.wasmi_core.specs.declared.calls.Reply.{Reply}
@@ -16,8 +16,7 @@ reply_of answer refusal (Err error) = refusal error
 
 -- a fact of the live value of an index; where the index names none, the other fact
 abbrev pub OnLive : {X : Type 0} → Option X → Type 0 → (X → Type 0) → Type 0
-OnLive None Missing Fact = Missing
-OnLive (Some x) Missing Fact = Fact x
+OnLive o Missing Fact = MatchOption o Missing Fact
 
 -- the live value of an index has become another; where the index names none it is `NoSuch`, and nothing has changed
 abbrev pub ChangesAt : {X : Type 0} → ℕ → List (Slot X) → Reply → List (Slot X) → (X → X → Type 0) → Type 0

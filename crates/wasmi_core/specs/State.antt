@@ -27,7 +27,7 @@ module _ {X : Type 0} where
   abbrev pub with_live : Slots X → ℕ → X → Slots X
   with_live s k x = record { slots = with_item s.slots k (Live x) }
 
--- the memories, tables, element segments and globals that were made, each kind in its order, the registers, and the meter
+-- the memories, tables, element segments and globals that were made, each kind in its order, the registers, the meter, and the bytes of the spare region, if there is one
 pub record State : Type 0 where
   pub memories : List (Slot MemoryValue)
   pub tables : List (Slot TableValue)
@@ -35,14 +35,30 @@ pub record State : Type 0 where
   pub globals : List (Slot GlobalInstance)
   pub registers : List RawVal
   pub meter : Meter
+  pub spare : Option (List ℕ)
 
 -- a machine on which nothing was made yet, with 16 registers of zeros
 abbrev pub new_state : Meter → State
-new_state meter = record { memories = []; tables = []; segments = []; globals = []; registers = replicate 16 (raw_of 0); meter = meter }
+new_state meter = record { memories = []; tables = []; segments = []; globals = []; registers = replicate 16 (raw_of 0); meter = meter; spare = None }
+
+-- the state with this spare region
+abbrev pub with_spare : State → List ℕ → State
+with_spare s region = record s { spare = Some region }
 
 -- the state with other memories, tables, element segments, globals or registers
 abbrev pub with_memories : State → List (Slot MemoryValue) → State
 with_memories s memories = record s { memories = memories }
+
+-- the part of a state that a creation in the spare region changes
+pub record MemoryPart : Type 0 where
+  pub slots : List (Slot MemoryValue)
+  pub spare : Option (List ℕ)
+
+abbrev pub memory_part : State → MemoryPart
+memory_part s = record { slots = s.memories; spare = s.spare }
+
+abbrev pub with_memory_part : State → MemoryPart → State
+with_memory_part s part = record s { memories = part.slots; spare = part.spare }
 
 abbrev pub with_tables : State → List (Slot TableValue) → State
 with_tables s tables = record s { tables = tables }

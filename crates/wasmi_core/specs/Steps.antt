@@ -16,15 +16,15 @@ use Rattle.wasmi_store.specs.Buffer.{Owned}
 use Rattle.wasmi_store.specs.Memory.{MakesMemory, GrowsMemory}
 use Rattle.wasmi_store.specs.Table.{size_of, MakesTable, GrowsTable}
 use Rattle.wasmi_core.specs.declared.calls.Call.{Call}
-use Rattle.wasmi_core.specs.declared.calls.Call.TheVariants.{SetFuel, GetFuel, NewMemory, GrowMemory, DropMemory, Read, Write, Load, Store, NewTable, GrowTable, DropTable, GetElement, SetElement, InitTable, CopyTable, FillTable, NewSegment, DropItems, NewGlobal, SetGlobal, GetGlobal, SetRegister, GetRegister, Make, Unary, Binary, Ternary, Shift, Test, Extract, Replace, Shuffle, VectorLoad, LoadLane, VectorStore, StoreLane}
+use Rattle.wasmi_core.specs.declared.calls.Call.TheVariants.{SetFuel, GetFuel, NewMemory, NewLentMemory, GrowMemory, DropMemory, Read, Write, Load, Store, NewTable, GrowTable, DropTable, GetElement, SetElement, InitTable, CopyTable, FillTable, NewSegment, DropItems, NewGlobal, SetGlobal, GetGlobal, SetRegister, GetRegister, Make, Unary, Binary, Ternary, Shift, Test, Extract, Replace, Shuffle, VectorLoad, LoadLane, VectorStore, StoreLane}
 use Rattle.wasmi_core.specs.declared.calls.Reply.TheVariants as reply
 use Rattle.wasmi_core.specs.World.{World, Turn}
-use Rattle.wasmi_core.specs.State.{live_at, with_memories, with_tables, with_segments, with_globals, with_registers}
+use Rattle.wasmi_core.specs.State.{live_at, with_memories, memory_part, with_memory_part, with_tables, with_segments, with_globals, with_registers}
 use Rattle.wasmi_core.specs.Rows.{reply_of, Creates, DropsAt, ActsAt, OnlyReplies, Changes, Asks, Pays, PaysUnasked}
 use Rattle.wasmi_core.specs.Totals.{byte_count}
 use Rattle.wasmi_core.specs.AccessOps.{stored_bytes}
 use Rattle.wasmi_core.specs.FuelRows.{SetsFuel, get_fuel_reply}
-use Rattle.wasmi_core.specs.MemoryRows.{bytes_appended, ReadsMemoryAt, WritesMemoryAt, LoadsMemoryAt, StoresMemoryAt}
+use Rattle.wasmi_core.specs.MemoryRows.{bytes_appended, CreatesLent, ReadsMemoryAt, WritesMemoryAt, LoadsMemoryAt, StoresMemoryAt}
 use Rattle.wasmi_core.specs.TableRows.{GetsElementAt, SetsElementAt, WritesTableAt, WritesTableFrom, filling, copy_from, initialization_from, element_bytes}
 use Rattle.wasmi_core.specs.RegisterRows.{TakesRegister, StoresVectorAt, given_vector, of_one, of_two, of_three, vector_loaded, lane_loaded, raw_reply, vector_at}
 use Rattle.wasmi_core.specs.ValueRows.{CreatesSegment, DropsItemsAt, CreatesGlobal, SetsGlobalAt, GetsGlobalAt}
@@ -42,6 +42,7 @@ abbrev pub subject_of : Call → Subject
 subject_of (SetFuel fuel) = TheMeter
 subject_of GetFuel = TheMeter
 subject_of (NewMemory ty) = Memories
+subject_of (NewLentMemory ty) = Memories
 subject_of (GrowMemory k pages) = Memories
 subject_of (DropMemory k) = Memories
 subject_of (Read k offset len) = Memories
@@ -82,6 +83,7 @@ abbrev pub StepBy : {S : Type 0} → Rules S → Call → World S → Turn → W
 StepBy rules (SetFuel fuel) w turn w' = Changes w turn w' (λ s. s) (SetsFuel fuel w.state)
 StepBy rules GetFuel w turn w' = OnlyReplies w turn w' (λ answer. answer ≡ get_fuel_reply w.state.meter)
 StepBy rules (NewMemory ty) w turn w' = Asks w turn w' (with_memories w.state) (Creates reply.Memory (MakesMemory rules Owned ty) w.state.memories)
+StepBy rules (NewLentMemory ty) w turn w' = Asks w turn w' (with_memory_part w.state) (CreatesLent rules ty (memory_part w.state))
 StepBy rules (GrowMemory k pages) w turn w' =
     Pays w turn w' w.state.memories (with_memories w.state) (ActsAt k (reply_of reply.Number reply.Memory) (GrowsMemory rules pages)) (bytes_appended (live_at w.state.memories k) pages)
 StepBy rules (DropMemory k) w turn w' = Changes w turn w' (with_memories w.state) (DropsAt byte_count k w.state.memories)

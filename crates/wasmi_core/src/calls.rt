@@ -25,6 +25,10 @@ pub enum Call {
     GetFuel,
     /// Makes a memory of zeros: `Made` with its index, `NoRoom` where its slot can't be had, or `Memory`.
     NewMemory(MemoryType),
+    /// Makes a memory of zeros at the front of the machine's spare region: `Made` with its index, `NoRegion` where there
+    /// is no spare region, `NoRoom` where its slot can't be had, or `Memory`. But for `NoRegion` and `NoRoom` the region
+    /// is spent.
+    NewLentMemory(MemoryType),
     /// Grows a memory by so many pages: `Number` of the old size in pages, or `Memory`.
     GrowMemory {
         memory: usize,
@@ -254,6 +258,8 @@ pub enum Reply {
     Trap(TrapCode),
     /// An index or a register names nothing; nothing was asked or changed.
     NoSuch,
+    /// There is no spare region; nothing was asked or changed.
+    NoRegion,
     /// Memory for a slot or for the reply was refused; nothing was asked or changed.
     NoRoom,
 }

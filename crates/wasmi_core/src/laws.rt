@@ -4,11 +4,11 @@ ghost use Rattle.wasmi_meter.specs.Limiter.{optional_rules, unlimited_rules};
 ghost use Rattle.wasmi_meter.specs.declared.limiter.NoLimits.{NoLimits};
 ghost use Rattle.wasmi_meter.specs.Quota.{quota_rules};
 ghost use Rattle.wasmi_core.specs.Determinism.{IsDeterministic};
-ghost use Rattle.wasmi_core.specs.Laws.{RefusalsKeepContents, GrowsAsPermitted, FuelBalances, FuelBoundsWriting, HoldsTotalsAlways, RunsAreOne};
+ghost use Rattle.wasmi_core.specs.Laws.{RefusalsKeepContents, GrowsAsPermitted, FuelBalances, FuelBoundsWriting, HoldsTotalsAlways, LentRunsAreOwned, LentCreationsAreOwned, LentGrowthsSucceed, RunsAreOne};
 
 use wasmi_meter::{Reserving, ResourceLimiter};
 
-/// In each turn that is refused all but the meter stays.
+/// In each turn that is refused all but the meter stays, and the spare region where no memory was to be made in it.
 pub fn refusals_keep_contents<L: ResourceLimiter>()
     ensures { RefusalsKeepContents (optional_rules L.rules) }
 {}
@@ -36,6 +36,27 @@ pub fn totals_are_held<L: Reserving>()
 /// `IsBounded` gives each turn that writes less than one fuel's worth of bytes beyond what its charge pays for.
 pub fn fuel_bounds_writing<L: ResourceLimiter>()
     ensures { FuelBoundsWriting (optional_rules L.rules) }
+{}
+
+/// A run that makes no memory in a lent region, and grows no memory past the region that it lies in, is a run of the
+/// same machine with memories of their own: the same replies, charges, written bytes and limiter.
+///
+/// `FitsRegions` says which calls these are: a growth past the region counts as one where it is refused before the
+/// limiter is asked.
+pub fn lent_runs_are_owned<L: ResourceLimiter>()
+    ensures { LentRunsAreOwned (optional_rules L.rules) }
+{}
+
+/// A memory that is made in a spare region of at least its minimum is made as one of its own, but for the room that it
+/// has and the spare region.
+pub fn lent_creations_are_owned<L: ResourceLimiter>()
+    ensures { LentCreationsAreOwned (optional_rules L.rules) }
+{}
+
+/// A growth of a lent memory that its type and its region have place for, and that can be paid, takes no memory: the
+/// limiter alone can refuse it.
+pub fn lent_growths_succeed<L: ResourceLimiter>()
+    ensures { LentGrowthsSucceed (optional_rules L.rules) }
 {}
 
 /// Where the limiter leaves no choice, two runs of one list of calls from one machine and one limiter are one, if in

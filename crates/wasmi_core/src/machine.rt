@@ -14,8 +14,8 @@ use wasmi_raw::RawVal;
 use wasmi_store::{ElementSegment, ElementSegmentRef, Memory, Table};
 use wasmi_typed::Global;
 
-/// Memories, tables, element segments and globals by their indices, 16 registers of raw values, and one fuel meter; `'r` is the loan of a region that
-/// a memory may lie in.
+/// Memories, tables, element segments and globals by their indices, 16 registers of raw values, one fuel meter, and at
+/// most one spare region of bytes, in which a memory can be made; `'r` is the loan of that region.
 #[derive(Debug, Drop)]
 pub struct Machine<'r> {
     pub(crate) alloc: Allocator,
@@ -25,9 +25,11 @@ pub struct Machine<'r> {
     globals: Slots<Global>,
     registers: Registers,
     fuel: Fuel,
+    spare: Option<&'r mut [u8]>,
 }
 
 impl<'r> Model for Machine<'r> {
+    ghost use Rattle.std.specs.Option.{option_copied_mut};
     ghost use Rattle.wasmi_core.specs.State.{State};
 
     ghost Value = { State };
@@ -39,11 +41,12 @@ impl<'r> Model for Machine<'r> {
       globals = m.globals.slots.items;
       registers = m.registers.values;
       meter = m.fuel;
+      spare = option_copied_mut m.spare;
     } };
 }
 
 impl<'r> Machine<'r> {
-    ghost use Rattle.wasmi_core.specs.State.{new_state, live_at};
+    ghost use Rattle.wasmi_core.specs.State.{new_state, with_spare, live_at};
     ghost use Rattle.wasmi_core.specs.FuelRows.{SetsFuel, get_fuel_reply};
     ghost use Rattle.wasmi_core.specs.Steps.{Step, subject_of, Memories, Tables, RegisterFile, Vectors};
     ghost use Rattle.wasmi_core.specs.Totals.{total};
@@ -61,6 +64,18 @@ impl<'r> Machine<'r> {
             globals: Slots::new(alloc),
             registers: Registers::new(),
             fuel,
+            spare: None,
+        }
+    }
+
+    /// A machine with this meter and this spare region, on which nothing was made yet. It takes no memory, and leaves
+    /// the bytes of the region as they are.
+    pub fn with_region(alloc: Allocator, fuel: Fuel, region: &'r mut [u8]) -> Machine<'r>
+        ensures { result ≡ with_spare (new_state fuel) region.entry.now }
+    {
+        Machine {
+            spare: Some(region),
+            ..Machine::new(alloc, fuel)
         }
     }
 
@@ -154,6 +169,7 @@ impl<'r> Machine<'r> {
             Call::SetFuel(fuel) => self.set_fuel(*fuel),
             Call::GetFuel => self.get_fuel(),
             Call::NewMemory(_)
+            | Call::NewLentMemory(_)
             | Call::GrowMemory { .. }
             | Call::DropMemory(_)
             | Call::Read { .. }
@@ -196,6 +212,7 @@ impl<'r> Machine<'r> {
     {
         match call {
             Call::NewMemory(ty) => self.memories.create(self.alloc, *ty, limiter),
+            Call::NewLentMemory(ty) => self.memories.create_lent(*ty, &mut self.spare, limiter),
             Call::GrowMemory { memory, pages } => {
                 self.memories.grow(*memory, *pages, &mut self.fuel, limiter)
             }

@@ -8,7 +8,8 @@ ghost use Rattle.wasmi_store.specs.Memory.{MakesMemory, GrowsMemory};
 ghost use Rattle.wasmi_vector_ops.specs.AccessOps.{stored_lane};
 ghost use Rattle.wasmi_core.specs.AccessOps.{stored_bytes};
 ghost use Rattle.wasmi_core.specs.Rows.{reply_of, ActsAt, Creates};
-ghost use Rattle.wasmi_core.specs.MemoryRows.{ReadsMemoryAt, ReadsBytes, WritesMemoryAt, LoadsMemoryAt, StoresMemoryAt, StoresMemory};
+ghost use Rattle.std.specs.Option.{option_copied_mut};
+ghost use Rattle.wasmi_core.specs.MemoryRows.{CreatesLent, ReadsMemoryAt, ReadsBytes, WritesMemoryAt, LoadsMemoryAt, StoresMemoryAt, StoresMemory};
 ghost use Rattle.wasmi_types.specs.Access.{at};
 
 use crate::calls::{ByteList, Reply};
@@ -39,6 +40,32 @@ impl<'r> Slots<Memory<'r>> {
         match Memory::new(alloc, ty, limiter) {
             Ok(memory) => Reply::Made(self.push(memory)),
             Err(error) => Reply::Memory(error),
+        }
+    }
+
+    /// Makes a memory in the spare region, in a new slot, which is reserved before the limiter is asked.
+    pub(crate) fn create_lent<L: ResourceLimiter>(
+        &mut self,
+        ty: MemoryType,
+        spare: &mut Option<&'r mut [u8]>,
+        limiter: &mut ResourceLimiterRef<L>,
+    ) -> Reply
+        ensures loan { KeepsLoan limiter.old limiter.new }
+        ensures made { CreatesLent (optional_rules L.rules) ty
+            (record { slots = self.old.slots.items; spare = option_copied_mut spare.old }) (state limiter.old) result
+            (record { slots = self.new.slots.items; spare = option_copied_mut spare.new }) (state limiter.new) }
+    {
+        let Some(region) = spare.take() else {
+            return Reply::NoRegion;
+        };
+        if self.reserve() {
+            match Memory::new_static(ty, limiter, region) {
+                Ok(memory) => Reply::Made(self.push(memory)),
+                Err(error) => Reply::Memory(error),
+            }
+        } else {
+            *spare = Some(region);
+            Reply::NoRoom
         }
     }
 

@@ -1,4 +1,5 @@
 use Rattle.std.proofs.Common.{refl}
+use Rattle.std.specs.Option.{option_copied_mut}
 use Rattle.wasmi_meter.specs.LimiterRef.{state}
 use Rattle.wasmi_core.specs.State.{live_at}
 use Rattle.wasmi_core.specs.MemoryRows.{bytes_appended}
@@ -36,3 +37,10 @@ returns-in-Load-clause-step g c = (0, 0, rw (c.in-Load.is, ← c.self.view_is) (
 pub returns-in-Store-clause-step : goal.returns-in-Store-clause-step
 returns-in-Store-clause-step g c =
     (0, 0, rw (c.in-Store.is, ← c.self.view_is) ((refl, refl), c.store.new.self.slots.items, c.store.ensures, refl))
+
+pub returns-in-NewLentMemory-clause-step : goal.returns-in-NewLentMemory-clause-step
+returns-in-NewLentMemory-clause-step g c = (
+  0,
+  0,
+  rw (c.in-NewLentMemory.is, ← c.self.view_is) ((refl, refl), record { slots = c.create_lent.new.self.slots.items; spare = option_copied_mut c.create_lent.new.spare }, state c.create_lent.new.limiter, c.create_lent.ensures.made, refl),
+)
