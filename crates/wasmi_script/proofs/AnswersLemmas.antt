@@ -15,9 +15,9 @@ pub one_answer : (words : Words) (i : ℕ) (none : Bor (List ℕ)) (answers : Li
     → WritesAnswers (take i words) answers → (get_or words i none).now ≡ answer_text answer → WritesAnswers (take (i + 1) words) (answers ++ answer ∷ [])
 one_answer words i none answers answer below before last =
     map_more (λ word. word.now) words i none below
-        ∙ ap (λ texts. texts ++ (get_or words i none).now ∷ []) before
-        ∙ ap (λ text. map answer_text answers ++ text ∷ []) last
-        ∙ sym (map-append answer_text answers (answer ∷ []))
+    ∙ ap (λ texts. texts ++ (get_or words i none).now ∷ []) before
+    ∙ ap (λ text. map answer_text answers ++ text ∷ []) last
+    ∙ sym (map-append answer_text answers (answer ∷ []))
 
 -- one word that stands for no answer
 pub no_answers : {V : Type 0} (items : V → List AnswerWord) (words : Words) (i : ℕ) (none : Bor (List ℕ)) (error : LineError) → i < length words
@@ -25,6 +25,6 @@ pub no_answers : {V : Type 0} (items : V → List AnswerWord) (words : Words) (i
     → Accepts {A = V} (Err error) (λ answers. WritesAnswers words (items answers))
 no_answers items words i none BadCommand below unfit = λ answers writes. unfit (get_or (items answers) i Permit)
     (sym (get_or-map (λ word. word.now) words i none (answer_text Permit) below)
-        ∙ ap (λ texts. get_or texts i (answer_text Permit)) writes
-        ∙ list.get_or-map answer_text (items answers) i Permit)
+    ∙ ap (λ texts. get_or texts i (answer_text Permit)) writes
+    ∙ list.get_or-map answer_text (items answers) i Permit)
 no_answers items words i none OutOfMemory below unfit = tt

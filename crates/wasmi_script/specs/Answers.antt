@@ -1,7 +1,7 @@
 -- What an `answers` line says, and the limiter that answers by it.
 use Rattle.std.specs.Prelude.{◌≡◌, ℕ, List, [], ◌∷◌, Ok, Err, true, false, codes, map, drop}
 use Rattle.wasmi_meter.specs.declared.error.LimiterError.TheVariants.{ResourceLimiterDeniedAllocation}
-use Rattle.wasmi_meter.specs.Limiter.{Question, Answer, Failure, Heed, Rules}
+use Rattle.wasmi_meter.specs.Limiter.{Answer, Heed, Rules}
 use Rattle.wasmi_script.specs.declared.answering.AnswerList.{AnswerList}
 use Rattle.wasmi_script.specs.declared.script.header.answers.AnswerWord.{AnswerWord}
 use Rattle.wasmi_script.specs.declared.script.header.answers.AnswerWord.TheVariants.{Permit, Deny, Error, Complain}

@@ -1,13 +1,15 @@
 -- What the words of a header line mean, and what the header lines ask for.
-use Rattle.std.specs.Prelude.{◌≡◌, ℕ, List, Some, None, length, codes, drop}
-use Rattle.std.specs.Option.{option_map_or}
+use Rattle.std.specs.Prelude.{◌≡◌, ℕ, List, Some, None, length, codes, drop, replicate}
+use Rattle.std.specs.Option.{option_map, option_map_or}
 use Rattle.wasmi_meter.specs.Costs.{default_costs}
 use Rattle.wasmi_meter.specs.Meter.{Meter}
+use Rattle.wasmi_core.specs.State.{State, new_state}
 use Rattle.wasmi_script.specs.declared.script.header.Header.{Header}
 use Rattle.wasmi_script.specs.declared.script.header.MeterLine.{MeterLine}
 use Rattle.wasmi_script.specs.declared.script.header.MeterLine.TheVariants.{Off, On}
 use Rattle.wasmi_script.specs.declared.script.header.LimiterLine.{LimiterLine}
 use Rattle.wasmi_script.specs.declared.script.header.LimiterLine.TheVariants.{Quota, Answers}
+use Rattle.wasmi_script.specs.declared.script.header.RegionLine.{RegionLine}
 use Rattle.wasmi_script.specs.Words.{Words, word_at}
 use Rattle.wasmi_script.specs.Numbers.{WritesNumber}
 use Rattle.wasmi_script.specs.Answers.{WritesAnswers}
@@ -36,6 +38,11 @@ NamesLimiterAfter name operands line = (limiter_word line ≡ name) × WritesLim
 abbrev pub NamesLimiter : Words → LimiterLine → Type 0
 NamesLimiter words line = NamesLimiterAfter (word_at words 0) (drop 1 words) line
 
+-- the words of a line name this region
+abbrev pub NamesRegion : Words → RegionLine → Type 0
+NamesRegion words line = (length words ≡ 3) × (word_at words 0 ≡ codes "region")
+    × WritesNumber 64 (word_at words 1) line.len × WritesNumber 8 (word_at words 2) line.byte
+
 -- a meter that is off
 abbrev pub meter_off : Meter
 meter_off = record { left = None; costs = default_costs }
@@ -48,3 +55,11 @@ meter_said (On bytes_per_fuel) = record { left = Some 0; costs = record default_
 -- the meter that a script starts with: off without a line that says more
 abbrev pub meter_of : Header → Meter
 meter_of header = option_map_or meter_said header.meter meter_off
+
+-- the bytes of a region that a line asks for
+abbrev pub region_bytes : RegionLine → List ℕ
+region_bytes line = replicate line.len line.byte
+
+-- the machine that a script starts with: new, with its meter and its region
+abbrev pub start_of : Header → State
+start_of header = record (new_state (meter_of header)) { spare = option_map region_bytes header.region }

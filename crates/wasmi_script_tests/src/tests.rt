@@ -5,6 +5,7 @@ mod outcomes;
 mod printing;
 mod reading;
 mod refusing;
+mod regions;
 mod streams;
 mod tables;
 mod values;

@@ -1,7 +1,7 @@
 //! The header lines of a script.
 ghost use Rattle.std.specs.Prelude.{◌≡◌, codes, None, IsSomeAnd, IfErr, OnOk, OnErr};
 ghost use Rattle.wasmi_script.specs.Acceptance.{Accepts};
-ghost use Rattle.wasmi_script.specs.Headers.{NamesMeter, NamesLimiter, NamesLimiterAfter, meter_of};
+ghost use Rattle.wasmi_script.specs.Headers.{NamesMeter, NamesLimiter, NamesLimiterAfter, NamesRegion, meter_of};
 
 mod answers;
 
@@ -40,6 +40,15 @@ pub struct QuotaLine {
     pub elements: u64,
 }
 
+/// What a `region` line says: a lent region of so many bytes, all the same.
+#[derive(Clone, Copy)]
+pub struct RegionLine {
+    /// How many bytes it has.
+    pub len: usize,
+    /// Each of its bytes.
+    pub byte: u8,
+}
+
 /// The header lines that a script has.
 #[derive(Drop, Default)]
 pub struct Header {
@@ -47,6 +56,8 @@ pub struct Header {
     pub meter: Option<MeterLine>,
     /// The limiter line, if there is one. Without it no limiter is given.
     pub limiter: Option<LimiterLine>,
+    /// The `region` line, if there is one. Without it no region is lent.
+    pub region: Option<RegionLine>,
 }
 
 impl Header {
@@ -54,7 +65,7 @@ impl Header {
     pub fn take_meter(&mut self, words: &[&str]) -> Result<(), LineError>
         ensures first { OnOk result (self.old.meter ≡ None) }
         ensures meter { OnOk result (IsSomeAnd self.new.meter (NamesMeter words.now)) }
-        ensures others { self.new.limiter ≡ self.old.limiter }
+        ensures others { (self.new.limiter ≡ self.old.limiter) × (self.new.region ≡ self.old.region) }
         ensures err { OnErr result (self.new ≡ self.old) }
         ensures refused { IfErr result (λ error. error ≡ LineError.BadCommand → self.old.meter ≡ None
             → (line : MeterLine) → ¬ (NamesMeter words.now line)) }
@@ -70,7 +81,7 @@ impl Header {
     pub fn take_limiter(&mut self, alloc: Global, words: &[&str]) -> Result<(), LineError>
         ensures first { OnOk result (self.old.limiter ≡ None) }
         ensures limiter { OnOk result (IsSomeAnd self.new.limiter (NamesLimiter words.now)) }
-        ensures others { self.new.meter ≡ self.old.meter }
+        ensures others { (self.new.meter ≡ self.old.meter) × (self.new.region ≡ self.old.region) }
         ensures err { OnErr result (self.new ≡ self.old) }
         ensures refused { IfErr result (λ error. error ≡ LineError.BadCommand → self.old.limiter ≡ None
             → (line : LimiterLine) → ¬ (NamesLimiter words.now line)) }
@@ -79,6 +90,22 @@ impl Header {
             return Err(LineError::BadCommand);
         }
         self.limiter = Some(limiter_line(alloc, words)?);
+        Ok(())
+    }
+
+    /// Takes in a `region` line, of which a script has at most one.
+    pub fn take_region(&mut self, words: &[&str]) -> Result<(), LineError>
+        ensures first { OnOk result (self.old.region ≡ None) }
+        ensures region { OnOk result (IsSomeAnd self.new.region (NamesRegion words.now)) }
+        ensures others { (self.new.meter ≡ self.old.meter) × (self.new.limiter ≡ self.old.limiter) }
+        ensures err { OnErr result (self.new ≡ self.old) }
+        ensures refused { IfErr result (λ error. error ≡ LineError.BadCommand → self.old.region ≡ None
+            → (line : RegionLine) → ¬ (NamesRegion words.now line)) }
+    {
+        if self.region.is_some() {
+            return Err(LineError::BadCommand);
+        }
+        self.region = Some(region_line(words)?);
         Ok(())
     }
 
@@ -107,6 +134,19 @@ fn meter_line(words: &[&str]) -> Result<MeterLine, LineError>
     match words {
         ["meter", "off"] => Ok(MeterLine::Off),
         ["meter", "on", bytes_per_fuel] => Ok(MeterLine::On(number(bytes_per_fuel)?)),
+        _ => Err(LineError::BadCommand),
+    }
+}
+
+/// What the words of a `region` line say.
+fn region_line(words: &[&str]) -> Result<RegionLine, LineError>
+    ensures { Accepts result (NamesRegion words.now) }
+{
+    match words {
+        ["region", len, byte] => Ok(RegionLine {
+            len: number(len)?,
+            byte: number(byte)?,
+        }),
         _ => Err(LineError::BadCommand),
     }
 }
