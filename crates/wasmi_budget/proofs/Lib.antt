@@ -1,0 +1,3 @@
+mod TenantLemmas
+mod PoolLemmas
+mod IsolationLemmas

@@ -1,0 +1,18 @@
+-- Amounts of what machines hold, of each kind.
+use Rattle.std.specs.Prelude.{ℕ}
+use Rattle.wasmi_meter.specs.declared.limiter.Kind.{Kind}
+use Rattle.wasmi_meter.specs.declared.limiter.Kind.TheVariants.{Bytes, Elements}
+use Rattle.wasmi_budget.specs.declared.amounts.Amounts.{Amounts}
+
+-- the amount of a kind
+abbrev pub amount_of : Amounts → Kind → ℕ
+amount_of amounts Bytes = amounts.bytes
+amount_of amounts Elements = amounts.elements
+
+-- nothing of either kind
+abbrev pub nothing : Amounts
+nothing = record { bytes = 0; elements = 0 }
+
+-- the amounts by kind
+abbrev pub amounts_of : (Kind → ℕ) → Amounts
+amounts_of amount = record { bytes = amount Bytes; elements = amount Elements }

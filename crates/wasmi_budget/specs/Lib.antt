@@ -1,0 +1,5 @@
+pub mod Amounts
+pub mod Tenant
+pub mod TenantLaws
+pub mod Pool
+pub mod Laws

@@ -1,0 +1,64 @@
+-- A pool of tenants: what its machines hold together, and what a run of one of them does.
+use Rattle.std.specs.Prelude.{◌≡◌, ◌≤◌, ◌<◌, ◌^◌, ◌++◌, ℕ, List, [], ◌∷◌, Some, None, slice_get, slice_set, sum_by, remove}
+use Rattle.wasmi_meter.specs.declared.limiter.Kind.{Kind}
+use Rattle.wasmi_meter.specs.declared.limiter.Kind.TheVariants.{Bytes, Elements}
+use Rattle.wasmi_meter.specs.Limiter.{optional_rules}
+use Rattle.wasmi_core.specs.declared.calls.Call.{Call}
+use Rattle.wasmi_core.specs.declared.calls.Reply.{Reply}
+use Rattle.wasmi_core.specs.State.{State}
+use Rattle.wasmi_core.specs.Totals.{total}
+use Rattle.wasmi_core.specs.Runs.{IsRunOf}
+use Rattle.wasmi_budget.specs.declared.amounts.Amounts.{Amounts}
+use Rattle.wasmi_budget.specs.declared.pool.AddError.{AddError}
+use Rattle.wasmi_budget.specs.declared.pool.AddError.TheVariants.{NotEmpty, NoRoom}
+use Rattle.wasmi_budget.specs.declared.tenant.Tenant.{Tenant}
+use Rattle.wasmi_budget.specs.Amounts.{amount_of, amounts_of}
+use Rattle.wasmi_budget.specs.Tenant.{tenant_rules}
+
+-- a pool: its caps, and the machines of its tenants by their indices
+pub record PoolValue : Type 0 where
+  pub caps : Amounts
+  pub machines : List State
+
+-- what these machines have of a kind
+abbrev pub total_of : List State → Kind → ℕ
+total_of machines kind = sum_by (λ s. total s kind) machines
+
+-- all machines together are within the caps
+abbrev pub IsWithinCaps : PoolValue → Type 0
+IsWithinCaps pool = (kind : Kind) → total_of pool.machines kind ≤ amount_of pool.caps kind
+
+-- the same, where the caps are numbers of 64 bits
+pub record IsKept (pool : PoolValue) : Type 0 where
+  pub within : IsWithinCaps pool
+  pub fits : (kind : Kind) → amount_of pool.caps kind < 2 ^ 64
+
+-- the limiter of the machine s of an index: it holds what the machine has, beside what the others have
+abbrev pub tenant_at : PoolValue → ℕ → State → Tenant
+tenant_at pool index s =
+    record { caps = pool.caps; others = amounts_of (total_of (remove pool.machines index)); held = amounts_of (total s); last = None }
+
+-- the machine has no bytes and no elements, and dropped none
+pub record HasNothing (s : State) : Type 0 where
+  pub bytes : total s Bytes ≡ 0
+  pub elements : total s Elements ≡ 0
+
+-- a machine that has nothing is added as it is
+pub record AddsTenant (pool : PoolValue) (s : State) (pool' : PoolValue) : Type 0 where
+  pub empty : HasNothing s
+  pub added : pool' ≡ record pool { machines = pool.machines ++ s ∷ [] }
+
+-- why a machine isn't added
+abbrev pub IsAddRefusal : State → AddError → Type 0
+IsAddRefusal s NotEmpty = ¬ HasNothing s
+IsAddRefusal s NoRoom = HasNothing s
+
+-- the machine of an index has run these calls under its limiter, and all else is the same
+pub record RunsTenant (pool : PoolValue) (index : ℕ) (calls : List Call) (replies : List Reply) (pool' : PoolValue) : Type 0 where
+  pub machine : State
+  pub found : slice_get pool.machines index ≡ Some machine
+  pub machine' : State
+  pub tenant' : Tenant
+  pub ran : IsRunOf (optional_rules tenant_rules) calls (record { state = machine; limiter = Some (tenant_at pool index machine) })
+      replies (record { state = machine'; limiter = Some tenant' })
+  pub after : pool' ≡ record pool { machines = slice_set pool.machines index machine' }

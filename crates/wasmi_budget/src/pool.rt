@@ -1,0 +1,161 @@
+//! The pool.
+ghost use Rattle.std.specs.Prelude.{◌≡◌, ◌≤◌, ◌↔◌, ◌<◌, ◌^◌, length, [], IfOk, IfErr, OnErr, IsErrOf, slice_get};
+ghost use Rattle.std.specs.Option.{option_map};
+ghost use Rattle.wasmi_meter.specs.declared.limiter.Kind.TheVariants.{Bytes, Elements};
+ghost use Rattle.wasmi_core.specs.Totals.{total};
+ghost use Rattle.wasmi_budget.specs.Amounts.{amounts_of};
+
+use crate::amounts::Amounts;
+use crate::tenant::Tenant;
+use std::alloc::Global as Allocator;
+use std::marker::Model;
+use wasmi_core::{Call, Machine, Reply, run_reserving};
+
+/// Why a machine isn't added to a pool, in the order of the tests.
+#[derive(Debug, PartialEq, Eq, Drop)]
+pub enum AddError {
+    /// The machine has bytes or elements, or had some that it dropped.
+    NotEmpty,
+    /// Memory was refused.
+    NoRoom,
+}
+
+/// Why a pool makes no run, in the order of the tests.
+#[derive(Debug, PartialEq, Eq, Drop)]
+pub enum PoolError {
+    /// No tenant has the index.
+    NoTenant,
+    /// Room for the replies was refused.
+    OutOfMemory,
+}
+
+/// Machines that share a cap on the bytes of their memories, and one on the elements of their tables: what all of them
+/// have, with what they dropped, stays within both. Each machine is a tenant; their indices count from 0.
+///
+/// Own: upstream has no pool.
+#[derive(Debug, Drop)]
+pub struct Pool<'r> {
+    caps: Amounts,
+    machines: Vec<Machine<'r>>,
+}
+
+impl<'r> Model for Pool<'r> {
+    ghost use Rattle.wasmi_budget.specs.Pool.{PoolValue, IsKept};
+
+    ghost Value = { PoolValue };
+
+    ghost view = { λ p. record { caps = p.caps; machines = p.machines.items } };
+
+    ghost invariant = { λ p. IsKept (record { caps = p.caps; machines = p.machines.items }) };
+}
+
+impl<'r> Pool<'r> {
+    ghost use Rattle.wasmi_budget.specs.Pool.{tenant_at, total_of, AddsTenant, IsAddRefusal, RunsTenant};
+
+    /// A pool with these caps and no tenant. It takes no memory.
+    pub fn new(alloc: Allocator, bytes: u64, elements: u64) -> Pool<'r>
+        ensures { result ≡ record { caps = record { bytes = bytes; elements = elements }; machines = [] } }
+    {
+        Pool {
+            caps: Amounts { bytes, elements },
+            machines: Vec::new(alloc),
+        }
+    }
+
+    /// Adds a machine that has nothing yet, and answers its index. A machine that is refused is handed back.
+    pub fn add(&mut self, machine: Machine<'r>) -> Result<usize, (AddError, Machine<'r>)>
+        ensures added { IfOk result (λ index. (index ≡ length self.old.machines) × AddsTenant self.old machine.entry self.new) }
+        ensures refused { IfErr result (λ refusal. IsAddRefusal machine.entry refusal.0) }
+        ensures same { IfErr result (λ refusal. (refusal.1 ≡ machine.entry) × (self.new ≡ self.old)) }
+    {
+        if machine.total_bytes() > 0 || machine.total_elements() > 0 {
+            return Err((AddError::NotEmpty, machine));
+        }
+        if self.machines.try_reserve(1).is_err() {
+            return Err((AddError::NoRoom, machine));
+        }
+        let index = self.machines.len();
+        self.machines.push_reserved(machine);
+        Ok(index)
+    }
+
+    /// Answers calls on the machine of a tenant, in turn, under a limiter that permits what keeps all tenants together
+    /// within the caps.
+    pub fn run(&mut self, index: usize, calls: &[Call]) -> Result<Vec<Reply>, PoolError>
+        ensures ran { IfOk result (λ replies. RunsTenant self.old index calls.now replies.items self.new) }
+        ensures no_tenant { IsErrOf result PoolError.NoTenant ↔ (length self.old.machines ≤ index) }
+        ensures refused { OnErr result (self.new ≡ self.old) }
+    {
+        let Some(mut tenant) = self.tenant(index) else {
+            return Err(PoolError::NoTenant);
+        };
+        let machine = &mut self.machines[index];
+        match run_reserving(machine, calls, &mut tenant) {
+            Ok(replies) => Ok(replies),
+            Err(_) => Err(PoolError::OutOfMemory),
+        }
+    }
+
+    /// The bytes of a tenant's memories, with those that it dropped. They fit, since the cap does.
+    pub fn held_bytes(&self, index: usize) -> Option<u64>
+        ensures { result ≡ option_map (λ s. total s Bytes) (slice_get self.now.machines index) }
+    {
+        Some(self.held(index)?.bytes)
+    }
+
+    /// The elements of a tenant's tables, with those that it dropped. They fit, since the cap does.
+    pub fn held_elements(&self, index: usize) -> Option<u64>
+        ensures { result ≡ option_map (λ s. total s Elements) (slice_get self.now.machines index) }
+    {
+        Some(self.held(index)?.elements)
+    }
+
+    /// What a tenant's machine has.
+    fn held(&self, index: usize) -> Option<Amounts>
+        ensures { result ≡ option_map (λ s. amounts_of (total s)) (slice_get self.now.machines index) }
+    {
+        let machine = self.machines.get(index)?;
+        Some(totals(machine))
+    }
+
+    /// What all tenants' machines have.
+    fn held_by_all(&self) -> Amounts
+        ensures { result ≡ amounts_of (total_of self.now.machines) }
+    {
+        let mut all = Amounts {
+            bytes: 0,
+            elements: 0,
+        };
+        for machine in &self.machines {
+            let held = totals(machine);
+            all.bytes += held.bytes;
+            all.elements += held.elements;
+        }
+        all
+    }
+
+    /// The limiter under which a tenant's machine runs.
+    fn tenant(&self, index: usize) -> Option<Tenant>
+        ensures { result ≡ option_map (tenant_at self.now index) (slice_get self.now.machines index) }
+    {
+        let held = self.held(index)?;
+        let all = self.held_by_all();
+        let others = Amounts {
+            bytes: all.bytes - held.bytes,
+            elements: all.elements - held.elements,
+        };
+        Some(Tenant::new(self.caps, others, held))
+    }
+}
+
+/// What a machine has of each kind.
+fn totals(machine: &Machine) -> Amounts
+    requires bytes { total machine.now Bytes < 2 ^ 64 }
+    requires elements { total machine.now Elements < 2 ^ 64 }
+    ensures { result ≡ amounts_of (total machine.now) }
+{
+    Amounts {
+        bytes: machine.total_bytes() as u64,
+        elements: machine.total_elements() as u64,
+    }
+}

@@ -1,0 +1,132 @@
+-- A run under one limiter is one under another that may answer the same.
+use Rattle.std.proofs.Common.{◌≡◌, ℕ, Option, Some, None, Result, List, [], ◌∷◌, Bool, true, false, ap, subst, inl, inr}
+use Rattle.std.specs.Prelude.{MatchBool}
+use Rattle.wasmi_meter.specs.Limiter.{Question, Answer, Failure, Heed, Rules}
+use Rattle.wasmi_meter.specs.Meter.{Meter}
+use Rattle.wasmi_meter.specs.Attempt.{Situation, alone, Effort, Fate, Unasked, Denied, Met, Failed, Attempt, Follows}
+use Rattle.wasmi_typed.specs.declared.typed_ref.TypedRawRef.{TypedRawRef}
+use Rattle.wasmi_store.specs.Buffer.{Owned}
+use Rattle.wasmi_store.specs.Growth.{Growth, Makes, Grows}
+use Rattle.wasmi_store.specs.Memory.{pages_of, new_memory, GrowsMemory}
+use Rattle.wasmi_store.specs.Memory as memory
+use Rattle.wasmi_store.specs.Table.{TableValue, size_of, new_table, MakesTable, GrowsTable}
+use Rattle.wasmi_store.specs.Table as table
+use Rattle.wasmi_store.specs.TableType.{same_type}
+use Rattle.wasmi_core.specs.declared.calls.Call.{Call}
+use Rattle.wasmi_core.specs.declared.calls.Call.TheVariants.{SetFuel, GetFuel, NewMemory, GrowMemory, DropMemory, Read, Write, Load, Store, NewTable, GrowTable, DropTable, GetElement, SetElement, InitTable, CopyTable, FillTable, NewSegment, DropItems, NewGlobal, SetGlobal, GetGlobal, SetRegister, GetRegister, Make, Unary, Binary, Ternary, Shift, Test, Extract, Replace, Shuffle, VectorLoad, LoadLane, VectorStore, StoreLane}
+use Rattle.wasmi_core.specs.declared.calls.Reply.{Reply}
+use Rattle.wasmi_core.specs.declared.calls.Reply.TheVariants as replied
+use Rattle.wasmi_core.specs.declared.slots.Slot.{Slot}
+use Rattle.wasmi_core.specs.State.{live_at}
+use Rattle.wasmi_core.specs.World.{World, Turn}
+use Rattle.wasmi_core.specs.Rows.{reply_of, OnLive, ActsAt, Creates}
+use Rattle.wasmi_core.specs.Steps.{StepBy}
+use Rattle.wasmi_core.specs.Runs.{Run}
+
+-- whatever the first limiter may answer in a state, the second may answer in the image of the state, and the states after it are images too
+pub record Carries {S T : Type 0} (image : S → T) (rules : Rules S) (rules' : Rules T) : Type 0 where
+  pub asked : (l : S) (question : Question) (answer : Answer) (l' : S) → rules.asked l question answer l' → rules'.asked (image l) question answer (image l')
+  pub noticed : (l : S) (failure : Failure) (heed : Heed) (l' : S) → rules.noticed l failure heed l' → rules'.noticed (image l) failure heed (image l')
+
+-- the world with the image of its limiter
+abbrev pub carried : {S T : Type 0} → (S → T) → World S → World T
+carried image w = record { state = w.state; limiter = image w.limiter }
+
+-- a fact of a live value, or of none, from another one of it
+on_live_too : {X : Type 0} (o : Option X) (Missing Missing' : Type 0) (Fact Fact' : X → Type 0) → (Missing → Missing') → ((x : X) → Fact x → Fact' x) → OnLive o Missing Fact → OnLive o Missing' Fact'
+on_live_too None Missing Missing' Fact Fact' missing live h = missing h
+on_live_too (Some x) Missing Missing' Fact Fact' missing live h = live x h
+
+-- facts by a test, from others by it
+on_test_too : (test : Bool) (Holds Holds' Fails Fails' : Type 0) → (Holds → Holds') → (Fails → Fails') → MatchBool test Holds Fails → MatchBool test Holds' Fails'
+on_test_too true Holds Holds' Fails Fails' holds fails h = holds h
+on_test_too false Holds Holds' Fails Fails' holds fails h = fails h
+
+module _ {S T : Type 0} (image : S → T) where
+  -- the situation with the image of its limiter
+  abbrev moved : {V : Type 0} → Situation V S → Situation V T
+  moved s = record { value = s.value; meter = s.meter; limiter = image s.limiter }
+
+  module _ (rules : Rules S) (rules' : Rules T) (carries : Carries image rules rules') where
+    module _ {V E : Type 0} (e : Effort V E) where
+      follows_too : (fate : Fate E) (l l' : S) → Follows e rules l fate l' → Follows e rules' (image l) fate (image l')
+      follows_too (Unasked cause) l l' same = ap image same
+      follows_too (Denied answer) l l' asks = carries.asked l e.question answer l' asks
+      follows_too Met l l' asks = carries.asked l e.question _ l' asks
+      follows_too (Failed cause heed) l l' (permitted, asks, notices) = (image permitted, carries.asked l e.question _ permitted asks, carries.noticed permitted (e.notice cause) heed l' notices)
+
+      attempt_too : (s s' : Situation V S) (fate : Fate E) (charge : ℕ) → Attempt rules e s fate charge s' → Attempt rules' e (moved s) fate charge (moved s')
+      attempt_too s s' fate charge a = record {
+        may_end = a.may_end;
+        follows = follows_too fate s.limiter s'.limiter a.follows;
+        charged = a.charged;
+        meter = a.meter;
+        value = a.value;
+      }
+
+    makes_too : {T' E : Type 0} (e : Effort (Unit {0}) E) (made : T') (l l' : S) (result : Result T' E) → Makes rules e made l result l' → Makes rules' e made (image l) result (image l')
+    makes_too e made l l' result (fate, attempt, answered) = (fate, attempt_too e (alone l) (alone l') fate 0 attempt, answered)
+
+    grows_too : {V E : Type 0} (g : Growth V E) (s s' : Situation V S) (result : Result ℕ E) (charge : ℕ) → Grows rules g s result charge s' → Grows rules' g (moved s) result charge (moved s')
+    grows_too g s s' result charge (inl none) = inl (record { none = none.none; answered = none.answered; uncharged = none.uncharged; same = ap moved none.same })
+    grows_too g s s' result charge (inr some) = inr (record { some = some.some; fate = some.fate; attempt = attempt_too g.effort s s' some.fate charge some.attempt; answered = some.answered })
+
+    creates_too : {X E : Type 0} (refusal : E → Reply) (e : Effort (Unit {0}) E) (made : X) (slots slots' : List (Slot X)) (reply : Reply) (l l' : S) → Creates refusal (Makes rules e made) slots l reply slots' l' → Creates refusal (Makes rules' e made) slots (image l) reply slots' (image l')
+    creates_too refusal e made slots slots' reply l l' (inl none) = inl (none.0, none.1, ap image none.2)
+    creates_too refusal e made slots slots' reply l l' (inr (result, makes, appends)) = inr (result, makes_too e made l l' result makes, appends)
+
+    acts_too : {X R : Type 0} (k : ℕ) (reply_to : R → Reply) (Acts : Situation X S → R → ℕ → Situation X S → Type 0) (Acts' : Situation X T → R → ℕ → Situation X T → Type 0) → ((s s' : Situation X S) (result : R) (charge : ℕ) → Acts s result charge s' → Acts' (moved s) result charge (moved s'))
+        → (s s' : Situation (List (Slot X)) S) (reply : Reply) (charge : ℕ) → ActsAt k reply_to Acts s reply charge s' → ActsAt k reply_to Acts' (moved s) reply charge (moved s')
+    acts_too k reply_to Acts Acts' too s s' reply charge acts =
+        on_live_too (live_at s.value k) _ _ _ _ (λ missing. (missing.0, missing.1, ap moved missing.2)) (λ x h. (h.0, h.1, too _ _ h.0 charge h.2, h.3, h.4)) acts
+
+    table_growth_too : (n : ℕ) (init : TypedRawRef) (s s' : Situation TableValue S) (result : Result ℕ _) (charge : ℕ) → GrowsTable rules n init s result charge s' → GrowsTable rules' n init (moved s) result charge (moved s')
+    table_growth_too n init s s' result charge grows =
+        on_test_too (same_type s.value.ty.element init.ty) _ _ _ _
+        (grows_too (record { amount = n; size = size_of s.value; effort = table.growth_of s.value n init.raw }) s s' result charge)
+        (λ mismatch. (mismatch.0, mismatch.1, ap moved mismatch.2)) grows
+
+    module _ (w : World S) (turn : Turn) (w' : World S) where
+      step_too : (call : Call) → StepBy rules call w turn w' → StepBy rules' call (carried image w) turn (carried image w')
+      step_too (SetFuel fuel) step = (step.0, step.1, step.2, ap (carried image) step.3)
+      step_too GetFuel step = (step.0, step.1, ap (carried image) step.2)
+      step_too (NewMemory ty) step = (step.0, step.1, image step.2, creates_too replied.Memory (memory.creation_of Owned ty) (new_memory Owned ty) w.state.memories step.1 turn.reply w.limiter step.2 step.3, ap (carried image) step.4)
+      step_too (GrowMemory k pages) step = (step.0, step.1, image step.2, acts_too k (reply_of replied.Number replied.Memory) (GrowsMemory rules pages) (GrowsMemory rules' pages) (λ s. grows_too (record { amount = pages; size = pages_of s.value; effort = memory.growth_of s.value pages }) s) (record { value = w.state.memories; meter = Some w.state.meter; limiter = w.limiter }) (record { value = step.0; meter = Some step.1; limiter = step.2 }) turn.reply turn.charge step.3, step.4, ap (carried image) step.5)
+      step_too (DropMemory k) step = (step.0, step.1, step.2, ap (carried image) step.3)
+      step_too (Read k offset len) step = (step.0, step.1, ap (carried image) step.2)
+      step_too (Write k offset bytes) step = (step.0, step.1, step.2, ap (carried image) step.3)
+      step_too (Load op k ptr offset) step = (step.0, step.1, ap (carried image) step.2)
+      step_too (Store op k ptr offset value) step = (step.0, step.1, step.2, ap (carried image) step.3)
+      step_too (NewTable ty init) step = (step.0, step.1, image step.2, creates_too replied.Table (table.creation_of ty init.ty) (new_table ty init.raw) w.state.tables step.1 turn.reply w.limiter step.2 step.3, ap (carried image) step.4)
+      step_too (GrowTable k n init) step = (step.0, step.1, image step.2, acts_too k (reply_of replied.Number replied.Table) (GrowsTable rules n init) (GrowsTable rules' n init) (table_growth_too n init) (record { value = w.state.tables; meter = Some w.state.meter; limiter = w.limiter }) (record { value = step.0; meter = Some step.1; limiter = step.2 }) turn.reply turn.charge step.3, step.4, ap (carried image) step.5)
+      step_too (DropTable k) step = (step.0, step.1, step.2, ap (carried image) step.3)
+      step_too (GetElement k index) step = (step.0, step.1, ap (carried image) step.2)
+      step_too (SetElement k index value) step = (step.0, step.1, step.2, ap (carried image) step.3)
+      step_too (InitTable k j dst src len) step = (step.0, step.1, step.2, step.3, ap (carried image) step.4)
+      step_too (CopyTable k dst j src len) step = (step.0, step.1, step.2, step.3, ap (carried image) step.4)
+      step_too (FillTable k dst value len) step = (step.0, step.1, step.2, step.3, ap (carried image) step.4)
+      step_too (NewSegment ty items) step = (step.0, step.1, step.2, ap (carried image) step.3)
+      step_too (DropItems k) step = (step.0, step.1, step.2, ap (carried image) step.3)
+      step_too (NewGlobal value ty) step = (step.0, step.1, step.2, ap (carried image) step.3)
+      step_too (SetGlobal k value) step = (step.0, step.1, step.2, ap (carried image) step.3)
+      step_too (GetGlobal k) step = (step.0, step.1, ap (carried image) step.2)
+      step_too (SetRegister dst value) step = (step.0, step.1, step.2, ap (carried image) step.3)
+      step_too (GetRegister a) step = (step.0, step.1, ap (carried image) step.2)
+      step_too (Make op dst a) step = (step.0, step.1, step.2, ap (carried image) step.3)
+      step_too (Unary op dst a) step = (step.0, step.1, step.2, ap (carried image) step.3)
+      step_too (Binary op dst a b) step = (step.0, step.1, step.2, ap (carried image) step.3)
+      step_too (Ternary op dst a b c) step = (step.0, step.1, step.2, ap (carried image) step.3)
+      step_too (Shift op dst a amount) step = (step.0, step.1, step.2, ap (carried image) step.3)
+      step_too (Test op a) step = (step.0, step.1, ap (carried image) step.2)
+      step_too (Extract op a) step = (step.0, step.1, ap (carried image) step.2)
+      step_too (Replace op dst a item) step = (step.0, step.1, step.2, ap (carried image) step.3)
+      step_too (Shuffle dst a b lanes) step = (step.0, step.1, step.2, ap (carried image) step.3)
+      step_too (VectorLoad op dst k ptr offset) step = (step.0, step.1, step.2, ap (carried image) step.3)
+      step_too (LoadLane op dst a k ptr offset) step = (step.0, step.1, step.2, ap (carried image) step.3)
+      step_too (VectorStore a k ptr offset) step = (step.0, step.1, step.2, ap (carried image) step.3)
+      step_too (StoreLane op a k ptr offset) step = (step.0, step.1, step.2, ap (carried image) step.3)
+
+    -- a run under the first is one under the second, with the same turns and machines
+    pub runs_too : (w : World S) (turns : List Turn) (w' : World S) → Run rules w turns w' → Run rules' (carried image w) turns (carried image w')
+    runs_too w [] w' ran = ap (carried image) ran
+    runs_too w (turn ∷ turns) w' (v, step, ran) = (carried image v, step_too w turn v turn.call step, runs_too v turns w' ran)
