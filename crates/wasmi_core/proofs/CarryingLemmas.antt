@@ -5,7 +5,7 @@ use Rattle.wasmi_meter.specs.Limiter.{Question, Answer, Failure, Heed, Rules}
 use Rattle.wasmi_meter.specs.Meter.{Meter}
 use Rattle.wasmi_meter.specs.Attempt.{Situation, alone, Effort, Fate, Unasked, Denied, Met, Failed, Attempt, Follows}
 use Rattle.wasmi_typed.specs.declared.typed_ref.TypedRawRef.{TypedRawRef}
-use Rattle.wasmi_store.specs.Buffer.{Owned}
+use Rattle.wasmi_store.specs.Buffer.{Owned, Lent}
 use Rattle.wasmi_store.specs.Growth.{Growth, Makes, Grows}
 use Rattle.wasmi_store.specs.Memory.{pages_of, new_memory, GrowsMemory}
 use Rattle.wasmi_store.specs.Memory as memory
@@ -13,7 +13,7 @@ use Rattle.wasmi_store.specs.Table.{TableValue, size_of, new_table, MakesTable, 
 use Rattle.wasmi_store.specs.Table as table
 use Rattle.wasmi_store.specs.TableType.{same_type}
 use Rattle.wasmi_core.specs.declared.calls.Call.{Call}
-use Rattle.wasmi_core.specs.declared.calls.Call.TheVariants.{SetFuel, GetFuel, NewMemory, GrowMemory, DropMemory, Read, Write, Load, Store, NewTable, GrowTable, DropTable, GetElement, SetElement, InitTable, CopyTable, FillTable, NewSegment, DropItems, NewGlobal, SetGlobal, GetGlobal, SetRegister, GetRegister, Make, Unary, Binary, Ternary, Shift, Test, Extract, Replace, Shuffle, VectorLoad, LoadLane, VectorStore, StoreLane}
+use Rattle.wasmi_core.specs.declared.calls.Call.TheVariants.{SetFuel, GetFuel, NewMemory, NewLentMemory, GrowMemory, DropMemory, Read, Write, Load, Store, NewTable, GrowTable, DropTable, GetElement, SetElement, InitTable, CopyTable, FillTable, NewSegment, DropItems, NewGlobal, SetGlobal, GetGlobal, SetRegister, GetRegister, Make, Unary, Binary, Ternary, Shift, Test, Extract, Replace, Shuffle, VectorLoad, LoadLane, VectorStore, StoreLane}
 use Rattle.wasmi_core.specs.declared.calls.Reply.{Reply}
 use Rattle.wasmi_core.specs.declared.calls.Reply.TheVariants as replied
 use Rattle.wasmi_core.specs.declared.slots.Slot.{Slot}
@@ -91,6 +91,7 @@ module _ {S T : Type 0} (image : S → T) where
       step_too (SetFuel fuel) step = (step.0, step.1, step.2, ap (carried image) step.3)
       step_too GetFuel step = (step.0, step.1, ap (carried image) step.2)
       step_too (NewMemory ty) step = (step.0, step.1, image step.2, creates_too replied.Memory (memory.creation_of Owned ty) (new_memory Owned ty) w.state.memories step.1 turn.reply w.limiter step.2 step.3, ap (carried image) step.4)
+      step_too (NewLentMemory ty) step = (step.0, step.1, image step.2, on_live_too w.state.spare _ _ _ _ (λ none. (none.0, none.1, ap image none.2)) (λ region h. (creates_too replied.Memory (memory.creation_of (Lent region) ty) (new_memory (Lent region) ty) w.state.memories step.1.slots turn.reply w.limiter step.2 h.0, h.1)) step.3, ap (carried image) step.4)
       step_too (GrowMemory k pages) step = (step.0, step.1, image step.2, acts_too k (reply_of replied.Number replied.Memory) (GrowsMemory rules pages) (GrowsMemory rules' pages) (λ s. grows_too (record { amount = pages; size = pages_of s.value; effort = memory.growth_of s.value pages }) s) (record { value = w.state.memories; meter = Some w.state.meter; limiter = w.limiter }) (record { value = step.0; meter = Some step.1; limiter = step.2 }) turn.reply turn.charge step.3, step.4, ap (carried image) step.5)
       step_too (DropMemory k) step = (step.0, step.1, step.2, ap (carried image) step.3)
       step_too (Read k offset len) step = (step.0, step.1, ap (carried image) step.2)

@@ -9,3 +9,8 @@ pub accepts_same : {A : Type 0} (r : Result A LineError) (P Q : A → Type 0) �
 accepts_same (Ok a) P Q there back p = there a p
 accepts_same (Err BadCommand) P Q there back p = λ a q. p a (back a q)
 accepts_same (Err OutOfMemory) P Q there back p = tt
+
+-- what is refused since a part of it is
+pub refused_with : {A B : Type 0} (error : LineError) (P : A → Type 0) (Q : B → Type 0) → ((b : B) → Q b → (a : A) × P a) → Accepts {A = A} (Err error) P → Accepts {A = B} (Err error) Q
+refused_with BadCommand P Q part refused = λ b q. refused (part b q).0 (part b q).1
+refused_with OutOfMemory P Q part refused = tt

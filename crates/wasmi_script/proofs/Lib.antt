@@ -1,4 +1,6 @@
 pub mod Scripts
+pub mod LinesLemmas
+pub mod AnswersLemmas
 pub mod AcceptanceLemmas
 pub mod NumbersLemmas
 pub mod TypeWordsLemmas

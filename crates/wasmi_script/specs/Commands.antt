@@ -2,7 +2,7 @@
 use Rattle.std.specs.Prelude.{◌≡◌, ℕ, ◌≤◌, List, length, codes, drop}
 use Rattle.wasmi_raw.specs.RawVal.{raw_of}
 use Rattle.wasmi_core.specs.declared.calls.Call.{Call}
-use Rattle.wasmi_core.specs.declared.calls.Call.TheVariants.{SetFuel, GetFuel, NewMemory, GrowMemory, DropMemory, Read, Write, Load, Store, NewTable, GrowTable, DropTable, GetElement, SetElement, InitTable, CopyTable, FillTable, NewSegment, DropItems, NewGlobal, SetGlobal, GetGlobal, SetRegister, GetRegister, Make, Unary, Binary, Ternary, Shift, Test, Extract, Replace, Shuffle, VectorLoad, LoadLane, VectorStore, StoreLane}
+use Rattle.wasmi_core.specs.declared.calls.Call.TheVariants.{SetFuel, GetFuel, NewMemory, NewLentMemory, GrowMemory, DropMemory, Read, Write, Load, Store, NewTable, GrowTable, DropTable, GetElement, SetElement, InitTable, CopyTable, FillTable, NewSegment, DropItems, NewGlobal, SetGlobal, GetGlobal, SetRegister, GetRegister, Make, Unary, Binary, Ternary, Shift, Test, Extract, Replace, Shuffle, VectorLoad, LoadLane, VectorStore, StoreLane}
 use Rattle.wasmi_script.specs.Words.{Words, word_at}
 use Rattle.wasmi_script.specs.Numbers.{WritesNumber, WritesNumbers}
 use Rattle.wasmi_script.specs.MemoryWords.{NamesType}
@@ -17,6 +17,7 @@ abbrev pub command_word : Call → List ℕ
 command_word (SetFuel fuel) = codes "fuel"
 command_word GetFuel = codes "left"
 command_word (NewMemory ty) = codes "memory"
+command_word (NewLentMemory ty) = codes "lent"
 command_word (GrowMemory memory pages) = codes "grow"
 command_word (DropMemory memory) = codes "drop"
 command_word (Read memory offset len) = codes "read"
@@ -57,6 +58,7 @@ abbrev pub WritesOperands : Words → Call → Type 0
 WritesOperands words (SetFuel fuel) = (length words ≡ 1) × WritesNumber 64 (word_at words 0) fuel
 WritesOperands words GetFuel = length words ≡ 0
 WritesOperands words (NewMemory ty) = (length words ≡ 4) × NamesType (word_at words 0) (word_at words 1) (word_at words 2) (word_at words 3) ty
+WritesOperands words (NewLentMemory ty) = (length words ≡ 4) × NamesType (word_at words 0) (word_at words 1) (word_at words 2) (word_at words 3) ty
 WritesOperands words (GrowMemory memory pages) = (length words ≡ 2) × WritesNumber 64 (word_at words 0) memory × WritesNumber 64 (word_at words 1) pages
 WritesOperands words (DropMemory memory) = (length words ≡ 2) × (word_at words 0 ≡ codes "memory") × WritesNumber 64 (word_at words 1) memory
 WritesOperands words (Read memory offset len) = (length words ≡ 3)

@@ -8,6 +8,7 @@ pub mod TypeWords
 pub mod MemoryWords
 pub mod TableWords
 pub mod Commands
+pub mod Answers
 pub mod Headers
 pub mod Lines
 pub mod Printing

@@ -5,7 +5,7 @@ use Rattle.wasmi_core.specs.declared.calls.Call.{Call}
 use Rattle.wasmi_script.specs.declared.script.Script.{Script}
 use Rattle.wasmi_script.specs.Words.{Words}
 use Rattle.wasmi_script.specs.Commands.{Names}
-use Rattle.wasmi_script.specs.Headers.{NamesMeter, NamesLimiter}
+use Rattle.wasmi_script.specs.Headers.{NamesMeter, NamesLimiter, NamesRegion}
 
 -- the words of a line: what stands between its spaces
 unfoldable pub words_in : List ℕ → List (List ℕ)
@@ -17,6 +17,7 @@ pub record AddsMeter (old : Script) (words : Words) (new : Script) : Type 0 wher
   pub first : old.header.meter ≡ None
   pub meter : IsSomeAnd new.header.meter (NamesMeter words)
   pub limiter : new.header.limiter ≡ old.header.limiter
+  pub region : new.header.region ≡ old.header.region
   pub calls : new.calls.items ≡ old.calls.items
 
 -- a limiter line, the first one of any kind and before all commands
@@ -25,6 +26,16 @@ pub record AddsLimiter (old : Script) (words : Words) (new : Script) : Type 0 wh
   pub first : old.header.limiter ≡ None
   pub limiter : IsSomeAnd new.header.limiter (NamesLimiter words)
   pub meter : new.header.meter ≡ old.header.meter
+  pub region : new.header.region ≡ old.header.region
+  pub calls : new.calls.items ≡ old.calls.items
+
+-- a `region` line, the first one and before all commands
+pub record AddsRegion (old : Script) (words : Words) (new : Script) : Type 0 where
+  pub before_commands : old.calls.items ≡ []
+  pub first : old.header.region ≡ None
+  pub region : IsSomeAnd new.header.region (NamesRegion words)
+  pub meter : new.header.meter ≡ old.header.meter
+  pub limiter : new.header.limiter ≡ old.header.limiter
   pub calls : new.calls.items ≡ old.calls.items
 
 -- a command, whose call comes after those of the lines before
@@ -36,7 +47,7 @@ pub record AddsCall (old : Script) (words : Words) (new : Script) : Type 0 where
 
 -- a line without words adds nothing
 abbrev pub AddsLine : Script → Words → Script → Type 0
-AddsLine old words new = ((words ≡ []) × (new ≡ old)) ⊎ AddsMeter old words new ⊎ AddsLimiter old words new ⊎ AddsCall old words new
+AddsLine old words new = ((words ≡ []) × (new ≡ old)) ⊎ AddsMeter old words new ⊎ AddsLimiter old words new ⊎ AddsRegion old words new ⊎ AddsCall old words new
 
 -- a line of a script, by its words
 abbrev pub TakesLine : Script → List ℕ → Script → Type 0
@@ -54,6 +65,6 @@ lines_in text = slice_split (λ byte. byte == 10) text
 -- the script that a text writes: what its lines add to an empty one
 pub record WritesScript (text : List ℕ) (script : Script) : Type 0 where
   pub empty : Script
-  pub no_header : empty.header ≡ record { meter = None; limiter = None }
+  pub no_header : empty.header ≡ record { meter = None; limiter = None; region = None }
   pub no_calls : empty.calls.items ≡ []
   pub lines : TakesLines (lines_in text) empty script

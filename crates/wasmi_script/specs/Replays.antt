@@ -7,7 +7,7 @@ use Rattle.wasmi_meter.specs.declared.limiter.Kind.TheVariants.{Bytes, Elements}
 use Rattle.wasmi_meter.specs.Holdings.{Holdings}
 use Rattle.wasmi_meter.specs.Quota.{quota_rules, cap_of, holdings}
 use Rattle.wasmi_core.specs.declared.calls.Call.{Call}
-use Rattle.wasmi_core.specs.State.{State, new_state}
+use Rattle.wasmi_core.specs.State.{State}
 use Rattle.wasmi_core.specs.World.{World}
 use Rattle.wasmi_core.specs.Runs.{IsRunOf}
 use Rattle.wasmi_core.specs.Totals.{HoldsTotals}
@@ -17,7 +17,9 @@ use Rattle.wasmi_script.specs.declared.script.header.LimiterLine.TheVariants as 
 use Rattle.wasmi_script.specs.declared.script.header.QuotaLine.{QuotaLine}
 use Rattle.wasmi_script.specs.declared.replaying.Held.{Held}
 use Rattle.wasmi_script.specs.declared.replaying.Ran.{Ran}
-use Rattle.wasmi_script.specs.Headers.{meter_of}
+use Rattle.wasmi_script.specs.declared.answering.AnswerList.{AnswerList}
+use Rattle.wasmi_script.specs.Answers.{IsNewList, answer_rules}
+use Rattle.wasmi_script.specs.Headers.{start_of}
 
 -- what a limiter holds that has permitted nothing yet
 abbrev pub nothing_held : Holdings
@@ -41,7 +43,9 @@ IsReplayUnder None start calls ran = (ran.held ≡ None) × (after : World (Opti
 IsReplayUnder (Some (Lines.Quota line)) start calls ran = (quota : Quota) × IsNewQuota line quota × (end : State) × (after : Quota)
     × IsRunOf (optional_rules quota_rules) calls (record { state = start; limiter = Some quota }) ran.replies.items (record { state = end; limiter = Some after })
     × HoldsTotals (holdings after) end × (ran.held ≡ Some (printed_holdings after))
+IsReplayUnder (Some (Lines.Answers words)) start calls ran = (ran.held ≡ None) × (list : AnswerList) × IsNewList words.items list × (after : World (Option AnswerList))
+    × IsRunOf (optional_rules answer_rules) calls (record { state = start; limiter = Some list }) ran.replies.items after
 
--- the replies are those of a run of the script's calls on a new machine with its meter
+-- the replies are those of a run of the script's calls on a new machine with its meter and its region
 abbrev pub IsReplayOf : Script → Ran → Type 0
-IsReplayOf script ran = IsReplayUnder script.header.limiter (new_state (meter_of script.header)) script.calls.items ran
+IsReplayOf script ran = IsReplayUnder script.header.limiter (start_of script.header) script.calls.items ran

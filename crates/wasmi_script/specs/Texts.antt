@@ -7,9 +7,9 @@ use Rattle.wasmi_typed.specs.GlobalError.{global_error_text}
 use Rattle.wasmi_typed.specs.declared.typed_ref.TypedRawRef.{TypedRawRef}
 use Rattle.wasmi_store.specs.SegmentError.{segment_error_text}
 use Rattle.wasmi_core.specs.declared.calls.Call.{Call}
-use Rattle.wasmi_core.specs.declared.calls.Call.TheVariants.{NewMemory, NewTable, NewSegment, NewGlobal}
+use Rattle.wasmi_core.specs.declared.calls.Call.TheVariants.{NewMemory, NewLentMemory, NewTable, NewSegment, NewGlobal}
 use Rattle.wasmi_core.specs.declared.calls.Reply.{Reply}
-use Rattle.wasmi_core.specs.declared.calls.Reply.TheVariants.{Done, Made, Value, Number, Bytes, Reference, Memory, Table, Fuel, Global, Segment, Trap, NoSuch, NoRoom}
+use Rattle.wasmi_core.specs.declared.calls.Reply.TheVariants.{Done, Made, Value, Number, Bytes, Reference, Memory, Table, Fuel, Global, Segment, Trap, NoSuch, NoRegion, NoRoom}
 use Rattle.wasmi_script.specs.declared.error.ReplayError.{ReplayError}
 use Rattle.wasmi_script.specs.declared.error.ReplayError.TheVariants.{BadCommand, TooLong, ReadFault}
 use Rattle.wasmi_script.specs.declared.error.ReplayError.TheVariants as Errors
@@ -18,6 +18,7 @@ use Rattle.wasmi_script.specs.TypeWords.{reference_word}
 -- the word for what a call makes; only creations make anything
 abbrev pub kind_text : Call → List ℕ
 kind_text (NewMemory ty) = codes "memory"
+kind_text (NewLentMemory ty) = codes "memory"
 kind_text (NewTable ty init) = codes "table"
 kind_text (NewSegment ty items) = codes "segment"
 kind_text (NewGlobal value ty) = codes "global"
@@ -47,6 +48,7 @@ reply_text call (Global error) = codes "error " ++ global_error_text error
 reply_text call (Segment error) = codes "error " ++ segment_error_text error
 reply_text call (Trap code) = codes "error " ++ code_message code
 reply_text call NoSuch = codes "no such"
+reply_text call NoRegion = codes "no region"
 reply_text call NoRoom = codes "no room"
 
 -- why a script isn't run

@@ -1,6 +1,7 @@
 //! Scripts of calls on a metered machine: reading, parsing, running, printing.
 #![tactic(auto)]
 
+mod answering;
 mod error;
 mod print;
 mod reading;

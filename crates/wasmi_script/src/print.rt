@@ -91,6 +91,7 @@ impl fmt::Display for ReplyLine<'_> {
             Reply::Segment(error) => write!(f, "error {error}"),
             Reply::Trap(code) => write!(f, "error {code}"),
             Reply::NoSuch => write!(f, "no such"),
+            Reply::NoRegion => write!(f, "no region"),
             Reply::NoRoom => write!(f, "no room"),
         }
     }
@@ -119,7 +120,7 @@ fn kind_made(call: &Call) -> &'static str
     ensures { result.now ≡ kind_text call.now }
 {
     match call {
-        Call::NewMemory(_) => "memory",
+        Call::NewMemory(_) | Call::NewLentMemory(_) => "memory",
         Call::NewTable { .. } => "table",
         Call::NewSegment { .. } => "segment",
         Call::NewGlobal { .. } => "global",

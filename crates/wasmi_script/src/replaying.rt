@@ -5,14 +5,17 @@ ghost use Rattle.wasmi_core.specs.Totals.{HoldsTotals};
 ghost use Rattle.wasmi_script.specs.Replays.{IsReplayOf, IsReplayUnder, nothing_held};
 ghost use Rattle.wasmi_script.specs.Status.{status_number, status_after};
 
+use crate::answering::AnswerList;
 use crate::error::ReplayError;
 use crate::print::{Printer, ReplyLine};
 use crate::reading::{LIMIT, read};
-use crate::script::{LimiterLine, QuotaLine, Script, parse};
+use crate::script::{AnswerWord, LimiterLine, QuotaLine, RegionLine, Script, parse};
 use std::alloc::{AllocError, Global};
 use std::fmt::Write;
 use std::{fmt, io};
-use wasmi_core::{Call, Machine, NoLimits, Quota, Reply, ResourceLimiterRef, run, run_reserving};
+use wasmi_core::{
+    Call, Machine, NoLimits, Quota, Reply, ResourceLimiterRef, run, run_lending, run_reserving,
+};
 
 /// How a replay ended.
 #[derive(Clone, Copy, Debug, PartialEq, Eq)]
@@ -92,14 +95,30 @@ fn answer<R: io::Read>(alloc: Global, reader: &mut R) -> Result<Replayed, Replay
     Ok(Replayed { script, ran })
 }
 
-/// Runs the script's calls on a new machine with its meter, under its limiter line or without a limiter.
+/// Runs the script's calls on a new machine with its meter and its region.
 fn run_script(alloc: Global, script: &Script) -> Result<Ran, AllocError>
     ensures { IfOk result (IsReplayOf script.now) }
 {
-    let mut machine = Machine::new(alloc, script.header.fuel());
+    let fuel = script.header.fuel();
+    match script.header.region {
+        None => run_on(&mut Machine::new(alloc, fuel), script),
+        Some(RegionLine { len, byte }) => {
+            let mut region = vec![in alloc; byte; len]?;
+            let mut machine = Machine::with_region(alloc, fuel, region.as_mut_slice());
+            run_on(&mut machine, script)
+        }
+    }
+}
+
+/// Runs the script's calls on this machine, under its limiter line or without a limiter.
+fn run_on(machine: &mut Machine, script: &Script) -> Result<Ran, AllocError>
+    requires { HoldsTotals nothing_held machine.old }
+    ensures { IfOk result (IsReplayUnder script.now.header.limiter machine.old script.now.calls.items) }
+{
     match &script.header.limiter {
-        None => run_freely(&mut machine, &script.calls),
-        Some(LimiterLine::Quota(line)) => run_under_quota(&mut machine, &script.calls, *line),
+        None => run_freely(machine, &script.calls),
+        Some(LimiterLine::Quota(line)) => run_under_quota(machine, &script.calls, *line),
+        Some(LimiterLine::Answers(words)) => run_answered(machine, &script.calls, words),
     }
 }
 
@@ -133,6 +152,22 @@ fn run_under_quota(
     Ok(Ran {
         replies,
         held: Some(held),
+    })
+}
+
+/// Runs the calls under a limiter that answers from a list of words.
+fn run_answered(
+    machine: &mut Machine,
+    calls: &[Call],
+    words: &Vec<AnswerWord>,
+) -> Result<Ran, AllocError>
+    ensures { IfOk result (IsReplayUnder (Some (LimiterLine.Answers words.now)) machine.old calls.now) }
+{
+    let mut limiter = AnswerList::new(words);
+    let replies = run_lending(machine, calls, &mut limiter)?;
+    Ok(Ran {
+        replies,
+        held: None,
     })
 }
 

@@ -12,7 +12,7 @@ mod types;
 use crate::error::ReplayError;
 use command::command;
 use header::Header;
-pub use header::{LimiterLine, QuotaLine};
+pub use header::{AnswerWord, LimiterLine, QuotaLine, RegionLine};
 use line::{LineError, words_of};
 use std::alloc::Global;
 use std::str;
@@ -30,8 +30,8 @@ pub struct Script {
 impl Script {
     ghost use Rattle.wasmi_script.specs.Lines.{AddsLine};
 
-    /// Takes in one line's words. Header lines stand before all commands, at most one `meter` line and one limiter line, and
-    /// a line without words is skipped.
+    /// Takes in one line's words. Header lines stand before all commands, at most one `meter` line, one limiter line and one
+    /// `region` line, and a line without words is skipped.
     fn take_line(&mut self, alloc: Global, words: &[&str]) -> Result<(), LineError>
         ensures ok { OnOk result (AddsLine self.old words.now self.new) }
         ensures refused { IfErr result (λ error. error ≡ LineError.BadCommand → (new : Script)
@@ -43,9 +43,13 @@ impl Script {
                 self.expect_no_commands()?;
                 self.header.take_meter(words)
             }
-            ["quota", ..] => {
+            ["quota", ..] | ["answers", ..] => {
                 self.expect_no_commands()?;
-                self.header.take_limiter(words)
+                self.header.take_limiter(alloc, words)
+            }
+            ["region", ..] => {
+                self.expect_no_commands()?;
+                self.header.take_region(words)
             }
             _ => {
                 self.calls.push(command(alloc, words)?)?;

@@ -4,6 +4,8 @@ mod comparison;
 mod outcomes;
 mod printing;
 mod reading;
+mod refusing;
+mod regions;
 mod streams;
 mod tables;
 mod values;

@@ -36,6 +36,7 @@ fn named(alloc: Global, name: &str, operands: &[&str]) -> Result<Call, LineError
         "fuel" => fuel::set_fuel(operands),
         "left" => fuel::get_fuel(operands),
         "memory" => memory::new_memory(operands),
+        "lent" => memory::new_lent_memory(operands),
         "grow" => memory::grow(operands),
         "drop" => dropping::drop_live(operands),
         "read" => memory::read(operands),

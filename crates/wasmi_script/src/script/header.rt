@@ -1,10 +1,15 @@
 //! The header lines of a script.
-ghost use Rattle.std.specs.Prelude.{◌≡◌, None, IsSomeAnd, IfErr, OnOk, OnErr};
+ghost use Rattle.std.specs.Prelude.{◌≡◌, codes, None, IsSomeAnd, IfErr, OnOk, OnErr};
 ghost use Rattle.wasmi_script.specs.Acceptance.{Accepts};
-ghost use Rattle.wasmi_script.specs.Headers.{NamesMeter, NamesLimiter, meter_of};
+ghost use Rattle.wasmi_script.specs.Headers.{NamesMeter, NamesLimiter, NamesLimiterAfter, NamesRegion, meter_of};
+
+mod answers;
 
 use super::line::LineError;
 use super::number::number;
+pub use answers::AnswerWord;
+use answers::answers_of;
+use std::alloc::Global;
 use wasmi_core::{CustomFuelCosts, Fuel, FuelCostsProvider};
 
 /// What a `meter` line says.
@@ -21,6 +26,8 @@ pub enum MeterLine {
 pub enum LimiterLine {
     /// `quota B E`.
     Quota(QuotaLine),
+    /// `answers W ...`, which may have no word: one for each question, in order.
+    Answers(Vec<AnswerWord>),
 }
 
 /// What a `quota` line says: the most bytes and the most elements that the limiter permits, of all memories and of all
@@ -33,6 +40,15 @@ pub struct QuotaLine {
     pub elements: u64,
 }
 
+/// What a `region` line says: a lent region of so many bytes, all the same.
+#[derive(Clone, Copy)]
+pub struct RegionLine {
+    /// How many bytes it has.
+    pub len: usize,
+    /// Each of its bytes.
+    pub byte: u8,
+}
+
 /// The header lines that a script has.
 #[derive(Drop, Default)]
 pub struct Header {
@@ -40,6 +56,8 @@ pub struct Header {
     pub meter: Option<MeterLine>,
     /// The limiter line, if there is one. Without it no limiter is given.
     pub limiter: Option<LimiterLine>,
+    /// The `region` line, if there is one. Without it no region is lent.
+    pub region: Option<RegionLine>,
 }
 
 impl Header {
@@ -47,7 +65,7 @@ impl Header {
     pub fn take_meter(&mut self, words: &[&str]) -> Result<(), LineError>
         ensures first { OnOk result (self.old.meter ≡ None) }
         ensures meter { OnOk result (IsSomeAnd self.new.meter (NamesMeter words.now)) }
-        ensures others { self.new.limiter ≡ self.old.limiter }
+        ensures others { (self.new.limiter ≡ self.old.limiter) × (self.new.region ≡ self.old.region) }
         ensures err { OnErr result (self.new ≡ self.old) }
         ensures refused { IfErr result (λ error. error ≡ LineError.BadCommand → self.old.meter ≡ None
             → (line : MeterLine) → ¬ (NamesMeter words.now line)) }
@@ -60,10 +78,10 @@ impl Header {
     }
 
     /// Takes in a limiter line, of which a script has at most one.
-    pub fn take_limiter(&mut self, words: &[&str]) -> Result<(), LineError>
+    pub fn take_limiter(&mut self, alloc: Global, words: &[&str]) -> Result<(), LineError>
         ensures first { OnOk result (self.old.limiter ≡ None) }
         ensures limiter { OnOk result (IsSomeAnd self.new.limiter (NamesLimiter words.now)) }
-        ensures others { self.new.meter ≡ self.old.meter }
+        ensures others { (self.new.meter ≡ self.old.meter) × (self.new.region ≡ self.old.region) }
         ensures err { OnErr result (self.new ≡ self.old) }
         ensures refused { IfErr result (λ error. error ≡ LineError.BadCommand → self.old.limiter ≡ None
             → (line : LimiterLine) → ¬ (NamesLimiter words.now line)) }
@@ -71,7 +89,23 @@ impl Header {
         if self.limiter.is_some() {
             return Err(LineError::BadCommand);
         }
-        self.limiter = Some(limiter_line(words)?);
+        self.limiter = Some(limiter_line(alloc, words)?);
+        Ok(())
+    }
+
+    /// Takes in a `region` line, of which a script has at most one.
+    pub fn take_region(&mut self, words: &[&str]) -> Result<(), LineError>
+        ensures first { OnOk result (self.old.region ≡ None) }
+        ensures region { OnOk result (IsSomeAnd self.new.region (NamesRegion words.now)) }
+        ensures others { (self.new.meter ≡ self.old.meter) × (self.new.limiter ≡ self.old.limiter) }
+        ensures err { OnErr result (self.new ≡ self.old) }
+        ensures refused { IfErr result (λ error. error ≡ LineError.BadCommand → self.old.region ≡ None
+            → (line : RegionLine) → ¬ (NamesRegion words.now line)) }
+    {
+        if self.region.is_some() {
+            return Err(LineError::BadCommand);
+        }
+        self.region = Some(region_line(words)?);
         Ok(())
     }
 
@@ -104,15 +138,46 @@ fn meter_line(words: &[&str]) -> Result<MeterLine, LineError>
     }
 }
 
-/// What the words of a limiter line say.
-fn limiter_line(words: &[&str]) -> Result<LimiterLine, LineError>
+/// What the words of a `region` line say.
+fn region_line(words: &[&str]) -> Result<RegionLine, LineError>
+    ensures { Accepts result (NamesRegion words.now) }
+{
+    match words {
+        ["region", len, byte] => Ok(RegionLine {
+            len: number(len)?,
+            byte: number(byte)?,
+        }),
+        _ => Err(LineError::BadCommand),
+    }
+}
+
+/// What the words of a limiter line say: the first word which limiter, the others how it answers.
+fn limiter_line(alloc: Global, words: &[&str]) -> Result<LimiterLine, LineError>
     ensures { Accepts result (NamesLimiter words.now) }
 {
     match words {
-        ["quota", bytes, elements] => Ok(LimiterLine::Quota(QuotaLine {
-            bytes: number(bytes)?,
-            elements: number(elements)?,
-        })),
+        ["quota", operands @ ..] => quota(operands),
+        ["answers", operands @ ..] => listed(alloc, operands),
         _ => Err(LineError::BadCommand),
     }
+}
+
+/// `quota B E`.
+fn quota(operands: &[&str]) -> Result<LimiterLine, LineError>
+    ensures { Accepts result (NamesLimiterAfter (codes "quota") operands.now) }
+{
+    let [bytes, elements] = operands else {
+        return Err(LineError::BadCommand);
+    };
+    Ok(LimiterLine::Quota(QuotaLine {
+        bytes: number(bytes)?,
+        elements: number(elements)?,
+    }))
+}
+
+/// `answers W ...`, which may have no word.
+fn listed(alloc: Global, operands: &[&str]) -> Result<LimiterLine, LineError>
+    ensures { Accepts result (NamesLimiterAfter (codes "answers") operands.now) }
+{
+    Ok(LimiterLine::Answers(answers_of(alloc, operands)?))
 }

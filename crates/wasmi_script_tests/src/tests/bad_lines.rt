@@ -37,7 +37,7 @@ const BAD_LINES: [&[u8]; 26] = [
 ];
 
 // More of them: numbers that are none or too large, words too many or too few.
-const MORE_BAD_LINES: [&[u8]; 20] = [
+const MORE_BAD_LINES: [&[u8]; 29] = [
     b"fuel 99999999999999999999",
     b"fuel 184467440737095516150",
     b"fuel 0x10",
@@ -54,10 +54,19 @@ const MORE_BAD_LINES: [&[u8]; 20] = [
     b"meter off 1",
     b"meter on 1 2",
     b"quota 1 2 3",
+    b"answer permit",
+    b"answers permits",
+    b"answers permit Deny",
+    b"answers permit 1 deny",
     b"load i32_load32_s 0 0 0",
     b"load i32_store8 0 0 0",
     b"store i32_load8_u 0 0 0 0",
-    b"lent 1 none 16 32",
+    b"lent 1 none 16",
+    b"lent 2 1 16 32",
+    b"region 1",
+    b"region 1 256",
+    b"region 18446744073709551616 0",
+    b"region 1 2 3",
 ];
 
 // Lines of tables, element segments and globals.
@@ -249,13 +258,19 @@ fn takes_no_other_registers_lanes_or_names(rt: HostRuntime) {
 
 #[test]
 fn names_a_later_bad_line(rt: HostRuntime) {
-    let rows: [(&str, &str); 10] = [
+    let rows: [(&str, &str); 16] = [
         ("fuel 1\nmeter on 64\nmeter", "line 2: bad command\n"),
         ("meter off\nmeter off", "line 2: bad command\n"),
         ("meter on 1\nmeter off\n", "line 2: bad command\n"),
         ("left\nquota 1 1", "line 2: bad command\n"),
         ("quota 1 1\nquota 1 1", "line 2: bad command\n"),
         ("quota 1 1\nmeter off\nquota 2 2", "line 3: bad command\n"),
+        ("region 1 1\nregion 1 1", "line 2: bad command\n"),
+        ("lent 1 none 0 32\nregion 1 1", "line 2: bad command\n"),
+        ("left\nanswers permit", "line 2: bad command\n"),
+        ("answers\nanswers", "line 2: bad command\n"),
+        ("quota 1 1\nanswers deny", "line 2: bad command\n"),
+        ("answers\nmeter off\nquota 1 1", "line 3: bad command\n"),
         ("meter off\n\ngrow 0", "line 3: bad command\n"),
         ("\n\n\n\n\n\n\n\n\nleft 1", "line 10: bad command\n"),
         ("\n \nleft\n\nmeter off\nleft 1", "line 5: bad command\n"),

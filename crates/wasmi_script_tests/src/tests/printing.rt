@@ -2,7 +2,7 @@
 use super::{METERED, METERED_PRINTED, answers};
 use std::test::Fail;
 
-const ANSWERED: [(&str, &str); 16] = [
+const ANSWERED: [(&str, &str); 17] = [
     (METERED, METERED_PRINTED),
     ("", ""),
     (
@@ -24,6 +24,10 @@ const ANSWERED: [(&str, &str); 16] = [
     (
         "memory 0 none 0 32\nwrite 0 0\nwrite 0 0 1",
         "memory 0\ndone\nerror out of bounds memory access\n",
+    ),
+    (
+        "meter on 64\nmemory 0 none 0 32\ngrow 0 63\ngrow 0 64",
+        "memory 0\nvalue 0\nerror not enough fuel. required=1\n",
     ),
     (
         "\n  meter  on 0064 \n\n fuel  007  \nleft ",
@@ -97,8 +101,8 @@ const LARGE_NUMBERS: [(&str, &str); 7] = [
         "no such\nno such\n",
     ),
     (
-        "memory 1 none 16 32\nread 0 18446744073709551615 18446744073709551615\nread 0 1 18446744073709551615\nwrite 0 18446744073709551615 1",
-        "memory 0\nerror out of bounds memory access\nerror out of bounds memory access\nerror out of bounds memory access\n",
+        "memory 1 none 16 32\nread 0 18446744073709551615 18446744073709551615\nread 0 1 18446744073709551615\nread 0 18446744073709551615 1\nwrite 0 18446744073709551615 1",
+        "memory 0\nerror out of bounds memory access\nerror out of bounds memory access\nerror out of bounds memory access\nerror out of bounds memory access\n",
     ),
 ];
 

@@ -1,7 +1,7 @@
 //! Scripts of tables, and what they print.
 use super::answers;
 
-const TABLES: [(&str, &str); 10] = [
+const TABLES: [(&str, &str); 12] = [
     (
         "meter on 64\nfuel 10\nsegment func 1 2 3 4 5\ntable func 5 none 32 func 0\ninit 0 0 0 0 5\ncopy 0 1 0 0 3\nget 0 3\nget 0 9\nfill 0 4 func 9 2\nleft",
         "done\nsegment 0\ntable 0\ndone\ndone\nfunc 3\nnone\nerror out of bounds table access: `table.fill`\nvalue 10\n",
@@ -9,6 +9,14 @@ const TABLES: [(&str, &str); 10] = [
     (
         "table func 1 2 32 func 0\ntgrow 0 0 extern 0\ntgrow 0 1 func 4\nget 0 1",
         "table 0\nerror encountered mismatching table element type\nvalue 1\nfunc 4\n",
+    ),
+    (
+        "quota 1000000 1000000\nmeter on 64\nfuel 10\nsegment func 1 2 3 4 5\ntable func 5 none 32 func 0\ninit 0 0 0 0 5\ncopy 0 1 0 0 3\nget 0 3\nget 0 9\nfill 0 4 func 9 2\nleft",
+        "done\nsegment 0\ntable 0\ndone\ndone\nfunc 3\nnone\nerror out of bounds table access: `table.fill`\nvalue 10\nheld 0 5\n",
+    ),
+    (
+        "quota 1000000 1000000\ntable func 1 2 32 func 0\ntgrow 0 0 extern 0\ntgrow 0 1 func 4\nget 0 1",
+        "table 0\nerror encountered mismatching table element type\nvalue 1\nfunc 4\nheld 0 2\n",
     ),
     (
         "meter on 64\ntable func 0 none 64 func 0\ntgrow 0 18446744073709551615 func 1",

@@ -21,6 +21,16 @@ pub fn new_memory(operands: &[&str]) -> Result<Call, LineError>
     Ok(Call::NewMemory(memory_type(min, max, log2, width)?))
 }
 
+/// `lent MIN MAX LOG2 WIDTH`.
+pub fn new_lent_memory(operands: &[&str]) -> Result<Call, LineError>
+    ensures { Accepts result (NamesAfter (codes "lent") operands.now) }
+{
+    let [min, max, log2, width] = operands else {
+        return Err(LineError::BadCommand);
+    };
+    Ok(Call::NewLentMemory(memory_type(min, max, log2, width)?))
+}
+
 /// `grow K PAGES`.
 pub fn grow(operands: &[&str]) -> Result<Call, LineError>
     ensures { Accepts result (NamesAfter (codes "grow") operands.now) }

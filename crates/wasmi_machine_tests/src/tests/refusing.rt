@@ -1,0 +1,170 @@
+//! Runs under a limiter that refuses and complains by random numbers, and runs that find no memory.
+use super::{Step, grow, metered, new_bytes, new_pages, runs_to, runs_under, same, unmetered};
+use std::alloc::AllocGlobal;
+use std::process::Abort;
+use std::test::Fail;
+use wasmi_core::{
+    Call, LimiterError, Machine, MemoryError, Reply, ResourceLimiter, TableError, run_lending,
+};
+
+const REFUSAL: LimiterError = LimiterError::ResourceLimiterDeniedAllocation;
+
+/// Answers questions by the bits of one number, two for each, and notices by the bits of another, one for each.
+#[derive(Clone, Copy)]
+struct RandomAnswers {
+    answers: u64,
+    heeds: u64,
+    questions: u32,
+}
+
+impl RandomAnswers {
+    fn answer(&mut self) -> Result<bool, LimiterError> {
+        let bits = self.answers & 3;
+        self.answers = self.answers.rotate_right(2);
+        self.questions = self.questions.saturating_add(1);
+        match bits {
+            0 => Ok(false),
+            1 => Err(REFUSAL),
+            _ => Ok(true),
+        }
+    }
+
+    fn heed(&mut self) -> Result<(), LimiterError> {
+        let bit = self.heeds & 1;
+        self.heeds = self.heeds.rotate_right(1);
+        if bit == 0 { Ok(()) } else { Err(REFUSAL) }
+    }
+}
+
+impl ResourceLimiter for RandomAnswers {
+    ghost rules = { record {
+      asked = λ _ _ _ _. Unit {0};
+      noticed = λ _ _ _ _. Unit {0};
+    } };
+
+    fn memory_growing(
+        &mut self,
+        _current: usize,
+        _desired: usize,
+        _maximum: Option<usize>,
+    ) -> Result<bool, LimiterError> {
+        self.answer()
+    }
+
+    fn table_growing(
+        &mut self,
+        _current: usize,
+        _desired: usize,
+        _maximum: Option<usize>,
+    ) -> Result<bool, LimiterError> {
+        self.answer()
+    }
+
+    fn memory_grow_failed(&mut self, _error: &MemoryError) -> Result<(), LimiterError> {
+        self.heed()
+    }
+
+    fn table_grow_failed(&mut self, _error: &TableError) -> Result<(), LimiterError> {
+        self.heed()
+    }
+
+    fn instances(&self) -> usize {
+        0
+    }
+
+    fn tables(&self) -> usize {
+        0
+    }
+
+    fn memories(&self) -> usize {
+        0
+    }
+}
+
+/// Random numbers, and how many of 32 growths by one page they permit.
+const RANDOM_NUMBERS: [(u64, u64, u64); 4] = [
+    (0x243F_6A88_85A3_08D3, 0x1319_8A2E_0370_7344, 16),
+    (0xA409_3822_299F_31D0, 0x082E_FA98_EC4E_6C89, 14),
+    (0x4528_21E6_38D0_1377, 0xBE54_66CF_34E9_0C6C, 12),
+    (0xC0AC_29B7_C97C_50DD, 0x3F84_D5B5_B547_0917, 15),
+];
+
+/// The reply to a growth by one page for which there is no fuel where `is_metered`, of a memory of so many pages.
+fn reply_of(random: &mut RandomAnswers, is_metered: bool, pages: &mut u64) -> Reply {
+    let before = *pages;
+    let error = match (random.answer(), is_metered) {
+        (Ok(true), false) => {
+            *pages = before.saturating_add(1);
+            return Reply::Number(before);
+        }
+        (Ok(true), true) => match random.heed() {
+            Ok(()) => MemoryError::OutOfFuel {
+                required_fuel: 1024,
+            },
+            Err(_) => MemoryError::ResourceLimiterDeniedAllocation,
+        },
+        (Ok(false), _) => MemoryError::OutOfBoundsGrowth,
+        (Err(_), _) => MemoryError::ResourceLimiterDeniedAllocation,
+    };
+    Reply::Memory(error)
+}
+
+/// Grows a memory 32 times by one page under these answers, and compares the replies and how many pages it then has.
+fn grows_by_random_answers(
+    rt: &(impl Abort + AllocGlobal),
+    machine: &mut Machine,
+    is_metered: bool,
+    random: RandomAnswers,
+) -> Result<u64, Fail> {
+    let made: Vec<Step> = vec![in rt.alloc(); (new_pages(0, None)?, Reply::Made(0))]?;
+    runs_to(rt, machine, made)?;
+    let mut foretold = random;
+    let mut pages = 0;
+    let mut steps: Vec<Step> = Vec::new(rt.alloc());
+    for _growth in 0..32 {
+        steps.push((grow(0, 1), reply_of(&mut foretold, is_metered, &mut pages)))?;
+    }
+    let mut limiter = random;
+    runs_under(rt, machine, steps, &mut limiter)?;
+    same(rt, "the questions", limiter.questions, 32);
+    let size = machine.memory(0).map(|memory| memory.size());
+    same(rt, "the pages", size, Some(pages));
+    Ok(pages)
+}
+
+#[test]
+fn random_answers_leave_a_run_as_it_is_told(rt: HostRuntime) -> Result<(), Fail> {
+    for (answers, heeds, permitted) in RANDOM_NUMBERS {
+        let random = RandomAnswers {
+            answers,
+            heeds,
+            questions: 0,
+        };
+        let pages = grows_by_random_answers(&rt, &mut unmetered(rt.alloc()), false, random)?;
+        same(&rt, "the growths permitted", pages, permitted);
+        let pages = grows_by_random_answers(&rt, &mut metered(rt.alloc()), true, random)?;
+        same(&rt, "none is paid for", pages, 0);
+    }
+    Ok(())
+}
+
+/// With ample memory the run is answered. Under `rt try --test --fail-alloc N` it may find none for its replies, and has then
+/// done nothing.
+#[test]
+fn a_run_without_room_does_nothing(rt: HostRuntime) -> Result<(), Fail> {
+    let mut random = RandomAnswers {
+        answers: u64::MAX,
+        heeds: 0,
+        questions: 0,
+    };
+    let mut machine = metered(rt.alloc());
+    let calls = vec![in rt.alloc(); Call::SetFuel(7), new_bytes(3)?]?;
+    let (questions, fuel, bytes) = match run_lending(&mut machine, &calls, &mut random) {
+        Ok(_replies) => (1, 7, 3),
+        Err(_) => (0, 0, 0),
+    };
+    same(&rt, "the questions", random.questions, questions);
+    same(&rt, "the fuel", machine.fuel().get_fuel(), Ok(fuel));
+    same(&rt, "the bytes", machine.total_bytes(), bytes);
+    Ok(())
+}

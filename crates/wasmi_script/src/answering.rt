@@ -1,0 +1,96 @@
+//! A limiter that answers from a list of words.
+ghost use Rattle.std.specs.Prelude.{◌≡◌};
+
+use crate::script::AnswerWord;
+use wasmi_core::{LimiterError, MemoryError, ResourceLimiter, TableError};
+
+/// A limiter that answers each question by the next of its words, and permits once there is none left.
+#[derive(Clone, Copy)]
+pub struct AnswerList<'w> {
+    left: &'w [AnswerWord],
+    last: AnswerWord,
+}
+
+impl<'w> AnswerList<'w> {
+    ghost use Rattle.wasmi_script.specs.Answers.{IsNewList, TakesWord, heed_by};
+
+    /// A limiter that was asked nothing yet.
+    pub fn new(words: &'w [AnswerWord]) -> Self
+        ensures { IsNewList words.now result }
+    {
+        AnswerList {
+            left: words,
+            last: AnswerWord::Permit,
+        }
+    }
+
+    /// Answers a question of either kind by the next word.
+    fn answer(&mut self) -> Result<bool, LimiterError>
+        ensures { TakesWord self.old result self.new }
+    {
+        self.last = AnswerWord::Permit;
+        if let [next, rest @ ..] = self.left {
+            self.last = *next;
+            self.left = rest;
+        }
+        match self.last {
+            AnswerWord::Permit | AnswerWord::Complain => Ok(true),
+            AnswerWord::Deny => Ok(false),
+            AnswerWord::Error => Err(LimiterError::ResourceLimiterDeniedAllocation),
+        }
+    }
+
+    /// Answers a notice of either kind by the word of the last question.
+    fn heed(&self) -> Result<(), LimiterError>
+        ensures { result ≡ heed_by self.now.last }
+    {
+        match self.last {
+            AnswerWord::Complain => Err(LimiterError::ResourceLimiterDeniedAllocation),
+            _ => Ok(()),
+        }
+    }
+}
+
+impl ResourceLimiter for AnswerList<'_> {
+    ghost use Rattle.wasmi_script.specs.Answers.{answer_rules};
+
+    ghost rules = { answer_rules };
+
+    fn memory_growing(
+        &mut self,
+        _current: usize,
+        _desired: usize,
+        _maximum: Option<usize>,
+    ) -> Result<bool, LimiterError> {
+        self.answer()
+    }
+
+    fn table_growing(
+        &mut self,
+        _current: usize,
+        _desired: usize,
+        _maximum: Option<usize>,
+    ) -> Result<bool, LimiterError> {
+        self.answer()
+    }
+
+    fn memory_grow_failed(&mut self, _error: &MemoryError) -> Result<(), LimiterError> {
+        self.heed()
+    }
+
+    fn table_grow_failed(&mut self, _error: &TableError) -> Result<(), LimiterError> {
+        self.heed()
+    }
+
+    fn instances(&self) -> usize {
+        usize::MAX
+    }
+
+    fn tables(&self) -> usize {
+        usize::MAX
+    }
+
+    fn memories(&self) -> usize {
+        usize::MAX
+    }
+}
