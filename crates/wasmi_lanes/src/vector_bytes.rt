@@ -16,7 +16,9 @@ pub fn bytes_of(vector: V128) -> u8x16
     ensures lanes { (i : ℕ) → i < 16 → slice_index_or result i 0 ≡ lane w8 vector i }
 {
     let (low, high) = vector.words();
-    u64x2::from_array([low, high]).to_le_bytes()
+    let lower = u64x2::from_array([0, low]);
+    let upper = u64x2::from_array([high, 0]);
+    lower.shuffle(upper, [1, 2]).to_le_bytes()
 }
 
 /// The vector of these bytes, the lowest first.
