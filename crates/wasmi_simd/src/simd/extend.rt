@@ -5,12 +5,11 @@ ghost use Rattle.wasmi_types.specs.Wrapping.{w8, w16, w32, w64};
 ghost use Rattle.wasmi_simd.specs.WideningTable as vector;
 
 use super::halves::{
-    high_bytes, high_bytes_signed, high_eighths, high_eighths_signed, low_bytes, low_bytes_signed,
-    low_eighths, low_eighths_signed,
+    high_bytes, high_bytes_signed, high_eighths, high_eighths_signed, high_quarters,
+    high_quarters_signed, low_bytes, low_bytes_signed, low_eighths, low_eighths_signed,
+    low_quarters, low_quarters_signed,
 };
-use super::vectors::{from_eighths, from_quarters};
-use crate::widening::{high_unary, low_unary};
-use wasmi_lanes::{I32x4, I64x2, U32x4, U64x2};
+use super::vectors::{from_eighths, from_halves, from_quarters};
 use wasmi_raw::V128;
 
 /// The lanes of the lower half, read signed.
@@ -82,7 +81,7 @@ pub fn i32x4_extend_high_i16x8_u(v: V128) -> V128
 pub fn i64x2_extend_low_i32x4_s(v: V128) -> V128
     ensures { result ≡ vector.extend_low_s w32 w64 v }
 {
-    low_unary::<I32x4, I64x2, _>(v, |x| i64::from(x))
+    from_halves(low_quarters_signed(v))
 }
 
 /// The lanes of the lower half, read unsigned.
@@ -90,7 +89,7 @@ pub fn i64x2_extend_low_i32x4_s(v: V128) -> V128
 pub fn i64x2_extend_low_i32x4_u(v: V128) -> V128
     ensures { result ≡ vector.extend_low_u w32 w64 v }
 {
-    low_unary::<U32x4, U64x2, _>(v, |x| u64::from(x))
+    from_halves(low_quarters(v))
 }
 
 /// The lanes of the upper half, read signed.
@@ -98,7 +97,7 @@ pub fn i64x2_extend_low_i32x4_u(v: V128) -> V128
 pub fn i64x2_extend_high_i32x4_s(v: V128) -> V128
     ensures { result ≡ vector.extend_high_s w32 w64 v }
 {
-    high_unary::<I32x4, I64x2, _>(v, |x| i64::from(x))
+    from_halves(high_quarters_signed(v))
 }
 
 /// The lanes of the upper half, read unsigned.
@@ -106,7 +105,7 @@ pub fn i64x2_extend_high_i32x4_s(v: V128) -> V128
 pub fn i64x2_extend_high_i32x4_u(v: V128) -> V128
     ensures { result ≡ vector.extend_high_u w32 w64 v }
 {
-    high_unary::<U32x4, U64x2, _>(v, |x| u64::from(x))
+    from_halves(high_quarters(v))
 }
 
 /// The 8 lanes of 8 bits of a number, read signed, lane 0 the lowest.
