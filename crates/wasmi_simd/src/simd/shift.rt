@@ -89,7 +89,7 @@ pub fn i32x4_shr_u(v: V128, amount: u32) -> V128
 pub fn i64x2_shl(v: V128, amount: u32) -> V128
     ensures { result ≡ vector.shl w64 v amount }
 {
-    shifted_left::<u64>(v, amount)
+    from_words(words_of(v) << u64x2::splat(u64::from(amount % 64)))
 }
 
 /// The lanes shifted to the right, the sign copied. `amount` is taken modulo 64.
@@ -105,35 +105,77 @@ pub fn i64x2_shr_s(v: V128, amount: u32) -> V128
 pub fn i64x2_shr_u(v: V128, amount: u32) -> V128
     ensures { result ≡ vector.shr_u w64 v amount }
 {
-    shifted_right::<u64>(v, amount)
+    from_words(words_of(v) >> u64x2::splat(u64::from(amount % 64)))
 }
 
 #[inline(always)]
-fn shifted_left<T: WordLane>(v: V128, amount: u32) -> V128
+fn shifted_left<T: NarrowLane>(v: V128, amount: u32) -> V128
     ensures { result ≡ vector.shl T.width v amount }
 {
     let amount = u64::from(amount % T::BITS);
-    let kept = low_bits::<T>(amount);
+    let kept = u64x2::splat(T::low_bits(amount));
     from_words((words_of(v) & kept) << u64x2::splat(amount))
 }
 
 #[inline(always)]
-fn shifted_right<T: WordLane>(v: V128, amount: u32) -> V128
+fn shifted_right<T: NarrowLane>(v: V128, amount: u32) -> V128
     ensures { result ≡ vector.shr_u T.width v amount }
 {
     let amount = u64::from(amount % T::BITS);
-    let kept = low_bits::<T>(amount);
+    let kept = u64x2::splat(T::low_bits(amount));
     from_words((words_of(v) >> u64x2::splat(amount)) & kept)
 }
 
-// All bits of each lane but its highest ones, of which there are `dropped`: the power of 2 above
-// them less 1.
-#[inline(always)]
-fn low_bits<T: WordLane>(dropped: u64) -> u64x2
-    requires { dropped < bits T.width }
-    ensures { (kept : ℕ) × (result ≡ kept ∷ kept ∷ []) × (kept < 2 ^ 64)
-        × ((i : ℕ) → i < lanes_in_word T.width → field (bits T.width * i) (bits T.width) kept ≡ 2 ^ (bits T.width - dropped) - 1) }
-{
-    let tops = u64x2::splat(T::TOPS) >> u64x2::splat(dropped);
-    tops + tops - u64x2::splat(T::ONES)
+// A lane of a word that has more lanes than one, so that its bits would be shifted into another one.
+trait NarrowLane: WordLane {
+    // The low bits of each lane, all but its highest ones, of which there are `dropped`.
+    fn low_bits(dropped: u64) -> u64
+        requires { dropped < bits Self.width }
+        ensures { (i : ℕ) → i < lanes_in_word Self.width → field (bits Self.width * i) (bits Self.width) result ≡ 2 ^ (bits Self.width - dropped) - 1 };
 }
+
+impl NarrowLane for u8 {
+    #[inline(always)]
+    fn low_bits(dropped: u64) -> u64 {
+        LOW_BITS_OF_8[dropped as usize]
+    }
+}
+
+impl NarrowLane for u16 {
+    #[inline(always)]
+    fn low_bits(dropped: u64) -> u64 {
+        LOW_BITS_OF_16[dropped as usize]
+    }
+}
+
+impl NarrowLane for u32 {
+    #[inline(always)]
+    fn low_bits(dropped: u64) -> u64 {
+        LOW_BITS_OF_32[dropped as usize]
+    }
+}
+
+// The low bits of each lane of a word, one less in each entry: a table is faster than a shift of the
+// highest bits, whose result would go from a general register to a vector register.
+const LOW_BITS_OF_8: [u64; 8] = [
+    0xffff_ffff_ffff_ffff, 0x7f7f_7f7f_7f7f_7f7f, 0x3f3f_3f3f_3f3f_3f3f, 0x1f1f_1f1f_1f1f_1f1f,
+    0x0f0f_0f0f_0f0f_0f0f, 0x0707_0707_0707_0707, 0x0303_0303_0303_0303, 0x0101_0101_0101_0101,
+];
+
+const LOW_BITS_OF_16: [u64; 16] = [
+    0xffff_ffff_ffff_ffff, 0x7fff_7fff_7fff_7fff, 0x3fff_3fff_3fff_3fff, 0x1fff_1fff_1fff_1fff,
+    0x0fff_0fff_0fff_0fff, 0x07ff_07ff_07ff_07ff, 0x03ff_03ff_03ff_03ff, 0x01ff_01ff_01ff_01ff,
+    0x00ff_00ff_00ff_00ff, 0x007f_007f_007f_007f, 0x003f_003f_003f_003f, 0x001f_001f_001f_001f,
+    0x000f_000f_000f_000f, 0x0007_0007_0007_0007, 0x0003_0003_0003_0003, 0x0001_0001_0001_0001,
+];
+
+const LOW_BITS_OF_32: [u64; 32] = [
+    0xffff_ffff_ffff_ffff, 0x7fff_ffff_7fff_ffff, 0x3fff_ffff_3fff_ffff, 0x1fff_ffff_1fff_ffff,
+    0x0fff_ffff_0fff_ffff, 0x07ff_ffff_07ff_ffff, 0x03ff_ffff_03ff_ffff, 0x01ff_ffff_01ff_ffff,
+    0x00ff_ffff_00ff_ffff, 0x007f_ffff_007f_ffff, 0x003f_ffff_003f_ffff, 0x001f_ffff_001f_ffff,
+    0x000f_ffff_000f_ffff, 0x0007_ffff_0007_ffff, 0x0003_ffff_0003_ffff, 0x0001_ffff_0001_ffff,
+    0x0000_ffff_0000_ffff, 0x0000_7fff_0000_7fff, 0x0000_3fff_0000_3fff, 0x0000_1fff_0000_1fff,
+    0x0000_0fff_0000_0fff, 0x0000_07ff_0000_07ff, 0x0000_03ff_0000_03ff, 0x0000_01ff_0000_01ff,
+    0x0000_00ff_0000_00ff, 0x0000_007f_0000_007f, 0x0000_003f_0000_003f, 0x0000_001f_0000_001f,
+    0x0000_000f_0000_000f, 0x0000_0007_0000_0007, 0x0000_0003_0000_0003, 0x0000_0001_0000_0001,
+];
