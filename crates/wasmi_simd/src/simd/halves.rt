@@ -87,11 +87,14 @@ pub(super) fn high_eighths_signed(v: V128) -> u32x4
 }
 
 /// The lower 2 lanes of 32 bits.
+///
+/// Zeros come between them: of a cast LLVM takes the lanes out of their word.
 #[inline(always)]
 pub(super) fn low_quarters(v: V128) -> u64x2
     ensures lanes { (i : ℕ) → i < 2 → slice_index result i ≡ lane w32 v i }
 {
-    quarters_of(v).extract::<0, 2>().cast::<u64>()
+    let items = quarters_of(v).shuffle(u32x4::splat(0), [0, 4, 1, 5]);
+    u64x2::from_le_bytes(items.to_le_bytes())
 }
 
 /// The upper 2 lanes of 32 bits.
@@ -99,7 +102,8 @@ pub(super) fn low_quarters(v: V128) -> u64x2
 pub(super) fn high_quarters(v: V128) -> u64x2
     ensures lanes { (i : ℕ) → i < 2 → slice_index result i ≡ lane w32 v (2 + i) }
 {
-    quarters_of(v).extract::<2, 2>().cast::<u64>()
+    let items = quarters_of(v).shuffle(u32x4::splat(0), [2, 4, 3, 5]);
+    u64x2::from_le_bytes(items.to_le_bytes())
 }
 
 /// The lower 2 lanes of 32 bits, the sign copied.
