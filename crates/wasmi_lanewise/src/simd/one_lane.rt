@@ -9,6 +9,7 @@ ghost use Rattle.wasmi_types.specs.Wrapping.{w8, w16, w32, w64};
 ghost use Rattle.wasmi_lanes.specs.Lane.{lane};
 ghost use Rattle.wasmi_lanes.specs.Vector.{with_lane};
 
+use super::shuffle::picked;
 use std::simd::prelude::*;
 use wasmi_lanes::{ImmLaneIdx2, ImmLaneIdx4, ImmLaneIdx8, ImmLaneIdx16, LaneItem, bytes_of};
 use wasmi_raw::V128;
@@ -18,7 +19,8 @@ use wasmi_raw::V128;
 pub(super) fn lane_of_8(vector: V128, at: ImmLaneIdx16) -> u8
     ensures { result ≡ lane w8 vector at }
 {
-    (bits_from(vector, 8 * u32::from(u8::from(at))) & 0xff) as u8
+    let [lane, ..] = picked(bytes_of(vector), u8x16::splat(u8::from(at))).to_array();
+    lane
 }
 
 /// One lane of 16 bits.
