@@ -1,12 +1,12 @@
 -- One lane of a vector: in the word that holds it, and among lanes that are chosen by their numbers.
-use Rattle.std.proofs.Common.{ℕ, ◌+◌, ◌-◌, ◌*◌, ◌/◌, ◌%◌, ◌^◌, ◌<◌, ◌≤◌, ◌≡◌, List, length, get_or, replicate, map, sym, ap, ap₂, ◌∙◌, arith, if◌then◌else◌, Bool, false, cond, eqb, zero-add, bit_and}
-use Rattle.std.proofs.lemmas.Nat.{field_of, shr-shr, and_mask}
+use Rattle.std.proofs.Common.{ℕ, ◌+◌, ◌-◌, ◌*◌, ◌/◌, ◌%◌, ◌^◌, ◌<◌, ◌≤◌, ◌≡◌, List, [], ◌∷◌, length, get_or, replicate, map, sym, ap, ap₂, ◌∙◌, arith, if◌then◌else◌, Bool, false, cond, eqb, zero-add, bit_and}
+use Rattle.std.proofs.lemmas.Nat.{field_of, shr-shr, and_mask, mod-pow-add}
 use Rattle.std.proofs.Math.Pow.{mod-mod-pow}
-use Rattle.std.specs.Simd.Lanes.{zip2, sel_l}
+use Rattle.std.specs.Simd.Lanes.{zip2, sel_l, number_l}
 use Rattle.std.proofs.lemmas.Simd.{length-zip2, get_or-zip2, get_or-replicate, length-replicate, get_or-sel_l, tops_compared}
 use Rattle.std.proofs.lemmas.List.FromFn.{get_or-range_with_len, length-range_with_len}
 use Rattle.std.specs.List.{range_with_len}
-use Rattle.wasmi_types.specs.Wrapping.{Width, bits}
+use Rattle.wasmi_types.specs.Wrapping.{Width, w8, w16, bits}
 use Rattle.wasmi_lanes.specs.Lane.{lane}
 use Rattle.wasmi_lanes.specs.Vector.{with_lane}
 use Rattle.wasmi_lanes.proofs.Vectors.{lanes_make_vector}
@@ -64,3 +64,18 @@ chosen_make_vector w n v k at item r numbers lanes filled counted long is_at is 
     sym (written i inside)
     ∙ item_at w n k item numbers lanes i counted long inside
     ∙ ap₂ (λ j x. if eqb i j then item else x) is_at (is i inside))
+
+-- ---- a lane of 16 bits, by its two bytes
+
+pub first_two_bytes : (bytes : List ℕ) (x y : ℕ) → length bytes ≡ 16 → get_or bytes 0 0 ≡ x → get_or bytes 1 0 ≡ y → x < 256 → y < 256 → number_l 256 bytes % 65536 ≡ x + 256 * y
+first_two_bytes [] x y long is_x is_y fits_x fits_y = absurd (omega arith)
+first_two_bytes (a ∷ []) x y long is_x is_y fits_x fits_y = absurd (omega arith)
+first_two_bytes (a ∷ b ∷ rest) x y long is_x is_y fits_x fits_y = omega (arith, is_x, is_y)
+
+pub joined_bytes : (v k : ℕ) → lane w8 v (2 * k) + 256 * lane w8 v (2 * k + 1) ≡ lane w16 v k
+joined_bytes v k =
+    let n = v / 2 ^ (16 * k) in
+    let low : lane w8 v (2 * k) ≡ n % 2 ^ 8 = ap (λ m. v / 2 ^ m % 2 ^ 8) (let e : 8 * (2 * k) ≡ 16 * k = omega arith in e) in
+    let high : lane w8 v (2 * k + 1) ≡ n / 2 ^ 8 % 2 ^ 8 =
+    ap (λ m. v / 2 ^ m % 2 ^ 8) (let e : 8 * (2 * k + 1) ≡ 16 * k + 8 = omega arith in e) ∙ ap (λ m. m % 2 ^ 8) (sym (shr-shr v (16 * k) 8)) in
+    omega (arith, low, high, mod-pow-add n 8 8)

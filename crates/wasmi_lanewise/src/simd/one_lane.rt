@@ -3,7 +3,7 @@
 //! An array of the lanes would go through memory (docs/SPEED.md): a lane is shifted out of its word, and put where the
 //! number of a lane is the index.
 
-ghost use Rattle.std.specs.Prelude.{◌≡◌, ℕ, ◌+◌, ◌/◌, ◌%◌, ◌^◌, ◌<◌, ◌≤◌, ◌==◌, slice_index, if◌then◌else◌};
+ghost use Rattle.std.specs.Prelude.{◌≡◌, ℕ, ◌+◌, ◌*◌, ◌/◌, ◌%◌, ◌^◌, ◌<◌, ◌≤◌, ◌==◌, slice_index, if◌then◌else◌};
 ghost use Rattle.std.specs.List.{range_with_len};
 ghost use Rattle.wasmi_types.specs.Wrapping.{w8, w16, w32, w64};
 ghost use Rattle.wasmi_lanes.specs.Lane.{lane};
@@ -28,7 +28,19 @@ pub(super) fn lane_of_8(vector: V128, at: ImmLaneIdx16) -> u8
 pub(super) fn lane_of_16(vector: V128, at: ImmLaneIdx8) -> u16
     ensures { result ≡ lane w16 vector at }
 {
-    (bits_from(vector, 16 * u32::from(u8::from(at))) & 0xffff) as u16
+    let indices = indices_of_16(u8::from(at));
+    let [lane, ..] = u16x8::from_le_bytes(picked(bytes_of(vector), indices)).to_array();
+    lane
+}
+
+// The indices of the two bytes of a lane of 16 bits, in every two bytes.
+#[inline(always)]
+fn indices_of_16(lane: u8) -> u8x16
+    requires { lane < 8 }
+    ensures first { slice_index result 0 ≡ 2 * lane }
+    ensures second { slice_index result 1 ≡ 2 * lane + 1 }
+{
+    u16x8::splat(0x0202 * u16::from(lane) + 0x0100).to_le_bytes()
 }
 
 /// One lane of 32 bits.
