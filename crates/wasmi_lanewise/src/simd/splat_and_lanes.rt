@@ -12,7 +12,8 @@ use super::one_lane::{
 };
 use std::simd::prelude::*;
 use wasmi_lanes::{
-    I8x16, I16x8, I32x4, ImmLaneIdx2, ImmLaneIdx4, ImmLaneIdx8, ImmLaneIdx16, SimdLane, on_vectors,
+    I8x16, I16x8, I32x4, ImmLaneIdx2, ImmLaneIdx4, ImmLaneIdx8, ImmLaneIdx16, SimdLane, from_bytes,
+    on_vectors,
 };
 use wasmi_raw::V128;
 
@@ -53,7 +54,7 @@ pub fn i64x2_splat(item: i64) -> V128
 fn same_words(word: u64) -> V128
     ensures { result ≡ splat_of w64 word }
 {
-    u32::vector_of(lower_half_twice(V128::from_words(word, 0)))
+    from_bytes(lower_half_twice(V128::from_words(word, 0)).to_le_bytes())
 }
 
 // The lanes of 32 bits of the lower half, twice.
