@@ -1,6 +1,6 @@
 -- Lanes of words that are shifted, with the bits masked that would leave their lane.
-use Rattle.std.proofs.Common.{◌≡◌, ℕ, zero, suc, ◌+◌, ◌-◌, ◌*◌, ◌/◌, ◌%◌, ◌^◌, ◌<◌, ◌≤◌, sym, ap, subst, ◌∙◌, arith, add-mul, mul-suc, mul-zero, mul_assoc, mul_comm, mul-add, mul-one, pow-suc, mul_right_comm, one-mul, zero-mul, suc-mul, le_refl, mod-lt, mod-eq_of_lt, bit_and, List, map, get_or}
-use Rattle.std.proofs.Math.Nat.{mod-one, mod-add-mod, add-mod_right, mul-div_cancel}
+use Rattle.std.proofs.Common.{◌≡◌, ℕ, zero, suc, ◌+◌, ◌-◌, ◌*◌, ◌/◌, ◌%◌, ◌^◌, ◌<◌, ◌≤◌, sym, ap, subst, ◌∙◌, arith, add-mul, mul-suc, mul-zero, mul_assoc, mul_comm, mul_right_comm, one-mul, zero-mul, suc-mul, le_refl, mod-lt, mod-eq_of_lt, bit_and, List, map, get_or}
+use Rattle.std.proofs.Math.Nat.{mod-one}
 use Rattle.std.proofs.lemmas.Nat.{pow_pos, pow-add, mod-pow-add, and_mask, mul-mod_first, div-add-mod', div-mul-add, mod-mul-add, mul-le, shl_below}
 use Rattle.std.proofs.Math.Pow.{pow_mono}
 use Rattle.std.specs.List.{range_with_len}

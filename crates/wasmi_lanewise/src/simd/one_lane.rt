@@ -1,7 +1,7 @@
 //! One lane of a vector, at an index that is known only when the program runs.
 //!
-//! An array of the lanes would go through memory (docs/SPEED.md): a lane is shifted out of its word, and put where the
-//! number of a lane is the index.
+//! An array of the lanes would go through memory (docs/SPEED.md): the bytes of a lane are picked by their indices, and a
+//! lane is put where the number of a lane is the index.
 
 ghost use Rattle.std.specs.Prelude.{◌≡◌, ℕ, ◌+◌, ◌*◌, ◌/◌, ◌%◌, ◌^◌, ◌<◌, ◌≤◌, ◌==◌, slice_index, if◌then◌else◌};
 ghost use Rattle.std.specs.List.{range_with_len};
@@ -48,7 +48,18 @@ fn indices_of_16(lane: u8) -> u8x16
 pub(super) fn lane_of_32(vector: V128, at: ImmLaneIdx4) -> u32
     ensures { result ≡ lane w32 vector at }
 {
-    (bits_from(vector, 32 * u32::from(u8::from(at))) & 0xffff_ffff) as u32
+    let indices = indices_of_32(u8::from(at));
+    let [lane, ..] = u32x4::from_le_bytes(picked(bytes_of(vector), indices)).to_array();
+    lane
+}
+
+// The indices of the four bytes of a lane of 32 bits, in every four bytes.
+#[inline(always)]
+fn indices_of_32(lane: u8) -> u8x16
+    requires { lane < 4 }
+    ensures lanes { (i : ℕ) → i < 4 → slice_index result i ≡ 4 * lane + i }
+{
+    u32x4::splat(0x0404_0404 * u32::from(lane) + 0x0302_0100).to_le_bytes()
 }
 
 /// One lane of 64 bits.
@@ -56,18 +67,8 @@ pub(super) fn lane_of_32(vector: V128, at: ImmLaneIdx4) -> u32
 pub(super) fn lane_of_64(vector: V128, at: ImmLaneIdx2) -> u64
     ensures { result ≡ lane w64 vector at }
 {
-    bits_from(vector, 64 * u32::from(u8::from(at)))
-}
-
-// The bits of a vector from the one at `first` on, to the end of the word that has it.
-#[inline(always)]
-fn bits_from(vector: V128, first: u32) -> u64
-    requires inside { first < 128 }
-    ensures bits { (n : ℕ) → first % 64 + n ≤ 64 → result % 2 ^ n ≡ vector / 2 ^ first % 2 ^ n }
-{
     let (low, high) = vector.words();
-    let word = if first < 64 { low } else { high };
-    word >> (first % 64)
+    if u8::from(at) == 0 { low } else { high }
 }
 
 /// `vector` with `item` in one lane of 8 bits.

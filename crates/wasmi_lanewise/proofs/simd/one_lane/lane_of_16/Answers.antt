@@ -2,7 +2,7 @@ use Rattle.std.proofs.Common.{◌≡◌, ◌+◌, ◌*◌, ◌%◌, ◌<◌, ◌
 use Rattle.wasmi_types.specs.Wrapping.{w8}
 use Rattle.wasmi_lanes.specs.Lane.{lane}
 use Rattle.wasmi_lanes.proofs.Vectors.{lane_below}
-use Rattle.wasmi_lanewise.proofs.OneLane.{first_two_bytes, joined_bytes}
+use Rattle.wasmi_lanewise.proofs.OneLane.{first_two_bytes, joined_halves}
 use Rattle.wasmi_lanewise.proofs.simd.one_lane.lane_of_16.Goals as goal
 
 pub returns : goal.returns
@@ -19,4 +19,4 @@ returns c =
     (c.picked.ensures.lanes 0 (omega arith) ∙ ap bytes first ∙ c.bytes_of.ensures.lanes (2 * at) (omega arith))
     (c.picked.ensures.lanes 1 (omega arith) ∙ ap bytes second ∙ c.bytes_of.ensures.lanes (2 * at + 1) (omega arith))
     (lane_below w8 v (2 * at)) (lane_below w8 v (2 * at + 1))
-    ∙ joined_bytes v at
+    ∙ joined_halves 8 v at

@@ -1,4 +1,4 @@
-use Rattle.std.proofs.Common.{ℕ, ◌≡◌, ◌<◌, ◌*◌, ◌/◌, ◌%◌, ◌^◌, ◌∙◌, ap, refl, arith, mod-lt, lit<}
+use Rattle.std.proofs.Common.{ℕ, ◌<◌, ◌*◌, ◌/◌, ◌%◌, ◌^◌, ◌∙◌, ap, refl, arith, mod-lt, lit<}
 use Rattle.wasmi_types.specs.Wrapping.{w64}
 use Rattle.wasmi_lanes.specs.Lane.{lane}
 use Rattle.wasmi_lanes.specs.Vector.{unary_of_lanes, from_lanes}
