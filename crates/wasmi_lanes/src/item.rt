@@ -6,7 +6,7 @@ ghost use Rattle.wasmi_types.specs.Wrapping.{Width, bits, w8, w16, w32, w64, sig
 ghost use Rattle.std.specs.Int.{cast_unsigned};
 ghost use Rattle.wasmi_lanes.specs.Lane.{lane, unsigned, signed_fits};
 
-use crate::vector_bytes::{bytes_of, from_bytes};
+use crate::vector_bytes::{bytes_to_take_out, from_bytes};
 use std::simd::prelude::*;
 use wasmi_raw::V128;
 
@@ -88,7 +88,7 @@ impl LaneItem<16> for u8 {
 
     #[inline(always)]
     fn read_into(vector: V128, items: &mut [u8; 16]) {
-        *items = bytes_of(vector).to_array();
+        *items = bytes_to_take_out(vector).to_array();
     }
 
     #[inline(always)]
@@ -177,7 +177,7 @@ impl LaneItem<8> for u16 {
 
     #[inline(always)]
     fn read_into(vector: V128, items: &mut [u16; 8]) {
-        *items = u16x8::from_le_bytes(bytes_of(vector)).to_array();
+        *items = u16x8::from_le_bytes(bytes_to_take_out(vector)).to_array();
     }
 
     #[inline(always)]
@@ -266,7 +266,7 @@ impl LaneItem<4> for u32 {
 
     #[inline(always)]
     fn read_into(vector: V128, items: &mut [u32; 4]) {
-        *items = u32x4::from_le_bytes(bytes_of(vector)).to_array();
+        *items = u32x4::from_le_bytes(bytes_to_take_out(vector)).to_array();
     }
 
     #[inline(always)]
@@ -355,7 +355,7 @@ impl LaneItem<2> for u64 {
 
     #[inline(always)]
     fn read_into(vector: V128, items: &mut [u64; 2]) {
-        *items = u64x2::from_le_bytes(bytes_of(vector)).to_array();
+        *items = u64x2::from_le_bytes(bytes_to_take_out(vector)).to_array();
     }
 
     #[inline(always)]

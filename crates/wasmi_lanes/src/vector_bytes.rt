@@ -19,6 +19,21 @@ pub fn bytes_of(vector: V128) -> u8x16
     u64x2::from_array([low, high]).to_le_bytes()
 }
 
+/// The bytes of a vector, the lowest first, to be taken out one by one or in lanes.
+///
+/// The words come together by a shuffle. Of a vector made of them LLVM takes the lowest lane of each
+/// word out of the word once more, and inserts it.
+#[inline(always)]
+pub fn bytes_to_take_out(vector: V128) -> u8x16
+    ensures number { number_l (2 ^ 8) result ≡ vector }
+    ensures lanes { (i : ℕ) → i < 16 → slice_index_or result i 0 ≡ lane w8 vector i }
+{
+    let (low, high) = vector.words();
+    let lower = u64x2::from_array([0, low]);
+    let upper = u64x2::from_array([high, 0]);
+    lower.shuffle(upper, [1, 2]).to_le_bytes()
+}
+
 /// The vector of these bytes, the lowest first.
 #[inline(always)]
 pub fn from_bytes(bytes: u8x16) -> V128

@@ -1,8 +1,7 @@
--- One lane of a vector: in the word that holds it, and among lanes that are chosen by their numbers.
-use Rattle.std.proofs.Common.{ℕ, ◌+◌, ◌-◌, ◌*◌, ◌/◌, ◌%◌, ◌^◌, ◌<◌, ◌≤◌, ◌≡◌, List, length, get_or, replicate, map, sym, ap, ap₂, ◌∙◌, arith, if◌then◌else◌, Bool, false, cond, eqb, zero-add, bit_and}
-use Rattle.std.proofs.lemmas.Nat.{field_of, shr-shr, and_mask}
-use Rattle.std.proofs.Math.Pow.{mod-mod-pow}
-use Rattle.std.specs.Simd.Lanes.{zip2, sel_l}
+-- One lane of a vector: by its bytes, and among lanes that are chosen by their numbers.
+use Rattle.std.proofs.Common.{ℕ, ◌+◌, ◌-◌, ◌*◌, ◌/◌, ◌%◌, ◌^◌, ◌<◌, ◌≡◌, List, [], ◌∷◌, length, get_or, replicate, map, sym, ap, ap₂, ◌∙◌, arith, if◌then◌else◌, Bool, false, cond, eqb, zero-add, mul_comm, mul-add, mul-one, add-mul}
+use Rattle.std.proofs.lemmas.Nat.{shr-shr, mod-pow-add}
+use Rattle.std.specs.Simd.Lanes.{zip2, sel_l, number_l}
 use Rattle.std.proofs.lemmas.Simd.{length-zip2, get_or-zip2, get_or-replicate, length-replicate, get_or-sel_l, tops_compared}
 use Rattle.std.proofs.lemmas.List.FromFn.{get_or-range_with_len, length-range_with_len}
 use Rattle.std.specs.List.{range_with_len}
@@ -12,28 +11,6 @@ use Rattle.wasmi_lanes.specs.Vector.{with_lane}
 use Rattle.wasmi_lanes.proofs.Vectors.{lanes_make_vector}
 use mir.Val.{hbits}
 use lib.Lanes.{top}
-
--- the n bits from f on, where the low word has them
-pub bits_of_low : (v f n word : ℕ) → f < 64 → f % 64 + n ≤ 64 → word ≡ v % 2 ^ 64 → word / 2 ^ (f % 64) % 2 ^ n ≡ v / 2 ^ f % 2 ^ n
-bits_of_low v f n word below inside is =
-    let at : f % 64 ≡ f = omega arith in
-    let whole : 64 ≡ (64 - f) + f = omega arith in
-    let rest : 64 - f ≡ (64 - f - n) + n = omega arith in
-    ap₂ (λ x k. x / 2 ^ k % 2 ^ n) is at
-    ∙ ap (λ k. v % 2 ^ k / 2 ^ f % 2 ^ n) whole
-    ∙ ap (λ x. x % 2 ^ n) (field_of v (64 - f) f)
-    ∙ ap (λ k. v / 2 ^ f % 2 ^ k % 2 ^ n) rest
-    ∙ mod-mod-pow (v / 2 ^ f) (64 - f - n) n
-
--- the same, where the high word has them
-pub bits_of_high : (v f n word : ℕ) → 64 ≤ f → f < 128 → word ≡ v / 2 ^ 64 → word / 2 ^ (f % 64) % 2 ^ n ≡ v / 2 ^ f % 2 ^ n
-bits_of_high v f n word above below is =
-    let at : 64 + f % 64 ≡ f = omega arith in
-    ap (λ x. x / 2 ^ (f % 64) % 2 ^ n) is ∙ ap (λ x. x % 2 ^ n) (shr-shr v 64 (f % 64)) ∙ ap (λ k. v / 2 ^ k % 2 ^ n) at
-
--- the lane at k, where the low bits of a number are those of the vector from its place on
-pub lane_of_bits : (w : Width) (v k at n : ℕ) → k ≡ at → n % 2 ^ bits w ≡ v / 2 ^ (bits w * k) % 2 ^ bits w → bit_and n (2 ^ bits w - 1) ≡ lane w v at
-lane_of_bits w v k at n is low = and_mask n (bits w) ∙ low ∙ ap (lane w v) is
 
 -- of n lanes, an item where the number of the lane is k, else the lane as it was
 item_at : (w : Width) (n k item : ℕ) (numbers lanes : List ℕ) (i : ℕ) → numbers ≡ range_with_len 0 n → length lanes ≡ n → i < n
@@ -64,3 +41,29 @@ chosen_make_vector w n v k at item r numbers lanes filled counted long is_at is 
     sym (written i inside)
     ∙ item_at w n k item numbers lanes i counted long inside
     ∙ ap₂ (λ j x. if eqb i j then item else x) is_at (is i inside))
+
+-- ---- a lane of 16 or 32 bits, by its bytes
+
+pub first_two_bytes : (bytes : List ℕ) (x y : ℕ) → length bytes ≡ 16 → get_or bytes 0 0 ≡ x → get_or bytes 1 0 ≡ y → x < 256 → y < 256 → number_l 256 bytes % 65536 ≡ x + 256 * y
+first_two_bytes [] x y long is_x is_y fits_x fits_y = absurd (omega arith)
+first_two_bytes (a ∷ []) x y long is_x is_y fits_x fits_y = absurd (omega arith)
+first_two_bytes (a ∷ b ∷ rest) x y long is_x is_y fits_x fits_y = omega (arith, is_x, is_y)
+
+pub first_four_bytes : (bytes : List ℕ) (x y z t : ℕ) → length bytes ≡ 16 → get_or bytes 0 0 ≡ x → get_or bytes 1 0 ≡ y → get_or bytes 2 0 ≡ z → get_or bytes 3 0 ≡ t
+    → x < 256 → y < 256 → z < 256 → t < 256 → number_l 256 bytes % 2 ^ 32 ≡ (x + 256 * y) + 65536 * (z + 256 * t)
+first_four_bytes [] x y z t long is_x is_y is_z is_t fits_x fits_y fits_z fits_t = absurd (omega arith)
+first_four_bytes (a ∷ []) x y z t long is_x is_y is_z is_t fits_x fits_y fits_z fits_t = absurd (omega arith)
+first_four_bytes (a ∷ b ∷ []) x y z t long is_x is_y is_z is_t fits_x fits_y fits_z fits_t = absurd (omega arith)
+first_four_bytes (a ∷ b ∷ c ∷ []) x y z t long is_x is_y is_z is_t fits_x fits_y fits_z fits_t = absurd (omega arith)
+first_four_bytes (a ∷ b ∷ c ∷ d ∷ rest) x y z t long is_x is_y is_z is_t fits_x fits_y fits_z fits_t = omega (arith, is_x, is_y, is_z, is_t)
+
+-- a lane is made of its two halves
+pub joined_halves : (b v k : ℕ) → v / 2 ^ (b * (2 * k)) % 2 ^ b + 2 ^ b * (v / 2 ^ (b * (2 * k + 1)) % 2 ^ b) ≡ v / 2 ^ ((b + b) * k) % 2 ^ (b + b)
+joined_halves b v k =
+    let n = v / 2 ^ ((b + b) * k) in
+    let twice : 2 * k ≡ k + k = omega arith in
+    let first : b * (2 * k) ≡ (b + b) * k = ap (λ m. b * m) twice ∙ mul-add b k k ∙ sym (add-mul b b k) in
+    let second : b * (2 * k + 1) ≡ (b + b) * k + b = omega (arith, mul-add b (2 * k) 1, mul-one b, first) in
+    let low : v / 2 ^ (b * (2 * k)) % 2 ^ b ≡ n % 2 ^ b = ap (λ m. v / 2 ^ m % 2 ^ b) first in
+    let high : v / 2 ^ (b * (2 * k + 1)) % 2 ^ b ≡ n / 2 ^ b % 2 ^ b = ap (λ m. v / 2 ^ m % 2 ^ b) second ∙ ap (λ m. m % 2 ^ b) (sym (shr-shr v ((b + b) * k) b)) in
+    omega (arith, low, ap (λ m. 2 ^ b * m) high, mul_comm (2 ^ b) (n / 2 ^ b % 2 ^ b), mod-pow-add n b b)

@@ -1,11 +1,14 @@
 -- Lanes of words that are shifted, with the bits masked that would leave their lane.
-use Rattle.std.proofs.Common.{◌≡◌, ℕ, zero, suc, ◌+◌, ◌-◌, ◌*◌, ◌/◌, ◌%◌, ◌^◌, ◌<◌, ◌≤◌, sym, ap, subst, ◌∙◌, arith, add-mul, mul-suc, mul-zero, mul_assoc, mul_comm, mul-add, mul-one, pow-suc, mul_right_comm, one-mul, zero-mul, suc-mul, le_refl, mod-lt, mod-eq_of_lt, bit_and, replicate}
-use Rattle.std.proofs.Math.Nat.{mod-one, mod-add-mod, add-mod_right, mul-div_cancel}
+use Rattle.std.proofs.Common.{◌≡◌, ℕ, zero, suc, ◌+◌, ◌-◌, ◌*◌, ◌/◌, ◌%◌, ◌^◌, ◌<◌, ◌≤◌, sym, ap, subst, ◌∙◌, arith, add-mul, mul-suc, mul-zero, mul_assoc, mul_comm, mul_right_comm, one-mul, zero-mul, suc-mul, le_refl, mod-lt, mod-eq_of_lt, bit_and, List, map, get_or}
+use Rattle.std.proofs.Math.Nat.{mod-one}
 use Rattle.std.proofs.lemmas.Nat.{pow_pos, pow-add, mod-pow-add, and_mask, mul-mod_first, div-add-mod', div-mul-add, mod-mul-add, mul-le, shl_below}
 use Rattle.std.proofs.Math.Pow.{pow_mono}
-use Rattle.std.specs.Simd.Lanes.{number_l}
-use Rattle.wasmi_lanes.specs.Words.{field}
-use Rattle.wasmi_lanes.proofs.FieldLemmas.{field_and, field_mod, repeated_lane}
+use Rattle.std.specs.List.{range_with_len}
+use Rattle.std.proofs.lemmas.List.FromFn.{get_or-map-range_with_len}
+use Rattle.wasmi_types.specs.Wrapping.{Width, bits}
+use Rattle.wasmi_lanes.specs.Words.{field, lanes_in_word, in_each_lane}
+use Rattle.wasmi_lanes.proofs.FieldLemmas.{field_and, field_mod, first_lane}
+use Rattle.wasmi_lanes.proofs.WordVectorLemmas.{lane_of_each}
 
 -- ---- products
 
@@ -40,13 +43,6 @@ lane_scaled w n c u each i lt =
 
 -- ---- shifts by s, with the low w - s bits of each lane as mask
 
--- how a word may be a mask of the low bits of each lane
-pub mask_lane : (w n m ones : ℕ) → 1 < 2 ^ w → m < 2 ^ w → ones ≡ number_l (2 ^ w) (replicate n 1) → (i : ℕ) → i < n → field (w * i) w (ones * m) ≡ m
-mask_lane w n m ones some fits is i lt =
-    let one : (j : ℕ) → j < n → field (w * j) w ones ≡ 1 = λ j below. ap (field (w * j) w) is ∙ repeated_lane w n j 1 some below in
-    let small : (j : ℕ) → j < n → field (w * j) w ones * m < 2 ^ w = λ j below. omega (arith, ap (λ k. k * m) (one j below), one-mul m) in
-    lane_scaled w n m ones small i lt ∙ ap (λ k. k * m) (one i lt) ∙ one-mul m
-
 shl_cut : (w s r x : ℕ) → r + s ≡ w → (x % 2 ^ r) * 2 ^ s ≡ (x * 2 ^ s) % 2 ^ w
 shl_cut w s r x e =
     let m : ℕ = x % 2 ^ r in
@@ -66,65 +62,19 @@ lane_shl w n s r v mask whole e is i lt =
     field_mod (w * i) w 64 (bit_and v mask * 2 ^ s) within ∙ lane_scaled w n (2 ^ s) (bit_and v mask) small i lt
     ∙ ap (λ n. n * 2 ^ s) (kept i lt) ∙ shl_cut w s r (field (w * i) w v) e
 
--- n lanes of x are n lanes of 1, times x
-repeated_scaled : (p n x : ℕ) → number_l p (replicate n x) ≡ number_l p (replicate n 1) * x
-repeated_scaled p zero x = sym (zero-mul x)
-repeated_scaled p (suc n) x =
-    let r : ℕ = number_l p (replicate n 1) in
-    omega (arith, ap (λ k. p * k) (repeated_scaled p n x), add-mul 1 (p * r) x, one-mul x, mul_assoc p r x)
+-- ---- a table of words, entry d with the low bits of each lane, all but its d highest ones
 
--- lanes full of ones fill the word
-repeated_full : (b n : ℕ) → number_l (2 ^ b) (replicate n 1) * (2 ^ b - 1) + 1 ≡ 2 ^ (n * b)
-repeated_full b zero = let none : 2 ^ (0 * b) ≡ 1 = ap (λ k. 2 ^ k) (zero-mul b) in omega (arith, none, zero-mul (2 ^ b - 1))
-repeated_full b (suc n) =
-    let p : ℕ = 2 ^ b in
-    let r : ℕ = number_l p (replicate n 1) in
-    let whole : 2 ^ (suc n * b) ≡ 2 ^ (n * b) * p = ap (λ k. 2 ^ k) (suc-mul n b) ∙ pow-add 2 (n * b) b in
-    omega (arith, whole, pow_pos b, mul_comm (2 ^ (n * b)) p, ap (λ k. p * k) (repeated_full b n), mul-add p (r * (p - 1)) 1, mul-one p, add-mul 1 (p * r) (p - 1), one-mul (p - 1), mul_assoc p r (p - 1))
+abbrev pub masks : Width → List ℕ
+masks w = map (λ d. in_each_lane w (2 ^ (bits w - d) - 1)) (range_with_len 0 (bits w))
 
--- the low bits of each lane: all but its highest ones, of which some are dropped
-abbrev pub kept : ℕ → ℕ → ℕ → ℕ
-kept tops ones dropped = ((tops / 2 ^ dropped + tops / 2 ^ dropped) % 2 ^ 64 + (2 ^ 64 - ones)) % 2 ^ 64
+pub masked_lane : (w : Width) (table : List ℕ) (d : ℕ) → table ≡ masks w → d < bits w → (i : ℕ) → i < lanes_in_word w
+    → field (bits w * i) (bits w) (get_or table d 0) ≡ 2 ^ (bits w - d) - 1
+masked_lane w table d is less =
+    let fits : 2 ^ (bits w - d) - 1 < 2 ^ bits w = omega (arith, pow_mono {i = bits w - d} {j = bits w} (omega arith), pow_pos (bits w - d)) in
+    lane_of_each w (2 ^ (bits w - d) - 1) (get_or table d 0) fits
+    (ap (λ l. get_or l d 0) is ∙ get_or-map-range_with_len (λ k. in_each_lane w (2 ^ (bits w - k) - 1)) 0 (bits w) d d 0 less (omega arith))
 
-module _ (b n dropped tops ones : ℕ) (whole : n * b ≡ 64) (less : dropped < b)
-    (is_tops : tops ≡ number_l (2 ^ b) (replicate n (2 ^ (b - 1)))) (is_ones : ones ≡ number_l (2 ^ b) (replicate n 1)) where
-  m : ℕ
-  m = 2 ^ (b - dropped) - 1
-
-  m_below : m < 2 ^ b
-  unfolding m
-  m_below = omega (arith, pow_mono {i = b - dropped} {j = b} (omega arith), pow_pos (b - dropped))
-
-  product_below : ones * m < 2 ^ 64
-  product_below =
-      let bound : ones * m ≤ ones * (2 ^ b - 1) = mul-le ones m ones (2 ^ b - 1) (le_refl ones) (omega (arith, m_below)) in
-      omega (arith, bound, ap (λ k. k * (2 ^ b - 1)) is_ones, repeated_full b n, ap (λ k. 2 ^ k) whole)
-
-  -- twice the highest bits that were shifted down are m and 1 in each lane
-  twice_is : tops / 2 ^ dropped + tops / 2 ^ dropped ≡ ones * m + ones
-  unfolding m
-  twice_is =
-      let d : ℕ = b - 1 - dropped in
-      let half : tops ≡ ones * 2 ^ d * 2 ^ dropped =
-      is_tops ∙ repeated_scaled (2 ^ b) n (2 ^ (b - 1)) ∙ ap (λ k. k * 2 ^ (b - 1)) (sym is_ones)
-      ∙ ap (λ k. ones * 2 ^ k) (let e : b - 1 ≡ d + dropped = omega arith in e) ∙ ap (λ k. ones * k) (pow-add 2 d dropped) ∙ sym (mul_assoc ones (2 ^ d) (2 ^ dropped)) in
-      let down : tops / 2 ^ dropped ≡ ones * 2 ^ d = ap (λ k. k / 2 ^ dropped) half ∙ mul-div_cancel (ones * 2 ^ d) (pow_pos dropped) in
-      let double : 2 ^ (b - dropped) ≡ 2 ^ d + 2 ^ d = ap (λ k. 2 ^ k) (let e : b - dropped ≡ suc d = omega arith in e) ∙ omega (arith, pow-suc 2 d) in
-      omega (arith, down, mul-add ones (2 ^ d) (2 ^ d), ap (λ k. ones * k) double, mul-add ones (2 ^ (b - dropped) - 1) 1, mul-one ones, ap (λ k. ones * k) (let e : 2 ^ (b - dropped) - 1 + 1 ≡ 2 ^ (b - dropped) = omega (arith, pow_pos (b - dropped)) in e))
-
-  ones_below : ones ≤ 2 ^ 64
-  ones_below =
-      let small : ones * 1 ≤ ones * (2 ^ b - 1) = mul-le ones 1 ones (2 ^ b - 1) (le_refl ones) (omega (arith, pow_mono {i = 1} {j = b} (omega arith))) in
-      omega (arith, small, mul-one ones, ap (λ k. k * (2 ^ b - 1)) is_ones, repeated_full b n, ap (λ k. 2 ^ k) whole)
-
-  kept_is : kept tops ones dropped ≡ ones * m
-  kept_is =
-      let sum : (ones * m + ones) + (2 ^ 64 - ones) ≡ ones * m + 2 ^ 64 = omega (arith, ones_below) in
-      ap (λ k. (k % 2 ^ 64 + (2 ^ 64 - ones)) % 2 ^ 64) twice_is ∙ mod-add-mod (ones * m + ones) (2 ^ 64) (2 ^ 64 - ones)
-      ∙ ap (λ k. k % 2 ^ 64) sum ∙ add-mod_right (ones * m) (2 ^ 64) ∙ mod-eq_of_lt product_below
-
-  pub low_bits_are : (i : ℕ) → i < n → field (b * i) b (kept tops ones dropped) ≡ 2 ^ (b - dropped) - 1
-  unfolding m
-  low_bits_are i inside =
-      let some : 1 < 2 ^ b = omega (arith, pow_mono {i = 1} {j = b} (omega arith)) in
-      ap (field (b * i) b) kept_is ∙ mask_lane b n m ones some m_below is_ones i inside
+-- a word is one lane of 64 bits
+pub lane_of_word : (f : ℕ → ℕ) (x y : ℕ) → x < 2 ^ 64 → y < 2 ^ 64 → y ≡ f x → (i : ℕ) → i < 1 → field (64 * i) 64 y ≡ f (field (64 * i) 64 x)
+lane_of_word f x y fits_x fits_y is zero inside = first_lane 64 y ∙ mod-eq_of_lt fits_y ∙ is ∙ ap f (sym (first_lane 64 x ∙ mod-eq_of_lt fits_x))
+lane_of_word f x y fits_x fits_y is (suc i) inside = absurd (omega arith)

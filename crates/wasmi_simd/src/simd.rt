@@ -8,6 +8,7 @@
 mod extend;
 mod extmul;
 mod halves;
+mod low_bits;
 mod narrow;
 mod neighbours;
 mod pairwise;

@@ -136,7 +136,7 @@ pub fn i8x16_add_sat_u(lhs: V128, rhs: V128) -> V128
 pub fn i16x8_add_sat_s(lhs: V128, rhs: V128) -> V128
     ensures { result ≡ vector.add_sat_s w16 lhs rhs }
 {
-    on_vectors::binary::<I16x8, _>(lhs, rhs, |x, y| x.saturating_add(y))
+    on_vectors::binary::<I16x8, _>(lhs, rhs, |x, y| clamped_i16(sum_i16(x, y)))
 }
 
 /// The sums of the lanes, read unsigned and clamped to the unsigned range of 16 bits.
@@ -168,7 +168,7 @@ pub fn i8x16_sub_sat_u(lhs: V128, rhs: V128) -> V128
 pub fn i16x8_sub_sat_s(lhs: V128, rhs: V128) -> V128
     ensures { result ≡ vector.sub_sat_s w16 lhs rhs }
 {
-    on_vectors::binary::<I16x8, _>(lhs, rhs, |x, y| x.saturating_sub(y))
+    on_vectors::binary::<I16x8, _>(lhs, rhs, |x, y| clamped_i16(difference_i16(x, y)))
 }
 
 /// The differences of the lanes, read unsigned and clamped to the unsigned range of 16 bits.
@@ -320,6 +320,28 @@ fn clamped_i8(x: i16) -> i8
     ensures { result ≡ clamp_signed w8 x }
 {
     x.clamp(-128, 127) as i8
+}
+
+#[inline]
+fn sum_i16(x: i16, y: i16) -> i32
+    ensures { result ≡ x +ℤ y }
+{
+    i32::from(x) + i32::from(y)
+}
+
+#[inline]
+fn difference_i16(x: i16, y: i16) -> i32
+    ensures { result ≡ x -ℤ y }
+{
+    i32::from(x) - i32::from(y)
+}
+
+// A number clamped to the signed range of 16 bits, as `clamped_i8` does at 8.
+#[inline]
+fn clamped_i16(x: i32) -> i16
+    ensures { result ≡ clamp_signed w16 x }
+{
+    x.clamp(-32768, 32767) as i16
 }
 
 // The product of two fractions of 2 to the power 15, halves rounded up, clamped to the signed range.

@@ -1,14 +1,15 @@
 //! One lane of a vector, at an index that is known only when the program runs.
 //!
-//! An array of the lanes would go through memory (docs/SPEED.md): a lane is shifted out of its word, and put where the
-//! number of a lane is the index.
+//! An array of the lanes would go through memory (docs/SPEED.md): the bytes of a lane are picked by their indices, and a
+//! lane is put where the number of a lane is the index.
 
-ghost use Rattle.std.specs.Prelude.{◌≡◌, ℕ, ◌+◌, ◌/◌, ◌%◌, ◌^◌, ◌<◌, ◌≤◌, ◌==◌, slice_index, if◌then◌else◌};
+ghost use Rattle.std.specs.Prelude.{◌≡◌, ℕ, ◌+◌, ◌*◌, ◌/◌, ◌%◌, ◌^◌, ◌<◌, ◌≤◌, ◌==◌, slice_index, if◌then◌else◌};
 ghost use Rattle.std.specs.List.{range_with_len};
 ghost use Rattle.wasmi_types.specs.Wrapping.{w8, w16, w32, w64};
 ghost use Rattle.wasmi_lanes.specs.Lane.{lane};
 ghost use Rattle.wasmi_lanes.specs.Vector.{with_lane};
 
+use super::shuffle::picked;
 use std::simd::prelude::*;
 use wasmi_lanes::{ImmLaneIdx2, ImmLaneIdx4, ImmLaneIdx8, ImmLaneIdx16, LaneItem, bytes_of};
 use wasmi_raw::V128;
@@ -18,7 +19,8 @@ use wasmi_raw::V128;
 pub(super) fn lane_of_8(vector: V128, at: ImmLaneIdx16) -> u8
     ensures { result ≡ lane w8 vector at }
 {
-    (bits_from(vector, 8 * u32::from(u8::from(at))) & 0xff) as u8
+    let [lane, ..] = picked(bytes_of(vector), u8x16::splat(u8::from(at))).to_array();
+    lane
 }
 
 /// One lane of 16 bits.
@@ -26,7 +28,19 @@ pub(super) fn lane_of_8(vector: V128, at: ImmLaneIdx16) -> u8
 pub(super) fn lane_of_16(vector: V128, at: ImmLaneIdx8) -> u16
     ensures { result ≡ lane w16 vector at }
 {
-    (bits_from(vector, 16 * u32::from(u8::from(at))) & 0xffff) as u16
+    let indices = indices_of_16(u8::from(at));
+    let [lane, ..] = u16x8::from_le_bytes(picked(bytes_of(vector), indices)).to_array();
+    lane
+}
+
+// The indices of the two bytes of a lane of 16 bits, in every two bytes.
+#[inline(always)]
+fn indices_of_16(lane: u8) -> u8x16
+    requires { lane < 8 }
+    ensures first { slice_index result 0 ≡ 2 * lane }
+    ensures second { slice_index result 1 ≡ 2 * lane + 1 }
+{
+    u16x8::splat(0x0202 * u16::from(lane) + 0x0100).to_le_bytes()
 }
 
 /// One lane of 32 bits.
@@ -34,7 +48,18 @@ pub(super) fn lane_of_16(vector: V128, at: ImmLaneIdx8) -> u16
 pub(super) fn lane_of_32(vector: V128, at: ImmLaneIdx4) -> u32
     ensures { result ≡ lane w32 vector at }
 {
-    (bits_from(vector, 32 * u32::from(u8::from(at))) & 0xffff_ffff) as u32
+    let indices = indices_of_32(u8::from(at));
+    let [lane, ..] = u32x4::from_le_bytes(picked(bytes_of(vector), indices)).to_array();
+    lane
+}
+
+// The indices of the four bytes of a lane of 32 bits, in every four bytes.
+#[inline(always)]
+fn indices_of_32(lane: u8) -> u8x16
+    requires { lane < 4 }
+    ensures lanes { (i : ℕ) → i < 4 → slice_index result i ≡ 4 * lane + i }
+{
+    u32x4::splat(0x0404_0404 * u32::from(lane) + 0x0302_0100).to_le_bytes()
 }
 
 /// One lane of 64 bits.
@@ -42,18 +67,8 @@ pub(super) fn lane_of_32(vector: V128, at: ImmLaneIdx4) -> u32
 pub(super) fn lane_of_64(vector: V128, at: ImmLaneIdx2) -> u64
     ensures { result ≡ lane w64 vector at }
 {
-    bits_from(vector, 64 * u32::from(u8::from(at)))
-}
-
-// The bits of a vector from the one at `first` on, to the end of the word that has it.
-#[inline(always)]
-fn bits_from(vector: V128, first: u32) -> u64
-    requires inside { first < 128 }
-    ensures bits { (n : ℕ) → first % 64 + n ≤ 64 → result % 2 ^ n ≡ vector / 2 ^ first % 2 ^ n }
-{
     let (low, high) = vector.words();
-    let word = if first < 64 { low } else { high };
-    word >> (first % 64)
+    if u8::from(at) == 0 { low } else { high }
 }
 
 /// `vector` with `item` in one lane of 8 bits.

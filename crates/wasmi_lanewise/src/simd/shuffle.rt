@@ -28,9 +28,9 @@ pub fn i8x16_swizzle(a: V128, s: V128) -> V128
     from_bytes(low_or_high(indices, low, u8x16::splat(0)))
 }
 
-// The lanes of `table` at the low four bits of the indices.
+/// The lanes of `table` at the low four bits of the indices.
 #[inline(always)]
-fn picked(table: u8x16, indices: u8x16) -> u8x16
+pub(super) fn picked(table: u8x16, indices: u8x16) -> u8x16
     ensures lanes { (i : ℕ) → i < 16 → slice_index result i ≡ slice_index table (slice_index indices i % 16) }
 {
     table.swizzle_dyn_within::<16>(indices & u8x16::splat(15))

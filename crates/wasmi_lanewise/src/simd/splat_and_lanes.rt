@@ -1,15 +1,19 @@
 //! Vectors of one item, and one lane of a vector: `splat`, `extract_lane` and `replace_lane`.
 
-ghost use Rattle.std.specs.Prelude.{◌≡◌};
+ghost use Rattle.std.specs.Prelude.{◌≡◌, ◌∷◌, []};
 ghost use Rattle.wasmi_types.specs.Wrapping.{w8, w16, w32, w64};
+ghost use Rattle.wasmi_lanes.specs.Lane.{lane};
+ghost use Rattle.wasmi_lanes.specs.Vector.{splat_of};
 ghost use Rattle.wasmi_lanewise.specs.VectorTable as vector;
 
 use super::one_lane::{
     lane_of_8, lane_of_16, lane_of_32, lane_of_64, with_lane_of_8, with_lane_of_16,
     with_lane_of_32, with_lane_of_64,
 };
+use std::simd::prelude::*;
 use wasmi_lanes::{
-    I8x16, I16x8, I32x4, I64x2, ImmLaneIdx2, ImmLaneIdx4, ImmLaneIdx8, ImmLaneIdx16, on_vectors,
+    I8x16, I16x8, I32x4, ImmLaneIdx2, ImmLaneIdx4, ImmLaneIdx8, ImmLaneIdx16, SimdLane, from_bytes,
+    on_vectors,
 };
 use wasmi_raw::V128;
 
@@ -42,7 +46,24 @@ pub fn i32x4_splat(item: i32) -> V128
 pub fn i64x2_splat(item: i64) -> V128
     ensures { result ≡ vector.splat w64 item }
 {
-    on_vectors::splat::<I64x2>(item)
+    same_words(item.cast_unsigned())
+}
+
+// Both words the same, by lanes of 32 bits: of one word in two places LLVM makes two stores.
+#[inline(always)]
+fn same_words(word: u64) -> V128
+    ensures { result ≡ splat_of w64 word }
+{
+    from_bytes(lower_half_twice(V128::from_words(word, 0)).to_le_bytes())
+}
+
+// The lanes of 32 bits of the lower half, twice.
+#[inline(always)]
+fn lower_half_twice(v: V128) -> u32x4
+    ensures { result ≡ lane w32 v 0 ∷ lane w32 v 1 ∷ lane w32 v 0 ∷ lane w32 v 1 ∷ [] }
+{
+    let items = u32::lanes_of(v);
+    items.shuffle(items, [0, 1, 0, 1])
 }
 
 /// One lane, read signed.

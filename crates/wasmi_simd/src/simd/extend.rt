@@ -1,16 +1,17 @@
 //! Lanes extended to twice their width.
 
-ghost use Rattle.std.specs.Prelude.{◌≡◌};
+ghost use Rattle.std.specs.Prelude.{◌≡◌, ◌∷◌, []};
 ghost use Rattle.wasmi_types.specs.Wrapping.{w8, w16, w32, w64};
+ghost use Rattle.wasmi_lanes.specs.Lane.{lane};
 ghost use Rattle.wasmi_simd.specs.WideningTable as vector;
 
 use super::halves::{
-    high_bytes, high_bytes_signed, high_eighths, high_eighths_signed, low_bytes, low_bytes_signed,
-    low_eighths, low_eighths_signed,
+    high_bytes, high_bytes_signed, high_eighths, high_eighths_signed, high_quarters,
+    high_quarters_signed, low_bytes, low_bytes_signed, low_eighths, low_eighths_signed,
+    low_quarters, low_quarters_signed,
 };
-use super::vectors::{from_eighths, from_quarters};
-use crate::widening::{high_unary, low_unary};
-use wasmi_lanes::{I32x4, I64x2, U32x4, U64x2};
+use super::vectors::{from_eighths, from_halves, from_quarters, quarters_of};
+use std::simd::prelude::*;
 use wasmi_raw::V128;
 
 /// The lanes of the lower half, read signed.
@@ -82,7 +83,7 @@ pub fn i32x4_extend_high_i16x8_u(v: V128) -> V128
 pub fn i64x2_extend_low_i32x4_s(v: V128) -> V128
     ensures { result ≡ vector.extend_low_s w32 w64 v }
 {
-    low_unary::<I32x4, I64x2, _>(v, |x| i64::from(x))
+    from_halves(low_quarters_signed(v))
 }
 
 /// The lanes of the lower half, read unsigned.
@@ -90,7 +91,7 @@ pub fn i64x2_extend_low_i32x4_s(v: V128) -> V128
 pub fn i64x2_extend_low_i32x4_u(v: V128) -> V128
     ensures { result ≡ vector.extend_low_u w32 w64 v }
 {
-    low_unary::<U32x4, U64x2, _>(v, |x| u64::from(x))
+    from_halves(low_quarters(v))
 }
 
 /// The lanes of the upper half, read signed.
@@ -98,7 +99,7 @@ pub fn i64x2_extend_low_i32x4_u(v: V128) -> V128
 pub fn i64x2_extend_high_i32x4_s(v: V128) -> V128
     ensures { result ≡ vector.extend_high_s w32 w64 v }
 {
-    high_unary::<I32x4, I64x2, _>(v, |x| i64::from(x))
+    from_halves(high_quarters_signed(v))
 }
 
 /// The lanes of the upper half, read unsigned.
@@ -106,7 +107,7 @@ pub fn i64x2_extend_high_i32x4_s(v: V128) -> V128
 pub fn i64x2_extend_high_i32x4_u(v: V128) -> V128
     ensures { result ≡ vector.extend_high_u w32 w64 v }
 {
-    high_unary::<U32x4, U64x2, _>(v, |x| u64::from(x))
+    from_halves(high_quarters(v))
 }
 
 /// The 8 lanes of 8 bits of a number, read signed, lane 0 the lowest.
@@ -176,7 +177,7 @@ pub fn v128_widen32x2_u(number: u64) -> V128
 pub fn v128_low32_zero(number: u32) -> V128
     ensures { result ≡ vector.low_zero w32 number }
 {
-    V128::from_words(u64::from(number), 0)
+    v128_low64_zero(u64::from(number))
 }
 
 /// The number in lane 0, and 0 in the others.
@@ -186,5 +187,13 @@ pub fn v128_low32_zero(number: u32) -> V128
 pub fn v128_low64_zero(number: u64) -> V128
     ensures { result ≡ vector.low_zero w64 number }
 {
-    V128::from_words(number, 0)
+    from_quarters(lower_half_alone(V128::from_words(number, 0)))
+}
+
+// The lanes of 32 bits of the lower half, and zeros behind them: of two words LLVM makes two stores.
+#[inline(always)]
+fn lower_half_alone(v: V128) -> u32x4
+    ensures { result ≡ lane w32 v 0 ∷ lane w32 v 1 ∷ 0 ∷ 0 ∷ [] }
+{
+    quarters_of(v).shuffle(u32x4::splat(0), [0, 1, 4, 5])
 }

@@ -1,16 +1,18 @@
 //! Products of lanes, of twice their width.
 
-ghost use Rattle.std.specs.Prelude.{◌≡◌, ◌*◌, ◌*ℤ◌};
+ghost use Rattle.std.specs.Prelude.{◌≡◌};
 ghost use Rattle.wasmi_types.specs.Wrapping.{w8, w16, w32, w64};
 ghost use Rattle.wasmi_simd.specs.WideningTable as vector;
 
 use super::halves::{
-    high_bytes, high_bytes_signed, high_eighths, high_eighths_signed, low_bytes, low_bytes_signed,
-    low_eighths, low_eighths_signed,
+    high_bytes, high_bytes_signed, high_eighths, high_eighths_signed, high_quarters,
+    high_quarters_signed, low_bytes, low_bytes_signed, low_eighths, low_eighths_signed,
+    low_quarters, low_quarters_signed,
 };
-use super::vectors::{from_eighths, from_quarters, product_of_eighths, product_of_quarters};
-use crate::widening::{high_binary, low_binary};
-use wasmi_lanes::{I32x4, I64x2, U32x4, U64x2};
+use super::vectors::{
+    from_eighths, from_halves, from_quarters, product_of_eighths, product_of_halves,
+    product_of_quarters,
+};
 use wasmi_raw::V128;
 
 /// The products of the lanes of the lower halves, read signed.
@@ -82,7 +84,7 @@ pub fn i32x4_extmul_high_i16x8_u(lhs: V128, rhs: V128) -> V128
 pub fn i64x2_extmul_low_i32x4_s(lhs: V128, rhs: V128) -> V128
     ensures { result ≡ vector.extmul_low_s w32 w64 lhs rhs }
 {
-    low_binary::<I32x4, I64x2, _>(lhs, rhs, |x, y| product_i32(x, y))
+    from_halves(product_of_halves(low_quarters_signed(lhs), low_quarters_signed(rhs)))
 }
 
 /// The products of the lanes of the lower halves, read unsigned.
@@ -90,7 +92,7 @@ pub fn i64x2_extmul_low_i32x4_s(lhs: V128, rhs: V128) -> V128
 pub fn i64x2_extmul_low_i32x4_u(lhs: V128, rhs: V128) -> V128
     ensures { result ≡ vector.extmul_low_u w32 w64 lhs rhs }
 {
-    low_binary::<U32x4, U64x2, _>(lhs, rhs, |x, y| product_u32(x, y))
+    from_halves(product_of_halves(low_quarters(lhs), low_quarters(rhs)))
 }
 
 /// The products of the lanes of the upper halves, read signed.
@@ -98,7 +100,7 @@ pub fn i64x2_extmul_low_i32x4_u(lhs: V128, rhs: V128) -> V128
 pub fn i64x2_extmul_high_i32x4_s(lhs: V128, rhs: V128) -> V128
     ensures { result ≡ vector.extmul_high_s w32 w64 lhs rhs }
 {
-    high_binary::<I32x4, I64x2, _>(lhs, rhs, |x, y| product_i32(x, y))
+    from_halves(product_of_halves(high_quarters_signed(lhs), high_quarters_signed(rhs)))
 }
 
 /// The products of the lanes of the upper halves, read unsigned.
@@ -106,19 +108,5 @@ pub fn i64x2_extmul_high_i32x4_s(lhs: V128, rhs: V128) -> V128
 pub fn i64x2_extmul_high_i32x4_u(lhs: V128, rhs: V128) -> V128
     ensures { result ≡ vector.extmul_high_u w32 w64 lhs rhs }
 {
-    high_binary::<U32x4, U64x2, _>(lhs, rhs, |x, y| product_u32(x, y))
-}
-
-#[inline]
-fn product_i32(x: i32, y: i32) -> i64
-    ensures { result ≡ x *ℤ y }
-{
-    i64::from(x) * i64::from(y)
-}
-
-#[inline]
-fn product_u32(x: u32, y: u32) -> u64
-    ensures { result ≡ x * y }
-{
-    u64::from(x) * u64::from(y)
+    from_halves(product_of_halves(high_quarters(lhs), high_quarters(rhs)))
 }

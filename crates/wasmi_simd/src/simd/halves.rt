@@ -3,10 +3,10 @@
 
 ghost use Rattle.std.specs.Prelude.{◌≡◌, ℕ, ◌+◌, ◌^◌, ◌<◌, slice_index};
 ghost use Rattle.std.specs.Int.{cast_unsigned};
-ghost use Rattle.wasmi_types.specs.Wrapping.{w8, w16, w32, signed};
+ghost use Rattle.wasmi_types.specs.Wrapping.{w8, w16, w32, w64, signed};
 ghost use Rattle.wasmi_lanes.specs.Lane.{lane};
 
-use super::vectors::{eighths_of, signed_eighths_of};
+use super::vectors::{eighths_of, quarters_of, signed_eighths_of, signed_quarters_of};
 use std::simd::prelude::*;
 use wasmi_lanes::bytes_of;
 use wasmi_raw::V128;
@@ -84,4 +84,42 @@ pub(super) fn high_eighths_signed(v: V128) -> u32x4
 {
     let items = signed_eighths_of(v).extract::<4, 4>().cast::<i32>();
     u32x4::from_le_bytes(items.to_le_bytes())
+}
+
+/// The lower 2 lanes of 32 bits.
+///
+/// Zeros come between them: of a cast LLVM takes the lanes out of their word.
+#[inline(always)]
+pub(super) fn low_quarters(v: V128) -> u64x2
+    ensures lanes { (i : ℕ) → i < 2 → slice_index result i ≡ lane w32 v i }
+{
+    let items = quarters_of(v).shuffle(u32x4::splat(0), [0, 4, 1, 5]);
+    u64x2::from_le_bytes(items.to_le_bytes())
+}
+
+/// The upper 2 lanes of 32 bits.
+#[inline(always)]
+pub(super) fn high_quarters(v: V128) -> u64x2
+    ensures lanes { (i : ℕ) → i < 2 → slice_index result i ≡ lane w32 v (2 + i) }
+{
+    let items = quarters_of(v).shuffle(u32x4::splat(0), [2, 4, 3, 5]);
+    u64x2::from_le_bytes(items.to_le_bytes())
+}
+
+/// The lower 2 lanes of 32 bits, the sign copied.
+#[inline(always)]
+pub(super) fn low_quarters_signed(v: V128) -> u64x2
+    ensures lanes { (i : ℕ) → i < 2 → slice_index result i ≡ cast_unsigned w64 (signed w32 (lane w32 v i)) }
+{
+    let items = signed_quarters_of(v).extract::<0, 2>().cast::<i64>();
+    u64x2::from_le_bytes(items.to_le_bytes())
+}
+
+/// The upper 2 lanes of 32 bits, the sign copied.
+#[inline(always)]
+pub(super) fn high_quarters_signed(v: V128) -> u64x2
+    ensures lanes { (i : ℕ) → i < 2 → slice_index result i ≡ cast_unsigned w64 (signed w32 (lane w32 v (2 + i))) }
+{
+    let items = signed_quarters_of(v).extract::<2, 2>().cast::<i64>();
+    u64x2::from_le_bytes(items.to_le_bytes())
 }

@@ -5,7 +5,8 @@ ghost use Rattle.std.specs.Prelude.{◌≡◌};
 ghost use Rattle.wasmi_simd.specs.WideningTable as vector;
 
 use super::pairwise::{i16x8_relaxed_dot_i8x16_i7x16_s, i32x4_extadd_pairwise_i16x8_s};
-use wasmi_lanewise::simd::{i8x16_swizzle, i16x8_q15mulr_sat_s, i32x4_add, v128_bitselect};
+use super::vectors::{from_quarters, quarters_of, sum_of_quarters};
+use wasmi_lanewise::simd::{i8x16_swizzle, i16x8_q15mulr_sat_s, v128_bitselect};
 use wasmi_raw::V128;
 
 /// As `i8x16_swizzle`: 0 where the index is above 15.
@@ -63,5 +64,6 @@ pub fn i32x4_relaxed_dot_i8x16_i7x16_add_s(lhs: V128, rhs: V128, c: V128) -> V12
     ensures { result ≡ vector.relaxed_dot_add_s lhs rhs c }
 {
     let dot = i16x8_relaxed_dot_i8x16_i7x16_s(lhs, rhs);
-    i32x4_add(i32x4_extadd_pairwise_i16x8_s(dot), c)
+    let pairs = i32x4_extadd_pairwise_i16x8_s(dot);
+    from_quarters(sum_of_quarters(quarters_of(pairs), quarters_of(c)))
 }

@@ -3,13 +3,13 @@
 //! The two words of the vector are shifted together, and the bits are masked that would leave their
 //! lane; with the sign it is done lane by lane.
 
-ghost use Rattle.std.specs.Prelude.{◌≡◌, ℕ, ◌-◌, ◌*◌, ◌^◌, ◌<◌, [], ◌∷◌};
-ghost use Rattle.wasmi_types.specs.Wrapping.{w8, w16, w32, w64, bits};
-ghost use Rattle.wasmi_lanes.specs.Words.{field, lanes_in_word};
+ghost use Rattle.std.specs.Prelude.{◌≡◌};
+ghost use Rattle.wasmi_types.specs.Wrapping.{w8, w16, w32, w64};
 ghost use Rattle.wasmi_simd.specs.WideningTable as vector;
 
+use super::low_bits::NarrowLane;
 use std::simd::prelude::*;
-use wasmi_lanes::{I8x16, I16x8, I32x4, I64x2, WordLane, from_words, on_vectors, words_of};
+use wasmi_lanes::{I8x16, I16x8, I32x4, I64x2, from_words, on_vectors, words_of};
 use wasmi_raw::V128;
 
 /// The lanes shifted to the left, the bits above each lane dropped. `amount` is taken modulo 8.
@@ -89,7 +89,7 @@ pub fn i32x4_shr_u(v: V128, amount: u32) -> V128
 pub fn i64x2_shl(v: V128, amount: u32) -> V128
     ensures { result ≡ vector.shl w64 v amount }
 {
-    shifted_left::<u64>(v, amount)
+    from_words(words_of(v) << u64x2::splat(u64::from(amount % 64)))
 }
 
 /// The lanes shifted to the right, the sign copied. `amount` is taken modulo 64.
@@ -105,35 +105,23 @@ pub fn i64x2_shr_s(v: V128, amount: u32) -> V128
 pub fn i64x2_shr_u(v: V128, amount: u32) -> V128
     ensures { result ≡ vector.shr_u w64 v amount }
 {
-    shifted_right::<u64>(v, amount)
+    from_words(words_of(v) >> u64x2::splat(u64::from(amount % 64)))
 }
 
 #[inline(always)]
-fn shifted_left<T: WordLane>(v: V128, amount: u32) -> V128
+fn shifted_left<T: NarrowLane>(v: V128, amount: u32) -> V128
     ensures { result ≡ vector.shl T.width v amount }
 {
     let amount = u64::from(amount % T::BITS);
-    let kept = low_bits::<T>(amount);
+    let kept = u64x2::splat(T::low_bits(amount));
     from_words((words_of(v) & kept) << u64x2::splat(amount))
 }
 
 #[inline(always)]
-fn shifted_right<T: WordLane>(v: V128, amount: u32) -> V128
+fn shifted_right<T: NarrowLane>(v: V128, amount: u32) -> V128
     ensures { result ≡ vector.shr_u T.width v amount }
 {
     let amount = u64::from(amount % T::BITS);
-    let kept = low_bits::<T>(amount);
+    let kept = u64x2::splat(T::low_bits(amount));
     from_words((words_of(v) >> u64x2::splat(amount)) & kept)
-}
-
-// All bits of each lane but its highest ones, of which there are `dropped`: the power of 2 above
-// them less 1.
-#[inline(always)]
-fn low_bits<T: WordLane>(dropped: u64) -> u64x2
-    requires { dropped < bits T.width }
-    ensures { (kept : ℕ) × (result ≡ kept ∷ kept ∷ []) × (kept < 2 ^ 64)
-        × ((i : ℕ) → i < lanes_in_word T.width → field (bits T.width * i) (bits T.width) kept ≡ 2 ^ (bits T.width - dropped) - 1) }
-{
-    let tops = u64x2::splat(T::TOPS) >> u64x2::splat(dropped);
-    tops + tops - u64x2::splat(T::ONES)
 }

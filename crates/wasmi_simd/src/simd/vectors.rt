@@ -1,8 +1,8 @@
-//! Vectors as `std::simd` vectors with lanes of 16 or 32 bits, and back; sums and products of
+//! Vectors as `std::simd` vectors with lanes of 16, 32 or 64 bits, and back; sums and products of
 //! these lanes.
 
 ghost use Rattle.std.specs.Prelude.{◌≡◌, ℕ, pos, ◌+◌, ◌*◌, ◌%◌, ◌^◌, ◌<◌, slice_index, slice_index_or};
-ghost use Rattle.wasmi_types.specs.Wrapping.{w16, w32, signed};
+ghost use Rattle.wasmi_types.specs.Wrapping.{w16, w32, w64, signed};
 ghost use Rattle.wasmi_lanes.specs.Lane.{lane};
 
 use std::simd::prelude::*;
@@ -61,6 +61,16 @@ pub(super) fn from_quarters(items: u32x4) -> V128
     u32::write_from(&items)
 }
 
+/// The vector of these lanes of 64 bits.
+#[inline(always)]
+pub(super) fn from_halves(items: u64x2) -> V128
+    ensures lanes { (i : ℕ) → i < 2 → lane w64 result i ≡ slice_index items i }
+    ensures in_range { result < 2 ^ 128 }
+{
+    let items = items.to_array();
+    u64::write_from(&items)
+}
+
 /// The sums of lanes of 16 bits, modulo 2 to the power 16.
 #[inline(always)]
 pub(super) fn sum_of_eighths(a: u16x8, b: u16x8) -> u16x8
@@ -89,6 +99,14 @@ pub(super) fn product_of_eighths(a: u16x8, b: u16x8) -> u16x8
 #[inline(always)]
 pub(super) fn product_of_quarters(a: u32x4, b: u32x4) -> u32x4
     ensures lanes { (i : ℕ) → i < 4 → slice_index result i ≡ slice_index a i * slice_index b i % 2 ^ 32 }
+{
+    a * b
+}
+
+/// The products of lanes of 64 bits, modulo 2 to the power 64.
+#[inline(always)]
+pub(super) fn product_of_halves(a: u64x2, b: u64x2) -> u64x2
+    ensures lanes { (i : ℕ) → i < 2 → slice_index result i ≡ slice_index a i * slice_index b i % 2 ^ 64 }
 {
     a * b
 }

@@ -1,9 +1,22 @@
-use Rattle.std.proofs.Common.{◌∙◌, arith}
-use Rattle.wasmi_types.specs.Wrapping.{w16}
-use Rattle.wasmi_lanewise.proofs.OneLane.{lane_of_bits}
+use Rattle.std.proofs.Common.{◌≡◌, ◌+◌, ◌*◌, ◌%◌, ◌<◌, ◌∙◌, ap, arith, rules, slice_index, length}
+use Rattle.wasmi_types.specs.Wrapping.{w8}
+use Rattle.wasmi_lanes.specs.Lane.{lane}
+use Rattle.wasmi_lanes.proofs.Vectors.{lane_below}
+use Rattle.wasmi_lanewise.proofs.OneLane.{first_two_bytes, joined_halves}
 use Rattle.wasmi_lanewise.proofs.simd.one_lane.lane_of_16.Goals as goal
 
 pub returns : goal.returns
 returns c =
+    let v = c.args.vector in
+    let at = c.args.at in
     let index = c.from.ensures in
-    lane_of_bits w16 c.args.vector _ c.args.at c.bits_from.result (c.from-2.ensures ∙ index.0) (c.bits_from.ensures.bits 16 (omega arith))
+    let inside : at < 8 = omega (arith, index.0, index.1) in
+    let long : length c.picked.result ≡ 16 = search rules in
+    let bytes = slice_index c.bytes_of.result in
+    let first : slice_index c.indices_of_16-indices.result 0 % 16 ≡ 2 * at = omega (arith, index.0, inside, c.indices_of_16-indices.ensures.first) in
+    let second : slice_index c.indices_of_16-indices.result 1 % 16 ≡ 2 * at + 1 = omega (arith, index.0, inside, c.indices_of_16-indices.ensures.second) in
+    first_two_bytes c.picked.result (lane w8 v (2 * at)) (lane w8 v (2 * at + 1)) long
+    (c.picked.ensures.lanes 0 (omega arith) ∙ ap bytes first ∙ c.bytes_of.ensures.lanes (2 * at) (omega arith))
+    (c.picked.ensures.lanes 1 (omega arith) ∙ ap bytes second ∙ c.bytes_of.ensures.lanes (2 * at + 1) (omega arith))
+    (lane_below w8 v (2 * at)) (lane_below w8 v (2 * at + 1))
+    ∙ joined_halves 8 v at

@@ -1,9 +1,9 @@
-use Rattle.std.proofs.Common.{◌∙◌, arith}
-use Rattle.wasmi_types.specs.Wrapping.{w8}
-use Rattle.wasmi_lanewise.proofs.OneLane.{lane_of_bits}
+use Rattle.std.proofs.Common.{◌≡◌, ◌%◌, ◌<◌, ◌∙◌, ap, arith, slice_index}
 use Rattle.wasmi_lanewise.proofs.simd.one_lane.lane_of_8.Goals as goal
 
 pub returns : goal.returns
 returns c =
     let index = c.from.ensures in
-    lane_of_bits w8 c.args.vector _ c.args.at c.bits_from.result (c.from-2.ensures ∙ index.0) (c.bits_from.ensures.bits 8 (omega arith))
+    let inside : c.args.at < 16 = omega (arith, index.0, index.1) in
+    let same : c.from.result % 16 ≡ c.args.at = omega (arith, index.0, index.1) in
+    c.picked.ensures.lanes 0 (omega arith) ∙ ap (slice_index c.bytes_of.result) same ∙ c.bytes_of.ensures.lanes c.args.at inside

@@ -16,12 +16,12 @@ returns g c =
     let amount : s ≡ c.args.amount % bits w = c.from-amount.ensures ∙ ap (λ n. c.args.amount % n) (c.BITS.ensures ∙ g.met.T.WordLane.wide) in
     let less : s < bits w = subst (λ k. k < bits w) (sym amount) (mod-lt c.args.amount (some_bits w)) in
     let keep : bits w - s + s ≡ bits w = omega arith in
-    let kept = c.low_bits-kept.ensures in
+    let kept = c.low_bits-kept.result in
     let low : ℕ = c.args.v % 2 ^ 64 in
     let high : ℕ = c.args.v / 2 ^ 64 in
     words_make_unary w whole (λ x. x * 2 ^ s % 2 ^ bits w) c.args.v low high _ _ _ (words_of refl refl)
-    (mod-lt (bit_and low kept.0 * 2 ^ s) (lit< tt)) (mod-lt (bit_and high kept.0 * 2 ^ s) (lit< tt))
-    (lane_shl (bits w) (lanes_in_word w) s (bits w - s) low kept.0 (le_of_eq whole) keep kept.3)
-    (lane_shl (bits w) (lanes_in_word w) s (bits w - s) high kept.0 (le_of_eq whole) keep kept.3)
-    (c.from_words.ensures _ _ (rw (c.words_of.ensures, kept.1) refl))
+    (mod-lt (bit_and low kept * 2 ^ s) (lit< tt)) (mod-lt (bit_and high kept * 2 ^ s) (lit< tt))
+    (lane_shl (bits w) (lanes_in_word w) s (bits w - s) low kept (le_of_eq whole) keep c.low_bits-kept.ensures)
+    (lane_shl (bits w) (lanes_in_word w) s (bits w - s) high kept (le_of_eq whole) keep c.low_bits-kept.ensures)
+    (c.from_words.ensures _ _ (rw c.words_of.ensures refl))
     ∙ ap (λ n. from_lanes w (λ i. lane w c.args.v i * 2 ^ n % 2 ^ bits w)) amount

@@ -15,12 +15,12 @@ returns g c =
     let amount : s ≡ c.args.amount % bits w = c.from-amount.ensures ∙ ap (λ n. c.args.amount % n) (c.BITS.ensures ∙ g.met.T.WordLane.wide) in
     let less : s < bits w = subst (λ k. k < bits w) (sym amount) (mod-lt c.args.amount (some_bits w)) in
     let keep : bits w - s + s ≡ bits w = omega arith in
-    let kept = c.low_bits-kept.ensures in
+    let kept = c.low_bits-kept.result in
     let low : ℕ = c.args.v % 2 ^ 64 in
     let high : ℕ = c.args.v / 2 ^ 64 in
     words_make_unary w g.met.T.WordLane.whole (λ x. x / 2 ^ s) c.args.v low high _ _ _ (words_of refl refl)
-    (omega (arith, and_le_r (low / 2 ^ s) kept.0, kept.2)) (omega (arith, and_le_r (high / 2 ^ s) kept.0, kept.2))
-    (λ i inside. lane_shr (bits w) s (bits w - s) (bits w * i) low kept.0 keep (kept.3 i inside))
-    (λ i inside. lane_shr (bits w) s (bits w - s) (bits w * i) high kept.0 keep (kept.3 i inside))
-    (c.from_words.ensures _ _ (rw (c.words_of.ensures, kept.1) refl))
+    (omega (arith, and_le_r (low / 2 ^ s) kept, c.low_bits-kept.type_inv)) (omega (arith, and_le_r (high / 2 ^ s) kept, c.low_bits-kept.type_inv))
+    (λ i inside. lane_shr (bits w) s (bits w - s) (bits w * i) low kept keep (c.low_bits-kept.ensures i inside))
+    (λ i inside. lane_shr (bits w) s (bits w - s) (bits w * i) high kept keep (c.low_bits-kept.ensures i inside))
+    (c.from_words.ensures _ _ (rw c.words_of.ensures refl))
     ∙ ap (λ n. from_lanes w (λ i. lane w c.args.v i / 2 ^ n)) amount
