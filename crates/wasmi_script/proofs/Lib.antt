@@ -1,5 +1,6 @@
 pub mod Scripts
 pub mod LinesLemmas
+pub mod PoolLemmas
 pub mod AnswersLemmas
 pub mod AcceptanceLemmas
 pub mod NumbersLemmas

@@ -1,5 +1,5 @@
 -- What the words of a header line mean, and what the header lines ask for.
-use Rattle.std.specs.Prelude.{◌≡◌, ℕ, List, Some, None, length, codes, drop, replicate}
+use Rattle.std.specs.Prelude.{◌≡◌, ◌≤◌, ◌<◌, ℕ, Option, List, Some, None, length, codes, drop, replicate}
 use Rattle.std.specs.Option.{option_map, option_map_or}
 use Rattle.wasmi_meter.specs.Costs.{default_costs}
 use Rattle.wasmi_meter.specs.Meter.{Meter}
@@ -8,7 +8,7 @@ use Rattle.wasmi_script.specs.declared.script.header.Header.{Header}
 use Rattle.wasmi_script.specs.declared.script.header.MeterLine.{MeterLine}
 use Rattle.wasmi_script.specs.declared.script.header.MeterLine.TheVariants.{Off, On}
 use Rattle.wasmi_script.specs.declared.script.header.LimiterLine.{LimiterLine}
-use Rattle.wasmi_script.specs.declared.script.header.LimiterLine.TheVariants.{Quota, Answers}
+use Rattle.wasmi_script.specs.declared.script.header.LimiterLine.TheVariants.{Quota, Answers, Tenants}
 use Rattle.wasmi_script.specs.declared.script.header.RegionLine.{RegionLine}
 use Rattle.wasmi_script.specs.Words.{Words, word_at}
 use Rattle.wasmi_script.specs.Numbers.{WritesNumber}
@@ -24,11 +24,14 @@ NamesMeter words (On bytes_per_fuel) = (length words ≡ 3) × (word_at words 0 
 abbrev pub limiter_word : LimiterLine → List ℕ
 limiter_word (Quota line) = codes "quota"
 limiter_word (Answers answers) = codes "answers"
+limiter_word (Tenants line) = codes "tenants"
 
 -- the words after the first write what the line says
 abbrev pub WritesLimiter : Words → LimiterLine → Type 0
 WritesLimiter words (Quota line) = (length words ≡ 2) × WritesNumber 64 (word_at words 0) line.bytes × WritesNumber 64 (word_at words 1) line.elements
 WritesLimiter words (Answers answers) = WritesAnswers words answers.items
+WritesLimiter words (Tenants line) = (length words ≡ 3) × WritesNumber 64 (word_at words 0) line.count × (1 ≤ line.count) × (line.count ≤ 1024)
+    × WritesNumber 64 (word_at words 1) line.bytes × WritesNumber 64 (word_at words 2) line.elements
 
 -- the word that a limiter line begins with, and the words after it, name this line
 abbrev pub NamesLimiterAfter : List ℕ → Words → LimiterLine → Type 0
@@ -42,6 +45,20 @@ NamesLimiter words line = NamesLimiterAfter (word_at words 0) (drop 1 words) lin
 abbrev pub NamesRegion : Words → RegionLine → Type 0
 NamesRegion words line = (length words ≡ 3) × (word_at words 0 ≡ codes "region")
     × WritesNumber 64 (word_at words 1) line.len × WritesNumber 8 (word_at words 2) line.byte
+
+-- how many tenants a limiter line asks for
+abbrev pub tenants_of : Option LimiterLine → ℕ
+tenants_of (Some (Tenants line)) = line.count
+tenants_of limiter = 0
+
+-- the words of a line name one of so many tenants
+abbrev pub NamesTenant : Words → ℕ → ℕ → Type 0
+NamesTenant words tenants tenant = (length words ≡ 2) × (word_at words 0 ≡ codes "as") × WritesNumber 64 (word_at words 1) tenant × (tenant < tenants)
+
+-- a pool has no region
+abbrev pub AreApart : Option LimiterLine → Option RegionLine → Type 0
+AreApart (Some (Tenants line)) (Some region) = ⊥
+AreApart limiter region = Unit {0}
 
 -- a meter that is off
 abbrev pub meter_off : Meter

@@ -10,6 +10,7 @@ pub mod TableWords
 pub mod Commands
 pub mod Answers
 pub mod Headers
+pub mod Openings
 pub mod Lines
 pub mod Printing
 pub mod Replays

@@ -5,49 +5,71 @@ use Rattle.wasmi_core.specs.declared.calls.Call.{Call}
 use Rattle.wasmi_script.specs.declared.script.Script.{Script}
 use Rattle.wasmi_script.specs.Words.{Words}
 use Rattle.wasmi_script.specs.Commands.{Names}
-use Rattle.wasmi_script.specs.Headers.{NamesMeter, NamesLimiter, NamesRegion}
+use Rattle.wasmi_script.specs.Headers.{NamesMeter, NamesLimiter, NamesRegion, NamesTenant, AreApart, tenants_of}
 
 -- the words of a line: what stands between its spaces
 unfoldable pub words_in : List ℕ → List (List ℕ)
 words_in line = filter (λ word. nat_lt 0 (length word)) (slice_split (λ byte. byte == 32) line)
 
+-- no command was taken yet
+pub record HasNoCommands (script : Script) : Type 0 where
+  pub no_calls : script.calls.items ≡ []
+  pub no_parts : script.earlier.items ≡ []
+
+-- the commands are the same: the calls and the parts before them
+pub record SameCommands (old new : Script) : Type 0 where
+  pub earlier : new.earlier.items ≡ old.earlier.items
+  pub tenant : new.tenant ≡ old.tenant
+  pub calls : new.calls.items ≡ old.calls.items
+
 -- a `meter` line, the first one and before all commands
 pub record AddsMeter (old : Script) (words : Words) (new : Script) : Type 0 where
-  pub before_commands : old.calls.items ≡ []
+  pub before_commands : HasNoCommands old
   pub first : old.header.meter ≡ None
   pub meter : IsSomeAnd new.header.meter (NamesMeter words)
   pub limiter : new.header.limiter ≡ old.header.limiter
   pub region : new.header.region ≡ old.header.region
-  pub calls : new.calls.items ≡ old.calls.items
+  pub commands : SameCommands old new
 
 -- a limiter line, the first one of any kind and before all commands
 pub record AddsLimiter (old : Script) (words : Words) (new : Script) : Type 0 where
-  pub before_commands : old.calls.items ≡ []
+  pub before_commands : HasNoCommands old
   pub first : old.header.limiter ≡ None
   pub limiter : IsSomeAnd new.header.limiter (NamesLimiter words)
+  pub apart : AreApart new.header.limiter old.header.region
   pub meter : new.header.meter ≡ old.header.meter
   pub region : new.header.region ≡ old.header.region
-  pub calls : new.calls.items ≡ old.calls.items
+  pub commands : SameCommands old new
 
 -- a `region` line, the first one and before all commands
 pub record AddsRegion (old : Script) (words : Words) (new : Script) : Type 0 where
-  pub before_commands : old.calls.items ≡ []
+  pub before_commands : HasNoCommands old
   pub first : old.header.region ≡ None
   pub region : IsSomeAnd new.header.region (NamesRegion words)
+  pub apart : AreApart old.header.limiter new.header.region
   pub meter : new.header.meter ≡ old.header.meter
   pub limiter : new.header.limiter ≡ old.header.limiter
-  pub calls : new.calls.items ≡ old.calls.items
+  pub commands : SameCommands old new
 
 -- a command, whose call comes after those of the lines before
 pub record AddsCall (old : Script) (words : Words) (new : Script) : Type 0 where
   pub call : Call
   pub named : Names words call
   pub calls : new.calls.items ≡ old.calls.items ++ call ∷ []
+  pub earlier : new.earlier.items ≡ old.earlier.items
+  pub tenant : new.tenant ≡ old.tenant
+  pub header : new.header ≡ old.header
+
+-- an `as` line: the calls before it are a part, and those after it are another tenant's, of whom there is one
+pub record AddsPart (old : Script) (words : Words) (new : Script) : Type 0 where
+  pub tenant : NamesTenant words (tenants_of old.header.limiter) new.tenant
+  pub earlier : new.earlier.items ≡ old.earlier.items ++ record { tenant = old.tenant; calls = old.calls } ∷ []
+  pub calls : new.calls.items ≡ []
   pub header : new.header ≡ old.header
 
 -- a line without words adds nothing
 abbrev pub AddsLine : Script → Words → Script → Type 0
-AddsLine old words new = ((words ≡ []) × (new ≡ old)) ⊎ AddsMeter old words new ⊎ AddsLimiter old words new ⊎ AddsRegion old words new ⊎ AddsCall old words new
+AddsLine old words new = ((words ≡ []) × (new ≡ old)) ⊎ AddsMeter old words new ⊎ AddsLimiter old words new ⊎ AddsRegion old words new ⊎ AddsCall old words new ⊎ AddsPart old words new
 
 -- a line of a script, by its words
 abbrev pub TakesLine : Script → List ℕ → Script → Type 0
@@ -66,5 +88,6 @@ lines_in text = slice_split (λ byte. byte == 10) text
 pub record WritesScript (text : List ℕ) (script : Script) : Type 0 where
   pub empty : Script
   pub no_header : empty.header ≡ record { meter = None; limiter = None; region = None }
-  pub no_calls : empty.calls.items ≡ []
+  pub no_commands : HasNoCommands empty
+  pub first_tenant : empty.tenant ≡ 0
   pub lines : TakesLines (lines_in text) empty script

@@ -1,5 +1,5 @@
 -- What a replay answers.
-use Rattle.std.specs.Prelude.{◌≡◌, List, Option, None, Some}
+use Rattle.std.specs.Prelude.{◌≡◌, ◌++◌, ℕ, List, [], ◌∷◌, Option, None, Some, replicate}
 use Rattle.wasmi_meter.specs.Limiter.{optional_rules, unlimited_rules}
 use Rattle.wasmi_meter.specs.declared.limiter.NoLimits.{NoLimits}
 use Rattle.wasmi_meter.specs.declared.quota.Quota.{Quota}
@@ -7,19 +7,25 @@ use Rattle.wasmi_meter.specs.declared.limiter.Kind.TheVariants.{Bytes, Elements}
 use Rattle.wasmi_meter.specs.Holdings.{Holdings}
 use Rattle.wasmi_meter.specs.Quota.{quota_rules, cap_of, holdings}
 use Rattle.wasmi_core.specs.declared.calls.Call.{Call}
-use Rattle.wasmi_core.specs.State.{State}
+use Rattle.wasmi_core.specs.State.{State, new_state}
 use Rattle.wasmi_core.specs.World.{World}
 use Rattle.wasmi_core.specs.Runs.{IsRunOf}
 use Rattle.wasmi_core.specs.Totals.{HoldsTotals}
+use Rattle.wasmi_core.specs.declared.calls.Reply.{Reply}
+use Rattle.wasmi_budget.specs.Pool.{PoolValue, RunsTenant}
 use Rattle.wasmi_script.specs.declared.script.Script.{Script}
 use Rattle.wasmi_script.specs.declared.script.header.LimiterLine.{LimiterLine}
 use Rattle.wasmi_script.specs.declared.script.header.LimiterLine.TheVariants as Lines
 use Rattle.wasmi_script.specs.declared.script.header.QuotaLine.{QuotaLine}
-use Rattle.wasmi_script.specs.declared.replaying.Held.{Held}
+use Rattle.wasmi_script.specs.declared.script.header.TenantsLine.{TenantsLine}
+use Rattle.wasmi_script.specs.declared.script.Part.{Part}
+use Rattle.wasmi_script.specs.declared.replaying.Amounts.{Amounts}
+use Rattle.wasmi_script.specs.declared.replaying.Held.TheVariants.{Nothing}
+use Rattle.wasmi_script.specs.declared.replaying.Held.TheVariants as held
 use Rattle.wasmi_script.specs.declared.replaying.Ran.{Ran}
 use Rattle.wasmi_script.specs.declared.answering.AnswerList.{AnswerList}
 use Rattle.wasmi_script.specs.Answers.{IsNewList, answer_rules}
-use Rattle.wasmi_script.specs.Headers.{start_of}
+use Rattle.wasmi_script.specs.Headers.{meter_of, start_of}
 
 -- what a limiter holds that has permitted nothing yet
 abbrev pub nothing_held : Holdings
@@ -32,20 +38,51 @@ pub record IsNewQuota (line : QuotaLine) (quota : Quota) : Type 0 where
   pub nothing : holdings quota ≡ nothing_held
 
 -- what a quota holds, as the program prints it
-abbrev pub printed_holdings : Quota → Held
+abbrev pub printed_holdings : Quota → Amounts
 printed_holdings quota = record { bytes = (holdings quota).bytes; elements = (holdings quota).elements }
 
 -- The replies are those of a run of the calls from a machine, without a limiter or under the one that a line asks for.
 -- What is held is what a quota then holds, which is all that the machine has.
 abbrev pub IsReplayUnder : Option LimiterLine → State → List Call → Ran → Type 0
-IsReplayUnder None start calls ran = (ran.held ≡ None) × (after : World (Option NoLimits))
+IsReplayUnder None start calls ran = (ran.held ≡ Nothing) × (after : World (Option NoLimits))
     × IsRunOf (optional_rules unlimited_rules) calls (record { state = start; limiter = None }) ran.replies.items after
 IsReplayUnder (Some (Lines.Quota line)) start calls ran = (quota : Quota) × IsNewQuota line quota × (end : State) × (after : Quota)
     × IsRunOf (optional_rules quota_rules) calls (record { state = start; limiter = Some quota }) ran.replies.items (record { state = end; limiter = Some after })
-    × HoldsTotals (holdings after) end × (ran.held ≡ Some (printed_holdings after))
-IsReplayUnder (Some (Lines.Answers words)) start calls ran = (ran.held ≡ None) × (list : AnswerList) × IsNewList words.items list × (after : World (Option AnswerList))
+    × HoldsTotals (holdings after) end × (ran.held ≡ held.Quota (printed_holdings after))
+IsReplayUnder (Some (Lines.Answers words)) start calls ran = (ran.held ≡ Nothing) × (list : AnswerList) × IsNewList words.items list × (after : World (Option AnswerList))
     × IsRunOf (optional_rules answer_rules) calls (record { state = start; limiter = Some list }) ran.replies.items after
+IsReplayUnder (Some (Lines.Tenants line)) start calls ran = ⊥
 
--- the replies are those of a run of the script's calls on a new machine with its meter and its region
+-- a pool of new machines, as many as a line says, under its caps
+abbrev pub new_pool : TenantsLine → State → PoolValue
+new_pool line start = record { caps = record { bytes = line.bytes; elements = line.elements }; machines = replicate line.count start }
+
+-- a tenant has run these calls, and its replies come after those that there were
+abbrev pub AnswersPart : PoolValue → ℕ → List Call → List Reply → List Reply → PoolValue → Type 0
+AnswersPart pool tenant calls replies replies' pool' = (answered : List Reply) × (replies' ≡ replies ++ answered) × RunsTenant pool tenant calls answered pool'
+
+-- the parts are run one after another, each in one run of its tenant
+abbrev pub AnswersParts : PoolValue → List Part → List Reply → List Reply → PoolValue → Type 0
+AnswersParts pool [] replies replies' pool' = (replies' ≡ replies) × (pool' ≡ pool)
+AnswersParts pool (part ∷ parts) replies replies' pool' = (between : List Reply) × (middle : PoolValue)
+    × AnswersPart pool part.tenant part.calls.items replies between middle × AnswersParts middle parts between replies' pool'
+
+-- The replies are those of the parts, the last one after the earlier ones, on a pool of new machines with the script's meter.
+-- What is held is what the pool's machines have then.
+abbrev pub IsPoolReplay : TenantsLine → Script → Ran → Type 0
+IsPoolReplay line script ran = (pool : PoolValue) × (ran.held ≡ held.Tenants pool)
+    × AnswersParts (new_pool line (new_state (meter_of script.header))) (script.earlier.items ++ record { tenant = script.tenant; calls = script.calls } ∷ []) [] ran.replies.items pool
+
+-- all calls are one machine's: there is no pool
+abbrev pub HasOneMachine : Option LimiterLine → Type 0
+HasOneMachine (Some (Lines.Tenants line)) = ⊥
+HasOneMachine limiter = Unit {0}
+
+-- the replies are those of the parts on a pool, or those of a run on a new machine with the script's meter and its region
+abbrev pub IsReplayBy : Option LimiterLine → Script → Ran → Type 0
+IsReplayBy (Some (Lines.Tenants line)) script ran = IsPoolReplay line script ran
+IsReplayBy limiter script ran = IsReplayUnder limiter (start_of script.header) script.calls.items ran
+
+-- the replies are those of a run as the script's header lines ask for it
 abbrev pub IsReplayOf : Script → Ran → Type 0
-IsReplayOf script ran = IsReplayUnder script.header.limiter (start_of script.header) script.calls.items ran
+IsReplayOf script ran = IsReplayBy script.header.limiter script ran

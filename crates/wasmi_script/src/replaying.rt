@@ -1,18 +1,23 @@
 //! A script from its reader to the printed lines.
 ghost use Rattle.std.specs.Prelude.{◌≡◌, ◌≤◌, None, Some, length, IfOk, IfSome, OnOk};
+ghost use Rattle.wasmi_script.specs.Headers.{meter_of};
 ghost use Rattle.wasmi_script.specs.Lines.{WritesScript};
+ghost use Rattle.wasmi_core.specs.State.{new_state};
 ghost use Rattle.wasmi_core.specs.Totals.{HoldsTotals};
-ghost use Rattle.wasmi_script.specs.Replays.{IsReplayOf, IsReplayUnder, nothing_held};
+ghost use Rattle.wasmi_script.specs.Replays.{IsReplayOf, IsReplayUnder, IsPoolReplay, AnswersPart, HasOneMachine, new_pool, nothing_held};
 ghost use Rattle.wasmi_script.specs.Status.{status_number, status_after};
 
 use crate::answering::AnswerList;
 use crate::error::ReplayError;
 use crate::print::{Printer, ReplyLine};
 use crate::reading::{LIMIT, read};
-use crate::script::{AnswerWord, LimiterLine, QuotaLine, RegionLine, Script, parse};
+use crate::script::{
+    AnswerWord, Header, LimiterLine, QuotaLine, RegionLine, Script, TenantsLine, parse,
+};
 use std::alloc::{AllocError, Global};
 use std::fmt::Write;
-use std::{fmt, io};
+use std::{fmt, io, slice};
+use wasmi_budget::Pool;
 use wasmi_core::{
     Call, Machine, NoLimits, Quota, Reply, ResourceLimiterRef, run, run_lending, run_reserving,
 };
@@ -58,13 +63,24 @@ struct Replayed {
 struct Ran {
     /// A reply to each call, in order.
     replies: Vec<Reply>,
-    /// What the quota holds afterwards, if there is one.
-    held: Option<Held>,
+    /// What is held afterwards.
+    held: Held,
+}
+
+/// What is held after a run, as far as it is printed.
+#[derive(Drop)]
+enum Held {
+    /// Without a limiter that counts nothing is.
+    Nothing,
+    /// What a quota holds.
+    Quota(Amounts),
+    /// What the tenants of a pool hold.
+    Tenants(Pool<'static>),
 }
 
 /// What a quota holds.
 #[derive(Clone, Copy)]
-struct Held {
+struct Amounts {
     /// Bytes of memories.
     bytes: u64,
     /// Elements of tables.
@@ -95,10 +111,13 @@ fn answer<R: io::Read>(alloc: Global, reader: &mut R) -> Result<Replayed, Replay
     Ok(Replayed { script, ran })
 }
 
-/// Runs the script's calls on a new machine with its meter and its region.
+/// Runs the script's calls on a new machine with its meter and its region, or its parts on a pool of machines.
 fn run_script(alloc: Global, script: &Script) -> Result<Ran, AllocError>
     ensures { IfOk result (IsReplayOf script.now) }
 {
+    if let Some(LimiterLine::Tenants(line)) = &script.header.limiter {
+        return run_pool(alloc, script, *line);
+    }
     let fuel = script.header.fuel();
     match script.header.region {
         None => run_on(&mut Machine::new(alloc, fuel), script),
@@ -112,13 +131,15 @@ fn run_script(alloc: Global, script: &Script) -> Result<Ran, AllocError>
 
 /// Runs the script's calls on this machine, under its limiter line or without a limiter.
 fn run_on(machine: &mut Machine, script: &Script) -> Result<Ran, AllocError>
-    requires { HoldsTotals nothing_held machine.old }
+    requires held { HoldsTotals nothing_held machine.old }
+    requires alone { HasOneMachine script.now.header.limiter }
     ensures { IfOk result (IsReplayUnder script.now.header.limiter machine.old script.now.calls.items) }
 {
     match &script.header.limiter {
         None => run_freely(machine, &script.calls),
         Some(LimiterLine::Quota(line)) => run_under_quota(machine, &script.calls, *line),
         Some(LimiterLine::Answers(words)) => run_answered(machine, &script.calls, words),
+        Some(LimiterLine::Tenants(_)) => unreachable!(),
     }
 }
 
@@ -130,7 +151,7 @@ fn run_freely(machine: &mut Machine, calls: &[Call]) -> Result<Ran, AllocError>
     let replies = run(machine, calls, &mut limiter)?;
     Ok(Ran {
         replies,
-        held: None,
+        held: Held::Nothing,
     })
 }
 
@@ -145,13 +166,13 @@ fn run_under_quota(
 {
     let mut quota = Quota::new(line.bytes, line.elements);
     let replies = run_reserving(machine, calls, &mut quota)?;
-    let held = Held {
+    let held = Amounts {
         bytes: quota.held_bytes(),
         elements: quota.held_elements(),
     };
     Ok(Ran {
         replies,
-        held: Some(held),
+        held: Held::Quota(held),
     })
 }
 
@@ -167,8 +188,52 @@ fn run_answered(
     let replies = run_lending(machine, calls, &mut limiter)?;
     Ok(Ran {
         replies,
-        held: None,
+        held: Held::Nothing,
     })
+}
+
+/// Runs the script's parts, each by its tenant, on a pool of new machines with the script's meter.
+fn run_pool(alloc: Global, script: &Script, line: TenantsLine) -> Result<Ran, AllocError>
+    ensures { IfOk result (IsPoolReplay line script.now) }
+{
+    let mut pool = pool_of(alloc, &script.header, line)?;
+    let mut replies = Vec::new(alloc);
+    for part in &script.earlier {
+        run_part(&mut pool, part.tenant, &part.calls, &mut replies)?;
+    }
+    run_part(&mut pool, script.tenant, &script.calls, &mut replies)?;
+    Ok(Ran {
+        replies,
+        held: Held::Tenants(pool),
+    })
+}
+
+/// A pool of new machines with the meter of the header, under the caps of the line.
+fn pool_of(alloc: Global, header: &Header, line: TenantsLine) -> Result<Pool<'static>, AllocError>
+    ensures { IfOk result (λ pool. pool ≡ new_pool line (new_state (meter_of header.now))) }
+{
+    let mut pool = Pool::new(alloc, line.bytes, line.elements);
+    for _index in 0..line.count {
+        if pool.add(Machine::new(alloc, header.fuel())).is_err() {
+            return Err(AllocError);
+        }
+    }
+    Ok(pool)
+}
+
+/// Runs the calls of one part, and puts the replies after those that there are.
+fn run_part(
+    pool: &mut Pool,
+    tenant: usize,
+    calls: &[Call],
+    replies: &mut Vec<Reply>,
+) -> Result<(), AllocError>
+    ensures { OnOk result (AnswersPart pool.old tenant calls.now replies.old.items replies.new.items pool.new) }
+{
+    match pool.run(tenant, calls) {
+        Ok(mut answered) => replies.append(&mut answered),
+        Err(_) => Err(AllocError),
+    }
 }
 
 fn print<W: io::Write>(
@@ -177,17 +242,52 @@ fn print<W: io::Write>(
 ) -> fmt::Result {
     match outcome {
         Ok(Replayed { script, ran }) => {
-            for (call, reply) in script.calls.iter().zip(ran.replies.iter()) {
-                let line = ReplyLine { call, reply };
-                writeln!(printer, "{line}")?;
+            let mut replies = ran.replies.iter();
+            for part in &script.earlier {
+                print_part(printer, &part.calls, &mut replies)?;
             }
-            if let Some(Held { bytes, elements }) = ran.held {
-                writeln!(printer, "held {bytes} {elements}")?;
-            }
+            print_part(printer, &script.calls, &mut replies)?;
+            print_held(printer, script.header.tenants(), &ran.held)?;
         }
         Err(error) => writeln!(printer, "{error}")?,
     }
     printer.flush()
+}
+
+/// A line for each call of a part, with the next reply.
+fn print_part<W: io::Write>(
+    printer: &mut Printer<'_, W>,
+    calls: &[Call],
+    replies: &mut slice::Iter<'_, Reply>,
+) -> fmt::Result {
+    for call in calls {
+        let Some(reply) = replies.next() else {
+            return Ok(());
+        };
+        let line = ReplyLine { call, reply };
+        writeln!(printer, "{line}")?;
+    }
+    Ok(())
+}
+
+/// What a quota holds, or what each of so many tenants holds.
+fn print_held<W: io::Write>(
+    printer: &mut Printer<'_, W>,
+    tenants: usize,
+    held: &Held,
+) -> fmt::Result {
+    match held {
+        Held::Nothing => Ok(()),
+        Held::Quota(Amounts { bytes, elements }) => writeln!(printer, "held {bytes} {elements}"),
+        Held::Tenants(pool) => {
+            for index in 0..tenants {
+                let bytes = pool.held_bytes(index).unwrap_or(0);
+                let elements = pool.held_elements(index).unwrap_or(0);
+                writeln!(printer, "held {index} {bytes} {elements}")?;
+            }
+            Ok(())
+        }
+    }
 }
 
 /// How the replay ends if its lines can be printed.

@@ -1,6 +1,9 @@
 //! The script's lines: header lines, and then commands.
 ghost use Rattle.std.specs.Prelude.{◌≡◌, [], ℕ, ◌+◌, ◌<◌, ◌≤◌, length, vec_len, IfOk, IfErr, OnOk, OnErr, ◌≢◌};
+ghost use Rattle.wasmi_script.specs.Acceptance.{Accepts};
 ghost use Rattle.wasmi_script.specs.Lines.{WritesScript};
+ghost use Rattle.wasmi_script.specs.Openings.{Opens};
+ghost use Rattle.wasmi_script.specs.Headers.{NamesTenant};
 
 mod command;
 mod header;
@@ -11,11 +14,11 @@ mod types;
 
 use crate::error::ReplayError;
 use command::command;
-use header::Header;
-pub use header::{AnswerWord, LimiterLine, QuotaLine, RegionLine};
+pub use header::{AnswerWord, Header, LimiterLine, QuotaLine, RegionLine, TenantsLine};
 use line::{LineError, words_of};
+use number::number;
 use std::alloc::Global;
-use std::str;
+use std::{mem, str};
 use wasmi_core::Call;
 
 /// What a script asks for.
@@ -23,12 +26,25 @@ use wasmi_core::Call;
 pub struct Script {
     /// What its header lines say.
     pub header: Header,
+    /// The parts before the last `as` line.
+    pub earlier: Vec<Part>,
+    /// The tenant of the last part: 0 without an `as` line.
+    pub tenant: usize,
+    /// The calls of the last part, in order: all of them without an `as` line.
+    pub calls: Vec<Call>,
+}
+
+/// The calls between two `as` lines.
+#[derive(Drop)]
+pub struct Part {
+    /// Whose calls they are, from 0.
+    pub tenant: usize,
     /// The call of each command, in order.
     pub calls: Vec<Call>,
 }
 
 impl Script {
-    ghost use Rattle.wasmi_script.specs.Lines.{AddsLine};
+    ghost use Rattle.wasmi_script.specs.Lines.{AddsLine, AddsMeter, AddsLimiter, AddsRegion, AddsCall, AddsPart, HasNoCommands};
 
     /// Takes in one line's words. Header lines stand before all commands, at most one `meter` line, one limiter line and one
     /// `region` line, and a line without words is skipped.
@@ -37,37 +53,128 @@ impl Script {
         ensures refused { IfErr result (λ error. error ≡ LineError.BadCommand → (new : Script)
             → ¬ (AddsLine self.old words.now new)) }
     {
-        match words {
-            [] => Ok(()),
-            ["meter", ..] => {
-                self.expect_no_commands()?;
-                self.header.take_meter(words)
-            }
-            ["quota", ..] | ["answers", ..] => {
-                self.expect_no_commands()?;
-                self.header.take_limiter(alloc, words)
-            }
-            ["region", ..] => {
-                self.expect_no_commands()?;
-                self.header.take_region(words)
-            }
-            _ => {
-                self.calls.push(command(alloc, words)?)?;
-                Ok(())
-            }
+        let [name, ..] = words else {
+            return Ok(());
+        };
+        match opening_of(name) {
+            Opening::Meter => self.take_meter(words),
+            Opening::Limiter => self.take_limiter(alloc, words),
+            Opening::Region => self.take_region(words),
+            Opening::As => self.take_part(alloc, words),
+            Opening::Call => self.take_call(alloc, words),
         }
+    }
+
+    /// Takes in a `meter` line.
+    fn take_meter(&mut self, words: &[&str]) -> Result<(), LineError>
+        ensures ok { OnOk result (AddsMeter self.old words.now self.new) }
+        ensures refused { IfErr result (λ error. error ≡ LineError.BadCommand → (new : Script)
+            → ¬ (AddsMeter self.old words.now new)) }
+    {
+        self.expect_no_commands()?;
+        self.header.take_meter(words)
+    }
+
+    /// Takes in a limiter line.
+    fn take_limiter(&mut self, alloc: Global, words: &[&str]) -> Result<(), LineError>
+        ensures ok { OnOk result (AddsLimiter self.old words.now self.new) }
+        ensures refused { IfErr result (λ error. error ≡ LineError.BadCommand → (new : Script)
+            → ¬ (AddsLimiter self.old words.now new)) }
+    {
+        self.expect_no_commands()?;
+        self.header.take_limiter(alloc, words)
+    }
+
+    /// Takes in a `region` line.
+    fn take_region(&mut self, words: &[&str]) -> Result<(), LineError>
+        ensures ok { OnOk result (AddsRegion self.old words.now self.new) }
+        ensures refused { IfErr result (λ error. error ≡ LineError.BadCommand → (new : Script)
+            → ¬ (AddsRegion self.old words.now new)) }
+    {
+        self.expect_no_commands()?;
+        self.header.take_region(words)
+    }
+
+    /// Takes in a command.
+    fn take_call(&mut self, alloc: Global, words: &[&str]) -> Result<(), LineError>
+        ensures ok { OnOk result (AddsCall self.old words.now self.new) }
+        ensures refused { IfErr result (λ error. error ≡ LineError.BadCommand → (new : Script)
+            → ¬ (AddsCall self.old words.now new)) }
+    {
+        self.calls.push(command(alloc, words)?)?;
+        Ok(())
     }
 
     /// Header lines stand before all commands.
     fn expect_no_commands(&self) -> Result<(), LineError>
-        ensures ok { OnOk result (self.now.calls.items ≡ []) }
-        ensures err { OnErr result (self.now.calls.items ≢ []) }
+        ensures ok { OnOk result (HasNoCommands self.now) }
+        ensures err { OnErr result (¬ HasNoCommands self.now) }
     {
-        if self.calls.is_empty() {
+        if self.calls.is_empty() && self.earlier.is_empty() {
             Ok(())
         } else {
             Err(LineError::BadCommand)
         }
+    }
+
+    /// Takes in an `as` line: what follows are the calls of another tenant.
+    fn take_part(&mut self, alloc: Global, words: &[&str]) -> Result<(), LineError>
+        ensures ok { OnOk result (AddsPart self.old words.now self.new) }
+        ensures refused { IfErr result (λ error. error ≡ LineError.BadCommand → (new : Script)
+            → ¬ (AddsPart self.old words.now new)) }
+    {
+        let tenant = tenant_named(words, self.header.tenants())?;
+        let calls = mem::replace(&mut self.calls, Vec::new(alloc));
+        let part = Part {
+            tenant: self.tenant,
+            calls,
+        };
+        self.earlier.push(part)?;
+        self.tenant = tenant;
+        Ok(())
+    }
+}
+
+/// What a line is by its first word.
+#[derive(Clone, Copy)]
+enum Opening {
+    /// A `meter` line.
+    Meter,
+    /// A limiter line.
+    Limiter,
+    /// A `region` line.
+    Region,
+    /// An `as` line.
+    As,
+    /// A command that is a call, if it is anything.
+    Call,
+}
+
+/// What a line with this first word is.
+fn opening_of(name: &str) -> Opening
+    ensures { Opens name.now result }
+{
+    match name {
+        "meter" => Opening::Meter,
+        "quota" | "answers" | "tenants" => Opening::Limiter,
+        "region" => Opening::Region,
+        "as" => Opening::As,
+        _ => Opening::Call,
+    }
+}
+
+/// The tenant that the words of an `as` line name, if it is one of so many.
+fn tenant_named(words: &[&str], tenants: usize) -> Result<usize, LineError>
+    ensures { Accepts result (NamesTenant words.now tenants) }
+{
+    let ["as", tenant] = words else {
+        return Err(LineError::BadCommand);
+    };
+    let tenant = number(tenant)?;
+    if tenant < tenants {
+        Ok(tenant)
+    } else {
+        Err(LineError::BadCommand)
     }
 }
 
@@ -79,6 +186,8 @@ pub fn parse(alloc: Global, bytes: &[u8]) -> Result<Script, ReplayError>
 {
     let mut script = Script {
         header: Header::default(),
+        earlier: Vec::new(alloc),
+        tenant: 0,
         calls: Vec::new(alloc),
     };
     for (index, bytes) in bytes.split(|byte| *byte == b'\n').enumerate() {

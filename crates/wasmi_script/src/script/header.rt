@@ -1,7 +1,7 @@
 //! The header lines of a script.
-ghost use Rattle.std.specs.Prelude.{◌≡◌, codes, None, IsSomeAnd, IfErr, OnOk, OnErr};
+ghost use Rattle.std.specs.Prelude.{◌≡◌, codes, None, Some, IsSomeAnd, IfErr, OnOk, OnErr};
 ghost use Rattle.wasmi_script.specs.Acceptance.{Accepts};
-ghost use Rattle.wasmi_script.specs.Headers.{NamesMeter, NamesLimiter, NamesLimiterAfter, NamesRegion, meter_of};
+ghost use Rattle.wasmi_script.specs.Headers.{NamesMeter, NamesLimiter, NamesLimiterAfter, NamesRegion, AreApart, meter_of, tenants_of};
 
 mod answers;
 
@@ -11,6 +11,9 @@ pub use answers::AnswerWord;
 use answers::answers_of;
 use std::alloc::Global;
 use wasmi_core::{CustomFuelCosts, Fuel, FuelCostsProvider};
+
+/// The most tenants that a script may have.
+const MOST_TENANTS: usize = 1024;
 
 /// What a `meter` line says.
 #[derive(Clone, Copy)]
@@ -28,12 +31,26 @@ pub enum LimiterLine {
     Quota(QuotaLine),
     /// `answers W ...`, which may have no word: one for each question, in order.
     Answers(Vec<AnswerWord>),
+    /// `tenants N B E`.
+    Tenants(TenantsLine),
 }
 
 /// What a `quota` line says: the most bytes and the most elements that the limiter permits, of all memories and of all
 /// tables together.
 #[derive(Clone, Copy)]
 pub struct QuotaLine {
+    /// The most bytes of memories.
+    pub bytes: u64,
+    /// The most elements of tables.
+    pub elements: u64,
+}
+
+/// What a `tenants` line says: a pool of so many machines, and the most bytes and the most elements that all of them have
+/// together.
+#[derive(Clone, Copy)]
+pub struct TenantsLine {
+    /// How many machines there are, from 1 to 1,024.
+    pub count: usize,
     /// The most bytes of memories.
     pub bytes: u64,
     /// The most elements of tables.
@@ -77,36 +94,52 @@ impl Header {
         Ok(())
     }
 
-    /// Takes in a limiter line, of which a script has at most one.
+    /// Takes in a limiter line, of which a script has at most one. A pool has no region.
     pub fn take_limiter(&mut self, alloc: Global, words: &[&str]) -> Result<(), LineError>
         ensures first { OnOk result (self.old.limiter ≡ None) }
+        ensures apart { OnOk result (AreApart self.new.limiter self.old.region) }
         ensures limiter { OnOk result (IsSomeAnd self.new.limiter (NamesLimiter words.now)) }
         ensures others { (self.new.meter ≡ self.old.meter) × (self.new.region ≡ self.old.region) }
         ensures err { OnErr result (self.new ≡ self.old) }
         ensures refused { IfErr result (λ error. error ≡ LineError.BadCommand → self.old.limiter ≡ None
-            → (line : LimiterLine) → ¬ (NamesLimiter words.now line)) }
+            → (line : LimiterLine) → ¬ (NamesLimiter words.now line × AreApart (Some line) self.old.region)) }
     {
         if self.limiter.is_some() {
             return Err(LineError::BadCommand);
         }
-        self.limiter = Some(limiter_line(alloc, words)?);
+        let line = limiter_line(alloc, words)?;
+        if self.region.is_some() && matches!(line, LimiterLine::Tenants(_)) {
+            return Err(LineError::BadCommand);
+        }
+        self.limiter = Some(line);
         Ok(())
     }
 
-    /// Takes in a `region` line, of which a script has at most one.
+    /// Takes in a `region` line, of which a script has at most one, and none where it has a pool.
     pub fn take_region(&mut self, words: &[&str]) -> Result<(), LineError>
         ensures first { OnOk result (self.old.region ≡ None) }
+        ensures apart { OnOk result (AreApart self.old.limiter self.new.region) }
         ensures region { OnOk result (IsSomeAnd self.new.region (NamesRegion words.now)) }
         ensures others { (self.new.meter ≡ self.old.meter) × (self.new.limiter ≡ self.old.limiter) }
         ensures err { OnErr result (self.new ≡ self.old) }
         ensures refused { IfErr result (λ error. error ≡ LineError.BadCommand → self.old.region ≡ None
-            → (line : RegionLine) → ¬ (NamesRegion words.now line)) }
+            → (line : RegionLine) → ¬ (NamesRegion words.now line × AreApart self.old.limiter (Some line))) }
     {
-        if self.region.is_some() {
+        if self.region.is_some() || matches!(self.limiter, Some(LimiterLine::Tenants(_))) {
             return Err(LineError::BadCommand);
         }
         self.region = Some(region_line(words)?);
         Ok(())
+    }
+
+    /// How many tenants the script has: none without a `tenants` line.
+    pub fn tenants(&self) -> usize
+        ensures { result ≡ tenants_of self.now.limiter }
+    {
+        match &self.limiter {
+            Some(LimiterLine::Tenants(line)) => line.count,
+            _ => 0,
+        }
     }
 
     /// The meter that the script asks for. Without a `meter` line it is off.
@@ -158,6 +191,7 @@ fn limiter_line(alloc: Global, words: &[&str]) -> Result<LimiterLine, LineError>
     match words {
         ["quota", operands @ ..] => quota(operands),
         ["answers", operands @ ..] => listed(alloc, operands),
+        ["tenants", operands @ ..] => tenants(operands),
         _ => Err(LineError::BadCommand),
     }
 }
@@ -170,6 +204,24 @@ fn quota(operands: &[&str]) -> Result<LimiterLine, LineError>
         return Err(LineError::BadCommand);
     };
     Ok(LimiterLine::Quota(QuotaLine {
+        bytes: number(bytes)?,
+        elements: number(elements)?,
+    }))
+}
+
+/// `tenants N B E`.
+fn tenants(operands: &[&str]) -> Result<LimiterLine, LineError>
+    ensures { Accepts result (NamesLimiterAfter (codes "tenants") operands.now) }
+{
+    let [count, bytes, elements] = operands else {
+        return Err(LineError::BadCommand);
+    };
+    let count = number(count)?;
+    if !(1..=MOST_TENANTS).contains(&count) {
+        return Err(LineError::BadCommand);
+    }
+    Ok(LimiterLine::Tenants(TenantsLine {
+        count,
         bytes: number(bytes)?,
         elements: number(elements)?,
     }))

@@ -13,11 +13,11 @@ abbrev line_of : ℕ × Bor (List ℕ) → List ℕ
 line_of item = item.1.now
 
 pub loop-index-init : goal.loop-index-init
-loop-index-init c = (search rules, record { header = c.default.result; calls = c.new.result }, search rules, c.new.ensures.items, refl)
+loop-index-init c = (search rules, record { header = c.default.result; earlier = c.new.result; tenant = 0; calls = c.new-2.result }, search rules, record { no_calls = c.new-2.ensures.items; no_parts = c.new.ensures.items }, refl, refl)
 
 pub loop-index-preserved : goal.loop-index-preserved
 loop-index-preserved c =
-    let (_, empty, no_header, no_calls, taken) = c.loop-index.invariant in
+    let (_, empty, no_header, no_commands, first_tenant, taken) = c.loop-index.invariant in
     let yielded = c.loop-index.yielded in
     let new = c.take_line.new.self in
     let same : map (λ word. word.now) c.as_slice.result.now ≡ words_in c.in-Some.bytes.now =
@@ -26,7 +26,8 @@ loop-index-preserved c =
       grind (arith, common_steps),
       empty,
       no_header,
-      no_calls,
+      no_commands,
+      first_tenant,
       subst (λ lines. TakesLines lines empty new) (sym (map-append line_of yielded ((c.in-Some.index, c.in-Some.bytes) ∷ [])))
           (one_more (map line_of yielded) c.in-Some.bytes.now empty c.loop-index.script new taken line_taken),
     )
@@ -34,7 +35,7 @@ loop-index-preserved c =
 pub returns-clause-script : goal.returns-clause-script
 unfolding lines_in
 returns-clause-script c =
-    let (_, empty, no_header, no_calls, taken) = c.loop-index.invariant in
+    let (_, empty, no_header, no_commands, first_tenant, taken) = c.loop-index.invariant in
     let split = c.split.ensures in
     let all = YieldsList-end
     (YieldsList-at c.into_iter-index-iterator.ensures.into_iter_gives
@@ -48,6 +49,7 @@ returns-clause-script c =
     record {
       empty = empty;
       no_header = no_header;
-      no_calls = no_calls;
+      no_commands = no_commands;
+      first_tenant = first_tenant;
       lines = subst (λ lines. TakesLines lines empty c.loop-index.script) whole taken;
     }

@@ -1,9 +1,9 @@
-use Rattle.std.proofs.Common.{◌≤◌, ◌≡◌, length, vec_len, map, [], None}
+use Rattle.std.proofs.Common.{◌≤◌, ◌≡◌, length, vec_len, map, None}
 use Rattle.wasmi_script.specs.declared.script.Script.{Script}
-use Rattle.wasmi_script.specs.Lines.{TakesLines}
+use Rattle.wasmi_script.specs.Lines.{HasNoCommands, TakesLines}
 use Rattle.wasmi_script.proofs.script.parse.Given as goal
 
 abbrev pub invariant-loop-index : goal.invariant-loop-index
 invariant-loop-index l =
     (vec_len l.script.calls ≤ length l.yielded)
-    × (empty : Script) × (empty.header ≡ record { meter = None; limiter = None; region = None }) × (empty.calls.items ≡ []) × TakesLines (map (λ item. item.1.now) l.yielded) empty l.script
+    × (empty : Script) × (empty.header ≡ record { meter = None; limiter = None; region = None }) × HasNoCommands empty × (empty.tenant ≡ 0) × TakesLines (map (λ item. item.1.now) l.yielded) empty l.script

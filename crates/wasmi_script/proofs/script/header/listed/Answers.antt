@@ -2,7 +2,7 @@ use Rattle.std.proofs.Common.{◌≡◌, Err, codes, rules, tests, sym, subst}
 use Rattle.std.specs.Global.{Vec}
 use Rattle.wasmi_script.specs.declared.script.header.answers.AnswerWord.{AnswerWord}
 use Rattle.wasmi_script.specs.declared.script.header.LimiterLine.{LimiterLine}
-use Rattle.wasmi_script.specs.declared.script.header.LimiterLine.TheVariants.{Quota, Answers}
+use Rattle.wasmi_script.specs.declared.script.header.LimiterLine.TheVariants.{Quota, Answers, Tenants}
 use Rattle.wasmi_script.specs.Acceptance.{Accepts}
 use Rattle.wasmi_script.specs.Answers.{WritesAnswers}
 use Rattle.wasmi_script.specs.Headers.{NamesLimiterAfter}
@@ -14,6 +14,7 @@ use Rattle.wasmi_script.proofs.script.header.listed.Goals as goal
 words_of : (words : Words) (line : LimiterLine) → NamesLimiterAfter (codes "answers") words line → (answers : Vec AnswerWord) × WritesAnswers words answers.items
 words_of words (Answers answers) names = (answers, names.1)
 words_of words (Quota line) names = absurd (search (rules, tests, names))
+words_of words (Tenants line) names = absurd (search (rules, tests, names))
 
 pub returns-in_err-answers_of : goal.returns-in_err-answers_of
 returns-in_err-answers_of c =
