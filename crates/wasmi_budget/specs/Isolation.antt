@@ -2,8 +2,8 @@
 use Rattle.std.specs.Prelude.{◌≡◌, ℕ, nat_eq, if◌then◌else◌, MatchBool, Ok, true, List, [], ◌∷◌}
 use Rattle.wasmi_meter.specs.Limiter.{Rules, optional_rules}
 use Rattle.wasmi_budget.specs.Tenant.{tenant_rules}
-use Rattle.wasmi_budget.specs.Pool.{PoolValue, AddsTenant, RunsTenantBy, RunsTenant}
-use Rattle.wasmi_budget.specs.Runs.{PoolTurn, Added, Ran, Refused}
+use Rattle.wasmi_budget.specs.Pool.{PoolValue, RunsTenantBy, RunsTenant}
+use Rattle.wasmi_budget.specs.Runs.{PoolTurn, Added, Ran, Refused, PoolStep, RunBy}
 
 -- the rules by which each question is permitted
 abbrev pub permitting : {S : Type 0} → Rules S → Rules S
@@ -11,16 +11,14 @@ permitting rules = record { asked = λ l question answer l'. (answer ≡ Ok true
 
 -- a call on a pool, which permits each question where it is a run of the tenant of an index
 abbrev pub PermittingStep : ℕ → PoolValue → PoolTurn → PoolValue → Type 0
-PermittingStep index pool (Added s) pool' = AddsTenant pool s pool'
 PermittingStep index pool (Ran i calls replies) pool' = MatchBool (nat_eq i index)
     (RunsTenantBy (permitting (optional_rules tenant_rules)) pool i calls replies pool')
     (RunsTenant pool i calls replies pool')
-PermittingStep index pool Refused pool' = pool' ≡ pool
+PermittingStep index pool turn pool' = PoolStep pool turn pool'
 
 -- such calls one after another: the tenant of the index is never denied
 abbrev pub PermittingRun : ℕ → PoolValue → List PoolTurn → PoolValue → Type 0
-PermittingRun index pool [] pool' = pool' ≡ pool
-PermittingRun index pool (turn ∷ turns) pool' = (next : PoolValue) × PermittingStep index pool turn next × PermittingRun index next turns pool'
+PermittingRun index = RunBy (PermittingStep index)
 
 -- the runs of the tenant of an index, as those of the only tenant
 abbrev pub own_turns : ℕ → List PoolTurn → List PoolTurn

@@ -17,7 +17,11 @@ PoolStep pool (Added s) pool' = AddsTenant pool s pool'
 PoolStep pool (Ran index calls replies) pool' = RunsTenant pool index calls replies pool'
 PoolStep pool Refused pool' = pool' ≡ pool
 
+-- calls one after another, each a step of this kind
+abbrev pub RunBy : (PoolValue → PoolTurn → PoolValue → Type 0) → PoolValue → List PoolTurn → PoolValue → Type 0
+RunBy Step pool [] pool' = pool' ≡ pool
+RunBy Step pool (turn ∷ turns) pool' = (next : PoolValue) × Step pool turn next × RunBy Step next turns pool'
+
 -- calls one after another lead a pool to another
 abbrev pub PoolRun : PoolValue → List PoolTurn → PoolValue → Type 0
-PoolRun pool [] pool' = pool' ≡ pool
-PoolRun pool (turn ∷ turns) pool' = (next : PoolValue) × PoolStep pool turn next × PoolRun next turns pool'
+PoolRun = RunBy PoolStep

@@ -29,8 +29,9 @@ pub enum PoolError {
     OutOfMemory,
 }
 
-/// Machines that share a cap on the bytes of their memories, and one on the elements of their tables: what all of them
-/// have, with what they dropped, stays within both. Each machine is a tenant; their indices count from 0.
+/// Machines that share a cap on the bytes of their memories, and one on the elements of their
+/// tables: what all of them have, with what they dropped, stays within both. Each machine is a
+/// tenant; their indices count from 0.
 ///
 /// Own: upstream has no pool.
 #[derive(Debug, Drop)]
@@ -62,7 +63,8 @@ impl<'r> Pool<'r> {
         }
     }
 
-    /// Adds a machine that has nothing yet, and answers its index. A machine that is refused is handed back.
+    /// Adds a machine that has nothing yet, and answers its index. A machine that is refused is
+    /// handed back.
     pub fn add(&mut self, machine: Machine<'r>) -> Result<usize, (AddError, Machine<'r>)>
         ensures added { IfOk result (λ index. (index ≡ length self.old.machines) × AddsTenant self.old machine.entry self.new) }
         ensures refused { IfErr result (λ refusal. IsAddRefusal machine.entry refusal.0) }
@@ -79,8 +81,8 @@ impl<'r> Pool<'r> {
         Ok(index)
     }
 
-    /// Answers calls on the machine of a tenant, in turn, under a limiter that permits what keeps all tenants together
-    /// within the caps.
+    /// Answers calls on the machine of a tenant, in turn, under a limiter that permits what keeps
+    /// all tenants together within the caps.
     pub fn run(&mut self, index: usize, calls: &[Call]) -> Result<Vec<Reply>, PoolError>
         ensures ran { IfOk result (λ replies. RunsTenant self.old index calls.now replies.items self.new) }
         ensures no_tenant { IsErrOf result PoolError.NoTenant ↔ (length self.old.machines ≤ index) }

@@ -4,9 +4,9 @@ ghost use Rattle.std.specs.Prelude.{◌≡◌, None};
 use crate::amounts::Amounts;
 use wasmi_meter::{Kind, LimiterError, MemoryError, Reserving, ResourceLimiter, TableError};
 
-/// The limiter of one machine of a pool: it permits what keeps all tenants together within the caps, and says no to the
-/// rest. It counts each difference that it permitted, and takes the last one back at a notice of its kind, once. What
-/// the others hold stays while its machine runs.
+/// The limiter of one machine of a pool: it permits what keeps all tenants together within the
+/// caps, and says no to the rest. It counts each difference that it permitted, and takes the last
+/// one back at a notice of its kind, once. What the others hold stays while its machine runs.
 ///
 /// Own: upstream has no pool.
 #[derive(Clone, Copy, Debug)]

@@ -1,8 +1,7 @@
 -- A run under one limiter is one under another that may answer the same.
-use Rattle.std.proofs.Common.{◌≡◌, ℕ, Option, Some, None, Result, List, [], ◌∷◌, Bool, true, false, ap, subst, inl, inr}
+use Rattle.std.proofs.Common.{ℕ, Option, Some, None, Result, List, [], ◌∷◌, Bool, true, false, ap, inl, inr}
 use Rattle.std.specs.Prelude.{MatchBool}
 use Rattle.wasmi_meter.specs.Limiter.{Question, Answer, Failure, Heed, Rules}
-use Rattle.wasmi_meter.specs.Meter.{Meter}
 use Rattle.wasmi_meter.specs.Attempt.{Situation, alone, Effort, Fate, Unasked, Denied, Met, Failed, Attempt, Follows}
 use Rattle.wasmi_typed.specs.declared.typed_ref.TypedRawRef.{TypedRawRef}
 use Rattle.wasmi_store.specs.Buffer.{Owned, Lent}

@@ -5,6 +5,7 @@ ghost use Rattle.wasmi_core.specs.Totals.{HoldsTotals};
 mod absent;
 mod examples;
 mod loans;
+mod pools;
 mod refusing;
 mod regions;
 mod reserving;
