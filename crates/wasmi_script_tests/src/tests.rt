@@ -8,6 +8,7 @@ mod refusing;
 mod regions;
 mod streams;
 mod tables;
+mod tenants;
 mod values;
 mod vector_names;
 mod vectors;

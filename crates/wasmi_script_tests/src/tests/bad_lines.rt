@@ -37,7 +37,7 @@ const BAD_LINES: [&[u8]; 26] = [
 ];
 
 // More of them: numbers that are none or too large, words too many or too few.
-const MORE_BAD_LINES: [&[u8]; 29] = [
+const MORE_BAD_LINES: [&[u8]; 34] = [
     b"fuel 99999999999999999999",
     b"fuel 184467440737095516150",
     b"fuel 0x10",
@@ -67,6 +67,11 @@ const MORE_BAD_LINES: [&[u8]; 29] = [
     b"region 1 256",
     b"region 18446744073709551616 0",
     b"region 1 2 3",
+    b"tenants 0 1 1",
+    b"tenants 1025 1 1",
+    b"tenants 1 1",
+    b"tenants 1 1 1 1",
+    b"as 0",
 ];
 
 // Lines of tables, element segments and globals.
@@ -295,4 +300,30 @@ fn names_a_line_far_down(rt: HostRuntime) -> Result<(), Fail> {
         is_bad(&rt, rt.alloc(), script.as_bytes(), printed);
     }
     Ok(())
+}
+
+#[test]
+fn names_a_bad_line_of_tenants(rt: HostRuntime) {
+    let rows: [(&str, &str); 14] = [
+        ("tenants 1 0 0\nas 1", "line 2: bad command\n"),
+        ("tenants 2 1 1\nas", "line 2: bad command\n"),
+        ("tenants 2 1 1\nas 0 1", "line 2: bad command\n"),
+        ("tenants 2 1 1\nas -1", "line 2: bad command\n"),
+        ("tenants 2 1 1\nas 1\nas 2", "line 3: bad command\n"),
+        ("tenants 1 1 1\nas 0\nmeter off", "line 3: bad command\n"),
+        ("tenants 1 1 1\ntenants 1 1 1", "line 2: bad command\n"),
+        ("quota 1 1\ntenants 1 1 1", "line 2: bad command\n"),
+        ("tenants 1 1 1\nquota 1 1", "line 2: bad command\n"),
+        ("tenants 1 1 1\nanswers", "line 2: bad command\n"),
+        ("tenants 1 1 1\nregion 1 1", "line 2: bad command\n"),
+        (
+            "region 1 1\nmeter off\ntenants 1 1 1",
+            "line 3: bad command\n",
+        ),
+        ("quota 1 1\nas 0", "line 2: bad command\n"),
+        ("left\ntenants 1 1 1", "line 2: bad command\n"),
+    ];
+    for (script, printed) in rows {
+        is_bad(&rt, rt.alloc(), script.as_bytes(), printed);
+    }
 }
