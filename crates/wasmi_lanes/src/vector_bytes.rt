@@ -24,7 +24,7 @@ pub fn bytes_of(vector: V128) -> u8x16
 /// The words come together by a shuffle. Of a vector made of them LLVM takes the lowest lane of each
 /// word out of the word once more, and inserts it.
 #[inline(always)]
-pub fn bytes_to_take_out(vector: V128) -> u8x16
+pub(crate) fn bytes_to_take_out(vector: V128) -> u8x16
     ensures number { number_l (2 ^ 8) result ≡ vector }
     ensures lanes { (i : ℕ) → i < 16 → slice_index_or result i 0 ≡ lane w8 vector i }
 {
