@@ -24,6 +24,7 @@ use Rattle.wasmi_script.specs.declared.replaying.Held.TheVariants.{Nothing}
 use Rattle.wasmi_script.specs.declared.replaying.Held.TheVariants as held
 use Rattle.wasmi_script.specs.declared.replaying.Ran.{Ran}
 use Rattle.wasmi_script.specs.declared.answering.AnswerList.{AnswerList}
+use Rattle.wasmi_script.specs.declared.script.header.answers.AnswerWord.{AnswerWord}
 use Rattle.wasmi_script.specs.Answers.{IsNewList, answer_rules}
 use Rattle.wasmi_script.specs.Headers.{meter_of, start_of}
 
@@ -41,6 +42,11 @@ pub record IsNewQuota (line : QuotaLine) (quota : Quota) : Type 0 where
 abbrev pub printed_holdings : Quota → Amounts
 printed_holdings quota = record { bytes = (holdings quota).bytes; elements = (holdings quota).elements }
 
+-- the replies are those of a run of the calls from a machine, under a limiter that answers by these words
+abbrev pub IsListedReplay : List AnswerWord → State → List Call → Ran → Type 0
+IsListedReplay words start calls ran = (ran.held ≡ Nothing) × (list : AnswerList) × IsNewList words list × (after : World (Option AnswerList))
+    × IsRunOf (optional_rules answer_rules) calls (record { state = start; limiter = Some list }) ran.replies.items after
+
 -- The replies are those of a run of the calls from a machine, without a limiter or under the one that a line asks for.
 -- What is held is what a quota then holds, which is all that the machine has.
 abbrev pub IsReplayUnder : Option LimiterLine → State → List Call → Ran → Type 0
@@ -49,8 +55,7 @@ IsReplayUnder None start calls ran = (ran.held ≡ Nothing) × (after : World (O
 IsReplayUnder (Some (Lines.Quota line)) start calls ran = (quota : Quota) × IsNewQuota line quota × (end : State) × (after : Quota)
     × IsRunOf (optional_rules quota_rules) calls (record { state = start; limiter = Some quota }) ran.replies.items (record { state = end; limiter = Some after })
     × HoldsTotals (holdings after) end × (ran.held ≡ held.Quota (printed_holdings after))
-IsReplayUnder (Some (Lines.Answers words)) start calls ran = (ran.held ≡ Nothing) × (list : AnswerList) × IsNewList words.items list × (after : World (Option AnswerList))
-    × IsRunOf (optional_rules answer_rules) calls (record { state = start; limiter = Some list }) ran.replies.items after
+IsReplayUnder (Some (Lines.Answers words)) start calls ran = IsListedReplay words.items start calls ran
 IsReplayUnder (Some (Lines.Tenants line)) start calls ran = ⊥
 
 -- a pool of new machines, as many as a line says, under its caps

@@ -4,7 +4,7 @@ ghost use Rattle.wasmi_script.specs.Headers.{meter_of};
 ghost use Rattle.wasmi_script.specs.Lines.{WritesScript};
 ghost use Rattle.wasmi_core.specs.State.{new_state};
 ghost use Rattle.wasmi_core.specs.Totals.{HoldsTotals};
-ghost use Rattle.wasmi_script.specs.Replays.{IsReplayOf, IsReplayUnder, IsPoolReplay, AnswersPart, HasOneMachine, new_pool, nothing_held};
+ghost use Rattle.wasmi_script.specs.Replays.{IsReplayOf, IsReplayUnder, IsListedReplay, IsPoolReplay, AnswersPart, HasOneMachine, new_pool, nothing_held};
 ghost use Rattle.wasmi_script.specs.Status.{status_number, status_after};
 
 use crate::answering::AnswerList;
@@ -180,9 +180,9 @@ fn run_under_quota(
 fn run_answered(
     machine: &mut Machine,
     calls: &[Call],
-    words: &Vec<AnswerWord>,
+    words: &[AnswerWord],
 ) -> Result<Ran, AllocError>
-    ensures { IfOk result (IsReplayUnder (Some (LimiterLine.Answers words.now)) machine.old calls.now) }
+    ensures { IfOk result (IsListedReplay words.now machine.old calls.now) }
 {
     let mut limiter = AnswerList::new(words);
     let replies = run_lending(machine, calls, &mut limiter)?;
@@ -214,6 +214,7 @@ fn pool_of(alloc: Global, header: &Header, line: TenantsLine) -> Result<Pool<'st
 {
     let mut pool = Pool::new(alloc, line.bytes, line.elements);
     for _index in 0..line.count {
+        // A new machine has nothing, so room alone can be wanting.
         if pool.add(Machine::new(alloc, header.fuel())).is_err() {
             return Err(AllocError);
         }
@@ -232,6 +233,7 @@ fn run_part(
 {
     match pool.run(tenant, calls) {
         Ok(mut answered) => replies.append(&mut answered),
+        // No script names a tenant that its pool lacks, so memory was wanting.
         Err(_) => Err(AllocError),
     }
 }
