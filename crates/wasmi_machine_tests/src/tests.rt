@@ -78,16 +78,12 @@ fn unmetered(alloc: Global) -> Machine<'static>
 fn metered(alloc: Global) -> Machine<'static>
     ensures { HoldsTotals (record { bytes = 0; elements = 0; last = None }) result }
 {
-    Machine::new(alloc, Fuel::new(true, metered_costs()))
-}
-
-/// One fuel for 64 copied bytes.
-fn metered_costs() -> FuelCostsProvider {
-    FuelCostsProvider::custom(CustomFuelCosts {
+    let costs = CustomFuelCosts {
         bytes_copied_per_fuel: 64,
         fuel_per_bytes_translated: 7,
         fuel_per_bytes_validated: 2,
-    })
+    };
+    Machine::new(alloc, Fuel::new(true, FuelCostsProvider::custom(costs)))
 }
 
 fn memory_type(

@@ -18,7 +18,7 @@ fn ample_memory_pool_runs(rt: HostRuntime) -> Result<(), Fail> {
 }
 
 #[test]
-fn a_machine_with_a_past_comes_back(rt: HostRuntime) -> Result<(), Fail> {
+fn a_machine_that_dropped_a_memory_comes_back(rt: HostRuntime) -> Result<(), Fail> {
     let steps = vec![in rt.alloc();
         (new_pages(1, None)?, Reply::Made(0)),
         (Call::DropMemory(0), Reply::Done),
