@@ -79,7 +79,7 @@ apart_case h f b (inr e) at =
     ap₂ bit_and e less ∙ and_mask (2 ^ h) h ∙ mod_self (2 ^ h)
 
 module _ (h k v : ℕ) (mark : (field k (suc h) v ≡ 0) ⊎ (field k (suc h) v ≡ 2 ^ h)) (next : Clear h v (k + suc h)) where
-  lowest : ℕ
+  abbrev lowest : ℕ
   lowest = field k (suc h) (v / 2 ^ h)
 
   lowest_is : lowest ≡ bit_at (field k (suc h) v) h
