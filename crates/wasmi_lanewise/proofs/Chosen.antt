@@ -54,7 +54,7 @@ module _ (js : List ℕ) (long : length js ≡ 16) where
 -- ---- the table at the indices below 16, else 0
 
 -- what holds of the numbers below n, as it was computed
-computed : {X : Type 0} (f g : ℕ → X) (n k : ℕ) (d : X) → map f (range_with_len 0 n) ≡ map g (range_with_len 0 n) → k < n → f k ≡ g k
+pub computed : {X : Type 0} (f g : ℕ → X) (n k : ℕ) (d : X) → map f (range_with_len 0 n) ≡ map g (range_with_len 0 n) → k < n → f k ≡ g k
 computed f g n k d same below =
     let place : 0 + k ≡ k = omega arith in
     sym (get_or-map-range_with_len f 0 n k k d below place) ∙ ap (λ l. get_or l k d) same ∙ get_or-map-range_with_len g 0 n k k d below place
@@ -141,6 +141,17 @@ module _ (js : List ℕ) (long : length js ≡ 16) (fits : Each1 (Fits w8) js) w
       either {j} (inr above) =
           ap (λ t. cond (not t) 0 (get_or table (position j) 0)) (le-ltb j 16 above)
           ∙ sym (ap (λ t. if t then get_or table j 0 else 0) (le-ltb j 16 above))
+
+-- ---- the table at indices below 16
+
+module _ (js : List ℕ) (long : length js ≡ 16) (below : (i : ℕ) → i < 16 → get_or js i 0 < 16) where
+  pub indices_may_index : SwzOk w8 16 16 0 js
+  indices_may_index = SwzOk-from_below w8 16 1 16 0 js refl (omega arith) (Each1-from_get_or (λ j. j < 16) js 0 (λ i inside. below i (omega arith)))
+
+  pub picked_inside_at : (table : List ℕ) (i : ℕ) → i < 16 → get_or (swz_l w8 16 table 0 js) i 0 ≡ get_or table (get_or js i 0) 0
+  picked_inside_at table i inside =
+      let place : 16 * ((0 + i) / 16) + get_or js i 0 ≡ get_or js i 0 = omega arith in
+      get_or-swz_l_below w8 16 table 0 js i (omega arith) (below i inside) ∙ ap (λ j. get_or table j 0) place
 
 -- of the numbers f of the first 16 indices, the one at k, and another where k is above 15
 pub first_or_other : (k low high other : ℕ) (f : ℕ → ℕ) → low ≡ f (k % 16) → (16 ≤ k → high ≡ other)
