@@ -1,5 +1,5 @@
 -- The bits of a word that belong to one lane (`field`), as those of the operands give them.
-use Rattle.std.proofs.Common.{◌≡◌, ℕ, zero, suc, ◌+◌, ◌-◌, ◌*◌, ◌/◌, ◌%◌, ◌^◌, ◌<◌, ◌≤◌, sym, ap, subst, ◌∙◌, arith, add-mul, mul-suc, mul-zero, mul_comm, div-one, mod-lt, mod-eq_of_lt, replicate, bit_and, bit_or, bit_xor}
+use Rattle.std.proofs.Common.{◌≡◌, ℕ, zero, suc, ◌+◌, ◌-◌, ◌*◌, ◌/◌, ◌%◌, ◌^◌, ◌<◌, ◌≤◌, sym, ap, ap₂, subst, ◌∙◌, arith, zero-mul, suc-mul, add-mul, mul-suc, mul-zero, mul_comm, div-one, mod-lt, mod-eq_of_lt, replicate, bit_and, bit_or, bit_xor}
 use Rattle.std.specs.Int.{bit_at}
 use Rattle.std.specs.Simd.Lanes.{number_l}
 use Rattle.std.proofs.Math.Nat.{zero-div, zero-mod, add-mod, add-mod_right, add-mul-mod_self_right, add-mul-mod_self_left, mod-add-mod, mod-mod}
@@ -160,3 +160,18 @@ lane_shr w s r k v mask e is =
     ∙ ap (λ n. v / 2 ^ s / 2 ^ k % 2 ^ n % 2 ^ r) turned ∙ mod-mod-pow (v / 2 ^ s / 2 ^ k) s r
     ∙ ap (λ n. n % 2 ^ r) (shr-shr v s k ∙ ap (λ n. v / 2 ^ n) swap ∙ sym (shr-shr v k s))
     ∙ sym (field_of (v / 2 ^ k) r s) ∙ ap (λ n. v / 2 ^ k % 2 ^ n / 2 ^ s) (sym whole)
+
+-- words of n lanes that are the same are the same
+pub same_words : (w n a b : ℕ) → a < 2 ^ (n * w) → b < 2 ^ (n * w) → ((i : ℕ) → i < n → field (w * i) w a ≡ field (w * i) w b) → a ≡ b
+same_words w zero a b fits_a fits_b each =
+    let none : 0 * w ≡ 0 = zero-mul w in
+    let no_a : a < 2 ^ 0 = subst (λ k. a < 2 ^ k) none fits_a in
+    let no_b : b < 2 ^ 0 = subst (λ k. b < 2 ^ k) none fits_b in
+    omega arith
+same_words w (suc n) a b fits_a fits_b each =
+    let more : suc n * w ≡ n * w + w = suc-mul n w in
+    let low : a % 2 ^ w ≡ b % 2 ^ w = sym (first_lane w a) ∙ each 0 (omega arith) ∙ first_lane w b in
+    let high : a / 2 ^ w ≡ b / 2 ^ w =
+    same_words w n (a / 2 ^ w) (b / 2 ^ w) (shr_below a (n * w) w (subst (λ k. a < 2 ^ k) more fits_a)) (shr_below b (n * w) w (subst (λ k. b < 2 ^ k) more fits_b))
+    (λ i inside. sym (next_lane w i a) ∙ each (suc i) (omega arith) ∙ next_lane w i b) in
+    sym (div-add-mod' a (2 ^ w)) ∙ ap₂ (λ m n. m * 2 ^ w + n) high low ∙ div-add-mod' b (2 ^ w)

@@ -1,89 +1,134 @@
--- The sums, differences and inequality of the lanes of a word, at one lane of tops.
-use Rattle.std.proofs.Common.{◌≡◌, ℕ, zero, suc, ◌+◌, ◌-◌, ◌*◌, ◌%◌, ◌^◌, ◌<◌, ◌≤◌, ap, ap₂, subst, ◌∙◌, arith, bit_and, bit_or, bit_xor, cond, eqb, pow-suc}
-use Rattle.std.proofs.lemmas.Nat.{and_le_l}
-use Rattle.std.specs.Int.Bits.{and_self}
-use Rattle.wasmi_lanes.specs.Words.{field, IsLane}
+-- The sums, differences and inequality of the lanes of a word, at one lane of tops or above the last top.
+use Rattle.std.proofs.Common.{◌≡◌, ℕ, zero, suc, ◌+◌, ◌-◌, ◌*◌, ◌%◌, ◌^◌, ◌<◌, ◌≤◌, ◌⊎◌, ap, ap₂, subst, ◌∙◌, arith, mod-eq_of_lt, bit_and, bit_or, bit_xor, cond, eqb, pow-suc}
+use Rattle.std.proofs.lemmas.Nat.{and_le_l, and_mask}
+use Rattle.std.specs.Int.{bit_at}
+use Rattle.std.specs.Int.Bits.{and_self, and_zero_r, or_zero_r, xor_zero_r}
+use Rattle.wasmi_lanes.specs.Words.{field, IsLane, IsLastLane}
 use Rattle.wasmi_lanes.proofs.FieldLemmas.{field_lt, field_and, field_or, field_xor, field_add, field_mod, field_not, field_wrapping_sub}
 use Rattle.wasmi_lanes.proofs.TopLemmas.{room, filled, lane_add, lane_sub, lane_differ}
 
-module _ (tops k h : ℕ) (fits : tops < 2 ^ 64) (lane : IsLane tops k (suc h)) where
-  top_is : field k (suc h) tops ≡ 2 ^ h
-  top_is =
-      let back : suc h - 1 ≡ h = omega arith in
-      lane.top ∙ ap (λ n. 2 ^ n) back
-
-  rest_is : field k (suc h) (2 ^ 64 - 1 - tops) ≡ 2 ^ h - 1
-  rest_is = field_not k (suc h) 64 tops lane.within fits ∙ omega (arith, top_is, pow-suc 2 h)
+-- the bits of a word from k to k + w - 1, where those of tops are `top` and what comes from below has room
+module _ (tops k w top : ℕ) (fits : tops < 2 ^ 64) (starts : (k ≡ 0) ⊎ (bit_at tops (k - 1) ≡ 1)) (within : k + w ≤ 64) (is : field k w tops ≡ top) where
+  rest_is : field k w (2 ^ 64 - 1 - tops) ≡ 2 ^ w - 1 - top
+  rest_is = field_not k w 64 tops within fits ∙ ap (λ n. 2 ^ w - 1 - n) is
 
   -- v beside the tops
-  kept : (v : ℕ) → field k (suc h) (bit_and v (2 ^ 64 - 1 - tops)) ≡ bit_and (field k (suc h) v) (2 ^ h - 1)
-  kept v = field_and k (suc h) v (2 ^ 64 - 1 - tops) ∙ ap (bit_and (field k (suc h) v)) rest_is
+  kept : (v : ℕ) → field k w (bit_and v (2 ^ 64 - 1 - tops)) ≡ bit_and (field k w v) (2 ^ w - 1 - top)
+  kept v = field_and k w v (2 ^ 64 - 1 - tops) ∙ ap (bit_and (field k w v)) rest_is
 
   -- the tops of v
-  marked : (v : ℕ) → field k (suc h) (bit_and v tops) ≡ bit_and (field k (suc h) v) (2 ^ h)
-  marked v = field_and k (suc h) v tops ∙ ap (bit_and (field k (suc h) v)) top_is
+  marked : (v : ℕ) → field k w (bit_and v tops) ≡ bit_and (field k w v) top
+  marked v = field_and k w v tops ∙ ap (bit_and (field k w v)) is
 
   below : (v : ℕ) → 2 * (bit_and v (2 ^ 64 - 1 - tops) % 2 ^ k) < 2 ^ k
   below v =
-      let start : k ≤ 64 = omega (arith, lane.within) in
-      room tops k v fits start lane.starts
+      let start : k ≤ 64 = omega arith in
+      room tops k v fits start starts
 
-  add_suc_lane : (a b : ℕ) →
-      field k (suc h) (bit_xor ((bit_and a (2 ^ 64 - 1 - tops) + bit_and b (2 ^ 64 - 1 - tops)) % 2 ^ 64) (bit_and (bit_xor a b) tops))
-      ≡ (field k (suc h) a + field k (suc h) b) % 2 ^ suc h
-  add_suc_lane a b =
+  sum_at : (a b : ℕ) →
+      field k w (bit_xor ((bit_and a (2 ^ 64 - 1 - tops) + bit_and b (2 ^ 64 - 1 - tops)) % 2 ^ 64) (bit_and (bit_xor a b) tops))
+      ≡ bit_xor ((bit_and (field k w a) (2 ^ w - 1 - top) + bit_and (field k w b) (2 ^ w - 1 - top)) % 2 ^ w) (bit_and (bit_xor (field k w a) (field k w b)) top)
+  sum_at a b =
       let rest : ℕ = 2 ^ 64 - 1 - tops in
-      let sum : field k (suc h) ((bit_and a rest + bit_and b rest) % 2 ^ 64) ≡ (bit_and (field k (suc h) a) (2 ^ h - 1) + bit_and (field k (suc h) b) (2 ^ h - 1)) % 2 ^ suc h =
-      field_mod k (suc h) 64 (bit_and a rest + bit_and b rest) lane.within ∙ field_add k (suc h) (bit_and a rest) (bit_and b rest) (omega (arith, below a, below b)) ∙ ap₂ (λ m n. (m + n) % 2 ^ suc h) (kept a) (kept b) in
-      field_xor k (suc h) ((bit_and a rest + bit_and b rest) % 2 ^ 64) (bit_and (bit_xor a b) tops)
-      ∙ ap₂ bit_xor sum (marked (bit_xor a b) ∙ ap (λ n. bit_and n (2 ^ h)) (field_xor k (suc h) a b))
-      ∙ lane_add h (field k (suc h) a) (field k (suc h) b) (field_lt k (suc h) a) (field_lt k (suc h) b)
+      field_xor k w ((bit_and a rest + bit_and b rest) % 2 ^ 64) (bit_and (bit_xor a b) tops)
+      ∙ ap₂ bit_xor
+      (field_mod k w 64 (bit_and a rest + bit_and b rest) within ∙ field_add k w (bit_and a rest) (bit_and b rest) (omega (arith, below a, below b)) ∙ ap₂ (λ m n. (m + n) % 2 ^ w) (kept a) (kept b))
+      (marked (bit_xor a b) ∙ ap (λ n. bit_and n top) (field_xor k w a b))
 
-  raised : (v : ℕ) → field k (suc h) (bit_or v tops) ≡ bit_or (field k (suc h) v) (2 ^ h)
-  raised v = field_or k (suc h) v tops ∙ ap (bit_or (field k (suc h) v)) top_is
+  raised : (v : ℕ) → field k w (bit_or v tops) ≡ bit_or (field k w v) top
+  raised v = field_or k w v tops ∙ ap (bit_or (field k w v)) is
 
-  sub_suc_lane : (a b : ℕ) → b < 2 ^ 64 →
-      field k (suc h) (bit_xor ((bit_or a tops + (2 ^ 64 - bit_and b (2 ^ 64 - 1 - tops))) % 2 ^ 64) (bit_and (bit_xor a (2 ^ 64 - 1 - b)) tops))
-      ≡ (field k (suc h) a + (2 ^ suc h - field k (suc h) b)) % 2 ^ suc h
-  sub_suc_lane a b fits-b =
+  difference_at : (a b : ℕ) → b < 2 ^ 64 →
+      field k w (bit_xor ((bit_or a tops + (2 ^ 64 - bit_and b (2 ^ 64 - 1 - tops))) % 2 ^ 64) (bit_and (bit_xor a (2 ^ 64 - 1 - b)) tops))
+      ≡ bit_xor ((bit_or (field k w a) top + (2 ^ w - bit_and (field k w b) (2 ^ w - 1 - top))) % 2 ^ w) (bit_and (bit_xor (field k w a) (2 ^ w - 1 - field k w b)) top)
+  difference_at a b fits_b =
       let rest : ℕ = 2 ^ 64 - 1 - tops in
-      let diff : field k (suc h) ((bit_or a tops + (2 ^ 64 - bit_and b rest)) % 2 ^ 64) ≡ (bit_or (field k (suc h) a) (2 ^ h) + (2 ^ suc h - bit_and (field k (suc h) b) (2 ^ h - 1))) % 2 ^ suc h =
-      field_wrapping_sub k (suc h) 64 (bit_or a tops) (bit_and b rest) lane.within (omega (arith, and_le_l b rest)) (omega (arith, below b, filled tops k a lane.starts)) ∙ ap₂ (λ m n. (m + (2 ^ suc h - n)) % 2 ^ suc h) (raised a) (kept b) in
-      field_xor k (suc h) ((bit_or a tops + (2 ^ 64 - bit_and b rest)) % 2 ^ 64) (bit_and (bit_xor a (2 ^ 64 - 1 - b)) tops)
-      ∙ ap₂ bit_xor diff (marked (bit_xor a (2 ^ 64 - 1 - b)) ∙ ap (λ n. bit_and n (2 ^ h)) (field_xor k (suc h) a (2 ^ 64 - 1 - b) ∙ ap (bit_xor (field k (suc h) a)) (field_not k (suc h) 64 b lane.within fits-b)))
-      ∙ lane_sub h (field k (suc h) a) (field k (suc h) b) (field_lt k (suc h) a) (field_lt k (suc h) b)
+      field_xor k w ((bit_or a tops + (2 ^ 64 - bit_and b rest)) % 2 ^ 64) (bit_and (bit_xor a (2 ^ 64 - 1 - b)) tops)
+      ∙ ap₂ bit_xor
+      (field_wrapping_sub k w 64 (bit_or a tops) (bit_and b rest) within (omega (arith, and_le_l b rest)) (omega (arith, below b, filled tops k a starts)) ∙ ap₂ (λ m n. (m + (2 ^ w - n)) % 2 ^ w) (raised a) (kept b))
+      (marked (bit_xor a (2 ^ 64 - 1 - b)) ∙ ap (λ n. bit_and n top) (field_xor k w a (2 ^ 64 - 1 - b) ∙ ap (bit_xor (field k w a)) (field_not k w 64 b within fits_b)))
 
-  differ_suc_lane : (a b : ℕ) →
-      field k (suc h) (bit_and (bit_or ((bit_and (bit_xor a b) (2 ^ 64 - 1 - tops) + (2 ^ 64 - 1 - tops)) % 2 ^ 64) (bit_xor a b)) tops)
-      ≡ cond (eqb (field k (suc h) a) (field k (suc h) b)) 0 (2 ^ h)
-  differ_suc_lane a b =
+  differ_at : (a b : ℕ) →
+      field k w (bit_and (bit_or ((bit_and (bit_xor a b) (2 ^ 64 - 1 - tops) + (2 ^ 64 - 1 - tops)) % 2 ^ 64) (bit_xor a b)) tops)
+      ≡ bit_and (bit_or ((bit_and (bit_xor (field k w a) (field k w b)) (2 ^ w - 1 - top) + (2 ^ w - 1 - top)) % 2 ^ w) (bit_xor (field k w a) (field k w b))) top
+  differ_at a b =
       let rest : ℕ = 2 ^ 64 - 1 - tops in
       let x : ℕ = bit_xor a b in
-      let below-rest : 2 * (rest % 2 ^ k) < 2 ^ k = subst (λ n. 2 * (n % 2 ^ k) < 2 ^ k) (and_self rest) (below rest) in
-      let sum : field k (suc h) ((bit_and x rest + rest) % 2 ^ 64) ≡ (bit_and (field k (suc h) x) (2 ^ h - 1) + (2 ^ h - 1)) % 2 ^ suc h =
-      field_mod k (suc h) 64 (bit_and x rest + rest) lane.within ∙ field_add k (suc h) (bit_and x rest) rest (omega (arith, below x, below-rest)) ∙ ap₂ (λ m n. (m + n) % 2 ^ suc h) (kept x) rest_is in
+      let below_rest : 2 * (rest % 2 ^ k) < 2 ^ k = subst (λ n. 2 * (n % 2 ^ k) < 2 ^ k) (and_self rest) (below rest) in
+      let sum : field k w ((bit_and x rest + rest) % 2 ^ 64) ≡ (bit_and (field k w x) (2 ^ w - 1 - top) + (2 ^ w - 1 - top)) % 2 ^ w =
+      field_mod k w 64 (bit_and x rest + rest) within ∙ field_add k w (bit_and x rest) rest (omega (arith, below x, below_rest)) ∙ ap₂ (λ m n. (m + n) % 2 ^ w) (kept x) rest_is in
       marked (bit_or ((bit_and x rest + rest) % 2 ^ 64) x)
-      ∙ ap (λ n. bit_and n (2 ^ h)) (field_or k (suc h) ((bit_and x rest + rest) % 2 ^ 64) x ∙ ap (λ n. bit_or n (field k (suc h) x)) sum)
-      ∙ ap (λ n. bit_and (bit_or ((bit_and n (2 ^ h - 1) + (2 ^ h - 1)) % 2 ^ suc h) n) (2 ^ h)) (field_xor k (suc h) a b)
-      ∙ lane_differ h (field k (suc h) a) (field k (suc h) b) (field_lt k (suc h) a) (field_lt k (suc h) b)
+      ∙ ap (λ n. bit_and n top) (field_or k w ((bit_and x rest + rest) % 2 ^ 64) x ∙ ap (λ n. bit_or n (field k w x)) sum)
+      ∙ ap (λ n. bit_and (bit_or ((bit_and n (2 ^ w - 1 - top) + (2 ^ w - 1 - top)) % 2 ^ w) n) top) (field_xor k w a b)
 
 -- a lane has a bit
 no_lane : {A : Type 0} (tops k : ℕ) → IsLane tops k 0 → A
 no_lane tops k lane = absurd (omega (arith, lane.top, field_lt k 0 tops))
 
+top_is : (tops k h : ℕ) → IsLane tops k (suc h) → field k (suc h) tops ≡ 2 ^ h
+top_is tops k h lane =
+    let back : suc h - 1 ≡ h = omega arith in
+    lane.top ∙ ap (λ n. 2 ^ n) back
+
+beside_top : (h : ℕ) → 2 ^ suc h - 1 - 2 ^ h ≡ 2 ^ h - 1
+beside_top h = omega (arith, pow-suc 2 h)
+
 pub add_lane : (tops k w a b : ℕ) → tops < 2 ^ 64 → IsLane tops k w →
     field k w (bit_xor ((bit_and a (2 ^ 64 - 1 - tops) + bit_and b (2 ^ 64 - 1 - tops)) % 2 ^ 64) (bit_and (bit_xor a b) tops)) ≡ (field k w a + field k w b) % 2 ^ w
 add_lane tops k zero a b fits lane = no_lane tops k lane
-add_lane tops k (suc h) a b fits lane = add_suc_lane tops k h fits lane a b
+add_lane tops k (suc h) a b fits lane =
+    let x : ℕ = field k (suc h) a in
+    let y : ℕ = field k (suc h) b in
+    sum_at tops k (suc h) (2 ^ h) fits lane.starts lane.within (top_is tops k h lane) a b
+    ∙ ap (λ r. bit_xor ((bit_and x r + bit_and y r) % 2 ^ suc h) (bit_and (bit_xor x y) (2 ^ h))) (beside_top h)
+    ∙ lane_add h x y (field_lt k (suc h) a) (field_lt k (suc h) b)
 
 pub sub_lane : (tops k w a b : ℕ) → tops < 2 ^ 64 → b < 2 ^ 64 → IsLane tops k w →
     field k w (bit_xor ((bit_or a tops + (2 ^ 64 - bit_and b (2 ^ 64 - 1 - tops))) % 2 ^ 64) (bit_and (bit_xor a (2 ^ 64 - 1 - b)) tops)) ≡ (field k w a + (2 ^ w - field k w b)) % 2 ^ w
-sub_lane tops k zero a b fits fits-b lane = no_lane tops k lane
-sub_lane tops k (suc h) a b fits fits-b lane = sub_suc_lane tops k h fits lane a b fits-b
+sub_lane tops k zero a b fits fits_b lane = no_lane tops k lane
+sub_lane tops k (suc h) a b fits fits_b lane =
+    let x : ℕ = field k (suc h) a in
+    let y : ℕ = field k (suc h) b in
+    difference_at tops k (suc h) (2 ^ h) fits lane.starts lane.within (top_is tops k h lane) a b fits_b
+    ∙ ap (λ r. bit_xor ((bit_or x (2 ^ h) + (2 ^ suc h - bit_and y r)) % 2 ^ suc h) (bit_and (bit_xor x (2 ^ suc h - 1 - y)) (2 ^ h))) (beside_top h)
+    ∙ lane_sub h x y (field_lt k (suc h) a) (field_lt k (suc h) b)
 
 pub differ_lane : (tops k w a b : ℕ) → tops < 2 ^ 64 → IsLane tops k w →
     field k w (bit_and (bit_or ((bit_and (bit_xor a b) (2 ^ 64 - 1 - tops) + (2 ^ 64 - 1 - tops)) % 2 ^ 64) (bit_xor a b)) tops) ≡ cond (eqb (field k w a) (field k w b)) 0 (2 ^ (w - 1))
 differ_lane tops k zero a b fits lane = no_lane tops k lane
 differ_lane tops k (suc h) a b fits lane =
     let back : h ≡ suc h - 1 = omega arith in
-    differ_suc_lane tops k h fits lane a b ∙ ap (λ n. cond (eqb (field k (suc h) a) (field k (suc h) b)) 0 (2 ^ n)) back
+    let x : ℕ = field k (suc h) a in
+    let y : ℕ = field k (suc h) b in
+    differ_at tops k (suc h) (2 ^ h) fits lane.starts lane.within (top_is tops k h lane) a b
+    ∙ ap (λ r. bit_and (bit_or ((bit_and (bit_xor x y) r + r) % 2 ^ suc h) (bit_xor x y)) (2 ^ h)) (beside_top h)
+    ∙ lane_differ h x y (field_lt k (suc h) a) (field_lt k (suc h) b)
+    ∙ ap (λ n. cond (eqb x y) 0 (2 ^ n)) back
+
+-- ---- above the last top
+
+-- all of a lane is beside no top
+all_kept : (w x : ℕ) → x < 2 ^ w → bit_and x (2 ^ w - 1 - 0) ≡ x
+all_kept w x fits =
+    let none : 2 ^ w - 1 - 0 ≡ 2 ^ w - 1 = omega arith in
+    ap (bit_and x) none ∙ and_mask x w ∙ mod-eq_of_lt fits
+
+-- no top is flipped
+unflipped : (x y : ℕ) → bit_xor x (bit_and y 0) ≡ x
+unflipped x y = ap (bit_xor x) (and_zero_r y) ∙ xor_zero_r x
+
+pub add_last : (tops k w a b : ℕ) → tops < 2 ^ 64 → IsLastLane tops k w →
+    field k w (bit_xor ((bit_and a (2 ^ 64 - 1 - tops) + bit_and b (2 ^ 64 - 1 - tops)) % 2 ^ 64) (bit_and (bit_xor a b) tops)) ≡ (field k w a + field k w b) % 2 ^ w
+add_last tops k w a b fits last =
+    let within : k + w ≤ 64 = omega (arith, last.whole) in
+    sum_at tops k w 0 fits last.starts within last.free a b
+    ∙ unflipped _ _
+    ∙ ap₂ (λ m n. (m + n) % 2 ^ w) (all_kept w (field k w a) (field_lt k w a)) (all_kept w (field k w b) (field_lt k w b))
+
+pub sub_last : (tops k w a b : ℕ) → tops < 2 ^ 64 → b < 2 ^ 64 → IsLastLane tops k w →
+    field k w (bit_xor ((bit_or a tops + (2 ^ 64 - bit_and b (2 ^ 64 - 1 - tops))) % 2 ^ 64) (bit_and (bit_xor a (2 ^ 64 - 1 - b)) tops)) ≡ (field k w a + (2 ^ w - field k w b)) % 2 ^ w
+sub_last tops k w a b fits fits_b last =
+    let within : k + w ≤ 64 = omega (arith, last.whole) in
+    difference_at tops k w 0 fits last.starts within last.free a b fits_b
+    ∙ unflipped _ _
+    ∙ ap₂ (λ m n. (m + (2 ^ w - n)) % 2 ^ w) (or_zero_r (field k w a)) (all_kept w (field k w b) (field_lt k w b))

@@ -1,14 +1,16 @@
 -- Vectors by their two words, and words of equal lanes.
-use Rattle.std.proofs.Common.{◌≡◌, ℕ, zero, suc, ◌+◌, ◌-◌, ◌*◌, ◌/◌, ◌%◌, ◌^◌, ◌<◌, ◌≤◌, ◌⊎◌, inl, inr, sym, ap, ap₂, subst, ◌∙◌, arith, mul-suc, mul-zero, mul-add, suc-mul, mul_comm, le_refl}
+use Rattle.std.proofs.Common.{◌≡◌, ℕ, zero, suc, ◌+◌, ◌-◌, ◌*◌, ◌/◌, ◌%◌, ◌^◌, ◌<◌, ◌≤◌, ◌⊎◌, inl, inr, refl, sym, ap, ap₂, subst, ◌∙◌, arith, mul-suc, mul-zero, mul-add, suc-mul, mul_comm, le_refl}
 use Rattle.std.proofs.lemmas.Bool.{cases_lt}
-use Rattle.std.proofs.lemmas.Nat.{pow_pos, shr-shr, mul-le}
+use Rattle.std.proofs.lemmas.Nat.{pow_pos, shr-shr, mul-le, field_of}
+use Rattle.std.proofs.Math.Nat.{zero-mod, mod_self}
+use Rattle.std.proofs.Math.Pow.{mod-mod-pow}
 use Rattle.std.proofs.lemmas.Nat.Bits.{bit_at-pow_same}
 use Rattle.std.specs.Int.{bit_at}
 use Rattle.wasmi_raw.specs.Vector.{vector_of}
 use Rattle.wasmi_types.specs.Wrapping.{Width, w8, w16, w32, w64, bits}
 use Rattle.wasmi_lanes.specs.Lane.{lane}
 use Rattle.wasmi_lanes.specs.Vector.{from_lanes}
-use Rattle.wasmi_lanes.specs.Words.{field, IsLane, lanes_in_word, in_each_lane}
+use Rattle.wasmi_lanes.specs.Words.{field, IsLane, IsLastLane, lanes_in_word, in_each_lane}
 use Rattle.wasmi_lanes.proofs.FieldLemmas.{field_mod, top_of_lane, repeated_lane}
 use Rattle.wasmi_lanes.proofs.Vectors.{lanes_make_vector}
 use mir.Syntax.{w128}
@@ -131,28 +133,72 @@ equal_lanes w tops whole is =
     tops_each (bits w) (lanes_in_word w) tops (some_bits w) (omega (arith, whole))
     (lane_of_each w (2 ^ (bits w - 1)) tops (top_in_range (bits w) (some_bits w)) is)
 
--- ---- words whose lanes of tops are a row of the operands' lanes make the vector of that row, which may name the width
+-- what begins right above a top, or at the bottom, does so without the highest bit of the word
+starts_within : (tops k : ℕ) → k ≤ 63 → (k ≡ 0) ⊎ (bit_at tops (k - 1) ≡ 1) → (k ≡ 0) ⊎ (bit_at (tops % 2 ^ 63) (k - 1) ≡ 1)
+unfolding field
+starts_within tops zero le starts = inl refl
+starts_within tops (suc j) le (inl e) = absurd (omega arith)
+starts_within tops (suc j) le (inr e) =
+    let room : suc j - 1 + 1 ≤ 63 = omega arith in
+    inr (field_mod (suc j - 1) 1 63 tops room ∙ e)
 
--- in each lane of tops r is the row of a, or of a and b
-abbrev pub UnaryInLanes : ℕ → (ℕ → ℕ → ℕ) → ℕ → ℕ → Type 0
-UnaryInLanes tops row r a = (start width : ℕ) → IsLane tops start width → field start width r ≡ row width (field start width a)
+last_is_free : (tops k w : ℕ) → 0 < w → field k w tops ≡ 2 ^ (w - 1) → k + w ≡ 64 → field k w (tops % 2 ^ 63) ≡ 0
+unfolding field
+last_is_free tops k zero pos top whole = absurd (omega arith)
+last_is_free tops k (suc h) pos top whole =
+    let place : 63 ≡ h + k = omega arith in
+    let one : 1 + h ≡ suc h = omega arith in
+    let back : suc h - 1 ≡ h = omega arith in
+    let low : tops / 2 ^ k % 2 ^ h ≡ 0 =
+    sym (mod-mod-pow (tops / 2 ^ k) 1 h) ∙ ap (λ n. tops / 2 ^ k % 2 ^ n % 2 ^ h) one ∙ ap (λ n. n % 2 ^ h) (top ∙ ap (λ n. 2 ^ n) back) ∙ mod_self (2 ^ h) in
+    ap (λ n. tops % 2 ^ n / 2 ^ k % 2 ^ suc h) place ∙ ap (λ n. n % 2 ^ suc h) (field_of tops h k ∙ low) ∙ zero-mod (2 ^ suc h)
 
-abbrev pub BinaryInLanes : ℕ → (ℕ → ℕ → ℕ → ℕ) → ℕ → ℕ → ℕ → Type 0
-BinaryInLanes tops row r a b = (start width : ℕ) → IsLane tops start width → field start width r ≡ row width (field start width a) (field start width b)
+-- a lane of tops, or the last one
+abbrev pub InnerLane : ℕ → ℕ → ℕ → Type 0
+InnerLane tops start width = IsLane tops start width ⊎ IsLastLane tops start width
 
-module _ (w : Width) (tops : ℕ) (whole : lanes_in_word w * bits w ≡ 64) (is : tops ≡ in_each_lane w (2 ^ (bits w - 1))) where
+without_last_top : (tops k w : ℕ) → 0 < w → IsLane tops k w → InnerLane (tops % 2 ^ 63) k w
+without_last_top tops k w pos lane = elim (cases_lt (k + w) 64) [
+  | inl inner ↦
+      let start : k ≤ 63 = omega arith in
+      let inside : k + w ≤ 63 = omega arith in
+      inl (record { starts = starts_within tops k start lane.starts; top = field_mod k w 63 tops inside ∙ lane.top; within = lane.within })
+  | inr last ↦
+      let start : k ≤ 63 = omega (arith, lane.within) in
+      let whole : k + w ≡ 64 = omega (arith, lane.within) in
+      inr (record { starts = starts_within tops k start lane.starts; free = last_is_free tops k w pos lane.top whole; whole = whole })
+]
+
+-- a word with the highest bit of each lane of w bits but the last divides a word into these lanes
+pub inner_lanes : (w : Width) (inner : ℕ) → lanes_in_word w * bits w ≡ 64 → inner ≡ in_each_lane w (2 ^ (bits w - 1)) % 2 ^ 63 → EachLane w (λ k. InnerLane inner k (bits w))
+inner_lanes w inner whole is i inside =
+    let tops : ℕ = in_each_lane w (2 ^ (bits w - 1)) in
+    subst (λ t. InnerLane t (bits w * i) (bits w)) (sym is) (without_last_top tops (bits w * i) (bits w) (some_bits w) (equal_lanes w tops whole refl i inside))
+
+pub of_either : {A B C : Type 0} → (A → C) → (B → C) → A ⊎ B → C
+of_either f g (inl a) = f a
+of_either f g (inr b) = g b
+
+-- ---- words whose lanes are a row of the operands' lanes make the vector of that row, which may name the width
+
+-- in each lane r is the row of a, or of a and b
+abbrev pub UnaryInLanes : (ℕ → ℕ → Type 0) → (ℕ → ℕ → ℕ) → ℕ → ℕ → Type 0
+UnaryInLanes Lane row r a = (start width : ℕ) → Lane start width → field start width r ≡ row width (field start width a)
+
+abbrev pub BinaryInLanes : (ℕ → ℕ → Type 0) → (ℕ → ℕ → ℕ → ℕ) → ℕ → ℕ → ℕ → Type 0
+BinaryInLanes Lane row r a b = (start width : ℕ) → Lane start width → field start width r ≡ row width (field start width a) (field start width b)
+
+module _ (w : Width) (Lane : ℕ → ℕ → Type 0) (whole : lanes_in_word w * bits w ≡ 64) (lanes : EachLane w (λ k. Lane k (bits w))) where
   pub unary_by_words : {a low_a high_a low high r : ℕ} (row : ℕ → ℕ → ℕ) → AreWords a low_a high_a → low < 2 ^ 64 → high < 2 ^ 64
-      → UnaryInLanes tops row low low_a → UnaryInLanes tops row high high_a → r ≡ vector_of low high
+      → UnaryInLanes Lane row low low_a → UnaryInLanes Lane row high high_a → r ≡ vector_of low high
       → r ≡ from_lanes w (λ i. row (bits w) (lane w a i))
   unary_by_words {a} {low_a} {high_a} {low} {high} {r} row of_a fits_low fits_high low_is high_is is_r =
-      let lanes = equal_lanes w tops whole is in
       words_make_unary w whole (row (bits w)) a low_a high_a low high r of_a fits_low fits_high
       (λ i inside. low_is (bits w * i) (bits w) (lanes i inside)) (λ i inside. high_is (bits w * i) (bits w) (lanes i inside)) is_r
 
   pub binary_by_words : {a low_a high_a b low_b high_b low high r : ℕ} (row : ℕ → ℕ → ℕ → ℕ) → AreWords a low_a high_a → AreWords b low_b high_b → low < 2 ^ 64 → high < 2 ^ 64
-      → BinaryInLanes tops row low low_a low_b → BinaryInLanes tops row high high_a high_b → r ≡ vector_of low high
+      → BinaryInLanes Lane row low low_a low_b → BinaryInLanes Lane row high high_a high_b → r ≡ vector_of low high
       → r ≡ from_lanes w (λ i. row (bits w) (lane w a i) (lane w b i))
   binary_by_words {a} {low_a} {high_a} {b} {low_b} {high_b} {low} {high} {r} row of_a of_b fits_low fits_high low_is high_is is_r =
-      let lanes = equal_lanes w tops whole is in
       words_make_binary w whole (row (bits w)) a low_a high_a b low_b high_b low high r of_a of_b fits_low fits_high
       (λ i inside. low_is (bits w * i) (bits w) (lanes i inside)) (λ i inside. high_is (bits w * i) (bits w) (lanes i inside)) is_r

@@ -1,5 +1,6 @@
 -- Words of 64 bits and their lanes, which may have unequal widths. Where `tops` is a word, its ones are the highest bits of the
--- lanes: a lane begins at the bottom, or right above a top, and ends with the next top.
+-- lanes: a lane begins at the bottom, or right above a top, and ends with the next top. What is left above the last top is a lane
+-- too, for what leaves it leaves the word.
 use Rattle.std.specs.Prelude.{ℕ, ◌≡◌, ◌+◌, ◌-◌, ◌*◌, ◌/◌, ◌%◌, ◌^◌, ◌<◌, ◌≤◌, ◌⊎◌, List, [], ◌∷◌, replicate, ◌==◌, if◌then◌else◌}
 use Rattle.std.specs.Int.{bit_at}
 use Rattle.std.specs.Simd.Lanes.{number_l}
@@ -14,6 +15,12 @@ pub record IsLane (tops start width : ℕ) : Type 0 where
   pub starts : (start ≡ 0) ⊎ (bit_at tops (start - 1) ≡ 1)
   pub top : field start width tops ≡ 2 ^ (width - 1)
   pub within : start + width ≤ 64
+
+-- the bits from start to start + width - 1 are those of a word above the last top, or all of them where there is no top
+pub record IsLastLane (tops start width : ℕ) : Type 0 where
+  pub starts : (start ≡ 0) ⊎ (bit_at tops (start - 1) ≡ 1)
+  pub free : field start width tops ≡ 0
+  pub whole : start + width ≡ 64
 
 -- lanes of these widths, one after another from start on, are those of tops up to the end of the word
 abbrev pub AreLanes : ℕ → ℕ → List ℕ → Type 0

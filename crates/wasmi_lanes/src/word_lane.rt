@@ -1,6 +1,6 @@
 //! Words of 64 bits as lanes of one width.
 
-ghost use Rattle.std.specs.Prelude.{◌≡◌, refl, ℕ, ◌-◌, ◌*◌, ◌^◌};
+ghost use Rattle.std.specs.Prelude.{◌≡◌, refl, ℕ, ◌-◌, ◌*◌, ◌%◌, ◌^◌};
 ghost use Rattle.wasmi_types.specs.Wrapping.{bits};
 ghost use Rattle.wasmi_lanes.specs.Words.{lanes_in_word, in_each_lane};
 
@@ -18,6 +18,12 @@ pub trait WordLane: LaneInteger {
 
     ghost TOPS: { ℕ };
 
+    /// The highest bit of each lane of a word but the last: a sum or a difference needs no top at the
+    /// end of the word, and without it LLVM makes one step of it where a word is one lane.
+    const INNER_TOPS: u64;
+
+    ghost INNER_TOPS: { ℕ };
+
     /// The lowest bit of each lane of a word.
     const ONES: u64;
 
@@ -28,6 +34,8 @@ pub trait WordLane: LaneInteger {
     ghost whole: { lanes_in_word Self.width * bits Self.width ≡ 64 };
 
     ghost highest: { TOPS ≡ in_each_lane Self.width (2 ^ (bits Self.width - 1)) };
+
+    ghost inner: { INNER_TOPS ≡ in_each_lane Self.width (2 ^ (bits Self.width - 1)) % 2 ^ 63 };
 
     ghost lowest: { ONES ≡ in_each_lane Self.width 1 };
 }
@@ -41,6 +49,10 @@ impl WordLane for u8 {
 
     ghost TOPS = { 0x8080_8080_8080_8080 };
 
+    const INNER_TOPS: u64 = 0x0080_8080_8080_8080;
+
+    ghost INNER_TOPS = { 0x0080_8080_8080_8080 };
+
     const ONES: u64 = 0x0101_0101_0101_0101;
 
     ghost ONES = { 0x0101_0101_0101_0101 };
@@ -50,6 +62,8 @@ impl WordLane for u8 {
     ghost whole = { refl };
 
     ghost highest = { refl };
+
+    ghost inner = { refl };
 
     ghost lowest = { refl };
 }
@@ -63,6 +77,10 @@ impl WordLane for u16 {
 
     ghost TOPS = { 0x8000_8000_8000_8000 };
 
+    const INNER_TOPS: u64 = 0x0000_8000_8000_8000;
+
+    ghost INNER_TOPS = { 0x0000_8000_8000_8000 };
+
     const ONES: u64 = 0x0001_0001_0001_0001;
 
     ghost ONES = { 0x0001_0001_0001_0001 };
@@ -72,6 +90,8 @@ impl WordLane for u16 {
     ghost whole = { refl };
 
     ghost highest = { refl };
+
+    ghost inner = { refl };
 
     ghost lowest = { refl };
 }
@@ -85,6 +105,10 @@ impl WordLane for u32 {
 
     ghost TOPS = { 0x8000_0000_8000_0000 };
 
+    const INNER_TOPS: u64 = 0x0000_0000_8000_0000;
+
+    ghost INNER_TOPS = { 0x0000_0000_8000_0000 };
+
     const ONES: u64 = 0x0000_0001_0000_0001;
 
     ghost ONES = { 0x0000_0001_0000_0001 };
@@ -94,6 +118,8 @@ impl WordLane for u32 {
     ghost whole = { refl };
 
     ghost highest = { refl };
+
+    ghost inner = { refl };
 
     ghost lowest = { refl };
 }
@@ -107,6 +133,10 @@ impl WordLane for u64 {
 
     ghost TOPS = { 0x8000_0000_0000_0000 };
 
+    const INNER_TOPS: u64 = 0;
+
+    ghost INNER_TOPS = { 0 };
+
     const ONES: u64 = 1;
 
     ghost ONES = { 1 };
@@ -116,6 +146,8 @@ impl WordLane for u64 {
     ghost whole = { refl };
 
     ghost highest = { refl };
+
+    ghost inner = { refl };
 
     ghost lowest = { refl };
 }

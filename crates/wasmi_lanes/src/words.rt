@@ -1,15 +1,18 @@
 //! Sums, differences and inequality of the lanes of a word, without taking the lanes out.
 //!
 //! `tops` has the highest bit of each lane, and no other; the widths may be unequal. No carry or
-//! borrow leaves a lane: at each lane's highest bit the operands are made to leave room.
+//! borrow leaves a lane: at each lane's highest bit the operands are made to leave room. A sum or a
+//! difference needs no top at the end of the word, where a carry or borrow is dropped.
 
 ghost use Rattle.std.specs.Prelude.{◌≡◌, ℕ, ◌+◌, ◌-◌, ◌%◌, ◌^◌, ◌==◌, if◌then◌else◌, bit_and};
-ghost use Rattle.wasmi_lanes.specs.Words.{field, IsLane};
+ghost use Rattle.wasmi_lanes.specs.Words.{field, IsLane, IsLastLane};
 
 /// The sums of the lanes of `a` and `b`, each modulo 2 to the power of its width.
 #[inline]
 pub fn word_add(a: u64, b: u64, tops: u64) -> u64
-    ensures { (start width : ℕ) → IsLane tops start width
+    ensures lanes { (start width : ℕ) → IsLane tops start width
+        → field start width result ≡ (field start width a + field start width b) % 2 ^ width }
+    ensures last { (start width : ℕ) → IsLastLane tops start width
         → field start width result ≡ (field start width a + field start width b) % 2 ^ width }
 {
     let rest = !tops;
@@ -19,7 +22,9 @@ pub fn word_add(a: u64, b: u64, tops: u64) -> u64
 /// The differences of the lanes of `a` and `b`, each modulo 2 to the power of its width.
 #[inline]
 pub fn word_sub(a: u64, b: u64, tops: u64) -> u64
-    ensures { (start width : ℕ) → IsLane tops start width
+    ensures lanes { (start width : ℕ) → IsLane tops start width
+        → field start width result ≡ (field start width a + (2 ^ width - field start width b)) % 2 ^ width }
+    ensures last { (start width : ℕ) → IsLastLane tops start width
         → field start width result ≡ (field start width a + (2 ^ width - field start width b)) % 2 ^ width }
 {
     (a | tops).wrapping_sub(b & !tops) ^ ((a ^ !b) & tops)

@@ -1,15 +1,15 @@
 -- Words whose lanes are 0 or their top bit alone, and their lanes filled with ones.
-use Rattle.std.proofs.Common.{◌≡◌, ℕ, zero, suc, ◌+◌, ◌-◌, ◌*◌, ◌/◌, ◌%◌, ◌^◌, ◌<◌, ◌≤◌, ◌⊎◌, inl, inr, cond, eqb, Bool, true, false, not, refl, sym, ap, ap₂, subst, ◌∙◌, arith, mod-eq_of_lt, mod-lt, lit<, bit_or, bit_xor, pow-suc, mul_comm, one-mul, mul-add, mul-one}
-use Rattle.std.proofs.Math.Nat.{zero-mod, mod_self, div-eq_of_lt, add-mod_right}
-use Rattle.std.proofs.lemmas.Nat.{pow_pos, shr-shr, mod-pow-add, field_of, shr_le, or_lt, or_shifted}
+use Rattle.std.proofs.Common.{◌≡◌, ℕ, zero, suc, ◌+◌, ◌-◌, ◌*◌, ◌/◌, ◌%◌, ◌^◌, ◌<◌, ◌≤◌, ◌⊎◌, inl, inr, cond, eqb, Bool, true, false, not, refl, sym, ap, ap₂, subst, ◌∙◌, arith, mod-eq_of_lt, mod-lt, lit<, bit_and, bit_or, bit_xor, pow-suc, mul_comm, one-mul, mul-add, mul-one}
+use Rattle.std.proofs.Math.Nat.{zero-mod, mod_self, div-eq_of_lt, add-mod_right, mod-add-mod}
+use Rattle.std.proofs.lemmas.Nat.{pow_pos, shr-shr, mod-pow-add, field_of, shr_le, and_le_l, and_mask, or_lt, or_shifted}
 use Rattle.std.proofs.lemmas.Nat.Bits.{bit_at-zero, bit_at-pow_same}
 use Rattle.std.proofs.lemmas.Bool.{ne_eqb, cases_lt}
 use Rattle.std.proofs.Math.Pow.{mod-mod-pow}
-use Rattle.std.specs.Int.Bits.{xor_self, xor_zero_l}
+use Rattle.std.specs.Int.Bits.{and_zero_r, or_add_and, xor_self, xor_zero_l}
 use Rattle.std.specs.Int.{bit_at}
 use Rattle.wasmi_lanes.specs.Words.{field, IsLane, AreMarks}
 use Rattle.wasmi_types.specs.Wrapping.{Width, bits}
-use Rattle.wasmi_lanes.proofs.FieldLemmas.{field_or, field_sub, field_xor, top_of_lane}
+use Rattle.wasmi_lanes.proofs.FieldLemmas.{field_and, field_or, field_sub, field_xor, field_of_zero, same_words, top_of_lane}
 use Rattle.wasmi_lanes.proofs.WordVectorLemmas.{EachLane}
 
 -- the h bits of v from k are clear
@@ -42,71 +42,112 @@ lane_shifted h k v clear =
     let split : v / 2 ^ (k + h) % 2 ^ (h + 1) ≡ (v / 2 ^ (k + h) / 2 ^ 1 % 2 ^ h) * 2 ^ 1 + v / 2 ^ (k + h) % 2 ^ 1 = mod-pow-add (v / 2 ^ (k + h)) h 1 in
     ap (λ n. n % 2 ^ suc h) (shr-shr v h k) ∙ ap₂ (λ m n. v / 2 ^ m % 2 ^ n) place more ∙ omega (arith, split, high)
 
-fill_case : (h f b : ℕ) → (f ≡ 0) ⊎ (f ≡ 2 ^ h) → b ≡ bit_at f h → bit_or f ((f + (2 ^ suc h - b)) % 2 ^ suc h) ≡ cond (eqb f 0) 0 (2 ^ suc h - 1)
-fill_case h f b (inl e) at =
+-- a lane of marks less its lowest bit
+less_case : (h f b : ℕ) → (f ≡ 0) ⊎ (f ≡ 2 ^ h) → b ≡ bit_at f h → (f + (2 ^ suc h - b)) % 2 ^ suc h ≡ f - b
+less_case h f b (inl e) at =
     let none : b ≡ 0 = at ∙ ap (λ n. bit_at n h) e ∙ bit_at-zero h in
-    let all : (0 + (2 ^ suc h - 0)) % 2 ^ suc h ≡ 0 = ap (λ n. n % 2 ^ suc h) (let e : 0 + (2 ^ suc h - 0) ≡ 2 ^ suc h = omega arith in e) ∙ mod_self (2 ^ suc h) in
-    ap₂ (λ m n. bit_or m ((m + (2 ^ suc h - n)) % 2 ^ suc h)) e none ∙ all ∙ ap (λ n. cond (eqb n 0) 0 (2 ^ suc h - 1)) (sym e)
+    let all : f + (2 ^ suc h - b) ≡ 2 ^ suc h = omega arith in
+    let less : 0 ≡ f - b = omega arith in
+    ap (λ n. n % 2 ^ suc h) all ∙ mod_self (2 ^ suc h) ∙ less
+less_case h f b (inr e) at =
+    let one : b ≡ 1 = at ∙ ap (λ n. bit_at n h) e ∙ bit_at-pow_same h in
+    let sum : f + (2 ^ suc h - b) ≡ (f - b) + 2 ^ suc h = omega (arith, pow_pos h, pow_pos (suc h)) in
+    let small : f - b < 2 ^ suc h = omega (arith, pow-suc 2 h, pow_pos h) in
+    ap (λ n. n % 2 ^ suc h) sum ∙ add-mod_right (f - b) (2 ^ suc h) ∙ mod-eq_of_lt small
+
+-- it lies below the mark, and fills the lane with it
+fill_case : (h f b : ℕ) → (f ≡ 0) ⊎ (f ≡ 2 ^ h) → b ≡ bit_at f h → bit_or f (f - b) ≡ cond (eqb f 0) 0 (2 ^ suc h - 1)
+fill_case h f b (inl e) at =
+    let less : f - b ≡ 0 = omega arith in
+    ap₂ bit_or e less ∙ ap (λ n. cond (eqb n 0) 0 (2 ^ suc h - 1)) (sym e)
 fill_case h f b (inr e) at =
     let one : b ≡ 1 = at ∙ ap (λ n. bit_at n h) e ∙ bit_at-pow_same h in
-    let sum : 2 ^ h + (2 ^ suc h - 1) ≡ (2 ^ h - 1) + 2 ^ suc h = omega (arith, pow_pos h, pow_pos (suc h)) in
-    let small : 2 ^ h - 1 < 2 ^ suc h = omega (arith, pow-suc 2 h, pow_pos h) in
-    let low : (2 ^ h + (2 ^ suc h - 1)) % 2 ^ suc h ≡ 2 ^ h - 1 = ap (λ n. n % 2 ^ suc h) sum ∙ add-mod_right (2 ^ h - 1) (2 ^ suc h) ∙ mod-eq_of_lt small in
+    let less : f - b ≡ 2 ^ h - 1 = omega arith in
     let top : 1 * 2 ^ h ≡ 2 ^ h = one-mul (2 ^ h) in
     let below : 2 ^ h - 1 < 2 ^ h = omega (arith, pow_pos h) in
     let joined : bit_or (2 ^ h) (2 ^ h - 1) ≡ 2 ^ suc h - 1 = ap (λ n. bit_or n (2 ^ h - 1)) (sym top) ∙ or_shifted 1 h (2 ^ h - 1) below ∙ omega (arith, pow-suc 2 h, pow_pos h) in
     let some : eqb (2 ^ h) 0 ≡ false = ne_eqb (2 ^ h) 0 (λ z. absurd (omega (arith, pow_pos h))) in
-    ap₂ (λ m n. bit_or m ((m + (2 ^ suc h - n)) % 2 ^ suc h)) e one ∙ ap (bit_or (2 ^ h)) low ∙ joined ∙ sym (ap (λ n. cond (eqb n 0) 0 (2 ^ suc h - 1)) e ∙ ap (λ t. cond t 0 (2 ^ suc h - 1)) some)
+    ap₂ bit_or e less ∙ joined ∙ sym (ap (λ n. cond (eqb n 0) 0 (2 ^ suc h - 1)) e ∙ ap (λ t. cond t 0 (2 ^ suc h - 1)) some)
 
-fill_lane : (h k v : ℕ) → (field k (suc h) v ≡ 0) ⊎ (field k (suc h) v ≡ 2 ^ h) → Clear h v (k + suc h) →
-    field k (suc h) (bit_or v (v - v / 2 ^ h)) ≡ cond (eqb (field k (suc h) v) 0) 0 (2 ^ suc h - 1)
-fill_lane h k v mark next =
-    let here : Clear h v k = mark_clear h k v mark in
-    let shifted : field k (suc h) (v / 2 ^ h) ≡ bit_at (field k (suc h) v) h = lane_shifted h k v next ∙ sym (top_of_lane k h v) in
-    field_or k (suc h) v (v - v / 2 ^ h)
-    ∙ ap (bit_or (field k (suc h) v)) (field_sub k (suc h) v (v / 2 ^ h) (shr_le v h) (low_shifted h k v here))
-    ∙ fill_case h (field k (suc h) v) (field k (suc h) (v / 2 ^ h)) mark shifted
+apart_case : (h f b : ℕ) → (f ≡ 0) ⊎ (f ≡ 2 ^ h) → b ≡ bit_at f h → bit_and f (f - b) ≡ 0
+apart_case h f b (inl e) at =
+    let less : f - b ≡ 0 = omega arith in
+    ap (bit_and f) less ∙ and_zero_r f
+apart_case h f b (inr e) at =
+    let one : b ≡ 1 = at ∙ ap (λ n. bit_at n h) e ∙ bit_at-pow_same h in
+    let less : f - b ≡ 2 ^ h - 1 = omega arith in
+    ap₂ bit_and e less ∙ and_mask (2 ^ h) h ∙ mod_self (2 ^ h)
+
+module _ (h k v : ℕ) (mark : (field k (suc h) v ≡ 0) ⊎ (field k (suc h) v ≡ 2 ^ h)) (next : Clear h v (k + suc h)) where
+  abbrev lowest : ℕ
+  lowest = field k (suc h) (v / 2 ^ h)
+
+  lowest_is : lowest ≡ bit_at (field k (suc h) v) h
+  lowest_is = lane_shifted h k v next ∙ sym (top_of_lane k h v)
+
+  less_lane : field k (suc h) (v - v / 2 ^ h) ≡ field k (suc h) v - lowest
+  less_lane =
+      field_sub k (suc h) v (v / 2 ^ h) (shr_le v h) (low_shifted h k v (mark_clear h k v mark))
+      ∙ less_case h (field k (suc h) v) lowest mark lowest_is
+
+  fill_lane : field k (suc h) (bit_or v (v - v / 2 ^ h)) ≡ cond (eqb (field k (suc h) v) 0) 0 (2 ^ suc h - 1)
+  fill_lane = field_or k (suc h) v (v - v / 2 ^ h) ∙ ap (bit_or (field k (suc h) v)) less_lane ∙ fill_case h (field k (suc h) v) lowest mark lowest_is
+
+  apart_lane : field k (suc h) (bit_and v (v - v / 2 ^ h)) ≡ 0
+  apart_lane = field_and k (suc h) v (v - v / 2 ^ h) ∙ ap (bit_and (field k (suc h) v)) less_lane ∙ apart_case h (field k (suc h) v) lowest mark lowest_is
 
 -- in lanes of b bits of a word, n of them, each is 0 or its highest bit alone
 abbrev Marked : ℕ → ℕ → ℕ → Type 0
 Marked b n v = (i : ℕ) → i < n → (field (b * i) b v ≡ 0) ⊎ (field (b * i) b v ≡ 2 ^ (b - 1))
 
 -- what follows a lane is the next lane, or nothing
-next_clear : (h n v : ℕ) → v < 2 ^ 64 → n * suc h ≡ 64 → Marked (suc h) n v → (i : ℕ) → i < n → Clear h v (suc h * i + suc h)
+next_clear : (h n v : ℕ) → v < 2 ^ 64 → n * suc h ≡ 64 → ((i : ℕ) → i < n → (field (suc h * i) (suc h) v ≡ 0) ⊎ (field (suc h * i) (suc h) v ≡ 2 ^ h))
+    → (i : ℕ) → i < n → Clear h v (suc h * i + suc h)
 next_clear h n v fits whole marks i lt = elim (cases_lt (i + 1) n) [
   | inl more ↦
       let place : suc h * i + suc h ≡ suc h * (i + 1) = omega (arith, mul-add (suc h) i 1, mul-one (suc h)) in
-      let back : suc h - 1 ≡ h = omega arith in
-      ap (λ k. v / 2 ^ k % 2 ^ h) place ∙ mark_clear h (suc h * (i + 1)) v (subst (λ m. (field (suc h * (i + 1)) (suc h) v ≡ 0) ⊎ (field (suc h * (i + 1)) (suc h) v ≡ 2 ^ m)) back (marks (i + 1) more))
+      ap (λ k. v / 2 ^ k % 2 ^ h) place ∙ mark_clear h (suc h * (i + 1)) v (marks (i + 1) more)
   | inr last ↦
       let count : i + 1 ≡ n = omega arith in
       let place : suc h * i + suc h ≡ 64 = omega (arith, mul-add (suc h) i 1, mul-one (suc h), mul_comm (suc h) (i + 1), ap (λ m. m * suc h) count, whole) in
       ap (λ k. v / 2 ^ k % 2 ^ h) place ∙ ap (λ m. m % 2 ^ h) (div-eq_of_lt fits) ∙ zero-mod (2 ^ h)
 ]
 
--- marks that were filled, the difference modulo 2 ^ 64
+-- marks that were filled: twice each less its lane's lowest bit, modulo 2 ^ 64
 abbrev pub filled : ℕ → ℕ → ℕ
-filled v top = bit_or v ((v + (2 ^ 64 - v / 2 ^ top)) % 2 ^ 64)
+filled v top = ((v + v) % 2 ^ 64 + (2 ^ 64 - v / 2 ^ top)) % 2 ^ 64
 
-filled_is : (v top : ℕ) → v < 2 ^ 64 → filled v top ≡ bit_or v (v - v / 2 ^ top)
-filled_is v top fits =
+pub filled_below : (v top : ℕ) → filled v top < 2 ^ 64
+filled_below v top = mod-lt ((v + v) % 2 ^ 64 + (2 ^ 64 - v / 2 ^ top)) (lit< tt)
+
+-- where no mark stands among what lies below the marks
+filled_is : (v top : ℕ) → v < 2 ^ 64 → bit_and v (v - v / 2 ^ top) ≡ 0 → filled v top ≡ bit_or v (v - v / 2 ^ top)
+filled_is v top fits apart =
     let half : ℕ = v / 2 ^ top in
     let less : half ≤ v = shr_le v top in
-    let sum : v + (2 ^ 64 - half) ≡ (v - half) + 2 ^ 64 = omega arith in
-    let small : v - half < 2 ^ 64 = omega arith in
-    ap (bit_or v) (ap (λ n. n % 2 ^ 64) sum ∙ add-mod_right (v - half) (2 ^ 64) ∙ mod-eq_of_lt small)
+    let joined : bit_or v (v - half) ≡ v + (v - half) = omega (arith, or_add_and v (v - half)) in
+    let below : v - half < 2 ^ 64 = omega arith in
+    let small : bit_or v (v - half) < 2 ^ 64 = or_lt 64 v (v - half) fits below in
+    let sum : (v + v) + (2 ^ 64 - half) ≡ bit_or v (v - half) + 2 ^ 64 = omega arith in
+    mod-add-mod (v + v) (2 ^ 64) (2 ^ 64 - half) ∙ ap (λ n. n % 2 ^ 64) sum ∙ add-mod_right (bit_or v (v - half)) (2 ^ 64) ∙ mod-eq_of_lt small
 
-pub filled_below : (v top : ℕ) → v < 2 ^ 64 → filled v top < 2 ^ 64
-filled_below v top fits = or_lt 64 v ((v + (2 ^ 64 - v / 2 ^ top)) % 2 ^ 64) fits (mod-lt (v + (2 ^ 64 - v / 2 ^ top)) (lit< tt))
+module _ (h n v : ℕ) (fits : v < 2 ^ 64) (whole : n * suc h ≡ 64) (marks : (i : ℕ) → i < n → (field (suc h * i) (suc h) v ≡ 0) ⊎ (field (suc h * i) (suc h) v ≡ 2 ^ h)) where
+  apart : bit_and v (v - v / 2 ^ h) ≡ 0
+  apart =
+      let less : bit_and v (v - v / 2 ^ h) < 2 ^ 64 = omega (arith, and_le_l v (v - v / 2 ^ h)) in
+      same_words (suc h) n (bit_and v (v - v / 2 ^ h)) 0 (subst (λ k. bit_and v (v - v / 2 ^ h) < 2 ^ k) (sym whole) less) (pow_pos (n * suc h))
+      (λ i lt. apart_lane h (suc h * i) v (marks i lt) (next_clear h n v fits whole marks i lt) ∙ sym (field_of_zero (suc h * i) (suc h)))
+
+  filled_lane : (i : ℕ) → i < n → field (suc h * i) (suc h) (filled v h) ≡ cond (eqb (field (suc h * i) (suc h) v) 0) 0 (2 ^ suc h - 1)
+  filled_lane i lt = ap (field (suc h * i) (suc h)) (filled_is v h fits apart) ∙ fill_lane h (suc h * i) v (marks i lt) (next_clear h n v fits whole marks i lt)
 
 pub marks_filled : (b n v top : ℕ) → top ≡ b - 1 → v < 2 ^ 64 → n * b ≡ 64 → Marked b n v → (i : ℕ) → i < n
     → field (b * i) b (filled v top) ≡ cond (eqb (field (b * i) b v) 0) 0 (2 ^ b - 1)
 marks_filled zero n v top is fits whole marks i lt = absurd (omega (arith, whole))
 marks_filled (suc h) n v top is fits whole marks i lt =
     let back : suc h - 1 ≡ h = omega arith in
-    let at : top ≡ h = omega arith in
-    let mark : (field (suc h * i) (suc h) v ≡ 0) ⊎ (field (suc h * i) (suc h) v ≡ 2 ^ h) = subst (λ m. (field (suc h * i) (suc h) v ≡ 0) ⊎ (field (suc h * i) (suc h) v ≡ 2 ^ m)) back (marks i lt) in
-    ap (field (suc h * i) (suc h)) (filled_is v top fits) ∙ ap (λ m. field (suc h * i) (suc h) (bit_or v (v - v / 2 ^ m))) at ∙ fill_lane h (suc h * i) v mark (next_clear h n v fits whole marks i lt)
+    ap (λ m. field (suc h * i) (suc h) (filled v m)) (is ∙ back)
+    ∙ filled_lane h n v fits whole (λ j below. subst (λ m. (field (suc h * j) (suc h) v ≡ 0) ⊎ (field (suc h * j) (suc h) v ≡ 2 ^ m)) back (marks j below)) i lt
 
 -- ---- the lanes that differ, and those that are equal
 

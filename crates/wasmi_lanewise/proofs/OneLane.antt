@@ -1,14 +1,17 @@
 -- One lane of a vector: by its bytes, and among lanes that are chosen by their numbers.
-use Rattle.std.proofs.Common.{ℕ, ◌+◌, ◌-◌, ◌*◌, ◌/◌, ◌%◌, ◌^◌, ◌<◌, ◌≡◌, List, [], ◌∷◌, length, get_or, replicate, map, sym, ap, ap₂, ◌∙◌, arith, if◌then◌else◌, Bool, false, cond, eqb, zero-add, mul_comm, mul-add, mul-one, add-mul}
+use Rattle.std.proofs.Common.{ℕ, zero, suc, ◌+◌, ◌-◌, ◌*◌, ◌/◌, ◌%◌, ◌^◌, ◌<◌, ◌≡◌, List, [], ◌∷◌, length, get_or, replicate, map, refl, sym, ap, ap₂, ◌∙◌, arith, if◌then◌else◌, Bool, true, false, cond, eqb, ltb, zero-add, mul_comm, mul-add, mul-one, add-mul}
 use Rattle.std.proofs.lemmas.Nat.{shr-shr, mod-pow-add}
-use Rattle.std.specs.Simd.Lanes.{zip2, sel_l, number_l}
+use Rattle.std.specs.Simd.Lanes.{zip2, sel_l, number_l, digits_l}
+use Rattle.std.proofs.lemmas.Bool.{ltb-true}
+use Rattle.std.proofs.lemmas.List.{get_or-map}
 use Rattle.std.proofs.lemmas.Simd.{length-zip2, get_or-zip2, get_or-replicate, length-replicate, get_or-sel_l, tops_compared}
 use Rattle.std.proofs.lemmas.List.FromFn.{get_or-range_with_len, length-range_with_len}
 use Rattle.std.specs.List.{range_with_len}
-use Rattle.wasmi_types.specs.Wrapping.{Width, bits}
+use Rattle.wasmi_types.specs.Wrapping.{Width, w32, w64, bits}
 use Rattle.wasmi_lanes.specs.Lane.{lane}
 use Rattle.wasmi_lanes.specs.Vector.{with_lane}
 use Rattle.wasmi_lanes.proofs.Vectors.{lanes_make_vector}
+use Rattle.wasmi_lanewise.proofs.Chosen.{computed}
 use mir.Val.{hbits}
 use lib.Lanes.{top}
 
@@ -28,17 +31,18 @@ item_at w n k item numbers lanes i counted long inside =
     ∙ ap₂ (λ t x. cond t x (get_or lanes i 0)) test (get_or-replicate n i item 0 inside)
 
 -- the vector of n lanes that are an item where the number of the lane is k, and those of v elsewhere
-pub chosen_make_vector : (w : Width) (n v k at item r : ℕ) (numbers lanes : List ℕ) → n * bits w ≡ 128 → numbers ≡ range_with_len 0 n → length lanes ≡ n → k ≡ at
+pub chosen_make_vector : (w : Width) (n v k at item r : ℕ) (numbers places lanes : List ℕ) → n * bits w ≡ 128 → numbers ≡ range_with_len 0 n → places ≡ replicate n k → length lanes ≡ n → k ≡ at
     → ((i : ℕ) → i < n → get_or lanes i 0 ≡ lane w v i)
     → ((i : ℕ) → i < n
-    → get_or (sel_l (map (top (hbits w)) (zip2 (λ a b. cond (eqb a b) (2 ^ bits w - 1) 0) numbers (replicate n k))) (replicate n item) lanes) i 0 ≡ lane w r i)
+    → get_or (sel_l (map (top (hbits w)) (zip2 (λ a b. cond (eqb a b) (2 ^ bits w - 1) 0) numbers places)) (replicate n item) lanes) i 0 ≡ lane w r i)
     → r < 2 ^ 128
     → r ≡ with_lane w v at item
 unfolding with_lane
-chosen_make_vector w n v k at item r numbers lanes filled counted long is_at is written below =
+chosen_make_vector w n v k at item r numbers places lanes filled counted placed long is_at is written below =
     lanes_make_vector w n r _ filled below
     (λ i inside.
     sym (written i inside)
+    ∙ ap (λ ks. get_or (sel_l (map (top (hbits w)) (zip2 (λ a b. cond (eqb a b) (2 ^ bits w - 1) 0) numbers ks)) (replicate n item) lanes) i 0) placed
     ∙ item_at w n k item numbers lanes i counted long inside
     ∙ ap₂ (λ j x. if eqb i j then item else x) is_at (is i inside))
 
@@ -67,3 +71,34 @@ joined_halves b v k =
     let low : v / 2 ^ (b * (2 * k)) % 2 ^ b ≡ n % 2 ^ b = ap (λ m. v / 2 ^ m % 2 ^ b) first in
     let high : v / 2 ^ (b * (2 * k + 1)) % 2 ^ b ≡ n / 2 ^ b % 2 ^ b = ap (λ m. v / 2 ^ m % 2 ^ b) second ∙ ap (λ m. m % 2 ^ b) (sym (shr-shr v ((b + b) * k) b)) in
     omega (arith, low, ap (λ m. 2 ^ b * m) high, mul_comm (2 ^ b) (n / 2 ^ b % 2 ^ b), mod-pow-add n b b)
+
+-- the bytes of a word of 32 bits and of zeros, as indices
+abbrev indices_of : ℕ → List ℕ
+indices_of x = digits_l 256 16 (number_l (2 ^ 32) (x ∷ 0 ∷ 0 ∷ 0 ∷ []))
+
+-- where each word of a table has bytes below 16
+pub indices_inside : (f : ℕ → ℕ) (n k i : ℕ) → map (λ m. map (λ j. ltb j 16) (indices_of (f m))) (range_with_len 0 n) ≡ map (λ _. replicate 16 true) (range_with_len 0 n) → k < n → i < 16
+    → get_or (indices_of (f k)) i 0 < 16
+indices_inside f n k i same below inside =
+    let all : map (λ j. ltb j 16) (indices_of (f k)) ≡ replicate 16 true = computed (λ m. map (λ j. ltb j 16) (indices_of (f m))) (λ _. replicate 16 true) n k [] same below in
+    let long : length (indices_of (f k)) ≡ 16 = refl in
+    ltb-true (get_or (indices_of (f k)) i 0) 16
+    (sym (get_or-map (λ j. ltb j 16) (indices_of (f k)) i 0 false (omega arith)) ∙ ap (λ l. get_or l i false) all ∙ get_or-replicate 16 i true false inside)
+
+-- ---- a lane of 64 bits, by its halves
+
+same_word : (u r k : ℕ) → lane w32 r (2 * k) ≡ lane w32 u (2 * k) → lane w32 r (2 * k + 1) ≡ lane w32 u (2 * k + 1) → lane w64 r k ≡ lane w64 u k
+same_word u r k low high = sym (joined_halves 32 r k) ∙ ap₂ (λ x y. x + 2 ^ 32 * y) low high ∙ joined_halves 32 u k
+
+-- the lower half of p and the upper half of q, of which one is that of v
+pub halves_make_vector : (p q v at item r : ℕ) → r < 2 ^ 128
+    → ((i : ℕ) → i < 2 → lane w32 r i ≡ lane w32 p i) → ((i : ℕ) → i < 2 → lane w32 r (2 + i) ≡ lane w32 q (2 + i))
+    → lane w64 p 0 ≡ (if eqb 0 at then item else lane w64 v 0) → lane w64 q 1 ≡ (if eqb 1 at then item else lane w64 v 1)
+    → r ≡ with_lane w64 v at item
+unfolding with_lane
+halves_make_vector p q v at item r below lower upper first second = lanes_make_vector w64 2 r _ refl below word
+  where
+    word : (i : ℕ) → i < 2 → lane w64 r i ≡ (if eqb i at then item else lane w64 v i)
+    word zero inside = same_word p r 0 (lower 0 (omega arith)) (lower 1 (omega arith)) ∙ first
+    word (suc zero) inside = same_word q r 1 (upper 0 (omega arith)) (upper 1 (omega arith)) ∙ second
+    word (suc (suc i)) inside = absurd (omega arith)

@@ -7,6 +7,7 @@
 mod binary;
 mod bitwise;
 mod comparison;
+mod fractions;
 mod one_lane;
 mod order;
 mod shuffle;

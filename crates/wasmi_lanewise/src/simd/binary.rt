@@ -1,10 +1,10 @@
 //! Binary instructions.
 
-ghost use Rattle.std.specs.Prelude.{◌≡◌, ◌*◌, ◌%◌, ◌^◌, ◌+ℤ◌, ◌-ℤ◌, pos, negsuc, true, int_le};
+ghost use Rattle.std.specs.Prelude.{◌≡◌, ◌*◌, ◌%◌, ◌^◌, ◌+ℤ◌, ◌-ℤ◌};
 ghost use Rattle.wasmi_types.specs.Wrapping.{w8, w16, w32, w64, clamp_signed};
 ghost use Rattle.wasmi_lanewise.specs.VectorTable as vector;
 
-use crate::simd::{order, words};
+use crate::simd::{fractions, order, words};
 use wasmi_lanes::{I8x16, I16x8, I32x4, U8x16, U16x8, U32x4, on_vectors};
 use wasmi_raw::V128;
 
@@ -184,7 +184,7 @@ pub fn i16x8_sub_sat_u(lhs: V128, rhs: V128) -> V128
 pub fn i16x8_q15mulr_sat_s(lhs: V128, rhs: V128) -> V128
     ensures { result ≡ vector.q15mulr_sat_s lhs rhs }
 {
-    on_vectors::binary::<I16x8, _>(lhs, rhs, |x, y| q15mulr_sat_s(x, y))
+    fractions::rounded_products(lhs, rhs)
 }
 
 /// The smaller ones of the lanes, read signed.
@@ -342,21 +342,4 @@ fn clamped_i16(x: i32) -> i16
     ensures { result ≡ clamp_signed w16 x }
 {
     x.clamp(-32768, 32767) as i16
-}
-
-// The product of two fractions of 2 to the power 15, halves rounded up, clamped to the signed range.
-#[inline]
-fn q15mulr_sat_s(x: i16, y: i16) -> i16
-    ensures { result ≡ clamp_signed w16 (vector.q15mulr x y) }
-{
-    rounded_product(x, y).min(0x7fff) as i16
-}
-
-#[inline]
-fn rounded_product(x: i16, y: i16) -> i32
-    ensures value { result ≡ vector.q15mulr x y }
-    ensures at_least { int_le (negsuc 32767) result ≡ true }
-    ensures at_most { int_le result (pos 32768) ≡ true }
-{
-    (i32::from(x) * i32::from(y) + 0x4000) >> 15
 }

@@ -23,9 +23,18 @@ pub fn i8x16_shuffle(a: V128, b: V128, s: [ImmLaneIdx32; 16]) -> V128
 pub fn i8x16_swizzle(a: V128, s: V128) -> V128
     ensures { result ≡ vector.swizzle a s }
 {
-    let indices = bytes_of(s);
-    let low = picked(bytes_of(a), indices);
-    from_bytes(low_or_high(indices, low, u8x16::splat(0)))
+    from_bytes(picked_or_zero(bytes_of(a), bytes_of(s)))
+}
+
+// The lanes of `table` at the indices, and 0 where an index is above 15: a saturating sum brings
+// such an index to 128 or more, at which the processor's instruction gives 0.
+#[inline(always)]
+fn picked_or_zero(table: u8x16, indices: u8x16) -> u8x16
+    ensures lanes { (i : ℕ) → i < 16 → slice_index result i
+        ≡ (if nat_lt (slice_index indices i) 16 then slice_index table (slice_index indices i) else 0) }
+{
+    let positions = indices.saturating_add(u8x16::splat(0x70)) & u8x16::splat(0x8f);
+    table.swizzle_dyn_within::<16>(positions)
 }
 
 /// The lanes of `table` at the low four bits of the indices.

@@ -19,7 +19,7 @@ use wasmi_raw::V128;
 pub(super) fn sums<T: WordLane>(lhs: V128, rhs: V128) -> V128
     ensures { result ≡ vector.add T.width lhs rhs }
 {
-    let tops = T::TOPS;
+    let tops = T::INNER_TOPS;
     let (a_low, a_high) = lhs.words();
     let (b_low, b_high) = rhs.words();
     V128::from_words(word_add(a_low, b_low, tops), word_add(a_high, b_high, tops))
@@ -30,7 +30,7 @@ pub(super) fn sums<T: WordLane>(lhs: V128, rhs: V128) -> V128
 pub(super) fn differences<T: WordLane>(lhs: V128, rhs: V128) -> V128
     ensures { result ≡ vector.sub T.width lhs rhs }
 {
-    let tops = T::TOPS;
+    let tops = T::INNER_TOPS;
     let (a_low, a_high) = lhs.words();
     let (b_low, b_high) = rhs.words();
     V128::from_words(word_sub(a_low, b_low, tops), word_sub(a_high, b_high, tops))
@@ -41,7 +41,7 @@ pub(super) fn differences<T: WordLane>(lhs: V128, rhs: V128) -> V128
 pub(super) fn negations<T: WordLane>(v: V128) -> V128
     ensures { result ≡ vector.neg T.width v }
 {
-    let tops = T::TOPS;
+    let tops = T::INNER_TOPS;
     let (low, high) = v.words();
     V128::from_words(word_sub(0, low, tops), word_sub(0, high, tops))
 }
@@ -75,8 +75,8 @@ pub(super) fn different<T: WordLane>(lhs: V128, rhs: V128) -> V128
 }
 
 // The vector of two words of which each lane is 0 or its highest bit alone, those with the bit
-// filled with ones. Of plain words LLVM would take two vectors a turn of a loop, and regroup their
-// words before and after.
+// filled with ones: twice the bit, which is the bit above the lane, less the lane's lowest. Of plain
+// words LLVM would take two vectors a turn of a loop, and regroup their words before and after.
 #[inline(always)]
 fn filled<T: WordLane>(low: u64, high: u64) -> V128
     requires low { AreMarks T.width low }
@@ -85,7 +85,7 @@ fn filled<T: WordLane>(low: u64, high: u64) -> V128
 {
     let marks = u64x2::from_array([low, high]);
     let ones = marks >> u64x2::splat(u64::from(T::BITS - 1));
-    from_words(marks | (marks - ones))
+    from_words((marks + marks) - ones)
 }
 
 /// The averages of the lanes, read unsigned, halves rounded up.

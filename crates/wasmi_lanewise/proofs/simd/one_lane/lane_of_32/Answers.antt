@@ -11,12 +11,12 @@ returns c =
     let at = c.args.at in
     let index = c.from.ensures in
     let inside : at < 4 = omega (arith, index.0, index.1) in
-    let long : length c.picked.result ≡ 16 = search rules in
-    let byte : (i k : ℕ) → i < 4 → k ≡ 4 * at + i → slice_index c.picked.result i ≡ lane w8 v k =
+    let long : length c.picked_inside.result ≡ 16 = search rules in
+    let byte : (i k : ℕ) → i < 4 → k ≡ 4 * at + i → slice_index c.picked_inside.result i ≡ lane w8 v k =
     λ i k below is.
-    let place : slice_index c.indices_of_32-indices.result i % 16 ≡ k = omega (arith, index.0, inside, is, c.indices_of_32-indices.ensures.lanes i below) in
-    c.picked.ensures.lanes i (omega arith) ∙ ap (slice_index c.bytes_of.result) place ∙ c.bytes_of.ensures.lanes k (omega arith) in
-    first_four_bytes c.picked.result _ _ _ _ long
+    let place : slice_index c.indices_of_32-indices.result i ≡ k = omega (arith, index.0, inside, is, c.indices_of_32-indices.ensures.lanes i below) in
+    c.picked_inside.ensures.lanes i (omega arith) ∙ ap (slice_index c.bytes_of.result) place ∙ c.bytes_of.ensures.lanes k (omega arith) in
+    first_four_bytes c.picked_inside.result _ _ _ _ long
     (byte 0 (2 * (2 * at)) (omega arith) (omega arith)) (byte 1 (2 * (2 * at) + 1) (omega arith) (omega arith))
     (byte 2 (2 * (2 * at + 1)) (omega arith) (omega arith)) (byte 3 (2 * (2 * at + 1) + 1) (omega arith) (omega arith))
     (lane_below w8 v (2 * (2 * at))) (lane_below w8 v (2 * (2 * at) + 1)) (lane_below w8 v (2 * (2 * at + 1))) (lane_below w8 v (2 * (2 * at + 1) + 1))

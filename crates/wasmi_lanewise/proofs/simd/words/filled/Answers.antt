@@ -16,8 +16,8 @@ returns g c =
         filled c.args.low c.from.result,
         filled c.args.high c.from.result,
         c.from_words.ensures _ _ refl,
-        filled_below c.args.low c.from.result low,
-        filled_below c.args.high c.from.result high,
+        filled_below c.args.low c.from.result,
+        filled_below c.args.high c.from.result,
         marks_filled (bits w) (lanes_in_word w) c.args.low c.from.result top low law.whole c.requires.low,
         marks_filled (bits w) (lanes_in_word w) c.args.high c.from.result top high law.whole c.requires.high,
       );
