@@ -2,7 +2,7 @@
 use Rattle.std.proofs.Common.{◌≡◌, ℕ, zero, suc, ◌+◌, ◌-◌, ◌*◌, ◌/◌, ◌%◌, ◌^◌, ◌<◌, ◌≤◌, refl, inl, inr, sym, ap, ap₂, subst, ◌∙◌, arith, Bool, true, false, not, eqb, nat_eq, ◌&&◌, if◌then◌else◌, bit_and, bit_or, true≢false, zero-mul, suc-mul, mul-suc, mul-zero, mul_comm, mul-add, mul_assoc, one-mul, add-mul, le_refl, lit<, mod-eq_of_lt, pow-suc, suc-add, zero-add}
 use Rattle.std.proofs.Math.Nat.{div-eq_of_lt, mod-one, add-mod_right}
 use Rattle.std.proofs.Math.Dec.{eqb-suc-zero}
-use Rattle.std.proofs.lemmas.Nat.{div-add-mod', div-mul-add, mod-pow-add, shr_below, pow_pos, pow-add, mul-le, and_le_l, and_le_r, or_shifted, or_comm}
+use Rattle.std.proofs.lemmas.Nat.{div-mul-add, mod-pow-add, pow_pos, pow-add, mul-le, and_le_l, and_le_r, or_shifted, or_comm}
 use Rattle.std.proofs.lemmas.Nat.Bits.{and_pow}
 use Rattle.std.specs.Int.Bits.{and_self}
 use Rattle.std.proofs.lemmas.Bool.{eqb-true, eq-eqb, cases_eq, cases_lt}
@@ -10,25 +10,10 @@ use Rattle.std.proofs.Math.Pow.{pow_mono}
 use Rattle.wasmi_types.specs.Wrapping.{Width, bits}
 use Rattle.wasmi_lanes.specs.Lane.{lane, unsigned}
 use Rattle.wasmi_lanes.specs.Words.{field, lanes_in_word, in_each_lane}
-use Rattle.wasmi_lanes.proofs.FieldLemmas.{first_lane, next_lane, field_lt, field_and, field_not, field_wrapping_sub, field_of_zero}
+use Rattle.wasmi_lanes.proofs.FieldLemmas.{field_lt, field_and, field_not, field_wrapping_sub, field_of_zero, same_words}
 use Rattle.wasmi_lanes.proofs.Vectors.{lanes_of_width}
 use Rattle.wasmi_lanes.proofs.WordVectorLemmas.{AreWords, low_lane, high_lane, filled, some_bits, lane_of_each, top_in_range}
 use Rattle.wasmi_simd.specs.Widening.{holds_below, first_bits, every_lane, lane_bits}
-
--- two words with the same lanes are one
-same_words : (w n a b : ℕ) → a < 2 ^ (n * w) → b < 2 ^ (n * w) → ((i : ℕ) → i < n → field (w * i) w a ≡ field (w * i) w b) → a ≡ b
-same_words w zero a b fa fb each =
-    let none : 0 * w ≡ 0 = zero-mul w in
-    let za : a < 2 ^ 0 = subst (λ k. a < 2 ^ k) none fa in
-    let zb : b < 2 ^ 0 = subst (λ k. b < 2 ^ k) none fb in
-    omega arith
-same_words w (suc n) a b fa fb each =
-    let more : suc n * w ≡ n * w + w = suc-mul n w in
-    let fa' : a < 2 ^ (n * w + w) = subst (λ k. a < 2 ^ k) more fa in
-    let fb' : b < 2 ^ (n * w + w) = subst (λ k. b < 2 ^ k) more fb in
-    let low : a % 2 ^ w ≡ b % 2 ^ w = sym (first_lane w a) ∙ each 0 (omega arith) ∙ first_lane w b in
-    let high : a / 2 ^ w ≡ b / 2 ^ w = same_words w n (a / 2 ^ w) (b / 2 ^ w) (shr_below a (n * w) w fa') (shr_below b (n * w) w fb') (λ i lt. sym (next_lane w i a) ∙ each (suc i) (omega arith) ∙ next_lane w i b) in
-    sym (div-add-mod' a (2 ^ w)) ∙ ap₂ (λ m n. m * 2 ^ w + n) high low ∙ div-add-mod' b (2 ^ w)
 
 -- ---- tests that hold of all numbers below n
 
