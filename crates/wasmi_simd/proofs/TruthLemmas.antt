@@ -1,14 +1,18 @@
 -- Tests of the lanes of a vector, made of the tests of its two words.
-use Rattle.std.proofs.Common.{◌≡◌, ℕ, zero, suc, ◌+◌, ◌-◌, ◌*◌, ◌/◌, ◌%◌, ◌^◌, ◌<◌, ◌≤◌, refl, inl, inr, sym, ap, ap₂, subst, ◌∙◌, arith, Bool, true, false, not, cond, eqb, nat_eq, ◌&&◌, if◌then◌else◌, bit_or, zero-mul, suc-mul, mul_comm, mul-add, mul_assoc, one-mul, add-mul, le_refl, lit<, mod-eq_of_lt, pow-suc, suc-add, zero-add}
-use Rattle.std.proofs.lemmas.Nat.{div-add-mod', shr_below, pow_pos, pow-add, mul-le, or_shifted, or_comm}
-use Rattle.std.proofs.lemmas.Bool.{eqb-true, eq-eqb, cases_eq}
+use Rattle.std.proofs.Common.{◌≡◌, ℕ, zero, suc, ◌+◌, ◌-◌, ◌*◌, ◌/◌, ◌%◌, ◌^◌, ◌<◌, ◌≤◌, refl, inl, inr, sym, ap, ap₂, subst, ◌∙◌, arith, Bool, true, false, not, cond, eqb, nat_eq, ◌&&◌, if◌then◌else◌, bit_and, bit_or, true≢false, zero-mul, suc-mul, mul-suc, mul-zero, mul_comm, mul-add, mul_assoc, one-mul, add-mul, le_refl, lit<, mod-eq_of_lt, pow-suc, suc-add, zero-add}
+use Rattle.std.proofs.Math.Nat.{div-eq_of_lt, mod-one, add-mod_right}
+use Rattle.std.proofs.Math.Dec.{eqb-suc-zero}
+use Rattle.std.proofs.lemmas.Nat.{div-add-mod', div-mul-add, mod-pow-add, shr_below, pow_pos, pow-add, mul-le, and_le_l, and_le_r, or_shifted, or_comm}
+use Rattle.std.proofs.lemmas.Nat.Bits.{and_pow}
+use Rattle.std.specs.Int.Bits.{and_self}
+use Rattle.std.proofs.lemmas.Bool.{eqb-true, eq-eqb, cases_eq, cases_lt}
 use Rattle.std.proofs.Math.Pow.{pow_mono}
 use Rattle.wasmi_types.specs.Wrapping.{Width, bits}
 use Rattle.wasmi_lanes.specs.Lane.{lane, unsigned}
-use Rattle.wasmi_lanes.specs.Words.{field, IsLane, lanes_in_word}
-use Rattle.wasmi_lanes.proofs.FieldLemmas.{first_lane, next_lane, field_of_zero}
+use Rattle.wasmi_lanes.specs.Words.{field, lanes_in_word, in_each_lane}
+use Rattle.wasmi_lanes.proofs.FieldLemmas.{first_lane, next_lane, field_lt, field_and, field_not, field_wrapping_sub, field_of_zero}
 use Rattle.wasmi_lanes.proofs.Vectors.{lanes_of_width}
-use Rattle.wasmi_lanes.proofs.WordVectorLemmas.{AreWords, EachLane, low_lane, high_lane, filled}
+use Rattle.wasmi_lanes.proofs.WordVectorLemmas.{AreWords, low_lane, high_lane, filled, some_bits, lane_of_each, top_in_range}
 use Rattle.wasmi_simd.specs.Widening.{holds_below, first_bits, every_lane, lane_bits}
 
 -- two words with the same lanes are one
@@ -108,34 +112,123 @@ same_truth true b to from = sym (to refl)
 same_truth false true to from = from refl
 same_truth false false to from = refl
 
--- all tops are marked where no lane is 0
-module _ (w : Width) (tops v r : ℕ) (whole : lanes_in_word w * bits w ≡ 64) (fits_tops : tops < 2 ^ 64) (fits_r : r < 2 ^ 64)
-    (lanes : EachLane w (λ k. IsLane tops k (bits w)))
-    (marks : EachLane w (λ k. field k (bits w) r ≡ cond (eqb (field k (bits w) v) (field k (bits w) 0)) 0 (2 ^ (bits w - 1)))) where
-  mark_of : EachLane w (λ k. field k (bits w) r ≡ (if not (nat_eq (field k (bits w) v) 0) then 2 ^ (bits w - 1) else 0))
-  mark_of i inside =
-      let k : ℕ = bits w * i in
-      marks i inside ∙ ap (λ n. cond (eqb (field k (bits w) v) n) 0 (2 ^ (bits w - 1))) (field_of_zero k (bits w)) ∙ turned (eqb (field k (bits w) v) 0) (2 ^ (bits w - 1))
-    where
-      turned : (t : Bool) (p : ℕ) → cond t 0 p ≡ (if not t then p else 0)
-      turned true p = refl
-      turned false p = refl
+-- a number below 2 ^ h has no bit h
+low_top : (h y : ℕ) → y < 2 ^ h → bit_and y (2 ^ h) ≡ 0
+low_top h y less = and_pow y h ∙ ap (λ n. n % 2 * 2 ^ h) (div-eq_of_lt less) ∙ zero-mul (2 ^ h)
 
-  is_marked : (t : Bool) (p : ℕ) → 0 < p → (if t then p else 0) ≡ p → t ≡ true
-  is_marked true p some is = refl
-  is_marked false p some is = absurd (omega arith)
+-- the highest bit of x - 1 that x doesn't have: there is one where x is 0, and 1 is borrowed
+top_of_borrow : (h x : ℕ) → x < 2 ^ suc h → bit_and (bit_and ((x + (2 ^ suc h - 1)) % 2 ^ suc h) (2 ^ suc h - 1 - x)) (2 ^ h) ≡ (if nat_eq x 0 then 2 ^ h else 0)
+top_of_borrow h zero fits =
+    let m : ℕ = 2 ^ suc h in
+    let ones : ℕ = m - 1 in
+    let some : 0 < 2 ^ h = pow_pos h in
+    let twice : m ≡ 2 ^ h * 2 = pow-suc 2 h in
+    let same : (0 + ones) % m ≡ ones = ap (λ n. n % m) (zero-add ones) ∙ mod-eq_of_lt (omega arith) in
+    let parts : ones ≡ 1 * 2 ^ h + (2 ^ h - 1) = omega arith in
+    let top : ones / 2 ^ h ≡ 1 = ap (λ n. n / 2 ^ h) parts ∙ div-mul-add 1 (2 ^ h) (2 ^ h - 1) (omega arith) in
+    let all : ones - 0 ≡ ones = omega arith in
+    ap₂ (λ m n. bit_and (bit_and m n) (2 ^ h)) same all ∙ ap (λ n. bit_and n (2 ^ h)) (and_self ones) ∙ and_pow ones h ∙ ap (λ n. n % 2 * 2 ^ h) top ∙ one-mul (2 ^ h)
+top_of_borrow h (suc x) fits =
+    let m : ℕ = 2 ^ suc h in
+    let rest : ℕ = m - 1 - suc x in
+    let twice : m ≡ 2 ^ h * 2 = pow-suc 2 h in
+    let moved : suc x + (m - 1) ≡ x + m = omega arith in
+    let less : (suc x + (m - 1)) % m ≡ x = ap (λ n. n % m) moved ∙ add-mod_right x m ∙ mod-eq_of_lt (omega arith) in
+    let clear : bit_and (bit_and x rest) (2 ^ h) ≡ 0 =
+    elim (cases_lt x (2 ^ h)) as (λ _. bit_and (bit_and x rest) (2 ^ h) ≡ 0) [
+      | inl below ↦ low_top h (bit_and x rest) (omega (arith, and_le_l x rest))
+      | inr above ↦ low_top h (bit_and x rest) (omega (arith, and_le_r x rest))
+    ] in
+    ap (λ n. bit_and (bit_and n rest) (2 ^ h)) less ∙ clear ∙ sym (ap (λ t. if t then 2 ^ h else 0) (eqb-suc-zero x))
 
-  pub no_zero_is : eqb r tops ≡ holds_below (lanes_in_word w) (λ i. not (nat_eq (field (bits w * i) (bits w) v) 0))
-  no_zero_is =
-      let n : ℕ = lanes_in_word w in
-      let test : ℕ → Bool = λ i. not (nat_eq (field (bits w * i) (bits w) v) 0) in
-      let all_bits : 64 ≡ n * bits w = sym whole in
-      same_truth (eqb r tops) (holds_below n test)
-      (λ e. holds_of_each n test
-      (λ i inside. is_marked (test i) (2 ^ (bits w - 1)) (pow_pos (bits w - 1)) (sym (mark_of i inside) ∙ ap (field (bits w * i) (bits w)) (eqb-true r tops e) ∙ (lanes i inside).top)))
-      (λ all. eq-eqb r tops
-      (same_words (bits w) n r tops (subst (λ k. r < 2 ^ k) all_bits fits_r) (subst (λ k. tops < 2 ^ k) all_bits fits_tops)
-      (λ i inside. mark_of i inside ∙ ap (λ t. if t then 2 ^ (bits w - 1) else 0) (each_holds n test all i inside) ∙ sym ((lanes i inside).top))))
+-- a mark stands in the lowest lane that is 0, and none where no lane is 0: nothing is borrowed from a lane below which there is no 0
+module _ (h n v ones tops : ℕ) (whole : n * suc h ≡ 64) (fits : v < 2 ^ 64) (fits_ones : ones < 2 ^ 64)
+    (each_one : (i : ℕ) → i < n → field (suc h * i) (suc h) ones ≡ 1) (each_top : (i : ℕ) → i < n → field (suc h * i) (suc h) tops ≡ 2 ^ h) where
+  abbrev is_some : ℕ → Bool
+  is_some i = not (nat_eq (field (suc h * i) (suc h) v) 0)
+
+  abbrev marks : ℕ
+  marks = bit_and (bit_and ((v + (2 ^ 64 - ones)) % 2 ^ 64) (2 ^ 64 - 1 - v)) tops
+
+  lane_inside : (i : ℕ) → i < n → suc h * i + suc h ≤ 64
+  lane_inside i inside = omega (arith, whole, mul-le (suc i) (suc h) n (suc h) (omega arith) (le_refl (suc h)), suc-mul i (suc h), mul_comm i (suc h))
+
+  some_there : (t : ℕ) → not (nat_eq t 0) ≡ true → 1 ≤ t
+  some_there zero is = absurd (true≢false (sym is))
+  some_there (suc t) is = omega arith
+
+  enough_below : (i : ℕ) → i < n → ((j : ℕ) → j < i → is_some j ≡ true) → ones % 2 ^ (suc h * i) ≤ v % 2 ^ (suc h * i)
+  unfolding field
+  enough_below zero inside some =
+      let none : suc h * 0 ≡ 0 = mul-zero (suc h) in
+      subst (λ k. ones % 2 ^ k ≤ v % 2 ^ k) (sym none) (omega (arith, mod-one ones))
+  enough_below (suc i) inside some =
+      let b : ℕ = suc h * i in
+      let p : ℕ = 2 ^ b in
+      let x : ℕ = v / p % 2 ^ suc h in
+      let next : suc h * suc i ≡ suc h + b = omega (arith, mul-suc (suc h) i) in
+      let low : ones % p ≤ v % p = enough_below i (omega arith) (λ j below. some j (omega arith)) in
+      let here : 1 ≤ x = some_there x (some i (omega arith)) in
+      let rows : 1 * p ≤ x * p = mul-le 1 p x p here (le_refl p) in
+      let one : ones / p % 2 ^ suc h ≡ 1 = each_one i (omega arith) in
+      let left : ones % 2 ^ (suc h + b) ≡ 1 * p + ones % p = mod-pow-add ones (suc h) b ∙ ap (λ k. k * p + ones % p) one in
+      subst (λ k. ones % 2 ^ k ≤ v % 2 ^ k) (sym next) (omega (arith, left, mod-pow-add v (suc h) b))
+
+  mark_is : (i : ℕ) → i < n → ((j : ℕ) → j < i → is_some j ≡ true) → field (suc h * i) (suc h) marks ≡ (if nat_eq (field (suc h * i) (suc h) v) 0 then 2 ^ h else 0)
+  mark_is i inside some =
+      let k : ℕ = suc h * i in
+      let w : ℕ = suc h in
+      let less : ℕ = (v + (2 ^ 64 - ones)) % 2 ^ 64 in
+      let rest : ℕ = 2 ^ 64 - 1 - v in
+      let borrowed : field k w less ≡ (field k w v + (2 ^ w - 1)) % 2 ^ w =
+      field_wrapping_sub k w 64 v ones (lane_inside i inside) fits_ones (enough_below i inside some) ∙ ap (λ m. (field k w v + (2 ^ w - m)) % 2 ^ w) (each_one i inside) in
+      field_and k w (bit_and less rest) tops
+      ∙ ap₂ bit_and (field_and k w less rest ∙ ap₂ bit_and borrowed (field_not k w 64 v (lane_inside i inside) fits)) (each_top i inside)
+      ∙ top_of_borrow h (field k w v) (field_lt k w v)
+
+  no_mark : (t : ℕ) → (if nat_eq t 0 then 2 ^ h else 0) ≡ 0 → not (nat_eq t 0) ≡ true
+  no_mark zero is = absurd (omega (arith, pow_pos h))
+  no_mark (suc t) is = ap not (eqb-suc-zero t)
+
+  some_below : marks ≡ 0 → (i : ℕ) → i ≤ n → (j : ℕ) → j < i → is_some j ≡ true
+  some_below none zero le j below = absurd (omega arith)
+  some_below none (suc i) le j below = elim (cases_eq j i) [
+    | inl last ↦
+        let clear : field (suc h * i) (suc h) marks ≡ 0 = ap (field (suc h * i) (suc h)) none ∙ field_of_zero (suc h * i) (suc h) in
+        ap is_some last ∙ no_mark (field (suc h * i) (suc h) v) (sym (mark_is i (omega arith) (some_below none i (omega arith))) ∙ clear)
+    | inr other ↦ some_below none i (omega arith) j (omega arith)
+  ]
+
+  no_zero_marked : (t : ℕ) → not (nat_eq t 0) ≡ true → (if nat_eq t 0 then 2 ^ h else 0) ≡ 0
+  no_zero_marked zero is = absurd (true≢false (sym is))
+  no_zero_marked (suc t) is = ap (λ b. if b then 2 ^ h else 0) (eqb-suc-zero t)
+
+  pub no_mark_is : tops < 2 ^ 64 → eqb marks 0 ≡ holds_below n is_some
+  no_mark_is fits_tops =
+      let all_bits : 64 ≡ n * suc h = sym whole in
+      let below : marks < 2 ^ 64 = omega (arith, and_le_r (bit_and ((v + (2 ^ 64 - ones)) % 2 ^ 64) (2 ^ 64 - 1 - v)) tops) in
+      same_truth (eqb marks 0) (holds_below n is_some)
+      (λ e. holds_of_each n is_some (λ i inside. some_below (eqb-true marks 0 e) n (le_refl n) i inside))
+      (λ all. eq-eqb marks 0
+      (same_words (suc h) n marks 0 (subst (λ k. marks < 2 ^ k) all_bits below) (pow_pos (n * suc h))
+      (λ i inside.
+      mark_is i inside (λ j less. each_holds n is_some all j (omega arith)) ∙ no_zero_marked (field (suc h * i) (suc h) v) (each_holds n is_some all i inside) ∙ sym (field_of_zero (suc h * i) (suc h)))))
+
+no_mark_at : (b n v ones tops : ℕ) → 0 < b → n * b ≡ 64 → v < 2 ^ 64 → ones < 2 ^ 64 → tops < 2 ^ 64
+    → ((i : ℕ) → i < n → field (b * i) b ones ≡ 1) → ((i : ℕ) → i < n → field (b * i) b tops ≡ 2 ^ (b - 1))
+    → eqb (bit_and (bit_and ((v + (2 ^ 64 - ones)) % 2 ^ 64) (2 ^ 64 - 1 - v)) tops) 0 ≡ holds_below n (λ i. not (nat_eq (field (b * i) b v) 0))
+no_mark_at zero n v ones tops pos whole fits fits_ones fits_tops each_one each_top = absurd (omega arith)
+no_mark_at (suc h) n v ones tops pos whole fits fits_ones fits_tops each_one each_top =
+    let back : suc h - 1 ≡ h = omega arith in
+    no_mark_is h n v ones tops whole fits fits_ones each_one (λ i inside. each_top i inside ∙ ap (λ k. 2 ^ k) back) fits_tops
+
+-- no lane of w bits of v is 0
+pub no_mark_in_word : (w : Width) (v ones tops : ℕ) → lanes_in_word w * bits w ≡ 64 → v < 2 ^ 64 → ones < 2 ^ 64 → tops < 2 ^ 64
+    → ones ≡ in_each_lane w 1 → tops ≡ in_each_lane w (2 ^ (bits w - 1))
+    → eqb (bit_and (bit_and ((v + (2 ^ 64 - ones)) % 2 ^ 64) (2 ^ 64 - 1 - v)) tops) 0 ≡ holds_below (lanes_in_word w) (λ i. not (nat_eq (field (bits w * i) (bits w) v) 0))
+no_mark_in_word w v ones tops whole fits fits_ones fits_tops is_ones is_tops =
+    no_mark_at (bits w) (lanes_in_word w) v ones tops (some_bits w) whole fits fits_ones fits_tops
+    (lane_of_each w 1 ones (pow_mono {i = 1} {j = bits w} (some_bits w)) is_ones) (lane_of_each w (2 ^ (bits w - 1)) tops (top_in_range (bits w) (some_bits w)) is_tops)
 
 module _ (w : Width) (whole : lanes_in_word w * bits w ≡ 64) (v low high : ℕ) (words : AreWords v low high) where
   -- a test of all lanes

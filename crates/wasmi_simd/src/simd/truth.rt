@@ -7,7 +7,6 @@ ghost use Rattle.wasmi_simd.specs.Widening.{first_bits, holds_below};
 ghost use Rattle.wasmi_simd.specs.WideningTable as vector;
 
 use wasmi_lanes::WordLane;
-use wasmi_lanes::words::word_differ;
 use wasmi_raw::V128;
 
 /// Whether no lane is 0.
@@ -65,7 +64,8 @@ pub fn i16x8_bitmask(v: V128) -> u32
     ensures { result ≡ vector.bitmask w16 v }
 {
     let (low, high) = v.words();
-    tops_of_16(low) | (tops_of_16(high) << 4)
+    let both = ((low & TOPS_OF_16) >> 4) + (high & TOPS_OF_16);
+    (both.wrapping_mul(0x0000_2000_4000_8001) >> 56) as u32
 }
 
 /// The highest bits of the lanes, that of lane i at bit i.
@@ -74,7 +74,8 @@ pub fn i32x4_bitmask(v: V128) -> u32
     ensures { result ≡ vector.bitmask w32 v }
 {
     let (low, high) = v.words();
-    tops_of_32(low) | (tops_of_32(high) << 2)
+    let both = ((low & TOPS_OF_32) >> 31) + ((high & TOPS_OF_32) >> 29);
+    ((both + (both >> 31)) & 0xf) as u32
 }
 
 /// The highest bits of the lanes, that of lane i at bit i.
@@ -94,41 +95,22 @@ fn no_zero<T: WordLane>(v: V128) -> bool
     no_zero_in_word::<T>(low) & no_zero_in_word::<T>(high)
 }
 
+// The lowest lane that is 0 borrows, and gets a highest bit; what a borrow makes of the lanes above
+// doesn't matter.
 #[inline(always)]
 fn no_zero_in_word<T: WordLane>(word: u64) -> bool
     ensures { result ≡ holds_below (lanes_in_word T.width) (λ i. not (nat_eq (field (bits T.width * i) (bits T.width) word) 0)) }
 {
-    let tops = T::TOPS;
-    word_differ(word, 0, tops) == tops
+    word.wrapping_sub(T::ONES) & !word & T::TOPS == 0
 }
 
-// The highest bits of the lanes of 8 bits of a word: in each step those of two neighbouring lanes
-// come together.
+// The highest bits of the lanes of 8 bits of a word: the product brings each of them to its place in
+// the highest byte.
 #[inline(always)]
 fn tops_of_8(word: u64) -> u32
     ensures { result ≡ first_bits 8 (λ i. nat_le (2 ^ 7) (field (8 * i) 8 word)) }
 {
-    let bits = (word >> 7) & 0x0101_0101_0101_0101;
-    let pairs = (bits | (bits >> 7)) & 0x0003_0003_0003_0003;
-    let nibbles = (pairs | (pairs >> 14)) & 0x0000_000f_0000_000f;
-    ((nibbles | (nibbles >> 28)) & 0xff) as u32
-}
-
-#[inline(always)]
-fn tops_of_16(word: u64) -> u32
-    ensures { result ≡ first_bits 4 (λ i. nat_le (2 ^ 15) (field (16 * i) 16 word)) }
-{
-    let bits = (word >> 15) & 0x0001_0001_0001_0001;
-    let pairs = (bits | (bits >> 15)) & 0x0000_0003_0000_0003;
-    ((pairs | (pairs >> 30)) & 0xf) as u32
-}
-
-#[inline(always)]
-fn tops_of_32(word: u64) -> u32
-    ensures { result ≡ first_bits 2 (λ i. nat_le (2 ^ 31) (field (32 * i) 32 word)) }
-{
-    let bits = (word >> 31) & 0x0000_0001_0000_0001;
-    ((bits | (bits >> 31)) & 3) as u32
+    ((word & TOPS_OF_8).wrapping_mul(0x0002_0408_1020_4081) >> 56) as u32
 }
 
 #[inline(always)]
@@ -137,3 +119,9 @@ fn tops_of_64(word: u64) -> u32
 {
     (word >> 63) as u32
 }
+
+const TOPS_OF_8: u64 = 0x8080_8080_8080_8080;
+
+const TOPS_OF_16: u64 = 0x8000_8000_8000_8000;
+
+const TOPS_OF_32: u64 = 0x8000_0000_8000_0000;
