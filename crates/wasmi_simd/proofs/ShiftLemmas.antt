@@ -1,14 +1,14 @@
 -- Lanes of words that are shifted, with the bits masked that would leave their lane.
-use Rattle.std.proofs.Common.{◌≡◌, ℕ, zero, suc, ◌+◌, ◌-◌, ◌*◌, ◌/◌, ◌%◌, ◌^◌, ◌<◌, ◌≤◌, sym, ap, subst, ◌∙◌, arith, add-mul, mul-suc, mul-zero, mul_assoc, mul_comm, mul_right_comm, one-mul, zero-mul, suc-mul, le_refl, mod-lt, mod-eq_of_lt, bit_and, List, map, get_or}
+use Rattle.std.proofs.Common.{◌≡◌, ℕ, zero, suc, ◌+◌, ◌-◌, ◌*◌, ◌/◌, ◌%◌, ◌^◌, ◌<◌, ◌≤◌, refl, sym, ap, ap₂, subst, ◌∙◌, arith, add-mul, mul-suc, mul-zero, mul_assoc, mul_comm, mul_right_comm, one-mul, zero-mul, suc-mul, le_refl, mod-lt, mod-eq_of_lt, bit_and, List, [], ◌∷◌, map, replicate, get_or}
 use Rattle.std.proofs.Math.Nat.{mod-one}
 use Rattle.std.proofs.lemmas.Nat.{pow_pos, pow-add, mod-pow-add, and_mask, mul-mod_first, div-add-mod', div-mul-add, mod-mul-add, mul-le, shl_below}
 use Rattle.std.proofs.Math.Pow.{pow_mono}
 use Rattle.std.specs.List.{range_with_len}
 use Rattle.std.proofs.lemmas.List.FromFn.{get_or-map-range_with_len}
 use Rattle.wasmi_types.specs.Wrapping.{Width, bits}
-use Rattle.wasmi_lanes.specs.Words.{field, lanes_in_word, in_each_lane}
+use Rattle.wasmi_lanes.specs.Words.{field, in_each_lane}
 use Rattle.wasmi_lanes.proofs.FieldLemmas.{field_and, field_mod, first_lane}
-use Rattle.wasmi_lanes.proofs.WordVectorLemmas.{lane_of_each}
+use Rattle.wasmi_lanes.proofs.WordVectorLemmas.{EachLane, lane_of_each}
 
 -- ---- products
 
@@ -62,17 +62,36 @@ lane_shl w n s r v mask whole e is i lt =
     field_mod (w * i) w 64 (bit_and v mask * 2 ^ s) within ∙ lane_scaled w n (2 ^ s) (bit_and v mask) small i lt
     ∙ ap (λ n. n * 2 ^ s) (kept i lt) ∙ shl_cut w s r (field (w * i) w v) e
 
--- ---- a table of words, entry d with the low bits of each lane, all but its d highest ones
+-- ---- a table of pairs of words, pair d with the low bits of each lane, all but its d highest ones
+
+abbrev pub low_bits : Width → ℕ → ℕ
+low_bits w d = in_each_lane w (2 ^ (bits w - d) - 1)
+
+abbrev twice : List ℕ → List ℕ
+twice [] = []
+twice (x ∷ xs) = x ∷ x ∷ twice xs
 
 abbrev pub masks : Width → List ℕ
-masks w = map (λ d. in_each_lane w (2 ^ (bits w - d) - 1)) (range_with_len 0 (bits w))
+masks w = twice (map (low_bits w) (range_with_len 0 (bits w)))
 
-pub masked_lane : (w : Width) (table : List ℕ) (d : ℕ) → table ≡ masks w → d < bits w → (i : ℕ) → i < lanes_in_word w
-    → field (bits w * i) (bits w) (get_or table d 0) ≡ 2 ^ (bits w - d) - 1
-masked_lane w table d is less =
+pair_at : (xs : List ℕ) (d : ℕ) → (get_or (twice xs) (2 * d) 0 ≡ get_or xs d 0) × (get_or (twice xs) (2 * d + 1) 0 ≡ get_or xs d 0)
+pair_at [] d = (refl, refl)
+pair_at (x ∷ xs) zero = (refl, refl)
+pair_at (x ∷ xs) (suc d) =
+    let even : 2 * suc d ≡ suc (suc (2 * d)) = omega arith in
+    let odd : 2 * suc d + 1 ≡ suc (suc (2 * d + 1)) = omega arith in
+    (ap (λ i. get_or (twice (x ∷ xs)) i 0) even ∙ (pair_at xs d).0, ap (λ i. get_or (twice (x ∷ xs)) i 0) odd ∙ (pair_at xs d).1)
+
+pub mask_at : (w : Width) (table : List ℕ) (d : ℕ) → table ≡ masks w → d < bits w → (get_or table (2 * d) 0 ∷ get_or table (2 * d + 1) 0 ∷ []) ≡ replicate 2 (low_bits w d)
+mask_at w table d is less =
+    let entry : get_or (map (low_bits w) (range_with_len 0 (bits w))) d 0 ≡ low_bits w d = get_or-map-range_with_len (low_bits w) 0 (bits w) d d 0 less (omega arith) in
+    ap₂ (λ x y. x ∷ y ∷ []) (ap (λ l. get_or l (2 * d) 0) is ∙ (pair_at (map (low_bits w) (range_with_len 0 (bits w))) d).0 ∙ entry)
+    (ap (λ l. get_or l (2 * d + 1) 0) is ∙ (pair_at (map (low_bits w) (range_with_len 0 (bits w))) d).1 ∙ entry)
+
+pub masked_lane : (w : Width) (d : ℕ) → d < bits w → EachLane w (λ k. field k (bits w) (low_bits w d) ≡ 2 ^ (bits w - d) - 1)
+masked_lane w d less =
     let fits : 2 ^ (bits w - d) - 1 < 2 ^ bits w = omega (arith, pow_mono {i = bits w - d} {j = bits w} (omega arith), pow_pos (bits w - d)) in
-    lane_of_each w (2 ^ (bits w - d) - 1) (get_or table d 0) fits
-    (ap (λ l. get_or l d 0) is ∙ get_or-map-range_with_len (λ k. in_each_lane w (2 ^ (bits w - k) - 1)) 0 (bits w) d d 0 less (omega arith))
+    lane_of_each w (2 ^ (bits w - d) - 1) (low_bits w d) fits refl
 
 -- a word is one lane of 64 bits
 pub lane_of_word : (f : ℕ → ℕ) (x y : ℕ) → x < 2 ^ 64 → y < 2 ^ 64 → y ≡ f x → (i : ℕ) → i < 1 → field (64 * i) 64 y ≡ f (field (64 * i) 64 x)

@@ -113,7 +113,7 @@ fn shifted_left<T: NarrowLane>(v: V128, amount: u32) -> V128
     ensures { result ≡ vector.shl T.width v amount }
 {
     let amount = u64::from(amount % T::BITS);
-    let kept = u64x2::splat(T::low_bits(amount));
+    let kept = T::low_bits(amount);
     from_words((words_of(v) & kept) << u64x2::splat(amount))
 }
 
@@ -122,6 +122,6 @@ fn shifted_right<T: NarrowLane>(v: V128, amount: u32) -> V128
     ensures { result ≡ vector.shr_u T.width v amount }
 {
     let amount = u64::from(amount % T::BITS);
-    let kept = u64x2::splat(T::low_bits(amount));
+    let kept = T::low_bits(amount);
     from_words((words_of(v) >> u64x2::splat(amount)) & kept)
 }

@@ -4,7 +4,7 @@ use Rattle.wasmi_lanes.specs.Lane.{lane}
 use Rattle.wasmi_lanes.specs.Vector.{unary_of_lanes, from_lanes}
 use Rattle.wasmi_lanes.specs.Words.{lanes_in_word}
 use Rattle.wasmi_lanes.proofs.WordVectorLemmas.{words_of, words_make_unary, some_bits}
-use Rattle.wasmi_simd.proofs.ShiftLemmas.{lane_shl}
+use Rattle.wasmi_simd.proofs.ShiftLemmas.{lane_shl, low_bits, masked_lane}
 use Rattle.wasmi_simd.proofs.simd.shift.shifted_left.Goals as goal
 
 pub returns : goal.returns
@@ -16,12 +16,13 @@ returns g c =
     let amount : s ≡ c.args.amount % bits w = c.from-amount.ensures ∙ ap (λ n. c.args.amount % n) (c.BITS.ensures ∙ g.met.T.WordLane.wide) in
     let less : s < bits w = subst (λ k. k < bits w) (sym amount) (mod-lt c.args.amount (some_bits w)) in
     let keep : bits w - s + s ≡ bits w = omega arith in
-    let kept = c.low_bits-kept.result in
+    let kept : ℕ = low_bits w s in
+    let each = masked_lane w s less in
     let low : ℕ = c.args.v % 2 ^ 64 in
     let high : ℕ = c.args.v / 2 ^ 64 in
     words_make_unary w whole (λ x. x * 2 ^ s % 2 ^ bits w) c.args.v low high _ _ _ (words_of refl refl)
     (mod-lt (bit_and low kept * 2 ^ s) (lit< tt)) (mod-lt (bit_and high kept * 2 ^ s) (lit< tt))
-    (lane_shl (bits w) (lanes_in_word w) s (bits w - s) low kept (le_of_eq whole) keep c.low_bits-kept.ensures)
-    (lane_shl (bits w) (lanes_in_word w) s (bits w - s) high kept (le_of_eq whole) keep c.low_bits-kept.ensures)
-    (c.from_words.ensures _ _ (rw c.words_of.ensures refl))
+    (lane_shl (bits w) (lanes_in_word w) s (bits w - s) low kept (le_of_eq whole) keep each)
+    (lane_shl (bits w) (lanes_in_word w) s (bits w - s) high kept (le_of_eq whole) keep each)
+    (c.from_words.ensures _ _ (rw c.words_of.ensures (rw c.low_bits-kept.ensures refl)))
     ∙ ap (λ n. from_lanes w (λ i. lane w c.args.v i * 2 ^ n % 2 ^ bits w)) amount

@@ -1,10 +1,11 @@
 use Rattle.std.proofs.Common.{ℕ, ◌≡◌, ◌<◌, ◌-◌, ◌+◌, ◌*◌, ◌/◌, ◌%◌, ◌^◌, ◌∙◌, ap, sym, subst, refl, arith, mod-lt}
-use Rattle.std.proofs.lemmas.Nat.{and_le_r}
+use Rattle.std.proofs.lemmas.Nat.{and_le_l, shr_le}
 use Rattle.wasmi_types.specs.Wrapping.{bits}
 use Rattle.wasmi_lanes.specs.Lane.{lane}
 use Rattle.wasmi_lanes.specs.Vector.{unary_of_lanes, from_lanes}
 use Rattle.wasmi_lanes.proofs.FieldLemmas.{lane_shr}
 use Rattle.wasmi_lanes.proofs.WordVectorLemmas.{words_of, words_make_unary, some_bits}
+use Rattle.wasmi_simd.proofs.ShiftLemmas.{low_bits, masked_lane}
 use Rattle.wasmi_simd.proofs.simd.shift.shifted_right.Goals as goal
 
 pub returns : goal.returns
@@ -15,12 +16,13 @@ returns g c =
     let amount : s ≡ c.args.amount % bits w = c.from-amount.ensures ∙ ap (λ n. c.args.amount % n) (c.BITS.ensures ∙ g.met.T.WordLane.wide) in
     let less : s < bits w = subst (λ k. k < bits w) (sym amount) (mod-lt c.args.amount (some_bits w)) in
     let keep : bits w - s + s ≡ bits w = omega arith in
-    let kept = c.low_bits-kept.result in
+    let kept : ℕ = low_bits w s in
+    let each = masked_lane w s less in
     let low : ℕ = c.args.v % 2 ^ 64 in
     let high : ℕ = c.args.v / 2 ^ 64 in
     words_make_unary w g.met.T.WordLane.whole (λ x. x / 2 ^ s) c.args.v low high _ _ _ (words_of refl refl)
-    (omega (arith, and_le_r (low / 2 ^ s) kept, c.low_bits-kept.type_inv)) (omega (arith, and_le_r (high / 2 ^ s) kept, c.low_bits-kept.type_inv))
-    (λ i inside. lane_shr (bits w) s (bits w - s) (bits w * i) low kept keep (c.low_bits-kept.ensures i inside))
-    (λ i inside. lane_shr (bits w) s (bits w - s) (bits w * i) high kept keep (c.low_bits-kept.ensures i inside))
-    (c.from_words.ensures _ _ (rw c.words_of.ensures refl))
+    (omega (arith, and_le_l (low / 2 ^ s) kept, shr_le low s)) (omega (arith, and_le_l (high / 2 ^ s) kept, shr_le high s))
+    (λ i inside. lane_shr (bits w) s (bits w - s) (bits w * i) low kept keep (each i inside))
+    (λ i inside. lane_shr (bits w) s (bits w - s) (bits w * i) high kept keep (each i inside))
+    (c.from_words.ensures _ _ (rw c.words_of.ensures (rw c.low_bits-kept.ensures refl)))
     ∙ ap (λ n. from_lanes w (λ i. lane w c.args.v i / 2 ^ n)) amount
