@@ -1,12 +1,15 @@
 -- Lanes of words that are shifted, with the bits masked that would leave their lane.
-use Rattle.std.proofs.Common.{◌≡◌, ℕ, zero, suc, ◌+◌, ◌-◌, ◌*◌, ◌/◌, ◌%◌, ◌^◌, ◌<◌, ◌≤◌, refl, sym, ap, ap₂, subst, ◌∙◌, arith, add-mul, mul-suc, mul-zero, mul_assoc, mul_comm, mul_right_comm, one-mul, zero-mul, suc-mul, le_refl, mod-lt, mod-eq_of_lt, bit_and, List, [], ◌∷◌, map, replicate, get_or}
+use Rattle.std.proofs.Common.{◌≡◌, ℕ, zero, suc, ◌+◌, ◌-◌, ◌*◌, ◌/◌, ◌%◌, ◌^◌, ◌<◌, ◌≤◌, refl, sym, ap, ap₂, subst, ◌∙◌, arith, add-mul, mul-suc, mul-zero, mul_assoc, mul_comm, mul_right_comm, one-mul, zero-mul, suc-mul, le_refl, mod-lt, mod-eq_of_lt, bit_and, List, [], ◌∷◌, map, replicate, length, get_or}
+use Rattle.std.proofs.lemmas.Simd.{length-replicate, Each1-replicate}
 use Rattle.std.proofs.Math.Nat.{mod-one}
 use Rattle.std.proofs.lemmas.Nat.{pow_pos, pow-add, mod-pow-add, and_mask, mul-mod_first, div-add-mod', div-mul-add, mod-mul-add, mul-le, shl_below}
 use Rattle.std.proofs.Math.Pow.{pow_mono}
 use Rattle.std.specs.List.{range_with_len}
 use Rattle.std.proofs.lemmas.List.FromFn.{get_or-map-range_with_len}
 use Rattle.wasmi_types.specs.Wrapping.{Width, bits}
-use Rattle.wasmi_lanes.specs.Words.{field, in_each_lane}
+use Rattle.wasmi_raw.specs.Vector.{vector_of}
+use Rattle.wasmi_lanes.specs.Words.{field, lanes_in_word, in_each_lane}
+use Rattle.wasmi_lanes.proofs.Digits.{number_below}
 use Rattle.wasmi_lanes.proofs.FieldLemmas.{field_and, field_mod, first_lane}
 use Rattle.wasmi_lanes.proofs.WordVectorLemmas.{EachLane, lane_of_each}
 
@@ -62,36 +65,34 @@ lane_shl w n s r v mask whole e is i lt =
     field_mod (w * i) w 64 (bit_and v mask * 2 ^ s) within ∙ lane_scaled w n (2 ^ s) (bit_and v mask) small i lt
     ∙ ap (λ n. n * 2 ^ s) (kept i lt) ∙ shl_cut w s r (field (w * i) w v) e
 
--- ---- a table of pairs of words, pair d with the low bits of each lane, all but its d highest ones
+-- ---- a table of vectors, entry d with the low bits of each lane, all but its d highest ones
 
 abbrev pub low_bits : Width → ℕ → ℕ
 low_bits w d = in_each_lane w (2 ^ (bits w - d) - 1)
 
-abbrev twice : List ℕ → List ℕ
-twice [] = []
-twice (x ∷ xs) = x ∷ x ∷ twice xs
-
 abbrev pub masks : Width → List ℕ
-masks w = twice (map (low_bits w) (range_with_len 0 (bits w)))
+masks w = map (λ d. vector_of (low_bits w d) (low_bits w d)) (range_with_len 0 (bits w))
 
-pair_at : (xs : List ℕ) (d : ℕ) → (get_or (twice xs) (2 * d) 0 ≡ get_or xs d 0) × (get_or (twice xs) (2 * d + 1) 0 ≡ get_or xs d 0)
-pair_at [] d = (refl, refl)
-pair_at (x ∷ xs) zero = (refl, refl)
-pair_at (x ∷ xs) (suc d) =
-    let even : 2 * suc d ≡ suc (suc (2 * d)) = omega arith in
-    let odd : 2 * suc d + 1 ≡ suc (suc (2 * d + 1)) = omega arith in
-    (ap (λ i. get_or (twice (x ∷ xs)) i 0) even ∙ (pair_at xs d).0, ap (λ i. get_or (twice (x ∷ xs)) i 0) odd ∙ (pair_at xs d).1)
+module _ (w : Width) (d : ℕ) (less : d < bits w) where
+  low_bits_fit : 2 ^ (bits w - d) - 1 < 2 ^ bits w
+  low_bits_fit = omega (arith, pow_mono {i = bits w - d} {j = bits w} (omega arith), pow_pos (bits w - d))
 
-pub mask_at : (w : Width) (table : List ℕ) (d : ℕ) → table ≡ masks w → d < bits w → (get_or table (2 * d) 0 ∷ get_or table (2 * d + 1) 0 ∷ []) ≡ replicate 2 (low_bits w d)
-mask_at w table d is less =
-    let entry : get_or (map (low_bits w) (range_with_len 0 (bits w))) d 0 ≡ low_bits w d = get_or-map-range_with_len (low_bits w) 0 (bits w) d d 0 less (omega arith) in
-    ap₂ (λ x y. x ∷ y ∷ []) (ap (λ l. get_or l (2 * d) 0) is ∙ (pair_at (map (low_bits w) (range_with_len 0 (bits w))) d).0 ∙ entry)
-    (ap (λ l. get_or l (2 * d + 1) 0) is ∙ (pair_at (map (low_bits w) (range_with_len 0 (bits w))) d).1 ∙ entry)
+  pub masked_lane : EachLane w (λ k. field k (bits w) (low_bits w d) ≡ 2 ^ (bits w - d) - 1)
+  masked_lane = lane_of_each w (2 ^ (bits w - d) - 1) (low_bits w d) low_bits_fit refl
 
-pub masked_lane : (w : Width) (d : ℕ) → d < bits w → EachLane w (λ k. field k (bits w) (low_bits w d) ≡ 2 ^ (bits w - d) - 1)
-masked_lane w d less =
-    let fits : 2 ^ (bits w - d) - 1 < 2 ^ bits w = omega (arith, pow_mono {i = bits w - d} {j = bits w} (omega arith), pow_pos (bits w - d)) in
-    lane_of_each w (2 ^ (bits w - d) - 1) (low_bits w d) fits refl
+  word_below : lanes_in_word w * bits w ≡ 64 → low_bits w d < 2 ^ 64
+  word_below whole =
+      let lanes : List ℕ = replicate (lanes_in_word w) (2 ^ (bits w - d) - 1) in
+      let long : length lanes * bits w ≡ 64 = ap (λ n. n * bits w) (length-replicate (lanes_in_word w) (2 ^ (bits w - d) - 1)) ∙ whole in
+      subst (λ n. low_bits w d < 2 ^ n) long (number_below (bits w) lanes (Each1-replicate (λ x. x < 2 ^ bits w) (lanes_in_word w) (2 ^ (bits w - d) - 1) low_bits_fit))
+
+  -- the two words of entry d
+  pub mask_at : (table : List ℕ) (v : ℕ) → table ≡ masks w → v ≡ get_or table d 0 → lanes_in_word w * bits w ≡ 64 → (v % 2 ^ 64 ∷ v / 2 ^ 64 ∷ []) ≡ replicate 2 (low_bits w d)
+  mask_at table v is at whole =
+      let k : ℕ = low_bits w d in
+      let fits : k < 2 ^ 64 = word_below whole in
+      let entry : v ≡ k * 2 ^ 64 + k = at ∙ ap (λ l. get_or l d 0) is ∙ get_or-map-range_with_len (λ i. vector_of (low_bits w i) (low_bits w i)) 0 (bits w) d d 0 less (omega arith) in
+      ap₂ (λ x y. x ∷ y ∷ []) (ap (λ n. n % 2 ^ 64) entry ∙ mod-mul-add k (2 ^ 64) k fits) (ap (λ n. n / 2 ^ 64) entry ∙ div-mul-add k (2 ^ 64) k fits)
 
 -- a word is one lane of 64 bits
 pub lane_of_word : (f : ℕ → ℕ) (x y : ℕ) → x < 2 ^ 64 → y < 2 ^ 64 → y ≡ f x → (i : ℕ) → i < 1 → field (64 * i) 64 y ≡ f (field (64 * i) 64 x)
