@@ -1,16 +1,23 @@
 -- Lanes of words that are shifted, with the bits masked that would leave their lane.
-use Rattle.std.proofs.Common.{◌≡◌, ℕ, zero, suc, ◌+◌, ◌-◌, ◌*◌, ◌/◌, ◌%◌, ◌^◌, ◌<◌, ◌≤◌, refl, sym, ap, ap₂, subst, ◌∙◌, arith, add-mul, mul-suc, mul-zero, mul_assoc, mul_comm, mul_right_comm, one-mul, zero-mul, suc-mul, le_refl, mod-lt, mod-eq_of_lt, bit_and, List, [], ◌∷◌, map, replicate, length, get_or}
+use Rattle.std.proofs.Common.{◌≡◌, ℕ, zero, suc, ◌+◌, ◌-◌, ◌*◌, ◌/◌, ◌%◌, ◌^◌, ◌<◌, ◌≤◌, refl, inl, inr, pos, negsuc, sym, ap, ap₂, subst, ◌∙◌, arith, add-mul, mul-suc, mul-zero, mul_assoc, mul_comm, mul_right_comm, one-mul, zero-mul, suc-mul, le_refl, mod-lt, mod-eq_of_lt, bit_and, List, [], ◌∷◌, map, replicate, length, get_or}
 use Rattle.std.proofs.lemmas.Simd.{length-replicate, Each1-replicate}
-use Rattle.std.proofs.Math.Nat.{mod-one}
-use Rattle.std.proofs.lemmas.Nat.{pow_pos, pow-add, mod-pow-add, and_mask, mul-mod_first, div-add-mod', div-mul-add, mod-mul-add, mul-le, shl_below}
+use Rattle.std.proofs.Math.Nat.{mod-one, mod-mod}
+use Rattle.std.proofs.lemmas.Bool.{cases_lt, cases_eq, lt-ltb, le-ltb}
+use Rattle.std.specs.Int.{int_shr}
+use Rattle.std.specs.Simd.Lanes.{number_l}
+use mir.Val.{sel}
+use Rattle.std.proofs.lemmas.Nat.{pow_pos, pow-add, mod-pow-add, and_mask, mul-mod_first, div-add-mod', div-mul-add, mod-mul-add, mul-le, shl_below, shr_below, shr_le}
 use Rattle.std.proofs.Math.Pow.{pow_mono}
 use Rattle.std.specs.List.{range_with_len}
 use Rattle.std.proofs.lemmas.List.FromFn.{get_or-map-range_with_len}
-use Rattle.wasmi_types.specs.Wrapping.{Width, bits}
+use Rattle.wasmi_types.specs.Wrapping.{Width, w8, bits, signed, wrap}
+use Rattle.wasmi_lanes.specs.Lane.{lane}
+use Rattle.wasmi_lanes.specs.Vector.{first_lanes, from_lanes}
 use Rattle.wasmi_raw.specs.Vector.{vector_of}
 use Rattle.wasmi_lanes.specs.Words.{field, lanes_in_word, in_each_lane}
 use Rattle.wasmi_lanes.proofs.Digits.{number_below}
-use Rattle.wasmi_lanes.proofs.FieldLemmas.{field_and, field_mod, first_lane}
+use Rattle.wasmi_lanes.proofs.FieldLemmas.{field_and, field_mod, first_lane, repeated_lane}
+use Rattle.wasmi_lanes.proofs.Vectors.{lanes_of_width}
 use Rattle.wasmi_lanes.proofs.WordVectorLemmas.{EachLane, lane_of_each}
 
 -- ---- products
@@ -98,3 +105,73 @@ module _ (w : Width) (d : ℕ) (less : d < bits w) where
 pub lane_of_word : (f : ℕ → ℕ) (x y : ℕ) → x < 2 ^ 64 → y < 2 ^ 64 → y ≡ f x → (i : ℕ) → i < 1 → field (64 * i) 64 y ≡ f (field (64 * i) 64 x)
 lane_of_word f x y fits_x fits_y is zero inside = first_lane 64 y ∙ mod-eq_of_lt fits_y ∙ is ∙ ap f (sym (first_lane 64 x ∙ mod-eq_of_lt fits_x))
 lane_of_word f x y fits_x fits_y is (suc i) inside = absurd (omega arith)
+
+-- ---- shifts with the sign
+
+-- the lanes of a vector that is made of lanes
+lanes_below : (w : Width) (f : ℕ → ℕ) (n : ℕ) → first_lanes w n f < 2 ^ (bits w * n)
+unfolding first_lanes
+lanes_below w f zero =
+    let none : bits w * 0 ≡ 0 = mul-zero (bits w) in
+    subst (λ k. 0 < 2 ^ k) (sym none) (omega arith)
+lanes_below w f (suc n) =
+    let p : ℕ = 2 ^ (bits w * n) in
+    let x : ℕ = f n % 2 ^ bits w in
+    let next : bits w * suc n ≡ bits w + bits w * n = omega (arith, mul-suc (bits w) n) in
+    let rows : (x + 1) * p ≤ 2 ^ bits w * p = mul-le (x + 1) p (2 ^ bits w) p (omega (arith, mod-lt (f n) (pow_pos (bits w)))) (le_refl p) in
+    subst (λ k. first_lanes w n f + x * p < 2 ^ k) (sym next) (omega (arith, lanes_below w f n, pow-add 2 (bits w) (bits w * n), add-mul x 1 p, one-mul p))
+
+lane_of_first : (w : Width) (f : ℕ → ℕ) (n i : ℕ) → i < n → lane w (first_lanes w n f) i ≡ f i % 2 ^ bits w
+unfolding first_lanes field
+lane_of_first w f zero i inside = absurd (omega arith)
+lane_of_first w f (suc n) i inside =
+    let b : ℕ = bits w in
+    let p : ℕ = 2 ^ (b * n) in
+    let x : ℕ = f n % 2 ^ b in
+    let v : ℕ = first_lanes w n f + x * p in
+    let parts : v ≡ x * p + first_lanes w n f = omega arith in
+    elim (cases_eq i n) as (λ _. lane w v i ≡ f i % 2 ^ b) [
+      | inl last ↦ ap (lane w v) last ∙ ap (λ k. k % 2 ^ b) (ap (λ k. k / p) parts ∙ div-mul-add x p (first_lanes w n f) (lanes_below w f n)) ∙ mod-mod (f n) (2 ^ b) ∙ ap (λ k. f k % 2 ^ b) (sym last)
+      | inr other ↦
+          let room : b * i + b ≤ b * n = omega (arith, mul-le b (suc i) b n (le_refl b) (omega arith), mul-suc b i) in
+          sym (field_mod (b * i) b (b * n) v room) ∙ ap (λ k. lane w k i) (ap (λ k. k % p) parts ∙ mod-mul-add x p (first_lanes w n f) (lanes_below w f n)) ∙ lane_of_first w f n i (omega arith)
+    ]
+
+pub lane_of_lanes : (w : Width) (f : ℕ → ℕ) (n i : ℕ) → n * bits w ≡ 128 → i < n → lane w (from_lanes w f) i ≡ f i % 2 ^ bits w
+lane_of_lanes w f n i filled inside = ap (λ k. lane w (first_lanes w k f) i) (lanes_of_width w n filled) ∙ lane_of_first w f n i inside
+
+-- a number of 8 bits, moved by half of its range before a shift without sign, and back after it
+pub moved_and_back : (x s : ℕ) → x < 2 ^ 8 → s < 8 → ((x + 2 ^ 7) % 2 ^ 8 / 2 ^ s % 2 ^ 8 + (2 ^ 8 - 2 ^ (7 - s))) % 2 ^ 8 ≡ wrap w8 (int_shr (signed w8 x) s)
+moved_and_back x s fits less =
+    let p : ℕ = 2 ^ s in
+    let q : ℕ = 2 ^ (7 - s) in
+    let sum : 7 - s + s ≡ 7 = omega arith in
+    let half : q * p ≡ 128 = sym (pow-add 2 (7 - s) s) ∙ ap (λ n. 2 ^ n) sum in
+    let some : 0 < p = pow_pos s in
+    let small : q ≤ 128 = omega (arith, pow_mono {i = 7 - s} {j = 7} (omega arith)) in
+    elim (cases_lt x (2 ^ 7)) as (λ _. ((x + 2 ^ 7) % 2 ^ 8 / p % 2 ^ 8 + (2 ^ 8 - q)) % 2 ^ 8 ≡ wrap w8 (int_shr (signed w8 x) s)) [
+      | inl below ↦
+          let up : (x + 2 ^ 7) % 2 ^ 8 ≡ (q + x / p) * p + x % p = omega (arith, half, add-mul q (x / p) p, div-add-mod' x p) in
+          let quotient : (x + 2 ^ 7) % 2 ^ 8 / p ≡ q + x / p = ap (λ n. n / p) up ∙ div-mul-add (q + x / p) p (x % p) (mod-lt x some) in
+          let least : x / p ≤ x = shr_le x s in
+          ap (λ n. (n % 2 ^ 8 + (2 ^ 8 - q)) % 2 ^ 8) quotient ∙ omega arith
+          ∙ sym (ap (λ t. wrap w8 (int_shr (sel t (pos x) (negsuc (2 ^ 8 - suc x))) s)) (lt-ltb x (2 ^ 7) below))
+      | inr above ↦
+          let y : ℕ = 2 ^ 8 - suc x in
+          let least : y / p ≤ y = shr_le y s in
+          let fewer : y / p < q = shr_below y (7 - s) s (subst (λ n. y < 2 ^ n) (sym sum) (omega arith)) in
+          let rest : y % p < p = mod-lt y some in
+          let rows : (q - 1 - y / p) * p + y / p * p + p ≡ q * p = omega (arith, add-mul (q - 1 - y / p) (y / p) p, add-mul (q - 1 - y / p + y / p) 1 p, one-mul p, ap (λ n. n * p) (let e : q - 1 - y / p + y / p + 1 ≡ q = omega arith in e)) in
+          let down : (x + 2 ^ 7) % 2 ^ 8 ≡ (q - 1 - y / p) * p + (p - 1 - y % p) = omega (arith, half, div-add-mod' y p) in
+          let quotient : (x + 2 ^ 7) % 2 ^ 8 / p ≡ q - 1 - y / p = ap (λ n. n / p) down ∙ div-mul-add (q - 1 - y / p) p (p - 1 - y % p) (omega arith) in
+          ap (λ n. (n % 2 ^ 8 + (2 ^ 8 - q)) % 2 ^ 8) quotient ∙ omega arith
+          ∙ sym (ap (λ t. wrap w8 (int_shr (sel t (pos x) (negsuc (2 ^ 8 - suc x))) s)) (le-ltb x (2 ^ 7) above))
+    ]
+
+-- a table of vectors, entry d with half of the range of 8 bits in each lane, shifted to the right by d
+pub half_at : (table : List ℕ) (v d : ℕ) → table ≡ map (λ k. number_l (2 ^ 8) (replicate 16 (2 ^ (7 - k)))) (range_with_len 0 8) → v ≡ get_or table d 0 → d < 8 → (i : ℕ) → i < 16 → lane w8 v i ≡ 2 ^ (7 - d)
+unfolding field
+half_at table v d is at less i inside =
+    let entry : v ≡ number_l (2 ^ 8) (replicate 16 (2 ^ (7 - d))) =
+    at ∙ ap (λ l. get_or l d 0) is ∙ get_or-map-range_with_len (λ k. number_l (2 ^ 8) (replicate 16 (2 ^ (7 - k)))) 0 8 d d 0 less (omega arith) in
+    ap (λ n. lane w8 n i) entry ∙ repeated_lane 8 16 i (2 ^ (7 - d)) (omega (arith, pow_mono {i = 7 - d} {j = 7} (omega arith))) inside

@@ -1,15 +1,19 @@
 //! Shifts of lanes, by an amount modulo their width.
 //!
 //! The two words of the vector are shifted together, and the bits are masked that would leave their
-//! lane; with the sign it is done lane by lane.
+//! lane; with the sign it is done lane by lane, or for lanes of 8 bits by a shift without sign of
+//! lanes moved by half of their range.
 
-ghost use Rattle.std.specs.Prelude.{◌≡◌};
+ghost use Rattle.std.specs.Prelude.{◌≡◌, ℕ, ◌+◌, ◌-◌, ◌%◌, ◌^◌, ◌<◌, slice_index};
 ghost use Rattle.wasmi_types.specs.Wrapping.{w8, w16, w32, w64};
+ghost use Rattle.wasmi_lanes.specs.Lane.{lane};
 ghost use Rattle.wasmi_simd.specs.WideningTable as vector;
 
 use super::low_bits::NarrowLane;
 use std::simd::prelude::*;
-use wasmi_lanes::{I8x16, I16x8, I32x4, I64x2, from_words, on_vectors, words_of};
+use wasmi_lanes::{
+    I16x8, I32x4, I64x2, SimdLane, bytes_of, from_bytes, from_words, on_vectors, words_of,
+};
 use wasmi_raw::V128;
 
 /// The lanes shifted to the left, the bits above each lane dropped. `amount` is taken modulo 8.
@@ -25,7 +29,12 @@ pub fn i8x16_shl(v: V128, amount: u32) -> V128
 pub fn i8x16_shr_s(v: V128, amount: u32) -> V128
     ensures { result ≡ vector.shr_s w8 v amount }
 {
-    on_vectors::unary::<I8x16, _>(v, |x| x.wrapping_shr(amount))
+    let raised = u8::vector_of(u8::raised(u8::lanes_of(v)));
+    let shifted = i8x16_shr_u(raised, amount);
+    from_bytes(difference_of_bytes(
+        bytes_of(shifted),
+        bytes_of(half_shifted(amount)),
+    ))
 }
 
 /// The lanes shifted to the right, with zeros. `amount` is taken modulo 8.
@@ -125,3 +134,30 @@ fn shifted_right<T: NarrowLane>(v: V128, amount: u32) -> V128
     let kept = T::low_bits(amount);
     from_words((words_of(v) >> u64x2::splat(amount)) & kept)
 }
+
+/// The differences of lanes of 8 bits, modulo 2 to the power 8.
+#[inline(always)]
+fn difference_of_bytes(a: u8x16, b: u8x16) -> u8x16
+    ensures lanes { (i : ℕ) → i < 16 → slice_index result i ≡ (slice_index a i + (2 ^ 8 - slice_index b i)) % 2 ^ 8 }
+{
+    a - b
+}
+
+/// Half of the range of 8 bits in each lane, shifted to the right by `amount` modulo 8.
+#[inline(always)]
+fn half_shifted(amount: u32) -> V128
+    ensures lanes { (i : ℕ) → i < 16 → lane w8 result i ≡ 2 ^ (7 - amount % 8) }
+{
+    V128::from(HALVES_OF_8[(amount % 8) as usize])
+}
+
+const HALVES_OF_8: [u128; 8] = [
+    0x8080_8080_8080_8080_8080_8080_8080_8080,
+    0x4040_4040_4040_4040_4040_4040_4040_4040,
+    0x2020_2020_2020_2020_2020_2020_2020_2020,
+    0x1010_1010_1010_1010_1010_1010_1010_1010,
+    0x0808_0808_0808_0808_0808_0808_0808_0808,
+    0x0404_0404_0404_0404_0404_0404_0404_0404,
+    0x0202_0202_0202_0202_0202_0202_0202_0202,
+    0x0101_0101_0101_0101_0101_0101_0101_0101,
+];
