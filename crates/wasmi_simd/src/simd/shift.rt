@@ -33,7 +33,7 @@ pub fn i8x16_shr_s(v: V128, amount: u32) -> V128
     let shifted = i8x16_shr_u(raised, amount);
     from_bytes(difference_of_bytes(
         bytes_of(shifted),
-        bytes_of(half_shifted(amount)),
+        bytes_of(half_shifted(u64::from(amount % 8))),
     ))
 }
 
@@ -143,12 +143,13 @@ fn difference_of_bytes(a: u8x16, b: u8x16) -> u8x16
     a - b
 }
 
-/// Half of the range of 8 bits in each lane, shifted to the right by `amount` modulo 8.
+/// Half of the range of 8 bits in each lane, shifted to the right.
 #[inline(always)]
-fn half_shifted(amount: u32) -> V128
-    ensures lanes { (i : ℕ) → i < 16 → lane w8 result i ≡ 2 ^ (7 - amount % 8) }
+fn half_shifted(amount: u64) -> V128
+    requires { amount < 8 }
+    ensures lanes { (i : ℕ) → i < 16 → lane w8 result i ≡ 2 ^ (7 - amount) }
 {
-    V128::from(HALVES_OF_8[(amount % 8) as usize])
+    V128::from(HALVES_OF_8[amount as usize])
 }
 
 const HALVES_OF_8: [u128; 8] = [

@@ -16,5 +16,5 @@ returns c =
     ∙ ap₂ (λ x y. (x + (2 ^ 8 - y)) % 2 ^ 8)
     (c.bytes_of.ensures.lanes i inside ∙ ap (λ n. lane w8 n i) c.i8x16_shr_u-shifted.ensures ∙ lane_of_lanes w8 (λ k. lane w8 c.vector_of-raised.result k / 2 ^ s) 16 i refl inside
     ∙ ap (λ n. n / 2 ^ s % 2 ^ 8) (c.vector_of-raised.ensures.lanes i inside ∙ c.raised.ensures.lanes i inside ∙ ap (λ n. (n + 2 ^ 7) % 2 ^ 8) (c.lanes_of.ensures.lanes i inside)))
-    (c.bytes_of-2.ensures.lanes i inside ∙ c.half_shifted.ensures.lanes i inside)
+    (c.bytes_of-2.ensures.lanes i inside ∙ c.half_shifted.ensures.lanes i inside ∙ ap (λ n. 2 ^ (7 - n)) c.from.ensures)
     ∙ moved_and_back (lane w8 c.args.v i) s (lane_below w8 c.args.v i) (omega arith))
