@@ -1,5 +1,5 @@
 -- The highest bits of the lanes of a word, brought together by a product or a shift.
-use Rattle.std.proofs.Common.{◌≡◌, ℕ, zero, suc, ◌+◌, ◌-◌, ◌*◌, ◌/◌, ◌%◌, ◌^◌, ◌<◌, ◌≤◌, refl, sym, ap, ap₂, subst, ◌∙◌, arith, inl, inr, Bool, true, false, leb, add-mul, zero-mul, suc-mul, mul_comm, mod-lt, mod-eq_of_lt, bit_and, pow-suc, if◌then◌else◌, replicate}
+use Rattle.std.proofs.Common.{◌≡◌, ℕ, zero, suc, ◌+◌, ◌*◌, ◌/◌, ◌%◌, ◌^◌, ◌<◌, ◌≤◌, refl, sym, ap, ap₂, subst, ◌∙◌, arith, inl, inr, Bool, true, false, leb, add-mul, zero-mul, suc-mul, mul_comm, mod-lt, mod-eq_of_lt, bit_and, pow-suc, if◌then◌else◌, replicate}
 use Rattle.std.proofs.Math.Nat.{div-eq_of_lt}
 use Rattle.std.proofs.lemmas.Nat.{pow_pos, and_le_l, and_mask, shr_below, div-add-mod'}
 use Rattle.std.proofs.lemmas.Nat.Bits.{and_pow}
