@@ -29,6 +29,7 @@ pub fn i8x16_shl(v: V128, amount: u32) -> V128
 pub fn i8x16_shr_s(v: V128, amount: u32) -> V128
     ensures { result ≡ vector.shr_s w8 v amount }
 {
+    // What the lanes were moved by is a multiple of what they are divided by.
     let raised = u8::vector_of(u8::raised(u8::lanes_of(v)));
     let shifted = i8x16_shr_u(raised, amount);
     from_bytes(difference_of_bytes(

@@ -64,6 +64,7 @@ pub fn i16x8_bitmask(v: V128) -> u32
     ensures { result ≡ vector.bitmask w16 v }
 {
     let (low, high) = v.words();
+    // The product brings each bit to its place in the highest byte.
     let both = ((low & TOPS_OF_16) >> 4) + (high & TOPS_OF_16);
     (both.wrapping_mul(0x0000_2000_4000_8001) >> 56) as u32
 }
@@ -74,6 +75,7 @@ pub fn i32x4_bitmask(v: V128) -> u32
     ensures { result ≡ vector.bitmask w32 v }
 {
     let (low, high) = v.words();
+    // Bits 0 and 2 have the lanes 0 and 2, bits 32 and 34 the lanes 1 and 3.
     let both = ((low & TOPS_OF_32) >> 31) + ((high & TOPS_OF_32) >> 29);
     ((both + (both >> 31)) & 0xf) as u32
 }
