@@ -63,10 +63,10 @@ pub trait LoadInto: ByteArray {
 impl<const N: usize> LoadInto for [u8; N] {
     #[inline]
     fn load_into(&mut self, memory: &[u8], address: usize) -> Result<(), TrapCode> {
-        if address > memory.len() {
+        if memory.len() < N || address > memory.len() - N {
             return Err(TrapCode::MemoryOutOfBounds);
         }
-        let Some((bytes, _)) = memory[address..].split_first_chunk::<N>() else {
+        let Some((bytes, _)) = memory[address..address + N].split_first_chunk::<N>() else {
             return Err(TrapCode::MemoryOutOfBounds);
         };
         *self = *bytes;
@@ -89,7 +89,7 @@ pub trait StoreFrom: ByteArray {
 impl<const N: usize> StoreFrom for [u8; N] {
     #[inline]
     fn store_from(&self, memory: &mut [u8], address: usize) -> Result<(), TrapCode> {
-        if address > memory.len() || memory.len() - address < N {
+        if memory.len() < N || address > memory.len() - N {
             return Err(TrapCode::MemoryOutOfBounds);
         }
         put(memory, address, self);
