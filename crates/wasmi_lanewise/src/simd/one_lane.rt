@@ -133,22 +133,19 @@ pub(super) fn with_lane_of_64(vector: V128, at: ImmLaneIdx2, item: u64) -> V128
     ensures { result ≡ with_lane w64 vector at item }
 {
     let items = u32::lanes_of(V128::from_words(item, item));
-    let lanes = u32::lanes_of(vector);
-    let both = if u8::from(at) == 0 {
-        halves_of(items, lanes)
-    } else {
-        halves_of(lanes, items)
-    };
-    u32::vector_of(both)
+    u32::vector_of(with_half(u32::lanes_of(vector), u8::from(at), items))
 }
 
-// The lower half of one vector and the upper half of another.
+// The lanes of one half from `items`, those of the other half as they were.
 #[inline(always)]
-fn halves_of(lower: u32x4, upper: u32x4) -> u32x4
-    ensures lower { (i : ℕ) → i < 2 → slice_index result i ≡ slice_index lower i }
-    ensures upper { (i : ℕ) → i < 2 → slice_index result (2 + i) ≡ slice_index upper (2 + i) }
+fn with_half(lanes: u32x4, half: u8, items: u32x4) -> u32x4
+    requires { half < 2 }
+    ensures lanes { (i : ℕ) → i < 4 → slice_index result i ≡ (if (i / 2) == half then slice_index items i else slice_index lanes i) }
 {
-    lower.shuffle(upper, [0, 1, 6, 7])
+    let halves = u32x4::from_array([0, 0, 1, 1]);
+    halves
+        .simd_eq(u32x4::splat(u32::from(half)))
+        .select(items, lanes)
 }
 
 const IN_EACH_LANE_OF_8: [u64; 16] = [
