@@ -1,4 +1,4 @@
-use Rattle.std.proofs.Common.{◌<◌, ◌≡◌, ◌∙◌, ◌/◌, ap, arith, eqb, slice_index, if◌then◌else◌}
+use Rattle.std.proofs.Common.{◌<◌, ◌∙◌, ◌/◌, ap, arith, eqb, slice_index, if◌then◌else◌}
 use Rattle.wasmi_lanewise.proofs.OneLane.{chosen_half_at}
 use Rattle.wasmi_lanewise.proofs.simd.one_lane.with_half.Goals as goal
 
