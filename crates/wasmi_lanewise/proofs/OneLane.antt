@@ -1,6 +1,6 @@
 -- One lane of a vector: by its bytes, and among lanes that are chosen by their numbers.
-use Rattle.std.proofs.Common.{ℕ, zero, suc, ◌+◌, ◌-◌, ◌*◌, ◌/◌, ◌%◌, ◌^◌, ◌<◌, ◌≡◌, List, [], ◌∷◌, length, get_or, replicate, map, refl, sym, ap, ap₂, ◌∙◌, arith, if◌then◌else◌, Bool, true, false, cond, eqb, ltb, zero-add, mul_comm, mul-add, mul-one, add-mul}
-use Rattle.std.proofs.lemmas.Nat.{shr-shr, mod-pow-add}
+use Rattle.std.proofs.Common.{ℕ, zero, suc, ◌+◌, ◌-◌, ◌*◌, ◌/◌, ◌%◌, ◌^◌, ◌<◌, ◌≡◌, List, [], ◌∷◌, length, get_or, replicate, map, refl, sym, ap, ap₂, ◌∙◌, arith, if◌then◌else◌, Bool, true, false, cond, eqb, ltb, bit_and, zero-add, mul_comm, mul-add, mul-one, add-mul}
+use Rattle.std.proofs.lemmas.Nat.{shr-shr, mod-pow-add, and_mask}
 use Rattle.std.specs.Simd.Lanes.{zip2, sel_l, number_l, digits_l}
 use Rattle.std.proofs.lemmas.Bool.{ltb-true}
 use Rattle.std.proofs.lemmas.List.{get_or-map}
@@ -47,6 +47,12 @@ chosen_make_vector w n v k at item r numbers places lanes filled counted placed 
     ∙ ap₂ (λ j x. if eqb i j then item else x) is_at (is i inside))
 
 -- ---- a lane of 16 or 32 bits, by its bytes
+
+pub first_byte : (bytes : List ℕ) (x : ℕ) → length bytes ≡ 16 → get_or bytes 0 0 ≡ x → x < 256 → bit_and (number_l 256 bytes % 2 ^ 32) 255 ≡ x
+first_byte [] x long is fits = absurd (omega arith)
+first_byte (a ∷ rest) x long is fits =
+    let low : number_l 256 (a ∷ rest) % 2 ^ 32 % 2 ^ 8 ≡ x = omega (arith, is) in
+    and_mask (number_l 256 (a ∷ rest) % 2 ^ 32) 8 ∙ low
 
 pub first_two_bytes : (bytes : List ℕ) (x y : ℕ) → length bytes ≡ 16 → get_or bytes 0 0 ≡ x → get_or bytes 1 0 ≡ y → x < 256 → y < 256 → number_l 256 bytes % 65536 ≡ x + 256 * y
 first_two_bytes [] x y long is_x is_y fits_x fits_y = absurd (omega arith)

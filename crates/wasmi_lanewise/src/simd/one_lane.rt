@@ -10,7 +10,6 @@ ghost use Rattle.wasmi_types.specs.Wrapping.{w8, w16, w32, w64};
 ghost use Rattle.wasmi_lanes.specs.Lane.{lane};
 ghost use Rattle.wasmi_lanes.specs.Vector.{with_lane};
 
-use super::shuffle::picked;
 use std::simd::prelude::*;
 use wasmi_lanes::{
     ImmLaneIdx2, ImmLaneIdx4, ImmLaneIdx8, ImmLaneIdx16, LaneItem, SimdLane, bytes_of,
@@ -22,8 +21,19 @@ use wasmi_raw::V128;
 pub(super) fn lane_of_8(vector: V128, at: ImmLaneIdx16) -> u8
     ensures { result ≡ lane w8 vector at }
 {
-    let [lane, ..] = picked(bytes_of(vector), u8x16::splat(u8::from(at))).to_array();
-    lane
+    let indices = indices_of_8(u8::from(at));
+    let [bytes, ..] = u32x4::from_le_bytes(picked_inside(bytes_of(vector), indices)).to_array();
+    (bytes & 0xff) as u8
+}
+
+// The index of a lane of 8 bits.
+#[inline(always)]
+fn indices_of_8(lane: u8) -> u8x16
+    requires { lane < 16 }
+    ensures first { slice_index result 0 ≡ lane }
+    ensures inside { (i : ℕ) → i < 16 → slice_index result i < 16 }
+{
+    u32x4::from_array([u32::from(lane), 0, 0, 0]).to_le_bytes()
 }
 
 /// One lane of 16 bits.
