@@ -1,10 +1,9 @@
 -- Bytes chosen by indices, as std::simd chooses them.
-use Rattle.std.proofs.Common.{ℕ, ◌%◌, ◌<◌, ◌≤◌, ◌≡◌, List, length, get_or, replicate, map, ◌+◌, ◌-◌, ◌*◌, ◌/◌, ◌⊎◌, refl, sym, subst, ap, ap₂, ◌∙◌, arith, inl, inr, nat_lt, if◌then◌else◌, Bool, true, false, not, ◌||◌, cond, ltb, leb, bit_and, w8, Fits}
+use Rattle.std.proofs.Common.{ℕ, ◌%◌, ◌<◌, ◌≤◌, ◌≡◌, List, length, get_or, replicate, map, ◌+◌, ◌*◌, ◌/◌, ◌⊎◌, refl, sym, subst, ap, ap₂, ◌∙◌, arith, inl, inr, nat_lt, if◌then◌else◌, Bool, true, false, not, ◌||◌, cond, ltb, leb, bit_and, w8, Fits}
 use Rattle.std.specs.Simd.Lanes.{zip2, sel_l, Each1}
 use Rattle.std.proofs.lemmas.Bool.{cases_lt, lt-ltb, le-ltb}
 use Rattle.std.proofs.lemmas.Nat.{and_mask}
 use Rattle.std.proofs.lemmas.Simd.{swz_l, SwzOk, SwzOk-from_below, SwzOk-from_Each1, Each1-from_get_or, Each1-get_or, below_from_Fits, length-zip2, get_or-zip2, get_or-replicate, get_or-swz_l, get_or-swz_l_below, get_or-sel_l, length-sel_l, tops_compared}
-use Rattle.std.proofs.lemmas.List.{get_or-map, length-map}
 use Rattle.std.proofs.lemmas.List.FromFn.{get_or-map-range_with_len}
 use Rattle.std.specs.List.{range_with_len}
 use Rattle.std.proofs.Math.Nat.{mod-eq_of_lt}
@@ -59,9 +58,9 @@ computed f g n k d same below =
     let place : 0 + k ≡ k = omega arith in
     sym (get_or-map-range_with_len f 0 n k k d below place) ∙ ap (λ l. get_or l k d) same ∙ get_or-map-range_with_len g 0 n k k d below place
 
--- an index below 16 is the position, and one above becomes 128 or more
+-- an index below 16 is the position, and one above becomes 128
 abbrev position : ℕ → ℕ
-position j = bit_and ((j + cond (ltb 112 (255 - j)) 112 (255 - j)) % 256) 143
+position j = bit_and ((cond (ltb j 16) j 16 + 112) % 256) 143
 
 zero_from_16 : (j : ℕ) → j < 256 → leb 128 (position j) ≡ not (ltb j 16)
 zero_from_16 j below = computed (λ k. leb 128 (position k)) (λ k. not (ltb k 16)) 256 j false refl below
@@ -72,45 +71,57 @@ same_below_16 j below = computed position (λ k. k) 16 j 0 refl below
 position_fits : (j : ℕ) → j < 256 → (leb 128 (position j) || ltb (position j) 16) ≡ true
 position_fits j below = computed (λ k. leb 128 (position k) || ltb (position k) 16) (λ _. true) 256 j false refl below
 
--- the positions of indices, by a saturating sum
+-- the positions of indices
 abbrev positions : List ℕ → List ℕ
 positions js =
-    let rest = map (λ j. 255 - j) js in
-    zip2 bit_and (zip2 (λ a b. (a + b) % 256) js (sel_l (map (top 7) (zip2 (λ a b. cond (ltb a b) 255 0) (replicate 16 112) rest)) (replicate 16 112) rest)) (replicate 16 143)
+    let least = sel_l (map (top 7) (zip2 (λ a b. cond (ltb a b) 255 0) js (replicate 16 16))) js (replicate 16 16) in
+    zip2 bit_and (zip2 (λ a b. (a + b) % 256) least (replicate 16 112)) (replicate 16 143)
 
 module _ (js : List ℕ) (long : length js ≡ 16) (fits : Each1 (Fits w8) js) where
-  position_at : (i : ℕ) → i < 16 → get_or (positions js) i 0 ≡ position (get_or js i 0)
-  position_at i inside =
-      let rest : List ℕ = map (λ j. 255 - j) js in
-      let most : List ℕ = replicate 16 112 in
-      let tests : List Bool = zip2 ltb most rest in
-      let many : length rest ≡ 16 = length-map js (λ j. 255 - j) ∙ long in
-      let tested : length tests ≡ 16 = length-zip2 ltb most rest (sym many) in
-      let at_rest : get_or rest i 0 ≡ 255 - get_or js i 0 = get_or-map (λ j. 255 - j) js i 0 0 (omega arith) in
-      let added : List ℕ = sel_l (map (top 7) (zip2 (λ a b. cond (ltb a b) 255 0) most rest)) most rest in
-      let is_added : added ≡ sel_l tests most rest = ap (λ ms. sel_l ms most rest) (tops_compared w8 ltb most rest) in
-      let adds : length added ≡ 16 = ap length is_added ∙ length-sel_l tests most rest (omega arith) (omega arith) ∙ tested in
-      let add : get_or added i 0 ≡ cond (ltb 112 (255 - get_or js i 0)) 112 (255 - get_or js i 0) =
-      ap (λ l. get_or l i 0) is_added ∙ get_or-sel_l tests most rest i 0 (omega arith) inside (omega arith)
-      ∙ ap₂ (λ t x. cond t (get_or most i 0) x) (get_or-zip2 ltb most rest i 0 0 false inside (omega arith) ∙ ap₂ ltb (get_or-replicate 16 i 112 0 inside) at_rest) at_rest
-      ∙ ap (λ x. cond (ltb 112 (255 - get_or js i 0)) x (255 - get_or js i 0)) (get_or-replicate 16 i 112 0 inside) in
-      let sums : List ℕ = zip2 (λ a b. (a + b) % 256) js added in
-      let summed : length sums ≡ 16 = length-zip2 (λ a b. (a + b) % 256) js added (long ∙ sym adds) ∙ long in
-      get_or-zip2 bit_and sums (replicate 16 143) i 0 0 0 (omega arith) inside
-      ∙ ap₂ bit_and
-      (get_or-zip2 (λ a b. (a + b) % 256) js added i 0 0 0 (omega arith) (omega arith) ∙ ap (λ b. (get_or js i 0 + b) % 256) add)
-      (get_or-replicate 16 i 143 0 inside)
+  abbrev tests : List Bool
+  tests = map (top 7) (zip2 (λ a b. cond (ltb a b) 255 0) js (replicate 16 16))
+
+  abbrev least : List ℕ
+  least = sel_l tests js (replicate 16 16)
+
+  is_least : least ≡ sel_l (zip2 ltb js (replicate 16 16)) js (replicate 16 16)
+  is_least = ap (λ ms. sel_l ms js (replicate 16 16)) (tops_compared w8 ltb js (replicate 16 16))
+
+  many_tests : length (zip2 ltb js (replicate 16 16)) ≡ 16
+  many_tests = length-zip2 ltb js (replicate 16 16) long ∙ long
+
+  many_least : length least ≡ 16
+  many_least =
+      let many = many_tests in
+      ap length is_least ∙ length-sel_l (zip2 ltb js (replicate 16 16)) js (replicate 16 16) (omega arith) many ∙ many
+
+  least_at : (i : ℕ) → i < 16 → get_or least i 0 ≡ cond (ltb (get_or js i 0) 16) (get_or js i 0) 16
+  least_at i inside =
+      let many = many_tests in
+      let limit : List ℕ = replicate 16 16 in
+      let sixteen : get_or limit i 0 ≡ 16 = get_or-replicate 16 i 16 0 inside in
+      ap (λ l. get_or l i 0) is_least
+      ∙ get_or-sel_l (zip2 ltb js (replicate 16 16)) js (replicate 16 16) i 0 (omega arith) (omega arith) inside
+      ∙ ap₂ (λ t x. cond t (get_or js i 0) x) (get_or-zip2 ltb js (replicate 16 16) i 0 0 false (omega arith) inside ∙ ap (ltb (get_or js i 0)) sixteen) sixteen
+
+  abbrev sums : List ℕ
+  sums = zip2 (λ a b. (a + b) % 256) least (replicate 16 112)
+
+  many_sums : length sums ≡ 16
+  many_sums = length-zip2 (λ a b. (a + b) % 256) least (replicate 16 112) many_least ∙ many_least
 
   length_positions : length (positions js) ≡ 16
-  length_positions =
-      let rest : List ℕ = map (λ j. 255 - j) js in
-      let most : List ℕ = replicate 16 112 in
-      let many : length rest ≡ 16 = length-map js (λ j. 255 - j) ∙ long in
-      let tested : List Bool = map (top 7) (zip2 (λ a b. cond (ltb a b) 255 0) most rest) in
-      let tests : length tested ≡ 16 = length-map (zip2 (λ a b. cond (ltb a b) 255 0) most rest) (top 7) ∙ length-zip2 (λ a b. cond (ltb a b) 255 0) most rest (sym many) in
-      let adds : length (sel_l tested most rest) ≡ 16 = length-sel_l tested most rest tests (omega arith) ∙ tests in
-      let summed : length (zip2 (λ a b. (a + b) % 256) js (sel_l tested most rest)) ≡ 16 = length-zip2 (λ a b. (a + b) % 256) js (sel_l tested most rest) (long ∙ sym adds) ∙ long in
-      length-zip2 bit_and (zip2 (λ a b. (a + b) % 256) js (sel_l tested most rest)) (replicate 16 143) summed ∙ summed
+  length_positions = length-zip2 bit_and sums (replicate 16 143) many_sums ∙ many_sums
+
+  position_at : (i : ℕ) → i < 16 → get_or (positions js) i 0 ≡ position (get_or js i 0)
+  position_at i inside =
+      let at_least : i < length least = omega (arith, many_least) in
+      let at_sums : i < length sums = omega (arith, many_sums) in
+      get_or-zip2 bit_and sums (replicate 16 143) i 0 0 0 at_sums inside
+      ∙ ap₂ bit_and
+      (get_or-zip2 (λ a b. (a + b) % 256) least (replicate 16 112) i 0 0 0 at_least inside
+      ∙ ap₂ (λ a b. (a + b) % 256) (least_at i inside) (get_or-replicate 16 i 112 0 inside))
+      (get_or-replicate 16 i 143 0 inside)
 
   index_below : (i : ℕ) → i < 16 → get_or js i 0 < 256
   index_below i inside = Each1-get_or (λ j. j < 256) js i 0 (omega arith) (below_from_Fits w8 js fits)

@@ -1,14 +1,15 @@
 -- The one bits of each lane, counted in lanes of twice the width step by step.
-use Rattle.std.proofs.Common.{◌≡◌, ℕ, zero, suc, ◌+◌, ◌-◌, ◌*◌, ◌/◌, ◌%◌, ◌^◌, ◌<◌, refl, sym, ap, ap₂, subst, ◌∙◌, arith, mul-add, mul-suc, mul-zero, add-mul, mul-one, mod-lt, mod-eq_of_lt, bit_and, pow-suc, lit<, count_ones}
+use Rattle.std.proofs.Common.{◌≡◌, ℕ, zero, suc, ◌+◌, ◌-◌, ◌*◌, ◌/◌, ◌%◌, ◌^◌, ◌<◌, refl, sym, ap, ap₂, subst, ◌∙◌, ◌⊎◌, ◌≤◌, inl, inr, arith, mul-add, mul-suc, mul-zero, add-mul, mul-one, mod-lt, mod-eq_of_lt, bit_and, pow-suc, lit<, count_ones}
 use Rattle.std.proofs.Math.Nat.{mod-one}
-use Rattle.std.proofs.lemmas.Nat.{pow_pos, shr-shr, mod-pow-add, and_mask, ones_cat, ones-le}
+use Rattle.std.proofs.lemmas.Nat.{pow_pos, shr-shr, mod-pow-add, and_mask, and_le_l, and_le_r, ones_cat, ones-le}
 use Rattle.std.proofs.Math.Pow.{mod-mod-pow}
 use Rattle.std.proofs.lemmas.Nat.Bits.{bit_at_and, bit_at_ones_above}
 use Rattle.std.specs.Int.{bit_at}
 use Rattle.std.specs.Int.Count.{ones}
 use Rattle.wasmi_lanes.specs.Words.{field}
-use Rattle.wasmi_lanes.proofs.FieldLemmas.{field_and, field_add, field_lt, repeated_lane, top_of_lane}
+use Rattle.wasmi_lanes.proofs.FieldLemmas.{field_and, field_add, field_lt, field_mod, field_wrapping_sub, repeated_lane, top_of_lane}
 use Rattle.wasmi_lanes.proofs.TopLemmas.{clear_top}
+use Rattle.wasmi_lanewise.proofs.MeanLemmas.{mean_low}
 
 -- the lower half of a lane, and its upper half
 lower_half : (w k y mask : ℕ) → field k (w + w) mask ≡ 2 ^ w - 1 → field k (w + w) (bit_and y mask) ≡ field k w y
@@ -29,7 +30,16 @@ halves w k v =
     ap count_ones (mod-pow-add (v / 2 ^ k) w w) ∙ ones_cat w (v / 2 ^ k / 2 ^ w % 2 ^ w) (v / 2 ^ k % 2 ^ w) (mod-lt (v / 2 ^ k) (pow_pos w))
     ∙ ap (λ n. count_ones (n % 2 ^ w) + count_ones (v / 2 ^ k % 2 ^ w)) (shr-shr v k w)
 
--- a lane whose upper half is clear leaves room for a carry
+-- the highest bit of a lane whose upper half is clear
+mask_off : (h n mask j : ℕ) → ((i : ℕ) → i < n → field ((suc h + suc h) * i) (suc h + suc h) mask ≡ 2 ^ suc h - 1) → j < n → bit_at mask ((suc h + suc h) * j + (h + suc h)) ≡ 0
+mask_off h n mask j is below =
+    let k : ℕ = (suc h + suc h) * j in
+    let t : ℕ = h + suc h in
+    let width : suc h + suc h ≡ suc t = omega arith in
+    let here : field k (suc t) mask ≡ 2 ^ suc h - 1 = ap (λ n. field k n mask) (sym width) ∙ is j below in
+    sym (top_of_lane k t mask) ∙ ap (λ n. bit_at n t) here ∙ bit_at_ones_above (suc h) t (omega arith)
+
+-- it leaves room for a carry
 half_room : (w n mask v i : ℕ) → 0 < w → ((j : ℕ) → j < n → field ((w + w) * j) (w + w) mask ≡ 2 ^ w - 1) → i < n →
     2 * (bit_and v mask % 2 ^ ((w + w) * i)) < 2 ^ ((w + w) * i)
 half_room w n mask v zero pos is lt =
@@ -37,15 +47,10 @@ half_room w n mask v zero pos is lt =
     subst (λ k. 2 * (bit_and v mask % 2 ^ k) < 2 ^ k) (sym none) (omega (arith, mod-one (bit_and v mask)))
 half_room zero n mask v (suc j) pos is lt = absurd (omega arith)
 half_room (suc h) n mask v (suc j) pos is lt =
-    let w : ℕ = suc h in
-    let t : ℕ = h + w in
-    let k : ℕ = (w + w) * j in
-    let width : w + w ≡ suc t = omega arith in
-    let place : (w + w) * suc j ≡ suc (k + t) = omega (arith, mul-suc (w + w) j) in
-    let here : field k (suc t) mask ≡ 2 ^ w - 1 = ap (λ n. field k n mask) (sym width) ∙ is j (omega arith) in
-    let off : bit_at mask (k + t) ≡ 0 = sym (top_of_lane k t mask) ∙ ap (λ n. bit_at n t) here ∙ bit_at_ones_above w t (omega arith) in
-    let clear : bit_at (bit_and v mask) (k + t) ≡ 0 = omega (arith, bit_at_and v mask (k + t)) in
-    subst (λ n. 2 * (bit_and v mask % 2 ^ n) < 2 ^ n) (sym place) (omega (arith, clear_top (bit_and v mask) (k + t) clear, pow-suc 2 (k + t)))
+    let top : ℕ = (suc h + suc h) * j + (h + suc h) in
+    let place : (suc h + suc h) * suc j ≡ suc top = omega (arith, mul-suc (suc h + suc h) j) in
+    let clear : bit_at (bit_and v mask) top ≡ 0 = omega (arith, bit_at_and v mask top, mask_off h n mask j is (omega arith)) in
+    subst (λ n. 2 * (bit_and v mask % 2 ^ n) < 2 ^ n) (sym place) (omega (arith, clear_top (bit_and v mask) top clear, pow-suc 2 top))
 
 -- One step: from the counts of lanes of w bits to those of lanes of twice as many.
 pub count_step : (w n v y mask : ℕ) → 0 < w → w + w < 2 ^ (w + w) → ((j : ℕ) → j < n → field ((w + w) * j) (w + w) mask ≡ 2 ^ w - 1) →
@@ -69,16 +74,84 @@ one_bit zero lt = refl
 one_bit (suc zero) lt = refl
 one_bit (suc (suc b)) lt = absurd (omega arith)
 
+pair_split : (k v : ℕ) → field k 2 v ≡ field (k + 1) 1 v * 2 + field k 1 v
+unfolding field
+pair_split k v = mod-pow-add (v / 2 ^ k) 1 1 ∙ ap (λ n. n % 2 * 2 + v / 2 ^ k % 2) (shr-shr v k 1)
+
+-- the first step: a pair less its upper bit
+first_pairs : (v j : ℕ) → v < 2 ^ 64 → j < 32 → field (2 * j) 2 ((v + (2 ^ 64 - bit_and (v / 2) 0x5555_5555_5555_5555)) % 2 ^ 64) ≡ count_ones (field (2 * j) 2 v)
+first_pairs v j fits below =
+    let k : ℕ = 2 * j in
+    let ones : ℕ = 0x5555_5555_5555_5555 in
+    let upper : ℕ = bit_and (v / 2) ones in
+    let within : k + 2 ≤ 64 = omega arith in
+    let small : upper < 2 ^ 64 = omega (arith, and_le_l (v / 2) ones) in
+    let high : field k 2 upper ≡ field (k + 1) 1 v = upper_half 1 k v ones (masks j below) in
+    field_wrapping_sub k 2 64 v upper within small (mean_low k v ones (starts j below)) ∙ ap (λ n. (field k 2 v + (4 - n)) % 4) high
+    ∙ omega (arith, pair_split k v, halves 1 k v, one_bit (field (k + 1) 1 v) (field_lt (k + 1) 1 v), one_bit (field k 1 v) (field_lt k 1 v), field_lt (k + 1) 1 v, field_lt k 1 v)
+  where
+    masks : (i : ℕ) → i < 32 → field (2 * i) 2 0x5555_5555_5555_5555 ≡ 1
+    masks i inside = repeated_lane 2 32 i 1 (lit< tt) inside
+
+    starts : (i : ℕ) → i < 32 → (2 * i ≡ 0) ⊎ (bit_at 0x5555_5555_5555_5555 (2 * i - 1) ≡ 0)
+    starts zero inside = inl refl
+    starts (suc i) inside =
+        let place : 2 * suc i - 1 ≡ 2 * i + 1 = omega arith in
+        inr (ap (bit_at 0x5555_5555_5555_5555) place ∙ mask_off 0 32 0x5555_5555_5555_5555 i masks (omega arith))
+
+-- the last step: lanes of 4 bits hold 4 at most, so that their highest bit is clear
+module _ (v z : ℕ) (counted : (j : ℕ) → j < 16 → field (4 * j) 4 z ≡ count_ones (field (4 * j) 4 v)) where
+  off : (j : ℕ) → j < 16 → bit_at z (4 * j + 3) ≡ 0
+  off j below = sym (top_of_lane (4 * j) 3 z) ∙ omega (arith, counted j below, ones-le 4 (field (4 * j) 4 v) (field_lt (4 * j) 4 v))
+
+  room : (i : ℕ) → i < 8 → z % 2 ^ (8 * i) + z / 16 % 2 ^ (8 * i) < 2 ^ (8 * i)
+  room zero below = omega (arith, mod-one z, mod-one (z / 16))
+  room (suc i) below =
+      let top : ℕ = 8 * i + 7 in
+      let place : 8 * suc i ≡ suc top = omega arith in
+      let lower : 4 * (2 * i + 1) + 3 ≡ top = omega arith in
+      let upper : 4 * (2 * i + 2) + 3 ≡ 4 + top = omega arith in
+      let first : bit_at z top ≡ 0 = ap (bit_at z) (sym lower) ∙ off (2 * i + 1) (omega arith) in
+      let second : bit_at (z / 16) top ≡ 0 = ap (λ n. n % 2) (shr-shr z 4 top) ∙ ap (bit_at z) (sym upper) ∙ off (2 * i + 2) (omega arith) in
+      subst (λ k. z % 2 ^ k + z / 16 % 2 ^ k < 2 ^ k) (sym place) (omega (arith, clear_top z top first, clear_top (z / 16) top second, pow-suc 2 top))
+
+  shifted : (k : ℕ) → field k 4 (z / 16) ≡ field (k + 4) 4 z
+  unfolding field
+  shifted k =
+      let turned : 4 + k ≡ k + 4 = omega arith in
+      ap (λ n. n % 16) (shr-shr z 4 k) ∙ ap (λ n. z / 2 ^ n % 16) turned
+
+  last_bytes : (i : ℕ) → i < 8 → field (8 * i) 8 (bit_and ((z + z / 16) % 2 ^ 64) 0x0f0f_0f0f_0f0f_0f0f) ≡ count_ones (field (8 * i) 8 v)
+  last_bytes i below =
+      let k : ℕ = 8 * i in
+      let within : k + 4 ≤ 64 = omega arith in
+      let even : 4 * (2 * i) ≡ k = omega arith in
+      let odd : 4 * (2 * i + 1) ≡ k + 4 = omega arith in
+      let low : field k 4 z ≡ count_ones (field k 4 v) = subst (λ n. field n 4 z ≡ count_ones (field n 4 v)) even (counted (2 * i) (omega arith)) in
+      let high : field (k + 4) 4 z ≡ count_ones (field (k + 4) 4 v) = subst (λ n. field n 4 z ≡ count_ones (field n 4 v)) odd (counted (2 * i + 1) (omega arith)) in
+      let small : count_ones (field k 4 v) + count_ones (field (k + 4) 4 v) < 16 = omega (arith, ones-le 4 (field k 4 v) (field_lt k 4 v), ones-le 4 (field (k + 4) 4 v) (field_lt (k + 4) 4 v)) in
+      lower_half 4 k ((z + z / 16) % 2 ^ 64) 0x0f0f_0f0f_0f0f_0f0f (repeated_lane 8 8 i 15 (lit< tt) below)
+      ∙ field_mod k 4 64 (z + z / 16) within ∙ field_add k 4 z (z / 16) (room i below)
+      ∙ ap₂ (λ m n. (m + n) % 16) low (shifted k ∙ high) ∙ mod-eq_of_lt small ∙ omega (arith, halves 4 k v)
+
 -- the three steps at bytes
-pub count_bytes : (v y z r : ℕ) →
-    y ≡ bit_and v 0x5555_5555_5555_5555 + bit_and (v / 2 ^ 1) 0x5555_5555_5555_5555 →
-    z ≡ bit_and y 0x3333_3333_3333_3333 + bit_and (y / 2 ^ 2) 0x3333_3333_3333_3333 →
-    r ≡ bit_and z 0x0f0f_0f0f_0f0f_0f0f + bit_and (z / 2 ^ 4) 0x0f0f_0f0f_0f0f_0f0f →
-    (i : ℕ) → i < 8 → field (8 * i) 8 r ≡ count_ones (field (8 * i) 8 v)
-count_bytes v y z r ey ez er i lt =
-    let bits : (j : ℕ) → j < 64 → field (1 * j) 1 v ≡ count_ones (field (1 * j) 1 v) = λ j below. one_bit (field (1 * j) 1 v) (field_lt (1 * j) 1 v) in
-    let pairs : (j : ℕ) → j < 32 → field (2 * j) 2 y ≡ count_ones (field (2 * j) 2 v) =
-    λ j below. ap (field (2 * j) 2) ey ∙ count_step 1 32 v v 0x5555_5555_5555_5555 (lit< tt) (lit< tt) (λ m mb. repeated_lane 2 32 m 1 (lit< tt) mb) bits j below in
-    let nibbles : (j : ℕ) → j < 16 → field (4 * j) 4 z ≡ count_ones (field (4 * j) 4 v) =
-    λ j below. ap (field (4 * j) 4) ez ∙ count_step 2 16 v y 0x3333_3333_3333_3333 (lit< tt) (lit< tt) (λ m mb. repeated_lane 4 16 m 3 (lit< tt) mb) pairs j below in
-    ap (field (8 * i) 8) er ∙ count_step 4 8 v z 0x0f0f_0f0f_0f0f_0f0f (lit< tt) (lit< tt) (λ m mb. repeated_lane 8 8 m 15 (lit< tt) mb) nibbles i lt
+abbrev pub counts : ℕ → ℕ
+counts v =
+    let pairs = (v + (2 ^ 64 - bit_and (v / 2) 0x5555_5555_5555_5555)) % 2 ^ 64 in
+    let nibbles = (bit_and pairs 0x3333_3333_3333_3333 + bit_and (pairs / 4) 0x3333_3333_3333_3333) % 2 ^ 64 in
+    bit_and ((nibbles + nibbles / 16) % 2 ^ 64) 0x0f0f_0f0f_0f0f_0f0f
+
+pub counts_below : (v : ℕ) → counts v < 2 ^ 64
+counts_below v = omega (arith, and_le_r)
+
+pub counts_at : (v : ℕ) → v < 2 ^ 64 → (i : ℕ) → i < 8 → field (8 * i) 8 (counts v) ≡ count_ones (field (8 * i) 8 v)
+counts_at v fits i below =
+    let pairs : ℕ = (v + (2 ^ 64 - bit_and (v / 2) 0x5555_5555_5555_5555)) % 2 ^ 64 in
+    let twos : ℕ = 0x3333_3333_3333_3333 in
+    let sums : ℕ = bit_and pairs twos + bit_and (pairs / 4) twos in
+    last_bytes v (sums % 2 ^ 64)
+    (λ j inside.
+    let within : 4 * j + 4 ≤ 64 = omega arith in
+    field_mod (4 * j) 4 64 sums within
+    ∙ count_step 2 16 v pairs twos (lit< tt) (lit< tt) (λ m mb. repeated_lane 4 16 m 3 (lit< tt) mb) (λ m mb. first_pairs v m fits mb) j inside)
+    i below

@@ -8,7 +8,7 @@ use Rattle.std.specs.Int.{bit_at}
 use Rattle.wasmi_lanes.specs.Words.{field, IsLane}
 use Rattle.wasmi_lanes.proofs.FieldLemmas.{field_or, field_xor, field_lt, field_sub, field_not, lane_shr}
 
-mean_low : (k z rest : ℕ) → (k ≡ 0) ⊎ (bit_at rest (k - 1) ≡ 0) → bit_and (z / 2) rest % 2 ^ k ≤ z % 2 ^ k
+pub mean_low : (k z rest : ℕ) → (k ≡ 0) ⊎ (bit_at rest (k - 1) ≡ 0) → bit_and (z / 2) rest % 2 ^ k ≤ z % 2 ^ k
 mean_low zero z rest starts = omega arith
 mean_low (suc j) z rest (inl e) = absurd (omega arith)
 mean_low (suc j) z rest (inr e) =

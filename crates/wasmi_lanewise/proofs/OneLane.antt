@@ -1,6 +1,6 @@
 -- One lane of a vector: by its bytes, and among lanes that are chosen by their numbers.
-use Rattle.std.proofs.Common.{ℕ, zero, suc, ◌+◌, ◌-◌, ◌*◌, ◌/◌, ◌%◌, ◌^◌, ◌<◌, ◌≡◌, List, [], ◌∷◌, length, get_or, replicate, map, refl, sym, ap, ap₂, ◌∙◌, arith, if◌then◌else◌, Bool, true, false, cond, eqb, ltb, zero-add, mul_comm, mul-add, mul-one, add-mul}
-use Rattle.std.proofs.lemmas.Nat.{shr-shr, mod-pow-add}
+use Rattle.std.proofs.Common.{ℕ, zero, suc, ◌+◌, ◌-◌, ◌*◌, ◌/◌, ◌%◌, ◌^◌, ◌<◌, ◌≡◌, List, [], ◌∷◌, length, get_or, replicate, map, refl, sym, ap, ap₂, ◌∙◌, arith, if◌then◌else◌, Bool, true, false, cond, eqb, ltb, bit_and, zero-add, mul_comm, mul-add, mul-one, add-mul}
+use Rattle.std.proofs.lemmas.Nat.{shr-shr, mod-pow-add, and_mask}
 use Rattle.std.specs.Simd.Lanes.{zip2, sel_l, number_l, digits_l}
 use Rattle.std.proofs.lemmas.Bool.{ltb-true}
 use Rattle.std.proofs.lemmas.List.{get_or-map}
@@ -48,6 +48,12 @@ chosen_make_vector w n v k at item r numbers places lanes filled counted placed 
 
 -- ---- a lane of 16 or 32 bits, by its bytes
 
+pub first_byte : (bytes : List ℕ) (x : ℕ) → length bytes ≡ 16 → get_or bytes 0 0 ≡ x → x < 256 → bit_and (number_l 256 bytes % 2 ^ 32) 255 ≡ x
+first_byte [] x long is fits = absurd (omega arith)
+first_byte (a ∷ rest) x long is fits =
+    let low : number_l 256 (a ∷ rest) % 2 ^ 32 % 2 ^ 8 ≡ x = omega (arith, is) in
+    and_mask (number_l 256 (a ∷ rest) % 2 ^ 32) 8 ∙ low
+
 pub first_two_bytes : (bytes : List ℕ) (x y : ℕ) → length bytes ≡ 16 → get_or bytes 0 0 ≡ x → get_or bytes 1 0 ≡ y → x < 256 → y < 256 → number_l 256 bytes % 65536 ≡ x + 256 * y
 first_two_bytes [] x y long is_x is_y fits_x fits_y = absurd (omega arith)
 first_two_bytes (a ∷ []) x y long is_x is_y fits_x fits_y = absurd (omega arith)
@@ -90,15 +96,34 @@ indices_inside f n k i same below inside =
 same_word : (u r k : ℕ) → lane w32 r (2 * k) ≡ lane w32 u (2 * k) → lane w32 r (2 * k + 1) ≡ lane w32 u (2 * k + 1) → lane w64 r k ≡ lane w64 u k
 same_word u r k low high = sym (joined_halves 32 r k) ∙ ap₂ (λ x y. x + 2 ^ 32 * y) low high ∙ joined_halves 32 u k
 
--- the lower half of p and the upper half of q, of which one is that of v
-pub halves_make_vector : (p q v at item r : ℕ) → r < 2 ^ 128
-    → ((i : ℕ) → i < 2 → lane w32 r i ≡ lane w32 p i) → ((i : ℕ) → i < 2 → lane w32 r (2 + i) ≡ lane w32 q (2 + i))
-    → lane w64 p 0 ≡ (if eqb 0 at then item else lane w64 v 0) → lane w64 q 1 ≡ (if eqb 1 at then item else lane w64 v 1)
-    → r ≡ with_lane w64 v at item
+-- the vector v with one half from u, of which each word is an item
+pub half_makes_vector : (u v at item r : ℕ) → lane w64 u 0 ≡ item → lane w64 u 1 ≡ item → r < 2 ^ 128
+    → ((i : ℕ) → i < 4 → lane w32 r i ≡ (if eqb (i / 2) at then lane w32 u i else lane w32 v i)) → r ≡ with_lane w64 v at item
 unfolding with_lane
-halves_make_vector p q v at item r below lower upper first second = lanes_make_vector w64 2 r _ refl below word
+half_makes_vector u v at item r first second below is = lanes_make_vector w64 2 r _ refl below word
   where
+    half : (k : ℕ) (t : Bool) → lane w32 r (2 * k) ≡ (if t then lane w32 u (2 * k) else lane w32 v (2 * k))
+        → lane w32 r (2 * k + 1) ≡ (if t then lane w32 u (2 * k + 1) else lane w32 v (2 * k + 1))
+        → lane w64 u k ≡ item → lane w64 r k ≡ (if t then item else lane w64 v k)
+    half k true low high is_item = same_word u r k low high ∙ is_item
+    half k false low high is_item = same_word v r k low high
+
     word : (i : ℕ) → i < 2 → lane w64 r i ≡ (if eqb i at then item else lane w64 v i)
-    word zero inside = same_word p r 0 (lower 0 (omega arith)) (lower 1 (omega arith)) ∙ first
-    word (suc zero) inside = same_word q r 1 (upper 0 (omega arith)) (upper 1 (omega arith)) ∙ second
+    word zero inside = half 0 (eqb 0 at) (is 0 (omega arith)) (is 1 (omega arith)) first
+    word (suc zero) inside = half 1 (eqb 1 at) (is 2 (omega arith)) (is 3 (omega arith)) second
     word (suc (suc i)) inside = absurd (omega arith)
+
+-- where the number of a half is k
+abbrev in_half : ℕ → List Bool
+in_half k = map (top 31) (zip2 (λ a b. cond (eqb a b) (2 ^ 32 - 1) 0) (0 ∷ 0 ∷ 1 ∷ 1 ∷ []) (replicate 4 k))
+
+pub chosen_half_at : (k : ℕ) (items lanes : List ℕ) (i : ℕ) → k < 2 → length items ≡ 4 → length lanes ≡ 4 → i < 4
+    → get_or (sel_l (in_half k) items lanes) i 0 ≡ (if eqb (i / 2) k then get_or items i 0 else get_or lanes i 0)
+chosen_half_at k items lanes i below many long inside =
+    let whole : length (in_half k) ≡ 4 = refl in
+    get_or-sel_l (in_half k) items lanes i 0 (omega arith) (omega arith) (omega arith) ∙ ap (λ t. cond t (get_or items i 0) (get_or lanes i 0)) (test k below)
+  where
+    test : (k : ℕ) → k < 2 → get_or (in_half k) i false ≡ eqb (i / 2) k
+    test zero below = computed (λ j. get_or (in_half 0) j false) (λ j. eqb (j / 2) 0) 4 i false refl inside
+    test (suc zero) below = computed (λ j. get_or (in_half 1) j false) (λ j. eqb (j / 2) 1) 4 i false refl inside
+    test (suc (suc k)) below = absurd (omega arith)

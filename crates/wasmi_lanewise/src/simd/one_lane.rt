@@ -10,7 +10,6 @@ ghost use Rattle.wasmi_types.specs.Wrapping.{w8, w16, w32, w64};
 ghost use Rattle.wasmi_lanes.specs.Lane.{lane};
 ghost use Rattle.wasmi_lanes.specs.Vector.{with_lane};
 
-use super::shuffle::picked;
 use std::simd::prelude::*;
 use wasmi_lanes::{
     ImmLaneIdx2, ImmLaneIdx4, ImmLaneIdx8, ImmLaneIdx16, LaneItem, SimdLane, bytes_of,
@@ -22,8 +21,19 @@ use wasmi_raw::V128;
 pub(super) fn lane_of_8(vector: V128, at: ImmLaneIdx16) -> u8
     ensures { result ≡ lane w8 vector at }
 {
-    let [lane, ..] = picked(bytes_of(vector), u8x16::splat(u8::from(at))).to_array();
-    lane
+    let indices = indices_of_8(u8::from(at));
+    let [bytes, ..] = u32x4::from_le_bytes(picked_inside(bytes_of(vector), indices)).to_array();
+    (bytes & 0xff) as u8
+}
+
+// The index of a lane of 8 bits.
+#[inline(always)]
+fn indices_of_8(lane: u8) -> u8x16
+    requires { lane < 16 }
+    ensures first { slice_index result 0 ≡ lane }
+    ensures inside { (i : ℕ) → i < 16 → slice_index result i < 16 }
+{
+    u32x4::from_array([u32::from(lane), 0, 0, 0]).to_le_bytes()
 }
 
 /// One lane of 16 bits.
@@ -133,22 +143,19 @@ pub(super) fn with_lane_of_64(vector: V128, at: ImmLaneIdx2, item: u64) -> V128
     ensures { result ≡ with_lane w64 vector at item }
 {
     let items = u32::lanes_of(V128::from_words(item, item));
-    let lanes = u32::lanes_of(vector);
-    let both = if u8::from(at) == 0 {
-        halves_of(items, lanes)
-    } else {
-        halves_of(lanes, items)
-    };
-    u32::vector_of(both)
+    u32::vector_of(with_half(u32::lanes_of(vector), u8::from(at), items))
 }
 
-// The lower half of one vector and the upper half of another.
+// The lanes of one half from `items`, those of the other half as they were.
 #[inline(always)]
-fn halves_of(lower: u32x4, upper: u32x4) -> u32x4
-    ensures lower { (i : ℕ) → i < 2 → slice_index result i ≡ slice_index lower i }
-    ensures upper { (i : ℕ) → i < 2 → slice_index result (2 + i) ≡ slice_index upper (2 + i) }
+fn with_half(lanes: u32x4, half: u8, items: u32x4) -> u32x4
+    requires { half < 2 }
+    ensures lanes { (i : ℕ) → i < 4 → slice_index result i ≡ (if (i / 2) == half then slice_index items i else slice_index lanes i) }
 {
-    lower.shuffle(upper, [0, 1, 6, 7])
+    let halves = u32x4::from_array([0, 0, 1, 1]);
+    halves
+        .simd_eq(u32x4::splat(u32::from(half)))
+        .select(items, lanes)
 }
 
 const IN_EACH_LANE_OF_8: [u64; 16] = [

@@ -26,15 +26,16 @@ pub fn i8x16_swizzle(a: V128, s: V128) -> V128
     from_bytes(picked_or_zero(bytes_of(a), bytes_of(s)))
 }
 
-// The lanes of `table` at the indices, and 0 where an index is above 15: a saturating sum brings
-// such an index to 128 or more, at which the processor's instruction gives 0.
+// The lanes of `table` at the indices, and 0 where an index is above 15: such an index becomes 128,
+// at which the processor's instruction gives 0. LLVM leaves the last mask out, since that
+// instruction reads no other bits.
 #[inline(always)]
 fn picked_or_zero(table: u8x16, indices: u8x16) -> u8x16
     ensures lanes { (i : ℕ) → i < 16 → slice_index result i
         ≡ (if nat_lt (slice_index indices i) 16 then slice_index table (slice_index indices i) else 0) }
 {
-    let positions = indices.saturating_add(u8x16::splat(0x70)) & u8x16::splat(0x8f);
-    table.swizzle_dyn_within::<16>(positions)
+    let raised = indices.simd_min(u8x16::splat(16)) + u8x16::splat(0x70);
+    table.swizzle_dyn_within::<16>(raised & u8x16::splat(0x8f))
 }
 
 /// The lanes of `table` at the low four bits of the indices.

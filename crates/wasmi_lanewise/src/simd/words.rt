@@ -3,7 +3,7 @@
 //!
 //! What is generic in a lane type takes the highest bits of a word's lanes from it.
 
-ghost use Rattle.std.specs.Prelude.{◌≡◌, ℕ, ◌*◌, ◌^◌, ◌<◌, count_ones};
+ghost use Rattle.std.specs.Prelude.{◌≡◌, ℕ, ◌^◌, ◌<◌};
 ghost use Rattle.wasmi_raw.specs.Vector.{vector_of};
 ghost use Rattle.wasmi_types.specs.Wrapping.{w8};
 ghost use Rattle.wasmi_lanes.specs.Words.{field, IsLane, AreMarks, AreFilled};
@@ -36,14 +36,18 @@ pub(super) fn differences<T: WordLane>(lhs: V128, rhs: V128) -> V128
     V128::from_words(word_sub(a_low, b_low, tops), word_sub(a_high, b_high, tops))
 }
 
-/// The lanes negated, modulo 2 to the power of their width.
+/// The lanes negated, modulo 2 to the power of their width: inverted, and 1 added to each, which is a
+/// step less than a difference from 0.
 #[inline(always)]
 pub(super) fn negations<T: WordLane>(v: V128) -> V128
     ensures { result ≡ vector.neg T.width v }
 {
     let tops = T::INNER_TOPS;
     let (low, high) = v.words();
-    V128::from_words(word_sub(0, low, tops), word_sub(0, high, tops))
+    V128::from_words(
+        word_add(!low, T::ONES, tops),
+        word_add(!high, T::ONES, tops),
+    )
 }
 
 /// All ones in the lanes that are equal, else all zeros.
@@ -112,20 +116,19 @@ fn word_averages(a: u64, b: u64, tops: u64) -> u64
 }
 
 /// How many bits of each lane of 8 bits are one.
+///
+/// Counted in lanes of 2, 4 and 8 bits in turn, each the sum of its halves. Both words are one value
+/// of the processor's, for the reason at `filled`.
 #[inline(always)]
 pub(super) fn counts_of_ones(v: V128) -> V128
     ensures { result ≡ vector.popcnt w8 v }
 {
     let (low, high) = v.words();
-    V128::from_words(word_counts(low), word_counts(high))
-}
-
-// Counted in lanes of 2, 4 and 8 bits in turn, each the sum of its halves.
-#[inline(always)]
-fn word_counts(v: u64) -> u64
-    ensures { (i : ℕ) → i < 8 → field (8 * i) 8 result ≡ count_ones (field (8 * i) 8 v) }
-{
-    let pairs = (v & 0x5555_5555_5555_5555) + ((v >> 1) & 0x5555_5555_5555_5555);
-    let nibbles = (pairs & 0x3333_3333_3333_3333) + ((pairs >> 2) & 0x3333_3333_3333_3333);
-    (nibbles & 0x0f0f_0f0f_0f0f_0f0f) + ((nibbles >> 4) & 0x0f0f_0f0f_0f0f_0f0f)
+    let words = u64x2::from_array([low, high]);
+    let ones = u64x2::splat(0x5555_5555_5555_5555);
+    let pairs = words - ((words >> u64x2::splat(1)) & ones);
+    let twos = u64x2::splat(0x3333_3333_3333_3333);
+    let nibbles = (pairs & twos) + ((pairs >> u64x2::splat(2)) & twos);
+    let fours = u64x2::splat(0x0f0f_0f0f_0f0f_0f0f);
+    from_words((nibbles + (nibbles >> u64x2::splat(4))) & fours)
 }

@@ -1,4 +1,4 @@
-use Rattle.std.proofs.Common.{refl, ◌∙◌}
+use Rattle.std.proofs.Common.{refl}
 use Rattle.wasmi_types.specs.Wrapping.{w16}
 use Rattle.wasmi_lanes.proofs.Digits.{read_at}
 use Rattle.wasmi_lanewise.proofs.OneLane.{chosen_make_vector}

@@ -1,5 +1,4 @@
-use Rattle.std.proofs.Common.{◌<◌, ◌≤◌, ◌⊎◌, ◌≡◌, ◌∙◌, inl, inr, refl, sym, ap, slice_index, nat_lt, if◌then◌else◌, arith}
-use Rattle.std.proofs.lemmas.Bool.{cases_lt, lt-ltb, le-ltb}
+use Rattle.std.proofs.Common.{◌∙◌, refl, ap, slice_index, nat_lt, if◌then◌else◌}
 use Rattle.wasmi_lanes.specs.Lane.{lane}
 use Rattle.wasmi_lanes.specs.Vector.{unary_of_lanes}
 use Rattle.wasmi_lanes.proofs.Vectors.{lanes_make_vector}
