@@ -1,5 +1,5 @@
 -- What the operands of a command write, by the word that it begins with.
-use Rattle.std.proofs.Common.{ℕ, ◌≡◌, List, [], ◌∷◌, Result, Err, bytes_eq, cond, codes, sym, subst}
+use Rattle.std.proofs.Common.{ℕ, ◌≡◌, List, [], ◌∷◌, Result, Err, bytes_eq, cond, codes, subst}
 use Rattle.wasmi_core.specs.declared.ops.LoadOp.{LoadOp}
 use Rattle.wasmi_core.specs.declared.ops.StoreOp.{StoreOp}
 use Rattle.wasmi_raw.specs.declared.raw.RawVal.{RawVal}
@@ -19,7 +19,7 @@ use Rattle.wasmi_script.specs.declared.script.line.LineError.{LineError}
 use Rattle.wasmi_script.specs.Acceptance.{Accepts}
 use Rattle.wasmi_script.specs.Words.{Words}
 use Rattle.wasmi_script.specs.Commands.{command_word, WritesOperands, NamesAfter}
-use Rattle.wasmi_script.proofs.AcceptanceLemmas.{refused_with}
+use Rattle.wasmi_script.proofs.AcceptanceLemmas.{refused_through}
 
 -- what is said beside a word, if anything is
 abbrev said : List (List ℕ × Type 0) → List ℕ → Type 0
@@ -97,5 +97,4 @@ form words (StoreLane op a memory ptr offset) w = tt
 pub refused_after : {A : Type 0} (error : LineError) (P : A → Type 0) (word : List ℕ) (words : Words) (result : Result Call LineError)
     → result ≡ Err error → Accepts {A = A} (Err error) P → (said (forms words) word → (a : A) × P a) → Accepts result (NamesAfter word words)
 refused_after error P word words result is refused part =
-    subst (λ r. Accepts r (NamesAfter word words)) (sym is)
-    (refused_with error P (NamesAfter word words) (λ call names. part (subst (said (forms words)) names.0 (form words call names.1))) refused)
+    refused_through error result is (λ call names. part (subst (said (forms words)) names.0 (form words call names.1))) refused

@@ -4,6 +4,7 @@ pub mod PoolLemmas
 pub mod AnswersLemmas
 pub mod AcceptanceLemmas
 pub mod CommandsLemmas
+pub mod WordsLemmas
 pub mod NumbersLemmas
 pub mod TypeWordsLemmas
 pub mod MemoryWordsLemmas

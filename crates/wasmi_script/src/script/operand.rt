@@ -165,7 +165,8 @@ impl Operand for VectorLoadOp {
 
 /// What two words write.
 pub fn two<A: Operand, B: Operand>(words: &[&str]) -> Result<(A, B), LineError>
-    ensures { Accepts result (λ all. (length words.now ≡ 2) × A.writes (word_at words.now 0) all.0 × B.writes (word_at words.now 1) all.1) }
+    ensures { Accepts result (λ all. (length words.now ≡ 2) × A.writes (word_at words.now 0) all.0
+        × B.writes (word_at words.now 1) all.1) }
 {
     let [a, b] = words else {
         return Err(LineError::BadCommand);
@@ -175,45 +176,45 @@ pub fn two<A: Operand, B: Operand>(words: &[&str]) -> Result<(A, B), LineError>
 
 /// What three words write.
 pub fn three<A: Operand, B: Operand, C: Operand>(words: &[&str]) -> Result<(A, B, C), LineError>
-    ensures { Accepts result (λ all. (length words.now ≡ 3) × A.writes (word_at words.now 0) all.0 × B.writes (word_at words.now 1) all.1 × C.writes (word_at words.now 2) all.2) }
+    ensures { Accepts result (λ all. (length words.now ≡ 3) × A.writes (word_at words.now 0) all.0
+        × B.writes (word_at words.now 1) all.1 × C.writes (word_at words.now 2) all.2) }
 {
-    let [a, b, c] = words else {
+    let [first, rest @ ..] = words else {
         return Err(LineError::BadCommand);
     };
-    Ok((A::from_word(a)?, B::from_word(b)?, C::from_word(c)?))
+    let a = A::from_word(first)?;
+    let (b, c) = two(rest)?;
+    Ok((a, b, c))
 }
 
 /// What four words write.
 pub fn four<A: Operand, B: Operand, C: Operand, D: Operand>(
     words: &[&str],
 ) -> Result<(A, B, C, D), LineError>
-    ensures { Accepts result (λ all. (length words.now ≡ 4) × A.writes (word_at words.now 0) all.0 × B.writes (word_at words.now 1) all.1 × C.writes (word_at words.now 2) all.2 × D.writes (word_at words.now 3) all.3) }
+    ensures { Accepts result (λ all. (length words.now ≡ 4) × A.writes (word_at words.now 0) all.0
+        × B.writes (word_at words.now 1) all.1 × C.writes (word_at words.now 2) all.2
+        × D.writes (word_at words.now 3) all.3) }
 {
-    let [a, b, c, d] = words else {
+    let [first, rest @ ..] = words else {
         return Err(LineError::BadCommand);
     };
-    Ok((
-        A::from_word(a)?,
-        B::from_word(b)?,
-        C::from_word(c)?,
-        D::from_word(d)?,
-    ))
+    let a = A::from_word(first)?;
+    let (b, c, d) = three(rest)?;
+    Ok((a, b, c, d))
 }
 
 /// What five words write.
 pub fn five<A: Operand, B: Operand, C: Operand, D: Operand, E: Operand>(
     words: &[&str],
 ) -> Result<(A, B, C, D, E), LineError>
-    ensures { Accepts result (λ all. (length words.now ≡ 5) × A.writes (word_at words.now 0) all.0 × B.writes (word_at words.now 1) all.1 × C.writes (word_at words.now 2) all.2 × D.writes (word_at words.now 3) all.3 × E.writes (word_at words.now 4) all.4) }
+    ensures { Accepts result (λ all. (length words.now ≡ 5) × A.writes (word_at words.now 0) all.0
+        × B.writes (word_at words.now 1) all.1 × C.writes (word_at words.now 2) all.2
+        × D.writes (word_at words.now 3) all.3 × E.writes (word_at words.now 4) all.4) }
 {
-    let [a, b, c, d, e] = words else {
+    let [first, rest @ ..] = words else {
         return Err(LineError::BadCommand);
     };
-    Ok((
-        A::from_word(a)?,
-        B::from_word(b)?,
-        C::from_word(c)?,
-        D::from_word(d)?,
-        E::from_word(e)?,
-    ))
+    let a = A::from_word(first)?;
+    let (b, c, d, e) = four(rest)?;
+    Ok((a, b, c, d, e))
 }
