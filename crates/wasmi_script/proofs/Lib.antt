@@ -3,6 +3,8 @@ pub mod LinesLemmas
 pub mod PoolLemmas
 pub mod AnswersLemmas
 pub mod AcceptanceLemmas
+pub mod CommandsLemmas
+pub mod WordsLemmas
 pub mod NumbersLemmas
 pub mod TypeWordsLemmas
 pub mod MemoryWordsLemmas

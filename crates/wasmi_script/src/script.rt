@@ -10,6 +10,7 @@ mod header;
 mod line;
 mod names;
 mod number;
+mod operand;
 mod types;
 
 use crate::error::ReplayError;

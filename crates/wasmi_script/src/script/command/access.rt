@@ -1,25 +1,22 @@
 //! Commands that load from a memory or store to it.
-ghost use Rattle.std.specs.Prelude.{◌≡◌, codes};
+ghost use Rattle.std.specs.Prelude.{codes};
 ghost use Rattle.wasmi_script.specs.Acceptance.{Accepts};
-ghost use Rattle.wasmi_script.specs.AccessNames.{load_name, store_name};
 ghost use Rattle.wasmi_script.specs.Commands.{NamesAfter};
 
 use super::super::line::LineError;
-use super::super::number::number;
-use wasmi_core::{Call, LoadOp, RawVal, StoreOp};
+use super::super::operand;
+use wasmi_core::{Call, RawVal};
 
 /// `load NAME K PTR OFFSET`.
 pub fn load(operands: &[&str]) -> Result<Call, LineError>
     ensures { Accepts result (NamesAfter (codes "load") operands.now) }
 {
-    let [name, memory, ptr, offset] = operands else {
-        return Err(LineError::BadCommand);
-    };
+    let (op, memory, ptr, offset) = operand::four(operands)?;
     Ok(Call::Load {
-        op: load_op(name)?,
-        memory: number(memory)?,
-        ptr: number(ptr)?,
-        offset: number(offset)?,
+        op,
+        memory,
+        ptr,
+        offset,
     })
 }
 
@@ -27,51 +24,12 @@ pub fn load(operands: &[&str]) -> Result<Call, LineError>
 pub fn store(operands: &[&str]) -> Result<Call, LineError>
     ensures { Accepts result (NamesAfter (codes "store") operands.now) }
 {
-    let [name, memory, ptr, offset, lo] = operands else {
-        return Err(LineError::BadCommand);
-    };
+    let (op, memory, ptr, offset, lo) = operand::five(operands)?;
     Ok(Call::Store {
-        op: store_op(name)?,
-        memory: number(memory)?,
-        ptr: number(ptr)?,
-        offset: number(offset)?,
-        value: RawVal::from_bits64(number(lo)?),
+        op,
+        memory,
+        ptr,
+        offset,
+        value: RawVal::from_bits64(lo),
     })
-}
-
-/// The load of a name.
-fn load_op(name: &str) -> Result<LoadOp, LineError>
-    ensures { Accepts result (λ op. name.now ≡ load_name op) }
-{
-    match name {
-        "i32_load8_s" => Ok(LoadOp::I32Load8S),
-        "i32_load8_u" => Ok(LoadOp::I32Load8U),
-        "i32_load16_s" => Ok(LoadOp::I32Load16S),
-        "i32_load16_u" => Ok(LoadOp::I32Load16U),
-        "i64_load8_s" => Ok(LoadOp::I64Load8S),
-        "i64_load8_u" => Ok(LoadOp::I64Load8U),
-        "i64_load16_s" => Ok(LoadOp::I64Load16S),
-        "i64_load16_u" => Ok(LoadOp::I64Load16U),
-        "i64_load32_s" => Ok(LoadOp::I64Load32S),
-        "i64_load32_u" => Ok(LoadOp::I64Load32U),
-        "load_u32" => Ok(LoadOp::LoadU32),
-        "load_u64" => Ok(LoadOp::LoadU64),
-        _ => Err(LineError::BadCommand),
-    }
-}
-
-/// The store of a name.
-fn store_op(name: &str) -> Result<StoreOp, LineError>
-    ensures { Accepts result (λ op. name.now ≡ store_name op) }
-{
-    match name {
-        "i32_store8" => Ok(StoreOp::I32Store8),
-        "i32_store16" => Ok(StoreOp::I32Store16),
-        "i64_store8" => Ok(StoreOp::I64Store8),
-        "i64_store16" => Ok(StoreOp::I64Store16),
-        "i64_store32" => Ok(StoreOp::I64Store32),
-        "store32" => Ok(StoreOp::Store32),
-        "store64" => Ok(StoreOp::Store64),
-        _ => Err(LineError::BadCommand),
-    }
 }

@@ -5,38 +5,28 @@ ghost use Rattle.wasmi_script.specs.Commands.{NamesAfter};
 
 use super::super::line::LineError;
 use super::super::number::number;
-use super::super::types::{mutability, val_type};
+use super::super::operand;
 use wasmi_core::{Call, GlobalType, RawVal, TypedRawVal};
 
 /// `global V const|var LO HI`.
 pub fn new_global(operands: &[&str]) -> Result<Call, LineError>
     ensures { Accepts result (NamesAfter (codes "global") operands.now) }
 {
-    let [content, mutable, lo, hi] = operands else {
-        return Err(LineError::BadCommand);
-    };
-    let ty = GlobalType::new(val_type(content)?, mutability(mutable)?);
-    let value = RawVal {
-        lo: number(lo)?,
-        hi: number(hi)?,
-    };
-    Ok(Call::NewGlobal { value, ty })
+    let (content, mutability, lo, hi) = operand::four(operands)?;
+    Ok(Call::NewGlobal {
+        value: RawVal { lo, hi },
+        ty: GlobalType::new(content, mutability),
+    })
 }
 
 /// `gset K V LO HI`.
 pub fn set(operands: &[&str]) -> Result<Call, LineError>
     ensures { Accepts result (NamesAfter (codes "gset") operands.now) }
 {
-    let [global, ty, lo, hi] = operands else {
-        return Err(LineError::BadCommand);
-    };
-    let raw = RawVal {
-        lo: number(lo)?,
-        hi: number(hi)?,
-    };
+    let (global, ty, lo, hi) = operand::four(operands)?;
     Ok(Call::SetGlobal {
-        global: number(global)?,
-        value: TypedRawVal::new(val_type(ty)?, raw),
+        global,
+        value: TypedRawVal::new(ty, RawVal { lo, hi }),
     })
 }
 

@@ -7,6 +7,7 @@ ghost use Rattle.wasmi_script.specs.Numbers.{AreNumbers, WritesNumbers};
 
 use super::super::line::LineError;
 use super::super::number::{number, number_or_none};
+use super::super::operand;
 use super::super::types::index_ty;
 use std::alloc::Global;
 use wasmi_core::{Call, IndexType, MemoryType};
@@ -35,26 +36,19 @@ pub fn new_lent_memory(operands: &[&str]) -> Result<Call, LineError>
 pub fn grow(operands: &[&str]) -> Result<Call, LineError>
     ensures { Accepts result (NamesAfter (codes "grow") operands.now) }
 {
-    let [memory, pages] = operands else {
-        return Err(LineError::BadCommand);
-    };
-    Ok(Call::GrowMemory {
-        memory: number(memory)?,
-        pages: number(pages)?,
-    })
+    let (memory, pages) = operand::two(operands)?;
+    Ok(Call::GrowMemory { memory, pages })
 }
 
 /// `read K OFFSET LEN`.
 pub fn read(operands: &[&str]) -> Result<Call, LineError>
     ensures { Accepts result (NamesAfter (codes "read") operands.now) }
 {
-    let [memory, offset, len] = operands else {
-        return Err(LineError::BadCommand);
-    };
+    let (memory, offset, len) = operand::three(operands)?;
     Ok(Call::Read {
-        memory: number(memory)?,
-        offset: number(offset)?,
-        len: number(len)?,
+        memory,
+        offset,
+        len,
     })
 }
 

@@ -5,22 +5,17 @@ ghost use Rattle.wasmi_script.specs.Commands.{NamesAfter};
 
 use super::super::line::LineError;
 use super::super::number::number;
+use super::super::operand;
 use wasmi_core::{Call, RawVal};
 
 /// `set D LO HI`.
 pub fn set(operands: &[&str]) -> Result<Call, LineError>
     ensures { Accepts result (NamesAfter (codes "set") operands.now) }
 {
-    let [dst, lo, hi] = operands else {
-        return Err(LineError::BadCommand);
-    };
-    let value = RawVal {
-        lo: number(lo)?,
-        hi: number(hi)?,
-    };
+    let (dst, lo, hi) = operand::three(operands)?;
     Ok(Call::SetRegister {
-        dst: number(dst)?,
-        value,
+        dst,
+        value: RawVal { lo, hi },
     })
 }
 

@@ -7,8 +7,9 @@ ghost use Rattle.wasmi_script.specs.TableWords.{HasLimits, NamesTableType};
 
 use super::super::line::LineError;
 use super::super::number::{number, number_or_none};
+use super::super::operand;
 use super::super::types::{index_ty, ref_type, reference};
-use wasmi_core::{Call, IndexType, RefType, TableType};
+use wasmi_core::{Call, IndexType, RefType, TableType, TypedRawRef};
 
 /// `table T MIN X WIDTH T N`.
 pub fn new_table(operands: &[&str]) -> Result<Call, LineError>
@@ -27,13 +28,11 @@ pub fn new_table(operands: &[&str]) -> Result<Call, LineError>
 pub fn grow(operands: &[&str]) -> Result<Call, LineError>
     ensures { Accepts result (NamesAfter (codes "tgrow") operands.now) }
 {
-    let [table, delta, ty, raw] = operands else {
-        return Err(LineError::BadCommand);
-    };
+    let (table, delta, ty, raw) = operand::four(operands)?;
     Ok(Call::GrowTable {
-        table: number(table)?,
-        delta: number(delta)?,
-        init: reference(ty, raw)?,
+        table,
+        delta,
+        init: TypedRawRef::new(raw, ty),
     })
 }
 
@@ -41,26 +40,19 @@ pub fn grow(operands: &[&str]) -> Result<Call, LineError>
 pub fn get(operands: &[&str]) -> Result<Call, LineError>
     ensures { Accepts result (NamesAfter (codes "get") operands.now) }
 {
-    let [table, index] = operands else {
-        return Err(LineError::BadCommand);
-    };
-    Ok(Call::GetElement {
-        table: number(table)?,
-        index: number(index)?,
-    })
+    let (table, index) = operand::two(operands)?;
+    Ok(Call::GetElement { table, index })
 }
 
 /// `tset K I T N`.
 pub fn set(operands: &[&str]) -> Result<Call, LineError>
     ensures { Accepts result (NamesAfter (codes "tset") operands.now) }
 {
-    let [table, index, ty, raw] = operands else {
-        return Err(LineError::BadCommand);
-    };
+    let (table, index, ty, raw) = operand::four(operands)?;
     Ok(Call::SetElement {
-        table: number(table)?,
-        index: number(index)?,
-        value: reference(ty, raw)?,
+        table,
+        index,
+        value: TypedRawRef::new(raw, ty),
     })
 }
 
@@ -68,15 +60,13 @@ pub fn set(operands: &[&str]) -> Result<Call, LineError>
 pub fn init(operands: &[&str]) -> Result<Call, LineError>
     ensures { Accepts result (NamesAfter (codes "init") operands.now) }
 {
-    let [table, segment, dst, src, len] = operands else {
-        return Err(LineError::BadCommand);
-    };
+    let (table, segment, dst, src, len) = operand::five(operands)?;
     Ok(Call::InitTable {
-        table: number(table)?,
-        segment: number(segment)?,
-        dst: number(dst)?,
-        src: number(src)?,
-        len: number(len)?,
+        table,
+        segment,
+        dst,
+        src,
+        len,
     })
 }
 
@@ -84,15 +74,13 @@ pub fn init(operands: &[&str]) -> Result<Call, LineError>
 pub fn copy(operands: &[&str]) -> Result<Call, LineError>
     ensures { Accepts result (NamesAfter (codes "copy") operands.now) }
 {
-    let [dst_table, dst, src_table, src, len] = operands else {
-        return Err(LineError::BadCommand);
-    };
+    let (dst_table, dst, src_table, src, len) = operand::five(operands)?;
     Ok(Call::CopyTable {
-        dst_table: number(dst_table)?,
-        dst: number(dst)?,
-        src_table: number(src_table)?,
-        src: number(src)?,
-        len: number(len)?,
+        dst_table,
+        dst,
+        src_table,
+        src,
+        len,
     })
 }
 
@@ -100,14 +88,12 @@ pub fn copy(operands: &[&str]) -> Result<Call, LineError>
 pub fn fill(operands: &[&str]) -> Result<Call, LineError>
     ensures { Accepts result (NamesAfter (codes "fill") operands.now) }
 {
-    let [table, dst, ty, raw, len] = operands else {
-        return Err(LineError::BadCommand);
-    };
+    let (table, dst, ty, raw, len) = operand::five(operands)?;
     Ok(Call::FillTable {
-        table: number(table)?,
-        dst: number(dst)?,
-        value: reference(ty, raw)?,
-        len: number(len)?,
+        table,
+        dst,
+        value: TypedRawRef::new(raw, ty),
+        len,
     })
 }
 

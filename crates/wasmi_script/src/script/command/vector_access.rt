@@ -5,23 +5,21 @@ ghost use Rattle.wasmi_script.specs.Commands.{NamesAfter};
 
 use super::super::line::LineError;
 use super::super::names::lane::{load_lane_op, store_lane_op};
-use super::super::names::load_op;
 use super::super::number::number;
+use super::super::operand;
 use wasmi_core::Call;
 
 /// `vload NAME D K PTR OFFSET`.
 pub fn load(operands: &[&str]) -> Result<Call, LineError>
     ensures { Accepts result (NamesAfter (codes "vload") operands.now) }
 {
-    let [name, dst, memory, ptr, offset] = operands else {
-        return Err(LineError::BadCommand);
-    };
+    let (op, dst, memory, ptr, offset) = operand::five(operands)?;
     Ok(Call::VectorLoad {
-        op: load_op(name)?,
-        dst: number(dst)?,
-        memory: number(memory)?,
-        ptr: number(ptr)?,
-        offset: number(offset)?,
+        op,
+        dst,
+        memory,
+        ptr,
+        offset,
     })
 }
 
@@ -46,14 +44,12 @@ pub fn load_lane(operands: &[&str]) -> Result<Call, LineError>
 pub fn store(operands: &[&str]) -> Result<Call, LineError>
     ensures { Accepts result (NamesAfter (codes "vstore") operands.now) }
 {
-    let [a, memory, ptr, offset] = operands else {
-        return Err(LineError::BadCommand);
-    };
+    let (a, memory, ptr, offset) = operand::four(operands)?;
     Ok(Call::VectorStore {
-        a: number(a)?,
-        memory: number(memory)?,
-        ptr: number(ptr)?,
-        offset: number(offset)?,
+        a,
+        memory,
+        ptr,
+        offset,
     })
 }
 
