@@ -17,9 +17,10 @@ use std::fmt::Debug;
 use std::process::Abort;
 use std::test::Fail;
 use wasmi_core::{
-    ByteList, Call, CustomFuelCosts, Fuel, FuelCostsProvider, LoadOp, Machine, MemoryError,
-    MemoryType, NoLimits, RawRef, RawVal, RefType, Reply, ResourceLimiter, ResourceLimiterRef,
-    StoreOp, TableType, TypedRawRef, run, run_lending,
+    ByteList, Call, CustomFuelCosts, Fuel, FuelCostsProvider, FuelError, GlobalType, LoadOp,
+    Machine, MemoryError, MemoryType, Mutability, NoLimits, RawRef, RawVal, RefType, Reply,
+    ResourceLimiter, ResourceLimiterRef, StoreOp, TableError, TableType, TypedRawRef, ValType, run,
+    run_lending,
 };
 
 /// Compares an answer with the expected one; `what` says in the message what was compared.
@@ -27,16 +28,162 @@ fn same<T: PartialEq + Debug + Drop>(rt: &impl Abort, what: &str, answer: T, exp
     assert_eq!(rt; answer, expected, "{what}");
 }
 
+/// A call on a memory, as a table can have it.
+#[derive(Clone, Copy)]
+enum MemoryRow {
+    /// By how many pages.
+    Grow(u64),
+    /// From an offset on, so many bytes.
+    Read(usize, usize),
+    /// From an offset on, these bytes.
+    Write(usize, &'static [u8]),
+    /// A byte at a place.
+    Load(u64),
+    /// The byte 7 at a place.
+    Store(u64),
+    Drop,
+}
+
+/// A call, as a table can have it.
+#[derive(Clone, Copy)]
+enum CallRow {
+    SetFuel(u64),
+    GetFuel,
+    /// A memory with pages of 64 KiB: its minimum and maximum.
+    NewPages(u64, Option<u64>),
+    /// A memory with pages of one byte, without a maximum.
+    NewBytes(u64),
+    /// Such a memory in the spare region.
+    NewLentBytes(u64),
+    /// A call on the memory of an index.
+    Memory(usize, MemoryRow),
+    /// A table of null references to functions, without a maximum.
+    NewTable(u32),
+    /// A table, and by how many null references to functions.
+    GrowTable(usize, u64),
+    DropTable(usize),
+    /// A segment of these objects of the host.
+    NewSegment(&'static [u32]),
+    /// A constant of 32 bits.
+    NewGlobal(u32),
+    /// A register, and a number of 32 bits.
+    SetRegister(u8, u32),
+}
+
+/// A reply, as a table can have it.
+#[derive(Clone, Copy)]
+enum ReplyRow {
+    Done,
+    Made(usize),
+    Number(u64),
+    Bytes(&'static [u8]),
+    Memory(MemoryError),
+    Table(TableError),
+    /// The meter is off.
+    NoMeter,
+    NoSuch,
+    NoRegion,
+}
+
 /// A call, and the reply that is expected.
-type Step = (Call, Reply);
+type Step = (CallRow, ReplyRow);
+
+/// A segment of these objects of the host.
+fn new_segment(alloc: Global, bits: &[u32]) -> Result<Call, AllocError> {
+    let mut items = Vec::new(alloc);
+    for item in bits {
+        items.push(RawRef::from(*item))?;
+    }
+    Ok(Call::NewSegment {
+        ty: RefType::Extern,
+        items,
+    })
+}
+
+/// The call of a row on a memory.
+fn memory_call(alloc: Global, memory: usize, row: MemoryRow) -> Result<Call, AllocError> {
+    Ok(match row {
+        MemoryRow::Grow(pages) => Call::GrowMemory { memory, pages },
+        MemoryRow::Read(offset, len) => Call::Read {
+            memory,
+            offset,
+            len,
+        },
+        MemoryRow::Write(offset, bytes) => Call::Write {
+            memory,
+            offset,
+            bytes: bytes.to_vec(alloc)?,
+        },
+        MemoryRow::Load(ptr) => Call::Load {
+            op: LoadOp::I32Load8U,
+            memory,
+            ptr,
+            offset: 0,
+        },
+        MemoryRow::Store(ptr) => Call::Store {
+            op: StoreOp::I32Store8,
+            memory,
+            ptr,
+            offset: 0,
+            value: RawVal::from(7u32),
+        },
+        MemoryRow::Drop => Call::DropMemory(memory),
+    })
+}
+
+/// The call of a row.
+fn call_of(alloc: Global, row: CallRow) -> Result<Call, Fail> {
+    Ok(match row {
+        CallRow::SetFuel(fuel) => Call::SetFuel(fuel),
+        CallRow::GetFuel => Call::GetFuel,
+        CallRow::NewPages(minimum, maximum) => Call::NewMemory(memory_type(minimum, maximum, 16)?),
+        CallRow::NewBytes(minimum) => Call::NewMemory(memory_type(minimum, None, 0)?),
+        CallRow::NewLentBytes(minimum) => Call::NewLentMemory(memory_type(minimum, None, 0)?),
+        CallRow::Memory(memory, row) => memory_call(alloc, memory, row)?,
+        CallRow::NewTable(minimum) => Call::NewTable {
+            ty: TableType::new(RefType::Func, minimum, None),
+            init: func(0),
+        },
+        CallRow::GrowTable(table, delta) => Call::GrowTable {
+            table,
+            delta,
+            init: func(0),
+        },
+        CallRow::DropTable(table) => Call::DropTable(table),
+        CallRow::NewSegment(bits) => new_segment(alloc, bits)?,
+        CallRow::NewGlobal(number) => Call::NewGlobal {
+            value: RawVal::from(number),
+            ty: GlobalType::new(ValType::I32, Mutability::Const),
+        },
+        CallRow::SetRegister(dst, number) => Call::SetRegister {
+            dst,
+            value: RawVal::from(number),
+        },
+    })
+}
+
+/// The reply of a row.
+fn reply_of(alloc: Global, row: ReplyRow) -> Result<Reply, AllocError> {
+    Ok(match row {
+        ReplyRow::Done => Reply::Done,
+        ReplyRow::Made(index) => Reply::Made(index),
+        ReplyRow::Number(number) => Reply::Number(number),
+        ReplyRow::Bytes(bytes) => Reply::Bytes(ByteList::from(bytes.to_vec(alloc)?)),
+        ReplyRow::Memory(error) => Reply::Memory(error),
+        ReplyRow::Table(error) => Reply::Table(error),
+        ReplyRow::NoMeter => Reply::Fuel(FuelError::FuelMeteringDisabled),
+        ReplyRow::NoSuch => Reply::NoSuch,
+        ReplyRow::NoRegion => Reply::NoRegion,
+    })
+}
 
 /// The calls, and the replies that are expected.
-fn split(alloc: Global, steps: Vec<Step>) -> Result<(Vec<Call>, Vec<Reply>), AllocError> {
+fn split(alloc: Global, steps: &[Step]) -> Result<(Vec<Call>, Vec<Reply>), Fail> {
     let mut calls = Vec::new(alloc);
     let mut expected = Vec::new(alloc);
     for (call, reply) in steps {
-        calls.push(call)?;
-        expected.push(reply)?;
+        calls.push(call_of(alloc, *call)?)?;
+        expected.push(reply_of(alloc, *reply)?)?;
     }
     Ok((calls, expected))
 }
@@ -45,7 +192,7 @@ fn split(alloc: Global, steps: Vec<Step>) -> Result<(Vec<Call>, Vec<Reply>), All
 fn runs_under<L: ResourceLimiter>(
     rt: &(impl Abort + AllocGlobal),
     machine: &mut Machine,
-    steps: Vec<Step>,
+    steps: &[Step],
     limiter: &mut L,
 ) -> Result<(), Fail> {
     let (calls, expected) = split(rt.alloc(), steps)?;
@@ -58,7 +205,7 @@ fn runs_under<L: ResourceLimiter>(
 fn runs_to(
     rt: &(impl Abort + AllocGlobal),
     machine: &mut Machine,
-    steps: Vec<Step>,
+    steps: &[Step],
 ) -> Result<(), Fail> {
     let (calls, expected) = split(rt.alloc(), steps)?;
     let mut limiter = ResourceLimiterRef::<NoLimits>::default();
@@ -99,70 +246,7 @@ fn memory_type(
     builder.build()
 }
 
-/// A new memory with pages of 64 KiB.
-fn new_pages(minimum: u64, maximum: Option<u64>) -> Result<Call, MemoryError> {
-    Ok(Call::NewMemory(memory_type(minimum, maximum, 16)?))
-}
-
-/// A new memory with pages of one byte, and without a maximum.
-fn new_bytes(minimum: u64) -> Result<Call, MemoryError> {
-    Ok(Call::NewMemory(memory_type(minimum, None, 0)?))
-}
-
-fn grow(memory: usize, pages: u64) -> Call {
-    Call::GrowMemory { memory, pages }
-}
-
-fn read(memory: usize, offset: usize, len: usize) -> Call {
-    Call::Read {
-        memory,
-        offset,
-        len,
-    }
-}
-
-fn write(alloc: Global, memory: usize, offset: usize, bytes: &[u8]) -> Result<Call, AllocError> {
-    let bytes = bytes.to_vec(alloc)?;
-    Ok(Call::Write {
-        memory,
-        offset,
-        bytes,
-    })
-}
-
-fn load(op: LoadOp, memory: usize, ptr: u64, offset: u64) -> Call {
-    Call::Load {
-        op,
-        memory,
-        ptr,
-        offset,
-    }
-}
-
-fn store(op: StoreOp, memory: usize, ptr: u64, offset: u64, value: RawVal) -> Call {
-    Call::Store {
-        op,
-        memory,
-        ptr,
-        offset,
-        value,
-    }
-}
-
-/// The reply with these bytes.
-fn bytes(alloc: Global, bytes: &[u8]) -> Result<Reply, AllocError> {
-    Ok(Reply::Bytes(ByteList::from(bytes.to_vec(alloc)?)))
-}
-
 /// A function reference.
 fn func(number: u32) -> TypedRawRef {
     TypedRawRef::new(RawRef::from(number), RefType::Func)
-}
-
-/// A new table of null references to functions, without a maximum.
-fn new_table(minimum: u32) -> Call {
-    Call::NewTable {
-        ty: TableType::new(RefType::Func, minimum, None),
-        init: func(0),
-    }
 }

@@ -50,3 +50,10 @@ fn answers<R: Abort>(rt: &R, alloc: Global, script: &str, printed: &str) {
     let mut reader = Source::of(script.as_bytes());
     prints(rt, alloc, &mut reader, printed, Status::Answered);
 }
+
+// Scripts whose calls are answered, and what they print.
+fn answers_each<R: Abort>(rt: &R, alloc: Global, rows: &[(&str, &str)]) {
+    for (script, printed) in rows {
+        answers(rt, alloc, script, printed);
+    }
+}

@@ -1,13 +1,13 @@
 //! Pools of tenants, by their calls; `wasmi_script_tests` has scripts of tenants.
-use super::{new_pages, runs_to, same, unmetered};
+use super::{CallRow, MemoryRow, ReplyRow, Step, runs_to, same, split, unmetered};
 use std::test::Fail;
 use wasmi_budget::{AddError, Pool};
-use wasmi_core::{Call, Reply};
+
+static PAGE: [Step; 1] = [(CallRow::NewPages(1, None), ReplyRow::Made(0))];
 
 #[test]
 fn ample_memory_pool_runs(rt: HostRuntime) -> Result<(), Fail> {
-    let calls = vec![in rt.alloc(); new_pages(1, None)?]?;
-    let expected = vec![in rt.alloc(); Reply::Made(0)]?;
+    let (calls, expected) = split(rt.alloc(), &PAGE)?;
     let mut pool = Pool::new(rt.alloc(), 65536, 0);
     let tenant = pool.add(unmetered(rt.alloc())).ok();
     same(&rt, "the tenant", tenant, Some(0));
@@ -17,14 +17,15 @@ fn ample_memory_pool_runs(rt: HostRuntime) -> Result<(), Fail> {
     Ok(())
 }
 
+static DROPPED: [Step; 2] = [
+    (CallRow::NewPages(1, None), ReplyRow::Made(0)),
+    (CallRow::Memory(0, MemoryRow::Drop), ReplyRow::Done),
+];
+
 #[test]
 fn a_machine_that_dropped_a_memory_comes_back(rt: HostRuntime) -> Result<(), Fail> {
-    let steps = vec![in rt.alloc();
-        (new_pages(1, None)?, Reply::Made(0)),
-        (Call::DropMemory(0), Reply::Done),
-    ]?;
     let mut used = unmetered(rt.alloc());
-    runs_to(&rt, &mut used, steps)?;
+    runs_to(&rt, &mut used, &DROPPED)?;
     let mut pool = Pool::new(rt.alloc(), 131072, 0);
     let refusal = pool
         .add(used)

@@ -1,11 +1,11 @@
 //! Runs under a limiter that refuses and complains by random numbers, and runs that find no memory.
-use super::{Step, grow, metered, new_bytes, new_pages, runs_to, runs_under, same, unmetered};
+use super::{
+    CallRow, MemoryRow, ReplyRow, Step, metered, runs_to, runs_under, same, split, unmetered,
+};
 use std::alloc::AllocGlobal;
 use std::process::Abort;
 use std::test::Fail;
-use wasmi_core::{
-    Call, LimiterError, Machine, MemoryError, Reply, ResourceLimiter, TableError, run_lending,
-};
+use wasmi_core::{LimiterError, Machine, MemoryError, ResourceLimiter, TableError, run_lending};
 
 const REFUSAL: LimiterError = LimiterError::ResourceLimiterDeniedAllocation;
 
@@ -90,12 +90,12 @@ const RANDOM_NUMBERS: [(u64, u64, u64); 4] = [
 ];
 
 /// The reply to a growth by one page for which there is no fuel where `is_metered`, of a memory of so many pages.
-fn reply_of(random: &mut RandomAnswers, is_metered: bool, pages: &mut u64) -> Reply {
+fn foretold(random: &mut RandomAnswers, is_metered: bool, pages: &mut u64) -> ReplyRow {
     let before = *pages;
     let error = match (random.answer(), is_metered) {
         (Ok(true), false) => {
             *pages = before.saturating_add(1);
-            return Reply::Number(before);
+            return ReplyRow::Number(before);
         }
         (Ok(true), true) => match random.heed() {
             Ok(()) => MemoryError::OutOfFuel {
@@ -106,8 +106,10 @@ fn reply_of(random: &mut RandomAnswers, is_metered: bool, pages: &mut u64) -> Re
         (Ok(false), _) => MemoryError::OutOfBoundsGrowth,
         (Err(_), _) => MemoryError::ResourceLimiterDeniedAllocation,
     };
-    Reply::Memory(error)
+    ReplyRow::Memory(error)
 }
+
+static NO_PAGES: [Step; 1] = [(CallRow::NewPages(0, None), ReplyRow::Made(0))];
 
 /// Grows a memory 32 times by one page under these answers, and compares the replies and how many pages it then has.
 fn grows_by_random_answers(
@@ -116,16 +118,16 @@ fn grows_by_random_answers(
     is_metered: bool,
     random: RandomAnswers,
 ) -> Result<u64, Fail> {
-    let made: Vec<Step> = vec![in rt.alloc(); (new_pages(0, None)?, Reply::Made(0))]?;
-    runs_to(rt, machine, made)?;
-    let mut foretold = random;
+    runs_to(rt, machine, &NO_PAGES)?;
+    let mut same_answers = random;
     let mut pages = 0;
     let mut steps: Vec<Step> = Vec::new(rt.alloc());
     for _growth in 0..32 {
-        steps.push((grow(0, 1), reply_of(&mut foretold, is_metered, &mut pages)))?;
+        let reply = foretold(&mut same_answers, is_metered, &mut pages);
+        steps.push((CallRow::Memory(0, MemoryRow::Grow(1)), reply))?;
     }
     let mut limiter = random;
-    runs_under(rt, machine, steps, &mut limiter)?;
+    runs_under(rt, machine, &steps, &mut limiter)?;
     same(rt, "the questions", limiter.questions, 32);
     let size = machine.memory(0).map(|memory| memory.size());
     same(rt, "the pages", size, Some(pages));
@@ -148,6 +150,11 @@ fn random_answers_leave_a_run_as_it_is_told(rt: HostRuntime) -> Result<(), Fail>
     Ok(())
 }
 
+static TWO_CALLS: [Step; 2] = [
+    (CallRow::SetFuel(7), ReplyRow::Done),
+    (CallRow::NewBytes(3), ReplyRow::Made(0)),
+];
+
 /// With ample memory the run is answered. Under `rt try --test --fail-alloc N` it may find none for its replies, and has then
 /// done nothing.
 #[test]
@@ -158,7 +165,7 @@ fn a_run_without_room_does_nothing(rt: HostRuntime) -> Result<(), Fail> {
         questions: 0,
     };
     let mut machine = metered(rt.alloc());
-    let calls = vec![in rt.alloc(); Call::SetFuel(7), new_bytes(3)?]?;
+    let (calls, _replies) = split(rt.alloc(), &TWO_CALLS)?;
     let (questions, fuel, bytes) = match run_lending(&mut machine, &calls, &mut random) {
         Ok(_replies) => (1, 7, 3),
         Err(_) => (0, 0, 0),

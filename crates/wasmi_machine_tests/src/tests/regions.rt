@@ -1,20 +1,11 @@
 //! What the lender of a machine's spare region finds in it after the loan; `wasmi_script_tests` has scripts on regions.
-use super::{Step, grow, memory_type, runs_to, same, write};
+use super::{CallRow, MemoryRow, ReplyRow, Step, runs_to, same};
 use std::process::Abort;
 use std::test::Fail;
-use wasmi_core::{Call, Fuel, FuelCostsProvider, Machine, MemoryError, Reply};
-
-/// A memory of pages of one byte in the spare region, without a maximum.
-fn lent_bytes(minimum: u64) -> Result<Call, MemoryError> {
-    Ok(Call::NewLentMemory(memory_type(minimum, None, 0)?))
-}
+use wasmi_core::{Fuel, FuelCostsProvider, Machine, MemoryError};
 
 /// Runs calls on a machine with a region of ten bytes of 7, and compares the replies, and what the lender finds then.
-fn finds(
-    rt: &(impl Abort + AllocGlobal),
-    steps: Vec<Step>,
-    expected: [u8; 10],
-) -> Result<(), Fail> {
+fn finds(rt: &(impl Abort + AllocGlobal), steps: &[Step], expected: [u8; 10]) -> Result<(), Fail> {
     let mut region = [7; 10];
     let fuel = Fuel::new(false, FuelCostsProvider::default());
     let mut machine = Machine::with_region(rt.alloc(), fuel, &mut region);
@@ -24,22 +15,29 @@ fn finds(
     Ok(())
 }
 
+static LENT: [Step; 3] = [
+    (CallRow::NewLentBytes(2), ReplyRow::Made(0)),
+    (CallRow::Memory(0, MemoryRow::Grow(5)), ReplyRow::Number(2)),
+    (
+        CallRow::Memory(0, MemoryRow::Write(1, &[1, 2])),
+        ReplyRow::Done,
+    ),
+];
+
 #[test]
 fn the_lender_finds_the_memory(rt: HostRuntime) -> Result<(), Fail> {
-    let steps = vec![in rt.alloc();
-        (lent_bytes(2)?, Reply::Made(0)),
-        (grow(0, 5), Reply::Number(2)),
-        (write(rt.alloc(), 0, 1, &[1, 2])?, Reply::Done),
-    ]?;
-    finds(&rt, steps, [0, 1, 2, 0, 0, 0, 0, 7, 7, 7])
+    finds(&rt, &LENT, [0, 1, 2, 0, 0, 0, 0, 7, 7, 7])
 }
+
+static TOO_SHORT: [Step; 2] = [
+    (
+        CallRow::NewLentBytes(11),
+        ReplyRow::Memory(MemoryError::InvalidStaticBufferSize),
+    ),
+    (CallRow::NewLentBytes(0), ReplyRow::NoRegion),
+];
 
 #[test]
 fn a_refused_creation_spends_the_region(rt: HostRuntime) -> Result<(), Fail> {
-    let too_short = Reply::Memory(MemoryError::InvalidStaticBufferSize);
-    let steps = vec![in rt.alloc();
-        (lent_bytes(11)?, too_short),
-        (lent_bytes(0)?, Reply::NoRegion),
-    ]?;
-    finds(&rt, steps, [7; 10])
+    finds(&rt, &TOO_SHORT, [7; 10])
 }

@@ -4,20 +4,20 @@ ghost use Rattle.wasmi_meter.specs.Holdings.{Reserves, GivesBack};
 ghost use Rattle.wasmi_meter.specs.Limiter.{kind_of};
 ghost use Rattle.wasmi_core.specs.Totals.{HoldsTotals};
 
-use super::{Step, func, grow, metered, new_pages, new_table, read, same, split, unmetered};
+use super::{CallRow, MemoryRow, ReplyRow, Step, metered, same, split, unmetered};
 use std::alloc::AllocGlobal;
 use std::process::Abort;
 use std::test::Fail;
 use wasmi_core::{
-    Call, Kind, LimiterError, Machine, MemoryError, Quota, Reply, Reserving, ResourceLimiter,
-    TableError, run_reserving,
+    Kind, LimiterError, Machine, MemoryError, Quota, Reserving, ResourceLimiter, TableError,
+    run_reserving,
 };
 
 /// Runs calls under a limiter that holds what the machine has, and compares the replies, and what both have then.
 fn reserves<L: Reserving>(
     rt: &(impl Abort + AllocGlobal),
     machine: &mut Machine,
-    steps: Vec<Step>,
+    steps: &[Step],
     limiter: &mut L,
 ) -> Result<(), Fail>
     requires { HoldsTotals (L.Reserving.holdings limiter.old) machine.old }
@@ -35,46 +35,46 @@ fn reserves<L: Reserving>(
     Ok(())
 }
 
+const MEMORY_DENIED: ReplyRow = ReplyRow::Memory(MemoryError::ResourceLimiterDeniedAllocation);
+
+static MEMORIES: [Step; 8] = [
+    (CallRow::NewPages(1, None), ReplyRow::Made(0)),
+    (CallRow::Memory(0, MemoryRow::Drop), ReplyRow::Done),
+    (CallRow::NewPages(1, None), ReplyRow::Made(1)),
+    (CallRow::NewPages(1, None), MEMORY_DENIED),
+    (CallRow::Memory(0, MemoryRow::Drop), ReplyRow::NoSuch),
+    (CallRow::Memory(2, MemoryRow::Drop), ReplyRow::NoSuch),
+    (CallRow::Memory(0, MemoryRow::Grow(0)), ReplyRow::NoSuch),
+    (CallRow::Memory(0, MemoryRow::Read(0, 0)), ReplyRow::NoSuch),
+];
+
 #[test]
 fn dropped_memories_are_held(rt: HostRuntime) -> Result<(), Fail> {
-    let denied = Reply::Memory(MemoryError::ResourceLimiterDeniedAllocation);
-    let steps = vec![in rt.alloc();
-        (new_pages(1, None)?, Reply::Made(0)),
-        (Call::DropMemory(0), Reply::Done),
-        (new_pages(1, None)?, Reply::Made(1)),
-        (new_pages(1, None)?, denied),
-        (Call::DropMemory(0), Reply::NoSuch),
-        (Call::DropMemory(2), Reply::NoSuch),
-        (grow(0, 0), Reply::NoSuch),
-        (read(0, 0, 0), Reply::NoSuch),
-    ]?;
     let mut quota = Quota::new(131072, 0);
     let mut machine = unmetered(rt.alloc());
-    reserves(&rt, &mut machine, steps, &mut quota)?;
+    reserves(&rt, &mut machine, &MEMORIES, &mut quota)?;
     same(&rt, "the bytes", machine.total_bytes(), 131072);
     same(&rt, "one is gone", machine.memory(0).is_none(), true);
     Ok(())
 }
 
+static TABLES: [Step; 6] = [
+    (CallRow::NewTable(2), ReplyRow::Made(0)),
+    (CallRow::DropTable(0), ReplyRow::Done),
+    (CallRow::DropTable(0), ReplyRow::NoSuch),
+    (CallRow::GrowTable(0, 1), ReplyRow::NoSuch),
+    (
+        CallRow::NewTable(2),
+        ReplyRow::Table(TableError::ResourceLimiterDeniedAllocation),
+    ),
+    (CallRow::NewTable(1), ReplyRow::Made(1)),
+];
+
 #[test]
 fn dropped_tables_are_held(rt: HostRuntime) -> Result<(), Fail> {
-    let denied = Reply::Table(TableError::ResourceLimiterDeniedAllocation);
-    let grown = Call::GrowTable {
-        table: 0,
-        delta: 1,
-        init: func(0),
-    };
-    let steps = vec![in rt.alloc();
-        (new_table(2), Reply::Made(0)),
-        (Call::DropTable(0), Reply::Done),
-        (Call::DropTable(0), Reply::NoSuch),
-        (grown, Reply::NoSuch),
-        (new_table(2), denied),
-        (new_table(1), Reply::Made(1)),
-    ]?;
     let mut quota = Quota::new(65536, 3);
     let mut machine = unmetered(rt.alloc());
-    reserves(&rt, &mut machine, steps, &mut quota)?;
+    reserves(&rt, &mut machine, &TABLES, &mut quota)?;
     same(&rt, "the elements", machine.total_elements(), 3);
     Ok(())
 }
@@ -179,25 +179,25 @@ impl Reserving for Allowance {
     ghost gives_back = { λ a a' failure heed noticed. noticed };
 }
 
+static FOUR_GROWTHS: [Step; 6] = [
+    (CallRow::NewPages(1, None), ReplyRow::Made(0)),
+    (CallRow::Memory(0, MemoryRow::Grow(1)), MEMORY_DENIED),
+    (CallRow::NewTable(3), ReplyRow::Made(0)),
+    (CallRow::Memory(0, MemoryRow::Drop), ReplyRow::Done),
+    (CallRow::NewPages(2, None), ReplyRow::Made(1)),
+    (CallRow::Memory(1, MemoryRow::Grow(1)), MEMORY_DENIED),
+];
+
 #[test]
 fn another_limiter_reserves(rt: HostRuntime) -> Result<(), Fail> {
-    let complaint = || Reply::Memory(MemoryError::ResourceLimiterDeniedAllocation);
     let mut allowance = Allowance {
         growths: 4,
         bytes: 0,
         elements: 0,
         last: None,
     };
-    let steps = vec![in rt.alloc();
-        (new_pages(1, None)?, Reply::Made(0)),
-        (grow(0, 1), complaint()),
-        (new_table(3), Reply::Made(0)),
-        (Call::DropMemory(0), Reply::Done),
-        (new_pages(2, None)?, Reply::Made(1)),
-        (grow(1, 1), complaint()),
-    ]?;
     let mut machine = metered(rt.alloc());
-    reserves(&rt, &mut machine, steps, &mut allowance)?;
+    reserves(&rt, &mut machine, &FOUR_GROWTHS, &mut allowance)?;
     same(&rt, "the growths that are left", allowance.growths, 0);
     let totals = (machine.total_bytes(), machine.total_elements());
     same(&rt, "the totals", totals, (196608, 3));

@@ -1,25 +1,31 @@
 //! Runs with ample memory, and runs that a quota watches.
-use super::{
-    bytes, grow, metered, new_bytes, new_pages, read, runs_to, runs_under, same, unmetered, write,
-};
+use super::{CallRow, MemoryRow, ReplyRow, Step, metered, runs_to, runs_under, same, unmetered};
 use std::test::Fail;
-use wasmi_core::{Call, FuelError, MemoryError, Quota, Reply};
+use wasmi_core::{MemoryError, Quota};
+
+const REFUSED: ReplyRow = ReplyRow::Memory(MemoryError::OutOfBoundsGrowth);
+
+static METERED: [Step; 8] = [
+    (CallRow::SetFuel(2000), ReplyRow::Done),
+    (CallRow::NewPages(1, Some(2)), ReplyRow::Made(0)),
+    (
+        CallRow::Memory(0, MemoryRow::Write(65535, &[44])),
+        ReplyRow::Done,
+    ),
+    (CallRow::Memory(0, MemoryRow::Grow(1)), ReplyRow::Number(1)),
+    (CallRow::Memory(0, MemoryRow::Grow(1)), REFUSED),
+    (
+        CallRow::Memory(0, MemoryRow::Read(65535, 2)),
+        ReplyRow::Bytes(&[44, 0]),
+    ),
+    (CallRow::GetFuel, ReplyRow::Number(976)),
+    (CallRow::Memory(1, MemoryRow::Read(0, 0)), ReplyRow::NoSuch),
+];
 
 #[test]
 fn ample_memory_runs(rt: HostRuntime) -> Result<(), Fail> {
     let mut machine = metered(rt.alloc());
-    let refused = Reply::Memory(MemoryError::OutOfBoundsGrowth);
-    let steps = vec![in rt.alloc();
-        (Call::SetFuel(2000), Reply::Done),
-        (new_pages(1, Some(2))?, Reply::Made(0)),
-        (write(rt.alloc(), 0, 65535, &[44])?, Reply::Done),
-        (grow(0, 1), Reply::Number(1)),
-        (grow(0, 1), refused),
-        (read(0, 65535, 2), bytes(rt.alloc(), &[44, 0])?),
-        (Call::GetFuel, Reply::Number(976)),
-        (read(1, 0, 0), Reply::NoSuch),
-    ]?;
-    runs_to(&rt, &mut machine, steps)?;
+    runs_to(&rt, &mut machine, &METERED)?;
     same(&rt, "the fuel", machine.fuel().get_fuel(), Ok(976));
     let size = machine.memory(0).map(|memory| memory.size());
     same(&rt, "the size", size, Some(2));
@@ -27,32 +33,42 @@ fn ample_memory_runs(rt: HostRuntime) -> Result<(), Fail> {
     Ok(())
 }
 
+static UNMETERED: [Step; 6] = [
+    (CallRow::NewBytes(0), ReplyRow::Made(0)),
+    (CallRow::Memory(0, MemoryRow::Grow(3)), ReplyRow::Number(0)),
+    (
+        CallRow::Memory(0, MemoryRow::Read(2, 2)),
+        ReplyRow::Memory(MemoryError::OutOfBoundsAccess),
+    ),
+    (
+        CallRow::Memory(0, MemoryRow::Read(3, 0)),
+        ReplyRow::Bytes(&[]),
+    ),
+    (
+        CallRow::Memory(0, MemoryRow::Read(0, 3)),
+        ReplyRow::Bytes(&[0, 0, 0]),
+    ),
+    (CallRow::SetFuel(5), ReplyRow::NoMeter),
+];
+
 #[test]
 fn ample_memory_reads(rt: HostRuntime) -> Result<(), Fail> {
-    let past_the_end = Reply::Memory(MemoryError::OutOfBoundsAccess);
-    let no_meter = Reply::Fuel(FuelError::FuelMeteringDisabled);
-    let steps = vec![in rt.alloc();
-        (new_bytes(0)?, Reply::Made(0)),
-        (grow(0, 3), Reply::Number(0)),
-        (read(0, 2, 2), past_the_end),
-        (read(0, 3, 0), bytes(rt.alloc(), &[])?),
-        (read(0, 0, 3), bytes(rt.alloc(), &[0, 0, 0])?),
-        (Call::SetFuel(5), no_meter),
-    ]?;
-    runs_to(&rt, &mut unmetered(rt.alloc()), steps)
+    runs_to(&rt, &mut unmetered(rt.alloc()), &UNMETERED)
 }
+
+static WATCHED: [Step; 3] = [
+    (CallRow::NewPages(1, None), ReplyRow::Made(0)),
+    (
+        CallRow::NewPages(1, None),
+        ReplyRow::Memory(MemoryError::ResourceLimiterDeniedAllocation),
+    ),
+    (CallRow::Memory(0, MemoryRow::Grow(1)), REFUSED),
+];
 
 #[test]
 fn quota_watches_a_run(rt: HostRuntime) -> Result<(), Fail> {
-    let denied = Reply::Memory(MemoryError::ResourceLimiterDeniedAllocation);
-    let refused = Reply::Memory(MemoryError::OutOfBoundsGrowth);
-    let steps = vec![in rt.alloc();
-        (new_pages(1, None)?, Reply::Made(0)),
-        (new_pages(1, None)?, denied),
-        (grow(0, 1), refused),
-    ]?;
     let mut quota = Quota::new(131071, 0);
-    runs_under(&rt, &mut unmetered(rt.alloc()), steps, &mut quota)?;
+    runs_under(&rt, &mut unmetered(rt.alloc()), &WATCHED, &mut quota)?;
     let held = (quota.held_bytes(), quota.held_elements());
     same(&rt, "what is held", held, (65536, 0));
     Ok(())

@@ -1,30 +1,19 @@
 //! What a host sees of a machine after a run.
-use super::{func, new_table, runs_to, same, unmetered};
+use super::{CallRow, ReplyRow, Step, func, runs_to, same, unmetered};
 use std::test::Fail;
-use wasmi_core::{Call, GlobalType, Mutability, RawRef, RawVal, RefType, Reply, ValType};
+use wasmi_core::RawVal;
+
+static MADE: [Step; 4] = [
+    (CallRow::NewTable(5), ReplyRow::Made(0)),
+    (CallRow::NewSegment(&[1, 2]), ReplyRow::Made(0)),
+    (CallRow::NewGlobal(7), ReplyRow::Made(0)),
+    (CallRow::SetRegister(15, 8), ReplyRow::Done),
+];
 
 #[test]
 fn shows_what_calls_made(rt: HostRuntime) -> Result<(), Fail> {
-    let segment = Call::NewSegment {
-        ty: RefType::Extern,
-        items: vec![in rt.alloc(); RawRef::from(1), RawRef::from(2)]?,
-    };
-    let global = Call::NewGlobal {
-        value: RawVal::from(7u32),
-        ty: GlobalType::new(ValType::I32, Mutability::Const),
-    };
-    let register = Call::SetRegister {
-        dst: 15,
-        value: RawVal::from(8u32),
-    };
-    let steps = vec![in rt.alloc();
-        (new_table(5), Reply::Made(0)),
-        (segment, Reply::Made(0)),
-        (global, Reply::Made(0)),
-        (register, Reply::Done),
-    ]?;
     let mut machine = unmetered(rt.alloc());
-    runs_to(&rt, &mut machine, steps)?;
+    runs_to(&rt, &mut machine, &MADE)?;
     let first = machine.table(0).and_then(|table| table.get(4));
     same(&rt, "an element", first, Some(func(0)));
     let items = machine.segment(0).map(|segment| segment.size());

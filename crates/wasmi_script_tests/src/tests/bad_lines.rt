@@ -7,7 +7,7 @@ use std::test::Fail;
 use wasmi_script::Status;
 
 // No line but the script's only one, which is no command.
-const BAD_LINES: [&[u8]; 26] = [
+static BAD_LINES: [&[u8]; 26] = [
     b"fuel",
     b"fuel +1",
     b"fuel -1",
@@ -37,7 +37,7 @@ const BAD_LINES: [&[u8]; 26] = [
 ];
 
 // More of them: numbers that are none or too large, words too many or too few.
-const MORE_BAD_LINES: [&[u8]; 34] = [
+static MORE_BAD_LINES: [&[u8]; 34] = [
     b"fuel 99999999999999999999",
     b"fuel 184467440737095516150",
     b"fuel 0x10",
@@ -75,7 +75,7 @@ const MORE_BAD_LINES: [&[u8]; 34] = [
 ];
 
 // Lines of tables, element segments and globals.
-const BAD_LINES_OF_TABLES: [&[u8]; 48] = [
+static BAD_LINES_OF_TABLES: [&[u8]; 48] = [
     b"table",
     b"table func 0 none 32 func",
     b"table func 0 none 32 func 0 0",
@@ -127,7 +127,7 @@ const BAD_LINES_OF_TABLES: [&[u8]; 48] = [
 ];
 
 // Lines of registers and of vector instructions on them.
-const BAD_LINES_OF_REGISTERS: [&[u8]; 38] = [
+static BAD_LINES_OF_REGISTERS: [&[u8]; 38] = [
     b"set 0 1",
     b"set 0 1 2 3",
     b"set 256 0 0",
@@ -169,7 +169,7 @@ const BAD_LINES_OF_REGISTERS: [&[u8]; 38] = [
 ];
 
 // Lines of lanes, of which there is none with that index, and of shuffles.
-const BAD_LINES_OF_LANES: [&[u8]; 22] = [
+static BAD_LINES_OF_LANES: [&[u8]; 22] = [
     b"extract i8x16_extract_lane_u 0 16",
     b"extract i16x8_extract_lane_s 0 8",
     b"extract i32x4_extract_lane 0 4",
@@ -195,7 +195,7 @@ const BAD_LINES_OF_LANES: [&[u8]; 22] = [
 ];
 
 // Lines of vectors and their lanes in memories.
-const BAD_LINES_OF_VECTOR_ACCESSES: [&[u8]; 23] = [
+static BAD_LINES_OF_VECTOR_ACCESSES: [&[u8]; 23] = [
     b"vload v128_load 0 0 0",
     b"vload v128_load 0 0 0 0 0",
     b"vload load_u32 0 0 0 0",
@@ -231,59 +231,60 @@ fn is_bad<R: Abort>(rt: &R, alloc: Global, script: &[u8], printed: &str) {
     );
 }
 
+// Lines, each of which is a script's only one and no command.
+fn are_bad<R: Abort>(rt: &R, alloc: Global, lines: &[&[u8]]) {
+    for line in lines {
+        is_bad(rt, alloc, line, "line 1: bad command\n");
+    }
+}
+
 #[test]
 fn names_the_first_bad_line(rt: HostRuntime) {
-    for script in BAD_LINES {
-        is_bad(&rt, rt.alloc(), script, "line 1: bad command\n");
-    }
+    are_bad(&rt, rt.alloc(), &BAD_LINES);
 }
 
 #[test]
 fn takes_no_other_numbers_or_words(rt: HostRuntime) {
-    for script in MORE_BAD_LINES {
-        is_bad(&rt, rt.alloc(), script, "line 1: bad command\n");
-    }
-    for script in BAD_LINES_OF_TABLES {
-        is_bad(&rt, rt.alloc(), script, "line 1: bad command\n");
-    }
+    are_bad(&rt, rt.alloc(), &MORE_BAD_LINES);
+    are_bad(&rt, rt.alloc(), &BAD_LINES_OF_TABLES);
 }
 
 #[test]
 fn takes_no_other_registers_lanes_or_names(rt: HostRuntime) {
-    for script in BAD_LINES_OF_REGISTERS {
-        is_bad(&rt, rt.alloc(), script, "line 1: bad command\n");
-    }
-    for script in BAD_LINES_OF_LANES {
-        is_bad(&rt, rt.alloc(), script, "line 1: bad command\n");
-    }
-    for script in BAD_LINES_OF_VECTOR_ACCESSES {
-        is_bad(&rt, rt.alloc(), script, "line 1: bad command\n");
+    are_bad(&rt, rt.alloc(), &BAD_LINES_OF_REGISTERS);
+    are_bad(&rt, rt.alloc(), &BAD_LINES_OF_LANES);
+    are_bad(&rt, rt.alloc(), &BAD_LINES_OF_VECTOR_ACCESSES);
+}
+
+// Scripts, and what is printed of their first bad line.
+fn have_bad_lines<R: Abort>(rt: &R, alloc: Global, rows: &[(&str, &str)]) {
+    for (script, printed) in rows {
+        is_bad(rt, alloc, script.as_bytes(), printed);
     }
 }
 
+static LATER: [(&str, &str); 16] = [
+    ("fuel 1\nmeter on 64\nmeter", "line 2: bad command\n"),
+    ("meter off\nmeter off", "line 2: bad command\n"),
+    ("meter on 1\nmeter off\n", "line 2: bad command\n"),
+    ("left\nquota 1 1", "line 2: bad command\n"),
+    ("quota 1 1\nquota 1 1", "line 2: bad command\n"),
+    ("quota 1 1\nmeter off\nquota 2 2", "line 3: bad command\n"),
+    ("region 1 1\nregion 1 1", "line 2: bad command\n"),
+    ("lent 1 none 0 32\nregion 1 1", "line 2: bad command\n"),
+    ("left\nanswers permit", "line 2: bad command\n"),
+    ("answers\nanswers", "line 2: bad command\n"),
+    ("quota 1 1\nanswers deny", "line 2: bad command\n"),
+    ("answers\nmeter off\nquota 1 1", "line 3: bad command\n"),
+    ("meter off\n\ngrow 0", "line 3: bad command\n"),
+    ("\n\n\n\n\n\n\n\n\nleft 1", "line 10: bad command\n"),
+    ("\n \nleft\n\nmeter off\nleft 1", "line 5: bad command\n"),
+    ("left\nleft 1\nleft 2\nmeter off", "line 2: bad command\n"),
+];
+
 #[test]
 fn names_a_later_bad_line(rt: HostRuntime) {
-    let rows: [(&str, &str); 16] = [
-        ("fuel 1\nmeter on 64\nmeter", "line 2: bad command\n"),
-        ("meter off\nmeter off", "line 2: bad command\n"),
-        ("meter on 1\nmeter off\n", "line 2: bad command\n"),
-        ("left\nquota 1 1", "line 2: bad command\n"),
-        ("quota 1 1\nquota 1 1", "line 2: bad command\n"),
-        ("quota 1 1\nmeter off\nquota 2 2", "line 3: bad command\n"),
-        ("region 1 1\nregion 1 1", "line 2: bad command\n"),
-        ("lent 1 none 0 32\nregion 1 1", "line 2: bad command\n"),
-        ("left\nanswers permit", "line 2: bad command\n"),
-        ("answers\nanswers", "line 2: bad command\n"),
-        ("quota 1 1\nanswers deny", "line 2: bad command\n"),
-        ("answers\nmeter off\nquota 1 1", "line 3: bad command\n"),
-        ("meter off\n\ngrow 0", "line 3: bad command\n"),
-        ("\n\n\n\n\n\n\n\n\nleft 1", "line 10: bad command\n"),
-        ("\n \nleft\n\nmeter off\nleft 1", "line 5: bad command\n"),
-        ("left\nleft 1\nleft 2\nmeter off", "line 2: bad command\n"),
-    ];
-    for (script, printed) in rows {
-        is_bad(&rt, rt.alloc(), script.as_bytes(), printed);
-    }
+    have_bad_lines(&rt, rt.alloc(), &LATER);
 }
 
 #[test]
@@ -302,28 +303,27 @@ fn names_a_line_far_down(rt: HostRuntime) -> Result<(), Fail> {
     Ok(())
 }
 
+static OF_TENANTS: [(&str, &str); 14] = [
+    ("tenants 1 0 0\nas 1", "line 2: bad command\n"),
+    ("tenants 2 1 1\nas", "line 2: bad command\n"),
+    ("tenants 2 1 1\nas 0 1", "line 2: bad command\n"),
+    ("tenants 2 1 1\nas -1", "line 2: bad command\n"),
+    ("tenants 2 1 1\nas 1\nas 2", "line 3: bad command\n"),
+    ("tenants 1 1 1\nas 0\nmeter off", "line 3: bad command\n"),
+    ("tenants 1 1 1\ntenants 1 1 1", "line 2: bad command\n"),
+    ("quota 1 1\ntenants 1 1 1", "line 2: bad command\n"),
+    ("tenants 1 1 1\nquota 1 1", "line 2: bad command\n"),
+    ("tenants 1 1 1\nanswers", "line 2: bad command\n"),
+    ("tenants 1 1 1\nregion 1 1", "line 2: bad command\n"),
+    (
+        "region 1 1\nmeter off\ntenants 1 1 1",
+        "line 3: bad command\n",
+    ),
+    ("quota 1 1\nas 0", "line 2: bad command\n"),
+    ("left\ntenants 1 1 1", "line 2: bad command\n"),
+];
+
 #[test]
 fn names_a_bad_line_of_tenants(rt: HostRuntime) {
-    let rows: [(&str, &str); 14] = [
-        ("tenants 1 0 0\nas 1", "line 2: bad command\n"),
-        ("tenants 2 1 1\nas", "line 2: bad command\n"),
-        ("tenants 2 1 1\nas 0 1", "line 2: bad command\n"),
-        ("tenants 2 1 1\nas -1", "line 2: bad command\n"),
-        ("tenants 2 1 1\nas 1\nas 2", "line 3: bad command\n"),
-        ("tenants 1 1 1\nas 0\nmeter off", "line 3: bad command\n"),
-        ("tenants 1 1 1\ntenants 1 1 1", "line 2: bad command\n"),
-        ("quota 1 1\ntenants 1 1 1", "line 2: bad command\n"),
-        ("tenants 1 1 1\nquota 1 1", "line 2: bad command\n"),
-        ("tenants 1 1 1\nanswers", "line 2: bad command\n"),
-        ("tenants 1 1 1\nregion 1 1", "line 2: bad command\n"),
-        (
-            "region 1 1\nmeter off\ntenants 1 1 1",
-            "line 3: bad command\n",
-        ),
-        ("quota 1 1\nas 0", "line 2: bad command\n"),
-        ("left\ntenants 1 1 1", "line 2: bad command\n"),
-    ];
-    for (script, printed) in rows {
-        is_bad(&rt, rt.alloc(), script.as_bytes(), printed);
-    }
+    have_bad_lines(&rt, rt.alloc(), &OF_TENANTS);
 }

@@ -1,8 +1,8 @@
 //! Scripts whose calls are answered, and what they print.
-use super::{METERED, METERED_PRINTED, answers};
+use super::{METERED, METERED_PRINTED, answers, answers_each};
 use std::test::Fail;
 
-const ANSWERED: [(&str, &str); 17] = [
+static ANSWERED: [(&str, &str); 17] = [
     (METERED, METERED_PRINTED),
     ("", ""),
     (
@@ -69,13 +69,11 @@ const ANSWERED: [(&str, &str); 17] = [
 
 #[test]
 fn prints_the_replies(rt: HostRuntime) {
-    for (script, printed) in ANSWERED {
-        answers(&rt, rt.alloc(), script, printed);
-    }
+    answers_each(&rt, rt.alloc(), &ANSWERED);
 }
 
 // Numbers of twenty digits, memories that can't be had, indices and places past the end.
-const LARGE_NUMBERS: [(&str, &str); 7] = [
+static LARGE_NUMBERS: [(&str, &str); 7] = [
     (
         "meter on 1\nfuel 18446744073709551615\nleft",
         "done\nvalue 18446744073709551615\n",
@@ -108,13 +106,11 @@ const LARGE_NUMBERS: [(&str, &str); 7] = [
 
 #[test]
 fn takes_numbers_of_twenty_digits(rt: HostRuntime) {
-    for (script, printed) in LARGE_NUMBERS {
-        answers(&rt, rt.alloc(), script, printed);
-    }
+    answers_each(&rt, rt.alloc(), &LARGE_NUMBERS);
 }
 
 // Where lines and words stand.
-const PLACES: [(&str, &str); 7] = [
+static PLACES: [(&str, &str); 7] = [
     (
         "\n\n\n\n\n\n\n\n\n\n\n\nleft",
         "error fuel metering is disabled\n",
@@ -138,9 +134,7 @@ const PLACES: [(&str, &str); 7] = [
 
 #[test]
 fn lines_may_be_empty_and_words_far_apart(rt: HostRuntime) {
-    for (script, printed) in PLACES {
-        answers(&rt, rt.alloc(), script, printed);
-    }
+    answers_each(&rt, rt.alloc(), &PLACES);
 }
 
 #[test]

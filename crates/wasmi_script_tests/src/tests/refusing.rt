@@ -1,7 +1,7 @@
 //! Scripts under a limiter that answers from a list of words, and what they print.
-use super::answers;
+use super::answers_each;
 
-const LISTED: [(&str, &str); 7] = [
+static LISTED: [(&str, &str); 7] = [
     (
         "answers deny error permit deny error complain permit\nmeter on 64\nmemory 0 2 16 32\nmemory 0 2 16 32\nmemory 1 2 16 32\ngrow 0 1\ngrow 0 1\ngrow 0 1\ngrow 0 1\ngrow 0 0\nleft",
         "error a resource limiter denied to allocate or grow the linear memory\nerror a resource limiter denied to allocate or grow the linear memory\nmemory 0\nerror out of bounds memory growth\nerror a resource limiter denied to allocate or grow the linear memory\nerror a resource limiter denied to allocate or grow the linear memory\nerror not enough fuel. required=1024\nvalue 1\nvalue 0\n",
@@ -36,7 +36,5 @@ const LISTED: [(&str, &str); 7] = [
 
 #[test]
 fn prints_the_replies_under_listed_answers(rt: HostRuntime) {
-    for (script, printed) in LISTED {
-        answers(&rt, rt.alloc(), script, printed);
-    }
+    answers_each(&rt, rt.alloc(), &LISTED);
 }

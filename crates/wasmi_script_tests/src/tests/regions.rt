@@ -1,9 +1,9 @@
 //! Scripts with a lent region, and what they print.
 use super::streams::Source;
-use super::{answers, prints};
+use super::{answers_each, prints};
 use wasmi_script::Status;
 
-const LENT: [(&str, &str); 8] = [
+static LENT: [(&str, &str); 8] = [
     (
         "region 65536 7\nmeter on 64\nfuel 2048\nlent 0 2 16 32\ngrow 0 1\nread 0 65534 2\ngrow 0 1\nleft\nlent 0 2 16 32",
         "done\nmemory 0\nvalue 0\nbytes 0 0\nerror tried to use too small static buffer\nvalue 1024\nno region\n",
@@ -40,9 +40,7 @@ const LENT: [(&str, &str); 8] = [
 
 #[test]
 fn prints_the_replies_on_a_lent_region(rt: HostRuntime) {
-    for (script, printed) in LENT {
-        answers(&rt, rt.alloc(), script, printed);
-    }
+    answers_each(&rt, rt.alloc(), &LENT);
 }
 
 // The region is made once all lines are parsed, also where nothing is made in it.

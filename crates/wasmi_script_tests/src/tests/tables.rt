@@ -1,7 +1,7 @@
 //! Scripts of tables, and what they print.
-use super::answers;
+use super::answers_each;
 
-const TABLES: [(&str, &str); 12] = [
+static TABLES: [(&str, &str); 12] = [
     (
         "meter on 64\nfuel 10\nsegment func 1 2 3 4 5\ntable func 5 none 32 func 0\ninit 0 0 0 0 5\ncopy 0 1 0 0 3\nget 0 3\nget 0 9\nfill 0 4 func 9 2\nleft",
         "done\nsegment 0\ntable 0\ndone\ndone\nfunc 3\nnone\nerror out of bounds table access: `table.fill`\nvalue 10\n",
@@ -54,7 +54,5 @@ const TABLES: [(&str, &str); 12] = [
 
 #[test]
 fn prints_the_replies_of_tables(rt: HostRuntime) {
-    for (script, printed) in TABLES {
-        answers(&rt, rt.alloc(), script, printed);
-    }
+    answers_each(&rt, rt.alloc(), &TABLES);
 }

@@ -1,7 +1,7 @@
 //! Scripts of a pool of tenants, and what they print.
-use super::answers;
+use super::answers_each;
 
-const TENANTS: [(&str, &str); 3] = [
+static TENANTS: [(&str, &str); 3] = [
     (
         "tenants 2 131072 0\nmemory 1 none 16 32\nas 1\nmemory 1 none 16 32\nmemory 1 none 16 32\nas 0\ngrow 0 1\ndrop memory 0\nas 1\nmemory 0 none 16 32",
         "memory 0\nmemory 0\nerror a resource limiter denied to allocate or grow the linear memory\nerror out of bounds memory growth\ndone\nmemory 1\nheld 0 65536 0\nheld 1 65536 0\n",
@@ -16,7 +16,5 @@ const TENANTS: [(&str, &str); 3] = [
 
 #[test]
 fn prints_the_replies_of_tenants(rt: HostRuntime) {
-    for (script, printed) in TENANTS {
-        answers(&rt, rt.alloc(), script, printed);
-    }
+    answers_each(&rt, rt.alloc(), &TENANTS);
 }

@@ -1,7 +1,7 @@
 //! Scripts of element segments and globals, and what they print.
-use super::answers;
+use super::answers_each;
 
-const VALUES: [(&str, &str); 3] = [
+static VALUES: [(&str, &str); 3] = [
     (
         "global i32 const 7 0\ngset 0 i64 1 0\nglobal i32 var 7 0\ngset 1 i64 1 0\ngset 1 i32 8 0\ngget 1",
         "global 0\nerror tried to write to immutable global variable\nglobal 1\nerror tried to write value of non-matching type to global variable\ndone\nraw 8 0\n",
@@ -18,7 +18,5 @@ const VALUES: [(&str, &str); 3] = [
 
 #[test]
 fn prints_the_replies_of_segments_and_globals(rt: HostRuntime) {
-    for (script, printed) in VALUES {
-        answers(&rt, rt.alloc(), script, printed);
-    }
+    answers_each(&rt, rt.alloc(), &VALUES);
 }

@@ -1,6 +1,6 @@
 //! Each vector instruction by its name, on operands on which no two of one shape answer the same, but for those of one
 //! meaning. The answers are the Rust crate's.
-use super::answers;
+use super::answers_each;
 
 const MAKES: &str = "\
 set 0 10658279502124588487 11412144476497975780
@@ -57,11 +57,6 @@ raw 3103169991 0
 done
 raw 10658279502124588487 0
 ";
-
-#[test]
-fn makes_by_name(rt: HostRuntime) {
-    answers(&rt, rt.alloc(), MAKES, MAKES_PRINTED);
-}
 
 const UNARIES: &str = "\
 set 0 890727360438182992 15149836622520594227
@@ -174,11 +169,6 @@ raw 154124901370611 18446702717469475262
 done
 raw 154120606534387 240118736634302
 ";
-
-#[test]
-fn unaries_by_name(rt: HostRuntime) {
-    answers(&rt, rt.alloc(), UNARIES, UNARIES_PRINTED);
-}
 
 const BINARIES: &str = "\
 set 0 2784229351520374647 9256112523104956769
@@ -429,11 +419,6 @@ raw 0 157930250062991
 done
 raw 17740013441422369062 4097431952060515489
 ";
-
-#[test]
-fn binaries_by_name(rt: HostRuntime) {
-    answers(&rt, rt.alloc(), BINARIES, BINARIES_PRINTED);
-}
 
 const COMPARISONS: &str = "\
 set 0 1327572068617114221 5901565386386709117
@@ -737,11 +722,6 @@ done
 raw 4294967295 0
 ";
 
-#[test]
-fn comparisons_by_name(rt: HostRuntime) {
-    answers(&rt, rt.alloc(), COMPARISONS, COMPARISONS_PRINTED);
-}
-
 const TERNARIES: &str = "\
 set 0 1736392818365009963 10750541312280087032
 set 1 16781078052021535861 3960482443532127989
@@ -777,11 +757,6 @@ raw 17934174378984543277 1581662173093251581
 done
 raw 1585423637733266708 7713814810835759736
 ";
-
-#[test]
-fn ternaries_by_name(rt: HostRuntime) {
-    answers(&rt, rt.alloc(), TERNARIES, TERNARIES_PRINTED);
-}
 
 const SHIFTS: &str = "\
 set 0 12118702314076249850 15363115918905073056
@@ -838,11 +813,6 @@ raw 18445971607674440128 18446367654257060834
 done
 raw 1479333778573760 1875380361194466
 ";
-
-#[test]
-fn shifts_by_name(rt: HostRuntime) {
-    answers(&rt, rt.alloc(), SHIFTS, SHIFTS_PRINTED);
-}
 
 const TESTS: &str = "\
 set 0 9295712209692885248 9295852949311947009
@@ -930,11 +900,6 @@ raw 3 0
 raw 2 0
 ";
 
-#[test]
-fn tests_by_name(rt: HostRuntime) {
-    answers(&rt, rt.alloc(), TESTS, TESTS_PRINTED);
-}
-
 const EXTRACTS: &str = "\
 set 0 14818489584308449237 10519837767505660117
 set 1 11854699511971959196 1221126655773685969
@@ -980,11 +945,6 @@ raw 14818489584308449237 0
 raw 10519837767505660117 0
 raw 10519837767505660117 0
 ";
-
-#[test]
-fn extracts_by_name(rt: HostRuntime) {
-    answers(&rt, rt.alloc(), EXTRACTS, EXTRACTS_PRINTED);
-}
 
 const REPLACES: &str = "\
 set 0 14818489584308449237 10519837767505660117
@@ -1043,11 +1003,6 @@ raw 14818489584308449237 11854699511971959196
 done
 raw 14818489584308449237 11854699511971959196
 ";
-
-#[test]
-fn replaces_by_name(rt: HostRuntime) {
-    answers(&rt, rt.alloc(), REPLACES, REPLACES_PRINTED);
-}
 
 const LOADS: &str = "\
 memory 1 none 16 32
@@ -1111,11 +1066,6 @@ done
 raw 16656013213449865151 0
 ";
 
-#[test]
-fn loads_by_name(rt: HostRuntime) {
-    answers(&rt, rt.alloc(), LOADS, LOADS_PRINTED);
-}
-
 const LOAD_LANES: &str = "\
 memory 1 none 16 32
 write 0 8 4 68 0 75 29 237 99 191
@@ -1177,11 +1127,6 @@ raw 14818489584308449237 13791127194006733828
 done
 raw 14818489584308449237 13791127194006733828
 ";
-
-#[test]
-fn lane_loads_by_name(rt: HostRuntime) {
-    answers(&rt, rt.alloc(), LOAD_LANES, LOAD_LANES_PRINTED);
-}
 
 const STORE_LANES: &str = "\
 memory 1 none 16 32
@@ -1245,7 +1190,23 @@ done
 bytes 0 213 200 233 138 182 248 253 145 0
 ";
 
+/// The instructions of each shape.
+static SHAPES: [(&str, &str); 12] = [
+    (MAKES, MAKES_PRINTED),
+    (UNARIES, UNARIES_PRINTED),
+    (BINARIES, BINARIES_PRINTED),
+    (COMPARISONS, COMPARISONS_PRINTED),
+    (TERNARIES, TERNARIES_PRINTED),
+    (SHIFTS, SHIFTS_PRINTED),
+    (TESTS, TESTS_PRINTED),
+    (EXTRACTS, EXTRACTS_PRINTED),
+    (REPLACES, REPLACES_PRINTED),
+    (LOADS, LOADS_PRINTED),
+    (LOAD_LANES, LOAD_LANES_PRINTED),
+    (STORE_LANES, STORE_LANES_PRINTED),
+];
+
 #[test]
-fn lane_stores_by_name(rt: HostRuntime) {
-    answers(&rt, rt.alloc(), STORE_LANES, STORE_LANES_PRINTED);
+fn vector_instructions_by_name(rt: HostRuntime) {
+    answers_each(&rt, rt.alloc(), &SHAPES);
 }

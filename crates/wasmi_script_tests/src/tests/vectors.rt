@@ -1,7 +1,7 @@
 //! Scripts of registers and vector instructions, and what they print.
-use super::answers;
+use super::answers_each;
 
-const VECTORS: [(&str, &str); 11] = [
+static VECTORS: [(&str, &str); 11] = [
     (
         "memory 1 none 16 32\nwrite 0 0 255 1 2 3 4 5 6 7\nvload v128_load8x8_s 0 0 0 0\nshow 0\nvload v128_load 1 0 65521 0\nshow 1",
         "memory 0\ndone\ndone\nraw 844433520197631 1970350607106052\nerror out of bounds memory access\nraw 0 0\n",
@@ -50,7 +50,5 @@ const VECTORS: [(&str, &str); 11] = [
 
 #[test]
 fn prints_the_replies_of_vectors(rt: HostRuntime) {
-    for (script, printed) in VECTORS {
-        answers(&rt, rt.alloc(), script, printed);
-    }
+    answers_each(&rt, rt.alloc(), &VECTORS);
 }
