@@ -106,7 +106,7 @@ pub(super) fn lane_of_64(vector: V128, at: ImmLaneIdx2) -> u64
 pub(super) fn with_lane_of_8(vector: V128, at: ImmLaneIdx16, item: u8) -> V128
     ensures { result ≡ with_lane w8 vector at item }
 {
-    let here = numbers_of_8().simd_eq(in_each_lane_of_8(u8::from(at)));
+    let here = numbers_of_8().simd_eq(u8x16::splat(u8::from(at)));
     let items = here.select(u8x16::splat(item), bytes_of(vector)).to_array();
     u8::write_from(&items)
 }
@@ -156,33 +156,6 @@ fn with_half(lanes: u32x4, half: u8, items: u32x4) -> u32x4
     halves
         .simd_eq(u32x4::splat(u32::from(half)))
         .select(items, lanes)
-}
-
-const IN_EACH_LANE_OF_8: [u64; 16] = [
-    0x0000_0000_0000_0000,
-    0x0101_0101_0101_0101,
-    0x0202_0202_0202_0202,
-    0x0303_0303_0303_0303,
-    0x0404_0404_0404_0404,
-    0x0505_0505_0505_0505,
-    0x0606_0606_0606_0606,
-    0x0707_0707_0707_0707,
-    0x0808_0808_0808_0808,
-    0x0909_0909_0909_0909,
-    0x0a0a_0a0a_0a0a_0a0a,
-    0x0b0b_0b0b_0b0b_0b0b,
-    0x0c0c_0c0c_0c0c_0c0c,
-    0x0d0d_0d0d_0d0d_0d0d,
-    0x0e0e_0e0e_0e0e_0e0e,
-    0x0f0f_0f0f_0f0f_0f0f,
-];
-
-#[inline(always)]
-fn in_each_lane_of_8(lane: u8) -> u8x16
-    requires { lane < 16 }
-    ensures { result ≡ replicate 16 lane }
-{
-    u64x2::splat(IN_EACH_LANE_OF_8[usize::from(lane)]).to_le_bytes()
 }
 
 const IN_EACH_LANE_OF_16: [u64; 8] = [

@@ -36,18 +36,14 @@ pub(super) fn differences<T: WordLane>(lhs: V128, rhs: V128) -> V128
     V128::from_words(word_sub(a_low, b_low, tops), word_sub(a_high, b_high, tops))
 }
 
-/// The lanes negated, modulo 2 to the power of their width: inverted, and 1 added to each, which is a
-/// step less than a difference from 0.
+/// The lanes negated, modulo 2 to the power of their width.
 #[inline(always)]
 pub(super) fn negations<T: WordLane>(v: V128) -> V128
     ensures { result ≡ vector.neg T.width v }
 {
     let tops = T::INNER_TOPS;
     let (low, high) = v.words();
-    V128::from_words(
-        word_add(!low, T::ONES, tops),
-        word_add(!high, T::ONES, tops),
-    )
+    V128::from_words(word_sub(0, low, tops), word_sub(0, high, tops))
 }
 
 /// All ones in the lanes that are equal, else all zeros.

@@ -8,5 +8,5 @@ returns c =
     let old = c.bytes_of.ensures in
     let new = c.write_from.ensures in
     let index = c.from.ensures in
-    chosen_make_vector w8 16 c.args.vector c.from.result c.args.at c.args.item c.write_from.result c.numbers_of_8.result c.in_each_lane_of_8.result c.bytes_of.result
-    refl c.numbers_of_8.ensures c.in_each_lane_of_8.ensures (omega arith) index.0 old.lanes new.lanes new.in_range
+    chosen_make_vector w8 16 c.args.vector c.from.result c.args.at c.args.item c.write_from.result c.numbers_of_8.result _ c.bytes_of.result
+    refl c.numbers_of_8.ensures refl (omega arith) index.0 old.lanes new.lanes new.in_range
