@@ -41,11 +41,15 @@ fn i32_loads_reach_the_last_byte_and_no_further(rt: HostRuntime) {
 }
 
 #[test]
-fn i64_loads_reach_the_last_byte_and_no_further(rt: HostRuntime) {
+fn short_i64_loads_reach_the_last_byte_and_no_further(rt: HostRuntime) {
     loads!(&rt; i64_load8_s, i64_load8_s_at, 15, -1);
     loads!(&rt; i64_load8_u, i64_load8_u_at, 15, 255);
     loads!(&rt; i64_load16_s, i64_load16_s_at, 14, -1);
     loads!(&rt; i64_load16_u, i64_load16_u_at, 14, 65535);
+}
+
+#[test]
+fn long_i64_loads_reach_the_last_byte_and_no_further(rt: HostRuntime) {
     loads!(&rt; i64_load32_s, i64_load32_s_at, 12, -1);
     loads!(&rt; i64_load32_u, i64_load32_u_at, 12, 4294967295);
     loads!(&rt; load_u64, load_u64_at, 8, u64::MAX);
@@ -80,17 +84,37 @@ macro_rules! stores {
 }
 
 #[test]
-fn i32_stores_reach_the_last_byte_and_no_further(rt: HostRuntime) {
+fn i32_store8_reaches_the_last_byte_and_no_further(rt: HostRuntime) {
     stores!(&rt; i32_store8, i32_store8_at, 15, 0x0403_0201, STORED_8);
+}
+
+#[test]
+fn i32_store16_reaches_the_last_byte_and_no_further(rt: HostRuntime) {
     stores!(&rt; i32_store16, i32_store16_at, 14, 0x0403_0201, STORED_16);
+}
+
+#[test]
+fn store32_reaches_the_last_byte_and_no_further(rt: HostRuntime) {
     stores!(&rt; store32, store32_at, 12, 0x0403_0201, STORED_32);
 }
 
 #[test]
-fn i64_stores_reach_the_last_byte_and_no_further(rt: HostRuntime) {
+fn i64_store8_reaches_the_last_byte_and_no_further(rt: HostRuntime) {
     stores!(&rt; i64_store8, i64_store8_at, 15, 0x0807_0605_0403_0201, STORED_8);
+}
+
+#[test]
+fn i64_store16_reaches_the_last_byte_and_no_further(rt: HostRuntime) {
     stores!(&rt; i64_store16, i64_store16_at, 14, 0x0807_0605_0403_0201, STORED_16);
+}
+
+#[test]
+fn i64_store32_reaches_the_last_byte_and_no_further(rt: HostRuntime) {
     stores!(&rt; i64_store32, i64_store32_at, 12, 0x0807_0605_0403_0201, STORED_32);
+}
+
+#[test]
+fn store64_reaches_the_last_byte_and_no_further(rt: HostRuntime) {
     stores!(&rt; store64, store64_at, 8, 0x0807_0605_0403_0201, STORED_64);
 }
 
@@ -187,13 +211,21 @@ macro_rules! store_then_loads {
 }
 
 #[test]
-fn stores_then_loads(rt: HostRuntime) {
+fn i32_stores_then_loads(rt: HostRuntime) {
     store_then_loads!(&rt; i32_store8, 384; i32_load8_s => -128, i32_load8_u => 128);
     store_then_loads!(&rt; i32_store16, -1; i32_load16_s => -1, i32_load16_u => 65535);
+    store_then_loads!(&rt; store32, u32::MAX - 5; load_u32 => u32::MAX - 5);
+}
+
+#[test]
+fn short_i64_stores_then_loads(rt: HostRuntime) {
     store_then_loads!(&rt; i64_store8, 255; i64_load8_s => -1, i64_load8_u => 255);
     store_then_loads!(&rt; i64_store16, 65536; i64_load16_s => 0, i64_load16_u => 0);
+}
+
+#[test]
+fn long_i64_stores_then_loads(rt: HostRuntime) {
     store_then_loads!(&rt; i64_store32, -2; i64_load32_s => -2, i64_load32_u => 4294967294);
-    store_then_loads!(&rt; store32, u32::MAX - 5; load_u32 => u32::MAX - 5);
     store_then_loads!(&rt; store64, u64::MAX - 5; load_u64 => u64::MAX - 5);
 }
 

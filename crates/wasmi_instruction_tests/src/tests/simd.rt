@@ -302,7 +302,7 @@ fn numbers_are_widened(rt: HostRuntime) {
 }
 
 #[test]
-fn lanes_are_shifted_modulo_their_width(rt: HostRuntime) {
+fn lanes_of_8_bits_are_shifted_modulo_8(rt: HostRuntime) {
     let a = V128::from(A);
     vectors!(&rt;
         i8x16_shl(a, 7) => 0x00800080_00800080_00800080_00800080,
@@ -314,6 +314,13 @@ fn lanes_are_shifted_modulo_their_width(rt: HostRuntime) {
         i8x16_shr_u(a, 7) => 0x01010101_01010101_00000000_00000000,
         i8x16_shr_u(a, 11) => 0x1e1c1a18_16141210_0f0d0b09_07050301,
         i8x16_shr_u(a, 4294967295) => 0x01010101_01010101_00000000_00000000,
+    );
+}
+
+#[test]
+fn lanes_of_16_bits_are_shifted_modulo_16(rt: HostRuntime) {
+    let a = V128::from(A);
+    vectors!(&rt;
         i16x8_shl(a, 15) => 0x80008000_80008000_80008000_80008000,
         i16x8_shl(a, 19) => 0x87089618_a528b438_c348d258_e168f078,
         i16x8_shl(a, 4294967295) => 0x80008000_80008000_80008000_80008000,
@@ -323,6 +330,13 @@ fn lanes_are_shifted_modulo_their_width(rt: HostRuntime) {
         i16x8_shr_u(a, 15) => 0x00010001_00010001_00000000_00000000,
         i16x8_shr_u(a, 19) => 0x1e1c1a58_169412d0_0f0d0b49_078503c1,
         i16x8_shr_u(a, 4294967295) => 0x00010001_00010001_00000000_00000000,
+    );
+}
+
+#[test]
+fn lanes_of_32_bits_are_shifted_modulo_32(rt: HostRuntime) {
+    let a = V128::from(A);
+    vectors!(&rt;
         i32x4_shl(a, 31) => 0x80000000_80000000_80000000_80000000,
         i32x4_shl(a, 35) => 0x870e9618_a52cb438_c34ad258_e168f078,
         i32x4_shl(a, 4294967295) => 0x80000000_80000000_80000000_80000000,
@@ -332,6 +346,13 @@ fn lanes_are_shifted_modulo_their_width(rt: HostRuntime) {
         i32x4_shr_u(a, 31) => 0x00000001_00000001_00000000_00000000,
         i32x4_shr_u(a, 35) => 0x1e1c3a58_1694b2d0_0f0d2b49_0785a3c1,
         i32x4_shr_u(a, 4294967295) => 0x00000001_00000001_00000000_00000000,
+    );
+}
+
+#[test]
+fn lanes_of_64_bits_are_shifted_modulo_64(rt: HostRuntime) {
+    let a = V128::from(A);
+    vectors!(&rt;
         i64x2_shl(a, 63) => 0x80000000_00000000_80000000_00000000,
         i64x2_shl(a, 67) => 0x870e961d_a52cb438_c34ad259_e168f078,
         i64x2_shl(a, 4294967295) => 0x80000000_00000000_80000000_00000000,
@@ -407,7 +428,7 @@ fn relaxed_instructions_make_one_choice(rt: HostRuntime) {
 }
 
 #[test]
-fn loads_reach_the_last_byte_and_no_further(rt: HostRuntime) {
+fn loads_of_splats_reach_the_last_byte_and_no_further(rt: HostRuntime) {
     loads!(&rt; v128_load8_splat, v128_load8_splat_at, 19 => 0xd0d0d0d0_d0d0d0d0_d0d0d0d0_d0d0d0d0);
     loads!(&rt; v128_load16_splat, v128_load16_splat_at, 18
         => 0xd0abd0ab_d0abd0ab_d0abd0ab_d0abd0ab);
@@ -415,15 +436,27 @@ fn loads_reach_the_last_byte_and_no_further(rt: HostRuntime) {
         => 0xd0ab8661_d0ab8661_d0ab8661_d0ab8661);
     loads!(&rt; v128_load64_splat, v128_load64_splat_at, 12
         => 0xd0ab8661_3c17f2cd_d0ab8661_3c17f2cd);
+}
+
+#[test]
+fn loads_without_a_lane_reach_the_last_byte_and_no_further(rt: HostRuntime) {
     loads!(&rt; v128_load32_zero, v128_load32_zero_at, 16 => 0x00000000_00000000_00000000_d0ab8661);
     loads!(&rt; v128_load64_zero, v128_load64_zero_at, 12 => 0x00000000_00000000_d0ab8661_3c17f2cd);
-    loads!(&rt; v128_load8x8_s, v128_load8x8_s_at, 12 => 0xffd0ffab_ff860061_003c0017_fff2ffcd);
-    loads!(&rt; v128_load8x8_u, v128_load8x8_u_at, 12 => 0x00d000ab_00860061_003c0017_00f200cd);
-    loads!(&rt; v128_load16x4_s, v128_load16x4_s_at, 12 => 0xffffd0ab_ffff8661_00003c17_fffff2cd);
-    loads!(&rt; v128_load16x4_u, v128_load16x4_u_at, 12 => 0x0000d0ab_00008661_00003c17_0000f2cd);
-    loads!(&rt; v128_load32x2_s, v128_load32x2_s_at, 12 => 0xffffffff_d0ab8661_00000000_3c17f2cd);
-    loads!(&rt; v128_load32x2_u, v128_load32x2_u_at, 12 => 0x00000000_d0ab8661_00000000_3c17f2cd);
     loads!(&rt; v128_load, v128_load_at, 4 => 0xd0ab8661_3c17f2cd_a8835e39_14efcaa5);
+}
+
+#[test]
+fn signed_extending_loads_reach_the_last_byte_and_no_further(rt: HostRuntime) {
+    loads!(&rt; v128_load8x8_s, v128_load8x8_s_at, 12 => 0xffd0ffab_ff860061_003c0017_fff2ffcd);
+    loads!(&rt; v128_load16x4_s, v128_load16x4_s_at, 12 => 0xffffd0ab_ffff8661_00003c17_fffff2cd);
+    loads!(&rt; v128_load32x2_s, v128_load32x2_s_at, 12 => 0xffffffff_d0ab8661_00000000_3c17f2cd);
+}
+
+#[test]
+fn unsigned_extending_loads_reach_the_last_byte_and_no_further(rt: HostRuntime) {
+    loads!(&rt; v128_load8x8_u, v128_load8x8_u_at, 12 => 0x00d000ab_00860061_003c0017_00f200cd);
+    loads!(&rt; v128_load16x4_u, v128_load16x4_u_at, 12 => 0x0000d0ab_00008661_00003c17_0000f2cd);
+    loads!(&rt; v128_load32x2_u, v128_load32x2_u_at, 12 => 0x00000000_d0ab8661_00000000_3c17f2cd);
 }
 
 #[test]
@@ -512,15 +545,8 @@ static LOADED_8: [LaneAccess; 16] = [
 ];
 
 #[test]
-fn loads_into_a_lane_reach_the_last_byte_and_no_further(rt: HostRuntime) {
-    refused_lane_loads!(&rt; v128_load8_lane, v128_load8_lane_at, 19);
-    refused_lane_loads!(&rt; v128_load16_lane, v128_load16_lane_at, 18);
-    refused_lane_loads!(&rt; v128_load32_lane, v128_load32_lane_at, 16);
-    refused_lane_loads!(&rt; v128_load64_lane, v128_load64_lane_at, 12);
-}
-
-#[test]
 fn numbers_of_8_bits_are_loaded_into_each_lane(rt: HostRuntime) {
+    refused_lane_loads!(&rt; v128_load8_lane, v128_load8_lane_at, 19);
     lane_loads!(&rt; v128_load8_lane, v128_load8_lane_at, 19, LOADED_8);
 }
 
@@ -562,6 +588,7 @@ static LOADED_16: [LaneAccess; 8] = [
 
 #[test]
 fn numbers_of_16_bits_are_loaded_into_each_lane(rt: HostRuntime) {
+    refused_lane_loads!(&rt; v128_load16_lane, v128_load16_lane_at, 18);
     lane_loads!(&rt; v128_load16_lane, v128_load16_lane_at, 18, LOADED_16);
 }
 
@@ -587,6 +614,7 @@ static LOADED_32: [LaneAccess; 4] = [
 
 #[test]
 fn numbers_of_32_bits_are_loaded_into_each_lane(rt: HostRuntime) {
+    refused_lane_loads!(&rt; v128_load32_lane, v128_load32_lane_at, 16);
     lane_loads!(&rt; v128_load32_lane, v128_load32_lane_at, 16, LOADED_32);
 }
 
@@ -604,6 +632,7 @@ static LOADED_64: [LaneAccess; 2] = [
 
 #[test]
 fn numbers_of_64_bits_are_loaded_into_each_lane(rt: HostRuntime) {
+    refused_lane_loads!(&rt; v128_load64_lane, v128_load64_lane_at, 12);
     lane_loads!(&rt; v128_load64_lane, v128_load64_lane_at, 12, LOADED_64);
 }
 
