@@ -1,5 +1,5 @@
 -- One lane of a vector: by its bytes, and among lanes that are chosen by their numbers.
-use Rattle.std.proofs.Common.{ℕ, zero, suc, ◌+◌, ◌-◌, ◌*◌, ◌/◌, ◌%◌, ◌^◌, ◌<◌, ◌≡◌, List, [], ◌∷◌, length, get_or, replicate, map, refl, sym, ap, ap₂, ◌∙◌, arith, if◌then◌else◌, Bool, true, false, cond, eqb, ltb, bit_and, zero-add, mul_comm, mul-add, mul-one, add-mul}
+use Rattle.std.proofs.Common.{ℕ, ◌+◌, ◌-◌, ◌*◌, ◌/◌, ◌%◌, ◌^◌, ◌<◌, ◌≡◌, List, [], ◌∷◌, length, get_or, replicate, map, refl, sym, ap, ap₂, ◌∙◌, arith, if◌then◌else◌, Bool, true, false, cond, eqb, ltb, bit_and, zero-add, mul_comm, mul-add, mul-one, add-mul}
 use Rattle.std.proofs.lemmas.Nat.{shr-shr, mod-pow-add, and_mask}
 use Rattle.std.specs.Simd.Lanes.{zip2, sel_l, number_l, digits_l}
 use Rattle.std.proofs.lemmas.Bool.{ltb-true}
@@ -7,7 +7,7 @@ use Rattle.std.proofs.lemmas.List.{get_or-map}
 use Rattle.std.proofs.lemmas.Simd.{length-zip2, get_or-zip2, get_or-replicate, length-replicate, get_or-sel_l, tops_compared}
 use Rattle.std.proofs.lemmas.List.FromFn.{get_or-range_with_len, length-range_with_len}
 use Rattle.std.specs.List.{range_with_len}
-use Rattle.wasmi_types.specs.Wrapping.{Width, w32, w64, bits}
+use Rattle.wasmi_types.specs.Wrapping.{Width, bits}
 use Rattle.wasmi_lanes.specs.Lane.{lane}
 use Rattle.wasmi_lanes.specs.Vector.{with_lane}
 use Rattle.wasmi_lanes.proofs.Vectors.{lanes_make_vector}
@@ -90,40 +90,3 @@ indices_inside f n k i same below inside =
     let long : length (indices_of (f k)) ≡ 16 = refl in
     ltb-true (get_or (indices_of (f k)) i 0) 16
     (sym (get_or-map (λ j. ltb j 16) (indices_of (f k)) i 0 false (omega arith)) ∙ ap (λ l. get_or l i false) all ∙ get_or-replicate 16 i true false inside)
-
--- ---- a lane of 64 bits, by its halves
-
-same_word : (u r k : ℕ) → lane w32 r (2 * k) ≡ lane w32 u (2 * k) → lane w32 r (2 * k + 1) ≡ lane w32 u (2 * k + 1) → lane w64 r k ≡ lane w64 u k
-same_word u r k low high = sym (joined_halves 32 r k) ∙ ap₂ (λ x y. x + 2 ^ 32 * y) low high ∙ joined_halves 32 u k
-
--- the vector v with one half from u, of which each word is an item
-pub half_makes_vector : (u v at item r : ℕ) → lane w64 u 0 ≡ item → lane w64 u 1 ≡ item → r < 2 ^ 128
-    → ((i : ℕ) → i < 4 → lane w32 r i ≡ (if eqb (i / 2) at then lane w32 u i else lane w32 v i)) → r ≡ with_lane w64 v at item
-unfolding with_lane
-half_makes_vector u v at item r first second below is = lanes_make_vector w64 2 r _ refl below word
-  where
-    half : (k : ℕ) (t : Bool) → lane w32 r (2 * k) ≡ (if t then lane w32 u (2 * k) else lane w32 v (2 * k))
-        → lane w32 r (2 * k + 1) ≡ (if t then lane w32 u (2 * k + 1) else lane w32 v (2 * k + 1))
-        → lane w64 u k ≡ item → lane w64 r k ≡ (if t then item else lane w64 v k)
-    half k true low high is_item = same_word u r k low high ∙ is_item
-    half k false low high is_item = same_word v r k low high
-
-    word : (i : ℕ) → i < 2 → lane w64 r i ≡ (if eqb i at then item else lane w64 v i)
-    word zero inside = half 0 (eqb 0 at) (is 0 (omega arith)) (is 1 (omega arith)) first
-    word (suc zero) inside = half 1 (eqb 1 at) (is 2 (omega arith)) (is 3 (omega arith)) second
-    word (suc (suc i)) inside = absurd (omega arith)
-
--- where the number of a half is k
-abbrev in_half : ℕ → List Bool
-in_half k = map (top 31) (zip2 (λ a b. cond (eqb a b) (2 ^ 32 - 1) 0) (0 ∷ 0 ∷ 1 ∷ 1 ∷ []) (replicate 4 k))
-
-pub chosen_half_at : (k : ℕ) (items lanes : List ℕ) (i : ℕ) → k < 2 → length items ≡ 4 → length lanes ≡ 4 → i < 4
-    → get_or (sel_l (in_half k) items lanes) i 0 ≡ (if eqb (i / 2) k then get_or items i 0 else get_or lanes i 0)
-chosen_half_at k items lanes i below many long inside =
-    let whole : length (in_half k) ≡ 4 = refl in
-    get_or-sel_l (in_half k) items lanes i 0 (omega arith) (omega arith) (omega arith) ∙ ap (λ t. cond t (get_or items i 0) (get_or lanes i 0)) (test k below)
-  where
-    test : (k : ℕ) → k < 2 → get_or (in_half k) i false ≡ eqb (i / 2) k
-    test zero below = computed (λ j. get_or (in_half 0) j false) (λ j. eqb (j / 2) 0) 4 i false refl inside
-    test (suc zero) below = computed (λ j. get_or (in_half 1) j false) (λ j. eqb (j / 2) 1) 4 i false refl inside
-    test (suc (suc k)) below = absurd (omega arith)

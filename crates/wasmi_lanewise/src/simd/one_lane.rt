@@ -4,16 +4,14 @@
 //! lane is put where the number of a lane is the index. What is made of the index comes from tables, since what a general
 //! register makes has to go from there to a vector register.
 
-ghost use Rattle.std.specs.Prelude.{◌≡◌, ℕ, ◌+◌, ◌*◌, ◌/◌, ◌%◌, ◌^◌, ◌<◌, ◌≤◌, ◌==◌, slice_index, if◌then◌else◌, replicate};
+ghost use Rattle.std.specs.Prelude.{◌≡◌, ℕ, ◌+◌, ◌*◌, ◌/◌, ◌%◌, ◌^◌, ◌<◌, ◌≤◌, slice_index, replicate};
 ghost use Rattle.std.specs.List.{range_with_len};
 ghost use Rattle.wasmi_types.specs.Wrapping.{w8, w16, w32, w64};
 ghost use Rattle.wasmi_lanes.specs.Lane.{lane};
 ghost use Rattle.wasmi_lanes.specs.Vector.{with_lane};
 
 use std::simd::prelude::*;
-use wasmi_lanes::{
-    ImmLaneIdx2, ImmLaneIdx4, ImmLaneIdx8, ImmLaneIdx16, LaneItem, SimdLane, bytes_of,
-};
+use wasmi_lanes::{ImmLaneIdx2, ImmLaneIdx4, ImmLaneIdx8, ImmLaneIdx16, LaneItem, bytes_of};
 use wasmi_raw::V128;
 
 /// One lane of 8 bits.
@@ -136,26 +134,15 @@ pub(super) fn with_lane_of_32(vector: V128, at: ImmLaneIdx4, item: u32) -> V128
 }
 
 /// `vector` with `item` in one lane of 64 bits.
-///
-/// By lanes of 32 bits: of one word beside another LLVM makes two stores.
 #[inline(always)]
 pub(super) fn with_lane_of_64(vector: V128, at: ImmLaneIdx2, item: u64) -> V128
     ensures { result ≡ with_lane w64 vector at item }
 {
-    let items = u32::lanes_of(V128::from_words(item, item));
-    u32::vector_of(with_half(u32::lanes_of(vector), u8::from(at), items))
-}
-
-// The lanes of one half from `items`, those of the other half as they were.
-#[inline(always)]
-fn with_half(lanes: u32x4, half: u8, items: u32x4) -> u32x4
-    requires { half < 2 }
-    ensures lanes { (i : ℕ) → i < 4 → slice_index result i ≡ (if (i / 2) == half then slice_index items i else slice_index lanes i) }
-{
-    let halves = u32x4::from_array([0, 0, 1, 1]);
-    halves
-        .simd_eq(u32x4::splat(u32::from(half)))
-        .select(items, lanes)
+    let here = numbers_of_64().simd_eq(u64x2::splat(u64::from(u8::from(at))));
+    let items = here
+        .select(u64x2::splat(item), u64x2::from_le_bytes(bytes_of(vector)))
+        .to_array();
+    u64::write_from(&items)
 }
 
 const IN_EACH_LANE_OF_16: [u64; 8] = [
@@ -196,4 +183,11 @@ fn numbers_of_32() -> u32x4
     ensures { result ≡ range_with_len 0 4 }
 {
     u32x4::from_array([0, 1, 2, 3])
+}
+
+#[inline(always)]
+fn numbers_of_64() -> u64x2
+    ensures { result ≡ range_with_len 0 2 }
+{
+    u64x2::from_array([0, 1])
 }
