@@ -154,6 +154,7 @@ impl<'r> Machine<'r> {
     }
 
     /// Answers one call.
+    #[inline(always)]
     pub(crate) fn step<L: ResourceLimiter>(
         &mut self,
         call: &Call,
