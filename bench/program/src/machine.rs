@@ -9,6 +9,16 @@ mod here {
     }
 }
 
+/// What glibc's allocator can be told.
+mod allocator {
+    pub const TRIM_THRESHOLD: i32 = -1;
+    pub const MMAP_MAX: i32 = -4;
+
+    unsafe extern "C" {
+        pub fn mallopt(parameter: i32, value: i32) -> i32;
+    }
+}
+
 /// The kinds of calls, by their numbers; the last is one of each other in turn.
 const KINDS: [&str; 16] = [
     "load_u64", "i32_load8_s", "store32", "i64_store16", "write_64", "read_64", "grow_memory_0", "fuel", "get_element", "set_element", "fill_16",
@@ -287,9 +297,16 @@ unsafe extern "C" fn machine_runs(kind: u64, count: u64, runs: u64) -> u64 {
     sum
 }
 
+/// Has freed memory stay with the program. A list of replies would else be mapped anew, page by page, in some runs and not in others.
+fn keep_freed_memory() {
+    let told = unsafe { allocator::mallopt(allocator::MMAP_MAX, 0) & allocator::mallopt(allocator::TRIM_THRESHOLD, -1) };
+    assert_eq!(told, 1);
+}
+
 /// Prints a line for each kind of calls and each length of a list: nanoseconds a call, with what the drop of its reply takes, of
 /// the crate and here. It is the difference of some runs of the list and one run.
 pub fn report(asked: &str) {
+    keep_freed_memory();
     let lengths = |kind| if kind == MIXED { &[1000, 10_000, 100_000, 1_000_000][..] } else { &[10_000][..] };
     for (kind, name) in (0..).zip(KINDS).filter(|(_, name)| name.contains(asked)) {
         for &count in lengths(kind) {

@@ -1,3 +1,4 @@
+mod BufferLemmas
 pub mod Fronts
 pub mod GrowthLemmas
 pub mod MemoryLemmas

@@ -1,38 +1,27 @@
 -- Where a buffer keeps its bytes.
-use Rattle.std.specs.Prelude.{◌≡◌, ℕ, ◌≤◌, List, [], length, take, drop, Option, Some, None}
-use Rattle.std.specs.Borrow.{Lends, MutBor, Fml, Array, u8}
-use Rattle.std.specs.Vec.{with_items}
+use Rattle.std.specs.Prelude.{◌≡◌, ℕ, ◌≤◌, List, length, take, drop}
+use Rattle.std.specs.Vec.{with_items_from}
 use Rattle.wasmi_store.specs.Buffer as buffer
 use Rattle.wasmi_store.specs.declared.memory.buffer.Storage.{Storage}
 use Rattle.wasmi_store.specs.declared.memory.buffer.Storage.TheVariants.{Owned, Lent}
-use Rattle.wasmi_store.specs.contracts.memory.buffer.Storage.{the_row}
 
--- the buffer whose bytes lie so, beside this region
-abbrev pub view_of : Storage → List ℕ → buffer.BufferValue
-view_of (Owned v) region = record { bytes = v.items; room = buffer.Owned }
-view_of (Lent used) region = record { bytes = take used region; room = buffer.Lent (drop used region) }
+module _ {Region : Type 0} where
+  -- the block of bytes of which a buffer's are the first: memory of its own, or a region
+  abbrev pub block : (Region → List ℕ) → Storage Region → List ℕ
+  block bytes (Owned v) = v.items
+  block bytes (Lent region) = bytes region
 
--- the bytes that are lent end within the region
-abbrev pub EndsWithin : Storage → List ℕ → Type 0
-EndsWithin (Owned v) region = Unit {0}
-EndsWithin (Lent used) region = used ≤ length region
+  -- the buffer of the first bytes of a block, up to an end
+  abbrev pub view_of : (Region → List ℕ) → Storage Region → ℕ → buffer.BufferValue
+  view_of bytes (Owned v) end = record { bytes = take end v.items; room = buffer.Owned }
+  view_of bytes (Lent region) end = record { bytes = take end (bytes region); room = buffer.Lent (drop end (bytes region)) }
 
--- where the bytes that are lent end
-abbrev pub used_of : Storage → Option ℕ
-used_of (Owned v) = None
-used_of (Lent used) = Some used
+  -- memory of a buffer's own ends with its bytes, and a region doesn't end before them
+  abbrev pub EndsWithin : (Region → List ℕ) → Storage Region → ℕ → Type 0
+  EndsWithin bytes (Owned v) end = end ≡ length v.items
+  EndsWithin bytes (Lent region) end = end ≤ length (bytes region)
 
-abbrev pub IsOwned : Storage → Type 0
-IsOwned s = used_of s ≡ None
-
-abbrev pub owned_items : Storage → List ℕ
-owned_items (Owned v) = v.items
-owned_items (Lent used) = []
-
--- the bytes that are owned, written over by as many
-abbrev pub with_owned : Storage → List ℕ → Storage
-with_owned (Owned v) ws = Owned (with_items v ws)
-with_owned (Lent used) ws = Lent used
-
-abbrev pub LendsOwned : MutBor Storage → MutBor (List ℕ) → Fml
-LendsOwned s r = Lends the_row (Array u8 0) s r (with_owned s.now)
+  -- the storage once the front of its block, up to an end, was written over
+  abbrev pub block_refilled : (Region → ℕ → List ℕ → Region) → Storage Region → ℕ → List ℕ → Storage Region
+  block_refilled refilled (Owned v) end ws = Owned (with_items_from v 0 ws)
+  block_refilled refilled (Lent region) end ws = Lent (refilled region end ws)

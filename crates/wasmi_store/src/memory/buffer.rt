@@ -8,53 +8,46 @@ use std::alloc::Global;
 use std::marker::Model;
 use wasmi_meter::MemoryError;
 
+/// A block of bytes, of which a buffer's are the first. Both forms begin with their pointer, so that an access to a
+/// buffer doesn't depend on the form.
 #[derive(Debug, Drop)]
-enum Storage {
+enum Storage<R: Region> {
     Owned(Vec<u8>),
-    // So many bytes at the front of the region.
-    Lent(usize),
+    Lent(R),
 }
 
-impl Storage {
-    ghost use Rattle.wasmi_store.specs.Storage.{used_of, IsOwned, owned_items, LendsOwned};
+impl<R: Region> Storage<R> {
+    ghost use Rattle.wasmi_store.specs.Storage.{block, block_refilled};
+    ghost use Rattle.wasmi_store.specs.contracts.memory.buffer.Storage.{the_row};
 
-    fn used(&self) -> Option<usize>
-        ensures { result ≡ used_of self.now }
+    fn front(&self, end: usize) -> &[u8]
+        requires { end ≤ length (block R.bytes self.now) }
+        ensures { result.now ≡ take end (block R.bytes self.now) }
     {
-        match self {
-            Storage::Owned(_) => None,
-            Storage::Lent(used) => Some(*used),
-        }
-    }
-
-    fn owned(&self) -> &[u8]
-        requires { IsOwned self.now }
-        ensures { result.now ≡ owned_items self.now }
-    {
-        match self {
+        let whole = match self {
             Storage::Owned(bytes) => bytes.as_slice(),
-            Storage::Lent(_) => unreachable!(),
-        }
+            Storage::Lent(region) => region.whole(),
+        };
+        &whole[..end]
     }
 
-    fn owned_mut(&mut self) -> &mut [u8]
-        requires { IsOwned self.old }
-        ensures* writes_back { sem 𝓛 (LendsOwned self.entry result) }
-        ensures value { result.now ≡ owned_items self.old }
+    fn front_mut(&mut self, end: usize) -> &mut [u8]
+        requires { end ≤ length (block R.bytes self.old) }
+        ensures* writes_back { sem 𝓛 (Lends (the_row R.row) (Array u8 0) self.entry result (block_refilled R.refilled self.old end)) }
+        ensures value { result.now ≡ take end (block R.bytes self.old) }
     {
         match self {
-            Storage::Owned(bytes) => bytes.as_mut_slice(),
-            Storage::Lent(_) => unreachable!(),
+            Storage::Owned(bytes) => bytes.slice_mut(..end),
+            Storage::Lent(region) => region.front_mut(end),
         }
     }
 }
 
 /// Bytes that lie in memory of their own, or at the front of a region. Its name in signatures is [`ByteBuffer`].
-#[derive(Debug, Drop)]
+#[derive(Debug)]
 pub struct Buffer<R: Region> {
-    storage: Storage,
-    // Empty where the bytes are owned.
-    region: R,
+    storage: Storage<R>,
+    len: usize,
 }
 
 impl<R: Region> Model for Buffer<R> {
@@ -63,9 +56,18 @@ impl<R: Region> Model for Buffer<R> {
 
     ghost Value = { BufferValue };
 
-    ghost view = { λ b. view_of b.storage (R.bytes b.region) };
+    ghost view = { λ b. view_of R.bytes b.storage b.len };
 
-    ghost invariant = { λ b. EndsWithin b.storage (R.bytes b.region) };
+    ghost invariant = { λ b. EndsWithin R.bytes b.storage b.len };
+}
+
+// The block is dropped in a variable: the borrow checker doesn't follow the drop of an enum that holds a `&mut` and
+// lies in a field.
+impl<R: Region + Drop> Drop for Buffer<R> {
+    fn drop(self) {
+        let Buffer { storage, len: _ } = self;
+        drop(storage);
+    }
 }
 
 /// Zeros the bytes of a slice from a place on.
@@ -90,13 +92,7 @@ impl<R: Region> Buffer<R> {
     pub fn data(&self) -> &[u8]
         ensures { result.now ≡ self.now.bytes }
     {
-        match self.storage.used() {
-            Some(end) => {
-                let bytes = self.region.whole();
-                &bytes[..end]
-            }
-            None => self.storage.owned(),
-        }
+        self.storage.front(self.len)
     }
 
     /// The bytes, to be written over.
@@ -104,20 +100,14 @@ impl<R: Region> Buffer<R> {
         ensures* writes_back { sem 𝓛 (Lends (the_row R.row R.Region) (Array u8 0) self.entry result (with_bytes self.old)) }
         ensures value { result.now ≡ self.old.bytes }
     {
-        match self.storage.used() {
-            Some(end) => self.region.front_mut(end),
-            None => self.storage.owned_mut(),
-        }
+        self.storage.front_mut(self.len)
     }
 
     /// The number of bytes.
     pub fn len(&self) -> usize
         ensures { result ≡ length self.now.bytes }
     {
-        match &self.storage {
-            Storage::Owned(bytes) => bytes.len(),
-            Storage::Lent(used) => *used,
-        }
+        self.len
     }
 
     /// Whether there is room for a new number of bytes. It is false exactly for a lent region that is shorter.
@@ -126,7 +116,7 @@ impl<R: Region> Buffer<R> {
     {
         match &self.storage {
             Storage::Owned(_) => true,
-            Storage::Lent(_) => new_size <= self.region.whole().len(),
+            Storage::Lent(region) => new_size <= region.whole().len(),
         }
     }
 
@@ -156,16 +146,13 @@ impl<R: Region> Buffer<R> {
         }
         match &mut self.storage {
             Storage::Owned(bytes) => match bytes.resize(new_size, 0) {
-                Ok(()) => Ok(()),
-                Err(_) => Err(MemoryError::OutOfSystemMemory),
+                Ok(()) => {}
+                Err(_) => return Err(MemoryError::OutOfSystemMemory),
             },
-            Storage::Lent(used) => {
-                let end = *used;
-                zero_from(self.region.front_mut(new_size), end);
-                *used = new_size;
-                Ok(())
-            }
+            Storage::Lent(region) => zero_from(region.front_mut(new_size), self.len),
         }
+        self.len = new_size;
+        Ok(())
     }
 }
 
@@ -180,7 +167,7 @@ impl<'r> Buffer<&'r mut [u8]> {
         match vec![in alloc; 0u8; size] {
             Ok(bytes) => Ok(Buffer {
                 storage: Storage::Owned(bytes),
-                region: &mut [],
+                len: size,
             }),
             Err(_) => Err(MemoryError::OutOfSystemMemory),
         }
@@ -194,11 +181,13 @@ impl<'r> Buffer<&'r mut [u8]> {
         ensures ok { IfOk result (λ b. (has_place_for (Lent region.entry.now) size ≡ true) × (b ≡ zeros_in (Lent region.entry.now) size)) }
         ensures err { IfErr result (λ e. (has_place_for (Lent region.entry.now) size ≡ false) × (e ≡ MemoryError.InvalidStaticBufferSize)) }
     {
-        let mut buffer = Buffer {
-            storage: Storage::Lent(0),
-            region,
-        };
-        buffer.grow(size)?;
-        Ok(buffer)
+        if region.len() < size {
+            return Err(MemoryError::InvalidStaticBufferSize);
+        }
+        zero_from(&mut region[..size], 0);
+        Ok(Buffer {
+            storage: Storage::Lent(region),
+            len: size,
+        })
     }
 }
