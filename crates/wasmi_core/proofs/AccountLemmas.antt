@@ -3,7 +3,7 @@ use Rattle.std.proofs.Common.{◌≡◌, ℕ, ◌+◌, ◌-◌, ◌≤◌, Bool,
 use Rattle.std.proofs.lemmas.Bool.{and_parts}
 use Rattle.std.proofs.lemmas.Bool.Decides.{nat_tests}
 use Rattle.std.proofs.lemmas.Option.{same_Some}
-use Rattle.std.specs.Prelude.{nat_le, is_none, ◌&&◌, if◌then◌else◌}
+use Rattle.std.specs.Prelude.{nat_le, is_none, ◌&&◌, if◌then◌else◌, slice_get}
 use Rattle.std.specs.Option.{option_map, unwrap_or}
 use Rattle.wasmi_meter.specs.declared.error.TableError.{TableError}
 use Rattle.wasmi_meter.specs.Limiter.{Rules}
@@ -152,7 +152,7 @@ module _ {S : Type 0} (rules : Rules S) (account : Account) (w : World S) (turn 
   step_balances (DropTable k) step balances = uncharged account w turn w' balances step.3 step.0.0 refl
   step_balances (GetElement k index) step balances = uncharged account w turn w' balances step.2 step.0.0 refl
   step_balances (SetElement k index value) step balances = uncharged account w turn w' balances step.3 step.0.0 refl
-  step_balances (InitTable k j dst src len) step balances = charged account w turn w' balances step.4 (table_copy_takes (live_at w.state.segments j) k (initialization_from dst src len) w.state.tables w.state.meter turn.reply turn.charge step.0 step.1 step.2)
+  step_balances (InitTable k j dst src len) step balances = charged account w turn w' balances step.4 (table_copy_takes (slice_get w.state.segments j) k (initialization_from dst src len) w.state.tables w.state.meter turn.reply turn.charge step.0 step.1 step.2)
   step_balances (CopyTable k dst j src len) step balances = charged account w turn w' balances step.4 (table_copy_takes (live_at w.state.tables j) k (copy_from dst src len) w.state.tables w.state.meter turn.reply turn.charge step.0 step.1 step.2)
   step_balances (FillTable k dst value len) step balances = charged account w turn w' balances step.4 (table_write_takes k (filling dst value len) w.state.tables w.state.meter turn.reply turn.charge step.0 step.1 step.2)
   step_balances (NewSegment ty items) step balances = uncharged account w turn w' balances step.3 step.0.0 refl

@@ -52,7 +52,7 @@ use Rattle.wasmi_core.specs.declared.slots.Slot.TheVariants.{Live}
 use Rattle.wasmi_core.specs.AccessOps.{loaded_raw, stored_bytes}
 use Rattle.wasmi_core.specs.State.{State, live_at, MemoryPart, memory_part, with_memory_part, with_memories, with_tables, with_segments, with_globals, with_registers}
 use Rattle.wasmi_core.specs.World.{World, Turn, IsFree}
-use Rattle.wasmi_core.specs.Rows.{reply_of, OnLive, ActsAt, AppendsSlot, Creates, ChangesAt, DropsAt}
+use Rattle.wasmi_core.specs.Rows.{reply_of, OnLive, ActsAt, Appends, Creates, ChangesFound, DropsAt}
 use Rattle.wasmi_core.specs.MemoryRows.{bytes_appended, spare_after, CreatesLent, ReadsBytes, ReadsMemoryAt, WritesMemoryAt, StoresMemory, StoresMemoryAt}
 use Rattle.wasmi_core.specs.TableRows.{Metered, metered, SetsElementAt, WritesTableAt, WritesTableFrom, filling, copy_from, initialization_from, element_bytes}
 use Rattle.wasmi_core.specs.ValueRows.{IsSegmentOf, CreatesSegment, DropsItemsAt, CreatesGlobal, SetsGlobalAt}
@@ -143,10 +143,10 @@ memory_wants (Lent rest) cause lacks other = lacks
 table_wants : (cause : TableError) → cause ≡ TableError.OutOfSystemMemory → IsNoWant (TableFailure cause) → ⊥
 table_wants cause lacks other = rw lacks at other
 
--- rows on slots
-appends_same : {X E : Type 0} (refusal : E → Reply) (result : Result X E) (slots : List (Slot X)) (reply reply' : Reply) (slots' slots'' : List (Slot X)) → AppendsSlot refusal result slots reply slots' → AppendsSlot refusal result slots reply' slots'' → (reply ≡ reply') × (slots' ≡ slots'')
-appends_same refusal (Ok x) slots reply reply' slots' slots'' a b = (a.0 ∙ sym b.0, a.1 ∙ sym b.1)
-appends_same refusal (Err error) slots reply reply' slots' slots'' a b = (a.0 ∙ sym b.0, a.1 ∙ sym b.1)
+-- rows on lists and slots
+appends_same : {X A E : Type 0} (entry : X → A) (refusal : E → Reply) (result : Result X E) (list : List A) (reply reply' : Reply) (list' list'' : List A) → Appends entry refusal result list reply list' → Appends entry refusal result list reply' list'' → (reply ≡ reply') × (list' ≡ list'')
+appends_same entry refusal (Ok x) list reply reply' list' list'' a b = (a.0 ∙ sym b.0, a.1 ∙ sym b.1)
+appends_same entry refusal (Err error) list reply reply' list' list'' a b = (a.0 ∙ sym b.0, a.1 ∙ sym b.1)
 
 creates_same : {X E S : Type 0} (refusal : E → Reply) (Makes : S → Result X E → S → Type 0) → ((l : S) (result result' : Result X E) (l' l'' : S) → Makes l result l' → Makes l result' l'' → (result ≡ result') × (l' ≡ l''))
     → (slots : List (Slot X)) (l : S) (reply reply' : Reply) (slots' slots'' : List (Slot X)) (l' l'' : S) → HasMemory reply → HasMemory reply' → Creates refusal Makes slots l reply slots' l' → Creates refusal Makes slots l reply' slots'' l'' → (reply ≡ reply') × (slots' ≡ slots'') × (l' ≡ l'')
@@ -154,7 +154,7 @@ creates_same refusal Makes same slots l reply reply' slots' slots'' l' l'' room 
 creates_same refusal Makes same slots l reply reply' slots' slots'' l' l'' room room' (inr a) (inl none) = absurd (rw none.0 at room')
 creates_same refusal Makes same slots l reply reply' slots' slots'' l' l'' room room' (inr (result, makes, appends)) (inr (result', makes', appends')) =
     let made = same l result result' l' l'' makes makes' in
-    let put = appends_same refusal result slots reply reply' slots' slots'' appends (subst (λ r. AppendsSlot refusal r slots reply' slots'') (sym made.0) appends') in
+    let put = appends_same Live refusal result slots reply reply' slots' slots'' appends (subst (λ r. Appends Live refusal r slots reply' slots'') (sym made.0) appends') in
     (put.0, put.1, made.1)
 
 -- a creation in the spare region
@@ -166,11 +166,11 @@ lent_same rules once ty part l reply reply' part' part'' l' l'' room room' a b =
     let spare = h.1 ∙ ap (λ r. spare_after r part.spare) same.0 ∙ sym h'.1 in
     (same.0, λ i. record { slots = same.1 i; spare = spare i }, same.2))
 
-changes_same : {X : Type 0} (k : ℕ) (slots : List (Slot X)) (reply reply' : Reply) (slots' slots'' : List (Slot X)) (Change Change' : X → X → Type 0) → ((x x' x'' : X) → Change x x' → Change' x x'' → (reply ≡ reply') × (x' ≡ x''))
-    → ChangesAt k slots reply slots' Change → ChangesAt k slots reply' slots'' Change' → (reply ≡ reply') × (slots' ≡ slots'')
-changes_same k slots reply reply' slots' slots'' Change Change' same a b =
-    on_both (live_at slots k) _ _ _ _ a b (λ h h'. (h.0 ∙ sym h'.0, h.1 ∙ sym h'.1))
-    (λ x h h'. let both = same x h.0 h'.0 h.1 h'.1 in (both.0, h.2 ∙ ap (λ y. slice_set slots k (Live y)) both.1 ∙ sym h'.2))
+changes_same : {X A : Type 0} (found : Option X) (put : X → A) (part : A) (reply reply' : Reply) (part' part'' : A) (Change Change' : X → X → Type 0) → ((x x' x'' : X) → Change x x' → Change' x x'' → (reply ≡ reply') × (x' ≡ x''))
+    → ChangesFound found put part reply part' Change → ChangesFound found put part reply' part'' Change' → (reply ≡ reply') × (part' ≡ part'')
+changes_same found put part reply reply' part' part'' Change Change' same a b =
+    on_both found _ _ _ _ a b (λ h h'. (h.0 ∙ sym h'.0, h.1 ∙ sym h'.1))
+    (λ x h h'. let both = same x h.0 h'.0 h.1 h'.1 in (both.0, h.2 ∙ ap put both.1 ∙ sym h'.2))
 
 drops_same : {X : Type 0} (count : X → ℕ) (k : ℕ) (slots : List (Slot X)) (reply reply' : Reply) (slots' slots'' : List (Slot X)) → DropsAt count k slots reply slots' → DropsAt count k slots reply' slots'' → (reply ≡ reply') × (slots' ≡ slots'')
 drops_same count k slots reply reply' slots' slots'' a b =
@@ -215,12 +215,12 @@ store_same x x' x'' a stored (Err trap) (Err trap') (bytes, ty, room) (bytes', t
 
 writes_same : (k offset : ℕ) (source : List ℕ) (slots : List (Slot MemoryValue)) (reply reply' : Reply) (slots' slots'' : List (Slot MemoryValue)) → WritesMemoryAt k offset source slots reply slots' → WritesMemoryAt k offset source slots reply' slots'' → (reply ≡ reply') × (slots' ≡ slots'')
 writes_same k offset source slots reply reply' slots' slots'' a b =
-    changes_same k slots reply reply' slots' slots'' _ _ (λ x x' x'' h h'.
+    changes_same (live_at slots k) (λ x. slice_set slots k (Live x)) slots reply reply' slots' slots'' _ _ (λ x x' x'' h h'.
     let both = write_same x x' x'' offset source h.0 h'.0 h.1 h'.1 in (h.2 ∙ ap (reply_of (λ _. replied.Done) replied.Memory) both.0 ∙ sym h'.2, both.1)) a b
 
 stores_same : (k a : ℕ) (stored : List ℕ) (slots : List (Slot MemoryValue)) (reply reply' : Reply) (slots' slots'' : List (Slot MemoryValue)) → StoresMemoryAt k a stored slots reply slots' → StoresMemoryAt k a stored slots reply' slots'' → (reply ≡ reply') × (slots' ≡ slots'')
 stores_same k a stored slots reply reply' slots' slots'' h h' =
-    changes_same k slots reply reply' slots' slots'' _ _ (λ x x' x'' c c'.
+    changes_same (live_at slots k) (λ x. slice_set slots k (Live x)) slots reply reply' slots' slots'' _ _ (λ x x' x'' c c'.
     let both = store_same x x' x'' a stored c.0 c'.0 c.1 c'.1 in (c.2 ∙ ap (reply_of (λ _. replied.Done) replied.Trap) both.0 ∙ sym c'.2, both.1)) h h'
 
 vector_stores_same : (k a : ℕ) (stored : Option (List ℕ)) (slots : List (Slot MemoryValue)) (reply reply' : Reply) (slots' slots'' : List (Slot MemoryValue)) → StoresVectorAt k a stored slots reply slots' → StoresVectorAt k a stored slots reply' slots'' → (reply ≡ reply') × (slots' ≡ slots'')
@@ -242,7 +242,7 @@ module _ (w : TableWrite) (x : TableValue) (m : Option Meter) (result result' : 
 
 sets_same : (k index : ℕ) (value : TypedRawRef) (slots : List (Slot TableValue)) (reply reply' : Reply) (slots' slots'' : List (Slot TableValue)) → SetsElementAt k index value slots reply slots' → SetsElementAt k index value slots reply' slots'' → (reply ≡ reply') × (slots' ≡ slots'')
 sets_same k index value slots reply reply' slots' slots'' a b =
-    changes_same k slots reply reply' slots' slots'' _ _ (λ x x' x'' h h'.
+    changes_same (live_at slots k) (λ x. slice_set slots k (Live x)) slots reply reply' slots' slots'' _ _ (λ x x' x'' h h'.
     let both = table_write_same _ x None h.0 h'.0 0 0 x' x'' None None h.1 h'.1 in (h.2 ∙ ap (reply_of (λ _. replied.Done) replied.Table) both.0 ∙ sym h'.2, both.2)) a b
 
 table_writes_same : (k : ℕ) (write : TableValue → TableWrite) (s : Metered) (reply reply' : Reply) (charge charge' : ℕ) (s' s'' : Metered) → WritesTableAt k write s reply charge s' → WritesTableAt k write s reply' charge' s'' → (reply ≡ reply') × (charge ≡ charge') × (s' ≡ s'')
@@ -258,30 +258,30 @@ table_copies_same source k write s reply reply' charge charge' s' s'' a b =
     on_both source _ _ _ _ a b (λ h h'. (h.0 ∙ sym h'.0, h.1 ∙ sym h'.1, h.2 ∙ sym h'.2)) (λ y h h'. table_writes_same k (write y) s reply reply' charge charge' s' s'' h h')
 
 -- element segments, globals and registers
-segment_made : (ty : RefType) (items : List ℕ) (slots : List (Slot SegmentValue)) (reply reply' : Reply) (slots' slots'' : List (Slot SegmentValue)) → HasMemory reply → HasMemory reply' → (result result' : Result SegmentValue SegmentError) → IsSegmentOf ty items result → IsSegmentOf ty items result'
-    → AppendsSlot replied.Segment result slots reply slots' → AppendsSlot replied.Segment result' slots reply' slots'' → result ≡ result'
-segment_made ty items slots reply reply' slots' slots'' room room' (Ok x) (Ok y) is is' a b = ap Ok (is.1 ∙ sym is'.1)
-segment_made ty items slots reply reply' slots' slots'' room room' (Ok x) (Err TooManyItems) is is' a b = absurd (omega (arith, is.0, is'))
-segment_made ty items slots reply reply' slots' slots'' room room' (Ok x) (Err OutOfSystemMemory) is is' a b = absurd (rw b.0 at room')
-segment_made ty items slots reply reply' slots' slots'' room room' (Err TooManyItems) (Ok y) is is' a b = absurd (omega (arith, is'.0, is))
-segment_made ty items slots reply reply' slots' slots'' room room' (Err TooManyItems) (Err TooManyItems) is is' a b = refl
-segment_made ty items slots reply reply' slots' slots'' room room' (Err TooManyItems) (Err OutOfSystemMemory) is is' a b = absurd (rw b.0 at room')
-segment_made ty items slots reply reply' slots' slots'' room room' (Err OutOfSystemMemory) result' is is' a b = absurd (rw a.0 at room)
+segment_made : (ty : RefType) (items : List ℕ) (segments : List SegmentValue) (reply reply' : Reply) (segments' segments'' : List SegmentValue) → HasMemory reply → HasMemory reply' → (result result' : Result SegmentValue SegmentError) → IsSegmentOf ty items result → IsSegmentOf ty items result'
+    → Appends (λ x. x) replied.Segment result segments reply segments' → Appends (λ x. x) replied.Segment result' segments reply' segments'' → result ≡ result'
+segment_made ty items segments reply reply' segments' segments'' room room' (Ok x) (Ok y) is is' a b = ap Ok (is.1 ∙ sym is'.1)
+segment_made ty items segments reply reply' segments' segments'' room room' (Ok x) (Err TooManyItems) is is' a b = absurd (omega (arith, is.0, is'))
+segment_made ty items segments reply reply' segments' segments'' room room' (Ok x) (Err OutOfSystemMemory) is is' a b = absurd (rw b.0 at room')
+segment_made ty items segments reply reply' segments' segments'' room room' (Err TooManyItems) (Ok y) is is' a b = absurd (omega (arith, is'.0, is))
+segment_made ty items segments reply reply' segments' segments'' room room' (Err TooManyItems) (Err TooManyItems) is is' a b = refl
+segment_made ty items segments reply reply' segments' segments'' room room' (Err TooManyItems) (Err OutOfSystemMemory) is is' a b = absurd (rw b.0 at room')
+segment_made ty items segments reply reply' segments' segments'' room room' (Err OutOfSystemMemory) result' is is' a b = absurd (rw a.0 at room)
 
-segments_same : (ty : RefType) (items : List ℕ) (slots : List (Slot SegmentValue)) (reply reply' : Reply) (slots' slots'' : List (Slot SegmentValue)) → HasMemory reply → HasMemory reply' → CreatesSegment ty items slots reply slots' → CreatesSegment ty items slots reply' slots'' → (reply ≡ reply') × (slots' ≡ slots'')
-segments_same ty items slots reply reply' slots' slots'' room room' (inl none) b = absurd (rw none.0 at room)
-segments_same ty items slots reply reply' slots' slots'' room room' (inr a) (inl none) = absurd (rw none.0 at room')
-segments_same ty items slots reply reply' slots' slots'' room room' (inr (result, is, appends)) (inr (result', is', appends')) =
-    let made = segment_made ty items slots reply reply' slots' slots'' room room' result result' is is' appends appends' in
-    appends_same replied.Segment result slots reply reply' slots' slots'' appends (subst (λ r. AppendsSlot replied.Segment r slots reply' slots'') (sym made) appends')
+segments_same : (ty : RefType) (items : List ℕ) (segments : List SegmentValue) (reply reply' : Reply) (segments' segments'' : List SegmentValue) → HasMemory reply → HasMemory reply' → CreatesSegment ty items segments reply segments' → CreatesSegment ty items segments reply' segments'' → (reply ≡ reply') × (segments' ≡ segments'')
+segments_same ty items segments reply reply' segments' segments'' room room' (inl none) b = absurd (rw none.0 at room)
+segments_same ty items segments reply reply' segments' segments'' room room' (inr a) (inl none) = absurd (rw none.0 at room')
+segments_same ty items segments reply reply' segments' segments'' room room' (inr (result, is, appends)) (inr (result', is', appends')) =
+    let made = segment_made ty items segments reply reply' segments' segments'' room room' result result' is is' appends appends' in
+    appends_same (λ x. x) replied.Segment result segments reply reply' segments' segments'' appends (subst (λ r. Appends (λ x. x) replied.Segment r segments reply' segments'') (sym made) appends')
 
-items_same : (k : ℕ) (slots : List (Slot SegmentValue)) (reply reply' : Reply) (slots' slots'' : List (Slot SegmentValue)) → DropsItemsAt k slots reply slots' → DropsItemsAt k slots reply' slots'' → (reply ≡ reply') × (slots' ≡ slots'')
-items_same k slots reply reply' slots' slots'' a b = changes_same k slots reply reply' slots' slots'' _ _ (λ x x' x'' c c'. (c.0 ∙ sym c'.0, c.1 ∙ sym c'.1)) a b
+items_same : (k : ℕ) (segments : List SegmentValue) (reply reply' : Reply) (segments' segments'' : List SegmentValue) → DropsItemsAt k segments reply segments' → DropsItemsAt k segments reply' segments'' → (reply ≡ reply') × (segments' ≡ segments'')
+items_same k segments reply reply' segments' segments'' a b = changes_same (slice_get segments k) (slice_set segments k) segments reply reply' segments' segments'' _ _ (λ x x' x'' c c'. (c.0 ∙ sym c'.0, c.1 ∙ sym c'.1)) a b
 
-globals_same : (global : GlobalInstance) (slots : List (Slot GlobalInstance)) (reply reply' : Reply) (slots' slots'' : List (Slot GlobalInstance)) → HasMemory reply → HasMemory reply' → CreatesGlobal global slots reply slots' → CreatesGlobal global slots reply' slots'' → (reply ≡ reply') × (slots' ≡ slots'')
-globals_same global slots reply reply' slots' slots'' room room' (inl none) b = absurd (rw none.0 at room)
-globals_same global slots reply reply' slots' slots'' room room' (inr a) (inl none) = absurd (rw none.0 at room')
-globals_same global slots reply reply' slots' slots'' room room' (inr a) (inr b) = (a.0 ∙ sym b.0, a.1 ∙ sym b.1)
+globals_same : (global : GlobalInstance) (globals : List GlobalInstance) (reply reply' : Reply) (globals' globals'' : List GlobalInstance) → HasMemory reply → HasMemory reply' → CreatesGlobal global globals reply globals' → CreatesGlobal global globals reply' globals'' → (reply ≡ reply') × (globals' ≡ globals'')
+globals_same global globals reply reply' globals' globals'' room room' (inl none) b = absurd (rw none.0 at room)
+globals_same global globals reply reply' globals' globals'' room room' (inr a) (inl none) = absurd (rw none.0 at room')
+globals_same global globals reply reply' globals' globals'' room room' (inr a) (inr b) = (a.0 ∙ sym b.0, a.1 ∙ sym b.1)
 
 var_const : (m : Mutability) → m ≡ Var → m ≡ Const → ⊥
 var_const m var const = let clash : Var ≡ Const = sym var ∙ const in absurd cc
@@ -297,9 +297,9 @@ global_same x x' x'' value (Err ImmutableWrite) (Err TypeMismatch) a b = absurd 
 global_same x x' x'' value (Err TypeMismatch) (Err ImmutableWrite) a b = absurd (var_const x.ty.mutability a.0 b.0)
 global_same x x' x'' value (Err TypeMismatch) (Err TypeMismatch) a b = (refl, a.2 ∙ sym b.2)
 
-global_sets_same : (k : ℕ) (value : TypedRawVal) (slots : List (Slot GlobalInstance)) (reply reply' : Reply) (slots' slots'' : List (Slot GlobalInstance)) → SetsGlobalAt k value slots reply slots' → SetsGlobalAt k value slots reply' slots'' → (reply ≡ reply') × (slots' ≡ slots'')
-global_sets_same k value slots reply reply' slots' slots'' a b =
-    changes_same k slots reply reply' slots' slots'' _ _ (λ x x' x'' c c'.
+global_sets_same : (k : ℕ) (value : TypedRawVal) (globals : List GlobalInstance) (reply reply' : Reply) (globals' globals'' : List GlobalInstance) → SetsGlobalAt k value globals reply globals' → SetsGlobalAt k value globals reply' globals'' → (reply ≡ reply') × (globals' ≡ globals'')
+global_sets_same k value globals reply reply' globals' globals'' a b =
+    changes_same (slice_get globals k) (slice_set globals k) globals reply reply' globals' globals'' _ _ (λ x x' x'' c c'.
     let both = global_same x x' x'' value c.0 c'.0 c.1 c'.1 in (c.2 ∙ ap (reply_of (λ _. replied.Done) replied.Global) both.0 ∙ sym c'.2, both.1)) a b
 
 takes_same : (given : Option (Result RawVal TrapCode)) (old : Option RawVal) (dst : ℕ) (registers : List RawVal) (reply reply' : Reply) (registers' registers'' : List RawVal) → TakesAt given old dst registers reply registers' → TakesAt given old dst registers reply' registers'' → (reply ≡ reply') × (registers' ≡ registers'')
@@ -364,14 +364,14 @@ module _ {S : Type 0} (rules : Rules S) (once : IsDeterministic rules) (w : Worl
   step_same (DropTable k) step step' = changed w t t' v v' (with_tables w.state) step.1 step'.1 step.0 step'.0 (drops_same size_of k w.state.tables t.reply t'.reply step.1 step'.1 step.2 step'.2) step.3 step'.3
   step_same (GetElement k index) step step' = free w t t' v v' step.0 step'.0 (answers_same (live_at w.state.tables k) (λ x. replied.Reference (table.element_at x index)) t.reply t'.reply step.1 step'.1) step.2 step'.2
   step_same (SetElement k index value) step step' = changed w t t' v v' (with_tables w.state) step.1 step'.1 step.0 step'.0 (sets_same k index value w.state.tables t.reply t'.reply step.1 step'.1 step.2 step'.2) step.3 step'.3
-  step_same (InitTable k j dst src len) step step' = paid_unasked w t t' v v' (with_tables w.state) step.0 step'.0 step.1 step'.1 (element_bytes len) (table_copies_same (live_at w.state.segments j) k (initialization_from dst src len) (metered w.state.tables w.state.meter) t.reply t'.reply t.charge t'.charge (metered step.0 step.1) (metered step'.0 step'.1) step.2 step'.2) step.3 step'.3 step.4 step'.4
+  step_same (InitTable k j dst src len) step step' = paid_unasked w t t' v v' (with_tables w.state) step.0 step'.0 step.1 step'.1 (element_bytes len) (table_copies_same (slice_get w.state.segments j) k (initialization_from dst src len) (metered w.state.tables w.state.meter) t.reply t'.reply t.charge t'.charge (metered step.0 step.1) (metered step'.0 step'.1) step.2 step'.2) step.3 step'.3 step.4 step'.4
   step_same (CopyTable k dst j src len) step step' = paid_unasked w t t' v v' (with_tables w.state) step.0 step'.0 step.1 step'.1 (element_bytes len) (table_copies_same (live_at w.state.tables j) k (copy_from dst src len) (metered w.state.tables w.state.meter) t.reply t'.reply t.charge t'.charge (metered step.0 step.1) (metered step'.0 step'.1) step.2 step'.2) step.3 step'.3 step.4 step'.4
   step_same (FillTable k dst value len) step step' = paid_unasked w t t' v v' (with_tables w.state) step.0 step'.0 step.1 step'.1 (element_bytes len) (table_writes_same k (filling dst value len) (metered w.state.tables w.state.meter) t.reply t'.reply t.charge t'.charge (metered step.0 step.1) (metered step'.0 step'.1) step.2 step'.2) step.3 step'.3 step.4 step'.4
   step_same (NewSegment ty items) step step' = changed w t t' v v' (with_segments w.state) step.1 step'.1 step.0 step'.0 (segments_same ty items.items w.state.segments t.reply t'.reply step.1 step'.1 room room' step.2 step'.2) step.3 step'.3
   step_same (DropItems k) step step' = changed w t t' v v' (with_segments w.state) step.1 step'.1 step.0 step'.0 (items_same k w.state.segments t.reply t'.reply step.1 step'.1 step.2 step'.2) step.3 step'.3
   step_same (NewGlobal value ty) step step' = changed w t t' v v' (with_globals w.state) step.1 step'.1 step.0 step'.0 (globals_same (record { value = value; ty = ty }) w.state.globals t.reply t'.reply step.1 step'.1 room room' step.2 step'.2) step.3 step'.3
   step_same (SetGlobal k value) step step' = changed w t t' v v' (with_globals w.state) step.1 step'.1 step.0 step'.0 (global_sets_same k value w.state.globals t.reply t'.reply step.1 step'.1 step.2 step'.2) step.3 step'.3
-  step_same (GetGlobal k) step step' = free w t t' v v' step.0 step'.0 (answers_same (live_at w.state.globals k) (λ x. replied.Value x.value) t.reply t'.reply step.1 step'.1) step.2 step'.2
+  step_same (GetGlobal k) step step' = free w t t' v v' step.0 step'.0 (answers_same (slice_get w.state.globals k) (λ x. replied.Value x.value) t.reply t'.reply step.1 step'.1) step.2 step'.2
   step_same (SetRegister dst value) step step' = changed w t t' v v' (with_registers w.state) step.1 step'.1 step.0 step'.0 (takes_same (Some (Ok value)) (slice_get w.state.registers dst) dst w.state.registers t.reply t'.reply step.1 step'.1 step.2 step'.2) step.3 step'.3
   step_same (GetRegister a) step step' = free w t t' v v' step.0 step'.0 (step.1 ∙ sym step'.1) step.2 step'.2
   step_same (Make op dst a) step step' = changed w t t' v v' (with_registers w.state) step.1 step'.1 step.0 step'.0 (takes_same (option_map (λ raw. given_vector (made_vector op raw)) (slice_get w.state.registers a)) (slice_get w.state.registers dst) dst w.state.registers t.reply t'.reply step.1 step'.1 step.2 step'.2) step.3 step'.3

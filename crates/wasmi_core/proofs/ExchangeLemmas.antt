@@ -34,7 +34,7 @@ use Rattle.wasmi_core.specs.declared.slots.Slot.{Slot}
 use Rattle.wasmi_core.specs.declared.slots.Slot.TheVariants.{Live, Gone}
 use Rattle.wasmi_core.specs.State.{State, live_at, with_memories, with_tables, MemoryPart, memory_part, with_memory_part}
 use Rattle.wasmi_core.specs.World.{World, Turn}
-use Rattle.wasmi_core.specs.Rows.{reply_of, ActsAt, Creates, AppendsSlot, ChangesAt, DropsAt}
+use Rattle.wasmi_core.specs.Rows.{reply_of, ActsAt, Creates, Appends, ChangesAt, DropsAt}
 use Rattle.wasmi_core.specs.MemoryRows.{CreatesLent, WritesMemoryAt, StoresMemory, StoresMemoryAt}
 use Rattle.wasmi_core.specs.TableRows.{Metered, metered, SetsElementAt, WritesTableAt, WritesTableFrom, filling, copy_from, initialization_from}
 use Rattle.wasmi_core.specs.RegisterRows.{StoresVectorAt, vector_at}
@@ -85,13 +85,13 @@ module _ {S X : Type 0} (rules : Rules S) (l l' : S) (before after : Kind → Li
   module _ {E : Type 0} where
     -- something is made
     module _ (e : Effort (Unit {0}) E) (is : e.question.kind ≡ kind) (tells : (cause : E) → kind_of (e.notice cause) ≡ kind) (refusal : E → Reply) (made : X) (fresh : e.question.current ≡ 0) (full : count made ≡ e.question.desired) where
-      made_sizes : (fate : Fate E) (reply : Reply) → AppendsSlot refusal (answer_of e made fate) slots reply slots' → GrowsByFate rules l l' before after e (λ cause. tells cause ∙ sym is) (λ k other. others k (λ same. other (same ∙ sym is))) fate
+      made_sizes : (fate : Fate E) (reply : Reply) → Appends Live refusal (answer_of e made fate) slots reply slots' → GrowsByFate rules l l' before after e (λ cause. tells cause ∙ sym is) (λ k other. others k (λ same. other (same ∙ sym is))) fate
       made_sizes (Unasked cause) reply appends = rw is (own' ∙ ap (map (slot_count count)) appends.1 ∙ sym own)
       made_sizes (Denied answer) reply appends = rw is (own' ∙ ap (map (slot_count count)) appends.1 ∙ sym own)
       made_sizes Met reply appends = rw is (omega (arith, fresh), inl (fresh, own' ∙ ap (map (slot_count count)) appends.1 ∙ map_push (slot_count count) slots (Live made) ∙ ap (λ n. map (slot_count count) slots ++ n ∷ []) full ∙ ap (λ (ns : List ℕ). ns ++ e.question.desired ∷ []) (sym own)))
       made_sizes (Failed cause heed) reply appends = rw is (own' ∙ ap (map (slot_count count)) appends.1 ∙ sym own)
 
-      pub makes_passes : (result : Result X E) (reply : Reply) → Makes rules e made l result l' → AppendsSlot refusal result slots reply slots' → Exchanges rules l before l' after
+      pub makes_passes : (result : Result X E) (reply : Reply) → Makes rules e made l result l' → Appends Live refusal result slots reply slots' → Exchanges rules l before l' after
       makes_passes result reply (fate, attempt, answered) appends =
           attempt_passes rules l l' before after e (λ cause. tells cause ∙ sym is) (λ k other. others k (λ same. other (same ∙ sym is))) None fate attempt.may_end attempt.follows (made_sizes fate reply (rw answered at appends))
 
@@ -290,7 +290,7 @@ module _ {S : Type 0} (rules : Rules S) (w : World S) (turn : Turn) (w' : World 
   step_passes (DropTable k) step = idle rules w turn w' step.3 refl refl (drops_kept size_of k w.state.tables turn.reply step.1 step.2)
   step_passes (GetElement k index) step = idle rules w turn w' step.2 refl refl refl
   step_passes (SetElement k index value) step = idle rules w turn w' step.3 refl refl (set_kept k w.state.tables turn.reply step.1 index value step.2)
-  step_passes (InitTable k j dst src len) step = idle rules w turn w' step.4 refl refl (copy_kept k w.state.tables w.state.meter turn.reply turn.charge step.0 step.1 (live_at w.state.segments j) (initialization_from dst src len) (λ y x elements is. copied_length x.elements elements dst (at y.items src len) is) step.2)
+  step_passes (InitTable k j dst src len) step = idle rules w turn w' step.4 refl refl (copy_kept k w.state.tables w.state.meter turn.reply turn.charge step.0 step.1 (slice_get w.state.segments j) (initialization_from dst src len) (λ y x elements is. copied_length x.elements elements dst (at y.items src len) is) step.2)
   step_passes (CopyTable k dst j src len) step = idle rules w turn w' step.4 refl refl (copy_kept k w.state.tables w.state.meter turn.reply turn.charge step.0 step.1 (live_at w.state.tables j) (copy_from dst src len) (λ y x elements is. copied_length x.elements elements dst (at y.elements src len) is) step.2)
   step_passes (FillTable k dst value len) step = idle rules w turn w' step.4 refl refl (write_kept k w.state.tables w.state.meter turn.reply turn.charge step.0 step.1 (filling dst value len) (λ x elements is. overwrite_length x.elements (replicate len value.raw) elements dst is) step.2)
   step_passes (NewSegment ty items) step = idle rules w turn w' step.3 refl refl refl

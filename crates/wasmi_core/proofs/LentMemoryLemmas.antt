@@ -27,7 +27,7 @@ use Rattle.wasmi_core.specs.declared.slots.Slot.TheVariants.{Live, Gone}
 use Rattle.wasmi_core.specs.AccessOps.{stored_bytes}
 use Rattle.wasmi_core.specs.State.{live_value, live_at}
 use Rattle.wasmi_core.specs.World.{World, Turn}
-use Rattle.wasmi_core.specs.Rows.{reply_of, OnLive, ActsAt, AppendsSlot, Creates, ChangesAt, DropsAt}
+use Rattle.wasmi_core.specs.Rows.{reply_of, OnLive, ActsAt, Appends, Creates, ChangesAt, DropsAt}
 use Rattle.wasmi_core.specs.MemoryRows.{bytes_appended, WritesMemoryAt, StoresMemoryAt}
 use Rattle.wasmi_core.specs.RegisterRows.{TakesRegister, StoresVectorAt, vector_loaded, lane_loaded, vector_at}
 use Rattle.wasmi_core.specs.Totals.{byte_count}
@@ -238,7 +238,7 @@ module _ (slots : List (Slot MemoryValue)) (k : ℕ) where
       (λ x h. (h.1.0, owned_memory h.1.1, grows_owned rules pages (record { value = x; meter = m; limiter = l }) h.1.0 charge (record { value = h.1.1; meter = m'; limiter = l' }) h.0 h.1.2, h.1.3, put_owned slots' (Live h.1.1) h.1.4))
 
 -- a memory is made in a slot
-appends_owned : (result : Result MemoryValue MemoryError) (slots : List (Slot MemoryValue)) (reply : Reply) (slots' : List (Slot MemoryValue)) → AppendsSlot replied.Memory result slots reply slots' → AppendsSlot replied.Memory (result_map_both owned_memory (λ error. error) result) (map owned_slot slots) reply (map owned_slot slots')
+appends_owned : (result : Result MemoryValue MemoryError) (slots : List (Slot MemoryValue)) (reply : Reply) (slots' : List (Slot MemoryValue)) → Appends Live replied.Memory result slots reply slots' → Appends Live replied.Memory (result_map_both owned_memory (λ error. error) result) (map owned_slot slots) reply (map owned_slot slots')
 appends_owned (Ok x) slots reply slots' appends = (appends.0 ∙ ap replied.Made (sym (length-map slots owned_slot)), ap (map owned_slot) appends.1 ∙ map_push owned_slot slots (Live x))
 appends_owned (Err error) slots reply slots' appends = (appends.0, ap (map owned_slot) appends.1)
 

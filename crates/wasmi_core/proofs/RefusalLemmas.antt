@@ -38,7 +38,7 @@ use Rattle.wasmi_core.specs.declared.slots.Slot.{Slot}
 use Rattle.wasmi_core.specs.declared.slots.Slot.TheVariants.{Live, Gone}
 use Rattle.wasmi_core.specs.State.{State, live_value, live_at, MemoryPart, memory_part, with_memories, with_tables, with_segments, with_globals, with_registers}
 use Rattle.wasmi_core.specs.World.{World, Turn}
-use Rattle.wasmi_core.specs.Rows.{reply_of, ActsAt, AppendsSlot, Creates, ChangesAt, DropsAt}
+use Rattle.wasmi_core.specs.Rows.{reply_of, ActsAt, Appends, Creates, ChangesFound, ChangesAt, ChangesItem, DropsAt}
 use Rattle.wasmi_core.specs.MemoryRows.{CreatesLent, WritesMemoryAt, StoresMemory, StoresMemoryAt}
 use Rattle.wasmi_types.specs.declared.value.RefType.{RefType}
 use Rattle.wasmi_store.specs.Segment.{SegmentValue}
@@ -62,9 +62,17 @@ module _ {X : Type 0} where
   put_back : (slots : List (Slot X)) (k : ℕ) (x x' : X) → live_at slots k ≡ Some x → x' ≡ x → slice_set slots k (Live x') ≡ slots
   put_back slots k x x' found same = ap (λ z. set slots k (Live z)) same ∙ set_read slots k (Live x) (live_slot (slice_get slots k) x found)
 
+  found_back : {A : Type 0} (found : Option X) (put : X → A) (part : A) (reply : Reply) (part' : A) (Change : X → X → Type 0) → ((x : X) → found ≡ Some x → put x ≡ part) → ((x x' : X) → Change x x' → x' ≡ x) → ChangesFound found put part reply part' Change → part' ≡ part
+  found_back found put part reply part' Change read same changes =
+      on_live found _ _ changes (λ missing. missing.1) (λ x is h. h.2 ∙ ap put (same x h.0 h.1) ∙ read x is)
+
   changes_back : (k : ℕ) (slots : List (Slot X)) (reply : Reply) (slots' : List (Slot X)) (Change : X → X → Type 0) → ((x x' : X) → Change x x' → x' ≡ x) → ChangesAt k slots reply slots' Change → slots' ≡ slots
   changes_back k slots reply slots' Change same changes =
-      on_live (live_at slots k) _ _ changes (λ missing. missing.1) (λ x found h. h.2 ∙ put_back slots k x h.0 found (same x h.0 h.1))
+      found_back (live_at slots k) (λ x. slice_set slots k (Live x)) slots reply slots' Change (λ x found. put_back slots k x x found refl) same changes
+
+  item_back : (k : ℕ) (items : List X) (reply : Reply) (items' : List X) (Change : X → X → Type 0) → ((x x' : X) → Change x x' → x' ≡ x) → ChangesItem k items reply items' Change → items' ≡ items
+  item_back k items reply items' Change same changes =
+      found_back (slice_get items k) (slice_set items k) items reply items' Change (λ x found. set_read items k x found) same changes
 
   drops_back : (count : X → ℕ) (k : ℕ) (slots : List (Slot X)) (reply : Reply) (slots' : List (Slot X)) → IsRefusal reply → DropsAt count k slots reply slots' → slots' ≡ slots
   drops_back count k slots reply slots' refused drops =
@@ -72,13 +80,13 @@ module _ {X : Type 0} where
 
 -- each work, refused
 module _ {E : Type 0} (refusal : E → Reply) where
-  appends_back : {X : Type 0} (result : Result X E) (slots : List (Slot X)) (reply : Reply) (slots' : List (Slot X)) → IsRefusal reply → AppendsSlot refusal result slots reply slots' → slots' ≡ slots
-  appends_back (Ok x) slots reply slots' refused appends = absurd (rw appends.0 at refused)
-  appends_back (Err error) slots reply slots' refused appends = appends.1
+  appends_back : {X A : Type 0} (entry : X → A) (result : Result X E) (list : List A) (reply : Reply) (list' : List A) → IsRefusal reply → Appends entry refusal result list reply list' → list' ≡ list
+  appends_back entry (Ok x) list reply list' refused appends = absurd (rw appends.0 at refused)
+  appends_back entry (Err error) list reply list' refused appends = appends.1
 
   creates_back : {X S : Type 0} (Makes : S → Result X E → S → Type 0) (slots : List (Slot X)) (l : S) (reply : Reply) (slots' : List (Slot X)) (l' : S) → IsRefusal reply → Creates refusal Makes slots l reply slots' l' → slots' ≡ slots
   creates_back Makes slots l reply slots' l' refused (inl none) = none.1
-  creates_back Makes slots l reply slots' l' refused (inr (result, makes, appends)) = appends_back result slots reply slots' refused appends
+  creates_back Makes slots l reply slots' l' refused (inr (result, makes, appends)) = appends_back Live result slots reply slots' refused appends
 
   module _ {V S : Type 0} (rules : Rules S) (g : Growth V E) (x : V) (m : Meter) (l : S) (charge : ℕ) (x' : V) (m' : Meter) (l' : S) where
     attempt_back : (fate : Fate E) → IsRefusal (reply_of replied.Number refusal (answer_of g.effort g.size fate)) → x' ≡ value_after g.effort x fate → x' ≡ x
@@ -160,13 +168,13 @@ table_growth_back {S} rules k n init slots m l reply charge slots' m' l' refused
     (λ x found a. a.4 ∙ put_back slots k x a.1 found
     (on_test (same_type x.ty.element init.ty) _ _ a.2 (λ g. grows_back replied.Table rules _ x m l charge a.1 m' l' a.0 (rw a.3 at refused) g) (λ g. ap (λ (s : Situation TableValue S). s.value) g.2)))
 
-segment_back : (ty : RefType) (items : List ℕ) (slots : List (Slot SegmentValue)) (reply : Reply) (slots' : List (Slot SegmentValue)) → IsRefusal reply → CreatesSegment ty items slots reply slots' → slots' ≡ slots
-segment_back ty items slots reply slots' refused (inl none) = none.1
-segment_back ty items slots reply slots' refused (inr (result, is, appends)) = appends_back replied.Segment result slots reply slots' refused appends
+segment_back : (ty : RefType) (items : List ℕ) (segments : List SegmentValue) (reply : Reply) (segments' : List SegmentValue) → IsRefusal reply → CreatesSegment ty items segments reply segments' → segments' ≡ segments
+segment_back ty items segments reply segments' refused (inl none) = none.1
+segment_back ty items segments reply segments' refused (inr (result, is, appends)) = appends_back replied.Segment (λ x. x) result segments reply segments' refused appends
 
-global_made_back : (global : GlobalInstance) (slots : List (Slot GlobalInstance)) (reply : Reply) (slots' : List (Slot GlobalInstance)) → IsRefusal reply → CreatesGlobal global slots reply slots' → slots' ≡ slots
-global_made_back global slots reply slots' refused (inl none) = none.1
-global_made_back global slots reply slots' refused (inr made) = absurd (rw made.0 at refused)
+global_made_back : (global : GlobalInstance) (globals : List GlobalInstance) (reply : Reply) (globals' : List GlobalInstance) → IsRefusal reply → CreatesGlobal global globals reply globals' → globals' ≡ globals
+global_made_back global globals reply globals' refused (inl none) = none.1
+global_made_back global globals reply globals' refused (inr made) = absurd (rw made.0 at refused)
 
 write_refused : (k offset : ℕ) (source : List ℕ) (slots : List (Slot MemoryValue)) (reply : Reply) (slots' : List (Slot MemoryValue)) → IsRefusal reply → WritesMemoryAt k offset source slots reply slots' → slots' ≡ slots
 write_refused k offset source slots reply slots' refused writes =
@@ -176,12 +184,12 @@ set_refused : (k index : ℕ) (value : TypedRawRef) (slots : List (Slot TableVal
 set_refused k index value slots reply slots' refused sets =
     changes_back k slots reply slots' _ (λ x x' c. write_back _ x None 0 x' None c.0 (rw c.2 at refused) c.1) sets
 
-items_refused : (k : ℕ) (slots : List (Slot SegmentValue)) (reply : Reply) (slots' : List (Slot SegmentValue)) → IsRefusal reply → DropsItemsAt k slots reply slots' → slots' ≡ slots
-items_refused k slots reply slots' refused drops = changes_back k slots reply slots' _ (λ x x' c. absurd (rw c.0 at refused)) drops
+items_refused : (k : ℕ) (segments : List SegmentValue) (reply : Reply) (segments' : List SegmentValue) → IsRefusal reply → DropsItemsAt k segments reply segments' → segments' ≡ segments
+items_refused k segments reply segments' refused drops = item_back k segments reply segments' _ (λ x x' c. absurd (rw c.0 at refused)) drops
 
-global_refused : (k : ℕ) (value : TypedRawVal) (slots : List (Slot GlobalInstance)) (reply : Reply) (slots' : List (Slot GlobalInstance)) → IsRefusal reply → SetsGlobalAt k value slots reply slots' → slots' ≡ slots
-global_refused k value slots reply slots' refused sets =
-    changes_back k slots reply slots' _ (λ x x' c. global_back x x' value c.0 (rw c.2 at refused) c.1) sets
+global_refused : (k : ℕ) (value : TypedRawVal) (globals : List GlobalInstance) (reply : Reply) (globals' : List GlobalInstance) → IsRefusal reply → SetsGlobalAt k value globals reply globals' → globals' ≡ globals
+global_refused k value globals reply globals' refused sets =
+    item_back k globals reply globals' _ (λ x x' c. global_back x x' value c.0 (rw c.2 at refused) c.1) sets
 
 -- the turn ends in a world with the same state, or with the same state but for its meter
 module _ {S : Type 0} (w w' : World S) where
@@ -208,7 +216,7 @@ module _ {S : Type 0} (rules : Rules S) (w : World S) (turn : Turn) (w' : World 
   step_back (DropTable k) step = kept w w' step.3 (ap (with_tables w.state) (drops_back size_of k w.state.tables turn.reply step.1 refused step.2))
   step_back (GetElement k index) step = kept w w' step.2 refl
   step_back (SetElement k index value) step = kept w w' step.3 (ap (with_tables w.state) (set_refused k index value w.state.tables turn.reply step.1 refused step.2))
-  step_back (InitTable k j dst src len) step = paid w w' step.1 step.4 (ap (λ part. let s : State = record (with_tables w.state part) { meter = step.1 } in s) (table_copy_back k w.state.tables w.state.meter turn.reply refused turn.charge step.0 step.1 (live_at w.state.segments j) (initialization_from dst src len) step.2))
+  step_back (InitTable k j dst src len) step = paid w w' step.1 step.4 (ap (λ part. let s : State = record (with_tables w.state part) { meter = step.1 } in s) (table_copy_back k w.state.tables w.state.meter turn.reply refused turn.charge step.0 step.1 (slice_get w.state.segments j) (initialization_from dst src len) step.2))
   step_back (CopyTable k dst j src len) step = paid w w' step.1 step.4 (ap (λ part. let s : State = record (with_tables w.state part) { meter = step.1 } in s) (table_copy_back k w.state.tables w.state.meter turn.reply refused turn.charge step.0 step.1 (live_at w.state.tables j) (copy_from dst src len) step.2))
   step_back (FillTable k dst value len) step = paid w w' step.1 step.4 (ap (λ part. let s : State = record (with_tables w.state part) { meter = step.1 } in s) (table_write_back k w.state.tables w.state.meter turn.reply refused turn.charge step.0 step.1 (filling dst value len) step.2))
   step_back (NewSegment ty items) step = kept w w' step.3 (ap (with_segments w.state) (segment_back ty items.items w.state.segments turn.reply step.1 refused step.2))

@@ -5,7 +5,7 @@ use Rattle.std.proofs.lemmas.Bool.{and_parts}
 use Rattle.std.proofs.lemmas.Bool.Decides.{nat_tests}
 use Rattle.std.proofs.lemmas.List.Sums.{sum_by-cons}
 use Rattle.std.proofs.lemmas.Option.{same_Some}
-use Rattle.std.specs.Prelude.{nat_eq, nat_le, nat_lt, is_some, cond, ◌&&◌, if◌then◌else◌}
+use Rattle.std.specs.Prelude.{nat_eq, nat_le, nat_lt, is_some, cond, ◌&&◌, if◌then◌else◌, slice_get}
 use Rattle.std.specs.Option.{option_map, option_map_or}
 use Rattle.wasmi_meter.specs.declared.error.MemoryError.{MemoryError}
 use Rattle.wasmi_meter.specs.declared.error.TableError.{TableError}
@@ -244,7 +244,7 @@ module _ {S : Type 0} (rules : Rules S) (w : World S) (turn : Turn) (w' : World 
   step_writes (DropTable k) step = idle w turn w' step.3 step.0.1 refl
   step_writes (GetElement k index) step = idle w turn w' step.2 step.0.1 refl
   step_writes (SetElement k index value) step = idle w turn w' step.3 step.0.1 refl
-  step_writes (InitTable k j dst src len) step = writes_as w turn w' step.4 step.3 (table_copy_writes (live_at w.state.segments j) k (initialization_from dst src len) len w.state.tables w.state.meter turn.reply turn.charge step.0 step.1 (λ y x. init_pays len _ refl) step.2)
+  step_writes (InitTable k j dst src len) step = writes_as w turn w' step.4 step.3 (table_copy_writes (slice_get w.state.segments j) k (initialization_from dst src len) len w.state.tables w.state.meter turn.reply turn.charge step.0 step.1 (λ y x. init_pays len _ refl) step.2)
   step_writes (CopyTable k dst j src len) step = writes_as w turn w' step.4 step.3 (table_copy_writes (live_at w.state.tables j) k (copy_from dst src len) len w.state.tables w.state.meter turn.reply turn.charge step.0 step.1 (λ y x. inl refl) step.2)
   step_writes (FillTable k dst value len) step = writes_as w turn w' step.4 step.3 (table_write_writes k (filling dst value len) len w.state.tables w.state.meter turn.reply turn.charge step.0 step.1 (λ x. inl refl) step.2)
   step_writes (NewSegment ty items) step = idle w turn w' step.3 step.0.1 refl

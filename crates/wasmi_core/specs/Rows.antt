@@ -1,5 +1,5 @@
 -- What calls on slots have in common: what each does to the list of slots and in a turn.
-use Rattle.std.specs.Prelude.{◌≡◌, ◌⊎◌, ◌++◌, ℕ, Option, Some, Result, Ok, Err, List, [], ◌∷◌, length, slice_set, MatchOption}
+use Rattle.std.specs.Prelude.{◌≡◌, ◌⊎◌, ◌++◌, ℕ, Option, Some, Result, Ok, Err, List, [], ◌∷◌, length, slice_get, slice_set, MatchOption}
 use Rattle.wasmi_meter.specs.Attempt.{Situation, with_value}
 use Rattle.wasmi_meter.specs.Meter.{Meter}
 use Rattle.wasmi_core.specs.declared.calls.Reply.{Reply}
@@ -18,20 +18,28 @@ reply_of answer refusal (Err error) = refusal error
 abbrev pub OnLive : {X : Type 0} → Option X → Type 0 → (X → Type 0) → Type 0
 OnLive o Missing Fact = MatchOption o Missing Fact
 
--- the live value of an index has become another; where the index names none it is `NoSuch`, and nothing has changed
-abbrev pub ChangesAt : {X : Type 0} → ℕ → List (Slot X) → Reply → List (Slot X) → (X → X → Type 0) → Type 0
-ChangesAt k slots reply slots' Change = OnLive (live_at slots k) ((reply ≡ NoSuch) × (slots' ≡ slots))
-    (λ x. (x' : _) × Change x x' × (slots' ≡ slice_set slots k (Live x')))
+-- the value that an index names has become another, which is put back; where the index names none it is `NoSuch`, and nothing has changed
+abbrev pub ChangesFound : {X A : Type 0} → Option X → (X → A) → A → Reply → A → (X → X → Type 0) → Type 0
+ChangesFound found put part reply part' Change = OnLive found ((reply ≡ NoSuch) × (part' ≡ part))
+    (λ x. (x' : _) × Change x x' × (part' ≡ put x'))
 
--- the reply to a creation, and the slots after it: a new one at the end where it succeeds
-abbrev pub AppendsSlot : {X E : Type 0} → (E → Reply) → Result X E → List (Slot X) → Reply → List (Slot X) → Type 0
-AppendsSlot refusal (Ok x) slots reply slots' = (reply ≡ Made (length slots)) × (slots' ≡ slots ++ Live x ∷ [])
-AppendsSlot refusal (Err error) slots reply slots' = (reply ≡ refusal error) × (slots' ≡ slots)
+-- the live value in a slot has become another
+abbrev pub ChangesAt : {X : Type 0} → ℕ → List (Slot X) → Reply → List (Slot X) → (X → X → Type 0) → Type 0
+ChangesAt k slots reply slots' Change = ChangesFound (live_at slots k) (λ x. slice_set slots k (Live x)) slots reply slots' Change
+
+-- an item of a list has become another
+abbrev pub ChangesItem : {X : Type 0} → ℕ → List X → Reply → List X → (X → X → Type 0) → Type 0
+ChangesItem k items reply items' Change = ChangesFound (slice_get items k) (slice_set items k) items reply items' Change
+
+-- the reply to a creation, and the list after it: a new entry at the end where it succeeds
+abbrev pub Appends : {X A E : Type 0} → (X → A) → (E → Reply) → Result X E → List A → Reply → List A → Type 0
+Appends entry refusal (Ok x) list reply list' = (reply ≡ Made (length list)) × (list' ≡ list ++ entry x ∷ [])
+Appends entry refusal (Err error) list reply list' = (reply ≡ refusal error) × (list' ≡ list)
 
 -- a creation under a limiter: without room for a slot nothing is asked
 abbrev pub Creates : {X E S : Type 0} → (E → Reply) → (S → Result X E → S → Type 0) → List (Slot X) → S → Reply → List (Slot X) → S → Type 0
 Creates refusal Makes slots l reply slots' l' = ((reply ≡ NoRoom) × (slots' ≡ slots) × (l' ≡ l))
-    ⊎ ((result : _) × Makes l result l' × AppendsSlot refusal result slots reply slots')
+    ⊎ ((result : _) × Makes l result l' × Appends Live refusal result slots reply slots')
 
 -- the live value of an index is dropped, and its slot keeps how many it had; where the index names none it is `NoSuch`, and nothing has changed
 abbrev pub DropsAt : {X : Type 0} → (X → ℕ) → ℕ → List (Slot X) → Reply → List (Slot X) → Type 0

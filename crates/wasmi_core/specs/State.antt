@@ -31,8 +31,8 @@ module _ {X : Type 0} where
 pub record State : Type 0 where
   pub memories : List (Slot MemoryValue)
   pub tables : List (Slot TableValue)
-  pub segments : List (Slot SegmentValue)
-  pub globals : List (Slot GlobalInstance)
+  pub segments : List SegmentValue
+  pub globals : List GlobalInstance
   pub registers : List RawVal
   pub meter : Meter
   pub spare : Option (List ℕ)
@@ -63,10 +63,10 @@ with_memory_part s part = record s { memories = part.slots; spare = part.spare }
 abbrev pub with_tables : State → List (Slot TableValue) → State
 with_tables s tables = record s { tables = tables }
 
-abbrev pub with_segments : State → List (Slot SegmentValue) → State
+abbrev pub with_segments : State → List SegmentValue → State
 with_segments s segments = record s { segments = segments }
 
-abbrev pub with_globals : State → List (Slot GlobalInstance) → State
+abbrev pub with_globals : State → List GlobalInstance → State
 with_globals s globals = record s { globals = globals }
 
 abbrev pub with_registers : State → List RawVal → State

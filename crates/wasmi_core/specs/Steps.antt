@@ -100,7 +100,7 @@ StepBy rules (DropTable k) w turn w' = Changes w turn w' (with_tables w.state) (
 StepBy rules (GetElement k index) w turn w' = OnlyReplies w turn w' (GetsElementAt k index w.state.tables)
 StepBy rules (SetElement k index value) w turn w' = Changes w turn w' (with_tables w.state) (SetsElementAt k index value w.state.tables)
 StepBy rules (InitTable k j dst src len) w turn w' =
-    PaysUnasked w turn w' w.state.tables (with_tables w.state) (WritesTableFrom (live_at w.state.segments j) k (initialization_from dst src len)) (element_bytes len)
+    PaysUnasked w turn w' w.state.tables (with_tables w.state) (WritesTableFrom (slice_get w.state.segments j) k (initialization_from dst src len)) (element_bytes len)
 StepBy rules (CopyTable k dst j src len) w turn w' =
     PaysUnasked w turn w' w.state.tables (with_tables w.state) (WritesTableFrom (live_at w.state.tables j) k (copy_from dst src len)) (element_bytes len)
 StepBy rules (FillTable k dst value len) w turn w' =

@@ -1,5 +1,5 @@
--- The calls on element segments and globals: what each does to the list of slots.
-use Rattle.std.specs.Prelude.{◌≡◌, ◌⊎◌, ◌≤◌, ◌<◌, ◌++◌, ℕ, Result, Ok, Err, List, [], ◌∷◌, length}
+-- The calls on element segments and globals: what each does to the list of them.
+use Rattle.std.specs.Prelude.{◌≡◌, ◌⊎◌, ◌≤◌, ◌<◌, ◌++◌, ℕ, Result, Ok, Err, List, [], ◌∷◌, length, slice_get}
 use Rattle.wasmi_types.specs.declared.value.RefType.{RefType}
 use Rattle.wasmi_typed.specs.declared.typed.TypedRawVal.{TypedRawVal}
 use Rattle.wasmi_typed.specs.declared.global.GlobalError.{GlobalError}
@@ -9,10 +9,7 @@ use Rattle.wasmi_store.specs.declared.table.element.SegmentError.TheVariants.{To
 use Rattle.wasmi_store.specs.Segment.{SegmentValue, most_items, dropped}
 use Rattle.wasmi_core.specs.declared.calls.Reply.{Reply}
 use Rattle.wasmi_core.specs.declared.calls.Reply.TheVariants.{Done, Made, Value, Global, Segment, NoSuch, NoRoom}
-use Rattle.wasmi_core.specs.declared.slots.Slot.{Slot}
-use Rattle.wasmi_core.specs.declared.slots.Slot.TheVariants.{Live}
-use Rattle.wasmi_core.specs.State.{live_at}
-use Rattle.wasmi_core.specs.Rows.{reply_of, OnLive, ChangesAt, AppendsSlot}
+use Rattle.wasmi_core.specs.Rows.{reply_of, OnLive, ChangesItem, Appends}
 
 -- the segment of these items, unless there are too many or memory is refused
 abbrev pub IsSegmentOf : RefType → List ℕ → Result SegmentValue SegmentError → Type 0
@@ -21,24 +18,24 @@ IsSegmentOf ty items (Err TooManyItems) = most_items < length items
 IsSegmentOf ty items (Err OutOfSystemMemory) = Unit {0}
 
 -- an element segment is made
-abbrev pub CreatesSegment : RefType → List ℕ → List (Slot SegmentValue) → Reply → List (Slot SegmentValue) → Type 0
-CreatesSegment ty items slots reply slots' = ((reply ≡ NoRoom) × (slots' ≡ slots))
-    ⊎ ((result : Result SegmentValue SegmentError) × IsSegmentOf ty items result × AppendsSlot Segment result slots reply slots')
+abbrev pub CreatesSegment : RefType → List ℕ → List SegmentValue → Reply → List SegmentValue → Type 0
+CreatesSegment ty items segments reply segments' = ((reply ≡ NoRoom) × (segments' ≡ segments))
+    ⊎ ((result : Result SegmentValue SegmentError) × IsSegmentOf ty items result × Appends (λ x. x) Segment result segments reply segments')
 
 -- its items are dropped
-abbrev pub DropsItemsAt : ℕ → List (Slot SegmentValue) → Reply → List (Slot SegmentValue) → Type 0
-DropsItemsAt k slots reply slots' = ChangesAt k slots reply slots' (λ x x'. (reply ≡ Done) × (x' ≡ dropped x))
+abbrev pub DropsItemsAt : ℕ → List SegmentValue → Reply → List SegmentValue → Type 0
+DropsItemsAt k segments reply segments' = ChangesItem k segments reply segments' (λ x x'. (reply ≡ Done) × (x' ≡ dropped x))
 
 -- a global is made
-abbrev pub CreatesGlobal : GlobalInstance → List (Slot GlobalInstance) → Reply → List (Slot GlobalInstance) → Type 0
-CreatesGlobal global slots reply slots' = ((reply ≡ NoRoom) × (slots' ≡ slots))
-    ⊎ ((reply ≡ Made (length slots)) × (slots' ≡ slots ++ Live global ∷ []))
+abbrev pub CreatesGlobal : GlobalInstance → List GlobalInstance → Reply → List GlobalInstance → Type 0
+CreatesGlobal global globals reply globals' = ((reply ≡ NoRoom) × (globals' ≡ globals))
+    ⊎ ((reply ≡ Made (length globals)) × (globals' ≡ globals ++ global ∷ []))
 
 -- it is set
-abbrev pub SetsGlobalAt : ℕ → TypedRawVal → List (Slot GlobalInstance) → Reply → List (Slot GlobalInstance) → Type 0
-SetsGlobalAt k value slots reply slots' = ChangesAt k slots reply slots'
+abbrev pub SetsGlobalAt : ℕ → TypedRawVal → List GlobalInstance → Reply → List GlobalInstance → Type 0
+SetsGlobalAt k value globals reply globals' = ChangesItem k globals reply globals'
     (λ x x'. (result : Result (Unit {0}) GlobalError) × SetsGlobal x value result x' × (reply ≡ reply_of (λ _. Done) Global result))
 
 -- its value is asked for
-abbrev pub GetsGlobalAt : ℕ → List (Slot GlobalInstance) → Reply → Type 0
-GetsGlobalAt k slots reply = OnLive (live_at slots k) (reply ≡ NoSuch) (λ x. reply ≡ Value x.value)
+abbrev pub GetsGlobalAt : ℕ → List GlobalInstance → Reply → Type 0
+GetsGlobalAt k globals reply = OnLive (slice_get globals k) (reply ≡ NoSuch) (λ x. reply ≡ Value x.value)

@@ -7,6 +7,7 @@ ghost use Rattle.wasmi_meter.specs.LimiterRef.{state, KeepsLoan};
 use crate::calls::{Call, Reply};
 use crate::registers::Registers;
 use crate::slots::Slots;
+use crate::values::{create_global, create_segment, drop_items, find, get_global, set_global};
 use std::alloc::Global as Allocator;
 use std::marker::Model;
 use wasmi_meter::{Fuel, ResourceLimiter, ResourceLimiterRef};
@@ -21,8 +22,8 @@ pub struct Machine<'r> {
     pub(crate) alloc: Allocator,
     memories: Slots<Memory<'r>>,
     tables: Slots<Table>,
-    segments: Slots<ElementSegment>,
-    globals: Slots<Global>,
+    segments: Vec<ElementSegment>,
+    globals: Vec<Global>,
     registers: Registers,
     fuel: Fuel,
     spare: Option<&'r mut [u8]>,
@@ -37,8 +38,8 @@ impl<'r> Model for Machine<'r> {
     ghost view = { λ m. record {
       memories = m.memories.slots.items;
       tables = m.tables.slots.items;
-      segments = m.segments.slots.items;
-      globals = m.globals.slots.items;
+      segments = m.segments.items;
+      globals = m.globals.items;
       registers = m.registers.values;
       meter = m.fuel;
       spare = option_copied_mut m.spare;
@@ -60,8 +61,8 @@ impl<'r> Machine<'r> {
             alloc,
             memories: Slots::new(alloc),
             tables: Slots::new(alloc),
-            segments: Slots::new(alloc),
-            globals: Slots::new(alloc),
+            segments: Vec::new(alloc),
+            globals: Vec::new(alloc),
             registers: Registers::new(),
             fuel,
             spare: None,
@@ -102,16 +103,16 @@ impl<'r> Machine<'r> {
 
     /// The element segment of an index, if there is one.
     pub fn segment(&self, index: usize) -> Option<&ElementSegment>
-        ensures { option_copied result ≡ live_at self.now.segments index }
+        ensures { option_copied result ≡ slice_get self.now.segments index }
     {
-        self.segments.live(index)
+        find(&self.segments, index)
     }
 
     /// The global of an index, if there is one.
     pub fn global(&self, index: usize) -> Option<&Global>
-        ensures { option_copied result ≡ live_at self.now.globals index }
+        ensures { option_copied result ≡ slice_get self.now.globals index }
     {
-        self.globals.live(index)
+        find(&self.globals, index)
     }
 
     /// The value of a register, if there is one: their numbers are 0 to 15.
@@ -177,11 +178,13 @@ impl<'r> Machine<'r> {
             | Call::Write { .. }
             | Call::Load { .. }
             | Call::Store { .. } => self.step_memory(call, limiter),
-            Call::NewSegment { ty, items } => self.segments.create(self.alloc, *ty, items),
-            Call::DropItems(segment) => self.segments.drop_items(*segment),
-            Call::NewGlobal { value, ty } => self.globals.create(*value, *ty),
-            Call::SetGlobal { global, value } => self.globals.set(*global, *value),
-            Call::GetGlobal(global) => self.globals.get(*global),
+            Call::NewSegment { ty, items } => {
+                create_segment(&mut self.segments, self.alloc, *ty, items)
+            }
+            Call::DropItems(segment) => drop_items(&mut self.segments, *segment),
+            Call::NewGlobal { value, ty } => create_global(&mut self.globals, *value, *ty),
+            Call::SetGlobal { global, value } => set_global(&mut self.globals, *global, *value),
+            Call::GetGlobal(global) => get_global(&self.globals, *global),
             Call::NewTable { .. }
             | Call::GrowTable { .. }
             | Call::DropTable(_)
@@ -278,7 +281,7 @@ impl<'r> Machine<'r> {
                 src,
                 len,
             } => {
-                let Some(segment) = self.segments.live(*segment) else {
+                let Some(segment) = find(&self.segments, *segment) else {
                     return Reply::NoSuch;
                 };
                 self.tables.init(

@@ -1,38 +1,41 @@
 //! The element segments and globals of a machine, by their indices.
-ghost use Rattle.std.specs.Prelude.{◌≡◌};
+ghost use Rattle.std.specs.Prelude.{◌≡◌, slice_get};
+ghost use Rattle.std.specs.Option.{option_copied};
 ghost use Rattle.wasmi_core.specs.ValueRows.{CreatesSegment, DropsItemsAt, CreatesGlobal, SetsGlobalAt, GetsGlobalAt, IsSegmentOf};
 
 use crate::calls::Reply;
-use crate::slots::Slots;
 use std::alloc::Global as Allocator;
 use wasmi_raw::{RawRef, RawVal};
 use wasmi_store::{ElementSegment, SegmentError};
 use wasmi_typed::{Global, GlobalType, TypedRawVal};
 use wasmi_types::RefType;
 
-impl Slots<ElementSegment> {
-    /// Makes an element segment in a new slot.
-    pub(crate) fn create(&mut self, alloc: Allocator, ty: RefType, items: &[RawRef]) -> Reply
-        ensures { CreatesSegment ty items.now self.old.slots.items result self.new.slots.items }
-    {
-        if !self.reserve() {
-            return Reply::NoRoom;
-        }
-        match segment(alloc, ty, items) {
-            Ok(segment) => Reply::Made(self.push(segment)),
-            Err(error) => Reply::Segment(error),
-        }
-    }
+/// The element segment or global of an index, if there is one.
+pub(crate) fn find<T>(values: &[T], index: usize) -> Option<&T>
+    ensures { option_copied result ≡ slice_get values.now index }
+{
+    values.get(index)
+}
 
-    /// Drops the items of an element segment.
-    pub(crate) fn drop_items(&mut self, index: usize) -> Reply
-        ensures { DropsItemsAt index self.old.slots.items result self.new.slots.items }
-    {
-        let Some(segment) = self.live_mut(index) else {
-            return Reply::NoSuch;
-        };
-        segment.drop_items();
-        Reply::Done
+/// Makes an element segment.
+pub(crate) fn create_segment(
+    segments: &mut Vec<ElementSegment>,
+    alloc: Allocator,
+    ty: RefType,
+    items: &[RawRef],
+) -> Reply
+    ensures { CreatesSegment ty items.now segments.old.items result segments.new.items }
+{
+    if segments.try_reserve(1).is_err() {
+        return Reply::NoRoom;
+    }
+    match segment(alloc, ty, items) {
+        Ok(segment) => {
+            let index = segments.len();
+            segments.push_reserved(segment);
+            Reply::Made(index)
+        }
+        Err(error) => Reply::Segment(error),
     }
 }
 
@@ -43,37 +46,48 @@ fn segment(alloc: Allocator, ty: RefType, items: &[RawRef]) -> Result<ElementSeg
     ElementSegment::new(alloc, ty, items.iter().copied())
 }
 
-impl Slots<Global> {
-    /// Makes a global in a new slot.
-    pub(crate) fn create(&mut self, value: RawVal, ty: GlobalType) -> Reply
-        ensures { CreatesGlobal (record { value = value; ty = ty }) self.old.slots.items result self.new.slots.items }
-    {
-        if !self.reserve() {
-            return Reply::NoRoom;
-        }
-        Reply::Made(self.push(Global::new(value, ty)))
-    }
+/// Drops the items of an element segment.
+pub(crate) fn drop_items(segments: &mut Vec<ElementSegment>, index: usize) -> Reply
+    ensures { DropsItemsAt index segments.old.items result segments.new.items }
+{
+    let Some(segment) = segments.get_mut(index) else {
+        return Reply::NoSuch;
+    };
+    segment.drop_items();
+    Reply::Done
+}
 
-    /// Sets a global.
-    pub(crate) fn set(&mut self, index: usize, value: TypedRawVal) -> Reply
-        ensures { SetsGlobalAt index value self.old.slots.items result self.new.slots.items }
-    {
-        let Some(global) = self.live_mut(index) else {
-            return Reply::NoSuch;
-        };
-        match global.set(value) {
-            Ok(()) => Reply::Done,
-            Err(error) => Reply::Global(error),
-        }
+/// Makes a global.
+pub(crate) fn create_global(globals: &mut Vec<Global>, value: RawVal, ty: GlobalType) -> Reply
+    ensures { CreatesGlobal (record { value = value; ty = ty }) globals.old.items result globals.new.items }
+{
+    if globals.try_reserve(1).is_err() {
+        return Reply::NoRoom;
     }
+    let index = globals.len();
+    globals.push_reserved(Global::new(value, ty));
+    Reply::Made(index)
+}
 
-    /// The value of a global.
-    pub(crate) fn get(&self, index: usize) -> Reply
-        ensures { GetsGlobalAt index self.now.slots.items result }
-    {
-        match self.live(index) {
-            Some(global) => Reply::Value(*global.get_raw()),
-            None => Reply::NoSuch,
-        }
+/// Sets a global.
+pub(crate) fn set_global(globals: &mut Vec<Global>, index: usize, value: TypedRawVal) -> Reply
+    ensures { SetsGlobalAt index value globals.old.items result globals.new.items }
+{
+    let Some(global) = globals.get_mut(index) else {
+        return Reply::NoSuch;
+    };
+    match global.set(value) {
+        Ok(()) => Reply::Done,
+        Err(error) => Reply::Global(error),
+    }
+}
+
+/// The value of a global.
+pub(crate) fn get_global(globals: &[Global], index: usize) -> Reply
+    ensures { GetsGlobalAt index globals.now result }
+{
+    match globals.get(index) {
+        Some(global) => Reply::Value(*global.get_raw()),
+        None => Reply::NoSuch,
     }
 }

@@ -30,11 +30,11 @@ returns-in-SetElement-clause-step g c =
     (0, 0, rw (c.in-SetElement.is, ← c.self.view_is) ((refl, refl), c.set.new.self.slots.items, c.set.ensures, refl))
 
 -- no element segment of that index
-pub returns-in_default-live-clause-step : goal.returns-in_default-live-clause-step
-returns-in_default-live-clause-step g c = (
+pub returns-in_default-find-clause-step : goal.returns-in_default-find-clause-step
+returns-in_default-find-clause-step g c = (
   0,
   0,
-  rw (c.in-InitTable.is, ← c.self.view_is) (c.self.inside.tables.slots.items, c.self.inside.fuel, rw (← c.in_default-live.ensures) (refl, refl, refl), refl, refl),
+  rw (c.in-InitTable.is, ← c.self.view_is) (c.self.inside.tables.slots.items, c.self.inside.fuel, rw (← c.deref.ensures.value, ← c.in_default-find.ensures) (refl, refl, refl), refl, refl),
 )
 
 pub returns-in-Some-clause-step : goal.returns-in-Some-clause-step
@@ -44,7 +44,7 @@ returns-in-Some-clause-step g c = (
   rw (c.in-InitTable.is, ← c.self.view_is) (
     c.init.new.self.slots.items,
     c.init.new.fuel,
-    rw (← c.in-Some.ensures) (subst (λ segment. WritesTableAt c.in-InitTable.table (initialization_from c.in-InitTable.dst c.in-InitTable.src c.in-InitTable.len segment) (metered c.self.inside.tables.slots.items c.self.inside.fuel) c.init.result c.init.ensures.0 (metered c.init.new.self.slots.items c.init.new.fuel)) c.from.ensures c.init.ensures.1),
+    rw (← c.deref.ensures.value, ← c.in-Some.ensures) (subst (λ segment. WritesTableAt c.in-InitTable.table (initialization_from c.in-InitTable.dst c.in-InitTable.src c.in-InitTable.len segment) (metered c.self.inside.tables.slots.items c.self.inside.fuel) c.init.result c.init.ensures.0 (metered c.init.new.self.slots.items c.init.new.fuel)) c.from.ensures c.init.ensures.1),
     refl,
     refl,
   ),
