@@ -99,7 +99,8 @@ top_below h n tops each (suc j) lt =
     let place : suc h * suc j - 1 ≡ suc h * j + h = omega (arith, mul-suc (suc h) j) in
     inr (ap (bit_at tops) place ∙ sym (top_of_lane (suc h * j) h tops) ∙ ap (λ n. bit_at n h) (each j (omega arith)) ∙ bit_at-pow_same h)
 
-tops_each : (w n tops : ℕ) → 0 < w → n * w ≤ 64 → ((j : ℕ) → j < n → field (w * j) w tops ≡ 2 ^ (w - 1)) → (i : ℕ) → i < n → IsLane tops (w * i) w
+-- a word that has the highest bit of each of n lanes of w bits divides its lowest bits into these lanes
+pub tops_each : (w n tops : ℕ) → 0 < w → n * w ≤ 64 → ((j : ℕ) → j < n → field (w * j) w tops ≡ 2 ^ (w - 1)) → (i : ℕ) → i < n → IsLane tops (w * i) w
 tops_each zero n tops pos fits each i lt = absurd (omega arith)
 tops_each (suc h) n tops pos fits each i lt = record {
   starts = top_below h n tops (λ j below. each j below ∙ ap (λ k. 2 ^ k) (let back : suc h - 1 ≡ h = omega arith in back)) i lt;

@@ -5,4 +5,5 @@ pub mod MeanLemmas
 pub mod OneLane
 pub mod OrderLemmas
 pub mod Rounding
+pub mod WordLemmas
 pub mod Words

@@ -36,7 +36,7 @@ pub fn i32x4_eq(lhs: V128, rhs: V128) -> V128
 pub fn i64x2_eq(lhs: V128, rhs: V128) -> V128
     ensures { result ≡ vector.eq w64 lhs rhs }
 {
-    words::equal::<u64>(lhs, rhs)
+    words::equal_words(lhs, rhs)
 }
 
 /// All ones in the lanes that are different, else all zeros.
@@ -68,7 +68,7 @@ pub fn i32x4_ne(lhs: V128, rhs: V128) -> V128
 pub fn i64x2_ne(lhs: V128, rhs: V128) -> V128
     ensures { result ≡ vector.ne w64 lhs rhs }
 {
-    words::different::<u64>(lhs, rhs)
+    words::different_words(lhs, rhs)
 }
 
 /// All ones where the lane of `lhs` is less than that of `rhs`, both read signed, else all zeros.

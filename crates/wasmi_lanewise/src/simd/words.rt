@@ -3,15 +3,15 @@
 //!
 //! What is generic in a lane type takes the highest bits of a word's lanes from it.
 
-ghost use Rattle.std.specs.Prelude.{◌≡◌, ℕ, ◌^◌, ◌<◌};
+ghost use Rattle.std.specs.Prelude.{◌≡◌, ℕ, ◌-◌, ◌^◌, ◌<◌, ◌==◌, if◌then◌else◌};
 ghost use Rattle.wasmi_raw.specs.Vector.{vector_of};
-ghost use Rattle.wasmi_types.specs.Wrapping.{w8};
+ghost use Rattle.wasmi_types.specs.Wrapping.{w8, w64};
 ghost use Rattle.wasmi_lanes.specs.Words.{field, IsLane, AreMarks, AreFilled};
 ghost use Rattle.wasmi_lanewise.specs.VectorTable as vector;
 
 use std::simd::prelude::*;
 use wasmi_lanes::words::{word_add, word_differ, word_sub};
-use wasmi_lanes::{WordLane, from_words};
+use wasmi_lanes::{WordLane, from_words, words_of};
 use wasmi_raw::V128;
 
 /// The sums of the lanes, modulo 2 to the power of their width.
@@ -26,24 +26,43 @@ pub(super) fn sums<T: WordLane>(lhs: V128, rhs: V128) -> V128
 }
 
 /// The differences of the lanes, modulo 2 to the power of their width.
+///
+/// An operand and the result are inverted twice, as a vector and as words, which changes nothing.
+/// LLVM joins the inversions of the words with the masks of `word_sub`, and makes one step less.
 #[inline(always)]
 pub(super) fn differences<T: WordLane>(lhs: V128, rhs: V128) -> V128
     ensures { result ≡ vector.sub T.width lhs rhs }
 {
     let tops = T::INNER_TOPS;
-    let (a_low, a_high) = lhs.words();
+    let (a_low, a_high) = inverted(lhs).words();
     let (b_low, b_high) = rhs.words();
-    V128::from_words(word_sub(a_low, b_low, tops), word_sub(a_high, b_high, tops))
+    inverted(V128::from_words(
+        !word_sub(!a_low, b_low, tops),
+        !word_sub(!a_high, b_high, tops),
+    ))
+}
+
+// The bits of a vector inverted, both words as one value of the processor's.
+#[inline(always)]
+fn inverted(v: V128) -> V128
+    ensures { result ≡ vector.v128_not v }
+{
+    from_words(!words_of(v))
 }
 
 /// The lanes negated, modulo 2 to the power of their width.
+///
+/// A lane plus all ones is the lane less 1, whose bits inverted are those of the lane negated.
 #[inline(always)]
 pub(super) fn negations<T: WordLane>(v: V128) -> V128
     ensures { result ≡ vector.neg T.width v }
 {
     let tops = T::INNER_TOPS;
     let (low, high) = v.words();
-    V128::from_words(word_sub(0, low, tops), word_sub(0, high, tops))
+    V128::from_words(
+        !word_add(low, u64::MAX, tops),
+        !word_add(high, u64::MAX, tops),
+    )
 }
 
 /// All ones in the lanes that are equal, else all zeros.
@@ -72,6 +91,39 @@ pub(super) fn different<T: WordLane>(lhs: V128, rhs: V128) -> V128
         word_differ(a_low, b_low, tops),
         word_differ(a_high, b_high, tops),
     )
+}
+
+/// All ones in the lanes of 64 bits that are equal, else all zeros.
+#[inline(always)]
+pub(super) fn equal_words(lhs: V128, rhs: V128) -> V128
+    ensures { result ≡ vector.eq w64 lhs rhs }
+{
+    let (a_low, a_high) = lhs.words();
+    let (b_low, b_high) = rhs.words();
+    V128::from_words(ones_if_equal(a_low, b_low), ones_if_equal(a_high, b_high))
+}
+
+/// All ones in the lanes of 64 bits that are different, else all zeros.
+#[inline(always)]
+pub(super) fn different_words(lhs: V128, rhs: V128) -> V128
+    ensures { result ≡ vector.ne w64 lhs rhs }
+{
+    let (a_low, a_high) = lhs.words();
+    let (b_low, b_high) = rhs.words();
+    V128::from_words(!ones_if_equal(a_low, b_low), !ones_if_equal(a_high, b_high))
+}
+
+// All ones if two words are equal, else 0. They are compared as lanes of one bit, of which
+// `word_differ` masks nothing.
+#[inline(always)]
+fn ones_if_equal(a: u64, b: u64) -> u64
+    ensures { result ≡ (if a == b then 2 ^ 64 - 1 else 0) }
+{
+    if word_differ(a, b, u64::MAX) == 0 {
+        u64::MAX
+    } else {
+        0
+    }
 }
 
 // The vector of two words of which each lane is 0 or its highest bit alone, those with the bit
