@@ -19,7 +19,7 @@ LIBRARIES = {
     "bench_widening": (f"{LANEWISE} wasmi_simd", "vectors.rt.in", {"vector": rows.widening()}),
     "bench_accesses": (f"{LANEWISE} wasmi_access wasmi_simd wasmi_vector_access", "vectors.rt.in", {"lane": LANES[:4], "load": rows.loads(), "store": rows.stores()}),
     "bench_numbers": ("wasmi_types wasmi_raw wasmi_lanes wasmi_access", "vectors.rt.in", {"load": rows.number_loads(), "store": rows.number_stores()}),
-    "bench_works": ("wasmi_types wasmi_raw wasmi_typed wasmi_meter wasmi_store", "works.rt.in", {}),
+    "bench_works": (f"{LANEWISE} wasmi_typed wasmi_access wasmi_scalar wasmi_simd wasmi_vector_access wasmi_meter wasmi_store", "works.rt.in", {}),
     "bench_machine": (f"{LANEWISE} wasmi_typed wasmi_access wasmi_scalar wasmi_meter wasmi_store wasmi_core", "machine.rt.in", {}),
 }
 

@@ -1,4 +1,4 @@
-//! Memories, tables and the meter: each function does a thing so many times, and answers a checksum.
+//! Memories, tables, the meter and numbers: each function does a thing so many times, and answers a checksum.
 use crate::timing::least;
 use std::hint::black_box;
 use wasmi_core::*;
@@ -19,6 +19,7 @@ works! {
     table_fill_1000 2000 1 table_copy_1000 2000 1 table_copy_within_10 20000 1 table_copy_within_1000 2000 1
     table_copy_within_100000 100 1 table_get_set 20000 1 table_grow_16 50 16
     memory_grow_page 50 16 memory_write_64 20000 1 memory_write_4096 2000 1 memory_read_64 20000 1 fuel_consume 20000 1
+    fuel_consume_unchecked 20000 1 vector_load_store 20000 1 i64_div_s 20000 1 i64_mul_wide_u 20000 1
 }
 
 mod the_crate {
@@ -92,6 +93,42 @@ mod the_crate {
             sum = sum.wrapping_add(fuel.consume_fuel(|costs| costs.fuel_for_copying_values::<u8>(i & 4095)).unwrap());
         }
         sum
+    }
+
+    pub unsafe extern "C" fn fuel_consume_unchecked(turns: u64) -> u64 {
+        let mut fuel = meter();
+        let (fuel, mut sum) = (black_box(&mut fuel), 0_u64);
+        for i in 0..turns {
+            sum = sum.wrapping_add(fuel.consume_fuel_unchecked(i & 7).unwrap());
+        }
+        sum
+    }
+
+    pub unsafe extern "C" fn vector_load_store(turns: u64) -> u64 {
+        let mut memory = counted();
+        let data = black_box(memory.data_mut());
+        for i in 0..turns {
+            let vector = simd::v128_load(data, i * 16 & 0x7ff0, i & 1).unwrap();
+            simd::v128_store(data, i * 48 & 0x7ff0, i & 1, vector).unwrap();
+        }
+        sum_of_bytes(data)
+    }
+
+    pub unsafe extern "C" fn i64_div_s(turns: u64) -> u64 {
+        let mut x = 0x7fff_1234_5678_9abc_i64;
+        for i in 0..turns {
+            x = x.wrapping_add(wasm::i64_div_s(x, i as i64 | 1).unwrap());
+        }
+        x as u64
+    }
+
+    pub unsafe extern "C" fn i64_mul_wide_u(turns: u64) -> u64 {
+        let mut x = 0x7fff_1234_5678_9abc_i64;
+        for i in 0..turns {
+            let (low, high) = wasm::i64_mul_wide_u(x, i as i64);
+            x = low ^ high ^ 0x55;
+        }
+        x as u64
     }
 
     fn table(size: u32) -> Table {
