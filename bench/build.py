@@ -15,8 +15,8 @@ LINKS = 12
 LANES = [(str(count), "") for count in (2, 4, 8, 16, 32)]
 LANEWISE = "wasmi_types wasmi_raw wasmi_lanes wasmi_lanewise"
 LIBRARIES = {
-    "bench_lanewise": (LANEWISE, "vectors.rt.in", {"lane": LANES, "vector": rows.lanewise()}),
-    "bench_widening": (f"{LANEWISE} wasmi_simd", "vectors.rt.in", {"vector": rows.widening()}),
+    "bench_lanewise": (LANEWISE, "vectors.rt.in", {"lane": LANES, "vector": rows.lanewise() + rows.lanewise_thirds()}),
+    "bench_widening": (f"{LANEWISE} wasmi_simd", "vectors.rt.in", {"vector": rows.widening() + rows.widening_thirds()}),
     "bench_accesses": (f"{LANEWISE} wasmi_access wasmi_simd wasmi_vector_access", "vectors.rt.in", {"lane": LANES[:4], "load": rows.loads(), "store": rows.stores()}),
     "bench_numbers": ("wasmi_types wasmi_raw wasmi_lanes wasmi_access", "vectors.rt.in", {"load": rows.number_loads(), "store": rows.number_stores()}),
     "bench_works": (f"{LANEWISE} wasmi_typed wasmi_access wasmi_scalar wasmi_simd wasmi_vector_access wasmi_meter wasmi_store", "works.rt.in", {}),
@@ -69,9 +69,10 @@ def build_program(crate, libraries, to):
     """Builds the program, in some links that place its functions in other orders: a jump across a line of 32 bytes costs time."""
     shutil.copytree(f"{HERE}/program", to, dirs_exist_ok=True)
     write(f"{to}/Cargo.toml", read(f"{HERE}/program/Cargo.toml.in").replace("CRATE", os.path.realpath(crate)))
-    kinds = {"vector_rows": "x, y, first, low, high", "load_rows": "memory, y, low, high", "store_rows": "memory, x, first, low, high"}
+    kinds = {"vector_rows": "x, y, kept, first, low, high", "load_rows": "memory, y, low, high", "store_rows": "memory, x, first, low, high"}
     tables = {"lanewise": rows.lanewise(), "widening": rows.widening(), "loads": rows.loads(), "stores": rows.stores()}
     tables |= {"number_loads": rows.number_loads(), "number_stores": rows.number_stores()}
+    tables |= {"lanewise_thirds": rows.lanewise_thirds(), "widening_thirds": rows.widening_thirds()}
     write(f"{to}/src/here.rs", "declared! { " + " ".join(name for of in tables.values() for name, _ in of) + " }\n")
     text = ""
     for table, of in tables.items():

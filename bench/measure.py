@@ -52,6 +52,7 @@ def main(folder, runs="2", word=""):
     least, differ = measured(folder, int(runs), word)
     of = lambda *kinds: {name: times for (kind, name), times in least.items() if kind in kinds}
     print_vectors("instruction, ns a vector", of("lanewise", "widening", "load", "store"))
+    print_vectors("third operand, ns a vector", of("third"))
     numbers = of("number_load", "number_store")
     print_others("load or store of a number, ns", {name: (min(it[:2]), it[2]) for name, it in numbers.items()})
     print_others("work, ns", of("work"))

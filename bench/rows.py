@@ -1,7 +1,7 @@
 """The rows that are made from tables: vector instructions, and loads and stores of numbers.
 
-Each row is an expression that is a text of both languages, over x and y (vectors of the first and the second array), first (the
-low word of x), low and high (the words of y) and, for an access, memory."""
+Each row is an expression that is a text of both languages, over x and y (vectors of the first and the second array), kept (the
+first vector of the second array), first (the low word of x), low and high (the words of y) and, for an access, memory."""
 
 LANES = {"i8x16": 8, "i16x8": 16, "i32x4": 32, "i64x2": 64}
 
@@ -67,6 +67,9 @@ def lane_rows(suffix, index):
     return rows
 
 
+FIXED = "from_words(0x0f0f_0f0f_0f0f_0f0f, 0x00ff_00ff_00ff_00ff)"
+
+
 def lanewise():
     """The instructions of the module `simd` of `wasmi_lanewise`."""
     rows = [(f"{lanes}_splat", f"simd::{lanes}_splat({item(lanes, 'low')})") for lanes in LANES]
@@ -75,7 +78,7 @@ def lanewise():
     rows.append(("i8x16_shuffle", f"simd::i8x16_shuffle(x, y, [{', '.join(lane(32, it) for it in chosen)}])"))
     rows += [(it, f"simd::{it}(x, y)") for it in BINARY.split()]
     rows += [(it, f"simd::{it}(x)") for it in UNARY.split()]
-    rows.append(("v128_bitselect_fixed", "simd::v128_bitselect(x, y, from_words(0x0f0f_0f0f_0f0f_0f0f, 0x00ff_00ff_00ff_00ff))"))
+    rows.append(("v128_bitselect_fixed", f"simd::v128_bitselect(x, y, {FIXED})"))
     rows.append(("v128_bitselect", "simd::v128_bitselect(x, y, from_words(high, low))"))
     rows += lane_rows("_by_variable", lambda count: f"(low & {count - 1}) as u8")
     bytes_of_y = [f"(({word} >> {8 * i}) & 31) as u8" for word in ("low", "high") for i in range(8)]
@@ -96,6 +99,18 @@ def widening():
     rows += [(it, f"simd::{it}(low)") for it in WIDENING_WORDS.split()]
     rows.append(("v128_low32_zero", "simd::v128_low32_zero((low & 0xffff_ffff) as u32)"))
     return rows
+
+
+def lanewise_thirds():
+    """`v128_bitselect` with one mask for all turns, which is read before them; lanewise has the mask of each turn and a literal."""
+    return [("v128_bitselect_kept", "simd::v128_bitselect(x, y, kept)")]
+
+
+def widening_thirds():
+    """Instructions of three vectors with one third for all turns: a literal, or read before them."""
+    names = ("i8x16_relaxed_laneselect", "i32x4_relaxed_dot_i8x16_i7x16_add_s")
+    thirds = {"_fixed": FIXED, "_kept": "kept"}
+    return [(f"{name}{suffix}", f"simd::{name}(x, y, {third})") for name in names for suffix, third in thirds.items()]
 
 
 ADDRESS = "low & 0x3fe0, high & 15"

@@ -74,10 +74,13 @@ impl Held for Words {
 
 /// The three loops, over any form of a vector; two little-endian words are the sixteen bytes of a `V128`.
 #[inline(always)]
-unsafe fn each<H: Held>(a: *const Words, b: *const Words, out: *mut Words, count: usize, f: impl Fn(V128, V128) -> V128) {
+unsafe fn each<H: Held>(a: *const Words, b: *const Words, out: *mut Words, count: usize, f: impl Fn(V128, V128, V128) -> V128) {
     let (a, b, out) = unsafe { (slice::<H>(a, count), slice::<H>(b, count), slice_mut::<H>(out, count)) };
+    let Some(&kept) = b.first() else {
+        return;
+    };
     for ((a, b), out) in a.iter().zip(b).zip(out) {
-        *out = H::of(f(a.get(), b.get()));
+        *out = H::of(f(a.get(), b.get(), kept.get()));
     }
 }
 
@@ -130,8 +133,8 @@ macro_rules! row {
 }
 
 macro_rules! vector_rows {
-    ($($name:ident |$x:ident, $y:ident, $first:ident, $low:ident, $high:ident| $e:expr;)*) => {
-        vec![$(row!($name, [COUNT; 3], |a, _m, b, out, n| H each::<H>(a, b, out, n, |$x, $y| {
+    ($($name:ident |$x:ident, $y:ident, $kept:ident, $first:ident, $low:ident, $high:ident| $e:expr;)*) => {
+        vec![$(row!($name, [COUNT; 3], |a, _m, b, out, n| H each::<H>(a, b, out, n, |$x, $y, $kept| {
             let (Words { low: $first, high: _ }, Words { low: $low, high: $high }) = (words($x), words($y));
             $e
         }))),*]
@@ -197,8 +200,17 @@ impl Arrays {
 /// Prints a line for each row: nanoseconds a turn of the crate over `V128`, of the crate over words, and here.
 pub fn report(asked: &str) {
     let arrays = RefCell::new(Arrays::new());
-    let tables = [rows::lanewise(), rows::widening(), rows::loads(), rows::stores(), rows::number_loads(), rows::number_stores()];
-    for (kind, rows) in ["lanewise", "widening", "load", "store", "number_load", "number_store"].into_iter().zip(tables) {
+    let tables = [
+        ("lanewise", rows::lanewise()),
+        ("widening", rows::widening()),
+        ("load", rows::loads()),
+        ("store", rows::stores()),
+        ("number_load", rows::number_loads()),
+        ("number_store", rows::number_stores()),
+        ("third", rows::lanewise_thirds()),
+        ("third", rows::widening_thirds()),
+    ];
+    for (kind, rows) in tables {
         for row in rows.iter().filter(|row| row.name.contains(asked)) {
             let answer = |of| arrays.borrow_mut().answer(row, of);
             let same = answer(row.vectors) == answer(row.here) && answer(row.words) == answer(row.here);
