@@ -1,5 +1,8 @@
 //! The table from its reader to the printed lines.
-ghost use Rattle.std.specs.Prelude.{◌≡◌, ◌↔◌, ◌⊎◌, ◌+◌, ◌<◌, ◌^◌};
+ghost use Rattle.std.specs.Prelude.{◌≡◌, ◌↔◌, ◌⊎◌, ◌+◌, ◌<◌, ◌^◌, IfOk, IfSome};
+ghost use Rattle.std.specs.Io.BufRead.{strip_last};
+ghost use Rattle.wasmi_comparison.specs.Status.{IsStatusOf};
+ghost use Rattle.wasmi_comparison.specs.Tallies.{CountsLines};
 
 use crate::line::{Verdict, compare_line};
 use std::alloc::Global;
@@ -82,12 +85,10 @@ impl fmt::Display for Tally {
 }
 
 /// Compares each line of the reader with its instruction, and prints those that don't agree, and the counts.
-pub fn compare<R: io::Read + Drop, W: io::Write>(
-    alloc: Global,
-    reader: R,
-    writer: &mut W,
-) -> Status {
-    match compare_lines(alloc, reader, writer) {
+pub fn compare<R: io::Read + Drop, W: io::Write>(alloc: Global, reader: R, writer: &mut W) -> Status
+    ensures { IfSome (R.remaining reader) (λ table. IsStatusOf table result) }
+{
+    match compare_table(alloc, reader, writer) {
         Ok(tally) => tally.status(),
         Err(error) if error.kind() == ErrorKind::OutOfMemory => Status::OutOfMemory,
         Err(_) => Status::Fault,
@@ -95,30 +96,45 @@ pub fn compare<R: io::Read + Drop, W: io::Write>(
 }
 
 /// How many lines of the reader agree and how many don't, of which each is printed.
-fn compare_lines<R: io::Read + Drop, W: io::Write>(
+fn compare_table<R: io::Read + Drop, W: io::Write>(
     alloc: Global,
     reader: R,
     writer: &mut W,
-) -> io::Result<Tally> {
+) -> io::Result<Tally>
+    ensures { IfOk result (λ tally. IfSome (R.remaining reader) (λ table. CountsLines table tally)) }
+{
     let mut reader = BufReader::new(alloc, reader)?;
+    compare_lines(alloc, &mut reader, writer)
+}
+
+/// The same of a reader with a buffer.
+fn compare_lines<R: BufRead, W: io::Write>(
+    alloc: Global,
+    reader: &mut R,
+    writer: &mut W,
+) -> io::Result<Tally>
+    ensures { IfOk result (λ tally. IfSome (R.remaining reader.old) (λ table. CountsLines table tally)) }
+{
     let mut tally = Tally::default();
     let mut line = Vec::new(alloc);
     for index in 0..u64::MAX {
         line.clear();
         if reader.read_until(b'\n', &mut line)? == 0 {
-            break;
+            writeln!(writer, "{tally}")?;
+            writer.flush()?;
+            return Ok(tally);
         }
         let verdict = compare_line(alloc, without_break(line.as_slice()))?;
         tally.count(verdict);
         print(writer, index + 1, verdict)?;
     }
-    writeln!(writer, "{tally}")?;
-    writer.flush()?;
-    Ok(tally)
+    Err(ErrorKind::Other.into())
 }
 
 /// The bytes of a line before its line break, which the last line may lack.
-fn without_break(line: &[u8]) -> &[u8] {
+fn without_break(line: &[u8]) -> &[u8]
+    ensures { result.now ≡ strip_last 10 line.now }
+{
     match line {
         [text @ .., b'\n'] => text,
         text => text,

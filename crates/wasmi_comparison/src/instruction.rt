@@ -1,4 +1,7 @@
 //! The instructions of the table, by name.
+ghost use Rattle.std.specs.Prelude.{IfSome, IsSomeAnd};
+ghost use Rattle.wasmi_comparison.specs.Instructions.{Executes};
+ghost use Rattle.wasmi_comparison.specs.Names.{instruction_named};
 
 mod call;
 mod scalar;
@@ -7,6 +10,8 @@ use crate::answer::Answer;
 use scalar::Instruction;
 
 /// What the instruction of this name answers for these operands, if there is one and they are what it takes.
-pub fn answer(name: &str, operands: &[&str]) -> Option<Answer> {
+pub fn answer(name: &str, operands: &[&str]) -> Option<Answer>
+    ensures { IfSome result (λ answer. IsSomeAnd (instruction_named name.now) (λ instruction. Executes instruction operands.now answer)) }
+{
     Instruction::named(name)?.execute(operands)
 }

@@ -1,5 +1,7 @@
 //! A line of the table, and what its instruction answers.
-ghost use Rattle.wasmi_comparison.specs.Verdicts.{Compares};
+ghost use Rattle.std.specs.Prelude.{IfOk, IfSome};
+ghost use Rattle.wasmi_comparison.specs.Rows.{IsRow};
+ghost use Rattle.wasmi_comparison.specs.Verdicts.{Compares, IsJudged};
 
 use crate::answer::Answer;
 use crate::instruction;
@@ -18,14 +20,13 @@ pub enum Verdict {
 }
 
 /// How a line, which is without its line break, compares with its instruction.
-pub fn compare_line(alloc: Global, line: &[u8]) -> Result<Verdict, AllocError> {
+pub fn compare_line(alloc: Global, line: &[u8]) -> Result<Verdict, AllocError>
+    ensures { IfOk result (IsJudged line.now) }
+{
     let Ok(text) = str::from_utf8(line) else {
         return Ok(Verdict::Malformed);
     };
-    let mut words = Vec::new(alloc);
-    for word in text.split(' ') {
-        words.push(word)?;
-    }
+    let words: Vec<&str> = text.split(' ').collect(alloc)?;
     match answers(words.as_slice()) {
         Some((expected, answer)) => Ok(compared(expected, answer)),
         None => Ok(Verdict::Malformed),
@@ -33,7 +34,9 @@ pub fn compare_line(alloc: Global, line: &[u8]) -> Result<Verdict, AllocError> {
 }
 
 /// The answer that the words of a line give, and the answer of the instruction.
-fn answers(words: &[&str]) -> Option<(Answer, Answer)> {
+fn answers(words: &[&str]) -> Option<(Answer, Answer)>
+    ensures { IfSome result (λ both. IsRow words.now both.0 both.1) }
+{
     let arrow = words.iter().position(|word| *word == "->")?;
     let [name, operands @ ..] = &words[..arrow] else {
         return None;

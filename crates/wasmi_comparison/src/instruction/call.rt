@@ -1,5 +1,6 @@
 //! Calls of a function of numbers with the numbers that words write.
-ghost use Rattle.std.specs.Prelude.{◌≡◌, length, slice_get, IfSome, OnSome};
+ghost use Rattle.std.specs.Prelude.{IfSome, Ok};
+ghost use Rattle.wasmi_comparison.specs.Instructions.{OfOne, OfTwo, OfFour};
 
 use crate::answer::Answer;
 use crate::number::number;
@@ -13,10 +14,7 @@ where
     R: Into<Answer>,
     F: FnOnce(T) -> R + Drop,
     requires { F.IsAlwaysCallable function }
-    ensures count { OnSome result (length operands.now ≡ 1) }
-    ensures answer { IfSome result (λ answer. (value : T) × (output : R)
-        × IfSome (slice_get operands.now 0) (λ word. T.from_str_gives word.now (Ok value))
-        × F.post function value output × R.converts output answer) }
+    ensures { IfSome result (OfOne (λ word value. T.from_str_gives word (Ok value)) (λ value answer. (output : R) × F.post function value output × R.converts output answer) operands.now) }
 {
     let [value] = operands else {
         return None;
@@ -33,11 +31,7 @@ where
     R: Into<Answer>,
     F: FnOnce(T, T) -> R + Drop,
     requires { F.IsAlwaysCallable function }
-    ensures count { OnSome result (length operands.now ≡ 2) }
-    ensures answer { IfSome result (λ answer. (lhs : T) × (rhs : T) × (output : R)
-        × IfSome (slice_get operands.now 0) (λ word. T.from_str_gives word.now (Ok lhs))
-        × IfSome (slice_get operands.now 1) (λ word. T.from_str_gives word.now (Ok rhs))
-        × F.post function lhs rhs output × R.converts output answer) }
+    ensures { IfSome result (OfTwo (λ word value. T.from_str_gives word (Ok value)) (λ lhs rhs answer. (output : R) × F.post function lhs rhs output × R.converts output answer) operands.now) }
 {
     let [lhs, rhs] = operands else {
         return None;
@@ -55,13 +49,7 @@ where
     R: Into<Answer>,
     F: FnOnce(T, T, T, T) -> R + Drop,
     requires { F.IsAlwaysCallable function }
-    ensures count { OnSome result (length operands.now ≡ 4) }
-    ensures answer { IfSome result (λ answer. (lhs_lo : T) × (lhs_hi : T) × (rhs_lo : T) × (rhs_hi : T) × (output : R)
-        × IfSome (slice_get operands.now 0) (λ word. T.from_str_gives word.now (Ok lhs_lo))
-        × IfSome (slice_get operands.now 1) (λ word. T.from_str_gives word.now (Ok lhs_hi))
-        × IfSome (slice_get operands.now 2) (λ word. T.from_str_gives word.now (Ok rhs_lo))
-        × IfSome (slice_get operands.now 3) (λ word. T.from_str_gives word.now (Ok rhs_hi))
-        × F.post function lhs_lo lhs_hi rhs_lo rhs_hi output × R.converts output answer) }
+    ensures { IfSome result (OfFour (λ word value. T.from_str_gives word (Ok value)) (λ lhs_lo lhs_hi rhs_lo rhs_hi answer. (output : R) × F.post function lhs_lo lhs_hi rhs_lo rhs_hi output × R.converts output answer) operands.now) }
 {
     let [lhs_lo, lhs_hi, rhs_lo, rhs_hi] = operands else {
         return None;

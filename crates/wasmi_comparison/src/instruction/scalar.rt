@@ -1,4 +1,7 @@
 //! The scalar integer instructions, by name.
+ghost use Rattle.std.specs.Prelude.{◌≡◌, IfSome, map};
+ghost use Rattle.wasmi_comparison.specs.Instructions.{Executes};
+ghost use Rattle.wasmi_comparison.specs.Names.{entry_of, instruction_named};
 
 use super::call::{binary, quaternary, unary};
 use crate::answer::Answer;
@@ -155,15 +158,16 @@ const INSTRUCTIONS: [(&str, Instruction); 70] = [
 
 impl Instruction {
     /// The instruction of this name.
-    pub(super) fn named(name: &str) -> Option<Instruction> {
-        INSTRUCTIONS
-            .iter()
-            .find(|(known, _)| *known == name)
-            .map(|(_, instruction)| *instruction)
+    pub(super) fn named(name: &str) -> Option<Instruction>
+        ensures { result ≡ instruction_named name.now }
+    {
+        entry(&INSTRUCTIONS, name)
     }
 
     /// What the instruction answers for these operands, if they are as many numbers of the right types as it takes.
-    pub(super) fn execute(self, operands: &[&str]) -> Option<Answer> {
+    pub(super) fn execute(self, operands: &[&str]) -> Option<Answer>
+        ensures { IfSome result (Executes self operands.now) }
+    {
         match self {
             Instruction::I32Add => binary(operands, wasm::i32_add),
             Instruction::I32Sub => binary(operands, wasm::i32_sub),
@@ -237,4 +241,12 @@ impl Instruction {
             Instruction::I64MulWideU => binary(operands, wasm::i64_mul_wide_u),
         }
     }
+}
+
+/// What a table has beside the first place of a name.
+fn entry(table: &[(&str, Instruction)], name: &str) -> Option<Instruction>
+    ensures { result ≡ entry_of (map (λ row. (row.0.now, row.1)) table.now) name.now }
+{
+    let (_, instruction) = table.iter().find(|(known, _)| *known == name)?;
+    Some(*instruction)
 }
