@@ -132,14 +132,16 @@ impl<R: Region> LinearMemory<R> {
 
     /// The size in pages.
     pub fn size(&self) -> u64
-        ensures { result ≡ pages_of self.now }
+        ensures value { result ≡ pages_of self.now }
+        ensures within { in_bounds self.now.ty result ≡ true }
     {
         self.buffer.len() as u64 / u64::from(self.ty.page_size())
     }
 
-    /// The size in bytes.
+    /// The size in bytes: whole pages, as many as its type allows.
     pub fn data_size(&self) -> usize
-        ensures { result ≡ length self.now.bytes }
+        ensures value { result ≡ length self.now.bytes }
+        ensures sized { IsSized self.now.ty result }
     {
         self.buffer.len()
     }

@@ -48,7 +48,7 @@ impl Model for Table {
 
 impl Table {
     ghost use Rattle.wasmi_store.specs.TableType.{IsSubtype};
-    ghost use Rattle.wasmi_store.specs.Table.{TableValue, size_of, dynamic_type, element_at, element_price, MakesTable, GrowsTableRaw, GrowsTable, WritesTable, setting_of, filling_of, copy_of, initialization_of, typed_by};
+    ghost use Rattle.wasmi_store.specs.Table.{TableValue, IsSized, size_of, dynamic_type, element_at, element_price, MakesTable, GrowsTableRaw, GrowsTable, WritesTable, setting_of, filling_of, copy_of, initialization_of, typed_by};
 
     /// A table with one reference in each place, at the minimum of its type. It takes no fuel.
     ///
@@ -88,9 +88,10 @@ impl Table {
         self.ty.with_minimum(self.size())
     }
 
-    /// The size in elements.
+    /// The size in elements: as many as its type allows.
     pub fn size(&self) -> u64
-        ensures { result ≡ size_of self.now }
+        ensures value { result ≡ size_of self.now }
+        ensures sized { IsSized self.now.ty result }
     {
         self.elements.len() as u64
     }

@@ -56,5 +56,5 @@ returns-clause-grown g c =
     _ (rw c.in_ok-permission.ensures at c.memory_growing-answer.ensures.asked) (rw c.len-old_size.ensures (sym c.if-not-has_room.ensures))
     c.charge.new.fuel c.in_default-charge.ensures _
     (rw c.len-old_size.ensures (ap (λ (b : BufferValue). let x : MemoryValue = record { ty = c.self.inside.ty; bytes = b.bytes; room = b.room } in x) c.in_default-grow.ensures.ok))
-    _ (rw (← c.self.view_is) at c.size-old_pages.ensures)
+    _ (rw (← c.self.view_is) at c.size-old_pages.ensures.value)
     )

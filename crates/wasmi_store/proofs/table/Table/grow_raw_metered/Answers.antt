@@ -7,13 +7,13 @@ use Rattle.wasmi_store.proofs.table.Table.grow_raw_metered.Goals as goal
 
 pub returns-in_default-clause-grown : goal.returns-in_default-clause-grown
 returns-in_default-clause-grown g c =
-    let size = rw (← c.self.view_is) at c.size-size.ensures in
+    let size = rw (← c.self.view_is) at c.size-size.ensures.value in
     rw (← c.self.view_is) (grows_unasked (optional_rules g.L.ResourceLimiter.rules) _ c.args.fuel.now _ c.args.delta c.args.init c.if-delta-eq0.false (rw size at c.in_default.ensures))
 
 pub returns-in_err-permission-clause-grown : goal.returns-in_err-permission-clause-grown
 returns-in_err-permission-clause-grown g c =
     let p = err_from_is_err_and c.from_residual.result c.from_residual.ensures.1 in
-    let size = rw (← c.self.view_is) at c.size-size.ensures in
+    let size = rw (← c.self.view_is) at c.size-size.ensures.value in
     let grown = rw size at c.in-Some.ensures in
     rw (p.1, p.2, ← c.self.view_is) (
     grows_denied (optional_rules g.L.ResourceLimiter.rules) _ c.args.fuel.now _ c.args.delta c.args.init c.if-delta-eq0.false grown.0 c.size-size.result c.in-Some.desired c.maximum_size.result size grown.1 c.maximum_size.ensures
@@ -22,7 +22,7 @@ returns-in_err-permission-clause-grown g c =
 
 pub returns-then-not-allows_size-clause-grown : goal.returns-then-not-allows_size-clause-grown
 returns-then-not-allows_size-clause-grown g c =
-    let size = rw (← c.self.view_is) at c.size-size.ensures in
+    let size = rw (← c.self.view_is) at c.size-size.ensures.value in
     let grown = rw size at c.in-Some.ensures in
     rw (← c.self.view_is) (
     grows_above (optional_rules g.L.ResourceLimiter.rules) _ c.args.fuel.now _ c.args.delta c.args.init c.if-delta-eq0.false grown.0 c.size-size.result c.in-Some.desired c.maximum_size.result size grown.1 c.maximum_size.ensures
@@ -32,7 +32,7 @@ returns-then-not-allows_size-clause-grown g c =
 
 pub returns-in-Err-clause-grown : goal.returns-in-Err-clause-grown
 returns-in-Err-clause-grown g c =
-    let size = rw (← c.self.view_is) at c.size-size.ensures in
+    let size = rw (← c.self.view_is) at c.size-size.ensures.value in
     let grown = rw size at c.in-Some.ensures in
     rw (← c.self.view_is) (
     grows_unpaid (optional_rules g.L.ResourceLimiter.rules) _ c.args.fuel.now _ c.args.delta c.args.init c.if-delta-eq0.false grown.0 c.size-size.result c.in-Some.desired c.maximum_size.result size grown.1 c.maximum_size.ensures
@@ -42,7 +42,7 @@ returns-in-Err-clause-grown g c =
 
 pub returns-then-is_err-clause-grown : goal.returns-then-is_err-clause-grown
 returns-then-is_err-clause-grown g c =
-    let size = rw (← c.self.view_is) at c.size-size.ensures in
+    let size = rw (← c.self.view_is) at c.size-size.ensures.value in
     let grown = rw size at c.in-Some.ensures in
     rw (← c.self.view_is) (
     grows_refused (optional_rules g.L.ResourceLimiter.rules) _ c.args.fuel.now _ c.args.delta c.args.init c.if-delta-eq0.false grown.0 c.size-size.result c.in-Some.desired c.maximum_size.result size grown.1 c.maximum_size.ensures
@@ -54,7 +54,7 @@ returns-then-is_err-clause-grown g c =
 
 pub returns-clause-grown : goal.returns-clause-grown
 returns-clause-grown g c =
-    let size = rw (← c.self.view_is) at c.size-size.ensures in
+    let size = rw (← c.self.view_is) at c.size-size.ensures.value in
     let grown = rw size at c.in-Some.ensures in
     rw (← c.self.view_is) (
     grows_met (optional_rules g.L.ResourceLimiter.rules) _ c.args.fuel.now _ c.args.delta c.args.init c.if-delta-eq0.false grown.0 c.size-size.result c.in-Some.desired c.maximum_size.result size grown.1 c.maximum_size.ensures
