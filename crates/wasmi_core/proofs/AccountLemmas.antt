@@ -3,7 +3,7 @@ use Rattle.std.proofs.Common.{◌≡◌, ℕ, ◌+◌, ◌-◌, ◌≤◌, Bool,
 use Rattle.std.proofs.lemmas.Bool.{and_parts}
 use Rattle.std.proofs.lemmas.Bool.Decides.{nat_tests}
 use Rattle.std.proofs.lemmas.Option.{same_Some}
-use Rattle.std.specs.Prelude.{nat_le, is_none, ◌&&◌, if◌then◌else◌, slice_get}
+use Rattle.std.specs.Prelude.{nat_le, is_none, ◌&&◌, if◌then◌else◌}
 use Rattle.std.specs.Option.{option_map, unwrap_or}
 use Rattle.wasmi_meter.specs.declared.error.TableError.{TableError}
 use Rattle.wasmi_meter.specs.Limiter.{Rules}
@@ -17,7 +17,7 @@ use Rattle.wasmi_store.specs.Table as table
 use Rattle.wasmi_store.specs.Table.{TableValue, TableWrite, size_of, GrowsTable, GrowsTableRaw, WritesTable, EndsBy, due_for}
 use Rattle.wasmi_store.specs.TableType.{same_type}
 use Rattle.wasmi_core.specs.declared.calls.Call.{Call}
-use Rattle.wasmi_core.specs.declared.calls.Call.TheVariants.{SetFuel, GetFuel, NewMemory, NewLentMemory, GrowMemory, DropMemory, Read, Write, Load, Store, NewTable, GrowTable, DropTable, GetElement, SetElement, InitTable, CopyTable, FillTable, NewSegment, DropItems, NewGlobal, SetGlobal, GetGlobal, SetRegister, GetRegister, Make, Unary, Binary, Ternary, Shift, Test, Extract, Replace, Shuffle, VectorLoad, LoadLane, VectorStore, StoreLane}
+use Rattle.wasmi_core.specs.declared.calls.Call.TheVariants.{SetFuel}
 use Rattle.wasmi_core.specs.declared.calls.Reply.{Reply}
 use Rattle.wasmi_core.specs.declared.calls.Reply.TheVariants as replied
 use Rattle.wasmi_core.specs.declared.slots.Slot.{Slot}
@@ -25,7 +25,7 @@ use Rattle.wasmi_core.specs.State.{State, live_at}
 use Rattle.wasmi_core.specs.World.{World, Turn}
 use Rattle.wasmi_core.specs.Rows.{reply_of, ActsAt}
 use Rattle.wasmi_core.specs.TableRows.{metered, WritesTableAt, WritesTableFrom, filling, copy_from, initialization_from}
-use Rattle.wasmi_core.specs.Steps.{StepBy}
+use Rattle.wasmi_core.specs.Steps.{Effect, FuelSet, Told, BytesRead, MemoryMade, LentMemoryMade, MemoryGrown, TableMade, TableGrown, PartInitialized, PartCopied, PartFilled, effect_of, TakesEffect}
 use Rattle.wasmi_core.specs.Runs.{Run}
 use Rattle.wasmi_core.specs.Account.{Account, opened, charged_by, account_after, Balances}
 use Rattle.wasmi_core.proofs.RowLemmas.{on_live, on_test}
@@ -135,52 +135,36 @@ module _ {S : Type 0} (account : Account) (w : World S) (turn : Turn) (w' : Worl
       uncharged : turn.charge ≡ 0 → v.state.meter ≡ w.state.meter → Goes
       uncharged free same = charged (takes_nothing w.state.meter v.state.meter turn.charge free same)
 
+-- the account after an effect
+abbrev charged_by_effect : Account → Effect → ℕ → Account
+charged_by_effect account (FuelSet fuel) charge = opened fuel
+charged_by_effect account effect charge = record { granted = account.granted; charged = account.charged + charge }
+
+same_account : (account : Account) (s : State) (call : Call) (charge : ℕ) → charged_by_effect account (effect_of s call) charge ≡ charged_by account call charge
+same_account account s (SetFuel fuel) charge = refl
+same_account account s call charge = refl
+
 module _ {S : Type 0} (rules : Rules S) (account : Account) (w : World S) (turn : Turn) (w' : World S) where
-  step_balances : (call : Call) → StepBy rules call w turn w' → Balances account w.state.meter → Balances (charged_by account call turn.charge) w'.state.meter
-  step_balances (SetFuel fuel) step balances = (fuel, ap (λ (v : World S). v.state.meter.left) step.3 ∙ (ap (λ (s : State). s.meter.left) step.2.1 ∙ ap (option_map (λ n. fuel)) balances.1), omega arith)
-  step_balances GetFuel step balances = uncharged account w turn w' balances step.2 step.0.0 refl
-  step_balances (NewMemory ty) step balances = uncharged account w turn w' balances step.4 step.0.0 refl
-  step_balances (NewLentMemory ty) step balances = uncharged account w turn w' balances step.4 step.0.0 refl
-  step_balances (GrowMemory k pages) step balances = charged account w turn w' balances step.5 (memory_growth_takes rules k pages w.state.memories w.state.meter w.limiter turn.reply turn.charge step.0 step.1 step.2 step.3)
-  step_balances (DropMemory k) step balances = uncharged account w turn w' balances step.3 step.0.0 refl
-  step_balances (Read k offset len) step balances = uncharged account w turn w' balances step.2 step.0.0 refl
-  step_balances (Write k offset bytes) step balances = uncharged account w turn w' balances step.3 step.0.0 refl
-  step_balances (Load op k ptr offset) step balances = uncharged account w turn w' balances step.2 step.0.0 refl
-  step_balances (Store op k ptr offset value) step balances = uncharged account w turn w' balances step.3 step.0.0 refl
-  step_balances (NewTable ty init) step balances = uncharged account w turn w' balances step.4 step.0.0 refl
-  step_balances (GrowTable k n init) step balances = charged account w turn w' balances step.5 (table_growth_takes rules k n init w.state.tables w.state.meter w.limiter turn.reply turn.charge step.0 step.1 step.2 step.3)
-  step_balances (DropTable k) step balances = uncharged account w turn w' balances step.3 step.0.0 refl
-  step_balances (GetElement k index) step balances = uncharged account w turn w' balances step.2 step.0.0 refl
-  step_balances (SetElement k index value) step balances = uncharged account w turn w' balances step.3 step.0.0 refl
-  step_balances (InitTable k j dst src len) step balances = charged account w turn w' balances step.4 (table_copy_takes (slice_get w.state.segments j) k (initialization_from dst src len) w.state.tables w.state.meter turn.reply turn.charge step.0 step.1 step.2)
-  step_balances (CopyTable k dst j src len) step balances = charged account w turn w' balances step.4 (table_copy_takes (live_at w.state.tables j) k (copy_from dst src len) w.state.tables w.state.meter turn.reply turn.charge step.0 step.1 step.2)
-  step_balances (FillTable k dst value len) step balances = charged account w turn w' balances step.4 (table_write_takes k (filling dst value len) w.state.tables w.state.meter turn.reply turn.charge step.0 step.1 step.2)
-  step_balances (NewSegment ty items) step balances = uncharged account w turn w' balances step.3 step.0.0 refl
-  step_balances (DropItems k) step balances = uncharged account w turn w' balances step.3 step.0.0 refl
-  step_balances (NewGlobal value ty) step balances = uncharged account w turn w' balances step.3 step.0.0 refl
-  step_balances (SetGlobal k value) step balances = uncharged account w turn w' balances step.3 step.0.0 refl
-  step_balances (GetGlobal k) step balances = uncharged account w turn w' balances step.2 step.0.0 refl
-  step_balances (SetRegister dst value) step balances = uncharged account w turn w' balances step.3 step.0.0 refl
-  step_balances (GetRegister a) step balances = uncharged account w turn w' balances step.2 step.0.0 refl
-  step_balances (Make op dst a) step balances = uncharged account w turn w' balances step.3 step.0.0 refl
-  step_balances (Unary op dst a) step balances = uncharged account w turn w' balances step.3 step.0.0 refl
-  step_balances (Binary op dst a b) step balances = uncharged account w turn w' balances step.3 step.0.0 refl
-  step_balances (Ternary op dst a b c) step balances = uncharged account w turn w' balances step.3 step.0.0 refl
-  step_balances (Shift op dst a amount) step balances = uncharged account w turn w' balances step.3 step.0.0 refl
-  step_balances (Test op a) step balances = uncharged account w turn w' balances step.2 step.0.0 refl
-  step_balances (Extract op a) step balances = uncharged account w turn w' balances step.2 step.0.0 refl
-  step_balances (Replace op dst a item) step balances = uncharged account w turn w' balances step.3 step.0.0 refl
-  step_balances (Shuffle dst a b lanes) step balances = uncharged account w turn w' balances step.3 step.0.0 refl
-  step_balances (VectorLoad op dst k ptr offset) step balances = uncharged account w turn w' balances step.3 step.0.0 refl
-  step_balances (LoadLane op dst a k ptr offset) step balances = uncharged account w turn w' balances step.3 step.0.0 refl
-  step_balances (VectorStore a k ptr offset) step balances = uncharged account w turn w' balances step.3 step.0.0 refl
-  step_balances (StoreLane op a k ptr offset) step balances = uncharged account w turn w' balances step.3 step.0.0 refl
+  effect_balances : (effect : Effect) → TakesEffect rules effect w turn w' → Balances account w.state.meter → Balances (charged_by_effect account effect turn.charge) w'.state.meter
+  effect_balances (FuelSet fuel) step balances = (fuel, ap (λ (v : World S). v.state.meter.left) step.3 ∙ (ap (λ (s : State). s.meter.left) step.2.1 ∙ ap (option_map (λ n. fuel)) balances.1), omega arith)
+  effect_balances (Told told) step balances = uncharged account w turn w' balances step.2 step.0.0 refl
+  effect_balances (BytesRead k offset len) step balances = uncharged account w turn w' balances step.2 step.0.0 refl
+  effect_balances (MemoryMade ty) step balances = uncharged account w turn w' balances step.4 step.0.0 refl
+  effect_balances (LentMemoryMade ty) step balances = uncharged account w turn w' balances step.4 step.0.0 refl
+  effect_balances (MemoryGrown k pages) step balances = charged account w turn w' balances step.5 (memory_growth_takes rules k pages w.state.memories w.state.meter w.limiter turn.reply turn.charge step.0 step.1 step.2 step.3)
+  effect_balances (TableMade ty init) step balances = uncharged account w turn w' balances step.4 step.0.0 refl
+  effect_balances (TableGrown k n init) step balances = charged account w turn w' balances step.5 (table_growth_takes rules k n init w.state.tables w.state.meter w.limiter turn.reply turn.charge step.0 step.1 step.2 step.3)
+  effect_balances (PartInitialized k segment dst src len) step balances = charged account w turn w' balances step.4 (table_copy_takes segment k (initialization_from dst src len) w.state.tables w.state.meter turn.reply turn.charge step.0 step.1 step.2)
+  effect_balances (PartCopied k source dst src len) step balances = charged account w turn w' balances step.4 (table_copy_takes source k (copy_from dst src len) w.state.tables w.state.meter turn.reply turn.charge step.0 step.1 step.2)
+  effect_balances (PartFilled k dst value len) step balances = charged account w turn w' balances step.4 (table_write_takes k (filling dst value len) w.state.tables w.state.meter turn.reply turn.charge step.0 step.1 step.2)
+  effect_balances effect step balances = uncharged account w turn w' balances step.3 step.0.0 refl
 
 module _ {S : Type 0} (rules : Rules S) where
   run_balances : (account : Account) (w : World S) → Balances account w.state.meter → (turns : List Turn) (w' : World S) → Run rules w turns w' → Balances (account_after account turns) w'.state.meter
   run_balances account w b [] w' ran = rw ran b
   run_balances account w b (turn ∷ turns) w' (v, step, ran) =
-      run_balances (charged_by account turn.call turn.charge) v (step_balances rules account w turn v turn.call step b) turns w' ran
+      let balances = effect_balances rules account w turn v (effect_of w.state turn.call) step b in
+      run_balances (charged_by account turn.call turn.charge) v (rw (same_account account w.state turn.call turn.charge) at balances) turns w' ran
 
   pub fuel_balances : (w : World S) (left : ℕ) → w.state.meter.left ≡ Some left → (turns : List Turn) (w' : World S) → Run rules w turns w' → Balances (account_after (opened left) turns) w'.state.meter
   fuel_balances w left on turns w' ran = run_balances (opened left) w (left, on, omega arith) turns w' ran

@@ -11,15 +11,13 @@ use Rattle.wasmi_store.specs.Memory as memory
 use Rattle.wasmi_store.specs.Table.{TableValue, size_of, new_table, MakesTable, GrowsTable}
 use Rattle.wasmi_store.specs.Table as table
 use Rattle.wasmi_store.specs.TableType.{same_type}
-use Rattle.wasmi_core.specs.declared.calls.Call.{Call}
-use Rattle.wasmi_core.specs.declared.calls.Call.TheVariants.{SetFuel, GetFuel, NewMemory, NewLentMemory, GrowMemory, DropMemory, Read, Write, Load, Store, NewTable, GrowTable, DropTable, GetElement, SetElement, InitTable, CopyTable, FillTable, NewSegment, DropItems, NewGlobal, SetGlobal, GetGlobal, SetRegister, GetRegister, Make, Unary, Binary, Ternary, Shift, Test, Extract, Replace, Shuffle, VectorLoad, LoadLane, VectorStore, StoreLane}
 use Rattle.wasmi_core.specs.declared.calls.Reply.{Reply}
 use Rattle.wasmi_core.specs.declared.calls.Reply.TheVariants as replied
 use Rattle.wasmi_core.specs.declared.slots.Slot.{Slot}
 use Rattle.wasmi_core.specs.State.{live_at}
 use Rattle.wasmi_core.specs.World.{World, Turn}
 use Rattle.wasmi_core.specs.Rows.{reply_of, OnLive, ActsAt, Creates}
-use Rattle.wasmi_core.specs.Steps.{StepBy}
+use Rattle.wasmi_core.specs.Steps.{Effect, Told, BytesRead, MemoryMade, LentMemoryMade, MemoryGrown, TableMade, TableGrown, PartInitialized, PartCopied, PartFilled, effect_of, TakesEffect}
 use Rattle.wasmi_core.specs.Runs.{Run}
 
 -- whatever the first limiter may answer in a state, the second may answer in the image of the state, and the states after it are images too
@@ -32,12 +30,12 @@ abbrev pub carried : {S T : Type 0} → (S → T) → World S → World T
 carried image w = record { state = w.state; limiter = image w.limiter }
 
 -- a fact of a live value, or of none, from another one of it
-on_live_too : {X : Type 0} (o : Option X) (Missing Missing' : Type 0) (Fact Fact' : X → Type 0) → (Missing → Missing') → ((x : X) → Fact x → Fact' x) → OnLive o Missing Fact → OnLive o Missing' Fact'
+pub on_live_too : {X : Type 0} (o : Option X) (Missing Missing' : Type 0) (Fact Fact' : X → Type 0) → (Missing → Missing') → ((x : X) → Fact x → Fact' x) → OnLive o Missing Fact → OnLive o Missing' Fact'
 on_live_too None Missing Missing' Fact Fact' missing live h = missing h
 on_live_too (Some x) Missing Missing' Fact Fact' missing live h = live x h
 
 -- facts by a test, from others by it
-on_test_too : (test : Bool) (Holds Holds' Fails Fails' : Type 0) → (Holds → Holds') → (Fails → Fails') → MatchBool test Holds Fails → MatchBool test Holds' Fails'
+pub on_test_too : (test : Bool) (Holds Holds' Fails Fails' : Type 0) → (Holds → Holds') → (Fails → Fails') → MatchBool test Holds Fails → MatchBool test Holds' Fails'
 on_test_too true Holds Holds' Fails Fails' holds fails h = holds h
 on_test_too false Holds Holds' Fails Fails' holds fails h = fails h
 
@@ -86,47 +84,20 @@ module _ {S T : Type 0} (image : S → T) where
         (λ mismatch. (mismatch.0, mismatch.1, ap moved mismatch.2)) grows
 
     module _ (w : World S) (turn : Turn) (w' : World S) where
-      step_too : (call : Call) → StepBy rules call w turn w' → StepBy rules' call (carried image w) turn (carried image w')
-      step_too (SetFuel fuel) step = (step.0, step.1, step.2, ap (carried image) step.3)
-      step_too GetFuel step = (step.0, step.1, ap (carried image) step.2)
-      step_too (NewMemory ty) step = (step.0, step.1, image step.2, creates_too replied.Memory (memory.creation_of Owned ty) (new_memory Owned ty) w.state.memories step.1 turn.reply w.limiter step.2 step.3, ap (carried image) step.4)
-      step_too (NewLentMemory ty) step = (step.0, step.1, image step.2, on_live_too w.state.spare _ _ _ _ (λ none. (none.0, none.1, ap image none.2)) (λ region h. (creates_too replied.Memory (memory.creation_of (Lent region) ty) (new_memory (Lent region) ty) w.state.memories step.1.slots turn.reply w.limiter step.2 h.0, h.1)) step.3, ap (carried image) step.4)
-      step_too (GrowMemory k pages) step = (step.0, step.1, image step.2, acts_too k (reply_of replied.Number replied.Memory) (GrowsMemory rules pages) (GrowsMemory rules' pages) (λ s. grows_too (record { amount = pages; size = pages_of s.value; effort = memory.growth_of s.value pages }) s) (record { value = w.state.memories; meter = Some w.state.meter; limiter = w.limiter }) (record { value = step.0; meter = Some step.1; limiter = step.2 }) turn.reply turn.charge step.3, step.4, ap (carried image) step.5)
-      step_too (DropMemory k) step = (step.0, step.1, step.2, ap (carried image) step.3)
-      step_too (Read k offset len) step = (step.0, step.1, ap (carried image) step.2)
-      step_too (Write k offset bytes) step = (step.0, step.1, step.2, ap (carried image) step.3)
-      step_too (Load op k ptr offset) step = (step.0, step.1, ap (carried image) step.2)
-      step_too (Store op k ptr offset value) step = (step.0, step.1, step.2, ap (carried image) step.3)
-      step_too (NewTable ty init) step = (step.0, step.1, image step.2, creates_too replied.Table (table.creation_of ty init.ty) (new_table ty init.raw) w.state.tables step.1 turn.reply w.limiter step.2 step.3, ap (carried image) step.4)
-      step_too (GrowTable k n init) step = (step.0, step.1, image step.2, acts_too k (reply_of replied.Number replied.Table) (GrowsTable rules n init) (GrowsTable rules' n init) (table_growth_too n init) (record { value = w.state.tables; meter = Some w.state.meter; limiter = w.limiter }) (record { value = step.0; meter = Some step.1; limiter = step.2 }) turn.reply turn.charge step.3, step.4, ap (carried image) step.5)
-      step_too (DropTable k) step = (step.0, step.1, step.2, ap (carried image) step.3)
-      step_too (GetElement k index) step = (step.0, step.1, ap (carried image) step.2)
-      step_too (SetElement k index value) step = (step.0, step.1, step.2, ap (carried image) step.3)
-      step_too (InitTable k j dst src len) step = (step.0, step.1, step.2, step.3, ap (carried image) step.4)
-      step_too (CopyTable k dst j src len) step = (step.0, step.1, step.2, step.3, ap (carried image) step.4)
-      step_too (FillTable k dst value len) step = (step.0, step.1, step.2, step.3, ap (carried image) step.4)
-      step_too (NewSegment ty items) step = (step.0, step.1, step.2, ap (carried image) step.3)
-      step_too (DropItems k) step = (step.0, step.1, step.2, ap (carried image) step.3)
-      step_too (NewGlobal value ty) step = (step.0, step.1, step.2, ap (carried image) step.3)
-      step_too (SetGlobal k value) step = (step.0, step.1, step.2, ap (carried image) step.3)
-      step_too (GetGlobal k) step = (step.0, step.1, ap (carried image) step.2)
-      step_too (SetRegister dst value) step = (step.0, step.1, step.2, ap (carried image) step.3)
-      step_too (GetRegister a) step = (step.0, step.1, ap (carried image) step.2)
-      step_too (Make op dst a) step = (step.0, step.1, step.2, ap (carried image) step.3)
-      step_too (Unary op dst a) step = (step.0, step.1, step.2, ap (carried image) step.3)
-      step_too (Binary op dst a b) step = (step.0, step.1, step.2, ap (carried image) step.3)
-      step_too (Ternary op dst a b c) step = (step.0, step.1, step.2, ap (carried image) step.3)
-      step_too (Shift op dst a amount) step = (step.0, step.1, step.2, ap (carried image) step.3)
-      step_too (Test op a) step = (step.0, step.1, ap (carried image) step.2)
-      step_too (Extract op a) step = (step.0, step.1, ap (carried image) step.2)
-      step_too (Replace op dst a item) step = (step.0, step.1, step.2, ap (carried image) step.3)
-      step_too (Shuffle dst a b lanes) step = (step.0, step.1, step.2, ap (carried image) step.3)
-      step_too (VectorLoad op dst k ptr offset) step = (step.0, step.1, step.2, ap (carried image) step.3)
-      step_too (LoadLane op dst a k ptr offset) step = (step.0, step.1, step.2, ap (carried image) step.3)
-      step_too (VectorStore a k ptr offset) step = (step.0, step.1, step.2, ap (carried image) step.3)
-      step_too (StoreLane op a k ptr offset) step = (step.0, step.1, step.2, ap (carried image) step.3)
+      effect_carried : (effect : Effect) → TakesEffect rules effect w turn w' → TakesEffect rules' effect (carried image w) turn (carried image w')
+      effect_carried (Told told) step = (step.0, step.1, ap (carried image) step.2)
+      effect_carried (BytesRead k offset len) step = (step.0, step.1, ap (carried image) step.2)
+      effect_carried (MemoryMade ty) step = (step.0, step.1, image step.2, creates_too replied.Memory (memory.creation_of Owned ty) (new_memory Owned ty) w.state.memories step.1 turn.reply w.limiter step.2 step.3, ap (carried image) step.4)
+      effect_carried (LentMemoryMade ty) step = (step.0, step.1, image step.2, on_live_too w.state.spare _ _ _ _ (λ none. (none.0, none.1, ap image none.2)) (λ region h. (creates_too replied.Memory (memory.creation_of (Lent region) ty) (new_memory (Lent region) ty) w.state.memories step.1.slots turn.reply w.limiter step.2 h.0, h.1)) step.3, ap (carried image) step.4)
+      effect_carried (MemoryGrown k pages) step = (step.0, step.1, image step.2, acts_too k (reply_of replied.Number replied.Memory) (GrowsMemory rules pages) (GrowsMemory rules' pages) (λ s. grows_too (record { amount = pages; size = pages_of s.value; effort = memory.growth_of s.value pages }) s) (record { value = w.state.memories; meter = Some w.state.meter; limiter = w.limiter }) (record { value = step.0; meter = Some step.1; limiter = step.2 }) turn.reply turn.charge step.3, step.4, ap (carried image) step.5)
+      effect_carried (TableMade ty init) step = (step.0, step.1, image step.2, creates_too replied.Table (table.creation_of ty init.ty) (new_table ty init.raw) w.state.tables step.1 turn.reply w.limiter step.2 step.3, ap (carried image) step.4)
+      effect_carried (TableGrown k n init) step = (step.0, step.1, image step.2, acts_too k (reply_of replied.Number replied.Table) (GrowsTable rules n init) (GrowsTable rules' n init) (table_growth_too n init) (record { value = w.state.tables; meter = Some w.state.meter; limiter = w.limiter }) (record { value = step.0; meter = Some step.1; limiter = step.2 }) turn.reply turn.charge step.3, step.4, ap (carried image) step.5)
+      effect_carried (PartInitialized k segment dst src len) step = (step.0, step.1, step.2, step.3, ap (carried image) step.4)
+      effect_carried (PartCopied k source dst src len) step = (step.0, step.1, step.2, step.3, ap (carried image) step.4)
+      effect_carried (PartFilled k dst value len) step = (step.0, step.1, step.2, step.3, ap (carried image) step.4)
+      effect_carried effect step = (step.0, step.1, step.2, ap (carried image) step.3)
 
     -- a run under the first is one under the second, with the same turns and machines
     pub runs_too : (w : World S) (turns : List Turn) (w' : World S) → Run rules w turns w' → Run rules' (carried image w) turns (carried image w')
     runs_too w [] w' ran = ap (carried image) ran
-    runs_too w (turn ∷ turns) w' (v, step, ran) = (carried image v, step_too w turn v turn.call step, runs_too v turns w' ran)
+    runs_too w (turn ∷ turns) w' (v, step, ran) = (carried image v, effect_carried w turn v (effect_of w.state turn.call) step, runs_too v turns w' ran)

@@ -3,20 +3,11 @@ use Rattle.std.proofs.Common.{◌≡◌, ℕ, ◌+◌, ◌-◌, Bool, true, fals
 use Rattle.std.proofs.lemmas.Bool.{cases_lt}
 use Rattle.std.proofs.lemmas.Option.{none-some, same_Some}
 use Rattle.std.specs.Prelude.{MatchBool, slice_get, slice_set}
-use Rattle.std.specs.Option.{option_map, option_and_then}
+use Rattle.std.specs.Option.{option_map}
 use Rattle.wasmi_types.specs.Access.{at}
-use Rattle.wasmi_types.specs.Bytes.{le_bytes}
 use Rattle.wasmi_types.specs.declared.trap.TrapCode.{TrapCode}
 use Rattle.wasmi_types.specs.declared.value.RefType.{RefType}
 use Rattle.wasmi_raw.specs.declared.raw.RawVal.{RawVal}
-use Rattle.wasmi_lanewise.specs.VectorTable.{shuffle}
-use Rattle.wasmi_vector_ops.specs.AccessOps.{stored_lane}
-use Rattle.wasmi_vector_ops.specs.BinaryOps.{binary_vector}
-use Rattle.wasmi_vector_ops.specs.LaneOps.{replaced_vector}
-use Rattle.wasmi_vector_ops.specs.MakeOps.{made_vector}
-use Rattle.wasmi_vector_ops.specs.ShiftOps.{shifted_vector}
-use Rattle.wasmi_vector_ops.specs.TernaryOps.{ternary_vector}
-use Rattle.wasmi_vector_ops.specs.UnaryOps.{unary_vector}
 use Rattle.wasmi_meter.specs.declared.error.MemoryError.{MemoryError}
 use Rattle.wasmi_meter.specs.declared.error.TableError.{TableError}
 use Rattle.wasmi_meter.specs.Limiter.{Question, Answer, Failure, MemoryFailure, TableFailure, Heed, IsDenial, Rules, unlimited_rules, optional_rules}
@@ -44,21 +35,19 @@ use Rattle.wasmi_store.specs.Table.{TableValue, TableWrite, size_of, new_table, 
 use Rattle.wasmi_store.specs.Table as table
 use Rattle.wasmi_store.specs.TableType.{same_type}
 use Rattle.wasmi_core.specs.declared.calls.Call.{Call}
-use Rattle.wasmi_core.specs.declared.calls.Call.TheVariants.{SetFuel, GetFuel, NewMemory, NewLentMemory, GrowMemory, DropMemory, Read, Write, Load, Store, NewTable, GrowTable, DropTable, GetElement, SetElement, InitTable, CopyTable, FillTable, NewSegment, DropItems, NewGlobal, SetGlobal, GetGlobal, SetRegister, GetRegister, Make, Unary, Binary, Ternary, Shift, Test, Extract, Replace, Shuffle, VectorLoad, LoadLane, VectorStore, StoreLane}
 use Rattle.wasmi_core.specs.declared.calls.Reply.{Reply}
 use Rattle.wasmi_core.specs.declared.calls.Reply.TheVariants as replied
 use Rattle.wasmi_core.specs.declared.slots.Slot.{Slot}
 use Rattle.wasmi_core.specs.declared.slots.Slot.TheVariants.{Live}
-use Rattle.wasmi_core.specs.AccessOps.{loaded_raw, stored_bytes}
 use Rattle.wasmi_core.specs.State.{State, live_at, MemoryPart, memory_part, with_memory_part, with_memories, with_tables, with_segments, with_globals, with_registers}
 use Rattle.wasmi_core.specs.World.{World, Turn, IsFree}
 use Rattle.wasmi_core.specs.Rows.{reply_of, OnLive, ActsAt, Appends, Creates, ChangesFound, DropsAt}
 use Rattle.wasmi_core.specs.MemoryRows.{bytes_appended, spare_after, CreatesLent, ReadsBytes, ReadsMemoryAt, WritesMemoryAt, StoresMemory, StoresMemoryAt}
 use Rattle.wasmi_core.specs.TableRows.{Metered, metered, SetsElementAt, WritesTableAt, WritesTableFrom, filling, copy_from, initialization_from, element_bytes}
 use Rattle.wasmi_core.specs.ValueRows.{IsSegmentOf, CreatesSegment, DropsItemsAt, CreatesGlobal, SetsGlobalAt}
-use Rattle.wasmi_core.specs.RegisterRows.{TakesAt, StoresVectorAt, given_vector, of_one, of_two, of_three, vector_loaded, lane_loaded, vector_at}
+use Rattle.wasmi_core.specs.RegisterRows.{TakesAt, StoresVectorAt}
 use Rattle.wasmi_core.specs.Totals.{byte_count}
-use Rattle.wasmi_core.specs.Steps.{StepBy}
+use Rattle.wasmi_core.specs.Steps.{Effect, FuelSet, Told, BytesRead, BytesWritten, BytesStored, RegisterSet, MemoryMade, LentMemoryMade, MemoryGrown, MemoryDropped, TableMade, TableGrown, TableDropped, ElementSet, PartInitialized, PartCopied, PartFilled, SegmentMade, ItemsDropped, GlobalMade, GlobalSet, effect_of, TakesEffect}
 use Rattle.wasmi_core.specs.Runs.{Run}
 use Rattle.wasmi_core.specs.Determinism.{IsDeterministic, IsNoWant, with_memory, HasMemory, HaveMemory}
 use Rattle.wasmi_core.proofs.RowLemmas.{on_test}
@@ -67,9 +56,6 @@ use Rattle.wasmi_core.proofs.RowLemmas.{on_test}
 on_both : {X C : Type 0} (o : Option X) (Missing Missing' : Type 0) (Fact Fact' : X → Type 0) → OnLive o Missing Fact → OnLive o Missing' Fact' → (Missing → Missing' → C) → ((x : X) → Fact x → Fact' x → C) → C
 on_both None Missing Missing' Fact Fact' h h' missing live = missing h h'
 on_both (Some x) Missing Missing' Fact Fact' h h' missing live = live x h h'
-
-answers_same : {X : Type 0} (o : Option X) (f : X → Reply) (reply reply' : Reply) → OnLive o (reply ≡ replied.NoSuch) (λ x. reply ≡ f x) → OnLive o (reply' ≡ replied.NoSuch) (λ x. reply' ≡ f x) → reply ≡ reply'
-answers_same o f reply reply' h h' = on_both o _ _ _ _ h h' (λ a b. a ∙ sym b) (λ x a b. a ∙ sym b)
 
 module _ {S : Type 0} (rules : Rules S) (once : IsDeterministic rules) where
   abbrev told : Rules S
@@ -348,45 +334,28 @@ table_growth_same rules once n init s result result' charge charge' s' s'' a b =
     by_type false h h' = (h.0 ∙ sym h'.0, h.1 ∙ sym h'.1, h.2 ∙ sym h'.2)
 
 module _ {S : Type 0} (rules : Rules S) (once : IsDeterministic rules) (w : World S) (t t' : Turn) (v v' : World S) (room : HasMemory t.reply) (room' : HasMemory t'.reply) where
-  step_same : (call : Call) → StepBy (with_memory rules) call w t v → StepBy (with_memory rules) call w t' v' → Same w t t' v v'
-  step_same (SetFuel fuel) step step' = changed w t t' v v' (λ s. s) step.1 step'.1 step.0 step'.0 (step.2.0 ∙ sym step'.2.0, step.2.1 ∙ sym step'.2.1) step.3 step'.3
-  step_same GetFuel step step' = free w t t' v v' step.0 step'.0 (step.1 ∙ sym step'.1) step.2 step'.2
-  step_same (NewMemory ty) step step' = asked w t t' v v' (with_memories w.state) step.1 step'.1 step.2 step'.2 step.0 step'.0 (creates_same replied.Memory (MakesMemory (with_memory rules) Owned ty) (makes_same rules once (memory.creation_of Owned ty) (memory_wants Owned) (new_memory Owned ty)) w.state.memories w.limiter t.reply t'.reply step.1 step'.1 step.2 step'.2 room room' step.3 step'.3) step.4 step'.4
-  step_same (NewLentMemory ty) step step' = asked w t t' v v' (with_memory_part w.state) step.1 step'.1 step.2 step'.2 step.0 step'.0 (lent_same rules once ty (memory_part w.state) w.limiter t.reply t'.reply step.1 step'.1 step.2 step'.2 room room' step.3 step'.3) step.4 step'.4
-  step_same (GrowMemory k pages) step step' = paid w t t' v v' (with_memories w.state) step.0 step'.0 step.1 step'.1 (bytes_appended (live_at w.state.memories k) pages) step.2 step'.2 (acts_same (GrowsMemory (with_memory rules) pages) (λ s. grows_same rules once (record { amount = pages; size = pages_of s.value; effort = memory.growth_of s.value pages }) (memory_wants s.value.room) s) k (reply_of replied.Number replied.Memory) (record { value = w.state.memories; meter = Some w.state.meter; limiter = w.limiter }) t.reply t'.reply t.charge t'.charge (record { value = step.0; meter = Some step.1; limiter = step.2 }) (record { value = step'.0; meter = Some step'.1; limiter = step'.2 }) step.3 step'.3) step.4 step'.4 step.5 step'.5
-  step_same (DropMemory k) step step' = changed w t t' v v' (with_memories w.state) step.1 step'.1 step.0 step'.0 (drops_same byte_count k w.state.memories t.reply t'.reply step.1 step'.1 step.2 step'.2) step.3 step'.3
-  step_same (Read k offset len) step step' = free w t t' v v' step.0 step'.0 (reads_same k offset len w.state.memories t.reply t'.reply room room' step.1 step'.1) step.2 step'.2
-  step_same (Write k offset bytes) step step' = changed w t t' v v' (with_memories w.state) step.1 step'.1 step.0 step'.0 (writes_same k offset bytes.items w.state.memories t.reply t'.reply step.1 step'.1 step.2 step'.2) step.3 step'.3
-  step_same (Load op k ptr offset) step step' = free w t t' v v' step.0 step'.0 (answers_same (live_at w.state.memories k) (λ x. reply_of replied.Value replied.Trap (loaded_raw op x.bytes (ptr + offset))) t.reply t'.reply step.1 step'.1) step.2 step'.2
-  step_same (Store op k ptr offset value) step step' = changed w t t' v v' (with_memories w.state) step.1 step'.1 step.0 step'.0 (stores_same k (ptr + offset) (stored_bytes op value) w.state.memories t.reply t'.reply step.1 step'.1 step.2 step'.2) step.3 step'.3
-  step_same (NewTable ty init) step step' = asked w t t' v v' (with_tables w.state) step.1 step'.1 step.2 step'.2 step.0 step'.0 (creates_same replied.Table (MakesTable (with_memory rules) ty init) (makes_same rules once (table.creation_of ty init.ty) table_wants (new_table ty init.raw)) w.state.tables w.limiter t.reply t'.reply step.1 step'.1 step.2 step'.2 room room' step.3 step'.3) step.4 step'.4
-  step_same (GrowTable k n init) step step' = paid w t t' v v' (with_tables w.state) step.0 step'.0 step.1 step'.1 (element_bytes n) step.2 step'.2 (acts_same (GrowsTable (with_memory rules) n init) (table_growth_same rules once n init) k (reply_of replied.Number replied.Table) (record { value = w.state.tables; meter = Some w.state.meter; limiter = w.limiter }) t.reply t'.reply t.charge t'.charge (record { value = step.0; meter = Some step.1; limiter = step.2 }) (record { value = step'.0; meter = Some step'.1; limiter = step'.2 }) step.3 step'.3) step.4 step'.4 step.5 step'.5
-  step_same (DropTable k) step step' = changed w t t' v v' (with_tables w.state) step.1 step'.1 step.0 step'.0 (drops_same size_of k w.state.tables t.reply t'.reply step.1 step'.1 step.2 step'.2) step.3 step'.3
-  step_same (GetElement k index) step step' = free w t t' v v' step.0 step'.0 (answers_same (live_at w.state.tables k) (λ x. replied.Reference (table.element_at x index)) t.reply t'.reply step.1 step'.1) step.2 step'.2
-  step_same (SetElement k index value) step step' = changed w t t' v v' (with_tables w.state) step.1 step'.1 step.0 step'.0 (sets_same k index value w.state.tables t.reply t'.reply step.1 step'.1 step.2 step'.2) step.3 step'.3
-  step_same (InitTable k j dst src len) step step' = paid_unasked w t t' v v' (with_tables w.state) step.0 step'.0 step.1 step'.1 (element_bytes len) (table_copies_same (slice_get w.state.segments j) k (initialization_from dst src len) (metered w.state.tables w.state.meter) t.reply t'.reply t.charge t'.charge (metered step.0 step.1) (metered step'.0 step'.1) step.2 step'.2) step.3 step'.3 step.4 step'.4
-  step_same (CopyTable k dst j src len) step step' = paid_unasked w t t' v v' (with_tables w.state) step.0 step'.0 step.1 step'.1 (element_bytes len) (table_copies_same (live_at w.state.tables j) k (copy_from dst src len) (metered w.state.tables w.state.meter) t.reply t'.reply t.charge t'.charge (metered step.0 step.1) (metered step'.0 step'.1) step.2 step'.2) step.3 step'.3 step.4 step'.4
-  step_same (FillTable k dst value len) step step' = paid_unasked w t t' v v' (with_tables w.state) step.0 step'.0 step.1 step'.1 (element_bytes len) (table_writes_same k (filling dst value len) (metered w.state.tables w.state.meter) t.reply t'.reply t.charge t'.charge (metered step.0 step.1) (metered step'.0 step'.1) step.2 step'.2) step.3 step'.3 step.4 step'.4
-  step_same (NewSegment ty items) step step' = changed w t t' v v' (with_segments w.state) step.1 step'.1 step.0 step'.0 (segments_same ty items.items w.state.segments t.reply t'.reply step.1 step'.1 room room' step.2 step'.2) step.3 step'.3
-  step_same (DropItems k) step step' = changed w t t' v v' (with_segments w.state) step.1 step'.1 step.0 step'.0 (items_same k w.state.segments t.reply t'.reply step.1 step'.1 step.2 step'.2) step.3 step'.3
-  step_same (NewGlobal value ty) step step' = changed w t t' v v' (with_globals w.state) step.1 step'.1 step.0 step'.0 (globals_same (record { value = value; ty = ty }) w.state.globals t.reply t'.reply step.1 step'.1 room room' step.2 step'.2) step.3 step'.3
-  step_same (SetGlobal k value) step step' = changed w t t' v v' (with_globals w.state) step.1 step'.1 step.0 step'.0 (global_sets_same k value w.state.globals t.reply t'.reply step.1 step'.1 step.2 step'.2) step.3 step'.3
-  step_same (GetGlobal k) step step' = free w t t' v v' step.0 step'.0 (answers_same (slice_get w.state.globals k) (λ x. replied.Value x.value) t.reply t'.reply step.1 step'.1) step.2 step'.2
-  step_same (SetRegister dst value) step step' = changed w t t' v v' (with_registers w.state) step.1 step'.1 step.0 step'.0 (takes_same (Some (Ok value)) (slice_get w.state.registers dst) dst w.state.registers t.reply t'.reply step.1 step'.1 step.2 step'.2) step.3 step'.3
-  step_same (GetRegister a) step step' = free w t t' v v' step.0 step'.0 (step.1 ∙ sym step'.1) step.2 step'.2
-  step_same (Make op dst a) step step' = changed w t t' v v' (with_registers w.state) step.1 step'.1 step.0 step'.0 (takes_same (option_map (λ raw. given_vector (made_vector op raw)) (slice_get w.state.registers a)) (slice_get w.state.registers dst) dst w.state.registers t.reply t'.reply step.1 step'.1 step.2 step'.2) step.3 step'.3
-  step_same (Unary op dst a) step step' = changed w t t' v v' (with_registers w.state) step.1 step'.1 step.0 step'.0 (takes_same (of_one (unary_vector op) (vector_at w.state.registers a)) (slice_get w.state.registers dst) dst w.state.registers t.reply t'.reply step.1 step'.1 step.2 step'.2) step.3 step'.3
-  step_same (Binary op dst a b) step step' = changed w t t' v v' (with_registers w.state) step.1 step'.1 step.0 step'.0 (takes_same (of_two (binary_vector op) (vector_at w.state.registers a) (vector_at w.state.registers b)) (slice_get w.state.registers dst) dst w.state.registers t.reply t'.reply step.1 step'.1 step.2 step'.2) step.3 step'.3
-  step_same (Ternary op dst a b c) step step' = changed w t t' v v' (with_registers w.state) step.1 step'.1 step.0 step'.0 (takes_same (of_three (ternary_vector op) (vector_at w.state.registers a) (vector_at w.state.registers b) (vector_at w.state.registers c)) (slice_get w.state.registers dst) dst w.state.registers t.reply t'.reply step.1 step'.1 step.2 step'.2) step.3 step'.3
-  step_same (Shift op dst a amount) step step' = changed w t t' v v' (with_registers w.state) step.1 step'.1 step.0 step'.0 (takes_same (of_one (λ x. shifted_vector op x amount) (vector_at w.state.registers a)) (slice_get w.state.registers dst) dst w.state.registers t.reply t'.reply step.1 step'.1 step.2 step'.2) step.3 step'.3
-  step_same (Test op a) step step' = free w t t' v v' step.0 step'.0 (step.1 ∙ sym step'.1) step.2 step'.2
-  step_same (Extract op a) step step' = free w t t' v v' step.0 step'.0 (step.1 ∙ sym step'.1) step.2 step'.2
-  step_same (Replace op dst a item) step step' = changed w t t' v v' (with_registers w.state) step.1 step'.1 step.0 step'.0 (takes_same (option_and_then (λ raw. of_one (λ x. replaced_vector op x raw) (vector_at w.state.registers a)) (slice_get w.state.registers item)) (slice_get w.state.registers dst) dst w.state.registers t.reply t'.reply step.1 step'.1 step.2 step'.2) step.3 step'.3
-  step_same (Shuffle dst a b lanes) step step' = changed w t t' v v' (with_registers w.state) step.1 step'.1 step.0 step'.0 (takes_same (of_two (λ x y. shuffle x y lanes) (vector_at w.state.registers a) (vector_at w.state.registers b)) (slice_get w.state.registers dst) dst w.state.registers t.reply t'.reply step.1 step'.1 step.2 step'.2) step.3 step'.3
-  step_same (VectorLoad op dst k ptr offset) step step' = changed w t t' v v' (with_registers w.state) step.1 step'.1 step.0 step'.0 (takes_same (vector_loaded op (ptr + offset) (live_at w.state.memories k)) (slice_get w.state.registers dst) dst w.state.registers t.reply t'.reply step.1 step'.1 step.2 step'.2) step.3 step'.3
-  step_same (LoadLane op dst a k ptr offset) step step' = changed w t t' v v' (with_registers w.state) step.1 step'.1 step.0 step'.0 (takes_same (lane_loaded op (ptr + offset) (vector_at w.state.registers a) (live_at w.state.memories k)) (slice_get w.state.registers dst) dst w.state.registers t.reply t'.reply step.1 step'.1 step.2 step'.2) step.3 step'.3
-  step_same (VectorStore a k ptr offset) step step' = changed w t t' v v' (with_memories w.state) step.1 step'.1 step.0 step'.0 (vector_stores_same k (ptr + offset) (option_map (le_bytes 16) (vector_at w.state.registers a)) w.state.memories t.reply t'.reply step.1 step'.1 step.2 step'.2) step.3 step'.3
-  step_same (StoreLane op a k ptr offset) step step' = changed w t t' v v' (with_memories w.state) step.1 step'.1 step.0 step'.0 (vector_stores_same k (ptr + offset) (option_map (stored_lane op) (vector_at w.state.registers a)) w.state.memories t.reply t'.reply step.1 step'.1 step.2 step'.2) step.3 step'.3
+  effect_same : (effect : Effect) → TakesEffect (with_memory rules) effect w t v → TakesEffect (with_memory rules) effect w t' v' → Same w t t' v v'
+  effect_same (FuelSet fuel) step step' = changed w t t' v v' (λ s. s) step.1 step'.1 step.0 step'.0 (step.2.0 ∙ sym step'.2.0, step.2.1 ∙ sym step'.2.1) step.3 step'.3
+  effect_same (Told reply) step step' = free w t t' v v' step.0 step'.0 (step.1 ∙ sym step'.1) step.2 step'.2
+  effect_same (BytesRead k offset len) step step' = free w t t' v v' step.0 step'.0 (reads_same k offset len w.state.memories t.reply t'.reply room room' step.1 step'.1) step.2 step'.2
+  effect_same (BytesWritten k offset bytes) step step' = changed w t t' v v' (with_memories w.state) step.1 step'.1 step.0 step'.0 (writes_same k offset bytes w.state.memories t.reply t'.reply step.1 step'.1 step.2 step'.2) step.3 step'.3
+  effect_same (BytesStored k a stored) step step' = changed w t t' v v' (with_memories w.state) step.1 step'.1 step.0 step'.0 (vector_stores_same k a stored w.state.memories t.reply t'.reply step.1 step'.1 step.2 step'.2) step.3 step'.3
+  effect_same (RegisterSet dst given) step step' = changed w t t' v v' (with_registers w.state) step.1 step'.1 step.0 step'.0 (takes_same given (slice_get w.state.registers dst) dst w.state.registers t.reply t'.reply step.1 step'.1 step.2 step'.2) step.3 step'.3
+  effect_same (MemoryMade ty) step step' = asked w t t' v v' (with_memories w.state) step.1 step'.1 step.2 step'.2 step.0 step'.0 (creates_same replied.Memory (MakesMemory (with_memory rules) Owned ty) (makes_same rules once (memory.creation_of Owned ty) (memory_wants Owned) (new_memory Owned ty)) w.state.memories w.limiter t.reply t'.reply step.1 step'.1 step.2 step'.2 room room' step.3 step'.3) step.4 step'.4
+  effect_same (LentMemoryMade ty) step step' = asked w t t' v v' (with_memory_part w.state) step.1 step'.1 step.2 step'.2 step.0 step'.0 (lent_same rules once ty (memory_part w.state) w.limiter t.reply t'.reply step.1 step'.1 step.2 step'.2 room room' step.3 step'.3) step.4 step'.4
+  effect_same (MemoryGrown k pages) step step' = paid w t t' v v' (with_memories w.state) step.0 step'.0 step.1 step'.1 (bytes_appended (live_at w.state.memories k) pages) step.2 step'.2 (acts_same (GrowsMemory (with_memory rules) pages) (λ s. grows_same rules once (record { amount = pages; size = pages_of s.value; effort = memory.growth_of s.value pages }) (memory_wants s.value.room) s) k (reply_of replied.Number replied.Memory) (record { value = w.state.memories; meter = Some w.state.meter; limiter = w.limiter }) t.reply t'.reply t.charge t'.charge (record { value = step.0; meter = Some step.1; limiter = step.2 }) (record { value = step'.0; meter = Some step'.1; limiter = step'.2 }) step.3 step'.3) step.4 step'.4 step.5 step'.5
+  effect_same (MemoryDropped k) step step' = changed w t t' v v' (with_memories w.state) step.1 step'.1 step.0 step'.0 (drops_same byte_count k w.state.memories t.reply t'.reply step.1 step'.1 step.2 step'.2) step.3 step'.3
+  effect_same (TableMade ty init) step step' = asked w t t' v v' (with_tables w.state) step.1 step'.1 step.2 step'.2 step.0 step'.0 (creates_same replied.Table (MakesTable (with_memory rules) ty init) (makes_same rules once (table.creation_of ty init.ty) table_wants (new_table ty init.raw)) w.state.tables w.limiter t.reply t'.reply step.1 step'.1 step.2 step'.2 room room' step.3 step'.3) step.4 step'.4
+  effect_same (TableGrown k n init) step step' = paid w t t' v v' (with_tables w.state) step.0 step'.0 step.1 step'.1 (element_bytes n) step.2 step'.2 (acts_same (GrowsTable (with_memory rules) n init) (table_growth_same rules once n init) k (reply_of replied.Number replied.Table) (record { value = w.state.tables; meter = Some w.state.meter; limiter = w.limiter }) t.reply t'.reply t.charge t'.charge (record { value = step.0; meter = Some step.1; limiter = step.2 }) (record { value = step'.0; meter = Some step'.1; limiter = step'.2 }) step.3 step'.3) step.4 step'.4 step.5 step'.5
+  effect_same (TableDropped k) step step' = changed w t t' v v' (with_tables w.state) step.1 step'.1 step.0 step'.0 (drops_same size_of k w.state.tables t.reply t'.reply step.1 step'.1 step.2 step'.2) step.3 step'.3
+  effect_same (ElementSet k index value) step step' = changed w t t' v v' (with_tables w.state) step.1 step'.1 step.0 step'.0 (sets_same k index value w.state.tables t.reply t'.reply step.1 step'.1 step.2 step'.2) step.3 step'.3
+  effect_same (PartInitialized k segment dst src len) step step' = paid_unasked w t t' v v' (with_tables w.state) step.0 step'.0 step.1 step'.1 (element_bytes len) (table_copies_same segment k (initialization_from dst src len) (metered w.state.tables w.state.meter) t.reply t'.reply t.charge t'.charge (metered step.0 step.1) (metered step'.0 step'.1) step.2 step'.2) step.3 step'.3 step.4 step'.4
+  effect_same (PartCopied k source dst src len) step step' = paid_unasked w t t' v v' (with_tables w.state) step.0 step'.0 step.1 step'.1 (element_bytes len) (table_copies_same source k (copy_from dst src len) (metered w.state.tables w.state.meter) t.reply t'.reply t.charge t'.charge (metered step.0 step.1) (metered step'.0 step'.1) step.2 step'.2) step.3 step'.3 step.4 step'.4
+  effect_same (PartFilled k dst value len) step step' = paid_unasked w t t' v v' (with_tables w.state) step.0 step'.0 step.1 step'.1 (element_bytes len) (table_writes_same k (filling dst value len) (metered w.state.tables w.state.meter) t.reply t'.reply t.charge t'.charge (metered step.0 step.1) (metered step'.0 step'.1) step.2 step'.2) step.3 step'.3 step.4 step'.4
+  effect_same (SegmentMade ty items) step step' = changed w t t' v v' (with_segments w.state) step.1 step'.1 step.0 step'.0 (segments_same ty items w.state.segments t.reply t'.reply step.1 step'.1 room room' step.2 step'.2) step.3 step'.3
+  effect_same (ItemsDropped k) step step' = changed w t t' v v' (with_segments w.state) step.1 step'.1 step.0 step'.0 (items_same k w.state.segments t.reply t'.reply step.1 step'.1 step.2 step'.2) step.3 step'.3
+  effect_same (GlobalMade global) step step' = changed w t t' v v' (with_globals w.state) step.1 step'.1 step.0 step'.0 (globals_same global w.state.globals t.reply t'.reply step.1 step'.1 room room' step.2 step'.2) step.3 step'.3
+  effect_same (GlobalSet k value) step step' = changed w t t' v v' (with_globals w.state) step.1 step'.1 step.0 step'.0 (global_sets_same k value w.state.globals t.reply t'.reply step.1 step'.1 step.2 step'.2) step.3 step'.3
 
 module _ {S : Type 0} (rules : Rules S) (once : IsDeterministic rules) where
   pub runs_are_one : (w : World S) (turns turns' : List Turn) (v v' : World S) → map Turn.call turns ≡ map Turn.call turns' → HaveMemory turns → HaveMemory turns' → Run (with_memory rules) w turns v → Run (with_memory rules) w turns' v' → (turns ≡ turns') × (v ≡ v')
@@ -395,7 +364,7 @@ module _ {S : Type 0} (rules : Rules S) (once : IsDeterministic rules) where
   runs_are_one w (t ∷ turns) [] v v' calls rooms rooms' ran ran' = absurd cc
   runs_are_one w (t ∷ turns) (t' ∷ turns') v v' calls (room, rooms) (room', rooms') (u, step, ran) (u', step', ran') =
       let call = first_same t.call t'.call (map Turn.call turns) (map Turn.call turns') calls in
-      let one = step_same rules once w t t' u u' room room' t.call step (subst (λ c. StepBy (with_memory rules) c w t' u') (sym call.0) step') in
+      let one = effect_same rules once w t t' u u' room room' (effect_of w.state t.call) step (subst (λ c. TakesEffect (with_memory rules) (effect_of w.state c) w t' u') (sym call.0) step') in
       let rest = runs_are_one u turns turns' v v' call.1 rooms rooms' ran (subst (λ x. Run (with_memory rules) x turns' v') (sym one.3) ran') in
       let turn : t ≡ t' = λ i. record { call = call.0 i; reply = one.0 i; charge = one.1 i; written = one.2 i } in
       (λ i. turn i ∷ rest.0 i, rest.1)

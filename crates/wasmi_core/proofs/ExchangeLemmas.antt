@@ -1,13 +1,10 @@
 -- What passes between a machine and its limiter in each turn, and what has grown by it.
-use Rattle.std.proofs.Common.{◌≡◌, ◌≢◌, ℕ, ◌+◌, ◌-◌, ◌*◌, ◌≤◌, Bool, true, false, Option, Some, None, Result, Ok, Err, List, [], ◌∷◌, ◌++◌, length, take, drop, replicate, map, refl, sym, ap, ◌∙◌, arith, inl, inr}
+use Rattle.std.proofs.Common.{◌≡◌, ◌≢◌, ℕ, ◌+◌, ◌-◌, ◌*◌, ◌≤◌, Bool, true, false, Option, Some, None, Result, Ok, Err, List, [], ◌∷◌, ◌++◌, length, take, drop, replicate, map, refl, subst, sym, ap, ◌∙◌, arith, inl, inr}
 use Rattle.std.proofs.lemmas.Bool.Decides.{nat_tests}
 use Rattle.std.proofs.lemmas.List.{length-append, length-replicate, length-take-le, length-drop, map_push}
 use Rattle.std.proofs.lemmas.Option.{none-some, same_Some}
-use Rattle.std.specs.Prelude.{nat_le, if◌then◌else◌, slice_get, slice_set}
-use Rattle.std.specs.Option.{option_map, option_and_then}
-use Rattle.wasmi_types.specs.Bytes.{le_bytes}
-use Rattle.wasmi_vector_ops.specs.AccessOps.{stored_lane}
-use Rattle.wasmi_core.specs.AccessOps.{stored_bytes}
+use Rattle.std.specs.Prelude.{◌⊎◌, nat_le, is_none, ◌&&◌, if◌then◌else◌, slice_get, slice_set}
+use Rattle.std.specs.Option.{option_and_then}
 use Rattle.wasmi_types.specs.Access.{at, overwrite}
 use Rattle.wasmi_types.specs.declared.trap.TrapCode.{TrapCode}
 use Rattle.wasmi_meter.specs.declared.error.MemoryError.{MemoryError}
@@ -15,8 +12,9 @@ use Rattle.wasmi_meter.specs.declared.error.TableError.{TableError}
 use Rattle.wasmi_meter.specs.declared.limiter.Kind.{Kind}
 use Rattle.wasmi_meter.specs.declared.limiter.Kind.TheVariants.{Bytes, Elements}
 use Rattle.wasmi_meter.specs.Limiter.{Rules, kind_of}
-use Rattle.wasmi_meter.specs.Meter.{Meter}
-use Rattle.wasmi_meter.specs.Attempt.{Situation, Effort, Fate, Unasked, Denied, Met, Failed, MayEnd, Follows, value_after, answer_of}
+use Rattle.wasmi_meter.specs.Costs.{copy_cost}
+use Rattle.wasmi_meter.specs.Meter.{Meter, due}
+use Rattle.wasmi_meter.specs.Attempt.{Situation, Effort, Fate, Unasked, Denied, Met, Failed, MayEnd, Follows, value_after, answer_of, amount_due, can_pay, charge_of}
 use Rattle.wasmi_typed.specs.declared.typed_ref.TypedRawRef.{TypedRawRef}
 use Rattle.wasmi_store.specs.Growth.{Growth, Grows, Makes}
 use Rattle.wasmi_store.specs.Buffer.{Room, Owned, Lent}
@@ -27,7 +25,7 @@ use Rattle.wasmi_store.specs.TableType.{TableTypeValue, same_type}
 use Rattle.wasmi_store.specs.Table.{TableValue, TableWrite, size_of, new_table, setting_of, typed_by, MakesTable, GrowsTable, WritesTable, EndsBy}
 use Rattle.wasmi_store.specs.Table as table
 use Rattle.wasmi_core.specs.declared.calls.Call.{Call}
-use Rattle.wasmi_core.specs.declared.calls.Call.TheVariants.{SetFuel, GetFuel, NewMemory, NewLentMemory, GrowMemory, DropMemory, Read, Write, Load, Store, NewTable, GrowTable, DropTable, GetElement, SetElement, InitTable, CopyTable, FillTable, NewSegment, DropItems, NewGlobal, SetGlobal, GetGlobal, SetRegister, GetRegister, Make, Unary, Binary, Ternary, Shift, Test, Extract, Replace, Shuffle, VectorLoad, LoadLane, VectorStore, StoreLane}
+use Rattle.wasmi_core.specs.declared.calls.Call.TheVariants.{NewMemory}
 use Rattle.wasmi_core.specs.declared.calls.Reply.{Reply}
 use Rattle.wasmi_core.specs.declared.calls.Reply.TheVariants as replied
 use Rattle.wasmi_core.specs.declared.slots.Slot.{Slot}
@@ -37,9 +35,9 @@ use Rattle.wasmi_core.specs.World.{World, Turn}
 use Rattle.wasmi_core.specs.Rows.{reply_of, ActsAt, Creates, Appends, ChangesAt, DropsAt}
 use Rattle.wasmi_core.specs.MemoryRows.{CreatesLent, WritesMemoryAt, StoresMemory, StoresMemoryAt}
 use Rattle.wasmi_core.specs.TableRows.{Metered, metered, SetsElementAt, WritesTableAt, WritesTableFrom, filling, copy_from, initialization_from}
-use Rattle.wasmi_core.specs.RegisterRows.{StoresVectorAt, vector_at}
-use Rattle.wasmi_core.specs.Steps.{Step, StepBy}
-use Rattle.wasmi_core.specs.Exchange.{Nothing, Denial, Permission, Notice, NothingGrows, GrowsAsAsked, Exchanges}
+use Rattle.wasmi_core.specs.RegisterRows.{StoresVectorAt}
+use Rattle.wasmi_core.specs.Steps.{Step, Effect, FuelSet, Told, BytesRead, BytesWritten, BytesStored, MemoryMade, LentMemoryMade, MemoryGrown, MemoryDropped, TableMade, TableGrown, TableDropped, ElementSet, PartInitialized, PartCopied, PartFilled, effect_of, TakesEffect}
+use Rattle.wasmi_core.specs.Exchange.{Exchange, Nothing, Denial, Permission, Notice, Place, Nowhere, New, At, place_of, Passes, NothingGrows, GrowsAsAsked, GrowsBy, due_for, ChargesBy, ChargesAt, Exchanges}
 use Rattle.wasmi_core.specs.Totals.{slot_count, byte_count, sizes}
 use Rattle.wasmi_core.proofs.RowLemmas.{on_live, on_test}
 use Rattle.wasmi_core.proofs.TotalLemmas.{count_at, counts_set, counts_kept}
@@ -51,66 +49,90 @@ of_each P Bytes own others Elements = others Elements (λ e. cc)
 of_each P Elements own others Bytes = others Bytes (λ e. cc)
 of_each P Elements own others Elements = own
 
-module _ {S : Type 0} (rules : Rules S) (l l' : S) (before after : Kind → List ℕ) where
-  pub nothing_passes : l' ≡ l → NothingGrows before after → Exchanges rules l before l' after
-  nothing_passes same still = (Nothing, same, still)
+-- a charge that a test decides
+charge_if : (tested : Bool) (charge amount price : ℕ) → amount ≡ price → charge ≡ (if tested then amount else 0) → (charge ≡ 0) ⊎ (charge ≡ price)
+charge_if true charge amount price is charged = inr (charged ∙ is)
+charge_if false charge amount price is charged = inl charged
+
+module _ {S : Type 0} (rules : Rules S) (l l' : S) (before after : Kind → List ℕ) (place : Place) (m : Meter) (charge : ℕ) where
+  -- an exchange between two limiters, with what has grown and the charge
+  abbrev pub Passed : Type 0
+  Passed = (exchange : Exchange) × Passes rules l exchange l' × GrowsBy place exchange before after × ChargesAt place exchange m charge
+
+  pub nothing_passes : l' ≡ l → NothingGrows before after → ChargesAt place Nothing m charge → Passed
+  nothing_passes same still free = (Nothing, same, still, free)
 
   -- An attempt passes by its fate. What is watched is one kind, with the sizes of the other kept.
   module _ {V E : Type 0} (e : Effort V E) (tells : (cause : E) → kind_of (e.notice cause) ≡ e.question.kind) (others : (kind : Kind) → kind ≢ e.question.kind → after kind ≡ before kind) where
-    -- the sizes of the kind after an attempt with this fate
+    -- the exchange of an attempt with this fate
+    abbrev pub exchange_of : Fate E → Exchange
+    exchange_of (Unasked cause) = Nothing
+    exchange_of (Denied answer) = Denial e.question answer
+    exchange_of Met = Permission e.question
+    exchange_of (Failed cause heed) = Notice e.question (e.notice cause) heed
+
+    -- the sizes of the kind after it
     abbrev pub GrowsByFate : Fate E → Type 0
     GrowsByFate (Unasked cause) = after e.question.kind ≡ before e.question.kind
     GrowsByFate (Denied answer) = after e.question.kind ≡ before e.question.kind
-    GrowsByFate Met = GrowsAsAsked e.question (before e.question.kind) (after e.question.kind)
+    GrowsByFate Met = GrowsAsAsked place e.question (before e.question.kind) (after e.question.kind)
     GrowsByFate (Failed cause heed) = after e.question.kind ≡ before e.question.kind
 
     still : after e.question.kind ≡ before e.question.kind → NothingGrows before after
     still own = of_each (λ kind. after kind ≡ before kind) e.question.kind own others
 
-    pub attempt_passes : (m : Option Meter) (fate : Fate E) → MayEnd e m fate → Follows e rules l fate l' → GrowsByFate fate → Exchanges rules l before l' after
-    attempt_passes m (Unasked cause) may follows own = (Nothing, follows, still own)
-    attempt_passes m (Denied answer) may follows own = (Denial e.question answer, (may.1, follows), still own)
-    attempt_passes m Met may follows own = (Permission e.question, follows, (own, others))
-    attempt_passes m (Failed cause heed) may follows own = (Notice e.question (e.notice cause) heed, (tells cause, follows.0, follows.1, follows.2), still own)
+    pub attempt_passes : (meter : Option Meter) (fate : Fate E) → MayEnd e meter fate → Follows e rules l fate l' → GrowsByFate fate → ChargesAt place (exchange_of fate) m charge → Passed
+    attempt_passes meter (Unasked cause) may follows own charged = (Nothing, follows, still own, charged)
+    attempt_passes meter (Denied answer) may follows own charged = (Denial e.question answer, (may.1, follows), still own, charged)
+    attempt_passes meter Met may follows own charged = (Permission e.question, follows, (own, others), charged)
+    attempt_passes meter (Failed cause heed) may follows own charged = (Notice e.question (e.notice cause) heed, (tells cause, follows.0, follows.1, follows.2), still own, charged)
+
+    -- the charge of a growth, whose price is what the meter is due for the question
+    pub charged_by_fate : amount_due (Some m) e.price ≡ due_for m e.question → (fate : Fate E) → charge ≡ charge_of e (Some m) fate → ChargesBy (exchange_of fate) m charge
+    charged_by_fate price (Unasked cause) charged = charged
+    charged_by_fate price (Denied answer) charged = charged
+    charged_by_fate price Met charged = charged ∙ price
+    charged_by_fate price (Failed cause heed) charged = charge_if (is_none e.late && can_pay (Some m) (amount_due (Some m) e.price)) charge (amount_due (Some m) e.price) (due_for m e.question) price charged
 
 -- One kind of slots, whose sizes are watched.
-module _ {S X : Type 0} (rules : Rules S) (l l' : S) (before after : Kind → List ℕ) (count : X → ℕ) (kind : Kind) (slots slots' : List (Slot X)) (own : before kind ≡ map (slot_count count) slots) (own' : after kind ≡ map (slot_count count) slots') (others : (other : Kind) → other ≢ kind → after other ≡ before other) where
+module _ {S X : Type 0} (rules : Rules S) (l l' : S) (before after : Kind → List ℕ) (m : Meter) (charge : ℕ) (count : X → ℕ) (kind : Kind) (slots slots' : List (Slot X)) (own : before kind ≡ map (slot_count count) slots) (own' : after kind ≡ map (slot_count count) slots') (others : (other : Kind) → other ≢ kind → after other ≡ before other) where
   -- the slots have the sizes that they had
-  pub kept_passes : l' ≡ l → map (slot_count count) slots' ≡ map (slot_count count) slots → Exchanges rules l before l' after
-  kept_passes same kept = nothing_passes rules l l' before after same (of_each (λ k. after k ≡ before k) kind (own' ∙ kept ∙ sym own) others)
+  pub kept_passes : (place : Place) → l' ≡ l → map (slot_count count) slots' ≡ map (slot_count count) slots → ChargesAt place Nothing m charge → Passed rules l l' before after place m charge
+  kept_passes place same kept free = nothing_passes rules l l' before after place m charge same (of_each (λ k. after k ≡ before k) kind (own' ∙ kept ∙ sym own) others) free
 
   same_count : (k : ℕ) (x x' : X) → live_at slots k ≡ Some x → slots' ≡ slice_set slots k (Live x') → count x' ≡ count x → map (slot_count count) slots' ≡ map (slot_count count) slots
   same_count k x x' found put same = ap (map (slot_count count)) put ∙ counts_kept count slots k x (Live x') found same
 
   module _ {E : Type 0} where
     -- something is made
-    module _ (e : Effort (Unit {0}) E) (is : e.question.kind ≡ kind) (tells : (cause : E) → kind_of (e.notice cause) ≡ kind) (refusal : E → Reply) (made : X) (fresh : e.question.current ≡ 0) (full : count made ≡ e.question.desired) where
-      made_sizes : (fate : Fate E) (reply : Reply) → Appends Live refusal (answer_of e made fate) slots reply slots' → GrowsByFate rules l l' before after e (λ cause. tells cause ∙ sym is) (λ k other. others k (λ same. other (same ∙ sym is))) fate
+    module _ (free : charge ≡ 0) (e : Effort (Unit {0}) E) (is : e.question.kind ≡ kind) (tells : (cause : E) → kind_of (e.notice cause) ≡ kind) (refusal : E → Reply) (made : X) (fresh : e.question.current ≡ 0) (full : count made ≡ e.question.desired) where
+      made_sizes : (fate : Fate E) (reply : Reply) → Appends Live refusal (answer_of e made fate) slots reply slots' → GrowsByFate rules l l' before after New m charge e (λ cause. tells cause ∙ sym is) (λ k other. others k (λ same. other (same ∙ sym is))) fate
       made_sizes (Unasked cause) reply appends = rw is (own' ∙ ap (map (slot_count count)) appends.1 ∙ sym own)
       made_sizes (Denied answer) reply appends = rw is (own' ∙ ap (map (slot_count count)) appends.1 ∙ sym own)
-      made_sizes Met reply appends = rw is (omega (arith, fresh), inl (fresh, own' ∙ ap (map (slot_count count)) appends.1 ∙ map_push (slot_count count) slots (Live made) ∙ ap (λ n. map (slot_count count) slots ++ n ∷ []) full ∙ ap (λ (ns : List ℕ). ns ++ e.question.desired ∷ []) (sym own)))
+      made_sizes Met reply appends = rw is (fresh, own' ∙ ap (map (slot_count count)) appends.1 ∙ map_push (slot_count count) slots (Live made) ∙ ap (λ n. map (slot_count count) slots ++ n ∷ []) full ∙ ap (λ (ns : List ℕ). ns ++ e.question.desired ∷ []) (sym own))
       made_sizes (Failed cause heed) reply appends = rw is (own' ∙ ap (map (slot_count count)) appends.1 ∙ sym own)
 
-      pub makes_passes : (result : Result X E) (reply : Reply) → Makes rules e made l result l' → Appends Live refusal result slots reply slots' → Exchanges rules l before l' after
+      pub makes_passes : (result : Result X E) (reply : Reply) → Makes rules e made l result l' → Appends Live refusal result slots reply slots' → Passed rules l l' before after New m charge
       makes_passes result reply (fate, attempt, answered) appends =
-          attempt_passes rules l l' before after e (λ cause. tells cause ∙ sym is) (λ k other. others k (λ same. other (same ∙ sym is))) None fate attempt.may_end attempt.follows (made_sizes fate reply (rw answered at appends))
+          attempt_passes rules l l' before after New m charge e (λ cause. tells cause ∙ sym is) (λ k other. others k (λ same. other (same ∙ sym is))) None fate attempt.may_end attempt.follows (made_sizes fate reply (rw answered at appends)) free
 
     -- something grows
     module _ (k : ℕ) (x x' : X) (found : live_at slots k ≡ Some x) (put : slots' ≡ slice_set slots k (Live x')) where
-      module _ (g : Growth X E) (is : g.effort.question.kind ≡ kind) (tells : (cause : E) → kind_of (g.effort.notice cause) ≡ kind) (now : g.effort.question.current ≡ count x) (full : count g.effort.grown ≡ g.effort.question.desired) (up : g.effort.question.current ≤ g.effort.question.desired) where
+      module _ (g : Growth X E) (is : g.effort.question.kind ≡ kind) (tells : (cause : E) → kind_of (g.effort.notice cause) ≡ kind) (now : g.effort.question.current ≡ count x) (full : count g.effort.grown ≡ g.effort.question.desired) (up : g.effort.question.current ≤ g.effort.question.desired) (price : amount_due (Some m) g.effort.price ≡ due_for m g.effort.question) where
         unchanged : x' ≡ x → after g.effort.question.kind ≡ before g.effort.question.kind
         unchanged same = rw is (own' ∙ same_count k x x' found put (ap count same) ∙ sym own)
 
-        grown_sizes : (fate : Fate E) → x' ≡ value_after g.effort x fate → GrowsByFate rules l l' before after g.effort (λ cause. tells cause ∙ sym is) (λ o other. others o (λ same. other (same ∙ sym is))) fate
+        grown_sizes : (fate : Fate E) → x' ≡ value_after g.effort x fate → GrowsByFate rules l l' before after (At k) m charge g.effort (λ cause. tells cause ∙ sym is) (λ o other. others o (λ same. other (same ∙ sym is))) fate
         grown_sizes (Unasked cause) same = unchanged same
         grown_sizes (Denied answer) same = unchanged same
-        grown_sizes Met same = rw is (up, inr (k, ap (λ (ns : List ℕ). slice_get ns k) own ∙ count_at count slots k x found ∙ ap Some (sym now), own' ∙ ap (map (slot_count count)) put ∙ counts_set count slots k (Live x') ∙ ap (slice_set (map (slot_count count) slots) k) (ap count same ∙ full) ∙ ap (λ (ns : List ℕ). slice_set ns k g.effort.question.desired) (sym own)))
+        grown_sizes Met same = rw is (up, ap (λ (ns : List ℕ). slice_get ns k) own ∙ count_at count slots k x found ∙ ap Some (sym now), own' ∙ ap (map (slot_count count)) put ∙ counts_set count slots k (Live x') ∙ ap (slice_set (map (slot_count count) slots) k) (ap count same ∙ full) ∙ ap (λ (ns : List ℕ). slice_set ns k g.effort.question.desired) (sym own))
         grown_sizes (Failed cause heed) same = unchanged same
 
-        pub grows_passes : (m m' : Meter) (result : Result ℕ E) (charge : ℕ) → Grows rules g (record { value = x; meter = Some m; limiter = l }) result charge (record { value = x'; meter = Some m'; limiter = l' }) → Exchanges rules l before l' after
-        grows_passes m m' result charge (inl none) = kept_passes (ap (λ (s : Situation X S). s.limiter) none.same) (same_count k x x' found put (ap (λ (s : Situation X S). count s.value) none.same))
-        grows_passes m m' result charge (inr some) =
-            attempt_passes rules l l' before after g.effort (λ cause. tells cause ∙ sym is) (λ o other. others o (λ same. other (same ∙ sym is))) (Some m) some.fate some.attempt.may_end some.attempt.follows (grown_sizes some.fate some.attempt.value)
+        pub grows_passes : (m' : Meter) (result : Result ℕ E) → Grows rules g (record { value = x; meter = Some m; limiter = l }) result charge (record { value = x'; meter = Some m'; limiter = l' }) → Passed rules l l' before after (At k) m charge
+        grows_passes m' result (inl none) = kept_passes (At k) (ap (λ (s : Situation X S). s.limiter) none.same) (same_count k x x' found put (ap (λ (s : Situation X S). count s.value) none.same)) none.uncharged
+        grows_passes m' result (inr some) =
+            attempt_passes rules l l' before after (At k) m charge g.effort (λ cause. tells cause ∙ sym is) (λ o other. others o (λ same. other (same ∙ sym is))) (Some m) some.fate some.attempt.may_end some.attempt.follows (grown_sizes some.fate some.attempt.value)
+            (charged_by_fate rules l l' before after (At k) m charge g.effort (λ cause. tells cause ∙ sym is) (λ o other. others o (λ same. other (same ∙ sym is))) price some.fate some.attempt.charged)
 
 -- what is written over a part of a list leaves its length
 overwritten : (xs ys zs : List ℕ) (a : ℕ) (fits : Bool) → nat_le (a + length ys) (length xs) ≡ fits → (if fits then Some (take a xs ++ ys ++ drop (a + length ys) xs) else None) ≡ Some zs → length zs ≡ length xs
@@ -196,67 +218,68 @@ but_elements P bytes Bytes other = bytes
 but_elements P bytes Elements other = absurd (other refl)
 
 module _ {S : Type 0} (rules : Rules S) (w : World S) (turn : Turn) (w' : World S) where
-  abbrev Passed : Type 0
-  Passed = Exchanges rules w.limiter (sizes w.state) w'.limiter (sizes w'.state)
-
   -- the turn ends in a world with the same limiter and the same sizes of memories and tables
-  idle : {v : World S} → w' ≡ v → v.limiter ≡ w.limiter → sizes v.state Bytes ≡ sizes w.state Bytes → sizes v.state Elements ≡ sizes w.state Elements → Passed
+  idle : {v : World S} → w' ≡ v → v.limiter ≡ w.limiter → sizes v.state Bytes ≡ sizes w.state Bytes → sizes v.state Elements ≡ sizes w.state Elements → Passed rules w.limiter w'.limiter (sizes w.state) (sizes w'.state) Nowhere w.state.meter turn.charge
   idle {v} is unasked bytes elements =
-      rw is (nothing_passes rules w.limiter v.limiter (sizes w.state) (sizes v.state) unasked (each_kind (λ kind. sizes v.state kind ≡ sizes w.state kind) bytes elements))
+      rw is (nothing_passes rules w.limiter v.limiter (sizes w.state) (sizes v.state) Nowhere w.state.meter turn.charge unasked (each_kind (λ kind. sizes v.state kind ≡ sizes w.state kind) bytes elements) tt)
+
+-- what is due for a difference, as it is for what was added
+due_again : (m : Meter) (bytes old added : ℕ) → due m (λ costs. copy_cost costs added bytes) ≡ due m (λ costs. copy_cost costs (old + added - old) bytes)
+due_again m bytes old added = ap (λ n. due m (λ costs. copy_cost costs n bytes)) (let same : added ≡ old + added - old = omega arith in same)
 
 -- a memory or a table is made or grows
-module _ {S : Type 0} (rules : Rules S) (s : State) (l : S) (l' : S) where
+module _ {S : Type 0} (rules : Rules S) (s : State) (l : S) (l' : S) (charge : ℕ) where
   module _ (slots : List (Slot MemoryValue)) (m : Meter) where
     abbrev with_those_memories : State
     with_those_memories = record (with_memories s slots) { meter = m }
 
     module _ (reply : Reply) where
-      memory_made : (room : Room) (ty : MemoryTypeValue) → Creates replied.Memory (MakesMemory rules room ty) s.memories l reply slots l' → Exchanges rules l (sizes s) l' (sizes with_those_memories)
-      memory_made room ty (inl none) =
-          kept_passes rules l l' (sizes s) (sizes with_those_memories) byte_count Bytes s.memories slots refl refl (but_bytes (λ kind. sizes with_those_memories kind ≡ sizes s kind) refl) none.2 (ap (map (slot_count byte_count)) none.1)
-      memory_made room ty (inr (result, makes, appends)) =
-          makes_passes rules l l' (sizes s) (sizes with_those_memories) byte_count Bytes s.memories slots refl refl (but_bytes (λ kind. sizes with_those_memories kind ≡ sizes s kind) refl)
-          (memory.creation_of room ty) refl (λ cause. refl) replied.Memory (new_memory room ty) refl (length-replicate {A = ℕ} (minimum_bytes ty) 0) result reply makes appends
+      memory_made : charge ≡ 0 → (room : Room) (ty : MemoryTypeValue) → Creates replied.Memory (MakesMemory rules room ty) s.memories l reply slots l' → Passed rules l l' (sizes s) (sizes with_those_memories) New s.meter charge
+      memory_made free room ty (inl none) =
+          kept_passes rules l l' (sizes s) (sizes with_those_memories) s.meter charge byte_count Bytes s.memories slots refl refl (but_bytes (λ kind. sizes with_those_memories kind ≡ sizes s kind) refl) New none.2 (ap (map (slot_count byte_count)) none.1) free
+      memory_made free room ty (inr (result, makes, appends)) =
+          makes_passes rules l l' (sizes s) (sizes with_those_memories) s.meter charge byte_count Bytes s.memories slots refl refl (but_bytes (λ kind. sizes with_those_memories kind ≡ sizes s kind) refl)
+          free (memory.creation_of room ty) refl (λ cause. refl) replied.Memory (new_memory room ty) refl (length-replicate {A = ℕ} (minimum_bytes ty) 0) result reply makes appends
 
-      memory_grows : (k pages charge : ℕ) → ActsAt k (reply_of replied.Number replied.Memory) (GrowsMemory rules pages) (record { value = s.memories; meter = Some s.meter; limiter = l }) reply charge (record { value = slots; meter = Some m; limiter = l' }) → Exchanges rules l (sizes s) l' (sizes with_those_memories)
-      memory_grows k pages charge acts =
+      memory_grows : (k pages : ℕ) → ActsAt k (reply_of replied.Number replied.Memory) (GrowsMemory rules pages) (record { value = s.memories; meter = Some s.meter; limiter = l }) reply charge (record { value = slots; meter = Some m; limiter = l' }) → Passed rules l l' (sizes s) (sizes with_those_memories) (At k) s.meter charge
+      memory_grows k pages acts =
           on_live (live_at s.memories k) _ _ acts
-          (λ missing. kept_passes rules l l' (sizes s) (sizes with_those_memories) byte_count Bytes s.memories slots refl refl (but_bytes (λ kind. sizes with_those_memories kind ≡ sizes s kind) refl)
-          (ap (λ (t : Situation (List (Slot MemoryValue)) S). t.limiter) missing.2) (ap (λ (t : Situation (List (Slot MemoryValue)) S). map (slot_count byte_count) t.value) missing.2))
+          (λ missing. kept_passes rules l l' (sizes s) (sizes with_those_memories) s.meter charge byte_count Bytes s.memories slots refl refl (but_bytes (λ kind. sizes with_those_memories kind ≡ sizes s kind) refl)
+          (At k) (ap (λ (t : Situation (List (Slot MemoryValue)) S). t.limiter) missing.2) (ap (λ (t : Situation (List (Slot MemoryValue)) S). map (slot_count byte_count) t.value) missing.2) missing.1)
           (λ x found (result, x', grows, replied, put). let added = pages * page_bytes x.ty.page in
-          grows_passes rules l l' (sizes s) (sizes with_those_memories) byte_count Bytes s.memories slots refl refl (but_bytes (λ kind. sizes with_those_memories kind ≡ sizes s kind) refl)
+          grows_passes rules l l' (sizes s) (sizes with_those_memories) s.meter charge byte_count Bytes s.memories slots refl refl (but_bytes (λ kind. sizes with_those_memories kind ≡ sizes s kind) refl)
           k x x' found put (record { amount = pages; size = pages_of x; effort = memory.growth_of x pages }) refl (λ cause. refl) refl
-          (length-append x.bytes (replicate added 0) ∙ ap (λ n. length x.bytes + n) (length-replicate {A = ℕ} added 0)) (omega arith) s.meter m result charge grows)
+          (length-append x.bytes (replicate added 0) ∙ ap (λ n. length x.bytes + n) (length-replicate {A = ℕ} added 0)) (omega arith) (due_again s.meter 1 (length x.bytes) added) m result grows)
 
-  lent_made : (reply : Reply) (part : MemoryPart) (ty : MemoryTypeValue) → CreatesLent rules ty (memory_part s) l reply part l' → Exchanges rules l (sizes s) l' (sizes (with_memory_part s part))
-  lent_made reply part ty creates =
+  lent_made : charge ≡ 0 → (reply : Reply) (part : MemoryPart) (ty : MemoryTypeValue) → CreatesLent rules ty (memory_part s) l reply part l' → Passed rules l l' (sizes s) (sizes (with_memory_part s part)) New s.meter charge
+  lent_made free reply part ty creates =
       on_live s.spare _ _ creates
-      (λ none. nothing_passes rules l l' (sizes s) (sizes (with_memory_part s part)) none.2 (each_kind (λ kind. sizes (with_memory_part s part) kind ≡ sizes s kind) (ap (λ (p : MemoryPart). map (slot_count byte_count) p.slots) none.1) refl))
-      (λ region found h. memory_made part.slots s.meter reply (Lent region) ty h.0)
+      (λ none. nothing_passes rules l l' (sizes s) (sizes (with_memory_part s part)) New s.meter charge none.2 (each_kind (λ kind. sizes (with_memory_part s part) kind ≡ sizes s kind) (ap (λ (p : MemoryPart). map (slot_count byte_count) p.slots) none.1) refl) free)
+      (λ region found h. memory_made part.slots s.meter reply free (Lent region) ty h.0)
 
   module _ (slots : List (Slot TableValue)) (m : Meter) where
     abbrev with_those_tables : State
     with_those_tables = record (with_tables s slots) { meter = m }
 
     module _ (reply : Reply) where
-      table_made : (ty : TableTypeValue) (init : TypedRawRef) → Creates replied.Table (MakesTable rules ty init) s.tables l reply slots l' → Exchanges rules l (sizes s) l' (sizes with_those_tables)
-      table_made ty init (inl none) =
-          kept_passes rules l l' (sizes s) (sizes with_those_tables) size_of Elements s.tables slots refl refl (but_elements (λ kind. sizes with_those_tables kind ≡ sizes s kind) refl) none.2 (ap (map (slot_count size_of)) none.1)
-      table_made ty init (inr (result, makes, appends)) =
-          makes_passes rules l l' (sizes s) (sizes with_those_tables) size_of Elements s.tables slots refl refl (but_elements (λ kind. sizes with_those_tables kind ≡ sizes s kind) refl)
-          (table.creation_of ty init.ty) refl (λ cause. refl) replied.Table (new_table ty init.raw) refl (length-replicate {A = ℕ} ty.minimum init.raw) result reply makes appends
+      table_made : charge ≡ 0 → (ty : TableTypeValue) (init : TypedRawRef) → Creates replied.Table (MakesTable rules ty init) s.tables l reply slots l' → Passed rules l l' (sizes s) (sizes with_those_tables) New s.meter charge
+      table_made free ty init (inl none) =
+          kept_passes rules l l' (sizes s) (sizes with_those_tables) s.meter charge size_of Elements s.tables slots refl refl (but_elements (λ kind. sizes with_those_tables kind ≡ sizes s kind) refl) New none.2 (ap (map (slot_count size_of)) none.1) free
+      table_made free ty init (inr (result, makes, appends)) =
+          makes_passes rules l l' (sizes s) (sizes with_those_tables) s.meter charge size_of Elements s.tables slots refl refl (but_elements (λ kind. sizes with_those_tables kind ≡ sizes s kind) refl)
+          free (table.creation_of ty init.ty) refl (λ cause. refl) replied.Table (new_table ty init.raw) refl (length-replicate {A = ℕ} ty.minimum init.raw) result reply makes appends
 
-      table_grows : (k n charge : ℕ) (init : TypedRawRef) → ActsAt k (reply_of replied.Number replied.Table) (GrowsTable rules n init) (record { value = s.tables; meter = Some s.meter; limiter = l }) reply charge (record { value = slots; meter = Some m; limiter = l' }) → Exchanges rules l (sizes s) l' (sizes with_those_tables)
-      table_grows k n charge init acts =
+      table_grows : (k n : ℕ) (init : TypedRawRef) → ActsAt k (reply_of replied.Number replied.Table) (GrowsTable rules n init) (record { value = s.tables; meter = Some s.meter; limiter = l }) reply charge (record { value = slots; meter = Some m; limiter = l' }) → Passed rules l l' (sizes s) (sizes with_those_tables) (At k) s.meter charge
+      table_grows k n init acts =
           on_live (live_at s.tables k) _ _ acts
-          (λ missing. kept_passes rules l l' (sizes s) (sizes with_those_tables) size_of Elements s.tables slots refl refl (but_elements (λ kind. sizes with_those_tables kind ≡ sizes s kind) refl)
-          (ap (λ (t : Situation (List (Slot TableValue)) S). t.limiter) missing.2) (ap (λ (t : Situation (List (Slot TableValue)) S). map (slot_count size_of) t.value) missing.2))
+          (λ missing. kept_passes rules l l' (sizes s) (sizes with_those_tables) s.meter charge size_of Elements s.tables slots refl refl (but_elements (λ kind. sizes with_those_tables kind ≡ sizes s kind) refl)
+          (At k) (ap (λ (t : Situation (List (Slot TableValue)) S). t.limiter) missing.2) (ap (λ (t : Situation (List (Slot TableValue)) S). map (slot_count size_of) t.value) missing.2) missing.1)
           (λ x found (result, x', grows, replied, put). on_test (same_type x.ty.element init.ty) _ _ grows
-          (λ h. grows_passes rules l l' (sizes s) (sizes with_those_tables) size_of Elements s.tables slots refl refl (but_elements (λ kind. sizes with_those_tables kind ≡ sizes s kind) refl)
+          (λ h. grows_passes rules l l' (sizes s) (sizes with_those_tables) s.meter charge size_of Elements s.tables slots refl refl (but_elements (λ kind. sizes with_those_tables kind ≡ sizes s kind) refl)
           k x x' found put (record { amount = n; size = size_of x; effort = table.growth_of x n init.raw }) refl (λ cause. refl) refl
-          (length-append x.elements (replicate n init.raw) ∙ ap (λ n. length x.elements + n) (length-replicate {A = ℕ} n init.raw)) (omega arith) s.meter m result charge h)
-          (λ h. kept_passes rules l l' (sizes s) (sizes with_those_tables) size_of Elements s.tables slots refl refl (but_elements (λ kind. sizes with_those_tables kind ≡ sizes s kind) refl)
-          (ap (λ (t : Situation TableValue S). t.limiter) h.2) (ap (map (slot_count size_of)) put ∙ counts_kept size_of s.tables k x (Live x') found (ap (λ (t : Situation TableValue S). size_of t.value) h.2))))
+          (length-append x.elements (replicate n init.raw) ∙ ap (λ n. length x.elements + n) (length-replicate {A = ℕ} n init.raw)) (omega arith) (due_again s.meter 4 (size_of x) n) m result h)
+          (λ h. kept_passes rules l l' (sizes s) (sizes with_those_tables) s.meter charge size_of Elements s.tables slots refl refl (but_elements (λ kind. sizes with_those_tables kind ≡ sizes s kind) refl)
+          (At k) (ap (λ (t : Situation TableValue S). t.limiter) h.2) (ap (map (slot_count size_of)) put ∙ counts_kept size_of s.tables k x (Live x') found (ap (λ (t : Situation TableValue S). size_of t.value) h.2)) h.1))
 
 module _ (k : ℕ) (slots : List (Slot MemoryValue)) (reply : Reply) (slots' : List (Slot MemoryValue)) (a : ℕ) where
   written_kept : (source : List ℕ) → WritesMemoryAt k a source slots reply slots' → map (slot_count byte_count) slots' ≡ map (slot_count byte_count) slots
@@ -273,46 +296,39 @@ set_kept : (k : ℕ) (slots : List (Slot TableValue)) (reply : Reply) (slots' : 
 set_kept k slots reply slots' index value sets =
     changes_kept size_of k slots reply slots' _ (λ x x' c. write_count (typed_by x value.ty (setting_of x index value.raw)) x None c.0 0 x' (λ elements is. overwrite_length x.elements (value.raw ∷ []) elements index is) None c.1) sets
 
-module _ {S : Type 0} (rules : Rules S) (w : World S) (turn : Turn) (w' : World S) where
-  step_passes : (call : Call) → StepBy rules call w turn w' → Exchanges rules w.limiter (sizes w.state) w'.limiter (sizes w'.state)
-  step_passes (SetFuel fuel) step = idle rules w turn w' step.3 refl (ap (λ t. sizes t Bytes) step.2.1) (ap (λ t. sizes t Elements) step.2.1)
-  step_passes GetFuel step = idle rules w turn w' step.2 refl refl refl
-  step_passes (NewMemory ty) step = rw step.4 (memory_made rules w.state w.limiter step.2 step.1 w.state.meter turn.reply Owned ty step.3)
-  step_passes (NewLentMemory ty) step = rw step.4 (lent_made rules w.state w.limiter step.2 turn.reply step.1 ty step.3)
-  step_passes (GrowMemory k pages) step = rw step.5 (memory_grows rules w.state w.limiter step.2 step.0 step.1 turn.reply k pages turn.charge step.3)
-  step_passes (DropMemory k) step = idle rules w turn w' step.3 refl (drops_kept byte_count k w.state.memories turn.reply step.1 step.2) refl
-  step_passes (Read k offset len) step = idle rules w turn w' step.2 refl refl refl
-  step_passes (Write k offset bytes) step = idle rules w turn w' step.3 refl (written_kept k w.state.memories turn.reply step.1 offset bytes.items step.2) refl
-  step_passes (Load op k ptr offset) step = idle rules w turn w' step.2 refl refl refl
-  step_passes (Store op k ptr offset value) step = idle rules w turn w' step.3 refl (store_kept k w.state.memories turn.reply step.1 (ptr + offset) (stored_bytes op value) step.2) refl
-  step_passes (NewTable ty init) step = rw step.4 (table_made rules w.state w.limiter step.2 step.1 w.state.meter turn.reply ty init step.3)
-  step_passes (GrowTable k n init) step = rw step.5 (table_grows rules w.state w.limiter step.2 step.0 step.1 turn.reply k n turn.charge init step.3)
-  step_passes (DropTable k) step = idle rules w turn w' step.3 refl refl (drops_kept size_of k w.state.tables turn.reply step.1 step.2)
-  step_passes (GetElement k index) step = idle rules w turn w' step.2 refl refl refl
-  step_passes (SetElement k index value) step = idle rules w turn w' step.3 refl refl (set_kept k w.state.tables turn.reply step.1 index value step.2)
-  step_passes (InitTable k j dst src len) step = idle rules w turn w' step.4 refl refl (copy_kept k w.state.tables w.state.meter turn.reply turn.charge step.0 step.1 (slice_get w.state.segments j) (initialization_from dst src len) (λ y x elements is. copied_length x.elements elements dst (at y.items src len) is) step.2)
-  step_passes (CopyTable k dst j src len) step = idle rules w turn w' step.4 refl refl (copy_kept k w.state.tables w.state.meter turn.reply turn.charge step.0 step.1 (live_at w.state.tables j) (copy_from dst src len) (λ y x elements is. copied_length x.elements elements dst (at y.elements src len) is) step.2)
-  step_passes (FillTable k dst value len) step = idle rules w turn w' step.4 refl refl (write_kept k w.state.tables w.state.meter turn.reply turn.charge step.0 step.1 (filling dst value len) (λ x elements is. overwrite_length x.elements (replicate len value.raw) elements dst is) step.2)
-  step_passes (NewSegment ty items) step = idle rules w turn w' step.3 refl refl refl
-  step_passes (DropItems k) step = idle rules w turn w' step.3 refl refl refl
-  step_passes (NewGlobal value ty) step = idle rules w turn w' step.3 refl refl refl
-  step_passes (SetGlobal k value) step = idle rules w turn w' step.3 refl refl refl
-  step_passes (GetGlobal k) step = idle rules w turn w' step.2 refl refl refl
-  step_passes (SetRegister dst value) step = idle rules w turn w' step.3 refl refl refl
-  step_passes (GetRegister a) step = idle rules w turn w' step.2 refl refl refl
-  step_passes (Make op dst a) step = idle rules w turn w' step.3 refl refl refl
-  step_passes (Unary op dst a) step = idle rules w turn w' step.3 refl refl refl
-  step_passes (Binary op dst a b) step = idle rules w turn w' step.3 refl refl refl
-  step_passes (Ternary op dst a b c) step = idle rules w turn w' step.3 refl refl refl
-  step_passes (Shift op dst a amount) step = idle rules w turn w' step.3 refl refl refl
-  step_passes (Test op a) step = idle rules w turn w' step.2 refl refl refl
-  step_passes (Extract op a) step = idle rules w turn w' step.2 refl refl refl
-  step_passes (Replace op dst a item) step = idle rules w turn w' step.3 refl refl refl
-  step_passes (Shuffle dst a b lanes) step = idle rules w turn w' step.3 refl refl refl
-  step_passes (VectorLoad op dst k ptr offset) step = idle rules w turn w' step.3 refl refl refl
-  step_passes (LoadLane op dst a k ptr offset) step = idle rules w turn w' step.3 refl refl refl
-  step_passes (VectorStore a k ptr offset) step = idle rules w turn w' step.3 refl (vector_store_kept k w.state.memories turn.reply step.1 (ptr + offset) (option_map (le_bytes 16) (vector_at w.state.registers a)) step.2) refl
-  step_passes (StoreLane op a k ptr offset) step = idle rules w turn w' step.3 refl (vector_store_kept k w.state.memories turn.reply step.1 (ptr + offset) (option_map (stored_lane op) (vector_at w.state.registers a)) step.2) refl
+-- where an effect makes something grow
+abbrev place_by : Effect → Place
+place_by (MemoryMade ty) = New
+place_by (LentMemoryMade ty) = New
+place_by (MemoryGrown k pages) = At k
+place_by (TableMade ty init) = New
+place_by (TableGrown k n init) = At k
+place_by effect = Nowhere
 
-pub growths_are_permitted : {S : Type 0} (rules : Rules S) (w : World S) (turn : Turn) (w' : World S) → Step rules w turn w' → Exchanges rules w.limiter (sizes w.state) w'.limiter (sizes w'.state)
-growths_are_permitted rules w turn w' step = step_passes rules w turn w' turn.call step
+same_place : (s : State) (call : Call) → place_by (effect_of s call) ≡ place_of call
+same_place s (NewMemory ty) = refl
+same_place s call = refl
+
+module _ {S : Type 0} (rules : Rules S) (w : World S) (turn : Turn) (w' : World S) where
+  effect_passes : (effect : Effect) → TakesEffect rules effect w turn w' → Passed rules w.limiter w'.limiter (sizes w.state) (sizes w'.state) (place_by effect) w.state.meter turn.charge
+  effect_passes (FuelSet fuel) step = idle rules w turn w' step.3 refl (ap (λ t. sizes t Bytes) step.2.1) (ap (λ t. sizes t Elements) step.2.1)
+  effect_passes (Told told) step = idle rules w turn w' step.2 refl refl refl
+  effect_passes (BytesRead k offset len) step = idle rules w turn w' step.2 refl refl refl
+  effect_passes (BytesWritten k offset bytes) step = idle rules w turn w' step.3 refl (written_kept k w.state.memories turn.reply step.1 offset bytes step.2) refl
+  effect_passes (BytesStored k a stored) step = idle rules w turn w' step.3 refl (vector_store_kept k w.state.memories turn.reply step.1 a stored step.2) refl
+  effect_passes (MemoryMade ty) step = rw step.4 (memory_made rules w.state w.limiter step.2 turn.charge step.1 w.state.meter turn.reply step.0.0 Owned ty step.3)
+  effect_passes (LentMemoryMade ty) step = rw step.4 (lent_made rules w.state w.limiter step.2 turn.charge step.0.0 turn.reply step.1 ty step.3)
+  effect_passes (MemoryGrown k pages) step = rw step.5 (memory_grows rules w.state w.limiter step.2 turn.charge step.0 step.1 turn.reply k pages step.3)
+  effect_passes (MemoryDropped k) step = idle rules w turn w' step.3 refl (drops_kept byte_count k w.state.memories turn.reply step.1 step.2) refl
+  effect_passes (TableMade ty init) step = rw step.4 (table_made rules w.state w.limiter step.2 turn.charge step.1 w.state.meter turn.reply step.0.0 ty init step.3)
+  effect_passes (TableGrown k n init) step = rw step.5 (table_grows rules w.state w.limiter step.2 turn.charge step.0 step.1 turn.reply k n init step.3)
+  effect_passes (TableDropped k) step = idle rules w turn w' step.3 refl refl (drops_kept size_of k w.state.tables turn.reply step.1 step.2)
+  effect_passes (ElementSet k index value) step = idle rules w turn w' step.3 refl refl (set_kept k w.state.tables turn.reply step.1 index value step.2)
+  effect_passes (PartInitialized k segment dst src len) step = idle rules w turn w' step.4 refl refl (copy_kept k w.state.tables w.state.meter turn.reply turn.charge step.0 step.1 segment (initialization_from dst src len) (λ y x elements is. copied_length x.elements elements dst (at y.items src len) is) step.2)
+  effect_passes (PartCopied k source dst src len) step = idle rules w turn w' step.4 refl refl (copy_kept k w.state.tables w.state.meter turn.reply turn.charge step.0 step.1 source (copy_from dst src len) (λ y x elements is. copied_length x.elements elements dst (at y.elements src len) is) step.2)
+  effect_passes (PartFilled k dst value len) step = idle rules w turn w' step.4 refl refl (write_kept k w.state.tables w.state.meter turn.reply turn.charge step.0 step.1 (filling dst value len) (λ x elements is. overwrite_length x.elements (replicate len value.raw) elements dst is) step.2)
+  effect_passes effect step = idle rules w turn w' step.3 refl refl refl
+
+pub growths_are_permitted : {S : Type 0} (rules : Rules S) (w : World S) (turn : Turn) (w' : World S) → Step rules w turn w' → Exchanges rules w turn w'
+growths_are_permitted rules w turn w' step =
+    subst (λ place. Passed rules w.limiter w'.limiter (sizes w.state) (sizes w'.state) place w.state.meter turn.charge) (same_place w.state turn.call) (effect_passes rules w turn w' (effect_of w.state turn.call) step)

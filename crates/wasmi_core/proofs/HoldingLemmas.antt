@@ -1,5 +1,5 @@
 -- What a reserving limiter holds, as what a machine has changes.
-use Rattle.std.proofs.Common.{◌≡◌, ◌≢◌, ℕ, ◌+◌, ◌-◌, Option, Some, None, Result, Ok, Err, true, false, List, [], ◌∷◌, sum, inl, inr, refl, sym, ap, ◌∙◌, arith}
+use Rattle.std.proofs.Common.{◌≡◌, ◌≢◌, ℕ, ◌+◌, ◌-◌, Option, Some, None, Result, Ok, Err, true, false, List, [], ◌∷◌, sum, refl, sym, ap, ◌∙◌, arith}
 use Rattle.std.proofs.lemmas.Option.{same_Some}
 use Rattle.std.proofs.Common.{subst, IfOk, OnErr}
 use Rattle.wasmi_meter.specs.declared.limiter.Kind.{Kind}
@@ -11,7 +11,7 @@ use Rattle.wasmi_core.specs.declared.calls.Reply.{Reply}
 use Rattle.wasmi_core.specs.State.{State}
 use Rattle.wasmi_core.specs.World.{World, Turn}
 use Rattle.wasmi_core.specs.Runs.{Run, IsRunOf}
-use Rattle.wasmi_core.specs.Exchange.{Exchange, Nothing, Denial, Permission, Notice, Passes, NothingGrows, GrowsAsAsked, GrowsBy}
+use Rattle.wasmi_core.specs.Exchange.{Exchange, Nothing, Denial, Permission, Notice, Place, Nowhere, New, At, place_of, Passes, NothingGrows, GrowsAsAsked, GrowsBy}
 use Rattle.wasmi_core.specs.Totals.{sizes, HoldsTotals}
 use Rattle.wasmi_core.proofs.TotalLemmas.{sum_set, sum_push}
 use Rattle.wasmi_core.proofs.ExchangeLemmas.{growths_are_permitted}
@@ -30,9 +30,10 @@ given_back Elements n h p h' more gives =
     let less = gives n (ap (λ (x : Holdings). x.last) more) ∙ ap (without_last Elements) more in
     record { bytes = ap (λ (x : Holdings). x.bytes) less; elements = ap (λ (x : Holdings). x.elements) less ∙ omega arith }
 
-grown_sum : (q : Question) (xs ys : List ℕ) → GrowsAsAsked q xs ys → sum ys ≡ sum xs + (q.desired - q.current)
-grown_sum q xs ys (up, inl (fresh, added)) = ap sum added ∙ sum_push xs q.desired ∙ omega (arith, fresh)
-grown_sum q xs ys (up, inr (k, found, put)) = ap sum put ∙ omega (arith, up, sum_set xs k q.current q.desired found)
+grown_sum : (place : Place) (q : Question) (xs ys : List ℕ) → GrowsAsAsked place q xs ys → sum ys ≡ sum xs + (q.desired - q.current)
+grown_sum Nowhere q xs ys grows = absurd grows
+grown_sum New q xs ys (fresh, added) = ap sum added ∙ sum_push xs q.desired ∙ omega (arith, fresh)
+grown_sum (At k) q xs ys (up, found, put) = ap sum put ∙ omega (arith, up, sum_set xs k q.current q.desired found)
 
 module _ (s s' : State) where
   still_held : (h h' : Holdings) → HoldsTotals h s → HoldsTheSame h h' → NothingGrows (sizes s) (sizes s') → HoldsTotals h' s'
@@ -54,26 +55,26 @@ module _ {L : Type 0} (rules : Rules L) (holdings : L → Holdings) (reserves : 
   abbrev Holds : Option L → State → Type 0
   Holds limiter s = (l : L) × (limiter ≡ Some l) × HoldsTotals (holdings l) s
 
-  exchange_holds : (s s' : State) (l : L) (limiter : Option L) (exchange : Exchange) → HoldsTotals (holdings l) s → Passes (optional_rules rules) (Some l) exchange limiter → GrowsBy exchange (sizes s) (sizes s') → Holds limiter s'
-  exchange_holds s s' l limiter Nothing held passes grows =
+  exchange_holds : (s s' : State) (l : L) (limiter : Option L) (place : Place) (exchange : Exchange) → HoldsTotals (holdings l) s → Passes (optional_rules rules) (Some l) exchange limiter → GrowsBy place exchange (sizes s) (sizes s') → Holds limiter s'
+  exchange_holds s s' l limiter place Nothing held passes grows =
       (l, passes, still_held s s' (holdings l) (holdings l) held (record { bytes = refl; elements = refl }) grows)
-  exchange_holds s s' l (Some l') (Denial q answer) held (denial, asks) grows =
+  exchange_holds s s' l (Some l') place (Denial q answer) held (denial, asks) grows =
       (l', refl, still_held s s' (holdings l) (holdings l') held (denial_keeps q answer (holdings l) (holdings l') denial (reserves l l' q answer asks)) grows)
-  exchange_holds s s' l None (Denial q answer) held (denial, asks) grows = absurd asks
-  exchange_holds s s' l (Some l') (Permission q) held asks (grows, others) =
-      (l', refl, more_held s s' q.kind (q.desired - q.current) (holdings l) (holdings l') held (reserves l l' q (Ok true) asks) (grown_sum q (sizes s q.kind) (sizes s' q.kind) grows) others)
-  exchange_holds s s' l None (Permission q) held asks grows = absurd asks
-  exchange_holds s s' l (Some l') (Notice q failure heed) held (kind, Some p, asks, notices) grows =
+  exchange_holds s s' l None place (Denial q answer) held (denial, asks) grows = absurd asks
+  exchange_holds s s' l (Some l') place (Permission q) held asks (grows, others) =
+      (l', refl, more_held s s' q.kind (q.desired - q.current) (holdings l) (holdings l') held (reserves l l' q (Ok true) asks) (grown_sum place q (sizes s q.kind) (sizes s' q.kind) grows) others)
+  exchange_holds s s' l None place (Permission q) held asks grows = absurd asks
+  exchange_holds s s' l (Some l') place (Notice q failure heed) held (kind, Some p, asks, notices) grows =
       (l', refl, still_held s s' (holdings l) (holdings l') held (given_back q.kind (q.desired - q.current) (holdings l) (holdings p) (holdings l') (reserves l p q (Ok true) asks) (rw kind at (gives_back p l' failure heed notices))) grows)
-  exchange_holds s s' l None (Notice q failure heed) held (kind, Some p, asks, notices) grows = absurd notices
-  exchange_holds s s' l limiter (Notice q failure heed) held (kind, None, asks, notices) grows = absurd asks
+  exchange_holds s s' l None place (Notice q failure heed) held (kind, Some p, asks, notices) grows = absurd notices
+  exchange_holds s s' l limiter place (Notice q failure heed) held (kind, None, asks, notices) grows = absurd asks
 
   pub totals_are_held : (s : State) (l : L) → HoldsTotals (holdings l) s → (turns : List Turn) (w' : World (Option L)) → Run (optional_rules rules) (record { state = s; limiter = Some l }) turns w' → Holds w'.limiter w'.state
   totals_are_held s l held [] w' ran =
       rw ran (l, refl, held)
   totals_are_held s l held (turn ∷ turns) w' (v, step, ran) =
       let passed = growths_are_permitted (optional_rules rules) (record { state = s; limiter = Some l }) turn v step in
-      let next = exchange_holds s v.state l v.limiter passed.0 held passed.1 passed.2 in
+      let next = exchange_holds s v.state l v.limiter (place_of turn.call) passed.0 held passed.1 passed.2 in
       totals_are_held v.state next.0 next.2 turns w' (rw next.1 at ran)
 
   pub run_holds : {R E : Type 0} (items : R → List Reply) (s : State) (l : L) (s' : State) (l' : L) (calls : List Call) → HoldsTotals (holdings l) s → (result : Result R E)

@@ -6,8 +6,6 @@ use Rattle.std.proofs.lemmas.Option.{none-some, same_Some, slice_get-map}
 use Rattle.std.specs.Prelude.{is_none, MatchBool, MatchOption, ◌&&◌, if◌then◌else◌, slice_get, slice_set}
 use Rattle.std.specs.Option.{option_map, option_and_then}
 use Rattle.std.specs.Result.{result_map_both}
-use Rattle.wasmi_types.specs.Bytes.{le_bytes}
-use Rattle.wasmi_vector_ops.specs.AccessOps.{stored_lane}
 use Rattle.wasmi_vector_ops.specs.declared.access.VectorLoadOp.{VectorLoadOp}
 use Rattle.wasmi_vector_ops.specs.declared.access.LoadLaneOp.{LoadLaneOp}
 use Rattle.wasmi_meter.specs.declared.error.MemoryError.{MemoryError}
@@ -19,19 +17,19 @@ use Rattle.wasmi_store.specs.MemoryType.{MemoryTypeValue, page_bytes, minimum_by
 use Rattle.wasmi_store.specs.Memory.{MemoryValue, pages_of, new_memory, MakesMemory, GrowsMemory, WritesMemory}
 use Rattle.wasmi_store.specs.Memory as memory
 use Rattle.wasmi_core.specs.declared.calls.Call.{Call}
-use Rattle.wasmi_core.specs.declared.calls.Call.TheVariants.{SetFuel, GetFuel, NewMemory, NewLentMemory, GrowMemory, DropMemory, Read, Write, Load, Store, NewTable, GrowTable, DropTable, GetElement, SetElement, InitTable, CopyTable, FillTable, NewSegment, DropItems, NewGlobal, SetGlobal, GetGlobal, SetRegister, GetRegister, Make, Unary, Binary, Ternary, Shift, Test, Extract, Replace, Shuffle, VectorLoad, LoadLane, VectorStore, StoreLane}
+use Rattle.wasmi_core.specs.declared.calls.Call.TheVariants.{NewMemory, NewLentMemory, Load, VectorLoad, LoadLane}
+use Rattle.wasmi_core.specs.declared.ops.LoadOp.{LoadOp}
 use Rattle.wasmi_core.specs.declared.calls.Reply.{Reply}
 use Rattle.wasmi_core.specs.declared.calls.Reply.TheVariants as replied
 use Rattle.wasmi_core.specs.declared.slots.Slot.{Slot}
 use Rattle.wasmi_core.specs.declared.slots.Slot.TheVariants.{Live, Gone}
-use Rattle.wasmi_core.specs.AccessOps.{stored_bytes}
-use Rattle.wasmi_core.specs.State.{live_value, live_at}
+use Rattle.wasmi_core.specs.State.{State, live_value, live_at}
 use Rattle.wasmi_core.specs.World.{World, Turn}
 use Rattle.wasmi_core.specs.Rows.{reply_of, OnLive, ActsAt, Appends, Creates, ChangesAt, DropsAt}
-use Rattle.wasmi_core.specs.MemoryRows.{bytes_appended, WritesMemoryAt, StoresMemoryAt}
-use Rattle.wasmi_core.specs.RegisterRows.{TakesRegister, StoresVectorAt, vector_loaded, lane_loaded, vector_at}
+use Rattle.wasmi_core.specs.MemoryRows.{bytes_appended, load_reply, WritesMemoryAt, StoresMemoryAt}
+use Rattle.wasmi_core.specs.RegisterRows.{StoresVectorAt, vector_loaded, lane_loaded, vector_at}
 use Rattle.wasmi_core.specs.Totals.{byte_count}
-use Rattle.wasmi_core.specs.Steps.{Step, StepBy}
+use Rattle.wasmi_core.specs.Steps.{Step, Effect, FuelSet, Told, BytesRead, BytesWritten, BytesStored, RegisterSet, MemoryMade, LentMemoryMade, MemoryGrown, MemoryDropped, TableMade, TableGrown, PartInitialized, PartCopied, PartFilled, effect_of, TakesEffect}
 use Rattle.wasmi_core.specs.Runs.{Run}
 use Rattle.wasmi_core.specs.LentMemory.{owned_memory, owned_slot, owned, owned_world, unlent_world, FitsRoom, FitsRegions, RunInRegions}
 use Rattle.wasmi_core.proofs.RowLemmas.{both_live}
@@ -215,6 +213,13 @@ module _ (slots : List (Slot MemoryValue)) (k : ℕ) where
       by_value None = refl
       by_value (Some x) = refl
 
+  load_owned : (op : LoadOp) (a : ℕ) → load_reply op a (live_at slots k) ≡ load_reply op a (live_at (map owned_slot slots) k)
+  load_owned op a = by_value (live_at slots k) ∙ ap (load_reply op a) (sym (owned_at slots k))
+    where
+      by_value : (o : Option MemoryValue) → load_reply op a o ≡ load_reply op a (option_map owned_memory o)
+      by_value None = refl
+      by_value (Some x) = refl
+
   vector_loaded_owned : (op : VectorLoadOp) (a : ℕ) → vector_loaded op a (live_at slots k) ≡ vector_loaded op a (live_at (map owned_slot slots) k)
   vector_loaded_owned op a = by_value (live_at slots k) ∙ ap (vector_loaded op a) (sym (owned_at slots k))
     where
@@ -248,51 +253,46 @@ creates_owned rules room ty slots l reply slots' l' fits (inl none) = inl (none.
 creates_owned rules room ty slots l reply slots' l' fits (inr (result, makes, appends)) =
     inr (result_map_both owned_memory (λ error. error) result, makes_owned rules room ty l result l' fits makes, appends_owned result slots reply slots' appends)
 
+-- an effect that fits the regions, as its call does
+abbrev EffectFits : State → Effect → Type 0
+EffectFits s (LentMemoryMade ty) = ⊥
+EffectFits s (MemoryGrown k pages) = OnLive (live_at s.memories k) (Unit {0}) (FitsRoom pages)
+EffectFits s effect = Unit {0}
+
+effect_fits : (s : State) (call : Call) → FitsRegions s call → EffectFits s (effect_of s call)
+effect_fits s (NewLentMemory ty) fits = fits
+effect_fits s call fits = fits
+
+-- a call has the same effect on both machines
+effect_kept : (s : State) (call : Call) → effect_of s call ≡ effect_of (owned s) call
+effect_kept s (Load op k ptr offset) = ap Told (load_owned s.memories k op (ptr + offset))
+effect_kept s (VectorLoad op dst k ptr offset) = ap (RegisterSet dst) (vector_loaded_owned s.memories k op (ptr + offset))
+effect_kept s (LoadLane op dst a k ptr offset) = ap (RegisterSet dst) (lane_loaded_owned s.memories k op (ptr + offset) (vector_at s.registers a))
+effect_kept s call = refl
+
 module _ {S : Type 0} (rules : Rules S) (w : World S) (turn : Turn) (w' : World S) where
-  step_owned : (call : Call) → FitsRegions w.state call → StepBy rules call w turn w' → StepBy rules call (owned_world w) turn (owned_world w')
-  step_owned (SetFuel fuel) fits step = (step.0, owned step.1, (step.2.0, ap owned step.2.1), ap owned_world step.3)
-  step_owned GetFuel fits step = (step.0, step.1, ap owned_world step.2)
-  step_owned (NewMemory ty) fits step = (step.0, map owned_slot step.1, step.2, creates_owned rules Owned ty w.state.memories w.limiter turn.reply step.1 step.2 refl step.3, ap owned_world step.4)
-  step_owned (NewLentMemory ty) fits step = absurd fits
-  step_owned (GrowMemory k pages) fits step = (map owned_slot step.0, step.1, step.2, growth_owned w.state.memories k rules pages (Some w.state.meter) w.limiter turn.reply turn.charge step.0 (Some step.1) step.2 fits step.3, step.4 ∙ appended_owned w.state.memories k pages turn.reply, ap owned_world step.5)
-  step_owned (DropMemory k) fits step = (step.0, map owned_slot step.1, drops_owned w.state.memories k turn.reply step.1 step.2, ap owned_world step.3)
-  step_owned (Read k offset len) fits step = (step.0, on_owned w.state.memories k _ _ _ _ step.1 (λ missing. missing) (λ x h. h), ap owned_world step.2)
-  step_owned (Write k offset bytes) fits step = (step.0, map owned_slot step.1, writes_owned w.state.memories k turn.reply step.1 offset bytes.items step.2, ap owned_world step.3)
-  step_owned (Load op k ptr offset) fits step = (step.0, on_owned w.state.memories k _ _ _ _ step.1 (λ missing. missing) (λ x h. h), ap owned_world step.2)
-  step_owned (Store op k ptr offset value) fits step = (step.0, map owned_slot step.1, stores_owned w.state.memories k turn.reply step.1 (ptr + offset) (stored_bytes op value) step.2, ap owned_world step.3)
-  step_owned (NewTable ty init) fits step = (step.0, step.1, step.2, step.3, ap owned_world step.4)
-  step_owned (GrowTable k n init) fits step = (step.0, step.1, step.2, step.3, step.4, ap owned_world step.5)
-  step_owned (DropTable k) fits step = (step.0, step.1, step.2, ap owned_world step.3)
-  step_owned (GetElement k index) fits step = (step.0, step.1, ap owned_world step.2)
-  step_owned (SetElement k index value) fits step = (step.0, step.1, step.2, ap owned_world step.3)
-  step_owned (InitTable k j dst src len) fits step = (step.0, step.1, step.2, step.3, ap owned_world step.4)
-  step_owned (CopyTable k dst j src len) fits step = (step.0, step.1, step.2, step.3, ap owned_world step.4)
-  step_owned (FillTable k dst value len) fits step = (step.0, step.1, step.2, step.3, ap owned_world step.4)
-  step_owned (NewSegment ty items) fits step = (step.0, step.1, step.2, ap owned_world step.3)
-  step_owned (DropItems k) fits step = (step.0, step.1, step.2, ap owned_world step.3)
-  step_owned (NewGlobal value ty) fits step = (step.0, step.1, step.2, ap owned_world step.3)
-  step_owned (SetGlobal k value) fits step = (step.0, step.1, step.2, ap owned_world step.3)
-  step_owned (GetGlobal k) fits step = (step.0, step.1, ap owned_world step.2)
-  step_owned (SetRegister dst value) fits step = (step.0, step.1, step.2, ap owned_world step.3)
-  step_owned (GetRegister a) fits step = (step.0, step.1, ap owned_world step.2)
-  step_owned (Make op dst a) fits step = (step.0, step.1, step.2, ap owned_world step.3)
-  step_owned (Unary op dst a) fits step = (step.0, step.1, step.2, ap owned_world step.3)
-  step_owned (Binary op dst a b) fits step = (step.0, step.1, step.2, ap owned_world step.3)
-  step_owned (Ternary op dst a b c) fits step = (step.0, step.1, step.2, ap owned_world step.3)
-  step_owned (Shift op dst a amount) fits step = (step.0, step.1, step.2, ap owned_world step.3)
-  step_owned (Test op a) fits step = (step.0, step.1, ap owned_world step.2)
-  step_owned (Extract op a) fits step = (step.0, step.1, ap owned_world step.2)
-  step_owned (Replace op dst a item) fits step = (step.0, step.1, step.2, ap owned_world step.3)
-  step_owned (Shuffle dst a b lanes) fits step = (step.0, step.1, step.2, ap owned_world step.3)
-  step_owned (VectorLoad op dst k ptr offset) fits step = (step.0, step.1, subst (λ given. TakesRegister dst given w.state.registers turn.reply step.1) (vector_loaded_owned w.state.memories k op (ptr + offset)) step.2, ap owned_world step.3)
-  step_owned (LoadLane op dst a k ptr offset) fits step = (step.0, step.1, subst (λ given. TakesRegister dst given w.state.registers turn.reply step.1) (lane_loaded_owned w.state.memories k op (ptr + offset) (vector_at w.state.registers a)) step.2, ap owned_world step.3)
-  step_owned (VectorStore a k ptr offset) fits step = (step.0, map owned_slot step.1, vector_stores_owned w.state.memories k turn.reply step.1 (ptr + offset) (option_map (le_bytes 16) (vector_at w.state.registers a)) step.2, ap owned_world step.3)
-  step_owned (StoreLane op a k ptr offset) fits step = (step.0, map owned_slot step.1, vector_stores_owned w.state.memories k turn.reply step.1 (ptr + offset) (option_map (stored_lane op) (vector_at w.state.registers a)) step.2, ap owned_world step.3)
+  effect_owned : (effect : Effect) → EffectFits w.state effect → TakesEffect rules effect w turn w' → TakesEffect rules effect (owned_world w) turn (owned_world w')
+  effect_owned (FuelSet fuel) fits step = (step.0, owned step.1, (step.2.0, ap owned step.2.1), ap owned_world step.3)
+  effect_owned (Told told) fits step = (step.0, step.1, ap owned_world step.2)
+  effect_owned (BytesRead k offset len) fits step = (step.0, on_owned w.state.memories k _ _ _ _ step.1 (λ missing. missing) (λ x h. h), ap owned_world step.2)
+  effect_owned (BytesWritten k offset bytes) fits step = (step.0, map owned_slot step.1, writes_owned w.state.memories k turn.reply step.1 offset bytes step.2, ap owned_world step.3)
+  effect_owned (BytesStored k a stored) fits step = (step.0, map owned_slot step.1, vector_stores_owned w.state.memories k turn.reply step.1 a stored step.2, ap owned_world step.3)
+  effect_owned (MemoryMade ty) fits step = (step.0, map owned_slot step.1, step.2, creates_owned rules Owned ty w.state.memories w.limiter turn.reply step.1 step.2 refl step.3, ap owned_world step.4)
+  effect_owned (LentMemoryMade ty) fits step = absurd fits
+  effect_owned (MemoryGrown k pages) fits step = (map owned_slot step.0, step.1, step.2, growth_owned w.state.memories k rules pages (Some w.state.meter) w.limiter turn.reply turn.charge step.0 (Some step.1) step.2 fits step.3, step.4 ∙ appended_owned w.state.memories k pages turn.reply, ap owned_world step.5)
+  effect_owned (MemoryDropped k) fits step = (step.0, map owned_slot step.1, drops_owned w.state.memories k turn.reply step.1 step.2, ap owned_world step.3)
+  effect_owned (TableMade ty init) fits step = (step.0, step.1, step.2, step.3, ap owned_world step.4)
+  effect_owned (TableGrown k n init) fits step = (step.0, step.1, step.2, step.3, step.4, ap owned_world step.5)
+  effect_owned (PartInitialized k segment dst src len) fits step = (step.0, step.1, step.2, step.3, ap owned_world step.4)
+  effect_owned (PartCopied k source dst src len) fits step = (step.0, step.1, step.2, step.3, ap owned_world step.4)
+  effect_owned (PartFilled k dst value len) fits step = (step.0, step.1, step.2, step.3, ap owned_world step.4)
+  effect_owned effect fits step = (step.0, step.1, step.2, ap owned_world step.3)
 
 pub run_is_owned : {S : Type 0} (rules : Rules S) (w : World S) (turns : List Turn) (w' : World S) → RunInRegions rules w turns w' → Run rules (owned_world w) turns (owned_world w')
 run_is_owned rules w [] w' ran = ap owned_world ran
 run_is_owned rules w (turn ∷ turns) w' (v, fits, step, ran) =
-    (owned_world v, step_owned rules w turn v turn.call fits step, run_is_owned rules v turns w' ran)
+    let taken = effect_owned rules w turn v (effect_of w.state turn.call) (effect_fits w.state turn.call fits) step in
+    (owned_world v, rw (effect_kept w.state turn.call) at taken, run_is_owned rules v turns w' ran)
 
 -- a creation in the spare region
 on_spare : (Fact : List ℕ → Type 0) (Missing : Type 0) (spare : Option (List ℕ)) (region : List ℕ) → spare ≡ Some region → MatchOption spare Missing Fact → Fact region
@@ -302,7 +302,7 @@ on_spare Fact Missing (Some r) region is h = subst Fact (same_Some r region is) 
 pub creation_is_owned : {S : Type 0} (rules : Rules S) (w : World S) (turn : Turn) (w' : World S) (ty : MemoryTypeValue) (region : List ℕ) → turn.call ≡ NewLentMemory ty → w.state.spare ≡ Some region → minimum_bytes ty ≤ length region
     → Step rules w turn w' → Step rules (unlent_world w) (record turn { call = NewMemory ty }) (unlent_world w')
 creation_is_owned rules w turn w' ty region called spare fits step =
-    let lent : StepBy rules (NewLentMemory ty) w turn w' = subst (λ c. StepBy rules c w turn w') called step in
+    let lent : TakesEffect rules (LentMemoryMade ty) w turn w' = subst (λ c. TakesEffect rules (effect_of w.state c) w turn w') called step in
     let creates = on_spare _ _ w.state.spare region spare lent.3 in
     (lent.0, map owned_slot lent.1.slots, lent.2, creates_owned rules (Lent region) ty w.state.memories w.limiter turn.reply lent.1.slots lent.2 (grind (arith, nat_tests, fits)) creates.0, ap unlent_world lent.4)
 

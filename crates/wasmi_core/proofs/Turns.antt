@@ -1,11 +1,29 @@
--- A run goes on by one turn.
-use Rattle.std.proofs.Common.{List, [], ◌∷◌, ◌++◌, refl}
+-- A run goes on by one turn, or by another run.
+use Rattle.std.proofs.Common.{◌≡◌, List, [], ◌∷◌, ◌++◌, map, refl, ap, ◌∙◌}
 use Rattle.wasmi_meter.specs.Limiter.{Rules}
+use Rattle.wasmi_core.specs.declared.calls.Call.{Call}
+use Rattle.wasmi_core.specs.declared.calls.Reply.{Reply}
 use Rattle.wasmi_core.specs.World.{World, Turn}
 use Rattle.wasmi_core.specs.Steps.{Step}
-use Rattle.wasmi_core.specs.Runs.{Run}
+use Rattle.wasmi_core.specs.Runs.{Run, IsRunOf}
+
+map-append : {X Y : Type 0} (f : X → Y) (xs ys : List X) → map f (xs ++ ys) ≡ map f xs ++ map f ys
+map-append f [] ys = refl
+map-append f (x ∷ xs) ys = ap (λ zs. f x ∷ zs) (map-append f xs ys)
 
 module _ {S : Type 0} (rules : Rules S) where
   pub Run-push : (u : World S) (turns : List Turn) (v : World S) → Run rules u turns v → (turn : Turn) (w : World S) → Step rules v turn w → Run rules u (turns ++ turn ∷ []) w
   Run-push u [] v ran turn w step = (w, rw (← ran) step, refl)
   Run-push u (t ∷ turns) v ran turn w step = (ran.0, ran.1, Run-push ran.0 turns v ran.2 turn w step)
+
+  pub Run-append : (u : World S) (turns : List Turn) (v : World S) (turns' : List Turn) (w : World S) → Run rules u turns v → Run rules v turns' w → Run rules u (turns ++ turns') w
+  Run-append u [] v turns' w ran ran' = rw (← ran) ran'
+  Run-append u (turn ∷ turns) v turns' w (t, step, ran) ran' = (t, step, Run-append t turns v turns' w ran ran')
+
+  pub IsRunOf-append : (calls calls' : List Call) (u v w : World S) (replies replies' : List Reply) → IsRunOf rules calls u replies v → IsRunOf rules calls' v replies' w → IsRunOf rules (calls ++ calls') u (replies ++ replies') w
+  IsRunOf-append calls calls' u v w replies replies' (turns, made, told, ran) (turns', made', told', ran') = (
+    turns ++ turns',
+    map-append Turn.call turns turns' ∙ ap (λ cs. cs ++ map Turn.call turns') made ∙ ap (λ cs. calls ++ cs) made',
+    map-append Turn.reply turns turns' ∙ ap (λ rs. rs ++ map Turn.reply turns') told ∙ ap (λ rs. replies ++ rs) told',
+    Run-append u turns v turns' w ran ran',
+  )

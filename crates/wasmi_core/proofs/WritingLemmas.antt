@@ -5,7 +5,7 @@ use Rattle.std.proofs.lemmas.Bool.{and_parts}
 use Rattle.std.proofs.lemmas.Bool.Decides.{nat_tests}
 use Rattle.std.proofs.lemmas.List.Sums.{sum_by-cons}
 use Rattle.std.proofs.lemmas.Option.{same_Some}
-use Rattle.std.specs.Prelude.{nat_eq, nat_le, nat_lt, is_some, cond, ◌&&◌, if◌then◌else◌, slice_get}
+use Rattle.std.specs.Prelude.{nat_eq, nat_le, nat_lt, is_some, cond, ◌&&◌, if◌then◌else◌}
 use Rattle.std.specs.Option.{option_map, option_map_or}
 use Rattle.wasmi_meter.specs.declared.error.MemoryError.{MemoryError}
 use Rattle.wasmi_meter.specs.declared.error.TableError.{TableError}
@@ -23,7 +23,7 @@ use Rattle.wasmi_store.specs.Table.{TableValue, TableWrite, size_of, element_pri
 use Rattle.wasmi_store.specs.Table as table
 use Rattle.wasmi_store.specs.TableType.{same_type}
 use Rattle.wasmi_core.specs.declared.calls.Call.{Call}
-use Rattle.wasmi_core.specs.declared.calls.Call.TheVariants.{SetFuel, GetFuel, NewMemory, NewLentMemory, GrowMemory, DropMemory, Read, Write, Load, Store, NewTable, GrowTable, DropTable, GetElement, SetElement, InitTable, CopyTable, FillTable, NewSegment, DropItems, NewGlobal, SetGlobal, GetGlobal, SetRegister, GetRegister, Make, Unary, Binary, Ternary, Shift, Test, Extract, Replace, Shuffle, VectorLoad, LoadLane, VectorStore, StoreLane}
+use Rattle.wasmi_core.specs.declared.calls.Call.TheVariants.{SetFuel}
 use Rattle.wasmi_core.specs.declared.calls.Reply.{Reply}
 use Rattle.wasmi_core.specs.declared.calls.Reply.TheVariants as replied
 use Rattle.wasmi_core.specs.declared.slots.Slot.{Slot}
@@ -32,9 +32,9 @@ use Rattle.wasmi_core.specs.World.{World, Turn}
 use Rattle.wasmi_core.specs.Rows.{reply_of, ActsAt}
 use Rattle.wasmi_core.specs.MemoryRows.{bytes_appended}
 use Rattle.wasmi_core.specs.TableRows.{metered, WritesTableAt, WritesTableFrom, filling, copy_from, initialization_from, element_bytes}
-use Rattle.wasmi_core.specs.Steps.{StepBy}
+use Rattle.wasmi_core.specs.Steps.{Effect, FuelSet, Told, BytesRead, MemoryMade, LentMemoryMade, MemoryGrown, TableMade, TableGrown, PartInitialized, PartCopied, PartFilled, effect_of, TakesEffect}
 use Rattle.wasmi_core.specs.Runs.{Run}
-use Rattle.wasmi_core.specs.Writing.{is_accepted, has_written, amount_set, writing_turns, charges_for_writing, bytes_written, amounts_set, IsBounded}
+use Rattle.wasmi_core.specs.Writing.{is_charged, is_accepted, has_written, amount_set, writing_turns, charges_for_writing, bytes_written, amounts_set, IsBounded}
 use Rattle.wasmi_core.proofs.RowLemmas.{on_live, on_test}
 use Rattle.wasmi_core.proofs.AccountLemmas.{Takes, grows_takes, write_takes}
 
@@ -227,46 +227,37 @@ module _ {S : Type 0} (w : World S) (turn : Turn) (w' : World S) where
   writes_as : {v : World S} {n : ℕ} {wrote : Bool} → w' ≡ v → turn.written ≡ n → Wrote w.state.meter turn.charge n wrote 0 v.state.meter → Wrote w.state.meter turn.charge turn.written wrote 0 w'.state.meter
   writes_as is written fact = rw (is, written) fact
 
+-- whether an effect is charged for what it writes, and what it sets the fuel to
+abbrev is_charged_effect : Effect → Bool
+is_charged_effect (MemoryGrown k pages) = true
+is_charged_effect (TableGrown k n init) = true
+is_charged_effect (PartInitialized k segment dst src len) = true
+is_charged_effect (PartCopied k source dst src len) = true
+is_charged_effect (PartFilled k dst value len) = true
+is_charged_effect effect = false
+
+abbrev amount_set_by : Effect → ℕ
+amount_set_by (FuelSet fuel) = fuel
+amount_set_by effect = 0
+
+same_charges : (s : State) (call : Call) → (is_charged_effect (effect_of s call) ≡ is_charged call) × (amount_set_by (effect_of s call) ≡ amount_set call)
+same_charges s (SetFuel fuel) = (refl, refl)
+same_charges s call = (refl, refl)
+
 module _ {S : Type 0} (rules : Rules S) (w : World S) (turn : Turn) (w' : World S) where
-  step_writes : (call : Call) → StepBy rules call w turn w' → Wrote w.state.meter turn.charge turn.written (has_written call turn.reply) (amount_set call) w'.state.meter
-  step_writes (SetFuel fuel) step = sets fuel w.state.meter w'.state.meter turn.charge turn.written step.0.1 (ap (λ (v : World S). v.state.meter) step.3 ∙ ap (λ (s : State). s.meter) step.2.1)
-  step_writes GetFuel step = idle w turn w' step.2 step.0.1 refl
-  step_writes (NewMemory ty) step = idle w turn w' step.4 step.0.1 refl
-  step_writes (NewLentMemory ty) step = idle w turn w' step.4 step.0.1 refl
-  step_writes (GrowMemory k pages) step = writes_as w turn w' step.5 step.4 (memory_growth_writes rules k pages w.state.memories w.state.meter w.limiter turn.reply turn.charge step.0 step.1 step.2 step.3)
-  step_writes (DropMemory k) step = idle w turn w' step.3 step.0.1 refl
-  step_writes (Read k offset len) step = idle w turn w' step.2 step.0.1 refl
-  step_writes (Write k offset bytes) step = idle w turn w' step.3 step.0.1 refl
-  step_writes (Load op k ptr offset) step = idle w turn w' step.2 step.0.1 refl
-  step_writes (Store op k ptr offset value) step = idle w turn w' step.3 step.0.1 refl
-  step_writes (NewTable ty init) step = idle w turn w' step.4 step.0.1 refl
-  step_writes (GrowTable k n init) step = writes_as w turn w' step.5 step.4 (table_growth_writes rules k n init w.state.tables w.state.meter w.limiter turn.reply turn.charge step.0 step.1 step.2 step.3)
-  step_writes (DropTable k) step = idle w turn w' step.3 step.0.1 refl
-  step_writes (GetElement k index) step = idle w turn w' step.2 step.0.1 refl
-  step_writes (SetElement k index value) step = idle w turn w' step.3 step.0.1 refl
-  step_writes (InitTable k j dst src len) step = writes_as w turn w' step.4 step.3 (table_copy_writes (slice_get w.state.segments j) k (initialization_from dst src len) len w.state.tables w.state.meter turn.reply turn.charge step.0 step.1 (λ y x. init_pays len _ refl) step.2)
-  step_writes (CopyTable k dst j src len) step = writes_as w turn w' step.4 step.3 (table_copy_writes (live_at w.state.tables j) k (copy_from dst src len) len w.state.tables w.state.meter turn.reply turn.charge step.0 step.1 (λ y x. inl refl) step.2)
-  step_writes (FillTable k dst value len) step = writes_as w turn w' step.4 step.3 (table_write_writes k (filling dst value len) len w.state.tables w.state.meter turn.reply turn.charge step.0 step.1 (λ x. inl refl) step.2)
-  step_writes (NewSegment ty items) step = idle w turn w' step.3 step.0.1 refl
-  step_writes (DropItems k) step = idle w turn w' step.3 step.0.1 refl
-  step_writes (NewGlobal value ty) step = idle w turn w' step.3 step.0.1 refl
-  step_writes (SetGlobal k value) step = idle w turn w' step.3 step.0.1 refl
-  step_writes (GetGlobal k) step = idle w turn w' step.2 step.0.1 refl
-  step_writes (SetRegister dst value) step = idle w turn w' step.3 step.0.1 refl
-  step_writes (GetRegister a) step = idle w turn w' step.2 step.0.1 refl
-  step_writes (Make op dst a) step = idle w turn w' step.3 step.0.1 refl
-  step_writes (Unary op dst a) step = idle w turn w' step.3 step.0.1 refl
-  step_writes (Binary op dst a b) step = idle w turn w' step.3 step.0.1 refl
-  step_writes (Ternary op dst a b c) step = idle w turn w' step.3 step.0.1 refl
-  step_writes (Shift op dst a amount) step = idle w turn w' step.3 step.0.1 refl
-  step_writes (Test op a) step = idle w turn w' step.2 step.0.1 refl
-  step_writes (Extract op a) step = idle w turn w' step.2 step.0.1 refl
-  step_writes (Replace op dst a item) step = idle w turn w' step.3 step.0.1 refl
-  step_writes (Shuffle dst a b lanes) step = idle w turn w' step.3 step.0.1 refl
-  step_writes (VectorLoad op dst k ptr offset) step = idle w turn w' step.3 step.0.1 refl
-  step_writes (LoadLane op dst a k ptr offset) step = idle w turn w' step.3 step.0.1 refl
-  step_writes (VectorStore a k ptr offset) step = idle w turn w' step.3 step.0.1 refl
-  step_writes (StoreLane op a k ptr offset) step = idle w turn w' step.3 step.0.1 refl
+  effect_writes : (effect : Effect) → TakesEffect rules effect w turn w' → Wrote w.state.meter turn.charge turn.written (is_charged_effect effect && is_accepted turn.reply) (amount_set_by effect) w'.state.meter
+  effect_writes (FuelSet fuel) step = sets fuel w.state.meter w'.state.meter turn.charge turn.written step.0.1 (ap (λ (v : World S). v.state.meter) step.3 ∙ ap (λ (s : State). s.meter) step.2.1)
+  effect_writes (Told told) step = idle w turn w' step.2 step.0.1 refl
+  effect_writes (BytesRead k offset len) step = idle w turn w' step.2 step.0.1 refl
+  effect_writes (MemoryMade ty) step = idle w turn w' step.4 step.0.1 refl
+  effect_writes (LentMemoryMade ty) step = idle w turn w' step.4 step.0.1 refl
+  effect_writes (MemoryGrown k pages) step = writes_as w turn w' step.5 step.4 (memory_growth_writes rules k pages w.state.memories w.state.meter w.limiter turn.reply turn.charge step.0 step.1 step.2 step.3)
+  effect_writes (TableMade ty init) step = idle w turn w' step.4 step.0.1 refl
+  effect_writes (TableGrown k n init) step = writes_as w turn w' step.5 step.4 (table_growth_writes rules k n init w.state.tables w.state.meter w.limiter turn.reply turn.charge step.0 step.1 step.2 step.3)
+  effect_writes (PartInitialized k segment dst src len) step = writes_as w turn w' step.4 step.3 (table_copy_writes segment k (initialization_from dst src len) len w.state.tables w.state.meter turn.reply turn.charge step.0 step.1 (λ y x. init_pays len _ refl) step.2)
+  effect_writes (PartCopied k source dst src len) step = writes_as w turn w' step.4 step.3 (table_copy_writes source k (copy_from dst src len) len w.state.tables w.state.meter turn.reply turn.charge step.0 step.1 (λ y x. inl refl) step.2)
+  effect_writes (PartFilled k dst value len) step = writes_as w turn w' step.4 step.3 (table_write_writes k (filling dst value len) len w.state.tables w.state.meter turn.reply turn.charge step.0 step.1 (λ x. inl refl) step.2)
+  effect_writes effect step = idle w turn w' step.3 step.0.1 refl
 
 -- a run, by what is left at its start
 module _ {S : Type 0} (rules : Rules S) where
@@ -286,7 +277,8 @@ module _ {S : Type 0} (rules : Rules S) where
   run_writes w left on rated (turn ∷ turns) w' (v, step, ran) =
       let r = rate w.state.meter in
       let wrote = has_written turn.call turn.reply in
-      let first = step_writes rules w turn v turn.call step in
+      let same_effect = same_charges w.state turn.call in
+      let first : Wrote w.state.meter turn.charge turn.written wrote (amount_set turn.call) v.state.meter = rw (← same_effect.0, ← same_effect.1) (effect_writes rules w turn v (effect_of w.state turn.call) step) in
       let after = first.spent left on in
       let same : rate v.state.meter ≡ r = ap (λ (costs : CustomFuelCosts). costs.bytes_copied_per_fuel) first.costs in
       let still : 0 < rate v.state.meter = omega (arith, same, rated) in

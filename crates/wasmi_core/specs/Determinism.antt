@@ -1,5 +1,5 @@
 -- Limiters that leave no choice, and runs in which memory isn't wanting.
-use Rattle.std.specs.Prelude.{◌≡◌, List, [], ◌∷◌}
+use Rattle.std.specs.Prelude.{◌≡◌, List, [], ◌∷◌, Ok}
 use Rattle.wasmi_meter.specs.declared.error.MemoryError.TheVariants as memory
 use Rattle.wasmi_meter.specs.declared.error.TableError.TheVariants as table
 use Rattle.wasmi_meter.specs.Limiter.{Question, Answer, Failure, MemoryFailure, TableFailure, Heed, Rules}
@@ -12,6 +12,10 @@ use Rattle.wasmi_core.specs.World.{Turn}
 pub record IsDeterministic {S : Type 0} (rules : Rules S) : Type 0 where
   pub asked : (l : S) (question : Question) (answer answer' : Answer) (l' l'' : S) → rules.asked l question answer l' → rules.asked l question answer' l'' → (answer ≡ answer') × (l' ≡ l'')
   pub noticed : (l : S) (failure : Failure) (heed heed' : Heed) (l' l'' : S) → rules.noticed l failure heed l' → rules.noticed l failure heed' l'' → (heed ≡ heed') × (l' ≡ l'')
+
+-- each notice is heeded
+abbrev pub HeedsAll : {S : Type 0} → Rules S → Type 0
+HeedsAll {S} rules = (l : S) (failure : Failure) (heed : Heed) (l' : S) → rules.noticed l failure heed l' → heed ≡ Ok tt
 
 -- the failure isn't want of memory
 abbrev pub IsNoWant : Failure → Type 0

@@ -1,7 +1,7 @@
 -- What holds of all turns and runs of a machine.
-use Rattle.std.specs.Prelude.{◌≡◌, ◌⊎◌, ◌<◌, ◌≤◌, ◌+◌, ◌*◌, ℕ, true, Option, Some, Result, Ok, List, length, map}
+use Rattle.std.specs.Prelude.{◌≡◌, ◌⊎◌, ◌<◌, ◌≤◌, ◌+◌, ◌*◌, ◌++◌, ℕ, true, Option, Some, Result, Ok, List, length, map, All}
 use Rattle.wasmi_meter.specs.Holdings.{Holdings}
-use Rattle.wasmi_meter.specs.Limiter.{Rules, Answer, IsDenial, optional_rules}
+use Rattle.wasmi_meter.specs.Limiter.{Question, Rules, Answer, IsDenial, Failure, Heed, optional_rules}
 use Rattle.wasmi_meter.specs.Attempt.{Situation, amount_due, can_pay}
 use Rattle.wasmi_meter.specs.declared.error.MemoryError.{MemoryError}
 use Rattle.wasmi_store.specs.Buffer.{Lent, has_place_for}
@@ -14,13 +14,14 @@ use Rattle.wasmi_core.specs.declared.calls.Reply.TheVariants.{Done, Made, Value,
 use Rattle.wasmi_core.specs.State.{State}
 use Rattle.wasmi_core.specs.World.{World, Turn}
 use Rattle.wasmi_core.specs.Steps.{Step}
-use Rattle.wasmi_core.specs.Runs.{Run}
+use Rattle.wasmi_core.specs.Runs.{Run, IsRunOf}
 use Rattle.wasmi_core.specs.Account.{opened, account_after, Balances}
-use Rattle.wasmi_core.specs.Exchange.{Exchanges}
-use Rattle.wasmi_core.specs.Determinism.{IsDeterministic, with_memory, HaveMemory}
+use Rattle.wasmi_core.specs.Exchange.{Notice, Passes, Exchanges}
+use Rattle.wasmi_core.specs.MemoryRows.{spare_after}
+use Rattle.wasmi_core.specs.Determinism.{IsDeterministic, HeedsAll, IsNoWant, with_memory, HasMemory, HaveMemory}
 use Rattle.wasmi_core.specs.LentMemory.{owned_world, unlent_world, RunInRegions}
 use Rattle.wasmi_core.specs.Writing.{IsBounded}
-use Rattle.wasmi_core.specs.Totals.{sizes, HoldsTotals}
+use Rattle.wasmi_core.specs.Totals.{HoldsTotals}
 
 -- a reply that tells why nothing was done
 abbrev pub IsRefusal : Reply → Type 0
@@ -48,20 +49,33 @@ pub record SameContents (s s' : State) : Type 0 where
   pub globals : s'.globals ≡ s.globals
   pub registers : s'.registers ≡ s.registers
 
--- the spare region stays, unless the call makes a memory in it
-abbrev pub KeepsSpare : Call → State → State → Type 0
-KeepsSpare (NewLentMemory ty) s s' = Unit {0}
-KeepsSpare call s s' = s'.spare ≡ s.spare
+-- the spare region stays, unless a memory was to be made in it, and then it is spent where a slot could be had
+abbrev pub KeepsSpare : Call → Reply → State → State → Type 0
+KeepsSpare (NewLentMemory ty) reply s s' = s'.spare ≡ spare_after reply s.spare
+KeepsSpare call reply s s' = s'.spare ≡ s.spare
+
+-- a limiter was told of want of memory after it had permitted
+abbrev pub IsToldOfWant : {S : Type 0} → Rules S → S → S → Type 0
+IsToldOfWant rules l l' = (question : Question) × (failure : Failure) × (heed : Heed) × (IsNoWant failure → ⊥) × Passes rules l (Notice question failure heed) l'
+
+-- the meter stays, unless memory was wanting after the charge
+abbrev pub KeepsMeter : {S : Type 0} → Rules S → World S → World S → Type 0
+KeepsMeter rules w w' = (w'.state.meter ≡ w.state.meter) ⊎ IsToldOfWant rules w.limiter w'.limiter
+
+-- what a refused turn keeps
+pub record Keeps {S : Type 0} (rules : Rules S) (w : World S) (turn : Turn) (w' : World S) : Type 0 where
+  pub contents : SameContents w.state w'.state
+  pub spare : KeepsSpare turn.call turn.reply w.state w'.state
+  pub meter : KeepsMeter rules w w'
 
 module _ {S : Type 0} (rules : Rules S) where
-  -- in each turn that is refused all but the meter stays, and the spare region where no memory was to be made in it
+  -- in each turn that is refused the contents stay, the meter where memory isn't wanting, and the spare region where no memory was to be made in it
   abbrev pub RefusalsKeepContents : Type 0
-  RefusalsKeepContents = (w : World S) (turn : Turn) (w' : World S) → Step rules w turn w' → IsRefusal turn.reply → SameContents w.state w'.state × KeepsSpare turn.call w.state w'.state
+  RefusalsKeepContents = (w : World S) (turn : Turn) (w' : World S) → Step rules w turn w' → IsRefusal turn.reply → Keeps rules w turn w'
 
-  -- in each turn a permission is followed by exactly the growth that was asked for, or by just one notice, and a denial by neither
+  -- in each turn a permission is followed by exactly the growth that was asked for, or by just one notice, and a denial by neither; a growth is charged only after a permission, and at most once
   abbrev pub GrowsAsPermitted : Type 0
-  GrowsAsPermitted = (w : World S) (turn : Turn) (w' : World S) → Step rules w turn w'
-      → Exchanges rules w.limiter (sizes w.state) w'.limiter (sizes w'.state)
+  GrowsAsPermitted = (w : World S) (turn : Turn) (w' : World S) → Step rules w turn w' → Exchanges rules w turn w'
 
   -- while metering is on, what is left and the charges since the fuel was set last, or since the start, are what was set then, or left at the start
   abbrev pub FuelBalances : Type 0
@@ -72,6 +86,15 @@ module _ {S : Type 0} (rules : Rules S) where
   abbrev pub FuelBoundsWriting : Type 0
   FuelBoundsWriting = (w : World S) (left : ℕ) → w.state.meter.left ≡ Some left → 0 < w.state.meter.costs.bytes_copied_per_fuel
       → (turns : List Turn) (w' : World S) → Run rules w turns w' → IsBounded w.state.meter.costs.bytes_copied_per_fuel left turns
+
+  -- turns of a run, and those of a run from where it ends, are one run
+  abbrev pub RunsJoin : Type 0
+  RunsJoin = (u : World S) (turns : List Turn) (v : World S) (turns' : List Turn) (w : World S) → Run rules u turns v → Run rules v turns' w → Run rules u (turns ++ turns') w
+
+  -- so are their calls, with their replies
+  abbrev pub RunsOfCallsJoin : Type 0
+  RunsOfCallsJoin = (calls calls' : List Call) (u v w : World S) (replies replies' : List Reply) → IsRunOf rules calls u replies v → IsRunOf rules calls' v replies' w
+      → IsRunOf rules (calls ++ calls') u (replies ++ replies') w
 
 module _ {S : Type 0} (rules : Rules S) where
   -- a run that makes no memory in a region and grows none past its own is a run of the same machine with memories of their own
@@ -93,6 +116,16 @@ module _ {S : Type 0} (rules : Rules S) where
 abbrev pub RunsAreOne : {L : Type 0} → Rules L → Type 0
 RunsAreOne {L} rules = IsDeterministic rules → (w : World (Option L)) (turns turns' : List Turn) (v v' : World (Option L)) → map Turn.call turns ≡ map Turn.call turns'
     → HaveMemory turns → HaveMemory turns' → Run (with_memory (optional_rules rules)) w turns v → Run (with_memory (optional_rules rules)) w turns' v' → (turns ≡ turns') × (v ≡ v')
+
+-- where the limiter heeds each notice, a run whose replies tell of no want of memory is one in which nobody is told of it
+abbrev pub RepliesTell : {L : Type 0} → Rules L → Type 0
+RepliesTell {L} rules = HeedsAll rules → (w : World (Option L)) (turns : List Turn) (w' : World (Option L)) → HaveMemory turns
+    → Run (optional_rules rules) w turns w' → Run (with_memory (optional_rules rules)) w turns w'
+
+-- where the limiter leaves no choice and heeds each notice, two runs of one list of calls from one world, whose replies tell of no want of memory, have the same replies and end in one world
+abbrev pub RepliesAreOne : {L : Type 0} → Rules L → Type 0
+RepliesAreOne {L} rules = IsDeterministic rules → HeedsAll rules → (calls : List Call) (w : World (Option L)) (replies replies' : List Reply) (v v' : World (Option L)) → All HasMemory replies → All HasMemory replies'
+    → IsRunOf (optional_rules rules) calls w replies v → IsRunOf (optional_rules rules) calls w replies' v' → (replies ≡ replies') × (v ≡ v')
 
 -- a limiter that holds the totals before a run is there after it, and holds the totals then
 abbrev pub HoldsTotalsAlways : {L : Type 0} → Rules L → (L → Holdings) → Type 0

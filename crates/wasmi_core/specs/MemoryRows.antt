@@ -1,5 +1,6 @@
 -- The calls on memories: what each does to the list of slots.
 use Rattle.std.specs.Prelude.{◌≡◌, ◌⊎◌, ◌*◌, ℕ, Option, Some, None, Result, List, MatchOption}
+use Rattle.std.specs.Option.{option_map_or}
 use Rattle.wasmi_types.specs.Access.{at}
 use Rattle.wasmi_types.specs.declared.trap.TrapCode.{TrapCode}
 use Rattle.wasmi_access.specs.LoadStore.{IsStore}
@@ -47,10 +48,13 @@ abbrev pub WritesMemoryAt : ℕ → ℕ → List ℕ → List (Slot MemoryValue)
 WritesMemoryAt k offset bytes slots reply slots' = ChangesAt k slots reply slots'
     (λ x x'. (result : Result (Unit {0}) MemoryError) × WritesMemory x offset bytes result x' × (reply ≡ reply_of (λ _. Done) Memory result))
 
+-- the reply to a load from a memory, if the memory is there
+abbrev pub load_reply : LoadOp → ℕ → Option MemoryValue → Reply
+load_reply op a memory = option_map_or (λ x. reply_of Value Trap (loaded_raw op x.bytes a)) memory NoSuch
+
 -- a load
 abbrev pub LoadsMemoryAt : LoadOp → ℕ → ℕ → List (Slot MemoryValue) → Reply → Type 0
-LoadsMemoryAt op k a slots reply =
-    OnLive (live_at slots k) (reply ≡ NoSuch) (λ x. reply ≡ reply_of Value Trap (loaded_raw op x.bytes a))
+LoadsMemoryAt op k a slots reply = reply ≡ load_reply op a (live_at slots k)
 
 -- a store: the memory has the bytes at the address, or the store traps and the memory is the same
 abbrev pub StoresMemory : MemoryValue → ℕ → List ℕ → Result (Unit {0}) TrapCode → MemoryValue → Type 0

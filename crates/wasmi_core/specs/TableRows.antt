@@ -1,5 +1,6 @@
 -- The calls on tables: what each does to the list of slots.
 use Rattle.std.specs.Prelude.{◌≡◌, ℕ, Option, Some, None, Result, List}
+use Rattle.std.specs.Option.{option_map_or}
 use Rattle.wasmi_typed.specs.declared.typed_ref.TypedRawRef.{TypedRawRef}
 use Rattle.wasmi_meter.specs.declared.error.TableError.{TableError}
 use Rattle.wasmi_meter.specs.Costs.{cut_product}
@@ -14,9 +15,12 @@ use Rattle.wasmi_core.specs.declared.slots.Slot.TheVariants.{Live}
 use Rattle.wasmi_core.specs.State.{live_value, live_at}
 use Rattle.wasmi_core.specs.Rows.{reply_of, OnLive, IsNoSuch, ChangesAt, ActsAt}
 
--- an element is asked for
+-- the element that is asked of a table, if the table is there
+abbrev pub element_reply : ℕ → Option TableValue → Reply
+element_reply index table = option_map_or (λ x. Reference (element_at x index)) table NoSuch
+
 abbrev pub GetsElementAt : ℕ → ℕ → List (Slot TableValue) → Reply → Type 0
-GetsElementAt k index slots reply = OnLive (live_at slots k) (reply ≡ NoSuch) (λ x. reply ≡ Reference (element_at x index))
+GetsElementAt k index slots reply = reply ≡ element_reply index (live_at slots k)
 
 -- an element is set
 abbrev pub SetsElementAt : ℕ → ℕ → TypedRawRef → List (Slot TableValue) → Reply → List (Slot TableValue) → Type 0

@@ -1,5 +1,6 @@
 -- The calls on element segments and globals: what each does to the list of them.
-use Rattle.std.specs.Prelude.{◌≡◌, ◌⊎◌, ◌≤◌, ◌<◌, ◌++◌, ℕ, Result, Ok, Err, List, [], ◌∷◌, length, slice_get}
+use Rattle.std.specs.Prelude.{◌≡◌, ◌⊎◌, ◌≤◌, ◌<◌, ◌++◌, ℕ, Option, Result, Ok, Err, List, [], ◌∷◌, length, slice_get}
+use Rattle.std.specs.Option.{option_map_or}
 use Rattle.wasmi_types.specs.declared.value.RefType.{RefType}
 use Rattle.wasmi_typed.specs.declared.typed.TypedRawVal.{TypedRawVal}
 use Rattle.wasmi_typed.specs.declared.global.GlobalError.{GlobalError}
@@ -9,7 +10,7 @@ use Rattle.wasmi_store.specs.declared.table.element.SegmentError.TheVariants.{To
 use Rattle.wasmi_store.specs.Segment.{SegmentValue, most_items, dropped}
 use Rattle.wasmi_core.specs.declared.calls.Reply.{Reply}
 use Rattle.wasmi_core.specs.declared.calls.Reply.TheVariants.{Done, Made, Value, Global, Segment, NoSuch, NoRoom}
-use Rattle.wasmi_core.specs.Rows.{reply_of, OnLive, ChangesItem, Appends}
+use Rattle.wasmi_core.specs.Rows.{reply_of, ChangesItem, Appends}
 
 -- the segment of these items, unless there are too many or memory is refused
 abbrev pub IsSegmentOf : RefType → List ℕ → Result SegmentValue SegmentError → Type 0
@@ -36,6 +37,9 @@ abbrev pub SetsGlobalAt : ℕ → TypedRawVal → List GlobalInstance → Reply 
 SetsGlobalAt k value globals reply globals' = ChangesItem k globals reply globals'
     (λ x x'. (result : Result (Unit {0}) GlobalError) × SetsGlobal x value result x' × (reply ≡ reply_of (λ _. Done) Global result))
 
--- its value is asked for
+-- the value that is asked of a global, if it is there
+abbrev pub global_reply : Option GlobalInstance → Reply
+global_reply global = option_map_or (λ x. Value x.value) global NoSuch
+
 abbrev pub GetsGlobalAt : ℕ → List GlobalInstance → Reply → Type 0
-GetsGlobalAt k globals reply = OnLive (slice_get globals k) (reply ≡ NoSuch) (λ x. reply ≡ Value x.value)
+GetsGlobalAt k globals reply = reply ≡ global_reply (slice_get globals k)

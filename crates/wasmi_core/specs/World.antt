@@ -9,6 +9,10 @@ pub record World (S : Type 0) : Type 0 where
   pub state : State
   pub limiter : S
 
+-- a machine in this state with this limiter
+abbrev pub world : {S : Type 0} → State → S → World S
+world machine limiter = record { state = machine; limiter = limiter }
+
 -- one call: its reply, the fuel that it was charged and the bytes that it has written by growing or copying
 pub record Turn : Type 0 where
   pub call : Call

@@ -3,18 +3,29 @@
 ghost use Rattle.wasmi_meter.specs.Limiter.{optional_rules, unlimited_rules};
 ghost use Rattle.wasmi_meter.specs.declared.limiter.NoLimits.{NoLimits};
 ghost use Rattle.wasmi_meter.specs.Quota.{quota_rules};
-ghost use Rattle.wasmi_core.specs.Determinism.{IsDeterministic};
-ghost use Rattle.wasmi_core.specs.Laws.{RefusalsKeepContents, GrowsAsPermitted, FuelBalances, FuelBoundsWriting, HoldsTotalsAlways, LentRunsAreOwned, LentCreationsAreOwned, LentGrowthsSucceed, RunsAreOne};
+ghost use Rattle.wasmi_core.specs.Determinism.{IsDeterministic, HeedsAll};
+ghost use Rattle.wasmi_core.specs.Laws.{RunsJoin, RunsOfCallsJoin, RefusalsKeepContents, GrowsAsPermitted, FuelBalances, FuelBoundsWriting, HoldsTotalsAlways, LentRunsAreOwned, LentCreationsAreOwned, LentGrowthsSucceed, RunsAreOne, RepliesTell, RepliesAreOne};
 
 use wasmi_meter::{Reserving, ResourceLimiter};
 
-/// In each turn that is refused all but the meter stays, and the spare region where no memory was to be made in it.
+/// Two runs in a row are one: of both lists of turns, and of both lists of calls with their replies. So what holds of
+/// each run holds of all that a machine is ever asked.
+pub fn runs_join<L: ResourceLimiter>()
+    ensures turns { RunsJoin (optional_rules L.rules) }
+    ensures calls { RunsOfCallsJoin (optional_rules L.rules) }
+{}
+
+/// In each turn that is refused the contents stay; the meter, unless the limiter was told of want of memory, which
+/// comes after the charge; and the spare region, unless a memory was to be made in it and a slot was there for it.
 pub fn refusals_keep_contents<L: ResourceLimiter>()
     ensures { RefusalsKeepContents (optional_rules L.rules) }
 {}
 
 /// In each turn a permission is followed by exactly the growth that was asked for, or by just one notice, and a denial
-/// by neither.
+/// by neither. A growth is charged only after a permission, at most once, and then what the growth that was asked for
+/// costs.
+///
+/// A machine that is lent no limiter has each question permitted.
 pub fn growths_are_permitted<L: ResourceLimiter>()
     ensures { GrowsAsPermitted (optional_rules L.rules) }
 {}
@@ -63,6 +74,29 @@ pub fn lent_growths_succeed<L: ResourceLimiter>()
 /// neither of them memory is wanting: no reply and no notice tells of it.
 pub fn runs_are_one<L: ResourceLimiter>()
     ensures { RunsAreOne L.rules }
+{}
+
+/// Where the limiter heeds each notice, a run whose replies tell of no want of memory is one in which nobody is told of
+/// it, as `runs_are_one` wants.
+pub fn replies_tell<L: ResourceLimiter>()
+    ensures { RepliesTell L.rules }
+{}
+
+/// Where the limiter leaves no choice and heeds each notice, two runs of one list of calls from one machine and one
+/// limiter have the same replies and lead to the same machine and limiter, if no reply tells of want of memory. Its
+/// premises are what `run` promises and what a caller sees.
+pub fn replies_are_one<L: ResourceLimiter>()
+    ensures { RepliesAreOne L.rules }
+{}
+
+/// The limiter that permits everything heeds each notice.
+pub fn no_limits_heed_all()
+    ensures { HeedsAll (unlimited_rules {S = NoLimits}) }
+{}
+
+/// A quota heeds each notice.
+pub fn quota_heeds_all()
+    ensures { HeedsAll quota_rules }
 {}
 
 /// The limiter that permits everything leaves no choice.

@@ -1,5 +1,5 @@
 //! The machine.
-ghost use Rattle.std.specs.Prelude.{◌≡◌, ℕ, Option, slice_get};
+ghost use Rattle.std.specs.Prelude.{◌≡◌, ◌<◌, ◌↔◌, ℕ, Option, IsSome, length, slice_get};
 ghost use Rattle.std.specs.Option.{option_copied};
 ghost use Rattle.wasmi_meter.specs.Limiter.{optional_rules};
 ghost use Rattle.wasmi_meter.specs.LimiterRef.{state, KeepsLoan};
@@ -49,7 +49,8 @@ impl<'r> Model for Machine<'r> {
 impl<'r> Machine<'r> {
     ghost use Rattle.wasmi_core.specs.State.{new_state, with_spare, live_at};
     ghost use Rattle.wasmi_core.specs.FuelRows.{SetsFuel, get_fuel_reply};
-    ghost use Rattle.wasmi_core.specs.Steps.{Step, subject_of, Memories, Tables, RegisterFile, Vectors};
+    ghost use Rattle.wasmi_core.specs.Steps.{Answers, AnswersAlone, subject_of, Memories, Tables, RegisterFile, Vectors};
+    ghost use Rattle.wasmi_core.specs.World.{world};
     ghost use Rattle.wasmi_core.specs.Totals.{total};
     ghost use Rattle.wasmi_meter.specs.declared.limiter.Kind.TheVariants.{Bytes, Elements};
 
@@ -117,7 +118,9 @@ impl<'r> Machine<'r> {
 
     /// The value of a register, if there is one: their numbers are 0 to 15.
     pub fn register(&self, register: u8) -> Option<RawVal>
-        ensures { result ≡ slice_get self.now.registers register }
+        ensures value { result ≡ slice_get self.now.registers register }
+        ensures count { length self.now.registers ≡ 16 }
+        ensures there { IsSome result ↔ (register < 16) }
     {
         self.registers.get(register)
     }
@@ -162,10 +165,8 @@ impl<'r> Machine<'r> {
         limiter: &mut ResourceLimiterRef<L>,
     ) -> Reply
         ensures loan { KeepsLoan limiter.old limiter.new }
-        ensures step { (charge : ℕ) × (written : ℕ) × Step (optional_rules L.rules)
-            (record { state = self.old; limiter = state limiter.old })
-            (record { call = call.now; reply = result; charge = charge; written = written })
-            (record { state = self.new; limiter = state limiter.new }) }
+        ensures step { Answers (optional_rules L.rules) call.now
+            (world self.old (state limiter.old)) result (world self.new (state limiter.new)) }
     {
         match call {
             Call::SetFuel(fuel) => self.set_fuel(*fuel),
@@ -209,10 +210,8 @@ impl<'r> Machine<'r> {
     ) -> Reply
         requires { subject_of call.now ≡ Memories }
         ensures loan { KeepsLoan limiter.old limiter.new }
-        ensures step { (charge : ℕ) × (written : ℕ) × Step (optional_rules L.rules)
-            (record { state = self.old; limiter = state limiter.old })
-            (record { call = call.now; reply = result; charge = charge; written = written })
-            (record { state = self.new; limiter = state limiter.new }) }
+        ensures step { Answers (optional_rules L.rules) call.now
+            (world self.old (state limiter.old)) result (world self.new (state limiter.new)) }
     {
         match call {
             Call::NewMemory(ty) => self.memories.create(self.alloc, *ty, limiter),
@@ -256,10 +255,8 @@ impl<'r> Machine<'r> {
     ) -> Reply
         requires { subject_of call.now ≡ Tables }
         ensures loan { KeepsLoan limiter.old limiter.new }
-        ensures step { (charge : ℕ) × (written : ℕ) × Step (optional_rules L.rules)
-            (record { state = self.old; limiter = state limiter.old })
-            (record { call = call.now; reply = result; charge = charge; written = written })
-            (record { state = self.new; limiter = state limiter.new }) }
+        ensures step { Answers (optional_rules L.rules) call.now
+            (world self.old (state limiter.old)) result (world self.new (state limiter.new)) }
     {
         match call {
             Call::NewTable { ty, init } => self.tables.create(self.alloc, *ty, *init, limiter),
@@ -315,10 +312,7 @@ impl<'r> Machine<'r> {
     /// Answers one call on registers, which doesn't reach the limiter: only the contract names `L`.
     fn step_register<L: ResourceLimiter>(&mut self, call: &Call) -> Reply
         requires { subject_of call.now ≡ RegisterFile }
-        ensures { (limiter : Option L) → Step (optional_rules L.rules)
-            (record { state = self.old; limiter = limiter })
-            (record { call = call.now; reply = result; charge = 0; written = 0 })
-            (record { state = self.new; limiter = limiter }) }
+        ensures { AnswersAlone (optional_rules L.rules) call.now self.old result self.new }
     {
         match call {
             Call::SetRegister { dst, value } => self.registers.set(*dst, *value),
@@ -339,10 +333,7 @@ impl<'r> Machine<'r> {
     /// Answers one load or store of a vector, which doesn't reach the limiter: only the contract names `L`.
     fn step_vector_access<L: ResourceLimiter>(&mut self, call: &Call) -> Reply
         requires { subject_of call.now ≡ Vectors }
-        ensures { (limiter : Option L) → Step (optional_rules L.rules)
-            (record { state = self.old; limiter = limiter })
-            (record { call = call.now; reply = result; charge = 0; written = 0 })
-            (record { state = self.new; limiter = limiter }) }
+        ensures { AnswersAlone (optional_rules L.rules) call.now self.old result self.new }
     {
         match call {
             Call::VectorLoad {

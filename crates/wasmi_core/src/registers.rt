@@ -42,7 +42,8 @@ impl Registers {
 
     /// The value of a register, if there is one.
     pub(crate) fn get(&self, register: u8) -> Option<RawVal>
-        ensures { result ≡ slice_get self.now.values register }
+        ensures value { result ≡ slice_get self.now.values register }
+        ensures count { length self.now.values ≡ 16 }
     {
         self.values.get(usize::from(register)).copied()
     }

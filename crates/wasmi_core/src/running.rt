@@ -2,6 +2,7 @@
 ghost use Rattle.std.specs.Prelude.{◌≡◌, Some, IfOk, OnErr};
 ghost use Rattle.wasmi_meter.specs.Limiter.{optional_rules};
 ghost use Rattle.wasmi_meter.specs.LimiterRef.{state, KeepsLoan};
+ghost use Rattle.wasmi_core.specs.World.{world};
 ghost use Rattle.wasmi_core.specs.Runs.{IsRunOf};
 ghost use Rattle.wasmi_core.specs.Totals.{HoldsTotals};
 
@@ -20,8 +21,8 @@ pub fn run<L: ResourceLimiter>(
 ) -> Result<Vec<Reply>, AllocError>
     ensures loan { KeepsLoan limiter.old limiter.new }
     ensures run { IfOk result (λ replies. IsRunOf (optional_rules L.rules) calls.now
-        (record { state = machine.old; limiter = state limiter.old }) replies.items
-        (record { state = machine.new; limiter = state limiter.new })) }
+        (world machine.old (state limiter.old)) replies.items
+        (world machine.new (state limiter.new))) }
     ensures err { OnErr result ((machine.new ≡ machine.old) × (limiter.new ≡ limiter.old)) }
 {
     let mut replies = Vec::with_capacity(machine.alloc, calls.len())?;
@@ -39,8 +40,8 @@ pub fn run_lending<L: ResourceLimiter>(
     limiter: &mut L,
 ) -> Result<Vec<Reply>, AllocError>
     ensures run { IfOk result (λ replies. IsRunOf (optional_rules L.rules) calls.now
-        (record { state = machine.old; limiter = Some limiter.old }) replies.items
-        (record { state = machine.new; limiter = Some limiter.new })) }
+        (world machine.old (Some limiter.old)) replies.items
+        (world machine.new (Some limiter.new))) }
     ensures err { OnErr result ((machine.new ≡ machine.old) × (limiter.new ≡ limiter.old)) }
 {
     let mut lent = ResourceLimiterRef::from(limiter);
@@ -60,8 +61,8 @@ pub fn run_reserving<L: Reserving>(
 ) -> Result<Vec<Reply>, AllocError>
     requires { HoldsTotals (L.Reserving.holdings limiter.old) machine.old }
     ensures run { IfOk result (λ replies. IsRunOf (optional_rules L.rules) calls.now
-        (record { state = machine.old; limiter = Some limiter.old }) replies.items
-        (record { state = machine.new; limiter = Some limiter.new })) }
+        (world machine.old (Some limiter.old)) replies.items
+        (world machine.new (Some limiter.new))) }
     ensures err { OnErr result ((machine.new ≡ machine.old) × (limiter.new ≡ limiter.old)) }
     ensures held { HoldsTotals (L.Reserving.holdings limiter.new) machine.new }
 {
