@@ -1,5 +1,5 @@
 //! The pool.
-ghost use Rattle.std.specs.Prelude.{◌≡◌, ◌≤◌, ◌↔◌, ◌<◌, ◌^◌, length, [], IfOk, IfErr, OnErr, IsErrOf, slice_get};
+ghost use Rattle.std.specs.Prelude.{◌≡◌, ◌≤◌, ◌↔◌, ◌<◌, ◌^◌, length, [], IsTrue, IfOk, IfErr, OnErr, IsErrOf, slice_get};
 ghost use Rattle.std.specs.Option.{option_map};
 ghost use Rattle.wasmi_meter.specs.declared.limiter.Kind.TheVariants.{Bytes, Elements};
 ghost use Rattle.wasmi_core.specs.Totals.{total};
@@ -61,6 +61,20 @@ impl<'r> Pool<'r> {
             caps: Amounts { bytes, elements },
             machines: Vec::new(alloc),
         }
+    }
+
+    /// How many tenants there are.
+    pub fn len(&self) -> usize
+        ensures { result ≡ length self.now.machines }
+    {
+        self.machines.len()
+    }
+
+    /// Whether there is no tenant.
+    pub fn is_empty(&self) -> bool
+        ensures { IsTrue result ↔ (self.now.machines ≡ []) }
+    {
+        self.machines.is_empty()
     }
 
     /// Adds a machine that has nothing yet, and answers its index. A machine that is refused is
