@@ -1,0 +1,3 @@
+mod RunsLemmas
+mod RecorderLemmas
+mod PoolsLemmas

@@ -1,0 +1,2 @@
+pub mod Recorder
+pub mod Runs

@@ -1,0 +1,42 @@
+-- The trace of a recorder, and what one call adds to it.
+use Rattle.std.specs.Prelude.{◌≡◌, ◌<◌, ◌⊎◌, ◌++◌, ℕ, Bool, true, false, Some, Ok, Err, List, [], ◌∷◌, length, slice_get, slice_set}
+use Rattle.std.specs.Vec.{vec_capacity}
+use Rattle.wasmi_meter.specs.declared.limiter.Kind.{Kind}
+use Rattle.wasmi_meter.specs.Limiter.{Question, Answer, kind_of, Heed, Rules}
+use Rattle.wasmi_callers.specs.declared.recorder.Event.{Event}
+use Rattle.wasmi_callers.specs.declared.recorder.Event.TheVariants.{Permitted, Failed}
+use Rattle.wasmi_callers.specs.declared.recorder.Recorder.{Recorder}
+
+-- a permission is kept in the trace, which then has room for one failure; without room nothing is permitted
+abbrev pub Permits : Recorder → Event → Bool → Recorder → Type 0
+Permits l event true l' = (l'.events.items ≡ l.events.items ++ event ∷ []) × (length l'.events.items < vec_capacity l'.events)
+Permits l event false l' = l'.events.items ≡ l.events.items
+
+-- a failure is kept where there is room for it
+abbrev pub Hears : Recorder → Kind → Heed → Recorder → Type 0
+Hears l kind heed l' = length l.events.items < vec_capacity l.events → (heed ≡ Ok tt) × (l'.events.items ≡ l.events.items ++ Failed kind ∷ [])
+
+abbrev pub event_of : Question → Event
+event_of q = Permitted q.kind q.current q.desired
+
+abbrev pub Answers : Recorder → Question → Answer → Recorder → Type 0
+Answers l q (Ok permitted) l' = Permits l (event_of q) permitted l'
+Answers l q (Err error) l' = ⊥
+
+abbrev pub recorder_rules : Rules Recorder
+recorder_rules = record { asked = Answers; noticed = λ l failure heed l'. Hears l (kind_of failure) heed l' }
+
+-- nothing has grown
+abbrev pub SameSizes : (Kind → List ℕ) → (Kind → List ℕ) → Type 0
+SameSizes sizes sizes' = (kind : Kind) → sizes' kind ≡ sizes kind
+
+-- one size of a kind has become another: a new one, or one that was there
+abbrev pub OneGrows : ℕ → ℕ → List ℕ → List ℕ → Type 0
+OneGrows current desired sizes sizes' = ((current ≡ 0) × (sizes' ≡ sizes ++ desired ∷ []))
+    ⊎ ((k : ℕ) × (slice_get sizes k ≡ Some current) × (sizes' ≡ slice_set sizes k desired))
+
+-- how the trace has grown by one call, and the sizes with it
+abbrev pub LeavesTrace : List Event → (Kind → List ℕ) → List Event → (Kind → List ℕ) → Type 0
+LeavesTrace events sizes events' sizes' = ((events' ≡ events) × SameSizes sizes sizes')
+    ⊎ ((q : Question) × (events' ≡ events ++ event_of q ∷ []) × OneGrows q.current q.desired (sizes q.kind) (sizes' q.kind))
+    ⊎ ((q : Question) × (events' ≡ events ++ event_of q ∷ Failed q.kind ∷ []) × SameSizes sizes sizes')

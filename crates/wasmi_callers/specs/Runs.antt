@@ -1,0 +1,51 @@
+-- What a caller says of runs.
+use Rattle.std.specs.Prelude.{◌≡◌, ◌<◌, ◌≤◌, ℕ, Some, List, [], ◌∷◌, length, map}
+use Rattle.wasmi_meter.specs.Limiter.{Rules}
+use Rattle.wasmi_store.specs.Buffer.{Lent}
+use Rattle.wasmi_store.specs.Memory.{MemoryValue}
+use Rattle.wasmi_store.specs.MemoryType.{MemoryTypeValue, minimum_bytes}
+use Rattle.wasmi_core.specs.declared.calls.Call.{Call}
+use Rattle.wasmi_core.specs.declared.calls.Reply.{Reply}
+use Rattle.wasmi_core.specs.declared.calls.Call.TheVariants.{NewLentMemory, GrowMemory}
+use Rattle.wasmi_core.specs.World.{World, Turn}
+use Rattle.wasmi_core.specs.Runs.{Run}
+use Rattle.wasmi_core.specs.State.{State}
+use Rattle.wasmi_core.specs.Account.{opened, account_after, Balances}
+use Rattle.wasmi_core.specs.Writing.{IsBounded}
+
+-- turns of these calls with these replies
+pub record AreTurns (calls : List Call) (replies : List Reply) (turns : List Turn) : Type 0 where
+  pub calls_of : map Turn.call turns ≡ calls
+  pub replies_of : map Turn.reply turns ≡ replies
+
+-- where metering was on, what is left and what the calls were charged are what was left before, or was set since
+abbrev pub IsBilled : State → List Call → List Reply → State → Type 0
+IsBilled s calls replies s' = (left : ℕ) → s.meter.left ≡ Some left
+    → (turns : List Turn) × AreTurns calls replies turns × Balances (account_after (opened left) turns) s'.meter
+
+-- where metering was on at a rate above 0, the fuel bounds the bytes that the calls have written
+abbrev pub IsBoundedBy : State → List Call → List Reply → Type 0
+IsBoundedBy s calls replies = (left : ℕ) → s.meter.left ≡ Some left → 0 < s.meter.costs.bytes_copied_per_fuel
+    → (turns : List Turn) × AreTurns calls replies turns × IsBounded s.meter.costs.bytes_copied_per_fuel left turns
+
+-- none of the calls makes a memory in the spare region, or grows one
+abbrev pub IsStill : Call → Type 0
+IsStill (NewLentMemory ty) = ⊥
+IsStill (GrowMemory k pages) = ⊥
+IsStill call = Unit {0}
+
+abbrev pub AreStill : List Call → Type 0
+AreStill [] = Unit {0}
+AreStill (call ∷ calls) = IsStill call × AreStill calls
+
+-- two runs of the same turns
+abbrev pub AreSameTurns : {S : Type 0} → Rules S → World S → World S → World S → Type 0
+AreSameTurns rules w v v' = (turns : List Turn) × Run rules w turns v × Run rules w turns v'
+
+-- the memory lies in a lent region
+abbrev pub IsLent : MemoryValue → Type 0
+IsLent x = (rest : List ℕ) × (x.room ≡ Lent rest)
+
+-- the spare region is there, and no shorter than the minimum of a type
+abbrev pub HasRegionFor : MemoryTypeValue → State → Type 0
+HasRegionFor ty s = (region : List ℕ) × (s.spare ≡ Some region) × (minimum_bytes ty ≤ length region)

@@ -1,0 +1,124 @@
+//! A limiter that keeps a trace of what it is asked and told.
+ghost use Rattle.std.specs.Prelude.{◌≡◌, IfOk, length};
+ghost use Rattle.wasmi_core.specs.Totals.{sizes};
+ghost use Rattle.wasmi_callers.specs.Recorder.{recorder_rules, Permits, Hears, LeavesTrace};
+
+use std::alloc::{AllocError, Global};
+use wasmi_core::{
+    Call, Kind, LimiterError, Machine, MemoryError, Reply, ResourceLimiter, TableError, laws,
+    run_lending,
+};
+
+/// What a limiter was asked and has permitted, or was told.
+#[derive(Clone, Copy, Debug, PartialEq, Eq)]
+pub enum Event {
+    /// A growth was permitted.
+    Permitted {
+        kind: Kind,
+        current: usize,
+        desired: usize,
+    },
+    /// A permitted growth failed.
+    Failed(Kind),
+}
+
+/// A limiter that permits each growth of which it can keep the trace.
+#[derive(Debug, Drop)]
+pub struct Recorder {
+    pub events: Vec<Event>,
+}
+
+impl Recorder {
+    /// A recorder that was asked nothing yet.
+    pub fn new(alloc: Global) -> Self
+        ensures { length result.events.items ≡ 0 }
+    {
+        Recorder {
+            events: Vec::new(alloc),
+        }
+    }
+
+    fn permit(&mut self, event: Event) -> bool
+        ensures { Permits self.old event result self.new }
+    {
+        if self.events.try_reserve(2).is_err() {
+            return false;
+        }
+        self.events.push_reserved(event);
+        true
+    }
+
+    fn hear(&mut self, kind: Kind) -> Result<(), LimiterError>
+        ensures { Hears self.old kind result self.new }
+    {
+        if self.events.len() == self.events.capacity() {
+            return Err(LimiterError::ResourceLimiterDeniedAllocation);
+        }
+        self.events.push_reserved(Event::Failed(kind));
+        Ok(())
+    }
+}
+
+impl ResourceLimiter for Recorder {
+    ghost rules = { recorder_rules };
+
+    fn memory_growing(
+        &mut self,
+        current: usize,
+        desired: usize,
+        _maximum: Option<usize>,
+    ) -> Result<bool, LimiterError> {
+        Ok(self.permit(Event::Permitted {
+            kind: Kind::Bytes,
+            current,
+            desired,
+        }))
+    }
+
+    fn table_growing(
+        &mut self,
+        current: usize,
+        desired: usize,
+        _maximum: Option<usize>,
+    ) -> Result<bool, LimiterError> {
+        Ok(self.permit(Event::Permitted {
+            kind: Kind::Elements,
+            current,
+            desired,
+        }))
+    }
+
+    fn memory_grow_failed(&mut self, _error: &MemoryError) -> Result<(), LimiterError> {
+        self.hear(Kind::Bytes)
+    }
+
+    fn table_grow_failed(&mut self, _error: &TableError) -> Result<(), LimiterError> {
+        self.hear(Kind::Elements)
+    }
+
+    fn instances(&self) -> usize {
+        usize::MAX
+    }
+
+    fn tables(&self) -> usize {
+        usize::MAX
+    }
+
+    fn memories(&self) -> usize {
+        usize::MAX
+    }
+}
+
+/// Makes one call. The trace has become longer by nothing; by a permission, and the growth that it permitted is done;
+/// or by a permission and exactly one failure, and nothing has grown.
+pub fn call_recorded(
+    machine: &mut Machine,
+    calls: &[Call],
+    recorder: &mut Recorder,
+) -> Result<Vec<Reply>, AllocError>
+    requires { length calls.now ≡ 1 }
+    ensures { IfOk result (λ _. LeavesTrace recorder.old.events.items (sizes machine.old) recorder.new.events.items (sizes machine.new)) }
+{
+    laws::growths_are_permitted::<Recorder>();
+    run_lending(machine, calls, recorder)
+}

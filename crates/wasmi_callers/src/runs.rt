@@ -1,0 +1,198 @@
+//! Callers of the laws over turns and runs.
+ghost use Rattle.std.specs.Prelude.{◌≡◌, ◌+◌, ◌*◌, ◌++◌, [], ◌∷◌, Some, Ok, true, IfOk, All, length};
+ghost use Rattle.wasmi_meter.specs.Limiter.{optional_rules};
+ghost use Rattle.wasmi_meter.specs.Quota.{holdings, quota_rules};
+ghost use Rattle.wasmi_store.specs.Buffer.{has_place_for};
+ghost use Rattle.wasmi_store.specs.MemoryType.{page_bytes, in_bounds};
+ghost use Rattle.wasmi_store.specs.Memory.{pages_of};
+ghost use Rattle.wasmi_core.specs.Determinism.{HasMemory};
+ghost use Rattle.wasmi_core.specs.LentMemory.{owned_world, unlent_world};
+ghost use Rattle.wasmi_core.specs.Laws.{IsRefusal, SameContents};
+ghost use Rattle.wasmi_core.specs.Runs.{IsRunOf};
+ghost use Rattle.wasmi_core.specs.Totals.{HoldsTotals};
+ghost use Rattle.wasmi_callers.specs.Runs.{IsBilled, IsBoundedBy, AreStill, AreSameTurns, HasRegionFor, IsLent};
+
+use std::alloc::AllocError;
+use wasmi_core::{
+    Call, Machine, Memory, MemoryError, MemoryType, NoLimits, Quota, Reply, ResourceLimiter,
+    ResourceLimiterRef, laws, run_lending,
+};
+
+/// Makes one call. Where it is refused, the machine has the contents that it had.
+pub fn call_once<L: ResourceLimiter>(
+    machine: &mut Machine,
+    calls: &[Call],
+    limiter: &mut L,
+) -> Result<Vec<Reply>, AllocError>
+    requires { length calls.now ≡ 1 }
+    ensures { IfOk result (λ replies. All IsRefusal replies.items → SameContents machine.old machine.new) }
+{
+    laws::refusals_keep_contents::<L>();
+    run_lending(machine, calls, limiter)
+}
+
+/// Makes calls, and knows what was paid for them.
+pub fn run_billed<L: ResourceLimiter>(
+    machine: &mut Machine,
+    calls: &[Call],
+    limiter: &mut L,
+) -> Result<Vec<Reply>, AllocError>
+    ensures { IfOk result (λ replies. IsBilled machine.old calls.now replies.items machine.new) }
+{
+    laws::fuel_balances::<L>();
+    run_lending(machine, calls, limiter)
+}
+
+/// Makes calls, and knows how much they can have written.
+pub fn run_bounded<L: ResourceLimiter>(
+    machine: &mut Machine,
+    calls: &[Call],
+    limiter: &mut L,
+) -> Result<Vec<Reply>, AllocError>
+    ensures { IfOk result (λ replies. IsBoundedBy machine.old calls.now replies.items) }
+{
+    laws::fuel_bounds_writing::<L>();
+    run_lending(machine, calls, limiter)
+}
+
+/// Makes calls under a quota that holds what the machine has: it does so again afterwards.
+pub fn run_counted(
+    machine: &mut Machine,
+    calls: &[Call],
+    quota: &mut Quota,
+) -> Result<Vec<Reply>, AllocError>
+    requires { HoldsTotals (holdings quota.old) machine.old }
+    ensures { IfOk result (λ _. HoldsTotals (holdings quota.new) machine.new) }
+{
+    laws::totals_are_held::<Quota>();
+    run_lending(machine, calls, quota)
+}
+
+/// Makes some calls and then others: it is as if all were made in one run.
+pub fn run_both<L: ResourceLimiter>(
+    machine: &mut Machine,
+    calls: &[Call],
+    more: &[Call],
+    limiter: &mut L,
+) -> Result<(Vec<Reply>, Vec<Reply>), AllocError>
+    ensures { IfOk result (λ replies. IsRunOf (optional_rules L.rules) (calls.now ++ more.now)
+        (record { state = machine.old; limiter = Some limiter.old }) (replies.0.items ++ replies.1.items)
+        (record { state = machine.new; limiter = Some limiter.new })) }
+{
+    laws::runs_join::<L>();
+    let first = run_lending(machine, calls, limiter)?;
+    let second = run_lending(machine, more, limiter)?;
+    Ok((first, second))
+}
+
+/// Makes the same calls on two equal machines under equal quotas: if no reply tells of want of memory, the replies are
+/// the same, and the machines and the quotas are equal again.
+pub fn run_twice(
+    machine: &mut Machine,
+    other: &mut Machine,
+    calls: &[Call],
+    quota: &mut Quota,
+    other_quota: &mut Quota,
+) -> Result<(Vec<Reply>, Vec<Reply>), AllocError>
+    requires machines { other.old ≡ machine.old }
+    requires quotas { other_quota.old ≡ quota.old }
+    ensures { IfOk result (λ replies. All HasMemory replies.0.items → All HasMemory replies.1.items
+        → (replies.0.items ≡ replies.1.items) × (machine.new ≡ other.new) × (quota.new ≡ other_quota.new)) }
+{
+    laws::quota_leaves_no_choice();
+    laws::quota_heeds_all();
+    laws::replies_are_one::<Quota>();
+    let first = run_lending(machine, calls, quota)?;
+    let second = run_lending(other, calls, other_quota)?;
+    Ok((first, second))
+}
+
+/// The same without limits.
+pub fn run_twice_unlimited(
+    machine: &mut Machine,
+    other: &mut Machine,
+    calls: &[Call],
+) -> Result<(Vec<Reply>, Vec<Reply>), AllocError>
+    requires machines { other.old ≡ machine.old }
+    ensures { IfOk result (λ replies. All HasMemory replies.0.items → All HasMemory replies.1.items
+        → (replies.0.items ≡ replies.1.items) × (machine.new ≡ other.new)) }
+{
+    laws::no_limits_leave_no_choice();
+    laws::no_limits_heed_all();
+    laws::replies_are_one::<NoLimits>();
+    let mut unlimited = NoLimits;
+    let first = run_lending(machine, calls, &mut unlimited)?;
+    let mut unlimited = NoLimits;
+    let second = run_lending(other, calls, &mut unlimited)?;
+    Ok((first, second))
+}
+
+/// The same, down to what each call was charged and has written: both are runs of the same turns.
+pub fn run_twice_charged(
+    machine: &mut Machine,
+    other: &mut Machine,
+    calls: &[Call],
+    quota: &mut Quota,
+    other_quota: &mut Quota,
+) -> Result<(Vec<Reply>, Vec<Reply>), AllocError>
+    requires machines { other.old ≡ machine.old }
+    requires quotas { other_quota.old ≡ quota.old }
+    ensures { IfOk result (λ replies. All HasMemory replies.0.items → All HasMemory replies.1.items
+        → AreSameTurns (optional_rules quota_rules) (record { state = machine.old; limiter = Some quota.old })
+        (record { state = machine.new; limiter = Some quota.new }) (record { state = other.new; limiter = Some other_quota.new })) }
+{
+    laws::quota_leaves_no_choice();
+    laws::quota_heeds_all();
+    laws::replies_tell::<Quota>();
+    laws::runs_are_one::<Quota>();
+    let first = run_lending(machine, calls, quota)?;
+    let second = run_lending(other, calls, other_quota)?;
+    Ok((first, second))
+}
+
+/// Makes calls of which none makes a memory in the spare region or grows one: the replies are those of a machine whose
+/// memories are all its own.
+pub fn run_in_regions<L: ResourceLimiter>(
+    machine: &mut Machine,
+    calls: &[Call],
+    limiter: &mut L,
+) -> Result<Vec<Reply>, AllocError>
+    requires { AreStill calls.now }
+    ensures { IfOk result (λ replies. IsRunOf (optional_rules L.rules) calls.now
+        (owned_world (record { state = machine.old; limiter = Some limiter.old })) replies.items
+        (owned_world (record { state = machine.new; limiter = Some limiter.new }))) }
+{
+    laws::lent_runs_are_owned::<L>();
+    run_lending(machine, calls, limiter)
+}
+
+/// Makes one memory in the spare region, which is long enough for it: the reply is that of a machine that makes one of
+/// its own.
+pub fn make_in_region<L: ResourceLimiter>(
+    machine: &mut Machine,
+    ty: MemoryType,
+    calls: &[Call],
+    limiter: &mut L,
+) -> Result<Vec<Reply>, AllocError>
+    requires call { calls.now ≡ Call.NewLentMemory ty ∷ [] }
+    requires region { HasRegionFor ty machine.old }
+    ensures { IfOk result (λ replies. IsRunOf (optional_rules L.rules) (Call.NewMemory ty ∷ [])
+        (unlent_world (record { state = machine.old; limiter = Some limiter.old })) replies.items
+        (unlent_world (record { state = machine.new; limiter = Some limiter.new }))) }
+{
+    laws::lent_creations_are_owned::<L>();
+    run_lending(machine, calls, limiter)
+}
+
+/// Grows a lent memory that its type and its region have place for, with no meter and no limits: it grows.
+pub fn grow_in_region(memory: &mut Memory, pages: u64) -> Result<u64, MemoryError>
+    requires lent { IsLent memory.old }
+    requires inside { in_bounds memory.old.ty (pages_of memory.old + pages) ≡ true }
+    requires place { has_place_for memory.old.room (pages * page_bytes memory.old.ty.page) ≡ true }
+    ensures { result ≡ Ok (pages_of memory.old) }
+{
+    laws::lent_growths_succeed::<NoLimits>();
+    let mut unlimited = NoLimits;
+    let mut lent = ResourceLimiterRef::from(&mut unlimited);
+    memory.grow(pages, None, &mut lent)
+}
