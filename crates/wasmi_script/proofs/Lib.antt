@@ -1,5 +1,8 @@
 pub mod Scripts
 pub mod LinesLemmas
+pub mod PrintingLemmas
+pub mod OutcomesLemmas
+pub mod RepliesLemmas
 pub mod PoolLemmas
 pub mod AnswersLemmas
 pub mod AcceptanceLemmas

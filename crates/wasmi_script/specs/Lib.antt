@@ -12,7 +12,9 @@ pub mod Answers
 pub mod Headers
 pub mod Openings
 pub mod Lines
+pub mod Refusals
 pub mod Printing
 pub mod Replays
 pub mod Status
 pub mod Texts
+pub mod Outcomes

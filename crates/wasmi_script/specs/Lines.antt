@@ -84,10 +84,14 @@ TakesLines (line ∷ lines) old new = (middle : Script) × TakesLine old line mi
 unfoldable pub lines_in : List ℕ → List (List ℕ)
 lines_in text = slice_split (λ byte. byte == 10) text
 
--- the script that a text writes: what its lines add to an empty one
-pub record WritesScript (text : List ℕ) (script : Script) : Type 0 where
+-- the script that lines make: what they add to an empty one
+pub record MakeScript (texts : List (List ℕ)) (script : Script) : Type 0 where
   pub empty : Script
   pub no_header : empty.header ≡ record { meter = None; limiter = None; region = None }
   pub no_commands : HasNoCommands empty
   pub first_tenant : empty.tenant ≡ 0
-  pub lines : TakesLines (lines_in text) empty script
+  pub lines : TakesLines texts empty script
+
+-- the script that a text writes: what its lines make
+abbrev pub WritesScript : List ℕ → Script → Type 0
+WritesScript text script = MakeScript (lines_in text) script

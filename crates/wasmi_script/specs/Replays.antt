@@ -78,11 +78,6 @@ abbrev pub IsPoolReplay : TenantsLine → Script → Ran → Type 0
 IsPoolReplay line script ran = (pool : PoolValue) × (ran.held ≡ held.Tenants pool)
     × AnswersParts (new_pool line (new_state (meter_of script.header))) (script.earlier.items ++ record { tenant = script.tenant; calls = script.calls } ∷ []) [] ran.replies.items pool
 
--- all calls are one machine's: there is no pool
-abbrev pub HasOneMachine : Option LimiterLine → Type 0
-HasOneMachine (Some (Lines.Tenants line)) = ⊥
-HasOneMachine limiter = Unit {0}
-
 -- the replies are those of the parts on a pool, or those of a run on a new machine with the script's meter and its region
 abbrev pub IsReplayBy : Option LimiterLine → Script → Ran → Type 0
 IsReplayBy (Some (Lines.Tenants line)) script ran = IsPoolReplay line script ran

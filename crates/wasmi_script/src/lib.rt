@@ -4,6 +4,7 @@
 mod answering;
 mod error;
 mod print;
+mod printer;
 mod reading;
 mod replaying;
 mod script;

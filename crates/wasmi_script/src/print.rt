@@ -1,54 +1,10 @@
-//! Printing without memory.
-ghost use Rattle.std.specs.Prelude.{◌≡◌, IsOk};
-ghost use Rattle.std.specs.Io.KnownBytes.{Appends, Keeps};
-ghost use Rattle.wasmi_script.specs.Printing.{AppendsFront};
+//! Replies as text.
+ghost use Rattle.std.specs.Prelude.{◌≡◌};
 ghost use Rattle.wasmi_script.specs.Texts.{kind_text};
 ghost use Rattle.wasmi_script.specs.TypeWords.{reference_word};
 
-use std::{fmt, io};
+use std::fmt;
 use wasmi_core::{Call, RefType, Reply};
-
-/// Text that goes to a writer as it is made. Any error of the writer ends the printing, and so does a write that takes
-/// no byte.
-#[derive(Drop)]
-pub struct Printer<'w, W> {
-    writer: &'w mut W,
-}
-
-impl<'w, W: io::Write> Printer<'w, W> {
-    /// Text that goes to this writer.
-    pub fn new(writer: &'w mut W) -> Self
-        ensures { result.writer ≡ writer.entry }
-    {
-        Printer { writer }
-    }
-
-    /// Flushes the writer.
-    pub fn flush(&mut self) -> fmt::Result
-        ensures { Keeps (W.contents self.old.writer.now) (W.contents self.new.writer.now) }
-    {
-        self.writer.flush().map_err(|_| fmt::Error)
-    }
-}
-
-impl<W: io::Write> fmt::Write for Printer<'_, W> {
-    ghost write_str_gives = { λ printer text printer'. Appends (W.contents printer.writer.now) (W.contents printer'.writer.now) text };
-
-    fn write_str(&mut self, text: &str) -> fmt::Result
-        ensures ok { IsOk result → Appends (W.contents self.old.writer.now) (W.contents self.new.writer.now) text.now }
-        ensures front { AppendsFront (W.contents self.old.writer.now) (W.contents self.new.writer.now) text.now }
-    {
-        let mut rest = text.as_bytes();
-        while !rest.is_empty() {
-            match self.writer.write(rest) {
-                Ok(0) => return Err(fmt::Error),
-                Ok(count) => rest = &rest[count..],
-                Err(_) => return Err(fmt::Error),
-            }
-        }
-        Ok(())
-    }
-}
 
 /// A call's reply, as the program prints it.
 #[derive(Clone, Copy)]

@@ -1,5 +1,6 @@
 //! Reading the whole script.
-ghost use Rattle.std.specs.Prelude.{◌≡◌, ◌≤◌, vec_len, IfOk, IfSome};
+ghost use Rattle.std.specs.Prelude.{◌≡◌, ◌≤◌, vec_len, IfOk, IfErr, IfSome};
+ghost use Rattle.wasmi_script.specs.Refusals.{IsReadError};
 
 use crate::error::ReplayError;
 use std::alloc::Global;
@@ -12,6 +13,7 @@ pub const LIMIT: usize = 1_048_576;
 pub fn read<R: Read>(alloc: Global, reader: &mut R) -> Result<Vec<u8>, ReplayError>
     ensures bounded { IfOk result (λ script. vec_len script ≤ LIMIT) }
     ensures whole { IfOk result (λ script. IfSome (R.remaining reader.old) (λ bytes. script.items ≡ bytes)) }
+    ensures refused { IfErr result (IsReadError (R.remaining reader.old)) }
 {
     let mut script = Vec::new(alloc);
     let mut chunk = [0u8; 4096];

@@ -1,22 +1,26 @@
 //! A script from its reader to the printed lines.
-ghost use Rattle.std.specs.Prelude.{◌≡◌, ◌≤◌, None, Some, length, IfOk, IfSome, OnOk};
-ghost use Rattle.wasmi_script.specs.Headers.{meter_of};
+ghost use Rattle.std.specs.Prelude.{◌≡◌, ◌≤◌, ◌++◌, None, Some, length, codes, Ok, IfOk, IfSome, OnOk, OnErr};
+ghost use Rattle.wasmi_script.specs.Headers.{meter_of, start_of};
 ghost use Rattle.wasmi_script.specs.Lines.{WritesScript};
 ghost use Rattle.wasmi_core.specs.State.{new_state};
 ghost use Rattle.wasmi_core.specs.Totals.{HoldsTotals};
-ghost use Rattle.wasmi_script.specs.Replays.{IsReplayOf, IsReplayUnder, IsListedReplay, IsPoolReplay, AnswersPart, HasOneMachine, new_pool, nothing_held};
+ghost use Rattle.wasmi_script.specs.Replays.{IsReplayOf, IsReplayUnder, IsListedReplay, IsPoolReplay, AnswersPart, new_pool, nothing_held};
 ghost use Rattle.wasmi_script.specs.Status.{status_number, status_after};
+ghost use Rattle.wasmi_script.specs.Printing.{AppendsFront, Passes, line};
+ghost use Rattle.wasmi_script.specs.Texts.{reply_text, bytes_text};
+ghost use Rattle.wasmi_script.specs.Outcomes.{calls_of, replies_text, tenants_text, held_text, outcome_text, HasReplies, IsOutcomeOf, Replays};
+ghost use Rattle.std.specs.Io.KnownBytes.{Appends};
 
 use crate::answering::AnswerList;
 use crate::error::ReplayError;
-use crate::print::{Printer, ReplyLine};
+use crate::print::ReplyLine;
+use crate::printer::Printer;
 use crate::reading::{LIMIT, read};
 use crate::script::{
     AnswerWord, Header, LimiterLine, QuotaLine, RegionLine, Script, TenantsLine, parse,
 };
 use std::alloc::{AllocError, Global};
-use std::fmt::Write;
-use std::{fmt, io, slice};
+use std::{fmt, io};
 use wasmi_budget::Pool;
 use wasmi_core::{
     Call, Machine, NoLimits, Quota, Reply, ResourceLimiterRef, run, run_lending, run_reserving,
@@ -90,20 +94,19 @@ struct Amounts {
 /// Reads the script, runs it and prints its replies, or prints why it isn't run. A line that can't be printed makes
 /// the status `Fault`; what went out before it stays.
 pub fn replay<R: io::Read, W: io::Write>(alloc: Global, reader: &mut R, writer: &mut W) -> Status
-    ensures { result ≡ Status.Answered → IfSome (R.remaining reader.old) (λ bytes. length bytes ≤ LIMIT) }
+    ensures limited { result ≡ Status.Answered → IfSome (R.remaining reader.old) (λ bytes. length bytes ≤ LIMIT) }
+    ensures ends { Replays (R.remaining reader.old) (W.contents writer.old) (W.contents writer.new) result }
 {
     let outcome = answer(alloc, reader);
-    let mut printer = Printer::new(writer);
-    match print(&mut printer, &outcome) {
+    match print(writer, &outcome) {
         Ok(()) => status_of(&outcome),
         Err(_) => Status::Fault,
     }
 }
 
 fn answer<R: io::Read>(alloc: Global, reader: &mut R) -> Result<Replayed, ReplayError>
-    ensures script { IfOk result (λ replayed. IfSome (R.remaining reader.old) (λ bytes. WritesScript bytes replayed.script)) }
-    ensures run { IfOk result (λ replayed. IsReplayOf replayed.script replayed.ran) }
-    ensures limited { OnOk result (IfSome (R.remaining reader.old) (λ bytes. length bytes ≤ LIMIT)) }
+    ensures outcome { IfSome (R.remaining reader.old) (λ bytes. IsOutcomeOf bytes result) }
+    ensures replies { HasReplies result }
 {
     let bytes = read(alloc, reader)?;
     let script = parse(alloc, bytes.as_slice())?;
@@ -115,31 +118,29 @@ fn answer<R: io::Read>(alloc: Global, reader: &mut R) -> Result<Replayed, Replay
 fn run_script(alloc: Global, script: &Script) -> Result<Ran, AllocError>
     ensures { IfOk result (IsReplayOf script.now) }
 {
-    if let Some(LimiterLine::Tenants(line)) = &script.header.limiter {
-        return run_pool(alloc, script, *line);
-    }
     let fuel = script.header.fuel();
     match script.header.region {
-        None => run_on(&mut Machine::new(alloc, fuel), script),
+        None => run_on(alloc, &mut Machine::new(alloc, fuel), script),
         Some(RegionLine { len, byte }) => {
             let mut region = vec![in alloc; byte; len]?;
             let mut machine = Machine::with_region(alloc, fuel, region.as_mut_slice());
-            run_on(&mut machine, script)
+            run_on(alloc, &mut machine, script)
         }
     }
 }
 
-/// Runs the script's calls on this machine, under its limiter line or without a limiter.
-fn run_on(machine: &mut Machine, script: &Script) -> Result<Ran, AllocError>
+/// Runs the script's calls on this machine, under its limiter line or without a limiter. Where the line asks for a pool,
+/// the pool's machines run them, and this one, which has nothing, runs none.
+fn run_on(alloc: Global, machine: &mut Machine, script: &Script) -> Result<Ran, AllocError>
     requires held { HoldsTotals nothing_held machine.old }
-    requires alone { HasOneMachine script.now.header.limiter }
-    ensures { IfOk result (IsReplayUnder script.now.header.limiter machine.old script.now.calls.items) }
+    requires start { machine.old ≡ start_of script.now.header }
+    ensures { IfOk result (IsReplayOf script.now) }
 {
     match &script.header.limiter {
         None => run_freely(machine, &script.calls),
         Some(LimiterLine::Quota(line)) => run_under_quota(machine, &script.calls, *line),
         Some(LimiterLine::Answers(words)) => run_answered(machine, &script.calls, words),
-        Some(LimiterLine::Tenants(_)) => unreachable!(),
+        Some(LimiterLine::Tenants(line)) => run_pool(alloc, script, *line),
     }
 }
 
@@ -238,58 +239,170 @@ fn run_part(
     }
 }
 
-fn print<W: io::Write>(
+/// Prints the outcome to its last byte.
+fn print<W: io::Write>(writer: &mut W, outcome: &Result<Replayed, ReplayError>) -> fmt::Result
+    requires { HasReplies outcome.now }
+    ensures ok { OnOk result (Appends (W.contents writer.old) (W.contents writer.new) (outcome_text outcome.now)) }
+    ensures front { OnErr result (AppendsFront (W.contents writer.old) (W.contents writer.new) (outcome_text outcome.now)) }
+{
+    let mut printer = Printer::new(writer);
+    let printed = print_all(&mut printer, outcome);
+    // No effect at run time: the proof reads what the writer has from this use.
+    let _ = &*printer.into_writer();
+    printed
+}
+
+/// Prints the outcome and flushes the writer.
+fn print_all<W: io::Write>(
     printer: &mut Printer<'_, W>,
     outcome: &Result<Replayed, ReplayError>,
-) -> fmt::Result {
-    match outcome {
-        Ok(Replayed { script, ran }) => {
-            let mut replies = ran.replies.iter();
-            for part in &script.earlier {
-                print_part(printer, &part.calls, &mut replies)?;
-            }
-            print_part(printer, &script.calls, &mut replies)?;
-            print_held(printer, script.header.tenants(), &ran.held)?;
-        }
-        Err(error) => writeln!(printer, "{error}")?,
-    }
+) -> fmt::Result
+    requires { HasReplies outcome.now }
+    ensures ok { OnOk result (Appends (W.contents printer.old.writer.now) (W.contents printer.new.writer.now)
+        (printer.old.chunk.bytes ++ outcome_text outcome.now)) }
+    ensures front { OnErr result (AppendsFront (W.contents printer.old.writer.now) (W.contents printer.new.writer.now)
+        (printer.old.chunk.bytes ++ outcome_text outcome.now)) }
+    ensures same { printer.new.writer.ghost_name ≡ printer.old.writer.ghost_name }
+{
+    print_outcome(printer, outcome)?;
     printer.flush()
 }
 
-/// A line for each call of a part, with the next reply.
-fn print_part<W: io::Write>(
+/// Prints a line for each call and what is held, or why the script isn't run.
+fn print_outcome<W: io::Write>(
+    printer: &mut Printer<'_, W>,
+    outcome: &Result<Replayed, ReplayError>,
+) -> fmt::Result
+    requires { HasReplies outcome.now }
+    ensures ok { OnOk result (Passes (W.contents printer.old.writer.now) (W.contents printer.new.writer.now)
+        printer.old.chunk.bytes printer.new.chunk.bytes (outcome_text outcome.now)) }
+    ensures front { OnErr result (AppendsFront (W.contents printer.old.writer.now) (W.contents printer.new.writer.now)
+        (printer.old.chunk.bytes ++ outcome_text outcome.now)) }
+    ensures same { printer.new.writer.ghost_name ≡ printer.old.writer.ghost_name }
+{
+    match outcome {
+        Ok(replayed) => print_replayed(printer, replayed),
+        Err(error) => printer.print_line(format_args!("{error}")),
+    }
+}
+
+/// Prints a line for each call of a script, and what is held.
+fn print_replayed<W: io::Write>(printer: &mut Printer<'_, W>, replayed: &Replayed) -> fmt::Result
+    requires { length (calls_of replayed.now.script) ≡ length replayed.now.ran.replies.items }
+    ensures ok { OnOk result (Passes (W.contents printer.old.writer.now) (W.contents printer.new.writer.now)
+        printer.old.chunk.bytes printer.new.chunk.bytes (outcome_text (Ok replayed.now))) }
+    ensures front { OnErr result (AppendsFront (W.contents printer.old.writer.now) (W.contents printer.new.writer.now)
+        (printer.old.chunk.bytes ++ outcome_text (Ok replayed.now))) }
+    ensures same { printer.new.writer.ghost_name ≡ printer.old.writer.ghost_name }
+{
+    print_script(printer, &replayed.script, replayed.ran.replies.as_slice())?;
+    print_held(printer, &replayed.ran.held)
+}
+
+/// A line for each call of a script, with its reply.
+fn print_script<W: io::Write>(
+    printer: &mut Printer<'_, W>,
+    script: &Script,
+    replies: &[Reply],
+) -> fmt::Result
+    requires { length (calls_of script.now) ≡ length replies.now }
+    ensures ok { OnOk result (Passes (W.contents printer.old.writer.now) (W.contents printer.new.writer.now)
+        printer.old.chunk.bytes printer.new.chunk.bytes (replies_text (calls_of script.now) replies.now)) }
+    ensures front { OnErr result (AppendsFront (W.contents printer.old.writer.now) (W.contents printer.new.writer.now)
+        (printer.old.chunk.bytes ++ replies_text (calls_of script.now) replies.now)) }
+    ensures same { printer.new.writer.ghost_name ≡ printer.old.writer.ghost_name }
+{
+    let mut rest = replies;
+    for part in &script.earlier {
+        let (answered, later) = rest.split_at(part.calls.len());
+        print_replies(printer, &part.calls, answered)?;
+        rest = later;
+    }
+    print_replies(printer, &script.calls, rest)
+}
+
+/// A line for each call, with its reply.
+fn print_replies<W: io::Write>(
     printer: &mut Printer<'_, W>,
     calls: &[Call],
-    replies: &mut slice::Iter<'_, Reply>,
-) -> fmt::Result {
-    for call in calls {
-        let Some(reply) = replies.next() else {
-            return Ok(());
-        };
-        let line = ReplyLine { call, reply };
-        writeln!(printer, "{line}")?;
+    replies: &[Reply],
+) -> fmt::Result
+    ensures ok { OnOk result (Passes (W.contents printer.old.writer.now) (W.contents printer.new.writer.now)
+        printer.old.chunk.bytes printer.new.chunk.bytes (replies_text calls.now replies.now)) }
+    ensures front { OnErr result (AppendsFront (W.contents printer.old.writer.now) (W.contents printer.new.writer.now)
+        (printer.old.chunk.bytes ++ replies_text calls.now replies.now)) }
+    ensures same { printer.new.writer.ghost_name ≡ printer.old.writer.ghost_name }
+{
+    for (call, reply) in calls.iter().zip(replies) {
+        print_reply(printer, call, reply)?;
     }
     Ok(())
 }
 
-/// What a quota holds, or what each of so many tenants holds.
-fn print_held<W: io::Write>(
+/// A call's reply. Bytes are printed one after the other, since they may be many.
+fn print_reply<W: io::Write>(
     printer: &mut Printer<'_, W>,
-    tenants: usize,
-    held: &Held,
-) -> fmt::Result {
+    call: &Call,
+    reply: &Reply,
+) -> fmt::Result
+    ensures ok { OnOk result (Passes (W.contents printer.old.writer.now) (W.contents printer.new.writer.now)
+        printer.old.chunk.bytes printer.new.chunk.bytes (line (reply_text call.now reply.now))) }
+    ensures front { OnErr result (AppendsFront (W.contents printer.old.writer.now) (W.contents printer.new.writer.now)
+        (printer.old.chunk.bytes ++ line (reply_text call.now reply.now))) }
+    ensures same { printer.new.writer.ghost_name ≡ printer.old.writer.ghost_name }
+{
+    match reply {
+        Reply::Bytes(bytes) => print_bytes(printer, bytes.as_slice()),
+        _ => printer.print_line(ReplyLine { call, reply }),
+    }
+}
+
+/// The line of bytes that were read.
+fn print_bytes<W: io::Write>(printer: &mut Printer<'_, W>, bytes: &[u8]) -> fmt::Result
+    ensures ok { OnOk result (Passes (W.contents printer.old.writer.now) (W.contents printer.new.writer.now)
+        printer.old.chunk.bytes printer.new.chunk.bytes (line (codes "bytes" ++ bytes_text bytes.now))) }
+    ensures front { OnErr result (AppendsFront (W.contents printer.old.writer.now) (W.contents printer.new.writer.now)
+        (printer.old.chunk.bytes ++ (line (codes "bytes" ++ bytes_text bytes.now)))) }
+    ensures same { printer.new.writer.ghost_name ≡ printer.old.writer.ghost_name }
+{
+    printer.print("bytes")?;
+    for byte in bytes {
+        printer.print(format_args!(" {byte}"))?;
+    }
+    printer.print("\n")
+}
+
+/// What a quota holds, or what each tenant of a pool holds.
+fn print_held<W: io::Write>(printer: &mut Printer<'_, W>, held: &Held) -> fmt::Result
+    ensures ok { OnOk result (Passes (W.contents printer.old.writer.now) (W.contents printer.new.writer.now)
+        printer.old.chunk.bytes printer.new.chunk.bytes (held_text held.now)) }
+    ensures front { OnErr result (AppendsFront (W.contents printer.old.writer.now) (W.contents printer.new.writer.now)
+        (printer.old.chunk.bytes ++ held_text held.now)) }
+    ensures same { printer.new.writer.ghost_name ≡ printer.old.writer.ghost_name }
+{
     match held {
         Held::Nothing => Ok(()),
-        Held::Quota(Amounts { bytes, elements }) => writeln!(printer, "held {bytes} {elements}"),
-        Held::Tenants(pool) => {
-            for index in 0..tenants {
-                let bytes = pool.held_bytes(index).unwrap_or(0);
-                let elements = pool.held_elements(index).unwrap_or(0);
-                writeln!(printer, "held {index} {bytes} {elements}")?;
-            }
-            Ok(())
+        Held::Quota(Amounts { bytes, elements }) => {
+            printer.print_line(format_args!("held {bytes} {elements}"))
         }
+        Held::Tenants(pool) => print_tenants(printer, pool),
     }
+}
+
+/// What each tenant of a pool holds.
+fn print_tenants<W: io::Write>(printer: &mut Printer<'_, W>, pool: &Pool) -> fmt::Result
+    ensures ok { OnOk result (Passes (W.contents printer.old.writer.now) (W.contents printer.new.writer.now)
+        printer.old.chunk.bytes printer.new.chunk.bytes (tenants_text pool.now.machines)) }
+    ensures front { OnErr result (AppendsFront (W.contents printer.old.writer.now) (W.contents printer.new.writer.now)
+        (printer.old.chunk.bytes ++ tenants_text pool.now.machines)) }
+    ensures same { printer.new.writer.ghost_name ≡ printer.old.writer.ghost_name }
+{
+    for index in 0..pool.len() {
+        let bytes = pool.held_bytes(index).unwrap();
+        let elements = pool.held_elements(index).unwrap();
+        printer.print_line(format_args!("held {index} {bytes} {elements}"))?;
+    }
+    Ok(())
 }
 
 /// How the replay ends if its lines can be printed.

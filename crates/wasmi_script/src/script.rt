@@ -2,6 +2,7 @@
 ghost use Rattle.std.specs.Prelude.{◌≡◌, [], ℕ, ◌+◌, ◌<◌, ◌≤◌, length, vec_len, IfOk, IfErr, OnOk, OnErr, ◌≢◌};
 ghost use Rattle.wasmi_script.specs.Acceptance.{Accepts};
 ghost use Rattle.wasmi_script.specs.Lines.{WritesScript};
+ghost use Rattle.wasmi_script.specs.Refusals.{IsParseError};
 ghost use Rattle.wasmi_script.specs.Openings.{Opens};
 ghost use Rattle.wasmi_script.specs.Headers.{NamesTenant};
 
@@ -183,6 +184,7 @@ fn tenant_named(words: &[&str], tenants: usize) -> Result<usize, LineError>
 pub fn parse(alloc: Global, bytes: &[u8]) -> Result<Script, ReplayError>
     ensures script { IfOk result (WritesScript bytes.now) }
     ensures calls { IfOk result (λ script. vec_len script.calls ≤ length bytes.now + 1) }
+    ensures refused { IfErr result (IsParseError bytes.now) }
     ensures line { IfErr result (λ error. (line : ℕ) → error ≡ ReplayError.BadCommand line → (0 < line) × (line ≤ length bytes.now + 1)) }
 {
     let mut script = Script {

@@ -5,6 +5,7 @@ use Rattle.wasmi_script.proofs.reading.read.Given as goal
 
 abbrev pub invariant-loop-turn : goal.invariant-loop-turn
 invariant-loop-turn g l = record {
+  turned : l._turn ≤ vec_len l.script;
   bounded : vec_len l.script ≤ LIMIT;
   taken : Consumes (g.R.Read.remaining l.initial.reader) (g.R.Read.remaining l.reader) l.script.items;
 }

@@ -1,0 +1,85 @@
+-- What a replay prints, and how it ends.
+use Rattle.std.specs.Prelude.{◌≡◌, ◌≤◌, ◌<◌, ◌⊎◌, ⊤, ℕ, List, [], ◌++◌, codes, flat_map, length, Option, Result, Ok, Err, IfOk, IfSome}
+use Rattle.std.specs.Io.KnownBytes.{Appends}
+use Rattle.std.specs.Fmt.{decimal}
+use Rattle.std.specs.List.{zip, enumerate_from}
+use Rattle.wasmi_meter.specs.declared.limiter.Kind.TheVariants.{Bytes, Elements}
+use Rattle.wasmi_core.specs.declared.calls.Call.{Call}
+use Rattle.wasmi_core.specs.declared.calls.Reply.{Reply}
+use Rattle.wasmi_core.specs.State.{State}
+use Rattle.wasmi_core.specs.Totals.{total}
+use Rattle.wasmi_script.specs.declared.script.Script.{Script}
+use Rattle.wasmi_script.specs.declared.replaying.Held.{Held}
+use Rattle.wasmi_script.specs.declared.replaying.Held.TheVariants.{Nothing, Quota, Tenants}
+use Rattle.wasmi_script.specs.declared.replaying.Replayed.{Replayed}
+use Rattle.wasmi_script.specs.declared.error.ReplayError.{ReplayError}
+use Rattle.wasmi_script.specs.declared.error.ReplayError.TheVariants.{BadCommand, TooLong, OutOfMemory, ReadFault}
+use Rattle.wasmi_script.specs.declared.reading.TheConstants.{LIMIT}
+use Rattle.wasmi_script.specs.declared.replaying.Status.{Status}
+use Rattle.wasmi_script.specs.declared.replaying.Status.TheVariants.{Fault}
+use Rattle.wasmi_script.specs.Lines.{WritesScript}
+use Rattle.wasmi_script.specs.Refusals.{IsFirstBadLine}
+use Rattle.wasmi_script.specs.Printing.{AppendsFront, line}
+use Rattle.wasmi_script.specs.Replays.{IsReplayOf}
+use Rattle.wasmi_script.specs.Status.{status_after}
+use Rattle.wasmi_script.specs.Texts.{reply_text, error_text}
+
+-- a line for each call, with its reply
+abbrev pub replies_text : List Call → List Reply → List ℕ
+replies_text calls replies = flat_map (λ turn. line (reply_text turn.0 turn.1)) (zip calls replies)
+
+-- all calls of a script, part after part
+abbrev pub calls_of : Script → List Call
+calls_of script = flat_map (λ part. part.calls.items) script.earlier.items ++ script.calls.items
+
+-- what a quota holds
+abbrev pub amounts_text : ℕ → ℕ → List ℕ
+amounts_text bytes elements = codes "held " ++ (decimal bytes ++ (codes " " ++ decimal elements))
+
+-- what the tenant of an index holds
+abbrev pub tenant_text : ℕ → State → List ℕ
+tenant_text index machine = codes "held " ++ (decimal index ++ (codes " " ++ (decimal (total machine Bytes) ++ (codes " " ++ decimal (total machine Elements)))))
+
+-- a line for each tenant
+abbrev pub tenants_text : List State → List ℕ
+tenants_text machines = flat_map (λ tenant. line (tenant_text tenant.0 tenant.1)) (enumerate_from 0 machines)
+
+-- what is held after a run
+abbrev pub held_text : Held → List ℕ
+held_text Nothing = []
+held_text (Quota held) = line (amounts_text held.bytes held.elements)
+held_text (Tenants pool) = tenants_text pool.machines
+
+-- a script with its replies, or why it isn't run
+abbrev pub Outcome : Type 0
+Outcome = Result Replayed ReplayError
+
+-- there is a reply for each call
+abbrev pub HasReplies : Outcome → Type 0
+HasReplies outcome = IfOk outcome (λ replayed. length (calls_of replayed.script) ≡ length replayed.ran.replies.items)
+
+-- what is printed: the replies and what is held then, or why the script isn't run
+abbrev pub outcome_text : Outcome → List ℕ
+outcome_text (Ok replayed) = replies_text (calls_of replayed.script) replayed.ran.replies.items ++ held_text replayed.ran.held
+outcome_text (Err error) = line (error_text error)
+
+-- The outcome of the bytes of a reader: a run of the script that they write, a line that is no command, or that they
+-- are too many. Memory may always be wanting, and the reader may fail.
+abbrev pub IsOutcomeOf : List ℕ → Outcome → Type 0
+IsOutcomeOf bytes (Ok replayed) = (length bytes ≤ LIMIT) × WritesScript bytes replayed.script × IsReplayOf replayed.script replayed.ran
+IsOutcomeOf bytes (Err (BadCommand number)) = (length bytes ≤ LIMIT) × IsFirstBadLine bytes number
+IsOutcomeOf bytes (Err TooLong) = LIMIT < length bytes
+IsOutcomeOf bytes (Err OutOfMemory) = ⊤
+IsOutcomeOf bytes (Err ReadFault) = ⊤
+
+-- the writer has got the whole text and the status is the outcome's, or it has got a front of the text and failed
+abbrev pub Prints : Option (List ℕ) → Option (List ℕ) → Outcome → Status → Type 0
+Prints old new outcome status =
+    (Appends old new (outcome_text outcome) × (status ≡ status_after outcome)) ⊎ (AppendsFront old new (outcome_text outcome) × (status ≡ Fault))
+
+-- the bytes of a reader have an outcome, and a writer has got it
+pub record Replays (given old new : Option (List ℕ)) (status : Status) : Type 0 where
+  pub outcome : Outcome
+  pub of_bytes : IfSome given (λ bytes. IsOutcomeOf bytes outcome)
+  pub replies : HasReplies outcome
+  pub printed : Prints old new outcome status
