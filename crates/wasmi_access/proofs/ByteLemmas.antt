@@ -1,13 +1,15 @@
 -- The number of a list of bytes.
 use Rattle.std.proofs.Common.{◌≡◌, ℕ, zero, suc, ◌+◌, ◌*◌, ◌/◌, ◌%◌, ◌^◌, ◌<◌, List, [], ◌∷◌, ◌++◌, length, take, get_or, refl, ap, sym, subst, ◌∙◌, arith, div-one, mod-eq_of_lt, lit<, mul-one, mul_comm, mul_assoc}
 use Rattle.std.proofs.Math.Nat.{div-div-eq-div-mul, pow-suc, mod-one}
-use Rattle.std.specs.Prelude.{ℤ}
+use Rattle.std.specs.Prelude.{ℤ, pos}
 use Rattle.std.proofs.lemmas.Int.{to_z-of_z, of_z-to_z}
 use mir.Val.{SFits, bits}
 use Rattle.std.proofs.lemmas.List.{length-take-le, take_all}
 use Rattle.std.proofs.Math.Seq.{take-suc}
 use Rattle.std.specs.Int.{bytes_low_first, byte_at, byte_worth, sum_through, from_le_bytes, to_le_bytes, Width, cast_signed, cast_unsigned, w8, w16, w32, w64, w128}
 use Rattle.wasmi_types.specs.Bytes.{number_of, le_bytes}
+use Rattle.wasmi_types.specs.Wrapping.{wrap}
+use Rattle.wasmi_access.proofs.WrapLemmas.{wrap_unsigned, wrap_signed}
 use lib.Arith.{mod-mul}
 
 -- ---- the bytes of a number
@@ -105,16 +107,32 @@ number_of-whole bs k e = sum_through-number_of bs k (omega arith) ∙ ap number_
 pub le_bytes-whole : (bs : List ℕ) (k n : ℕ) → length bs ≡ suc k → ((i : ℕ) → get_or bs i 0 < 256) → n ≡ sum_through (λ i. byte_worth i (get_or bs i 0)) k → le_bytes (suc k) n ≡ bs
 le_bytes-whole bs k n e h is = ap (le_bytes (suc k)) (is ∙ number_of-whole bs k e) ∙ le_bytes-number_of bs (suc k) e h
 
--- the same of a signed number, as the code's calls say it
-pub le_bytes-signed : (w : Width) (bs : List ℕ) (k : ℕ) (z : ℤ) → 256 ^ suc k ≡ 2 ^ bits w → SFits w z → length bs ≡ suc k → ((i : ℕ) → get_or bs i 0 < 256)
-    → z ≡ cast_signed w (sum_through (λ i. byte_worth i (get_or bs i 0)) k) → le_bytes (suc k) (cast_unsigned w (cast_signed w (cast_unsigned w z))) ≡ bs
-le_bytes-signed w bs k z wide f e h is =
+-- of a number of an unsigned type
+pub le_bytes-unsigned : (w : Width) (bs : List ℕ) (k n : ℕ) → n < 2 ^ bits w → length bs ≡ suc k → ((i : ℕ) → get_or bs i 0 < 256)
+    → n ≡ sum_through (λ i. byte_worth i (get_or bs i 0)) k → le_bytes (suc k) (wrap w (pos n)) ≡ bs
+le_bytes-unsigned w bs k n below e h is = ap (le_bytes (suc k)) (wrap_unsigned w n below) ∙ le_bytes-whole bs k n e h is
+
+-- of a number of a signed type, as the code's calls say it
+pub number_of-signed : (w : Width) (bs : List ℕ) (k : ℕ) (z : ℤ) → 256 ^ suc k ≡ 2 ^ bits w → SFits w z → length bs ≡ suc k → ((i : ℕ) → get_or bs i 0 < 256)
+    → z ≡ cast_signed w (sum_through (λ i. byte_worth i (get_or bs i 0)) k) → wrap w (cast_signed w (cast_unsigned w z)) ≡ number_of bs
+number_of-signed w bs k z wide f e h is =
     let whole = sum_through (λ i. byte_worth i (get_or bs i 0)) k in
     let below : whole < 2 ^ bits w =
     let P : ℕ → Type 0 = λ m. m < 2 ^ bits w in
     let Q : ℕ → Type 0 = λ m. number_of bs < m in
     subst P (sym (number_of-whole bs k e)) (subst Q (ap (λ j. 256 ^ j) e ∙ wide) (number_of-below bs h)) in
-    ap (λ y. le_bytes (suc k) (cast_unsigned w y)) (to_z-of_z w z f ∙ is) ∙ ap (le_bytes (suc k)) (of_z-to_z w whole below) ∙ le_bytes-whole bs k whole e h refl
+    ap (wrap w) (to_z-of_z w z f) ∙ wrap_signed w z f ∙ ap (cast_unsigned w) is ∙ of_z-to_z w whole below ∙ number_of-whole bs k e
+
+pub le_bytes-signed : (w : Width) (bs : List ℕ) (k : ℕ) (z : ℤ) → 256 ^ suc k ≡ 2 ^ bits w → SFits w z → length bs ≡ suc k → ((i : ℕ) → get_or bs i 0 < 256)
+    → z ≡ cast_signed w (sum_through (λ i. byte_worth i (get_or bs i 0)) k) → le_bytes (suc k) (wrap w (cast_signed w (cast_unsigned w z))) ≡ bs
+le_bytes-signed w bs k z wide f e h is = ap (le_bytes (suc k)) (number_of-signed w bs k z wide f e h is) ∙ le_bytes-number_of bs (suc k) e h
+
+-- the bytes of an unsigned number, and of a signed one as the code's calls say it, are those of the number modulo 2 to the power w
+pub bytes-unsigned : (w : Width) (n : ℕ) (bs : List ℕ) → n < 2 ^ bits w → bs ≡ to_le_bytes w n → bs ≡ to_le_bytes w (wrap w (pos n))
+bytes-unsigned w n bs h e = e ∙ ap (to_le_bytes w) (sym (wrap_unsigned w n h))
+
+pub bytes-signed : (w : Width) (z : ℤ) (bs : List ℕ) → SFits w z → bs ≡ to_le_bytes w (cast_unsigned w (cast_signed w (cast_unsigned w z))) → bs ≡ to_le_bytes w (wrap w z)
+bytes-signed w z bs f e = e ∙ ap (λ y. to_le_bytes w (cast_unsigned w y)) (to_z-of_z w z f) ∙ ap (to_le_bytes w) (sym (wrap_signed w z f))
 
 pub number_of_whole_1 : (bs : List ℕ) → length bs ≡ 1 → from_le_bytes w8 bs ≡ number_of bs
 number_of_whole_1 bs e = number_of-whole bs 0 e

@@ -19,6 +19,10 @@ value_of_bytes value None = Err MemoryOutOfBounds
 abbrev pub loaded : {V : Type 0} → ℕ → (ℕ → V) → List ℕ → ℕ → Result V TrapCode
 loaded n value memory a = value_of_bytes value (accessed a (at memory a n))
 
+-- an instruction answers this, where `number` reads its value
+abbrev pub Answers : {V N : Type 0} → (V → N) → Result V TrapCode → Result N TrapCode → Type 0
+Answers number answer expected = MatchResult answer (λ value. expected ≡ Ok (number value)) (λ trap. expected ≡ Err trap)
+
 -- a store of ys at a: the memory has them there, or the store traps and the memory is the same
 abbrev pub IsStore : {V : Type 0} → List ℕ → ℕ → List ℕ → List ℕ → Result V TrapCode → Type 0
 IsStore old a ys new answer = MatchResult answer

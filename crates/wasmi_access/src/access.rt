@@ -4,14 +4,23 @@
 //! sum for its address. Upstream: the module `memory::access`, private there. Core specification: memory instructions, and
 //! the storage of integers under numerics.
 
-ghost use Rattle.std.specs.Prelude.{◌≡◌, ℕ, ◌+◌, ◌^◌, ◌≤◌, List, MatchResult, length, Some};
+ghost use Rattle.std.specs.Prelude.{◌≡◌, ℕ, ◌+◌, ◌*◌, ◌^◌, ◌≤◌, List, MatchResult, length, Some};
 ghost use Rattle.std.specs.Int.{int_wrap};
+ghost use mir.Val.{bits};
 ghost use Rattle.wasmi_types.specs.Bytes.{number_of, le_bytes};
 ghost use Rattle.wasmi_types.specs.Access.{overwrite};
-ghost use Rattle.wasmi_access.specs.LoadStore.{loaded, IsStore, IsCopy};
+ghost use Rattle.wasmi_types.specs.Wrapping.{wrap};
+ghost use Rattle.wasmi_raw.specs.Number.{number_of_bits};
+ghost use Rattle.wasmi_access.specs.LoadStore.{loaded, Answers, IsStore, IsCopy};
 
 use wasmi_raw::Number;
 use wasmi_types::TrapCode;
+
+mod sealed {
+    pub trait Sealed {}
+
+    impl<const N: usize> Sealed for [u8; N] {}
+}
 
 /// A conversion to the low bits of a number, as many as `T` has.
 ///
@@ -20,7 +29,8 @@ pub trait WrapInto<T: Number>: Number {
     /// The number of `T` that differs from that of `self` by a multiple of 2 to the power of the
     /// width of `T`.
     fn wrap_into(self) -> T
-        ensures { result ≡ T.of_number (int_wrap T.width (Self.number self)) };
+        ensures value { result ≡ T.of_number (int_wrap T.width (Self.number self)) }
+        ensures low_bits { wrap T.width (T.number result) ≡ wrap T.width (Self.number self) };
 }
 
 /// A conversion to a wider number.
@@ -33,8 +43,8 @@ pub trait ExtendInto<T: Number>: Number {
         ensures { result ≡ T.of_number (Self.number self) };
 }
 
-/// An array of bytes, as the contracts of this module see it.
-pub trait ByteArray {
+/// An array of bytes, as the contracts of this module see it. The arrays `[u8; N]` have it, and no other type can.
+pub trait ByteArray: sealed::Sealed {
     /// How many bytes there are.
     ghost LEN: { ℕ };
 
@@ -111,26 +121,25 @@ fn put<const N: usize>(memory: &mut [u8], address: usize, bytes: &[u8; N])
 /// A number that is stored in little-endian bytes.
 ///
 /// Upstream: `LittleEndianConvert`, private there.
-pub trait LittleEndianConvert {
+pub trait LittleEndianConvert: Number {
     /// As many bytes as the number has.
     type Bytes: Default + Drop + LoadInto + StoreFrom;
 
-    /// The value read as an unsigned number of that many bytes.
-    ghost image: { Self → ℕ };
-
-    /// The value of such a number.
-    ghost of_image: { ℕ → Self };
-
-    /// The bytes of `self`, the lowest first.
+    /// The bytes of `self`, the lowest first: those of its number modulo 2 to the power of its width.
     fn into_le_bytes(self) -> Self::Bytes
-        ensures bytes { Self.Bytes.bytes_of result ≡ le_bytes Self.Bytes.LEN (image self) }
-        ensures number { number_of (Self.Bytes.bytes_of result) ≡ image self }
-        ensures round_trip { of_image (number_of (Self.Bytes.bytes_of result)) ≡ self };
+        ensures bytes { Self.Bytes.bytes_of result ≡ le_bytes Self.Bytes.LEN (wrap Self.width (Self.number self)) }
+        ensures number { number_of (Self.Bytes.bytes_of result) ≡ wrap Self.width (Self.number self) }
+        ensures round_trip { Self.of_number (number_of_bits Self.is_signed Self.width (number_of (Self.Bytes.bytes_of result))) ≡ self };
 
     /// The value of some bytes, the lowest first.
     fn from_le_bytes(bytes: Self::Bytes) -> Self
-        ensures value { result ≡ of_image (number_of (Self.Bytes.bytes_of bytes)) }
-        ensures round_trip { le_bytes Self.Bytes.LEN (image result) ≡ Self.Bytes.bytes_of bytes };
+        ensures value { result ≡ Self.of_number (number_of_bits Self.is_signed Self.width (number_of (Self.Bytes.bytes_of bytes))) }
+        ensures read { Self.number result ≡ number_of_bits Self.is_signed Self.width (number_of (Self.Bytes.bytes_of bytes)) }
+        ensures number { wrap Self.width (Self.number result) ≡ number_of (Self.Bytes.bytes_of bytes) }
+        ensures round_trip { le_bytes Self.Bytes.LEN (wrap Self.width (Self.number result)) ≡ Self.Bytes.bytes_of bytes };
+
+    /// The bytes have the bits of the number.
+    ghost is_as_wide: { Self.Bytes.LEN * 8 ≡ bits Self.width };
 }
 
 // The address of an access, where it is below 2 to the power 64.
@@ -152,7 +161,8 @@ fn effective_address(ptr: u64, offset: u64) -> Result<usize, TrapCode>
 pub fn load<T>(memory: &[u8], ptr: u64, offset: u64) -> Result<T, TrapCode>
 where
     T: LittleEndianConvert,
-    ensures { result ≡ loaded T.Bytes.LEN T.of_image memory.now (ptr + offset) }
+    ensures value { result ≡ loaded T.Bytes.LEN (λ n. T.of_number (number_of_bits T.is_signed T.width n)) memory.now (ptr + offset) }
+    ensures number { Answers T.number result (loaded T.Bytes.LEN (number_of_bits T.is_signed T.width) memory.now (ptr + offset)) }
 {
     let address = effective_address(ptr, offset)?;
     load_at::<T>(memory, address)
@@ -164,7 +174,8 @@ where
 pub fn load_at<T>(memory: &[u8], address: usize) -> Result<T, TrapCode>
 where
     T: LittleEndianConvert,
-    ensures { result ≡ loaded T.Bytes.LEN T.of_image memory.now address }
+    ensures value { result ≡ loaded T.Bytes.LEN (λ n. T.of_number (number_of_bits T.is_signed T.width n)) memory.now address }
+    ensures number { Answers T.number result (loaded T.Bytes.LEN (number_of_bits T.is_signed T.width) memory.now address) }
 {
     let mut buffer = T::Bytes::default();
     buffer.load_into(memory, address)?;
@@ -178,7 +189,7 @@ pub fn load_extend<T, U>(memory: &[u8], ptr: u64, offset: u64) -> Result<T, Trap
 where
     T: Number,
     U: LittleEndianConvert + ExtendInto<T>,
-    ensures { result ≡ loaded U.Bytes.LEN (λ n. T.of_number (U.number (U.of_image n))) memory.now (ptr + offset) }
+    ensures { result ≡ loaded U.Bytes.LEN (λ n. T.of_number (number_of_bits U.is_signed U.width n)) memory.now (ptr + offset) }
 {
     let address = effective_address(ptr, offset)?;
     load_extend_at::<T, U>(memory, address)
@@ -191,7 +202,7 @@ pub fn load_extend_at<T, U>(memory: &[u8], address: usize) -> Result<T, TrapCode
 where
     T: Number,
     U: LittleEndianConvert + ExtendInto<T>,
-    ensures { result ≡ loaded U.Bytes.LEN (λ n. T.of_number (U.number (U.of_image n))) memory.now address }
+    ensures { result ≡ loaded U.Bytes.LEN (λ n. T.of_number (number_of_bits U.is_signed U.width n)) memory.now address }
 {
     let value = load_at::<U>(memory, address)?;
     Ok(value.extend_into())
@@ -203,7 +214,7 @@ where
 pub fn store<T>(memory: &mut [u8], ptr: u64, offset: u64, value: T) -> Result<(), TrapCode>
 where
     T: LittleEndianConvert + Drop,
-    ensures { IsStore memory.old (ptr + offset) (le_bytes T.Bytes.LEN (T.image value)) memory.new result }
+    ensures { IsStore memory.old (ptr + offset) (le_bytes T.Bytes.LEN (wrap T.width (T.number value))) memory.new result }
 {
     let address = effective_address(ptr, offset)?;
     store_at::<T>(memory, address, value)
@@ -215,7 +226,7 @@ where
 pub fn store_at<T>(memory: &mut [u8], address: usize, value: T) -> Result<(), TrapCode>
 where
     T: LittleEndianConvert,
-    ensures { IsStore memory.old address (le_bytes T.Bytes.LEN (T.image value)) memory.new result }
+    ensures { IsStore memory.old address (le_bytes T.Bytes.LEN (wrap T.width (T.number value))) memory.new result }
 {
     let buffer = value.into_le_bytes();
     buffer.store_from(memory, address)
@@ -227,8 +238,8 @@ where
 pub fn store_wrap<T, U>(memory: &mut [u8], ptr: u64, offset: u64, value: T) -> Result<(), TrapCode>
 where
     T: WrapInto<U> + Drop,
-    U: LittleEndianConvert + Number,
-    ensures { IsStore memory.old (ptr + offset) (le_bytes U.Bytes.LEN (U.image (U.of_number (int_wrap U.width (T.number value))))) memory.new result }
+    U: LittleEndianConvert,
+    ensures { IsStore memory.old (ptr + offset) (le_bytes U.Bytes.LEN (wrap U.width (T.number value))) memory.new result }
 {
     let address = effective_address(ptr, offset)?;
     store_wrap_at::<T, U>(memory, address, value)
@@ -240,8 +251,8 @@ where
 pub fn store_wrap_at<T, U>(memory: &mut [u8], address: usize, value: T) -> Result<(), TrapCode>
 where
     T: WrapInto<U>,
-    U: LittleEndianConvert + Number,
-    ensures { IsStore memory.old address (le_bytes U.Bytes.LEN (U.image (U.of_number (int_wrap U.width (T.number value))))) memory.new result }
+    U: LittleEndianConvert,
+    ensures { IsStore memory.old address (le_bytes U.Bytes.LEN (wrap U.width (T.number value))) memory.new result }
 {
     store_at::<U>(memory, address, value.wrap_into())
 }

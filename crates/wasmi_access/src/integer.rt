@@ -1,15 +1,11 @@
 //! The integers of 8 to 128 bits in little-endian bytes.
 
-ghost use Rattle.std.specs.Int.{w8, w16, w32, w64, w128, cast_signed, cast_unsigned};
+ghost use Rattle.std.specs.Prelude.{refl};
 
 use crate::access::LittleEndianConvert;
 
 impl LittleEndianConvert for u8 {
     type Bytes = [u8; 1];
-
-    ghost image = { λ n. n };
-
-    ghost of_image = { λ n. n };
 
     #[inline]
     #[tactic(auto, using(crate::proofs::ByteLemmas::number_of_single))]
@@ -22,14 +18,12 @@ impl LittleEndianConvert for u8 {
     fn from_le_bytes(bytes: [u8; 1]) -> u8 {
         u8::from_le_bytes(bytes)
     }
+
+    ghost is_as_wide = { refl };
 }
 
 impl LittleEndianConvert for u16 {
     type Bytes = [u8; 2];
-
-    ghost image = { λ n. n };
-
-    ghost of_image = { λ n. n };
 
     #[inline]
     #[tactic(auto, using(crate::proofs::ByteLemmas::number_of_bytes_2))]
@@ -42,14 +36,12 @@ impl LittleEndianConvert for u16 {
     fn from_le_bytes(bytes: [u8; 2]) -> u16 {
         u16::from_le_bytes(bytes)
     }
+
+    ghost is_as_wide = { refl };
 }
 
 impl LittleEndianConvert for u32 {
     type Bytes = [u8; 4];
-
-    ghost image = { λ n. n };
-
-    ghost of_image = { λ n. n };
 
     #[inline]
     #[tactic(auto, using(crate::proofs::ByteLemmas::number_of_bytes_4))]
@@ -62,14 +54,12 @@ impl LittleEndianConvert for u32 {
     fn from_le_bytes(bytes: [u8; 4]) -> u32 {
         u32::from_le_bytes(bytes)
     }
+
+    ghost is_as_wide = { refl };
 }
 
 impl LittleEndianConvert for u64 {
     type Bytes = [u8; 8];
-
-    ghost image = { λ n. n };
-
-    ghost of_image = { λ n. n };
 
     #[inline]
     #[tactic(auto, using(crate::proofs::ByteLemmas::number_of_bytes_8))]
@@ -82,14 +72,12 @@ impl LittleEndianConvert for u64 {
     fn from_le_bytes(bytes: [u8; 8]) -> u64 {
         u64::from_le_bytes(bytes)
     }
+
+    ghost is_as_wide = { refl };
 }
 
 impl LittleEndianConvert for u128 {
     type Bytes = [u8; 16];
-
-    ghost image = { λ n. n };
-
-    ghost of_image = { λ n. n };
 
     #[inline]
     #[tactic(auto, using(crate::proofs::ByteLemmas::number_of_bytes_16))]
@@ -102,14 +90,12 @@ impl LittleEndianConvert for u128 {
     fn from_le_bytes(bytes: [u8; 16]) -> u128 {
         u128::from_le_bytes(bytes)
     }
+
+    ghost is_as_wide = { refl };
 }
 
 impl LittleEndianConvert for i8 {
     type Bytes = [u8; 1];
-
-    ghost image = { cast_unsigned w8 };
-
-    ghost of_image = { cast_signed w8 };
 
     #[inline]
     #[tactic(auto, using(crate::proofs::ByteLemmas::number_of_single))]
@@ -122,14 +108,12 @@ impl LittleEndianConvert for i8 {
     fn from_le_bytes(bytes: [u8; 1]) -> i8 {
         i8::from_le_bytes(bytes)
     }
+
+    ghost is_as_wide = { refl };
 }
 
 impl LittleEndianConvert for i16 {
     type Bytes = [u8; 2];
-
-    ghost image = { cast_unsigned w16 };
-
-    ghost of_image = { cast_signed w16 };
 
     #[inline]
     #[tactic(auto, using(crate::proofs::ByteLemmas::number_of_bytes_2))]
@@ -142,14 +126,12 @@ impl LittleEndianConvert for i16 {
     fn from_le_bytes(bytes: [u8; 2]) -> i16 {
         i16::from_le_bytes(bytes)
     }
+
+    ghost is_as_wide = { refl };
 }
 
 impl LittleEndianConvert for i32 {
     type Bytes = [u8; 4];
-
-    ghost image = { cast_unsigned w32 };
-
-    ghost of_image = { cast_signed w32 };
 
     #[inline]
     #[tactic(auto, using(crate::proofs::ByteLemmas::number_of_bytes_4))]
@@ -162,14 +144,12 @@ impl LittleEndianConvert for i32 {
     fn from_le_bytes(bytes: [u8; 4]) -> i32 {
         i32::from_le_bytes(bytes)
     }
+
+    ghost is_as_wide = { refl };
 }
 
 impl LittleEndianConvert for i64 {
     type Bytes = [u8; 8];
-
-    ghost image = { cast_unsigned w64 };
-
-    ghost of_image = { cast_signed w64 };
 
     #[inline]
     #[tactic(auto, using(crate::proofs::ByteLemmas::number_of_bytes_8))]
@@ -182,14 +162,12 @@ impl LittleEndianConvert for i64 {
     fn from_le_bytes(bytes: [u8; 8]) -> i64 {
         i64::from_le_bytes(bytes)
     }
+
+    ghost is_as_wide = { refl };
 }
 
 impl LittleEndianConvert for i128 {
     type Bytes = [u8; 16];
-
-    ghost image = { cast_unsigned w128 };
-
-    ghost of_image = { cast_signed w128 };
 
     #[inline]
     #[tactic(auto, using(crate::proofs::ByteLemmas::number_of_bytes_16))]
@@ -202,4 +180,6 @@ impl LittleEndianConvert for i128 {
     fn from_le_bytes(bytes: [u8; 16]) -> i128 {
         i128::from_le_bytes(bytes)
     }
+
+    ghost is_as_wide = { refl };
 }

@@ -298,6 +298,7 @@ pub fn i64_store32_at(memory: &mut [u8], address: usize, value: i64) -> Result<(
 
 /// `i32.store`: the 32 bits of the value.
 #[inline]
+#[tactic(auto, using(crate::proofs::WrapLemmas::whole_32))]
 pub fn store32(memory: &mut [u8], ptr: u64, offset: u64, value: u32) -> Result<(), TrapCode>
     ensures { IsStore memory.old (ptr + offset) (le_bytes 4 value) memory.new result }
 {
@@ -306,6 +307,7 @@ pub fn store32(memory: &mut [u8], ptr: u64, offset: u64, value: u32) -> Result<(
 
 /// `i32.store` at an address.
 #[inline]
+#[tactic(auto, using(crate::proofs::WrapLemmas::whole_32))]
 pub fn store32_at(memory: &mut [u8], address: usize, value: u32) -> Result<(), TrapCode>
     ensures { IsStore memory.old address (le_bytes 4 value) memory.new result }
 {
@@ -314,6 +316,7 @@ pub fn store32_at(memory: &mut [u8], address: usize, value: u32) -> Result<(), T
 
 /// `i64.store`: the 64 bits of the value.
 #[inline]
+#[tactic(auto, using(crate::proofs::WrapLemmas::whole_64))]
 pub fn store64(memory: &mut [u8], ptr: u64, offset: u64, value: u64) -> Result<(), TrapCode>
     ensures { IsStore memory.old (ptr + offset) (le_bytes 8 value) memory.new result }
 {
@@ -322,6 +325,7 @@ pub fn store64(memory: &mut [u8], ptr: u64, offset: u64, value: u64) -> Result<(
 
 /// `i64.store` at an address.
 #[inline]
+#[tactic(auto, using(crate::proofs::WrapLemmas::whole_64))]
 pub fn store64_at(memory: &mut [u8], address: usize, value: u64) -> Result<(), TrapCode>
     ensures { IsStore memory.old address (le_bytes 8 value) memory.new result }
 {

@@ -1,2 +1,3 @@
-pub mod Vector
+pub mod Number
 pub mod RawVal
+pub mod Vector

@@ -3,12 +3,14 @@
 -- bits. std's words for the two readings: `int_wrap w z` is the number of the signed type that differs from z by a multiple
 -- of 2 to the power `bits w` (the standard's `wrap` and `extend_s`), `cast_unsigned w z` the unsigned number with the bits
 -- of z, `cast_signed w n` the signed number with the bits of n.
-use Rattle.std.specs.Prelude.{ℕ, ◌+◌, ◌-◌, ◌*◌, ◌/◌, ◌%◌, ◌^◌, ℤ, pos, ◌+ℤ◌, ◌-ℤ◌, ◌*ℤ◌, int_div, int_rem, int_lt, int_le, nat_lt, nat_le, ◌==◌, not, Bool, bit_and, bit_or, bit_xor, count_ones, Result, Ok, Err, if◌then◌else◌, MatchResult, ◌≡◌}
+use Rattle.std.specs.Prelude.{ℕ, ◌+◌, ◌-◌, ◌*◌, ◌/◌, ◌%◌, ◌^◌, ℤ, pos, ◌+ℤ◌, ◌-ℤ◌, ◌*ℤ◌, int_div, int_rem, int_lt, int_le, nat_lt, nat_le, ◌==◌, not, Bool, bit_and, bit_or, bit_xor, count_ones, Result, Ok, Err, if◌then◌else◌}
 use Rattle.std.specs.Int.{Width, cast_signed, cast_unsigned, int_wrap, int_shr, leading_zeros, trailing_zeros}
 use Rattle.std.specs.Ordering.{int_eq}
 use mir.Val.{bits}
 use Rattle.wasmi_types.specs.declared.trap.TrapCode.{TrapCode}
 use Rattle.wasmi_types.specs.declared.trap.TrapCode.TheVariants.{IntegerDivisionByZero, IntegerOverflow}
+-- a call answers what the table says, where a function reads the number of its value
+pub use Rattle.wasmi_access.specs.LoadStore.{Answers}
 
 -- ---- sums and products
 
@@ -121,9 +123,3 @@ ige_s x y = int_le y x
 
 abbrev pub ige_u : ℕ → ℕ → Bool
 ige_u m n = nat_le n m
-
--- ---- answers
-
--- a call answers what the table says, where `number` reads its value
-abbrev pub Answers : {V N : Type 0} → (V → N) → Result V TrapCode → Result N TrapCode → Type 0
-Answers number answer expected = MatchResult answer (λ value. expected ≡ Ok (number value)) (λ trap. expected ≡ Err trap)

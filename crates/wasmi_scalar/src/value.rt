@@ -2,7 +2,7 @@
 //!
 //! Upstream: the module `value`, private there. Core specification: integer operations, under numerics.
 
-ghost use Rattle.std.specs.Prelude.{◌≡◌, ℕ};
+ghost use Rattle.std.specs.Prelude.{◌≡◌, false, refl, unsigned_abs};
 ghost use Rattle.std.specs.Int.{int_wrap};
 ghost use Rattle.wasmi_scalar.specs.Numerics.{Answers, idiv_s, idiv_u, irem_s, irem_u, ishl, ishr_s, ishr_u, irotl, irotr, iclz, ictz, ipopcnt, ieqz};
 
@@ -25,7 +25,7 @@ pub trait SignExtendFrom<T: Number>: Number {
 /// Upstream: `Unsigned`, private there.
 pub trait Unsigned {
     /// The unsigned type.
-    type Uint;
+    type Uint: Number;
 }
 
 impl Unsigned for i32 {
@@ -40,9 +40,6 @@ impl Unsigned for i64 {
 ///
 /// Upstream: `Integer`, private there. The amount of a shift or a rotation is taken modulo the width.
 pub trait Integer: Unsigned + Number {
-    /// The number of a value of the unsigned type.
-    ghost unsigned_number: { Self.Uint → ℕ };
-
     /// Whether the number is 0.
     fn is_zero(self) -> bool
         ensures { result ≡ ieqz (Self.number self) };
@@ -69,7 +66,8 @@ pub trait Integer: Unsigned + Number {
 
     /// Shifts to the right, filling with zeros.
     fn shr_u(lhs: Self::Uint, rhs: Self::Uint) -> Self::Uint
-        ensures { unsigned_number result ≡ ishr_u Self.width (unsigned_number lhs) (unsigned_number rhs) };
+        ensures { unsigned_abs (Self.Uint.number result)
+            ≡ ishr_u Self.width (unsigned_abs (Self.Uint.number lhs)) (unsigned_abs (Self.Uint.number rhs)) };
 
     /// Rotates to the left.
     fn rotl(lhs: Self, rhs: Self) -> Self
@@ -89,7 +87,8 @@ pub trait Integer: Unsigned + Number {
     ///
     /// `IntegerDivisionByZero` for a divisor of 0.
     fn div_u(lhs: Self::Uint, rhs: Self::Uint) -> Result<Self::Uint, TrapCode>
-        ensures { Answers unsigned_number result (idiv_u (unsigned_number lhs) (unsigned_number rhs)) };
+        ensures { Answers (λ n. unsigned_abs (Self.Uint.number n)) result
+            (idiv_u (unsigned_abs (Self.Uint.number lhs)) (unsigned_abs (Self.Uint.number rhs))) };
 
     /// The remainder, with the sign of the dividend; 0 for the least number by -1.
     ///
@@ -101,12 +100,17 @@ pub trait Integer: Unsigned + Number {
     ///
     /// `IntegerDivisionByZero` for a divisor of 0.
     fn rem_u(lhs: Self::Uint, rhs: Self::Uint) -> Result<Self::Uint, TrapCode>
-        ensures { Answers unsigned_number result (irem_u (unsigned_number lhs) (unsigned_number rhs)) };
+        ensures { Answers (λ n. unsigned_abs (Self.Uint.number n)) result
+            (irem_u (unsigned_abs (Self.Uint.number lhs)) (unsigned_abs (Self.Uint.number rhs))) };
+
+    /// The unsigned type has the width.
+    ghost is_as_wide: { Self.Uint.width ≡ Self.width };
+
+    /// Its numbers are unsigned.
+    ghost is_of_unsigned: { Self.Uint.is_signed ≡ false };
 }
 
 impl Integer for i32 {
-    ghost unsigned_number = { λ n. n };
-
     #[inline]
     fn is_zero(self) -> bool {
         self == 0
@@ -177,11 +181,13 @@ impl Integer for i32 {
     fn rem_u(lhs: u32, rhs: u32) -> Result<u32, TrapCode> {
         lhs.checked_rem(rhs).ok_or(TrapCode::IntegerDivisionByZero)
     }
+
+    ghost is_as_wide = { refl };
+
+    ghost is_of_unsigned = { refl };
 }
 
 impl Integer for i64 {
-    ghost unsigned_number = { λ n. n };
-
     #[inline]
     fn is_zero(self) -> bool {
         self == 0
@@ -252,6 +258,10 @@ impl Integer for i64 {
     fn rem_u(lhs: u64, rhs: u64) -> Result<u64, TrapCode> {
         lhs.checked_rem(rhs).ok_or(TrapCode::IntegerDivisionByZero)
     }
+
+    ghost is_as_wide = { refl };
+
+    ghost is_of_unsigned = { refl };
 }
 
 impl SignExtendFrom<i8> for i32 {

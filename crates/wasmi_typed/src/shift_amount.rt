@@ -7,6 +7,38 @@ ghost use Rattle.wasmi_typed.specs.ShiftAmount.{shift_amount};
 use std::marker::Model;
 use wasmi_raw::Number;
 
+mod sealed {
+    pub trait Sealed {}
+
+    impl Sealed for i8 {}
+
+    impl Sealed for u8 {}
+
+    impl Sealed for i16 {}
+
+    impl Sealed for u16 {}
+
+    impl Sealed for i32 {}
+
+    impl Sealed for u32 {}
+
+    impl Sealed for i64 {}
+
+    impl Sealed for u64 {}
+
+    impl Sealed for i128 {}
+
+    impl Sealed for u128 {}
+
+    impl Sealed for [u8; 16] {}
+
+    impl Sealed for [u16; 8] {}
+
+    impl Sealed for [u32; 4] {}
+
+    impl Sealed for [u64; 2] {}
+}
+
 /// By how many bits a number is shifted. Contracts see it as that number.
 ///
 /// Upstream: `wasmi_core::ShiftAmount`.
@@ -43,8 +75,9 @@ impl From<ShiftAmount> for u8 {
 
 /// A number whose bits are shifted, or a vector the bits of whose lanes are.
 ///
-/// Upstream: `wasmi_core::IntoShiftAmount`.
-pub trait IntoShiftAmount {
+/// The ten integer types have it and the arrays of the unsigned lanes of a vector, and no other type can. Upstream:
+/// `wasmi_core::IntoShiftAmount`, which other types can have.
+pub trait IntoShiftAmount: sealed::Sealed {
     /// The type in which the amount is given.
     type ShiftSource: Copy + Number;
 
