@@ -95,8 +95,8 @@ where
     }
 }
 
-/// An index of a lane, which is made of its number and gives it back.
-pub trait LaneIndex: Copy + Into<u8> {
+/// An index of a lane, which is made of its number and gives it back. Each number below `COUNT` makes an index, no other.
+pub trait LaneIndex: Copy + Into<u8> + TryFrom<u8, Error = OutOfBoundsLaneIdx> {
     /// How many lanes there are.
     ghost COUNT: { ℕ };
 
@@ -104,104 +104,79 @@ pub trait LaneIndex: Copy + Into<u8> {
     ghost number: { Self → ℕ };
 
     ghost number_is: { (lane : Self) (n : ℕ) → Self.converts lane n → (n ≡ number lane) × (n < COUNT) };
+
+    ghost taken: { (n : ℕ) (lane : Self) → Self.try_from_gives n (Ok lane) → (number lane ≡ n) × (n < COUNT) };
+
+    ghost refused: { (n : ℕ) (error : _) → Self.try_from_gives n (Err error) → COUNT ≤ n };
 }
 
-impl<const N: usize> LaneIndex for ImmLaneIdx<N> {
+impl<const N: usize> LaneIndex for ImmLaneIdx<N>
+where
+    ImmLaneIdx<N>: CountsLanes<N>,
+{
     ghost COUNT = { N };
 
     ghost number = { λ lane. lane };
 
     ghost number_is = { λ lane n is. is };
+
+    ghost taken = { λ n lane is. Prim.search rules };
+
+    ghost refused = { λ n error is. Prim.search rules };
 }
 
 /// An integer with the index of one of its lanes in a vector, of which there are 128 divided by its width.
 pub trait IntoLaneIdx: LaneInteger {
     /// The index of a lane of these integers.
-    type LaneIdx: LaneIndex + TryFrom<u8, Error = OutOfBoundsLaneIdx>;
+    type LaneIdx: LaneIndex;
 
     ghost count: { Self.LaneIdx.COUNT * bits Self.width ≡ 128 };
-
-    ghost taken: { (n : ℕ) (lane : Self.LaneIdx) → Self.LaneIdx.try_from_gives n (Ok lane) → (Self.LaneIdx.number lane ≡ n) × (n < Self.LaneIdx.COUNT) };
-
-    ghost refused: { (n : ℕ) (error : _) → Self.LaneIdx.try_from_gives n (Err error) → Self.LaneIdx.COUNT ≤ n };
 }
 
 impl IntoLaneIdx for i8 {
     type LaneIdx = ImmLaneIdx16;
 
     ghost count = { refl };
-
-    ghost taken = { λ n lane is. Prim.search rules };
-
-    ghost refused = { λ n error is. Prim.search rules };
 }
 
 impl IntoLaneIdx for u8 {
     type LaneIdx = ImmLaneIdx16;
 
     ghost count = { refl };
-
-    ghost taken = { λ n lane is. Prim.search rules };
-
-    ghost refused = { λ n error is. Prim.search rules };
 }
 
 impl IntoLaneIdx for i16 {
     type LaneIdx = ImmLaneIdx8;
 
     ghost count = { refl };
-
-    ghost taken = { λ n lane is. Prim.search rules };
-
-    ghost refused = { λ n error is. Prim.search rules };
 }
 
 impl IntoLaneIdx for u16 {
     type LaneIdx = ImmLaneIdx8;
 
     ghost count = { refl };
-
-    ghost taken = { λ n lane is. Prim.search rules };
-
-    ghost refused = { λ n error is. Prim.search rules };
 }
 
 impl IntoLaneIdx for i32 {
     type LaneIdx = ImmLaneIdx4;
 
     ghost count = { refl };
-
-    ghost taken = { λ n lane is. Prim.search rules };
-
-    ghost refused = { λ n error is. Prim.search rules };
 }
 
 impl IntoLaneIdx for u32 {
     type LaneIdx = ImmLaneIdx4;
 
     ghost count = { refl };
-
-    ghost taken = { λ n lane is. Prim.search rules };
-
-    ghost refused = { λ n error is. Prim.search rules };
 }
 
 impl IntoLaneIdx for i64 {
     type LaneIdx = ImmLaneIdx2;
 
     ghost count = { refl };
-
-    ghost taken = { λ n lane is. Prim.search rules };
-
-    ghost refused = { λ n error is. Prim.search rules };
 }
 
 impl IntoLaneIdx for u64 {
     type LaneIdx = ImmLaneIdx2;
 
     ghost count = { refl };
-
-    ghost taken = { λ n lane is. Prim.search rules };
-
-    ghost refused = { λ n error is. Prim.search rules };
 }

@@ -4,7 +4,7 @@ ghost use Rattle.std.specs.Prelude.{◌≡◌, refl, ℕ, ◌*◌, ◌^◌, ◌<
 ghost use Rattle.wasmi_types.specs.Wrapping.{bits};
 ghost use Rattle.wasmi_lanes.specs.Lane.{lane, ReducesTo};
 
-use crate::index::{ImmLaneIdx, LaneIndex};
+use crate::index::{CountsLanes, ImmLaneIdx, LaneIndex};
 use crate::item::{LaneInteger, LaneItem};
 use wasmi_raw::V128;
 
@@ -110,7 +110,10 @@ fn ones_if<T: LaneInteger>(holds: bool) -> T
     if holds { T::ALL_ONES } else { T::ALL_ZEROS }
 }
 
-impl<T: LaneItem<N>, const N: usize> Lanes for LaneArray<T, N> {
+impl<T: LaneItem<N>, const N: usize> Lanes for LaneArray<T, N>
+where
+    ImmLaneIdx<N>: CountsLanes<N>,
+{
     type Item = T;
 
     type LaneIdx = ImmLaneIdx<N>;

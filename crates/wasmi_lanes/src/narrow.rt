@@ -2,6 +2,7 @@
 
 ghost use Rattle.std.specs.Prelude.{◌≡◌, refl, ℕ, ◌+◌, ◌*◌, ◌<◌, [], ◌∷◌};
 
+use crate::index::{CountsLanes, ImmLaneIdx};
 use crate::item::LaneItem;
 use crate::lanes::{LaneArray, Lanes};
 
@@ -46,7 +47,11 @@ pub trait FromWide<W: Lanes>: Lanes {
 }
 
 impl<T: Narrower<U, N, M>, U: LaneItem<M>, const N: usize, const M: usize> FromWide<LaneArray<U, M>>
-    for LaneArray<T, N> {
+    for LaneArray<T, N>
+where
+    ImmLaneIdx<N>: CountsLanes<N>,
+    ImmLaneIdx<M>: CountsLanes<M>,
+{
     ghost twice = { T.twice };
 
     #[inline(always)]
@@ -95,7 +100,11 @@ pub trait FromNarrow<S: FromWide<Self>>: Lanes {
 
 impl<T: Narrower<U, N, M>, U: LaneItem<M>, const N: usize, const M: usize> FromNarrow<
     LaneArray<T, N>,
-> for LaneArray<U, M> {
+> for LaneArray<U, M>
+where
+    ImmLaneIdx<N>: CountsLanes<N>,
+    ImmLaneIdx<M>: CountsLanes<M>,
+{
     #[inline(always)]
     fn pairwise_unary<F: Fn(T, T) -> U>(narrow: LaneArray<T, N>, f: F) -> Self {
         let mut items = [U::ALL_ZEROS; M];

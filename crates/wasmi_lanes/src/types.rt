@@ -1,6 +1,6 @@
 //! The lane types.
 
-use crate::index::{ImmLaneIdx2, ImmLaneIdx4, ImmLaneIdx8, ImmLaneIdx16};
+use crate::index::{ImmLaneIdx2, ImmLaneIdx4, ImmLaneIdx8, ImmLaneIdx16, LaneIndex};
 use crate::lanes::{LaneArray, Lanes};
 
 /// Two signed lanes of 64 bits.
@@ -26,7 +26,7 @@ pub trait IntoLanes: Sized {
     type Lanes: Lanes<Item = Self, LaneIdx = Self::LaneIdx>;
 
     /// The index of one of these lanes.
-    type LaneIdx;
+    type LaneIdx: LaneIndex;
 }
 
 impl IntoLanes for i64 {

@@ -12,12 +12,10 @@ use Rattle.std.specs.List.{range_with_len}
 use Rattle.std.proofs.lemmas.List.FromFn.{get_or-map-range_with_len}
 use Rattle.wasmi_types.specs.Wrapping.{Width, w8, bits, signed, wrap}
 use Rattle.wasmi_lanes.specs.Lane.{lane}
-use Rattle.wasmi_lanes.specs.Vector.{first_lanes, from_lanes}
 use Rattle.wasmi_raw.specs.Vector.{vector_of}
 use Rattle.wasmi_lanes.specs.Words.{field, lanes_in_word, in_each_lane}
 use Rattle.wasmi_lanes.proofs.Digits.{number_below}
 use Rattle.wasmi_lanes.proofs.FieldLemmas.{field_and, field_mod, first_lane, repeated_lane}
-use Rattle.wasmi_lanes.proofs.Vectors.{lanes_of_width}
 use Rattle.wasmi_lanes.proofs.WordVectorLemmas.{EachLane, lane_of_each}
 
 -- ---- products
@@ -107,38 +105,6 @@ lane_of_word f x y fits_x fits_y is zero inside = first_lane 64 y ∙ mod-eq_of_
 lane_of_word f x y fits_x fits_y is (suc i) inside = absurd (omega arith)
 
 -- ---- shifts with the sign
-
--- the lanes of a vector that is made of lanes
-lanes_below : (w : Width) (f : ℕ → ℕ) (n : ℕ) → first_lanes w n f < 2 ^ (bits w * n)
-unfolding first_lanes
-lanes_below w f zero =
-    let none : bits w * 0 ≡ 0 = mul-zero (bits w) in
-    subst (λ k. 0 < 2 ^ k) (sym none) (omega arith)
-lanes_below w f (suc n) =
-    let p : ℕ = 2 ^ (bits w * n) in
-    let x : ℕ = f n % 2 ^ bits w in
-    let next : bits w * suc n ≡ bits w + bits w * n = omega (arith, mul-suc (bits w) n) in
-    let rows : (x + 1) * p ≤ 2 ^ bits w * p = mul-le (x + 1) p (2 ^ bits w) p (omega (arith, mod-lt (f n) (pow_pos (bits w)))) (le_refl p) in
-    subst (λ k. first_lanes w n f + x * p < 2 ^ k) (sym next) (omega (arith, lanes_below w f n, pow-add 2 (bits w) (bits w * n), add-mul x 1 p, one-mul p))
-
-lane_of_first : (w : Width) (f : ℕ → ℕ) (n i : ℕ) → i < n → lane w (first_lanes w n f) i ≡ f i % 2 ^ bits w
-unfolding first_lanes field
-lane_of_first w f zero i inside = absurd (omega arith)
-lane_of_first w f (suc n) i inside =
-    let b : ℕ = bits w in
-    let p : ℕ = 2 ^ (b * n) in
-    let x : ℕ = f n % 2 ^ b in
-    let v : ℕ = first_lanes w n f + x * p in
-    let parts : v ≡ x * p + first_lanes w n f = omega arith in
-    elim (cases_eq i n) as (λ _. lane w v i ≡ f i % 2 ^ b) [
-      | inl last ↦ ap (lane w v) last ∙ ap (λ k. k % 2 ^ b) (ap (λ k. k / p) parts ∙ div-mul-add x p (first_lanes w n f) (lanes_below w f n)) ∙ mod-mod (f n) (2 ^ b) ∙ ap (λ k. f k % 2 ^ b) (sym last)
-      | inr other ↦
-          let room : b * i + b ≤ b * n = omega (arith, mul-le b (suc i) b n (le_refl b) (omega arith), mul-suc b i) in
-          sym (field_mod (b * i) b (b * n) v room) ∙ ap (λ k. lane w k i) (ap (λ k. k % p) parts ∙ mod-mul-add x p (first_lanes w n f) (lanes_below w f n)) ∙ lane_of_first w f n i (omega arith)
-    ]
-
-pub lane_of_lanes : (w : Width) (f : ℕ → ℕ) (n i : ℕ) → n * bits w ≡ 128 → i < n → lane w (from_lanes w f) i ≡ f i % 2 ^ bits w
-lane_of_lanes w f n i filled inside = ap (λ k. lane w (first_lanes w k f) i) (lanes_of_width w n filled) ∙ lane_of_first w f n i inside
 
 -- a number of 8 bits, moved by half of its range before a shift without sign, and back after it
 pub moved_and_back : (x s : ℕ) → x < 2 ^ 8 → s < 8 → ((x + 2 ^ 7) % 2 ^ 8 / 2 ^ s % 2 ^ 8 + (2 ^ 8 - 2 ^ (7 - s))) % 2 ^ 8 ≡ wrap w8 (int_shr (signed w8 x) s)

@@ -29,12 +29,12 @@ second_true true b is = is
 second_true false true is = refl
 second_true false false is = is
 
-holds_of_each : (n : ℕ) (test : ℕ → Bool) → ((i : ℕ) → i < n → test i ≡ true) → holds_below n test ≡ true
+pub holds_of_each : (n : ℕ) (test : ℕ → Bool) → ((i : ℕ) → i < n → test i ≡ true) → holds_below n test ≡ true
 unfolding holds_below
 holds_of_each zero test each = refl
 holds_of_each (suc n) test each = both_true (holds_below n test) (test n) (holds_of_each n test (λ i inside. each i (omega arith))) (each n (omega arith))
 
-each_holds : (n : ℕ) (test : ℕ → Bool) → holds_below n test ≡ true → (i : ℕ) → i < n → test i ≡ true
+pub each_holds : (n : ℕ) (test : ℕ → Bool) → holds_below n test ≡ true → (i : ℕ) → i < n → test i ≡ true
 unfolding holds_below
 each_holds zero test all i inside = absurd (omega arith)
 each_holds (suc n) test all i inside = elim (cases_eq i n) [
@@ -68,7 +68,7 @@ unfolding first_bits
 bits_as zero f g each = refl
 bits_as (suc n) f g each = ap₂ (λ b m. (if b then 1 else 0) + 2 * m) (each 0 (omega arith)) (bits_as n (λ i. f (suc i)) (λ i. g (suc i)) (λ i inside. each (suc i) (omega arith)))
 
-bits_below : (n : ℕ) (f : ℕ → Bool) → first_bits n f < 2 ^ n
+pub bits_below : (n : ℕ) (f : ℕ → Bool) → first_bits n f < 2 ^ n
 unfolding first_bits
 bits_below zero f = lit< tt
 bits_below (suc n) f =

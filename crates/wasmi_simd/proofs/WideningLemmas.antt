@@ -26,14 +26,18 @@ by_halves n i f low high is_low is_high inside =
           ap f at ∙ is_high (i - n) (omega arith) ∙ sym (ap (λ t. if t then low i else high (i - n)) (le-ltb i n above))
     ]
 
--- a number wrapped to w bits and read signed has the wrapped number for its bits
-pub bits_of_wrapped : (w : Width) (z : ℤ) → cast_unsigned w (int_wrap w z) ≡ wrap w z
-unfolding int_wrap
-bits_of_wrapped w z = of_z-to_z w (wrap w z) (below (2 ^ bits w) z (pow_pos (bits w)))
+-- a number wrapped to w bits has w bits
+pub wrap_below : (w : Width) (z : ℤ) → wrap w z < 2 ^ bits w
+wrap_below w z = below (2 ^ bits w) z (pow_pos (bits w))
   where
     below : (p : ℕ) (z : ℤ) → 0 < p → unsigned_abs (int_rem_euclid z (pos p)) < p
     below p (pos n) some = mod-lt n some
     below p (negsuc n) some = omega arith
+
+-- a number wrapped to w bits and read signed has the wrapped number for its bits
+pub bits_of_wrapped : (w : Width) (z : ℤ) → cast_unsigned w (int_wrap w z) ≡ wrap w z
+unfolding int_wrap
+bits_of_wrapped w z = of_z-to_z w (wrap w z) (wrap_below w z)
 
 -- a number in the signed range, wrapped, has its own bits
 pub wrapped_is : (w : Width) (z : ℤ) → FitsSigned w z → wrap w z ≡ cast_unsigned w z

@@ -2,5 +2,6 @@
 //! ones.
 #![tactic(auto)]
 
+pub mod laws;
 pub mod simd;
 mod widening;

@@ -1,4 +1,4 @@
-use Rattle.std.proofs.Common.{◌∙◌, ap₂}
+use Rattle.std.proofs.Common.{◌∙◌, ap₂, sym}
 use Rattle.wasmi_lanes.specs.Vector.{binary_of_lanes}
 use Rattle.wasmi_lanes.proofs.Vectors.{items_make_vector, item_fits}
 use Rattle.wasmi_lanes.proofs.on_vectors.binary.Goals as goal
@@ -19,4 +19,6 @@ returns g c =
           (item_fits item c.args.b i (y i) (c.from_v128-2.ensures.lanes i h))
           fits (c.lanewise_binary.ensures.lanes i h)
           ∙ ap₂ row (c.from_v128.ensures.lanes i h) (c.from_v128-2.ensures.lanes i h));
+      each = λ i h.
+          rw (sym (c.from_v128.ensures.lanes i h), sym (c.from_v128-2.ensures.lanes i h), sym (c.into_v128.ensures.lanes i h)) (c.lanewise_binary.ensures.lanes i h);
     }

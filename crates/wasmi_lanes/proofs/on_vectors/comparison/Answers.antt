@@ -1,7 +1,8 @@
-use Rattle.std.proofs.Common.{◌∙◌, ap, ap₂, if◌then◌else◌, ◌-◌, ◌^◌}
+use Rattle.std.proofs.Common.{◌∙◌, ap, ap₂, sym, if◌then◌else◌, ◌-◌, ◌^◌}
+use Rattle.wasmi_lanes.specs.Lane.{lane}
 use Rattle.wasmi_lanes.specs.Vector.{comparison_of_lanes}
 use Rattle.wasmi_types.specs.Wrapping.{bits}
-use Rattle.wasmi_lanes.proofs.Vectors.{items_make_vector, item_fits, image_of_choice}
+use Rattle.wasmi_lanes.proofs.Vectors.{items_make_vector, item_fits, image_of_choice, lane_below}
 use Rattle.wasmi_lanes.proofs.on_vectors.comparison.Goals as goal
 
 pub returns : goal.returns
@@ -24,4 +25,12 @@ returns g c =
           (item_fits item c.args.b i (y i) (c.from_v128-2.ensures.lanes i h))
           gives.1
           ∙ ap₂ test (c.from_v128.ensures.lanes i h) (c.from_v128-2.ensures.lanes i h)));
+      each = λ i h.
+          let gives = c.lanewise_comparison.ensures.lanes i h in (
+            gives.0,
+            rw (sym (c.from_v128.ensures.lanes i h), sym (c.from_v128-2.ensures.lanes i h)) gives.1,
+            sym (item.image_of_read (lane item.width c.into_v128.result i) (lane_below item.width c.into_v128.result i))
+                ∙ ap item.image (sym (c.into_v128.ensures.lanes i h) ∙ gives.2 ∙ ap₂ (λ ones zeros. if gives.0 then ones else zeros) g.met.L.Lanes.ones g.met.L.Lanes.zeros)
+                ∙ image_of_choice item gives.0,
+          );
     }

@@ -13,4 +13,7 @@ returns g c =
           items_make_vector item l.LANES (l.item c.splat.result) c.into_v128.result _ g.met.L.Lanes.filled c.into_v128.ensures.lanes c.into_v128.ensures.in_range
           (λ i h fits.
           ap item.image (c.splat.ensures.lanes i h) ∙ is_number (subst item.Fits (c.splat.ensures.lanes i h) fits));
+      image =
+          items_make_vector item l.LANES (l.item c.splat.result) c.into_v128.result _ g.met.L.Lanes.filled c.into_v128.ensures.lanes c.into_v128.ensures.in_range
+          (λ i h fits. ap item.image (c.splat.ensures.lanes i h));
     }

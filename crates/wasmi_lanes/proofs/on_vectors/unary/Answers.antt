@@ -1,4 +1,4 @@
-use Rattle.std.proofs.Common.{◌∙◌, ap}
+use Rattle.std.proofs.Common.{◌∙◌, ap, sym}
 use Rattle.wasmi_lanes.specs.Vector.{unary_of_lanes}
 use Rattle.wasmi_lanes.proofs.Vectors.{items_make_vector, item_fits}
 use Rattle.wasmi_lanes.proofs.on_vectors.unary.Goals as goal
@@ -15,4 +15,5 @@ returns g c =
           (λ i h fits.
           rows (x i) (l.item c.lanewise_unary.result i) (item_fits item c.args.a i (x i) (c.from_v128.ensures.lanes i h)) fits (c.lanewise_unary.ensures.lanes i h)
           ∙ ap row (c.from_v128.ensures.lanes i h));
+      each = λ i h. rw (sym (c.from_v128.ensures.lanes i h), sym (c.into_v128.ensures.lanes i h)) (c.lanewise_unary.ensures.lanes i h);
     }
