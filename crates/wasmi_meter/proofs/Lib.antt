@@ -1,1 +1,2 @@
 pub mod AttemptLemmas
+pub mod QuotaLemmas

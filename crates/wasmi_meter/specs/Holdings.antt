@@ -41,6 +41,6 @@ Reserves q (Ok true) h h' = h' ≡ with_more h q.kind (q.desired - q.current)
 Reserves q (Ok false) h h' = HoldsTheSame h h'
 Reserves q (Err error) h h' = HoldsTheSame h h'
 
--- a notice of the kind of the last difference takes it back, once; another notice is left open
+-- a notice takes back the last difference of its kind, once, and changes nothing that is held otherwise
 abbrev pub GivesBack : Kind → Holdings → Holdings → Type 0
-GivesBack kind h h' = (n : ℕ) → h.last ≡ Some (kind, n) → h' ≡ without_last kind h
+GivesBack kind h h' = h' ≡ without_last kind h

@@ -15,6 +15,11 @@ abbrev pub cap_of : Quota → Kind → ℕ
 cap_of quota Bytes = quota.bytes
 cap_of quota Elements = quota.elements
 
+-- no more of a kind is held than its cap
+pub record IsWithinCaps (quota : Quota) : Type 0 where
+  pub bytes : (holdings quota).bytes ≤ cap_of quota Bytes
+  pub elements : (holdings quota).elements ≤ cap_of quota Elements
+
 -- the caps stay
 pub record SameCaps (quota quota' : Quota) : Type 0 where
   pub bytes : quota'.bytes ≡ quota.bytes

@@ -300,7 +300,7 @@ impl Fuel {
         &mut self,
         f: C,
     ) -> Result<u64, FuelError>
-        requires { C.IsAlwaysCallable f }
+        requires { IsSome self.old.left → C.IsAlwaysCallable f }
         ensures on { IsSome self.old.left → (amount : ℕ) × (costs : _) × (costs_of costs ≡ self.old.costs)
             × FnOnceReturnsAt C.FnOnce f costs amount
             × Spends self.old amount (amount_left self.old - amount) result self.new }
@@ -317,7 +317,7 @@ impl Fuel {
         &mut self,
         f: C,
     ) -> Result<(), FuelError>
-        requires { C.IsAlwaysCallable f }
+        requires { IsSome self.old.left → C.IsAlwaysCallable f }
         ensures on { IsSome self.old.left → (amount : ℕ) × (costs : _) × (costs_of costs ≡ self.old.costs)
             × FnOnceReturnsAt C.FnOnce f costs amount
             × Spends self.old amount tt result self.new }

@@ -61,6 +61,10 @@ impl<R> fmt::Debug for LimiterRef<R> {
 
 /// A limiter that is lent, or none. Without a limiter every growth is permitted.
 ///
+/// Where this reference goes out of scope or is dropped, nothing is known of the limiter afterwards. A caller that wants
+/// to know what it has become ends the loan by [`LimiterRef::into_resource_limiter`], or makes a call that lends the
+/// limiter for that call alone.
+///
 /// Upstream: `wasmi_core::ResourceLimiterRef`.
 pub type ResourceLimiterRef<'a, L> = LimiterRef<&'a mut L>;
 

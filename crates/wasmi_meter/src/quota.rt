@@ -7,10 +7,11 @@ use crate::limiter::{Kind, ResourceLimiter};
 use crate::reserving::Reserving;
 
 /// A limiter that permits what stays within two caps, and says no to the rest. It counts each difference that it
-/// permitted, and takes the last one back at a notice of its kind, once.
+/// permitted, and takes the last one back at a notice of its kind, once. It can't be copied, since a copy would count
+/// alone.
 ///
 /// Own: upstream implements no limiter.
-#[derive(Clone, Copy, Debug)]
+#[derive(Debug, Drop)]
 pub struct Quota {
     bytes: u64,
     elements: u64,
@@ -20,13 +21,14 @@ pub struct Quota {
 }
 
 impl Quota {
-    ghost use Rattle.wasmi_meter.specs.Quota.{holdings, cap_of};
+    ghost use Rattle.wasmi_meter.specs.Quota.{holdings, cap_of, IsWithinCaps};
 
     /// A quota of so many bytes and elements, of which nothing is held yet.
     pub fn new(bytes: u64, elements: u64) -> Self
         ensures bytes { cap_of result Bytes ≡ bytes }
         ensures elements { cap_of result Elements ≡ elements }
         ensures nothing_held { holdings result ≡ record { bytes = 0; elements = 0; last = None } }
+        ensures within { IsWithinCaps result }
     {
         Quota {
             bytes,
@@ -138,5 +140,5 @@ impl Reserving for Quota {
 
     ghost reserves = { asked_reserves };
 
-    ghost gives_back = { λ l l' failure heed noticed n last. noticed.gives_back };
+    ghost gives_back = { λ l l' failure heed noticed. noticed.gives_back };
 }

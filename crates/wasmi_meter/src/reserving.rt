@@ -24,6 +24,7 @@ pub trait Reserving: ResourceLimiter {
     /// A permission adds the difference that was asked for, and another answer keeps what is held.
     ghost reserves: { (l l' : Self) (question : Question) (answer : Answer) → Self.rules.asked l question answer l' → Reserves question answer (holdings l) (holdings l') };
 
-    /// A notice of the kind of the last permitted difference takes that back, once, whatever the notice is answered.
+    /// A notice takes back the last permitted difference of its kind, once, whatever the notice is answered; with
+    /// nothing of its kind to take back it changes nothing that is held.
     ghost gives_back: { (l l' : Self) (failure : Failure) (heed : Heed) → Self.rules.noticed l failure heed l' → GivesBack (kind_of failure) (holdings l) (holdings l') };
 }
