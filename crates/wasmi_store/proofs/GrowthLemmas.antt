@@ -1,6 +1,6 @@
 -- The making and the growth of a memory or a table, by what was tested on the way.
 use Rattle.std.proofs.Common.{◌≡◌, ℕ, ◌<◌, ◌≤◌, Bool, true, false, Option, Some, None, Result, Ok, Err, inr, refl, ap, ◌∙◌, arith}
-use Rattle.std.specs.Prelude.{if◌then◌else◌}
+use Rattle.std.specs.Prelude.{if◌then◌else◌, MatchBool}
 use Rattle.std.proofs.lemmas.Bool.Decides.{nat_tests}
 use Rattle.wasmi_meter.specs.Limiter.{Answer, Heed, Rules}
 use Rattle.wasmi_meter.specs.Meter.{Meter, amount_left, Charges}
@@ -14,6 +14,11 @@ no_cause b cause h = rw h refl
 
 pub a_cause : {E : Type 0} (b : Bool) (cause : E) → b ≡ false → (let none : Option E = None in if b then none else Some cause) ≡ Some cause
 a_cause b cause h = rw h refl
+
+-- whether a test holds
+pub on_test : {C : Type 0} (test : Bool) (Holds Fails : Type 0) → MatchBool test Holds Fails → (Holds → C) → (Fails → C) → C
+on_test true Holds Fails h holds fails = holds h
+on_test false Holds Fails h holds fails = fails h
 
 -- whether so much can be paid
 pub payable : (m : Meter) (n : ℕ) → n ≤ amount_left m → can_pay (Some m) n ≡ true

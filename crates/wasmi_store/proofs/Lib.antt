@@ -6,3 +6,4 @@ pub mod TableLemmas
 pub mod WriteLemmas
 pub mod CopyLemmas
 pub mod SegmentLemmas
+pub mod ValidityLemmas

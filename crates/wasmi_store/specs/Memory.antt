@@ -10,7 +10,7 @@ use Rattle.wasmi_meter.specs.Costs.{copy_cost}
 use Rattle.wasmi_meter.specs.Attempt.{Situation, Effort}
 use Rattle.wasmi_store.specs.Buffer.{Room, Owned, has_place_for, LacksMemory, room_after}
 use Rattle.wasmi_store.specs.Growth.{Makes, Grows}
-use Rattle.wasmi_store.specs.MemoryType.{MemoryTypeValue, page_bytes, minimum_bytes, maximum_bytes, in_bounds}
+use Rattle.wasmi_store.specs.MemoryType.{MemoryTypeValue, IsValid, page_bytes, minimum_bytes, maximum_bytes, in_bounds}
 
 -- a memory: its type, its bytes, and the room that these may grow into
 pub record MemoryValue : Type 0 where
@@ -40,6 +40,11 @@ pub record IsSized (ty : MemoryTypeValue) (size : ℕ) : Type 0 where
   pub whole : size % page_bytes ty.page ≡ 0
   pub minimum : ty.minimum ≤ size / page_bytes ty.page
   pub within : in_bounds ty (size / page_bytes ty.page) ≡ true
+
+-- a memory of a valid type has as many whole pages as that allows (core specification, validity of memory instances)
+pub record IsValidMemory (x : MemoryValue) : Type 0 where
+  pub type : IsValid x.ty
+  pub sized : IsSized x.ty (length x.bytes)
 
 -- its type with the present size as the minimum
 abbrev pub dynamic_type : MemoryValue → MemoryTypeValue

@@ -13,7 +13,7 @@ use Rattle.wasmi_meter.specs.Costs.{copy_cost}
 use Rattle.wasmi_meter.specs.Meter.{Meter, meter_after}
 use Rattle.wasmi_meter.specs.Attempt.{Situation, Effort, amount_due, can_pay}
 use Rattle.wasmi_store.specs.Growth.{Makes, Grows}
-use Rattle.wasmi_store.specs.TableType.{TableTypeValue, is_indexable, is_within_maximum, same_type}
+use Rattle.wasmi_store.specs.TableType.{TableTypeValue, IsValid, is_indexable, is_within_maximum, same_type}
 
 -- a table: its type, and its elements, each a reference or 0 for null
 pub record TableValue : Type 0 where
@@ -29,6 +29,11 @@ pub record IsSized (ty : TableTypeValue) (size : ℕ) : Type 0 where
   pub minimum : ty.minimum ≤ size
   pub indexable : is_indexable ty size ≡ true
   pub within : is_within_maximum ty size ≡ true
+
+-- a table of a valid type has as many elements as that allows (core specification, validity of table instances)
+pub record IsValidTable (x : TableValue) : Type 0 where
+  pub type : IsValid x.ty
+  pub sized : IsSized x.ty (size_of x)
 
 -- its type with the present size as the minimum
 abbrev pub dynamic_type : TableValue → TableTypeValue

@@ -95,7 +95,8 @@ impl MemoryType {
 
     /// The minimum in pages.
     pub fn minimum(self) -> u64
-        ensures { result ≡ self.minimum }
+        ensures value { result ≡ self.minimum }
+        ensures valid { IsValid self }
     {
         self.minimum
     }

@@ -85,7 +85,8 @@ impl TableType {
 
     /// The minimum in elements.
     pub fn minimum(&self) -> u64
-        ensures { result ≡ self.now.minimum }
+        ensures value { result ≡ self.now.minimum }
+        ensures valid { IsValid self.now }
     {
         self.minimum
     }
