@@ -28,7 +28,8 @@ use Rattle.wasmi_core.specs.TableRows.{metered, WritesTableAt, WritesTableFrom, 
 use Rattle.wasmi_core.specs.Steps.{Effect, FuelSet, Told, BytesRead, MemoryMade, LentMemoryMade, MemoryGrown, TableMade, TableGrown, PartInitialized, PartCopied, PartFilled, effect_of, TakesEffect}
 use Rattle.wasmi_core.specs.Runs.{Run}
 use Rattle.wasmi_core.specs.Account.{Account, opened, charged_by, account_after, Balances}
-use Rattle.wasmi_core.proofs.RowLemmas.{on_live, on_test}
+use Rattle.wasmi_store.proofs.GrowthLemmas.{on_test}
+use Rattle.wasmi_core.proofs.RowLemmas.{on_live}
 
 -- a meter that is on stays on, and what is left and the charge are what was left
 abbrev pub Takes : Meter → ℕ → Meter → Type 0

@@ -50,7 +50,7 @@ use Rattle.wasmi_core.specs.Totals.{byte_count}
 use Rattle.wasmi_core.specs.Steps.{Effect, FuelSet, Told, BytesRead, BytesWritten, BytesStored, RegisterSet, MemoryMade, LentMemoryMade, MemoryGrown, MemoryDropped, TableMade, TableGrown, TableDropped, ElementSet, PartInitialized, PartCopied, PartFilled, SegmentMade, ItemsDropped, GlobalMade, GlobalSet, effect_of, TakesEffect}
 use Rattle.wasmi_core.specs.Runs.{Run}
 use Rattle.wasmi_core.specs.Determinism.{IsDeterministic, IsNoWant, with_memory, HasMemory, HaveMemory}
-use Rattle.wasmi_core.proofs.RowLemmas.{on_test}
+use Rattle.wasmi_store.proofs.GrowthLemmas.{on_test}
 
 -- two facts of one live value, or of none
 on_both : {X C : Type 0} (o : Option X) (Missing Missing' : Type 0) (Fact Fact' : X → Type 0) → OnLive o Missing Fact → OnLive o Missing' Fact' → (Missing → Missing' → C) → ((x : X) → Fact x → Fact' x → C) → C

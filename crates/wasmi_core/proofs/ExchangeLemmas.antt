@@ -39,7 +39,8 @@ use Rattle.wasmi_core.specs.RegisterRows.{StoresVectorAt}
 use Rattle.wasmi_core.specs.Steps.{Step, Effect, FuelSet, Told, BytesRead, BytesWritten, BytesStored, MemoryMade, LentMemoryMade, MemoryGrown, MemoryDropped, TableMade, TableGrown, TableDropped, ElementSet, PartInitialized, PartCopied, PartFilled, effect_of, TakesEffect}
 use Rattle.wasmi_core.specs.Exchange.{Exchange, Nothing, Denial, Permission, Notice, Place, Nowhere, New, At, place_of, Passes, NothingGrows, GrowsAsAsked, GrowsBy, due_for, ChargesBy, ChargesAt, Exchanges}
 use Rattle.wasmi_core.specs.Totals.{slot_count, byte_count, sizes}
-use Rattle.wasmi_core.proofs.RowLemmas.{on_live, on_test}
+use Rattle.wasmi_store.proofs.GrowthLemmas.{on_test}
+use Rattle.wasmi_core.proofs.RowLemmas.{on_live}
 use Rattle.wasmi_core.proofs.TotalLemmas.{count_at, counts_set, counts_kept}
 
 -- what holds of one kind, and of the other, holds of each
@@ -143,7 +144,7 @@ overwritten xs ys zs a true fits is =
     ap length (sym (same_Some _ zs is)) ∙ (length-append (take a xs ++ ys) (drop (a + length ys) xs) ∙ ap (λ n. n + length (drop (a + length ys) xs)) (length-append (take a xs) ys) ∙ omega (arith, inside, front, back))
 overwritten xs ys zs a false fits is = absurd (none-some zs is)
 
-overwrite_length : (xs ys zs : List ℕ) (a : ℕ) → overwrite xs a ys ≡ Some zs → length zs ≡ length xs
+pub overwrite_length : (xs ys zs : List ℕ) (a : ℕ) → overwrite xs a ys ≡ Some zs → length zs ≡ length xs
 overwrite_length xs ys zs a is = overwritten xs ys zs a _ refl is
 
 accessed_length : (xs ys zs : List ℕ) (a : ℕ) (low : Bool) → (if low then overwrite xs a ys else None) ≡ Some zs → length zs ≡ length xs
@@ -151,19 +152,19 @@ accessed_length xs ys zs a true is = overwrite_length xs ys zs a is
 accessed_length xs ys zs a false is = absurd (none-some zs is)
 
 -- a write and a store leave the number of bytes
-written_count : (x x' : MemoryValue) (offset : ℕ) (source : List ℕ) (result : Result (Unit {0}) MemoryError) → WritesMemory x offset source result x' → byte_count x' ≡ byte_count x
+pub written_count : (x x' : MemoryValue) (offset : ℕ) (source : List ℕ) (result : Result (Unit {0}) MemoryError) → WritesMemory x offset source result x' → byte_count x' ≡ byte_count x
 written_count x x' offset source (Ok _) writes = overwrite_length x.bytes source x'.bytes offset writes.0
 written_count x x' offset source (Err error) writes = ap byte_count writes.2
 
-stored_count : (x x' : MemoryValue) (a : ℕ) (stored : List ℕ) (result : Result (Unit {0}) TrapCode) → StoresMemory x a stored result x' → byte_count x' ≡ byte_count x
+pub stored_count : (x x' : MemoryValue) (a : ℕ) (stored : List ℕ) (result : Result (Unit {0}) TrapCode) → StoresMemory x a stored result x' → byte_count x' ≡ byte_count x
 stored_count x x' a stored (Ok _) stores = accessed_length x.bytes stored x'.bytes a _ stores.0
 stored_count x x' a stored (Err trap) stores = ap length stores.0.2
 
 -- what may be written over a table has as many elements
-abbrev KeepsLength : TableWrite → TableValue → Type 0
+abbrev pub KeepsLength : TableWrite → TableValue → Type 0
 KeepsLength w x = (elements : List ℕ) → w.written ≡ Some elements → length elements ≡ length x.elements
 
-copied_length : (elements written : List ℕ) (dst : ℕ) (part : Option (List ℕ)) → option_and_then (λ ys. overwrite elements dst ys) part ≡ Some written → length written ≡ length elements
+pub copied_length : (elements written : List ℕ) (dst : ℕ) (part : Option (List ℕ)) → option_and_then (λ ys. overwrite elements dst ys) part ≡ Some written → length written ≡ length elements
 copied_length elements written dst (Some part) is = overwrite_length elements part written dst is
 copied_length elements written dst None is = absurd (none-some written is)
 

@@ -24,10 +24,10 @@ denial_keeps q (Err error) h h' denial reserves = reserves
 -- a difference that was added and taken back
 given_back : (kind : Kind) (n : ℕ) (h p h' : Holdings) → p ≡ with_more h kind n → GivesBack kind p h' → HoldsTheSame h h'
 given_back Bytes n h p h' more gives =
-    let less = gives n (ap (λ (x : Holdings). x.last) more) ∙ ap (without_last Bytes) more in
+    let less = gives ∙ ap (without_last Bytes) more in
     record { bytes = ap (λ (x : Holdings). x.bytes) less ∙ omega arith; elements = ap (λ (x : Holdings). x.elements) less }
 given_back Elements n h p h' more gives =
-    let less = gives n (ap (λ (x : Holdings). x.last) more) ∙ ap (without_last Elements) more in
+    let less = gives ∙ ap (without_last Elements) more in
     record { bytes = ap (λ (x : Holdings). x.bytes) less; elements = ap (λ (x : Holdings). x.elements) less ∙ omega arith }
 
 grown_sum : (place : Place) (q : Question) (xs ys : List ℕ) → GrowsAsAsked place q xs ys → sum ys ≡ sum xs + (q.desired - q.current)

@@ -1,7 +1,8 @@
 -- What a refused turn leaves.
-use Rattle.std.proofs.Common.{◌≡◌, ℕ, Bool, true, false, Option, Some, None, Result, Ok, Err, List, set, refl, sym, ap, subst, ◌∙◌, inl, inr}
+use Rattle.std.proofs.Common.{◌≡◌, ℕ, Bool, true, false, Option, Some, None, Result, Ok, Err, List, [], ◌∷◌, map, set, refl, sym, ap, subst, ◌∙◌, inl, inr}
+use Rattle.std.proofs.lemmas.List.Elements.{All-head, All-tail}
 use Rattle.std.proofs.lemmas.Option.{none-some, same_Some}
-use Rattle.std.specs.Prelude.{◌⊎◌, ◌&&◌, is_none, is_some, if◌then◌else◌, MatchBool, MatchOption, slice_get, slice_set}
+use Rattle.std.specs.Prelude.{All, ◌⊎◌, ◌&&◌, is_none, is_some, if◌then◌else◌, MatchBool, MatchOption, slice_get, slice_set}
 use Rattle.std.specs.Option.{option_and_then}
 use Rattle.wasmi_types.specs.declared.trap.TrapCode.{TrapCode}
 use Rattle.wasmi_raw.specs.declared.raw.RawVal.{RawVal}
@@ -44,9 +45,11 @@ use Rattle.wasmi_core.specs.RegisterRows.{TakesAt, StoresVectorAt}
 use Rattle.wasmi_core.specs.Totals.{byte_count}
 use Rattle.wasmi_core.specs.Steps.{Step, Effect, FuelSet, Told, BytesRead, BytesWritten, BytesStored, RegisterSet, MemoryMade, LentMemoryMade, MemoryGrown, MemoryDropped, TableMade, TableGrown, TableDropped, ElementSet, PartInitialized, PartCopied, PartFilled, SegmentMade, ItemsDropped, GlobalMade, GlobalSet, effect_of, TakesEffect}
 use Rattle.wasmi_core.specs.Determinism.{IsNoWant}
+use Rattle.wasmi_core.specs.Runs.{Run}
 use Rattle.wasmi_core.specs.Laws.{IsRefusal, SameContents, KeepsSpare, IsToldOfWant, KeepsMeter, Keeps}
 use Rattle.wasmi_core.proofs.CopyLemmas.{set_read}
-use Rattle.wasmi_core.proofs.RowLemmas.{on_live, on_test}
+use Rattle.wasmi_store.proofs.GrowthLemmas.{on_test}
+use Rattle.wasmi_core.proofs.RowLemmas.{on_live}
 
 -- a live value is put back into its slot
 module _ {X : Type 0} where
@@ -332,3 +335,21 @@ refusals_keep_contents rules w turn w' step refused =
     let effect = effect_of w.state turn.call in
     let back = effect_back rules w turn w' refused effect step in
     record { contents = back.0; spare = spare_kept w.state w'.state turn.call turn.reply back.1; meter = effect_meter rules w turn w' refused effect step }
+
+-- contents that are the same twice
+same_twice : (s t u : State) → SameContents s t → SameContents t u → SameContents s u
+same_twice s t u first second = record {
+  memories = second.memories ∙ first.memories;
+  tables = second.tables ∙ first.tables;
+  segments = second.segments ∙ first.segments;
+  globals = second.globals ∙ first.globals;
+  registers = second.registers ∙ first.registers;
+}
+
+-- a run in which each turn is refused
+pub refused_run_keeps_contents : {S : Type 0} (rules : Rules S) (w : World S) (turns : List Turn) (w' : World S) → Run rules w turns w' → All IsRefusal (map Turn.reply turns) → SameContents w.state w'.state
+refused_run_keeps_contents rules w [] w' ran refused =
+    rw ran (record { memories = refl; tables = refl; segments = refl; globals = refl; registers = refl })
+refused_run_keeps_contents rules w (turn ∷ turns) w' (v, step, ran) refused =
+    let first = (refusals_keep_contents rules w turn v step (All-head IsRefusal turn.reply (map Turn.reply turns) refused)).contents in
+    same_twice w.state v.state w'.state first (refused_run_keeps_contents rules v turns w' ran (All-tail IsRefusal turn.reply (map Turn.reply turns) refused))

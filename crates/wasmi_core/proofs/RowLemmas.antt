@@ -1,6 +1,5 @@
 -- The cases of a row.
-use Rattle.std.proofs.Common.{◌≡◌, Bool, true, false, Option, Some, None, refl}
-use Rattle.std.specs.Prelude.{MatchBool}
+use Rattle.std.proofs.Common.{◌≡◌, Option, Some, None, refl}
 use Rattle.wasmi_core.specs.Rows.{OnLive}
 
 -- whether an index names something live
@@ -12,8 +11,3 @@ on_live (Some x) Missing Fact h missing live = live x refl h
 pub both_live : {X : Type 0} (o : Option X) (Missing Missing' : Type 0) (Fact Fact' : X → Type 0) → OnLive o Missing Fact → OnLive o Missing' Fact' → OnLive o (Missing × Missing') (λ x. Fact x × Fact' x)
 both_live None Missing Missing' Fact Fact' h h' = (h, h')
 both_live (Some x) Missing Missing' Fact Fact' h h' = (h, h')
-
--- whether a test holds
-pub on_test : {C : Type 0} (test : Bool) (Holds Fails : Type 0) → MatchBool test Holds Fails → (Holds → C) → (Fails → C) → C
-on_test true Holds Fails h holds fails = holds h
-on_test false Holds Fails h holds fails = fails h

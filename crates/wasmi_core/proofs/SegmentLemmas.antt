@@ -36,4 +36,6 @@ module _ {I : Type 0} (steps : I → Option ℕ → I → Type 0) (rest : I → 
       let found = rest_so_far many.items s many.run.0 many.run.1 ∙ ap (λ ys. many.items ++ ys) (first _ _ _ many.run.2) in
       let counted = ap length found ∙ length-append many.items (many.last ∷ rest t) in
       omega (arith, counted, many.full)
-  segment_read ty s t (Err OutOfSystemMemory) out = tt
+  segment_read ty s t (Err OutOfSystemMemory) out =
+      let counted = ap length (rest_so_far out.items s t out.run) ∙ length-append out.items (rest t) in
+      omega (arith, counted, out.some)

@@ -1,11 +1,12 @@
 -- A run goes on by one turn, or by another run.
-use Rattle.std.proofs.Common.{◌≡◌, List, [], ◌∷◌, ◌++◌, map, refl, ap, ◌∙◌}
+use Rattle.std.proofs.Common.{◌≡◌, List, [], ◌∷◌, ◌++◌, map, refl, ap, subst, ◌∙◌}
 use Rattle.wasmi_meter.specs.Limiter.{Rules}
 use Rattle.wasmi_core.specs.declared.calls.Call.{Call}
 use Rattle.wasmi_core.specs.declared.calls.Reply.{Reply}
-use Rattle.wasmi_core.specs.World.{World, Turn}
-use Rattle.wasmi_core.specs.Steps.{Step}
-use Rattle.wasmi_core.specs.Runs.{Run, IsRunOf}
+use Rattle.wasmi_core.specs.State.{State}
+use Rattle.wasmi_core.specs.World.{World, Turn, world}
+use Rattle.wasmi_core.specs.Steps.{Step, Answers}
+use Rattle.wasmi_core.specs.Runs.{Sequence, Run, IsRunOf}
 
 map-append : {X Y : Type 0} (f : X → Y) (xs ys : List X) → map f (xs ++ ys) ≡ map f xs ++ map f ys
 map-append f [] ys = refl
@@ -27,3 +28,14 @@ module _ {S : Type 0} (rules : Rules S) where
     map-append Turn.reply turns turns' ∙ ap (λ rs. rs ++ map Turn.reply turns') told ∙ ap (λ rs. replies ++ rs) told',
     Run-append u turns v turns' w ran ran',
   )
+
+  -- what holds of each step holds of each turn of a run
+  pub each_turn : (Holds : World S → Turn → World S → Type 0) → ((w : World S) (turn : Turn) (w' : World S) → Step rules w turn w' → Holds w turn w')
+      → (w : World S) (turns : List Turn) (w' : World S) → Run rules w turns w' → Sequence (λ v turn v'. Step rules v turn v' × Holds v turn v') w turns w'
+  each_turn Holds law w [] w' ran = ran
+  each_turn Holds law w (turn ∷ turns) w' (v, step, ran) = (v, (step, law w turn v step), each_turn Holds law v turns w' ran)
+
+  -- an answered call, with the limiter before and after it by other names
+  pub answers_by : (call : Call) (m m' : State) (reply : Reply) (l k l' k' : S) → l ≡ k → l' ≡ k' → Answers rules call (world m l) reply (world m' l') → Answers rules call (world m k) reply (world m' k')
+  answers_by call m m' reply l k l' k' before after answers =
+      subst (λ x. Answers rules call (world m x) reply (world m' k')) before (subst (λ x. Answers rules call (world m l) reply (world m' x)) after answers)

@@ -35,7 +35,8 @@ use Rattle.wasmi_core.specs.TableRows.{metered, WritesTableAt, WritesTableFrom, 
 use Rattle.wasmi_core.specs.Steps.{Effect, FuelSet, Told, BytesRead, MemoryMade, LentMemoryMade, MemoryGrown, TableMade, TableGrown, PartInitialized, PartCopied, PartFilled, effect_of, TakesEffect}
 use Rattle.wasmi_core.specs.Runs.{Run}
 use Rattle.wasmi_core.specs.Writing.{is_charged, is_accepted, has_written, amount_set, writing_turns, charges_for_writing, bytes_written, amounts_set, IsBounded}
-use Rattle.wasmi_core.proofs.RowLemmas.{on_live, on_test}
+use Rattle.wasmi_store.proofs.GrowthLemmas.{on_test}
+use Rattle.wasmi_core.proofs.RowLemmas.{on_live}
 use Rattle.wasmi_core.proofs.AccountLemmas.{Takes, grows_takes, write_takes}
 
 -- the bytes that a fuel pays for

@@ -1,5 +1,5 @@
 -- What a meter was given, and what was taken of it.
-use Rattle.std.specs.Prelude.{◌≡◌, ◌+◌, ℕ, Some, List, fold}
+use Rattle.std.specs.Prelude.{◌≡◌, ◌+◌, ℕ, Some, List, fold, sum_by}
 use Rattle.wasmi_meter.specs.Meter.{Meter}
 use Rattle.wasmi_core.specs.declared.calls.Call.{Call}
 use Rattle.wasmi_core.specs.declared.calls.Call.TheVariants.{SetFuel}
@@ -26,3 +26,12 @@ account_after account turns = fold (λ a turn. charged_by a turn.call turn.charg
 -- metering is on, and what is left and what was charged are what was granted
 abbrev pub Balances : Account → Meter → Type 0
 Balances account m = (left : ℕ) × (m.left ≡ Some left) × (left + account.charged ≡ account.granted)
+
+-- the call doesn't set the fuel
+abbrev pub SetsNoFuel : Call → Type 0
+SetsNoFuel (SetFuel fuel) = ⊥
+SetsNoFuel call = Unit {0}
+
+-- what turns were charged
+abbrev pub charges : List Turn → ℕ
+charges turns = sum_by (λ turn. turn.charge) turns

@@ -4,6 +4,8 @@ use Rattle.wasmi_meter.specs.Holdings.{Holdings}
 use Rattle.wasmi_meter.specs.Limiter.{Question, Rules, Answer, IsDenial, Failure, Heed, optional_rules}
 use Rattle.wasmi_meter.specs.Attempt.{Situation, amount_due, can_pay}
 use Rattle.wasmi_meter.specs.declared.error.MemoryError.{MemoryError}
+use Rattle.wasmi_meter.specs.declared.quota.Quota.{Quota}
+use Rattle.wasmi_meter.specs.Quota.{SameCaps, IsWithinCaps, quota_rules}
 use Rattle.wasmi_store.specs.Buffer.{Lent, has_place_for}
 use Rattle.wasmi_store.specs.MemoryType.{MemoryTypeValue, page_bytes, minimum_bytes, in_bounds}
 use Rattle.wasmi_store.specs.Memory.{MemoryValue, pages_of, growth_of, GrowsMemory}
@@ -12,15 +14,17 @@ use Rattle.wasmi_core.specs.declared.calls.Call.TheVariants.{NewMemory, NewLentM
 use Rattle.wasmi_core.specs.declared.calls.Reply.{Reply}
 use Rattle.wasmi_core.specs.declared.calls.Reply.TheVariants.{Done, Made, Value, Number, Bytes, Reference, Memory, Table, Fuel, Global, Segment, Trap, NoSuch, NoRegion, NoRoom}
 use Rattle.wasmi_core.specs.State.{State}
-use Rattle.wasmi_core.specs.World.{World, Turn}
+use Rattle.wasmi_core.specs.World.{World, Turn, world}
 use Rattle.wasmi_core.specs.Steps.{Step}
-use Rattle.wasmi_core.specs.Runs.{Run, IsRunOf}
-use Rattle.wasmi_core.specs.Account.{opened, account_after, Balances}
+use Rattle.wasmi_core.specs.Runs.{Sequence, Run, IsRunOf}
+use Rattle.wasmi_core.specs.Account.{opened, account_after, Balances, SetsNoFuel}
 use Rattle.wasmi_core.specs.Exchange.{Notice, Passes, Exchanges}
 use Rattle.wasmi_core.specs.MemoryRows.{spare_after}
 use Rattle.wasmi_core.specs.Determinism.{IsDeterministic, HeedsAll, IsNoWant, with_memory, HasMemory, HaveMemory}
 use Rattle.wasmi_core.specs.LentMemory.{owned_world, unlent_world, RunInRegions}
-use Rattle.wasmi_core.specs.Writing.{IsBounded}
+use Rattle.wasmi_core.specs.Writing.{IsBounded, IsSpent}
+use Rattle.wasmi_core.specs.Permission.{permitting, TellsNoDenial}
+use Rattle.wasmi_core.specs.Validity.{IsValid, IsValidCall}
 use Rattle.wasmi_core.specs.Totals.{HoldsTotals}
 
 -- a reply that tells why nothing was done
@@ -73,9 +77,29 @@ module _ {S : Type 0} (rules : Rules S) where
   abbrev pub RefusalsKeepContents : Type 0
   RefusalsKeepContents = (w : World S) (turn : Turn) (w' : World S) → Step rules w turn w' → IsRefusal turn.reply → Keeps rules w turn w'
 
+  -- so in each turn of a run that is refused, and a run in which each turn is refused keeps the contents
+  abbrev pub RefusalsInRunsKeepContents : Type 0
+  RefusalsInRunsKeepContents = (w : World S) (turns : List Turn) (w' : World S) → Run rules w turns w'
+      → Sequence (λ v turn v'. Step rules v turn v' × (IsRefusal turn.reply → Keeps rules v turn v')) w turns w'
+
+  abbrev pub RefusedRunsKeepContents : Type 0
+  RefusedRunsKeepContents = (w : World S) (turns : List Turn) (w' : World S) → Run rules w turns w' → All IsRefusal (map Turn.reply turns) → SameContents w.state w'.state
+
   -- in each turn a permission is followed by exactly the growth that was asked for, or by just one notice, and a denial by neither; a growth is charged only after a permission, and at most once
   abbrev pub GrowsAsPermitted : Type 0
   GrowsAsPermitted = (w : World S) (turn : Turn) (w' : World S) → Step rules w turn w' → Exchanges rules w turn w'
+
+  -- so in each turn of a run
+  abbrev pub RunsGrowAsPermitted : Type 0
+  RunsGrowAsPermitted = (w : World S) (turns : List Turn) (w' : World S) → Run rules w turns w' → Sequence (λ v turn v'. Step rules v turn v' × Exchanges rules v turn v') w turns w'
+
+  -- a run of which no reply tells of a denial is one in which each question was permitted
+  abbrev pub RepliesPermit : Type 0
+  RepliesPermit = (w : World S) (turns : List Turn) (w' : World S) → All TellsNoDenial (map Turn.reply turns) → Run rules w turns w' → Run (permitting rules) w turns w'
+
+  -- a run of calls whose types are valid leads from a valid state to a valid one
+  abbrev pub RunsKeepValidity : Type 0
+  RunsKeepValidity = (w : World S) (turns : List Turn) (w' : World S) → IsValid w.state → All IsValidCall (map Turn.call turns) → Run rules w turns w' → IsValid w'.state
 
   -- while metering is on, what is left and the charges since the fuel was set last, or since the start, are what was set then, or left at the start
   abbrev pub FuelBalances : Type 0
@@ -86,6 +110,11 @@ module _ {S : Type 0} (rules : Rules S) where
   abbrev pub FuelBoundsWriting : Type 0
   FuelBoundsWriting = (w : World S) (left : ℕ) → w.state.meter.left ≡ Some left → 0 < w.state.meter.costs.bytes_copied_per_fuel
       → (turns : List Turn) (w' : World S) → Run rules w turns w' → IsBounded w.state.meter.costs.bytes_copied_per_fuel left turns
+
+  -- while metering is on, what calls that don't set the fuel were charged is what was left before and isn't left after, and it bounds what they have written
+  abbrev pub ChargesAreSpent : Type 0
+  ChargesAreSpent = (w : World S) (left : ℕ) → w.state.meter.left ≡ Some left → (turns : List Turn) (w' : World S) → Run rules w turns w' → All SetsNoFuel (map Turn.call turns)
+      → (left' : ℕ) × (w'.state.meter.left ≡ Some left') × IsSpent w.state.meter.costs.bytes_copied_per_fuel left left' turns
 
   -- turns of a run, and those of a run from where it ends, are one run
   abbrev pub RunsJoin : Type 0
@@ -132,3 +161,8 @@ abbrev pub HoldsTotalsAlways : {L : Type 0} → Rules L → (L → Holdings) →
 HoldsTotalsAlways {L} rules holdings = (s : State) (l : L) → HoldsTotals (holdings l) s
     → (turns : List Turn) (w' : World (Option L)) → Run (optional_rules rules) (record { state = s; limiter = Some l }) turns w'
     → (l' : L) × (w'.limiter ≡ Some l') × HoldsTotals (holdings l') w'.state
+
+-- a quota that holds at most its caps before a run does so after it, and has the same caps
+abbrev pub QuotasStayWithin : Type 0
+QuotasStayWithin = (s : State) (quota : Quota) → IsWithinCaps quota → (turns : List Turn) (w' : World (Option Quota)) → Run (optional_rules quota_rules) (world s (Some quota)) turns w'
+    → (quota' : Quota) × (w'.limiter ≡ Some quota') × IsWithinCaps quota' × SameCaps quota quota'

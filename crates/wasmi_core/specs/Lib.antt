@@ -8,6 +8,8 @@ pub mod ValueRows
 pub mod RegisterRows
 pub mod Steps
 pub mod Runs
+pub mod Permission
+pub mod Validity
 pub mod Totals
 pub mod Exchange
 pub mod Account

@@ -6,10 +6,14 @@ use Rattle.wasmi_core.specs.declared.calls.Reply.{Reply}
 use Rattle.wasmi_core.specs.World.{World, Turn}
 use Rattle.wasmi_core.specs.Steps.{Step}
 
--- turns one after another, from one world to another
+-- turns one after another from one world to another, each of which relates the worlds before and after it
+abbrev pub Sequence : {S : Type 0} → (World S → Turn → World S → Type 0) → World S → List Turn → World S → Type 0
+Sequence Relates w [] w' = w' ≡ w
+Sequence Relates w (turn ∷ turns) w' = (v : World _) × Relates w turn v × Sequence Relates v turns w'
+
+-- a run: each turn is a step
 abbrev pub Run : {S : Type 0} → Rules S → World S → List Turn → World S → Type 0
-Run rules w [] w' = w' ≡ w
-Run rules w (turn ∷ turns) w' = (v : World _) × Step rules w turn v × Run rules v turns w'
+Run rules = Sequence (Step rules)
 
 -- the replies are those of a run of the calls, from one world to another
 abbrev pub IsRunOf : {S : Type 0} → Rules S → List Call → World S → List Reply → World S → Type 0

@@ -12,11 +12,11 @@ use Rattle.wasmi_core.specs.declared.calls.Reply.{Reply}
 use Rattle.wasmi_core.specs.declared.calls.Reply.TheVariants.{Done, Made, Value, Global, Segment, NoSuch, NoRoom}
 use Rattle.wasmi_core.specs.Rows.{reply_of, ChangesItem, Appends}
 
--- the segment of these items, unless there are too many or memory is refused
+-- the segment of these items, unless there are too many, or memory is refused for some
 abbrev pub IsSegmentOf : RefType → List ℕ → Result SegmentValue SegmentError → Type 0
 IsSegmentOf ty items (Ok segment) = (length items ≤ most_items) × (segment ≡ record { ty = ty; items = items })
 IsSegmentOf ty items (Err TooManyItems) = most_items < length items
-IsSegmentOf ty items (Err OutOfSystemMemory) = Unit {0}
+IsSegmentOf ty items (Err OutOfSystemMemory) = 0 < length items
 
 -- an element segment is made
 abbrev pub CreatesSegment : RefType → List ℕ → List SegmentValue → Reply → List SegmentValue → Type 0

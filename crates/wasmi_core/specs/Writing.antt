@@ -1,10 +1,11 @@
 -- The bytes that turns have written by growing and copying, and the fuel that they were charged for it.
-use Rattle.std.specs.Prelude.{ℕ, ◌+◌, ◌-◌, ◌*◌, ◌≤◌, Bool, true, false, ◌&&◌, if◌then◌else◌, List, count_by, sum_by}
+use Rattle.std.specs.Prelude.{◌≡◌, ℕ, ◌+◌, ◌-◌, ◌*◌, ◌≤◌, ◌<◌, Bool, true, false, ◌&&◌, if◌then◌else◌, List, count_by, sum_by}
 use Rattle.wasmi_core.specs.declared.calls.Call.{Call}
 use Rattle.wasmi_core.specs.declared.calls.Call.TheVariants.{SetFuel, GrowMemory, GrowTable, InitTable, CopyTable, FillTable}
 use Rattle.wasmi_core.specs.declared.calls.Reply.{Reply}
 use Rattle.wasmi_core.specs.declared.calls.Reply.TheVariants.{Done, Number}
 use Rattle.wasmi_core.specs.World.{Turn}
+use Rattle.wasmi_core.specs.Account.{charges}
 
 -- the calls that are charged for what they write: growths, and those that write over a part of a table
 abbrev pub is_charged : Call → Bool
@@ -46,3 +47,8 @@ amounts_set turns = sum_by (λ turn. amount_set turn.call) turns
 pub record IsBounded (rate fuel : ℕ) (turns : List Turn) : Type 0 where
   pub by_charges : bytes_written turns ≤ rate * charges_for_writing turns + writing_turns turns * (rate - 1)
   pub by_fuel : bytes_written turns ≤ rate * (fuel + amounts_set turns) + writing_turns turns * (rate - 1)
+
+-- what was left before is what is left after turns and what they were charged; at a rate above 0, no more is written than what was spent pays for, and less than a fuel's worth beyond it in each turn
+pub record IsSpent (rate before after : ℕ) (turns : List Turn) : Type 0 where
+  pub charged : after + charges turns ≡ before
+  pub written : 0 < rate → bytes_written turns ≤ rate * (before - after) + writing_turns turns * (rate - 1)

@@ -229,6 +229,26 @@ pub enum Call {
     },
 }
 
+impl Call {
+    ghost use Rattle.wasmi_core.specs.Validity.{IsValidCall};
+
+    /// Does nothing that shows: its contract tells that the type which a call names is valid.
+    #[inline(always)]
+    pub(crate) fn tell_valid(&self)
+        ensures { IsValidCall self.now }
+    {
+        match self {
+            Call::NewMemory(ty) | Call::NewLentMemory(ty) => {
+                let _minimum = ty.minimum();
+            }
+            Call::NewTable { ty, .. } => {
+                let _minimum = ty.minimum();
+            }
+            _ => {}
+        }
+    }
+}
+
 /// The reply to one call.
 #[derive(Debug, Drop, PartialEq, Eq)]
 pub enum Reply {

@@ -4,8 +4,10 @@ ghost use Rattle.wasmi_meter.specs.Limiter.{optional_rules, unlimited_rules};
 ghost use Rattle.wasmi_meter.specs.declared.limiter.NoLimits.{NoLimits};
 ghost use Rattle.wasmi_meter.specs.Quota.{quota_rules};
 ghost use Rattle.wasmi_core.specs.Determinism.{IsDeterministic, HeedsAll};
-ghost use Rattle.wasmi_core.specs.Laws.{RunsJoin, RunsOfCallsJoin, RefusalsKeepContents, GrowsAsPermitted, FuelBalances, FuelBoundsWriting, HoldsTotalsAlways, LentRunsAreOwned, LentCreationsAreOwned, LentGrowthsSucceed, RunsAreOne, RepliesTell, RepliesAreOne};
+ghost use Rattle.wasmi_core.specs.Validity.{IsValid};
+ghost use Rattle.wasmi_core.specs.Laws.{RunsJoin, RunsOfCallsJoin, RefusalsKeepContents, RefusalsInRunsKeepContents, RefusedRunsKeepContents, GrowsAsPermitted, RunsGrowAsPermitted, RepliesPermit, RunsKeepValidity, ChargesAreSpent, QuotasStayWithin, FuelBalances, FuelBoundsWriting, HoldsTotalsAlways, LentRunsAreOwned, LentCreationsAreOwned, LentGrowthsSucceed, RunsAreOne, RepliesTell, RepliesAreOne};
 
+use crate::machine::Machine;
 use wasmi_meter::{Reserving, ResourceLimiter};
 
 /// Two runs in a row are one: of both lists of turns, and of both lists of calls with their replies. So what holds of
@@ -17,23 +19,59 @@ pub fn runs_join<L: ResourceLimiter>()
 
 /// In each turn that is refused the contents stay; the meter, unless the limiter was told of want of memory, which
 /// comes after the charge; and the spare region, unless a memory was to be made in it and a slot was there for it.
+///
+/// So it is in each turn of a run, and a run in which each turn is refused keeps the contents.
 pub fn refusals_keep_contents<L: ResourceLimiter>()
-    ensures { RefusalsKeepContents (optional_rules L.rules) }
+    ensures turn { RefusalsKeepContents (optional_rules L.rules) }
+    ensures run { RefusalsInRunsKeepContents (optional_rules L.rules) }
+    ensures all_refused { RefusedRunsKeepContents (optional_rules L.rules) }
 {}
 
 /// In each turn a permission is followed by exactly the growth that was asked for, or by just one notice, and a denial
 /// by neither. A growth is charged only after a permission, at most once, and then what the growth that was asked for
 /// costs.
 ///
-/// A machine that is lent no limiter has each question permitted.
+/// A machine that is lent no limiter has each question permitted. So it is in each turn of a run.
 pub fn growths_are_permitted<L: ResourceLimiter>()
-    ensures { GrowsAsPermitted (optional_rules L.rules) }
+    ensures turn { GrowsAsPermitted (optional_rules L.rules) }
+    ensures run { RunsGrowAsPermitted (optional_rules L.rules) }
 {}
 
 /// While metering is on, the fuel that is left and the charges since it was set last, or since the start of the run,
 /// are what was set then, or was left at the start.
 pub fn fuel_balances<L: ResourceLimiter>()
     ensures { FuelBalances (optional_rules L.rules) }
+{}
+
+/// While metering is on, calls that don't set the fuel were charged what was left before and isn't left after. At a rate
+/// above 0 that bounds the bytes that they have written by growing and copying: `IsSpent` gives each turn that writes less
+/// than one fuel's worth of bytes beyond what its charge pays for.
+pub fn charges_are_spent<L: ResourceLimiter>()
+    ensures { ChargesAreSpent (optional_rules L.rules) }
+{}
+
+/// Every machine's state is valid: its memories and tables have valid types and as many whole pages and elements as these
+/// allow, its element segments are no longer than 2^32 - 1 items, and it has 16 registers.
+pub fn states_are_valid(machine: &Machine)
+    ensures { IsValid machine.now }
+{
+    machine.tell_valid();
+}
+
+/// A run of calls whose types are valid keeps a state valid. The types of a `Call` that code holds are.
+pub fn runs_keep_validity<L: ResourceLimiter>()
+    ensures { RunsKeepValidity (optional_rules L.rules) }
+{}
+
+/// A run of which no reply tells of a denial is one in which the limiter permitted each question. A growth out of bounds
+/// counts as one that tells of it, since both are told by one error.
+pub fn replies_permit<L: ResourceLimiter>()
+    ensures { RepliesPermit (optional_rules L.rules) }
+{}
+
+/// A quota that holds at most its caps before a run does so after it, and has the same caps.
+pub fn quotas_stay_within()
+    ensures { QuotasStayWithin }
 {}
 
 /// A reserving limiter that holds a machine's totals before a run holds them after it.

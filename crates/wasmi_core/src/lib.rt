@@ -10,6 +10,7 @@ mod registers;
 mod running;
 pub mod simd;
 mod slots;
+mod store;
 mod tables;
 mod values;
 pub mod wasm;

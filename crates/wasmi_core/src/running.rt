@@ -2,6 +2,7 @@
 ghost use Rattle.std.specs.Prelude.{◌≡◌, Some, IfOk, OnErr};
 ghost use Rattle.wasmi_meter.specs.Limiter.{optional_rules};
 ghost use Rattle.wasmi_meter.specs.LimiterRef.{state, KeepsLoan};
+ghost use Rattle.wasmi_core.specs.Validity.{IsValid};
 ghost use Rattle.wasmi_core.specs.World.{world};
 ghost use Rattle.wasmi_core.specs.Runs.{IsRunOf};
 ghost use Rattle.wasmi_core.specs.Totals.{HoldsTotals};
@@ -24,8 +25,10 @@ pub fn run<L: ResourceLimiter>(
         (world machine.old (state limiter.old)) replies.items
         (world machine.new (state limiter.new))) }
     ensures err { OnErr result ((machine.new ≡ machine.old) × (limiter.new ≡ limiter.old)) }
+    ensures valid { IsValid machine.new }
 {
-    let mut replies = Vec::with_capacity(machine.alloc, calls.len())?;
+    machine.tell_valid();
+    let mut replies = Vec::with_capacity(machine.store.alloc, calls.len())?;
     for call in calls {
         let reply = machine.step(call, limiter);
         replies.push_reserved(reply);
@@ -43,6 +46,7 @@ pub fn run_lending<L: ResourceLimiter>(
         (world machine.old (Some limiter.old)) replies.items
         (world machine.new (Some limiter.new))) }
     ensures err { OnErr result ((machine.new ≡ machine.old) × (limiter.new ≡ limiter.old)) }
+    ensures valid { IsValid machine.new }
 {
     let mut lent = ResourceLimiterRef::from(limiter);
     let replies = run(machine, calls, &mut lent);
@@ -65,6 +69,7 @@ pub fn run_reserving<L: Reserving>(
         (world machine.new (Some limiter.new))) }
     ensures err { OnErr result ((machine.new ≡ machine.old) × (limiter.new ≡ limiter.old)) }
     ensures held { HoldsTotals (L.Reserving.holdings limiter.new) machine.new }
+    ensures valid { IsValid machine.new }
 {
     run_lending(machine, calls, limiter)
 }

@@ -18,6 +18,7 @@ loop-call-preserved g c =
         Run-push (optional_rules g.L.ResourceLimiter.rules) _ _ _ ran.3 _ _ step.2,
       );
       loan = search rules;
+      valid = c.step-reply.ensures.valid;
       count = c.push_reserved.ensures.len ∙ ap (λ n. n + 1) c.loop-call.invariant.count;
       room = omega (arith, c.push_reserved.ensures.capacity);
     }

@@ -1,5 +1,5 @@
 use Rattle.std.proofs.Common.{refl}
-use Rattle.wasmi_core.proofs.machine.Machine.step_register.Goals as goal
+use Rattle.wasmi_core.proofs.store.Store.step_register.Goals as goal
 
 pub returns-in-SetRegister : goal.returns-in-SetRegister
 returns-in-SetRegister g c = λ limiter. rw (c.in-SetRegister.is, ← c.self.view_is) ((refl, refl), c.set.new.self.values, c.set.ensures, refl)

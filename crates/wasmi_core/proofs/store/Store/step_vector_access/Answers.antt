@@ -1,5 +1,5 @@
 use Rattle.std.proofs.Common.{refl}
-use Rattle.wasmi_core.proofs.machine.Machine.step_vector_access.Goals as goal
+use Rattle.wasmi_core.proofs.store.Store.step_vector_access.Goals as goal
 
 -- a load of a vector: no memory, or the load
 pub returns-in_default-live : goal.returns-in_default-live

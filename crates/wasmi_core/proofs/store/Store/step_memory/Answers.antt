@@ -3,7 +3,7 @@ use Rattle.std.specs.Option.{option_copied_mut}
 use Rattle.wasmi_meter.specs.LimiterRef.{state}
 use Rattle.wasmi_core.specs.State.{live_at}
 use Rattle.wasmi_core.specs.MemoryRows.{bytes_appended}
-use Rattle.wasmi_core.proofs.machine.Machine.step_memory.Goals as goal
+use Rattle.wasmi_core.proofs.store.Store.step_memory.Goals as goal
 
 pub returns-in-NewMemory-clause-step : goal.returns-in-NewMemory-clause-step
 returns-in-NewMemory-clause-step g c = (

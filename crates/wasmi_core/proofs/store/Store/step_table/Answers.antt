@@ -1,7 +1,7 @@
 use Rattle.std.proofs.Common.{refl, subst}
 use Rattle.wasmi_meter.specs.LimiterRef.{state}
 use Rattle.wasmi_core.specs.TableRows.{WritesTableAt, initialization_from, metered, element_bytes}
-use Rattle.wasmi_core.proofs.machine.Machine.step_table.Goals as goal
+use Rattle.wasmi_core.proofs.store.Store.step_table.Goals as goal
 
 pub returns-in-NewTable-clause-step : goal.returns-in-NewTable-clause-step
 returns-in-NewTable-clause-step g c = (

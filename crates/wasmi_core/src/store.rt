@@ -1,0 +1,323 @@
+//! The store of a machine: what was made, the registers and the meter, and what each call does to them.
+ghost use Rattle.std.specs.Prelude.{◌≡◌};
+ghost use Rattle.wasmi_meter.specs.Limiter.{optional_rules};
+ghost use Rattle.wasmi_meter.specs.LimiterRef.{state, KeepsLoan};
+
+use crate::calls::{Call, Reply};
+use crate::registers::Registers;
+use crate::slots::Slots;
+use crate::values::{create_global, create_segment, drop_items, find, get_global, set_global};
+use std::alloc::Global as Allocator;
+use std::marker::Model;
+use wasmi_meter::{Fuel, ResourceLimiter, ResourceLimiterRef};
+use wasmi_store::{ElementSegment, ElementSegmentRef, Memory, Table};
+use wasmi_typed::Global;
+
+/// Memories, tables, element segments and globals by their indices, registers, the meter, and the spare region, if
+/// there is one.
+///
+/// Core specification, the store.
+#[derive(Debug, Drop)]
+pub(crate) struct Store<'r> {
+    pub(crate) alloc: Allocator,
+    pub(crate) memories: Slots<Memory<'r>>,
+    pub(crate) tables: Slots<Table>,
+    pub(crate) segments: Vec<ElementSegment>,
+    pub(crate) globals: Vec<Global>,
+    pub(crate) registers: Registers,
+    pub(crate) fuel: Fuel,
+    pub(crate) spare: Option<&'r mut [u8]>,
+}
+
+impl<'r> Model for Store<'r> {
+    ghost use Rattle.std.specs.Option.{option_copied_mut};
+    ghost use Rattle.wasmi_core.specs.State.{State};
+
+    ghost Value = { State };
+
+    ghost view = { λ m. record {
+      memories = m.memories.slots.items;
+      tables = m.tables.slots.items;
+      segments = m.segments.items;
+      globals = m.globals.items;
+      registers = m.registers.values;
+      meter = m.fuel;
+      spare = option_copied_mut m.spare;
+    } };
+}
+
+impl<'r> Store<'r> {
+    ghost use Rattle.wasmi_core.specs.State.{new_state};
+    ghost use Rattle.wasmi_core.specs.FuelRows.{SetsFuel, get_fuel_reply};
+    ghost use Rattle.wasmi_core.specs.Steps.{Answers, AnswersAlone, subject_of, Memories, Tables, RegisterFile, Vectors};
+    ghost use Rattle.wasmi_core.specs.World.{world};
+
+    /// A store with this meter, in which nothing was made yet. It takes no memory.
+    pub(crate) fn new(alloc: Allocator, fuel: Fuel) -> Self
+        ensures { result ≡ new_state fuel }
+    {
+        Store {
+            alloc,
+            memories: Slots::new(alloc),
+            tables: Slots::new(alloc),
+            segments: Vec::new(alloc),
+            globals: Vec::new(alloc),
+            registers: Registers::new(),
+            fuel,
+            spare: None,
+        }
+    }
+
+    fn set_fuel(&mut self, fuel: u64) -> Reply
+        ensures { SetsFuel fuel self.old result self.new }
+    {
+        match self.fuel.set_fuel(fuel) {
+            Ok(()) => Reply::Done,
+            Err(error) => Reply::Fuel(error),
+        }
+    }
+
+    fn get_fuel(&self) -> Reply
+        ensures { result ≡ get_fuel_reply self.now.meter }
+    {
+        match self.fuel.get_fuel() {
+            Ok(left) => Reply::Number(left),
+            Err(error) => Reply::Fuel(error),
+        }
+    }
+
+    /// Answers one call.
+    #[inline(always)]
+    pub(crate) fn step<L: ResourceLimiter>(
+        &mut self,
+        call: &Call,
+        limiter: &mut ResourceLimiterRef<L>,
+    ) -> Reply
+        ensures loan { KeepsLoan limiter.old limiter.new }
+        ensures step { Answers (optional_rules L.rules) call.now
+            (world self.old (state limiter.old)) result (world self.new (state limiter.new)) }
+    {
+        match call {
+            Call::SetFuel(fuel) => self.set_fuel(*fuel),
+            Call::GetFuel => self.get_fuel(),
+            Call::NewMemory(_)
+            | Call::NewLentMemory(_)
+            | Call::GrowMemory { .. }
+            | Call::DropMemory(_)
+            | Call::Read { .. }
+            | Call::Write { .. }
+            | Call::Load { .. }
+            | Call::Store { .. } => self.step_memory(call, limiter),
+            Call::NewSegment { ty, items } => {
+                create_segment(&mut self.segments, self.alloc, *ty, items)
+            }
+            Call::DropItems(segment) => drop_items(&mut self.segments, *segment),
+            Call::NewGlobal { value, ty } => create_global(&mut self.globals, *value, *ty),
+            Call::SetGlobal { global, value } => set_global(&mut self.globals, *global, *value),
+            Call::GetGlobal(global) => get_global(&self.globals, *global),
+            Call::NewTable { .. }
+            | Call::GrowTable { .. }
+            | Call::DropTable(_)
+            | Call::GetElement { .. }
+            | Call::SetElement { .. }
+            | Call::InitTable { .. }
+            | Call::CopyTable { .. }
+            | Call::FillTable { .. } => self.step_table(call, limiter),
+            Call::VectorLoad { .. }
+            | Call::LoadLane { .. }
+            | Call::VectorStore { .. }
+            | Call::StoreLane { .. } => self.step_vector_access::<L>(call),
+            _ => self.step_register::<L>(call),
+        }
+    }
+
+    /// Answers one call on memories.
+    fn step_memory<L: ResourceLimiter>(
+        &mut self,
+        call: &Call,
+        limiter: &mut ResourceLimiterRef<L>,
+    ) -> Reply
+        requires { subject_of call.now ≡ Memories }
+        ensures loan { KeepsLoan limiter.old limiter.new }
+        ensures step { Answers (optional_rules L.rules) call.now
+            (world self.old (state limiter.old)) result (world self.new (state limiter.new)) }
+    {
+        match call {
+            Call::NewMemory(ty) => self.memories.create(self.alloc, *ty, limiter),
+            Call::NewLentMemory(ty) => self.memories.create_lent(*ty, &mut self.spare, limiter),
+            Call::GrowMemory { memory, pages } => {
+                self.memories.grow(*memory, *pages, &mut self.fuel, limiter)
+            }
+            Call::DropMemory(memory) => self.memories.drop_live(*memory),
+            Call::Read {
+                memory,
+                offset,
+                len,
+            } => self.memories.read(self.alloc, *memory, *offset, *len),
+            Call::Write {
+                memory,
+                offset,
+                bytes,
+            } => self.memories.write(*memory, *offset, bytes),
+            Call::Load {
+                op,
+                memory,
+                ptr,
+                offset,
+            } => self.memories.load(*op, *memory, *ptr, *offset),
+            Call::Store {
+                op,
+                memory,
+                ptr,
+                offset,
+                value,
+            } => self.memories.store(*op, *memory, *ptr, *offset, *value),
+            _ => unreachable!(),
+        }
+    }
+
+    /// Answers one call on tables.
+    fn step_table<L: ResourceLimiter>(
+        &mut self,
+        call: &Call,
+        limiter: &mut ResourceLimiterRef<L>,
+    ) -> Reply
+        requires { subject_of call.now ≡ Tables }
+        ensures loan { KeepsLoan limiter.old limiter.new }
+        ensures step { Answers (optional_rules L.rules) call.now
+            (world self.old (state limiter.old)) result (world self.new (state limiter.new)) }
+    {
+        match call {
+            Call::NewTable { ty, init } => self.tables.create(self.alloc, *ty, *init, limiter),
+            Call::GrowTable { table, delta, init } => {
+                self.tables
+                    .grow(*table, *delta, *init, &mut self.fuel, limiter)
+            }
+            Call::DropTable(table) => self.tables.drop_live(*table),
+            Call::GetElement { table, index } => self.tables.get(*table, *index),
+            Call::SetElement {
+                table,
+                index,
+                value,
+            } => self.tables.set(*table, *index, *value),
+            Call::InitTable {
+                table,
+                segment,
+                dst,
+                src,
+                len,
+            } => {
+                let Some(segment) = find(&self.segments, *segment) else {
+                    return Reply::NoSuch;
+                };
+                self.tables.init(
+                    *table,
+                    ElementSegmentRef::from(segment),
+                    *dst,
+                    *src,
+                    *len,
+                    &mut self.fuel,
+                )
+            }
+            Call::CopyTable {
+                dst_table,
+                dst,
+                src_table,
+                src,
+                len,
+            } => self
+                .tables
+                .copy(*dst_table, *dst, *src_table, *src, *len, &mut self.fuel),
+            Call::FillTable {
+                table,
+                dst,
+                value,
+                len,
+            } => self.tables.fill(*table, *dst, *value, *len, &mut self.fuel),
+            _ => unreachable!(),
+        }
+    }
+
+    /// Answers one call on registers, which doesn't reach the limiter: only the contract names `L`.
+    fn step_register<L: ResourceLimiter>(&mut self, call: &Call) -> Reply
+        requires { subject_of call.now ≡ RegisterFile }
+        ensures { AnswersAlone (optional_rules L.rules) call.now self.old result self.new }
+    {
+        match call {
+            Call::SetRegister { dst, value } => self.registers.set(*dst, *value),
+            Call::GetRegister(register) => self.registers.get_register(*register),
+            Call::Make { op, dst, a } => self.registers.make(*op, *dst, *a),
+            Call::Unary { op, dst, a } => self.registers.unary(*op, *dst, *a),
+            Call::Binary { op, dst, a, b } => self.registers.binary(*op, *dst, *a, *b),
+            Call::Ternary { op, dst, a, b, c } => self.registers.ternary(*op, *dst, *a, *b, *c),
+            Call::Shift { op, dst, a, amount } => self.registers.shift(*op, *dst, *a, *amount),
+            Call::Test { op, a } => self.registers.test(*op, *a),
+            Call::Extract { op, a } => self.registers.extract(*op, *a),
+            Call::Replace { op, dst, a, item } => self.registers.replace(*op, *dst, *a, *item),
+            Call::Shuffle { dst, a, b, lanes } => self.registers.shuffle(*dst, *a, *b, *lanes),
+            _ => unreachable!(),
+        }
+    }
+
+    /// Answers one load or store of a vector, which doesn't reach the limiter: only the contract names `L`.
+    fn step_vector_access<L: ResourceLimiter>(&mut self, call: &Call) -> Reply
+        requires { subject_of call.now ≡ Vectors }
+        ensures { AnswersAlone (optional_rules L.rules) call.now self.old result self.new }
+    {
+        match call {
+            Call::VectorLoad {
+                op,
+                dst,
+                memory,
+                ptr,
+                offset,
+            } => {
+                let Some(memory) = self.memories.live(*memory) else {
+                    return Reply::NoSuch;
+                };
+                self.registers.load(*op, *dst, memory.data(), *ptr, *offset)
+            }
+            Call::LoadLane {
+                op,
+                dst,
+                a,
+                memory,
+                ptr,
+                offset,
+            } => {
+                let Some(a) = self.registers.vector(*a) else {
+                    return Reply::NoSuch;
+                };
+                let Some(memory) = self.memories.live(*memory) else {
+                    return Reply::NoSuch;
+                };
+                self.registers
+                    .load_lane(*op, *dst, a, memory.data(), *ptr, *offset)
+            }
+            Call::VectorStore {
+                a,
+                memory,
+                ptr,
+                offset,
+            } => {
+                let Some(a) = self.registers.vector(*a) else {
+                    return Reply::NoSuch;
+                };
+                self.memories.store_vector(a, *memory, *ptr, *offset)
+            }
+            Call::StoreLane {
+                op,
+                a,
+                memory,
+                ptr,
+                offset,
+            } => {
+                let Some(a) = self.registers.vector(*a) else {
+                    return Reply::NoSuch;
+                };
+                self.memories.store_lane(*op, a, *memory, *ptr, *offset)
+            }
+            _ => unreachable!(),
+        }
+    }
+}
