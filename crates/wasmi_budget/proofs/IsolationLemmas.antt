@@ -5,7 +5,7 @@ use Rattle.std.proofs.lemmas.Bool.Decides.{Decides-eqb}
 use Rattle.std.proofs.lemmas.List.{get_or_append_left, get_or-set_other, get_or-set_same, length-append, length-set}
 use Rattle.std.proofs.lemmas.Option.{same_Some, slice_get_read, slice_get_within, get_or_from_slice_get}
 use Rattle.std.specs.Bool.{Decides}
-use Rattle.std.specs.Prelude.{MatchBool, if◌then◌else◌, nat_eq, slice_get, slice_set}
+use Rattle.std.specs.Prelude.{All, MatchBool, if◌then◌else◌, nat_eq, slice_get, slice_set}
 use Rattle.std.specs.Option.{option_map}
 use Rattle.wasmi_meter.specs.declared.limiter.Kind.{Kind}
 use Rattle.wasmi_meter.specs.declared.limiter.Kind.TheVariants.{Bytes, Elements}
@@ -20,8 +20,10 @@ use Rattle.wasmi_budget.specs.Amounts.{amount_of, nothing}
 use Rattle.wasmi_budget.specs.Tenant.{held_together, Asked, tenant_rules, alone}
 use Rattle.wasmi_budget.specs.Pool.{PoolValue, tenant_at, RunsTenantBy, RunsTenant}
 use Rattle.wasmi_budget.specs.Runs.{PoolTurn, Added, Ran, Refused, PoolRun}
-use Rattle.wasmi_budget.specs.Isolation.{permitting, PermittingRun, own_turns}
-use Rattle.wasmi_budget.specs.Laws.{OthersDontShow, RunsAsAlone}
+use Rattle.wasmi_core.specs.Permission.{permitting, TellsNoDenial}
+use Rattle.wasmi_core.proofs.PermissionLemmas.{permitted_run}
+use Rattle.wasmi_budget.specs.Isolation.{PermittingRun, own_turns}
+use Rattle.wasmi_budget.specs.Laws.{OthersDontShow, RunsAsAlone, RepliesPermit}
 
 no_permission : {answer : Answer} {taken : Bool} → answer ≡ Ok true → answer ≡ Ok taken → taken ≡ false → ⊥
 no_permission permitted answered denied = cc
@@ -126,3 +128,19 @@ module _ (caps : Amounts) (index : ℕ) (pool' : PoolValue) where
 
 pub permitted_runs_as_alone : RunsAsAlone
 permitted_runs_as_alone pool index s found turns pool' ran = ends_alone pool.caps index pool' pool refl s found turns ran
+
+-- a run of which no reply tells of a denial
+pub replies_permit : RepliesPermit
+replies_permit pool index calls replies pool' shown ran = record {
+  machine = ran.machine;
+  found = ran.found;
+  machine' = ran.machine';
+  tenant' = ran.tenant';
+  ran = (
+    ran.ran.0,
+    ran.ran.1,
+    ran.ran.2,
+    permitted_run (optional_rules tenant_rules) _ ran.ran.0 _ (subst (All TellsNoDenial) (sym ran.ran.2) shown) ran.ran.3,
+  );
+  after = ran.after;
+}

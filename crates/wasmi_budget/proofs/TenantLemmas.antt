@@ -1,48 +1,18 @@
 -- What stays of a tenant while its machine runs.
-use Rattle.std.proofs.Common.{◌≡◌, ℕ, ◌+◌, ◌-◌, ◌≤◌, Option, Some, None, Ok, true, List, [], ◌∷◌, inl, inr, refl, sym, subst, arith}
+use Rattle.std.proofs.Common.{◌≡◌, ℕ, ◌+◌, ◌-◌, ◌≤◌, Bool, Option, Some, None, Ok, true, List, [], ◌∷◌, inl, inr, refl, sym, ap, ◌∙◌, subst, arith}
 use Rattle.std.proofs.lemmas.Bool.{cases_lt}
+use Rattle.std.proofs.lemmas.Option.{same_Some}
 use Rattle.wasmi_meter.specs.declared.limiter.Kind.{Kind}
 use Rattle.wasmi_meter.specs.declared.limiter.Kind.TheVariants.{Bytes, Elements}
 use Rattle.wasmi_meter.specs.Holdings.{Holdings, with_more, without_last_of}
 use Rattle.wasmi_meter.specs.Limiter.{Question, Answer, Failure, Heed, kind_of, Rules, optional_rules}
 use Rattle.wasmi_core.specs.World.{World, Turn}
 use Rattle.wasmi_core.specs.Runs.{Run}
-use Rattle.wasmi_core.specs.Exchange.{Exchange, Nothing, Denial, Permission, Notice, Passes}
-use Rattle.wasmi_core.proofs.ExchangeLemmas.{growths_are_permitted}
+use Rattle.wasmi_core.specs.Determinism.{IsDeterministic, HeedsAll}
+use Rattle.wasmi_core.proofs.LimiterLemmas.{run_keeps}
 use Rattle.wasmi_budget.specs.declared.tenant.Tenant.{Tenant}
 use Rattle.wasmi_budget.specs.Amounts.{amount_of}
-use Rattle.wasmi_budget.specs.Tenant.{holdings, with_holdings, held_together, Asked, Noticed, tenant_rules}
-
--- A fact of a limiter that each question and each notice keeps is kept by runs.
-module _ {L : Type 0} (rules : Rules L) (Fact : L → Type 0) (asks : (l l' : L) (q : Question) (answer : Answer) → Fact l → rules.asked l q answer l' → Fact l') (notices : (l l' : L) (failure : Failure) (heed : Heed) → Fact l → rules.noticed l failure heed l' → Fact l') where
-  -- the fact of the limiter, if there is one
-  abbrev FactIf : Option L → Type 0
-  FactIf None = Unit {0}
-  FactIf (Some l) = Fact l
-
-  asks_if : (l l' : Option L) (q : Question) (answer : Answer) → FactIf l → (optional_rules rules).asked l q answer l' → FactIf l'
-  asks_if (Some l) (Some l') q answer fact asked = asks l l' q answer fact asked
-  asks_if (Some l) None q answer fact asked = tt
-  asks_if None (Some l') q answer fact asked = absurd asked
-  asks_if None None q answer fact asked = tt
-
-  notices_if : (l l' : Option L) (failure : Failure) (heed : Heed) → FactIf l → (optional_rules rules).noticed l failure heed l' → FactIf l'
-  notices_if (Some l) (Some l') failure heed fact noticed = notices l l' failure heed fact noticed
-  notices_if (Some l) None failure heed fact noticed = tt
-  notices_if None (Some l') failure heed fact noticed = absurd noticed
-  notices_if None None failure heed fact noticed = tt
-
-  exchange_keeps : (l l' : Option L) (exchange : Exchange) → FactIf l → Passes (optional_rules rules) l exchange l' → FactIf l'
-  exchange_keeps l l' Nothing fact same = subst FactIf (sym same) fact
-  exchange_keeps l l' (Denial q answer) fact (denial, asked) = asks_if l l' q answer fact asked
-  exchange_keeps l l' (Permission q) fact asked = asks_if l l' q (Ok true) fact asked
-  exchange_keeps l l' (Notice q failure heed) fact (kind, p, asked, noticed) = notices_if p l' failure heed (asks_if l p q (Ok true) fact asked) noticed
-
-  pub run_keeps : (w : World (Option L)) (turns : List Turn) (w' : World (Option L)) → FactIf w.limiter → Run (optional_rules rules) w turns w' → FactIf w'.limiter
-  run_keeps w [] w' fact ran = rw ran fact
-  run_keeps w (turn ∷ turns) w' fact (v, step, ran) =
-      let passed = growths_are_permitted (optional_rules rules) w turn v step in
-      run_keeps v turns w' (exchange_keeps w.limiter v.limiter passed.0 fact passed.1) ran
+use Rattle.wasmi_budget.specs.Tenant.{holdings, with_holdings, held_together, Takes, Asked, Noticed, tenant_rules}
 
 -- the caps and what the others hold are those of another tenant, and all together are within the caps
 pub record StaysWithin (tenant tenant' : Tenant) : Type 0 where
@@ -89,5 +59,29 @@ notices_within first tenant tenant' failure heed stays noticed =
 -- a run keeps a tenant within the caps
 pub run_stays_within : (first : Tenant) → ((kind : Kind) → held_together first kind ≤ amount_of first.caps kind) → (w w' : World (Option Tenant)) (turns : List Turn) (tenant' : Tenant) → w.limiter ≡ Some first → w'.limiter ≡ Some tenant' → Run (optional_rules tenant_rules) w turns w' → StaysWithin first tenant'
 run_stays_within first within w w' turns tenant' is is' ran =
-    let fact = run_keeps tenant_rules (StaysWithin first) (asks_within first) (notices_within first) w turns w' (rw is (record { caps = refl; others = refl; within = within })) ran in
-    rw is' at fact
+    let kept = run_keeps tenant_rules (StaysWithin first) (λ l q answer l'. asks_within first l l' q answer) (λ l failure heed l'. notices_within first l l' failure heed)
+        w first is (record { caps = refl; others = refl; within = within }) turns w' ran in
+    subst (StaysWithin first) (same_Some kept.0 tenant' (sym kept.1 ∙ is')) kept.2
+
+-- what is taken, twice
+takes_once : (tenant : Tenant) (kind : Kind) (n : ℕ) (taken taken' : Bool) (a b : Tenant) → Takes tenant kind n taken a → Takes tenant kind n taken' b → (taken ≡ taken') × (a ≡ b)
+takes_once tenant kind n taken taken' a b first second =
+    elim (cases_lt (amount_of tenant.caps kind) (held_together tenant kind + n)) [
+      | inl above ↦ let one = first.above above in let other = second.above above in (one.0 ∙ sym other.0, one.1 ∙ sym other.1)
+      | inr within ↦ let one = first.within within in let other = second.within within in (one.0 ∙ sym other.0, one.1 ∙ sym other.1)
+    ]
+
+asked_once : (tenant : Tenant) (q : Question) (answer answer' : Answer) (a b : Tenant) → Asked tenant q answer a → Asked tenant q answer' b → (answer ≡ answer') × (a ≡ b)
+asked_once tenant q answer answer' a b (taken, answered, takes) (taken', answered', takes') =
+    let one = takes_once tenant q.kind (q.desired - q.current) taken taken' a b takes takes' in
+    (answered ∙ ap Ok one.0 ∙ sym answered', one.1)
+
+-- a tenant leaves no choice, and heeds each notice
+pub tenant_once : IsDeterministic tenant_rules
+tenant_once = record {
+  asked = λ tenant q answer answer' a b first second. asked_once tenant q answer answer' a b first second;
+  noticed = λ tenant failure heed heed' a b first second. (first.0 ∙ sym second.0, first.1 ∙ sym second.1);
+}
+
+pub tenant_heeds : HeedsAll tenant_rules
+tenant_heeds tenant failure heed tenant' noticed = noticed.0

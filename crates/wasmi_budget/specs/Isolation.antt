@@ -1,13 +1,10 @@
 -- Runs in which a tenant is never denied.
-use Rattle.std.specs.Prelude.{◌≡◌, ℕ, nat_eq, if◌then◌else◌, MatchBool, Ok, true, List, [], ◌∷◌}
-use Rattle.wasmi_meter.specs.Limiter.{Rules, optional_rules}
+use Rattle.std.specs.Prelude.{◌≡◌, ℕ, nat_eq, if◌then◌else◌, MatchBool, List, [], ◌∷◌}
+use Rattle.wasmi_meter.specs.Limiter.{optional_rules}
+use Rattle.wasmi_core.specs.Permission.{permitting}
 use Rattle.wasmi_budget.specs.Tenant.{tenant_rules}
 use Rattle.wasmi_budget.specs.Pool.{PoolValue, RunsTenantBy, RunsTenant}
 use Rattle.wasmi_budget.specs.Runs.{PoolTurn, Added, Ran, Refused, PoolStep, RunBy}
-
--- the rules by which each question is permitted
-abbrev pub permitting : {S : Type 0} → Rules S → Rules S
-permitting rules = record { asked = λ l question answer l'. (answer ≡ Ok true) × rules.asked l question answer l'; noticed = rules.noticed }
 
 -- a call on a pool, which permits each question where it is a run of the tenant of an index
 abbrev pub PermittingStep : ℕ → PoolValue → PoolTurn → PoolValue → Type 0

@@ -1,14 +1,17 @@
 -- What holds of all calls on a pool, and of all runs of a tenant's machine.
-use Rattle.std.specs.Prelude.{◌≡◌, ℕ, Some, List, [], ◌∷◌, slice_get}
+use Rattle.std.specs.Prelude.{◌≡◌, ℕ, Some, All, List, [], ◌∷◌, slice_get}
 use Rattle.wasmi_meter.specs.Limiter.{optional_rules}
 use Rattle.wasmi_core.specs.State.{State}
 use Rattle.wasmi_core.specs.World.{Turn}
 use Rattle.wasmi_core.specs.Runs.{Run}
 use Rattle.wasmi_budget.specs.declared.tenant.Tenant.{Tenant}
 use Rattle.wasmi_budget.specs.Tenant.{tenant_rules, alone}
-use Rattle.wasmi_budget.specs.Pool.{PoolValue, IsWithinCaps}
+use Rattle.wasmi_core.specs.declared.calls.Call.{Call}
+use Rattle.wasmi_core.specs.declared.calls.Reply.{Reply}
+use Rattle.wasmi_budget.specs.Pool.{PoolValue, IsWithinCaps, RunsTenantBy, RunsTenant}
 use Rattle.wasmi_budget.specs.Runs.{PoolTurn, PoolRun}
-use Rattle.wasmi_budget.specs.Isolation.{permitting, PermittingRun, own_turns}
+use Rattle.wasmi_core.specs.Permission.{permitting, TellsNoDenial}
+use Rattle.wasmi_budget.specs.Isolation.{PermittingRun, own_turns}
 
 -- after all calls the caps are the same, and all machines together are within them
 abbrev pub CapsHold : Type 0
@@ -27,3 +30,8 @@ RunsAsAlone = (pool : PoolValue) (index : ℕ) (s : State) → slice_get pool.ma
     → (turns : List PoolTurn) (pool' : PoolValue) → PermittingRun index pool turns pool'
     → (s' : State) × (slice_get pool'.machines index ≡ Some s')
     × PoolRun (record { caps = pool.caps; machines = s ∷ [] }) (own_turns index turns) (record { caps = pool.caps; machines = s' ∷ [] })
+
+-- an accepted run of a tenant of which no reply tells of a denial is one in which each question was permitted
+abbrev pub RepliesPermit : Type 0
+RepliesPermit = (pool : PoolValue) (index : ℕ) (calls : List Call) (replies : List Reply) (pool' : PoolValue) → All TellsNoDenial replies
+    → RunsTenant pool index calls replies pool' → RunsTenantBy (permitting (optional_rules tenant_rules)) pool index calls replies pool'

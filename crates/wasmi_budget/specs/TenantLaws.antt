@@ -22,4 +22,4 @@ asked_reserves tenant tenant' q answer (taken, answered, takes) =
     ]
 
 pub noticed_gives_back : (tenant tenant' : Tenant) (failure : Failure) (heed : Heed) → Noticed tenant failure heed tenant' → GivesBack (kind_of failure) (holdings tenant) (holdings tenant')
-noticed_gives_back tenant tenant' failure heed noticed n last = ap holdings noticed.1
+noticed_gives_back tenant tenant' failure heed noticed = ap holdings noticed.1

@@ -1,5 +1,7 @@
 //! What holds of all pools. These functions do nothing: each states a law as its contract.
-ghost use Rattle.wasmi_budget.specs.Laws.{CapsHold, OthersDontShow, RunsAsAlone};
+ghost use Rattle.wasmi_core.specs.Determinism.{IsDeterministic, HeedsAll};
+ghost use Rattle.wasmi_budget.specs.Laws.{CapsHold, OthersDontShow, RepliesPermit, RunsAsAlone};
+ghost use Rattle.wasmi_budget.specs.Tenant.{tenant_rules};
 
 /// From a pool whose machines are within its caps, as a new one's are, all calls lead to one whose
 /// machines are within the same caps.
@@ -17,4 +19,20 @@ pub fn others_do_not_show()
 /// same caps, whatever the others do in between.
 pub fn permitted_runs_as_alone()
     ensures { RunsAsAlone }
+{}
+
+/// A run of a tenant of which no reply tells of a denial is one in which each question was permitted:
+/// so what `Pool::run` promises leads to `permitted_runs_as_alone`.
+pub fn replies_permit()
+    ensures { RepliesPermit }
+{}
+
+/// A tenant's limiter leaves no choice.
+pub fn tenants_leave_no_choice()
+    ensures { IsDeterministic tenant_rules }
+{}
+
+/// A tenant's limiter heeds each notice.
+pub fn tenants_heed_all()
+    ensures { HeedsAll tenant_rules }
 {}

@@ -51,11 +51,12 @@ impl<'r> Model for Pool<'r> {
 }
 
 impl<'r> Pool<'r> {
-    ghost use Rattle.wasmi_budget.specs.Pool.{tenant_at, total_of, AddsTenant, IsAddRefusal, RunsTenant};
+    ghost use Rattle.wasmi_budget.specs.Pool.{IsWithinCaps, tenant_at, total_of, AddsTenant, IsAddRefusal, RunsTenant};
 
     /// A pool with these caps and no tenant. It takes no memory.
     pub fn new(alloc: Allocator, bytes: u64, elements: u64) -> Pool<'r>
-        ensures { result ≡ record { caps = record { bytes = bytes; elements = elements }; machines = [] } }
+        ensures made { result ≡ record { caps = record { bytes = bytes; elements = elements }; machines = [] } }
+        ensures within { IsWithinCaps result }
     {
         Pool {
             caps: Amounts { bytes, elements },
@@ -65,7 +66,8 @@ impl<'r> Pool<'r> {
 
     /// How many tenants there are.
     pub fn len(&self) -> usize
-        ensures { result ≡ length self.now.machines }
+        ensures value { result ≡ length self.now.machines }
+        ensures within { IsWithinCaps self.now }
     {
         self.machines.len()
     }
@@ -83,14 +85,15 @@ impl<'r> Pool<'r> {
         ensures added { IfOk result (λ index. (index ≡ length self.old.machines) × AddsTenant self.old machine.entry self.new) }
         ensures refused { IfErr result (λ refusal. IsAddRefusal machine.entry refusal.0) }
         ensures same { IfErr result (λ refusal. (refusal.1 ≡ machine.entry) × (self.new ≡ self.old)) }
+        ensures within { IsWithinCaps self.new }
     {
+        let index = self.machines.len();
         if machine.total_bytes() > 0 || machine.total_elements() > 0 {
             return Err((AddError::NotEmpty, machine));
         }
         if self.machines.try_reserve(1).is_err() {
             return Err((AddError::NoRoom, machine));
         }
-        let index = self.machines.len();
         self.machines.push_reserved(machine);
         Ok(index)
     }
@@ -101,6 +104,7 @@ impl<'r> Pool<'r> {
         ensures ran { IfOk result (λ replies. RunsTenant self.old index calls.now replies.items self.new) }
         ensures no_tenant { IsErrOf result PoolError.NoTenant ↔ (length self.old.machines ≤ index) }
         ensures refused { OnErr result (self.new ≡ self.old) }
+        ensures within { IsWithinCaps self.new }
     {
         let Some(mut tenant) = self.tenant(index) else {
             return Err(PoolError::NoTenant);

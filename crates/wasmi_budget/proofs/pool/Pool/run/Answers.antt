@@ -37,3 +37,6 @@ returns-clause-no_tenant c =
       | in-Ok w ↦ rw w.result-is (λ error. absurd cc, λ past. absurd (omega (arith, past, inside, machines)))
       | in-Err w ↦ rw w.result-is (λ error. absurd cc, λ past. absurd (omega (arith, past, inside, machines)))
     ]
+
+pub returns-clause-within : goal.returns-clause-within
+returns-clause-within c = (invariant_of-self c).within
