@@ -1,3 +1,4 @@
-mod RunsLemmas
-mod RecorderLemmas
+mod LanesLemmas
 mod PoolsLemmas
+mod RecorderLemmas
+mod RunsLemmas

@@ -1,5 +1,5 @@
 -- One call of a run, and facts of what is answered.
-use Rattle.std.proofs.Common.{◌≡◌, Result, Ok, Err, List, [], ◌∷◌, length, map, refl, sym, ap, subst, ◌∙◌, arith, IfOk}
+use Rattle.std.proofs.Common.{◌≡◌, ◌≤◌, Some, OnErr, Result, Ok, Err, List, [], ◌∷◌, length, map, refl, sym, ap, subst, ◌∙◌, arith, IfOk}
 use Rattle.std.proofs.lemmas.List.Elements.{All-head, All-tail}
 use Rattle.std.proofs.lemmas.Option.{same_Some}
 use Rattle.std.specs.Prelude.{All, slice_get}
@@ -15,7 +15,13 @@ use Rattle.wasmi_core.specs.State.{State}
 use Rattle.wasmi_core.specs.LentMemory.{FitsRegions, RunInRegions, owned_world, unlent_world}
 use Rattle.wasmi_core.specs.Determinism.{HasMemory, HaveMemory}
 use Rattle.wasmi_callers.specs.Runs.{IsStill, AreStill, HasRegionFor}
-use Rattle.wasmi_core.specs.Laws.{IsRefusal, SameContents, RefusalsKeepContents, LentRunsAreOwned, LentCreationsAreOwned}
+use Rattle.wasmi_core.specs.Laws.{LentRunsAreOwned, LentCreationsAreOwned, QuotasStayWithin}
+use Rattle.wasmi_meter.specs.declared.limiter.Kind.TheVariants.{Bytes, Elements}
+use Rattle.wasmi_meter.specs.declared.quota.Quota.{Quota}
+use Rattle.wasmi_meter.specs.Quota.{holdings, cap_of, IsWithinCaps, quota_rules}
+use Rattle.wasmi_meter.specs.Limiter.{optional_rules}
+use Rattle.wasmi_core.specs.World.{world}
+use Rattle.wasmi_core.specs.Totals.{total, HoldsTotals}
 
 -- from a fact of a value to another
 pub if_ok_too : {T E : Type 0} {P Q : T → Type 0} (r : Result T E) → IfOk r P → ((x : T) → P x → Q x) → IfOk r Q
@@ -28,12 +34,6 @@ module _ {S : Type 0} (rules : Rules S) where
   one_turn calls w w' replies one ([], made, told, ran) = absurd (omega (arith, one, ap length made))
   one_turn calls w w' replies one (turn ∷ [], made, told, (v, step, ran)) = (turn, told, subst (λ u. Step rules w turn u) (sym ran) step)
   one_turn calls w w' replies one (turn ∷ t ∷ turns, made, told, ran) = absurd (omega (arith, one, ap length made))
-
-  -- one call that is refused
-  pub refused_once : (calls : List Call) (w w' : World S) (replies : List Reply) → length calls ≡ 1 → RefusalsKeepContents rules → IsRunOf rules calls w replies w' → All IsRefusal replies → SameContents w.state w'.state
-  refused_once calls w w' replies one keeps ran refused =
-      let turned = one_turn calls w w' replies one ran in
-      (keeps w turned.0 w' turned.2 (All-head IsRefusal turned.0.reply [] (subst (All IsRefusal) (sym turned.1) refused))).contents
 
   -- a call that neither makes a lent memory nor grows one fits the regions
   still_fits : (s : State) (call : Call) → IsStill call → FitsRegions s call
@@ -99,3 +99,23 @@ all_have (turn ∷ turns) has = (All-head HasMemory turn.reply (map Turn.reply t
 
 pub replies_have : (turns : List Turn) (replies : List Reply) → map Turn.reply turns ≡ replies → All HasMemory replies → HaveMemory turns
 replies_have turns replies is has = all_have turns (subst (All HasMemory) (sym is) has)
+
+-- what a machine has, once its quota stayed within its caps
+pub record IsWithin (s : State) (quota : Quota) : Type 0 where
+  pub bytes : total s Bytes ≤ cap_of quota Bytes
+  pub elements : total s Elements ≤ cap_of quota Elements
+
+held_within : (s : State) (first quota : Quota) → HoldsTotals (holdings quota) s → IsWithinCaps quota → (quota.bytes ≡ first.bytes) × (quota.elements ≡ first.elements) → IsWithin s first
+held_within s first quota held within caps =
+    record { bytes = omega (arith, held.bytes, within.bytes, caps.0); elements = omega (arith, held.elements, within.elements, caps.1) }
+
+pub within_quota : {R E : Type 0} (items : R → List Reply) → QuotasStayWithin → (s s' : State) (quota quota' : Quota) (calls : List Call) (result : Result R E) → IsWithinCaps quota → HoldsTotals (holdings quota') s'
+    → IfOk result (λ replies. IsRunOf (optional_rules quota_rules) calls (world s (Some quota)) (items replies) (world s' (Some quota')))
+    → OnErr result ((s' ≡ s) × (quota' ≡ quota)) → IsWithin s' quota
+within_quota items stays s s' quota quota' calls (Ok replies) within held ran same =
+    let after = stays s quota within ran.0 (world s' (Some quota')) ran.3 in
+    let is : quota' ≡ after.0 = same_Some quota' after.0 after.1 in
+    held_within s' quota quota' held (subst IsWithinCaps (sym is) after.2)
+    (ap (λ (q : Quota). q.bytes) is ∙ after.3.bytes, ap (λ (q : Quota). q.elements) is ∙ after.3.elements)
+within_quota items stays s s' quota quota' calls (Err error) within held ran same =
+    held_within s' quota quota' held (subst IsWithinCaps (sym same.1) within) (ap (λ (q : Quota). q.bytes) same.1, ap (λ (q : Quota). q.elements) same.1)

@@ -1,2 +1,3 @@
 pub mod Recorder
 pub mod Runs
+pub mod Pools

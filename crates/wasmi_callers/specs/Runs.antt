@@ -8,10 +8,12 @@ use Rattle.wasmi_core.specs.declared.calls.Call.{Call}
 use Rattle.wasmi_core.specs.declared.calls.Reply.{Reply}
 use Rattle.wasmi_core.specs.declared.calls.Call.TheVariants.{NewLentMemory, GrowMemory}
 use Rattle.wasmi_core.specs.World.{World, Turn}
-use Rattle.wasmi_core.specs.Runs.{Run}
+use Rattle.wasmi_core.specs.Exchange.{Exchanges}
+use Rattle.wasmi_core.specs.Steps.{Step}
+use Rattle.wasmi_core.specs.Runs.{Sequence, Run}
 use Rattle.wasmi_core.specs.State.{State}
 use Rattle.wasmi_core.specs.Account.{opened, account_after, Balances}
-use Rattle.wasmi_core.specs.Writing.{IsBounded}
+use Rattle.wasmi_core.specs.Writing.{IsBounded, IsSpent}
 
 -- turns of these calls with these replies
 pub record AreTurns (calls : List Call) (replies : List Reply) (turns : List Turn) : Type 0 where
@@ -49,3 +51,12 @@ IsLent x = (rest : List ℕ) × (x.room ≡ Lent rest)
 -- the spare region is there, and no shorter than the minimum of a type
 abbrev pub HasRegionFor : MemoryTypeValue → State → Type 0
 HasRegionFor ty s = (region : List ℕ) × (s.spare ≡ Some region) × (minimum_bytes ty ≤ length region)
+
+-- where metering was on, what was left is what is left and what the calls were charged, and that bounds what they have written
+abbrev pub IsSpentBy : State → List Call → List Reply → State → Type 0
+IsSpentBy s calls replies s' = (left : ℕ) → s.meter.left ≡ Some left
+    → (left' : ℕ) × (s'.meter.left ≡ Some left') × (turns : List Turn) × AreTurns calls replies turns × IsSpent s.meter.costs.bytes_copied_per_fuel left left' turns
+
+-- in each turn a permission is followed by exactly the growth that was asked for, or by just one notice, and a denial by neither
+abbrev pub IsExchanged : {S : Type 0} → Rules S → List Call → World S → List Reply → World S → Type 0
+IsExchanged rules calls w replies w' = (turns : List Turn) × AreTurns calls replies turns × Sequence (λ v turn v'. Step rules v turn v' × Exchanges rules v turn v') w turns w'

@@ -1,9 +1,11 @@
-//! Callers of the laws of `wasmi_core`, `wasmi_store` and `wasmi_budget`: each law is called once, by a function whose
-//! contract a user of the law would want.
+//! Callers of the laws of `wasmi_core`, its parts and `wasmi_budget`: each law is called by a function whose contract a
+//! user of the law would want.
 #![tactic(auto)]
 
+pub mod lanes;
 pub mod pools;
 pub mod recorder;
 pub mod runs;
 pub mod types;
+pub mod values;
 pub mod views;

@@ -1,9 +1,12 @@
 //! Callers of the laws over pools.
-ghost use Rattle.std.specs.Prelude.{◌≡◌};
+ghost use Rattle.std.specs.Prelude.{◌≡◌, IfOk, All};
+ghost use Rattle.wasmi_core.specs.Determinism.{HasMemory};
+ghost use Rattle.wasmi_core.specs.Permission.{TellsNoDenial};
 ghost use Rattle.wasmi_budget.specs.Pool.{IsWithinCaps};
+ghost use Rattle.wasmi_callers.specs.Pools.{RunsAlone, RunsBeside};
 
-use wasmi_budget::{Pool, PoolError, laws};
-use wasmi_core::{Call, Reply};
+use wasmi_budget::{Pool, PoolError, Tenant, laws};
+use wasmi_core::{Call, Reply, laws as core_laws};
 
 /// Makes calls on the machine of a tenant: whatever comes of it, all machines together stay within the caps.
 pub fn run_within(pool: &mut Pool, index: usize, calls: &[Call]) -> Result<Vec<Reply>, PoolError>
@@ -13,4 +16,43 @@ pub fn run_within(pool: &mut Pool, index: usize, calls: &[Call]) -> Result<Vec<R
 {
     laws::caps_hold();
     pool.run(index, calls)
+}
+
+/// Makes calls on the machine of a tenant: where no reply tells of a denial, it is as if the tenant had a pool of its
+/// own with the same caps.
+pub fn run_alone(pool: &mut Pool, index: usize, calls: &[Call]) -> Result<Vec<Reply>, PoolError>
+    ensures { IfOk result (λ replies. All TellsNoDenial replies.items → RunsAlone pool.old index calls.now replies.items pool.new) }
+{
+    laws::replies_permit();
+    laws::permitted_runs_as_alone();
+    pool.run(index, calls)
+}
+
+/// The same of the machine alone: what the others hold doesn't show.
+pub fn run_beside(pool: &mut Pool, index: usize, calls: &[Call]) -> Result<Vec<Reply>, PoolError>
+    ensures { IfOk result (λ replies. All TellsNoDenial replies.items → RunsBeside pool.old index calls.now replies.items) }
+{
+    laws::replies_permit();
+    laws::others_do_not_show();
+    pool.run(index, calls)
+}
+
+/// Makes the same calls on a tenant's machine in two equal pools: if no reply tells of want of memory, the replies are
+/// the same, and the pools are equal again.
+pub fn run_on_both(
+    pool: &mut Pool,
+    other: &mut Pool,
+    index: usize,
+    calls: &[Call],
+) -> Result<(Vec<Reply>, Vec<Reply>), PoolError>
+    requires { other.old ≡ pool.old }
+    ensures { IfOk result (λ replies. All HasMemory replies.0.items → All HasMemory replies.1.items
+        → (replies.0.items ≡ replies.1.items) × (pool.new ≡ other.new)) }
+{
+    laws::tenants_leave_no_choice();
+    laws::tenants_heed_all();
+    core_laws::replies_are_one::<Tenant>();
+    let first = pool.run(index, calls)?;
+    let second = other.run(index, calls)?;
+    Ok((first, second))
 }

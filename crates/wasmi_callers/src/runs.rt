@@ -1,30 +1,34 @@
 //! Callers of the laws over turns and runs.
-ghost use Rattle.std.specs.Prelude.{◌≡◌, ◌+◌, ◌*◌, ◌++◌, [], ◌∷◌, Some, Ok, true, IfOk, All, length};
+ghost use Rattle.std.specs.Prelude.{◌≡◌, ◌+◌, ◌*◌, ◌++◌, ◌≤◌, [], ◌∷◌, Some, Ok, true, IfOk, All};
 ghost use Rattle.wasmi_meter.specs.Limiter.{optional_rules};
-ghost use Rattle.wasmi_meter.specs.Quota.{holdings, quota_rules};
+ghost use Rattle.wasmi_meter.specs.declared.limiter.Kind.TheVariants.{Bytes, Elements};
+ghost use Rattle.wasmi_meter.specs.Quota.{holdings, cap_of, IsWithinCaps, quota_rules};
 ghost use Rattle.wasmi_store.specs.Buffer.{has_place_for};
 ghost use Rattle.wasmi_store.specs.MemoryType.{page_bytes, in_bounds};
 ghost use Rattle.wasmi_store.specs.Memory.{pages_of};
+ghost use Rattle.wasmi_core.specs.Account.{SetsNoFuel};
 ghost use Rattle.wasmi_core.specs.Determinism.{HasMemory};
 ghost use Rattle.wasmi_core.specs.LentMemory.{owned_world, unlent_world};
 ghost use Rattle.wasmi_core.specs.Laws.{IsRefusal, SameContents};
+ghost use Rattle.wasmi_core.specs.Permission.{permitting, TellsNoDenial};
 ghost use Rattle.wasmi_core.specs.Runs.{IsRunOf};
-ghost use Rattle.wasmi_core.specs.Totals.{HoldsTotals};
-ghost use Rattle.wasmi_callers.specs.Runs.{IsBilled, IsBoundedBy, AreStill, AreSameTurns, HasRegionFor, IsLent};
+ghost use Rattle.wasmi_core.specs.Totals.{total, HoldsTotals};
+ghost use Rattle.wasmi_core.specs.Validity.{IsValid, IsValidCall};
+ghost use Rattle.wasmi_core.specs.World.{world};
+ghost use Rattle.wasmi_callers.specs.Runs.{IsBilled, IsBoundedBy, IsSpentBy, IsExchanged, AreStill, AreSameTurns, HasRegionFor, IsLent};
 
 use std::alloc::AllocError;
 use wasmi_core::{
     Call, Machine, Memory, MemoryError, MemoryType, NoLimits, Quota, Reply, ResourceLimiter,
-    ResourceLimiterRef, laws, run_lending,
+    ResourceLimiterRef, laws, run_lending, run_reserving,
 };
 
-/// Makes one call. Where it is refused, the machine has the contents that it had.
-pub fn call_once<L: ResourceLimiter>(
+/// Makes calls. Where each is refused, the machine has the contents that it had.
+pub fn run_refused<L: ResourceLimiter>(
     machine: &mut Machine,
     calls: &[Call],
     limiter: &mut L,
 ) -> Result<Vec<Reply>, AllocError>
-    requires { length calls.now ≡ 1 }
     ensures { IfOk result (λ replies. All IsRefusal replies.items → SameContents machine.old machine.new) }
 {
     laws::refusals_keep_contents::<L>();
@@ -53,6 +57,74 @@ pub fn run_bounded<L: ResourceLimiter>(
 {
     laws::fuel_bounds_writing::<L>();
     run_lending(machine, calls, limiter)
+}
+
+/// Makes calls that don't set the fuel: what was left before is what is left after and what they were charged, which
+/// bounds what they have written.
+pub fn run_spent<L: ResourceLimiter>(
+    machine: &mut Machine,
+    calls: &[Call],
+    limiter: &mut L,
+) -> Result<Vec<Reply>, AllocError>
+    requires { All SetsNoFuel calls.now }
+    ensures { IfOk result (λ replies. IsSpentBy machine.old calls.now replies.items machine.new) }
+{
+    laws::charges_are_spent::<L>();
+    run_lending(machine, calls, limiter)
+}
+
+/// Makes calls, and knows of each turn what the limiter was asked and told, and what has grown.
+pub fn run_exchanged<L: ResourceLimiter>(
+    machine: &mut Machine,
+    calls: &[Call],
+    limiter: &mut L,
+) -> Result<Vec<Reply>, AllocError>
+    ensures { IfOk result (λ replies. IsExchanged (optional_rules L.rules) calls.now (world machine.old (Some limiter.old)) replies.items (world machine.new (Some limiter.new))) }
+{
+    laws::growths_are_permitted::<L>();
+    run_lending(machine, calls, limiter)
+}
+
+/// Makes calls: where no reply tells of a denial, the limiter has permitted all that it was asked.
+pub fn run_permitted<L: ResourceLimiter>(
+    machine: &mut Machine,
+    calls: &[Call],
+    limiter: &mut L,
+) -> Result<Vec<Reply>, AllocError>
+    ensures { IfOk result (λ replies. All TellsNoDenial replies.items → IsRunOf (permitting (optional_rules L.rules)) calls.now
+        (world machine.old (Some limiter.old)) replies.items (world machine.new (Some limiter.new))) }
+{
+    laws::replies_permit::<L>();
+    run_lending(machine, calls, limiter)
+}
+
+/// Makes calls whose types are valid, on a machine whose state is valid as every machine's is: it is so afterwards.
+pub fn run_valid<L: ResourceLimiter>(
+    machine: &mut Machine,
+    calls: &[Call],
+    limiter: &mut L,
+) -> Result<Vec<Reply>, AllocError>
+    requires { All IsValidCall calls.now }
+    ensures { IfOk result (λ _. IsValid machine.new) }
+{
+    laws::states_are_valid(machine);
+    laws::runs_keep_validity::<L>();
+    run_lending(machine, calls, limiter)
+}
+
+/// Makes calls under a quota that holds what the machine has and is within its caps: so the machine is within them.
+pub fn run_within_quota(
+    machine: &mut Machine,
+    calls: &[Call],
+    quota: &mut Quota,
+) -> Result<Vec<Reply>, AllocError>
+    requires held { HoldsTotals (holdings quota.old) machine.old }
+    requires within { IsWithinCaps quota.old }
+    ensures bytes { total machine.new Bytes ≤ cap_of quota.old Bytes }
+    ensures elements { total machine.new Elements ≤ cap_of quota.old Elements }
+{
+    laws::quotas_stay_within();
+    run_reserving(machine, calls, quota)
 }
 
 /// Makes calls under a quota that holds what the machine has: it does so again afterwards.

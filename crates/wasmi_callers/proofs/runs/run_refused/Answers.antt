@@ -1,0 +1,10 @@
+use Rattle.std.proofs.Common.{sym, subst}
+use Rattle.std.specs.Prelude.{All}
+use Rattle.wasmi_core.specs.Laws.{IsRefusal}
+use Rattle.wasmi_callers.proofs.RunsLemmas.{if_ok_too}
+use Rattle.wasmi_callers.proofs.runs.run_refused.Goals as goal
+
+pub returns : goal.returns
+returns g c =
+    if_ok_too c.run_lending.result c.run_lending.ensures.run (λ replies ran refused.
+    c.refusals_keep_contents.ensures.all_refused _ ran.0 _ ran.3 (subst (All IsRefusal) (sym ran.2) refused))

@@ -1,0 +1,22 @@
+-- What a caller says of runs on a pool.
+use Rattle.std.specs.Prelude.{◌≡◌, ℕ, Some, List, [], ◌∷◌, slice_get}
+use Rattle.wasmi_meter.specs.Limiter.{optional_rules}
+use Rattle.wasmi_core.specs.declared.calls.Call.{Call}
+use Rattle.wasmi_core.specs.declared.calls.Reply.{Reply}
+use Rattle.wasmi_core.specs.State.{State}
+use Rattle.wasmi_core.specs.World.{world}
+use Rattle.wasmi_core.specs.Runs.{IsRunOf}
+use Rattle.wasmi_budget.specs.declared.tenant.Tenant.{Tenant}
+use Rattle.wasmi_budget.specs.Tenant.{tenant_rules, alone}
+use Rattle.wasmi_budget.specs.Pool.{PoolValue, tenant_at}
+use Rattle.wasmi_budget.specs.Runs.{Ran, PoolRun}
+
+-- the machine of an index ran as that of the only tenant of a pool with the same caps
+abbrev pub RunsAlone : PoolValue → ℕ → List Call → List Reply → PoolValue → Type 0
+RunsAlone pool index calls replies pool' = (s : State) × (s' : State) × (slice_get pool.machines index ≡ Some s) × (slice_get pool'.machines index ≡ Some s')
+    × PoolRun (record { caps = pool.caps; machines = s ∷ [] }) (Ran 0 calls replies ∷ []) (record { caps = pool.caps; machines = s' ∷ [] })
+
+-- it ran as if the others held nothing
+abbrev pub RunsBeside : PoolValue → ℕ → List Call → List Reply → Type 0
+RunsBeside pool index calls replies = (s : State) × (s' : State) × (tenant' : Tenant) × (slice_get pool.machines index ≡ Some s)
+    × IsRunOf (optional_rules tenant_rules) calls (world s (Some (alone (tenant_at pool index s)))) replies (world s' (Some (alone tenant')))

@@ -1,0 +1,183 @@
+//! Callers of the laws on lanes: what one lane of a vector is, one bit of a number that is made of lanes, and the lanes of
+//! words.
+ghost use Rattle.std.specs.Prelude.{◌≡◌, ◌↔◌, ℕ, ◌+◌, ◌-◌, ◌*◌, ◌%◌, ◌^◌, ◌<◌, ◌≤◌, ◌*ℤ◌, ◌+ℤ◌, ◌==◌, nat_lt, nat_le, nat_eq, not, IsTrue, if◌then◌else◌, ◌∷◌, []};
+ghost use Rattle.std.specs.Int.{bit_at};
+ghost use Rattle.wasmi_types.specs.Wrapping.{w8, w16, w32, signed, wrap, clamp_unsigned};
+ghost use Rattle.wasmi_lanes.specs.Lane.{lane};
+ghost use Rattle.wasmi_lanes.specs.Words.{field, word_of_lanes};
+
+use wasmi_lanes::{ImmLaneIdx16, Lanes, U8x16, laws as lane_laws, on_vectors};
+use wasmi_lanewise::simd::{i8x16_add, i8x16_gt_u, i8x16_replace_lane, i8x16_splat};
+use wasmi_raw::V128;
+use wasmi_simd::laws as widening_laws;
+use wasmi_simd::simd::{
+    i8x16_all_true, i8x16_bitmask, i8x16_narrow_i16x8_u, i8x16_shl, i16x8_extadd_pairwise_i8x16_u,
+    i16x8_extend_high_i8x16_s, i16x8_extend_high_i8x16_u, i16x8_extend_low_i8x16_s,
+    i16x8_extmul_high_i8x16_u, i32x4_dot_i16x8_s,
+};
+
+/// The number in each lane.
+pub fn byte_in_each_lane(number: u8) -> V128
+    ensures { (i : ℕ) → i < 16 → lane w8 result i ≡ number }
+{
+    lane_laws::lanes_of_made_vector();
+    on_vectors::splat::<U8x16>(number)
+}
+
+/// The bits of the number in each lane.
+pub fn signed_byte_in_each_lane(number: i8) -> V128
+    ensures { (i : ℕ) → i < 16 → lane w8 result i ≡ wrap w8 number }
+{
+    lane_laws::lanes_of_made_vector();
+    widening_laws::wrapped_numbers();
+    i8x16_splat(number)
+}
+
+/// A number in one lane, the other lanes as they were.
+pub fn byte_in_one_lane(v: V128, at: ImmLaneIdx16, number: i8) -> V128
+    ensures { (i : ℕ) → i < 16 → lane w8 result i ≡ (if i == at then wrap w8 number else lane w8 v i) }
+{
+    lane_laws::lanes_of_made_vector();
+    widening_laws::wrapped_numbers();
+    i8x16_replace_lane(v, at, number)
+}
+
+/// The item of the lane of a number, for any number.
+pub fn item_at<L: Lanes>(lanes: L, number: u8) -> Option<L::Item>
+    ensures there { number < L.LANES → result ≡ Some (L.item lanes number) }
+    ensures absent { L.LANES ≤ number → result ≡ None }
+{
+    match L::LaneIdx::try_from(number) {
+        Ok(index) => Some(lanes.extract_lane(index)),
+        Err(_) => None,
+    }
+}
+
+/// Lanes that were a vector twice are the same.
+pub fn lanes_of_vector_of_lanes<L: Lanes>(lanes: L) -> L
+    ensures { (i : ℕ) → i < L.LANES → L.item result i ≡ L.item lanes i }
+{
+    let once = lane_laws::lanes_there_and_back(lanes);
+    lane_laws::lanes_there_and_back(once)
+}
+
+/// The sums of the bytes of two vectors.
+pub fn sums_of_bytes(a: V128, b: V128) -> V128
+    ensures { (i : ℕ) → i < 16 → lane w8 result i ≡ (lane w8 a i + lane w8 b i) % 2 ^ 8 }
+{
+    lane_laws::lanes_of_rows::<U8x16>();
+    i8x16_add(a, b)
+}
+
+/// All ones in the lanes where the first byte is larger.
+pub fn larger_bytes(a: V128, b: V128) -> V128
+    ensures { (i : ℕ) → i < 16 → lane w8 result i ≡ (if nat_lt (lane w8 b i) (lane w8 a i) then 255 else 0) }
+{
+    lane_laws::lanes_of_rows::<U8x16>();
+    i8x16_gt_u(a, b)
+}
+
+/// The bytes of a vector, doubled.
+pub fn doubled_bytes(v: V128) -> V128
+    ensures { (i : ℕ) → i < 16 → lane w8 result i ≡ lane w8 v i * 2 % 2 ^ 8 }
+{
+    lane_laws::lanes_of_rows::<U8x16>();
+    i8x16_shl(v, 1)
+}
+
+/// A byte of the lower half as a number of 16 bits, with its sign.
+pub fn extended_bytes(v: V128) -> V128
+    ensures { (i : ℕ) → i < 8 → signed w16 (lane w16 result i) ≡ signed w8 (lane w8 v i) }
+{
+    widening_laws::extended_lanes();
+    i16x8_extend_low_i8x16_s(v)
+}
+
+/// A byte of the upper half as a number of 16 bits, with its sign.
+pub fn extended_upper_bytes(v: V128) -> V128
+    ensures { (i : ℕ) → i < 8 → signed w16 (lane w16 result i) ≡ signed w8 (lane w8 v (8 + i)) }
+{
+    widening_laws::extended_lanes();
+    i16x8_extend_high_i8x16_s(v)
+}
+
+/// The bytes of the upper half, at 16 bits.
+pub fn upper_bytes(v: V128) -> V128
+    ensures { (i : ℕ) → i < 8 → lane w16 result i ≡ lane w8 v (8 + i) % 2 ^ 16 }
+{
+    widening_laws::lanes_of_halves::<u8>();
+    i16x8_extend_high_i8x16_u(v)
+}
+
+/// The products of the bytes of the upper halves.
+pub fn products_of_upper_bytes(a: V128, b: V128) -> V128
+    ensures { (i : ℕ) → i < 8 → lane w16 result i ≡ lane w8 a (8 + i) * lane w8 b (8 + i) % 2 ^ 16 }
+{
+    widening_laws::lanes_of_halves::<u8>();
+    i16x8_extmul_high_i8x16_u(a, b)
+}
+
+/// The sums of neighbouring bytes.
+pub fn sums_of_neighbours(v: V128) -> V128
+    ensures { (i : ℕ) → i < 8 → lane w16 result i ≡ (lane w8 v (2 * i) + lane w8 v (2 * i + 1)) % 2 ^ 16 }
+{
+    widening_laws::lanes_of_neighbours::<u8>();
+    i16x8_extadd_pairwise_i8x16_u(v)
+}
+
+/// The bytes to which the signed numbers of two vectors are clamped, those of the first vector first.
+pub fn clamped_to_bytes(a: V128, b: V128) -> V128
+    ensures first { (i : ℕ) → i < 8 → lane w8 result i ≡ clamp_unsigned w8 (signed w16 (lane w16 a i)) % 2 ^ 8 }
+    ensures second { (i : ℕ) → i < 8 → lane w8 result (8 + i) ≡ clamp_unsigned w8 (signed w16 (lane w16 b i)) % 2 ^ 8 }
+{
+    widening_laws::lanes_of_wide_lanes::<i16>();
+    i8x16_narrow_i16x8_u(a, b)
+}
+
+/// The signs of the bytes: bit i tells whether byte i is negative.
+pub fn signs_of_bytes(v: V128) -> u32
+    ensures bit { (i : ℕ) → i < 16 → bit_at result i ≡ (if nat_le (2 ^ 7) (lane w8 v i) then 1 else 0) }
+    ensures below { result < 2 ^ 16 }
+{
+    widening_laws::bits_of_lanes::<u8>();
+    i8x16_bitmask(v)
+}
+
+/// Whether no byte is 0.
+pub fn has_no_zero_byte(v: V128) -> bool
+    ensures { IsTrue result ↔ ((i : ℕ) → i < 16 → IsTrue (not (nat_eq (lane w8 v i) 0))) }
+{
+    widening_laws::tests_of_lanes::<u8>();
+    i8x16_all_true(v)
+}
+
+/// A word is its four lanes of 16 bits.
+pub fn word_is_its_quarters(word: u64)
+    ensures { word ≡ word_of_lanes (λ start width. field start width word) 0 (16 ∷ 16 ∷ 16 ∷ 16 ∷ []) }
+{
+    lane_laws::word_is_made_of_lanes(word);
+}
+
+// The highest bits of two lanes of 8 bits, of one of 16 and of one of 32.
+const MIXED_TOPS: u64 = 0x8000_0000_8000_8080;
+
+/// The sums of lanes of 8, 8, 16 and 32 bits.
+pub fn sums_of_mixed_lanes(a: u64, b: u64) -> u64
+    ensures { result ≡ word_of_lanes (λ start width. (field start width a + field start width b) % 2 ^ width) 0 (8 ∷ 8 ∷ 16 ∷ 32 ∷ []) }
+{
+    lane_laws::sums_of_lanes(a, b, MIXED_TOPS)
+}
+
+/// The differences of lanes of 8, 8, 16 and 32 bits.
+pub fn differences_of_mixed_lanes(a: u64, b: u64) -> u64
+    ensures { result ≡ word_of_lanes (λ start width. (field start width a + (2 ^ width - field start width b)) % 2 ^ width) 0 (8 ∷ 8 ∷ 16 ∷ 32 ∷ []) }
+{
+    lane_laws::differences_of_lanes(a, b, MIXED_TOPS)
+}
+
+/// The highest bits of the lanes of 8, 8, 16 and 32 bits in which two words differ.
+pub fn tops_of_different_mixed_lanes(a: u64, b: u64) -> u64
+    ensures { result ≡ word_of_lanes (λ start width. if field start width a == field start width b then 0 else 2 ^ (width - 1)) 0 (8 ∷ 8 ∷ 16 ∷ 32 ∷ []) }
+{
+    lane_laws::tops_of_different_lanes(a, b, MIXED_TOPS)
+}

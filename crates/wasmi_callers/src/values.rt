@@ -1,0 +1,37 @@
+//! Callers of the laws on raw values and on the bytes of numbers.
+ghost use Rattle.std.specs.Prelude.{◌≡◌, MatchResult};
+
+use wasmi_access::access::{LittleEndianConvert, load_at, store_at};
+use wasmi_access::laws;
+use wasmi_raw::RawVal;
+use wasmi_types::TrapCode;
+
+/// An integer that is written to a raw value is read back from it.
+pub fn kept_in_a_register(register: &mut RawVal, value: i32) -> i32
+    ensures { result ≡ value }
+{
+    wasmi_raw::laws::written_value_is_read::<i32, RawVal>(register, value)
+}
+
+/// A number that is stored at an address is the number that is then loaded from there.
+pub fn stored_and_loaded(memory: &mut [u8], address: usize, value: u32) -> Result<u32, TrapCode>
+    ensures { MatchResult result (λ number. number ≡ value) (λ trap. trap ≡ TrapCode.MemoryOutOfBounds) }
+{
+    store_at(memory, address, value)?;
+    laws::stored_number_is_loaded();
+    load_at(memory, address)
+}
+
+/// Bytes that are read as a number and written again are the same.
+pub fn rewritten(bytes: [u8; 4]) -> [u8; 4]
+    ensures { result ≡ bytes }
+{
+    laws::bytes_of_their_value::<i32>(bytes)
+}
+
+/// A number that is written to its bytes is read back from them, whatever its type.
+pub fn sent<T: LittleEndianConvert>(value: T) -> T
+    ensures { result ≡ value }
+{
+    laws::value_of_its_bytes(value)
+}
