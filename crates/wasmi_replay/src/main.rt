@@ -1,12 +1,26 @@
 //! Runs a script of calls on a metered machine, and prints what each call answers.
 #![tactic(auto)]
 
+ghost use Rattle.std.specs.Prelude.{◌≡◌};
+ghost use Rattle.std.specs.Process.{exit_status};
+ghost use Rattle.wasmi_script.specs.declared.replaying.Status.{Status as ReplayStatus};
+ghost use Rattle.wasmi_script.specs.Outcomes.{Replays};
+ghost use Rattle.wasmi_script.specs.Status.{status_number};
+
+use std::alloc::Global;
+use std::io::{Read, Write};
 use std::process::ExitCode;
 use wasmi_script::replay;
 
 fn main(rt: HostRuntime) -> ExitCode {
-    let mut reader = rt.stdin();
-    let mut writer = rt.stdout();
-    let status = replay(rt.alloc(), &mut reader, &mut writer);
-    ExitCode::from(status.code())
+    run(rt.alloc(), &mut rt.stdin(), &mut rt.stdout())
+}
+
+/// Replays the script of the reader, and ends with the number of its status.
+fn run<R: Read, W: Write>(alloc: Global, reader: &mut R, writer: &mut W) -> ExitCode
+    ensures { (status : ReplayStatus)
+        × Replays (R.remaining reader.old) (W.contents writer.old) (W.contents writer.new) status
+        × (exit_status result ≡ status_number status) }
+{
+    ExitCode::from(replay(alloc, reader, writer).code())
 }

@@ -1,14 +1,18 @@
 -- Words that stand for answers, one after the other.
-use Rattle.std.proofs.Common.{ℕ, ◌+◌, ◌<◌, ◌≡◌, ◌∙◌, ◌++◌, ◌∷◌, List, [], Bor, Err, length, map, take, get_or, sym, ap}
+use Rattle.std.proofs.Common.{All, Ok, slice_index_or, refl, subst, zero, suc, ℕ, ◌+◌, ◌<◌, ◌≡◌, ◌∙◌, ◌++◌, ◌∷◌, List, [], Bor, Err, length, map, take, get_or, sym, ap}
 use Rattle.std.proofs.Math.ListN as list
+use Rattle.std.proofs.lemmas.List.Elements.{All-head, All-tail}
 use Rattle.std.proofs.lemmas.List.{map-append, map_more, get_or-map}
 use Rattle.wasmi_script.specs.declared.script.header.answers.AnswerWord.{AnswerWord}
 use Rattle.wasmi_script.specs.declared.script.header.answers.AnswerWord.TheVariants.{Permit}
 use Rattle.wasmi_script.specs.declared.script.line.LineError.{LineError}
 use Rattle.wasmi_script.specs.declared.script.line.LineError.TheVariants.{BadCommand, OutOfMemory}
-use Rattle.wasmi_script.specs.Acceptance.{Accepts}
+use Rattle.wasmi_script.specs.Acceptance.{Accepts, AcceptsWithMemory}
 use Rattle.wasmi_script.specs.Words.{Words}
-use Rattle.wasmi_script.specs.Answers.{WritesAnswers, answer_text}
+use Rattle.wasmi_core.specs.Determinism.{IsDeterministic}
+use Rattle.wasmi_script.specs.declared.answering.AnswerList.{AnswerList}
+use Rattle.wasmi_script.specs.Answers.{WritesAnswers, answer_text, TakesWord, NeverComplains, QuietListsHeed, answer_rules, heed_by}
+use Rattle.wasmi_meter.specs.Limiter.{Answer}
 
 -- one word more, and the answer that it stands for
 pub one_answer : (words : Words) (i : ℕ) (none : Bor (List ℕ)) (answers : List AnswerWord) (answer : AnswerWord) → i < length words
@@ -22,9 +26,43 @@ one_answer words i none answers answer below before last =
 -- one word that stands for no answer
 pub no_answers : {V : Type 0} (items : V → List AnswerWord) (words : Words) (i : ℕ) (none : Bor (List ℕ)) (error : LineError) → i < length words
     → Accepts {A = AnswerWord} (Err error) (λ answer. (get_or words i none).now ≡ answer_text answer)
-    → Accepts {A = V} (Err error) (λ answers. WritesAnswers words (items answers))
+    → AcceptsWithMemory {A = V} (Err error) (λ answers. WritesAnswers words (items answers))
 no_answers items words i none BadCommand below unfit = λ answers writes. unfit (get_or (items answers) i Permit)
     (sym (get_or-map (λ word. word.now) words i none (answer_text Permit) below)
     ∙ ap (λ texts. get_or texts i (answer_text Permit)) writes
     ∙ list.get_or-map answer_text (items answers) i Permit)
 no_answers items words i none OutOfMemory below unfit = tt
+
+-- a question leaves one list
+one_list : (list list' list'' : AnswerList) (answer answer' : Answer) → TakesWord list answer list' → TakesWord list answer' list'' → (answer ≡ answer') × (list' ≡ list'')
+one_list list list' list'' answer answer' takes takes' = (
+  takes.answered ∙ sym takes'.answered,
+  λ i. record {
+    words = (takes.words ∙ sym takes'.words) i;
+    asked = (takes.asked ∙ sym takes'.asked) i;
+    last = (takes.last ∙ sym takes'.last) i;
+  },
+)
+
+-- a limiter that answers from words leaves no choice
+pub answers_once : IsDeterministic answer_rules
+answers_once = record {
+  asked = λ list question answer answer' list' list'' takes takes'. one_list list list' list'' answer answer' takes takes';
+  noticed = λ list failure heed heed' list' list'' heeds heeds'. (heeds.0 ∙ sym heeds'.0, heeds.1 ∙ sym heeds'.1);
+}
+
+-- each of such words lets a notice be heeded, and so does `permit` after them
+quiet_at : (words : List AnswerWord) (k : ℕ) → All (λ word. heed_by word ≡ Ok tt) words → heed_by (slice_index_or words k Permit) ≡ Ok tt
+quiet_at [] k all = refl
+quiet_at (word ∷ words) zero all = All-head (λ w. heed_by w ≡ Ok tt) word words all
+quiet_at (word ∷ words) (suc k) all = quiet_at words k (All-tail (λ w. heed_by w ≡ Ok tt) word words all)
+
+-- limiters of such words
+pub quiet_lists : QuietListsHeed
+quiet_lists = record {
+  asked = λ list question answer list' quiet takes. record {
+    words = subst (λ words. All (λ word. heed_by word ≡ Ok tt) words.now) (sym takes.words) quiet.words;
+    last = ap heed_by takes.last ∙ quiet_at list.words.now list.asked quiet.words;
+  };
+  noticed = λ list failure heed list' quiet heeds. (heeds.0 ∙ quiet.last, subst NeverComplains (sym heeds.1) quiet);
+}

@@ -12,3 +12,5 @@ pub mod NumbersLemmas
 pub mod TypeWordsLemmas
 pub mod MemoryWordsLemmas
 pub mod TableWordsLemmas
+pub mod LengthLemmas
+pub mod TextsLemmas

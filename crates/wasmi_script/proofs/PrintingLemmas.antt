@@ -9,14 +9,15 @@ use Rattle.arrayvec.specs.ArrayString.{ArrayString}
 use Rattle.std.specs.declared.option.Option.{Option}
 use Rattle.std.specs.Io.KnownBytes.{Appends}
 use Rattle.std.proofs.KnownBytes.{Appends-nil, Appends-trans}
-use Rattle.wasmi_script.specs.Printing.{AppendsFront, Passes, line}
+use Rattle.wasmi_script.specs.declared.printer.Printer.{Printer}
+use Rattle.wasmi_script.specs.Printing.{AppendsFront, Passes, Prints, PrintsFront, PrintsOut, Sends, SendsFront, line}
 
 -- no text
-pub passes_none : (known : Option (List ℕ)) (waiting : List ℕ) → Passes known known waiting waiting []
+passes_none : (known : Option (List ℕ)) (waiting : List ℕ) → Passes known known waiting waiting []
 passes_none known waiting = ([], append-nil waiting, Appends-nil known)
 
 -- one text more
-pub passes_more : (a b c : Option (List ℕ)) (u v w s t : List ℕ) → Passes a b u v s → Passes b c v w t → Passes a c u w (s ++ t)
+passes_more : (a b c : Option (List ℕ)) (u v w s t : List ℕ) → Passes a b u v s → Passes b c v w t → Passes a c u w (s ++ t)
 passes_more a b c u v w s t (front, split, sent) (front', split', sent') = (
   front ++ front',
   sym (append_assoc u s t) ∙ ap (λ l. l ++ t) split ∙ append_assoc front v t ∙ ap (λ l. front ++ l) split' ∙ sym (append_assoc front front' w),
@@ -24,11 +25,11 @@ passes_more a b c u v w s t (front, split, sent) (front', split', sent') = (
 )
 
 -- what goes out of a text goes out of a longer one
-pub front_longer : (a b : Option (List ℕ)) (s t : List ℕ) → AppendsFront a b s → AppendsFront a b (s ++ t)
+front_longer : (a b : Option (List ℕ)) (s t : List ℕ) → AppendsFront a b s → AppendsFront a b (s ++ t)
 front_longer a b s t (front, rest, split, sent) = (front, rest ++ t, ap (λ l. l ++ t) split ∙ append_assoc front rest t, sent)
 
 -- what goes out after a text
-pub front_after : (a b c : Option (List ℕ)) (u v s t : List ℕ) → Passes a b u v s → AppendsFront b c (v ++ t) → AppendsFront a c (u ++ (s ++ t))
+front_after : (a b c : Option (List ℕ)) (u v s t : List ℕ) → Passes a b u v s → AppendsFront b c (v ++ t) → AppendsFront a c (u ++ (s ++ t))
 front_after a b c u v s t (front, split, sent) (front', rest, split', sent') = (
   front ++ front',
   rest,
@@ -36,27 +37,19 @@ front_after a b c u v s t (front, split, sent) (front', rest, split', sent') = (
   Appends-trans a b c front front' sent sent',
 )
 
--- what went out of a text that was printed in part
-pub front_so_far : (a b : Option (List ℕ)) (u v s : List ℕ) → Passes a b u v s → AppendsFront a b (u ++ s)
-front_so_far a b u v s (front, split, sent) = (front, v, split, sent)
-
--- what waits went out, and then a text waits
-pub passes_sent : (a b : Option (List ℕ)) (u v s : List ℕ) → Appends a b u → v ≡ s → Passes a b u v s
-passes_sent a b u v s sent same = (u, ap (λ l. u ++ l) (sym same), sent)
-
 -- a text waits beside what waited
-pub passes_waits : (a : Option (List ℕ)) (u v s : List ℕ) → v ≡ u ++ s → Passes a a u v s
+passes_waits : (a : Option (List ℕ)) (u v s : List ℕ) → v ≡ u ++ s → Passes a a u v s
 passes_waits a u v s same = ([], sym same, Appends-nil a)
 
 -- what went out of a text that was printed in part goes out of a longer one
-pub front_part : (a b : Option (List ℕ)) (u v s t : List ℕ) → Passes a b u v s → AppendsFront a b (u ++ (s ++ t))
+front_part : (a b : Option (List ℕ)) (u v s t : List ℕ) → Passes a b u v s → AppendsFront a b (u ++ (s ++ t))
 front_part a b u v s t (front, split, sent) = (front, v ++ t, sym (append_assoc u s t) ∙ ap (λ l. l ++ t) split ∙ append_assoc front v t, sent)
 
 -- a text that is printed, and then what waits
-pub passes_flushed : (a b c : Option (List ℕ)) (u v s : List ℕ) → Passes a b u v s → Appends b c v → Appends a c (u ++ s)
+passes_flushed : (a b c : Option (List ℕ)) (u v s : List ℕ) → Passes a b u v s → Appends b c v → Appends a c (u ++ s)
 passes_flushed a b c u v s (front, split, sent) flushed = subst (Appends a c) (sym split) (Appends-trans a b c front v sent flushed)
 
-pub front_flushed : (a b c : Option (List ℕ)) (u v s : List ℕ) → Passes a b u v s → AppendsFront b c v → AppendsFront a c (u ++ s)
+front_flushed : (a b c : Option (List ℕ)) (u v s : List ℕ) → Passes a b u v s → AppendsFront b c v → AppendsFront a c (u ++ s)
 front_flushed a b c u v s (front, split, sent) (front', rest, split', sent') =
     (front ++ front', rest, split ∙ ap (λ l. front ++ l) split' ∙ sym (append_assoc front front' rest), Appends-trans a b c front front' sent sent')
 
@@ -66,34 +59,6 @@ Takes s bytes t = t.bytes ≡ s.bytes ++ bytes
 
 taken : (s t : ArrayString) (bytes : List ℕ) → WritesInCalls Takes s bytes t → t.bytes ≡ s.bytes ++ bytes
 taken s t bytes writes = contents_after_writes Takes (λ x. x.bytes) (λ w bs v h. h) s bytes t writes
-
--- a text that there is room for
-pub printed : {E : Type 0} (r : Result (Unit {0}) E) (output a b : Option (List ℕ)) (u : List ℕ) (s t : ArrayString)
-    → Passes a b u s.bytes [] → OnOk r (WritesText Takes s output t) → OnOk r (IfSome output (Passes a b u t.bytes))
-printed (Ok x) None a b u s t room writes = tt
-printed (Ok x) (Some bytes) a b u s t room writes = passes_more a b b u s.bytes t.bytes [] bytes room (passes_waits b s.bytes t.bytes bytes (taken s t bytes writes))
-printed (Err e) output a b u s t room writes = tt
-
--- and a line
-pub printed_line : {E : Type 0} (r : Result (Unit {0}) E) (output a b : Option (List ℕ)) (u : List ℕ) (s t : ArrayString)
-    → Passes a b u s.bytes [] → OnOk r (WritesText Takes s (with_newline output) t) → OnOk r (IfSome output (λ bytes. Passes a b u t.bytes (line bytes)))
-printed_line (Ok x) None a b u s t room writes = tt
-printed_line (Ok x) (Some bytes) a b u s t room writes =
-    passes_more a b b u s.bytes t.bytes [] (line bytes) room (passes_waits b s.bytes t.bytes (line bytes) (taken s t (line bytes) writes))
-printed_line (Err e) output a b u s t room writes = tt
-
--- where there is no room, or a text can't be made, a front of it went out
-pub no_room : {E : Type 0} (r : Result (Unit {0}) E) (output a b : Option (List ℕ)) (u : List ℕ) (text : List ℕ → List ℕ)
-    → AppendsFront a b u → OnErr r (IfSome output (λ bytes. AppendsFront a b (u ++ text bytes)))
-no_room (Ok x) output a b u text sent = tt
-no_room (Err e) None a b u text sent = tt
-no_room (Err e) (Some bytes) a b u text sent = front_longer a b u (text bytes) sent
-
-pub no_text : {E : Type 0} (r : Result (Unit {0}) E) (output a b : Option (List ℕ)) (u v : List ℕ) (text : List ℕ → List ℕ)
-    → Passes a b u v [] → OnErr r (IfSome output (λ bytes. AppendsFront a b (u ++ text bytes)))
-no_text (Ok x) output a b u v text room = tt
-no_text (Err e) None a b u v text room = tt
-no_text (Err e) (Some bytes) a b u v text room = front_part a b u v [] (text bytes) room
 
 -- what holds where a call fails, or where it doesn't
 pub always_err : {A E : Type 0} {P : Type 0} (r : Result A E) → P → OnErr r P
@@ -109,16 +74,82 @@ err_weaker (Ok x) weaker p = tt
 err_weaker (Err e) weaker p = weaker p
 
 -- a text in two parts
-pub passes_then : (a b c : Option (List ℕ)) (u v w s t text : List ℕ) → text ≡ s ++ t → Passes a b u v s → Passes b c v w t → Passes a c u w text
+passes_then : (a b c : Option (List ℕ)) (u v w s t text : List ℕ) → text ≡ s ++ t → Passes a b u v s → Passes b c v w t → Passes a c u w text
 passes_then a b c u v w s t text is first second = subst (Passes a c u w) (sym is) (passes_more a b c u v w s t first second)
 
 -- the front of a text whose first part is printed in part
-pub front_first : (a b : Option (List ℕ)) (u s rest text : List ℕ) → text ≡ s ++ rest → AppendsFront a b (u ++ s) → AppendsFront a b (u ++ text)
+front_first : (a b : Option (List ℕ)) (u s rest text : List ℕ) → text ≡ s ++ rest → AppendsFront a b (u ++ s) → AppendsFront a b (u ++ text)
 front_first a b u s rest text is sent = subst (AppendsFront a b) (append_assoc u s rest ∙ ap (λ t. u ++ t) (sym is)) (front_longer a b (u ++ s) rest sent)
 
 -- the front of a text whose first part is printed, and a later one in part
-pub front_then : (a b c : Option (List ℕ)) (u v s t rest text : List ℕ) → text ≡ s ++ (t ++ rest) → Passes a b u v s → AppendsFront b c (v ++ t) → AppendsFront a c (u ++ text)
+front_then : (a b c : Option (List ℕ)) (u v s t rest text : List ℕ) → text ≡ s ++ (t ++ rest) → Passes a b u v s → AppendsFront b c (v ++ t) → AppendsFront a c (u ++ text)
 front_then a b c u v s t rest text is first sent = subst (λ x. AppendsFront a c (u ++ x)) (sym is) (front_after a b c u v s (t ++ rest) first (front_first b c v t rest (t ++ rest) refl sent))
+
+-- the same of a printer, by the bytes that its writer is known to have
+module _ {W : Type 0} (contents : W → Option (List ℕ)) where
+  -- no text
+  pub prints_none : (p : Printer W) → Prints contents p p []
+  prints_none p = record { writer = refl; passed = passes_none (contents p.writer.now) p.chunk.bytes }
+
+  -- a text in two parts
+  pub prints_then : (p q r : Printer W) (s t text : List ℕ) → text ≡ s ++ t → Prints contents p q s → Prints contents q r t → Prints contents p r text
+  prints_then p q r s t text is first second = record { writer = second.writer ∙ first.writer; passed = passes_then _ _ _ _ _ _ s t text is first.passed second.passed }
+
+  -- the front of a text whose first part is printed in part
+  pub prints_first : (p q : Printer W) (s rest text : List ℕ) → text ≡ s ++ rest → PrintsFront contents p q s → PrintsFront contents p q text
+  prints_first p q s rest text is sent = record { writer = sent.writer; sent = front_first _ _ _ s rest text is sent.sent }
+
+  -- the front of a text whose first part is printed, and a later one in part
+  pub prints_front : (p q r : Printer W) (s t rest text : List ℕ) → text ≡ s ++ (t ++ rest) → Prints contents p q s → PrintsFront contents q r t → PrintsFront contents p r text
+  prints_front p q r s t rest text is first sent = record { writer = sent.writer ∙ first.writer; sent = front_then _ _ _ _ _ s t rest text is first.passed sent.sent }
+
+  -- a text that is printed, and then what waits
+  pub prints_out : (p q r : Printer W) (text : List ℕ) → Prints contents p q text → Sends contents q r → PrintsOut contents p r text
+  prints_out p q r text printed sent = record { writer = sent.writer ∙ printed.writer; sent = passes_flushed _ _ _ _ _ text printed.passed sent.sent }
+
+  pub prints_out_front : (p q r : Printer W) (text : List ℕ) → Prints contents p q text → SendsFront contents q r → PrintsFront contents p r text
+  prints_out_front p q r text printed sent = record { writer = sent.writer ∙ printed.writer; sent = front_flushed _ _ _ _ _ text printed.passed sent.sent }
+
+  -- a text waits beside what waited
+  waits : (p q : Printer W) (text : List ℕ) → q.writer ≡ p.writer → q.chunk.bytes ≡ p.chunk.bytes ++ text → Prints contents p q text
+  waits p q text same is =
+      record {
+        writer = ap (λ w. w.ghost_name) same;
+        passed = subst (λ w. Passes (contents p.writer.now) (contents w.now) p.chunk.bytes q.chunk.bytes text) (sym same) (passes_waits _ _ _ text is);
+      }
+
+  -- a text that there is room for
+  pub printed : {E : Type 0} (r : Result (Unit {0}) E) (output : Option (List ℕ)) (p q s : Printer W)
+      → Prints contents p q [] → s.writer ≡ q.writer → OnOk r (WritesText Takes q.chunk output s.chunk) → OnOk r (IfSome output (Prints contents p s))
+  printed (Ok x) None p q s room same writes = tt
+  printed (Ok x) (Some bytes) p q s room same writes = prints_then p q s [] bytes bytes refl room (waits q s bytes same (taken q.chunk s.chunk bytes writes))
+  printed (Err e) output p q s room same writes = tt
+
+  -- and a line
+  pub printed_line : {E : Type 0} (r : Result (Unit {0}) E) (output : Option (List ℕ)) (p q s : Printer W)
+      → Prints contents p q [] → s.writer ≡ q.writer → OnOk r (WritesText Takes q.chunk (with_newline output) s.chunk) → OnOk r (IfSome output (λ bytes. Prints contents p s (line bytes)))
+  printed_line (Ok x) None p q s room same writes = tt
+  printed_line (Ok x) (Some bytes) p q s room same writes =
+      prints_then p q s [] (line bytes) (line bytes) refl room (waits q s (line bytes) same (taken q.chunk s.chunk (line bytes) writes))
+  printed_line (Err e) output p q s room same writes = tt
+
+  -- a text for which there is no room, or that can't be made
+  pub no_room : {E : Type 0} (r : Result (Unit {0}) E) (output : Option (List ℕ)) (p q : Printer W) (text : List ℕ → List ℕ)
+      → SendsFront contents p q → OnErr r (IfSome output (λ bytes. PrintsFront contents p q (text bytes)))
+  no_room (Ok x) output p q text sent = tt
+  no_room (Err e) None p q text sent = tt
+  no_room (Err e) (Some bytes) p q text sent = record { writer = sent.writer; sent = front_longer _ _ _ (text bytes) sent.sent }
+
+  pub no_text : {E : Type 0} (r : Result (Unit {0}) E) (output : Option (List ℕ)) (p q s : Printer W) (text : List ℕ → List ℕ)
+      → Prints contents p q [] → s.writer ≡ q.writer → OnErr r (IfSome output (λ bytes. PrintsFront contents p s (text bytes)))
+  no_text (Ok x) output p q s text room same = tt
+  no_text (Err e) None p q s text room same = tt
+  no_text (Err e) (Some bytes) p q s text room same =
+      let front : AppendsFront (contents p.writer.now) (contents q.writer.now) (p.chunk.bytes ++ text bytes) = front_part _ _ _ _ [] (text bytes) room.passed in
+      record {
+        writer = ap (λ w. w.ghost_name) same ∙ room.writer;
+        sent = subst (λ w. AppendsFront (contents p.writer.now) (contents w.now) (p.chunk.bytes ++ text bytes)) (sym same) front;
+      }
 
 -- texts one after the other: those up to a place, the one there, and the later ones
 module _ {X : Type 0} {A : Type 0} (text : X → List A) where

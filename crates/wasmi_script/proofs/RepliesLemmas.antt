@@ -54,7 +54,7 @@ single_more old words new single (inr (inr (inr (inr (inr a))))) = λ none. absu
 
 single_all : (lines : List (List ℕ)) (old new : Script) → IsSingle old → TakesLines lines old new → IsSingle new
 single_all [] old new single same = subst IsSingle (sym same) single
-single_all (line ∷ lines) old new single (middle, taken, later) = single_all lines middle new (single_more old taken.0 middle single taken.2) later
+single_all (line ∷ lines) old new single (middle, taken, later) = single_all lines middle new (single_more old taken.1 middle single taken.3) later
 
 made_single : (lines : List (List ℕ)) (script : Script) → MakeScript lines script → IsSingle script
 made_single lines script made = single_all lines made.empty script (λ none. made.no_commands.no_parts) made.lines

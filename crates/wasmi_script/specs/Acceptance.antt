@@ -3,8 +3,14 @@ use Rattle.std.specs.Prelude.{Result, Ok, Err, ⊤}
 use Rattle.wasmi_script.specs.declared.script.line.LineError.{LineError}
 use Rattle.wasmi_script.specs.declared.script.line.LineError.TheVariants.{BadCommand, OutOfMemory}
 
--- what is accepted is meant, and where it is a bad command nothing is meant
+-- what is accepted is meant, and what is refused is a bad command: nothing is meant
 abbrev pub Accepts : {A : Type 0} → Result A LineError → (A → Type 0) → Type 0
 Accepts (Ok a) Means = Means a
 Accepts (Err BadCommand) Means = (a : _) → ¬ (Means a)
-Accepts (Err OutOfMemory) Means = ⊤
+Accepts (Err OutOfMemory) Means = ⊥
+
+-- the same where memory is taken, which may be wanting
+abbrev pub AcceptsWithMemory : {A : Type 0} → Result A LineError → (A → Type 0) → Type 0
+AcceptsWithMemory (Ok a) Means = Means a
+AcceptsWithMemory (Err BadCommand) Means = (a : _) → ¬ (Means a)
+AcceptsWithMemory (Err OutOfMemory) Means = ⊤

@@ -1,7 +1,7 @@
 -- What an `answers` line says, and the limiter that answers by it.
-use Rattle.std.specs.Prelude.{◌≡◌, ℕ, List, [], ◌∷◌, Ok, Err, true, false, codes, map, drop}
+use Rattle.std.specs.Prelude.{◌≡◌, All, ℕ, ◌+◌, ◌-◌, ◌^◌, min, List, Ok, Err, true, false, codes, map, slice_index_or}
 use Rattle.wasmi_meter.specs.declared.error.LimiterError.TheVariants.{ResourceLimiterDeniedAllocation}
-use Rattle.wasmi_meter.specs.Limiter.{Answer, Heed, Rules}
+use Rattle.wasmi_meter.specs.Limiter.{Question, Answer, Failure, Heed, Rules}
 use Rattle.wasmi_script.specs.declared.answering.AnswerList.{AnswerList}
 use Rattle.wasmi_script.specs.declared.script.header.answers.AnswerWord.{AnswerWord}
 use Rattle.wasmi_script.specs.declared.script.header.answers.AnswerWord.TheVariants.{Permit, Deny, Error, Complain}
@@ -31,20 +31,21 @@ heed_by Complain = Err ResourceLimiterDeniedAllocation
 heed_by word = Ok tt
 
 -- the word of the next question: `permit` after the last one
-abbrev pub next_word : List AnswerWord → AnswerWord
-next_word [] = Permit
-next_word (word ∷ words) = word
+abbrev pub next_word : AnswerList → AnswerWord
+next_word list = slice_index_or list.words.now list.asked Permit
 
 -- a limiter of these words that was asked nothing yet
-pub record IsNewList (words : List AnswerWord) (list : AnswerList) : Type 0 where
-  pub left : list.left.now ≡ words
+pub record IsNewList (given : List AnswerWord) (list : AnswerList) : Type 0 where
+  pub words : list.words.now ≡ given
+  pub asked : list.asked ≡ 0
   pub last : list.last ≡ Permit
 
 -- a question takes the next word, and is answered by it
 pub record TakesWord (list : AnswerList) (answer : Answer) (list' : AnswerList) : Type 0 where
-  pub answered : answer ≡ answer_by (next_word list.left.now)
-  pub left : list'.left.now ≡ drop 1 list.left.now
-  pub last : list'.last ≡ next_word list.left.now
+  pub answered : answer ≡ answer_by (next_word list)
+  pub words : list'.words ≡ list.words
+  pub asked : list'.asked ≡ min (list.asked + 1) (2 ^ 64 - 1)
+  pub last : list'.last ≡ next_word list
 
 -- the rules of such a limiter: a notice is answered by the word of the last question, and takes none
 abbrev pub answer_rules : Rules AnswerList
@@ -52,3 +53,15 @@ answer_rules = record {
   asked = λ list question answer list'. TakesWord list answer list';
   noticed = λ list failure heed list'. (heed ≡ heed_by list.last) × (list' ≡ list);
 }
+
+-- a limiter whose words, with the last one asked for, let each notice be heeded: none of them is `complain`
+pub record NeverComplains (list : AnswerList) : Type 0 where
+  pub words : All (λ word. heed_by word ≡ Ok tt) list.words.now
+  pub last : heed_by list.last ≡ Ok tt
+
+-- such a limiter heeds each notice, and stays one
+pub record QuietListsHeed : Type 0 where
+  pub asked : (list : AnswerList) (question : Question) (answer : Answer) (list' : AnswerList)
+      → NeverComplains list → answer_rules.asked list question answer list' → NeverComplains list'
+  pub noticed : (list : AnswerList) (failure : Failure) (heed : Heed) (list' : AnswerList)
+      → NeverComplains list → answer_rules.noticed list failure heed list' → (heed ≡ Ok tt) × NeverComplains list'

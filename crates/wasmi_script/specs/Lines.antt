@@ -1,6 +1,7 @@
 -- What the lines of a script add to it.
 use Rattle.std.specs.Prelude.{◌≡◌, ℕ, ◌⊎◌, List, [], ◌∷◌, ◌++◌, None, IsSomeAnd, filter, length, nat_lt, ◌==◌, map}
 use Rattle.std.specs.List.{slice_split}
+use Rattle.std.specs.Str.{IsUtf8}
 use Rattle.wasmi_core.specs.declared.calls.Call.{Call}
 use Rattle.wasmi_script.specs.declared.script.Script.{Script}
 use Rattle.wasmi_script.specs.Words.{Words}
@@ -71,9 +72,9 @@ pub record AddsPart (old : Script) (words : Words) (new : Script) : Type 0 where
 abbrev pub AddsLine : Script → Words → Script → Type 0
 AddsLine old words new = ((words ≡ []) × (new ≡ old)) ⊎ AddsMeter old words new ⊎ AddsLimiter old words new ⊎ AddsRegion old words new ⊎ AddsCall old words new ⊎ AddsPart old words new
 
--- a line of a script, by its words
+-- a line of a script: a text, by its words
 abbrev pub TakesLine : Script → List ℕ → Script → Type 0
-TakesLine old line new = (words : Words) × (map (λ word. word.now) words ≡ words_in line) × AddsLine old words new
+TakesLine old line new = IsUtf8 line × (words : Words) × (map (λ word. word.now) words ≡ words_in line) × AddsLine old words new
 
 -- lines taken one after the other
 abbrev pub TakesLines : List (List ℕ) → Script → Script → Type 0

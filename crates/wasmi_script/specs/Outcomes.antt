@@ -73,8 +73,8 @@ IsOutcomeOf bytes (Err OutOfMemory) = ⊤
 IsOutcomeOf bytes (Err ReadFault) = ⊤
 
 -- the writer has got the whole text and the status is the outcome's, or it has got a front of the text and failed
-abbrev pub Prints : Option (List ℕ) → Option (List ℕ) → Outcome → Status → Type 0
-Prints old new outcome status =
+abbrev pub PrintsOutcome : Option (List ℕ) → Option (List ℕ) → Outcome → Status → Type 0
+PrintsOutcome old new outcome status =
     (Appends old new (outcome_text outcome) × (status ≡ status_after outcome)) ⊎ (AppendsFront old new (outcome_text outcome) × (status ≡ Fault))
 
 -- the bytes of a reader have an outcome, and a writer has got it
@@ -82,4 +82,4 @@ pub record Replays (given old new : Option (List ℕ)) (status : Status) : Type 
   pub outcome : Outcome
   pub of_bytes : IfSome given (λ bytes. IsOutcomeOf bytes outcome)
   pub replies : HasReplies outcome
-  pub printed : Prints old new outcome status
+  pub printed : PrintsOutcome old new outcome status

@@ -1,17 +1,14 @@
 -- Why a script isn't run.
-use Rattle.std.specs.Prelude.{◌≡◌, ◌+◌, ◌<◌, ◌⊎◌, ⊤, ℕ, List, ◌∷◌, ◌++◌, Option, IfSome, length, map}
-use Rattle.std.specs.Str.{IsUtf8}
+use Rattle.std.specs.Prelude.{◌≡◌, ◌+◌, ◌<◌, ⊤, ℕ, List, ◌∷◌, ◌++◌, Option, IfSome, length}
 use Rattle.wasmi_script.specs.declared.error.ReplayError.{ReplayError}
 use Rattle.wasmi_script.specs.declared.error.ReplayError.TheVariants.{BadCommand, TooLong, OutOfMemory, ReadFault}
 use Rattle.wasmi_script.specs.declared.reading.TheConstants.{LIMIT}
 use Rattle.wasmi_script.specs.declared.script.Script.{Script}
-use Rattle.wasmi_script.specs.Words.{Words}
-use Rattle.wasmi_script.specs.Lines.{AddsLine, MakeScript, lines_in, words_in}
+use Rattle.wasmi_script.specs.Lines.{TakesLine, MakeScript, lines_in}
 
--- a line that is no text, or that adds nothing to the script so far
+-- a line that the script so far can't take: it is no text, or its words, however they are held, add nothing
 abbrev pub IsBadLine : Script → List ℕ → Type 0
-IsBadLine script line =
-    ¬ (IsUtf8 line) ⊎ ((words : Words) × (map (λ word. word.now) words ≡ words_in line) × ((new : Script) → ¬ (AddsLine script words new)))
+IsBadLine script line = (new : Script) → ¬ (TakesLine script line new)
 
 -- the lines before this one, counted from 1, make a script, and this one adds nothing to it
 pub record IsFirstBadLine (text : List ℕ) (number : ℕ) : Type 0 where

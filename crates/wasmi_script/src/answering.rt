@@ -7,7 +7,11 @@ use wasmi_core::{LimiterError, MemoryError, ResourceLimiter, TableError};
 /// A limiter that answers each question by the next of its words, and permits once there is none left.
 #[derive(Clone, Copy)]
 pub struct AnswerList<'w> {
-    left: &'w [AnswerWord],
+    /// The words, one for each question.
+    words: &'w [AnswerWord],
+    /// How many questions were asked, counted up to the greatest number.
+    asked: usize,
+    /// The word that answered the last question: `permit` before the first.
     last: AnswerWord,
 }
 
@@ -19,7 +23,8 @@ impl<'w> AnswerList<'w> {
         ensures { IsNewList words.now result }
     {
         AnswerList {
-            left: words,
+            words,
+            asked: 0,
             last: AnswerWord::Permit,
         }
     }
@@ -28,11 +33,11 @@ impl<'w> AnswerList<'w> {
     fn answer(&mut self) -> Result<bool, LimiterError>
         ensures { TakesWord self.old result self.new }
     {
-        self.last = AnswerWord::Permit;
-        if let [next, rest @ ..] = self.left {
-            self.last = *next;
-            self.left = rest;
-        }
+        self.last = match self.words.get(self.asked) {
+            Some(word) => *word,
+            None => AnswerWord::Permit,
+        };
+        self.asked = self.asked.saturating_add(1);
         match self.last {
             AnswerWord::Permit | AnswerWord::Complain => Ok(true),
             AnswerWord::Deny => Ok(false),

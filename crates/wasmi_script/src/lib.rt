@@ -3,6 +3,7 @@
 
 mod answering;
 mod error;
+pub mod laws;
 mod print;
 mod printer;
 mod reading;

@@ -1,7 +1,7 @@
 //! A writer that takes text in chunks.
-ghost use Rattle.std.specs.Prelude.{◌≡◌, ◌++◌, [], IsOk, OnOk, OnErr, IfSome, Some};
-ghost use Rattle.std.specs.Io.KnownBytes.{Appends, Keeps};
-ghost use Rattle.wasmi_script.specs.Printing.{AppendsFront, Passes, line};
+ghost use Rattle.std.specs.Prelude.{◌≡◌, ◌+◌, ◌≤◌, [], length, IsOk, OnOk, OnErr, IfSome};
+ghost use Rattle.std.specs.Io.KnownBytes.{Appends};
+ghost use Rattle.wasmi_script.specs.Printing.{AppendsFront, IsShort, Prints, PrintsFront, Sends, SendsFront, line};
 
 use arrayvec::ArrayString;
 use std::fmt::{Display, Write};
@@ -10,7 +10,7 @@ use std::{fmt, io};
 /// How many bytes wait at most before they go to the writer.
 const CHUNK: usize = 4096;
 
-/// How long a text may be that is printed at once: longer than each line but that of bytes.
+/// How long a text may be that is printed at once, with a line feed.
 const LONGEST: usize = 256;
 
 /// Text that goes to a writer in chunks, without memory. Any error of the writer ends the printing, and so does a write
@@ -33,25 +33,21 @@ impl<'w, W: io::Write> Printer<'w, W> {
         }
     }
 
-    /// Prints a text of at most `LONGEST` bytes.
+    /// Prints a text of less than `LONGEST` bytes.
     pub fn print<D: Display + Drop>(&mut self, text: D) -> fmt::Result
-        ensures ok { OnOk result (IfSome (D.output text)
-            (Passes (W.contents self.old.writer.now) (W.contents self.new.writer.now) self.old.chunk.bytes self.new.chunk.bytes)) }
-        ensures front { OnErr result (IfSome (D.output text) (λ bytes.
-            AppendsFront (W.contents self.old.writer.now) (W.contents self.new.writer.now) (self.old.chunk.bytes ++ bytes))) }
-        ensures same { self.new.writer.ghost_name ≡ self.old.writer.ghost_name }
+        requires { IsShort (D.output text) }
+        ensures ok { OnOk result (IfSome (D.output text) (λ bytes. Prints W.contents self.old self.new bytes)) }
+        ensures front { OnErr result (IfSome (D.output text) (λ bytes. PrintsFront W.contents self.old self.new bytes)) }
     {
         self.make_room()?;
         self.chunk.write(text)
     }
 
-    /// Prints a line of at most `LONGEST` bytes.
+    /// Prints a line of at most `LONGEST` bytes with its feed.
     pub fn print_line<D: Display + Drop>(&mut self, text: D) -> fmt::Result
-        ensures ok { OnOk result (IfSome (D.output text) (λ bytes.
-            Passes (W.contents self.old.writer.now) (W.contents self.new.writer.now) self.old.chunk.bytes self.new.chunk.bytes (line bytes))) }
-        ensures front { OnErr result (IfSome (D.output text) (λ bytes.
-            AppendsFront (W.contents self.old.writer.now) (W.contents self.new.writer.now) (self.old.chunk.bytes ++ line bytes))) }
-        ensures same { self.new.writer.ghost_name ≡ self.old.writer.ghost_name }
+        requires { IsShort (D.output text) }
+        ensures ok { OnOk result (IfSome (D.output text) (λ bytes. Prints W.contents self.old self.new (line bytes))) }
+        ensures front { OnErr result (IfSome (D.output text) (λ bytes. PrintsFront W.contents self.old self.new (line bytes))) }
     {
         self.make_room()?;
         self.chunk.writeln(text)
@@ -59,9 +55,9 @@ impl<'w, W: io::Write> Printer<'w, W> {
 
     /// Makes room for the longest text.
     fn make_room(&mut self) -> fmt::Result
-        ensures ok { OnOk result (Passes (W.contents self.old.writer.now) (W.contents self.new.writer.now) self.old.chunk.bytes self.new.chunk.bytes []) }
-        ensures front { OnErr result (AppendsFront (W.contents self.old.writer.now) (W.contents self.new.writer.now) self.old.chunk.bytes) }
-        ensures same { self.new.writer.ghost_name ≡ self.old.writer.ghost_name }
+        ensures ok { OnOk result (Prints W.contents self.old self.new []) }
+        ensures front { OnErr result (SendsFront W.contents self.old self.new) }
+        ensures room { OnOk result (length self.new.chunk.bytes + LONGEST ≤ CHUNK) }
     {
         if self.chunk.remaining_capacity() < LONGEST {
             self.send()?;
@@ -71,9 +67,8 @@ impl<'w, W: io::Write> Printer<'w, W> {
 
     /// Sends what waits to the writer, and flushes it.
     pub fn flush(&mut self) -> fmt::Result
-        ensures ok { OnOk result (Appends (W.contents self.old.writer.now) (W.contents self.new.writer.now) self.old.chunk.bytes) }
-        ensures front { OnErr result (AppendsFront (W.contents self.old.writer.now) (W.contents self.new.writer.now) self.old.chunk.bytes) }
-        ensures same { self.new.writer.ghost_name ≡ self.old.writer.ghost_name }
+        ensures ok { OnOk result (Sends W.contents self.old self.new) }
+        ensures front { OnErr result (SendsFront W.contents self.old self.new) }
     {
         self.send()?;
         self.writer.flush().map_err(|_| fmt::Error)
@@ -88,10 +83,9 @@ impl<'w, W: io::Write> Printer<'w, W> {
 
     /// Sends what waits to the writer.
     fn send(&mut self) -> fmt::Result
-        ensures ok { OnOk result (Appends (W.contents self.old.writer.now) (W.contents self.new.writer.now) self.old.chunk.bytes) }
+        ensures ok { OnOk result (Sends W.contents self.old self.new) }
         ensures empty { OnOk result (self.new.chunk.bytes ≡ []) }
-        ensures front { OnErr result (AppendsFront (W.contents self.old.writer.now) (W.contents self.new.writer.now) self.old.chunk.bytes) }
-        ensures same { self.new.writer.ghost_name ≡ self.old.writer.ghost_name }
+        ensures front { OnErr result (SendsFront W.contents self.old self.new) }
     {
         send_all(self.writer, self.chunk.as_str())?;
         self.chunk.clear();

@@ -6,7 +6,7 @@ ghost use Rattle.wasmi_core.specs.State.{new_state};
 ghost use Rattle.wasmi_core.specs.Totals.{HoldsTotals};
 ghost use Rattle.wasmi_script.specs.Replays.{IsReplayOf, IsReplayUnder, IsListedReplay, IsPoolReplay, AnswersPart, new_pool, nothing_held};
 ghost use Rattle.wasmi_script.specs.Status.{status_number, status_after};
-ghost use Rattle.wasmi_script.specs.Printing.{AppendsFront, Passes, line};
+ghost use Rattle.wasmi_script.specs.Printing.{AppendsFront, Prints, PrintsFront, PrintsOut, line};
 ghost use Rattle.wasmi_script.specs.Texts.{reply_text, bytes_text};
 ghost use Rattle.wasmi_script.specs.Outcomes.{calls_of, replies_text, tenants_text, held_text, outcome_text, HasReplies, IsOutcomeOf, Replays};
 ghost use Rattle.std.specs.Io.KnownBytes.{Appends};
@@ -15,7 +15,7 @@ use crate::answering::AnswerList;
 use crate::error::ReplayError;
 use crate::print::ReplyLine;
 use crate::printer::Printer;
-use crate::reading::{LIMIT, read};
+use crate::reading::{LIMIT, Turns, read};
 use crate::script::{
     AnswerWord, Header, LimiterLine, QuotaLine, RegionLine, Script, TenantsLine, parse,
 };
@@ -108,7 +108,7 @@ fn answer<R: io::Read>(alloc: Global, reader: &mut R) -> Result<Replayed, Replay
     ensures outcome { IfSome (R.remaining reader.old) (λ bytes. IsOutcomeOf bytes result) }
     ensures replies { HasReplies result }
 {
-    let bytes = read(alloc, reader)?;
+    let bytes = read(alloc, &mut Turns::new(reader))?;
     let script = parse(alloc, bytes.as_slice())?;
     let ran = run_script(alloc, &script)?;
     Ok(Replayed { script, ran })
@@ -258,11 +258,8 @@ fn print_all<W: io::Write>(
     outcome: &Result<Replayed, ReplayError>,
 ) -> fmt::Result
     requires { HasReplies outcome.now }
-    ensures ok { OnOk result (Appends (W.contents printer.old.writer.now) (W.contents printer.new.writer.now)
-        (printer.old.chunk.bytes ++ outcome_text outcome.now)) }
-    ensures front { OnErr result (AppendsFront (W.contents printer.old.writer.now) (W.contents printer.new.writer.now)
-        (printer.old.chunk.bytes ++ outcome_text outcome.now)) }
-    ensures same { printer.new.writer.ghost_name ≡ printer.old.writer.ghost_name }
+    ensures ok { OnOk result (PrintsOut W.contents printer.old printer.new (outcome_text outcome.now)) }
+    ensures front { OnErr result (PrintsFront W.contents printer.old printer.new (outcome_text outcome.now)) }
 {
     print_outcome(printer, outcome)?;
     printer.flush()
@@ -274,11 +271,8 @@ fn print_outcome<W: io::Write>(
     outcome: &Result<Replayed, ReplayError>,
 ) -> fmt::Result
     requires { HasReplies outcome.now }
-    ensures ok { OnOk result (Passes (W.contents printer.old.writer.now) (W.contents printer.new.writer.now)
-        printer.old.chunk.bytes printer.new.chunk.bytes (outcome_text outcome.now)) }
-    ensures front { OnErr result (AppendsFront (W.contents printer.old.writer.now) (W.contents printer.new.writer.now)
-        (printer.old.chunk.bytes ++ outcome_text outcome.now)) }
-    ensures same { printer.new.writer.ghost_name ≡ printer.old.writer.ghost_name }
+    ensures ok { OnOk result (Prints W.contents printer.old printer.new (outcome_text outcome.now)) }
+    ensures front { OnErr result (PrintsFront W.contents printer.old printer.new (outcome_text outcome.now)) }
 {
     match outcome {
         Ok(replayed) => print_replayed(printer, replayed),
@@ -289,11 +283,8 @@ fn print_outcome<W: io::Write>(
 /// Prints a line for each call of a script, and what is held.
 fn print_replayed<W: io::Write>(printer: &mut Printer<'_, W>, replayed: &Replayed) -> fmt::Result
     requires { length (calls_of replayed.now.script) ≡ length replayed.now.ran.replies.items }
-    ensures ok { OnOk result (Passes (W.contents printer.old.writer.now) (W.contents printer.new.writer.now)
-        printer.old.chunk.bytes printer.new.chunk.bytes (outcome_text (Ok replayed.now))) }
-    ensures front { OnErr result (AppendsFront (W.contents printer.old.writer.now) (W.contents printer.new.writer.now)
-        (printer.old.chunk.bytes ++ outcome_text (Ok replayed.now))) }
-    ensures same { printer.new.writer.ghost_name ≡ printer.old.writer.ghost_name }
+    ensures ok { OnOk result (Prints W.contents printer.old printer.new (outcome_text (Ok replayed.now))) }
+    ensures front { OnErr result (PrintsFront W.contents printer.old printer.new (outcome_text (Ok replayed.now))) }
 {
     print_script(printer, &replayed.script, replayed.ran.replies.as_slice())?;
     print_held(printer, &replayed.ran.held)
@@ -306,11 +297,8 @@ fn print_script<W: io::Write>(
     replies: &[Reply],
 ) -> fmt::Result
     requires { length (calls_of script.now) ≡ length replies.now }
-    ensures ok { OnOk result (Passes (W.contents printer.old.writer.now) (W.contents printer.new.writer.now)
-        printer.old.chunk.bytes printer.new.chunk.bytes (replies_text (calls_of script.now) replies.now)) }
-    ensures front { OnErr result (AppendsFront (W.contents printer.old.writer.now) (W.contents printer.new.writer.now)
-        (printer.old.chunk.bytes ++ replies_text (calls_of script.now) replies.now)) }
-    ensures same { printer.new.writer.ghost_name ≡ printer.old.writer.ghost_name }
+    ensures ok { OnOk result (Prints W.contents printer.old printer.new (replies_text (calls_of script.now) replies.now)) }
+    ensures front { OnErr result (PrintsFront W.contents printer.old printer.new (replies_text (calls_of script.now) replies.now)) }
 {
     let mut rest = replies;
     for part in &script.earlier {
@@ -327,11 +315,8 @@ fn print_replies<W: io::Write>(
     calls: &[Call],
     replies: &[Reply],
 ) -> fmt::Result
-    ensures ok { OnOk result (Passes (W.contents printer.old.writer.now) (W.contents printer.new.writer.now)
-        printer.old.chunk.bytes printer.new.chunk.bytes (replies_text calls.now replies.now)) }
-    ensures front { OnErr result (AppendsFront (W.contents printer.old.writer.now) (W.contents printer.new.writer.now)
-        (printer.old.chunk.bytes ++ replies_text calls.now replies.now)) }
-    ensures same { printer.new.writer.ghost_name ≡ printer.old.writer.ghost_name }
+    ensures ok { OnOk result (Prints W.contents printer.old printer.new (replies_text calls.now replies.now)) }
+    ensures front { OnErr result (PrintsFront W.contents printer.old printer.new (replies_text calls.now replies.now)) }
 {
     for (call, reply) in calls.iter().zip(replies) {
         print_reply(printer, call, reply)?;
@@ -345,11 +330,8 @@ fn print_reply<W: io::Write>(
     call: &Call,
     reply: &Reply,
 ) -> fmt::Result
-    ensures ok { OnOk result (Passes (W.contents printer.old.writer.now) (W.contents printer.new.writer.now)
-        printer.old.chunk.bytes printer.new.chunk.bytes (line (reply_text call.now reply.now))) }
-    ensures front { OnErr result (AppendsFront (W.contents printer.old.writer.now) (W.contents printer.new.writer.now)
-        (printer.old.chunk.bytes ++ line (reply_text call.now reply.now))) }
-    ensures same { printer.new.writer.ghost_name ≡ printer.old.writer.ghost_name }
+    ensures ok { OnOk result (Prints W.contents printer.old printer.new (line (reply_text call.now reply.now))) }
+    ensures front { OnErr result (PrintsFront W.contents printer.old printer.new (line (reply_text call.now reply.now))) }
 {
     match reply {
         Reply::Bytes(bytes) => print_bytes(printer, bytes.as_slice()),
@@ -359,11 +341,8 @@ fn print_reply<W: io::Write>(
 
 /// The line of bytes that were read.
 fn print_bytes<W: io::Write>(printer: &mut Printer<'_, W>, bytes: &[u8]) -> fmt::Result
-    ensures ok { OnOk result (Passes (W.contents printer.old.writer.now) (W.contents printer.new.writer.now)
-        printer.old.chunk.bytes printer.new.chunk.bytes (line (codes "bytes" ++ bytes_text bytes.now))) }
-    ensures front { OnErr result (AppendsFront (W.contents printer.old.writer.now) (W.contents printer.new.writer.now)
-        (printer.old.chunk.bytes ++ (line (codes "bytes" ++ bytes_text bytes.now)))) }
-    ensures same { printer.new.writer.ghost_name ≡ printer.old.writer.ghost_name }
+    ensures ok { OnOk result (Prints W.contents printer.old printer.new (line (codes "bytes" ++ bytes_text bytes.now))) }
+    ensures front { OnErr result (PrintsFront W.contents printer.old printer.new (line (codes "bytes" ++ bytes_text bytes.now))) }
 {
     printer.print("bytes")?;
     for byte in bytes {
@@ -374,11 +353,8 @@ fn print_bytes<W: io::Write>(printer: &mut Printer<'_, W>, bytes: &[u8]) -> fmt:
 
 /// What a quota holds, or what each tenant of a pool holds.
 fn print_held<W: io::Write>(printer: &mut Printer<'_, W>, held: &Held) -> fmt::Result
-    ensures ok { OnOk result (Passes (W.contents printer.old.writer.now) (W.contents printer.new.writer.now)
-        printer.old.chunk.bytes printer.new.chunk.bytes (held_text held.now)) }
-    ensures front { OnErr result (AppendsFront (W.contents printer.old.writer.now) (W.contents printer.new.writer.now)
-        (printer.old.chunk.bytes ++ held_text held.now)) }
-    ensures same { printer.new.writer.ghost_name ≡ printer.old.writer.ghost_name }
+    ensures ok { OnOk result (Prints W.contents printer.old printer.new (held_text held.now)) }
+    ensures front { OnErr result (PrintsFront W.contents printer.old printer.new (held_text held.now)) }
 {
     match held {
         Held::Nothing => Ok(()),
@@ -391,11 +367,8 @@ fn print_held<W: io::Write>(printer: &mut Printer<'_, W>, held: &Held) -> fmt::R
 
 /// What each tenant of a pool holds.
 fn print_tenants<W: io::Write>(printer: &mut Printer<'_, W>, pool: &Pool) -> fmt::Result
-    ensures ok { OnOk result (Passes (W.contents printer.old.writer.now) (W.contents printer.new.writer.now)
-        printer.old.chunk.bytes printer.new.chunk.bytes (tenants_text pool.now.machines)) }
-    ensures front { OnErr result (AppendsFront (W.contents printer.old.writer.now) (W.contents printer.new.writer.now)
-        (printer.old.chunk.bytes ++ tenants_text pool.now.machines)) }
-    ensures same { printer.new.writer.ghost_name ≡ printer.old.writer.ghost_name }
+    ensures ok { OnOk result (Prints W.contents printer.old printer.new (tenants_text pool.now.machines)) }
+    ensures front { OnErr result (PrintsFront W.contents printer.old printer.new (tenants_text pool.now.machines)) }
 {
     for index in 0..pool.len() {
         let bytes = pool.held_bytes(index).unwrap();

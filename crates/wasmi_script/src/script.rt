@@ -70,8 +70,8 @@ impl Script {
     /// Takes in a `meter` line.
     fn take_meter(&mut self, words: &[&str]) -> Result<(), LineError>
         ensures ok { OnOk result (AddsMeter self.old words.now self.new) }
-        ensures refused { IfErr result (λ error. error ≡ LineError.BadCommand → (new : Script)
-            → ¬ (AddsMeter self.old words.now new)) }
+        ensures bad { IfErr result (λ error. error ≡ LineError.BadCommand) }
+        ensures refused { OnErr result ((new : Script) → ¬ (AddsMeter self.old words.now new)) }
     {
         self.expect_no_commands()?;
         self.header.take_meter(words)
@@ -90,8 +90,8 @@ impl Script {
     /// Takes in a `region` line.
     fn take_region(&mut self, words: &[&str]) -> Result<(), LineError>
         ensures ok { OnOk result (AddsRegion self.old words.now self.new) }
-        ensures refused { IfErr result (λ error. error ≡ LineError.BadCommand → (new : Script)
-            → ¬ (AddsRegion self.old words.now new)) }
+        ensures bad { IfErr result (λ error. error ≡ LineError.BadCommand) }
+        ensures refused { OnErr result ((new : Script) → ¬ (AddsRegion self.old words.now new)) }
     {
         self.expect_no_commands()?;
         self.header.take_region(words)
@@ -110,7 +110,7 @@ impl Script {
     /// Header lines stand before all commands.
     fn expect_no_commands(&self) -> Result<(), LineError>
         ensures ok { OnOk result (HasNoCommands self.now) }
-        ensures err { OnErr result (¬ HasNoCommands self.now) }
+        ensures err { IfErr result (λ error. (error ≡ LineError.BadCommand) × ¬ (HasNoCommands self.now)) }
     {
         if self.calls.is_empty() && self.earlier.is_empty() {
             Ok(())

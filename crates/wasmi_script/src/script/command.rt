@@ -1,5 +1,5 @@
 //! The commands of a script, each of which is one call.
-ghost use Rattle.wasmi_script.specs.Acceptance.{Accepts};
+ghost use Rattle.wasmi_script.specs.Acceptance.{AcceptsWithMemory};
 ghost use Rattle.wasmi_script.specs.Commands.{Names, NamesAfter};
 
 mod access;
@@ -20,7 +20,7 @@ use wasmi_core::Call;
 
 /// The call that a line's words name. The first word says which call, the words after it are its operands.
 pub fn command(alloc: Global, words: &[&str]) -> Result<Call, LineError>
-    ensures { Accepts result (Names words.now) }
+    ensures { AcceptsWithMemory result (Names words.now) }
 {
     match words {
         [name, operands @ ..] => named(alloc, name, operands),
@@ -29,8 +29,9 @@ pub fn command(alloc: Global, words: &[&str]) -> Result<Call, LineError>
 }
 
 /// The call of a command with this name and these operands.
+#[tactic(auto, using(crate::proofs::AcceptanceLemmas::with_memory))]
 fn named(alloc: Global, name: &str, operands: &[&str]) -> Result<Call, LineError>
-    ensures { Accepts result (NamesAfter name.now operands.now) }
+    ensures { AcceptsWithMemory result (NamesAfter name.now operands.now) }
 {
     match name {
         "fuel" => fuel::set_fuel(operands),

@@ -1,6 +1,6 @@
 //! The header lines of a script.
 ghost use Rattle.std.specs.Prelude.{◌≡◌, codes, None, Some, IsSomeAnd, IfErr, OnOk, OnErr};
-ghost use Rattle.wasmi_script.specs.Acceptance.{Accepts};
+ghost use Rattle.wasmi_script.specs.Acceptance.{Accepts, AcceptsWithMemory};
 ghost use Rattle.wasmi_script.specs.Headers.{NamesMeter, NamesLimiter, NamesLimiterAfter, NamesRegion, AreApart, meter_of, tenants_of};
 
 mod answers;
@@ -84,8 +84,8 @@ impl Header {
         ensures meter { OnOk result (IsSomeAnd self.new.meter (NamesMeter words.now)) }
         ensures others { (self.new.limiter ≡ self.old.limiter) × (self.new.region ≡ self.old.region) }
         ensures err { OnErr result (self.new ≡ self.old) }
-        ensures refused { IfErr result (λ error. error ≡ LineError.BadCommand → self.old.meter ≡ None
-            → (line : MeterLine) → ¬ (NamesMeter words.now line)) }
+        ensures bad { IfErr result (λ error. error ≡ LineError.BadCommand) }
+        ensures refused { OnErr result (self.old.meter ≡ None → (line : MeterLine) → ¬ (NamesMeter words.now line)) }
     {
         if self.meter.is_some() {
             return Err(LineError::BadCommand);
@@ -122,7 +122,8 @@ impl Header {
         ensures region { OnOk result (IsSomeAnd self.new.region (NamesRegion words.now)) }
         ensures others { (self.new.meter ≡ self.old.meter) × (self.new.limiter ≡ self.old.limiter) }
         ensures err { OnErr result (self.new ≡ self.old) }
-        ensures refused { IfErr result (λ error. error ≡ LineError.BadCommand → self.old.region ≡ None
+        ensures bad { IfErr result (λ error. error ≡ LineError.BadCommand) }
+        ensures refused { OnErr result (self.old.region ≡ None
             → (line : RegionLine) → ¬ (NamesRegion words.now line × AreApart self.old.limiter (Some line))) }
     {
         if self.region.is_some() || matches!(self.limiter, Some(LimiterLine::Tenants(_))) {
@@ -185,8 +186,9 @@ fn region_line(words: &[&str]) -> Result<RegionLine, LineError>
 }
 
 /// What the words of a limiter line say: the first word which limiter, the others how it answers.
+#[tactic(auto, using(crate::proofs::AcceptanceLemmas::with_memory))]
 fn limiter_line(alloc: Global, words: &[&str]) -> Result<LimiterLine, LineError>
-    ensures { Accepts result (NamesLimiter words.now) }
+    ensures { AcceptsWithMemory result (NamesLimiter words.now) }
 {
     match words {
         ["quota", operands @ ..] => quota(operands),
@@ -229,7 +231,7 @@ fn tenants(operands: &[&str]) -> Result<LimiterLine, LineError>
 
 /// `answers W ...`, which may have no word.
 fn listed(alloc: Global, operands: &[&str]) -> Result<LimiterLine, LineError>
-    ensures { Accepts result (NamesLimiterAfter (codes "answers") operands.now) }
+    ensures { AcceptsWithMemory result (NamesLimiterAfter (codes "answers") operands.now) }
 {
     Ok(LimiterLine::Answers(answers_of(alloc, operands)?))
 }

@@ -9,7 +9,7 @@ use Rattle.wasmi_core.specs.declared.calls.Reply.{Reply}
 use Rattle.wasmi_script.specs.Printing.{line}
 use Rattle.wasmi_script.specs.Texts.{reply_text}
 use Rattle.wasmi_script.specs.Outcomes.{replies_text}
-use Rattle.wasmi_script.proofs.PrintingLemmas.{always_err, passes_none, passes_then, front_then, texts_at}
+use Rattle.wasmi_script.proofs.PrintingLemmas.{always_err, prints_none, prints_then, prints_front, texts_at}
 use Rattle.wasmi_script.proofs.replaying.print_replies.Goals as goal
 
 -- what is seen of a call and its reply
@@ -27,7 +27,7 @@ loop-call-preserved g c =
     let turn : Bor Call × Bor Reply = (c.in-Some.call, c.in-Some.reply) in
     let more : flat_map seen_text (c.loop-call.yielded ++ turn ∷ []) ≡ flat_map seen_text c.loop-call.yielded ++ seen_text turn =
     flat_map-append seen_text c.loop-call.yielded (turn ∷ []) ∙ ap (λ t. flat_map seen_text c.loop-call.yielded ++ t) (append-nil (seen_text turn)) in
-    (c.print_reply.ensures.same ∙ c.loop-call.invariant.0, passes_then _ _ _ _ _ _ _ (seen_text turn) _ more c.loop-call.invariant.1 c.in_ok-print_reply.ensures.ok)
+    prints_then g.W.Write.contents _ _ _ _ (seen_text turn) _ more c.loop-call.invariant c.in_ok-print_reply.ensures.ok
 
 pub returns-in_err-print_reply-clause-front : goal.returns-in_err-print_reply-clause-front
 returns-in_err-print_reply-clause-front g c =
@@ -43,7 +43,7 @@ returns-in_err-print_reply-clause-front g c =
     texts_at turn_text all i (turn_of turn) here.0
     ∙ ap (λ t. t ++ (turn_text (get_or all i (turn_of turn)) ++ flat_map turn_text (drop (i + 1) all))) so_far
     ∙ ap (λ t. flat_map seen_text c.loop-call.yielded ++ (turn_text t ++ flat_map turn_text (drop (i + 1) all))) (sym here.1) in
-    always_err c.from_residual.result (front_then _ _ _ _ _ _ (seen_text turn) _ _ whole c.loop-call.invariant.1 c.in_err-print_reply.ensures.front)
+    always_err c.from_residual.result (prints_front g.W.Write.contents _ _ _ _ (seen_text turn) _ _ whole c.loop-call.invariant c.in_err-print_reply.ensures.front)
 
 pub returns-clause-ok : goal.returns-clause-ok
 returns-clause-ok g c =
@@ -51,4 +51,4 @@ returns-clause-ok g c =
     let all = YieldsList-end road c.loop-call.yielded c.loop-call.call-iterator c.loop-call.yielded_by _ c.next.new.self c.in-None.is c.next.ensures.steps in
     let whole : flat_map seen_text c.loop-call.yielded ≡ replies_text c.args.calls.now c.args.replies.now =
     sym (flat_map-map turn_text turn_of c.loop-call.yielded) ∙ ap (flat_map turn_text) all.0 in
-    passes_then _ _ _ _ _ _ _ [] _ (sym whole ∙ sym (append-nil (flat_map seen_text c.loop-call.yielded))) c.loop-call.invariant.1 (passes_none _ _)
+    prints_then g.W.Write.contents _ _ _ _ [] _ (sym whole ∙ sym (append-nil (flat_map seen_text c.loop-call.yielded))) c.loop-call.invariant (prints_none g.W.Write.contents _)

@@ -1,8 +1,8 @@
-use Rattle.std.proofs.Common.{◌≡◌, flat_map}
+use Rattle.std.proofs.Common.{flat_map}
 use Rattle.wasmi_script.specs.Texts.{reply_text}
-use Rattle.wasmi_script.specs.Printing.{Passes, line}
+use Rattle.wasmi_script.specs.Printing.{Prints, line}
 use Rattle.wasmi_script.proofs.replaying.print_replies.Given as goal
 
 abbrev pub invariant-loop-call : goal.invariant-loop-call
 invariant-loop-call g l =
-    (l.printer.writer.ghost_name ≡ l.fn.printer.writer.ghost_name) × Passes (g.W.Write.contents l.fn.printer.writer.now) (g.W.Write.contents l.printer.writer.now) l.fn.printer.chunk.bytes l.printer.chunk.bytes (flat_map (λ turn. line (reply_text turn.0.now turn.1.now)) l.yielded)
+    Prints g.W.Write.contents l.fn.printer l.printer (flat_map (λ turn. line (reply_text turn.0.now turn.1.now)) l.yielded)

@@ -1,6 +1,6 @@
 use Rattle.std.proofs.Common.{◌≡◌, ◌++◌, List, flat_map, length, take}
 use Rattle.wasmi_core.specs.declared.calls.Reply.{Reply}
-use Rattle.wasmi_script.specs.Printing.{Passes}
+use Rattle.wasmi_script.specs.Printing.{Prints}
 use Rattle.wasmi_script.specs.Outcomes.{replies_text}
 use Rattle.wasmi_script.proofs.replaying.print_script.Given as goal
 
@@ -8,5 +8,5 @@ use Rattle.wasmi_script.proofs.replaying.print_script.Given as goal
 abbrev pub invariant-loop-part : goal.invariant-loop-part
 invariant-loop-part g l =
     let calls = flat_map (λ part. part.calls.items) (take l.part-index l.script.earlier.items) in
-    (l.printer.writer.ghost_name ≡ l.fn.printer.writer.ghost_name) × (before : List Reply) × (l.replies ≡ before ++ l.rest) × (length calls ≡ length before)
-    × Passes (g.W.Write.contents l.fn.printer.writer.now) (g.W.Write.contents l.printer.writer.now) l.fn.printer.chunk.bytes l.printer.chunk.bytes (replies_text calls before)
+    (before : List Reply) × (l.replies ≡ before ++ l.rest) × (length calls ≡ length before)
+    × Prints g.W.Write.contents l.fn.printer l.printer (replies_text calls before)

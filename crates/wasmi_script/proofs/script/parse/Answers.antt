@@ -1,4 +1,4 @@
-use Rattle.std.proofs.Common.{ℕ, rules, tests, arith, refl, sym, ap, subst, ◌∙◌, ◌≡◌, ◌∷◌, [], map, List, ◌==◌, ◌++◌, ◌+◌, Bor, length, drop, inl, inr}
+use Rattle.std.proofs.Common.{ℕ, rules, tests, arith, refl, sym, ap, subst, ◌∙◌, ◌≡◌, ◌∷◌, [], map, List, ◌==◌, ◌++◌, ◌+◌, Bor, length, drop}
 use Rattle.std.proofs.lemmas.Grind.{common_steps}
 use Rattle.std.proofs.lemmas.List.{map-append, length-map}
 use Rattle.std.proofs.lemmas.Simd.{map-map}
@@ -6,6 +6,7 @@ use Rattle.std.proofs.lemmas.Iterator.Consumers.{YieldsList-at, YieldsList-so_fa
 use Rattle.std.proofs.lemmas.Iterator.Splits.{YieldsList-from_slice_split}
 use Rattle.std.specs.List.{slice_split}
 use Rattle.wasmi_script.specs.Lines.{TakesLine, TakesLines, lines_in, words_in}
+use Rattle.wasmi_script.proofs.TextsLemmas.{retell}
 use Rattle.wasmi_script.proofs.Scripts.{one_more, without_numbers, lines_at}
 use Rattle.wasmi_script.proofs.script.parse.Goals as goal
 
@@ -22,7 +23,7 @@ loop-index-preserved c =
     let new = c.take_line.new.self in
     let same : map (λ word. word.now) c.as_slice.result.now ≡ words_in c.in-Some.bytes.now =
     ap (map (λ word. word.now)) c.as_slice.ensures.value ∙ c.in_ok-words.ensures ∙ ap words_in c.in-Ok.ensures.cases.0 in
-    let line_taken : TakesLine c.loop-index.script c.in-Some.bytes.now new = (c.as_slice.result.now, same, c.in-Ok-take_line.ensures.ok) in (
+    let line_taken : TakesLine c.loop-index.script c.in-Some.bytes.now new = (c.in-Ok.ensures.cases.1, c.as_slice.result.now, same, c.in-Ok-take_line.ensures.ok) in (
       grind (arith, common_steps),
       empty,
       no_header,
@@ -81,7 +82,7 @@ returns-in_default-clause-refused c =
       counted = omega (arith, place.1, length-map yielded line_of);
       script = c.loop-index.script;
       made = record { empty = empty; no_header = no_header; no_commands = no_commands; first_tenant = first_tenant; lines = taken };
-      is_bad = inl c.in_default.ensures.cases.0;
+      is_bad = λ new takes. c.in_default.ensures.cases.0 takes.0;
     }
 
 pub returns-in-Err-BadCommand-clause-refused : goal.returns-in-Err-BadCommand-clause-refused
@@ -113,5 +114,6 @@ returns-in-Err-BadCommand-clause-refused c =
       counted = omega (arith, place.1, length-map yielded line_of);
       script = c.loop-index.script;
       made = record { empty = empty; no_header = no_header; no_commands = no_commands; first_tenant = first_tenant; lines = taken };
-      is_bad = inr (c.as_slice.result.now, same, c.in-Err-BadCommand.ensures.refused c.in-Err-BadCommand.field-0-is);
+      is_bad = λ new takes. c.in-Err-BadCommand.ensures.refused c.in-Err-BadCommand.field-0-is new
+          (retell takes.1 c.as_slice.result.now (takes.2 ∙ sym same) c.loop-index.script new takes.3);
     }

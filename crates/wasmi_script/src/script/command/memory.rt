@@ -1,6 +1,6 @@
 //! Commands of memories.
 ghost use Rattle.std.specs.Prelude.{◌≡◌, codes, IfErr, IfOk};
-ghost use Rattle.wasmi_script.specs.Acceptance.{Accepts};
+ghost use Rattle.wasmi_script.specs.Acceptance.{Accepts, AcceptsWithMemory};
 ghost use Rattle.wasmi_script.specs.Commands.{NamesAfter};
 ghost use Rattle.wasmi_script.specs.MemoryWords.{HasSettings, NamesType};
 ghost use Rattle.wasmi_script.specs.Numbers.{AreNumbers, WritesNumbers};
@@ -54,7 +54,7 @@ pub fn read(operands: &[&str]) -> Result<Call, LineError>
 
 /// `write K OFFSET BYTE ...`, which may have no byte.
 pub fn write(alloc: Global, operands: &[&str]) -> Result<Call, LineError>
-    ensures { Accepts result (NamesAfter (codes "write") operands.now) }
+    ensures { AcceptsWithMemory result (NamesAfter (codes "write") operands.now) }
 {
     let [memory, offset, bytes @ ..] = operands else {
         return Err(LineError::BadCommand);

@@ -1,6 +1,6 @@
 //! Commands of element segments.
 ghost use Rattle.std.specs.Prelude.{◌≡◌, codes, IfErr, IfOk};
-ghost use Rattle.wasmi_script.specs.Acceptance.{Accepts};
+ghost use Rattle.wasmi_script.specs.Acceptance.{Accepts, AcceptsWithMemory};
 ghost use Rattle.wasmi_script.specs.Commands.{NamesAfter};
 ghost use Rattle.wasmi_script.specs.Numbers.{AreNumbers, WritesNumbers};
 
@@ -12,7 +12,7 @@ use wasmi_core::{Call, RawRef};
 
 /// `segment T N ...`, which may have no reference.
 pub fn new_segment(alloc: Global, operands: &[&str]) -> Result<Call, LineError>
-    ensures { Accepts result (NamesAfter (codes "segment") operands.now) }
+    ensures { AcceptsWithMemory result (NamesAfter (codes "segment") operands.now) }
 {
     let [ty, items @ ..] = operands else {
         return Err(LineError::BadCommand);

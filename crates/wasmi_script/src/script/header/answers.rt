@@ -1,6 +1,6 @@
 //! The words of an `answers` line.
 ghost use Rattle.std.specs.Prelude.{◌≡◌};
-ghost use Rattle.wasmi_script.specs.Acceptance.{Accepts};
+ghost use Rattle.wasmi_script.specs.Acceptance.{Accepts, AcceptsWithMemory};
 ghost use Rattle.wasmi_script.specs.Answers.{WritesAnswers, answer_text};
 
 use crate::script::line::LineError;
@@ -21,7 +21,7 @@ pub enum AnswerWord {
 
 /// The answers that the words stand for, one each.
 pub fn answers_of(alloc: Global, words: &[&str]) -> Result<Vec<AnswerWord>, LineError>
-    ensures { Accepts result (λ answers. WritesAnswers words.now answers.items) }
+    ensures { AcceptsWithMemory result (λ answers. WritesAnswers words.now answers.items) }
 {
     let mut answers = Vec::new(alloc);
     for word in words {

@@ -1,11 +1,12 @@
 use Rattle.std.proofs.Common.{refl}
 use Rattle.std.proofs.lemmas.Result.{IfErr-weaker}
+use Rattle.wasmi_script.proofs.AcceptanceLemmas.{on_refusal}
 use Rattle.wasmi_script.proofs.LinesLemmas.{no_meter_line, no_limiter_line, no_region_line, no_call_line, no_part_line}
 use Rattle.wasmi_script.proofs.script.Script.take_line.Goals as goal
 
 pub returns-in-Meter-clause-refused : goal.returns-in-Meter-clause-refused
 returns-in-Meter-clause-refused c =
-    IfErr-weaker c.take_meter.result _ _ (λ error refused bad new. no_meter_line c.args.self.now new c.args.words.now c.in-len1-up.len_at_least _ refl c.in-Meter.ensures (refused bad new)) c.take_meter.ensures.refused
+    on_refusal c.take_meter.result (λ error refused bad new. no_meter_line c.args.self.now new c.args.words.now c.in-len1-up.len_at_least _ refl c.in-Meter.ensures (refused new)) c.take_meter.ensures.refused
 
 pub returns-in-Limiter-clause-refused : goal.returns-in-Limiter-clause-refused
 returns-in-Limiter-clause-refused c =
@@ -13,7 +14,7 @@ returns-in-Limiter-clause-refused c =
 
 pub returns-in-Region-clause-refused : goal.returns-in-Region-clause-refused
 returns-in-Region-clause-refused c =
-    IfErr-weaker c.take_region.result _ _ (λ error refused bad new. no_region_line c.args.self.now new c.args.words.now c.in-len1-up.len_at_least _ refl c.in-Region.ensures (refused bad new)) c.take_region.ensures.refused
+    on_refusal c.take_region.result (λ error refused bad new. no_region_line c.args.self.now new c.args.words.now c.in-len1-up.len_at_least _ refl c.in-Region.ensures (refused new)) c.take_region.ensures.refused
 
 pub returns-in-Call-clause-refused : goal.returns-in-Call-clause-refused
 returns-in-Call-clause-refused c =

@@ -3,11 +3,11 @@ use Rattle.std.specs.Global.{Vec}
 use Rattle.wasmi_script.specs.declared.script.header.answers.AnswerWord.{AnswerWord}
 use Rattle.wasmi_script.specs.declared.script.header.LimiterLine.{LimiterLine}
 use Rattle.wasmi_script.specs.declared.script.header.LimiterLine.TheVariants.{Quota, Answers, Tenants}
-use Rattle.wasmi_script.specs.Acceptance.{Accepts}
+use Rattle.wasmi_script.specs.Acceptance.{AcceptsWithMemory}
 use Rattle.wasmi_script.specs.Answers.{WritesAnswers}
 use Rattle.wasmi_script.specs.Headers.{NamesLimiterAfter}
 use Rattle.wasmi_script.specs.Words.{Words}
-use Rattle.wasmi_script.proofs.AcceptanceLemmas.{refused_with}
+use Rattle.wasmi_script.proofs.AcceptanceLemmas.{refused_with_memory}
 use Rattle.wasmi_script.proofs.script.header.listed.Goals as goal
 
 -- a line of answers has the words of answers
@@ -19,5 +19,5 @@ words_of words (Tenants line) names = absurd (search (rules, tests, names))
 pub returns-in_err-answers_of : goal.returns-in_err-answers_of
 returns-in_err-answers_of c =
     let same : c.from_residual.result ≡ Err c.in_err-answers_of.field-0.0 = search rules in
-    subst (λ result. Accepts result (NamesLimiterAfter (codes "answers") c.args.operands.now)) (sym same)
-    (refused_with c.in_err-answers_of.field-0.0 _ _ (words_of c.args.operands.now) c.in_err-answers_of.ensures)
+    subst (λ result. AcceptsWithMemory result (NamesLimiterAfter (codes "answers") c.args.operands.now)) (sym same)
+    (refused_with_memory c.in_err-answers_of.field-0.0 _ _ (words_of c.args.operands.now) c.in_err-answers_of.ensures)

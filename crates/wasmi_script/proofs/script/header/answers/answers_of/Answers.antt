@@ -1,5 +1,5 @@
 use Rattle.std.proofs.Common.{◌≡◌, Err, rules, sym, subst}
-use Rattle.wasmi_script.specs.Acceptance.{Accepts}
+use Rattle.wasmi_script.specs.Acceptance.{AcceptsWithMemory}
 use Rattle.wasmi_script.specs.Answers.{WritesAnswers}
 use Rattle.wasmi_script.proofs.AnswersLemmas.{one_answer, no_answers}
 use Rattle.wasmi_script.proofs.script.header.answers.answers_of.Goals as goal
@@ -13,5 +13,5 @@ pub returns-in_err-answer_of : goal.returns-in_err-answer_of
 returns-in_err-answer_of c =
     let words = c.args.words.now in
     let same : c.from_residual.result ≡ Err c.in_err-answer_of.field-0.0 = search rules in
-    subst (λ result. Accepts result (λ answers. WritesAnswers words answers.items)) (sym same)
+    subst (λ result. AcceptsWithMemory result (λ answers. WritesAnswers words answers.items)) (sym same)
     (no_answers (λ answers. answers.items) words c.loop-word.word-index _ c.in_err-answer_of.field-0.0 c.loop-word-test.true c.in_err-answer_of.ensures)

@@ -1,0 +1,193 @@
+-- No text that is printed at once is long.
+use Rattle.std.proofs.Common.{ℕ, zero, suc, ◌+◌, ◌<◌, ◌≤◌, ◌/◌, ◌%◌, ◌==◌, ◌≡◌, ◌++◌, ◌∷◌, List, [], Bool, true, false, length, length-append, codes, None, Some, if◌then◌else◌, lit≤, lit<, arith, refl}
+use Rattle.std.specs.Fmt.{decimal, digits, digits_onto, digit_glyph}
+use Rattle.wasmi_types.specs.declared.trap.TrapCode.{TrapCode}
+use Rattle.wasmi_types.specs.declared.trap.TrapCode.TheVariants as trap
+use Rattle.wasmi_types.specs.Trap.{code_message}
+use Rattle.wasmi_types.specs.declared.value.RefType.{RefType}
+use Rattle.wasmi_types.specs.declared.value.RefType.TheVariants.{Func, Extern}
+use Rattle.wasmi_meter.specs.declared.error.MemoryError.{MemoryError}
+use Rattle.wasmi_meter.specs.declared.error.MemoryError.TheVariants as memory
+use Rattle.wasmi_meter.specs.declared.error.TableError.{TableError}
+use Rattle.wasmi_meter.specs.declared.error.TableError.TheVariants as table
+use Rattle.wasmi_meter.specs.declared.fuel.FuelError.{FuelError}
+use Rattle.wasmi_meter.specs.declared.fuel.FuelError.TheVariants as fuel
+use Rattle.wasmi_meter.specs.Texts.{fuel_error_text, memory_error_text, table_error_text}
+use Rattle.wasmi_typed.specs.declared.global.GlobalError.{GlobalError}
+use Rattle.wasmi_typed.specs.declared.global.GlobalError.TheVariants.{ImmutableWrite, TypeMismatch}
+use Rattle.wasmi_typed.specs.GlobalError.{global_error_text}
+use Rattle.wasmi_store.specs.declared.table.element.SegmentError.{SegmentError}
+use Rattle.wasmi_store.specs.declared.table.element.SegmentError.TheVariants as segment
+use Rattle.wasmi_store.specs.SegmentError.{segment_error_text}
+use Rattle.wasmi_core.specs.declared.calls.Call.{Call}
+use Rattle.wasmi_core.specs.declared.calls.Call.TheVariants.{SetFuel, GetFuel, NewMemory, NewLentMemory, GrowMemory, DropMemory, Read, Write, Load, Store, NewTable, GrowTable, DropTable, GetElement, SetElement, InitTable, CopyTable, FillTable, NewSegment, DropItems, NewGlobal, SetGlobal, GetGlobal, SetRegister, GetRegister, Make, Unary, Binary, Ternary, Shift, Test, Extract, Replace, Shuffle, VectorLoad, LoadLane, VectorStore, StoreLane}
+use Rattle.wasmi_core.specs.declared.calls.Reply.{Reply}
+use Rattle.wasmi_core.specs.declared.calls.Reply.TheVariants.{Done, Made, Value, Number, Bytes, Reference, Memory, Table, Fuel, Global, Segment, Trap, NoSuch, NoRegion, NoRoom}
+use Rattle.wasmi_script.specs.declared.error.ReplayError.{ReplayError}
+use Rattle.wasmi_script.specs.declared.error.ReplayError.TheVariants.{BadCommand, TooLong, ReadFault}
+use Rattle.wasmi_script.specs.declared.error.ReplayError.TheVariants as Errors
+use Rattle.wasmi_script.specs.TypeWords.{reference_word}
+use Rattle.wasmi_script.specs.Texts.{kind_text, reply_text, error_text}
+
+-- the digits of a number are at most 64
+digits_short : (k base : ℕ) (upper : Bool) (n : ℕ) (acc : List ℕ) → length (digits_onto k base upper n acc) ≤ k + length acc
+digits_short zero base upper n acc = omega arith
+digits_short (suc k) base upper n acc =
+    let glyph = digit_glyph upper (n % base) in
+    elim (n / base == 0) as (λ b. length (if b then glyph ∷ acc else digits_onto k base upper (n / base) (glyph ∷ acc)) ≤ suc k + length acc) [
+      | true ↦ omega arith
+      | false ↦ omega (arith, digits_short k base upper (n / base) (glyph ∷ acc))
+    ]
+
+decimal_short : (n : ℕ) → length (decimal n) ≤ 64
+unfolding digits
+decimal_short n = digits_short 64 10 false n []
+
+-- the word for what a call makes
+kind_short : (call : Call) → length (kind_text call) ≤ 7
+kind_short (SetFuel fuel) = lit≤ tt
+kind_short GetFuel = lit≤ tt
+kind_short (NewMemory ty) = lit≤ tt
+kind_short (NewLentMemory ty) = lit≤ tt
+kind_short (GrowMemory memory pages) = lit≤ tt
+kind_short (DropMemory memory) = lit≤ tt
+kind_short (Read memory offset len) = lit≤ tt
+kind_short (Write memory offset bytes) = lit≤ tt
+kind_short (Load op memory ptr offset) = lit≤ tt
+kind_short (Store op memory ptr offset value) = lit≤ tt
+kind_short (NewTable ty init) = lit≤ tt
+kind_short (GrowTable table delta init) = lit≤ tt
+kind_short (DropTable table) = lit≤ tt
+kind_short (GetElement table index) = lit≤ tt
+kind_short (SetElement table index value) = lit≤ tt
+kind_short (InitTable table segment dst src len) = lit≤ tt
+kind_short (CopyTable dst_table dst src_table src len) = lit≤ tt
+kind_short (FillTable table dst value len) = lit≤ tt
+kind_short (NewSegment ty items) = lit≤ tt
+kind_short (DropItems segment) = lit≤ tt
+kind_short (NewGlobal value ty) = lit≤ tt
+kind_short (SetGlobal global value) = lit≤ tt
+kind_short (GetGlobal global) = lit≤ tt
+kind_short (SetRegister dst value) = lit≤ tt
+kind_short (GetRegister a) = lit≤ tt
+kind_short (Make op dst a) = lit≤ tt
+kind_short (Unary op dst a) = lit≤ tt
+kind_short (Binary op dst a b) = lit≤ tt
+kind_short (Ternary op dst a b c) = lit≤ tt
+kind_short (Shift op dst a amount) = lit≤ tt
+kind_short (Test op a) = lit≤ tt
+kind_short (Extract op a) = lit≤ tt
+kind_short (Replace op dst a item) = lit≤ tt
+kind_short (Shuffle dst a b lanes) = lit≤ tt
+kind_short (VectorLoad op dst memory ptr offset) = lit≤ tt
+kind_short (LoadLane op dst a memory ptr offset) = lit≤ tt
+kind_short (VectorStore a memory ptr offset) = lit≤ tt
+kind_short (StoreLane op a memory ptr offset) = lit≤ tt
+
+-- the texts of errors
+numbered : (text : List ℕ) (n : ℕ) → length text ≤ 100 → length (text ++ decimal n) ≤ 164
+numbered text n short = omega (arith, length-append text (decimal n), decimal_short n, short)
+
+memory_short : (error : MemoryError) → length (memory_error_text error) ≤ 164
+memory_short memory.OutOfSystemMemory = lit≤ tt
+memory_short memory.OutOfBoundsGrowth = lit≤ tt
+memory_short memory.OutOfBoundsAccess = lit≤ tt
+memory_short memory.InvalidMemoryType = lit≤ tt
+memory_short memory.InvalidStaticBufferSize = lit≤ tt
+memory_short memory.ResourceLimiterDeniedAllocation = lit≤ tt
+memory_short memory.MinimumSizeOverflow = lit≤ tt
+memory_short memory.MaximumSizeOverflow = lit≤ tt
+memory_short (memory.OutOfFuel required) = numbered (codes "not enough fuel. required=") required (lit≤ tt)
+
+table_short : (error : TableError) → length (table_error_text error) ≤ 164
+table_short table.OutOfSystemMemory = lit≤ tt
+table_short table.MinimumSizeOverflow = lit≤ tt
+table_short table.MaximumSizeOverflow = lit≤ tt
+table_short table.ResourceLimiterDeniedAllocation = lit≤ tt
+table_short table.GrowOutOfBounds = lit≤ tt
+table_short table.InitOutOfBounds = lit≤ tt
+table_short table.FillOutOfBounds = lit≤ tt
+table_short table.SetOutOfBounds = lit≤ tt
+table_short table.CopyOutOfBounds = lit≤ tt
+table_short table.ElementTypeMismatch = lit≤ tt
+table_short (table.OutOfFuel required) = numbered (codes "not enough fuel: required=") required (lit≤ tt)
+
+fuel_short : (error : FuelError) → length (fuel_error_text error) ≤ 164
+fuel_short fuel.FuelMeteringDisabled = lit≤ tt
+fuel_short (fuel.OutOfFuel required) = numbered (codes "ouf of fuel. required=") required (lit≤ tt)
+
+global_short : (error : GlobalError) → length (global_error_text error) ≤ 164
+global_short ImmutableWrite = lit≤ tt
+global_short TypeMismatch = lit≤ tt
+
+segment_short : (error : SegmentError) → length (segment_error_text error) ≤ 164
+segment_short segment.TooManyItems = lit≤ tt
+segment_short segment.OutOfSystemMemory = lit≤ tt
+
+trap_short : (code : TrapCode) → length (code_message code) ≤ 164
+trap_short trap.UnreachableCodeReached = lit≤ tt
+trap_short trap.MemoryOutOfBounds = lit≤ tt
+trap_short trap.TableOutOfBounds = lit≤ tt
+trap_short trap.IndirectCallToNull = lit≤ tt
+trap_short trap.IntegerDivisionByZero = lit≤ tt
+trap_short trap.IntegerOverflow = lit≤ tt
+trap_short trap.BadConversionToInteger = lit≤ tt
+trap_short trap.StackOverflow = lit≤ tt
+trap_short trap.BadSignature = lit≤ tt
+trap_short trap.OutOfFuel = lit≤ tt
+trap_short trap.GrowthOperationLimited = lit≤ tt
+trap_short trap.OutOfSystemMemory = lit≤ tt
+
+reference_short : (ty : RefType) → length (reference_word ty) ≤ 6
+reference_short Func = lit≤ tt
+reference_short Extern = lit≤ tt
+
+-- a text after a word, and numbers after it
+failed : (text : List ℕ) → length text ≤ 164 → length (codes "error " ++ text) < 256
+failed text fits = omega (arith, length-append (codes "error ") text, fits)
+
+one_number : (word : List ℕ) (n : ℕ) → length word ≤ 40 → length (word ++ (codes " " ++ decimal n)) ≤ 105
+one_number word n short = omega (arith, length-append word (codes " " ++ decimal n), length-append (codes " ") (decimal n), decimal_short n, short)
+
+two_numbers : (word : List ℕ) (m n : ℕ) → length word ≤ 40 → length (word ++ (decimal m ++ (codes " " ++ decimal n))) ≤ 169
+two_numbers word m n short =
+    omega (arith, length-append word (decimal m ++ (codes " " ++ decimal n)), length-append (decimal m) (codes " " ++ decimal n), length-append (codes " ") (decimal n), decimal_short m, decimal_short n, short)
+
+pub three_numbers : (word : List ℕ) (k m n : ℕ) → length word ≤ 5 → length (word ++ (decimal k ++ (codes " " ++ (decimal m ++ (codes " " ++ decimal n))))) < 256
+three_numbers word k m n short =
+    omega (arith, length-append word (decimal k ++ (codes " " ++ (decimal m ++ (codes " " ++ decimal n)))), length-append (decimal k) (codes " " ++ (decimal m ++ (codes " " ++ decimal n))), two_numbers (codes " ") m n (lit≤ tt), decimal_short k, short)
+
+-- what is held
+pub held_short : (bytes elements : ℕ) → length (codes "held " ++ (decimal bytes ++ (codes " " ++ decimal elements))) < 256
+held_short bytes elements = omega (arith, two_numbers (codes "held ") bytes elements (lit≤ tt))
+
+-- a byte of those that were read
+pub byte_short : (byte : ℕ) → length (codes " " ++ decimal byte) < 256
+byte_short byte = omega (arith, numbered (codes " ") byte (lit≤ tt))
+
+-- a reply that isn't one of bytes
+pub reply_short : (call : Call) (reply : Reply) → ((bytes : _) → ¬ (reply ≡ Bytes bytes)) → length (reply_text call reply) < 256
+reply_short call Done other = lit< tt
+reply_short call (Made index) other = omega (arith, one_number (kind_text call) index (omega (arith, kind_short call)))
+reply_short call (Value value) other = omega (arith, two_numbers (codes "raw ") value.lo value.hi (lit≤ tt))
+reply_short call (Number number) other = omega (arith, numbered (codes "value ") number (lit≤ tt))
+reply_short call (Bytes bytes) other = absurd (other bytes refl)
+reply_short call (Reference None) other = lit< tt
+reply_short call (Reference (Some reference)) other = omega (arith, one_number (reference_word reference.ty) reference.raw (omega (arith, reference_short reference.ty)))
+reply_short call (Memory error) other = failed (memory_error_text error) (memory_short error)
+reply_short call (Table error) other = failed (table_error_text error) (table_short error)
+reply_short call (Fuel error) other = failed (fuel_error_text error) (fuel_short error)
+reply_short call (Global error) other = failed (global_error_text error) (global_short error)
+reply_short call (Segment error) other = failed (segment_error_text error) (segment_short error)
+reply_short call (Trap code) other = failed (code_message code) (trap_short code)
+reply_short call NoSuch other = lit< tt
+reply_short call NoRegion other = lit< tt
+reply_short call NoRoom other = lit< tt
+
+-- why a script isn't run
+pub error_short : (error : ReplayError) → length (error_text error) < 256
+error_short (BadCommand number) =
+    omega (arith, length-append (codes "line ") (decimal number ++ codes ": bad command"), length-append (decimal number) (codes ": bad command"), decimal_short number)
+error_short TooLong = lit< tt
+error_short Errors.OutOfMemory = lit< tt
+error_short ReadFault = lit< tt

@@ -1,0 +1,5 @@
+use Rattle.wasmi_script.proofs.AnswersLemmas.{answers_once}
+use Rattle.wasmi_script.proofs.laws.answers_leave_no_choice.Goals as goal
+
+pub returns : goal.returns
+returns c = answers_once
