@@ -6,6 +6,7 @@ mod absent;
 mod examples;
 mod loans;
 mod pools;
+mod random;
 mod refusing;
 mod regions;
 mod reserving;

@@ -17,6 +17,27 @@ fn ample_memory_pool_runs(rt: HostRuntime) -> Result<(), Fail> {
     Ok(())
 }
 
+#[test]
+fn a_pool_takes_many_machines(rt: HostRuntime) -> Result<(), Fail> {
+    let (calls, expected) = split(rt.alloc(), &PAGE)?;
+    let mut pool = Pool::new(rt.alloc(), 65536, 0);
+    for index in 0..1024 {
+        let tenant = pool.add(unmetered(rt.alloc())).ok();
+        same(&rt, "the tenant", tenant, Some(index));
+    }
+    same(&rt, "the tenants", pool.len(), 1024);
+    let replies = pool.run(1023, &calls);
+    same(&rt, "the replies", replies, Ok(expected));
+    same(
+        &rt,
+        "the last one's bytes",
+        pool.held_bytes(1023),
+        Some(65536),
+    );
+    same(&rt, "no bytes more", pool.held_bytes(1024), None);
+    Ok(())
+}
+
 static DROPPED: [Step; 2] = [
     (CallRow::NewPages(1, None), ReplyRow::Made(0)),
     (CallRow::Memory(0, MemoryRow::Drop), ReplyRow::Done),

@@ -10,15 +10,25 @@ use wasmi_core::{LimiterError, Machine, MemoryError, ResourceLimiter, TableError
 const REFUSAL: LimiterError = LimiterError::ResourceLimiterDeniedAllocation;
 
 /// Answers questions by the bits of one number, two for each, and notices by the bits of another, one for each.
-#[derive(Clone, Copy)]
-struct RandomAnswers {
+#[derive(Clone, Copy, Debug, PartialEq, Eq)]
+pub(super) struct RandomAnswers {
     answers: u64,
     heeds: u64,
     questions: u32,
+    notices: u32,
 }
 
 impl RandomAnswers {
-    fn answer(&mut self) -> Result<bool, LimiterError> {
+    pub(super) fn new(answers: u64, heeds: u64) -> Self {
+        RandomAnswers {
+            answers,
+            heeds,
+            questions: 0,
+            notices: 0,
+        }
+    }
+
+    pub(super) fn answer(&mut self) -> Result<bool, LimiterError> {
         let bits = self.answers & 3;
         self.answers = self.answers.rotate_right(2);
         self.questions = self.questions.saturating_add(1);
@@ -29,10 +39,29 @@ impl RandomAnswers {
         }
     }
 
-    fn heed(&mut self) -> Result<(), LimiterError> {
+    pub(super) fn heed(&mut self) -> Result<(), LimiterError> {
         let bit = self.heeds & 1;
         self.heeds = self.heeds.rotate_right(1);
+        self.notices = self.notices.saturating_add(1);
         if bit == 0 { Ok(()) } else { Err(REFUSAL) }
+    }
+
+    /// What becomes of a growth that is asked for and then fails for the cause, if there is one.
+    pub(super) fn fate<E: Drop>(
+        &mut self,
+        denial: E,
+        refusal: E,
+        cause: Option<E>,
+    ) -> Result<(), E> {
+        match (self.answer(), cause) {
+            (Ok(true), None) => Ok(()),
+            (Ok(true), Some(cause)) => match self.heed() {
+                Ok(()) => Err(cause),
+                Err(_) => Err(refusal),
+            },
+            (Ok(false), _) => Err(denial),
+            (Err(_), _) => Err(refusal),
+        }
     }
 }
 
@@ -82,7 +111,7 @@ impl ResourceLimiter for RandomAnswers {
 }
 
 /// Random numbers, and how many of 32 growths by one page they permit.
-const RANDOM_NUMBERS: [(u64, u64, u64); 4] = [
+pub(super) const RANDOM_NUMBERS: [(u64, u64, u64); 4] = [
     (0x243F_6A88_85A3_08D3, 0x1319_8A2E_0370_7344, 16),
     (0xA409_3822_299F_31D0, 0x082E_FA98_EC4E_6C89, 14),
     (0x4528_21E6_38D0_1377, 0xBE54_66CF_34E9_0C6C, 12),
@@ -92,21 +121,17 @@ const RANDOM_NUMBERS: [(u64, u64, u64); 4] = [
 /// The reply to a growth by one page for which there is no fuel where `is_metered`, of a memory of so many pages.
 fn foretold(random: &mut RandomAnswers, is_metered: bool, pages: &mut u64) -> ReplyRow {
     let before = *pages;
-    let error = match (random.answer(), is_metered) {
-        (Ok(true), false) => {
+    let cause = is_metered.then_some(MemoryError::OutOfFuel {
+        required_fuel: 1024,
+    });
+    let refusal = MemoryError::ResourceLimiterDeniedAllocation;
+    match random.fate(MemoryError::OutOfBoundsGrowth, refusal, cause) {
+        Ok(()) => {
             *pages = before.saturating_add(1);
-            return ReplyRow::Number(before);
+            ReplyRow::Number(before)
         }
-        (Ok(true), true) => match random.heed() {
-            Ok(()) => MemoryError::OutOfFuel {
-                required_fuel: 1024,
-            },
-            Err(_) => MemoryError::ResourceLimiterDeniedAllocation,
-        },
-        (Ok(false), _) => MemoryError::OutOfBoundsGrowth,
-        (Err(_), _) => MemoryError::ResourceLimiterDeniedAllocation,
-    };
-    ReplyRow::Memory(error)
+        Err(error) => ReplyRow::Memory(error),
+    }
 }
 
 static NO_PAGES: [Step; 1] = [(CallRow::NewPages(0, None), ReplyRow::Made(0))];
@@ -129,6 +154,7 @@ fn grows_by_random_answers(
     let mut limiter = random;
     runs_under(rt, machine, &steps, &mut limiter)?;
     same(rt, "the questions", limiter.questions, 32);
+    same(rt, "the limiter", limiter, same_answers);
     let size = machine.memory(0).map(|memory| memory.size());
     same(rt, "the pages", size, Some(pages));
     Ok(pages)
@@ -137,11 +163,7 @@ fn grows_by_random_answers(
 #[test]
 fn random_answers_leave_a_run_as_it_is_told(rt: HostRuntime) -> Result<(), Fail> {
     for (answers, heeds, permitted) in RANDOM_NUMBERS {
-        let random = RandomAnswers {
-            answers,
-            heeds,
-            questions: 0,
-        };
+        let random = RandomAnswers::new(answers, heeds);
         let pages = grows_by_random_answers(&rt, &mut unmetered(rt.alloc()), false, random)?;
         same(&rt, "the growths permitted", pages, permitted);
         let pages = grows_by_random_answers(&rt, &mut metered(rt.alloc()), true, random)?;
@@ -159,11 +181,7 @@ static TWO_CALLS: [Step; 2] = [
 /// done nothing.
 #[test]
 fn a_run_without_room_does_nothing(rt: HostRuntime) -> Result<(), Fail> {
-    let mut random = RandomAnswers {
-        answers: u64::MAX,
-        heeds: 0,
-        questions: 0,
-    };
+    let mut random = RandomAnswers::new(u64::MAX, 0);
     let mut machine = metered(rt.alloc());
     let (calls, _replies) = split(rt.alloc(), &TWO_CALLS)?;
     let (questions, fuel, bytes) = match run_lending(&mut machine, &calls, &mut random) {

@@ -1,5 +1,6 @@
 //! Scripts of a pool of tenants, and what they print.
-use super::answers_each;
+use super::{answers, answers_each};
+use std::test::Fail;
 
 static TENANTS: [(&str, &str); 3] = [
     (
@@ -17,4 +18,27 @@ static TENANTS: [(&str, &str); 3] = [
 #[test]
 fn prints_the_replies_of_tenants(rt: HostRuntime) {
     answers_each(&rt, rt.alloc(), &TENANTS);
+}
+
+// Calls of three tenants of 1,024, and what is printed for them.
+const MANY: &str =
+    "tenants 1024 131072 2\nas 1023\nmemory 1 none 16 32\nas 0\ntable func 2 none 32 func 0\ntable func 1 none 32 func 0\nas 1023\ngrow 0 1\ngrow 0 1\nas 512\nmemory 1 none 16 32";
+
+const MANY_PRINTED: &str =
+    "memory 0\ntable 0\nerror a resource limiter denied to allocate or grow the table\nvalue 1\nerror out of bounds memory growth\nerror a resource limiter denied to allocate or grow the linear memory\n";
+
+#[test]
+fn prints_what_many_tenants_hold(rt: HostRuntime) -> Result<(), Fail> {
+    let mut printed = String::from_str(rt.alloc(), MANY_PRINTED)?;
+    for tenant in 0..1024 {
+        let (bytes, elements) = match tenant {
+            0 => (0, 2),
+            1023 => (131072, 0),
+            _ => (0, 0),
+        };
+        let line = format!(in rt.alloc(); "held {tenant} {bytes} {elements}\n")?;
+        printed.push_str(line.as_str())?;
+    }
+    answers(&rt, rt.alloc(), MANY, printed.as_str());
+    Ok(())
 }
