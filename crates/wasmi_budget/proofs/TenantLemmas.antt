@@ -60,7 +60,7 @@ notices_within first tenant tenant' failure heed stays noticed =
 pub run_stays_within : (first : Tenant) → ((kind : Kind) → held_together first kind ≤ amount_of first.caps kind) → (w w' : World (Option Tenant)) (turns : List Turn) (tenant' : Tenant) → w.limiter ≡ Some first → w'.limiter ≡ Some tenant' → Run (optional_rules tenant_rules) w turns w' → StaysWithin first tenant'
 run_stays_within first within w w' turns tenant' is is' ran =
     let kept = run_keeps tenant_rules (StaysWithin first) (λ l q answer l'. asks_within first l l' q answer) (λ l failure heed l'. notices_within first l l' failure heed)
-        w first is (record { caps = refl; others = refl; within = within }) turns w' ran in
+    w first is (record { caps = refl; others = refl; within = within }) turns w' ran in
     subst (StaysWithin first) (same_Some kept.0 tenant' (sym kept.1 ∙ is')) kept.2
 
 -- what is taken, twice

@@ -96,11 +96,14 @@ grown_memory_is_valid rules pages s result charge s' valid grows =
     let n = pages * page_bytes x.ty.page in
     let size : length (with_zeros x n).bytes ≡ length x.bytes + n = length-append x.bytes (replicate n 0) ∙ ap (λ k. length x.bytes + k) (length-replicate {A = ℕ} n 0) in
     grown_valid rules (record { amount = pages; size = pages_of x; effort = memory.growth_of x pages }) IsValidMemory s s' valid
-        (λ early late. record { type = valid.type; sized = rw size (record {
-          whole = added.0;
-          minimum = omega (arith, added.1, valid.sized.minimum);
-          within = subst (λ k. in_bounds x.ty k ≡ true) (sym added.1) (passed _ _ early);
-        }) }) result charge grows
+    (λ early late. record {
+      type = valid.type;
+      sized = rw size (record {
+        whole = added.0;
+        minimum = omega (arith, added.1, valid.sized.minimum);
+        within = subst (λ k. in_bounds x.ty k ≡ true) (sym added.1) (passed _ _ early);
+      });
+    }) result charge grows
 
 -- a table that is made of a valid type
 pub made_table_is_valid : {S : Type 0} (rules : Rules S) (ty : TableTypeValue) (init : TypedRawRef) (l : S) (x : TableValue) (l' : S) → table_type.IsValid ty → MakesTable rules ty init l (Ok x) l' → IsValidTable x
@@ -122,10 +125,13 @@ grown_table_is_valid rules n init s result charge s' valid grows =
     let x = s.value in
     let size : length (with_more x n init.raw).elements ≡ size_of x + n = length-append x.elements (replicate n init.raw) ∙ ap (λ k. size_of x + k) (length-replicate n init.raw) in
     on_test (same_type x.ty.element init.ty) _ _ grows
-        (λ raw. grown_valid rules (record { amount = n; size = size_of x; effort = table.growth_of x n init.raw }) IsValidTable s s' valid
-        (λ early late. record { type = valid.type; sized = rw size (record {
-          minimum = omega (arith, valid.sized.minimum);
-          indexable = passed _ _ early;
-          within = passed _ _ late;
-        }) }) result charge raw)
-        (λ refused. subst (λ (t : Situation TableValue _). IsValidTable t.value) (sym refused.2) valid)
+    (λ raw. grown_valid rules (record { amount = n; size = size_of x; effort = table.growth_of x n init.raw }) IsValidTable s s' valid
+    (λ early late. record {
+      type = valid.type;
+      sized = rw size (record {
+        minimum = omega (arith, valid.sized.minimum);
+        indexable = passed _ _ early;
+        within = passed _ _ late;
+      });
+    }) result charge raw)
+    (λ refused. subst (λ (t : Situation TableValue _). IsValidTable t.value) (sym refused.2) valid)
