@@ -39,10 +39,10 @@ def print_vectors(title, rows):
     print(f"| **geometric mean** | | | | **{of_words:.2f}** | **{of_better:.2f}** |\n")
 
 
-def print_others(title, rows):
+def print_others(title, rows, other="crate", here_is="here"):
     if not rows:
         return
-    print(f"| {title} | crate | **here** | here / crate |\n|---|---|---|---|")
+    print(f"| {title} | {other} | **{here_is}** | {here_is} / {other} |\n|---|---|---|---|")
     for name, (theirs, here) in rows.items():
         print(f"| `{name}` | {theirs:.2f} | **{here:.2f}** | {here / theirs:.2f} |")
     print()
@@ -57,6 +57,7 @@ def main(folder, runs="2", word=""):
     print_others("load or store of a number, ns", {name: (min(it[:2]), it[2]) for name, it in numbers.items()})
     print_others("work, ns", of("work"))
     print_others("run, ns a call", of("run"))
+    print_others("one call, ns", of("single"), "`run`", "`step`")
     sys.exit(f"answers that differ from the crate's: {' '.join(sorted(differ))}" if differ else 0)
 
 

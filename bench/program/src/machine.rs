@@ -6,6 +6,8 @@ use wasmi_core::*;
 mod here {
     unsafe extern "C" {
         pub fn machine_runs(kind: u64, count: u64, runs: u64) -> u64;
+        pub fn machine_steps(kind: u64, count: u64, runs: u64) -> u64;
+        pub fn machine_runs_of_one(kind: u64, count: u64, runs: u64) -> u64;
     }
 }
 
@@ -325,5 +327,25 @@ pub fn report(asked: &str) {
             let [theirs, here] = [0, 1].map(|i| (least[i + 2] - least[i]) / (more * count) as f64);
             println!("run {name}:{count} {theirs} {here}{}", if same { "" } else { " DIFFERS" });
         }
+    }
+}
+
+/// Prints a line for each kind of calls: nanoseconds a call that is made alone, by a `run` of a list of one call and by `step`.
+pub fn report_single_calls(asked: &str) {
+    const COUNT: u64 = 10_000;
+    for (kind, name) in (0..).zip(KINDS).filter(|(_, name)| name.contains(asked)) {
+        let mut least = [f64::MAX; 4];
+        let timed = |of: unsafe extern "C" fn(u64, u64, u64) -> u64, runs| {
+            let start = Instant::now();
+            black_box(unsafe { black_box(of)(kind, COUNT, runs) });
+            start.elapsed().as_nanos() as f64
+        };
+        for _ in 0..21 {
+            let times = [timed(here::machine_runs_of_one, 1), timed(here::machine_steps, 1), timed(here::machine_runs_of_one, 21), timed(here::machine_steps, 21)];
+            least = std::array::from_fn(|i| least[i].min(times[i]));
+        }
+        let same = unsafe { here::machine_runs_of_one(kind, COUNT, 2) == here::machine_steps(kind, COUNT, 2) };
+        let [run, step] = [0, 1].map(|i| (least[i + 2] - least[i]) / (20 * COUNT) as f64);
+        println!("single {name} {run} {step}{}", if same { "" } else { " DIFFERS" });
     }
 }

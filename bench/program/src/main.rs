@@ -22,4 +22,5 @@ fn main() {
     vectors::report(&asked);
     works::report(&asked);
     machine::report(&asked);
+    machine::report_single_calls(&asked);
 }

@@ -17,7 +17,7 @@ mod types;
 use crate::error::ReplayError;
 use command::command;
 pub use header::{AnswerWord, Header, LimiterLine, QuotaLine, RegionLine, TenantsLine};
-use line::{LineError, words_of};
+use line::{LineError, read_words};
 use number::number;
 use std::alloc::Global;
 use std::{mem, str};
@@ -193,12 +193,13 @@ pub fn parse(alloc: Global, bytes: &[u8]) -> Result<Script, ReplayError>
         tenant: 0,
         calls: Vec::new(alloc),
     };
+    let mut words = Vec::new(alloc);
     for (index, bytes) in bytes.split(|byte| *byte == b'\n').enumerate() {
         let line = index + 1;
         let Ok(text) = str::from_utf8(bytes) else {
             return Err(ReplayError::BadCommand { line });
         };
-        let words = words_of(alloc, text)?;
+        read_words(text, &mut words)?;
         match script.take_line(alloc, words.as_slice()) {
             Ok(()) => {}
             Err(LineError::BadCommand) => return Err(ReplayError::BadCommand { line }),

@@ -1,5 +1,5 @@
 //! A line as words.
-ghost use Rattle.std.specs.Prelude.{◌≡◌, IfOk, map};
+ghost use Rattle.std.specs.Prelude.{◌≡◌, OnOk, map};
 ghost use Rattle.wasmi_script.specs.Lines.{words_in};
 ghost use Rattle.wasmi_script.specs.declared.script.line.LineError.TheVariants.{OutOfMemory};
 
@@ -30,11 +30,13 @@ impl<T: Drop> From<AllocFailed<T>> for LineError {
     }
 }
 
-/// The words of a line, which spaces alone separate.
-pub fn words_of<'a>(alloc: Global, line: &'a str) -> Result<Vec<&'a str>, AllocError>
-    ensures { IfOk result (λ words. map (λ word. word.now) words.items ≡ words_in line.now) }
+/// Puts the words of a line, which spaces alone separate, in place of those of the line before.
+pub fn read_words<'a>(line: &'a str, words: &mut Vec<&'a str>) -> Result<(), AllocError>
+    ensures { OnOk result (map (λ word. word.now) words.new.items ≡ words_in line.now) }
 {
-    line.split(' ')
-        .filter(|word| !word.is_empty())
-        .collect(alloc)
+    words.clear();
+    for word in line.split(' ').filter(|word| !word.is_empty()) {
+        words.push(word)?;
+    }
+    Ok(())
 }

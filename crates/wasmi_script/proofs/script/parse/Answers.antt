@@ -22,7 +22,7 @@ loop-index-preserved c =
     let yielded = c.loop-index.yielded in
     let new = c.take_line.new.self in
     let same : map (λ word. word.now) c.as_slice.result.now ≡ words_in c.in-Some.bytes.now =
-    ap (map (λ word. word.now)) c.as_slice.ensures.value ∙ c.in_ok-words.ensures ∙ ap words_in c.in-Ok.ensures.cases.0 in
+    ap (map (λ word. word.now)) c.as_slice.ensures.value ∙ c.in_ok-read_words.ensures ∙ ap words_in c.in-Ok.ensures.cases.0 in
     let line_taken : TakesLine c.loop-index.script c.in-Some.bytes.now new = (c.in-Ok.ensures.cases.1, c.as_slice.result.now, same, c.in-Ok-take_line.ensures.ok) in (
       grind (arith, common_steps),
       empty,
@@ -90,7 +90,7 @@ unfolding lines_in
 returns-in-Err-BadCommand-clause-refused c =
     let (_, empty, no_header, no_commands, first_tenant, taken) = c.loop-index.invariant in
     let same : map (λ word. word.now) c.as_slice.result.now ≡ words_in c.in-Some.bytes.now =
-    ap (map (λ word. word.now)) c.as_slice.ensures.value ∙ c.in_ok-words.ensures ∙ ap words_in c.in-Ok.ensures.cases.0 in
+    ap (map (λ word. word.now)) c.as_slice.ensures.value ∙ c.in_ok-read_words.ensures ∙ ap words_in c.in-Ok.ensures.cases.0 in
     let split = c.split.ensures in
     let yielded = c.loop-index.yielded in
     let number_and_line : ℕ × Bor (List ℕ) → ℕ × List ℕ = λ item. (item.0, item.1.now) in
