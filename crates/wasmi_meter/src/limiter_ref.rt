@@ -63,7 +63,8 @@ impl<R> fmt::Debug for LimiterRef<R> {
 ///
 /// Where this reference goes out of scope or is dropped, nothing is known of the limiter afterwards. A caller that wants
 /// to know what it has become ends the loan by [`LimiterRef::into_resource_limiter`], or makes a call that lends the
-/// limiter for that call alone.
+/// limiter for that call alone: `new_lending`, `new_static_lending`, `grow_lending` and `grow_raw_lending` of memories and
+/// tables, `step_lending` and `run_lending` of machines.
 ///
 /// Upstream: `wasmi_core::ResourceLimiterRef`.
 pub type ResourceLimiterRef<'a, L> = LimiterRef<&'a mut L>;
