@@ -20,6 +20,10 @@ pub on_test : {C : Type 0} (test : Bool) (Holds Fails : Type 0) → MatchBool te
 on_test true Holds Fails h holds fails = holds h
 on_test false Holds Fails h holds fails = fails h
 
+-- what holds of a loan's states holds of the limiter that was lent
+pub of_loan : {L : Type 0} (Holds : Option L → Option L → Type 0) (s s' : Option L) (l l' : L) → s ≡ Some l → s' ≡ Some l' → Holds s s' → Holds (Some l) (Some l')
+of_loan Holds s s' l l' before after holds = rw (← before, ← after) holds
+
 -- whether so much can be paid
 pub payable : (m : Meter) (n : ℕ) → n ≤ amount_left m → can_pay (Some m) n ≡ true
 payable m n h = grind (arith, nat_tests)

@@ -1,6 +1,32 @@
-//! What holds of all memory types and table types. These functions do nothing: each states a law as its contract.
+//! What holds of all memories and tables and of all their types. These functions do nothing: each states a law as its
+//! contract.
+ghost use Rattle.wasmi_store.specs.Memory.{IsValidMemory};
 ghost use Rattle.wasmi_store.specs.MemoryType.{MemoryTypeValue, IsSubtype};
+ghost use Rattle.wasmi_store.specs.Table.{IsValidTable};
 ghost use Rattle.wasmi_store.specs.TableType as table;
+
+use crate::memory::{LinearMemory, Region};
+use crate::table::Table;
+
+/// Every memory is valid, also one that was written to or has grown: its type is valid, and its bytes are whole pages,
+/// as many as its type allows.
+///
+/// Core specification, validity of memory instances.
+pub fn memories_are_valid<R: Region>(memory: &LinearMemory<R>)
+    ensures { IsValidMemory memory.now }
+{
+    memory.tell_valid();
+}
+
+/// Every table is valid, also one that was written to or has grown: its type is valid, and it has as many elements as
+/// that allows.
+///
+/// Core specification, validity of table instances.
+pub fn tables_are_valid(table: &Table)
+    ensures { IsValidTable table.now }
+{
+    table.tell_valid();
+}
 
 /// Each memory type is a subtype of itself.
 pub fn memory_subtyping_is_reflexive()

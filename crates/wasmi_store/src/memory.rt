@@ -5,7 +5,7 @@ ghost use Rattle.std.specs.Borrow.{sem, Lends, Array, u8};
 ghost use Rattle.wasmi_types.specs.Access.{at};
 ghost use Rattle.wasmi_meter.specs.Limiter.{optional_rules};
 ghost use Rattle.wasmi_meter.specs.LimiterRef.{state, KeepsLoan, left_behind};
-ghost use Rattle.wasmi_store.specs.Memory.{PermitsMinimum, IsSized};
+ghost use Rattle.wasmi_store.specs.Memory.{PermitsMinimum, IsSized, IsValidMemory};
 ghost use Rattle.wasmi_store.specs.MemoryType.{page_bytes, in_bounds};
 
 mod buffer;
@@ -60,6 +60,8 @@ impl<R: Region> Model for LinearMemory<R> {
 
 /// A linear memory of whole pages; `'r` is the loan of a region that its bytes may lie in.
 ///
+/// It is valid at any time: see [`crate::laws::memories_are_valid`].
+///
 /// Core specification, memory instances. Upstream: `wasmi_core::Memory`.
 pub type Memory<'r> = LinearMemory<&'r mut [u8]>;
 
@@ -108,6 +110,38 @@ impl<'r> LinearMemory<&'r mut [u8]> {
             Err(cause) => Err(tell(limiter, cause, DENIED)),
         }
     }
+
+    /// As `new`, under a limiter that is lent for this call alone: what it becomes is known.
+    pub fn new_lending<L: ResourceLimiter>(
+        alloc: Global,
+        ty: MemoryType,
+        limiter: &mut L,
+    ) -> Result<Memory<'r>, MemoryError>
+        ensures { MakesMemory (optional_rules L.rules) Owned ty (Some limiter.old) result (Some limiter.new) }
+    {
+        let mut lent = ResourceLimiterRef::from(limiter);
+        let made = Memory::new(alloc, ty, &mut lent);
+        let Some(_limiter) = lent.into_resource_limiter() else {
+            unreachable!()
+        };
+        made
+    }
+
+    /// As `new_static`, under a limiter that is lent for this call alone: what it becomes is known.
+    pub fn new_static_lending<L: ResourceLimiter>(
+        ty: MemoryType,
+        limiter: &mut L,
+        region: &'r mut [u8],
+    ) -> Result<Memory<'r>, MemoryError>
+        ensures { MakesMemory (optional_rules L.rules) (Lent region.entry.now) ty (Some limiter.old) result (Some limiter.new) }
+    {
+        let mut lent = ResourceLimiterRef::from(limiter);
+        let made = Memory::new_static(ty, &mut lent, region);
+        let Some(_limiter) = lent.into_resource_limiter() else {
+            unreachable!()
+        };
+        made
+    }
 }
 
 impl<R: Region> LinearMemory<R> {
@@ -120,6 +154,15 @@ impl<R: Region> LinearMemory<R> {
         ensures { result ≡ self.now.ty }
     {
         self.ty
+    }
+
+    /// Does nothing: its contract tells what each memory keeps.
+    #[inline(always)]
+    pub(crate) fn tell_valid(&self)
+        ensures { IsValidMemory self.now }
+    {
+        let _minimum = self.ty.minimum();
+        let _len = self.buffer.len();
     }
 
     /// The type that it was made with, with the present size as its minimum: a subtype of that type.
@@ -221,6 +264,44 @@ impl<R: Region> LinearMemory<R> {
             return Err(tell(limiter, cause, DENIED));
         }
         Ok(old_pages)
+    }
+
+    /// As `grow`, under a limiter that is lent for this call alone: what it becomes is known.
+    pub fn grow_lending<L: ResourceLimiter>(
+        &mut self,
+        additional: u64,
+        fuel: Option<&mut Fuel>,
+        limiter: &mut L,
+    ) -> Result<u64, MemoryError>
+        ensures { (charge : ℕ) × GrowsMemory (optional_rules L.rules) additional
+            (record { value = self.old; meter = option_copied_mut fuel.entry; limiter = Some limiter.old }) result charge
+            (record { value = self.new; meter = left_behind (λ lent. lent.0.now) fuel.exit; limiter = Some limiter.new }) }
+    {
+        match fuel {
+            Some(fuel) => self.grow_metered_lending(additional, fuel, limiter),
+            None => {
+                let mut unmetered = Fuel::new(false, FuelCostsProvider::default());
+                self.grow_metered_lending(additional, &mut unmetered, limiter)
+            }
+        }
+    }
+
+    fn grow_metered_lending<L: ResourceLimiter>(
+        &mut self,
+        additional: u64,
+        fuel: &mut Fuel,
+        limiter: &mut L,
+    ) -> Result<u64, MemoryError>
+        ensures { (charge : ℕ) × GrowsMemory (optional_rules L.rules) additional
+            (record { value = self.old; meter = Some fuel.old; limiter = Some limiter.old }) result charge
+            (record { value = self.new; meter = Some fuel.new; limiter = Some limiter.new }) }
+    {
+        let mut lent = ResourceLimiterRef::from(limiter);
+        let grown = self.grow_metered(additional, fuel, &mut lent);
+        let Some(_limiter) = lent.into_resource_limiter() else {
+            unreachable!()
+        };
+        grown
     }
 
     /// The number of bytes after a growth, if the type allows it.

@@ -28,6 +28,8 @@ const DENIED: TableError = TableError::ResourceLimiterDeniedAllocation;
 /// The calls that are paid take a meter, or none; one that is absent or off is charged nothing. 64 bytes are copied for
 /// a fuel where a host chooses no other costs, and an element has 4 bytes.
 ///
+/// It is valid at any time: see [`crate::laws::tables_are_valid`].
+///
 /// Core specification, table instances. Upstream: `wasmi_core::Table`.
 #[derive(Debug, Drop)]
 pub struct Table {
@@ -48,7 +50,7 @@ impl Model for Table {
 
 impl Table {
     ghost use Rattle.wasmi_store.specs.TableType.{IsSubtype};
-    ghost use Rattle.wasmi_store.specs.Table.{TableValue, IsSized, size_of, dynamic_type, element_at, element_price, MakesTable, GrowsTableRaw, GrowsTable, WritesTable, setting_of, filling_of, copy_of, initialization_of, typed_by};
+    ghost use Rattle.wasmi_store.specs.Table.{TableValue, IsSized, IsValidTable, size_of, dynamic_type, element_at, element_price, MakesTable, GrowsTableRaw, GrowsTable, WritesTable, setting_of, filling_of, copy_of, initialization_of, typed_by};
 
     /// A table with one reference in each place, at the minimum of its type. It takes no fuel.
     ///
@@ -73,11 +75,37 @@ impl Table {
         }
     }
 
+    /// As `new`, under a limiter that is lent for this call alone: what it becomes is known.
+    pub fn new_lending<L: ResourceLimiter>(
+        alloc: Global,
+        ty: TableType,
+        init: TypedRawRef,
+        limiter: &mut L,
+    ) -> Result<Self, TableError>
+        ensures { MakesTable (optional_rules L.rules) ty init (Some limiter.old) result (Some limiter.new) }
+    {
+        let mut lent = ResourceLimiterRef::from(limiter);
+        let made = Table::new(alloc, ty, init, &mut lent);
+        let Some(_limiter) = lent.into_resource_limiter() else {
+            unreachable!()
+        };
+        made
+    }
+
     /// The type that it was made with.
     pub fn ty(&self) -> TableType
         ensures { result ≡ self.now.ty }
     {
         self.ty
+    }
+
+    /// Does nothing: its contract tells what each table keeps.
+    #[inline(always)]
+    pub(crate) fn tell_valid(&self)
+        ensures { IsValidTable self.now }
+    {
+        let _minimum = self.ty.minimum();
+        let _len = self.elements.len();
     }
 
     /// The type that it was made with, with the present size as its minimum: a subtype of that type.
@@ -133,6 +161,46 @@ impl Table {
     {
         self.ty.ensure_element_type_matches(init.ty)?;
         self.grow_raw_metered(delta, init.raw, fuel, limiter)
+    }
+
+    /// As `grow`, under a limiter that is lent for this call alone: what it becomes is known.
+    pub fn grow_lending<L: ResourceLimiter>(
+        &mut self,
+        delta: u64,
+        init: TypedRawRef,
+        fuel: Option<&mut Fuel>,
+        limiter: &mut L,
+    ) -> Result<u64, TableError>
+        ensures { (charge : ℕ) × GrowsTable (optional_rules L.rules) delta init
+            (record { value = self.old; meter = option_copied_mut fuel.entry; limiter = Some limiter.old }) result charge
+            (record { value = self.new; meter = left_behind (λ lent. lent.0.now) fuel.exit; limiter = Some limiter.new }) }
+    {
+        match fuel {
+            Some(fuel) => self.grow_metered_lending(delta, init, fuel, limiter),
+            None => {
+                let mut unmetered = Fuel::new(false, FuelCostsProvider::default());
+                self.grow_metered_lending(delta, init, &mut unmetered, limiter)
+            }
+        }
+    }
+
+    fn grow_metered_lending<L: ResourceLimiter>(
+        &mut self,
+        delta: u64,
+        init: TypedRawRef,
+        fuel: &mut Fuel,
+        limiter: &mut L,
+    ) -> Result<u64, TableError>
+        ensures { (charge : ℕ) × GrowsTable (optional_rules L.rules) delta init
+            (record { value = self.old; meter = Some fuel.old; limiter = Some limiter.old }) result charge
+            (record { value = self.new; meter = Some fuel.new; limiter = Some limiter.new }) }
+    {
+        let mut lent = ResourceLimiterRef::from(limiter);
+        let grown = self.grow_metered(delta, init, fuel, &mut lent);
+        let Some(_limiter) = lent.into_resource_limiter() else {
+            unreachable!()
+        };
+        grown
     }
 
     /// Grows by so many elements, each the given reference, and answers the old size. A growth by 0 touches nothing.
@@ -194,6 +262,46 @@ impl Table {
             return Err(tell(limiter, TableError::OutOfSystemMemory, DENIED));
         }
         Ok(size)
+    }
+
+    /// As `grow_raw`, under a limiter that is lent for this call alone: what it becomes is known.
+    pub fn grow_raw_lending<L: ResourceLimiter>(
+        &mut self,
+        delta: u64,
+        init: RawRef,
+        fuel: Option<&mut Fuel>,
+        limiter: &mut L,
+    ) -> Result<u64, TableError>
+        ensures { (charge : ℕ) × GrowsTableRaw (optional_rules L.rules) delta init
+            (record { value = self.old; meter = option_copied_mut fuel.entry; limiter = Some limiter.old }) result charge
+            (record { value = self.new; meter = left_behind (λ lent. lent.0.now) fuel.exit; limiter = Some limiter.new }) }
+    {
+        match fuel {
+            Some(fuel) => self.grow_raw_metered_lending(delta, init, fuel, limiter),
+            None => {
+                let mut unmetered = Fuel::new(false, FuelCostsProvider::default());
+                self.grow_raw_metered_lending(delta, init, &mut unmetered, limiter)
+            }
+        }
+    }
+
+    fn grow_raw_metered_lending<L: ResourceLimiter>(
+        &mut self,
+        delta: u64,
+        init: RawRef,
+        fuel: &mut Fuel,
+        limiter: &mut L,
+    ) -> Result<u64, TableError>
+        ensures { (charge : ℕ) × GrowsTableRaw (optional_rules L.rules) delta init
+            (record { value = self.old; meter = Some fuel.old; limiter = Some limiter.old }) result charge
+            (record { value = self.new; meter = Some fuel.new; limiter = Some limiter.new }) }
+    {
+        let mut lent = ResourceLimiterRef::from(limiter);
+        let grown = self.grow_raw_metered(delta, init, fuel, &mut lent);
+        let Some(_limiter) = lent.into_resource_limiter() else {
+            unreachable!()
+        };
+        grown
     }
 
     /// The element at an index with its type, or `None` past the end.

@@ -1,0 +1,13 @@
+use Rattle.std.proofs.Common.{ℕ, Some, rules}
+use Rattle.wasmi_meter.specs.Limiter.{optional_rules}
+use Rattle.wasmi_store.specs.Table.{GrowsTable}
+use Rattle.wasmi_store.proofs.GrowthLemmas.{of_loan}
+use Rattle.wasmi_store.proofs.table.Table.grow_metered_lending.Goals as goal
+
+pub returns : goal.returns
+returns g c =
+    let new = c.grow_metered-grown.new in
+    of_loan (λ l l'. (charge : ℕ) × GrowsTable (optional_rules g.L.ResourceLimiter.rules) c.args.delta c.args.init
+    (record { value = c.args.self.now; meter = Some c.args.fuel.now; limiter = l }) c.grow_metered-grown.result charge
+    (record { value = new.self; meter = Some new.fuel; limiter = l' }))
+    _ _ _ _ (search rules) (search rules) c.grow_metered-grown.ensures.grown
