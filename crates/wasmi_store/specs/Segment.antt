@@ -16,6 +16,11 @@ pub record SegmentValue : Type 0 where
 abbrev pub most_items : ℕ
 most_items = 2 ^ 32 - 1
 
+-- what a segment keeps: not too many items, and without items no room for any, so no memory
+pub record IsKept (items : List ℕ) (capacity : ℕ) : Type 0 where
+  pub short : length items ≤ most_items
+  pub free : length items ≡ 0 → capacity ≡ 0
+
 -- the segment without its items
 abbrev pub dropped : SegmentValue → SegmentValue
 dropped segment = record segment { items = [] }

@@ -44,14 +44,14 @@ pub struct ElementSegment {
 }
 
 impl Model for ElementSegment {
-    ghost use Rattle.std.specs.Prelude.{◌≤◌, length};
-    ghost use Rattle.wasmi_store.specs.Segment.{SegmentValue, most_items};
+    ghost use Rattle.std.specs.Vec.{vec_capacity};
+    ghost use Rattle.wasmi_store.specs.Segment.{SegmentValue, IsKept};
 
     ghost Value = { SegmentValue };
 
     ghost view = { λ segment. record { ty = segment.ty; items = segment.items.items } };
 
-    ghost invariant = { λ segment. length segment.items.items ≤ most_items };
+    ghost invariant = { λ segment. IsKept segment.items.items (vec_capacity segment.items) };
 }
 
 /// The items of an element segment with their type, shared.
