@@ -14,3 +14,6 @@ pub mod MemoryWordsLemmas
 pub mod TableWordsLemmas
 pub mod LengthLemmas
 pub mod TextsLemmas
+pub mod NamesLemmas
+pub mod SayingLemmas
+pub mod OneScriptLemmas

@@ -15,7 +15,7 @@ use Rattle.wasmi_script.specs.Openings.{IsLimiterWord, IsReserved, Opens}
 use Rattle.wasmi_script.specs.Lines.{AddsLine, AddsMeter, AddsLimiter, AddsRegion, AddsCall, AddsPart}
 
 -- a line that names a meter begins with its word
-meter_first : (words : Words) (line : Option MeterLine) → IsSomeAnd line (NamesMeter words) → word_at words 0 ≡ codes "meter"
+pub meter_first : (words : Words) (line : Option MeterLine) → IsSomeAnd line (NamesMeter words) → word_at words 0 ≡ codes "meter"
 meter_first words None names = absurd names
 meter_first words (Some Off) names = names.1
 meter_first words (Some (On bytes)) names = names.1
@@ -26,7 +26,7 @@ limiter_first words None names = absurd names
 limiter_first words (Some line) names = (line, names.0)
 
 -- a line that names a region begins with its word
-region_first : (words : Words) (line : Option RegionLine) → IsSomeAnd line (NamesRegion words) → word_at words 0 ≡ codes "region"
+pub region_first : (words : Words) (line : Option RegionLine) → IsSomeAnd line (NamesRegion words) → word_at words 0 ≡ codes "region"
 region_first words None names = absurd names
 region_first words (Some line) names = names.1
 

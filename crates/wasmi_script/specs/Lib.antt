@@ -18,3 +18,4 @@ pub mod Replays
 pub mod Status
 pub mod Texts
 pub mod Outcomes
+pub mod Sayings
