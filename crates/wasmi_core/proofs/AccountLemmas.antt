@@ -1,35 +1,36 @@
 -- What each turn takes of the meter.
-use Rattle.std.proofs.Common.{◌≡◌, ℕ, ◌+◌, ◌-◌, ◌≤◌, Bool, true, false, Option, Some, None, Result, List, [], ◌∷◌, refl, sym, ap, ◌∙◌, arith, inl, inr}
+use Rattle.std.proofs.Common.{Bool, List, None, Option, Result, Some, [], ap, arith, false, inl, inr, refl, sym, true, ℕ, ◌+◌, ◌-◌, ◌∙◌, ◌∷◌, ◌≡◌, ◌≤◌}
 use Rattle.std.proofs.lemmas.Bool.{and_parts}
 use Rattle.std.proofs.lemmas.Bool.Decides.{nat_tests}
 use Rattle.std.proofs.lemmas.Option.{same_Some}
-use Rattle.std.specs.Prelude.{nat_le, is_none, ◌&&◌, if◌then◌else◌}
 use Rattle.std.specs.Option.{option_map, unwrap_or}
-use Rattle.wasmi_meter.specs.declared.error.TableError.{TableError}
-use Rattle.wasmi_meter.specs.Limiter.{Rules}
-use Rattle.wasmi_meter.specs.Meter.{Meter, meter_after}
-use Rattle.wasmi_meter.specs.Attempt.{Situation, Effort, Fate, Unasked, Denied, Met, Failed, Attempt, amount_due, can_pay}
-use Rattle.wasmi_typed.specs.declared.typed_ref.TypedRawRef.{TypedRawRef}
-use Rattle.wasmi_store.specs.Growth.{Growth, Grows}
-use Rattle.wasmi_store.specs.Memory.{MemoryValue, pages_of, GrowsMemory}
-use Rattle.wasmi_store.specs.Memory as memory
-use Rattle.wasmi_store.specs.Table as table
-use Rattle.wasmi_store.specs.Table.{TableValue, TableWrite, size_of, GrowsTable, GrowsTableRaw, WritesTable, EndsBy, due_for}
-use Rattle.wasmi_store.specs.TableType.{same_type}
+use Rattle.std.specs.Prelude.{if◌then◌else◌, is_none, nat_le, ◌&&◌}
+use Rattle.wasmi_core.proofs.RowLemmas.{on_live}
+use Rattle.wasmi_core.proofs.StepsLemmas.{change_facts}
+use Rattle.wasmi_core.specs.Account.{Account, Balances, account_after, charged_by, opened}
+use Rattle.wasmi_core.specs.Rows.{ActsAt, reply_of}
+use Rattle.wasmi_core.specs.Runs.{Run}
+use Rattle.wasmi_core.specs.State.{State, live_at}
+use Rattle.wasmi_core.specs.Steps.{Changed, Effect, FuelSet, MemoryGrown, PartWritten, TableGrown, TakesEffect, effect_of}
+use Rattle.wasmi_core.specs.TableRows.{WritesTableAt, WritesTableFrom, metered, write_of}
+use Rattle.wasmi_core.specs.World.{Turn, World}
 use Rattle.wasmi_core.specs.declared.calls.Call.{Call}
 use Rattle.wasmi_core.specs.declared.calls.Call.TheVariants.{SetFuel}
 use Rattle.wasmi_core.specs.declared.calls.Reply.{Reply}
-use Rattle.wasmi_core.specs.declared.calls.Reply.TheVariants as replied
 use Rattle.wasmi_core.specs.declared.slots.Slot.{Slot}
-use Rattle.wasmi_core.specs.State.{State, live_at}
-use Rattle.wasmi_core.specs.World.{World, Turn}
-use Rattle.wasmi_core.specs.Rows.{reply_of, ActsAt}
-use Rattle.wasmi_core.specs.TableRows.{metered, WritesTableAt, WritesTableFrom, filling, copy_from, initialization_from}
-use Rattle.wasmi_core.specs.Steps.{Effect, FuelSet, Told, BytesRead, MemoryMade, LentMemoryMade, MemoryGrown, TableMade, TableGrown, PartInitialized, PartCopied, PartFilled, effect_of, TakesEffect}
-use Rattle.wasmi_core.specs.Runs.{Run}
-use Rattle.wasmi_core.specs.Account.{Account, opened, charged_by, account_after, Balances}
+use Rattle.wasmi_meter.specs.Attempt.{Attempt, Denied, Effort, Failed, Fate, Met, Situation, Unasked, amount_due, can_pay}
+use Rattle.wasmi_meter.specs.Limiter.{Rules}
+use Rattle.wasmi_meter.specs.Meter.{Meter, due, meter_after}
+use Rattle.wasmi_meter.specs.declared.error.TableError.{TableError}
 use Rattle.wasmi_store.proofs.GrowthLemmas.{on_test}
-use Rattle.wasmi_core.proofs.RowLemmas.{on_live}
+use Rattle.wasmi_store.specs.Growth.{Grows, Growth}
+use Rattle.wasmi_store.specs.Memory.{GrowsMemory, MemoryValue, pages_of}
+use Rattle.wasmi_store.specs.Table.{EndsBy, GrowsTable, TableValue, TableWrite, WritesTable, due_for, size_of}
+use Rattle.wasmi_store.specs.TableType.{same_type}
+use Rattle.wasmi_typed.specs.declared.typed_ref.TypedRawRef.{TypedRawRef}
+use Rattle.wasmi_store.specs.Memory as memory
+use Rattle.wasmi_core.specs.declared.calls.Reply.TheVariants as replied
+use Rattle.wasmi_store.specs.Table as table
 
 -- a meter that is on stays on, and what is left and the charge are what was left
 abbrev pub Takes : Meter → ℕ → Meter → Type 0
@@ -147,18 +148,17 @@ same_account account s call charge = refl
 
 module _ {S : Type 0} (rules : Rules S) (account : Account) (w : World S) (turn : Turn) (w' : World S) where
   effect_balances : (effect : Effect) → TakesEffect rules effect w turn w' → Balances account w.state.meter → Balances (charged_by_effect account effect turn.charge) w'.state.meter
-  effect_balances (FuelSet fuel) step balances = (fuel, ap (λ (v : World S). v.state.meter.left) step.3 ∙ (ap (λ (s : State). s.meter.left) step.2.1 ∙ ap (option_map (λ n. fuel)) balances.1), omega arith)
-  effect_balances (Told told) step balances = uncharged account w turn w' balances step.2 step.0.0 refl
-  effect_balances (BytesRead k offset len) step balances = uncharged account w turn w' balances step.2 step.0.0 refl
-  effect_balances (MemoryMade ty) step balances = uncharged account w turn w' balances step.4 step.0.0 refl
-  effect_balances (LentMemoryMade ty) step balances = uncharged account w turn w' balances step.4 step.0.0 refl
-  effect_balances (MemoryGrown k pages) step balances = charged account w turn w' balances step.5 (memory_growth_takes rules k pages w.state.memories w.state.meter w.limiter turn.reply turn.charge step.0 step.1 step.2 step.3)
-  effect_balances (TableMade ty init) step balances = uncharged account w turn w' balances step.4 step.0.0 refl
-  effect_balances (TableGrown k n init) step balances = charged account w turn w' balances step.5 (table_growth_takes rules k n init w.state.tables w.state.meter w.limiter turn.reply turn.charge step.0 step.1 step.2 step.3)
-  effect_balances (PartInitialized k segment dst src len) step balances = charged account w turn w' balances step.4 (table_copy_takes segment k (initialization_from dst src len) w.state.tables w.state.meter turn.reply turn.charge step.0 step.1 step.2)
-  effect_balances (PartCopied k source dst src len) step balances = charged account w turn w' balances step.4 (table_copy_takes source k (copy_from dst src len) w.state.tables w.state.meter turn.reply turn.charge step.0 step.1 step.2)
-  effect_balances (PartFilled k dst value len) step balances = charged account w turn w' balances step.4 (table_write_takes k (filling dst value len) w.state.tables w.state.meter turn.reply turn.charge step.0 step.1 step.2)
-  effect_balances effect step balances = uncharged account w turn w' balances step.3 step.0.0 refl
+  effect_balances (FuelSet fuel) step balances =
+      (fuel, ap (λ (v : World S). v.state.meter.left) step.after ∙ (ap (λ (s : State). s.meter.left) step.row.1 ∙ ap (option_map (λ n. fuel)) balances.1), omega arith)
+  effect_balances (Changed change) step balances =
+      uncharged account w turn w' balances step.after step.free.0 ((change_facts w.state change).meter turn.reply step.machine step.row)
+  effect_balances (MemoryGrown k pages) step balances =
+      charged account w turn w' balances step.after (memory_growth_takes rules k pages w.state.memories w.state.meter w.limiter turn.reply turn.charge step.part step.meter step.limiter step.row)
+  effect_balances (TableGrown k n init) step balances =
+      charged account w turn w' balances step.after (table_growth_takes rules k n init w.state.tables w.state.meter w.limiter turn.reply turn.charge step.part step.meter step.limiter step.row)
+  effect_balances (PartWritten k source dst len) step balances =
+      charged account w turn w' balances step.after (table_copy_takes (write_of source dst len) k (λ write. write) w.state.tables w.state.meter turn.reply turn.charge step.part step.meter step.row)
+  effect_balances effect step balances = uncharged account w turn w' balances step.after step.free.0 refl
 
 module _ {S : Type 0} (rules : Rules S) where
   run_balances : (account : Account) (w : World S) → Balances account w.state.meter → (turns : List Turn) (w' : World S) → Run rules w turns w' → Balances (account_after account turns) w'.state.meter

@@ -1,24 +1,24 @@
 -- A run under one limiter is one under another that may answer the same.
-use Rattle.std.proofs.Common.{ℕ, Option, Some, None, Result, List, [], ◌∷◌, Bool, true, false, ap, inl, inr}
-use Rattle.std.specs.Prelude.{MatchBool}
-use Rattle.wasmi_meter.specs.Limiter.{Question, Answer, Failure, Heed, Rules}
-use Rattle.wasmi_meter.specs.Attempt.{Situation, alone, Effort, Fate, Unasked, Denied, Met, Failed, Attempt, Follows}
-use Rattle.wasmi_typed.specs.declared.typed_ref.TypedRawRef.{TypedRawRef}
-use Rattle.wasmi_store.specs.Buffer.{Owned, Lent}
-use Rattle.wasmi_store.specs.Growth.{Growth, Makes, Grows}
-use Rattle.wasmi_store.specs.Memory.{pages_of, new_memory, GrowsMemory}
-use Rattle.wasmi_store.specs.Memory as memory
-use Rattle.wasmi_store.specs.Table.{TableValue, size_of, new_table, MakesTable, GrowsTable}
-use Rattle.wasmi_store.specs.Table as table
-use Rattle.wasmi_store.specs.TableType.{same_type}
-use Rattle.wasmi_core.specs.declared.calls.Reply.{Reply}
-use Rattle.wasmi_core.specs.declared.calls.Reply.TheVariants as replied
-use Rattle.wasmi_core.specs.declared.slots.Slot.{Slot}
-use Rattle.wasmi_core.specs.State.{live_at}
-use Rattle.wasmi_core.specs.World.{World, Turn}
-use Rattle.wasmi_core.specs.Rows.{reply_of, OnLive, ActsAt, Creates}
-use Rattle.wasmi_core.specs.Steps.{Effect, Told, BytesRead, MemoryMade, LentMemoryMade, MemoryGrown, TableMade, TableGrown, PartInitialized, PartCopied, PartFilled, effect_of, TakesEffect}
+use Rattle.std.proofs.Common.{List, Result, [], ap, inl, inr, ℕ, ◌∷◌}
+use Rattle.wasmi_core.proofs.RowLemmas.{on_live_too, on_test_too}
+use Rattle.wasmi_core.specs.Rows.{ActsAt, Creates, reply_of}
 use Rattle.wasmi_core.specs.Runs.{Run}
+use Rattle.wasmi_core.specs.State.{live_at}
+use Rattle.wasmi_core.specs.Steps.{BytesRead, Effect, LentMemoryMade, MemoryGrown, MemoryMade, PartWritten, TableGrown, TableMade, TakesEffect, Told, effect_of}
+use Rattle.wasmi_core.specs.World.{Turn, World}
+use Rattle.wasmi_core.specs.declared.calls.Reply.{Reply}
+use Rattle.wasmi_core.specs.declared.slots.Slot.{Slot}
+use Rattle.wasmi_meter.specs.Attempt.{Attempt, Denied, Effort, Failed, Fate, Follows, Met, Situation, Unasked, alone}
+use Rattle.wasmi_meter.specs.Limiter.{Answer, Failure, Heed, Question, Rules}
+use Rattle.wasmi_store.specs.Buffer.{Lent, Owned}
+use Rattle.wasmi_store.specs.Growth.{Grows, Growth, Makes}
+use Rattle.wasmi_store.specs.Memory.{GrowsMemory, new_memory, pages_of}
+use Rattle.wasmi_store.specs.Table.{GrowsTable, TableValue, new_table, size_of}
+use Rattle.wasmi_store.specs.TableType.{same_type}
+use Rattle.wasmi_typed.specs.declared.typed_ref.TypedRawRef.{TypedRawRef}
+use Rattle.wasmi_store.specs.Memory as memory
+use Rattle.wasmi_core.specs.declared.calls.Reply.TheVariants as replied
+use Rattle.wasmi_store.specs.Table as table
 
 -- whatever the first limiter may answer in a state, the second may answer in the image of the state, and the states after it are images too
 pub record Carries {S T : Type 0} (image : S → T) (rules : Rules S) (rules' : Rules T) : Type 0 where
@@ -28,16 +28,6 @@ pub record Carries {S T : Type 0} (image : S → T) (rules : Rules S) (rules' : 
 -- the world with the image of its limiter
 abbrev pub carried : {S T : Type 0} → (S → T) → World S → World T
 carried image w = record { state = w.state; limiter = image w.limiter }
-
--- a fact of a live value, or of none, from another one of it
-pub on_live_too : {X : Type 0} (o : Option X) (Missing Missing' : Type 0) (Fact Fact' : X → Type 0) → (Missing → Missing') → ((x : X) → Fact x → Fact' x) → OnLive o Missing Fact → OnLive o Missing' Fact'
-on_live_too None Missing Missing' Fact Fact' missing live h = missing h
-on_live_too (Some x) Missing Missing' Fact Fact' missing live h = live x h
-
--- facts by a test, from others by it
-pub on_test_too : (test : Bool) (Holds Holds' Fails Fails' : Type 0) → (Holds → Holds') → (Fails → Fails') → MatchBool test Holds Fails → MatchBool test Holds' Fails'
-on_test_too true Holds Holds' Fails Fails' holds fails h = holds h
-on_test_too false Holds Holds' Fails Fails' holds fails h = fails h
 
 module _ {S T : Type 0} (image : S → T) where
   -- the situation with the image of its limiter
@@ -85,17 +75,50 @@ module _ {S T : Type 0} (image : S → T) where
 
     module _ (w : World S) (turn : Turn) (w' : World S) where
       effect_carried : (effect : Effect) → TakesEffect rules effect w turn w' → TakesEffect rules' effect (carried image w) turn (carried image w')
-      effect_carried (Told told) step = (step.0, step.1, ap (carried image) step.2)
-      effect_carried (BytesRead k offset len) step = (step.0, step.1, ap (carried image) step.2)
-      effect_carried (MemoryMade ty) step = (step.0, step.1, image step.2, creates_too replied.Memory (memory.creation_of Owned ty) (new_memory Owned ty) w.state.memories step.1 turn.reply w.limiter step.2 step.3, ap (carried image) step.4)
-      effect_carried (LentMemoryMade ty) step = (step.0, step.1, image step.2, on_live_too w.state.spare _ _ _ _ (λ none. (none.0, none.1, ap image none.2)) (λ region h. (creates_too replied.Memory (memory.creation_of (Lent region) ty) (new_memory (Lent region) ty) w.state.memories step.1.slots turn.reply w.limiter step.2 h.0, h.1)) step.3, ap (carried image) step.4)
-      effect_carried (MemoryGrown k pages) step = (step.0, step.1, image step.2, acts_too k (reply_of replied.Number replied.Memory) (GrowsMemory rules pages) (GrowsMemory rules' pages) (λ s. grows_too (record { amount = pages; size = pages_of s.value; effort = memory.growth_of s.value pages }) s) (record { value = w.state.memories; meter = Some w.state.meter; limiter = w.limiter }) (record { value = step.0; meter = Some step.1; limiter = step.2 }) turn.reply turn.charge step.3, step.4, ap (carried image) step.5)
-      effect_carried (TableMade ty init) step = (step.0, step.1, image step.2, creates_too replied.Table (table.creation_of ty init.ty) (new_table ty init.raw) w.state.tables step.1 turn.reply w.limiter step.2 step.3, ap (carried image) step.4)
-      effect_carried (TableGrown k n init) step = (step.0, step.1, image step.2, acts_too k (reply_of replied.Number replied.Table) (GrowsTable rules n init) (GrowsTable rules' n init) (table_growth_too n init) (record { value = w.state.tables; meter = Some w.state.meter; limiter = w.limiter }) (record { value = step.0; meter = Some step.1; limiter = step.2 }) turn.reply turn.charge step.3, step.4, ap (carried image) step.5)
-      effect_carried (PartInitialized k segment dst src len) step = (step.0, step.1, step.2, step.3, ap (carried image) step.4)
-      effect_carried (PartCopied k source dst src len) step = (step.0, step.1, step.2, step.3, ap (carried image) step.4)
-      effect_carried (PartFilled k dst value len) step = (step.0, step.1, step.2, step.3, ap (carried image) step.4)
-      effect_carried effect step = (step.0, step.1, step.2, ap (carried image) step.3)
+      effect_carried (MemoryMade ty) step = record {
+        free = step.free;
+        part = step.part;
+        limiter = image step.limiter;
+        row = creates_too replied.Memory (memory.creation_of Owned ty) (new_memory Owned ty) w.state.memories step.part turn.reply w.limiter step.limiter step.row;
+        after = ap (carried image) step.after;
+      }
+      effect_carried (LentMemoryMade ty) step = record {
+        free = step.free;
+        part = step.part;
+        limiter = image step.limiter;
+        row = on_live_too w.state.spare _ _ _ _ (λ none. (none.0, none.1, ap image none.2))
+            (λ region h. (creates_too replied.Memory (memory.creation_of (Lent region) ty) (new_memory (Lent region) ty) w.state.memories step.part.slots turn.reply w.limiter step.limiter h.0, h.1)) step.row;
+        after = ap (carried image) step.after;
+      }
+      effect_carried (MemoryGrown k pages) step = record {
+        part = step.part;
+        meter = step.meter;
+        limiter = image step.limiter;
+        row = acts_too k (reply_of replied.Number replied.Memory) (GrowsMemory rules pages) (GrowsMemory rules' pages)
+            (λ s. grows_too (record { amount = pages; size = pages_of s.value; effort = memory.growth_of s.value pages }) s) _ _ turn.reply turn.charge step.row;
+        wrote = step.wrote;
+        after = ap (carried image) step.after;
+      }
+      effect_carried (TableMade ty init) step = record {
+        free = step.free;
+        part = step.part;
+        limiter = image step.limiter;
+        row = creates_too replied.Table (table.creation_of ty init.ty) (new_table ty init.raw) w.state.tables step.part turn.reply w.limiter step.limiter step.row;
+        after = ap (carried image) step.after;
+      }
+      effect_carried (TableGrown k n init) step = record {
+        part = step.part;
+        meter = step.meter;
+        limiter = image step.limiter;
+        row = acts_too k (reply_of replied.Number replied.Table) (GrowsTable rules n init) (GrowsTable rules' n init) (table_growth_too n init) _ _ turn.reply turn.charge step.row;
+        wrote = step.wrote;
+        after = ap (carried image) step.after;
+      }
+      effect_carried (PartWritten k source dst len) step =
+          record { part = step.part; meter = step.meter; row = step.row; wrote = step.wrote; after = ap (carried image) step.after }
+      effect_carried (Told told) step = record { free = step.free; row = step.row; after = ap (carried image) step.after }
+      effect_carried (BytesRead k offset len) step = record { free = step.free; row = step.row; after = ap (carried image) step.after }
+      effect_carried effect step = record { free = step.free; machine = step.machine; row = step.row; after = ap (carried image) step.after }
 
     -- a run under the first is one under the second, with the same turns and machines
     pub runs_too : (w : World S) (turns : List Turn) (w' : World S) → Run rules w turns w' → Run rules' (carried image w) turns (carried image w')

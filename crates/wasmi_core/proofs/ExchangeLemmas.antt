@@ -1,47 +1,41 @@
 -- What passes between a machine and its limiter in each turn, and what has grown by it.
-use Rattle.std.proofs.Common.{◌≡◌, ◌≢◌, ℕ, ◌+◌, ◌-◌, ◌*◌, ◌≤◌, Bool, true, false, Option, Some, None, Result, Ok, Err, List, [], ◌∷◌, ◌++◌, length, take, drop, replicate, map, refl, subst, sym, ap, ◌∙◌, arith, inl, inr}
-use Rattle.std.proofs.lemmas.Bool.Decides.{nat_tests}
-use Rattle.std.proofs.lemmas.List.{length-append, length-replicate, length-take-le, length-drop, map_push}
-use Rattle.std.proofs.lemmas.Option.{none-some, same_Some}
-use Rattle.std.specs.Prelude.{◌⊎◌, nat_le, is_none, ◌&&◌, if◌then◌else◌, slice_get, slice_set}
-use Rattle.std.specs.Option.{option_and_then}
-use Rattle.wasmi_types.specs.Access.{at, overwrite}
-use Rattle.wasmi_types.specs.declared.trap.TrapCode.{TrapCode}
-use Rattle.wasmi_meter.specs.declared.error.MemoryError.{MemoryError}
-use Rattle.wasmi_meter.specs.declared.error.TableError.{TableError}
-use Rattle.wasmi_meter.specs.declared.limiter.Kind.{Kind}
-use Rattle.wasmi_meter.specs.declared.limiter.Kind.TheVariants.{Bytes, Elements}
-use Rattle.wasmi_meter.specs.Limiter.{Rules, kind_of}
-use Rattle.wasmi_meter.specs.Costs.{copy_cost}
-use Rattle.wasmi_meter.specs.Meter.{Meter, due}
-use Rattle.wasmi_meter.specs.Attempt.{Situation, Effort, Fate, Unasked, Denied, Met, Failed, MayEnd, Follows, value_after, answer_of, amount_due, can_pay, charge_of}
-use Rattle.wasmi_typed.specs.declared.typed_ref.TypedRawRef.{TypedRawRef}
-use Rattle.wasmi_store.specs.Growth.{Growth, Grows, Makes}
-use Rattle.wasmi_store.specs.Buffer.{Room, Owned, Lent}
-use Rattle.wasmi_store.specs.MemoryType.{MemoryTypeValue, page_bytes, minimum_bytes}
-use Rattle.wasmi_store.specs.Memory.{MemoryValue, pages_of, new_memory, MakesMemory, GrowsMemory, WritesMemory}
-use Rattle.wasmi_store.specs.Memory as memory
-use Rattle.wasmi_store.specs.TableType.{TableTypeValue, same_type}
-use Rattle.wasmi_store.specs.Table.{TableValue, TableWrite, size_of, new_table, setting_of, typed_by, MakesTable, GrowsTable, WritesTable, EndsBy}
-use Rattle.wasmi_store.specs.Table as table
+use Rattle.std.proofs.Common.{Bool, List, None, Option, Result, Some, [], ap, arith, false, inl, inr, length, map, refl, replicate, subst, sym, true, ℕ, ◌*◌, ◌++◌, ◌+◌, ◌-◌, ◌∙◌, ◌∷◌, ◌≡◌, ◌≢◌, ◌≤◌, ◌⊎◌}
+use Rattle.std.proofs.lemmas.List.{length-append, length-replicate, map_push}
+use Rattle.std.specs.Prelude.{if◌then◌else◌, is_none, slice_get, slice_set, ◌&&◌}
+use Rattle.wasmi_core.proofs.RowLemmas.{on_live, on_live_too}
+use Rattle.wasmi_core.proofs.StepsLemmas.{change_facts, source_writes}
+use Rattle.wasmi_core.proofs.TableRowsLemmas.{copy_kept}
+use Rattle.wasmi_core.proofs.TotalLemmas.{count_at, counts_kept, counts_set, each_kind}
+use Rattle.wasmi_core.specs.Exchange.{due_for, At, ChargesAt, ChargesBy, Denial, Exchange, Exchanges, GrowsAsAsked, GrowsBy, New, Nothing, NothingGrows, Notice, Nowhere, Passes, Permission, Place, place_of}
+use Rattle.wasmi_core.specs.MemoryRows.{CreatesLent}
+use Rattle.wasmi_core.specs.Rows.{ActsAt, Appends, Creates, reply_of}
+use Rattle.wasmi_core.specs.State.{MemoryPart, State, live_at, memory_part, with_memories, with_memory_part, with_tables}
+use Rattle.wasmi_core.specs.Steps.{Changed, Effect, FuelSet, LentMemoryMade, MemoryGrown, MemoryMade, PartWritten, Step, TableGrown, TableMade, TakesEffect, effect_of}
+use Rattle.wasmi_core.specs.TableRows.{write_of}
+use Rattle.wasmi_core.specs.Totals.{byte_count, sizes, slot_count}
+use Rattle.wasmi_core.specs.World.{Turn, World}
 use Rattle.wasmi_core.specs.declared.calls.Call.{Call}
 use Rattle.wasmi_core.specs.declared.calls.Call.TheVariants.{NewMemory}
 use Rattle.wasmi_core.specs.declared.calls.Reply.{Reply}
-use Rattle.wasmi_core.specs.declared.calls.Reply.TheVariants as replied
 use Rattle.wasmi_core.specs.declared.slots.Slot.{Slot}
-use Rattle.wasmi_core.specs.declared.slots.Slot.TheVariants.{Live, Gone}
-use Rattle.wasmi_core.specs.State.{State, live_at, with_memories, with_tables, MemoryPart, memory_part, with_memory_part}
-use Rattle.wasmi_core.specs.World.{World, Turn}
-use Rattle.wasmi_core.specs.Rows.{reply_of, ActsAt, Creates, Appends, ChangesAt, DropsAt}
-use Rattle.wasmi_core.specs.MemoryRows.{CreatesLent, WritesMemoryAt, StoresMemory, StoresMemoryAt}
-use Rattle.wasmi_core.specs.TableRows.{Metered, metered, SetsElementAt, WritesTableAt, WritesTableFrom, filling, copy_from, initialization_from}
-use Rattle.wasmi_core.specs.RegisterRows.{StoresVectorAt}
-use Rattle.wasmi_core.specs.Steps.{Step, Effect, FuelSet, Told, BytesRead, BytesWritten, BytesStored, MemoryMade, LentMemoryMade, MemoryGrown, MemoryDropped, TableMade, TableGrown, TableDropped, ElementSet, PartInitialized, PartCopied, PartFilled, effect_of, TakesEffect}
-use Rattle.wasmi_core.specs.Exchange.{Exchange, Nothing, Denial, Permission, Notice, Place, Nowhere, New, At, place_of, Passes, NothingGrows, GrowsAsAsked, GrowsBy, due_for, ChargesBy, ChargesAt, Exchanges}
-use Rattle.wasmi_core.specs.Totals.{slot_count, byte_count, sizes}
+use Rattle.wasmi_core.specs.declared.slots.Slot.TheVariants.{Live}
+use Rattle.wasmi_meter.specs.Attempt.{Denied, Effort, Failed, Fate, Follows, MayEnd, Met, Situation, Unasked, amount_due, answer_of, can_pay, charge_of, value_after}
+use Rattle.wasmi_meter.specs.Costs.{copy_cost}
+use Rattle.wasmi_meter.specs.Limiter.{Rules, kind_of}
+use Rattle.wasmi_meter.specs.Meter.{Meter, due}
+use Rattle.wasmi_meter.specs.declared.limiter.Kind.{Kind}
+use Rattle.wasmi_meter.specs.declared.limiter.Kind.TheVariants.{Bytes, Elements}
 use Rattle.wasmi_store.proofs.GrowthLemmas.{on_test}
-use Rattle.wasmi_core.proofs.RowLemmas.{on_live}
-use Rattle.wasmi_core.proofs.TotalLemmas.{count_at, counts_set, counts_kept}
+use Rattle.wasmi_store.specs.Buffer.{Lent, Owned, Room}
+use Rattle.wasmi_store.specs.Growth.{Grows, Growth, Makes}
+use Rattle.wasmi_store.specs.Memory.{GrowsMemory, MakesMemory, MemoryValue, new_memory, pages_of}
+use Rattle.wasmi_store.specs.MemoryType.{MemoryTypeValue, minimum_bytes, page_bytes}
+use Rattle.wasmi_store.specs.Table.{GrowsTable, MakesTable, TableValue, new_table, size_of}
+use Rattle.wasmi_store.specs.TableType.{TableTypeValue, same_type}
+use Rattle.wasmi_typed.specs.declared.typed_ref.TypedRawRef.{TypedRawRef}
+use Rattle.wasmi_store.specs.Memory as memory
+use Rattle.wasmi_core.specs.declared.calls.Reply.TheVariants as replied
+use Rattle.wasmi_store.specs.Table as table
 
 -- what holds of one kind, and of the other, holds of each
 of_each : (P : Kind → Type 0) (one : Kind) → P one → ((kind : Kind) → kind ≢ one → P kind) → (kind : Kind) → P kind
@@ -135,81 +129,6 @@ module _ {S X : Type 0} (rules : Rules S) (l l' : S) (before after : Kind → Li
             attempt_passes rules l l' before after (At k) m charge g.effort (λ cause. tells cause ∙ sym is) (λ o other. others o (λ same. other (same ∙ sym is))) (Some m) some.fate some.attempt.may_end some.attempt.follows (grown_sizes some.fate some.attempt.value)
             (charged_by_fate rules l l' before after (At k) m charge g.effort (λ cause. tells cause ∙ sym is) (λ o other. others o (λ same. other (same ∙ sym is))) price some.fate some.attempt.charged)
 
--- what is written over a part of a list leaves its length
-overwritten : (xs ys zs : List ℕ) (a : ℕ) (fits : Bool) → nat_le (a + length ys) (length xs) ≡ fits → (if fits then Some (take a xs ++ ys ++ drop (a + length ys) xs) else None) ≡ Some zs → length zs ≡ length xs
-overwritten xs ys zs a true fits is =
-    let inside : a + length ys ≤ length xs = grind (arith, nat_tests, fits) in
-    let front : length (take a xs) ≡ a = length-take-le a xs (omega (arith, inside)) in
-    let back : length (drop (a + length ys) xs) ≡ length xs - (a + length ys) = length-drop (a + length ys) xs in
-    ap length (sym (same_Some _ zs is)) ∙ (length-append (take a xs ++ ys) (drop (a + length ys) xs) ∙ ap (λ n. n + length (drop (a + length ys) xs)) (length-append (take a xs) ys) ∙ omega (arith, inside, front, back))
-overwritten xs ys zs a false fits is = absurd (none-some zs is)
-
-pub overwrite_length : (xs ys zs : List ℕ) (a : ℕ) → overwrite xs a ys ≡ Some zs → length zs ≡ length xs
-overwrite_length xs ys zs a is = overwritten xs ys zs a _ refl is
-
-accessed_length : (xs ys zs : List ℕ) (a : ℕ) (low : Bool) → (if low then overwrite xs a ys else None) ≡ Some zs → length zs ≡ length xs
-accessed_length xs ys zs a true is = overwrite_length xs ys zs a is
-accessed_length xs ys zs a false is = absurd (none-some zs is)
-
--- a write and a store leave the number of bytes
-pub written_count : (x x' : MemoryValue) (offset : ℕ) (source : List ℕ) (result : Result (Unit {0}) MemoryError) → WritesMemory x offset source result x' → byte_count x' ≡ byte_count x
-written_count x x' offset source (Ok _) writes = overwrite_length x.bytes source x'.bytes offset writes.0
-written_count x x' offset source (Err error) writes = ap byte_count writes.2
-
-pub stored_count : (x x' : MemoryValue) (a : ℕ) (stored : List ℕ) (result : Result (Unit {0}) TrapCode) → StoresMemory x a stored result x' → byte_count x' ≡ byte_count x
-stored_count x x' a stored (Ok _) stores = accessed_length x.bytes stored x'.bytes a _ stores.0
-stored_count x x' a stored (Err trap) stores = ap length stores.0.2
-
--- what may be written over a table has as many elements
-abbrev pub KeepsLength : TableWrite → TableValue → Type 0
-KeepsLength w x = (elements : List ℕ) → w.written ≡ Some elements → length elements ≡ length x.elements
-
-pub copied_length : (elements written : List ℕ) (dst : ℕ) (part : Option (List ℕ)) → option_and_then (λ ys. overwrite elements dst ys) part ≡ Some written → length written ≡ length elements
-copied_length elements written dst (Some part) is = overwrite_length elements part written dst is
-copied_length elements written dst None is = absurd (none-some written is)
-
-module _ (w : TableWrite) (x : TableValue) (m : Option Meter) (result : Result (Unit {0}) TableError) (charge : ℕ) (x' : TableValue) (keeps : KeepsLength w x) where
-  ends_count : (typed : Bool) (written : Option (List ℕ)) (payable : Bool) → w.written ≡ written → EndsBy w x m typed written payable result charge x' → size_of x' ≡ size_of x
-  ends_count false written payable is ends = ap size_of ends.2
-  ends_count true None payable is ends = ap size_of ends.2
-  ends_count true (Some elements) false is ends = ap size_of ends.2
-  ends_count true (Some elements) true is ends = ap size_of ends.2 ∙ keeps elements is
-
-  pub write_count : (m' : Option Meter) → WritesTable w x m result charge x' m' → size_of x' ≡ size_of x
-  write_count m' writes = ends_count w.typed w.written _ refl writes.ends
-
-module _ {X : Type 0} (count : X → ℕ) (k : ℕ) (slots : List (Slot X)) (reply : Reply) (slots' : List (Slot X)) where
-  pub changes_kept : (Change : X → X → Type 0) → ((x x' : X) → Change x x' → count x' ≡ count x) → ChangesAt k slots reply slots' Change → map (slot_count count) slots' ≡ map (slot_count count) slots
-  changes_kept Change same changes =
-      on_live (live_at slots k) _ _ changes
-      (λ missing. ap (map (slot_count count)) missing.1)
-      (λ x found h. ap (map (slot_count count)) h.2 ∙ counts_kept count slots k x (Live h.0) found (same x h.0 h.1))
-
-  pub drops_kept : DropsAt count k slots reply slots' → map (slot_count count) slots' ≡ map (slot_count count) slots
-  drops_kept drops =
-      on_live (live_at slots k) _ _ drops
-      (λ missing. ap (map (slot_count count)) missing.1)
-      (λ x found h. ap (map (slot_count count)) h.1 ∙ counts_kept count slots k x (Gone (count x)) found refl)
-
--- the writes over a table at an index
-module _ (k : ℕ) (slots : List (Slot TableValue)) (m : Meter) (reply : Reply) (charge : ℕ) (slots' : List (Slot TableValue)) (m' : Meter) where
-  pub write_kept : (write : TableValue → TableWrite) → ((x : TableValue) → KeepsLength (write x) x) → WritesTableAt k write (metered slots m) reply charge (metered slots' m') → map (slot_count size_of) slots' ≡ map (slot_count size_of) slots
-  write_kept write keeps writes =
-      on_live (live_at slots k) _ _ writes
-      (λ missing. ap (λ (s : Metered). map (slot_count size_of) s.value) missing.2)
-      (λ x found h. ap (map (slot_count size_of)) h.4 ∙ counts_kept size_of slots k x (Live h.1) found (write_count (write x) x (Some m) h.0 charge h.1 (keeps x) (Some m') h.2))
-
-  pub copy_kept : {X : Type 0} (source : Option X) (write : X → TableValue → TableWrite) → ((y : X) (x : TableValue) → KeepsLength (write y x) x) → WritesTableFrom source k write (metered slots m) reply charge (metered slots' m') → map (slot_count size_of) slots' ≡ map (slot_count size_of) slots
-  copy_kept source write keeps writes =
-      on_live source _ _ writes
-      (λ missing. ap (λ (s : Metered). map (slot_count size_of) s.value) missing.2)
-      (λ y found h. write_kept (write y) (keeps y) h)
-
--- Rows of a world, by the part of the state that they change.
-each_kind : (P : Kind → Type 0) → P Bytes → P Elements → (kind : Kind) → P kind
-each_kind P bytes elements Bytes = bytes
-each_kind P bytes elements Elements = elements
-
 but_bytes : (P : Kind → Type 0) → P Elements → (kind : Kind) → kind ≢ Bytes → P kind
 but_bytes P elements Bytes other = absurd (other refl)
 but_bytes P elements Elements other = elements
@@ -282,21 +201,6 @@ module _ {S : Type 0} (rules : Rules S) (s : State) (l : S) (l' : S) (charge : �
           (λ h. kept_passes rules l l' (sizes s) (sizes with_those_tables) s.meter charge size_of Elements s.tables slots refl refl (but_elements (λ kind. sizes with_those_tables kind ≡ sizes s kind) refl)
           (At k) (ap (λ (t : Situation TableValue S). t.limiter) h.2) (ap (map (slot_count size_of)) put ∙ counts_kept size_of s.tables k x (Live x') found (ap (λ (t : Situation TableValue S). size_of t.value) h.2)) h.1))
 
-module _ (k : ℕ) (slots : List (Slot MemoryValue)) (reply : Reply) (slots' : List (Slot MemoryValue)) (a : ℕ) where
-  written_kept : (source : List ℕ) → WritesMemoryAt k a source slots reply slots' → map (slot_count byte_count) slots' ≡ map (slot_count byte_count) slots
-  written_kept source writes = changes_kept byte_count k slots reply slots' _ (λ x x' c. written_count x x' a source c.0 c.1) writes
-
-  store_kept : (stored : List ℕ) → StoresMemoryAt k a stored slots reply slots' → map (slot_count byte_count) slots' ≡ map (slot_count byte_count) slots
-  store_kept stored stores = changes_kept byte_count k slots reply slots' _ (λ x x' c. stored_count x x' a stored c.0 c.1) stores
-
-  vector_store_kept : (stored : Option (List ℕ)) → StoresVectorAt k a stored slots reply slots' → map (slot_count byte_count) slots' ≡ map (slot_count byte_count) slots
-  vector_store_kept None stores = ap (map (slot_count byte_count)) stores.1
-  vector_store_kept (Some stored) stores = store_kept stored stores
-
-set_kept : (k : ℕ) (slots : List (Slot TableValue)) (reply : Reply) (slots' : List (Slot TableValue)) (index : ℕ) (value : TypedRawRef) → SetsElementAt k index value slots reply slots' → map (slot_count size_of) slots' ≡ map (slot_count size_of) slots
-set_kept k slots reply slots' index value sets =
-    changes_kept size_of k slots reply slots' _ (λ x x' c. write_count (typed_by x value.ty (setting_of x index value.raw)) x None c.0 0 x' (λ elements is. overwrite_length x.elements (value.raw ∷ []) elements index is) None c.1) sets
-
 -- where an effect makes something grow
 abbrev place_by : Effect → Place
 place_by (MemoryMade ty) = New
@@ -312,23 +216,23 @@ same_place s call = refl
 
 module _ {S : Type 0} (rules : Rules S) (w : World S) (turn : Turn) (w' : World S) where
   effect_passes : (effect : Effect) → TakesEffect rules effect w turn w' → Passed rules w.limiter w'.limiter (sizes w.state) (sizes w'.state) (place_by effect) w.state.meter turn.charge
-  effect_passes (FuelSet fuel) step = idle rules w turn w' step.3 refl (ap (λ t. sizes t Bytes) step.2.1) (ap (λ t. sizes t Elements) step.2.1)
-  effect_passes (Told told) step = idle rules w turn w' step.2 refl refl refl
-  effect_passes (BytesRead k offset len) step = idle rules w turn w' step.2 refl refl refl
-  effect_passes (BytesWritten k offset bytes) step = idle rules w turn w' step.3 refl (written_kept k w.state.memories turn.reply step.1 offset bytes step.2) refl
-  effect_passes (BytesStored k a stored) step = idle rules w turn w' step.3 refl (vector_store_kept k w.state.memories turn.reply step.1 a stored step.2) refl
-  effect_passes (MemoryMade ty) step = rw step.4 (memory_made rules w.state w.limiter step.2 turn.charge step.1 w.state.meter turn.reply step.0.0 Owned ty step.3)
-  effect_passes (LentMemoryMade ty) step = rw step.4 (lent_made rules w.state w.limiter step.2 turn.charge step.0.0 turn.reply step.1 ty step.3)
-  effect_passes (MemoryGrown k pages) step = rw step.5 (memory_grows rules w.state w.limiter step.2 turn.charge step.0 step.1 turn.reply k pages step.3)
-  effect_passes (MemoryDropped k) step = idle rules w turn w' step.3 refl (drops_kept byte_count k w.state.memories turn.reply step.1 step.2) refl
-  effect_passes (TableMade ty init) step = rw step.4 (table_made rules w.state w.limiter step.2 turn.charge step.1 w.state.meter turn.reply step.0.0 ty init step.3)
-  effect_passes (TableGrown k n init) step = rw step.5 (table_grows rules w.state w.limiter step.2 turn.charge step.0 step.1 turn.reply k n init step.3)
-  effect_passes (TableDropped k) step = idle rules w turn w' step.3 refl refl (drops_kept size_of k w.state.tables turn.reply step.1 step.2)
-  effect_passes (ElementSet k index value) step = idle rules w turn w' step.3 refl refl (set_kept k w.state.tables turn.reply step.1 index value step.2)
-  effect_passes (PartInitialized k segment dst src len) step = idle rules w turn w' step.4 refl refl (copy_kept k w.state.tables w.state.meter turn.reply turn.charge step.0 step.1 segment (initialization_from dst src len) (λ y x elements is. copied_length x.elements elements dst (at y.items src len) is) step.2)
-  effect_passes (PartCopied k source dst src len) step = idle rules w turn w' step.4 refl refl (copy_kept k w.state.tables w.state.meter turn.reply turn.charge step.0 step.1 source (copy_from dst src len) (λ y x elements is. copied_length x.elements elements dst (at y.elements src len) is) step.2)
-  effect_passes (PartFilled k dst value len) step = idle rules w turn w' step.4 refl refl (write_kept k w.state.tables w.state.meter turn.reply turn.charge step.0 step.1 (filling dst value len) (λ x elements is. overwrite_length x.elements (replicate len value.raw) elements dst is) step.2)
-  effect_passes effect step = idle rules w turn w' step.3 refl refl refl
+  effect_passes (FuelSet fuel) step = idle rules w turn w' step.after refl (ap (λ t. sizes t Bytes) step.row.1) (ap (λ t. sizes t Elements) step.row.1)
+  effect_passes (Changed change) step =
+      let still = (change_facts w.state change).still turn.reply step.machine step.row in idle rules w turn w' step.after refl (still Bytes) (still Elements)
+  effect_passes (MemoryMade ty) step =
+      rw step.after (memory_made rules w.state w.limiter step.limiter turn.charge step.part w.state.meter turn.reply step.free.0 Owned ty step.row)
+  effect_passes (LentMemoryMade ty) step =
+      rw step.after (lent_made rules w.state w.limiter step.limiter turn.charge step.free.0 turn.reply step.part ty step.row)
+  effect_passes (MemoryGrown k pages) step =
+      rw step.after (memory_grows rules w.state w.limiter step.limiter turn.charge step.part step.meter turn.reply k pages step.row)
+  effect_passes (TableMade ty init) step =
+      rw step.after (table_made rules w.state w.limiter step.limiter turn.charge step.part w.state.meter turn.reply step.free.0 ty init step.row)
+  effect_passes (TableGrown k n init) step =
+      rw step.after (table_grows rules w.state w.limiter step.limiter turn.charge step.part step.meter turn.reply k n init step.row)
+  effect_passes (PartWritten k source dst len) step =
+      let keeps = on_live_too (write_of source dst len) _ _ _ _ (λ none. tt) (λ write is x. (is x).0) (source_writes source dst len) in
+      idle rules w turn w' step.after refl refl (copy_kept k w.state.tables w.state.meter turn.reply turn.charge step.part step.meter (write_of source dst len) (λ write. write) keeps step.row)
+  effect_passes effect step = idle rules w turn w' step.after refl refl refl
 
 pub growths_are_permitted : {S : Type 0} (rules : Rules S) (w : World S) (turn : Turn) (w' : World S) → Step rules w turn w' → Exchanges rules w turn w'
 growths_are_permitted rules w turn w' step =

@@ -1,38 +1,38 @@
 -- What holds of memories in lent regions as of memories of their own.
-use Rattle.std.proofs.Common.{◌≡◌, ◌⊎◌, ℕ, ◌+◌, ◌*◌, ◌≤◌, Bool, true, false, Option, Some, None, Result, Ok, Err, List, [], ◌∷◌, length, map, refl, sym, ap, subst, ◌∙◌, arith, inl, inr}
+use Rattle.std.proofs.Common.{Bool, Err, List, None, Ok, Option, Result, Some, [], ap, arith, false, inl, inr, length, map, refl, subst, sym, true, ℕ, ◌*◌, ◌+◌, ◌∙◌, ◌∷◌, ◌≡◌, ◌≤◌, ◌⊎◌}
 use Rattle.std.proofs.lemmas.Bool.Decides.{nat_tests}
-use Rattle.std.proofs.lemmas.List.{map_push, map-set, length-map}
+use Rattle.std.proofs.lemmas.List.{length-map, map-set, map_push}
 use Rattle.std.proofs.lemmas.Option.{none-some, same_Some, slice_get-map}
-use Rattle.std.specs.Prelude.{is_none, MatchBool, MatchOption, ◌&&◌, if◌then◌else◌, slice_get, slice_set}
-use Rattle.std.specs.Option.{option_map, option_and_then}
+use Rattle.std.specs.Option.{option_and_then, option_map}
+use Rattle.std.specs.Prelude.{MatchBool, MatchOption, if◌then◌else◌, is_none, slice_get, slice_set, ◌&&◌}
 use Rattle.std.specs.Result.{result_map_both}
-use Rattle.wasmi_vector_ops.specs.declared.access.VectorLoadOp.{VectorLoadOp}
-use Rattle.wasmi_vector_ops.specs.declared.access.LoadLaneOp.{LoadLaneOp}
-use Rattle.wasmi_meter.specs.declared.error.MemoryError.{MemoryError}
-use Rattle.wasmi_meter.specs.Limiter.{Rules, Answer, IsDenial}
-use Rattle.wasmi_meter.specs.Meter.{Meter}
-use Rattle.wasmi_meter.specs.Attempt.{Situation, with_value, Effort, Fate, Unasked, Denied, Met, Failed, Attempt, MayEnd, IsFirstCause, Follows, answer_of, value_after, charge_of, amount_due, can_pay}
-use Rattle.wasmi_store.specs.Buffer.{Room, Owned, Lent, has_place_for, LacksMemory}
-use Rattle.wasmi_store.specs.MemoryType.{MemoryTypeValue, page_bytes, minimum_bytes, in_bounds}
-use Rattle.wasmi_store.specs.Memory.{MemoryValue, pages_of, new_memory, MakesMemory, GrowsMemory, WritesMemory}
-use Rattle.wasmi_store.specs.Memory as memory
-use Rattle.wasmi_core.specs.declared.calls.Call.{Call}
-use Rattle.wasmi_core.specs.declared.calls.Call.TheVariants.{NewMemory, NewLentMemory, Load, VectorLoad, LoadLane}
-use Rattle.wasmi_core.specs.declared.ops.LoadOp.{LoadOp}
-use Rattle.wasmi_core.specs.declared.calls.Reply.{Reply}
-use Rattle.wasmi_core.specs.declared.calls.Reply.TheVariants as replied
-use Rattle.wasmi_core.specs.declared.slots.Slot.{Slot}
-use Rattle.wasmi_core.specs.declared.slots.Slot.TheVariants.{Live, Gone}
-use Rattle.wasmi_core.specs.State.{State, live_value, live_at}
-use Rattle.wasmi_core.specs.World.{World, Turn}
-use Rattle.wasmi_core.specs.Rows.{reply_of, OnLive, ActsAt, Appends, Creates, ChangesAt, DropsAt}
-use Rattle.wasmi_core.specs.MemoryRows.{bytes_appended, load_reply, WritesMemoryAt, StoresMemoryAt}
-use Rattle.wasmi_core.specs.RegisterRows.{StoresVectorAt, vector_loaded, lane_loaded, vector_at}
-use Rattle.wasmi_core.specs.Totals.{byte_count}
-use Rattle.wasmi_core.specs.Steps.{Step, Effect, FuelSet, Told, BytesRead, BytesWritten, BytesStored, RegisterSet, MemoryMade, LentMemoryMade, MemoryGrown, MemoryDropped, TableMade, TableGrown, PartInitialized, PartCopied, PartFilled, effect_of, TakesEffect}
-use Rattle.wasmi_core.specs.Runs.{Run}
-use Rattle.wasmi_core.specs.LentMemory.{owned_memory, owned_slot, owned, owned_world, unlent_world, FitsRoom, FitsRegions, RunInRegions}
 use Rattle.wasmi_core.proofs.RowLemmas.{both_live}
+use Rattle.wasmi_core.specs.LentMemory.{FitsRegions, FitsRoom, RunInRegions, owned, owned_memory, owned_slot, owned_world, unlent_world}
+use Rattle.wasmi_core.specs.MemoryRows.{StoresMemoryAt, WritesMemoryAt, bytes_appended, load_reply}
+use Rattle.wasmi_core.specs.RegisterRows.{StoresVectorAt, lane_loaded, vector_at, vector_loaded}
+use Rattle.wasmi_core.specs.Rows.{ActsAt, Appends, ChangesAt, Creates, DropsAt, OnLive, reply_of}
+use Rattle.wasmi_core.specs.Runs.{Run}
+use Rattle.wasmi_core.specs.State.{State, live_at, live_value}
+use Rattle.wasmi_core.specs.Steps.{BytesRead, BytesStored, BytesWritten, Change, Changed, Effect, FuelSet, LentMemoryMade, MemoryDropped, MemoryGrown, MemoryMade, PartWritten, RegisterSet, Step, TableGrown, TableMade, TakesChange, TakesEffect, Told, effect_of}
+use Rattle.wasmi_core.specs.Totals.{byte_count}
+use Rattle.wasmi_core.specs.World.{Turn, World}
+use Rattle.wasmi_core.specs.declared.calls.Call.{Call}
+use Rattle.wasmi_core.specs.declared.calls.Call.TheVariants.{Load, LoadLane, NewLentMemory, NewMemory, VectorLoad}
+use Rattle.wasmi_core.specs.declared.calls.Reply.{Reply}
+use Rattle.wasmi_core.specs.declared.ops.LoadOp.{LoadOp}
+use Rattle.wasmi_core.specs.declared.slots.Slot.{Slot}
+use Rattle.wasmi_core.specs.declared.slots.Slot.TheVariants.{Gone, Live}
+use Rattle.wasmi_meter.specs.Attempt.{Attempt, Denied, Effort, Failed, Fate, Follows, IsFirstCause, MayEnd, Met, Situation, Unasked, amount_due, answer_of, can_pay, charge_of, value_after, with_value}
+use Rattle.wasmi_meter.specs.Limiter.{Answer, IsDenial, Rules}
+use Rattle.wasmi_meter.specs.Meter.{Meter}
+use Rattle.wasmi_meter.specs.declared.error.MemoryError.{MemoryError}
+use Rattle.wasmi_store.specs.Buffer.{LacksMemory, Lent, Owned, Room, has_place_for}
+use Rattle.wasmi_store.specs.Memory.{GrowsMemory, MakesMemory, MemoryValue, WritesMemory, new_memory, pages_of}
+use Rattle.wasmi_store.specs.MemoryType.{MemoryTypeValue, in_bounds, minimum_bytes, page_bytes}
+use Rattle.wasmi_vector_ops.specs.declared.access.LoadLaneOp.{LoadLaneOp}
+use Rattle.wasmi_vector_ops.specs.declared.access.VectorLoadOp.{VectorLoadOp}
+use Rattle.wasmi_store.specs.Memory as memory
+use Rattle.wasmi_core.specs.declared.calls.Reply.TheVariants as replied
 
 -- An attempt where nothing stands between the permission and the charge, and where more may refuse after it.
 module _ {V W E : Type 0} (e : Effort V E) (refuses : E → Type 0) (lacks : (cause : E) → e.refuses cause → refuses cause) (own : V → W) where
@@ -266,27 +266,51 @@ effect_fits s call fits = fits
 -- a call has the same effect on both machines
 effect_kept : (s : State) (call : Call) → effect_of s call ≡ effect_of (owned s) call
 effect_kept s (Load op k ptr offset) = ap Told (load_owned s.memories k op (ptr + offset))
-effect_kept s (VectorLoad op dst k ptr offset) = ap (RegisterSet dst) (vector_loaded_owned s.memories k op (ptr + offset))
-effect_kept s (LoadLane op dst a k ptr offset) = ap (RegisterSet dst) (lane_loaded_owned s.memories k op (ptr + offset) (vector_at s.registers a))
+effect_kept s (VectorLoad op dst k ptr offset) = ap (λ given. Changed (RegisterSet dst given)) (vector_loaded_owned s.memories k op (ptr + offset))
+effect_kept s (LoadLane op dst a k ptr offset) = ap (λ given. Changed (RegisterSet dst given)) (lane_loaded_owned s.memories k op (ptr + offset) (vector_at s.registers a))
 effect_kept s call = refl
+
+-- a change of one part is the same change with such memories
+change_owned : (s : State) (reply : Reply) (s' : State) (change : Change) → TakesChange change s reply s' → TakesChange change (owned s) reply (owned s')
+change_owned s reply s' (BytesWritten k offset bytes) c =
+    record { part = map owned_slot c.part; row = writes_owned s.memories k reply c.part offset bytes c.row; after = ap owned c.after }
+change_owned s reply s' (BytesStored k a stored) c =
+    record { part = map owned_slot c.part; row = vector_stores_owned s.memories k reply c.part a stored c.row; after = ap owned c.after }
+change_owned s reply s' (MemoryDropped k) c =
+    record { part = map owned_slot c.part; row = drops_owned s.memories k reply c.part c.row; after = ap owned c.after }
+change_owned s reply s' change c = record { part = c.part; row = c.row; after = ap owned c.after }
 
 module _ {S : Type 0} (rules : Rules S) (w : World S) (turn : Turn) (w' : World S) where
   effect_owned : (effect : Effect) → EffectFits w.state effect → TakesEffect rules effect w turn w' → TakesEffect rules effect (owned_world w) turn (owned_world w')
-  effect_owned (FuelSet fuel) fits step = (step.0, owned step.1, (step.2.0, ap owned step.2.1), ap owned_world step.3)
-  effect_owned (Told told) fits step = (step.0, step.1, ap owned_world step.2)
-  effect_owned (BytesRead k offset len) fits step = (step.0, on_owned w.state.memories k _ _ _ _ step.1 (λ missing. missing) (λ x h. h), ap owned_world step.2)
-  effect_owned (BytesWritten k offset bytes) fits step = (step.0, map owned_slot step.1, writes_owned w.state.memories k turn.reply step.1 offset bytes step.2, ap owned_world step.3)
-  effect_owned (BytesStored k a stored) fits step = (step.0, map owned_slot step.1, vector_stores_owned w.state.memories k turn.reply step.1 a stored step.2, ap owned_world step.3)
-  effect_owned (MemoryMade ty) fits step = (step.0, map owned_slot step.1, step.2, creates_owned rules Owned ty w.state.memories w.limiter turn.reply step.1 step.2 refl step.3, ap owned_world step.4)
+  effect_owned (Told told) fits step = record { free = step.free; row = step.row; after = ap owned_world step.after }
+  effect_owned (BytesRead k offset len) fits step =
+      record { free = step.free; row = on_owned w.state.memories k _ _ _ _ step.row (λ missing. missing) (λ x h. h); after = ap owned_world step.after }
+  effect_owned (FuelSet fuel) fits step =
+      record { free = step.free; machine = owned step.machine; row = (step.row.0, ap owned step.row.1); after = ap owned_world step.after }
+  effect_owned (Changed change) fits step =
+      record { free = step.free; machine = owned step.machine; row = change_owned w.state turn.reply step.machine change step.row; after = ap owned_world step.after }
+  effect_owned (MemoryMade ty) fits step = record {
+    free = step.free;
+    part = map owned_slot step.part;
+    limiter = step.limiter;
+    row = creates_owned rules Owned ty w.state.memories w.limiter turn.reply step.part step.limiter refl step.row;
+    after = ap owned_world step.after;
+  }
   effect_owned (LentMemoryMade ty) fits step = absurd fits
-  effect_owned (MemoryGrown k pages) fits step = (map owned_slot step.0, step.1, step.2, growth_owned w.state.memories k rules pages (Some w.state.meter) w.limiter turn.reply turn.charge step.0 (Some step.1) step.2 fits step.3, step.4 ∙ appended_owned w.state.memories k pages turn.reply, ap owned_world step.5)
-  effect_owned (MemoryDropped k) fits step = (step.0, map owned_slot step.1, drops_owned w.state.memories k turn.reply step.1 step.2, ap owned_world step.3)
-  effect_owned (TableMade ty init) fits step = (step.0, step.1, step.2, step.3, ap owned_world step.4)
-  effect_owned (TableGrown k n init) fits step = (step.0, step.1, step.2, step.3, step.4, ap owned_world step.5)
-  effect_owned (PartInitialized k segment dst src len) fits step = (step.0, step.1, step.2, step.3, ap owned_world step.4)
-  effect_owned (PartCopied k source dst src len) fits step = (step.0, step.1, step.2, step.3, ap owned_world step.4)
-  effect_owned (PartFilled k dst value len) fits step = (step.0, step.1, step.2, step.3, ap owned_world step.4)
-  effect_owned effect fits step = (step.0, step.1, step.2, ap owned_world step.3)
+  effect_owned (MemoryGrown k pages) fits step = record {
+    part = map owned_slot step.part;
+    meter = step.meter;
+    limiter = step.limiter;
+    row = growth_owned w.state.memories k rules pages (Some w.state.meter) w.limiter turn.reply turn.charge step.part (Some step.meter) step.limiter fits step.row;
+    wrote = step.wrote ∙ appended_owned w.state.memories k pages turn.reply;
+    after = ap owned_world step.after;
+  }
+  effect_owned (TableMade ty init) fits step =
+      record { free = step.free; part = step.part; limiter = step.limiter; row = step.row; after = ap owned_world step.after }
+  effect_owned (TableGrown k n init) fits step =
+      record { part = step.part; meter = step.meter; limiter = step.limiter; row = step.row; wrote = step.wrote; after = ap owned_world step.after }
+  effect_owned (PartWritten k source dst len) fits step =
+      record { part = step.part; meter = step.meter; row = step.row; wrote = step.wrote; after = ap owned_world step.after }
 
 pub run_is_owned : {S : Type 0} (rules : Rules S) (w : World S) (turns : List Turn) (w' : World S) → RunInRegions rules w turns w' → Run rules (owned_world w) turns (owned_world w')
 run_is_owned rules w [] w' ran = ap owned_world ran
@@ -303,8 +327,14 @@ pub creation_is_owned : {S : Type 0} (rules : Rules S) (w : World S) (turn : Tur
     → Step rules w turn w' → Step rules (unlent_world w) (record turn { call = NewMemory ty }) (unlent_world w')
 creation_is_owned rules w turn w' ty region called spare fits step =
     let lent : TakesEffect rules (LentMemoryMade ty) w turn w' = subst (λ c. TakesEffect rules (effect_of w.state c) w turn w') called step in
-    let creates = on_spare _ _ w.state.spare region spare lent.3 in
-    (lent.0, map owned_slot lent.1.slots, lent.2, creates_owned rules (Lent region) ty w.state.memories w.limiter turn.reply lent.1.slots lent.2 (grind (arith, nat_tests, fits)) creates.0, ap unlent_world lent.4)
+    let creates = on_spare _ _ w.state.spare region spare lent.row in
+    record {
+      free = lent.free;
+      part = map owned_slot lent.part.slots;
+      limiter = lent.limiter;
+      row = creates_owned rules (Lent region) ty w.state.memories w.limiter turn.reply lent.part.slots lent.limiter (grind (arith, nat_tests, fits)) creates.0;
+      after = ap unlent_world lent.after;
+    }
 
 -- a growth of a lent memory that nothing but the limiter can refuse
 module _ {S : Type 0} (rules : Rules S) (pages : ℕ) (s : Situation MemoryValue S) (rest : List ℕ) (lent : s.value.room ≡ Lent rest) (inside : in_bounds s.value.ty (pages_of s.value + pages) ≡ true) (fits : has_place_for s.value.room (pages * page_bytes s.value.ty.page) ≡ true) (payable : can_pay s.meter (amount_due s.meter (memory.growth_of s.value pages).price) ≡ true) (result : Result ℕ MemoryError) (charge : ℕ) (s' : Situation MemoryValue S) where

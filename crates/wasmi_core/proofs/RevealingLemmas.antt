@@ -1,30 +1,30 @@
 -- What the replies of a run reveal of its limiter: a run by some rules is one by narrower rules, where its replies show it.
-use Rattle.std.proofs.Common.{◌≡◌, ℕ, Some, Result, Err, List, [], ◌∷◌, map, sym, ap, subst, ◌∙◌, inl, inr}
+use Rattle.std.proofs.Common.{Err, List, Result, [], ap, inl, inr, map, subst, sym, ℕ, ◌∙◌, ◌∷◌, ◌≡◌}
 use Rattle.std.proofs.lemmas.List.Elements.{All-head, All-tail}
 use Rattle.std.specs.Prelude.{All}
-use Rattle.wasmi_meter.specs.Limiter.{Rules}
-use Rattle.wasmi_meter.specs.Attempt.{Situation, alone, Effort, Fate, Unasked, Denied, Met, Failed, Attempt, Follows, answer_of, error_of_answer, error_of_failure}
-use Rattle.wasmi_typed.specs.declared.typed_ref.TypedRawRef.{TypedRawRef}
-use Rattle.wasmi_meter.specs.declared.error.TableError.{TableError}
-use Rattle.wasmi_store.specs.Buffer.{Room, Owned, Lent}
-use Rattle.wasmi_store.specs.Growth.{Growth, Makes, Grows}
-use Rattle.wasmi_store.specs.MemoryType.{MemoryTypeValue}
-use Rattle.wasmi_store.specs.Memory.{MemoryValue, pages_of, new_memory, GrowsMemory}
-use Rattle.wasmi_store.specs.Memory as memory
-use Rattle.wasmi_store.specs.Table.{TableValue, size_of, new_table, GrowsTable}
-use Rattle.wasmi_store.specs.Table as table
-use Rattle.wasmi_store.specs.TableType.{TableTypeValue, same_type}
-use Rattle.wasmi_types.specs.declared.value.RefType.{RefType}
+use Rattle.wasmi_core.proofs.RowLemmas.{on_live_too, on_test_too}
+use Rattle.wasmi_core.specs.Rows.{ActsAt, Appends, Creates, reply_of}
+use Rattle.wasmi_core.specs.Runs.{Run}
+use Rattle.wasmi_core.specs.State.{live_at}
+use Rattle.wasmi_core.specs.Steps.{Effect, LentMemoryMade, MemoryGrown, MemoryMade, TableGrown, TableMade, TakesEffect, effect_of}
+use Rattle.wasmi_core.specs.World.{Turn, World}
 use Rattle.wasmi_core.specs.declared.calls.Reply.{Reply}
-use Rattle.wasmi_core.specs.declared.calls.Reply.TheVariants as replied
 use Rattle.wasmi_core.specs.declared.slots.Slot.{Slot}
 use Rattle.wasmi_core.specs.declared.slots.Slot.TheVariants.{Live}
-use Rattle.wasmi_core.specs.State.{live_at}
-use Rattle.wasmi_core.specs.World.{World, Turn}
-use Rattle.wasmi_core.specs.Rows.{reply_of, ActsAt, Creates, Appends}
-use Rattle.wasmi_core.specs.Steps.{Effect, MemoryMade, LentMemoryMade, MemoryGrown, TableMade, TableGrown, effect_of, TakesEffect}
-use Rattle.wasmi_core.specs.Runs.{Run}
-use Rattle.wasmi_core.proofs.CarryingLemmas.{on_live_too, on_test_too}
+use Rattle.wasmi_meter.specs.Attempt.{Attempt, Denied, Effort, Failed, Fate, Follows, Met, Situation, Unasked, alone, answer_of, error_of_answer, error_of_failure}
+use Rattle.wasmi_meter.specs.Limiter.{Rules}
+use Rattle.wasmi_meter.specs.declared.error.TableError.{TableError}
+use Rattle.wasmi_store.specs.Buffer.{Lent, Owned, Room}
+use Rattle.wasmi_store.specs.Growth.{Grows, Growth, Makes}
+use Rattle.wasmi_store.specs.Memory.{GrowsMemory, MemoryValue, new_memory, pages_of}
+use Rattle.wasmi_store.specs.MemoryType.{MemoryTypeValue}
+use Rattle.wasmi_store.specs.Table.{GrowsTable, TableValue, new_table, size_of}
+use Rattle.wasmi_store.specs.TableType.{TableTypeValue, same_type}
+use Rattle.wasmi_typed.specs.declared.typed_ref.TypedRawRef.{TypedRawRef}
+use Rattle.wasmi_types.specs.declared.value.RefType.{RefType}
+use Rattle.wasmi_store.specs.Memory as memory
+use Rattle.wasmi_core.specs.declared.calls.Reply.TheVariants as replied
+use Rattle.wasmi_store.specs.Table as table
 
 -- the error that an attempt answers by how it ends
 abbrev pub IsErrorOf : {V E : Type 0} → Effort V E → Fate E → E → Type 0
@@ -96,37 +96,46 @@ module _ {S : Type 0} (rules rules' : Rules S) (Shows : Reply → Type 0) where
     -- an effect of any call
     module _ (w : World S) (turn : Turn) (w' : World S) (shows : Shows turn.reply) where
       effect_revealed : (effect : Effect) → TakesEffect rules effect w turn w' → TakesEffect rules' effect w turn w'
-      effect_revealed (MemoryMade ty) step =
-          (step.0, step.1, step.2, creates_revealed replied.Memory (memory.creation_of Owned ty) (memory_made Owned ty) (new_memory Owned ty) w.state.memories step.1 turn.reply w.limiter step.2 shows step.3, step.4)
-      effect_revealed (LentMemoryMade ty) step = (
-        step.0,
-        step.1,
-        step.2,
-        on_live_too w.state.spare _ _ _ _ (λ none. none)
-            (λ region h. (creates_revealed replied.Memory (memory.creation_of (Lent region) ty) (memory_made (Lent region) ty) (new_memory (Lent region) ty) w.state.memories step.1.slots turn.reply w.limiter step.2 shows h.0, h.1)) step.3,
-        step.4,
-      )
-      effect_revealed (MemoryGrown k pages) step = (
-        step.0,
-        step.1,
-        step.2,
-        acts_revealed k (reply_of replied.Number replied.Memory) (GrowsMemory rules pages) (GrowsMemory rules' pages) turn.reply
+      effect_revealed (MemoryMade ty) step = record {
+        free = step.free;
+        part = step.part;
+        limiter = step.limiter;
+        row = creates_revealed replied.Memory (memory.creation_of Owned ty) (memory_made Owned ty) (new_memory Owned ty) w.state.memories step.part turn.reply w.limiter step.limiter shows step.row;
+        after = step.after;
+      }
+      effect_revealed (LentMemoryMade ty) step = record {
+        free = step.free;
+        part = step.part;
+        limiter = step.limiter;
+        row = on_live_too w.state.spare _ _ _ _ (λ none. none)
+            (λ region h. (creates_revealed replied.Memory (memory.creation_of (Lent region) ty) (memory_made (Lent region) ty) (new_memory (Lent region) ty) w.state.memories step.part.slots turn.reply w.limiter step.limiter shows h.0, h.1)) step.row;
+        after = step.after;
+      }
+      effect_revealed (MemoryGrown k pages) step = record {
+        part = step.part;
+        meter = step.meter;
+        limiter = step.limiter;
+        row = acts_revealed k (reply_of replied.Number replied.Memory) (GrowsMemory rules pages) (GrowsMemory rules' pages) turn.reply
             (λ s s' result charge is. grows_revealed (record { amount = pages; size = pages_of s.value; effort = memory.growth_of s.value pages }) replied.Memory (memory_grown s.value pages) s s' result charge turn.reply is shows)
-            (record { value = w.state.memories; meter = Some w.state.meter; limiter = w.limiter }) (record { value = step.0; meter = Some step.1; limiter = step.2 }) turn.charge step.3,
-        step.4,
-        step.5,
-      )
-      effect_revealed (TableMade ty init) step =
-          (step.0, step.1, step.2, creates_revealed replied.Table (table.creation_of ty init.ty) (table_made ty init.ty) (new_table ty init.raw) w.state.tables step.1 turn.reply w.limiter step.2 shows step.3, step.4)
-      effect_revealed (TableGrown k n init) step = (
-        step.0,
-        step.1,
-        step.2,
-        acts_revealed k (reply_of replied.Number replied.Table) (GrowsTable rules n init) (GrowsTable rules' n init) turn.reply (table_growth_revealed n init turn.reply shows)
-            (record { value = w.state.tables; meter = Some w.state.meter; limiter = w.limiter }) (record { value = step.0; meter = Some step.1; limiter = step.2 }) turn.charge step.3,
-        step.4,
-        step.5,
-      )
+            _ _ turn.charge step.row;
+        wrote = step.wrote;
+        after = step.after;
+      }
+      effect_revealed (TableMade ty init) step = record {
+        free = step.free;
+        part = step.part;
+        limiter = step.limiter;
+        row = creates_revealed replied.Table (table.creation_of ty init.ty) (table_made ty init.ty) (new_table ty init.raw) w.state.tables step.part turn.reply w.limiter step.limiter shows step.row;
+        after = step.after;
+      }
+      effect_revealed (TableGrown k n init) step = record {
+        part = step.part;
+        meter = step.meter;
+        limiter = step.limiter;
+        row = acts_revealed k (reply_of replied.Number replied.Table) (GrowsTable rules n init) (GrowsTable rules' n init) turn.reply (table_growth_revealed n init turn.reply shows) _ _ turn.charge step.row;
+        wrote = step.wrote;
+        after = step.after;
+      }
       effect_revealed effect step = step
 
     -- a run

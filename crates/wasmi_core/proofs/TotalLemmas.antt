@@ -1,15 +1,17 @@
 -- The sizes of slots, as slots change.
-use Rattle.std.proofs.Common.{◌≡◌, ℕ, ◌+◌, Option, Some, None, List, [], ◌∷◌, ◌++◌, map, set, sum, sym, ap, ◌∙◌}
-use Rattle.std.specs.Prelude.{slice_get, slice_set}
-use Rattle.std.specs.Option.{option_map, option_and_then}
+use Rattle.std.proofs.Common.{List, None, Option, Some, [], ap, map, set, sum, sym, ℕ, ◌++◌, ◌+◌, ◌∙◌, ◌∷◌, ◌≡◌}
 use Rattle.std.proofs.lemmas.List.{map-set}
 use Rattle.std.proofs.lemmas.List.Sums.{sum_by-set, sum_by_push}
-use Rattle.std.proofs.lemmas.Option.{none-some, same_Some, slice_get-map, slice_get_within, get_or_from_slice_get}
-use Rattle.wasmi_core.specs.declared.slots.Slot.{Slot}
-use Rattle.wasmi_core.specs.declared.slots.Slot.TheVariants.{Live, Gone}
-use Rattle.wasmi_core.specs.State.{live_value, live_at}
-use Rattle.wasmi_core.specs.Totals.{slot_count}
+use Rattle.std.proofs.lemmas.Option.{get_or_from_slice_get, none-some, same_Some, slice_get-map, slice_get_within}
+use Rattle.std.specs.Option.{option_and_then, option_map}
+use Rattle.std.specs.Prelude.{slice_get, slice_set}
 use Rattle.wasmi_core.proofs.CopyLemmas.{set_read}
+use Rattle.wasmi_core.specs.State.{live_at, live_value}
+use Rattle.wasmi_core.specs.Totals.{slot_count}
+use Rattle.wasmi_core.specs.declared.slots.Slot.{Slot}
+use Rattle.wasmi_core.specs.declared.slots.Slot.TheVariants.{Gone, Live}
+use Rattle.wasmi_meter.specs.declared.limiter.Kind.{Kind}
+use Rattle.wasmi_meter.specs.declared.limiter.Kind.TheVariants.{Bytes, Elements}
 
 module _ {X : Type 0} (count : X → ℕ) where
   -- a list of slots at the index of something live
@@ -37,3 +39,8 @@ sum_set xs k current desired found =
 
 pub sum_push : (xs : List ℕ) (desired : ℕ) → sum (xs ++ desired ∷ []) ≡ sum xs + desired
 sum_push xs desired = sum_by_push (λ x. x) xs desired
+
+-- what holds of bytes and of elements holds of each kind
+pub each_kind : (P : Kind → Type 0) → P Bytes → P Elements → (kind : Kind) → P kind
+each_kind P bytes elements Bytes = bytes
+each_kind P bytes elements Elements = elements

@@ -1,43 +1,44 @@
 -- What each turn writes, and what it is charged for that.
-use Rattle.std.proofs.Common.{◌≡◌, ◌⊎◌, ℕ, ◌+◌, ◌-◌, ◌*◌, ◌/◌, ◌^◌, ◌<◌, ◌≤◌, Bool, true, false, Option, Some, None, Result, Ok, Err, List, [], ◌∷◌, refl, ap, subst, ◌∙◌, arith, inl, inr}
-use Rattle.std.proofs.Math.Nat.{lt-div-mul-add, add-mul, mul-add, mul_comm, mul-le-mul_left}
+use Rattle.std.proofs.Common.{Bool, Err, List, None, Ok, Option, Result, Some, [], ap, arith, false, inl, inr, refl, subst, true, ℕ, ◌*◌, ◌+◌, ◌-◌, ◌/◌, ◌<◌, ◌^◌, ◌∙◌, ◌∷◌, ◌≡◌, ◌≤◌, ◌⊎◌}
+use Rattle.std.proofs.Math.Nat.{add-mul, lt-div-mul-add, mul-add, mul-le-mul_left, mul_comm}
 use Rattle.std.proofs.lemmas.Bool.{and_parts}
 use Rattle.std.proofs.lemmas.Bool.Decides.{nat_tests}
 use Rattle.std.proofs.lemmas.List.Sums.{sum_by-cons}
 use Rattle.std.proofs.lemmas.Option.{same_Some}
-use Rattle.std.specs.Prelude.{nat_eq, nat_le, nat_lt, is_some, cond, ◌&&◌, if◌then◌else◌}
 use Rattle.std.specs.Option.{option_map, option_map_or}
-use Rattle.wasmi_meter.specs.declared.error.MemoryError.{MemoryError}
-use Rattle.wasmi_meter.specs.declared.error.TableError.{TableError}
-use Rattle.wasmi_meter.specs.declared.fuel.CustomFuelCosts.{CustomFuelCosts}
-use Rattle.wasmi_meter.specs.Costs.{copy_cost, cut_product}
-use Rattle.wasmi_meter.specs.Limiter.{Rules}
-use Rattle.wasmi_meter.specs.Meter.{Meter, meter_after, meter_set, due}
-use Rattle.wasmi_meter.specs.Attempt.{Situation, Fate, Unasked, Denied, Met, Failed, MayEnd, charge_of, answer_of, amount_due}
-use Rattle.wasmi_typed.specs.declared.typed_ref.TypedRawRef.{TypedRawRef}
-use Rattle.wasmi_store.specs.Growth.{Growth, Grows}
-use Rattle.wasmi_store.specs.MemoryType.{page_bytes, greatest_pages, in_bounds}
-use Rattle.wasmi_store.specs.Memory.{MemoryValue, pages_of, GrowsMemory}
-use Rattle.wasmi_store.specs.Memory as memory
-use Rattle.wasmi_store.specs.Table.{TableValue, TableWrite, size_of, element_price, initialization_of, GrowsTable, WritesTable, EndsBy, due_for}
-use Rattle.wasmi_store.specs.Table as table
-use Rattle.wasmi_store.specs.TableType.{same_type}
+use Rattle.std.specs.Prelude.{cond, if◌then◌else◌, is_some, nat_eq, nat_le, nat_lt, ◌&&◌}
+use Rattle.wasmi_core.proofs.AccountLemmas.{Takes, grows_takes, write_takes}
+use Rattle.wasmi_core.proofs.RowLemmas.{both_live, on_live, on_live_too}
+use Rattle.wasmi_core.proofs.StepsLemmas.{change_facts, source_writes}
+use Rattle.wasmi_core.specs.MemoryRows.{bytes_appended}
+use Rattle.wasmi_core.specs.Rows.{ActsAt, OnLive, reply_of}
+use Rattle.wasmi_core.specs.Runs.{Run}
+use Rattle.wasmi_core.specs.State.{State, live_at}
+use Rattle.wasmi_core.specs.Steps.{Changed, Effect, FuelSet, MemoryGrown, PartWritten, TableGrown, TakesEffect, effect_of}
+use Rattle.wasmi_core.specs.TableRows.{WritesTableAt, WritesTableFrom, element_bytes, metered, write_of}
+use Rattle.wasmi_core.specs.World.{Turn, World}
+use Rattle.wasmi_core.specs.Writing.{IsBounded, amount_set, amounts_set, bytes_written, charges_for_writing, has_written, is_accepted, is_charged, writing_turns}
 use Rattle.wasmi_core.specs.declared.calls.Call.{Call}
 use Rattle.wasmi_core.specs.declared.calls.Call.TheVariants.{SetFuel}
 use Rattle.wasmi_core.specs.declared.calls.Reply.{Reply}
-use Rattle.wasmi_core.specs.declared.calls.Reply.TheVariants as replied
 use Rattle.wasmi_core.specs.declared.slots.Slot.{Slot}
-use Rattle.wasmi_core.specs.State.{State, live_at}
-use Rattle.wasmi_core.specs.World.{World, Turn}
-use Rattle.wasmi_core.specs.Rows.{reply_of, ActsAt}
-use Rattle.wasmi_core.specs.MemoryRows.{bytes_appended}
-use Rattle.wasmi_core.specs.TableRows.{metered, WritesTableAt, WritesTableFrom, filling, copy_from, initialization_from, element_bytes}
-use Rattle.wasmi_core.specs.Steps.{Effect, FuelSet, Told, BytesRead, MemoryMade, LentMemoryMade, MemoryGrown, TableMade, TableGrown, PartInitialized, PartCopied, PartFilled, effect_of, TakesEffect}
-use Rattle.wasmi_core.specs.Runs.{Run}
-use Rattle.wasmi_core.specs.Writing.{is_charged, is_accepted, has_written, amount_set, writing_turns, charges_for_writing, bytes_written, amounts_set, IsBounded}
+use Rattle.wasmi_meter.specs.Attempt.{Denied, Failed, Fate, MayEnd, Met, Situation, Unasked, amount_due, answer_of, charge_of}
+use Rattle.wasmi_meter.specs.Costs.{copy_cost, cut_product}
+use Rattle.wasmi_meter.specs.Limiter.{Rules}
+use Rattle.wasmi_meter.specs.Meter.{Meter, due, meter_after, meter_set}
+use Rattle.wasmi_meter.specs.declared.error.MemoryError.{MemoryError}
+use Rattle.wasmi_meter.specs.declared.error.TableError.{TableError}
+use Rattle.wasmi_meter.specs.declared.fuel.CustomFuelCosts.{CustomFuelCosts}
 use Rattle.wasmi_store.proofs.GrowthLemmas.{on_test}
-use Rattle.wasmi_core.proofs.RowLemmas.{on_live}
-use Rattle.wasmi_core.proofs.AccountLemmas.{Takes, grows_takes, write_takes}
+use Rattle.wasmi_store.specs.Growth.{Grows, Growth}
+use Rattle.wasmi_store.specs.Memory.{GrowsMemory, MemoryValue, pages_of}
+use Rattle.wasmi_store.specs.MemoryType.{greatest_pages, in_bounds, page_bytes}
+use Rattle.wasmi_store.specs.Table.{EndsBy, GrowsTable, TableValue, TableWrite, WritesTable, due_for, element_price, size_of}
+use Rattle.wasmi_store.specs.TableType.{same_type}
+use Rattle.wasmi_typed.specs.declared.typed_ref.TypedRawRef.{TypedRawRef}
+use Rattle.wasmi_store.specs.Memory as memory
+use Rattle.wasmi_core.specs.declared.calls.Reply.TheVariants as replied
+use Rattle.wasmi_store.specs.Table as table
 
 -- the bytes that a fuel pays for
 abbrev rate : Meter → ℕ
@@ -208,17 +209,12 @@ module _ (k : ℕ) where
       (λ missing. rw missing.0 (idles m m' charge _ refl (same_Some m' m (ap (λ (s : Situation (List (Slot TableValue)) (Unit {0})). s.meter) missing.2))))
       (λ x found a. rw a.3 (write_result (write x) x len (paid x) m charge a.1 m' a.0 a.2))
 
-table_copy_writes : {X : Type 0} (source : Option X) (k : ℕ) (write : X → TableValue → TableWrite) (len : ℕ) (slots : List (Slot TableValue)) (m : Meter) (reply : Reply) (charge : ℕ) (slots' : List (Slot TableValue)) (m' : Meter) → ((y : X) (x : TableValue) → ((write y x).paid ≡ Some len) ⊎ (len ≡ 0))
+table_copy_writes : {X : Type 0} (source : Option X) (k : ℕ) (write : X → TableValue → TableWrite) (len : ℕ) (slots : List (Slot TableValue)) (m : Meter) (reply : Reply) (charge : ℕ) (slots' : List (Slot TableValue)) (m' : Meter) → OnLive source (Unit {0}) (λ y. (x : TableValue) → ((write y x).paid ≡ Some len) ⊎ (len ≡ 0))
     → WritesTableFrom source k write (metered slots m) reply charge (metered slots' m') → Wrote m charge (element_bytes len reply) (is_accepted reply) 0 m'
 table_copy_writes source k write len slots m reply charge slots' m' paid writes =
-    on_live source _ _ writes
-    (λ missing. rw missing.0 (idles m m' charge _ refl (same_Some m' m (ap (λ (s : Situation (List (Slot TableValue)) (Unit {0})). s.meter) missing.2))))
-    (λ y found h. table_write_writes k (write y) len slots m reply charge slots' m' (paid y) h)
-
--- an initialization by no item is free
-init_pays : (len : ℕ) (none : Bool) → nat_eq len 0 ≡ none → ((if none then None else Some len) ≡ Some len) ⊎ (len ≡ 0)
-init_pays len true is = inr (grind (arith, nat_tests, is))
-init_pays len false is = inl refl
+    on_live source _ _ (both_live source _ _ _ _ paid writes)
+    (λ missing. rw missing.1.0 (idles m m' charge _ refl (same_Some m' m (ap (λ (s : Situation (List (Slot TableValue)) (Unit {0})). s.meter) missing.1.2))))
+    (λ y found h. table_write_writes k (write y) len slots m reply charge slots' m' h.0 h.1)
 
 module _ {S : Type 0} (w : World S) (turn : Turn) (w' : World S) where
   -- the turn ends in this world
@@ -232,9 +228,7 @@ module _ {S : Type 0} (w : World S) (turn : Turn) (w' : World S) where
 abbrev is_charged_effect : Effect → Bool
 is_charged_effect (MemoryGrown k pages) = true
 is_charged_effect (TableGrown k n init) = true
-is_charged_effect (PartInitialized k segment dst src len) = true
-is_charged_effect (PartCopied k source dst src len) = true
-is_charged_effect (PartFilled k dst value len) = true
+is_charged_effect (PartWritten k source dst len) = true
 is_charged_effect effect = false
 
 abbrev amount_set_by : Effect → ℕ
@@ -247,18 +241,17 @@ same_charges s call = (refl, refl)
 
 module _ {S : Type 0} (rules : Rules S) (w : World S) (turn : Turn) (w' : World S) where
   effect_writes : (effect : Effect) → TakesEffect rules effect w turn w' → Wrote w.state.meter turn.charge turn.written (is_charged_effect effect && is_accepted turn.reply) (amount_set_by effect) w'.state.meter
-  effect_writes (FuelSet fuel) step = sets fuel w.state.meter w'.state.meter turn.charge turn.written step.0.1 (ap (λ (v : World S). v.state.meter) step.3 ∙ ap (λ (s : State). s.meter) step.2.1)
-  effect_writes (Told told) step = idle w turn w' step.2 step.0.1 refl
-  effect_writes (BytesRead k offset len) step = idle w turn w' step.2 step.0.1 refl
-  effect_writes (MemoryMade ty) step = idle w turn w' step.4 step.0.1 refl
-  effect_writes (LentMemoryMade ty) step = idle w turn w' step.4 step.0.1 refl
-  effect_writes (MemoryGrown k pages) step = writes_as w turn w' step.5 step.4 (memory_growth_writes rules k pages w.state.memories w.state.meter w.limiter turn.reply turn.charge step.0 step.1 step.2 step.3)
-  effect_writes (TableMade ty init) step = idle w turn w' step.4 step.0.1 refl
-  effect_writes (TableGrown k n init) step = writes_as w turn w' step.5 step.4 (table_growth_writes rules k n init w.state.tables w.state.meter w.limiter turn.reply turn.charge step.0 step.1 step.2 step.3)
-  effect_writes (PartInitialized k segment dst src len) step = writes_as w turn w' step.4 step.3 (table_copy_writes segment k (initialization_from dst src len) len w.state.tables w.state.meter turn.reply turn.charge step.0 step.1 (λ y x. init_pays len _ refl) step.2)
-  effect_writes (PartCopied k source dst src len) step = writes_as w turn w' step.4 step.3 (table_copy_writes source k (copy_from dst src len) len w.state.tables w.state.meter turn.reply turn.charge step.0 step.1 (λ y x. inl refl) step.2)
-  effect_writes (PartFilled k dst value len) step = writes_as w turn w' step.4 step.3 (table_write_writes k (filling dst value len) len w.state.tables w.state.meter turn.reply turn.charge step.0 step.1 (λ x. inl refl) step.2)
-  effect_writes effect step = idle w turn w' step.3 step.0.1 refl
+  effect_writes (FuelSet fuel) step =
+      sets fuel w.state.meter w'.state.meter turn.charge turn.written step.free.1 (ap (λ (v : World S). v.state.meter) step.after ∙ ap (λ (s : State). s.meter) step.row.1)
+  effect_writes (Changed change) step = idle w turn w' step.after step.free.1 ((change_facts w.state change).meter turn.reply step.machine step.row)
+  effect_writes (MemoryGrown k pages) step =
+      writes_as w turn w' step.after step.wrote (memory_growth_writes rules k pages w.state.memories w.state.meter w.limiter turn.reply turn.charge step.part step.meter step.limiter step.row)
+  effect_writes (TableGrown k n init) step =
+      writes_as w turn w' step.after step.wrote (table_growth_writes rules k n init w.state.tables w.state.meter w.limiter turn.reply turn.charge step.part step.meter step.limiter step.row)
+  effect_writes (PartWritten k source dst len) step =
+      let paid = on_live_too (write_of source dst len) _ _ _ _ (λ none. tt) (λ write is x. (is x).1) (source_writes source dst len) in
+      writes_as w turn w' step.after step.wrote (table_copy_writes (write_of source dst len) k (λ write. write) len w.state.tables w.state.meter turn.reply turn.charge step.part step.meter paid step.row)
+  effect_writes effect step = idle w turn w' step.after step.free.1 refl
 
 -- a run, by what is left at its start
 module _ {S : Type 0} (rules : Rules S) where

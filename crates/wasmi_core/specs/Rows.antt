@@ -56,27 +56,47 @@ ActsAt k reply_to Acts s reply charge s' = OnLive (live_at s.value k) (IsNoSuch 
     (λ x. (result : _) × (x' : _) × Acts (with_value s x) result charge (with_value s' x')
     × (reply ≡ reply_to result) × (s'.value ≡ slice_set s.value k (Live x')))
 
+-- one part of the state has changed
+pub record ChangesPart {A : Type 0} (with_part : A → State) (Row : Reply → A → Type 0) (reply : Reply) (s' : State) : Type 0 where
+  pub part : A
+  pub row : Row reply part
+  pub after : s' ≡ with_part part
+
 module _ {S : Type 0} (w : World S) (turn : Turn) (w' : World S) where
   -- a turn that changes nothing but what its reply tells
-  abbrev pub OnlyReplies : (Reply → Type 0) → Type 0
-  OnlyReplies Row = IsFree turn × Row turn.reply × (w' ≡ w)
+  pub record OnlyReplies (Row : Reply → Type 0) : Type 0 where
+    pub free : IsFree turn
+    pub row : Row turn.reply
+    pub after : w' ≡ w
 
-  -- a turn that changes one part of the state
-  abbrev pub Changes : {A : Type 0} → (A → State) → (Reply → A → Type 0) → Type 0
-  Changes with_part Row = IsFree turn × (part : _) × Row turn.reply part × (w' ≡ record w { state = with_part part })
+  -- a turn that changes the state, without a charge and without the limiter
+  pub record Changes (Row : Reply → State → Type 0) : Type 0 where
+    pub free : IsFree turn
+    pub machine : State
+    pub row : Row turn.reply machine
+    pub after : w' ≡ record w { state = machine }
 
   -- a turn that makes something under the limiter, without a charge
-  abbrev pub Asks : {A : Type 0} → (A → State) → (S → Reply → A → S → Type 0) → Type 0
-  Asks with_part Row = IsFree turn × (part : _) × (l : S) × Row w.limiter turn.reply part l × (w' ≡ record { state = with_part part; limiter = l })
+  pub record Asks {A : Type 0} (with_part : A → State) (Row : S → Reply → A → S → Type 0) : Type 0 where
+    pub free : IsFree turn
+    pub part : A
+    pub limiter : S
+    pub row : Row w.limiter turn.reply part limiter
+    pub after : w' ≡ record { state = with_part part; limiter = limiter }
 
   -- a turn that acts on one part of the state, with a charge, and with the bytes that it has written by its reply
-  abbrev pub Pays : {A : Type 0} → A → (A → State) → (Situation A S → Reply → ℕ → Situation A S → Type 0) → (Reply → ℕ) → Type 0
-  Pays part with_part Row written = (part' : _) × (m : Meter) × (l : S)
-      × Row (record { value = part; meter = Some w.state.meter; limiter = w.limiter }) turn.reply turn.charge (record { value = part'; meter = Some m; limiter = l })
-      × (turn.written ≡ written turn.reply) × (w' ≡ record { state = record (with_part part') { meter = m }; limiter = l })
+  pub record Pays {A : Type 0} (old : A) (with_part : A → State) (Row : Situation A S → Reply → ℕ → Situation A S → Type 0) (bytes : Reply → ℕ) : Type 0 where
+    pub part : A
+    pub meter : Meter
+    pub limiter : S
+    pub row : Row (record { value = old; meter = Some w.state.meter; limiter = w.limiter }) turn.reply turn.charge (record { value = part; meter = Some meter; limiter = limiter })
+    pub wrote : turn.written ≡ bytes turn.reply
+    pub after : w' ≡ record { state = record (with_part part) { meter = meter }; limiter = limiter }
 
   -- the same where the limiter is not reached
-  abbrev pub PaysUnasked : {A : Type 0} → A → (A → State) → (Situation A (Unit {0}) → Reply → ℕ → Situation A (Unit {0}) → Type 0) → (Reply → ℕ) → Type 0
-  PaysUnasked part with_part Row written = (part' : _) × (m : Meter)
-      × Row (record { value = part; meter = Some w.state.meter; limiter = tt }) turn.reply turn.charge (record { value = part'; meter = Some m; limiter = tt })
-      × (turn.written ≡ written turn.reply) × (w' ≡ record w { state = record (with_part part') { meter = m } })
+  pub record PaysUnasked {A : Type 0} (old : A) (with_part : A → State) (Row : Situation A (Unit {0}) → Reply → ℕ → Situation A (Unit {0}) → Type 0) (bytes : Reply → ℕ) : Type 0 where
+    pub part : A
+    pub meter : Meter
+    pub row : Row (record { value = old; meter = Some w.state.meter; limiter = tt }) turn.reply turn.charge (record { value = part; meter = Some meter; limiter = tt })
+    pub wrote : turn.written ≡ bytes turn.reply
+    pub after : w' ≡ record w { state = record (with_part part) { meter = meter } }

@@ -21,21 +21,20 @@ use Rattle.wasmi_meter.specs.Limiter.{Rules}
 use Rattle.wasmi_store.specs.Buffer.{Owned}
 use Rattle.wasmi_store.specs.MemoryType.{MemoryTypeValue}
 use Rattle.wasmi_store.specs.Memory.{MakesMemory, GrowsMemory}
-use Rattle.wasmi_store.specs.Segment.{SegmentValue}
 use Rattle.wasmi_store.specs.TableType.{TableTypeValue}
-use Rattle.wasmi_store.specs.Table.{TableValue, size_of, MakesTable, GrowsTable}
+use Rattle.wasmi_store.specs.Table.{size_of, MakesTable, GrowsTable}
 use Rattle.wasmi_core.specs.declared.calls.Call.{Call}
 use Rattle.wasmi_core.specs.declared.calls.Call.TheVariants.{SetFuel, GetFuel, NewMemory, NewLentMemory, GrowMemory, DropMemory, Read, Write, Load, Store, NewTable, GrowTable, DropTable, GetElement, SetElement, InitTable, CopyTable, FillTable, NewSegment, DropItems, NewGlobal, SetGlobal, GetGlobal, SetRegister, GetRegister, Make, Unary, Binary, Ternary, Shift, Test, Extract, Replace, Shuffle, VectorLoad, LoadLane, VectorStore, StoreLane}
 use Rattle.wasmi_core.specs.declared.calls.Reply.{Reply}
 use Rattle.wasmi_core.specs.declared.calls.Reply.TheVariants as reply
 use Rattle.wasmi_core.specs.World.{World, Turn, world}
 use Rattle.wasmi_core.specs.State.{State, live_at, with_memories, memory_part, with_memory_part, with_tables, with_segments, with_globals, with_registers}
-use Rattle.wasmi_core.specs.Rows.{reply_of, Creates, DropsAt, ActsAt, OnlyReplies, Changes, Asks, Pays, PaysUnasked}
+use Rattle.wasmi_core.specs.Rows.{reply_of, Creates, DropsAt, ActsAt, ChangesPart, OnlyReplies, Changes, Asks, Pays, PaysUnasked}
 use Rattle.wasmi_core.specs.Totals.{byte_count}
 use Rattle.wasmi_core.specs.AccessOps.{stored_bytes}
 use Rattle.wasmi_core.specs.FuelRows.{SetsFuel, get_fuel_reply}
 use Rattle.wasmi_core.specs.MemoryRows.{bytes_appended, CreatesLent, ReadsMemoryAt, WritesMemoryAt, load_reply}
-use Rattle.wasmi_core.specs.TableRows.{element_reply, SetsElementAt, WritesTableAt, WritesTableFrom, filling, copy_from, initialization_from, element_bytes}
+use Rattle.wasmi_core.specs.TableRows.{Source, OfReference, OfTable, OfSegment, element_reply, SetsElementAt, write_of, WritesPartAt, element_bytes}
 use Rattle.wasmi_core.specs.RegisterRows.{TakesRegister, StoresVectorAt, given_vector, of_one, of_two, of_three, vector_loaded, lane_loaded, raw_reply, vector_at}
 use Rattle.wasmi_core.specs.ValueRows.{CreatesSegment, DropsItemsAt, CreatesGlobal, SetsGlobalAt, global_reply}
 
@@ -88,29 +87,31 @@ subject_of (LoadLane op dst a k ptr offset) = Vectors
 subject_of (VectorStore a k ptr offset) = Vectors
 subject_of (StoreLane op a k ptr offset) = Vectors
 
--- what a call does, once its operands are read: all calls that set a register have one kind of effect, and all that only reply what is known
+-- what changes one part of the state, but for the meter: nothing is charged, and the limiter isn't reached
+pub data Change : Type 0 where
+  BytesWritten : ℕ → ℕ → List ℕ → Change
+  BytesStored : ℕ → ℕ → Option (List ℕ) → Change
+  RegisterSet : ℕ → Option (Result RawVal TrapCode) → Change
+  MemoryDropped : ℕ → Change
+  TableDropped : ℕ → Change
+  ElementSet : ℕ → ℕ → TypedRawRef → Change
+  SegmentMade : RefType → List ℕ → Change
+  ItemsDropped : ℕ → Change
+  GlobalMade : GlobalInstance → Change
+  GlobalSet : ℕ → TypedRawVal → Change
+
+-- what a call does, once its operands are read: all calls that only reply what is known have one kind of effect, all that change one part alone another, and all that write over a part of a table a third
 pub data Effect : Type 0 where
-  FuelSet : ℕ → Effect
   Told : Reply → Effect
   BytesRead : ℕ → ℕ → ℕ → Effect
-  BytesWritten : ℕ → ℕ → List ℕ → Effect
-  BytesStored : ℕ → ℕ → Option (List ℕ) → Effect
-  RegisterSet : ℕ → Option (Result RawVal TrapCode) → Effect
+  FuelSet : ℕ → Effect
+  Changed : Change → Effect
   MemoryMade : MemoryTypeValue → Effect
   LentMemoryMade : MemoryTypeValue → Effect
   MemoryGrown : ℕ → ℕ → Effect
-  MemoryDropped : ℕ → Effect
   TableMade : TableTypeValue → TypedRawRef → Effect
   TableGrown : ℕ → ℕ → TypedRawRef → Effect
-  TableDropped : ℕ → Effect
-  ElementSet : ℕ → ℕ → TypedRawRef → Effect
-  PartInitialized : ℕ → Option SegmentValue → ℕ → ℕ → ℕ → Effect
-  PartCopied : ℕ → Option TableValue → ℕ → ℕ → ℕ → Effect
-  PartFilled : ℕ → ℕ → TypedRawRef → ℕ → Effect
-  SegmentMade : RefType → List ℕ → Effect
-  ItemsDropped : ℕ → Effect
-  GlobalMade : GlobalInstance → Effect
-  GlobalSet : ℕ → TypedRawVal → Effect
+  PartWritten : ℕ → Source → ℕ → ℕ → Effect
 
 -- the effect of a call on a machine in this state: a line for each call
 abbrev pub effect_of : State → Call → Effect
@@ -119,70 +120,73 @@ effect_of s GetFuel = Told (get_fuel_reply s.meter)
 effect_of s (NewMemory ty) = MemoryMade ty
 effect_of s (NewLentMemory ty) = LentMemoryMade ty
 effect_of s (GrowMemory k pages) = MemoryGrown k pages
-effect_of s (DropMemory k) = MemoryDropped k
+effect_of s (DropMemory k) = Changed (MemoryDropped k)
 effect_of s (Read k offset len) = BytesRead k offset len
-effect_of s (Write k offset bytes) = BytesWritten k offset bytes.items
+effect_of s (Write k offset bytes) = Changed (BytesWritten k offset bytes.items)
 effect_of s (Load op k ptr offset) = Told (load_reply op (ptr + offset) (live_at s.memories k))
-effect_of s (Store op k ptr offset value) = BytesStored k (ptr + offset) (Some (stored_bytes op value))
+effect_of s (Store op k ptr offset value) = Changed (BytesStored k (ptr + offset) (Some (stored_bytes op value)))
 effect_of s (NewTable ty init) = TableMade ty init
 effect_of s (GrowTable k n init) = TableGrown k n init
-effect_of s (DropTable k) = TableDropped k
+effect_of s (DropTable k) = Changed (TableDropped k)
 effect_of s (GetElement k index) = Told (element_reply index (live_at s.tables k))
-effect_of s (SetElement k index value) = ElementSet k index value
-effect_of s (InitTable k j dst src len) = PartInitialized k (slice_get s.segments j) dst src len
-effect_of s (CopyTable k dst j src len) = PartCopied k (live_at s.tables j) dst src len
-effect_of s (FillTable k dst value len) = PartFilled k dst value len
-effect_of s (NewSegment ty items) = SegmentMade ty items.items
-effect_of s (DropItems k) = ItemsDropped k
-effect_of s (NewGlobal value ty) = GlobalMade (record { value = value; ty = ty })
-effect_of s (SetGlobal k value) = GlobalSet k value
+effect_of s (SetElement k index value) = Changed (ElementSet k index value)
+effect_of s (InitTable k j dst src len) = PartWritten k (OfSegment (slice_get s.segments j) src) dst len
+effect_of s (CopyTable k dst j src len) = PartWritten k (OfTable (live_at s.tables j) src) dst len
+effect_of s (FillTable k dst value len) = PartWritten k (OfReference value) dst len
+effect_of s (NewSegment ty items) = Changed (SegmentMade ty items.items)
+effect_of s (DropItems k) = Changed (ItemsDropped k)
+effect_of s (NewGlobal value ty) = Changed (GlobalMade (record { value = value; ty = ty }))
+effect_of s (SetGlobal k value) = Changed (GlobalSet k value)
 effect_of s (GetGlobal k) = Told (global_reply (slice_get s.globals k))
-effect_of s (SetRegister dst value) = RegisterSet dst (Some (Ok value))
+effect_of s (SetRegister dst value) = Changed (RegisterSet dst (Some (Ok value)))
 effect_of s (GetRegister a) = Told (raw_reply (slice_get s.registers a))
-effect_of s (Make op dst a) = RegisterSet dst (option_map (λ raw. given_vector (made_vector op raw)) (slice_get s.registers a))
-effect_of s (Unary op dst a) = RegisterSet dst (of_one (unary_vector op) (vector_at s.registers a))
-effect_of s (Binary op dst a b) = RegisterSet dst (of_two (binary_vector op) (vector_at s.registers a) (vector_at s.registers b))
+effect_of s (Make op dst a) = Changed (RegisterSet dst (option_map (λ raw. given_vector (made_vector op raw)) (slice_get s.registers a)))
+effect_of s (Unary op dst a) = Changed (RegisterSet dst (of_one (unary_vector op) (vector_at s.registers a)))
+effect_of s (Binary op dst a b) = Changed (RegisterSet dst (of_two (binary_vector op) (vector_at s.registers a) (vector_at s.registers b)))
 effect_of s (Ternary op dst a b c) =
-    RegisterSet dst (of_three (ternary_vector op) (vector_at s.registers a) (vector_at s.registers b) (vector_at s.registers c))
-effect_of s (Shift op dst a amount) = RegisterSet dst (of_one (λ v. shifted_vector op v amount) (vector_at s.registers a))
+    Changed (RegisterSet dst (of_three (ternary_vector op) (vector_at s.registers a) (vector_at s.registers b) (vector_at s.registers c)))
+effect_of s (Shift op dst a amount) = Changed (RegisterSet dst (of_one (λ v. shifted_vector op v amount) (vector_at s.registers a)))
 effect_of s (Test op a) = Told (raw_reply (option_map (tested_raw op) (vector_at s.registers a)))
 effect_of s (Extract op a) = Told (raw_reply (option_map (extracted_raw op) (vector_at s.registers a)))
 effect_of s (Replace op dst a item) =
-    RegisterSet dst (option_and_then (λ raw. of_one (λ v. replaced_vector op v raw) (vector_at s.registers a)) (slice_get s.registers item))
-effect_of s (Shuffle dst a b lanes) = RegisterSet dst (of_two (λ x y. shuffle x y lanes) (vector_at s.registers a) (vector_at s.registers b))
-effect_of s (VectorLoad op dst k ptr offset) = RegisterSet dst (vector_loaded op (ptr + offset) (live_at s.memories k))
-effect_of s (LoadLane op dst a k ptr offset) = RegisterSet dst (lane_loaded op (ptr + offset) (vector_at s.registers a) (live_at s.memories k))
-effect_of s (VectorStore a k ptr offset) = BytesStored k (ptr + offset) (option_map (le_bytes 16) (vector_at s.registers a))
-effect_of s (StoreLane op a k ptr offset) = BytesStored k (ptr + offset) (option_map (stored_lane op) (vector_at s.registers a))
+    Changed (RegisterSet dst (option_and_then (λ raw. of_one (λ v. replaced_vector op v raw) (vector_at s.registers a)) (slice_get s.registers item)))
+effect_of s (Shuffle dst a b lanes) = Changed (RegisterSet dst (of_two (λ x y. shuffle x y lanes) (vector_at s.registers a) (vector_at s.registers b)))
+effect_of s (VectorLoad op dst k ptr offset) = Changed (RegisterSet dst (vector_loaded op (ptr + offset) (live_at s.memories k)))
+effect_of s (LoadLane op dst a k ptr offset) = Changed (RegisterSet dst (lane_loaded op (ptr + offset) (vector_at s.registers a) (live_at s.memories k)))
+effect_of s (VectorStore a k ptr offset) = Changed (BytesStored k (ptr + offset) (option_map (le_bytes 16) (vector_at s.registers a)))
+effect_of s (StoreLane op a k ptr offset) = Changed (BytesStored k (ptr + offset) (option_map (stored_lane op) (vector_at s.registers a)))
+
+-- one part of the state changes: a line for each kind
+abbrev pub TakesChange : Change → State → Reply → State → Type 0
+TakesChange (BytesWritten k offset bytes) s = ChangesPart (with_memories s) (WritesMemoryAt k offset bytes s.memories)
+TakesChange (BytesStored k a stored) s = ChangesPart (with_memories s) (StoresVectorAt k a stored s.memories)
+TakesChange (RegisterSet dst given) s = ChangesPart (with_registers s) (TakesRegister dst given s.registers)
+TakesChange (MemoryDropped k) s = ChangesPart (with_memories s) (DropsAt byte_count k s.memories)
+TakesChange (TableDropped k) s = ChangesPart (with_tables s) (DropsAt size_of k s.tables)
+TakesChange (ElementSet k index value) s = ChangesPart (with_tables s) (SetsElementAt k index value s.tables)
+TakesChange (SegmentMade ty items) s = ChangesPart (with_segments s) (CreatesSegment ty items s.segments)
+TakesChange (ItemsDropped k) s = ChangesPart (with_segments s) (DropsItemsAt k s.segments)
+TakesChange (GlobalMade global) s = ChangesPart (with_globals s) (CreatesGlobal global s.globals)
+TakesChange (GlobalSet k value) s = ChangesPart (with_globals s) (SetsGlobalAt k value s.globals)
 
 -- an effect takes place from one world to the next: a line for each kind
 abbrev pub TakesEffect : {S : Type 0} → Rules S → Effect → World S → Turn → World S → Type 0
-TakesEffect rules (FuelSet fuel) w turn w' = Changes w turn w' (λ s. s) (SetsFuel fuel w.state)
 TakesEffect rules (Told told) w turn w' = OnlyReplies w turn w' (λ answer. answer ≡ told)
 TakesEffect rules (BytesRead k offset len) w turn w' = OnlyReplies w turn w' (ReadsMemoryAt k offset len w.state.memories)
-TakesEffect rules (BytesWritten k offset bytes) w turn w' = Changes w turn w' (with_memories w.state) (WritesMemoryAt k offset bytes w.state.memories)
-TakesEffect rules (BytesStored k a stored) w turn w' = Changes w turn w' (with_memories w.state) (StoresVectorAt k a stored w.state.memories)
-TakesEffect rules (RegisterSet dst given) w turn w' = Changes w turn w' (with_registers w.state) (TakesRegister dst given w.state.registers)
-TakesEffect rules (MemoryMade ty) w turn w' = Asks w turn w' (with_memories w.state) (Creates reply.Memory (MakesMemory rules Owned ty) w.state.memories)
+TakesEffect rules (FuelSet fuel) w turn w' = Changes w turn w' (SetsFuel fuel w.state)
+TakesEffect rules (Changed change) w turn w' = Changes w turn w' (TakesChange change w.state)
+TakesEffect rules (MemoryMade ty) w turn w' =
+    Asks w turn w' (with_memories w.state) (Creates reply.Memory (MakesMemory rules Owned ty) w.state.memories)
 TakesEffect rules (LentMemoryMade ty) w turn w' = Asks w turn w' (with_memory_part w.state) (CreatesLent rules ty (memory_part w.state))
 TakesEffect rules (MemoryGrown k pages) w turn w' =
-    Pays w turn w' w.state.memories (with_memories w.state) (ActsAt k (reply_of reply.Number reply.Memory) (GrowsMemory rules pages)) (bytes_appended (live_at w.state.memories k) pages)
-TakesEffect rules (MemoryDropped k) w turn w' = Changes w turn w' (with_memories w.state) (DropsAt byte_count k w.state.memories)
-TakesEffect rules (TableMade ty init) w turn w' = Asks w turn w' (with_tables w.state) (Creates reply.Table (MakesTable rules ty init) w.state.tables)
+    Pays w turn w' w.state.memories (with_memories w.state) (ActsAt k (reply_of reply.Number reply.Memory) (GrowsMemory rules pages))
+    (bytes_appended (live_at w.state.memories k) pages)
+TakesEffect rules (TableMade ty init) w turn w' =
+    Asks w turn w' (with_tables w.state) (Creates reply.Table (MakesTable rules ty init) w.state.tables)
 TakesEffect rules (TableGrown k n init) w turn w' =
     Pays w turn w' w.state.tables (with_tables w.state) (ActsAt k (reply_of reply.Number reply.Table) (GrowsTable rules n init)) (element_bytes n)
-TakesEffect rules (TableDropped k) w turn w' = Changes w turn w' (with_tables w.state) (DropsAt size_of k w.state.tables)
-TakesEffect rules (ElementSet k index value) w turn w' = Changes w turn w' (with_tables w.state) (SetsElementAt k index value w.state.tables)
-TakesEffect rules (PartInitialized k segment dst src len) w turn w' =
-    PaysUnasked w turn w' w.state.tables (with_tables w.state) (WritesTableFrom segment k (initialization_from dst src len)) (element_bytes len)
-TakesEffect rules (PartCopied k source dst src len) w turn w' =
-    PaysUnasked w turn w' w.state.tables (with_tables w.state) (WritesTableFrom source k (copy_from dst src len)) (element_bytes len)
-TakesEffect rules (PartFilled k dst value len) w turn w' =
-    PaysUnasked w turn w' w.state.tables (with_tables w.state) (WritesTableAt k (filling dst value len)) (element_bytes len)
-TakesEffect rules (SegmentMade ty items) w turn w' = Changes w turn w' (with_segments w.state) (CreatesSegment ty items w.state.segments)
-TakesEffect rules (ItemsDropped k) w turn w' = Changes w turn w' (with_segments w.state) (DropsItemsAt k w.state.segments)
-TakesEffect rules (GlobalMade global) w turn w' = Changes w turn w' (with_globals w.state) (CreatesGlobal global w.state.globals)
-TakesEffect rules (GlobalSet k value) w turn w' = Changes w turn w' (with_globals w.state) (SetsGlobalAt k value w.state.globals)
+TakesEffect rules (PartWritten k source dst len) w turn w' =
+    PaysUnasked w turn w' w.state.tables (with_tables w.state) (WritesPartAt k (write_of source dst len)) (element_bytes len)
 
 -- a step from one world to the next: the effect of the turn's call takes place
 abbrev pub Step : {S : Type 0} → Rules S → World S → Turn → World S → Type 0

@@ -1,6 +1,6 @@
 -- The calls on tables: what each does to the list of slots.
 use Rattle.std.specs.Prelude.{◌≡◌, ℕ, Option, Some, None, Result, List}
-use Rattle.std.specs.Option.{option_map_or}
+use Rattle.std.specs.Option.{option_map, option_map_or}
 use Rattle.wasmi_typed.specs.declared.typed_ref.TypedRawRef.{TypedRawRef}
 use Rattle.wasmi_meter.specs.declared.error.TableError.{TableError}
 use Rattle.wasmi_meter.specs.Costs.{cut_product}
@@ -60,6 +60,22 @@ copy_from dst src len source x = typed_by x source.ty.element (copy_of x dst sou
 
 abbrev pub initialization_from : ℕ → ℕ → ℕ → SegmentValue → TableValue → TableWrite
 initialization_from dst src len segment x = typed_by x segment.ty (initialization_of x dst segment.items src len)
+
+-- what a part of a table is written over with: a reference, elements of a table, or items of an element segment, from a place on, if it is there
+pub data Source : Type 0 where
+  OfReference : TypedRawRef → Source
+  OfTable : Option TableValue → ℕ → Source
+  OfSegment : Option SegmentValue → ℕ → Source
+
+-- what so many of them write over a table from a place on, if they are there
+abbrev pub write_of : Source → ℕ → ℕ → Option (TableValue → TableWrite)
+write_of (OfReference value) dst len = Some (filling dst value len)
+write_of (OfTable source src) dst len = option_map (copy_from dst src len) source
+write_of (OfSegment segment src) dst len = option_map (initialization_from dst src len) segment
+
+-- a part of a table is written over by such a write, if there is one
+abbrev pub WritesPartAt : ℕ → Option (TableValue → TableWrite) → Metered → Reply → ℕ → Metered → Type 0
+WritesPartAt k write = WritesTableFrom write k (λ w. w)
 
 -- the bytes that an accepted call on so many elements has written
 abbrev pub element_bytes : ℕ → Reply → ℕ
