@@ -14,6 +14,7 @@ pub mod MemoryWordsLemmas
 pub mod TableWordsLemmas
 pub mod LengthLemmas
 pub mod TextsLemmas
+pub mod VectorNamesLemmas
 pub mod NamesLemmas
 pub mod SayingLemmas
 pub mod OneScriptLemmas

@@ -45,6 +45,7 @@ use Rattle.wasmi_script.specs.LaneNames.{NamesExtract, NamesReplace, NamesLoadLa
 use Rattle.wasmi_script.specs.MemoryWords.{NamesType}
 use Rattle.wasmi_script.specs.TableWords.{NamesTableType}
 use Rattle.wasmi_script.specs.TypeWords.{width_word, reference_word, value_word, mutability_word, WritesReference}
+use Rattle.wasmi_script.proofs.VectorNamesLemmas.{make_found, unary_found, binary_found, ternary_found, shift_found, test_found, load_found}
 use Rattle.wasmi_script.specs.VectorNames.{entry_of, NamesMake, NamesUnary, NamesBinary, NamesTernary, NamesShift, NamesTest, NamesLoad}
 
 -- the address type of a word
@@ -141,49 +142,49 @@ make_named = entry_of (map (λ row. (row.0.now, row.1)) MAKES)
 
 pub make_is : (name : List ℕ) (op : MakeOp) → NamesMake name op → make_named name ≡ Some op
 unfolding make_named NamesMake
-make_is name op names = names
+make_is name op names = ap make_named names ∙ make_found op
 
 pub unary_named : List ℕ → Option UnaryOp
 unary_named = entry_of (map (λ row. (row.0.now, row.1)) UNARIES)
 
 pub unary_is : (name : List ℕ) (op : UnaryOp) → NamesUnary name op → unary_named name ≡ Some op
 unfolding unary_named NamesUnary
-unary_is name op names = names
+unary_is name op names = ap unary_named names ∙ unary_found op
 
 pub binary_named : List ℕ → Option BinaryOp
 binary_named = entry_of (map (λ row. (row.0.now, row.1)) BINARIES)
 
 pub binary_is : (name : List ℕ) (op : BinaryOp) → NamesBinary name op → binary_named name ≡ Some op
 unfolding binary_named NamesBinary
-binary_is name op names = names
+binary_is name op names = ap binary_named names ∙ binary_found op
 
 pub ternary_named : List ℕ → Option TernaryOp
 ternary_named = entry_of (map (λ row. (row.0.now, row.1)) TERNARIES)
 
 pub ternary_is : (name : List ℕ) (op : TernaryOp) → NamesTernary name op → ternary_named name ≡ Some op
 unfolding ternary_named NamesTernary
-ternary_is name op names = names
+ternary_is name op names = ap ternary_named names ∙ ternary_found op
 
 pub shift_named : List ℕ → Option ShiftOp
 shift_named = entry_of (map (λ row. (row.0.now, row.1)) SHIFTS)
 
 pub shift_is : (name : List ℕ) (op : ShiftOp) → NamesShift name op → shift_named name ≡ Some op
 unfolding shift_named NamesShift
-shift_is name op names = names
+shift_is name op names = ap shift_named names ∙ shift_found op
 
 pub test_named : List ℕ → Option TestOp
 test_named = entry_of (map (λ row. (row.0.now, row.1)) TESTS)
 
 pub test_is : (name : List ℕ) (op : TestOp) → NamesTest name op → test_named name ≡ Some op
 unfolding test_named NamesTest
-test_is name op names = names
+test_is name op names = ap test_named names ∙ test_found op
 
 pub vector_load_named : List ℕ → Option VectorLoadOp
 vector_load_named = entry_of (map (λ row. (row.0.now, row.1)) LOADS)
 
 pub vector_load_is : (name : List ℕ) (op : VectorLoadOp) → NamesLoad name op → vector_load_named name ≡ Some op
 unfolding vector_load_named NamesLoad
-vector_load_is name op names = names
+vector_load_is name op names = ap vector_load_named names ∙ load_found op
 
 -- what two words name, the second of which is a lane's index
 module _ {A : Type 0} (rows : ℕ → List (List ℕ × A)) (name lane : List ℕ) where
