@@ -44,8 +44,12 @@ abbrev IsPaid : Meter → ℕ → Type 0
 IsPaid m charge = (left : ℕ) → m.left ≡ Some left → charge ≤ left
 
 takes_paid : (m m' : Meter) (charge : ℕ) → IsPaid m charge → Some m' ≡ Some (meter_after m charge) → Takes m charge m'
-takes_paid m m' charge paid same left on =
-    (left - charge, ap (λ (m : Meter). m.left) (same_Some m' (meter_after m charge) same) ∙ ap (option_map (λ n. n - charge)) on, omega (arith, paid left on))
+takes_paid m m' charge paid same left on = (
+  left - charge,
+  ap (λ (m : Meter). m.left) (same_Some m' (meter_after m charge) same)
+      ∙ ap (option_map (λ n. n - charge)) on,
+  omega (arith, paid left on),
+)
 
 paid_free : (m : Meter) (charge : ℕ) → charge ≡ 0 → IsPaid m charge
 paid_free m charge free left on = omega (arith, free)
@@ -55,32 +59,49 @@ paid_due m due charge enough same left on =
     let within : nat_le due left ≡ true = sym (ap (λ (o : Option ℕ). nat_le due (unwrap_or o 0)) on) ∙ enough in
     grind (arith, nat_tests, within, same)
 
-paid_if : (m : Meter) (due charge : ℕ) (tested : Bool) → (tested ≡ true → can_pay (Some m) due ≡ true) → charge ≡ (if tested then due else 0) → IsPaid m charge
+paid_if : (m : Meter) (due charge : ℕ) (tested : Bool) → (tested ≡ true → can_pay (Some m) due ≡ true)
+    → charge ≡ (if tested then due else 0) → IsPaid m charge
 paid_if m due charge true enough same = paid_due m due charge (enough refl) same
 paid_if m due charge false enough same = paid_free m charge same
 
-module _ {V E S : Type 0} (rules : Rules S) (e : Effort V E) (x : V) (m : Meter) (l : S) (charge : ℕ) (x' : V) (m' : Meter) (l' : S) where
-  attempt_paid : (fate : Fate E) → Attempt rules e (record { value = x; meter = Some m; limiter = l }) fate charge (record { value = x'; meter = Some m'; limiter = l' }) → IsPaid m charge
+module _ {V E S : Type 0} (rules : Rules S) (e : Effort V E) (x : V) (m : Meter) (l : S) (charge : ℕ) (x' : V)
+    (m' : Meter) (l' : S) where
+  attempt_paid : (fate : Fate E)
+      → Attempt rules e (record { value = x; meter = Some m; limiter = l }) fate charge
+      (record { value = x'; meter = Some m'; limiter = l' }) → IsPaid m charge
   attempt_paid (Unasked cause) attempt = paid_free m charge attempt.charged
   attempt_paid (Denied answer) attempt = paid_free m charge attempt.charged
   attempt_paid Met attempt = paid_due m _ charge attempt.may_end.2 attempt.charged
   attempt_paid (Failed cause heed) attempt =
-      paid_if m (amount_due (Some m) e.price) charge (is_none e.late && can_pay (Some m) (amount_due (Some m) e.price)) (λ both. (and_parts _ _ both).1) attempt.charged
+      paid_if m (amount_due (Some m) e.price) charge
+      (is_none e.late && can_pay (Some m) (amount_due (Some m) e.price)) (λ both. (and_parts _ _ both).1)
+      attempt.charged
 
-pub grows_takes : {V E S : Type 0} (rules : Rules S) (g : Growth V E) (x : V) (m : Meter) (l : S) (result : Result ℕ E) (charge : ℕ) (x' : V) (m' : Meter) (l' : S)
-    → Grows rules g (record { value = x; meter = Some m; limiter = l }) result charge (record { value = x'; meter = Some m'; limiter = l' }) → Takes m charge m'
-grows_takes {V = V} {S = S} rules g x m l result charge x' m' l' (inl none) = takes_nothing m m' charge none.uncharged (same_Some m' m (ap (λ (s : Situation V S). s.meter) none.same))
-grows_takes rules g x m l result charge x' m' l' (inr some) = takes_paid m m' charge (attempt_paid rules g.effort x m l charge x' m' l' some.fate some.attempt) some.attempt.meter
+pub grows_takes : {V E S : Type 0} (rules : Rules S) (g : Growth V E) (x : V) (m : Meter) (l : S)
+    (result : Result ℕ E) (charge : ℕ) (x' : V) (m' : Meter) (l' : S)
+    → Grows rules g (record { value = x; meter = Some m; limiter = l }) result charge
+    (record { value = x'; meter = Some m'; limiter = l' }) → Takes m charge m'
+grows_takes {V = V} {S = S} rules g x m l result charge x' m' l' (inl none) =
+    takes_nothing m m' charge none.uncharged (same_Some m' m (ap (λ (s : Situation V S). s.meter) none.same))
+grows_takes rules g x m l result charge x' m' l' (inr some) =
+    takes_paid m m' charge (attempt_paid rules g.effort x m l charge x' m' l' some.fate some.attempt)
+    some.attempt.meter
 
-table_grows_takes : {S : Type 0} (rules : Rules S) (n : ℕ) (init : TypedRawRef) (x : TableValue) (m : Meter) (l : S) (result : Result ℕ TableError) (charge : ℕ) (x' : TableValue) (m' : Meter) (l' : S)
-    → GrowsTable rules n init (record { value = x; meter = Some m; limiter = l }) result charge (record { value = x'; meter = Some m'; limiter = l' }) → Takes m charge m'
+table_grows_takes : {S : Type 0} (rules : Rules S) (n : ℕ) (init : TypedRawRef) (x : TableValue) (m : Meter) (l : S)
+    (result : Result ℕ TableError) (charge : ℕ) (x' : TableValue) (m' : Meter) (l' : S)
+    → GrowsTable rules n init (record { value = x; meter = Some m; limiter = l }) result charge
+    (record { value = x'; meter = Some m'; limiter = l' }) → Takes m charge m'
 table_grows_takes {S} rules n init x m l result charge x' m' l' grows =
     on_test (same_type x.ty.element init.ty) _ _ grows
-    (λ h. grows_takes rules (record { amount = n; size = size_of x; effort = table.growth_of x n init.raw }) x m l result charge x' m' l' h)
+    (λ h. grows_takes rules (record { amount = n; size = size_of x; effort = table.growth_of x n init.raw }) x m l
+    result charge x' m' l' h)
     (λ h. takes_nothing m m' charge h.1 (same_Some m' m (ap (λ (s : Situation TableValue S). s.meter) h.2)))
 
-module _ (w : TableWrite) (x : TableValue) (m : Meter) (result : Result (Unit {0}) TableError) (charge : ℕ) (x' : TableValue) where
-  ends_paid : (typed : Bool) (written : Option (List ℕ)) (payable : Bool) → can_pay (Some m) (due_for w x (Some m)) ≡ payable → EndsBy w x (Some m) typed written payable result charge x' → IsPaid m charge
+module _ (w : TableWrite) (x : TableValue) (m : Meter) (result : Result (Unit {0}) TableError) (charge : ℕ)
+    (x' : TableValue) where
+  ends_paid : (typed : Bool) (written : Option (List ℕ)) (payable : Bool)
+      → can_pay (Some m) (due_for w x (Some m)) ≡ payable → EndsBy w x (Some m) typed written payable result charge x'
+      → IsPaid m charge
   ends_paid false written payable enough ends = paid_free m charge ends.1
   ends_paid true None payable enough ends = paid_free m charge ends.1
   ends_paid true (Some elements) false enough ends = paid_free m charge ends.1
@@ -90,36 +111,55 @@ module _ (w : TableWrite) (x : TableValue) (m : Meter) (result : Result (Unit {0
   write_takes m' writes = takes_paid m m' charge (ends_paid w.typed w.written _ refl writes.ends) writes.meter
 
 -- a call on what an index names
-acts_takes : {X R S : Type 0} (Acts : Situation X S → R → ℕ → Situation X S → Type 0) (k : ℕ) (reply_to : R → Reply) (slots : List (Slot X)) (m : Meter) (l : S) (reply : Reply) (charge : ℕ) (slots' : List (Slot X)) (m' : Meter) (l' : S)
-    → ((x : X) (result : R) (x' : X) → Acts (record { value = x; meter = Some m; limiter = l }) result charge (record { value = x'; meter = Some m'; limiter = l' }) → Takes m charge m')
-    → ActsAt k reply_to Acts (record { value = slots; meter = Some m; limiter = l }) reply charge (record { value = slots'; meter = Some m'; limiter = l' }) → Takes m charge m'
+acts_takes : {X R S : Type 0} (Acts : Situation X S → R → ℕ → Situation X S → Type 0) (k : ℕ) (reply_to : R → Reply)
+    (slots : List (Slot X)) (m : Meter) (l : S) (reply : Reply) (charge : ℕ) (slots' : List (Slot X)) (m' : Meter)
+    (l' : S)
+    → ((x : X) (result : R) (x' : X) → Acts (record { value = x; meter = Some m; limiter = l }) result charge (record
+    { value = x'; meter = Some m'; limiter = l' }) → Takes m charge m')
+    → ActsAt k reply_to Acts (record { value = slots; meter = Some m; limiter = l }) reply charge
+    (record { value = slots'; meter = Some m'; limiter = l' }) → Takes m charge m'
 acts_takes {X = X} {S = S} Acts k reply_to slots m l reply charge slots' m' l' takes acts =
     on_live (live_at slots k) _ _ acts
-    (λ missing. takes_nothing m m' charge missing.1 (same_Some m' m (ap (λ (s : Situation (List (Slot X)) S). s.meter) missing.2)))
+    (λ missing. takes_nothing m m' charge missing.1
+    (same_Some m' m (ap (λ (s : Situation (List (Slot X)) S). s.meter) missing.2)))
     (λ x found act. takes x act.0 act.1 act.2)
 
-memory_growth_takes : {S : Type 0} (rules : Rules S) (k pages : ℕ) (slots : List (Slot MemoryValue)) (m : Meter) (l : S) (reply : Reply) (charge : ℕ) (slots' : List (Slot MemoryValue)) (m' : Meter) (l' : S)
-    → ActsAt k (reply_of replied.Number replied.Memory) (GrowsMemory rules pages) (record { value = slots; meter = Some m; limiter = l }) reply charge (record { value = slots'; meter = Some m'; limiter = l' }) → Takes m charge m'
+memory_growth_takes : {S : Type 0} (rules : Rules S) (k pages : ℕ) (slots : List (Slot MemoryValue)) (m : Meter)
+    (l : S) (reply : Reply) (charge : ℕ) (slots' : List (Slot MemoryValue)) (m' : Meter) (l' : S)
+    → ActsAt k (reply_of replied.Number replied.Memory) (GrowsMemory rules pages)
+    (record { value = slots; meter = Some m; limiter = l }) reply charge
+    (record { value = slots'; meter = Some m'; limiter = l' }) → Takes m charge m'
 memory_growth_takes rules k pages slots m l reply charge slots' m' l' acts =
     acts_takes (GrowsMemory rules pages) k (reply_of replied.Number replied.Memory) slots m l reply charge slots' m' l'
-    (λ x result x'. grows_takes rules (record { amount = pages; size = pages_of x; effort = memory.growth_of x pages }) x m l result charge x' m' l') acts
+    (λ x result x'. grows_takes rules
+    (record { amount = pages; size = pages_of x; effort = memory.growth_of x pages }) x m l result charge x' m' l')
+    acts
 
-table_growth_takes : {S : Type 0} (rules : Rules S) (k n : ℕ) (init : TypedRawRef) (slots : List (Slot TableValue)) (m : Meter) (l : S) (reply : Reply) (charge : ℕ) (slots' : List (Slot TableValue)) (m' : Meter) (l' : S)
-    → ActsAt k (reply_of replied.Number replied.Table) (GrowsTable rules n init) (record { value = slots; meter = Some m; limiter = l }) reply charge (record { value = slots'; meter = Some m'; limiter = l' }) → Takes m charge m'
+table_growth_takes : {S : Type 0} (rules : Rules S) (k n : ℕ) (init : TypedRawRef) (slots : List (Slot TableValue))
+    (m : Meter) (l : S) (reply : Reply) (charge : ℕ) (slots' : List (Slot TableValue)) (m' : Meter) (l' : S)
+    → ActsAt k (reply_of replied.Number replied.Table) (GrowsTable rules n init)
+    (record { value = slots; meter = Some m; limiter = l }) reply charge
+    (record { value = slots'; meter = Some m'; limiter = l' }) → Takes m charge m'
 table_growth_takes rules k n init slots m l reply charge slots' m' l' acts =
     acts_takes (GrowsTable rules n init) k (reply_of replied.Number replied.Table) slots m l reply charge slots' m' l'
     (λ x result x'. table_grows_takes rules n init x m l result charge x' m' l') acts
 
-table_write_takes : (k : ℕ) (write : TableValue → TableWrite) (slots : List (Slot TableValue)) (m : Meter) (reply : Reply) (charge : ℕ) (slots' : List (Slot TableValue)) (m' : Meter)
+table_write_takes : (k : ℕ) (write : TableValue → TableWrite) (slots : List (Slot TableValue)) (m : Meter)
+    (reply : Reply) (charge : ℕ) (slots' : List (Slot TableValue)) (m' : Meter)
     → WritesTableAt k write (metered slots m) reply charge (metered slots' m') → Takes m charge m'
 table_write_takes k write slots m reply charge slots' m' writes =
-    acts_takes {S = Unit {0}} (λ s result charge s'. WritesTable (write s.value) s.value s.meter result charge s'.value s'.meter) k (reply_of (λ _. replied.Done) replied.Table) slots m tt reply charge slots' m' tt (λ x result x'. write_takes (write x) x m result charge x' m') writes
+    acts_takes {S = Unit {0}} (λ s result charge s'. WritesTable (write s.value) s.value s.meter result charge
+    s'.value s'.meter) k (reply_of (λ _. replied.Done) replied.Table) slots m tt reply charge slots' m' tt
+    (λ x result x'. write_takes (write x) x m result charge x' m') writes
 
-table_copy_takes : {X : Type 0} (source : Option X) (k : ℕ) (write : X → TableValue → TableWrite) (slots : List (Slot TableValue)) (m : Meter) (reply : Reply) (charge : ℕ) (slots' : List (Slot TableValue)) (m' : Meter)
+table_copy_takes : {X : Type 0} (source : Option X) (k : ℕ) (write : X → TableValue → TableWrite)
+    (slots : List (Slot TableValue)) (m : Meter) (reply : Reply) (charge : ℕ) (slots' : List (Slot TableValue))
+    (m' : Meter)
     → WritesTableFrom source k write (metered slots m) reply charge (metered slots' m') → Takes m charge m'
 table_copy_takes source k write slots m reply charge slots' m' writes =
     on_live source _ _ writes
-    (λ missing. takes_nothing m m' charge missing.1 (same_Some m' m (ap (λ (s : Situation (List (Slot TableValue)) (Unit {0})). s.meter) missing.2)))
+    (λ missing. takes_nothing m m' charge missing.1
+    (same_Some m' m (ap (λ (s : Situation (List (Slot TableValue)) (Unit {0})). s.meter) missing.2)))
     (λ x found h. table_write_takes k (write x) slots m reply charge slots' m' h)
 
 module _ {S : Type 0} (account : Account) (w : World S) (turn : Turn) (w' : World S) where
@@ -132,7 +172,13 @@ module _ {S : Type 0} (account : Account) (w : World S) (turn : Turn) (w' : Worl
     module _ {v : World S} (is : w' ≡ v) where
       charged : Takes w.state.meter turn.charge v.state.meter → Goes
       charged takes =
-          let t = takes balances.0 balances.1 in (t.0, ap (λ (u : World S). u.state.meter.left) is ∙ t.1, omega (arith, t.2, balances.2))
+          let t =
+          takes balances.0 balances.1 in (
+            t.0,
+            ap (λ (u : World S). u.state.meter.left) is ∙ t.1,
+            omega
+                (arith, t.2, balances.2),
+          )
 
       uncharged : turn.charge ≡ 0 → v.state.meter ≡ w.state.meter → Goes
       uncharged free same = charged (takes_nothing w.state.meter v.state.meter turn.charge free same)
@@ -142,30 +188,47 @@ abbrev charged_by_effect : Account → Effect → ℕ → Account
 charged_by_effect account (FuelSet fuel) charge = opened fuel
 charged_by_effect account effect charge = record { granted = account.granted; charged = account.charged + charge }
 
-same_account : (account : Account) (s : State) (call : Call) (charge : ℕ) → charged_by_effect account (effect_of s call) charge ≡ charged_by account call charge
+same_account : (account : Account) (s : State) (call : Call) (charge : ℕ)
+    → charged_by_effect account (effect_of s call) charge ≡ charged_by account call charge
 same_account account s (SetFuel fuel) charge = refl
 same_account account s call charge = refl
 
 module _ {S : Type 0} (rules : Rules S) (account : Account) (w : World S) (turn : Turn) (w' : World S) where
-  effect_balances : (effect : Effect) → TakesEffect rules effect w turn w' → Balances account w.state.meter → Balances (charged_by_effect account effect turn.charge) w'.state.meter
-  effect_balances (FuelSet fuel) step balances =
-      (fuel, ap (λ (v : World S). v.state.meter.left) step.after ∙ (ap (λ (s : State). s.meter.left) step.row.1 ∙ ap (option_map (λ n. fuel)) balances.1), omega arith)
+  effect_balances : (effect : Effect) → TakesEffect rules effect w turn w' → Balances account w.state.meter
+      → Balances (charged_by_effect account effect turn.charge) w'.state.meter
+  effect_balances (FuelSet fuel) step balances = (
+    fuel,
+    ap (λ (v : World S). v.state.meter.left) step.after
+        ∙ (ap (λ (s : State). s.meter.left) step.row.1 ∙ ap (option_map (λ n. fuel)) balances.1),
+    omega arith,
+  )
   effect_balances (Changed change) step balances =
-      uncharged account w turn w' balances step.after step.free.0 ((change_facts w.state change).meter turn.reply step.machine step.row)
+      uncharged account w turn w' balances step.after step.free.0
+      ((change_facts w.state change).meter turn.reply step.machine step.row)
   effect_balances (MemoryGrown k pages) step balances =
-      charged account w turn w' balances step.after (memory_growth_takes rules k pages w.state.memories w.state.meter w.limiter turn.reply turn.charge step.part step.meter step.limiter step.row)
+      charged account w turn w' balances step.after
+      (memory_growth_takes rules k pages w.state.memories w.state.meter w.limiter turn.reply turn.charge step.part
+      step.meter step.limiter step.row)
   effect_balances (TableGrown k n init) step balances =
-      charged account w turn w' balances step.after (table_growth_takes rules k n init w.state.tables w.state.meter w.limiter turn.reply turn.charge step.part step.meter step.limiter step.row)
+      charged account w turn w' balances step.after
+      (table_growth_takes rules k n init w.state.tables w.state.meter w.limiter turn.reply turn.charge step.part
+      step.meter step.limiter step.row)
   effect_balances (PartWritten k source dst len) step balances =
-      charged account w turn w' balances step.after (table_copy_takes (write_of source dst len) k (λ write. write) w.state.tables w.state.meter turn.reply turn.charge step.part step.meter step.row)
+      charged account w turn w' balances step.after
+      (table_copy_takes (write_of source dst len) k (λ write. write) w.state.tables w.state.meter turn.reply
+      turn.charge step.part step.meter step.row)
   effect_balances effect step balances = uncharged account w turn w' balances step.after step.free.0 refl
 
 module _ {S : Type 0} (rules : Rules S) where
-  run_balances : (account : Account) (w : World S) → Balances account w.state.meter → (turns : List Turn) (w' : World S) → Run rules w turns w' → Balances (account_after account turns) w'.state.meter
+  run_balances : (account : Account) (w : World S) → Balances account w.state.meter
+      → (turns : List Turn) (w' : World S) → Run rules w turns w'
+      → Balances (account_after account turns) w'.state.meter
   run_balances account w b [] w' ran = rw ran b
   run_balances account w b (turn ∷ turns) w' (v, step, ran) =
       let balances = effect_balances rules account w turn v (effect_of w.state turn.call) step b in
-      run_balances (charged_by account turn.call turn.charge) v (rw (same_account account w.state turn.call turn.charge) at balances) turns w' ran
+      run_balances (charged_by account turn.call turn.charge) v
+      (rw (same_account account w.state turn.call turn.charge) at balances) turns w' ran
 
-  pub fuel_balances : (w : World S) (left : ℕ) → w.state.meter.left ≡ Some left → (turns : List Turn) (w' : World S) → Run rules w turns w' → Balances (account_after (opened left) turns) w'.state.meter
+  pub fuel_balances : (w : World S) (left : ℕ) → w.state.meter.left ≡ Some left → (turns : List Turn) (w' : World S)
+      → Run rules w turns w' → Balances (account_after (opened left) turns) w'.state.meter
   fuel_balances w left on turns w' ran = run_balances (opened left) w (left, on, omega arith) turns w' ran

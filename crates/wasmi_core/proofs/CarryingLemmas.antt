@@ -20,10 +20,12 @@ use Rattle.wasmi_store.specs.Memory as memory
 use Rattle.wasmi_core.specs.declared.calls.Reply.TheVariants as replied
 use Rattle.wasmi_store.specs.Table as table
 
--- whatever the first limiter may answer in a state, the second may answer in the image of the state, and the states after it are images too
+-- whatever the first limiter may answer, the second may answer in the image of the state, and leads to the image
 pub record Carries {S T : Type 0} (image : S → T) (rules : Rules S) (rules' : Rules T) : Type 0 where
-  pub asked : (l : S) (question : Question) (answer : Answer) (l' : S) → rules.asked l question answer l' → rules'.asked (image l) question answer (image l')
-  pub noticed : (l : S) (failure : Failure) (heed : Heed) (l' : S) → rules.noticed l failure heed l' → rules'.noticed (image l) failure heed (image l')
+  pub asked : (l : S) (question : Question) (answer : Answer) (l' : S) → rules.asked l question answer l'
+      → rules'.asked (image l) question answer (image l')
+  pub noticed : (l : S) (failure : Failure) (heed : Heed) (l' : S) → rules.noticed l failure heed l'
+      → rules'.noticed (image l) failure heed (image l')
 
 -- the world with the image of its limiter
 abbrev pub carried : {S T : Type 0} → (S → T) → World S → World T
@@ -40,9 +42,15 @@ module _ {S T : Type 0} (image : S → T) where
       follows_too (Unasked cause) l l' same = ap image same
       follows_too (Denied answer) l l' asks = carries.asked l e.question answer l' asks
       follows_too Met l l' asks = carries.asked l e.question _ l' asks
-      follows_too (Failed cause heed) l l' (permitted, asks, notices) = (image permitted, carries.asked l e.question _ permitted asks, carries.noticed permitted (e.notice cause) heed l' notices)
+      follows_too (Failed cause heed) l l' (permitted, asks, notices) = (
+        image permitted,
+        carries.asked l e.question _ permitted asks,
+        carries.noticed permitted (e.notice cause)
+            heed l' notices,
+      )
 
-      attempt_too : (s s' : Situation V S) (fate : Fate E) (charge : ℕ) → Attempt rules e s fate charge s' → Attempt rules' e (moved s) fate charge (moved s')
+      attempt_too : (s s' : Situation V S) (fate : Fate E) (charge : ℕ) → Attempt rules e s fate charge s'
+          → Attempt rules' e (moved s) fate charge (moved s')
       attempt_too s s' fate charge a = record {
         may_end = a.may_end;
         follows = follows_too fate s.limiter s'.limiter a.follows;
@@ -51,35 +59,65 @@ module _ {S T : Type 0} (image : S → T) where
         value = a.value;
       }
 
-    makes_too : {T' E : Type 0} (e : Effort (Unit {0}) E) (made : T') (l l' : S) (result : Result T' E) → Makes rules e made l result l' → Makes rules' e made (image l) result (image l')
-    makes_too e made l l' result (fate, attempt, answered) = (fate, attempt_too e (alone l) (alone l') fate 0 attempt, answered)
+    makes_too : {T' E : Type 0} (e : Effort (Unit {0}) E) (made : T') (l l' : S) (result : Result T' E)
+        → Makes rules e made l result l' → Makes rules' e made (image l) result (image l')
+    makes_too e made l l' result (fate, attempt, answered) =
+        (fate, attempt_too e (alone l) (alone l') fate 0 attempt, answered)
 
-    grows_too : {V E : Type 0} (g : Growth V E) (s s' : Situation V S) (result : Result ℕ E) (charge : ℕ) → Grows rules g s result charge s' → Grows rules' g (moved s) result charge (moved s')
-    grows_too g s s' result charge (inl none) = inl (record { none = none.none; answered = none.answered; uncharged = none.uncharged; same = ap moved none.same })
-    grows_too g s s' result charge (inr some) = inr (record { some = some.some; fate = some.fate; attempt = attempt_too g.effort s s' some.fate charge some.attempt; answered = some.answered })
+    grows_too : {V E : Type 0} (g : Growth V E) (s s' : Situation V S) (result : Result ℕ E) (charge : ℕ)
+        → Grows rules g s result charge s' → Grows rules' g (moved s) result charge (moved s')
+    grows_too g s s' result charge (inl none) =
+        inl (record {
+          none = none.none;
+          answered = none.answered;
+          uncharged = none.uncharged;
+          same = ap moved
+              none.same;
+        })
+    grows_too g s s' result charge (inr some) =
+        inr (record {
+          some = some.some;
+          fate = some.fate;
+          attempt = attempt_too g.effort s s' some.fate charge
+              some.attempt;
+          answered = some.answered;
+        })
 
-    creates_too : {X E : Type 0} (refusal : E → Reply) (e : Effort (Unit {0}) E) (made : X) (slots slots' : List (Slot X)) (reply : Reply) (l l' : S) → Creates refusal (Makes rules e made) slots l reply slots' l' → Creates refusal (Makes rules' e made) slots (image l) reply slots' (image l')
+    creates_too : {X E : Type 0} (refusal : E → Reply) (e : Effort (Unit {0}) E) (made : X)
+        (slots slots' : List (Slot X)) (reply : Reply) (l l' : S)
+        → Creates refusal (Makes rules e made) slots l reply slots' l'
+        → Creates refusal (Makes rules' e made) slots (image l) reply slots' (image l')
     creates_too refusal e made slots slots' reply l l' (inl none) = inl (none.0, none.1, ap image none.2)
-    creates_too refusal e made slots slots' reply l l' (inr (result, makes, appends)) = inr (result, makes_too e made l l' result makes, appends)
+    creates_too refusal e made slots slots' reply l l' (inr (result, makes, appends)) =
+        inr (result, makes_too e made l l' result makes, appends)
 
-    acts_too : {X R : Type 0} (k : ℕ) (reply_to : R → Reply) (Acts : Situation X S → R → ℕ → Situation X S → Type 0) (Acts' : Situation X T → R → ℕ → Situation X T → Type 0) → ((s s' : Situation X S) (result : R) (charge : ℕ) → Acts s result charge s' → Acts' (moved s) result charge (moved s'))
-        → (s s' : Situation (List (Slot X)) S) (reply : Reply) (charge : ℕ) → ActsAt k reply_to Acts s reply charge s' → ActsAt k reply_to Acts' (moved s) reply charge (moved s')
+    acts_too : {X R : Type 0} (k : ℕ) (reply_to : R → Reply) (Acts : Situation X S → R → ℕ → Situation X S → Type 0)
+        (Acts' : Situation X T → R → ℕ → Situation X T → Type 0)
+        → ((s s' : Situation X S) (result : R) (charge : ℕ) → Acts s result charge s'
+        → Acts' (moved s) result charge (moved s'))
+        → (s s' : Situation (List (Slot X)) S) (reply : Reply) (charge : ℕ) → ActsAt k reply_to Acts s reply charge s'
+        → ActsAt k reply_to Acts' (moved s) reply charge (moved s')
     acts_too k reply_to Acts Acts' too s s' reply charge acts =
-        on_live_too (live_at s.value k) _ _ _ _ (λ missing. (missing.0, missing.1, ap moved missing.2)) (λ x h. (h.0, h.1, too _ _ h.0 charge h.2, h.3, h.4)) acts
+        on_live_too (live_at s.value k) _ _ _ _ (λ missing. (missing.0, missing.1, ap moved missing.2))
+        (λ x h. (h.0, h.1, too _ _ h.0 charge h.2, h.3, h.4)) acts
 
-    table_growth_too : (n : ℕ) (init : TypedRawRef) (s s' : Situation TableValue S) (result : Result ℕ _) (charge : ℕ) → GrowsTable rules n init s result charge s' → GrowsTable rules' n init (moved s) result charge (moved s')
+    table_growth_too : (n : ℕ) (init : TypedRawRef) (s s' : Situation TableValue S) (result : Result ℕ _) (charge : ℕ)
+        → GrowsTable rules n init s result charge s' → GrowsTable rules' n init (moved s) result charge (moved s')
     table_growth_too n init s s' result charge grows =
         on_test_too (same_type s.value.ty.element init.ty) _ _ _ _
-        (grows_too (record { amount = n; size = size_of s.value; effort = table.growth_of s.value n init.raw }) s s' result charge)
+        (grows_too (record { amount = n; size = size_of s.value; effort = table.growth_of s.value n init.raw }) s s'
+        result charge)
         (λ mismatch. (mismatch.0, mismatch.1, ap moved mismatch.2)) grows
 
     module _ (w : World S) (turn : Turn) (w' : World S) where
-      effect_carried : (effect : Effect) → TakesEffect rules effect w turn w' → TakesEffect rules' effect (carried image w) turn (carried image w')
+      effect_carried : (effect : Effect) → TakesEffect rules effect w turn w'
+          → TakesEffect rules' effect (carried image w) turn (carried image w')
       effect_carried (MemoryMade ty) step = record {
         free = step.free;
         part = step.part;
         limiter = image step.limiter;
-        row = creates_too replied.Memory (memory.creation_of Owned ty) (new_memory Owned ty) w.state.memories step.part turn.reply w.limiter step.limiter step.row;
+        row = creates_too replied.Memory (memory.creation_of Owned ty) (new_memory Owned ty) w.state.memories
+            step.part turn.reply w.limiter step.limiter step.row;
         after = ap (carried image) step.after;
       }
       effect_carried (LentMemoryMade ty) step = record {
@@ -87,7 +125,11 @@ module _ {S T : Type 0} (image : S → T) where
         part = step.part;
         limiter = image step.limiter;
         row = on_live_too w.state.spare _ _ _ _ (λ none. (none.0, none.1, ap image none.2))
-            (λ region h. (creates_too replied.Memory (memory.creation_of (Lent region) ty) (new_memory (Lent region) ty) w.state.memories step.part.slots turn.reply w.limiter step.limiter h.0, h.1)) step.row;
+            (λ region h. (
+              creates_too replied.Memory (memory.creation_of (Lent region) ty)
+                  (new_memory (Lent region) ty) w.state.memories step.part.slots turn.reply w.limiter step.limiter h.0,
+              h.1,
+            )) step.row;
         after = ap (carried image) step.after;
       }
       effect_carried (MemoryGrown k pages) step = record {
@@ -95,7 +137,9 @@ module _ {S T : Type 0} (image : S → T) where
         meter = step.meter;
         limiter = image step.limiter;
         row = acts_too k (reply_of replied.Number replied.Memory) (GrowsMemory rules pages) (GrowsMemory rules' pages)
-            (λ s. grows_too (record { amount = pages; size = pages_of s.value; effort = memory.growth_of s.value pages }) s) _ _ turn.reply turn.charge step.row;
+            (λ s. grows_too
+            (record { amount = pages; size = pages_of s.value; effort = memory.growth_of s.value pages }) s)
+            _ _ turn.reply turn.charge step.row;
         wrote = step.wrote;
         after = ap (carried image) step.after;
       }
@@ -103,24 +147,38 @@ module _ {S T : Type 0} (image : S → T) where
         free = step.free;
         part = step.part;
         limiter = image step.limiter;
-        row = creates_too replied.Table (table.creation_of ty init.ty) (new_table ty init.raw) w.state.tables step.part turn.reply w.limiter step.limiter step.row;
+        row = creates_too replied.Table (table.creation_of ty init.ty) (new_table ty init.raw) w.state.tables
+            step.part turn.reply w.limiter step.limiter step.row;
         after = ap (carried image) step.after;
       }
       effect_carried (TableGrown k n init) step = record {
         part = step.part;
         meter = step.meter;
         limiter = image step.limiter;
-        row = acts_too k (reply_of replied.Number replied.Table) (GrowsTable rules n init) (GrowsTable rules' n init) (table_growth_too n init) _ _ turn.reply turn.charge step.row;
+        row = acts_too k (reply_of replied.Number replied.Table) (GrowsTable rules n init) (GrowsTable rules' n init)
+            (table_growth_too n init) _ _ turn.reply turn.charge step.row;
         wrote = step.wrote;
         after = ap (carried image) step.after;
       }
       effect_carried (PartWritten k source dst len) step =
-          record { part = step.part; meter = step.meter; row = step.row; wrote = step.wrote; after = ap (carried image) step.after }
-      effect_carried (Told told) step = record { free = step.free; row = step.row; after = ap (carried image) step.after }
-      effect_carried (BytesRead k offset len) step = record { free = step.free; row = step.row; after = ap (carried image) step.after }
-      effect_carried effect step = record { free = step.free; machine = step.machine; row = step.row; after = ap (carried image) step.after }
+          record {
+            part = step.part;
+            meter = step.meter;
+            row = step.row;
+            wrote = step.wrote;
+            after = ap
+                (carried image) step.after;
+          }
+      effect_carried (Told told) step =
+          record { free = step.free; row = step.row; after = ap (carried image) step.after }
+      effect_carried (BytesRead k offset len) step =
+          record { free = step.free; row = step.row; after = ap (carried image) step.after }
+      effect_carried effect step =
+          record { free = step.free; machine = step.machine; row = step.row; after = ap (carried image) step.after }
 
     -- a run under the first is one under the second, with the same turns and machines
-    pub runs_too : (w : World S) (turns : List Turn) (w' : World S) → Run rules w turns w' → Run rules' (carried image w) turns (carried image w')
+    pub runs_too : (w : World S) (turns : List Turn) (w' : World S) → Run rules w turns w'
+        → Run rules' (carried image w) turns (carried image w')
     runs_too w [] w' ran = ap (carried image) ran
-    runs_too w (turn ∷ turns) w' (v, step, ran) = (carried image v, effect_carried w turn v (effect_of w.state turn.call) step, runs_too v turns w' ran)
+    runs_too w (turn ∷ turns) w' (v, step, ran) =
+        (carried image v, effect_carried w turn v (effect_of w.state turn.call) step, runs_too v turns w' ran)

@@ -44,58 +44,80 @@ module _ {S : Type 0} (rules : Rules S) (once : IsDeterministic rules) where
 
   module _ {V E : Type 0} (e : Effort V E) (wants : (cause : E) → e.refuses cause → IsNoWant (e.notice cause) → ⊥) where
     module _ (m : Option Meter) where
-      first_cause : (late : Option E) (cause cause' : E) → IsFirstCause e m late cause → IsNoWant (e.notice cause) → IsFirstCause e m late cause' → IsNoWant (e.notice cause') → cause ≡ cause'
+      first_cause : (late : Option E) (cause cause' : E) → IsFirstCause e m late cause → IsNoWant (e.notice cause)
+          → IsFirstCause e m late cause' → IsNoWant (e.notice cause') → cause ≡ cause'
       first_cause (Some c) cause cause' first other first' other' = first ∙ sym first'
       first_cause None cause cause' first other first' other' =
           on_test (can_pay m (amount_due m e.price)) _ _ first (λ refuses. absurd (wants cause refuses other))
-          (λ unpaid. on_test (can_pay m (amount_due m e.price)) _ _ first' (λ refuses. absurd (wants cause' refuses other')) (λ unpaid'. unpaid ∙ sym unpaid'))
+          (λ unpaid. on_test (can_pay m (amount_due m e.price)) _ _ first'
+          (λ refuses. absurd (wants cause' refuses other')) (λ unpaid'. unpaid ∙ sym unpaid'))
 
-      refused_at : (late : Option E) (cause : E) → late ≡ None → can_pay m (amount_due m e.price) ≡ true → IsFirstCause e m late cause → e.refuses cause
+      refused_at : (late : Option E) (cause : E) → late ≡ None → can_pay m (amount_due m e.price) ≡ true
+          → IsFirstCause e m late cause → e.refuses cause
       refused_at (Some c) cause none payable first = absurd (none-some c (sym none))
       refused_at None cause none payable first = rw payable at first
 
       module _ (l : S) where
-        denied_met : (answer : Answer) (l' p : S) → IsDenial answer → rules.asked l e.question answer l' → rules.asked l e.question (Ok true) p → ⊥
-        denied_met answer l' p denial asks asks' = subst IsDenial (once.asked l e.question answer (Ok true) l' p asks asks').0 denial
+        denied_met : (answer : Answer) (l' p : S) → IsDenial answer → rules.asked l e.question answer l'
+            → rules.asked l e.question (Ok true) p → ⊥
+        denied_met answer l' p denial asks asks' =
+            subst IsDenial (once.asked l e.question answer (Ok true) l' p asks asks').0 denial
 
-        same_fate : (fate fate' : Fate E) (l' l'' : S) → MayEnd e m fate → Follows e told l fate l' → MayEnd e m fate' → Follows e told l fate' l'' → (fate ≡ fate') × (l' ≡ l'')
-        same_fate (Unasked c) (Unasked c') l' l'' may f may' f' = (ap Unasked (same_Some c c' (sym may ∙ may')), f ∙ sym f')
+        same_fate : (fate fate' : Fate E) (l' l'' : S) → MayEnd e m fate → Follows e told l fate l' → MayEnd e m fate'
+            → Follows e told l fate' l'' → (fate ≡ fate') × (l' ≡ l'')
+        same_fate (Unasked c) (Unasked c') l' l'' may f may' f' =
+            (ap Unasked (same_Some c c' (sym may ∙ may')), f ∙ sym f')
         same_fate (Unasked c) (Denied a) l' l'' may f may' f' = absurd (none-some c (sym may'.0 ∙ may))
         same_fate (Unasked c) Met l' l'' may f may' f' = absurd (none-some c (sym may'.0 ∙ may))
         same_fate (Unasked c) (Failed d h) l' l'' may f may' f' = absurd (none-some c (sym may'.0 ∙ may))
         same_fate (Denied a) (Unasked c) l' l'' may f may' f' = absurd (none-some c (sym may.0 ∙ may'))
         same_fate Met (Unasked c) l' l'' may f may' f' = absurd (none-some c (sym may.0 ∙ may'))
         same_fate (Failed d h) (Unasked c) l' l'' may f may' f' = absurd (none-some c (sym may.0 ∙ may'))
-        same_fate (Denied a) (Denied a') l' l'' may f may' f' = let s = once.asked l e.question a a' l' l'' f f' in (ap Denied s.0, s.1)
+        same_fate (Denied a) (Denied a') l' l'' may f may' f' =
+            let s = once.asked l e.question a a' l' l'' f f' in (ap Denied s.0, s.1)
         same_fate (Denied a) Met l' l'' may f may' f' = absurd (denied_met a l' l'' may.1 f f')
         same_fate (Denied a) (Failed d h) l' l'' may f may' f' = absurd (denied_met a l' f'.0 may.1 f f'.1)
         same_fate Met (Denied a) l' l'' may f may' f' = absurd (denied_met a l'' l' may'.1 f' f)
         same_fate (Failed d h) (Denied a) l' l'' may f may' f' = absurd (denied_met a l'' f.0 may'.1 f' f.1)
         same_fate Met Met l' l'' may f may' f' = (refl, (once.asked l e.question (Ok true) (Ok true) l' l'' f f').1)
-        same_fate Met (Failed d h) l' l'' may f may' f' = absurd (wants d (refused_at e.late d may.1 may.2 may'.1) f'.2.1)
-        same_fate (Failed d h) Met l' l'' may f may' f' = absurd (wants d (refused_at e.late d may'.1 may'.2 may.1) f.2.1)
+        same_fate Met (Failed d h) l' l'' may f may' f' =
+            absurd (wants d (refused_at e.late d may.1 may.2 may'.1) f'.2.1)
+        same_fate (Failed d h) Met l' l'' may f may' f' =
+            absurd (wants d (refused_at e.late d may'.1 may'.2 may.1) f.2.1)
         same_fate (Failed d h) (Failed d' h') l' l'' may f may' f' =
             let permitted = (once.asked l e.question (Ok true) (Ok true) f.0 f'.0 f.1 f'.1).1 in
             let cause = first_cause e.late d d' may.1 f.2.1 may'.1 f'.2.1 in
-            let notices : rules.noticed f.0 (e.notice d) h' l'' = subst (λ p. rules.noticed p (e.notice d) h' l'') (sym permitted) (subst (λ c. rules.noticed f'.0 (e.notice c) h' l'') (sym cause) f'.2.0) in
+            let notices : rules.noticed f.0 (e.notice d) h' l'' = subst (λ p. rules.noticed p (e.notice d) h' l'')
+            (sym permitted) (subst (λ c. rules.noticed f'.0 (e.notice c) h' l'') (sym cause) f'.2.0) in
             let s = once.noticed f.0 (e.notice d) h h' l' l'' f.2.0 notices in
             (rw (cause, s.0) refl, s.1)
 
-    attempts_same : (s s' s'' : Situation V S) (fate fate' : Fate E) (charge charge' : ℕ) → Attempt told e s fate charge s' → Attempt told e s fate' charge' s'' → (fate ≡ fate') × (charge ≡ charge') × (s' ≡ s'')
+    attempts_same : (s s' s'' : Situation V S) (fate fate' : Fate E) (charge charge' : ℕ)
+        → Attempt told e s fate charge s' → Attempt told e s fate' charge' s''
+        → (fate ≡ fate') × (charge ≡ charge') × (s' ≡ s'')
     attempts_same s s' s'' fate fate' charge charge' a b =
-        let same = same_fate s.meter s.limiter fate fate' s'.limiter s''.limiter a.may_end a.follows b.may_end b.follows in
+        let same =
+        same_fate s.meter s.limiter fate fate' s'.limiter s''.limiter a.may_end a.follows b.may_end b.follows in
         let charged = a.charged ∙ ap (charge_of e s.meter) same.0 ∙ sym b.charged in
         let value = a.value ∙ ap (value_after e s.value) same.0 ∙ sym b.value in
         let meter = a.meter ∙ ap (λ c. option_map (λ m. meter_after m c) s.meter) charged ∙ sym b.meter in
         (same.0, charged, λ k. record { value = value k; meter = meter k; limiter = same.1 k })
 
-  makes_same : {T E : Type 0} (e : Effort (Unit {0}) E) → ((cause : E) → e.refuses cause → IsNoWant (e.notice cause) → ⊥) → (made : T) (l : S) (result result' : Result T E) (l' l'' : S) → Makes told e made l result l' → Makes told e made l result' l'' → (result ≡ result') × (l' ≡ l'')
+  makes_same : {T E : Type 0} (e : Effort (Unit {0}) E)
+      → ((cause : E) → e.refuses cause → IsNoWant (e.notice cause) → ⊥)
+      → (made : T) (l : S) (result result' : Result T E) (l' l'' : S) → Makes told e made l result l'
+      → Makes told e made l result' l'' → (result ≡ result') × (l' ≡ l'')
   makes_same e wants made l result result' l' l'' (fate, a, answered) (fate', b, answered') =
       let same = attempts_same e wants (alone l) (alone l') (alone l'') fate fate' 0 0 a b in
       (answered ∙ ap (answer_of e made) same.0 ∙ sym answered', ap (λ (s : Situation (Unit {0}) S). s.limiter) same.2)
 
-  grows_same : {V E : Type 0} (g : Growth V E) → ((cause : E) → g.effort.refuses cause → IsNoWant (g.effort.notice cause) → ⊥) → (s : Situation V S) (result result' : Result ℕ E) (charge charge' : ℕ) (s' s'' : Situation V S) → Grows told g s result charge s' → Grows told g s result' charge' s'' → (result ≡ result') × (charge ≡ charge') × (s' ≡ s'')
-  grows_same g wants s result result' charge charge' s' s'' (inl a) (inl b) = (a.answered ∙ sym b.answered, a.uncharged ∙ sym b.uncharged, a.same ∙ sym b.same)
+  grows_same : {V E : Type 0} (g : Growth V E)
+      → ((cause : E) → g.effort.refuses cause → IsNoWant (g.effort.notice cause) → ⊥)
+      → (s : Situation V S) (result result' : Result ℕ E) (charge charge' : ℕ) (s' s'' : Situation V S)
+      → Grows told g s result charge s' → Grows told g s result' charge' s''
+      → (result ≡ result') × (charge ≡ charge') × (s' ≡ s'')
+  grows_same g wants s result result' charge charge' s' s'' (inl a) (inl b) =
+      (a.answered ∙ sym b.answered, a.uncharged ∙ sym b.uncharged, a.same ∙ sym b.same)
   grows_same g wants s result result' charge charge' s' s'' (inl a) (inr b) = absurd (omega (arith, a.none, b.some))
   grows_same g wants s result result' charge charge' s' s'' (inr a) (inl b) = absurd (omega (arith, b.none, a.some))
   grows_same g wants s result result' charge charge' s' s'' (inr a) (inr b) =
@@ -111,11 +133,16 @@ table_wants : (cause : TableError) → cause ≡ TableError.OutOfSystemMemory �
 table_wants cause lacks other = rw lacks at other
 
 -- a creation in the spare region
-lent_same : {S : Type 0} (rules : Rules S) → IsDeterministic rules → (ty : MemoryTypeValue) (part : MemoryPart) (l : S) (reply reply' : Reply) (part' part'' : MemoryPart) (l' l'' : S) → HasMemory reply → HasMemory reply'
-    → CreatesLent (with_memory rules) ty part l reply part' l' → CreatesLent (with_memory rules) ty part l reply' part'' l'' → (reply ≡ reply') × (part' ≡ part'') × (l' ≡ l'')
+lent_same : {S : Type 0} (rules : Rules S) → IsDeterministic rules
+    → (ty : MemoryTypeValue) (part : MemoryPart) (l : S) (reply reply' : Reply) (part' part'' : MemoryPart)
+    (l' l'' : S) → HasMemory reply → HasMemory reply'
+    → CreatesLent (with_memory rules) ty part l reply part' l'
+    → CreatesLent (with_memory rules) ty part l reply' part'' l'' → (reply ≡ reply') × (part' ≡ part'') × (l' ≡ l'')
 lent_same rules once ty part l reply reply' part' part'' l' l'' room room' a b =
     on_both part.spare _ _ _ _ a b (λ h h'. (h.0 ∙ sym h'.0, h.1 ∙ sym h'.1, h.2 ∙ sym h'.2))
-    (λ region h h'. let same = creates_same replied.Memory (MakesMemory (with_memory rules) (Lent region) ty) (makes_same rules once (memory.creation_of (Lent region) ty) (memory_wants (Lent region)) (new_memory (Lent region) ty)) part.slots l reply reply' part'.slots part''.slots l' l'' room room' h.0 h'.0 in
+    (λ region h h'. let same = creates_same replied.Memory (MakesMemory (with_memory rules) (Lent region) ty)
+    (makes_same rules once (memory.creation_of (Lent region) ty) (memory_wants (Lent region))
+    (new_memory (Lent region) ty)) part.slots l reply reply' part'.slots part''.slots l' l'' room room' h.0 h'.0 in
     let spare = h.1 ∙ ap (λ r. spare_after r part.spare) same.0 ∙ sym h'.1 in
     (same.0, λ i. record { slots = same.1 i; spare = spare i }, same.2))
 
@@ -128,74 +155,153 @@ module _ {S : Type 0} (w : World S) (t t' : Turn) (v v' : World S) where
   free f f' same is is' = (same, f.0 ∙ sym f'.0, f.1 ∙ sym f'.1, is ∙ sym is')
 
   module _ {A : Type 0} (with_part : A → State) (part part' : A) where
-    changed : IsFree t → IsFree t' → (t.reply ≡ t'.reply) × (part ≡ part') → v ≡ record w { state = with_part part } → v' ≡ record w { state = with_part part' } → Same
-    changed f f' same is is' = (same.0, f.0 ∙ sym f'.0, f.1 ∙ sym f'.1, is ∙ ap (λ p. let u : World S = record w { state = with_part p } in u) same.1 ∙ sym is')
+    changed : IsFree t → IsFree t' → (t.reply ≡ t'.reply) × (part ≡ part') → v ≡ record w { state = with_part part }
+        → v' ≡ record w { state = with_part part' } → Same
+    changed f f' same is is' = (
+      same.0,
+      f.0 ∙ sym f'.0,
+      f.1 ∙ sym f'.1,
+      is
+          ∙ ap (λ p. let u : World S = record w { state = with_part p } in u) same.1 ∙ sym is',
+    )
 
-    asked : (l l' : S) → IsFree t → IsFree t' → (t.reply ≡ t'.reply) × (part ≡ part') × (l ≡ l') → v ≡ record { state = with_part part; limiter = l } → v' ≡ record { state = with_part part'; limiter = l' } → Same
-    asked l l' f f' same is is' = (same.0, f.0 ∙ sym f'.0, f.1 ∙ sym f'.1, is ∙ (λ i. record { state = with_part (same.1 i); limiter = same.2 i }) ∙ sym is')
+    asked : (l l' : S) → IsFree t → IsFree t' → (t.reply ≡ t'.reply) × (part ≡ part') × (l ≡ l')
+        → v ≡ record { state = with_part part; limiter = l } → v' ≡ record { state = with_part part'; limiter = l' }
+        → Same
+    asked l l' f f' same is is' = (
+      same.0,
+      f.0 ∙ sym f'.0,
+      f.1 ∙ sym f'.1,
+      is
+          ∙ (λ i. record { state = with_part (same.1 i); limiter = same.2 i }) ∙ sym is',
+    )
 
     module _ (m m' : Meter) (written : Reply → ℕ) where
-      paid : (l l' : S) → (t.reply ≡ t'.reply) × (t.charge ≡ t'.charge) × ((let s : Situation A S = record { value = part; meter = Some m; limiter = l } in s) ≡ record { value = part'; meter = Some m'; limiter = l' }) → t.written ≡ written t.reply → t'.written ≡ written t'.reply
-          → v ≡ record { state = record (with_part part) { meter = m }; limiter = l } → v' ≡ record { state = record (with_part part') { meter = m' }; limiter = l' } → Same
+      paid : (l l' : S)
+          → (t.reply ≡ t'.reply) × (t.charge ≡ t'.charge) × ((let s : Situation A S =
+          record { value = part; meter = Some m; limiter = l } in s) ≡ record {
+            value = part';
+            meter = Some m';
+            limiter = l';
+          }) → t.written ≡ written t.reply → t'.written ≡ written t'.reply
+          → v ≡ record { state = record (with_part part) { meter = m }; limiter = l }
+          → v' ≡ record { state = record (with_part part') { meter = m' }; limiter = l' } → Same
       paid l l' same wrote wrote' is is' =
           let parts = ap (λ (s : Situation A S). s.value) same.2 in
           let meters = same_Some m m' (ap (λ (s : Situation A S). s.meter) same.2) in
-          let limiters = ap (λ (s : Situation A S). s.limiter) same.2 in
-          (same.0, same.1, wrote ∙ ap written same.0 ∙ sym wrote', is ∙ (λ i. record { state = record (with_part (parts i)) { meter = meters i }; limiter = limiters i }) ∙ sym is')
+          let limiters = ap (λ (s : Situation A S). s.limiter) same.2 in (
+            same.0,
+            same.1,
+            wrote ∙ ap written same.0 ∙ sym wrote',
+            is
+                ∙ (λ i. record { state = record (with_part (parts i)) { meter = meters i }; limiter = limiters i })
+                ∙ sym is',
+          )
 
-      paid_unasked : (t.reply ≡ t'.reply) × (t.charge ≡ t'.charge) × ((let s : Situation A (Unit {0}) = record { value = part; meter = Some m; limiter = tt } in s) ≡ record { value = part'; meter = Some m'; limiter = tt }) → t.written ≡ written t.reply → t'.written ≡ written t'.reply
-          → v ≡ record w { state = record (with_part part) { meter = m } } → v' ≡ record w { state = record (with_part part') { meter = m' } } → Same
+      paid_unasked : (t.reply ≡ t'.reply) × (t.charge ≡ t'.charge) × ((let s : Situation A (Unit {0}) =
+          record { value = part; meter = Some m; limiter = tt } in s) ≡ record {
+            value = part';
+            meter = Some m';
+            limiter = tt;
+          }) → t.written ≡ written t.reply → t'.written ≡ written t'.reply
+          → v ≡ record w { state = record (with_part part) { meter = m } }
+          → v' ≡ record w { state = record (with_part part') { meter = m' } } → Same
       paid_unasked same wrote wrote' is is' =
           let parts = ap (λ (s : Situation A (Unit {0})). s.value) same.2 in
-          let meters = same_Some m m' (ap (λ (s : Situation A (Unit {0})). s.meter) same.2) in
-          (same.0, same.1, wrote ∙ ap written same.0 ∙ sym wrote', is ∙ (λ i. record { state = record (with_part (parts i)) { meter = meters i }; limiter = w.limiter }) ∙ sym is')
+          let meters = same_Some m m' (ap (λ (s : Situation A (Unit {0})). s.meter) same.2) in (
+            same.0,
+            same.1,
+            wrote ∙ ap written same.0 ∙ sym wrote',
+            is
+                ∙ (λ i. record { state = record (with_part (parts i)) { meter = meters i }; limiter = w.limiter })
+                ∙ sym is',
+          )
 
-table_growth_same : {S : Type 0} (rules : Rules S) → IsDeterministic rules → (n : ℕ) (init : TypedRawRef) (s : Situation TableValue S) (result result' : Result ℕ TableError) (charge charge' : ℕ) (s' s'' : Situation TableValue S) → GrowsTable (with_memory rules) n init s result charge s' → GrowsTable (with_memory rules) n init s result' charge' s'' → (result ≡ result') × (charge ≡ charge') × (s' ≡ s'')
-table_growth_same rules once n init s result result' charge charge' s' s'' a b = by_type (same_type s.value.ty.element init.ty) a b
+table_growth_same : {S : Type 0} (rules : Rules S) → IsDeterministic rules
+    → (n : ℕ) (init : TypedRawRef) (s : Situation TableValue S) (result result' : Result ℕ TableError)
+    (charge charge' : ℕ) (s' s'' : Situation TableValue S) → GrowsTable (with_memory rules) n init s result charge s'
+    → GrowsTable (with_memory rules) n init s result' charge' s''
+    → (result ≡ result') × (charge ≡ charge') × (s' ≡ s'')
+table_growth_same rules once n init s result result' charge charge' s' s'' a b =
+    by_type (same_type s.value.ty.element init.ty) a b
   where
-    by_type : (same : Bool) → MatchBool same (table.GrowsTableRaw (with_memory rules) n init.raw s result charge s') ((result ≡ Err TableError.ElementTypeMismatch) × (charge ≡ 0) × (s' ≡ s))
-        → MatchBool same (table.GrowsTableRaw (with_memory rules) n init.raw s result' charge' s'') ((result' ≡ Err TableError.ElementTypeMismatch) × (charge' ≡ 0) × (s'' ≡ s)) → (result ≡ result') × (charge ≡ charge') × (s' ≡ s'')
-    by_type true h h' = grows_same rules once (record { amount = n; size = size_of s.value; effort = table.growth_of s.value n init.raw }) table_wants s result result' charge charge' s' s'' h h'
+    by_type : (same : Bool) → MatchBool same (table.GrowsTableRaw (with_memory rules) n init.raw s result charge
+        s') ((result ≡ Err TableError.ElementTypeMismatch) × (charge ≡ 0) × (s' ≡ s))
+        → MatchBool same (table.GrowsTableRaw (with_memory rules) n init.raw s result' charge' s'')
+        ((result' ≡ Err TableError.ElementTypeMismatch) × (charge' ≡ 0) × (s'' ≡ s))
+        → (result ≡ result') × (charge ≡ charge') × (s' ≡ s'')
+    by_type true h h' =
+        grows_same rules once
+        (record { amount = n; size = size_of s.value; effort = table.growth_of s.value n init.raw }) table_wants s
+        result result' charge charge' s' s'' h h'
     by_type false h h' = (h.0 ∙ sym h'.0, h.1 ∙ sym h'.1, h.2 ∙ sym h'.2)
 
-module _ {S : Type 0} (rules : Rules S) (once : IsDeterministic rules) (w : World S) (t t' : Turn) (v v' : World S) (room : HasMemory t.reply) (room' : HasMemory t'.reply) where
-  effect_same : (effect : Effect) → TakesEffect (with_memory rules) effect w t v → TakesEffect (with_memory rules) effect w t' v' → Same w t t' v v'
-  effect_same (Told reply) step step' = free w t t' v v' step.free step'.free (step.row ∙ sym step'.row) step.after step'.after
+module _ {S : Type 0} (rules : Rules S) (once : IsDeterministic rules) (w : World S) (t t' : Turn) (v v' : World S)
+    (room : HasMemory t.reply) (room' : HasMemory t'.reply) where
+  effect_same : (effect : Effect) → TakesEffect (with_memory rules) effect w t v
+      → TakesEffect (with_memory rules) effect w t' v' → Same w t t' v v'
+  effect_same (Told reply) step step' =
+      free w t t' v v' step.free step'.free (step.row ∙ sym step'.row) step.after step'.after
   effect_same (BytesRead k offset len) step step' =
-      free w t t' v v' step.free step'.free (reads_same k offset len w.state.memories t.reply t'.reply room room' step.row step'.row) step.after step'.after
+      free w t t' v v' step.free step'.free
+      (reads_same k offset len w.state.memories t.reply t'.reply room room' step.row step'.row) step.after step'.after
   effect_same (FuelSet fuel) step step' =
-      changed w t t' v v' (λ s. s) step.machine step'.machine step.free step'.free (step.row.0 ∙ sym step'.row.0, step.row.1 ∙ sym step'.row.1) step.after step'.after
+      changed w t t' v v' (λ s. s) step.machine step'.machine step.free step'.free
+      (step.row.0 ∙ sym step'.row.0, step.row.1 ∙ sym step'.row.1) step.after step'.after
   effect_same (Changed change) step step' =
       changed w t t' v v' (λ s. s) step.machine step'.machine step.free step'.free
-      ((change_facts w.state change).same t.reply t'.reply step.machine step'.machine room room' step.row step'.row) step.after step'.after
+      ((change_facts w.state change).same t.reply t'.reply step.machine step'.machine room room' step.row step'.row)
+      step.after step'.after
   effect_same (MemoryMade ty) step step' =
       asked w t t' v v' (with_memories w.state) step.part step'.part step.limiter step'.limiter step.free step'.free
-      (creates_same replied.Memory (MakesMemory (with_memory rules) Owned ty) (makes_same rules once (memory.creation_of Owned ty) (memory_wants Owned) (new_memory Owned ty)) w.state.memories w.limiter t.reply t'.reply step.part step'.part step.limiter step'.limiter room room' step.row step'.row) step.after step'.after
+      (creates_same replied.Memory (MakesMemory (with_memory rules) Owned ty)
+      (makes_same rules once (memory.creation_of Owned ty) (memory_wants Owned) (new_memory Owned ty))
+      w.state.memories w.limiter t.reply t'.reply step.part step'.part step.limiter step'.limiter room room' step.row
+      step'.row) step.after step'.after
   effect_same (LentMemoryMade ty) step step' =
       asked w t t' v v' (with_memory_part w.state) step.part step'.part step.limiter step'.limiter step.free step'.free
-      (lent_same rules once ty (memory_part w.state) w.limiter t.reply t'.reply step.part step'.part step.limiter step'.limiter room room' step.row step'.row) step.after step'.after
+      (lent_same rules once ty (memory_part w.state) w.limiter t.reply t'.reply step.part step'.part step.limiter
+      step'.limiter room room' step.row step'.row) step.after step'.after
   effect_same (MemoryGrown k pages) step step' =
-      paid w t t' v v' (with_memories w.state) step.part step'.part step.meter step'.meter (bytes_appended (live_at w.state.memories k) pages) step.limiter step'.limiter
-      (acts_same (GrowsMemory (with_memory rules) pages) (λ s. grows_same rules once (record { amount = pages; size = pages_of s.value; effort = memory.growth_of s.value pages }) (memory_wants s.value.room) s) k (reply_of replied.Number replied.Memory) _ t.reply t'.reply t.charge t'.charge _ _ step.row step'.row) step.wrote step'.wrote step.after step'.after
+      paid w t t' v v' (with_memories w.state) step.part step'.part step.meter step'.meter
+      (bytes_appended (live_at w.state.memories k) pages) step.limiter step'.limiter
+      (acts_same (GrowsMemory (with_memory rules) pages)
+      (λ s. grows_same rules once
+      (record { amount = pages; size = pages_of s.value; effort = memory.growth_of s.value pages })
+      (memory_wants s.value.room) s) k (reply_of replied.Number replied.Memory) _ t.reply t'.reply t.charge t'.charge
+      _ _ step.row step'.row) step.wrote step'.wrote step.after step'.after
   effect_same (TableMade ty init) step step' =
       asked w t t' v v' (with_tables w.state) step.part step'.part step.limiter step'.limiter step.free step'.free
-      (creates_same replied.Table (MakesTable (with_memory rules) ty init) (makes_same rules once (table.creation_of ty init.ty) table_wants (new_table ty init.raw)) w.state.tables w.limiter t.reply t'.reply step.part step'.part step.limiter step'.limiter room room' step.row step'.row) step.after step'.after
+      (creates_same replied.Table (MakesTable (with_memory rules) ty init)
+      (makes_same rules once (table.creation_of ty init.ty) table_wants (new_table ty init.raw)) w.state.tables
+      w.limiter t.reply t'.reply step.part step'.part step.limiter step'.limiter room room' step.row step'.row)
+      step.after step'.after
   effect_same (TableGrown k n init) step step' =
-      paid w t t' v v' (with_tables w.state) step.part step'.part step.meter step'.meter (element_bytes n) step.limiter step'.limiter
-      (acts_same (GrowsTable (with_memory rules) n init) (table_growth_same rules once n init) k (reply_of replied.Number replied.Table) _ t.reply t'.reply t.charge t'.charge _ _ step.row step'.row) step.wrote step'.wrote step.after step'.after
+      paid w t t' v v' (with_tables w.state) step.part step'.part step.meter step'.meter (element_bytes n)
+      step.limiter step'.limiter
+      (acts_same (GrowsTable (with_memory rules) n init) (table_growth_same rules once n init) k
+      (reply_of replied.Number replied.Table) _ t.reply t'.reply t.charge t'.charge _ _ step.row step'.row) step.wrote
+      step'.wrote step.after step'.after
   effect_same (PartWritten k source dst len) step step' =
       paid_unasked w t t' v v' (with_tables w.state) step.part step'.part step.meter step'.meter (element_bytes len)
-      (table_copies_same (write_of source dst len) k (λ write. write) _ t.reply t'.reply t.charge t'.charge _ _ step.row step'.row) step.wrote step'.wrote step.after step'.after
+      (table_copies_same (write_of source dst len) k (λ write. write) _ t.reply t'.reply t.charge t'.charge
+      _ _ step.row step'.row) step.wrote step'.wrote step.after step'.after
 
 module _ {S : Type 0} (rules : Rules S) (once : IsDeterministic rules) where
-  pub runs_are_one : (w : World S) (turns turns' : List Turn) (v v' : World S) → map Turn.call turns ≡ map Turn.call turns' → HaveMemory turns → HaveMemory turns' → Run (with_memory rules) w turns v → Run (with_memory rules) w turns' v' → (turns ≡ turns') × (v ≡ v')
+  pub runs_are_one : (w : World S) (turns turns' : List Turn) (v v' : World S)
+      → map Turn.call turns ≡ map Turn.call turns' → HaveMemory turns → HaveMemory turns'
+      → Run (with_memory rules) w turns v → Run (with_memory rules) w turns' v' → (turns ≡ turns') × (v ≡ v')
   runs_are_one w [] [] v v' calls rooms rooms' ran ran' = (refl, ran ∙ sym ran')
   runs_are_one w [] (t' ∷ turns') v v' calls rooms rooms' ran ran' = absurd cc
   runs_are_one w (t ∷ turns) [] v v' calls rooms rooms' ran ran' = absurd cc
   runs_are_one w (t ∷ turns) (t' ∷ turns') v v' calls (room, rooms) (room', rooms') (u, step, ran) (u', step', ran') =
       let call = first_same t.call t'.call (map Turn.call turns) (map Turn.call turns') calls in
-      let one = effect_same rules once w t t' u u' room room' (effect_of w.state t.call) step (subst (λ c. TakesEffect (with_memory rules) (effect_of w.state c) w t' u') (sym call.0) step') in
-      let rest = runs_are_one u turns turns' v v' call.1 rooms rooms' ran (subst (λ x. Run (with_memory rules) x turns' v') (sym one.3) ran') in
+      let one =
+      effect_same rules once w t t' u u' room room' (effect_of w.state t.call) step
+      (subst (λ c. TakesEffect (with_memory rules) (effect_of w.state c) w t' u') (sym call.0) step') in
+      let rest =
+      runs_are_one u turns turns' v v' call.1 rooms rooms' ran
+      (subst (λ x. Run (with_memory rules) x turns' v') (sym one.3) ran') in
       let turn : t ≡ t' = λ i. record { call = call.0 i; reply = one.0 i; charge = one.1 i; written = one.2 i } in
       (λ i. turn i ∷ rest.0 i, rest.1)
     where
@@ -206,16 +312,22 @@ module _ {S : Type 0} (rules : Rules S) (once : IsDeterministic rules) where
 pub optional_once : {L : Type 0} (rules : Rules L) → IsDeterministic rules → IsDeterministic (optional_rules rules)
 optional_once {L} rules once = record { asked = asks; noticed = notices }
   where
-    asks : (l : Option L) (question : Question) (a a' : Answer) (l' l'' : Option L) → (optional_rules rules).asked l question a l' → (optional_rules rules).asked l question a' l'' → (a ≡ a') × (l' ≡ l'')
-    asks (Some l) question a a' (Some l') (Some l'') h h' = let s = once.asked l question a a' l' l'' h h' in (s.0, ap Some s.1)
+    asks : (l : Option L) (question : Question) (a a' : Answer) (l' l'' : Option L)
+        → (optional_rules rules).asked l question a l' → (optional_rules rules).asked l question a' l''
+        → (a ≡ a') × (l' ≡ l'')
+    asks (Some l) question a a' (Some l') (Some l'') h h' =
+        let s = once.asked l question a a' l' l'' h h' in (s.0, ap Some s.1)
     asks (Some l) question a a' None l'' h h' = absurd h
     asks (Some l) question a a' (Some l') None h h' = absurd h'
     asks None question a a' None None h h' = (h ∙ sym h', refl)
     asks None question a a' (Some l') l'' h h' = absurd h
     asks None question a a' None (Some l'') h h' = absurd h'
 
-    notices : (l : Option L) (failure : Failure) (a a' : Heed) (l' l'' : Option L) → (optional_rules rules).noticed l failure a l' → (optional_rules rules).noticed l failure a' l'' → (a ≡ a') × (l' ≡ l'')
-    notices (Some l) failure a a' (Some l') (Some l'') h h' = let s = once.noticed l failure a a' l' l'' h h' in (s.0, ap Some s.1)
+    notices : (l : Option L) (failure : Failure) (a a' : Heed) (l' l'' : Option L)
+        → (optional_rules rules).noticed l failure a l' → (optional_rules rules).noticed l failure a' l''
+        → (a ≡ a') × (l' ≡ l'')
+    notices (Some l) failure a a' (Some l') (Some l'') h h' =
+        let s = once.noticed l failure a a' l' l'' h h' in (s.0, ap Some s.1)
     notices (Some l) failure a a' None l'' h h' = absurd h
     notices (Some l) failure a a' (Some l') None h h' = absurd h'
     notices None failure a a' None None h h' = (h ∙ sym h', refl)
@@ -230,7 +342,8 @@ unlimited_once = record {
 }
 
 -- a quota
-same_quota : (quota quota' quota'' : Quota) → SameCaps quota quota' → SameCaps quota quota'' → holdings quota' ≡ holdings quota'' → quota' ≡ quota''
+same_quota : (quota quota' quota'' : Quota) → SameCaps quota quota' → SameCaps quota quota''
+    → holdings quota' ≡ holdings quota'' → quota' ≡ quota''
 same_quota quota quota' quota'' caps caps' same = λ i. record {
   bytes = (caps.bytes ∙ sym caps'.bytes) i;
   elements = (caps.elements ∙ sym caps'.elements) i;
@@ -239,15 +352,21 @@ same_quota quota quota' quota'' caps caps' same = λ i. record {
   last = ap (λ (h : Holdings). h.last) same i;
 }
 
-quota_asks : (quota : Quota) (q : Question) (a a' : Answer) (quota' quota'' : Quota) → Asked quota q a quota' → Asked quota q a' quota'' → (a ≡ a') × (quota' ≡ quota'')
+quota_asks : (quota : Quota) (q : Question) (a a' : Answer) (quota' quota'' : Quota) → Asked quota q a quota'
+    → Asked quota q a' quota'' → (a ≡ a') × (quota' ≡ quota'')
 quota_asks quota q a a' quota' quota'' h h' =
     elim (cases_lt (cap_of quota q.kind) (amount_held (holdings quota) q.kind + (q.desired - q.current))) [
       | inl above ↦ ((h.denies above).0 ∙ sym (h'.denies above).0, (h.denies above).1 ∙ sym (h'.denies above).1)
-      | inr within ↦ ((h.permits within).0 ∙ sym (h'.permits within).0, same_quota quota quota' quota'' h.caps h'.caps ((h.permits within).1 ∙ sym (h'.permits within).1))
+      | inr within ↦ (
+        (h.permits within).0 ∙ sym (h'.permits within).0,
+        same_quota quota quota' quota'' h.caps h'.caps
+            ((h.permits within).1 ∙ sym (h'.permits within).1),
+      )
     ]
 
 pub quota_once : IsDeterministic quota_rules
 quota_once = record {
   asked = λ l question a a' l' l'' h h'. quota_asks l question a a' l' l'' h h';
-  noticed = λ l failure a a' l' l'' h h'. (h.heeds ∙ sym h'.heeds, same_quota l l' l'' h.caps h'.caps (h.gives_back ∙ sym h'.gives_back));
+  noticed = λ l failure a a' l' l'' h h'.
+      (h.heeds ∙ sym h'.heeds, same_quota l l' l'' h.caps h'.caps (h.gives_back ∙ sym h'.gives_back));
 }

@@ -16,31 +16,49 @@ use Rattle.wasmi_core.specs.Totals.{sizes, HoldsTotals}
 use Rattle.wasmi_core.proofs.TotalLemmas.{sum_set, sum_push}
 use Rattle.wasmi_core.proofs.ExchangeLemmas.{growths_are_permitted}
 
-denial_keeps : (q : Question) (answer : Answer) (h h' : Holdings) → IsDenial answer → Reserves q answer h h' → HoldsTheSame h h'
+denial_keeps : (q : Question) (answer : Answer) (h h' : Holdings) → IsDenial answer → Reserves q answer h h'
+    → HoldsTheSame h h'
 denial_keeps q (Ok true) h h' denial reserves = absurd denial
 denial_keeps q (Ok false) h h' denial reserves = reserves
 denial_keeps q (Err error) h h' denial reserves = reserves
 
 -- a difference that was added and taken back
-given_back : (kind : Kind) (n : ℕ) (h p h' : Holdings) → p ≡ with_more h kind n → GivesBack kind p h' → HoldsTheSame h h'
+given_back : (kind : Kind) (n : ℕ) (h p h' : Holdings) → p ≡ with_more h kind n → GivesBack kind p h'
+    → HoldsTheSame h h'
 given_back Bytes n h p h' more gives =
     let less = gives ∙ ap (without_last Bytes) more in
-    record { bytes = ap (λ (x : Holdings). x.bytes) less ∙ omega arith; elements = ap (λ (x : Holdings). x.elements) less }
+    record {
+      bytes = ap (λ (x : Holdings). x.bytes) less
+          ∙ omega arith;
+      elements = ap (λ (x : Holdings). x.elements) less;
+    }
 given_back Elements n h p h' more gives =
     let less = gives ∙ ap (without_last Elements) more in
-    record { bytes = ap (λ (x : Holdings). x.bytes) less; elements = ap (λ (x : Holdings). x.elements) less ∙ omega arith }
+    record {
+      bytes = ap (λ (x : Holdings). x.bytes) less;
+      elements = ap (λ (x : Holdings). x.elements) less
+          ∙ omega arith;
+    }
 
-grown_sum : (place : Place) (q : Question) (xs ys : List ℕ) → GrowsAsAsked place q xs ys → sum ys ≡ sum xs + (q.desired - q.current)
+grown_sum : (place : Place) (q : Question) (xs ys : List ℕ) → GrowsAsAsked place q xs ys
+    → sum ys ≡ sum xs + (q.desired - q.current)
 grown_sum Nowhere q xs ys grows = absurd grows
 grown_sum New q xs ys (fresh, added) = ap sum added ∙ sum_push xs q.desired ∙ omega (arith, fresh)
 grown_sum (At k) q xs ys (up, found, put) = ap sum put ∙ omega (arith, up, sum_set xs k q.current q.desired found)
 
 module _ (s s' : State) where
-  still_held : (h h' : Holdings) → HoldsTotals h s → HoldsTheSame h h' → NothingGrows (sizes s) (sizes s') → HoldsTotals h' s'
+  still_held : (h h' : Holdings) → HoldsTotals h s → HoldsTheSame h h' → NothingGrows (sizes s) (sizes s')
+      → HoldsTotals h' s'
   still_held h h' held same still =
-      record { bytes = same.bytes ∙ held.bytes ∙ ap sum (sym (still Bytes)); elements = same.elements ∙ held.elements ∙ ap sum (sym (still Elements)) }
+      record {
+        bytes = same.bytes ∙ held.bytes ∙ ap sum (sym (still Bytes));
+        elements = same.elements ∙ held.elements
+            ∙ ap sum (sym (still Elements));
+      }
 
-  more_held : (kind : Kind) (n : ℕ) (h h' : Holdings) → HoldsTotals h s → h' ≡ with_more h kind n → sum (sizes s' kind) ≡ sum (sizes s kind) + n → ((other : Kind) → other ≢ kind → sizes s' other ≡ sizes s other) → HoldsTotals h' s'
+  more_held : (kind : Kind) (n : ℕ) (h h' : Holdings) → HoldsTotals h s → h' ≡ with_more h kind n
+      → sum (sizes s' kind) ≡ sum (sizes s kind) + n
+      → ((other : Kind) → other ≢ kind → sizes s' other ≡ sizes s other) → HoldsTotals h' s'
   more_held Bytes n h h' held more grown others = record {
     bytes = ap (λ (x : Holdings). x.bytes) more ∙ ap (λ k. k + n) held.bytes ∙ sym grown;
     elements = ap (λ (x : Holdings). x.elements) more ∙ held.elements ∙ ap sum (sym (others Elements (λ e. cc)));
@@ -50,26 +68,46 @@ module _ (s s' : State) where
     elements = ap (λ (x : Holdings). x.elements) more ∙ ap (λ k. k + n) held.elements ∙ sym grown;
   }
 
-module _ {L : Type 0} (rules : Rules L) (holdings : L → Holdings) (reserves : (l l' : L) (q : Question) (answer : Answer) → rules.asked l q answer l' → Reserves q answer (holdings l) (holdings l')) (gives_back : (l l' : L) (failure : Failure) (heed : Heed) → rules.noticed l failure heed l' → GivesBack (kind_of failure) (holdings l) (holdings l')) where
+module _ {L : Type 0} (rules : Rules L) (holdings : L → Holdings)
+    (reserves : (l l' : L) (q : Question) (answer : Answer) → rules.asked l q answer l'
+    → Reserves q answer (holdings l) (holdings l'))
+    (gives_back : (l l' : L) (failure : Failure) (heed : Heed) → rules.noticed l failure heed l'
+    → GivesBack (kind_of failure) (holdings l) (holdings l')) where
   -- a limiter is there, and holds the totals
   abbrev Holds : Option L → State → Type 0
   Holds limiter s = (l : L) × (limiter ≡ Some l) × HoldsTotals (holdings l) s
 
-  exchange_holds : (s s' : State) (l : L) (limiter : Option L) (place : Place) (exchange : Exchange) → HoldsTotals (holdings l) s → Passes (optional_rules rules) (Some l) exchange limiter → GrowsBy place exchange (sizes s) (sizes s') → Holds limiter s'
+  exchange_holds : (s s' : State) (l : L) (limiter : Option L) (place : Place) (exchange : Exchange)
+      → HoldsTotals (holdings l) s → Passes (optional_rules rules) (Some l) exchange limiter
+      → GrowsBy place exchange (sizes s) (sizes s') → Holds limiter s'
   exchange_holds s s' l limiter place Nothing held passes grows =
       (l, passes, still_held s s' (holdings l) (holdings l) held (record { bytes = refl; elements = refl }) grows)
-  exchange_holds s s' l (Some l') place (Denial q answer) held (denial, asks) grows =
-      (l', refl, still_held s s' (holdings l) (holdings l') held (denial_keeps q answer (holdings l) (holdings l') denial (reserves l l' q answer asks)) grows)
+  exchange_holds s s' l (Some l') place (Denial q answer) held (denial, asks) grows = (
+    l',
+    refl,
+    still_held s s' (holdings l) (holdings l') held
+        (denial_keeps q answer (holdings l) (holdings l') denial (reserves l l' q answer asks)) grows,
+  )
   exchange_holds s s' l None place (Denial q answer) held (denial, asks) grows = absurd asks
-  exchange_holds s s' l (Some l') place (Permission q) held asks (grows, others) =
-      (l', refl, more_held s s' q.kind (q.desired - q.current) (holdings l) (holdings l') held (reserves l l' q (Ok true) asks) (grown_sum place q (sizes s q.kind) (sizes s' q.kind) grows) others)
+  exchange_holds s s' l (Some l') place (Permission q) held asks (grows, others) = (
+    l',
+    refl,
+    more_held s s' q.kind (q.desired - q.current) (holdings l) (holdings l') held
+        (reserves l l' q (Ok true) asks) (grown_sum place q (sizes s q.kind) (sizes s' q.kind) grows) others,
+  )
   exchange_holds s s' l None place (Permission q) held asks grows = absurd asks
-  exchange_holds s s' l (Some l') place (Notice q failure heed) held (kind, Some p, asks, notices) grows =
-      (l', refl, still_held s s' (holdings l) (holdings l') held (given_back q.kind (q.desired - q.current) (holdings l) (holdings p) (holdings l') (reserves l p q (Ok true) asks) (rw kind at (gives_back p l' failure heed notices))) grows)
+  exchange_holds s s' l (Some l') place (Notice q failure heed) held (kind, Some p, asks, notices) grows = (
+    l',
+    refl,
+    still_held s s' (holdings l) (holdings l') held
+        (given_back q.kind (q.desired - q.current) (holdings l) (holdings p) (holdings l')
+        (reserves l p q (Ok true) asks) (rw kind at (gives_back p l' failure heed notices))) grows,
+  )
   exchange_holds s s' l None place (Notice q failure heed) held (kind, Some p, asks, notices) grows = absurd notices
   exchange_holds s s' l limiter place (Notice q failure heed) held (kind, None, asks, notices) grows = absurd asks
 
-  pub totals_are_held : (s : State) (l : L) → HoldsTotals (holdings l) s → (turns : List Turn) (w' : World (Option L)) → Run (optional_rules rules) (record { state = s; limiter = Some l }) turns w' → Holds w'.limiter w'.state
+  pub totals_are_held : (s : State) (l : L) → HoldsTotals (holdings l) s → (turns : List Turn) (w' : World (Option L))
+      → Run (optional_rules rules) (record { state = s; limiter = Some l }) turns w' → Holds w'.limiter w'.state
   totals_are_held s l held [] w' ran =
       rw ran (l, refl, held)
   totals_are_held s l held (turn ∷ turns) w' (v, step, ran) =
@@ -77,8 +115,10 @@ module _ {L : Type 0} (rules : Rules L) (holdings : L → Holdings) (reserves : 
       let next = exchange_holds s v.state l v.limiter (place_of turn.call) passed.0 held passed.1 passed.2 in
       totals_are_held v.state next.0 next.2 turns w' (rw next.1 at ran)
 
-  pub run_holds : {R E : Type 0} (items : R → List Reply) (s : State) (l : L) (s' : State) (l' : L) (calls : List Call) → HoldsTotals (holdings l) s → (result : Result R E)
-      → IfOk result (λ replies. IsRunOf (optional_rules rules) calls (record { state = s; limiter = Some l }) (items replies) (record { state = s'; limiter = Some l' }))
+  pub run_holds : {R E : Type 0} (items : R → List Reply) (s : State) (l : L) (s' : State) (l' : L)
+      (calls : List Call) → HoldsTotals (holdings l) s → (result : Result R E)
+      → IfOk result (λ replies. IsRunOf (optional_rules rules) calls (record { state = s; limiter = Some l })
+      (items replies) (record { state = s'; limiter = Some l' }))
       → OnErr result ((s' ≡ s) × (l' ≡ l)) → HoldsTotals (holdings l') s'
   run_holds items s l s' l' calls held (Ok replies) ran same =
       let after = totals_are_held s l held ran.0 (record { state = s'; limiter = Some l' }) ran.3 in

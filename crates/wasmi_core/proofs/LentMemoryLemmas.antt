@@ -35,7 +35,8 @@ use Rattle.wasmi_store.specs.Memory as memory
 use Rattle.wasmi_core.specs.declared.calls.Reply.TheVariants as replied
 
 -- An attempt where nothing stands between the permission and the charge, and where more may refuse after it.
-module _ {V W E : Type 0} (e : Effort V E) (refuses : E → Type 0) (lacks : (cause : E) → e.refuses cause → refuses cause) (own : V → W) where
+module _ {V W E : Type 0} (e : Effort V E) (refuses : E → Type 0)
+    (lacks : (cause : E) → e.refuses cause → refuses cause) (own : V → W) where
   abbrev eased : Effort W E
   eased = record {
     early = e.early;
@@ -55,11 +56,13 @@ module _ {V W E : Type 0} (e : Effort V E) (refuses : E → Type 0) (lacks : (ca
   IsEasy = (e.late ≡ None) ⊎ ((cause : E) × (e.early ≡ Some cause))
 
   module _ (m : Option Meter) where
-    first_cause : (late : Option E) (cause : E) → late ≡ None → IsFirstCause e m late cause → IsFirstCause eased m None cause
+    first_cause : (late : Option E) (cause : E) → late ≡ None → IsFirstCause e m late cause
+        → IsFirstCause eased m None cause
     first_cause (Some late) cause none first = absurd (none-some late (sym none))
     first_cause None cause none first = by_price (can_pay m (amount_due m e.price)) first
       where
-        by_price : (payable : Bool) → MatchBool payable (e.refuses cause) (cause ≡ e.unpaid (amount_due m e.price)) → MatchBool payable (refuses cause) (cause ≡ e.unpaid (amount_due m e.price))
+        by_price : (payable : Bool) → MatchBool payable (e.refuses cause) (cause ≡ e.unpaid (amount_due m e.price))
+            → MatchBool payable (refuses cause) (cause ≡ e.unpaid (amount_due m e.price))
         by_price true h = lacks cause h
         by_price false h = h
 
@@ -77,9 +80,12 @@ module _ {V W E : Type 0} (e : Effort V E) (refuses : E → Type 0) (lacks : (ca
     charges easy (Unasked cause) may = refl
     charges easy (Denied answer) may = refl
     charges easy Met may = refl
-    charges easy (Failed cause heed) may = ap (λ late. if is_none late && can_pay m (amount_due m e.price) then amount_due m e.price else 0) (none_late easy may.0)
+    charges easy (Failed cause heed) may =
+        ap (λ late. if is_none late && can_pay m (amount_due m e.price) then amount_due m e.price else 0)
+        (none_late easy may.0)
 
-  follows : {S : Type 0} (rules : Rules S) (l l' : S) (fate : Fate E) → Follows e rules l fate l' → Follows eased rules l fate l'
+  follows : {S : Type 0} (rules : Rules S) (l l' : S) (fate : Fate E) → Follows e rules l fate l'
+      → Follows eased rules l fate l'
   follows rules l l' (Unasked cause) h = h
   follows rules l l' (Denied answer) h = h
   follows rules l l' Met h = h
@@ -91,13 +97,16 @@ module _ {V W E : Type 0} (e : Effort V E) (refuses : E → Type 0) (lacks : (ca
   values x Met = refl
   values x (Failed cause heed) = refl
 
-  answers : {T U : Type 0} (f : T → U) (made : T) (fate : Fate E) → result_map_both f (λ error. error) (answer_of e made fate) ≡ answer_of eased (f made) fate
+  answers : {T U : Type 0} (f : T → U) (made : T) (fate : Fate E)
+      → result_map_both f (λ error. error) (answer_of e made fate) ≡ answer_of eased (f made) fate
   answers f made (Unasked cause) = refl
   answers f made (Denied answer) = refl
   answers f made Met = refl
   answers f made (Failed cause heed) = refl
 
-  attempts : {S : Type 0} (rules : Rules S) (s s' : Situation V S) (fate : Fate E) (charge : ℕ) → IsEasy → Attempt rules e s fate charge s' → Attempt rules eased (with_value s (own s.value)) fate charge (with_value s' (own s'.value))
+  attempts : {S : Type 0} (rules : Rules S) (s s' : Situation V S) (fate : Fate E) (charge : ℕ) → IsEasy
+      → Attempt rules e s fate charge s' → Attempt rules eased (with_value s (own s.value)) fate charge (with_value s'
+      (own s'.value))
   attempts rules s s' fate charge easy a = record {
     may_end = ends s.meter easy fate a.may_end;
     follows = follows rules s.limiter s'.limiter fate a.follows;
@@ -120,22 +129,36 @@ early_of true error outside = absurd cc
 early_of false error outside = refl
 
 -- a memory is made where its room has place for it
-makes_owned : {S : Type 0} (rules : Rules S) (room : Room) (ty : MemoryTypeValue) (l : S) (result : Result MemoryValue MemoryError) (l' : S) → has_place_for room (minimum_bytes ty) ≡ true
-    → MakesMemory rules room ty l result l' → MakesMemory rules Owned ty l (result_map_both owned_memory (λ error. error) result) l'
+makes_owned : {S : Type 0} (rules : Rules S) (room : Room) (ty : MemoryTypeValue) (l : S)
+    (result : Result MemoryValue MemoryError) (l' : S) → has_place_for room (minimum_bytes ty) ≡ true
+    → MakesMemory rules room ty l result l'
+    → MakesMemory rules Owned ty l (result_map_both owned_memory (λ error. error) result) l'
 makes_owned rules room ty l result l' fits (fate, attempt, answered) =
     let e = memory.creation_of room ty in (
       fate,
-      attempts e (LacksMemory Owned) (lacks_owned room) (λ none. none) rules _ _ fate 0 (inl (late_of (has_place_for room (minimum_bytes ty)) MemoryError.InvalidStaticBufferSize fits)) attempt,
-      ap (result_map_both owned_memory (λ error. error)) answered ∙ answers e (LacksMemory Owned) (lacks_owned room) (λ none. none) owned_memory (new_memory room ty) fate,
+      attempts e (LacksMemory Owned) (lacks_owned room) (λ none. none) rules _ _ fate 0
+          (inl (late_of (has_place_for room (minimum_bytes ty)) MemoryError.InvalidStaticBufferSize fits)) attempt,
+      ap (result_map_both owned_memory (λ error. error)) answered
+          ∙ answers e (LacksMemory Owned) (lacks_owned room) (λ none. none) owned_memory (new_memory room ty) fate,
     )
 
 -- a memory grows within its room
-fits_easy : (pages : ℕ) (x : MemoryValue) → FitsRoom pages x → IsEasy (memory.growth_of x pages) (LacksMemory Owned) (lacks_owned x.room) owned_memory
-fits_easy pages x (inl fits) = inl (late_of (has_place_for x.room (pages * page_bytes x.ty.page)) MemoryError.InvalidStaticBufferSize fits)
-fits_easy pages x (inr outside) = inr (MemoryError.OutOfBoundsGrowth, early_of (in_bounds x.ty (pages_of x + pages)) MemoryError.OutOfBoundsGrowth outside)
+fits_easy : (pages : ℕ) (x : MemoryValue) → FitsRoom pages x
+    → IsEasy (memory.growth_of x pages) (LacksMemory Owned) (lacks_owned x.room) owned_memory
+fits_easy pages x (inl fits) =
+    inl (late_of (has_place_for x.room (pages * page_bytes x.ty.page)) MemoryError.InvalidStaticBufferSize fits)
+fits_easy pages x (inr outside) =
+    inr (
+      MemoryError.OutOfBoundsGrowth,
+      early_of (in_bounds x.ty (pages_of x + pages)) MemoryError.OutOfBoundsGrowth
+          outside,
+    )
 
-grows_owned : {S : Type 0} (rules : Rules S) (pages : ℕ) (s : Situation MemoryValue S) (result : Result ℕ MemoryError) (charge : ℕ) (s' : Situation MemoryValue S) → FitsRoom pages s.value
-    → GrowsMemory rules pages s result charge s' → GrowsMemory rules pages (with_value s (owned_memory s.value)) result charge (with_value s' (owned_memory s'.value))
+grows_owned : {S : Type 0} (rules : Rules S) (pages : ℕ) (s : Situation MemoryValue S) (result : Result ℕ MemoryError)
+    (charge : ℕ) (s' : Situation MemoryValue S) → FitsRoom pages s.value
+    → GrowsMemory rules pages s result charge s'
+    → GrowsMemory rules pages (with_value s (owned_memory s.value)) result charge
+    (with_value s' (owned_memory s'.value))
 grows_owned {S} rules pages s result charge s' fits (inl none) = inl (record {
   none = none.none;
   answered = none.answered;
@@ -146,112 +169,173 @@ grows_owned rules pages s result charge s' fits (inr some) =
     let e = memory.growth_of s.value pages in inr (record {
       some = some.some;
       fate = some.fate;
-      attempt = attempts e (LacksMemory Owned) (lacks_owned s.value.room) owned_memory rules s s' some.fate charge (fits_easy pages s.value fits) some.attempt;
+      attempt = attempts e (LacksMemory Owned) (lacks_owned s.value.room) owned_memory rules s s' some.fate charge
+          (fits_easy pages s.value fits) some.attempt;
       answered = some.answered ∙ answered_eased some.fate;
     })
   where
-    answered_eased : (fate : Fate MemoryError) → answer_of (memory.growth_of s.value pages) (pages_of s.value) fate ≡ answer_of (memory.growth_of (owned_memory s.value) pages) (pages_of s.value) fate
+    answered_eased : (fate : Fate MemoryError)
+        → answer_of (memory.growth_of s.value pages) (pages_of s.value) fate ≡ answer_of
+        (memory.growth_of (owned_memory s.value) pages) (pages_of s.value) fate
     answered_eased (Unasked cause) = refl
     answered_eased (Denied answer) = refl
     answered_eased Met = refl
     answered_eased (Failed cause heed) = refl
 
 -- the live memory of an index
-owned_value : (slot : Option (Slot MemoryValue)) → option_and_then live_value (option_map owned_slot slot) ≡ option_map owned_memory (option_and_then live_value slot)
+owned_value : (slot : Option (Slot MemoryValue))
+    → option_and_then live_value (option_map owned_slot slot) ≡ option_map owned_memory
+    (option_and_then live_value slot)
 owned_value None = refl
 owned_value (Some (Live x)) = refl
 owned_value (Some (Gone last)) = refl
 
-owned_at : (slots : List (Slot MemoryValue)) (k : ℕ) → live_at (map owned_slot slots) k ≡ option_map owned_memory (live_at slots k)
+owned_at : (slots : List (Slot MemoryValue)) (k : ℕ)
+    → live_at (map owned_slot slots) k ≡ option_map owned_memory (live_at slots k)
 owned_at slots k = ap (option_and_then live_value) (slice_get-map owned_slot slots k) ∙ owned_value (slice_get slots k)
 
-owned_fact : (o : Option MemoryValue) (Missing Missing' : Type 0) (Fact Fact' : MemoryValue → Type 0) → OnLive o Missing Fact → (Missing → Missing') → ((x : MemoryValue) → Fact x → Fact' (owned_memory x)) → OnLive (option_map owned_memory o) Missing' Fact'
+owned_fact : (o : Option MemoryValue) (Missing Missing' : Type 0) (Fact Fact' : MemoryValue → Type 0)
+    → OnLive o Missing Fact → (Missing → Missing') → ((x : MemoryValue) → Fact x → Fact' (owned_memory x))
+    → OnLive (option_map owned_memory o) Missing' Fact'
 owned_fact None Missing Missing' Fact Fact' h missing live = missing h
 owned_fact (Some x) Missing Missing' Fact Fact' h missing live = live x h
 
 -- Rows on memories.
 module _ (slots : List (Slot MemoryValue)) (k : ℕ) where
   -- a fact of the live memory of an index
-  on_owned : (Missing Missing' : Type 0) (Fact Fact' : MemoryValue → Type 0) → OnLive (live_at slots k) Missing Fact → (Missing → Missing') → ((x : MemoryValue) → Fact x → Fact' (owned_memory x)) → OnLive (live_at (map owned_slot slots) k) Missing' Fact'
+  on_owned : (Missing Missing' : Type 0) (Fact Fact' : MemoryValue → Type 0) → OnLive (live_at slots k) Missing Fact
+      → (Missing → Missing') → ((x : MemoryValue) → Fact x → Fact' (owned_memory x))
+      → OnLive (live_at (map owned_slot slots) k) Missing' Fact'
   on_owned Missing Missing' Fact Fact' h missing live =
-      subst (λ o. OnLive o Missing' Fact') (sym (owned_at slots k)) (owned_fact (live_at slots k) Missing Missing' Fact Fact' h missing live)
+      subst (λ o. OnLive o Missing' Fact') (sym (owned_at slots k))
+      (owned_fact (live_at slots k) Missing Missing' Fact Fact' h missing live)
 
-  put_owned : (slots' : List (Slot MemoryValue)) (slot : Slot MemoryValue) → slots' ≡ slice_set slots k slot → map owned_slot slots' ≡ slice_set (map owned_slot slots) k (owned_slot slot)
+  put_owned : (slots' : List (Slot MemoryValue)) (slot : Slot MemoryValue) → slots' ≡ slice_set slots k slot
+      → map owned_slot slots' ≡ slice_set (map owned_slot slots) k (owned_slot slot)
   put_owned slots' slot put = ap (map owned_slot) put ∙ map-set owned_slot slots k slot
 
   module _ (reply : Reply) (slots' : List (Slot MemoryValue)) where
-    changes_owned : (Change : MemoryValue → MemoryValue → Type 0) → ((x x' : MemoryValue) → Change x x' → Change (owned_memory x) (owned_memory x')) → ChangesAt k slots reply slots' Change → ChangesAt k (map owned_slot slots) reply (map owned_slot slots') Change
+    changes_owned : (Change : MemoryValue → MemoryValue → Type 0)
+        → ((x x' : MemoryValue) → Change x x' → Change (owned_memory x) (owned_memory x'))
+        → ChangesAt k slots reply slots' Change
+        → ChangesAt k (map owned_slot slots) reply (map owned_slot slots') Change
     changes_owned Change change changes =
         on_owned _ _ _ _ changes
         (λ missing. (missing.0, ap (map owned_slot) missing.1))
         (λ x h. (owned_memory h.0, change x h.0 h.1, put_owned slots' (Live h.0) h.2))
 
-    drops_owned : DropsAt byte_count k slots reply slots' → DropsAt byte_count k (map owned_slot slots) reply (map owned_slot slots')
+    drops_owned : DropsAt byte_count k slots reply slots'
+        → DropsAt byte_count k (map owned_slot slots) reply (map owned_slot slots')
     drops_owned drops =
         on_owned _ _ _ _ drops
         (λ missing. (missing.0, ap (map owned_slot) missing.1))
         (λ x h. (h.0, put_owned slots' (Gone (byte_count x)) h.1))
 
-    writes_owned : (offset : ℕ) (source : List ℕ) → WritesMemoryAt k offset source slots reply slots' → WritesMemoryAt k offset source (map owned_slot slots) reply (map owned_slot slots')
+    writes_owned : (offset : ℕ) (source : List ℕ) → WritesMemoryAt k offset source slots reply slots'
+        → WritesMemoryAt k offset source (map owned_slot slots) reply (map owned_slot slots')
     writes_owned offset source writes = changes_owned _ (λ x x' c. (c.0, written x x' c.0 c.1, c.2)) writes
       where
-        written : (x x' : MemoryValue) (result : Result (Unit {0}) MemoryError) → WritesMemory x offset source result x' → WritesMemory (owned_memory x) offset source result (owned_memory x')
+        written : (x x' : MemoryValue) (result : Result (Unit {0}) MemoryError)
+            → WritesMemory x offset source result x'
+            → WritesMemory (owned_memory x) offset source result (owned_memory x')
         written x x' (Ok _) h = (h.0, h.1, refl)
         written x x' (Err error) h = (h.0, h.1, ap owned_memory h.2)
 
-    stores_owned : (a : ℕ) (stored : List ℕ) → StoresMemoryAt k a stored slots reply slots' → StoresMemoryAt k a stored (map owned_slot slots) reply (map owned_slot slots')
+    stores_owned : (a : ℕ) (stored : List ℕ) → StoresMemoryAt k a stored slots reply slots'
+        → StoresMemoryAt k a stored (map owned_slot slots) reply (map owned_slot slots')
     stores_owned a stored stores = changes_owned _ (λ x x' c. (c.0, (c.1.0, c.1.1, refl), c.2)) stores
 
-    vector_stores_owned : (a : ℕ) (stored : Option (List ℕ)) → StoresVectorAt k a stored slots reply slots' → StoresVectorAt k a stored (map owned_slot slots) reply (map owned_slot slots')
+    vector_stores_owned : (a : ℕ) (stored : Option (List ℕ)) → StoresVectorAt k a stored slots reply slots'
+        → StoresVectorAt k a stored (map owned_slot slots) reply (map owned_slot slots')
     vector_stores_owned a None stores = (stores.0, ap (map owned_slot) stores.1)
     vector_stores_owned a (Some stored) stores = stores_owned a stored stores
 
-  appended_owned : (pages : ℕ) (reply : Reply) → bytes_appended (live_at slots k) pages reply ≡ bytes_appended (live_at (map owned_slot slots) k) pages reply
-  appended_owned pages reply = by_value (live_at slots k) ∙ ap (λ o. bytes_appended o pages reply) (sym (owned_at slots k))
+  appended_owned : (pages : ℕ) (reply : Reply)
+      → bytes_appended (live_at slots k) pages reply ≡ bytes_appended (live_at (map owned_slot slots) k) pages reply
+  appended_owned pages reply =
+      by_value (live_at slots k) ∙ ap (λ o. bytes_appended o pages reply) (sym (owned_at slots k))
     where
-      by_value : (o : Option MemoryValue) → bytes_appended o pages reply ≡ bytes_appended (option_map owned_memory o) pages reply
+      by_value : (o : Option MemoryValue) → bytes_appended o pages reply ≡ bytes_appended (option_map owned_memory
+          o) pages reply
       by_value None = refl
       by_value (Some x) = refl
 
-  load_owned : (op : LoadOp) (a : ℕ) → load_reply op a (live_at slots k) ≡ load_reply op a (live_at (map owned_slot slots) k)
+  load_owned : (op : LoadOp) (a : ℕ) → load_reply op a (live_at slots k) ≡ load_reply op a (live_at
+      (map owned_slot slots) k)
   load_owned op a = by_value (live_at slots k) ∙ ap (load_reply op a) (sym (owned_at slots k))
     where
       by_value : (o : Option MemoryValue) → load_reply op a o ≡ load_reply op a (option_map owned_memory o)
       by_value None = refl
       by_value (Some x) = refl
 
-  vector_loaded_owned : (op : VectorLoadOp) (a : ℕ) → vector_loaded op a (live_at slots k) ≡ vector_loaded op a (live_at (map owned_slot slots) k)
+  vector_loaded_owned : (op : VectorLoadOp) (a : ℕ)
+      → vector_loaded op a (live_at slots k) ≡ vector_loaded op a (live_at (map owned_slot slots) k)
   vector_loaded_owned op a = by_value (live_at slots k) ∙ ap (vector_loaded op a) (sym (owned_at slots k))
     where
       by_value : (o : Option MemoryValue) → vector_loaded op a o ≡ vector_loaded op a (option_map owned_memory o)
       by_value None = refl
       by_value (Some x) = refl
 
-  lane_loaded_owned : (op : LoadLaneOp) (a : ℕ) (vector : Option ℕ) → lane_loaded op a vector (live_at slots k) ≡ lane_loaded op a vector (live_at (map owned_slot slots) k)
-  lane_loaded_owned op a vector = by_value (live_at slots k) vector ∙ ap (lane_loaded op a vector) (sym (owned_at slots k))
+  lane_loaded_owned : (op : LoadLaneOp) (a : ℕ) (vector : Option ℕ)
+      → lane_loaded op a vector (live_at slots k) ≡ lane_loaded op a vector (live_at (map owned_slot slots) k)
+  lane_loaded_owned op a vector =
+      by_value (live_at slots k) vector ∙ ap (lane_loaded op a vector) (sym (owned_at slots k))
     where
-      by_value : (o : Option MemoryValue) (v : Option ℕ) → lane_loaded op a v o ≡ lane_loaded op a v (option_map owned_memory o)
+      by_value : (o : Option MemoryValue) (v : Option ℕ)
+          → lane_loaded op a v o ≡ lane_loaded op a v (option_map owned_memory o)
       by_value None v = refl
       by_value (Some x) v = refl
 
-  growth_owned : {S : Type 0} (rules : Rules S) (pages : ℕ) (m : Option Meter) (l : S) (reply : Reply) (charge : ℕ) (slots' : List (Slot MemoryValue)) (m' : Option Meter) (l' : S) → OnLive (live_at slots k) (Unit {0}) (FitsRoom pages)
-      → ActsAt k (reply_of replied.Number replied.Memory) (GrowsMemory rules pages) (record { value = slots; meter = m; limiter = l }) reply charge (record { value = slots'; meter = m'; limiter = l' })
-      → ActsAt k (reply_of replied.Number replied.Memory) (GrowsMemory rules pages) (record { value = map owned_slot slots; meter = m; limiter = l }) reply charge (record { value = map owned_slot slots'; meter = m'; limiter = l' })
+  growth_owned : {S : Type 0} (rules : Rules S) (pages : ℕ) (m : Option Meter) (l : S) (reply : Reply) (charge : ℕ)
+      (slots' : List (Slot MemoryValue)) (m' : Option Meter) (l' : S)
+      → OnLive (live_at slots k) (Unit {0}) (FitsRoom pages)
+      → ActsAt k (reply_of replied.Number replied.Memory) (GrowsMemory rules pages)
+      (record { value = slots; meter = m; limiter = l }) reply charge
+      (record { value = slots'; meter = m'; limiter = l' })
+      → ActsAt k (reply_of replied.Number replied.Memory) (GrowsMemory rules pages)
+      (record { value = map owned_slot slots; meter = m; limiter = l }) reply charge
+      (record { value = map owned_slot slots'; meter = m'; limiter = l' })
   growth_owned {S} rules pages m l reply charge slots' m' l' fits acts =
       on_owned _ _ _ _ (both_live (live_at slots k) _ _ _ _ fits acts)
-      (λ missing. (missing.1.0, missing.1.1, ap (λ (t : Situation (List (Slot MemoryValue)) S). with_value t (map owned_slot t.value)) missing.1.2))
-      (λ x h. (h.1.0, owned_memory h.1.1, grows_owned rules pages (record { value = x; meter = m; limiter = l }) h.1.0 charge (record { value = h.1.1; meter = m'; limiter = l' }) h.0 h.1.2, h.1.3, put_owned slots' (Live h.1.1) h.1.4))
+      (λ missing. (
+        missing.1.0,
+        missing.1.1,
+        ap
+            (λ (t : Situation (List (Slot MemoryValue)) S). with_value t (map owned_slot t.value)) missing.1.2,
+      ))
+      (λ x h. (
+        h.1.0,
+        owned_memory h.1.1,
+        grows_owned rules pages (record { value = x; meter = m; limiter = l }) h.1.0
+            charge (record { value = h.1.1; meter = m'; limiter = l' }) h.0 h.1.2,
+        h.1.3,
+        put_owned slots' (Live h.1.1)
+            h.1.4,
+      ))
 
 -- a memory is made in a slot
-appends_owned : (result : Result MemoryValue MemoryError) (slots : List (Slot MemoryValue)) (reply : Reply) (slots' : List (Slot MemoryValue)) → Appends Live replied.Memory result slots reply slots' → Appends Live replied.Memory (result_map_both owned_memory (λ error. error) result) (map owned_slot slots) reply (map owned_slot slots')
-appends_owned (Ok x) slots reply slots' appends = (appends.0 ∙ ap replied.Made (sym (length-map slots owned_slot)), ap (map owned_slot) appends.1 ∙ map_push owned_slot slots (Live x))
+appends_owned : (result : Result MemoryValue MemoryError) (slots : List (Slot MemoryValue)) (reply : Reply)
+    (slots' : List (Slot MemoryValue)) → Appends Live replied.Memory result slots reply slots'
+    → Appends Live replied.Memory (result_map_both owned_memory (λ error. error) result) (map owned_slot slots) reply
+    (map owned_slot slots')
+appends_owned (Ok x) slots reply slots' appends = (
+  appends.0 ∙ ap replied.Made (sym (length-map slots owned_slot)),
+  ap (map owned_slot) appends.1
+      ∙ map_push owned_slot slots (Live x),
+)
 appends_owned (Err error) slots reply slots' appends = (appends.0, ap (map owned_slot) appends.1)
 
-creates_owned : {S : Type 0} (rules : Rules S) (room : Room) (ty : MemoryTypeValue) (slots : List (Slot MemoryValue)) (l : S) (reply : Reply) (slots' : List (Slot MemoryValue)) (l' : S) → has_place_for room (minimum_bytes ty) ≡ true
-    → Creates replied.Memory (MakesMemory rules room ty) slots l reply slots' l' → Creates replied.Memory (MakesMemory rules Owned ty) (map owned_slot slots) l reply (map owned_slot slots') l'
+creates_owned : {S : Type 0} (rules : Rules S) (room : Room) (ty : MemoryTypeValue) (slots : List (Slot MemoryValue))
+    (l : S) (reply : Reply) (slots' : List (Slot MemoryValue)) (l' : S) → has_place_for room (minimum_bytes ty) ≡ true
+    → Creates replied.Memory (MakesMemory rules room ty) slots l reply slots' l'
+    → Creates replied.Memory (MakesMemory rules Owned ty) (map owned_slot slots) l reply (map owned_slot slots') l'
 creates_owned rules room ty slots l reply slots' l' fits (inl none) = inl (none.0, ap (map owned_slot) none.1, none.2)
 creates_owned rules room ty slots l reply slots' l' fits (inr (result, makes, appends)) =
-    inr (result_map_both owned_memory (λ error. error) result, makes_owned rules room ty l result l' fits makes, appends_owned result slots reply slots' appends)
+    inr (
+      result_map_both owned_memory (λ error. error) result,
+      makes_owned rules room ty l result l' fits makes,
+      appends_owned result slots reply slots' appends,
+    )
 
 -- an effect that fits the regions, as its call does
 abbrev EffectFits : State → Effect → Type 0
@@ -266,29 +350,60 @@ effect_fits s call fits = fits
 -- a call has the same effect on both machines
 effect_kept : (s : State) (call : Call) → effect_of s call ≡ effect_of (owned s) call
 effect_kept s (Load op k ptr offset) = ap Told (load_owned s.memories k op (ptr + offset))
-effect_kept s (VectorLoad op dst k ptr offset) = ap (λ given. Changed (RegisterSet dst given)) (vector_loaded_owned s.memories k op (ptr + offset))
-effect_kept s (LoadLane op dst a k ptr offset) = ap (λ given. Changed (RegisterSet dst given)) (lane_loaded_owned s.memories k op (ptr + offset) (vector_at s.registers a))
+effect_kept s (VectorLoad op dst k ptr offset) =
+    ap (λ given. Changed (RegisterSet dst given)) (vector_loaded_owned s.memories k op (ptr + offset))
+effect_kept s (LoadLane op dst a k ptr offset) =
+    ap (λ given. Changed (RegisterSet dst given))
+    (lane_loaded_owned s.memories k op (ptr + offset) (vector_at s.registers a))
 effect_kept s call = refl
 
 -- a change of one part is the same change with such memories
-change_owned : (s : State) (reply : Reply) (s' : State) (change : Change) → TakesChange change s reply s' → TakesChange change (owned s) reply (owned s')
+change_owned : (s : State) (reply : Reply) (s' : State) (change : Change) → TakesChange change s reply s'
+    → TakesChange change (owned s) reply (owned s')
 change_owned s reply s' (BytesWritten k offset bytes) c =
-    record { part = map owned_slot c.part; row = writes_owned s.memories k reply c.part offset bytes c.row; after = ap owned c.after }
+    record {
+      part = map owned_slot c.part;
+      row = writes_owned s.memories k reply c.part offset bytes c.row;
+      after = ap
+          owned c.after;
+    }
 change_owned s reply s' (BytesStored k a stored) c =
-    record { part = map owned_slot c.part; row = vector_stores_owned s.memories k reply c.part a stored c.row; after = ap owned c.after }
+    record {
+      part = map owned_slot c.part;
+      row = vector_stores_owned s.memories k reply c.part a stored c.row;
+      after =
+          ap owned c.after;
+    }
 change_owned s reply s' (MemoryDropped k) c =
     record { part = map owned_slot c.part; row = drops_owned s.memories k reply c.part c.row; after = ap owned c.after }
 change_owned s reply s' change c = record { part = c.part; row = c.row; after = ap owned c.after }
 
 module _ {S : Type 0} (rules : Rules S) (w : World S) (turn : Turn) (w' : World S) where
-  effect_owned : (effect : Effect) → EffectFits w.state effect → TakesEffect rules effect w turn w' → TakesEffect rules effect (owned_world w) turn (owned_world w')
+  effect_owned : (effect : Effect) → EffectFits w.state effect → TakesEffect rules effect w turn w'
+      → TakesEffect rules effect (owned_world w) turn (owned_world w')
   effect_owned (Told told) fits step = record { free = step.free; row = step.row; after = ap owned_world step.after }
   effect_owned (BytesRead k offset len) fits step =
-      record { free = step.free; row = on_owned w.state.memories k _ _ _ _ step.row (λ missing. missing) (λ x h. h); after = ap owned_world step.after }
+      record {
+        free = step.free;
+        row = on_owned w.state.memories k _ _ _ _ step.row (λ missing. missing) (λ x h. h);
+        after = ap owned_world step.after;
+      }
   effect_owned (FuelSet fuel) fits step =
-      record { free = step.free; machine = owned step.machine; row = (step.row.0, ap owned step.row.1); after = ap owned_world step.after }
+      record {
+        free = step.free;
+        machine = owned step.machine;
+        row = (step.row.0, ap owned step.row.1);
+        after = ap
+            owned_world step.after;
+      }
   effect_owned (Changed change) fits step =
-      record { free = step.free; machine = owned step.machine; row = change_owned w.state turn.reply step.machine change step.row; after = ap owned_world step.after }
+      record {
+        free = step.free;
+        machine = owned step.machine;
+        row = change_owned w.state turn.reply step.machine
+            change step.row;
+        after = ap owned_world step.after;
+      }
   effect_owned (MemoryMade ty) fits step = record {
     free = step.free;
     part = map owned_slot step.part;
@@ -301,63 +416,106 @@ module _ {S : Type 0} (rules : Rules S) (w : World S) (turn : Turn) (w' : World 
     part = map owned_slot step.part;
     meter = step.meter;
     limiter = step.limiter;
-    row = growth_owned w.state.memories k rules pages (Some w.state.meter) w.limiter turn.reply turn.charge step.part (Some step.meter) step.limiter fits step.row;
+    row = growth_owned w.state.memories k rules pages (Some w.state.meter) w.limiter turn.reply turn.charge step.part
+        (Some step.meter) step.limiter fits step.row;
     wrote = step.wrote ∙ appended_owned w.state.memories k pages turn.reply;
     after = ap owned_world step.after;
   }
   effect_owned (TableMade ty init) fits step =
-      record { free = step.free; part = step.part; limiter = step.limiter; row = step.row; after = ap owned_world step.after }
+      record {
+        free = step.free;
+        part = step.part;
+        limiter = step.limiter;
+        row = step.row;
+        after = ap owned_world
+            step.after;
+      }
   effect_owned (TableGrown k n init) fits step =
-      record { part = step.part; meter = step.meter; limiter = step.limiter; row = step.row; wrote = step.wrote; after = ap owned_world step.after }
+      record {
+        part = step.part;
+        meter = step.meter;
+        limiter = step.limiter;
+        row = step.row;
+        wrote = step.wrote;
+        after = ap owned_world step.after;
+      }
   effect_owned (PartWritten k source dst len) fits step =
-      record { part = step.part; meter = step.meter; row = step.row; wrote = step.wrote; after = ap owned_world step.after }
+      record {
+        part = step.part;
+        meter = step.meter;
+        row = step.row;
+        wrote = step.wrote;
+        after = ap owned_world
+            step.after;
+      }
 
-pub run_is_owned : {S : Type 0} (rules : Rules S) (w : World S) (turns : List Turn) (w' : World S) → RunInRegions rules w turns w' → Run rules (owned_world w) turns (owned_world w')
+pub run_is_owned : {S : Type 0} (rules : Rules S) (w : World S) (turns : List Turn) (w' : World S)
+    → RunInRegions rules w turns w' → Run rules (owned_world w) turns (owned_world w')
 run_is_owned rules w [] w' ran = ap owned_world ran
 run_is_owned rules w (turn ∷ turns) w' (v, fits, step, ran) =
     let taken = effect_owned rules w turn v (effect_of w.state turn.call) (effect_fits w.state turn.call fits) step in
     (owned_world v, rw (effect_kept w.state turn.call) at taken, run_is_owned rules v turns w' ran)
 
 -- a creation in the spare region
-on_spare : (Fact : List ℕ → Type 0) (Missing : Type 0) (spare : Option (List ℕ)) (region : List ℕ) → spare ≡ Some region → MatchOption spare Missing Fact → Fact region
+on_spare : (Fact : List ℕ → Type 0) (Missing : Type 0) (spare : Option (List ℕ)) (region : List ℕ)
+    → spare ≡ Some region → MatchOption spare Missing Fact → Fact region
 on_spare Fact Missing None region is h = absurd (none-some region is)
 on_spare Fact Missing (Some r) region is h = subst Fact (same_Some r region is) h
 
-pub creation_is_owned : {S : Type 0} (rules : Rules S) (w : World S) (turn : Turn) (w' : World S) (ty : MemoryTypeValue) (region : List ℕ) → turn.call ≡ NewLentMemory ty → w.state.spare ≡ Some region → minimum_bytes ty ≤ length region
+pub creation_is_owned : {S : Type 0} (rules : Rules S) (w : World S) (turn : Turn) (w' : World S)
+    (ty : MemoryTypeValue) (region : List ℕ) → turn.call ≡ NewLentMemory ty → w.state.spare ≡ Some region
+    → minimum_bytes ty ≤ length region
     → Step rules w turn w' → Step rules (unlent_world w) (record turn { call = NewMemory ty }) (unlent_world w')
 creation_is_owned rules w turn w' ty region called spare fits step =
-    let lent : TakesEffect rules (LentMemoryMade ty) w turn w' = subst (λ c. TakesEffect rules (effect_of w.state c) w turn w') called step in
+    let lent : TakesEffect rules (LentMemoryMade ty) w turn w' = subst
+    (λ c. TakesEffect rules (effect_of w.state c) w turn w') called step in
     let creates = on_spare _ _ w.state.spare region spare lent.row in
     record {
       free = lent.free;
       part = map owned_slot lent.part.slots;
       limiter = lent.limiter;
-      row = creates_owned rules (Lent region) ty w.state.memories w.limiter turn.reply lent.part.slots lent.limiter (grind (arith, nat_tests, fits)) creates.0;
+      row = creates_owned rules (Lent region) ty w.state.memories w.limiter turn.reply lent.part.slots lent.limiter
+          (grind (arith, nat_tests, fits)) creates.0;
       after = ap unlent_world lent.after;
     }
 
 -- a growth of a lent memory that nothing but the limiter can refuse
-module _ {S : Type 0} (rules : Rules S) (pages : ℕ) (s : Situation MemoryValue S) (rest : List ℕ) (lent : s.value.room ≡ Lent rest) (inside : in_bounds s.value.ty (pages_of s.value + pages) ≡ true) (fits : has_place_for s.value.room (pages * page_bytes s.value.ty.page) ≡ true) (payable : can_pay s.meter (amount_due s.meter (memory.growth_of s.value pages).price) ≡ true) (result : Result ℕ MemoryError) (charge : ℕ) (s' : Situation MemoryValue S) where
+module _ {S : Type 0} (rules : Rules S) (pages : ℕ) (s : Situation MemoryValue S) (rest : List ℕ)
+    (lent : s.value.room ≡ Lent rest) (inside : in_bounds s.value.ty (pages_of s.value + pages) ≡ true)
+    (fits : has_place_for s.value.room (pages * page_bytes s.value.ty.page) ≡ true)
+    (payable : can_pay s.meter (amount_due s.meter (memory.growth_of s.value pages).price) ≡ true)
+    (result : Result ℕ MemoryError) (charge : ℕ) (s' : Situation MemoryValue S) where
   abbrev Succeeds : Type 0
-  Succeeds = (result ≡ Ok (pages_of s.value)) ⊎ ((answer : Answer) × IsDenial answer × rules.asked s.limiter (memory.growth_of s.value pages).question answer s'.limiter)
+  Succeeds =
+      (result ≡ Ok (pages_of s.value)) ⊎ ((answer : Answer) × IsDenial answer × rules.asked s.limiter
+      (memory.growth_of s.value pages).question answer s'.limiter)
 
   no_early : (inner : Bool) → inner ≡ true → (if inner then None else Some MemoryError.OutOfBoundsGrowth) ≡ None
   no_early true is = refl
   no_early false is = absurd cc
 
-  no_cause : (cause : MemoryError) → IsFirstCause (memory.growth_of s.value pages) s.meter (memory.growth_of s.value pages).late cause → ⊥
-  no_cause cause first = refused s.value.room lent (rw payable at first_of (memory.growth_of s.value pages).late (late_of (has_place_for s.value.room (pages * page_bytes s.value.ty.page)) MemoryError.InvalidStaticBufferSize fits) first)
+  no_cause : (cause : MemoryError) → IsFirstCause (memory.growth_of s.value pages) s.meter (memory.growth_of s.value
+      pages).late cause → ⊥
+  no_cause cause first =
+      refused s.value.room lent (rw payable at first_of (memory.growth_of s.value pages).late
+      (late_of (has_place_for s.value.room (pages * page_bytes s.value.ty.page)) MemoryError.InvalidStaticBufferSize
+      fits) first)
     where
       refused : (room : Room) → room ≡ Lent rest → LacksMemory room cause → ⊥
       refused Owned is lacks = cc
       refused (Lent other) is lacks = lacks
 
-      first_of : (late : Option MemoryError) → late ≡ None → IsFirstCause (memory.growth_of s.value pages) s.meter late cause → IsFirstCause (memory.growth_of s.value pages) s.meter None cause
+      first_of : (late : Option MemoryError) → late ≡ None
+          → IsFirstCause (memory.growth_of s.value pages) s.meter late cause
+          → IsFirstCause (memory.growth_of s.value pages) s.meter None cause
       first_of None none first = first
       first_of (Some late) none first = absurd (none-some late (sym none))
 
-  by_fate : (fate : Fate MemoryError) → MayEnd (memory.growth_of s.value pages) s.meter fate → Follows (memory.growth_of s.value pages) rules s.limiter fate s'.limiter → result ≡ answer_of (memory.growth_of s.value pages) (pages_of s.value) fate → Succeeds
-  by_fate (Unasked cause) may follows answered = absurd (none-some cause (sym (no_early (in_bounds s.value.ty (pages_of s.value + pages)) inside) ∙ may))
+  by_fate : (fate : Fate MemoryError) → MayEnd (memory.growth_of s.value pages) s.meter fate
+      → Follows (memory.growth_of s.value pages) rules s.limiter fate s'.limiter
+      → result ≡ answer_of (memory.growth_of s.value pages) (pages_of s.value) fate → Succeeds
+  by_fate (Unasked cause) may follows answered =
+      absurd (none-some cause (sym (no_early (in_bounds s.value.ty (pages_of s.value + pages)) inside) ∙ may))
   by_fate (Denied answer) may follows answered = inr (answer, may.1, follows)
   by_fate Met may follows answered = inl answered
   by_fate (Failed cause heed) may follows answered = absurd (no_cause cause may.1)

@@ -8,24 +8,28 @@ use Rattle.wasmi_core.proofs.ExchangeLemmas.{growths_are_permitted}
 
 module _ {L : Type 0} (rules : Rules L) (Kept : L → Type 0)
     (asked : (l : L) (q : Question) (answer : Answer) (l' : L) → Kept l → rules.asked l q answer l' → Kept l')
-    (noticed : (l : L) (failure : Failure) (heed : Heed) (l' : L) → Kept l → rules.noticed l failure heed l' → Kept l') where
+    (noticed : (l : L) (failure : Failure) (heed : Heed) (l' : L) → Kept l → rules.noticed l failure heed l'
+    → Kept l') where
   -- the limiter is there, and is as it was
   abbrev IsKept : Option L → Type 0
   IsKept limiter = (l : L) × (limiter ≡ Some l) × Kept l
 
   -- an exchange keeps it
-  exchange_keeps : (l : L) (limiter : Option L) (exchange : Exchange) → Kept l → Passes (optional_rules rules) (Some l) exchange limiter → IsKept limiter
+  exchange_keeps : (l : L) (limiter : Option L) (exchange : Exchange) → Kept l
+      → Passes (optional_rules rules) (Some l) exchange limiter → IsKept limiter
   exchange_keeps l limiter Nothing kept passes = (l, passes, kept)
   exchange_keeps l (Some l') (Denial q answer) kept (denial, asks) = (l', refl, asked l q answer l' kept asks)
   exchange_keeps l None (Denial q answer) kept (denial, asks) = absurd asks
   exchange_keeps l (Some l') (Permission q) kept asks = (l', refl, asked l q _ l' kept asks)
   exchange_keeps l None (Permission q) kept asks = absurd asks
-  exchange_keeps l (Some l') (Notice q failure heed) kept (kind, Some p, asks, notices) = (l', refl, noticed p failure heed l' (asked l q _ p kept asks) notices)
+  exchange_keeps l (Some l') (Notice q failure heed) kept (kind, Some p, asks, notices) =
+      (l', refl, noticed p failure heed l' (asked l q _ p kept asks) notices)
   exchange_keeps l None (Notice q failure heed) kept (kind, Some p, asks, notices) = absurd notices
   exchange_keeps l limiter (Notice q failure heed) kept (kind, None, asks, notices) = absurd asks
 
   -- a run keeps it
-  pub run_keeps : (w : World (Option L)) (l : L) → w.limiter ≡ Some l → Kept l → (turns : List Turn) (w' : World (Option L)) → Run (optional_rules rules) w turns w' → IsKept w'.limiter
+  pub run_keeps : (w : World (Option L)) (l : L) → w.limiter ≡ Some l → Kept l
+      → (turns : List Turn) (w' : World (Option L)) → Run (optional_rules rules) w turns w' → IsKept w'.limiter
   run_keeps w l is kept [] w' ran = rw ran (l, is, kept)
   run_keeps w l is kept (turn ∷ turns) w' (v, step, ran) =
       let passed = growths_are_permitted (optional_rules rules) w turn v step in

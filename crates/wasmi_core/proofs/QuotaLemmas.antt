@@ -15,18 +15,32 @@ pub record IsLater (first later : Quota) : Type 0 where
   pub caps : SameCaps first later
 
 same_caps : (a b c : Quota) → SameCaps a b → SameCaps b c → SameCaps a c
-same_caps a b c first second = record { bytes = second.bytes ∙ first.bytes; elements = second.elements ∙ first.elements }
+same_caps a b c first second =
+    record { bytes = second.bytes ∙ first.bytes; elements = second.elements ∙ first.elements }
 
-asked_later : (first l : Quota) (q : Question) (answer : Answer) (l' : Quota) → IsLater first l → Asked l q answer l' → IsLater first l'
+asked_later : (first l : Quota) (q : Question) (answer : Answer) (l' : Quota) → IsLater first l → Asked l q answer l'
+    → IsLater first l'
 asked_later first l q answer l' later asked =
-    record { within = quota.asked_is_within l l' later.within q answer asked; caps = same_caps first l l' later.caps asked.caps }
+    record {
+      within = quota.asked_is_within l l' later.within q answer asked;
+      caps = same_caps first l l' later.caps
+          asked.caps;
+    }
 
-noticed_later : (first l : Quota) (failure : Failure) (heed : Heed) (l' : Quota) → IsLater first l → Noticed l failure heed l' → IsLater first l'
+noticed_later : (first l : Quota) (failure : Failure) (heed : Heed) (l' : Quota) → IsLater first l
+    → Noticed l failure heed l' → IsLater first l'
 noticed_later first l failure heed l' later noticed =
-    record { within = quota.noticed_is_within l l' later.within failure heed noticed; caps = same_caps first l l' later.caps noticed.caps }
+    record {
+      within = quota.noticed_is_within l l' later.within failure heed noticed;
+      caps = same_caps first l l'
+          later.caps noticed.caps;
+    }
 
-pub quota_stays_within : (s : State) (l : Quota) → IsWithinCaps l → (turns : List Turn) (w' : World _) → Run (optional_rules quota_rules) (world s (Some l)) turns w'
+pub quota_stays_within : (s : State) (l : Quota) → IsWithinCaps l → (turns : List Turn) (w' : World _)
+    → Run (optional_rules quota_rules) (world s (Some l)) turns w'
     → (l' : Quota) × (w'.limiter ≡ Some l') × IsWithinCaps l' × SameCaps l l'
 quota_stays_within s l within turns w' ran =
-    let kept = run_keeps quota_rules (IsLater l) (asked_later l) (noticed_later l) (world s (Some l)) l refl (record { within = within; caps = record { bytes = refl; elements = refl } }) turns w' ran in
+    let kept =
+    run_keeps quota_rules (IsLater l) (asked_later l) (noticed_later l) (world s (Some l)) l refl
+    (record { within = within; caps = record { bytes = refl; elements = refl } }) turns w' ran in
     (kept.0, kept.1, kept.2.within, kept.2.caps)

@@ -44,135 +44,230 @@ abbrev LeavesSpare : Effect → Reply → State → State → Type 0
 LeavesSpare (LentMemoryMade ty) reply s s' = s'.spare ≡ spare_after reply s.spare
 LeavesSpare effect reply s s' = s'.spare ≡ s.spare
 
-spare_kept : (s s' : State) (call : Call) (reply : Reply) → LeavesSpare (effect_of s call) reply s s' → KeepsSpare call reply s s'
+spare_kept : (s s' : State) (call : Call) (reply : Reply) → LeavesSpare (effect_of s call) reply s s'
+    → KeepsSpare call reply s s'
 spare_kept s s' (NewLentMemory ty) reply leaves = leaves
 spare_kept s s' call reply leaves = leaves
 
 -- the turn ends in a world with the same state, or with the same state but for its meter
 module _ {S : Type 0} (w w' : World S) where
   kept : {v : World S} → w' ≡ v → v.state ≡ w.state → SameContents w.state w'.state × (w'.state.spare ≡ w.state.spare)
-  kept is same = rw (is, same) (record { memories = refl; tables = refl; segments = refl; globals = refl; registers = refl }, refl)
+  kept is same =
+      rw (is, same) (
+        record { memories = refl; tables = refl; segments = refl; globals = refl; registers = refl },
+        refl,
+      )
 
-  paid : (m : Meter) → {v : World S} → w' ≡ v → v.state ≡ record w.state { meter = m } → SameContents w.state w'.state × (w'.state.spare ≡ w.state.spare)
-  paid m is same = rw (is, same) (record { memories = refl; tables = refl; segments = refl; globals = refl; registers = refl }, refl)
+  paid : (m : Meter) → {v : World S} → w' ≡ v → v.state ≡ record w.state { meter = m }
+      → SameContents w.state w'.state × (w'.state.spare ≡ w.state.spare)
+  paid m is same =
+      rw (is, same) (
+        record { memories = refl; tables = refl; segments = refl; globals = refl; registers = refl },
+        refl,
+      )
 
-module _ {S : Type 0} (rules : Rules S) (w : World S) (turn : Turn) (w' : World S) (refused : IsRefusal turn.reply) where
-  effect_back : (effect : Effect) → TakesEffect rules effect w turn w' → SameContents w.state w'.state × LeavesSpare effect turn.reply w.state w'.state
+module _ {S : Type 0} (rules : Rules S) (w : World S) (turn : Turn) (w' : World S)
+    (refused : IsRefusal turn.reply) where
+  effect_back : (effect : Effect) → TakesEffect rules effect w turn w'
+      → SameContents w.state w'.state × LeavesSpare effect turn.reply w.state w'.state
   effect_back (FuelSet fuel) step = paid w w' _ step.after step.row.1
-  effect_back (Changed change) step = kept w w' step.after ((change_facts w.state change).back turn.reply step.machine refused step.row)
+  effect_back (Changed change) step =
+      kept w w' step.after ((change_facts w.state change).back turn.reply step.machine refused step.row)
   effect_back (MemoryMade ty) step =
-      kept w w' step.after (ap (with_memories w.state) (creates_back replied.Memory (MakesMemory rules Owned ty) w.state.memories w.limiter turn.reply step.part step.limiter refused step.row))
+      kept w w' step.after
+      (ap (with_memories w.state) (creates_back replied.Memory (MakesMemory rules Owned ty) w.state.memories w.limiter
+      turn.reply step.part step.limiter refused step.row))
   effect_back (LentMemoryMade ty) step = (
-    rw step.after (record { memories = lent_back rules ty (memory_part w.state) w.limiter turn.reply step.part step.limiter refused step.row; tables = refl; segments = refl; globals = refl; registers = refl }),
-    ap (λ (x : World S). x.state.spare) step.after ∙ lent_spare rules ty (memory_part w.state) w.limiter turn.reply step.part step.limiter step.row,
+    rw step.after
+        (record {
+          memories = lent_back rules ty (memory_part w.state) w.limiter turn.reply step.part step.limiter refused
+              step.row;
+          tables = refl;
+          segments = refl;
+          globals = refl;
+          registers = refl;
+        }),
+    ap (λ (x : World S). x.state.spare) step.after
+        ∙ lent_spare rules ty (memory_part w.state) w.limiter turn.reply step.part step.limiter step.row,
   )
   effect_back (MemoryGrown k pages) step =
-      paid w w' step.meter step.after (ap (λ part. let s : State = record (with_memories w.state part) { meter = step.meter } in s)
-      (memory_growth_back rules k pages w.state.memories w.state.meter w.limiter turn.reply turn.charge step.part step.meter step.limiter refused step.row))
+      paid w w' step.meter step.after
+      (ap (λ part. let s : State = record (with_memories w.state part) { meter = step.meter } in s)
+      (memory_growth_back rules k pages w.state.memories w.state.meter w.limiter turn.reply turn.charge step.part
+      step.meter step.limiter refused step.row))
   effect_back (TableMade ty init) step =
-      kept w w' step.after (ap (with_tables w.state) (creates_back replied.Table (MakesTable rules ty init) w.state.tables w.limiter turn.reply step.part step.limiter refused step.row))
+      kept w w' step.after
+      (ap (with_tables w.state) (creates_back replied.Table (MakesTable rules ty init) w.state.tables w.limiter
+      turn.reply step.part step.limiter refused step.row))
   effect_back (TableGrown k n init) step =
-      paid w w' step.meter step.after (ap (λ part. let s : State = record (with_tables w.state part) { meter = step.meter } in s)
-      (table_growth_back rules k n init w.state.tables w.state.meter w.limiter turn.reply turn.charge step.part step.meter step.limiter refused step.row))
+      paid w w' step.meter step.after
+      (ap (λ part. let s : State = record (with_tables w.state part) { meter = step.meter } in s)
+      (table_growth_back rules k n init w.state.tables w.state.meter w.limiter turn.reply turn.charge step.part
+      step.meter step.limiter refused step.row))
   effect_back (PartWritten k source dst len) step =
-      paid w w' step.meter step.after (ap (λ part. let s : State = record (with_tables w.state part) { meter = step.meter } in s)
-      (table_copy_back k w.state.tables w.state.meter turn.reply refused turn.charge step.part step.meter (write_of source dst len) (λ write. write) step.row))
+      paid w w' step.meter step.after
+      (ap (λ part. let s : State = record (with_tables w.state part) { meter = step.meter } in s)
+      (table_copy_back k w.state.tables w.state.meter turn.reply refused turn.charge step.part step.meter
+      (write_of source dst len) (λ write. write) step.row))
   effect_back effect step = kept w w' step.after refl
 
 -- a meter of which nothing was taken
 free_meter : (m m' : Meter) (charge : ℕ) → charge ≡ 0 → Some m' ≡ Some (meter_after m charge) → m' ≡ m
 free_meter m m' charge free taken =
-    same_Some m' (meter_after m charge) taken ∙ ap (meter_after m) free ∙ sym (same_Some m (meter_after m 0) (meter_after_nothing (Some m)))
+    same_Some m' (meter_after m charge) taken ∙ ap (meter_after m) free
+    ∙ sym (same_Some m (meter_after m 0) (meter_after_nothing (Some m)))
 
 -- a meter that is off isn't set
-unset : (left : Option ℕ) (costs : CustomFuelCosts) (fuel : ℕ) (reply : Reply) → IsRefusal reply → reply ≡ (if is_some left then replied.Done else replied.Fuel FuelMeteringDisabled) → meter_set (record { left = left; costs = costs }) fuel ≡ (let m : Meter = record { left = left; costs = costs } in m)
+unset : (left : Option ℕ) (costs : CustomFuelCosts) (fuel : ℕ) (reply : Reply) → IsRefusal reply
+    → reply ≡ (if is_some left then replied.Done else replied.Fuel FuelMeteringDisabled)
+    → meter_set (record { left = left; costs = costs })
+    fuel ≡ (let m : Meter = record { left = left; costs = costs } in m)
 unset None costs fuel reply refused is = refl
 unset (Some n) costs fuel reply refused is = absurd (rw is at refused)
 
 -- the meter after a refused growth, whose last cause is want of memory
-module _ {V E S : Type 0} (rules : Rules S) (e : Effort V E) (tells : (cause : E) → kind_of (e.notice cause) ≡ e.question.kind) (wants : (cause : E) → e.refuses cause → IsNoWant (e.notice cause) → ⊥) (m m' : Meter) (l l' : S) (charge : ℕ) (taken : Some m' ≡ Some (meter_after m charge)) where
-  failed_meter : (cause : E) (heed : Heed) (late : Option E) (payable : Bool) (amount : ℕ) → (late ≡ None → payable ≡ true → e.refuses cause) → charge ≡ (if is_none late && payable then amount else 0) → Follows e rules l (Failed cause heed) l' → (m' ≡ m) ⊎ IsToldOfWant rules l l'
+module _ {V E S : Type 0} (rules : Rules S) (e : Effort V E)
+    (tells : (cause : E) → kind_of (e.notice cause) ≡ e.question.kind)
+    (wants : (cause : E) → e.refuses cause → IsNoWant (e.notice cause) → ⊥) (m m' : Meter) (l l' : S) (charge : ℕ)
+    (taken : Some m' ≡ Some (meter_after m charge)) where
+  failed_meter : (cause : E) (heed : Heed) (late : Option E) (payable : Bool) (amount : ℕ)
+      → (late ≡ None → payable ≡ true → e.refuses cause) → charge ≡ (if is_none late && payable then amount else 0)
+      → Follows e rules l (Failed cause heed) l' → (m' ≡ m) ⊎ IsToldOfWant rules l l'
   failed_meter cause heed (Some c) payable amount refuses charged follows = inl (free_meter m m' charge charged taken)
   failed_meter cause heed None false amount refuses charged follows = inl (free_meter m m' charge charged taken)
   failed_meter cause heed None true amount refuses charged follows =
-      inr (e.question, e.notice cause, heed, wants cause (refuses refl refl), (tells cause, follows.0, follows.1, follows.2))
+      inr (
+        e.question,
+        e.notice cause,
+        heed,
+        wants cause (refuses refl refl),
+        (tells cause, follows.0, follows.1, follows.2),
+      )
 
-  fate_meter : (refusal : E → Reply) (size : ℕ) (fate : Fate E) → IsRefusal (reply_of replied.Number refusal (answer_of e size fate)) → MayEnd e (Some m) fate → charge ≡ charge_of e (Some m) fate → Follows e rules l fate l' → (m' ≡ m) ⊎ IsToldOfWant rules l l'
+  fate_meter : (refusal : E → Reply) (size : ℕ) (fate : Fate E)
+      → IsRefusal (reply_of replied.Number refusal (answer_of e size fate)) → MayEnd e (Some m) fate
+      → charge ≡ charge_of e (Some m) fate → Follows e rules l fate l' → (m' ≡ m) ⊎ IsToldOfWant rules l l'
   fate_meter refusal size (Unasked cause) refused may charged follows = inl (free_meter m m' charge charged taken)
   fate_meter refusal size (Denied answer) refused may charged follows = inl (free_meter m m' charge charged taken)
   fate_meter refusal size Met refused may charged follows = absurd refused
   fate_meter refusal size (Failed cause heed) refused may charged follows =
-      let refuses : e.late ≡ None → can_pay (Some m) (amount_due (Some m) e.price) ≡ true → e.refuses cause = λ late payable. subst (λ b. MatchBool b (e.refuses cause) (cause ≡ e.unpaid (amount_due (Some m) e.price))) payable (subst (λ o. IsFirstCause e (Some m) o cause) late may.1) in
-      failed_meter cause heed e.late (can_pay (Some m) (amount_due (Some m) e.price)) (amount_due (Some m) e.price) refuses charged follows
+      let refuses : e.late ≡ None → can_pay (Some m) (amount_due (Some m) e.price) ≡ true
+      → e.refuses cause = λ late payable. subst
+      (λ b. MatchBool b (e.refuses cause) (cause ≡ e.unpaid (amount_due (Some m) e.price))) payable
+      (subst (λ o. IsFirstCause e (Some m) o cause) late may.1) in
+      failed_meter cause heed e.late (can_pay (Some m) (amount_due (Some m) e.price)) (amount_due (Some m) e.price)
+      refuses charged follows
 
-grows_meter : {V E S : Type 0} (rules : Rules S) (g : Growth V E) (refusal : E → Reply) → ((cause : E) → kind_of (g.effort.notice cause) ≡ g.effort.question.kind) → ((cause : E) → g.effort.refuses cause → IsNoWant (g.effort.notice cause) → ⊥) → (x x' : V) (m m' : Meter) (l l' : S) (charge : ℕ) (result : Result ℕ E)
-    → IsRefusal (reply_of replied.Number refusal result) → Grows rules g (record { value = x; meter = Some m; limiter = l }) result charge (record { value = x'; meter = Some m'; limiter = l' }) → (m' ≡ m) ⊎ IsToldOfWant rules l l'
-grows_meter {V} {S = S} rules g refusal tells wants x x' m m' l l' charge result refused (inl none) = inl (same_Some m' m (ap (λ (s : Situation V S). s.meter) none.same))
+grows_meter : {V E S : Type 0} (rules : Rules S) (g : Growth V E) (refusal : E → Reply)
+    → ((cause : E) → kind_of (g.effort.notice cause) ≡ g.effort.question.kind)
+    → ((cause : E) → g.effort.refuses cause → IsNoWant (g.effort.notice cause) → ⊥)
+    → (x x' : V) (m m' : Meter) (l l' : S) (charge : ℕ) (result : Result ℕ E)
+    → IsRefusal (reply_of replied.Number refusal result)
+    → Grows rules g (record { value = x; meter = Some m; limiter = l }) result charge
+    (record { value = x'; meter = Some m'; limiter = l' }) → (m' ≡ m) ⊎ IsToldOfWant rules l l'
+grows_meter {V} {S = S} rules g refusal tells wants x x' m m' l l' charge result refused (inl none) =
+    inl (same_Some m' m (ap (λ (s : Situation V S). s.meter) none.same))
 grows_meter rules g refusal tells wants x x' m m' l l' charge result refused (inr some) =
-    fate_meter rules g.effort tells wants m m' l l' charge some.attempt.meter refusal g.size some.fate (rw some.answered at refused) some.attempt.may_end some.attempt.charged some.attempt.follows
+    fate_meter rules g.effort tells wants m m' l l' charge some.attempt.meter refusal g.size some.fate
+    (rw some.answered at refused) some.attempt.may_end some.attempt.charged some.attempt.follows
 
 lacks_memory : (room : Room) (cause : MemoryError) → LacksMemory room cause → IsNoWant (MemoryFailure cause) → ⊥
 lacks_memory Owned cause lacks nowant = subst (λ c. IsNoWant (MemoryFailure c)) lacks nowant
 lacks_memory (Lent rest) cause lacks nowant = lacks
 
 -- the meter after a refused write over a table
-ends_free : (w : TableWrite) (x : TableValue) (m : Option Meter) (charge : ℕ) (x' : TableValue) (typed : Bool) (written : Option (List ℕ)) (payable : Bool) (result : Result (Unit {0}) TableError) → IsRefusal (reply_of (λ _. replied.Done) replied.Table result) → EndsBy w x m typed written payable result charge x' → charge ≡ 0
+ends_free : (w : TableWrite) (x : TableValue) (m : Option Meter) (charge : ℕ) (x' : TableValue) (typed : Bool)
+    (written : Option (List ℕ)) (payable : Bool) (result : Result (Unit {0}) TableError)
+    → IsRefusal (reply_of (λ _. replied.Done) replied.Table result)
+    → EndsBy w x m typed written payable result charge x' → charge ≡ 0
 ends_free w x m charge x' false written payable result refused ends = ends.1
 ends_free w x m charge x' true None payable result refused ends = ends.1
 ends_free w x m charge x' true (Some elements) false result refused ends = ends.1
 ends_free w x m charge x' true (Some elements) true result refused ends = absurd (rw ends.0 at refused)
 
-module _ (k : ℕ) (slots : List (Slot TableValue)) (m : Meter) (reply : Reply) (refused : IsRefusal reply) (charge : ℕ) (slots' : List (Slot TableValue)) (m' : Meter) where
-  write_meter : (write : TableValue → TableWrite) → WritesTableAt k write (metered slots m) reply charge (metered slots' m') → m' ≡ m
+module _ (k : ℕ) (slots : List (Slot TableValue)) (m : Meter) (reply : Reply) (refused : IsRefusal reply) (charge : ℕ)
+    (slots' : List (Slot TableValue)) (m' : Meter) where
+  write_meter : (write : TableValue → TableWrite)
+      → WritesTableAt k write (metered slots m) reply charge (metered slots' m') → m' ≡ m
   write_meter write writes =
       on_live (live_at slots k) _ _ writes
       (λ missing. same_Some m' m (ap (λ (s : Metered). s.meter) missing.2))
-      (λ x found h. free_meter m m' charge (ends_free (write x) x (Some m) charge h.1 (write x).typed (write x).written _ h.0 (rw h.3 at refused) h.2.ends) h.2.meter)
+      (λ x found h. free_meter m m' charge (ends_free (write x) x (Some m) charge h.1 (write x).typed
+      (write x).written _ h.0 (rw h.3 at refused) h.2.ends) h.2.meter)
 
-  copy_meter : {X : Type 0} (source : Option X) (write : X → TableValue → TableWrite) → WritesTableFrom source k write (metered slots m) reply charge (metered slots' m') → m' ≡ m
+  copy_meter : {X : Type 0} (source : Option X) (write : X → TableValue → TableWrite)
+      → WritesTableFrom source k write (metered slots m) reply charge (metered slots' m') → m' ≡ m
   copy_meter source write writes =
-      on_live source _ _ writes (λ missing. same_Some m' m (ap (λ (s : Metered). s.meter) missing.2)) (λ y found h. write_meter (write y) h)
+      on_live source _ _ writes (λ missing. same_Some m' m (ap (λ (s : Metered). s.meter) missing.2))
+      (λ y found h. write_meter (write y) h)
 
-module _ {S : Type 0} (rules : Rules S) (w : World S) (turn : Turn) (w' : World S) (refused : IsRefusal turn.reply) where
+module _ {S : Type 0} (rules : Rules S) (w : World S) (turn : Turn) (w' : World S)
+    (refused : IsRefusal turn.reply) where
   -- a turn that doesn't reach the meter, and one that has
   stays : {v : World S} → w' ≡ v → v.state.meter ≡ w.state.meter → KeepsMeter rules w w'
   stays is same = inl (ap (λ (x : World S). x.state.meter) is ∙ same)
 
-  ends_with : (s : State) (m : Meter) (l : S) → w' ≡ record { state = record s { meter = m }; limiter = l } → (m ≡ w.state.meter) ⊎ IsToldOfWant rules w.limiter l → KeepsMeter rules w w'
+  ends_with : (s : State) (m : Meter) (l : S) → w' ≡ record { state = record s { meter = m }; limiter = l }
+      → (m ≡ w.state.meter) ⊎ IsToldOfWant rules w.limiter l → KeepsMeter rules w w'
   ends_with s m l is kept = subst (KeepsMeter rules w) (sym is) kept
 
-  memory_meter : (k pages : ℕ) (slots' : List (Slot MemoryValue)) (m' : Meter) (l' : S) → ActsAt k (reply_of replied.Number replied.Memory) (GrowsMemory rules pages) (record { value = w.state.memories; meter = Some w.state.meter; limiter = w.limiter }) turn.reply turn.charge (record { value = slots'; meter = Some m'; limiter = l' }) → (m' ≡ w.state.meter) ⊎ IsToldOfWant rules w.limiter l'
+  memory_meter : (k pages : ℕ) (slots' : List (Slot MemoryValue)) (m' : Meter) (l' : S)
+      → ActsAt k (reply_of replied.Number replied.Memory) (GrowsMemory rules pages)
+      (record { value = w.state.memories; meter = Some w.state.meter; limiter = w.limiter }) turn.reply turn.charge
+      (record { value = slots'; meter = Some m'; limiter = l' })
+      → (m' ≡ w.state.meter) ⊎ IsToldOfWant rules w.limiter l'
   memory_meter k pages slots' m' l' acts =
       on_live (live_at w.state.memories k) _ _ acts
-      (λ missing. inl (same_Some m' w.state.meter (ap (λ (s : Situation (List (Slot MemoryValue)) S). s.meter) missing.2)))
-      (λ x found a. grows_meter rules (record { amount = pages; size = pages_of x; effort = memory.growth_of x pages }) replied.Memory (λ cause. refl) (lacks_memory x.room) x a.1 w.state.meter m' w.limiter l' turn.charge a.0 (rw a.3 at refused) a.2)
+      (λ missing. inl
+      (same_Some m' w.state.meter (ap (λ (s : Situation (List (Slot MemoryValue)) S). s.meter) missing.2)))
+      (λ x found a. grows_meter rules
+      (record { amount = pages; size = pages_of x; effort = memory.growth_of x pages }) replied.Memory (λ cause. refl)
+      (lacks_memory x.room) x a.1 w.state.meter m' w.limiter l' turn.charge a.0 (rw a.3 at refused) a.2)
 
-  table_meter : (k n : ℕ) (init : TypedRawRef) (slots' : List (Slot TableValue)) (m' : Meter) (l' : S) → ActsAt k (reply_of replied.Number replied.Table) (GrowsTable rules n init) (record { value = w.state.tables; meter = Some w.state.meter; limiter = w.limiter }) turn.reply turn.charge (record { value = slots'; meter = Some m'; limiter = l' }) → (m' ≡ w.state.meter) ⊎ IsToldOfWant rules w.limiter l'
+  table_meter : (k n : ℕ) (init : TypedRawRef) (slots' : List (Slot TableValue)) (m' : Meter) (l' : S)
+      → ActsAt k (reply_of replied.Number replied.Table) (GrowsTable rules n init)
+      (record { value = w.state.tables; meter = Some w.state.meter; limiter = w.limiter }) turn.reply turn.charge
+      (record { value = slots'; meter = Some m'; limiter = l' })
+      → (m' ≡ w.state.meter) ⊎ IsToldOfWant rules w.limiter l'
   table_meter k n init slots' m' l' acts =
       on_live (live_at w.state.tables k) _ _ acts
-      (λ missing. inl (same_Some m' w.state.meter (ap (λ (s : Situation (List (Slot TableValue)) S). s.meter) missing.2)))
+      (λ missing. inl
+      (same_Some m' w.state.meter (ap (λ (s : Situation (List (Slot TableValue)) S). s.meter) missing.2)))
       (λ x found a. on_test (same_type x.ty.element init.ty) _ _ a.2
-      (λ g. grows_meter rules (record { amount = n; size = size_of x; effort = table.growth_of x n init.raw }) replied.Table (λ cause. refl) (λ cause lacks nowant. subst (λ c. IsNoWant (TableFailure c)) lacks nowant) x a.1 w.state.meter m' w.limiter l' turn.charge a.0 (rw a.3 at refused) g)
+      (λ g. grows_meter rules (record { amount = n; size = size_of x; effort = table.growth_of x n init.raw })
+      replied.Table (λ cause. refl) (λ cause lacks nowant. subst (λ c. IsNoWant (TableFailure c)) lacks nowant) x a.1
+      w.state.meter m' w.limiter l' turn.charge a.0 (rw a.3 at refused) g)
       (λ g. inl (same_Some m' w.state.meter (ap (λ (s : Situation TableValue S). s.meter) g.2))))
 
   effect_meter : (effect : Effect) → TakesEffect rules effect w turn w' → KeepsMeter rules w w'
   effect_meter (FuelSet fuel) step =
-      stays step.after (ap (λ (s : State). s.meter) step.row.1 ∙ unset w.state.meter.left w.state.meter.costs fuel turn.reply refused step.row.0)
-  effect_meter (Changed change) step = stays step.after ((change_facts w.state change).meter turn.reply step.machine step.row)
+      stays step.after (ap (λ (s : State). s.meter) step.row.1 ∙ unset w.state.meter.left w.state.meter.costs fuel
+      turn.reply refused step.row.0)
+  effect_meter (Changed change) step =
+      stays step.after ((change_facts w.state change).meter turn.reply step.machine step.row)
   effect_meter (MemoryGrown k pages) step =
-      ends_with (with_memories w.state step.part) step.meter step.limiter step.after (memory_meter k pages step.part step.meter step.limiter step.row)
+      ends_with (with_memories w.state step.part) step.meter step.limiter step.after
+      (memory_meter k pages step.part step.meter step.limiter step.row)
   effect_meter (TableGrown k n init) step =
-      ends_with (with_tables w.state step.part) step.meter step.limiter step.after (table_meter k n init step.part step.meter step.limiter step.row)
+      ends_with (with_tables w.state step.part) step.meter step.limiter step.after
+      (table_meter k n init step.part step.meter step.limiter step.row)
   effect_meter (PartWritten k source dst len) step =
       ends_with (with_tables w.state step.part) step.meter w.limiter step.after
-      (inl (copy_meter k w.state.tables w.state.meter turn.reply refused turn.charge step.part step.meter (write_of source dst len) (λ write. write) step.row))
+      (inl (copy_meter k w.state.tables w.state.meter turn.reply refused turn.charge step.part step.meter
+      (write_of source dst len) (λ write. write) step.row))
   effect_meter effect step = stays step.after refl
 
-pub refusals_keep_contents : {S : Type 0} (rules : Rules S) (w : World S) (turn : Turn) (w' : World S) → Step rules w turn w' → IsRefusal turn.reply → Keeps rules w turn w'
+pub refusals_keep_contents : {S : Type 0} (rules : Rules S) (w : World S) (turn : Turn) (w' : World S)
+    → Step rules w turn w' → IsRefusal turn.reply → Keeps rules w turn w'
 refusals_keep_contents rules w turn w' step refused =
     let effect = effect_of w.state turn.call in
     let back = effect_back rules w turn w' refused effect step in
-    record { contents = back.0; spare = spare_kept w.state w'.state turn.call turn.reply back.1; meter = effect_meter rules w turn w' refused effect step }
+    record {
+      contents = back.0;
+      spare = spare_kept w.state w'.state turn.call turn.reply back.1;
+      meter = effect_meter
+          rules w turn w' refused effect step;
+    }
 
 -- contents that are the same twice
 same_twice : (s t u : State) → SameContents s t → SameContents t u → SameContents s u
@@ -185,9 +280,13 @@ same_twice s t u first second = record {
 }
 
 -- a run in which each turn is refused
-pub refused_run_keeps_contents : {S : Type 0} (rules : Rules S) (w : World S) (turns : List Turn) (w' : World S) → Run rules w turns w' → All IsRefusal (map Turn.reply turns) → SameContents w.state w'.state
+pub refused_run_keeps_contents : {S : Type 0} (rules : Rules S) (w : World S) (turns : List Turn) (w' : World S)
+    → Run rules w turns w' → All IsRefusal (map Turn.reply turns) → SameContents w.state w'.state
 refused_run_keeps_contents rules w [] w' ran refused =
     rw ran (record { memories = refl; tables = refl; segments = refl; globals = refl; registers = refl })
 refused_run_keeps_contents rules w (turn ∷ turns) w' (v, step, ran) refused =
-    let first = (refusals_keep_contents rules w turn v step (All-head IsRefusal turn.reply (map Turn.reply turns) refused)).contents in
-    same_twice w.state v.state w'.state first (refused_run_keeps_contents rules v turns w' ran (All-tail IsRefusal turn.reply (map Turn.reply turns) refused))
+    let first =
+    (refusals_keep_contents rules w turn v step
+    (All-head IsRefusal turn.reply (map Turn.reply turns) refused)).contents in
+    same_twice w.state v.state w'.state first
+    (refused_run_keeps_contents rules v turns w' ran (All-tail IsRefusal turn.reply (map Turn.reply turns) refused))

@@ -1,4 +1,4 @@
--- What the replies of a run reveal of its limiter: a run by some rules is one by narrower rules, where its replies show it.
+-- What the replies of a run reveal of its limiter: a run is one by narrower rules, where its replies show it.
 use Rattle.std.proofs.Common.{Err, List, Result, [], ap, inl, inr, map, subst, sym, ℕ, ◌∙◌, ◌∷◌, ◌≡◌}
 use Rattle.std.proofs.lemmas.List.Elements.{All-head, All-tail}
 use Rattle.std.specs.Prelude.{All}
@@ -34,7 +34,8 @@ IsErrorOf e Met c = ⊥
 IsErrorOf e (Failed cause heed) c = c ≡ error_of_failure e.refusal cause heed
 
 -- it is what is answered
-answered_error : {V E T : Type 0} (e : Effort V E) (value : T) (fate : Fate E) (c : E) → IsErrorOf e fate c → answer_of e value fate ≡ Err c
+answered_error : {V E T : Type 0} (e : Effort V E) (value : T) (fate : Fate E) (c : E) → IsErrorOf e fate c
+    → answer_of e value fate ≡ Err c
 answered_error e value (Unasked cause) c is = ap Err (sym is)
 answered_error e value (Denied answer) c is = ap Err (sym is)
 answered_error e value Met c is = absurd is
@@ -43,11 +44,15 @@ answered_error e value (Failed cause heed) c is = ap Err (sym is)
 module _ {S : Type 0} (rules rules' : Rules S) (Shows : Reply → Type 0) where
   -- where the replies to an attempt's errors show it, what the limiter sees is by the narrower rules
   abbrev pub Reveals : {V E : Type 0} → (E → Reply) → Effort V E → Type 0
-  Reveals {V} {E} refusal e = (fate : Fate E) (l l' : S) → ((c : E) → IsErrorOf e fate c → Shows (refusal c)) → Follows e rules l fate l' → Follows e rules' l fate l'
+  Reveals {V} {E} refusal e =
+      (fate : Fate E) (l l' : S) → ((c : E) → IsErrorOf e fate c → Shows (refusal c)) → Follows e rules l fate l'
+      → Follows e rules' l fate l'
 
   -- so is the attempt
-  attempt_revealed : {V E : Type 0} (refusal : E → Reply) (e : Effort V E) → Reveals refusal e → (s s' : Situation V S) (fate : Fate E) (charge : ℕ)
-      → ((c : E) → IsErrorOf e fate c → Shows (refusal c)) → Attempt rules e s fate charge s' → Attempt rules' e s fate charge s'
+  attempt_revealed : {V E : Type 0} (refusal : E → Reply) (e : Effort V E) → Reveals refusal e
+      → (s s' : Situation V S) (fate : Fate E) (charge : ℕ)
+      → ((c : E) → IsErrorOf e fate c → Shows (refusal c)) → Attempt rules e s fate charge s'
+      → Attempt rules' e s fate charge s'
   attempt_revealed refusal e reveals s s' fate charge shown a = record {
     may_end = a.may_end;
     follows = reveals fate s.limiter s'.limiter shown a.follows;
@@ -57,40 +62,64 @@ module _ {S : Type 0} (rules rules' : Rules S) (Shows : Reply → Type 0) where
   }
 
   -- a creation
-  creates_revealed : {X E : Type 0} (refusal : E → Reply) (e : Effort (Unit {0}) E) → Reveals refusal e → (made : X) (slots slots' : List (Slot X)) (reply : Reply) (l l' : S)
-      → Shows reply → Creates refusal (Makes rules e made) slots l reply slots' l' → Creates refusal (Makes rules' e made) slots l reply slots' l'
+  creates_revealed : {X E : Type 0} (refusal : E → Reply) (e : Effort (Unit {0}) E) → Reveals refusal e
+      → (made : X) (slots slots' : List (Slot X)) (reply : Reply) (l l' : S)
+      → Shows reply → Creates refusal (Makes rules e made) slots l reply slots' l'
+      → Creates refusal (Makes rules' e made) slots l reply slots' l'
   creates_revealed refusal e reveals made slots slots' reply l l' shows (inl none) = inl none
-  creates_revealed refusal e reveals made slots slots' reply l l' shows (inr (result, (fate, attempt, answered), appends)) =
+  creates_revealed refusal e reveals made slots slots' reply l l' shows
+      (inr (result, (fate, attempt, answered), appends)) =
       let shown : (c : _) → IsErrorOf e fate c → Shows (refusal c) =
-      λ c is. subst Shows (subst (λ r. Appends Live refusal r slots reply slots') (answered ∙ answered_error e made fate c is) appends).0 shows in
-      inr (result, (fate, attempt_revealed refusal e reveals (alone l) (alone l') fate 0 shown attempt, answered), appends)
+      λ c is. subst Shows (subst (λ r. Appends Live refusal r slots reply slots')
+      (answered ∙ answered_error e made fate c is) appends).0 shows in
+      inr (
+        result,
+        (fate, attempt_revealed refusal e reveals (alone l) (alone l') fate 0 shown attempt, answered),
+        appends,
+      )
 
   -- a growth
-  grows_revealed : {V E : Type 0} (g : Growth V E) (refusal : E → Reply) → Reveals refusal g.effort → (s s' : Situation V S) (result : Result ℕ E) (charge : ℕ) (reply : Reply)
-      → reply ≡ reply_of replied.Number refusal result → Shows reply → Grows rules g s result charge s' → Grows rules' g s result charge s'
+  grows_revealed : {V E : Type 0} (g : Growth V E) (refusal : E → Reply) → Reveals refusal g.effort
+      → (s s' : Situation V S) (result : Result ℕ E) (charge : ℕ) (reply : Reply)
+      → reply ≡ reply_of replied.Number refusal result → Shows reply → Grows rules g s result charge s'
+      → Grows rules' g s result charge s'
   grows_revealed g refusal reveals s s' result charge reply is shows (inl none) = inl none
   grows_revealed g refusal reveals s s' result charge reply is shows (inr some) =
       let shown : (c : _) → IsErrorOf g.effort some.fate c → Shows (refusal c) =
-      λ c error. subst Shows (is ∙ ap (reply_of replied.Number refusal) (some.answered ∙ answered_error g.effort g.size some.fate c error)) shows in
-      inr (record { some = some.some; fate = some.fate; attempt = attempt_revealed refusal g.effort reveals s s' some.fate charge shown some.attempt; answered = some.answered })
+      λ c error. subst Shows (is ∙ ap (reply_of replied.Number refusal)
+      (some.answered ∙ answered_error g.effort g.size some.fate c error)) shows in
+      inr (record {
+        some = some.some;
+        fate = some.fate;
+        attempt = attempt_revealed refusal g.effort reveals s s'
+            some.fate charge shown some.attempt;
+        answered = some.answered;
+      })
 
   -- a call on a slot
-  acts_revealed : {X R : Type 0} (k : ℕ) (reply_to : R → Reply) (Acts Acts' : Situation X S → R → ℕ → Situation X S → Type 0) (reply : Reply)
-      → ((s s' : Situation X S) (result : R) (charge : ℕ) → reply ≡ reply_to result → Acts s result charge s' → Acts' s result charge s')
-      → (s s' : Situation (List (Slot X)) S) (charge : ℕ) → ActsAt k reply_to Acts s reply charge s' → ActsAt k reply_to Acts' s reply charge s'
+  acts_revealed : {X R : Type 0} (k : ℕ) (reply_to : R → Reply)
+      (Acts Acts' : Situation X S → R → ℕ → Situation X S → Type 0) (reply : Reply)
+      → ((s s' : Situation X S) (result : R) (charge : ℕ) → reply ≡ reply_to result → Acts s result charge s'
+      → Acts' s result charge s')
+      → (s s' : Situation (List (Slot X)) S) (charge : ℕ) → ActsAt k reply_to Acts s reply charge s'
+      → ActsAt k reply_to Acts' s reply charge s'
   acts_revealed k reply_to Acts Acts' reply too s s' charge acts =
-      on_live_too (live_at s.value k) _ _ _ _ (λ missing. missing) (λ x h. (h.0, h.1, too _ _ h.0 charge h.3 h.2, h.3, h.4)) acts
+      on_live_too (live_at s.value k) _ _ _ _ (λ missing. missing)
+      (λ x h. (h.0, h.1, too _ _ h.0 charge h.3 h.2, h.3, h.4)) acts
 
   module _ (memory_made : (room : Room) (ty : MemoryTypeValue) → Reveals replied.Memory (memory.creation_of room ty))
       (memory_grown : (x : MemoryValue) (pages : ℕ) → Reveals replied.Memory (memory.growth_of x pages))
       (table_made : (ty : TableTypeValue) (init : RefType) → Reveals replied.Table (table.creation_of ty init))
       (table_grown : (x : TableValue) (n reference : ℕ) → Reveals replied.Table (table.growth_of x n reference)) where
     -- a growth of a table, whose type is tested first
-    table_growth_revealed : (n : ℕ) (init : TypedRawRef) (reply : Reply) → Shows reply → (s s' : Situation TableValue S) (result : Result ℕ TableError) (charge : ℕ)
-        → reply ≡ reply_of replied.Number replied.Table result → GrowsTable rules n init s result charge s' → GrowsTable rules' n init s result charge s'
+    table_growth_revealed : (n : ℕ) (init : TypedRawRef) (reply : Reply) → Shows reply
+        → (s s' : Situation TableValue S) (result : Result ℕ TableError) (charge : ℕ)
+        → reply ≡ reply_of replied.Number replied.Table result → GrowsTable rules n init s result charge s'
+        → GrowsTable rules' n init s result charge s'
     table_growth_revealed n init reply shows s s' result charge is grows =
         on_test_too (same_type s.value.ty.element init.ty) _ _ _ _
-        (grows_revealed (record { amount = n; size = size_of s.value; effort = table.growth_of s.value n init.raw }) replied.Table (table_grown s.value n init.raw) s s' result charge reply is shows)
+        (grows_revealed (record { amount = n; size = size_of s.value; effort = table.growth_of s.value n init.raw })
+        replied.Table (table_grown s.value n init.raw) s s' result charge reply is shows)
         (λ mismatch. mismatch) grows
 
     -- an effect of any call
@@ -100,7 +129,8 @@ module _ {S : Type 0} (rules rules' : Rules S) (Shows : Reply → Type 0) where
         free = step.free;
         part = step.part;
         limiter = step.limiter;
-        row = creates_revealed replied.Memory (memory.creation_of Owned ty) (memory_made Owned ty) (new_memory Owned ty) w.state.memories step.part turn.reply w.limiter step.limiter shows step.row;
+        row = creates_revealed replied.Memory (memory.creation_of Owned ty) (memory_made Owned ty)
+            (new_memory Owned ty) w.state.memories step.part turn.reply w.limiter step.limiter shows step.row;
         after = step.after;
       }
       effect_revealed (LentMemoryMade ty) step = record {
@@ -108,15 +138,24 @@ module _ {S : Type 0} (rules rules' : Rules S) (Shows : Reply → Type 0) where
         part = step.part;
         limiter = step.limiter;
         row = on_live_too w.state.spare _ _ _ _ (λ none. none)
-            (λ region h. (creates_revealed replied.Memory (memory.creation_of (Lent region) ty) (memory_made (Lent region) ty) (new_memory (Lent region) ty) w.state.memories step.part.slots turn.reply w.limiter step.limiter shows h.0, h.1)) step.row;
+            (λ region h. (
+              creates_revealed replied.Memory (memory.creation_of (Lent region) ty)
+                  (memory_made (Lent region) ty) (new_memory (Lent region) ty) w.state.memories step.part.slots turn.reply
+                  w.limiter step.limiter shows h.0,
+              h.1,
+            )) step.row;
         after = step.after;
       }
       effect_revealed (MemoryGrown k pages) step = record {
         part = step.part;
         meter = step.meter;
         limiter = step.limiter;
-        row = acts_revealed k (reply_of replied.Number replied.Memory) (GrowsMemory rules pages) (GrowsMemory rules' pages) turn.reply
-            (λ s s' result charge is. grows_revealed (record { amount = pages; size = pages_of s.value; effort = memory.growth_of s.value pages }) replied.Memory (memory_grown s.value pages) s s' result charge turn.reply is shows)
+        row =
+            acts_revealed k (reply_of replied.Number replied.Memory) (GrowsMemory rules pages)
+            (GrowsMemory rules' pages) turn.reply
+            (λ s s' result charge is. grows_revealed
+            (record { amount = pages; size = pages_of s.value; effort = memory.growth_of s.value pages })
+            replied.Memory (memory_grown s.value pages) s s' result charge turn.reply is shows)
             _ _ turn.charge step.row;
         wrote = step.wrote;
         after = step.after;
@@ -125,24 +164,29 @@ module _ {S : Type 0} (rules rules' : Rules S) (Shows : Reply → Type 0) where
         free = step.free;
         part = step.part;
         limiter = step.limiter;
-        row = creates_revealed replied.Table (table.creation_of ty init.ty) (table_made ty init.ty) (new_table ty init.raw) w.state.tables step.part turn.reply w.limiter step.limiter shows step.row;
+        row = creates_revealed replied.Table (table.creation_of ty init.ty) (table_made ty init.ty)
+            (new_table ty init.raw) w.state.tables step.part turn.reply w.limiter step.limiter shows step.row;
         after = step.after;
       }
       effect_revealed (TableGrown k n init) step = record {
         part = step.part;
         meter = step.meter;
         limiter = step.limiter;
-        row = acts_revealed k (reply_of replied.Number replied.Table) (GrowsTable rules n init) (GrowsTable rules' n init) turn.reply (table_growth_revealed n init turn.reply shows) _ _ turn.charge step.row;
+        row = acts_revealed k (reply_of replied.Number replied.Table) (GrowsTable rules n init)
+            (GrowsTable rules' n init) turn.reply (table_growth_revealed n init turn.reply shows) _ _ turn.charge
+            step.row;
         wrote = step.wrote;
         after = step.after;
       }
       effect_revealed effect step = step
 
     -- a run
-    pub run_revealed : (w : World S) (turns : List Turn) (w' : World S) → All Shows (map Turn.reply turns) → Run rules w turns w' → Run rules' w turns w'
+    pub run_revealed : (w : World S) (turns : List Turn) (w' : World S) → All Shows (map Turn.reply turns)
+        → Run rules w turns w' → Run rules' w turns w'
     run_revealed w [] w' shown ran = ran
     run_revealed w (turn ∷ turns) w' shown (v, step, ran) = (
       v,
-      effect_revealed w turn v (All-head Shows turn.reply (map Turn.reply turns) shown) (effect_of w.state turn.call) step,
+      effect_revealed w turn v (All-head Shows turn.reply (map Turn.reply turns) shown) (effect_of w.state turn.call)
+          step,
       run_revealed v turns w' (All-tail Shows turn.reply (map Turn.reply turns) shown) ran,
     )

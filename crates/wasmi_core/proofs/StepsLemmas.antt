@@ -25,17 +25,19 @@ use Rattle.wasmi_store.specs.Segment.{SegmentValue}
 use Rattle.wasmi_store.specs.Table.{IsValidTable, TableValue, TableWrite, size_of}
 use Rattle.wasmi_types.specs.Access.{at}
 
--- what holds of a row on a part that was so before: a refusal leaves it, it is decided where memory isn't wanting, and it keeps what it says
+-- what holds of a row on a part: a refusal leaves it, it is decided where memory isn't wanting, and it keeps a fact
 pub record RowFacts {A : Type 0} (Row : Reply → A → Type 0) (old : A) (Keeps : A → Type 0) : Type 0 where
   pub back : (reply : Reply) (part : A) → IsRefusal reply → Row reply part → part ≡ old
-  pub same : (reply reply' : Reply) (part part' : A) → HasMemory reply → HasMemory reply' → Row reply part → Row reply' part'
+  pub same : (reply reply' : Reply) (part part' : A) → HasMemory reply → HasMemory reply' → Row reply part
+      → Row reply' part'
       → (reply ≡ reply') × (part ≡ part')
   pub keeps : (reply : Reply) (part : A) → Row reply part → Keeps part
 
--- what holds of a change of one part: a refusal leaves the state, it is decided where memory isn't wanting, and the meter, the sizes and validity stay
+-- what holds of a change of one part: so for the state, whose meter, sizes and validity stay
 pub record ChangeFacts (s : State) (Becomes : Reply → State → Type 0) : Type 0 where
   pub back : (reply : Reply) (s' : State) → IsRefusal reply → Becomes reply s' → s' ≡ s
-  pub same : (reply reply' : Reply) (s' s'' : State) → HasMemory reply → HasMemory reply' → Becomes reply s' → Becomes reply' s''
+  pub same : (reply reply' : Reply) (s' s'' : State) → HasMemory reply → HasMemory reply' → Becomes reply s'
+      → Becomes reply' s''
       → (reply ≡ reply') × (s' ≡ s'')
   pub meter : (reply : Reply) (s' : State) → Becomes reply s' → s'.meter ≡ s.meter
   pub still : (reply : Reply) (s' : State) → Becomes reply s' → NothingGrows (sizes s) (sizes s')
@@ -49,12 +51,14 @@ record PartOf (s : State) {A : Type 0} (with_part : A → State) (old : A) (Keep
   pub valid : (part : A) → Keeps part → IsValid s → IsValid (with_part part)
 
 -- what holds of a row holds of the change of the part
-change_of : (s : State) {A : Type 0} (with_part : A → State) (old : A) (Keeps : A → Type 0) (Row : Reply → A → Type 0) → PartOf s with_part old Keeps
+change_of : (s : State) {A : Type 0} (with_part : A → State) (old : A) (Keeps : A → Type 0) (Row : Reply → A → Type 0)
+    → PartOf s with_part old Keeps
     → RowFacts Row old Keeps → ChangeFacts s (ChangesPart with_part Row)
 change_of s with_part old Keeps Row part facts = record {
   back = λ reply s' refused c. c.after ∙ ap with_part (facts.back reply c.part refused c.row) ∙ part.whole;
   same = λ reply reply' s' s'' has has' c c'.
-      let both = facts.same reply reply' c.part c'.part has has' c.row c'.row in (both.0, c.after ∙ ap with_part both.1 ∙ sym c'.after);
+      let both = facts.same reply reply' c.part c'.part has has' c.row c'.row in
+      (both.0, c.after ∙ ap with_part both.1 ∙ sym c'.after);
   meter = λ reply s' c. ap (λ (t : State). t.meter) c.after ∙ part.meter c.part;
   still = λ reply s' c kind. ap (λ t. sizes t kind) c.after ∙ part.still c.part (facts.keeps reply c.part c.row) kind;
   valid = λ reply s' valid c. subst IsValid (sym c.after) (part.valid c.part (facts.keeps reply c.part c.row) valid);
@@ -62,10 +66,14 @@ change_of s with_part old Keeps Row part facts = record {
 
 -- what a change of memories, tables, element segments or registers has to keep
 abbrev KeepsMemories : State → List (Slot MemoryValue) → Type 0
-KeepsMemories s slots = (map (slot_count byte_count) slots ≡ map (slot_count byte_count) s.memories) × (AllValid IsValidMemory s.memories → AllValid IsValidMemory slots)
+KeepsMemories s slots =
+    (map (slot_count byte_count) slots ≡ map (slot_count byte_count) s.memories) × (AllValid IsValidMemory s.memories
+    → AllValid IsValidMemory slots)
 
 abbrev KeepsTables : State → List (Slot TableValue) → Type 0
-KeepsTables s slots = (map (slot_count size_of) slots ≡ map (slot_count size_of) s.tables) × (AllValid IsValidTable s.tables → AllValid IsValidTable slots)
+KeepsTables s slots =
+    (map (slot_count size_of) slots ≡ map (slot_count size_of) s.tables) × (AllValid IsValidTable s.tables
+    → AllValid IsValidTable slots)
 
 abbrev KeepsSegments : State → List SegmentValue → Type 0
 KeepsSegments s segments = All IsValidSegment s.segments → All IsValidSegment segments
@@ -80,7 +88,12 @@ module _ (s : State) where
     whole = refl;
     meter = λ part. refl;
     still = λ part keeps. each_kind (λ kind. sizes (with_memories s part) kind ≡ sizes s kind) keeps.0 refl;
-    valid = λ part keeps v. record { memories = keeps.1 v.memories; tables = v.tables; segments = v.segments; registers = v.registers };
+    valid = λ part keeps v. record {
+      memories = keeps.1 v.memories;
+      tables = v.tables;
+      segments = v.segments;
+      registers = v.registers;
+    };
   }
 
   the_tables : PartOf s (with_tables s) s.tables (KeepsTables s)
@@ -88,7 +101,12 @@ module _ (s : State) where
     whole = refl;
     meter = λ part. refl;
     still = λ part keeps. each_kind (λ kind. sizes (with_tables s part) kind ≡ sizes s kind) refl keeps.0;
-    valid = λ part keeps v. record { memories = v.memories; tables = keeps.1 v.tables; segments = v.segments; registers = v.registers };
+    valid = λ part keeps v. record {
+      memories = v.memories;
+      tables = keeps.1 v.tables;
+      segments = v.segments;
+      registers = v.registers;
+    };
   }
 
   the_segments : PartOf s (with_segments s) s.segments (KeepsSegments s)
@@ -96,7 +114,12 @@ module _ (s : State) where
     whole = refl;
     meter = λ part. refl;
     still = λ part keeps. each_kind (λ kind. sizes (with_segments s part) kind ≡ sizes s kind) refl refl;
-    valid = λ part keeps v. record { memories = v.memories; tables = v.tables; segments = keeps v.segments; registers = v.registers };
+    valid = λ part keeps v. record {
+      memories = v.memories;
+      tables = v.tables;
+      segments = keeps v.segments;
+      registers = v.registers;
+    };
   }
 
   the_globals : PartOf s (with_globals s) s.globals (λ globals. Unit {0})
@@ -104,7 +127,13 @@ module _ (s : State) where
     whole = refl;
     meter = λ part. refl;
     still = λ part keeps. each_kind (λ kind. sizes (with_globals s part) kind ≡ sizes s kind) refl refl;
-    valid = λ part keeps v. record { memories = v.memories; tables = v.tables; segments = v.segments; registers = v.registers };
+    valid = λ part keeps v. record {
+      memories = v.memories;
+      tables = v.tables;
+      segments = v.segments;
+      registers =
+          v.registers;
+    };
   }
 
   the_registers : PartOf s (with_registers s) s.registers (KeepsRegisters s)
@@ -112,64 +141,107 @@ module _ (s : State) where
     whole = refl;
     meter = λ part. refl;
     still = λ part keeps. each_kind (λ kind. sizes (with_registers s part) kind ≡ sizes s kind) refl refl;
-    valid = λ part keeps v. record { memories = v.memories; tables = v.tables; segments = v.segments; registers = keeps ∙ v.registers };
+    valid = λ part keeps v. record {
+      memories = v.memories;
+      tables = v.tables;
+      segments = v.segments;
+      registers =
+          keeps ∙ v.registers;
+    };
   }
 
 -- each change of one part
 pub change_facts : (s : State) (change : Change) → ChangeFacts s (TakesChange change s)
-change_facts s (BytesWritten k offset bytes) = change_of s (with_memories s) s.memories (KeepsMemories s) _ (the_memories s) (record {
-  back = λ reply part refused row. write_refused k offset bytes s.memories reply part refused row;
-  same = λ reply reply' part part' has has' row row'. writes_same k offset bytes s.memories reply reply' part part' row row';
-  keeps = λ reply part row. (
-    written_kept k s.memories reply part offset bytes row,
-    changes_valid IsValidMemory k s.memories reply part _ (λ x x' valid change. write_valid x x' offset bytes change.0 valid change.1) row,
-  );
-})
-change_facts s (BytesStored k a stored) = change_of s (with_memories s) s.memories (KeepsMemories s) _ (the_memories s) (record {
-  back = λ reply part refused row. vector_store_back k s.memories reply part a refused stored row;
-  same = λ reply reply' part part' has has' row row'. vector_stores_same k a stored s.memories reply reply' part part' row row';
-  keeps = λ reply part row. (vector_store_kept k s.memories reply part a stored row, vector_store_valid k a stored s.memories reply part row);
-})
-change_facts s (RegisterSet dst given) = change_of s (with_registers s) s.registers (KeepsRegisters s) _ (the_registers s) (record {
-  back = λ reply part refused row. takes_back given (slice_get s.registers dst) dst s.registers reply part refused row;
-  same = λ reply reply' part part' has has' row row'. takes_same given (slice_get s.registers dst) dst s.registers reply reply' part part' row row';
-  keeps = λ reply part row. takes_count given (slice_get s.registers dst) dst s.registers reply part row;
-})
-change_facts s (MemoryDropped k) = change_of s (with_memories s) s.memories (KeepsMemories s) _ (the_memories s) (record {
-  back = λ reply part refused row. drops_back byte_count k s.memories reply part refused row;
-  same = λ reply reply' part part' has has' row row'. drops_same byte_count k s.memories reply reply' part part' row row';
-  keeps = λ reply part row. (drops_kept byte_count k s.memories reply part row, drops_valid IsValidMemory byte_count k s.memories reply part row);
-})
+change_facts s (BytesWritten k offset bytes) =
+    change_of s (with_memories s) s.memories (KeepsMemories s) _ (the_memories s) (record {
+      back = λ reply part refused row. write_refused k offset bytes s.memories reply part refused row;
+      same = λ reply reply' part part' has has' row row'. writes_same k offset bytes s.memories reply reply' part part'
+          row row';
+      keeps = λ reply part row. (
+        written_kept k s.memories reply part offset bytes row,
+        changes_valid IsValidMemory k s.memories reply part
+            _ (λ x x' valid change. write_valid x x' offset bytes change.0 valid change.1) row,
+      );
+    })
+change_facts s (BytesStored k a stored) =
+    change_of s (with_memories s) s.memories (KeepsMemories s) _ (the_memories s) (record {
+      back = λ reply part refused row. vector_store_back k s.memories reply part a refused stored row;
+      same = λ reply reply' part part' has has' row row'.
+          vector_stores_same k a stored s.memories reply reply' part part'
+          row row';
+      keeps = λ reply part row. (
+        vector_store_kept k s.memories reply part a stored row,
+        vector_store_valid k a stored
+            s.memories reply part row,
+      );
+    })
+change_facts s (RegisterSet dst given) =
+    change_of s (with_registers s) s.registers (KeepsRegisters s) _ (the_registers s) (record {
+      back = λ reply part refused row.
+          takes_back given (slice_get s.registers dst) dst s.registers reply part refused row;
+      same = λ reply reply' part part' has has' row row'. takes_same given (slice_get s.registers dst) dst s.registers
+          reply reply' part part' row row';
+      keeps = λ reply part row. takes_count given (slice_get s.registers dst) dst s.registers reply part row;
+    })
+change_facts s (MemoryDropped k) =
+    change_of s (with_memories s) s.memories (KeepsMemories s) _ (the_memories s) (record {
+      back = λ reply part refused row. drops_back byte_count k s.memories reply part refused row;
+      same = λ reply reply' part part' has has' row row'. drops_same byte_count k s.memories reply reply' part part' row
+          row';
+      keeps = λ reply part row. (
+        drops_kept byte_count k s.memories reply part row,
+        drops_valid IsValidMemory byte_count k
+            s.memories reply part row,
+      );
+    })
 change_facts s (TableDropped k) = change_of s (with_tables s) s.tables (KeepsTables s) _ (the_tables s) (record {
   back = λ reply part refused row. drops_back size_of k s.tables reply part refused row;
   same = λ reply reply' part part' has has' row row'. drops_same size_of k s.tables reply reply' part part' row row';
-  keeps = λ reply part row. (drops_kept size_of k s.tables reply part row, drops_valid IsValidTable size_of k s.tables reply part row);
+  keeps = λ reply part row. (
+    drops_kept size_of k s.tables reply part row,
+    drops_valid IsValidTable size_of k s.tables
+        reply part row,
+  );
 })
-change_facts s (ElementSet k index value) = change_of s (with_tables s) s.tables (KeepsTables s) _ (the_tables s) (record {
-  back = λ reply part refused row. set_refused k index value s.tables reply part refused row;
-  same = λ reply reply' part part' has has' row row'. sets_same k index value s.tables reply reply' part part' row row';
-  keeps = λ reply part row. (set_kept k s.tables reply part index value row, set_valid k index value s.tables reply part row);
-})
-change_facts s (SegmentMade ty items) = change_of s (with_segments s) s.segments (KeepsSegments s) _ (the_segments s) (record {
-  back = λ reply part refused row. segment_back ty items s.segments reply part refused row;
-  same = λ reply reply' part part' has has' row row'. segments_same ty items s.segments reply reply' part part' has has' row row';
-  keeps = λ reply part row. creates_segment_valid ty items s.segments reply part row;
-})
-change_facts s (ItemsDropped k) = change_of s (with_segments s) s.segments (KeepsSegments s) _ (the_segments s) (record {
-  back = λ reply part refused row. items_refused k s.segments reply part refused row;
-  same = λ reply reply' part part' has has' row row'. items_same k s.segments reply reply' part part' row row';
-  keeps = λ reply part row. item_valid IsValidSegment k s.segments reply part _ (λ x x' valid change. subst IsValidSegment (sym change.1) (omega arith)) row;
-})
-change_facts s (GlobalMade global) = change_of s (with_globals s) s.globals (λ globals. Unit {0}) _ (the_globals s) (record {
-  back = λ reply part refused row. global_made_back global s.globals reply part refused row;
-  same = λ reply reply' part part' has has' row row'. globals_same global s.globals reply reply' part part' has has' row row';
-  keeps = λ reply part row. tt;
-})
-change_facts s (GlobalSet k value) = change_of s (with_globals s) s.globals (λ globals. Unit {0}) _ (the_globals s) (record {
-  back = λ reply part refused row. global_refused k value s.globals reply part refused row;
-  same = λ reply reply' part part' has has' row row'. global_sets_same k value s.globals reply reply' part part' row row';
-  keeps = λ reply part row. tt;
-})
+change_facts s (ElementSet k index value) =
+    change_of s (with_tables s) s.tables (KeepsTables s) _ (the_tables s) (record {
+      back = λ reply part refused row. set_refused k index value s.tables reply part refused row;
+      same = λ reply reply' part part' has has' row row'.
+          sets_same k index value s.tables reply reply' part part' row row';
+      keeps = λ reply part row. (
+        set_kept k s.tables reply part index value row,
+        set_valid k index value s.tables reply
+            part row,
+      );
+    })
+change_facts s (SegmentMade ty items) =
+    change_of s (with_segments s) s.segments (KeepsSegments s) _ (the_segments s) (record {
+      back = λ reply part refused row. segment_back ty items s.segments reply part refused row;
+      same = λ reply reply' part part' has has' row row'. segments_same ty items s.segments reply reply' part part' has
+          has' row row';
+      keeps = λ reply part row. creates_segment_valid ty items s.segments reply part row;
+    })
+change_facts s (ItemsDropped k) =
+    change_of s (with_segments s) s.segments (KeepsSegments s) _ (the_segments s) (record {
+      back = λ reply part refused row. items_refused k s.segments reply part refused row;
+      same = λ reply reply' part part' has has' row row'. items_same k s.segments reply reply' part part' row row';
+      keeps = λ reply part row. item_valid IsValidSegment k s.segments reply part
+          _ (λ x x' valid change. subst IsValidSegment (sym change.1) (omega arith)) row;
+    })
+change_facts s (GlobalMade global) =
+    change_of s (with_globals s) s.globals (λ globals. Unit {0}) _ (the_globals s) (record {
+      back = λ reply part refused row. global_made_back global s.globals reply part refused row;
+      same = λ reply reply' part part' has has' row row'. globals_same global s.globals reply reply' part part' has has'
+          row row';
+      keeps = λ reply part row. tt;
+    })
+change_facts s (GlobalSet k value) =
+    change_of s (with_globals s) s.globals (λ globals. Unit {0}) _ (the_globals s) (record {
+      back = λ reply part refused row. global_refused k value s.globals reply part refused row;
+      same = λ reply reply' part part' has has' row row'. global_sets_same k value s.globals reply reply' part part' row
+          row';
+      keeps = λ reply part row. tt;
+    })
 
 -- an initialization by no item is free
 init_pays : (len : ℕ) (none : Bool) → nat_eq len 0 ≡ none → ((if none then None else Some len) ≡ Some len) ⊎ (len ≡ 0)
@@ -181,8 +253,11 @@ abbrev pub IsWrite : ℕ → (TableValue → TableWrite) → Type 0
 IsWrite len write = (x : TableValue) → KeepsLength (write x) x × (((write x).paid ≡ Some len) ⊎ (len ≡ 0))
 
 pub source_writes : (source : Source) (dst len : ℕ) → OnLive (write_of source dst len) (Unit {0}) (IsWrite len)
-source_writes (OfReference value) dst len = λ x. (λ elements is. overwrite_length x.elements (replicate len value.raw) elements dst is, inl refl)
+source_writes (OfReference value) dst len =
+    λ x. (λ elements is. overwrite_length x.elements (replicate len value.raw) elements dst is, inl refl)
 source_writes (OfTable None src) dst len = tt
-source_writes (OfTable (Some y) src) dst len = λ x. (λ elements is. copied_length x.elements elements dst (at y.elements src len) is, inl refl)
+source_writes (OfTable (Some y) src) dst len =
+    λ x. (λ elements is. copied_length x.elements elements dst (at y.elements src len) is, inl refl)
 source_writes (OfSegment None src) dst len = tt
-source_writes (OfSegment (Some y) src) dst len = λ x. (λ elements is. copied_length x.elements elements dst (at y.items src len) is, init_pays len _ refl)
+source_writes (OfSegment (Some y) src) dst len =
+    λ x. (λ elements is. copied_length x.elements elements dst (at y.items src len) is, init_pays len _ refl)

@@ -28,78 +28,114 @@ use Rattle.wasmi_store.specs.Table as table
 use Rattle.wasmi_store.specs.TableType as table_type
 
 module _ (w : TableWrite) (x : TableValue) (m : Option Meter) (charge : ℕ) (x' : TableValue) where
-  ends_back : (typed : Bool) (written : Option (List ℕ)) (payable : Bool) (result : Result (Unit {0}) TableError) → IsRefusal (reply_of (λ _. replied.Done) replied.Table result) → EndsBy w x m typed written payable result charge x' → x' ≡ x
+  ends_back : (typed : Bool) (written : Option (List ℕ)) (payable : Bool) (result : Result (Unit {0}) TableError)
+      → IsRefusal (reply_of (λ _. replied.Done) replied.Table result)
+      → EndsBy w x m typed written payable result charge x' → x' ≡ x
   ends_back false written payable result refused ends = ends.2
   ends_back true None payable result refused ends = ends.2
   ends_back true (Some elements) false result refused ends = ends.2
   ends_back true (Some elements) true result refused ends = absurd (rw ends.0 at refused)
 
-  write_back : (m' : Option Meter) (result : Result (Unit {0}) TableError) → IsRefusal (reply_of (λ _. replied.Done) replied.Table result) → WritesTable w x m result charge x' m' → x' ≡ x
+  write_back : (m' : Option Meter) (result : Result (Unit {0}) TableError)
+      → IsRefusal (reply_of (λ _. replied.Done) replied.Table result) → WritesTable w x m result charge x' m' → x' ≡ x
   write_back m' result refused writes = ends_back w.typed w.written _ result refused writes.ends
 
-module _ (k : ℕ) (slots : List (Slot TableValue)) (m : Meter) (reply : Reply) (refused : IsRefusal reply) (charge : ℕ) (slots' : List (Slot TableValue)) (m' : Meter) where
-  table_write_back : (write : TableValue → TableWrite) → WritesTableAt k write (metered slots m) reply charge (metered slots' m') → slots' ≡ slots
+module _ (k : ℕ) (slots : List (Slot TableValue)) (m : Meter) (reply : Reply) (refused : IsRefusal reply) (charge : ℕ)
+    (slots' : List (Slot TableValue)) (m' : Meter) where
+  table_write_back : (write : TableValue → TableWrite)
+      → WritesTableAt k write (metered slots m) reply charge (metered slots' m') → slots' ≡ slots
   table_write_back write writes =
       on_live (live_at slots k) _ _ writes
       (λ missing. ap (λ (s : Metered). s.value) missing.2)
-      (λ x found h. h.4 ∙ put_back slots k x h.1 found (write_back (write x) x (Some m) charge h.1 (Some m') h.0 (rw h.3 at refused) h.2))
+      (λ x found h. h.4 ∙ put_back slots k x h.1 found (write_back (write x) x (Some m) charge h.1 (Some m') h.0
+      (rw h.3 at refused) h.2))
 
-  pub table_copy_back : {X : Type 0} (source : Option X) (write : X → TableValue → TableWrite) → WritesTableFrom source k write (metered slots m) reply charge (metered slots' m') → slots' ≡ slots
+  pub table_copy_back : {X : Type 0} (source : Option X) (write : X → TableValue → TableWrite)
+      → WritesTableFrom source k write (metered slots m) reply charge (metered slots' m') → slots' ≡ slots
   table_copy_back source write writes =
-      on_live source _ _ writes (λ missing. ap (λ (s : Metered). s.value) missing.2) (λ y found h. table_write_back (write y) h)
+      on_live source _ _ writes (λ missing. ap (λ (s : Metered). s.value) missing.2)
+      (λ y found h. table_write_back (write y) h)
 
-pub table_growth_back : {S : Type 0} (rules : Rules S) (k n : ℕ) (init : TypedRawRef) (slots : List (Slot TableValue)) (m : Meter) (l : S) (reply : Reply) (charge : ℕ) (slots' : List (Slot TableValue)) (m' : Meter) (l' : S) → IsRefusal reply
-    → ActsAt k (reply_of replied.Number replied.Table) (GrowsTable rules n init) (record { value = slots; meter = Some m; limiter = l }) reply charge (record { value = slots'; meter = Some m'; limiter = l' }) → slots' ≡ slots
+pub table_growth_back : {S : Type 0} (rules : Rules S) (k n : ℕ) (init : TypedRawRef) (slots : List (Slot TableValue))
+    (m : Meter) (l : S) (reply : Reply) (charge : ℕ) (slots' : List (Slot TableValue)) (m' : Meter) (l' : S)
+    → IsRefusal reply
+    → ActsAt k (reply_of replied.Number replied.Table) (GrowsTable rules n init)
+    (record { value = slots; meter = Some m; limiter = l }) reply charge
+    (record { value = slots'; meter = Some m'; limiter = l' }) → slots' ≡ slots
 table_growth_back {S} rules k n init slots m l reply charge slots' m' l' refused acts =
     on_live (live_at slots k) _ _ acts
     (λ missing. ap (λ (s : Situation (List (Slot TableValue)) S). s.value) missing.2)
     (λ x found a. a.4 ∙ put_back slots k x a.1 found
-    (on_test (same_type x.ty.element init.ty) _ _ a.2 (λ g. grows_back replied.Table rules _ x m l charge a.1 m' l' a.0 (rw a.3 at refused) g) (λ g. ap (λ (s : Situation TableValue S). s.value) g.2)))
+    (on_test (same_type x.ty.element init.ty) _ _ a.2
+    (λ g. grows_back replied.Table rules _ x m l charge a.1 m' l' a.0 (rw a.3 at refused) g)
+    (λ g. ap (λ (s : Situation TableValue S). s.value) g.2)))
 
-pub set_refused : (k index : ℕ) (value : TypedRawRef) (slots : List (Slot TableValue)) (reply : Reply) (slots' : List (Slot TableValue)) → IsRefusal reply → SetsElementAt k index value slots reply slots' → slots' ≡ slots
+pub set_refused : (k index : ℕ) (value : TypedRawRef) (slots : List (Slot TableValue)) (reply : Reply)
+    (slots' : List (Slot TableValue)) → IsRefusal reply → SetsElementAt k index value slots reply slots'
+    → slots' ≡ slots
 set_refused k index value slots reply slots' refused sets =
     changes_back k slots reply slots' _ (λ x x' c. write_back _ x None 0 x' None c.0 (rw c.2 at refused) c.1) sets
 
 -- tables
-module _ (w : TableWrite) (x : TableValue) (m : Option Meter) (result result' : Result (Unit {0}) TableError) (charge charge' : ℕ) (x' x'' : TableValue) where
-  ends_same : (typed : Bool) (written : Option (List ℕ)) (payable : Bool) → EndsBy w x m typed written payable result charge x' → EndsBy w x m typed written payable result' charge' x'' → (result ≡ result') × (charge ≡ charge') × (x' ≡ x'')
+module _ (w : TableWrite) (x : TableValue) (m : Option Meter) (result result' : Result (Unit {0}) TableError)
+    (charge charge' : ℕ) (x' x'' : TableValue) where
+  ends_same : (typed : Bool) (written : Option (List ℕ)) (payable : Bool)
+      → EndsBy w x m typed written payable result charge x' → EndsBy w x m typed written payable result' charge' x''
+      → (result ≡ result') × (charge ≡ charge') × (x' ≡ x'')
   ends_same false written payable a b = (a.0 ∙ sym b.0, a.1 ∙ sym b.1, a.2 ∙ sym b.2)
   ends_same true None payable a b = (a.0 ∙ sym b.0, a.1 ∙ sym b.1, a.2 ∙ sym b.2)
   ends_same true (Some elements) false a b = (a.0 ∙ sym b.0, a.1 ∙ sym b.1, a.2 ∙ sym b.2)
   ends_same true (Some elements) true a b = (a.0 ∙ sym b.0, a.1 ∙ sym b.1, a.2 ∙ sym b.2)
 
-  table_write_same : (m' m'' : Option Meter) → WritesTable w x m result charge x' m' → WritesTable w x m result' charge' x'' m'' → (result ≡ result') × (charge ≡ charge') × (x' ≡ x'') × (m' ≡ m'')
+  table_write_same : (m' m'' : Option Meter) → WritesTable w x m result charge x' m'
+      → WritesTable w x m result' charge' x'' m'' → (result ≡ result') × (charge ≡ charge') × (x' ≡ x'') × (m' ≡ m'')
   table_write_same m' m'' a b =
       let ends = ends_same w.typed w.written _ a.ends b.ends in
       (ends.0, ends.1, ends.2, a.meter ∙ ap (λ c. option_map (λ m. meter_after m c) m) ends.1 ∙ sym b.meter)
 
-pub sets_same : (k index : ℕ) (value : TypedRawRef) (slots : List (Slot TableValue)) (reply reply' : Reply) (slots' slots'' : List (Slot TableValue)) → SetsElementAt k index value slots reply slots' → SetsElementAt k index value slots reply' slots'' → (reply ≡ reply') × (slots' ≡ slots'')
+pub sets_same : (k index : ℕ) (value : TypedRawRef) (slots : List (Slot TableValue)) (reply reply' : Reply)
+    (slots' slots'' : List (Slot TableValue)) → SetsElementAt k index value slots reply slots'
+    → SetsElementAt k index value slots reply' slots'' → (reply ≡ reply') × (slots' ≡ slots'')
 sets_same k index value slots reply reply' slots' slots'' a b =
-    changes_same (live_at slots k) (λ x. slice_set slots k (Live x)) slots reply reply' slots' slots'' _ _ (λ x x' x'' h h'.
-    let both = table_write_same _ x None h.0 h'.0 0 0 x' x'' None None h.1 h'.1 in (h.2 ∙ ap (reply_of (λ _. replied.Done) replied.Table) both.0 ∙ sym h'.2, both.2)) a b
+    changes_same (live_at slots k) (λ x. slice_set slots k (Live x)) slots reply reply' slots' slots''
+    _ _ (λ x x' x'' h h'.
+    let both =
+    table_write_same _ x None h.0 h'.0 0 0 x' x'' None None h.1 h'.1 in
+    (h.2 ∙ ap (reply_of (λ _. replied.Done) replied.Table) both.0 ∙ sym h'.2, both.2)) a b
 
-table_writes_same : (k : ℕ) (write : TableValue → TableWrite) (s : Metered) (reply reply' : Reply) (charge charge' : ℕ) (s' s'' : Metered) → WritesTableAt k write s reply charge s' → WritesTableAt k write s reply' charge' s'' → (reply ≡ reply') × (charge ≡ charge') × (s' ≡ s'')
+table_writes_same : (k : ℕ) (write : TableValue → TableWrite) (s : Metered) (reply reply' : Reply)
+    (charge charge' : ℕ) (s' s'' : Metered) → WritesTableAt k write s reply charge s'
+    → WritesTableAt k write s reply' charge' s'' → (reply ≡ reply') × (charge ≡ charge') × (s' ≡ s'')
 table_writes_same k write s reply reply' charge charge' s' s'' a b =
-    acts_same {S = Unit {0}} (λ s result charge s'. WritesTable (write s.value) s.value s.meter result charge s'.value s'.meter)
+    acts_same {S = Unit {0}} (λ s result charge s'. WritesTable (write s.value) s.value s.meter result charge s'.value
+    s'.meter)
     (λ s result result' charge charge' s' s'' h h'.
-    let both = table_write_same (write s.value) s.value s.meter result result' charge charge' s'.value s''.value s'.meter s''.meter h h' in
+    let both =
+    table_write_same (write s.value) s.value s.meter result result' charge charge' s'.value s''.value s'.meter
+    s''.meter h h' in
     (both.0, both.1, λ i. record { value = both.2 i; meter = both.3 i; limiter = tt }))
     k (reply_of (λ _. replied.Done) replied.Table) s reply reply' charge charge' s' s'' a b
 
-pub table_copies_same : {X : Type 0} (source : Option X) (k : ℕ) (write : X → TableValue → TableWrite) (s : Metered) (reply reply' : Reply) (charge charge' : ℕ) (s' s'' : Metered) → WritesTableFrom source k write s reply charge s' → WritesTableFrom source k write s reply' charge' s'' → (reply ≡ reply') × (charge ≡ charge') × (s' ≡ s'')
+pub table_copies_same : {X : Type 0} (source : Option X) (k : ℕ) (write : X → TableValue → TableWrite) (s : Metered)
+    (reply reply' : Reply) (charge charge' : ℕ) (s' s'' : Metered) → WritesTableFrom source k write s reply charge s'
+    → WritesTableFrom source k write s reply' charge' s'' → (reply ≡ reply') × (charge ≡ charge') × (s' ≡ s'')
 table_copies_same source k write s reply reply' charge charge' s' s'' a b =
-    on_both source _ _ _ _ a b (λ h h'. (h.0 ∙ sym h'.0, h.1 ∙ sym h'.1, h.2 ∙ sym h'.2)) (λ y h h'. table_writes_same k (write y) s reply reply' charge charge' s' s'' h h')
+    on_both source _ _ _ _ a b (λ h h'. (h.0 ∙ sym h'.0, h.1 ∙ sym h'.1, h.2 ∙ sym h'.2))
+    (λ y h h'. table_writes_same k (write y) s reply reply' charge charge' s' s'' h h')
 
 -- what may be written over a table has as many elements
 abbrev pub KeepsLength : TableWrite → TableValue → Type 0
 KeepsLength w x = (elements : List ℕ) → w.written ≡ Some elements → length elements ≡ length x.elements
 
-pub copied_length : (elements written : List ℕ) (dst : ℕ) (part : Option (List ℕ)) → option_and_then (λ ys. overwrite elements dst ys) part ≡ Some written → length written ≡ length elements
+pub copied_length : (elements written : List ℕ) (dst : ℕ) (part : Option (List ℕ))
+    → option_and_then (λ ys. overwrite elements dst ys) part ≡ Some written → length written ≡ length elements
 copied_length elements written dst (Some part) is = overwrite_length elements part written dst is
 copied_length elements written dst None is = absurd (none-some written is)
 
-module _ (w : TableWrite) (x : TableValue) (m : Option Meter) (result : Result (Unit {0}) TableError) (charge : ℕ) (x' : TableValue) (keeps : KeepsLength w x) where
-  ends_count : (typed : Bool) (written : Option (List ℕ)) (payable : Bool) → w.written ≡ written → EndsBy w x m typed written payable result charge x' → size_of x' ≡ size_of x
+module _ (w : TableWrite) (x : TableValue) (m : Option Meter) (result : Result (Unit {0}) TableError) (charge : ℕ)
+    (x' : TableValue) (keeps : KeepsLength w x) where
+  ends_count : (typed : Bool) (written : Option (List ℕ)) (payable : Bool) → w.written ≡ written
+      → EndsBy w x m typed written payable result charge x' → size_of x' ≡ size_of x
   ends_count false written payable is ends = ap size_of ends.2
   ends_count true None payable is ends = ap size_of ends.2
   ends_count true (Some elements) false is ends = ap size_of ends.2
@@ -109,53 +145,78 @@ module _ (w : TableWrite) (x : TableValue) (m : Option Meter) (result : Result (
   write_count m' writes = ends_count w.typed w.written _ refl writes.ends
 
 -- the writes over a table at an index
-module _ (k : ℕ) (slots : List (Slot TableValue)) (m : Meter) (reply : Reply) (charge : ℕ) (slots' : List (Slot TableValue)) (m' : Meter) where
-  pub write_kept : (write : TableValue → TableWrite) → ((x : TableValue) → KeepsLength (write x) x) → WritesTableAt k write (metered slots m) reply charge (metered slots' m') → map (slot_count size_of) slots' ≡ map (slot_count size_of) slots
+module _ (k : ℕ) (slots : List (Slot TableValue)) (m : Meter) (reply : Reply) (charge : ℕ)
+    (slots' : List (Slot TableValue)) (m' : Meter) where
+  pub write_kept : (write : TableValue → TableWrite) → ((x : TableValue) → KeepsLength (write x) x)
+      → WritesTableAt k write (metered slots m) reply charge (metered slots' m')
+      → map (slot_count size_of) slots' ≡ map (slot_count size_of) slots
   write_kept write keeps writes =
       on_live (live_at slots k) _ _ writes
       (λ missing. ap (λ (s : Metered). map (slot_count size_of) s.value) missing.2)
-      (λ x found h. ap (map (slot_count size_of)) h.4 ∙ counts_kept size_of slots k x (Live h.1) found (write_count (write x) x (Some m) h.0 charge h.1 (keeps x) (Some m') h.2))
+      (λ x found h. ap (map (slot_count size_of)) h.4
+      ∙ counts_kept size_of slots k x (Live h.1) found
+      (write_count (write x) x (Some m) h.0 charge h.1 (keeps x) (Some m') h.2))
 
-  pub copy_kept : {X : Type 0} (source : Option X) (write : X → TableValue → TableWrite) → OnLive source (Unit {0}) (λ y. (x : TableValue) → KeepsLength (write y x) x) → WritesTableFrom source k write (metered slots m) reply charge (metered slots' m') → map (slot_count size_of) slots' ≡ map (slot_count size_of) slots
+  pub copy_kept : {X : Type 0} (source : Option X) (write : X → TableValue → TableWrite)
+      → OnLive source (Unit {0}) (λ y. (x : TableValue) → KeepsLength (write y x) x)
+      → WritesTableFrom source k write (metered slots m) reply charge (metered slots' m')
+      → map (slot_count size_of) slots' ≡ map (slot_count size_of) slots
   copy_kept source write keeps writes =
       on_live source _ _ (both_live source _ _ _ _ keeps writes)
       (λ missing. ap (λ (s : Metered). map (slot_count size_of) s.value) missing.1.2)
       (λ y found h. write_kept (write y) h.0 h.1)
 
-pub set_kept : (k : ℕ) (slots : List (Slot TableValue)) (reply : Reply) (slots' : List (Slot TableValue)) (index : ℕ) (value : TypedRawRef) → SetsElementAt k index value slots reply slots' → map (slot_count size_of) slots' ≡ map (slot_count size_of) slots
+pub set_kept : (k : ℕ) (slots : List (Slot TableValue)) (reply : Reply) (slots' : List (Slot TableValue)) (index : ℕ)
+    (value : TypedRawRef) → SetsElementAt k index value slots reply slots'
+    → map (slot_count size_of) slots' ≡ map (slot_count size_of) slots
 set_kept k slots reply slots' index value sets =
-    changes_kept size_of k slots reply slots' _ (λ x x' c. write_count (typed_by x value.ty (setting_of x index value.raw)) x None c.0 0 x' (λ elements is. overwrite_length x.elements (value.raw ∷ []) elements index is) None c.1) sets
+    changes_kept size_of k slots reply slots'
+    _ (λ x x' c. write_count (typed_by x value.ty (setting_of x index value.raw)) x None c.0 0 x'
+    (λ elements is. overwrite_length x.elements (value.raw ∷ []) elements index is) None c.1) sets
 
 table_as_long : (x x' : TableValue) → x'.ty ≡ x.ty → size_of x' ≡ size_of x → IsValidTable x → IsValidTable x'
 table_as_long x x' same long valid = record {
   type = subst table_type.IsValid (sym same) valid.type;
-  sized = subst (λ n. table.IsSized x'.ty n) (sym long) (subst (λ ty. table.IsSized ty (size_of x)) (sym same) valid.sized);
+  sized = subst (λ n. table.IsSized x'.ty n) (sym long)
+      (subst (λ ty. table.IsSized ty (size_of x)) (sym same) valid.sized);
 }
 
 -- a part of a table that is written over
-module _ (w : TableWrite) (x : TableValue) (m : Option Meter) (result : Result (Unit {0}) TableError) (charge : ℕ) (x' : TableValue) where
-  ends_typed : (typed : Bool) (written : Option (List ℕ)) (payable : Bool) → EndsBy w x m typed written payable result charge x' → x'.ty ≡ x.ty
+module _ (w : TableWrite) (x : TableValue) (m : Option Meter) (result : Result (Unit {0}) TableError) (charge : ℕ)
+    (x' : TableValue) where
+  ends_typed : (typed : Bool) (written : Option (List ℕ)) (payable : Bool)
+      → EndsBy w x m typed written payable result charge x' → x'.ty ≡ x.ty
   ends_typed false written payable ends = ap (λ (t : TableValue). t.ty) ends.2
   ends_typed true None payable ends = ap (λ (t : TableValue). t.ty) ends.2
   ends_typed true (Some elements) false ends = ap (λ (t : TableValue). t.ty) ends.2
   ends_typed true (Some elements) true ends = ap (λ (t : TableValue). t.ty) ends.2
 
-  written_valid : KeepsLength w x → (m' : Option Meter) → IsValidTable x → WritesTable w x m result charge x' m' → IsValidTable x'
-  written_valid keeps m' valid writes = table_as_long x x' (ends_typed w.typed w.written _ writes.ends) (write_count w x m result charge x' keeps m' writes) valid
+  written_valid : KeepsLength w x → (m' : Option Meter) → IsValidTable x → WritesTable w x m result charge x' m'
+      → IsValidTable x'
+  written_valid keeps m' valid writes =
+      table_as_long x x' (ends_typed w.typed w.written _ writes.ends)
+      (write_count w x m result charge x' keeps m' writes) valid
 
 -- a table that is written over, perhaps from something that is missing
-writes_valid : (k : ℕ) (write : TableValue → TableWrite) → ((x : TableValue) → KeepsLength (write x) x) → (s s' : Metered) (reply : Reply) (charge : ℕ) → WritesTableAt k write s reply charge s' → AllValid IsValidTable s.value → AllValid IsValidTable s'.value
+writes_valid : (k : ℕ) (write : TableValue → TableWrite) → ((x : TableValue) → KeepsLength (write x) x)
+    → (s s' : Metered) (reply : Reply) (charge : ℕ) → WritesTableAt k write s reply charge s'
+    → AllValid IsValidTable s.value → AllValid IsValidTable s'.value
 writes_valid k write keeps s s' reply charge writes valid =
-    acts_valid IsValidTable k _ _ (λ t t' result c h w. written_valid (write t.value) t.value t.meter result c t'.value (keeps t.value) t'.meter h w) s s' reply charge writes valid
+    acts_valid IsValidTable k _ _ (λ t t' result c h w. written_valid (write t.value) t.value t.meter result c
+    t'.value (keeps t.value) t'.meter h w) s s' reply charge writes valid
 
-pub writes_from_valid : {X : Type 0} (source : Option X) (k : ℕ) (write : X → TableValue → TableWrite) → OnLive source (Unit {0}) (λ y. (x : TableValue) → KeepsLength (write y x) x) → (s s' : Metered) (reply : Reply) (charge : ℕ) → WritesTableFrom source k write s reply charge s' → AllValid IsValidTable s.value → AllValid IsValidTable s'.value
+pub writes_from_valid : {X : Type 0} (source : Option X) (k : ℕ) (write : X → TableValue → TableWrite)
+    → OnLive source (Unit {0}) (λ y. (x : TableValue) → KeepsLength (write y x) x)
+    → (s s' : Metered) (reply : Reply) (charge : ℕ) → WritesTableFrom source k write s reply charge s'
+    → AllValid IsValidTable s.value → AllValid IsValidTable s'.value
 writes_from_valid source k write keeps s s' reply charge writes valid =
     on_live source _ _ (both_live source _ _ _ _ keeps writes)
     (λ missing. subst (λ (t : Metered). AllValid IsValidTable t.value) (sym missing.1.2) valid)
     (λ y found w. writes_valid k (write y) w.0 s s' reply charge w.1 valid)
 
 -- an element that is set
-pub set_valid : (k index : ℕ) (value : TypedRawRef) (slots : List (Slot TableValue)) (reply : Reply) (slots' : List (Slot TableValue))
+pub set_valid : (k index : ℕ) (value : TypedRawRef) (slots : List (Slot TableValue)) (reply : Reply)
+    (slots' : List (Slot TableValue))
     → SetsElementAt k index value slots reply slots' → AllValid IsValidTable slots → AllValid IsValidTable slots'
 set_valid k index value slots reply slots' sets valid =
     changes_valid IsValidTable k slots reply slots' _
@@ -163,7 +224,8 @@ set_valid k index value slots reply slots' sets valid =
     (λ elements is. overwrite_length x.elements (value.raw ∷ []) elements index is) None h change.1) sets valid
 
 -- what is written with a live value, as a write that is there if the value is
-pub part_from : {X : Type 0} (source : Option X) (k : ℕ) (write : X → TableValue → TableWrite) (s : Metered) (reply : Reply) (charge : ℕ) (s' : Metered)
+pub part_from : {X : Type 0} (source : Option X) (k : ℕ) (write : X → TableValue → TableWrite) (s : Metered)
+    (reply : Reply) (charge : ℕ) (s' : Metered)
     → WritesTableFrom source k write s reply charge s' → WritesPartAt k (option_map write source) s reply charge s'
 part_from None k write s reply charge s' writes = writes
 part_from (Some y) k write s reply charge s' writes = writes

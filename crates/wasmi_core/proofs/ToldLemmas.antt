@@ -47,16 +47,22 @@ no_table (taberr.OutOfFuel required) has = tt
 
 module _ {S : Type 0} (rules : Rules S) (heeds : HeedsAll rules) where
   -- the replies to an attempt's errors tell whether the limiter is told of want of memory
-  want_revealed : {V E : Type 0} (refusal : E → Reply) (e : Effort V E) → ((c : E) → HasMemory (refusal c) → IsNoWant (e.notice c)) → Reveals rules (with_memory rules) HasMemory refusal e
+  want_revealed : {V E : Type 0} (refusal : E → Reply) (e : Effort V E)
+      → ((c : E) → HasMemory (refusal c) → IsNoWant (e.notice c))
+      → Reveals rules (with_memory rules) HasMemory refusal e
   want_revealed refusal e nowant (Unasked c) l l' shown f = f
   want_revealed refusal e nowant (Denied answer) l l' shown f = f
   want_revealed refusal e nowant Met l l' shown f = f
   want_revealed refusal e nowant (Failed c heed) l l' shown (permitted, asks, notices) =
-      let heeded = heeds permitted (e.notice c) heed l' notices in
-      (permitted, asks, (notices, nowant c (subst (λ h. HasMemory (refusal (error_of_failure e.refusal c h))) heeded (shown _ refl))))
+      let heeded = heeds permitted (e.notice c) heed l' notices in (
+        permitted,
+        asks,
+        (notices, nowant c (subst (λ h. HasMemory (refusal (error_of_failure e.refusal c h))) heeded (shown _ refl))),
+      )
 
   -- a run whose replies have memory is one under these rules
-  pub told_run : (w : World S) (turns : List Turn) (w' : World S) → All HasMemory (map Turn.reply turns) → Run rules w turns w' → Run (with_memory rules) w turns w'
+  pub told_run : (w : World S) (turns : List Turn) (w' : World S) → All HasMemory (map Turn.reply turns)
+      → Run rules w turns w' → Run (with_memory rules) w turns w'
   told_run = run_revealed rules (with_memory rules) HasMemory
       (λ room ty. want_revealed replied.Memory (memory.creation_of room ty) no_memory)
       (λ x pages. want_revealed replied.Memory (memory.growth_of x pages) no_memory)
@@ -70,9 +76,14 @@ all_shown (turn ∷ turns) have = All-cons HasMemory turn.reply (map Turn.reply 
 
 all_have : (turns : List Turn) → All HasMemory (map Turn.reply turns) → HaveMemory turns
 all_have [] has = tt
-all_have (turn ∷ turns) has = (All-head HasMemory turn.reply (map Turn.reply turns) has, all_have turns (All-tail HasMemory turn.reply (map Turn.reply turns) has))
+all_have (turn ∷ turns) has = (
+  All-head HasMemory turn.reply (map Turn.reply turns) has,
+  all_have turns
+      (All-tail HasMemory turn.reply (map Turn.reply turns) has),
+)
 
-replies_have : (turns : List Turn) (replies : List Reply) → map Turn.reply turns ≡ replies → All HasMemory replies → HaveMemory turns
+replies_have : (turns : List Turn) (replies : List Reply) → map Turn.reply turns ≡ replies → All HasMemory replies
+    → HaveMemory turns
 replies_have turns replies is has = all_have turns (subst (All HasMemory) (sym is) has)
 
 -- a limiter that may be absent heeds all that the limiter heeds
@@ -89,13 +100,20 @@ pub quota_heeds : HeedsAll quota_rules
 quota_heeds l failure heed l' noticed = noticed.heeds
 
 module _ {L : Type 0} (rules : Rules L) (heeds : HeedsAll rules) where
-  pub told_runs : (w : World (Option L)) (turns : List Turn) (w' : World (Option L)) → HaveMemory turns → Run (optional_rules rules) w turns w' → Run (with_memory (optional_rules rules)) w turns w'
-  told_runs w turns w' have = told_run (optional_rules rules) (optional_heeds rules heeds) w turns w' (all_shown turns have)
+  pub told_runs : (w : World (Option L)) (turns : List Turn) (w' : World (Option L)) → HaveMemory turns
+      → Run (optional_rules rules) w turns w' → Run (with_memory (optional_rules rules)) w turns w'
+  told_runs w turns w' have =
+      told_run (optional_rules rules) (optional_heeds rules heeds) w turns w' (all_shown turns have)
 
   -- two runs of the same calls, as a host sees them
-  pub replies_are_one : IsDeterministic rules → (calls : List Call) (w : World (Option L)) (replies replies' : List Reply) (v v' : World (Option L)) → All HasMemory replies → All HasMemory replies' → IsRunOf (optional_rules rules) calls w replies v → IsRunOf (optional_rules rules) calls w replies' v' → (replies ≡ replies') × (v ≡ v')
+  pub replies_are_one : IsDeterministic rules
+      → (calls : List Call) (w : World (Option L)) (replies replies' : List Reply) (v v' : World (Option L))
+      → All HasMemory replies → All HasMemory replies' → IsRunOf (optional_rules rules) calls w replies v
+      → IsRunOf (optional_rules rules) calls w replies' v' → (replies ≡ replies') × (v ≡ v')
   replies_are_one once calls w replies replies' v v' has has' (turns, made, told, ran) (turns', made', told', ran') =
       let have = replies_have turns replies told has in
       let have' = replies_have turns' replies' told' has' in
-      let one = determinism.runs_are_one (optional_rules rules) (determinism.optional_once rules once) w turns turns' v v' (made ∙ sym made') have have' (told_runs w turns v have ran) (told_runs w turns' v' have' ran') in
+      let one =
+      determinism.runs_are_one (optional_rules rules) (determinism.optional_once rules once) w turns turns' v v'
+      (made ∙ sym made') have have' (told_runs w turns v have ran) (told_runs w turns' v' have' ran') in
       (sym told ∙ ap (map Turn.reply) one.0 ∙ told', one.1)

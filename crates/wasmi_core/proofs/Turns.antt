@@ -13,15 +13,19 @@ map-append f [] ys = refl
 map-append f (x ∷ xs) ys = ap (λ zs. f x ∷ zs) (map-append f xs ys)
 
 module _ {S : Type 0} (rules : Rules S) where
-  pub Run-push : (u : World S) (turns : List Turn) (v : World S) → Run rules u turns v → (turn : Turn) (w : World S) → Step rules v turn w → Run rules u (turns ++ turn ∷ []) w
+  pub Run-push : (u : World S) (turns : List Turn) (v : World S) → Run rules u turns v → (turn : Turn) (w : World S)
+      → Step rules v turn w → Run rules u (turns ++ turn ∷ []) w
   Run-push u [] v ran turn w step = (w, rw (← ran) step, refl)
   Run-push u (t ∷ turns) v ran turn w step = (ran.0, ran.1, Run-push ran.0 turns v ran.2 turn w step)
 
-  pub Run-append : (u : World S) (turns : List Turn) (v : World S) (turns' : List Turn) (w : World S) → Run rules u turns v → Run rules v turns' w → Run rules u (turns ++ turns') w
+  pub Run-append : (u : World S) (turns : List Turn) (v : World S) (turns' : List Turn) (w : World S)
+      → Run rules u turns v → Run rules v turns' w → Run rules u (turns ++ turns') w
   Run-append u [] v turns' w ran ran' = rw (← ran) ran'
   Run-append u (turn ∷ turns) v turns' w (t, step, ran) ran' = (t, step, Run-append t turns v turns' w ran ran')
 
-  pub IsRunOf-append : (calls calls' : List Call) (u v w : World S) (replies replies' : List Reply) → IsRunOf rules calls u replies v → IsRunOf rules calls' v replies' w → IsRunOf rules (calls ++ calls') u (replies ++ replies') w
+  pub IsRunOf-append : (calls calls' : List Call) (u v w : World S) (replies replies' : List Reply)
+      → IsRunOf rules calls u replies v → IsRunOf rules calls' v replies' w
+      → IsRunOf rules (calls ++ calls') u (replies ++ replies') w
   IsRunOf-append calls calls' u v w replies replies' (turns, made, told, ran) (turns', made', told', ran') = (
     turns ++ turns',
     map-append Turn.call turns turns' ∙ ap (λ cs. cs ++ map Turn.call turns') made ∙ ap (λ cs. calls ++ cs) made',
@@ -30,12 +34,17 @@ module _ {S : Type 0} (rules : Rules S) where
   )
 
   -- what holds of each step holds of each turn of a run
-  pub each_turn : (Holds : World S → Turn → World S → Type 0) → ((w : World S) (turn : Turn) (w' : World S) → Step rules w turn w' → Holds w turn w')
-      → (w : World S) (turns : List Turn) (w' : World S) → Run rules w turns w' → Sequence (λ v turn v'. Step rules v turn v' × Holds v turn v') w turns w'
+  pub each_turn : (Holds : World S → Turn → World S → Type 0)
+      → ((w : World S) (turn : Turn) (w' : World S) → Step rules w turn w' → Holds w turn w')
+      → (w : World S) (turns : List Turn) (w' : World S) → Run rules w turns w'
+      → Sequence (λ v turn v'. Step rules v turn v' × Holds v turn v') w turns w'
   each_turn Holds law w [] w' ran = ran
-  each_turn Holds law w (turn ∷ turns) w' (v, step, ran) = (v, (step, law w turn v step), each_turn Holds law v turns w' ran)
+  each_turn Holds law w (turn ∷ turns) w' (v, step, ran) =
+      (v, (step, law w turn v step), each_turn Holds law v turns w' ran)
 
   -- an answered call, with the limiter before and after it by other names
-  pub answers_by : (call : Call) (m m' : State) (reply : Reply) (l k l' k' : S) → l ≡ k → l' ≡ k' → Answers rules call (world m l) reply (world m' l') → Answers rules call (world m k) reply (world m' k')
+  pub answers_by : (call : Call) (m m' : State) (reply : Reply) (l k l' k' : S) → l ≡ k → l' ≡ k'
+      → Answers rules call (world m l) reply (world m' l') → Answers rules call (world m k) reply (world m' k')
   answers_by call m m' reply l k l' k' before after answers =
-      subst (λ x. Answers rules call (world m x) reply (world m' k')) before (subst (λ x. Answers rules call (world m l) reply (world m' x)) after answers)
+      subst (λ x. Answers rules call (world m x) reply (world m' k')) before
+      (subst (λ x. Answers rules call (world m l) reply (world m' x)) after answers)

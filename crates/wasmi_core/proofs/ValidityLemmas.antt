@@ -41,11 +41,15 @@ names_valid s call valid = tt
 
 -- the state with other memories or tables, and another meter
 module _ (s : State) (valid : IsValid s) (meter : Meter) where
-  memories_valid : (memories : List (Slot MemoryValue)) (spare : Option (List ℕ)) → AllValid IsValidMemory memories → (s' : State) → s' ≡ record s { memories = memories; meter = meter; spare = spare } → IsValid s'
-  memories_valid memories spare h s' is = rw is (record { memories = h; tables = valid.tables; segments = valid.segments; registers = valid.registers })
+  memories_valid : (memories : List (Slot MemoryValue)) (spare : Option (List ℕ)) → AllValid IsValidMemory memories
+      → (s' : State) → s' ≡ record s { memories = memories; meter = meter; spare = spare } → IsValid s'
+  memories_valid memories spare h s' is =
+      rw is (record { memories = h; tables = valid.tables; segments = valid.segments; registers = valid.registers })
 
-  tables_valid : (tables : List (Slot TableValue)) → AllValid IsValidTable tables → (s' : State) → s' ≡ record s { tables = tables; meter = meter } → IsValid s'
-  tables_valid tables h s' is = rw is (record { memories = valid.memories; tables = h; segments = valid.segments; registers = valid.registers })
+  tables_valid : (tables : List (Slot TableValue)) → AllValid IsValidTable tables → (s' : State)
+      → s' ≡ record s { tables = tables; meter = meter } → IsValid s'
+  tables_valid tables h s' is =
+      rw is (record { memories = valid.memories; tables = h; segments = valid.segments; registers = valid.registers })
 
 module _ {S : Type 0} (rules : Rules S) (w : World S) (turn : Turn) (w' : World S) (valid : IsValid w.state) where
   abbrev m : Meter
@@ -57,47 +61,71 @@ module _ {S : Type 0} (rules : Rules S) (w : World S) (turn : Turn) (w' : World 
 
   effect_valid : (effect : Effect) → IsValidEffect effect → TakesEffect rules effect w turn w' → IsValid w'.state
   effect_valid (FuelSet fuel) typed step =
-      rw (ap now step.after, step.row.1) (record { memories = valid.memories; tables = valid.tables; segments = valid.segments; registers = valid.registers })
-  effect_valid (Changed change) typed step = rw (ap now step.after) ((change_facts w.state change).valid turn.reply step.machine valid step.row)
+      rw (ap now step.after, step.row.1)
+      (record {
+        memories = valid.memories;
+        tables = valid.tables;
+        segments = valid.segments;
+        registers =
+            valid.registers;
+      })
+  effect_valid (Changed change) typed step =
+      rw (ap now step.after) ((change_facts w.state change).valid turn.reply step.machine valid step.row)
   effect_valid (MemoryMade ty) typed step =
       memories_valid w.state valid m step.part w.state.spare
-      (creates_valid IsValidMemory replied.Memory (MakesMemory rules Owned ty) (λ l l' x makes. store.made_memory_is_valid rules Owned ty l x l' typed makes) w.state.memories w.limiter turn.reply step.part step.limiter step.row valid.memories)
+      (creates_valid IsValidMemory replied.Memory (MakesMemory rules Owned ty)
+      (λ l l' x makes. store.made_memory_is_valid rules Owned ty l x l' typed makes) w.state.memories w.limiter
+      turn.reply step.part step.limiter step.row valid.memories)
       w'.state (ap now step.after)
   effect_valid (LentMemoryMade ty) typed step =
       memories_valid w.state valid m step.part.slots step.part.spare
       (on_live w.state.spare _ _ step.row
       (λ none. subst (AllValid IsValidMemory) (ap (λ (p : MemoryPart). p.slots) (sym none.1)) valid.memories)
-      (λ region found h. creates_valid IsValidMemory replied.Memory (MakesMemory rules (Lent region) ty) (λ l l' x makes. store.made_memory_is_valid rules (Lent region) ty l x l' typed makes) w.state.memories w.limiter turn.reply step.part.slots step.limiter h.0 valid.memories))
+      (λ region found h. creates_valid IsValidMemory replied.Memory (MakesMemory rules (Lent region) ty)
+      (λ l l' x makes. store.made_memory_is_valid rules (Lent region) ty l x l' typed makes) w.state.memories
+      w.limiter turn.reply step.part.slots step.limiter h.0 valid.memories))
       w'.state (ap now step.after)
   effect_valid (MemoryGrown k pages) typed step =
       memories_valid w.state valid step.meter step.part w.state.spare
-      (acts_valid IsValidMemory k (reply_of replied.Number replied.Memory) (GrowsMemory rules pages) (λ s s' result charge h grows. store.grown_memory_is_valid rules pages s result charge s' h grows)
+      (acts_valid IsValidMemory k (reply_of replied.Number replied.Memory) (GrowsMemory rules pages)
+      (λ s s' result charge h grows. store.grown_memory_is_valid rules pages s result charge s' h grows)
       _ _ turn.reply turn.charge step.row valid.memories)
       w'.state (ap now step.after)
   effect_valid (TableMade ty init) typed step =
       tables_valid w.state valid m step.part
-      (creates_valid IsValidTable replied.Table (MakesTable rules ty init) (λ l l' x makes. store.made_table_is_valid rules ty init l x l' typed makes) w.state.tables w.limiter turn.reply step.part step.limiter step.row valid.tables)
+      (creates_valid IsValidTable replied.Table (MakesTable rules ty init)
+      (λ l l' x makes. store.made_table_is_valid rules ty init l x l' typed makes) w.state.tables w.limiter turn.reply
+      step.part step.limiter step.row valid.tables)
       w'.state (ap now step.after)
   effect_valid (TableGrown k n init) typed step =
       tables_valid w.state valid step.meter step.part
-      (acts_valid IsValidTable k (reply_of replied.Number replied.Table) (GrowsTable rules n init) (λ s s' result charge h grows. store.grown_table_is_valid rules n init s result charge s' h grows)
+      (acts_valid IsValidTable k (reply_of replied.Number replied.Table) (GrowsTable rules n init)
+      (λ s s' result charge h grows. store.grown_table_is_valid rules n init s result charge s' h grows)
       _ _ turn.reply turn.charge step.row valid.tables)
       w'.state (ap now step.after)
   effect_valid (PartWritten k source dst len) typed step =
-      let keeps = on_live_too (write_of source dst len) _ _ _ _ (λ none. tt) (λ write is x. (is x).0) (source_writes source dst len) in
+      let keeps =
+      on_live_too (write_of source dst len) _ _ _ _ (λ none. tt) (λ write is x. (is x).0)
+      (source_writes source dst len) in
       tables_valid w.state valid step.meter step.part
-      (writes_from_valid (write_of source dst len) k (λ write. write) keeps (metered w.state.tables m) (metered step.part step.meter) turn.reply turn.charge step.row valid.tables)
+      (writes_from_valid (write_of source dst len) k (λ write. write) keeps (metered w.state.tables m)
+      (metered step.part step.meter) turn.reply turn.charge step.row valid.tables)
       w'.state (ap now step.after)
   effect_valid effect typed step = rw (ap now step.after) valid
 
 -- a call that is answered leads from a valid state to a valid one, where the type that it names is valid
-pub answer_is_valid : {S : Type 0} (rules : Rules S) (call : Call) (w : World S) (reply : Reply) (w' : World S) → IsValidCall call → IsValid w.state → Answers rules call w reply w' → IsValid w'.state
+pub answer_is_valid : {S : Type 0} (rules : Rules S) (call : Call) (w : World S) (reply : Reply) (w' : World S)
+    → IsValidCall call → IsValid w.state → Answers rules call w reply w' → IsValid w'.state
 answer_is_valid rules call w reply w' typed valid (charge, written, step) =
-    effect_valid rules w (record { call = call; reply = reply; charge = charge; written = written }) w' valid (effect_of w.state call) (names_valid w.state call typed) step
+    effect_valid rules w (record { call = call; reply = reply; charge = charge; written = written }) w' valid
+    (effect_of w.state call) (names_valid w.state call typed) step
 
 -- a run of calls whose types are valid
-pub run_keeps_validity : {S : Type 0} (rules : Rules S) (w : World S) (turns : List Turn) (w' : World S) → IsValid w.state → All IsValidCall (map Turn.call turns) → Run rules w turns w' → IsValid w'.state
+pub run_keeps_validity : {S : Type 0} (rules : Rules S) (w : World S) (turns : List Turn) (w' : World S)
+    → IsValid w.state → All IsValidCall (map Turn.call turns) → Run rules w turns w' → IsValid w'.state
 run_keeps_validity rules w [] w' valid typed ran = rw ran valid
 run_keeps_validity rules w (turn ∷ turns) w' valid typed (v, step, ran) =
-    let next = effect_valid rules w turn v valid (effect_of w.state turn.call) (names_valid w.state turn.call (All-head IsValidCall turn.call (map Turn.call turns) typed)) step in
+    let next =
+    effect_valid rules w turn v valid (effect_of w.state turn.call)
+    (names_valid w.state turn.call (All-head IsValidCall turn.call (map Turn.call turns) typed)) step in
     run_keeps_validity rules v turns w' next (All-tail IsValidCall turn.call (map Turn.call turns) typed) ran

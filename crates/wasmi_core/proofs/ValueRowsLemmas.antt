@@ -20,48 +20,85 @@ use Rattle.wasmi_typed.specs.declared.typed.TypedRawVal.{TypedRawVal}
 use Rattle.wasmi_types.specs.declared.value.RefType.{RefType}
 use Rattle.wasmi_core.specs.declared.calls.Reply.TheVariants as replied
 
-global_back : (x x' : GlobalInstance) (value : TypedRawVal) (result : Result (Unit {0}) GlobalError) → IsRefusal (reply_of (λ _. replied.Done) replied.Global result) → SetsGlobal x value result x' → x' ≡ x
+global_back : (x x' : GlobalInstance) (value : TypedRawVal) (result : Result (Unit {0}) GlobalError)
+    → IsRefusal (reply_of (λ _. replied.Done) replied.Global result) → SetsGlobal x value result x' → x' ≡ x
 global_back x x' value (Ok _) refused sets = absurd refused
 global_back x x' value (Err ImmutableWrite) refused sets = sets.1
 global_back x x' value (Err TypeMismatch) refused sets = sets.2
 
-pub segment_back : (ty : RefType) (items : List ℕ) (segments : List SegmentValue) (reply : Reply) (segments' : List SegmentValue) → IsRefusal reply → CreatesSegment ty items segments reply segments' → segments' ≡ segments
+pub segment_back : (ty : RefType) (items : List ℕ) (segments : List SegmentValue) (reply : Reply)
+    (segments' : List SegmentValue) → IsRefusal reply → CreatesSegment ty items segments reply segments'
+    → segments' ≡ segments
 segment_back ty items segments reply segments' refused (inl none) = none.1
-segment_back ty items segments reply segments' refused (inr (result, is, appends)) = appends_back replied.Segment (λ x. x) result segments reply segments' refused appends
+segment_back ty items segments reply segments' refused (inr (result, is, appends)) =
+    appends_back replied.Segment (λ x. x) result segments reply segments' refused appends
 
-pub global_made_back : (global : GlobalInstance) (globals : List GlobalInstance) (reply : Reply) (globals' : List GlobalInstance) → IsRefusal reply → CreatesGlobal global globals reply globals' → globals' ≡ globals
+pub global_made_back : (global : GlobalInstance) (globals : List GlobalInstance) (reply : Reply)
+    (globals' : List GlobalInstance) → IsRefusal reply → CreatesGlobal global globals reply globals'
+    → globals' ≡ globals
 global_made_back global globals reply globals' refused (inl none) = none.1
 global_made_back global globals reply globals' refused (inr made) = absurd (rw made.0 at refused)
 
-pub items_refused : (k : ℕ) (segments : List SegmentValue) (reply : Reply) (segments' : List SegmentValue) → IsRefusal reply → DropsItemsAt k segments reply segments' → segments' ≡ segments
-items_refused k segments reply segments' refused drops = item_back k segments reply segments' _ (λ x x' c. absurd (rw c.0 at refused)) drops
+pub items_refused : (k : ℕ) (segments : List SegmentValue) (reply : Reply) (segments' : List SegmentValue)
+    → IsRefusal reply → DropsItemsAt k segments reply segments' → segments' ≡ segments
+items_refused k segments reply segments' refused drops =
+    item_back k segments reply segments' _ (λ x x' c. absurd (rw c.0 at refused)) drops
 
-pub global_refused : (k : ℕ) (value : TypedRawVal) (globals : List GlobalInstance) (reply : Reply) (globals' : List GlobalInstance) → IsRefusal reply → SetsGlobalAt k value globals reply globals' → globals' ≡ globals
+pub global_refused : (k : ℕ) (value : TypedRawVal) (globals : List GlobalInstance) (reply : Reply)
+    (globals' : List GlobalInstance) → IsRefusal reply → SetsGlobalAt k value globals reply globals'
+    → globals' ≡ globals
 global_refused k value globals reply globals' refused sets =
     item_back k globals reply globals' _ (λ x x' c. global_back x x' value c.0 (rw c.2 at refused) c.1) sets
 
 -- element segments, globals and registers
-segment_made : (ty : RefType) (items : List ℕ) (segments : List SegmentValue) (reply reply' : Reply) (segments' segments'' : List SegmentValue) → HasMemory reply → HasMemory reply' → (result result' : Result SegmentValue SegmentError) → IsSegmentOf ty items result → IsSegmentOf ty items result'
-    → Appends (λ x. x) replied.Segment result segments reply segments' → Appends (λ x. x) replied.Segment result' segments reply' segments'' → result ≡ result'
-segment_made ty items segments reply reply' segments' segments'' room room' (Ok x) (Ok y) is is' a b = ap Ok (is.1 ∙ sym is'.1)
-segment_made ty items segments reply reply' segments' segments'' room room' (Ok x) (Err TooManyItems) is is' a b = absurd (omega (arith, is.0, is'))
-segment_made ty items segments reply reply' segments' segments'' room room' (Ok x) (Err OutOfSystemMemory) is is' a b = absurd (rw b.0 at room')
-segment_made ty items segments reply reply' segments' segments'' room room' (Err TooManyItems) (Ok y) is is' a b = absurd (omega (arith, is'.0, is))
-segment_made ty items segments reply reply' segments' segments'' room room' (Err TooManyItems) (Err TooManyItems) is is' a b = refl
-segment_made ty items segments reply reply' segments' segments'' room room' (Err TooManyItems) (Err OutOfSystemMemory) is is' a b = absurd (rw b.0 at room')
-segment_made ty items segments reply reply' segments' segments'' room room' (Err OutOfSystemMemory) result' is is' a b = absurd (rw a.0 at room)
+segment_made : (ty : RefType) (items : List ℕ) (segments : List SegmentValue) (reply reply' : Reply)
+    (segments' segments'' : List SegmentValue) → HasMemory reply → HasMemory reply'
+    → (result result' : Result SegmentValue SegmentError) → IsSegmentOf ty items result → IsSegmentOf ty items result'
+    → Appends (λ x. x) replied.Segment result segments reply segments'
+    → Appends (λ x. x) replied.Segment result' segments reply' segments'' → result ≡ result'
+segment_made ty items segments reply reply' segments' segments'' room room' (Ok x) (Ok y) is is' a b =
+    ap Ok (is.1 ∙ sym is'.1)
+segment_made ty items segments reply reply' segments' segments'' room room' (Ok x) (Err TooManyItems) is is' a b =
+    absurd (omega (arith, is.0, is'))
+segment_made ty items segments reply reply' segments' segments'' room room' (Ok x) (Err OutOfSystemMemory) is is' a b =
+    absurd (rw b.0 at room')
+segment_made ty items segments reply reply' segments' segments'' room room' (Err TooManyItems) (Ok y) is is' a b =
+    absurd (omega (arith, is'.0, is))
+segment_made ty items segments reply reply' segments' segments'' room room' (Err TooManyItems) (Err TooManyItems) is
+    is' a b =
+    refl
+segment_made ty items segments reply reply' segments' segments'' room room' (Err TooManyItems) (Err OutOfSystemMemory)
+    is is' a b =
+    absurd (rw b.0 at room')
+segment_made ty items segments reply reply' segments' segments'' room room' (Err OutOfSystemMemory) result' is is' a b =
+    absurd (rw a.0 at room)
 
-pub segments_same : (ty : RefType) (items : List ℕ) (segments : List SegmentValue) (reply reply' : Reply) (segments' segments'' : List SegmentValue) → HasMemory reply → HasMemory reply' → CreatesSegment ty items segments reply segments' → CreatesSegment ty items segments reply' segments'' → (reply ≡ reply') × (segments' ≡ segments'')
+pub segments_same : (ty : RefType) (items : List ℕ) (segments : List SegmentValue) (reply reply' : Reply)
+    (segments' segments'' : List SegmentValue) → HasMemory reply → HasMemory reply'
+    → CreatesSegment ty items segments reply segments' → CreatesSegment ty items segments reply' segments''
+    → (reply ≡ reply') × (segments' ≡ segments'')
 segments_same ty items segments reply reply' segments' segments'' room room' (inl none) b = absurd (rw none.0 at room)
-segments_same ty items segments reply reply' segments' segments'' room room' (inr a) (inl none) = absurd (rw none.0 at room')
-segments_same ty items segments reply reply' segments' segments'' room room' (inr (result, is, appends)) (inr (result', is', appends')) =
-    let made = segment_made ty items segments reply reply' segments' segments'' room room' result result' is is' appends appends' in
-    appends_same (λ x. x) replied.Segment result segments reply reply' segments' segments'' appends (subst (λ r. Appends (λ x. x) replied.Segment r segments reply' segments'') (sym made) appends')
+segments_same ty items segments reply reply' segments' segments'' room room' (inr a) (inl none) =
+    absurd (rw none.0 at room')
+segments_same ty items segments reply reply' segments' segments'' room room' (inr (result, is, appends))
+    (inr (result', is', appends')) =
+    let made =
+    segment_made ty items segments reply reply' segments' segments'' room room' result result' is is' appends
+    appends' in
+    appends_same (λ x. x) replied.Segment result segments reply reply' segments' segments'' appends
+    (subst (λ r. Appends (λ x. x) replied.Segment r segments reply' segments'') (sym made) appends')
 
-pub items_same : (k : ℕ) (segments : List SegmentValue) (reply reply' : Reply) (segments' segments'' : List SegmentValue) → DropsItemsAt k segments reply segments' → DropsItemsAt k segments reply' segments'' → (reply ≡ reply') × (segments' ≡ segments'')
-items_same k segments reply reply' segments' segments'' a b = changes_same (slice_get segments k) (slice_set segments k) segments reply reply' segments' segments'' _ _ (λ x x' x'' c c'. (c.0 ∙ sym c'.0, c.1 ∙ sym c'.1)) a b
+pub items_same : (k : ℕ) (segments : List SegmentValue) (reply reply' : Reply)
+    (segments' segments'' : List SegmentValue) → DropsItemsAt k segments reply segments'
+    → DropsItemsAt k segments reply' segments'' → (reply ≡ reply') × (segments' ≡ segments'')
+items_same k segments reply reply' segments' segments'' a b =
+    changes_same (slice_get segments k) (slice_set segments k) segments reply reply' segments' segments''
+    _ _ (λ x x' x'' c c'. (c.0 ∙ sym c'.0, c.1 ∙ sym c'.1)) a b
 
-pub globals_same : (global : GlobalInstance) (globals : List GlobalInstance) (reply reply' : Reply) (globals' globals'' : List GlobalInstance) → HasMemory reply → HasMemory reply' → CreatesGlobal global globals reply globals' → CreatesGlobal global globals reply' globals'' → (reply ≡ reply') × (globals' ≡ globals'')
+pub globals_same : (global : GlobalInstance) (globals : List GlobalInstance) (reply reply' : Reply)
+    (globals' globals'' : List GlobalInstance) → HasMemory reply → HasMemory reply'
+    → CreatesGlobal global globals reply globals' → CreatesGlobal global globals reply' globals''
+    → (reply ≡ reply') × (globals' ≡ globals'')
 globals_same global globals reply reply' globals' globals'' room room' (inl none) b = absurd (rw none.0 at room)
 globals_same global globals reply reply' globals' globals'' room room' (inr a) (inl none) = absurd (rw none.0 at room')
 globals_same global globals reply reply' globals' globals'' room room' (inr a) (inr b) = (a.0 ∙ sym b.0, a.1 ∙ sym b.1)
@@ -69,7 +106,8 @@ globals_same global globals reply reply' globals' globals'' room room' (inr a) (
 var_const : (m : Mutability) → m ≡ Var → m ≡ Const → ⊥
 var_const m var const = let clash : Var ≡ Const = sym var ∙ const in absurd cc
 
-global_same : (x x' x'' : GlobalInstance) (value : TypedRawVal) (result result' : Result (Unit {0}) GlobalError) → SetsGlobal x value result x' → SetsGlobal x value result' x'' → (result ≡ result') × (x' ≡ x'')
+global_same : (x x' x'' : GlobalInstance) (value : TypedRawVal) (result result' : Result (Unit {0}) GlobalError)
+    → SetsGlobal x value result x' → SetsGlobal x value result' x'' → (result ≡ result') × (x' ≡ x'')
 global_same x x' x'' value (Ok u) (Ok u') a b = (refl, a.2 ∙ sym b.2)
 global_same x x' x'' value (Ok u) (Err ImmutableWrite) a b = absurd (var_const x.ty.mutability a.0 b.0)
 global_same x x' x'' value (Ok u) (Err TypeMismatch) a b = absurd (b.1 a.1)
@@ -80,20 +118,29 @@ global_same x x' x'' value (Err ImmutableWrite) (Err TypeMismatch) a b = absurd 
 global_same x x' x'' value (Err TypeMismatch) (Err ImmutableWrite) a b = absurd (var_const x.ty.mutability a.0 b.0)
 global_same x x' x'' value (Err TypeMismatch) (Err TypeMismatch) a b = (refl, a.2 ∙ sym b.2)
 
-pub global_sets_same : (k : ℕ) (value : TypedRawVal) (globals : List GlobalInstance) (reply reply' : Reply) (globals' globals'' : List GlobalInstance) → SetsGlobalAt k value globals reply globals' → SetsGlobalAt k value globals reply' globals'' → (reply ≡ reply') × (globals' ≡ globals'')
+pub global_sets_same : (k : ℕ) (value : TypedRawVal) (globals : List GlobalInstance) (reply reply' : Reply)
+    (globals' globals'' : List GlobalInstance) → SetsGlobalAt k value globals reply globals'
+    → SetsGlobalAt k value globals reply' globals'' → (reply ≡ reply') × (globals' ≡ globals'')
 global_sets_same k value globals reply reply' globals' globals'' a b =
-    changes_same (slice_get globals k) (slice_set globals k) globals reply reply' globals' globals'' _ _ (λ x x' x'' c c'.
-    let both = global_same x x' x'' value c.0 c'.0 c.1 c'.1 in (c.2 ∙ ap (reply_of (λ _. replied.Done) replied.Global) both.0 ∙ sym c'.2, both.1)) a b
+    changes_same (slice_get globals k) (slice_set globals k) globals reply reply' globals' globals''
+    _ _ (λ x x' x'' c c'.
+    let both =
+    global_same x x' x'' value c.0 c'.0 c.1 c'.1 in
+    (c.2 ∙ ap (reply_of (λ _. replied.Done) replied.Global) both.0 ∙ sym c'.2, both.1)) a b
 
 -- a segment that is made
-segment_valid : (ty : _) (items : List ℕ) (result : Result SegmentValue _) (segment : SegmentValue) → result ≡ Ok segment → IsSegmentOf ty items result → IsValidSegment segment
+segment_valid : (ty : _) (items : List ℕ) (result : Result SegmentValue _) (segment : SegmentValue)
+    → result ≡ Ok segment → IsSegmentOf ty items result → IsValidSegment segment
 segment_valid ty items (Ok made) segment is fits =
     let same : segment ≡ made = cc in
     let held : segment.items ≡ items = ap (λ (x : SegmentValue). x.items) (same ∙ fits.1) in
     subst (λ (xs : List ℕ). length xs ≤ most_items) (sym held) fits.0
 segment_valid ty items (Err error) segment is fits = cc
 
-pub creates_segment_valid : (ty : _) (items : List ℕ) (segments : List SegmentValue) (reply : Reply) (segments' : List SegmentValue) → CreatesSegment ty items segments reply segments' → All IsValidSegment segments → All IsValidSegment segments'
+pub creates_segment_valid : (ty : _) (items : List ℕ) (segments : List SegmentValue) (reply : Reply)
+    (segments' : List SegmentValue) → CreatesSegment ty items segments reply segments' → All IsValidSegment segments
+    → All IsValidSegment segments'
 creates_segment_valid ty items segments reply segments' (inl none) valid = subst (All IsValidSegment) (sym none.1) valid
 creates_segment_valid ty items segments reply segments' (inr (result, fits, appends)) valid =
-    appended_valid IsValidSegment replied.Segment result segments reply segments' (λ segment is. segment_valid ty items result segment is fits) appends valid
+    appended_valid IsValidSegment replied.Segment result segments reply segments'
+    (λ segment is. segment_valid ty items result segment is fits) appends valid

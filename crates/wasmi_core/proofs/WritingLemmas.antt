@@ -50,8 +50,10 @@ counted wrote n = if wrote then n else 0
 -- one turn: whether it has written by its call, and what the call sets the fuel to
 record Wrote (m : Meter) (charge written : ℕ) (wrote : Bool) (set : ℕ) (m' : Meter) : Type 0 where
   costs : m'.costs ≡ m.costs
-  paid : (left : ℕ) → m.left ≡ Some left → 0 < rate m → written ≤ rate m * counted wrote charge + counted wrote (rate m - 1)
-  spent : (left : ℕ) → m.left ≡ Some left → (rest : ℕ) × (m'.left ≡ Some rest) × (rest + counted wrote charge ≤ left + set)
+  paid : (left : ℕ) → m.left ≡ Some left → 0 < rate m
+      → written ≤ rate m * counted wrote charge + counted wrote (rate m - 1)
+  spent : (left : ℕ) → m.left ≡ Some left
+      → (rest : ℕ) × (m'.left ≡ Some rest) × (rest + counted wrote charge ≤ left + set)
 
 idles : (m m' : Meter) (charge written : ℕ) → written ≡ 0 → m' ≡ m → Wrote m charge written false 0 m'
 idles m m' charge written none same = record {
@@ -60,7 +62,8 @@ idles m m' charge written none same = record {
   spent = λ left on. (left, ap (λ (m : Meter). m.left) same ∙ on, omega arith);
 }
 
-sets : (fuel : ℕ) (m m' : Meter) (charge written : ℕ) → written ≡ 0 → m' ≡ meter_set m fuel → Wrote m charge written false fuel m'
+sets : (fuel : ℕ) (m m' : Meter) (charge written : ℕ) → written ≡ 0 → m' ≡ meter_set m fuel
+    → Wrote m charge written false fuel m'
 sets fuel m m' charge written none same = record {
   costs = ap (λ (m : Meter). m.costs) same;
   paid = λ left on rated. omega (arith, none);
@@ -76,7 +79,9 @@ refuses m m' charge same takes = record {
 }
 
 -- a charge that pays for the bytes
-pays : (m m' : Meter) (charge written : ℕ) → m'.costs ≡ m.costs → Takes m charge m' → ((left : ℕ) → m.left ≡ Some left → 0 < rate m → written ≤ rate m * charge + (rate m - 1)) → Wrote m charge written true 0 m'
+pays : (m m' : Meter) (charge written : ℕ) → m'.costs ≡ m.costs → Takes m charge m'
+    → ((left : ℕ) → m.left ≡ Some left → 0 < rate m → written ≤ rate m * charge + (rate m - 1))
+    → Wrote m charge written true 0 m'
 pays m m' charge written same takes bound = record {
   costs = same;
   paid = bound;
@@ -84,14 +89,16 @@ pays m m' charge written same takes bound = record {
 }
 
 -- what so many bytes cost pays for them
-price_pays : (rate n cost : ℕ) (free : Bool) → nat_eq rate 0 ≡ free → 0 < rate → cost ≡ (if free then 2 ^ 64 - 1 else n / rate) → n ≤ rate * cost + (rate - 1)
+price_pays : (rate n cost : ℕ) (free : Bool) → nat_eq rate 0 ≡ free → 0 < rate
+    → cost ≡ (if free then 2 ^ 64 - 1 else n / rate) → n ≤ rate * cost + (rate - 1)
 price_pays rate n cost true free rated is = absurd (grind (arith, nat_tests, free, rated))
 price_pays rate n cost false free rated is =
     let over : n < n / rate * rate + rate = lt-div-mul-add rated in
     let turned : rate * cost ≡ n / rate * rate = ap (λ k. rate * k) is ∙ mul_comm rate (n / rate) in
     omega (arith, over, turned, rated)
 
-due_pays : (m : Meter) (left values size charge : ℕ) → m.left ≡ Some left → 0 < rate m → charge ≡ due m (λ costs. copy_cost costs values size) → cut_product values size ≤ rate m * charge + (rate m - 1)
+due_pays : (m : Meter) (left values size charge : ℕ) → m.left ≡ Some left → 0 < rate m
+    → charge ≡ due m (λ costs. copy_cost costs values size) → cut_product values size ≤ rate m * charge + (rate m - 1)
 due_pays m left values size charge on rated is =
     price_pays (rate m) (cut_product values size) charge _ refl rated
     (is ∙ ap (λ (o : Option ℕ). if is_some o then copy_cost m.costs values size else 0) on)
@@ -99,129 +106,201 @@ due_pays m left values size charge on rated is =
 same_costs : (m m' : Meter) (charge : ℕ) → Some m' ≡ Some (meter_after m charge) → m'.costs ≡ m.costs
 same_costs m m' charge is = ap (λ (m : Meter). m.costs) (same_Some m' (meter_after m charge) is)
 
-module _ {V E S : Type 0} (rules : Rules S) (g : Growth V E) (x : V) (m : Meter) (l : S) (charge : ℕ) (x' : V) (m' : Meter) (l' : S) where
+module _ {V E S : Type 0} (rules : Rules S) (g : Growth V E) (x : V) (m : Meter) (l : S) (charge : ℕ) (x' : V)
+    (m' : Meter) (l' : S) where
   abbrev Grown : Result ℕ E → Type 0
-  Grown result = Grows rules g (record { value = x; meter = Some m; limiter = l }) result charge (record { value = x'; meter = Some m'; limiter = l' })
+  Grown result =
+      Grows rules g (record { value = x; meter = Some m; limiter = l }) result charge
+      (record { value = x'; meter = Some m'; limiter = l' })
 
   growth_costs : (result : Result ℕ E) → Grown result → m'.costs ≡ m.costs
-  growth_costs result (inl none) = ap (λ (m : Meter). m.costs) (same_Some m' m (ap (λ (s : Situation V S). s.meter) none.same))
+  growth_costs result (inl none) =
+      ap (λ (m : Meter). m.costs) (same_Some m' m (ap (λ (s : Situation V S). s.meter) none.same))
   growth_costs result (inr some) = same_costs m m' charge some.attempt.meter
 
   growth_refuses : (error : E) → Grown (Err error) → Wrote m charge 0 false 0 m'
-  growth_refuses error grows = refuses m m' charge (growth_costs (Err error) grows) (grows_takes rules g x m l (Err error) charge x' m' l' grows)
+  growth_refuses error grows =
+      refuses m m' charge (growth_costs (Err error) grows)
+      (grows_takes rules g x m l (Err error) charge x' m' l' grows)
 
   -- an accepted growth, whose charge pays for so many bytes where nothing stood in its way
-  module _ (bytes : ℕ) (none : g.amount ≡ 0 → bytes ≡ 0) (bound : (left : ℕ) → m.left ≡ Some left → 0 < rate m → g.effort.early ≡ None → charge ≡ amount_due (Some m) g.effort.price → bytes ≤ rate m * charge + (rate m - 1)) where
-    met_bound : (size : ℕ) → Grown (Ok size) → (left : ℕ) → m.left ≡ Some left → 0 < rate m → bytes ≤ rate m * charge + (rate m - 1)
+  module _ (bytes : ℕ) (none : g.amount ≡ 0 → bytes ≡ 0)
+      (bound : (left : ℕ) → m.left ≡ Some left → 0 < rate m → g.effort.early ≡ None
+      → charge ≡ amount_due (Some m) g.effort.price → bytes ≤ rate m * charge + (rate m - 1)) where
+    met_bound : (size : ℕ) → Grown (Ok size) → (left : ℕ) → m.left ≡ Some left → 0 < rate m
+        → bytes ≤ rate m * charge + (rate m - 1)
     met_bound size (inl grows) left on rated = let nothing = none grows.none in omega (arith, nothing)
-    met_bound size (inr grows) left on rated = by_fate grows.fate grows.attempt.may_end grows.attempt.charged grows.answered
+    met_bound size (inr grows) left on rated =
+        by_fate grows.fate grows.attempt.may_end grows.attempt.charged grows.answered
       where
-        by_fate : (fate : Fate E) → MayEnd g.effort (Some m) fate → charge ≡ charge_of g.effort (Some m) fate → Ok size ≡ answer_of g.effort g.size fate → bytes ≤ rate m * charge + (rate m - 1)
+        by_fate : (fate : Fate E) → MayEnd g.effort (Some m) fate → charge ≡ charge_of g.effort (Some m) fate
+            → Ok size ≡ answer_of g.effort g.size fate → bytes ≤ rate m * charge + (rate m - 1)
         by_fate (Unasked cause) may charged answered = absurd cc
         by_fate (Denied answer) may charged answered = absurd cc
         by_fate Met may charged answered = bound left on rated may.0 charged
         by_fate (Failed cause heed) may charged answered = absurd cc
 
     growth_pays : (size : ℕ) → Grown (Ok size) → Wrote m charge bytes true 0 m'
-    growth_pays size grows = pays m m' charge bytes (growth_costs (Ok size) grows) (grows_takes rules g x m l (Ok size) charge x' m' l' grows) (met_bound size grows)
+    growth_pays size grows =
+        pays m m' charge bytes (growth_costs (Ok size) grows)
+        (grows_takes rules g x m l (Ok size) charge x' m' l' grows) (met_bound size grows)
 
 -- a growth of a memory
-added_fits : (b c : Bool) (x : MemoryValue) (pages : ℕ) → (b && c && nat_lt ((pages_of x + pages) * page_bytes x.ty.page) (2 ^ 64)) ≡ true → pages * page_bytes x.ty.page < 2 ^ 64
+added_fits : (b c : Bool) (x : MemoryValue) (pages : ℕ)
+    → (b && c && nat_lt ((pages_of x + pages) * page_bytes x.ty.page) (2 ^ 64)) ≡ true
+    → pages * page_bytes x.ty.page < 2 ^ 64
 added_fits b c x pages inside =
-    let below : (pages_of x + pages) * page_bytes x.ty.page < 2 ^ 64 = grind (arith, nat_tests, (and_parts (b && c) (nat_lt ((pages_of x + pages) * page_bytes x.ty.page) (2 ^ 64)) inside).1) in
-    let split : (pages_of x + pages) * page_bytes x.ty.page ≡ pages_of x * page_bytes x.ty.page + pages * page_bytes x.ty.page = add-mul (pages_of x) pages (page_bytes x.ty.page) in
+    let below : (pages_of x + pages) * page_bytes x.ty.page < 2 ^ 64 = grind (
+      arith,
+      nat_tests,
+      (and_parts (b && c) (nat_lt ((pages_of x + pages) * page_bytes x.ty.page) (2 ^ 64))
+          inside).1,
+    ) in
+    let split : (pages_of x + pages) * page_bytes x.ty.page ≡ pages_of x * page_bytes x.ty.page + pages * page_bytes
+    x.ty.page = add-mul (pages_of x) pages (page_bytes x.ty.page) in
     omega (arith, below, split)
 
 early_none : (test : Bool) (cause : MemoryError) → (if test then None else Some cause) ≡ None → test ≡ true
 early_none true cause is = refl
 early_none false cause is = absurd cc
 
-module _ {S : Type 0} (rules : Rules S) (x : MemoryValue) (pages : ℕ) (m : Meter) (l : S) (charge : ℕ) (x' : MemoryValue) (m' : Meter) (l' : S) where
+module _ {S : Type 0} (rules : Rules S) (x : MemoryValue) (pages : ℕ) (m : Meter) (l : S) (charge : ℕ)
+    (x' : MemoryValue) (m' : Meter) (l' : S) where
   abbrev growth : Growth MemoryValue MemoryError
   growth = record { amount = pages; size = pages_of x; effort = memory.growth_of x pages }
 
-  memory_bound : (left : ℕ) → m.left ≡ Some left → 0 < rate m → growth.effort.early ≡ None → charge ≡ amount_due (Some m) growth.effort.price → pages * page_bytes x.ty.page ≤ rate m * charge + (rate m - 1)
+  memory_bound : (left : ℕ) → m.left ≡ Some left → 0 < rate m → growth.effort.early ≡ None
+      → charge ≡ amount_due (Some m) growth.effort.price
+      → pages * page_bytes x.ty.page ≤ rate m * charge + (rate m - 1)
   memory_bound left on rated early charged =
-      let fits = added_fits (nat_le (pages_of x + pages) (greatest_pages x.ty)) (option_map_or (λ maximum. nat_le (pages_of x + pages) maximum) x.ty.maximum true) x pages (early_none (in_bounds x.ty (pages_of x + pages)) MemoryError.OutOfBoundsGrowth early) in
-      let paid : cut_product (pages * page_bytes x.ty.page) 1 ≤ rate m * charge + (rate m - 1) = due_pays m left (pages * page_bytes x.ty.page) 1 charge on rated charged in
+      let fits =
+      added_fits (nat_le (pages_of x + pages) (greatest_pages x.ty))
+      (option_map_or (λ maximum. nat_le (pages_of x + pages) maximum) x.ty.maximum true) x pages
+      (early_none (in_bounds x.ty (pages_of x + pages)) MemoryError.OutOfBoundsGrowth early) in
+      let paid : cut_product (pages * page_bytes x.ty.page) 1 ≤ rate m * charge + (rate m - 1) = due_pays m left
+      (pages * page_bytes x.ty.page) 1 charge on rated charged in
       omega (arith, fits, paid)
 
-  memory_result : (result : Result ℕ MemoryError) → GrowsMemory rules pages (record { value = x; meter = Some m; limiter = l }) result charge (record { value = x'; meter = Some m'; limiter = l' })
-      → Wrote m charge (bytes_appended (Some x) pages (reply_of replied.Number replied.Memory result)) (is_accepted (reply_of replied.Number replied.Memory result)) 0 m'
-  memory_result (Ok size) grows = growth_pays rules growth x m l charge x' m' l' (pages * page_bytes x.ty.page) (λ none. ap (λ n. n * page_bytes x.ty.page) none ∙ omega arith) memory_bound size grows
+  memory_result : (result : Result ℕ MemoryError)
+      → GrowsMemory rules pages (record { value = x; meter = Some m; limiter = l }) result charge
+      (record { value = x'; meter = Some m'; limiter = l' })
+      → Wrote m charge (bytes_appended (Some x) pages (reply_of replied.Number replied.Memory result))
+      (is_accepted (reply_of replied.Number replied.Memory result)) 0 m'
+  memory_result (Ok size) grows =
+      growth_pays rules growth x m l charge x' m' l' (pages * page_bytes x.ty.page)
+      (λ none. ap (λ n. n * page_bytes x.ty.page) none ∙ omega arith) memory_bound size grows
   memory_result (Err error) grows = growth_refuses rules growth x m l charge x' m' l' error grows
 
 nothing_appended : (o : Option MemoryValue) (pages : ℕ) → bytes_appended o pages replied.NoSuch ≡ 0
 nothing_appended None pages = refl
 nothing_appended (Some x) pages = refl
 
-memory_growth_writes : {S : Type 0} (rules : Rules S) (k pages : ℕ) (slots : List (Slot MemoryValue)) (m : Meter) (l : S) (reply : Reply) (charge : ℕ) (slots' : List (Slot MemoryValue)) (m' : Meter) (l' : S)
-    → ActsAt k (reply_of replied.Number replied.Memory) (GrowsMemory rules pages) (record { value = slots; meter = Some m; limiter = l }) reply charge (record { value = slots'; meter = Some m'; limiter = l' })
+memory_growth_writes : {S : Type 0} (rules : Rules S) (k pages : ℕ) (slots : List (Slot MemoryValue)) (m : Meter)
+    (l : S) (reply : Reply) (charge : ℕ) (slots' : List (Slot MemoryValue)) (m' : Meter) (l' : S)
+    → ActsAt k (reply_of replied.Number replied.Memory) (GrowsMemory rules pages)
+    (record { value = slots; meter = Some m; limiter = l }) reply charge
+    (record { value = slots'; meter = Some m'; limiter = l' })
     → Wrote m charge (bytes_appended (live_at slots k) pages reply) (is_accepted reply) 0 m'
 memory_growth_writes {S} rules k pages slots m l reply charge slots' m' l' acts =
     on_live (live_at slots k) _ _ acts
-    (λ missing. rw missing.0 (idles m m' charge _ (nothing_appended (live_at slots k) pages) (same_Some m' m (ap (λ (s : Situation (List (Slot MemoryValue)) S). s.meter) missing.2))))
+    (λ missing. rw missing.0 (idles m m' charge _ (nothing_appended (live_at slots k) pages)
+    (same_Some m' m (ap (λ (s : Situation (List (Slot MemoryValue)) S). s.meter) missing.2))))
     (λ x found a. rw (found, a.3) (memory_result rules x pages m l charge a.1 m' l' a.0 a.2))
 
 -- a growth of a table
-module _ {S : Type 0} (rules : Rules S) (x : TableValue) (n reference : ℕ) (m : Meter) (l : S) (charge : ℕ) (x' : TableValue) (m' : Meter) (l' : S) where
+module _ {S : Type 0} (rules : Rules S) (x : TableValue) (n reference : ℕ) (m : Meter) (l : S) (charge : ℕ)
+    (x' : TableValue) (m' : Meter) (l' : S) where
   abbrev table_growth : Growth TableValue TableError
   table_growth = record { amount = n; size = size_of x; effort = table.growth_of x n reference }
 
-  table_result : (result : Result ℕ TableError) → Grows rules table_growth (record { value = x; meter = Some m; limiter = l }) result charge (record { value = x'; meter = Some m'; limiter = l' })
-      → Wrote m charge (element_bytes n (reply_of replied.Number replied.Table result)) (is_accepted (reply_of replied.Number replied.Table result)) 0 m'
+  table_result : (result : Result ℕ TableError)
+      → Grows rules table_growth (record { value = x; meter = Some m; limiter = l }) result charge
+      (record { value = x'; meter = Some m'; limiter = l' })
+      → Wrote m charge (element_bytes n (reply_of replied.Number replied.Table result))
+      (is_accepted (reply_of replied.Number replied.Table result)) 0 m'
   table_result (Ok size) grows =
-      growth_pays rules table_growth x m l charge x' m' l' (cut_product n 4) (λ none. ap (λ k. cut_product k 4) none ∙ omega arith) (λ left on rated early charged. due_pays m left n 4 charge on rated charged) size grows
+      growth_pays rules table_growth x m l charge x' m' l' (cut_product n 4)
+      (λ none. ap (λ k. cut_product k 4) none ∙ omega arith)
+      (λ left on rated early charged. due_pays m left n 4 charge on rated charged) size grows
   table_result (Err error) grows = growth_refuses rules table_growth x m l charge x' m' l' error grows
 
-table_growth_writes : {S : Type 0} (rules : Rules S) (k n : ℕ) (init : TypedRawRef) (slots : List (Slot TableValue)) (m : Meter) (l : S) (reply : Reply) (charge : ℕ) (slots' : List (Slot TableValue)) (m' : Meter) (l' : S)
-    → ActsAt k (reply_of replied.Number replied.Table) (GrowsTable rules n init) (record { value = slots; meter = Some m; limiter = l }) reply charge (record { value = slots'; meter = Some m'; limiter = l' })
+table_growth_writes : {S : Type 0} (rules : Rules S) (k n : ℕ) (init : TypedRawRef) (slots : List (Slot TableValue))
+    (m : Meter) (l : S) (reply : Reply) (charge : ℕ) (slots' : List (Slot TableValue)) (m' : Meter) (l' : S)
+    → ActsAt k (reply_of replied.Number replied.Table) (GrowsTable rules n init)
+    (record { value = slots; meter = Some m; limiter = l }) reply charge
+    (record { value = slots'; meter = Some m'; limiter = l' })
     → Wrote m charge (element_bytes n reply) (is_accepted reply) 0 m'
 table_growth_writes {S} rules k n init slots m l reply charge slots' m' l' acts =
     on_live (live_at slots k) _ _ acts
-    (λ missing. rw missing.0 (idles m m' charge _ refl (same_Some m' m (ap (λ (s : Situation (List (Slot TableValue)) S). s.meter) missing.2))))
+    (λ missing. rw missing.0
+    (idles m m' charge _ refl
+    (same_Some m' m (ap (λ (s : Situation (List (Slot TableValue)) S). s.meter) missing.2))))
     (λ x found a. rw a.3 (on_test (same_type x.ty.element init.ty) _ _ a.2
     (λ h. table_result rules x n init.raw m l charge a.1 m' l' a.0 h)
     (λ h. rw h.0 (idles m m' charge _ refl (same_Some m' m (ap (λ (s : Situation TableValue S). s.meter) h.2))))))
 
 -- a call that writes over a part of a table
-module _ (w : TableWrite) (x : TableValue) (len : ℕ) (pays_len : (w.paid ≡ Some len) ⊎ (len ≡ 0)) (m : Meter) (charge : ℕ) (x' : TableValue) (m' : Meter) where
-  len_bound : (paid : (w.paid ≡ Some len) ⊎ (len ≡ 0)) → charge ≡ due_for w x (Some m) → (left : ℕ) → m.left ≡ Some left → 0 < rate m → cut_product len 4 ≤ rate m * charge + (rate m - 1)
-  len_bound (inl paid) charged left on rated = due_pays m left len 4 charge on rated (charged ∙ ap (λ p. amount_due (Some m) (option_map element_price p)) paid)
-  len_bound (inr none) charged left on rated = let nothing : cut_product len 4 ≡ 0 = ap (λ k. cut_product k 4) none ∙ omega arith in omega (arith, nothing)
+module _ (w : TableWrite) (x : TableValue) (len : ℕ) (pays_len : (w.paid ≡ Some len) ⊎ (len ≡ 0)) (m : Meter)
+    (charge : ℕ) (x' : TableValue) (m' : Meter) where
+  len_bound : (paid : (w.paid ≡ Some len) ⊎ (len ≡ 0)) → charge ≡ due_for w x (Some m) → (left : ℕ)
+      → m.left ≡ Some left → 0 < rate m → cut_product len 4 ≤ rate m * charge + (rate m - 1)
+  len_bound (inl paid) charged left on rated =
+      due_pays m left len 4 charge on rated
+      (charged ∙ ap (λ p. amount_due (Some m) (option_map element_price p)) paid)
+  len_bound (inr none) charged left on rated =
+      let nothing : cut_product len 4 ≡ 0 = ap (λ k. cut_product k 4) none ∙ omega arith in omega (arith, nothing)
 
-  ends_bound : (typed : Bool) (written : Option (List ℕ)) (payable : Bool) → EndsBy w x (Some m) typed written payable (Ok tt) charge x' → (left : ℕ) → m.left ≡ Some left → 0 < rate m → cut_product len 4 ≤ rate m * charge + (rate m - 1)
+  ends_bound : (typed : Bool) (written : Option (List ℕ)) (payable : Bool)
+      → EndsBy w x (Some m) typed written payable (Ok tt) charge x' → (left : ℕ) → m.left ≡ Some left → 0 < rate m
+      → cut_product len 4 ≤ rate m * charge + (rate m - 1)
   ends_bound false written payable ends left on rated = absurd cc
   ends_bound true None payable ends left on rated = absurd cc
   ends_bound true (Some elements) false ends left on rated = absurd cc
   ends_bound true (Some elements) true ends left on rated = len_bound pays_len ends.1 left on rated
 
   write_result : (result : Result (Unit {0}) TableError) → WritesTable w x (Some m) result charge x' (Some m')
-      → Wrote m charge (element_bytes len (reply_of (λ _. replied.Done) replied.Table result)) (is_accepted (reply_of (λ _. replied.Done) replied.Table result)) 0 m'
-  write_result (Ok tt) writes = pays m m' charge (cut_product len 4) (same_costs m m' charge writes.meter) (write_takes w x m (Ok tt) charge x' m' writes) (ends_bound w.typed w.written _ writes.ends)
-  write_result (Err error) writes = refuses m m' charge (same_costs m m' charge writes.meter) (write_takes w x m (Err error) charge x' m' writes)
+      → Wrote m charge (element_bytes len (reply_of (λ _. replied.Done) replied.Table result))
+      (is_accepted (reply_of (λ _. replied.Done) replied.Table result)) 0 m'
+  write_result (Ok tt) writes =
+      pays m m' charge (cut_product len 4) (same_costs m m' charge writes.meter)
+      (write_takes w x m (Ok tt) charge x' m' writes) (ends_bound w.typed w.written _ writes.ends)
+  write_result (Err error) writes =
+      refuses m m' charge (same_costs m m' charge writes.meter) (write_takes w x m (Err error) charge x' m' writes)
 
 module _ (k : ℕ) where
-  table_write_writes : (write : TableValue → TableWrite) (len : ℕ) (slots : List (Slot TableValue)) (m : Meter) (reply : Reply) (charge : ℕ) (slots' : List (Slot TableValue)) (m' : Meter) → ((x : TableValue) → ((write x).paid ≡ Some len) ⊎ (len ≡ 0))
-      → WritesTableAt k write (metered slots m) reply charge (metered slots' m') → Wrote m charge (element_bytes len reply) (is_accepted reply) 0 m'
+  table_write_writes : (write : TableValue → TableWrite) (len : ℕ) (slots : List (Slot TableValue)) (m : Meter)
+      (reply : Reply) (charge : ℕ) (slots' : List (Slot TableValue)) (m' : Meter)
+      → ((x : TableValue) → ((write x).paid ≡ Some len) ⊎ (len ≡ 0))
+      → WritesTableAt k write (metered slots m) reply charge (metered slots' m')
+      → Wrote m charge (element_bytes len reply) (is_accepted reply) 0 m'
   table_write_writes write len slots m reply charge slots' m' paid writes =
       on_live (live_at slots k) _ _ writes
-      (λ missing. rw missing.0 (idles m m' charge _ refl (same_Some m' m (ap (λ (s : Situation (List (Slot TableValue)) (Unit {0})). s.meter) missing.2))))
+      (λ missing. rw missing.0
+      (idles m m' charge _ refl
+      (same_Some m' m (ap (λ (s : Situation (List (Slot TableValue)) (Unit {0})). s.meter) missing.2))))
       (λ x found a. rw a.3 (write_result (write x) x len (paid x) m charge a.1 m' a.0 a.2))
 
-table_copy_writes : {X : Type 0} (source : Option X) (k : ℕ) (write : X → TableValue → TableWrite) (len : ℕ) (slots : List (Slot TableValue)) (m : Meter) (reply : Reply) (charge : ℕ) (slots' : List (Slot TableValue)) (m' : Meter) → OnLive source (Unit {0}) (λ y. (x : TableValue) → ((write y x).paid ≡ Some len) ⊎ (len ≡ 0))
-    → WritesTableFrom source k write (metered slots m) reply charge (metered slots' m') → Wrote m charge (element_bytes len reply) (is_accepted reply) 0 m'
+table_copy_writes : {X : Type 0} (source : Option X) (k : ℕ) (write : X → TableValue → TableWrite) (len : ℕ)
+    (slots : List (Slot TableValue)) (m : Meter) (reply : Reply) (charge : ℕ) (slots' : List (Slot TableValue))
+    (m' : Meter) → OnLive source (Unit {0}) (λ y. (x : TableValue) → ((write y x).paid ≡ Some len) ⊎ (len ≡ 0))
+    → WritesTableFrom source k write (metered slots m) reply charge (metered slots' m')
+    → Wrote m charge (element_bytes len reply) (is_accepted reply) 0 m'
 table_copy_writes source k write len slots m reply charge slots' m' paid writes =
     on_live source _ _ (both_live source _ _ _ _ paid writes)
-    (λ missing. rw missing.1.0 (idles m m' charge _ refl (same_Some m' m (ap (λ (s : Situation (List (Slot TableValue)) (Unit {0})). s.meter) missing.1.2))))
+    (λ missing. rw missing.1.0
+    (idles m m' charge _ refl
+    (same_Some m' m (ap (λ (s : Situation (List (Slot TableValue)) (Unit {0})). s.meter) missing.1.2))))
     (λ y found h. table_write_writes k (write y) len slots m reply charge slots' m' h.0 h.1)
 
 module _ {S : Type 0} (w : World S) (turn : Turn) (w' : World S) where
   -- the turn ends in this world
-  idle : {v : World S} → w' ≡ v → turn.written ≡ 0 → v.state.meter ≡ w.state.meter → Wrote w.state.meter turn.charge turn.written false 0 w'.state.meter
+  idle : {v : World S} → w' ≡ v → turn.written ≡ 0 → v.state.meter ≡ w.state.meter
+      → Wrote w.state.meter turn.charge turn.written false 0 w'.state.meter
   idle {v} is none same = rw is (idles w.state.meter v.state.meter turn.charge turn.written none same)
 
-  writes_as : {v : World S} {n : ℕ} {wrote : Bool} → w' ≡ v → turn.written ≡ n → Wrote w.state.meter turn.charge n wrote 0 v.state.meter → Wrote w.state.meter turn.charge turn.written wrote 0 w'.state.meter
+  writes_as : {v : World S} {n : ℕ} {wrote : Bool} → w' ≡ v → turn.written ≡ n
+      → Wrote w.state.meter turn.charge n wrote 0 v.state.meter
+      → Wrote w.state.meter turn.charge turn.written wrote 0 w'.state.meter
   writes_as is written fact = rw (is, written) fact
 
 -- whether an effect is charged for what it writes, and what it sets the fuel to
@@ -235,22 +314,35 @@ abbrev amount_set_by : Effect → ℕ
 amount_set_by (FuelSet fuel) = fuel
 amount_set_by effect = 0
 
-same_charges : (s : State) (call : Call) → (is_charged_effect (effect_of s call) ≡ is_charged call) × (amount_set_by (effect_of s call) ≡ amount_set call)
+same_charges : (s : State) (call : Call)
+    → (is_charged_effect (effect_of s call) ≡ is_charged call) × (amount_set_by (effect_of s call) ≡ amount_set call)
 same_charges s (SetFuel fuel) = (refl, refl)
 same_charges s call = (refl, refl)
 
 module _ {S : Type 0} (rules : Rules S) (w : World S) (turn : Turn) (w' : World S) where
-  effect_writes : (effect : Effect) → TakesEffect rules effect w turn w' → Wrote w.state.meter turn.charge turn.written (is_charged_effect effect && is_accepted turn.reply) (amount_set_by effect) w'.state.meter
+  effect_writes : (effect : Effect) → TakesEffect rules effect w turn w'
+      → Wrote w.state.meter turn.charge turn.written (is_charged_effect effect && is_accepted turn.reply)
+      (amount_set_by effect) w'.state.meter
   effect_writes (FuelSet fuel) step =
-      sets fuel w.state.meter w'.state.meter turn.charge turn.written step.free.1 (ap (λ (v : World S). v.state.meter) step.after ∙ ap (λ (s : State). s.meter) step.row.1)
-  effect_writes (Changed change) step = idle w turn w' step.after step.free.1 ((change_facts w.state change).meter turn.reply step.machine step.row)
+      sets fuel w.state.meter w'.state.meter turn.charge turn.written step.free.1
+      (ap (λ (v : World S). v.state.meter) step.after ∙ ap (λ (s : State). s.meter) step.row.1)
+  effect_writes (Changed change) step =
+      idle w turn w' step.after step.free.1 ((change_facts w.state change).meter turn.reply step.machine step.row)
   effect_writes (MemoryGrown k pages) step =
-      writes_as w turn w' step.after step.wrote (memory_growth_writes rules k pages w.state.memories w.state.meter w.limiter turn.reply turn.charge step.part step.meter step.limiter step.row)
+      writes_as w turn w' step.after step.wrote
+      (memory_growth_writes rules k pages w.state.memories w.state.meter w.limiter turn.reply turn.charge step.part
+      step.meter step.limiter step.row)
   effect_writes (TableGrown k n init) step =
-      writes_as w turn w' step.after step.wrote (table_growth_writes rules k n init w.state.tables w.state.meter w.limiter turn.reply turn.charge step.part step.meter step.limiter step.row)
+      writes_as w turn w' step.after step.wrote
+      (table_growth_writes rules k n init w.state.tables w.state.meter w.limiter turn.reply turn.charge step.part
+      step.meter step.limiter step.row)
   effect_writes (PartWritten k source dst len) step =
-      let paid = on_live_too (write_of source dst len) _ _ _ _ (λ none. tt) (λ write is x. (is x).1) (source_writes source dst len) in
-      writes_as w turn w' step.after step.wrote (table_copy_writes (write_of source dst len) k (λ write. write) len w.state.tables w.state.meter turn.reply turn.charge step.part step.meter paid step.row)
+      let paid =
+      on_live_too (write_of source dst len) _ _ _ _ (λ none. tt) (λ write is x. (is x).1)
+      (source_writes source dst len) in
+      writes_as w turn w' step.after step.wrote
+      (table_copy_writes (write_of source dst len) k (λ write. write) len w.state.tables w.state.meter turn.reply
+      turn.charge step.part step.meter paid step.row)
   effect_writes effect step = idle w turn w' step.after step.free.1 refl
 
 -- a run, by what is left at its start
@@ -263,7 +355,9 @@ module _ {S : Type 0} (rules : Rules S) where
   one_more true n rate = add-mul 1 n (rate - 1) ∙ omega arith
   one_more false n rate = add-mul 0 n (rate - 1) ∙ omega arith
 
-  run_writes : (w : World S) (left : ℕ) → w.state.meter.left ≡ Some left → 0 < rate w.state.meter → (turns : List Turn) (w' : World S) → Run rules w turns w' → Bounds (rate w.state.meter) left turns w'.state.meter
+  run_writes : (w : World S) (left : ℕ) → w.state.meter.left ≡ Some left → 0 < rate w.state.meter
+      → (turns : List Turn) (w' : World S) → Run rules w turns w'
+      → Bounds (rate w.state.meter) left turns w'.state.meter
   run_writes w left on rated [] w' ran = record {
     paid = omega arith;
     spent = (left, ap (λ (v : World S). v.state.meter.left) ran ∙ on, omega arith);
@@ -272,24 +366,34 @@ module _ {S : Type 0} (rules : Rules S) where
       let r = rate w.state.meter in
       let wrote = has_written turn.call turn.reply in
       let same_effect = same_charges w.state turn.call in
-      let first : Wrote w.state.meter turn.charge turn.written wrote (amount_set turn.call) v.state.meter = rw (← same_effect.0, ← same_effect.1) (effect_writes rules w turn v (effect_of w.state turn.call) step) in
+      let first : Wrote w.state.meter turn.charge turn.written wrote (amount_set turn.call) v.state.meter =
+      rw (← same_effect.0, ← same_effect.1) (effect_writes rules w turn v (effect_of w.state turn.call) step) in
       let after = first.spent left on in
       let same : rate v.state.meter ≡ r = ap (λ (costs : CustomFuelCosts). costs.bytes_copied_per_fuel) first.costs in
       let still : 0 < rate v.state.meter = omega (arith, same, rated) in
-      let rest : Bounds r after.0 turns w'.state.meter = subst (λ k. Bounds k after.0 turns w'.state.meter) same (run_writes v after.0 after.1 still turns w' ran) in
-      let written : bytes_written (turn ∷ turns) ≡ turn.written + bytes_written turns = sum_by-cons (λ (t : Turn). t.written) turn turns in
-      let charges : charges_for_writing (turn ∷ turns) ≡ counted wrote turn.charge + charges_for_writing turns = sum_by-cons (λ (t : Turn). if has_written t.call t.reply then t.charge else 0) turn turns in
-      let amounts : amounts_set (turn ∷ turns) ≡ amount_set turn.call + amounts_set turns = sum_by-cons (λ (t : Turn). amount_set t.call) turn turns in
-      let number : writing_turns (turn ∷ turns) ≡ cond wrote 1 0 + writing_turns turns = sum_by-cons (λ (t : Turn). cond (has_written t.call t.reply) 1 0) turn turns in
-      let product : r * charges_for_writing (turn ∷ turns) ≡ r * counted wrote turn.charge + r * charges_for_writing turns = ap (λ n. r * n) charges ∙ mul-add r (counted wrote turn.charge) (charges_for_writing turns) in
-      let excess : writing_turns (turn ∷ turns) * (r - 1) ≡ counted wrote (r - 1) + writing_turns turns * (r - 1) = ap (λ n. n * (r - 1)) number ∙ one_more wrote (writing_turns turns) r in
+      let rest : Bounds r after.0 turns w'.state.meter = subst (λ k. Bounds k after.0 turns w'.state.meter) same
+      (run_writes v after.0 after.1 still turns w' ran) in
+      let written : bytes_written (turn ∷ turns) ≡ turn.written + bytes_written turns = sum_by-cons
+      (λ (t : Turn). t.written) turn turns in
+      let charges : charges_for_writing (turn ∷ turns) ≡ counted wrote turn.charge + charges_for_writing turns =
+      sum_by-cons (λ (t : Turn). if has_written t.call t.reply then t.charge else 0) turn turns in
+      let amounts : amounts_set (turn ∷ turns) ≡ amount_set turn.call + amounts_set turns = sum_by-cons
+      (λ (t : Turn). amount_set t.call) turn turns in
+      let number : writing_turns (turn ∷ turns) ≡ cond wrote 1 0 + writing_turns turns = sum_by-cons
+      (λ (t : Turn). cond (has_written t.call t.reply) 1 0) turn turns in
+      let product : r * charges_for_writing (turn ∷ turns) ≡ r * counted wrote turn.charge + r * charges_for_writing
+      turns = ap (λ n. r * n) charges ∙ mul-add r (counted wrote turn.charge) (charges_for_writing turns) in
+      let excess : writing_turns (turn ∷ turns) * (r - 1) ≡ counted wrote (r - 1) + writing_turns turns * (r - 1) = ap
+      (λ n. n * (r - 1)) number ∙ one_more wrote (writing_turns turns) r in
       record {
         paid = omega (arith, written, product, excess, first.paid left on rated, rest.paid);
         spent = (rest.spent.0, rest.spent.1, omega (arith, charges, amounts, after.2, rest.spent.2));
       }
 
-  pub writing_is_bounded : (w : World S) (left : ℕ) → w.state.meter.left ≡ Some left → 0 < rate w.state.meter → (turns : List Turn) (w' : World S) → Run rules w turns w' → IsBounded (rate w.state.meter) left turns
+  pub writing_is_bounded : (w : World S) (left : ℕ) → w.state.meter.left ≡ Some left → 0 < rate w.state.meter
+      → (turns : List Turn) (w' : World S) → Run rules w turns w' → IsBounded (rate w.state.meter) left turns
   writing_is_bounded w left on rated turns w' ran =
       let bounds = run_writes w left on rated turns w' ran in
-      let all : rate w.state.meter * charges_for_writing turns ≤ rate w.state.meter * (left + amounts_set turns) = mul-le-mul_left (rate w.state.meter) (omega (arith, bounds.spent.2)) in
+      let all : rate w.state.meter * charges_for_writing turns ≤ rate w.state.meter * (left + amounts_set turns) =
+      mul-le-mul_left (rate w.state.meter) (omega (arith, bounds.spent.2)) in
       record { by_charges = bounds.paid; by_fuel = omega (arith, bounds.paid, all) }

@@ -8,4 +8,5 @@ returns-clause-turn g c = exchange.growths_are_permitted (optional_rules g.L.Res
 
 pub returns-clause-run : goal.returns-clause-run
 returns-clause-run g c =
-    each_turn (optional_rules g.L.ResourceLimiter.rules) _ (exchange.growths_are_permitted (optional_rules g.L.ResourceLimiter.rules))
+    each_turn (optional_rules g.L.ResourceLimiter.rules)
+    _ (exchange.growths_are_permitted (optional_rules g.L.ResourceLimiter.rules))

@@ -8,7 +8,8 @@ returns-clause-turn g c = refusal.refusals_keep_contents (optional_rules g.L.Res
 
 pub returns-clause-run : goal.returns-clause-run
 returns-clause-run g c =
-    each_turn (optional_rules g.L.ResourceLimiter.rules) _ (refusal.refusals_keep_contents (optional_rules g.L.ResourceLimiter.rules))
+    each_turn (optional_rules g.L.ResourceLimiter.rules)
+    _ (refusal.refusals_keep_contents (optional_rules g.L.ResourceLimiter.rules))
 
 pub returns-clause-all_refused : goal.returns-clause-all_refused
 returns-clause-all_refused g c = refusal.refused_run_keeps_contents (optional_rules g.L.ResourceLimiter.rules)

@@ -2,4 +2,6 @@ use Rattle.wasmi_core.proofs.HoldingLemmas as holding
 use Rattle.wasmi_core.proofs.laws.totals_are_held.Goals as goal
 
 pub returns : goal.returns
-returns g c = holding.totals_are_held g.L.ResourceLimiter.rules g.L.Reserving.holdings g.met.L.Reserving.reserves g.met.L.Reserving.gives_back
+returns g c =
+    holding.totals_are_held g.L.ResourceLimiter.rules g.L.Reserving.holdings g.met.L.Reserving.reserves
+    g.met.L.Reserving.gives_back

@@ -14,7 +14,11 @@ loop-call-preserved g c =
       ran = (
         ran.0 ++ record { call = _; reply = _; charge = step.0; written = step.1 } ∷ [],
         search (rules, map_push Turn.call ran.0, ran.1, take_more),
-        rw (map_push Turn.reply ran.0 (record { call = _; reply = _; charge = step.0; written = step.1 }), ran.2, c.push_reserved.ensures.items) refl,
+        rw (
+          map_push Turn.reply ran.0 (record { call = _; reply = _; charge = step.0; written = step.1 }),
+          ran.2,
+          c.push_reserved.ensures.items,
+        ) refl,
         Run-push (optional_rules g.L.ResourceLimiter.rules) _ _ _ ran.3 _ _ step.2,
       );
       loan = search rules;

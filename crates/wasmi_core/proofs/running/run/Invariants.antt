@@ -10,8 +10,10 @@ use Rattle.wasmi_core.proofs.running.run.Given as goal
 -- the calls so far are a run, and there is room for the replies to the rest
 abbrev pub invariant-loop-call : goal.invariant-loop-call
 invariant-loop-call g l = record {
-  ran : (turns : List Turn) × (map Turn.call turns ≡ take l.call-index l.calls) × (map Turn.reply turns ≡ l.replies.items)
-      × Run (optional_rules g.L.ResourceLimiter.rules) (record { state = l.fn.machine; limiter = state l.fn.limiter }) turns (record { state = l.machine; limiter = state l.limiter });
+  ran : (turns : List Turn) × (map Turn.call turns ≡ take l.call-index l.calls) × (map Turn.reply
+      turns ≡ l.replies.items)
+      × Run (optional_rules g.L.ResourceLimiter.rules) (record { state = l.fn.machine; limiter = state l.fn.limiter })
+      turns (record { state = l.machine; limiter = state l.limiter });
   loan : KeepsLoan l.fn.limiter l.limiter;
   valid : IsValid l.machine;
   count : vec_len l.replies ≡ l.call-index;

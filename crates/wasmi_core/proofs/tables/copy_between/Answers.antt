@@ -15,11 +15,16 @@ returns-then-dst_index-src_index c =
     let back = c.split_at_mut-front.result.1.now in
     let before = c.if-dst_index-src_index.true in (
       c.copy_slot.ensures.0,
-      copies_at (copy_from c.args.part.dst c.args.part.src c.args.part.len) slots c.args.dst_index c.args.src_index _ _ _ _ _ _
-          (slice_get-get_or slots c.args.dst_index slot c.requires.dst ∙ ap Some (sym (parts.by_index.0 c.args.dst_index slot before)))
-          (slice_get-get_or slots c.args.src_index source c.requires.src ∙ ap Some (ap (λ k. get_or slots k source) (omega arith) ∙ sym (parts.by_index.1 0 source)))
+      copies_at (copy_from c.args.part.dst c.args.part.src c.args.part.len) slots c.args.dst_index c.args.src_index
+          _ _ _ _ _ _
+          (slice_get-get_or slots c.args.dst_index slot c.requires.dst
+          ∙ ap Some (sym (parts.by_index.0 c.args.dst_index slot before)))
+          (slice_get-get_or slots c.args.src_index source c.requires.src
+          ∙ ap Some (ap (λ k. get_or slots k source) (omega arith) ∙ sym (parts.by_index.1 0 source)))
           c.copy_slot.ensures.1 _
-          (sym (set-append_left front back c.args.dst_index c.copy_slot.new.slot (omega (arith, parts.front_len, before))) ∙ ap (λ xs. set xs c.args.dst_index c.copy_slot.new.slot) (sym parts.value)),
+          (sym (set-append_left front back c.args.dst_index c.copy_slot.new.slot
+          (omega (arith, parts.front_len, before)))
+          ∙ ap (λ xs. set xs c.args.dst_index c.copy_slot.new.slot) (sym parts.value)),
     )
 
 pub returns-else-dst_index-src_index : goal.returns-else-dst_index-src_index
@@ -33,9 +38,14 @@ returns-else-dst_index-src_index c =
     let front = c.split_at_mut-front-else-dst_index-src_index.result.0.now in
     let back = c.split_at_mut-front-else-dst_index-src_index.result.1.now in (
       copy.ensures.0,
-      copies_at (copy_from c.args.part.dst c.args.part.src c.args.part.len) slots c.args.dst_index c.args.src_index _ _ _ _ _ _
-          (slice_get-get_or slots c.args.dst_index slot c.requires.dst ∙ ap Some (ap (λ k. get_or slots k slot) (omega arith) ∙ sym (parts.by_index.1 0 slot)))
-          (slice_get-get_or slots c.args.src_index source c.requires.src ∙ ap Some (sym (parts.by_index.0 c.args.src_index source (omega (arith, after, c.requires.other)))))
+      copies_at (copy_from c.args.part.dst c.args.part.src c.args.part.len) slots c.args.dst_index c.args.src_index
+          _ _ _ _ _ _
+          (slice_get-get_or slots c.args.dst_index slot c.requires.dst
+          ∙ ap Some (ap (λ k. get_or slots k slot) (omega arith) ∙ sym (parts.by_index.1 0 slot)))
+          (slice_get-get_or slots c.args.src_index source c.requires.src
+          ∙ ap Some (sym (parts.by_index.0 c.args.src_index source (omega (arith, after, c.requires.other)))))
           copy.ensures.1 _
-          (ap (λ k. front ++ set back k copy.new.slot) (omega arith) ∙ sym (set-append_right front back c.args.dst_index c.args.dst_index copy.new.slot parts.front_len (omega arith)) ∙ ap (λ xs. set xs c.args.dst_index copy.new.slot) (sym parts.value)),
+          (ap (λ k. front ++ set back k copy.new.slot) (omega arith)
+          ∙ sym (set-append_right front back c.args.dst_index c.args.dst_index copy.new.slot parts.front_len
+          (omega arith)) ∙ ap (λ xs. set xs c.args.dst_index copy.new.slot) (sym parts.value)),
     )

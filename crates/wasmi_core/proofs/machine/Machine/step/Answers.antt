@@ -6,7 +6,8 @@ use Rattle.wasmi_core.proofs.machine.Machine.step.Goals as goal
 
 pub invariant_of-self : goal.invariant_of-self
 invariant_of-self g c =
-    answer_is_valid (optional_rules g.L.ResourceLimiter.rules) c.args.call.now (world c.self.inside.store (state c.args.limiter.now)) c.step.result
+    answer_is_valid (optional_rules g.L.ResourceLimiter.rules) c.args.call.now
+    (world c.self.inside.store (state c.args.limiter.now)) c.step.result
     (world c.step.new.self (state c.step.new.limiter)) c.tell_valid.ensures c.self.invariant c.step.ensures.step
 
 pub returns-clause-step : goal.returns-clause-step

@@ -5,4 +5,5 @@ use Rattle.wasmi_core.proofs.machine.Machine.step_lending.Goals as goal
 
 pub returns-clause-step : goal.returns-clause-step
 returns-clause-step g c =
-    answers_by (optional_rules g.L.ResourceLimiter.rules) _ _ _ _ _ _ _ _ (search rules) (search rules) c.step-reply.ensures.step
+    answers_by (optional_rules g.L.ResourceLimiter.rules) _ _ _ _ _ _ _ _ (search rules) (search rules)
+    c.step-reply.ensures.step

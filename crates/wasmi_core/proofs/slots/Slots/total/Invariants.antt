@@ -9,4 +9,5 @@ pub record SumSoFar (total sum index : ℕ) : Type 0 where
   pub small : total ≤ index * (2 ^ 64 - 1)
 
 abbrev pub invariant-loop-slot : goal.invariant-loop-slot
-invariant-loop-slot g l = SumSoFar l.total (sum_by (slot_count g.T.Counted.count) (take l.slot-index l.self.slots.items)) l.slot-index
+invariant-loop-slot g l =
+    SumSoFar l.total (sum_by (slot_count g.T.Counted.count) (take l.slot-index l.self.slots.items)) l.slot-index

@@ -3,29 +3,88 @@ use Rattle.wasmi_meter.specs.LimiterRef.{state}
 use Rattle.wasmi_core.proofs.store.Store.step.Goals as goal
 
 pub returns-in-SetFuel-clause-step : goal.returns-in-SetFuel-clause-step
-returns-in-SetFuel-clause-step g c = (0, 0, rw c.in-SetFuel.is (record { free = (refl, refl); machine = c.set_fuel.new.self; row = c.set_fuel.ensures; after = refl }))
+returns-in-SetFuel-clause-step g c = (
+  0,
+  0,
+  rw c.in-SetFuel.is
+      (record { free = (refl, refl); machine = c.set_fuel.new.self; row = c.set_fuel.ensures; after = refl }),
+)
 
 pub returns-in-GetFuel-clause-step : goal.returns-in-GetFuel-clause-step
-returns-in-GetFuel-clause-step g c = (0, 0, rw c.in-GetFuel.is (record { free = (refl, refl); row = c.get_fuel.ensures; after = refl }))
+returns-in-GetFuel-clause-step g c =
+    (0, 0, rw c.in-GetFuel.is (record { free = (refl, refl); row = c.get_fuel.ensures; after = refl }))
 
 pub returns-in-NewSegment-clause-step : goal.returns-in-NewSegment-clause-step
-returns-in-NewSegment-clause-step g c =
-    (0, 0, rw (c.in-NewSegment.is, ← c.self.view_is) (record { free = (refl, refl); machine = _; row = record { part = c.create_segment.new.segments.items; row = rw c.deref.ensures.value at c.create_segment.ensures; after = refl }; after = refl }))
+returns-in-NewSegment-clause-step g c = (
+  0,
+  0,
+  rw (c.in-NewSegment.is, ← c.self.view_is)
+      (record {
+        free = (refl, refl);
+        machine = _;
+        row =
+            record {
+              part = c.create_segment.new.segments.items;
+              row = rw c.deref.ensures.value at c.create_segment.ensures;
+              after = refl;
+            };
+        after = refl;
+      }),
+)
 
 pub returns-in-DropItems-clause-step : goal.returns-in-DropItems-clause-step
-returns-in-DropItems-clause-step g c =
-    (0, 0, rw (c.in-DropItems.is, ← c.self-in-DropItems.view_is) (record { free = (refl, refl); machine = _; row = record { part = c.drop_items.new.segments.items; row = c.drop_items.ensures; after = refl }; after = refl }))
+returns-in-DropItems-clause-step g c = (
+  0,
+  0,
+  rw (c.in-DropItems.is, ← c.self-in-DropItems.view_is)
+      (record {
+        free = (refl, refl);
+        machine = _;
+        row =
+            record { part = c.drop_items.new.segments.items; row = c.drop_items.ensures; after = refl };
+        after = refl;
+      }),
+)
 
 pub returns-in-NewGlobal-clause-step : goal.returns-in-NewGlobal-clause-step
-returns-in-NewGlobal-clause-step g c =
-    (0, 0, rw (c.in-NewGlobal.is, ← c.self-in-NewGlobal.view_is) (record { free = (refl, refl); machine = _; row = record { part = c.create_global.new.globals.items; row = c.create_global.ensures; after = refl }; after = refl }))
+returns-in-NewGlobal-clause-step g c = (
+  0,
+  0,
+  rw (c.in-NewGlobal.is, ← c.self-in-NewGlobal.view_is)
+      (record {
+        free = (refl, refl);
+        machine = _;
+        row =
+            record { part = c.create_global.new.globals.items; row = c.create_global.ensures; after = refl };
+        after = refl;
+      }),
+)
 
 pub returns-in-SetGlobal-clause-step : goal.returns-in-SetGlobal-clause-step
-returns-in-SetGlobal-clause-step g c =
-    (0, 0, rw (c.in-SetGlobal.is, ← c.self-in-SetGlobal.view_is) (record { free = (refl, refl); machine = _; row = record { part = c.set_global.new.globals.items; row = c.set_global.ensures; after = refl }; after = refl }))
+returns-in-SetGlobal-clause-step g c = (
+  0,
+  0,
+  rw (c.in-SetGlobal.is, ← c.self-in-SetGlobal.view_is)
+      (record {
+        free = (refl, refl);
+        machine = _;
+        row =
+            record { part = c.set_global.new.globals.items; row = c.set_global.ensures; after = refl };
+        after = refl;
+      }),
+)
 
 pub returns-in-GetGlobal-clause-step : goal.returns-in-GetGlobal-clause-step
-returns-in-GetGlobal-clause-step g c = (0, 0, rw (c.in-GetGlobal.is, ← c.self-in-GetGlobal.view_is) (record { free = (refl, refl); row = rw c.deref-in-GetGlobal.ensures.value at c.get_global.ensures; after = refl }))
+returns-in-GetGlobal-clause-step g c = (
+  0,
+  0,
+  rw (c.in-GetGlobal.is, ← c.self-in-GetGlobal.view_is)
+      (record {
+        free = (refl, refl);
+        row = rw c.deref-in-GetGlobal.ensures.value at c.get_global.ensures;
+        after = refl;
+      }),
+)
 
 pub returns-in-VectorLoad-clause-step : goal.returns-in-VectorLoad-clause-step
 returns-in-VectorLoad-clause-step g c = (0, 0, c.step_vector_access.ensures (state c.args.limiter.now))

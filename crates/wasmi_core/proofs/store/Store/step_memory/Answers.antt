@@ -9,38 +9,103 @@ pub returns-in-NewMemory-clause-step : goal.returns-in-NewMemory-clause-step
 returns-in-NewMemory-clause-step g c = (
   0,
   0,
-  rw (c.in-NewMemory.is, ← c.self.view_is) (record { free = (refl, refl); part = c.create.new.self.slots.items; limiter = state c.create.new.limiter; row = c.create.ensures.made; after = refl }),
+  rw (c.in-NewMemory.is, ← c.self.view_is)
+      (record {
+        free = (refl, refl);
+        part = c.create.new.self.slots.items;
+        limiter = state c.create.new.limiter;
+        row =
+            c.create.ensures.made;
+        after = refl;
+      }),
 )
 
 pub returns-in-GrowMemory-clause-step : goal.returns-in-GrowMemory-clause-step
 returns-in-GrowMemory-clause-step g c =
     let grown = c.grow.ensures.grown in (
       grown.0,
-      bytes_appended (live_at c.self.inside.memories.slots.items c.in-GrowMemory.memory) c.in-GrowMemory.pages c.grow.result,
-      rw (c.in-GrowMemory.is, ← c.self.view_is) (record { part = c.grow.new.self.slots.items; meter = c.grow.new.fuel; limiter = state c.grow.new.limiter; row = grown.1; wrote = refl; after = refl }),
+      bytes_appended (live_at c.self.inside.memories.slots.items c.in-GrowMemory.memory) c.in-GrowMemory.pages
+          c.grow.result,
+      rw (c.in-GrowMemory.is, ← c.self.view_is)
+          (record {
+            part = c.grow.new.self.slots.items;
+            meter = c.grow.new.fuel;
+            limiter = state c.grow.new.limiter;
+            row =
+                grown.1;
+            wrote = refl;
+            after = refl;
+          }),
     )
 
 pub returns-in-DropMemory-clause-step : goal.returns-in-DropMemory-clause-step
-returns-in-DropMemory-clause-step g c =
-    (0, 0, rw (c.in-DropMemory.is, ← c.self.view_is) (record { free = (refl, refl); machine = _; row = record { part = c.drop_live.new.self.slots.items; row = c.drop_live.ensures; after = refl }; after = refl }))
+returns-in-DropMemory-clause-step g c = (
+  0,
+  0,
+  rw (c.in-DropMemory.is, ← c.self.view_is)
+      (record {
+        free = (refl, refl);
+        machine = _;
+        row =
+            record { part = c.drop_live.new.self.slots.items; row = c.drop_live.ensures; after = refl };
+        after = refl;
+      }),
+)
 
 pub returns-in-Read-clause-step : goal.returns-in-Read-clause-step
-returns-in-Read-clause-step g c = (0, 0, rw (c.in-Read.is, ← c.self.view_is) (record { free = (refl, refl); row = c.read.ensures; after = refl }))
+returns-in-Read-clause-step g c =
+    (0, 0, rw (c.in-Read.is, ← c.self.view_is) (record { free = (refl, refl); row = c.read.ensures; after = refl }))
 
 pub returns-in-Write-clause-step : goal.returns-in-Write-clause-step
-returns-in-Write-clause-step g c =
-    (0, 0, rw (c.in-Write.is, ← c.self.view_is) (record { free = (refl, refl); machine = _; row = record { part = c.write.new.self.slots.items; row = rw c.deref.ensures.value at c.write.ensures; after = refl }; after = refl }))
+returns-in-Write-clause-step g c = (
+  0,
+  0,
+  rw (c.in-Write.is, ← c.self.view_is)
+      (record {
+        free = (refl, refl);
+        machine = _;
+        row =
+            record {
+              part = c.write.new.self.slots.items;
+              row = rw c.deref.ensures.value at c.write.ensures;
+              after = refl;
+            };
+        after = refl;
+      }),
+)
 
 pub returns-in-Load-clause-step : goal.returns-in-Load-clause-step
-returns-in-Load-clause-step g c = (0, 0, rw (c.in-Load.is, ← c.self.view_is) (record { free = (refl, refl); row = c.load.ensures; after = refl }))
+returns-in-Load-clause-step g c =
+    (0, 0, rw (c.in-Load.is, ← c.self.view_is) (record { free = (refl, refl); row = c.load.ensures; after = refl }))
 
 pub returns-in-Store-clause-step : goal.returns-in-Store-clause-step
-returns-in-Store-clause-step g c =
-    (0, 0, rw (c.in-Store.is, ← c.self.view_is) (record { free = (refl, refl); machine = _; row = record { part = c.store.new.self.slots.items; row = c.store.ensures; after = refl }; after = refl }))
+returns-in-Store-clause-step g c = (
+  0,
+  0,
+  rw (c.in-Store.is, ← c.self.view_is)
+      (record {
+        free = (refl, refl);
+        machine = _;
+        row =
+            record { part = c.store.new.self.slots.items; row = c.store.ensures; after = refl };
+        after = refl;
+      }),
+)
 
 pub returns-in-NewLentMemory-clause-step : goal.returns-in-NewLentMemory-clause-step
 returns-in-NewLentMemory-clause-step g c = (
   0,
   0,
-  rw (c.in-NewLentMemory.is, ← c.self.view_is) (record { free = (refl, refl); part = record { slots = c.create_lent.new.self.slots.items; spare = option_copied_mut c.create_lent.new.spare }; limiter = state c.create_lent.new.limiter; row = c.create_lent.ensures.made; after = refl }),
+  rw (c.in-NewLentMemory.is, ← c.self.view_is)
+      (record {
+        free = (refl, refl);
+        part = record {
+          slots = c.create_lent.new.self.slots.items;
+          spare = option_copied_mut
+              c.create_lent.new.spare;
+        };
+        limiter = state c.create_lent.new.limiter;
+        row = c.create_lent.ensures.made;
+        after = refl;
+      }),
 )
