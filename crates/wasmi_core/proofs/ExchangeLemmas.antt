@@ -9,7 +9,7 @@ use Rattle.wasmi_core.proofs.TotalLemmas.{count_at, counts_kept, counts_set, eac
 use Rattle.wasmi_core.specs.Exchange.{due_for, At, ChargesAt, ChargesBy, Denial, Exchange, Exchanges, GrowsAsAsked, GrowsBy, New, Nothing, NothingGrows, Notice, Nowhere, Passes, Permission, Place, place_of}
 use Rattle.wasmi_core.specs.MemoryRows.{CreatesLent}
 use Rattle.wasmi_core.specs.Rows.{ActsAt, Appends, Creates, reply_of}
-use Rattle.wasmi_core.specs.State.{MemoryPart, State, live_at, memory_part, with_memories, with_memory_part, with_tables}
+use Rattle.wasmi_core.specs.State.{MemoryPart, State, live_at, memory_part, with_tables}
 use Rattle.wasmi_core.specs.Steps.{Changed, Effect, FuelSet, LentMemoryMade, MemoryGrown, MemoryMade, PartWritten, Step, TableGrown, TableMade, TakesEffect, effect_of}
 use Rattle.wasmi_core.specs.TableRows.{write_of}
 use Rattle.wasmi_core.specs.Totals.{byte_count, sizes, slot_count}
@@ -23,6 +23,8 @@ use Rattle.wasmi_meter.specs.Attempt.{Denied, Effort, Failed, Fate, Follows, May
 use Rattle.wasmi_meter.specs.Costs.{copy_cost}
 use Rattle.wasmi_meter.specs.Limiter.{Rules, kind_of}
 use Rattle.wasmi_meter.specs.Meter.{Meter, due}
+use Rattle.wasmi_meter.specs.declared.error.MemoryError.{MemoryError}
+use Rattle.wasmi_meter.specs.declared.error.TableError.{TableError}
 use Rattle.wasmi_meter.specs.declared.limiter.Kind.{Kind}
 use Rattle.wasmi_meter.specs.declared.limiter.Kind.TheVariants.{Bytes, Elements}
 use Rattle.wasmi_store.proofs.GrowthLemmas.{on_test}
@@ -33,6 +35,7 @@ use Rattle.wasmi_store.specs.MemoryType.{MemoryTypeValue, minimum_bytes, page_by
 use Rattle.wasmi_store.specs.Table.{GrowsTable, MakesTable, TableValue, new_table, size_of}
 use Rattle.wasmi_store.specs.TableType.{TableTypeValue, same_type}
 use Rattle.wasmi_typed.specs.declared.typed_ref.TypedRawRef.{TypedRawRef}
+use Rattle.wasmi_types.specs.Access.{at}
 use Rattle.wasmi_store.specs.Memory as memory
 use Rattle.wasmi_core.specs.declared.calls.Reply.TheVariants as replied
 use Rattle.wasmi_store.specs.Table as table
@@ -50,39 +53,60 @@ charge_if : (tested : Bool) (charge amount price : ℕ) → amount ≡ price →
 charge_if true charge amount price is charged = inr (charged ∙ is)
 charge_if false charge amount price is charged = inl charged
 
-module _ {S : Type 0} (rules : Rules S) (l l' : S) (before after : Kind → List ℕ) (place : Place) (m : Meter)
-    (charge : ℕ) where
-  -- an exchange between two limiters, with what has grown and the charge
-  abbrev pub Passed : Type 0
-  Passed =
-      (exchange : Exchange) × Passes rules l exchange l' × GrowsBy place exchange before after × ChargesAt place
-      exchange m charge
+-- what an exchange is between: a limiter and the sizes before and after, the meter before, and the charge
+record Meeting (S : Type 0) : Type 0 where
+  first : S
+  last : S
+  before : Kind → List ℕ
+  after : Kind → List ℕ
+  meter : Meter
+  charge : ℕ
 
-  pub nothing_passes : l' ≡ l → NothingGrows before after → ChargesAt place Nothing m charge → Passed
+-- the exchange of an attempt with this fate
+abbrev exchange_of : {V E : Type 0} → Effort V E → Fate E → Exchange
+exchange_of e (Unasked cause) = Nothing
+exchange_of e (Denied answer) = Denial e.question answer
+exchange_of e Met = Permission e.question
+exchange_of e (Failed cause heed) = Notice e.question (e.notice cause) heed
+
+-- the charge of a growth, whose price is what the meter is due for the question
+charged_by_fate : {V E : Type 0} (e : Effort V E) (m : Meter) (charge : ℕ)
+    → amount_due (Some m) e.price ≡ due_for m e.question → (fate : Fate E) → charge ≡ charge_of e (Some m) fate
+    → ChargesBy (exchange_of e fate) m charge
+charged_by_fate e m charge price (Unasked cause) charged = charged
+charged_by_fate e m charge price (Denied answer) charged = charged
+charged_by_fate e m charge price Met charged = charged ∙ price
+charged_by_fate e m charge price (Failed cause heed) charged =
+    charge_if (is_none e.late && can_pay (Some m) (amount_due (Some m) e.price)) charge
+    (amount_due (Some m) e.price) (due_for m e.question) price charged
+
+module _ {S : Type 0} (rules : Rules S) (t : Meeting S) (place : Place) where
+  -- an exchange between two limiters, with what has grown and the charge
+  abbrev Passed : Type 0
+  Passed = (exchange : Exchange) × Passes rules t.first exchange t.last × GrowsBy place exchange t.before t.after
+      × ChargesAt place exchange t.meter t.charge
+
+  -- the limiter isn't reached, and nothing grows
+  nothing_passes : t.last ≡ t.first → NothingGrows t.before t.after → ChargesAt place Nothing t.meter t.charge → Passed
   nothing_passes same still free = (Nothing, same, still, free)
 
-  -- An attempt passes by its fate. What is watched is one kind, with the sizes of the other kept.
+  -- an attempt passes by its fate: one kind is watched, and the sizes of the other stay
   module _ {V E : Type 0} (e : Effort V E) (tells : (cause : E) → kind_of (e.notice cause) ≡ e.question.kind)
-      (others : (kind : Kind) → kind ≢ e.question.kind → after kind ≡ before kind) where
-    -- the exchange of an attempt with this fate
-    abbrev pub exchange_of : Fate E → Exchange
-    exchange_of (Unasked cause) = Nothing
-    exchange_of (Denied answer) = Denial e.question answer
-    exchange_of Met = Permission e.question
-    exchange_of (Failed cause heed) = Notice e.question (e.notice cause) heed
-
+      (others : (kind : Kind) → kind ≢ e.question.kind → t.after kind ≡ t.before kind) where
     -- the sizes of the kind after it
-    abbrev pub GrowsByFate : Fate E → Type 0
-    GrowsByFate (Unasked cause) = after e.question.kind ≡ before e.question.kind
-    GrowsByFate (Denied answer) = after e.question.kind ≡ before e.question.kind
-    GrowsByFate Met = GrowsAsAsked place e.question (before e.question.kind) (after e.question.kind)
-    GrowsByFate (Failed cause heed) = after e.question.kind ≡ before e.question.kind
+    abbrev GrowsByFate : Fate E → Type 0
+    GrowsByFate (Unasked cause) = t.after e.question.kind ≡ t.before e.question.kind
+    GrowsByFate (Denied answer) = t.after e.question.kind ≡ t.before e.question.kind
+    GrowsByFate Met = GrowsAsAsked place e.question (t.before e.question.kind) (t.after e.question.kind)
+    GrowsByFate (Failed cause heed) = t.after e.question.kind ≡ t.before e.question.kind
 
-    still : after e.question.kind ≡ before e.question.kind → NothingGrows before after
-    still own = of_each (λ kind. after kind ≡ before kind) e.question.kind own others
+    -- the kind that is watched stays too
+    still : t.after e.question.kind ≡ t.before e.question.kind → NothingGrows t.before t.after
+    still own = of_each (λ kind. t.after kind ≡ t.before kind) e.question.kind own others
 
-    pub attempt_passes : (meter : Option Meter) (fate : Fate E) → MayEnd e meter fate → Follows e rules l fate l'
-        → GrowsByFate fate → ChargesAt place (exchange_of fate) m charge → Passed
+    -- the exchange
+    attempt_passes : (meter : Option Meter) (fate : Fate E) → MayEnd e meter fate → Follows e rules t.first fate t.last
+        → GrowsByFate fate → ChargesAt place (exchange_of e fate) t.meter t.charge → Passed
     attempt_passes meter (Unasked cause) may follows own charged = (Nothing, follows, still own, charged)
     attempt_passes meter (Denied answer) may follows own charged =
         (Denial e.question answer, (may.1, follows), still own, charged)
@@ -90,97 +114,135 @@ module _ {S : Type 0} (rules : Rules S) (l l' : S) (before after : Kind → List
     attempt_passes meter (Failed cause heed) may follows own charged =
         (Notice e.question (e.notice cause) heed, (tells cause, follows.0, follows.1, follows.2), still own, charged)
 
-    -- the charge of a growth, whose price is what the meter is due for the question
-    pub charged_by_fate : amount_due (Some m) e.price ≡ due_for m e.question → (fate : Fate E)
-        → charge ≡ charge_of e (Some m) fate → ChargesBy (exchange_of fate) m charge
-    charged_by_fate price (Unasked cause) charged = charged
-    charged_by_fate price (Denied answer) charged = charged
-    charged_by_fate price Met charged = charged ∙ price
-    charged_by_fate price (Failed cause heed) charged =
-        charge_if (is_none e.late && can_pay (Some m) (amount_due (Some m) e.price)) charge
-        (amount_due (Some m) e.price) (due_for m e.question) price charged
+-- slots before and after an exchange, and what is counted of each value
+record Watch (S X : Type 0) : Type 0 where
+  meeting : Meeting S
+  count : X → ℕ
+  slots : List (Slot X)
+  later : List (Slot X)
 
--- One kind of slots, whose sizes are watched.
-module _ {S X : Type 0} (rules : Rules S) (l l' : S) (before after : Kind → List ℕ) (m : Meter) (charge : ℕ)
-    (count : X → ℕ) (kind : Kind) (slots slots' : List (Slot X)) (own : before kind ≡ map (slot_count count) slots)
-    (own' : after kind ≡ map (slot_count count) slots')
-    (others : (other : Kind) → other ≢ kind → after other ≡ before other) where
-  -- the slots have the sizes that they had
-  pub kept_passes : (place : Place) → l' ≡ l → map (slot_count count) slots' ≡ map (slot_count count) slots
-      → ChargesAt place Nothing m charge → Passed rules l l' before after place m charge
-  kept_passes place same kept free =
-      nothing_passes rules l l' before after place m charge same
-      (of_each (λ k. after k ≡ before k) kind (own' ∙ kept ∙ sym own) others) free
+-- they are those of a kind, and the sizes of the other stay
+record IsWatched {S X : Type 0} (v : Watch S X) (kind : Kind) : Type 0 where
+  own : v.meeting.before kind ≡ map (slot_count v.count) v.slots
+  own' : v.meeting.after kind ≡ map (slot_count v.count) v.later
+  others : (other : Kind) → other ≢ kind → v.meeting.after other ≡ v.meeting.before other
 
-  same_count : (k : ℕ) (x x' : X) → live_at slots k ≡ Some x → slots' ≡ slice_set slots k (Live x')
-      → count x' ≡ count x → map (slot_count count) slots' ≡ map (slot_count count) slots
-  same_count k x x' found put same = ap (map (slot_count count)) put ∙ counts_kept count slots k x (Live x') found same
+-- an effort that makes a value of nothing
+record IsCreationOf {X E : Type 0} (count : X → ℕ) (made : X) (e : Effort (Unit {0}) E) : Type 0 where
+  tells : (cause : E) → kind_of (e.notice cause) ≡ e.question.kind
+  fresh : e.question.current ≡ 0
+  full : count made ≡ e.question.desired
 
-  module _ {E : Type 0} where
-    -- something is made
-    module _ (free : charge ≡ 0) (e : Effort (Unit {0}) E) (is : e.question.kind ≡ kind)
-        (tells : (cause : E) → kind_of (e.notice cause) ≡ kind) (refusal : E → Reply) (made : X)
-        (fresh : e.question.current ≡ 0) (full : count made ≡ e.question.desired) where
-      made_sizes : (fate : Fate E) (reply : Reply) → Appends Live refusal (answer_of e made fate) slots reply slots'
-          → GrowsByFate rules l l' before after New m charge e (λ cause. tells cause ∙ sym is)
-          (λ k other. others k (λ same. other (same ∙ sym is))) fate
-      made_sizes (Unasked cause) reply appends = rw is (own' ∙ ap (map (slot_count count)) appends.1 ∙ sym own)
-      made_sizes (Denied answer) reply appends = rw is (own' ∙ ap (map (slot_count count)) appends.1 ∙ sym own)
-      made_sizes Met reply appends =
-          rw is (
-            fresh,
-            own' ∙ ap (map (slot_count count)) appends.1 ∙ map_push (slot_count count) slots (Live made)
-                ∙ ap (λ n. map (slot_count count) slots ++ n ∷ []) full
-                ∙ ap (λ (ns : List ℕ). ns ++ e.question.desired ∷ []) (sym own),
-          )
-      made_sizes (Failed cause heed) reply appends = rw is (own' ∙ ap (map (slot_count count)) appends.1 ∙ sym own)
+-- a growth of a value, which is paid for as what it asks for is
+record IsGrowthOf {X E : Type 0} (count : X → ℕ) (x : X) (m : Meter) (g : Growth X E) : Type 0 where
+  tells : (cause : E) → kind_of (g.effort.notice cause) ≡ g.effort.question.kind
+  now : g.effort.question.current ≡ count x
+  full : count g.effort.grown ≡ g.effort.question.desired
+  up : g.effort.question.current ≤ g.effort.question.desired
+  price : amount_due (Some m) g.effort.price ≡ due_for m g.effort.question
 
-      pub makes_passes : (result : Result X E) (reply : Reply) → Makes rules e made l result l'
-          → Appends Live refusal result slots reply slots' → Passed rules l l' before after New m charge
-      makes_passes result reply (fate, attempt, answered) appends =
-          attempt_passes rules l l' before after New m charge e (λ cause. tells cause ∙ sym is)
-          (λ k other. others k (λ same. other (same ∙ sym is))) None fate attempt.may_end attempt.follows
-          (made_sizes fate reply (rw answered at appends)) free
+-- the live value of an index has become another one
+record Replaced {S X : Type 0} (v : Watch S X) (k : ℕ) (x x' : X) : Type 0 where
+  found : live_at v.slots k ≡ Some x
+  put : v.later ≡ slice_set v.slots k (Live x')
 
-    -- something grows
-    module _ (k : ℕ) (x x' : X) (found : live_at slots k ≡ Some x) (put : slots' ≡ slice_set slots k (Live x')) where
-      module _ (g : Growth X E) (is : g.effort.question.kind ≡ kind)
-          (tells : (cause : E) → kind_of (g.effort.notice cause) ≡ kind) (now : g.effort.question.current ≡ count x)
-          (full : count g.effort.grown ≡ g.effort.question.desired)
-          (up : g.effort.question.current ≤ g.effort.question.desired)
-          (price : amount_due (Some m) g.effort.price ≡ due_for m g.effort.question) where
-        unchanged : x' ≡ x → after g.effort.question.kind ≡ before g.effort.question.kind
-        unchanged same = rw is (own' ∙ same_count k x x' found put (ap count same) ∙ sym own)
+-- one kind of slots, whose sizes are watched
+module _ {S X : Type 0} (rules : Rules S) (v : Watch S X) where
+  -- the sizes of the slots stay
+  kept_passes : (kind : Kind) → IsWatched v kind → (place : Place) → v.meeting.last ≡ v.meeting.first
+      → map (slot_count v.count) v.later ≡ map (slot_count v.count) v.slots
+      → ChargesAt place Nothing v.meeting.meter v.meeting.charge → Passed rules v.meeting place
+  kept_passes kind watched place same kept free =
+      nothing_passes rules v.meeting place same (of_each (λ k. v.meeting.after k ≡ v.meeting.before k) kind
+      (watched.own' ∙ kept ∙ sym watched.own) watched.others) free
 
-        grown_sizes : (fate : Fate E) → x' ≡ value_after g.effort x fate
-            → GrowsByFate rules l l' before after (At k) m charge g.effort (λ cause. tells cause ∙ sym is)
-            (λ o other. others o (λ same. other (same ∙ sym is))) fate
-        grown_sizes (Unasked cause) same = unchanged same
-        grown_sizes (Denied answer) same = unchanged same
-        grown_sizes Met same =
-            rw is (
-              up,
-              ap (λ (ns : List ℕ). slice_get ns k) own ∙ count_at count slots k x found
-                  ∙ ap Some (sym now),
-              own' ∙ ap (map (slot_count count)) put ∙ counts_set count slots k (Live x')
-                  ∙ ap (slice_set (map (slot_count count) slots) k) (ap count same ∙ full)
-                  ∙ ap (λ (ns : List ℕ). slice_set ns k g.effort.question.desired) (sym own),
-            )
-        grown_sizes (Failed cause heed) same = unchanged same
+  -- so where a value of the same size has replaced one
+  same_count : (k : ℕ) (x x' : X) → Replaced v k x x' → v.count x' ≡ v.count x
+      → map (slot_count v.count) v.later ≡ map (slot_count v.count) v.slots
+  same_count k x x' replaced same =
+      ap (map (slot_count v.count)) replaced.put ∙ counts_kept v.count v.slots k x (Live x') replaced.found same
 
-        pub grows_passes : (m' : Meter) (result : Result ℕ E)
-            → Grows rules g (record { value = x; meter = Some m; limiter = l }) result charge
-            (record { value = x'; meter = Some m'; limiter = l' }) → Passed rules l l' before after (At k) m charge
-        grows_passes m' result (inl none) =
-            kept_passes (At k) (ap (λ (s : Situation X S). s.limiter) none.same)
-            (same_count k x x' found put (ap (λ (s : Situation X S). count s.value) none.same)) none.uncharged
-        grows_passes m' result (inr some) =
-            attempt_passes rules l l' before after (At k) m charge g.effort (λ cause. tells cause ∙ sym is)
-            (λ o other. others o (λ same. other (same ∙ sym is))) (Some m) some.fate some.attempt.may_end
-            some.attempt.follows (grown_sizes some.fate some.attempt.value)
-            (charged_by_fate rules l l' before after (At k) m charge g.effort (λ cause. tells cause ∙ sym is)
-            (λ o other. others o (λ same. other (same ∙ sym is))) price some.fate some.attempt.charged)
+  -- something is made
+  module _ {E : Type 0} (e : Effort (Unit {0}) E) (made : X) (new : IsCreationOf v.count made e)
+      (watched : IsWatched v e.question.kind) where
+    -- the sizes after it, by its fate
+    made_sizes : (refusal : E → Reply) (fate : Fate E) (reply : Reply)
+        → Appends Live refusal (answer_of e made fate) v.slots reply v.later
+        → GrowsByFate rules v.meeting New e new.tells watched.others fate
+    made_sizes refusal (Unasked cause) reply appends =
+        watched.own' ∙ ap (map (slot_count v.count)) appends.1 ∙ sym watched.own
+    made_sizes refusal (Denied answer) reply appends =
+        watched.own' ∙ ap (map (slot_count v.count)) appends.1 ∙ sym watched.own
+    made_sizes refusal Met reply appends = (
+      new.fresh,
+      watched.own' ∙ ap (map (slot_count v.count)) appends.1 ∙ map_push (slot_count v.count) v.slots (Live made)
+          ∙ ap (λ n. map (slot_count v.count) v.slots ++ n ∷ []) new.full
+          ∙ ap (λ (ns : List ℕ). ns ++ e.question.desired ∷ []) (sym watched.own),
+    )
+    made_sizes refusal (Failed cause heed) reply appends =
+        watched.own' ∙ ap (map (slot_count v.count)) appends.1 ∙ sym watched.own
 
+    -- the exchange of a creation
+    creates_passes : (refusal : E → Reply) (reply : Reply) → v.meeting.charge ≡ 0
+        → Creates refusal (Makes rules e made) v.slots v.meeting.first reply v.later v.meeting.last
+        → Passed rules v.meeting New
+    creates_passes refusal reply free (inl none) =
+        kept_passes e.question.kind watched New none.2 (ap (map (slot_count v.count)) none.1) free
+    creates_passes refusal reply free (inr (result, (fate, attempt, answered), appends)) =
+        attempt_passes rules v.meeting New e new.tells watched.others None fate attempt.may_end attempt.follows
+        (made_sizes refusal fate reply (rw answered at appends)) free
+
+  -- something grows
+  module _ {E : Type 0} (g : Growth X E) (watched : IsWatched v g.effort.question.kind) (k : ℕ) (x x' : X)
+      (growth : IsGrowthOf v.count x v.meeting.meter g) (replaced : Replaced v k x x') where
+    -- the sizes where it doesn't
+    unchanged : x' ≡ x → v.meeting.after g.effort.question.kind ≡ v.meeting.before g.effort.question.kind
+    unchanged same = watched.own' ∙ same_count k x x' replaced (ap v.count same) ∙ sym watched.own
+
+    -- the sizes after it, by its fate
+    grown_sizes : (fate : Fate E) → x' ≡ value_after g.effort x fate
+        → GrowsByFate rules v.meeting (At k) g.effort growth.tells watched.others fate
+    grown_sizes (Unasked cause) same = unchanged same
+    grown_sizes (Denied answer) same = unchanged same
+    grown_sizes Met same = (
+      growth.up,
+      ap (λ (ns : List ℕ). slice_get ns k) watched.own ∙ count_at v.count v.slots k x replaced.found
+          ∙ ap Some (sym growth.now),
+      watched.own' ∙ ap (map (slot_count v.count)) replaced.put ∙ counts_set v.count v.slots k (Live x')
+          ∙ ap (slice_set (map (slot_count v.count) v.slots) k) (ap v.count same ∙ growth.full)
+          ∙ ap (λ (ns : List ℕ). slice_set ns k g.effort.question.desired) (sym watched.own),
+    )
+    grown_sizes (Failed cause heed) same = unchanged same
+
+    -- the exchange of a growth
+    grows_passes : (m' : Meter) (result : Result ℕ E)
+        → Grows rules g (record { value = x; meter = Some v.meeting.meter; limiter = v.meeting.first }) result
+        v.meeting.charge (record { value = x'; meter = Some m'; limiter = v.meeting.last })
+        → Passed rules v.meeting (At k)
+    grows_passes m' result (inl none) =
+        kept_passes g.effort.question.kind watched (At k) (ap (λ (s : Situation X S). s.limiter) none.same)
+        (same_count k x x' replaced (ap (λ (s : Situation X S). v.count s.value) none.same)) none.uncharged
+    grows_passes m' result (inr some) =
+        attempt_passes rules v.meeting (At k) g.effort growth.tells watched.others (Some v.meeting.meter) some.fate
+        some.attempt.may_end some.attempt.follows (grown_sizes some.fate some.attempt.value)
+        (charged_by_fate g.effort v.meeting.meter v.meeting.charge growth.price some.fate some.attempt.charged)
+
+  -- a call on what an index names: nothing passes where it names nothing
+  acts_pass : {R : Type 0} (kind : Kind) → IsWatched v kind → (k : ℕ) (reply_to : R → Reply)
+      (Acts : Situation X S → R → ℕ → Situation X S → Type 0) (m' : Meter) (reply : Reply)
+      → ((x x' : X) (result : R) → Replaced v k x x'
+      → Acts (record { value = x; meter = Some v.meeting.meter; limiter = v.meeting.first }) result v.meeting.charge
+      (record { value = x'; meter = Some m'; limiter = v.meeting.last }) → Passed rules v.meeting (At k))
+      → ActsAt k reply_to Acts (record { value = v.slots; meter = Some v.meeting.meter; limiter = v.meeting.first })
+      reply v.meeting.charge (record { value = v.later; meter = Some m'; limiter = v.meeting.last })
+      → Passed rules v.meeting (At k)
+  acts_pass kind watched k reply_to Acts m' reply passes acts =
+      on_live (live_at v.slots k) _ _ acts
+      (λ missing. kept_passes kind watched (At k) (ap (λ (s : Situation (List (Slot X)) S). s.limiter) missing.2)
+      (ap (λ (s : Situation (List (Slot X)) S). map (slot_count v.count) s.value) missing.2) missing.1)
+      (λ x found h. passes x h.1 h.0 (record { found = found; put = h.4 }) h.2)
+
+-- what holds of the other kind
 but_bytes : (P : Kind → Type 0) → P Elements → (kind : Kind) → kind ≢ Bytes → P kind
 but_bytes P elements Bytes other = absurd (other refl)
 but_bytes P elements Elements other = elements
@@ -189,113 +251,157 @@ but_elements : (P : Kind → Type 0) → P Bytes → (kind : Kind) → kind ≢ 
 but_elements P bytes Bytes other = bytes
 but_elements P bytes Elements other = absurd (other refl)
 
-module _ {S : Type 0} (rules : Rules S) (w : World S) (turn : Turn) (w' : World S) where
-  -- the turn ends in a world with the same limiter and the same sizes of memories and tables
-  idle : {v : World S} → w' ≡ v → v.limiter ≡ w.limiter → sizes v.state Bytes ≡ sizes w.state Bytes
-      → sizes v.state Elements ≡ sizes w.state Elements
-      → Passed rules w.limiter w'.limiter (sizes w.state) (sizes w'.state) Nowhere w.state.meter turn.charge
-  idle {v} is unasked bytes elements =
-      rw is (nothing_passes rules w.limiter v.limiter (sizes w.state) (sizes v.state) Nowhere w.state.meter
-      turn.charge unasked (each_kind (λ kind. sizes v.state kind ≡ sizes w.state kind) bytes elements) tt)
-
 -- what is due for a difference, as it is for what was added
 due_again : (m : Meter) (bytes old added : ℕ)
     → due m (λ costs. copy_cost costs added bytes) ≡ due m (λ costs. copy_cost costs (old + added - old) bytes)
 due_again m bytes old added =
     ap (λ n. due m (λ costs. copy_cost costs n bytes)) (let same : added ≡ old + added - old = omega arith in same)
 
--- a memory or a table is made or grows
-module _ {S : Type 0} (rules : Rules S) (s : State) (l : S) (l' : S) (charge : ℕ) where
-  module _ (slots : List (Slot MemoryValue)) (m : Meter) where
-    abbrev with_those_memories : State
-    with_those_memories = record (with_memories s slots) { meter = m }
+-- what is made, and what grows
+new_memory_is : (room : Room) (ty : MemoryTypeValue)
+    → IsCreationOf byte_count (new_memory room ty) (memory.creation_of room ty)
+new_memory_is room ty = record {
+  tells = λ cause. refl;
+  fresh = refl;
+  full = length-replicate {A = ℕ} (minimum_bytes ty) 0;
+}
 
-    module _ (reply : Reply) where
-      memory_made : charge ≡ 0 → (room : Room) (ty : MemoryTypeValue)
-          → Creates replied.Memory (MakesMemory rules room ty) s.memories l reply slots l'
-          → Passed rules l l' (sizes s) (sizes with_those_memories) New s.meter charge
-      memory_made free room ty (inl none) =
-          kept_passes rules l l' (sizes s) (sizes with_those_memories) s.meter charge byte_count Bytes s.memories
-          slots refl refl (but_bytes (λ kind. sizes with_those_memories kind ≡ sizes s kind) refl) New none.2
-          (ap (map (slot_count byte_count)) none.1) free
-      memory_made free room ty (inr (result, makes, appends)) =
-          makes_passes rules l l' (sizes s) (sizes with_those_memories) s.meter charge byte_count Bytes s.memories
-          slots refl refl (but_bytes (λ kind. sizes with_those_memories kind ≡ sizes s kind) refl)
-          free (memory.creation_of room ty) refl (λ cause. refl) replied.Memory (new_memory room ty) refl
-          (length-replicate {A = ℕ} (minimum_bytes ty) 0) result reply makes appends
+new_table_is : (ty : TableTypeValue) (init : TypedRawRef)
+    → IsCreationOf size_of (new_table ty init.raw) (table.creation_of ty init.ty)
+new_table_is ty init = record {
+  tells = λ cause. refl;
+  fresh = refl;
+  full = length-replicate {A = ℕ} ty.minimum init.raw;
+}
 
-      memory_grows : (k pages : ℕ) → ActsAt k (reply_of replied.Number replied.Memory) (GrowsMemory rules
-          pages) (record { value = s.memories; meter = Some s.meter; limiter = l }) reply charge
-          (record { value = slots; meter = Some m; limiter = l' })
-          → Passed rules l l' (sizes s) (sizes with_those_memories) (At k) s.meter charge
-      memory_grows k pages acts =
-          on_live (live_at s.memories k) _ _ acts
-          (λ missing. kept_passes rules l l' (sizes s) (sizes with_those_memories) s.meter charge byte_count Bytes
-          s.memories slots refl refl (but_bytes (λ kind. sizes with_those_memories kind ≡ sizes s kind) refl)
-          (At k) (ap (λ (t : Situation (List (Slot MemoryValue)) S). t.limiter) missing.2)
-          (ap (λ (t : Situation (List (Slot MemoryValue)) S). map (slot_count byte_count) t.value) missing.2)
-          missing.1)
-          (λ x found (result, x', grows, replied, put). let added = pages * page_bytes x.ty.page in
-          grows_passes rules l l' (sizes s) (sizes with_those_memories) s.meter charge byte_count Bytes s.memories
-          slots refl refl (but_bytes (λ kind. sizes with_those_memories kind ≡ sizes s kind) refl)
-          k x x' found put (record { amount = pages; size = pages_of x; effort = memory.growth_of x pages }) refl
-          (λ cause. refl) refl
-          (length-append x.bytes (replicate added 0)
-          ∙ ap (λ n. length x.bytes + n) (length-replicate {A = ℕ} added 0)) (omega arith)
-          (due_again s.meter 1 (length x.bytes) added) m result grows)
+abbrev memory_growth : ℕ → MemoryValue → Growth MemoryValue MemoryError
+memory_growth pages x = record { amount = pages; size = pages_of x; effort = memory.growth_of x pages }
 
-  lent_made : charge ≡ 0 → (reply : Reply) (part : MemoryPart) (ty : MemoryTypeValue)
-      → CreatesLent rules ty (memory_part s) l reply part l'
-      → Passed rules l l' (sizes s) (sizes (with_memory_part s part)) New s.meter charge
-  lent_made free reply part ty creates =
-      on_live s.spare _ _ creates
-      (λ none. nothing_passes rules l l' (sizes s) (sizes (with_memory_part s part)) New s.meter charge none.2
-      (each_kind (λ kind. sizes (with_memory_part s part) kind ≡ sizes s kind)
-      (ap (λ (p : MemoryPart). map (slot_count byte_count) p.slots) none.1) refl) free)
-      (λ region found h. memory_made part.slots s.meter reply free (Lent region) ty h.0)
+memory_growth_is : (pages : ℕ) (x : MemoryValue) (m : Meter) → IsGrowthOf byte_count x m (memory_growth pages x)
+memory_growth_is pages x m =
+    let added = pages * page_bytes x.ty.page in
+    record {
+      tells = λ cause. refl;
+      now = refl;
+      full = length-append x.bytes (replicate added 0)
+          ∙ ap (λ n. length x.bytes + n) (length-replicate {A = ℕ} added 0);
+      up = omega arith;
+      price = due_again m 1 (length x.bytes) added;
+    }
 
-  module _ (slots : List (Slot TableValue)) (m : Meter) where
-    abbrev with_those_tables : State
-    with_those_tables = record (with_tables s slots) { meter = m }
+abbrev table_growth : ℕ → ℕ → TableValue → Growth TableValue TableError
+table_growth n reference x = record { amount = n; size = size_of x; effort = table.growth_of x n reference }
 
-    module _ (reply : Reply) where
-      table_made : charge ≡ 0 → (ty : TableTypeValue) (init : TypedRawRef)
-          → Creates replied.Table (MakesTable rules ty init) s.tables l reply slots l'
-          → Passed rules l l' (sizes s) (sizes with_those_tables) New s.meter charge
-      table_made free ty init (inl none) =
-          kept_passes rules l l' (sizes s) (sizes with_those_tables) s.meter charge size_of Elements s.tables slots
-          refl refl (but_elements (λ kind. sizes with_those_tables kind ≡ sizes s kind) refl) New none.2
-          (ap (map (slot_count size_of)) none.1) free
-      table_made free ty init (inr (result, makes, appends)) =
-          makes_passes rules l l' (sizes s) (sizes with_those_tables) s.meter charge size_of Elements s.tables slots
-          refl refl (but_elements (λ kind. sizes with_those_tables kind ≡ sizes s kind) refl)
-          free (table.creation_of ty init.ty) refl (λ cause. refl) replied.Table (new_table ty init.raw) refl
-          (length-replicate {A = ℕ} ty.minimum init.raw) result reply makes appends
+table_growth_is : (n reference : ℕ) (x : TableValue) (m : Meter) → IsGrowthOf size_of x m (table_growth n reference x)
+table_growth_is n reference x m = record {
+  tells = λ cause. refl;
+  now = refl;
+  full = length-append x.elements (replicate n reference)
+      ∙ ap (λ k. length x.elements + k) (length-replicate {A = ℕ} n reference);
+  up = omega arith;
+  price = due_again m 4 (size_of x) n;
+}
 
-      table_grows : (k n : ℕ) (init : TypedRawRef)
-          → ActsAt k (reply_of replied.Number replied.Table) (GrowsTable rules n init)
-          (record { value = s.tables; meter = Some s.meter; limiter = l }) reply charge
-          (record { value = slots; meter = Some m; limiter = l' })
-          → Passed rules l l' (sizes s) (sizes with_those_tables) (At k) s.meter charge
-      table_grows k n init acts =
-          on_live (live_at s.tables k) _ _ acts
-          (λ missing. kept_passes rules l l' (sizes s) (sizes with_those_tables) s.meter charge size_of Elements
-          s.tables slots refl refl (but_elements (λ kind. sizes with_those_tables kind ≡ sizes s kind) refl)
-          (At k) (ap (λ (t : Situation (List (Slot TableValue)) S). t.limiter) missing.2)
-          (ap (λ (t : Situation (List (Slot TableValue)) S). map (slot_count size_of) t.value) missing.2) missing.1)
-          (λ x found (result, x', grows, replied, put). on_test (same_type x.ty.element init.ty) _ _ grows
-          (λ h. grows_passes rules l l' (sizes s) (sizes with_those_tables) s.meter charge size_of Elements s.tables
-          slots refl refl (but_elements (λ kind. sizes with_those_tables kind ≡ sizes s kind) refl)
-          k x x' found put (record { amount = n; size = size_of x; effort = table.growth_of x n init.raw }) refl
-          (λ cause. refl) refl
-          (length-append x.elements (replicate n init.raw)
-          ∙ ap (λ n. length x.elements + n) (length-replicate {A = ℕ} n init.raw)) (omega arith)
-          (due_again s.meter 4 (size_of x) n) m result h)
-          (λ h. kept_passes rules l l' (sizes s) (sizes with_those_tables) s.meter charge size_of Elements s.tables
-          slots refl refl (but_elements (λ kind. sizes with_those_tables kind ≡ sizes s kind) refl)
-          (At k) (ap (λ (t : Situation TableValue S). t.limiter) h.2)
-          (ap (map (slot_count size_of)) put ∙ counts_kept size_of s.tables k x (Live x') found (ap
-          (λ (t : Situation TableValue S). size_of t.value) h.2)) h.1))
+-- a turn, as an exchange is between its limiters
+abbrev meeting_of : {S : Type 0} → World S → ℕ → World S → Meeting S
+meeting_of w charge w' = record {
+  first = w.limiter;
+  last = w'.limiter;
+  before = sizes w.state;
+  after = sizes w'.state;
+  meter = w.state.meter;
+  charge = charge;
+}
+
+module _ {S : Type 0} (rules : Rules S) (w : World S) (charge : ℕ) (w' : World S) where
+  -- the turn ends in a world with the same limiter and the same sizes of memories and tables
+  idle : {v : World S} → w' ≡ v → v.limiter ≡ w.limiter → NothingGrows (sizes w.state) (sizes v.state)
+      → Passed rules (meeting_of w charge w') Nowhere
+  idle {v} is unasked still = rw is (nothing_passes rules (meeting_of w charge v) Nowhere unasked still tt)
+
+  -- its memories, and its tables
+  abbrev memories_watch : Watch S MemoryValue
+  memories_watch =
+      record {
+        meeting = meeting_of w charge w';
+        count = byte_count;
+        slots = w.state.memories;
+        later =
+            w'.state.memories;
+      }
+
+  abbrev tables_watch : Watch S TableValue
+  tables_watch =
+      record { meeting = meeting_of w charge w'; count = size_of; slots = w.state.tables; later = w'.state.tables }
+
+  memories_watched : w'.state.tables ≡ w.state.tables → IsWatched memories_watch Bytes
+  memories_watched same = record {
+    own = refl;
+    own' = refl;
+    others = but_bytes (λ kind. sizes w'.state kind ≡ sizes w.state kind) (ap (map (slot_count size_of)) same);
+  }
+
+  tables_watched : w'.state.memories ≡ w.state.memories → IsWatched tables_watch Elements
+  tables_watched same = record {
+    own = refl;
+    own' = refl;
+    others = but_elements (λ kind. sizes w'.state kind ≡ sizes w.state kind) (ap (map (slot_count byte_count)) same);
+  }
+
+  -- a memory is made
+  memory_made : w'.state.tables ≡ w.state.tables → charge ≡ 0 → (reply : Reply) (room : Room) (ty : MemoryTypeValue)
+      → Creates replied.Memory (MakesMemory rules room ty) w.state.memories w.limiter reply w'.state.memories w'.limiter
+      → Passed rules (meeting_of w charge w') New
+  memory_made same free reply room ty creates =
+      creates_passes rules memories_watch (memory.creation_of room ty) (new_memory room ty) (new_memory_is room ty)
+      (memories_watched same) replied.Memory reply free creates
+
+  -- a memory is made in the spare region, if there is one
+  lent_made : w'.state.tables ≡ w.state.tables → charge ≡ 0 → (reply : Reply) (ty : MemoryTypeValue)
+      → CreatesLent rules ty (memory_part w.state) w.limiter reply (memory_part w'.state) w'.limiter
+      → Passed rules (meeting_of w charge w') New
+  lent_made same free reply ty creates =
+      on_live w.state.spare _ _ creates
+      (λ none. kept_passes rules memories_watch Bytes (memories_watched same) New none.2
+      (ap (λ (p : MemoryPart). map (slot_count byte_count) p.slots) none.1) free)
+      (λ region found h. memory_made same free reply (Lent region) ty h.0)
+
+  -- a table is made
+  table_made : w'.state.memories ≡ w.state.memories → charge ≡ 0 → (reply : Reply) (ty : TableTypeValue)
+      (init : TypedRawRef)
+      → Creates replied.Table (MakesTable rules ty init) w.state.tables w.limiter reply w'.state.tables w'.limiter
+      → Passed rules (meeting_of w charge w') New
+  table_made same free reply ty init creates =
+      creates_passes rules tables_watch (table.creation_of ty init.ty) (new_table ty init.raw) (new_table_is ty init)
+      (tables_watched same) replied.Table reply free creates
+
+  -- a memory grows
+  memory_grows : w'.state.tables ≡ w.state.tables → (reply : Reply) (k pages : ℕ) (m' : Meter)
+      → ActsAt k (reply_of replied.Number replied.Memory) (GrowsMemory rules pages)
+      (record { value = w.state.memories; meter = Some w.state.meter; limiter = w.limiter }) reply charge
+      (record { value = w'.state.memories; meter = Some m'; limiter = w'.limiter })
+      → Passed rules (meeting_of w charge w') (At k)
+  memory_grows same reply k pages m' acts =
+      acts_pass rules memories_watch Bytes (memories_watched same) k (reply_of replied.Number replied.Memory)
+      (GrowsMemory rules pages) m' reply
+      (λ x x' result replaced grows. grows_passes rules memories_watch (memory_growth pages x) (memories_watched same) k
+      x x' (memory_growth_is pages x w.state.meter) replaced m' result grows) acts
+
+  -- a table grows, if what it is filled with has its type
+  table_grows : w'.state.memories ≡ w.state.memories → (reply : Reply) (k n : ℕ) (init : TypedRawRef) (m' : Meter)
+      → ActsAt k (reply_of replied.Number replied.Table) (GrowsTable rules n init)
+      (record { value = w.state.tables; meter = Some w.state.meter; limiter = w.limiter }) reply charge
+      (record { value = w'.state.tables; meter = Some m'; limiter = w'.limiter })
+      → Passed rules (meeting_of w charge w') (At k)
+  table_grows same reply k n init m' acts =
+      acts_pass rules tables_watch Elements (tables_watched same) k (reply_of replied.Number replied.Table)
+      (GrowsTable rules n init) m' reply
+      (λ x x' result replaced grows. on_test (same_type x.ty.element init.ty) _ _ grows
+      (λ h. grows_passes rules tables_watch (table_growth n init.raw x) (tables_watched same) k x x'
+      (table_growth_is n init.raw x w.state.meter) replaced m' result h)
+      (λ h. kept_passes rules tables_watch Elements (tables_watched same) (At k)
+      (ap (λ (s : Situation TableValue S). s.limiter) h.2) (same_count rules tables_watch k x x' replaced
+      (ap (λ (s : Situation TableValue S). size_of s.value) h.2)) h.1)) acts
 
 -- where an effect makes something grow
 abbrev place_by : Effect → Place
@@ -311,41 +417,45 @@ same_place s (NewMemory ty) = refl
 same_place s call = refl
 
 module _ {S : Type 0} (rules : Rules S) (w : World S) (turn : Turn) (w' : World S) where
+  -- each effect
   effect_passes : (effect : Effect) → TakesEffect rules effect w turn w'
-      → Passed rules w.limiter w'.limiter (sizes w.state) (sizes w'.state) (place_by effect) w.state.meter turn.charge
+      → Passed rules (meeting_of w turn.charge w') (place_by effect)
   effect_passes (FuelSet fuel) step =
-      idle rules w turn w' step.after refl (ap (λ t. sizes t Bytes) step.row.1)
-      (ap (λ t. sizes t Elements) step.row.1)
+      idle rules w turn.charge w' step.after refl (λ kind. ap (λ t. sizes t kind) step.row.1)
   effect_passes (Changed change) step =
-      let still =
-      (change_facts w.state change).still turn.reply step.machine step.row in idle rules w turn w' step.after refl
-      (still Bytes) (still Elements)
+      idle rules w turn.charge w' step.after refl ((change_facts w.state change).still turn.reply step.machine step.row)
   effect_passes (MemoryMade ty) step =
-      rw step.after (memory_made rules w.state w.limiter step.limiter turn.charge step.part w.state.meter turn.reply
-      step.free.0 Owned ty step.row)
+      memory_made rules w turn.charge w' (ap (λ (v : World S). v.state.tables) step.after) step.free.0 turn.reply
+      Owned ty
+      (rw step.after step.row)
   effect_passes (LentMemoryMade ty) step =
-      rw step.after (lent_made rules w.state w.limiter step.limiter turn.charge step.free.0 turn.reply step.part ty
-      step.row)
+      lent_made rules w turn.charge w' (ap (λ (v : World S). v.state.tables) step.after) step.free.0 turn.reply ty
+      (rw step.after step.row)
   effect_passes (MemoryGrown k pages) step =
-      rw step.after (memory_grows rules w.state w.limiter step.limiter turn.charge step.part step.meter turn.reply k
-      pages step.row)
+      memory_grows rules w turn.charge w' (ap (λ (v : World S). v.state.tables) step.after) turn.reply k pages
+      step.meter
+      (rw step.after step.row)
   effect_passes (TableMade ty init) step =
-      rw step.after (table_made rules w.state w.limiter step.limiter turn.charge step.part w.state.meter turn.reply
-      step.free.0 ty init step.row)
+      table_made rules w turn.charge w' (ap (λ (v : World S). v.state.memories) step.after) step.free.0 turn.reply ty
+      init
+      (rw step.after step.row)
   effect_passes (TableGrown k n init) step =
-      rw step.after (table_grows rules w.state w.limiter step.limiter turn.charge step.part step.meter turn.reply k n
-      init step.row)
+      table_grows rules w turn.charge w' (ap (λ (v : World S). v.state.memories) step.after) turn.reply k n init
+      step.meter
+      (rw step.after step.row)
   effect_passes (PartWritten k source dst len) step =
       let keeps =
-      on_live_too (write_of source dst len) _ _ _ _ (λ none. tt) (λ write is x. (is x).0)
-      (source_writes source dst len) in
-      idle rules w turn w' step.after refl refl
+      on_live_too (write_of source dst len) _ _ _ _ (λ none. tt) (λ write is x. (is x).0) (source_writes source dst len)
+      in
+      idle rules w turn.charge w' step.after refl
+      (each_kind (λ kind. sizes (with_tables w.state step.part) kind ≡ sizes w.state kind) refl
       (copy_kept k w.state.tables w.state.meter turn.reply turn.charge step.part step.meter (write_of source dst len)
-      (λ write. write) keeps step.row)
-  effect_passes effect step = idle rules w turn w' step.after refl refl refl
+      (λ write. write) keeps step.row))
+  effect_passes effect step = idle rules w turn.charge w' step.after refl (λ kind. refl)
 
+-- each step
 pub growths_are_permitted : {S : Type 0} (rules : Rules S) (w : World S) (turn : Turn) (w' : World S)
     → Step rules w turn w' → Exchanges rules w turn w'
 growths_are_permitted rules w turn w' step =
-    subst (λ place. Passed rules w.limiter w'.limiter (sizes w.state) (sizes w'.state) place w.state.meter
-    turn.charge) (same_place w.state turn.call) (effect_passes rules w turn w' (effect_of w.state turn.call) step)
+    subst (λ place. Passed rules (meeting_of w turn.charge w') place) (same_place w.state turn.call)
+    (effect_passes rules w turn w' (effect_of w.state turn.call) step)

@@ -140,7 +140,8 @@ module _ {S : Type 0} (rules rules' : Rules S) (Shows : Reply → Type 0) where
         row = on_live_too w.state.spare _ _ _ _ (λ none. none)
             (λ region h. (
               creates_revealed replied.Memory (memory.creation_of (Lent region) ty)
-                  (memory_made (Lent region) ty) (new_memory (Lent region) ty) w.state.memories step.part.slots turn.reply
+                  (memory_made (Lent region) ty) (new_memory (Lent region) ty) w.state.memories step.part.slots
+                  turn.reply
                   w.limiter step.limiter shows h.0,
               h.1,
             )) step.row;
