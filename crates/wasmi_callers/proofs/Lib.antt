@@ -1,4 +1,5 @@
 mod LanesLemmas
+mod LendingLemmas
 mod PoolsLemmas
 mod RecorderLemmas
 mod RunsLemmas

@@ -3,6 +3,7 @@
 #![tactic(auto)]
 
 pub mod lanes;
+pub mod lending;
 pub mod pools;
 pub mod recorder;
 pub mod runs;

@@ -1,0 +1,227 @@
+-- What a quota holds after one creation or growth.
+use Rattle.std.proofs.Common.{◌≡◌, ◌∙◌, ℕ, ◌+◌, ◌-◌, ◌*◌, true, false, Option, Some, None, Result, Ok, Err, List, ◌++◌}
+use Rattle.std.proofs.Common.{length, replicate, refl, ap, sym, subst, inl, inr, arith, length-append}
+use Rattle.std.proofs.lemmas.List.{length-replicate}
+use Rattle.wasmi_meter.specs.declared.error.MemoryError.{MemoryError}
+use Rattle.wasmi_meter.specs.declared.error.TableError.{TableError}
+use Rattle.wasmi_meter.specs.declared.limiter.Kind.{Kind}
+use Rattle.wasmi_meter.specs.declared.limiter.Kind.TheVariants.{Bytes, Elements}
+use Rattle.wasmi_meter.specs.declared.quota.Quota.{Quota}
+use Rattle.wasmi_meter.specs.Attempt.{Situation, Effort, Fate, Unasked, Denied, Met, Failed, MayEnd, Follows}
+use Rattle.wasmi_meter.specs.Attempt.{answer_of, value_after}
+use Rattle.wasmi_meter.specs.Holdings.{Holdings, HoldsTheSame, Reserves, amount_held, with_more, without_last}
+use Rattle.wasmi_meter.specs.Limiter.{Question, Answer, Heed, IsDenial, kind_of, optional_rules}
+use Rattle.wasmi_meter.specs.Meter.{Meter}
+use Rattle.wasmi_meter.specs.Quota.{holdings, quota_rules, Asked, Noticed}
+use Rattle.wasmi_meter.specs.QuotaLaws.{asked_reserves}
+use Rattle.wasmi_meter.proofs.QuotaLemmas.{asked_is_within, noticed_is_within}
+use Rattle.wasmi_store.specs.Buffer.{Room}
+use Rattle.wasmi_store.specs.Growth.{Makes, Growth, Grows}
+use Rattle.wasmi_store.specs.Memory as memory
+use Rattle.wasmi_store.specs.Memory.{MemoryValue, MakesMemory, GrowsMemory, new_memory, pages_of}
+use Rattle.wasmi_store.specs.MemoryType.{MemoryTypeValue, minimum_bytes, page_bytes}
+use Rattle.wasmi_store.specs.Table as table
+use Rattle.wasmi_store.specs.Table.{TableValue, MakesTable, GrowsTable, GrowsTableRaw, new_table, size_of}
+use Rattle.wasmi_store.specs.TableType.{TableTypeValue, same_type}
+use Rattle.wasmi_store.proofs.GrowthLemmas.{on_test}
+use Rattle.wasmi_callers.specs.Lending.{Counts, bytes_made, elements_made}
+
+-- what is held of a kind after n more of it, after the same, and after n more that were taken back
+held_more : (kind : Kind) (n : ℕ) (h h' : Holdings) → h' ≡ with_more h kind n
+    → amount_held h' kind ≡ amount_held h kind + n
+held_more Bytes n h h' more = ap (λ (k : Holdings). k.bytes) more
+held_more Elements n h h' more = ap (λ (k : Holdings). k.elements) more
+
+held_same : (kind : Kind) (h h' : Holdings) → HoldsTheSame h h' → amount_held h' kind ≡ amount_held h kind
+held_same Bytes h h' same = same.bytes
+held_same Elements h h' same = same.elements
+
+taken_back : (kind : Kind) (n : ℕ) (h p h' : Holdings) → p ≡ with_more h kind n → h' ≡ without_last kind p
+    → amount_held h' kind ≡ amount_held h kind
+taken_back Bytes n h p h' more back =
+    let after = back ∙ ap (without_last Bytes) more in
+    let less : h'.bytes ≡ (h.bytes + n) - n = ap (λ (k : Holdings). k.bytes) after in
+    omega arith
+taken_back Elements n h p h' more back =
+    let after = back ∙ ap (without_last Elements) more in
+    let less : h'.elements ≡ (h.elements + n) - n = ap (λ (k : Holdings). k.elements) after in
+    omega arith
+
+-- a denial keeps what is held
+denied_same : (q : Question) (answer : Answer) (h h' : Holdings) → IsDenial answer → Reserves q answer h h'
+    → HoldsTheSame h h'
+denied_same q (Ok true) h h' denial reserves = elim denial [ ]
+denied_same q (Ok false) h h' denial reserves = reserves
+denied_same q (Err error) h h' denial reserves = reserves
+
+-- nothing happened
+nothing_counts : (kind : Kind) (size : ℕ) (quota quota' : Quota) → Some quota' ≡ Some quota
+    → Counts kind quota size quota' size
+nothing_counts kind size quota quota' unchanged =
+    let same : quota' ≡ quota = cc in
+    rw same (record { held = refl; within = λ caps. caps })
+
+-- an attempt's notices are of the kind that is asked for
+abbrev TellsOfKind : {V E : Type 0} → Effort V E → Type 0
+TellsOfKind {E = E} e = (cause : E) → kind_of (e.notice cause) ≡ e.question.kind
+
+module _ {V E : Type 0} (e : Effort V E) where
+  abbrev kind : Kind
+  kind = e.question.kind
+
+  abbrev asked_for : ℕ
+  asked_for = e.question.desired - e.question.current
+
+  -- by how much an attempt adds to what is held
+  abbrev added : Fate E → ℕ
+  added (Unasked cause) = 0
+  added (Denied answer) = 0
+  added Met = asked_for
+  added (Failed cause heed) = 0
+
+  module _ (tells : TellsOfKind e) (quota quota' : Quota) where
+    -- a permission that is followed by a notice
+    failure_counts : (cause : E) (heed : Heed) (p : Quota) → Asked quota e.question (Ok true) p
+        → Noticed p (e.notice cause) heed quota' → Counts kind quota 0 quota' 0
+    failure_counts cause heed p asked noticed =
+        let more = asked_reserves quota p e.question (Ok true) asked in
+        let back = rw (tells cause) at noticed.gives_back in
+        let same = taken_back kind asked_for (holdings quota) (holdings p) (holdings quota') more back in
+        record {
+          held = omega (arith, same);
+          within = λ caps.
+              let permitted = asked_is_within quota p caps e.question (Ok true) asked in
+              noticed_is_within p quota' permitted (e.notice cause) heed noticed;
+        }
+
+    -- an attempt, however it ends
+    attempt_counts : (m : Option Meter) (fate : Fate E) → MayEnd e m fate
+        → Follows e (optional_rules quota_rules) (Some quota) fate (Some quota')
+        → Counts kind quota 0 quota' (added fate)
+    attempt_counts m (Unasked cause) may follows = nothing_counts kind 0 quota quota' follows
+    attempt_counts m (Denied answer) may follows =
+        let reserves = asked_reserves quota quota' e.question answer follows in
+        let denied = denied_same e.question answer (holdings quota) (holdings quota') may.1 reserves in
+        let same = held_same kind (holdings quota) (holdings quota') denied in
+        record {
+          held = omega (arith, same);
+          within = λ caps. asked_is_within quota quota' caps e.question answer follows;
+        }
+    attempt_counts m Met may follows =
+        let reserves = asked_reserves quota quota' e.question (Ok true) follows in
+        let more = held_more kind asked_for (holdings quota) (holdings quota') reserves in
+        record {
+          held = omega (arith, more);
+          within = λ caps. asked_is_within quota quota' caps e.question (Ok true) follows;
+        }
+    attempt_counts m (Failed cause heed) may (Some p, asked, noticed) = failure_counts cause heed p asked noticed
+    attempt_counts m (Failed cause heed) may (None, asked, noticed) = elim asked [ ]
+
+-- what is made counts as what was asked for, and a refusal as nothing
+module _ {T E : Type 0} (e : Effort (Unit {0}) E) (made : T) (size : Result T E → ℕ)
+    (full : size (Ok made) ≡ asked_for e) (empty : (cause : E) → size (Err cause) ≡ 0) where
+  size_made : (fate : Fate E) → added e fate ≡ size (answer_of e made fate)
+  size_made (Unasked cause) = sym (empty cause)
+  size_made (Denied answer) = sym (empty _)
+  size_made Met = sym full
+  size_made (Failed cause heed) = sym (empty _)
+
+  creation_counts : TellsOfKind e → (quota quota' : Quota) (result : Result T E)
+      → Makes (optional_rules quota_rules) e made (Some quota) result (Some quota')
+      → Counts (kind e) quota 0 quota' (size result)
+  creation_counts tells quota quota' result (fate, attempt, answered) =
+      let counts = attempt_counts e tells quota quota' None fate attempt.may_end attempt.follows in
+      subst (λ n. Counts (kind e) quota 0 quota' n) (size_made fate ∙ ap size (sym answered)) counts
+
+-- a value with a meter and a quota
+abbrev under : {V : Type 0} → Quota → V → Option Meter → Situation V (Option Quota)
+under quota x m = record { value = x; meter = m; limiter = Some quota }
+
+same_value : {V : Type 0} (quota quota' : Quota) (x x' : V) (m m' : Option Meter)
+    → under quota' x' m' ≡ under quota x m → x' ≡ x
+same_value {V = V} quota quota' x x' m m' same = ap (λ (s : Situation V (Option Quota)). s.value) same
+
+same_quota : {V : Type 0} (quota quota' : Quota) (x x' : V) (m m' : Option Meter)
+    → under quota' x' m' ≡ under quota x m → Some quota' ≡ Some quota
+same_quota {V = V} quota quota' x x' m m' same = ap (λ (s : Situation V (Option Quota)). s.limiter) same
+
+-- a growth that left all as it was
+untouched_counts : {V : Type 0} (kind : Kind) (size : V → ℕ) (quota quota' : Quota) (x x' : V) (m m' : Option Meter)
+    → under quota' x' m' ≡ under quota x m → Counts kind quota (size x) quota' (size x')
+untouched_counts kind size quota quota' x x' m m' same =
+    rw (same_value quota quota' x x' m m' same) (
+    nothing_counts kind (size x) quota quota' (same_quota quota quota' x x' m m' same)
+    )
+
+-- a growth counts as the difference of the sizes
+module _ {V E : Type 0} (g : Growth V E) (size : V → ℕ) (x : V)
+    (full : size g.effort.grown ≡ size x + asked_for g.effort) (tells : TellsOfKind g.effort) where
+  size_grown : (fate : Fate E) → size (value_after g.effort x fate) ≡ size x + added g.effort fate
+  size_grown (Unasked cause) = omega arith
+  size_grown (Denied answer) = omega arith
+  size_grown Met = full
+  size_grown (Failed cause heed) = omega arith
+
+  growth_counts : (quota quota' : Quota) (m m' : Option Meter) (x' : V) (result : Result ℕ E) (charge : ℕ)
+      → Grows (optional_rules quota_rules) g (under quota x m) result charge (under quota' x' m')
+      → Counts (kind g.effort) quota (size x) quota' (size x')
+  growth_counts quota quota' m m' x' result charge (inl none) =
+      untouched_counts (kind g.effort) size quota quota' x x' m m' none.same
+  growth_counts quota quota' m m' x' result charge (inr some) =
+      let counts = attempt_counts g.effort tells quota quota' m some.fate some.attempt.may_end some.attempt.follows in
+      let sizes = ap size some.attempt.value ∙ size_grown some.fate in
+      record { held = omega (arith, sizes, counts.held); within = counts.within }
+
+-- the length of what is made of n, and of what has grown by n
+length_made : (n y : ℕ) → length (replicate n y) ≡ n - 0
+length_made n y = omega (arith, length-replicate {A = ℕ} n y)
+
+length_grown : (xs : List ℕ) (n y : ℕ) → length (xs ++ replicate n y) ≡ length xs + (length xs + n - length xs)
+length_grown xs n y = omega (arith, length-append xs (replicate n y), length-replicate {A = ℕ} n y)
+
+module _ (quota quota' : Quota) where
+  -- making a memory, in whatever room
+  pub memory_made_counts : (room : Room) (ty : MemoryTypeValue) (result : Result MemoryValue MemoryError)
+      → MakesMemory (optional_rules quota_rules) room ty (Some quota) result (Some quota')
+      → Counts Bytes quota 0 quota' (bytes_made result)
+  memory_made_counts room ty =
+      let full = length_made (minimum_bytes ty) 0 in
+      let made = new_memory room ty in
+      creation_counts (memory.creation_of room ty) made bytes_made full (λ cause. refl) (λ cause. refl) quota quota'
+
+  -- making a table
+  pub table_made_counts : (ty : TableTypeValue) (init : _) (result : Result TableValue TableError)
+      → MakesTable (optional_rules quota_rules) ty init (Some quota) result (Some quota')
+      → Counts Elements quota 0 quota' (elements_made result)
+  table_made_counts ty init =
+      let full = length_made ty.minimum init.raw in
+      let made = new_table ty init.raw in
+      let e = table.creation_of ty init.ty in
+      creation_counts e made elements_made full (λ cause. refl) (λ cause. refl) quota quota'
+
+  -- a memory that grows
+  pub memory_grown_counts : (pages : ℕ) (x x' : MemoryValue) (m m' : Option Meter) (result : Result ℕ MemoryError)
+      (charge : ℕ) → GrowsMemory (optional_rules quota_rules) pages (under quota x m) result charge (under quota' x' m')
+      → Counts Bytes quota (length x.bytes) quota' (length x'.bytes)
+  memory_grown_counts pages x x' m m' =
+      let g : Growth _ _ = record { amount = pages; size = pages_of x; effort = memory.growth_of x pages } in
+      let full = length_grown x.bytes (pages * page_bytes x.ty.page) 0 in
+      growth_counts g (λ (y : MemoryValue). length y.bytes) x full (λ cause. refl) quota quota' m m' x'
+
+  module _ (n : ℕ) (x x' : TableValue) (m m' : Option Meter) (result : Result ℕ TableError) (charge : ℕ) where
+    -- a table that grows
+    pub table_grown_counts : (reference : ℕ)
+        → GrowsTableRaw (optional_rules quota_rules) n reference (under quota x m) result charge (under quota' x' m')
+        → Counts Elements quota (size_of x) quota' (size_of x')
+    table_grown_counts reference =
+        let g : Growth _ _ = record { amount = n; size = size_of x; effort = table.growth_of x n reference } in
+        let full = length_grown x.elements n reference in
+        growth_counts g size_of x full (λ cause. refl) quota quota' m m' x' result charge
+
+    -- a table that grows by a reference with a type
+    pub typed_table_grown_counts : (init : _)
+        → GrowsTable (optional_rules quota_rules) n init (under quota x m) result charge (under quota' x' m')
+        → Counts Elements quota (size_of x) quota' (size_of x')
+    typed_table_grown_counts init grows =
+        on_test (same_type x.ty.element init.ty) _ _ grows (table_grown_counts init.raw)
+        (λ refused. untouched_counts Elements size_of quota quota' x x' m m' refused.2)
