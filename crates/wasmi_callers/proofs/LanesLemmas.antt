@@ -1,5 +1,8 @@
--- Words divided into lanes of unequal widths.
-use Rattle.std.proofs.Common.{refl, inl, inr, lit≤, ◌∷◌, []}
+-- Words divided into lanes of unequal widths, and a byte made of tests.
+use Rattle.std.proofs.Common.{◌≡◌, ℕ, ◌<◌, ◌^◌, Bool, true, false, if◌then◌else◌, refl, sym, ap, ◌∙◌, arith, inl, inr, lit<, lit≤, ◌∷◌, []}
+use Rattle.std.proofs.lemmas.Nat.Bits.{bit_at_ones, same_from_bits_below}
+use Rattle.std.specs.Prelude.{◌↔◌, IsTrue}
+use Rattle.std.specs.Int.{bit_at}
 use Rattle.wasmi_lanes.specs.Words.{field, AreLanes}
 
 -- the lanes of 8, 8, 16 and 32 bits of a word
@@ -14,4 +17,15 @@ mixed_lanes = (
       (record { starts = inr refl; top = refl; within = lit≤ tt }, refl),
     ),
   ),
+)
+
+holds_of_bit : (test : Bool) → ◌≡◌ {A = ℕ} (if test then 1 else 0) 1 → IsTrue test
+holds_of_bit true is = refl
+holds_of_bit false is = absurd (omega (arith, is))
+
+-- a byte that is made of a test of each number below 8 is 255 exactly where the test holds of each
+pub ones_where_each_holds : (bits : ℕ) (test : ℕ → Bool) → bits < 2 ^ 8 → ((i : ℕ) → i < 8 → bit_at bits i ≡ (if test i then 1 else 0)) → (bits ≡ 255) ↔ ((i : ℕ) → i < 8 → IsTrue (test i))
+ones_where_each_holds bits test below bit = (
+  λ is i inside. holds_of_bit (test i) (sym (bit i inside) ∙ ap (λ b. bit_at b i) is ∙ bit_at_ones 8 i inside),
+  λ each. same_from_bits_below 8 bits 255 below (lit< tt) (λ i inside. bit i inside ∙ ap (λ holds. if holds then 1 else 0) (each i inside) ∙ sym (bit_at_ones 8 i inside)),
 )

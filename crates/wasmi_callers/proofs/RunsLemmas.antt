@@ -6,15 +6,15 @@ use Rattle.std.specs.Prelude.{All, slice_get}
 use Rattle.wasmi_store.specs.MemoryType.{MemoryTypeValue}
 use Rattle.wasmi_meter.specs.Limiter.{Rules}
 use Rattle.wasmi_core.specs.declared.calls.Call.{Call}
-use Rattle.wasmi_core.specs.declared.calls.Call.TheVariants.{SetFuel, GetFuel, NewMemory, NewLentMemory, GrowMemory, DropMemory, Read, Write, Load, Store, NewTable, GrowTable, DropTable, GetElement, SetElement, InitTable, CopyTable, FillTable, NewSegment, DropItems, NewGlobal, SetGlobal, GetGlobal, SetRegister, GetRegister, Make, Unary, Binary, Ternary, Shift, Test, Extract, Replace, Shuffle, VectorLoad, LoadLane, VectorStore, StoreLane}
+use Rattle.wasmi_core.specs.declared.calls.Call.TheVariants.{NewMemory, NewLentMemory}
 use Rattle.wasmi_core.specs.declared.calls.Reply.{Reply}
 use Rattle.wasmi_core.specs.World.{World, Turn}
 use Rattle.wasmi_core.specs.Steps.{Step}
 use Rattle.wasmi_core.specs.Runs.{Run, IsRunOf}
 use Rattle.wasmi_core.specs.State.{State}
-use Rattle.wasmi_core.specs.LentMemory.{FitsRegions, RunInRegions, owned_world, unlent_world}
+use Rattle.wasmi_core.specs.LentMemory.{RunInRegions, owned_world, unlent_world}
 use Rattle.wasmi_core.specs.Determinism.{HasMemory, HaveMemory}
-use Rattle.wasmi_callers.specs.Runs.{IsStill, AreStill, HasRegionFor}
+use Rattle.wasmi_callers.specs.Runs.{FitsAnyRegions, HasRegionFor}
 use Rattle.wasmi_core.specs.Laws.{LentRunsAreOwned, LentCreationsAreOwned, QuotasStayWithin}
 use Rattle.wasmi_meter.specs.declared.limiter.Kind.TheVariants.{Bytes, Elements}
 use Rattle.wasmi_meter.specs.declared.quota.Quota.{Quota}
@@ -28,6 +28,11 @@ pub if_ok_too : {T E : Type 0} {P Q : T → Type 0} (r : Result T E) → IfOk r 
 if_ok_too (Ok x) h too = too x h
 if_ok_too (Err e) h too = tt
 
+-- a fact of whatever value
+pub if_ok_always : {T E : Type 0} {P : Type 0} (r : Result T E) → P → IfOk r (λ _. P)
+if_ok_always (Ok x) holds = holds
+if_ok_always (Err e) holds = tt
+
 module _ {S : Type 0} (rules : Rules S) where
   -- a run of one call is one step
   pub one_turn : (calls : List Call) (w w' : World S) (replies : List Reply) → length calls ≡ 1 → IsRunOf rules calls w replies w' → (turn : Turn) × (turn.reply ∷ [] ≡ replies) × Step rules w turn w'
@@ -35,54 +40,15 @@ module _ {S : Type 0} (rules : Rules S) where
   one_turn calls w w' replies one (turn ∷ [], made, told, (v, step, ran)) = (turn, told, subst (λ u. Step rules w turn u) (sym ran) step)
   one_turn calls w w' replies one (turn ∷ t ∷ turns, made, told, ran) = absurd (omega (arith, one, ap length made))
 
-  -- a call that neither makes a lent memory nor grows one fits the regions
-  still_fits : (s : State) (call : Call) → IsStill call → FitsRegions s call
-  still_fits s (NewLentMemory ty) still = still
-  still_fits s (GrowMemory k pages) still = absurd still
-  still_fits s (SetFuel fuel) still = tt
-  still_fits s GetFuel still = tt
-  still_fits s (NewMemory ty) still = tt
-  still_fits s (DropMemory k) still = tt
-  still_fits s (Read k offset len) still = tt
-  still_fits s (Write k offset bytes) still = tt
-  still_fits s (Load op k ptr offset) still = tt
-  still_fits s (Store op k ptr offset value) still = tt
-  still_fits s (NewTable ty init) still = tt
-  still_fits s (GrowTable k n init) still = tt
-  still_fits s (DropTable k) still = tt
-  still_fits s (GetElement k index) still = tt
-  still_fits s (SetElement k index value) still = tt
-  still_fits s (InitTable k j dst src len) still = tt
-  still_fits s (CopyTable k dst j src len) still = tt
-  still_fits s (FillTable k dst value len) still = tt
-  still_fits s (NewSegment ty items) still = tt
-  still_fits s (DropItems k) still = tt
-  still_fits s (NewGlobal value ty) still = tt
-  still_fits s (SetGlobal k value) still = tt
-  still_fits s (GetGlobal k) still = tt
-  still_fits s (SetRegister dst value) still = tt
-  still_fits s (GetRegister a) still = tt
-  still_fits s (Make op dst a) still = tt
-  still_fits s (Unary op dst a) still = tt
-  still_fits s (Binary op dst a b) still = tt
-  still_fits s (Ternary op dst a b c) still = tt
-  still_fits s (Shift op dst a amount) still = tt
-  still_fits s (Test op a) still = tt
-  still_fits s (Extract op a) still = tt
-  still_fits s (Replace op dst a item) still = tt
-  still_fits s (Shuffle dst a b lanes) still = tt
-  still_fits s (VectorLoad op dst k ptr offset) still = tt
-  still_fits s (LoadLane op dst a k ptr offset) still = tt
-  still_fits s (VectorStore a k ptr offset) still = tt
-  still_fits s (StoreLane op a k ptr offset) still = tt
+  -- calls that fit any regions
+  fitting_runs : (w : World S) (turns : List Turn) (w' : World S) → All FitsAnyRegions (map Turn.call turns) → Run rules w turns w' → RunInRegions rules w turns w'
+  fitting_runs w [] w' fits ran = ran
+  fitting_runs w (turn ∷ turns) w' fits (v, step, ran) =
+      (v, All-head FitsAnyRegions turn.call (map Turn.call turns) fits w.state, step, fitting_runs v turns w' (All-tail FitsAnyRegions turn.call (map Turn.call turns) fits) ran)
 
-  still_runs : (w : World S) (turns : List Turn) (w' : World S) → AreStill (map Turn.call turns) → Run rules w turns w' → RunInRegions rules w turns w'
-  still_runs w [] w' still ran = ran
-  still_runs w (turn ∷ turns) w' still (v, step, ran) = (v, still_fits w.state turn.call still.0, step, still_runs v turns w' still.1 ran)
-
-  pub still_owned : LentRunsAreOwned rules → (calls : List Call) (w w' : World S) (replies : List Reply) → AreStill calls → IsRunOf rules calls w replies w' → IsRunOf rules calls (owned_world w) replies (owned_world w')
-  still_owned owns calls w w' replies still (turns, made, told, ran) =
-      (turns, made, told, owns w turns w' (still_runs w turns w' (subst AreStill (sym made) still) ran))
+  pub fitting_owned : LentRunsAreOwned rules → (calls : List Call) (w w' : World S) (replies : List Reply) → All FitsAnyRegions calls → IsRunOf rules calls w replies w' → IsRunOf rules calls (owned_world w) replies (owned_world w')
+  fitting_owned owns calls w w' replies fits (turns, made, told, ran) =
+      (turns, made, told, owns w turns w' (fitting_runs w turns w' (subst (All FitsAnyRegions) (sym made) fits) ran))
 
   -- a run of one creation in the spare region
   pub made_owned : LentCreationsAreOwned rules → (ty : MemoryTypeValue) (calls : List Call) (w w' : World S) (replies : List Reply) → calls ≡ NewLentMemory ty ∷ [] → HasRegionFor ty w.state → IsRunOf rules calls w replies w' → IsRunOf rules (NewMemory ty ∷ []) (unlent_world w) replies (unlent_world w')

@@ -1,18 +1,19 @@
 -- What a caller says of runs.
-use Rattle.std.specs.Prelude.{◌≡◌, ◌<◌, ◌≤◌, ℕ, Some, List, [], ◌∷◌, length, map}
+use Rattle.std.specs.Prelude.{◌≡◌, ◌<◌, ◌≤◌, ℕ, Some, List, ◌++◌, length, map}
 use Rattle.wasmi_meter.specs.Limiter.{Rules}
 use Rattle.wasmi_store.specs.Buffer.{Lent}
 use Rattle.wasmi_store.specs.Memory.{MemoryValue}
 use Rattle.wasmi_store.specs.MemoryType.{MemoryTypeValue, minimum_bytes}
 use Rattle.wasmi_core.specs.declared.calls.Call.{Call}
 use Rattle.wasmi_core.specs.declared.calls.Reply.{Reply}
-use Rattle.wasmi_core.specs.declared.calls.Call.TheVariants.{NewLentMemory, GrowMemory}
 use Rattle.wasmi_core.specs.World.{World, Turn}
 use Rattle.wasmi_core.specs.Exchange.{Exchanges}
 use Rattle.wasmi_core.specs.Steps.{Step}
 use Rattle.wasmi_core.specs.Runs.{Sequence, Run}
 use Rattle.wasmi_core.specs.State.{State}
 use Rattle.wasmi_core.specs.Account.{opened, account_after, Balances}
+use Rattle.wasmi_core.specs.Laws.{IsRefusal, Keeps}
+use Rattle.wasmi_core.specs.LentMemory.{FitsRegions}
 use Rattle.wasmi_core.specs.Writing.{IsBounded, IsSpent}
 
 -- turns of these calls with these replies
@@ -30,15 +31,19 @@ abbrev pub IsBoundedBy : State → List Call → List Reply → Type 0
 IsBoundedBy s calls replies = (left : ℕ) → s.meter.left ≡ Some left → 0 < s.meter.costs.bytes_copied_per_fuel
     → (turns : List Turn) × AreTurns calls replies turns × IsBounded s.meter.costs.bytes_copied_per_fuel left turns
 
--- none of the calls makes a memory in the spare region, or grows one
-abbrev pub IsStill : Call → Type 0
-IsStill (NewLentMemory ty) = ⊥
-IsStill (GrowMemory k pages) = ⊥
-IsStill call = Unit {0}
+-- a call that fits the regions of any machine
+abbrev pub FitsAnyRegions : Call → Type 0
+FitsAnyRegions call = (s : State) → FitsRegions s call
 
-abbrev pub AreStill : List Call → Type 0
-AreStill [] = Unit {0}
-AreStill (call ∷ calls) = IsStill call × AreStill calls
+-- turns of calls, and then turns of other calls, are one run
+abbrev pub IsRunOfBoth : {S : Type 0} → Rules S → List Call → List Call → World S → List Reply → List Reply → World S → Type 0
+IsRunOfBoth rules calls calls' w replies replies' w' =
+    (turns : List Turn) × (turns' : List Turn) × AreTurns calls replies turns × AreTurns calls' replies' turns' × Run rules w (turns ++ turns') w'
+
+-- each turn that is refused keeps what a refused turn keeps
+abbrev pub KeepsWhereRefused : {S : Type 0} → Rules S → List Call → World S → List Reply → World S → Type 0
+KeepsWhereRefused rules calls w replies w' =
+    (turns : List Turn) × AreTurns calls replies turns × Sequence (λ v turn v'. Step rules v turn v' × (IsRefusal turn.reply → Keeps rules v turn v')) w turns w'
 
 -- two runs of the same turns
 abbrev pub AreSameTurns : {S : Type 0} → Rules S → World S → World S → World S → Type 0

@@ -1,19 +1,20 @@
 //! Callers of the laws on lanes: what one lane of a vector is, one bit of a number that is made of lanes, and the lanes of
 //! words.
-ghost use Rattle.std.specs.Prelude.{◌≡◌, ◌↔◌, ℕ, ◌+◌, ◌-◌, ◌*◌, ◌%◌, ◌^◌, ◌<◌, ◌≤◌, ◌*ℤ◌, ◌+ℤ◌, ◌==◌, nat_lt, nat_le, nat_eq, not, IsTrue, if◌then◌else◌, ◌∷◌, []};
+ghost use Rattle.std.specs.Prelude.{◌≡◌, ◌↔◌, ℕ, ◌+◌, ◌-◌, ◌*◌, ◌%◌, ◌^◌, ◌<◌, ◌≤◌, ◌*ℤ◌, ◌+ℤ◌, ◌==◌, nat_lt, nat_le, nat_eq, not, Bool, IsTrue, slice_index, if◌then◌else◌, ◌∷◌, []};
 ghost use Rattle.std.specs.Int.{bit_at};
 ghost use Rattle.wasmi_types.specs.Wrapping.{w8, w16, w32, signed, wrap, clamp_unsigned};
 ghost use Rattle.wasmi_lanes.specs.Lane.{lane};
 ghost use Rattle.wasmi_lanes.specs.Words.{field, word_of_lanes};
+ghost use Rattle.wasmi_simd.specs.Widening.{first_bits, holds_below};
 
-use wasmi_lanes::{ImmLaneIdx16, Lanes, U8x16, laws as lane_laws, on_vectors};
-use wasmi_lanewise::simd::{i8x16_add, i8x16_gt_u, i8x16_replace_lane, i8x16_splat};
+use wasmi_lanes::{ImmLaneIdx16, ImmLaneIdx32, Lanes, U8x16, laws as lane_laws, on_vectors};
+use wasmi_lanewise::simd::{i8x16_add, i8x16_gt_u, i8x16_replace_lane, i8x16_shuffle, i8x16_splat};
 use wasmi_raw::V128;
 use wasmi_simd::laws as widening_laws;
 use wasmi_simd::simd::{
     i8x16_all_true, i8x16_bitmask, i8x16_narrow_i16x8_u, i8x16_shl, i16x8_extadd_pairwise_i8x16_u,
     i16x8_extend_high_i8x16_s, i16x8_extend_high_i8x16_u, i16x8_extend_low_i8x16_s,
-    i16x8_extmul_high_i8x16_u, i32x4_dot_i16x8_s,
+    i16x8_extend_low_i8x16_u, i16x8_extmul_high_i8x16_u, i32x4_dot_i16x8_s,
 };
 
 /// The number in each lane.
@@ -24,9 +25,10 @@ pub fn byte_in_each_lane(number: u8) -> V128
     on_vectors::splat::<U8x16>(number)
 }
 
-/// The bits of the number in each lane.
+/// The bits of the number in each lane, which is read from there as it was.
 pub fn signed_byte_in_each_lane(number: i8) -> V128
-    ensures { (i : ℕ) → i < 16 → lane w8 result i ≡ wrap w8 number }
+    ensures bits { (i : ℕ) → i < 16 → lane w8 result i ≡ wrap w8 number }
+    ensures read { (i : ℕ) → i < 16 → signed w8 (lane w8 result i) ≡ number }
 {
     lane_laws::lanes_of_made_vector();
     widening_laws::wrapped_numbers();
@@ -40,6 +42,15 @@ pub fn byte_in_one_lane(v: V128, at: ImmLaneIdx16, number: i8) -> V128
     lane_laws::lanes_of_made_vector();
     widening_laws::wrapped_numbers();
     i8x16_replace_lane(v, at, number)
+}
+
+/// The bytes of two vectors at 16 indices: the second vector's are counted on from 16.
+pub fn chosen_bytes(a: V128, b: V128, indices: [ImmLaneIdx32; 16]) -> V128
+    ensures { (i : ℕ) → i < 16 → lane w8 result i
+        ≡ (if nat_lt (slice_index indices i) 16 then lane w8 a (slice_index indices i) else lane w8 b (slice_index indices i - 16)) % 2 ^ 8 }
+{
+    lane_laws::lanes_of_made_vector();
+    i8x16_shuffle(a, b, indices)
 }
 
 /// The item of the lane of a number, for any number.
@@ -85,20 +96,22 @@ pub fn doubled_bytes(v: V128) -> V128
     i8x16_shl(v, 1)
 }
 
-/// A byte of the lower half as a number of 16 bits, with its sign.
-pub fn extended_bytes(v: V128) -> V128
-    ensures { (i : ℕ) → i < 8 → signed w16 (lane w16 result i) ≡ signed w8 (lane w8 v i) }
+/// The bytes of the lower half and those of the upper half as numbers of 16 bits, with their signs.
+pub fn extended_bytes(v: V128) -> (V128, V128)
+    ensures lower { (i : ℕ) → i < 8 → signed w16 (lane w16 result.0 i) ≡ signed w8 (lane w8 v i) }
+    ensures upper { (i : ℕ) → i < 8 → signed w16 (lane w16 result.1 i) ≡ signed w8 (lane w8 v (8 + i)) }
 {
     widening_laws::extended_lanes();
-    i16x8_extend_low_i8x16_s(v)
+    (i16x8_extend_low_i8x16_s(v), i16x8_extend_high_i8x16_s(v))
 }
 
-/// A byte of the upper half as a number of 16 bits, with its sign.
-pub fn extended_upper_bytes(v: V128) -> V128
-    ensures { (i : ℕ) → i < 8 → signed w16 (lane w16 result i) ≡ signed w8 (lane w8 v (8 + i)) }
+/// The same without signs.
+pub fn widened_bytes(v: V128) -> (V128, V128)
+    ensures lower { (i : ℕ) → i < 8 → lane w16 result.0 i ≡ lane w8 v i }
+    ensures upper { (i : ℕ) → i < 8 → lane w16 result.1 i ≡ lane w8 v (8 + i) }
 {
     widening_laws::extended_lanes();
-    i16x8_extend_high_i8x16_s(v)
+    (i16x8_extend_low_i8x16_u(v), i16x8_extend_high_i8x16_u(v))
 }
 
 /// The bytes of the upper half, at 16 bits.
@@ -125,6 +138,15 @@ pub fn sums_of_neighbours(v: V128) -> V128
     i16x8_extadd_pairwise_i8x16_u(v)
 }
 
+/// The products of the signed numbers of two vectors, two neighbours at a time, added up at 32 bits.
+pub fn sums_of_products(a: V128, b: V128) -> V128
+    ensures { (i : ℕ) → i < 4 → lane w32 result i ≡ wrap w32 ((signed w16 (lane w16 a (2 * i)) *ℤ signed w16 (lane w16 b (2 * i))) +ℤ (signed w16 (lane w16 a (2 * i + 1)) *ℤ signed w16 (lane w16 b (2 * i + 1)))) }
+{
+    widening_laws::lanes_of_neighbours::<i16>();
+    widening_laws::wrapped_numbers();
+    i32x4_dot_i16x8_s(a, b)
+}
+
 /// The bytes to which the signed numbers of two vectors are clamped, those of the first vector first.
 pub fn clamped_to_bytes(a: V128, b: V128) -> V128
     ensures first { (i : ℕ) → i < 8 → lane w8 result i ≡ clamp_unsigned w8 (signed w16 (lane w16 a i)) % 2 ^ 8 }
@@ -141,6 +163,15 @@ pub fn signs_of_bytes(v: V128) -> u32
 {
     widening_laws::bits_of_lanes::<u8>();
     i8x16_bitmask(v)
+}
+
+/// Whether 8 bits, made of a test of each number below 8, are all 1: whether the test holds of each.
+pub fn are_all_ones(bits: u32) -> bool
+    ensures { (test : ℕ → Bool) → bits ≡ first_bits 8 test → (IsTrue result ↔ IsTrue (holds_below 8 test)) }
+{
+    widening_laws::bits_of_lanes::<u8>();
+    widening_laws::tests_of_lanes::<u8>();
+    bits == 0xff
 }
 
 /// Whether no byte is 0.

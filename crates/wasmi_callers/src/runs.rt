@@ -9,13 +9,13 @@ ghost use Rattle.wasmi_store.specs.Memory.{pages_of};
 ghost use Rattle.wasmi_core.specs.Account.{SetsNoFuel};
 ghost use Rattle.wasmi_core.specs.Determinism.{HasMemory};
 ghost use Rattle.wasmi_core.specs.LentMemory.{owned_world, unlent_world};
-ghost use Rattle.wasmi_core.specs.Laws.{IsRefusal, SameContents};
+ghost use Rattle.wasmi_core.specs.Laws.{IsRefusal, SameContents, KeepsSpare, KeepsMeter};
 ghost use Rattle.wasmi_core.specs.Permission.{permitting, TellsNoDenial};
 ghost use Rattle.wasmi_core.specs.Runs.{IsRunOf};
 ghost use Rattle.wasmi_core.specs.Totals.{total, HoldsTotals};
 ghost use Rattle.wasmi_core.specs.Validity.{IsValid, IsValidCall};
 ghost use Rattle.wasmi_core.specs.World.{world};
-ghost use Rattle.wasmi_callers.specs.Runs.{IsBilled, IsBoundedBy, IsSpentBy, IsExchanged, AreStill, AreSameTurns, HasRegionFor, IsLent};
+ghost use Rattle.wasmi_callers.specs.Runs.{IsBilled, IsBoundedBy, IsSpentBy, IsExchanged, KeepsWhereRefused, IsRunOfBoth, FitsAnyRegions, AreSameTurns, HasRegionFor, IsLent};
 
 use std::alloc::AllocError;
 use wasmi_core::{
@@ -23,13 +23,30 @@ use wasmi_core::{
     ResourceLimiterRef, laws, run_lending, run_reserving,
 };
 
-/// Makes calls. Where each is refused, the machine has the contents that it had.
+/// Makes one call. Where it is refused, the machine has the contents that it had; the spare region, unless a memory was to
+/// be made in it; and what was left, unless memory was wanting.
+pub fn call_refused<L: ResourceLimiter>(
+    machine: &mut Machine,
+    call: &Call,
+    limiter: &mut L,
+) -> Reply
+    ensures contents { IsRefusal result → SameContents machine.old machine.new }
+    ensures spare { IsRefusal result → KeepsSpare call.now result machine.old machine.new }
+    ensures meter { IsRefusal result → KeepsMeter (optional_rules L.rules) (world machine.old (Some limiter.old)) (world machine.new (Some limiter.new)) }
+{
+    laws::refusals_keep_contents::<L>();
+    machine.step_lending(call, limiter)
+}
+
+/// Makes calls. Each that is refused keeps what `call_refused` says, and where all are, the machine has the contents
+/// that it had.
 pub fn run_refused<L: ResourceLimiter>(
     machine: &mut Machine,
     calls: &[Call],
     limiter: &mut L,
 ) -> Result<Vec<Reply>, AllocError>
-    ensures { IfOk result (λ replies. All IsRefusal replies.items → SameContents machine.old machine.new) }
+    ensures turns { IfOk result (λ replies. KeepsWhereRefused (optional_rules L.rules) calls.now (world machine.old (Some limiter.old)) replies.items (world machine.new (Some limiter.new))) }
+    ensures all { IfOk result (λ replies. All IsRefusal replies.items → SameContents machine.old machine.new) }
 {
     laws::refusals_keep_contents::<L>();
     run_lending(machine, calls, limiter)
@@ -140,16 +157,18 @@ pub fn run_counted(
     run_lending(machine, calls, quota)
 }
 
-/// Makes some calls and then others: it is as if all were made in one run.
+/// Makes some calls and then others: it is as if all were made in one run, by the turns of the first and then those of
+/// the others.
 pub fn run_both<L: ResourceLimiter>(
     machine: &mut Machine,
     calls: &[Call],
     more: &[Call],
     limiter: &mut L,
 ) -> Result<(Vec<Reply>, Vec<Reply>), AllocError>
-    ensures { IfOk result (λ replies. IsRunOf (optional_rules L.rules) (calls.now ++ more.now)
-        (record { state = machine.old; limiter = Some limiter.old }) (replies.0.items ++ replies.1.items)
-        (record { state = machine.new; limiter = Some limiter.new })) }
+    ensures calls { IfOk result (λ replies. IsRunOf (optional_rules L.rules) (calls.now ++ more.now)
+        (world machine.old (Some limiter.old)) (replies.0.items ++ replies.1.items) (world machine.new (Some limiter.new))) }
+    ensures turns { IfOk result (λ replies. IsRunOfBoth (optional_rules L.rules) calls.now more.now
+        (world machine.old (Some limiter.old)) replies.0.items replies.1.items (world machine.new (Some limiter.new))) }
 {
     laws::runs_join::<L>();
     let first = run_lending(machine, calls, limiter)?;
@@ -222,14 +241,14 @@ pub fn run_twice_charged(
     Ok((first, second))
 }
 
-/// Makes calls of which none makes a memory in the spare region or grows one: the replies are those of a machine whose
-/// memories are all its own.
+/// Makes calls that fit whatever regions there are, as all do that neither make a memory in the spare region nor grow
+/// one: the replies are those of a machine whose memories are all its own.
 pub fn run_in_regions<L: ResourceLimiter>(
     machine: &mut Machine,
     calls: &[Call],
     limiter: &mut L,
 ) -> Result<Vec<Reply>, AllocError>
-    requires { AreStill calls.now }
+    requires { All FitsAnyRegions calls.now }
     ensures { IfOk result (λ replies. IsRunOf (optional_rules L.rules) calls.now
         (owned_world (record { state = machine.old; limiter = Some limiter.old })) replies.items
         (owned_world (record { state = machine.new; limiter = Some limiter.new }))) }

@@ -1,5 +1,6 @@
 //! Callers of the laws on raw values and on the bytes of numbers.
-ghost use Rattle.std.specs.Prelude.{◌≡◌, MatchResult};
+ghost use Rattle.std.specs.Prelude.{◌≡◌, IfOk, MatchResult};
+ghost use Rattle.wasmi_access.specs.LoadStore.{IsSameOutside};
 
 use wasmi_access::access::{LittleEndianConvert, load_at, store_at};
 use wasmi_access::laws;
@@ -13,8 +14,22 @@ pub fn kept_in_a_register(register: &mut RawVal, value: i32) -> i32
     wasmi_raw::laws::written_value_is_read::<i32, RawVal>(register, value)
 }
 
-/// A number that is stored at an address is the number that is then loaded from there.
+/// A number that is stored at an address is the number that is then loaded from there, and the other bytes are the same.
 pub fn stored_and_loaded(memory: &mut [u8], address: usize, value: u32) -> Result<u32, TrapCode>
+    ensures loaded { MatchResult result (λ number. number ≡ value) (λ trap. trap ≡ TrapCode.MemoryOutOfBounds) }
+    ensures outside { IfOk result (λ _. IsSameOutside memory.old memory.new address 4) }
+{
+    store_at(memory, address, value)?;
+    laws::stored_number_is_loaded();
+    load_at(memory, address)
+}
+
+/// The same of a signed number, which is loaded with its sign.
+pub fn signed_stored_and_loaded(
+    memory: &mut [u8],
+    address: usize,
+    value: i32,
+) -> Result<i32, TrapCode>
     ensures { MatchResult result (λ number. number ≡ value) (λ trap. trap ≡ TrapCode.MemoryOutOfBounds) }
 {
     store_at(memory, address, value)?;
