@@ -4,6 +4,7 @@ mod creations;
 mod errors;
 mod fuel;
 mod growths;
+mod lending;
 mod limiters;
 mod memories;
 mod memory_types;

@@ -1,0 +1,158 @@
+//! Memories and tables that are made and grow under a quota that is lent for each call.
+use super::{func, memory_type, metered, same};
+use std::alloc::Global;
+use std::process::Abort;
+use std::test::Fail;
+use wasmi_meter::{MemoryError, Quota, TableError};
+use wasmi_raw::RawRef;
+use wasmi_store::{Memory, Table, TableType};
+use wasmi_types::RefType;
+
+/// A memory of 64 pages of one byte that grows by as many, with fuel 1, under a quota of so many bytes: its size; the
+/// size before the growth, if it was made; the bytes that the quota holds, and the fuel that is left.
+#[derive(Clone, Copy)]
+struct MemoryLoan {
+    what: &'static str,
+    cap: u64,
+    made: Result<u64, MemoryError>,
+    grown: Option<Result<u64, MemoryError>>,
+    held: u64,
+    left: u64,
+}
+
+static MEMORY_LOANS: [MemoryLoan; 3] = [
+    MemoryLoan {
+        what: "a memory is made and grows",
+        cap: 128,
+        made: Ok(64),
+        grown: Some(Ok(64)),
+        held: 128,
+        left: 0,
+    },
+    MemoryLoan {
+        what: "the growth of a memory is denied",
+        cap: 127,
+        made: Ok(64),
+        grown: Some(Err(MemoryError::OutOfBoundsGrowth)),
+        held: 64,
+        left: 1,
+    },
+    MemoryLoan {
+        what: "a memory is denied",
+        cap: 63,
+        made: Err(MemoryError::ResourceLimiterDeniedAllocation),
+        grown: None,
+        held: 0,
+        left: 1,
+    },
+];
+
+/// Lets the memory grow, if it was made, and compares.
+fn compare_memory(
+    rt: &impl Abort,
+    made: Result<Memory, MemoryError>,
+    quota: &mut Quota,
+    row: &MemoryLoan,
+) {
+    let mut fuel = metered(1);
+    let (size, grown) = match made {
+        Ok(mut memory) => {
+            let size = memory.size();
+            let grown = memory.grow_lending(64, Some(&mut fuel), quota);
+            (Ok(size), Some(grown))
+        }
+        Err(error) => (Err(error), None),
+    };
+    same(rt, row.what, size, row.made);
+    same(rt, row.what, grown, row.grown);
+    same(rt, row.what, quota.held_bytes(), row.held);
+    same(rt, row.what, fuel.get_fuel(), Ok(row.left));
+}
+
+#[test]
+fn lends_quotas_to_memories(rt: HostRuntime) -> Result<(), Fail> {
+    let ty = memory_type(64, None, 0, false)?;
+    for row in &MEMORY_LOANS {
+        let mut quota = Quota::new(row.cap, 0);
+        let made = Memory::new_lending(rt.alloc(), ty, &mut quota);
+        compare_memory(&rt, made, &mut quota, row);
+        let mut quota = Quota::new(row.cap, 0);
+        let mut region = [0xEEu8; 128];
+        let made = Memory::new_static_lending(ty, &mut quota, &mut region);
+        compare_memory(&rt, made, &mut quota, row);
+    }
+    Ok(())
+}
+
+/// A table of two elements that grows by one, and by one again, under a quota of so many elements: its size; the sizes
+/// before the growths, if it was made; and the elements that the quota holds.
+#[derive(Clone, Copy)]
+struct TableLoan {
+    what: &'static str,
+    cap: u64,
+    made: Result<u64, TableError>,
+    grown: Option<Result<u64, TableError>>,
+    grown_raw: Option<Result<u64, TableError>>,
+    held: u64,
+}
+
+static TABLE_LOANS: [TableLoan; 4] = [
+    TableLoan {
+        what: "a table is made and grows",
+        cap: 4,
+        made: Ok(2),
+        grown: Some(Ok(2)),
+        grown_raw: Some(Ok(3)),
+        held: 4,
+    },
+    TableLoan {
+        what: "the second growth of a table is denied",
+        cap: 3,
+        made: Ok(2),
+        grown: Some(Ok(2)),
+        grown_raw: Some(Err(TableError::GrowOutOfBounds)),
+        held: 3,
+    },
+    TableLoan {
+        what: "both growths of a table are denied",
+        cap: 2,
+        made: Ok(2),
+        grown: Some(Err(TableError::GrowOutOfBounds)),
+        grown_raw: Some(Err(TableError::GrowOutOfBounds)),
+        held: 2,
+    },
+    TableLoan {
+        what: "a table is denied",
+        cap: 1,
+        made: Err(TableError::ResourceLimiterDeniedAllocation),
+        grown: None,
+        grown_raw: None,
+        held: 0,
+    },
+];
+
+/// Makes the table, lets it grow if it was made, and compares.
+fn compare_table(rt: &impl Abort, alloc: Global, row: &TableLoan) {
+    let ty = TableType::new(RefType::Func, 2, None);
+    let mut quota = Quota::new(0, row.cap);
+    let (size, grown, grown_raw) = match Table::new_lending(alloc, ty, func(1), &mut quota) {
+        Ok(mut table) => {
+            let size = table.size();
+            let grown = table.grow_lending(1, func(2), None, &mut quota);
+            let grown_raw = table.grow_raw_lending(1, RawRef::from(3), None, &mut quota);
+            (Ok(size), Some(grown), Some(grown_raw))
+        }
+        Err(error) => (Err(error), None, None),
+    };
+    same(rt, row.what, size, row.made);
+    same(rt, row.what, grown, row.grown);
+    same(rt, row.what, grown_raw, row.grown_raw);
+    same(rt, row.what, quota.held_elements(), row.held);
+}
+
+#[test]
+fn lends_quotas_to_tables(rt: HostRuntime) {
+    for row in &TABLE_LOANS {
+        compare_table(&rt, rt.alloc(), row);
+    }
+}
