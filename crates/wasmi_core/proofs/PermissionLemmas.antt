@@ -27,7 +27,9 @@ module _ {S : Type 0} (rules : Rules S) where
   pub permitted_run : (w : World S) (turns : List Turn) (w' : World S) → All TellsNoDenial (map Turn.reply turns)
       → Run rules w turns w' → Run (permitting rules) w turns w'
   permitted_run = run_revealed rules (permitting rules) TellsNoDenial
-      (λ room ty. denial_revealed replied.Memory (memory.creation_of room ty) (λ told. told) (λ told. told))
-      (λ x pages. denial_revealed replied.Memory (memory.growth_of x pages) (λ told. told) (λ told. told))
-      (λ ty init. denial_revealed replied.Table (table.creation_of ty init) (λ told. told) (λ told. told))
-      (λ x n reference. denial_revealed replied.Table (table.growth_of x n reference) (λ told. told) (λ told. told))
+      (record {
+        memory_made = λ room ty. denial_revealed replied.Memory (memory.creation_of room ty) (λ told. told) (λ told. told);
+        memory_grown = λ x pages. denial_revealed replied.Memory (memory.growth_of x pages) (λ told. told) (λ told. told);
+        table_made = λ ty init. denial_revealed replied.Table (table.creation_of ty init) (λ told. told) (λ told. told);
+        table_grown = λ x n reference. denial_revealed replied.Table (table.growth_of x n reference) (λ told. told) (λ told. told);
+      })

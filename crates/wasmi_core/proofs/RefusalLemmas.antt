@@ -125,52 +125,70 @@ unset : (left : Option ℕ) (costs : CustomFuelCosts) (fuel : ℕ) (reply : Repl
 unset None costs fuel reply refused is = refl
 unset (Some n) costs fuel reply refused is = absurd (rw is at refused)
 
+-- an effort of which a limiter is told by its kind, and whose last cause is want of memory
+record TellsOfWant {V E : Type 0} (e : Effort V E) : Type 0 where
+  tells : (cause : E) → kind_of (e.notice cause) ≡ e.question.kind
+  wants : (cause : E) → e.refuses cause → IsNoWant (e.notice cause) → ⊥
+
+-- what a charge has taken of a meter, between two limiters
+record Taken {S : Type 0} (m m' : Meter) (l l' : S) (charge : ℕ) : Type 0 where
+  taken : Some m' ≡ Some (meter_after m charge)
+
+-- the meter is as it was, unless the limiter was told of want of memory
+abbrev StaysOrTold : {S : Type 0} → Rules S → Meter → Meter → S → S → Type 0
+StaysOrTold rules m m' l l' = (m' ≡ m) ⊎ IsToldOfWant rules l l'
+
 -- the meter after a refused growth, whose last cause is want of memory
-module _ {V E S : Type 0} (rules : Rules S) (e : Effort V E)
-    (tells : (cause : E) → kind_of (e.notice cause) ≡ e.question.kind)
-    (wants : (cause : E) → e.refuses cause → IsNoWant (e.notice cause) → ⊥) (m m' : Meter) (l l' : S) (charge : ℕ)
-    (taken : Some m' ≡ Some (meter_after m charge)) where
+module _ {V E S : Type 0} (rules : Rules S) (e : Effort V E) (told : TellsOfWant e) {m m' : Meter} {l l' : S}
+    {charge : ℕ} (after : Taken m m' l l' charge) where
+  -- it stays where nothing was charged
+  stayed : charge ≡ 0 → StaysOrTold rules m m' l l'
+  stayed free = inl (free_meter m m' charge free after.taken)
+
+  -- it failed after the permission
   failed_meter : (cause : E) (heed : Heed) (late : Option E) (payable : Bool) (amount : ℕ)
       → (late ≡ None → payable ≡ true → e.refuses cause) → charge ≡ (if is_none late && payable then amount else 0)
-      → Follows e rules l (Failed cause heed) l' → (m' ≡ m) ⊎ IsToldOfWant rules l l'
-  failed_meter cause heed (Some c) payable amount refuses charged follows = inl (free_meter m m' charge charged taken)
-  failed_meter cause heed None false amount refuses charged follows = inl (free_meter m m' charge charged taken)
+      → Follows e rules l (Failed cause heed) l' → StaysOrTold rules m m' l l'
+  failed_meter cause heed (Some c) payable amount refuses charged follows = stayed charged
+  failed_meter cause heed None false amount refuses charged follows = stayed charged
   failed_meter cause heed None true amount refuses charged follows =
       inr (
         e.question,
         e.notice cause,
         heed,
-        wants cause (refuses refl refl),
-        (tells cause, follows.0, follows.1, follows.2),
+        told.wants cause (refuses refl refl),
+        (told.tells cause, follows.0, follows.1, follows.2),
       )
 
+  -- by its fate
   fate_meter : (refusal : E → Reply) (size : ℕ) (fate : Fate E)
       → IsRefusal (reply_of replied.Number refusal (answer_of e size fate)) → MayEnd e (Some m) fate
-      → charge ≡ charge_of e (Some m) fate → Follows e rules l fate l' → (m' ≡ m) ⊎ IsToldOfWant rules l l'
-  fate_meter refusal size (Unasked cause) refused may charged follows = inl (free_meter m m' charge charged taken)
-  fate_meter refusal size (Denied answer) refused may charged follows = inl (free_meter m m' charge charged taken)
+      → charge ≡ charge_of e (Some m) fate → Follows e rules l fate l' → StaysOrTold rules m m' l l'
+  fate_meter refusal size (Unasked cause) refused may charged follows = stayed charged
+  fate_meter refusal size (Denied answer) refused may charged follows = stayed charged
   fate_meter refusal size Met refused may charged follows = absurd refused
   fate_meter refusal size (Failed cause heed) refused may charged follows =
-      let refuses : e.late ≡ None → can_pay (Some m) (amount_due (Some m) e.price) ≡ true
-      → e.refuses cause = λ late payable. subst
-      (λ b. MatchBool b (e.refuses cause) (cause ≡ e.unpaid (amount_due (Some m) e.price))) payable
-      (subst (λ o. IsFirstCause e (Some m) o cause) late may.1) in
-      failed_meter cause heed e.late (can_pay (Some m) (amount_due (Some m) e.price)) (amount_due (Some m) e.price)
-      refuses charged follows
+      let due = amount_due (Some m) e.price in
+      let refuses : e.late ≡ None → can_pay (Some m) due ≡ true → e.refuses cause =
+      λ late payable. subst (λ b. MatchBool b (e.refuses cause) (cause ≡ e.unpaid due)) payable
+      (subst (λ o. IsFirstCause e (Some m) o cause) late may.1)
+      in
+      failed_meter cause heed e.late (can_pay (Some m) due) due refuses charged follows
 
-grows_meter : {V E S : Type 0} (rules : Rules S) (g : Growth V E) (refusal : E → Reply)
-    → ((cause : E) → kind_of (g.effort.notice cause) ≡ g.effort.question.kind)
-    → ((cause : E) → g.effort.refuses cause → IsNoWant (g.effort.notice cause) → ⊥)
-    → (x x' : V) (m m' : Meter) (l l' : S) (charge : ℕ) (result : Result ℕ E)
+-- the meter after a refused growth
+grows_meter : {V E S : Type 0} (rules : Rules S) (g : Growth V E) (refusal : E → Reply) → TellsOfWant g.effort
+    → (x x' : V) (m m' : Meter) {l l' : S} (charge : ℕ) (result : Result ℕ E)
     → IsRefusal (reply_of replied.Number refusal result)
     → Grows rules g (record { value = x; meter = Some m; limiter = l }) result charge
-    (record { value = x'; meter = Some m'; limiter = l' }) → (m' ≡ m) ⊎ IsToldOfWant rules l l'
-grows_meter {V} {S = S} rules g refusal tells wants x x' m m' l l' charge result refused (inl none) =
+    (record { value = x'; meter = Some m'; limiter = l' }) → StaysOrTold rules m m' l l'
+grows_meter {V} {S = S} rules g refusal told x x' m m' charge result refused (inl none) =
     inl (same_Some m' m (ap (λ (s : Situation V S). s.meter) none.same))
-grows_meter rules g refusal tells wants x x' m m' l l' charge result refused (inr some) =
-    fate_meter rules g.effort tells wants m m' l l' charge some.attempt.meter refusal g.size some.fate
-    (rw some.answered at refused) some.attempt.may_end some.attempt.charged some.attempt.follows
+grows_meter rules g refusal told x x' m m' {l} {l'} charge result refused (inr some) =
+    let after : Taken m m' l l' charge = record { taken = some.attempt.meter } in
+    fate_meter rules g.effort told after refusal g.size some.fate (rw some.answered at refused) some.attempt.may_end
+    some.attempt.charged some.attempt.follows
 
+-- what memory refuses is want of it
 lacks_memory : (room : Room) (cause : MemoryError) → LacksMemory room cause → IsNoWant (MemoryFailure cause) → ⊥
 lacks_memory Owned cause lacks nowant = subst (λ c. IsNoWant (MemoryFailure c)) lacks nowant
 lacks_memory (Lent rest) cause lacks nowant = lacks
@@ -221,8 +239,8 @@ module _ {S : Type 0} (rules : Rules S) (w : World S) (turn : Turn) (w' : World 
       (λ missing. inl
       (same_Some m' w.state.meter (ap (λ (s : Situation (List (Slot MemoryValue)) S). s.meter) missing.2)))
       (λ x found a. grows_meter rules
-      (record { amount = pages; size = pages_of x; effort = memory.growth_of x pages }) replied.Memory (λ cause. refl)
-      (lacks_memory x.room) x a.1 w.state.meter m' w.limiter l' turn.charge a.0 (rw a.3 at refused) a.2)
+      (record { amount = pages; size = pages_of x; effort = memory.growth_of x pages })
+      replied.Memory (record { tells = λ cause. refl; wants = lacks_memory x.room }) x a.1 w.state.meter m' turn.charge a.0 (rw a.3 at refused) a.2)
 
   table_meter : (k n : ℕ) (init : TypedRawRef) (slots' : List (Slot TableValue)) (m' : Meter) (l' : S)
       → ActsAt k (reply_of replied.Number replied.Table) (GrowsTable rules n init)
@@ -235,8 +253,9 @@ module _ {S : Type 0} (rules : Rules S) (w : World S) (turn : Turn) (w' : World 
       (same_Some m' w.state.meter (ap (λ (s : Situation (List (Slot TableValue)) S). s.meter) missing.2)))
       (λ x found a. on_test (same_type x.ty.element init.ty) _ _ a.2
       (λ g. grows_meter rules (record { amount = n; size = size_of x; effort = table.growth_of x n init.raw })
-      replied.Table (λ cause. refl) (λ cause lacks nowant. subst (λ c. IsNoWant (TableFailure c)) lacks nowant) x a.1
-      w.state.meter m' w.limiter l' turn.charge a.0 (rw a.3 at refused) g)
+      replied.Table
+      (record { tells = λ cause. refl; wants = λ cause lacks nowant. subst (λ c. IsNoWant (TableFailure c)) lacks nowant })
+      x a.1 w.state.meter m' turn.charge a.0 (rw a.3 at refused) g)
       (λ g. inl (same_Some m' w.state.meter (ap (λ (s : Situation TableValue S). s.meter) g.2))))
 
   effect_meter : (effect : Effect) → TakesEffect rules effect w turn w' → KeepsMeter rules w w'

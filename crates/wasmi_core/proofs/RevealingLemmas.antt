@@ -41,6 +41,17 @@ answered_error e value (Denied answer) c is = ap Err (sym is)
 answered_error e value Met c is = absurd is
 answered_error e value (Failed cause heed) c is = ap Err (sym is)
 
+-- a call on a slot
+acts_revealed : {S X R : Type 0} (k : ℕ) (reply_to : R → Reply)
+    (Acts Acts' : Situation X S → R → ℕ → Situation X S → Type 0) (reply : Reply)
+    → ((s s' : Situation X S) (result : R) (charge : ℕ) → reply ≡ reply_to result → Acts s result charge s'
+    → Acts' s result charge s')
+    → (s s' : Situation (List (Slot X)) S) (charge : ℕ) → ActsAt k reply_to Acts s reply charge s'
+    → ActsAt k reply_to Acts' s reply charge s'
+acts_revealed k reply_to Acts Acts' reply too s s' charge acts =
+    on_live_too (live_at s.value k) _ _ _ _ (λ missing. missing)
+    (λ x h. (h.0, h.1, too _ _ h.0 charge h.3 h.2, h.3, h.4)) acts
+
 module _ {S : Type 0} (rules rules' : Rules S) (Shows : Reply → Type 0) where
   -- where the replies to an attempt's errors show it, what the limiter sees is by the narrower rules
   abbrev pub Reveals : {V E : Type 0} → (E → Reply) → Effort V E → Type 0
@@ -80,13 +91,13 @@ module _ {S : Type 0} (rules rules' : Rules S) (Shows : Reply → Type 0) where
 
   -- a growth
   grows_revealed : {V E : Type 0} (g : Growth V E) (refusal : E → Reply) → Reveals refusal g.effort
-      → (s s' : Situation V S) (result : Result ℕ E) (charge : ℕ) (reply : Reply)
-      → reply ≡ reply_of replied.Number refusal result → Shows reply → Grows rules g s result charge s'
+      → (s s' : Situation V S) (result : Result ℕ E) (charge : ℕ)
+      → Shows (reply_of replied.Number refusal result) → Grows rules g s result charge s'
       → Grows rules' g s result charge s'
-  grows_revealed g refusal reveals s s' result charge reply is shows (inl none) = inl none
-  grows_revealed g refusal reveals s s' result charge reply is shows (inr some) =
+  grows_revealed g refusal reveals s s' result charge shows (inl none) = inl none
+  grows_revealed g refusal reveals s s' result charge shows (inr some) =
       let shown : (c : _) → IsErrorOf g.effort some.fate c → Shows (refusal c) =
-      λ c error. subst Shows (is ∙ ap (reply_of replied.Number refusal)
+      λ c error. subst Shows (ap (reply_of replied.Number refusal)
       (some.answered ∙ answered_error g.effort g.size some.fate c error)) shows in
       inr (record {
         some = some.some;
@@ -96,30 +107,22 @@ module _ {S : Type 0} (rules rules' : Rules S) (Shows : Reply → Type 0) where
         answered = some.answered;
       })
 
-  -- a call on a slot
-  acts_revealed : {X R : Type 0} (k : ℕ) (reply_to : R → Reply)
-      (Acts Acts' : Situation X S → R → ℕ → Situation X S → Type 0) (reply : Reply)
-      → ((s s' : Situation X S) (result : R) (charge : ℕ) → reply ≡ reply_to result → Acts s result charge s'
-      → Acts' s result charge s')
-      → (s s' : Situation (List (Slot X)) S) (charge : ℕ) → ActsAt k reply_to Acts s reply charge s'
-      → ActsAt k reply_to Acts' s reply charge s'
-  acts_revealed k reply_to Acts Acts' reply too s s' charge acts =
-      on_live_too (live_at s.value k) _ _ _ _ (λ missing. missing)
-      (λ x h. (h.0, h.1, too _ _ h.0 charge h.3 h.2, h.3, h.4)) acts
+  -- the replies to the errors of each attempt show it
+  pub record EachReveals : Type 0 where
+    pub memory_made : (room : Room) (ty : MemoryTypeValue) → Reveals replied.Memory (memory.creation_of room ty)
+    pub memory_grown : (x : MemoryValue) (pages : ℕ) → Reveals replied.Memory (memory.growth_of x pages)
+    pub table_made : (ty : TableTypeValue) (init : RefType) → Reveals replied.Table (table.creation_of ty init)
+    pub table_grown : (x : TableValue) (n reference : ℕ) → Reveals replied.Table (table.growth_of x n reference)
 
-  module _ (memory_made : (room : Room) (ty : MemoryTypeValue) → Reveals replied.Memory (memory.creation_of room ty))
-      (memory_grown : (x : MemoryValue) (pages : ℕ) → Reveals replied.Memory (memory.growth_of x pages))
-      (table_made : (ty : TableTypeValue) (init : RefType) → Reveals replied.Table (table.creation_of ty init))
-      (table_grown : (x : TableValue) (n reference : ℕ) → Reveals replied.Table (table.growth_of x n reference)) where
+  module _ (each : EachReveals) where
     -- a growth of a table, whose type is tested first
-    table_growth_revealed : (n : ℕ) (init : TypedRawRef) (reply : Reply) → Shows reply
-        → (s s' : Situation TableValue S) (result : Result ℕ TableError) (charge : ℕ)
-        → reply ≡ reply_of replied.Number replied.Table result → GrowsTable rules n init s result charge s'
+    table_growth_revealed : (n : ℕ) (init : TypedRawRef) (s s' : Situation TableValue S) (result : Result ℕ TableError)
+        (charge : ℕ) → Shows (reply_of replied.Number replied.Table result) → GrowsTable rules n init s result charge s'
         → GrowsTable rules' n init s result charge s'
-    table_growth_revealed n init reply shows s s' result charge is grows =
+    table_growth_revealed n init s s' result charge shows grows =
         on_test_too (same_type s.value.ty.element init.ty) _ _ _ _
         (grows_revealed (record { amount = n; size = size_of s.value; effort = table.growth_of s.value n init.raw })
-        replied.Table (table_grown s.value n init.raw) s s' result charge reply is shows)
+        replied.Table (each.table_grown s.value n init.raw) s s' result charge shows)
         (λ mismatch. mismatch) grows
 
     -- an effect of any call
@@ -129,7 +132,7 @@ module _ {S : Type 0} (rules rules' : Rules S) (Shows : Reply → Type 0) where
         free = step.free;
         part = step.part;
         limiter = step.limiter;
-        row = creates_revealed replied.Memory (memory.creation_of Owned ty) (memory_made Owned ty)
+        row = creates_revealed replied.Memory (memory.creation_of Owned ty) (each.memory_made Owned ty)
             (new_memory Owned ty) w.state.memories step.part turn.reply w.limiter step.limiter shows step.row;
         after = step.after;
       }
@@ -140,7 +143,7 @@ module _ {S : Type 0} (rules rules' : Rules S) (Shows : Reply → Type 0) where
         row = on_live_too w.state.spare _ _ _ _ (λ none. none)
             (λ region h. (
               creates_revealed replied.Memory (memory.creation_of (Lent region) ty)
-                  (memory_made (Lent region) ty) (new_memory (Lent region) ty) w.state.memories step.part.slots
+                  (each.memory_made (Lent region) ty) (new_memory (Lent region) ty) w.state.memories step.part.slots
                   turn.reply
                   w.limiter step.limiter shows h.0,
               h.1,
@@ -156,7 +159,8 @@ module _ {S : Type 0} (rules rules' : Rules S) (Shows : Reply → Type 0) where
             (GrowsMemory rules' pages) turn.reply
             (λ s s' result charge is. grows_revealed
             (record { amount = pages; size = pages_of s.value; effort = memory.growth_of s.value pages })
-            replied.Memory (memory_grown s.value pages) s s' result charge turn.reply is shows)
+            replied.Memory (each.memory_grown s.value pages) s s' result charge
+            (subst Shows is shows))
             _ _ turn.charge step.row;
         wrote = step.wrote;
         after = step.after;
@@ -165,7 +169,7 @@ module _ {S : Type 0} (rules rules' : Rules S) (Shows : Reply → Type 0) where
         free = step.free;
         part = step.part;
         limiter = step.limiter;
-        row = creates_revealed replied.Table (table.creation_of ty init.ty) (table_made ty init.ty)
+        row = creates_revealed replied.Table (table.creation_of ty init.ty) (each.table_made ty init.ty)
             (new_table ty init.raw) w.state.tables step.part turn.reply w.limiter step.limiter shows step.row;
         after = step.after;
       }
@@ -174,7 +178,7 @@ module _ {S : Type 0} (rules rules' : Rules S) (Shows : Reply → Type 0) where
         meter = step.meter;
         limiter = step.limiter;
         row = acts_revealed k (reply_of replied.Number replied.Table) (GrowsTable rules n init)
-            (GrowsTable rules' n init) turn.reply (table_growth_revealed n init turn.reply shows) _ _ turn.charge
+            (GrowsTable rules' n init) turn.reply (λ s s' result charge is. table_growth_revealed n init s s' result charge (subst Shows is shows)) _ _ turn.charge
             step.row;
         wrote = step.wrote;
         after = step.after;

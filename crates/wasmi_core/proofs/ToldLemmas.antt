@@ -64,10 +64,12 @@ module _ {S : Type 0} (rules : Rules S) (heeds : HeedsAll rules) where
   pub told_run : (w : World S) (turns : List Turn) (w' : World S) → All HasMemory (map Turn.reply turns)
       → Run rules w turns w' → Run (with_memory rules) w turns w'
   told_run = run_revealed rules (with_memory rules) HasMemory
-      (λ room ty. want_revealed replied.Memory (memory.creation_of room ty) no_memory)
-      (λ x pages. want_revealed replied.Memory (memory.growth_of x pages) no_memory)
-      (λ ty init. want_revealed replied.Table (table.creation_of ty init) no_table)
-      (λ x n reference. want_revealed replied.Table (table.growth_of x n reference) no_table)
+      (record {
+        memory_made = λ room ty. want_revealed replied.Memory (memory.creation_of room ty) no_memory;
+        memory_grown = λ x pages. want_revealed replied.Memory (memory.growth_of x pages) no_memory;
+        table_made = λ ty init. want_revealed replied.Table (table.creation_of ty init) no_table;
+        table_grown = λ x n reference. want_revealed replied.Table (table.growth_of x n reference) no_table;
+      })
 
 -- turns whose replies have memory, and their replies
 all_shown : (turns : List Turn) → HaveMemory turns → All HasMemory (map Turn.reply turns)
