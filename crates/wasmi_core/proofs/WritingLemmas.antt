@@ -106,44 +106,64 @@ due_pays m left values size charge on rated is =
 same_costs : (m m' : Meter) (charge : ℕ) → Some m' ≡ Some (meter_after m charge) → m'.costs ≡ m.costs
 same_costs m m' charge is = ap (λ (m : Meter). m.costs) (same_Some m' (meter_after m charge) is)
 
-module _ {V E S : Type 0} (rules : Rules S) (g : Growth V E) (x : V) (m : Meter) (l : S) (charge : ℕ) (x' : V)
-    (m' : Meter) (l' : S) where
+-- what a growth is between: a value, a meter and a limiter, and what they have become by a charge
+record Growing (V S : Type 0) : Type 0 where
+  value : V
+  meter : Meter
+  limiter : S
+  charge : ℕ
+  value' : V
+  meter' : Meter
+  limiter' : S
+
+module _ {V E S : Type 0} (rules : Rules S) (g : Growth V E) (t : Growing V S) where
+  -- it has grown, with this result
   abbrev Grown : Result ℕ E → Type 0
   Grown result =
-      Grows rules g (record { value = x; meter = Some m; limiter = l }) result charge
-      (record { value = x'; meter = Some m'; limiter = l' })
+      Grows rules g (record { value = t.value; meter = Some t.meter; limiter = t.limiter }) result t.charge
+      (record { value = t.value'; meter = Some t.meter'; limiter = t.limiter' })
 
-  growth_costs : (result : Result ℕ E) → Grown result → m'.costs ≡ m.costs
+  -- the costs stay
+  growth_costs : (result : Result ℕ E) → Grown result → t.meter'.costs ≡ t.meter.costs
   growth_costs result (inl none) =
-      ap (λ (m : Meter). m.costs) (same_Some m' m (ap (λ (s : Situation V S). s.meter) none.same))
-  growth_costs result (inr some) = same_costs m m' charge some.attempt.meter
+      ap (λ (m : Meter). m.costs) (same_Some t.meter' t.meter (ap (λ (s : Situation V S). s.meter) none.same))
+  growth_costs result (inr some) = same_costs t.meter t.meter' t.charge some.attempt.meter
 
-  growth_refuses : (error : E) → Grown (Err error) → Wrote m charge 0 false 0 m'
+  -- the charge is taken
+  growth_takes : (result : Result ℕ E) → Grown result → Takes t.meter t.charge t.meter'
+  growth_takes result grows =
+      grows_takes rules g t.value t.meter t.limiter result t.charge t.value' t.meter' t.limiter' grows
+
+  -- a growth that is refused writes nothing
+  growth_refuses : (error : E) → Grown (Err error) → Wrote t.meter t.charge 0 false 0 t.meter'
   growth_refuses error grows =
-      refuses m m' charge (growth_costs (Err error) grows)
-      (grows_takes rules g x m l (Err error) charge x' m' l' grows)
+      refuses t.meter t.meter' t.charge (growth_costs (Err error) grows) (growth_takes (Err error) grows)
 
   -- an accepted growth, whose charge pays for so many bytes where nothing stood in its way
   module _ (bytes : ℕ) (none : g.amount ≡ 0 → bytes ≡ 0)
-      (bound : (left : ℕ) → m.left ≡ Some left → 0 < rate m → g.effort.early ≡ None
-      → charge ≡ amount_due (Some m) g.effort.price → bytes ≤ rate m * charge + (rate m - 1)) where
-    met_bound : (size : ℕ) → Grown (Ok size) → (left : ℕ) → m.left ≡ Some left → 0 < rate m
-        → bytes ≤ rate m * charge + (rate m - 1)
+      (bound : (left : ℕ) → t.meter.left ≡ Some left → 0 < rate t.meter → g.effort.early ≡ None
+      → t.charge ≡ amount_due (Some t.meter) g.effort.price
+      → bytes ≤ rate t.meter * t.charge + (rate t.meter - 1)) where
+    -- the charge pays for the bytes
+    met_bound : (size : ℕ) → Grown (Ok size) → (left : ℕ) → t.meter.left ≡ Some left → 0 < rate t.meter
+        → bytes ≤ rate t.meter * t.charge + (rate t.meter - 1)
     met_bound size (inl grows) left on rated = let nothing = none grows.none in omega (arith, nothing)
     met_bound size (inr grows) left on rated =
         by_fate grows.fate grows.attempt.may_end grows.attempt.charged grows.answered
       where
-        by_fate : (fate : Fate E) → MayEnd g.effort (Some m) fate → charge ≡ charge_of g.effort (Some m) fate
-            → Ok size ≡ answer_of g.effort g.size fate → bytes ≤ rate m * charge + (rate m - 1)
+        by_fate : (fate : Fate E) → MayEnd g.effort (Some t.meter) fate
+            → t.charge ≡ charge_of g.effort (Some t.meter) fate
+            → Ok size ≡ answer_of g.effort g.size fate → bytes ≤ rate t.meter * t.charge + (rate t.meter - 1)
         by_fate (Unasked cause) may charged answered = absurd cc
         by_fate (Denied answer) may charged answered = absurd cc
         by_fate Met may charged answered = bound left on rated may.0 charged
         by_fate (Failed cause heed) may charged answered = absurd cc
 
-    growth_pays : (size : ℕ) → Grown (Ok size) → Wrote m charge bytes true 0 m'
+    -- what it has written
+    growth_pays : (size : ℕ) → Grown (Ok size) → Wrote t.meter t.charge bytes true 0 t.meter'
     growth_pays size grows =
-        pays m m' charge bytes (growth_costs (Ok size) grows)
-        (grows_takes rules g x m l (Ok size) charge x' m' l' grows) (met_bound size grows)
+        pays t.meter t.meter' t.charge bytes (growth_costs (Ok size) grows) (growth_takes (Ok size) grows)
+        (met_bound size grows)
 
 -- a growth of a memory
 added_fits : (b c : Bool) (x : MemoryValue) (pages : ℕ)
@@ -164,32 +184,36 @@ early_none : (test : Bool) (cause : MemoryError) → (if test then None else Som
 early_none true cause is = refl
 early_none false cause is = absurd cc
 
-module _ {S : Type 0} (rules : Rules S) (x : MemoryValue) (pages : ℕ) (m : Meter) (l : S) (charge : ℕ)
-    (x' : MemoryValue) (m' : Meter) (l' : S) where
+module _ {S : Type 0} (rules : Rules S) (pages : ℕ) (t : Growing MemoryValue S) where
+  -- the growth
   abbrev growth : Growth MemoryValue MemoryError
-  growth = record { amount = pages; size = pages_of x; effort = memory.growth_of x pages }
+  growth = record { amount = pages; size = pages_of t.value; effort = memory.growth_of t.value pages }
 
-  memory_bound : (left : ℕ) → m.left ≡ Some left → 0 < rate m → growth.effort.early ≡ None
-      → charge ≡ amount_due (Some m) growth.effort.price
-      → pages * page_bytes x.ty.page ≤ rate m * charge + (rate m - 1)
+  -- its charge pays for its bytes
+  memory_bound : (left : ℕ) → t.meter.left ≡ Some left → 0 < rate t.meter → growth.effort.early ≡ None
+      → t.charge ≡ amount_due (Some t.meter) growth.effort.price
+      → pages * page_bytes t.value.ty.page ≤ rate t.meter * t.charge + (rate t.meter - 1)
   memory_bound left on rated early charged =
+      let x = t.value in
       let fits =
       added_fits (nat_le (pages_of x + pages) (greatest_pages x.ty))
       (option_map_or (λ maximum. nat_le (pages_of x + pages) maximum) x.ty.maximum true) x pages
-      (early_none (in_bounds x.ty (pages_of x + pages)) MemoryError.OutOfBoundsGrowth early) in
-      let paid : cut_product (pages * page_bytes x.ty.page) 1 ≤ rate m * charge + (rate m - 1) = due_pays m left
-      (pages * page_bytes x.ty.page) 1 charge on rated charged in
+      (early_none (in_bounds x.ty (pages_of x + pages)) MemoryError.OutOfBoundsGrowth early)
+      in
+      let bytes = pages * page_bytes x.ty.page in
+      let paid : cut_product bytes 1 ≤ rate t.meter * t.charge + (rate t.meter - 1) =
+      due_pays t.meter left bytes 1 t.charge on rated charged
+      in
       omega (arith, fits, paid)
 
-  memory_result : (result : Result ℕ MemoryError)
-      → GrowsMemory rules pages (record { value = x; meter = Some m; limiter = l }) result charge
-      (record { value = x'; meter = Some m'; limiter = l' })
-      → Wrote m charge (bytes_appended (Some x) pages (reply_of replied.Number replied.Memory result))
-      (is_accepted (reply_of replied.Number replied.Memory result)) 0 m'
+  -- what it has written, by its result
+  memory_result : (result : Result ℕ MemoryError) → Grown rules growth t result
+      → Wrote t.meter t.charge (bytes_appended (Some t.value) pages (reply_of replied.Number replied.Memory result))
+      (is_accepted (reply_of replied.Number replied.Memory result)) 0 t.meter'
   memory_result (Ok size) grows =
-      growth_pays rules growth x m l charge x' m' l' (pages * page_bytes x.ty.page)
-      (λ none. ap (λ n. n * page_bytes x.ty.page) none ∙ omega arith) memory_bound size grows
-  memory_result (Err error) grows = growth_refuses rules growth x m l charge x' m' l' error grows
+      growth_pays rules growth t (pages * page_bytes t.value.ty.page)
+      (λ none. ap (λ n. n * page_bytes t.value.ty.page) none ∙ omega arith) memory_bound size grows
+  memory_result (Err error) grows = growth_refuses rules growth t error grows
 
 nothing_appended : (o : Option MemoryValue) (pages : ℕ) → bytes_appended o pages replied.NoSuch ≡ 0
 nothing_appended None pages = refl
@@ -205,24 +229,26 @@ memory_growth_writes {S} rules k pages slots m l reply charge slots' m' l' acts 
     on_live (live_at slots k) _ _ acts
     (λ missing. rw missing.0 (idles m m' charge _ (nothing_appended (live_at slots k) pages)
     (same_Some m' m (ap (λ (s : Situation (List (Slot MemoryValue)) S). s.meter) missing.2))))
-    (λ x found a. rw (found, a.3) (memory_result rules x pages m l charge a.1 m' l' a.0 a.2))
+    (λ x found a.
+    let t : Growing MemoryValue S =
+    record { value = x; meter = m; limiter = l; charge = charge; value' = a.1; meter' = m'; limiter' = l' }
+    in
+    rw (found, a.3) (memory_result rules pages t a.0 a.2))
 
 -- a growth of a table
-module _ {S : Type 0} (rules : Rules S) (x : TableValue) (n reference : ℕ) (m : Meter) (l : S) (charge : ℕ)
-    (x' : TableValue) (m' : Meter) (l' : S) where
+module _ {S : Type 0} (rules : Rules S) (n reference : ℕ) (t : Growing TableValue S) where
+  -- the growth
   abbrev table_growth : Growth TableValue TableError
-  table_growth = record { amount = n; size = size_of x; effort = table.growth_of x n reference }
+  table_growth = record { amount = n; size = size_of t.value; effort = table.growth_of t.value n reference }
 
-  table_result : (result : Result ℕ TableError)
-      → Grows rules table_growth (record { value = x; meter = Some m; limiter = l }) result charge
-      (record { value = x'; meter = Some m'; limiter = l' })
-      → Wrote m charge (element_bytes n (reply_of replied.Number replied.Table result))
-      (is_accepted (reply_of replied.Number replied.Table result)) 0 m'
+  -- what it has written, by its result
+  table_result : (result : Result ℕ TableError) → Grown rules table_growth t result
+      → Wrote t.meter t.charge (element_bytes n (reply_of replied.Number replied.Table result))
+      (is_accepted (reply_of replied.Number replied.Table result)) 0 t.meter'
   table_result (Ok size) grows =
-      growth_pays rules table_growth x m l charge x' m' l' (cut_product n 4)
-      (λ none. ap (λ k. cut_product k 4) none ∙ omega arith)
-      (λ left on rated early charged. due_pays m left n 4 charge on rated charged) size grows
-  table_result (Err error) grows = growth_refuses rules table_growth x m l charge x' m' l' error grows
+      growth_pays rules table_growth t (cut_product n 4) (λ none. ap (λ k. cut_product k 4) none ∙ omega arith)
+      (λ left on rated early charged. due_pays t.meter left n 4 t.charge on rated charged) size grows
+  table_result (Err error) grows = growth_refuses rules table_growth t error grows
 
 table_growth_writes : {S : Type 0} (rules : Rules S) (k n : ℕ) (init : TypedRawRef) (slots : List (Slot TableValue))
     (m : Meter) (l : S) (reply : Reply) (charge : ℕ) (slots' : List (Slot TableValue)) (m' : Meter) (l' : S)
@@ -235,13 +261,17 @@ table_growth_writes {S} rules k n init slots m l reply charge slots' m' l' acts 
     (λ missing. rw missing.0
     (idles m m' charge _ refl
     (same_Some m' m (ap (λ (s : Situation (List (Slot TableValue)) S). s.meter) missing.2))))
-    (λ x found a. rw a.3 (on_test (same_type x.ty.element init.ty) _ _ a.2
-    (λ h. table_result rules x n init.raw m l charge a.1 m' l' a.0 h)
+    (λ x found a.
+    let t : Growing TableValue S =
+    record { value = x; meter = m; limiter = l; charge = charge; value' = a.1; meter' = m'; limiter' = l' }
+    in
+    rw a.3 (on_test (same_type x.ty.element init.ty) _ _ a.2
+    (λ h. table_result rules n init.raw t a.0 h)
     (λ h. rw h.0 (idles m m' charge _ refl (same_Some m' m (ap (λ (s : Situation TableValue S). s.meter) h.2))))))
 
 -- a call that writes over a part of a table
-module _ (w : TableWrite) (x : TableValue) (len : ℕ) (pays_len : (w.paid ≡ Some len) ⊎ (len ≡ 0)) (m : Meter)
-    (charge : ℕ) (x' : TableValue) (m' : Meter) where
+module _ (w : TableWrite) (x : TableValue) (len : ℕ) (m : Meter) (charge : ℕ) where
+  -- the charge pays for the elements, where there are some
   len_bound : (paid : (w.paid ≡ Some len) ⊎ (len ≡ 0)) → charge ≡ due_for w x (Some m) → (left : ℕ)
       → m.left ≡ Some left → 0 < rate m → cut_product len 4 ≤ rate m * charge + (rate m - 1)
   len_bound (inl paid) charged left on rated =
@@ -250,21 +280,26 @@ module _ (w : TableWrite) (x : TableValue) (len : ℕ) (pays_len : (w.paid ≡ S
   len_bound (inr none) charged left on rated =
       let nothing : cut_product len 4 ≡ 0 = ap (λ k. cut_product k 4) none ∙ omega arith in omega (arith, nothing)
 
-  ends_bound : (typed : Bool) (written : Option (List ℕ)) (payable : Bool)
-      → EndsBy w x (Some m) typed written payable (Ok tt) charge x' → (left : ℕ) → m.left ≡ Some left → 0 < rate m
+  -- so where it has ended well
+  ends_bound : (w.paid ≡ Some len) ⊎ (len ≡ 0) → (x' : TableValue) (typed : Bool) (written : Option (List ℕ))
+      (payable : Bool) → EndsBy w x (Some m) typed written payable (Ok tt) charge x' → (left : ℕ) → m.left ≡ Some left
+      → 0 < rate m
       → cut_product len 4 ≤ rate m * charge + (rate m - 1)
-  ends_bound false written payable ends left on rated = absurd cc
-  ends_bound true None payable ends left on rated = absurd cc
-  ends_bound true (Some elements) false ends left on rated = absurd cc
-  ends_bound true (Some elements) true ends left on rated = len_bound pays_len ends.1 left on rated
+  ends_bound paid x' false written payable ends left on rated = absurd cc
+  ends_bound paid x' true None payable ends left on rated = absurd cc
+  ends_bound paid x' true (Some elements) false ends left on rated = absurd cc
+  ends_bound paid x' true (Some elements) true ends left on rated = len_bound paid ends.1 left on rated
 
-  write_result : (result : Result (Unit {0}) TableError) → WritesTable w x (Some m) result charge x' (Some m')
+  -- what it has written, by its result
+  write_result : (w.paid ≡ Some len) ⊎ (len ≡ 0)
+      → (x' : TableValue) (m' : Meter) (result : Result (Unit {0}) TableError)
+      → WritesTable w x (Some m) result charge x' (Some m')
       → Wrote m charge (element_bytes len (reply_of (λ _. replied.Done) replied.Table result))
       (is_accepted (reply_of (λ _. replied.Done) replied.Table result)) 0 m'
-  write_result (Ok tt) writes =
+  write_result paid x' m' (Ok tt) writes =
       pays m m' charge (cut_product len 4) (same_costs m m' charge writes.meter)
-      (write_takes w x m (Ok tt) charge x' m' writes) (ends_bound w.typed w.written _ writes.ends)
-  write_result (Err error) writes =
+      (write_takes w x m (Ok tt) charge x' m' writes) (ends_bound paid x' w.typed w.written _ writes.ends)
+  write_result paid x' m' (Err error) writes =
       refuses m m' charge (same_costs m m' charge writes.meter) (write_takes w x m (Err error) charge x' m' writes)
 
 module _ (k : ℕ) where
@@ -278,7 +313,7 @@ module _ (k : ℕ) where
       (λ missing. rw missing.0
       (idles m m' charge _ refl
       (same_Some m' m (ap (λ (s : Situation (List (Slot TableValue)) (Unit {0})). s.meter) missing.2))))
-      (λ x found a. rw a.3 (write_result (write x) x len (paid x) m charge a.1 m' a.0 a.2))
+      (λ x found a. rw a.3 (write_result (write x) x len m charge (paid x) a.1 m' a.0 a.2))
 
 table_copy_writes : {X : Type 0} (source : Option X) (k : ℕ) (write : X → TableValue → TableWrite) (len : ℕ)
     (slots : List (Slot TableValue)) (m : Meter) (reply : Reply) (charge : ℕ) (slots' : List (Slot TableValue))
