@@ -18,3 +18,4 @@ pub mod VectorNamesLemmas
 pub mod NamesLemmas
 pub mod SayingLemmas
 pub mod OneScriptLemmas
+pub mod DecidedLemmas

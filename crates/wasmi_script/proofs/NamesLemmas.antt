@@ -36,7 +36,8 @@ use Rattle.wasmi_vector_ops.specs.declared.test.TestOp.{TestOp}
 use Rattle.wasmi_vector_ops.specs.declared.unary.UnaryOp.{UnaryOp}
 use Rattle.wasmi_script.specs.declared.script.header.answers.AnswerWord.{AnswerWord}
 use Rattle.wasmi_script.specs.declared.script.header.answers.AnswerWord.TheVariants.{Permit, Deny, Error, Complain}
-use Rattle.wasmi_script.specs.declared.script.names.TheConstants.{MAKES, UNARIES, BINARIES, TERNARIES, SHIFTS, TESTS, LOADS}
+use Rattle.wasmi_script.specs.declared.script.names.TheConstants.{MAKES, UNARIES, BINARIES, TERNARIES, SHIFTS, TESTS}
+use Rattle.wasmi_script.specs.declared.script.names.TheConstants.{LOADS}
 use Rattle.wasmi_script.specs.Words.{Words}
 use Rattle.wasmi_script.specs.Numbers.{IsDecimal, decimal_value, WritesLimit}
 use Rattle.wasmi_script.specs.AccessNames.{load_name, store_name}
@@ -45,8 +46,10 @@ use Rattle.wasmi_script.specs.LaneNames.{NamesExtract, NamesReplace, NamesLoadLa
 use Rattle.wasmi_script.specs.MemoryWords.{NamesType}
 use Rattle.wasmi_script.specs.TableWords.{NamesTableType}
 use Rattle.wasmi_script.specs.TypeWords.{width_word, reference_word, value_word, mutability_word, WritesReference}
-use Rattle.wasmi_script.proofs.VectorNamesLemmas.{make_found, unary_found, binary_found, ternary_found, shift_found, test_found, load_found}
-use Rattle.wasmi_script.specs.VectorNames.{entry_of, NamesMake, NamesUnary, NamesBinary, NamesTernary, NamesShift, NamesTest, NamesLoad}
+use Rattle.wasmi_script.specs.VectorNames.{entry_of, NamesMake, NamesUnary, NamesBinary, NamesTernary, NamesShift}
+use Rattle.wasmi_script.specs.VectorNames.{NamesTest, NamesLoad}
+use Rattle.wasmi_script.proofs.VectorNamesLemmas.{make_found, unary_found, binary_found, ternary_found}
+use Rattle.wasmi_script.proofs.VectorNamesLemmas.{shift_found, test_found, load_found}
 
 -- the address type of a word
 width_named : List ℕ → Option IndexType
@@ -193,13 +196,17 @@ module _ {A : Type 0} (rows : ℕ → List (List ℕ × A)) (name lane : List �
 
   lane_is : (text : List ℕ) (index : ℕ) (op : A) → entry_of (rows index) text ≡ Some op → name ≡ text
       → index ≡ decimal_value lane → lane_named ≡ Some op
-  lane_is text index op found e n = ap (entry_of (rows (decimal_value lane))) e ∙ ap (λ k. entry_of (rows k) text) (sym n) ∙ found
+  lane_is text index op found e n =
+      ap (entry_of (rows (decimal_value lane))) e ∙ ap (λ k. entry_of (rows k) text) (sym n) ∙ found
 
 abbrev extracts : ℕ → List (List ℕ × ExtractOp)
 extracts k =
-    (codes "i8x16_extract_lane_s", extract.I8x16ExtractLaneS k) ∷ (codes "i8x16_extract_lane_u", extract.I8x16ExtractLaneU k)
-    ∷ (codes "i16x8_extract_lane_s", extract.I16x8ExtractLaneS k) ∷ (codes "i16x8_extract_lane_u", extract.I16x8ExtractLaneU k)
-    ∷ (codes "i32x4_extract_lane", extract.I32x4ExtractLane k) ∷ (codes "i64x2_extract_lane", extract.I64x2ExtractLane k) ∷ []
+    (codes "i8x16_extract_lane_s", extract.I8x16ExtractLaneS k)
+    ∷ (codes "i8x16_extract_lane_u", extract.I8x16ExtractLaneU k)
+    ∷ (codes "i16x8_extract_lane_s", extract.I16x8ExtractLaneS k)
+    ∷ (codes "i16x8_extract_lane_u", extract.I16x8ExtractLaneU k)
+    ∷ (codes "i32x4_extract_lane", extract.I32x4ExtractLane k)
+    ∷ (codes "i64x2_extract_lane", extract.I64x2ExtractLane k) ∷ []
 
 pub extract_named : List ℕ → List ℕ → Option ExtractOp
 extract_named = lane_named extracts
@@ -216,7 +223,8 @@ extract_is name lane (extract.I64x2ExtractLane k) w = lane_is extracts name lane
 abbrev replaces : ℕ → List (List ℕ × ReplaceOp)
 replaces k =
     (codes "i8x16_replace_lane", replace.I8x16ReplaceLane k) ∷ (codes "i16x8_replace_lane", replace.I16x8ReplaceLane k)
-    ∷ (codes "i32x4_replace_lane", replace.I32x4ReplaceLane k) ∷ (codes "i64x2_replace_lane", replace.I64x2ReplaceLane k) ∷ []
+    ∷ (codes "i32x4_replace_lane", replace.I32x4ReplaceLane k)
+    ∷ (codes "i64x2_replace_lane", replace.I64x2ReplaceLane k) ∷ []
 
 pub replace_named : List ℕ → List ℕ → Option ReplaceOp
 replace_named = lane_named replaces
@@ -231,12 +239,14 @@ replace_is name lane (replace.I64x2ReplaceLane k) w = lane_is replaces name lane
 abbrev lane_loads : ℕ → List (List ℕ × LoadLaneOp)
 lane_loads k =
     (codes "v128_load8_lane", load_lane.V128Load8Lane k) ∷ (codes "v128_load16_lane", load_lane.V128Load16Lane k)
-    ∷ (codes "v128_load32_lane", load_lane.V128Load32Lane k) ∷ (codes "v128_load64_lane", load_lane.V128Load64Lane k) ∷ []
+    ∷ (codes "v128_load32_lane", load_lane.V128Load32Lane k) ∷ (codes "v128_load64_lane", load_lane.V128Load64Lane k)
+    ∷ []
 
 pub load_lane_named : List ℕ → List ℕ → Option LoadLaneOp
 load_lane_named = lane_named lane_loads
 
-pub load_lane_is : (name lane : List ℕ) (op : LoadLaneOp) → NamesLoadLane name lane op → load_lane_named name lane ≡ Some op
+pub load_lane_is : (name lane : List ℕ) (op : LoadLaneOp) → NamesLoadLane name lane op
+    → load_lane_named name lane ≡ Some op
 unfolding load_lane_named
 load_lane_is name lane (load_lane.V128Load8Lane k) w = lane_is lane_loads name lane _ k _ refl w.0 w.1.1
 load_lane_is name lane (load_lane.V128Load16Lane k) w = lane_is lane_loads name lane _ k _ refl w.0 w.1.1
@@ -246,12 +256,14 @@ load_lane_is name lane (load_lane.V128Load64Lane k) w = lane_is lane_loads name 
 abbrev lane_stores : ℕ → List (List ℕ × StoreLaneOp)
 lane_stores k =
     (codes "v128_store8_lane", store_lane.V128Store8Lane k) ∷ (codes "v128_store16_lane", store_lane.V128Store16Lane k)
-    ∷ (codes "v128_store32_lane", store_lane.V128Store32Lane k) ∷ (codes "v128_store64_lane", store_lane.V128Store64Lane k) ∷ []
+    ∷ (codes "v128_store32_lane", store_lane.V128Store32Lane k)
+    ∷ (codes "v128_store64_lane", store_lane.V128Store64Lane k) ∷ []
 
 pub store_lane_named : List ℕ → List ℕ → Option StoreLaneOp
 store_lane_named = lane_named lane_stores
 
-pub store_lane_is : (name lane : List ℕ) (op : StoreLaneOp) → NamesStoreLane name lane op → store_lane_named name lane ≡ Some op
+pub store_lane_is : (name lane : List ℕ) (op : StoreLaneOp) → NamesStoreLane name lane op
+    → store_lane_named name lane ≡ Some op
 unfolding store_lane_named
 store_lane_is name lane (store_lane.V128Store8Lane k) w = lane_is lane_stores name lane _ k _ refl w.0 w.1.1
 store_lane_is name lane (store_lane.V128Store16Lane k) w = lane_is lane_stores name lane _ k _ refl w.0 w.1.1
@@ -314,7 +326,8 @@ table_named element minimum maximum width = option_and_then (λ index. option_ma
   maximum = limit_named maximum;
 }) (type_named element)) (width_named width)
 
-pub table_is : (element minimum maximum width : List ℕ) (ty : TableTypeValue) → NamesTableType element minimum maximum width ty
+pub table_is : (element minimum maximum width : List ℕ) (ty : TableTypeValue)
+    → NamesTableType element minimum maximum width ty
     → table_named element minimum maximum width ≡ Some ty
 unfolding table_named
 table_is element minimum maximum width ty w = λ i. option_and_then (λ index. option_map (λ element. record {
@@ -341,7 +354,8 @@ answer_is Complain = refl
 pub answers_named : Words → List AnswerWord
 answers_named words = map answer_named (map (λ word. word.now) words)
 
-pub answers_is : (words : Words) (answers : List AnswerWord) → WritesAnswers words answers → answers_named words ≡ answers
+pub answers_is : (words : Words) (answers : List AnswerWord) → WritesAnswers words answers
+    → answers_named words ≡ answers
 unfolding answers_named
 answers_is words answers writes = ap (map answer_named) writes ∙ named answers where
   named : (answers : List AnswerWord) → map answer_named (map answer_text answers) ≡ answers

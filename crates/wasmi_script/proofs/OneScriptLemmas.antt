@@ -11,14 +11,16 @@ use Rattle.wasmi_script.specs.declared.script.header.RegionLine.{RegionLine}
 use Rattle.wasmi_script.specs.Words.{Words}
 use Rattle.wasmi_script.specs.Headers.{NamesTenant, AreApart, tenants_of}
 use Rattle.wasmi_script.specs.Lines.{HasNoCommands, AddsLine, TakesLine, TakesLines, MakeScript, lines_in}
-use Rattle.wasmi_script.specs.Refusals.{IsBadLine}
-use Rattle.wasmi_script.specs.Sayings.{call_said, limiter_said, LimiterSaid, OtherLimiter, part_said, ScriptSaid, script_said}
+use Rattle.wasmi_script.specs.Refusals.{IsBadLine, IsFirstBadLine}
+use Rattle.wasmi_script.specs.Sayings.{call_said, limiter_said, LimiterSaid, OtherLimiter, part_said, ScriptSaid}
+use Rattle.wasmi_script.specs.Sayings.{script_said}
 use Rattle.wasmi_script.specs.Sayings.{SayTheSame, TextsWriteOneScript, FirstBadLinesAreOne, WrittenTextsHaveNoBadLine}
 use Rattle.wasmi_script.proofs.SayingLemmas.{said_after, added}
 use Rattle.wasmi_script.proofs.TextsLemmas.{retell}
 
 -- a line leads from scripts that say the same to scripts that say the same
-line_once : (line : List ℕ) (old old' new new' : Script) → SayTheSame old old' → TakesLine old line new → TakesLine old' line new'
+line_once : (line : List ℕ) (old old' new new' : Script) → SayTheSame old old' → TakesLine old line new
+    → TakesLine old' line new'
     → SayTheSame new new'
 line_once line old old' new new' same taken taken' =
     let words = taken.1 in
@@ -36,7 +38,8 @@ lines_once (line ∷ lines) old old' new new' same (middle, taken, later) (middl
 nothing_said : ScriptSaid
 nothing_said = record { meter = None; limiter = None; region = None; earlier = []; tenant = 0; calls = [] }
 
-empty_said : (lines : List (List ℕ)) (script : Script) (made : MakeScript lines script) → script_said made.empty ≡ nothing_said
+empty_said : (lines : List (List ℕ)) (script : Script) (made : MakeScript lines script)
+    → script_said made.empty ≡ nothing_said
 unfolding nothing_said
 empty_said lines script made = λ i. record {
   meter = (made.no_header i).meter;
@@ -47,13 +50,16 @@ empty_said lines script made = λ i. record {
   calls = map call_said (made.no_commands.no_calls i);
 }
 
-empties_same : (lines lines' : List (List ℕ)) (script script' : Script) (made : MakeScript lines script) (made' : MakeScript lines' script')
+empties_same : (lines lines' : List (List ℕ)) (script script' : Script) (made : MakeScript lines script)
+    (made' : MakeScript lines' script')
     → SayTheSame made.empty made'.empty
-empties_same lines lines' script script' made made' = empty_said lines script made ∙ sym (empty_said lines' script' made')
+empties_same lines lines' script script' made made' =
+    empty_said lines script made ∙ sym (empty_said lines' script' made')
 
 pub texts_once : TextsWriteOneScript
 texts_once text script script' made made' =
-    lines_once (lines_in text) made.empty made'.empty script script' (empties_same _ _ script script' made made') made.lines made'.lines
+    lines_once (lines_in text) made.empty made'.empty script script'
+    (empties_same _ _ script script' made made') made.lines made'.lines
 
 -- what has no image is nothing
 none_mapped : {A B : Type 0} (f : A → B) (xs : List A) → map f xs ≡ [] → xs ≡ []
@@ -65,7 +71,8 @@ none_of f None e = refl
 none_of f (Some x) e = absurd cc
 
 -- a limiter line goes with a region, or asks for tenants, by what it says
-apart_too : (limiter limiter' : Option LimiterLine) (region : Option RegionLine) → option_map limiter_said limiter ≡ option_map limiter_said limiter'
+apart_too : (limiter limiter' : Option LimiterLine) (region : Option RegionLine)
+    → option_map limiter_said limiter ≡ option_map limiter_said limiter'
     → AreApart limiter region → AreApart limiter' region
 apart_too limiter None region same apart = tt
 apart_too limiter (Some (Quota line)) region same apart = tt
@@ -101,14 +108,17 @@ module _ (old old' : Script) (same : SayTheSame old old') where
   none_too : HasNoCommands old → HasNoCommands old'
   none_too none = record {
     no_calls = none_mapped call_said old'.calls.items (ap (λ s. s.calls) (sym same) ∙ ap (map call_said) none.no_calls);
-    no_parts = none_mapped part_said old'.earlier.items (ap (λ s. s.earlier) (sym same) ∙ ap (map part_said) none.no_parts);
+    no_parts = none_mapped part_said old'.earlier.items
+        (ap (λ s. s.earlier) (sym same) ∙ ap (map part_said) none.no_parts);
   }
 
   calls_count : length old.calls.items ≡ length old'.calls.items
-  calls_count = sym (length-map old.calls.items call_said) ∙ ap (λ s. length s.calls) same ∙ length-map old'.calls.items call_said
+  calls_count = sym (length-map old.calls.items call_said) ∙ ap (λ s. length s.calls) same
+      ∙ length-map old'.calls.items call_said
 
   parts_count : length old.earlier.items ≡ length old'.earlier.items
-  parts_count = sym (length-map old.earlier.items part_said) ∙ ap (λ s. length s.earlier) same ∙ length-map old'.earlier.items part_said
+  parts_count = sym (length-map old.earlier.items part_said) ∙ ap (λ s. length s.earlier) same
+      ∙ length-map old'.earlier.items part_said
 
   takes_too : (words : Words) (new : Script) → AddsLine old words new → (new' : Script) × AddsLine old' words new'
   takes_too words new (inl a) = (old', inl (a.0, refl))
@@ -127,7 +137,8 @@ module _ (old old' : Script) (same : SayTheSame old old') where
     record old' { header = record old'.header { limiter = new.header.limiter } },
     inr (inr (inl (record {
       before_commands = none_too a.before_commands;
-      first = none_of limiter_said old'.header.limiter (ap (λ s. s.limiter) (sym same) ∙ ap (option_map limiter_said) a.first);
+      first = none_of limiter_said old'.header.limiter
+          (ap (λ s. s.limiter) (sym same) ∙ ap (option_map limiter_said) a.first);
       limiter = a.limiter;
       apart = subst (AreApart new.header.limiter) (ap (λ s. s.region) same) a.apart;
       meter = refl;
@@ -163,7 +174,8 @@ module _ (old old' : Script) (same : SayTheSame old old') where
       let part : Part = record { tenant = old.tenant; calls = old.calls } in
       let part' : Part = record { tenant = old'.tenant; calls = old'.calls } in
       let earlier = with_more new.earlier old.earlier.items old'.earlier.items part part' a.earlier parts_count in
-      let tenants = tenants_is old.header.limiter ∙ ap (λ s. tenants_said s.limiter) same ∙ sym (tenants_is old'.header.limiter) in (
+      let tenants = tenants_is old.header.limiter ∙ ap (λ s. tenants_said s.limiter) same
+      ∙ sym (tenants_is old'.header.limiter) in (
         record { header = old'.header; earlier = earlier.0; tenant = new.tenant; calls = new.calls },
         inr (inr (inr (inr (inr (record {
           tenant = subst (λ n. NamesTenant words n new.tenant) tenants a.tenant;
@@ -177,11 +189,13 @@ module _ (old old' : Script) (same : SayTheSame old old') where
   line_too line new taken = let after = takes_too taken.1 new taken.3 in (after.0, (taken.0, taken.1, taken.2, after.1))
 
 -- so a line that one of them can't take isn't taken by the other
-refused : (old old' new' : Script) (line : List ℕ) → SayTheSame old old' → IsBadLine old line → ¬ (TakesLine old' line new')
+refused : (old old' new' : Script) (line : List ℕ) → SayTheSame old old' → IsBadLine old line
+    → ¬ (TakesLine old' line new')
 refused old old' new' line same bad taken = let t = line_too old' old (sym same) line new' taken in bad t.0 t.1
 
 -- lines with a bad one aren't taken
-not_taken : (before after : List (List ℕ)) (bad : List ℕ) (old old' script new : Script) → SayTheSame old old' → TakesLines before old script
+not_taken : (before after : List (List ℕ)) (bad : List ℕ) (old old' script new : Script) → SayTheSame old old'
+    → TakesLines before old script
     → IsBadLine script bad → ¬ (TakesLines (before ++ bad ∷ after) old' new)
 not_taken [] after bad old old' script new same is wrong (middle, taken, later) =
     refused script old' middle bad (ap script_said is ∙ same) wrong taken
@@ -194,26 +208,60 @@ no_bad_line text script number made bad =
     (empties_same _ _ bad.script script bad.made made) bad.made.lines bad.is_bad
     (subst (λ lines. TakesLines lines made.empty script) bad.lines made.lines)
 
+-- lines of which those before a bad one are taken
+record StopsAfter (lines : List (List ℕ)) (old : Script) (before : List (List ℕ)) : Type 0 where
+  pub bad : List ℕ
+  pub after : List (List ℕ)
+  pub split : lines ≡ before ++ bad ∷ after
+  pub script : Script
+  pub taken : TakesLines before old script
+  pub is_bad : IsBadLine script bad
+
 -- a bad line stands at one place
-one_place : (before before' after after' : List (List ℕ)) (bad bad' : List ℕ) (old old' script script' : Script)
-    → SayTheSame old old' → before ++ bad ∷ after ≡ before' ++ bad' ∷ after' → TakesLines before old script → TakesLines before' old' script'
-    → IsBadLine script bad → IsBadLine script' bad' → length before ≡ length before'
-one_place [] [] after after' bad bad' old old' script script' same lines t t' wrong wrong' = refl
-one_place [] (line' ∷ before') after after' bad bad' old old' script script' same lines is (m', t', l') wrong wrong' =
-    let here : line' ≡ bad = cc in
-    absurd (refused script old' m' bad (ap script_said is ∙ same) wrong (subst (λ line. TakesLine old' line m') here t'))
-one_place (line ∷ before) [] after after' bad bad' old old' script script' same lines (m, t, l) is' wrong wrong' =
-    let here : line ≡ bad' = cc in
-    absurd (refused script' old m bad' (ap script_said is' ∙ sym same) wrong' (subst (λ line. TakesLine old line m) here t))
-one_place (line ∷ before) (line' ∷ before') after after' bad bad' old old' script script' same lines (m, t, l) (m', t', l') wrong wrong' =
+one_place : (before before' lines : List (List ℕ)) (old old' : Script) → SayTheSame old old'
+    → StopsAfter lines old before
+    → StopsAfter lines old' before' → length before ≡ length before'
+one_place [] [] lines old old' same s s' = refl
+one_place [] (line ∷ before') lines old old' same s s' =
+    let here : line ≡ s.bad = cc in
+    let taken = subst (λ l. TakesLine old' l s'.taken.0) here s'.taken.1 in
+    absurd (refused s.script old' s'.taken.0 s.bad (ap script_said s.taken ∙ same) s.is_bad taken)
+one_place (line ∷ before) [] lines old old' same s s' =
+    let here : line ≡ s'.bad = cc in
+    let taken = subst (λ l. TakesLine old l s.taken.0) here s.taken.1 in
+    absurd (refused s'.script old s.taken.0 s'.bad (ap script_said s'.taken ∙ sym same) s'.is_bad taken)
+one_place (line ∷ before) (line' ∷ before') lines old old' same s s' =
     let here : line' ≡ line = cc in
-    let rest : before ++ bad ∷ after ≡ before' ++ bad' ∷ after' = cc in
-    let t'' : TakesLine old' line m' = subst (λ line. TakesLine old' line m') here t' in
-    ap (λ n. suc n) (one_place before before' after after' bad bad' m m' script script' (line_once line old old' m m' same t t'') rest l l' wrong wrong')
+    let rest : before ++ s.bad ∷ s.after ≡ before' ++ s'.bad ∷ s'.after = cc in
+    let taken = subst (λ l. TakesLine old' l s'.taken.0) here s'.taken.1 in
+    let next = line_once line old old' s.taken.0 s'.taken.0 same s.taken.1 taken in
+    ap (λ n. suc n) (one_place before before' (before ++ s.bad ∷ s.after) s.taken.0 s'.taken.0 next
+    (record { bad = s.bad; after = s.after; split = refl; script = s.script; taken = s.taken.2; is_bad = s.is_bad })
+    (record {
+      bad = s'.bad;
+      after = s'.after;
+      split = rest;
+      script = s'.script;
+      taken = s'.taken.2;
+      is_bad =
+          s'.is_bad;
+    }))
+
+-- so does the first bad line of a text
+stops : (text : List ℕ) (number : ℕ) (bad : IsFirstBadLine text number)
+    → StopsAfter (lines_in text) bad.made.empty bad.before
+stops text number bad = record {
+  bad = bad.bad;
+  after = bad.after;
+  split = bad.lines;
+  script = bad.script;
+  taken = bad.made.lines;
+  is_bad = bad.is_bad;
+}
 
 pub bad_lines_once : FirstBadLinesAreOne
 bad_lines_once text number number' bad bad' =
-    bad.counted
-    ∙ ap (λ n. n + 1) (one_place bad.before bad'.before bad.after bad'.after bad.bad bad'.bad bad.made.empty bad'.made.empty bad.script bad'.script
-    (empties_same _ _ bad.script bad'.script bad.made bad'.made) (sym bad.lines ∙ bad'.lines) bad.made.lines bad'.made.lines bad.is_bad bad'.is_bad)
-    ∙ sym bad'.counted
+    let empties = empties_same _ _ bad.script bad'.script bad.made bad'.made in
+    let places = one_place bad.before bad'.before (lines_in text) bad.made.empty bad'.made.empty empties
+    (stops text number bad) (stops text number' bad') in
+    bad.counted ∙ ap (λ n. n + 1) places ∙ sym bad'.counted

@@ -6,11 +6,13 @@ use Rattle.std.proofs.lemmas.List.{map-append}
 use Rattle.wasmi_raw.specs.declared.raw.RawVal.{RawVal}
 use Rattle.wasmi_raw.specs.RawVal.{raw_of}
 use Rattle.wasmi_core.specs.declared.calls.Call.{Call}
-use Rattle.wasmi_core.specs.declared.calls.Call.TheVariants.{SetFuel, GetFuel, NewMemory, NewLentMemory, GrowMemory, DropMemory}
+use Rattle.wasmi_core.specs.declared.calls.Call.TheVariants.{SetFuel, GetFuel, NewMemory, NewLentMemory, GrowMemory}
+use Rattle.wasmi_core.specs.declared.calls.Call.TheVariants.{DropMemory}
 use Rattle.wasmi_core.specs.declared.calls.Call.TheVariants.{Read, Write, Load, Store, NewTable, GrowTable, DropTable}
 use Rattle.wasmi_core.specs.declared.calls.Call.TheVariants.{GetElement, SetElement, InitTable, CopyTable, FillTable}
 use Rattle.wasmi_core.specs.declared.calls.Call.TheVariants.{NewSegment, DropItems, NewGlobal, SetGlobal, GetGlobal}
-use Rattle.wasmi_core.specs.declared.calls.Call.TheVariants.{SetRegister, GetRegister, Make, Unary, Binary, Ternary, Shift}
+use Rattle.wasmi_core.specs.declared.calls.Call.TheVariants.{SetRegister, GetRegister, Make, Unary, Binary, Ternary}
+use Rattle.wasmi_core.specs.declared.calls.Call.TheVariants.{Shift}
 use Rattle.wasmi_core.specs.declared.calls.Call.TheVariants.{Test, Extract, Replace, Shuffle, VectorLoad, LoadLane}
 use Rattle.wasmi_core.specs.declared.calls.Call.TheVariants.{VectorStore, StoreLane}
 use Rattle.wasmi_script.specs.declared.script.Part.{Part}
@@ -25,15 +27,20 @@ use Rattle.wasmi_script.specs.Numbers.{decimal_value}
 use Rattle.wasmi_script.specs.Commands.{command_word, WritesOperands}
 use Rattle.wasmi_script.specs.Headers.{NamesMeter, NamesLimiter, NamesRegion, WritesLimiter, limiter_word}
 use Rattle.wasmi_script.specs.Lines.{AddsLine}
-use Rattle.wasmi_script.specs.Sayings.{CallSaid, WriteSaid, SegmentSaid, OtherCall as Other, call_said, LimiterSaid, AnswersSaid}
+use Rattle.wasmi_script.specs.Sayings.{CallSaid, WriteSaid, SegmentSaid, OtherCall as Other, call_said, LimiterSaid}
+use Rattle.wasmi_script.specs.Sayings.{AnswersSaid}
 use Rattle.wasmi_script.specs.Sayings.{OtherLimiter, limiter_said, part_said, ScriptSaid, script_said}
 use Rattle.wasmi_script.proofs.LinesLemmas.{meter_first, region_first}
 use Rattle.wasmi_script.proofs.NamesLemmas.{type_named, type_is, value_named, value_is, mutability_named, mutability_is}
-use Rattle.wasmi_script.proofs.NamesLemmas.{load_named, load_is, store_named, store_is, make_named, make_is, unary_named, unary_is}
+use Rattle.wasmi_script.proofs.NamesLemmas.{load_named, load_is, store_named, store_is, make_named, make_is}
+use Rattle.wasmi_script.proofs.NamesLemmas.{unary_named, unary_is}
 use Rattle.wasmi_script.proofs.NamesLemmas.{binary_named, binary_is, ternary_named, ternary_is, shift_named, shift_is}
-use Rattle.wasmi_script.proofs.NamesLemmas.{test_named, test_is, vector_load_named, vector_load_is, extract_named, extract_is}
-use Rattle.wasmi_script.proofs.NamesLemmas.{replace_named, replace_is, load_lane_named, load_lane_is, store_lane_named, store_lane_is}
-use Rattle.wasmi_script.proofs.NamesLemmas.{reference_named, reference_is, memory_named, memory_is, table_named, table_is}
+use Rattle.wasmi_script.proofs.NamesLemmas.{test_named, test_is, vector_load_named, vector_load_is, extract_named}
+use Rattle.wasmi_script.proofs.NamesLemmas.{extract_is}
+use Rattle.wasmi_script.proofs.NamesLemmas.{replace_named, replace_is, load_lane_named, load_lane_is, store_lane_named}
+use Rattle.wasmi_script.proofs.NamesLemmas.{store_lane_is}
+use Rattle.wasmi_script.proofs.NamesLemmas.{reference_named, reference_is, memory_named, memory_is, table_named}
+use Rattle.wasmi_script.proofs.NamesLemmas.{table_is}
 use Rattle.wasmi_script.proofs.NamesLemmas.{answers_named, answers_is}
 
 -- what a table has beside a word, or something else
@@ -103,7 +110,8 @@ module _ (words : Words) where
       (codes "empty", Some (Other (DropItems (number 0)))) ∷ (
         codes "global",
         option_and_then
-            (λ content. option_map (λ mutability. Other (NewGlobal (raw 2 3) (record { content = content; mutability = mutability })))
+            (λ content. option_map
+            (λ mutability. Other (NewGlobal (raw 2 3) (record { content = content; mutability = mutability })))
             (mutability_named (word 1))) (value_named (word 0)),
       ) ∷ (
         codes "gset",
@@ -115,7 +123,8 @@ module _ (words : Words) where
       (codes "show", Some (Other (GetRegister (number 0)))) ∷
       (codes "make", option_map (λ op. Other (Make op (number 1) (number 2))) (make_named (word 0))) ∷
       (codes "unary", option_map (λ op. Other (Unary op (number 1) (number 2))) (unary_named (word 0))) ∷
-      (codes "binary", option_map (λ op. Other (Binary op (number 1) (number 2) (number 3))) (binary_named (word 0))) ∷ (
+      (codes "binary", option_map (λ op. Other (Binary op (number 1) (number 2) (number 3))) (binary_named (word 0)))
+      ∷ (
         codes "ternary",
         option_map (λ op. Other (Ternary op (number 1) (number 2) (number 3) (number 4)))
             (ternary_named (word 0)),
@@ -189,7 +198,8 @@ module _ (words : Words) where
   call_is (SetGlobal global value) w =
       let lo = sym w.3.1 in
       let hi = sym w.4.1 in
-      λ i. option_map (λ ty. Other (SetGlobal (sym w.1.1 i) (record { ty = ty; raw = record { lo = lo i; hi = hi i } })))
+      λ i. option_map (λ ty. Other
+      (SetGlobal (sym w.1.1 i) (record { ty = ty; raw = record { lo = lo i; hi = hi i } })))
       (value_is (word 1) value.ty w.2 i)
   call_is (GetGlobal global) w = λ i. Some (Other (GetGlobal (sym w.1.1 i)))
   call_is (SetRegister dst value) w = λ i.
@@ -237,9 +247,11 @@ module _ (words : Words) where
 
   abbrev limiters_named : List (List ℕ × Option LimiterSaid)
   limiters_named =
-      (codes "quota", Some quota_named) ∷ (codes "answers", Some (AnswersSaid (answers_named words))) ∷ (codes "tenants", Some tenants_named) ∷ []
+      (codes "quota", Some quota_named) ∷ (codes "answers", Some (AnswersSaid (answers_named words)))
+      ∷ (codes "tenants", Some tenants_named) ∷ []
 
-  limiter_is : (line : LimiterLine) → WritesLimiter words line → beside limiters_named (limiter_word line) ≡ Some (limiter_said line)
+  limiter_is : (line : LimiterLine) → WritesLimiter words line
+      → beside limiters_named (limiter_word line) ≡ Some (limiter_said line)
   limiter_is (Quota line) w = λ i. Some (OtherLimiter (Quota (record { bytes = sym w.1.1 i; elements = sym w.2.1 i })))
   limiter_is (Answers answers) w = λ i. Some (AnswersSaid (answers_is words answers.items w i))
   limiter_is (Tenants line) w =

@@ -19,3 +19,4 @@ pub mod Status
 pub mod Texts
 pub mod Outcomes
 pub mod Sayings
+pub mod Decided

@@ -71,12 +71,15 @@ SayTheSame script script' = script_said script ≡ script_said script'
 
 -- two scripts that one text writes say the same
 abbrev pub TextsWriteOneScript : Type 0
-TextsWriteOneScript = (text : List ℕ) (script script' : Script) → WritesScript text script → WritesScript text script' → SayTheSame script script'
+TextsWriteOneScript = (text : List ℕ) (script script' : Script) → WritesScript text script → WritesScript text script'
+    → SayTheSame script script'
 
 -- the first bad line of a text is one number
 abbrev pub FirstBadLinesAreOne : Type 0
-FirstBadLinesAreOne = (text : List ℕ) (number number' : ℕ) → IsFirstBadLine text number → IsFirstBadLine text number' → number ≡ number'
+FirstBadLinesAreOne = (text : List ℕ) (number number' : ℕ) → IsFirstBadLine text number → IsFirstBadLine text number'
+    → number ≡ number'
 
 -- a text that writes a script has no bad line
 abbrev pub WrittenTextsHaveNoBadLine : Type 0
-WrittenTextsHaveNoBadLine = (text : List ℕ) (script : Script) (number : ℕ) → WritesScript text script → ¬ (IsFirstBadLine text number)
+WrittenTextsHaveNoBadLine =
+    (text : List ℕ) (script : Script) (number : ℕ) → WritesScript text script → ¬ (IsFirstBadLine text number)

@@ -1,7 +1,10 @@
 //! What holds of all scripts and of all that run them. These functions do nothing: each states a law as its contract.
 ghost use Rattle.wasmi_core.specs.Determinism.{IsDeterministic};
 ghost use Rattle.wasmi_script.specs.Answers.{QuietListsHeed, answer_rules};
+ghost use Rattle.wasmi_script.specs.Decided.{OutcomesAreOne};
 ghost use Rattle.wasmi_script.specs.Sayings.{FirstBadLinesAreOne, TextsWriteOneScript, WrittenTextsHaveNoBadLine};
+
+use wasmi_budget::laws::tenants_leave_no_choice;
 
 /// A limiter that answers from a list of words leaves no choice.
 pub fn answers_leave_no_choice()
@@ -28,3 +31,11 @@ pub fn first_bad_lines_are_one()
 pub fn written_texts_have_no_bad_line()
     ensures { WrittenTextsHaveNoBadLine }
 {}
+
+/// Where memory isn't wanting and the reader doesn't fail, the bytes of the reader decide what is printed and how the
+/// replay ends: two outcomes of them have the same text and the same status.
+pub fn outcomes_are_one()
+    ensures { OutcomesAreOne }
+{
+    tenants_leave_no_choice();
+}

@@ -1,0 +1,410 @@
+-- Where memory isn't wanting the bytes decide what is printed.
+use Rattle.std.proofs.Common.{ℕ, ◌≡◌, ◌∙◌, ◌++◌, List, [], ◌∷◌, Vec, All, Option, Some, None, Ok, Err, map}
+use Rattle.std.proofs.Common.{flat_map}
+use Rattle.std.specs.Fmt.{decimal}
+use Rattle.std.proofs.Common.{codes, slice_set, refl, sym, ap, subst, arith}
+use Rattle.std.specs.Option.{option_map, option_map_or}
+use Rattle.std.proofs.lemmas.List.{map-append}
+use Rattle.std.proofs.lemmas.List.Elements.{All-head, All-tail, All-cons, All-nil}
+use Rattle.wasmi_meter.specs.declared.quota.Quota as quotas
+use Rattle.wasmi_meter.specs.Limiter.{Rules, unlimited_rules, optional_rules}
+use Rattle.wasmi_meter.specs.Holdings.{Holdings}
+use Rattle.wasmi_meter.specs.Quota.{holdings, quota_rules}
+use Rattle.wasmi_core.specs.declared.calls.Call.{Call}
+use Rattle.wasmi_core.specs.declared.calls.Call.TheVariants.{Write, NewSegment}
+use Rattle.wasmi_core.specs.declared.calls.Reply.{Reply}
+use Rattle.wasmi_core.specs.declared.calls.Reply.TheVariants.{Made}
+use Rattle.wasmi_core.specs.State.{State, new_state}
+use Rattle.wasmi_core.specs.World.{World, Turn}
+use Rattle.wasmi_core.specs.Steps.{Effect, Told, BytesRead, FuelSet, Changed, MemoryMade, LentMemoryMade, MemoryGrown}
+use Rattle.wasmi_core.specs.Steps.{TableMade}
+use Rattle.wasmi_core.specs.Steps.{TableGrown, PartWritten, effect_of, TakesEffect, Step}
+use Rattle.wasmi_core.specs.Runs.{Run, IsRunOf}
+use Rattle.wasmi_core.specs.Determinism.{IsDeterministic, HeedsAll, HasMemory}
+use Rattle.wasmi_core.proofs.DeterminismLemmas.{unlimited_once, quota_once}
+use Rattle.wasmi_core.proofs.ToldLemmas.{replies_are_one, unlimited_heeds, quota_heeds}
+use Rattle.wasmi_budget.specs.Pool.{PoolValue, RunsTenant, tenant_at}
+use Rattle.wasmi_budget.specs.Tenant.{tenant_rules}
+use Rattle.wasmi_script.specs.declared.error.ReplayError.TheVariants.{BadCommand, TooLong, OutOfMemory, ReadFault}
+use Rattle.wasmi_script.specs.declared.replaying.Ran.{Ran}
+use Rattle.wasmi_script.specs.declared.replaying.Held.TheVariants as holding
+use Rattle.wasmi_script.specs.declared.script.Part.{Part}
+use Rattle.wasmi_script.specs.declared.script.Script.{Script}
+use Rattle.wasmi_script.specs.declared.script.header.Header.{Header}
+use Rattle.wasmi_script.specs.declared.script.header.LimiterLine.{LimiterLine}
+use Rattle.wasmi_script.specs.declared.script.header.MeterLine.{MeterLine}
+use Rattle.wasmi_script.specs.declared.script.header.LimiterLine.TheVariants.{Quota, Answers, Tenants}
+use Rattle.wasmi_script.specs.Headers.{meter_said, meter_off, meter_of, region_bytes, start_of}
+use Rattle.wasmi_script.specs.Printing.{line}
+use Rattle.wasmi_script.specs.Texts.{kind_text, reply_text, error_text}
+use Rattle.wasmi_script.specs.Replays.{IsNewQuota, printed_holdings, IsReplayUnder, IsReplayBy, IsReplayOf}
+use Rattle.wasmi_script.specs.Replays.{AnswersParts, new_pool}
+use Rattle.wasmi_script.specs.Outcomes.{calls_of, replies_text, held_text}
+use Rattle.wasmi_script.specs.Sayings.{CallSaid, WriteSaid, SegmentSaid, OtherCall, call_said, limiter_said, PartSaid}
+use Rattle.wasmi_script.specs.Sayings.{part_said}
+use Rattle.wasmi_script.specs.Sayings.{ScriptSaid, SayTheSame}
+use Rattle.wasmi_script.specs.Decided.{HasNoAnswers, OutcomesAreOne}
+use Rattle.wasmi_script.proofs.OutcomesLemmas.{calls_in}
+use Rattle.wasmi_script.proofs.OneScriptLemmas.{texts_once, bad_lines_once, no_bad_line}
+
+-- a call by what it says
+abbrev Says : CallSaid → Call → Type 0
+Says (WriteSaid memory offset bytes) call = (v : Vec ℕ _) × (call ≡ Write memory offset v) × (v.items ≡ bytes)
+Says (SegmentSaid ty items) call = (v : Vec ℕ _) × (call ≡ NewSegment ty v) × (v.items ≡ items)
+Says (OtherCall other) call = call ≡ other
+
+says : (call : Call) → Says (call_said call) call
+says (Write memory offset bytes) = (bytes, refl, refl)
+says (NewSegment ty items) = (items, refl, refl)
+says call = refl
+
+-- calls that say the same have the same effect, and make the same kind of thing
+same_effect : (s : State) (call call' : Call) → Says (call_said call) call' → effect_of s call' ≡ effect_of s call
+same_effect s (Write memory offset bytes) call' (v, is, items) = ap (effect_of s) is ∙ rw items refl
+same_effect s (NewSegment ty items) call' (v, is, same) = ap (effect_of s) is ∙ rw same refl
+same_effect s call call' is = ap (effect_of s) is
+
+pub same_kind : (call call' : Call) → Says (call_said call) call' → kind_text call' ≡ kind_text call
+same_kind (Write memory offset bytes) call' (v, is, items) = ap kind_text is
+same_kind (NewSegment ty items) call' (v, is, same) = ap kind_text is
+same_kind call call' is = ap kind_text is
+
+-- so scripts that say the same have calls that do, all in all
+calls_said : (parts : List Part) → map call_said (calls_in parts) ≡ flat_map PartSaid.calls (map part_said parts)
+calls_said [] = refl
+calls_said (part ∷ parts) =
+    map-append call_said part.calls.items (calls_in parts)
+    ∙ ap (λ later. map call_said part.calls.items ++ later) (calls_said parts)
+
+all_said : (script script' : Script) → SayTheSame script script'
+    → map call_said (calls_of script) ≡ map call_said (calls_of script')
+all_said script script' same =
+    split script
+    ∙ ap (λ s. flat_map PartSaid.calls s.earlier ++ s.calls) same
+    ∙ sym (split script')
+  where
+    split : (s : Script)
+        → map call_said (calls_of s) ≡ flat_map PartSaid.calls
+        (map part_said s.earlier.items) ++ map call_said s.calls.items
+    split s =
+        map-append call_said (calls_in s.earlier.items) s.calls.items
+        ∙ ap (λ earlier. earlier ++ map call_said s.calls.items) (calls_said s.earlier.items)
+
+-- and the same replies to them the same text
+reply_same : (call call' : Call) (reply : Reply) → kind_text call' ≡ kind_text call
+    → reply_text call' reply ≡ reply_text call reply
+reply_same call call' (Made index) same = ap (λ kind. kind ++ (codes " " ++ decimal index)) same
+reply_same call call' reply same = refl
+
+replies_same : (calls calls' : List Call) (replies : List Reply) → map call_said calls ≡ map call_said calls'
+    → replies_text calls replies ≡ replies_text calls' replies
+replies_same [] [] replies same = refl
+replies_same [] (call' ∷ calls') replies same = absurd cc
+replies_same (call ∷ calls) [] replies same = absurd cc
+replies_same (call ∷ calls) (call' ∷ calls') [] same = refl
+replies_same (call ∷ calls) (call' ∷ calls') (reply ∷ replies) same =
+    let here : call_said call ≡ call_said call' = cc in
+    let later : map call_said calls ≡ map call_said calls' = cc in
+    let kind = same_kind call call' (subst (λ said. Says said call') (sym here) (says call')) in
+    λ i. line (sym (reply_same call call' reply kind) i) ++ replies_same calls calls' replies later i
+
+-- a turn by a call that says the same
+module _ {S : Type 0} (rules : Rules S) where
+  abbrev by_call : Turn → Call → Turn
+  by_call turn other = record { call = other; reply = turn.reply; charge = turn.charge; written = turn.written }
+
+  retold_effect : (w : World S) (turn : Turn) (w' : World S) (other : Call) (effect : Effect)
+      → TakesEffect rules effect w turn w' → TakesEffect rules effect w (by_call turn other) w'
+  retold_effect w turn w' other (Told reply) step =
+      record { free = step.free; row = step.row; after = step.after }
+  retold_effect w turn w' other (BytesRead k offset len) step =
+      record { free = step.free; row = step.row; after = step.after }
+  retold_effect w turn w' other (FuelSet fuel) step =
+      record { free = step.free; machine = step.machine; row = step.row; after = step.after }
+  retold_effect w turn w' other (Changed change) step =
+      record { free = step.free; machine = step.machine; row = step.row; after = step.after }
+  retold_effect w turn w' other (MemoryMade ty) step =
+      record { free = step.free; part = step.part; limiter = step.limiter; row = step.row; after = step.after }
+  retold_effect w turn w' other (LentMemoryMade ty) step =
+      record { free = step.free; part = step.part; limiter = step.limiter; row = step.row; after = step.after }
+  retold_effect w turn w' other (TableMade ty init) step =
+      record { free = step.free; part = step.part; limiter = step.limiter; row = step.row; after = step.after }
+  retold_effect w turn w' other (MemoryGrown k pages) step =
+      record {
+        part = step.part;
+        meter = step.meter;
+        limiter = step.limiter;
+        row = step.row;
+        wrote =
+            step.wrote;
+        after = step.after;
+      }
+  retold_effect w turn w' other (TableGrown k n init) step =
+      record {
+        part = step.part;
+        meter = step.meter;
+        limiter = step.limiter;
+        row = step.row;
+        wrote =
+            step.wrote;
+        after = step.after;
+      }
+  retold_effect w turn w' other (PartWritten k source dst len) step =
+      record { part = step.part; meter = step.meter; row = step.row; wrote = step.wrote; after = step.after }
+
+  retold_step : (w : World S) (turn : Turn) (w' : World S) (other : Call) → call_said other ≡ call_said turn.call
+      → Step rules w turn w'
+      → Step rules w (by_call turn other) w'
+  retold_step w turn w' other same step =
+      let effect = same_effect w.state other turn.call
+      (subst (λ said. Says said turn.call) (sym same) (says turn.call)) in
+      subst (λ e. TakesEffect rules e w (by_call turn other) w') effect
+      (retold_effect w turn w' other (effect_of w.state turn.call) step)
+
+  retold_run : (turns : List Turn) (calls : List Call) (w w' : World S)
+      → map call_said calls ≡ map call_said (map Turn.call turns) → Run rules w turns w'
+      → (retold : List Turn) × (map Turn.call retold ≡ calls) ×
+      (map Turn.reply retold ≡ map Turn.reply turns) × Run rules w retold w'
+  retold_run [] [] w w' same ran = ([], refl, refl, ran)
+  retold_run [] (call ∷ calls) w w' same ran = absurd cc
+  retold_run (turn ∷ turns) [] w w' same ran = absurd cc
+  retold_run (turn ∷ turns) (call ∷ calls) w w' same (v, step, ran) =
+      let here : call_said call ≡ call_said turn.call = cc in
+      let later : map call_said calls ≡ map call_said (map Turn.call turns) = cc in
+      let rest = retold_run turns calls v w' later ran in (
+        by_call turn call ∷ rest.0,
+        ap (λ cs. call ∷ cs) rest.1,
+        ap (λ rs. turn.reply ∷ rs) rest.2,
+        (v, retold_step w turn v call here step, rest.3),
+      )
+
+  -- a run of calls is one of others that say the same
+  retold : (calls calls' : List Call) (w w' : World S) (replies : List Reply)
+      → map call_said calls ≡ map call_said calls'
+      → IsRunOf rules calls' w replies w' → IsRunOf rules calls w replies w'
+  retold calls calls' w w' replies same (turns, called, replied, ran) =
+      let again = retold_run turns calls w w' (same ∙ ap (map call_said) (sym called)) ran in
+      (again.0, again.1, again.2 ∙ replied, again.3)
+
+-- the replies of both tell of no want of memory
+abbrev HaveBoth : List Reply → List Reply → Type 0
+HaveBoth replies replies' = All HasMemory replies × All HasMemory replies'
+
+-- two runs of calls that say the same, from one machine under one limiter that leaves no choice and heeds each notice
+module _ {L : Type 0} (rules : Rules L) (once : IsDeterministic rules) (heeds : HeedsAll rules) where
+  run_once : (calls calls' : List Call) (w v v' : World (Option L)) (replies replies' : List Reply)
+      → map call_said calls ≡ map call_said calls'
+      → IsRunOf (optional_rules rules) calls w replies v → IsRunOf (optional_rules rules) calls' w replies' v'
+      → HaveBoth replies replies' → (replies ≡ replies') × (v ≡ v')
+  run_once calls calls' w v v' replies replies' same ran ran' has =
+      replies_are_one rules heeds once calls w replies replies' v v' has.0 has.1 ran
+      (retold (optional_rules rules) calls calls' w v' replies' same ran')
+
+-- scripts that say the same start with the same machine
+starts_same : (header header' : Header) → header.meter ≡ header'.meter → header.region ≡ header'.region
+    → start_of header ≡ start_of header'
+starts_same header header' meter region =
+    λ i. record (new_state (option_map_or meter_said (meter i) meter_off))
+    { spare = option_map region_bytes (region i) }
+
+-- two quotas of a line that hold nothing are one
+new_quotas : (asked : _) (quota quota' : quotas.Quota) → IsNewQuota asked quota → IsNewQuota asked quota'
+    → quota ≡ quota'
+new_quotas asked quota quota' new new' =
+    let held : holdings quota ≡ holdings quota' = new.nothing ∙ sym new'.nothing in
+    λ i. record {
+      bytes = (new.bytes ∙ sym new'.bytes) i;
+      elements = (new.elements ∙ sym new'.elements) i;
+      held_bytes = ap (λ (h : Holdings). h.bytes) held i;
+      held_elements = ap (λ (h : Holdings). h.elements) held i;
+      last = ap (λ (h : Holdings). h.last) held i;
+    }
+
+-- two runs have the same replies, and what is held then has the same text
+record SameRan (ran ran' : Ran) : Type 0 where
+  pub replies : ran.replies.items ≡ ran'.replies.items
+  pub held : held_text ran.held ≡ held_text ran'.held
+
+-- so it is without a limiter and under a quota
+under_once : (limiter : Option LimiterLine) (start : State) (calls calls' : List Call) (ran ran' : Ran)
+    → HasNoAnswers limiter
+    → map call_said calls ≡ map call_said calls' → IsReplayUnder limiter start calls ran
+    → IsReplayUnder limiter start calls' ran'
+    → HaveBoth ran.replies.items ran'.replies.items → SameRan ran ran'
+under_once None start calls calls' ran ran' none same (held, after, run) (held', after', run') has = record {
+  replies = (run_once unlimited_rules unlimited_once unlimited_heeds calls calls' _ after after' ran.replies.items
+      ran'.replies.items same run run' has).0;
+  held = ap held_text (held ∙ sym held');
+}
+under_once (Some (Quota asked)) start calls calls' ran ran' none same (quota, new, end, after, run, totals, held)
+    (quota', new', end', after', run', totals', held') has =
+    let again = subst (λ (q : quotas.Quota). IsRunOf (optional_rules quota_rules) calls'
+    (record { state = start; limiter = Some q })
+    ran'.replies.items (record { state = end'; limiter = Some after' }))
+    (sym (new_quotas asked quota quota' new new')) run' in
+    let one = run_once quota_rules quota_once quota_heeds calls calls' _ _ _ ran.replies.items ran'.replies.items same
+    run again has in
+    let limiters : Some after ≡ Some after' = ap (λ (w : World (Option quotas.Quota)). w.limiter) one.1 in
+    let afters : after ≡ after' = cc in
+    record {
+      replies = one.0;
+      held =
+          ap held_text (held ∙ ap (λ q. holding.Quota (printed_holdings q)) afters ∙ sym held');
+    }
+under_once (Some (Answers words)) start calls calls' ran ran' none same replay replay' has = absurd none
+under_once (Some (Tenants asked)) start calls calls' ran ran' none same replay replay' has = absurd replay
+
+-- what all items have, the earlier ones have and the later ones
+module _ {X : Type 0} (P : X → Type 0) where
+  earlier_have : (xs ys : List X) → All P (xs ++ ys) → All P xs
+  earlier_have [] ys all = All-nil P
+  earlier_have (x ∷ xs) ys all =
+      All-cons P x xs (All-head P x (xs ++ ys) all) (earlier_have xs ys (All-tail P x (xs ++ ys) all))
+
+  later_have : (xs ys : List X) → All P (xs ++ ys) → All P ys
+  later_have [] ys all = all
+  later_have (x ∷ xs) ys all = later_have xs ys (All-tail P x (xs ++ ys) all)
+
+-- the replies before some parts stand before those after them
+before_parts : (parts : List Part) (pool pool' : PoolValue) (replies replies' : List Reply)
+    → AnswersParts pool parts replies replies' pool'
+    → All HasMemory replies' → All HasMemory replies
+before_parts [] pool pool' replies replies' is has = subst (All HasMemory) is.0 has
+before_parts (part ∷ parts) pool pool' replies replies' (between, middle, (answered, is, ran), later) has =
+    earlier_have HasMemory replies answered
+    (subst (All HasMemory) is (before_parts parts middle pool' between replies' later has))
+
+-- the runs of tenants, one after the other
+module _ (once : IsDeterministic tenant_rules) where
+  tenant_once : (pool middle middle' : PoolValue) (tenant : ℕ) (calls calls' : List Call)
+      (replies replies' : List Reply) → map call_said calls ≡ map call_said calls'
+      → RunsTenant pool tenant calls replies middle → RunsTenant pool tenant calls' replies' middle'
+      → HaveBoth replies replies'
+      → (replies ≡ replies') × (middle ≡ middle')
+  tenant_once pool middle middle' tenant calls calls' replies replies' same ran ran' has =
+      let found : Some ran'.machine ≡ Some ran.machine = sym ran'.found ∙ ran.found in
+      let machine : ran'.machine ≡ ran.machine = cc in
+      let again = subst (λ (s : State). IsRunOf (optional_rules tenant_rules) calls'
+      (record { state = s; limiter = Some (tenant_at pool tenant s) })
+      replies' (record { state = ran'.machine'; limiter = Some ran'.tenant' })) machine ran'.ran in
+      let one = run_once tenant_rules once
+      (λ l failure heed l' noticed. noticed.0) calls calls' _ _ _ replies replies' same ran.ran again has in (
+        one.0,
+        ran.after ∙ (λ i. record pool { machines = slice_set pool.machines tenant (one.1 i).state })
+            ∙ sym ran'.after,
+      )
+
+  parts_once : (parts parts' : List Part) (pool last last' : PoolValue) (replies given given' : List Reply)
+      → map part_said parts ≡ map part_said parts'
+      → AnswersParts pool parts replies given last → AnswersParts pool parts' replies given' last'
+      → HaveBoth given given'
+      → (given ≡ given') × (last ≡ last')
+  parts_once [] [] pool last last' replies given given' same is is' has = (is.0 ∙ sym is'.0, is.1 ∙ sym is'.1)
+  parts_once [] (part' ∷ parts') pool last last' replies given given' same is is' has = absurd cc
+  parts_once (part ∷ parts) [] pool last last' replies given given' same is is' has = absurd cc
+  parts_once (part ∷ parts) (part' ∷ parts') pool last last' replies given given' same
+      (between, middle, (answered, is, ran), later) (between', middle', (answered', is', ran'), later') has =
+      let here : part_said part ≡ part_said part' = cc in
+      let rest : map part_said parts ≡ map part_said parts' = cc in
+      let tenant = ap PartSaid.tenant here in
+      let now = subst (All HasMemory) is (before_parts parts middle last between given later has.0) in
+      let now' = subst (All HasMemory) is' (before_parts parts' middle' last' between' given' later' has.1) in
+      let one = tenant_once pool middle middle' part.tenant part.calls.items part'.calls.items answered answered'
+      (ap PartSaid.calls here) ran
+      (subst (λ k. RunsTenant pool k part'.calls.items answered' middle') (sym tenant) ran')
+      (later_have HasMemory replies answered now, later_have HasMemory replies answered' now') in
+      let joined : between' ≡ between = is' ∙ ap (λ a. replies ++ a) (sym one.0) ∙ sym is in
+      let again = subst (λ b. AnswersParts middle parts' b given' last') joined
+      (subst (λ (p : PoolValue). AnswersParts p parts' between' given' last') (sym one.1) later') in
+      parts_once parts parts' middle last last' between given given' rest later again has
+
+  -- replays of scripts that say the same, by the limiter line
+  by_once : (limiter : Option LimiterLine) (script script' : Script) (ran ran' : Ran) → HasNoAnswers limiter
+      → SayTheSame script script'
+      → IsReplayBy limiter script ran → IsReplayBy limiter script' ran' → HaveBoth ran.replies.items ran'.replies.items
+      → SameRan ran ran'
+  by_once limiter script script' ran ran' none same replay replay' has = by limiter none replay replay' where
+    start : start_of script.header ≡ start_of script'.header
+    start = starts_same script.header script'.header (ap ScriptSaid.meter same) (ap ScriptSaid.region same)
+
+    alone : (l : Option LimiterLine) → HasNoAnswers l → IsReplayUnder l (start_of script.header) script.calls.items ran
+        → IsReplayUnder l (start_of script'.header) script'.calls.items ran' → SameRan ran ran'
+    alone l none replay replay' =
+        under_once l (start_of script.header) script.calls.items script'.calls.items ran ran' none
+        (ap ScriptSaid.calls same) replay
+        (subst (λ (s : State). IsReplayUnder l s script'.calls.items ran') (sym start) replay') has
+
+    by : (l : Option LimiterLine) → HasNoAnswers l → IsReplayBy l script ran → IsReplayBy l script' ran'
+        → SameRan ran ran'
+    by None none replay replay' = alone None none replay replay'
+    by (Some (Quota asked)) none replay replay' = alone (Some (Quota asked)) none replay replay'
+    by (Some (Answers words)) none replay replay' = absurd none
+    by (Some (Tenants asked)) none (pool, held, answers) (pool', held', answers') =
+        let part : Part = record { tenant = script.tenant; calls = script.calls } in
+        let part' : Part = record { tenant = script'.tenant; calls = script'.calls } in
+        let parts : map part_said (script.earlier.items ++ part ∷ []) ≡ map part_said
+        (script'.earlier.items ++ part' ∷ []) =
+        map-append part_said script.earlier.items (part ∷ [])
+        ∙ ap (λ s. s.earlier ++ record { tenant = s.tenant; calls = s.calls } ∷ []) same
+        ∙ sym (map-append part_said script'.earlier.items (part' ∷ [])) in
+        let meters : meter_of script'.header ≡ meter_of script.header =
+        ap (λ (m : Option MeterLine). option_map_or meter_said m meter_off) (ap ScriptSaid.meter (sym same)) in
+        let again = subst (λ m. AnswersParts (new_pool asked (new_state m))
+        (script'.earlier.items ++ part' ∷ []) [] ran'.replies.items pool') meters answers' in
+        let one = parts_once (script.earlier.items ++ part ∷ [])
+        (script'.earlier.items ++ part' ∷ []) _ pool pool' [] ran.replies.items ran'.replies.items parts answers
+        again has in
+        record { replies = one.0; held = ap held_text (held ∙ ap holding.Tenants one.1 ∙ sym held') }
+
+  -- limiter lines but `answers` say all that they are
+  same_line : (limiter limiter' : Option LimiterLine) → HasNoAnswers limiter
+      → option_map limiter_said limiter ≡ option_map limiter_said limiter' → limiter ≡ limiter'
+  same_line None None none same = refl
+  same_line None (Some asked) none same = absurd cc
+  same_line (Some (Answers words)) limiter' none same = absurd none
+  same_line (Some (Quota asked)) None none same = absurd cc
+  same_line (Some (Quota asked)) (Some (Quota asked')) none same = cc
+  same_line (Some (Quota asked)) (Some (Answers words)) none same = absurd cc
+  same_line (Some (Quota asked)) (Some (Tenants asked')) none same = absurd cc
+  same_line (Some (Tenants asked)) None none same = absurd cc
+  same_line (Some (Tenants asked)) (Some (Quota asked')) none same = absurd cc
+  same_line (Some (Tenants asked)) (Some (Answers words)) none same = absurd cc
+  same_line (Some (Tenants asked)) (Some (Tenants asked')) none same = cc
+
+  replays_once : (script script' : Script) (ran ran' : Ran) → HasNoAnswers script.header.limiter
+      → SayTheSame script script'
+      → IsReplayOf script ran → IsReplayOf script' ran' → HaveBoth ran.replies.items ran'.replies.items
+      → SameRan ran ran'
+  replays_once script script' ran ran' none same replay replay' has =
+      let limiters = same_line script.header.limiter script'.header.limiter none (ap ScriptSaid.limiter same) in
+      by_once script.header.limiter script script' ran ran' none same replay
+      (subst (λ l. IsReplayBy l script' ran') (sym limiters) replay') has
+
+  pub outcomes_once : OutcomesAreOne
+  outcomes_once bytes (Ok a) (Ok b) (short, writes, replay) (short', writes', replay') (has, none) (has', none') =
+      let same = texts_once bytes a.script b.script writes writes' in
+      let ran = replays_once a.script b.script a.ran b.ran none same replay replay' (has, has') in
+      record {
+        text = ap (λ t. t ++ held_text a.ran.held)
+            (replies_same (calls_of a.script) (calls_of b.script) a.ran.replies.items (all_said a.script b.script same))
+            ∙ (λ i. replies_text (calls_of b.script) (ran.replies i) ++ ran.held i);
+        status = refl;
+      }
+  outcomes_once bytes (Ok a) (Err (BadCommand number)) is is' decided decided' =
+      absurd (no_bad_line bytes a.script number is.1 is'.1)
+  outcomes_once bytes (Ok a) (Err TooLong) is is' decided decided' = absurd (omega (arith, is.0, is'))
+  outcomes_once bytes (Err (BadCommand number)) (Ok b) is is' decided decided' =
+      absurd (no_bad_line bytes b.script number is'.1 is.1)
+  outcomes_once bytes (Err (BadCommand number)) (Err (BadCommand number')) is is' decided decided' =
+      let same = bad_lines_once bytes number number' is.1 is'.1 in
+      record { text = ap (λ n. line (error_text (BadCommand n))) same; status = refl }
+  outcomes_once bytes (Err (BadCommand number)) (Err TooLong) is is' decided decided' =
+      absurd (omega (arith, is.0, is'))
+  outcomes_once bytes (Err TooLong) (Ok b) is is' decided decided' = absurd (omega (arith, is'.0, is))
+  outcomes_once bytes (Err TooLong) (Err (BadCommand number)) is is' decided decided' =
+      absurd (omega (arith, is'.0, is))
+  outcomes_once bytes (Err TooLong) (Err TooLong) is is' decided decided' = record { text = refl; status = refl }
+  outcomes_once bytes (Err OutOfMemory) outcome' is is' decided decided' = absurd decided
+  outcomes_once bytes (Err ReadFault) outcome' is is' decided decided' = absurd decided
+  outcomes_once bytes outcome (Err OutOfMemory) is is' decided decided' = absurd decided'
+  outcomes_once bytes outcome (Err ReadFault) is is' decided decided' = absurd decided'

@@ -1,0 +1,31 @@
+-- Outcomes that the bytes of a reader decide.
+use Rattle.std.specs.Prelude.{◌≡◌, ⊤, ℕ, List, All, Option, Some, Ok, Err}
+use Rattle.wasmi_core.specs.Determinism.{HasMemory}
+use Rattle.wasmi_script.specs.declared.error.ReplayError.TheVariants.{OutOfMemory, ReadFault}
+use Rattle.wasmi_script.specs.declared.script.header.LimiterLine.{LimiterLine}
+use Rattle.wasmi_script.specs.declared.script.header.LimiterLine.TheVariants.{Answers}
+use Rattle.wasmi_script.specs.Outcomes.{Outcome, IsOutcomeOf, outcome_text}
+use Rattle.wasmi_script.specs.Status.{status_after}
+
+-- there is no `answers` line
+abbrev pub HasNoAnswers : Option LimiterLine → Type 0
+HasNoAnswers (Some (Answers words)) = ⊥
+HasNoAnswers limiter = ⊤
+
+-- Memory isn't wanting and the reader doesn't fail: no reply tells of want of memory, and without an `answers` line no
+-- notice of it is answered by another error.
+abbrev pub IsDecided : Outcome → Type 0
+IsDecided (Ok replayed) = All HasMemory replayed.ran.replies.items × HasNoAnswers replayed.script.header.limiter
+IsDecided (Err OutOfMemory) = ⊥
+IsDecided (Err ReadFault) = ⊥
+IsDecided (Err error) = ⊤
+
+-- two outcomes print the same text and end in the same way
+pub record EndAlike (outcome outcome' : Outcome) : Type 0 where
+  pub text : outcome_text outcome ≡ outcome_text outcome'
+  pub status : status_after outcome ≡ status_after outcome'
+
+-- two outcomes of the same bytes that these decide end alike
+abbrev pub OutcomesAreOne : Type 0
+OutcomesAreOne = (bytes : List ℕ) (outcome outcome' : Outcome) → IsOutcomeOf bytes outcome → IsOutcomeOf bytes outcome'
+    → IsDecided outcome → IsDecided outcome' → EndAlike outcome outcome'
