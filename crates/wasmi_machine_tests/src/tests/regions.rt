@@ -41,3 +41,17 @@ static TOO_SHORT: [Step; 2] = [
 fn a_refused_creation_spends_the_region(rt: HostRuntime) -> Result<(), Fail> {
     finds(&rt, &TOO_SHORT, [7; 10])
 }
+
+static DROPPED: [Step; 3] = [
+    (CallRow::NewLentBytes(2), ReplyRow::Made(0)),
+    (
+        CallRow::Memory(0, MemoryRow::Write(0, &[1, 2])),
+        ReplyRow::Done,
+    ),
+    (CallRow::Memory(0, MemoryRow::Drop), ReplyRow::Done),
+];
+
+#[test]
+fn a_dropped_memory_leaves_its_bytes(rt: HostRuntime) -> Result<(), Fail> {
+    finds(&rt, &DROPPED, [1, 2, 7, 7, 7, 7, 7, 7, 7, 7])
+}
