@@ -36,7 +36,7 @@ module _ {S T : Type 0} (image : S → T) where
   abbrev moved : {V : Type 0} → Situation V S → Situation V T
   moved s = record { value = s.value; meter = s.meter; limiter = image s.limiter }
 
-  module _ (rules : Rules S) (rules' : Rules T) (carries : Carries image rules rules') where
+  module _ {rules : Rules S} {rules' : Rules T} (carries : Carries image rules rules') where
     module _ {V E : Type 0} (e : Effort V E) where
       follows_too : (fate : Fate E) (l l' : S) → Follows e rules l fate l' → Follows e rules' (image l) fate (image l')
       follows_too (Unasked cause) l l' same = ap image same
@@ -176,9 +176,13 @@ module _ {S T : Type 0} (image : S → T) where
       effect_carried effect step =
           record { free = step.free; machine = step.machine; row = step.row; after = ap (carried image) step.after }
 
-    -- a run under the first is one under the second, with the same turns and machines
-    pub runs_too : (w : World S) (turns : List Turn) (w' : World S) → Run rules w turns w'
-        → Run rules' (carried image w) turns (carried image w')
-    runs_too w [] w' ran = ap (carried image) ran
-    runs_too w (turn ∷ turns) w' (v, step, ran) =
-        (carried image v, effect_carried w turn v (effect_of w.state turn.call) step, runs_too v turns w' ran)
+-- a run under the first is one under the second, with the same turns and machines
+pub runs_too : {S T : Type 0} (image : S → T) (rules : Rules S) (rules' : Rules T) → Carries image rules rules'
+    → (w : World S) (turns : List Turn) (w' : World S) → Run rules w turns w'
+    → Run rules' (carried image w) turns (carried image w')
+runs_too image rules rules' carries w [] w' ran = ap (carried image) ran
+runs_too image rules rules' carries w (turn ∷ turns) w' (v, step, ran) = (
+  carried image v,
+  effect_carried image carries w turn v (effect_of w.state turn.call) step,
+  runs_too image rules rules' carries v turns w' ran,
+)

@@ -5,12 +5,12 @@ use Rattle.std.proofs.lemmas.Option.{none-some, same_Some}
 use Rattle.std.specs.Option.{option_map}
 use Rattle.std.specs.Prelude.{MatchBool}
 use Rattle.wasmi_core.proofs.MemoryRowsLemmas.{reads_same}
-use Rattle.wasmi_core.proofs.RowLemmas.{acts_same, creates_same, on_both}
+use Rattle.wasmi_core.proofs.RowLemmas.{Outcome, acts_same, creates_same, on_both}
 use Rattle.wasmi_core.proofs.StepsLemmas.{change_facts}
 use Rattle.wasmi_core.proofs.TableRowsLemmas.{table_copies_same}
 use Rattle.wasmi_core.specs.Determinism.{HasMemory, HaveMemory, IsDeterministic, IsNoWant, with_memory}
 use Rattle.wasmi_core.specs.MemoryRows.{CreatesLent, bytes_appended, spare_after}
-use Rattle.wasmi_core.specs.Rows.{reply_of}
+use Rattle.wasmi_core.specs.Rows.{Creates, reply_of}
 use Rattle.wasmi_core.specs.Runs.{Run}
 use Rattle.wasmi_core.specs.State.{MemoryPart, State, live_at, memory_part, with_memories, with_memory_part, with_tables}
 use Rattle.wasmi_core.specs.Steps.{BytesRead, Changed, Effect, FuelSet, LentMemoryMade, MemoryGrown, MemoryMade, PartWritten, TableGrown, TableMade, TakesEffect, Told, effect_of}
@@ -18,6 +18,7 @@ use Rattle.wasmi_core.specs.TableRows.{element_bytes, write_of}
 use Rattle.wasmi_core.specs.World.{IsFree, Turn, World}
 use Rattle.wasmi_core.specs.declared.calls.Call.{Call}
 use Rattle.wasmi_core.specs.declared.calls.Reply.{Reply}
+use Rattle.wasmi_core.specs.declared.slots.Slot.{Slot}
 use Rattle.wasmi_meter.specs.Attempt.{Attempt, Denied, Effort, Failed, Fate, Follows, IsFirstCause, MayEnd, Met, Situation, Unasked, alone, amount_due, answer_of, can_pay, charge_of, value_after}
 use Rattle.wasmi_meter.specs.Holdings.{Holdings, amount_held}
 use Rattle.wasmi_meter.specs.Limiter.{Answer, Failure, Heed, IsDenial, MemoryFailure, Question, Rules, TableFailure, optional_rules, unlimited_rules}
@@ -29,28 +30,33 @@ use Rattle.wasmi_meter.specs.declared.quota.Quota.{Quota}
 use Rattle.wasmi_store.proofs.GrowthLemmas.{on_test}
 use Rattle.wasmi_store.specs.Buffer.{LacksMemory, Lent, Owned, Room}
 use Rattle.wasmi_store.specs.Growth.{Grows, Growth, Makes}
-use Rattle.wasmi_store.specs.Memory.{GrowsMemory, MakesMemory, new_memory, pages_of}
+use Rattle.wasmi_store.specs.Memory.{GrowsMemory, MakesMemory, MemoryValue, new_memory, pages_of}
 use Rattle.wasmi_store.specs.MemoryType.{MemoryTypeValue}
 use Rattle.wasmi_store.specs.Table.{GrowsTable, MakesTable, TableValue, new_table, size_of}
 use Rattle.wasmi_store.specs.TableType.{same_type}
 use Rattle.wasmi_typed.specs.declared.typed_ref.TypedRawRef.{TypedRawRef}
+use Rattle.wasmi_types.specs.Access.{at}
 use Rattle.wasmi_store.specs.Memory as memory
 use Rattle.wasmi_core.specs.declared.calls.Reply.TheVariants as replied
 use Rattle.wasmi_store.specs.Table as table
 
-module _ {S : Type 0} (rules : Rules S) (once : IsDeterministic rules) where
+-- the last cause of an effort is want of memory
+record Wants {V E : Type 0} (e : Effort V E) : Type 0 where
+  wants : (cause : E) → e.refuses cause → IsNoWant (e.notice cause) → ⊥
+
+module _ {S : Type 0} {rules : Rules S} (once : IsDeterministic rules) where
   abbrev told : Rules S
   told = with_memory rules
 
-  module _ {V E : Type 0} (e : Effort V E) (wants : (cause : E) → e.refuses cause → IsNoWant (e.notice cause) → ⊥) where
+  module _ {V E : Type 0} {e : Effort V E} (want : Wants e) where
     module _ (m : Option Meter) where
       first_cause : (late : Option E) (cause cause' : E) → IsFirstCause e m late cause → IsNoWant (e.notice cause)
           → IsFirstCause e m late cause' → IsNoWant (e.notice cause') → cause ≡ cause'
       first_cause (Some c) cause cause' first other first' other' = first ∙ sym first'
       first_cause None cause cause' first other first' other' =
-          on_test (can_pay m (amount_due m e.price)) _ _ first (λ refuses. absurd (wants cause refuses other))
+          on_test (can_pay m (amount_due m e.price)) _ _ first (λ refuses. absurd (want.wants cause refuses other))
           (λ unpaid. on_test (can_pay m (amount_due m e.price)) _ _ first'
-          (λ refuses. absurd (wants cause' refuses other')) (λ unpaid'. unpaid ∙ sym unpaid'))
+          (λ refuses. absurd (want.wants cause' refuses other')) (λ unpaid'. unpaid ∙ sym unpaid'))
 
       refused_at : (late : Option E) (cause : E) → late ≡ None → can_pay m (amount_due m e.price) ≡ true
           → IsFirstCause e m late cause → e.refuses cause
@@ -81,9 +87,9 @@ module _ {S : Type 0} (rules : Rules S) (once : IsDeterministic rules) where
         same_fate (Failed d h) (Denied a) l' l'' may f may' f' = absurd (denied_met a l'' f.0 may'.1 f' f.1)
         same_fate Met Met l' l'' may f may' f' = (refl, (once.asked l e.question (Ok true) (Ok true) l' l'' f f').1)
         same_fate Met (Failed d h) l' l'' may f may' f' =
-            absurd (wants d (refused_at e.late d may.1 may.2 may'.1) f'.2.1)
+            absurd (want.wants d (refused_at e.late d may.1 may.2 may'.1) f'.2.1)
         same_fate (Failed d h) Met l' l'' may f may' f' =
-            absurd (wants d (refused_at e.late d may'.1 may'.2 may.1) f.2.1)
+            absurd (want.wants d (refused_at e.late d may'.1 may'.2 may.1) f.2.1)
         same_fate (Failed d h) (Failed d' h') l' l'' may f may' f' =
             let permitted = (once.asked l e.question (Ok true) (Ok true) f.0 f'.0 f.1 f'.1).1 in
             let cause = first_cause e.late d d' may.1 f.2.1 may'.1 f'.2.1 in
@@ -104,15 +110,15 @@ module _ {S : Type 0} (rules : Rules S) (once : IsDeterministic rules) where
         (same.0, charged, λ k. record { value = value k; meter = meter k; limiter = same.1 k })
 
   makes_same : {T E : Type 0} (e : Effort (Unit {0}) E)
-      → ((cause : E) → e.refuses cause → IsNoWant (e.notice cause) → ⊥)
+      → Wants e
       → (made : T) (l : S) (result result' : Result T E) (l' l'' : S) → Makes told e made l result l'
       → Makes told e made l result' l'' → (result ≡ result') × (l' ≡ l'')
   makes_same e wants made l result result' l' l'' (fate, a, answered) (fate', b, answered') =
-      let same = attempts_same e wants (alone l) (alone l') (alone l'') fate fate' 0 0 a b in
+      let same = attempts_same wants (alone l) (alone l') (alone l'') fate fate' 0 0 a b in
       (answered ∙ ap (answer_of e made) same.0 ∙ sym answered', ap (λ (s : Situation (Unit {0}) S). s.limiter) same.2)
 
   grows_same : {V E : Type 0} (g : Growth V E)
-      → ((cause : E) → g.effort.refuses cause → IsNoWant (g.effort.notice cause) → ⊥)
+      → Wants g.effort
       → (s : Situation V S) (result result' : Result ℕ E) (charge charge' : ℕ) (s' s'' : Situation V S)
       → Grows told g s result charge s' → Grows told g s result' charge' s''
       → (result ≡ result') × (charge ≡ charge') × (s' ≡ s'')
@@ -121,7 +127,7 @@ module _ {S : Type 0} (rules : Rules S) (once : IsDeterministic rules) where
   grows_same g wants s result result' charge charge' s' s'' (inl a) (inr b) = absurd (omega (arith, a.none, b.some))
   grows_same g wants s result result' charge charge' s' s'' (inr a) (inl b) = absurd (omega (arith, b.none, a.some))
   grows_same g wants s result result' charge charge' s' s'' (inr a) (inr b) =
-      let same = attempts_same g.effort wants s s' s'' a.fate b.fate charge charge' a.attempt b.attempt in
+      let same = attempts_same wants s s' s'' a.fate b.fate charge charge' a.attempt b.attempt in
       (a.answered ∙ ap (answer_of g.effort g.size) same.0 ∙ sym b.answered, same.1, same.2)
 
 -- what memory refuses, a limiter is told as want of memory
@@ -132,17 +138,31 @@ memory_wants (Lent rest) cause lacks other = lacks
 table_wants : (cause : TableError) → cause ≡ TableError.OutOfSystemMemory → IsNoWant (TableFailure cause) → ⊥
 table_wants cause lacks other = rw lacks at other
 
--- a creation in the spare region
-lent_same : {S : Type 0} (rules : Rules S) → IsDeterministic rules
-    → (ty : MemoryTypeValue) (part : MemoryPart) (l : S) (reply reply' : Reply) (part' part'' : MemoryPart)
-    (l' l'' : S) → HasMemory reply → HasMemory reply'
-    → CreatesLent (with_memory rules) ty part l reply part' l'
-    → CreatesLent (with_memory rules) ty part l reply' part'' l'' → (reply ≡ reply') × (part' ≡ part'') × (l' ≡ l'')
-lent_same rules once ty part l reply reply' part' part'' l' l'' room room' a b =
+-- a memory is made
+memory_same : {S : Type 0} {rules : Rules S} → IsDeterministic rules → (room : Room) (ty : MemoryTypeValue)
+    (slots : List (Slot MemoryValue)) (l : S) (o o' : Outcome (List (Slot MemoryValue)) S) → HasMemory o.reply
+    → HasMemory o'.reply
+    → Creates replied.Memory (MakesMemory (with_memory rules) room ty) slots l o.reply o.part o.limiter
+    → Creates replied.Memory (MakesMemory (with_memory rules) room ty) slots l o'.reply o'.part o'.limiter
+    → (o.reply ≡ o'.reply) × (o.part ≡ o'.part) × (o.limiter ≡ o'.limiter)
+memory_same {rules = rules} once room ty slots l o o' has has' a b =
+    creates_same replied.Memory (MakesMemory (with_memory rules) room ty)
+    (makes_same once (memory.creation_of room ty) (record { wants = memory_wants room }) (new_memory room ty))
+    slots l o o' has has' a b
+
+-- a memory is made in the spare region
+lent_same : {S : Type 0} {rules : Rules S} → IsDeterministic rules → (ty : MemoryTypeValue) (part : MemoryPart) (l : S)
+    (o o' : Outcome MemoryPart S) → HasMemory o.reply → HasMemory o'.reply
+    → CreatesLent (with_memory rules) ty part l o.reply o.part o.limiter
+    → CreatesLent (with_memory rules) ty part l o'.reply o'.part o'.limiter
+    → (o.reply ≡ o'.reply) × (o.part ≡ o'.part) × (o.limiter ≡ o'.limiter)
+lent_same once ty part l o o' has has' a b =
     on_both part.spare _ _ _ _ a b (λ h h'. (h.0 ∙ sym h'.0, h.1 ∙ sym h'.1, h.2 ∙ sym h'.2))
-    (λ region h h'. let same = creates_same replied.Memory (MakesMemory (with_memory rules) (Lent region) ty)
-    (makes_same rules once (memory.creation_of (Lent region) ty) (memory_wants (Lent region))
-    (new_memory (Lent region) ty)) part.slots l reply reply' part'.slots part''.slots l' l'' room room' h.0 h'.0 in
+    (λ region h h'.
+    let same = memory_same once (Lent region) ty part.slots l
+    (record { reply = o.reply; part = o.part.slots; limiter = o.limiter })
+    (record { reply = o'.reply; part = o'.part.slots; limiter = o'.limiter }) has has' h.0 h'.0
+    in
     let spare = h.1 ∙ ap (λ r. spare_after r part.spare) same.0 ∙ sym h'.1 in
     (same.0, λ i. record { slots = same.1 i; spare = spare i }, same.2))
 
@@ -217,12 +237,12 @@ module _ {S : Type 0} (w : World S) (t t' : Turn) (v v' : World S) where
                 ∙ sym is',
           )
 
-table_growth_same : {S : Type 0} (rules : Rules S) → IsDeterministic rules
+table_growth_same : {S : Type 0} {rules : Rules S} → IsDeterministic rules
     → (n : ℕ) (init : TypedRawRef) (s : Situation TableValue S) (result result' : Result ℕ TableError)
     (charge charge' : ℕ) (s' s'' : Situation TableValue S) → GrowsTable (with_memory rules) n init s result charge s'
     → GrowsTable (with_memory rules) n init s result' charge' s''
     → (result ≡ result') × (charge ≡ charge') × (s' ≡ s'')
-table_growth_same rules once n init s result result' charge charge' s' s'' a b =
+table_growth_same {rules = rules} once n init s result result' charge charge' s' s'' a b =
     by_type (same_type s.value.ty.element init.ty) a b
   where
     by_type : (same : Bool) → MatchBool same (table.GrowsTableRaw (with_memory rules) n init.raw s result charge
@@ -231,8 +251,9 @@ table_growth_same rules once n init s result result' charge charge' s' s'' a b =
         ((result' ≡ Err TableError.ElementTypeMismatch) × (charge' ≡ 0) × (s'' ≡ s))
         → (result ≡ result') × (charge ≡ charge') × (s' ≡ s'')
     by_type true h h' =
-        grows_same rules once
-        (record { amount = n; size = size_of s.value; effort = table.growth_of s.value n init.raw }) table_wants s
+        grows_same once
+        (record { amount = n; size = size_of s.value; effort = table.growth_of s.value n init.raw })
+        (record { wants = table_wants }) s
         result result' charge charge' s' s'' h h'
     by_type false h h' = (h.0 ∙ sym h'.0, h.1 ∙ sym h'.1, h.2 ∙ sym h'.2)
 
@@ -254,32 +275,36 @@ module _ {S : Type 0} (rules : Rules S) (once : IsDeterministic rules) (w : Worl
       step.after step'.after
   effect_same (MemoryMade ty) step step' =
       asked w t t' v v' (with_memories w.state) step.part step'.part step.limiter step'.limiter step.free step'.free
-      (creates_same replied.Memory (MakesMemory (with_memory rules) Owned ty)
-      (makes_same rules once (memory.creation_of Owned ty) (memory_wants Owned) (new_memory Owned ty))
-      w.state.memories w.limiter t.reply t'.reply step.part step'.part step.limiter step'.limiter room room' step.row
-      step'.row) step.after step'.after
+      (memory_same once Owned ty w.state.memories w.limiter
+      (record { reply = t.reply; part = step.part; limiter = step.limiter })
+      (record { reply = t'.reply; part = step'.part; limiter = step'.limiter }) room room' step.row step'.row)
+      step.after step'.after
   effect_same (LentMemoryMade ty) step step' =
       asked w t t' v v' (with_memory_part w.state) step.part step'.part step.limiter step'.limiter step.free step'.free
-      (lent_same rules once ty (memory_part w.state) w.limiter t.reply t'.reply step.part step'.part step.limiter
-      step'.limiter room room' step.row step'.row) step.after step'.after
+      (lent_same once ty (memory_part w.state) w.limiter
+      (record { reply = t.reply; part = step.part; limiter = step.limiter })
+      (record { reply = t'.reply; part = step'.part; limiter = step'.limiter }) room room' step.row step'.row)
+      step.after step'.after
   effect_same (MemoryGrown k pages) step step' =
       paid w t t' v v' (with_memories w.state) step.part step'.part step.meter step'.meter
       (bytes_appended (live_at w.state.memories k) pages) step.limiter step'.limiter
       (acts_same (GrowsMemory (with_memory rules) pages)
-      (λ s. grows_same rules once
+      (λ s. grows_same once
       (record { amount = pages; size = pages_of s.value; effort = memory.growth_of s.value pages })
-      (memory_wants s.value.room) s) k (reply_of replied.Number replied.Memory) _ t.reply t'.reply t.charge t'.charge
+      (record { wants = memory_wants s.value.room }) s) k (reply_of replied.Number replied.Memory) _ t.reply t'.reply
+      t.charge t'.charge
       _ _ step.row step'.row) step.wrote step'.wrote step.after step'.after
   effect_same (TableMade ty init) step step' =
       asked w t t' v v' (with_tables w.state) step.part step'.part step.limiter step'.limiter step.free step'.free
       (creates_same replied.Table (MakesTable (with_memory rules) ty init)
-      (makes_same rules once (table.creation_of ty init.ty) table_wants (new_table ty init.raw)) w.state.tables
-      w.limiter t.reply t'.reply step.part step'.part step.limiter step'.limiter room room' step.row step'.row)
+      (makes_same once (table.creation_of ty init.ty) (record { wants = table_wants }) (new_table ty init.raw))
+      w.state.tables w.limiter (record { reply = t.reply; part = step.part; limiter = step.limiter })
+      (record { reply = t'.reply; part = step'.part; limiter = step'.limiter }) room room' step.row step'.row)
       step.after step'.after
   effect_same (TableGrown k n init) step step' =
       paid w t t' v v' (with_tables w.state) step.part step'.part step.meter step'.meter (element_bytes n)
       step.limiter step'.limiter
-      (acts_same (GrowsTable (with_memory rules) n init) (table_growth_same rules once n init) k
+      (acts_same (GrowsTable (with_memory rules) n init) (table_growth_same once n init) k
       (reply_of replied.Number replied.Table) _ t.reply t'.reply t.charge t'.charge _ _ step.row step'.row) step.wrote
       step'.wrote step.after step'.after
   effect_same (PartWritten k source dst len) step step' =

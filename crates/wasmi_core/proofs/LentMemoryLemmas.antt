@@ -29,6 +29,7 @@ use Rattle.wasmi_meter.specs.declared.error.MemoryError.{MemoryError}
 use Rattle.wasmi_store.specs.Buffer.{LacksMemory, Lent, Owned, Room, has_place_for}
 use Rattle.wasmi_store.specs.Memory.{GrowsMemory, MakesMemory, MemoryValue, WritesMemory, new_memory, pages_of}
 use Rattle.wasmi_store.specs.MemoryType.{MemoryTypeValue, in_bounds, minimum_bytes, page_bytes}
+use Rattle.wasmi_types.specs.Access.{at}
 use Rattle.wasmi_vector_ops.specs.declared.access.LoadLaneOp.{LoadLaneOp}
 use Rattle.wasmi_vector_ops.specs.declared.access.VectorLoadOp.{VectorLoadOp}
 use Rattle.wasmi_store.specs.Memory as memory
@@ -480,11 +481,14 @@ creation_is_owned rules w turn w' ty region called spare fits step =
     }
 
 -- a growth of a lent memory that nothing but the limiter can refuse
+record IsFree (pages : ℕ) {S : Type 0} (s : Situation MemoryValue S) (rest : List ℕ) : Type 0 where
+  lent : s.value.room ≡ Lent rest
+  inside : in_bounds s.value.ty (pages_of s.value + pages) ≡ true
+  fits : has_place_for s.value.room (pages * page_bytes s.value.ty.page) ≡ true
+  payable : can_pay s.meter (amount_due s.meter (memory.growth_of s.value pages).price) ≡ true
+
 module _ {S : Type 0} (rules : Rules S) (pages : ℕ) (s : Situation MemoryValue S) (rest : List ℕ)
-    (lent : s.value.room ≡ Lent rest) (inside : in_bounds s.value.ty (pages_of s.value + pages) ≡ true)
-    (fits : has_place_for s.value.room (pages * page_bytes s.value.ty.page) ≡ true)
-    (payable : can_pay s.meter (amount_due s.meter (memory.growth_of s.value pages).price) ≡ true)
-    (result : Result ℕ MemoryError) (charge : ℕ) (s' : Situation MemoryValue S) where
+    (free : IsFree pages s rest) (result : Result ℕ MemoryError) (charge : ℕ) (s' : Situation MemoryValue S) where
   abbrev Succeeds : Type 0
   Succeeds =
       (result ≡ Ok (pages_of s.value)) ⊎ ((answer : Answer) × IsDenial answer × rules.asked s.limiter
@@ -497,9 +501,9 @@ module _ {S : Type 0} (rules : Rules S) (pages : ℕ) (s : Situation MemoryValue
   no_cause : (cause : MemoryError) → IsFirstCause (memory.growth_of s.value pages) s.meter (memory.growth_of s.value
       pages).late cause → ⊥
   no_cause cause first =
-      refused s.value.room lent (rw payable at first_of (memory.growth_of s.value pages).late
+      refused s.value.room free.lent (rw free.payable at first_of (memory.growth_of s.value pages).late
       (late_of (has_place_for s.value.room (pages * page_bytes s.value.ty.page)) MemoryError.InvalidStaticBufferSize
-      fits) first)
+      free.fits) first)
     where
       refused : (room : Room) → room ≡ Lent rest → LacksMemory room cause → ⊥
       refused Owned is lacks = cc
@@ -515,11 +519,24 @@ module _ {S : Type 0} (rules : Rules S) (pages : ℕ) (s : Situation MemoryValue
       → Follows (memory.growth_of s.value pages) rules s.limiter fate s'.limiter
       → result ≡ answer_of (memory.growth_of s.value pages) (pages_of s.value) fate → Succeeds
   by_fate (Unasked cause) may follows answered =
-      absurd (none-some cause (sym (no_early (in_bounds s.value.ty (pages_of s.value + pages)) inside) ∙ may))
+      absurd (none-some cause (sym (no_early (in_bounds s.value.ty (pages_of s.value + pages)) free.inside) ∙ may))
   by_fate (Denied answer) may follows answered = inr (answer, may.1, follows)
   by_fate Met may follows answered = inl answered
   by_fate (Failed cause heed) may follows answered = absurd (no_cause cause may.1)
 
-  pub lent_growth_succeeds : GrowsMemory rules pages s result charge s' → Succeeds
-  lent_growth_succeeds (inl none) = inl none.answered
-  lent_growth_succeeds (inr some) = by_fate some.fate some.attempt.may_end some.attempt.follows some.answered
+  growth_succeeds : GrowsMemory rules pages s result charge s' → Succeeds
+  growth_succeeds (inl none) = inl none.answered
+  growth_succeeds (inr some) = by_fate some.fate some.attempt.may_end some.attempt.follows some.answered
+
+-- so by what it needs
+pub lent_growth_succeeds : {S : Type 0} (rules : Rules S) (pages : ℕ) (s : Situation MemoryValue S) (rest : List ℕ)
+    → s.value.room ≡ Lent rest → in_bounds s.value.ty (pages_of s.value + pages) ≡ true
+    → has_place_for s.value.room (pages * page_bytes s.value.ty.page) ≡ true
+    → can_pay s.meter (amount_due s.meter (memory.growth_of s.value pages).price) ≡ true
+    → (result : Result ℕ MemoryError) (charge : ℕ) (s' : Situation MemoryValue S)
+    → GrowsMemory rules pages s result charge s'
+    → (result ≡ Ok (pages_of s.value)) ⊎ ((answer : Answer) × IsDenial answer
+    × rules.asked s.limiter (memory.growth_of s.value pages).question answer s'.limiter)
+lent_growth_succeeds rules pages s rest lent inside fits payable result charge s' =
+    growth_succeeds rules pages s rest (record { lent = lent; inside = inside; fits = fits; payable = payable })
+    result charge s'

@@ -15,12 +15,11 @@ use Rattle.wasmi_core.specs.Totals.{byte_count, slot_count}
 use Rattle.wasmi_core.specs.declared.calls.Reply.{Reply}
 use Rattle.wasmi_core.specs.declared.slots.Slot.{Slot}
 use Rattle.wasmi_core.specs.declared.slots.Slot.TheVariants.{Live}
-use Rattle.wasmi_meter.specs.Attempt.{Situation}
+use Rattle.wasmi_meter.specs.Attempt.{Situation, with_value}
 use Rattle.wasmi_meter.specs.Limiter.{Rules}
-use Rattle.wasmi_meter.specs.Meter.{Meter}
 use Rattle.wasmi_meter.specs.declared.error.MemoryError.{MemoryError}
 use Rattle.wasmi_store.specs.Buffer.{Lent}
-use Rattle.wasmi_store.specs.Memory.{GrowsMemory, IsValidMemory, MakesMemory, MemoryValue, WritesMemory}
+use Rattle.wasmi_store.specs.Memory.{GrowsMemory, IsValidMemory, MakesMemory, MemoryValue, WritesMemory, pages_of}
 use Rattle.wasmi_store.specs.MemoryType.{MemoryTypeValue}
 use Rattle.wasmi_types.specs.Access.{at, overwrite}
 use Rattle.wasmi_types.specs.declared.trap.TrapCode.{TrapCode}
@@ -76,16 +75,15 @@ pub lent_spare : {S : Type 0} (rules : Rules S) (ty : MemoryTypeValue) (part : M
     → part'.spare ≡ spare_after reply part.spare
 lent_spare rules ty part l reply part' l' creates = spare_by rules ty part l reply part' l' part.spare refl creates
 
-pub memory_growth_back : {S : Type 0} (rules : Rules S) (k pages : ℕ) (slots : List (Slot MemoryValue)) (m : Meter)
-    (l : S) (reply : Reply) (charge : ℕ) (slots' : List (Slot MemoryValue)) (m' : Meter) (l' : S) → IsRefusal reply
-    → ActsAt k (reply_of replied.Number replied.Memory) (GrowsMemory rules pages)
-    (record { value = slots; meter = Some m; limiter = l }) reply charge
-    (record { value = slots'; meter = Some m'; limiter = l' }) → slots' ≡ slots
-memory_growth_back {S} rules k pages slots m l reply charge slots' m' l' refused acts =
-    on_live (live_at slots k) _ _ acts
+pub memory_growth_back : {S : Type 0} (rules : Rules S) (k pages : ℕ) (s s' : Situation (List (Slot MemoryValue)) S)
+    (reply : Reply) (charge : ℕ) → IsRefusal reply
+    → ActsAt k (reply_of replied.Number replied.Memory) (GrowsMemory rules pages) s reply charge s' → s'.value ≡ s.value
+memory_growth_back {S} rules k pages s s' reply charge refused acts =
+    on_live (live_at s.value k) _ _ acts
     (λ missing. ap (λ (s : Situation (List (Slot MemoryValue)) S). s.value) missing.2)
-    (λ x found a. a.4 ∙ put_back slots k x a.1 found (grows_back replied.Memory rules _ x m l charge a.1 m' l' a.0
-    (rw a.3 at refused) a.2))
+    (λ x found a. a.4 ∙ put_back s.value k x a.1 found
+    (grows_back replied.Memory rules (record { amount = pages; size = pages_of x; effort = memory.growth_of x pages })
+    (with_value s x) (with_value s' a.1) charge a.0 (rw a.3 at refused) a.2))
 
 pub write_refused : (k offset : ℕ) (source : List ℕ) (slots : List (Slot MemoryValue)) (reply : Reply)
     (slots' : List (Slot MemoryValue)) → IsRefusal reply → WritesMemoryAt k offset source slots reply slots'

@@ -28,8 +28,11 @@ module _ {S : Type 0} (rules : Rules S) where
       → Run rules w turns w' → Run (permitting rules) w turns w'
   permitted_run = run_revealed rules (permitting rules) TellsNoDenial
       (record {
-        memory_made = λ room ty. denial_revealed replied.Memory (memory.creation_of room ty) (λ told. told) (λ told. told);
-        memory_grown = λ x pages. denial_revealed replied.Memory (memory.growth_of x pages) (λ told. told) (λ told. told);
+        memory_made = λ room ty. denial_revealed replied.Memory (memory.creation_of room ty) (λ told. told)
+            (λ told. told);
+        memory_grown = λ x pages. denial_revealed replied.Memory (memory.growth_of x pages) (λ told. told)
+            (λ told. told);
         table_made = λ ty init. denial_revealed replied.Table (table.creation_of ty init) (λ told. told) (λ told. told);
-        table_grown = λ x n reference. denial_revealed replied.Table (table.growth_of x n reference) (λ told. told) (λ told. told);
+        table_grown = λ x n reference. denial_revealed replied.Table (table.growth_of x n reference) (λ told. told)
+            (λ told. told);
       })

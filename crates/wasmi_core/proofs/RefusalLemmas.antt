@@ -23,7 +23,7 @@ use Rattle.wasmi_core.specs.declared.slots.Slot.{Slot}
 use Rattle.wasmi_meter.proofs.AttemptLemmas.{meter_after_nothing}
 use Rattle.wasmi_meter.specs.Attempt.{Denied, Effort, Failed, Fate, Follows, IsFirstCause, MayEnd, Met, Situation, Unasked, amount_due, answer_of, can_pay, charge_of}
 use Rattle.wasmi_meter.specs.Limiter.{Heed, MemoryFailure, Rules, TableFailure, kind_of}
-use Rattle.wasmi_meter.specs.Meter.{Meter, meter_after, meter_set}
+use Rattle.wasmi_meter.specs.Meter.{Meter, due, meter_after, meter_set}
 use Rattle.wasmi_meter.specs.declared.error.MemoryError.{MemoryError}
 use Rattle.wasmi_meter.specs.declared.error.TableError.{TableError}
 use Rattle.wasmi_meter.specs.declared.fuel.CustomFuelCosts.{CustomFuelCosts}
@@ -35,6 +35,7 @@ use Rattle.wasmi_store.specs.Memory.{GrowsMemory, MakesMemory, MemoryValue, page
 use Rattle.wasmi_store.specs.Table.{EndsBy, GrowsTable, MakesTable, TableValue, TableWrite, size_of}
 use Rattle.wasmi_store.specs.TableType.{same_type}
 use Rattle.wasmi_typed.specs.declared.typed_ref.TypedRawRef.{TypedRawRef}
+use Rattle.wasmi_types.specs.Access.{at}
 use Rattle.wasmi_store.specs.Memory as memory
 use Rattle.wasmi_core.specs.declared.calls.Reply.TheVariants as replied
 use Rattle.wasmi_store.specs.Table as table
@@ -93,8 +94,10 @@ module _ {S : Type 0} (rules : Rules S) (w : World S) (turn : Turn) (w' : World 
   effect_back (MemoryGrown k pages) step =
       paid w w' step.meter step.after
       (ap (λ part. let s : State = record (with_memories w.state part) { meter = step.meter } in s)
-      (memory_growth_back rules k pages w.state.memories w.state.meter w.limiter turn.reply turn.charge step.part
-      step.meter step.limiter refused step.row))
+      (memory_growth_back rules k pages
+      (record { value = w.state.memories; meter = Some w.state.meter; limiter = w.limiter })
+      (record { value = step.part; meter = Some step.meter; limiter = step.limiter }) turn.reply turn.charge refused
+      step.row))
   effect_back (TableMade ty init) step =
       kept w w' step.after
       (ap (with_tables w.state) (creates_back replied.Table (MakesTable rules ty init) w.state.tables w.limiter
@@ -102,8 +105,10 @@ module _ {S : Type 0} (rules : Rules S) (w : World S) (turn : Turn) (w' : World 
   effect_back (TableGrown k n init) step =
       paid w w' step.meter step.after
       (ap (λ part. let s : State = record (with_tables w.state part) { meter = step.meter } in s)
-      (table_growth_back rules k n init w.state.tables w.state.meter w.limiter turn.reply turn.charge step.part
-      step.meter step.limiter refused step.row))
+      (table_growth_back rules k n init
+      (record { value = w.state.tables; meter = Some w.state.meter; limiter = w.limiter })
+      (record { value = step.part; meter = Some step.meter; limiter = step.limiter }) turn.reply turn.charge refused
+      step.row))
   effect_back (PartWritten k source dst len) step =
       paid w w' step.meter step.after
       (ap (λ part. let s : State = record (with_tables w.state part) { meter = step.meter } in s)
@@ -240,7 +245,8 @@ module _ {S : Type 0} (rules : Rules S) (w : World S) (turn : Turn) (w' : World 
       (same_Some m' w.state.meter (ap (λ (s : Situation (List (Slot MemoryValue)) S). s.meter) missing.2)))
       (λ x found a. grows_meter rules
       (record { amount = pages; size = pages_of x; effort = memory.growth_of x pages })
-      replied.Memory (record { tells = λ cause. refl; wants = lacks_memory x.room }) x a.1 w.state.meter m' turn.charge a.0 (rw a.3 at refused) a.2)
+      replied.Memory (record { tells = λ cause. refl; wants = lacks_memory x.room }) x a.1 w.state.meter m'
+      turn.charge a.0 (rw a.3 at refused) a.2)
 
   table_meter : (k n : ℕ) (init : TypedRawRef) (slots' : List (Slot TableValue)) (m' : Meter) (l' : S)
       → ActsAt k (reply_of replied.Number replied.Table) (GrowsTable rules n init)
@@ -254,7 +260,11 @@ module _ {S : Type 0} (rules : Rules S) (w : World S) (turn : Turn) (w' : World 
       (λ x found a. on_test (same_type x.ty.element init.ty) _ _ a.2
       (λ g. grows_meter rules (record { amount = n; size = size_of x; effort = table.growth_of x n init.raw })
       replied.Table
-      (record { tells = λ cause. refl; wants = λ cause lacks nowant. subst (λ c. IsNoWant (TableFailure c)) lacks nowant })
+      (record {
+        tells = λ cause. refl;
+        wants = λ cause lacks nowant. subst (λ c. IsNoWant (TableFailure c)) lacks
+            nowant;
+      })
       x a.1 w.state.meter m' turn.charge a.0 (rw a.3 at refused) g)
       (λ g. inl (same_Some m' w.state.meter (ap (λ (s : Situation TableValue S). s.meter) g.2))))
 

@@ -178,7 +178,9 @@ module _ {S : Type 0} (rules rules' : Rules S) (Shows : Reply → Type 0) where
         meter = step.meter;
         limiter = step.limiter;
         row = acts_revealed k (reply_of replied.Number replied.Table) (GrowsTable rules n init)
-            (GrowsTable rules' n init) turn.reply (λ s s' result charge is. table_growth_revealed n init s s' result charge (subst Shows is shows)) _ _ turn.charge
+            (GrowsTable rules' n init) turn.reply
+            (λ s s' result charge is. table_growth_revealed n init s s' result charge (subst Shows is shows))
+            _ _ turn.charge
             step.row;
         wrote = step.wrote;
         after = step.after;

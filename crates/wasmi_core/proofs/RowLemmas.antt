@@ -18,8 +18,8 @@ use Rattle.wasmi_core.specs.declared.slots.Slot.{Slot}
 use Rattle.wasmi_core.specs.declared.slots.Slot.TheVariants.{Gone, Live}
 use Rattle.wasmi_meter.specs.Attempt.{Denied, Failed, Fate, Met, Situation, Unasked, answer_of, value_after, with_value}
 use Rattle.wasmi_meter.specs.Limiter.{Rules}
-use Rattle.wasmi_meter.specs.Meter.{Meter}
 use Rattle.wasmi_store.specs.Growth.{Grows, Growth, Makes}
+use Rattle.wasmi_types.specs.Access.{at}
 use Rattle.wasmi_core.specs.declared.calls.Reply.TheVariants as replied
 
 -- whether an index names something live
@@ -84,19 +84,17 @@ module _ {E : Type 0} (refusal : E → Reply) where
   creates_back Makes slots l reply slots' l' refused (inr (result, makes, appends)) =
       appends_back Live result slots reply slots' refused appends
 
-  module _ {V S : Type 0} (rules : Rules S) (g : Growth V E) (x : V) (m : Meter) (l : S) (charge : ℕ) (x' : V)
-      (m' : Meter) (l' : S) where
+  module _ {V S : Type 0} (rules : Rules S) (g : Growth V E) (s s' : Situation V S) (charge : ℕ) where
     attempt_back : (fate : Fate E) → IsRefusal (reply_of replied.Number refusal (answer_of g.effort g.size fate))
-        → x' ≡ value_after g.effort x fate → x' ≡ x
+        → s'.value ≡ value_after g.effort s.value fate → s'.value ≡ s.value
     attempt_back (Unasked cause) refused is = is
     attempt_back (Denied answer) refused is = is
     attempt_back Met refused is = absurd refused
     attempt_back (Failed cause heed) refused is = is
 
     pub grows_back : (result : Result ℕ E) → IsRefusal (reply_of replied.Number refusal result)
-        → Grows rules g (record { value = x; meter = Some m; limiter = l }) result charge
-        (record { value = x'; meter = Some m'; limiter = l' }) → x' ≡ x
-    grows_back result refused (inl none) = ap (λ (s : Situation V S). s.value) none.same
+        → Grows rules g s result charge s' → s'.value ≡ s.value
+    grows_back result refused (inl none) = ap (λ (t : Situation V S). t.value) none.same
     grows_back result refused (inr some) = attempt_back some.fate (rw some.answered at refused) some.attempt.value
 
 -- two facts of one live value, or of none
@@ -113,22 +111,27 @@ pub appends_same : {X A E : Type 0} (entry : X → A) (refusal : E → Reply) (r
 appends_same entry refusal (Ok x) list reply reply' list' list'' a b = (a.0 ∙ sym b.0, a.1 ∙ sym b.1)
 appends_same entry refusal (Err error) list reply reply' list' list'' a b = (a.0 ∙ sym b.0, a.1 ∙ sym b.1)
 
+-- what a creation ends in
+pub record Outcome (A S : Type 0) : Type 0 where
+  pub reply : Reply
+  pub part : A
+  pub limiter : S
+
 pub creates_same : {X E S : Type 0} (refusal : E → Reply) (Makes : S → Result X E → S → Type 0)
     → ((l : S) (result result' : Result X E) (l' l'' : S) → Makes l result l' → Makes l result' l''
     → (result ≡ result') × (l' ≡ l''))
-    → (slots : List (Slot X)) (l : S) (reply reply' : Reply) (slots' slots'' : List (Slot X)) (l' l'' : S)
-    → HasMemory reply → HasMemory reply' → Creates refusal Makes slots l reply slots' l'
-    → Creates refusal Makes slots l reply' slots'' l'' → (reply ≡ reply') × (slots' ≡ slots'') × (l' ≡ l'')
-creates_same refusal Makes same slots l reply reply' slots' slots'' l' l'' room room' (inl none) b =
-    absurd (rw none.0 at room)
-creates_same refusal Makes same slots l reply reply' slots' slots'' l' l'' room room' (inr a) (inl none) =
-    absurd (rw none.0 at room')
-creates_same refusal Makes same slots l reply reply' slots' slots'' l' l'' room room' (inr (result, makes, appends))
+    → (slots : List (Slot X)) (l : S) (o o' : Outcome (List (Slot X)) S) → HasMemory o.reply → HasMemory o'.reply
+    → Creates refusal Makes slots l o.reply o.part o.limiter → Creates refusal Makes slots l o'.reply o'.part o'.limiter
+    → (o.reply ≡ o'.reply) × (o.part ≡ o'.part) × (o.limiter ≡ o'.limiter)
+creates_same refusal Makes same slots l o o' room room' (inl none) b = absurd (rw none.0 at room)
+creates_same refusal Makes same slots l o o' room room' (inr a) (inl none) = absurd (rw none.0 at room')
+creates_same refusal Makes same slots l o o' room room' (inr (result, makes, appends))
     (inr (result', makes', appends')) =
-    let made = same l result result' l' l'' makes makes' in
+    let made = same l result result' o.limiter o'.limiter makes makes' in
     let put =
-    appends_same Live refusal result slots reply reply' slots' slots'' appends
-    (subst (λ r. Appends Live refusal r slots reply' slots'') (sym made.0) appends') in
+    appends_same Live refusal result slots o.reply o'.reply o.part o'.part appends
+    (subst (λ r. Appends Live refusal r slots o'.reply o'.part) (sym made.0) appends')
+    in
     (put.0, put.1, made.1)
 
 pub changes_same : {X A : Type 0} (found : Option X) (put : X → A) (part : A) (reply reply' : Reply)

@@ -14,7 +14,7 @@ use Rattle.wasmi_core.specs.Totals.{slot_count}
 use Rattle.wasmi_core.specs.declared.calls.Reply.{Reply}
 use Rattle.wasmi_core.specs.declared.slots.Slot.{Slot}
 use Rattle.wasmi_core.specs.declared.slots.Slot.TheVariants.{Live}
-use Rattle.wasmi_meter.specs.Attempt.{Situation}
+use Rattle.wasmi_meter.specs.Attempt.{Situation, with_value}
 use Rattle.wasmi_meter.specs.Limiter.{Rules}
 use Rattle.wasmi_meter.specs.Meter.{Meter, meter_after}
 use Rattle.wasmi_meter.specs.declared.error.TableError.{TableError}
@@ -22,7 +22,7 @@ use Rattle.wasmi_store.proofs.GrowthLemmas.{on_test}
 use Rattle.wasmi_store.specs.Table.{EndsBy, GrowsTable, IsValidTable, TableValue, TableWrite, WritesTable, setting_of, size_of, typed_by}
 use Rattle.wasmi_store.specs.TableType.{same_type}
 use Rattle.wasmi_typed.specs.declared.typed_ref.TypedRawRef.{TypedRawRef}
-use Rattle.wasmi_types.specs.Access.{overwrite}
+use Rattle.wasmi_types.specs.Access.{at, overwrite}
 use Rattle.wasmi_core.specs.declared.calls.Reply.TheVariants as replied
 use Rattle.wasmi_store.specs.Table as table
 use Rattle.wasmi_store.specs.TableType as table_type
@@ -56,18 +56,17 @@ module _ (k : ℕ) (slots : List (Slot TableValue)) (m : Meter) (reply : Reply) 
       on_live source _ _ writes (λ missing. ap (λ (s : Metered). s.value) missing.2)
       (λ y found h. table_write_back (write y) h)
 
-pub table_growth_back : {S : Type 0} (rules : Rules S) (k n : ℕ) (init : TypedRawRef) (slots : List (Slot TableValue))
-    (m : Meter) (l : S) (reply : Reply) (charge : ℕ) (slots' : List (Slot TableValue)) (m' : Meter) (l' : S)
-    → IsRefusal reply
-    → ActsAt k (reply_of replied.Number replied.Table) (GrowsTable rules n init)
-    (record { value = slots; meter = Some m; limiter = l }) reply charge
-    (record { value = slots'; meter = Some m'; limiter = l' }) → slots' ≡ slots
-table_growth_back {S} rules k n init slots m l reply charge slots' m' l' refused acts =
-    on_live (live_at slots k) _ _ acts
+pub table_growth_back : {S : Type 0} (rules : Rules S) (k n : ℕ) (init : TypedRawRef)
+    (s s' : Situation (List (Slot TableValue)) S) (reply : Reply) (charge : ℕ) → IsRefusal reply
+    → ActsAt k (reply_of replied.Number replied.Table) (GrowsTable rules n init) s reply charge s' → s'.value ≡ s.value
+table_growth_back {S} rules k n init s s' reply charge refused acts =
+    on_live (live_at s.value k) _ _ acts
     (λ missing. ap (λ (s : Situation (List (Slot TableValue)) S). s.value) missing.2)
-    (λ x found a. a.4 ∙ put_back slots k x a.1 found
+    (λ x found a. a.4 ∙ put_back s.value k x a.1 found
     (on_test (same_type x.ty.element init.ty) _ _ a.2
-    (λ g. grows_back replied.Table rules _ x m l charge a.1 m' l' a.0 (rw a.3 at refused) g)
+    (λ g. grows_back replied.Table rules
+    (record { amount = n; size = size_of x; effort = table.growth_of x n init.raw })
+    (with_value s x) (with_value s' a.1) charge a.0 (rw a.3 at refused) g)
     (λ g. ap (λ (s : Situation TableValue S). s.value) g.2)))
 
 pub set_refused : (k index : ℕ) (value : TypedRawRef) (slots : List (Slot TableValue)) (reply : Reply)

@@ -17,6 +17,7 @@ use Rattle.wasmi_typed.specs.declared.global.GlobalError.TheVariants.{ImmutableW
 use Rattle.wasmi_typed.specs.declared.global.Mutability.{Mutability}
 use Rattle.wasmi_typed.specs.declared.global.Mutability.TheVariants.{Const, Var}
 use Rattle.wasmi_typed.specs.declared.typed.TypedRawVal.{TypedRawVal}
+use Rattle.wasmi_types.specs.Access.{at}
 use Rattle.wasmi_types.specs.declared.value.RefType.{RefType}
 use Rattle.wasmi_core.specs.declared.calls.Reply.TheVariants as replied
 
@@ -51,27 +52,29 @@ global_refused k value globals reply globals' refused sets =
     item_back k globals reply globals' _ (λ x x' c. global_back x x' value c.0 (rw c.2 at refused) c.1) sets
 
 -- element segments, globals and registers
-segment_made : (ty : RefType) (items : List ℕ) (segments : List SegmentValue) (reply reply' : Reply)
-    (segments' segments'' : List SegmentValue) → HasMemory reply → HasMemory reply'
-    → (result result' : Result SegmentValue SegmentError) → IsSegmentOf ty items result → IsSegmentOf ty items result'
-    → Appends (λ x. x) replied.Segment result segments reply segments'
-    → Appends (λ x. x) replied.Segment result' segments reply' segments'' → result ≡ result'
-segment_made ty items segments reply reply' segments' segments'' room room' (Ok x) (Ok y) is is' a b =
-    ap Ok (is.1 ∙ sym is'.1)
-segment_made ty items segments reply reply' segments' segments'' room room' (Ok x) (Err TooManyItems) is is' a b =
-    absurd (omega (arith, is.0, is'))
-segment_made ty items segments reply reply' segments' segments'' room room' (Ok x) (Err OutOfSystemMemory) is is' a b =
-    absurd (rw b.0 at room')
-segment_made ty items segments reply reply' segments' segments'' room room' (Err TooManyItems) (Ok y) is is' a b =
-    absurd (omega (arith, is'.0, is))
-segment_made ty items segments reply reply' segments' segments'' room room' (Err TooManyItems) (Err TooManyItems) is
-    is' a b =
-    refl
-segment_made ty items segments reply reply' segments' segments'' room room' (Err TooManyItems) (Err OutOfSystemMemory)
-    is is' a b =
-    absurd (rw b.0 at room')
-segment_made ty items segments reply reply' segments' segments'' room room' (Err OutOfSystemMemory) result' is is' a b =
-    absurd (rw a.0 at room)
+-- memory wasn't refused
+abbrev IsHad : Result SegmentValue SegmentError → Type 0
+IsHad (Err OutOfSystemMemory) = ⊥
+IsHad result = Unit {0}
+
+-- as the reply tells
+had : (result : Result SegmentValue SegmentError) (segments : List SegmentValue) (reply : Reply)
+    (segments' : List SegmentValue) → HasMemory reply
+    → Appends (λ x. x) replied.Segment result segments reply segments' → IsHad result
+had (Ok x) segments reply segments' has appends = tt
+had (Err TooManyItems) segments reply segments' has appends = tt
+had (Err OutOfSystemMemory) segments reply segments' has appends = absurd (rw appends.0 at has)
+
+-- then there is one result
+segment_made : (ty : RefType) (items : List ℕ) (result result' : Result SegmentValue SegmentError) → IsHad result
+    → IsHad result' → IsSegmentOf ty items result → IsSegmentOf ty items result' → result ≡ result'
+segment_made ty items (Ok x) (Ok y) h h' is is' = ap Ok (is.1 ∙ sym is'.1)
+segment_made ty items (Ok x) (Err TooManyItems) h h' is is' = absurd (omega (arith, is.0, is'))
+segment_made ty items (Ok x) (Err OutOfSystemMemory) h h' is is' = absurd h'
+segment_made ty items (Err TooManyItems) (Ok y) h h' is is' = absurd (omega (arith, is'.0, is))
+segment_made ty items (Err TooManyItems) (Err TooManyItems) h h' is is' = refl
+segment_made ty items (Err TooManyItems) (Err OutOfSystemMemory) h h' is is' = absurd h'
+segment_made ty items (Err OutOfSystemMemory) result' h h' is is' = absurd h
 
 pub segments_same : (ty : RefType) (items : List ℕ) (segments : List SegmentValue) (reply reply' : Reply)
     (segments' segments'' : List SegmentValue) → HasMemory reply → HasMemory reply'
@@ -82,9 +85,9 @@ segments_same ty items segments reply reply' segments' segments'' room room' (in
     absurd (rw none.0 at room')
 segments_same ty items segments reply reply' segments' segments'' room room' (inr (result, is, appends))
     (inr (result', is', appends')) =
-    let made =
-    segment_made ty items segments reply reply' segments' segments'' room room' result result' is is' appends
-    appends' in
+    let h = had result segments reply segments' room appends in
+    let h' = had result' segments reply' segments'' room' appends' in
+    let made = segment_made ty items result result' h h' is is' in
     appends_same (λ x. x) replied.Segment result segments reply reply' segments' segments'' appends
     (subst (λ r. Appends (λ x. x) replied.Segment r segments reply' segments'') (sym made) appends')
 
