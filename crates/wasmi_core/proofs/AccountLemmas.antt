@@ -36,6 +36,7 @@ use Rattle.wasmi_store.specs.Table as table
 abbrev pub Takes : Meter → ℕ → Meter → Type 0
 Takes m charge m' = (left : ℕ) → m.left ≡ Some left → (rest : ℕ) × (m'.left ≡ Some rest) × (rest + charge ≡ left)
 
+-- where nothing is charged and the meter stays
 pub takes_nothing : (m m' : Meter) (charge : ℕ) → charge ≡ 0 → m' ≡ m → Takes m charge m'
 takes_nothing m m' charge free same left on = (left, ap (λ (m : Meter). m.left) same ∙ on, omega (arith, free))
 
@@ -43,6 +44,7 @@ takes_nothing m m' charge free same left on = (left, ap (λ (m : Meter). m.left)
 abbrev IsPaid : Meter → ℕ → Type 0
 IsPaid m charge = (left : ℕ) → m.left ≡ Some left → charge ≤ left
 
+-- where what is charged can be paid
 takes_paid : (m m' : Meter) (charge : ℕ) → IsPaid m charge → Some m' ≡ Some (meter_after m charge) → Takes m charge m'
 takes_paid m m' charge paid same left on = (
   left - charge,
@@ -51,14 +53,17 @@ takes_paid m m' charge paid same left on = (
   omega (arith, paid left on),
 )
 
+-- nothing can be paid
 paid_free : (m : Meter) (charge : ℕ) → charge ≡ 0 → IsPaid m charge
 paid_free m charge free left on = omega (arith, free)
 
+-- what is due can be paid where a test says so
 paid_due : (m : Meter) (due charge : ℕ) → can_pay (Some m) due ≡ true → charge ≡ due → IsPaid m charge
 paid_due m due charge enough same left on =
     let within : nat_le due left ≡ true = sym (ap (λ (o : Option ℕ). nat_le due (unwrap_or o 0)) on) ∙ enough in
     grind (arith, nat_tests, within, same)
 
+-- so where a test decides whether it is charged
 paid_if : (m : Meter) (due charge : ℕ) (tested : Bool) → (tested ≡ true → can_pay (Some m) due ≡ true)
     → charge ≡ (if tested then due else 0) → IsPaid m charge
 paid_if m due charge true enough same = paid_due m due charge (enough refl) same
@@ -66,6 +71,7 @@ paid_if m due charge false enough same = paid_free m charge same
 
 module _ {V E S : Type 0} (rules : Rules S) (e : Effort V E) (x : V) (m : Meter) (l : S) (charge : ℕ) (x' : V)
     (m' : Meter) (l' : S) where
+  -- an attempt is charged no more than is left
   attempt_paid : (fate : Fate E)
       → Attempt rules e (record { value = x; meter = Some m; limiter = l }) fate charge
       (record { value = x'; meter = Some m'; limiter = l' }) → IsPaid m charge
@@ -77,6 +83,7 @@ module _ {V E S : Type 0} (rules : Rules S) (e : Effort V E) (x : V) (m : Meter)
       (is_none e.late && can_pay (Some m) (amount_due (Some m) e.price)) (λ both. (and_parts _ _ both).1)
       attempt.charged
 
+-- a growth
 pub grows_takes : {V E S : Type 0} (rules : Rules S) (g : Growth V E) (x : V) (m : Meter) (l : S)
     (result : Result ℕ E) (charge : ℕ) (x' : V) (m' : Meter) (l' : S)
     → Grows rules g (record { value = x; meter = Some m; limiter = l }) result charge
@@ -87,6 +94,7 @@ grows_takes rules g x m l result charge x' m' l' (inr some) =
     takes_paid m m' charge (attempt_paid rules g.effort x m l charge x' m' l' some.fate some.attempt)
     some.attempt.meter
 
+-- a growth of a table, whose type is tested first
 table_grows_takes : {S : Type 0} (rules : Rules S) (n : ℕ) (init : TypedRawRef) (x : TableValue) (m : Meter) (l : S)
     (result : Result ℕ TableError) (charge : ℕ) (x' : TableValue) (m' : Meter) (l' : S)
     → GrowsTable rules n init (record { value = x; meter = Some m; limiter = l }) result charge
@@ -99,6 +107,7 @@ table_grows_takes {S} rules n init x m l result charge x' m' l' grows =
 
 module _ (w : TableWrite) (x : TableValue) (m : Meter) (result : Result (Unit {0}) TableError) (charge : ℕ)
     (x' : TableValue) where
+  -- a write over a part of a table is charged no more than is left
   ends_paid : (typed : Bool) (written : Option (List ℕ)) (payable : Bool)
       → can_pay (Some m) (due_for w x (Some m)) ≡ payable → EndsBy w x (Some m) typed written payable result charge x'
       → IsPaid m charge
@@ -107,6 +116,7 @@ module _ (w : TableWrite) (x : TableValue) (m : Meter) (result : Result (Unit {0
   ends_paid true (Some elements) false enough ends = paid_free m charge ends.1
   ends_paid true (Some elements) true enough ends = paid_due m _ charge enough ends.1
 
+  -- so it takes its charge
   pub write_takes : (m' : Meter) → WritesTable w x (Some m) result charge x' (Some m') → Takes m charge m'
   write_takes m' writes = takes_paid m m' charge (ends_paid w.typed w.written _ refl writes.ends) writes.meter
 
@@ -124,6 +134,7 @@ acts_takes {X = X} {S = S} Acts k reply_to slots m l reply charge slots' m' l' t
     (same_Some m' m (ap (λ (s : Situation (List (Slot X)) S). s.meter) missing.2)))
     (λ x found act. takes x act.0 act.1 act.2)
 
+-- a growth of the memory of an index
 memory_growth_takes : {S : Type 0} (rules : Rules S) (k pages : ℕ) (slots : List (Slot MemoryValue)) (m : Meter)
     (l : S) (reply : Reply) (charge : ℕ) (slots' : List (Slot MemoryValue)) (m' : Meter) (l' : S)
     → ActsAt k (reply_of replied.Number replied.Memory) (GrowsMemory rules pages)
@@ -135,6 +146,7 @@ memory_growth_takes rules k pages slots m l reply charge slots' m' l' acts =
     (record { amount = pages; size = pages_of x; effort = memory.growth_of x pages }) x m l result charge x' m' l')
     acts
 
+-- a growth of the table of an index
 table_growth_takes : {S : Type 0} (rules : Rules S) (k n : ℕ) (init : TypedRawRef) (slots : List (Slot TableValue))
     (m : Meter) (l : S) (reply : Reply) (charge : ℕ) (slots' : List (Slot TableValue)) (m' : Meter) (l' : S)
     → ActsAt k (reply_of replied.Number replied.Table) (GrowsTable rules n init)
@@ -144,6 +156,7 @@ table_growth_takes rules k n init slots m l reply charge slots' m' l' acts =
     acts_takes (GrowsTable rules n init) k (reply_of replied.Number replied.Table) slots m l reply charge slots' m' l'
     (λ x result x'. table_grows_takes rules n init x m l result charge x' m' l') acts
 
+-- a write over a part of the table of an index
 table_write_takes : (k : ℕ) (write : TableValue → TableWrite) (slots : List (Slot TableValue)) (m : Meter)
     (reply : Reply) (charge : ℕ) (slots' : List (Slot TableValue)) (m' : Meter)
     → WritesTableAt k write (metered slots m) reply charge (metered slots' m') → Takes m charge m'
@@ -152,6 +165,7 @@ table_write_takes k write slots m reply charge slots' m' writes =
     s'.value s'.meter) k (reply_of (λ _. replied.Done) replied.Table) slots m tt reply charge slots' m' tt
     (λ x result x'. write_takes (write x) x m result charge x' m') writes
 
+-- so from what may be missing
 table_copy_takes : {X : Type 0} (source : Option X) (k : ℕ) (write : X → TableValue → TableWrite)
     (slots : List (Slot TableValue)) (m : Meter) (reply : Reply) (charge : ℕ) (slots' : List (Slot TableValue))
     (m' : Meter)
@@ -180,6 +194,7 @@ module _ {S : Type 0} (account : Account) (w : World S) (turn : Turn) (w' : Worl
                 (arith, t.2, balances.2),
           )
 
+      -- so without a charge
       uncharged : turn.charge ≡ 0 → v.state.meter ≡ w.state.meter → Goes
       uncharged free same = charged (takes_nothing w.state.meter v.state.meter turn.charge free same)
 
@@ -188,12 +203,14 @@ abbrev charged_by_effect : Account → Effect → ℕ → Account
 charged_by_effect account (FuelSet fuel) charge = opened fuel
 charged_by_effect account effect charge = record { granted = account.granted; charged = account.charged + charge }
 
+-- it is the account after the call
 same_account : (account : Account) (s : State) (call : Call) (charge : ℕ)
     → charged_by_effect account (effect_of s call) charge ≡ charged_by account call charge
 same_account account s (SetFuel fuel) charge = refl
 same_account account s call charge = refl
 
 module _ {S : Type 0} (rules : Rules S) (account : Account) (w : World S) (turn : Turn) (w' : World S) where
+  -- each effect
   effect_balances : (effect : Effect) → TakesEffect rules effect w turn w' → Balances account w.state.meter
       → Balances (charged_by_effect account effect turn.charge) w'.state.meter
   effect_balances (FuelSet fuel) step balances = (
@@ -220,6 +237,7 @@ module _ {S : Type 0} (rules : Rules S) (account : Account) (w : World S) (turn 
   effect_balances effect step balances = uncharged account w turn w' balances step.after step.free.0 refl
 
 module _ {S : Type 0} (rules : Rules S) where
+  -- a run
   run_balances : (account : Account) (w : World S) → Balances account w.state.meter
       → (turns : List Turn) (w' : World S) → Run rules w turns w'
       → Balances (account_after account turns) w'.state.meter
@@ -229,6 +247,7 @@ module _ {S : Type 0} (rules : Rules S) where
       run_balances (charged_by account turn.call turn.charge) v
       (rw (same_account account w.state turn.call turn.charge) at balances) turns w' ran
 
+  -- so from the start
   pub fuel_balances : (w : World S) (left : ℕ) → w.state.meter.left ≡ Some left → (turns : List Turn) (w' : World S)
       → Run rules w turns w' → Balances (account_after (opened left) turns) w'.state.meter
   fuel_balances w left on turns w' ran = run_balances (opened left) w (left, on, omega arith) turns w' ran

@@ -38,6 +38,7 @@ module _ {S T : Type 0} (image : S → T) where
 
   module _ {rules : Rules S} {rules' : Rules T} (carries : Carries image rules rules') where
     module _ {V E : Type 0} (e : Effort V E) where
+      -- what passes between an attempt and its limiter
       follows_too : (fate : Fate E) (l l' : S) → Follows e rules l fate l' → Follows e rules' (image l) fate (image l')
       follows_too (Unasked cause) l l' same = ap image same
       follows_too (Denied answer) l l' asks = carries.asked l e.question answer l' asks
@@ -49,6 +50,7 @@ module _ {S T : Type 0} (image : S → T) where
             heed l' notices,
       )
 
+      -- an attempt
       attempt_too : (s s' : Situation V S) (fate : Fate E) (charge : ℕ) → Attempt rules e s fate charge s'
           → Attempt rules' e (moved s) fate charge (moved s')
       attempt_too s s' fate charge a = record {
@@ -59,11 +61,13 @@ module _ {S T : Type 0} (image : S → T) where
         value = a.value;
       }
 
+    -- a creation
     makes_too : {T' E : Type 0} (e : Effort (Unit {0}) E) (made : T') (l l' : S) (result : Result T' E)
         → Makes rules e made l result l' → Makes rules' e made (image l) result (image l')
     makes_too e made l l' result (fate, attempt, answered) =
         (fate, attempt_too e (alone l) (alone l') fate 0 attempt, answered)
 
+    -- a growth
     grows_too : {V E : Type 0} (g : Growth V E) (s s' : Situation V S) (result : Result ℕ E) (charge : ℕ)
         → Grows rules g s result charge s' → Grows rules' g (moved s) result charge (moved s')
     grows_too g s s' result charge (inl none) =
@@ -83,6 +87,7 @@ module _ {S T : Type 0} (image : S → T) where
           answered = some.answered;
         })
 
+    -- a creation in a new slot
     creates_too : {X E : Type 0} (refusal : E → Reply) (e : Effort (Unit {0}) E) (made : X)
         (slots slots' : List (Slot X)) (reply : Reply) (l l' : S)
         → Creates refusal (Makes rules e made) slots l reply slots' l'
@@ -91,6 +96,7 @@ module _ {S T : Type 0} (image : S → T) where
     creates_too refusal e made slots slots' reply l l' (inr (result, makes, appends)) =
         inr (result, makes_too e made l l' result makes, appends)
 
+    -- a call on what an index names
     acts_too : {X R : Type 0} (k : ℕ) (reply_to : R → Reply) (Acts : Situation X S → R → ℕ → Situation X S → Type 0)
         (Acts' : Situation X T → R → ℕ → Situation X T → Type 0)
         → ((s s' : Situation X S) (result : R) (charge : ℕ) → Acts s result charge s'
@@ -101,6 +107,7 @@ module _ {S T : Type 0} (image : S → T) where
         on_live_too (live_at s.value k) _ _ _ _ (λ missing. (missing.0, missing.1, ap moved missing.2))
         (λ x h. (h.0, h.1, too _ _ h.0 charge h.2, h.3, h.4)) acts
 
+    -- a growth of a table, whose type is tested first
     table_growth_too : (n : ℕ) (init : TypedRawRef) (s s' : Situation TableValue S) (result : Result ℕ _) (charge : ℕ)
         → GrowsTable rules n init s result charge s' → GrowsTable rules' n init (moved s) result charge (moved s')
     table_growth_too n init s s' result charge grows =
@@ -110,6 +117,7 @@ module _ {S T : Type 0} (image : S → T) where
         (λ mismatch. (mismatch.0, mismatch.1, ap moved mismatch.2)) grows
 
     module _ (w : World S) (turn : Turn) (w' : World S) where
+      -- each effect
       effect_carried : (effect : Effect) → TakesEffect rules effect w turn w'
           → TakesEffect rules' effect (carried image w) turn (carried image w')
       effect_carried (MemoryMade ty) step = record {

@@ -31,6 +31,7 @@ module _ (write : TableValue → TableValue → TableWrite) (slots : List (Slot 
         limiter = tt;
       }
 
+  -- a table is written over with what another slot has
   pub copies_at : (slot source : Slot TableValue) → slice_get slots i ≡ Some slot → slice_get slots j ≡ Some source
       → CopiesSlot write source (record { value = slot; meter = Some m; limiter = tt }) reply charge s'
       → (slots' : List (Slot TableValue)) → slots' ≡ set slots i s'.value

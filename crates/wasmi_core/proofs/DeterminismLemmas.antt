@@ -45,11 +45,13 @@ record Wants {V E : Type 0} (e : Effort V E) : Type 0 where
   wants : (cause : E) → e.refuses cause → IsNoWant (e.notice cause) → ⊥
 
 module _ {S : Type 0} {rules : Rules S} (once : IsDeterministic rules) where
+  -- the rules by which no limiter is told of want of memory
   abbrev told : Rules S
   told = with_memory rules
 
   module _ {V E : Type 0} {e : Effort V E} (want : Wants e) where
     module _ (m : Option Meter) where
+      -- two first causes that are no want of memory are one
       first_cause : (late : Option E) (cause cause' : E) → IsFirstCause e m late cause → IsNoWant (e.notice cause)
           → IsFirstCause e m late cause' → IsNoWant (e.notice cause') → cause ≡ cause'
       first_cause (Some c) cause cause' first other first' other' = first ∙ sym first'
@@ -58,17 +60,20 @@ module _ {S : Type 0} {rules : Rules S} (once : IsDeterministic rules) where
           (λ unpaid. on_test (can_pay m (amount_due m e.price)) _ _ first'
           (λ refuses. absurd (want.wants cause' refuses other')) (λ unpaid'. unpaid ∙ sym unpaid'))
 
+      -- where nothing else refuses, memory does
       refused_at : (late : Option E) (cause : E) → late ≡ None → can_pay m (amount_due m e.price) ≡ true
           → IsFirstCause e m late cause → e.refuses cause
       refused_at (Some c) cause none payable first = absurd (none-some c (sym none))
       refused_at None cause none payable first = rw payable at first
 
       module _ (l : S) where
+        -- a question has one answer
         denied_met : (answer : Answer) (l' p : S) → IsDenial answer → rules.asked l e.question answer l'
             → rules.asked l e.question (Ok true) p → ⊥
         denied_met answer l' p denial asks asks' =
             subst IsDenial (once.asked l e.question answer (Ok true) l' p asks asks').0 denial
 
+        -- an attempt ends in one way
         same_fate : (fate fate' : Fate E) (l' l'' : S) → MayEnd e m fate → Follows e told l fate l' → MayEnd e m fate'
             → Follows e told l fate' l'' → (fate ≡ fate') × (l' ≡ l'')
         same_fate (Unasked c) (Unasked c') l' l'' may f may' f' =
@@ -98,6 +103,7 @@ module _ {S : Type 0} {rules : Rules S} (once : IsDeterministic rules) where
             let s = once.noticed f.0 (e.notice d) h h' l' l'' f.2.0 notices in
             (rw (cause, s.0) refl, s.1)
 
+    -- so two attempts are one
     attempts_same : (s s' s'' : Situation V S) (fate fate' : Fate E) (charge charge' : ℕ)
         → Attempt told e s fate charge s' → Attempt told e s fate' charge' s''
         → (fate ≡ fate') × (charge ≡ charge') × (s' ≡ s'')
@@ -109,6 +115,7 @@ module _ {S : Type 0} {rules : Rules S} (once : IsDeterministic rules) where
         let meter = a.meter ∙ ap (λ c. option_map (λ m. meter_after m c) s.meter) charged ∙ sym b.meter in
         (same.0, charged, λ k. record { value = value k; meter = meter k; limiter = same.1 k })
 
+  -- two creations
   makes_same : {T E : Type 0} (e : Effort (Unit {0}) E)
       → Wants e
       → (made : T) (l : S) (result result' : Result T E) (l' l'' : S) → Makes told e made l result l'
@@ -117,6 +124,7 @@ module _ {S : Type 0} {rules : Rules S} (once : IsDeterministic rules) where
       let same = attempts_same wants (alone l) (alone l') (alone l'') fate fate' 0 0 a b in
       (answered ∙ ap (answer_of e made) same.0 ∙ sym answered', ap (λ (s : Situation (Unit {0}) S). s.limiter) same.2)
 
+  -- two growths
   grows_same : {V E : Type 0} (g : Growth V E)
       → Wants g.effort
       → (s : Situation V S) (result result' : Result ℕ E) (charge charge' : ℕ) (s' s'' : Situation V S)
@@ -135,6 +143,7 @@ memory_wants : (room : Room) (cause : MemoryError) → LacksMemory room cause �
 memory_wants Owned cause lacks other = rw lacks at other
 memory_wants (Lent rest) cause lacks other = lacks
 
+-- so for tables
 table_wants : (cause : TableError) → cause ≡ TableError.OutOfSystemMemory → IsNoWant (TableFailure cause) → ⊥
 table_wants cause lacks other = rw lacks at other
 
@@ -171,10 +180,12 @@ module _ {S : Type 0} (w : World S) (t t' : Turn) (v v' : World S) where
   abbrev Same : Type 0
   Same = (t.reply ≡ t'.reply) × (t.charge ≡ t'.charge) × (t.written ≡ t'.written) × (v ≡ v')
 
+  -- a turn that only replies
   free : IsFree t → IsFree t' → t.reply ≡ t'.reply → v ≡ w → v' ≡ w → Same
   free f f' same is is' = (same, f.0 ∙ sym f'.0, f.1 ∙ sym f'.1, is ∙ sym is')
 
   module _ {A : Type 0} (with_part : A → State) (part part' : A) where
+    -- a turn that changes a part of the state
     changed : IsFree t → IsFree t' → (t.reply ≡ t'.reply) × (part ≡ part') → v ≡ record w { state = with_part part }
         → v' ≡ record w { state = with_part part' } → Same
     changed f f' same is is' = (
@@ -185,6 +196,7 @@ module _ {S : Type 0} (w : World S) (t t' : Turn) (v v' : World S) where
           ∙ ap (λ p. let u : World S = record w { state = with_part p } in u) same.1 ∙ sym is',
     )
 
+    -- a turn that makes something under the limiter
     asked : (l l' : S) → IsFree t → IsFree t' → (t.reply ≡ t'.reply) × (part ≡ part') × (l ≡ l')
         → v ≡ record { state = with_part part; limiter = l } → v' ≡ record { state = with_part part'; limiter = l' }
         → Same
@@ -197,6 +209,7 @@ module _ {S : Type 0} (w : World S) (t t' : Turn) (v v' : World S) where
     )
 
     module _ (m m' : Meter) (written : Reply → ℕ) where
+      -- a turn with a charge
       paid : (l l' : S)
           → (t.reply ≡ t'.reply) × (t.charge ≡ t'.charge) × ((let s : Situation A S =
           record { value = part; meter = Some m; limiter = l } in s) ≡ record {
@@ -218,6 +231,7 @@ module _ {S : Type 0} (w : World S) (t t' : Turn) (v v' : World S) where
                 ∙ sym is',
           )
 
+      -- so where the limiter is not reached
       paid_unasked : (t.reply ≡ t'.reply) × (t.charge ≡ t'.charge) × ((let s : Situation A (Unit {0}) =
           record { value = part; meter = Some m; limiter = tt } in s) ≡ record {
             value = part';
@@ -237,6 +251,7 @@ module _ {S : Type 0} (w : World S) (t t' : Turn) (v v' : World S) where
                 ∙ sym is',
           )
 
+-- two growths of a table
 table_growth_same : {S : Type 0} {rules : Rules S} → IsDeterministic rules
     → (n : ℕ) (init : TypedRawRef) (s : Situation TableValue S) (result result' : Result ℕ TableError)
     (charge charge' : ℕ) (s' s'' : Situation TableValue S) → GrowsTable (with_memory rules) n init s result charge s'
@@ -259,6 +274,7 @@ table_growth_same {rules = rules} once n init s result result' charge charge' s'
 
 module _ {S : Type 0} (rules : Rules S) (once : IsDeterministic rules) (w : World S) (t t' : Turn) (v v' : World S)
     (room : HasMemory t.reply) (room' : HasMemory t'.reply) where
+  -- each effect
   effect_same : (effect : Effect) → TakesEffect (with_memory rules) effect w t v
       → TakesEffect (with_memory rules) effect w t' v' → Same w t t' v v'
   effect_same (Told reply) step step' =
@@ -313,6 +329,7 @@ module _ {S : Type 0} (rules : Rules S) (once : IsDeterministic rules) (w : Worl
       _ _ step.row step'.row) step.wrote step'.wrote step.after step'.after
 
 module _ {S : Type 0} (rules : Rules S) (once : IsDeterministic rules) where
+  -- two runs
   pub runs_are_one : (w : World S) (turns turns' : List Turn) (v v' : World S)
       → map Turn.call turns ≡ map Turn.call turns' → HaveMemory turns → HaveMemory turns'
       → Run (with_memory rules) w turns v → Run (with_memory rules) w turns' v' → (turns ≡ turns') × (v ≡ v')
@@ -377,6 +394,7 @@ same_quota quota quota' quota'' caps caps' same = λ i. record {
   last = ap (λ (h : Holdings). h.last) same i;
 }
 
+-- a question to a quota
 quota_asks : (quota : Quota) (q : Question) (a a' : Answer) (quota' quota'' : Quota) → Asked quota q a quota'
     → Asked quota q a' quota'' → (a ≡ a') × (quota' ≡ quota'')
 quota_asks quota q a a' quota' quota'' h h' =
@@ -389,6 +407,7 @@ quota_asks quota q a a' quota' quota'' h h' =
       )
     ]
 
+-- so a quota leaves no choice
 pub quota_once : IsDeterministic quota_rules
 quota_once = record {
   asked = λ l question a a' l' l'' h h'. quota_asks l question a a' l' l'' h h';

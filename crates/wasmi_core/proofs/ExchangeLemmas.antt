@@ -247,6 +247,7 @@ but_bytes : (P : Kind → Type 0) → P Elements → (kind : Kind) → kind ≢ 
 but_bytes P elements Bytes other = absurd (other refl)
 but_bytes P elements Elements other = elements
 
+-- and the other way round
 but_elements : (P : Kind → Type 0) → P Bytes → (kind : Kind) → kind ≢ Elements → P kind
 but_elements P bytes Bytes other = bytes
 but_elements P bytes Elements other = absurd (other refl)
@@ -266,6 +267,7 @@ new_memory_is room ty = record {
   full = length-replicate {A = ℕ} (minimum_bytes ty) 0;
 }
 
+-- so for a table
 new_table_is : (ty : TableTypeValue) (init : TypedRawRef)
     → IsCreationOf size_of (new_table ty init.raw) (table.creation_of ty init.ty)
 new_table_is ty init = record {
@@ -274,9 +276,11 @@ new_table_is ty init = record {
   full = length-replicate {A = ℕ} ty.minimum init.raw;
 }
 
+-- the growth of a memory by so many pages
 abbrev memory_growth : ℕ → MemoryValue → Growth MemoryValue MemoryError
 memory_growth pages x = record { amount = pages; size = pages_of x; effort = memory.growth_of x pages }
 
+-- it is one of its bytes
 memory_growth_is : (pages : ℕ) (x : MemoryValue) (m : Meter) → IsGrowthOf byte_count x m (memory_growth pages x)
 memory_growth_is pages x m =
     let added = pages * page_bytes x.ty.page in
@@ -289,9 +293,11 @@ memory_growth_is pages x m =
       price = due_again m 1 (length x.bytes) added;
     }
 
+-- the growth of a table by so many elements
 abbrev table_growth : ℕ → ℕ → TableValue → Growth TableValue TableError
 table_growth n reference x = record { amount = n; size = size_of x; effort = table.growth_of x n reference }
 
+-- it is one of its elements
 table_growth_is : (n reference : ℕ) (x : TableValue) (m : Meter) → IsGrowthOf size_of x m (table_growth n reference x)
 table_growth_is n reference x m = record {
   tells = λ cause. refl;
@@ -330,10 +336,12 @@ module _ {S : Type 0} (rules : Rules S) (w : World S) (charge : ℕ) (w' : World
             w'.state.memories;
       }
 
+  -- its tables
   abbrev tables_watch : Watch S TableValue
   tables_watch =
       record { meeting = meeting_of w charge w'; count = size_of; slots = w.state.tables; later = w'.state.tables }
 
+  -- its memories, where the tables stay
   memories_watched : w'.state.tables ≡ w.state.tables → IsWatched memories_watch Bytes
   memories_watched same = record {
     own = refl;
@@ -341,6 +349,7 @@ module _ {S : Type 0} (rules : Rules S) (w : World S) (charge : ℕ) (w' : World
     others = but_bytes (λ kind. sizes w'.state kind ≡ sizes w.state kind) (ap (map (slot_count size_of)) same);
   }
 
+  -- its tables, where the memories stay
   tables_watched : w'.state.memories ≡ w.state.memories → IsWatched tables_watch Elements
   tables_watched same = record {
     own = refl;
@@ -412,6 +421,7 @@ place_by (TableMade ty init) = New
 place_by (TableGrown k n init) = At k
 place_by effect = Nowhere
 
+-- it is the place of the call
 same_place : (s : State) (call : Call) → place_by (effect_of s call) ≡ place_of call
 same_place s (NewMemory ty) = refl
 same_place s call = refl

@@ -16,6 +16,7 @@ use Rattle.wasmi_core.specs.Totals.{sizes, HoldsTotals}
 use Rattle.wasmi_core.proofs.TotalLemmas.{sum_set, sum_push}
 use Rattle.wasmi_core.proofs.ExchangeLemmas.{growths_are_permitted}
 
+-- a denial keeps the holdings
 denial_keeps : (q : Question) (answer : Answer) (h h' : Holdings) → IsDenial answer → Reserves q answer h h'
     → HoldsTheSame h h'
 denial_keeps q (Ok true) h h' denial reserves = absurd denial
@@ -40,6 +41,7 @@ given_back Elements n h p h' more gives =
           ∙ omega arith;
     }
 
+-- the sum after a growth
 grown_sum : (place : Place) (q : Question) (xs ys : List ℕ) → GrowsAsAsked place q xs ys
     → sum ys ≡ sum xs + (q.desired - q.current)
 grown_sum Nowhere q xs ys grows = absurd grows
@@ -47,6 +49,7 @@ grown_sum New q xs ys (fresh, added) = ap sum added ∙ sum_push xs q.desired �
 grown_sum (At k) q xs ys (up, found, put) = ap sum put ∙ omega (arith, up, sum_set xs k q.current q.desired found)
 
 module _ (s s' : State) where
+  -- the totals are held where nothing grows
   still_held : (h h' : Holdings) → HoldsTotals h s → HoldsTheSame h h' → NothingGrows (sizes s) (sizes s')
       → HoldsTotals h' s'
   still_held h h' held same still =
@@ -56,6 +59,7 @@ module _ (s s' : State) where
             ∙ ap sum (sym (still Elements));
       }
 
+  -- the totals are held after a growth
   more_held : (kind : Kind) (n : ℕ) (h h' : Holdings) → HoldsTotals h s → h' ≡ with_more h kind n
       → sum (sizes s' kind) ≡ sum (sizes s kind) + n
       → ((other : Kind) → other ≢ kind → sizes s' other ≡ sizes s other) → HoldsTotals h' s'
@@ -77,6 +81,7 @@ module _ {L : Type 0} (rules : Rules L) (holdings : L → Holdings)
   abbrev Holds : Option L → State → Type 0
   Holds limiter s = (l : L) × (limiter ≡ Some l) × HoldsTotals (holdings l) s
 
+  -- an exchange keeps the totals held
   exchange_holds : (s s' : State) (l : L) (limiter : Option L) (place : Place) (exchange : Exchange)
       → HoldsTotals (holdings l) s → Passes (optional_rules rules) (Some l) exchange limiter
       → GrowsBy place exchange (sizes s) (sizes s') → Holds limiter s'
@@ -106,6 +111,7 @@ module _ {L : Type 0} (rules : Rules L) (holdings : L → Holdings)
   exchange_holds s s' l None place (Notice q failure heed) held (kind, Some p, asks, notices) grows = absurd notices
   exchange_holds s s' l limiter place (Notice q failure heed) held (kind, None, asks, notices) grows = absurd asks
 
+  -- a run keeps them held
   pub totals_are_held : (s : State) (l : L) → HoldsTotals (holdings l) s → (turns : List Turn) (w' : World (Option L))
       → Run (optional_rules rules) (record { state = s; limiter = Some l }) turns w' → Holds w'.limiter w'.state
   totals_are_held s l held [] w' ran =
@@ -115,6 +121,7 @@ module _ {L : Type 0} (rules : Rules L) (holdings : L → Holdings)
       let next = exchange_holds s v.state l v.limiter (place_of turn.call) passed.0 held passed.1 passed.2 in
       totals_are_held v.state next.0 next.2 turns w' (rw next.1 at ran)
 
+  -- so from a run that is reserving
   pub run_holds : {R E : Type 0} (items : R → List Reply) (s : State) (l : L) (s' : State) (l' : L)
       (calls : List Call) → HoldsTotals (holdings l) s → (result : Result R E)
       → IfOk result (λ replies. IsRunOf (optional_rules rules) calls (record { state = s; limiter = Some l })

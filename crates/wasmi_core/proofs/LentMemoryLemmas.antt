@@ -38,6 +38,7 @@ use Rattle.wasmi_core.specs.declared.calls.Reply.TheVariants as replied
 -- An attempt where nothing stands between the permission and the charge, and where more may refuse after it.
 module _ {V W E : Type 0} (e : Effort V E) (refuses : E → Type 0)
     (lacks : (cause : E) → e.refuses cause → refuses cause) (own : V → W) where
+  -- the same effort without a late cause
   abbrev eased : Effort W E
   eased = record {
     early = e.early;
@@ -57,6 +58,7 @@ module _ {V W E : Type 0} (e : Effort V E) (refuses : E → Type 0)
   IsEasy = (e.late ≡ None) ⊎ ((cause : E) × (e.early ≡ Some cause))
 
   module _ (m : Option Meter) where
+    -- a first cause of it
     first_cause : (late : Option E) (cause : E) → late ≡ None → IsFirstCause e m late cause
         → IsFirstCause eased m None cause
     first_cause (Some late) cause none first = absurd (none-some late (sym none))
@@ -67,16 +69,19 @@ module _ {V W E : Type 0} (e : Effort V E) (refuses : E → Type 0)
         by_price true h = lacks cause h
         by_price false h = h
 
+    -- no late cause is met
     none_late : IsEasy → e.early ≡ None → e.late ≡ None
     none_late (inl none) early = none
     none_late (inr (cause, is)) early = absurd (none-some cause (sym early ∙ is))
 
+    -- it may end as it did
     ends : IsEasy → (fate : Fate E) → MayEnd e m fate → MayEnd eased m fate
     ends easy (Unasked cause) may = may
     ends easy (Denied answer) may = may
     ends easy Met may = (may.0, refl, may.2)
     ends easy (Failed cause heed) may = (may.0, first_cause e.late cause (none_late easy may.0) may.1)
 
+    -- it is charged as it was
     charges : IsEasy → (fate : Fate E) → MayEnd e m fate → charge_of e m fate ≡ charge_of eased m fate
     charges easy (Unasked cause) may = refl
     charges easy (Denied answer) may = refl
@@ -85,6 +90,7 @@ module _ {V W E : Type 0} (e : Effort V E) (refuses : E → Type 0)
         ap (λ late. if is_none late && can_pay m (amount_due m e.price) then amount_due m e.price else 0)
         (none_late easy may.0)
 
+  -- it follows as it did
   follows : {S : Type 0} (rules : Rules S) (l l' : S) (fate : Fate E) → Follows e rules l fate l'
       → Follows eased rules l fate l'
   follows rules l l' (Unasked cause) h = h
@@ -92,12 +98,14 @@ module _ {V W E : Type 0} (e : Effort V E) (refuses : E → Type 0)
   follows rules l l' Met h = h
   follows rules l l' (Failed cause heed) h = h
 
+  -- what it leaves
   values : (x : V) (fate : Fate E) → own (value_after e x fate) ≡ value_after eased (own x) fate
   values x (Unasked cause) = refl
   values x (Denied answer) = refl
   values x Met = refl
   values x (Failed cause heed) = refl
 
+  -- what it answers
   answers : {T U : Type 0} (f : T → U) (made : T) (fate : Fate E)
       → result_map_both f (λ error. error) (answer_of e made fate) ≡ answer_of eased (f made) fate
   answers f made (Unasked cause) = refl
@@ -105,6 +113,7 @@ module _ {V W E : Type 0} (e : Effort V E) (refuses : E → Type 0)
   answers f made Met = refl
   answers f made (Failed cause heed) = refl
 
+  -- so the attempt is one of the eased effort
   attempts : {S : Type 0} (rules : Rules S) (s s' : Situation V S) (fate : Fate E) (charge : ℕ) → IsEasy
       → Attempt rules e s fate charge s' → Attempt rules eased (with_value s (own s.value)) fate charge (with_value s'
       (own s'.value))
@@ -121,10 +130,12 @@ lacks_owned : (room : Room) (cause : MemoryError) → LacksMemory room cause →
 lacks_owned Owned cause lacks = lacks
 lacks_owned (Lent rest) cause lacks = absurd lacks
 
+-- no late cause where there is place
 late_of : (place : Bool) (error : MemoryError) → place ≡ true → (if place then None else Some error) ≡ None
 late_of true error fits = refl
 late_of false error fits = absurd cc
 
+-- an early cause out of bounds
 early_of : (inside : Bool) (error : MemoryError) → inside ≡ false → (if inside then None else Some error) ≡ Some error
 early_of true error outside = absurd cc
 early_of false error outside = refl
@@ -155,6 +166,7 @@ fits_easy pages x (inr outside) =
           outside,
     )
 
+-- so it grows as one of its own
 grows_owned : {S : Type 0} (rules : Rules S) (pages : ℕ) (s : Situation MemoryValue S) (result : Result ℕ MemoryError)
     (charge : ℕ) (s' : Situation MemoryValue S) → FitsRoom pages s.value
     → GrowsMemory rules pages s result charge s'
@@ -191,10 +203,12 @@ owned_value None = refl
 owned_value (Some (Live x)) = refl
 owned_value (Some (Gone last)) = refl
 
+-- so at an index
 owned_at : (slots : List (Slot MemoryValue)) (k : ℕ)
     → live_at (map owned_slot slots) k ≡ option_map owned_memory (live_at slots k)
 owned_at slots k = ap (option_and_then live_value) (slice_get-map owned_slot slots k) ∙ owned_value (slice_get slots k)
 
+-- a fact of a live memory, or of none
 owned_fact : (o : Option MemoryValue) (Missing Missing' : Type 0) (Fact Fact' : MemoryValue → Type 0)
     → OnLive o Missing Fact → (Missing → Missing') → ((x : MemoryValue) → Fact x → Fact' (owned_memory x))
     → OnLive (option_map owned_memory o) Missing' Fact'
@@ -211,11 +225,13 @@ module _ (slots : List (Slot MemoryValue)) (k : ℕ) where
       subst (λ o. OnLive o Missing' Fact') (sym (owned_at slots k))
       (owned_fact (live_at slots k) Missing Missing' Fact Fact' h missing live)
 
+  -- a slot is written
   put_owned : (slots' : List (Slot MemoryValue)) (slot : Slot MemoryValue) → slots' ≡ slice_set slots k slot
       → map owned_slot slots' ≡ slice_set (map owned_slot slots) k (owned_slot slot)
   put_owned slots' slot put = ap (map owned_slot) put ∙ map-set owned_slot slots k slot
 
   module _ (reply : Reply) (slots' : List (Slot MemoryValue)) where
+    -- a change of a memory
     changes_owned : (Change : MemoryValue → MemoryValue → Type 0)
         → ((x x' : MemoryValue) → Change x x' → Change (owned_memory x) (owned_memory x'))
         → ChangesAt k slots reply slots' Change
@@ -225,6 +241,7 @@ module _ (slots : List (Slot MemoryValue)) (k : ℕ) where
         (λ missing. (missing.0, ap (map owned_slot) missing.1))
         (λ x h. (owned_memory h.0, change x h.0 h.1, put_owned slots' (Live h.0) h.2))
 
+    -- a drop
     drops_owned : DropsAt byte_count k slots reply slots'
         → DropsAt byte_count k (map owned_slot slots) reply (map owned_slot slots')
     drops_owned drops =
@@ -232,6 +249,7 @@ module _ (slots : List (Slot MemoryValue)) (k : ℕ) where
         (λ missing. (missing.0, ap (map owned_slot) missing.1))
         (λ x h. (h.0, put_owned slots' (Gone (byte_count x)) h.1))
 
+    -- a write
     writes_owned : (offset : ℕ) (source : List ℕ) → WritesMemoryAt k offset source slots reply slots'
         → WritesMemoryAt k offset source (map owned_slot slots) reply (map owned_slot slots')
     writes_owned offset source writes = changes_owned _ (λ x x' c. (c.0, written x x' c.0 c.1, c.2)) writes
@@ -242,15 +260,18 @@ module _ (slots : List (Slot MemoryValue)) (k : ℕ) where
         written x x' (Ok _) h = (h.0, h.1, refl)
         written x x' (Err error) h = (h.0, h.1, ap owned_memory h.2)
 
+    -- a store
     stores_owned : (a : ℕ) (stored : List ℕ) → StoresMemoryAt k a stored slots reply slots'
         → StoresMemoryAt k a stored (map owned_slot slots) reply (map owned_slot slots')
     stores_owned a stored stores = changes_owned _ (λ x x' c. (c.0, (c.1.0, c.1.1, refl), c.2)) stores
 
+    -- a store of what may be missing
     vector_stores_owned : (a : ℕ) (stored : Option (List ℕ)) → StoresVectorAt k a stored slots reply slots'
         → StoresVectorAt k a stored (map owned_slot slots) reply (map owned_slot slots')
     vector_stores_owned a None stores = (stores.0, ap (map owned_slot) stores.1)
     vector_stores_owned a (Some stored) stores = stores_owned a stored stores
 
+  -- the bytes appended by a growth
   appended_owned : (pages : ℕ) (reply : Reply)
       → bytes_appended (live_at slots k) pages reply ≡ bytes_appended (live_at (map owned_slot slots) k) pages reply
   appended_owned pages reply =
@@ -261,6 +282,7 @@ module _ (slots : List (Slot MemoryValue)) (k : ℕ) where
       by_value None = refl
       by_value (Some x) = refl
 
+  -- the reply to a load
   load_owned : (op : LoadOp) (a : ℕ) → load_reply op a (live_at slots k) ≡ load_reply op a (live_at
       (map owned_slot slots) k)
   load_owned op a = by_value (live_at slots k) ∙ ap (load_reply op a) (sym (owned_at slots k))
@@ -269,6 +291,7 @@ module _ (slots : List (Slot MemoryValue)) (k : ℕ) where
       by_value None = refl
       by_value (Some x) = refl
 
+  -- what a load of a vector gives
   vector_loaded_owned : (op : VectorLoadOp) (a : ℕ)
       → vector_loaded op a (live_at slots k) ≡ vector_loaded op a (live_at (map owned_slot slots) k)
   vector_loaded_owned op a = by_value (live_at slots k) ∙ ap (vector_loaded op a) (sym (owned_at slots k))
@@ -277,6 +300,7 @@ module _ (slots : List (Slot MemoryValue)) (k : ℕ) where
       by_value None = refl
       by_value (Some x) = refl
 
+  -- what a load of a lane gives
   lane_loaded_owned : (op : LoadLaneOp) (a : ℕ) (vector : Option ℕ)
       → lane_loaded op a vector (live_at slots k) ≡ lane_loaded op a vector (live_at (map owned_slot slots) k)
   lane_loaded_owned op a vector =
@@ -287,6 +311,7 @@ module _ (slots : List (Slot MemoryValue)) (k : ℕ) where
       by_value None v = refl
       by_value (Some x) v = refl
 
+  -- a growth
   growth_owned : {S : Type 0} (rules : Rules S) (pages : ℕ) (m : Option Meter) (l : S) (reply : Reply) (charge : ℕ)
       (slots' : List (Slot MemoryValue)) (m' : Option Meter) (l' : S)
       → OnLive (live_at slots k) (Unit {0}) (FitsRoom pages)
@@ -326,6 +351,7 @@ appends_owned (Ok x) slots reply slots' appends = (
 )
 appends_owned (Err error) slots reply slots' appends = (appends.0, ap (map owned_slot) appends.1)
 
+-- so in a new slot
 creates_owned : {S : Type 0} (rules : Rules S) (room : Room) (ty : MemoryTypeValue) (slots : List (Slot MemoryValue))
     (l : S) (reply : Reply) (slots' : List (Slot MemoryValue)) (l' : S) → has_place_for room (minimum_bytes ty) ≡ true
     → Creates replied.Memory (MakesMemory rules room ty) slots l reply slots' l'
@@ -344,6 +370,7 @@ EffectFits s (LentMemoryMade ty) = ⊥
 EffectFits s (MemoryGrown k pages) = OnLive (live_at s.memories k) (Unit {0}) (FitsRoom pages)
 EffectFits s effect = Unit {0}
 
+-- it is one whose call does
 effect_fits : (s : State) (call : Call) → FitsRegions s call → EffectFits s (effect_of s call)
 effect_fits s (NewLentMemory ty) fits = fits
 effect_fits s call fits = fits
@@ -380,6 +407,7 @@ change_owned s reply s' (MemoryDropped k) c =
 change_owned s reply s' change c = record { part = c.part; row = c.row; after = ap owned c.after }
 
 module _ {S : Type 0} (rules : Rules S) (w : World S) (turn : Turn) (w' : World S) where
+  -- each effect that fits
   effect_owned : (effect : Effect) → EffectFits w.state effect → TakesEffect rules effect w turn w'
       → TakesEffect rules effect (owned_world w) turn (owned_world w')
   effect_owned (Told told) fits step = record { free = step.free; row = step.row; after = ap owned_world step.after }
@@ -450,6 +478,7 @@ module _ {S : Type 0} (rules : Rules S) (w : World S) (turn : Turn) (w' : World 
             step.after;
       }
 
+-- a run
 pub run_is_owned : {S : Type 0} (rules : Rules S) (w : World S) (turns : List Turn) (w' : World S)
     → RunInRegions rules w turns w' → Run rules (owned_world w) turns (owned_world w')
 run_is_owned rules w [] w' ran = ap owned_world ran
@@ -463,6 +492,7 @@ on_spare : (Fact : List ℕ → Type 0) (Missing : Type 0) (spare : Option (List
 on_spare Fact Missing None region is h = absurd (none-some region is)
 on_spare Fact Missing (Some r) region is h = subst Fact (same_Some r region is) h
 
+-- so it is one of a memory of its own
 pub creation_is_owned : {S : Type 0} (rules : Rules S) (w : World S) (turn : Turn) (w' : World S)
     (ty : MemoryTypeValue) (region : List ℕ) → turn.call ≡ NewLentMemory ty → w.state.spare ≡ Some region
     → minimum_bytes ty ≤ length region
@@ -489,15 +519,18 @@ record IsFree (pages : ℕ) {S : Type 0} (s : Situation MemoryValue S) (rest : L
 
 module _ {S : Type 0} (rules : Rules S) (pages : ℕ) (s : Situation MemoryValue S) (rest : List ℕ)
     (free : IsFree pages s rest) (result : Result ℕ MemoryError) (charge : ℕ) (s' : Situation MemoryValue S) where
+  -- it has succeeded, or the limiter has denied it
   abbrev Succeeds : Type 0
   Succeeds =
       (result ≡ Ok (pages_of s.value)) ⊎ ((answer : Answer) × IsDenial answer × rules.asked s.limiter
       (memory.growth_of s.value pages).question answer s'.limiter)
 
+  -- nothing refuses it before the limiter is asked
   no_early : (inner : Bool) → inner ≡ true → (if inner then None else Some MemoryError.OutOfBoundsGrowth) ≡ None
   no_early true is = refl
   no_early false is = absurd cc
 
+  -- nothing refuses it after
   no_cause : (cause : MemoryError) → IsFirstCause (memory.growth_of s.value pages) s.meter (memory.growth_of s.value
       pages).late cause → ⊥
   no_cause cause first =
@@ -515,6 +548,7 @@ module _ {S : Type 0} (rules : Rules S) (pages : ℕ) (s : Situation MemoryValue
       first_of None none first = first
       first_of (Some late) none first = absurd (none-some late (sym none))
 
+  -- it has succeeded or was denied, by its fate
   by_fate : (fate : Fate MemoryError) → MayEnd (memory.growth_of s.value pages) s.meter fate
       → Follows (memory.growth_of s.value pages) rules s.limiter fate s'.limiter
       → result ≡ answer_of (memory.growth_of s.value pages) (pages_of s.value) fate → Succeeds
@@ -524,6 +558,7 @@ module _ {S : Type 0} (rules : Rules S) (pages : ℕ) (s : Situation MemoryValue
   by_fate Met may follows answered = inl answered
   by_fate (Failed cause heed) may follows answered = absurd (no_cause cause may.1)
 
+  -- so the growth
   growth_succeeds : GrowsMemory rules pages s result charge s' → Succeeds
   growth_succeeds (inl none) = inl none.answered
   growth_succeeds (inr some) = by_fate some.fate some.attempt.may_end some.attempt.follows some.answered

@@ -27,22 +27,26 @@ use Rattle.wasmi_store.specs.Memory as memory
 use Rattle.wasmi_store.specs.MemoryType as memory_type
 use Rattle.wasmi_core.specs.declared.calls.Reply.TheVariants as replied
 
+-- a refused write leaves the memory
 written_back : (x x' : MemoryValue) (offset : ℕ) (source : List ℕ) (result : Result (Unit {0}) MemoryError)
     → IsRefusal (reply_of (λ _. replied.Done) replied.Memory result) → WritesMemory x offset source result x' → x' ≡ x
 written_back x x' offset source (Ok _) refused writes = absurd refused
 written_back x x' offset source (Err error) refused writes = writes.2
 
+-- so does a store that traps
 stored_back : (x x' : MemoryValue) (a : ℕ) (stored : List ℕ) (result : Result (Unit {0}) TrapCode)
     → IsRefusal (reply_of (λ _. replied.Done) replied.Trap result) → StoresMemory x a stored result x' → x' ≡ x
 stored_back x x' a stored (Ok _) refused stores = absurd refused
 stored_back x x' a stored (Err trap) refused (stores, ty, room) =
     λ k. record { ty = ty k; bytes = stores.2 k; room = room k }
 
+-- so in its slot
 store_back : (k : ℕ) (slots : List (Slot MemoryValue)) (reply : Reply) (slots' : List (Slot MemoryValue)) (a : ℕ)
     → IsRefusal reply → (stored : List ℕ) → StoresMemoryAt k a stored slots reply slots' → slots' ≡ slots
 store_back k slots reply slots' a refused stored stores =
     changes_back k slots reply slots' _ (λ x x' c. stored_back x x' a stored c.0 (rw c.2 at refused) c.1) stores
 
+-- so with bytes that may be missing
 pub vector_store_back : (k : ℕ) (slots : List (Slot MemoryValue)) (reply : Reply) (slots' : List (Slot MemoryValue))
     (a : ℕ) → IsRefusal reply → (stored : Option (List ℕ)) → StoresVectorAt k a stored slots reply slots'
     → slots' ≡ slots
@@ -50,6 +54,7 @@ vector_store_back k slots reply slots' a refused None stores = stores.1
 vector_store_back k slots reply slots' a refused (Some stored) stores =
     store_back k slots reply slots' a refused stored stores
 
+-- a refused creation in the spare region leaves the slots
 pub lent_back : {S : Type 0} (rules : Rules S) (ty : MemoryTypeValue) (part : MemoryPart) (l : S) (reply : Reply)
     (part' : MemoryPart) (l' : S) → IsRefusal reply → CreatesLent rules ty part l reply part' l'
     → part'.slots ≡ part.slots
@@ -70,11 +75,13 @@ spare_by rules ty part l reply part' l' None is none =
     ∙ sym (ap (spare_after reply) is ∙ ap (λ r. spare_after r None) none.0)
 spare_by rules ty part l reply part' l' (Some region) is made = made.1
 
+-- so after a creation in it
 pub lent_spare : {S : Type 0} (rules : Rules S) (ty : MemoryTypeValue) (part : MemoryPart) (l : S) (reply : Reply)
     (part' : MemoryPart) (l' : S) → CreatesLent rules ty part l reply part' l'
     → part'.spare ≡ spare_after reply part.spare
 lent_spare rules ty part l reply part' l' creates = spare_by rules ty part l reply part' l' part.spare refl creates
 
+-- a refused growth leaves the slots
 pub memory_growth_back : {S : Type 0} (rules : Rules S) (k pages : ℕ) (s s' : Situation (List (Slot MemoryValue)) S)
     (reply : Reply) (charge : ℕ) → IsRefusal reply
     → ActsAt k (reply_of replied.Number replied.Memory) (GrowsMemory rules pages) s reply charge s' → s'.value ≡ s.value
@@ -85,6 +92,7 @@ memory_growth_back {S} rules k pages s s' reply charge refused acts =
     (grows_back replied.Memory rules (record { amount = pages; size = pages_of x; effort = memory.growth_of x pages })
     (with_value s x) (with_value s' a.1) charge a.0 (rw a.3 at refused) a.2))
 
+-- a refused write leaves the slots
 pub write_refused : (k offset : ℕ) (source : List ℕ) (slots : List (Slot MemoryValue)) (reply : Reply)
     (slots' : List (Slot MemoryValue)) → IsRefusal reply → WritesMemoryAt k offset source slots reply slots'
     → slots' ≡ slots
@@ -99,6 +107,7 @@ read_same (Some bytes) reply reply' room room' (inl none) b = absurd (rw none at
 read_same (Some bytes) reply reply' room room' (inr a) (inl none) = absurd (rw none at room')
 read_same (Some bytes) reply reply' room room' (inr a) (inr b) = a ∙ sym b
 
+-- two reads of the memory of an index
 pub reads_same : (k offset len : ℕ) (slots : List (Slot MemoryValue)) (reply reply' : Reply) → HasMemory reply
     → HasMemory reply' → ReadsMemoryAt k offset len slots reply → ReadsMemoryAt k offset len slots reply'
     → reply ≡ reply'
@@ -106,6 +115,7 @@ reads_same k offset len slots reply reply' room room' a b =
     on_both (live_at slots k) _ _ _ _ a b (λ h h'. h ∙ sym h')
     (λ x h h'. read_same (at x.bytes offset len) reply reply' room room' h h')
 
+-- two writes
 write_same : (x x' x'' : MemoryValue) (offset : ℕ) (source : List ℕ) (result result' : Result (Unit {0}) MemoryError)
     → WritesMemory x offset source result x' → WritesMemory x offset source result' x''
     → (result ≡ result') × (x' ≡ x'')
@@ -117,6 +127,7 @@ write_same x x' x'' offset source (Ok u) (Err error) a b = absurd (none-some x'.
 write_same x x' x'' offset source (Err error) (Ok u) a b = absurd (none-some x''.bytes (sym a.1 ∙ b.0))
 write_same x x' x'' offset source (Err error) (Err error') a b = (ap Err (a.0 ∙ sym b.0), a.2 ∙ sym b.2)
 
+-- two stores
 store_same : (x x' x'' : MemoryValue) (a : ℕ) (stored : List ℕ) (result result' : Result (Unit {0}) TrapCode)
     → StoresMemory x a stored result x' → StoresMemory x a stored result' x'' → (result ≡ result') × (x' ≡ x'')
 store_same x x' x'' a stored (Ok u) (Ok u') (bytes, ty, room) (bytes', ty', room') =
@@ -131,6 +142,7 @@ store_same x x' x'' a stored (Err trap) (Err trap') (bytes, ty, room) (bytes', t
       record { ty = (ty ∙ sym ty') k; bytes = (bytes.2 ∙ sym bytes'.2) k; room = (room ∙ sym room') k },
 )
 
+-- two writes to the memory of an index
 pub writes_same : (k offset : ℕ) (source : List ℕ) (slots : List (Slot MemoryValue)) (reply reply' : Reply)
     (slots' slots'' : List (Slot MemoryValue)) → WritesMemoryAt k offset source slots reply slots'
     → WritesMemoryAt k offset source slots reply' slots'' → (reply ≡ reply') × (slots' ≡ slots'')
@@ -141,6 +153,7 @@ writes_same k offset source slots reply reply' slots' slots'' a b =
     write_same x x' x'' offset source h.0 h'.0 h.1 h'.1 in
     (h.2 ∙ ap (reply_of (λ _. replied.Done) replied.Memory) both.0 ∙ sym h'.2, both.1)) a b
 
+-- two stores to it
 stores_same : (k a : ℕ) (stored : List ℕ) (slots : List (Slot MemoryValue)) (reply reply' : Reply)
     (slots' slots'' : List (Slot MemoryValue)) → StoresMemoryAt k a stored slots reply slots'
     → StoresMemoryAt k a stored slots reply' slots'' → (reply ≡ reply') × (slots' ≡ slots'')
@@ -151,6 +164,7 @@ stores_same k a stored slots reply reply' slots' slots'' h h' =
     store_same x x' x'' a stored c.0 c'.0 c.1 c'.1 in
     (c.2 ∙ ap (reply_of (λ _. replied.Done) replied.Trap) both.0 ∙ sym c'.2, both.1)) h h'
 
+-- two stores of what may be missing
 pub vector_stores_same : (k a : ℕ) (stored : Option (List ℕ)) (slots : List (Slot MemoryValue)) (reply reply' : Reply)
     (slots' slots'' : List (Slot MemoryValue)) → StoresVectorAt k a stored slots reply slots'
     → StoresVectorAt k a stored slots reply' slots'' → (reply ≡ reply') × (slots' ≡ slots'')
@@ -169,9 +183,11 @@ overwritten xs ys zs a true fits is =
     (λ n. n + length (drop (a + length ys) xs)) (length-append (take a xs) ys) ∙ omega (arith, inside, front, back))
 overwritten xs ys zs a false fits is = absurd (none-some zs is)
 
+-- so by the test that it makes
 pub overwrite_length : (xs ys zs : List ℕ) (a : ℕ) → overwrite xs a ys ≡ Some zs → length zs ≡ length xs
 overwrite_length xs ys zs a is = overwritten xs ys zs a _ refl is
 
+-- so for a store
 accessed_length : (xs ys zs : List ℕ) (a : ℕ) (low : Bool) → (if low then overwrite xs a ys else None) ≡ Some zs
     → length zs ≡ length xs
 accessed_length xs ys zs a true is = overwrite_length xs ys zs a is
@@ -183,22 +199,26 @@ pub written_count : (x x' : MemoryValue) (offset : ℕ) (source : List ℕ) (res
 written_count x x' offset source (Ok _) writes = overwrite_length x.bytes source x'.bytes offset writes.0
 written_count x x' offset source (Err error) writes = ap byte_count writes.2
 
+-- so does a store
 pub stored_count : (x x' : MemoryValue) (a : ℕ) (stored : List ℕ) (result : Result (Unit {0}) TrapCode)
     → StoresMemory x a stored result x' → byte_count x' ≡ byte_count x
 stored_count x x' a stored (Ok _) stores = accessed_length x.bytes stored x'.bytes a _ stores.0
 stored_count x x' a stored (Err trap) stores = ap length stores.0.2
 
 module _ (k : ℕ) (slots : List (Slot MemoryValue)) (reply : Reply) (slots' : List (Slot MemoryValue)) (a : ℕ) where
+  -- a write keeps the sizes
   pub written_kept : (source : List ℕ) → WritesMemoryAt k a source slots reply slots'
       → map (slot_count byte_count) slots' ≡ map (slot_count byte_count) slots
   written_kept source writes =
       changes_kept byte_count k slots reply slots' _ (λ x x' c. written_count x x' a source c.0 c.1) writes
 
+  -- so does a store
   store_kept : (stored : List ℕ) → StoresMemoryAt k a stored slots reply slots'
       → map (slot_count byte_count) slots' ≡ map (slot_count byte_count) slots
   store_kept stored stores =
       changes_kept byte_count k slots reply slots' _ (λ x x' c. stored_count x x' a stored c.0 c.1) stores
 
+  -- so does a store of what may be missing
   pub vector_store_kept : (stored : Option (List ℕ)) → StoresVectorAt k a stored slots reply slots'
       → map (slot_count byte_count) slots' ≡ map (slot_count byte_count) slots
   vector_store_kept None stores = ap (map (slot_count byte_count)) stores.1
@@ -219,6 +239,7 @@ write_valid x x' offset source (Ok done) valid writes =
     memory_as_long x x' writes.1 (written_count x x' offset source (Ok done) writes) valid
 write_valid x x' offset source (Err error) valid writes = subst IsValidMemory (sym writes.2) valid
 
+-- so does a store
 stored_valid : (x x' : MemoryValue) (a : ℕ) (stored : List ℕ) (result : Result (Unit {0}) TrapCode) → IsValidMemory x
     → StoresMemory x a stored result x' → IsValidMemory x'
 stored_valid x x' a stored result valid stores =

@@ -14,10 +14,12 @@ pub record IsLater (first later : Quota) : Type 0 where
   pub within : IsWithinCaps later
   pub caps : SameCaps first later
 
+-- the caps stay
 same_caps : (a b c : Quota) → SameCaps a b → SameCaps b c → SameCaps a c
 same_caps a b c first second =
     record { bytes = second.bytes ∙ first.bytes; elements = second.elements ∙ first.elements }
 
+-- a question keeps them
 asked_later : (first l : Quota) (q : Question) (answer : Answer) (l' : Quota) → IsLater first l → Asked l q answer l'
     → IsLater first l'
 asked_later first l q answer l' later asked =
@@ -27,6 +29,7 @@ asked_later first l q answer l' later asked =
           asked.caps;
     }
 
+-- so does a notice
 noticed_later : (first l : Quota) (failure : Failure) (heed : Heed) (l' : Quota) → IsLater first l
     → Noticed l failure heed l' → IsLater first l'
 noticed_later first l failure heed l' later noticed =
@@ -36,6 +39,7 @@ noticed_later first l failure heed l' later noticed =
           later.caps noticed.caps;
     }
 
+-- so a run
 pub quota_stays_within : (s : State) (l : Quota) → IsWithinCaps l → (turns : List Turn) (w' : World _)
     → Run (optional_rules quota_rules) (world s (Some l)) turns w'
     → (l' : Quota) × (w'.limiter ≡ Some l') × IsWithinCaps l' × SameCaps l l'

@@ -45,6 +45,7 @@ abbrev LeavesSpare : Effect → Reply → State → State → Type 0
 LeavesSpare (LentMemoryMade ty) reply s s' = s'.spare ≡ spare_after reply s.spare
 LeavesSpare effect reply s s' = s'.spare ≡ s.spare
 
+-- so by the call
 spare_kept : (s s' : State) (call : Call) (reply : Reply) → LeavesSpare (effect_of s call) reply s s'
     → KeepsSpare call reply s s'
 spare_kept s s' (NewLentMemory ty) reply leaves = leaves
@@ -59,6 +60,7 @@ module _ {S : Type 0} (w w' : World S) where
         refl,
       )
 
+  -- so with another meter
   paid : (m : Meter) → {v : World S} → w' ≡ v → v.state ≡ record w.state { meter = m }
       → SameContents w.state w'.state × (w'.state.spare ≡ w.state.spare)
   paid m is same =
@@ -69,6 +71,7 @@ module _ {S : Type 0} (w w' : World S) where
 
 module _ {S : Type 0} (rules : Rules S) (w : World S) (turn : Turn) (w' : World S)
     (refused : IsRefusal turn.reply) where
+  -- each effect
   effect_back : (effect : Effect) → TakesEffect rules effect w turn w'
       → SameContents w.state w'.state × LeavesSpare effect turn.reply w.state w'.state
   effect_back (FuelSet fuel) step = paid w w' _ step.after step.row.1
@@ -210,6 +213,7 @@ ends_free w x m charge x' true (Some elements) true result refused ends = absurd
 
 module _ (k : ℕ) (slots : List (Slot TableValue)) (m : Meter) (reply : Reply) (refused : IsRefusal reply) (charge : ℕ)
     (slots' : List (Slot TableValue)) (m' : Meter) where
+  -- a refused write over a part of a table leaves the meter
   write_meter : (write : TableValue → TableWrite)
       → WritesTableAt k write (metered slots m) reply charge (metered slots' m') → m' ≡ m
   write_meter write writes =
@@ -218,6 +222,7 @@ module _ (k : ℕ) (slots : List (Slot TableValue)) (m : Meter) (reply : Reply) 
       (λ x found h. free_meter m m' charge (ends_free (write x) x (Some m) charge h.1 (write x).typed
       (write x).written _ h.0 (rw h.3 at refused) h.2.ends) h.2.meter)
 
+  -- so from what may be missing
   copy_meter : {X : Type 0} (source : Option X) (write : X → TableValue → TableWrite)
       → WritesTableFrom source k write (metered slots m) reply charge (metered slots' m') → m' ≡ m
   copy_meter source write writes =
@@ -230,10 +235,12 @@ module _ {S : Type 0} (rules : Rules S) (w : World S) (turn : Turn) (w' : World 
   stays : {v : World S} → w' ≡ v → v.state.meter ≡ w.state.meter → KeepsMeter rules w w'
   stays is same = inl (ap (λ (x : World S). x.state.meter) is ∙ same)
 
+  -- one that ends with this meter and limiter
   ends_with : (s : State) (m : Meter) (l : S) → w' ≡ record { state = record s { meter = m }; limiter = l }
       → (m ≡ w.state.meter) ⊎ IsToldOfWant rules w.limiter l → KeepsMeter rules w w'
   ends_with s m l is kept = subst (KeepsMeter rules w) (sym is) kept
 
+  -- a refused growth of a memory
   memory_meter : (k pages : ℕ) (slots' : List (Slot MemoryValue)) (m' : Meter) (l' : S)
       → ActsAt k (reply_of replied.Number replied.Memory) (GrowsMemory rules pages)
       (record { value = w.state.memories; meter = Some w.state.meter; limiter = w.limiter }) turn.reply turn.charge
@@ -248,6 +255,7 @@ module _ {S : Type 0} (rules : Rules S) (w : World S) (turn : Turn) (w' : World 
       replied.Memory (record { tells = λ cause. refl; wants = lacks_memory x.room }) x a.1 w.state.meter m'
       turn.charge a.0 (rw a.3 at refused) a.2)
 
+  -- a refused growth of a table
   table_meter : (k n : ℕ) (init : TypedRawRef) (slots' : List (Slot TableValue)) (m' : Meter) (l' : S)
       → ActsAt k (reply_of replied.Number replied.Table) (GrowsTable rules n init)
       (record { value = w.state.tables; meter = Some w.state.meter; limiter = w.limiter }) turn.reply turn.charge
@@ -268,6 +276,7 @@ module _ {S : Type 0} (rules : Rules S) (w : World S) (turn : Turn) (w' : World 
       x a.1 w.state.meter m' turn.charge a.0 (rw a.3 at refused) g)
       (λ g. inl (same_Some m' w.state.meter (ap (λ (s : Situation TableValue S). s.meter) g.2))))
 
+  -- each effect
   effect_meter : (effect : Effect) → TakesEffect rules effect w turn w' → KeepsMeter rules w w'
   effect_meter (FuelSet fuel) step =
       stays step.after (ap (λ (s : State). s.meter) step.row.1 ∙ unset w.state.meter.left w.state.meter.costs fuel
@@ -286,6 +295,7 @@ module _ {S : Type 0} (rules : Rules S) (w : World S) (turn : Turn) (w' : World 
       (write_of source dst len) (λ write. write) step.row))
   effect_meter effect step = stays step.after refl
 
+-- each step
 pub refusals_keep_contents : {S : Type 0} (rules : Rules S) (w : World S) (turn : Turn) (w' : World S)
     → Step rules w turn w' → IsRefusal turn.reply → Keeps rules w turn w'
 refusals_keep_contents rules w turn w' step refused =

@@ -6,6 +6,7 @@ use Rattle.wasmi_core.specs.declared.calls.Reply.{Reply}
 use Rattle.wasmi_raw.specs.declared.raw.RawVal.{RawVal}
 use Rattle.wasmi_types.specs.declared.trap.TrapCode.{TrapCode}
 
+-- a refused call leaves the registers
 pub takes_back : (given : Option (Result RawVal TrapCode)) (old : Option RawVal) (dst : ℕ) (registers : List RawVal)
     (reply : Reply) (registers' : List RawVal) → IsRefusal reply → TakesAt given old dst registers reply registers'
     → registers' ≡ registers
@@ -14,6 +15,7 @@ takes_back (Some given) None dst registers reply registers' refused takes = take
 takes_back (Some (Ok value)) (Some old) dst registers reply registers' refused takes = absurd (rw takes.0 at refused)
 takes_back (Some (Err trap)) (Some old) dst registers reply registers' refused takes = takes.1
 
+-- two calls that set a register
 pub takes_same : (given : Option (Result RawVal TrapCode)) (old : Option RawVal) (dst : ℕ) (registers : List RawVal)
     (reply reply' : Reply) (registers' registers'' : List RawVal) → TakesAt given old dst registers reply registers'
     → TakesAt given old dst registers reply' registers'' → (reply ≡ reply') × (registers' ≡ registers'')

@@ -2,7 +2,7 @@
 use Rattle.std.proofs.Common.{Err, List, Result, [], ap, inl, inr, map, subst, sym, ℕ, ◌∙◌, ◌∷◌, ◌≡◌}
 use Rattle.std.proofs.lemmas.List.Elements.{All-head, All-tail}
 use Rattle.std.specs.Prelude.{All}
-use Rattle.wasmi_core.proofs.RowLemmas.{on_live_too, on_test_too}
+use Rattle.wasmi_core.proofs.RowLemmas.{Outcome, on_live_too, on_test_too}
 use Rattle.wasmi_core.specs.Rows.{ActsAt, Appends, Creates, reply_of}
 use Rattle.wasmi_core.specs.Runs.{Run}
 use Rattle.wasmi_core.specs.State.{live_at}
@@ -74,18 +74,18 @@ module _ {S : Type 0} (rules rules' : Rules S) (Shows : Reply → Type 0) where
 
   -- a creation
   creates_revealed : {X E : Type 0} (refusal : E → Reply) (e : Effort (Unit {0}) E) → Reveals refusal e
-      → (made : X) (slots slots' : List (Slot X)) (reply : Reply) (l l' : S)
-      → Shows reply → Creates refusal (Makes rules e made) slots l reply slots' l'
-      → Creates refusal (Makes rules' e made) slots l reply slots' l'
-  creates_revealed refusal e reveals made slots slots' reply l l' shows (inl none) = inl none
-  creates_revealed refusal e reveals made slots slots' reply l l' shows
-      (inr (result, (fate, attempt, answered), appends)) =
+      → (made : X) (slots : List (Slot X)) (l : S) (o : Outcome (List (Slot X)) S) → Shows o.reply
+      → Creates refusal (Makes rules e made) slots l o.reply o.part o.limiter
+      → Creates refusal (Makes rules' e made) slots l o.reply o.part o.limiter
+  creates_revealed refusal e reveals made slots l o shows (inl none) = inl none
+  creates_revealed refusal e reveals made slots l o shows (inr (result, (fate, attempt, answered), appends)) =
       let shown : (c : _) → IsErrorOf e fate c → Shows (refusal c) =
-      λ c is. subst Shows (subst (λ r. Appends Live refusal r slots reply slots')
-      (answered ∙ answered_error e made fate c is) appends).0 shows in
+      λ c is. subst Shows (subst (λ r. Appends Live refusal r slots o.reply o.part)
+      (answered ∙ answered_error e made fate c is) appends).0 shows
+      in
       inr (
         result,
-        (fate, attempt_revealed refusal e reveals (alone l) (alone l') fate 0 shown attempt, answered),
+        (fate, attempt_revealed refusal e reveals (alone l) (alone o.limiter) fate 0 shown attempt, answered),
         appends,
       )
 
@@ -133,7 +133,8 @@ module _ {S : Type 0} (rules rules' : Rules S) (Shows : Reply → Type 0) where
         part = step.part;
         limiter = step.limiter;
         row = creates_revealed replied.Memory (memory.creation_of Owned ty) (each.memory_made Owned ty)
-            (new_memory Owned ty) w.state.memories step.part turn.reply w.limiter step.limiter shows step.row;
+            (new_memory Owned ty) w.state.memories w.limiter
+            (record { reply = turn.reply; part = step.part; limiter = step.limiter }) shows step.row;
         after = step.after;
       }
       effect_revealed (LentMemoryMade ty) step = record {
@@ -143,9 +144,8 @@ module _ {S : Type 0} (rules rules' : Rules S) (Shows : Reply → Type 0) where
         row = on_live_too w.state.spare _ _ _ _ (λ none. none)
             (λ region h. (
               creates_revealed replied.Memory (memory.creation_of (Lent region) ty)
-                  (each.memory_made (Lent region) ty) (new_memory (Lent region) ty) w.state.memories step.part.slots
-                  turn.reply
-                  w.limiter step.limiter shows h.0,
+                  (each.memory_made (Lent region) ty) (new_memory (Lent region) ty) w.state.memories w.limiter
+                  (record { reply = turn.reply; part = step.part.slots; limiter = step.limiter }) shows h.0,
               h.1,
             )) step.row;
         after = step.after;
@@ -170,7 +170,8 @@ module _ {S : Type 0} (rules rules' : Rules S) (Shows : Reply → Type 0) where
         part = step.part;
         limiter = step.limiter;
         row = creates_revealed replied.Table (table.creation_of ty init.ty) (each.table_made ty init.ty)
-            (new_table ty init.raw) w.state.tables step.part turn.reply w.limiter step.limiter shows step.row;
+            (new_table ty init.raw) w.state.tables w.limiter
+            (record { reply = turn.reply; part = step.part; limiter = step.limiter }) shows step.row;
         after = step.after;
       }
       effect_revealed (TableGrown k n init) step = record {

@@ -41,17 +41,20 @@ module _ {X : Type 0} where
   live_slot (Some (Gone last)) x found = absurd (none-some x found)
   live_slot (Some (Live y)) x found = ap (λ z. Some (Live z)) (same_Some y x found)
 
+  -- the same value is put back
   pub put_back : (slots : List (Slot X)) (k : ℕ) (x x' : X) → live_at slots k ≡ Some x → x' ≡ x
       → slice_set slots k (Live x') ≡ slots
   put_back slots k x x' found same =
       ap (λ z. set slots k (Live z)) same ∙ set_read slots k (Live x) (live_slot (slice_get slots k) x found)
 
+  -- a change that changes nothing
   found_back : {A : Type 0} (found : Option X) (put : X → A) (part : A) (reply : Reply) (part' : A)
       (Change : X → X → Type 0) → ((x : X) → found ≡ Some x → put x ≡ part) → ((x x' : X) → Change x x' → x' ≡ x)
       → ChangesFound found put part reply part' Change → part' ≡ part
   found_back found put part reply part' Change read same changes =
       on_live found _ _ changes (λ missing. missing.1) (λ x is h. h.2 ∙ ap put (same x h.0 h.1) ∙ read x is)
 
+  -- so in a slot
   pub changes_back : (k : ℕ) (slots : List (Slot X)) (reply : Reply) (slots' : List (Slot X))
       (Change : X → X → Type 0) → ((x x' : X) → Change x x' → x' ≡ x) → ChangesAt k slots reply slots' Change
       → slots' ≡ slots
@@ -59,12 +62,14 @@ module _ {X : Type 0} where
       found_back (live_at slots k) (λ x. slice_set slots k (Live x)) slots reply slots' Change
       (λ x found. put_back slots k x x found refl) same changes
 
+  -- so in a list
   pub item_back : (k : ℕ) (items : List X) (reply : Reply) (items' : List X) (Change : X → X → Type 0)
       → ((x x' : X) → Change x x' → x' ≡ x) → ChangesItem k items reply items' Change → items' ≡ items
   item_back k items reply items' Change same changes =
       found_back (slice_get items k) (slice_set items k) items reply items' Change
       (λ x found. set_read items k x found) same changes
 
+  -- a refused drop leaves the slots
   pub drops_back : (count : X → ℕ) (k : ℕ) (slots : List (Slot X)) (reply : Reply) (slots' : List (Slot X))
       → IsRefusal reply → DropsAt count k slots reply slots' → slots' ≡ slots
   drops_back count k slots reply slots' refused drops =
@@ -77,6 +82,7 @@ module _ {E : Type 0} (refusal : E → Reply) where
   appends_back entry (Ok x) list reply list' refused appends = absurd (rw appends.0 at refused)
   appends_back entry (Err error) list reply list' refused appends = appends.1
 
+  -- so a creation under a limiter
   pub creates_back : {X S : Type 0} (Makes : S → Result X E → S → Type 0) (slots : List (Slot X)) (l : S)
       (reply : Reply) (slots' : List (Slot X)) (l' : S) → IsRefusal reply
       → Creates refusal Makes slots l reply slots' l' → slots' ≡ slots
@@ -85,6 +91,7 @@ module _ {E : Type 0} (refusal : E → Reply) where
       appends_back Live result slots reply slots' refused appends
 
   module _ {V S : Type 0} (rules : Rules S) (g : Growth V E) (s s' : Situation V S) (charge : ℕ) where
+    -- a refused attempt leaves the value
     attempt_back : (fate : Fate E) → IsRefusal (reply_of replied.Number refusal (answer_of g.effort g.size fate))
         → s'.value ≡ value_after g.effort s.value fate → s'.value ≡ s.value
     attempt_back (Unasked cause) refused is = is
@@ -92,6 +99,7 @@ module _ {E : Type 0} (refusal : E → Reply) where
     attempt_back Met refused is = absurd refused
     attempt_back (Failed cause heed) refused is = is
 
+    -- so a refused growth
     pub grows_back : (result : Result ℕ E) → IsRefusal (reply_of replied.Number refusal result)
         → Grows rules g s result charge s' → s'.value ≡ s.value
     grows_back result refused (inl none) = ap (λ (t : Situation V S). t.value) none.same
@@ -117,6 +125,7 @@ pub record Outcome (A S : Type 0) : Type 0 where
   pub part : A
   pub limiter : S
 
+-- two creations in a new slot
 pub creates_same : {X E S : Type 0} (refusal : E → Reply) (Makes : S → Result X E → S → Type 0)
     → ((l : S) (result result' : Result X E) (l' l'' : S) → Makes l result l' → Makes l result' l''
     → (result ≡ result') × (l' ≡ l''))
@@ -134,6 +143,7 @@ creates_same refusal Makes same slots l o o' room room' (inr (result, makes, app
     in
     (put.0, put.1, made.1)
 
+-- two changes
 pub changes_same : {X A : Type 0} (found : Option X) (put : X → A) (part : A) (reply reply' : Reply)
     (part' part'' : A) (Change Change' : X → X → Type 0)
     → ((x x' x'' : X) → Change x x' → Change' x x'' → (reply ≡ reply') × (x' ≡ x''))
@@ -143,6 +153,7 @@ changes_same found put part reply reply' part' part'' Change Change' same a b =
     on_both found _ _ _ _ a b (λ h h'. (h.0 ∙ sym h'.0, h.1 ∙ sym h'.1))
     (λ x h h'. let both = same x h.0 h'.0 h.1 h'.1 in (both.0, h.2 ∙ ap put both.1 ∙ sym h'.2))
 
+-- two drops
 pub drops_same : {X : Type 0} (count : X → ℕ) (k : ℕ) (slots : List (Slot X)) (reply reply' : Reply)
     (slots' slots'' : List (Slot X)) → DropsAt count k slots reply slots' → DropsAt count k slots reply' slots''
     → (reply ≡ reply') × (slots' ≡ slots'')
@@ -150,6 +161,7 @@ drops_same count k slots reply reply' slots' slots'' a b =
     on_both (live_at slots k) _ _ _ _ a b (λ h h'. (h.0 ∙ sym h'.0, h.1 ∙ sym h'.1))
     (λ x h h'. (h.0 ∙ sym h'.0, h.1 ∙ sym h'.1))
 
+-- two calls on what an index names
 pub acts_same : {X R S : Type 0} (Acts : Situation X S → R → ℕ → Situation X S → Type 0)
     → ((s : Situation X S) (result result' : R) (charge charge' : ℕ) (s' s'' : Situation X S)
     → Acts s result charge s' → Acts s result' charge' s'' → (result ≡ result') × (charge ≡ charge') × (s' ≡ s''))
@@ -174,6 +186,7 @@ acts_same {X = X} {S = S} Acts same k reply_to s reply reply' charge charge' s' 
     ))
 
 module _ {X : Type 0} (count : X → ℕ) (k : ℕ) (slots : List (Slot X)) (reply : Reply) (slots' : List (Slot X)) where
+  -- a change that keeps the count keeps the sizes
   pub changes_kept : (Change : X → X → Type 0) → ((x x' : X) → Change x x' → count x' ≡ count x)
       → ChangesAt k slots reply slots' Change → map (slot_count count) slots' ≡ map (slot_count count) slots
   changes_kept Change same changes =
@@ -181,6 +194,7 @@ module _ {X : Type 0} (count : X → ℕ) (k : ℕ) (slots : List (Slot X)) (rep
       (λ missing. ap (map (slot_count count)) missing.1)
       (λ x found h. ap (map (slot_count count)) h.2 ∙ counts_kept count slots k x (Live h.0) found (same x h.0 h.1))
 
+  -- a drop keeps the sizes
   pub drops_kept : DropsAt count k slots reply slots' → map (slot_count count) slots' ≡ map (slot_count count) slots
   drops_kept drops =
       on_live (live_at slots k) _ _ drops
@@ -213,6 +227,7 @@ module _ {X : Type 0} (Valid : X → Type 0) where
   appended_valid refusal (Err error) list reply list' made appends valid = subst (All Valid) (sym appends.1) valid
 
 module _ {X : Type 0} (Valid : X → Type 0) where
+  -- what is in the slots is valid
   abbrev pub AllValid : List (Slot X) → Type 0
   AllValid slots = All (IsValidSlot Valid) slots
 
@@ -222,6 +237,7 @@ module _ {X : Type 0} (Valid : X → Type 0) where
   slot_valid (Some (Gone last)) x found = absurd (none-some x found)
   slot_valid (Some (Live y)) x found = ap (λ z. Some (Live z)) (same_Some y x found)
 
+  -- so what an index names
   live_valid : (slots : List (Slot X)) (k : ℕ) (x : X) → live_at slots k ≡ Some x → AllValid slots → Valid x
   live_valid slots k x found valid =
       read_valid (IsValidSlot Valid) slots k (Live x) (slot_valid (slice_get slots k) x found) valid

@@ -20,6 +20,7 @@ module _ {A : Type 0} where
       step ∙ ap (λ y. y ∷ iter_rest (copied_source t)) (sym (ap (λ o. unwrap_or o x) same))
   first_copied s t x (None, step, same) = absurd cc
 
+  -- the last item
   pub last_copied : (s t : Copied (Iter A)) → copied_steps iter_steps s None t → iter_rest (copied_source s) ≡ []
   last_copied s t (Some b, step, same) = absurd cc
   last_copied s t (None, step, same) = nil_from_length (iter_rest (copied_source s)) step.0
@@ -32,6 +33,7 @@ module _ {I : Type 0} (steps : I → Option ℕ → I → Type 0) (rest : I → 
   rest_so_far [] s t same = ap rest same
   rest_so_far (x ∷ xs) s t (u, step, more) = first s u x step ∙ ap (λ ys. x ∷ ys) (rest_so_far xs u t more)
 
+  -- the items of a segment that is there
   pub segment_read : (ty : RefType) (s t : I) (answer : Result SegmentValue SegmentError)
       → IsReading steps s ty answer t → IsSegmentOf ty (rest s) answer
   segment_read ty s t (Ok segment) (same_type, read) =

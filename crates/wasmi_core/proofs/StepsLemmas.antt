@@ -70,14 +70,17 @@ KeepsMemories s slots =
     (map (slot_count byte_count) slots ≡ map (slot_count byte_count) s.memories) × (AllValid IsValidMemory s.memories
     → AllValid IsValidMemory slots)
 
+-- tables
 abbrev KeepsTables : State → List (Slot TableValue) → Type 0
 KeepsTables s slots =
     (map (slot_count size_of) slots ≡ map (slot_count size_of) s.tables) × (AllValid IsValidTable s.tables
     → AllValid IsValidTable slots)
 
+-- element segments
 abbrev KeepsSegments : State → List SegmentValue → Type 0
 KeepsSegments s segments = All IsValidSegment s.segments → All IsValidSegment segments
 
+-- registers
 abbrev KeepsRegisters : State → List RawVal → Type 0
 KeepsRegisters s registers = length registers ≡ length s.registers
 
@@ -96,6 +99,7 @@ module _ (s : State) where
     };
   }
 
+  -- the tables
   the_tables : PartOf s (with_tables s) s.tables (KeepsTables s)
   the_tables = record {
     whole = refl;
@@ -109,6 +113,7 @@ module _ (s : State) where
     };
   }
 
+  -- the element segments
   the_segments : PartOf s (with_segments s) s.segments (KeepsSegments s)
   the_segments = record {
     whole = refl;
@@ -122,6 +127,7 @@ module _ (s : State) where
     };
   }
 
+  -- the globals
   the_globals : PartOf s (with_globals s) s.globals (λ globals. Unit {0})
   the_globals = record {
     whole = refl;
@@ -136,6 +142,7 @@ module _ (s : State) where
     };
   }
 
+  -- the registers
   the_registers : PartOf s (with_registers s) s.registers (KeepsRegisters s)
   the_registers = record {
     whole = refl;
@@ -252,6 +259,7 @@ init_pays len false is = inl refl
 abbrev pub IsWrite : ℕ → (TableValue → TableWrite) → Type 0
 IsWrite len write = (x : TableValue) → KeepsLength (write x) x × (((write x).paid ≡ Some len) ⊎ (len ≡ 0))
 
+-- so for each source
 pub source_writes : (source : Source) (dst len : ℕ) → OnLive (write_of source dst len) (Unit {0}) (IsWrite len)
 source_writes (OfReference value) dst len =
     λ x. (λ elements is. overwrite_length x.elements (replicate len value.raw) elements dst is, inl refl)

@@ -32,6 +32,7 @@ no_memory memerr.MinimumSizeOverflow has = tt
 no_memory memerr.MaximumSizeOverflow has = tt
 no_memory (memerr.OutOfFuel required) has = tt
 
+-- so for tables
 no_table : (c : TableError) → HasMemory (replied.Table c) → IsNoWant (TableFailure c)
 no_table taberr.OutOfSystemMemory has = has
 no_table taberr.MinimumSizeOverflow has = tt
@@ -76,6 +77,7 @@ all_shown : (turns : List Turn) → HaveMemory turns → All HasMemory (map Turn
 all_shown [] have = All-nil HasMemory
 all_shown (turn ∷ turns) have = All-cons HasMemory turn.reply (map Turn.reply turns) have.0 (all_shown turns have.1)
 
+-- and the other way round
 all_have : (turns : List Turn) → All HasMemory (map Turn.reply turns) → HaveMemory turns
 all_have [] has = tt
 all_have (turn ∷ turns) has = (
@@ -84,6 +86,7 @@ all_have (turn ∷ turns) has = (
       (All-tail HasMemory turn.reply (map Turn.reply turns) has),
 )
 
+-- so by their replies
 replies_have : (turns : List Turn) (replies : List Reply) → map Turn.reply turns ≡ replies → All HasMemory replies
     → HaveMemory turns
 replies_have turns replies is has = all_have turns (subst (All HasMemory) (sym is) has)
@@ -95,13 +98,16 @@ optional_heeds rules heeds (Some l) failure heed None noticed = absurd noticed
 optional_heeds rules heeds None failure heed (Some l') noticed = absurd noticed
 optional_heeds rules heeds None failure heed None noticed = noticed
 
+-- the limiter that permits everything
 pub unlimited_heeds : {S : Type 0} → HeedsAll (unlimited_rules {S = S})
 unlimited_heeds l failure heed l' noticed = noticed.0
 
+-- a quota
 pub quota_heeds : HeedsAll quota_rules
 quota_heeds l failure heed l' noticed = noticed.heeds
 
 module _ {L : Type 0} (rules : Rules L) (heeds : HeedsAll rules) where
+  -- so where the limiter may be absent
   pub told_runs : (w : World (Option L)) (turns : List Turn) (w' : World (Option L)) → HaveMemory turns
       → Run (optional_rules rules) w turns w' → Run (with_memory (optional_rules rules)) w turns w'
   told_runs w turns w' have =

@@ -21,6 +21,7 @@ module _ {X : Type 0} (count : X → ℕ) where
   counted (Some (Gone last)) x found = absurd (none-some x found)
   counted (Some (Live y)) x found = ap (λ z. Some (count z)) (same_Some y x found)
 
+  -- so in a list
   pub count_at : (slots : List (Slot X)) (k : ℕ) (x : X) → live_at slots k ≡ Some x
       → slice_get (map (slot_count count) slots) k ≡ Some (count x)
   count_at slots k x found = slice_get-map (slot_count count) slots k ∙ counted (slice_get slots k) x found
@@ -46,6 +47,7 @@ sum_set xs k current desired found =
     ap (λ n. sum (slice_set xs k desired) + n) (sym (get_or_from_slice_get xs k current 0 found))
     ∙ sum_by-set (λ x. x) xs k desired 0 (slice_get_within xs k current found)
 
+-- the sum with one more
 pub sum_push : (xs : List ℕ) (desired : ℕ) → sum (xs ++ desired ∷ []) ≡ sum xs + desired
 sum_push xs desired = sum_by_push (λ x. x) xs desired
 

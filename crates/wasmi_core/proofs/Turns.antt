@@ -8,21 +8,25 @@ use Rattle.wasmi_core.specs.World.{World, Turn, world}
 use Rattle.wasmi_core.specs.Steps.{Step, Answers}
 use Rattle.wasmi_core.specs.Runs.{Sequence, Run, IsRunOf}
 
+-- what is made of two lists
 map-append : {X Y : Type 0} (f : X → Y) (xs ys : List X) → map f (xs ++ ys) ≡ map f xs ++ map f ys
 map-append f [] ys = refl
 map-append f (x ∷ xs) ys = ap (λ zs. f x ∷ zs) (map-append f xs ys)
 
 module _ {S : Type 0} (rules : Rules S) where
+  -- a run and one more turn
   pub Run-push : (u : World S) (turns : List Turn) (v : World S) → Run rules u turns v → (turn : Turn) (w : World S)
       → Step rules v turn w → Run rules u (turns ++ turn ∷ []) w
   Run-push u [] v ran turn w step = (w, rw (← ran) step, refl)
   Run-push u (t ∷ turns) v ran turn w step = (ran.0, ran.1, Run-push ran.0 turns v ran.2 turn w step)
 
+  -- two runs
   pub Run-append : (u : World S) (turns : List Turn) (v : World S) (turns' : List Turn) (w : World S)
       → Run rules u turns v → Run rules v turns' w → Run rules u (turns ++ turns') w
   Run-append u [] v turns' w ran ran' = rw (← ran) ran'
   Run-append u (turn ∷ turns) v turns' w (t, step, ran) ran' = (t, step, Run-append t turns v turns' w ran ran')
 
+  -- so by their calls
   pub IsRunOf-append : (calls calls' : List Call) (u v w : World S) (replies replies' : List Reply)
       → IsRunOf rules calls u replies v → IsRunOf rules calls' v replies' w
       → IsRunOf rules (calls ++ calls') u (replies ++ replies') w

@@ -33,6 +33,7 @@ IsValidEffect (LentMemoryMade ty) = memory_type.IsValid ty
 IsValidEffect (TableMade ty init) = table_type.IsValid ty
 IsValidEffect effect = Unit {0}
 
+-- it is the type that the call names
 names_valid : (s : State) (call : Call) → IsValidCall call → IsValidEffect (effect_of s call)
 names_valid s (NewMemory ty) valid = valid
 names_valid s (NewLentMemory ty) valid = valid
@@ -46,12 +47,14 @@ module _ (s : State) (valid : IsValid s) (meter : Meter) where
   memories_valid memories spare h s' is =
       rw is (record { memories = h; tables = valid.tables; segments = valid.segments; registers = valid.registers })
 
+  -- so with other tables
   tables_valid : (tables : List (Slot TableValue)) → AllValid IsValidTable tables → (s' : State)
       → s' ≡ record s { tables = tables; meter = meter } → IsValid s'
   tables_valid tables h s' is =
       rw is (record { memories = valid.memories; tables = h; segments = valid.segments; registers = valid.registers })
 
 module _ {S : Type 0} (rules : Rules S) (w : World S) (turn : Turn) (w' : World S) (valid : IsValid w.state) where
+  -- the meter before the turn
   abbrev m : Meter
   m = w.state.meter
 
@@ -59,6 +62,7 @@ module _ {S : Type 0} (rules : Rules S) (w : World S) (turn : Turn) (w' : World 
   abbrev now : World S → State
   now v = v.state
 
+  -- each effect
   effect_valid : (effect : Effect) → IsValidEffect effect → TakesEffect rules effect w turn w' → IsValid w'.state
   effect_valid (FuelSet fuel) typed step =
       rw (ap now step.after, step.row.1)

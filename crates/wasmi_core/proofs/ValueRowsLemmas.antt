@@ -21,12 +21,14 @@ use Rattle.wasmi_types.specs.Access.{at}
 use Rattle.wasmi_types.specs.declared.value.RefType.{RefType}
 use Rattle.wasmi_core.specs.declared.calls.Reply.TheVariants as replied
 
+-- a global that is refused stays
 global_back : (x x' : GlobalInstance) (value : TypedRawVal) (result : Result (Unit {0}) GlobalError)
     → IsRefusal (reply_of (λ _. replied.Done) replied.Global result) → SetsGlobal x value result x' → x' ≡ x
 global_back x x' value (Ok _) refused sets = absurd refused
 global_back x x' value (Err ImmutableWrite) refused sets = sets.1
 global_back x x' value (Err TypeMismatch) refused sets = sets.2
 
+-- a refused creation of an element segment leaves the list
 pub segment_back : (ty : RefType) (items : List ℕ) (segments : List SegmentValue) (reply : Reply)
     (segments' : List SegmentValue) → IsRefusal reply → CreatesSegment ty items segments reply segments'
     → segments' ≡ segments
@@ -34,17 +36,20 @@ segment_back ty items segments reply segments' refused (inl none) = none.1
 segment_back ty items segments reply segments' refused (inr (result, is, appends)) =
     appends_back replied.Segment (λ x. x) result segments reply segments' refused appends
 
+-- so of a global
 pub global_made_back : (global : GlobalInstance) (globals : List GlobalInstance) (reply : Reply)
     (globals' : List GlobalInstance) → IsRefusal reply → CreatesGlobal global globals reply globals'
     → globals' ≡ globals
 global_made_back global globals reply globals' refused (inl none) = none.1
 global_made_back global globals reply globals' refused (inr made) = absurd (rw made.0 at refused)
 
+-- so does a refused drop of items
 pub items_refused : (k : ℕ) (segments : List SegmentValue) (reply : Reply) (segments' : List SegmentValue)
     → IsRefusal reply → DropsItemsAt k segments reply segments' → segments' ≡ segments
 items_refused k segments reply segments' refused drops =
     item_back k segments reply segments' _ (λ x x' c. absurd (rw c.0 at refused)) drops
 
+-- a global that is not set leaves the list
 pub global_refused : (k : ℕ) (value : TypedRawVal) (globals : List GlobalInstance) (reply : Reply)
     (globals' : List GlobalInstance) → IsRefusal reply → SetsGlobalAt k value globals reply globals'
     → globals' ≡ globals
@@ -76,6 +81,7 @@ segment_made ty items (Err TooManyItems) (Err TooManyItems) h h' is is' = refl
 segment_made ty items (Err TooManyItems) (Err OutOfSystemMemory) h h' is is' = absurd h'
 segment_made ty items (Err OutOfSystemMemory) result' h h' is is' = absurd h
 
+-- two creations of an element segment
 pub segments_same : (ty : RefType) (items : List ℕ) (segments : List SegmentValue) (reply reply' : Reply)
     (segments' segments'' : List SegmentValue) → HasMemory reply → HasMemory reply'
     → CreatesSegment ty items segments reply segments' → CreatesSegment ty items segments reply' segments''
@@ -91,6 +97,7 @@ segments_same ty items segments reply reply' segments' segments'' room room' (in
     appends_same (λ x. x) replied.Segment result segments reply reply' segments' segments'' appends
     (subst (λ r. Appends (λ x. x) replied.Segment r segments reply' segments'') (sym made) appends')
 
+-- two drops of items
 pub items_same : (k : ℕ) (segments : List SegmentValue) (reply reply' : Reply)
     (segments' segments'' : List SegmentValue) → DropsItemsAt k segments reply segments'
     → DropsItemsAt k segments reply' segments'' → (reply ≡ reply') × (segments' ≡ segments'')
@@ -98,6 +105,7 @@ items_same k segments reply reply' segments' segments'' a b =
     changes_same (slice_get segments k) (slice_set segments k) segments reply reply' segments' segments''
     _ _ (λ x x' x'' c c'. (c.0 ∙ sym c'.0, c.1 ∙ sym c'.1)) a b
 
+-- two creations of a global
 pub globals_same : (global : GlobalInstance) (globals : List GlobalInstance) (reply reply' : Reply)
     (globals' globals'' : List GlobalInstance) → HasMemory reply → HasMemory reply'
     → CreatesGlobal global globals reply globals' → CreatesGlobal global globals reply' globals''
@@ -106,9 +114,11 @@ globals_same global globals reply reply' globals' globals'' room room' (inl none
 globals_same global globals reply reply' globals' globals'' room room' (inr a) (inl none) = absurd (rw none.0 at room')
 globals_same global globals reply reply' globals' globals'' room room' (inr a) (inr b) = (a.0 ∙ sym b.0, a.1 ∙ sym b.1)
 
+-- no global is variable and constant
 var_const : (m : Mutability) → m ≡ Var → m ≡ Const → ⊥
 var_const m var const = let clash : Var ≡ Const = sym var ∙ const in absurd cc
 
+-- two calls that set a global
 global_same : (x x' x'' : GlobalInstance) (value : TypedRawVal) (result result' : Result (Unit {0}) GlobalError)
     → SetsGlobal x value result x' → SetsGlobal x value result' x'' → (result ≡ result') × (x' ≡ x'')
 global_same x x' x'' value (Ok u) (Ok u') a b = (refl, a.2 ∙ sym b.2)
@@ -121,6 +131,7 @@ global_same x x' x'' value (Err ImmutableWrite) (Err TypeMismatch) a b = absurd 
 global_same x x' x'' value (Err TypeMismatch) (Err ImmutableWrite) a b = absurd (var_const x.ty.mutability a.0 b.0)
 global_same x x' x'' value (Err TypeMismatch) (Err TypeMismatch) a b = (refl, a.2 ∙ sym b.2)
 
+-- so in the list
 pub global_sets_same : (k : ℕ) (value : TypedRawVal) (globals : List GlobalInstance) (reply reply' : Reply)
     (globals' globals'' : List GlobalInstance) → SetsGlobalAt k value globals reply globals'
     → SetsGlobalAt k value globals reply' globals'' → (reply ≡ reply') × (globals' ≡ globals'')
@@ -140,6 +151,7 @@ segment_valid ty items (Ok made) segment is fits =
     subst (λ (xs : List ℕ). length xs ≤ most_items) (sym held) fits.0
 segment_valid ty items (Err error) segment is fits = cc
 
+-- so in the list
 pub creates_segment_valid : (ty : _) (items : List ℕ) (segments : List SegmentValue) (reply : Reply)
     (segments' : List SegmentValue) → CreatesSegment ty items segments reply segments' → All IsValidSegment segments
     → All IsValidSegment segments'

@@ -44,6 +44,7 @@ use Rattle.wasmi_store.specs.Table as table
 abbrev rate : Meter → ℕ
 rate m = m.costs.bytes_copied_per_fuel
 
+-- a number, where something was written
 abbrev counted : Bool → ℕ → ℕ
 counted wrote n = if wrote then n else 0
 
@@ -55,6 +56,7 @@ record Wrote (m : Meter) (charge written : ℕ) (wrote : Bool) (set : ℕ) (m' :
   spent : (left : ℕ) → m.left ≡ Some left
       → (rest : ℕ) × (m'.left ≡ Some rest) × (rest + counted wrote charge ≤ left + set)
 
+-- a turn that writes nothing
 idles : (m m' : Meter) (charge written : ℕ) → written ≡ 0 → m' ≡ m → Wrote m charge written false 0 m'
 idles m m' charge written none same = record {
   costs = ap (λ (m : Meter). m.costs) same;
@@ -62,6 +64,7 @@ idles m m' charge written none same = record {
   spent = λ left on. (left, ap (λ (m : Meter). m.left) same ∙ on, omega arith);
 }
 
+-- one that sets the fuel
 sets : (fuel : ℕ) (m m' : Meter) (charge written : ℕ) → written ≡ 0 → m' ≡ meter_set m fuel
     → Wrote m charge written false fuel m'
 sets fuel m m' charge written none same = record {
@@ -97,12 +100,14 @@ price_pays rate n cost false free rated is =
     let turned : rate * cost ≡ n / rate * rate = ap (λ k. rate * k) is ∙ mul_comm rate (n / rate) in
     omega (arith, over, turned, rated)
 
+-- so where it is what is due
 due_pays : (m : Meter) (left values size charge : ℕ) → m.left ≡ Some left → 0 < rate m
     → charge ≡ due m (λ costs. copy_cost costs values size) → cut_product values size ≤ rate m * charge + (rate m - 1)
 due_pays m left values size charge on rated is =
     price_pays (rate m) (cut_product values size) charge _ refl rated
     (is ∙ ap (λ (o : Option ℕ). if is_some o then copy_cost m.costs values size else 0) on)
 
+-- the costs stay
 same_costs : (m m' : Meter) (charge : ℕ) → Some m' ≡ Some (meter_after m charge) → m'.costs ≡ m.costs
 same_costs m m' charge is = ap (λ (m : Meter). m.costs) (same_Some m' (meter_after m charge) is)
 
@@ -180,6 +185,7 @@ added_fits b c x pages inside =
     x.ty.page = add-mul (pages_of x) pages (page_bytes x.ty.page) in
     omega (arith, below, split)
 
+-- a test that holds where no cause comes early
 early_none : (test : Bool) (cause : MemoryError) → (if test then None else Some cause) ≡ None → test ≡ true
 early_none true cause is = refl
 early_none false cause is = absurd cc
@@ -215,10 +221,12 @@ module _ {S : Type 0} (rules : Rules S) (pages : ℕ) (t : Growing MemoryValue S
       (λ none. ap (λ n. n * page_bytes t.value.ty.page) none ∙ omega arith) memory_bound size grows
   memory_result (Err error) grows = growth_refuses rules growth t error grows
 
+-- nothing is appended where there is no memory
 nothing_appended : (o : Option MemoryValue) (pages : ℕ) → bytes_appended o pages replied.NoSuch ≡ 0
 nothing_appended None pages = refl
 nothing_appended (Some x) pages = refl
 
+-- a growth of the memory of an index
 memory_growth_writes : {S : Type 0} (rules : Rules S) (k pages : ℕ) (slots : List (Slot MemoryValue)) (m : Meter)
     (l : S) (reply : Reply) (charge : ℕ) (slots' : List (Slot MemoryValue)) (m' : Meter) (l' : S)
     → ActsAt k (reply_of replied.Number replied.Memory) (GrowsMemory rules pages)
@@ -250,6 +258,7 @@ module _ {S : Type 0} (rules : Rules S) (n reference : ℕ) (t : Growing TableVa
       (λ left on rated early charged. due_pays t.meter left n 4 t.charge on rated charged) size grows
   table_result (Err error) grows = growth_refuses rules table_growth t error grows
 
+-- a growth of the table of an index
 table_growth_writes : {S : Type 0} (rules : Rules S) (k n : ℕ) (init : TypedRawRef) (slots : List (Slot TableValue))
     (m : Meter) (l : S) (reply : Reply) (charge : ℕ) (slots' : List (Slot TableValue)) (m' : Meter) (l' : S)
     → ActsAt k (reply_of replied.Number replied.Table) (GrowsTable rules n init)
@@ -282,13 +291,12 @@ module _ (w : TableWrite) (x : TableValue) (len : ℕ) (m : Meter) (charge : ℕ
 
   -- so where it has ended well
   ends_bound : (w.paid ≡ Some len) ⊎ (len ≡ 0) → (x' : TableValue) (typed : Bool) (written : Option (List ℕ))
-      (payable : Bool) → EndsBy w x (Some m) typed written payable (Ok tt) charge x' → (left : ℕ) → m.left ≡ Some left
-      → 0 < rate m
-      → cut_product len 4 ≤ rate m * charge + (rate m - 1)
-  ends_bound paid x' false written payable ends left on rated = absurd cc
-  ends_bound paid x' true None payable ends left on rated = absurd cc
-  ends_bound paid x' true (Some elements) false ends left on rated = absurd cc
-  ends_bound paid x' true (Some elements) true ends left on rated = len_bound paid ends.1 left on rated
+      (payable : Bool) → EndsBy w x (Some m) typed written payable (Ok tt) charge x'
+      → ((left : ℕ) → m.left ≡ Some left → 0 < rate m → cut_product len 4 ≤ rate m * charge + (rate m - 1))
+  ends_bound paid x' false written payable ends = absurd cc
+  ends_bound paid x' true None payable ends = absurd cc
+  ends_bound paid x' true (Some elements) false ends = absurd cc
+  ends_bound paid x' true (Some elements) true ends = len_bound paid ends.1
 
   -- what it has written, by its result
   write_result : (w.paid ≡ Some len) ⊎ (len ≡ 0)
@@ -303,6 +311,7 @@ module _ (w : TableWrite) (x : TableValue) (len : ℕ) (m : Meter) (charge : ℕ
       refuses m m' charge (same_costs m m' charge writes.meter) (write_takes w x m (Err error) charge x' m' writes)
 
 module _ (k : ℕ) where
+  -- a write over a part of the table of an index
   table_write_writes : (write : TableValue → TableWrite) (len : ℕ) (slots : List (Slot TableValue)) (m : Meter)
       (reply : Reply) (charge : ℕ) (slots' : List (Slot TableValue)) (m' : Meter)
       → ((x : TableValue) → ((write x).paid ≡ Some len) ⊎ (len ≡ 0))
@@ -315,6 +324,7 @@ module _ (k : ℕ) where
       (same_Some m' m (ap (λ (s : Situation (List (Slot TableValue)) (Unit {0})). s.meter) missing.2))))
       (λ x found a. rw a.3 (write_result (write x) x len m charge (paid x) a.1 m' a.0 a.2))
 
+-- so from what may be missing
 table_copy_writes : {X : Type 0} (source : Option X) (k : ℕ) (write : X → TableValue → TableWrite) (len : ℕ)
     (slots : List (Slot TableValue)) (m : Meter) (reply : Reply) (charge : ℕ) (slots' : List (Slot TableValue))
     (m' : Meter) → OnLive source (Unit {0}) (λ y. (x : TableValue) → ((write y x).paid ≡ Some len) ⊎ (len ≡ 0))
@@ -333,6 +343,7 @@ module _ {S : Type 0} (w : World S) (turn : Turn) (w' : World S) where
       → Wrote w.state.meter turn.charge turn.written false 0 w'.state.meter
   idle {v} is none same = rw is (idles w.state.meter v.state.meter turn.charge turn.written none same)
 
+  -- the turn ends in this world and has written so much
   writes_as : {v : World S} {n : ℕ} {wrote : Bool} → w' ≡ v → turn.written ≡ n
       → Wrote w.state.meter turn.charge n wrote 0 v.state.meter
       → Wrote w.state.meter turn.charge turn.written wrote 0 w'.state.meter
@@ -345,16 +356,19 @@ is_charged_effect (TableGrown k n init) = true
 is_charged_effect (PartWritten k source dst len) = true
 is_charged_effect effect = false
 
+-- what an effect sets the fuel to
 abbrev amount_set_by : Effect → ℕ
 amount_set_by (FuelSet fuel) = fuel
 amount_set_by effect = 0
 
+-- it is what the call is charged for and sets
 same_charges : (s : State) (call : Call)
     → (is_charged_effect (effect_of s call) ≡ is_charged call) × (amount_set_by (effect_of s call) ≡ amount_set call)
 same_charges s (SetFuel fuel) = (refl, refl)
 same_charges s call = (refl, refl)
 
 module _ {S : Type 0} (rules : Rules S) (w : World S) (turn : Turn) (w' : World S) where
+  -- each effect
   effect_writes : (effect : Effect) → TakesEffect rules effect w turn w'
       → Wrote w.state.meter turn.charge turn.written (is_charged_effect effect && is_accepted turn.reply)
       (amount_set_by effect) w'.state.meter
@@ -386,10 +400,12 @@ module _ {S : Type 0} (rules : Rules S) where
     paid : bytes_written turns ≤ rate * charges_for_writing turns + writing_turns turns * (rate - 1)
     spent : (rest : ℕ) × (m'.left ≡ Some rest) × (rest + charges_for_writing turns ≤ left + amounts_set turns)
 
+  -- the turns that have written, with one more
   one_more : (wrote : Bool) (n rate : ℕ) → (cond wrote 1 0 + n) * (rate - 1) ≡ counted wrote (rate - 1) + n * (rate - 1)
   one_more true n rate = add-mul 1 n (rate - 1) ∙ omega arith
   one_more false n rate = add-mul 0 n (rate - 1) ∙ omega arith
 
+  -- so by one turn after another
   run_writes : (w : World S) (left : ℕ) → w.state.meter.left ≡ Some left → 0 < rate w.state.meter
       → (turns : List Turn) (w' : World S) → Run rules w turns w'
       → Bounds (rate w.state.meter) left turns w'.state.meter
@@ -425,6 +441,7 @@ module _ {S : Type 0} (rules : Rules S) where
         spent = (rest.spent.0, rest.spent.1, omega (arith, charges, amounts, after.2, rest.spent.2));
       }
 
+  -- so within what there was
   pub writing_is_bounded : (w : World S) (left : ℕ) → w.state.meter.left ≡ Some left → 0 < rate w.state.meter
       → (turns : List Turn) (w' : World S) → Run rules w turns w' → IsBounded (rate w.state.meter) left turns
   writing_is_bounded w left on rated turns w' ran =
