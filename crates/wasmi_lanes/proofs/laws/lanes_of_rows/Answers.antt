@@ -1,5 +1,4 @@
-use Rattle.std.proofs.Common.{ℕ, ◌<◌, ◌/◌, sym, subst}
-use Rattle.wasmi_types.specs.Wrapping.{bits}
+use Rattle.std.proofs.Common.{◌<◌, sym, subst}
 use Rattle.wasmi_lanes.proofs.Vectors.{lanes_of_width}
 use Rattle.wasmi_lanes.proofs.VectorLemmas.{lane_of_unary, lane_of_binary, lane_of_comparison}
 use Rattle.wasmi_lanes.proofs.laws.lanes_of_rows.Goals as goal
