@@ -13,7 +13,7 @@ use Rattle.wasmi_types.specs.Wrapping.{Width, w8, w16, w32, w64, bits, signed, w
 use Rattle.wasmi_lanes.specs.Lane.{lane, unsigned}
 use Rattle.wasmi_lanes.proofs.Vectors.{lane_below}
 use Rattle.wasmi_lanes.proofs.VectorLemmas.{lane_of_from}
-use Rattle.wasmi_simd.specs.Widening.{lane_count, half_unary, half_binary, pairwise_unary, pairwise_binary, from_low_high, first_bits, lane_bits, every_lane, holds_below}
+use Rattle.wasmi_simd.specs.Widening.{lane_count, half_unary, half_binary, pairwise_unary, pairwise_binary, from_low_high, first_bits, lane_bits, every_lane}
 use Rattle.wasmi_simd.proofs.TruthLemmas.{bits_below, holds_of_each, each_holds}
 use Rattle.wasmi_simd.proofs.WideningLemmas.{wrap_below, wrapped_is, extended_fits}
 

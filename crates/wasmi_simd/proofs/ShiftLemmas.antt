@@ -1,8 +1,8 @@
 -- Lanes of words that are shifted, with the bits masked that would leave their lane.
 use Rattle.std.proofs.Common.{◌≡◌, ℕ, zero, suc, ◌+◌, ◌-◌, ◌*◌, ◌/◌, ◌%◌, ◌^◌, ◌<◌, ◌≤◌, refl, inl, inr, pos, negsuc, sym, ap, ap₂, subst, ◌∙◌, arith, add-mul, mul-suc, mul-zero, mul_assoc, mul_comm, mul_right_comm, one-mul, zero-mul, suc-mul, le_refl, mod-lt, mod-eq_of_lt, bit_and, List, [], ◌∷◌, map, replicate, length, get_or}
 use Rattle.std.proofs.lemmas.Simd.{length-replicate, Each1-replicate}
-use Rattle.std.proofs.Math.Nat.{mod-one, mod-mod}
-use Rattle.std.proofs.lemmas.Bool.{cases_lt, cases_eq, lt-ltb, le-ltb}
+use Rattle.std.proofs.Math.Nat.{mod-one}
+use Rattle.std.proofs.lemmas.Bool.{cases_lt, lt-ltb, le-ltb}
 use Rattle.std.specs.Int.{int_shr}
 use Rattle.std.specs.Simd.Lanes.{number_l}
 use mir.Val.{sel}

@@ -1,4 +1,3 @@
-use Rattle.std.proofs.Common.{ap}
 use Rattle.wasmi_simd.proofs.LaneLemmas.{test_of_each, each_of_test}
 use Rattle.wasmi_simd.proofs.TruthLemmas.{holds_of_each, each_holds}
 use Rattle.wasmi_simd.proofs.laws.tests_of_lanes.Goals as goal
