@@ -1,6 +1,7 @@
 mod accesses;
 mod bad_lines;
 mod comparison;
+mod counts;
 mod outcomes;
 mod printing;
 mod reading;
