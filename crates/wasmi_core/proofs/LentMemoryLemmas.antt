@@ -29,7 +29,6 @@ use Rattle.wasmi_meter.specs.declared.error.MemoryError.{MemoryError}
 use Rattle.wasmi_store.specs.Buffer.{LacksMemory, Lent, Owned, Room, has_place_for}
 use Rattle.wasmi_store.specs.Memory.{GrowsMemory, MakesMemory, MemoryValue, WritesMemory, new_memory, pages_of}
 use Rattle.wasmi_store.specs.MemoryType.{MemoryTypeValue, in_bounds, minimum_bytes, page_bytes}
-use Rattle.wasmi_types.specs.Access.{at}
 use Rattle.wasmi_vector_ops.specs.declared.access.LoadLaneOp.{LoadLaneOp}
 use Rattle.wasmi_vector_ops.specs.declared.access.VectorLoadOp.{VectorLoadOp}
 use Rattle.wasmi_store.specs.Memory as memory

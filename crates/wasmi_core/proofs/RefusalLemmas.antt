@@ -23,7 +23,7 @@ use Rattle.wasmi_core.specs.declared.slots.Slot.{Slot}
 use Rattle.wasmi_meter.proofs.AttemptLemmas.{meter_after_nothing}
 use Rattle.wasmi_meter.specs.Attempt.{Denied, Effort, Failed, Fate, Follows, IsFirstCause, MayEnd, Met, Situation, Unasked, amount_due, answer_of, can_pay, charge_of}
 use Rattle.wasmi_meter.specs.Limiter.{Heed, MemoryFailure, Rules, TableFailure, kind_of}
-use Rattle.wasmi_meter.specs.Meter.{Meter, due, meter_after, meter_set}
+use Rattle.wasmi_meter.specs.Meter.{Meter, meter_after, meter_set}
 use Rattle.wasmi_meter.specs.declared.error.MemoryError.{MemoryError}
 use Rattle.wasmi_meter.specs.declared.error.TableError.{TableError}
 use Rattle.wasmi_meter.specs.declared.fuel.CustomFuelCosts.{CustomFuelCosts}
@@ -35,7 +35,6 @@ use Rattle.wasmi_store.specs.Memory.{GrowsMemory, MakesMemory, MemoryValue, page
 use Rattle.wasmi_store.specs.Table.{EndsBy, GrowsTable, MakesTable, TableValue, TableWrite, size_of}
 use Rattle.wasmi_store.specs.TableType.{same_type}
 use Rattle.wasmi_typed.specs.declared.typed_ref.TypedRawRef.{TypedRawRef}
-use Rattle.wasmi_types.specs.Access.{at}
 use Rattle.wasmi_store.specs.Memory as memory
 use Rattle.wasmi_core.specs.declared.calls.Reply.TheVariants as replied
 use Rattle.wasmi_store.specs.Table as table

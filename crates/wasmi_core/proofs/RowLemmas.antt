@@ -19,7 +19,6 @@ use Rattle.wasmi_core.specs.declared.slots.Slot.TheVariants.{Gone, Live}
 use Rattle.wasmi_meter.specs.Attempt.{Denied, Failed, Fate, Met, Situation, Unasked, answer_of, value_after, with_value}
 use Rattle.wasmi_meter.specs.Limiter.{Rules}
 use Rattle.wasmi_store.specs.Growth.{Grows, Growth, Makes}
-use Rattle.wasmi_types.specs.Access.{at}
 use Rattle.wasmi_core.specs.declared.calls.Reply.TheVariants as replied
 
 -- whether an index names something live

@@ -22,7 +22,7 @@ use Rattle.wasmi_store.proofs.GrowthLemmas.{on_test}
 use Rattle.wasmi_store.specs.Table.{EndsBy, GrowsTable, IsValidTable, TableValue, TableWrite, WritesTable, setting_of, size_of, typed_by}
 use Rattle.wasmi_store.specs.TableType.{same_type}
 use Rattle.wasmi_typed.specs.declared.typed_ref.TypedRawRef.{TypedRawRef}
-use Rattle.wasmi_types.specs.Access.{at, overwrite}
+use Rattle.wasmi_types.specs.Access.{overwrite}
 use Rattle.wasmi_core.specs.declared.calls.Reply.TheVariants as replied
 use Rattle.wasmi_store.specs.Table as table
 use Rattle.wasmi_store.specs.TableType as table_type

@@ -17,7 +17,6 @@ use Rattle.wasmi_typed.specs.declared.global.GlobalError.TheVariants.{ImmutableW
 use Rattle.wasmi_typed.specs.declared.global.Mutability.{Mutability}
 use Rattle.wasmi_typed.specs.declared.global.Mutability.TheVariants.{Const, Var}
 use Rattle.wasmi_typed.specs.declared.typed.TypedRawVal.{TypedRawVal}
-use Rattle.wasmi_types.specs.Access.{at}
 use Rattle.wasmi_types.specs.declared.value.RefType.{RefType}
 use Rattle.wasmi_core.specs.declared.calls.Reply.TheVariants as replied
 
