@@ -87,7 +87,7 @@ const WANT_OF_MEMORY: Growth = Growth {
     ..PERMITTED
 };
 
-static GROWTHS: [Growth; 12] = [
+static GROWTHS: [Growth; 13] = [
     Growth {
         what: "by no element",
         delta: 0,
@@ -133,6 +133,18 @@ static GROWTHS: [Growth; 12] = [
         ..PERMITTED
     },
     ABOVE_THE_MAXIMUM,
+    Growth {
+        what: "by 2, one above the maximum",
+        maximum: Some(2),
+        delta: 2,
+        question: Some(Question {
+            kind: Kind::Elements,
+            current: 1,
+            desired: 3,
+            maximum: Some(2),
+        }),
+        ..ABOVE_THE_MAXIMUM
+    },
     Growth {
         what: "above the maximum, and the limiter replies an error",
         reply: Err(COMPLAINT),
