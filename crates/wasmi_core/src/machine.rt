@@ -2,7 +2,7 @@
 ghost use Rattle.std.specs.Prelude.{◌≡◌, ◌<◌, ◌↔◌, ℕ, Option, IsSome, Some, length, slice_get, IfSome};
 ghost use Rattle.std.specs.Option.{option_copied};
 ghost use Rattle.wasmi_meter.specs.Limiter.{optional_rules};
-ghost use Rattle.wasmi_meter.specs.LimiterRef.{state, KeepsLoan};
+ghost use Rattle.wasmi_meter.specs.LimiterRef.{lent_limiter, KeepsLoan};
 
 use crate::calls::{Call, Reply};
 use crate::store::Store;
@@ -141,7 +141,7 @@ impl<'r> Machine<'r> {
     ) -> Reply
         ensures loan { KeepsLoan limiter.old limiter.new }
         ensures step { Answers (optional_rules L.rules) call.now
-            (world self.old (state limiter.old)) result (world self.new (state limiter.new)) }
+            (world self.old (lent_limiter limiter.old)) result (world self.new (lent_limiter limiter.new)) }
         ensures valid { IsValid self.new }
     {
         call.tell_valid();

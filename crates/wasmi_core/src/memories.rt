@@ -2,7 +2,7 @@
 ghost use Rattle.std.specs.Prelude.{◌≡◌, ◌+◌, ℕ, Some};
 ghost use Rattle.wasmi_types.specs.Bytes.{le_bytes};
 ghost use Rattle.wasmi_meter.specs.Limiter.{optional_rules};
-ghost use Rattle.wasmi_meter.specs.LimiterRef.{state, KeepsLoan};
+ghost use Rattle.wasmi_meter.specs.LimiterRef.{lent_limiter, KeepsLoan};
 ghost use Rattle.wasmi_store.specs.Buffer.{Owned};
 ghost use Rattle.wasmi_store.specs.Memory.{MakesMemory, GrowsMemory};
 ghost use Rattle.wasmi_vector_ops.specs.AccessOps.{stored_lane};
@@ -32,7 +32,7 @@ impl<'r> Slots<Memory<'r>> {
         limiter: &mut ResourceLimiterRef<L>,
     ) -> Reply
         ensures loan { KeepsLoan limiter.old limiter.new }
-        ensures made { Creates Reply.Memory (MakesMemory (optional_rules L.rules) Owned ty) self.old.slots.items (state limiter.old) result self.new.slots.items (state limiter.new) }
+        ensures made { Creates Reply.Memory (MakesMemory (optional_rules L.rules) Owned ty) self.old.slots.items (lent_limiter limiter.old) result self.new.slots.items (lent_limiter limiter.new) }
     {
         if !self.reserve() {
             return Reply::NoRoom;
@@ -52,8 +52,8 @@ impl<'r> Slots<Memory<'r>> {
     ) -> Reply
         ensures loan { KeepsLoan limiter.old limiter.new }
         ensures made { CreatesLent (optional_rules L.rules) ty
-            (record { slots = self.old.slots.items; spare = option_copied_mut spare.old }) (state limiter.old) result
-            (record { slots = self.new.slots.items; spare = option_copied_mut spare.new }) (state limiter.new) }
+            (record { slots = self.old.slots.items; spare = option_copied_mut spare.old }) (lent_limiter limiter.old) result
+            (record { slots = self.new.slots.items; spare = option_copied_mut spare.new }) (lent_limiter limiter.new) }
     {
         let Some(region) = spare.take() else {
             return Reply::NoRegion;
@@ -79,8 +79,8 @@ impl<'r> Slots<Memory<'r>> {
     ) -> Reply
         ensures loan { KeepsLoan limiter.old limiter.new }
         ensures grown { (charge : ℕ) × ActsAt index (reply_of Reply.Number Reply.Memory) (GrowsMemory (optional_rules L.rules) pages)
-            (record { value = self.old.slots.items; meter = Some fuel.old; limiter = state limiter.old }) result charge
-            (record { value = self.new.slots.items; meter = Some fuel.new; limiter = state limiter.new }) }
+            (record { value = self.old.slots.items; meter = Some fuel.old; limiter = lent_limiter limiter.old }) result charge
+            (record { value = self.new.slots.items; meter = Some fuel.new; limiter = lent_limiter limiter.new }) }
     {
         let Some(memory) = self.live_mut(index) else {
             return Reply::NoSuch;

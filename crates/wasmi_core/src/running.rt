@@ -1,7 +1,7 @@
 //! Runs of calls.
 ghost use Rattle.std.specs.Prelude.{◌≡◌, Some, IfOk, OnErr};
 ghost use Rattle.wasmi_meter.specs.Limiter.{optional_rules};
-ghost use Rattle.wasmi_meter.specs.LimiterRef.{state, KeepsLoan};
+ghost use Rattle.wasmi_meter.specs.LimiterRef.{lent_limiter, KeepsLoan};
 ghost use Rattle.wasmi_core.specs.Validity.{IsValid};
 ghost use Rattle.wasmi_core.specs.World.{world};
 ghost use Rattle.wasmi_core.specs.Runs.{IsRunOf};
@@ -22,8 +22,8 @@ pub fn run<L: ResourceLimiter>(
 ) -> Result<Vec<Reply>, AllocError>
     ensures loan { KeepsLoan limiter.old limiter.new }
     ensures run { IfOk result (λ replies. IsRunOf (optional_rules L.rules) calls.now
-        (world machine.old (state limiter.old)) replies.items
-        (world machine.new (state limiter.new))) }
+        (world machine.old (lent_limiter limiter.old)) replies.items
+        (world machine.new (lent_limiter limiter.new))) }
     ensures err { OnErr result ((machine.new ≡ machine.old) × (limiter.new ≡ limiter.old)) }
     ensures valid { IsValid machine.new }
 {

@@ -1,7 +1,7 @@
 //! The store of a machine: what was made, the registers and the meter, and what each call does to them.
 ghost use Rattle.std.specs.Prelude.{◌≡◌};
 ghost use Rattle.wasmi_meter.specs.Limiter.{optional_rules};
-ghost use Rattle.wasmi_meter.specs.LimiterRef.{state, KeepsLoan};
+ghost use Rattle.wasmi_meter.specs.LimiterRef.{lent_limiter, KeepsLoan};
 
 use crate::calls::{Call, Reply};
 use crate::registers::Registers;
@@ -95,7 +95,7 @@ impl<'r> Store<'r> {
     ) -> Reply
         ensures loan { KeepsLoan limiter.old limiter.new }
         ensures step { Answers (optional_rules L.rules) call.now
-            (world self.old (state limiter.old)) result (world self.new (state limiter.new)) }
+            (world self.old (lent_limiter limiter.old)) result (world self.new (lent_limiter limiter.new)) }
     {
         match call {
             Call::SetFuel(fuel) => self.set_fuel(*fuel),
@@ -140,7 +140,7 @@ impl<'r> Store<'r> {
         requires { subject_of call.now ≡ Memories }
         ensures loan { KeepsLoan limiter.old limiter.new }
         ensures step { Answers (optional_rules L.rules) call.now
-            (world self.old (state limiter.old)) result (world self.new (state limiter.new)) }
+            (world self.old (lent_limiter limiter.old)) result (world self.new (lent_limiter limiter.new)) }
     {
         match call {
             Call::NewMemory(ty) => self.memories.create(self.alloc, *ty, limiter),
@@ -185,7 +185,7 @@ impl<'r> Store<'r> {
         requires { subject_of call.now ≡ Tables }
         ensures loan { KeepsLoan limiter.old limiter.new }
         ensures step { Answers (optional_rules L.rules) call.now
-            (world self.old (state limiter.old)) result (world self.new (state limiter.new)) }
+            (world self.old (lent_limiter limiter.old)) result (world self.new (lent_limiter limiter.new)) }
     {
         match call {
             Call::NewTable { ty, init } => self.tables.create(self.alloc, *ty, *init, limiter),

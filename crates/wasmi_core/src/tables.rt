@@ -1,7 +1,7 @@
 //! The tables of a machine, by their indices.
 ghost use Rattle.std.specs.Prelude.{◌≡◌, ◌≢◌, ◌<◌, length, ℕ, Some};
 ghost use Rattle.wasmi_meter.specs.Limiter.{optional_rules};
-ghost use Rattle.wasmi_meter.specs.LimiterRef.{state, KeepsLoan};
+ghost use Rattle.wasmi_meter.specs.LimiterRef.{lent_limiter, KeepsLoan};
 ghost use Rattle.wasmi_store.specs.Segment.{segment_of};
 ghost use Rattle.wasmi_store.specs.Table.{MakesTable, GrowsTable};
 ghost use Rattle.wasmi_core.specs.Rows.{reply_of, ActsAt, Creates};
@@ -25,7 +25,7 @@ impl Slots<Table> {
         limiter: &mut ResourceLimiterRef<L>,
     ) -> Reply
         ensures loan { KeepsLoan limiter.old limiter.new }
-        ensures made { Creates Reply.Table (MakesTable (optional_rules L.rules) ty init) self.old.slots.items (state limiter.old) result self.new.slots.items (state limiter.new) }
+        ensures made { Creates Reply.Table (MakesTable (optional_rules L.rules) ty init) self.old.slots.items (lent_limiter limiter.old) result self.new.slots.items (lent_limiter limiter.new) }
     {
         if !self.reserve() {
             return Reply::NoRoom;
@@ -47,8 +47,8 @@ impl Slots<Table> {
     ) -> Reply
         ensures loan { KeepsLoan limiter.old limiter.new }
         ensures grown { (charge : ℕ) × ActsAt index (reply_of Reply.Number Reply.Table) (GrowsTable (optional_rules L.rules) delta init)
-            (record { value = self.old.slots.items; meter = Some fuel.old; limiter = state limiter.old }) result charge
-            (record { value = self.new.slots.items; meter = Some fuel.new; limiter = state limiter.new }) }
+            (record { value = self.old.slots.items; meter = Some fuel.old; limiter = lent_limiter limiter.old }) result charge
+            (record { value = self.new.slots.items; meter = Some fuel.new; limiter = lent_limiter limiter.new }) }
     {
         let Some(table) = self.live_mut(index) else {
             return Reply::NoSuch;

@@ -10,8 +10,8 @@ abbrev pub loan : {R : Type 0} → LimiterRef R → Option R
 loan r = r.limiter
 
 -- the present value of the limiter that is lent, or none
-abbrev pub state : {L : Type 0} → LimiterRef (MutBor L) → Option L
-state r = option_copied_mut r.limiter
+abbrev pub lent_limiter : {L : Type 0} → LimiterRef (MutBor L) → Option L
+lent_limiter r = option_copied_mut r.limiter
 
 -- one loan before and after a call: both absent, or under one name
 abbrev pub SameLoan : {L : Type 0} → Option (MutBor L) → Option (MutBor L) → Type 0

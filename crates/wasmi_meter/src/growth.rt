@@ -3,7 +3,7 @@ ghost use Rattle.std.specs.Prelude.{◌≡◌};
 ghost use Rattle.wasmi_meter.specs.Attempt.{Permits, error_of_failure};
 ghost use Rattle.wasmi_meter.specs.Costs.{copy_cost};
 ghost use Rattle.wasmi_meter.specs.Limiter.{Failure, MemoryFailure, TableFailure, Heed, optional_rules};
-ghost use Rattle.wasmi_meter.specs.LimiterRef.{state, KeepsLoan};
+ghost use Rattle.wasmi_meter.specs.LimiterRef.{lent_limiter, KeepsLoan};
 ghost use Rattle.wasmi_meter.specs.Meter.{Charges, due};
 
 use crate::error::{LimiterError, MemoryError, TableError};
@@ -37,7 +37,7 @@ pub trait GrowthError: Drop {
         limiter: &mut ResourceLimiterRef<L>,
     ) -> Result<(), LimiterError>
         ensures loan { KeepsLoan limiter.old limiter.new }
-        ensures noticed { (optional_rules L.rules).noticed (state limiter.old) (notice self.now) result (state limiter.new) };
+        ensures noticed { (optional_rules L.rules).noticed (lent_limiter limiter.old) (notice self.now) result (lent_limiter limiter.new) };
 }
 
 impl GrowthError for MemoryError {
@@ -70,7 +70,7 @@ pub fn tell<L: ResourceLimiter, E: GrowthError>(
     refusal: E,
 ) -> E
     ensures loan { KeepsLoan limiter.old limiter.new }
-    ensures told { (heed : Heed) × (optional_rules L.rules).noticed (state limiter.old) (E.notice cause) heed (state limiter.new)
+    ensures told { (heed : Heed) × (optional_rules L.rules).noticed (lent_limiter limiter.old) (E.notice cause) heed (lent_limiter limiter.new)
         × (result ≡ error_of_failure refusal cause heed) }
 {
     let heed = cause.notify(limiter);

@@ -4,7 +4,7 @@ ghost use Rattle.std.specs.Option.{option_copied_mut};
 ghost use Rattle.std.specs.Borrow.{sem, Lends};
 ghost use denote.Ref.{at_last};
 ghost use Rattle.wasmi_meter.specs.Limiter.{MemoryFailure, TableFailure, optional_rules};
-ghost use Rattle.wasmi_meter.specs.LimiterRef.{loan, state, KeepsLoan, shown_of};
+ghost use Rattle.wasmi_meter.specs.LimiterRef.{loan, lent_limiter, KeepsLoan, shown_of};
 ghost use Rattle.wasmi_meter.specs.Lending.{LendsLimiter};
 ghost use Rattle.wasmi_meter.specs.declared.limiter.Kind.TheVariants.{Bytes, Elements};
 
@@ -121,8 +121,8 @@ impl<'a, L: ResourceLimiter> LimiterRef<&'a mut L> {
     ) -> Result<bool, LimiterError>
         requires { current ≤ desired }
         ensures loan { KeepsLoan self.old self.new }
-        ensures asked { (optional_rules L.rules).asked (state self.old)
-            (record { kind = Bytes; current = current; desired = desired; maximum = maximum }) result (state self.new) }
+        ensures asked { (optional_rules L.rules).asked (lent_limiter self.old)
+            (record { kind = Bytes; current = current; desired = desired; maximum = maximum }) result (lent_limiter self.new) }
     {
         match &mut self.limiter {
             Some(limiter) => limiter.memory_growing(current, desired, maximum),
@@ -139,8 +139,8 @@ impl<'a, L: ResourceLimiter> LimiterRef<&'a mut L> {
     ) -> Result<bool, LimiterError>
         requires { current ≤ desired }
         ensures loan { KeepsLoan self.old self.new }
-        ensures asked { (optional_rules L.rules).asked (state self.old)
-            (record { kind = Elements; current = current; desired = desired; maximum = maximum }) result (state self.new) }
+        ensures asked { (optional_rules L.rules).asked (lent_limiter self.old)
+            (record { kind = Elements; current = current; desired = desired; maximum = maximum }) result (lent_limiter self.new) }
     {
         match &mut self.limiter {
             Some(limiter) => limiter.table_growing(current, desired, maximum),
@@ -151,7 +151,7 @@ impl<'a, L: ResourceLimiter> LimiterRef<&'a mut L> {
     /// Tells the limiter, if there is one, that a memory which it permitted to grow did not.
     pub fn memory_grow_failed(&mut self, error: &MemoryError) -> Result<(), LimiterError>
         ensures loan { KeepsLoan self.old self.new }
-        ensures noticed { (optional_rules L.rules).noticed (state self.old) (MemoryFailure error.now) result (state self.new) }
+        ensures noticed { (optional_rules L.rules).noticed (lent_limiter self.old) (MemoryFailure error.now) result (lent_limiter self.new) }
     {
         match &mut self.limiter {
             Some(limiter) => limiter.memory_grow_failed(error),
@@ -162,7 +162,7 @@ impl<'a, L: ResourceLimiter> LimiterRef<&'a mut L> {
     /// Tells the limiter, if there is one, that a table which it permitted to grow did not.
     pub fn table_grow_failed(&mut self, error: &TableError) -> Result<(), LimiterError>
         ensures loan { KeepsLoan self.old self.new }
-        ensures noticed { (optional_rules L.rules).noticed (state self.old) (TableFailure error.now) result (state self.new) }
+        ensures noticed { (optional_rules L.rules).noticed (lent_limiter self.old) (TableFailure error.now) result (lent_limiter self.new) }
     {
         match &mut self.limiter {
             Some(limiter) => limiter.table_grow_failed(error),

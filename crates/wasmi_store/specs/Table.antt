@@ -135,23 +135,29 @@ initialization_of x dst items src len =
 abbrev pub typed_by : TableValue → RefType → TableWrite → TableWrite
 typed_by x ty w = record w { typed = same_type x.ty.element ty }
 
+-- what a write over a part of a table ends with
+pub record Ending : Type 0 where
+  pub result : Result (Unit {0}) TableError
+  pub charge : ℕ
+  pub value : TableValue
+
 module _ (w : TableWrite) (x : TableValue) (m : Option Meter) where
   -- what is due for it
   abbrev pub due_for : ℕ
   due_for = amount_due m (option_map element_price w.paid)
 
   -- refused for a cause: nothing is taken, and the table stays
-  abbrev pub Refuses : TableError → Result (Unit {0}) TableError → ℕ → TableValue → Type 0
-  Refuses cause result charge x' = (result ≡ Err cause) × (charge ≡ 0) × (x' ≡ x)
+  abbrev pub Refuses : TableError → Ending → Type 0
+  Refuses cause end = (end.result ≡ Err cause) × (end.charge ≡ 0) × (end.value ≡ x)
 
   -- how it ends, by whether the types are the same, whether the ranges lie within, and whether so much can be paid
-  abbrev pub EndsBy : Bool → Option (List ℕ) → Bool → Result (Unit {0}) TableError → ℕ → TableValue → Type 0
-  EndsBy false written payable result charge x' = Refuses ElementTypeMismatch result charge x'
-  EndsBy true None payable result charge x' = Refuses w.outside result charge x'
-  EndsBy true (Some elements) false result charge x' = Refuses (OutOfFuel due_for) result charge x'
-  EndsBy true (Some elements) true result charge x' = (result ≡ Ok tt) × (charge ≡ due_for) × (x' ≡ record x { elements = elements })
+  abbrev pub EndsBy : Bool → Option (List ℕ) → Bool → Ending → Type 0
+  EndsBy false written payable end = Refuses ElementTypeMismatch end
+  EndsBy true None payable end = Refuses w.outside end
+  EndsBy true (Some elements) false end = Refuses (OutOfFuel due_for) end
+  EndsBy true (Some elements) true end = (end.result ≡ Ok tt) × (end.charge ≡ due_for) × (end.value ≡ record x { elements = elements })
 
   -- a part of a table is written over, with its charge
   pub record WritesTable (result : Result (Unit {0}) TableError) (charge : ℕ) (x' : TableValue) (m' : Option Meter) : Type 0 where
-    pub ends : EndsBy w.typed w.written (can_pay m due_for) result charge x'
+    pub ends : EndsBy w.typed w.written (can_pay m due_for) (record { result = result; charge = charge; value = x' })
     pub meter : m' ≡ option_map (λ m. meter_after m charge) m

@@ -4,7 +4,7 @@ ghost use Rattle.std.specs.Option.{option_copied_mut};
 ghost use Rattle.std.specs.Borrow.{sem, Lends, Array, u8};
 ghost use Rattle.wasmi_types.specs.Access.{at};
 ghost use Rattle.wasmi_meter.specs.Limiter.{optional_rules};
-ghost use Rattle.wasmi_meter.specs.LimiterRef.{state, KeepsLoan, left_behind};
+ghost use Rattle.wasmi_meter.specs.LimiterRef.{lent_limiter, KeepsLoan, left_behind};
 ghost use Rattle.wasmi_store.specs.Memory.{PermitsMinimum, IsSized, IsValidMemory};
 ghost use Rattle.wasmi_store.specs.MemoryType.{page_bytes, in_bounds};
 
@@ -29,7 +29,7 @@ fn permitted_minimum<L: ResourceLimiter>(
     limiter: &mut ResourceLimiterRef<L>,
 ) -> Result<usize, MemoryError>
     ensures loan { KeepsLoan limiter.old limiter.new }
-    ensures permitted { PermitsMinimum (optional_rules L.rules) ty (state limiter.old) result (state limiter.new) }
+    ensures permitted { PermitsMinimum (optional_rules L.rules) ty (lent_limiter limiter.old) result (lent_limiter limiter.new) }
     ensures sized { IfOk result (λ size. IsSized ty size) }
 {
     let Some(size) = ty.minimum_size() else {
@@ -80,7 +80,7 @@ impl<'r> LinearMemory<&'r mut [u8]> {
         limiter: &mut ResourceLimiterRef<L>,
     ) -> Result<Memory<'r>, MemoryError>
         ensures loan { KeepsLoan limiter.old limiter.new }
-        ensures made { MakesMemory (optional_rules L.rules) Owned ty (state limiter.old) result (state limiter.new) }
+        ensures made { MakesMemory (optional_rules L.rules) Owned ty (lent_limiter limiter.old) result (lent_limiter limiter.new) }
     {
         let size = permitted_minimum(ty, limiter)?;
         match Buffer::new(alloc, size) {
@@ -102,7 +102,7 @@ impl<'r> LinearMemory<&'r mut [u8]> {
         region: &'r mut [u8],
     ) -> Result<Memory<'r>, MemoryError>
         ensures loan { KeepsLoan limiter.old limiter.new }
-        ensures made { MakesMemory (optional_rules L.rules) (Lent region.entry.now) ty (state limiter.old) result (state limiter.new) }
+        ensures made { MakesMemory (optional_rules L.rules) (Lent region.entry.now) ty (lent_limiter limiter.old) result (lent_limiter limiter.new) }
     {
         let size = permitted_minimum(ty, limiter)?;
         match Buffer::new_static(region, size) {
@@ -221,8 +221,8 @@ impl<R: Region> LinearMemory<R> {
     ) -> Result<u64, MemoryError>
         ensures loan { KeepsLoan limiter.old limiter.new }
         ensures grown { (charge : ℕ) × GrowsMemory (optional_rules L.rules) additional
-            (record { value = self.old; meter = option_copied_mut fuel.entry; limiter = state limiter.old }) result charge
-            (record { value = self.new; meter = left_behind (λ lent. lent.0.now) fuel.exit; limiter = state limiter.new }) }
+            (record { value = self.old; meter = option_copied_mut fuel.entry; limiter = lent_limiter limiter.old }) result charge
+            (record { value = self.new; meter = left_behind (λ lent. lent.0.now) fuel.exit; limiter = lent_limiter limiter.new }) }
     {
         match fuel {
             Some(fuel) => self.grow_metered(additional, fuel, limiter),
@@ -241,8 +241,8 @@ impl<R: Region> LinearMemory<R> {
     ) -> Result<u64, MemoryError>
         ensures loan { KeepsLoan limiter.old limiter.new }
         ensures grown { (charge : ℕ) × GrowsMemory (optional_rules L.rules) additional
-            (record { value = self.old; meter = Some fuel.old; limiter = state limiter.old }) result charge
-            (record { value = self.new; meter = Some fuel.new; limiter = state limiter.new }) }
+            (record { value = self.old; meter = Some fuel.old; limiter = lent_limiter limiter.old }) result charge
+            (record { value = self.new; meter = Some fuel.new; limiter = lent_limiter limiter.new }) }
     {
         let old_pages = self.size();
         if additional == 0 {

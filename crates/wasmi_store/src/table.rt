@@ -3,7 +3,7 @@ ghost use Rattle.std.specs.Prelude.{◌≡◌, ◌+◌, ◌<◌, ◌≤◌, ◌�
 ghost use Rattle.std.specs.Option.{option_copied_mut};
 ghost use Rattle.wasmi_types.specs.Access.{overwrite};
 ghost use Rattle.wasmi_meter.specs.Limiter.{optional_rules};
-ghost use Rattle.wasmi_meter.specs.LimiterRef.{state, KeepsLoan, left_behind};
+ghost use Rattle.wasmi_meter.specs.LimiterRef.{lent_limiter, KeepsLoan, left_behind};
 ghost use Rattle.wasmi_store.specs.Segment.{segment_of};
 
 mod copy;
@@ -63,7 +63,7 @@ impl Table {
         limiter: &mut ResourceLimiterRef<L>,
     ) -> Result<Self, TableError>
         ensures loan { KeepsLoan limiter.old limiter.new }
-        ensures made { MakesTable (optional_rules L.rules) ty init (state limiter.old) result (state limiter.new) }
+        ensures made { MakesTable (optional_rules L.rules) ty init (lent_limiter limiter.old) result (lent_limiter limiter.new) }
     {
         ty.ensure_element_type_matches(init.ty)?;
         let size = ty.minimum() as usize;
@@ -135,8 +135,8 @@ impl Table {
     ) -> Result<u64, TableError>
         ensures loan { KeepsLoan limiter.old limiter.new }
         ensures grown { (charge : ℕ) × GrowsTable (optional_rules L.rules) delta init
-            (record { value = self.old; meter = option_copied_mut fuel.entry; limiter = state limiter.old }) result charge
-            (record { value = self.new; meter = left_behind (λ lent. lent.0.now) fuel.exit; limiter = state limiter.new }) }
+            (record { value = self.old; meter = option_copied_mut fuel.entry; limiter = lent_limiter limiter.old }) result charge
+            (record { value = self.new; meter = left_behind (λ lent. lent.0.now) fuel.exit; limiter = lent_limiter limiter.new }) }
     {
         match fuel {
             Some(fuel) => self.grow_metered(delta, init, fuel, limiter),
@@ -156,8 +156,8 @@ impl Table {
     ) -> Result<u64, TableError>
         ensures loan { KeepsLoan limiter.old limiter.new }
         ensures grown { (charge : ℕ) × GrowsTable (optional_rules L.rules) delta init
-            (record { value = self.old; meter = Some fuel.old; limiter = state limiter.old }) result charge
-            (record { value = self.new; meter = Some fuel.new; limiter = state limiter.new }) }
+            (record { value = self.old; meter = Some fuel.old; limiter = lent_limiter limiter.old }) result charge
+            (record { value = self.new; meter = Some fuel.new; limiter = lent_limiter limiter.new }) }
     {
         self.ty.ensure_element_type_matches(init.ty)?;
         self.grow_raw_metered(delta, init.raw, fuel, limiter)
@@ -219,8 +219,8 @@ impl Table {
     ) -> Result<u64, TableError>
         ensures loan { KeepsLoan limiter.old limiter.new }
         ensures grown { (charge : ℕ) × GrowsTableRaw (optional_rules L.rules) delta init
-            (record { value = self.old; meter = option_copied_mut fuel.entry; limiter = state limiter.old }) result charge
-            (record { value = self.new; meter = left_behind (λ lent. lent.0.now) fuel.exit; limiter = state limiter.new }) }
+            (record { value = self.old; meter = option_copied_mut fuel.entry; limiter = lent_limiter limiter.old }) result charge
+            (record { value = self.new; meter = left_behind (λ lent. lent.0.now) fuel.exit; limiter = lent_limiter limiter.new }) }
     {
         match fuel {
             Some(fuel) => self.grow_raw_metered(delta, init, fuel, limiter),
@@ -240,8 +240,8 @@ impl Table {
     ) -> Result<u64, TableError>
         ensures loan { KeepsLoan limiter.old limiter.new }
         ensures grown { (charge : ℕ) × GrowsTableRaw (optional_rules L.rules) delta init
-            (record { value = self.old; meter = Some fuel.old; limiter = state limiter.old }) result charge
-            (record { value = self.new; meter = Some fuel.new; limiter = state limiter.new }) }
+            (record { value = self.old; meter = Some fuel.old; limiter = lent_limiter limiter.old }) result charge
+            (record { value = self.new; meter = Some fuel.new; limiter = lent_limiter limiter.new }) }
     {
         let size = self.size();
         if delta == 0 {

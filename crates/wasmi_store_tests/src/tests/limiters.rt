@@ -1,7 +1,7 @@
 //! References to limiters, and what a lender knows of its limiter afterwards.
 ghost use Rattle.std.specs.Prelude.{None};
 ghost use Rattle.wasmi_meter.specs.Limiter.{optional_rules};
-ghost use Rattle.wasmi_meter.specs.LimiterRef.{state, KeepsLoan};
+ghost use Rattle.wasmi_meter.specs.LimiterRef.{lent_limiter, KeepsLoan};
 ghost use Rattle.wasmi_meter.specs.declared.limiter.Kind.TheVariants.{Bytes};
 
 use super::recorder::{COMPLAINT, Question, Recorder, memory_question};
@@ -26,7 +26,7 @@ fn ask_once<L: ResourceLimiter>(limiter: &mut L) -> Result<bool, LimiterError>
 /// Asks the limiter itself, where the reference leads to one.
 fn ask_through<L: ResourceLimiter>(lent: &mut ResourceLimiterRef<L>) -> Result<bool, LimiterError>
     ensures loan { KeepsLoan lent.old lent.new }
-    ensures asked { (optional_rules L.rules).asked (state lent.old) (record { kind = Bytes; current = 0; desired = 5; maximum = None }) result (state lent.new) }
+    ensures asked { (optional_rules L.rules).asked (lent_limiter lent.old) (record { kind = Bytes; current = 0; desired = 5; maximum = None }) result (lent_limiter lent.new) }
 {
     match lent.as_resource_limiter() {
         Some(limiter) => limiter.memory_growing(0, 5, None),

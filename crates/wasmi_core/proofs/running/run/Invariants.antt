@@ -1,7 +1,7 @@
 use Rattle.std.proofs.Common.{◌≡◌, ◌≤◌, List, map, length, take, vec_len}
 use Rattle.std.specs.Vec.{vec_capacity}
 use Rattle.wasmi_meter.specs.Limiter.{optional_rules}
-use Rattle.wasmi_meter.specs.LimiterRef.{state, KeepsLoan}
+use Rattle.wasmi_meter.specs.LimiterRef.{lent_limiter, KeepsLoan}
 use Rattle.wasmi_core.specs.Validity.{IsValid}
 use Rattle.wasmi_core.specs.World.{Turn}
 use Rattle.wasmi_core.specs.Runs.{Run}
@@ -12,8 +12,8 @@ abbrev pub invariant-loop-call : goal.invariant-loop-call
 invariant-loop-call g l = record {
   ran : (turns : List Turn) × (map Turn.call turns ≡ take l.call-index l.calls) × (map Turn.reply
       turns ≡ l.replies.items)
-      × Run (optional_rules g.L.ResourceLimiter.rules) (record { state = l.fn.machine; limiter = state l.fn.limiter })
-      turns (record { state = l.machine; limiter = state l.limiter });
+      × Run (optional_rules g.L.ResourceLimiter.rules) (record { state = l.fn.machine; limiter = lent_limiter l.fn.limiter })
+      turns (record { state = l.machine; limiter = lent_limiter l.limiter });
   loan : KeepsLoan l.fn.limiter l.limiter;
   valid : IsValid l.machine;
   count : vec_len l.replies ≡ l.call-index;

@@ -1,5 +1,5 @@
 use Rattle.wasmi_meter.specs.Limiter.{optional_rules}
-use Rattle.wasmi_meter.specs.LimiterRef.{state}
+use Rattle.wasmi_meter.specs.LimiterRef.{lent_limiter}
 use Rattle.wasmi_core.specs.World.{world}
 use Rattle.wasmi_core.proofs.ValidityLemmas.{answer_is_valid}
 use Rattle.wasmi_core.proofs.machine.Machine.step.Goals as goal
@@ -7,8 +7,8 @@ use Rattle.wasmi_core.proofs.machine.Machine.step.Goals as goal
 pub invariant_of-self : goal.invariant_of-self
 invariant_of-self g c =
     answer_is_valid (optional_rules g.L.ResourceLimiter.rules) c.args.call.now
-    (world c.self.inside.store (state c.args.limiter.now)) c.step.result
-    (world c.step.new.self (state c.step.new.limiter)) c.tell_valid.ensures c.self.invariant c.step.ensures.step
+    (world c.self.inside.store (lent_limiter c.args.limiter.now)) c.step.result
+    (world c.step.new.self (lent_limiter c.step.new.limiter)) c.tell_valid.ensures c.self.invariant c.step.ensures.step
 
 pub returns-clause-step : goal.returns-clause-step
 returns-clause-step g c = rw (← c.self.view_is) c.step.ensures.step

@@ -1,5 +1,5 @@
 use Rattle.std.proofs.Common.{refl}
-use Rattle.wasmi_meter.specs.LimiterRef.{state}
+use Rattle.wasmi_meter.specs.LimiterRef.{lent_limiter}
 use Rattle.wasmi_core.proofs.store.Store.step.Goals as goal
 
 pub returns-in-SetFuel-clause-step : goal.returns-in-SetFuel-clause-step
@@ -87,7 +87,7 @@ returns-in-GetGlobal-clause-step g c = (
 )
 
 pub returns-in-VectorLoad-clause-step : goal.returns-in-VectorLoad-clause-step
-returns-in-VectorLoad-clause-step g c = (0, 0, c.step_vector_access.ensures (state c.args.limiter.now))
+returns-in-VectorLoad-clause-step g c = (0, 0, c.step_vector_access.ensures (lent_limiter c.args.limiter.now))
 
 pub returns-in_default-clause-step : goal.returns-in_default-clause-step
-returns-in_default-clause-step g c = (0, 0, c.step_register.ensures (state c.args.limiter.now))
+returns-in_default-clause-step g c = (0, 0, c.step_register.ensures (lent_limiter c.args.limiter.now))

@@ -1,6 +1,6 @@
 use Rattle.std.proofs.Common.{refl}
 use Rattle.std.specs.Option.{option_copied_mut}
-use Rattle.wasmi_meter.specs.LimiterRef.{state}
+use Rattle.wasmi_meter.specs.LimiterRef.{lent_limiter}
 use Rattle.wasmi_core.specs.State.{live_at}
 use Rattle.wasmi_core.specs.MemoryRows.{bytes_appended}
 use Rattle.wasmi_core.proofs.store.Store.step_memory.Goals as goal
@@ -13,7 +13,7 @@ returns-in-NewMemory-clause-step g c = (
       (record {
         free = (refl, refl);
         part = c.create.new.self.slots.items;
-        limiter = state c.create.new.limiter;
+        limiter = lent_limiter c.create.new.limiter;
         row =
             c.create.ensures.made;
         after = refl;
@@ -30,7 +30,7 @@ returns-in-GrowMemory-clause-step g c =
           (record {
             part = c.grow.new.self.slots.items;
             meter = c.grow.new.fuel;
-            limiter = state c.grow.new.limiter;
+            limiter = lent_limiter c.grow.new.limiter;
             row =
                 grown.1;
             wrote = refl;
@@ -104,7 +104,7 @@ returns-in-NewLentMemory-clause-step g c = (
           spare = option_copied_mut
               c.create_lent.new.spare;
         };
-        limiter = state c.create_lent.new.limiter;
+        limiter = lent_limiter c.create_lent.new.limiter;
         row = c.create_lent.ensures.made;
         after = refl;
       }),

@@ -1,5 +1,5 @@
 use Rattle.std.proofs.Common.{refl, subst}
-use Rattle.wasmi_meter.specs.LimiterRef.{state}
+use Rattle.wasmi_meter.specs.LimiterRef.{lent_limiter}
 use Rattle.wasmi_core.specs.TableRows.{WritesTableAt, initialization_from, metered, element_bytes}
 use Rattle.wasmi_core.specs.State.{live_at}
 use Rattle.wasmi_core.proofs.TableRowsLemmas.{part_from}
@@ -13,7 +13,7 @@ returns-in-NewTable-clause-step g c = (
       (record {
         free = (refl, refl);
         part = c.create.new.self.slots.items;
-        limiter = state c.create.new.limiter;
+        limiter = lent_limiter c.create.new.limiter;
         row =
             c.create.ensures.made;
         after = refl;
@@ -29,7 +29,7 @@ returns-in-GrowTable-clause-step g c =
           (record {
             part = c.grow.new.self.slots.items;
             meter = c.grow.new.fuel;
-            limiter = state c.grow.new.limiter;
+            limiter = lent_limiter c.grow.new.limiter;
             row =
                 grown.1;
             wrote = refl;
