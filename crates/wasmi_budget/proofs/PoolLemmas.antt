@@ -165,7 +165,7 @@ module _ (pool now : PoolValue) (same : pool ≡ now) (index : ℕ) (tenant : Te
 pub runs_within : (pool : PoolValue) (index : ℕ) (calls : List Call) (replies : List Reply) (pool' : PoolValue) → IsWithinCaps pool → RunsTenant pool index calls replies pool' → IsWithinCaps pool'
 runs_within pool index calls replies pool' within runs =
     let end : World (Option Tenant) = record { state = runs.machine'; limiter = Some runs.tenant' } in
-    let after = totals_are_held tenant_rules holdings asked_reserves noticed_gives_back runs.machine (tenant_at pool index runs.machine) (record { bytes = refl; elements = refl }) runs.ran.0 end runs.ran.3 in
+    let after = totals_are_held tenant_rules holdings (record { reserves = asked_reserves; gives_back = noticed_gives_back }) runs.machine (tenant_at pool index runs.machine) (record { bytes = refl; elements = refl }) runs.ran.0 end runs.ran.3 in
     let held : HoldsTotals (holdings runs.tenant') runs.machine' = subst (λ tenant. HoldsTotals (holdings tenant) runs.machine') (sym (same_Some runs.tenant' after.0 after.1)) after.2 in
     let stays = ran_within pool within index runs.machine runs.found runs.machine' runs.tenant' runs.ran.0 runs.ran.3 in
     subst IsWithinCaps (sym runs.after) (replaced_within pool within index runs.machine runs.found runs.machine' runs.tenant' stays held)

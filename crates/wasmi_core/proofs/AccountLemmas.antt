@@ -109,7 +109,8 @@ module _ (w : TableWrite) (x : TableValue) (m : Meter) (result : Result (Unit {0
     (x' : TableValue) where
   -- a write over a part of a table is charged no more than is left
   ends_paid : (typed : Bool) (written : Option (List ℕ)) (payable : Bool)
-      → can_pay (Some m) (due_for w x (Some m)) ≡ payable → EndsBy w x (Some m) typed written payable result charge x'
+      → can_pay (Some m) (due_for w x (Some m)) ≡ payable
+      → EndsBy w x (Some m) typed written payable (record { result = result; charge = charge; value = x' })
       → IsPaid m charge
   ends_paid false written payable enough ends = paid_free m charge ends.1
   ends_paid true None payable enough ends = paid_free m charge ends.1

@@ -5,7 +5,7 @@ use Rattle.std.proofs.lemmas.Option.{none-some, same_Some}
 use Rattle.std.specs.Option.{option_map}
 use Rattle.std.specs.Prelude.{MatchBool}
 use Rattle.wasmi_core.proofs.MemoryRowsLemmas.{reads_same}
-use Rattle.wasmi_core.proofs.RowLemmas.{Outcome, acts_same, creates_same, on_both}
+use Rattle.wasmi_core.proofs.RowLemmas.{Acted, Outcome, acts_same, creates_same, on_both}
 use Rattle.wasmi_core.proofs.StepsLemmas.{change_facts}
 use Rattle.wasmi_core.proofs.TableRowsLemmas.{table_copies_same}
 use Rattle.wasmi_core.specs.Determinism.{HasMemory, HaveMemory, IsDeterministic, IsNoWant, with_memory}
@@ -271,6 +271,11 @@ table_growth_same {rules = rules} once n init s result result' charge charge' s'
         result result' charge charge' s' s'' h h'
     by_type false h h' = (h.0 ∙ sym h'.0, h.1 ∙ sym h'.1, h.2 ∙ sym h'.2)
 
+-- what a turn on one part of the state ends in
+abbrev acted : {A S : Type 0} → Turn → A → Meter → S → Acted A S
+acted t part meter limiter =
+    record { reply = t.reply; charge = t.charge; after = record { value = part; meter = Some meter; limiter = limiter } }
+
 module _ {S : Type 0} (rules : Rules S) (once : IsDeterministic rules) (w : World S) (t t' : Turn) (v v' : World S)
     (room : HasMemory t.reply) (room' : HasMemory t'.reply) where
   -- each effect
@@ -306,9 +311,9 @@ module _ {S : Type 0} (rules : Rules S) (once : IsDeterministic rules) (w : Worl
       (acts_same (GrowsMemory (with_memory rules) pages)
       (λ s. grows_same once
       (record { amount = pages; size = pages_of s.value; effort = memory.growth_of s.value pages })
-      (record { wants = memory_wants s.value.room }) s) k (reply_of replied.Number replied.Memory) _ t.reply t'.reply
-      t.charge t'.charge
-      _ _ step.row step'.row) step.wrote step'.wrote step.after step'.after
+      (record { wants = memory_wants s.value.room }) s) k (reply_of replied.Number replied.Memory) _
+      (acted t step.part step.meter step.limiter) (acted t' step'.part step'.meter step'.limiter)
+      step.row step'.row) step.wrote step'.wrote step.after step'.after
   effect_same (TableMade ty init) step step' =
       asked w t t' v v' (with_tables w.state) step.part step'.part step.limiter step'.limiter step.free step'.free
       (creates_same replied.Table (MakesTable (with_memory rules) ty init)
@@ -320,7 +325,8 @@ module _ {S : Type 0} (rules : Rules S) (once : IsDeterministic rules) (w : Worl
       paid w t t' v v' (with_tables w.state) step.part step'.part step.meter step'.meter (element_bytes n)
       step.limiter step'.limiter
       (acts_same (GrowsTable (with_memory rules) n init) (table_growth_same once n init) k
-      (reply_of replied.Number replied.Table) _ t.reply t'.reply t.charge t'.charge _ _ step.row step'.row) step.wrote
+      (reply_of replied.Number replied.Table) _ (acted t step.part step.meter step.limiter)
+      (acted t' step'.part step'.meter step'.limiter) step.row step'.row) step.wrote
       step'.wrote step.after step'.after
   effect_same (PartWritten k source dst len) step step' =
       paid_unasked w t t' v v' (with_tables w.state) step.part step'.part step.meter step'.meter (element_bytes len)

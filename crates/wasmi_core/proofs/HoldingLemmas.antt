@@ -9,7 +9,7 @@ use Rattle.wasmi_meter.specs.Limiter.{Question, Answer, IsDenial, Failure, kind_
 use Rattle.wasmi_core.specs.declared.calls.Call.{Call}
 use Rattle.wasmi_core.specs.declared.calls.Reply.{Reply}
 use Rattle.wasmi_core.specs.State.{State}
-use Rattle.wasmi_core.specs.World.{World, Turn}
+use Rattle.wasmi_core.specs.World.{World, Turn, world}
 use Rattle.wasmi_core.specs.Runs.{Run, IsRunOf}
 use Rattle.wasmi_core.specs.Exchange.{Exchange, Nothing, Denial, Permission, Notice, Place, Nowhere, New, At, place_of, Passes, NothingGrows, GrowsAsAsked, GrowsBy}
 use Rattle.wasmi_core.specs.Totals.{sizes, HoldsTotals}
@@ -72,11 +72,14 @@ module _ (s s' : State) where
     elements = ap (λ (x : Holdings). x.elements) more ∙ ap (λ k. k + n) held.elements ∙ sym grown;
   }
 
-module _ {L : Type 0} (rules : Rules L) (holdings : L → Holdings)
-    (reserves : (l l' : L) (q : Question) (answer : Answer) → rules.asked l q answer l'
-    → Reserves q answer (holdings l) (holdings l'))
-    (gives_back : (l l' : L) (failure : Failure) (heed : Heed) → rules.noticed l failure heed l'
-    → GivesBack (kind_of failure) (holdings l) (holdings l')) where
+-- what the questions to a limiter add to what it holds, and what notices take back
+pub record KeepsHoldings {L : Type 0} (rules : Rules L) (holdings : L → Holdings) : Type 0 where
+  pub reserves : (l l' : L) (q : Question) (answer : Answer) → rules.asked l q answer l'
+      → Reserves q answer (holdings l) (holdings l')
+  pub gives_back : (l l' : L) (failure : Failure) (heed : Heed) → rules.noticed l failure heed l'
+      → GivesBack (kind_of failure) (holdings l) (holdings l')
+
+module _ {L : Type 0} (rules : Rules L) (holdings : L → Holdings) (keeps : KeepsHoldings rules holdings) where
   -- a limiter is there, and holds the totals
   abbrev Holds : Option L → State → Type 0
   Holds limiter s = (l : L) × (limiter ≡ Some l) × HoldsTotals (holdings l) s
@@ -91,14 +94,14 @@ module _ {L : Type 0} (rules : Rules L) (holdings : L → Holdings)
     l',
     refl,
     still_held s s' (holdings l) (holdings l') held
-        (denial_keeps q answer (holdings l) (holdings l') denial (reserves l l' q answer asks)) grows,
+        (denial_keeps q answer (holdings l) (holdings l') denial (keeps.reserves l l' q answer asks)) grows,
   )
   exchange_holds s s' l None place (Denial q answer) held (denial, asks) grows = absurd asks
   exchange_holds s s' l (Some l') place (Permission q) held asks (grows, others) = (
     l',
     refl,
     more_held s s' q.kind (q.desired - q.current) (holdings l) (holdings l') held
-        (reserves l l' q (Ok true) asks) (grown_sum place q (sizes s q.kind) (sizes s' q.kind) grows) others,
+        (keeps.reserves l l' q (Ok true) asks) (grown_sum place q (sizes s q.kind) (sizes s' q.kind) grows) others,
   )
   exchange_holds s s' l None place (Permission q) held asks grows = absurd asks
   exchange_holds s s' l (Some l') place (Notice q failure heed) held (kind, Some p, asks, notices) grows = (
@@ -106,7 +109,8 @@ module _ {L : Type 0} (rules : Rules L) (holdings : L → Holdings)
     refl,
     still_held s s' (holdings l) (holdings l') held
         (given_back q.kind (q.desired - q.current) (holdings l) (holdings p) (holdings l')
-        (reserves l p q (Ok true) asks) (rw kind at (gives_back p l' failure heed notices))) grows,
+        (keeps.reserves l p q (Ok true) asks)
+        (rw kind at (keeps.gives_back p l' failure heed notices))) grows,
   )
   exchange_holds s s' l None place (Notice q failure heed) held (kind, Some p, asks, notices) grows = absurd notices
   exchange_holds s s' l limiter place (Notice q failure heed) held (kind, None, asks, notices) grows = absurd asks
@@ -122,12 +126,12 @@ module _ {L : Type 0} (rules : Rules L) (holdings : L → Holdings)
       totals_are_held v.state next.0 next.2 turns w' (rw next.1 at ran)
 
   -- so from a run that is reserving
-  pub run_holds : {R E : Type 0} (items : R → List Reply) (s : State) (l : L) (s' : State) (l' : L)
-      (calls : List Call) → HoldsTotals (holdings l) s → (result : Result R E)
-      → IfOk result (λ replies. IsRunOf (optional_rules rules) calls (record { state = s; limiter = Some l })
-      (items replies) (record { state = s'; limiter = Some l' }))
-      → OnErr result ((s' ≡ s) × (l' ≡ l)) → HoldsTotals (holdings l') s'
-  run_holds items s l s' l' calls held (Ok replies) ran same =
-      let after = totals_are_held s l held ran.0 (record { state = s'; limiter = Some l' }) ran.3 in
-      subst (λ k. HoldsTotals (holdings k) s') (sym (same_Some l' after.0 after.1)) after.2
-  run_holds items s l s' l' calls held (Err error) ran same = rw (same.0, same.1) held
+  pub run_holds : {R E : Type 0} (items : R → List Reply) (w w' : World L) (calls : List Call)
+      → HoldsTotals (holdings w.limiter) w.state → (result : Result R E)
+      → IfOk result (λ replies. IsRunOf (optional_rules rules) calls (world w.state (Some w.limiter)) (items replies)
+      (world w'.state (Some w'.limiter)))
+      → OnErr result ((w'.state ≡ w.state) × (w'.limiter ≡ w.limiter)) → HoldsTotals (holdings w'.limiter) w'.state
+  run_holds items w w' calls held (Ok replies) ran same =
+      let after = totals_are_held w.state w.limiter held ran.0 (world w'.state (Some w'.limiter)) ran.3 in
+      subst (λ k. HoldsTotals (holdings k) w'.state) (sym (same_Some w'.limiter after.0 after.1)) after.2
+  run_holds items w w' calls held (Err error) ran same = rw (same.0, same.1) held

@@ -204,7 +204,7 @@ lacks_memory (Lent rest) cause lacks nowant = lacks
 ends_free : (w : TableWrite) (x : TableValue) (m : Option Meter) (charge : ℕ) (x' : TableValue) (typed : Bool)
     (written : Option (List ℕ)) (payable : Bool) (result : Result (Unit {0}) TableError)
     → IsRefusal (reply_of (λ _. replied.Done) replied.Table result)
-    → EndsBy w x m typed written payable result charge x' → charge ≡ 0
+    → EndsBy w x m typed written payable (record { result = result; charge = charge; value = x' }) → charge ≡ 0
 ends_free w x m charge x' false written payable result refused ends = ends.1
 ends_free w x m charge x' true None payable result refused ends = ends.1
 ends_free w x m charge x' true (Some elements) false result refused ends = ends.1

@@ -160,17 +160,24 @@ drops_same count k slots reply reply' slots' slots'' a b =
     on_both (live_at slots k) _ _ _ _ a b (λ h h'. (h.0 ∙ sym h'.0, h.1 ∙ sym h'.1))
     (λ x h h'. (h.0 ∙ sym h'.0, h.1 ∙ sym h'.1))
 
+-- what a call on what an index names ends in
+pub record Acted (A S : Type 0) : Type 0 where
+  pub reply : Reply
+  pub charge : ℕ
+  pub after : Situation A S
+
 -- two calls on what an index names
 pub acts_same : {X R S : Type 0} (Acts : Situation X S → R → ℕ → Situation X S → Type 0)
     → ((s : Situation X S) (result result' : R) (charge charge' : ℕ) (s' s'' : Situation X S)
     → Acts s result charge s' → Acts s result' charge' s'' → (result ≡ result') × (charge ≡ charge') × (s' ≡ s''))
-    → (k : ℕ) (reply_to : R → Reply) (s : Situation (List (Slot X)) S) (reply reply' : Reply) (charge charge' : ℕ)
-    (s' s'' : Situation (List (Slot X)) S) → ActsAt k reply_to Acts s reply charge s'
-    → ActsAt k reply_to Acts s reply' charge' s'' → (reply ≡ reply') × (charge ≡ charge') × (s' ≡ s'')
-acts_same {X = X} {S = S} Acts same k reply_to s reply reply' charge charge' s' s'' a b =
+    → (k : ℕ) (reply_to : R → Reply) (s : Situation (List (Slot X)) S) (o o' : Acted (List (Slot X)) S)
+    → ActsAt k reply_to Acts s o.reply o.charge o.after → ActsAt k reply_to Acts s o'.reply o'.charge o'.after
+    → (o.reply ≡ o'.reply) × (o.charge ≡ o'.charge) × (o.after ≡ o'.after)
+acts_same {X = X} {S = S} Acts same k reply_to s o o' a b =
     on_both (live_at s.value k) _ _ _ _ a b (λ h h'. (h.0 ∙ sym h'.0, h.1 ∙ sym h'.1, h.2 ∙ sym h'.2))
     (λ x (result, x', acts, replies, put) (result', x'', acts', replies', put').
-    let both = same (with_value s x) result result' charge charge' (with_value s' x') (with_value s'' x'') acts acts' in
+    let both =
+    same (with_value s x) result result' o.charge o'.charge (with_value o.after x') (with_value o'.after x'') acts acts' in
     let value = put ∙ ap (λ (t : Situation X S). slice_set s.value k (Live t.value)) both.2 ∙ sym put' in
     let meter = ap (λ (t : Situation X S). t.meter) both.2 in
     let limiter = ap (λ (t : Situation X S). t.limiter) both.2 in (

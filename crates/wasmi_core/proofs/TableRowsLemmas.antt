@@ -19,7 +19,7 @@ use Rattle.wasmi_meter.specs.Limiter.{Rules}
 use Rattle.wasmi_meter.specs.Meter.{Meter, meter_after}
 use Rattle.wasmi_meter.specs.declared.error.TableError.{TableError}
 use Rattle.wasmi_store.proofs.GrowthLemmas.{on_test}
-use Rattle.wasmi_store.specs.Table.{EndsBy, GrowsTable, IsValidTable, TableValue, TableWrite, WritesTable, setting_of, size_of, typed_by}
+use Rattle.wasmi_store.specs.Table.{Ending, EndsBy, GrowsTable, IsValidTable, TableValue, TableWrite, WritesTable, setting_of, size_of, typed_by}
 use Rattle.wasmi_store.specs.TableType.{same_type}
 use Rattle.wasmi_typed.specs.declared.typed_ref.TypedRawRef.{TypedRawRef}
 use Rattle.wasmi_types.specs.Access.{overwrite}
@@ -31,7 +31,7 @@ module _ (w : TableWrite) (x : TableValue) (m : Option Meter) (charge : ℕ) (x'
   -- a refused write over a part leaves the table
   ends_back : (typed : Bool) (written : Option (List ℕ)) (payable : Bool) (result : Result (Unit {0}) TableError)
       → IsRefusal (reply_of (λ _. replied.Done) replied.Table result)
-      → EndsBy w x m typed written payable result charge x' → x' ≡ x
+      → EndsBy w x m typed written payable (record { result = result; charge = charge; value = x' }) → x' ≡ x
   ends_back false written payable result refused ends = ends.2
   ends_back true None payable result refused ends = ends.2
   ends_back true (Some elements) false result refused ends = ends.2
@@ -82,20 +82,20 @@ set_refused k index value slots reply slots' refused sets =
     changes_back k slots reply slots' _ (λ x x' c. write_back _ x None 0 x' None c.0 (rw c.2 at refused) c.1) sets
 
 -- tables
-module _ (w : TableWrite) (x : TableValue) (m : Option Meter) (result result' : Result (Unit {0}) TableError)
-    (charge charge' : ℕ) (x' x'' : TableValue) where
+module _ (w : TableWrite) (x : TableValue) (m : Option Meter) (end end' : Ending) where
   -- two writes over a part end in one way
   ends_same : (typed : Bool) (written : Option (List ℕ)) (payable : Bool)
-      → EndsBy w x m typed written payable result charge x' → EndsBy w x m typed written payable result' charge' x''
-      → (result ≡ result') × (charge ≡ charge') × (x' ≡ x'')
+      → EndsBy w x m typed written payable end → EndsBy w x m typed written payable end'
+      → (end.result ≡ end'.result) × (end.charge ≡ end'.charge) × (end.value ≡ end'.value)
   ends_same false written payable a b = (a.0 ∙ sym b.0, a.1 ∙ sym b.1, a.2 ∙ sym b.2)
   ends_same true None payable a b = (a.0 ∙ sym b.0, a.1 ∙ sym b.1, a.2 ∙ sym b.2)
   ends_same true (Some elements) false a b = (a.0 ∙ sym b.0, a.1 ∙ sym b.1, a.2 ∙ sym b.2)
   ends_same true (Some elements) true a b = (a.0 ∙ sym b.0, a.1 ∙ sym b.1, a.2 ∙ sym b.2)
 
   -- so they are one
-  table_write_same : (m' m'' : Option Meter) → WritesTable w x m result charge x' m'
-      → WritesTable w x m result' charge' x'' m'' → (result ≡ result') × (charge ≡ charge') × (x' ≡ x'') × (m' ≡ m'')
+  table_write_same : (m' m'' : Option Meter) → WritesTable w x m end.result end.charge end.value m'
+      → WritesTable w x m end'.result end'.charge end'.value m''
+      → (end.result ≡ end'.result) × (end.charge ≡ end'.charge) × (end.value ≡ end'.value) × (m' ≡ m'')
   table_write_same m' m'' a b =
       let ends = ends_same w.typed w.written _ a.ends b.ends in
       (ends.0, ends.1, ends.2, a.meter ∙ ap (λ c. option_map (λ m. meter_after m c) m) ends.1 ∙ sym b.meter)
@@ -108,7 +108,8 @@ sets_same k index value slots reply reply' slots' slots'' a b =
     changes_same (live_at slots k) (λ x. slice_set slots k (Live x)) slots reply reply' slots' slots''
     _ _ (λ x x' x'' h h'.
     let both =
-    table_write_same _ x None h.0 h'.0 0 0 x' x'' None None h.1 h'.1 in
+    table_write_same _ x None (record { result = h.0; charge = 0; value = x' })
+    (record { result = h'.0; charge = 0; value = x'' }) None None h.1 h'.1 in
     (h.2 ∙ ap (reply_of (λ _. replied.Done) replied.Table) both.0 ∙ sym h'.2, both.2)) a b
 
 -- two writes over a part of the table of an index
@@ -120,10 +121,11 @@ table_writes_same k write s reply reply' charge charge' s' s'' a b =
     s'.meter)
     (λ s result result' charge charge' s' s'' h h'.
     let both =
-    table_write_same (write s.value) s.value s.meter result result' charge charge' s'.value s''.value s'.meter
-    s''.meter h h' in
+    table_write_same (write s.value) s.value s.meter (record { result = result; charge = charge; value = s'.value })
+    (record { result = result'; charge = charge'; value = s''.value }) s'.meter s''.meter h h' in
     (both.0, both.1, λ i. record { value = both.2 i; meter = both.3 i; limiter = tt }))
-    k (reply_of (λ _. replied.Done) replied.Table) s reply reply' charge charge' s' s'' a b
+    k (reply_of (λ _. replied.Done) replied.Table) s (record { reply = reply; charge = charge; after = s' })
+    (record { reply = reply'; charge = charge'; after = s'' }) a b
 
 -- so from what may be missing
 pub table_copies_same : {X : Type 0} (source : Option X) (k : ℕ) (write : X → TableValue → TableWrite) (s : Metered)
@@ -147,7 +149,8 @@ module _ (w : TableWrite) (x : TableValue) (m : Option Meter) (result : Result (
     (x' : TableValue) (keeps : KeepsLength w x) where
   -- a write over a part keeps the number of elements
   ends_count : (typed : Bool) (written : Option (List ℕ)) (payable : Bool) → w.written ≡ written
-      → EndsBy w x m typed written payable result charge x' → size_of x' ≡ size_of x
+      → EndsBy w x m typed written payable (record { result = result; charge = charge; value = x' })
+      → size_of x' ≡ size_of x
   ends_count false written payable is ends = ap size_of ends.2
   ends_count true None payable is ends = ap size_of ends.2
   ends_count true (Some elements) false is ends = ap size_of ends.2
@@ -203,7 +206,7 @@ module _ (w : TableWrite) (x : TableValue) (m : Option Meter) (result : Result (
     (x' : TableValue) where
   -- a write over a part keeps the type
   ends_typed : (typed : Bool) (written : Option (List ℕ)) (payable : Bool)
-      → EndsBy w x m typed written payable result charge x' → x'.ty ≡ x.ty
+      → EndsBy w x m typed written payable (record { result = result; charge = charge; value = x' }) → x'.ty ≡ x.ty
   ends_typed false written payable ends = ap (λ (t : TableValue). t.ty) ends.2
   ends_typed true None payable ends = ap (λ (t : TableValue). t.ty) ends.2
   ends_typed true (Some elements) false ends = ap (λ (t : TableValue). t.ty) ends.2

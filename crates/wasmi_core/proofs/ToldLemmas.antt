@@ -106,6 +106,13 @@ unlimited_heeds l failure heed l' noticed = noticed.0
 pub quota_heeds : HeedsAll quota_rules
 quota_heeds l failure heed l' noticed = noticed.heeds
 
+-- a run as a host sees it: its replies, none of which tells of want of memory, and what there is after it
+pub record SeenRun {S : Type 0} (rules : Rules S) (calls : List Call) (w : World S) : Type 0 where
+  pub replies : List Reply
+  pub after : World S
+  pub has : All HasMemory replies
+  pub ran : IsRunOf rules calls w replies after
+
 module _ {L : Type 0} (rules : Rules L) (heeds : HeedsAll rules) where
   -- so where the limiter may be absent
   pub told_runs : (w : World (Option L)) (turns : List Turn) (w' : World (Option L)) → HaveMemory turns
@@ -114,14 +121,14 @@ module _ {L : Type 0} (rules : Rules L) (heeds : HeedsAll rules) where
       told_run (optional_rules rules) (optional_heeds rules heeds) w turns w' (all_shown turns have)
 
   -- two runs of the same calls, as a host sees them
-  pub replies_are_one : IsDeterministic rules
-      → (calls : List Call) (w : World (Option L)) (replies replies' : List Reply) (v v' : World (Option L))
-      → All HasMemory replies → All HasMemory replies' → IsRunOf (optional_rules rules) calls w replies v
-      → IsRunOf (optional_rules rules) calls w replies' v' → (replies ≡ replies') × (v ≡ v')
-  replies_are_one once calls w replies replies' v v' has has' (turns, made, told, ran) (turns', made', told', ran') =
-      let have = replies_have turns replies told has in
-      let have' = replies_have turns' replies' told' has' in
+  pub replies_are_one : IsDeterministic rules → (calls : List Call) (w : World (Option L))
+      (a b : SeenRun (optional_rules rules) calls w) → (a.replies ≡ b.replies) × (a.after ≡ b.after)
+  replies_are_one once calls w a b =
+      let (turns, made, told, ran) = a.ran in
+      let (turns', made', told', ran') = b.ran in
+      let have = replies_have turns a.replies told a.has in
+      let have' = replies_have turns' b.replies told' b.has in
       let one =
-      determinism.runs_are_one (optional_rules rules) (determinism.optional_once rules once) w turns turns' v v'
-      (made ∙ sym made') have have' (told_runs w turns v have ran) (told_runs w turns' v' have' ran') in
+      determinism.runs_are_one (optional_rules rules) (determinism.optional_once rules once) w turns turns' a.after b.after
+      (made ∙ sym made') have have' (told_runs w turns a.after have ran) (told_runs w turns' b.after have' ran') in
       (sym told ∙ ap (map Turn.reply) one.0 ∙ told', one.1)

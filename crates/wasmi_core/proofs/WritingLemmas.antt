@@ -291,7 +291,8 @@ module _ (w : TableWrite) (x : TableValue) (len : ℕ) (m : Meter) (charge : ℕ
 
   -- so where it has ended well
   ends_bound : (w.paid ≡ Some len) ⊎ (len ≡ 0) → (x' : TableValue) (typed : Bool) (written : Option (List ℕ))
-      (payable : Bool) → EndsBy w x (Some m) typed written payable (Ok tt) charge x'
+      (payable : Bool)
+      → EndsBy w x (Some m) typed written payable (record { result = (Ok tt); charge = charge; value = x' })
       → ((left : ℕ) → m.left ≡ Some left → 0 < rate m → cut_product len 4 ≤ rate m * charge + (rate m - 1))
   ends_bound paid x' false written payable ends = absurd cc
   ends_bound paid x' true None payable ends = absurd cc

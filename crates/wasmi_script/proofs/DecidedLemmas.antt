@@ -197,8 +197,13 @@ module _ {L : Type 0} (rules : Rules L) (once : IsDeterministic rules) (heeds : 
       → IsRunOf (optional_rules rules) calls w replies v → IsRunOf (optional_rules rules) calls' w replies' v'
       → HaveBoth replies replies' → (replies ≡ replies') × (v ≡ v')
   run_once calls calls' w v v' replies replies' same ran ran' has =
-      replies_are_one rules heeds once calls w replies replies' v v' has.0 has.1 ran
-      (retold (optional_rules rules) calls calls' w v' replies' same ran')
+      replies_are_one rules heeds once calls w (record { replies = replies; after = v; has = has.0; ran = ran })
+      (record {
+        replies = replies';
+        after = v';
+        has = has.1;
+        ran = retold (optional_rules rules) calls calls' w v' replies' same ran';
+      })
 
 -- scripts that say the same start with the same machine
 starts_same : (header header' : Header) → header.meter ≡ header'.meter → header.region ≡ header'.region

@@ -3,5 +3,8 @@ use Rattle.wasmi_core.proofs.running.run_reserving.Goals as goal
 
 pub returns-clause-held : goal.returns-clause-held
 returns-clause-held g c =
-    run_holds g.L.ResourceLimiter.rules g.L.Reserving.holdings g.met.L.Reserving.reserves g.met.L.Reserving.gives_back
-    (λ replies. replies.items) _ _ _ _ _ c.requires _ c.run_lending.ensures.run c.run_lending.ensures.err
+    run_holds g.L.ResourceLimiter.rules g.L.Reserving.holdings
+    (record { reserves = g.met.L.Reserving.reserves; gives_back = g.met.L.Reserving.gives_back })
+    (λ replies. replies.items) (record { state = c.args.machine.now; limiter = c.args.limiter.now })
+    (record { state = c.run_lending.new.machine; limiter = c.run_lending.new.limiter }) _ c.requires _
+    c.run_lending.ensures.run c.run_lending.ensures.err

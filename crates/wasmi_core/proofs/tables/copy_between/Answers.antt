@@ -15,8 +15,14 @@ returns-then-dst_index-src_index c =
     let back = c.split_at_mut-front.result.1.now in
     let before = c.if-dst_index-src_index.true in (
       c.copy_slot.ensures.0,
-      copies_at (copy_from c.args.part.dst c.args.part.src c.args.part.len) slots c.args.dst_index c.args.src_index
-          _ _ _ _ _ _
+      copies_at (record {
+        write = copy_from c.args.part.dst c.args.part.src c.args.part.len;
+        slots = slots;
+        into = c.args.dst_index;
+        from = c.args.src_index;
+        meter = _;
+      })
+          _ _ _ _ _
           (slice_get-get_or slots c.args.dst_index slot c.requires.dst
           ∙ ap Some (sym (parts.by_index.0 c.args.dst_index slot before)))
           (slice_get-get_or slots c.args.src_index source c.requires.src
@@ -38,8 +44,14 @@ returns-else-dst_index-src_index c =
     let front = c.split_at_mut-front-else-dst_index-src_index.result.0.now in
     let back = c.split_at_mut-front-else-dst_index-src_index.result.1.now in (
       copy.ensures.0,
-      copies_at (copy_from c.args.part.dst c.args.part.src c.args.part.len) slots c.args.dst_index c.args.src_index
-          _ _ _ _ _ _
+      copies_at (record {
+        write = copy_from c.args.part.dst c.args.part.src c.args.part.len;
+        slots = slots;
+        into = c.args.dst_index;
+        from = c.args.src_index;
+        meter = _;
+      })
+          _ _ _ _ _
           (slice_get-get_or slots c.args.dst_index slot c.requires.dst
           ∙ ap Some (ap (λ k. get_or slots k slot) (omega arith) ∙ sym (parts.by_index.1 0 slot)))
           (slice_get-get_or slots c.args.src_index source c.requires.src
