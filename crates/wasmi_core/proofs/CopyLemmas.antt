@@ -29,7 +29,8 @@ module _ (copy : Copying) (reply : Reply) (charge : ℕ) (s' : Situation (Slot T
   nothing_put : (slot : Slot TableValue) → slice_get copy.slots copy.into ≡ Some slot
       → s' ≡ record { value = slot; meter = Some copy.meter; limiter = tt }
       → (slots' : List (Slot TableValue)) → slots' ≡ set copy.slots copy.into s'.value
-      → (let after : Metered = record { value = slots'; meter = s'.meter; limiter = tt } in after) ≡ metered copy.slots copy.meter
+      → (let after : Metered = record { value = slots'; meter = s'.meter; limiter = tt } in after)
+      ≡ metered copy.slots copy.meter
   nothing_put slot at_i same slots' put =
       λ k. record {
         value = (put ∙ ap (λ s. set copy.slots copy.into s.value) same ∙ set_read copy.slots copy.into slot at_i) k;
@@ -39,7 +40,8 @@ module _ (copy : Copying) (reply : Reply) (charge : ℕ) (s' : Situation (Slot T
       }
 
   -- a table is written over with what another slot has
-  pub copies_at : (slot source : Slot TableValue) → slice_get copy.slots copy.into ≡ Some slot → slice_get copy.slots copy.from ≡ Some source
+  pub copies_at : (slot source : Slot TableValue) → slice_get copy.slots copy.into ≡ Some slot
+      → slice_get copy.slots copy.from ≡ Some source
       → CopiesSlot copy.write source (record { value = slot; meter = Some copy.meter; limiter = tt }) reply charge s'
       → (slots' : List (Slot TableValue)) → slots' ≡ set copy.slots copy.into s'.value
       → WritesTableFrom (live_at copy.slots copy.from) copy.into copy.write (metered copy.slots copy.meter) reply charge

@@ -274,7 +274,11 @@ table_growth_same {rules = rules} once n init s result result' charge charge' s'
 -- what a turn on one part of the state ends in
 abbrev acted : {A S : Type 0} → Turn → A → Meter → S → Acted A S
 acted t part meter limiter =
-    record { reply = t.reply; charge = t.charge; after = record { value = part; meter = Some meter; limiter = limiter } }
+    record {
+      reply = t.reply;
+      charge = t.charge;
+      after = record { value = part; meter = Some meter; limiter = limiter };
+    }
 
 module _ {S : Type 0} (rules : Rules S) (once : IsDeterministic rules) (w : World S) (t t' : Turn) (v v' : World S)
     (room : HasMemory t.reply) (room' : HasMemory t'.reply) where

@@ -177,7 +177,8 @@ acts_same {X = X} {S = S} Acts same k reply_to s o o' a b =
     on_both (live_at s.value k) _ _ _ _ a b (λ h h'. (h.0 ∙ sym h'.0, h.1 ∙ sym h'.1, h.2 ∙ sym h'.2))
     (λ x (result, x', acts, replies, put) (result', x'', acts', replies', put').
     let both =
-    same (with_value s x) result result' o.charge o'.charge (with_value o.after x') (with_value o'.after x'') acts acts' in
+    same (with_value s x) result result' o.charge o'.charge (with_value o.after x') (with_value o'.after x'') acts
+    acts' in
     let value = put ∙ ap (λ (t : Situation X S). slice_set s.value k (Live t.value)) both.2 ∙ sym put' in
     let meter = ap (λ (t : Situation X S). t.meter) both.2 in
     let limiter = ap (λ (t : Situation X S). t.limiter) both.2 in (

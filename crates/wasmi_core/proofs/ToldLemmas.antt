@@ -129,6 +129,6 @@ module _ {L : Type 0} (rules : Rules L) (heeds : HeedsAll rules) where
       let have = replies_have turns a.replies told a.has in
       let have' = replies_have turns' b.replies told' b.has in
       let one =
-      determinism.runs_are_one (optional_rules rules) (determinism.optional_once rules once) w turns turns' a.after b.after
-      (made ∙ sym made') have have' (told_runs w turns a.after have ran) (told_runs w turns' b.after have' ran') in
+      determinism.runs_are_one (optional_rules rules) (determinism.optional_once rules once) w turns turns' a.after
+      b.after (made ∙ sym made') have have' (told_runs w turns a.after have ran) (told_runs w turns' b.after have' ran') in
       (sym told ∙ ap (map Turn.reply) one.0 ∙ told', one.1)

@@ -12,7 +12,8 @@ abbrev pub invariant-loop-call : goal.invariant-loop-call
 invariant-loop-call g l = record {
   ran : (turns : List Turn) × (map Turn.call turns ≡ take l.call-index l.calls) × (map Turn.reply
       turns ≡ l.replies.items)
-      × Run (optional_rules g.L.ResourceLimiter.rules) (record { state = l.fn.machine; limiter = lent_limiter l.fn.limiter })
+      × Run (optional_rules g.L.ResourceLimiter.rules)
+      (record { state = l.fn.machine; limiter = lent_limiter l.fn.limiter })
       turns (record { state = l.machine; limiter = lent_limiter l.limiter });
   loan : KeepsLoan l.fn.limiter l.limiter;
   valid : IsValid l.machine;
