@@ -222,16 +222,31 @@ fn unmetered(alloc: Global) -> Machine<'static>
     Machine::new(alloc, Fuel::new(false, FuelCostsProvider::default()))
 }
 
-/// A new machine whose meter takes one fuel for 64 copied bytes.
-fn metered(alloc: Global) -> Machine<'static>
-    ensures { HoldsTotals (record { bytes = 0; elements = 0; last = None }) result }
-{
+/// A meter that takes one fuel for 64 copied bytes, where it is on.
+fn meter(is_on: bool) -> Fuel {
     let costs = CustomFuelCosts {
         bytes_copied_per_fuel: 64,
         fuel_per_bytes_translated: 7,
         fuel_per_bytes_validated: 2,
     };
-    Machine::new(alloc, Fuel::new(true, FuelCostsProvider::custom(costs)))
+    Fuel::new(is_on, FuelCostsProvider::custom(costs))
+}
+
+/// A new machine with such a meter, which is on.
+fn metered(alloc: Global) -> Machine<'static>
+    ensures { HoldsTotals (record { bytes = 0; elements = 0; last = None }) result }
+{
+    Machine::new(alloc, meter(true))
+}
+
+/// The pages of the memory of an index.
+fn memory_size(machine: &Machine, index: usize) -> Option<u64> {
+    machine.memory(index).map(|memory| memory.size())
+}
+
+/// The elements of the table of an index.
+fn table_size(machine: &Machine, index: usize) -> Option<u64> {
+    machine.table(index).map(|table| table.size())
 }
 
 fn memory_type(

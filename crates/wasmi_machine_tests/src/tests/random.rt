@@ -1,145 +1,180 @@
 //! Creations and growths of memories, lent ones among them, and of tables, under a limiter that
 //! answers by random numbers.
-use super::refusing::{RANDOM_NUMBERS, RandomAnswers};
-use super::{CallRow, MemoryRow, ReplyRow, Step, runs_under, same};
+use super::refusing::{RANDOM_NUMBERS, RandomAnswers, Replies};
+use super::{CallRow, MemoryRow, ReplyRow, Step, memory_size, meter, runs_under, same, table_size};
 use std::alloc::{AllocError, AllocGlobal, Global};
 use std::process::Abort;
 use std::test::Fail;
-use wasmi_core::{CustomFuelCosts, Fuel, FuelCostsProvider, Machine, MemoryError, TableError};
+use wasmi_core::{Machine, MemoryError, TableError};
 
 /// The bytes of the spare region.
 const REGION: u64 = 3;
 
-/// A memory as it is foretold: an owned one has pages of 64 KiB, and a lent one pages of one byte.
+/// A memory or a table as it is foretold, and the replies where it can't be made or grown.
 #[derive(Clone, Copy)]
-struct ForetoldMemory {
-    is_lent: bool,
-    pages: u64,
+pub(super) struct Part {
+    /// Pages or elements.
+    pub(super) size: u64,
+    /// By how much it grows.
+    growth: u64,
+    /// How large it can be.
+    most: u64,
+    /// How large it can be where a meter that is on has no fuel.
+    most_metered: u64,
+    /// The limiter denies a growth; it refuses, or denies a creation; the size is out of reach.
+    denied: ReplyRow,
+    refused: ReplyRow,
+    too_large: ReplyRow,
 }
 
-/// A machine as it is foretold. A meter that is on has no fuel: a page of 64 KiB can't be paid for,
-/// nor can 16 elements, and a byte costs nothing.
+/// A memory with pages of 64 KiB.
+const OWNED: Part = Part {
+    size: 1,
+    growth: 1,
+    most: u64::MAX,
+    most_metered: 1,
+    denied: ReplyRow::Memory(MemoryError::OutOfBoundsGrowth),
+    refused: ReplyRow::Memory(MemoryError::ResourceLimiterDeniedAllocation),
+    too_large: ReplyRow::Memory(MemoryError::OutOfFuel {
+        required_fuel: 1024,
+    }),
+};
+
+/// Such a memory without a page.
+pub(super) const EMPTY: Part = Part {
+    size: 0,
+    most_metered: 0,
+    ..OWNED
+};
+
+/// A memory in the spare region, with pages of one byte, which cost nothing.
+const LENT: Part = Part {
+    size: 2,
+    most: REGION,
+    most_metered: REGION,
+    too_large: ReplyRow::Memory(MemoryError::InvalidStaticBufferSize),
+    ..OWNED
+};
+
+/// A table, of which 16 elements can't be paid for.
+const TABLE: Part = Part {
+    size: 2,
+    growth: 16,
+    most: u64::MAX,
+    most_metered: 2,
+    denied: ReplyRow::Table(TableError::GrowOutOfBounds),
+    refused: ReplyRow::Table(TableError::ResourceLimiterDeniedAllocation),
+    too_large: ReplyRow::Table(TableError::OutOfFuel { required_fuel: 1 }),
+};
+
+impl Part {
+    /// The reply where a size is out of reach.
+    fn failed(&self, size: u64, is_metered: bool) -> Option<ReplyRow> {
+        let most = if is_metered {
+            self.most_metered
+        } else {
+            self.most
+        };
+        (size > most).then_some(self.too_large)
+    }
+
+    /// The reply to the growth.
+    pub(super) fn grow(&mut self, random: &mut RandomAnswers, is_metered: bool) -> ReplyRow {
+        let size = self.size.saturating_add(self.growth);
+        let reply = random.reply(Replies {
+            permitted: ReplyRow::Number(self.size),
+            denied: self.denied,
+            refused: self.refused,
+            failed: self.failed(size, is_metered),
+        });
+        if let ReplyRow::Number(_) = reply {
+            self.size = size;
+        }
+        reply
+    }
+}
+
+/// A machine as it is foretold.
 #[derive(Drop)]
 struct Foretold {
     random: RandomAnswers,
     is_metered: bool,
     has_region: bool,
-    memories: Vec<ForetoldMemory>,
-    tables: Vec<u64>,
+    memories: Vec<Part>,
+    tables: Vec<Part>,
+}
+
+/// The reply to the creation of one part more.
+fn create(
+    parts: &mut Vec<Part>,
+    part: Part,
+    random: &mut RandomAnswers,
+    is_metered: bool,
+) -> Result<ReplyRow, AllocError> {
+    let reply = random.reply(Replies {
+        permitted: ReplyRow::Made(parts.len()),
+        denied: part.refused,
+        refused: part.refused,
+        failed: part.failed(part.size, is_metered),
+    });
+    if let ReplyRow::Made(_) = reply {
+        parts.push(part)?;
+    }
+    Ok(reply)
+}
+
+/// The reply to the growth of the part at an index.
+fn grow(
+    parts: &mut [Part],
+    index: usize,
+    random: &mut RandomAnswers,
+    is_metered: bool,
+) -> ReplyRow {
+    match parts.get_mut(index) {
+        Some(part) => part.grow(random, is_metered),
+        None => ReplyRow::NoSuch,
+    }
 }
 
 impl Foretold {
-    /// The reply to the creation of a memory of so many pages.
-    fn new_memory(
-        &mut self,
-        memory: ForetoldMemory,
-        cause: Option<MemoryError>,
-    ) -> Result<ReplyRow, AllocError> {
-        let refusal = MemoryError::ResourceLimiterDeniedAllocation;
-        Ok(match self.random.fate(refusal, refusal, cause) {
-            Ok(()) => {
-                self.memories.push(memory)?;
-                ReplyRow::Made(self.memories.len() - 1)
-            }
-            Err(error) => ReplyRow::Memory(error),
-        })
+    /// The reply to the creation of a memory.
+    fn new_memory(&mut self, memory: Part) -> Result<ReplyRow, AllocError> {
+        create(
+            &mut self.memories,
+            memory,
+            &mut self.random,
+            self.is_metered,
+        )
     }
 
     /// The reply to the creation of a memory in the spare region, which it spends.
-    fn new_lent_memory(&mut self, pages: u64) -> Result<ReplyRow, AllocError> {
+    fn new_lent_memory(&mut self, size: u64) -> Result<ReplyRow, AllocError> {
         if !self.has_region {
             return Ok(ReplyRow::NoRegion);
         }
         self.has_region = false;
-        let cause = (pages > REGION).then_some(MemoryError::InvalidStaticBufferSize);
-        self.new_memory(
-            ForetoldMemory {
-                is_lent: true,
-                pages,
-            },
-            cause,
-        )
-    }
-
-    /// The reply to the growth of a memory by one page.
-    fn grow_memory(&mut self, index: usize) -> ReplyRow {
-        let Some(memory) = self.memories.get_mut(index) else {
-            return ReplyRow::NoSuch;
-        };
-        let pages = memory.pages;
-        let cause = if memory.is_lent {
-            (pages >= REGION).then_some(MemoryError::InvalidStaticBufferSize)
-        } else {
-            self.is_metered.then_some(MemoryError::OutOfFuel {
-                required_fuel: 1024,
-            })
-        };
-        let refusal = MemoryError::ResourceLimiterDeniedAllocation;
-        match self
-            .random
-            .fate(MemoryError::OutOfBoundsGrowth, refusal, cause)
-        {
-            Ok(()) => {
-                memory.pages = pages.saturating_add(1);
-                ReplyRow::Number(pages)
-            }
-            Err(error) => ReplyRow::Memory(error),
-        }
-    }
-
-    /// The reply to the creation of a table of two elements.
-    fn new_table(&mut self) -> Result<ReplyRow, AllocError> {
-        let refusal = TableError::ResourceLimiterDeniedAllocation;
-        Ok(match self.random.fate(refusal, refusal, None) {
-            Ok(()) => {
-                self.tables.push(2)?;
-                ReplyRow::Made(self.tables.len() - 1)
-            }
-            Err(error) => ReplyRow::Table(error),
-        })
-    }
-
-    /// The reply to the growth of a table by 16 elements.
-    fn grow_table(&mut self, index: usize) -> ReplyRow {
-        let Some(table) = self.tables.get_mut(index) else {
-            return ReplyRow::NoSuch;
-        };
-        let size = *table;
-        let cause = self
-            .is_metered
-            .then_some(TableError::OutOfFuel { required_fuel: 1 });
-        let refusal = TableError::ResourceLimiterDeniedAllocation;
-        match self
-            .random
-            .fate(TableError::GrowOutOfBounds, refusal, cause)
-        {
-            Ok(()) => {
-                *table = size.saturating_add(16);
-                ReplyRow::Number(size)
-            }
-            Err(error) => ReplyRow::Table(error),
-        }
+        self.new_memory(Part { size, ..LENT })
     }
 
     /// The call that three random bits choose, and its reply.
     fn step(&mut self, bits: u64) -> Result<Step, AllocError> {
         let index = (bits & 1) as usize;
         Ok(match bits {
-            0 => {
-                let memory = ForetoldMemory {
-                    is_lent: false,
-                    pages: 1,
-                };
-                (CallRow::NewPages(1, None), self.new_memory(memory, None)?)
-            }
+            0 => (CallRow::NewPages(1, None), self.new_memory(OWNED)?),
             1 => (CallRow::NewLentBytes(2), self.new_lent_memory(2)?),
             2 => (CallRow::NewLentBytes(4), self.new_lent_memory(4)?),
-            3 => (CallRow::NewTable(2), self.new_table()?),
+            3 => {
+                let reply = create(&mut self.tables, TABLE, &mut self.random, self.is_metered)?;
+                (CallRow::NewTable(2), reply)
+            }
             4 | 5 => (
                 CallRow::Memory(index, MemoryRow::Grow(1)),
-                self.grow_memory(index),
+                grow(&mut self.memories, index, &mut self.random, self.is_metered),
             ),
-            _ => (CallRow::GrowTable(index, 16), self.grow_table(index)),
+            _ => (
+                CallRow::GrowTable(index, 16),
+                grow(&mut self.tables, index, &mut self.random, self.is_metered),
+            ),
         })
     }
 }
@@ -158,21 +193,15 @@ fn steps_of(alloc: Global, foretold: &mut Foretold, calls: u64) -> Result<Vec<St
 /// Compares what the machine has with what is foretold.
 fn has_what_is_foretold(rt: &impl Abort, machine: &Machine, foretold: &Foretold) {
     for (index, memory) in foretold.memories.iter().enumerate() {
-        let pages = machine.memory(index).map(|memory| memory.size());
-        same(rt, "the pages", pages, Some(memory.pages));
+        same(rt, "pages", memory_size(machine, index), Some(memory.size));
     }
-    for (index, size) in foretold.tables.iter().enumerate() {
-        let elements = machine.table(index).map(|table| table.size());
-        same(rt, "the elements", elements, Some(*size));
+    for (index, table) in foretold.tables.iter().enumerate() {
+        same(rt, "elements", table_size(machine, index), Some(table.size));
     }
-    let (memories, tables) = (foretold.memories.len(), foretold.tables.len());
-    same(
-        rt,
-        "no memory more",
-        machine.memory(memories).is_none(),
-        true,
-    );
-    same(rt, "no table more", machine.table(tables).is_none(), true);
+    let memory = memory_size(machine, foretold.memories.len());
+    same(rt, "no memory more", memory, None);
+    let table = table_size(machine, foretold.tables.len());
+    same(rt, "no table more", table, None);
 }
 
 /// Runs the calls of a random number under a limiter with these answers.
@@ -190,12 +219,7 @@ fn runs_as_foretold(
         tables: Vec::new(rt.alloc()),
     };
     let steps = steps_of(rt.alloc(), &mut foretold, calls)?;
-    let costs = CustomFuelCosts {
-        bytes_copied_per_fuel: 64,
-        fuel_per_bytes_translated: 7,
-        fuel_per_bytes_validated: 2,
-    };
-    let fuel = Fuel::new(is_metered, FuelCostsProvider::custom(costs));
+    let fuel = meter(is_metered);
     let mut region = [7; REGION as usize];
     let mut machine = Machine::with_region(rt.alloc(), fuel, &mut region);
     let mut limiter = random;

@@ -1,6 +1,8 @@
 //! Runs under a limiter that refuses and complains by random numbers, and runs that find no memory.
+use super::random::EMPTY;
 use super::{
-    CallRow, MemoryRow, ReplyRow, Step, metered, runs_to, runs_under, same, split, unmetered,
+    CallRow, MemoryRow, ReplyRow, Step, memory_size, metered, runs_to, runs_under, same, split,
+    unmetered,
 };
 use std::alloc::AllocGlobal;
 use std::process::Abort;
@@ -46,23 +48,29 @@ impl RandomAnswers {
         if bit == 0 { Ok(()) } else { Err(REFUSAL) }
     }
 
-    /// What becomes of a growth that is asked for and then fails for the cause, if there is one.
-    pub(super) fn fate<E: Drop>(
-        &mut self,
-        denial: E,
-        refusal: E,
-        cause: Option<E>,
-    ) -> Result<(), E> {
-        match (self.answer(), cause) {
-            (Ok(true), None) => Ok(()),
-            (Ok(true), Some(cause)) => match self.heed() {
-                Ok(()) => Err(cause),
-                Err(_) => Err(refusal),
+    /// The reply to what is asked for.
+    pub(super) fn reply(&mut self, replies: Replies) -> ReplyRow {
+        match (self.answer(), replies.failed) {
+            (Ok(true), None) => replies.permitted,
+            (Ok(true), Some(failed)) => match self.heed() {
+                Ok(()) => failed,
+                Err(_) => replies.refused,
             },
-            (Ok(false), _) => Err(denial),
-            (Err(_), _) => Err(refusal),
+            (Ok(false), _) => replies.denied,
+            (Err(_), _) => replies.refused,
         }
     }
+}
+
+/// The replies to what is asked for, by what becomes of it.
+#[derive(Clone, Copy)]
+pub(super) struct Replies {
+    pub(super) permitted: ReplyRow,
+    pub(super) denied: ReplyRow,
+    /// The limiter answers, or heeds the notice, by an error.
+    pub(super) refused: ReplyRow,
+    /// What is permitted fails, where it does.
+    pub(super) failed: Option<ReplyRow>,
 }
 
 impl ResourceLimiter for RandomAnswers {
@@ -118,22 +126,6 @@ pub(super) const RANDOM_NUMBERS: [(u64, u64, u64); 4] = [
     (0xC0AC_29B7_C97C_50DD, 0x3F84_D5B5_B547_0917, 15),
 ];
 
-/// The reply to a growth by one page for which there is no fuel where `is_metered`, of a memory of so many pages.
-fn foretold(random: &mut RandomAnswers, is_metered: bool, pages: &mut u64) -> ReplyRow {
-    let before = *pages;
-    let cause = is_metered.then_some(MemoryError::OutOfFuel {
-        required_fuel: 1024,
-    });
-    let refusal = MemoryError::ResourceLimiterDeniedAllocation;
-    match random.fate(MemoryError::OutOfBoundsGrowth, refusal, cause) {
-        Ok(()) => {
-            *pages = before.saturating_add(1);
-            ReplyRow::Number(before)
-        }
-        Err(error) => ReplyRow::Memory(error),
-    }
-}
-
 static NO_PAGES: [Step; 1] = [(CallRow::NewPages(0, None), ReplyRow::Made(0))];
 
 /// Grows a memory 32 times by one page under these answers, and compares the replies and how many pages it then has.
@@ -145,19 +137,18 @@ fn grows_by_random_answers(
 ) -> Result<u64, Fail> {
     runs_to(rt, machine, &NO_PAGES)?;
     let mut same_answers = random;
-    let mut pages = 0;
+    let mut memory = EMPTY;
     let mut steps: Vec<Step> = Vec::new(rt.alloc());
     for _growth in 0..32 {
-        let reply = foretold(&mut same_answers, is_metered, &mut pages);
+        let reply = memory.grow(&mut same_answers, is_metered);
         steps.push((CallRow::Memory(0, MemoryRow::Grow(1)), reply))?;
     }
     let mut limiter = random;
     runs_under(rt, machine, &steps, &mut limiter)?;
     same(rt, "the questions", limiter.questions, 32);
     same(rt, "the limiter", limiter, same_answers);
-    let size = machine.memory(0).map(|memory| memory.size());
-    same(rt, "the pages", size, Some(pages));
-    Ok(pages)
+    same(rt, "the pages", memory_size(machine, 0), Some(memory.size));
+    Ok(memory.size)
 }
 
 #[test]

@@ -1,5 +1,7 @@
 //! Runs with ample memory, and runs that a quota watches.
-use super::{CallRow, MemoryRow, ReplyRow, Step, metered, runs_to, runs_under, same, unmetered};
+use super::{
+    CallRow, MemoryRow, ReplyRow, Step, memory_size, metered, runs_to, runs_under, same, unmetered,
+};
 use std::test::Fail;
 use wasmi_core::{MemoryError, Quota};
 
@@ -27,9 +29,8 @@ fn ample_memory_runs(rt: HostRuntime) -> Result<(), Fail> {
     let mut machine = metered(rt.alloc());
     runs_to(&rt, &mut machine, &METERED)?;
     same(&rt, "the fuel", machine.fuel().get_fuel(), Ok(976));
-    let size = machine.memory(0).map(|memory| memory.size());
-    same(&rt, "the size", size, Some(2));
-    same(&rt, "one memory", machine.memory(1).is_none(), true);
+    same(&rt, "the size", memory_size(&machine, 0), Some(2));
+    same(&rt, "one memory", memory_size(&machine, 1), None);
     Ok(())
 }
 
