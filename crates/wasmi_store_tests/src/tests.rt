@@ -21,13 +21,12 @@ mod tables;
 use std::alloc::Global;
 use std::fmt::{Debug, Display};
 use std::process::Abort;
-use std::test::Fail;
 use wasmi_meter::{
     CustomFuelCosts, Fuel, FuelCostsProvider, MemoryError, NoLimits, ResourceLimiter,
-    ResourceLimiterRef, TableError,
+    ResourceLimiterRef,
 };
 use wasmi_raw::RawRef;
-use wasmi_store::{Memory, MemoryType, Table, TableType};
+use wasmi_store::{ElementSegment, Memory, MemoryType, Table, TableType};
 use wasmi_typed::TypedRawRef;
 use wasmi_types::RefType;
 
@@ -37,18 +36,13 @@ fn same<T: PartialEq + Debug + Drop>(rt: &impl Abort, what: &str, answer: T, exp
 }
 
 /// Compares what a value prints.
-fn same_text<T: Display>(
-    rt: &impl Abort,
-    alloc: Global,
-    value: &T,
-    expected: &str,
-) -> Result<(), Fail> {
-    let printed = format!(in alloc; "{value}")?;
+fn same_text<T: Display>(rt: &impl Abort, alloc: Global, value: &T, expected: &str) {
+    let printed = format!(in alloc; "{value}").expect(rt, "memory for a text");
     same(rt, "a text", printed.as_str(), expected);
-    Ok(())
 }
 
-fn memory_type(
+/// Builds a type of memories, which may be invalid.
+fn build_type(
     minimum: u64,
     maximum: Option<u64>,
     page_size_log2: u8,
@@ -63,14 +57,25 @@ fn memory_type(
     builder.build()
 }
 
+/// A type of memories.
+fn memory_type(
+    rt: &impl Abort,
+    minimum: u64,
+    maximum: Option<u64>,
+    page_size_log2: u8,
+    memory64: bool,
+) -> MemoryType {
+    build_type(minimum, maximum, page_size_log2, memory64).expect(rt, "a valid type")
+}
+
 /// Pages of 64 KiB under 32-bit addresses.
-fn page_type(minimum: u64, maximum: Option<u64>) -> Result<MemoryType, MemoryError> {
-    memory_type(minimum, maximum, 16, false)
+fn page_type(rt: &impl Abort, minimum: u64, maximum: Option<u64>) -> MemoryType {
+    memory_type(rt, minimum, maximum, 16, false)
 }
 
 /// Pages of 64 KiB under 64-bit addresses.
-fn wide_type(minimum: u64, maximum: Option<u64>) -> Result<MemoryType, MemoryError> {
-    memory_type(minimum, maximum, 16, true)
+fn wide_type(rt: &impl Abort, minimum: u64, maximum: Option<u64>) -> MemoryType {
+    memory_type(rt, minimum, maximum, 16, true)
 }
 
 /// A meter with so much fuel, of which one is taken for 64 copied bytes.
@@ -88,6 +93,11 @@ fn metered_at(bytes_copied_per_fuel: u32, fuel: u64) -> Fuel {
     let mut meter = Fuel::new(true, FuelCostsProvider::custom(costs));
     let _ = meter.set_fuel(fuel);
     meter
+}
+
+/// A new memory without limits.
+fn ample_memory(rt: &impl Abort, alloc: Global, ty: MemoryType) -> Memory<'static> {
+    new_memory(alloc, ty, &mut NoLimits).expect(rt, "a memory")
 }
 
 /// A new memory under a limiter.
@@ -128,16 +138,31 @@ fn external(bits: u32) -> TypedRawRef {
     TypedRawRef::new(RawRef::from(bits), RefType::Extern)
 }
 
-/// A table of functions, 1 to 5.
-fn five_functions(alloc: Global) -> Result<Table, TableError> {
-    let ty = TableType::new(RefType::Func, 5, None);
+/// A table under no limits, full of one function.
+fn table_of(rt: &impl Abort, alloc: Global, ty: TableType, init: TypedRawRef) -> Table {
     let mut limits = NoLimits;
     let mut limiter = ResourceLimiterRef::from(&mut limits);
-    let mut table = Table::new(alloc, ty, func(1), &mut limiter)?;
+    Table::new(alloc, ty, init, &mut limiter).expect(rt, "a table")
+}
+
+/// A table of functions, 1 to 5.
+fn five_functions(rt: &impl Abort, alloc: Global) -> Table {
+    let ty = TableType::new(RefType::Func, 5, None);
+    let mut table = table_of(rt, alloc, ty, func(1));
     for index in 1..5u32 {
-        table.set(u64::from(index), func(index + 1))?;
+        same(
+            rt,
+            "an element",
+            table.set(u64::from(index), func(index + 1)),
+            Ok(()),
+        );
     }
-    Ok(table)
+    table
+}
+
+/// An element segment of three items.
+fn segment_of(rt: &impl Abort, alloc: Global, ty: RefType, items: [RawRef; 3]) -> ElementSegment {
+    ElementSegment::new(alloc, ty, items).expect(rt, "a segment")
 }
 
 /// Compares the first five elements of a table of functions.

@@ -1,35 +1,102 @@
-//! Every way in which the creation of a memory can end.
-use super::recorder::{COMPLAINT, Question, Recorder, same_record};
+//! Every way in which the creation of a memory can end, and what the creations of memories and tables share.
+use super::recorder::{COMPLAINT, Failure, Question, Recorder, same_record};
 use super::{memory_type, new_memory, same};
 use std::alloc::Global;
 use std::process::Abort;
-use std::test::Fail;
-use wasmi_meter::{Kind, LimiterError, MemoryError};
+use wasmi_meter::{Kind, LimiterError, MemoryError, ResourceLimiterRef};
+use wasmi_raw::RawRef;
+use wasmi_store::{Memory, Table, TableType};
+use wasmi_typed::TypedRawRef;
+use wasmi_types::RefType;
 
-/// A creation, in pages of 64 KiB, under a limiter with this answer and this reply: how it ends, and what the limiter
-/// was asked and told.
+/// What is made or grows: a memory of pages of 64 KiB, or a table of functions with 64-bit indices.
 #[derive(Clone, Copy)]
-struct Creation {
-    what: &'static str,
-    minimum: u64,
-    maximum: Option<u64>,
-    memory64: bool,
-    answer: Result<bool, LimiterError>,
-    reply: Result<(), LimiterError>,
-    outcome: Result<u64, MemoryError>,
-    question: Option<Question>,
-    notice: Option<MemoryError>,
+pub enum Subject {
+    /// Under 32-bit addresses.
+    Memory32,
+    /// Under 64-bit addresses.
+    Memory64,
+    /// Made of references of this type.
+    Table(RefType),
 }
 
-const DENIED: MemoryError = MemoryError::ResourceLimiterDeniedAllocation;
+/// A creation under a limiter with this answer and this heed: how it ends, and what the limiter was asked and told.
+#[derive(Clone, Copy)]
+pub struct Creation {
+    pub what: &'static str,
+    pub subject: Subject,
+    pub minimum: u64,
+    pub maximum: Option<u64>,
+    pub answer: Result<bool, LimiterError>,
+    pub heed: Result<(), LimiterError>,
+    pub outcome: Result<u64, Failure>,
+    pub question: Option<Question>,
+    pub notice: Option<Failure>,
+}
+
+/// The size of what was made.
+pub(super) fn memory_size(made: Result<Memory, MemoryError>) -> Result<u64, Failure> {
+    match made {
+        Ok(memory) => Ok(memory.size()),
+        Err(error) => Err(Failure::Memory(error)),
+    }
+}
+
+/// Makes a table without a maximum, and tells its size.
+fn make_table(
+    alloc: Global,
+    minimum: u64,
+    element: RefType,
+    recorder: &mut Recorder,
+) -> Result<u64, Failure> {
+    let ty = TableType::new64(RefType::Func, minimum, None);
+    let init = TypedRawRef::new(RawRef::from(7), element);
+    match Table::new(alloc, ty, init, &mut ResourceLimiterRef::from(recorder)) {
+        Ok(table) => Ok(table.size()),
+        Err(error) => Err(Failure::Table(error)),
+    }
+}
+
+/// Makes a memory, and tells its size.
+fn make_memory(
+    rt: &impl Abort,
+    alloc: Global,
+    row: &Creation,
+    memory64: bool,
+    recorder: &mut Recorder,
+) -> Result<u64, Failure> {
+    let ty = memory_type(rt, row.minimum, row.maximum, 16, memory64);
+    memory_size(new_memory(alloc, ty, recorder))
+}
+
+/// Makes what a row says, and compares.
+fn compare_creation(rt: &impl Abort, alloc: Global, row: &Creation) {
+    let mut recorder = Recorder::new(row.answer, row.heed);
+    let outcome = match row.subject {
+        Subject::Memory32 => make_memory(rt, alloc, row, false, &mut recorder),
+        Subject::Memory64 => make_memory(rt, alloc, row, true, &mut recorder),
+        Subject::Table(element) => make_table(alloc, row.minimum, element, &mut recorder),
+    };
+    same(rt, row.what, outcome, row.outcome);
+    same_record(rt, row.what, &recorder, row.question, row.notice);
+}
+
+/// Makes what each row says, and compares.
+pub(super) fn compare_creations(rt: &impl Abort, alloc: Global, rows: &[Creation]) {
+    for row in rows {
+        compare_creation(rt, alloc, row);
+    }
+}
+
+const DENIED: Failure = Failure::Memory(MemoryError::ResourceLimiterDeniedAllocation);
 
 const PERMITTED: Creation = Creation {
     what: "a page",
     minimum: 1,
     maximum: Some(2),
-    memory64: false,
+    subject: Subject::Memory32,
     answer: Ok(true),
-    reply: Ok(()),
+    heed: Ok(()),
     outcome: Ok(1),
     question: Some(Question {
         kind: Kind::Bytes,
@@ -44,15 +111,15 @@ const WANTING: Creation = Creation {
     what: "want of memory",
     minimum: 1 << 47,
     maximum: None,
-    memory64: true,
-    outcome: Err(MemoryError::OutOfSystemMemory),
+    subject: Subject::Memory64,
+    outcome: Err(Failure::Memory(MemoryError::OutOfSystemMemory)),
     question: Some(Question {
         kind: Kind::Bytes,
         current: 0,
         desired: 1 << 63,
         maximum: None,
     }),
-    notice: Some(MemoryError::OutOfSystemMemory),
+    notice: Some(Failure::Memory(MemoryError::OutOfSystemMemory)),
     ..PERMITTED
 };
 
@@ -74,7 +141,7 @@ static CREATIONS: [Creation; 7] = [
         what: "a maximum of all bytes",
         minimum: 0,
         maximum: Some(1 << 48),
-        memory64: true,
+        subject: Subject::Memory64,
         outcome: Ok(0),
         question: Some(Question {
             kind: Kind::Bytes,
@@ -88,35 +155,21 @@ static CREATIONS: [Creation; 7] = [
         what: "a minimum of all bytes",
         minimum: 1 << 48,
         maximum: None,
-        memory64: true,
-        outcome: Err(MemoryError::MinimumSizeOverflow),
+        subject: Subject::Memory64,
+        outcome: Err(Failure::Memory(MemoryError::MinimumSizeOverflow)),
         question: None,
         ..PERMITTED
     },
     WANTING,
     Creation {
-        what: "want of memory, and the limiter replies an error",
-        reply: Err(COMPLAINT),
+        what: "want of memory, and the limiter heeds with an error",
+        heed: Err(COMPLAINT),
         outcome: Err(DENIED),
         ..WANTING
     },
 ];
 
-/// Makes the memory, and compares.
-fn compare_creation(rt: &impl Abort, alloc: Global, row: &Creation) -> Result<(), Fail> {
-    let ty = memory_type(row.minimum, row.maximum, 16, row.memory64)?;
-    let mut recorder = Recorder::new(row.answer, row.reply);
-    let made = new_memory(alloc, ty, &mut recorder);
-    let outcome = made.map(|memory| memory.size());
-    same(rt, row.what, outcome, row.outcome);
-    same_record(rt, row.what, &recorder, row.question, row.notice);
-    Ok(())
-}
-
 #[test]
-fn records_creations(rt: HostRuntime) -> Result<(), Fail> {
-    for row in &CREATIONS {
-        compare_creation(&rt, rt.alloc(), row)?;
-    }
-    Ok(())
+fn records_creations(rt: HostRuntime) {
+    compare_creations(&rt, rt.alloc(), &CREATIONS);
 }

@@ -4,7 +4,6 @@ ghost use Rattle.wasmi_meter.specs.Costs.{costs_of, default_costs};
 
 use super::same;
 use std::alloc::AllocError;
-use std::test::Fail;
 use wasmi_meter::{CustomFuelCosts, Fuel, FuelCosts, FuelCostsProvider, FuelError};
 use wasmi_raw::RawRef;
 
@@ -48,17 +47,16 @@ fn off<T>() -> Result<T, FuelError> {
 #[test]
 fn a_reference_has_four_bytes(rt: HostRuntime) {
     let provider = FuelCostsProvider::default();
-    let of_references = [15, 16].map(|number| {
-        provider.fuel_for_copying_values::<RawRef>(number)
-    });
-    same(&rt, "the default costs", of_references, [0, 1]);
+    let of_15 = provider.fuel_for_copying_values::<RawRef>(15);
+    let of_16 = provider.fuel_for_copying_values::<RawRef>(16);
+    same(&rt, "the default costs", [of_15, of_16], [0, 1]);
 }
 
 #[test]
-fn costs_are_cut_at_the_greatest_number(rt: HostRuntime) -> Result<(), Fail> {
+fn costs_are_cut_at_the_greatest_number(rt: HostRuntime) {
     const MAX: u64 = 18446744073709551615;
     let default = FuelCostsProvider::default();
-    let custom = same_costs(&FuelCostsProvider::custom(CUSTOM))?;
+    let custom = same_costs(&FuelCostsProvider::custom(CUSTOM)).expect(&rt, "a clone");
     let rows = [
         (0, [0, 0, 0], [MAX, 0, 0]),
         (1, [0, 7, 2], [MAX, 2, 5]),
@@ -82,7 +80,6 @@ fn costs_are_cut_at_the_greatest_number(rt: HostRuntime) -> Result<(), Fail> {
         let custom_row = (number, costs(&custom, number));
         same(&rt, "custom costs", custom_row, (number, by_custom));
     }
-    Ok(())
 }
 
 #[test]

@@ -1,42 +1,129 @@
-//! Every way in which the growth of a memory can end.
-use super::recorder::{COMPLAINT, Question, Recorder, same_record};
-use super::{grow, memory_type, metered, new_memory, same};
+//! Every way in which the growth of a memory can end, and what the growths of memories and tables share.
+use super::creations::Subject;
+use super::recorder::{COMPLAINT, Failure, Question, Recorder, same_record};
+use super::{ample_memory, func, grow, memory_type, metered, same, table_of};
 use std::alloc::Global;
 use std::process::Abort;
-use std::test::Fail;
-use wasmi_meter::{Kind, LimiterError, MemoryError, NoLimits};
+use wasmi_meter::{Fuel, Kind, LimiterError, MemoryError, ResourceLimiterRef};
+use wasmi_store::{Table, TableType};
+use wasmi_types::RefType;
 
-/// A growth of a memory of one page of 64 KiB by so many pages, with so much fuel, under a limiter with this answer
-/// and this reply: how it ends, what the limiter was asked and told, and the fuel that is left.
+/// A growth of a memory of one page or of a table of one function, with so much fuel, under a limiter with this answer
+/// and this heed: how it ends, what the limiter was asked and told, and the fuel that is left.
 #[derive(Clone, Copy)]
-struct Growth {
-    what: &'static str,
-    maximum: Option<u64>,
-    memory64: bool,
-    pages: u64,
-    fuel: u64,
-    answer: Result<bool, LimiterError>,
-    reply: Result<(), LimiterError>,
-    outcome: Result<u64, MemoryError>,
-    question: Option<Question>,
-    notice: Option<MemoryError>,
-    left: u64,
+pub struct Growth {
+    pub what: &'static str,
+    pub subject: Subject,
+    pub maximum: Option<u64>,
+    pub delta: u64,
+    pub fuel: u64,
+    pub answer: Result<bool, LimiterError>,
+    pub heed: Result<(), LimiterError>,
+    pub outcome: Result<u64, Failure>,
+    pub question: Option<Question>,
+    pub notice: Option<Failure>,
+    pub left: u64,
 }
 
-const DENIED: MemoryError = MemoryError::ResourceLimiterDeniedAllocation;
+/// What a growth ended with, and the size then.
+type Grown = (Result<u64, Failure>, u64);
 
-const OUT_OF_FUEL: MemoryError = MemoryError::OutOfFuel {
+/// What the growth of a memory ended with.
+pub(super) fn memory_outcome(grown: Result<u64, MemoryError>) -> Result<u64, Failure> {
+    match grown {
+        Ok(size) => Ok(size),
+        Err(error) => Err(Failure::Memory(error)),
+    }
+}
+
+/// Makes a memory of one page, and grows it.
+fn grow_memory(
+    rt: &impl Abort,
+    alloc: Global,
+    row: &Growth,
+    memory64: bool,
+    meter: &mut Fuel,
+    recorder: &mut Recorder,
+) -> Grown {
+    let ty = memory_type(rt, 1, row.maximum, 16, memory64);
+    let mut memory = ample_memory(rt, alloc, ty);
+    let grown = grow(&mut memory, row.delta, Some(meter), recorder);
+    (memory_outcome(grown), memory.size())
+}
+
+/// A type of tables of functions with 64-bit indices.
+fn table_type(maximum: Option<u64>) -> TableType {
+    match maximum {
+        Some(maximum) if maximum >= 1 => TableType::new64(RefType::Func, 1, Some(maximum)),
+        _ => TableType::new64(RefType::Func, 1, None),
+    }
+}
+
+/// Grows a table by null references under a limiter.
+pub(super) fn grow_raw(
+    table: &mut Table,
+    delta: u64,
+    fuel: Option<&mut Fuel>,
+    limiter: &mut Recorder,
+) -> Result<u64, Failure> {
+    let mut limiter = ResourceLimiterRef::from(limiter);
+    match table.grow_raw(delta, func(0).raw(), fuel, &mut limiter) {
+        Ok(size) => Ok(size),
+        Err(error) => Err(Failure::Table(error)),
+    }
+}
+
+/// Makes a table of one function, and grows it by null references.
+fn grow_table(
+    rt: &impl Abort,
+    alloc: Global,
+    row: &Growth,
+    meter: &mut Fuel,
+    recorder: &mut Recorder,
+) -> Grown {
+    let mut table = table_of(rt, alloc, table_type(row.maximum), func(1));
+    let outcome = grow_raw(&mut table, row.delta, Some(meter), recorder);
+    same(rt, row.what, table.get(0), Some(func(1)));
+    (outcome, table.size())
+}
+
+/// Makes and grows what a row says, and compares.
+fn compare_growth(rt: &impl Abort, alloc: Global, row: &Growth) {
+    let mut meter = metered(row.fuel);
+    let mut recorder = Recorder::new(row.answer, row.heed);
+    let (outcome, size) = match row.subject {
+        Subject::Memory32 => grow_memory(rt, alloc, row, false, &mut meter, &mut recorder),
+        Subject::Memory64 => grow_memory(rt, alloc, row, true, &mut meter, &mut recorder),
+        Subject::Table(_) => grow_table(rt, alloc, row, &mut meter, &mut recorder),
+    };
+    same(rt, row.what, outcome, row.outcome);
+    same_record(rt, row.what, &recorder, row.question, row.notice);
+    same(rt, row.what, meter.get_fuel(), Ok(row.left));
+    let added = if row.outcome.is_ok() { row.delta } else { 0 };
+    same(rt, row.what, Some(size), 1u64.checked_add(added));
+}
+
+/// Makes and grows what each row says, and compares.
+pub(super) fn compare_growths(rt: &impl Abort, alloc: Global, rows: &[Growth]) {
+    for row in rows {
+        compare_growth(rt, alloc, row);
+    }
+}
+
+const DENIED: Failure = Failure::Memory(MemoryError::ResourceLimiterDeniedAllocation);
+
+const OUT_OF_FUEL: Failure = Failure::Memory(MemoryError::OutOfFuel {
     required_fuel: 1024,
-};
+});
 
 const PERMITTED: Growth = Growth {
     what: "by a page",
     maximum: Some(2),
-    memory64: false,
-    pages: 1,
+    subject: Subject::Memory32,
+    delta: 1,
     fuel: 1024,
     answer: Ok(true),
-    reply: Ok(()),
+    heed: Ok(()),
     outcome: Ok(1),
     question: Some(Question {
         kind: Kind::Bytes,
@@ -50,8 +137,8 @@ const PERMITTED: Growth = Growth {
 
 const ABOVE_THE_MAXIMUM: Growth = Growth {
     what: "above the maximum",
-    pages: 2,
-    outcome: Err(MemoryError::OutOfBoundsGrowth),
+    delta: 2,
+    outcome: Err(Failure::Memory(MemoryError::OutOfBoundsGrowth)),
     question: None,
     left: 1024,
     ..PERMITTED
@@ -69,17 +156,17 @@ const WANT_OF_FUEL: Growth = Growth {
 const WANT_OF_MEMORY: Growth = Growth {
     what: "want of memory",
     maximum: None,
-    memory64: true,
-    pages: (1 << 47) - 1,
+    subject: Subject::Memory64,
+    delta: (1 << 47) - 1,
     fuel: u64::MAX,
-    outcome: Err(MemoryError::OutOfSystemMemory),
+    outcome: Err(Failure::Memory(MemoryError::OutOfSystemMemory)),
     question: Some(Question {
         kind: Kind::Bytes,
         current: 65536,
         desired: 1 << 63,
         maximum: None,
     }),
-    notice: Some(MemoryError::OutOfSystemMemory),
+    notice: Some(Failure::Memory(MemoryError::OutOfSystemMemory)),
     left: u64::MAX - ((1 << 57) - 1024),
     ..PERMITTED
 };
@@ -87,7 +174,7 @@ const WANT_OF_MEMORY: Growth = Growth {
 static GROWTHS: [Growth; 10] = [
     Growth {
         what: "by no page",
-        pages: 0,
+        delta: 0,
         fuel: 1000,
         question: None,
         left: 1000,
@@ -98,14 +185,14 @@ static GROWTHS: [Growth; 10] = [
     Growth {
         what: "above all numbers of pages",
         maximum: None,
-        memory64: true,
-        pages: u64::MAX,
+        subject: Subject::Memory64,
+        delta: u64::MAX,
         ..ABOVE_THE_MAXIMUM
     },
     Growth {
         what: "the limiter says no",
         answer: Ok(false),
-        outcome: Err(MemoryError::OutOfBoundsGrowth),
+        outcome: Err(Failure::Memory(MemoryError::OutOfBoundsGrowth)),
         left: 1024,
         ..PERMITTED
     },
@@ -118,39 +205,21 @@ static GROWTHS: [Growth; 10] = [
     },
     WANT_OF_FUEL,
     Growth {
-        what: "want of fuel, and the limiter replies an error",
-        reply: Err(COMPLAINT),
+        what: "want of fuel, and the limiter heeds with an error",
+        heed: Err(COMPLAINT),
         outcome: Err(DENIED),
         ..WANT_OF_FUEL
     },
     WANT_OF_MEMORY,
     Growth {
-        what: "want of memory, and the limiter replies an error",
-        reply: Err(COMPLAINT),
+        what: "want of memory, and the limiter heeds with an error",
+        heed: Err(COMPLAINT),
         outcome: Err(DENIED),
         ..WANT_OF_MEMORY
     },
 ];
 
-/// Makes the memory, grows it, and compares.
-fn compare_growth(rt: &impl Abort, alloc: Global, row: &Growth) -> Result<(), Fail> {
-    let ty = memory_type(1, row.maximum, 16, row.memory64)?;
-    let mut memory = new_memory(alloc, ty, &mut NoLimits)?;
-    let mut meter = metered(row.fuel);
-    let mut recorder = Recorder::new(row.answer, row.reply);
-    let grown = grow(&mut memory, row.pages, Some(&mut meter), &mut recorder);
-    same(rt, row.what, grown, row.outcome);
-    same_record(rt, row.what, &recorder, row.question, row.notice);
-    same(rt, row.what, meter.get_fuel(), Ok(row.left));
-    let added = if row.outcome.is_ok() { row.pages } else { 0 };
-    same(rt, row.what, Some(memory.size()), 1u64.checked_add(added));
-    Ok(())
-}
-
 #[test]
-fn records_growths(rt: HostRuntime) -> Result<(), Fail> {
-    for row in &GROWTHS {
-        compare_growth(&rt, rt.alloc(), row)?;
-    }
-    Ok(())
+fn records_growths(rt: HostRuntime) {
+    compare_growths(&rt, rt.alloc(), &GROWTHS);
 }

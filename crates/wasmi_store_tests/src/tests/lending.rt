@@ -2,7 +2,6 @@
 use super::{func, memory_type, metered, same};
 use std::alloc::Global;
 use std::process::Abort;
-use std::test::Fail;
 use wasmi_meter::{MemoryError, Quota, TableError};
 use wasmi_raw::RawRef;
 use wasmi_store::{Memory, Table, TableType};
@@ -70,8 +69,8 @@ fn compare_memory(
 }
 
 #[test]
-fn lends_quotas_to_memories(rt: HostRuntime) -> Result<(), Fail> {
-    let ty = memory_type(64, None, 0, false)?;
+fn lends_quotas_to_memories(rt: HostRuntime) {
+    let ty = memory_type(&rt, 64, None, 0, false);
     for row in &MEMORY_LOANS {
         let mut quota = Quota::new(row.cap, 0);
         let made = Memory::new_lending(rt.alloc(), ty, &mut quota);
@@ -81,7 +80,6 @@ fn lends_quotas_to_memories(rt: HostRuntime) -> Result<(), Fail> {
         let made = Memory::new_static_lending(ty, &mut quota, &mut region);
         compare_memory(&rt, made, &mut quota, row);
     }
-    Ok(())
 }
 
 /// A table of two elements that grows by one, and by one again, under a quota of so many elements: its size; the sizes

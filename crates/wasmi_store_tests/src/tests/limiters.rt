@@ -4,11 +4,11 @@ ghost use Rattle.wasmi_meter.specs.Limiter.{optional_rules};
 ghost use Rattle.wasmi_meter.specs.LimiterRef.{lent_limiter, KeepsLoan};
 ghost use Rattle.wasmi_meter.specs.declared.limiter.Kind.TheVariants.{Bytes};
 
-use super::recorder::{COMPLAINT, Question, Recorder, memory_question};
+use super::recorder::{COMPLAINT, Failure, Recorder, memory_question, table_question};
 use super::same;
 use std::process::Abort;
 use wasmi_meter::{
-    Kind, LimiterError, MemoryError, NoLimits, ResourceLimiter, ResourceLimiterRef, TableError,
+    LimiterError, MemoryError, NoLimits, ResourceLimiter, ResourceLimiterRef, TableError,
 };
 
 /// Lends its limiter for one question, and knows what became of it.
@@ -44,29 +44,24 @@ fn a_lender_finds_what_became_of_its_limiter(rt: HostRuntime) {
     }
     let table_answer = lent.table_growing(3, 10, Some(9));
     same(&rt, "10 elements", table_answer, Ok(false));
-    let memory_reply = lent.memory_grow_failed(&MemoryError::OutOfSystemMemory);
-    same(&rt, "a memory's notice", memory_reply, Err(COMPLAINT));
-    let table_reply = lent.table_grow_failed(&TableError::GrowOutOfBounds);
-    same(&rt, "a table's notice", table_reply, Err(COMPLAINT));
+    let memory_heed = lent.memory_grow_failed(&MemoryError::OutOfSystemMemory);
+    same(&rt, "a memory's notice", memory_heed, Err(COMPLAINT));
     if let Some(limiter) = lent.as_resource_limiter() {
-        let asked = Question {
-            kind: Kind::Elements,
-            current: 3,
-            desired: 10,
-            maximum: Some(9),
-        };
-        same(&rt, "the last question", limiter.question, Some(asked));
+        let asked = table_question(3, 10, Some(9));
+        same(&rt, "the last question", limiter.question, asked);
+        let notice = Some(Failure::Memory(MemoryError::OutOfSystemMemory));
+        same(&rt, "a memory's notice", limiter.notice, notice);
         limiter.question = None;
     }
+    let table_heed = lent.table_grow_failed(&TableError::GrowOutOfBounds);
+    same(&rt, "a table's notice", table_heed, Err(COMPLAINT));
     let Some(limiter) = lent.into_resource_limiter() else {
         unreachable!()
     };
-    let notice = Some(MemoryError::OutOfSystemMemory);
-    same(&rt, "a memory's notice", limiter.memory_notice, notice);
     limiter.answer = Ok(true);
     same(&rt, "it was taken out", recorder.question, None);
-    let notice = Some(TableError::GrowOutOfBounds);
-    same(&rt, "a table's notice", recorder.table_notice, notice);
+    let notice = Some(Failure::Table(TableError::GrowOutOfBounds));
+    same(&rt, "a table's notice", recorder.notice, notice);
     same(&rt, "once more", ask_once(&mut recorder), Ok(true));
     let asked = memory_question(0, 5, None);
     same(&rt, "the new question", recorder.question, asked);
@@ -80,10 +75,10 @@ fn permits_all(rt: &impl Abort, lent: &mut ResourceLimiterRef<NoLimits>) {
     same(rt, "bytes", memory_answer, Ok(true));
     let table_answer = lent.table_growing(0, usize::MAX, None);
     same(rt, "elements", table_answer, Ok(true));
-    let memory_reply = lent.memory_grow_failed(&MemoryError::OutOfSystemMemory);
-    same(rt, "a memory's notice", memory_reply, Ok(()));
-    let table_reply = lent.table_grow_failed(&TableError::OutOfSystemMemory);
-    same(rt, "a table's notice", table_reply, Ok(()));
+    let memory_heed = lent.memory_grow_failed(&MemoryError::OutOfSystemMemory);
+    same(rt, "a memory's notice", memory_heed, Ok(()));
+    let table_heed = lent.table_grow_failed(&TableError::OutOfSystemMemory);
+    same(rt, "a table's notice", table_heed, Ok(()));
 }
 
 #[test]

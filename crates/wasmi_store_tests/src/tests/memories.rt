@@ -1,9 +1,8 @@
 //! Linear memories: growths up to the maximum, and reads and writes up to the end.
 use super::recorder::{Recorder, memory_question, same_record};
-use super::{grow, metered, new_memory, page_type, same, wide_type};
+use super::{ample_memory, grow, metered, new_memory, page_type, same, wide_type};
 use std::alloc::Global;
 use std::process::Abort;
-use std::test::Fail;
 use wasmi_meter::{MemoryError, NoLimits, Quota, ResourceLimiter};
 
 const OUT_OF_BOUNDS: MemoryError = MemoryError::OutOfBoundsGrowth;
@@ -13,8 +12,8 @@ const OUT_OF_FUEL: MemoryError = MemoryError::OutOfFuel {
 };
 
 #[test]
-fn ample_memory_grows(rt: HostRuntime) -> Result<(), Fail> {
-    let mut memory = new_memory(rt.alloc(), page_type(1, Some(2))?, &mut NoLimits)?;
+fn ample_memory_grows(rt: HostRuntime) {
+    let mut memory = ample_memory(&rt, rt.alloc(), page_type(&rt, 1, Some(2)));
     let mut meter = metered(1024);
     let grown = grow(&mut memory, 1, Some(&mut meter), &mut NoLimits);
     same(&rt, "the old size", grown, Ok(1));
@@ -22,28 +21,27 @@ fn ample_memory_grows(rt: HostRuntime) -> Result<(), Fail> {
     same(&rt, "pages", memory.size(), 2);
     same(&rt, "bytes", memory.data_size(), 131072);
     let types = (memory.ty(), memory.dynamic_ty());
-    let expected = (page_type(1, Some(2))?, page_type(2, Some(2))?);
+    let expected = (page_type(&rt, 1, Some(2)), page_type(&rt, 2, Some(2)));
     same(&rt, "the first type and the present one", types, expected);
-    memory.write(131070, &[1, 2])?;
+    same(&rt, "a write", memory.write(131070, &[1, 2]), Ok(()));
     let mut read = [0; 3];
     let refused = memory.read(131070, &mut read);
     let past_the_end = Err(MemoryError::OutOfBoundsAccess);
     same(&rt, "past the end", refused, past_the_end);
-    memory.read(131069, &mut read)?;
+    let whole = memory.read(131069, &mut read);
+    same(&rt, "to the end", whole, Ok(()));
     same(&rt, "the last bytes", read, [0, 1, 2]);
-    Ok(())
 }
 
 #[test]
-fn growth_to_all_addresses_is_out_of_bounds(rt: HostRuntime) -> Result<(), Fail> {
+fn growth_to_all_addresses_is_out_of_bounds(rt: HostRuntime) {
     let mut recorder = Recorder::new(Ok(true), Ok(()));
-    let ty = wide_type(0, Some(1 << 48))?;
-    let mut memory = new_memory(rt.alloc(), ty, &mut recorder)?;
+    let ty = wide_type(&rt, 0, Some(1 << 48));
+    let mut memory = new_memory(rt.alloc(), ty, &mut recorder).expect(&rt, "a memory");
     let grown = grow(&mut memory, 1 << 48, None, &mut recorder);
     same(&rt, "all addresses", grown, Err(OUT_OF_BOUNDS));
     let creation = memory_question(0, 0, Some(usize::MAX));
     same_record(&rt, "the creation alone", &recorder, creation, None);
-    Ok(())
 }
 
 /// A growth by a page with so much fuel, under a quota of two pages: how it ends, and what is left and held then.
@@ -69,32 +67,28 @@ static METERED_GROWTHS: [MeteredGrowth; 2] = [
     },
 ];
 
-fn grow_under_quota(rt: &impl Abort, alloc: Global, row: &MeteredGrowth) -> Result<(), Fail> {
+fn grow_under_quota(rt: &impl Abort, alloc: Global, row: &MeteredGrowth) {
     let mut quota = Quota::new(131072, 0);
-    let mut memory = new_memory(alloc, page_type(1, Some(2))?, &mut quota)?;
+    let ty = page_type(rt, 1, Some(2));
+    let mut memory = new_memory(alloc, ty, &mut quota).expect(rt, "a memory");
     let mut meter = metered(row.fuel);
     let grown = grow(&mut memory, 1, Some(&mut meter), &mut quota);
     same(rt, "a page more", grown, row.outcome);
     same(rt, "fuel", meter.get_fuel(), Ok(row.left));
     same(rt, "held", quota.held_bytes(), row.held);
-    Ok(())
 }
 
 #[test]
-fn quota_bounds_growth(rt: HostRuntime) -> Result<(), Fail> {
+fn quota_bounds_growth(rt: HostRuntime) {
     for row in &METERED_GROWTHS {
-        grow_under_quota(&rt, rt.alloc(), row)?;
+        grow_under_quota(&rt, rt.alloc(), row);
     }
-    Ok(())
 }
 
 /// Grows a memory of one page to its maximum of two, and then tries one more.
-fn grow_above_the_maximum<L: ResourceLimiter>(
-    rt: &impl Abort,
-    alloc: Global,
-    limiter: &mut L,
-) -> Result<(), Fail> {
-    let mut memory = new_memory(alloc, page_type(1, Some(2))?, limiter)?;
+fn grow_above_the_maximum<L: ResourceLimiter>(rt: &impl Abort, alloc: Global, limiter: &mut L) {
+    let ty = page_type(rt, 1, Some(2));
+    let mut memory = new_memory(alloc, ty, limiter).expect(rt, "a memory");
     let mut meter = metered(1024);
     let first = grow(&mut memory, 1, Some(&mut meter), limiter);
     same(rt, "to the maximum", first, Ok(1));
@@ -102,19 +96,17 @@ fn grow_above_the_maximum<L: ResourceLimiter>(
     same(rt, "above it", second, Err(OUT_OF_BOUNDS));
     same(rt, "size", memory.size(), 2);
     same(rt, "fuel", meter.get_fuel(), Ok(0));
-    Ok(())
 }
 
 #[test]
-fn growth_above_the_maximum_asks_no_limiter(rt: HostRuntime) -> Result<(), Fail> {
+fn growth_above_the_maximum_asks_no_limiter(rt: HostRuntime) {
     let mut recorder = Recorder::new(Ok(true), Ok(()));
-    grow_above_the_maximum(&rt, rt.alloc(), &mut recorder)?;
+    grow_above_the_maximum(&rt, rt.alloc(), &mut recorder);
     let last = memory_question(65536, 131072, Some(131072));
     same(&rt, "the last question", recorder.question, last);
     let numbers = (recorder.questions, recorder.notices);
     same(&rt, "questions and notices", numbers, (2, 0));
     let mut quota = Quota::new(131072, 0);
-    grow_above_the_maximum(&rt, rt.alloc(), &mut quota)?;
+    grow_above_the_maximum(&rt, rt.alloc(), &mut quota);
     same(&rt, "held", quota.held_bytes(), 131072);
-    Ok(())
 }

@@ -15,28 +15,34 @@ pub struct Question {
     pub maximum: Option<usize>,
 }
 
-/// Gives each question and each notice the answer that it was told to give, and keeps what it was asked and told.
+/// Why a memory or a table wasn't made or didn't grow.
+#[derive(Clone, Copy, Debug, PartialEq, Eq)]
+pub enum Failure {
+    Memory(MemoryError),
+    Table(TableError),
+}
+
+/// Gives each question the answer and each notice the heed that it was told to give, and keeps what it was asked and
+/// told last, and how often.
 #[derive(Drop)]
 pub struct Recorder {
     pub answer: Result<bool, LimiterError>,
-    pub reply: Result<(), LimiterError>,
+    pub heed: Result<(), LimiterError>,
     pub questions: u32,
     pub question: Option<Question>,
     pub notices: u32,
-    pub memory_notice: Option<MemoryError>,
-    pub table_notice: Option<TableError>,
+    pub notice: Option<Failure>,
 }
 
 impl Recorder {
-    pub(super) fn new(answer: Result<bool, LimiterError>, reply: Result<(), LimiterError>) -> Self {
+    pub(super) fn new(answer: Result<bool, LimiterError>, heed: Result<(), LimiterError>) -> Self {
         Recorder {
             answer,
-            reply,
+            heed,
             questions: 0,
             question: None,
             notices: 0,
-            memory_notice: None,
-            table_notice: None,
+            notice: None,
         }
     }
 
@@ -44,6 +50,12 @@ impl Recorder {
         self.questions = self.questions.saturating_add(1);
         self.question = Some(question);
         self.answer
+    }
+
+    fn is_told(&mut self, notice: Failure) -> Result<(), LimiterError> {
+        self.notices = self.notices.saturating_add(1);
+        self.notice = Some(notice);
+        self.heed
     }
 }
 
@@ -82,15 +94,11 @@ impl ResourceLimiter for Recorder {
     }
 
     fn memory_grow_failed(&mut self, error: &MemoryError) -> Result<(), LimiterError> {
-        self.notices = self.notices.saturating_add(1);
-        self.memory_notice = Some(*error);
-        self.reply
+        self.is_told(Failure::Memory(*error))
     }
 
     fn table_grow_failed(&mut self, error: &TableError) -> Result<(), LimiterError> {
-        self.notices = self.notices.saturating_add(1);
-        self.table_notice = Some(*error);
-        self.reply
+        self.is_told(Failure::Table(*error))
     }
 
     fn instances(&self) -> usize {
@@ -134,32 +142,16 @@ pub(super) fn table_question(
     })
 }
 
-/// Compares what a limiter was asked and told of a table: each of them once, or not at all.
-pub(super) fn same_table_record(
-    rt: &impl Abort,
-    what: &str,
-    recorder: &Recorder,
-    question: Option<Question>,
-    notice: Option<TableError>,
-) {
-    let numbers = (u32::from(question.is_some()), u32::from(notice.is_some()));
-    same(rt, what, (recorder.questions, recorder.notices), numbers);
-    same(rt, what, recorder.question, question);
-    same(rt, what, recorder.memory_notice, None);
-    same(rt, what, recorder.table_notice, notice);
-}
-
-/// Compares what a limiter was asked and told of a memory: each of them once, or not at all.
+/// Compares what a limiter was asked and told: each of them once, or not at all.
 pub(super) fn same_record(
     rt: &impl Abort,
     what: &str,
     recorder: &Recorder,
     question: Option<Question>,
-    notice: Option<MemoryError>,
+    notice: Option<Failure>,
 ) {
     let numbers = (u32::from(question.is_some()), u32::from(notice.is_some()));
     same(rt, what, (recorder.questions, recorder.notices), numbers);
     same(rt, what, recorder.question, question);
-    same(rt, what, recorder.memory_notice, notice);
-    same(rt, what, recorder.table_notice, None);
+    same(rt, what, recorder.notice, notice);
 }

@@ -1,70 +1,77 @@
 //! Buffers and memories on lent regions, and what the lender finds there after the loan.
-use super::recorder::{COMPLAINT, Recorder, memory_question, same_record};
+use super::creations::memory_size;
+use super::growths::memory_outcome;
+use super::recorder::{COMPLAINT, Failure, Recorder, memory_question, same_record};
 use super::{grow, lent_memory, memory_type, metered, metered_at, page_type, same, wide_type};
 use std::process::Abort;
-use std::test::Fail;
 use wasmi_meter::{LimiterError, MemoryError, NoLimits};
-use wasmi_store::ByteBuffer;
+use wasmi_store::{ByteBuffer, Memory, MemoryType};
 
-const DENIED: MemoryError = MemoryError::ResourceLimiterDeniedAllocation;
+const DENIED: Failure = Failure::Memory(MemoryError::ResourceLimiterDeniedAllocation);
 
-const TOO_SHORT: MemoryError = MemoryError::InvalidStaticBufferSize;
+const TOO_SHORT: Failure = Failure::Memory(MemoryError::InvalidStaticBufferSize);
+
+/// A memory on a lent region that is long enough, without limits.
+fn ample_region<'r>(rt: &impl Abort, ty: MemoryType, region: &'r mut [u8]) -> Memory<'r> {
+    lent_memory(ty, &mut NoLimits, region).expect(rt, "a memory")
+}
 
 #[test]
-fn test_growing_static(rt: HostRuntime) -> Result<(), Fail> {
+fn test_growing_static(rt: HostRuntime) {
     let mut region = [7; 10];
-    let mut buffer = ByteBuffer::new_static(&mut region, 5)?;
+    let mut buffer = ByteBuffer::new_static(&mut region, 5).expect(&rt, "a buffer");
     same(&rt, "five", buffer.data(), [0; 5].as_slice());
-    buffer.grow(8)?;
+    buffer.grow(8).expect(&rt, "eight");
     same(&rt, "eight", buffer.data(), [0; 8].as_slice());
-    buffer.grow(10)?;
+    buffer.grow(10).expect(&rt, "ten");
     same(&rt, "ten", buffer.data(), [0; 10].as_slice());
-    Ok(())
 }
 
 #[test]
-fn test_static_buffer_overflow(rt: HostRuntime) -> Result<(), Fail> {
+fn test_static_buffer_overflow(rt: HostRuntime) {
     let mut region = [7; 5];
-    let mut buffer = ByteBuffer::new_static(&mut region, 5)?;
-    same(&rt, "ten of five", buffer.grow(10), Err(TOO_SHORT));
+    let mut buffer = ByteBuffer::new_static(&mut region, 5).expect(&rt, "a buffer");
+    same(
+        &rt,
+        "ten of five",
+        buffer.grow(10),
+        Err(MemoryError::InvalidStaticBufferSize),
+    );
     same(&rt, "five", buffer.data(), [0; 5].as_slice());
-    Ok(())
 }
 
 #[test]
-fn test_static_buffer_initialization(rt: HostRuntime) -> Result<(), Fail> {
+fn test_static_buffer_initialization(rt: HostRuntime) {
     let mut region = [7; 10];
-    let mut buffer = ByteBuffer::new_static(&mut region, 5)?;
+    let mut buffer = ByteBuffer::new_static(&mut region, 5).expect(&rt, "a buffer");
     same(&rt, "length", buffer.len(), 5);
     buffer.data_mut()[0] = 1;
     drop(buffer);
     let found = [1, 0, 0, 0, 0, 7, 7, 7, 7, 7];
     same(&rt, "the lender's bytes", region, found);
-    Ok(())
 }
 
 #[test]
-fn only_a_shorter_region_has_no_room(rt: HostRuntime) -> Result<(), Fail> {
+fn only_a_shorter_region_has_no_room(rt: HostRuntime) {
     let mut region = [7; 10];
-    let lent = ByteBuffer::new_static(&mut region, 5)?;
-    let owned = ByteBuffer::new(rt.alloc(), 5)?;
+    let lent = ByteBuffer::new_static(&mut region, 5).expect(&rt, "a buffer");
+    let owned = ByteBuffer::new(rt.alloc(), 5).expect(&rt, "a buffer");
     for size in [0, 5, 10, 11, usize::MAX] {
         let rooms = (size, lent.has_room(size), owned.has_room(size));
         same(&rt, "room", rooms, (size, size <= 10, true));
     }
-    Ok(())
 }
 
-/// A creation on a region of 4 bytes of 7, in pages of one byte, under a limiter with this answer and this reply: how
+/// A creation on a region of 4 bytes of 7, in pages of one byte, under a limiter with this answer and this heed: how
 /// it ends, what the limiter was told, and what the lender finds.
 #[derive(Clone, Copy)]
 struct Creation {
     what: &'static str,
     minimum: u64,
     answer: Result<bool, LimiterError>,
-    reply: Result<(), LimiterError>,
-    outcome: Result<u64, MemoryError>,
-    notice: Option<MemoryError>,
+    heed: Result<(), LimiterError>,
+    outcome: Result<u64, Failure>,
+    notice: Option<Failure>,
     found: [u8; 4],
 }
 
@@ -72,7 +79,7 @@ const WITHIN: Creation = Creation {
     what: "within the region",
     minimum: 3,
     answer: Ok(true),
-    reply: Ok(()),
+    heed: Ok(()),
     outcome: Ok(3),
     notice: None,
     found: [0, 0, 0, 7],
@@ -105,8 +112,8 @@ static CREATIONS: [Creation; 7] = [
     },
     SHORT,
     Creation {
-        what: "a short region, and the limiter replies an error",
-        reply: Err(COMPLAINT),
+        what: "a short region, and the limiter heeds with an error",
+        heed: Err(COMPLAINT),
         outcome: Err(DENIED),
         ..SHORT
     },
@@ -127,35 +134,32 @@ static CREATIONS: [Creation; 7] = [
 ];
 
 /// Makes the memory, ends the loan, and compares.
-fn compare_creation(rt: &impl Abort, row: &Creation) -> Result<(), Fail> {
-    let ty = memory_type(row.minimum, Some(9), 0, false)?;
-    let mut recorder = Recorder::new(row.answer, row.reply);
+fn compare_creation(rt: &impl Abort, row: &Creation) {
+    let ty = memory_type(rt, row.minimum, Some(9), 0, false);
+    let mut recorder = Recorder::new(row.answer, row.heed);
     let mut region = [7; 4];
-    let made = lent_memory(ty, &mut recorder, &mut region);
-    let outcome = made.map(|memory| memory.size());
+    let outcome = memory_size(lent_memory(ty, &mut recorder, &mut region));
     same(rt, row.what, outcome, row.outcome);
     let question = memory_question(0, row.minimum as usize, Some(9));
     same_record(rt, row.what, &recorder, question, row.notice);
     same(rt, row.what, region, row.found);
-    Ok(())
 }
 
 #[test]
-fn records_creations(rt: HostRuntime) -> Result<(), Fail> {
+fn records_creations(rt: HostRuntime) {
     for row in &CREATIONS {
-        compare_creation(&rt, row)?;
+        compare_creation(&rt, row);
     }
     let mut recorder = Recorder::new(Ok(true), Ok(()));
-    let made = lent_memory(wide_type(1 << 48, None)?, &mut recorder, &mut []);
-    let outcome = made.map(|memory| memory.size());
-    let expected = Err(MemoryError::MinimumSizeOverflow);
+    let ty = wide_type(&rt, 1 << 48, None);
+    let outcome = memory_size(lent_memory(ty, &mut recorder, &mut []));
+    let expected = Err(Failure::Memory(MemoryError::MinimumSizeOverflow));
     same(&rt, "a minimum of all bytes", outcome, expected);
     same_record(&rt, "a minimum of all bytes", &recorder, None, None);
-    Ok(())
 }
 
 /// A growth of the bytes 1, 2, 3 on a region of 6 bytes, in pages of one byte that costs one fuel, under a limiter
-/// with this answer and this reply: how it ends, what the limiter was told, the fuel that is left, and what the lender
+/// with this answer and this heed: how it ends, what the limiter was told, the fuel that is left, and what the lender
 /// finds.
 #[derive(Clone, Copy)]
 struct Growth {
@@ -163,9 +167,9 @@ struct Growth {
     pages: u64,
     fuel: u64,
     answer: Result<bool, LimiterError>,
-    reply: Result<(), LimiterError>,
-    outcome: Result<u64, MemoryError>,
-    notice: Option<MemoryError>,
+    heed: Result<(), LimiterError>,
+    outcome: Result<u64, Failure>,
+    notice: Option<Failure>,
     left: u64,
     found: [u8; 6],
 }
@@ -177,7 +181,7 @@ const BY_TWO: Growth = Growth {
     pages: 2,
     fuel: 4,
     answer: Ok(true),
-    reply: Ok(()),
+    heed: Ok(()),
     outcome: Ok(3),
     notice: None,
     left: 2,
@@ -194,7 +198,7 @@ const BY_FOUR: Growth = Growth {
     ..BY_TWO
 };
 
-const OUT_OF_FUEL: MemoryError = MemoryError::OutOfFuel { required_fuel: 3 };
+const OUT_OF_FUEL: Failure = Failure::Memory(MemoryError::OutOfFuel { required_fuel: 3 });
 
 static GROWTHS: [Growth; 7] = [
     BY_TWO,
@@ -222,79 +226,76 @@ static GROWTHS: [Growth; 7] = [
         ..BY_FOUR
     },
     Growth {
-        what: "past the region, and the limiter replies an error",
-        reply: Err(COMPLAINT),
+        what: "past the region, and the limiter heeds with an error",
+        heed: Err(COMPLAINT),
         outcome: Err(DENIED),
         ..BY_FOUR
     },
     Growth {
         what: "past the region, and the limiter says no",
         answer: Ok(false),
-        outcome: Err(MemoryError::OutOfBoundsGrowth),
+        outcome: Err(Failure::Memory(MemoryError::OutOfBoundsGrowth)),
         notice: None,
         ..BY_FOUR
     },
 ];
 
 /// Makes the memory, grows it, ends the loan, and compares.
-fn compare_growth(rt: &impl Abort, row: &Growth) -> Result<(), Fail> {
-    let ty = memory_type(3, Some(8), 0, false)?;
+fn compare_growth(rt: &impl Abort, row: &Growth) {
+    let ty = memory_type(rt, 3, Some(8), 0, false);
     let mut region = [7; 6];
-    let mut memory = lent_memory(ty, &mut NoLimits, &mut region)?;
-    memory.write(0, &[1, 2, 3])?;
+    let mut memory = ample_region(rt, ty, &mut region);
+    same(rt, row.what, memory.write(0, &[1, 2, 3]), Ok(()));
     let mut meter = metered_at(1, row.fuel);
-    let mut recorder = Recorder::new(row.answer, row.reply);
+    let mut recorder = Recorder::new(row.answer, row.heed);
     let grown = grow(&mut memory, row.pages, Some(&mut meter), &mut recorder);
     drop(memory);
-    same(rt, row.what, grown, row.outcome);
+    same(rt, row.what, memory_outcome(grown), row.outcome);
     let desired = 3usize.saturating_add(row.pages as usize);
     let question = memory_question(3, desired, Some(8));
     same_record(rt, row.what, &recorder, question, row.notice);
     same(rt, row.what, meter.get_fuel(), Ok(row.left));
     same(rt, row.what, region, row.found);
-    Ok(())
 }
 
 #[test]
-fn records_growths(rt: HostRuntime) -> Result<(), Fail> {
+fn records_growths(rt: HostRuntime) {
     for row in &GROWTHS {
-        compare_growth(&rt, row)?;
+        compare_growth(&rt, row);
     }
-    Ok(())
 }
 
 #[test]
-fn a_region_of_one_page_holds_one(rt: HostRuntime) -> Result<(), Fail> {
-    let mut region = vec![in rt.alloc(); 7u8; 65536]?;
-    let ty = page_type(0, Some(2))?;
-    let mut memory = lent_memory(ty, &mut NoLimits, region.as_mut_slice())?;
+fn a_region_of_one_page_holds_one(rt: HostRuntime) {
+    let zeros = vec![in rt.alloc(); 0u8; 65536].expect(&rt, "a page");
+    let mut region = vec![in rt.alloc(); 7u8; 65536].expect(&rt, "a page");
+    let ty = page_type(&rt, 0, Some(2));
+    let mut memory = ample_region(&rt, ty, region.as_mut_slice());
     let mut meter = metered(2048);
     let first = grow(&mut memory, 1, Some(&mut meter), &mut NoLimits);
     same(&rt, "a page", first, Ok(0));
     same(&rt, "fuel", meter.get_fuel(), Ok(1024));
-    let all_zero = memory.data().iter().all(|byte| *byte == 0);
-    same(&rt, "bytes", (memory.data_size(), all_zero), (65536, true));
+    same(&rt, "size", memory.data_size(), 65536);
+    same(&rt, "bytes", memory.data(), zeros.as_slice());
     let mut recorder = Recorder::new(Ok(true), Ok(()));
     let second = grow(&mut memory, 1, Some(&mut meter), &mut recorder);
-    same(&rt, "one more", second, Err(TOO_SHORT));
+    same(&rt, "one more", memory_outcome(second), Err(TOO_SHORT));
     let question = memory_question(65536, 131072, Some(131072));
     same_record(&rt, "one more", &recorder, question, Some(TOO_SHORT));
     same(&rt, "the same fuel", meter.get_fuel(), Ok(1024));
-    Ok(())
 }
 
 #[test]
-fn a_lender_finds_what_was_written(rt: HostRuntime) -> Result<(), Fail> {
+fn a_lender_finds_what_was_written(rt: HostRuntime) {
     let mut region = [7; 6];
-    let ty = memory_type(2, None, 0, false)?;
-    let mut memory = lent_memory(ty, &mut NoLimits, &mut region)?;
+    let ty = memory_type(&rt, 2, None, 0, false);
+    let mut memory = ample_region(&rt, ty, &mut region);
     memory.data_mut().fill(1);
     let grown = grow(&mut memory, 2, None, &mut NoLimits);
     same(&rt, "two more", grown, Ok(2));
-    memory.write(3, &[2])?;
+    same(&rt, "a byte", memory.write(3, &[2]), Ok(()));
     let past = Err(MemoryError::OutOfBoundsAccess);
     same(&rt, "past the end", memory.write(4, &[3]), past);
     drop(memory);
     same(&rt, "the lender's bytes", region, [1, 1, 0, 2, 7, 7]);
-    Ok(())
 }

@@ -1,7 +1,6 @@
 //! Element segments, and the iterators that they are read of.
-use super::{func, same};
+use super::{func, same, segment_of};
 use std::process::Abort;
-use std::test::Fail;
 use wasmi_raw::RawRef;
 use wasmi_store::ElementSegment;
 use wasmi_types::RefType;
@@ -26,26 +25,27 @@ impl Iterator for Wavering {
 }
 
 #[test]
-fn ends_at_the_first_none(rt: HostRuntime) -> Result<(), Fail> {
+fn ends_at_the_first_none(rt: HostRuntime) {
     let mut items = Wavering { calls: 0 };
-    let segment = ElementSegment::read(rt.alloc(), RefType::Func, &mut items)?;
+    let read = ElementSegment::read(rt.alloc(), RefType::Func, &mut items);
+    let segment = read.expect(&rt, "a segment");
     same(&rt, "the calls", items.calls, 3);
     let expected = [RawRef::from(0), RawRef::from(1)];
     same(&rt, "the items", segment.items(), expected.as_slice());
-    let again = ElementSegment::new(rt.alloc(), RefType::Extern, Wavering { calls: 1 })?;
+    let items = Wavering { calls: 1 };
+    let again = ElementSegment::new(rt.alloc(), RefType::Extern, items).expect(&rt, "a segment");
     same(
         &rt,
         "the size",
         (again.size(), again.ty()),
         (1, RefType::Extern),
     );
-    Ok(())
 }
 
 #[test]
-fn drops_its_items_and_keeps_its_type(rt: HostRuntime) -> Result<(), Fail> {
+fn drops_its_items_and_keeps_its_type(rt: HostRuntime) {
     let items = [func(1).raw(), func(2).raw(), func(3).raw()];
-    let mut segment = ElementSegment::new(rt.alloc(), RefType::Func, items)?;
+    let mut segment = segment_of(&rt, rt.alloc(), RefType::Func, items);
     let shared = segment.as_ref();
     same(&rt, "the type", shared.ty(), RefType::Func);
     same(&rt, "the size", shared.size(), 3);
@@ -59,5 +59,4 @@ fn drops_its_items_and_keeps_its_type(rt: HostRuntime) -> Result<(), Fail> {
     );
     let empty: [RawRef; 0] = [];
     same(&rt, "no items", segment.items(), empty.as_slice());
-    Ok(())
 }

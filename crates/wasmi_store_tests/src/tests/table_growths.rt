@@ -1,40 +1,24 @@
 //! Every way in which the growth of a table can end.
-use super::recorder::{COMPLAINT, Question, Recorder, same_table_record, table_question};
-use super::{external, func, metered, same};
-use std::alloc::Global;
-use std::process::Abort;
-use std::test::Fail;
-use wasmi_meter::{Fuel, Kind, LimiterError, NoLimits, ResourceLimiterRef, TableError};
-use wasmi_store::{Table, TableType};
+use super::creations::Subject;
+use super::growths::{Growth, compare_growths, grow_raw};
+use super::recorder::{COMPLAINT, Failure, Question, Recorder, same_record, table_question};
+use super::{external, func, same, table_of};
+use wasmi_meter::{Kind, NoLimits, ResourceLimiterRef, TableError};
+use wasmi_store::TableType;
 use wasmi_types::RefType;
 
-/// A growth of a table of one function by so many elements, with so much fuel, under a limiter with this answer and
-/// this reply: how it ends, what the limiter was asked and told, and the fuel that is left.
-#[derive(Clone, Copy)]
-struct Growth {
-    what: &'static str,
-    maximum: Option<u64>,
-    delta: u64,
-    fuel: u64,
-    answer: Result<bool, LimiterError>,
-    reply: Result<(), LimiterError>,
-    outcome: Result<u64, TableError>,
-    question: Option<Question>,
-    notice: Option<TableError>,
-    left: u64,
-}
+const DENIED: Failure = Failure::Table(TableError::ResourceLimiterDeniedAllocation);
 
-const DENIED: TableError = TableError::ResourceLimiterDeniedAllocation;
-
-const OUT_OF_FUEL: TableError = TableError::OutOfFuel { required_fuel: 1 };
+const OUT_OF_FUEL: Failure = Failure::Table(TableError::OutOfFuel { required_fuel: 1 });
 
 const PERMITTED: Growth = Growth {
     what: "by 16",
+    subject: Subject::Table(RefType::Func),
     maximum: Some(17),
     delta: 16,
     fuel: 3,
     answer: Ok(true),
-    reply: Ok(()),
+    heed: Ok(()),
     outcome: Ok(1),
     question: Some(Question {
         kind: Kind::Elements,
@@ -49,14 +33,14 @@ const PERMITTED: Growth = Growth {
 const ABOVE_THE_MAXIMUM: Growth = Growth {
     what: "above the maximum",
     maximum: Some(16),
-    outcome: Err(TableError::GrowOutOfBounds),
+    outcome: Err(Failure::Table(TableError::GrowOutOfBounds)),
     question: Some(Question {
         kind: Kind::Elements,
         current: 1,
         desired: 17,
         maximum: Some(16),
     }),
-    notice: Some(TableError::GrowOutOfBounds),
+    notice: Some(Failure::Table(TableError::GrowOutOfBounds)),
     left: 3,
     ..PERMITTED
 };
@@ -75,14 +59,14 @@ const WANT_OF_MEMORY: Growth = Growth {
     maximum: None,
     delta: 1 << 62,
     fuel: u64::MAX,
-    outcome: Err(TableError::OutOfSystemMemory),
+    outcome: Err(Failure::Table(TableError::OutOfSystemMemory)),
     question: Some(Question {
         kind: Kind::Elements,
         current: 1,
         desired: (1 << 62) + 1,
         maximum: None,
     }),
-    notice: Some(TableError::OutOfSystemMemory),
+    notice: Some(Failure::Table(TableError::OutOfSystemMemory)),
     left: u64::MAX - ((1 << 58) - 1),
     ..PERMITTED
 };
@@ -113,7 +97,7 @@ static GROWTHS: [Growth; 13] = [
         what: "above all numbers of elements",
         maximum: None,
         delta: u64::MAX,
-        outcome: Err(TableError::GrowOutOfBounds),
+        outcome: Err(Failure::Table(TableError::GrowOutOfBounds)),
         question: None,
         left: 3,
         ..PERMITTED
@@ -121,7 +105,7 @@ static GROWTHS: [Growth; 13] = [
     Growth {
         what: "the limiter says no",
         answer: Ok(false),
-        outcome: Err(TableError::GrowOutOfBounds),
+        outcome: Err(Failure::Table(TableError::GrowOutOfBounds)),
         left: 3,
         ..PERMITTED
     },
@@ -146,121 +130,83 @@ static GROWTHS: [Growth; 13] = [
         ..ABOVE_THE_MAXIMUM
     },
     Growth {
-        what: "above the maximum, and the limiter replies an error",
-        reply: Err(COMPLAINT),
+        what: "above the maximum, and the limiter heeds with an error",
+        heed: Err(COMPLAINT),
         outcome: Err(DENIED),
         ..ABOVE_THE_MAXIMUM
     },
     WANT_OF_FUEL,
     Growth {
-        what: "want of fuel, and the limiter replies an error",
-        reply: Err(COMPLAINT),
+        what: "want of fuel, and the limiter heeds with an error",
+        heed: Err(COMPLAINT),
         outcome: Err(DENIED),
         ..WANT_OF_FUEL
     },
     WANT_OF_MEMORY,
     Growth {
-        what: "want of memory, and the limiter replies an error",
-        reply: Err(COMPLAINT),
+        what: "want of memory, and the limiter heeds with an error",
+        heed: Err(COMPLAINT),
         outcome: Err(DENIED),
         ..WANT_OF_MEMORY
     },
 ];
 
-/// A table of one function.
-fn one_function(alloc: Global, ty: TableType) -> Result<Table, TableError> {
-    Table::new(
-        alloc,
-        ty,
-        func(1),
-        &mut ResourceLimiterRef::from(&mut NoLimits),
-    )
-}
-
-/// Grows a table by null references under a limiter.
-fn grow_raw(
-    table: &mut Table,
-    delta: u64,
-    fuel: Option<&mut Fuel>,
-    limiter: &mut Recorder,
-) -> Result<u64, TableError> {
-    let mut limiter = ResourceLimiterRef::from(limiter);
-    table.grow_raw(delta, func(0).raw(), fuel, &mut limiter)
-}
-
-/// Makes the table, grows it, and compares.
-fn compare_growth(rt: &impl Abort, alloc: Global, row: &Growth) -> Result<(), Fail> {
-    let ty = match row.maximum {
-        Some(maximum) if maximum >= 1 => TableType::new64(RefType::Func, 1, Some(maximum)),
-        _ => TableType::new64(RefType::Func, 1, None),
-    };
-    let mut table = one_function(alloc, ty)?;
-    let mut meter = metered(row.fuel);
-    let mut recorder = Recorder::new(row.answer, row.reply);
-    let grown = grow_raw(&mut table, row.delta, Some(&mut meter), &mut recorder);
-    same(rt, row.what, grown, row.outcome);
-    same_table_record(rt, row.what, &recorder, row.question, row.notice);
-    same(rt, row.what, meter.get_fuel(), Ok(row.left));
-    let added = if row.outcome.is_ok() { row.delta } else { 0 };
-    same(rt, row.what, Some(table.size()), 1u64.checked_add(added));
-    same(rt, row.what, table.get(0), Some(func(1)));
-    Ok(())
+#[test]
+fn records_growths(rt: HostRuntime) {
+    compare_growths(&rt, rt.alloc(), &GROWTHS);
 }
 
 #[test]
-fn records_growths(rt: HostRuntime) -> Result<(), Fail> {
-    for row in &GROWTHS {
-        compare_growth(&rt, rt.alloc(), row)?;
-    }
-    Ok(())
-}
-
-#[test]
-fn tests_the_type_also_for_no_element(rt: HostRuntime) -> Result<(), Fail> {
-    let mut table = one_function(rt.alloc(), TableType::new(RefType::Func, 1, Some(2)))?;
+fn tests_the_type_also_for_no_element(rt: HostRuntime) {
+    let ty = TableType::new(RefType::Func, 1, Some(2));
+    let mut table = table_of(&rt, rt.alloc(), ty, func(1));
     let mut recorder = Recorder::new(Ok(true), Ok(()));
     let mut limiter = ResourceLimiterRef::from(&mut recorder);
-    let refused = table.grow(0, external(0), None, &mut limiter);
     let mismatch = Err(TableError::ElementTypeMismatch);
-    same(&rt, "another type", refused, mismatch);
-    let size = table.grow(0, func(0), None, &mut limiter);
-    same(&rt, "the same type", size, Ok(1));
+    let rows = [
+        ("another type", external(0), mismatch),
+        ("the same type", func(0), Ok(1)),
+    ];
+    for (what, init, expected) in rows {
+        same(&rt, what, table.grow(0, init, None, &mut limiter), expected);
+    }
     let size = table.grow_raw(0, external(0).raw(), None, &mut limiter);
     same(&rt, "no type", size, Ok(1));
-    same_table_record(&rt, "nobody is asked", &recorder, None, None);
-    Ok(())
+    same_record(&rt, "nobody is asked", &recorder, None, None);
 }
 
 #[test]
-fn grows_without_a_limiter_and_a_meter(rt: HostRuntime) -> Result<(), Fail> {
-    let mut table = one_function(rt.alloc(), TableType::new(RefType::Func, 1, Some(2)))?;
+fn grows_without_a_limiter_and_a_meter(rt: HostRuntime) {
+    let ty = TableType::new(RefType::Func, 1, Some(2));
+    let mut table = table_of(&rt, rt.alloc(), ty, func(1));
     let mut nobody = ResourceLimiterRef::<NoLimits>::default();
-    same(
-        &rt,
-        "by 1",
-        table.grow(1, func(4), None, &mut nobody),
-        Ok(1),
-    );
-    same(&rt, "the new one", table.get(1), Some(func(4)));
-    let above = table.grow(1, func(4), None, &mut nobody);
     let refused = Err(TableError::GrowOutOfBounds);
-    same(&rt, "above the maximum", above, refused);
+    for (what, expected) in [("by 1", Ok(1)), ("above the maximum", refused)] {
+        same(
+            &rt,
+            what,
+            table.grow(1, func(4), None, &mut nobody),
+            expected,
+        );
+        same(&rt, "the new one", table.get(1), Some(func(4)));
+    }
     let limits = (table.dynamic_ty().minimum(), table.ty().minimum());
     same(&rt, "the minimums", limits, (2, 1));
-    Ok(())
 }
 
 #[test]
-fn stays_below_the_number_of_indices(rt: HostRuntime) -> Result<(), Fail> {
-    let mut table = one_function(rt.alloc(), TableType::new(RefType::Func, 1, None))?;
-    let refused = Err(TableError::GrowOutOfBounds);
+fn stays_below_the_number_of_indices(rt: HostRuntime) {
+    let ty = TableType::new(RefType::Func, 1, None);
+    let mut table = table_of(&rt, rt.alloc(), ty, func(1));
+    let refused = Err(Failure::Table(TableError::GrowOutOfBounds));
     let mut recorder = Recorder::new(Ok(false), Ok(()));
-    let over = grow_raw(&mut table, 4294967295, None, &mut recorder);
-    same(&rt, "as many as indices", over, refused);
-    same_table_record(&rt, "not asked", &recorder, None, None);
-    let denied = grow_raw(&mut table, 4294967294, None, &mut recorder);
-    same(&rt, "one less", denied, refused);
-    let question = table_question(1, 4294967295, None);
-    same_table_record(&rt, "asked", &recorder, question, None);
-    Ok(())
+    let rows = [
+        ("as many as indices", 4294967295, None),
+        ("one less", 4294967294, table_question(1, 4294967295, None)),
+    ];
+    for (what, delta, question) in rows {
+        let grown = grow_raw(&mut table, delta, None, &mut recorder);
+        same(&rt, what, grown, refused);
+        same_record(&rt, what, &recorder, question, None);
+    }
 }

@@ -1,169 +1,537 @@
 //! Reading and writing the elements of tables.
-use super::{external, five_functions, func, metered, metered_at, same, same_elements};
-use std::test::Fail;
-use wasmi_meter::TableError;
+use super::{five_functions, func, metered, metered_at, same, same_elements, segment_of};
+use std::alloc::Global;
+use std::process::Abort;
+use wasmi_meter::{Fuel, TableError};
 use wasmi_raw::RawRef;
-use wasmi_store::{ElementSegment, Table};
+use wasmi_store::Table;
+use wasmi_typed::TypedRawRef;
 use wasmi_types::RefType;
 
 const MISMATCH: Result<(), TableError> = Err(TableError::ElementTypeMismatch);
 
-const PAST_THE_COPY: Result<(), TableError> = Err(TableError::CopyOutOfBounds);
-
-#[test]
-fn gets_and_sets(rt: HostRuntime) -> Result<(), Fail> {
-    let mut table = five_functions(rt.alloc())?;
-    same(&rt, "past the end", table.get(5), None);
-    same(&rt, "far past the end", table.get(u64::MAX), None);
-    same(&rt, "set", table.set(4, func(9)), Ok(()));
-    same(&rt, "another type", table.set(9, external(1)), MISMATCH);
-    let past = Err(TableError::SetOutOfBounds);
-    same(&rt, "past the end", table.set(5, func(1)), past);
-    same(&rt, "set raw", table.set_raw(0, RawRef::null()), Ok(()));
-    let far = table.set_raw(u64::MAX, RawRef::null());
-    same(&rt, "far past the end", far, past);
-    same_elements(&rt, "two are set", &table, [0, 2, 3, 4, 9]);
-    Ok(())
+/// What is written over a part of a table.
+#[derive(Clone, Copy)]
+enum Write {
+    /// A part of the table itself.
+    Within {
+        to: u64,
+        from: u64,
+        len: u64,
+    },
+    /// A part of another table, of the functions 1 to 5.
+    Copy {
+        to: u64,
+        from: u64,
+        len: u64,
+    },
+    /// A part of an element segment of this type, 6 to 8.
+    Init {
+        ty: RefType,
+        to: u64,
+        from: u32,
+        len: u32,
+    },
+    /// A reference of this type, 8.
+    Fill {
+        ty: RefType,
+        to: u64,
+        len: u64,
+    },
+    /// A reference without a type.
+    Raw {
+        bits: u32,
+        to: u64,
+        len: u64,
+    },
+    /// One reference of this type.
+    Set {
+        ty: RefType,
+        bits: u32,
+        to: u64,
+    },
+    /// One null reference without a type.
+    SetNull {
+        to: u64,
+    },
 }
 
-#[test]
-fn copies_within(rt: HostRuntime) -> Result<(), Fail> {
-    let mut up = five_functions(rt.alloc())?;
-    same(&rt, "up", up.copy_within(1, 0, 3, None), Ok(()));
-    same_elements(&rt, "up", &up, [1, 1, 2, 3, 5]);
-    let mut down = five_functions(rt.alloc())?;
-    same(&rt, "down", down.copy_within(0, 2, 3, None), Ok(()));
-    same_elements(&rt, "down", &down, [3, 4, 5, 4, 5]);
-    let mut same_place = five_functions(rt.alloc())?;
-    same(
-        &rt,
-        "in place",
-        same_place.copy_within(0, 0, 5, None),
-        Ok(()),
-    );
-    same_elements(&rt, "in place", &same_place, [1, 2, 3, 4, 5]);
-    Ok(())
+/// A write on a table that the steps before it left, with a meter or without: how it ends, and the fuel and the
+/// elements then.
+#[derive(Clone, Copy)]
+struct Step {
+    what: &'static str,
+    write: Write,
+    metered: bool,
+    outcome: Result<(), TableError>,
+    left: u64,
+    elements: [u32; 5],
 }
 
-#[test]
-fn refuses_a_fill_past_the_table(rt: HostRuntime) -> Result<(), Fail> {
-    let mut table = five_functions(rt.alloc())?;
-    let mut meter = metered_at(1, 100);
-    let past = Err(TableError::FillOutOfBounds);
-    let reference = RawRef::from(9);
-    let fill = table.fill_raw(4, reference, 2, Some(&mut meter));
-    same(&rt, "a fill", fill, past);
-    let fill = table.fill_raw(u64::MAX, reference, 1, Some(&mut meter));
-    same(&rt, "a fill from the greatest number", fill, past);
-    let fill = table.fill_raw(1, reference, u64::MAX, Some(&mut meter));
-    same(&rt, "a fill of the greatest number", fill, past);
-    same(&rt, "the fuel", meter.get_fuel(), Ok(100));
-    same_elements(&rt, "nothing is changed", &table, [1, 2, 3, 4, 5]);
-    Ok(())
-}
-
-#[test]
-fn refuses_a_copy_past_the_table(rt: HostRuntime) -> Result<(), Fail> {
-    let mut table = five_functions(rt.alloc())?;
-    let mut meter = metered_at(1, 100);
-    let copy = table.copy_within(u64::MAX, 0, 1, Some(&mut meter));
-    same(&rt, "to the greatest number", copy, PAST_THE_COPY);
-    let copy = table.copy_within(0, u64::MAX, 1, Some(&mut meter));
-    same(&rt, "from the greatest number", copy, PAST_THE_COPY);
-    let copy = table.copy_within(0, 0, u64::MAX, Some(&mut meter));
-    same(&rt, "the greatest number", copy, PAST_THE_COPY);
-    let copy = table.copy_within(3, 0, 3, Some(&mut meter));
-    same(&rt, "to past the end", copy, PAST_THE_COPY);
-    let copy = table.copy_within(0, 3, 3, Some(&mut meter));
-    same(&rt, "from past the end", copy, PAST_THE_COPY);
-    same(&rt, "the fuel", meter.get_fuel(), Ok(100));
-    same_elements(&rt, "nothing is changed", &table, [1, 2, 3, 4, 5]);
-    Ok(())
-}
-
-#[test]
-fn copies_from_another_table(rt: HostRuntime) -> Result<(), Fail> {
-    let source = five_functions(rt.alloc())?;
-    let mut table = five_functions(rt.alloc())?;
-    let mut meter = metered_at(1, 20);
-    let copy = Table::copy(&mut table, 3, &source, 0, 2, Some(&mut meter));
-    same(&rt, "two", copy, Ok(()));
-    same(&rt, "eight bytes", meter.get_fuel(), Ok(12));
-    same_elements(&rt, "copied", &table, [1, 2, 3, 1, 2]);
-    let past = Table::copy(&mut table, 4, &source, 0, 2, Some(&mut meter));
-    same(&rt, "past the table", past, PAST_THE_COPY);
-    let past = Table::copy(&mut table, 0, &source, 4, 2, Some(&mut meter));
-    same(&rt, "past the source", past, PAST_THE_COPY);
-    let short = Table::copy(&mut table, 0, &source, 0, 4, Some(&mut meter));
-    let expected = Err(TableError::OutOfFuel { required_fuel: 16 });
-    same(&rt, "want of fuel", short, expected);
-    same(&rt, "the fuel", meter.get_fuel(), Ok(12));
-    same_elements(&rt, "nothing is changed", &table, [1, 2, 3, 1, 2]);
-    Ok(())
-}
-
-#[test]
-fn fills(rt: HostRuntime) -> Result<(), Fail> {
-    let mut table = five_functions(rt.alloc())?;
-    let mut meter = metered_at(4, 2);
-    let fill = table.fill(1, func(8), 2, Some(&mut meter));
-    same(&rt, "two", fill, Ok(()));
-    same(&rt, "the fuel", meter.get_fuel(), Ok(0));
-    same(
-        &rt,
-        "another type",
-        table.fill(9, external(8), 1, None),
-        MISMATCH,
-    );
-    same(
-        &rt,
-        "none, at the end",
-        table.fill(5, func(8), 0, None),
-        Ok(()),
-    );
-    same_elements(&rt, "filled", &table, [1, 8, 8, 4, 5]);
-    Ok(())
-}
-
-#[test]
-fn initializes_from_a_segment(rt: HostRuntime) -> Result<(), Fail> {
-    let mut table = five_functions(rt.alloc())?;
+/// Initializes a part of a table from a segment of three items.
+fn initialize(
+    rt: &impl Abort,
+    alloc: Global,
+    table: &mut Table,
+    ty: RefType,
+    places: (u64, u32, u32),
+    fuel: Option<&mut Fuel>,
+) -> Result<(), TableError> {
+    let (to, from, len) = places;
     let items = [func(6).raw(), func(7).raw(), func(8).raw()];
-    let segment = ElementSegment::new(rt.alloc(), RefType::Func, items)?;
-    let mut meter = metered(10);
-    let init = table.init(segment.as_ref(), 3, 1, 2, Some(&mut meter));
-    same(&rt, "two", init, Ok(()));
-    same_elements(&rt, "initialized", &table, [1, 2, 3, 7, 8]);
-    let past = Err(TableError::InitOutOfBounds);
-    let init = table.init(segment.as_ref(), 4, 0, 2, Some(&mut meter));
-    same(&rt, "past the table", init, past);
-    let init = table.init(segment.as_ref(), 0, 2, 2, Some(&mut meter));
-    same(&rt, "past the segment", init, past);
-    let externals = ElementSegment::new(rt.alloc(), RefType::Extern, items)?;
-    let init = table.init(externals.as_ref(), 9, 0, 1, Some(&mut meter));
-    same(&rt, "another type", init, MISMATCH);
-    same(&rt, "the fuel", meter.get_fuel(), Ok(10));
-    same_elements(&rt, "nothing is changed", &table, [1, 2, 3, 7, 8]);
-    Ok(())
+    let segment = segment_of(rt, alloc, ty, items);
+    table.init(segment.as_ref(), to, from, len, fuel)
 }
 
+fn reference(ty: RefType, bits: u32) -> TypedRawRef {
+    TypedRawRef::new(RawRef::from(bits), ty)
+}
+
+/// Writes over a part of a table.
+fn perform(
+    rt: &impl Abort,
+    alloc: Global,
+    table: &mut Table,
+    write: Write,
+    fuel: Option<&mut Fuel>,
+) -> Result<(), TableError> {
+    match write {
+        Write::Within { to, from, len } => table.copy_within(to, from, len, fuel),
+        Write::Copy { to, from, len } => {
+            Table::copy(table, to, &five_functions(rt, alloc), from, len, fuel)
+        }
+        Write::Init { ty, to, from, len } => {
+            initialize(rt, alloc, table, ty, (to, from, len), fuel)
+        }
+        Write::Fill { ty, to, len } => table.fill(to, reference(ty, 8), len, fuel),
+        Write::Raw { bits, to, len } => table.fill_raw(to, RawRef::from(bits), len, fuel),
+        Write::Set { ty, bits, to } => table.set(to, reference(ty, bits)),
+        Write::SetNull { to } => table.set_raw(to, RawRef::null()),
+    }
+}
+
+/// Writes step by step on a table of the functions 1 to 5, and compares after each step.
+fn compare_steps(rt: &impl Abort, alloc: Global, mut meter: Fuel, steps: &[Step]) {
+    let mut table = five_functions(rt, alloc);
+    for step in steps {
+        let outcome = if step.metered {
+            perform(rt, alloc, &mut table, step.write, Some(&mut meter))
+        } else {
+            perform(rt, alloc, &mut table, step.write, None)
+        };
+        same(rt, step.what, outcome, step.outcome);
+        same(rt, step.what, meter.get_fuel(), Ok(step.left));
+        same_elements(rt, step.what, &table, step.elements);
+    }
+}
+
+const SET: Step = Step {
+    what: "set",
+    write: Write::Set {
+        ty: RefType::Func,
+        bits: 9,
+        to: 4,
+    },
+    metered: true,
+    outcome: Ok(()),
+    left: 0,
+    elements: [1, 2, 3, 4, 9],
+};
+
+const SET_TO_NULL: Step = Step {
+    what: "set raw",
+    write: Write::SetNull { to: 0 },
+    elements: [0, 2, 3, 4, 9],
+    ..SET
+};
+
+static SETS: [Step; 5] = [
+    SET,
+    Step {
+        what: "another type",
+        write: Write::Set {
+            ty: RefType::Extern,
+            bits: 1,
+            to: 9,
+        },
+        outcome: MISMATCH,
+        ..SET
+    },
+    Step {
+        what: "past the end",
+        write: Write::Set {
+            ty: RefType::Func,
+            bits: 1,
+            to: 5,
+        },
+        outcome: Err(TableError::SetOutOfBounds),
+        ..SET
+    },
+    SET_TO_NULL,
+    Step {
+        what: "far past the end",
+        write: Write::SetNull { to: u64::MAX },
+        outcome: Err(TableError::SetOutOfBounds),
+        ..SET_TO_NULL
+    },
+];
+
 #[test]
-fn charges_for_no_element(rt: HostRuntime) -> Result<(), Fail> {
-    let mut table = five_functions(rt.alloc())?;
-    let segment = ElementSegment::new(rt.alloc(), RefType::Func, [RawRef::null()])?;
-    let mut meter = metered_at(0, 10);
-    let init = table.init(segment.as_ref(), 5, 1, 0, Some(&mut meter));
-    same(&rt, "an initialization is free", init, Ok(()));
-    let out = Err(TableError::OutOfFuel {
+fn gets_and_sets(rt: HostRuntime) {
+    let table = five_functions(&rt, rt.alloc());
+    for index in [5, u64::MAX] {
+        same(&rt, "past the end", table.get(index), None);
+    }
+    compare_steps(&rt, rt.alloc(), metered_at(1, 0), &SETS);
+}
+
+const COPIED: Step = Step {
+    what: "up",
+    write: Write::Within {
+        to: 1,
+        from: 0,
+        len: 3,
+    },
+    metered: false,
+    outcome: Ok(()),
+    left: 0,
+    elements: [1, 1, 2, 3, 5],
+};
+
+/// Copies without a meter, each on a table of its own.
+static COPIES_WITHIN: [Step; 3] = [
+    COPIED,
+    Step {
+        what: "down",
+        write: Write::Within {
+            to: 0,
+            from: 2,
+            len: 3,
+        },
+        elements: [3, 4, 5, 4, 5],
+        ..COPIED
+    },
+    Step {
+        what: "in place",
+        write: Write::Within {
+            to: 0,
+            from: 0,
+            len: 5,
+        },
+        elements: [1, 2, 3, 4, 5],
+        ..COPIED
+    },
+];
+
+#[test]
+fn copies_within(rt: HostRuntime) {
+    for step in &COPIES_WITHIN {
+        compare_steps(&rt, rt.alloc(), metered_at(1, 0), &[*step]);
+    }
+}
+
+const REFUSED: Step = Step {
+    what: "a fill",
+    write: Write::Raw {
+        bits: 9,
+        to: 4,
+        len: 2,
+    },
+    metered: true,
+    outcome: Err(TableError::FillOutOfBounds),
+    left: 100,
+    elements: [1, 2, 3, 4, 5],
+};
+
+static FILLS_PAST_THE_TABLE: [Step; 3] = [
+    REFUSED,
+    Step {
+        what: "a fill from the greatest number",
+        write: Write::Raw {
+            bits: 9,
+            to: u64::MAX,
+            len: 1,
+        },
+        ..REFUSED
+    },
+    Step {
+        what: "a fill of the greatest number",
+        write: Write::Raw {
+            bits: 9,
+            to: 1,
+            len: u64::MAX,
+        },
+        ..REFUSED
+    },
+];
+
+#[test]
+fn refuses_a_fill_past_the_table(rt: HostRuntime) {
+    compare_steps(&rt, rt.alloc(), metered_at(1, 100), &FILLS_PAST_THE_TABLE);
+}
+
+const PAST_THE_COPY: Step = Step {
+    outcome: Err(TableError::CopyOutOfBounds),
+    ..REFUSED
+};
+
+static COPIES_PAST_THE_TABLE: [Step; 5] = [
+    Step {
+        what: "to the greatest number",
+        write: Write::Within {
+            to: u64::MAX,
+            from: 0,
+            len: 1,
+        },
+        ..PAST_THE_COPY
+    },
+    Step {
+        what: "from the greatest number",
+        write: Write::Within {
+            to: 0,
+            from: u64::MAX,
+            len: 1,
+        },
+        ..PAST_THE_COPY
+    },
+    Step {
+        what: "the greatest number",
+        write: Write::Within {
+            to: 0,
+            from: 0,
+            len: u64::MAX,
+        },
+        ..PAST_THE_COPY
+    },
+    Step {
+        what: "to past the end",
+        write: Write::Within {
+            to: 3,
+            from: 0,
+            len: 3,
+        },
+        ..PAST_THE_COPY
+    },
+    Step {
+        what: "from past the end",
+        write: Write::Within {
+            to: 0,
+            from: 3,
+            len: 3,
+        },
+        ..PAST_THE_COPY
+    },
+];
+
+#[test]
+fn refuses_a_copy_past_the_table(rt: HostRuntime) {
+    compare_steps(&rt, rt.alloc(), metered_at(1, 100), &COPIES_PAST_THE_TABLE);
+}
+
+const EIGHT_BYTES: Step = Step {
+    what: "two",
+    write: Write::Copy {
+        to: 3,
+        from: 0,
+        len: 2,
+    },
+    metered: true,
+    outcome: Ok(()),
+    left: 12,
+    elements: [1, 2, 3, 1, 2],
+};
+
+static COPIES: [Step; 4] = [
+    EIGHT_BYTES,
+    Step {
+        what: "past the table",
+        write: Write::Copy {
+            to: 4,
+            from: 0,
+            len: 2,
+        },
+        outcome: Err(TableError::CopyOutOfBounds),
+        ..EIGHT_BYTES
+    },
+    Step {
+        what: "past the source",
+        write: Write::Copy {
+            to: 0,
+            from: 4,
+            len: 2,
+        },
+        outcome: Err(TableError::CopyOutOfBounds),
+        ..EIGHT_BYTES
+    },
+    Step {
+        what: "want of fuel",
+        write: Write::Copy {
+            to: 0,
+            from: 0,
+            len: 4,
+        },
+        outcome: Err(TableError::OutOfFuel { required_fuel: 16 }),
+        ..EIGHT_BYTES
+    },
+];
+
+#[test]
+fn copies_from_another_table(rt: HostRuntime) {
+    compare_steps(&rt, rt.alloc(), metered_at(1, 20), &COPIES);
+}
+
+const FILLED: Step = Step {
+    what: "two",
+    write: Write::Fill {
+        ty: RefType::Func,
+        to: 1,
+        len: 2,
+    },
+    metered: true,
+    outcome: Ok(()),
+    left: 0,
+    elements: [1, 8, 8, 4, 5],
+};
+
+static FILLS: [Step; 3] = [
+    FILLED,
+    Step {
+        what: "another type",
+        write: Write::Fill {
+            ty: RefType::Extern,
+            to: 9,
+            len: 1,
+        },
+        metered: false,
+        outcome: MISMATCH,
+        ..FILLED
+    },
+    Step {
+        what: "none, at the end",
+        write: Write::Fill {
+            ty: RefType::Func,
+            to: 5,
+            len: 0,
+        },
+        metered: false,
+        ..FILLED
+    },
+];
+
+#[test]
+fn fills(rt: HostRuntime) {
+    compare_steps(&rt, rt.alloc(), metered_at(4, 2), &FILLS);
+}
+
+const INITIALIZED: Step = Step {
+    what: "two",
+    write: Write::Init {
+        ty: RefType::Func,
+        to: 3,
+        from: 1,
+        len: 2,
+    },
+    metered: true,
+    outcome: Ok(()),
+    left: 10,
+    elements: [1, 2, 3, 7, 8],
+};
+
+static INITIALIZATIONS: [Step; 4] = [
+    INITIALIZED,
+    Step {
+        what: "past the table",
+        write: Write::Init {
+            ty: RefType::Func,
+            to: 4,
+            from: 0,
+            len: 2,
+        },
+        outcome: Err(TableError::InitOutOfBounds),
+        ..INITIALIZED
+    },
+    Step {
+        what: "past the segment",
+        write: Write::Init {
+            ty: RefType::Func,
+            to: 0,
+            from: 2,
+            len: 2,
+        },
+        outcome: Err(TableError::InitOutOfBounds),
+        ..INITIALIZED
+    },
+    Step {
+        what: "another type",
+        write: Write::Init {
+            ty: RefType::Extern,
+            to: 9,
+            from: 0,
+            len: 1,
+        },
+        outcome: MISMATCH,
+        ..INITIALIZED
+    },
+];
+
+#[test]
+fn initializes_from_a_segment(rt: HostRuntime) {
+    compare_steps(&rt, rt.alloc(), metered(10), &INITIALIZATIONS);
+}
+
+const FREE: Step = Step {
+    what: "an initialization is free",
+    write: Write::Init {
+        ty: RefType::Func,
+        to: 5,
+        from: 3,
+        len: 0,
+    },
+    metered: true,
+    outcome: Ok(()),
+    left: 10,
+    elements: [1, 2, 3, 4, 5],
+};
+
+const DEAREST: Step = Step {
+    outcome: Err(TableError::OutOfFuel {
         required_fuel: u64::MAX,
-    });
-    let copy = table.copy_within(5, 0, 0, Some(&mut meter));
-    same(&rt, "a copy within", copy, out);
-    let fill = table.fill_raw(5, RawRef::null(), 0, Some(&mut meter));
-    same(&rt, "a fill", fill, out);
-    let source = five_functions(rt.alloc())?;
-    let copy = Table::copy(&mut table, 0, &source, 0, 0, Some(&mut meter));
-    same(&rt, "a copy", copy, out);
-    same(&rt, "the fuel", meter.get_fuel(), Ok(10));
-    Ok(())
+    }),
+    ..FREE
+};
+
+static OF_NO_ELEMENT: [Step; 4] = [
+    FREE,
+    Step {
+        what: "a copy within",
+        write: Write::Within {
+            to: 5,
+            from: 0,
+            len: 0,
+        },
+        ..DEAREST
+    },
+    Step {
+        what: "a fill",
+        write: Write::Raw {
+            bits: 0,
+            to: 5,
+            len: 0,
+        },
+        ..DEAREST
+    },
+    Step {
+        what: "a copy",
+        write: Write::Copy {
+            to: 0,
+            from: 0,
+            len: 0,
+        },
+        ..DEAREST
+    },
+];
+
+#[test]
+fn charges_for_no_element(rt: HostRuntime) {
+    compare_steps(&rt, rt.alloc(), metered_at(0, 10), &OF_NO_ELEMENT);
 }
