@@ -19,15 +19,16 @@ const SEVENS: [u8; 16] = [7; 16];
 /// one past it, and at sums of 2 to the power 64 or more.
 macro_rules! loads {
     ($rt:expr; $plain:ident, $at:ident, $last:expr, $value:expr) => {
-        answers!($rt;
-            $plain(&ONES, $last, 0) => Ok($value),
-            $plain(&ONES, $last, 1) => Err(REFUSED),
-            $plain(&ONES, u64::MAX, 1) => Err(REFUSED),
-            $plain(&ONES, u64::MAX, u64::MAX) => Err(REFUSED),
-            $at(&ONES, $last) => Ok($value),
-            $at(&ONES, $last + 1) => Err(REFUSED),
-            $at(&ONES, usize::MAX) => Err(REFUSED),
-        );
+        let answers = [$plain(&ONES, $last, 0), $at(&ONES, $last)];
+        same($rt, stringify!($plain), answers, [Ok($value); 2]);
+        let past_the_end = [
+            $plain(&ONES, $last, 1),
+            $plain(&ONES, u64::MAX, 1),
+            $plain(&ONES, u64::MAX, u64::MAX),
+            $at(&ONES, $last + 1),
+            $at(&ONES, usize::MAX),
+        ];
+        same($rt, stringify!($plain), past_the_end, [Err(REFUSED); 5]);
     };
 }
 

@@ -53,15 +53,16 @@ macro_rules! vectors {
 /// that fits. It is refused one past it, and at sums of 2 to the power 64 or more.
 macro_rules! loads {
     ($rt:expr; $plain:ident, $at:ident, $last:expr => $number:expr) => {
-        answers!($rt;
-            $plain(&BYTES, $last, 0) => Ok(V128::from($number)),
-            $plain(&BYTES, $last, 1) => Err(REFUSED),
-            $plain(&BYTES, u64::MAX, 1) => Err(REFUSED),
-            $plain(&BYTES, u64::MAX, u64::MAX) => Err(REFUSED),
-            $at(&BYTES, $last) => Ok(V128::from($number)),
-            $at(&BYTES, $last + 1) => Err(REFUSED),
-            $at(&BYTES, usize::MAX) => Err(REFUSED),
-        );
+        loaded($rt, $plain(&BYTES, $last, 0), $number);
+        loaded($rt, $at(&BYTES, $last), $number);
+        let past_the_end = [
+            $plain(&BYTES, $last, 1),
+            $plain(&BYTES, u64::MAX, 1),
+            $plain(&BYTES, u64::MAX, u64::MAX),
+            $at(&BYTES, $last + 1),
+            $at(&BYTES, usize::MAX),
+        ];
+        same($rt, stringify!($plain), past_the_end, [Err(REFUSED); 5]);
     };
 }
 
@@ -84,13 +85,15 @@ macro_rules! lane_loads {
 macro_rules! refused_lane_loads {
     ($rt:expr; $plain:ident, $at:ident, $last:expr) => {{
         let a = V128::from(A);
-        answers!($rt;
-            $plain(&BYTES, $last, 1, a, lane($rt, 1)) => Err(REFUSED),
-            $plain(&BYTES, u64::MAX, 1, a, lane($rt, 1)) => Err(REFUSED),
-            $plain(&BYTES, u64::MAX, u64::MAX, a, lane($rt, 1)) => Err(REFUSED),
-            $at(&BYTES, $last + 1, a, lane($rt, 1)) => Err(REFUSED),
-            $at(&BYTES, usize::MAX, a, lane($rt, 1)) => Err(REFUSED),
-        );
+        let index = lane($rt, 1);
+        let past_the_end = [
+            $plain(&BYTES, $last, 1, a, index),
+            $plain(&BYTES, u64::MAX, 1, a, index),
+            $plain(&BYTES, u64::MAX, u64::MAX, a, index),
+            $at(&BYTES, $last + 1, a, index),
+            $at(&BYTES, usize::MAX, a, index),
+        ];
+        same($rt, stringify!($plain), past_the_end, [Err(REFUSED); 5]);
     }};
 }
 
