@@ -1,0 +1,8 @@
+pub mod ScalarAnswers
+pub mod Instructions
+pub mod Names
+pub mod Operands
+pub mod Lines
+pub mod CheckStatus
+pub mod Tallies
+pub mod Verdicts

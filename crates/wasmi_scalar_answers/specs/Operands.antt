@@ -1,0 +1,20 @@
+-- What the words of a line write.
+use Rattle.std.specs.Prelude.{◌≡◌, ℕ, ℤ, List, [], slice_index_or}
+use Rattle.std.specs.Borrow.{Bor}
+use Rattle.std.specs.Str.Parse.{IsNumeral, digits_value, signed_digits_value, without_leading_plus, without_leading_sign}
+
+-- the words of a line
+abbrev pub LineWords : Type 0
+LineWords = List (Bor (List ℕ))
+
+-- the text of the word at this place, which is empty past the end
+abbrev pub line_word : LineWords → ℕ → List ℕ
+line_word words i = (slice_index_or words i (record { ref_ptr = (0, 0); now = [] })).now
+
+-- the text writes the whole number in decimal digits, which a sign may precede
+abbrev pub WritesInteger : List ℕ → ℤ → Type 0
+WritesInteger text number = IsNumeral 10 (without_leading_sign text) × (number ≡ signed_digits_value 10 text)
+
+-- the same of a number that is read unsigned, which no minus precedes
+abbrev pub WritesNatural : List ℕ → ℕ → Type 0
+WritesNatural text number = IsNumeral 10 (without_leading_plus text) × (number ≡ digits_value 10 (without_leading_plus text))

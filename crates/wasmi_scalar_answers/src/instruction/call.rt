@@ -1,0 +1,62 @@
+//! Calls of a function of numbers with the numbers that words write.
+ghost use Rattle.std.specs.Prelude.{IfSome, Ok};
+ghost use Rattle.wasmi_scalar_answers.specs.Instructions.{OfOne, OfTwo, OfFour};
+
+use crate::scalar_answer::ScalarAnswer;
+use crate::number::number;
+use std::str::FromStr;
+
+/// What a function of one number answers.
+pub(super) fn unary<T, R, F>(operands: &[&str], function: F) -> Option<ScalarAnswer>
+where
+    T: FromStr + Drop,
+    T::Err: Drop,
+    R: Into<ScalarAnswer>,
+    F: FnOnce(T) -> R + Drop,
+    requires { F.IsAlwaysCallable function }
+    ensures { IfSome result (OfOne (λ word value. T.from_str_gives word (Ok value)) (λ value answer. (output : R) × F.post function value output × R.converts output answer) operands.now) }
+{
+    let [value] = operands else {
+        return None;
+    };
+    let value = number(value)?;
+    Some(function(value).into())
+}
+
+/// What a function of two numbers answers.
+pub(super) fn binary<T, R, F>(operands: &[&str], function: F) -> Option<ScalarAnswer>
+where
+    T: FromStr + Drop,
+    T::Err: Drop,
+    R: Into<ScalarAnswer>,
+    F: FnOnce(T, T) -> R + Drop,
+    requires { F.IsAlwaysCallable function }
+    ensures { IfSome result (OfTwo (λ word value. T.from_str_gives word (Ok value)) (λ lhs rhs answer. (output : R) × F.post function lhs rhs output × R.converts output answer) operands.now) }
+{
+    let [lhs, rhs] = operands else {
+        return None;
+    };
+    let lhs = number(lhs)?;
+    let rhs = number(rhs)?;
+    Some(function(lhs, rhs).into())
+}
+
+/// What a function of two numbers of two words each answers.
+pub(super) fn quaternary<T, R, F>(operands: &[&str], function: F) -> Option<ScalarAnswer>
+where
+    T: FromStr + Drop,
+    T::Err: Drop,
+    R: Into<ScalarAnswer>,
+    F: FnOnce(T, T, T, T) -> R + Drop,
+    requires { F.IsAlwaysCallable function }
+    ensures { IfSome result (OfFour (λ word value. T.from_str_gives word (Ok value)) (λ lhs_lo lhs_hi rhs_lo rhs_hi answer. (output : R) × F.post function lhs_lo lhs_hi rhs_lo rhs_hi output × R.converts output answer) operands.now) }
+{
+    let [lhs_lo, lhs_hi, rhs_lo, rhs_hi] = operands else {
+        return None;
+    };
+    let lhs_lo = number(lhs_lo)?;
+    let lhs_hi = number(lhs_hi)?;
+    let rhs_lo = number(rhs_lo)?;
+    let rhs_hi = number(rhs_hi)?;
+    Some(function(lhs_lo, lhs_hi, rhs_lo, rhs_hi).into())
+}
