@@ -85,7 +85,11 @@ impl fmt::Display for Tally {
 }
 
 /// Compares each line of the reader with its instruction, and prints those that don't agree, and the counts.
-pub fn compare<R: io::Read + Drop, W: io::Write>(alloc: Global, reader: R, writer: &mut W) -> CheckStatus
+pub fn compare<R: io::Read + Drop, W: io::Write>(
+    alloc: Global,
+    reader: R,
+    writer: &mut W,
+) -> CheckStatus
     ensures { IfSome (R.remaining reader) (λ text. IsStatusOf text result) }
 {
     match compare_all(alloc, reader, writer) {

@@ -5,10 +5,10 @@
 //! a truth value 0 or 1, and a number of two words its low word and its high word.
 #![tactic(auto)]
 
-mod scalar_answer;
 mod comparison;
 mod instruction;
 mod line;
 mod number;
+mod scalar_answer;
 
 pub use comparison::{CheckStatus, compare};

@@ -3,8 +3,8 @@ ghost use Rattle.std.specs.Prelude.{IfOk, IfSome};
 ghost use Rattle.wasmi_scalar_answers.specs.Lines.{IsLine};
 ghost use Rattle.wasmi_scalar_answers.specs.Verdicts.{Compares, IsJudged};
 
-use crate::scalar_answer::ScalarAnswer;
 use crate::instruction;
+use crate::scalar_answer::ScalarAnswer;
 use std::alloc::{AllocError, Global};
 use std::str;
 

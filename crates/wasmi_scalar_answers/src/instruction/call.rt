@@ -2,8 +2,8 @@
 ghost use Rattle.std.specs.Prelude.{IfSome, Ok};
 ghost use Rattle.wasmi_scalar_answers.specs.Instructions.{OfOne, OfTwo, OfFour};
 
-use crate::scalar_answer::ScalarAnswer;
 use crate::number::number;
+use crate::scalar_answer::ScalarAnswer;
 use std::str::FromStr;
 
 /// What a function of one number answers.

@@ -8,7 +8,13 @@ use std::test::Fail;
 use wasmi_scalar_answers::{CheckStatus, compare};
 
 // What is printed of a table, and how that ends.
-fn compares<R: Abort>(rt: &R, alloc: Global, table: Source<'_>, printed: &str, status: CheckStatus) {
+fn compares<R: Abort>(
+    rt: &R,
+    alloc: Global,
+    table: Source<'_>,
+    printed: &str,
+    status: CheckStatus,
+) {
     let mut writer = Target::new(alloc);
     let ended = compare(alloc, table, &mut writer);
     same(rt, ended, status, printed);
@@ -104,7 +110,13 @@ fn reads_from_slow_readers(rt: HostRuntime) {
     for at_once in [1, 2, 7, 30] {
         let mut reader = Source::of(MIXED.as_bytes());
         reader.at_once = at_once;
-        compares(&rt, rt.alloc(), reader, MIXED_PRINTED, CheckStatus::Differed);
+        compares(
+            &rt,
+            rt.alloc(),
+            reader,
+            MIXED_PRINTED,
+            CheckStatus::Differed,
+        );
     }
 }
 
