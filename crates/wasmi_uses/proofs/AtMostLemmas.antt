@@ -1,6 +1,6 @@
 -- What grows under a limiter that permits so many bytes.
-use Rattle.std.proofs.Common.{◌≡◌, ◌∙◌, ℕ, ◌+◌, ◌*◌, ◌≤◌, true, nat_le, Option, Some, None, Result, Ok, List, ◌++◌}
-use Rattle.std.proofs.Common.{length, replicate, refl, ap, sym, subst, inl, inr, arith, length-append}
+use Rattle.std.proofs.Common.{◌≡◌, ◌∙◌, ℕ, ◌+◌, ◌*◌, ◌≤◌, true, nat_le, Option, Some, None, Result}
+use Rattle.std.proofs.Common.{length, replicate, ap, sym, subst, inl, inr, arith, length-append}
 use Rattle.std.proofs.lemmas.Bool.{leb-true}
 use Rattle.std.proofs.lemmas.List.{length-replicate}
 use Rattle.std.proofs.lemmas.Option.{same_Some}

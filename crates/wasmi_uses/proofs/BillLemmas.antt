@@ -1,16 +1,15 @@
 -- What calls were charged is what was left before and isn't left after.
-use Rattle.std.proofs.Common.{◌≡◌, ◌+◌, ◌-◌, ℕ, Some, List, ap, sym, subst, arith, refl}
-use Rattle.std.specs.Prelude.{All, map}
+use Rattle.std.proofs.Common.{◌≡◌, ◌-◌, ℕ, Some, List, sym, subst, arith, refl}
+use Rattle.std.specs.Prelude.{All}
 use Rattle.wasmi_meter.specs.Limiter.{Rules}
 use Rattle.wasmi_meter.specs.Meter.{Meter, amount_left}
 use Rattle.wasmi_core.specs.declared.calls.Call.{Call}
 use Rattle.wasmi_core.specs.declared.calls.Reply.{Reply}
-use Rattle.wasmi_core.specs.Account.{SetsNoFuel, charges}
-use Rattle.wasmi_core.specs.State.{State}
+use Rattle.wasmi_core.specs.Account.{SetsNoFuel}
 use Rattle.wasmi_core.specs.World.{World}
 use Rattle.wasmi_core.specs.Runs.{IsRunOf}
 use Rattle.wasmi_core.specs.Laws.{ChargesAreSpent}
-use Rattle.wasmi_uses.specs.Bill.{IsBill, Accounts}
+use Rattle.wasmi_uses.specs.Bill.{IsBill}
 
 -- so much is left where metering is on
 left_is : (m : Meter) (left : ℕ) → m.left ≡ Some left → amount_left m ≡ left

@@ -1,5 +1,5 @@
 -- What a machine has once it ran under a quota.
-use Rattle.std.proofs.Common.{◌≡◌, ◌≤◌, ◌∙◌, Some, List, ap, sym, subst, arith}
+use Rattle.std.proofs.Common.{◌≡◌, ◌≤◌, Some, List, sym, subst, arith}
 use Rattle.std.proofs.lemmas.Option.{same_Some}
 use Rattle.wasmi_meter.specs.declared.limiter.Kind.TheVariants.{Bytes, Elements}
 use Rattle.wasmi_meter.specs.declared.quota.Quota.{Quota}

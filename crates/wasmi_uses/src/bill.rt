@@ -1,7 +1,10 @@
 //! A bill: what a run was charged.
-ghost use Rattle.std.specs.Prelude.{◌≡◌, IfOk, All};
+ghost use Rattle.std.specs.Prelude.{◌≡◌, None, Some, IfOk, OnErr, All};
+ghost use Rattle.wasmi_meter.specs.Limiter.{optional_rules};
 ghost use Rattle.wasmi_meter.specs.Meter.{amount_left};
 ghost use Rattle.wasmi_core.specs.Account.{SetsNoFuel};
+ghost use Rattle.wasmi_core.specs.Runs.{IsRunOf};
+ghost use Rattle.wasmi_core.specs.World.{world};
 ghost use Rattle.wasmi_uses.specs.Bill.{IsBill};
 
 use std::alloc::AllocError;
@@ -24,7 +27,12 @@ pub fn run_billed<L: ResourceLimiter>(
     limiter: &mut L,
 ) -> Result<Bill, AllocError>
     requires { All SetsNoFuel calls.now }
-    ensures { IfOk result (λ bill. IsBill machine.old calls.now bill.replies.items bill.charged machine.new) }
+    ensures run { IfOk result (λ bill. IsRunOf (optional_rules L.rules) calls.now
+        (world machine.old (Some limiter.old)) bill.replies.items
+        (world machine.new (Some limiter.new))) }
+    ensures bill { IfOk result (λ bill. IsBill machine.old calls.now bill.replies.items bill.charged machine.new) }
+    ensures off { machine.old.meter.left ≡ None → IfOk result (λ bill. bill.charged ≡ 0) }
+    ensures err { OnErr result ((machine.new ≡ machine.old) × (limiter.new ≡ limiter.old)) }
 {
     laws::charges_are_spent::<L>();
     let before = left(machine);

@@ -1,5 +1,5 @@
 //! A host of plug-ins: a run of a new machine under a quota, and two tenants of a pool.
-ghost use Rattle.std.specs.Prelude.{◌≡◌, ◌≤◌, [], ◌∷◌, IfOk, OnErr};
+ghost use Rattle.std.specs.Prelude.{◌≡◌, ◌≤◌, ◌<◌, [], ◌∷◌, length, IfOk, IsErr, IsErrOf};
 ghost use Rattle.wasmi_meter.specs.declared.limiter.Kind.TheVariants.{Bytes, Elements};
 ghost use Rattle.wasmi_core.specs.Totals.{total};
 ghost use Rattle.wasmi_budget.specs.Pool.{IsWithinCaps};
@@ -48,6 +48,8 @@ pub fn run_both(
 ) -> Result<(Vec<Reply>, Vec<Reply>), PoolError>
     ensures run { IfOk result (λ replies. PoolRun pool.old
         (Ran 0 first.now replies.0.items ∷ Ran 1 second.now replies.1.items ∷ []) pool.new) }
+    ensures no_tenant { IsErrOf result PoolError.NoTenant → length pool.old.machines < 2 }
+    ensures few { length pool.old.machines < 2 → IsErr result }
     ensures within { IsWithinCaps pool.new }
     ensures caps { pool.new.caps ≡ pool.old.caps }
 {

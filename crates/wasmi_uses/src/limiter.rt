@@ -4,9 +4,7 @@ ghost use Rattle.wasmi_meter.specs.Limiter.{optional_rules};
 ghost use Rattle.wasmi_store.specs.Memory.{GrowsMemory};
 ghost use Rattle.wasmi_uses.specs.AtMost.{at_most_rules};
 
-use wasmi_core::{
-    Fuel, LimiterError, Memory, MemoryError, ResourceLimiter, TableError,
-};
+use wasmi_core::{Fuel, LimiterError, Memory, MemoryError, ResourceLimiter, TableError};
 
 /// Permits each memory up to so many bytes, and no table.
 #[derive(Clone, Copy, Debug)]

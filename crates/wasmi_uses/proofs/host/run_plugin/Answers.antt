@@ -17,9 +17,17 @@ returns-clause-run c = record {
 }
 
 pub returns-clause-bytes : goal.returns-clause-bytes
-returns-clause-bytes c = omega (arith, c.new-quota.ensures.bytes, (ran_capped c.quotas_stay_within.ensures c.new-machine.result c.run_reserving.new.machine c.new-quota.result c.run_reserving.new.limiter
-    c.args.calls.now c.in_ok-replies.replies.items c.new-quota.ensures.within c.in_ok-replies.ensures.held c.in_ok-replies.ensures.run).bytes)
+returns-clause-bytes c = omega (
+  arith,
+  c.new-quota.ensures.bytes,
+  (ran_capped c.quotas_stay_within.ensures c.new-machine.result c.run_reserving.new.machine c.new-quota.result c.run_reserving.new.limiter
+      c.args.calls.now c.in_ok-replies.replies.items c.new-quota.ensures.within c.in_ok-replies.ensures.held c.in_ok-replies.ensures.run).bytes,
+)
 
 pub returns-clause-elements : goal.returns-clause-elements
-returns-clause-elements c = omega (arith, c.new-quota.ensures.elements, (ran_capped c.quotas_stay_within.ensures c.new-machine.result c.run_reserving.new.machine c.new-quota.result c.run_reserving.new.limiter
-    c.args.calls.now c.in_ok-replies.replies.items c.new-quota.ensures.within c.in_ok-replies.ensures.held c.in_ok-replies.ensures.run).elements)
+returns-clause-elements c = omega (
+  arith,
+  c.new-quota.ensures.elements,
+  (ran_capped c.quotas_stay_within.ensures c.new-machine.result c.run_reserving.new.machine c.new-quota.result c.run_reserving.new.limiter
+      c.args.calls.now c.in_ok-replies.replies.items c.new-quota.ensures.within c.in_ok-replies.ensures.held c.in_ok-replies.ensures.run).elements,
+)
