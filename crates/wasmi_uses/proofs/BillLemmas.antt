@@ -16,7 +16,8 @@ left_is : (m : Meter) (left : ℕ) → m.left ≡ Some left → amount_left m �
 left_is m left on = rw on refl
 
 -- the bill of a run
-pub ran_billed : {S : Type 0} (rules : Rules S) → ChargesAreSpent rules → (calls : List Call) (replies : List Reply) (w w' : World S) (charged : ℕ)
+pub ran_billed : {S : Type 0} (rules : Rules S) → ChargesAreSpent rules
+    → (calls : List Call) (replies : List Reply) (w w' : World S) (charged : ℕ)
     → charged ≡ amount_left w.state.meter - amount_left w'.state.meter → All SetsNoFuel calls
     → IsRunOf rules calls w replies w' → IsBill w.state calls replies charged w'.state
 ran_billed rules law calls replies w w' charged is none ran left on =

@@ -17,4 +17,5 @@ pub record Accounts (calls : List Call) (replies : List Reply) (before charged a
 
 -- where metering was on, the bill is right
 abbrev pub IsBill : State → List Call → List Reply → ℕ → State → Type 0
-IsBill s calls replies charged s' = (left : ℕ) → s.meter.left ≡ Some left → Accounts calls replies left charged (amount_left s'.meter)
+IsBill s calls replies charged s' = (left : ℕ) → s.meter.left ≡ Some left
+    → Accounts calls replies left charged (amount_left s'.meter)

@@ -12,9 +12,11 @@ use Rattle.wasmi_core.specs.World.{world}
 use Rattle.wasmi_core.specs.Runs.{IsRunOf}
 
 -- a new machine with this meter has run the calls under a quota with these caps
-pub record RunsUnderQuota (bytes elements : ℕ) (meter : Meter) (calls : List Call) (replies : List Reply) (s : State) : Type 0 where
+pub record RunsUnderQuota (bytes elements : ℕ) (meter : Meter) (calls : List Call) (replies : List Reply) (s : State)
+    : Type 0 where
   pub quota : Quota
   pub bytes_cap : cap_of quota Bytes ≡ bytes
   pub elements_cap : cap_of quota Elements ≡ elements
   pub quota' : Quota
-  pub ran : IsRunOf (optional_rules quota_rules) calls (world (new_state meter) (Some quota)) replies (world s (Some quota'))
+  pub ran : IsRunOf (optional_rules quota_rules) calls (world (new_state meter) (Some quota)) replies (world s (Some
+      quota'))
