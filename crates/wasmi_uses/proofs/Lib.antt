@@ -1,0 +1,3 @@
+mod AtMostLemmas
+mod HostLemmas
+mod BillLemmas

@@ -1,0 +1,49 @@
+//! A bill: what a run was charged.
+ghost use Rattle.std.specs.Prelude.{◌≡◌, None, Some, IfOk, OnErr, All};
+ghost use Rattle.wasmi_meter.specs.Limiter.{optional_rules};
+ghost use Rattle.wasmi_meter.specs.Meter.{amount_left};
+ghost use Rattle.wasmi_core.specs.Account.{SetsNoFuel};
+ghost use Rattle.wasmi_core.specs.Runs.{IsRunOf};
+ghost use Rattle.wasmi_core.specs.World.{world};
+ghost use Rattle.wasmi_uses.specs.Bill.{IsBill};
+
+use std::alloc::AllocError;
+use wasmi_core::{Call, Machine, Reply, ResourceLimiter, laws, run_lending};
+
+/// What calls were answered, and the fuel that they were charged.
+#[derive(Debug, Drop)]
+pub struct Bill {
+    /// A reply for each call.
+    pub replies: Vec<Reply>,
+    /// The fuel, which is 0 where metering is off.
+    pub charged: u64,
+}
+
+/// Runs calls, and makes out a bill: with what is left it is what was left before, and it is what the calls were
+/// charged, one by one. A call that sets the fuel has no place in it.
+pub fn run_billed<L: ResourceLimiter>(
+    machine: &mut Machine,
+    calls: &[Call],
+    limiter: &mut L,
+) -> Result<Bill, AllocError>
+    requires { All SetsNoFuel calls.now }
+    ensures run { IfOk result (λ bill. IsRunOf (optional_rules L.rules) calls.now
+        (world machine.old (Some limiter.old)) bill.replies.items
+        (world machine.new (Some limiter.new))) }
+    ensures bill { IfOk result (λ bill. IsBill machine.old calls.now bill.replies.items bill.charged machine.new) }
+    ensures off { machine.old.meter.left ≡ None → IfOk result (λ bill. bill.charged ≡ 0) }
+    ensures err { OnErr result ((machine.new ≡ machine.old) × (limiter.new ≡ limiter.old)) }
+{
+    laws::charges_are_spent::<L>();
+    let before = left(machine);
+    let replies = run_lending(machine, calls, limiter)?;
+    let charged = before.saturating_sub(left(machine));
+    Ok(Bill { replies, charged })
+}
+
+/// What is left, and 0 where metering is off.
+fn left(machine: &Machine) -> u64
+    ensures { result ≡ amount_left machine.now.meter }
+{
+    machine.fuel().get_fuel().unwrap_or(0)
+}
