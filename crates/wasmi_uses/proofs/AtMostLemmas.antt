@@ -31,15 +31,22 @@ module _ (l l' : AtMost) where
   value_within x pages (Denied answer) follows small = small
   value_within x pages Met follows small =
       let permitted : nat_le (length x.bytes + pages * page_bytes x.ty.page) l.bytes
-          ≡ true = let asked = follows.0 in cc in
-      omega (arith, leb-true _ _ permitted, length-append x.bytes (replicate (pages * page_bytes x.ty.page) 0),
-          length-replicate {A = ℕ} (pages * page_bytes x.ty.page) 0)
+      ≡ true = let asked = follows.0 in cc in
+      omega (
+        arith,
+        leb-true _ _ permitted,
+        length-append x.bytes (replicate (pages * page_bytes x.ty.page) 0),
+        length-replicate {A = ℕ} (pages * page_bytes x.ty.page) 0,
+      )
   value_within x pages (Failed cause heed) follows small = small
 
   module _ (x x' : MemoryValue) (m m' : Option Meter) where
     abbrev Grown : ℕ → Result ℕ MemoryError → ℕ → Type 0
-    Grown pages result charge = GrowsMemory (optional_rules at_most_rules) pages (record { value = x; meter = m;
-        limiter = Some l })
+    Grown pages result charge = GrowsMemory (optional_rules at_most_rules) pages (record {
+      value = x;
+      meter = m;
+      limiter = Some l;
+    })
         result charge (record { value = x'; meter = m'; limiter = Some l' })
 
     -- so the limiter stays after a growth, and no more than it permits is there
@@ -52,7 +59,7 @@ module _ (l l' : AtMost) where
         → length x.bytes ≤ l.bytes → length x'.bytes ≤ l.bytes
     grown_within pages result charge (inl none) small =
         subst (λ (y : MemoryValue). length y.bytes ≤ l.bytes) (sym (ap (λ (s : Situation MemoryValue (Option
-            AtMost)). s.value) none.same)) small
+        AtMost)). s.value) none.same)) small
     grown_within pages result charge (inr some) small =
         subst (λ (y : MemoryValue). length y.bytes ≤ l.bytes) (sym some.attempt.value) (value_within x pages
-            some.fate some.attempt.follows small)
+        some.fate some.attempt.follows small)

@@ -22,14 +22,21 @@ pub record IsCapped (s : State) (quota : Quota) : Type 0 where
 held_capped : (s : State) (quota quota' : Quota) → HoldsTotals (holdings quota') s → IsWithinCaps quota'
     → SameCaps quota quota' → IsCapped s quota
 held_capped s quota quota' held within caps =
-    record { bytes = omega (arith, held.bytes, within.bytes, caps.bytes); elements = omega (arith, held.elements,
-        within.elements, caps.elements) }
+    record {
+      bytes = omega (arith, held.bytes, within.bytes, caps.bytes);
+      elements = omega (
+        arith,
+        held.elements,
+        within.elements,
+        caps.elements,
+      );
+    }
 
 -- so after a run
 pub ran_capped : QuotasStayWithin → (s s' : State) (quota quota' : Quota) (calls : List Call) (replies : List Reply)
     → IsWithinCaps quota
     → HoldsTotals (holdings quota') s' → IsRunOf (optional_rules quota_rules) calls (world s (Some quota)) replies
-        (world s' (Some quota')) → IsCapped s' quota
+    (world s' (Some quota')) → IsCapped s' quota
 ran_capped stays s s' quota quota' calls replies within held ran =
     let after = stays s quota within ran.0 (world s' (Some quota')) ran.3 in
     let is : after.0 ≡ quota' = sym (same_Some quota' after.0 after.1) in

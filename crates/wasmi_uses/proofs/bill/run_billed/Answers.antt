@@ -7,8 +7,8 @@ use Rattle.wasmi_uses.proofs.bill.run_billed.Goals as goal
 pub returns-clause-bill : goal.returns-clause-bill
 returns-clause-bill g c =
     let is : c.saturating_sub-charged.result
-        ≡ amount_left c.args.machine.now.meter - amount_left c.run_lending.new.machine.meter =
+    ≡ amount_left c.args.machine.now.meter - amount_left c.run_lending.new.machine.meter =
     omega (arith, c.saturating_sub-charged.ensures, c.left-before.ensures, c.left.ensures) in
     ran_billed (optional_rules g.L.ResourceLimiter.rules) c.charges_are_spent.ensures c.args.calls.now
-        c.in_ok-replies.replies.items
+    c.in_ok-replies.replies.items
     _ _ c.saturating_sub-charged.result is c.requires c.in_ok-replies.ensures.run

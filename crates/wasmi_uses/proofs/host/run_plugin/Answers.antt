@@ -15,7 +15,7 @@ returns-clause-run c = record {
   ran = subst (λ s. IsRunOf (optional_rules quota_rules) c.args.calls.now (world s (Some c.new-quota.result))
       c.in_ok-replies.replies.items
       (world c.run_reserving.new.machine (Some c.run_reserving.new.limiter))) c.new-machine.ensures
-          c.in_ok-replies.ensures.run;
+      c.in_ok-replies.ensures.run;
 }
 
 pub returns-clause-bytes : goal.returns-clause-bytes
@@ -25,7 +25,7 @@ returns-clause-bytes c = omega (
   (ran_capped c.quotas_stay_within.ensures c.new-machine.result c.run_reserving.new.machine c.new-quota.result
       c.run_reserving.new.limiter
       c.args.calls.now c.in_ok-replies.replies.items c.new-quota.ensures.within c.in_ok-replies.ensures.held
-          c.in_ok-replies.ensures.run).bytes,
+      c.in_ok-replies.ensures.run).bytes,
 )
 
 pub returns-clause-elements : goal.returns-clause-elements
@@ -35,5 +35,5 @@ returns-clause-elements c = omega (
   (ran_capped c.quotas_stay_within.ensures c.new-machine.result c.run_reserving.new.machine c.new-quota.result
       c.run_reserving.new.limiter
       c.args.calls.now c.in_ok-replies.replies.items c.new-quota.ensures.within c.in_ok-replies.ensures.held
-          c.in_ok-replies.ensures.run).elements,
+      c.in_ok-replies.ensures.run).elements,
 )
