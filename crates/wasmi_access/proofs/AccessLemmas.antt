@@ -19,7 +19,8 @@ chosen false zs new e = cc
 
 -- an accepted write: there is room, and the list is in three parts
 accepted : (xs : List ℕ) (a : ℕ) (ys new : List ℕ) → overwrite xs a ys ≡ Some new
-    → (a + length ys ≤ length xs) × (take a xs ++ ys ++ drop (a + length ys) xs ≡ new) × (nat_le (a + length ys) (length xs) ≡ true)
+    → (a + length ys ≤ length xs) × (take a xs ++ ys ++ drop (a + length ys) xs ≡ new)
+    × (nat_le (a + length ys) (length xs) ≡ true)
 accepted xs a ys new e =
     let both : (nat_le (a + length ys) (length xs) ≡ true) × (take a xs ++ ys ++ drop (a + length ys) xs ≡ new) =
     chosen (nat_le (a + length ys) (length xs)) (take a xs ++ ys ++ drop (a + length ys) xs) new e in
@@ -33,13 +34,15 @@ to_place : (ps zs : List ℕ) (a : ℕ) → length ps ≡ a → take a (ps ++ zs
 to_place ps zs a e = ap (λ n. take n (ps ++ zs)) (sym e) ∙ take-append_seam ps zs
 
 -- what lies at a after ys was put there
-written : (xs : List ℕ) (a : ℕ) (ys : List ℕ) → a ≤ length xs → take (length ys) (drop a (take a xs ++ ys ++ drop (a + length ys) xs)) ≡ ys
+written : (xs : List ℕ) (a : ℕ) (ys : List ℕ) → a ≤ length xs
+    → take (length ys) (drop a (take a xs ++ ys ++ drop (a + length ys) xs)) ≡ ys
 written xs a ys h =
     ap (λ zs. take (length ys) (drop a zs)) (append_assoc (take a xs) ys (drop (a + length ys) xs))
     ∙ ap (take (length ys)) (from_place (take a xs) (ys ++ drop (a + length ys) xs) a (length-take-le a xs h))
     ∙ take-append_seam ys (drop (a + length ys) xs)
 
-kept : (xs : List ℕ) (a : ℕ) (ys : List ℕ) → a + length ys ≤ length xs → length (take a xs ++ ys ++ drop (a + length ys) xs) ≡ length xs
+kept : (xs : List ℕ) (a : ℕ) (ys : List ℕ) → a + length ys ≤ length xs
+    → length (take a xs ++ ys ++ drop (a + length ys) xs) ≡ length xs
 kept xs a ys h = grind (arith, common_steps)
 
 at-overwrite : (xs : List ℕ) (a : ℕ) (ys new : List ℕ) → overwrite xs a ys ≡ Some new → at new a (length ys) ≡ Some ys
@@ -48,17 +51,22 @@ at-overwrite xs a ys new e =
     let fits : a + length ys ≤ length xs = facts.0 in
     let same : length new ≡ length xs = ap length (sym facts.1) ∙ kept xs a ys fits in
     let yes : nat_le (a + length ys) (length new) ≡ true = ap (nat_le (a + length ys)) same ∙ facts.2 in
-    let there : take (length ys) (drop a new) ≡ ys = ap (λ zs. take (length ys) (drop a zs)) (sym facts.1) ∙ written xs a ys (omega (arith, fits)) in
+    let there : take (length ys) (drop a new) ≡ ys =
+    ap (λ zs. take (length ys) (drop a zs)) (sym facts.1) ∙ written xs a ys (omega (arith, fits)) in
     ap (λ b. if b then Some (take (length ys) (drop a new)) else None) yes ∙ ap Some there
 
-outside_by_length : (old new : List ℕ) (a : ℕ) (ys : List ℕ) → overwrite old a ys ≡ Some new → IsSameOutside old new a (length ys)
+outside_by_length : (old new : List ℕ) (a : ℕ) (ys : List ℕ) → overwrite old a ys ≡ Some new
+    → IsSameOutside old new a (length ys)
 outside_by_length old new a ys e =
     let facts = accepted old a ys new e in
     let fits : a + length ys ≤ length old = facts.0 in
     let before : length (take a old) ≡ a = length-take-le a old (omega (arith, fits)) in
-    let through : length (take a old ++ ys) ≡ a + length ys = length-append (take a old) ys ∙ ap (λ n. n + length ys) before in (
-      ap (take a) (sym facts.1 ∙ append_assoc (take a old) ys (drop (a + length ys) old)) ∙ to_place (take a old) (ys ++ drop (a + length ys) old) a before,
-      ap (drop (a + length ys)) (sym facts.1) ∙ from_place (take a old ++ ys) (drop (a + length ys) old) (a + length ys) through,
+    let through : length (take a old ++ ys) ≡ a + length ys =
+    length-append (take a old) ys ∙ ap (λ n. n + length ys) before in (
+      ap (take a) (sym facts.1 ∙ append_assoc (take a old) ys (drop (a + length ys) old))
+          ∙ to_place (take a old) (ys ++ drop (a + length ys) old) a before,
+      ap (drop (a + length ys)) (sym facts.1)
+          ∙ from_place (take a old ++ ys) (drop (a + length ys) old) (a + length ys) through,
     )
 
 -- ---- the bytes of a number
@@ -74,12 +82,14 @@ bytes_power (suc k) =
     pow-suc 256 k ∙ ap (λ p. p * 256) (bytes_power k) ∙ sym (ap (λ n. 2 ^ n) more ∙ pow-add 2 (8 * k) 8)
 
 -- an accepted store: its address is below 2 to the power 64, and the list has its bytes
-stored_there : (b : Bool) (found : Option (List ℕ)) (new : List ℕ) → (if b then found else None) ≡ Some new → (b ≡ true) × (found ≡ Some new)
+stored_there : (b : Bool) (found : Option (List ℕ)) (new : List ℕ) → (if b then found else None) ≡ Some new
+    → (b ≡ true) × (found ≡ Some new)
 stored_there true found new e = (refl, e)
 stored_there false found new e = cc
 
 -- a load of what was stored
-pub loaded-stored : {V : Type 0} (k n a : ℕ) (old new : List ℕ) (value : ℕ → V) → IsStore old a (le_bytes k n) new (Ok (tt {0}))
+pub loaded-stored : {V : Type 0} (k n a : ℕ) (old new : List ℕ) (value : ℕ → V)
+    → IsStore old a (le_bytes k n) new (Ok (tt {0}))
     → loaded k value new a ≡ Ok (value (n % 2 ^ (8 * k)))
 loaded-stored k n a old new value e =
     let facts = stored_there (nat_lt a (2 ^ 64)) (overwrite old a (le_bytes k n)) new e in
@@ -91,7 +101,8 @@ loaded-stored k n a old new value e =
     ∙ ap (λ m. Ok (value m)) number
 
 -- what a store leaves alone
-pub outside-stored : (k n a : ℕ) (old new : List ℕ) → IsStore old a (le_bytes k n) new (Ok (tt {0})) → IsSameOutside old new a k
+pub outside-stored : (k n a : ℕ) (old new : List ℕ) → IsStore old a (le_bytes k n) new (Ok (tt {0}))
+    → IsSameOutside old new a k
 outside-stored k n a old new e =
     let facts = stored_there (nat_lt a (2 ^ 64)) (overwrite old a (le_bytes k n)) new e in
     let whole : IsSameOutside old new a (length (le_bytes k n)) = outside_by_length old new a (le_bytes k n) facts.1 in

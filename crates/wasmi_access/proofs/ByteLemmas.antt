@@ -16,7 +16,8 @@ use lib.Arith.{mod-mul}
 
 pow-pos : (k : ℕ) → 0 < 256 ^ k
 pow-pos zero = lit< tt
-pow-pos (suc k) = let before : 0 < 256 ^ k = pow-pos k in let e : 256 ^ suc k ≡ 256 ^ k * 256 = pow-suc 256 k in omega (arith, before, e)
+pow-pos (suc k) = let before : 0 < 256 ^ k = pow-pos k in let e : 256 ^ suc k ≡ 256 ^ k * 256 =
+    pow-suc 256 k in omega (arith, before, e)
 
 byte_at-is : (i n : ℕ) → byte_at i n ≡ n / 256 ^ i % 256
 byte_at-is zero n = ap (λ m. m % 256) (sym (div-one n))
@@ -28,9 +29,11 @@ number_of-low_first i zero n = sym (mod-one (n / 256 ^ i))
 number_of-low_first i (suc k) n =
     let here : byte_at i n ≡ n / 256 ^ i % 256 = byte_at-is i n in
     let rest : number_of (bytes_low_first (suc i) k n) ≡ n / 256 ^ suc i % 256 ^ k = number_of-low_first (suc i) k n in
-    let next : n / 256 ^ suc i ≡ n / 256 ^ i / 256 = ap (λ d. n / d) (pow-suc 256 i) ∙ sym (div-div-eq-div-mul n (256 ^ i) 256) in
+    let next : n / 256 ^ suc i ≡ n / 256 ^ i / 256 =
+    ap (λ d. n / d) (pow-suc 256 i) ∙ sym (div-div-eq-div-mul n (256 ^ i) 256) in
     let power : 256 ^ suc k ≡ 256 ^ k * 256 = pow-suc 256 k in
-    let split : n / 256 ^ i % (256 ^ k * 256) ≡ (n / 256 ^ i / 256 % 256 ^ k) * 256 + n / 256 ^ i % 256 = mod-mul (n / 256 ^ i) (pow-pos k) (lit< tt) in
+    let split : n / 256 ^ i % (256 ^ k * 256) ≡ (n / 256 ^ i / 256 % 256 ^ k) * 256 + n / 256 ^ i % 256 =
+    mod-mul (n / 256 ^ i) (pow-pos k) (lit< tt) in
     ap (λ b. b + 256 * number_of (bytes_low_first (suc i) k n)) here
     ∙ ap (λ r. n / 256 ^ i % 256 + 256 * r) (rest ∙ ap (λ q. q % 256 ^ k) next)
     ∙ omega arith
@@ -48,17 +51,22 @@ number_of-push [] b = omega arith
 number_of-push (c ∷ bs) b =
     let rest : number_of (bs ++ b ∷ []) ≡ number_of bs + b * 256 ^ length bs = number_of-push bs b in
     let power : b * 256 ^ suc (length bs) ≡ 256 * (b * 256 ^ length bs) =
-    ap (λ p. b * p) (pow-suc 256 (length bs)) ∙ sym (mul_assoc b (256 ^ length bs) 256) ∙ mul_comm (b * 256 ^ length bs) 256 in
+    ap (λ p. b * p) (pow-suc 256 (length bs)) ∙ sym (mul_assoc b (256 ^ length bs) 256)
+    ∙ mul_comm (b * 256 ^ length bs) 256 in
     omega (arith, rest, power)
 
-pub sum_through-number_of : (bs : List ℕ) (k : ℕ) → k < length bs → sum_through (λ i. byte_worth i (get_or bs i 0)) k ≡ number_of (take (suc k) bs)
+pub sum_through-number_of : (bs : List ℕ) (k : ℕ) → k < length bs
+    → sum_through (λ i. byte_worth i (get_or bs i 0)) k ≡ number_of (take (suc k) bs)
 unfolding number_of
 sum_through-number_of [] zero h = absurd (omega arith)
 sum_through-number_of (b ∷ bs) zero h = omega arith
 sum_through-number_of bs (suc k) h =
-    let before : sum_through (λ i. byte_worth i (get_or bs i 0)) k ≡ number_of (take (suc k) bs) = sum_through-number_of bs k (omega arith) in
+    let before : sum_through (λ i. byte_worth i (get_or bs i 0)) k ≡ number_of (take (suc k) bs) =
+    sum_through-number_of bs k (omega arith) in
     let more : take (suc (suc k)) bs ≡ take (suc k) bs ++ (get_or bs (suc k) 0 ∷ []) = take-suc bs (suc k) 0 h in
-    let pushed : number_of (take (suc k) bs ++ (get_or bs (suc k) 0 ∷ [])) ≡ number_of (take (suc k) bs) + get_or bs (suc k) 0 * 256 ^ length (take (suc k) bs) = number_of-push (take (suc k) bs) (get_or bs (suc k) 0) in
+    let pushed : number_of (take (suc k) bs ++ (get_or bs (suc k) 0 ∷ []))
+    ≡ number_of (take (suc k) bs) + get_or bs (suc k) 0 * 256 ^ length (take (suc k) bs) =
+    number_of-push (take (suc k) bs) (get_or bs (suc k) 0) in
     let long : length (take (suc k) bs) ≡ suc k = length-take-le (suc k) bs (omega arith) in
     ap (λ n. n + get_or bs (suc k) 0 * 256 ^ suc k) before
     ∙ sym (ap number_of more ∙ pushed ∙ ap (λ e. number_of (take (suc k) bs) + get_or bs (suc k) 0 * 256 ^ e) long)
@@ -71,7 +79,8 @@ low_first-next i (suc k) n =
     let quotient : n / 256 ^ suc i ≡ n / 256 / 256 ^ i =
     ap (λ p. n / p) (pow-suc 256 i ∙ mul_comm (256 ^ i) 256) ∙ sym (div-div-eq-div-mul n 256 (256 ^ i)) in
     let here : byte_at (suc i) n ≡ byte_at i (n / 256) = ap (λ m. m % 256) quotient ∙ sym (byte_at-is i (n / 256)) in
-    ap (λ b. b ∷ bytes_low_first (suc (suc i)) k n) here ∙ ap (λ bs. byte_at i (n / 256) ∷ bs) (low_first-next (suc i) k n)
+    ap (λ b. b ∷ bytes_low_first (suc (suc i)) k n) here
+    ∙ ap (λ bs. byte_at i (n / 256) ∷ bs) (low_first-next (suc i) k n)
 
 low_first-number_of : (bs : List ℕ) → ((i : ℕ) → get_or bs i 0 < 256) → le_bytes (length bs) (number_of bs) ≡ bs
 unfolding number_of
@@ -82,9 +91,11 @@ low_first-number_of (b ∷ bs) h =
     let quotient : (b + 256 * number_of bs) / 256 ≡ number_of bs = omega (arith, small) in
     let rest : le_bytes (length bs) (number_of bs) ≡ bs = low_first-number_of bs (λ i. h (suc i)) in
     ap (λ c. c ∷ bytes_low_first 1 (length bs) (b + 256 * number_of bs)) first
-    ∙ ap (λ cs. b ∷ cs) (low_first-next 0 (length bs) (b + 256 * number_of bs) ∙ ap (bytes_low_first 0 (length bs)) quotient ∙ rest)
+    ∙ ap (λ cs. b ∷ cs)
+    (low_first-next 0 (length bs) (b + 256 * number_of bs) ∙ ap (bytes_low_first 0 (length bs)) quotient ∙ rest)
 
-le_bytes-number_of : (bs : List ℕ) (k : ℕ) → length bs ≡ k → ((i : ℕ) → get_or bs i 0 < 256) → le_bytes k (number_of bs) ≡ bs
+le_bytes-number_of : (bs : List ℕ) (k : ℕ) → length bs ≡ k → ((i : ℕ) → get_or bs i 0 < 256)
+    → le_bytes k (number_of bs) ≡ bs
 le_bytes-number_of bs k e h = ap (λ j. le_bytes j (number_of bs)) (sym e) ∙ low_first-number_of bs h
 
 number_of-below : (bs : List ℕ) → ((i : ℕ) → get_or bs i 0 < 256) → number_of bs < 256 ^ length bs
@@ -101,38 +112,51 @@ number_of-below (b ∷ bs) h =
 pub number_of-bytes : (k n : ℕ) → n < 256 ^ k → number_of (le_bytes k n) ≡ n
 number_of-bytes k n h = number_of-low_first 0 k n ∙ ap (λ m. m % 256 ^ k) (div-one n) ∙ mod-eq_of_lt h
 
-pub number_of-whole : (bs : List ℕ) (k : ℕ) → length bs ≡ suc k → sum_through (λ i. byte_worth i (get_or bs i 0)) k ≡ number_of bs
+pub number_of-whole : (bs : List ℕ) (k : ℕ) → length bs ≡ suc k
+    → sum_through (λ i. byte_worth i (get_or bs i 0)) k ≡ number_of bs
 number_of-whole bs k e = sum_through-number_of bs k (omega arith) ∙ ap number_of (take_all (suc k) bs (omega arith))
 
-pub le_bytes-whole : (bs : List ℕ) (k n : ℕ) → length bs ≡ suc k → ((i : ℕ) → get_or bs i 0 < 256) → n ≡ sum_through (λ i. byte_worth i (get_or bs i 0)) k → le_bytes (suc k) n ≡ bs
+pub le_bytes-whole : (bs : List ℕ) (k n : ℕ) → length bs ≡ suc k → ((i : ℕ) → get_or bs i 0 < 256)
+    → n ≡ sum_through (λ i. byte_worth i (get_or bs i 0)) k → le_bytes (suc k) n ≡ bs
 le_bytes-whole bs k n e h is = ap (le_bytes (suc k)) (is ∙ number_of-whole bs k e) ∙ le_bytes-number_of bs (suc k) e h
 
 -- of a number of an unsigned type
-pub le_bytes-unsigned : (w : Width) (bs : List ℕ) (k n : ℕ) → n < 2 ^ bits w → length bs ≡ suc k → ((i : ℕ) → get_or bs i 0 < 256)
+pub le_bytes-unsigned : (w : Width) (bs : List ℕ) (k n : ℕ) → n < 2 ^ bits w → length bs ≡ suc k
+    → ((i : ℕ) → get_or bs i 0 < 256)
     → n ≡ sum_through (λ i. byte_worth i (get_or bs i 0)) k → le_bytes (suc k) (wrap w (pos n)) ≡ bs
 le_bytes-unsigned w bs k n below e h is = ap (le_bytes (suc k)) (wrap_unsigned w n below) ∙ le_bytes-whole bs k n e h is
 
 -- of a number of a signed type, as the code's calls say it
-pub number_of-signed : (w : Width) (bs : List ℕ) (k : ℕ) (z : ℤ) → 256 ^ suc k ≡ 2 ^ bits w → SFits w z → length bs ≡ suc k → ((i : ℕ) → get_or bs i 0 < 256)
-    → z ≡ cast_signed w (sum_through (λ i. byte_worth i (get_or bs i 0)) k) → wrap w (cast_signed w (cast_unsigned w z)) ≡ number_of bs
+pub number_of-signed : (w : Width) (bs : List ℕ) (k : ℕ) (z : ℤ) → 256 ^ suc k ≡ 2 ^ bits w → SFits w z
+    → length bs ≡ suc k → ((i : ℕ) → get_or bs i 0 < 256)
+    → z ≡ cast_signed w (sum_through (λ i. byte_worth i (get_or bs i 0)) k)
+    → wrap w (cast_signed w (cast_unsigned w z)) ≡ number_of bs
 number_of-signed w bs k z wide f e h is =
     let whole = sum_through (λ i. byte_worth i (get_or bs i 0)) k in
     let below : whole < 2 ^ bits w =
     let P : ℕ → Type 0 = λ m. m < 2 ^ bits w in
     let Q : ℕ → Type 0 = λ m. number_of bs < m in
     subst P (sym (number_of-whole bs k e)) (subst Q (ap (λ j. 256 ^ j) e ∙ wide) (number_of-below bs h)) in
-    ap (wrap w) (to_z-of_z w z f) ∙ wrap_signed w z f ∙ ap (cast_unsigned w) is ∙ of_z-to_z w whole below ∙ number_of-whole bs k e
+    ap (wrap w) (to_z-of_z w z f) ∙ wrap_signed w z f ∙ ap (cast_unsigned w) is ∙ of_z-to_z w whole below
+    ∙ number_of-whole bs k e
 
-pub le_bytes-signed : (w : Width) (bs : List ℕ) (k : ℕ) (z : ℤ) → 256 ^ suc k ≡ 2 ^ bits w → SFits w z → length bs ≡ suc k → ((i : ℕ) → get_or bs i 0 < 256)
-    → z ≡ cast_signed w (sum_through (λ i. byte_worth i (get_or bs i 0)) k) → le_bytes (suc k) (wrap w (cast_signed w (cast_unsigned w z))) ≡ bs
-le_bytes-signed w bs k z wide f e h is = ap (le_bytes (suc k)) (number_of-signed w bs k z wide f e h is) ∙ le_bytes-number_of bs (suc k) e h
+pub le_bytes-signed : (w : Width) (bs : List ℕ) (k : ℕ) (z : ℤ) → 256 ^ suc k ≡ 2 ^ bits w → SFits w z
+    → length bs ≡ suc k → ((i : ℕ) → get_or bs i 0 < 256)
+    → z ≡ cast_signed w (sum_through (λ i. byte_worth i (get_or bs i 0)) k)
+    → le_bytes (suc k) (wrap w (cast_signed w (cast_unsigned w z))) ≡ bs
+le_bytes-signed w bs k z wide f e h is =
+    ap (le_bytes (suc k)) (number_of-signed w bs k z wide f e h is) ∙ le_bytes-number_of bs (suc k) e h
 
--- the bytes of an unsigned number, and of a signed one as the code's calls say it, are those of the number modulo 2 to the power w
-pub bytes-unsigned : (w : Width) (n : ℕ) (bs : List ℕ) → n < 2 ^ bits w → bs ≡ to_le_bytes w n → bs ≡ to_le_bytes w (wrap w (pos n))
+-- the bytes of an unsigned number, and of a signed one as the code's calls say it, are those of the number modulo 2 to
+-- the power w
+pub bytes-unsigned : (w : Width) (n : ℕ) (bs : List ℕ) → n < 2 ^ bits w → bs ≡ to_le_bytes w n
+    → bs ≡ to_le_bytes w (wrap w (pos n))
 bytes-unsigned w n bs h e = e ∙ ap (to_le_bytes w) (sym (wrap_unsigned w n h))
 
-pub bytes-signed : (w : Width) (z : ℤ) (bs : List ℕ) → SFits w z → bs ≡ to_le_bytes w (cast_unsigned w (cast_signed w (cast_unsigned w z))) → bs ≡ to_le_bytes w (wrap w z)
-bytes-signed w z bs f e = e ∙ ap (λ y. to_le_bytes w (cast_unsigned w y)) (to_z-of_z w z f) ∙ ap (to_le_bytes w) (sym (wrap_signed w z f))
+pub bytes-signed : (w : Width) (z : ℤ) (bs : List ℕ) → SFits w z
+    → bs ≡ to_le_bytes w (cast_unsigned w (cast_signed w (cast_unsigned w z))) → bs ≡ to_le_bytes w (wrap w z)
+bytes-signed w z bs f e =
+    e ∙ ap (λ y. to_le_bytes w (cast_unsigned w y)) (to_z-of_z w z f) ∙ ap (to_le_bytes w) (sym (wrap_signed w z f))
 
 pub number_of_whole_1 : (bs : List ℕ) → length bs ≡ 1 → from_le_bytes w8 bs ≡ number_of bs
 number_of_whole_1 bs e = number_of-whole bs 0 e

@@ -14,7 +14,8 @@ complement-mod q m n h l =
     let parts : n / m * m + n % m ≡ n = div-add-mod' n m in
     let below : n / m < q = div_below n m q h l in
     let split : q ≡ (q - suc (n / m)) + suc (n / m) = omega (arith, below) in
-    let whole : q * m ≡ (q - suc (n / m)) * m + suc (n / m) * m = ap (λ k. k * m) split ∙ add-mul (q - suc (n / m)) (suc (n / m)) m in
+    let whole : q * m ≡ (q - suc (n / m)) * m + suc (n / m) * m =
+    ap (λ k. k * m) split ∙ add-mul (q - suc (n / m)) (suc (n / m)) m in
     let left : q * m - suc n ≡ (q - suc (n / m)) * m + (m - 1 - n % m) = omega (arith, whole, parts, small) in
     sym (ap (λ k. k % m) left ∙ mod-mul-add (q - suc (n / m)) m (m - 1 - n % m) (omega (arith, small)))
 
@@ -24,12 +25,16 @@ wrap_low : (v w : Width) (q : ℕ) (z : ℤ) → 2 ^ bits w ≡ q * 2 ^ bits v �
 unfolding int_wrap
 wrap_low v w q (pos n) e le f = refl
 wrap_low v w q (negsuc n) e le f =
-    ap (cast_signed v) (complement-mod q (2 ^ bits v) n (pow_pos (bits v)) (omega (arith, le, f.sfits)) ∙ ap (λ k. (k - suc n) % 2 ^ bits v) (sym e))
+    ap (cast_signed v)
+    (complement-mod q (2 ^ bits v) n (pow_pos (bits v)) (omega (arith, le, f.sfits))
+    ∙ ap (λ k. (k - suc n) % 2 ^ bits v) (sym e))
 
 -- ---- the number below 2 to the power w
 
 half_below : (w : Width) → 2 ^ hbits w ≤ 2 ^ bits w
-half_below w = elim w as (λ v. 2 ^ hbits v ≤ 2 ^ bits v) [ w8 ↦ lit≤ tt | w16 ↦ lit≤ tt | w32 ↦ lit≤ tt | w64 ↦ lit≤ tt | w128 ↦ lit≤ tt ]
+half_below w =
+    elim w as (λ v. 2 ^ hbits v ≤ 2 ^ bits v)
+    [ w8 ↦ lit≤ tt | w16 ↦ lit≤ tt | w32 ↦ lit≤ tt | w64 ↦ lit≤ tt | w128 ↦ lit≤ tt ]
 
 pub wrap_below : (w : Width) (z : ℤ) → wrap w z < 2 ^ bits w
 wrap_below w (pos n) = mod_below n (2 ^ bits w) (pow_pos (bits w))
@@ -42,7 +47,8 @@ wrap_unsigned w n h = mod-eq_of_lt h
 -- of a signed number of the width
 pub wrap_signed : (w : Width) (z : ℤ) → SFits w z → wrap w z ≡ cast_unsigned w z
 wrap_signed w (pos n) f = mod-eq_of_lt (omega (arith, half_below w, f.sfits))
-wrap_signed w (negsuc n) f = ap (λ k. 2 ^ bits w - 1 - k) (mod-eq_of_lt (omega (arith, half_below w, f.sfits))) ∙ omega arith
+wrap_signed w (negsuc n) f =
+    ap (λ k. 2 ^ bits w - 1 - k) (mod-eq_of_lt (omega (arith, half_below w, f.sfits))) ∙ omega arith
 
 -- of the signed number with the same low bits
 pub wrap_wrapped : (w : Width) (z r : ℤ) → r ≡ int_wrap w z → wrap w r ≡ wrap w z
@@ -51,9 +57,11 @@ wrap_wrapped w z r e =
     ap (wrap w) e ∙ wrap_signed w (int_wrap w z) (SFits-int_wrap w z) ∙ of_z-to_z w (wrap w z) (wrap_below w z)
 
 -- of a signed number of a greater width
-image_low : (v w : Width) (z : ℤ) → int_wrap v z ≡ cast_signed v (cast_unsigned w z % 2 ^ bits v) → wrap v z ≡ cast_unsigned w z % 2 ^ bits v
+image_low : (v w : Width) (z : ℤ) → int_wrap v z ≡ cast_signed v (cast_unsigned w z % 2 ^ bits v)
+    → wrap v z ≡ cast_unsigned w z % 2 ^ bits v
 image_low v w z e =
-    sym (wrap_wrapped v z (int_wrap v z) refl) ∙ wrap_signed v (int_wrap v z) (SFits-int_wrap v z) ∙ ap (cast_unsigned v) e
+    sym (wrap_wrapped v z (int_wrap v z) refl) ∙ wrap_signed v (int_wrap v z) (SFits-int_wrap v z)
+    ∙ ap (cast_unsigned v) e
     ∙ of_z-to_z v (cast_unsigned w z % 2 ^ bits v) (mod_below (cast_unsigned w z) (2 ^ bits v) (pow_pos (bits v)))
 
 -- ---- at the widths of the instructions
@@ -83,7 +91,8 @@ pub low_32 : (z r : ℤ) → r ≡ int_wrap w32 z → wrap w32 r ≡ wrap w32 z
 low_32 z r e = wrap_wrapped w32 z r e
 
 -- for `wrap_into`
-pub ruleset wraps_down = (wrap_8_of_32, wrap_16_of_32, wrap_8_of_64, wrap_16_of_64, wrap_32_of_64, to_z-of_z, low_8, low_16, low_32)
+pub ruleset wraps_down =
+    (wrap_8_of_32, wrap_16_of_32, wrap_8_of_64, wrap_16_of_64, wrap_32_of_64, to_z-of_z, low_8, low_16, low_32)
 
 pub image_8_32 : (z : ℤ) → SFits w32 z → wrap w8 z ≡ cast_unsigned w32 z % 2 ^ 8
 image_8_32 z f = image_low w8 w32 z (wrap_8_of_32 z f)

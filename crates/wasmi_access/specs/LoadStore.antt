@@ -21,7 +21,8 @@ loaded n value memory a = value_of_bytes value (accessed a (at memory a n))
 
 -- an instruction answers this, where `number` reads its value
 abbrev pub Answers : {V N : Type 0} → (V → N) → Result V TrapCode → Result N TrapCode → Type 0
-Answers number answer expected = MatchResult answer (λ value. expected ≡ Ok (number value)) (λ trap. expected ≡ Err trap)
+Answers number answer expected =
+    MatchResult answer (λ value. expected ≡ Ok (number value)) (λ trap. expected ≡ Err trap)
 
 -- a store of ys at a: the memory has them there, or the store traps and the memory is the same
 abbrev pub IsStore : {V : Type 0} → List ℕ → ℕ → List ℕ → List ℕ → Result V TrapCode → Type 0

@@ -1,8 +1,8 @@
 //! Loads and stores of any type that has little-endian bytes.
 //!
-//! A memory is a slice of bytes, and an address counts bytes from its start. An access to `ptr + offset` has the unbounded
-//! sum for its address. Upstream: the module `memory::access`, private there. Core specification: memory instructions, and
-//! the storage of integers under numerics.
+//! A memory is a slice of bytes, and an address counts bytes from its start. An access to `ptr +
+//! offset` has the unbounded sum for its address. Upstream: the module `memory::access`, private
+//! there. Core specification: memory instructions, and the storage of integers under numerics.
 
 ghost use Rattle.std.specs.Prelude.{◌≡◌, ℕ, ◌+◌, ◌*◌, ◌^◌, ◌≤◌, List, MatchResult, length, Some};
 ghost use Rattle.std.specs.Int.{int_wrap};
@@ -43,7 +43,8 @@ pub trait ExtendInto<T: Number>: Number {
         ensures { result ≡ T.of_number (Self.number self) };
 }
 
-/// An array of bytes, as the contracts of this module see it. The arrays `[u8; N]` have it, and no other type can.
+/// An array of bytes, as the contracts of this module see it. The arrays `[u8; N]` have it, and no
+/// other type can.
 pub trait ByteArray: sealed::Sealed {
     /// How many bytes there are.
     ghost LEN: { ℕ };
@@ -66,7 +67,8 @@ pub trait LoadInto: ByteArray {
     ///
     /// The only error is `MemoryOutOfBounds`, where the memory ends before the last byte.
     fn load_into(&mut self, memory: &[u8], address: usize) -> Result<(), TrapCode>
-        ensures copied { IsCopy memory.now address Self.LEN (Self.bytes_of self.old) (Self.bytes_of self.new) result }
+        ensures copied { IsCopy memory.now address Self.LEN (Self.bytes_of self.old)
+            (Self.bytes_of self.new) result }
         ensures length { length (Self.bytes_of self.new) ≡ Self.LEN };
 }
 
@@ -90,7 +92,8 @@ impl<const N: usize> LoadInto for [u8; N] {
 pub trait StoreFrom: ByteArray {
     /// Copies `self` to the bytes at `address`.
     ///
-    /// The only error is `MemoryOutOfBounds`, where the memory ends before the last byte; nothing is written then.
+    /// The only error is `MemoryOutOfBounds`, where the memory ends before the last byte; nothing
+    /// is written then.
     fn store_from(&self, memory: &mut [u8], address: usize) -> Result<(), TrapCode>
         ensures stored { IsStore memory.old address (Self.bytes_of self.now) memory.new result }
         ensures length { length (Self.bytes_of self.now) ≡ Self.LEN };
@@ -125,18 +128,25 @@ pub trait LittleEndianConvert: Number {
     /// As many bytes as the number has.
     type Bytes: Default + Drop + LoadInto + StoreFrom;
 
-    /// The bytes of `self`, the lowest first: those of its number modulo 2 to the power of its width.
+    /// The bytes of `self`, the lowest first: those of its number modulo 2 to the power of its
+    /// width.
     fn into_le_bytes(self) -> Self::Bytes
-        ensures bytes { Self.Bytes.bytes_of result ≡ le_bytes Self.Bytes.LEN (wrap Self.width (Self.number self)) }
+        ensures bytes { Self.Bytes.bytes_of result
+            ≡ le_bytes Self.Bytes.LEN (wrap Self.width (Self.number self)) }
         ensures number { number_of (Self.Bytes.bytes_of result) ≡ wrap Self.width (Self.number self) }
-        ensures round_trip { Self.of_number (number_of_bits Self.is_signed Self.width (number_of (Self.Bytes.bytes_of result))) ≡ self };
+        ensures round_trip { Self.of_number
+            (number_of_bits Self.is_signed Self.width (number_of (Self.Bytes.bytes_of result)))
+            ≡ self };
 
     /// The value of some bytes, the lowest first.
     fn from_le_bytes(bytes: Self::Bytes) -> Self
-        ensures value { result ≡ Self.of_number (number_of_bits Self.is_signed Self.width (number_of (Self.Bytes.bytes_of bytes))) }
-        ensures read { Self.number result ≡ number_of_bits Self.is_signed Self.width (number_of (Self.Bytes.bytes_of bytes)) }
+        ensures value { result ≡ Self.of_number
+            (number_of_bits Self.is_signed Self.width (number_of (Self.Bytes.bytes_of bytes))) }
+        ensures read { Self.number result
+            ≡ number_of_bits Self.is_signed Self.width (number_of (Self.Bytes.bytes_of bytes)) }
         ensures number { wrap Self.width (Self.number result) ≡ number_of (Self.Bytes.bytes_of bytes) }
-        ensures round_trip { le_bytes Self.Bytes.LEN (wrap Self.width (Self.number result)) ≡ Self.Bytes.bytes_of bytes };
+        ensures round_trip { le_bytes Self.Bytes.LEN (wrap Self.width (Self.number result))
+            ≡ Self.Bytes.bytes_of bytes };
 
     /// The bytes have the bits of the number.
     ghost is_as_wide: { Self.Bytes.LEN * 8 ≡ bits Self.width };
@@ -161,8 +171,10 @@ fn effective_address(ptr: u64, offset: u64) -> Result<usize, TrapCode>
 pub fn load<T>(memory: &[u8], ptr: u64, offset: u64) -> Result<T, TrapCode>
 where
     T: LittleEndianConvert,
-    ensures value { result ≡ loaded T.Bytes.LEN (λ n. T.of_number (number_of_bits T.is_signed T.width n)) memory.now (ptr + offset) }
-    ensures number { Answers T.number result (loaded T.Bytes.LEN (number_of_bits T.is_signed T.width) memory.now (ptr + offset)) }
+    ensures value { result ≡ loaded T.Bytes.LEN
+        (λ n. T.of_number (number_of_bits T.is_signed T.width n)) memory.now (ptr + offset) }
+    ensures number { Answers T.number result
+        (loaded T.Bytes.LEN (number_of_bits T.is_signed T.width) memory.now (ptr + offset)) }
 {
     let address = effective_address(ptr, offset)?;
     load_at::<T>(memory, address)
@@ -174,8 +186,10 @@ where
 pub fn load_at<T>(memory: &[u8], address: usize) -> Result<T, TrapCode>
 where
     T: LittleEndianConvert,
-    ensures value { result ≡ loaded T.Bytes.LEN (λ n. T.of_number (number_of_bits T.is_signed T.width n)) memory.now address }
-    ensures number { Answers T.number result (loaded T.Bytes.LEN (number_of_bits T.is_signed T.width) memory.now address) }
+    ensures value { result ≡ loaded T.Bytes.LEN
+        (λ n. T.of_number (number_of_bits T.is_signed T.width n)) memory.now address }
+    ensures number { Answers T.number result
+        (loaded T.Bytes.LEN (number_of_bits T.is_signed T.width) memory.now address) }
 {
     let mut buffer = T::Bytes::default();
     buffer.load_into(memory, address)?;
@@ -189,7 +203,9 @@ pub fn load_extend<T, U>(memory: &[u8], ptr: u64, offset: u64) -> Result<T, Trap
 where
     T: Number,
     U: LittleEndianConvert + ExtendInto<T>,
-    ensures { result ≡ loaded U.Bytes.LEN (λ n. T.of_number (number_of_bits U.is_signed U.width n)) memory.now (ptr + offset) }
+    ensures { result
+        ≡ loaded U.Bytes.LEN (λ n. T.of_number (number_of_bits U.is_signed U.width n)) memory.now
+        (ptr + offset) }
 {
     let address = effective_address(ptr, offset)?;
     load_extend_at::<T, U>(memory, address)
@@ -202,7 +218,9 @@ pub fn load_extend_at<T, U>(memory: &[u8], address: usize) -> Result<T, TrapCode
 where
     T: Number,
     U: LittleEndianConvert + ExtendInto<T>,
-    ensures { result ≡ loaded U.Bytes.LEN (λ n. T.of_number (number_of_bits U.is_signed U.width n)) memory.now address }
+    ensures { result
+        ≡ loaded U.Bytes.LEN
+        (λ n. T.of_number (number_of_bits U.is_signed U.width n)) memory.now address }
 {
     let value = load_at::<U>(memory, address)?;
     Ok(value.extend_into())
@@ -214,7 +232,8 @@ where
 pub fn store<T>(memory: &mut [u8], ptr: u64, offset: u64, value: T) -> Result<(), TrapCode>
 where
     T: LittleEndianConvert + Drop,
-    ensures { IsStore memory.old (ptr + offset) (le_bytes T.Bytes.LEN (wrap T.width (T.number value))) memory.new result }
+    ensures { IsStore memory.old (ptr + offset)
+        (le_bytes T.Bytes.LEN (wrap T.width (T.number value))) memory.new result }
 {
     let address = effective_address(ptr, offset)?;
     store_at::<T>(memory, address, value)
@@ -226,7 +245,8 @@ where
 pub fn store_at<T>(memory: &mut [u8], address: usize, value: T) -> Result<(), TrapCode>
 where
     T: LittleEndianConvert,
-    ensures { IsStore memory.old address (le_bytes T.Bytes.LEN (wrap T.width (T.number value))) memory.new result }
+    ensures { IsStore memory.old address
+        (le_bytes T.Bytes.LEN (wrap T.width (T.number value))) memory.new result }
 {
     let buffer = value.into_le_bytes();
     buffer.store_from(memory, address)
@@ -239,7 +259,8 @@ pub fn store_wrap<T, U>(memory: &mut [u8], ptr: u64, offset: u64, value: T) -> R
 where
     T: WrapInto<U> + Drop,
     U: LittleEndianConvert,
-    ensures { IsStore memory.old (ptr + offset) (le_bytes U.Bytes.LEN (wrap U.width (T.number value))) memory.new result }
+    ensures { IsStore memory.old (ptr + offset)
+        (le_bytes U.Bytes.LEN (wrap U.width (T.number value))) memory.new result }
 {
     let address = effective_address(ptr, offset)?;
     store_wrap_at::<T, U>(memory, address, value)
@@ -252,7 +273,8 @@ pub fn store_wrap_at<T, U>(memory: &mut [u8], address: usize, value: T) -> Resul
 where
     T: WrapInto<U>,
     U: LittleEndianConvert,
-    ensures { IsStore memory.old address (le_bytes U.Bytes.LEN (wrap U.width (T.number value))) memory.new result }
+    ensures { IsStore memory.old address
+        (le_bytes U.Bytes.LEN (wrap U.width (T.number value))) memory.new result }
 {
     store_at::<U>(memory, address, value.wrap_into())
 }

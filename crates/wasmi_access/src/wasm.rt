@@ -1,8 +1,8 @@
 //! The loads and stores of the integer types.
 //!
-//! A form without `_at` accesses the address `ptr + offset`, a form with `_at` the given one; addresses count bytes. The
-//! only error is `MemoryOutOfBounds`, and then nothing is written. Core specification: memory instructions. Upstream:
-//! `wasmi_core::wasm`.
+//! A form without `_at` accesses the address `ptr + offset`, a form with `_at` the given one;
+//! addresses count bytes. The only error is `MemoryOutOfBounds`, and then nothing is written. Core
+//! specification: memory instructions. Upstream: `wasmi_core::wasm`.
 
 ghost use Rattle.std.specs.Prelude.{◌≡◌, ◌+◌, ◌%◌, ◌^◌, pos};
 ghost use Rattle.std.specs.Int.{w8, w16, w32, w64, cast_signed, cast_unsigned};
@@ -210,7 +210,8 @@ pub fn load_u64_at(memory: &[u8], address: usize) -> Result<u64, TrapCode>
 #[inline]
 #[tactic(auto, using(crate::proofs::WrapLemmas::image_8_32))]
 pub fn i32_store8(memory: &mut [u8], ptr: u64, offset: u64, value: i32) -> Result<(), TrapCode>
-    ensures { IsStore memory.old (ptr + offset) (le_bytes 1 (cast_unsigned w32 value % 2 ^ 8)) memory.new result }
+    ensures { IsStore memory.old (ptr + offset)
+        (le_bytes 1 (cast_unsigned w32 value % 2 ^ 8)) memory.new result }
 {
     store_wrap::<i32, i8>(memory, ptr, offset, value)
 }
@@ -219,7 +220,8 @@ pub fn i32_store8(memory: &mut [u8], ptr: u64, offset: u64, value: i32) -> Resul
 #[inline]
 #[tactic(auto, using(crate::proofs::WrapLemmas::image_8_32))]
 pub fn i32_store8_at(memory: &mut [u8], address: usize, value: i32) -> Result<(), TrapCode>
-    ensures { IsStore memory.old address (le_bytes 1 (cast_unsigned w32 value % 2 ^ 8)) memory.new result }
+    ensures { IsStore memory.old address
+        (le_bytes 1 (cast_unsigned w32 value % 2 ^ 8)) memory.new result }
 {
     store_wrap_at::<i32, i8>(memory, address, value)
 }
@@ -228,7 +230,8 @@ pub fn i32_store8_at(memory: &mut [u8], address: usize, value: i32) -> Result<()
 #[inline]
 #[tactic(auto, using(crate::proofs::WrapLemmas::image_16_32))]
 pub fn i32_store16(memory: &mut [u8], ptr: u64, offset: u64, value: i32) -> Result<(), TrapCode>
-    ensures { IsStore memory.old (ptr + offset) (le_bytes 2 (cast_unsigned w32 value % 2 ^ 16)) memory.new result }
+    ensures { IsStore memory.old (ptr + offset)
+        (le_bytes 2 (cast_unsigned w32 value % 2 ^ 16)) memory.new result }
 {
     store_wrap::<i32, i16>(memory, ptr, offset, value)
 }
@@ -237,7 +240,8 @@ pub fn i32_store16(memory: &mut [u8], ptr: u64, offset: u64, value: i32) -> Resu
 #[inline]
 #[tactic(auto, using(crate::proofs::WrapLemmas::image_16_32))]
 pub fn i32_store16_at(memory: &mut [u8], address: usize, value: i32) -> Result<(), TrapCode>
-    ensures { IsStore memory.old address (le_bytes 2 (cast_unsigned w32 value % 2 ^ 16)) memory.new result }
+    ensures { IsStore memory.old address
+        (le_bytes 2 (cast_unsigned w32 value % 2 ^ 16)) memory.new result }
 {
     store_wrap_at::<i32, i16>(memory, address, value)
 }
@@ -246,7 +250,8 @@ pub fn i32_store16_at(memory: &mut [u8], address: usize, value: i32) -> Result<(
 #[inline]
 #[tactic(auto, using(crate::proofs::WrapLemmas::image_8_64))]
 pub fn i64_store8(memory: &mut [u8], ptr: u64, offset: u64, value: i64) -> Result<(), TrapCode>
-    ensures { IsStore memory.old (ptr + offset) (le_bytes 1 (cast_unsigned w64 value % 2 ^ 8)) memory.new result }
+    ensures { IsStore memory.old (ptr + offset)
+        (le_bytes 1 (cast_unsigned w64 value % 2 ^ 8)) memory.new result }
 {
     store_wrap::<i64, i8>(memory, ptr, offset, value)
 }
@@ -255,7 +260,8 @@ pub fn i64_store8(memory: &mut [u8], ptr: u64, offset: u64, value: i64) -> Resul
 #[inline]
 #[tactic(auto, using(crate::proofs::WrapLemmas::image_8_64))]
 pub fn i64_store8_at(memory: &mut [u8], address: usize, value: i64) -> Result<(), TrapCode>
-    ensures { IsStore memory.old address (le_bytes 1 (cast_unsigned w64 value % 2 ^ 8)) memory.new result }
+    ensures { IsStore memory.old address
+        (le_bytes 1 (cast_unsigned w64 value % 2 ^ 8)) memory.new result }
 {
     store_wrap_at::<i64, i8>(memory, address, value)
 }
@@ -264,7 +270,8 @@ pub fn i64_store8_at(memory: &mut [u8], address: usize, value: i64) -> Result<()
 #[inline]
 #[tactic(auto, using(crate::proofs::WrapLemmas::image_16_64))]
 pub fn i64_store16(memory: &mut [u8], ptr: u64, offset: u64, value: i64) -> Result<(), TrapCode>
-    ensures { IsStore memory.old (ptr + offset) (le_bytes 2 (cast_unsigned w64 value % 2 ^ 16)) memory.new result }
+    ensures { IsStore memory.old (ptr + offset)
+        (le_bytes 2 (cast_unsigned w64 value % 2 ^ 16)) memory.new result }
 {
     store_wrap::<i64, i16>(memory, ptr, offset, value)
 }
@@ -273,7 +280,8 @@ pub fn i64_store16(memory: &mut [u8], ptr: u64, offset: u64, value: i64) -> Resu
 #[inline]
 #[tactic(auto, using(crate::proofs::WrapLemmas::image_16_64))]
 pub fn i64_store16_at(memory: &mut [u8], address: usize, value: i64) -> Result<(), TrapCode>
-    ensures { IsStore memory.old address (le_bytes 2 (cast_unsigned w64 value % 2 ^ 16)) memory.new result }
+    ensures { IsStore memory.old address
+        (le_bytes 2 (cast_unsigned w64 value % 2 ^ 16)) memory.new result }
 {
     store_wrap_at::<i64, i16>(memory, address, value)
 }
@@ -282,7 +290,8 @@ pub fn i64_store16_at(memory: &mut [u8], address: usize, value: i64) -> Result<(
 #[inline]
 #[tactic(auto, using(crate::proofs::WrapLemmas::image_32_64))]
 pub fn i64_store32(memory: &mut [u8], ptr: u64, offset: u64, value: i64) -> Result<(), TrapCode>
-    ensures { IsStore memory.old (ptr + offset) (le_bytes 4 (cast_unsigned w64 value % 2 ^ 32)) memory.new result }
+    ensures { IsStore memory.old (ptr + offset)
+        (le_bytes 4 (cast_unsigned w64 value % 2 ^ 32)) memory.new result }
 {
     store_wrap::<i64, i32>(memory, ptr, offset, value)
 }
@@ -291,7 +300,8 @@ pub fn i64_store32(memory: &mut [u8], ptr: u64, offset: u64, value: i64) -> Resu
 #[inline]
 #[tactic(auto, using(crate::proofs::WrapLemmas::image_32_64))]
 pub fn i64_store32_at(memory: &mut [u8], address: usize, value: i64) -> Result<(), TrapCode>
-    ensures { IsStore memory.old address (le_bytes 4 (cast_unsigned w64 value % 2 ^ 32)) memory.new result }
+    ensures { IsStore memory.old address
+        (le_bytes 4 (cast_unsigned w64 value % 2 ^ 32)) memory.new result }
 {
     store_wrap_at::<i64, i32>(memory, address, value)
 }

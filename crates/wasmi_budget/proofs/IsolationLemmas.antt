@@ -9,7 +9,7 @@ use Rattle.std.specs.Prelude.{All, MatchBool, if◌then◌else◌, nat_eq, slice
 use Rattle.std.specs.Option.{option_map}
 use Rattle.wasmi_meter.specs.declared.limiter.Kind.{Kind}
 use Rattle.wasmi_meter.specs.declared.limiter.Kind.TheVariants.{Bytes, Elements}
-use Rattle.wasmi_meter.specs.Limiter.{Question, Answer, Failure, Heed, optional_rules}
+use Rattle.wasmi_meter.specs.Limiter.{Question, Answer, Failure, NoticeAnswer, optional_rules}
 use Rattle.wasmi_core.specs.declared.calls.Call.{Call}
 use Rattle.wasmi_core.specs.declared.calls.Reply.{Reply}
 use Rattle.wasmi_core.specs.State.{State}
@@ -32,7 +32,8 @@ amount_of-nothing : (kind : Kind) → amount_of nothing kind ≡ 0
 amount_of-nothing Bytes = refl
 amount_of-nothing Elements = refl
 
-permitted_alone : (tenant tenant' : Tenant) (q : Question) (answer : Answer) → answer ≡ Ok true → Asked tenant q answer tenant' → Asked (alone tenant) q answer (alone tenant')
+permitted_alone : (tenant tenant' : Tenant) (q : Question) (answer : Answer) → answer ≡ Ok true
+    → Asked tenant q answer tenant' → Asked (alone tenant) q answer (alone tenant')
 permitted_alone tenant tenant' q answer permitted (taken, answered, takes) =
     elim (cases_lt (amount_of tenant.caps q.kind) (held_together tenant q.kind + (q.desired - q.current))) [
       | inl above ↦ absurd (no_permission permitted answered (takes.above above).0)
@@ -49,85 +50,129 @@ permitted_alone tenant tenant' q answer permitted (taken, answered, takes) =
 alone_carries : Carries (option_map alone) (permitting (optional_rules tenant_rules)) (optional_rules tenant_rules)
 alone_carries = record { asked = asks; noticed = notices }
   where
-    asks : (l : Option Tenant) (q : Question) (answer : Answer) (l' : Option Tenant) → (permitting (optional_rules tenant_rules)).asked l q answer l' → (optional_rules tenant_rules).asked (option_map alone l) q answer (option_map alone l')
+    asks : (l : Option Tenant) (q : Question) (answer : Answer) (l' : Option Tenant)
+        → (permitting (optional_rules tenant_rules)).asked l q answer l'
+        → (optional_rules tenant_rules).asked (option_map alone l) q answer (option_map alone l')
     asks (Some l) q answer (Some l') (permitted, asked) = permitted_alone l l' q answer permitted asked
     asks (Some l) q answer None (permitted, asked) = absurd asked
     asks None q answer (Some l') (permitted, asked) = absurd asked
     asks None q answer None (permitted, asked) = permitted
 
-    notices : (l : Option Tenant) (failure : Failure) (heed : Heed) (l' : Option Tenant) → (optional_rules tenant_rules).noticed l failure heed l' → (optional_rules tenant_rules).noticed (option_map alone l) failure heed (option_map alone l')
-    notices (Some l) failure heed (Some l') (heeded, after) = (heeded, ap alone after)
-    notices (Some l) failure heed None noticed = absurd noticed
-    notices None failure heed (Some l') noticed = absurd noticed
-    notices None failure heed None noticed = noticed
+    notices : (l : Option Tenant) (failure : Failure) (notice_answer : NoticeAnswer) (l' : Option Tenant)
+        → (optional_rules tenant_rules).noticed l failure notice_answer l'
+        → (optional_rules tenant_rules).noticed (option_map alone l) failure notice_answer (option_map alone l')
+    notices (Some l) failure notice_answer (Some l') (accepted, after) = (accepted, ap alone after)
+    notices (Some l) failure notice_answer None noticed = absurd noticed
+    notices None failure notice_answer (Some l') noticed = absurd noticed
+    notices None failure notice_answer None noticed = noticed
 
 pub others_do_not_show : OthersDontShow
-others_do_not_show s s' tenant tenant' turns ran = runs_too (option_map alone) (permitting (optional_rules tenant_rules)) (optional_rules tenant_rules) alone_carries _ turns _ ran
+others_do_not_show s s' tenant tenant' turns ran =
+    runs_too (option_map alone) (permitting (optional_rules tenant_rules))
+    (optional_rules tenant_rules) alone_carries _ turns _ ran
 
 true_not_false : false ≡ true → ⊥
 true_not_false same = cc
 
 -- a machine is at its index after another one was added, or has become another
-kept_added : (machines : List State) (index : ℕ) (s added : State) → slice_get machines index ≡ Some s → slice_get (machines ++ added ∷ []) index ≡ Some s
+kept_added : (machines : List State) (index : ℕ) (s added : State) → slice_get machines index ≡ Some s
+    → slice_get (machines ++ added ∷ []) index ≡ Some s
 kept_added machines index s added found =
     let inside = slice_get_within machines index s found in
-    slice_get_read (machines ++ added ∷ []) (length machines + 1) index s (sym (length-append machines (added ∷ []))) (omega (arith, inside))
+    slice_get_read (machines ++ added ∷ []) (length machines + 1) index s (sym (length-append machines (added ∷ [])))
+    (omega (arith, inside))
     (sym (get_or_append_left machines (added ∷ []) s index inside ∙ get_or_from_slice_get machines index s s found))
 
-kept_set : (machines : List State) (index i : ℕ) (s t : State) → index ≢ i → slice_get machines index ≡ Some s → slice_get (slice_set machines i t) index ≡ Some s
+kept_set : (machines : List State) (index i : ℕ) (s t : State) → index ≢ i → slice_get machines index ≡ Some s
+    → slice_get (slice_set machines i t) index ≡ Some s
 kept_set machines index i s t other found =
-    slice_get_read (slice_set machines i t) (length machines) index s (sym (length-set machines i t)) (slice_get_within machines index s found)
+    slice_get_read (slice_set machines i t) (length machines) index s (sym (length-set machines i t))
+    (slice_get_within machines index s found)
     (sym (get_or-set_other machines i index t s other ∙ get_or_from_slice_get machines index s s found))
 
 -- the machine that was set at an index
-set_at : (machines : List State) (index : ℕ) (s t : State) → slice_get machines index ≡ Some s → slice_get (slice_set machines index t) index ≡ Some t
+set_at : (machines : List State) (index : ℕ) (s t : State) → slice_get machines index ≡ Some s
+    → slice_get (slice_set machines index t) index ≡ Some t
 set_at machines index s t found =
     let inside = slice_get_within machines index s found in
-    slice_get_read (slice_set machines index t) (length machines) index t (sym (length-set machines index t)) inside (sym (get_or-set_same machines index t t inside))
+    slice_get_read (slice_set machines index t) (length machines) index t (sym (length-set machines index t)) inside
+    (sym (get_or-set_same machines index t t inside))
 
 -- a pool of one machine
 abbrev only : Amounts → State → PoolValue
 only caps s = record { caps = caps; machines = s ∷ [] }
 
 -- a permitted run in a pool of its own
-run_alone : (pool : PoolValue) (index : ℕ) (calls : List Call) (replies : List Reply) (pool' : PoolValue) (runs : RunsTenantBy (permitting (optional_rules tenant_rules)) pool index calls replies pool') → RunsTenant (only pool.caps runs.machine) 0 calls replies (only pool.caps runs.machine')
+run_alone : (pool : PoolValue) (index : ℕ) (calls : List Call) (replies : List Reply) (pool' : PoolValue)
+    (runs : RunsTenantBy (permitting (optional_rules tenant_rules)) pool index calls replies pool')
+    → RunsTenant (only pool.caps runs.machine) 0 calls replies (only pool.caps runs.machine')
 run_alone pool index calls replies pool' runs = record {
   machine = runs.machine;
   found = refl;
   machine' = runs.machine';
   tenant' = alone runs.tenant';
-  ran = (runs.ran.0, runs.ran.1, runs.ran.2, others_do_not_show runs.machine runs.machine' (tenant_at pool index runs.machine) runs.tenant' runs.ran.0 runs.ran.3);
+  ran = (
+    runs.ran.0,
+    runs.ran.1,
+    runs.ran.2,
+    others_do_not_show runs.machine runs.machine'
+        (tenant_at pool index runs.machine) runs.tenant' runs.ran.0 runs.ran.3,
+  );
   after = refl;
 }
 
 module _ (caps : Amounts) (index : ℕ) (pool' : PoolValue) where
   -- turns alone lead the machine s to the one that the pool ends with
   abbrev EndsAlone : State → List PoolTurn → Type 0
-  EndsAlone s turns = (s' : State) × (slice_get pool'.machines index ≡ Some s') × PoolRun (only caps s) turns (only caps s')
+  EndsAlone s turns =
+      (s' : State) × (slice_get pool'.machines index ≡ Some s') × PoolRun (only caps s) turns (only caps s')
 
-  module _ (pool : PoolValue) (capped : pool.caps ≡ caps) (s : State) (found : slice_get pool.machines index ≡ Some s) (i : ℕ) (calls : List Call) (replies : List Reply) (next : PoolValue) (turns : List PoolTurn) (rest : (t : State) → next.caps ≡ caps → slice_get next.machines index ≡ Some t → EndsAlone t turns) where
-    ran_alone : (same : Bool) → Decides same (i ≡ index) → MatchBool same (RunsTenantBy (permitting (optional_rules tenant_rules)) pool i calls replies next) (RunsTenant pool i calls replies next) → EndsAlone s (if same then Ran 0 calls replies ∷ turns else turns)
+  module _ (pool : PoolValue) (capped : pool.caps ≡ caps) (s : State) (found : slice_get pool.machines index ≡ Some s)
+      (i : ℕ) (calls : List Call) (replies : List Reply) (next : PoolValue) (turns : List PoolTurn)
+      (rest : (t : State) → next.caps ≡ caps → slice_get next.machines index ≡ Some t → EndsAlone t turns) where
+    ran_alone : (same : Bool) → Decides same (i ≡ index)
+        → MatchBool same (RunsTenantBy (permitting (optional_rules tenant_rules)) pool i calls replies next)
+        (RunsTenant pool i calls replies next) → EndsAlone s (if same then Ran 0 calls replies ∷ turns else turns)
     ran_alone true decides runs =
         let is = decides.0 refl in
         let own = same_Some runs.machine s (sym runs.found ∙ ap (slice_get pool.machines) is ∙ found) in
-        let at = ap (λ (p : PoolValue). slice_get p.machines index) runs.after ∙ ap (λ k. slice_get (slice_set pool.machines k runs.machine') index) is ∙ set_at pool.machines index s runs.machine' found in
+        let at = ap (λ (p : PoolValue). slice_get p.machines index) runs.after
+        ∙ ap (λ k. slice_get (slice_set pool.machines k runs.machine') index) is
+        ∙ set_at pool.machines index s runs.machine' found in
         let tail = rest runs.machine' (ap PoolValue.caps runs.after ∙ capped) at in
-        let step = subst (λ c. RunsTenant (only c runs.machine) 0 calls replies (only c runs.machine')) capped (run_alone pool i calls replies next runs) in
-        (tail.0, tail.1, (only caps runs.machine', subst (λ t. RunsTenant (only caps t) 0 calls replies (only caps runs.machine')) own step, tail.2))
+        let step = subst (λ c. RunsTenant (only c runs.machine) 0 calls replies (only c runs.machine')) capped
+        (run_alone pool i calls replies next runs) in (
+          tail.0,
+          tail.1,
+          (
+            only caps runs.machine',
+            subst (λ t. RunsTenant (only caps t) 0 calls replies (only caps runs.machine')) own step,
+            tail.2,
+          ),
+        )
     ran_alone false decides runs =
-        rest s (ap PoolValue.caps runs.after ∙ capped) (ap (λ (p : PoolValue). slice_get p.machines index) runs.after ∙ kept_set pool.machines index i s runs.machine' (λ same. absurd (true_not_false (decides.1 (sym same)))) found)
+        rest s (ap PoolValue.caps runs.after ∙ capped)
+        (ap (λ (p : PoolValue). slice_get p.machines index) runs.after
+        ∙ kept_set pool.machines index i s runs.machine'
+        (λ same. absurd (true_not_false (decides.1 (sym same)))) found)
 
-  ends_alone : (pool : PoolValue) → pool.caps ≡ caps → (s : State) → slice_get pool.machines index ≡ Some s → (turns : List PoolTurn) → PermittingRun index pool turns pool' → EndsAlone s (own_turns index turns)
+  ends_alone : (pool : PoolValue) → pool.caps ≡ caps → (s : State) → slice_get pool.machines index ≡ Some s
+      → (turns : List PoolTurn) → PermittingRun index pool turns pool' → EndsAlone s (own_turns index turns)
   ends_alone pool capped s found [] ran = (s, ap (λ (p : PoolValue). slice_get p.machines index) ran ∙ found, refl)
   ends_alone pool capped s found (Added a ∷ turns) (next, adds, ran) =
-      ends_alone next (ap PoolValue.caps adds.added ∙ capped) s (ap (λ (p : PoolValue). slice_get p.machines index) adds.added ∙ kept_added pool.machines index s a found) turns ran
+      ends_alone next (ap PoolValue.caps adds.added ∙ capped) s
+      (ap (λ (p : PoolValue). slice_get p.machines index) adds.added ∙ kept_added pool.machines index s a found)
+      turns ran
   ends_alone pool capped s found (Ran i calls replies ∷ turns) (next, runs, ran) =
-      ran_alone pool capped s found i calls replies next (own_turns index turns) (λ t caps at. ends_alone next caps t at turns ran) (nat_eq i index) (Decides-eqb i index) runs
+      ran_alone pool capped s found i calls replies next (own_turns index turns)
+      (λ t caps at. ends_alone next caps t at turns ran) (nat_eq i index) (Decides-eqb i index) runs
   ends_alone pool capped s found (Refused ∷ turns) (next, same, ran) =
-      ends_alone next (ap PoolValue.caps same ∙ capped) s (ap (λ (p : PoolValue). slice_get p.machines index) same ∙ found) turns ran
+      ends_alone next (ap PoolValue.caps same ∙ capped) s
+      (ap (λ (p : PoolValue). slice_get p.machines index) same ∙ found) turns ran
 
 pub permitted_runs_as_alone : RunsAsAlone
-permitted_runs_as_alone pool index s found turns pool' ran = ends_alone pool.caps index pool' pool refl s found turns ran
+permitted_runs_as_alone pool index s found turns pool' ran =
+    ends_alone pool.caps index pool' pool refl s found turns ran
 
 -- a run of which no reply tells of a denial
 pub replies_permit : RepliesPermit
@@ -140,7 +185,8 @@ replies_permit pool index calls replies pool' shown ran = record {
     ran.ran.0,
     ran.ran.1,
     ran.ran.2,
-    permitted_run (optional_rules tenant_rules) _ ran.ran.0 _ (subst (All TellsNoDenial) (sym ran.ran.2) shown) ran.ran.3,
+    permitted_run (optional_rules tenant_rules) _ ran.ran.0 _
+        (subst (All TellsNoDenial) (sym ran.ran.2) shown) ran.ran.3,
   );
   after = ran.after;
 }

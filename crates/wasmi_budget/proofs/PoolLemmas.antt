@@ -27,24 +27,30 @@ module _ (machines : List State) (index : ℕ) (s : State) (found : slice_get ma
   -- all is what a machine has, and what the others have
   pub total_split : total_of (remove machines index) kind + total s kind ≡ total_of machines kind
   total_split =
-      ap (λ t. total_of (remove machines index) kind + total t kind) (sym (get_or_from_slice_get machines index s s found))
+      ap (λ t. total_of (remove machines index) kind + total t kind)
+      (sym (get_or_from_slice_get machines index s s found))
       ∙ sum_by-remove (λ t. total t kind) machines index s (slice_get_within machines index s found)
 
   -- also where the machine has become another one
-  total_replaced : (s' : State) → total_of (slice_set machines index s') kind ≡ total_of (remove machines index) kind + total s' kind
+  total_replaced : (s' : State)
+      → total_of (slice_set machines index s') kind ≡ total_of (remove machines index) kind + total s' kind
   total_replaced s' =
       let set = sum_by-set (λ t. total t kind) machines index s' s (slice_get_within machines index s found) in
       let own = ap (λ t. total t kind) (get_or_from_slice_get machines index s s found) in
       omega (arith, set, own, total_split)
 
 -- what one machine has is a number of 64 bits
-pub total_fits : (pool : PoolValue) → IsKept pool → (index : ℕ) (s : State) → slice_get pool.machines index ≡ Some s → (kind : Kind) → total s kind < 2 ^ 64
-total_fits pool kept index s found kind = let split = total_split pool.machines index s found kind in let within = kept.within kind in let fits = kept.fits kind in omega (arith, split, within, fits)
+pub total_fits : (pool : PoolValue) → IsKept pool → (index : ℕ) (s : State) → slice_get pool.machines index ≡ Some s
+    → (kind : Kind) → total s kind < 2 ^ 64
+total_fits pool kept index s found kind = let split = total_split pool.machines index s found kind in let within =
+    kept.within kind in let fits = kept.fits kind in omega (arith, split, within, fits)
 
 -- so is what it has beside those before it
-pub total_so_far : (pool : PoolValue) → IsKept pool → (index : ℕ) (s : State) → slice_get pool.machines index ≡ Some s → (kind : Kind) → total_of (take index pool.machines) kind + total s kind < 2 ^ 64
+pub total_so_far : (pool : PoolValue) → IsKept pool → (index : ℕ) (s : State) → slice_get pool.machines index ≡ Some s
+    → (kind : Kind) → total_of (take index pool.machines) kind + total s kind < 2 ^ 64
 total_so_far pool kept index s found kind =
-    let more = sum_by_more_le (λ t. total t kind) pool.machines index s (slice_get_within pool.machines index s found) in
+    let more = sum_by_more_le (λ t. total t kind) pool.machines index s
+    (slice_get_within pool.machines index s found) in
     let own = ap (λ t. total t kind) (get_or_from_slice_get pool.machines index s s found) in
     let within = kept.within kind in
     let fits = kept.fits kind in
@@ -56,26 +62,31 @@ amount_of-amounts_of amount Bytes = refl
 amount_of-amounts_of amount Elements = refl
 
 -- a tenant that holds what a machine has
-amount_held_total : (tenant : Tenant) (s : State) → HoldsTotals (holdings tenant) s → (kind : Kind) → amount_of tenant.held kind ≡ total s kind
+amount_held_total : (tenant : Tenant) (s : State) → HoldsTotals (holdings tenant) s → (kind : Kind)
+    → amount_of tenant.held kind ≡ total s kind
 amount_held_total tenant s held Bytes = held.bytes
 amount_held_total tenant s held Elements = held.elements
 
 -- a tenant before its run holds together with the others what all machines have
-tenant_held_together : (pool : PoolValue) (index : ℕ) (s : State) → slice_get pool.machines index ≡ Some s → (kind : Kind) → held_together (tenant_at pool index s) kind ≡ total_of pool.machines kind
+tenant_held_together : (pool : PoolValue) (index : ℕ) (s : State) → slice_get pool.machines index ≡ Some s
+    → (kind : Kind) → held_together (tenant_at pool index s) kind ≡ total_of pool.machines kind
 tenant_held_together pool index s found Bytes = total_split pool.machines index s found Bytes
 tenant_held_together pool index s found Elements = total_split pool.machines index s found Elements
 
 -- what a limiter is made of: what all machines have, and what one of them has
-mapped : {A B : Type 0} (f : A → B) (o : Option A) (y : B) → option_map f o ≡ Some y → (x : A) × (o ≡ Some x) × (y ≡ f x)
+mapped : {A B : Type 0} (f : A → B) (o : Option A) (y : B) → option_map f o ≡ Some y
+    → (x : A) × (o ≡ Some x) × (y ≡ f x)
 mapped f None y is = absurd (none-some y is)
 mapped f (Some x) y is = (x, refl, sym (same_Some (f x) y is))
 
 module _ (pool : PoolValue) (index : ℕ) where
-  module _ (held : Amounts) (is : option_map (λ s. amounts_of (total s)) (slice_get pool.machines index) ≡ Some held) where
+  module _ (held : Amounts)
+      (is : option_map (λ s. amounts_of (total s)) (slice_get pool.machines index) ≡ Some held) where
     found : (s : State) × (slice_get pool.machines index ≡ Some s) × (held ≡ amounts_of (total s))
     found = mapped (λ s. amounts_of (total s)) (slice_get pool.machines index) held is
 
-    others_left : (kind : Kind) → amount_of held kind + total_of (remove pool.machines index) kind ≡ total_of pool.machines kind
+    others_left : (kind : Kind)
+        → amount_of held kind + total_of (remove pool.machines index) kind ≡ total_of pool.machines kind
     others_left kind =
         let split = total_split pool.machines index found.0 found.1 kind in
         let own = ap (λ amounts. amount_of amounts kind) found.2 ∙ amount_of-amounts_of (total found.0) kind in
@@ -86,35 +97,79 @@ module _ (pool : PoolValue) (index : ℕ) where
     held_within kind = let others = others_left kind in omega (arith, others)
 
     -- the limiter beside the others
-    pub tenant_beside : Some (record { caps = pool.caps; others = record { bytes = total_of pool.machines Bytes - held.bytes; elements = total_of pool.machines Elements - held.elements }; held = held; last = None })
+    pub tenant_beside : Some
+        (record {
+          caps = pool.caps;
+          others = record {
+            bytes = total_of pool.machines Bytes - held.bytes;
+            elements = total_of pool.machines Elements - held.elements;
+          };
+          held = held;
+          last = None;
+        })
         ≡ option_map (tenant_at pool index) (slice_get pool.machines index)
     tenant_beside =
-        let bytes : total_of pool.machines Bytes - held.bytes ≡ total_of (remove pool.machines index) Bytes = let others = others_left Bytes in omega (arith, others) in
-        let elements : total_of pool.machines Elements - held.elements ≡ total_of (remove pool.machines index) Elements = let others = others_left Elements in omega (arith, others) in
-        let beside : Some (record { caps = pool.caps; others = record { bytes = total_of pool.machines Bytes - held.bytes; elements = total_of pool.machines Elements - held.elements }; held = held; last = None }) ≡ Some (tenant_at pool index found.0) = λ i. Some (record { caps = pool.caps; others = record { bytes = bytes i; elements = elements i }; held = found.2 i; last = None }) in
+        let bytes : total_of pool.machines Bytes - held.bytes ≡ total_of (remove pool.machines index) Bytes =
+        let others = others_left Bytes in omega (arith, others) in
+        let elements : total_of pool.machines Elements - held.elements
+        ≡ total_of (remove pool.machines index) Elements = let others =
+        others_left Elements in omega (arith, others) in
+        let beside : Some
+        (record {
+          caps = pool.caps;
+          others = record {
+            bytes = total_of pool.machines Bytes - held.bytes;
+            elements = total_of pool.machines Elements - held.elements;
+          };
+          held = held;
+          last = None;
+        })
+        ≡ Some (tenant_at pool index found.0) =
+        λ i. Some (record {
+          caps = pool.caps;
+          others = record { bytes = bytes i; elements = elements i };
+          held = found.2 i;
+          last = None;
+        }) in
         beside ∙ ap (option_map (tenant_at pool index)) (sym found.1)
 
 -- a machine becomes another under its limiter
-module _ (pool : PoolValue) (within : IsWithinCaps pool) (index : ℕ) (s : State) (found : slice_get pool.machines index ≡ Some s) (s' : State) (tenant' : Tenant) where
+module _ (pool : PoolValue) (within : IsWithinCaps pool) (index : ℕ) (s : State)
+    (found : slice_get pool.machines index ≡ Some s) (s' : State) (tenant' : Tenant) where
   first_stays : StaysWithin (tenant_at pool index s) (tenant_at pool index s)
-  first_stays = record { caps = refl; others = refl; within = λ kind. rw (tenant_held_together pool index s found kind) (within kind) }
+  first_stays =
+      record {
+        caps = refl;
+        others = refl;
+        within = λ kind. rw (tenant_held_together pool index s found kind) (within kind);
+      }
 
-  replaced_within : StaysWithin (tenant_at pool index s) tenant' → HoldsTotals (holdings tenant') s' → IsWithinCaps (record pool { machines = slice_set pool.machines index s' })
+  replaced_within : StaysWithin (tenant_at pool index s) tenant' → HoldsTotals (holdings tenant') s'
+      → IsWithinCaps (record pool { machines = slice_set pool.machines index s' })
   replaced_within stays held kind =
       let own = amount_held_total tenant' s' held kind in
       let all = total_replaced pool.machines index s found kind s' in
       let bound = stays.within kind in
-      let others = ap (λ amounts. amount_of amounts kind) stays.others ∙ amount_of-amounts_of (total_of (remove pool.machines index)) kind in
+      let others = ap (λ amounts. amount_of amounts kind) stays.others
+      ∙ amount_of-amounts_of (total_of (remove pool.machines index)) kind in
       let caps = ap (λ amounts. amount_of amounts kind) stays.caps in
       omega (arith, own, all, bound, others, caps)
 
-  ran_within : (turns : List Turn) → Run (optional_rules tenant_rules) (record { state = s; limiter = Some (tenant_at pool index s) }) turns (record { state = s'; limiter = Some tenant' }) → StaysWithin (tenant_at pool index s) tenant'
-  ran_within turns ran = run_stays_within (tenant_at pool index s) first_stays.within _ (record { state = s'; limiter = Some tenant' }) turns tenant' refl refl ran
+  ran_within : (turns : List Turn)
+      → Run (optional_rules tenant_rules) (record { state = s; limiter = Some (tenant_at pool index s) }) turns
+      (record { state = s'; limiter = Some tenant' }) → StaysWithin (tenant_at pool index s) tenant'
+  ran_within turns ran =
+      run_stays_within (tenant_at pool index s) first_stays.within _
+      (record { state = s'; limiter = Some tenant' }) turns tenant' refl refl ran
 
--- what `Pool::run` has done: a tenant that the pool gave out, the machine that was read at its index, and what both have become
-module _ (pool now : PoolValue) (same : pool ≡ now) (index : ℕ) (tenant : Tenant) (given : option_map (tenant_at now index) (slice_get now.machines index) ≡ Some tenant) where
+-- what `Pool::run` has done: a tenant that the pool gave out, the machine that was read at its index, and what both
+-- have become
+module _ (pool now : PoolValue) (same : pool ≡ now) (index : ℕ) (tenant : Tenant)
+    (given : option_map (tenant_at now index) (slice_get now.machines index) ≡ Some tenant) where
   machine_given : (x : State) × (slice_get pool.machines index ≡ Some x) × (tenant ≡ tenant_at pool index x)
-  machine_given = mapped (tenant_at pool index) (slice_get pool.machines index) tenant (ap (λ p. option_map (tenant_at p index) (slice_get p.machines index)) same ∙ given)
+  machine_given =
+      mapped (tenant_at pool index) (slice_get pool.machines index) tenant
+      (ap (λ p. option_map (tenant_at p index) (slice_get p.machines index)) same ∙ given)
 
   -- the index is one of the pool's
   pub given_inside : index < length pool.machines
@@ -135,12 +190,20 @@ module _ (pool now : PoolValue) (same : pool ≡ now) (index : ℕ) (tenant : Te
     given_holds = subst (λ t. HoldsTotals (holdings t) s) (sym given_tenant) (record { bytes = refl; elements = refl })
 
     module _ (s' : State) (tenant' : Tenant) (calls : List Call) where
-      given_ran : (replies : List Reply) → IsRunOf (optional_rules tenant_rules) calls (record { state = s; limiter = Some tenant }) replies (record { state = s'; limiter = Some tenant' })
-          → IsRunOf (optional_rules tenant_rules) calls (record { state = s; limiter = Some (tenant_at pool index s) }) replies (record { state = s'; limiter = Some tenant' })
-      given_ran replies ran = subst (λ t. IsRunOf (optional_rules tenant_rules) calls (record { state = s; limiter = Some t }) replies (record { state = s'; limiter = Some tenant' })) given_tenant ran
+      given_ran : (replies : List Reply)
+          → IsRunOf (optional_rules tenant_rules) calls (record { state = s; limiter = Some tenant }) replies
+          (record { state = s'; limiter = Some tenant' })
+          → IsRunOf (optional_rules tenant_rules) calls
+          (record { state = s; limiter = Some (tenant_at pool index s) }) replies
+          (record { state = s'; limiter = Some tenant' })
+      given_ran replies ran =
+          subst (λ t. IsRunOf (optional_rules tenant_rules) calls (record { state = s; limiter = Some t }) replies
+          (record { state = s'; limiter = Some tenant' })) given_tenant ran
 
       -- an accepted run
-      pub given_runs : (replies : List Reply) → IsRunOf (optional_rules tenant_rules) calls (record { state = s; limiter = Some tenant }) replies (record { state = s'; limiter = Some tenant' })
+      pub given_runs : (replies : List Reply)
+          → IsRunOf (optional_rules tenant_rules) calls (record { state = s; limiter = Some tenant }) replies
+          (record { state = s'; limiter = Some tenant' })
           → RunsTenant pool index calls replies (record pool { machines = slice_set pool.machines index s' })
       given_runs replies ran = record {
         machine = s;
@@ -153,42 +216,60 @@ module _ (pool now : PoolValue) (same : pool ≡ now) (index : ℕ) (tenant : Te
 
       -- the pool stays within its caps, by the two outcomes
       pub given_within : {R E : Type 0} (items : R → List Reply) (result : Result R E) → IsWithinCaps pool
-          → IfOk result (λ replies. IsRunOf (optional_rules tenant_rules) calls (record { state = s; limiter = Some tenant }) (items replies) (record { state = s'; limiter = Some tenant' }))
-          → OnErr result ((s' ≡ s) × (tenant' ≡ tenant)) → HoldsTotals (holdings tenant') s' → IsWithinCaps (record pool { machines = slice_set pool.machines index s' })
+          → IfOk result
+          (λ replies. IsRunOf (optional_rules tenant_rules) calls (record { state = s; limiter = Some tenant })
+          (items replies) (record { state = s'; limiter = Some tenant' }))
+          → OnErr result ((s' ≡ s) × (tenant' ≡ tenant)) → HoldsTotals (holdings tenant') s'
+          → IsWithinCaps (record pool { machines = slice_set pool.machines index s' })
       given_within items (Ok replies) within ran same held =
           let own = given_ran (items replies) ran in
-          replaced_within pool within index s found_given s' tenant' (ran_within pool within index s found_given s' tenant' own.0 own.3) held
+          replaced_within pool within index s found_given s' tenant'
+          (ran_within pool within index s found_given s' tenant' own.0 own.3) held
       given_within items (Err error) within ran same held =
-          replaced_within pool within index s found_given s' tenant' (subst (StaysWithin (tenant_at pool index s)) (sym (same.1 ∙ given_tenant)) (first_stays pool within index s found_given s' tenant')) held
+          replaced_within pool within index s found_given s' tenant'
+          (subst (StaysWithin (tenant_at pool index s)) (sym (same.1 ∙ given_tenant))
+          (first_stays pool within index s found_given s' tenant')) held
 
 -- a run keeps the pool within its caps
-pub runs_within : (pool : PoolValue) (index : ℕ) (calls : List Call) (replies : List Reply) (pool' : PoolValue) → IsWithinCaps pool → RunsTenant pool index calls replies pool' → IsWithinCaps pool'
+pub runs_within : (pool : PoolValue) (index : ℕ) (calls : List Call) (replies : List Reply) (pool' : PoolValue)
+    → IsWithinCaps pool → RunsTenant pool index calls replies pool' → IsWithinCaps pool'
 runs_within pool index calls replies pool' within runs =
     let end : World (Option Tenant) = record { state = runs.machine'; limiter = Some runs.tenant' } in
-    let after = totals_are_held tenant_rules holdings (record { reserves = asked_reserves; gives_back = noticed_gives_back }) runs.machine (tenant_at pool index runs.machine) (record { bytes = refl; elements = refl }) runs.ran.0 end runs.ran.3 in
-    let held : HoldsTotals (holdings runs.tenant') runs.machine' = subst (λ tenant. HoldsTotals (holdings tenant) runs.machine') (sym (same_Some runs.tenant' after.0 after.1)) after.2 in
+    let after = totals_are_held tenant_rules holdings
+    (record { reserves = asked_reserves; gives_back = noticed_gives_back }) runs.machine
+    (tenant_at pool index runs.machine) (record { bytes = refl; elements = refl }) runs.ran.0 end runs.ran.3 in
+    let held : HoldsTotals (holdings runs.tenant') runs.machine' =
+    subst (λ tenant. HoldsTotals (holdings tenant) runs.machine')
+    (sym (same_Some runs.tenant' after.0 after.1)) after.2 in
     let stays = ran_within pool within index runs.machine runs.found runs.machine' runs.tenant' runs.ran.0 runs.ran.3 in
-    subst IsWithinCaps (sym runs.after) (replaced_within pool within index runs.machine runs.found runs.machine' runs.tenant' stays held)
+    subst IsWithinCaps (sym runs.after)
+    (replaced_within pool within index runs.machine runs.found runs.machine' runs.tenant' stays held)
 
 -- a new tenant keeps it there too
-pub adds_within : (pool : PoolValue) (s : State) (pool' : PoolValue) → IsWithinCaps pool → AddsTenant pool s pool' → IsWithinCaps pool'
+pub adds_within : (pool : PoolValue) (s : State) (pool' : PoolValue) → IsWithinCaps pool → AddsTenant pool s pool'
+    → IsWithinCaps pool'
 adds_within pool s pool' within adds kind = rw adds.added (pushed kind)
   where
     pushed : (kind : Kind) → total_of (pool.machines ++ s ∷ []) kind ≤ amount_of pool.caps kind
-    pushed Bytes = let bound = within Bytes in omega (arith, bound, adds.empty.bytes, sum_by_push (λ t. total t Bytes) pool.machines s)
-    pushed Elements = let bound = within Elements in omega (arith, bound, adds.empty.elements, sum_by_push (λ t. total t Elements) pool.machines s)
+    pushed Bytes = let bound =
+        within Bytes in omega (arith, bound, adds.empty.bytes, sum_by_push (λ t. total t Bytes) pool.machines s)
+    pushed Elements = let bound =
+        within Elements in omega
+        (arith, bound, adds.empty.elements, sum_by_push (λ t. total t Elements) pool.machines s)
 
 caps_kept : (pool : PoolValue) (turn : PoolTurn) (pool' : PoolValue) → PoolStep pool turn pool' → pool'.caps ≡ pool.caps
 caps_kept pool (Added s) pool' adds = ap PoolValue.caps adds.added
 caps_kept pool (Ran index calls replies) pool' runs = ap PoolValue.caps runs.after
 caps_kept pool Refused pool' same = ap PoolValue.caps same
 
-step_within : (pool : PoolValue) (turn : PoolTurn) (pool' : PoolValue) → IsWithinCaps pool → PoolStep pool turn pool' → IsWithinCaps pool'
+step_within : (pool : PoolValue) (turn : PoolTurn) (pool' : PoolValue) → IsWithinCaps pool → PoolStep pool turn pool'
+    → IsWithinCaps pool'
 step_within pool (Added s) pool' within adds = adds_within pool s pool' within adds
 step_within pool (Ran index calls replies) pool' within runs = runs_within pool index calls replies pool' within runs
 step_within pool Refused pool' within same = rw same within
 
-pub caps_hold : (pool : PoolValue) → IsWithinCaps pool → (turns : List PoolTurn) (pool' : PoolValue) → PoolRun pool turns pool' → (pool'.caps ≡ pool.caps) × IsWithinCaps pool'
+pub caps_hold : (pool : PoolValue) → IsWithinCaps pool → (turns : List PoolTurn) (pool' : PoolValue)
+    → PoolRun pool turns pool' → (pool'.caps ≡ pool.caps) × IsWithinCaps pool'
 caps_hold pool within [] pool' ran = rw ran (refl, within)
 caps_hold pool within (turn ∷ turns) pool' (next, step, ran) =
     let rest = caps_hold next (step_within pool turn next within step) turns pool' ran in

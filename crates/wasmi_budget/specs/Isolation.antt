@@ -21,5 +21,6 @@ PermittingRun index = RunBy (PermittingStep index)
 abbrev pub own_turns : ℕ → List PoolTurn → List PoolTurn
 own_turns index [] = []
 own_turns index (Added s ∷ turns) = own_turns index turns
-own_turns index (Ran i calls replies ∷ turns) = if nat_eq i index then Ran 0 calls replies ∷ own_turns index turns else own_turns index turns
+own_turns index (Ran i calls replies ∷ turns) =
+    if nat_eq i index then Ran 0 calls replies ∷ own_turns index turns else own_turns index turns
 own_turns index (Refused ∷ turns) = own_turns index turns

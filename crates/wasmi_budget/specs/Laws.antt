@@ -15,23 +15,31 @@ use Rattle.wasmi_budget.specs.Isolation.{PermittingRun, own_turns}
 
 -- after all calls the caps are the same, and all machines together are within them
 abbrev pub CapsHold : Type 0
-CapsHold = (pool : PoolValue) → IsWithinCaps pool → (turns : List PoolTurn) (pool' : PoolValue) → PoolRun pool turns pool'
+CapsHold = (pool : PoolValue) → IsWithinCaps pool → (turns : List PoolTurn) (pool' : PoolValue)
+    → PoolRun pool turns pool'
     → (pool'.caps ≡ pool.caps) × IsWithinCaps pool'
 
--- a run in which each question is permitted is one, with the same turns and the same machine, where the others hold nothing
+-- a run in which each question is permitted is one, with the same turns and the same machine, where the others hold
+-- nothing
 abbrev pub OthersDontShow : Type 0
 OthersDontShow = (s s' : State) (tenant tenant' : Tenant) (turns : List Turn)
-    → Run (permitting (optional_rules tenant_rules)) (record { state = s; limiter = Some tenant }) turns (record { state = s'; limiter = Some tenant' })
-    → Run (optional_rules tenant_rules) (record { state = s; limiter = Some (alone tenant) }) turns (record { state = s'; limiter = Some (alone tenant') })
+    → Run (permitting (optional_rules tenant_rules)) (record { state = s; limiter = Some tenant }) turns
+    (record { state = s'; limiter = Some tenant' })
+    → Run (optional_rules tenant_rules) (record { state = s; limiter = Some (alone tenant) }) turns
+    (record { state = s'; limiter = Some (alone tenant') })
 
 -- a tenant that is never denied gets, run after run, what it gets alone under the same caps
 abbrev pub RunsAsAlone : Type 0
 RunsAsAlone = (pool : PoolValue) (index : ℕ) (s : State) → slice_get pool.machines index ≡ Some s
     → (turns : List PoolTurn) (pool' : PoolValue) → PermittingRun index pool turns pool'
     → (s' : State) × (slice_get pool'.machines index ≡ Some s')
-    × PoolRun (record { caps = pool.caps; machines = s ∷ [] }) (own_turns index turns) (record { caps = pool.caps; machines = s' ∷ [] })
+    × PoolRun (record { caps = pool.caps; machines = s ∷ [] }) (own_turns index turns)
+    (record { caps = pool.caps; machines = s' ∷ [] })
 
 -- an accepted run of a tenant of which no reply tells of a denial is one in which each question was permitted
 abbrev pub RepliesPermit : Type 0
-RepliesPermit = (pool : PoolValue) (index : ℕ) (calls : List Call) (replies : List Reply) (pool' : PoolValue) → All TellsNoDenial replies
-    → RunsTenant pool index calls replies pool' → RunsTenantBy (permitting (optional_rules tenant_rules)) pool index calls replies pool'
+RepliesPermit =
+    (pool : PoolValue) (index : ℕ) (calls : List Call) (replies : List Reply) (pool' : PoolValue)
+    → All TellsNoDenial replies
+    → RunsTenant pool index calls replies pool'
+    → RunsTenantBy (permitting (optional_rules tenant_rules)) pool index calls replies pool'

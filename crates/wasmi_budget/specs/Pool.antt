@@ -36,7 +36,12 @@ pub record IsKept (pool : PoolValue) : Type 0 where
 -- the limiter of the machine s of an index: it holds what the machine has, beside what the others have
 abbrev pub tenant_at : PoolValue → ℕ → State → Tenant
 tenant_at pool index s =
-    record { caps = pool.caps; others = amounts_of (total_of (remove pool.machines index)); held = amounts_of (total s); last = None }
+    record {
+      caps = pool.caps;
+      others = amounts_of (total_of (remove pool.machines index));
+      held = amounts_of (total s);
+      last = None;
+    }
 
 -- the machine has no bytes and no elements, and dropped none
 pub record HasNothing (s : State) : Type 0 where
@@ -54,7 +59,8 @@ IsAddRefusal s NotEmpty = ¬ HasNothing s
 IsAddRefusal s NoRoom = HasNothing s
 
 -- the machine of an index has run these calls under its limiter by some rules, and all else is the same
-pub record RunsTenantBy (rules : Rules (Option Tenant)) (pool : PoolValue) (index : ℕ) (calls : List Call) (replies : List Reply) (pool' : PoolValue) : Type 0 where
+pub record RunsTenantBy (rules : Rules (Option Tenant)) (pool : PoolValue) (index : ℕ) (calls : List Call)
+    (replies : List Reply) (pool' : PoolValue) : Type 0 where
   pub machine : State
   pub found : slice_get pool.machines index ≡ Some machine
   pub machine' : State

@@ -1,7 +1,7 @@
 -- A tenant's rule.
 use Rattle.std.specs.Prelude.{◌≡◌, ◌+◌, ◌-◌, ◌≤◌, ◌<◌, ℕ, Bool, true, false, Ok}
 use Rattle.wasmi_meter.specs.declared.limiter.Kind.{Kind}
-use Rattle.wasmi_meter.specs.Limiter.{Question, Answer, Failure, Heed, kind_of, Rules}
+use Rattle.wasmi_meter.specs.Limiter.{Question, Answer, Failure, NoticeAnswer, kind_of, Rules}
 use Rattle.wasmi_meter.specs.Holdings.{Holdings, with_more, without_last}
 use Rattle.wasmi_budget.specs.declared.tenant.Tenant.{Tenant}
 use Rattle.wasmi_budget.specs.Amounts.{amount_of, nothing}
@@ -26,15 +26,17 @@ pub record Takes (tenant : Tenant) (kind : Kind) (n : ℕ) (taken : Bool) (tenan
 
 -- a question is answered by whether the difference is taken
 abbrev pub Asked : Tenant → Question → Answer → Tenant → Type 0
-Asked tenant q answer tenant' = (taken : Bool) × (answer ≡ Ok taken) × Takes tenant q.kind (q.desired - q.current) taken tenant'
+Asked tenant q answer tenant' =
+    (taken : Bool) × (answer ≡ Ok taken) × Takes tenant q.kind (q.desired - q.current) taken tenant'
 
 -- the tenant gives back what it took last, if that is of a kind
 abbrev pub after_notice : Kind → Tenant → Tenant
 after_notice kind tenant = with_holdings tenant (without_last kind (holdings tenant))
 
--- a notice is heeded
-abbrev pub Noticed : Tenant → Failure → Heed → Tenant → Type 0
-Noticed tenant failure heed tenant' = (heed ≡ Ok tt) × (tenant' ≡ after_notice (kind_of failure) tenant)
+-- a notice is accepted
+abbrev pub Noticed : Tenant → Failure → NoticeAnswer → Tenant → Type 0
+Noticed tenant failure notice_answer tenant' =
+    (notice_answer ≡ Ok tt) × (tenant' ≡ after_notice (kind_of failure) tenant)
 
 -- the rules of a tenant
 abbrev pub tenant_rules : Rules Tenant

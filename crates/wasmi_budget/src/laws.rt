@@ -1,5 +1,5 @@
 //! What holds of all pools. These functions do nothing: each states a law as its contract.
-ghost use Rattle.wasmi_core.specs.Determinism.{IsDeterministic, HeedsAll};
+ghost use Rattle.wasmi_core.specs.Determinism.{IsDeterministic, AcceptsNotices};
 ghost use Rattle.wasmi_budget.specs.Laws.{CapsHold, OthersDontShow, RepliesPermit, RunsAsAlone};
 ghost use Rattle.wasmi_budget.specs.Tenant.{tenant_rules};
 
@@ -21,8 +21,8 @@ pub fn permitted_runs_as_alone()
     ensures { RunsAsAlone }
 {}
 
-/// A run of a tenant of which no reply tells of a denial is one in which each question was permitted:
-/// so what `Pool::run` promises leads to `permitted_runs_as_alone`.
+/// A run of a tenant of which no reply tells of a denial is one in which each question was
+/// permitted: so what `Pool::run` promises leads to `permitted_runs_as_alone`.
 pub fn replies_permit()
     ensures { RepliesPermit }
 {}
@@ -32,7 +32,7 @@ pub fn tenants_leave_no_choice()
     ensures { IsDeterministic tenant_rules }
 {}
 
-/// A tenant's limiter heeds each notice.
-pub fn tenants_heed_all()
-    ensures { HeedsAll tenant_rules }
+/// A tenant's limiter accepts each notice.
+pub fn tenants_accept_notices()
+    ensures { AcceptsNotices tenant_rules }
 {}

@@ -55,7 +55,8 @@ impl<'r> Pool<'r> {
 
     /// A pool with these caps and no tenant. It takes no memory.
     pub fn new(alloc: Allocator, bytes: u64, elements: u64) -> Pool<'r>
-        ensures made { result ≡ record { caps = record { bytes = bytes; elements = elements }; machines = [] } }
+        ensures made { result
+            ≡ record { caps = record { bytes = bytes; elements = elements }; machines = [] } }
         ensures within { IsWithinCaps result }
     {
         Pool {
@@ -82,9 +83,12 @@ impl<'r> Pool<'r> {
     /// Adds a machine that has nothing yet, and answers its index. A machine that is refused is
     /// handed back.
     pub fn add(&mut self, machine: Machine<'r>) -> Result<usize, (AddError, Machine<'r>)>
-        ensures added { IfOk result (λ index. (index ≡ length self.old.machines) × AddsTenant self.old machine.entry self.new) }
+        ensures added { IfOk result
+            (λ index. (index ≡ length self.old.machines)
+            × AddsTenant self.old machine.entry self.new) }
         ensures refused { IfErr result (λ refusal. IsAddRefusal machine.entry refusal.0) }
-        ensures same { IfErr result (λ refusal. (refusal.1 ≡ machine.entry) × (self.new ≡ self.old)) }
+        ensures same { IfErr result
+            (λ refusal. (refusal.1 ≡ machine.entry) × (self.new ≡ self.old)) }
         ensures within { IsWithinCaps self.new }
     {
         let index = self.machines.len();
@@ -101,7 +105,8 @@ impl<'r> Pool<'r> {
     /// Answers calls on the machine of a tenant, in turn, under a limiter that permits what keeps
     /// all tenants together within the caps.
     pub fn run(&mut self, index: usize, calls: &[Call]) -> Result<Vec<Reply>, PoolError>
-        ensures ran { IfOk result (λ replies. RunsTenant self.old index calls.now replies.items self.new) }
+        ensures ran { IfOk result
+            (λ replies. RunsTenant self.old index calls.now replies.items self.new) }
         ensures no_tenant { IsErrOf result PoolError.NoTenant ↔ (length self.old.machines ≤ index) }
         ensures refused { OnErr result (self.new ≡ self.old) }
         ensures within { IsWithinCaps self.new }
@@ -132,7 +137,8 @@ impl<'r> Pool<'r> {
 
     /// What a tenant's machine has.
     fn held(&self, index: usize) -> Option<Amounts>
-        ensures { result ≡ option_map (λ s. amounts_of (total s)) (slice_get self.now.machines index) }
+        ensures { result
+            ≡ option_map (λ s. amounts_of (total s)) (slice_get self.now.machines index) }
     {
         let machine = self.machines.get(index)?;
         Some(totals(machine))
@@ -156,7 +162,8 @@ impl<'r> Pool<'r> {
 
     /// The limiter under which a tenant's machine runs.
     fn tenant(&self, index: usize) -> Option<Tenant>
-        ensures { result ≡ option_map (tenant_at self.now index) (slice_get self.now.machines index) }
+        ensures { result
+            ≡ option_map (tenant_at self.now index) (slice_get self.now.machines index) }
     {
         let held = self.held(index)?;
         let all = self.held_by_all();

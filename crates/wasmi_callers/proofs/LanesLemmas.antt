@@ -24,8 +24,10 @@ holds_of_bit true is = refl
 holds_of_bit false is = absurd (omega (arith, is))
 
 -- a byte that is made of a test of each number below 8 is 255 exactly where the test holds of each
-pub ones_where_each_holds : (bits : ℕ) (test : ℕ → Bool) → bits < 2 ^ 8 → ((i : ℕ) → i < 8 → bit_at bits i ≡ (if test i then 1 else 0)) → (bits ≡ 255) ↔ ((i : ℕ) → i < 8 → IsTrue (test i))
+pub ones_where_each_holds : (bits : ℕ) (test : ℕ → Bool) → bits < 2 ^ 8
+    → ((i : ℕ) → i < 8 → bit_at bits i ≡ (if test i then 1 else 0)) → (bits ≡ 255) ↔ ((i : ℕ) → i < 8 → IsTrue (test i))
 ones_where_each_holds bits test below bit = (
   λ is i inside. holds_of_bit (test i) (sym (bit i inside) ∙ ap (λ b. bit_at b i) is ∙ bit_at_ones 8 i inside),
-  λ each. same_from_bits_below 8 bits 255 below (lit< tt) (λ i inside. bit i inside ∙ ap (λ holds. if holds then 1 else 0) (each i inside) ∙ sym (bit_at_ones 8 i inside)),
+  λ each. same_from_bits_below 8 bits 255 below (lit< tt)
+      (λ i inside. bit i inside ∙ ap (λ holds. if holds then 1 else 0) (each i inside) ∙ sym (bit_at_ones 8 i inside)),
 )

@@ -7,10 +7,10 @@ use Rattle.wasmi_meter.specs.declared.error.TableError.{TableError}
 use Rattle.wasmi_meter.specs.declared.limiter.Kind.{Kind}
 use Rattle.wasmi_meter.specs.declared.limiter.Kind.TheVariants.{Bytes, Elements}
 use Rattle.wasmi_meter.specs.declared.quota.Quota.{Quota}
-use Rattle.wasmi_meter.specs.Attempt.{Situation, Effort, Fate, Unasked, Denied, Met, Failed, MayEnd, Follows}
+use Rattle.wasmi_meter.specs.Attempt.{MeteredValue, Request, AttemptOutcome, Unasked, Denied, Met, Failed, MayEnd, Follows}
 use Rattle.wasmi_meter.specs.Attempt.{answer_of, value_after}
 use Rattle.wasmi_meter.specs.Holdings.{Holdings, HoldsTheSame, Reserves, amount_held, with_more, without_last}
-use Rattle.wasmi_meter.specs.Limiter.{Question, Answer, Heed, IsDenial, kind_of, optional_rules}
+use Rattle.wasmi_meter.specs.Limiter.{Question, Answer, NoticeAnswer, IsDenial, kind_of, optional_rules}
 use Rattle.wasmi_meter.specs.Meter.{Meter}
 use Rattle.wasmi_meter.specs.Quota.{holdings, quota_rules, Asked, Noticed}
 use Rattle.wasmi_meter.specs.QuotaLaws.{asked_reserves}
@@ -62,10 +62,10 @@ nothing_counts kind size quota quota' unchanged =
     rw same (record { held = refl; within = λ caps. caps })
 
 -- an attempt's notices are of the kind that is asked for
-abbrev TellsOfKind : {V E : Type 0} → Effort V E → Type 0
+abbrev TellsOfKind : {V E : Type 0} → Request V E → Type 0
 TellsOfKind {E = E} e = (cause : E) → kind_of (e.notice cause) ≡ e.question.kind
 
-module _ {V E : Type 0} (e : Effort V E) where
+module _ {V E : Type 0} (e : Request V E) where
   abbrev kind : Kind
   kind = e.question.kind
 
@@ -73,17 +73,17 @@ module _ {V E : Type 0} (e : Effort V E) where
   asked_for = e.question.desired - e.question.current
 
   -- by how much an attempt adds to what is held
-  abbrev added : Fate E → ℕ
+  abbrev added : AttemptOutcome E → ℕ
   added (Unasked cause) = 0
   added (Denied answer) = 0
   added Met = asked_for
-  added (Failed cause heed) = 0
+  added (Failed cause notice_answer) = 0
 
   module _ (tells : TellsOfKind e) (quota quota' : Quota) where
     -- a permission that is followed by a notice
-    failure_counts : (cause : E) (heed : Heed) (p : Quota) → Asked quota e.question (Ok true) p
-        → Noticed p (e.notice cause) heed quota' → Counts kind quota 0 quota' 0
-    failure_counts cause heed p asked noticed =
+    failure_counts : (cause : E) (notice_answer : NoticeAnswer) (p : Quota) → Asked quota e.question (Ok true) p
+        → Noticed p (e.notice cause) notice_answer quota' → Counts kind quota 0 quota' 0
+    failure_counts cause notice_answer p asked noticed =
         let more = asked_reserves quota p e.question (Ok true) asked in
         let back = rw (tells cause) at noticed.gives_back in
         let same = taken_back kind asked_for (holdings quota) (holdings p) (holdings quota') more back in
@@ -91,13 +91,13 @@ module _ {V E : Type 0} (e : Effort V E) where
           held = omega (arith, same);
           within = λ caps.
               let permitted = asked_is_within quota p caps e.question (Ok true) asked in
-              noticed_is_within p quota' permitted (e.notice cause) heed noticed;
+              noticed_is_within p quota' permitted (e.notice cause) notice_answer noticed;
         }
 
     -- an attempt, however it ends
-    attempt_counts : (m : Option Meter) (fate : Fate E) → MayEnd e m fate
-        → Follows e (optional_rules quota_rules) (Some quota) fate (Some quota')
-        → Counts kind quota 0 quota' (added fate)
+    attempt_counts : (m : Option Meter) (outcome : AttemptOutcome E) → MayEnd e m outcome
+        → Follows e (optional_rules quota_rules) (Some quota) outcome (Some quota')
+        → Counts kind quota 0 quota' (added outcome)
     attempt_counts m (Unasked cause) may follows = nothing_counts kind 0 quota quota' follows
     attempt_counts m (Denied answer) may follows =
         let reserves = asked_reserves quota quota' e.question answer follows in
@@ -114,36 +114,37 @@ module _ {V E : Type 0} (e : Effort V E) where
           held = omega (arith, more);
           within = λ caps. asked_is_within quota quota' caps e.question (Ok true) follows;
         }
-    attempt_counts m (Failed cause heed) may (Some p, asked, noticed) = failure_counts cause heed p asked noticed
-    attempt_counts m (Failed cause heed) may (None, asked, noticed) = elim asked [ ]
+    attempt_counts m (Failed cause notice_answer) may (Some p, asked, noticed) =
+        failure_counts cause notice_answer p asked noticed
+    attempt_counts m (Failed cause notice_answer) may (None, asked, noticed) = elim asked [ ]
 
 -- what is made counts as what was asked for, and a refusal as nothing
-module _ {T E : Type 0} (e : Effort (Unit {0}) E) (made : T) (size : Result T E → ℕ)
+module _ {T E : Type 0} (e : Request (Unit {0}) E) (made : T) (size : Result T E → ℕ)
     (full : size (Ok made) ≡ asked_for e) (empty : (cause : E) → size (Err cause) ≡ 0) where
-  size_made : (fate : Fate E) → added e fate ≡ size (answer_of e made fate)
+  size_made : (outcome : AttemptOutcome E) → added e outcome ≡ size (answer_of e made outcome)
   size_made (Unasked cause) = sym (empty cause)
   size_made (Denied answer) = sym (empty _)
   size_made Met = sym full
-  size_made (Failed cause heed) = sym (empty _)
+  size_made (Failed cause notice_answer) = sym (empty _)
 
   creation_counts : TellsOfKind e → (quota quota' : Quota) (result : Result T E)
       → Makes (optional_rules quota_rules) e made (Some quota) result (Some quota')
       → Counts (kind e) quota 0 quota' (size result)
-  creation_counts tells quota quota' result (fate, attempt, answered) =
-      let counts = attempt_counts e tells quota quota' None fate attempt.may_end attempt.follows in
-      subst (λ n. Counts (kind e) quota 0 quota' n) (size_made fate ∙ ap size (sym answered)) counts
+  creation_counts tells quota quota' result (outcome, attempt, answered) =
+      let counts = attempt_counts e tells quota quota' None outcome attempt.may_end attempt.follows in
+      subst (λ n. Counts (kind e) quota 0 quota' n) (size_made outcome ∙ ap size (sym answered)) counts
 
 -- a value with a meter and a quota
-abbrev under : {V : Type 0} → Quota → V → Option Meter → Situation V (Option Quota)
+abbrev under : {V : Type 0} → Quota → V → Option Meter → MeteredValue V (Option Quota)
 under quota x m = record { value = x; meter = m; limiter = Some quota }
 
 same_value : {V : Type 0} (quota quota' : Quota) (x x' : V) (m m' : Option Meter)
     → under quota' x' m' ≡ under quota x m → x' ≡ x
-same_value {V = V} quota quota' x x' m m' same = ap (λ (s : Situation V (Option Quota)). s.value) same
+same_value {V = V} quota quota' x x' m m' same = ap (λ (s : MeteredValue V (Option Quota)). s.value) same
 
 same_quota : {V : Type 0} (quota quota' : Quota) (x x' : V) (m m' : Option Meter)
     → under quota' x' m' ≡ under quota x m → Some quota' ≡ Some quota
-same_quota {V = V} quota quota' x x' m m' same = ap (λ (s : Situation V (Option Quota)). s.limiter) same
+same_quota {V = V} quota quota' x x' m m' same = ap (λ (s : MeteredValue V (Option Quota)). s.limiter) same
 
 -- a growth that left all as it was
 untouched_counts : {V : Type 0} (kind : Kind) (size : V → ℕ) (quota quota' : Quota) (x x' : V) (m m' : Option Meter)
@@ -155,21 +156,22 @@ untouched_counts kind size quota quota' x x' m m' same =
 
 -- a growth counts as the difference of the sizes
 module _ {V E : Type 0} (g : Growth V E) (size : V → ℕ) (x : V)
-    (full : size g.effort.grown ≡ size x + asked_for g.effort) (tells : TellsOfKind g.effort) where
-  size_grown : (fate : Fate E) → size (value_after g.effort x fate) ≡ size x + added g.effort fate
+    (full : size g.request.grown ≡ size x + asked_for g.request) (tells : TellsOfKind g.request) where
+  size_grown : (outcome : AttemptOutcome E) → size (value_after g.request x outcome) ≡ size x + added g.request outcome
   size_grown (Unasked cause) = omega arith
   size_grown (Denied answer) = omega arith
   size_grown Met = full
-  size_grown (Failed cause heed) = omega arith
+  size_grown (Failed cause notice_answer) = omega arith
 
   growth_counts : (quota quota' : Quota) (m m' : Option Meter) (x' : V) (result : Result ℕ E) (charge : ℕ)
       → Grows (optional_rules quota_rules) g (under quota x m) result charge (under quota' x' m')
-      → Counts (kind g.effort) quota (size x) quota' (size x')
+      → Counts (kind g.request) quota (size x) quota' (size x')
   growth_counts quota quota' m m' x' result charge (inl none) =
-      untouched_counts (kind g.effort) size quota quota' x x' m m' none.same
+      untouched_counts (kind g.request) size quota quota' x x' m m' none.same
   growth_counts quota quota' m m' x' result charge (inr some) =
-      let counts = attempt_counts g.effort tells quota quota' m some.fate some.attempt.may_end some.attempt.follows in
-      let sizes = ap size some.attempt.value ∙ size_grown some.fate in
+      let counts = attempt_counts g.request tells quota quota' m some.outcome some.attempt.may_end some.attempt.follows
+      in
+      let sizes = ap size some.attempt.value ∙ size_grown some.outcome in
       record { held = omega (arith, sizes, counts.held); within = counts.within }
 
 -- the length of what is made of n, and of what has grown by n
@@ -204,7 +206,7 @@ module _ (quota quota' : Quota) where
       (charge : ℕ) → GrowsMemory (optional_rules quota_rules) pages (under quota x m) result charge (under quota' x' m')
       → Counts Bytes quota (length x.bytes) quota' (length x'.bytes)
   memory_grown_counts pages x x' m m' =
-      let g : Growth _ _ = record { amount = pages; size = pages_of x; effort = memory.growth_of x pages } in
+      let g : Growth _ _ = record { amount = pages; size = pages_of x; request = memory.growth_of x pages } in
       let full = length_grown x.bytes (pages * page_bytes x.ty.page) 0 in
       growth_counts g (λ (y : MemoryValue). length y.bytes) x full (λ cause. refl) quota quota' m m' x'
 
@@ -214,7 +216,7 @@ module _ (quota quota' : Quota) where
         → GrowsTableRaw (optional_rules quota_rules) n reference (under quota x m) result charge (under quota' x' m')
         → Counts Elements quota (size_of x) quota' (size_of x')
     table_grown_counts reference =
-        let g : Growth _ _ = record { amount = n; size = size_of x; effort = table.growth_of x n reference } in
+        let g : Growth _ _ = record { amount = n; size = size_of x; request = table.growth_of x n reference } in
         let full = length_grown x.elements n reference in
         growth_counts g size_of x full (λ cause. refl) quota quota' m m' x' result charge
 

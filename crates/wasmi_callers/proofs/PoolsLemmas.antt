@@ -8,7 +8,7 @@ use Rattle.wasmi_core.specs.declared.calls.Call.{Call}
 use Rattle.wasmi_core.specs.declared.calls.Reply.{Reply}
 use Rattle.wasmi_core.specs.World.{World, world}
 use Rattle.wasmi_core.specs.Runs.{IsRunOf}
-use Rattle.wasmi_core.specs.Determinism.{IsDeterministic, HeedsAll, HasMemory}
+use Rattle.wasmi_core.specs.Determinism.{IsDeterministic, AcceptsNotices, HasMemory}
 use Rattle.wasmi_core.specs.Permission.{permitting}
 use Rattle.wasmi_core.specs.Laws.{RepliesAreOne}
 use Rattle.wasmi_budget.specs.declared.tenant.Tenant.{Tenant}
@@ -19,30 +19,59 @@ use Rattle.wasmi_callers.specs.Pools.{RunsAlone, RunsBeside}
 use Rattle.wasmi_budget.specs.Runs.{Ran}
 
 -- the caps, after a run that was accepted or refused
-pub within_after : {R E : Type 0} (items : R → List Reply) → CapsHold → (pool pool' : PoolValue) (index : ℕ) (calls : List Call) (result : Result R E) → IsWithinCaps pool
-    → IfOk result (λ replies. RunsTenant pool index calls (items replies) pool') → OnErr result (pool' ≡ pool) → (pool'.caps ≡ pool.caps) × IsWithinCaps pool'
-within_after items holds pool pool' index calls (Ok replies) within ran same = holds pool within (Ran index calls (items replies) ∷ []) pool' (pool', ran, refl)
+pub within_after : {R E : Type 0} (items : R → List Reply) → CapsHold
+    → (pool pool' : PoolValue) (index : ℕ) (calls : List Call) (result : Result R E) → IsWithinCaps pool
+    → IfOk result (λ replies. RunsTenant pool index calls (items replies) pool') → OnErr result (pool' ≡ pool)
+    → (pool'.caps ≡ pool.caps) × IsWithinCaps pool'
+within_after items holds pool pool' index calls (Ok replies) within ran same =
+    holds pool within (Ran index calls (items replies) ∷ []) pool' (pool', ran, refl)
 within_after items holds pool pool' index calls (Err error) within ran same = rw same (refl, within)
 
 -- a run in which each question was permitted, as that of the only tenant
-pub alone_after : RunsAsAlone → (pool : PoolValue) (index : ℕ) (calls : List Call) (replies : List Reply) (pool' : PoolValue) → RunsTenantBy (permitting (optional_rules tenant_rules)) pool index calls replies pool' → RunsAlone pool index calls replies pool'
+pub alone_after : RunsAsAlone
+    → (pool : PoolValue) (index : ℕ) (calls : List Call) (replies : List Reply) (pool' : PoolValue)
+    → RunsTenantBy (permitting (optional_rules tenant_rules)) pool index calls replies pool'
+    → RunsAlone pool index calls replies pool'
 alone_after as_alone pool index calls replies pool' permitted =
     let same : nat_eq index index ≡ true = grind (arith, nat_tests) in
-    let after = as_alone pool index permitted.machine permitted.found (Ran index calls replies ∷ []) pool' (pool', rw same permitted, refl) in
+    let after = as_alone pool index permitted.machine permitted.found (Ran index calls replies ∷ []) pool'
+    (pool', rw same permitted, refl) in
     (permitted.machine, after.0, permitted.found, after.1, rw same at after.2)
 
 -- and as one beside tenants that hold nothing
-pub beside_after : OthersDontShow → (pool : PoolValue) (index : ℕ) (calls : List Call) (replies : List Reply) (pool' : PoolValue) → RunsTenantBy (permitting (optional_rules tenant_rules)) pool index calls replies pool' → RunsBeside pool index calls replies
+pub beside_after : OthersDontShow
+    → (pool : PoolValue) (index : ℕ) (calls : List Call) (replies : List Reply) (pool' : PoolValue)
+    → RunsTenantBy (permitting (optional_rules tenant_rules)) pool index calls replies pool'
+    → RunsBeside pool index calls replies
 beside_after hidden pool index calls replies pool' permitted =
-    let ran = permitted.ran in
-    (permitted.machine, permitted.machine', permitted.tenant', permitted.found, (ran.0, ran.1, ran.2, hidden permitted.machine permitted.machine' (tenant_at pool index permitted.machine) permitted.tenant' ran.0 ran.3))
+    let ran = permitted.ran in (
+      permitted.machine,
+      permitted.machine',
+      permitted.tenant',
+      permitted.found,
+      (
+        ran.0,
+        ran.1,
+        ran.2,
+        hidden permitted.machine permitted.machine'
+            (tenant_at pool index permitted.machine) permitted.tenant' ran.0 ran.3,
+      ),
+    )
 
 -- two runs of one tenant from one pool
-pub pools_same : RepliesAreOne tenant_rules → IsDeterministic tenant_rules → HeedsAll tenant_rules → (pool p p' : PoolValue) (index : ℕ) (calls : List Call) (replies replies' : List Reply) → All HasMemory replies → All HasMemory replies'
+pub pools_same : RepliesAreOne tenant_rules → IsDeterministic tenant_rules → AcceptsNotices tenant_rules
+    → (pool p p' : PoolValue) (index : ℕ) (calls : List Call) (replies replies' : List Reply) → All HasMemory replies
+    → All HasMemory replies'
     → RunsTenant pool index calls replies p → RunsTenant pool index calls replies' p' → (replies ≡ replies') × (p ≡ p')
-pools_same one once heeds pool p p' index calls replies replies' has has' a b =
+pools_same one once accepts pool p p' index calls replies replies' has has' a b =
     let found : b.machine ≡ a.machine = same_Some b.machine a.machine (sym b.found ∙ a.found) in
-    let ran = subst (λ s. IsRunOf (optional_rules tenant_rules) calls (world s (Some (tenant_at pool index s))) replies' (world b.machine' (Some b.tenant'))) found b.ran in
-    let same = one once heeds calls _ replies replies' _ _ has has' a.ran ran in
-    let machine : a.machine' ≡ b.machine' = ap (λ (w : World (Option Tenant)). w.state) same.1 in
-    (same.0, a.after ∙ ap (λ s. let q : PoolValue = record pool { machines = slice_set pool.machines index s } in q) machine ∙ sym b.after)
+    let ran = subst
+    (λ s. IsRunOf (optional_rules tenant_rules) calls (world s (Some (tenant_at pool index s))) replies'
+    (world b.machine' (Some b.tenant'))) found b.ran in
+    let same = one once accepts calls _ replies replies' _ _ has has' a.ran ran in
+    let machine : a.machine' ≡ b.machine' = ap (λ (w : World (Option Tenant)). w.state) same.1 in (
+      same.0,
+      a.after
+          ∙ ap (λ s. let q : PoolValue = record pool { machines = slice_set pool.machines index s } in q) machine
+          ∙ sym b.after,
+    )

@@ -12,19 +12,28 @@ append_twice : {X : Type 0} (xs : List X) (y z : X) → (xs ++ y ∷ []) ++ z �
 append_twice [] y z = refl
 append_twice (x ∷ xs) y z = ap (λ l. x ∷ l) (append_twice xs y z)
 
-one_grows : (place : Place) (q : Question) (sizes sizes' : List ℕ) → GrowsAsAsked place q sizes sizes' → OneGrows q.current q.desired sizes sizes'
+one_grows : (place : Place) (q : Question) (sizes sizes' : List ℕ) → GrowsAsAsked place q sizes sizes'
+    → OneGrows q.current q.desired sizes sizes'
 one_grows Nowhere q sizes sizes' grows = absurd grows
 one_grows New q sizes sizes' grows = inl grows
 one_grows (At k) q sizes sizes' (up, found, put) = inr (k, found, put)
 
 module _ (l l' : Recorder) (sizes sizes' : Kind → List ℕ) (place : Place) where
-  pub traced : (exchange : Exchange) → Passes (optional_rules recorder_rules) (Some l) exchange (Some l') → GrowsBy place exchange sizes sizes' → LeavesTrace l.events.items sizes l'.events.items sizes'
+  pub traced : (exchange : Exchange) → Passes (optional_rules recorder_rules) (Some l) exchange (Some l')
+      → GrowsBy place exchange sizes sizes' → LeavesTrace l.events.items sizes l'.events.items sizes'
   traced Nothing same still = inl (ap (λ (x : Recorder). x.events.items) (same_Some l' l same), still)
   traced (Denial q (Ok true)) (denial, asked) still = absurd denial
   traced (Denial q (Ok false)) (denial, asked) still = inl (asked, still)
   traced (Denial q (Err error)) (denial, asked) still = absurd asked
-  traced (Permission q) asked (grows, others) = inr (inl (q, asked.0, one_grows place q (sizes q.kind) (sizes' q.kind) grows))
-  traced (Notice q failure heed) (kind, Some p, asked, noticed) still =
+  traced (Permission q) asked (grows, others) =
+      inr (inl (q, asked.0, one_grows place q (sizes q.kind) (sizes' q.kind) grows))
+  traced (Notice q failure notice_answer) (kind, Some p, asked, noticed) still =
       let heard = noticed asked.1 in
-      inr (inr (q, heard.1 ∙ ap (λ es. es ++ Failed (kind_of failure) ∷ []) asked.0 ∙ append_twice l.events.items (event_of q) (Failed (kind_of failure)) ∙ ap (λ k. l.events.items ++ event_of q ∷ Failed k ∷ []) kind, still))
-  traced (Notice q failure heed) (kind, None, asked, noticed) still = absurd asked
+      inr (inr (
+        q,
+        heard.1 ∙ ap (λ es. es ++ Failed (kind_of failure) ∷ []) asked.0
+            ∙ append_twice l.events.items (event_of q) (Failed (kind_of failure))
+            ∙ ap (λ k. l.events.items ++ event_of q ∷ Failed k ∷ []) kind,
+        still,
+      ))
+  traced (Notice q failure notice_answer) (kind, None, asked, noticed) still = absurd asked

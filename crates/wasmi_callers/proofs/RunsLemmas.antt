@@ -35,35 +35,56 @@ if_ok_always (Err e) holds = tt
 
 module _ {S : Type 0} (rules : Rules S) where
   -- a run of one call is one step
-  pub one_turn : (calls : List Call) (w w' : World S) (replies : List Reply) → length calls ≡ 1 → IsRunOf rules calls w replies w' → (turn : Turn) × (turn.reply ∷ [] ≡ replies) × Step rules w turn w'
+  pub one_turn : (calls : List Call) (w w' : World S) (replies : List Reply) → length calls ≡ 1
+      → IsRunOf rules calls w replies w' → (turn : Turn) × (turn.reply ∷ [] ≡ replies) × Step rules w turn w'
   one_turn calls w w' replies one ([], made, told, ran) = absurd (omega (arith, one, ap length made))
-  one_turn calls w w' replies one (turn ∷ [], made, told, (v, step, ran)) = (turn, told, subst (λ u. Step rules w turn u) (sym ran) step)
+  one_turn calls w w' replies one (turn ∷ [], made, told, (v, step, ran)) =
+      (turn, told, subst (λ u. Step rules w turn u) (sym ran) step)
   one_turn calls w w' replies one (turn ∷ t ∷ turns, made, told, ran) = absurd (omega (arith, one, ap length made))
 
   -- calls that fit any regions
-  fitting_runs : (w : World S) (turns : List Turn) (w' : World S) → All FitsAnyRegions (map Turn.call turns) → Run rules w turns w' → RunInRegions rules w turns w'
+  fitting_runs : (w : World S) (turns : List Turn) (w' : World S) → All FitsAnyRegions (map Turn.call turns)
+      → Run rules w turns w' → RunInRegions rules w turns w'
   fitting_runs w [] w' fits ran = ran
-  fitting_runs w (turn ∷ turns) w' fits (v, step, ran) =
-      (v, All-head FitsAnyRegions turn.call (map Turn.call turns) fits w.state, step, fitting_runs v turns w' (All-tail FitsAnyRegions turn.call (map Turn.call turns) fits) ran)
+  fitting_runs w (turn ∷ turns) w' fits (v, step, ran) = (
+    v,
+    All-head FitsAnyRegions turn.call (map Turn.call turns) fits w.state,
+    step,
+    fitting_runs v turns w' (All-tail FitsAnyRegions turn.call (map Turn.call turns) fits) ran,
+  )
 
-  pub fitting_owned : LentRunsAreOwned rules → (calls : List Call) (w w' : World S) (replies : List Reply) → All FitsAnyRegions calls → IsRunOf rules calls w replies w' → IsRunOf rules calls (owned_world w) replies (owned_world w')
+  pub fitting_owned : LentRunsAreOwned rules → (calls : List Call) (w w' : World S) (replies : List Reply)
+      → All FitsAnyRegions calls → IsRunOf rules calls w replies w'
+      → IsRunOf rules calls (owned_world w) replies (owned_world w')
   fitting_owned owns calls w w' replies fits (turns, made, told, ran) =
       (turns, made, told, owns w turns w' (fitting_runs w turns w' (subst (All FitsAnyRegions) (sym made) fits) ran))
 
   -- a run of one creation in the spare region
-  pub made_owned : LentCreationsAreOwned rules → (ty : MemoryTypeValue) (calls : List Call) (w w' : World S) (replies : List Reply) → calls ≡ NewLentMemory ty ∷ [] → HasRegionFor ty w.state → IsRunOf rules calls w replies w' → IsRunOf rules (NewMemory ty ∷ []) (unlent_world w) replies (unlent_world w')
+  pub made_owned : LentCreationsAreOwned rules
+      → (ty : MemoryTypeValue) (calls : List Call) (w w' : World S) (replies : List Reply)
+      → calls ≡ NewLentMemory ty ∷ [] → HasRegionFor ty w.state → IsRunOf rules calls w replies w'
+      → IsRunOf rules (NewMemory ty ∷ []) (unlent_world w) replies (unlent_world w')
   made_owned owns ty calls w w' replies is region ([], made, told, ran) = absurd (omega (arith, ap length (made ∙ is)))
   made_owned owns ty calls w w' replies is region (turn ∷ [], made, told, (v, step, ran)) =
-      let call = same_Some turn.call (NewLentMemory ty) (ap (λ (cs : List Call). slice_get cs 0) (made ∙ is)) in
-      (record turn { call = NewMemory ty } ∷ [], refl, told, (unlent_world v, owns w turn v ty region.0 call region.1 region.2 step, ap unlent_world ran))
-  made_owned owns ty calls w w' replies is region (turn ∷ t ∷ turns, made, told, ran) = absurd (omega (arith, ap length (made ∙ is)))
+      let call = same_Some turn.call (NewLentMemory ty) (ap (λ (cs : List Call). slice_get cs 0) (made ∙ is)) in (
+        record turn { call = NewMemory ty } ∷ [],
+        refl,
+        told,
+        (unlent_world v, owns w turn v ty region.0 call region.1 region.2 step, ap unlent_world ran),
+      )
+  made_owned owns ty calls w w' replies is region (turn ∷ t ∷ turns, made, told, ran) =
+      absurd (omega (arith, ap length (made ∙ is)))
 
 -- replies that have memory are of turns that have it
 all_have : (turns : List Turn) → All HasMemory (map Turn.reply turns) → HaveMemory turns
 all_have [] has = tt
-all_have (turn ∷ turns) has = (All-head HasMemory turn.reply (map Turn.reply turns) has, all_have turns (All-tail HasMemory turn.reply (map Turn.reply turns) has))
+all_have (turn ∷ turns) has = (
+  All-head HasMemory turn.reply (map Turn.reply turns) has,
+  all_have turns (All-tail HasMemory turn.reply (map Turn.reply turns) has),
+)
 
-pub replies_have : (turns : List Turn) (replies : List Reply) → map Turn.reply turns ≡ replies → All HasMemory replies → HaveMemory turns
+pub replies_have : (turns : List Turn) (replies : List Reply) → map Turn.reply turns ≡ replies → All HasMemory replies
+    → HaveMemory turns
 replies_have turns replies is has = all_have turns (subst (All HasMemory) (sym is) has)
 
 -- what a machine has, once its quota stayed within its caps
@@ -71,12 +92,20 @@ pub record IsWithin (s : State) (quota : Quota) : Type 0 where
   pub bytes : total s Bytes ≤ cap_of quota Bytes
   pub elements : total s Elements ≤ cap_of quota Elements
 
-held_within : (s : State) (first quota : Quota) → HoldsTotals (holdings quota) s → IsWithinCaps quota → (quota.bytes ≡ first.bytes) × (quota.elements ≡ first.elements) → IsWithin s first
+held_within : (s : State) (first quota : Quota) → HoldsTotals (holdings quota) s → IsWithinCaps quota
+    → (quota.bytes ≡ first.bytes) × (quota.elements ≡ first.elements) → IsWithin s first
 held_within s first quota held within caps =
-    record { bytes = omega (arith, held.bytes, within.bytes, caps.0); elements = omega (arith, held.elements, within.elements, caps.1) }
+    record {
+      bytes = omega (arith, held.bytes, within.bytes, caps.0);
+      elements = omega (arith, held.elements, within.elements, caps.1);
+    }
 
-pub within_quota : {R E : Type 0} (items : R → List Reply) → QuotasStayWithin → (s s' : State) (quota quota' : Quota) (calls : List Call) (result : Result R E) → IsWithinCaps quota → HoldsTotals (holdings quota') s'
-    → IfOk result (λ replies. IsRunOf (optional_rules quota_rules) calls (world s (Some quota)) (items replies) (world s' (Some quota')))
+pub within_quota : {R E : Type 0} (items : R → List Reply) → QuotasStayWithin
+    → (s s' : State) (quota quota' : Quota) (calls : List Call) (result : Result R E) → IsWithinCaps quota
+    → HoldsTotals (holdings quota') s'
+    → IfOk result
+    (λ replies. IsRunOf (optional_rules quota_rules) calls (world s (Some quota)) (items replies)
+    (world s' (Some quota')))
     → OnErr result ((s' ≡ s) × (quota' ≡ quota)) → IsWithin s' quota
 within_quota items stays s s' quota quota' calls (Ok replies) within held ran same =
     let after = stays s quota within ran.0 (world s' (Some quota')) ran.3 in
@@ -84,4 +113,5 @@ within_quota items stays s s' quota quota' calls (Ok replies) within held ran sa
     held_within s' quota quota' held (subst IsWithinCaps (sym is) after.2)
     (ap (λ (q : Quota). q.bytes) is ∙ after.3.bytes, ap (λ (q : Quota). q.elements) is ∙ after.3.elements)
 within_quota items stays s s' quota quota' calls (Err error) within held ran same =
-    held_within s' quota quota' held (subst IsWithinCaps (sym same.1) within) (ap (λ (q : Quota). q.bytes) same.1, ap (λ (q : Quota). q.elements) same.1)
+    held_within s' quota quota' held (subst IsWithinCaps (sym same.1) within)
+    (ap (λ (q : Quota). q.bytes) same.1, ap (λ (q : Quota). q.elements) same.1)

@@ -13,10 +13,14 @@ use Rattle.wasmi_budget.specs.Runs.{Ran, PoolRun}
 
 -- the machine of an index ran as that of the only tenant of a pool with the same caps
 abbrev pub RunsAlone : PoolValue → ℕ → List Call → List Reply → PoolValue → Type 0
-RunsAlone pool index calls replies pool' = (s : State) × (s' : State) × (slice_get pool.machines index ≡ Some s) × (slice_get pool'.machines index ≡ Some s')
-    × PoolRun (record { caps = pool.caps; machines = s ∷ [] }) (Ran 0 calls replies ∷ []) (record { caps = pool.caps; machines = s' ∷ [] })
+RunsAlone pool index calls replies pool' =
+    (s : State) × (s' : State) × (slice_get pool.machines index ≡ Some s) × (slice_get pool'.machines index ≡ Some s')
+    × PoolRun (record { caps = pool.caps; machines = s ∷ [] }) (Ran 0 calls replies ∷ [])
+    (record { caps = pool.caps; machines = s' ∷ [] })
 
 -- it ran as if the others held nothing
 abbrev pub RunsBeside : PoolValue → ℕ → List Call → List Reply → Type 0
-RunsBeside pool index calls replies = (s : State) × (s' : State) × (tenant' : Tenant) × (slice_get pool.machines index ≡ Some s)
-    × IsRunOf (optional_rules tenant_rules) calls (world s (Some (alone (tenant_at pool index s)))) replies (world s' (Some (alone tenant')))
+RunsBeside pool index calls replies =
+    (s : State) × (s' : State) × (tenant' : Tenant) × (slice_get pool.machines index ≡ Some s)
+    × IsRunOf (optional_rules tenant_rules) calls (world s (Some (alone (tenant_at pool index s)))) replies
+    (world s' (Some (alone tenant')))

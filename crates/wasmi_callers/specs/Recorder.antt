@@ -2,19 +2,22 @@
 use Rattle.std.specs.Prelude.{◌≡◌, ◌<◌, ◌⊎◌, ◌++◌, ℕ, Bool, true, false, Some, Ok, Err, List, [], ◌∷◌, length, slice_get, slice_set}
 use Rattle.std.specs.Vec.{vec_capacity}
 use Rattle.wasmi_meter.specs.declared.limiter.Kind.{Kind}
-use Rattle.wasmi_meter.specs.Limiter.{Question, Answer, kind_of, Heed, Rules}
+use Rattle.wasmi_meter.specs.Limiter.{Question, Answer, kind_of, NoticeAnswer, Rules}
 use Rattle.wasmi_callers.specs.declared.recorder.Event.{Event}
 use Rattle.wasmi_callers.specs.declared.recorder.Event.TheVariants.{Permitted, Failed}
 use Rattle.wasmi_callers.specs.declared.recorder.Recorder.{Recorder}
 
 -- a permission is kept in the trace, which then has room for one failure; without room nothing is permitted
 abbrev pub Permits : Recorder → Event → Bool → Recorder → Type 0
-Permits l event true l' = (l'.events.items ≡ l.events.items ++ event ∷ []) × (length l'.events.items < vec_capacity l'.events)
+Permits l event true l' =
+    (l'.events.items ≡ l.events.items ++ event ∷ []) × (length l'.events.items < vec_capacity l'.events)
 Permits l event false l' = l'.events.items ≡ l.events.items
 
 -- a failure is kept where there is room for it
-abbrev pub Hears : Recorder → Kind → Heed → Recorder → Type 0
-Hears l kind heed l' = length l.events.items < vec_capacity l.events → (heed ≡ Ok tt) × (l'.events.items ≡ l.events.items ++ Failed kind ∷ [])
+abbrev pub Hears : Recorder → Kind → NoticeAnswer → Recorder → Type 0
+Hears l kind notice_answer l' =
+    length l.events.items < vec_capacity l.events
+    → (notice_answer ≡ Ok tt) × (l'.events.items ≡ l.events.items ++ Failed kind ∷ [])
 
 abbrev pub event_of : Question → Event
 event_of q = Permitted q.kind q.current q.desired
@@ -24,7 +27,8 @@ Answers l q (Ok permitted) l' = Permits l (event_of q) permitted l'
 Answers l q (Err error) l' = ⊥
 
 abbrev pub recorder_rules : Rules Recorder
-recorder_rules = record { asked = Answers; noticed = λ l failure heed l'. Hears l (kind_of failure) heed l' }
+recorder_rules =
+    record { asked = Answers; noticed = λ l failure notice_answer l'. Hears l (kind_of failure) notice_answer l' }
 
 -- nothing has grown
 abbrev pub SameSizes : (Kind → List ℕ) → (Kind → List ℕ) → Type 0
@@ -38,5 +42,6 @@ OneGrows current desired sizes sizes' = ((current ≡ 0) × (sizes' ≡ sizes ++
 -- how the trace has grown by one call, and the sizes with it
 abbrev pub LeavesTrace : List Event → (Kind → List ℕ) → List Event → (Kind → List ℕ) → Type 0
 LeavesTrace events sizes events' sizes' = ((events' ≡ events) × SameSizes sizes sizes')
-    ⊎ ((q : Question) × (events' ≡ events ++ event_of q ∷ []) × OneGrows q.current q.desired (sizes q.kind) (sizes' q.kind))
+    ⊎ ((q : Question) × (events' ≡ events ++ event_of q ∷ [])
+    × OneGrows q.current q.desired (sizes q.kind) (sizes' q.kind))
     ⊎ ((q : Question) × (events' ≡ events ++ event_of q ∷ Failed q.kind ∷ []) × SameSizes sizes sizes')

@@ -36,14 +36,17 @@ abbrev pub FitsAnyRegions : Call → Type 0
 FitsAnyRegions call = (s : State) → FitsRegions s call
 
 -- turns of calls, and then turns of other calls, are one run
-abbrev pub IsRunOfBoth : {S : Type 0} → Rules S → List Call → List Call → World S → List Reply → List Reply → World S → Type 0
+abbrev pub IsRunOfBoth : {S : Type 0} → Rules S → List Call → List Call → World S → List Reply → List Reply → World S
+    → Type 0
 IsRunOfBoth rules calls calls' w replies replies' w' =
-    (turns : List Turn) × (turns' : List Turn) × AreTurns calls replies turns × AreTurns calls' replies' turns' × Run rules w (turns ++ turns') w'
+    (turns : List Turn) × (turns' : List Turn) × AreTurns calls replies turns × AreTurns calls' replies' turns'
+    × Run rules w (turns ++ turns') w'
 
 -- each turn that is refused keeps what a refused turn keeps
 abbrev pub KeepsWhereRefused : {S : Type 0} → Rules S → List Call → World S → List Reply → World S → Type 0
 KeepsWhereRefused rules calls w replies w' =
-    (turns : List Turn) × AreTurns calls replies turns × Sequence (λ v turn v'. Step rules v turn v' × (IsRefusal turn.reply → Keeps rules v turn v')) w turns w'
+    (turns : List Turn) × AreTurns calls replies turns
+    × Sequence (λ v turn v'. Step rules v turn v' × (IsRefusal turn.reply → Keeps rules v turn v')) w turns w'
 
 -- two runs of the same turns
 abbrev pub AreSameTurns : {S : Type 0} → Rules S → World S → World S → World S → Type 0
@@ -57,11 +60,16 @@ IsLent x = (rest : List ℕ) × (x.room ≡ Lent rest)
 abbrev pub HasRegionFor : MemoryTypeValue → State → Type 0
 HasRegionFor ty s = (region : List ℕ) × (s.spare ≡ Some region) × (minimum_bytes ty ≤ length region)
 
--- where metering was on, what was left is what is left and what the calls were charged, and that bounds what they have written
+-- where metering was on, what was left is what is left and what the calls were charged, and that bounds what they have
+-- written
 abbrev pub IsSpentBy : State → List Call → List Reply → State → Type 0
 IsSpentBy s calls replies s' = (left : ℕ) → s.meter.left ≡ Some left
-    → (left' : ℕ) × (s'.meter.left ≡ Some left') × (turns : List Turn) × AreTurns calls replies turns × IsSpent s.meter.costs.bytes_copied_per_fuel left left' turns
+    → (left' : ℕ) × (s'.meter.left ≡ Some left') × (turns : List Turn) × AreTurns calls replies turns
+    × IsSpent s.meter.costs.bytes_copied_per_fuel left left' turns
 
--- in each turn a permission is followed by exactly the growth that was asked for, or by just one notice, and a denial by neither
+-- in each turn a permission is followed by exactly the growth that was asked for, or by just one notice, and a denial
+-- by neither
 abbrev pub IsExchanged : {S : Type 0} → Rules S → List Call → World S → List Reply → World S → Type 0
-IsExchanged rules calls w replies w' = (turns : List Turn) × AreTurns calls replies turns × Sequence (λ v turn v'. Step rules v turn v' × Exchanges rules v turn v') w turns w'
+IsExchanged rules calls w replies w' =
+    (turns : List Turn) × AreTurns calls replies turns
+    × Sequence (λ v turn v'. Step rules v turn v' × Exchanges rules v turn v') w turns w'

@@ -1,5 +1,5 @@
-//! Callers of the laws on lanes: what one lane of a vector is, one bit of a number that is made of lanes, and the lanes of
-//! words.
+//! Callers of the laws on lanes: what one lane of a vector is, one bit of a number that is made of
+//! lanes, and the lanes of words.
 ghost use Rattle.std.specs.Prelude.{◌≡◌, ◌↔◌, ℕ, ◌+◌, ◌-◌, ◌*◌, ◌%◌, ◌^◌, ◌<◌, ◌≤◌, ◌*ℤ◌, ◌+ℤ◌, ◌==◌, nat_lt, nat_le, nat_eq, not, Bool, IsTrue, slice_index, if◌then◌else◌, ◌∷◌, []};
 ghost use Rattle.std.specs.Int.{bit_at};
 ghost use Rattle.wasmi_types.specs.Wrapping.{w8, w16, w32, signed, wrap, clamp_unsigned};
@@ -37,7 +37,8 @@ pub fn signed_byte_in_each_lane(number: i8) -> V128
 
 /// A number in one lane, the other lanes as they were.
 pub fn byte_in_one_lane(v: V128, at: ImmLaneIdx16, number: i8) -> V128
-    ensures { (i : ℕ) → i < 16 → lane w8 result i ≡ (if i == at then wrap w8 number else lane w8 v i) }
+    ensures { (i : ℕ) → i < 16
+        → lane w8 result i ≡ (if i == at then wrap w8 number else lane w8 v i) }
 {
     lane_laws::lanes_of_made_vector();
     widening_laws::wrapped_numbers();
@@ -47,7 +48,8 @@ pub fn byte_in_one_lane(v: V128, at: ImmLaneIdx16, number: i8) -> V128
 /// The bytes of two vectors at 16 indices: the second vector's are counted on from 16.
 pub fn chosen_bytes(a: V128, b: V128, indices: [ImmLaneIdx32; 16]) -> V128
     ensures { (i : ℕ) → i < 16 → lane w8 result i
-        ≡ (if nat_lt (slice_index indices i) 16 then lane w8 a (slice_index indices i) else lane w8 b (slice_index indices i - 16)) % 2 ^ 8 }
+        ≡ (if nat_lt (slice_index indices i) 16 then lane w8 a
+        (slice_index indices i) else lane w8 b (slice_index indices i - 16)) % 2 ^ 8 }
 {
     lane_laws::lanes_of_made_vector();
     i8x16_shuffle(a, b, indices)
@@ -82,7 +84,8 @@ pub fn sums_of_bytes(a: V128, b: V128) -> V128
 
 /// All ones in the lanes where the first byte is larger.
 pub fn larger_bytes(a: V128, b: V128) -> V128
-    ensures { (i : ℕ) → i < 16 → lane w8 result i ≡ (if nat_lt (lane w8 b i) (lane w8 a i) then 255 else 0) }
+    ensures { (i : ℕ) → i < 16
+        → lane w8 result i ≡ (if nat_lt (lane w8 b i) (lane w8 a i) then 255 else 0) }
 {
     lane_laws::lanes_of_rows::<U8x16>();
     i8x16_gt_u(a, b)
@@ -132,25 +135,32 @@ pub fn products_of_upper_bytes(a: V128, b: V128) -> V128
 
 /// The sums of neighbouring bytes.
 pub fn sums_of_neighbours(v: V128) -> V128
-    ensures { (i : ℕ) → i < 8 → lane w16 result i ≡ (lane w8 v (2 * i) + lane w8 v (2 * i + 1)) % 2 ^ 16 }
+    ensures { (i : ℕ) → i < 8
+        → lane w16 result i ≡ (lane w8 v (2 * i) + lane w8 v (2 * i + 1)) % 2 ^ 16 }
 {
     widening_laws::lanes_of_neighbours::<u8>();
     i16x8_extadd_pairwise_i8x16_u(v)
 }
 
-/// The products of the signed numbers of two vectors, two neighbours at a time, added up at 32 bits.
+/// The products of the signed numbers of two vectors, two even_odd at a time, added up at 32 bits.
 pub fn sums_of_products(a: V128, b: V128) -> V128
-    ensures { (i : ℕ) → i < 4 → lane w32 result i ≡ wrap w32 ((signed w16 (lane w16 a (2 * i)) *ℤ signed w16 (lane w16 b (2 * i))) +ℤ (signed w16 (lane w16 a (2 * i + 1)) *ℤ signed w16 (lane w16 b (2 * i + 1)))) }
+    ensures { (i : ℕ) → i < 4
+        → lane w32 result i
+        ≡ wrap w32 ((signed w16 (lane w16 a (2 * i)) *ℤ signed w16 (lane w16 b (2 * i))) +ℤ
+        (signed w16 (lane w16 a (2 * i + 1)) *ℤ signed w16 (lane w16 b (2 * i + 1)))) }
 {
     widening_laws::lanes_of_neighbours::<i16>();
     widening_laws::wrapped_numbers();
     i32x4_dot_i16x8_s(a, b)
 }
 
-/// The bytes to which the signed numbers of two vectors are clamped, those of the first vector first.
+/// The bytes to which the signed numbers of two vectors are clamped, those of the first vector
+/// first.
 pub fn clamped_to_bytes(a: V128, b: V128) -> V128
-    ensures first { (i : ℕ) → i < 8 → lane w8 result i ≡ clamp_unsigned w8 (signed w16 (lane w16 a i)) % 2 ^ 8 }
-    ensures second { (i : ℕ) → i < 8 → lane w8 result (8 + i) ≡ clamp_unsigned w8 (signed w16 (lane w16 b i)) % 2 ^ 8 }
+    ensures first { (i : ℕ) → i < 8
+        → lane w8 result i ≡ clamp_unsigned w8 (signed w16 (lane w16 a i)) % 2 ^ 8 }
+    ensures second { (i : ℕ) → i < 8
+        → lane w8 result (8 + i) ≡ clamp_unsigned w8 (signed w16 (lane w16 b i)) % 2 ^ 8 }
 {
     widening_laws::lanes_of_wide_lanes::<i16>();
     i8x16_narrow_i16x8_u(a, b)
@@ -158,16 +168,19 @@ pub fn clamped_to_bytes(a: V128, b: V128) -> V128
 
 /// The signs of the bytes: bit i tells whether byte i is negative.
 pub fn signs_of_bytes(v: V128) -> u32
-    ensures bit { (i : ℕ) → i < 16 → bit_at result i ≡ (if nat_le (2 ^ 7) (lane w8 v i) then 1 else 0) }
+    ensures bit { (i : ℕ) → i < 16
+        → bit_at result i ≡ (if nat_le (2 ^ 7) (lane w8 v i) then 1 else 0) }
     ensures below { result < 2 ^ 16 }
 {
     widening_laws::bits_of_lanes::<u8>();
     i8x16_bitmask(v)
 }
 
-/// Whether 8 bits, made of a test of each number below 8, are all 1: whether the test holds of each.
+/// Whether 8 bits, made of a test of each number below 8, are all 1: whether the test holds of
+/// each.
 pub fn are_all_ones(bits: u32) -> bool
-    ensures { (test : ℕ → Bool) → bits ≡ first_bits 8 test → (IsTrue result ↔ IsTrue (holds_below 8 test)) }
+    ensures { (test : ℕ → Bool) → bits ≡ first_bits 8 test
+        → (IsTrue result ↔ IsTrue (holds_below 8 test)) }
 {
     widening_laws::bits_of_lanes::<u8>();
     widening_laws::tests_of_lanes::<u8>();
@@ -183,8 +196,9 @@ pub fn has_no_zero_byte(v: V128) -> bool
 }
 
 /// A word is its four lanes of 16 bits.
-pub fn word_is_its_quarters(word: u64)
-    ensures { word ≡ word_of_lanes (λ start width. field start width word) 0 (16 ∷ 16 ∷ 16 ∷ 16 ∷ []) }
+pub fn word_is_its_u32x4(word: u64)
+    ensures { word
+        ≡ word_of_lanes (λ start width. field start width word) 0 (16 ∷ 16 ∷ 16 ∷ 16 ∷ []) }
 {
     lane_laws::word_is_made_of_lanes(word);
 }
@@ -194,21 +208,29 @@ const MIXED_TOPS: u64 = 0x8000_0000_8000_8080;
 
 /// The sums of lanes of 8, 8, 16 and 32 bits.
 pub fn sums_of_mixed_lanes(a: u64, b: u64) -> u64
-    ensures { result ≡ word_of_lanes (λ start width. (field start width a + field start width b) % 2 ^ width) 0 (8 ∷ 8 ∷ 16 ∷ 32 ∷ []) }
+    ensures { result
+        ≡ word_of_lanes (λ start width. (field start width a + field start width b) % 2 ^ width) 0
+        (8 ∷ 8 ∷ 16 ∷ 32 ∷ []) }
 {
     lane_laws::sums_of_lanes(a, b, MIXED_TOPS)
 }
 
 /// The differences of lanes of 8, 8, 16 and 32 bits.
 pub fn differences_of_mixed_lanes(a: u64, b: u64) -> u64
-    ensures { result ≡ word_of_lanes (λ start width. (field start width a + (2 ^ width - field start width b)) % 2 ^ width) 0 (8 ∷ 8 ∷ 16 ∷ 32 ∷ []) }
+    ensures { result
+        ≡ word_of_lanes
+        (λ start width. (field start width a + (2 ^ width - field start width b)) % 2 ^ width) 0
+        (8 ∷ 8 ∷ 16 ∷ 32 ∷ []) }
 {
     lane_laws::differences_of_lanes(a, b, MIXED_TOPS)
 }
 
 /// The highest bits of the lanes of 8, 8, 16 and 32 bits in which two words differ.
 pub fn tops_of_different_mixed_lanes(a: u64, b: u64) -> u64
-    ensures { result ≡ word_of_lanes (λ start width. if field start width a == field start width b then 0 else 2 ^ (width - 1)) 0 (8 ∷ 8 ∷ 16 ∷ 32 ∷ []) }
+    ensures { result
+        ≡ word_of_lanes
+        (λ start width. if field start width a == field start width b then 0 else 2 ^ (width - 1)) 0
+        (8 ∷ 8 ∷ 16 ∷ 32 ∷ []) }
 {
     lane_laws::tops_of_different_lanes(a, b, MIXED_TOPS)
 }

@@ -1,5 +1,5 @@
-//! Callers of what makes a memory or a table, or lets it grow, under a limiter that is lent for that one call; and of
-//! the laws that every memory and every table is valid.
+//! Callers of what makes a memory or a table, or lets it grow, under a limiter that is lent for
+//! that one call; and of the laws that every memory and every table is valid.
 ghost use Rattle.std.specs.Prelude.{◌≡◌, ◌≤◌, ◌*◌, true, length, IfOk};
 ghost use Rattle.wasmi_meter.specs.declared.limiter.Kind.TheVariants.{Bytes, Elements};
 ghost use Rattle.wasmi_meter.specs.Quota.{holdings, IsWithinCaps};
@@ -48,8 +48,8 @@ pub fn grow_memory(
     memory.grow_lending(pages, fuel, quota)
 }
 
-/// Makes a memory and lets it grow under a quota of its own: the quota holds what the memory has, and is within its
-/// caps.
+/// Makes a memory and lets it grow under a quota of its own: the quota holds what the memory has,
+/// and is within its caps.
 pub fn make_grown_memory<'r>(
     alloc: Global,
     ty: MemoryType,
@@ -103,7 +103,8 @@ pub fn grow_table_raw(
     table.grow_raw_lending(delta, init, fuel, quota)
 }
 
-/// The size of any memory in pages: that many pages are its bytes, and no fewer than its type's minimum.
+/// The size of any memory in pages: that many pages are its bytes, and no fewer than its type's
+/// minimum.
 pub fn pages_of_memory(memory: &Memory) -> u64
     ensures whole { result * page_bytes memory.now.ty.page ≡ length memory.now.bytes }
     ensures minimum { memory.now.ty.minimum ≤ result }

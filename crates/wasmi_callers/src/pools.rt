@@ -8,7 +8,8 @@ ghost use Rattle.wasmi_callers.specs.Pools.{RunsAlone, RunsBeside};
 use wasmi_budget::{Pool, PoolError, Tenant, laws};
 use wasmi_core::{Call, Reply, laws as core_laws};
 
-/// Makes calls on the machine of a tenant: whatever comes of it, all machines together stay within the caps.
+/// Makes calls on the machine of a tenant: whatever comes of it, all machines together stay within
+/// the caps.
 pub fn run_within(pool: &mut Pool, index: usize, calls: &[Call]) -> Result<Vec<Reply>, PoolError>
     requires { IsWithinCaps pool.old }
     ensures caps { pool.new.caps ≡ pool.old.caps }
@@ -18,10 +19,12 @@ pub fn run_within(pool: &mut Pool, index: usize, calls: &[Call]) -> Result<Vec<R
     pool.run(index, calls)
 }
 
-/// Makes calls on the machine of a tenant: where no reply tells of a denial, it is as if the tenant had a pool of its
-/// own with the same caps.
+/// Makes calls on the machine of a tenant: where no reply tells of a denial, it is as if the tenant
+/// had a pool of its own with the same caps.
 pub fn run_alone(pool: &mut Pool, index: usize, calls: &[Call]) -> Result<Vec<Reply>, PoolError>
-    ensures { IfOk result (λ replies. All TellsNoDenial replies.items → RunsAlone pool.old index calls.now replies.items pool.new) }
+    ensures { IfOk result
+        (λ replies. All TellsNoDenial replies.items
+        → RunsAlone pool.old index calls.now replies.items pool.new) }
 {
     laws::replies_permit();
     laws::permitted_runs_as_alone();
@@ -30,15 +33,17 @@ pub fn run_alone(pool: &mut Pool, index: usize, calls: &[Call]) -> Result<Vec<Re
 
 /// The same of the machine alone: what the others hold doesn't show.
 pub fn run_beside(pool: &mut Pool, index: usize, calls: &[Call]) -> Result<Vec<Reply>, PoolError>
-    ensures { IfOk result (λ replies. All TellsNoDenial replies.items → RunsBeside pool.old index calls.now replies.items) }
+    ensures { IfOk result
+        (λ replies. All TellsNoDenial replies.items
+        → RunsBeside pool.old index calls.now replies.items) }
 {
     laws::replies_permit();
     laws::others_do_not_show();
     pool.run(index, calls)
 }
 
-/// Makes the same calls on a tenant's machine in two equal pools: if no reply tells of want of memory, the replies are
-/// the same, and the pools are equal again.
+/// Makes the same calls on a tenant's machine in two equal pools: if no reply tells of want of
+/// memory, the replies are the same, and the pools are equal again.
 pub fn run_on_both(
     pool: &mut Pool,
     other: &mut Pool,
@@ -50,7 +55,7 @@ pub fn run_on_both(
         → (replies.0.items ≡ replies.1.items) × (pool.new ≡ other.new)) }
 {
     laws::tenants_leave_no_choice();
-    laws::tenants_heed_all();
+    laws::tenants_accept_notices();
     core_laws::replies_are_one::<Tenant>();
     let first = pool.run(index, calls)?;
     let second = other.run(index, calls)?;

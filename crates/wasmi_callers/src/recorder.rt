@@ -109,15 +109,17 @@ impl ResourceLimiter for Recorder {
     }
 }
 
-/// Makes one call. The trace has become longer by nothing; by a permission, and the growth that it permitted is done;
-/// or by a permission and exactly one failure, and nothing has grown.
+/// Makes one call. The trace has become longer by nothing; by a permission, and the growth that it
+/// permitted is done; or by a permission and exactly one failure, and nothing has grown.
 pub fn call_recorded(
     machine: &mut Machine,
     calls: &[Call],
     recorder: &mut Recorder,
 ) -> Result<Vec<Reply>, AllocError>
     requires { length calls.now ≡ 1 }
-    ensures { IfOk result (λ _. LeavesTrace recorder.old.events.items (sizes machine.old) recorder.new.events.items (sizes machine.new)) }
+    ensures { IfOk result
+        (λ _. LeavesTrace recorder.old.events.items (sizes machine.old) recorder.new.events.items
+        (sizes machine.new)) }
 {
     laws::growths_are_permitted::<Recorder>();
     run_lending(machine, calls, recorder)

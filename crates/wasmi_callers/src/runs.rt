@@ -3,7 +3,7 @@ ghost use Rattle.std.specs.Prelude.{◌≡◌, ◌+◌, ◌*◌, ◌++◌, ◌�
 ghost use Rattle.wasmi_meter.specs.Limiter.{optional_rules};
 ghost use Rattle.wasmi_meter.specs.declared.limiter.Kind.TheVariants.{Bytes, Elements};
 ghost use Rattle.wasmi_meter.specs.Quota.{holdings, cap_of, IsWithinCaps, quota_rules};
-ghost use Rattle.wasmi_store.specs.Buffer.{has_place_for};
+ghost use Rattle.wasmi_store.specs.Buffer.{fits_room};
 ghost use Rattle.wasmi_store.specs.MemoryType.{page_bytes, in_bounds};
 ghost use Rattle.wasmi_store.specs.Memory.{pages_of};
 ghost use Rattle.wasmi_core.specs.Account.{SetsNoFuel};
@@ -23,8 +23,8 @@ use wasmi_core::{
     ResourceLimiterRef, laws, run_lending, run_reserving,
 };
 
-/// Makes one call. Where it is refused, the machine has the contents that it had; the spare region, unless a memory was to
-/// be made in it; and what was left, unless memory was wanting.
+/// Makes one call. Where it is refused, the machine has the contents that it had; the spare region,
+/// unless a memory was to be made in it; and what was left, unless memory was wanting.
 pub fn call_refused<L: ResourceLimiter>(
     machine: &mut Machine,
     call: &Call,
@@ -32,21 +32,27 @@ pub fn call_refused<L: ResourceLimiter>(
 ) -> Reply
     ensures contents { IsRefusal result → SameContents machine.old machine.new }
     ensures spare { IsRefusal result → KeepsSpare call.now result machine.old machine.new }
-    ensures meter { IsRefusal result → KeepsMeter (optional_rules L.rules) (world machine.old (Some limiter.old)) (world machine.new (Some limiter.new)) }
+    ensures meter { IsRefusal result
+        → KeepsMeter (optional_rules L.rules) (world machine.old (Some limiter.old))
+        (world machine.new (Some limiter.new)) }
 {
     laws::refusals_keep_contents::<L>();
     machine.step_lending(call, limiter)
 }
 
-/// Makes calls. Each that is refused keeps what `call_refused` says, and where all are, the machine has the contents
-/// that it had.
+/// Makes calls. Each that is refused keeps what `call_refused` says, and where all are, the machine
+/// has the contents that it had.
 pub fn run_refused<L: ResourceLimiter>(
     machine: &mut Machine,
     calls: &[Call],
     limiter: &mut L,
 ) -> Result<Vec<Reply>, AllocError>
-    ensures turns { IfOk result (λ replies. KeepsWhereRefused (optional_rules L.rules) calls.now (world machine.old (Some limiter.old)) replies.items (world machine.new (Some limiter.new))) }
-    ensures all { IfOk result (λ replies. All IsRefusal replies.items → SameContents machine.old machine.new) }
+    ensures turns { IfOk result
+        (λ replies. KeepsWhereRefused (optional_rules L.rules) calls.now
+        (world machine.old (Some limiter.old)) replies.items
+        (world machine.new (Some limiter.new))) }
+    ensures all { IfOk result
+        (λ replies. All IsRefusal replies.items → SameContents machine.old machine.new) }
 {
     laws::refusals_keep_contents::<L>();
     run_lending(machine, calls, limiter)
@@ -76,8 +82,8 @@ pub fn run_bounded<L: ResourceLimiter>(
     run_lending(machine, calls, limiter)
 }
 
-/// Makes calls that don't set the fuel: what was left before is what is left after and what they were charged, which
-/// bounds what they have written.
+/// Makes calls that don't set the fuel: what was left before is what is left after and what they
+/// were charged, which bounds what they have written.
 pub fn run_spent<L: ResourceLimiter>(
     machine: &mut Machine,
     calls: &[Call],
@@ -96,7 +102,10 @@ pub fn run_exchanged<L: ResourceLimiter>(
     calls: &[Call],
     limiter: &mut L,
 ) -> Result<Vec<Reply>, AllocError>
-    ensures { IfOk result (λ replies. IsExchanged (optional_rules L.rules) calls.now (world machine.old (Some limiter.old)) replies.items (world machine.new (Some limiter.new))) }
+    ensures { IfOk result
+        (λ replies. IsExchanged (optional_rules L.rules) calls.now
+        (world machine.old (Some limiter.old)) replies.items
+        (world machine.new (Some limiter.new))) }
 {
     laws::growths_are_permitted::<L>();
     run_lending(machine, calls, limiter)
@@ -108,14 +117,18 @@ pub fn run_permitted<L: ResourceLimiter>(
     calls: &[Call],
     limiter: &mut L,
 ) -> Result<Vec<Reply>, AllocError>
-    ensures { IfOk result (λ replies. All TellsNoDenial replies.items → IsRunOf (permitting (optional_rules L.rules)) calls.now
-        (world machine.old (Some limiter.old)) replies.items (world machine.new (Some limiter.new))) }
+    ensures { IfOk result
+        (λ replies. All TellsNoDenial replies.items
+        → IsRunOf (permitting (optional_rules L.rules)) calls.now
+        (world machine.old (Some limiter.old)) replies.items
+        (world machine.new (Some limiter.new))) }
 {
     laws::replies_permit::<L>();
     run_lending(machine, calls, limiter)
 }
 
-/// Makes calls whose types are valid, on a machine whose state is valid as every machine's is: it is so afterwards.
+/// Makes calls whose types are valid, on a machine whose state is valid as every machine's is: it
+/// is so afterwards.
 pub fn run_valid<L: ResourceLimiter>(
     machine: &mut Machine,
     calls: &[Call],
@@ -129,7 +142,8 @@ pub fn run_valid<L: ResourceLimiter>(
     run_lending(machine, calls, limiter)
 }
 
-/// Makes calls under a quota that holds what the machine has and is within its caps: so the machine is within them.
+/// Makes calls under a quota that holds what the machine has and is within its caps: so the machine
+/// is within them.
 pub fn run_within_quota(
     machine: &mut Machine,
     calls: &[Call],
@@ -157,8 +171,8 @@ pub fn run_counted(
     run_lending(machine, calls, quota)
 }
 
-/// Makes some calls and then others: it is as if all were made in one run, by the turns of the first and then those of
-/// the others.
+/// Makes some calls and then others: it is as if all were made in one run, by the turns of the
+/// first and then those of the others.
 pub fn run_both<L: ResourceLimiter>(
     machine: &mut Machine,
     calls: &[Call],
@@ -166,9 +180,11 @@ pub fn run_both<L: ResourceLimiter>(
     limiter: &mut L,
 ) -> Result<(Vec<Reply>, Vec<Reply>), AllocError>
     ensures calls { IfOk result (λ replies. IsRunOf (optional_rules L.rules) (calls.now ++ more.now)
-        (world machine.old (Some limiter.old)) (replies.0.items ++ replies.1.items) (world machine.new (Some limiter.new))) }
+        (world machine.old (Some limiter.old)) (replies.0.items ++ replies.1.items)
+        (world machine.new (Some limiter.new))) }
     ensures turns { IfOk result (λ replies. IsRunOfBoth (optional_rules L.rules) calls.now more.now
-        (world machine.old (Some limiter.old)) replies.0.items replies.1.items (world machine.new (Some limiter.new))) }
+        (world machine.old (Some limiter.old)) replies.0.items replies.1.items
+        (world machine.new (Some limiter.new))) }
 {
     laws::runs_join::<L>();
     let first = run_lending(machine, calls, limiter)?;
@@ -176,8 +192,8 @@ pub fn run_both<L: ResourceLimiter>(
     Ok((first, second))
 }
 
-/// Makes the same calls on two equal machines under equal quotas: if no reply tells of want of memory, the replies are
-/// the same, and the machines and the quotas are equal again.
+/// Makes the same calls on two equal machines under equal quotas: if no reply tells of want of
+/// memory, the replies are the same, and the machines and the quotas are equal again.
 pub fn run_twice(
     machine: &mut Machine,
     other: &mut Machine,
@@ -188,10 +204,11 @@ pub fn run_twice(
     requires machines { other.old ≡ machine.old }
     requires quotas { other_quota.old ≡ quota.old }
     ensures { IfOk result (λ replies. All HasMemory replies.0.items → All HasMemory replies.1.items
-        → (replies.0.items ≡ replies.1.items) × (machine.new ≡ other.new) × (quota.new ≡ other_quota.new)) }
+        → (replies.0.items ≡ replies.1.items) × (machine.new ≡ other.new)
+        × (quota.new ≡ other_quota.new)) }
 {
     laws::quota_leaves_no_choice();
-    laws::quota_heeds_all();
+    laws::quota_accepts_notices();
     laws::replies_are_one::<Quota>();
     let first = run_lending(machine, calls, quota)?;
     let second = run_lending(other, calls, other_quota)?;
@@ -209,7 +226,7 @@ pub fn run_twice_unlimited(
         → (replies.0.items ≡ replies.1.items) × (machine.new ≡ other.new)) }
 {
     laws::no_limits_leave_no_choice();
-    laws::no_limits_heed_all();
+    laws::no_limits_accept_notices();
     laws::replies_are_one::<NoLimits>();
     let mut unlimited = NoLimits;
     let first = run_lending(machine, calls, &mut unlimited)?;
@@ -229,11 +246,13 @@ pub fn run_twice_charged(
     requires machines { other.old ≡ machine.old }
     requires quotas { other_quota.old ≡ quota.old }
     ensures { IfOk result (λ replies. All HasMemory replies.0.items → All HasMemory replies.1.items
-        → AreSameTurns (optional_rules quota_rules) (record { state = machine.old; limiter = Some quota.old })
-        (record { state = machine.new; limiter = Some quota.new }) (record { state = other.new; limiter = Some other_quota.new })) }
+        → AreSameTurns (optional_rules quota_rules)
+        (record { state = machine.old; limiter = Some quota.old })
+        (record { state = machine.new; limiter = Some quota.new })
+        (record { state = other.new; limiter = Some other_quota.new })) }
 {
     laws::quota_leaves_no_choice();
-    laws::quota_heeds_all();
+    laws::quota_accepts_notices();
     laws::replies_tell::<Quota>();
     laws::runs_are_one::<Quota>();
     let first = run_lending(machine, calls, quota)?;
@@ -241,8 +260,8 @@ pub fn run_twice_charged(
     Ok((first, second))
 }
 
-/// Makes calls that fit whatever regions there are, as all do that neither make a memory in the spare region nor grow
-/// one: the replies are those of a machine whose memories are all its own.
+/// Makes calls that fit whatever regions there are, as all do that neither make a memory in the
+/// spare region nor grow one: the replies are those of a machine whose memories are all its own.
 pub fn run_in_regions<L: ResourceLimiter>(
     machine: &mut Machine,
     calls: &[Call],
@@ -257,8 +276,8 @@ pub fn run_in_regions<L: ResourceLimiter>(
     run_lending(machine, calls, limiter)
 }
 
-/// Makes one memory in the spare region, which is long enough for it: the reply is that of a machine that makes one of
-/// its own.
+/// Makes one memory in the spare region, which is long enough for it: the reply is that of a
+/// machine that makes one of its own.
 pub fn make_in_region<L: ResourceLimiter>(
     machine: &mut Machine,
     ty: MemoryType,
@@ -275,11 +294,12 @@ pub fn make_in_region<L: ResourceLimiter>(
     run_lending(machine, calls, limiter)
 }
 
-/// Grows a lent memory that its type and its region have place for, with no meter and no limits: it grows.
+/// Grows a lent memory that its type and its region have place for, with no meter and no limits: it
+/// grows.
 pub fn grow_in_region(memory: &mut Memory, pages: u64) -> Result<u64, MemoryError>
     requires lent { IsLent memory.old }
     requires inside { in_bounds memory.old.ty (pages_of memory.old + pages) ≡ true }
-    requires place { has_place_for memory.old.room (pages * page_bytes memory.old.ty.page) ≡ true }
+    requires place { fits_room memory.old.room (pages * page_bytes memory.old.ty.page) ≡ true }
     ensures { result ≡ Ok (pages_of memory.old) }
 {
     laws::lent_growths_succeed::<NoLimits>();

@@ -14,9 +14,11 @@ pub fn kept_in_a_register(register: &mut RawVal, value: i32) -> i32
     wasmi_raw::laws::written_value_is_read::<i32, RawVal>(register, value)
 }
 
-/// A number that is stored at an address is the number that is then loaded from there, and the other bytes are the same.
+/// A number that is stored at an address is the number that is then loaded from there, and the
+/// other bytes are the same.
 pub fn stored_and_loaded(memory: &mut [u8], address: usize, value: u32) -> Result<u32, TrapCode>
-    ensures loaded { MatchResult result (λ number. number ≡ value) (λ trap. trap ≡ TrapCode.MemoryOutOfBounds) }
+    ensures loaded { MatchResult result (λ number. number ≡ value)
+        (λ trap. trap ≡ TrapCode.MemoryOutOfBounds) }
     ensures outside { IfOk result (λ _. IsSameOutside memory.old memory.new address 4) }
 {
     store_at(memory, address, value)?;
@@ -30,7 +32,8 @@ pub fn signed_stored_and_loaded(
     address: usize,
     value: i32,
 ) -> Result<i32, TrapCode>
-    ensures { MatchResult result (λ number. number ≡ value) (λ trap. trap ≡ TrapCode.MemoryOutOfBounds) }
+    ensures { MatchResult result (λ number. number ≡ value)
+        (λ trap. trap ≡ TrapCode.MemoryOutOfBounds) }
 {
     store_at(memory, address, value)?;
     laws::stored_number_is_loaded();

@@ -5,27 +5,27 @@ use Rattle.std.proofs.lemmas.Bool.Decides.{nat_tests}
 use Rattle.std.proofs.lemmas.Option.{same_Some}
 use Rattle.std.specs.Option.{option_map, unwrap_or}
 use Rattle.std.specs.Prelude.{if◌then◌else◌, is_none, nat_le, ◌&&◌}
-use Rattle.wasmi_core.proofs.RowLemmas.{on_live}
+use Rattle.wasmi_core.proofs.EffectLemmas.{on_live}
 use Rattle.wasmi_core.proofs.StepsLemmas.{change_facts}
 use Rattle.wasmi_core.specs.Account.{Account, Balances, account_after, charged_by, opened}
-use Rattle.wasmi_core.specs.Rows.{ActsAt, reply_of}
+use Rattle.wasmi_core.specs.Effects.{ActsAt, reply_of}
 use Rattle.wasmi_core.specs.Runs.{Run}
 use Rattle.wasmi_core.specs.State.{State, live_at}
 use Rattle.wasmi_core.specs.Steps.{Changed, Effect, FuelSet, MemoryGrown, PartWritten, TableGrown, TakesEffect, effect_of}
-use Rattle.wasmi_core.specs.TableRows.{WritesTableAt, WritesTableFrom, metered, write_of}
+use Rattle.wasmi_core.specs.TableEffects.{WritesTableAt, WritesTableFrom, metered, write_of}
 use Rattle.wasmi_core.specs.World.{Turn, World}
 use Rattle.wasmi_core.specs.declared.calls.Call.{Call}
 use Rattle.wasmi_core.specs.declared.calls.Call.TheVariants.{SetFuel}
 use Rattle.wasmi_core.specs.declared.calls.Reply.{Reply}
 use Rattle.wasmi_core.specs.declared.slots.Slot.{Slot}
-use Rattle.wasmi_meter.specs.Attempt.{Attempt, Denied, Effort, Failed, Fate, Met, Situation, Unasked, amount_due, can_pay}
+use Rattle.wasmi_meter.specs.Attempt.{Attempt, Denied, Request, Failed, AttemptOutcome, Met, MeteredValue, Unasked, optional_due, covers}
 use Rattle.wasmi_meter.specs.Limiter.{Rules}
 use Rattle.wasmi_meter.specs.Meter.{Meter, due, meter_after}
 use Rattle.wasmi_meter.specs.declared.error.TableError.{TableError}
 use Rattle.wasmi_store.proofs.GrowthLemmas.{on_test}
 use Rattle.wasmi_store.specs.Growth.{Grows, Growth}
 use Rattle.wasmi_store.specs.Memory.{GrowsMemory, MemoryValue, pages_of}
-use Rattle.wasmi_store.specs.Table.{EndsBy, GrowsTable, TableValue, TableWrite, WritesTable, due_for, size_of}
+use Rattle.wasmi_store.specs.Table.{EndsBy, GrowsTable, TableValue, TableWrite, WritesTable, growth_due, size_of}
 use Rattle.wasmi_store.specs.TableType.{same_type}
 use Rattle.wasmi_typed.specs.declared.typed_ref.TypedRawRef.{TypedRawRef}
 use Rattle.wasmi_store.specs.Memory as memory
@@ -41,11 +41,12 @@ pub takes_nothing : (m m' : Meter) (charge : ℕ) → charge ≡ 0 → m' ≡ m 
 takes_nothing m m' charge free same left on = (left, ap (λ (m : Meter). m.left) same ∙ on, omega (arith, free))
 
 -- no more is charged than is left
-abbrev IsPaid : Meter → ℕ → Type 0
-IsPaid m charge = (left : ℕ) → m.left ≡ Some left → charge ≤ left
+abbrev IsCharged : Meter → ℕ → Type 0
+IsCharged m charge = (left : ℕ) → m.left ≡ Some left → charge ≤ left
 
 -- where what is charged can be paid
-takes_paid : (m m' : Meter) (charge : ℕ) → IsPaid m charge → Some m' ≡ Some (meter_after m charge) → Takes m charge m'
+takes_paid : (m m' : Meter) (charge : ℕ) → IsCharged m charge → Some m' ≡ Some (meter_after m charge)
+    → Takes m charge m'
 takes_paid m m' charge paid same left on = (
   left - charge,
   ap (λ (m : Meter). m.left) (same_Some m' (meter_after m charge) same)
@@ -54,33 +55,33 @@ takes_paid m m' charge paid same left on = (
 )
 
 -- nothing can be paid
-paid_free : (m : Meter) (charge : ℕ) → charge ≡ 0 → IsPaid m charge
+paid_free : (m : Meter) (charge : ℕ) → charge ≡ 0 → IsCharged m charge
 paid_free m charge free left on = omega (arith, free)
 
 -- what is due can be paid where a test says so
-paid_due : (m : Meter) (due charge : ℕ) → can_pay (Some m) due ≡ true → charge ≡ due → IsPaid m charge
+paid_due : (m : Meter) (due charge : ℕ) → covers (Some m) due ≡ true → charge ≡ due → IsCharged m charge
 paid_due m due charge enough same left on =
     let within : nat_le due left ≡ true = sym (ap (λ (o : Option ℕ). nat_le due (unwrap_or o 0)) on) ∙ enough in
     grind (arith, nat_tests, within, same)
 
 -- so where a test decides whether it is charged
-paid_if : (m : Meter) (due charge : ℕ) (tested : Bool) → (tested ≡ true → can_pay (Some m) due ≡ true)
-    → charge ≡ (if tested then due else 0) → IsPaid m charge
+paid_if : (m : Meter) (due charge : ℕ) (tested : Bool) → (tested ≡ true → covers (Some m) due ≡ true)
+    → charge ≡ (if tested then due else 0) → IsCharged m charge
 paid_if m due charge true enough same = paid_due m due charge (enough refl) same
 paid_if m due charge false enough same = paid_free m charge same
 
-module _ {V E S : Type 0} (rules : Rules S) (e : Effort V E) (x : V) (m : Meter) (l : S) (charge : ℕ) (x' : V)
+module _ {V E S : Type 0} (rules : Rules S) (e : Request V E) (x : V) (m : Meter) (l : S) (charge : ℕ) (x' : V)
     (m' : Meter) (l' : S) where
   -- an attempt is charged no more than is left
-  attempt_paid : (fate : Fate E)
-      → Attempt rules e (record { value = x; meter = Some m; limiter = l }) fate charge
-      (record { value = x'; meter = Some m'; limiter = l' }) → IsPaid m charge
+  attempt_paid : (outcome : AttemptOutcome E)
+      → Attempt rules e (record { value = x; meter = Some m; limiter = l }) outcome charge
+      (record { value = x'; meter = Some m'; limiter = l' }) → IsCharged m charge
   attempt_paid (Unasked cause) attempt = paid_free m charge attempt.charged
   attempt_paid (Denied answer) attempt = paid_free m charge attempt.charged
   attempt_paid Met attempt = paid_due m _ charge attempt.may_end.2 attempt.charged
-  attempt_paid (Failed cause heed) attempt =
-      paid_if m (amount_due (Some m) e.price) charge
-      (is_none e.late && can_pay (Some m) (amount_due (Some m) e.price)) (λ both. (and_parts _ _ both).1)
+  attempt_paid (Failed cause notice_answer) attempt =
+      paid_if m (optional_due (Some m) e.price) charge
+      (is_none e.late && covers (Some m) (optional_due (Some m) e.price)) (λ both. (and_parts _ _ both).1)
       attempt.charged
 
 -- a growth
@@ -89,9 +90,9 @@ pub grows_takes : {V E S : Type 0} (rules : Rules S) (g : Growth V E) (x : V) (m
     → Grows rules g (record { value = x; meter = Some m; limiter = l }) result charge
     (record { value = x'; meter = Some m'; limiter = l' }) → Takes m charge m'
 grows_takes {V = V} {S = S} rules g x m l result charge x' m' l' (inl none) =
-    takes_nothing m m' charge none.uncharged (same_Some m' m (ap (λ (s : Situation V S). s.meter) none.same))
+    takes_nothing m m' charge none.uncharged (same_Some m' m (ap (λ (s : MeteredValue V S). s.meter) none.same))
 grows_takes rules g x m l result charge x' m' l' (inr some) =
-    takes_paid m m' charge (attempt_paid rules g.effort x m l charge x' m' l' some.fate some.attempt)
+    takes_paid m m' charge (attempt_paid rules g.request x m l charge x' m' l' some.outcome some.attempt)
     some.attempt.meter
 
 -- a growth of a table, whose type is tested first
@@ -101,17 +102,17 @@ table_grows_takes : {S : Type 0} (rules : Rules S) (n : ℕ) (init : TypedRawRef
     (record { value = x'; meter = Some m'; limiter = l' }) → Takes m charge m'
 table_grows_takes {S} rules n init x m l result charge x' m' l' grows =
     on_test (same_type x.ty.element init.ty) _ _ grows
-    (λ h. grows_takes rules (record { amount = n; size = size_of x; effort = table.growth_of x n init.raw }) x m l
+    (λ h. grows_takes rules (record { amount = n; size = size_of x; request = table.growth_of x n init.raw }) x m l
     result charge x' m' l' h)
-    (λ h. takes_nothing m m' charge h.1 (same_Some m' m (ap (λ (s : Situation TableValue S). s.meter) h.2)))
+    (λ h. takes_nothing m m' charge h.1 (same_Some m' m (ap (λ (s : MeteredValue TableValue S). s.meter) h.2)))
 
 module _ (w : TableWrite) (x : TableValue) (m : Meter) (result : Result (Unit {0}) TableError) (charge : ℕ)
     (x' : TableValue) where
   -- a write over a part of a table is charged no more than is left
   ends_paid : (typed : Bool) (written : Option (List ℕ)) (payable : Bool)
-      → can_pay (Some m) (due_for w x (Some m)) ≡ payable
+      → covers (Some m) (growth_due w x (Some m)) ≡ payable
       → EndsBy w x (Some m) typed written payable (record { result = result; charge = charge; value = x' })
-      → IsPaid m charge
+      → IsCharged m charge
   ends_paid false written payable enough ends = paid_free m charge ends.1
   ends_paid true None payable enough ends = paid_free m charge ends.1
   ends_paid true (Some elements) false enough ends = paid_free m charge ends.1
@@ -122,7 +123,8 @@ module _ (w : TableWrite) (x : TableValue) (m : Meter) (result : Result (Unit {0
   write_takes m' writes = takes_paid m m' charge (ends_paid w.typed w.written _ refl writes.ends) writes.meter
 
 -- a call on what an index names
-acts_takes : {X R S : Type 0} (Acts : Situation X S → R → ℕ → Situation X S → Type 0) (k : ℕ) (reply_to : R → Reply)
+acts_takes : {X R S : Type 0} (Acts : MeteredValue X S → R → ℕ → MeteredValue X S → Type 0) (k : ℕ)
+    (reply_to : R → Reply)
     (slots : List (Slot X)) (m : Meter) (l : S) (reply : Reply) (charge : ℕ) (slots' : List (Slot X)) (m' : Meter)
     (l' : S)
     → ((x : X) (result : R) (x' : X) → Acts (record { value = x; meter = Some m; limiter = l }) result charge (record
@@ -132,7 +134,7 @@ acts_takes : {X R S : Type 0} (Acts : Situation X S → R → ℕ → Situation 
 acts_takes {X = X} {S = S} Acts k reply_to slots m l reply charge slots' m' l' takes acts =
     on_live (live_at slots k) _ _ acts
     (λ missing. takes_nothing m m' charge missing.1
-    (same_Some m' m (ap (λ (s : Situation (List (Slot X)) S). s.meter) missing.2)))
+    (same_Some m' m (ap (λ (s : MeteredValue (List (Slot X)) S). s.meter) missing.2)))
     (λ x found act. takes x act.0 act.1 act.2)
 
 -- a growth of the memory of an index
@@ -144,7 +146,7 @@ memory_growth_takes : {S : Type 0} (rules : Rules S) (k pages : ℕ) (slots : Li
 memory_growth_takes rules k pages slots m l reply charge slots' m' l' acts =
     acts_takes (GrowsMemory rules pages) k (reply_of replied.Number replied.Memory) slots m l reply charge slots' m' l'
     (λ x result x'. grows_takes rules
-    (record { amount = pages; size = pages_of x; effort = memory.growth_of x pages }) x m l result charge x' m' l')
+    (record { amount = pages; size = pages_of x; request = memory.growth_of x pages }) x m l result charge x' m' l')
     acts
 
 -- a growth of the table of an index
@@ -174,7 +176,7 @@ table_copy_takes : {X : Type 0} (source : Option X) (k : ℕ) (write : X → Tab
 table_copy_takes source k write slots m reply charge slots' m' writes =
     on_live source _ _ writes
     (λ missing. takes_nothing m m' charge missing.1
-    (same_Some m' m (ap (λ (s : Situation (List (Slot TableValue)) (Unit {0})). s.meter) missing.2)))
+    (same_Some m' m (ap (λ (s : MeteredValue (List (Slot TableValue)) (Unit {0})). s.meter) missing.2)))
     (λ x found h. table_write_takes k (write x) slots m reply charge slots' m' h)
 
 module _ {S : Type 0} (account : Account) (w : World S) (turn : Turn) (w' : World S) where
@@ -217,24 +219,24 @@ module _ {S : Type 0} (rules : Rules S) (account : Account) (w : World S) (turn 
   effect_balances (FuelSet fuel) step balances = (
     fuel,
     ap (λ (v : World S). v.state.meter.left) step.after
-        ∙ (ap (λ (s : State). s.meter.left) step.row.1 ∙ ap (option_map (λ n. fuel)) balances.1),
+        ∙ (ap (λ (s : State). s.meter.left) step.effect.1 ∙ ap (option_map (λ n. fuel)) balances.1),
     omega arith,
   )
   effect_balances (Changed change) step balances =
       uncharged account w turn w' balances step.after step.free.0
-      ((change_facts w.state change).meter turn.reply step.machine step.row)
+      ((change_facts w.state change).meter turn.reply step.machine step.effect)
   effect_balances (MemoryGrown k pages) step balances =
       charged account w turn w' balances step.after
       (memory_growth_takes rules k pages w.state.memories w.state.meter w.limiter turn.reply turn.charge step.part
-      step.meter step.limiter step.row)
+      step.meter step.limiter step.effect)
   effect_balances (TableGrown k n init) step balances =
       charged account w turn w' balances step.after
       (table_growth_takes rules k n init w.state.tables w.state.meter w.limiter turn.reply turn.charge step.part
-      step.meter step.limiter step.row)
+      step.meter step.limiter step.effect)
   effect_balances (PartWritten k source dst len) step balances =
       charged account w turn w' balances step.after
       (table_copy_takes (write_of source dst len) k (λ write. write) w.state.tables w.state.meter turn.reply
-      turn.charge step.part step.meter step.row)
+      turn.charge step.part step.meter step.effect)
   effect_balances effect step balances = uncharged account w turn w' balances step.after step.free.0 refl
 
 module _ {S : Type 0} (rules : Rules S) where

@@ -1,15 +1,15 @@
 -- A run under one limiter is one under another that may answer the same.
 use Rattle.std.proofs.Common.{List, Result, [], ap, inl, inr, ℕ, ◌∷◌}
-use Rattle.wasmi_core.proofs.RowLemmas.{on_live_too, on_test_too}
-use Rattle.wasmi_core.specs.Rows.{ActsAt, Creates, reply_of}
+use Rattle.wasmi_core.proofs.EffectLemmas.{on_live_too, on_test_too}
+use Rattle.wasmi_core.specs.Effects.{ActsAt, Creates, reply_of}
 use Rattle.wasmi_core.specs.Runs.{Run}
 use Rattle.wasmi_core.specs.State.{live_at}
 use Rattle.wasmi_core.specs.Steps.{BytesRead, Effect, LentMemoryMade, MemoryGrown, MemoryMade, PartWritten, TableGrown, TableMade, TakesEffect, Told, effect_of}
 use Rattle.wasmi_core.specs.World.{Turn, World}
 use Rattle.wasmi_core.specs.declared.calls.Reply.{Reply}
 use Rattle.wasmi_core.specs.declared.slots.Slot.{Slot}
-use Rattle.wasmi_meter.specs.Attempt.{Attempt, Denied, Effort, Failed, Fate, Follows, Met, Situation, Unasked, alone}
-use Rattle.wasmi_meter.specs.Limiter.{Answer, Failure, Heed, Question, Rules}
+use Rattle.wasmi_meter.specs.Attempt.{Attempt, Denied, Request, Failed, AttemptOutcome, Follows, Met, MeteredValue, Unasked, alone}
+use Rattle.wasmi_meter.specs.Limiter.{Answer, Failure, NoticeAnswer, Question, Rules}
 use Rattle.wasmi_store.specs.Buffer.{Lent, Owned}
 use Rattle.wasmi_store.specs.Growth.{Grows, Growth, Makes}
 use Rattle.wasmi_store.specs.Memory.{GrowsMemory, new_memory, pages_of}
@@ -24,8 +24,9 @@ use Rattle.wasmi_store.specs.Table as table
 pub record Carries {S T : Type 0} (image : S → T) (rules : Rules S) (rules' : Rules T) : Type 0 where
   pub asked : (l : S) (question : Question) (answer : Answer) (l' : S) → rules.asked l question answer l'
       → rules'.asked (image l) question answer (image l')
-  pub noticed : (l : S) (failure : Failure) (heed : Heed) (l' : S) → rules.noticed l failure heed l'
-      → rules'.noticed (image l) failure heed (image l')
+  pub noticed : (l : S) (failure : Failure) (notice_answer : NoticeAnswer) (l' : S)
+      → rules.noticed l failure notice_answer l'
+      → rules'.noticed (image l) failure notice_answer (image l')
 
 -- the world with the image of its limiter
 abbrev pub carried : {S T : Type 0} → (S → T) → World S → World T
@@ -33,42 +34,44 @@ carried image w = record { state = w.state; limiter = image w.limiter }
 
 module _ {S T : Type 0} (image : S → T) where
   -- the situation with the image of its limiter
-  abbrev moved : {V : Type 0} → Situation V S → Situation V T
+  abbrev moved : {V : Type 0} → MeteredValue V S → MeteredValue V T
   moved s = record { value = s.value; meter = s.meter; limiter = image s.limiter }
 
   module _ {rules : Rules S} {rules' : Rules T} (carries : Carries image rules rules') where
-    module _ {V E : Type 0} (e : Effort V E) where
+    module _ {V E : Type 0} (e : Request V E) where
       -- what passes between an attempt and its limiter
-      follows_too : (fate : Fate E) (l l' : S) → Follows e rules l fate l' → Follows e rules' (image l) fate (image l')
+      follows_too : (outcome : AttemptOutcome E) (l l' : S) → Follows e rules l outcome l'
+          → Follows e rules' (image l) outcome (image l')
       follows_too (Unasked cause) l l' same = ap image same
       follows_too (Denied answer) l l' asks = carries.asked l e.question answer l' asks
       follows_too Met l l' asks = carries.asked l e.question _ l' asks
-      follows_too (Failed cause heed) l l' (permitted, asks, notices) = (
+      follows_too (Failed cause notice_answer) l l' (permitted, asks, notices) = (
         image permitted,
         carries.asked l e.question _ permitted asks,
         carries.noticed permitted (e.notice cause)
-            heed l' notices,
+            notice_answer l' notices,
       )
 
       -- an attempt
-      attempt_too : (s s' : Situation V S) (fate : Fate E) (charge : ℕ) → Attempt rules e s fate charge s'
-          → Attempt rules' e (moved s) fate charge (moved s')
-      attempt_too s s' fate charge a = record {
+      attempt_too : (s s' : MeteredValue V S) (outcome : AttemptOutcome E) (charge : ℕ)
+          → Attempt rules e s outcome charge s'
+          → Attempt rules' e (moved s) outcome charge (moved s')
+      attempt_too s s' outcome charge a = record {
         may_end = a.may_end;
-        follows = follows_too fate s.limiter s'.limiter a.follows;
+        follows = follows_too outcome s.limiter s'.limiter a.follows;
         charged = a.charged;
         meter = a.meter;
         value = a.value;
       }
 
     -- a creation
-    makes_too : {T' E : Type 0} (e : Effort (Unit {0}) E) (made : T') (l l' : S) (result : Result T' E)
+    makes_too : {T' E : Type 0} (e : Request (Unit {0}) E) (made : T') (l l' : S) (result : Result T' E)
         → Makes rules e made l result l' → Makes rules' e made (image l) result (image l')
-    makes_too e made l l' result (fate, attempt, answered) =
-        (fate, attempt_too e (alone l) (alone l') fate 0 attempt, answered)
+    makes_too e made l l' result (outcome, attempt, answered) =
+        (outcome, attempt_too e (alone l) (alone l') outcome 0 attempt, answered)
 
     -- a growth
-    grows_too : {V E : Type 0} (g : Growth V E) (s s' : Situation V S) (result : Result ℕ E) (charge : ℕ)
+    grows_too : {V E : Type 0} (g : Growth V E) (s s' : MeteredValue V S) (result : Result ℕ E) (charge : ℕ)
         → Grows rules g s result charge s' → Grows rules' g (moved s) result charge (moved s')
     grows_too g s s' result charge (inl none) =
         inl (record {
@@ -81,14 +84,14 @@ module _ {S T : Type 0} (image : S → T) where
     grows_too g s s' result charge (inr some) =
         inr (record {
           some = some.some;
-          fate = some.fate;
-          attempt = attempt_too g.effort s s' some.fate charge
+          outcome = some.outcome;
+          attempt = attempt_too g.request s s' some.outcome charge
               some.attempt;
           answered = some.answered;
         })
 
     -- a creation in a new slot
-    creates_too : {X E : Type 0} (refusal : E → Reply) (e : Effort (Unit {0}) E) (made : X)
+    creates_too : {X E : Type 0} (refusal : E → Reply) (e : Request (Unit {0}) E) (made : X)
         (slots slots' : List (Slot X)) (reply : Reply) (l l' : S)
         → Creates refusal (Makes rules e made) slots l reply slots' l'
         → Creates refusal (Makes rules' e made) slots (image l) reply slots' (image l')
@@ -97,22 +100,25 @@ module _ {S T : Type 0} (image : S → T) where
         inr (result, makes_too e made l l' result makes, appends)
 
     -- a call on what an index names
-    acts_too : {X R : Type 0} (k : ℕ) (reply_to : R → Reply) (Acts : Situation X S → R → ℕ → Situation X S → Type 0)
-        (Acts' : Situation X T → R → ℕ → Situation X T → Type 0)
-        → ((s s' : Situation X S) (result : R) (charge : ℕ) → Acts s result charge s'
+    acts_too : {X R : Type 0} (k : ℕ) (reply_to : R → Reply)
+        (Acts : MeteredValue X S → R → ℕ → MeteredValue X S → Type 0)
+        (Acts' : MeteredValue X T → R → ℕ → MeteredValue X T → Type 0)
+        → ((s s' : MeteredValue X S) (result : R) (charge : ℕ) → Acts s result charge s'
         → Acts' (moved s) result charge (moved s'))
-        → (s s' : Situation (List (Slot X)) S) (reply : Reply) (charge : ℕ) → ActsAt k reply_to Acts s reply charge s'
+        → (s s' : MeteredValue (List (Slot X)) S) (reply : Reply) (charge : ℕ)
+        → ActsAt k reply_to Acts s reply charge s'
         → ActsAt k reply_to Acts' (moved s) reply charge (moved s')
     acts_too k reply_to Acts Acts' too s s' reply charge acts =
         on_live_too (live_at s.value k) _ _ _ _ (λ missing. (missing.0, missing.1, ap moved missing.2))
         (λ x h. (h.0, h.1, too _ _ h.0 charge h.2, h.3, h.4)) acts
 
     -- a growth of a table, whose type is tested first
-    table_growth_too : (n : ℕ) (init : TypedRawRef) (s s' : Situation TableValue S) (result : Result ℕ _) (charge : ℕ)
+    table_growth_too : (n : ℕ) (init : TypedRawRef) (s s' : MeteredValue TableValue S) (result : Result ℕ _)
+        (charge : ℕ)
         → GrowsTable rules n init s result charge s' → GrowsTable rules' n init (moved s) result charge (moved s')
     table_growth_too n init s s' result charge grows =
         on_test_too (same_type s.value.ty.element init.ty) _ _ _ _
-        (grows_too (record { amount = n; size = size_of s.value; effort = table.growth_of s.value n init.raw }) s s'
+        (grows_too (record { amount = n; size = size_of s.value; request = table.growth_of s.value n init.raw }) s s'
         result charge)
         (λ mismatch. (mismatch.0, mismatch.1, ap moved mismatch.2)) grows
 
@@ -125,7 +131,7 @@ module _ {S T : Type 0} (image : S → T) where
         part = step.part;
         limiter = image step.limiter;
         row = creates_too replied.Memory (memory.creation_of Owned ty) (new_memory Owned ty) w.state.memories
-            step.part turn.reply w.limiter step.limiter step.row;
+            step.part turn.reply w.limiter step.limiter step.effect;
         after = ap (carried image) step.after;
       }
       effect_carried (LentMemoryMade ty) step = record {
@@ -137,7 +143,7 @@ module _ {S T : Type 0} (image : S → T) where
               creates_too replied.Memory (memory.creation_of (Lent region) ty)
                   (new_memory (Lent region) ty) w.state.memories step.part.slots turn.reply w.limiter step.limiter h.0,
               h.1,
-            )) step.row;
+            )) step.effect;
         after = ap (carried image) step.after;
       }
       effect_carried (MemoryGrown k pages) step = record {
@@ -146,8 +152,8 @@ module _ {S T : Type 0} (image : S → T) where
         limiter = image step.limiter;
         row = acts_too k (reply_of replied.Number replied.Memory) (GrowsMemory rules pages) (GrowsMemory rules' pages)
             (λ s. grows_too
-            (record { amount = pages; size = pages_of s.value; effort = memory.growth_of s.value pages }) s)
-            _ _ turn.reply turn.charge step.row;
+            (record { amount = pages; size = pages_of s.value; request = memory.growth_of s.value pages }) s)
+            _ _ turn.reply turn.charge step.effect;
         wrote = step.wrote;
         after = ap (carried image) step.after;
       }
@@ -156,7 +162,7 @@ module _ {S T : Type 0} (image : S → T) where
         part = step.part;
         limiter = image step.limiter;
         row = creates_too replied.Table (table.creation_of ty init.ty) (new_table ty init.raw) w.state.tables
-            step.part turn.reply w.limiter step.limiter step.row;
+            step.part turn.reply w.limiter step.limiter step.effect;
         after = ap (carried image) step.after;
       }
       effect_carried (TableGrown k n init) step = record {
@@ -164,7 +170,7 @@ module _ {S T : Type 0} (image : S → T) where
         meter = step.meter;
         limiter = image step.limiter;
         row = acts_too k (reply_of replied.Number replied.Table) (GrowsTable rules n init) (GrowsTable rules' n init)
-            (table_growth_too n init) _ _ turn.reply turn.charge step.row;
+            (table_growth_too n init) _ _ turn.reply turn.charge step.effect;
         wrote = step.wrote;
         after = ap (carried image) step.after;
       }
@@ -172,17 +178,17 @@ module _ {S T : Type 0} (image : S → T) where
           record {
             part = step.part;
             meter = step.meter;
-            row = step.row;
+            row = step.effect;
             wrote = step.wrote;
             after = ap
                 (carried image) step.after;
           }
       effect_carried (Told told) step =
-          record { free = step.free; row = step.row; after = ap (carried image) step.after }
+          record { free = step.free; row = step.effect; after = ap (carried image) step.after }
       effect_carried (BytesRead k offset len) step =
-          record { free = step.free; row = step.row; after = ap (carried image) step.after }
+          record { free = step.free; row = step.effect; after = ap (carried image) step.after }
       effect_carried effect step =
-          record { free = step.free; machine = step.machine; row = step.row; after = ap (carried image) step.after }
+          record { free = step.free; machine = step.machine; row = step.effect; after = ap (carried image) step.after }
 
 -- a run under the first is one under the second, with the same turns and machines
 pub runs_too : {S T : Type 0} (image : S → T) (rules : Rules S) (rules' : Rules T) → Carries image rules rules'

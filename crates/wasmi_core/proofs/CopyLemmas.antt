@@ -4,13 +4,13 @@ use Rattle.std.specs.Prelude.{slice_get}
 use Rattle.std.proofs.lemmas.List.{set-get_or}
 use Rattle.std.proofs.lemmas.Option.{get_or_from_slice_get}
 use Rattle.wasmi_meter.specs.Meter.{Meter}
-use Rattle.wasmi_meter.specs.Attempt.{Situation}
+use Rattle.wasmi_meter.specs.Attempt.{MeteredValue}
 use Rattle.wasmi_store.specs.Table.{TableValue, TableWrite}
 use Rattle.wasmi_core.specs.declared.calls.Reply.{Reply}
 use Rattle.wasmi_core.specs.declared.slots.Slot.{Slot}
 use Rattle.wasmi_core.specs.declared.slots.Slot.TheVariants.{Live, Gone}
 use Rattle.wasmi_core.specs.State.{live_at}
-use Rattle.wasmi_core.specs.TableRows.{Metered, metered, CopiesSlot, WritesTableFrom}
+use Rattle.wasmi_core.specs.TableEffects.{Metered, metered, CopiesSlot, WritesTableFrom}
 
 -- what was read, written back
 pub set_read : {X : Type 0} (xs : List X) (k : ℕ) (y : X) → slice_get xs k ≡ Some y → set xs k y ≡ xs
@@ -24,7 +24,7 @@ pub record Copying : Type 0 where
   pub from : ℕ
   pub meter : Meter
 
-module _ (copy : Copying) (reply : Reply) (charge : ℕ) (s' : Situation (Slot TableValue) (Unit {0})) where
+module _ (copy : Copying) (reply : Reply) (charge : ℕ) (s' : MeteredValue (Slot TableValue) (Unit {0})) where
   -- nothing is written to the slot, so the list stays
   nothing_put : (slot : Slot TableValue) → slice_get copy.slots copy.into ≡ Some slot
       → s' ≡ record { value = slot; meter = Some copy.meter; limiter = tt }

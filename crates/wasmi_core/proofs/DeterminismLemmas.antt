@@ -4,24 +4,24 @@ use Rattle.std.proofs.lemmas.Bool.{cases_lt}
 use Rattle.std.proofs.lemmas.Option.{none-some, same_Some}
 use Rattle.std.specs.Option.{option_map}
 use Rattle.std.specs.Prelude.{MatchBool}
-use Rattle.wasmi_core.proofs.MemoryRowsLemmas.{reads_same}
-use Rattle.wasmi_core.proofs.RowLemmas.{Acted, Outcome, acts_same, creates_same, on_both}
+use Rattle.wasmi_core.proofs.MemoryEffectsLemmas.{reads_same}
+use Rattle.wasmi_core.proofs.EffectLemmas.{Acted, Outcome, acts_same, creates_same, on_both}
 use Rattle.wasmi_core.proofs.StepsLemmas.{change_facts}
-use Rattle.wasmi_core.proofs.TableRowsLemmas.{table_copies_same}
+use Rattle.wasmi_core.proofs.TableEffectsLemmas.{table_copies_same}
 use Rattle.wasmi_core.specs.Determinism.{HasMemory, HaveMemory, IsDeterministic, IsNoWant, with_memory}
-use Rattle.wasmi_core.specs.MemoryRows.{CreatesLent, bytes_appended, spare_after}
-use Rattle.wasmi_core.specs.Rows.{Creates, reply_of}
+use Rattle.wasmi_core.specs.MemoryEffects.{CreatesLent, bytes_appended, spare_after}
+use Rattle.wasmi_core.specs.Effects.{Creates, reply_of}
 use Rattle.wasmi_core.specs.Runs.{Run}
 use Rattle.wasmi_core.specs.State.{MemoryPart, State, live_at, memory_part, with_memories, with_memory_part, with_tables}
 use Rattle.wasmi_core.specs.Steps.{BytesRead, Changed, Effect, FuelSet, LentMemoryMade, MemoryGrown, MemoryMade, PartWritten, TableGrown, TableMade, TakesEffect, Told, effect_of}
-use Rattle.wasmi_core.specs.TableRows.{element_bytes, write_of}
+use Rattle.wasmi_core.specs.TableEffects.{element_bytes, write_of}
 use Rattle.wasmi_core.specs.World.{IsFree, Turn, World}
 use Rattle.wasmi_core.specs.declared.calls.Call.{Call}
 use Rattle.wasmi_core.specs.declared.calls.Reply.{Reply}
 use Rattle.wasmi_core.specs.declared.slots.Slot.{Slot}
-use Rattle.wasmi_meter.specs.Attempt.{Attempt, Denied, Effort, Failed, Fate, Follows, IsFirstCause, MayEnd, Met, Situation, Unasked, alone, amount_due, answer_of, can_pay, charge_of, value_after}
+use Rattle.wasmi_meter.specs.Attempt.{Attempt, Denied, Request, Failed, AttemptOutcome, Follows, IsFirstCause, MayEnd, Met, MeteredValue, Unasked, alone, optional_due, answer_of, covers, outcome_charge, value_after}
 use Rattle.wasmi_meter.specs.Holdings.{Holdings, amount_held}
-use Rattle.wasmi_meter.specs.Limiter.{Answer, Failure, Heed, IsDenial, MemoryFailure, Question, Rules, TableFailure, optional_rules, unlimited_rules}
+use Rattle.wasmi_meter.specs.Limiter.{Answer, Failure, NoticeAnswer, IsDenial, MemoryFailure, Question, Rules, TableFailure, optional_rules, unlimited_rules}
 use Rattle.wasmi_meter.specs.Meter.{Meter, meter_after}
 use Rattle.wasmi_meter.specs.Quota.{Asked, SameCaps, cap_of, holdings, quota_rules}
 use Rattle.wasmi_meter.specs.declared.error.MemoryError.{MemoryError}
@@ -39,8 +39,8 @@ use Rattle.wasmi_store.specs.Memory as memory
 use Rattle.wasmi_core.specs.declared.calls.Reply.TheVariants as replied
 use Rattle.wasmi_store.specs.Table as table
 
--- the last cause of an effort is want of memory
-record Wants {V E : Type 0} (e : Effort V E) : Type 0 where
+-- the last cause of an request is want of memory
+record Wants {V E : Type 0} (e : Request V E) : Type 0 where
   wants : (cause : E) → e.refuses cause → IsNoWant (e.notice cause) → ⊥
 
 module _ {S : Type 0} {rules : Rules S} (once : IsDeterministic rules) where
@@ -48,19 +48,19 @@ module _ {S : Type 0} {rules : Rules S} (once : IsDeterministic rules) where
   abbrev told : Rules S
   told = with_memory rules
 
-  module _ {V E : Type 0} {e : Effort V E} (want : Wants e) where
+  module _ {V E : Type 0} {e : Request V E} (want : Wants e) where
     module _ (m : Option Meter) where
       -- two first causes that are no want of memory are one
       first_cause : (late : Option E) (cause cause' : E) → IsFirstCause e m late cause → IsNoWant (e.notice cause)
           → IsFirstCause e m late cause' → IsNoWant (e.notice cause') → cause ≡ cause'
       first_cause (Some c) cause cause' first other first' other' = first ∙ sym first'
       first_cause None cause cause' first other first' other' =
-          on_test (can_pay m (amount_due m e.price)) _ _ first (λ refuses. absurd (want.wants cause refuses other))
-          (λ unpaid. on_test (can_pay m (amount_due m e.price)) _ _ first'
+          on_test (covers m (optional_due m e.price)) _ _ first (λ refuses. absurd (want.wants cause refuses other))
+          (λ unpaid. on_test (covers m (optional_due m e.price)) _ _ first'
           (λ refuses. absurd (want.wants cause' refuses other')) (λ unpaid'. unpaid ∙ sym unpaid'))
 
       -- where nothing else refuses, memory does
-      refused_at : (late : Option E) (cause : E) → late ≡ None → can_pay m (amount_due m e.price) ≡ true
+      refused_at : (late : Option E) (cause : E) → late ≡ None → covers m (optional_due m e.price) ≡ true
           → IsFirstCause e m late cause → e.refuses cause
       refused_at (Some c) cause none payable first = absurd (none-some c (sym none))
       refused_at None cause none payable first = rw payable at first
@@ -73,28 +73,29 @@ module _ {S : Type 0} {rules : Rules S} (once : IsDeterministic rules) where
             subst IsDenial (once.asked l e.question answer (Ok true) l' p asks asks').0 denial
 
         -- an attempt ends in one way
-        same_fate : (fate fate' : Fate E) (l' l'' : S) → MayEnd e m fate → Follows e told l fate l' → MayEnd e m fate'
-            → Follows e told l fate' l'' → (fate ≡ fate') × (l' ≡ l'')
-        same_fate (Unasked c) (Unasked c') l' l'' may f may' f' =
+        same_outcome : (outcome outcome' : AttemptOutcome E) (l' l'' : S) → MayEnd e m outcome
+            → Follows e told l outcome l' → MayEnd e m outcome'
+            → Follows e told l outcome' l'' → (outcome ≡ outcome') × (l' ≡ l'')
+        same_outcome (Unasked c) (Unasked c') l' l'' may f may' f' =
             (ap Unasked (same_Some c c' (sym may ∙ may')), f ∙ sym f')
-        same_fate (Unasked c) (Denied a) l' l'' may f may' f' = absurd (none-some c (sym may'.0 ∙ may))
-        same_fate (Unasked c) Met l' l'' may f may' f' = absurd (none-some c (sym may'.0 ∙ may))
-        same_fate (Unasked c) (Failed d h) l' l'' may f may' f' = absurd (none-some c (sym may'.0 ∙ may))
-        same_fate (Denied a) (Unasked c) l' l'' may f may' f' = absurd (none-some c (sym may.0 ∙ may'))
-        same_fate Met (Unasked c) l' l'' may f may' f' = absurd (none-some c (sym may.0 ∙ may'))
-        same_fate (Failed d h) (Unasked c) l' l'' may f may' f' = absurd (none-some c (sym may.0 ∙ may'))
-        same_fate (Denied a) (Denied a') l' l'' may f may' f' =
+        same_outcome (Unasked c) (Denied a) l' l'' may f may' f' = absurd (none-some c (sym may'.0 ∙ may))
+        same_outcome (Unasked c) Met l' l'' may f may' f' = absurd (none-some c (sym may'.0 ∙ may))
+        same_outcome (Unasked c) (Failed d h) l' l'' may f may' f' = absurd (none-some c (sym may'.0 ∙ may))
+        same_outcome (Denied a) (Unasked c) l' l'' may f may' f' = absurd (none-some c (sym may.0 ∙ may'))
+        same_outcome Met (Unasked c) l' l'' may f may' f' = absurd (none-some c (sym may.0 ∙ may'))
+        same_outcome (Failed d h) (Unasked c) l' l'' may f may' f' = absurd (none-some c (sym may.0 ∙ may'))
+        same_outcome (Denied a) (Denied a') l' l'' may f may' f' =
             let s = once.asked l e.question a a' l' l'' f f' in (ap Denied s.0, s.1)
-        same_fate (Denied a) Met l' l'' may f may' f' = absurd (denied_met a l' l'' may.1 f f')
-        same_fate (Denied a) (Failed d h) l' l'' may f may' f' = absurd (denied_met a l' f'.0 may.1 f f'.1)
-        same_fate Met (Denied a) l' l'' may f may' f' = absurd (denied_met a l'' l' may'.1 f' f)
-        same_fate (Failed d h) (Denied a) l' l'' may f may' f' = absurd (denied_met a l'' f.0 may'.1 f' f.1)
-        same_fate Met Met l' l'' may f may' f' = (refl, (once.asked l e.question (Ok true) (Ok true) l' l'' f f').1)
-        same_fate Met (Failed d h) l' l'' may f may' f' =
+        same_outcome (Denied a) Met l' l'' may f may' f' = absurd (denied_met a l' l'' may.1 f f')
+        same_outcome (Denied a) (Failed d h) l' l'' may f may' f' = absurd (denied_met a l' f'.0 may.1 f f'.1)
+        same_outcome Met (Denied a) l' l'' may f may' f' = absurd (denied_met a l'' l' may'.1 f' f)
+        same_outcome (Failed d h) (Denied a) l' l'' may f may' f' = absurd (denied_met a l'' f.0 may'.1 f' f.1)
+        same_outcome Met Met l' l'' may f may' f' = (refl, (once.asked l e.question (Ok true) (Ok true) l' l'' f f').1)
+        same_outcome Met (Failed d h) l' l'' may f may' f' =
             absurd (want.wants d (refused_at e.late d may.1 may.2 may'.1) f'.2.1)
-        same_fate (Failed d h) Met l' l'' may f may' f' =
+        same_outcome (Failed d h) Met l' l'' may f may' f' =
             absurd (want.wants d (refused_at e.late d may'.1 may'.2 may.1) f.2.1)
-        same_fate (Failed d h) (Failed d' h') l' l'' may f may' f' =
+        same_outcome (Failed d h) (Failed d' h') l' l'' may f may' f' =
             let permitted = (once.asked l e.question (Ok true) (Ok true) f.0 f'.0 f.1 f'.1).1 in
             let cause = first_cause e.late d d' may.1 f.2.1 may'.1 f'.2.1 in
             let notices : rules.noticed f.0 (e.notice d) h' l'' = subst (λ p. rules.noticed p (e.notice d) h' l'')
@@ -103,30 +104,34 @@ module _ {S : Type 0} {rules : Rules S} (once : IsDeterministic rules) where
             (rw (cause, s.0) refl, s.1)
 
     -- so two attempts are one
-    attempts_same : (s s' s'' : Situation V S) (fate fate' : Fate E) (charge charge' : ℕ)
-        → Attempt told e s fate charge s' → Attempt told e s fate' charge' s''
-        → (fate ≡ fate') × (charge ≡ charge') × (s' ≡ s'')
-    attempts_same s s' s'' fate fate' charge charge' a b =
+    attempts_same : (s s' s'' : MeteredValue V S) (outcome outcome' : AttemptOutcome E) (charge charge' : ℕ)
+        → Attempt told e s outcome charge s' → Attempt told e s outcome' charge' s''
+        → (outcome ≡ outcome') × (charge ≡ charge') × (s' ≡ s'')
+    attempts_same s s' s'' outcome outcome' charge charge' a b =
         let same =
-        same_fate s.meter s.limiter fate fate' s'.limiter s''.limiter a.may_end a.follows b.may_end b.follows in
-        let charged = a.charged ∙ ap (charge_of e s.meter) same.0 ∙ sym b.charged in
+        same_outcome s.meter s.limiter outcome outcome' s'.limiter s''.limiter a.may_end a.follows b.may_end b.follows
+        in
+        let charged = a.charged ∙ ap (outcome_charge e s.meter) same.0 ∙ sym b.charged in
         let value = a.value ∙ ap (value_after e s.value) same.0 ∙ sym b.value in
         let meter = a.meter ∙ ap (λ c. option_map (λ m. meter_after m c) s.meter) charged ∙ sym b.meter in
         (same.0, charged, λ k. record { value = value k; meter = meter k; limiter = same.1 k })
 
   -- two creations
-  makes_same : {T E : Type 0} (e : Effort (Unit {0}) E)
+  makes_same : {T E : Type 0} (e : Request (Unit {0}) E)
       → Wants e
       → (made : T) (l : S) (result result' : Result T E) (l' l'' : S) → Makes told e made l result l'
       → Makes told e made l result' l'' → (result ≡ result') × (l' ≡ l'')
-  makes_same e wants made l result result' l' l'' (fate, a, answered) (fate', b, answered') =
-      let same = attempts_same wants (alone l) (alone l') (alone l'') fate fate' 0 0 a b in
-      (answered ∙ ap (answer_of e made) same.0 ∙ sym answered', ap (λ (s : Situation (Unit {0}) S). s.limiter) same.2)
+  makes_same e wants made l result result' l' l'' (outcome, a, answered) (outcome', b, answered') =
+      let same = attempts_same wants (alone l) (alone l') (alone l'') outcome outcome' 0 0 a b in (
+        answered ∙ ap (answer_of e made) same.0
+            ∙ sym answered',
+        ap (λ (s : MeteredValue (Unit {0}) S). s.limiter) same.2,
+      )
 
   -- two growths
   grows_same : {V E : Type 0} (g : Growth V E)
-      → Wants g.effort
-      → (s : Situation V S) (result result' : Result ℕ E) (charge charge' : ℕ) (s' s'' : Situation V S)
+      → Wants g.request
+      → (s : MeteredValue V S) (result result' : Result ℕ E) (charge charge' : ℕ) (s' s'' : MeteredValue V S)
       → Grows told g s result charge s' → Grows told g s result' charge' s''
       → (result ≡ result') × (charge ≡ charge') × (s' ≡ s'')
   grows_same g wants s result result' charge charge' s' s'' (inl a) (inl b) =
@@ -134,8 +139,8 @@ module _ {S : Type 0} {rules : Rules S} (once : IsDeterministic rules) where
   grows_same g wants s result result' charge charge' s' s'' (inl a) (inr b) = absurd (omega (arith, a.none, b.some))
   grows_same g wants s result result' charge charge' s' s'' (inr a) (inl b) = absurd (omega (arith, b.none, a.some))
   grows_same g wants s result result' charge charge' s' s'' (inr a) (inr b) =
-      let same = attempts_same wants s s' s'' a.fate b.fate charge charge' a.attempt b.attempt in
-      (a.answered ∙ ap (answer_of g.effort g.size) same.0 ∙ sym b.answered, same.1, same.2)
+      let same = attempts_same wants s s' s'' a.outcome b.outcome charge charge' a.attempt b.attempt in
+      (a.answered ∙ ap (answer_of g.request g.size) same.0 ∙ sym b.answered, same.1, same.2)
 
 -- what memory refuses, a limiter is told as want of memory
 memory_wants : (room : Room) (cause : MemoryError) → LacksMemory room cause → IsNoWant (MemoryFailure cause) → ⊥
@@ -210,7 +215,7 @@ module _ {S : Type 0} (w : World S) (t t' : Turn) (v v' : World S) where
     module _ (m m' : Meter) (written : Reply → ℕ) where
       -- a turn with a charge
       paid : (l l' : S)
-          → (t.reply ≡ t'.reply) × (t.charge ≡ t'.charge) × ((let s : Situation A S =
+          → (t.reply ≡ t'.reply) × (t.charge ≡ t'.charge) × ((let s : MeteredValue A S =
           record { value = part; meter = Some m; limiter = l } in s) ≡ record {
             value = part';
             meter = Some m';
@@ -219,9 +224,9 @@ module _ {S : Type 0} (w : World S) (t t' : Turn) (v v' : World S) where
           → v ≡ record { state = record (with_part part) { meter = m }; limiter = l }
           → v' ≡ record { state = record (with_part part') { meter = m' }; limiter = l' } → Same
       paid l l' same wrote wrote' is is' =
-          let parts = ap (λ (s : Situation A S). s.value) same.2 in
-          let meters = same_Some m m' (ap (λ (s : Situation A S). s.meter) same.2) in
-          let limiters = ap (λ (s : Situation A S). s.limiter) same.2 in (
+          let parts = ap (λ (s : MeteredValue A S). s.value) same.2 in
+          let meters = same_Some m m' (ap (λ (s : MeteredValue A S). s.meter) same.2) in
+          let limiters = ap (λ (s : MeteredValue A S). s.limiter) same.2 in (
             same.0,
             same.1,
             wrote ∙ ap written same.0 ∙ sym wrote',
@@ -231,7 +236,7 @@ module _ {S : Type 0} (w : World S) (t t' : Turn) (v v' : World S) where
           )
 
       -- so where the limiter is not reached
-      paid_unasked : (t.reply ≡ t'.reply) × (t.charge ≡ t'.charge) × ((let s : Situation A (Unit {0}) =
+      paid_unasked : (t.reply ≡ t'.reply) × (t.charge ≡ t'.charge) × ((let s : MeteredValue A (Unit {0}) =
           record { value = part; meter = Some m; limiter = tt } in s) ≡ record {
             value = part';
             meter = Some m';
@@ -240,8 +245,8 @@ module _ {S : Type 0} (w : World S) (t t' : Turn) (v v' : World S) where
           → v ≡ record w { state = record (with_part part) { meter = m } }
           → v' ≡ record w { state = record (with_part part') { meter = m' } } → Same
       paid_unasked same wrote wrote' is is' =
-          let parts = ap (λ (s : Situation A (Unit {0})). s.value) same.2 in
-          let meters = same_Some m m' (ap (λ (s : Situation A (Unit {0})). s.meter) same.2) in (
+          let parts = ap (λ (s : MeteredValue A (Unit {0})). s.value) same.2 in
+          let meters = same_Some m m' (ap (λ (s : MeteredValue A (Unit {0})). s.meter) same.2) in (
             same.0,
             same.1,
             wrote ∙ ap written same.0 ∙ sym wrote',
@@ -252,8 +257,8 @@ module _ {S : Type 0} (w : World S) (t t' : Turn) (v v' : World S) where
 
 -- two growths of a table
 table_growth_same : {S : Type 0} {rules : Rules S} → IsDeterministic rules
-    → (n : ℕ) (init : TypedRawRef) (s : Situation TableValue S) (result result' : Result ℕ TableError)
-    (charge charge' : ℕ) (s' s'' : Situation TableValue S) → GrowsTable (with_memory rules) n init s result charge s'
+    → (n : ℕ) (init : TypedRawRef) (s : MeteredValue TableValue S) (result result' : Result ℕ TableError)
+    (charge charge' : ℕ) (s' s'' : MeteredValue TableValue S) → GrowsTable (with_memory rules) n init s result charge s'
     → GrowsTable (with_memory rules) n init s result' charge' s''
     → (result ≡ result') × (charge ≡ charge') × (s' ≡ s'')
 table_growth_same {rules = rules} once n init s result result' charge charge' s' s'' a b =
@@ -266,7 +271,7 @@ table_growth_same {rules = rules} once n init s result result' charge charge' s'
         → (result ≡ result') × (charge ≡ charge') × (s' ≡ s'')
     by_type true h h' =
         grows_same once
-        (record { amount = n; size = size_of s.value; effort = table.growth_of s.value n init.raw })
+        (record { amount = n; size = size_of s.value; request = table.growth_of s.value n init.raw })
         (record { wants = table_wants }) s
         result result' charge charge' s' s'' h h'
     by_type false h h' = (h.0 ∙ sym h'.0, h.1 ∙ sym h'.1, h.2 ∙ sym h'.2)
@@ -286,56 +291,57 @@ module _ {S : Type 0} (rules : Rules S) (once : IsDeterministic rules) (w : Worl
   effect_same : (effect : Effect) → TakesEffect (with_memory rules) effect w t v
       → TakesEffect (with_memory rules) effect w t' v' → Same w t t' v v'
   effect_same (Told reply) step step' =
-      free w t t' v v' step.free step'.free (step.row ∙ sym step'.row) step.after step'.after
+      free w t t' v v' step.free step'.free (step.effect ∙ sym step'.row) step.after step'.after
   effect_same (BytesRead k offset len) step step' =
       free w t t' v v' step.free step'.free
-      (reads_same k offset len w.state.memories t.reply t'.reply room room' step.row step'.row) step.after step'.after
+      (reads_same k offset len w.state.memories t.reply t'.reply room room' step.effect step'.row) step.after
+      step'.after
   effect_same (FuelSet fuel) step step' =
       changed w t t' v v' (λ s. s) step.machine step'.machine step.free step'.free
-      (step.row.0 ∙ sym step'.row.0, step.row.1 ∙ sym step'.row.1) step.after step'.after
+      (step.effect.0 ∙ sym step'.row.0, step.effect.1 ∙ sym step'.row.1) step.after step'.after
   effect_same (Changed change) step step' =
       changed w t t' v v' (λ s. s) step.machine step'.machine step.free step'.free
-      ((change_facts w.state change).same t.reply t'.reply step.machine step'.machine room room' step.row step'.row)
+      ((change_facts w.state change).same t.reply t'.reply step.machine step'.machine room room' step.effect step'.row)
       step.after step'.after
   effect_same (MemoryMade ty) step step' =
       asked w t t' v v' (with_memories w.state) step.part step'.part step.limiter step'.limiter step.free step'.free
       (memory_same once Owned ty w.state.memories w.limiter
       (record { reply = t.reply; part = step.part; limiter = step.limiter })
-      (record { reply = t'.reply; part = step'.part; limiter = step'.limiter }) room room' step.row step'.row)
+      (record { reply = t'.reply; part = step'.part; limiter = step'.limiter }) room room' step.effect step'.row)
       step.after step'.after
   effect_same (LentMemoryMade ty) step step' =
       asked w t t' v v' (with_memory_part w.state) step.part step'.part step.limiter step'.limiter step.free step'.free
       (lent_same once ty (memory_part w.state) w.limiter
       (record { reply = t.reply; part = step.part; limiter = step.limiter })
-      (record { reply = t'.reply; part = step'.part; limiter = step'.limiter }) room room' step.row step'.row)
+      (record { reply = t'.reply; part = step'.part; limiter = step'.limiter }) room room' step.effect step'.row)
       step.after step'.after
   effect_same (MemoryGrown k pages) step step' =
       paid w t t' v v' (with_memories w.state) step.part step'.part step.meter step'.meter
       (bytes_appended (live_at w.state.memories k) pages) step.limiter step'.limiter
       (acts_same (GrowsMemory (with_memory rules) pages)
       (λ s. grows_same once
-      (record { amount = pages; size = pages_of s.value; effort = memory.growth_of s.value pages })
+      (record { amount = pages; size = pages_of s.value; request = memory.growth_of s.value pages })
       (record { wants = memory_wants s.value.room }) s) k (reply_of replied.Number replied.Memory) _
       (acted t step.part step.meter step.limiter) (acted t' step'.part step'.meter step'.limiter)
-      step.row step'.row) step.wrote step'.wrote step.after step'.after
+      step.effect step'.row) step.wrote step'.wrote step.after step'.after
   effect_same (TableMade ty init) step step' =
       asked w t t' v v' (with_tables w.state) step.part step'.part step.limiter step'.limiter step.free step'.free
       (creates_same replied.Table (MakesTable (with_memory rules) ty init)
       (makes_same once (table.creation_of ty init.ty) (record { wants = table_wants }) (new_table ty init.raw))
       w.state.tables w.limiter (record { reply = t.reply; part = step.part; limiter = step.limiter })
-      (record { reply = t'.reply; part = step'.part; limiter = step'.limiter }) room room' step.row step'.row)
+      (record { reply = t'.reply; part = step'.part; limiter = step'.limiter }) room room' step.effect step'.row)
       step.after step'.after
   effect_same (TableGrown k n init) step step' =
       paid w t t' v v' (with_tables w.state) step.part step'.part step.meter step'.meter (element_bytes n)
       step.limiter step'.limiter
       (acts_same (GrowsTable (with_memory rules) n init) (table_growth_same once n init) k
       (reply_of replied.Number replied.Table) _ (acted t step.part step.meter step.limiter)
-      (acted t' step'.part step'.meter step'.limiter) step.row step'.row) step.wrote
+      (acted t' step'.part step'.meter step'.limiter) step.effect step'.row) step.wrote
       step'.wrote step.after step'.after
   effect_same (PartWritten k source dst len) step step' =
       paid_unasked w t t' v v' (with_tables w.state) step.part step'.part step.meter step'.meter (element_bytes len)
       (table_copies_same (write_of source dst len) k (λ write. write) _ t.reply t'.reply t.charge t'.charge
-      _ _ step.row step'.row) step.wrote step'.wrote step.after step'.after
+      _ _ step.effect step'.row) step.wrote step'.wrote step.after step'.after
 
 module _ {S : Type 0} (rules : Rules S) (once : IsDeterministic rules) where
   -- two runs
@@ -374,7 +380,7 @@ optional_once {L} rules once = record { asked = asks; noticed = notices }
     asks None question a a' (Some l') l'' h h' = absurd h
     asks None question a a' None (Some l'') h h' = absurd h'
 
-    notices : (l : Option L) (failure : Failure) (a a' : Heed) (l' l'' : Option L)
+    notices : (l : Option L) (failure : Failure) (a a' : NoticeAnswer) (l' l'' : Option L)
         → (optional_rules rules).noticed l failure a l' → (optional_rules rules).noticed l failure a' l''
         → (a ≡ a') × (l' ≡ l'')
     notices (Some l) failure a a' (Some l') (Some l'') h h' =
@@ -421,5 +427,5 @@ pub quota_once : IsDeterministic quota_rules
 quota_once = record {
   asked = λ l question a a' l' l'' h h'. quota_asks l question a a' l' l'' h h';
   noticed = λ l failure a a' l' l'' h h'.
-      (h.heeds ∙ sym h'.heeds, same_quota l l' l'' h.caps h'.caps (h.gives_back ∙ sym h'.gives_back));
+      (h.accepts ∙ sym h'.accepts, same_quota l l' l'' h.caps h'.caps (h.gives_back ∙ sym h'.gives_back));
 }

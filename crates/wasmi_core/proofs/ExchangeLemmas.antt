@@ -2,16 +2,16 @@
 use Rattle.std.proofs.Common.{Bool, List, None, Option, Result, Some, [], ap, arith, false, inl, inr, length, map, refl, replicate, subst, sym, true, ℕ, ◌*◌, ◌++◌, ◌+◌, ◌-◌, ◌∙◌, ◌∷◌, ◌≡◌, ◌≢◌, ◌≤◌, ◌⊎◌}
 use Rattle.std.proofs.lemmas.List.{length-append, length-replicate, map_push}
 use Rattle.std.specs.Prelude.{if◌then◌else◌, is_none, slice_get, slice_set, ◌&&◌}
-use Rattle.wasmi_core.proofs.RowLemmas.{on_live, on_live_too}
+use Rattle.wasmi_core.proofs.EffectLemmas.{on_live, on_live_too}
 use Rattle.wasmi_core.proofs.StepsLemmas.{change_facts, source_writes}
-use Rattle.wasmi_core.proofs.TableRowsLemmas.{copy_kept}
+use Rattle.wasmi_core.proofs.TableEffectsLemmas.{copy_kept}
 use Rattle.wasmi_core.proofs.TotalLemmas.{count_at, counts_kept, counts_set, each_kind}
-use Rattle.wasmi_core.specs.Exchange.{due_for, At, ChargesAt, ChargesBy, Denial, Exchange, Exchanges, GrowsAsAsked, GrowsBy, New, Nothing, NothingGrows, Notice, Nowhere, Passes, Permission, Place, place_of}
-use Rattle.wasmi_core.specs.MemoryRows.{CreatesLent}
-use Rattle.wasmi_core.specs.Rows.{ActsAt, Appends, Creates, reply_of}
+use Rattle.wasmi_core.specs.Exchange.{growth_due, At, ChargesAt, ChargesBy, Denial, Exchange, Exchanges, GrowsAsAsked, GrowsBy, New, Nothing, NothingGrows, Notice, Nowhere, Passes, Permission, Place, place_of}
+use Rattle.wasmi_core.specs.MemoryEffects.{CreatesLent}
+use Rattle.wasmi_core.specs.Effects.{ActsAt, AddsEntry, Creates, reply_of}
 use Rattle.wasmi_core.specs.State.{MemoryPart, State, live_at, memory_part, with_tables}
 use Rattle.wasmi_core.specs.Steps.{Changed, Effect, FuelSet, LentMemoryMade, MemoryGrown, MemoryMade, PartWritten, Step, TableGrown, TableMade, TakesEffect, effect_of}
-use Rattle.wasmi_core.specs.TableRows.{write_of}
+use Rattle.wasmi_core.specs.TableEffects.{write_of}
 use Rattle.wasmi_core.specs.Totals.{byte_count, sizes, slot_count}
 use Rattle.wasmi_core.specs.World.{Turn, World}
 use Rattle.wasmi_core.specs.declared.calls.Call.{Call}
@@ -19,7 +19,7 @@ use Rattle.wasmi_core.specs.declared.calls.Call.TheVariants.{NewMemory}
 use Rattle.wasmi_core.specs.declared.calls.Reply.{Reply}
 use Rattle.wasmi_core.specs.declared.slots.Slot.{Slot}
 use Rattle.wasmi_core.specs.declared.slots.Slot.TheVariants.{Live}
-use Rattle.wasmi_meter.specs.Attempt.{Denied, Effort, Failed, Fate, Follows, MayEnd, Met, Situation, Unasked, amount_due, answer_of, can_pay, charge_of, value_after}
+use Rattle.wasmi_meter.specs.Attempt.{Denied, Request, Failed, AttemptOutcome, Follows, MayEnd, Met, MeteredValue, Unasked, optional_due, answer_of, covers, outcome_charge, value_after}
 use Rattle.wasmi_meter.specs.Costs.{copy_cost}
 use Rattle.wasmi_meter.specs.Limiter.{Rules, kind_of}
 use Rattle.wasmi_meter.specs.Meter.{Meter, due}
@@ -61,23 +61,24 @@ record Meeting (S : Type 0) : Type 0 where
   meter : Meter
   charge : ℕ
 
--- the exchange of an attempt with this fate
-abbrev exchange_of : {V E : Type 0} → Effort V E → Fate E → Exchange
+-- the exchange of an attempt with this outcome
+abbrev exchange_of : {V E : Type 0} → Request V E → AttemptOutcome E → Exchange
 exchange_of e (Unasked cause) = Nothing
 exchange_of e (Denied answer) = Denial e.question answer
 exchange_of e Met = Permission e.question
-exchange_of e (Failed cause heed) = Notice e.question (e.notice cause) heed
+exchange_of e (Failed cause notice_answer) = Notice e.question (e.notice cause) notice_answer
 
 -- the charge of a growth, whose price is what the meter is due for the question
-charged_by_fate : {V E : Type 0} (e : Effort V E) (m : Meter) (charge : ℕ)
-    → amount_due (Some m) e.price ≡ due_for m e.question → (fate : Fate E) → charge ≡ charge_of e (Some m) fate
-    → ChargesBy (exchange_of e fate) m charge
-charged_by_fate e m charge price (Unasked cause) charged = charged
-charged_by_fate e m charge price (Denied answer) charged = charged
-charged_by_fate e m charge price Met charged = charged ∙ price
-charged_by_fate e m charge price (Failed cause heed) charged =
-    charge_if (is_none e.late && can_pay (Some m) (amount_due (Some m) e.price)) charge
-    (amount_due (Some m) e.price) (due_for m e.question) price charged
+charged_by_outcome : {V E : Type 0} (e : Request V E) (m : Meter) (charge : ℕ)
+    → optional_due (Some m) e.price ≡ growth_due m e.question → (outcome : AttemptOutcome E)
+    → charge ≡ outcome_charge e (Some m) outcome
+    → ChargesBy (exchange_of e outcome) m charge
+charged_by_outcome e m charge price (Unasked cause) charged = charged
+charged_by_outcome e m charge price (Denied answer) charged = charged
+charged_by_outcome e m charge price Met charged = charged ∙ price
+charged_by_outcome e m charge price (Failed cause notice_answer) charged =
+    charge_if (is_none e.late && covers (Some m) (optional_due (Some m) e.price)) charge
+    (optional_due (Some m) e.price) (growth_due m e.question) price charged
 
 module _ {S : Type 0} (rules : Rules S) (t : Meeting S) (place : Place) where
   -- an exchange between two limiters, with what has grown and the charge
@@ -89,29 +90,34 @@ module _ {S : Type 0} (rules : Rules S) (t : Meeting S) (place : Place) where
   nothing_passes : t.last ≡ t.first → NothingGrows t.before t.after → ChargesAt place Nothing t.meter t.charge → Passed
   nothing_passes same still free = (Nothing, same, still, free)
 
-  -- an attempt passes by its fate: one kind is watched, and the sizes of the other stay
-  module _ {V E : Type 0} (e : Effort V E) (tells : (cause : E) → kind_of (e.notice cause) ≡ e.question.kind)
+  -- an attempt passes by its outcome: one kind is watched, and the sizes of the other stay
+  module _ {V E : Type 0} (e : Request V E) (tells : (cause : E) → kind_of (e.notice cause) ≡ e.question.kind)
       (others : (kind : Kind) → kind ≢ e.question.kind → t.after kind ≡ t.before kind) where
     -- the sizes of the kind after it
-    abbrev GrowsByFate : Fate E → Type 0
-    GrowsByFate (Unasked cause) = t.after e.question.kind ≡ t.before e.question.kind
-    GrowsByFate (Denied answer) = t.after e.question.kind ≡ t.before e.question.kind
-    GrowsByFate Met = GrowsAsAsked place e.question (t.before e.question.kind) (t.after e.question.kind)
-    GrowsByFate (Failed cause heed) = t.after e.question.kind ≡ t.before e.question.kind
+    abbrev GrowsByOutcome : AttemptOutcome E → Type 0
+    GrowsByOutcome (Unasked cause) = t.after e.question.kind ≡ t.before e.question.kind
+    GrowsByOutcome (Denied answer) = t.after e.question.kind ≡ t.before e.question.kind
+    GrowsByOutcome Met = GrowsAsAsked place e.question (t.before e.question.kind) (t.after e.question.kind)
+    GrowsByOutcome (Failed cause notice_answer) = t.after e.question.kind ≡ t.before e.question.kind
 
     -- the kind that is watched stays too
     still : t.after e.question.kind ≡ t.before e.question.kind → NothingGrows t.before t.after
     still own = of_each (λ kind. t.after kind ≡ t.before kind) e.question.kind own others
 
     -- the exchange
-    attempt_passes : (meter : Option Meter) (fate : Fate E) → MayEnd e meter fate → Follows e rules t.first fate t.last
-        → GrowsByFate fate → ChargesAt place (exchange_of e fate) t.meter t.charge → Passed
+    attempt_passes : (meter : Option Meter) (outcome : AttemptOutcome E) → MayEnd e meter outcome
+        → Follows e rules t.first outcome t.last
+        → GrowsByOutcome outcome → ChargesAt place (exchange_of e outcome) t.meter t.charge → Passed
     attempt_passes meter (Unasked cause) may follows own charged = (Nothing, follows, still own, charged)
     attempt_passes meter (Denied answer) may follows own charged =
         (Denial e.question answer, (may.1, follows), still own, charged)
     attempt_passes meter Met may follows own charged = (Permission e.question, follows, (own, others), charged)
-    attempt_passes meter (Failed cause heed) may follows own charged =
-        (Notice e.question (e.notice cause) heed, (tells cause, follows.0, follows.1, follows.2), still own, charged)
+    attempt_passes meter (Failed cause notice_answer) may follows own charged = (
+      Notice e.question (e.notice cause) notice_answer,
+      (tells cause, follows.0, follows.1, follows.2),
+      still own,
+      charged,
+    )
 
 -- slots before and after an exchange, and what is counted of each value
 record Watch (S X : Type 0) : Type 0 where
@@ -126,19 +132,19 @@ record IsWatched {S X : Type 0} (v : Watch S X) (kind : Kind) : Type 0 where
   own' : v.meeting.after kind ≡ map (slot_count v.count) v.later
   others : (other : Kind) → other ≢ kind → v.meeting.after other ≡ v.meeting.before other
 
--- an effort that makes a value of nothing
-record IsCreationOf {X E : Type 0} (count : X → ℕ) (made : X) (e : Effort (Unit {0}) E) : Type 0 where
+-- an request that makes a value of nothing
+record IsCreationOf {X E : Type 0} (count : X → ℕ) (made : X) (e : Request (Unit {0}) E) : Type 0 where
   tells : (cause : E) → kind_of (e.notice cause) ≡ e.question.kind
   fresh : e.question.current ≡ 0
   full : count made ≡ e.question.desired
 
 -- a growth of a value, which is paid for as what it asks for is
 record IsGrowthOf {X E : Type 0} (count : X → ℕ) (x : X) (m : Meter) (g : Growth X E) : Type 0 where
-  tells : (cause : E) → kind_of (g.effort.notice cause) ≡ g.effort.question.kind
-  now : g.effort.question.current ≡ count x
-  full : count g.effort.grown ≡ g.effort.question.desired
-  up : g.effort.question.current ≤ g.effort.question.desired
-  price : amount_due (Some m) g.effort.price ≡ due_for m g.effort.question
+  tells : (cause : E) → kind_of (g.request.notice cause) ≡ g.request.question.kind
+  now : g.request.question.current ≡ count x
+  full : count g.request.grown ≡ g.request.question.desired
+  up : g.request.question.current ≤ g.request.question.desired
+  price : optional_due (Some m) g.request.price ≡ growth_due m g.request.question
 
 -- the live value of an index has become another one
 record Replaced {S X : Type 0} (v : Watch S X) (k : ℕ) (x x' : X) : Type 0 where
@@ -162,12 +168,12 @@ module _ {S X : Type 0} (rules : Rules S) (v : Watch S X) where
       ap (map (slot_count v.count)) replaced.put ∙ counts_kept v.count v.slots k x (Live x') replaced.found same
 
   -- something is made
-  module _ {E : Type 0} (e : Effort (Unit {0}) E) (made : X) (new : IsCreationOf v.count made e)
+  module _ {E : Type 0} (e : Request (Unit {0}) E) (made : X) (new : IsCreationOf v.count made e)
       (watched : IsWatched v e.question.kind) where
-    -- the sizes after it, by its fate
-    made_sizes : (refusal : E → Reply) (fate : Fate E) (reply : Reply)
-        → Appends Live refusal (answer_of e made fate) v.slots reply v.later
-        → GrowsByFate rules v.meeting New e new.tells watched.others fate
+    -- the sizes after it, by its outcome
+    made_sizes : (refusal : E → Reply) (outcome : AttemptOutcome E) (reply : Reply)
+        → AddsEntry Live refusal (answer_of e made outcome) v.slots reply v.later
+        → GrowsByOutcome rules v.meeting New e new.tells watched.others outcome
     made_sizes refusal (Unasked cause) reply appends =
         watched.own' ∙ ap (map (slot_count v.count)) appends.1 ∙ sym watched.own
     made_sizes refusal (Denied answer) reply appends =
@@ -178,7 +184,7 @@ module _ {S X : Type 0} (rules : Rules S) (v : Watch S X) where
           ∙ ap (λ n. map (slot_count v.count) v.slots ++ n ∷ []) new.full
           ∙ ap (λ (ns : List ℕ). ns ++ e.question.desired ∷ []) (sym watched.own),
     )
-    made_sizes refusal (Failed cause heed) reply appends =
+    made_sizes refusal (Failed cause notice_answer) reply appends =
         watched.own' ∙ ap (map (slot_count v.count)) appends.1 ∙ sym watched.own
 
     -- the exchange of a creation
@@ -187,20 +193,20 @@ module _ {S X : Type 0} (rules : Rules S) (v : Watch S X) where
         → Passed rules v.meeting New
     creates_passes refusal reply free (inl none) =
         kept_passes e.question.kind watched New none.2 (ap (map (slot_count v.count)) none.1) free
-    creates_passes refusal reply free (inr (result, (fate, attempt, answered), appends)) =
-        attempt_passes rules v.meeting New e new.tells watched.others None fate attempt.may_end attempt.follows
-        (made_sizes refusal fate reply (rw answered at appends)) free
+    creates_passes refusal reply free (inr (result, (outcome, attempt, answered), appends)) =
+        attempt_passes rules v.meeting New e new.tells watched.others None outcome attempt.may_end attempt.follows
+        (made_sizes refusal outcome reply (rw answered at appends)) free
 
   -- something grows
-  module _ {E : Type 0} (g : Growth X E) (watched : IsWatched v g.effort.question.kind) (k : ℕ) (x x' : X)
+  module _ {E : Type 0} (g : Growth X E) (watched : IsWatched v g.request.question.kind) (k : ℕ) (x x' : X)
       (growth : IsGrowthOf v.count x v.meeting.meter g) (replaced : Replaced v k x x') where
     -- the sizes where it doesn't
-    unchanged : x' ≡ x → v.meeting.after g.effort.question.kind ≡ v.meeting.before g.effort.question.kind
+    unchanged : x' ≡ x → v.meeting.after g.request.question.kind ≡ v.meeting.before g.request.question.kind
     unchanged same = watched.own' ∙ same_count k x x' replaced (ap v.count same) ∙ sym watched.own
 
-    -- the sizes after it, by its fate
-    grown_sizes : (fate : Fate E) → x' ≡ value_after g.effort x fate
-        → GrowsByFate rules v.meeting (At k) g.effort growth.tells watched.others fate
+    -- the sizes after it, by its outcome
+    grown_sizes : (outcome : AttemptOutcome E) → x' ≡ value_after g.request x outcome
+        → GrowsByOutcome rules v.meeting (At k) g.request growth.tells watched.others outcome
     grown_sizes (Unasked cause) same = unchanged same
     grown_sizes (Denied answer) same = unchanged same
     grown_sizes Met same = (
@@ -209,9 +215,9 @@ module _ {S X : Type 0} (rules : Rules S) (v : Watch S X) where
           ∙ ap Some (sym growth.now),
       watched.own' ∙ ap (map (slot_count v.count)) replaced.put ∙ counts_set v.count v.slots k (Live x')
           ∙ ap (slice_set (map (slot_count v.count) v.slots) k) (ap v.count same ∙ growth.full)
-          ∙ ap (λ (ns : List ℕ). slice_set ns k g.effort.question.desired) (sym watched.own),
+          ∙ ap (λ (ns : List ℕ). slice_set ns k g.request.question.desired) (sym watched.own),
     )
-    grown_sizes (Failed cause heed) same = unchanged same
+    grown_sizes (Failed cause notice_answer) same = unchanged same
 
     -- the exchange of a growth
     grows_passes : (m' : Meter) (result : Result ℕ E)
@@ -219,16 +225,16 @@ module _ {S X : Type 0} (rules : Rules S) (v : Watch S X) where
         v.meeting.charge (record { value = x'; meter = Some m'; limiter = v.meeting.last })
         → Passed rules v.meeting (At k)
     grows_passes m' result (inl none) =
-        kept_passes g.effort.question.kind watched (At k) (ap (λ (s : Situation X S). s.limiter) none.same)
-        (same_count k x x' replaced (ap (λ (s : Situation X S). v.count s.value) none.same)) none.uncharged
+        kept_passes g.request.question.kind watched (At k) (ap (λ (s : MeteredValue X S). s.limiter) none.same)
+        (same_count k x x' replaced (ap (λ (s : MeteredValue X S). v.count s.value) none.same)) none.uncharged
     grows_passes m' result (inr some) =
-        attempt_passes rules v.meeting (At k) g.effort growth.tells watched.others (Some v.meeting.meter) some.fate
-        some.attempt.may_end some.attempt.follows (grown_sizes some.fate some.attempt.value)
-        (charged_by_fate g.effort v.meeting.meter v.meeting.charge growth.price some.fate some.attempt.charged)
+        attempt_passes rules v.meeting (At k) g.request growth.tells watched.others (Some v.meeting.meter) some.outcome
+        some.attempt.may_end some.attempt.follows (grown_sizes some.outcome some.attempt.value)
+        (charged_by_outcome g.request v.meeting.meter v.meeting.charge growth.price some.outcome some.attempt.charged)
 
   -- a call on what an index names: nothing passes where it names nothing
   acts_pass : {R : Type 0} (kind : Kind) → IsWatched v kind → (k : ℕ) (reply_to : R → Reply)
-      (Acts : Situation X S → R → ℕ → Situation X S → Type 0) (m' : Meter) (reply : Reply)
+      (Acts : MeteredValue X S → R → ℕ → MeteredValue X S → Type 0) (m' : Meter) (reply : Reply)
       → ((x x' : X) (result : R) → Replaced v k x x'
       → Acts (record { value = x; meter = Some v.meeting.meter; limiter = v.meeting.first }) result v.meeting.charge
       (record { value = x'; meter = Some m'; limiter = v.meeting.last }) → Passed rules v.meeting (At k))
@@ -237,8 +243,8 @@ module _ {S X : Type 0} (rules : Rules S) (v : Watch S X) where
       → Passed rules v.meeting (At k)
   acts_pass kind watched k reply_to Acts m' reply passes acts =
       on_live (live_at v.slots k) _ _ acts
-      (λ missing. kept_passes kind watched (At k) (ap (λ (s : Situation (List (Slot X)) S). s.limiter) missing.2)
-      (ap (λ (s : Situation (List (Slot X)) S). map (slot_count v.count) s.value) missing.2) missing.1)
+      (λ missing. kept_passes kind watched (At k) (ap (λ (s : MeteredValue (List (Slot X)) S). s.limiter) missing.2)
+      (ap (λ (s : MeteredValue (List (Slot X)) S). map (slot_count v.count) s.value) missing.2) missing.1)
       (λ x found h. passes x h.1 h.0 (record { found = found; put = h.4 }) h.2)
 
 -- what holds of the other kind
@@ -277,7 +283,7 @@ new_table_is ty init = record {
 
 -- the growth of a memory by so many pages
 abbrev memory_growth : ℕ → MemoryValue → Growth MemoryValue MemoryError
-memory_growth pages x = record { amount = pages; size = pages_of x; effort = memory.growth_of x pages }
+memory_growth pages x = record { amount = pages; size = pages_of x; request = memory.growth_of x pages }
 
 -- it is one of its bytes
 memory_growth_is : (pages : ℕ) (x : MemoryValue) (m : Meter) → IsGrowthOf byte_count x m (memory_growth pages x)
@@ -294,7 +300,7 @@ memory_growth_is pages x m =
 
 -- the growth of a table by so many elements
 abbrev table_growth : ℕ → ℕ → TableValue → Growth TableValue TableError
-table_growth n reference x = record { amount = n; size = size_of x; effort = table.growth_of x n reference }
+table_growth n reference x = record { amount = n; size = size_of x; request = table.growth_of x n reference }
 
 -- it is one of its elements
 table_growth_is : (n reference : ℕ) (x : TableValue) (m : Meter) → IsGrowthOf size_of x m (table_growth n reference x)
@@ -408,8 +414,8 @@ module _ {S : Type 0} (rules : Rules S) (w : World S) (charge : ℕ) (w' : World
       (λ h. grows_passes rules tables_watch (table_growth n init.raw x) (tables_watched same) k x x'
       (table_growth_is n init.raw x w.state.meter) replaced m' result h)
       (λ h. kept_passes rules tables_watch Elements (tables_watched same) (At k)
-      (ap (λ (s : Situation TableValue S). s.limiter) h.2) (same_count rules tables_watch k x x' replaced
-      (ap (λ (s : Situation TableValue S). size_of s.value) h.2)) h.1)) acts
+      (ap (λ (s : MeteredValue TableValue S). s.limiter) h.2) (same_count rules tables_watch k x x' replaced
+      (ap (λ (s : MeteredValue TableValue S). size_of s.value) h.2)) h.1)) acts
 
 -- where an effect makes something grow
 abbrev place_by : Effect → Place
@@ -430,28 +436,29 @@ module _ {S : Type 0} (rules : Rules S) (w : World S) (turn : Turn) (w' : World 
   effect_passes : (effect : Effect) → TakesEffect rules effect w turn w'
       → Passed rules (meeting_of w turn.charge w') (place_by effect)
   effect_passes (FuelSet fuel) step =
-      idle rules w turn.charge w' step.after refl (λ kind. ap (λ t. sizes t kind) step.row.1)
+      idle rules w turn.charge w' step.after refl (λ kind. ap (λ t. sizes t kind) step.effect.1)
   effect_passes (Changed change) step =
-      idle rules w turn.charge w' step.after refl ((change_facts w.state change).still turn.reply step.machine step.row)
+      idle rules w turn.charge w' step.after refl
+      ((change_facts w.state change).still turn.reply step.machine step.effect)
   effect_passes (MemoryMade ty) step =
       memory_made rules w turn.charge w' (ap (λ (v : World S). v.state.tables) step.after) step.free.0 turn.reply
       Owned ty
-      (rw step.after step.row)
+      (rw step.after step.effect)
   effect_passes (LentMemoryMade ty) step =
       lent_made rules w turn.charge w' (ap (λ (v : World S). v.state.tables) step.after) step.free.0 turn.reply ty
-      (rw step.after step.row)
+      (rw step.after step.effect)
   effect_passes (MemoryGrown k pages) step =
       memory_grows rules w turn.charge w' (ap (λ (v : World S). v.state.tables) step.after) turn.reply k pages
       step.meter
-      (rw step.after step.row)
+      (rw step.after step.effect)
   effect_passes (TableMade ty init) step =
       table_made rules w turn.charge w' (ap (λ (v : World S). v.state.memories) step.after) step.free.0 turn.reply ty
       init
-      (rw step.after step.row)
+      (rw step.after step.effect)
   effect_passes (TableGrown k n init) step =
       table_grows rules w turn.charge w' (ap (λ (v : World S). v.state.memories) step.after) turn.reply k n init
       step.meter
-      (rw step.after step.row)
+      (rw step.after step.effect)
   effect_passes (PartWritten k source dst len) step =
       let keeps =
       on_live_too (write_of source dst len) _ _ _ _ (λ none. tt) (λ write is x. (is x).0) (source_writes source dst len)
@@ -459,7 +466,7 @@ module _ {S : Type 0} (rules : Rules S) (w : World S) (turn : Turn) (w' : World 
       idle rules w turn.charge w' step.after refl
       (each_kind (λ kind. sizes (with_tables w.state step.part) kind ≡ sizes w.state kind) refl
       (copy_kept k w.state.tables w.state.meter turn.reply turn.charge step.part step.meter (write_of source dst len)
-      (λ write. write) keeps step.row))
+      (λ write. write) keeps step.effect))
   effect_passes effect step = idle rules w turn.charge w' step.after refl (λ kind. refl)
 
 -- each step

@@ -5,7 +5,7 @@ use Rattle.std.proofs.Common.{subst, IfOk, OnErr}
 use Rattle.wasmi_meter.specs.declared.limiter.Kind.{Kind}
 use Rattle.wasmi_meter.specs.declared.limiter.Kind.TheVariants.{Bytes, Elements}
 use Rattle.wasmi_meter.specs.Holdings.{Holdings, HoldsTheSame, Reserves, GivesBack, with_more, without_last}
-use Rattle.wasmi_meter.specs.Limiter.{Question, Answer, IsDenial, Failure, kind_of, Heed, Rules, optional_rules}
+use Rattle.wasmi_meter.specs.Limiter.{Question, Answer, IsDenial, Failure, kind_of, NoticeAnswer, Rules, optional_rules}
 use Rattle.wasmi_core.specs.declared.calls.Call.{Call}
 use Rattle.wasmi_core.specs.declared.calls.Reply.{Reply}
 use Rattle.wasmi_core.specs.State.{State}
@@ -76,7 +76,8 @@ module _ (s s' : State) where
 pub record KeepsHoldings {L : Type 0} (rules : Rules L) (holdings : L → Holdings) : Type 0 where
   pub reserves : (l l' : L) (q : Question) (answer : Answer) → rules.asked l q answer l'
       → Reserves q answer (holdings l) (holdings l')
-  pub gives_back : (l l' : L) (failure : Failure) (heed : Heed) → rules.noticed l failure heed l'
+  pub gives_back : (l l' : L) (failure : Failure) (notice_answer : NoticeAnswer)
+      → rules.noticed l failure notice_answer l'
       → GivesBack (kind_of failure) (holdings l) (holdings l')
 
 module _ {L : Type 0} (rules : Rules L) (holdings : L → Holdings) (keeps : KeepsHoldings rules holdings) where
@@ -104,16 +105,18 @@ module _ {L : Type 0} (rules : Rules L) (holdings : L → Holdings) (keeps : Kee
         (keeps.reserves l l' q (Ok true) asks) (grown_sum place q (sizes s q.kind) (sizes s' q.kind) grows) others,
   )
   exchange_holds s s' l None place (Permission q) held asks grows = absurd asks
-  exchange_holds s s' l (Some l') place (Notice q failure heed) held (kind, Some p, asks, notices) grows = (
+  exchange_holds s s' l (Some l') place (Notice q failure notice_answer) held (kind, Some p, asks, notices) grows = (
     l',
     refl,
     still_held s s' (holdings l) (holdings l') held
         (given_back q.kind (q.desired - q.current) (holdings l) (holdings p) (holdings l')
         (keeps.reserves l p q (Ok true) asks)
-        (rw kind at (keeps.gives_back p l' failure heed notices))) grows,
+        (rw kind at (keeps.gives_back p l' failure notice_answer notices))) grows,
   )
-  exchange_holds s s' l None place (Notice q failure heed) held (kind, Some p, asks, notices) grows = absurd notices
-  exchange_holds s s' l limiter place (Notice q failure heed) held (kind, None, asks, notices) grows = absurd asks
+  exchange_holds s s' l None place (Notice q failure notice_answer) held (kind, Some p, asks, notices) grows =
+      absurd notices
+  exchange_holds s s' l limiter place (Notice q failure notice_answer) held (kind, None, asks, notices) grows =
+      absurd asks
 
   -- a run keeps them held
   pub totals_are_held : (s : State) (l : L) → HoldsTotals (holdings l) s → (turns : List Turn) (w' : World (Option L))

@@ -6,11 +6,11 @@ use Rattle.std.proofs.lemmas.Option.{none-some, same_Some, slice_get-map}
 use Rattle.std.specs.Option.{option_and_then, option_map}
 use Rattle.std.specs.Prelude.{MatchBool, MatchOption, if◌then◌else◌, is_none, slice_get, slice_set, ◌&&◌}
 use Rattle.std.specs.Result.{result_map_both}
-use Rattle.wasmi_core.proofs.RowLemmas.{both_live}
+use Rattle.wasmi_core.proofs.EffectLemmas.{both_live}
 use Rattle.wasmi_core.specs.LentMemory.{FitsRegions, FitsRoom, RunInRegions, owned, owned_memory, owned_slot, owned_world, unlent_world}
-use Rattle.wasmi_core.specs.MemoryRows.{StoresMemoryAt, WritesMemoryAt, bytes_appended, load_reply}
-use Rattle.wasmi_core.specs.RegisterRows.{StoresVectorAt, lane_loaded, vector_at, vector_loaded}
-use Rattle.wasmi_core.specs.Rows.{ActsAt, Appends, ChangesAt, Creates, DropsAt, OnLive, reply_of}
+use Rattle.wasmi_core.specs.MemoryEffects.{StoresMemoryAt, WritesMemoryAt, bytes_appended, load_reply}
+use Rattle.wasmi_core.specs.RegisterEffects.{StoresVectorAt, lane_loaded, vector_at, vector_loaded}
+use Rattle.wasmi_core.specs.Effects.{ActsAt, AddsEntry, ChangesAt, Creates, DropsAt, OnLive, reply_of}
 use Rattle.wasmi_core.specs.Runs.{Run}
 use Rattle.wasmi_core.specs.State.{State, live_at, live_value}
 use Rattle.wasmi_core.specs.Steps.{BytesRead, BytesStored, BytesWritten, Change, Changed, Effect, FuelSet, LentMemoryMade, MemoryDropped, MemoryGrown, MemoryMade, PartWritten, RegisterSet, Step, TableGrown, TableMade, TakesChange, TakesEffect, Told, effect_of}
@@ -22,11 +22,11 @@ use Rattle.wasmi_core.specs.declared.calls.Reply.{Reply}
 use Rattle.wasmi_core.specs.declared.ops.LoadOp.{LoadOp}
 use Rattle.wasmi_core.specs.declared.slots.Slot.{Slot}
 use Rattle.wasmi_core.specs.declared.slots.Slot.TheVariants.{Gone, Live}
-use Rattle.wasmi_meter.specs.Attempt.{Attempt, Denied, Effort, Failed, Fate, Follows, IsFirstCause, MayEnd, Met, Situation, Unasked, amount_due, answer_of, can_pay, charge_of, value_after, with_value}
+use Rattle.wasmi_meter.specs.Attempt.{Attempt, Denied, Request, Failed, AttemptOutcome, Follows, IsFirstCause, MayEnd, Met, MeteredValue, Unasked, optional_due, answer_of, covers, outcome_charge, value_after, with_value}
 use Rattle.wasmi_meter.specs.Limiter.{Answer, IsDenial, Rules}
 use Rattle.wasmi_meter.specs.Meter.{Meter}
 use Rattle.wasmi_meter.specs.declared.error.MemoryError.{MemoryError}
-use Rattle.wasmi_store.specs.Buffer.{LacksMemory, Lent, Owned, Room, has_place_for}
+use Rattle.wasmi_store.specs.Buffer.{LacksMemory, Lent, Owned, Room, fits_room}
 use Rattle.wasmi_store.specs.Memory.{GrowsMemory, MakesMemory, MemoryValue, WritesMemory, new_memory, pages_of}
 use Rattle.wasmi_store.specs.MemoryType.{MemoryTypeValue, in_bounds, minimum_bytes, page_bytes}
 use Rattle.wasmi_vector_ops.specs.declared.access.LoadLaneOp.{LoadLaneOp}
@@ -35,10 +35,10 @@ use Rattle.wasmi_store.specs.Memory as memory
 use Rattle.wasmi_core.specs.declared.calls.Reply.TheVariants as replied
 
 -- An attempt where nothing stands between the permission and the charge, and where more may refuse after it.
-module _ {V W E : Type 0} (e : Effort V E) (refuses : E → Type 0)
+module _ {V W E : Type 0} (e : Request V E) (refuses : E → Type 0)
     (lacks : (cause : E) → e.refuses cause → refuses cause) (own : V → W) where
-  -- the same effort without a late cause
-  abbrev eased : Effort W E
+  -- the same request without a late cause
+  abbrev eased : Request W E
   eased = record {
     early = e.early;
     question = e.question;
@@ -61,10 +61,10 @@ module _ {V W E : Type 0} (e : Effort V E) (refuses : E → Type 0)
     first_cause : (late : Option E) (cause : E) → late ≡ None → IsFirstCause e m late cause
         → IsFirstCause eased m None cause
     first_cause (Some late) cause none first = absurd (none-some late (sym none))
-    first_cause None cause none first = by_price (can_pay m (amount_due m e.price)) first
+    first_cause None cause none first = by_price (covers m (optional_due m e.price)) first
       where
-        by_price : (payable : Bool) → MatchBool payable (e.refuses cause) (cause ≡ e.unpaid (amount_due m e.price))
-            → MatchBool payable (refuses cause) (cause ≡ e.unpaid (amount_due m e.price))
+        by_price : (payable : Bool) → MatchBool payable (e.refuses cause) (cause ≡ e.unpaid (optional_due m e.price))
+            → MatchBool payable (refuses cause) (cause ≡ e.unpaid (optional_due m e.price))
         by_price true h = lacks cause h
         by_price false h = h
 
@@ -74,54 +74,56 @@ module _ {V W E : Type 0} (e : Effort V E) (refuses : E → Type 0)
     none_late (inr (cause, is)) early = absurd (none-some cause (sym early ∙ is))
 
     -- it may end as it did
-    ends : IsEasy → (fate : Fate E) → MayEnd e m fate → MayEnd eased m fate
+    ends : IsEasy → (outcome : AttemptOutcome E) → MayEnd e m outcome → MayEnd eased m outcome
     ends easy (Unasked cause) may = may
     ends easy (Denied answer) may = may
     ends easy Met may = (may.0, refl, may.2)
-    ends easy (Failed cause heed) may = (may.0, first_cause e.late cause (none_late easy may.0) may.1)
+    ends easy (Failed cause notice_answer) may = (may.0, first_cause e.late cause (none_late easy may.0) may.1)
 
     -- it is charged as it was
-    charges : IsEasy → (fate : Fate E) → MayEnd e m fate → charge_of e m fate ≡ charge_of eased m fate
+    charges : IsEasy → (outcome : AttemptOutcome E) → MayEnd e m outcome
+        → outcome_charge e m outcome ≡ outcome_charge eased m outcome
     charges easy (Unasked cause) may = refl
     charges easy (Denied answer) may = refl
     charges easy Met may = refl
-    charges easy (Failed cause heed) may =
-        ap (λ late. if is_none late && can_pay m (amount_due m e.price) then amount_due m e.price else 0)
+    charges easy (Failed cause notice_answer) may =
+        ap (λ late. if is_none late && covers m (optional_due m e.price) then optional_due m e.price else 0)
         (none_late easy may.0)
 
   -- it follows as it did
-  follows : {S : Type 0} (rules : Rules S) (l l' : S) (fate : Fate E) → Follows e rules l fate l'
-      → Follows eased rules l fate l'
+  follows : {S : Type 0} (rules : Rules S) (l l' : S) (outcome : AttemptOutcome E) → Follows e rules l outcome l'
+      → Follows eased rules l outcome l'
   follows rules l l' (Unasked cause) h = h
   follows rules l l' (Denied answer) h = h
   follows rules l l' Met h = h
-  follows rules l l' (Failed cause heed) h = h
+  follows rules l l' (Failed cause notice_answer) h = h
 
   -- what it leaves
-  values : (x : V) (fate : Fate E) → own (value_after e x fate) ≡ value_after eased (own x) fate
+  values : (x : V) (outcome : AttemptOutcome E) → own (value_after e x outcome) ≡ value_after eased (own x) outcome
   values x (Unasked cause) = refl
   values x (Denied answer) = refl
   values x Met = refl
-  values x (Failed cause heed) = refl
+  values x (Failed cause notice_answer) = refl
 
   -- what it answers
-  answers : {T U : Type 0} (f : T → U) (made : T) (fate : Fate E)
-      → result_map_both f (λ error. error) (answer_of e made fate) ≡ answer_of eased (f made) fate
+  answers : {T U : Type 0} (f : T → U) (made : T) (outcome : AttemptOutcome E)
+      → result_map_both f (λ error. error) (answer_of e made outcome) ≡ answer_of eased (f made) outcome
   answers f made (Unasked cause) = refl
   answers f made (Denied answer) = refl
   answers f made Met = refl
-  answers f made (Failed cause heed) = refl
+  answers f made (Failed cause notice_answer) = refl
 
-  -- so the attempt is one of the eased effort
-  attempts : {S : Type 0} (rules : Rules S) (s s' : Situation V S) (fate : Fate E) (charge : ℕ) → IsEasy
-      → Attempt rules e s fate charge s' → Attempt rules eased (with_value s (own s.value)) fate charge (with_value s'
+  -- so the attempt is one of the eased request
+  attempts : {S : Type 0} (rules : Rules S) (s s' : MeteredValue V S) (outcome : AttemptOutcome E) (charge : ℕ) → IsEasy
+      → Attempt rules e s outcome charge s'
+      → Attempt rules eased (with_value s (own s.value)) outcome charge (with_value s'
       (own s'.value))
-  attempts rules s s' fate charge easy a = record {
-    may_end = ends s.meter easy fate a.may_end;
-    follows = follows rules s.limiter s'.limiter fate a.follows;
-    charged = a.charged ∙ charges s.meter easy fate a.may_end;
+  attempts rules s s' outcome charge easy a = record {
+    may_end = ends s.meter easy outcome a.may_end;
+    follows = follows rules s.limiter s'.limiter outcome a.follows;
+    charged = a.charged ∙ charges s.meter easy outcome a.may_end;
     meter = a.meter;
-    value = ap own a.value ∙ values s.value fate;
+    value = ap own a.value ∙ values s.value outcome;
   }
 
 -- what a room of one's own may refuse after the charge
@@ -141,23 +143,23 @@ early_of false error outside = refl
 
 -- a memory is made where its room has place for it
 makes_owned : {S : Type 0} (rules : Rules S) (room : Room) (ty : MemoryTypeValue) (l : S)
-    (result : Result MemoryValue MemoryError) (l' : S) → has_place_for room (minimum_bytes ty) ≡ true
+    (result : Result MemoryValue MemoryError) (l' : S) → fits_room room (minimum_bytes ty) ≡ true
     → MakesMemory rules room ty l result l'
     → MakesMemory rules Owned ty l (result_map_both owned_memory (λ error. error) result) l'
-makes_owned rules room ty l result l' fits (fate, attempt, answered) =
+makes_owned rules room ty l result l' fits (outcome, attempt, answered) =
     let e = memory.creation_of room ty in (
-      fate,
-      attempts e (LacksMemory Owned) (lacks_owned room) (λ none. none) rules _ _ fate 0
-          (inl (late_of (has_place_for room (minimum_bytes ty)) MemoryError.InvalidStaticBufferSize fits)) attempt,
+      outcome,
+      attempts e (LacksMemory Owned) (lacks_owned room) (λ none. none) rules _ _ outcome 0
+          (inl (late_of (fits_room room (minimum_bytes ty)) MemoryError.InvalidStaticBufferSize fits)) attempt,
       ap (result_map_both owned_memory (λ error. error)) answered
-          ∙ answers e (LacksMemory Owned) (lacks_owned room) (λ none. none) owned_memory (new_memory room ty) fate,
+          ∙ answers e (LacksMemory Owned) (lacks_owned room) (λ none. none) owned_memory (new_memory room ty) outcome,
     )
 
 -- a memory grows within its room
 fits_easy : (pages : ℕ) (x : MemoryValue) → FitsRoom pages x
     → IsEasy (memory.growth_of x pages) (LacksMemory Owned) (lacks_owned x.room) owned_memory
 fits_easy pages x (inl fits) =
-    inl (late_of (has_place_for x.room (pages * page_bytes x.ty.page)) MemoryError.InvalidStaticBufferSize fits)
+    inl (late_of (fits_room x.room (pages * page_bytes x.ty.page)) MemoryError.InvalidStaticBufferSize fits)
 fits_easy pages x (inr outside) =
     inr (
       MemoryError.OutOfBoundsGrowth,
@@ -166,8 +168,9 @@ fits_easy pages x (inr outside) =
     )
 
 -- so it grows as one of its own
-grows_owned : {S : Type 0} (rules : Rules S) (pages : ℕ) (s : Situation MemoryValue S) (result : Result ℕ MemoryError)
-    (charge : ℕ) (s' : Situation MemoryValue S) → FitsRoom pages s.value
+grows_owned : {S : Type 0} (rules : Rules S) (pages : ℕ) (s : MeteredValue MemoryValue S)
+    (result : Result ℕ MemoryError)
+    (charge : ℕ) (s' : MeteredValue MemoryValue S) → FitsRoom pages s.value
     → GrowsMemory rules pages s result charge s'
     → GrowsMemory rules pages (with_value s (owned_memory s.value)) result charge
     (with_value s' (owned_memory s'.value))
@@ -175,24 +178,24 @@ grows_owned {S} rules pages s result charge s' fits (inl none) = inl (record {
   none = none.none;
   answered = none.answered;
   uncharged = none.uncharged;
-  same = ap (λ (t : Situation MemoryValue S). with_value t (owned_memory t.value)) none.same;
+  same = ap (λ (t : MeteredValue MemoryValue S). with_value t (owned_memory t.value)) none.same;
 })
 grows_owned rules pages s result charge s' fits (inr some) =
     let e = memory.growth_of s.value pages in inr (record {
       some = some.some;
-      fate = some.fate;
-      attempt = attempts e (LacksMemory Owned) (lacks_owned s.value.room) owned_memory rules s s' some.fate charge
+      outcome = some.outcome;
+      attempt = attempts e (LacksMemory Owned) (lacks_owned s.value.room) owned_memory rules s s' some.outcome charge
           (fits_easy pages s.value fits) some.attempt;
-      answered = some.answered ∙ answered_eased some.fate;
+      answered = some.answered ∙ answered_eased some.outcome;
     })
   where
-    answered_eased : (fate : Fate MemoryError)
-        → answer_of (memory.growth_of s.value pages) (pages_of s.value) fate ≡ answer_of
-        (memory.growth_of (owned_memory s.value) pages) (pages_of s.value) fate
+    answered_eased : (outcome : AttemptOutcome MemoryError)
+        → answer_of (memory.growth_of s.value pages) (pages_of s.value) outcome ≡ answer_of
+        (memory.growth_of (owned_memory s.value) pages) (pages_of s.value) outcome
     answered_eased (Unasked cause) = refl
     answered_eased (Denied answer) = refl
     answered_eased Met = refl
-    answered_eased (Failed cause heed) = refl
+    answered_eased (Failed cause notice_answer) = refl
 
 -- the live memory of an index
 owned_value : (slot : Option (Slot MemoryValue))
@@ -214,7 +217,7 @@ owned_fact : (o : Option MemoryValue) (Missing Missing' : Type 0) (Fact Fact' : 
 owned_fact None Missing Missing' Fact Fact' h missing live = missing h
 owned_fact (Some x) Missing Missing' Fact Fact' h missing live = live x h
 
--- Rows on memories.
+-- Effects on memories.
 module _ (slots : List (Slot MemoryValue)) (k : ℕ) where
   -- a fact of the live memory of an index
   on_owned : (Missing Missing' : Type 0) (Fact Fact' : MemoryValue → Type 0) → OnLive (live_at slots k) Missing Fact
@@ -326,7 +329,7 @@ module _ (slots : List (Slot MemoryValue)) (k : ℕ) where
         missing.1.0,
         missing.1.1,
         ap
-            (λ (t : Situation (List (Slot MemoryValue)) S). with_value t (map owned_slot t.value)) missing.1.2,
+            (λ (t : MeteredValue (List (Slot MemoryValue)) S). with_value t (map owned_slot t.value)) missing.1.2,
       ))
       (λ x h. (
         h.1.0,
@@ -340,8 +343,8 @@ module _ (slots : List (Slot MemoryValue)) (k : ℕ) where
 
 -- a memory is made in a slot
 appends_owned : (result : Result MemoryValue MemoryError) (slots : List (Slot MemoryValue)) (reply : Reply)
-    (slots' : List (Slot MemoryValue)) → Appends Live replied.Memory result slots reply slots'
-    → Appends Live replied.Memory (result_map_both owned_memory (λ error. error) result) (map owned_slot slots) reply
+    (slots' : List (Slot MemoryValue)) → AddsEntry Live replied.Memory result slots reply slots'
+    → AddsEntry Live replied.Memory (result_map_both owned_memory (λ error. error) result) (map owned_slot slots) reply
     (map owned_slot slots')
 appends_owned (Ok x) slots reply slots' appends = (
   appends.0 ∙ ap replied.Made (sym (length-map slots owned_slot)),
@@ -352,7 +355,7 @@ appends_owned (Err error) slots reply slots' appends = (appends.0, ap (map owned
 
 -- so in a new slot
 creates_owned : {S : Type 0} (rules : Rules S) (room : Room) (ty : MemoryTypeValue) (slots : List (Slot MemoryValue))
-    (l : S) (reply : Reply) (slots' : List (Slot MemoryValue)) (l' : S) → has_place_for room (minimum_bytes ty) ≡ true
+    (l : S) (reply : Reply) (slots' : List (Slot MemoryValue)) (l' : S) → fits_room room (minimum_bytes ty) ≡ true
     → Creates replied.Memory (MakesMemory rules room ty) slots l reply slots' l'
     → Creates replied.Memory (MakesMemory rules Owned ty) (map owned_slot slots) l reply (map owned_slot slots') l'
 creates_owned rules room ty slots l reply slots' l' fits (inl none) = inl (none.0, ap (map owned_slot) none.1, none.2)
@@ -390,37 +393,41 @@ change_owned : (s : State) (reply : Reply) (s' : State) (change : Change) → Ta
 change_owned s reply s' (BytesWritten k offset bytes) c =
     record {
       part = map owned_slot c.part;
-      row = writes_owned s.memories k reply c.part offset bytes c.row;
+      row = writes_owned s.memories k reply c.part offset bytes c.effect;
       after = ap
           owned c.after;
     }
 change_owned s reply s' (BytesStored k a stored) c =
     record {
       part = map owned_slot c.part;
-      row = vector_stores_owned s.memories k reply c.part a stored c.row;
+      row = vector_stores_owned s.memories k reply c.part a stored c.effect;
       after =
           ap owned c.after;
     }
 change_owned s reply s' (MemoryDropped k) c =
-    record { part = map owned_slot c.part; row = drops_owned s.memories k reply c.part c.row; after = ap owned c.after }
-change_owned s reply s' change c = record { part = c.part; row = c.row; after = ap owned c.after }
+    record {
+      part = map owned_slot c.part;
+      row = drops_owned s.memories k reply c.part c.effect;
+      after = ap owned c.after;
+    }
+change_owned s reply s' change c = record { part = c.part; row = c.effect; after = ap owned c.after }
 
 module _ {S : Type 0} (rules : Rules S) (w : World S) (turn : Turn) (w' : World S) where
   -- each effect that fits
   effect_owned : (effect : Effect) → EffectFits w.state effect → TakesEffect rules effect w turn w'
       → TakesEffect rules effect (owned_world w) turn (owned_world w')
-  effect_owned (Told told) fits step = record { free = step.free; row = step.row; after = ap owned_world step.after }
+  effect_owned (Told told) fits step = record { free = step.free; row = step.effect; after = ap owned_world step.after }
   effect_owned (BytesRead k offset len) fits step =
       record {
         free = step.free;
-        row = on_owned w.state.memories k _ _ _ _ step.row (λ missing. missing) (λ x h. h);
+        row = on_owned w.state.memories k _ _ _ _ step.effect (λ missing. missing) (λ x h. h);
         after = ap owned_world step.after;
       }
   effect_owned (FuelSet fuel) fits step =
       record {
         free = step.free;
         machine = owned step.machine;
-        row = (step.row.0, ap owned step.row.1);
+        effect = (step.effect.0, ap owned step.effect.1);
         after = ap
             owned_world step.after;
       }
@@ -429,14 +436,14 @@ module _ {S : Type 0} (rules : Rules S) (w : World S) (turn : Turn) (w' : World 
         free = step.free;
         machine = owned step.machine;
         row = change_owned w.state turn.reply step.machine
-            change step.row;
+            change step.effect;
         after = ap owned_world step.after;
       }
   effect_owned (MemoryMade ty) fits step = record {
     free = step.free;
     part = map owned_slot step.part;
     limiter = step.limiter;
-    row = creates_owned rules Owned ty w.state.memories w.limiter turn.reply step.part step.limiter refl step.row;
+    row = creates_owned rules Owned ty w.state.memories w.limiter turn.reply step.part step.limiter refl step.effect;
     after = ap owned_world step.after;
   }
   effect_owned (LentMemoryMade ty) fits step = absurd fits
@@ -445,7 +452,7 @@ module _ {S : Type 0} (rules : Rules S) (w : World S) (turn : Turn) (w' : World 
     meter = step.meter;
     limiter = step.limiter;
     row = growth_owned w.state.memories k rules pages (Some w.state.meter) w.limiter turn.reply turn.charge step.part
-        (Some step.meter) step.limiter fits step.row;
+        (Some step.meter) step.limiter fits step.effect;
     wrote = step.wrote ∙ appended_owned w.state.memories k pages turn.reply;
     after = ap owned_world step.after;
   }
@@ -454,7 +461,7 @@ module _ {S : Type 0} (rules : Rules S) (w : World S) (turn : Turn) (w' : World 
         free = step.free;
         part = step.part;
         limiter = step.limiter;
-        row = step.row;
+        row = step.effect;
         after = ap owned_world
             step.after;
       }
@@ -463,7 +470,7 @@ module _ {S : Type 0} (rules : Rules S) (w : World S) (turn : Turn) (w' : World 
         part = step.part;
         meter = step.meter;
         limiter = step.limiter;
-        row = step.row;
+        row = step.effect;
         wrote = step.wrote;
         after = ap owned_world step.after;
       }
@@ -471,7 +478,7 @@ module _ {S : Type 0} (rules : Rules S) (w : World S) (turn : Turn) (w' : World 
       record {
         part = step.part;
         meter = step.meter;
-        row = step.row;
+        row = step.effect;
         wrote = step.wrote;
         after = ap owned_world
             step.after;
@@ -499,7 +506,7 @@ pub creation_is_owned : {S : Type 0} (rules : Rules S) (w : World S) (turn : Tur
 creation_is_owned rules w turn w' ty region called spare fits step =
     let lent : TakesEffect rules (LentMemoryMade ty) w turn w' = subst
     (λ c. TakesEffect rules (effect_of w.state c) w turn w') called step in
-    let creates = on_spare _ _ w.state.spare region spare lent.row in
+    let creates = on_spare _ _ w.state.spare region spare lent.effect in
     record {
       free = lent.free;
       part = map owned_slot lent.part.slots;
@@ -510,14 +517,14 @@ creation_is_owned rules w turn w' ty region called spare fits step =
     }
 
 -- a growth of a lent memory that nothing but the limiter can refuse
-record IsFree (pages : ℕ) {S : Type 0} (s : Situation MemoryValue S) (rest : List ℕ) : Type 0 where
+record IsFree (pages : ℕ) {S : Type 0} (s : MeteredValue MemoryValue S) (rest : List ℕ) : Type 0 where
   lent : s.value.room ≡ Lent rest
   inside : in_bounds s.value.ty (pages_of s.value + pages) ≡ true
-  fits : has_place_for s.value.room (pages * page_bytes s.value.ty.page) ≡ true
-  payable : can_pay s.meter (amount_due s.meter (memory.growth_of s.value pages).price) ≡ true
+  fits : fits_room s.value.room (pages * page_bytes s.value.ty.page) ≡ true
+  payable : covers s.meter (optional_due s.meter (memory.growth_of s.value pages).price) ≡ true
 
-module _ {S : Type 0} (rules : Rules S) (pages : ℕ) (s : Situation MemoryValue S) (rest : List ℕ)
-    (free : IsFree pages s rest) (result : Result ℕ MemoryError) (charge : ℕ) (s' : Situation MemoryValue S) where
+module _ {S : Type 0} (rules : Rules S) (pages : ℕ) (s : MeteredValue MemoryValue S) (rest : List ℕ)
+    (free : IsFree pages s rest) (result : Result ℕ MemoryError) (charge : ℕ) (s' : MeteredValue MemoryValue S) where
   -- it has succeeded, or the limiter has denied it
   abbrev Succeeds : Type 0
   Succeeds =
@@ -534,7 +541,7 @@ module _ {S : Type 0} (rules : Rules S) (pages : ℕ) (s : Situation MemoryValue
       pages).late cause → ⊥
   no_cause cause first =
       refused s.value.room free.lent (rw free.payable at first_of (memory.growth_of s.value pages).late
-      (late_of (has_place_for s.value.room (pages * page_bytes s.value.ty.page)) MemoryError.InvalidStaticBufferSize
+      (late_of (fits_room s.value.room (pages * page_bytes s.value.ty.page)) MemoryError.InvalidStaticBufferSize
       free.fits) first)
     where
       refused : (room : Room) → room ≡ Lent rest → LacksMemory room cause → ⊥
@@ -547,27 +554,27 @@ module _ {S : Type 0} (rules : Rules S) (pages : ℕ) (s : Situation MemoryValue
       first_of None none first = first
       first_of (Some late) none first = absurd (none-some late (sym none))
 
-  -- it has succeeded or was denied, by its fate
-  by_fate : (fate : Fate MemoryError) → MayEnd (memory.growth_of s.value pages) s.meter fate
-      → Follows (memory.growth_of s.value pages) rules s.limiter fate s'.limiter
-      → result ≡ answer_of (memory.growth_of s.value pages) (pages_of s.value) fate → Succeeds
-  by_fate (Unasked cause) may follows answered =
+  -- it has succeeded or was denied, by its outcome
+  by_outcome : (outcome : AttemptOutcome MemoryError) → MayEnd (memory.growth_of s.value pages) s.meter outcome
+      → Follows (memory.growth_of s.value pages) rules s.limiter outcome s'.limiter
+      → result ≡ answer_of (memory.growth_of s.value pages) (pages_of s.value) outcome → Succeeds
+  by_outcome (Unasked cause) may follows answered =
       absurd (none-some cause (sym (no_early (in_bounds s.value.ty (pages_of s.value + pages)) free.inside) ∙ may))
-  by_fate (Denied answer) may follows answered = inr (answer, may.1, follows)
-  by_fate Met may follows answered = inl answered
-  by_fate (Failed cause heed) may follows answered = absurd (no_cause cause may.1)
+  by_outcome (Denied answer) may follows answered = inr (answer, may.1, follows)
+  by_outcome Met may follows answered = inl answered
+  by_outcome (Failed cause notice_answer) may follows answered = absurd (no_cause cause may.1)
 
   -- so the growth
   growth_succeeds : GrowsMemory rules pages s result charge s' → Succeeds
   growth_succeeds (inl none) = inl none.answered
-  growth_succeeds (inr some) = by_fate some.fate some.attempt.may_end some.attempt.follows some.answered
+  growth_succeeds (inr some) = by_outcome some.outcome some.attempt.may_end some.attempt.follows some.answered
 
 -- so by what it needs
-pub lent_growth_succeeds : {S : Type 0} (rules : Rules S) (pages : ℕ) (s : Situation MemoryValue S) (rest : List ℕ)
+pub lent_growth_succeeds : {S : Type 0} (rules : Rules S) (pages : ℕ) (s : MeteredValue MemoryValue S) (rest : List ℕ)
     → s.value.room ≡ Lent rest → in_bounds s.value.ty (pages_of s.value + pages) ≡ true
-    → has_place_for s.value.room (pages * page_bytes s.value.ty.page) ≡ true
-    → can_pay s.meter (amount_due s.meter (memory.growth_of s.value pages).price) ≡ true
-    → (result : Result ℕ MemoryError) (charge : ℕ) (s' : Situation MemoryValue S)
+    → fits_room s.value.room (pages * page_bytes s.value.ty.page) ≡ true
+    → covers s.meter (optional_due s.meter (memory.growth_of s.value pages).price) ≡ true
+    → (result : Result ℕ MemoryError) (charge : ℕ) (s' : MeteredValue MemoryValue S)
     → GrowsMemory rules pages s result charge s'
     → (result ≡ Ok (pages_of s.value)) ⊎ ((answer : Answer) × IsDenial answer
     × rules.asked s.limiter (memory.growth_of s.value pages).question answer s'.limiter)

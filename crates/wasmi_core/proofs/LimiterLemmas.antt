@@ -1,6 +1,6 @@
 -- What each answer of a limiter keeps, a run keeps.
 use Rattle.std.proofs.Common.{◌≡◌, Option, Some, None, List, [], ◌∷◌, refl, subst}
-use Rattle.wasmi_meter.specs.Limiter.{Question, Answer, Failure, Heed, Rules, optional_rules}
+use Rattle.wasmi_meter.specs.Limiter.{Question, Answer, Failure, NoticeAnswer, Rules, optional_rules}
 use Rattle.wasmi_core.specs.World.{World, Turn}
 use Rattle.wasmi_core.specs.Runs.{Run}
 use Rattle.wasmi_core.specs.Exchange.{Exchange, Nothing, Denial, Permission, Notice, Passes}
@@ -8,7 +8,8 @@ use Rattle.wasmi_core.proofs.ExchangeLemmas.{growths_are_permitted}
 
 module _ {L : Type 0} (rules : Rules L) (Kept : L → Type 0)
     (asked : (l : L) (q : Question) (answer : Answer) (l' : L) → Kept l → rules.asked l q answer l' → Kept l')
-    (noticed : (l : L) (failure : Failure) (heed : Heed) (l' : L) → Kept l → rules.noticed l failure heed l'
+    (noticed : (l : L) (failure : Failure) (notice_answer : NoticeAnswer) (l' : L) → Kept l
+    → rules.noticed l failure notice_answer l'
     → Kept l') where
   -- the limiter is there, and is as it was
   abbrev IsKept : Option L → Type 0
@@ -22,10 +23,10 @@ module _ {L : Type 0} (rules : Rules L) (Kept : L → Type 0)
   exchange_keeps l None (Denial q answer) kept (denial, asks) = absurd asks
   exchange_keeps l (Some l') (Permission q) kept asks = (l', refl, asked l q _ l' kept asks)
   exchange_keeps l None (Permission q) kept asks = absurd asks
-  exchange_keeps l (Some l') (Notice q failure heed) kept (kind, Some p, asks, notices) =
-      (l', refl, noticed p failure heed l' (asked l q _ p kept asks) notices)
-  exchange_keeps l None (Notice q failure heed) kept (kind, Some p, asks, notices) = absurd notices
-  exchange_keeps l limiter (Notice q failure heed) kept (kind, None, asks, notices) = absurd asks
+  exchange_keeps l (Some l') (Notice q failure notice_answer) kept (kind, Some p, asks, notices) =
+      (l', refl, noticed p failure notice_answer l' (asked l q _ p kept asks) notices)
+  exchange_keeps l None (Notice q failure notice_answer) kept (kind, Some p, asks, notices) = absurd notices
+  exchange_keeps l limiter (Notice q failure notice_answer) kept (kind, None, asks, notices) = absurd asks
 
   -- a run keeps it
   pub run_keeps : (w : World (Option L)) (l : L) → w.limiter ≡ Some l → Kept l

@@ -2,7 +2,7 @@
 use Rattle.std.proofs.Common.{List, map, Ok, Err, refl}
 use Rattle.std.specs.Prelude.{All}
 use Rattle.wasmi_meter.specs.Limiter.{Rules}
-use Rattle.wasmi_meter.specs.Attempt.{Effort, Unasked, Denied, Met, Failed}
+use Rattle.wasmi_meter.specs.Attempt.{Request, Unasked, Denied, Met, Failed}
 use Rattle.wasmi_store.specs.Memory as memory
 use Rattle.wasmi_store.specs.Table as table
 use Rattle.wasmi_core.specs.declared.calls.Reply.{Reply}
@@ -14,13 +14,13 @@ use Rattle.wasmi_core.proofs.RevealingLemmas.{Reveals, run_revealed}
 
 module _ {S : Type 0} (rules : Rules S) where
   -- the replies to an attempt's errors tell whether it was denied, where those of a denial do
-  denial_revealed : {V E : Type 0} (refusal : E → Reply) (e : Effort V E) → (TellsNoDenial (refusal e.denial) → ⊥)
+  denial_revealed : {V E : Type 0} (refusal : E → Reply) (e : Request V E) → (TellsNoDenial (refusal e.denial) → ⊥)
       → (TellsNoDenial (refusal e.refusal) → ⊥) → Reveals rules (permitting rules) TellsNoDenial refusal e
   denial_revealed refusal e denied failed (Unasked c) l l' shown f = f
   denial_revealed refusal e denied failed (Denied (Ok permitted)) l l' shown f = absurd (denied (shown _ refl))
   denial_revealed refusal e denied failed (Denied (Err error)) l l' shown f = absurd (failed (shown _ refl))
   denial_revealed refusal e denied failed Met l l' shown f = (refl, f)
-  denial_revealed refusal e denied failed (Failed c heed) l l' shown (permitted, asks, notices) =
+  denial_revealed refusal e denied failed (Failed c notice_answer) l l' shown (permitted, asks, notices) =
       (permitted, (refl, asks), notices)
 
   -- a run of whose replies none tells of a denial

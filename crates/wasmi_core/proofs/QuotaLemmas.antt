@@ -1,7 +1,7 @@
 -- A quota stays within its caps.
 use Rattle.std.proofs.Common.{◌≡◌, ◌∙◌, Some, List, refl}
 use Rattle.wasmi_meter.specs.declared.quota.Quota.{Quota}
-use Rattle.wasmi_meter.specs.Limiter.{Question, Answer, Failure, Heed, optional_rules}
+use Rattle.wasmi_meter.specs.Limiter.{Question, Answer, Failure, NoticeAnswer, optional_rules}
 use Rattle.wasmi_meter.specs.Quota.{SameCaps, IsWithinCaps, Asked, Noticed, quota_rules}
 use Rattle.wasmi_meter.proofs.QuotaLemmas as quota
 use Rattle.wasmi_core.specs.State.{State}
@@ -30,11 +30,11 @@ asked_later first l q answer l' later asked =
     }
 
 -- so does a notice
-noticed_later : (first l : Quota) (failure : Failure) (heed : Heed) (l' : Quota) → IsLater first l
-    → Noticed l failure heed l' → IsLater first l'
-noticed_later first l failure heed l' later noticed =
+noticed_later : (first l : Quota) (failure : Failure) (notice_answer : NoticeAnswer) (l' : Quota) → IsLater first l
+    → Noticed l failure notice_answer l' → IsLater first l'
+noticed_later first l failure notice_answer l' later noticed =
     record {
-      within = quota.noticed_is_within l l' later.within failure heed noticed;
+      within = quota.noticed_is_within l l' later.within failure notice_answer noticed;
       caps = same_caps first l l'
           later.caps noticed.caps;
     }

@@ -3,26 +3,26 @@ use Rattle.std.proofs.Common.{Bool, List, None, Option, Result, Some, [], ap, fa
 use Rattle.std.proofs.lemmas.List.Elements.{All-head, All-tail}
 use Rattle.std.proofs.lemmas.Option.{same_Some}
 use Rattle.std.specs.Prelude.{All, MatchBool, if◌then◌else◌, is_none, is_some, ◌&&◌}
-use Rattle.wasmi_core.proofs.MemoryRowsLemmas.{lent_back, lent_spare, memory_growth_back}
-use Rattle.wasmi_core.proofs.RowLemmas.{creates_back, on_live}
+use Rattle.wasmi_core.proofs.MemoryEffectsLemmas.{lent_back, lent_spare, memory_growth_back}
+use Rattle.wasmi_core.proofs.EffectLemmas.{creates_back, on_live}
 use Rattle.wasmi_core.proofs.StepsLemmas.{change_facts}
-use Rattle.wasmi_core.proofs.TableRowsLemmas.{table_copy_back, table_growth_back}
+use Rattle.wasmi_core.proofs.TableEffectsLemmas.{table_copy_back, table_growth_back}
 use Rattle.wasmi_core.specs.Determinism.{IsNoWant}
 use Rattle.wasmi_core.specs.Laws.{IsRefusal, IsToldOfWant, Keeps, KeepsMeter, KeepsSpare, SameContents}
-use Rattle.wasmi_core.specs.MemoryRows.{spare_after}
-use Rattle.wasmi_core.specs.Rows.{ActsAt, reply_of}
+use Rattle.wasmi_core.specs.MemoryEffects.{spare_after}
+use Rattle.wasmi_core.specs.Effects.{ActsAt, reply_of}
 use Rattle.wasmi_core.specs.Runs.{Run}
 use Rattle.wasmi_core.specs.State.{State, live_at, memory_part, with_memories, with_tables}
 use Rattle.wasmi_core.specs.Steps.{Changed, Effect, FuelSet, LentMemoryMade, MemoryGrown, MemoryMade, PartWritten, Step, TableGrown, TableMade, TakesEffect, effect_of}
-use Rattle.wasmi_core.specs.TableRows.{Metered, WritesTableAt, WritesTableFrom, metered, write_of}
+use Rattle.wasmi_core.specs.TableEffects.{Metered, WritesTableAt, WritesTableFrom, metered, write_of}
 use Rattle.wasmi_core.specs.World.{Turn, World}
 use Rattle.wasmi_core.specs.declared.calls.Call.{Call}
 use Rattle.wasmi_core.specs.declared.calls.Call.TheVariants.{NewLentMemory}
 use Rattle.wasmi_core.specs.declared.calls.Reply.{Reply}
 use Rattle.wasmi_core.specs.declared.slots.Slot.{Slot}
 use Rattle.wasmi_meter.proofs.AttemptLemmas.{meter_after_nothing}
-use Rattle.wasmi_meter.specs.Attempt.{Denied, Effort, Failed, Fate, Follows, IsFirstCause, MayEnd, Met, Situation, Unasked, amount_due, answer_of, can_pay, charge_of}
-use Rattle.wasmi_meter.specs.Limiter.{Heed, MemoryFailure, Rules, TableFailure, kind_of}
+use Rattle.wasmi_meter.specs.Attempt.{Denied, Request, Failed, AttemptOutcome, Follows, IsFirstCause, MayEnd, Met, MeteredValue, Unasked, optional_due, answer_of, covers, outcome_charge}
+use Rattle.wasmi_meter.specs.Limiter.{NoticeAnswer, MemoryFailure, Rules, TableFailure, kind_of}
 use Rattle.wasmi_meter.specs.Meter.{Meter, meter_after, meter_set}
 use Rattle.wasmi_meter.specs.declared.error.MemoryError.{MemoryError}
 use Rattle.wasmi_meter.specs.declared.error.TableError.{TableError}
@@ -73,25 +73,25 @@ module _ {S : Type 0} (rules : Rules S) (w : World S) (turn : Turn) (w' : World 
   -- each effect
   effect_back : (effect : Effect) → TakesEffect rules effect w turn w'
       → SameContents w.state w'.state × LeavesSpare effect turn.reply w.state w'.state
-  effect_back (FuelSet fuel) step = paid w w' _ step.after step.row.1
+  effect_back (FuelSet fuel) step = paid w w' _ step.after step.effect.1
   effect_back (Changed change) step =
-      kept w w' step.after ((change_facts w.state change).back turn.reply step.machine refused step.row)
+      kept w w' step.after ((change_facts w.state change).back turn.reply step.machine refused step.effect)
   effect_back (MemoryMade ty) step =
       kept w w' step.after
       (ap (with_memories w.state) (creates_back replied.Memory (MakesMemory rules Owned ty) w.state.memories w.limiter
-      turn.reply step.part step.limiter refused step.row))
+      turn.reply step.part step.limiter refused step.effect))
   effect_back (LentMemoryMade ty) step = (
     rw step.after
         (record {
           memories = lent_back rules ty (memory_part w.state) w.limiter turn.reply step.part step.limiter refused
-              step.row;
+              step.effect;
           tables = refl;
           segments = refl;
           globals = refl;
           registers = refl;
         }),
     ap (λ (x : World S). x.state.spare) step.after
-        ∙ lent_spare rules ty (memory_part w.state) w.limiter turn.reply step.part step.limiter step.row,
+        ∙ lent_spare rules ty (memory_part w.state) w.limiter turn.reply step.part step.limiter step.effect,
   )
   effect_back (MemoryGrown k pages) step =
       paid w w' step.meter step.after
@@ -99,23 +99,23 @@ module _ {S : Type 0} (rules : Rules S) (w : World S) (turn : Turn) (w' : World 
       (memory_growth_back rules k pages
       (record { value = w.state.memories; meter = Some w.state.meter; limiter = w.limiter })
       (record { value = step.part; meter = Some step.meter; limiter = step.limiter }) turn.reply turn.charge refused
-      step.row))
+      step.effect))
   effect_back (TableMade ty init) step =
       kept w w' step.after
       (ap (with_tables w.state) (creates_back replied.Table (MakesTable rules ty init) w.state.tables w.limiter
-      turn.reply step.part step.limiter refused step.row))
+      turn.reply step.part step.limiter refused step.effect))
   effect_back (TableGrown k n init) step =
       paid w w' step.meter step.after
       (ap (λ part. let s : State = record (with_tables w.state part) { meter = step.meter } in s)
       (table_growth_back rules k n init
       (record { value = w.state.tables; meter = Some w.state.meter; limiter = w.limiter })
       (record { value = step.part; meter = Some step.meter; limiter = step.limiter }) turn.reply turn.charge refused
-      step.row))
+      step.effect))
   effect_back (PartWritten k source dst len) step =
       paid w w' step.meter step.after
       (ap (λ part. let s : State = record (with_tables w.state part) { meter = step.meter } in s)
       (table_copy_back k w.state.tables w.state.meter turn.reply refused turn.charge step.part step.meter
-      (write_of source dst len) (λ write. write) step.row))
+      (write_of source dst len) (λ write. write) step.effect))
   effect_back effect step = kept w w' step.after refl
 
 -- a meter of which nothing was taken
@@ -132,8 +132,8 @@ unset : (left : Option ℕ) (costs : CustomFuelCosts) (fuel : ℕ) (reply : Repl
 unset None costs fuel reply refused is = refl
 unset (Some n) costs fuel reply refused is = absurd (rw is at refused)
 
--- an effort of which a limiter is told by its kind, and whose last cause is want of memory
-record TellsOfWant {V E : Type 0} (e : Effort V E) : Type 0 where
+-- an request of which a limiter is told by its kind, and whose last cause is want of memory
+record TellsOfWant {V E : Type 0} (e : Request V E) : Type 0 where
   tells : (cause : E) → kind_of (e.notice cause) ≡ e.question.kind
   wants : (cause : E) → e.refuses cause → IsNoWant (e.notice cause) → ⊥
 
@@ -146,53 +146,54 @@ abbrev StaysOrTold : {S : Type 0} → Rules S → Meter → Meter → S → S �
 StaysOrTold rules m m' l l' = (m' ≡ m) ⊎ IsToldOfWant rules l l'
 
 -- the meter after a refused growth, whose last cause is want of memory
-module _ {V E S : Type 0} (rules : Rules S) (e : Effort V E) (told : TellsOfWant e) {m m' : Meter} {l l' : S}
+module _ {V E S : Type 0} (rules : Rules S) (e : Request V E) (told : TellsOfWant e) {m m' : Meter} {l l' : S}
     {charge : ℕ} (after : Taken m m' l l' charge) where
   -- it stays where nothing was charged
   stayed : charge ≡ 0 → StaysOrTold rules m m' l l'
   stayed free = inl (free_meter m m' charge free after.taken)
 
   -- it failed after the permission
-  failed_meter : (cause : E) (heed : Heed) (late : Option E) (payable : Bool) (amount : ℕ)
+  failed_meter : (cause : E) (notice_answer : NoticeAnswer) (late : Option E) (payable : Bool) (amount : ℕ)
       → (late ≡ None → payable ≡ true → e.refuses cause) → charge ≡ (if is_none late && payable then amount else 0)
-      → Follows e rules l (Failed cause heed) l' → StaysOrTold rules m m' l l'
-  failed_meter cause heed (Some c) payable amount refuses charged follows = stayed charged
-  failed_meter cause heed None false amount refuses charged follows = stayed charged
-  failed_meter cause heed None true amount refuses charged follows =
+      → Follows e rules l (Failed cause notice_answer) l' → StaysOrTold rules m m' l l'
+  failed_meter cause notice_answer (Some c) payable amount refuses charged follows = stayed charged
+  failed_meter cause notice_answer None false amount refuses charged follows = stayed charged
+  failed_meter cause notice_answer None true amount refuses charged follows =
       inr (
         e.question,
         e.notice cause,
-        heed,
+        notice_answer,
         told.wants cause (refuses refl refl),
         (told.tells cause, follows.0, follows.1, follows.2),
       )
 
-  -- by its fate
-  fate_meter : (refusal : E → Reply) (size : ℕ) (fate : Fate E)
-      → IsRefusal (reply_of replied.Number refusal (answer_of e size fate)) → MayEnd e (Some m) fate
-      → charge ≡ charge_of e (Some m) fate → Follows e rules l fate l' → StaysOrTold rules m m' l l'
-  fate_meter refusal size (Unasked cause) refused may charged follows = stayed charged
-  fate_meter refusal size (Denied answer) refused may charged follows = stayed charged
-  fate_meter refusal size Met refused may charged follows = absurd refused
-  fate_meter refusal size (Failed cause heed) refused may charged follows =
-      let due = amount_due (Some m) e.price in
-      let refuses : e.late ≡ None → can_pay (Some m) due ≡ true → e.refuses cause =
+  -- by its outcome
+  outcome_meter : (refusal : E → Reply) (size : ℕ) (outcome : AttemptOutcome E)
+      → IsRefusal (reply_of replied.Number refusal (answer_of e size outcome)) → MayEnd e (Some m) outcome
+      → charge ≡ outcome_charge e (Some m) outcome → Follows e rules l outcome l' → StaysOrTold rules m m' l l'
+  outcome_meter refusal size (Unasked cause) refused may charged follows = stayed charged
+  outcome_meter refusal size (Denied answer) refused may charged follows = stayed charged
+  outcome_meter refusal size Met refused may charged follows = absurd refused
+  outcome_meter refusal size (Failed cause notice_answer) refused may charged follows =
+      let due = optional_due (Some m) e.price in
+      let refuses : e.late ≡ None → covers (Some m) due ≡ true → e.refuses cause =
       λ late payable. subst (λ b. MatchBool b (e.refuses cause) (cause ≡ e.unpaid due)) payable
       (subst (λ o. IsFirstCause e (Some m) o cause) late may.1)
       in
-      failed_meter cause heed e.late (can_pay (Some m) due) due refuses charged follows
+      failed_meter cause notice_answer e.late (covers (Some m) due) due refuses charged follows
 
 -- the meter after a refused growth
-grows_meter : {V E S : Type 0} (rules : Rules S) (g : Growth V E) (refusal : E → Reply) → TellsOfWant g.effort
+grows_meter : {V E S : Type 0} (rules : Rules S) (g : Growth V E) (refusal : E → Reply) → TellsOfWant g.request
     → (x x' : V) (m m' : Meter) {l l' : S} (charge : ℕ) (result : Result ℕ E)
     → IsRefusal (reply_of replied.Number refusal result)
     → Grows rules g (record { value = x; meter = Some m; limiter = l }) result charge
     (record { value = x'; meter = Some m'; limiter = l' }) → StaysOrTold rules m m' l l'
 grows_meter {V} {S = S} rules g refusal told x x' m m' charge result refused (inl none) =
-    inl (same_Some m' m (ap (λ (s : Situation V S). s.meter) none.same))
+    inl (same_Some m' m (ap (λ (s : MeteredValue V S). s.meter) none.same))
 grows_meter rules g refusal told x x' m m' {l} {l'} charge result refused (inr some) =
     let after : Taken m m' l l' charge = record { taken = some.attempt.meter } in
-    fate_meter rules g.effort told after refusal g.size some.fate (rw some.answered at refused) some.attempt.may_end
+    outcome_meter rules g.request told after refusal g.size some.outcome
+    (rw some.answered at refused) some.attempt.may_end
     some.attempt.charged some.attempt.follows
 
 -- what memory refuses is want of it
@@ -248,9 +249,9 @@ module _ {S : Type 0} (rules : Rules S) (w : World S) (turn : Turn) (w' : World 
   memory_meter k pages slots' m' l' acts =
       on_live (live_at w.state.memories k) _ _ acts
       (λ missing. inl
-      (same_Some m' w.state.meter (ap (λ (s : Situation (List (Slot MemoryValue)) S). s.meter) missing.2)))
+      (same_Some m' w.state.meter (ap (λ (s : MeteredValue (List (Slot MemoryValue)) S). s.meter) missing.2)))
       (λ x found a. grows_meter rules
-      (record { amount = pages; size = pages_of x; effort = memory.growth_of x pages })
+      (record { amount = pages; size = pages_of x; request = memory.growth_of x pages })
       replied.Memory (record { tells = λ cause. refl; wants = lacks_memory x.room }) x a.1 w.state.meter m'
       turn.charge a.0 (rw a.3 at refused) a.2)
 
@@ -263,9 +264,9 @@ module _ {S : Type 0} (rules : Rules S) (w : World S) (turn : Turn) (w' : World 
   table_meter k n init slots' m' l' acts =
       on_live (live_at w.state.tables k) _ _ acts
       (λ missing. inl
-      (same_Some m' w.state.meter (ap (λ (s : Situation (List (Slot TableValue)) S). s.meter) missing.2)))
+      (same_Some m' w.state.meter (ap (λ (s : MeteredValue (List (Slot TableValue)) S). s.meter) missing.2)))
       (λ x found a. on_test (same_type x.ty.element init.ty) _ _ a.2
-      (λ g. grows_meter rules (record { amount = n; size = size_of x; effort = table.growth_of x n init.raw })
+      (λ g. grows_meter rules (record { amount = n; size = size_of x; request = table.growth_of x n init.raw })
       replied.Table
       (record {
         tells = λ cause. refl;
@@ -273,25 +274,25 @@ module _ {S : Type 0} (rules : Rules S) (w : World S) (turn : Turn) (w' : World 
             nowant;
       })
       x a.1 w.state.meter m' turn.charge a.0 (rw a.3 at refused) g)
-      (λ g. inl (same_Some m' w.state.meter (ap (λ (s : Situation TableValue S). s.meter) g.2))))
+      (λ g. inl (same_Some m' w.state.meter (ap (λ (s : MeteredValue TableValue S). s.meter) g.2))))
 
   -- each effect
   effect_meter : (effect : Effect) → TakesEffect rules effect w turn w' → KeepsMeter rules w w'
   effect_meter (FuelSet fuel) step =
-      stays step.after (ap (λ (s : State). s.meter) step.row.1 ∙ unset w.state.meter.left w.state.meter.costs fuel
-      turn.reply refused step.row.0)
+      stays step.after (ap (λ (s : State). s.meter) step.effect.1 ∙ unset w.state.meter.left w.state.meter.costs fuel
+      turn.reply refused step.effect.0)
   effect_meter (Changed change) step =
-      stays step.after ((change_facts w.state change).meter turn.reply step.machine step.row)
+      stays step.after ((change_facts w.state change).meter turn.reply step.machine step.effect)
   effect_meter (MemoryGrown k pages) step =
       ends_with (with_memories w.state step.part) step.meter step.limiter step.after
-      (memory_meter k pages step.part step.meter step.limiter step.row)
+      (memory_meter k pages step.part step.meter step.limiter step.effect)
   effect_meter (TableGrown k n init) step =
       ends_with (with_tables w.state step.part) step.meter step.limiter step.after
-      (table_meter k n init step.part step.meter step.limiter step.row)
+      (table_meter k n init step.part step.meter step.limiter step.effect)
   effect_meter (PartWritten k source dst len) step =
       ends_with (with_tables w.state step.part) step.meter w.limiter step.after
       (inl (copy_meter k w.state.tables w.state.meter turn.reply refused turn.charge step.part step.meter
-      (write_of source dst len) (λ write. write) step.row))
+      (write_of source dst len) (λ write. write) step.effect))
   effect_meter effect step = stays step.after refl
 
 -- each step

@@ -2,8 +2,8 @@
 use Rattle.std.proofs.Common.{Err, List, Result, [], ap, inl, inr, map, subst, sym, ℕ, ◌∙◌, ◌∷◌, ◌≡◌}
 use Rattle.std.proofs.lemmas.List.Elements.{All-head, All-tail}
 use Rattle.std.specs.Prelude.{All}
-use Rattle.wasmi_core.proofs.RowLemmas.{Outcome, on_live_too, on_test_too}
-use Rattle.wasmi_core.specs.Rows.{ActsAt, Appends, Creates, reply_of}
+use Rattle.wasmi_core.proofs.EffectLemmas.{Outcome, on_live_too, on_test_too}
+use Rattle.wasmi_core.specs.Effects.{ActsAt, AddsEntry, Creates, reply_of}
 use Rattle.wasmi_core.specs.Runs.{Run}
 use Rattle.wasmi_core.specs.State.{live_at}
 use Rattle.wasmi_core.specs.Steps.{Effect, LentMemoryMade, MemoryGrown, MemoryMade, TableGrown, TableMade, TakesEffect, effect_of}
@@ -11,7 +11,7 @@ use Rattle.wasmi_core.specs.World.{Turn, World}
 use Rattle.wasmi_core.specs.declared.calls.Reply.{Reply}
 use Rattle.wasmi_core.specs.declared.slots.Slot.{Slot}
 use Rattle.wasmi_core.specs.declared.slots.Slot.TheVariants.{Live}
-use Rattle.wasmi_meter.specs.Attempt.{Attempt, Denied, Effort, Failed, Fate, Follows, Met, Situation, Unasked, alone, answer_of, error_of_answer, error_of_failure}
+use Rattle.wasmi_meter.specs.Attempt.{Attempt, Denied, Request, Failed, AttemptOutcome, Follows, Met, MeteredValue, Unasked, alone, answer_of, error_of_answer, error_of_failure}
 use Rattle.wasmi_meter.specs.Limiter.{Rules}
 use Rattle.wasmi_meter.specs.declared.error.TableError.{TableError}
 use Rattle.wasmi_store.specs.Buffer.{Lent, Owned, Room}
@@ -27,26 +27,27 @@ use Rattle.wasmi_core.specs.declared.calls.Reply.TheVariants as replied
 use Rattle.wasmi_store.specs.Table as table
 
 -- the error that an attempt answers by how it ends
-abbrev pub IsErrorOf : {V E : Type 0} → Effort V E → Fate E → E → Type 0
+abbrev pub IsErrorOf : {V E : Type 0} → Request V E → AttemptOutcome E → E → Type 0
 IsErrorOf e (Unasked cause) c = c ≡ cause
 IsErrorOf e (Denied answer) c = c ≡ error_of_answer e.denial e.refusal answer
 IsErrorOf e Met c = ⊥
-IsErrorOf e (Failed cause heed) c = c ≡ error_of_failure e.refusal cause heed
+IsErrorOf e (Failed cause notice_answer) c = c ≡ error_of_failure e.refusal cause notice_answer
 
 -- it is what is answered
-answered_error : {V E T : Type 0} (e : Effort V E) (value : T) (fate : Fate E) (c : E) → IsErrorOf e fate c
-    → answer_of e value fate ≡ Err c
+answered_error : {V E T : Type 0} (e : Request V E) (value : T) (outcome : AttemptOutcome E) (c : E)
+    → IsErrorOf e outcome c
+    → answer_of e value outcome ≡ Err c
 answered_error e value (Unasked cause) c is = ap Err (sym is)
 answered_error e value (Denied answer) c is = ap Err (sym is)
 answered_error e value Met c is = absurd is
-answered_error e value (Failed cause heed) c is = ap Err (sym is)
+answered_error e value (Failed cause notice_answer) c is = ap Err (sym is)
 
 -- a call on a slot
 acts_revealed : {S X R : Type 0} (k : ℕ) (reply_to : R → Reply)
-    (Acts Acts' : Situation X S → R → ℕ → Situation X S → Type 0) (reply : Reply)
-    → ((s s' : Situation X S) (result : R) (charge : ℕ) → reply ≡ reply_to result → Acts s result charge s'
+    (Acts Acts' : MeteredValue X S → R → ℕ → MeteredValue X S → Type 0) (reply : Reply)
+    → ((s s' : MeteredValue X S) (result : R) (charge : ℕ) → reply ≡ reply_to result → Acts s result charge s'
     → Acts' s result charge s')
-    → (s s' : Situation (List (Slot X)) S) (charge : ℕ) → ActsAt k reply_to Acts s reply charge s'
+    → (s s' : MeteredValue (List (Slot X)) S) (charge : ℕ) → ActsAt k reply_to Acts s reply charge s'
     → ActsAt k reply_to Acts' s reply charge s'
 acts_revealed k reply_to Acts Acts' reply too s s' charge acts =
     on_live_too (live_at s.value k) _ _ _ _ (λ missing. missing)
@@ -54,56 +55,57 @@ acts_revealed k reply_to Acts Acts' reply too s s' charge acts =
 
 module _ {S : Type 0} (rules rules' : Rules S) (Shows : Reply → Type 0) where
   -- where the replies to an attempt's errors show it, what the limiter sees is by the narrower rules
-  abbrev pub Reveals : {V E : Type 0} → (E → Reply) → Effort V E → Type 0
+  abbrev pub Reveals : {V E : Type 0} → (E → Reply) → Request V E → Type 0
   Reveals {V} {E} refusal e =
-      (fate : Fate E) (l l' : S) → ((c : E) → IsErrorOf e fate c → Shows (refusal c)) → Follows e rules l fate l'
-      → Follows e rules' l fate l'
+      (outcome : AttemptOutcome E) (l l' : S) → ((c : E) → IsErrorOf e outcome c → Shows (refusal c))
+      → Follows e rules l outcome l'
+      → Follows e rules' l outcome l'
 
   -- so is the attempt
-  attempt_revealed : {V E : Type 0} (refusal : E → Reply) (e : Effort V E) → Reveals refusal e
-      → (s s' : Situation V S) (fate : Fate E) (charge : ℕ)
-      → ((c : E) → IsErrorOf e fate c → Shows (refusal c)) → Attempt rules e s fate charge s'
-      → Attempt rules' e s fate charge s'
-  attempt_revealed refusal e reveals s s' fate charge shown a = record {
+  attempt_revealed : {V E : Type 0} (refusal : E → Reply) (e : Request V E) → Reveals refusal e
+      → (s s' : MeteredValue V S) (outcome : AttemptOutcome E) (charge : ℕ)
+      → ((c : E) → IsErrorOf e outcome c → Shows (refusal c)) → Attempt rules e s outcome charge s'
+      → Attempt rules' e s outcome charge s'
+  attempt_revealed refusal e reveals s s' outcome charge shown a = record {
     may_end = a.may_end;
-    follows = reveals fate s.limiter s'.limiter shown a.follows;
+    follows = reveals outcome s.limiter s'.limiter shown a.follows;
     charged = a.charged;
     meter = a.meter;
     value = a.value;
   }
 
   -- a creation
-  creates_revealed : {X E : Type 0} (refusal : E → Reply) (e : Effort (Unit {0}) E) → Reveals refusal e
+  creates_revealed : {X E : Type 0} (refusal : E → Reply) (e : Request (Unit {0}) E) → Reveals refusal e
       → (made : X) (slots : List (Slot X)) (l : S) (o : Outcome (List (Slot X)) S) → Shows o.reply
       → Creates refusal (Makes rules e made) slots l o.reply o.part o.limiter
       → Creates refusal (Makes rules' e made) slots l o.reply o.part o.limiter
   creates_revealed refusal e reveals made slots l o shows (inl none) = inl none
-  creates_revealed refusal e reveals made slots l o shows (inr (result, (fate, attempt, answered), appends)) =
-      let shown : (c : _) → IsErrorOf e fate c → Shows (refusal c) =
-      λ c is. subst Shows (subst (λ r. Appends Live refusal r slots o.reply o.part)
-      (answered ∙ answered_error e made fate c is) appends).0 shows
+  creates_revealed refusal e reveals made slots l o shows (inr (result, (outcome, attempt, answered), appends)) =
+      let shown : (c : _) → IsErrorOf e outcome c → Shows (refusal c) =
+      λ c is. subst Shows (subst (λ r. AddsEntry Live refusal r slots o.reply o.part)
+      (answered ∙ answered_error e made outcome c is) appends).0 shows
       in
       inr (
         result,
-        (fate, attempt_revealed refusal e reveals (alone l) (alone o.limiter) fate 0 shown attempt, answered),
+        (outcome, attempt_revealed refusal e reveals (alone l) (alone o.limiter) outcome 0 shown attempt, answered),
         appends,
       )
 
   -- a growth
-  grows_revealed : {V E : Type 0} (g : Growth V E) (refusal : E → Reply) → Reveals refusal g.effort
-      → (s s' : Situation V S) (result : Result ℕ E) (charge : ℕ)
+  grows_revealed : {V E : Type 0} (g : Growth V E) (refusal : E → Reply) → Reveals refusal g.request
+      → (s s' : MeteredValue V S) (result : Result ℕ E) (charge : ℕ)
       → Shows (reply_of replied.Number refusal result) → Grows rules g s result charge s'
       → Grows rules' g s result charge s'
   grows_revealed g refusal reveals s s' result charge shows (inl none) = inl none
   grows_revealed g refusal reveals s s' result charge shows (inr some) =
-      let shown : (c : _) → IsErrorOf g.effort some.fate c → Shows (refusal c) =
+      let shown : (c : _) → IsErrorOf g.request some.outcome c → Shows (refusal c) =
       λ c error. subst Shows (ap (reply_of replied.Number refusal)
-      (some.answered ∙ answered_error g.effort g.size some.fate c error)) shows in
+      (some.answered ∙ answered_error g.request g.size some.outcome c error)) shows in
       inr (record {
         some = some.some;
-        fate = some.fate;
-        attempt = attempt_revealed refusal g.effort reveals s s'
-            some.fate charge shown some.attempt;
+        outcome = some.outcome;
+        attempt = attempt_revealed refusal g.request reveals s s'
+            some.outcome charge shown some.attempt;
         answered = some.answered;
       })
 
@@ -116,12 +118,13 @@ module _ {S : Type 0} (rules rules' : Rules S) (Shows : Reply → Type 0) where
 
   module _ (each : EachReveals) where
     -- a growth of a table, whose type is tested first
-    table_growth_revealed : (n : ℕ) (init : TypedRawRef) (s s' : Situation TableValue S) (result : Result ℕ TableError)
+    table_growth_revealed : (n : ℕ) (init : TypedRawRef) (s s' : MeteredValue TableValue S)
+        (result : Result ℕ TableError)
         (charge : ℕ) → Shows (reply_of replied.Number replied.Table result) → GrowsTable rules n init s result charge s'
         → GrowsTable rules' n init s result charge s'
     table_growth_revealed n init s s' result charge shows grows =
         on_test_too (same_type s.value.ty.element init.ty) _ _ _ _
-        (grows_revealed (record { amount = n; size = size_of s.value; effort = table.growth_of s.value n init.raw })
+        (grows_revealed (record { amount = n; size = size_of s.value; request = table.growth_of s.value n init.raw })
         replied.Table (each.table_grown s.value n init.raw) s s' result charge shows)
         (λ mismatch. mismatch) grows
 
@@ -134,7 +137,7 @@ module _ {S : Type 0} (rules rules' : Rules S) (Shows : Reply → Type 0) where
         limiter = step.limiter;
         row = creates_revealed replied.Memory (memory.creation_of Owned ty) (each.memory_made Owned ty)
             (new_memory Owned ty) w.state.memories w.limiter
-            (record { reply = turn.reply; part = step.part; limiter = step.limiter }) shows step.row;
+            (record { reply = turn.reply; part = step.part; limiter = step.limiter }) shows step.effect;
         after = step.after;
       }
       effect_revealed (LentMemoryMade ty) step = record {
@@ -147,7 +150,7 @@ module _ {S : Type 0} (rules rules' : Rules S) (Shows : Reply → Type 0) where
                   (each.memory_made (Lent region) ty) (new_memory (Lent region) ty) w.state.memories w.limiter
                   (record { reply = turn.reply; part = step.part.slots; limiter = step.limiter }) shows h.0,
               h.1,
-            )) step.row;
+            )) step.effect;
         after = step.after;
       }
       effect_revealed (MemoryGrown k pages) step = record {
@@ -158,10 +161,10 @@ module _ {S : Type 0} (rules rules' : Rules S) (Shows : Reply → Type 0) where
             acts_revealed k (reply_of replied.Number replied.Memory) (GrowsMemory rules pages)
             (GrowsMemory rules' pages) turn.reply
             (λ s s' result charge is. grows_revealed
-            (record { amount = pages; size = pages_of s.value; effort = memory.growth_of s.value pages })
+            (record { amount = pages; size = pages_of s.value; request = memory.growth_of s.value pages })
             replied.Memory (each.memory_grown s.value pages) s s' result charge
             (subst Shows is shows))
-            _ _ turn.charge step.row;
+            _ _ turn.charge step.effect;
         wrote = step.wrote;
         after = step.after;
       }
@@ -171,7 +174,7 @@ module _ {S : Type 0} (rules rules' : Rules S) (Shows : Reply → Type 0) where
         limiter = step.limiter;
         row = creates_revealed replied.Table (table.creation_of ty init.ty) (each.table_made ty init.ty)
             (new_table ty init.raw) w.state.tables w.limiter
-            (record { reply = turn.reply; part = step.part; limiter = step.limiter }) shows step.row;
+            (record { reply = turn.reply; part = step.part; limiter = step.limiter }) shows step.effect;
         after = step.after;
       }
       effect_revealed (TableGrown k n init) step = record {
@@ -182,7 +185,7 @@ module _ {S : Type 0} (rules rules' : Rules S) (Shows : Reply → Type 0) where
             (GrowsTable rules' n init) turn.reply
             (λ s s' result charge is. table_growth_revealed n init s s' result charge (subst Shows is shows))
             _ _ turn.charge
-            step.row;
+            step.effect;
         wrote = step.wrote;
         after = step.after;
       }

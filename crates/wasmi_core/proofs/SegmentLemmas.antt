@@ -10,7 +10,7 @@ use Rattle.wasmi_types.specs.declared.value.RefType.{RefType}
 use Rattle.wasmi_store.specs.declared.table.element.SegmentError.{SegmentError}
 use Rattle.wasmi_store.specs.declared.table.element.SegmentError.TheVariants.{TooManyItems, OutOfSystemMemory}
 use Rattle.wasmi_store.specs.Segment.{SegmentValue, IsReading}
-use Rattle.wasmi_core.specs.ValueRows.{IsSegmentOf}
+use Rattle.wasmi_core.specs.ValueEffects.{IsSegmentOf}
 
 module _ {A : Type 0} where
   -- an iterator of copies gives the first of what is left, or ends where nothing is

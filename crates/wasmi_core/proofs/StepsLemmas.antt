@@ -2,19 +2,19 @@
 use Rattle.std.proofs.Common.{Bool, List, None, Some, ap, arith, false, inl, inr, length, map, refl, replicate, subst, sym, true, ℕ, ◌∙◌, ◌≡◌, ◌⊎◌}
 use Rattle.std.proofs.lemmas.Bool.Decides.{nat_tests}
 use Rattle.std.specs.Prelude.{All, if◌then◌else◌, nat_eq, slice_get}
-use Rattle.wasmi_core.proofs.MemoryRowsLemmas.{overwrite_length, vector_store_back, vector_store_kept, vector_store_valid, vector_stores_same, write_refused, write_valid, writes_same, written_kept}
-use Rattle.wasmi_core.proofs.RegisterRowsLemmas.{takes_back, takes_count, takes_same}
-use Rattle.wasmi_core.proofs.RowLemmas.{AllValid, changes_valid, drops_back, drops_kept, drops_same, drops_valid, item_valid}
-use Rattle.wasmi_core.proofs.TableRowsLemmas.{KeepsLength, copied_length, set_kept, set_refused, set_valid, sets_same}
+use Rattle.wasmi_core.proofs.MemoryEffectsLemmas.{overwrite_length, vector_store_back, vector_store_kept, vector_store_valid, vector_stores_same, write_refused, write_valid, writes_same, written_kept}
+use Rattle.wasmi_core.proofs.RegisterEffectsLemmas.{takes_back, takes_count, takes_same}
+use Rattle.wasmi_core.proofs.EffectLemmas.{AllValid, changes_valid, drops_back, drops_kept, drops_same, drops_valid, item_valid}
+use Rattle.wasmi_core.proofs.TableEffectsLemmas.{KeepsLength, copied_length, set_kept, set_refused, set_valid, sets_same}
 use Rattle.wasmi_core.proofs.TotalLemmas.{each_kind}
-use Rattle.wasmi_core.proofs.ValueRowsLemmas.{creates_segment_valid, global_made_back, global_refused, global_sets_same, globals_same, items_refused, items_same, segment_back, segments_same}
+use Rattle.wasmi_core.proofs.ValueEffectsLemmas.{creates_segment_valid, global_made_back, global_refused, global_sets_same, globals_same, items_refused, items_same, segment_back, segments_same}
 use Rattle.wasmi_core.specs.Determinism.{HasMemory}
 use Rattle.wasmi_core.specs.Exchange.{NothingGrows}
 use Rattle.wasmi_core.specs.Laws.{IsRefusal}
-use Rattle.wasmi_core.specs.Rows.{ChangesPart, OnLive}
+use Rattle.wasmi_core.specs.Effects.{ChangesPart, OnLive}
 use Rattle.wasmi_core.specs.State.{State, with_globals, with_memories, with_registers, with_segments, with_tables}
 use Rattle.wasmi_core.specs.Steps.{BytesStored, BytesWritten, Change, ElementSet, GlobalMade, GlobalSet, ItemsDropped, MemoryDropped, RegisterSet, SegmentMade, TableDropped, TakesChange}
-use Rattle.wasmi_core.specs.TableRows.{OfReference, OfSegment, OfTable, Source, write_of}
+use Rattle.wasmi_core.specs.TableEffects.{OfReference, OfSegment, OfTable, Source, write_of}
 use Rattle.wasmi_core.specs.Totals.{byte_count, sizes, slot_count}
 use Rattle.wasmi_core.specs.Validity.{IsValid, IsValidSegment}
 use Rattle.wasmi_core.specs.declared.calls.Reply.{Reply}
@@ -26,12 +26,12 @@ use Rattle.wasmi_store.specs.Table.{IsValidTable, TableValue, TableWrite, size_o
 use Rattle.wasmi_types.specs.Access.{at}
 
 -- what holds of a row on a part: a refusal leaves it, it is decided where memory isn't wanting, and it keeps a fact
-pub record RowFacts {A : Type 0} (Row : Reply → A → Type 0) (old : A) (Keeps : A → Type 0) : Type 0 where
-  pub back : (reply : Reply) (part : A) → IsRefusal reply → Row reply part → part ≡ old
-  pub same : (reply reply' : Reply) (part part' : A) → HasMemory reply → HasMemory reply' → Row reply part
-      → Row reply' part'
+pub record RowFacts {A : Type 0} (Effect : Reply → A → Type 0) (old : A) (Keeps : A → Type 0) : Type 0 where
+  pub back : (reply : Reply) (part : A) → IsRefusal reply → Effect reply part → part ≡ old
+  pub same : (reply reply' : Reply) (part part' : A) → HasMemory reply → HasMemory reply' → Effect reply part
+      → Effect reply' part'
       → (reply ≡ reply') × (part ≡ part')
-  pub keeps : (reply : Reply) (part : A) → Row reply part → Keeps part
+  pub keeps : (reply : Reply) (part : A) → Effect reply part → Keeps part
 
 -- what holds of a change of one part: so for the state, whose meter, sizes and validity stay
 pub record ChangeFacts (s : State) (Becomes : Reply → State → Type 0) : Type 0 where
@@ -51,17 +51,19 @@ record PartOf (s : State) {A : Type 0} (with_part : A → State) (old : A) (Keep
   pub valid : (part : A) → Keeps part → IsValid s → IsValid (with_part part)
 
 -- what holds of a row holds of the change of the part
-change_of : (s : State) {A : Type 0} (with_part : A → State) (old : A) (Keeps : A → Type 0) (Row : Reply → A → Type 0)
+change_of : (s : State) {A : Type 0} (with_part : A → State) (old : A) (Keeps : A → Type 0)
+    (Effect : Reply → A → Type 0)
     → PartOf s with_part old Keeps
-    → RowFacts Row old Keeps → ChangeFacts s (ChangesPart with_part Row)
-change_of s with_part old Keeps Row part facts = record {
-  back = λ reply s' refused c. c.after ∙ ap with_part (facts.back reply c.part refused c.row) ∙ part.whole;
+    → RowFacts Effect old Keeps → ChangeFacts s (ChangesPart with_part Effect)
+change_of s with_part old Keeps Effect part facts = record {
+  back = λ reply s' refused c. c.after ∙ ap with_part (facts.back reply c.part refused c.effect) ∙ part.whole;
   same = λ reply reply' s' s'' has has' c c'.
-      let both = facts.same reply reply' c.part c'.part has has' c.row c'.row in
+      let both = facts.same reply reply' c.part c'.part has has' c.effect c'.row in
       (both.0, c.after ∙ ap with_part both.1 ∙ sym c'.after);
   meter = λ reply s' c. ap (λ (t : State). t.meter) c.after ∙ part.meter c.part;
-  still = λ reply s' c kind. ap (λ t. sizes t kind) c.after ∙ part.still c.part (facts.keeps reply c.part c.row) kind;
-  valid = λ reply s' valid c. subst IsValid (sym c.after) (part.valid c.part (facts.keeps reply c.part c.row) valid);
+  still = λ reply s' c kind. ap (λ t. sizes t kind) c.after
+      ∙ part.still c.part (facts.keeps reply c.part c.effect) kind;
+  valid = λ reply s' valid c. subst IsValid (sym c.after) (part.valid c.part (facts.keeps reply c.part c.effect) valid);
 }
 
 -- what a change of memories, tables, element segments or registers has to keep

@@ -1,4 +1,4 @@
--- Where each notice is heeded, the replies show whether anybody is told of want of memory.
+-- Where each notice is accepted, the replies show whether anybody is told of want of memory.
 use Rattle.std.proofs.Common.{◌≡◌, ◌∙◌, Option, Some, None, List, [], ◌∷◌, map, refl, sym, ap, subst}
 use Rattle.std.proofs.lemmas.List.Elements.{All-nil, All-cons, All-head, All-tail}
 use Rattle.std.specs.Prelude.{All}
@@ -8,7 +8,7 @@ use Rattle.wasmi_meter.specs.declared.error.TableError.{TableError}
 use Rattle.wasmi_meter.specs.declared.error.TableError.TheVariants as taberr
 use Rattle.wasmi_meter.specs.Limiter.{MemoryFailure, TableFailure, Rules, unlimited_rules, optional_rules}
 use Rattle.wasmi_meter.specs.Quota.{quota_rules}
-use Rattle.wasmi_meter.specs.Attempt.{Effort, Unasked, Denied, Met, Failed, error_of_failure}
+use Rattle.wasmi_meter.specs.Attempt.{Request, Unasked, Denied, Met, Failed, error_of_failure}
 use Rattle.wasmi_store.specs.Memory as memory
 use Rattle.wasmi_store.specs.Table as table
 use Rattle.wasmi_core.specs.declared.calls.Call.{Call}
@@ -16,7 +16,7 @@ use Rattle.wasmi_core.specs.declared.calls.Reply.{Reply}
 use Rattle.wasmi_core.specs.declared.calls.Reply.TheVariants as replied
 use Rattle.wasmi_core.specs.World.{World, Turn}
 use Rattle.wasmi_core.specs.Runs.{Run, IsRunOf}
-use Rattle.wasmi_core.specs.Determinism.{HeedsAll, IsNoWant, IsDeterministic, with_memory, HasMemory, HaveMemory}
+use Rattle.wasmi_core.specs.Determinism.{AcceptsNotices, IsNoWant, IsDeterministic, with_memory, HasMemory, HaveMemory}
 use Rattle.wasmi_core.proofs.DeterminismLemmas as determinism
 use Rattle.wasmi_core.proofs.RevealingLemmas.{Reveals, run_revealed}
 
@@ -46,19 +46,19 @@ no_table taberr.CopyOutOfBounds has = tt
 no_table taberr.ElementTypeMismatch has = tt
 no_table (taberr.OutOfFuel required) has = tt
 
-module _ {S : Type 0} (rules : Rules S) (heeds : HeedsAll rules) where
+module _ {S : Type 0} (rules : Rules S) (accepts : AcceptsNotices rules) where
   -- the replies to an attempt's errors tell whether the limiter is told of want of memory
-  want_revealed : {V E : Type 0} (refusal : E → Reply) (e : Effort V E)
+  want_revealed : {V E : Type 0} (refusal : E → Reply) (e : Request V E)
       → ((c : E) → HasMemory (refusal c) → IsNoWant (e.notice c))
       → Reveals rules (with_memory rules) HasMemory refusal e
   want_revealed refusal e nowant (Unasked c) l l' shown f = f
   want_revealed refusal e nowant (Denied answer) l l' shown f = f
   want_revealed refusal e nowant Met l l' shown f = f
-  want_revealed refusal e nowant (Failed c heed) l l' shown (permitted, asks, notices) =
-      let heeded = heeds permitted (e.notice c) heed l' notices in (
+  want_revealed refusal e nowant (Failed c notice_answer) l l' shown (permitted, asks, notices) =
+      let accepted = accepts permitted (e.notice c) notice_answer l' notices in (
         permitted,
         asks,
-        (notices, nowant c (subst (λ h. HasMemory (refusal (error_of_failure e.refusal c h))) heeded (shown _ refl))),
+        (notices, nowant c (subst (λ h. HasMemory (refusal (error_of_failure e.refusal c h))) accepted (shown _ refl))),
       )
 
   -- a run whose replies have memory is one under these rules
@@ -91,20 +91,21 @@ replies_have : (turns : List Turn) (replies : List Reply) → map Turn.reply tur
     → HaveMemory turns
 replies_have turns replies is has = all_have turns (subst (All HasMemory) (sym is) has)
 
--- a limiter that may be absent heeds all that the limiter heeds
-optional_heeds : {L : Type 0} (rules : Rules L) → HeedsAll rules → HeedsAll (optional_rules rules)
-optional_heeds rules heeds (Some l) failure heed (Some l') noticed = heeds l failure heed l' noticed
-optional_heeds rules heeds (Some l) failure heed None noticed = absurd noticed
-optional_heeds rules heeds None failure heed (Some l') noticed = absurd noticed
-optional_heeds rules heeds None failure heed None noticed = noticed
+-- a limiter that may be absent accepts all that the limiter accepts
+optional_accepts : {L : Type 0} (rules : Rules L) → AcceptsNotices rules → AcceptsNotices (optional_rules rules)
+optional_accepts rules accepts (Some l) failure notice_answer (Some l') noticed =
+    accepts l failure notice_answer l' noticed
+optional_accepts rules accepts (Some l) failure notice_answer None noticed = absurd noticed
+optional_accepts rules accepts None failure notice_answer (Some l') noticed = absurd noticed
+optional_accepts rules accepts None failure notice_answer None noticed = noticed
 
 -- the limiter that permits everything
-pub unlimited_heeds : {S : Type 0} → HeedsAll (unlimited_rules {S = S})
-unlimited_heeds l failure heed l' noticed = noticed.0
+pub unlimited_accepts : {S : Type 0} → AcceptsNotices (unlimited_rules {S = S})
+unlimited_accepts l failure notice_answer l' noticed = noticed.0
 
 -- a quota
-pub quota_heeds : HeedsAll quota_rules
-quota_heeds l failure heed l' noticed = noticed.heeds
+pub quota_accepts : AcceptsNotices quota_rules
+quota_accepts l failure notice_answer l' noticed = noticed.accepts
 
 -- a run as a host sees it: its replies, none of which tells of want of memory, and what there is after it
 pub record SeenRun {S : Type 0} (rules : Rules S) (calls : List Call) (w : World S) : Type 0 where
@@ -113,12 +114,12 @@ pub record SeenRun {S : Type 0} (rules : Rules S) (calls : List Call) (w : World
   pub has : All HasMemory replies
   pub ran : IsRunOf rules calls w replies after
 
-module _ {L : Type 0} (rules : Rules L) (heeds : HeedsAll rules) where
+module _ {L : Type 0} (rules : Rules L) (accepts : AcceptsNotices rules) where
   -- so where the limiter may be absent
   pub told_runs : (w : World (Option L)) (turns : List Turn) (w' : World (Option L)) → HaveMemory turns
       → Run (optional_rules rules) w turns w' → Run (with_memory (optional_rules rules)) w turns w'
   told_runs w turns w' have =
-      told_run (optional_rules rules) (optional_heeds rules heeds) w turns w' (all_shown turns have)
+      told_run (optional_rules rules) (optional_accepts rules accepts) w turns w' (all_shown turns have)
 
   -- two runs of the same calls, as a host sees them
   pub replies_are_one : IsDeterministic rules → (calls : List Call) (w : World (Option L))
@@ -130,5 +131,6 @@ module _ {L : Type 0} (rules : Rules L) (heeds : HeedsAll rules) where
       let have' = replies_have turns' b.replies told' b.has in
       let one =
       determinism.runs_are_one (optional_rules rules) (determinism.optional_once rules once) w turns turns' a.after
-      b.after (made ∙ sym made') have have' (told_runs w turns a.after have ran) (told_runs w turns' b.after have' ran') in
+      b.after (made ∙ sym made') have have' (told_runs w turns a.after have ran)
+      (told_runs w turns' b.after have' ran') in
       (sym told ∙ ap (map Turn.reply) one.0 ∙ told', one.1)

@@ -2,14 +2,14 @@
 use Rattle.std.proofs.Common.{List, Option, [], ap, map, subst, sym, ℕ, ◌∷◌, ◌≡◌}
 use Rattle.std.proofs.lemmas.List.Elements.{All-head, All-tail}
 use Rattle.std.specs.Prelude.{All}
-use Rattle.wasmi_core.proofs.RowLemmas.{AllValid, acts_valid, creates_valid, on_live, on_live_too}
+use Rattle.wasmi_core.proofs.EffectLemmas.{AllValid, acts_valid, creates_valid, on_live, on_live_too}
 use Rattle.wasmi_core.proofs.StepsLemmas.{change_facts, source_writes}
-use Rattle.wasmi_core.proofs.TableRowsLemmas.{writes_from_valid}
-use Rattle.wasmi_core.specs.Rows.{reply_of}
+use Rattle.wasmi_core.proofs.TableEffectsLemmas.{writes_from_valid}
+use Rattle.wasmi_core.specs.Effects.{reply_of}
 use Rattle.wasmi_core.specs.Runs.{Run}
 use Rattle.wasmi_core.specs.State.{MemoryPart, State}
 use Rattle.wasmi_core.specs.Steps.{Answers, Changed, Effect, FuelSet, LentMemoryMade, MemoryGrown, MemoryMade, PartWritten, TableGrown, TableMade, TakesEffect, effect_of}
-use Rattle.wasmi_core.specs.TableRows.{metered, write_of}
+use Rattle.wasmi_core.specs.TableEffects.{metered, write_of}
 use Rattle.wasmi_core.specs.Validity.{IsValid, IsValidCall}
 use Rattle.wasmi_core.specs.World.{Turn, World}
 use Rattle.wasmi_core.specs.declared.calls.Call.{Call}
@@ -65,7 +65,7 @@ module _ {S : Type 0} (rules : Rules S) (w : World S) (turn : Turn) (w' : World 
   -- each effect
   effect_valid : (effect : Effect) → IsValidEffect effect → TakesEffect rules effect w turn w' → IsValid w'.state
   effect_valid (FuelSet fuel) typed step =
-      rw (ap now step.after, step.row.1)
+      rw (ap now step.after, step.effect.1)
       (record {
         memories = valid.memories;
         tables = valid.tables;
@@ -74,16 +74,16 @@ module _ {S : Type 0} (rules : Rules S) (w : World S) (turn : Turn) (w' : World 
             valid.registers;
       })
   effect_valid (Changed change) typed step =
-      rw (ap now step.after) ((change_facts w.state change).valid turn.reply step.machine valid step.row)
+      rw (ap now step.after) ((change_facts w.state change).valid turn.reply step.machine valid step.effect)
   effect_valid (MemoryMade ty) typed step =
       memories_valid w.state valid m step.part w.state.spare
       (creates_valid IsValidMemory replied.Memory (MakesMemory rules Owned ty)
       (λ l l' x makes. store.made_memory_is_valid rules Owned ty l x l' typed makes) w.state.memories w.limiter
-      turn.reply step.part step.limiter step.row valid.memories)
+      turn.reply step.part step.limiter step.effect valid.memories)
       w'.state (ap now step.after)
   effect_valid (LentMemoryMade ty) typed step =
       memories_valid w.state valid m step.part.slots step.part.spare
-      (on_live w.state.spare _ _ step.row
+      (on_live w.state.spare _ _ step.effect
       (λ none. subst (AllValid IsValidMemory) (ap (λ (p : MemoryPart). p.slots) (sym none.1)) valid.memories)
       (λ region found h. creates_valid IsValidMemory replied.Memory (MakesMemory rules (Lent region) ty)
       (λ l l' x makes. store.made_memory_is_valid rules (Lent region) ty l x l' typed makes) w.state.memories
@@ -93,19 +93,19 @@ module _ {S : Type 0} (rules : Rules S) (w : World S) (turn : Turn) (w' : World 
       memories_valid w.state valid step.meter step.part w.state.spare
       (acts_valid IsValidMemory k (reply_of replied.Number replied.Memory) (GrowsMemory rules pages)
       (λ s s' result charge h grows. store.grown_memory_is_valid rules pages s result charge s' h grows)
-      _ _ turn.reply turn.charge step.row valid.memories)
+      _ _ turn.reply turn.charge step.effect valid.memories)
       w'.state (ap now step.after)
   effect_valid (TableMade ty init) typed step =
       tables_valid w.state valid m step.part
       (creates_valid IsValidTable replied.Table (MakesTable rules ty init)
       (λ l l' x makes. store.made_table_is_valid rules ty init l x l' typed makes) w.state.tables w.limiter turn.reply
-      step.part step.limiter step.row valid.tables)
+      step.part step.limiter step.effect valid.tables)
       w'.state (ap now step.after)
   effect_valid (TableGrown k n init) typed step =
       tables_valid w.state valid step.meter step.part
       (acts_valid IsValidTable k (reply_of replied.Number replied.Table) (GrowsTable rules n init)
       (λ s s' result charge h grows. store.grown_table_is_valid rules n init s result charge s' h grows)
-      _ _ turn.reply turn.charge step.row valid.tables)
+      _ _ turn.reply turn.charge step.effect valid.tables)
       w'.state (ap now step.after)
   effect_valid (PartWritten k source dst len) typed step =
       let keeps =
@@ -113,7 +113,7 @@ module _ {S : Type 0} (rules : Rules S) (w : World S) (turn : Turn) (w' : World 
       (source_writes source dst len) in
       tables_valid w.state valid step.meter step.part
       (writes_from_valid (write_of source dst len) k (λ write. write) keeps (metered w.state.tables m)
-      (metered step.part step.meter) turn.reply turn.charge step.row valid.tables)
+      (metered step.part step.meter) turn.reply turn.charge step.effect valid.tables)
       w'.state (ap now step.after)
   effect_valid effect typed step = rw (ap now step.after) valid
 

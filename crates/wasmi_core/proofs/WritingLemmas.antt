@@ -8,21 +8,21 @@ use Rattle.std.proofs.lemmas.Option.{same_Some}
 use Rattle.std.specs.Option.{option_map, option_map_or}
 use Rattle.std.specs.Prelude.{cond, if◌then◌else◌, is_some, nat_eq, nat_le, nat_lt, ◌&&◌}
 use Rattle.wasmi_core.proofs.AccountLemmas.{Takes, grows_takes, write_takes}
-use Rattle.wasmi_core.proofs.RowLemmas.{both_live, on_live, on_live_too}
+use Rattle.wasmi_core.proofs.EffectLemmas.{both_live, on_live, on_live_too}
 use Rattle.wasmi_core.proofs.StepsLemmas.{change_facts, source_writes}
-use Rattle.wasmi_core.specs.MemoryRows.{bytes_appended}
-use Rattle.wasmi_core.specs.Rows.{ActsAt, OnLive, reply_of}
+use Rattle.wasmi_core.specs.MemoryEffects.{bytes_appended}
+use Rattle.wasmi_core.specs.Effects.{ActsAt, OnLive, reply_of}
 use Rattle.wasmi_core.specs.Runs.{Run}
 use Rattle.wasmi_core.specs.State.{State, live_at}
 use Rattle.wasmi_core.specs.Steps.{Changed, Effect, FuelSet, MemoryGrown, PartWritten, TableGrown, TakesEffect, effect_of}
-use Rattle.wasmi_core.specs.TableRows.{WritesTableAt, WritesTableFrom, element_bytes, metered, write_of}
+use Rattle.wasmi_core.specs.TableEffects.{WritesTableAt, WritesTableFrom, element_bytes, metered, write_of}
 use Rattle.wasmi_core.specs.World.{Turn, World}
 use Rattle.wasmi_core.specs.Writing.{IsBounded, amount_set, amounts_set, bytes_written, charges_for_writing, has_written, is_accepted, is_charged, writing_turns}
 use Rattle.wasmi_core.specs.declared.calls.Call.{Call}
 use Rattle.wasmi_core.specs.declared.calls.Call.TheVariants.{SetFuel}
 use Rattle.wasmi_core.specs.declared.calls.Reply.{Reply}
 use Rattle.wasmi_core.specs.declared.slots.Slot.{Slot}
-use Rattle.wasmi_meter.specs.Attempt.{Denied, Failed, Fate, MayEnd, Met, Situation, Unasked, amount_due, answer_of, charge_of}
+use Rattle.wasmi_meter.specs.Attempt.{Denied, Failed, AttemptOutcome, MayEnd, Met, MeteredValue, Unasked, optional_due, answer_of, outcome_charge}
 use Rattle.wasmi_meter.specs.Costs.{copy_cost, cut_product}
 use Rattle.wasmi_meter.specs.Limiter.{Rules}
 use Rattle.wasmi_meter.specs.Meter.{Meter, due, meter_after, meter_set}
@@ -33,7 +33,7 @@ use Rattle.wasmi_store.proofs.GrowthLemmas.{on_test}
 use Rattle.wasmi_store.specs.Growth.{Grows, Growth}
 use Rattle.wasmi_store.specs.Memory.{GrowsMemory, MemoryValue, pages_of}
 use Rattle.wasmi_store.specs.MemoryType.{greatest_pages, in_bounds, page_bytes}
-use Rattle.wasmi_store.specs.Table.{EndsBy, GrowsTable, TableValue, TableWrite, WritesTable, due_for, element_price, size_of}
+use Rattle.wasmi_store.specs.Table.{EndsBy, GrowsTable, TableValue, TableWrite, WritesTable, growth_due, element_price, size_of}
 use Rattle.wasmi_store.specs.TableType.{same_type}
 use Rattle.wasmi_typed.specs.declared.typed_ref.TypedRawRef.{TypedRawRef}
 use Rattle.wasmi_store.specs.Memory as memory
@@ -131,7 +131,7 @@ module _ {V E S : Type 0} (rules : Rules S) (g : Growth V E) (t : Growing V S) w
   -- the costs stay
   growth_costs : (result : Result ℕ E) → Grown result → t.meter'.costs ≡ t.meter.costs
   growth_costs result (inl none) =
-      ap (λ (m : Meter). m.costs) (same_Some t.meter' t.meter (ap (λ (s : Situation V S). s.meter) none.same))
+      ap (λ (m : Meter). m.costs) (same_Some t.meter' t.meter (ap (λ (s : MeteredValue V S). s.meter) none.same))
   growth_costs result (inr some) = same_costs t.meter t.meter' t.charge some.attempt.meter
 
   -- the charge is taken
@@ -146,23 +146,23 @@ module _ {V E S : Type 0} (rules : Rules S) (g : Growth V E) (t : Growing V S) w
 
   -- an accepted growth, whose charge pays for so many bytes where nothing stood in its way
   module _ (bytes : ℕ) (none : g.amount ≡ 0 → bytes ≡ 0)
-      (bound : (left : ℕ) → t.meter.left ≡ Some left → 0 < rate t.meter → g.effort.early ≡ None
-      → t.charge ≡ amount_due (Some t.meter) g.effort.price
+      (bound : (left : ℕ) → t.meter.left ≡ Some left → 0 < rate t.meter → g.request.early ≡ None
+      → t.charge ≡ optional_due (Some t.meter) g.request.price
       → bytes ≤ rate t.meter * t.charge + (rate t.meter - 1)) where
     -- the charge pays for the bytes
     met_bound : (size : ℕ) → Grown (Ok size) → (left : ℕ) → t.meter.left ≡ Some left → 0 < rate t.meter
         → bytes ≤ rate t.meter * t.charge + (rate t.meter - 1)
     met_bound size (inl grows) left on rated = let nothing = none grows.none in omega (arith, nothing)
     met_bound size (inr grows) left on rated =
-        by_fate grows.fate grows.attempt.may_end grows.attempt.charged grows.answered
+        by_outcome grows.outcome grows.attempt.may_end grows.attempt.charged grows.answered
       where
-        by_fate : (fate : Fate E) → MayEnd g.effort (Some t.meter) fate
-            → t.charge ≡ charge_of g.effort (Some t.meter) fate
-            → Ok size ≡ answer_of g.effort g.size fate → bytes ≤ rate t.meter * t.charge + (rate t.meter - 1)
-        by_fate (Unasked cause) may charged answered = absurd cc
-        by_fate (Denied answer) may charged answered = absurd cc
-        by_fate Met may charged answered = bound left on rated may.0 charged
-        by_fate (Failed cause heed) may charged answered = absurd cc
+        by_outcome : (outcome : AttemptOutcome E) → MayEnd g.request (Some t.meter) outcome
+            → t.charge ≡ outcome_charge g.request (Some t.meter) outcome
+            → Ok size ≡ answer_of g.request g.size outcome → bytes ≤ rate t.meter * t.charge + (rate t.meter - 1)
+        by_outcome (Unasked cause) may charged answered = absurd cc
+        by_outcome (Denied answer) may charged answered = absurd cc
+        by_outcome Met may charged answered = bound left on rated may.0 charged
+        by_outcome (Failed cause notice_answer) may charged answered = absurd cc
 
     -- what it has written
     growth_pays : (size : ℕ) → Grown (Ok size) → Wrote t.meter t.charge bytes true 0 t.meter'
@@ -193,11 +193,11 @@ early_none false cause is = absurd cc
 module _ {S : Type 0} (rules : Rules S) (pages : ℕ) (t : Growing MemoryValue S) where
   -- the growth
   abbrev growth : Growth MemoryValue MemoryError
-  growth = record { amount = pages; size = pages_of t.value; effort = memory.growth_of t.value pages }
+  growth = record { amount = pages; size = pages_of t.value; request = memory.growth_of t.value pages }
 
   -- its charge pays for its bytes
-  memory_bound : (left : ℕ) → t.meter.left ≡ Some left → 0 < rate t.meter → growth.effort.early ≡ None
-      → t.charge ≡ amount_due (Some t.meter) growth.effort.price
+  memory_bound : (left : ℕ) → t.meter.left ≡ Some left → 0 < rate t.meter → growth.request.early ≡ None
+      → t.charge ≡ optional_due (Some t.meter) growth.request.price
       → pages * page_bytes t.value.ty.page ≤ rate t.meter * t.charge + (rate t.meter - 1)
   memory_bound left on rated early charged =
       let x = t.value in
@@ -236,7 +236,7 @@ memory_growth_writes : {S : Type 0} (rules : Rules S) (k pages : ℕ) (slots : L
 memory_growth_writes {S} rules k pages slots m l reply charge slots' m' l' acts =
     on_live (live_at slots k) _ _ acts
     (λ missing. rw missing.0 (idles m m' charge _ (nothing_appended (live_at slots k) pages)
-    (same_Some m' m (ap (λ (s : Situation (List (Slot MemoryValue)) S). s.meter) missing.2))))
+    (same_Some m' m (ap (λ (s : MeteredValue (List (Slot MemoryValue)) S). s.meter) missing.2))))
     (λ x found a.
     let t : Growing MemoryValue S =
     record { value = x; meter = m; limiter = l; charge = charge; value' = a.1; meter' = m'; limiter' = l' }
@@ -247,7 +247,7 @@ memory_growth_writes {S} rules k pages slots m l reply charge slots' m' l' acts 
 module _ {S : Type 0} (rules : Rules S) (n reference : ℕ) (t : Growing TableValue S) where
   -- the growth
   abbrev table_growth : Growth TableValue TableError
-  table_growth = record { amount = n; size = size_of t.value; effort = table.growth_of t.value n reference }
+  table_growth = record { amount = n; size = size_of t.value; request = table.growth_of t.value n reference }
 
   -- what it has written, by its result
   table_result : (result : Result ℕ TableError) → Grown rules table_growth t result
@@ -269,23 +269,23 @@ table_growth_writes {S} rules k n init slots m l reply charge slots' m' l' acts 
     on_live (live_at slots k) _ _ acts
     (λ missing. rw missing.0
     (idles m m' charge _ refl
-    (same_Some m' m (ap (λ (s : Situation (List (Slot TableValue)) S). s.meter) missing.2))))
+    (same_Some m' m (ap (λ (s : MeteredValue (List (Slot TableValue)) S). s.meter) missing.2))))
     (λ x found a.
     let t : Growing TableValue S =
     record { value = x; meter = m; limiter = l; charge = charge; value' = a.1; meter' = m'; limiter' = l' }
     in
     rw a.3 (on_test (same_type x.ty.element init.ty) _ _ a.2
     (λ h. table_result rules n init.raw t a.0 h)
-    (λ h. rw h.0 (idles m m' charge _ refl (same_Some m' m (ap (λ (s : Situation TableValue S). s.meter) h.2))))))
+    (λ h. rw h.0 (idles m m' charge _ refl (same_Some m' m (ap (λ (s : MeteredValue TableValue S). s.meter) h.2))))))
 
 -- a call that writes over a part of a table
 module _ (w : TableWrite) (x : TableValue) (len : ℕ) (m : Meter) (charge : ℕ) where
   -- the charge pays for the elements, where there are some
-  len_bound : (paid : (w.paid ≡ Some len) ⊎ (len ≡ 0)) → charge ≡ due_for w x (Some m) → (left : ℕ)
+  len_bound : (paid : (w.paid ≡ Some len) ⊎ (len ≡ 0)) → charge ≡ growth_due w x (Some m) → (left : ℕ)
       → m.left ≡ Some left → 0 < rate m → cut_product len 4 ≤ rate m * charge + (rate m - 1)
   len_bound (inl paid) charged left on rated =
       due_pays m left len 4 charge on rated
-      (charged ∙ ap (λ p. amount_due (Some m) (option_map element_price p)) paid)
+      (charged ∙ ap (λ p. optional_due (Some m) (option_map element_price p)) paid)
   len_bound (inr none) charged left on rated =
       let nothing : cut_product len 4 ≡ 0 = ap (λ k. cut_product k 4) none ∙ omega arith in omega (arith, nothing)
 
@@ -322,7 +322,7 @@ module _ (k : ℕ) where
       on_live (live_at slots k) _ _ writes
       (λ missing. rw missing.0
       (idles m m' charge _ refl
-      (same_Some m' m (ap (λ (s : Situation (List (Slot TableValue)) (Unit {0})). s.meter) missing.2))))
+      (same_Some m' m (ap (λ (s : MeteredValue (List (Slot TableValue)) (Unit {0})). s.meter) missing.2))))
       (λ x found a. rw a.3 (write_result (write x) x len m charge (paid x) a.1 m' a.0 a.2))
 
 -- so from what may be missing
@@ -335,7 +335,7 @@ table_copy_writes source k write len slots m reply charge slots' m' paid writes 
     on_live source _ _ (both_live source _ _ _ _ paid writes)
     (λ missing. rw missing.1.0
     (idles m m' charge _ refl
-    (same_Some m' m (ap (λ (s : Situation (List (Slot TableValue)) (Unit {0})). s.meter) missing.1.2))))
+    (same_Some m' m (ap (λ (s : MeteredValue (List (Slot TableValue)) (Unit {0})). s.meter) missing.1.2))))
     (λ y found h. table_write_writes k (write y) len slots m reply charge slots' m' h.0 h.1)
 
 module _ {S : Type 0} (w : World S) (turn : Turn) (w' : World S) where
@@ -375,24 +375,24 @@ module _ {S : Type 0} (rules : Rules S) (w : World S) (turn : Turn) (w' : World 
       (amount_set_by effect) w'.state.meter
   effect_writes (FuelSet fuel) step =
       sets fuel w.state.meter w'.state.meter turn.charge turn.written step.free.1
-      (ap (λ (v : World S). v.state.meter) step.after ∙ ap (λ (s : State). s.meter) step.row.1)
+      (ap (λ (v : World S). v.state.meter) step.after ∙ ap (λ (s : State). s.meter) step.effect.1)
   effect_writes (Changed change) step =
-      idle w turn w' step.after step.free.1 ((change_facts w.state change).meter turn.reply step.machine step.row)
+      idle w turn w' step.after step.free.1 ((change_facts w.state change).meter turn.reply step.machine step.effect)
   effect_writes (MemoryGrown k pages) step =
       writes_as w turn w' step.after step.wrote
       (memory_growth_writes rules k pages w.state.memories w.state.meter w.limiter turn.reply turn.charge step.part
-      step.meter step.limiter step.row)
+      step.meter step.limiter step.effect)
   effect_writes (TableGrown k n init) step =
       writes_as w turn w' step.after step.wrote
       (table_growth_writes rules k n init w.state.tables w.state.meter w.limiter turn.reply turn.charge step.part
-      step.meter step.limiter step.row)
+      step.meter step.limiter step.effect)
   effect_writes (PartWritten k source dst len) step =
       let paid =
       on_live_too (write_of source dst len) _ _ _ _ (λ none. tt) (λ write is x. (is x).1)
       (source_writes source dst len) in
       writes_as w turn w' step.after step.wrote
       (table_copy_writes (write_of source dst len) k (λ write. write) len w.state.tables w.state.meter turn.reply
-      turn.charge step.part step.meter paid step.row)
+      turn.charge step.part step.meter paid step.effect)
   effect_writes effect step = idle w turn w' step.after step.free.1 refl
 
 -- a run, by what is left at its start

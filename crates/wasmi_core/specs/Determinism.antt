@@ -2,7 +2,7 @@
 use Rattle.std.specs.Prelude.{◌≡◌, List, [], ◌∷◌, Ok}
 use Rattle.wasmi_meter.specs.declared.error.MemoryError.TheVariants as memory
 use Rattle.wasmi_meter.specs.declared.error.TableError.TheVariants as table
-use Rattle.wasmi_meter.specs.Limiter.{Question, Answer, Failure, MemoryFailure, TableFailure, Heed, Rules}
+use Rattle.wasmi_meter.specs.Limiter.{Question, Answer, Failure, MemoryFailure, TableFailure, NoticeAnswer, Rules}
 use Rattle.wasmi_store.specs.declared.table.element.SegmentError.TheVariants as segment
 use Rattle.wasmi_core.specs.declared.calls.Reply.{Reply}
 use Rattle.wasmi_core.specs.declared.calls.Reply.TheVariants.{Memory, Table, Segment, NoRoom}
@@ -10,12 +10,17 @@ use Rattle.wasmi_core.specs.World.{Turn}
 
 -- each question and each notice has one answer, and leaves one state
 pub record IsDeterministic {S : Type 0} (rules : Rules S) : Type 0 where
-  pub asked : (l : S) (question : Question) (answer answer' : Answer) (l' l'' : S) → rules.asked l question answer l' → rules.asked l question answer' l'' → (answer ≡ answer') × (l' ≡ l'')
-  pub noticed : (l : S) (failure : Failure) (heed heed' : Heed) (l' l'' : S) → rules.noticed l failure heed l' → rules.noticed l failure heed' l'' → (heed ≡ heed') × (l' ≡ l'')
+  pub asked : (l : S) (question : Question) (answer answer' : Answer) (l' l'' : S) → rules.asked l question answer l'
+      → rules.asked l question answer' l'' → (answer ≡ answer') × (l' ≡ l'')
+  pub noticed : (l : S) (failure : Failure) (notice_answer notice_answer' : NoticeAnswer) (l' l'' : S)
+      → rules.noticed l failure notice_answer l' → rules.noticed l failure notice_answer' l''
+      → (notice_answer ≡ notice_answer') × (l' ≡ l'')
 
--- each notice is heeded
-abbrev pub HeedsAll : {S : Type 0} → Rules S → Type 0
-HeedsAll {S} rules = (l : S) (failure : Failure) (heed : Heed) (l' : S) → rules.noticed l failure heed l' → heed ≡ Ok tt
+-- each notice is accepted
+abbrev pub AcceptsNotices : {S : Type 0} → Rules S → Type 0
+AcceptsNotices {S} rules =
+    (l : S) (failure : Failure) (notice_answer : NoticeAnswer) (l' : S) → rules.noticed l failure notice_answer l'
+    → notice_answer ≡ Ok tt
 
 -- the failure isn't want of memory
 abbrev pub IsNoWant : Failure → Type 0
@@ -25,7 +30,12 @@ IsNoWant failure = Unit {0}
 
 -- the rules by which no limiter is told of want of memory
 abbrev pub with_memory : {S : Type 0} → Rules S → Rules S
-with_memory rules = record { asked = rules.asked; noticed = λ l failure heed l'. rules.noticed l failure heed l' × IsNoWant failure }
+with_memory rules =
+    record {
+      asked = rules.asked;
+      noticed = λ l failure notice_answer l'. rules.noticed l failure notice_answer l'
+          × IsNoWant failure;
+    }
 
 -- the reply doesn't tell of want of memory
 abbrev pub HasMemory : Reply → Type 0

@@ -2,7 +2,7 @@
 use Rattle.std.specs.Prelude.{◌≡◌, ◌≢◌, ◌≤◌, ◌-◌, ◌⊎◌, ◌++◌, ℕ, Some, Ok, true, List, [], ◌∷◌, slice_get, slice_set}
 use Rattle.wasmi_meter.specs.declared.limiter.Kind.{Kind}
 use Rattle.wasmi_meter.specs.declared.limiter.Kind.TheVariants.{Bytes, Elements}
-use Rattle.wasmi_meter.specs.Limiter.{Question, Answer, IsDenial, Failure, kind_of, Heed, Rules}
+use Rattle.wasmi_meter.specs.Limiter.{Question, Answer, IsDenial, Failure, kind_of, NoticeAnswer, Rules}
 use Rattle.wasmi_meter.specs.Costs.{copy_cost}
 use Rattle.wasmi_meter.specs.Meter.{Meter, due}
 use Rattle.wasmi_core.specs.declared.calls.Call.{Call}
@@ -10,20 +10,21 @@ use Rattle.wasmi_core.specs.declared.calls.Call.TheVariants.{NewMemory, NewLentM
 use Rattle.wasmi_core.specs.World.{World, Turn}
 use Rattle.wasmi_core.specs.Totals.{sizes}
 
--- nothing; a question and its denial; a permission alone; or a permission and the notice that what it permitted failed, with the answer to it
+-- nothing; a question and its denial; a permission alone; or a permission and the notice that what it permitted failed,
+-- with the answer to it
 pub data Exchange : Type 0 where
   Nothing : Exchange
   Denial : Question → Answer → Exchange
   Permission : Question → Exchange
-  Notice : Question → Failure → Heed → Exchange
+  Notice : Question → Failure → NoticeAnswer → Exchange
 
 -- an exchange leads a limiter from one state to another
 abbrev pub Passes : {S : Type 0} → Rules S → S → Exchange → S → Type 0
 Passes rules l Nothing l' = l' ≡ l
 Passes rules l (Denial question answer) l' = IsDenial answer × rules.asked l question answer l'
 Passes rules l (Permission question) l' = rules.asked l question (Ok true) l'
-Passes {S} rules l (Notice question failure heed) l' = (kind_of failure ≡ question.kind)
-    × (permitted : S) × rules.asked l question (Ok true) permitted × rules.noticed permitted failure heed l'
+Passes {S} rules l (Notice question failure notice_answer) l' = (kind_of failure ≡ question.kind)
+    × (permitted : S) × rules.asked l question (Ok true) permitted × rules.noticed permitted failure notice_answer l'
 
 -- where a call makes something grow: nowhere, at a new index, or at one that is there
 pub data Place : Type 0 where
@@ -43,7 +44,8 @@ place_of call = Nowhere
 abbrev pub GrowsAsAsked : Place → Question → List ℕ → List ℕ → Type 0
 GrowsAsAsked Nowhere q sizes sizes' = ⊥
 GrowsAsAsked New q sizes sizes' = (q.current ≡ 0) × (sizes' ≡ sizes ++ q.desired ∷ [])
-GrowsAsAsked (At k) q sizes sizes' = (q.current ≤ q.desired) × (slice_get sizes k ≡ Some q.current) × (sizes' ≡ slice_set sizes k q.desired)
+GrowsAsAsked (At k) q sizes sizes' =
+    (q.current ≤ q.desired) × (slice_get sizes k ≡ Some q.current) × (sizes' ≡ slice_set sizes k q.desired)
 
 -- no size has changed
 abbrev pub NothingGrows : (Kind → List ℕ) → (Kind → List ℕ) → Type 0
@@ -54,8 +56,9 @@ abbrev pub GrowsBy : Place → Exchange → (Kind → List ℕ) → (Kind → Li
 GrowsBy place Nothing sizes sizes' = NothingGrows sizes sizes'
 GrowsBy place (Denial question answer) sizes sizes' = NothingGrows sizes sizes'
 GrowsBy place (Permission question) sizes sizes' =
-    GrowsAsAsked place question (sizes question.kind) (sizes' question.kind) × ((kind : Kind) → kind ≢ question.kind → sizes' kind ≡ sizes kind)
-GrowsBy place (Notice question failure heed) sizes sizes' = NothingGrows sizes sizes'
+    GrowsAsAsked place question (sizes question.kind) (sizes' question.kind)
+    × ((kind : Kind) → kind ≢ question.kind → sizes' kind ≡ sizes kind)
+GrowsBy place (Notice question failure notice_answer) sizes sizes' = NothingGrows sizes sizes'
 
 -- the bytes of one of a kind, as they are paid for
 abbrev pub bytes_of_one : Kind → ℕ
@@ -63,15 +66,16 @@ bytes_of_one Bytes = 1
 bytes_of_one Elements = 4
 
 -- what a meter is due for the growth that a question asks for
-abbrev pub due_for : Meter → Question → ℕ
-due_for m q = due m (λ costs. copy_cost costs (q.desired - q.current) (bytes_of_one q.kind))
+abbrev pub growth_due : Meter → Question → ℕ
+growth_due m q = due m (λ costs. copy_cost costs (q.desired - q.current) (bytes_of_one q.kind))
 
--- what a growth is charged by its exchange: nothing before a permission, its price where it stands, and no more where it failed
+-- what a growth is charged by its exchange: nothing before a permission, its price where it stands, and no more where
+-- it failed
 abbrev pub ChargesBy : Exchange → Meter → ℕ → Type 0
 ChargesBy Nothing m charge = charge ≡ 0
 ChargesBy (Denial question answer) m charge = charge ≡ 0
-ChargesBy (Permission question) m charge = charge ≡ due_for m question
-ChargesBy (Notice question failure heed) m charge = (charge ≡ 0) ⊎ (charge ≡ due_for m question)
+ChargesBy (Permission question) m charge = charge ≡ growth_due m question
+ChargesBy (Notice question failure notice_answer) m charge = (charge ≡ 0) ⊎ (charge ≡ growth_due m question)
 
 -- so for a growth; a creation is free, and a call that lets nothing grow has an account of its own
 abbrev pub ChargesAt : Place → Exchange → Meter → ℕ → Type 0

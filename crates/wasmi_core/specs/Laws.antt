@@ -1,12 +1,12 @@
 -- What holds of all turns and runs of a machine.
 use Rattle.std.specs.Prelude.{◌≡◌, ◌⊎◌, ◌<◌, ◌≤◌, ◌+◌, ◌*◌, ◌++◌, ℕ, true, Option, Some, Result, Ok, List, length, map, All}
 use Rattle.wasmi_meter.specs.Holdings.{Holdings}
-use Rattle.wasmi_meter.specs.Limiter.{Question, Rules, Answer, IsDenial, Failure, Heed, optional_rules}
-use Rattle.wasmi_meter.specs.Attempt.{Situation, amount_due, can_pay}
+use Rattle.wasmi_meter.specs.Limiter.{Question, Rules, Answer, IsDenial, Failure, NoticeAnswer, optional_rules}
+use Rattle.wasmi_meter.specs.Attempt.{MeteredValue, optional_due, covers}
 use Rattle.wasmi_meter.specs.declared.error.MemoryError.{MemoryError}
 use Rattle.wasmi_meter.specs.declared.quota.Quota.{Quota}
 use Rattle.wasmi_meter.specs.Quota.{SameCaps, IsWithinCaps, quota_rules}
-use Rattle.wasmi_store.specs.Buffer.{Lent, has_place_for}
+use Rattle.wasmi_store.specs.Buffer.{Lent, fits_room}
 use Rattle.wasmi_store.specs.MemoryType.{MemoryTypeValue, page_bytes, minimum_bytes, in_bounds}
 use Rattle.wasmi_store.specs.Memory.{MemoryValue, pages_of, growth_of, GrowsMemory}
 use Rattle.wasmi_core.specs.declared.calls.Call.{Call}
@@ -19,8 +19,8 @@ use Rattle.wasmi_core.specs.Steps.{Step}
 use Rattle.wasmi_core.specs.Runs.{Sequence, Run, IsRunOf}
 use Rattle.wasmi_core.specs.Account.{opened, account_after, Balances, SetsNoFuel}
 use Rattle.wasmi_core.specs.Exchange.{Notice, Passes, Exchanges}
-use Rattle.wasmi_core.specs.MemoryRows.{spare_after}
-use Rattle.wasmi_core.specs.Determinism.{IsDeterministic, HeedsAll, IsNoWant, with_memory, HasMemory, HaveMemory}
+use Rattle.wasmi_core.specs.MemoryEffects.{spare_after}
+use Rattle.wasmi_core.specs.Determinism.{IsDeterministic, AcceptsNotices, IsNoWant, with_memory, HasMemory, HaveMemory}
 use Rattle.wasmi_core.specs.LentMemory.{owned_world, unlent_world, RunInRegions}
 use Rattle.wasmi_core.specs.Writing.{IsBounded, IsSpent}
 use Rattle.wasmi_core.specs.Permission.{permitting, TellsNoDenial}
@@ -60,7 +60,9 @@ KeepsSpare call reply s s' = s'.spare ≡ s.spare
 
 -- a limiter was told of want of memory after it had permitted
 abbrev pub IsToldOfWant : {S : Type 0} → Rules S → S → S → Type 0
-IsToldOfWant rules l l' = (question : Question) × (failure : Failure) × (heed : Heed) × (IsNoWant failure → ⊥) × Passes rules l (Notice question failure heed) l'
+IsToldOfWant rules l l' =
+    (question : Question) × (failure : Failure) × (notice_answer : NoticeAnswer) × (IsNoWant failure → ⊥)
+    × Passes rules l (Notice question failure notice_answer) l'
 
 -- the meter stays, unless memory was wanting after the charge
 abbrev pub KeepsMeter : {S : Type 0} → Rules S → World S → World S → Type 0
@@ -73,9 +75,11 @@ pub record Keeps {S : Type 0} (rules : Rules S) (w : World S) (turn : Turn) (w' 
   pub meter : KeepsMeter rules w w'
 
 module _ {S : Type 0} (rules : Rules S) where
-  -- in each turn that is refused the contents stay, the meter where memory isn't wanting, and the spare region where no memory was to be made in it
+  -- in each turn that is refused the contents stay, the meter where memory isn't wanting, and the spare region where no
+  -- memory was to be made in it
   abbrev pub RefusalsKeepContents : Type 0
-  RefusalsKeepContents = (w : World S) (turn : Turn) (w' : World S) → Step rules w turn w' → IsRefusal turn.reply → Keeps rules w turn w'
+  RefusalsKeepContents =
+      (w : World S) (turn : Turn) (w' : World S) → Step rules w turn w' → IsRefusal turn.reply → Keeps rules w turn w'
 
   -- so in each turn of a run that is refused, and a run in which each turn is refused keeps the contents
   abbrev pub RefusalsInRunsKeepContents : Type 0
@@ -83,86 +87,134 @@ module _ {S : Type 0} (rules : Rules S) where
       → Sequence (λ v turn v'. Step rules v turn v' × (IsRefusal turn.reply → Keeps rules v turn v')) w turns w'
 
   abbrev pub RefusedRunsKeepContents : Type 0
-  RefusedRunsKeepContents = (w : World S) (turns : List Turn) (w' : World S) → Run rules w turns w' → All IsRefusal (map Turn.reply turns) → SameContents w.state w'.state
+  RefusedRunsKeepContents =
+      (w : World S) (turns : List Turn) (w' : World S) → Run rules w turns w' → All IsRefusal (map Turn.reply turns)
+      → SameContents w.state w'.state
 
-  -- in each turn a permission is followed by exactly the growth that was asked for, or by just one notice, and a denial by neither; a growth is charged only after a permission, and at most once
+  -- in each turn a permission is followed by exactly the growth that was asked for, or by just one notice, and a denial
+  -- by neither; a growth is charged only after a permission, and at most once
   abbrev pub GrowsAsPermitted : Type 0
   GrowsAsPermitted = (w : World S) (turn : Turn) (w' : World S) → Step rules w turn w' → Exchanges rules w turn w'
 
   -- so in each turn of a run
   abbrev pub RunsGrowAsPermitted : Type 0
-  RunsGrowAsPermitted = (w : World S) (turns : List Turn) (w' : World S) → Run rules w turns w' → Sequence (λ v turn v'. Step rules v turn v' × Exchanges rules v turn v') w turns w'
+  RunsGrowAsPermitted =
+      (w : World S) (turns : List Turn) (w' : World S) → Run rules w turns w'
+      → Sequence (λ v turn v'. Step rules v turn v' × Exchanges rules v turn v') w turns w'
 
   -- a run of which no reply tells of a denial is one in which each question was permitted
   abbrev pub RepliesPermit : Type 0
-  RepliesPermit = (w : World S) (turns : List Turn) (w' : World S) → All TellsNoDenial (map Turn.reply turns) → Run rules w turns w' → Run (permitting rules) w turns w'
+  RepliesPermit =
+      (w : World S) (turns : List Turn) (w' : World S) → All TellsNoDenial (map Turn.reply turns) → Run rules w turns w'
+      → Run (permitting rules) w turns w'
 
   -- a run of calls whose types are valid leads from a valid state to a valid one
   abbrev pub RunsKeepValidity : Type 0
-  RunsKeepValidity = (w : World S) (turns : List Turn) (w' : World S) → IsValid w.state → All IsValidCall (map Turn.call turns) → Run rules w turns w' → IsValid w'.state
+  RunsKeepValidity =
+      (w : World S) (turns : List Turn) (w' : World S) → IsValid w.state → All IsValidCall (map Turn.call turns)
+      → Run rules w turns w' → IsValid w'.state
 
-  -- while metering is on, what is left and the charges since the fuel was set last, or since the start, are what was set then, or left at the start
+  -- while metering is on, what is left and the charges since the fuel was set last, or since the start, are what was
+  -- set then, or left at the start
   abbrev pub FuelBalances : Type 0
   FuelBalances = (w : World S) (left : ℕ) → w.state.meter.left ≡ Some left
-      → (turns : List Turn) (w' : World S) → Run rules w turns w' → Balances (account_after (opened left) turns) w'.state.meter
+      → (turns : List Turn) (w' : World S) → Run rules w turns w'
+      → Balances (account_after (opened left) turns) w'.state.meter
 
-  -- while metering is on at a rate above 0, the bytes that a run writes by growing and copying are bounded by the fuel that is charged for them, and so by all the fuel that there was
+  -- while metering is on at a rate above 0, the bytes that a run writes by growing and copying are bounded by the fuel
+  -- that is charged for them, and so by all the fuel that there was
   abbrev pub FuelBoundsWriting : Type 0
-  FuelBoundsWriting = (w : World S) (left : ℕ) → w.state.meter.left ≡ Some left → 0 < w.state.meter.costs.bytes_copied_per_fuel
-      → (turns : List Turn) (w' : World S) → Run rules w turns w' → IsBounded w.state.meter.costs.bytes_copied_per_fuel left turns
+  FuelBoundsWriting =
+      (w : World S) (left : ℕ) → w.state.meter.left ≡ Some left → 0 < w.state.meter.costs.bytes_copied_per_fuel
+      → (turns : List Turn) (w' : World S) → Run rules w turns w'
+      → IsBounded w.state.meter.costs.bytes_copied_per_fuel left turns
 
-  -- while metering is on, what calls that don't set the fuel were charged is what was left before and isn't left after, and it bounds what they have written
+  -- while metering is on, what calls that don't set the fuel were charged is what was left before and isn't left after,
+  -- and it bounds what they have written
   abbrev pub ChargesAreSpent : Type 0
-  ChargesAreSpent = (w : World S) (left : ℕ) → w.state.meter.left ≡ Some left → (turns : List Turn) (w' : World S) → Run rules w turns w' → All SetsNoFuel (map Turn.call turns)
-      → (left' : ℕ) × (w'.state.meter.left ≡ Some left') × IsSpent w.state.meter.costs.bytes_copied_per_fuel left left' turns
+  ChargesAreSpent =
+      (w : World S) (left : ℕ) → w.state.meter.left ≡ Some left → (turns : List Turn) (w' : World S)
+      → Run rules w turns w' → All SetsNoFuel (map Turn.call turns)
+      → (left' : ℕ) × (w'.state.meter.left ≡ Some left')
+      × IsSpent w.state.meter.costs.bytes_copied_per_fuel left left' turns
 
   -- turns of a run, and those of a run from where it ends, are one run
   abbrev pub RunsJoin : Type 0
-  RunsJoin = (u : World S) (turns : List Turn) (v : World S) (turns' : List Turn) (w : World S) → Run rules u turns v → Run rules v turns' w → Run rules u (turns ++ turns') w
+  RunsJoin = (u : World S) (turns : List Turn) (v : World S) (turns' : List Turn) (w : World S) → Run rules u turns v
+      → Run rules v turns' w → Run rules u (turns ++ turns') w
 
   -- so are their calls, with their replies
   abbrev pub RunsOfCallsJoin : Type 0
-  RunsOfCallsJoin = (calls calls' : List Call) (u v w : World S) (replies replies' : List Reply) → IsRunOf rules calls u replies v → IsRunOf rules calls' v replies' w
+  RunsOfCallsJoin =
+      (calls calls' : List Call) (u v w : World S) (replies replies' : List Reply) → IsRunOf rules calls u replies v
+      → IsRunOf rules calls' v replies' w
       → IsRunOf rules (calls ++ calls') u (replies ++ replies') w
 
 module _ {S : Type 0} (rules : Rules S) where
-  -- a run that makes no memory in a region and grows none past its own is a run of the same machine with memories of their own
+  -- a run that makes no memory in a region and grows none past its own is a run of the same machine with memories of
+  -- their own
   abbrev pub LentRunsAreOwned : Type 0
-  LentRunsAreOwned = (w : World S) (turns : List Turn) (w' : World S) → RunInRegions rules w turns w' → Run rules (owned_world w) turns (owned_world w')
+  LentRunsAreOwned =
+      (w : World S) (turns : List Turn) (w' : World S) → RunInRegions rules w turns w'
+      → Run rules (owned_world w) turns (owned_world w')
 
   -- a creation in a spare region of at least the minimum is a creation of a memory of its own
   abbrev pub LentCreationsAreOwned : Type 0
-  LentCreationsAreOwned = (w : World S) (turn : Turn) (w' : World S) (ty : MemoryTypeValue) (region : List ℕ) → turn.call ≡ NewLentMemory ty → w.state.spare ≡ Some region → minimum_bytes ty ≤ length region
+  LentCreationsAreOwned =
+      (w : World S) (turn : Turn) (w' : World S) (ty : MemoryTypeValue) (region : List ℕ) → turn.call ≡ NewLentMemory ty
+      → w.state.spare ≡ Some region → minimum_bytes ty ≤ length region
       → Step rules w turn w' → Step rules (unlent_world w) (record turn { call = NewMemory ty }) (unlent_world w')
 
-  -- a growth of a lent memory that its type and its region have place for, and that can be paid, is refused by the limiter alone
+  -- a growth of a lent memory that its type and its region have place for, and that can be paid, is refused by the
+  -- limiter alone
   abbrev pub LentGrowthsSucceed : Type 0
-  LentGrowthsSucceed = (pages : ℕ) (s : Situation MemoryValue S) (rest : List ℕ) → s.value.room ≡ Lent rest → in_bounds s.value.ty (pages_of s.value + pages) ≡ true → has_place_for s.value.room (pages * page_bytes s.value.ty.page) ≡ true
-      → can_pay s.meter (amount_due s.meter (growth_of s.value pages).price) ≡ true → (result : Result ℕ MemoryError) (charge : ℕ) (s' : Situation MemoryValue S) → GrowsMemory rules pages s result charge s'
-      → (result ≡ Ok (pages_of s.value)) ⊎ ((answer : Answer) × IsDenial answer × rules.asked s.limiter (growth_of s.value pages).question answer s'.limiter)
+  LentGrowthsSucceed =
+      (pages : ℕ) (s : MeteredValue MemoryValue S) (rest : List ℕ) → s.value.room ≡ Lent rest
+      → in_bounds s.value.ty (pages_of s.value + pages) ≡ true
+      → fits_room s.value.room (pages * page_bytes s.value.ty.page) ≡ true
+      → covers s.meter (optional_due s.meter (growth_of s.value pages).price) ≡ true
+      → (result : Result ℕ MemoryError) (charge : ℕ) (s' : MeteredValue MemoryValue S)
+      → GrowsMemory rules pages s result charge s'
+      → (result ≡ Ok (pages_of s.value))
+      ⊎ ((answer : Answer) × IsDenial answer
+      × rules.asked s.limiter (growth_of s.value pages).question answer s'.limiter)
 
--- where the limiter leaves no choice, two runs of one list of calls from one world, in which memory isn't wanting, are one
+-- where the limiter leaves no choice, two runs of one list of calls from one world, in which memory isn't wanting, are
+-- one
 abbrev pub RunsAreOne : {L : Type 0} → Rules L → Type 0
-RunsAreOne {L} rules = IsDeterministic rules → (w : World (Option L)) (turns turns' : List Turn) (v v' : World (Option L)) → map Turn.call turns ≡ map Turn.call turns'
-    → HaveMemory turns → HaveMemory turns' → Run (with_memory (optional_rules rules)) w turns v → Run (with_memory (optional_rules rules)) w turns' v' → (turns ≡ turns') × (v ≡ v')
+RunsAreOne {L} rules =
+    IsDeterministic rules → (w : World (Option L)) (turns turns' : List Turn) (v v' : World (Option L))
+    → map Turn.call turns ≡ map Turn.call turns'
+    → HaveMemory turns → HaveMemory turns' → Run (with_memory (optional_rules rules)) w turns v
+    → Run (with_memory (optional_rules rules)) w turns' v' → (turns ≡ turns') × (v ≡ v')
 
--- where the limiter heeds each notice, a run whose replies tell of no want of memory is one in which nobody is told of it
+-- where the limiter accepts each notice, a run whose replies tell of no want of memory is one in which nobody is told
+-- of it
 abbrev pub RepliesTell : {L : Type 0} → Rules L → Type 0
-RepliesTell {L} rules = HeedsAll rules → (w : World (Option L)) (turns : List Turn) (w' : World (Option L)) → HaveMemory turns
+RepliesTell {L} rules =
+    AcceptsNotices rules → (w : World (Option L)) (turns : List Turn) (w' : World (Option L)) → HaveMemory turns
     → Run (optional_rules rules) w turns w' → Run (with_memory (optional_rules rules)) w turns w'
 
--- where the limiter leaves no choice and heeds each notice, two runs of one list of calls from one world, whose replies tell of no want of memory, have the same replies and end in one world
+-- where the limiter leaves no choice and accepts each notice, two runs of one list of calls from one world, whose
+-- replies tell of no want of memory, have the same replies and end in one world
 abbrev pub RepliesAreOne : {L : Type 0} → Rules L → Type 0
-RepliesAreOne {L} rules = IsDeterministic rules → HeedsAll rules → (calls : List Call) (w : World (Option L)) (replies replies' : List Reply) (v v' : World (Option L)) → All HasMemory replies → All HasMemory replies'
-    → IsRunOf (optional_rules rules) calls w replies v → IsRunOf (optional_rules rules) calls w replies' v' → (replies ≡ replies') × (v ≡ v')
+RepliesAreOne {L} rules =
+    IsDeterministic rules → AcceptsNotices rules
+    → (calls : List Call) (w : World (Option L)) (replies replies' : List Reply) (v v' : World (Option L))
+    → All HasMemory replies → All HasMemory replies'
+    → IsRunOf (optional_rules rules) calls w replies v → IsRunOf (optional_rules rules) calls w replies' v'
+    → (replies ≡ replies') × (v ≡ v')
 
 -- a limiter that holds the totals before a run is there after it, and holds the totals then
 abbrev pub HoldsTotalsAlways : {L : Type 0} → Rules L → (L → Holdings) → Type 0
 HoldsTotalsAlways {L} rules holdings = (s : State) (l : L) → HoldsTotals (holdings l) s
-    → (turns : List Turn) (w' : World (Option L)) → Run (optional_rules rules) (record { state = s; limiter = Some l }) turns w'
+    → (turns : List Turn) (w' : World (Option L))
+    → Run (optional_rules rules) (record { state = s; limiter = Some l }) turns w'
     → (l' : L) × (w'.limiter ≡ Some l') × HoldsTotals (holdings l') w'.state
 
 -- a quota that holds at most its caps before a run does so after it, and has the same caps
 abbrev pub QuotasStayWithin : Type 0
-QuotasStayWithin = (s : State) (quota : Quota) → IsWithinCaps quota → (turns : List Turn) (w' : World (Option Quota)) → Run (optional_rules quota_rules) (world s (Some quota)) turns w'
+QuotasStayWithin =
+    (s : State) (quota : Quota) → IsWithinCaps quota → (turns : List Turn) (w' : World (Option Quota))
+    → Run (optional_rules quota_rules) (world s (Some quota)) turns w'
     → (quota' : Quota) × (w'.limiter ≡ Some quota') × IsWithinCaps quota' × SameCaps quota quota'

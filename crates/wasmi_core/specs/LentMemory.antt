@@ -1,7 +1,7 @@
 -- Machines with memories in lent regions, beside the same machines with memories of their own.
 use Rattle.std.specs.Prelude.{◌≡◌, ◌⊎◌, ◌+◌, ◌*◌, ℕ, true, false, List, [], ◌∷◌, map, None}
 use Rattle.wasmi_meter.specs.Limiter.{Rules}
-use Rattle.wasmi_store.specs.Buffer.{Owned, has_place_for}
+use Rattle.wasmi_store.specs.Buffer.{Owned, fits_room}
 use Rattle.wasmi_store.specs.MemoryType.{page_bytes, in_bounds}
 use Rattle.wasmi_store.specs.Memory.{MemoryValue, pages_of}
 use Rattle.wasmi_core.specs.declared.calls.Call.{Call}
@@ -10,7 +10,7 @@ use Rattle.wasmi_core.specs.declared.slots.Slot.{Slot}
 use Rattle.wasmi_core.specs.declared.slots.Slot.TheVariants.{Live, Gone}
 use Rattle.wasmi_core.specs.State.{State, live_at}
 use Rattle.wasmi_core.specs.World.{World, Turn}
-use Rattle.wasmi_core.specs.Rows.{OnLive}
+use Rattle.wasmi_core.specs.Effects.{OnLive}
 use Rattle.wasmi_core.specs.Steps.{Step}
 
 -- the same memory with memory of its own to grow into
@@ -34,7 +34,8 @@ unlent_world w = record w { state = record (owned w.state) { spare = None } }
 
 -- a growth of a memory that its room has place for, or that is refused before the limiter is asked
 abbrev pub FitsRoom : ℕ → MemoryValue → Type 0
-FitsRoom pages x = (has_place_for x.room (pages * page_bytes x.ty.page) ≡ true) ⊎ (in_bounds x.ty (pages_of x + pages) ≡ false)
+FitsRoom pages x =
+    (fits_room x.room (pages * page_bytes x.ty.page) ≡ true) ⊎ (in_bounds x.ty (pages_of x + pages) ≡ false)
 
 -- a call that makes no memory in the spare region, and grows no memory past the region that it lies in
 abbrev pub FitsRegions : State → Call → Type 0
@@ -45,4 +46,5 @@ FitsRegions s call = Unit {0}
 -- turns by such calls one after another, from one world to another
 abbrev pub RunInRegions : {S : Type 0} → Rules S → World S → List Turn → World S → Type 0
 RunInRegions rules w [] w' = w' ≡ w
-RunInRegions rules w (turn ∷ turns) w' = (v : World _) × FitsRegions w.state turn.call × Step rules w turn v × RunInRegions rules v turns w'
+RunInRegions rules w (turn ∷ turns) w' =
+    (v : World _) × FitsRegions w.state turn.call × Step rules w turn v × RunInRegions rules v turns w'

@@ -1,11 +1,11 @@
 pub mod State
 pub mod World
-pub mod Rows
-pub mod FuelRows
-pub mod MemoryRows
-pub mod TableRows
-pub mod ValueRows
-pub mod RegisterRows
+pub mod Effects
+pub mod FuelEffects
+pub mod MemoryEffects
+pub mod TableEffects
+pub mod ValueEffects
+pub mod RegisterEffects
 pub mod Steps
 pub mod Runs
 pub mod Permission

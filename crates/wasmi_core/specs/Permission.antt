@@ -8,7 +8,12 @@ use Rattle.wasmi_core.specs.declared.calls.Reply.TheVariants.{Memory, Table}
 
 -- the rules by which each question is permitted
 abbrev pub permitting : {S : Type 0} → Rules S → Rules S
-permitting rules = record { asked = λ l question answer l'. (answer ≡ Ok true) × rules.asked l question answer l'; noticed = rules.noticed }
+permitting rules =
+    record {
+      asked = λ l question answer l'. (answer ≡ Ok true)
+          × rules.asked l question answer l';
+      noticed = rules.noticed;
+    }
 
 -- the reply doesn't tell of a denial, nor of what a denial is told by
 abbrev pub TellsNoDenial : Reply → Type 0

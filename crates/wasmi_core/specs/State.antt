@@ -27,7 +27,8 @@ module _ {X : Type 0} where
   abbrev pub with_live : Slots X → ℕ → X → Slots X
   with_live s k x = record { slots = with_item s.slots k (Live x) }
 
--- the memories, tables, element segments and globals that were made, each kind in its order, the registers, the meter, and the bytes of the spare region, if there is one
+-- the memories, tables, element segments and globals that were made, each kind in its order, the registers, the meter,
+-- and the bytes of the spare region, if there is one
 pub record State : Type 0 where
   pub memories : List (Slot MemoryValue)
   pub tables : List (Slot TableValue)
@@ -39,7 +40,16 @@ pub record State : Type 0 where
 
 -- a machine on which nothing was made yet, with 16 registers of zeros
 abbrev pub new_state : Meter → State
-new_state meter = record { memories = []; tables = []; segments = []; globals = []; registers = replicate 16 (raw_of 0); meter = meter; spare = None }
+new_state meter =
+    record {
+      memories = [];
+      tables = [];
+      segments = [];
+      globals = [];
+      registers = replicate 16 (raw_of 0);
+      meter = meter;
+      spare = None;
+    }
 
 -- the state with this spare region
 abbrev pub with_spare : State → List ℕ → State

@@ -29,14 +29,14 @@ use Rattle.wasmi_core.specs.declared.calls.Reply.{Reply}
 use Rattle.wasmi_core.specs.declared.calls.Reply.TheVariants as reply
 use Rattle.wasmi_core.specs.World.{World, Turn, world}
 use Rattle.wasmi_core.specs.State.{State, live_at, with_memories, memory_part, with_memory_part, with_tables, with_segments, with_globals, with_registers}
-use Rattle.wasmi_core.specs.Rows.{reply_of, Creates, DropsAt, ActsAt, ChangesPart, OnlyReplies, Changes, Asks, Pays, PaysUnasked}
+use Rattle.wasmi_core.specs.Effects.{reply_of, Creates, DropsAt, ActsAt, ChangesPart, OnlyReplies, Changes, Asks, ActsMetered, ActsMeteredUnasked}
 use Rattle.wasmi_core.specs.Totals.{byte_count}
 use Rattle.wasmi_core.specs.AccessOps.{stored_bytes}
-use Rattle.wasmi_core.specs.FuelRows.{SetsFuel, get_fuel_reply}
-use Rattle.wasmi_core.specs.MemoryRows.{bytes_appended, CreatesLent, ReadsMemoryAt, WritesMemoryAt, load_reply}
-use Rattle.wasmi_core.specs.TableRows.{Source, OfReference, OfTable, OfSegment, element_reply, SetsElementAt, write_of, WritesPartAt, element_bytes}
-use Rattle.wasmi_core.specs.RegisterRows.{TakesRegister, StoresVectorAt, given_vector, of_one, of_two, of_three, vector_loaded, lane_loaded, raw_reply, vector_at}
-use Rattle.wasmi_core.specs.ValueRows.{CreatesSegment, DropsItemsAt, CreatesGlobal, SetsGlobalAt, global_reply}
+use Rattle.wasmi_core.specs.FuelEffects.{SetsFuel, get_fuel_reply}
+use Rattle.wasmi_core.specs.MemoryEffects.{bytes_appended, CreatesLent, ReadsMemoryAt, WritesMemoryAt, load_reply}
+use Rattle.wasmi_core.specs.TableEffects.{Source, OfReference, OfTable, OfSegment, element_reply, SetsElementAt, write_of, WritesPartAt, element_bytes}
+use Rattle.wasmi_core.specs.RegisterEffects.{TakesRegister, StoresVectorAt, given_vector, of_one, of_two, of_three, vector_loaded, lane_loaded, raw_reply, vector_at}
+use Rattle.wasmi_core.specs.ValueEffects.{CreatesSegment, DropsItemsAt, CreatesGlobal, SetsGlobalAt, global_reply}
 
 -- what a call is about
 pub data Subject : Type 0 where
@@ -100,7 +100,8 @@ pub data Change : Type 0 where
   GlobalMade : GlobalInstance → Change
   GlobalSet : ℕ → TypedRawVal → Change
 
--- what a call does, once its operands are read: all calls that only reply what is known have one kind of effect, all that change one part alone another, and all that write over a part of a table a third
+-- what a call does, once its operands are read: all calls that only reply what is known have one kind of effect, all
+-- that change one part alone another, and all that write over a part of a table a third
 pub data Effect : Type 0 where
   Told : Reply → Effect
   BytesRead : ℕ → ℕ → ℕ → Effect
@@ -140,21 +141,32 @@ effect_of s (SetGlobal k value) = Changed (GlobalSet k value)
 effect_of s (GetGlobal k) = Told (global_reply (slice_get s.globals k))
 effect_of s (SetRegister dst value) = Changed (RegisterSet dst (Some (Ok value)))
 effect_of s (GetRegister a) = Told (raw_reply (slice_get s.registers a))
-effect_of s (Make op dst a) = Changed (RegisterSet dst (option_map (λ raw. given_vector (made_vector op raw)) (slice_get s.registers a)))
+effect_of s (Make op dst a) =
+    Changed (RegisterSet dst (option_map (λ raw. given_vector (made_vector op raw)) (slice_get s.registers a)))
 effect_of s (Unary op dst a) = Changed (RegisterSet dst (of_one (unary_vector op) (vector_at s.registers a)))
-effect_of s (Binary op dst a b) = Changed (RegisterSet dst (of_two (binary_vector op) (vector_at s.registers a) (vector_at s.registers b)))
+effect_of s (Binary op dst a b) =
+    Changed (RegisterSet dst (of_two (binary_vector op) (vector_at s.registers a) (vector_at s.registers b)))
 effect_of s (Ternary op dst a b c) =
-    Changed (RegisterSet dst (of_three (ternary_vector op) (vector_at s.registers a) (vector_at s.registers b) (vector_at s.registers c)))
-effect_of s (Shift op dst a amount) = Changed (RegisterSet dst (of_one (λ v. shifted_vector op v amount) (vector_at s.registers a)))
+    Changed (RegisterSet dst
+    (of_three (ternary_vector op) (vector_at s.registers a) (vector_at s.registers b) (vector_at s.registers c)))
+effect_of s (Shift op dst a amount) =
+    Changed (RegisterSet dst (of_one (λ v. shifted_vector op v amount) (vector_at s.registers a)))
 effect_of s (Test op a) = Told (raw_reply (option_map (tested_raw op) (vector_at s.registers a)))
 effect_of s (Extract op a) = Told (raw_reply (option_map (extracted_raw op) (vector_at s.registers a)))
 effect_of s (Replace op dst a item) =
-    Changed (RegisterSet dst (option_and_then (λ raw. of_one (λ v. replaced_vector op v raw) (vector_at s.registers a)) (slice_get s.registers item)))
-effect_of s (Shuffle dst a b lanes) = Changed (RegisterSet dst (of_two (λ x y. shuffle x y lanes) (vector_at s.registers a) (vector_at s.registers b)))
-effect_of s (VectorLoad op dst k ptr offset) = Changed (RegisterSet dst (vector_loaded op (ptr + offset) (live_at s.memories k)))
-effect_of s (LoadLane op dst a k ptr offset) = Changed (RegisterSet dst (lane_loaded op (ptr + offset) (vector_at s.registers a) (live_at s.memories k)))
-effect_of s (VectorStore a k ptr offset) = Changed (BytesStored k (ptr + offset) (option_map (le_bytes 16) (vector_at s.registers a)))
-effect_of s (StoreLane op a k ptr offset) = Changed (BytesStored k (ptr + offset) (option_map (stored_lane op) (vector_at s.registers a)))
+    Changed (RegisterSet dst
+    (option_and_then (λ raw. of_one (λ v. replaced_vector op v raw) (vector_at s.registers a))
+    (slice_get s.registers item)))
+effect_of s (Shuffle dst a b lanes) =
+    Changed (RegisterSet dst (of_two (λ x y. shuffle x y lanes) (vector_at s.registers a) (vector_at s.registers b)))
+effect_of s (VectorLoad op dst k ptr offset) =
+    Changed (RegisterSet dst (vector_loaded op (ptr + offset) (live_at s.memories k)))
+effect_of s (LoadLane op dst a k ptr offset) =
+    Changed (RegisterSet dst (lane_loaded op (ptr + offset) (vector_at s.registers a) (live_at s.memories k)))
+effect_of s (VectorStore a k ptr offset) =
+    Changed (BytesStored k (ptr + offset) (option_map (le_bytes 16) (vector_at s.registers a)))
+effect_of s (StoreLane op a k ptr offset) =
+    Changed (BytesStored k (ptr + offset) (option_map (stored_lane op) (vector_at s.registers a)))
 
 -- one part of the state changes: a line for each kind
 abbrev pub TakesChange : Change → State → Reply → State → Type 0
@@ -172,21 +184,26 @@ TakesChange (GlobalSet k value) s = ChangesPart (with_globals s) (SetsGlobalAt k
 -- an effect takes place from one world to the next: a line for each kind
 abbrev pub TakesEffect : {S : Type 0} → Rules S → Effect → World S → Turn → World S → Type 0
 TakesEffect rules (Told told) w turn w' = OnlyReplies w turn w' (λ answer. answer ≡ told)
-TakesEffect rules (BytesRead k offset len) w turn w' = OnlyReplies w turn w' (ReadsMemoryAt k offset len w.state.memories)
+TakesEffect rules (BytesRead k offset len) w turn w' =
+    OnlyReplies w turn w' (ReadsMemoryAt k offset len w.state.memories)
 TakesEffect rules (FuelSet fuel) w turn w' = Changes w turn w' (SetsFuel fuel w.state)
 TakesEffect rules (Changed change) w turn w' = Changes w turn w' (TakesChange change w.state)
 TakesEffect rules (MemoryMade ty) w turn w' =
     Asks w turn w' (with_memories w.state) (Creates reply.Memory (MakesMemory rules Owned ty) w.state.memories)
-TakesEffect rules (LentMemoryMade ty) w turn w' = Asks w turn w' (with_memory_part w.state) (CreatesLent rules ty (memory_part w.state))
+TakesEffect rules (LentMemoryMade ty) w turn w' =
+    Asks w turn w' (with_memory_part w.state) (CreatesLent rules ty (memory_part w.state))
 TakesEffect rules (MemoryGrown k pages) w turn w' =
-    Pays w turn w' w.state.memories (with_memories w.state) (ActsAt k (reply_of reply.Number reply.Memory) (GrowsMemory rules pages))
+    ActsMetered w turn w' w.state.memories (with_memories w.state)
+    (ActsAt k (reply_of reply.Number reply.Memory) (GrowsMemory rules pages))
     (bytes_appended (live_at w.state.memories k) pages)
 TakesEffect rules (TableMade ty init) w turn w' =
     Asks w turn w' (with_tables w.state) (Creates reply.Table (MakesTable rules ty init) w.state.tables)
 TakesEffect rules (TableGrown k n init) w turn w' =
-    Pays w turn w' w.state.tables (with_tables w.state) (ActsAt k (reply_of reply.Number reply.Table) (GrowsTable rules n init)) (element_bytes n)
+    ActsMetered w turn w' w.state.tables (with_tables w.state)
+    (ActsAt k (reply_of reply.Number reply.Table) (GrowsTable rules n init)) (element_bytes n)
 TakesEffect rules (PartWritten k source dst len) w turn w' =
-    PaysUnasked w turn w' w.state.tables (with_tables w.state) (WritesPartAt k (write_of source dst len)) (element_bytes len)
+    ActsMeteredUnasked w turn w' w.state.tables (with_tables w.state) (WritesPartAt k (write_of source dst len))
+    (element_bytes len)
 
 -- a step from one world to the next: the effect of the turn's call takes place
 abbrev pub Step : {S : Type 0} → Rules S → World S → Turn → World S → Type 0
@@ -195,9 +212,12 @@ Step rules w turn w' = TakesEffect rules (effect_of w.state turn.call) w turn w'
 -- a call is answered by a reply: there is a step by it, with some charge and some bytes written
 abbrev pub Answers : {S : Type 0} → Rules S → Call → World S → Reply → World S → Type 0
 Answers rules call w reply w' =
-    (charge : ℕ) × (written : ℕ) × Step rules w (record { call = call; reply = reply; charge = charge; written = written }) w'
+    (charge : ℕ) × (written : ℕ)
+    × Step rules w (record { call = call; reply = reply; charge = charge; written = written }) w'
 
 -- the same by a call that charges and writes nothing and doesn't reach the limiter, whatever the limiter is
 abbrev pub AnswersAlone : {S : Type 0} → Rules S → Call → State → Reply → State → Type 0
 AnswersAlone {S} rules call s reply s' =
-    (limiter : S) → Step rules (world s limiter) (record { call = call; reply = reply; charge = 0; written = 0 }) (world s' limiter)
+    (limiter : S)
+    → Step rules (world s limiter) (record { call = call; reply = reply; charge = 0; written = 0 })
+    (world s' limiter)

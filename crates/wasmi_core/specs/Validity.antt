@@ -20,7 +20,8 @@ IsValidSlot Valid (Gone size) = Unit {0}
 abbrev pub IsValidSegment : SegmentValue → Type 0
 IsValidSegment segment = length segment.items ≤ most_items
 
--- memories and tables have valid types and as many whole pages and elements as these allow, segments aren't too long, and there are 16 registers
+-- memories and tables have valid types and as many whole pages and elements as these allow, segments aren't too long,
+-- and there are 16 registers
 pub record IsValid (s : State) : Type 0 where
   pub memories : All (IsValidSlot IsValidMemory) s.memories
   pub tables : All (IsValidSlot IsValidTable) s.tables

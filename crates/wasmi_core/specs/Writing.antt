@@ -43,12 +43,14 @@ amount_set call = 0
 abbrev pub amounts_set : List Turn → ℕ
 amounts_set turns = sum_by (λ turn. amount_set turn.call) turns
 
--- at a rate of so many bytes a fuel, no more is written than what was charged pays for, and less than a fuel's worth beyond it in each turn; and no more than all the fuel that there was
+-- at a rate of so many bytes a fuel, no more is written than what was charged pays for, and less than a fuel's worth
+-- beyond it in each turn; and no more than all the fuel that there was
 pub record IsBounded (rate fuel : ℕ) (turns : List Turn) : Type 0 where
   pub by_charges : bytes_written turns ≤ rate * charges_for_writing turns + writing_turns turns * (rate - 1)
   pub by_fuel : bytes_written turns ≤ rate * (fuel + amounts_set turns) + writing_turns turns * (rate - 1)
 
--- what was left before is what is left after turns and what they were charged; at a rate above 0, no more is written than what was spent pays for, and less than a fuel's worth beyond it in each turn
+-- what was left before is what is left after turns and what they were charged; at a rate above 0, no more is written
+-- than what was spent pays for, and less than a fuel's worth beyond it in each turn
 pub record IsSpent (rate before after : ℕ) (turns : List Turn) : Type 0 where
   pub charged : after + charges turns ≡ before
   pub written : 0 < rate → bytes_written turns ≤ rate * (before - after) + writing_turns turns * (rate - 1)

@@ -14,36 +14,39 @@ use wasmi_vector_ops::{
     UnaryOp, VectorLoadOp,
 };
 
-/// One call on a machine. Memories, tables, element segments and globals go by their indices, which count from 0 for
-/// each kind and aren't used again. Registers go by their numbers from 0 to 15; `dst` is the one that takes the result,
-/// and a refused call keeps it.
+/// One call on a machine. Memories, tables, element segments and globals go by their indices, which
+/// count from 0 for each kind and aren't used again. Registers go by their numbers from 0 to 15;
+/// `dst` is the one that takes the result, and a refused call keeps it.
 #[derive(Debug, Drop)]
 pub enum Call {
     /// Sets the fuel that is left: `Done`, or `Fuel` where metering is off.
     SetFuel(u64),
     /// The fuel that is left: `Number`, or `Fuel` where metering is off.
     GetFuel,
-    /// Makes a memory of zeros: `Made` with its index, `NoRoom` where its slot can't be had, or `Memory`.
+    /// Makes a memory of zeros: `Made` with its index, `NoRoom` where its slot can't be had, or
+    /// `Memory`.
     NewMemory(MemoryType),
-    /// Makes a memory of zeros at the front of the machine's spare region: `Made` with its index, `NoRegion` where there
-    /// is no spare region, `NoRoom` where its slot can't be had, or `Memory`. But for `NoRegion` and `NoRoom` the region
-    /// is spent.
+    /// Makes a memory of zeros at the front of the machine's spare region: `Made` with its index,
+    /// `NoRegion` where there is no spare region, `NoRoom` where its slot can't be had, or
+    /// `Memory`. But for `NoRegion` and `NoRoom` the region is spent.
     NewLentMemory(MemoryType),
     /// Grows a memory by so many pages: `Number` of the old size in pages, or `Memory`.
     GrowMemory {
         memory: usize,
         pages: u64,
     },
-    /// Drops a memory, whose bytes are given back; its size still counts in the machine's total: `Done`.
+    /// Drops a memory, whose bytes are given back; its size still counts in the machine's total:
+    /// `Done`.
     DropMemory(usize),
-    /// So many bytes of a memory: `Bytes`, `Memory` where they end past it, or then `NoRoom` where the reply's buffer
-    /// can't be had.
+    /// So many bytes of a memory: `Bytes`, `Memory` where they end past it, or then `NoRoom` where
+    /// the reply's buffer can't be had.
     Read {
         memory: usize,
         offset: usize,
         len: usize,
     },
-    /// Writes bytes over those of a memory from an offset on: `Done`, or `Memory` where they would end past it.
+    /// Writes bytes over those of a memory from an offset on: `Done`, or `Memory` where they would
+    /// end past it.
     Write {
         memory: usize,
         offset: usize,
@@ -64,7 +67,8 @@ pub enum Call {
         offset: u64,
         value: RawVal,
     },
-    /// Makes a table of one reference: `Made` with its index, `NoRoom` where its slot can't be had, or `Table`.
+    /// Makes a table of one reference: `Made` with its index, `NoRoom` where its slot can't be had,
+    /// or `Table`.
     NewTable {
         ty: TableType,
         init: TypedRawRef,
@@ -75,7 +79,8 @@ pub enum Call {
         delta: u64,
         init: TypedRawRef,
     },
-    /// Drops a table, whose elements are given back; its size still counts in the machine's total: `Done`.
+    /// Drops a table, whose elements are given back; its size still counts in the machine's total:
+    /// `Done`.
     DropTable(usize),
     /// The element of a table, if there is one: `Reference`.
     GetElement {
@@ -111,7 +116,8 @@ pub enum Call {
         value: TypedRawRef,
         len: u64,
     },
-    /// Makes an element segment: `Made` with its index, `NoRoom` where its slot can't be had, or `Segment`.
+    /// Makes an element segment: `Made` with its index, `NoRoom` where its slot can't be had, or
+    /// `Segment`.
     NewSegment {
         ty: RefType,
         items: Vec<RawRef>,
@@ -203,7 +209,8 @@ pub enum Call {
         ptr: u64,
         offset: u64,
     },
-    /// Loads a lane of a vector from a memory at `ptr + offset`: `Done`, or `Trap` where it ends past it.
+    /// Loads a lane of a vector from a memory at `ptr + offset`: `Done`, or `Trap` where it ends
+    /// past it.
     LoadLane {
         op: LoadLaneOp,
         dst: u8,
@@ -219,7 +226,8 @@ pub enum Call {
         ptr: u64,
         offset: u64,
     },
-    /// Stores a lane of a vector to a memory at `ptr + offset`: `Done`, or `Trap` where it would end past it.
+    /// Stores a lane of a vector to a memory at `ptr + offset`: `Done`, or `Trap` where it would
+    /// end past it.
     StoreLane {
         op: StoreLaneOp,
         a: u8,

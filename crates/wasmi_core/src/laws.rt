@@ -1,24 +1,25 @@
-//! What holds of all runs. These functions do nothing: each states a law as its contract, for any limiter, of which a
-//! run may also have none.
+//! What holds of all runs. These functions do nothing: each states a law as its contract, for any
+//! limiter, of which a run may also have none.
 ghost use Rattle.wasmi_meter.specs.Limiter.{optional_rules, unlimited_rules};
 ghost use Rattle.wasmi_meter.specs.declared.limiter.NoLimits.{NoLimits};
 ghost use Rattle.wasmi_meter.specs.Quota.{quota_rules};
-ghost use Rattle.wasmi_core.specs.Determinism.{IsDeterministic, HeedsAll};
+ghost use Rattle.wasmi_core.specs.Determinism.{IsDeterministic, AcceptsNotices};
 ghost use Rattle.wasmi_core.specs.Validity.{IsValid};
 ghost use Rattle.wasmi_core.specs.Laws.{RunsJoin, RunsOfCallsJoin, RefusalsKeepContents, RefusalsInRunsKeepContents, RefusedRunsKeepContents, GrowsAsPermitted, RunsGrowAsPermitted, RepliesPermit, RunsKeepValidity, ChargesAreSpent, QuotasStayWithin, FuelBalances, FuelBoundsWriting, HoldsTotalsAlways, LentRunsAreOwned, LentCreationsAreOwned, LentGrowthsSucceed, RunsAreOne, RepliesTell, RepliesAreOne};
 
 use crate::machine::Machine;
 use wasmi_meter::{Reserving, ResourceLimiter};
 
-/// Two runs in a row are one: of both lists of turns, and of both lists of calls with their replies. So what holds of
-/// each run holds of all that a machine is ever asked.
+/// Two runs in a row are one: of both lists of turns, and of both lists of calls with their
+/// replies. So what holds of each run holds of all that a machine is ever asked.
 pub fn runs_join<L: ResourceLimiter>()
     ensures turns { RunsJoin (optional_rules L.rules) }
     ensures calls { RunsOfCallsJoin (optional_rules L.rules) }
 {}
 
-/// In each turn that is refused the contents stay; the meter, unless the limiter was told of want of memory, which
-/// comes after the charge; and the spare region, unless a memory was to be made in it and a slot was there for it.
+/// In each turn that is refused the contents stay; the meter, unless the limiter was told of want
+/// of memory, which comes after the charge; and the spare region, unless a memory was to be made in
+/// it and a slot was there for it.
 ///
 /// So it is in each turn of a run, and a run in which each turn is refused keeps the contents.
 pub fn refusals_keep_contents<L: ResourceLimiter>()
@@ -27,9 +28,9 @@ pub fn refusals_keep_contents<L: ResourceLimiter>()
     ensures all_refused { RefusedRunsKeepContents (optional_rules L.rules) }
 {}
 
-/// In each turn a permission is followed by exactly the growth that was asked for, or by just one notice, and a denial
-/// by neither. A growth is charged only after a permission, at most once, and then what the growth that was asked for
-/// costs.
+/// In each turn a permission is followed by exactly the growth that was asked for, or by just one
+/// notice, and a denial by neither. A growth is charged only after a permission, at most once, and
+/// then what the growth that was asked for costs.
 ///
 /// A machine that is lent no limiter has each question permitted. So it is in each turn of a run.
 pub fn growths_are_permitted<L: ResourceLimiter>()
@@ -37,34 +38,37 @@ pub fn growths_are_permitted<L: ResourceLimiter>()
     ensures run { RunsGrowAsPermitted (optional_rules L.rules) }
 {}
 
-/// While metering is on, the fuel that is left and the charges since it was set last, or since the start of the run,
-/// are what was set then, or was left at the start.
+/// While metering is on, the fuel that is left and the charges since it was set last, or since the
+/// start of the run, are what was set then, or was left at the start.
 pub fn fuel_balances<L: ResourceLimiter>()
     ensures { FuelBalances (optional_rules L.rules) }
 {}
 
-/// While metering is on, calls that don't set the fuel were charged what was left before and isn't left after. At a rate
-/// above 0 that bounds the bytes that they have written by growing and copying: `IsSpent` gives each turn that writes less
-/// than one fuel's worth of bytes beyond what its charge pays for.
+/// While metering is on, calls that don't set the fuel were charged what was left before and isn't
+/// left after. At a rate above 0 that bounds the bytes that they have written by growing and
+/// copying: `IsSpent` gives each turn that writes less than one fuel's worth of bytes beyond what
+/// its charge pays for.
 pub fn charges_are_spent<L: ResourceLimiter>()
     ensures { ChargesAreSpent (optional_rules L.rules) }
 {}
 
-/// Every machine's state is valid: its memories and tables have valid types and as many whole pages and elements as these
-/// allow, its element segments are no longer than 2^32 - 1 items, and it has 16 registers.
+/// Every machine's state is valid: its memories and tables have valid types and as many whole pages
+/// and elements as these allow, its element segments are no longer than 2^32 - 1 items, and it has
+/// 16 registers.
 pub fn states_are_valid(machine: &Machine)
     ensures { IsValid machine.now }
 {
     machine.tell_valid();
 }
 
-/// A run of calls whose types are valid keeps a state valid. The types of a `Call` that code holds are.
+/// A run of calls whose types are valid keeps a state valid. The types of a `Call` that code holds
+/// are.
 pub fn runs_keep_validity<L: ResourceLimiter>()
     ensures { RunsKeepValidity (optional_rules L.rules) }
 {}
 
-/// A run of which no reply tells of a denial is one in which the limiter permitted each question. A growth out of bounds
-/// counts as one that tells of it, since both are told by one error.
+/// A run of which no reply tells of a denial is one in which the limiter permitted each question. A
+/// growth out of bounds counts as one that tells of it, since both are told by one error.
 pub fn replies_permit<L: ResourceLimiter>()
     ensures { RepliesPermit (optional_rules L.rules) }
 {}
@@ -79,62 +83,65 @@ pub fn totals_are_held<L: Reserving>()
     ensures { HoldsTotalsAlways L.rules L.Reserving.holdings }
 {}
 
-/// While metering is on at a rate above 0, the bytes that a run writes by growing and copying are bounded by the fuel
-/// that is charged for them, and so by the fuel that was left at its start and all amounts that were set.
+/// While metering is on at a rate above 0, the bytes that a run writes by growing and copying are
+/// bounded by the fuel that is charged for them, and so by the fuel that was left at its start and
+/// all amounts that were set.
 ///
-/// `IsBounded` gives each turn that writes less than one fuel's worth of bytes beyond what its charge pays for.
+/// `IsBounded` gives each turn that writes less than one fuel's worth of bytes beyond what its
+/// charge pays for.
 pub fn fuel_bounds_writing<L: ResourceLimiter>()
     ensures { FuelBoundsWriting (optional_rules L.rules) }
 {}
 
-/// A run that makes no memory in a lent region, and grows no memory past the region that it lies in, is a run of the
-/// same machine with memories of their own: the same replies, charges, written bytes and limiter.
+/// A run that makes no memory in a lent region, and grows no memory past the region that it lies
+/// in, is a run of the same machine with memories of their own: the same replies, charges, written
+/// bytes and limiter.
 ///
-/// `FitsRegions` says which calls these are: a growth past the region counts as one where it is refused before the
-/// limiter is asked.
+/// `FitsRegions` says which calls these are: a growth past the region counts as one where it is
+/// refused before the limiter is asked.
 pub fn lent_runs_are_owned<L: ResourceLimiter>()
     ensures { LentRunsAreOwned (optional_rules L.rules) }
 {}
 
-/// A memory that is made in a spare region of at least its minimum is made as one of its own, but for the room that it
-/// has and the spare region.
+/// A memory that is made in a spare region of at least its minimum is made as one of its own, but
+/// for the room that it has and the spare region.
 pub fn lent_creations_are_owned<L: ResourceLimiter>()
     ensures { LentCreationsAreOwned (optional_rules L.rules) }
 {}
 
-/// A growth of a lent memory that its type and its region have place for, and that can be paid, takes no memory: the
-/// limiter alone can refuse it.
+/// A growth of a lent memory that its type and its region have place for, and that can be paid,
+/// takes no memory: the limiter alone can refuse it.
 pub fn lent_growths_succeed<L: ResourceLimiter>()
     ensures { LentGrowthsSucceed (optional_rules L.rules) }
 {}
 
-/// Where the limiter leaves no choice, two runs of one list of calls from one machine and one limiter are one, if in
-/// neither of them memory is wanting: no reply and no notice tells of it.
+/// Where the limiter leaves no choice, two runs of one list of calls from one machine and one
+/// limiter are one, if in neither of them memory is wanting: no reply and no notice tells of it.
 pub fn runs_are_one<L: ResourceLimiter>()
     ensures { RunsAreOne L.rules }
 {}
 
-/// Where the limiter heeds each notice, a run whose replies tell of no want of memory is one in which nobody is told of
-/// it, as `runs_are_one` wants.
+/// Where the limiter accepts each notice, a run whose replies tell of no want of memory is one in
+/// which nobody is told of it, as `runs_are_one` wants.
 pub fn replies_tell<L: ResourceLimiter>()
     ensures { RepliesTell L.rules }
 {}
 
-/// Where the limiter leaves no choice and heeds each notice, two runs of one list of calls from one machine and one
-/// limiter have the same replies and lead to the same machine and limiter, if no reply tells of want of memory. Its
-/// premises are what `run` promises and what a caller sees.
+/// Where the limiter leaves no choice and accepts each notice, two runs of one list of calls from
+/// one machine and one limiter have the same replies and lead to the same machine and limiter, if
+/// no reply tells of want of memory. Its premises are what `run` promises and what a caller sees.
 pub fn replies_are_one<L: ResourceLimiter>()
     ensures { RepliesAreOne L.rules }
 {}
 
-/// The limiter that permits everything heeds each notice.
-pub fn no_limits_heed_all()
-    ensures { HeedsAll (unlimited_rules {S = NoLimits}) }
+/// The limiter that permits everything accepts each notice.
+pub fn no_limits_accept_notices()
+    ensures { AcceptsNotices (unlimited_rules {S = NoLimits}) }
 {}
 
-/// A quota heeds each notice.
-pub fn quota_heeds_all()
-    ensures { HeedsAll quota_rules }
+/// A quota accepts each notice.
+pub fn quota_accepts_notices()
+    ensures { AcceptsNotices quota_rules }
 {}
 
 /// The limiter that permits everything leaves no choice.

@@ -1,4 +1,5 @@
-//! Metered WebAssembly memories and tables under a resource limiter, and a machine that runs lists of calls on them.
+//! Metered WebAssembly memories and tables under a resource limiter, and a machine that runs lists
+//! of calls on them.
 #![tactic(auto)]
 
 mod calls;

@@ -6,7 +6,7 @@ ghost use Rattle.wasmi_meter.specs.LimiterRef.{lent_limiter, KeepsLoan};
 
 use crate::calls::{Call, Reply};
 use crate::store::Store;
-use crate::values::find;
+use crate::values::value_at;
 use std::alloc::Global as Allocator;
 use std::marker::Model;
 use wasmi_meter::{Fuel, ResourceLimiter, ResourceLimiterRef};
@@ -14,8 +14,9 @@ use wasmi_raw::RawVal;
 use wasmi_store::{ElementSegment, Memory, Table};
 use wasmi_typed::Global;
 
-/// Memories, tables, element segments and globals by their indices, 16 registers of raw values, one fuel meter, and at
-/// most one spare region of bytes, in which a memory can be made; `'r` is the loan of that region.
+/// Memories, tables, element segments and globals by their indices, 16 registers of raw values, one
+/// fuel meter, and at most one spare region of bytes, in which a memory can be made; `'r` is the
+/// loan of that region.
 ///
 /// Its state is valid at any time: see [`crate::laws::states_are_valid`].
 #[derive(Debug, Drop)]
@@ -51,8 +52,8 @@ impl<'r> Machine<'r> {
         }
     }
 
-    /// A machine with this meter and this spare region, on which nothing was made yet. It takes no memory, and leaves
-    /// the bytes of the region as they are.
+    /// A machine with this meter and this spare region, on which nothing was made yet. It takes no
+    /// memory, and leaves the bytes of the region as they are.
     pub fn with_region(alloc: Allocator, fuel: Fuel, region: &'r mut [u8]) -> Machine<'r>
         ensures { result ≡ with_spare (new_state fuel) region.entry.now }
     {
@@ -89,14 +90,14 @@ impl<'r> Machine<'r> {
     pub fn segment(&self, index: usize) -> Option<&ElementSegment>
         ensures { option_copied result ≡ slice_get self.now.segments index }
     {
-        find(&self.store.segments, index)
+        value_at(&self.store.segments, index)
     }
 
     /// The global of an index, if there is one.
     pub fn global(&self, index: usize) -> Option<&Global>
         ensures { option_copied result ≡ slice_get self.now.globals index }
     {
-        find(&self.store.globals, index)
+        value_at(&self.store.globals, index)
     }
 
     /// The value of a register, if there is one: their numbers are 0 to 15.
@@ -141,7 +142,8 @@ impl<'r> Machine<'r> {
     ) -> Reply
         ensures loan { KeepsLoan limiter.old limiter.new }
         ensures step { Answers (optional_rules L.rules) call.now
-            (world self.old (lent_limiter limiter.old)) result (world self.new (lent_limiter limiter.new)) }
+            (world self.old (lent_limiter limiter.old)) result
+            (world self.new (lent_limiter limiter.new)) }
         ensures valid { IsValid self.new }
     {
         call.tell_valid();

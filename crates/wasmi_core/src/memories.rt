@@ -7,9 +7,9 @@ ghost use Rattle.wasmi_store.specs.Buffer.{Owned};
 ghost use Rattle.wasmi_store.specs.Memory.{MakesMemory, GrowsMemory};
 ghost use Rattle.wasmi_vector_ops.specs.AccessOps.{stored_lane};
 ghost use Rattle.wasmi_core.specs.AccessOps.{stored_bytes};
-ghost use Rattle.wasmi_core.specs.Rows.{reply_of, ActsAt, Creates};
+ghost use Rattle.wasmi_core.specs.Effects.{reply_of, ActsAt, Creates};
 ghost use Rattle.std.specs.Option.{option_copied_mut};
-ghost use Rattle.wasmi_core.specs.MemoryRows.{CreatesLent, ReadsMemoryAt, ReadsBytes, WritesMemoryAt, LoadsMemoryAt, StoresMemoryAt, StoresMemory};
+ghost use Rattle.wasmi_core.specs.MemoryEffects.{CreatesLent, ReadsMemoryAt, ReadsBytes, WritesMemoryAt, LoadsMemoryAt, StoresMemoryAt, StoresMemory};
 ghost use Rattle.wasmi_types.specs.Access.{at};
 
 use crate::calls::{ByteList, Reply};
@@ -32,7 +32,9 @@ impl<'r> Slots<Memory<'r>> {
         limiter: &mut ResourceLimiterRef<L>,
     ) -> Reply
         ensures loan { KeepsLoan limiter.old limiter.new }
-        ensures made { Creates Reply.Memory (MakesMemory (optional_rules L.rules) Owned ty) self.old.slots.items (lent_limiter limiter.old) result self.new.slots.items (lent_limiter limiter.new) }
+        ensures made { Creates Reply.Memory
+            (MakesMemory (optional_rules L.rules) Owned ty) self.old.slots.items
+            (lent_limiter limiter.old) result self.new.slots.items (lent_limiter limiter.new) }
     {
         if !self.reserve() {
             return Reply::NoRoom;
@@ -43,7 +45,8 @@ impl<'r> Slots<Memory<'r>> {
         }
     }
 
-    /// Makes a memory in the spare region, in a new slot, which is reserved before the limiter is asked.
+    /// Makes a memory in the spare region, in a new slot, which is reserved before the limiter is
+    /// asked.
     pub(crate) fn create_lent<L: ResourceLimiter>(
         &mut self,
         ty: MemoryType,
@@ -52,8 +55,10 @@ impl<'r> Slots<Memory<'r>> {
     ) -> Reply
         ensures loan { KeepsLoan limiter.old limiter.new }
         ensures made { CreatesLent (optional_rules L.rules) ty
-            (record { slots = self.old.slots.items; spare = option_copied_mut spare.old }) (lent_limiter limiter.old) result
-            (record { slots = self.new.slots.items; spare = option_copied_mut spare.new }) (lent_limiter limiter.new) }
+            (record { slots = self.old.slots.items; spare = option_copied_mut spare.old })
+            (lent_limiter limiter.old) result
+            (record { slots = self.new.slots.items; spare = option_copied_mut spare.new })
+            (lent_limiter limiter.new) }
     {
         let Some(region) = spare.take() else {
             return Reply::NoRegion;
@@ -78,9 +83,19 @@ impl<'r> Slots<Memory<'r>> {
         limiter: &mut ResourceLimiterRef<L>,
     ) -> Reply
         ensures loan { KeepsLoan limiter.old limiter.new }
-        ensures grown { (charge : ℕ) × ActsAt index (reply_of Reply.Number Reply.Memory) (GrowsMemory (optional_rules L.rules) pages)
-            (record { value = self.old.slots.items; meter = Some fuel.old; limiter = lent_limiter limiter.old }) result charge
-            (record { value = self.new.slots.items; meter = Some fuel.new; limiter = lent_limiter limiter.new }) }
+        ensures grown { (charge : ℕ)
+            × ActsAt index (reply_of Reply.Number Reply.Memory)
+            (GrowsMemory (optional_rules L.rules) pages)
+            (record {
+              value = self.old.slots.items;
+              meter = Some fuel.old;
+              limiter = lent_limiter limiter.old;
+            }) result charge
+            (record {
+              value = self.new.slots.items;
+              meter = Some fuel.new;
+              limiter = lent_limiter limiter.new;
+            }) }
     {
         let Some(memory) = self.live_mut(index) else {
             return Reply::NoSuch;
@@ -103,7 +118,8 @@ impl<'r> Slots<Memory<'r>> {
 
     /// Writes into a memory.
     pub(crate) fn write(&mut self, index: usize, offset: usize, bytes: &[u8]) -> Reply
-        ensures { WritesMemoryAt index offset bytes.now self.old.slots.items result self.new.slots.items }
+        ensures { WritesMemoryAt index offset bytes.now self.old.slots.items result
+            self.new.slots.items }
     {
         let Some(memory) = self.live_mut(index) else {
             return Reply::NoSuch;
@@ -136,7 +152,8 @@ impl<'r> Slots<Memory<'r>> {
         offset: u64,
         value: RawVal,
     ) -> Reply
-        ensures { StoresMemoryAt index (ptr + offset) (stored_bytes op value) self.old.slots.items result self.new.slots.items }
+        ensures { StoresMemoryAt index (ptr + offset)
+            (stored_bytes op value) self.old.slots.items result self.new.slots.items }
     {
         let Some(memory) = self.live_mut(index) else {
             return Reply::NoSuch;
@@ -155,7 +172,8 @@ impl<'r> Slots<Memory<'r>> {
         ptr: u64,
         offset: u64,
     ) -> Reply
-        ensures { StoresMemoryAt index (ptr + offset) (le_bytes 16 vector) self.old.slots.items result self.new.slots.items }
+        ensures { StoresMemoryAt index (ptr + offset)
+            (le_bytes 16 vector) self.old.slots.items result self.new.slots.items }
     {
         let Some(memory) = self.live_mut(index) else {
             return Reply::NoSuch;
@@ -172,7 +190,8 @@ impl<'r> Slots<Memory<'r>> {
         ptr: u64,
         offset: u64,
     ) -> Reply
-        ensures { StoresMemoryAt index (ptr + offset) (stored_lane op vector) self.old.slots.items result self.new.slots.items }
+        ensures { StoresMemoryAt index (ptr + offset)
+            (stored_lane op vector) self.old.slots.items result self.new.slots.items }
     {
         let Some(memory) = self.live_mut(index) else {
             return Reply::NoSuch;

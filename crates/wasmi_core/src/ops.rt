@@ -1,4 +1,5 @@
-//! The scalar loads and stores as values: a variant for each function that takes a pointer and an offset.
+//! The scalar loads and stores as values: a variant for each function that takes a pointer and an
+//! offset.
 ghost use Rattle.std.specs.Prelude.{◌≡◌, ◌+◌};
 ghost use Rattle.wasmi_access.specs.LoadStore.{IsStore};
 ghost use Rattle.wasmi_core.specs.AccessOps.{loaded_raw, stored_bytes};
@@ -78,7 +79,8 @@ pub enum StoreOp {
 }
 
 impl StoreOp {
-    /// Stores a value at `ptr + offset`. The only error is `MemoryOutOfBounds`, and then nothing is written.
+    /// Stores a value at `ptr + offset`. The only error is `MemoryOutOfBounds`, and then nothing is
+    /// written.
     pub(crate) fn store(
         self,
         memory: &mut [u8],

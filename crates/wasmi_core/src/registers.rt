@@ -12,7 +12,7 @@ ghost use Rattle.wasmi_vector_ops.specs.TernaryOps.{ternary_vector};
 ghost use Rattle.wasmi_vector_ops.specs.TestOps.{tested_raw};
 ghost use Rattle.wasmi_vector_ops.specs.UnaryOps.{unary_vector};
 ghost use Rattle.wasmi_core.specs.AccessOps.{as_raw};
-ghost use Rattle.wasmi_core.specs.RegisterRows.{TakesRegister, given_vector, of_one, of_two, of_three, raw_reply, vector_at};
+ghost use Rattle.wasmi_core.specs.RegisterEffects.{TakesRegister, given_vector, of_one, of_two, of_three, raw_reply, vector_at};
 
 use crate::calls::Reply;
 use wasmi_lanes::ImmLaneIdx32;
@@ -72,7 +72,8 @@ impl Registers {
 
     /// Sets a register to a vector that was loaded, or keeps it where the load has trapped.
     fn set_loaded(&mut self, dst: u8, vector: Result<V128, TrapCode>) -> Reply
-        ensures { TakesRegister dst (Some (as_raw raw_of_vector vector)) self.old.values result self.new.values }
+        ensures { TakesRegister dst
+            (Some (as_raw raw_of_vector vector)) self.old.values result self.new.values }
     {
         match vector {
             Ok(vector) => self.set(dst, vector.into()),
@@ -93,7 +94,9 @@ impl Registers {
 
     /// Makes a vector of an item.
     pub(crate) fn make(&mut self, op: MakeOp, dst: u8, a: u8) -> Reply
-        ensures { TakesRegister dst (option_map (λ raw. given_vector (made_vector op raw)) (slice_get self.old.values a)) self.old.values result self.new.values }
+        ensures { TakesRegister dst
+            (option_map (λ raw. given_vector (made_vector op raw)) (slice_get self.old.values a))
+            self.old.values result self.new.values }
     {
         let Some(a) = self.get(a) else {
             return Reply::NoSuch;
@@ -103,7 +106,9 @@ impl Registers {
 
     /// An instruction of one vector.
     pub(crate) fn unary(&mut self, op: UnaryOp, dst: u8, a: u8) -> Reply
-        ensures { TakesRegister dst (of_one (unary_vector op) (vector_at self.old.values a)) self.old.values result self.new.values }
+        ensures { TakesRegister dst
+            (of_one (unary_vector op) (vector_at self.old.values a)) self.old.values result
+            self.new.values }
     {
         let Some(a) = self.vector(a) else {
             return Reply::NoSuch;
@@ -113,7 +118,9 @@ impl Registers {
 
     /// An instruction of two vectors.
     pub(crate) fn binary(&mut self, op: BinaryOp, dst: u8, a: u8, b: u8) -> Reply
-        ensures { TakesRegister dst (of_two (binary_vector op) (vector_at self.old.values a) (vector_at self.old.values b)) self.old.values result self.new.values }
+        ensures { TakesRegister dst
+            (of_two (binary_vector op) (vector_at self.old.values a) (vector_at self.old.values b))
+            self.old.values result self.new.values }
     {
         let (Some(a), Some(b)) = (self.vector(a), self.vector(b)) else {
             return Reply::NoSuch;
@@ -123,7 +130,10 @@ impl Registers {
 
     /// An instruction of three vectors.
     pub(crate) fn ternary(&mut self, op: TernaryOp, dst: u8, a: u8, b: u8, c: u8) -> Reply
-        ensures { TakesRegister dst (of_three (ternary_vector op) (vector_at self.old.values a) (vector_at self.old.values b) (vector_at self.old.values c)) self.old.values result self.new.values }
+        ensures { TakesRegister dst
+            (of_three (ternary_vector op) (vector_at self.old.values a)
+            (vector_at self.old.values b) (vector_at self.old.values c)) self.old.values result
+            self.new.values }
     {
         let (Some(a), Some(b), Some(c)) = (self.vector(a), self.vector(b), self.vector(c)) else {
             return Reply::NoSuch;
@@ -133,7 +143,9 @@ impl Registers {
 
     /// A shift of the lanes of a vector.
     pub(crate) fn shift(&mut self, op: ShiftOp, dst: u8, a: u8, amount: u32) -> Reply
-        ensures { TakesRegister dst (of_one (λ v. shifted_vector op v amount) (vector_at self.old.values a)) self.old.values result self.new.values }
+        ensures { TakesRegister dst
+            (of_one (λ v. shifted_vector op v amount) (vector_at self.old.values a)) self.old.values
+            result self.new.values }
     {
         let Some(a) = self.vector(a) else {
             return Reply::NoSuch;
@@ -163,7 +175,10 @@ impl Registers {
 
     /// A vector with an item in a lane.
     pub(crate) fn replace(&mut self, op: ReplaceOp, dst: u8, a: u8, item: u8) -> Reply
-        ensures { TakesRegister dst (option_and_then (λ raw. of_one (λ v. replaced_vector op v raw) (vector_at self.old.values a)) (slice_get self.old.values item)) self.old.values result self.new.values }
+        ensures { TakesRegister dst
+            (option_and_then
+            (λ raw. of_one (λ v. replaced_vector op v raw) (vector_at self.old.values a))
+            (slice_get self.old.values item)) self.old.values result self.new.values }
     {
         let (Some(a), Some(item)) = (self.vector(a), self.get(item)) else {
             return Reply::NoSuch;
@@ -173,7 +188,9 @@ impl Registers {
 
     /// Bytes of two vectors.
     pub(crate) fn shuffle(&mut self, dst: u8, a: u8, b: u8, lanes: [ImmLaneIdx32; 16]) -> Reply
-        ensures { TakesRegister dst (of_two (λ x y. shuffle x y lanes) (vector_at self.old.values a) (vector_at self.old.values b)) self.old.values result self.new.values }
+        ensures { TakesRegister dst
+            (of_two (λ x y. shuffle x y lanes) (vector_at self.old.values a)
+            (vector_at self.old.values b)) self.old.values result self.new.values }
     {
         let (Some(a), Some(b)) = (self.vector(a), self.vector(b)) else {
             return Reply::NoSuch;
@@ -190,7 +207,9 @@ impl Registers {
         ptr: u64,
         offset: u64,
     ) -> Reply
-        ensures { TakesRegister dst (Some (as_raw raw_of_vector (loaded_vector op memory.now (ptr + offset)))) self.old.values result self.new.values }
+        ensures { TakesRegister dst
+            (Some (as_raw raw_of_vector (loaded_vector op memory.now (ptr + offset))))
+            self.old.values result self.new.values }
     {
         self.set_loaded(dst, op.load(memory, ptr, offset))
     }
@@ -205,7 +224,9 @@ impl Registers {
         ptr: u64,
         offset: u64,
     ) -> Reply
-        ensures { TakesRegister dst (Some (as_raw raw_of_vector (loaded_lane op vector memory.now (ptr + offset)))) self.old.values result self.new.values }
+        ensures { TakesRegister dst
+            (Some (as_raw raw_of_vector (loaded_lane op vector memory.now (ptr + offset))))
+            self.old.values result self.new.values }
     {
         self.set_loaded(dst, op.load(memory, ptr, offset, vector))
     }

@@ -56,8 +56,8 @@ pub fn run_lending<L: ResourceLimiter>(
     replies
 }
 
-/// Answers calls in turn, as `run`, under a limiter that holds exactly what the machine has: it does so again
-/// afterwards.
+/// Answers calls in turn, as `run`, under a limiter that holds exactly what the machine has: it
+/// does so again afterwards.
 pub fn run_reserving<L: Reserving>(
     machine: &mut Machine,
     calls: &[Call],

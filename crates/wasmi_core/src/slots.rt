@@ -3,7 +3,7 @@ ghost use Rattle.std.specs.Prelude.{◌≡◌, ◌<◌, ◌++◌, ℕ, [], ◌�
 ghost use Rattle.std.specs.Borrow.{sem, Lends, LendsIf};
 ghost use Rattle.std.specs.Option.{option_copied, option_copied_mut};
 ghost use Rattle.std.specs.Vec.{vec_capacity};
-ghost use Rattle.wasmi_core.specs.Rows.{DropsAt};
+ghost use Rattle.wasmi_core.specs.Effects.{DropsAt};
 ghost use Rattle.wasmi_core.specs.State.{live_value, live_at, with_live};
 ghost use Rattle.wasmi_core.specs.Totals.{slot_count};
 ghost use Rattle.wasmi_core.specs.declared.slots.Slot.TheVariants.{Live};
@@ -105,7 +105,8 @@ impl<T> Slots<T> {
 
     /// The live value of an index, if there is one, to be changed.
     pub(crate) fn live_mut(&mut self, index: usize) -> Option<&mut T>
-        ensures* writes_back { sem 𝓛 (LendsIf (the_row T.row) T.row self.entry result (with_live self.old index) self.old) }
+        ensures* writes_back { sem 𝓛 (LendsIf (the_row T.row) T.row self.entry result
+            (with_live self.old index) self.old) }
         ensures value { option_copied_mut result ≡ live_at self.old.slots.items index }
     {
         if self.live(index).is_some() {

@@ -1,4 +1,5 @@
-//! The store of a machine: what was made, the registers and the meter, and what each call does to them.
+//! The store of a machine: what was made, the registers and the meter, and what each call does to
+//! them.
 ghost use Rattle.std.specs.Prelude.{◌≡◌};
 ghost use Rattle.wasmi_meter.specs.Limiter.{optional_rules};
 ghost use Rattle.wasmi_meter.specs.LimiterRef.{lent_limiter, KeepsLoan};
@@ -6,15 +7,15 @@ ghost use Rattle.wasmi_meter.specs.LimiterRef.{lent_limiter, KeepsLoan};
 use crate::calls::{Call, Reply};
 use crate::registers::Registers;
 use crate::slots::Slots;
-use crate::values::{create_global, create_segment, drop_items, find, get_global, set_global};
+use crate::values::{create_global, create_segment, drop_items, get_global, set_global, value_at};
 use std::alloc::Global as Allocator;
 use std::marker::Model;
 use wasmi_meter::{Fuel, ResourceLimiter, ResourceLimiterRef};
 use wasmi_store::{ElementSegment, ElementSegmentRef, Memory, Table};
 use wasmi_typed::Global;
 
-/// Memories, tables, element segments and globals by their indices, registers, the meter, and the spare region, if
-/// there is one.
+/// Memories, tables, element segments and globals by their indices, registers, the meter, and the
+/// spare region, if there is one.
 ///
 /// Core specification, the store.
 #[derive(Debug, Drop)]
@@ -48,7 +49,7 @@ impl<'r> Model for Store<'r> {
 
 impl<'r> Store<'r> {
     ghost use Rattle.wasmi_core.specs.State.{new_state};
-    ghost use Rattle.wasmi_core.specs.FuelRows.{SetsFuel, get_fuel_reply};
+    ghost use Rattle.wasmi_core.specs.FuelEffects.{SetsFuel, get_fuel_reply};
     ghost use Rattle.wasmi_core.specs.Steps.{Answers, AnswersAlone, subject_of, Memories, Tables, RegisterFile, Vectors};
     ghost use Rattle.wasmi_core.specs.World.{world};
 
@@ -95,7 +96,8 @@ impl<'r> Store<'r> {
     ) -> Reply
         ensures loan { KeepsLoan limiter.old limiter.new }
         ensures step { Answers (optional_rules L.rules) call.now
-            (world self.old (lent_limiter limiter.old)) result (world self.new (lent_limiter limiter.new)) }
+            (world self.old (lent_limiter limiter.old)) result
+            (world self.new (lent_limiter limiter.new)) }
     {
         match call {
             Call::SetFuel(fuel) => self.set_fuel(*fuel),
@@ -140,7 +142,8 @@ impl<'r> Store<'r> {
         requires { subject_of call.now ≡ Memories }
         ensures loan { KeepsLoan limiter.old limiter.new }
         ensures step { Answers (optional_rules L.rules) call.now
-            (world self.old (lent_limiter limiter.old)) result (world self.new (lent_limiter limiter.new)) }
+            (world self.old (lent_limiter limiter.old)) result
+            (world self.new (lent_limiter limiter.new)) }
     {
         match call {
             Call::NewMemory(ty) => self.memories.create(self.alloc, *ty, limiter),
@@ -185,7 +188,8 @@ impl<'r> Store<'r> {
         requires { subject_of call.now ≡ Tables }
         ensures loan { KeepsLoan limiter.old limiter.new }
         ensures step { Answers (optional_rules L.rules) call.now
-            (world self.old (lent_limiter limiter.old)) result (world self.new (lent_limiter limiter.new)) }
+            (world self.old (lent_limiter limiter.old)) result
+            (world self.new (lent_limiter limiter.new)) }
     {
         match call {
             Call::NewTable { ty, init } => self.tables.create(self.alloc, *ty, *init, limiter),
@@ -207,7 +211,7 @@ impl<'r> Store<'r> {
                 src,
                 len,
             } => {
-                let Some(segment) = find(&self.segments, *segment) else {
+                let Some(segment) = value_at(&self.segments, *segment) else {
                     return Reply::NoSuch;
                 };
                 self.tables.init(
@@ -259,7 +263,8 @@ impl<'r> Store<'r> {
         }
     }
 
-    /// Answers one load or store of a vector, which doesn't reach the limiter: only the contract names `L`.
+    /// Answers one load or store of a vector, which doesn't reach the limiter: only the contract
+    /// names `L`.
     fn step_vector_access<L: ResourceLimiter>(&mut self, call: &Call) -> Reply
         requires { subject_of call.now ≡ Vectors }
         ensures { AnswersAlone (optional_rules L.rules) call.now self.old result self.new }

@@ -4,8 +4,8 @@ ghost use Rattle.wasmi_meter.specs.Limiter.{optional_rules};
 ghost use Rattle.wasmi_meter.specs.LimiterRef.{lent_limiter, KeepsLoan};
 ghost use Rattle.wasmi_store.specs.Segment.{segment_of};
 ghost use Rattle.wasmi_store.specs.Table.{MakesTable, GrowsTable};
-ghost use Rattle.wasmi_core.specs.Rows.{reply_of, ActsAt, Creates};
-ghost use Rattle.wasmi_core.specs.TableRows.{GetsElementAt, SetsElementAt, WritesTableAt, WritesTableFrom, filling, copy_from, initialization_from, metered, CopiesSlot};
+ghost use Rattle.wasmi_core.specs.Effects.{reply_of, ActsAt, Creates};
+ghost use Rattle.wasmi_core.specs.TableEffects.{GetsElementAt, SetsElementAt, WritesTableAt, WritesTableFrom, filling, copy_from, initialization_from, metered, CopiesSlot};
 ghost use Rattle.wasmi_core.specs.State.{live_at};
 
 use crate::calls::Reply;
@@ -25,7 +25,9 @@ impl Slots<Table> {
         limiter: &mut ResourceLimiterRef<L>,
     ) -> Reply
         ensures loan { KeepsLoan limiter.old limiter.new }
-        ensures made { Creates Reply.Table (MakesTable (optional_rules L.rules) ty init) self.old.slots.items (lent_limiter limiter.old) result self.new.slots.items (lent_limiter limiter.new) }
+        ensures made { Creates Reply.Table
+            (MakesTable (optional_rules L.rules) ty init) self.old.slots.items
+            (lent_limiter limiter.old) result self.new.slots.items (lent_limiter limiter.new) }
     {
         if !self.reserve() {
             return Reply::NoRoom;
@@ -46,9 +48,19 @@ impl Slots<Table> {
         limiter: &mut ResourceLimiterRef<L>,
     ) -> Reply
         ensures loan { KeepsLoan limiter.old limiter.new }
-        ensures grown { (charge : ℕ) × ActsAt index (reply_of Reply.Number Reply.Table) (GrowsTable (optional_rules L.rules) delta init)
-            (record { value = self.old.slots.items; meter = Some fuel.old; limiter = lent_limiter limiter.old }) result charge
-            (record { value = self.new.slots.items; meter = Some fuel.new; limiter = lent_limiter limiter.new }) }
+        ensures grown { (charge : ℕ)
+            × ActsAt index (reply_of Reply.Number Reply.Table)
+            (GrowsTable (optional_rules L.rules) delta init)
+            (record {
+              value = self.old.slots.items;
+              meter = Some fuel.old;
+              limiter = lent_limiter limiter.old;
+            }) result charge
+            (record {
+              value = self.new.slots.items;
+              meter = Some fuel.new;
+              limiter = lent_limiter limiter.new;
+            }) }
     {
         let Some(table) = self.live_mut(index) else {
             return Reply::NoSuch;
@@ -71,7 +83,8 @@ impl Slots<Table> {
 
     /// Sets an element of a table.
     pub(crate) fn set(&mut self, index: usize, element: u64, value: TypedRawRef) -> Reply
-        ensures { SetsElementAt index element value self.old.slots.items result self.new.slots.items }
+        ensures { SetsElementAt index element value self.old.slots.items result
+            self.new.slots.items }
     {
         let Some(table) = self.live_mut(index) else {
             return Reply::NoSuch;
@@ -89,7 +102,8 @@ impl Slots<Table> {
         fuel: &mut Fuel,
     ) -> Reply
         ensures { (charge : ℕ) × WritesTableAt index (filling dst value len)
-            (metered self.old.slots.items fuel.old) result charge (metered self.new.slots.items fuel.new) }
+            (metered self.old.slots.items fuel.old) result charge
+            (metered self.new.slots.items fuel.new) }
     {
         let Some(table) = self.live_mut(index) else {
             return Reply::NoSuch;
@@ -107,8 +121,10 @@ impl Slots<Table> {
         len: u32,
         fuel: &mut Fuel,
     ) -> Reply
-        ensures { (charge : ℕ) × WritesTableAt index (initialization_from dst src len (segment_of segment.entry))
-            (metered self.old.slots.items fuel.old) result charge (metered self.new.slots.items fuel.new) }
+        ensures { (charge : ℕ)
+            × WritesTableAt index (initialization_from dst src len (segment_of segment.entry))
+            (metered self.old.slots.items fuel.old) result charge
+            (metered self.new.slots.items fuel.new) }
     {
         let Some(table) = self.live_mut(index) else {
             return Reply::NoSuch;
@@ -126,8 +142,11 @@ impl Slots<Table> {
         len: u64,
         fuel: &mut Fuel,
     ) -> Reply
-        ensures { (charge : ℕ) × WritesTableFrom (live_at self.old.slots.items src_index) dst_index (copy_from dst src len)
-            (metered self.old.slots.items fuel.old) result charge (metered self.new.slots.items fuel.new) }
+        ensures { (charge : ℕ)
+            × WritesTableFrom (live_at self.old.slots.items src_index) dst_index
+            (copy_from dst src len)
+            (metered self.old.slots.items fuel.old) result charge
+            (metered self.new.slots.items fuel.new) }
     {
         if dst_index == src_index {
             return self.copy_within(dst_index, dst, src, len, fuel);
@@ -135,13 +154,15 @@ impl Slots<Table> {
         if dst_index >= self.slots.len() || src_index >= self.slots.len() {
             return Reply::NoSuch;
         }
-        let part = Part { dst, src, len };
+        let part = CopyRange { dst, src, len };
         copy_between(self.slots.as_mut_slice(), dst_index, src_index, part, fuel)
     }
 
     fn copy_within(&mut self, index: usize, dst: u64, src: u64, len: u64, fuel: &mut Fuel) -> Reply
-        ensures { (charge : ℕ) × WritesTableFrom (live_at self.old.slots.items index) index (copy_from dst src len)
-            (metered self.old.slots.items fuel.old) result charge (metered self.new.slots.items fuel.new) }
+        ensures { (charge : ℕ)
+            × WritesTableFrom (live_at self.old.slots.items index) index (copy_from dst src len)
+            (metered self.old.slots.items fuel.old) result charge
+            (metered self.new.slots.items fuel.new) }
     {
         let Some(table) = self.live_mut(index) else {
             return Reply::NoSuch;
@@ -152,7 +173,7 @@ impl Slots<Table> {
 
 /// Which elements are copied to where.
 #[derive(Clone, Copy)]
-struct Part {
+struct CopyRange {
     dst: u64,
     src: u64,
     len: u64,
@@ -163,13 +184,15 @@ fn copy_between(
     slots: &mut [Slot<Table>],
     dst_index: usize,
     src_index: usize,
-    part: Part,
+    part: CopyRange,
     fuel: &mut Fuel,
 ) -> Reply
     requires dst { dst_index < length slots.old }
     requires src { src_index < length slots.old }
     requires other { dst_index ≢ src_index }
-    ensures { (charge : ℕ) × WritesTableFrom (live_at slots.old src_index) dst_index (copy_from part.dst part.src part.len)
+    ensures { (charge : ℕ)
+        × WritesTableFrom (live_at slots.old src_index) dst_index
+        (copy_from part.dst part.src part.len)
         (metered slots.old fuel.old) result charge (metered slots.new fuel.new) }
 {
     if dst_index < src_index {
@@ -182,14 +205,19 @@ fn copy_between(
 }
 
 /// Copies a part of the table in a slot to that in another one.
-fn copy_slot(slot: &mut Slot<Table>, source: &Slot<Table>, part: Part, fuel: &mut Fuel) -> Reply
+fn copy_slot(
+    slot: &mut Slot<Table>,
+    source: &Slot<Table>,
+    part: CopyRange,
+    fuel: &mut Fuel,
+) -> Reply
     ensures { (charge : ℕ) × CopiesSlot (copy_from part.dst part.src part.len) source.now
         (record { value = slot.old; meter = Some fuel.old; limiter = tt }) result charge
         (record { value = slot.new; meter = Some fuel.new; limiter = tt }) }
 {
     match (slot, source) {
         (Slot::Live(table), Slot::Live(source)) => {
-            let Part { dst, src, len } = part;
+            let CopyRange { dst, src, len } = part;
             done(Table::copy(table, dst, source, src, len, Some(fuel)))
         }
         _ => Reply::NoSuch,

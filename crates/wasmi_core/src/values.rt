@@ -1,7 +1,7 @@
 //! The element segments and globals of a machine, by their indices.
 ghost use Rattle.std.specs.Prelude.{◌≡◌, slice_get};
 ghost use Rattle.std.specs.Option.{option_copied};
-ghost use Rattle.wasmi_core.specs.ValueRows.{CreatesSegment, DropsItemsAt, CreatesGlobal, SetsGlobalAt, GetsGlobalAt, IsSegmentOf};
+ghost use Rattle.wasmi_core.specs.ValueEffects.{CreatesSegment, DropsItemsAt, CreatesGlobal, SetsGlobalAt, GetsGlobalAt, IsSegmentOf};
 
 use crate::calls::Reply;
 use std::alloc::Global as Allocator;
@@ -11,7 +11,7 @@ use wasmi_typed::{Global, GlobalType, TypedRawVal};
 use wasmi_types::RefType;
 
 /// The element segment or global of an index, if there is one.
-pub(crate) fn find<T>(values: &[T], index: usize) -> Option<&T>
+pub(crate) fn value_at<T>(values: &[T], index: usize) -> Option<&T>
     ensures { option_copied result ≡ slice_get values.now index }
 {
     values.get(index)
@@ -59,7 +59,8 @@ pub(crate) fn drop_items(segments: &mut Vec<ElementSegment>, index: usize) -> Re
 
 /// Makes a global.
 pub(crate) fn create_global(globals: &mut Vec<Global>, value: RawVal, ty: GlobalType) -> Reply
-    ensures { CreatesGlobal (record { value = value; ty = ty }) globals.old.items result globals.new.items }
+    ensures { CreatesGlobal
+        (record { value = value; ty = ty }) globals.old.items result globals.new.items }
 {
     if globals.try_reserve(1).is_err() {
         return Reply::NoRoom;

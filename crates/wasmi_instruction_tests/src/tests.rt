@@ -14,7 +14,8 @@ mod lanewise;
 mod scalar;
 mod simd;
 
-/// Compares an answer with what it has to be. The comparison is proved here once, and not in each test.
+/// Compares an answer with what it has to be. The comparison is proved here once, and not in each
+/// test.
 fn same<T>(rt: &impl Abort, what: &str, answer: T, expected: T)
 where
     T: PartialEq + Debug + Drop,

@@ -6,7 +6,8 @@ use Rattle.std.proofs.Math.Nat.{div-eq_of_lt, zero-mul}
 use Rattle.wasmi_lanes.specs.Words.{field, IsLane, AreLanes, word_of_lanes}
 
 -- the bits of v from start on, put together of their lanes
-from_fields : (v start : ℕ) (widths : List ℕ) → v < 2 ^ 64 → start + sum widths ≡ 64 → word_of_lanes (λ k w. field k w v) start widths ≡ v / 2 ^ start * 2 ^ start
+from_fields : (v start : ℕ) (widths : List ℕ) → v < 2 ^ 64 → start + sum widths ≡ 64
+    → word_of_lanes (λ k w. field k w v) start widths ≡ v / 2 ^ start * 2 ^ start
 unfolding field
 from_fields v start [] fits whole =
     let end : start ≡ 64 = omega arith in
@@ -17,26 +18,32 @@ from_fields v start (width ∷ widths) fits whole =
     let x : ℕ = v / p in
     let above : v / 2 ^ (start + width) ≡ x / q = sym (shr-shr v start width) in
     let place : 2 ^ (start + width) ≡ p * q = pow-add 2 start width in
-    let rest : word_of_lanes (λ k w. field k w v) (start + width) widths ≡ v / 2 ^ (start + width) * 2 ^ (start + width) = from_fields v (start + width) widths fits (omega (arith, sum_by-cons (λ x. x) width widths)) in
+    let rest : word_of_lanes (λ k w. field k w v) (start + width) widths
+    ≡ v / 2 ^ (start + width) * 2 ^ (start + width) =
+    from_fields v (start + width) widths fits (omega (arith, sum_by-cons (λ x. x) width widths)) in
     let moved : x / q * (p * q) ≡ x / q * q * p = ap (λ n. x / q * n) (mul_comm p q) ∙ sym (mul_assoc (x / q) q p) in
     ap (λ n. x % q * p + n) (rest ∙ ap₂ ◌*◌ above place ∙ moved)
     ∙ omega (arith, add-mul (x / q * q) (x % q) p, ap (λ n. n * p) (div-add-mod' x q))
 
-pub word_from_lanes : (v : ℕ) (widths : List ℕ) → v < 2 ^ 64 → sum widths ≡ 64 → v ≡ word_of_lanes (λ k w. field k w v) 0 widths
+pub word_from_lanes : (v : ℕ) (widths : List ℕ) → v < 2 ^ 64 → sum widths ≡ 64
+    → v ≡ word_of_lanes (λ k w. field k w v) 0 widths
 word_from_lanes v widths fits whole = sym (from_fields v 0 widths fits (omega arith) ∙ mul-one (v / 1) ∙ div-one v)
 
 widths_of_lanes : (tops start : ℕ) (widths : List ℕ) → AreLanes tops start widths → start + sum widths ≡ 64
 widths_of_lanes tops start [] end = omega arith
-widths_of_lanes tops start (width ∷ widths) lanes = omega (arith, widths_of_lanes tops (start + width) widths lanes.1, sum_by-cons (λ x. x) width widths)
+widths_of_lanes tops start (width ∷ widths) lanes =
+    omega (arith, widths_of_lanes tops (start + width) widths lanes.1, sum_by-cons (λ x. x) width widths)
 
-same_lanes : (tops start : ℕ) (widths : List ℕ) (f g : ℕ → ℕ → ℕ) → ((k w : ℕ) → IsLane tops k w → f k w ≡ g k w) → AreLanes tops start widths
+same_lanes : (tops start : ℕ) (widths : List ℕ) (f g : ℕ → ℕ → ℕ) → ((k w : ℕ) → IsLane tops k w → f k w ≡ g k w)
+    → AreLanes tops start widths
     → word_of_lanes f start widths ≡ word_of_lanes g start widths
 same_lanes tops start [] f g each end = refl
 same_lanes tops start (width ∷ widths) f g each lanes =
     ap₂ (λ m n. m * 2 ^ start + n) (each start width lanes.0) (same_lanes tops (start + width) widths f g each lanes.1)
 
 -- a word whose lanes of tops are f is the word of the lanes f
-pub lanes_make_word : (tops v : ℕ) (widths : List ℕ) (f : ℕ → ℕ → ℕ) → v < 2 ^ 64 → AreLanes tops 0 widths → ((k w : ℕ) → IsLane tops k w → field k w v ≡ f k w)
+pub lanes_make_word : (tops v : ℕ) (widths : List ℕ) (f : ℕ → ℕ → ℕ) → v < 2 ^ 64 → AreLanes tops 0 widths
+    → ((k w : ℕ) → IsLane tops k w → field k w v ≡ f k w)
     → v ≡ word_of_lanes f 0 widths
 lanes_make_word tops v widths f fits lanes each =
     let whole : sum widths ≡ 64 = omega (arith, widths_of_lanes tops 0 widths lanes) in

@@ -25,7 +25,8 @@ field_xor k w a b = ap (λ n. n % 2 ^ w) (xor_shr a b k) ∙ xor_mod (a / 2 ^ k)
 
 shr_add : (k a b : ℕ) → a % 2 ^ k + b % 2 ^ k < 2 ^ k → (a + b) / 2 ^ k ≡ a / 2 ^ k + b / 2 ^ k
 shr_add k a b h =
-    let parts : a + b ≡ (a / 2 ^ k + b / 2 ^ k) * 2 ^ k + (a % 2 ^ k + b % 2 ^ k) = omega (arith, div-add-mod' a (2 ^ k), div-add-mod' b (2 ^ k), add-mul (a / 2 ^ k) (b / 2 ^ k) (2 ^ k)) in
+    let parts : a + b ≡ (a / 2 ^ k + b / 2 ^ k) * 2 ^ k + (a % 2 ^ k + b % 2 ^ k) =
+    omega (arith, div-add-mod' a (2 ^ k), div-add-mod' b (2 ^ k), add-mul (a / 2 ^ k) (b / 2 ^ k) (2 ^ k)) in
     ap (λ n. n / 2 ^ k) parts ∙ div-mul-add (a / 2 ^ k + b / 2 ^ k) (2 ^ k) (a % 2 ^ k + b % 2 ^ k) h
 
 pub field_of_zero : (k w : ℕ) → field k w 0 ≡ 0
@@ -43,7 +44,8 @@ low_sub k a b le low =
     let p : ℕ = 2 ^ k in
     let high : b / p ≤ a / p = shr_mono k le in
     let c : ℕ = a / p - b / p in
-    let rows : a / p * p ≡ c * p + b / p * p = ap (λ n. n * p) (let e : a / p ≡ c + b / p = omega arith in e) ∙ add-mul c (b / p) p in
+    let rows : a / p * p ≡ c * p + b / p * p =
+    ap (λ n. n * p) (let e : a / p ≡ c + b / p = omega arith in e) ∙ add-mul c (b / p) p in
     let split-a : a / p * p + a % p ≡ a = div-add-mod' a p in
     let split-b : b / p * p + b % p ≡ b = div-add-mod' b p in
     let below : a % p < p = mod-lt a (pow_pos k) in
@@ -65,7 +67,8 @@ wrap_sub q a b c pos e =
     sym (add-mul-mod_self_right c (b / q + 1) q) ∙ ap (λ n. n % q) (sym whole) ∙ sym (mod-add-mod a q (q - b % q))
 
 -- nothing is borrowed from the field below
-pub field_sub : (k w a b : ℕ) → b ≤ a → b % 2 ^ k ≤ a % 2 ^ k → field k w (a - b) ≡ (field k w a + (2 ^ w - field k w b)) % 2 ^ w
+pub field_sub : (k w a b : ℕ) → b ≤ a → b % 2 ^ k ≤ a % 2 ^ k
+    → field k w (a - b) ≡ (field k w a + (2 ^ w - field k w b)) % 2 ^ w
 unfolding field
 field_sub k w a b le low = wrap_sub (2 ^ w) (a / 2 ^ k) (b / 2 ^ k) ((a - b) / 2 ^ k) (pow_pos w) (shr_sub k a b le low)
 
@@ -77,23 +80,27 @@ field_mod k w n a within =
     let e : n ≡ (i + w) + k = omega arith in
     ap (λ m. a % 2 ^ m / 2 ^ k % 2 ^ w) e ∙ ap (λ m. m % 2 ^ w) (field_of a (i + w) k) ∙ mod-mod-pow (a / 2 ^ k) i w
 
-complement : (j k v : ℕ) → v < 2 ^ (j + k) → 2 ^ (j + k) - 1 - v ≡ (2 ^ j - 1 - v / 2 ^ k) * 2 ^ k + (2 ^ k - 1 - v % 2 ^ k)
+complement : (j k v : ℕ) → v < 2 ^ (j + k)
+    → 2 ^ (j + k) - 1 - v ≡ (2 ^ j - 1 - v / 2 ^ k) * 2 ^ k + (2 ^ k - 1 - v % 2 ^ k)
 complement j k v fits =
     let d : ℕ = 2 ^ j - 1 - v / 2 ^ k in
     let high : v / 2 ^ k < 2 ^ j = shr_below v j k fits in
     let low : v % 2 ^ k < 2 ^ k = mod-lt v (pow_pos k) in
     let all : d + v / 2 ^ k ≡ 2 ^ j - 1 = omega arith in
-    let rows : (2 ^ j - 1) * 2 ^ k ≡ d * 2 ^ k + v / 2 ^ k * 2 ^ k = ap (λ n. n * 2 ^ k) (sym all) ∙ add-mul d (v / 2 ^ k) (2 ^ k) in
+    let rows : (2 ^ j - 1) * 2 ^ k ≡ d * 2 ^ k + v / 2 ^ k * 2 ^ k =
+    ap (λ n. n * 2 ^ k) (sym all) ∙ add-mul d (v / 2 ^ k) (2 ^ k) in
     let parts : v / 2 ^ k * 2 ^ k + v % 2 ^ k ≡ v = div-add-mod' v (2 ^ k) in
     omega (arith, ones_split j k, rows, parts)
 
 complement_shr : (j k v : ℕ) → v < 2 ^ (j + k) → (2 ^ (j + k) - 1 - v) / 2 ^ k ≡ 2 ^ j - 1 - v / 2 ^ k
 complement_shr j k v fits =
-    ap (λ n. n / 2 ^ k) (complement j k v fits) ∙ div-mul-add (2 ^ j - 1 - v / 2 ^ k) (2 ^ k) (2 ^ k - 1 - v % 2 ^ k) (omega (arith, pow_pos k))
+    ap (λ n. n / 2 ^ k) (complement j k v fits)
+    ∙ div-mul-add (2 ^ j - 1 - v / 2 ^ k) (2 ^ k) (2 ^ k - 1 - v % 2 ^ k) (omega (arith, pow_pos k))
 
 complement_mod : (j k v : ℕ) → v < 2 ^ (j + k) → (2 ^ (j + k) - 1 - v) % 2 ^ k ≡ 2 ^ k - 1 - v % 2 ^ k
 complement_mod j k v fits =
-    ap (λ n. n % 2 ^ k) (complement j k v fits) ∙ mod-mul-add (2 ^ j - 1 - v / 2 ^ k) (2 ^ k) (2 ^ k - 1 - v % 2 ^ k) (omega (arith, pow_pos k))
+    ap (λ n. n % 2 ^ k) (complement j k v fits)
+    ∙ mod-mul-add (2 ^ j - 1 - v / 2 ^ k) (2 ^ k) (2 ^ k - 1 - v % 2 ^ k) (omega (arith, pow_pos k))
 
 -- `!v` at n bits
 pub field_not : (k w n v : ℕ) → k + w ≤ n → v < 2 ^ n → field k w (2 ^ n - 1 - v) ≡ 2 ^ w - 1 - field k w v
@@ -102,10 +109,12 @@ field_not k w n v within fits =
     let i : ℕ = n - (k + w) in
     let e : n ≡ (i + w) + k = omega arith in
     let fits' : v < 2 ^ ((i + w) + k) = subst (λ m. v < 2 ^ m) e fits in
-    ap (λ m. (2 ^ m - 1 - v) / 2 ^ k % 2 ^ w) e ∙ ap (λ m. m % 2 ^ w) (complement_shr (i + w) k v fits') ∙ complement_mod i w (v / 2 ^ k) (shr_below v (i + w) k fits')
+    ap (λ m. (2 ^ m - 1 - v) / 2 ^ k % 2 ^ w) e ∙ ap (λ m. m % 2 ^ w) (complement_shr (i + w) k v fits')
+    ∙ complement_mod i w (v / 2 ^ k) (shr_below v (i + w) k fits')
 
 -- a difference modulo 2 ^ n
-pub field_wrapping_sub : (k w n a b : ℕ) → k + w ≤ n → b < 2 ^ n → b % 2 ^ k ≤ a % 2 ^ k → field k w ((a + (2 ^ n - b)) % 2 ^ n) ≡ (field k w a + (2 ^ w - field k w b)) % 2 ^ w
+pub field_wrapping_sub : (k w n a b : ℕ) → k + w ≤ n → b < 2 ^ n → b % 2 ^ k ≤ a % 2 ^ k
+    → field k w ((a + (2 ^ n - b)) % 2 ^ n) ≡ (field k w a + (2 ^ w - field k w b)) % 2 ^ w
 field_wrapping_sub k w n a b within fits low =
     let p : ℕ = 2 ^ n in
     let sum : a + (p - b) ≡ (a + p) - b = omega arith in
@@ -114,8 +123,10 @@ field_wrapping_sub k w n a b within fits low =
     let e : n ≡ i + k = omega arith in
     let lower : (v : ℕ) → v % p % 2 ^ k ≡ v % 2 ^ k = λ v. ap (λ m. v % 2 ^ m % 2 ^ k) e ∙ mod-mod-pow v i k in
     let base : (a + p) % 2 ^ k ≡ a % 2 ^ k = sym (lower (a + p)) ∙ ap (λ m. m % 2 ^ k) same ∙ lower a in
-    let high : field k w (a + p) ≡ field k w a = sym (field_mod k w n (a + p) within) ∙ ap (field k w) same ∙ field_mod k w n a within in
-    field_mod k w n (a + (p - b)) within ∙ ap (field k w) sum ∙ field_sub k w (a + p) b (omega arith) (omega arith) ∙ ap (λ m. (m + (2 ^ w - field k w b)) % 2 ^ w) high
+    let high : field k w (a + p) ≡ field k w a =
+    sym (field_mod k w n (a + p) within) ∙ ap (field k w) same ∙ field_mod k w n a within in
+    field_mod k w n (a + (p - b)) within ∙ ap (field k w) sum ∙ field_sub k w (a + p) b (omega arith) (omega arith)
+    ∙ ap (λ m. (m + (2 ^ w - field k w b)) % 2 ^ w) high
 
 -- ---- lanes of one width, the first at 0
 
@@ -135,7 +146,8 @@ next_lane w i v =
 pub repeated_lane : (w n i x : ℕ) → x < 2 ^ w → i < n → field (w * i) w (number_l (2 ^ w) (replicate n x)) ≡ x
 repeated_lane w zero i x fits lt = absurd (omega arith)
 repeated_lane w (suc n) zero x fits lt =
-    first_lane w (x + 2 ^ w * number_l (2 ^ w) (replicate n x)) ∙ add-mul-mod_self_left x (2 ^ w) (number_l (2 ^ w) (replicate n x)) ∙ mod-eq_of_lt fits
+    first_lane w (x + 2 ^ w * number_l (2 ^ w) (replicate n x))
+    ∙ add-mul-mod_self_left x (2 ^ w) (number_l (2 ^ w) (replicate n x)) ∙ mod-eq_of_lt fits
 repeated_lane w (suc n) (suc i) x fits lt =
     let rest : ℕ = number_l (2 ^ w) (replicate n x) in
     let turned : x + 2 ^ w * rest ≡ rest * 2 ^ w + x = omega (arith, mul_comm (2 ^ w) rest) in
@@ -147,22 +159,26 @@ pub top_of_lane : (k h v : ℕ) → bit_at (field k (suc h) v) h ≡ bit_at v (k
 unfolding field
 top_of_lane k h v =
     let one : suc h ≡ 1 + h = omega arith in
-    ap (λ n. v / 2 ^ k % 2 ^ n / 2 ^ h % 2) one ∙ ap (λ n. n % 2) (field_of (v / 2 ^ k) 1 h) ∙ mod-mod (v / 2 ^ k / 2 ^ h) 2 ∙ ap (λ n. n % 2) (shr-shr v k h)
+    ap (λ n. v / 2 ^ k % 2 ^ n / 2 ^ h % 2) one ∙ ap (λ n. n % 2) (field_of (v / 2 ^ k) 1 h)
+    ∙ mod-mod (v / 2 ^ k / 2 ^ h) 2 ∙ ap (λ n. n % 2) (shr-shr v k h)
 
 -- a lane of a word that was shifted to the right by s, where only the bits of that lane are kept
-pub lane_shr : (w s r k v mask : ℕ) → r + s ≡ w → field k w mask ≡ 2 ^ r - 1 → field k w (bit_and (v / 2 ^ s) mask) ≡ field k w v / 2 ^ s
+pub lane_shr : (w s r k v mask : ℕ) → r + s ≡ w → field k w mask ≡ 2 ^ r - 1
+    → field k w (bit_and (v / 2 ^ s) mask) ≡ field k w v / 2 ^ s
 unfolding field
 lane_shr w s r k v mask e is =
     let turned : w ≡ s + r = omega arith in
     let whole : w ≡ r + s = omega arith in
     let swap : s + k ≡ k + s = omega arith in
-    field_and k w (v / 2 ^ s) mask ∙ ap (bit_and (v / 2 ^ s / 2 ^ k % 2 ^ w)) is ∙ and_mask (v / 2 ^ s / 2 ^ k % 2 ^ w) r
+    field_and k w (v / 2 ^ s) mask ∙ ap (bit_and (v / 2 ^ s / 2 ^ k % 2 ^ w)) is
+    ∙ and_mask (v / 2 ^ s / 2 ^ k % 2 ^ w) r
     ∙ ap (λ n. v / 2 ^ s / 2 ^ k % 2 ^ n % 2 ^ r) turned ∙ mod-mod-pow (v / 2 ^ s / 2 ^ k) s r
     ∙ ap (λ n. n % 2 ^ r) (shr-shr v s k ∙ ap (λ n. v / 2 ^ n) swap ∙ sym (shr-shr v k s))
     ∙ sym (field_of (v / 2 ^ k) r s) ∙ ap (λ n. v / 2 ^ k % 2 ^ n / 2 ^ s) (sym whole)
 
 -- words of n lanes that are the same are the same
-pub same_words : (w n a b : ℕ) → a < 2 ^ (n * w) → b < 2 ^ (n * w) → ((i : ℕ) → i < n → field (w * i) w a ≡ field (w * i) w b) → a ≡ b
+pub same_words : (w n a b : ℕ) → a < 2 ^ (n * w) → b < 2 ^ (n * w)
+    → ((i : ℕ) → i < n → field (w * i) w a ≡ field (w * i) w b) → a ≡ b
 same_words w zero a b fits_a fits_b each =
     let none : 0 * w ≡ 0 = zero-mul w in
     let no_a : a < 2 ^ 0 = subst (λ k. a < 2 ^ k) none fits_a in
@@ -172,6 +188,7 @@ same_words w (suc n) a b fits_a fits_b each =
     let more : suc n * w ≡ n * w + w = suc-mul n w in
     let low : a % 2 ^ w ≡ b % 2 ^ w = sym (first_lane w a) ∙ each 0 (omega arith) ∙ first_lane w b in
     let high : a / 2 ^ w ≡ b / 2 ^ w =
-    same_words w n (a / 2 ^ w) (b / 2 ^ w) (shr_below a (n * w) w (subst (λ k. a < 2 ^ k) more fits_a)) (shr_below b (n * w) w (subst (λ k. b < 2 ^ k) more fits_b))
+    same_words w n (a / 2 ^ w) (b / 2 ^ w) (shr_below a (n * w) w (subst (λ k. a < 2 ^ k) more fits_a))
+    (shr_below b (n * w) w (subst (λ k. b < 2 ^ k) more fits_b))
     (λ i inside. sym (next_lane w i a) ∙ each (suc i) (omega arith) ∙ next_lane w i b) in
     sym (div-add-mod' a (2 ^ w)) ∙ ap₂ (λ m n. m * 2 ^ w + n) high low ∙ div-add-mod' b (2 ^ w)

@@ -1,4 +1,5 @@
--- One lane as a number of its own: its highest bit and the rest; and what leaves room for a carry or a borrow where a lane begins.
+-- One lane as a number of its own: its highest bit and the rest; and what leaves room for a carry or a borrow where a
+-- lane begins.
 use Rattle.std.proofs.Common.{◌≡◌, ℕ, zero, suc, ◌+◌, ◌-◌, ◌*◌, ◌/◌, ◌%◌, ◌^◌, ◌<◌, ◌≤◌, max, ◌⊎◌, refl, sym, ap, subst, ap₂, ◌∙◌, inl, inr, arith, add-mul, mod-lt, mod-eq_of_lt, bit_and, bit_or, bit_xor, cond, eqb, pow-suc, mul_assoc, one-mul, zero-mul, zero-add, pos_of_ne-zero, w64}
 use Rattle.std.proofs.Math.Nat.{mod-one, div-eq_of_lt, add-mod_right, add-mul-mod_self_right, mod-add-mod}
 use Rattle.std.proofs.lemmas.Nat.{pow_pos, mod-pow-add, and_mask, xor_lt}
@@ -19,7 +20,8 @@ clear_top v j e =
     subst (λ i. v % 2 ^ i < 2 ^ j) one (omega arith)
 
 -- where a lane of tops begins, what is kept beside the tops leaves room for a carry
-pub room : (tops k v : ℕ) → tops < 2 ^ 64 → k ≤ 64 → (k ≡ 0) ⊎ (bit_at tops (k - 1) ≡ 1) → 2 * (bit_and v (2 ^ 64 - 1 - tops) % 2 ^ k) < 2 ^ k
+pub room : (tops k v : ℕ) → tops < 2 ^ 64 → k ≤ 64 → (k ≡ 0) ⊎ (bit_at tops (k - 1) ≡ 1)
+    → 2 * (bit_and v (2 ^ 64 - 1 - tops) % 2 ^ k) < 2 ^ k
 room tops zero v fits within starts = omega (arith, mod-one (bit_and v (2 ^ 64 - 1 - tops)))
 room tops (suc j) v fits within (inl e) = absurd (omega arith)
 room tops (suc j) v fits within (inr e) =
@@ -38,7 +40,8 @@ filled tops (suc j) v (inr e) =
     let set : bit_at tops j ≡ 1 = subst (λ i. bit_at tops i ≡ 1) back e in
     let on : bit_at (bit_or v tops) j ≡ 1 = omega (arith, bit_at_or v tops j, bit_at-lt v j) in
     let one : 1 + j ≡ suc j = omega arith in
-    let parts : bit_or v tops % 2 ^ (1 + j) ≡ 1 * 2 ^ j + bit_or v tops % 2 ^ j = mod-pow-add (bit_or v tops) 1 j ∙ ap (λ b. b * 2 ^ j + bit_or v tops % 2 ^ j) on in
+    let parts : bit_or v tops % 2 ^ (1 + j) ≡ 1 * 2 ^ j + bit_or v tops % 2 ^ j =
+    mod-pow-add (bit_or v tops) 1 j ∙ ap (λ b. b * 2 ^ j + bit_or v tops % 2 ^ j) on in
     subst (λ i. 2 ^ i ≤ 2 * (bit_or v tops % 2 ^ i) + 1) one (omega (arith, pow-suc 2 j, ap (λ i. 2 ^ i) one))
 
 -- a lane of h + 1 bits: its top bit, and the rest
@@ -48,14 +51,16 @@ lane_split h x fits =
     let whole : x % 2 ^ (1 + h) ≡ x = ap (λ i. x % 2 ^ i) one ∙ mod-eq_of_lt fits in
     sym (mod-pow-add x 1 h) ∙ whole
 
-flipped : (h c m : ℕ) → c < 2 → m < 2 ^ h → bit_xor (c * 2 ^ h + m) (1 * 2 ^ h + 0) ≡ (c * 2 ^ h + m + 1 * 2 ^ h) % 2 ^ suc h
+flipped : (h c m : ℕ) → c < 2 → m < 2 ^ h
+    → bit_xor (c * 2 ^ h + m) (1 * 2 ^ h + 0) ≡ (c * 2 ^ h + m + 1 * 2 ^ h) % 2 ^ suc h
 flipped h zero m bit low =
     let sum : 0 * 2 ^ h + m + 1 * 2 ^ h < 2 ^ suc h = omega (arith, pow-suc 2 h) in
     xor_block h 0 1 m 0 low (pow_pos h) ∙ omega (arith, xor_zero_r m, mod-eq_of_lt sum)
 flipped h (suc zero) m bit low =
     let sum : 1 * 2 ^ h + m + 1 * 2 ^ h ≡ m + 2 ^ suc h = omega (arith, pow-suc 2 h) in
     let small : m < 2 ^ suc h = omega (arith, pow-suc 2 h) in
-    let whole : (1 * 2 ^ h + m + 1 * 2 ^ h) % 2 ^ suc h ≡ m = ap (λ n. n % 2 ^ suc h) sum ∙ add-mod_right m (2 ^ suc h) ∙ mod-eq_of_lt small in
+    let whole : (1 * 2 ^ h + m + 1 * 2 ^ h) % 2 ^ suc h ≡ m =
+    ap (λ n. n % 2 ^ suc h) sum ∙ add-mod_right m (2 ^ suc h) ∙ mod-eq_of_lt small in
     xor_block h 1 1 m 0 low (pow_pos h) ∙ omega (arith, xor_zero_r m, whole)
 flipped h (suc (suc c)) m bit low = absurd (omega arith)
 
@@ -63,19 +68,24 @@ flipped h (suc (suc c)) m bit low = absurd (omega arith)
 pub xor_top : (h z t : ℕ) → z < 2 ^ suc h → t < 2 → bit_xor z (t * 2 ^ h) ≡ (z + t * 2 ^ h) % 2 ^ suc h
 xor_top h z zero fits bit =
     let none : 0 * 2 ^ h ≡ 0 = omega arith in
-    ap (bit_xor z) none ∙ xor_zero_r z ∙ sym (mod-eq_of_lt fits) ∙ ap (λ n. n % 2 ^ suc h) (let e : z ≡ z + 0 * 2 ^ h = omega arith in e)
+    ap (bit_xor z) none ∙ xor_zero_r z ∙ sym (mod-eq_of_lt fits)
+    ∙ ap (λ n. n % 2 ^ suc h) (let e : z ≡ z + 0 * 2 ^ h = omega arith in e)
 xor_top h z (suc zero) fits bit =
     let whole : bit_at z h * 2 ^ h + z % 2 ^ h ≡ z = lane_split h z fits in
     let one : 1 * 2 ^ h + 0 ≡ 1 * 2 ^ h = omega arith in
-    ap₂ bit_xor (sym whole) (sym one) ∙ flipped h (bit_at z h) (z % 2 ^ h) (bit_at-lt z h) (mod-lt z (pow_pos h)) ∙ ap (λ n. (n + 1 * 2 ^ h) % 2 ^ suc h) whole
+    ap₂ bit_xor (sym whole) (sym one) ∙ flipped h (bit_at z h) (z % 2 ^ h) (bit_at-lt z h) (mod-lt z (pow_pos h))
+    ∙ ap (λ n. (n + 1 * 2 ^ h) % 2 ^ suc h) whole
 xor_top h z (suc (suc t)) fits bit = absurd (omega arith)
 
 -- of the tops that are added, two cancel
 turns : (h z n : ℕ) → (z + n % 2 * 2 ^ h) % 2 ^ suc h ≡ (z + n * 2 ^ h) % 2 ^ suc h
 turns h z n =
     let halves : n ≡ n / 2 * 2 + n % 2 = omega arith in
-    let pairs : n / 2 * 2 * 2 ^ h ≡ n / 2 * 2 ^ suc h = mul_assoc (n / 2) 2 (2 ^ h) ∙ ap (λ p. n / 2 * p) (let e : 2 * 2 ^ h ≡ 2 ^ suc h = omega (arith, pow-suc 2 h) in e) in
-    let all : n * 2 ^ h ≡ n / 2 * 2 ^ suc h + n % 2 * 2 ^ h = ap (λ m. m * 2 ^ h) halves ∙ add-mul (n / 2 * 2) (n % 2) (2 ^ h) ∙ ap (λ m. m + n % 2 * 2 ^ h) pairs in
+    let pairs : n / 2 * 2 * 2 ^ h ≡ n / 2 * 2 ^ suc h =
+    mul_assoc (n / 2) 2 (2 ^ h)
+    ∙ ap (λ p. n / 2 * p) (let e : 2 * 2 ^ h ≡ 2 ^ suc h = omega (arith, pow-suc 2 h) in e) in
+    let all : n * 2 ^ h ≡ n / 2 * 2 ^ suc h + n % 2 * 2 ^ h =
+    ap (λ m. m * 2 ^ h) halves ∙ add-mul (n / 2 * 2) (n % 2) (2 ^ h) ∙ ap (λ m. m + n % 2 * 2 ^ h) pairs in
     let sum : z + n * 2 ^ h ≡ (z + n % 2 * 2 ^ h) + n / 2 * 2 ^ suc h = omega arith in
     sym (ap (λ m. m % 2 ^ suc h) sum ∙ add-mul-mod_self_right (z + n % 2 * 2 ^ h) (n / 2) (2 ^ suc h))
 
@@ -92,12 +102,17 @@ and_top_xor : (h x y : ℕ) → bit_and (bit_xor x y) (2 ^ h) ≡ (bit_at x h + 
 and_top_xor h x y = and_pow (bit_xor x y) h ∙ ap (λ b. b * 2 ^ h) (bit_at_xor x y h)
 
 pub lane_add : (h x y : ℕ) → x < 2 ^ suc h → y < 2 ^ suc h →
-    bit_xor ((bit_and x (2 ^ h - 1) + bit_and y (2 ^ h - 1)) % 2 ^ suc h) (bit_and (bit_xor x y) (2 ^ h)) ≡ (x + y) % 2 ^ suc h
+    bit_xor ((bit_and x (2 ^ h - 1) + bit_and y (2 ^ h - 1)) % 2 ^ suc h) (bit_and (bit_xor x y) (2 ^ h))
+    ≡ (x + y) % 2 ^ suc h
 lane_add h x y fx fy =
-    let low : bit_and x (2 ^ h - 1) + bit_and y (2 ^ h - 1) ≡ x % 2 ^ h + y % 2 ^ h = ap₂ ◌+◌ (and_mask x h) (and_mask y h) in
-    let small : x % 2 ^ h + y % 2 ^ h < 2 ^ suc h = omega (arith, pow-suc 2 h, mod-lt x (pow_pos h), mod-lt y (pow_pos h)) in
-    let sum : x % 2 ^ h + y % 2 ^ h + (bit_at x h + bit_at y h) * 2 ^ h ≡ x + y = omega (arith, lane_split h x fx, lane_split h y fy, add-mul (bit_at x h) (bit_at y h) (2 ^ h)) in
-    ap₂ bit_xor (ap (λ n. n % 2 ^ suc h) low ∙ mod-eq_of_lt small) (and_top_xor h x y) ∙ xor_tops h (x % 2 ^ h + y % 2 ^ h) (bit_at x h + bit_at y h) small ∙ ap (λ n. n % 2 ^ suc h) sum
+    let low : bit_and x (2 ^ h - 1) + bit_and y (2 ^ h - 1) ≡ x % 2 ^ h + y % 2 ^ h =
+    ap₂ ◌+◌ (and_mask x h) (and_mask y h) in
+    let small : x % 2 ^ h + y % 2 ^ h < 2 ^ suc h =
+    omega (arith, pow-suc 2 h, mod-lt x (pow_pos h), mod-lt y (pow_pos h)) in
+    let sum : x % 2 ^ h + y % 2 ^ h + (bit_at x h + bit_at y h) * 2 ^ h ≡ x + y =
+    omega (arith, lane_split h x fx, lane_split h y fy, add-mul (bit_at x h) (bit_at y h) (2 ^ h)) in
+    ap₂ bit_xor (ap (λ n. n % 2 ^ suc h) low ∙ mod-eq_of_lt small) (and_top_xor h x y)
+    ∙ xor_tops h (x % 2 ^ h + y % 2 ^ h) (bit_at x h + bit_at y h) small ∙ ap (λ n. n % 2 ^ suc h) sum
 
 or_top : (h x : ℕ) → x < 2 ^ suc h → bit_or x (2 ^ h) ≡ x % 2 ^ h + 2 ^ h
 or_top h x fits = omega (arith, or_add_and x (2 ^ h), and_pow x h, lane_split h x fits)
@@ -110,20 +125,25 @@ not_top h y fits =
     field_not h 1 (suc h) y sum fits
 
 pub lane_sub : (h x y : ℕ) → x < 2 ^ suc h → y < 2 ^ suc h →
-    bit_xor ((bit_or x (2 ^ h) + (2 ^ suc h - bit_and y (2 ^ h - 1))) % 2 ^ suc h) (bit_and (bit_xor x (2 ^ suc h - 1 - y)) (2 ^ h)) ≡ (x + (2 ^ suc h - y)) % 2 ^ suc h
+    bit_xor ((bit_or x (2 ^ h) + (2 ^ suc h - bit_and y (2 ^ h - 1))) % 2 ^ suc h)
+    (bit_and (bit_xor x (2 ^ suc h - 1 - y)) (2 ^ h)) ≡ (x + (2 ^ suc h - y)) % 2 ^ suc h
 lane_sub h x y fx fy =
     let m : ℕ = 2 ^ suc h in
     let z : ℕ = bit_or x (2 ^ h) + (m - bit_and y (2 ^ h - 1)) in
     let n : ℕ = bit_at x h + bit_at (m - 1 - y) h in
     let low : bit_and y (2 ^ h - 1) ≡ y % 2 ^ h = and_mask y h in
-    let tops : n * 2 ^ h + bit_at y h * 2 ^ h ≡ bit_at x h * 2 ^ h + 2 ^ h = tops_of (bit_at x h) (bit_at y h) (bit_at (m - 1 - y) h) (2 ^ h) (not_top h y fy) (bit_at-lt y h) in
-    let sum : z + n * 2 ^ h ≡ x + (m - y) + m = omega (arith, pow-suc 2 h, or_top h x fx, lane_split h x fx, lane_split h y fy, mod-lt y (pow_pos h)) in
-    ap (bit_xor (z % m)) (and_top_xor h x (m - 1 - y)) ∙ xor_tops h (z % m) n (mod-lt z (pow_pos (suc h))) ∙ mod-add-mod z m (n * 2 ^ h) ∙ ap (λ k. k % m) sum ∙ add-mod_right (x + (m - y)) m
+    let tops : n * 2 ^ h + bit_at y h * 2 ^ h ≡ bit_at x h * 2 ^ h + 2 ^ h =
+    tops_of (bit_at x h) (bit_at y h) (bit_at (m - 1 - y) h) (2 ^ h) (not_top h y fy) (bit_at-lt y h) in
+    let sum : z + n * 2 ^ h ≡ x + (m - y) + m =
+    omega (arith, pow-suc 2 h, or_top h x fx, lane_split h x fx, lane_split h y fy, mod-lt y (pow_pos h)) in
+    ap (bit_xor (z % m)) (and_top_xor h x (m - 1 - y)) ∙ xor_tops h (z % m) n (mod-lt z (pow_pos (suc h)))
+    ∙ mod-add-mod z m (n * 2 ^ h) ∙ ap (λ k. k % m) sum ∙ add-mod_right (x + (m - y)) m
 
 -- numbers with no different bit are one
 same_from_xor : (x y : ℕ) → bit_xor x y ≡ 0 → x ≡ y
 same_from_xor x y e =
-    sym (xor_zero_r x) ∙ ap (bit_xor x) (sym (xor_self y)) ∙ sym (xor_assoc x y y) ∙ ap (λ z. bit_xor z y) e ∙ xor_zero_l y
+    sym (xor_zero_r x) ∙ ap (bit_xor x) (sym (xor_self y)) ∙ sym (xor_assoc x y y) ∙ ap (λ z. bit_xor z y) e
+    ∙ xor_zero_l y
 
 top_case : (b p r s : ℕ) → b < 2 → r < p → b * p + r ≡ s → p ≤ s → b ≡ 1
 top_case zero p r s bit low e le = absurd (omega arith)
@@ -135,7 +155,8 @@ top_of h s fits le =
     let whole : bit_at s h * 2 ^ h + s % 2 ^ h ≡ s = lane_split h s fits in
     top_case (bit_at s h) (2 ^ h) (s % 2 ^ h) s (bit_at-lt s h) (mod-lt s (pow_pos h)) whole le
 
-some_top : (h z s b : ℕ) → z < 2 ^ suc h → 0 < z → s ≡ z % 2 ^ h + (2 ^ h - 1) → s < 2 ^ suc h → bit_at z h ≡ b → max (bit_at s h) b ≡ 1
+some_top : (h z s b : ℕ) → z < 2 ^ suc h → 0 < z → s ≡ z % 2 ^ h + (2 ^ h - 1) → s < 2 ^ suc h → bit_at z h ≡ b
+    → max (bit_at s h) b ≡ 1
 some_top h z s zero fits pos e small at =
     let whole : 0 * 2 ^ h + z % 2 ^ h ≡ z = ap (λ b. b * 2 ^ h + z % 2 ^ h) (sym at) ∙ lane_split h z fits in
     let le : 2 ^ h ≤ s = omega (arith, pow_pos h) in
@@ -148,22 +169,29 @@ lane_some : (h z : ℕ) → z < 2 ^ suc h → 0 < z →
 lane_some h z fits pos =
     let s : ℕ = z % 2 ^ h + (2 ^ h - 1) in
     let small : s < 2 ^ suc h = omega (arith, pow-suc 2 h, mod-lt z (pow_pos h)) in
-    let sum : (bit_and z (2 ^ h - 1) + (2 ^ h - 1)) % 2 ^ suc h ≡ s = ap (λ n. (n + (2 ^ h - 1)) % 2 ^ suc h) (and_mask z h) ∙ mod-eq_of_lt small in
+    let sum : (bit_and z (2 ^ h - 1) + (2 ^ h - 1)) % 2 ^ suc h ≡ s =
+    ap (λ n. (n + (2 ^ h - 1)) % 2 ^ suc h) (and_mask z h) ∙ mod-eq_of_lt small in
     let set : max (bit_at s h) (bit_at z h) ≡ 1 = some_top h z s (bit_at z h) fits pos refl small refl in
-    ap (λ n. bit_and (bit_or n z) (2 ^ h)) sum ∙ and_pow (bit_or s z) h ∙ ap (λ b. b * 2 ^ h) (bit_at_or s z h ∙ set) ∙ one-mul (2 ^ h)
+    ap (λ n. bit_and (bit_or n z) (2 ^ h)) sum ∙ and_pow (bit_or s z) h ∙ ap (λ b. b * 2 ^ h) (bit_at_or s z h ∙ set)
+    ∙ one-mul (2 ^ h)
 
 lane_none : (h : ℕ) → bit_and (bit_or ((bit_and 0 (2 ^ h - 1) + (2 ^ h - 1)) % 2 ^ suc h) 0) (2 ^ h) ≡ 0
 lane_none h =
     let small : 2 ^ h - 1 < 2 ^ suc h = omega (arith, pow-suc 2 h, pow_pos h) in
-    let sum : (0 + (2 ^ h - 1)) % 2 ^ suc h ≡ 2 ^ h - 1 = ap (λ n. n % 2 ^ suc h) (zero-add (2 ^ h - 1)) ∙ mod-eq_of_lt small in
-    let all : bit_or ((bit_and 0 (2 ^ h - 1) + (2 ^ h - 1)) % 2 ^ suc h) 0 ≡ 2 ^ h - 1 = or_zero_r ((0 + (2 ^ h - 1)) % 2 ^ suc h) ∙ sum in
+    let sum : (0 + (2 ^ h - 1)) % 2 ^ suc h ≡ 2 ^ h - 1 =
+    ap (λ n. n % 2 ^ suc h) (zero-add (2 ^ h - 1)) ∙ mod-eq_of_lt small in
+    let all : bit_or ((bit_and 0 (2 ^ h - 1) + (2 ^ h - 1)) % 2 ^ suc h) 0 ≡ 2 ^ h - 1 =
+    or_zero_r ((0 + (2 ^ h - 1)) % 2 ^ suc h) ∙ sum in
     let gone : (2 ^ h - 1) / 2 ^ h ≡ 0 = div-eq_of_lt (omega (arith, pow_pos h)) in
     ap (λ n. bit_and n (2 ^ h)) all ∙ and_pow (2 ^ h - 1) h ∙ ap (λ n. n % 2 * 2 ^ h) gone ∙ zero-mul (2 ^ h)
 
 -- the top of a lane where x and y differ
 pub lane_differ : (h x y : ℕ) → x < 2 ^ suc h → y < 2 ^ suc h →
-    bit_and (bit_or ((bit_and (bit_xor x y) (2 ^ h - 1) + (2 ^ h - 1)) % 2 ^ suc h) (bit_xor x y)) (2 ^ h) ≡ cond (eqb x y) 0 (2 ^ h)
+    bit_and (bit_or ((bit_and (bit_xor x y) (2 ^ h - 1) + (2 ^ h - 1)) % 2 ^ suc h) (bit_xor x y)) (2 ^ h)
+    ≡ cond (eqb x y) 0 (2 ^ h)
 lane_differ h x y fx fy = elim (cases_eq x y) [
-  | inl e ↦ ap (λ z. bit_and (bit_or ((bit_and z (2 ^ h - 1) + (2 ^ h - 1)) % 2 ^ suc h) z) (2 ^ h)) (ap (λ z. bit_xor z y) e ∙ xor_self y) ∙ lane_none h ∙ sym (ap (λ b. cond b 0 (2 ^ h)) (eq-eqb x y e))
-  | inr ne ↦ lane_some h (bit_xor x y) (xor_lt (suc h) x y fx fy) (pos_of_ne-zero (λ e. ne (same_from_xor x y e))) ∙ sym (ap (λ b. cond b 0 (2 ^ h)) (ne_eqb x y ne))
+  | inl e ↦ ap (λ z. bit_and (bit_or ((bit_and z (2 ^ h - 1) + (2 ^ h - 1)) % 2 ^ suc h) z) (2 ^ h))
+      (ap (λ z. bit_xor z y) e ∙ xor_self y) ∙ lane_none h ∙ sym (ap (λ b. cond b 0 (2 ^ h)) (eq-eqb x y e))
+  | inr ne ↦ lane_some h (bit_xor x y) (xor_lt (suc h) x y fx fy) (pos_of_ne-zero (λ e. ne (same_from_xor x y e)))
+      ∙ sym (ap (λ b. cond b 0 (2 ^ h)) (ne_eqb x y ne))
 ]

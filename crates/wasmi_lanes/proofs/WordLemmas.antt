@@ -8,7 +8,8 @@ use Rattle.wasmi_lanes.proofs.FieldLemmas.{field_lt, field_and, field_or, field_
 use Rattle.wasmi_lanes.proofs.TopLemmas.{room, filled, lane_add, lane_sub, lane_differ}
 
 -- the bits of a word from k to k + w - 1, where those of tops are `top` and what comes from below has room
-module _ (tops k w top : ℕ) (fits : tops < 2 ^ 64) (starts : (k ≡ 0) ⊎ (bit_at tops (k - 1) ≡ 1)) (within : k + w ≤ 64) (is : field k w tops ≡ top) where
+module _ (tops k w top : ℕ) (fits : tops < 2 ^ 64) (starts : (k ≡ 0) ⊎ (bit_at tops (k - 1) ≡ 1)) (within : k + w ≤ 64)
+    (is : field k w tops ≡ top) where
   rest_is : field k w (2 ^ 64 - 1 - tops) ≡ 2 ^ w - 1 - top
   rest_is = field_not k w 64 tops within fits ∙ ap (λ n. 2 ^ w - 1 - n) is
 
@@ -26,39 +27,54 @@ module _ (tops k w top : ℕ) (fits : tops < 2 ^ 64) (starts : (k ≡ 0) ⊎ (bi
       room tops k v fits start starts
 
   sum_at : (a b : ℕ) →
-      field k w (bit_xor ((bit_and a (2 ^ 64 - 1 - tops) + bit_and b (2 ^ 64 - 1 - tops)) % 2 ^ 64) (bit_and (bit_xor a b) tops))
-      ≡ bit_xor ((bit_and (field k w a) (2 ^ w - 1 - top) + bit_and (field k w b) (2 ^ w - 1 - top)) % 2 ^ w) (bit_and (bit_xor (field k w a) (field k w b)) top)
+      field k w (bit_xor ((bit_and a (2 ^ 64 - 1 - tops) + bit_and b (2 ^ 64 - 1 - tops)) % 2 ^ 64)
+      (bit_and (bit_xor a b) tops))
+      ≡ bit_xor ((bit_and (field k w a) (2 ^ w - 1 - top) + bit_and (field k w b) (2 ^ w - 1 - top)) % 2 ^ w)
+      (bit_and (bit_xor (field k w a) (field k w b)) top)
   sum_at a b =
       let rest : ℕ = 2 ^ 64 - 1 - tops in
       field_xor k w ((bit_and a rest + bit_and b rest) % 2 ^ 64) (bit_and (bit_xor a b) tops)
       ∙ ap₂ bit_xor
-      (field_mod k w 64 (bit_and a rest + bit_and b rest) within ∙ field_add k w (bit_and a rest) (bit_and b rest) (omega (arith, below a, below b)) ∙ ap₂ (λ m n. (m + n) % 2 ^ w) (kept a) (kept b))
+      (field_mod k w 64 (bit_and a rest + bit_and b rest) within
+      ∙ field_add k w (bit_and a rest) (bit_and b rest) (omega (arith, below a, below b))
+      ∙ ap₂ (λ m n. (m + n) % 2 ^ w) (kept a) (kept b))
       (marked (bit_xor a b) ∙ ap (λ n. bit_and n top) (field_xor k w a b))
 
-  raised : (v : ℕ) → field k w (bit_or v tops) ≡ bit_or (field k w v) top
-  raised v = field_or k w v tops ∙ ap (bit_or (field k w v)) is
+  biased : (v : ℕ) → field k w (bit_or v tops) ≡ bit_or (field k w v) top
+  biased v = field_or k w v tops ∙ ap (bit_or (field k w v)) is
 
   difference_at : (a b : ℕ) → b < 2 ^ 64 →
-      field k w (bit_xor ((bit_or a tops + (2 ^ 64 - bit_and b (2 ^ 64 - 1 - tops))) % 2 ^ 64) (bit_and (bit_xor a (2 ^ 64 - 1 - b)) tops))
-      ≡ bit_xor ((bit_or (field k w a) top + (2 ^ w - bit_and (field k w b) (2 ^ w - 1 - top))) % 2 ^ w) (bit_and (bit_xor (field k w a) (2 ^ w - 1 - field k w b)) top)
+      field k w (bit_xor ((bit_or a tops + (2 ^ 64 - bit_and b (2 ^ 64 - 1 - tops))) % 2 ^ 64)
+      (bit_and (bit_xor a (2 ^ 64 - 1 - b)) tops))
+      ≡ bit_xor ((bit_or (field k w a) top + (2 ^ w - bit_and (field k w b) (2 ^ w - 1 - top))) % 2 ^ w)
+      (bit_and (bit_xor (field k w a) (2 ^ w - 1 - field k w b)) top)
   difference_at a b fits_b =
       let rest : ℕ = 2 ^ 64 - 1 - tops in
       field_xor k w ((bit_or a tops + (2 ^ 64 - bit_and b rest)) % 2 ^ 64) (bit_and (bit_xor a (2 ^ 64 - 1 - b)) tops)
       ∙ ap₂ bit_xor
-      (field_wrapping_sub k w 64 (bit_or a tops) (bit_and b rest) within (omega (arith, and_le_l b rest)) (omega (arith, below b, filled tops k a starts)) ∙ ap₂ (λ m n. (m + (2 ^ w - n)) % 2 ^ w) (raised a) (kept b))
-      (marked (bit_xor a (2 ^ 64 - 1 - b)) ∙ ap (λ n. bit_and n top) (field_xor k w a (2 ^ 64 - 1 - b) ∙ ap (bit_xor (field k w a)) (field_not k w 64 b within fits_b)))
+      (field_wrapping_sub k w 64 (bit_or a tops) (bit_and b rest) within (omega (arith, and_le_l b rest))
+      (omega (arith, below b, filled tops k a starts)) ∙ ap₂ (λ m n. (m + (2 ^ w - n)) % 2 ^ w) (biased a) (kept b))
+      (marked (bit_xor a (2 ^ 64 - 1 - b))
+      ∙ ap (λ n. bit_and n top)
+      (field_xor k w a (2 ^ 64 - 1 - b) ∙ ap (bit_xor (field k w a)) (field_not k w 64 b within fits_b)))
 
   differ_at : (a b : ℕ) →
-      field k w (bit_and (bit_or ((bit_and (bit_xor a b) (2 ^ 64 - 1 - tops) + (2 ^ 64 - 1 - tops)) % 2 ^ 64) (bit_xor a b)) tops)
-      ≡ bit_and (bit_or ((bit_and (bit_xor (field k w a) (field k w b)) (2 ^ w - 1 - top) + (2 ^ w - 1 - top)) % 2 ^ w) (bit_xor (field k w a) (field k w b))) top
+      field k w (bit_and
+      (bit_or ((bit_and (bit_xor a b) (2 ^ 64 - 1 - tops) + (2 ^ 64 - 1 - tops)) % 2 ^ 64) (bit_xor a b)) tops)
+      ≡ bit_and (bit_or ((bit_and (bit_xor (field k w a) (field k w b)) (2 ^ w - 1 - top) + (2 ^ w - 1 - top)) % 2 ^ w)
+      (bit_xor (field k w a) (field k w b))) top
   differ_at a b =
       let rest : ℕ = 2 ^ 64 - 1 - tops in
       let x : ℕ = bit_xor a b in
       let below_rest : 2 * (rest % 2 ^ k) < 2 ^ k = subst (λ n. 2 * (n % 2 ^ k) < 2 ^ k) (and_self rest) (below rest) in
-      let sum : field k w ((bit_and x rest + rest) % 2 ^ 64) ≡ (bit_and (field k w x) (2 ^ w - 1 - top) + (2 ^ w - 1 - top)) % 2 ^ w =
-      field_mod k w 64 (bit_and x rest + rest) within ∙ field_add k w (bit_and x rest) rest (omega (arith, below x, below_rest)) ∙ ap₂ (λ m n. (m + n) % 2 ^ w) (kept x) rest_is in
+      let sum : field k w ((bit_and x rest + rest) % 2 ^ 64)
+      ≡ (bit_and (field k w x) (2 ^ w - 1 - top) + (2 ^ w - 1 - top)) % 2 ^ w =
+      field_mod k w 64 (bit_and x rest + rest) within
+      ∙ field_add k w (bit_and x rest) rest (omega (arith, below x, below_rest))
+      ∙ ap₂ (λ m n. (m + n) % 2 ^ w) (kept x) rest_is in
       marked (bit_or ((bit_and x rest + rest) % 2 ^ 64) x)
-      ∙ ap (λ n. bit_and n top) (field_or k w ((bit_and x rest + rest) % 2 ^ 64) x ∙ ap (λ n. bit_or n (field k w x)) sum)
+      ∙ ap (λ n. bit_and n top)
+      (field_or k w ((bit_and x rest + rest) % 2 ^ 64) x ∙ ap (λ n. bit_or n (field k w x)) sum)
       ∙ ap (λ n. bit_and (bit_or ((bit_and n (2 ^ w - 1 - top) + (2 ^ w - 1 - top)) % 2 ^ w) n) top) (field_xor k w a b)
 
 -- a lane has a bit
@@ -74,7 +90,8 @@ beside_top : (h : ℕ) → 2 ^ suc h - 1 - 2 ^ h ≡ 2 ^ h - 1
 beside_top h = omega (arith, pow-suc 2 h)
 
 pub add_lane : (tops k w a b : ℕ) → tops < 2 ^ 64 → IsLane tops k w →
-    field k w (bit_xor ((bit_and a (2 ^ 64 - 1 - tops) + bit_and b (2 ^ 64 - 1 - tops)) % 2 ^ 64) (bit_and (bit_xor a b) tops)) ≡ (field k w a + field k w b) % 2 ^ w
+    field k w (bit_xor ((bit_and a (2 ^ 64 - 1 - tops) + bit_and b (2 ^ 64 - 1 - tops)) % 2 ^ 64)
+    (bit_and (bit_xor a b) tops)) ≡ (field k w a + field k w b) % 2 ^ w
 add_lane tops k zero a b fits lane = no_lane tops k lane
 add_lane tops k (suc h) a b fits lane =
     let x : ℕ = field k (suc h) a in
@@ -84,17 +101,21 @@ add_lane tops k (suc h) a b fits lane =
     ∙ lane_add h x y (field_lt k (suc h) a) (field_lt k (suc h) b)
 
 pub sub_lane : (tops k w a b : ℕ) → tops < 2 ^ 64 → b < 2 ^ 64 → IsLane tops k w →
-    field k w (bit_xor ((bit_or a tops + (2 ^ 64 - bit_and b (2 ^ 64 - 1 - tops))) % 2 ^ 64) (bit_and (bit_xor a (2 ^ 64 - 1 - b)) tops)) ≡ (field k w a + (2 ^ w - field k w b)) % 2 ^ w
+    field k w (bit_xor ((bit_or a tops + (2 ^ 64 - bit_and b (2 ^ 64 - 1 - tops))) % 2 ^ 64)
+    (bit_and (bit_xor a (2 ^ 64 - 1 - b)) tops)) ≡ (field k w a + (2 ^ w - field k w b)) % 2 ^ w
 sub_lane tops k zero a b fits fits_b lane = no_lane tops k lane
 sub_lane tops k (suc h) a b fits fits_b lane =
     let x : ℕ = field k (suc h) a in
     let y : ℕ = field k (suc h) b in
     difference_at tops k (suc h) (2 ^ h) fits lane.starts lane.within (top_is tops k h lane) a b fits_b
-    ∙ ap (λ r. bit_xor ((bit_or x (2 ^ h) + (2 ^ suc h - bit_and y r)) % 2 ^ suc h) (bit_and (bit_xor x (2 ^ suc h - 1 - y)) (2 ^ h))) (beside_top h)
+    ∙ ap (λ r. bit_xor ((bit_or x (2 ^ h) + (2 ^ suc h - bit_and y r)) % 2 ^ suc h)
+    (bit_and (bit_xor x (2 ^ suc h - 1 - y)) (2 ^ h))) (beside_top h)
     ∙ lane_sub h x y (field_lt k (suc h) a) (field_lt k (suc h) b)
 
 pub differ_lane : (tops k w a b : ℕ) → tops < 2 ^ 64 → IsLane tops k w →
-    field k w (bit_and (bit_or ((bit_and (bit_xor a b) (2 ^ 64 - 1 - tops) + (2 ^ 64 - 1 - tops)) % 2 ^ 64) (bit_xor a b)) tops) ≡ cond (eqb (field k w a) (field k w b)) 0 (2 ^ (w - 1))
+    field k w (bit_and
+    (bit_or ((bit_and (bit_xor a b) (2 ^ 64 - 1 - tops) + (2 ^ 64 - 1 - tops)) % 2 ^ 64) (bit_xor a b)) tops)
+    ≡ cond (eqb (field k w a) (field k w b)) 0 (2 ^ (w - 1))
 differ_lane tops k zero a b fits lane = no_lane tops k lane
 differ_lane tops k (suc h) a b fits lane =
     let back : h ≡ suc h - 1 = omega arith in
@@ -118,15 +139,18 @@ unflipped : (x y : ℕ) → bit_xor x (bit_and y 0) ≡ x
 unflipped x y = ap (bit_xor x) (and_zero_r y) ∙ xor_zero_r x
 
 pub add_last : (tops k w a b : ℕ) → tops < 2 ^ 64 → IsLastLane tops k w →
-    field k w (bit_xor ((bit_and a (2 ^ 64 - 1 - tops) + bit_and b (2 ^ 64 - 1 - tops)) % 2 ^ 64) (bit_and (bit_xor a b) tops)) ≡ (field k w a + field k w b) % 2 ^ w
+    field k w (bit_xor ((bit_and a (2 ^ 64 - 1 - tops) + bit_and b (2 ^ 64 - 1 - tops)) % 2 ^ 64)
+    (bit_and (bit_xor a b) tops)) ≡ (field k w a + field k w b) % 2 ^ w
 add_last tops k w a b fits last =
     let within : k + w ≤ 64 = omega (arith, last.whole) in
     sum_at tops k w 0 fits last.starts within last.free a b
     ∙ unflipped _ _
-    ∙ ap₂ (λ m n. (m + n) % 2 ^ w) (all_kept w (field k w a) (field_lt k w a)) (all_kept w (field k w b) (field_lt k w b))
+    ∙ ap₂ (λ m n. (m + n) % 2 ^ w) (all_kept w (field k w a) (field_lt k w a))
+    (all_kept w (field k w b) (field_lt k w b))
 
 pub sub_last : (tops k w a b : ℕ) → tops < 2 ^ 64 → b < 2 ^ 64 → IsLastLane tops k w →
-    field k w (bit_xor ((bit_or a tops + (2 ^ 64 - bit_and b (2 ^ 64 - 1 - tops))) % 2 ^ 64) (bit_and (bit_xor a (2 ^ 64 - 1 - b)) tops)) ≡ (field k w a + (2 ^ w - field k w b)) % 2 ^ w
+    field k w (bit_xor ((bit_or a tops + (2 ^ 64 - bit_and b (2 ^ 64 - 1 - tops))) % 2 ^ 64)
+    (bit_and (bit_xor a (2 ^ 64 - 1 - b)) tops)) ≡ (field k w a + (2 ^ w - field k w b)) % 2 ^ w
 sub_last tops k w a b fits fits_b last =
     let within : k + w ≤ 64 = omega (arith, last.whole) in
     difference_at tops k w 0 fits last.starts within last.free a b fits_b

@@ -12,7 +12,7 @@ use Rattle.wasmi_lanes.specs.Lane.{lane}
 use Rattle.wasmi_lanes.specs.Vector.{from_lanes}
 use Rattle.wasmi_lanes.specs.Words.{field, IsLane, IsLastLane, lanes_in_word, in_each_lane}
 use Rattle.wasmi_lanes.proofs.FieldLemmas.{field_mod, top_of_lane, repeated_lane}
-use Rattle.wasmi_lanes.proofs.Vectors.{lanes_make_vector}
+use Rattle.wasmi_lanes.proofs.LaneVectorLemmas.{lanes_make_vector}
 use mir.Syntax.{w128}
 
 -- the words of the vector v
@@ -20,8 +20,8 @@ pub record AreWords (v low high : ℕ) : Type 0 where
   pub low_is : low ≡ v % 2 ^ 64
   pub high_is : high ≡ v / 2 ^ 64
 
-pub words_of : {v low high : ℕ} → low ≡ v % 2 ^ 64 → high ≡ v / 2 ^ 64 → AreWords v low high
-words_of low_is high_is = record { low_is = low_is; high_is = high_is }
+pub u64x2_of : {v low high : ℕ} → low ≡ v % 2 ^ 64 → high ≡ v / 2 ^ 64 → AreWords v low high
+u64x2_of low_is high_is = record { low_is = low_is; high_is = high_is }
 
 -- a fact of each lane of w bits of a word, by where it begins
 abbrev pub EachLane : Width → (ℕ → Type 0) → Type 0
@@ -30,10 +30,22 @@ EachLane w P = (i : ℕ) → i < lanes_in_word w → P (bits w * i)
 module _ (w : Width) (whole : lanes_in_word w * bits w ≡ 64) where
   pub lane_within : (i : ℕ) → i < lanes_in_word w → bits w * i + bits w ≤ 64
   lane_within i inside =
-      omega (arith, whole, mul-le (suc i) (bits w) (lanes_in_word w) (bits w) (omega arith) (le_refl (bits w)), suc-mul i (bits w), mul_comm i (bits w))
+      omega (
+        arith,
+        whole,
+        mul-le (suc i) (bits w) (lanes_in_word w) (bits w) (omega arith) (le_refl (bits w)),
+        suc-mul i (bits w),
+        mul_comm i (bits w),
+      )
 
   pub filled : (lanes_in_word w + lanes_in_word w) * bits w ≡ 128
-  filled = omega (arith, whole, mul_comm (lanes_in_word w) (bits w), mul_comm (lanes_in_word w + lanes_in_word w) (bits w), mul-add (bits w) (lanes_in_word w) (lanes_in_word w))
+  filled = omega (
+    arith,
+    whole,
+    mul_comm (lanes_in_word w) (bits w),
+    mul_comm (lanes_in_word w + lanes_in_word w) (bits w),
+    mul-add (bits w) (lanes_in_word w) (lanes_in_word w),
+  )
 
   -- the lanes of a vector, in its low word and in its high word
   pub low_lane : (v i : ℕ) → i < lanes_in_word w → lane w v i ≡ field (bits w * i) (bits w) (v % 2 ^ 64)
@@ -43,7 +55,8 @@ module _ (w : Width) (whole : lanes_in_word w * bits w ≡ 64) where
   pub high_lane : (v i : ℕ) → lane w v (lanes_in_word w + i) ≡ field (bits w * i) (bits w) (v / 2 ^ 64)
   unfolding field
   high_lane v i =
-      let place : bits w * (lanes_in_word w + i) ≡ 64 + bits w * i = omega (arith, whole, mul_comm (lanes_in_word w) (bits w), mul-add (bits w) (lanes_in_word w) i) in
+      let place : bits w * (lanes_in_word w + i) ≡ 64 + bits w * i =
+      omega (arith, whole, mul_comm (lanes_in_word w) (bits w), mul-add (bits w) (lanes_in_word w) i) in
       ap (λ k. v / 2 ^ k % 2 ^ bits w) place ∙ ap (λ x. x % 2 ^ bits w) (sym (shr-shr v 64 (bits w * i)))
 
   -- the vector of two words whose lanes are f of their numbers
@@ -62,11 +75,13 @@ module _ (w : Width) (whole : lanes_in_word w * bits w ≡ 64) where
         | inl lower ↦ low_lane r i lower ∙ ap (field (bits w * i) (bits w)) low_word ∙ low_is i lower
         | inr upper ↦
             let at : i ≡ n + (i - n) = omega arith in
-            ap (lane w r) at ∙ high_lane r (i - n) ∙ ap (field (bits w * (i - n)) (bits w)) high_word ∙ high_is (i - n) (omega arith) ∙ ap f (sym at)
+            ap (lane w r) at ∙ high_lane r (i - n) ∙ ap (field (bits w * (i - n)) (bits w)) high_word
+            ∙ high_is (i - n) (omega arith) ∙ ap f (sym at)
       ])
 
   -- words whose lanes are a row of an operand's make the vector whose lanes are that row of the operand's
-  pub words_make_unary : (row : ℕ → ℕ) (a low_a high_a low high r : ℕ) → AreWords a low_a high_a → low < 2 ^ 64 → high < 2 ^ 64
+  pub words_make_unary : (row : ℕ → ℕ) (a low_a high_a low high r : ℕ) → AreWords a low_a high_a → low < 2 ^ 64
+      → high < 2 ^ 64
       → EachLane w (λ k. field k (bits w) low ≡ row (field k (bits w) low_a))
       → EachLane w (λ k. field k (bits w) high ≡ row (field k (bits w) high_a))
       → r ≡ vector_of low high
@@ -77,7 +92,8 @@ module _ (w : Width) (whole : lanes_in_word w * bits w ≡ 64) where
       (λ i inside. high_is i inside ∙ ap row (ap (field (bits w * i) (bits w)) of_a.high_is ∙ sym (high_lane a i)))
 
   -- and of two operands
-  pub words_make_binary : (row : ℕ → ℕ → ℕ) (a low_a high_a b low_b high_b low high r : ℕ) → AreWords a low_a high_a → AreWords b low_b high_b → low < 2 ^ 64 → high < 2 ^ 64
+  pub words_make_binary : (row : ℕ → ℕ → ℕ) (a low_a high_a b low_b high_b low high r : ℕ) → AreWords a low_a high_a
+      → AreWords b low_b high_b → low < 2 ^ 64 → high < 2 ^ 64
       → EachLane w (λ k. field k (bits w) low ≡ row (field k (bits w) low_a) (field k (bits w) low_b))
       → EachLane w (λ k. field k (bits w) high ≡ row (field k (bits w) high_a) (field k (bits w) high_b))
       → r ≡ vector_of low high
@@ -93,19 +109,24 @@ module _ (w : Width) (whole : lanes_in_word w * bits w ≡ 64) where
 
 -- ---- the highest bits of lanes of one width
 
-top_below : (h n tops : ℕ) → ((j : ℕ) → j < n → field (suc h * j) (suc h) tops ≡ 2 ^ h) → (i : ℕ) → i < n → (suc h * i ≡ 0) ⊎ (bit_at tops (suc h * i - 1) ≡ 1)
+top_below : (h n tops : ℕ) → ((j : ℕ) → j < n → field (suc h * j) (suc h) tops ≡ 2 ^ h) → (i : ℕ) → i < n
+    → (suc h * i ≡ 0) ⊎ (bit_at tops (suc h * i - 1) ≡ 1)
 top_below h n tops each zero lt = inl (mul-zero (suc h))
 top_below h n tops each (suc j) lt =
     let place : suc h * suc j - 1 ≡ suc h * j + h = omega (arith, mul-suc (suc h) j) in
-    inr (ap (bit_at tops) place ∙ sym (top_of_lane (suc h * j) h tops) ∙ ap (λ n. bit_at n h) (each j (omega arith)) ∙ bit_at-pow_same h)
+    inr (ap (bit_at tops) place ∙ sym (top_of_lane (suc h * j) h tops) ∙ ap (λ n. bit_at n h) (each j (omega arith))
+    ∙ bit_at-pow_same h)
 
 -- a word that has the highest bit of each of n lanes of w bits divides its lowest bits into these lanes
-pub tops_each : (w n tops : ℕ) → 0 < w → n * w ≤ 64 → ((j : ℕ) → j < n → field (w * j) w tops ≡ 2 ^ (w - 1)) → (i : ℕ) → i < n → IsLane tops (w * i) w
+pub tops_each : (w n tops : ℕ) → 0 < w → n * w ≤ 64 → ((j : ℕ) → j < n → field (w * j) w tops ≡ 2 ^ (w - 1)) → (i : ℕ)
+    → i < n → IsLane tops (w * i) w
 tops_each zero n tops pos fits each i lt = absurd (omega arith)
 tops_each (suc h) n tops pos fits each i lt = record {
-  starts = top_below h n tops (λ j below. each j below ∙ ap (λ k. 2 ^ k) (let back : suc h - 1 ≡ h = omega arith in back)) i lt;
+  starts = top_below h n tops
+      (λ j below. each j below ∙ ap (λ k. 2 ^ k) (let back : suc h - 1 ≡ h = omega arith in back)) i lt;
   top = each i lt;
-  within = omega (arith, mul-le (suc i) (suc h) n (suc h) (omega arith) (le_refl (suc h)), suc-mul i (suc h), mul_comm i (suc h));
+  within = omega
+      (arith, mul-le (suc i) (suc h) n (suc h) (omega arith) (le_refl (suc h)), suc-mul i (suc h), mul_comm i (suc h));
 }
 
 pub some_bits : (w : Width) → 0 < bits w
@@ -116,8 +137,10 @@ some_bits w64 = omega arith
 some_bits w128 = omega arith
 
 -- the lane i of a word with n in each lane
-pub lane_of_each : (w : Width) (n word : ℕ) → n < 2 ^ bits w → word ≡ in_each_lane w n → EachLane w (λ k. field k (bits w) word ≡ n)
-lane_of_each w n word fits is i inside = ap (field (bits w * i) (bits w)) is ∙ repeated_lane (bits w) (lanes_in_word w) i n fits inside
+pub lane_of_each : (w : Width) (n word : ℕ) → n < 2 ^ bits w → word ≡ in_each_lane w n
+    → EachLane w (λ k. field k (bits w) word ≡ n)
+lane_of_each w n word fits is i inside =
+    ap (field (bits w * i) (bits w)) is ∙ repeated_lane (bits w) (lanes_in_word w) i n fits inside
 
 pub top_in_range : (b : ℕ) → 0 < b → 2 ^ (b - 1) < 2 ^ b
 top_in_range zero pos = absurd (omega arith)
@@ -129,13 +152,15 @@ top_in_range (suc h) pos =
     doubled h = omega arith
 
 -- a word with the highest bit of each lane of w bits divides a word into these lanes
-pub equal_lanes : (w : Width) (tops : ℕ) → lanes_in_word w * bits w ≡ 64 → tops ≡ in_each_lane w (2 ^ (bits w - 1)) → EachLane w (λ k. IsLane tops k (bits w))
+pub equal_lanes : (w : Width) (tops : ℕ) → lanes_in_word w * bits w ≡ 64 → tops ≡ in_each_lane w (2 ^ (bits w - 1))
+    → EachLane w (λ k. IsLane tops k (bits w))
 equal_lanes w tops whole is =
     tops_each (bits w) (lanes_in_word w) tops (some_bits w) (omega (arith, whole))
     (lane_of_each w (2 ^ (bits w - 1)) tops (top_in_range (bits w) (some_bits w)) is)
 
 -- what begins right above a top, or at the bottom, does so without the highest bit of the word
-starts_within : (tops k : ℕ) → k ≤ 63 → (k ≡ 0) ⊎ (bit_at tops (k - 1) ≡ 1) → (k ≡ 0) ⊎ (bit_at (tops % 2 ^ 63) (k - 1) ≡ 1)
+starts_within : (tops k : ℕ) → k ≤ 63 → (k ≡ 0) ⊎ (bit_at tops (k - 1) ≡ 1)
+    → (k ≡ 0) ⊎ (bit_at (tops % 2 ^ 63) (k - 1) ≡ 1)
 unfolding field
 starts_within tops zero le starts = inl refl
 starts_within tops (suc j) le (inl e) = absurd (omega arith)
@@ -151,8 +176,10 @@ last_is_free tops k (suc h) pos top whole =
     let one : 1 + h ≡ suc h = omega arith in
     let back : suc h - 1 ≡ h = omega arith in
     let low : tops / 2 ^ k % 2 ^ h ≡ 0 =
-    sym (mod-mod-pow (tops / 2 ^ k) 1 h) ∙ ap (λ n. tops / 2 ^ k % 2 ^ n % 2 ^ h) one ∙ ap (λ n. n % 2 ^ h) (top ∙ ap (λ n. 2 ^ n) back) ∙ mod_self (2 ^ h) in
-    ap (λ n. tops % 2 ^ n / 2 ^ k % 2 ^ suc h) place ∙ ap (λ n. n % 2 ^ suc h) (field_of tops h k ∙ low) ∙ zero-mod (2 ^ suc h)
+    sym (mod-mod-pow (tops / 2 ^ k) 1 h) ∙ ap (λ n. tops / 2 ^ k % 2 ^ n % 2 ^ h) one
+    ∙ ap (λ n. n % 2 ^ h) (top ∙ ap (λ n. 2 ^ n) back) ∙ mod_self (2 ^ h) in
+    ap (λ n. tops % 2 ^ n / 2 ^ k % 2 ^ suc h) place ∙ ap (λ n. n % 2 ^ suc h) (field_of tops h k ∙ low)
+    ∙ zero-mod (2 ^ suc h)
 
 -- a lane of tops, or the last one
 abbrev pub InnerLane : ℕ → ℕ → ℕ → Type 0
@@ -163,18 +190,29 @@ without_last_top tops k w pos lane = elim (cases_lt (k + w) 64) [
   | inl inner ↦
       let start : k ≤ 63 = omega arith in
       let inside : k + w ≤ 63 = omega arith in
-      inl (record { starts = starts_within tops k start lane.starts; top = field_mod k w 63 tops inside ∙ lane.top; within = lane.within })
+      inl (record {
+        starts = starts_within tops k start lane.starts;
+        top = field_mod k w 63 tops inside
+            ∙ lane.top;
+        within = lane.within;
+      })
   | inr last ↦
       let start : k ≤ 63 = omega (arith, lane.within) in
       let whole : k + w ≡ 64 = omega (arith, lane.within) in
-      inr (record { starts = starts_within tops k start lane.starts; free = last_is_free tops k w pos lane.top whole; whole = whole })
+      inr (record {
+        starts = starts_within tops k start lane.starts;
+        free = last_is_free tops k w pos lane.top whole;
+        whole = whole;
+      })
 ]
 
 -- a word with the highest bit of each lane of w bits but the last divides a word into these lanes
-pub inner_lanes : (w : Width) (inner : ℕ) → lanes_in_word w * bits w ≡ 64 → inner ≡ in_each_lane w (2 ^ (bits w - 1)) % 2 ^ 63 → EachLane w (λ k. InnerLane inner k (bits w))
+pub inner_lanes : (w : Width) (inner : ℕ) → lanes_in_word w * bits w ≡ 64
+    → inner ≡ in_each_lane w (2 ^ (bits w - 1)) % 2 ^ 63 → EachLane w (λ k. InnerLane inner k (bits w))
 inner_lanes w inner whole is i inside =
     let tops : ℕ = in_each_lane w (2 ^ (bits w - 1)) in
-    subst (λ t. InnerLane t (bits w * i) (bits w)) (sym is) (without_last_top tops (bits w * i) (bits w) (some_bits w) (equal_lanes w tops whole refl i inside))
+    subst (λ t. InnerLane t (bits w * i) (bits w)) (sym is)
+    (without_last_top tops (bits w * i) (bits w) (some_bits w) (equal_lanes w tops whole refl i inside))
 
 pub of_either : {A B C : Type 0} → (A → C) → (B → C) → A ⊎ B → C
 of_either f g (inl a) = f a
@@ -187,19 +225,26 @@ abbrev pub UnaryInLanes : (ℕ → ℕ → Type 0) → (ℕ → ℕ → ℕ) →
 UnaryInLanes Lane row r a = (start width : ℕ) → Lane start width → field start width r ≡ row width (field start width a)
 
 abbrev pub BinaryInLanes : (ℕ → ℕ → Type 0) → (ℕ → ℕ → ℕ → ℕ) → ℕ → ℕ → ℕ → Type 0
-BinaryInLanes Lane row r a b = (start width : ℕ) → Lane start width → field start width r ≡ row width (field start width a) (field start width b)
+BinaryInLanes Lane row r a b =
+    (start width : ℕ) → Lane start width → field start width r ≡ row width (field start width a) (field start width b)
 
-module _ (w : Width) (Lane : ℕ → ℕ → Type 0) (whole : lanes_in_word w * bits w ≡ 64) (lanes : EachLane w (λ k. Lane k (bits w))) where
-  pub unary_by_words : {a low_a high_a low high r : ℕ} (row : ℕ → ℕ → ℕ) → AreWords a low_a high_a → low < 2 ^ 64 → high < 2 ^ 64
+module _ (w : Width) (Lane : ℕ → ℕ → Type 0) (whole : lanes_in_word w * bits w ≡ 64)
+    (lanes : EachLane w (λ k. Lane k (bits w))) where
+  pub unary_by_words : {a low_a high_a low high r : ℕ} (row : ℕ → ℕ → ℕ) → AreWords a low_a high_a → low < 2 ^ 64
+      → high < 2 ^ 64
       → UnaryInLanes Lane row low low_a → UnaryInLanes Lane row high high_a → r ≡ vector_of low high
       → r ≡ from_lanes w (λ i. row (bits w) (lane w a i))
   unary_by_words {a} {low_a} {high_a} {low} {high} {r} row of_a fits_low fits_high low_is high_is is_r =
       words_make_unary w whole (row (bits w)) a low_a high_a low high r of_a fits_low fits_high
-      (λ i inside. low_is (bits w * i) (bits w) (lanes i inside)) (λ i inside. high_is (bits w * i) (bits w) (lanes i inside)) is_r
+      (λ i inside. low_is (bits w * i) (bits w) (lanes i inside))
+      (λ i inside. high_is (bits w * i) (bits w) (lanes i inside)) is_r
 
-  pub binary_by_words : {a low_a high_a b low_b high_b low high r : ℕ} (row : ℕ → ℕ → ℕ → ℕ) → AreWords a low_a high_a → AreWords b low_b high_b → low < 2 ^ 64 → high < 2 ^ 64
+  pub binary_by_words : {a low_a high_a b low_b high_b low high r : ℕ} (row : ℕ → ℕ → ℕ → ℕ) → AreWords a low_a high_a
+      → AreWords b low_b high_b → low < 2 ^ 64 → high < 2 ^ 64
       → BinaryInLanes Lane row low low_a low_b → BinaryInLanes Lane row high high_a high_b → r ≡ vector_of low high
       → r ≡ from_lanes w (λ i. row (bits w) (lane w a i) (lane w b i))
-  binary_by_words {a} {low_a} {high_a} {b} {low_b} {high_b} {low} {high} {r} row of_a of_b fits_low fits_high low_is high_is is_r =
+  binary_by_words {a} {low_a} {high_a} {b} {low_b} {high_b} {low} {high}
+      {r} row of_a of_b fits_low fits_high low_is high_is is_r =
       words_make_binary w whole (row (bits w)) a low_a high_a b low_b high_b low high r of_a of_b fits_low fits_high
-      (λ i inside. low_is (bits w * i) (bits w) (lanes i inside)) (λ i inside. high_is (bits w * i) (bits w) (lanes i inside)) is_r
+      (λ i inside. low_is (bits w * i) (bits w) (lanes i inside))
+      (λ i inside. high_is (bits w * i) (bits w) (lanes i inside)) is_r

@@ -1,6 +1,6 @@
--- Words of 64 bits and their lanes, which may have unequal widths. Where `tops` is a word, its ones are the highest bits of the
--- lanes: a lane begins at the bottom, or right above a top, and ends with the next top. What is left above the last top is a lane
--- too, for what leaves it leaves the word.
+-- Words of 64 bits and their lanes, which may have unequal widths. Where `tops` is a word, its ones are the highest
+-- bits of the lanes: a lane begins at the bottom, or right above a top, and ends with the next top. What is left above
+-- the last top is a lane too, for what leaves it leaves the word.
 use Rattle.std.specs.Prelude.{ℕ, ◌≡◌, ◌+◌, ◌-◌, ◌*◌, ◌/◌, ◌%◌, ◌^◌, ◌<◌, ◌≤◌, ◌⊎◌, List, [], ◌∷◌, replicate, ◌==◌, if◌then◌else◌}
 use Rattle.std.specs.Int.{bit_at}
 use Rattle.std.specs.Simd.Lanes.{number_l}
@@ -43,9 +43,11 @@ in_each_lane w n = number_l (2 ^ bits w) (replicate (lanes_in_word w) n)
 -- each lane of w bits of a word is 0 or its highest bit alone
 abbrev pub AreMarks : Width → ℕ → Type 0
 AreMarks w marks =
-    (i : ℕ) → i < lanes_in_word w → (field (bits w * i) (bits w) marks ≡ 0) ⊎ (field (bits w * i) (bits w) marks ≡ 2 ^ (bits w - 1))
+    (i : ℕ) → i < lanes_in_word w
+    → (field (bits w * i) (bits w) marks ≡ 0) ⊎ (field (bits w * i) (bits w) marks ≡ 2 ^ (bits w - 1))
 
 -- the lanes that have their highest bit in marks are all ones in word, the others all zeros
 abbrev pub AreFilled : Width → ℕ → ℕ → Type 0
 AreFilled w marks word =
-    (i : ℕ) → i < lanes_in_word w → field (bits w * i) (bits w) word ≡ (if field (bits w * i) (bits w) marks == 0 then 0 else 2 ^ bits w - 1)
+    (i : ℕ) → i < lanes_in_word w
+    → field (bits w * i) (bits w) word ≡ (if field (bits w * i) (bits w) marks == 0 then 0 else 2 ^ bits w - 1)

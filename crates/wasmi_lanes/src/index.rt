@@ -15,8 +15,8 @@ pub struct OutOfBoundsLaneIdx;
 
 /// The index of one of `N` lanes, from 0 to `N - 1`, lane 0 the lowest. Contracts see the number.
 ///
-/// `N` is 2, 4, 8, 16 or 32: no other number of lanes has an index. The WebAssembly core specification calls it
-/// `laneidx`. Upstream: `ImmLaneIdx`, whose `N` is a `u8`.
+/// `N` is 2, 4, 8, 16 or 32: no other number of lanes has an index. The WebAssembly core
+/// specification calls it `laneidx`. Upstream: `ImmLaneIdx`, whose `N` is a `u8`.
 #[derive(Clone, Copy, Debug, PartialEq, Eq)]
 pub struct ImmLaneIdx<const N: usize> {
     index: u8,
@@ -95,7 +95,8 @@ where
     }
 }
 
-/// An index of a lane, which is made of its number and gives it back. Each number below `COUNT` makes an index, no other.
+/// An index of a lane, which is made of its number and gives it back. Each number below `COUNT`
+/// makes an index, no other.
 pub trait LaneIndex: Copy + Into<u8> + TryFrom<u8, Error = OutOfBoundsLaneIdx> {
     /// How many lanes there are.
     ghost COUNT: { ℕ };
@@ -105,7 +106,8 @@ pub trait LaneIndex: Copy + Into<u8> + TryFrom<u8, Error = OutOfBoundsLaneIdx> {
 
     ghost number_is: { (lane : Self) (n : ℕ) → Self.converts lane n → (n ≡ number lane) × (n < COUNT) };
 
-    ghost taken: { (n : ℕ) (lane : Self) → Self.try_from_gives n (Ok lane) → (number lane ≡ n) × (n < COUNT) };
+    ghost taken: { (n : ℕ) (lane : Self) → Self.try_from_gives n (Ok lane)
+        → (number lane ≡ n) × (n < COUNT) };
 
     ghost refused: { (n : ℕ) (error : _) → Self.try_from_gives n (Err error) → COUNT ≤ n };
 }
@@ -125,7 +127,8 @@ where
     ghost refused = { λ n error is. Prim.search rules };
 }
 
-/// An integer with the index of one of its lanes in a vector, of which there are 128 divided by its width.
+/// An integer with the index of one of its lanes in a vector, of which there are 128 divided by its
+/// width.
 pub trait IntoLaneIdx: LaneInteger {
     /// The index of a lane of these integers.
     type LaneIdx: LaneIndex;

@@ -47,11 +47,13 @@ pub trait LaneInteger: Copy {
 pub trait LaneItem<const N: usize>: LaneInteger {
     /// Fills `items` with the lanes of a vector, lane 0 first.
     fn read_into(vector: V128, items: &mut [Self; N])
-        ensures { (i : ℕ) → i < N → slice_index_or items.new i Self.ALL_ZEROS ≡ Self.read (lane Self.width vector i) };
+        ensures { (i : ℕ) → i < N
+            → slice_index_or items.new i Self.ALL_ZEROS ≡ Self.read (lane Self.width vector i) };
 
     /// The vector with these lanes, lane 0 first.
     fn write_from(items: &[Self; N]) -> V128
-        ensures lanes { (i : ℕ) → i < N → slice_index_or items.now i Self.ALL_ZEROS ≡ Self.read (lane Self.width result i) }
+        ensures lanes { (i : ℕ) → i < N
+            → slice_index_or items.now i Self.ALL_ZEROS ≡ Self.read (lane Self.width result i) }
         ensures in_range { result < 2 ^ 128 };
 
     ghost filled: { N * bits Self.width ≡ 128 };

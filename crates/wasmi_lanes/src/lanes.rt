@@ -36,7 +36,8 @@ pub trait Lanes: Copy {
 
     /// The lanes of a vector.
     fn from_v128(vector: V128) -> Self
-        ensures lanes { (i : ℕ) → i < LANES → item result i ≡ Self.Item.read (lane Self.Item.width vector i) };
+        ensures lanes { (i : ℕ) → i < LANES
+            → item result i ≡ Self.Item.read (lane Self.Item.width vector i) };
 
     /// The vector with these lanes.
     fn into_v128(self) -> V128
@@ -54,7 +55,8 @@ pub trait Lanes: Copy {
 
     /// The lanes with `value` in one of them.
     fn replace_lane(self, lane: Self::LaneIdx, value: Self::Item) -> Self
-        ensures lanes { (i : ℕ) → i < LANES → item result i ≡ (if i == Self.LaneIdx.number lane then value else item self i) };
+        ensures lanes { (i : ℕ) → i < LANES
+            → item result i ≡ (if i == Self.LaneIdx.number lane then value else item self i) };
 
     /// What `f` gives for each lane.
     fn lanewise_unary<F: Fn(Self::Item) -> Self::Item>(self, f: F) -> Self
@@ -85,7 +87,8 @@ pub trait Lanes: Copy {
     /// Turns `acc` into `f(i, lane i, acc)` for each lane index from 0 upwards.
     fn lanewise_reduce<T, F: Fn(u8, Self::Item, T) -> T>(self, acc: T, f: F) -> T
         requires callable { F.IsAlwaysCallable f }
-        ensures steps { ReducesTo (λ i before after. F.post f i (item self i) before after) LANES acc result };
+        ensures steps { ReducesTo (λ i before after. F.post f i (item self i) before after) LANES acc
+            result };
 
     ghost filled: { LANES * bits Self.Item.width ≡ 128 };
 

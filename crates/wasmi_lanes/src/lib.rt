@@ -22,5 +22,5 @@ pub use lanes::{LaneArray, Lanes};
 pub use narrow::{FromNarrow, FromWide, Narrower};
 pub use simd_lane::SimdLane;
 pub use types::{I8x16, I16x8, I32x4, I64x2, IntoLanes, U8x16, U16x8, U32x4, U64x2};
-pub use vector_bytes::{bytes_of, from_bytes, from_words, words_of};
+pub use vector_bytes::{bytes_of, from_bytes, from_u64x2, u64x2_of};
 pub use word_lane::WordLane;

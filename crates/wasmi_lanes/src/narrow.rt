@@ -41,7 +41,8 @@ pub trait FromWide<W: Lanes>: Lanes {
     fn from_low_high<F: Fn(W::Item) -> Self::Item>(low: W, high: W, f: F) -> Self
         requires callable { F.IsAlwaysCallable f }
         ensures low { (i : ℕ) → i < W.LANES → F.post f (W.item low i) (Self.item result i) }
-        ensures high { (i : ℕ) → i < W.LANES → F.post f (W.item high i) (Self.item result (W.LANES + i)) };
+        ensures high { (i : ℕ) → i < W.LANES
+            → F.post f (W.item high i) (Self.item result (W.LANES + i)) };
 
     ghost twice: { Self.LANES ≡ 2 * W.LANES };
 }
@@ -65,17 +66,21 @@ where
     }
 }
 
-/// Lanes that are made of narrower ones, of which there are twice as many. Upstream: `simd::FromNarrow`.
+/// Lanes that are made of narrower ones, of which there are twice as many. Upstream:
+/// `simd::FromNarrow`.
 pub trait FromNarrow<S: FromWide<Self>>: Lanes {
     /// Lane i is made of the narrow lanes 2i and 2i + 1.
     fn pairwise_unary<F: Fn(S::Item, S::Item) -> Self::Item>(narrow: S, f: F) -> Self
         requires callable { F.IsAlwaysCallable f }
-        ensures lanes { (i : ℕ) → i < Self.LANES → F.post f (S.item narrow (2 * i)) (S.item narrow (2 * i + 1)) (Self.item result i) };
+        ensures lanes { (i : ℕ) → i < Self.LANES
+            → F.post f (S.item narrow (2 * i)) (S.item narrow (2 * i + 1)) (Self.item result i) };
 
     /// Lane i is made of the narrow lanes 2i and 2i + 1 of both operands.
     fn pairwise_binary<F: Fn([S::Item; 2], [S::Item; 2]) -> Self::Item>(a: S, b: S, f: F) -> Self
         requires callable { F.IsAlwaysCallable f }
-        ensures lanes { (i : ℕ) → i < Self.LANES → F.post f (S.item a (2 * i) ∷ S.item a (2 * i + 1) ∷ []) (S.item b (2 * i) ∷ S.item b (2 * i + 1) ∷ []) (Self.item result i) };
+        ensures lanes { (i : ℕ) → i < Self.LANES
+            → F.post f (S.item a (2 * i) ∷ S.item a (2 * i + 1) ∷ [])
+            (S.item b (2 * i) ∷ S.item b (2 * i + 1) ∷ []) (Self.item result i) };
 
     /// Lane i is made of the narrow lane i.
     fn low_unary<F: Fn(S::Item) -> Self::Item>(narrow: S, f: F) -> Self
@@ -85,7 +90,8 @@ pub trait FromNarrow<S: FromWide<Self>>: Lanes {
     /// Lane i is made of the narrow lane i of the upper half.
     fn high_unary<F: Fn(S::Item) -> Self::Item>(narrow: S, f: F) -> Self
         requires callable { F.IsAlwaysCallable f }
-        ensures lanes { (i : ℕ) → i < Self.LANES → F.post f (S.item narrow (Self.LANES + i)) (Self.item result i) };
+        ensures lanes { (i : ℕ) → i < Self.LANES
+            → F.post f (S.item narrow (Self.LANES + i)) (Self.item result i) };
 
     /// Lane i is made of the narrow lanes i of both operands.
     fn low_binary<F: Fn(S::Item, S::Item) -> Self::Item>(a: S, b: S, f: F) -> Self
@@ -95,7 +101,9 @@ pub trait FromNarrow<S: FromWide<Self>>: Lanes {
     /// Lane i is made of the narrow lanes i of the upper halves of both operands.
     fn high_binary<F: Fn(S::Item, S::Item) -> Self::Item>(a: S, b: S, f: F) -> Self
         requires callable { F.IsAlwaysCallable f }
-        ensures lanes { (i : ℕ) → i < Self.LANES → F.post f (S.item a (Self.LANES + i)) (S.item b (Self.LANES + i)) (Self.item result i) };
+        ensures lanes { (i : ℕ) → i < Self.LANES
+            → F.post f (S.item a (Self.LANES + i)) (S.item b (Self.LANES + i))
+            (Self.item result i) };
 }
 
 impl<T: Narrower<U, N, M>, U: LaneItem<M>, const N: usize, const M: usize> FromNarrow<

@@ -1,4 +1,5 @@
-//! Lane by lane work on whole vectors: each function gives the vector of whatever row its closure computes.
+//! Lane by lane work on whole vectors: each function gives the vector of whatever row its closure
+//! computes.
 
 ghost use Rattle.std.specs.Prelude.{◌≡◌, ℕ, ◌<◌, ◌-◌, ◌^◌, Bool, if◌then◌else◌};
 ghost use Rattle.wasmi_types.specs.Wrapping.{bits};
@@ -16,7 +17,8 @@ pub fn unary<L: Lanes, F: Fn(L::Item) -> L::Item>(a: V128, f: F) -> V128
         → ((x z : L.Item) → L.Item.Fits x → L.Item.Fits z → F.post f x z → L.Item.image z ≡ row x)
         → result ≡ unary_of_lanes L.Item.width L.Item.read row a }
     ensures each { (i : ℕ) → i < L.LANES
-        → F.post f (L.Item.read (lane L.Item.width a i)) (L.Item.read (lane L.Item.width result i)) }
+        → F.post f (L.Item.read (lane L.Item.width a i))
+        (L.Item.read (lane L.Item.width result i)) }
 {
     L::from_v128(a).lanewise_unary(f).into_v128()
 }
@@ -26,10 +28,12 @@ pub fn unary<L: Lanes, F: Fn(L::Item) -> L::Item>(a: V128, f: F) -> V128
 pub fn binary<L: Lanes, F: Fn(L::Item, L::Item) -> L::Item>(a: V128, b: V128, f: F) -> V128
     requires callable { F.IsAlwaysCallable f }
     ensures lanes { (row : L.Item → L.Item → ℕ)
-        → ((x y z : L.Item) → L.Item.Fits x → L.Item.Fits y → L.Item.Fits z → F.post f x y z → L.Item.image z ≡ row x y)
+        → ((x y z : L.Item) → L.Item.Fits x → L.Item.Fits y → L.Item.Fits z → F.post f x y z
+        → L.Item.image z ≡ row x y)
         → result ≡ binary_of_lanes L.Item.width L.Item.read row a b }
     ensures each { (i : ℕ) → i < L.LANES
-        → F.post f (L.Item.read (lane L.Item.width a i)) (L.Item.read (lane L.Item.width b i)) (L.Item.read (lane L.Item.width result i)) }
+        → F.post f (L.Item.read (lane L.Item.width a i)) (L.Item.read (lane L.Item.width b i))
+        (L.Item.read (lane L.Item.width result i)) }
 {
     L::from_v128(a)
         .lanewise_binary(L::from_v128(b), f)
@@ -41,10 +45,13 @@ pub fn binary<L: Lanes, F: Fn(L::Item, L::Item) -> L::Item>(a: V128, b: V128, f:
 pub fn comparison<L: Lanes, F: Fn(L::Item, L::Item) -> bool>(a: V128, b: V128, f: F) -> V128
     requires callable { F.IsAlwaysCallable f }
     ensures lanes { (test : L.Item → L.Item → Bool)
-        → ((x y : L.Item) (holds : Bool) → L.Item.Fits x → L.Item.Fits y → F.post f x y holds → holds ≡ test x y)
+        → ((x y : L.Item) (holds : Bool) → L.Item.Fits x → L.Item.Fits y → F.post f x y holds
+        → holds ≡ test x y)
         → result ≡ comparison_of_lanes L.Item.width L.Item.read test a b }
     ensures each { (i : ℕ) → i < L.LANES
-        → (holds : Bool) × F.post f (L.Item.read (lane L.Item.width a i)) (L.Item.read (lane L.Item.width b i)) holds
+        → (holds : Bool)
+        × F.post f (L.Item.read (lane L.Item.width a i))
+        (L.Item.read (lane L.Item.width b i)) holds
         × (lane L.Item.width result i ≡ (if holds then 2 ^ bits L.Item.width - 1 else 0)) }
 {
     L::from_v128(a)
@@ -55,7 +62,8 @@ pub fn comparison<L: Lanes, F: Fn(L::Item, L::Item) -> bool>(a: V128, b: V128, f
 /// The vector with `value` in each lane.
 #[inline(always)]
 pub fn splat<L: Lanes>(value: L::Item) -> V128
-    ensures lanes { (number : ℕ) → (L.Item.Fits value → L.Item.image value ≡ number) → result ≡ splat_of L.Item.width number }
+    ensures lanes { (number : ℕ) → (L.Item.Fits value → L.Item.image value ≡ number)
+        → result ≡ splat_of L.Item.width number }
     ensures image { result ≡ splat_of L.Item.width (L.Item.image value) }
 {
     L::splat(value).into_v128()

@@ -35,8 +35,9 @@ pub trait SimdLane: LaneInteger {
 
     /// The lanes moved by half of their range, so that as unsigned numbers they stand in the order
     /// of the signed ones.
-    fn raised(items: Self::Vector) -> Self::Vector
-        ensures lanes { (i : ℕ) → i < COUNT → at result i ≡ (at items i + 2 ^ (bits Self.width - 1)) % 2 ^ bits Self.width };
+    fn biased(items: Self::Vector) -> Self::Vector
+        ensures lanes { (i : ℕ) → i < COUNT
+            → at result i ≡ (at items i + 2 ^ (bits Self.width - 1)) % 2 ^ bits Self.width };
 
     /// The lanes of `chosen` where that of `a` is less than that of `b`, else those of `other`.
     fn choose_if_less(
@@ -76,7 +77,7 @@ impl SimdLane for u8 {
     }
 
     #[inline(always)]
-    fn raised(items: u8x16) -> u8x16 {
+    fn biased(items: u8x16) -> u8x16 {
         items + u8x16::splat(0x80)
     }
 
@@ -111,7 +112,7 @@ impl SimdLane for u16 {
     }
 
     #[inline(always)]
-    fn raised(items: u16x8) -> u16x8 {
+    fn biased(items: u16x8) -> u16x8 {
         items + u16x8::splat(0x8000)
     }
 
@@ -146,7 +147,7 @@ impl SimdLane for u32 {
     }
 
     #[inline(always)]
-    fn raised(items: u32x4) -> u32x4 {
+    fn biased(items: u32x4) -> u32x4 {
         items + u32x4::splat(0x8000_0000)
     }
 
@@ -181,7 +182,7 @@ impl SimdLane for u64 {
     }
 
     #[inline(always)]
-    fn raised(items: u64x2) -> u64x2 {
+    fn biased(items: u64x2) -> u64x2 {
         items + u64x2::splat(0x8000_0000_0000_0000)
     }
 

@@ -21,8 +21,8 @@ pub fn bytes_of(vector: V128) -> u8x16
 
 /// The bytes of a vector, the lowest first, to be taken out one by one or in lanes.
 ///
-/// The words come together by a shuffle. Of a vector made of them LLVM takes the lowest lane of each
-/// word out of the word once more, and inserts it.
+/// The words come together by a shuffle. Of a vector made of them LLVM takes the lowest lane of
+/// each word out of the word once more, and inserts it.
 #[inline(always)]
 pub(crate) fn bytes_to_take_out(vector: V128) -> u8x16
     ensures number { number_l (2 ^ 8) result ≡ vector }
@@ -47,7 +47,7 @@ pub fn from_bytes(bytes: u8x16) -> V128
 
 /// The words of a vector, the lower one first, as one value of the processor's.
 #[inline(always)]
-pub fn words_of(vector: V128) -> u64x2
+pub fn u64x2_of(vector: V128) -> u64x2
     ensures { result ≡ vector % 2 ^ 64 ∷ vector / 2 ^ 64 ∷ [] }
 {
     let (low, high) = vector.words();
@@ -56,7 +56,7 @@ pub fn words_of(vector: V128) -> u64x2
 
 /// The vector of these words, the lower one first.
 #[inline(always)]
-pub fn from_words(words: u64x2) -> V128
+pub fn from_u64x2(words: u64x2) -> V128
     ensures { (low high : ℕ) → words ≡ low ∷ high ∷ [] → result ≡ vector_of low high }
 {
     let [low, high] = words.to_array();

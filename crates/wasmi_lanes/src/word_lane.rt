@@ -18,8 +18,8 @@ pub trait WordLane: LaneInteger {
 
     ghost TOPS: { ℕ };
 
-    /// The highest bit of each lane of a word but the last: a sum or a difference needs no top at the
-    /// end of the word, and without it LLVM makes one step of it where a word is one lane.
+    /// The highest bit of each lane of a word but the last: a sum or a difference needs no top at
+    /// the end of the word, and without it LLVM makes one step of it where a word is one lane.
     const INNER_TOPS: u64;
 
     ghost INNER_TOPS: { ℕ };

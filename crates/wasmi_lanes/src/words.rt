@@ -23,9 +23,11 @@ pub fn word_add(a: u64, b: u64, tops: u64) -> u64
 #[inline]
 pub fn word_sub(a: u64, b: u64, tops: u64) -> u64
     ensures lanes { (start width : ℕ) → IsLane tops start width
-        → field start width result ≡ (field start width a + (2 ^ width - field start width b)) % 2 ^ width }
+        → field start width result
+        ≡ (field start width a + (2 ^ width - field start width b)) % 2 ^ width }
     ensures last { (start width : ℕ) → IsLastLane tops start width
-        → field start width result ≡ (field start width a + (2 ^ width - field start width b)) % 2 ^ width }
+        → field start width result
+        ≡ (field start width a + (2 ^ width - field start width b)) % 2 ^ width }
 {
     (a | tops).wrapping_sub(b & !tops) ^ ((a ^ !b) & tops)
 }
@@ -34,7 +36,8 @@ pub fn word_sub(a: u64, b: u64, tops: u64) -> u64
 #[inline]
 pub fn word_differ(a: u64, b: u64, tops: u64) -> u64
     ensures lanes { (start width : ℕ) → IsLane tops start width
-        → field start width result ≡ (if field start width a == field start width b then 0 else 2 ^ (width - 1)) }
+        → field start width result
+        ≡ (if field start width a == field start width b then 0 else 2 ^ (width - 1)) }
     ensures tops_alone { bit_and result tops ≡ result }
 {
     let rest = !tops;

@@ -15,9 +15,11 @@ use Rattle.wasmi_lanewise.proofs.MeanLemmas.{mean_low}
 lower_half : (w k y mask : ℕ) → field k (w + w) mask ≡ 2 ^ w - 1 → field k (w + w) (bit_and y mask) ≡ field k w y
 unfolding field
 lower_half w k y mask is =
-    field_and k (w + w) y mask ∙ ap (bit_and (y / 2 ^ k % 2 ^ (w + w))) is ∙ and_mask (y / 2 ^ k % 2 ^ (w + w)) w ∙ mod-mod-pow (y / 2 ^ k) w w
+    field_and k (w + w) y mask ∙ ap (bit_and (y / 2 ^ k % 2 ^ (w + w))) is ∙ and_mask (y / 2 ^ k % 2 ^ (w + w)) w
+    ∙ mod-mod-pow (y / 2 ^ k) w w
 
-upper_half : (w k y mask : ℕ) → field k (w + w) mask ≡ 2 ^ w - 1 → field k (w + w) (bit_and (y / 2 ^ w) mask) ≡ field (k + w) w y
+upper_half : (w k y mask : ℕ) → field k (w + w) mask ≡ 2 ^ w - 1
+    → field k (w + w) (bit_and (y / 2 ^ w) mask) ≡ field (k + w) w y
 unfolding field
 upper_half w k y mask is =
     let turned : w + k ≡ k + w = omega arith in
@@ -27,11 +29,13 @@ upper_half w k y mask is =
 halves : (w k v : ℕ) → count_ones (field k (w + w) v) ≡ count_ones (field (k + w) w v) + count_ones (field k w v)
 unfolding field
 halves w k v =
-    ap count_ones (mod-pow-add (v / 2 ^ k) w w) ∙ ones_cat w (v / 2 ^ k / 2 ^ w % 2 ^ w) (v / 2 ^ k % 2 ^ w) (mod-lt (v / 2 ^ k) (pow_pos w))
+    ap count_ones (mod-pow-add (v / 2 ^ k) w w)
+    ∙ ones_cat w (v / 2 ^ k / 2 ^ w % 2 ^ w) (v / 2 ^ k % 2 ^ w) (mod-lt (v / 2 ^ k) (pow_pos w))
     ∙ ap (λ n. count_ones (n % 2 ^ w) + count_ones (v / 2 ^ k % 2 ^ w)) (shr-shr v k w)
 
 -- the highest bit of a lane whose upper half is clear
-mask_off : (h n mask j : ℕ) → ((i : ℕ) → i < n → field ((suc h + suc h) * i) (suc h + suc h) mask ≡ 2 ^ suc h - 1) → j < n → bit_at mask ((suc h + suc h) * j + (h + suc h)) ≡ 0
+mask_off : (h n mask j : ℕ) → ((i : ℕ) → i < n → field ((suc h + suc h) * i) (suc h + suc h) mask ≡ 2 ^ suc h - 1)
+    → j < n → bit_at mask ((suc h + suc h) * j + (h + suc h)) ≡ 0
 mask_off h n mask j is below =
     let k : ℕ = (suc h + suc h) * j in
     let t : ℕ = h + suc h in
@@ -49,23 +53,33 @@ half_room zero n mask v (suc j) pos is lt = absurd (omega arith)
 half_room (suc h) n mask v (suc j) pos is lt =
     let top : ℕ = (suc h + suc h) * j + (h + suc h) in
     let place : (suc h + suc h) * suc j ≡ suc top = omega (arith, mul-suc (suc h + suc h) j) in
-    let clear : bit_at (bit_and v mask) top ≡ 0 = omega (arith, bit_at_and v mask top, mask_off h n mask j is (omega arith)) in
-    subst (λ n. 2 * (bit_and v mask % 2 ^ n) < 2 ^ n) (sym place) (omega (arith, clear_top (bit_and v mask) top clear, pow-suc 2 top))
+    let clear : bit_at (bit_and v mask) top ≡ 0 =
+    omega (arith, bit_at_and v mask top, mask_off h n mask j is (omega arith)) in
+    subst (λ n. 2 * (bit_and v mask % 2 ^ n) < 2 ^ n) (sym place)
+    (omega (arith, clear_top (bit_and v mask) top clear, pow-suc 2 top))
 
 -- One step: from the counts of lanes of w bits to those of lanes of twice as many.
-pub count_step : (w n v y mask : ℕ) → 0 < w → w + w < 2 ^ (w + w) → ((j : ℕ) → j < n → field ((w + w) * j) (w + w) mask ≡ 2 ^ w - 1) →
+pub count_step : (w n v y mask : ℕ) → 0 < w → w + w < 2 ^ (w + w)
+    → ((j : ℕ) → j < n → field ((w + w) * j) (w + w) mask ≡ 2 ^ w - 1) →
     ((j : ℕ) → j < n + n → field (w * j) w y ≡ count_ones (field (w * j) w v)) →
-    (i : ℕ) → i < n → field ((w + w) * i) (w + w) (bit_and y mask + bit_and (y / 2 ^ w) mask) ≡ count_ones (field ((w + w) * i) (w + w) v)
+    (i : ℕ) → i < n
+    → field ((w + w) * i) (w + w) (bit_and y mask + bit_and (y / 2 ^ w) mask)
+    ≡ count_ones (field ((w + w) * i) (w + w) v)
 count_step w n v y mask pos fits is counted i lt =
     let k : ℕ = (w + w) * i in
     let even : w * (i + i) ≡ k = omega (arith, mul-add w i i, add-mul w w i) in
     let odd : w * (i + i + 1) ≡ k + w = omega (arith, mul-add w (i + i) 1, mul-one w) in
-    let low : field k w y ≡ count_ones (field k w v) = subst (λ n. field n w y ≡ count_ones (field n w v)) even (counted (i + i) (omega arith)) in
-    let high : field (k + w) w y ≡ count_ones (field (k + w) w v) = subst (λ n. field n w y ≡ count_ones (field n w v)) odd (counted (i + i + 1) (omega arith)) in
-    let room : bit_and y mask % 2 ^ k + bit_and (y / 2 ^ w) mask % 2 ^ k < 2 ^ k = omega (arith, half_room w n mask y i pos is lt, half_room w n mask (y / 2 ^ w) i pos is lt) in
-    let small : count_ones (field k w v) + count_ones (field (k + w) w v) < 2 ^ (w + w) = omega (arith, ones-le w (field k w v) (field_lt k w v), ones-le w (field (k + w) w v) (field_lt (k + w) w v)) in
+    let low : field k w y ≡ count_ones (field k w v) =
+    subst (λ n. field n w y ≡ count_ones (field n w v)) even (counted (i + i) (omega arith)) in
+    let high : field (k + w) w y ≡ count_ones (field (k + w) w v) =
+    subst (λ n. field n w y ≡ count_ones (field n w v)) odd (counted (i + i + 1) (omega arith)) in
+    let room : bit_and y mask % 2 ^ k + bit_and (y / 2 ^ w) mask % 2 ^ k < 2 ^ k =
+    omega (arith, half_room w n mask y i pos is lt, half_room w n mask (y / 2 ^ w) i pos is lt) in
+    let small : count_ones (field k w v) + count_ones (field (k + w) w v) < 2 ^ (w + w) =
+    omega (arith, ones-le w (field k w v) (field_lt k w v), ones-le w (field (k + w) w v) (field_lt (k + w) w v)) in
     field_add k (w + w) (bit_and y mask) (bit_and (y / 2 ^ w) mask) room
-    ∙ ap₂ (λ m n. (m + n) % 2 ^ (w + w)) (lower_half w k y mask (is i lt) ∙ low) (upper_half w k y mask (is i lt) ∙ high)
+    ∙ ap₂ (λ m n. (m + n) % 2 ^ (w + w)) (lower_half w k y mask (is i lt) ∙ low)
+    (upper_half w k y mask (is i lt) ∙ high)
     ∙ mod-eq_of_lt small ∙ omega (arith, halves w k v)
 
 one_bit : (b : ℕ) → b < 2 → b ≡ count_ones b
@@ -79,7 +93,8 @@ unfolding field
 pair_split k v = mod-pow-add (v / 2 ^ k) 1 1 ∙ ap (λ n. n % 2 * 2 + v / 2 ^ k % 2) (shr-shr v k 1)
 
 -- the first step: a pair less its upper bit
-first_pairs : (v j : ℕ) → v < 2 ^ 64 → j < 32 → field (2 * j) 2 ((v + (2 ^ 64 - bit_and (v / 2) 0x5555_5555_5555_5555)) % 2 ^ 64) ≡ count_ones (field (2 * j) 2 v)
+first_pairs : (v j : ℕ) → v < 2 ^ 64 → j < 32
+    → field (2 * j) 2 ((v + (2 ^ 64 - bit_and (v / 2) 0x5555_5555_5555_5555)) % 2 ^ 64) ≡ count_ones (field (2 * j) 2 v)
 first_pairs v j fits below =
     let k : ℕ = 2 * j in
     let ones : ℕ = 0x5555_5555_5555_5555 in
@@ -87,8 +102,17 @@ first_pairs v j fits below =
     let within : k + 2 ≤ 64 = omega arith in
     let small : upper < 2 ^ 64 = omega (arith, and_le_l (v / 2) ones) in
     let high : field k 2 upper ≡ field (k + 1) 1 v = upper_half 1 k v ones (masks j below) in
-    field_wrapping_sub k 2 64 v upper within small (mean_low k v ones (starts j below)) ∙ ap (λ n. (field k 2 v + (4 - n)) % 4) high
-    ∙ omega (arith, pair_split k v, halves 1 k v, one_bit (field (k + 1) 1 v) (field_lt (k + 1) 1 v), one_bit (field k 1 v) (field_lt k 1 v), field_lt (k + 1) 1 v, field_lt k 1 v)
+    field_wrapping_sub k 2 64 v upper within small (mean_low k v ones (starts j below))
+    ∙ ap (λ n. (field k 2 v + (4 - n)) % 4) high
+    ∙ omega (
+      arith,
+      pair_split k v,
+      halves 1 k v,
+      one_bit (field (k + 1) 1 v) (field_lt (k + 1) 1 v),
+      one_bit (field k 1 v) (field_lt k 1 v),
+      field_lt (k + 1) 1 v,
+      field_lt k 1 v,
+    )
   where
     masks : (i : ℕ) → i < 32 → field (2 * i) 2 0x5555_5555_5555_5555 ≡ 1
     masks i inside = repeated_lane 2 32 i 1 (lit< tt) inside
@@ -102,7 +126,9 @@ first_pairs v j fits below =
 -- the last step: lanes of 4 bits hold 4 at most, so that their highest bit is clear
 module _ (v z : ℕ) (counted : (j : ℕ) → j < 16 → field (4 * j) 4 z ≡ count_ones (field (4 * j) 4 v)) where
   off : (j : ℕ) → j < 16 → bit_at z (4 * j + 3) ≡ 0
-  off j below = sym (top_of_lane (4 * j) 3 z) ∙ omega (arith, counted j below, ones-le 4 (field (4 * j) 4 v) (field_lt (4 * j) 4 v))
+  off j below =
+      sym (top_of_lane (4 * j) 3 z)
+      ∙ omega (arith, counted j below, ones-le 4 (field (4 * j) 4 v) (field_lt (4 * j) 4 v))
 
   room : (i : ℕ) → i < 8 → z % 2 ^ (8 * i) + z / 16 % 2 ^ (8 * i) < 2 ^ (8 * i)
   room zero below = omega (arith, mod-one z, mod-one (z / 16))
@@ -112,8 +138,10 @@ module _ (v z : ℕ) (counted : (j : ℕ) → j < 16 → field (4 * j) 4 z ≡ c
       let lower : 4 * (2 * i + 1) + 3 ≡ top = omega arith in
       let upper : 4 * (2 * i + 2) + 3 ≡ 4 + top = omega arith in
       let first : bit_at z top ≡ 0 = ap (bit_at z) (sym lower) ∙ off (2 * i + 1) (omega arith) in
-      let second : bit_at (z / 16) top ≡ 0 = ap (λ n. n % 2) (shr-shr z 4 top) ∙ ap (bit_at z) (sym upper) ∙ off (2 * i + 2) (omega arith) in
-      subst (λ k. z % 2 ^ k + z / 16 % 2 ^ k < 2 ^ k) (sym place) (omega (arith, clear_top z top first, clear_top (z / 16) top second, pow-suc 2 top))
+      let second : bit_at (z / 16) top ≡ 0 =
+      ap (λ n. n % 2) (shr-shr z 4 top) ∙ ap (bit_at z) (sym upper) ∙ off (2 * i + 2) (omega arith) in
+      subst (λ k. z % 2 ^ k + z / 16 % 2 ^ k < 2 ^ k) (sym place)
+      (omega (arith, clear_top z top first, clear_top (z / 16) top second, pow-suc 2 top))
 
   shifted : (k : ℕ) → field k 4 (z / 16) ≡ field (k + 4) 4 z
   unfolding field
@@ -121,15 +149,20 @@ module _ (v z : ℕ) (counted : (j : ℕ) → j < 16 → field (4 * j) 4 z ≡ c
       let turned : 4 + k ≡ k + 4 = omega arith in
       ap (λ n. n % 16) (shr-shr z 4 k) ∙ ap (λ n. z / 2 ^ n % 16) turned
 
-  last_bytes : (i : ℕ) → i < 8 → field (8 * i) 8 (bit_and ((z + z / 16) % 2 ^ 64) 0x0f0f_0f0f_0f0f_0f0f) ≡ count_ones (field (8 * i) 8 v)
+  last_bytes : (i : ℕ) → i < 8
+      → field (8 * i) 8 (bit_and ((z + z / 16) % 2 ^ 64) 0x0f0f_0f0f_0f0f_0f0f) ≡ count_ones (field (8 * i) 8 v)
   last_bytes i below =
       let k : ℕ = 8 * i in
       let within : k + 4 ≤ 64 = omega arith in
       let even : 4 * (2 * i) ≡ k = omega arith in
       let odd : 4 * (2 * i + 1) ≡ k + 4 = omega arith in
-      let low : field k 4 z ≡ count_ones (field k 4 v) = subst (λ n. field n 4 z ≡ count_ones (field n 4 v)) even (counted (2 * i) (omega arith)) in
-      let high : field (k + 4) 4 z ≡ count_ones (field (k + 4) 4 v) = subst (λ n. field n 4 z ≡ count_ones (field n 4 v)) odd (counted (2 * i + 1) (omega arith)) in
-      let small : count_ones (field k 4 v) + count_ones (field (k + 4) 4 v) < 16 = omega (arith, ones-le 4 (field k 4 v) (field_lt k 4 v), ones-le 4 (field (k + 4) 4 v) (field_lt (k + 4) 4 v)) in
+      let low : field k 4 z ≡ count_ones (field k 4 v) =
+      subst (λ n. field n 4 z ≡ count_ones (field n 4 v)) even (counted (2 * i) (omega arith)) in
+      let high : field (k + 4) 4 z ≡ count_ones (field (k + 4) 4 v) =
+      subst (λ n. field n 4 z ≡ count_ones (field n 4 v)) odd (counted (2 * i + 1) (omega arith)) in
+      let small : count_ones (field k 4 v) + count_ones (field (k + 4) 4 v) < 16 =
+      omega (arith, ones-le 4 (field k 4 v) (field_lt k 4 v), ones-le 4 (field (k + 4) 4 v) (field_lt (k + 4) 4 v))
+      in
       lower_half 4 k ((z + z / 16) % 2 ^ 64) 0x0f0f_0f0f_0f0f_0f0f (repeated_lane 8 8 i 15 (lit< tt) below)
       ∙ field_mod k 4 64 (z + z / 16) within ∙ field_add k 4 z (z / 16) (room i below)
       ∙ ap₂ (λ m n. (m + n) % 16) low (shifted k ∙ high) ∙ mod-eq_of_lt small ∙ omega (arith, halves 4 k v)
@@ -153,5 +186,6 @@ counts_at v fits i below =
     (λ j inside.
     let within : 4 * j + 4 ≤ 64 = omega arith in
     field_mod (4 * j) 4 64 sums within
-    ∙ count_step 2 16 v pairs twos (lit< tt) (lit< tt) (λ m mb. repeated_lane 4 16 m 3 (lit< tt) mb) (λ m mb. first_pairs v m fits mb) j inside)
+    ∙ count_step 2 16 v pairs twos (lit< tt) (lit< tt) (λ m mb. repeated_lane 4 16 m 3 (lit< tt) mb)
+    (λ m mb. first_pairs v m fits mb) j inside)
     i below

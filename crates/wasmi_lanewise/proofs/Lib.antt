@@ -1,9 +1,9 @@
-pub mod Chosen
+pub mod ChosenLemmas
 pub mod CountLemmas
 pub mod MarkLemmas
 pub mod MeanLemmas
-pub mod OneLane
+pub mod OneLaneLemmas
 pub mod OrderLemmas
-pub mod Rounding
+pub mod RoundingLemmas
 pub mod WordLemmas
-pub mod Words
+pub mod LaneWordLemmas

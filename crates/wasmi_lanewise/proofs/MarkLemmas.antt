@@ -20,15 +20,21 @@ mark_clear : (h k v : ℕ) → (field k (suc h) v ≡ 0) ⊎ (field k (suc h) v 
 unfolding field
 mark_clear h k v mark =
     let one : suc h ≡ 1 + h = omega arith in
-    let low : v / 2 ^ k % 2 ^ suc h % 2 ^ h ≡ v / 2 ^ k % 2 ^ h = ap (λ n. v / 2 ^ k % 2 ^ n % 2 ^ h) one ∙ mod-mod-pow (v / 2 ^ k) 1 h in
-    elim mark [ inl e ↦ sym low ∙ ap (λ n. n % 2 ^ h) e ∙ zero-mod (2 ^ h) | inr e ↦ sym low ∙ ap (λ n. n % 2 ^ h) e ∙ mod_self (2 ^ h) ]
+    let low : v / 2 ^ k % 2 ^ suc h % 2 ^ h ≡ v / 2 ^ k % 2 ^ h =
+    ap (λ n. v / 2 ^ k % 2 ^ n % 2 ^ h) one ∙ mod-mod-pow (v / 2 ^ k) 1 h in
+    elim mark [
+      | inl e ↦ sym low ∙ ap (λ n. n % 2 ^ h) e ∙ zero-mod (2 ^ h)
+      | inr e ↦ sym low ∙ ap (λ n. n % 2 ^ h) e
+          ∙ mod_self (2 ^ h)
+    ]
 
 -- the bits below k of marks that were shifted down
 low_shifted : (h k v : ℕ) → Clear h v k → v / 2 ^ h % 2 ^ k ≤ v % 2 ^ k
 low_shifted h k v clear =
     let cut : v % 2 ^ (k + h) / 2 ^ h ≡ v / 2 ^ h % 2 ^ k = field_of v k h in
     let turned : k + h ≡ h + k = omega arith in
-    let parts : v % 2 ^ (k + h) ≡ 0 * 2 ^ k + v % 2 ^ k = ap (λ n. v % 2 ^ n) turned ∙ mod-pow-add v h k ∙ ap (λ n. n * 2 ^ k + v % 2 ^ k) clear in
+    let parts : v % 2 ^ (k + h) ≡ 0 * 2 ^ k + v % 2 ^ k =
+    ap (λ n. v % 2 ^ n) turned ∙ mod-pow-add v h k ∙ ap (λ n. n * 2 ^ k + v % 2 ^ k) clear in
     omega (arith, shr_le (v % 2 ^ (k + h)) h)
 
 -- a lane of marks that were shifted down to its lowest bit
@@ -38,8 +44,10 @@ lane_shifted h k v clear =
     let place : h + k ≡ k + h = omega arith in
     let more : suc h ≡ h + 1 = omega arith in
     let up : k + h + 1 ≡ k + suc h = omega arith in
-    let high : v / 2 ^ (k + h) / 2 ^ 1 % 2 ^ h ≡ 0 = ap (λ n. n % 2 ^ h) (shr-shr v (k + h) 1) ∙ ap (λ n. v / 2 ^ n % 2 ^ h) up ∙ clear in
-    let split : v / 2 ^ (k + h) % 2 ^ (h + 1) ≡ (v / 2 ^ (k + h) / 2 ^ 1 % 2 ^ h) * 2 ^ 1 + v / 2 ^ (k + h) % 2 ^ 1 = mod-pow-add (v / 2 ^ (k + h)) h 1 in
+    let high : v / 2 ^ (k + h) / 2 ^ 1 % 2 ^ h ≡ 0 =
+    ap (λ n. n % 2 ^ h) (shr-shr v (k + h) 1) ∙ ap (λ n. v / 2 ^ n % 2 ^ h) up ∙ clear in
+    let split : v / 2 ^ (k + h) % 2 ^ (h + 1) ≡ (v / 2 ^ (k + h) / 2 ^ 1 % 2 ^ h) * 2 ^ 1 + v / 2 ^ (k + h) % 2 ^ 1 =
+    mod-pow-add (v / 2 ^ (k + h)) h 1 in
     ap (λ n. n % 2 ^ suc h) (shr-shr v h k) ∙ ap₂ (λ m n. v / 2 ^ m % 2 ^ n) place more ∙ omega (arith, split, high)
 
 -- a lane of marks less its lowest bit
@@ -65,9 +73,12 @@ fill_case h f b (inr e) at =
     let less : f - b ≡ 2 ^ h - 1 = omega arith in
     let top : 1 * 2 ^ h ≡ 2 ^ h = one-mul (2 ^ h) in
     let below : 2 ^ h - 1 < 2 ^ h = omega (arith, pow_pos h) in
-    let joined : bit_or (2 ^ h) (2 ^ h - 1) ≡ 2 ^ suc h - 1 = ap (λ n. bit_or n (2 ^ h - 1)) (sym top) ∙ or_shifted 1 h (2 ^ h - 1) below ∙ omega (arith, pow-suc 2 h, pow_pos h) in
+    let joined : bit_or (2 ^ h) (2 ^ h - 1) ≡ 2 ^ suc h - 1 =
+    ap (λ n. bit_or n (2 ^ h - 1)) (sym top) ∙ or_shifted 1 h (2 ^ h - 1) below
+    ∙ omega (arith, pow-suc 2 h, pow_pos h) in
     let some : eqb (2 ^ h) 0 ≡ false = ne_eqb (2 ^ h) 0 (λ z. absurd (omega (arith, pow_pos h))) in
-    ap₂ bit_or e less ∙ joined ∙ sym (ap (λ n. cond (eqb n 0) 0 (2 ^ suc h - 1)) e ∙ ap (λ t. cond t 0 (2 ^ suc h - 1)) some)
+    ap₂ bit_or e less ∙ joined
+    ∙ sym (ap (λ n. cond (eqb n 0) 0 (2 ^ suc h - 1)) e ∙ ap (λ t. cond t 0 (2 ^ suc h - 1)) some)
 
 apart_case : (h f b : ℕ) → (f ≡ 0) ⊎ (f ≡ 2 ^ h) → b ≡ bit_at f h → bit_and f (f - b) ≡ 0
 apart_case h f b (inl e) at =
@@ -91,17 +102,20 @@ module _ (h k v : ℕ) (mark : (field k (suc h) v ≡ 0) ⊎ (field k (suc h) v 
       ∙ less_case h (field k (suc h) v) lowest mark lowest_is
 
   fill_lane : field k (suc h) (bit_or v (v - v / 2 ^ h)) ≡ cond (eqb (field k (suc h) v) 0) 0 (2 ^ suc h - 1)
-  fill_lane = field_or k (suc h) v (v - v / 2 ^ h) ∙ ap (bit_or (field k (suc h) v)) less_lane ∙ fill_case h (field k (suc h) v) lowest mark lowest_is
+  fill_lane = field_or k (suc h) v (v - v / 2 ^ h) ∙ ap (bit_or (field k (suc h) v)) less_lane
+      ∙ fill_case h (field k (suc h) v) lowest mark lowest_is
 
   apart_lane : field k (suc h) (bit_and v (v - v / 2 ^ h)) ≡ 0
-  apart_lane = field_and k (suc h) v (v - v / 2 ^ h) ∙ ap (bit_and (field k (suc h) v)) less_lane ∙ apart_case h (field k (suc h) v) lowest mark lowest_is
+  apart_lane = field_and k (suc h) v (v - v / 2 ^ h) ∙ ap (bit_and (field k (suc h) v)) less_lane
+      ∙ apart_case h (field k (suc h) v) lowest mark lowest_is
 
 -- in lanes of b bits of a word, n of them, each is 0 or its highest bit alone
 abbrev Marked : ℕ → ℕ → ℕ → Type 0
 Marked b n v = (i : ℕ) → i < n → (field (b * i) b v ≡ 0) ⊎ (field (b * i) b v ≡ 2 ^ (b - 1))
 
 -- what follows a lane is the next lane, or nothing
-next_clear : (h n v : ℕ) → v < 2 ^ 64 → n * suc h ≡ 64 → ((i : ℕ) → i < n → (field (suc h * i) (suc h) v ≡ 0) ⊎ (field (suc h * i) (suc h) v ≡ 2 ^ h))
+next_clear : (h n v : ℕ) → v < 2 ^ 64 → n * suc h ≡ 64
+    → ((i : ℕ) → i < n → (field (suc h * i) (suc h) v ≡ 0) ⊎ (field (suc h * i) (suc h) v ≡ 2 ^ h))
     → (i : ℕ) → i < n → Clear h v (suc h * i + suc h)
 next_clear h n v fits whole marks i lt = elim (cases_lt (i + 1) n) [
   | inl more ↦
@@ -109,7 +123,15 @@ next_clear h n v fits whole marks i lt = elim (cases_lt (i + 1) n) [
       ap (λ k. v / 2 ^ k % 2 ^ h) place ∙ mark_clear h (suc h * (i + 1)) v (marks (i + 1) more)
   | inr last ↦
       let count : i + 1 ≡ n = omega arith in
-      let place : suc h * i + suc h ≡ 64 = omega (arith, mul-add (suc h) i 1, mul-one (suc h), mul_comm (suc h) (i + 1), ap (λ m. m * suc h) count, whole) in
+      let place : suc h * i + suc h ≡ 64 =
+      omega (
+        arith,
+        mul-add (suc h) i 1,
+        mul-one (suc h),
+        mul_comm (suc h) (i + 1),
+        ap (λ m. m * suc h) count,
+        whole,
+      ) in
       ap (λ k. v / 2 ^ k % 2 ^ h) place ∙ ap (λ m. m % 2 ^ h) (div-eq_of_lt fits) ∙ zero-mod (2 ^ h)
 ]
 
@@ -129,17 +151,24 @@ filled_is v top fits apart =
     let below : v - half < 2 ^ 64 = omega arith in
     let small : bit_or v (v - half) < 2 ^ 64 = or_lt 64 v (v - half) fits below in
     let sum : (v + v) + (2 ^ 64 - half) ≡ bit_or v (v - half) + 2 ^ 64 = omega arith in
-    mod-add-mod (v + v) (2 ^ 64) (2 ^ 64 - half) ∙ ap (λ n. n % 2 ^ 64) sum ∙ add-mod_right (bit_or v (v - half)) (2 ^ 64) ∙ mod-eq_of_lt small
+    mod-add-mod (v + v) (2 ^ 64) (2 ^ 64 - half) ∙ ap (λ n. n % 2 ^ 64) sum
+    ∙ add-mod_right (bit_or v (v - half)) (2 ^ 64) ∙ mod-eq_of_lt small
 
-module _ (h n v : ℕ) (fits : v < 2 ^ 64) (whole : n * suc h ≡ 64) (marks : (i : ℕ) → i < n → (field (suc h * i) (suc h) v ≡ 0) ⊎ (field (suc h * i) (suc h) v ≡ 2 ^ h)) where
+module _ (h n v : ℕ) (fits : v < 2 ^ 64) (whole : n * suc h ≡ 64)
+    (marks : (i : ℕ) → i < n → (field (suc h * i) (suc h) v ≡ 0) ⊎ (field (suc h * i) (suc h) v ≡ 2 ^ h)) where
   apart : bit_and v (v - v / 2 ^ h) ≡ 0
   apart =
       let less : bit_and v (v - v / 2 ^ h) < 2 ^ 64 = omega (arith, and_le_l v (v - v / 2 ^ h)) in
-      same_words (suc h) n (bit_and v (v - v / 2 ^ h)) 0 (subst (λ k. bit_and v (v - v / 2 ^ h) < 2 ^ k) (sym whole) less) (pow_pos (n * suc h))
-      (λ i lt. apart_lane h (suc h * i) v (marks i lt) (next_clear h n v fits whole marks i lt) ∙ sym (field_of_zero (suc h * i) (suc h)))
+      same_words (suc h) n (bit_and v (v - v / 2 ^ h)) 0
+      (subst (λ k. bit_and v (v - v / 2 ^ h) < 2 ^ k) (sym whole) less) (pow_pos (n * suc h))
+      (λ i lt. apart_lane h (suc h * i) v (marks i lt) (next_clear h n v fits whole marks i lt)
+      ∙ sym (field_of_zero (suc h * i) (suc h)))
 
-  filled_lane : (i : ℕ) → i < n → field (suc h * i) (suc h) (filled v h) ≡ cond (eqb (field (suc h * i) (suc h) v) 0) 0 (2 ^ suc h - 1)
-  filled_lane i lt = ap (field (suc h * i) (suc h)) (filled_is v h fits apart) ∙ fill_lane h (suc h * i) v (marks i lt) (next_clear h n v fits whole marks i lt)
+  filled_lane : (i : ℕ) → i < n
+      → field (suc h * i) (suc h) (filled v h) ≡ cond (eqb (field (suc h * i) (suc h) v) 0) 0 (2 ^ suc h - 1)
+  filled_lane i lt =
+      ap (field (suc h * i) (suc h)) (filled_is v h fits apart)
+      ∙ fill_lane h (suc h * i) v (marks i lt) (next_clear h n v fits whole marks i lt)
 
 pub marks_filled : (b n v top : ℕ) → top ≡ b - 1 → v < 2 ^ 64 → n * b ≡ 64 → Marked b n v → (i : ℕ) → i < n
     → field (b * i) b (filled v top) ≡ cond (eqb (field (b * i) b v) 0) 0 (2 ^ b - 1)
@@ -147,42 +176,51 @@ marks_filled zero n v top is fits whole marks i lt = absurd (omega (arith, whole
 marks_filled (suc h) n v top is fits whole marks i lt =
     let back : suc h - 1 ≡ h = omega arith in
     ap (λ m. field (suc h * i) (suc h) (filled v m)) (is ∙ back)
-    ∙ filled_lane h n v fits whole (λ j below. subst (λ m. (field (suc h * j) (suc h) v ≡ 0) ⊎ (field (suc h * j) (suc h) v ≡ 2 ^ m)) back (marks j below)) i lt
+    ∙ filled_lane h n v fits whole
+    (λ j below. subst (λ m. (field (suc h * j) (suc h) v ≡ 0) ⊎ (field (suc h * j) (suc h) v ≡ 2 ^ m)) back
+    (marks j below)) i lt
 
 -- ---- the lanes that differ, and those that are equal
 
 -- in lanes of w bits, r has the highest bits of those in which a and b differ
 abbrev pub Differs : Width → ℕ → ℕ → ℕ → Type 0
-Differs w a b r = EachLane w (λ k. field k (bits w) r ≡ cond (eqb (field k (bits w) a) (field k (bits w) b)) 0 (2 ^ (bits w - 1)))
+Differs w a b r =
+    EachLane w (λ k. field k (bits w) r ≡ cond (eqb (field k (bits w) a) (field k (bits w) b)) 0 (2 ^ (bits w - 1)))
 
 pub differs_in_lanes : (w : Width) (tops a b r : ℕ) → EachLane w (λ k. IsLane tops k (bits w))
-    → ((start width : ℕ) → IsLane tops start width → field start width r ≡ cond (eqb (field start width a) (field start width b)) 0 (2 ^ (width - 1)))
+    → ((start width : ℕ) → IsLane tops start width
+    → field start width r ≡ cond (eqb (field start width a) (field start width b)) 0 (2 ^ (width - 1)))
     → Differs w a b r
 differs_in_lanes w tops a b r lanes differs i inside = differs (bits w * i) (bits w) (lanes i inside)
 
 pub differ_marks : (w : Width) (a b r : ℕ) → Differs w a b r → AreMarks w r
 differ_marks w a b r differs i inside =
     let k : ℕ = bits w * i in
-    subst (λ n. (n ≡ 0) ⊎ (n ≡ 2 ^ (bits w - 1))) (sym (differs i inside)) (either_mark (eqb (field k (bits w) a) (field k (bits w) b)) (2 ^ (bits w - 1)))
+    subst (λ n. (n ≡ 0) ⊎ (n ≡ 2 ^ (bits w - 1))) (sym (differs i inside))
+    (either_mark (eqb (field k (bits w) a) (field k (bits w) b)) (2 ^ (bits w - 1)))
   where
     either_mark : (t : Bool) (p : ℕ) → (cond t 0 p ≡ 0) ⊎ (cond t 0 p ≡ p)
     either_mark true p = inl refl
     either_mark false p = inr refl
 
 equal_lane : (w : Width) (tops a b r : ℕ) → EachLane w (λ k. IsLane tops k (bits w)) → Differs w a b r
-    → EachLane w (λ k. field k (bits w) (bit_xor r tops) ≡ cond (eqb (field k (bits w) a) (field k (bits w) b)) (2 ^ (bits w - 1)) 0)
+    → EachLane w (λ k. field k (bits w) (bit_xor r tops)
+    ≡ cond (eqb (field k (bits w) a) (field k (bits w) b)) (2 ^ (bits w - 1)) 0)
 equal_lane w tops a b r lanes differs i inside =
     let k : ℕ = bits w * i in
-    field_xor k (bits w) r tops ∙ ap₂ bit_xor (differs i inside) ((lanes i inside).top) ∙ other_mark (eqb (field k (bits w) a) (field k (bits w) b)) (2 ^ (bits w - 1))
+    field_xor k (bits w) r tops ∙ ap₂ bit_xor (differs i inside) ((lanes i inside).top)
+    ∙ other_mark (eqb (field k (bits w) a) (field k (bits w) b)) (2 ^ (bits w - 1))
   where
     other_mark : (t : Bool) (p : ℕ) → bit_xor (cond t 0 p) p ≡ cond t p 0
     other_mark true p = xor_zero_l p
     other_mark false p = xor_self p
 
-pub equal_marks : (w : Width) (tops a b r : ℕ) → EachLane w (λ k. IsLane tops k (bits w)) → Differs w a b r → AreMarks w (bit_xor r tops)
+pub equal_marks : (w : Width) (tops a b r : ℕ) → EachLane w (λ k. IsLane tops k (bits w)) → Differs w a b r
+    → AreMarks w (bit_xor r tops)
 equal_marks w tops a b r lanes differs i inside =
     let k : ℕ = bits w * i in
-    subst (λ n. (n ≡ 0) ⊎ (n ≡ 2 ^ (bits w - 1))) (sym (equal_lane w tops a b r lanes differs i inside)) (either_mark (eqb (field k (bits w) a) (field k (bits w) b)) (2 ^ (bits w - 1)))
+    subst (λ n. (n ≡ 0) ⊎ (n ≡ 2 ^ (bits w - 1))) (sym (equal_lane w tops a b r lanes differs i inside))
+    (either_mark (eqb (field k (bits w) a) (field k (bits w) b)) (2 ^ (bits w - 1)))
   where
     either_mark : (t : Bool) (p : ℕ) → (cond t p 0 ≡ 0) ⊎ (cond t p 0 ≡ p)
     either_mark true p = inr refl
@@ -193,16 +231,20 @@ abbrev pub Fills : Width → ℕ → ℕ → Type 0
 Fills w m f = EachLane w (λ k. field k (bits w) f ≡ cond (eqb (field k (bits w) m) 0) 0 (2 ^ bits w - 1))
 
 pub different_filled : (w : Width) (a b r f : ℕ) → Differs w a b r → Fills w r f
-    → EachLane w (λ k. field k (bits w) f ≡ cond (not (eqb (field k (bits w) a) (field k (bits w) b))) (2 ^ bits w - 1) 0)
+    → EachLane w (λ k. field k (bits w) f
+    ≡ cond (not (eqb (field k (bits w) a) (field k (bits w) b))) (2 ^ bits w - 1) 0)
 different_filled w a b r f differs fills i inside =
     let k : ℕ = bits w * i in
-    fills i inside ∙ ap (λ n. cond (eqb n 0) 0 (2 ^ bits w - 1)) (differs i inside) ∙ full (eqb (field k (bits w) a) (field k (bits w) b)) (2 ^ (bits w - 1)) (2 ^ bits w - 1) (pow_pos (bits w - 1))
+    fills i inside ∙ ap (λ n. cond (eqb n 0) 0 (2 ^ bits w - 1)) (differs i inside)
+    ∙ full (eqb (field k (bits w) a) (field k (bits w) b)) (2 ^ (bits w - 1)) (2 ^ bits w - 1)
+    (pow_pos (bits w - 1))
   where
     full : (t : Bool) (p q : ℕ) → 0 < p → cond (eqb (cond t 0 p) 0) 0 q ≡ cond (not t) q 0
     full true p q pos = refl
     full false p q pos = ap (λ b. cond b 0 q) (ne_eqb p 0 (λ z. absurd (omega arith)))
 
-pub equal_filled : (w : Width) (tops a b r f : ℕ) → EachLane w (λ k. IsLane tops k (bits w)) → Differs w a b r → Fills w (bit_xor r tops) f
+pub equal_filled : (w : Width) (tops a b r f : ℕ) → EachLane w (λ k. IsLane tops k (bits w)) → Differs w a b r
+    → Fills w (bit_xor r tops) f
     → EachLane w (λ k. field k (bits w) f ≡ cond (eqb (field k (bits w) a) (field k (bits w) b)) (2 ^ bits w - 1) 0)
 equal_filled w tops a b r f lanes differs fills i inside =
     let k : ℕ = bits w * i in

@@ -19,7 +19,8 @@ mean_low (suc j) z rest (inr e) =
     let one : 1 + j ≡ suc j = omega arith in
     let turned : j + 1 ≡ suc j = omega arith in
     let parts : s % 2 ^ (1 + j) ≡ 0 * 2 ^ j + s % 2 ^ j = mod-pow-add s 1 j ∙ ap (λ b. b * 2 ^ j + s % 2 ^ j) clear in
-    let low : s % 2 ^ j ≤ z / 2 % 2 ^ j = subst (λ n. n ≤ z / 2 % 2 ^ j) (sym (and_mod (z / 2) rest j)) (and_le_l (z / 2 % 2 ^ j) (rest % 2 ^ j)) in
+    let low : s % 2 ^ j ≤ z / 2 % 2 ^ j =
+    subst (λ n. n ≤ z / 2 % 2 ^ j) (sym (and_mod (z / 2) rest j)) (and_le_l (z / 2 % 2 ^ j) (rest % 2 ^ j)) in
     let half : z % 2 ^ (j + 1) / 2 ≡ z / 2 % 2 ^ j = field_of z j 1 in
     let half' : z % 2 ^ suc j / 2 ≡ z / 2 % 2 ^ j = ap (λ n. z % 2 ^ n / 2) (sym turned) ∙ half in
     subst (λ n. s % 2 ^ n ≤ z % 2 ^ suc j) one (omega (arith, ap (λ n. s % 2 ^ n) one))
@@ -28,7 +29,8 @@ mean_low (suc j) z rest (inr e) =
 pub xor_le_or : (a b : ℕ) → bit_xor a b ≤ bit_or a b
 xor_le_or a b = omega (arith, xor_add_and a b, or_add_and a b)
 
-lane_half : (k h z rest : ℕ) → field k (suc h) rest ≡ 2 ^ h - 1 → field k (suc h) (bit_and (z / 2) rest) ≡ field k (suc h) z / 2
+lane_half : (k h z rest : ℕ) → field k (suc h) rest ≡ 2 ^ h - 1
+    → field k (suc h) (bit_and (z / 2) rest) ≡ field k (suc h) z / 2
 lane_half k h z rest is =
     let one : h + 1 ≡ suc h = omega arith in
     lane_shr (suc h) 1 h k z rest one is
@@ -42,21 +44,26 @@ mean_suc_lane k h a b rest starts is =
     let x : ℕ = field k w a in
     let y : ℕ = field k w b in
     let le : s ≤ bit_or a b = omega (arith, and_le_l (bit_xor a b / 2) rest, xor_le_or a b) in
-    let below : bit_xor a b % 2 ^ k ≤ bit_or a b % 2 ^ k = omega (arith, xor_mod a b k, or_mod a b k, xor_le_or (a % 2 ^ k) (b % 2 ^ k)) in
+    let below : bit_xor a b % 2 ^ k ≤ bit_or a b % 2 ^ k =
+    omega (arith, xor_mod a b k, or_mod a b k, xor_le_or (a % 2 ^ k) (b % 2 ^ k)) in
     let low : s % 2 ^ k ≤ bit_or a b % 2 ^ k = omega (arith, mean_low k (bit_xor a b) rest starts) in
-    let half : field k w s ≡ bit_xor x y / 2 = lane_half k h (bit_xor a b) rest is ∙ ap (λ n. n / 2) (field_xor k w a b) in
+    let half : field k w s ≡ bit_xor x y / 2 =
+    lane_half k h (bit_xor a b) rest is ∙ ap (λ n. n / 2) (field_xor k w a b) in
     let fits : bit_or x y < 2 ^ w = or_lt w x y (field_lt k w a) (field_lt k w b) in
-    let mean : bit_or x y + (2 ^ w - bit_xor x y / 2) ≡ (x + y + 1) / 2 + 2 ^ w = omega (arith, xor_add_and x y, or_add_and x y) in
+    let mean : bit_or x y + (2 ^ w - bit_xor x y / 2) ≡ (x + y + 1) / 2 + 2 ^ w =
+    omega (arith, xor_add_and x y, or_add_and x y) in
     let small : (x + y + 1) / 2 < 2 ^ w = omega (arith, field_lt k w a, field_lt k w b) in
     field_sub k w (bit_or a b) s le low ∙ ap₂ (λ m n. (m + (2 ^ w - n)) % 2 ^ w) (field_or k w a b) half
     ∙ ap (λ n. n % 2 ^ w) mean ∙ add-mod_right ((x + y + 1) / 2) (2 ^ w) ∙ mod-eq_of_lt small
 
-not_starts : (tops k : ℕ) → tops < 2 ^ 64 → k ≤ 64 → (k ≡ 0) ⊎ (bit_at tops (k - 1) ≡ 1) → (k ≡ 0) ⊎ (bit_at (2 ^ 64 - 1 - tops) (k - 1) ≡ 0)
+not_starts : (tops k : ℕ) → tops < 2 ^ 64 → k ≤ 64 → (k ≡ 0) ⊎ (bit_at tops (k - 1) ≡ 1)
+    → (k ≡ 0) ⊎ (bit_at (2 ^ 64 - 1 - tops) (k - 1) ≡ 0)
 not_starts tops zero fits le starts = inl refl
 not_starts tops (suc j) fits le (inl e) = absurd (omega arith)
 not_starts tops (suc j) fits le (inr e) =
     let place : suc j - 1 < 64 = omega arith in
-    let off : bit_at (2 ^ 64 - 1 - tops) (suc j - 1) ≡ 1 - bit_at tops (suc j - 1) = bit_at_not w64 tops (suc j - 1) fits place in
+    let off : bit_at (2 ^ 64 - 1 - tops) (suc j - 1) ≡ 1 - bit_at tops (suc j - 1) =
+    bit_at_not w64 tops (suc j - 1) fits place in
     inr (omega (arith, off))
 
 pub mean_lane : (tops k w a b : ℕ) → tops < 2 ^ 64 → IsLane tops k w →
@@ -65,6 +72,7 @@ mean_lane tops k zero a b fits lane = absurd (omega (arith, lane.top, field_lt k
 mean_lane tops k (suc h) a b fits lane =
     let back : suc h - 1 ≡ h = omega arith in
     let top : field k (suc h) tops ≡ 2 ^ h = lane.top ∙ ap (λ n. 2 ^ n) back in
-    let kept : field k (suc h) (2 ^ 64 - 1 - tops) ≡ 2 ^ h - 1 = field_not k (suc h) 64 tops lane.within fits ∙ omega (arith, top, pow-suc 2 h) in
+    let kept : field k (suc h) (2 ^ 64 - 1 - tops) ≡ 2 ^ h - 1 =
+    field_not k (suc h) 64 tops lane.within fits ∙ omega (arith, top, pow-suc 2 h) in
     let start : k ≤ 64 = omega (arith, lane.within) in
     mean_suc_lane k h a b (2 ^ 64 - 1 - tops) (not_starts tops k fits start lane.starts) kept

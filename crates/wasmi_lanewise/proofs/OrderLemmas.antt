@@ -1,5 +1,5 @@
--- The order of lanes, and what is chosen by it. Numbers of w bits, moved by half of their range, stand in the order of the signed
--- numbers with their bits.
+-- The order of lanes, and what is chosen by it. Numbers of w bits, moved by half of their range, stand in the order of
+-- the signed numbers with their bits.
 use Rattle.std.proofs.Common.{ℕ, ℤ, suc, ◌+◌, ◌-◌, ◌*◌, ◌%◌, ◌^◌, ◌<◌, ◌≤◌, ◌≡◌, min, max, Bool, true, false, not, cond, if◌then◌else◌, ltb, leb, refl, sym, ap, ap₂, ◌∙◌, arith, inl, inr, pos, negsuc, unsigned_abs}
 use Rattle.std.specs.Int.{int_min, int_max, int_rem_euclid}
 use Rattle.std.specs.Int.RustNames.{int_lt, int_le}
@@ -8,7 +8,7 @@ use Rattle.std.proofs.lemmas.Bool.{cases_lt, lt-ltb, le-ltb, le-leb, lt-leb, ltb
 use Rattle.wasmi_types.specs.Wrapping.{Width, w8, w16, w32, w64, bits, signed, wrap}
 use Rattle.wasmi_lanes.specs.Lane.{lane}
 use Rattle.wasmi_lanes.specs.Vector.{from_lanes}
-use Rattle.wasmi_lanes.proofs.Vectors.{lanes_make_vector, lane_below}
+use Rattle.wasmi_lanes.proofs.LaneVectorLemmas.{lanes_make_vector, lane_below}
 use mir.Syntax.{w128}
 use mir.Val.{sel, hbits}
 
@@ -28,8 +28,8 @@ whole_is w64 = refl
 whole_is w128 = refl
 
 -- the number whose lowest bits are those of a signed one, moved by half of the range
-abbrev pub raised : Width → ℕ → ℕ
-raised w x = (x + 2 ^ (bits w - 1)) % 2 ^ bits w
+abbrev pub biased : Width → ℕ → ℕ
+biased w x = (x + 2 ^ (bits w - 1)) % 2 ^ bits w
 
 -- the signed number, where `low` says whether x is below half of the range
 abbrev read_as : Width → Bool → ℕ → ℤ
@@ -56,35 +56,39 @@ int_at_most_is_not_less (negsuc a) (pos b) = refl
 int_at_most_is_not_less (negsuc a) (negsuc b) = at_most_is_not_less b a
 
 module _ (w : Width) where
-  low_raised : (x : ℕ) → x < 2 ^ hbits w → raised w x ≡ x + 2 ^ hbits w
+  low_raised : (x : ℕ) → x < 2 ^ hbits w → biased w x ≡ x + 2 ^ hbits w
   low_raised x below = ap (λ n. (x + n) % 2 ^ bits w) (half_is w) ∙ mod-eq_of_lt (omega (arith, whole_is w))
 
-  high_raised : (x : ℕ) → 2 ^ hbits w ≤ x → x < 2 ^ bits w → raised w x ≡ x - 2 ^ hbits w
+  high_raised : (x : ℕ) → 2 ^ hbits w ≤ x → x < 2 ^ bits w → biased w x ≡ x - 2 ^ hbits w
   high_raised x above fits =
       let sum : x + 2 ^ hbits w ≡ (x - 2 ^ hbits w) + 2 ^ bits w = omega (arith, whole_is w) in
-      ap (λ n. (x + n) % 2 ^ bits w) (half_is w) ∙ ap (λ n. n % 2 ^ bits w) sum ∙ add-mod_right (x - 2 ^ hbits w) (2 ^ bits w) ∙ mod-eq_of_lt (omega arith)
+      ap (λ n. (x + n) % 2 ^ bits w) (half_is w) ∙ ap (λ n. n % 2 ^ bits w) sum
+      ∙ add-mod_right (x - 2 ^ hbits w) (2 ^ bits w) ∙ mod-eq_of_lt (omega arith)
 
   module _ (x y : ℕ) (fits_x : x < 2 ^ bits w) (fits_y : y < 2 ^ bits w) where
     less_where : (low_x low_y : Bool) → ltb x (2 ^ hbits w) ≡ low_x → ltb y (2 ^ hbits w) ≡ low_y
-        → ltb (raised w x) (raised w y) ≡ int_lt (read_as w low_x x) (read_as w low_y y)
+        → ltb (biased w x) (biased w y) ≡ int_lt (read_as w low_x x) (read_as w low_y y)
     less_where true true is_x is_y =
         ap₂ ltb (low_raised x (ltb-true x (2 ^ hbits w) is_x)) (low_raised y (ltb-true y (2 ^ hbits w) is_y))
         ∙ same_less (x + 2 ^ hbits w) (y + 2 ^ hbits w) x y (λ h. omega arith) (λ h. omega arith)
     less_where true false is_x is_y =
         let below = ltb-true x (2 ^ hbits w) is_x in
         let above = ltb-false y (2 ^ hbits w) is_y in
-        ap₂ ltb (low_raised x below) (high_raised y above fits_y) ∙ le-ltb (x + 2 ^ hbits w) (y - 2 ^ hbits w) (omega (arith, whole_is w))
+        ap₂ ltb (low_raised x below) (high_raised y above fits_y)
+        ∙ le-ltb (x + 2 ^ hbits w) (y - 2 ^ hbits w) (omega (arith, whole_is w))
     less_where false true is_x is_y =
         let above = ltb-false x (2 ^ hbits w) is_x in
         let below = ltb-true y (2 ^ hbits w) is_y in
-        ap₂ ltb (high_raised x above fits_x) (low_raised y below) ∙ lt-ltb (x - 2 ^ hbits w) (y + 2 ^ hbits w) (omega (arith, whole_is w))
+        ap₂ ltb (high_raised x above fits_x) (low_raised y below)
+        ∙ lt-ltb (x - 2 ^ hbits w) (y + 2 ^ hbits w) (omega (arith, whole_is w))
     less_where false false is_x is_y =
         let above_x = ltb-false x (2 ^ hbits w) is_x in
         let above_y = ltb-false y (2 ^ hbits w) is_y in
         ap₂ ltb (high_raised x above_x fits_x) (high_raised y above_y fits_y)
-        ∙ same_less (x - 2 ^ hbits w) (y - 2 ^ hbits w) (2 ^ bits w - suc y) (2 ^ bits w - suc x) (λ h. omega arith) (λ h. omega arith)
+        ∙ same_less (x - 2 ^ hbits w) (y - 2 ^ hbits w) (2 ^ bits w - suc y) (2 ^ bits w - suc x) (λ h. omega arith)
+        (λ h. omega arith)
 
-    raised_is_less : ltb (raised w x) (raised w y) ≡ int_lt (signed w x) (signed w y)
+    raised_is_less : ltb (biased w x) (biased w y) ≡ int_lt (signed w x) (signed w y)
     raised_is_less = less_where (ltb x (2 ^ hbits w)) (ltb y (2 ^ hbits w)) refl refl
 
   -- the number of a signed number that was read from it
@@ -127,17 +131,22 @@ larger_is a b = elim (cases_lt b a) as (λ _. (if ltb b a then a else b) ≡ max
 ]
 
 -- the number of the one of two signed numbers that a test chooses
-wrap_chosen : (w : Width) (t : Bool) (x y : ℕ) → x < 2 ^ bits w → y < 2 ^ bits w → (if t then x else y) ≡ wrap w (cond t (signed w x) (signed w y))
+wrap_chosen : (w : Width) (t : Bool) (x y : ℕ) → x < 2 ^ bits w → y < 2 ^ bits w
+    → (if t then x else y) ≡ wrap w (cond t (signed w x) (signed w y))
 wrap_chosen w true x y fits_x fits_y = sym (wrap_signed w x fits_x)
 wrap_chosen w false x y fits_x fits_y = sym (wrap_signed w y fits_y)
 
-pub signed_smaller_is : (w : Width) (a b : ℕ) → a < 2 ^ bits w → b < 2 ^ bits w → (if ltb (raised w b) (raised w a) then b else a) ≡ wrap w (int_min (signed w a) (signed w b))
+pub signed_smaller_is : (w : Width) (a b : ℕ) → a < 2 ^ bits w → b < 2 ^ bits w
+    → (if ltb (biased w b) (biased w a) then b else a) ≡ wrap w (int_min (signed w a) (signed w b))
 signed_smaller_is w a b fits_a fits_b =
-    ap (λ t. if t then b else a) (raised_is_less w b a fits_b fits_a) ∙ wrap_chosen w (int_lt (signed w b) (signed w a)) b a fits_b fits_a
+    ap (λ t. if t then b else a) (raised_is_less w b a fits_b fits_a)
+    ∙ wrap_chosen w (int_lt (signed w b) (signed w a)) b a fits_b fits_a
 
-pub signed_larger_is : (w : Width) (a b : ℕ) → a < 2 ^ bits w → b < 2 ^ bits w → (if ltb (raised w b) (raised w a) then a else b) ≡ wrap w (int_max (signed w a) (signed w b))
+pub signed_larger_is : (w : Width) (a b : ℕ) → a < 2 ^ bits w → b < 2 ^ bits w
+    → (if ltb (biased w b) (biased w a) then a else b) ≡ wrap w (int_max (signed w a) (signed w b))
 signed_larger_is w a b fits_a fits_b =
-    ap (λ t. if t then a else b) (raised_is_less w b a fits_b fits_a) ∙ wrap_chosen w (int_lt (signed w b) (signed w a)) a b fits_a fits_b
+    ap (λ t. if t then a else b) (raised_is_less w b a fits_b fits_a)
+    ∙ wrap_chosen w (int_lt (signed w b) (signed w a)) a b fits_a fits_b
 
 -- ---- vectors whose lanes are chosen by an order of the operands' lanes, as they are (`move` is the identity) or moved
 
@@ -150,15 +159,20 @@ module _ (w : Width) (n : ℕ) (filled : n * bits w ≡ 128) (a b r : ℕ) (belo
       → r ≡ from_lanes w (λ i. row (lane w a i) (lane w b i))
   ordered_make_vector move f row x y is is_x is_y same =
       lanes_make_vector w n r _ filled below
-      (λ i inside. is i inside ∙ ap₂ f (is_x i inside) (is_y i inside) ∙ same (lane w a i) (lane w b i) (lane_below w a i) (lane_below w b i))
+      (λ i inside. is i inside ∙ ap₂ f (is_x i inside) (is_y i inside)
+      ∙ same (lane w a i) (lane w b i) (lane_below w a i) (lane_below w b i))
 
 -- lanes that were moved by half of their range
-pub raised_lanes : (w : Width) (n v : ℕ) (x y : ℕ → ℕ) → ((i : ℕ) → i < n → y i ≡ raised w (x i)) → ((i : ℕ) → i < n → x i ≡ lane w v i) → (i : ℕ) → i < n → y i ≡ raised w (lane w v i)
-raised_lanes w n v x y is_y is_x i inside = is_y i inside ∙ ap (raised w) (is_x i inside)
+pub raised_lanes : (w : Width) (n v : ℕ) (x y : ℕ → ℕ) → ((i : ℕ) → i < n → y i ≡ biased w (x i))
+    → ((i : ℕ) → i < n → x i ≡ lane w v i) → (i : ℕ) → i < n → y i ≡ biased w (lane w v i)
+raised_lanes w n v x y is_y is_x i inside = is_y i inside ∙ ap (biased w) (is_x i inside)
 
 -- all ones or all zeros by a comparison, in the order of the signed numbers
-pub ones_where_less : (w : Width) (n p q : ℕ) → p < 2 ^ bits w → q < 2 ^ bits w → (if ltb (raised w p) (raised w q) then n else 0) ≡ (if int_lt (signed w p) (signed w q) then n else 0)
+pub ones_where_less : (w : Width) (n p q : ℕ) → p < 2 ^ bits w → q < 2 ^ bits w
+    → (if ltb (biased w p) (biased w q) then n else 0) ≡ (if int_lt (signed w p) (signed w q) then n else 0)
 ones_where_less w n p q fits_p fits_q = ap (λ t. if t then n else 0) (raised_is_less w p q fits_p fits_q)
 
-pub ones_where_at_most : (w : Width) (n p q : ℕ) → p < 2 ^ bits w → q < 2 ^ bits w → (if ltb (raised w q) (raised w p) then 0 else n) ≡ (if int_le (signed w p) (signed w q) then n else 0)
-ones_where_at_most w n p q fits_p fits_q = ap (λ t. if t then 0 else n) (raised_is_less w q p fits_q fits_p) ∙ zeros_where_int_less (signed w p) (signed w q) n
+pub ones_where_at_most : (w : Width) (n p q : ℕ) → p < 2 ^ bits w → q < 2 ^ bits w
+    → (if ltb (biased w q) (biased w p) then 0 else n) ≡ (if int_le (signed w p) (signed w q) then n else 0)
+ones_where_at_most w n p q fits_p fits_q =
+    ap (λ t. if t then 0 else n) (raised_is_less w q p fits_q fits_p) ∙ zeros_where_int_less (signed w p) (signed w q) n

@@ -1,6 +1,7 @@
 -- The lane by lane vector instructions of the WebAssembly core specification (section "Numerics", "Vector Operations"):
--- what each gives, over whole numbers. A vector is a number below 2 ^ 128, w is the width of a lane, and each lane's number
--- is read as it is (`unsigned`) or as a signed number (`signed w`). A lane is computed without bounds, then wrapped or clamped.
+-- what each gives, over whole numbers. A vector is a number below 2 ^ 128, w is the width of a lane, and each lane's
+-- number is read as it is (`unsigned`) or as a signed number (`signed w`). A lane is computed without bounds, then
+-- wrapped or clamped.
 use Rattle.std.specs.Prelude.{ℕ, ◌+◌, ◌-◌, ◌*◌, ◌/◌, ◌%◌, ◌^◌, min, max, nat_eq, nat_lt, nat_le, not, ℤ, pos, ◌+ℤ◌, ◌-ℤ◌, ◌*ℤ◌, unsigned_abs, bit_and, bit_or, bit_xor, count_ones, List, slice_index, if◌then◌else◌}
 use Rattle.std.specs.Int.{int_min, int_max, int_shr}
 use Rattle.std.specs.Int.RustNames.{int_lt, int_le}
@@ -25,7 +26,8 @@ replace_lane w v k x = with_lane w v k (wrap w x)
 -- of the 32 bytes of a and b, those at the indices s
 abbrev pub shuffle : ℕ → ℕ → List ℕ → ℕ
 shuffle a b s =
-    from_lanes w8 (λ i. if nat_lt (slice_index s i) 16 then lane w8 a (slice_index s i) else lane w8 b (slice_index s i - 16))
+    from_lanes w8
+    (λ i. if nat_lt (slice_index s i) 16 then lane w8 a (slice_index s i) else lane w8 b (slice_index s i - 16))
 
 -- of the 16 bytes of a, those at the indices that the lanes of s are, and 0 where one is above 15
 abbrev pub swizzle : ℕ → ℕ → ℕ

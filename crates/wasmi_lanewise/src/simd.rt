@@ -1,18 +1,18 @@
 //! The vector instructions that work lane by lane, with the lane types and indices.
 //!
-//! Each function is the instruction of its name: `i8x16_add` is `i8x16.add`, of 16 lanes of 8 bits; lane 0 is the lowest.
-//! `i8x16_mul` is no instruction of WebAssembly. Core specification: vector instructions; what each gives stands in
-//! `specs/VectorTable.antt`. Upstream: `wasmi_core::simd`.
+//! Each function is the instruction of its name: `i8x16_add` is `i8x16.add`, of 16 lanes of 8 bits;
+//! lane 0 is the lowest. `i8x16_mul` is no instruction of WebAssembly. Core specification: vector
+//! instructions; what each gives stands in `specs/VectorTable.antt`. Upstream: `wasmi_core::simd`.
 
 mod binary;
 mod bitwise;
 mod comparison;
-mod fractions;
-mod one_lane;
+mod lane_access;
 mod order;
+mod q15;
 mod shuffle;
-mod splat_and_lanes;
 mod unary;
+mod variable_lane;
 mod words;
 
 pub use binary::i8x16_add;
@@ -92,22 +92,22 @@ pub use comparison::i64x2_gt_s;
 pub use comparison::i64x2_le_s;
 pub use comparison::i64x2_lt_s;
 pub use comparison::i64x2_ne;
+pub use lane_access::i8x16_extract_lane_s;
+pub use lane_access::i8x16_extract_lane_u;
+pub use lane_access::i8x16_replace_lane;
+pub use lane_access::i8x16_splat;
+pub use lane_access::i16x8_extract_lane_s;
+pub use lane_access::i16x8_extract_lane_u;
+pub use lane_access::i16x8_replace_lane;
+pub use lane_access::i16x8_splat;
+pub use lane_access::i32x4_extract_lane;
+pub use lane_access::i32x4_replace_lane;
+pub use lane_access::i32x4_splat;
+pub use lane_access::i64x2_extract_lane;
+pub use lane_access::i64x2_replace_lane;
+pub use lane_access::i64x2_splat;
 pub use shuffle::i8x16_shuffle;
 pub use shuffle::i8x16_swizzle;
-pub use splat_and_lanes::i8x16_extract_lane_s;
-pub use splat_and_lanes::i8x16_extract_lane_u;
-pub use splat_and_lanes::i8x16_replace_lane;
-pub use splat_and_lanes::i8x16_splat;
-pub use splat_and_lanes::i16x8_extract_lane_s;
-pub use splat_and_lanes::i16x8_extract_lane_u;
-pub use splat_and_lanes::i16x8_replace_lane;
-pub use splat_and_lanes::i16x8_splat;
-pub use splat_and_lanes::i32x4_extract_lane;
-pub use splat_and_lanes::i32x4_replace_lane;
-pub use splat_and_lanes::i32x4_splat;
-pub use splat_and_lanes::i64x2_extract_lane;
-pub use splat_and_lanes::i64x2_replace_lane;
-pub use splat_and_lanes::i64x2_splat;
 pub use unary::i8x16_abs;
 pub use unary::i8x16_neg;
 pub use unary::i8x16_popcnt;

@@ -4,13 +4,14 @@ use Rattle.std.proofs.lemmas.Bool.{cases_lt}
 use Rattle.wasmi_meter.specs.declared.limiter.Kind.{Kind}
 use Rattle.wasmi_meter.specs.declared.limiter.Kind.TheVariants.{Bytes, Elements}
 use Rattle.wasmi_meter.specs.declared.quota.Quota.{Quota}
-use Rattle.wasmi_meter.specs.Limiter.{Question, Answer, Failure, Heed, kind_of}
+use Rattle.wasmi_meter.specs.Limiter.{Question, Answer, Failure, NoticeAnswer, kind_of}
 use Rattle.wasmi_meter.specs.Holdings.{Holdings, amount_held, with_more, without_last_of}
 use Rattle.wasmi_meter.specs.Quota.{holdings, cap_of, IsWithinCaps, SameCaps, Asked, Noticed}
 
 module _ (quota quota' : Quota) (within : IsWithinCaps quota) where
   -- after n more of a kind that fit
-  more_is_within : (kind : Kind) (n : ℕ) → amount_held (holdings quota) kind + n ≤ cap_of quota kind → holdings quota' ≡ with_more (holdings quota) kind n → SameCaps quota quota' → IsWithinCaps quota'
+  more_is_within : (kind : Kind) (n : ℕ) → amount_held (holdings quota) kind + n ≤ cap_of quota kind
+      → holdings quota' ≡ with_more (holdings quota) kind n → SameCaps quota quota' → IsWithinCaps quota'
   more_is_within Bytes n fits more caps =
       let bytes : quota'.held_bytes ≡ quota.held_bytes + n = ap (λ (h : Holdings). h.bytes) more in
       let elements : quota'.held_elements ≡ quota.held_elements = ap (λ (h : Holdings). h.elements) more in
@@ -21,7 +22,8 @@ module _ (quota quota' : Quota) (within : IsWithinCaps quota) where
       record { bytes = omega arith; elements = omega arith }
 
   -- after no more of each kind, and after the same of each
-  no_more_is_within : quota'.held_bytes ≤ quota.held_bytes → quota'.held_elements ≤ quota.held_elements → SameCaps quota quota' → IsWithinCaps quota'
+  no_more_is_within : quota'.held_bytes ≤ quota.held_bytes → quota'.held_elements ≤ quota.held_elements
+      → SameCaps quota quota' → IsWithinCaps quota'
   no_more_is_within bytes elements caps = record { bytes = omega arith; elements = omega arith }
 
   the_same_is_within : holdings quota' ≡ holdings quota → SameCaps quota quota' → IsWithinCaps quota'
@@ -31,7 +33,8 @@ module _ (quota quota' : Quota) (within : IsWithinCaps quota) where
       no_more_is_within (omega arith) (omega arith)
 
   -- after a notice, by its kind and the last difference
-  less_is_within : (kind : Kind) (last : Option (Kind × ℕ)) → holdings quota' ≡ without_last_of kind (holdings quota) last → SameCaps quota quota' → IsWithinCaps quota'
+  less_is_within : (kind : Kind) (last : Option (Kind × ℕ))
+      → holdings quota' ≡ without_last_of kind (holdings quota) last → SameCaps quota quota' → IsWithinCaps quota'
   less_is_within Bytes (Some (Bytes, n)) less =
       let bytes : quota'.held_bytes ≡ quota.held_bytes - n = ap (λ (h : Holdings). h.bytes) less in
       let elements : quota'.held_elements ≡ quota.held_elements = ap (λ (h : Holdings). h.elements) less in
@@ -52,6 +55,7 @@ module _ (quota quota' : Quota) (within : IsWithinCaps quota) where
         | inr fits ↦ more_is_within q.kind (q.desired - q.current) fits (asked.permits fits).1 asked.caps
       ]
 
-  pub noticed_is_within : (failure : Failure) (heed : Heed) → Noticed quota failure heed quota' → IsWithinCaps quota'
-  noticed_is_within failure heed noticed =
+  pub noticed_is_within : (failure : Failure) (notice_answer : NoticeAnswer)
+      → Noticed quota failure notice_answer quota' → IsWithinCaps quota'
+  noticed_is_within failure notice_answer noticed =
       less_is_within (kind_of failure) quota.last noticed.gives_back noticed.caps

@@ -2,25 +2,25 @@
 use Rattle.std.specs.Prelude.{◌≡◌, ℕ, Bool, true, nat_le, is_none, ◌&&◌, if◌then◌else◌, MatchBool, Option, Some, None, Result, Ok, Err}
 use Rattle.std.specs.Option.{option_map}
 use Rattle.wasmi_meter.specs.declared.fuel.CustomFuelCosts.{CustomFuelCosts}
-use Rattle.wasmi_meter.specs.Limiter.{Question, Failure, Answer, Heed, IsDenial, Rules}
+use Rattle.wasmi_meter.specs.Limiter.{Question, Failure, Answer, NoticeAnswer, IsDenial, Rules}
 use Rattle.wasmi_meter.specs.Meter.{Meter, amount_left, meter_after, due}
 
 -- a value that may grow, the meter that is charged, if there is one, and the limiter that is asked
-pub record Situation (V S : Type 0) : Type 0 where
+pub record MeteredValue (V S : Type 0) : Type 0 where
   pub value : V
   pub meter : Option Meter
   pub limiter : S
 
 -- another value in the same situation
-abbrev pub with_value : {V W S : Type 0} → Situation V S → W → Situation W S
+abbrev pub with_value : {V W S : Type 0} → MeteredValue V S → W → MeteredValue W S
 with_value s value = record { value = value; meter = s.meter; limiter = s.limiter }
 
 -- a limiter that is asked for what isn't there yet, and no meter
-abbrev pub alone : {S : Type 0} → S → Situation (Unit {0}) S
+abbrev pub alone : {S : Type 0} → S → MeteredValue (Unit {0}) S
 alone l = record { value = tt; meter = None; limiter = l }
 
 -- what is asked and paid, and the causes of a refusal in their order
-pub record Effort (V E : Type 0) : Type 1 where
+pub record Request (V E : Type 0) : Type 1 where
   -- the first cause before the question
   pub early : Option E
   pub question : Question
@@ -39,23 +39,24 @@ pub record Effort (V E : Type 0) : Type 1 where
   -- the value once it has grown
   pub grown : V
 
--- the four ends: refused unasked, denied by the limiter, met, or failed after the permission, with the answer to the notice
-pub data Fate (E : Type 0) : Type 0 where
-  Unasked : E → Fate E
-  Denied : Answer → Fate E
-  Met : Fate E
-  Failed : E → Heed → Fate E
+-- the four ends: refused unasked, denied by the limiter, met, or failed after the permission, with the answer to the
+-- notice
+pub data AttemptOutcome (E : Type 0) : Type 0 where
+  Unasked : E → AttemptOutcome E
+  Denied : Answer → AttemptOutcome E
+  Met : AttemptOutcome E
+  Failed : E → NoticeAnswer → AttemptOutcome E
 
 -- what is due for a price: nothing where there is no price or no meter, or where the meter is off
-abbrev pub amount_due : Option Meter → Option (CustomFuelCosts → ℕ) → ℕ
-amount_due (Some m) (Some price) = due m price
-amount_due (Some m) None = 0
-amount_due None price = 0
+abbrev pub optional_due : Option Meter → Option (CustomFuelCosts → ℕ) → ℕ
+optional_due (Some m) (Some price) = due m price
+optional_due (Some m) None = 0
+optional_due None price = 0
 
 -- whether so much is left
-abbrev pub can_pay : Option Meter → ℕ → Bool
-can_pay (Some m) amount = nat_le amount (amount_left m)
-can_pay None amount = true
+abbrev pub covers : Option Meter → ℕ → Bool
+covers (Some m) amount = nat_le amount (amount_left m)
+covers None amount = true
 
 -- the error of an answer that is no permission
 abbrev pub error_of_answer : {E : Type 0} → E → E → Answer → E
@@ -63,7 +64,7 @@ error_of_answer denial refusal (Ok _) = denial
 error_of_answer denial refusal (Err _) = refusal
 
 -- the error of a failure, by the answer to its notice
-abbrev pub error_of_failure : {E : Type 0} → E → E → Heed → E
+abbrev pub error_of_failure : {E : Type 0} → E → E → NoticeAnswer → E
 error_of_failure refusal cause (Ok _) = cause
 error_of_failure refusal cause (Err _) = refusal
 
@@ -72,55 +73,57 @@ abbrev pub Permits : {E : Type 0} → E → E → Answer → Result (Unit {0}) E
 Permits denial refusal answer (Ok _) = answer ≡ Ok true
 Permits denial refusal answer (Err error) = IsDenial answer × (error ≡ error_of_answer denial refusal answer)
 
-module _ {V E : Type 0} (e : Effort V E) where
+module _ {V E : Type 0} (e : Request V E) where
   -- what is answered, where success answers this value
-  abbrev pub answer_of : {T : Type 0} → T → Fate E → Result T E
+  abbrev pub answer_of : {T : Type 0} → T → AttemptOutcome E → Result T E
   answer_of value (Unasked cause) = Err cause
   answer_of value (Denied answer) = Err (error_of_answer e.denial e.refusal answer)
   answer_of value Met = Ok value
-  answer_of value (Failed cause heed) = Err (error_of_failure e.refusal cause heed)
+  answer_of value (Failed cause notice_answer) = Err (error_of_failure e.refusal cause notice_answer)
 
   -- the value afterwards: the grown one where the attempt was met, else the same
-  abbrev pub value_after : V → Fate E → V
+  abbrev pub value_after : V → AttemptOutcome E → V
   value_after value (Unasked cause) = value
   value_after value (Denied answer) = value
   value_after value Met = e.grown
-  value_after value (Failed cause heed) = value
+  value_after value (Failed cause notice_answer) = value
 
   module _ (m : Option Meter) where
     -- the first cause after the permission: the late one, then fuel, then what is grown into
     abbrev pub IsFirstCause : Option E → E → Type 0
     IsFirstCause (Some late) cause = cause ≡ late
     IsFirstCause None cause =
-        MatchBool (can_pay m (amount_due m e.price)) (e.refuses cause) (cause ≡ e.unpaid (amount_due m e.price))
+        MatchBool (covers m (optional_due m e.price)) (e.refuses cause) (cause ≡ e.unpaid (optional_due m e.price))
 
     -- when an attempt may end so
-    abbrev pub MayEnd : Fate E → Type 0
+    abbrev pub MayEnd : AttemptOutcome E → Type 0
     MayEnd (Unasked cause) = e.early ≡ Some cause
     MayEnd (Denied answer) = (e.early ≡ None) × IsDenial answer
-    MayEnd Met = (e.early ≡ None) × (e.late ≡ None) × (can_pay m (amount_due m e.price) ≡ true)
-    MayEnd (Failed cause heed) = (e.early ≡ None) × IsFirstCause e.late cause
+    MayEnd Met = (e.early ≡ None) × (e.late ≡ None) × (covers m (optional_due m e.price) ≡ true)
+    MayEnd (Failed cause notice_answer) = (e.early ≡ None) × IsFirstCause e.late cause
 
     -- what is charged: what is due, once the late cause is absent and so much is left, also where there is then no room
-    abbrev pub charge_of : Fate E → ℕ
-    charge_of (Unasked cause) = 0
-    charge_of (Denied answer) = 0
-    charge_of Met = amount_due m e.price
-    charge_of (Failed cause heed) =
-        if is_none e.late && can_pay m (amount_due m e.price) then amount_due m e.price else 0
+    abbrev pub outcome_charge : AttemptOutcome E → ℕ
+    outcome_charge (Unasked cause) = 0
+    outcome_charge (Denied answer) = 0
+    outcome_charge Met = optional_due m e.price
+    outcome_charge (Failed cause notice_answer) =
+        if is_none e.late && covers m (optional_due m e.price) then optional_due m e.price else 0
 
   -- What the limiter sees: nothing, a denial, or a permission, which is followed by the growth or by just one notice.
-  abbrev pub Follows : {S : Type 0} → Rules S → S → Fate E → S → Type 0
+  abbrev pub Follows : {S : Type 0} → Rules S → S → AttemptOutcome E → S → Type 0
   Follows rules l (Unasked cause) l' = l' ≡ l
   Follows rules l (Denied answer) l' = rules.asked l e.question answer l'
   Follows rules l Met l' = rules.asked l e.question (Ok true) l'
-  Follows rules l (Failed cause heed) l' =
-      (permitted : _) × rules.asked l e.question (Ok true) permitted × rules.noticed permitted (e.notice cause) heed l'
+  Follows rules l (Failed cause notice_answer) l' =
+      (permitted : _) × rules.asked l e.question (Ok true) permitted
+      × rules.noticed permitted (e.notice cause) notice_answer l'
 
 -- one attempt: its end, its charge, and the value, the meter and the limiter afterwards
-pub record Attempt {V E S : Type 0} (rules : Rules S) (e : Effort V E) (s : Situation V S) (fate : Fate E) (charge : ℕ) (s' : Situation V S) : Type 0 where
-  pub may_end : MayEnd e s.meter fate
-  pub follows : Follows e rules s.limiter fate s'.limiter
-  pub charged : charge ≡ charge_of e s.meter fate
+pub record Attempt {V E S : Type 0} (rules : Rules S) (e : Request V E) (s : MeteredValue V S)
+    (outcome : AttemptOutcome E) (charge : ℕ) (s' : MeteredValue V S) : Type 0 where
+  pub may_end : MayEnd e s.meter outcome
+  pub follows : Follows e rules s.limiter outcome s'.limiter
+  pub charged : charge ≡ outcome_charge e s.meter outcome
   pub meter : s'.meter ≡ option_map (λ m. meter_after m charge) s.meter
-  pub value : s'.value ≡ value_after e s.value fate
+  pub value : s'.value ≡ value_after e s.value outcome

@@ -20,7 +20,8 @@ abbrev pub with_more : Holdings → Kind → ℕ → Holdings
 with_more h Bytes n = record { bytes = h.bytes + n; elements = h.elements; last = Some (Bytes, n) }
 with_more h Elements n = record { bytes = h.bytes; elements = h.elements + n; last = Some (Elements, n) }
 
--- a notice of a kind takes back the last difference of that kind, once; with nothing of that kind to take back, all stays
+-- a notice of a kind takes back the last difference of that kind, once; with nothing of that kind to take back, all
+-- stays
 abbrev pub without_last_of : Kind → Holdings → Option (Kind × ℕ) → Holdings
 without_last_of Bytes h (Some (Bytes, n)) = record { bytes = h.bytes - n; elements = h.elements; last = None }
 without_last_of Elements h (Some (Elements, n)) = record { bytes = h.bytes; elements = h.elements - n; last = None }

@@ -10,5 +10,7 @@ ending_with last None l = None
 ending_with last (Some r) l = Some (last r l)
 
 -- r lends the limiter out of s, and s ends with the last value that was written through it
-abbrev pub LendsLimiter : (R L : RattleType) → (R.Denot → L.Denot → R.Denot) → MutBor (LimiterRef R.Denot) → Option (MutBor L.Denot) → Fml
-LendsLimiter R L last s r = LendsIf (the_row R) L s r (λ l. record s.now { limiter = ending_with last s.now.limiter l }) s.now
+abbrev pub LendsLimiter : (R L : RattleType) → (R.Denot → L.Denot → R.Denot) → MutBor (LimiterRef R.Denot)
+    → Option (MutBor L.Denot) → Fml
+LendsLimiter R L last s r =
+    LendsIf (the_row R) L s r (λ l. record s.now { limiter = ending_with last s.now.limiter l }) s.now

@@ -17,8 +17,8 @@ pub record Question : Type 0 where
 abbrev pub Answer : Type 0
 Answer = Result Bool LimiterError
 
-abbrev pub Heed : Type 0
-Heed = Result (Unit {0}) LimiterError
+abbrev pub NoticeAnswer : Type 0
+NoticeAnswer = Result (Unit {0}) LimiterError
 
 -- the answer is no permission
 abbrev pub IsDenial : Answer → Type 0
@@ -39,13 +39,13 @@ kind_of (TableFailure error) = Elements
 -- what a limiter may answer in each of its states, and the state after it
 pub record Rules (S : Type 0) : Type 1 where
   pub asked : S → Question → Answer → S → Type 0
-  pub noticed : S → Failure → Heed → S → Type 0
+  pub noticed : S → Failure → NoticeAnswer → S → Type 0
 
--- the rules of a limiter that permits everything, heeds each notice, and stays the same
+-- the rules of a limiter that permits everything, accepts each notice, and stays the same
 abbrev pub unlimited_rules : {S : Type 0} → Rules S
 unlimited_rules = record {
   asked = λ l question answer l'. (answer ≡ Ok true) × (l' ≡ l);
-  noticed = λ l failure heed l'. (heed ≡ Ok tt) × (l' ≡ l);
+  noticed = λ l failure notice_answer l'. (notice_answer ≡ Ok tt) × (l' ≡ l);
 }
 
 -- a question to a limiter that may be absent: without one it is permitted
@@ -55,12 +55,12 @@ AskedIf rules None question answer None = answer ≡ Ok true
 AskedIf rules (Some l) question answer None = ⊥
 AskedIf rules None question answer (Some l') = ⊥
 
--- a notice to a limiter that may be absent: without one it is heeded
-abbrev pub NoticedIf : {S : Type 0} → Rules S → Option S → Failure → Heed → Option S → Type 0
-NoticedIf rules (Some l) failure heed (Some l') = rules.noticed l failure heed l'
-NoticedIf rules None failure heed None = heed ≡ Ok tt
-NoticedIf rules (Some l) failure heed None = ⊥
-NoticedIf rules None failure heed (Some l') = ⊥
+-- a notice to a limiter that may be absent: without one it is accepted
+abbrev pub NoticedIf : {S : Type 0} → Rules S → Option S → Failure → NoticeAnswer → Option S → Type 0
+NoticedIf rules (Some l) failure notice_answer (Some l') = rules.noticed l failure notice_answer l'
+NoticedIf rules None failure notice_answer None = notice_answer ≡ Ok tt
+NoticedIf rules (Some l) failure notice_answer None = ⊥
+NoticedIf rules None failure notice_answer (Some l') = ⊥
 
 -- the rules of a limiter that may be absent
 abbrev pub optional_rules : {S : Type 0} → Rules S → Rules (Option S)

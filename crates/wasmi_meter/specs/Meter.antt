@@ -23,7 +23,8 @@ abbrev pub meter_set : Meter → ℕ → Meter
 meter_set m amount = record m { left = option_map (λ left. amount) m.left }
 
 -- an amount is taken where that much is left, and is refused else
-pub record Spends {T : Type 0} (m : Meter) (amount : ℕ) (value : T) (result : Result T FuelError) (m' : Meter) : Type 0 where
+pub record ConsumesFuel {T : Type 0} (m : Meter) (amount : ℕ) (value : T) (result : Result T FuelError)
+    (m' : Meter) : Type 0 where
   pub enough : amount ≤ amount_left m → (result ≡ Ok value) × (m' ≡ meter_after m amount)
   pub short : amount_left m < amount → (result ≡ Err (OutOfFuel amount)) × (m' ≡ m)
 

@@ -3,7 +3,7 @@ use Rattle.std.specs.Prelude.{◌≡◌, ◌+◌, ◌-◌, ◌≤◌, ◌<◌, �
 use Rattle.wasmi_meter.specs.declared.limiter.Kind.{Kind}
 use Rattle.wasmi_meter.specs.declared.limiter.Kind.TheVariants.{Bytes, Elements}
 use Rattle.wasmi_meter.specs.declared.quota.Quota.{Quota}
-use Rattle.wasmi_meter.specs.Limiter.{Question, Answer, Failure, Heed, kind_of, Rules}
+use Rattle.wasmi_meter.specs.Limiter.{Question, Answer, Failure, NoticeAnswer, kind_of, Rules}
 use Rattle.wasmi_meter.specs.Holdings.{Holdings, amount_held, with_more, without_last}
 
 -- what a quota holds
@@ -25,16 +25,18 @@ pub record SameCaps (quota quota' : Quota) : Type 0 where
   pub bytes : quota'.bytes ≡ quota.bytes
   pub elements : quota'.elements ≡ quota.elements
 
--- It permits exactly where what is held and the difference aren't above the cap, and says no and changes nothing otherwise.
+-- It permits exactly where what is held and the difference aren't above the cap, and says no and changes nothing
+-- otherwise.
 pub record Asked (quota : Quota) (q : Question) (answer : Answer) (quota' : Quota) : Type 0 where
   pub permits : amount_held (holdings quota) q.kind + (q.desired - q.current) ≤ cap_of quota q.kind →
       (answer ≡ Ok true) × (holdings quota' ≡ with_more (holdings quota) q.kind (q.desired - q.current))
-  pub denies : cap_of quota q.kind < amount_held (holdings quota) q.kind + (q.desired - q.current) → (answer ≡ Ok false) × (quota' ≡ quota)
+  pub denies : cap_of quota q.kind < amount_held (holdings quota) q.kind + (q.desired - q.current)
+      → (answer ≡ Ok false) × (quota' ≡ quota)
   pub caps : SameCaps quota quota'
 
 -- It gives the last difference back where it is of the kind, once, and changes nothing otherwise.
-pub record Noticed (quota : Quota) (failure : Failure) (heed : Heed) (quota' : Quota) : Type 0 where
-  pub heeds : heed ≡ Ok tt
+pub record Noticed (quota : Quota) (failure : Failure) (notice_answer : NoticeAnswer) (quota' : Quota) : Type 0 where
+  pub accepts : notice_answer ≡ Ok tt
   pub gives_back : holdings quota' ≡ without_last (kind_of failure) (holdings quota)
   pub caps : SameCaps quota quota'
 

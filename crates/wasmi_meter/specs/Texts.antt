@@ -23,9 +23,12 @@ memory_error_text memory.OutOfBoundsGrowth = codes "out of bounds memory growth"
 memory_error_text memory.OutOfBoundsAccess = codes "out of bounds memory access"
 memory_error_text memory.InvalidMemoryType = codes "tried to create an invalid linear memory type"
 memory_error_text memory.InvalidStaticBufferSize = codes "tried to use too small static buffer"
-memory_error_text memory.ResourceLimiterDeniedAllocation = codes "a resource limiter denied to allocate or grow the linear memory"
-memory_error_text memory.MinimumSizeOverflow = codes "the minimum size of the memory type overflows the system index type"
-memory_error_text memory.MaximumSizeOverflow = codes "the maximum size of the memory type overflows the system index type"
+memory_error_text memory.ResourceLimiterDeniedAllocation =
+    codes "a resource limiter denied to allocate or grow the linear memory"
+memory_error_text memory.MinimumSizeOverflow =
+    codes "the minimum size of the memory type overflows the system index type"
+memory_error_text memory.MaximumSizeOverflow =
+    codes "the maximum size of the memory type overflows the system index type"
 memory_error_text (memory.OutOfFuel required) = codes "not enough fuel. required=" ++ decimal required
 
 abbrev pub table_error_text : TableError → List ℕ

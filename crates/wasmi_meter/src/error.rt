@@ -35,11 +35,13 @@ impl std::error::Error for LimiterError {}
 pub enum MemoryError {
     /// The system refused memory for an owned memory.
     OutOfSystemMemory,
-    /// A growth above the greatest number of pages or the maximum, or one that the limiter says no to.
+    /// A growth above the greatest number of pages or the maximum, or one that the limiter says no
+    /// to.
     OutOfBoundsGrowth,
     /// A read or a write that ends past the memory.
     OutOfBoundsAccess,
-    /// A page size other than 1 byte and 64 KiB, or limits above the greatest number of pages or out of order.
+    /// A page size other than 1 byte and 64 KiB, or limits above the greatest number of pages or
+    /// out of order.
     InvalidMemoryType,
     /// A lent region that is too short.
     InvalidStaticBufferSize,
@@ -100,7 +102,8 @@ pub enum TableError {
     MaximumSizeOverflow,
     /// The limiter said no to a creation, or answered an error to a question or a notice.
     ResourceLimiterDeniedAllocation,
-    /// A growth above the greatest number of elements or the maximum, or one that the limiter says no to.
+    /// A growth above the greatest number of elements or the maximum, or one that the limiter says
+    /// no to.
     GrowOutOfBounds,
     /// An initialization that ends past the table or the element segment.
     InitOutOfBounds,

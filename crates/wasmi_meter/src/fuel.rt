@@ -48,8 +48,8 @@ pub trait FuelCosts {
         ensures { result ≡ (costs self.now).fuel_per_bytes_validated };
 }
 
-/// The costs that stand where a host chooses none: 64 bytes copied a fuel, 7 fuel a translated byte and 2 a
-/// validated byte.
+/// The costs that stand where a host chooses none: 64 bytes copied a fuel, 7 fuel a translated byte
+/// and 2 a validated byte.
 struct DefaultFuelCosts;
 
 impl FuelCosts for DefaultFuelCosts {
@@ -160,7 +160,8 @@ impl FuelCostsProvider {
         len_bytes.saturating_mul(u64::from(self.fuel_per_bytes_validated()))
     }
 
-    /// The fuel for copying so many values of a type, also for none of them: at 0 bytes a fuel the greatest `u64`.
+    /// The fuel for copying so many values of a type, also for none of them: at 0 bytes a fuel the
+    /// greatest `u64`.
     pub fn fuel_for_copying_values<T: ValueSize>(&self, len_values: u64) -> u64
         ensures { result ≡ copy_cost (costs_of self.now) len_values T.SIZE }
     {
@@ -233,18 +234,20 @@ impl Model for Fuel {
 
     ghost Value = { Meter };
 
-    ghost view = { λ f. record { left = (if f.enabled then Some f.remaining else None); costs = costs_of f.costs } };
+    ghost view = { λ f. record
+        { left = (if f.enabled then Some f.remaining else None); costs = costs_of f.costs } };
 
     ghost invariant = { λ f. f.enabled ≡ false → f.remaining ≡ 0 };
 }
 
 impl Fuel {
-    ghost use Rattle.wasmi_meter.specs.Meter.{Meter, amount_left, meter_set, Spends};
+    ghost use Rattle.wasmi_meter.specs.Meter.{Meter, amount_left, meter_set, ConsumesFuel};
     ghost use Rattle.wasmi_meter.specs.Costs.{costs_of};
 
     /// A meter with no fuel left yet.
     pub fn new(enabled: bool, costs: FuelCostsProvider) -> Self
-        ensures { result ≡ record { left = (if enabled then Some 0 else None); costs = costs_of costs } }
+        ensures { result
+            ≡ record { left = (if enabled then Some 0 else None); costs = costs_of costs } }
     {
         Fuel {
             remaining: 0,
@@ -265,8 +268,10 @@ impl Fuel {
 
     /// Sets the fuel that is left. It is `FuelMeteringDisabled` where the meter is off.
     pub fn set_fuel(&mut self, fuel: u64) -> Result<(), FuelError>
-        ensures on { IsSome self.old.left → (result ≡ Ok tt) × (self.new ≡ meter_set self.old fuel) }
-        ensures off { self.old.left ≡ None → (result ≡ Err FuelError.FuelMeteringDisabled) × (self.new ≡ self.old) }
+        ensures on { IsSome self.old.left
+            → (result ≡ Ok tt) × (self.new ≡ meter_set self.old fuel) }
+        ensures off { self.old.left ≡ None
+            → (result ≡ Err FuelError.FuelMeteringDisabled) × (self.new ≡ self.old) }
     {
         self.check_fuel_metering_enabled()?;
         self.remaining = fuel;
@@ -282,10 +287,11 @@ impl Fuel {
         Ok(self.remaining)
     }
 
-    /// Takes an amount, and answers what is left. It is `OutOfFuel` with the amount where less is left, and then
-    /// nothing is taken. It doesn't look at whether the meter is on: one that is off has nothing left.
+    /// Takes an amount, and answers what is left. It is `OutOfFuel` with the amount where less is
+    /// left, and then nothing is taken. It doesn't look at whether the meter is on: one that is off
+    /// has nothing left.
     pub fn consume_fuel_unchecked(&mut self, delta: u64) -> Result<u64, FuelError>
-        ensures { Spends self.old delta (amount_left self.old - delta) result self.new }
+        ensures { ConsumesFuel self.old delta (amount_left self.old - delta) result self.new }
     {
         let Some(left) = self.remaining.checked_sub(delta) else {
             return Err(FuelError::out_of_fuel(delta));
@@ -294,33 +300,37 @@ impl Fuel {
         Ok(left)
     }
 
-    /// Takes what `f` computes from the costs, and answers what is left. Where the meter is off it is
-    /// `FuelMeteringDisabled`, and `f` isn't called; where less is left, `OutOfFuel`, and nothing is taken.
+    /// Takes what `f` computes from the costs, and answers what is left. Where the meter is off it
+    /// is `FuelMeteringDisabled`, and `f` isn't called; where less is left, `OutOfFuel`, and
+    /// nothing is taken.
     pub fn consume_fuel<C: FnOnce(&FuelCostsProvider) -> u64>(
         &mut self,
         f: C,
     ) -> Result<u64, FuelError>
         requires { IsSome self.old.left → C.IsAlwaysCallable f }
-        ensures on { IsSome self.old.left → (amount : ℕ) × (costs : _) × (costs_of costs ≡ self.old.costs)
+        ensures on { IsSome self.old.left
+            → (amount : ℕ) × (costs : _) × (costs_of costs ≡ self.old.costs)
             × FnOnceReturnsAt C.FnOnce f costs amount
-            × Spends self.old amount (amount_left self.old - amount) result self.new }
-        ensures off { self.old.left ≡ None → (result ≡ Err FuelError.FuelMeteringDisabled) × (self.new ≡ self.old) }
+            × ConsumesFuel self.old amount (amount_left self.old - amount) result self.new }
+        ensures off { self.old.left ≡ None
+            → (result ≡ Err FuelError.FuelMeteringDisabled) × (self.new ≡ self.old) }
     {
         self.check_fuel_metering_enabled()?;
         let delta = f(&self.costs);
         self.consume_fuel_unchecked(delta)
     }
 
-    /// Takes what `f` computes from the costs if the meter is on. Where it is off, `f` isn't called. It is `OutOfFuel`
-    /// where less is left, and then nothing is taken.
+    /// Takes what `f` computes from the costs if the meter is on. Where it is off, `f` isn't
+    /// called. It is `OutOfFuel` where less is left, and then nothing is taken.
     pub fn consume_fuel_if<C: FnOnce(&FuelCostsProvider) -> u64>(
         &mut self,
         f: C,
     ) -> Result<(), FuelError>
         requires { IsSome self.old.left → C.IsAlwaysCallable f }
-        ensures on { IsSome self.old.left → (amount : ℕ) × (costs : _) × (costs_of costs ≡ self.old.costs)
+        ensures on { IsSome self.old.left
+            → (amount : ℕ) × (costs : _) × (costs_of costs ≡ self.old.costs)
             × FnOnceReturnsAt C.FnOnce f costs amount
-            × Spends self.old amount tt result self.new }
+            × ConsumesFuel self.old amount tt result self.new }
         ensures off { self.old.left ≡ None → (result ≡ Ok tt) × (self.new ≡ self.old) }
     {
         if !self.enabled {

@@ -1,8 +1,9 @@
-//! What every creation and growth does with its limiter's answers and its meter, whatever it is that grows.
+//! What every creation and growth does with its limiter's answers and its meter, whatever it is
+//! that grows.
 ghost use Rattle.std.specs.Prelude.{◌≡◌};
 ghost use Rattle.wasmi_meter.specs.Attempt.{Permits, error_of_failure};
 ghost use Rattle.wasmi_meter.specs.Costs.{copy_cost};
-ghost use Rattle.wasmi_meter.specs.Limiter.{Failure, MemoryFailure, TableFailure, Heed, optional_rules};
+ghost use Rattle.wasmi_meter.specs.Limiter.{Failure, MemoryFailure, TableFailure, NoticeAnswer, optional_rules};
 ghost use Rattle.wasmi_meter.specs.LimiterRef.{lent_limiter, KeepsLoan};
 ghost use Rattle.wasmi_meter.specs.Meter.{Charges, due};
 
@@ -11,7 +12,8 @@ use crate::fuel::{Fuel, FuelError, ValueSize};
 use crate::limiter::ResourceLimiter;
 use crate::limiter_ref::ResourceLimiterRef;
 
-/// Goes on where a limiter permits: else it is `denial` where the limiter says no, and `refusal` for an error.
+/// Goes on where a limiter permits: else it is `denial` where the limiter says no, and `refusal`
+/// for an error.
 pub fn permission<E: Drop>(
     answer: Result<bool, LimiterError>,
     denial: E,
@@ -37,7 +39,8 @@ pub trait GrowthError: Drop {
         limiter: &mut ResourceLimiterRef<L>,
     ) -> Result<(), LimiterError>
         ensures loan { KeepsLoan limiter.old limiter.new }
-        ensures noticed { (optional_rules L.rules).noticed (lent_limiter limiter.old) (notice self.now) result (lent_limiter limiter.new) };
+        ensures noticed { (optional_rules L.rules).noticed (lent_limiter limiter.old) (notice self.now) result
+            (lent_limiter limiter.new) };
 }
 
 impl GrowthError for MemoryError {
@@ -62,28 +65,31 @@ impl GrowthError for TableError {
     }
 }
 
-/// Tells the limiter why a growth failed that it permitted, and answers the error that its answer makes of it: the
-/// cause, or `refusal` where it answers an error.
+/// Tells the limiter why a growth failed that it permitted, and answers the error that its answer
+/// makes of it: the cause, or `refusal` where it answers an error.
 pub fn tell<L: ResourceLimiter, E: GrowthError>(
     limiter: &mut ResourceLimiterRef<L>,
     cause: E,
     refusal: E,
 ) -> E
     ensures loan { KeepsLoan limiter.old limiter.new }
-    ensures told { (heed : Heed) × (optional_rules L.rules).noticed (lent_limiter limiter.old) (E.notice cause) heed (lent_limiter limiter.new)
-        × (result ≡ error_of_failure refusal cause heed) }
+    ensures told { (notice_answer : NoticeAnswer)
+        × (optional_rules L.rules).noticed (lent_limiter limiter.old) (E.notice cause) notice_answer
+        (lent_limiter limiter.new)
+        × (result ≡ error_of_failure refusal cause notice_answer) }
 {
-    let heed = cause.notify(limiter);
-    match heed {
+    let notice_answer = cause.notify(limiter);
+    match notice_answer {
         Ok(()) => cause,
         Err(_) => refusal,
     }
 }
 
-/// Takes the fuel for copying so many values of a type. Where less is left, nothing is taken and it answers what is
-/// needed. A meter that is off takes nothing.
+/// Takes the fuel for copying so many values of a type. Where less is left, nothing is taken and it
+/// answers what is needed. A meter that is off takes nothing.
 pub fn charge<T: ValueSize>(fuel: &mut Fuel, values: u64) -> Result<(), u64>
-    ensures { Charges fuel.old (due fuel.old (λ costs. copy_cost costs values T.SIZE)) result fuel.new }
+    ensures { Charges fuel.old
+        (due fuel.old (λ costs. copy_cost costs values T.SIZE)) result fuel.new }
 {
     match fuel.consume_fuel_if(|costs| costs.fuel_for_copying_values::<T>(values)) {
         Err(FuelError::OutOfFuel { required_fuel }) => Err(required_fuel),

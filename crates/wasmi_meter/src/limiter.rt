@@ -1,4 +1,5 @@
-//! Who may grow: a limiter is asked before each growth, and told of one that it permitted and that then failed.
+//! Who may grow: a limiter is asked before each growth, and told of one that it permitted and that
+//! then failed.
 ghost use Rattle.std.specs.Prelude.{◌≡◌, ◌≤◌};
 ghost use Rattle.wasmi_meter.specs.Limiter.{MemoryFailure, TableFailure, Rules, unlimited_rules};
 ghost use Rattle.wasmi_meter.specs.declared.limiter.Kind.TheVariants.{Bytes, Elements};
@@ -16,15 +17,17 @@ pub enum Kind {
 
 /// Decides which memories and tables may be made and may grow.
 ///
-/// Its `rules` relate the limiter before and after a call to the question or the notice and to what was answered;
-/// each implementation names its own. A creation asks with a current size of 0.
+/// Its `rules` relate the limiter before and after a call to the question or the notice and to what
+/// was answered; each implementation names its own. A creation asks with a current size of 0.
 ///
-/// Upstream: `wasmi_core::ResourceLimiter`, whose notices have default bodies; here each implementation writes them.
+/// Upstream: `wasmi_core::ResourceLimiter`, whose notices have default bodies; here each
+/// implementation writes them.
 pub trait ResourceLimiter {
     /// What it may answer to a question and to a notice, and what it is afterwards.
     ghost rules: { Rules Self };
 
-    /// May a memory grow from `current` to `desired` bytes? `maximum`, in bytes, is the most that its type allows.
+    /// May a memory grow from `current` to `desired` bytes? `maximum`, in bytes, is the most that
+    /// its type allows.
     fn memory_growing(
         &mut self,
         current: usize,
@@ -32,9 +35,12 @@ pub trait ResourceLimiter {
         maximum: Option<usize>,
     ) -> Result<bool, LimiterError>
         requires { current ≤ desired }
-        ensures { rules.asked self.old (record { kind = Bytes; current = current; desired = desired; maximum = maximum }) result self.new };
+        ensures { rules.asked self.old
+            (record { kind = Bytes; current = current; desired = desired; maximum = maximum })
+            result self.new };
 
-    /// May a table grow from `current` to `desired` elements? `maximum` is the most that its type allows.
+    /// May a table grow from `current` to `desired` elements? `maximum` is the most that its type
+    /// allows.
     fn table_growing(
         &mut self,
         current: usize,
@@ -42,7 +48,9 @@ pub trait ResourceLimiter {
         maximum: Option<usize>,
     ) -> Result<bool, LimiterError>
         requires { current ≤ desired }
-        ensures { rules.asked self.old (record { kind = Elements; current = current; desired = desired; maximum = maximum }) result self.new };
+        ensures { rules.asked self.old
+            (record { kind = Elements; current = current; desired = desired; maximum = maximum })
+            result self.new };
 
     /// A memory was permitted to grow and did not, for this error.
     fn memory_grow_failed(&mut self, error: &MemoryError) -> Result<(), LimiterError>

@@ -61,10 +61,11 @@ impl<R> fmt::Debug for LimiterRef<R> {
 
 /// A limiter that is lent, or none. Without a limiter every growth is permitted.
 ///
-/// Where this reference goes out of scope or is dropped, nothing is known of the limiter afterwards. A caller that wants
-/// to know what it has become ends the loan by [`LimiterRef::into_resource_limiter`], or makes a call that lends the
-/// limiter for that call alone: `new_lending`, `new_static_lending`, `grow_lending` and `grow_raw_lending` of memories and
-/// tables, `step_lending` and `run_lending` of machines.
+/// Where this reference goes out of scope or is dropped, nothing is known of the limiter
+/// afterwards. A caller that wants to know what it has become ends the loan by
+/// [`LimiterRef::into_resource_limiter`], or makes a call that lends the limiter for that call
+/// alone: `new_lending`, `new_static_lending`, `grow_lending` and `grow_raw_lending` of memories
+/// and tables, `step_lending` and `run_lending` of machines.
 ///
 /// Upstream: `wasmi_core::ResourceLimiterRef`.
 pub type ResourceLimiterRef<'a, L> = LimiterRef<&'a mut L>;
@@ -88,8 +89,8 @@ impl<'a, L> From<&'a mut L> for LimiterRef<&'a mut L> {
 }
 
 impl<R> LimiterRef<R> {
-    /// The reference that leads to the limiter. A caller that ends its loan with this call knows what its limiter
-    /// has become.
+    /// The reference that leads to the limiter. A caller that ends its loan with this call knows
+    /// what its limiter has become.
     pub fn into_resource_limiter(self) -> Option<R>
         ensures { result ≡ loan self }
     {
@@ -112,7 +113,8 @@ impl<R> LimiterRef<R> {
 }
 
 impl<'a, L: ResourceLimiter> LimiterRef<&'a mut L> {
-    /// Asks the limiter, if there is one, whether a memory may grow from `current` to `desired` bytes.
+    /// Asks the limiter, if there is one, whether a memory may grow from `current` to `desired`
+    /// bytes.
     pub fn memory_growing(
         &mut self,
         current: usize,
@@ -122,7 +124,8 @@ impl<'a, L: ResourceLimiter> LimiterRef<&'a mut L> {
         requires { current ≤ desired }
         ensures loan { KeepsLoan self.old self.new }
         ensures asked { (optional_rules L.rules).asked (lent_limiter self.old)
-            (record { kind = Bytes; current = current; desired = desired; maximum = maximum }) result (lent_limiter self.new) }
+            (record { kind = Bytes; current = current; desired = desired; maximum = maximum })
+            result (lent_limiter self.new) }
     {
         match &mut self.limiter {
             Some(limiter) => limiter.memory_growing(current, desired, maximum),
@@ -130,7 +133,8 @@ impl<'a, L: ResourceLimiter> LimiterRef<&'a mut L> {
         }
     }
 
-    /// Asks the limiter, if there is one, whether a table may grow from `current` to `desired` elements.
+    /// Asks the limiter, if there is one, whether a table may grow from `current` to `desired`
+    /// elements.
     pub fn table_growing(
         &mut self,
         current: usize,
@@ -140,7 +144,8 @@ impl<'a, L: ResourceLimiter> LimiterRef<&'a mut L> {
         requires { current ≤ desired }
         ensures loan { KeepsLoan self.old self.new }
         ensures asked { (optional_rules L.rules).asked (lent_limiter self.old)
-            (record { kind = Elements; current = current; desired = desired; maximum = maximum }) result (lent_limiter self.new) }
+            (record { kind = Elements; current = current; desired = desired; maximum = maximum })
+            result (lent_limiter self.new) }
     {
         match &mut self.limiter {
             Some(limiter) => limiter.table_growing(current, desired, maximum),
@@ -151,7 +156,8 @@ impl<'a, L: ResourceLimiter> LimiterRef<&'a mut L> {
     /// Tells the limiter, if there is one, that a memory which it permitted to grow did not.
     pub fn memory_grow_failed(&mut self, error: &MemoryError) -> Result<(), LimiterError>
         ensures loan { KeepsLoan self.old self.new }
-        ensures noticed { (optional_rules L.rules).noticed (lent_limiter self.old) (MemoryFailure error.now) result (lent_limiter self.new) }
+        ensures noticed { (optional_rules L.rules).noticed (lent_limiter self.old)
+            (MemoryFailure error.now) result (lent_limiter self.new) }
     {
         match &mut self.limiter {
             Some(limiter) => limiter.memory_grow_failed(error),
@@ -162,7 +168,8 @@ impl<'a, L: ResourceLimiter> LimiterRef<&'a mut L> {
     /// Tells the limiter, if there is one, that a table which it permitted to grow did not.
     pub fn table_grow_failed(&mut self, error: &TableError) -> Result<(), LimiterError>
         ensures loan { KeepsLoan self.old self.new }
-        ensures noticed { (optional_rules L.rules).noticed (lent_limiter self.old) (TableFailure error.now) result (lent_limiter self.new) }
+        ensures noticed { (optional_rules L.rules).noticed (lent_limiter self.old)
+            (TableFailure error.now) result (lent_limiter self.new) }
     {
         match &mut self.limiter {
             Some(limiter) => limiter.table_grow_failed(error),

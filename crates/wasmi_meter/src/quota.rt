@@ -6,9 +6,9 @@ use crate::error::{LimiterError, MemoryError, TableError};
 use crate::limiter::{Kind, ResourceLimiter};
 use crate::reserving::Reserving;
 
-/// A limiter that permits what stays within two caps, and says no to the rest. It counts each difference that it
-/// permitted, and takes the last one back at a notice of its kind, once. It can't be copied, since a copy would count
-/// alone.
+/// A limiter that permits what stays within two caps, and says no to the rest. It counts each
+/// difference that it permitted, and takes the last one back at a notice of its kind, once. It
+/// can't be copied, since a copy would count alone.
 ///
 /// Own: upstream implements no limiter.
 #[derive(Debug, Drop)]
@@ -140,5 +140,5 @@ impl Reserving for Quota {
 
     ghost reserves = { asked_reserves };
 
-    ghost gives_back = { λ l l' failure heed noticed. noticed.gives_back };
+    ghost gives_back = { λ l l' failure notice_answer noticed. noticed.gives_back };
 }

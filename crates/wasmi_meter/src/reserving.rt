@@ -1,16 +1,17 @@
 //! Limiters that count what they permitted.
 ghost use Rattle.std.specs.Prelude.{◌≡◌};
 ghost use Rattle.wasmi_meter.specs.Holdings.{Holdings, Reserves, GivesBack};
-ghost use Rattle.wasmi_meter.specs.Limiter.{Question, Answer, Failure, Heed, kind_of};
+ghost use Rattle.wasmi_meter.specs.Limiter.{Question, Answer, Failure, NoticeAnswer, kind_of};
 
 use crate::limiter::ResourceLimiter;
 
-/// A limiter that holds what it permitted, in bytes and in elements, until it is told that what it permitted failed.
-/// It isn't told of what is dropped.
+/// A limiter that holds what it permitted, in bytes and in elements, until it is told that what it
+/// permitted failed. It isn't told of what is dropped.
 ///
 /// Own: upstream implements no limiter.
 pub trait Reserving: ResourceLimiter {
-    /// What it holds of each kind, and the last difference that it permitted and that wasn't given back.
+    /// What it holds of each kind, and the last difference that it permitted and that wasn't given
+    /// back.
     ghost holdings: { Self → Holdings };
 
     /// The bytes that it permitted and that weren't given back.
@@ -22,9 +23,13 @@ pub trait Reserving: ResourceLimiter {
         ensures { result ≡ (holdings self.now).elements };
 
     /// A permission adds the difference that was asked for, and another answer keeps what is held.
-    ghost reserves: { (l l' : Self) (question : Question) (answer : Answer) → Self.rules.asked l question answer l' → Reserves question answer (holdings l) (holdings l') };
+    ghost reserves: { (l l' : Self) (question : Question) (answer : Answer)
+        → Self.rules.asked l question answer l'
+        → Reserves question answer (holdings l) (holdings l') };
 
-    /// A notice takes back the last permitted difference of its kind, once, whatever the notice is answered; with
-    /// nothing of its kind to take back it changes nothing that is held.
-    ghost gives_back: { (l l' : Self) (failure : Failure) (heed : Heed) → Self.rules.noticed l failure heed l' → GivesBack (kind_of failure) (holdings l) (holdings l') };
+    /// A notice takes back the last permitted difference of its kind, once, whatever the notice is
+    /// answered; with nothing of its kind to take back it changes nothing that is held.
+    ghost gives_back: { (l l' : Self) (failure : Failure) (notice_answer : NoticeAnswer)
+        → Self.rules.noticed l failure notice_answer l'
+        → GivesBack (kind_of failure) (holdings l) (holdings l') };
 }

@@ -1,4 +1,5 @@
-//! Raw values: what a register, a local or a global variable of WebAssembly holds, whatever its type.
+//! Raw values: what a register, a local or a global variable of WebAssembly holds, whatever its
+//! type.
 #![tactic(auto)]
 
 mod convert;

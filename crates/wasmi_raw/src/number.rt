@@ -31,7 +31,8 @@ mod sealed {
 /// An integer type: its width, its sign, and the numbers that its values stand for.
 ///
 /// The crate has no such trait. It has no function: contracts of conversions, loads, stores and
-/// shifts name its members. The ten integer types from 8 to 128 bits have it, and no other type can.
+/// shifts name its members. The ten integer types from 8 to 128 bits have it, and no other type
+/// can.
 pub trait Number: sealed::Sealed {
     /// How many bits the type has.
     ghost width: { Width };

@@ -4,8 +4,8 @@ ghost use Rattle.std.specs.Prelude.{◌≡◌};
 
 /// A raw value: two words of 64 bits, without a type.
 ///
-/// A value of up to 64 bits stands in `lo`, and a vector in both words. The order is that of `lo`, then of `hi`.
-/// Upstream: `wasmi_core::RawVal`.
+/// A value of up to 64 bits stands in `lo`, and a vector in both words. The order is that of `lo`,
+/// then of `hi`. Upstream: `wasmi_core::RawVal`.
 #[derive(Clone, Copy, Debug, Default, PartialEq, Eq, PartialOrd, Ord)]
 pub struct RawVal {
     /// Bits 0 to 63.
@@ -34,8 +34,8 @@ impl RawVal {
 
 /// What can be read as a `T`.
 ///
-/// Of a raw value, an integer is the low word cut to the width of the integer, and a `bool` is whether the low
-/// word is not 0. A vector is both words. Upstream: `wasmi_core::ReadAs`.
+/// Of a raw value, an integer is the low word cut to the width of the integer, and a `bool` is
+/// whether the low word is not 0. A vector is both words. Upstream: `wasmi_core::ReadAs`.
 pub trait ReadAs<T> {
     /// The `T` that `self` is read as.
     ghost read: { Self → T };
@@ -49,7 +49,8 @@ pub trait ReadAs<T> {
 ///
 /// The crate has no such trait. There too a `NonZero` can be written, and its integer is read.
 pub trait ReadBack {
-    /// The type that is read after a `Self` was written: of a `NonZero` its integer type, else `Self`.
+    /// The type that is read after a `Self` was written: of a `NonZero` its integer type, else
+    /// `Self`.
     type Read;
 
     /// The value that is read after the `Self` was written.
@@ -58,9 +59,9 @@ pub trait ReadBack {
 
 /// What a `T` can be written to, and read back from.
 ///
-/// An integer or a `bool` sets the low word of a raw value and keeps the high word. The low word is then the
-/// integer's unsigned image at its own width, so `-1i32` gives 4294967295. A vector or a raw value sets both words.
-/// Upstream: `wasmi_core::WriteAs`.
+/// An integer or a `bool` sets the low word of a raw value and keeps the high word. The low word is
+/// then the integer's unsigned image at its own width, so `-1i32` gives 4294967295. A vector or a
+/// raw value sets both words. Upstream: `wasmi_core::WriteAs`.
 pub trait WriteAs<T: ReadBack>: ReadAs<T::Read> {
     /// What `self` becomes when the `T` is written to it.
     ghost written: { Self → T → Self };

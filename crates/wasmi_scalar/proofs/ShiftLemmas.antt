@@ -20,18 +20,21 @@ product_moved a p n b e =
     let whole : p * n ≡ b * p + suc a * p = mul_comm p n ∙ ap (λ m. m * p) (sym e) ∙ add-mul b (suc a) p in
     moved (suc a * p) (p * n) (b * p) whole
 
-shl_is : (w : Width) (z : ℤ) (p : ℕ) → 2 ^ hbits w ≤ 2 ^ bits w → SFits w z → cast_signed w (cast_unsigned w z * p % 2 ^ bits w) ≡ int_wrap w (z *ℤ pos p)
+shl_is : (w : Width) (z : ℤ) (p : ℕ) → 2 ^ hbits w ≤ 2 ^ bits w → SFits w z
+    → cast_signed w (cast_unsigned w z * p % 2 ^ bits w) ≡ int_wrap w (z *ℤ pos p)
 unfolding int_wrap
 shl_is w (pos n) p le f = refl
 shl_is w (negsuc n) p le f =
     let rest : int_rem_euclid (negsuc n *ℤ pos p) (pos (2 ^ bits w)) ≡ pos ((2 ^ bits w - suc n) * p % 2 ^ bits w) =
-    int_rem_euclid_is (negsuc n *ℤ pos p) (pos (2 ^ bits w)) (2 ^ bits w) p ((2 ^ bits w - suc n) * p) (pow_pos (bits w)) refl
+    int_rem_euclid_is (negsuc n *ℤ pos p) (pos (2 ^ bits w)) (2 ^ bits w) p ((2 ^ bits w - suc n) * p)
+    (pow_pos (bits w)) refl
     (product_moved n p (2 ^ bits w) (2 ^ bits w - suc n) (omega (arith, le, f.sfits))) in
     sym (ap (λ z. cast_signed w (unsigned_abs z)) rest)
 
 -- ---- rotations: the two parts share no bit
 
-parts_apart : (b n k j : ℕ) → n < 2 ^ b → j + k ≡ b → bit_or (n * 2 ^ k % 2 ^ b) (n / 2 ^ j) ≡ n * 2 ^ k % 2 ^ b + n / 2 ^ j
+parts_apart : (b n k j : ℕ) → n < 2 ^ b → j + k ≡ b
+    → bit_or (n * 2 ^ k % 2 ^ b) (n / 2 ^ j) ≡ n * 2 ^ k % 2 ^ b + n / 2 ^ j
 parts_apart b n k j h e =
     let width : 2 ^ b ≡ 2 ^ (j + k) = ap (λ m. 2 ^ m) (sym e) in
     let high : n * 2 ^ k % 2 ^ b ≡ n % 2 ^ j * 2 ^ k =
@@ -40,7 +43,8 @@ parts_apart b n k j h e =
     ∙ ap (λ m. n % 2 ^ j * 2 ^ k + m) (mul-mod_left n (2 ^ k)) ∙ add-zero _ in
     let turned : k + j ≡ b = omega (arith, e) in
     let small : n / 2 ^ j < 2 ^ k = shr_below n k j (let P : ℕ → Type 0 = λ m. n < 2 ^ m in subst P (sym turned) h) in
-    ap (λ m. bit_or m (n / 2 ^ j)) high ∙ or_shifted (n % 2 ^ j) k (n / 2 ^ j) small ∙ ap (λ m. m + n / 2 ^ j) (sym high)
+    ap (λ m. bit_or m (n / 2 ^ j)) high ∙ or_shifted (n % 2 ^ j) k (n / 2 ^ j) small
+    ∙ ap (λ m. m + n / 2 ^ j) (sym high)
 
 -- std's words write the amount that is left modulo the width, so that none of the bits is also all of them
 left_by : (b n k : ℕ) → n < 2 ^ b → k < b → bit_or (n * 2 ^ k % 2 ^ b) (n / 2 ^ ((b - k) % b)) ≡ rotated_left b n k
@@ -48,20 +52,23 @@ left_by b n zero h l =
     let rest : (b - 0) % b ≡ 0 = ap (λ m. m % b) (sub-zero b) ∙ mod_self b in
     let up : n * 2 ^ 0 % 2 ^ b ≡ n = ap (λ m. m % 2 ^ b) (mul-one n) ∙ mod-eq_of_lt h in
     let down : n / 2 ^ (b - 0) ≡ 0 = ap (λ m. n / 2 ^ m) (sub-zero b) ∙ div-eq_of_lt h in
-    ap (λ m. bit_or m (n / 2 ^ ((b - 0) % b))) up ∙ ap (λ m. bit_or n (n / 2 ^ m)) rest ∙ ap (bit_or n) (div-one n) ∙ or_self n
+    ap (λ m. bit_or m (n / 2 ^ ((b - 0) % b))) up ∙ ap (λ m. bit_or n (n / 2 ^ m)) rest ∙ ap (bit_or n) (div-one n)
+    ∙ or_self n
     ∙ sym (ap (λ m. n * 2 ^ 0 % 2 ^ b + m) down ∙ add-zero (n * 2 ^ 0 % 2 ^ b) ∙ up)
 left_by b n (suc j) h l =
     let rest : (b - suc j) % b ≡ b - suc j = mod-eq_of_lt (omega (arith, l)) in
     ap (λ m. bit_or (n * 2 ^ suc j % 2 ^ b) (n / 2 ^ m)) rest ∙ parts_apart b n (suc j) (b - suc j) h (omega (arith, l))
 
-right_by : (b n k : ℕ) → n < 2 ^ b → k < b → bit_or (n / 2 ^ k) (n * 2 ^ ((b - k) % b) % 2 ^ b) ≡ rotated_left b n (b - k)
+right_by : (b n k : ℕ) → n < 2 ^ b → k < b
+    → bit_or (n / 2 ^ k) (n * 2 ^ ((b - k) % b) % 2 ^ b) ≡ rotated_left b n (b - k)
 right_by b n zero h l =
     let rest : (b - 0) % b ≡ 0 = ap (λ m. m % b) (sub-zero b) ∙ mod_self b in
     let same : n * 2 ^ 0 % 2 ^ b ≡ n = ap (λ m. m % 2 ^ b) (mul-one n) ∙ mod-eq_of_lt h in
     let up : n * 2 ^ (b - 0) % 2 ^ b ≡ 0 = ap (λ m. n * 2 ^ m % 2 ^ b) (sub-zero b) ∙ mul-mod_left n (2 ^ b) in
     let back : b - (b - 0) ≡ 0 = omega arith in
     let down : n / 2 ^ (b - (b - 0)) ≡ n = ap (λ m. n / 2 ^ m) back ∙ div-one n in
-    ap (λ m. bit_or m (n * 2 ^ ((b - 0) % b) % 2 ^ b)) (div-one n) ∙ ap (λ m. bit_or n (n * 2 ^ m % 2 ^ b)) rest ∙ ap (bit_or n) same ∙ or_self n
+    ap (λ m. bit_or m (n * 2 ^ ((b - 0) % b) % 2 ^ b)) (div-one n) ∙ ap (λ m. bit_or n (n * 2 ^ m % 2 ^ b)) rest
+    ∙ ap (bit_or n) same ∙ or_self n
     ∙ sym (ap (λ m. m + n / 2 ^ (b - (b - 0))) up ∙ zero-add (n / 2 ^ (b - (b - 0))) ∙ down)
 right_by b n (suc j) h l =
     let rest : (b - suc j) % b ≡ b - suc j = mod-eq_of_lt (omega (arith, l)) in
@@ -78,29 +85,38 @@ image_below w (negsuc n) le f = let p : 0 < 2 ^ bits w = pow_pos (bits w) in ome
 -- ---- as the code's calls say it, where a signed number is read from its bits
 
 -- the amount, and the amount that was already cut to the width
-pub amount_is : (w : Width) (y : ℤ) (k : ℕ) → SFits w y → k ≡ cast_unsigned w (cast_signed w (cast_unsigned w y)) → k % bits w ≡ amount_of w y
+pub amount_is : (w : Width) (y : ℤ) (k : ℕ) → SFits w y → k ≡ cast_unsigned w (cast_signed w (cast_unsigned w y))
+    → k % bits w ≡ amount_of w y
 amount_is w y k f e = ap (λ m. m % bits w) (e ∙ ap (cast_unsigned w) (to_z-of_z w y f))
 
-pub cut_amount_is : (w : Width) (y : ℤ) (k : ℕ) → 0 < bits w → SFits w y → k ≡ cast_unsigned w (cast_signed w (cast_unsigned w y))
+pub cut_amount_is : (w : Width) (y : ℤ) (k : ℕ) → 0 < bits w → SFits w y
+    → k ≡ cast_unsigned w (cast_signed w (cast_unsigned w y))
     → k % bits w % bits w ≡ amount_of w y
 cut_amount_is w y k p f e = mod-eq_of_lt (mod_below k (bits w) p) ∙ amount_is w y k f e
 
-pub shifted : (w : Width) (z y r : ℤ) (k : ℕ) → 2 ^ hbits w ≤ 2 ^ bits w → SFits w z → SFits w r → k % bits w ≡ amount_of w y
+pub shifted : (w : Width) (z y r : ℤ) (k : ℕ) → 2 ^ hbits w ≤ 2 ^ bits w → SFits w z → SFits w r
+    → k % bits w ≡ amount_of w y
     → r ≡ int_shl w (cast_signed w (cast_unsigned w z)) (k % bits w) → cast_signed w (cast_unsigned w r) ≡ ishl w z y
 shifted w z y r k le fz fr amount e =
     to_z-of_z w r fr ∙ e ∙ ap (λ v. int_shl w v (k % bits w)) (to_z-of_z w z fz) ∙ shl_is w z (2 ^ (k % bits w)) le fz
     ∙ ap (λ j. int_wrap w (z *ℤ pos (2 ^ j))) amount
 
-pub rotated_to_left : (w : Width) (z y r : ℤ) (k : ℕ) → 0 < bits w → 2 ^ hbits w ≤ 2 ^ bits w → SFits w z → SFits w r → k % bits w ≡ amount_of w y
-    → r ≡ cast_signed w (rotate_left w (cast_unsigned w (cast_signed w (cast_unsigned w z))) k) → cast_signed w (cast_unsigned w r) ≡ irotl w z y
+pub rotated_to_left : (w : Width) (z y r : ℤ) (k : ℕ) → 0 < bits w → 2 ^ hbits w ≤ 2 ^ bits w → SFits w z → SFits w r
+    → k % bits w ≡ amount_of w y
+    → r ≡ cast_signed w (rotate_left w (cast_unsigned w (cast_signed w (cast_unsigned w z))) k)
+    → cast_signed w (cast_unsigned w r) ≡ irotl w z y
 rotated_to_left w z y r k p le fz fr amount e =
     to_z-of_z w r fr ∙ e ∙ ap (λ v. cast_signed w (rotate_left w (cast_unsigned w v) k)) (to_z-of_z w z fz)
-    ∙ ap (cast_signed w) (left_by (bits w) (cast_unsigned w z) (k % bits w) (image_below w z le fz) (mod_below k (bits w) p))
+    ∙ ap (cast_signed w)
+    (left_by (bits w) (cast_unsigned w z) (k % bits w) (image_below w z le fz) (mod_below k (bits w) p))
     ∙ ap (λ j. cast_signed w (rotated_left (bits w) (cast_unsigned w z) j)) amount
 
-pub rotated_to_right : (w : Width) (z y r : ℤ) (k : ℕ) → 0 < bits w → 2 ^ hbits w ≤ 2 ^ bits w → SFits w z → SFits w r → k % bits w ≡ amount_of w y
-    → r ≡ cast_signed w (rotate_right w (cast_unsigned w (cast_signed w (cast_unsigned w z))) k) → cast_signed w (cast_unsigned w r) ≡ irotr w z y
+pub rotated_to_right : (w : Width) (z y r : ℤ) (k : ℕ) → 0 < bits w → 2 ^ hbits w ≤ 2 ^ bits w → SFits w z → SFits w r
+    → k % bits w ≡ amount_of w y
+    → r ≡ cast_signed w (rotate_right w (cast_unsigned w (cast_signed w (cast_unsigned w z))) k)
+    → cast_signed w (cast_unsigned w r) ≡ irotr w z y
 rotated_to_right w z y r k p le fz fr amount e =
     to_z-of_z w r fr ∙ e ∙ ap (λ v. cast_signed w (rotate_right w (cast_unsigned w v) k)) (to_z-of_z w z fz)
-    ∙ ap (cast_signed w) (right_by (bits w) (cast_unsigned w z) (k % bits w) (image_below w z le fz) (mod_below k (bits w) p))
+    ∙ ap (cast_signed w)
+    (right_by (bits w) (cast_unsigned w z) (k % bits w) (image_below w z le fz) (mod_below k (bits w) p))
     ∙ ap (λ j. cast_signed w (rotated_left (bits w) (cast_unsigned w z) (bits w - j))) amount

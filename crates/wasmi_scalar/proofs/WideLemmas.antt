@@ -6,5 +6,6 @@ use Rattle.std.proofs.lemmas.Int.{ints}
 use Rattle.wasmi_scalar.specs.Wide.{unsigned_of, signed_of}
 use mir.Val.{SFits}
 
-pub signed_of-is : (lo hi z : ℤ) → SFits w64 lo → SFits w64 hi → SFits w128 z → unsigned_of lo hi ≡ cast_unsigned w128 z → signed_of lo hi ≡ z
+pub signed_of-is : (lo hi z : ℤ) → SFits w64 lo → SFits w64 hi → SFits w128 z → unsigned_of lo hi ≡ cast_unsigned w128 z
+    → signed_of lo hi ≡ z
 signed_of-is lo hi z fl fh fz e = omega (arith, ints, fl.sfits, fh.sfits, fz.sfits)

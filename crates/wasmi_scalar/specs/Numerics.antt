@@ -1,8 +1,8 @@
--- The integer operations of the WebAssembly core specification (section "Numerics"), over whole numbers.
--- A number of a signed type is read signed, one of an unsigned type unsigned, and `w` is the width of the type, of `bits w`
--- bits. std's words for the two readings: `int_wrap w z` is the number of the signed type that differs from z by a multiple
--- of 2 to the power `bits w` (the standard's `wrap` and `extend_s`), `cast_unsigned w z` the unsigned number with the bits
--- of z, `cast_signed w n` the signed number with the bits of n.
+-- The integer operations of the WebAssembly core specification (section "Numerics"), over whole numbers. A number of a
+-- signed type is read signed, one of an unsigned type unsigned, and `w` is the width of the type, of `bits w` bits.
+-- std's words for the two readings: `int_wrap w z` is the number of the signed type that differs from z by a multiple
+-- of 2 to the power `bits w` (the standard's `wrap` and `extend_s`), `cast_unsigned w z` the unsigned number with the
+-- bits of z, `cast_signed w n` the signed number with the bits of n.
 use Rattle.std.specs.Prelude.{ℕ, ◌+◌, ◌-◌, ◌*◌, ◌/◌, ◌%◌, ◌^◌, ℤ, pos, ◌+ℤ◌, ◌-ℤ◌, ◌*ℤ◌, int_div, int_rem, int_lt, int_le, nat_lt, nat_le, ◌==◌, not, Bool, bit_and, bit_or, bit_xor, count_ones, Result, Ok, Err, if◌then◌else◌}
 use Rattle.std.specs.Int.{Width, cast_signed, cast_unsigned, int_wrap, int_shr, leading_zeros, trailing_zeros}
 use Rattle.std.specs.Ordering.{int_eq}
@@ -25,7 +25,8 @@ imul w x y = int_wrap w (x *ℤ y)
 
 -- ---- quotients towards zero, and their remainders
 
--- the one quotient that no signed number of the width is, 2 to the power `bits w - 1`, is that of the least number by -1
+-- the one quotient that no signed number of the width is, 2 to the power `bits w - 1`, is that of the least number by
+-- -1
 abbrev pub idiv_s : Width → ℤ → ℤ → Result ℤ TrapCode
 idiv_s w x y =
     if int_eq y (pos 0) then Err IntegerDivisionByZero

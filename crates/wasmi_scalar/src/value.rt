@@ -1,6 +1,7 @@
 //! The traits of the integer types.
 //!
-//! Upstream: the module `value`, private there. Core specification: integer operations, under numerics.
+//! Upstream: the module `value`, private there. Core specification: integer operations, under
+//! numerics.
 
 ghost use Rattle.std.specs.Prelude.{◌≡◌, false, refl, unsigned_abs};
 ghost use Rattle.std.specs.Int.{int_wrap};
@@ -38,7 +39,8 @@ impl Unsigned for i64 {
 
 /// An integer type of WebAssembly.
 ///
-/// Upstream: `Integer`, private there. The amount of a shift or a rotation is taken modulo the width.
+/// Upstream: `Integer`, private there. The amount of a shift or a rotation is taken modulo the
+/// width.
 pub trait Integer: Unsigned + Number {
     /// Whether the number is 0.
     fn is_zero(self) -> bool
@@ -67,7 +69,8 @@ pub trait Integer: Unsigned + Number {
     /// Shifts to the right, filling with zeros.
     fn shr_u(lhs: Self::Uint, rhs: Self::Uint) -> Self::Uint
         ensures { unsigned_abs (Self.Uint.number result)
-            ≡ ishr_u Self.width (unsigned_abs (Self.Uint.number lhs)) (unsigned_abs (Self.Uint.number rhs)) };
+            ≡ ishr_u Self.width (unsigned_abs (Self.Uint.number lhs))
+            (unsigned_abs (Self.Uint.number rhs)) };
 
     /// Rotates to the left.
     fn rotl(lhs: Self, rhs: Self) -> Self
@@ -79,9 +82,11 @@ pub trait Integer: Unsigned + Number {
 
     /// The quotient towards zero.
     ///
-    /// `IntegerDivisionByZero` for a divisor of 0, then `IntegerOverflow` for the least number by -1.
+    /// `IntegerDivisionByZero` for a divisor of 0, then `IntegerOverflow` for the least number by
+    /// -1.
     fn div_s(lhs: Self, rhs: Self) -> Result<Self, TrapCode>
-        ensures { Answers Self.number result (idiv_s Self.width (Self.number lhs) (Self.number rhs)) };
+        ensures { Answers Self.number result
+            (idiv_s Self.width (Self.number lhs) (Self.number rhs)) };
 
     /// The quotient.
     ///

@@ -1,8 +1,9 @@
 //! The scalar integer instructions.
 //!
-//! Each function is the instruction of its name: `i32_add` is `i32.add`, and `bitand`, `bitor` and `bitxor` are `and`, `or`
-//! and `xor`. Core specification: numeric instructions; of `i64_add128`, `i64_sub128`, `i64_mul_wide_s` and
-//! `i64_mul_wide_u`: the wide-arithmetic proposal. Upstream: `wasmi_core::wasm`.
+//! Each function is the instruction of its name: `i32_add` is `i32.add`, and `bitand`, `bitor` and
+//! `bitxor` are `and`, `or` and `xor`. Core specification: numeric instructions; of `i64_add128`,
+//! `i64_sub128`, `i64_mul_wide_s` and `i64_mul_wide_u`: the wide-arithmetic proposal. Upstream:
+//! `wasmi_core::wasm`.
 
 ghost use Rattle.std.specs.Prelude.{◌≡◌, ◌*◌, ◌*ℤ◌};
 ghost use Rattle.std.specs.Int.{w8, w16, w32, w64, cast_unsigned, int_wrap};
@@ -583,7 +584,8 @@ fn split128(value: u128) -> (i64, i64)
 /// The sum of two numbers modulo 2 to the power 128, as the words `(lo, hi)`.
 #[inline]
 pub fn i64_add128(lhs_lo: i64, lhs_hi: i64, rhs_lo: i64, rhs_hi: i64) -> (i64, i64)
-    ensures { unsigned_of result.0 result.1 ≡ add128 (unsigned_of lhs_lo lhs_hi) (unsigned_of rhs_lo rhs_hi) }
+    ensures { unsigned_of result.0 result.1
+        ≡ add128 (unsigned_of lhs_lo lhs_hi) (unsigned_of rhs_lo rhs_hi) }
 {
     let lhs = combine128(lhs_lo, lhs_hi);
     let rhs = combine128(rhs_lo, rhs_hi);
@@ -593,7 +595,8 @@ pub fn i64_add128(lhs_lo: i64, lhs_hi: i64, rhs_lo: i64, rhs_hi: i64) -> (i64, i
 /// The difference of two numbers modulo 2 to the power 128, as the words `(lo, hi)`.
 #[inline]
 pub fn i64_sub128(lhs_lo: i64, lhs_hi: i64, rhs_lo: i64, rhs_hi: i64) -> (i64, i64)
-    ensures { unsigned_of result.0 result.1 ≡ sub128 (unsigned_of lhs_lo lhs_hi) (unsigned_of rhs_lo rhs_hi) }
+    ensures { unsigned_of result.0 result.1
+        ≡ sub128 (unsigned_of lhs_lo lhs_hi) (unsigned_of rhs_lo rhs_hi) }
 {
     let lhs = combine128(lhs_lo, lhs_hi);
     let rhs = combine128(rhs_lo, rhs_hi);

@@ -37,17 +37,23 @@ natural_outcome (Ok number) = Number (pos number)
 natural_outcome (Err trap) = Trap trap
 
 -- one word, which writes an operand of this answer
-abbrev pub OfOne : {A : Type 0} → (List ℕ → A → Type 0) → (A → ScalarAnswer → Type 0) → LineWords → ScalarAnswer → Type 0
+abbrev pub OfOne : {A : Type 0} → (List ℕ → A → Type 0) → (A → ScalarAnswer → Type 0) → LineWords → ScalarAnswer
+    → Type 0
 OfOne {A} Writes Answers words answer = (length words ≡ 1) × (x : A) × Writes (line_word words 0) x × Answers x answer
 
 -- two words, which write the operands of this answer in their order
-abbrev pub OfTwo : {A : Type 0} → (List ℕ → A → Type 0) → (A → A → ScalarAnswer → Type 0) → LineWords → ScalarAnswer → Type 0
-OfTwo {A} Writes Answers words answer = (length words ≡ 2) × (x : A) × (y : A) × Writes (line_word words 0) x × Writes (line_word words 1) y × Answers x y answer
+abbrev pub OfTwo : {A : Type 0} → (List ℕ → A → Type 0) → (A → A → ScalarAnswer → Type 0) → LineWords → ScalarAnswer
+    → Type 0
+OfTwo {A} Writes Answers words answer =
+    (length words ≡ 2) × (x : A) × (y : A) × Writes (line_word words 0) x × Writes (line_word words 1) y
+    × Answers x y answer
 
 -- four words, which write the operands of this answer in their order
-abbrev pub OfFour : {A : Type 0} → (List ℕ → A → Type 0) → (A → A → A → A → ScalarAnswer → Type 0) → LineWords → ScalarAnswer → Type 0
+abbrev pub OfFour : {A : Type 0} → (List ℕ → A → Type 0) → (A → A → A → A → ScalarAnswer → Type 0) → LineWords
+    → ScalarAnswer → Type 0
 OfFour {A} Writes Answers words answer = (length words ≡ 4) × (a : A) × (b : A) × (c : A) × (d : A)
-    × Writes (line_word words 0) a × Writes (line_word words 1) b × Writes (line_word words 2) c × Writes (line_word words 3) d × Answers a b c d answer
+    × Writes (line_word words 0) a × Writes (line_word words 1) b × Writes (line_word words 2) c
+    × Writes (line_word words 3) d × Answers a b c d answer
 
 -- what an instruction answers for the words of its operands
 abbrev pub Executes : Instruction → LineWords → ScalarAnswer → Type 0

@@ -14,7 +14,8 @@ is_arrow word = bytes_eq word.now (codes "->")
 
 -- the words are the name of an instruction and its operands, for which it gives the answer
 abbrev pub AnswersTo : LineWords → ScalarAnswer → Type 0
-AnswersTo words answer = IsSomeAnd (instruction_named (line_word words 0)) (λ instruction. Executes instruction (drop 1 words) answer)
+AnswersTo words answer =
+    IsSomeAnd (instruction_named (line_word words 0)) (λ instruction. Executes instruction (drop 1 words) answer)
 
 -- the words of a line: the name of an instruction, its operands, an arrow and the answer that is stated
 pub record IsLine (words : LineWords) (stated answer : ScalarAnswer) : Type 0 where
@@ -29,4 +30,5 @@ line_words line = slice_split (λ byte. byte == 32) line
 
 -- a line states an answer, where its instruction gives one
 abbrev pub WritesLine : List ℕ → ScalarAnswer → ScalarAnswer → Type 0
-WritesLine line stated answer = (words : LineWords) × (map (λ word. word.now) words ≡ line_words line) × IsLine words stated answer
+WritesLine line stated answer =
+    (words : LineWords) × (map (λ word. word.now) words ≡ line_words line) × IsLine words stated answer

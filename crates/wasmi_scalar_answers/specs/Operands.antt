@@ -17,4 +17,5 @@ WritesInteger text number = IsNumeral 10 (without_leading_sign text) × (number 
 
 -- the same of a number that is read unsigned, which no minus precedes
 abbrev pub WritesNatural : List ℕ → ℕ → Type 0
-WritesNatural text number = IsNumeral 10 (without_leading_plus text) × (number ≡ digits_value 10 (without_leading_plus text))
+WritesNatural text number =
+    IsNumeral 10 (without_leading_plus text) × (number ≡ digits_value 10 (without_leading_plus text))

@@ -15,12 +15,14 @@ Compares expected answer Malformed = ⊥
 -- what is said of a line; a malformed one may be any
 abbrev pub IsJudged : List ℕ → Verdict → Type 0
 IsJudged line Malformed = ⊤
-IsJudged line verdict = (stated : ScalarAnswer) × (answer : ScalarAnswer) × WritesLine line stated answer × Compares stated answer verdict
+IsJudged line verdict =
+    (stated : ScalarAnswer) × (answer : ScalarAnswer) × WritesLine line stated answer × Compares stated answer verdict
 
 -- what is said of the lines of a list of answers, each of which ends with a line feed or with the list
 abbrev pub AreJudged : List ℕ → List Verdict → Type 0
 AreJudged text [] = text ≡ []
-AreJudged text (verdict ∷ verdicts) = (0 < length text) × IsJudged (first_piece 10 text) verdict × AreJudged (drop_through 10 text) verdicts
+AreJudged text (verdict ∷ verdicts) =
+    (0 < length text) × IsJudged (first_piece 10 text) verdict × AreJudged (drop_through 10 text) verdicts
 
 -- there are lines, and each agrees
 abbrev pub AllAgree : List Verdict → Type 0

@@ -84,7 +84,8 @@ impl fmt::Display for Tally {
     }
 }
 
-/// Compares each line of the reader with its instruction, and prints those that don't agree, and the counts.
+/// Compares each line of the reader with its instruction, and prints those that don't agree, and
+/// the counts.
 pub fn compare<R: io::Read + Drop, W: io::Write>(
     alloc: Global,
     reader: R,
@@ -117,7 +118,8 @@ fn compare_lines<R: BufRead, W: io::Write>(
     reader: &mut R,
     writer: &mut W,
 ) -> io::Result<Tally>
-    ensures { IfOk result (λ tally. IfSome (R.remaining reader.old) (λ text. CountsLines text tally)) }
+    ensures { IfOk result
+        (λ tally. IfSome (R.remaining reader.old) (λ text. CountsLines text tally)) }
 {
     let mut tally = Tally::default();
     let mut line = Vec::new(alloc);

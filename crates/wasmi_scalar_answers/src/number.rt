@@ -3,8 +3,8 @@ ghost use Rattle.std.specs.Prelude.{IfSome, Ok};
 
 use std::str::FromStr;
 
-/// The number that a word writes in decimal, if it fits its type. A minus sign may stand before the digits of a signed
-/// number, and leading zeros are allowed; a plus sign isn't.
+/// The number that a word writes in decimal, if it fits its type. A minus sign may stand before the
+/// digits of a signed number, and leading zeros are allowed; a plus sign isn't.
 pub fn number<T: FromStr>(word: &str) -> Option<T>
 where
     T::Err: Drop,

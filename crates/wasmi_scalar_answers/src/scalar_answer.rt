@@ -84,7 +84,8 @@ impl From<(i64, i64)> for ScalarAnswer {
 }
 
 impl<T: Into<ScalarAnswer>> From<Result<T, TrapCode>> for ScalarAnswer {
-    ghost from_gives = { λ outcome answer. MatchResult outcome (λ value. T.converts value answer) (λ trap. answer ≡ Trap trap) };
+    ghost from_gives = { λ outcome answer. MatchResult outcome (λ value. T.converts value answer)
+        (λ trap. answer ≡ Trap trap) };
 
     fn from(outcome: Result<T, TrapCode>) -> Self {
         match outcome {

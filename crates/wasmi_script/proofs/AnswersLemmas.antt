@@ -10,13 +10,15 @@ use Rattle.wasmi_script.specs.declared.script.line.LineError.TheVariants.{BadCom
 use Rattle.wasmi_script.specs.Acceptance.{Accepts, AcceptsWithMemory}
 use Rattle.wasmi_script.specs.Words.{Words}
 use Rattle.wasmi_core.specs.Determinism.{IsDeterministic}
-use Rattle.wasmi_script.specs.declared.answering.AnswerList.{AnswerList}
-use Rattle.wasmi_script.specs.Answers.{WritesAnswers, answer_text, TakesWord, NeverComplains, QuietListsHeed, answer_rules, heed_by}
+use Rattle.wasmi_script.specs.declared.listed_limiter.AnswerList.{AnswerList}
+use Rattle.wasmi_script.specs.Answers.{WritesAnswers, answer_text, TakesWord, NeverComplains, QuietListsAcceptNotices, answer_rules, notice_answer_by}
 use Rattle.wasmi_meter.specs.Limiter.{Answer}
 
 -- one word more, and the answer that it stands for
-pub one_answer : (words : Words) (i : ℕ) (none : Bor (List ℕ)) (answers : List AnswerWord) (answer : AnswerWord) → i < length words
-    → WritesAnswers (take i words) answers → (get_or words i none).now ≡ answer_text answer → WritesAnswers (take (i + 1) words) (answers ++ answer ∷ [])
+pub one_answer : (words : Words) (i : ℕ) (none : Bor (List ℕ)) (answers : List AnswerWord) (answer : AnswerWord)
+    → i < length words
+    → WritesAnswers (take i words) answers → (get_or words i none).now ≡ answer_text answer
+    → WritesAnswers (take (i + 1) words) (answers ++ answer ∷ [])
 one_answer words i none answers answer below before last =
     map_more (λ word. word.now) words i none below
     ∙ ap (λ texts. texts ++ (get_or words i none).now ∷ []) before
@@ -24,7 +26,8 @@ one_answer words i none answers answer below before last =
     ∙ sym (map-append answer_text answers (answer ∷ []))
 
 -- one word that stands for no answer
-pub no_answers : {V : Type 0} (items : V → List AnswerWord) (words : Words) (i : ℕ) (none : Bor (List ℕ)) (error : LineError) → i < length words
+pub no_answers : {V : Type 0} (items : V → List AnswerWord) (words : Words) (i : ℕ) (none : Bor (List ℕ))
+    (error : LineError) → i < length words
     → Accepts {A = AnswerWord} (Err error) (λ answer. (get_or words i none).now ≡ answer_text answer)
     → AcceptsWithMemory {A = V} (Err error) (λ answers. WritesAnswers words (items answers))
 no_answers items words i none BadCommand below unfit = λ answers writes. unfit (get_or (items answers) i Permit)
@@ -34,7 +37,8 @@ no_answers items words i none BadCommand below unfit = λ answers writes. unfit 
 no_answers items words i none OutOfMemory below unfit = tt
 
 -- a question leaves one list
-one_list : (list list' list'' : AnswerList) (answer answer' : Answer) → TakesWord list answer list' → TakesWord list answer' list'' → (answer ≡ answer') × (list' ≡ list'')
+one_list : (list list' list'' : AnswerList) (answer answer' : Answer) → TakesWord list answer list'
+    → TakesWord list answer' list'' → (answer ≡ answer') × (list' ≡ list'')
 one_list list list' list'' answer answer' takes takes' = (
   takes.answered ∙ sym takes'.answered,
   λ i. record {
@@ -47,22 +51,26 @@ one_list list list' list'' answer answer' takes takes' = (
 -- a limiter that answers from words leaves no choice
 pub answers_once : IsDeterministic answer_rules
 answers_once = record {
-  asked = λ list question answer answer' list' list'' takes takes'. one_list list list' list'' answer answer' takes takes';
-  noticed = λ list failure heed heed' list' list'' heeds heeds'. (heeds.0 ∙ sym heeds'.0, heeds.1 ∙ sym heeds'.1);
+  asked = λ list question answer answer' list' list'' takes takes'. one_list list list' list'' answer answer' takes
+      takes';
+  noticed = λ list failure notice_answer notice_answer' list' list'' accepts accepts'.
+      (accepts.0 ∙ sym accepts'.0, accepts.1 ∙ sym accepts'.1);
 }
 
--- each of such words lets a notice be heeded, and so does `permit` after them
-quiet_at : (words : List AnswerWord) (k : ℕ) → All (λ word. heed_by word ≡ Ok tt) words → heed_by (slice_index_or words k Permit) ≡ Ok tt
+-- each of such words lets a notice be accepted, and so does `permit` after them
+quiet_at : (words : List AnswerWord) (k : ℕ) → All (λ word. notice_answer_by word ≡ Ok tt) words
+    → notice_answer_by (slice_index_or words k Permit) ≡ Ok tt
 quiet_at [] k all = refl
-quiet_at (word ∷ words) zero all = All-head (λ w. heed_by w ≡ Ok tt) word words all
-quiet_at (word ∷ words) (suc k) all = quiet_at words k (All-tail (λ w. heed_by w ≡ Ok tt) word words all)
+quiet_at (word ∷ words) zero all = All-head (λ w. notice_answer_by w ≡ Ok tt) word words all
+quiet_at (word ∷ words) (suc k) all = quiet_at words k (All-tail (λ w. notice_answer_by w ≡ Ok tt) word words all)
 
 -- limiters of such words
-pub quiet_lists : QuietListsHeed
+pub quiet_lists : QuietListsAcceptNotices
 quiet_lists = record {
   asked = λ list question answer list' quiet takes. record {
-    words = subst (λ words. All (λ word. heed_by word ≡ Ok tt) words.now) (sym takes.words) quiet.words;
-    last = ap heed_by takes.last ∙ quiet_at list.words.now list.asked quiet.words;
+    words = subst (λ words. All (λ word. notice_answer_by word ≡ Ok tt) words.now) (sym takes.words) quiet.words;
+    last = ap notice_answer_by takes.last ∙ quiet_at list.words.now list.asked quiet.words;
   };
-  noticed = λ list failure heed list' quiet heeds. (heeds.0 ∙ quiet.last, subst NeverComplains (sym heeds.1) quiet);
+  noticed = λ list failure notice_answer list' quiet accepts.
+      (accepts.0 ∙ quiet.last, subst NeverComplains (sym accepts.1) quiet);
 }

@@ -30,26 +30,57 @@ said (row ∷ rows) word = cond (bytes_eq row.0 word) row.1 (said rows word)
 abbrev forms : Words → List (List ℕ × Type 0)
 forms words =
     (codes "grow", (memory : ℕ) × (pages : ℕ) × WritesOperands words (GrowMemory memory pages)) ∷
-    (codes "read", (memory : ℕ) × (offset : ℕ) × (len : ℕ) × WritesOperands words (Read memory offset len)) ∷
-    (codes "load", (op : LoadOp) × (memory : ℕ) × (ptr : ℕ) × (offset : ℕ) × WritesOperands words (Load op memory ptr offset)) ∷
-    (codes "store", (op : StoreOp) × (memory : ℕ) × (ptr : ℕ) × (offset : ℕ) × (value : RawVal) × WritesOperands words (Store op memory ptr offset value)) ∷
-    (codes "tgrow", (table : ℕ) × (delta : ℕ) × (init : TypedRawRef) × WritesOperands words (GrowTable table delta init)) ∷
-    (codes "get", (table : ℕ) × (index : ℕ) × WritesOperands words (GetElement table index)) ∷
-    (codes "tset", (table : ℕ) × (index : ℕ) × (value : TypedRawRef) × WritesOperands words (SetElement table index value)) ∷
-    (codes "init", (table : ℕ) × (segment : ℕ) × (dst : ℕ) × (src : ℕ) × (len : ℕ) × WritesOperands words (InitTable table segment dst src len)) ∷
-    (codes "copy", (dst_table : ℕ) × (dst : ℕ) × (src_table : ℕ) × (src : ℕ) × (len : ℕ) × WritesOperands words (CopyTable dst_table dst src_table src len)) ∷
-    (codes "fill", (table : ℕ) × (dst : ℕ) × (value : TypedRawRef) × (len : ℕ) × WritesOperands words (FillTable table dst value len)) ∷
+    (codes "read", (memory : ℕ) × (offset : ℕ) × (len : ℕ) × WritesOperands words (Read memory offset len)) ∷ (
+      codes "load",
+      (op : LoadOp) × (memory : ℕ) × (ptr : ℕ) × (offset : ℕ)
+          × WritesOperands words (Load op memory ptr offset),
+    ) ∷ (
+      codes "store",
+      (op : StoreOp) × (memory : ℕ) × (ptr : ℕ) × (offset : ℕ) × (value : RawVal)
+          × WritesOperands words (Store op memory ptr offset value),
+    ) ∷ (
+      codes "tgrow",
+      (table : ℕ) × (delta : ℕ) × (init : TypedRawRef)
+          × WritesOperands words (GrowTable table delta init),
+    ) ∷
+    (codes "get", (table : ℕ) × (index : ℕ) × WritesOperands words (GetElement table index)) ∷ (
+      codes "tset",
+      (table : ℕ) × (index : ℕ) × (value : TypedRawRef)
+          × WritesOperands words (SetElement table index value),
+    ) ∷ (
+      codes "init",
+      (table : ℕ) × (segment : ℕ) × (dst : ℕ) × (src : ℕ) × (len : ℕ)
+          × WritesOperands words (InitTable table segment dst src len),
+    ) ∷ (
+      codes "copy",
+      (dst_table : ℕ) × (dst : ℕ) × (src_table : ℕ) × (src : ℕ) × (len : ℕ)
+          × WritesOperands words (CopyTable dst_table dst src_table src len),
+    ) ∷ (
+      codes "fill",
+      (table : ℕ) × (dst : ℕ) × (value : TypedRawRef) × (len : ℕ)
+          × WritesOperands words (FillTable table dst value len),
+    ) ∷
     (codes "global", (value : RawVal) × (ty : GlobalType) × WritesOperands words (NewGlobal value ty)) ∷
     (codes "gset", (global : ℕ) × (value : TypedRawVal) × WritesOperands words (SetGlobal global value)) ∷
     (codes "set", (dst : ℕ) × (value : RawVal) × WritesOperands words (SetRegister dst value)) ∷
     (codes "make", (op : MakeOp) × (dst : ℕ) × (a : ℕ) × WritesOperands words (Make op dst a)) ∷
     (codes "unary", (op : UnaryOp) × (dst : ℕ) × (a : ℕ) × WritesOperands words (Unary op dst a)) ∷
-    (codes "binary", (op : BinaryOp) × (dst : ℕ) × (a : ℕ) × (b : ℕ) × WritesOperands words (Binary op dst a b)) ∷
-    (codes "ternary", (op : TernaryOp) × (dst : ℕ) × (a : ℕ) × (b : ℕ) × (c : ℕ) × WritesOperands words (Ternary op dst a b c)) ∷
-    (codes "shift", (op : ShiftOp) × (dst : ℕ) × (a : ℕ) × (amount : ℕ) × WritesOperands words (Shift op dst a amount)) ∷
-    (codes "test", (op : TestOp) × (a : ℕ) × WritesOperands words (Test op a)) ∷
-    (codes "vload", (op : VectorLoadOp) × (dst : ℕ) × (memory : ℕ) × (ptr : ℕ) × (offset : ℕ) × WritesOperands words (VectorLoad op dst memory ptr offset)) ∷
-    (codes "vstore", (a : ℕ) × (memory : ℕ) × (ptr : ℕ) × (offset : ℕ) × WritesOperands words (VectorStore a memory ptr offset)) ∷
+    (codes "binary", (op : BinaryOp) × (dst : ℕ) × (a : ℕ) × (b : ℕ) × WritesOperands words (Binary op dst a b)) ∷ (
+      codes "ternary",
+      (op : TernaryOp) × (dst : ℕ) × (a : ℕ) × (b : ℕ) × (c : ℕ)
+          × WritesOperands words (Ternary op dst a b c),
+    ) ∷
+    (codes "shift", (op : ShiftOp) × (dst : ℕ) × (a : ℕ) × (amount : ℕ) × WritesOperands words (Shift op dst a amount))
+    ∷
+    (codes "test", (op : TestOp) × (a : ℕ) × WritesOperands words (Test op a)) ∷ (
+      codes "vload",
+      (op : VectorLoadOp) × (dst : ℕ) × (memory : ℕ) × (ptr : ℕ) × (offset : ℕ)
+          × WritesOperands words (VectorLoad op dst memory ptr offset),
+    ) ∷ (
+      codes "vstore",
+      (a : ℕ) × (memory : ℕ) × (ptr : ℕ) × (offset : ℕ)
+          × WritesOperands words (VectorStore a memory ptr offset),
+    ) ∷
     []
 
 -- a call's operands are written in the form of its word
@@ -94,7 +125,10 @@ form words (VectorStore a memory ptr offset) w = (a, memory, ptr, offset, w)
 form words (StoreLane op a memory ptr offset) w = tt
 
 -- a command is refused since its operands are
-pub refused_after : {A : Type 0} (error : LineError) (P : A → Type 0) (word : List ℕ) (words : Words) (result : Result Call LineError)
-    → result ≡ Err error → Accepts {A = A} (Err error) P → (said (forms words) word → (a : A) × P a) → Accepts result (NamesAfter word words)
+pub refused_after : {A : Type 0} (error : LineError) (P : A → Type 0) (word : List ℕ) (words : Words)
+    (result : Result Call LineError)
+    → result ≡ Err error → Accepts {A = A} (Err error) P → (said (forms words) word → (a : A) × P a)
+    → Accepts result (NamesAfter word words)
 refused_after error P word words result is refused part =
-    refused_through error result is (λ call names. part (subst (said (forms words)) names.0 (form words call names.1))) refused
+    refused_through error result is
+    (λ call names. part (subst (said (forms words)) names.0 (form words call names.1))) refused

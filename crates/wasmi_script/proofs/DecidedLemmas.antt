@@ -20,15 +20,15 @@ use Rattle.wasmi_core.specs.Steps.{Effect, Told, BytesRead, FuelSet, Changed, Me
 use Rattle.wasmi_core.specs.Steps.{TableMade}
 use Rattle.wasmi_core.specs.Steps.{TableGrown, PartWritten, effect_of, TakesEffect, Step}
 use Rattle.wasmi_core.specs.Runs.{Run, IsRunOf}
-use Rattle.wasmi_core.specs.Determinism.{IsDeterministic, HeedsAll, HasMemory}
+use Rattle.wasmi_core.specs.Determinism.{IsDeterministic, AcceptsNotices, HasMemory}
 use Rattle.wasmi_core.proofs.DeterminismLemmas.{unlimited_once, quota_once}
-use Rattle.wasmi_core.proofs.ToldLemmas.{replies_are_one, unlimited_heeds, quota_heeds}
+use Rattle.wasmi_core.proofs.ToldLemmas.{replies_are_one, unlimited_accepts, quota_accepts}
 use Rattle.wasmi_budget.specs.Pool.{PoolValue, RunsTenant, tenant_at}
 use Rattle.wasmi_budget.specs.Tenant.{tenant_rules}
 use Rattle.wasmi_script.specs.declared.error.ReplayError.TheVariants.{BadCommand, TooLong, OutOfMemory, ReadFault}
 use Rattle.wasmi_script.specs.declared.replaying.Ran.{Ran}
 use Rattle.wasmi_script.specs.declared.replaying.Held.TheVariants as holding
-use Rattle.wasmi_script.specs.declared.script.Part.{Part}
+use Rattle.wasmi_script.specs.declared.script.TenantRun.{TenantRun}
 use Rattle.wasmi_script.specs.declared.script.Script.{Script}
 use Rattle.wasmi_script.specs.declared.script.header.Header.{Header}
 use Rattle.wasmi_script.specs.declared.script.header.LimiterLine.{LimiterLine}
@@ -70,7 +70,7 @@ same_kind (NewSegment ty items) call' (v, is, same) = ap kind_text is
 same_kind call call' is = ap kind_text is
 
 -- so scripts that say the same have calls that do, all in all
-calls_said : (parts : List Part) → map call_said (calls_in parts) ≡ flat_map PartSaid.calls (map part_said parts)
+calls_said : (parts : List TenantRun) → map call_said (calls_in parts) ≡ flat_map PartSaid.calls (map part_said parts)
 calls_said [] = refl
 calls_said (part ∷ parts) =
     map-append call_said part.calls.items (calls_in parts)
@@ -116,25 +116,25 @@ module _ {S : Type 0} (rules : Rules S) where
   retold_effect : (w : World S) (turn : Turn) (w' : World S) (other : Call) (effect : Effect)
       → TakesEffect rules effect w turn w' → TakesEffect rules effect w (by_call turn other) w'
   retold_effect w turn w' other (Told reply) step =
-      record { free = step.free; row = step.row; after = step.after }
+      record { free = step.free; row = step.effect; after = step.after }
   retold_effect w turn w' other (BytesRead k offset len) step =
-      record { free = step.free; row = step.row; after = step.after }
+      record { free = step.free; row = step.effect; after = step.after }
   retold_effect w turn w' other (FuelSet fuel) step =
-      record { free = step.free; machine = step.machine; row = step.row; after = step.after }
+      record { free = step.free; machine = step.machine; row = step.effect; after = step.after }
   retold_effect w turn w' other (Changed change) step =
-      record { free = step.free; machine = step.machine; row = step.row; after = step.after }
+      record { free = step.free; machine = step.machine; row = step.effect; after = step.after }
   retold_effect w turn w' other (MemoryMade ty) step =
-      record { free = step.free; part = step.part; limiter = step.limiter; row = step.row; after = step.after }
+      record { free = step.free; part = step.part; limiter = step.limiter; row = step.effect; after = step.after }
   retold_effect w turn w' other (LentMemoryMade ty) step =
-      record { free = step.free; part = step.part; limiter = step.limiter; row = step.row; after = step.after }
+      record { free = step.free; part = step.part; limiter = step.limiter; row = step.effect; after = step.after }
   retold_effect w turn w' other (TableMade ty init) step =
-      record { free = step.free; part = step.part; limiter = step.limiter; row = step.row; after = step.after }
+      record { free = step.free; part = step.part; limiter = step.limiter; row = step.effect; after = step.after }
   retold_effect w turn w' other (MemoryGrown k pages) step =
       record {
         part = step.part;
         meter = step.meter;
         limiter = step.limiter;
-        row = step.row;
+        row = step.effect;
         wrote =
             step.wrote;
         after = step.after;
@@ -144,13 +144,13 @@ module _ {S : Type 0} (rules : Rules S) where
         part = step.part;
         meter = step.meter;
         limiter = step.limiter;
-        row = step.row;
+        row = step.effect;
         wrote =
             step.wrote;
         after = step.after;
       }
   retold_effect w turn w' other (PartWritten k source dst len) step =
-      record { part = step.part; meter = step.meter; row = step.row; wrote = step.wrote; after = step.after }
+      record { part = step.part; meter = step.meter; row = step.effect; wrote = step.wrote; after = step.after }
 
   retold_step : (w : World S) (turn : Turn) (w' : World S) (other : Call) → call_said other ≡ call_said turn.call
       → Step rules w turn w'
@@ -190,14 +190,14 @@ module _ {S : Type 0} (rules : Rules S) where
 abbrev HaveBoth : List Reply → List Reply → Type 0
 HaveBoth replies replies' = All HasMemory replies × All HasMemory replies'
 
--- two runs of calls that say the same, from one machine under one limiter that leaves no choice and heeds each notice
-module _ {L : Type 0} (rules : Rules L) (once : IsDeterministic rules) (heeds : HeedsAll rules) where
+-- two runs of calls that say the same, from one machine under one limiter that leaves no choice and accepts each notice
+module _ {L : Type 0} (rules : Rules L) (once : IsDeterministic rules) (accepts : AcceptsNotices rules) where
   run_once : (calls calls' : List Call) (w v v' : World (Option L)) (replies replies' : List Reply)
       → map call_said calls ≡ map call_said calls'
       → IsRunOf (optional_rules rules) calls w replies v → IsRunOf (optional_rules rules) calls' w replies' v'
       → HaveBoth replies replies' → (replies ≡ replies') × (v ≡ v')
   run_once calls calls' w v v' replies replies' same ran ran' has =
-      replies_are_one rules heeds once calls w (record { replies = replies; after = v; has = has.0; ran = ran })
+      replies_are_one rules accepts once calls w (record { replies = replies; after = v; has = has.0; ran = ran })
       (record {
         replies = replies';
         after = v';
@@ -237,7 +237,7 @@ under_once : (limiter : Option LimiterLine) (start : State) (calls calls' : List
     → IsReplayUnder limiter start calls' ran'
     → HaveBoth ran.replies.items ran'.replies.items → SameRan ran ran'
 under_once None start calls calls' ran ran' none same (held, after, run) (held', after', run') has = record {
-  replies = (run_once unlimited_rules unlimited_once unlimited_heeds calls calls' _ after after' ran.replies.items
+  replies = (run_once unlimited_rules unlimited_once unlimited_accepts calls calls' _ after after' ran.replies.items
       ran'.replies.items same run run' has).0;
   held = ap held_text (held ∙ sym held');
 }
@@ -247,7 +247,7 @@ under_once (Some (Quota asked)) start calls calls' ran ran' none same (quota, ne
     (record { state = start; limiter = Some q })
     ran'.replies.items (record { state = end'; limiter = Some after' }))
     (sym (new_quotas asked quota quota' new new')) run' in
-    let one = run_once quota_rules quota_once quota_heeds calls calls' _ _ _ ran.replies.items ran'.replies.items same
+    let one = run_once quota_rules quota_once quota_accepts calls calls' _ _ _ ran.replies.items ran'.replies.items same
     run again has in
     let limiters : Some after ≡ Some after' = ap (λ (w : World (Option quotas.Quota)). w.limiter) one.1 in
     let afters : after ≡ after' = cc in
@@ -271,7 +271,7 @@ module _ {X : Type 0} (P : X → Type 0) where
   later_have (x ∷ xs) ys all = later_have xs ys (All-tail P x (xs ++ ys) all)
 
 -- the replies before some parts stand before those after them
-before_parts : (parts : List Part) (pool pool' : PoolValue) (replies replies' : List Reply)
+before_parts : (parts : List TenantRun) (pool pool' : PoolValue) (replies replies' : List Reply)
     → AnswersParts pool parts replies replies' pool'
     → All HasMemory replies' → All HasMemory replies
 before_parts [] pool pool' replies replies' is has = subst (All HasMemory) is.0 has
@@ -293,13 +293,13 @@ module _ (once : IsDeterministic tenant_rules) where
       (record { state = s; limiter = Some (tenant_at pool tenant s) })
       replies' (record { state = ran'.machine'; limiter = Some ran'.tenant' })) machine ran'.ran in
       let one = run_once tenant_rules once
-      (λ l failure heed l' noticed. noticed.0) calls calls' _ _ _ replies replies' same ran.ran again has in (
+      (λ l failure notice_answer l' noticed. noticed.0) calls calls' _ _ _ replies replies' same ran.ran again has in (
         one.0,
         ran.after ∙ (λ i. record pool { machines = slice_set pool.machines tenant (one.1 i).state })
             ∙ sym ran'.after,
       )
 
-  parts_once : (parts parts' : List Part) (pool last last' : PoolValue) (replies given given' : List Reply)
+  parts_once : (parts parts' : List TenantRun) (pool last last' : PoolValue) (replies given given' : List Reply)
       → map part_said parts ≡ map part_said parts'
       → AnswersParts pool parts replies given last → AnswersParts pool parts' replies given' last'
       → HaveBoth given given'
@@ -345,8 +345,8 @@ module _ (once : IsDeterministic tenant_rules) where
     by (Some (Quota asked)) none replay replay' = alone (Some (Quota asked)) none replay replay'
     by (Some (Answers words)) none replay replay' = absurd none
     by (Some (Tenants asked)) none (pool, held, answers) (pool', held', answers') =
-        let part : Part = record { tenant = script.tenant; calls = script.calls } in
-        let part' : Part = record { tenant = script'.tenant; calls = script'.calls } in
+        let part : TenantRun = record { tenant = script.tenant; calls = script.calls } in
+        let part' : TenantRun = record { tenant = script'.tenant; calls = script'.calls } in
         let parts : map part_said (script.earlier.items ++ part ∷ []) ≡ map part_said
         (script'.earlier.items ++ part' ∷ []) =
         map-append part_said script.earlier.items (part ∷ [])

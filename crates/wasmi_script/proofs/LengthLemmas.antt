@@ -30,11 +30,14 @@ use Rattle.wasmi_script.specs.TypeWords.{reference_word}
 use Rattle.wasmi_script.specs.Texts.{kind_text, reply_text, error_text}
 
 -- the digits of a number are at most 64
-digits_short : (k base : ℕ) (upper : Bool) (n : ℕ) (acc : List ℕ) → length (digits_onto k base upper n acc) ≤ k + length acc
+digits_short : (k base : ℕ) (upper : Bool) (n : ℕ) (acc : List ℕ)
+    → length (digits_onto k base upper n acc) ≤ k + length acc
 digits_short zero base upper n acc = omega arith
 digits_short (suc k) base upper n acc =
     let glyph = digit_glyph upper (n % base) in
-    elim (n / base == 0) as (λ b. length (if b then glyph ∷ acc else digits_onto k base upper (n / base) (glyph ∷ acc)) ≤ suc k + length acc) [
+    elim (n / base == 0) as
+    (λ b. length (if b then glyph ∷ acc else digits_onto k base upper (n / base) (glyph ∷ acc))
+    ≤ suc k + length acc) [
       | true ↦ omega arith
       | false ↦ omega (arith, digits_short k base upper (n / base) (glyph ∷ acc))
     ]
@@ -147,18 +150,43 @@ failed : (text : List ℕ) → length text ≤ 164 → length (codes "error " ++
 failed text fits = omega (arith, length-append (codes "error ") text, fits)
 
 one_number : (word : List ℕ) (n : ℕ) → length word ≤ 40 → length (word ++ (codes " " ++ decimal n)) ≤ 105
-one_number word n short = omega (arith, length-append word (codes " " ++ decimal n), length-append (codes " ") (decimal n), decimal_short n, short)
+one_number word n short =
+    omega (
+      arith,
+      length-append word (codes " " ++ decimal n),
+      length-append (codes " ") (decimal n),
+      decimal_short n,
+      short,
+    )
 
-two_numbers : (word : List ℕ) (m n : ℕ) → length word ≤ 40 → length (word ++ (decimal m ++ (codes " " ++ decimal n))) ≤ 169
+two_numbers : (word : List ℕ) (m n : ℕ) → length word ≤ 40
+    → length (word ++ (decimal m ++ (codes " " ++ decimal n))) ≤ 169
 two_numbers word m n short =
-    omega (arith, length-append word (decimal m ++ (codes " " ++ decimal n)), length-append (decimal m) (codes " " ++ decimal n), length-append (codes " ") (decimal n), decimal_short m, decimal_short n, short)
+    omega (
+      arith,
+      length-append word (decimal m ++ (codes " " ++ decimal n)),
+      length-append (decimal m) (codes " " ++ decimal n),
+      length-append (codes " ") (decimal n),
+      decimal_short m,
+      decimal_short n,
+      short,
+    )
 
-pub three_numbers : (word : List ℕ) (k m n : ℕ) → length word ≤ 5 → length (word ++ (decimal k ++ (codes " " ++ (decimal m ++ (codes " " ++ decimal n))))) < 256
+pub three_numbers : (word : List ℕ) (k m n : ℕ) → length word ≤ 5
+    → length (word ++ (decimal k ++ (codes " " ++ (decimal m ++ (codes " " ++ decimal n))))) < 256
 three_numbers word k m n short =
-    omega (arith, length-append word (decimal k ++ (codes " " ++ (decimal m ++ (codes " " ++ decimal n)))), length-append (decimal k) (codes " " ++ (decimal m ++ (codes " " ++ decimal n))), two_numbers (codes " ") m n (lit≤ tt), decimal_short k, short)
+    omega (
+      arith,
+      length-append word (decimal k ++ (codes " " ++ (decimal m ++ (codes " " ++ decimal n)))),
+      length-append (decimal k) (codes " " ++ (decimal m ++ (codes " " ++ decimal n))),
+      two_numbers (codes " ") m n (lit≤ tt),
+      decimal_short k,
+      short,
+    )
 
 -- what is held
-pub held_short : (bytes elements : ℕ) → length (codes "held " ++ (decimal bytes ++ (codes " " ++ decimal elements))) < 256
+pub held_short : (bytes elements : ℕ)
+    → length (codes "held " ++ (decimal bytes ++ (codes " " ++ decimal elements))) < 256
 held_short bytes elements = omega (arith, two_numbers (codes "held ") bytes elements (lit≤ tt))
 
 -- a byte of those that were read
@@ -166,14 +194,16 @@ pub byte_short : (byte : ℕ) → length (codes " " ++ decimal byte) < 256
 byte_short byte = omega (arith, numbered (codes " ") byte (lit≤ tt))
 
 -- a reply that isn't one of bytes
-pub reply_short : (call : Call) (reply : Reply) → ((bytes : _) → ¬ (reply ≡ Bytes bytes)) → length (reply_text call reply) < 256
+pub reply_short : (call : Call) (reply : Reply) → ((bytes : _) → ¬ (reply ≡ Bytes bytes))
+    → length (reply_text call reply) < 256
 reply_short call Done other = lit< tt
 reply_short call (Made index) other = omega (arith, one_number (kind_text call) index (omega (arith, kind_short call)))
 reply_short call (Value value) other = omega (arith, two_numbers (codes "raw ") value.lo value.hi (lit≤ tt))
 reply_short call (Number number) other = omega (arith, numbered (codes "value ") number (lit≤ tt))
 reply_short call (Bytes bytes) other = absurd (other bytes refl)
 reply_short call (Reference None) other = lit< tt
-reply_short call (Reference (Some reference)) other = omega (arith, one_number (reference_word reference.ty) reference.raw (omega (arith, reference_short reference.ty)))
+reply_short call (Reference (Some reference)) other =
+    omega (arith, one_number (reference_word reference.ty) reference.raw (omega (arith, reference_short reference.ty)))
 reply_short call (Memory error) other = failed (memory_error_text error) (memory_short error)
 reply_short call (Table error) other = failed (table_error_text error) (table_short error)
 reply_short call (Fuel error) other = failed (fuel_error_text error) (fuel_short error)
@@ -187,7 +217,12 @@ reply_short call NoRoom other = lit< tt
 -- why a script isn't run
 pub error_short : (error : ReplayError) → length (error_text error) < 256
 error_short (BadCommand number) =
-    omega (arith, length-append (codes "line ") (decimal number ++ codes ": bad command"), length-append (decimal number) (codes ": bad command"), decimal_short number)
+    omega (
+      arith,
+      length-append (codes "line ") (decimal number ++ codes ": bad command"),
+      length-append (decimal number) (codes ": bad command"),
+      decimal_short number,
+    )
 error_short TooLong = lit< tt
 error_short Errors.OutOfMemory = lit< tt
 error_short ReadFault = lit< tt

@@ -1,4 +1,4 @@
-pub mod Scripts
+pub mod ScriptLemmas
 pub mod LinesLemmas
 pub mod PrintingLemmas
 pub mod OutcomesLemmas

@@ -15,11 +15,13 @@ same_limit word (Some n) None v w = absurd (search (rules, tests, v, w))
 same_limit word (Some m) (Some n) v w = ap (λ k. Some k) (v.1 ∙ sym w.1)
 
 -- one word more, and the number that it writes
-pub one_number : (bits : ℕ) (words : Words) (i : ℕ) (none : Bor (List ℕ)) (numbers : List ℕ) (number : ℕ) → i < length words
+pub one_number : (bits : ℕ) (words : Words) (i : ℕ) (none : Bor (List ℕ)) (numbers : List ℕ) (number : ℕ)
+    → i < length words
     → WritesNumbers bits (take i words) numbers → WritesNumber bits (get_or words i none).now number
     → WritesNumbers bits (take (i + 1) words) (numbers ++ number ∷ [])
 one_number bits words i none numbers number below before last = (
-  All-more (λ word. IsDecimal word.now × (decimal_value word.now < 2 ^ bits)) words i none below before.0 (last.0, subst (λ n. n < 2 ^ bits) last.1 last.2),
+  All-more (λ word. IsDecimal word.now × (decimal_value word.now < 2 ^ bits)) words i none below before.0
+      (last.0, subst (λ n. n < 2 ^ bits) last.1 last.2),
   ap (λ ns. ns ++ number ∷ []) before.1
       ∙ ap (λ n. map (λ word. decimal_value word.now) (take i words) ++ n ∷ []) last.1
       ∙ sym (map_more (λ word. decimal_value word.now) words i none below),
@@ -35,11 +37,14 @@ numbers_of bits Says (word ∷ words) [] writes said = absurd said
 numbers_of bits Says (word ∷ words) (number ∷ numbers) writes said =
     let here = writes word number said.0 in
     let rest = numbers_of bits Says words numbers writes said.1 in (
-      All-cons (λ w. IsDecimal w.now × (decimal_value w.now < 2 ^ bits)) word words (here.0, subst (λ n. n < 2 ^ bits) here.1 here.2) rest.0,
+      All-cons (λ w. IsDecimal w.now × (decimal_value w.now < 2 ^ bits)) word words
+          (here.0, subst (λ n. n < 2 ^ bits) here.1 here.2) rest.0,
       ap (λ n. n ∷ numbers) here.1 ∙ ap (λ ns. decimal_value word.now ∷ ns) rest.1,
     )
 
 -- one word that writes no such number
 pub no_numbers : (bits : ℕ) (words : Words) (word : Bor (List ℕ)) → IsAmong words word
     → ¬ (IsDecimal word.now × (decimal_value word.now < 2 ^ bits)) → ¬ (AreNumbers bits words)
-no_numbers bits words word among unfit all = unfit (All-contains (λ w. IsDecimal w.now × (decimal_value w.now < 2 ^ bits)) words word all (among.0, among.1.0, sym among.1.1))
+no_numbers bits words word among unfit all =
+    unfit (All-contains (λ w. IsDecimal w.now × (decimal_value w.now < 2 ^ bits)) words word all
+    (among.0, among.1.0, sym among.1.1))

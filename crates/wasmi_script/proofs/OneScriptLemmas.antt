@@ -3,7 +3,7 @@ use Rattle.std.proofs.Common.{ℕ, ◌+◌, ◌≡◌, ◌∙◌, ◌++◌, List
 use Rattle.std.proofs.Common.{length-append, inl, inr, arith, refl, suc, sym, ap, subst}
 use Rattle.std.specs.Option.{option_map}
 use Rattle.std.proofs.lemmas.List.{length-map}
-use Rattle.wasmi_script.specs.declared.script.Part.{Part}
+use Rattle.wasmi_script.specs.declared.script.TenantRun.{TenantRun}
 use Rattle.wasmi_script.specs.declared.script.Script.{Script}
 use Rattle.wasmi_script.specs.declared.script.header.LimiterLine.{LimiterLine}
 use Rattle.wasmi_script.specs.declared.script.header.LimiterLine.TheVariants.{Quota, Answers, Tenants}
@@ -171,8 +171,8 @@ module _ (old old' : Script) (same : SayTheSame old old') where
         }))))),
       )
   takes_too words new (inr (inr (inr (inr (inr a))))) =
-      let part : Part = record { tenant = old.tenant; calls = old.calls } in
-      let part' : Part = record { tenant = old'.tenant; calls = old'.calls } in
+      let part : TenantRun = record { tenant = old.tenant; calls = old.calls } in
+      let part' : TenantRun = record { tenant = old'.tenant; calls = old'.calls } in
       let earlier = with_more new.earlier old.earlier.items old'.earlier.items part part' a.earlier parts_count in
       let tenants = tenants_is old.header.limiter ∙ ap (λ s. tenants_said s.limiter) same
       ∙ sym (tenants_is old'.header.limiter) in (

@@ -12,77 +12,101 @@ use Rattle.wasmi_core.specs.declared.calls.Call.{Call}
 use Rattle.wasmi_core.specs.declared.calls.Reply.{Reply}
 use Rattle.wasmi_core.specs.State.{State}
 use Rattle.wasmi_core.specs.Totals.{total}
-use Rattle.wasmi_script.specs.declared.script.Part.{Part}
+use Rattle.wasmi_script.specs.declared.script.TenantRun.{TenantRun}
 use Rattle.wasmi_script.proofs.PrintingLemmas.{texts_more, texts_at}
 use Rattle.wasmi_script.specs.Printing.{line}
 use Rattle.wasmi_script.specs.Texts.{reply_text}
 use Rattle.wasmi_script.specs.Outcomes.{replies_text, tenant_text, tenants_text}
 
 -- the replies to some calls, and those to later ones
-pub replies_joined : (xs ys : List Call) (rs ss : List Reply) → length xs ≡ length rs → replies_text (xs ++ ys) (rs ++ ss) ≡ replies_text xs rs ++ replies_text ys ss
+pub replies_joined : (xs ys : List Call) (rs ss : List Reply) → length xs ≡ length rs
+    → replies_text (xs ++ ys) (rs ++ ss) ≡ replies_text xs rs ++ replies_text ys ss
 replies_joined [] ys [] ss same = refl
 replies_joined [] ys (r ∷ rs) ss same = absurd (omega (arith, same))
 replies_joined (x ∷ xs) ys [] ss same = absurd (omega (arith, same))
 replies_joined (x ∷ xs) ys (r ∷ rs) ss same =
-    ap (λ t. line (reply_text x r) ++ t) (replies_joined xs ys rs ss (omega (arith, same))) ∙ sym (append_assoc (line (reply_text x r)) (replies_text xs rs) (replies_text ys ss))
+    ap (λ t. line (reply_text x r) ++ t) (replies_joined xs ys rs ss (omega (arith, same)))
+    ∙ sym (append_assoc (line (reply_text x r)) (replies_text xs rs) (replies_text ys ss))
 
 -- numbered items, and later ones
-enumerate_append : {X : Type 0} (n : ℕ) (xs ys : List X) → enumerate_from n (xs ++ ys) ≡ enumerate_from n xs ++ enumerate_from (n + length xs) ys
+enumerate_append : {X : Type 0} (n : ℕ) (xs ys : List X)
+    → enumerate_from n (xs ++ ys) ≡ enumerate_from n xs ++ enumerate_from (n + length xs) ys
 enumerate_append n [] ys = ap (λ k. enumerate_from k ys) (omega arith)
 enumerate_append n (x ∷ xs) ys =
     let same : n + 1 + length xs ≡ n + length (x ∷ xs) = omega arith in
-    ap (λ items. (n, x) ∷ items) (enumerate_append (n + 1) xs ys ∙ ap (λ k. enumerate_from (n + 1) xs ++ enumerate_from k ys) same)
+    ap (λ items. (n, x) ∷ items)
+    (enumerate_append (n + 1) xs ys ∙ ap (λ k. enumerate_from (n + 1) xs ++ enumerate_from k ys) same)
 
 abbrev one_text : ℕ × State → List ℕ
 one_text tenant = line (tenant_text tenant.0 tenant.1)
 
-tenants_append : (machines others : List State) → tenants_text (machines ++ others) ≡ tenants_text machines ++ flat_map one_text (enumerate_from (length machines) others)
+tenants_append : (machines others : List State)
+    → tenants_text (machines ++ others)
+    ≡ tenants_text machines ++ flat_map one_text (enumerate_from (length machines) others)
 tenants_append machines others =
     ap (flat_map one_text) (enumerate_append 0 machines others)
     ∙ flat_map-append one_text (enumerate_from 0 machines) (enumerate_from (0 + length machines) others)
-    ∙ ap (λ n. flat_map one_text (enumerate_from 0 machines) ++ flat_map one_text (enumerate_from n others)) (omega arith)
+    ∙ ap (λ n. flat_map one_text (enumerate_from 0 machines) ++ flat_map one_text (enumerate_from n others))
+    (omega arith)
 
 -- one tenant more
-tenants_more : (machines : List State) (machine : State) → tenants_text (machines ++ machine ∷ []) ≡ tenants_text machines ++ line (tenant_text (length machines) machine)
-tenants_more machines machine = tenants_append machines (machine ∷ []) ∙ ap (λ t. tenants_text machines ++ t) (append-nil (line (tenant_text (length machines) machine)))
+tenants_more : (machines : List State) (machine : State)
+    → tenants_text (machines ++ machine ∷ []) ≡ tenants_text machines ++ line (tenant_text (length machines) machine)
+tenants_more machines machine =
+    tenants_append machines (machine ∷ [])
+    ∙ ap (λ t. tenants_text machines ++ t) (append-nil (line (tenant_text (length machines) machine)))
 
 -- the tenants up to a place, and later ones
 abbrev pub later_tenants : List State → ℕ → List ℕ
 later_tenants machines index = flat_map one_text (enumerate_from (length (take index machines)) (drop index machines))
 
-pub tenants_split : (machines : List State) (index : ℕ) → tenants_text machines ≡ tenants_text (take index machines) ++ later_tenants machines index
-tenants_split machines index = ap tenants_text (sym (take-append-drop index machines)) ∙ tenants_append (take index machines) (drop index machines)
+pub tenants_split : (machines : List State) (index : ℕ)
+    → tenants_text machines ≡ tenants_text (take index machines) ++ later_tenants machines index
+tenants_split machines index =
+    ap tenants_text (sym (take-append-drop index machines)) ∙ tenants_append (take index machines) (drop index machines)
 
 -- the line of the tenant of an index comes after those of the tenants before it
 pub one_tenant : (machines : List State) (index bytes elements : ℕ)
-    → option_map (λ s. total s Bytes) (slice_get machines index) ≡ Some bytes → option_map (λ s. total s Elements) (slice_get machines index) ≡ Some elements
+    → option_map (λ s. total s Bytes) (slice_get machines index) ≡ Some bytes
+    → option_map (λ s. total s Elements) (slice_get machines index) ≡ Some elements
     → tenants_text (take (index + 1) machines)
-    ≡ tenants_text (take index machines) ++ line (codes "held " ++ (decimal index ++ (codes " " ++ (decimal bytes ++ (codes " " ++ decimal elements)))))
-one_tenant machines index bytes elements is_bytes is_elements = at_place (slice_get machines index) refl is_bytes is_elements where
-  at_place : (found : Option State) → slice_get machines index ≡ found → option_map (λ s. total s Bytes) found ≡ Some bytes → option_map (λ s. total s Elements) found ≡ Some elements
-      → tenants_text (take (index + 1) machines)
-      ≡ tenants_text (take index machines) ++ line (codes "held " ++ (decimal index ++ (codes " " ++ (decimal bytes ++ (codes " " ++ decimal elements)))))
-  at_place None is b e = absurd cc
-  at_place (Some machine) is b e =
-      let within : index < length machines = slice_get_within machines index machine is in
-      let count : length (take index machines) ≡ index = length-take-le index machines (omega arith) in
-      let is_b : total machine Bytes ≡ bytes = cc in
-      let is_e : total machine Elements ≡ elements = cc in
-      ap tenants_text (take_more machines index machine within ∙ ap (λ m. take index machines ++ m ∷ []) (get_or_from_slice_get machines index machine machine is))
-      ∙ tenants_more (take index machines) machine
-      ∙ ap (λ n. tenants_text (take index machines) ++ line (tenant_text n machine)) count
-      ∙ ap (λ n. tenants_text (take index machines) ++ line (codes "held " ++ (decimal index ++ (codes " " ++ (decimal n ++ (codes " " ++ decimal (total machine Elements))))))) is_b
-      ∙ ap (λ n. tenants_text (take index machines) ++ line (codes "held " ++ (decimal index ++ (codes " " ++ (decimal bytes ++ (codes " " ++ decimal n)))))) is_e
+    ≡ tenants_text (take index machines) ++ line
+    (codes "held " ++ (decimal index ++ (codes " " ++ (decimal bytes ++ (codes " " ++ decimal elements)))))
+one_tenant machines index bytes elements is_bytes is_elements =
+    at_place (slice_get machines index) refl is_bytes is_elements where
+      at_place : (found : Option State) → slice_get machines index ≡ found
+          → option_map (λ s. total s Bytes) found ≡ Some bytes
+          → option_map (λ s. total s Elements) found ≡ Some elements
+          → tenants_text (take (index + 1) machines)
+          ≡ tenants_text (take index machines) ++ line
+          (codes "held " ++ (decimal index ++ (codes " " ++ (decimal bytes ++ (codes " " ++ decimal elements)))))
+      at_place None is b e = absurd cc
+      at_place (Some machine) is b e =
+          let within : index < length machines = slice_get_within machines index machine is in
+          let count : length (take index machines) ≡ index = length-take-le index machines (omega arith) in
+          let is_b : total machine Bytes ≡ bytes = cc in
+          let is_e : total machine Elements ≡ elements = cc in
+          ap tenants_text
+          (take_more machines index machine within
+          ∙ ap (λ m. take index machines ++ m ∷ []) (get_or_from_slice_get machines index machine machine is))
+          ∙ tenants_more (take index machines) machine
+          ∙ ap (λ n. tenants_text (take index machines) ++ line (tenant_text n machine)) count
+          ∙ ap (λ n. tenants_text (take index machines) ++ line
+          (codes "held " ++
+          (decimal index ++ (codes " " ++ (decimal n ++ (codes " " ++ decimal (total machine Elements))))))) is_b
+          ∙ ap (λ n. tenants_text (take index machines) ++ line
+          (codes "held " ++ (decimal index ++ (codes " " ++ (decimal bytes ++ (codes " " ++ decimal n)))))) is_e
 
 -- the calls of parts
-abbrev pub calls_in : List Part → List Call
+abbrev pub calls_in : List TenantRun → List Call
 calls_in parts = flat_map (λ part. part.calls.items) parts
 
--- What is left of the replies has those to the part of a place: with them those to the parts so far are one part more, and
--- the text is that of the parts so far, of this part, and of what comes later.
-module _ (parts : List Part) (last : List Call) (replies before rest : List Reply) (i : ℕ) (part : Part)
+-- What is left of the replies has those to the part of a place: with them those to the parts so far are one part more,
+-- and the text is that of the parts so far, of this part, and of what comes later.
+module _ (parts : List TenantRun) (last : List Call) (replies before rest : List Reply) (i : ℕ) (part : TenantRun)
     (each : length (calls_in parts ++ last) ≡ length replies) (split : replies ≡ before ++ rest)
-    (count : length (calls_in (take i parts)) ≡ length before) (within : i < length parts) (here : part ≡ get_or parts i part) where
+    (count : length (calls_in (take i parts)) ≡ length before) (within : i < length parts)
+    (here : part ≡ get_or parts i part) where
   abbrev calls : List Call
   calls = part.calls.items
 
@@ -91,31 +115,56 @@ module _ (parts : List Part) (last : List Call) (replies before rest : List Repl
 
   all_calls : calls_in parts ++ last ≡ calls_in (take i parts) ++ (calls ++ later_calls)
   all_calls =
-      ap (λ cs. cs ++ last) (texts_at (λ p. p.calls.items) parts i part within ∙ ap (λ p. calls_in (take i parts) ++ (p.calls.items ++ calls_in (drop (i + 1) parts))) (sym here))
+      ap (λ cs. cs ++ last)
+      (texts_at (λ p. p.calls.items) parts i part within
+      ∙ ap (λ p. calls_in (take i parts) ++ (p.calls.items ++ calls_in (drop (i + 1) parts))) (sym here))
       ∙ append_assoc (calls_in (take i parts)) (calls ++ calls_in (drop (i + 1) parts)) last
       ∙ ap (λ cs. calls_in (take i parts) ++ cs) (append_assoc calls (calls_in (drop (i + 1) parts)) last)
 
   pub calls_more : calls_in (take (i + 1) parts) ≡ calls_in (take i parts) ++ calls
-  calls_more = texts_more (λ p. p.calls.items) parts i part within ∙ ap (λ p. calls_in (take i parts) ++ p.calls.items) (sym here)
+  calls_more = texts_more (λ p. p.calls.items) parts i part within
+      ∙ ap (λ p. calls_in (take i parts) ++ p.calls.items) (sym here)
 
   pub part_fits : length calls ≤ length rest
-  part_fits = omega (arith, each, count, ap length split, length-append before rest, ap length all_calls, length-append (calls_in (take i parts)) (calls ++ later_calls), length-append calls later_calls)
+  part_fits = omega (
+    arith,
+    each,
+    count,
+    ap length split,
+    length-append before rest,
+    ap length all_calls,
+    length-append (calls_in (take i parts)) (calls ++ later_calls),
+    length-append calls later_calls,
+  )
 
   -- and where the part's replies are cut off
-  module _ (answered later : List Reply) (cut : rest ≡ answered ++ later) (answers : length answered ≡ length calls) where
+  module _ (answered later : List Reply) (cut : rest ≡ answered ++ later)
+      (answers : length answered ≡ length calls) where
     pub replies_more : replies ≡ (before ++ answered) ++ later
     replies_more = split ∙ ap (λ rs. before ++ rs) cut ∙ sym (append_assoc before answered later)
 
     pub count_more : length (calls_in (take (i + 1) parts)) ≡ length (before ++ answered)
-    count_more = omega (arith, count, answers, ap length calls_more, length-append (calls_in (take i parts)) calls, length-append before answered)
+    count_more = omega (
+      arith,
+      count,
+      answers,
+      ap length calls_more,
+      length-append (calls_in (take i parts)) calls,
+      length-append before answered,
+    )
 
-    pub text_more : replies_text (calls_in (take (i + 1) parts)) (before ++ answered) ≡ replies_text (calls_in (take i parts)) before ++ replies_text calls answered
-    text_more = ap (λ cs. replies_text cs (before ++ answered)) calls_more ∙ replies_joined (calls_in (take i parts)) calls before answered count
+    pub text_more : replies_text (calls_in (take (i + 1) parts)) (before ++ answered)
+        ≡ replies_text (calls_in (take i parts)) before ++ replies_text calls answered
+    text_more = ap (λ cs. replies_text cs (before ++ answered)) calls_more
+        ∙ replies_joined (calls_in (take i parts)) calls before answered count
 
     pub text_whole : replies_text (calls_in parts ++ last) replies
-        ≡ replies_text (calls_in (take i parts)) before ++ (replies_text calls answered ++ replies_text later_calls later)
+        ≡ replies_text (calls_in (take i parts)) before ++
+        (replies_text calls answered ++ replies_text later_calls later)
     text_whole =
         ap (λ cs. replies_text cs replies) all_calls
-        ∙ ap (λ rs. replies_text (calls_in (take i parts) ++ (calls ++ later_calls)) rs) (split ∙ ap (λ rs. before ++ rs) cut)
+        ∙ ap (λ rs. replies_text (calls_in (take i parts) ++ (calls ++ later_calls)) rs)
+        (split ∙ ap (λ rs. before ++ rs) cut)
         ∙ replies_joined (calls_in (take i parts)) (calls ++ later_calls) before (answered ++ later) count
-        ∙ ap (λ t. replies_text (calls_in (take i parts)) before ++ t) (replies_joined calls later_calls answered later (sym answers))
+        ∙ ap (λ t. replies_text (calls_in (take i parts)) before ++ t)
+        (replies_joined calls later_calls answered later (sym answers))

@@ -17,23 +17,28 @@ passes_none : (known : Option (List ℕ)) (waiting : List ℕ) → Passes known 
 passes_none known waiting = ([], append-nil waiting, Appends-nil known)
 
 -- one text more
-passes_more : (a b c : Option (List ℕ)) (u v w s t : List ℕ) → Passes a b u v s → Passes b c v w t → Passes a c u w (s ++ t)
+passes_more : (a b c : Option (List ℕ)) (u v w s t : List ℕ) → Passes a b u v s → Passes b c v w t
+    → Passes a c u w (s ++ t)
 passes_more a b c u v w s t (front, split, sent) (front', split', sent') = (
   front ++ front',
-  sym (append_assoc u s t) ∙ ap (λ l. l ++ t) split ∙ append_assoc front v t ∙ ap (λ l. front ++ l) split' ∙ sym (append_assoc front front' w),
+  sym (append_assoc u s t) ∙ ap (λ l. l ++ t) split ∙ append_assoc front v t ∙ ap (λ l. front ++ l) split'
+      ∙ sym (append_assoc front front' w),
   Appends-trans a b c front front' sent sent',
 )
 
 -- what goes out of a text goes out of a longer one
 front_longer : (a b : Option (List ℕ)) (s t : List ℕ) → AppendsFront a b s → AppendsFront a b (s ++ t)
-front_longer a b s t (front, rest, split, sent) = (front, rest ++ t, ap (λ l. l ++ t) split ∙ append_assoc front rest t, sent)
+front_longer a b s t (front, rest, split, sent) =
+    (front, rest ++ t, ap (λ l. l ++ t) split ∙ append_assoc front rest t, sent)
 
 -- what goes out after a text
-front_after : (a b c : Option (List ℕ)) (u v s t : List ℕ) → Passes a b u v s → AppendsFront b c (v ++ t) → AppendsFront a c (u ++ (s ++ t))
+front_after : (a b c : Option (List ℕ)) (u v s t : List ℕ) → Passes a b u v s → AppendsFront b c (v ++ t)
+    → AppendsFront a c (u ++ (s ++ t))
 front_after a b c u v s t (front, split, sent) (front', rest, split', sent') = (
   front ++ front',
   rest,
-  sym (append_assoc u s t) ∙ ap (λ l. l ++ t) split ∙ append_assoc front v t ∙ ap (λ l. front ++ l) split' ∙ sym (append_assoc front front' rest),
+  sym (append_assoc u s t) ∙ ap (λ l. l ++ t) split ∙ append_assoc front v t ∙ ap (λ l. front ++ l) split'
+      ∙ sym (append_assoc front front' rest),
   Appends-trans a b c front front' sent sent',
 )
 
@@ -43,15 +48,23 @@ passes_waits a u v s same = ([], sym same, Appends-nil a)
 
 -- what went out of a text that was printed in part goes out of a longer one
 front_part : (a b : Option (List ℕ)) (u v s t : List ℕ) → Passes a b u v s → AppendsFront a b (u ++ (s ++ t))
-front_part a b u v s t (front, split, sent) = (front, v ++ t, sym (append_assoc u s t) ∙ ap (λ l. l ++ t) split ∙ append_assoc front v t, sent)
+front_part a b u v s t (front, split, sent) =
+    (front, v ++ t, sym (append_assoc u s t) ∙ ap (λ l. l ++ t) split ∙ append_assoc front v t, sent)
 
 -- a text that is printed, and then what waits
 passes_flushed : (a b c : Option (List ℕ)) (u v s : List ℕ) → Passes a b u v s → Appends b c v → Appends a c (u ++ s)
-passes_flushed a b c u v s (front, split, sent) flushed = subst (Appends a c) (sym split) (Appends-trans a b c front v sent flushed)
+passes_flushed a b c u v s (front, split, sent) flushed =
+    subst (Appends a c) (sym split) (Appends-trans a b c front v sent flushed)
 
-front_flushed : (a b c : Option (List ℕ)) (u v s : List ℕ) → Passes a b u v s → AppendsFront b c v → AppendsFront a c (u ++ s)
-front_flushed a b c u v s (front, split, sent) (front', rest, split', sent') =
-    (front ++ front', rest, split ∙ ap (λ l. front ++ l) split' ∙ sym (append_assoc front front' rest), Appends-trans a b c front front' sent sent')
+front_flushed : (a b c : Option (List ℕ)) (u v s : List ℕ) → Passes a b u v s → AppendsFront b c v
+    → AppendsFront a c (u ++ s)
+front_flushed a b c u v s (front, split, sent) (front', rest, split', sent') = (
+  front ++ front',
+  rest,
+  split ∙ ap (λ l. front ++ l) split'
+      ∙ sym (append_assoc front front' rest),
+  Appends-trans a b c front front' sent sent',
+)
 
 -- a text that is written into a chunk
 abbrev pub Takes : ArrayString → List ℕ → ArrayString → Type 0
@@ -74,16 +87,23 @@ err_weaker (Ok x) weaker p = tt
 err_weaker (Err e) weaker p = weaker p
 
 -- a text in two parts
-passes_then : (a b c : Option (List ℕ)) (u v w s t text : List ℕ) → text ≡ s ++ t → Passes a b u v s → Passes b c v w t → Passes a c u w text
-passes_then a b c u v w s t text is first second = subst (Passes a c u w) (sym is) (passes_more a b c u v w s t first second)
+passes_then : (a b c : Option (List ℕ)) (u v w s t text : List ℕ) → text ≡ s ++ t → Passes a b u v s → Passes b c v w t
+    → Passes a c u w text
+passes_then a b c u v w s t text is first second =
+    subst (Passes a c u w) (sym is) (passes_more a b c u v w s t first second)
 
 -- the front of a text whose first part is printed in part
-front_first : (a b : Option (List ℕ)) (u s rest text : List ℕ) → text ≡ s ++ rest → AppendsFront a b (u ++ s) → AppendsFront a b (u ++ text)
-front_first a b u s rest text is sent = subst (AppendsFront a b) (append_assoc u s rest ∙ ap (λ t. u ++ t) (sym is)) (front_longer a b (u ++ s) rest sent)
+front_first : (a b : Option (List ℕ)) (u s rest text : List ℕ) → text ≡ s ++ rest → AppendsFront a b (u ++ s)
+    → AppendsFront a b (u ++ text)
+front_first a b u s rest text is sent =
+    subst (AppendsFront a b) (append_assoc u s rest ∙ ap (λ t. u ++ t) (sym is)) (front_longer a b (u ++ s) rest sent)
 
 -- the front of a text whose first part is printed, and a later one in part
-front_then : (a b c : Option (List ℕ)) (u v s t rest text : List ℕ) → text ≡ s ++ (t ++ rest) → Passes a b u v s → AppendsFront b c (v ++ t) → AppendsFront a c (u ++ text)
-front_then a b c u v s t rest text is first sent = subst (λ x. AppendsFront a c (u ++ x)) (sym is) (front_after a b c u v s (t ++ rest) first (front_first b c v t rest (t ++ rest) refl sent))
+front_then : (a b c : Option (List ℕ)) (u v s t rest text : List ℕ) → text ≡ s ++ (t ++ rest) → Passes a b u v s
+    → AppendsFront b c (v ++ t) → AppendsFront a c (u ++ text)
+front_then a b c u v s t rest text is first sent =
+    subst (λ x. AppendsFront a c (u ++ x)) (sym is)
+    (front_after a b c u v s (t ++ rest) first (front_first b c v t rest (t ++ rest) refl sent))
 
 -- the same of a printer, by the bytes that its writer is known to have
 module _ {W : Type 0} (contents : W → Option (List ℕ)) where
@@ -92,72 +112,107 @@ module _ {W : Type 0} (contents : W → Option (List ℕ)) where
   prints_none p = record { writer = refl; passed = passes_none (contents p.writer.now) p.chunk.bytes }
 
   -- a text in two parts
-  pub prints_then : (p q r : Printer W) (s t text : List ℕ) → text ≡ s ++ t → Prints contents p q s → Prints contents q r t → Prints contents p r text
-  prints_then p q r s t text is first second = record { writer = second.writer ∙ first.writer; passed = passes_then _ _ _ _ _ _ s t text is first.passed second.passed }
+  pub prints_then : (p q r : Printer W) (s t text : List ℕ) → text ≡ s ++ t → Prints contents p q s
+      → Prints contents q r t → Prints contents p r text
+  prints_then p q r s t text is first second =
+      record {
+        writer = second.writer
+            ∙ first.writer;
+        passed = passes_then _ _ _ _ _ _ s t text is first.passed second.passed;
+      }
 
   -- the front of a text whose first part is printed in part
-  pub prints_first : (p q : Printer W) (s rest text : List ℕ) → text ≡ s ++ rest → PrintsFront contents p q s → PrintsFront contents p q text
-  prints_first p q s rest text is sent = record { writer = sent.writer; sent = front_first _ _ _ s rest text is sent.sent }
+  pub prints_first : (p q : Printer W) (s rest text : List ℕ) → text ≡ s ++ rest → PrintsFront contents p q s
+      → PrintsFront contents p q text
+  prints_first p q s rest text is sent =
+      record { writer = sent.writer; sent = front_first _ _ _ s rest text is sent.sent }
 
   -- the front of a text whose first part is printed, and a later one in part
-  pub prints_front : (p q r : Printer W) (s t rest text : List ℕ) → text ≡ s ++ (t ++ rest) → Prints contents p q s → PrintsFront contents q r t → PrintsFront contents p r text
-  prints_front p q r s t rest text is first sent = record { writer = sent.writer ∙ first.writer; sent = front_then _ _ _ _ _ s t rest text is first.passed sent.sent }
+  pub prints_front : (p q r : Printer W) (s t rest text : List ℕ) → text ≡ s ++ (t ++ rest) → Prints contents p q s
+      → PrintsFront contents q r t → PrintsFront contents p r text
+  prints_front p q r s t rest text is first sent =
+      record {
+        writer = sent.writer
+            ∙ first.writer;
+        sent = front_then _ _ _ _ _ s t rest text is first.passed sent.sent;
+      }
 
   -- a text that is printed, and then what waits
-  pub prints_out : (p q r : Printer W) (text : List ℕ) → Prints contents p q text → Sends contents q r → PrintsOut contents p r text
-  prints_out p q r text printed sent = record { writer = sent.writer ∙ printed.writer; sent = passes_flushed _ _ _ _ _ text printed.passed sent.sent }
+  pub prints_out : (p q r : Printer W) (text : List ℕ) → Prints contents p q text → Sends contents q r
+      → PrintsOut contents p r text
+  prints_out p q r text printed sent =
+      record { writer = sent.writer ∙ printed.writer; sent = passes_flushed _ _ _ _ _ text printed.passed sent.sent }
 
-  pub prints_out_front : (p q r : Printer W) (text : List ℕ) → Prints contents p q text → SendsFront contents q r → PrintsFront contents p r text
-  prints_out_front p q r text printed sent = record { writer = sent.writer ∙ printed.writer; sent = front_flushed _ _ _ _ _ text printed.passed sent.sent }
+  pub prints_out_front : (p q r : Printer W) (text : List ℕ) → Prints contents p q text → SendsFront contents q r
+      → PrintsFront contents p r text
+  prints_out_front p q r text printed sent =
+      record { writer = sent.writer ∙ printed.writer; sent = front_flushed _ _ _ _ _ text printed.passed sent.sent }
 
   -- a text waits beside what waited
-  waits : (p q : Printer W) (text : List ℕ) → q.writer ≡ p.writer → q.chunk.bytes ≡ p.chunk.bytes ++ text → Prints contents p q text
+  waits : (p q : Printer W) (text : List ℕ) → q.writer ≡ p.writer → q.chunk.bytes ≡ p.chunk.bytes ++ text
+      → Prints contents p q text
   waits p q text same is =
       record {
         writer = ap (λ w. w.ghost_name) same;
-        passed = subst (λ w. Passes (contents p.writer.now) (contents w.now) p.chunk.bytes q.chunk.bytes text) (sym same) (passes_waits _ _ _ text is);
+        passed = subst (λ w. Passes (contents p.writer.now) (contents w.now) p.chunk.bytes q.chunk.bytes text)
+            (sym same) (passes_waits _ _ _ text is);
       }
 
   -- a text that there is room for
   pub printed : {E : Type 0} (r : Result (Unit {0}) E) (output : Option (List ℕ)) (p q s : Printer W)
-      → Prints contents p q [] → s.writer ≡ q.writer → OnOk r (WritesText Takes q.chunk output s.chunk) → OnOk r (IfSome output (Prints contents p s))
+      → Prints contents p q [] → s.writer ≡ q.writer → OnOk r (WritesText Takes q.chunk output s.chunk)
+      → OnOk r (IfSome output (Prints contents p s))
   printed (Ok x) None p q s room same writes = tt
-  printed (Ok x) (Some bytes) p q s room same writes = prints_then p q s [] bytes bytes refl room (waits q s bytes same (taken q.chunk s.chunk bytes writes))
+  printed (Ok x) (Some bytes) p q s room same writes =
+      prints_then p q s [] bytes bytes refl room (waits q s bytes same (taken q.chunk s.chunk bytes writes))
   printed (Err e) output p q s room same writes = tt
 
   -- and a line
   pub printed_line : {E : Type 0} (r : Result (Unit {0}) E) (output : Option (List ℕ)) (p q s : Printer W)
-      → Prints contents p q [] → s.writer ≡ q.writer → OnOk r (WritesText Takes q.chunk (with_newline output) s.chunk) → OnOk r (IfSome output (λ bytes. Prints contents p s (line bytes)))
+      → Prints contents p q [] → s.writer ≡ q.writer → OnOk r (WritesText Takes q.chunk (with_newline output) s.chunk)
+      → OnOk r (IfSome output (λ bytes. Prints contents p s (line bytes)))
   printed_line (Ok x) None p q s room same writes = tt
   printed_line (Ok x) (Some bytes) p q s room same writes =
-      prints_then p q s [] (line bytes) (line bytes) refl room (waits q s (line bytes) same (taken q.chunk s.chunk (line bytes) writes))
+      prints_then p q s [] (line bytes) (line bytes) refl room
+      (waits q s (line bytes) same (taken q.chunk s.chunk (line bytes) writes))
   printed_line (Err e) output p q s room same writes = tt
 
   -- a text for which there is no room, or that can't be made
-  pub no_room : {E : Type 0} (r : Result (Unit {0}) E) (output : Option (List ℕ)) (p q : Printer W) (text : List ℕ → List ℕ)
+  pub no_room : {E : Type 0} (r : Result (Unit {0}) E) (output : Option (List ℕ)) (p q : Printer W)
+      (text : List ℕ → List ℕ)
       → SendsFront contents p q → OnErr r (IfSome output (λ bytes. PrintsFront contents p q (text bytes)))
   no_room (Ok x) output p q text sent = tt
   no_room (Err e) None p q text sent = tt
-  no_room (Err e) (Some bytes) p q text sent = record { writer = sent.writer; sent = front_longer _ _ _ (text bytes) sent.sent }
+  no_room (Err e) (Some bytes) p q text sent =
+      record { writer = sent.writer; sent = front_longer _ _ _ (text bytes) sent.sent }
 
-  pub no_text : {E : Type 0} (r : Result (Unit {0}) E) (output : Option (List ℕ)) (p q s : Printer W) (text : List ℕ → List ℕ)
-      → Prints contents p q [] → s.writer ≡ q.writer → OnErr r (IfSome output (λ bytes. PrintsFront contents p s (text bytes)))
+  pub no_text : {E : Type 0} (r : Result (Unit {0}) E) (output : Option (List ℕ)) (p q s : Printer W)
+      (text : List ℕ → List ℕ)
+      → Prints contents p q [] → s.writer ≡ q.writer
+      → OnErr r (IfSome output (λ bytes. PrintsFront contents p s (text bytes)))
   no_text (Ok x) output p q s text room same = tt
   no_text (Err e) None p q s text room same = tt
   no_text (Err e) (Some bytes) p q s text room same =
-      let front : AppendsFront (contents p.writer.now) (contents q.writer.now) (p.chunk.bytes ++ text bytes) = front_part _ _ _ _ [] (text bytes) room.passed in
+      let front : AppendsFront (contents p.writer.now) (contents q.writer.now) (p.chunk.bytes ++ text bytes) =
+      front_part _ _ _ _ [] (text bytes) room.passed in
       record {
         writer = ap (λ w. w.ghost_name) same ∙ room.writer;
-        sent = subst (λ w. AppendsFront (contents p.writer.now) (contents w.now) (p.chunk.bytes ++ text bytes)) (sym same) front;
+        sent = subst (λ w. AppendsFront (contents p.writer.now) (contents w.now) (p.chunk.bytes ++ text bytes))
+            (sym same) front;
       }
 
 -- texts one after the other: those up to a place, the one there, and the later ones
 module _ {X : Type 0} {A : Type 0} (text : X → List A) where
-  pub texts_more : (xs : List X) (i : ℕ) (d : X) → i < length xs → flat_map text (take (i + 1) xs) ≡ flat_map text (take i xs) ++ text (get_or xs i d)
+  pub texts_more : (xs : List X) (i : ℕ) (d : X) → i < length xs
+      → flat_map text (take (i + 1) xs) ≡ flat_map text (take i xs) ++ text (get_or xs i d)
   texts_more xs i d within =
-      ap (flat_map text) (take_more xs i d within) ∙ flat_map-append text (take i xs) (get_or xs i d ∷ []) ∙ ap (λ t. flat_map text (take i xs) ++ t) (append-nil (text (get_or xs i d)))
+      ap (flat_map text) (take_more xs i d within) ∙ flat_map-append text (take i xs) (get_or xs i d ∷ [])
+      ∙ ap (λ t. flat_map text (take i xs) ++ t) (append-nil (text (get_or xs i d)))
 
-  pub texts_at : (xs : List X) (i : ℕ) (d : X) → i < length xs → flat_map text xs ≡ flat_map text (take i xs) ++ (text (get_or xs i d) ++ flat_map text (drop (i + 1) xs))
+  pub texts_at : (xs : List X) (i : ℕ) (d : X) → i < length xs
+      → flat_map text xs ≡ flat_map text (take i xs) ++ (text (get_or xs i d) ++ flat_map text (drop (i + 1) xs))
   texts_at xs i d within =
-      let later : drop i xs ≡ get_or xs i d ∷ drop (i + 1) xs = drop-cons xs i d within ∙ ap (λ n. get_or xs i d ∷ drop n xs) (sym (add-one i)) in
-      ap (flat_map text) (sym (take-append-drop i xs)) ∙ flat_map-append text (take i xs) (drop i xs) ∙ ap (λ ys. flat_map text (take i xs) ++ flat_map text ys) later
+      let later : drop i xs ≡ get_or xs i d ∷ drop (i + 1) xs =
+      drop-cons xs i d within ∙ ap (λ n. get_or xs i d ∷ drop n xs) (sym (add-one i)) in
+      ap (flat_map text) (sym (take-append-drop i xs)) ∙ flat_map-append text (take i xs) (drop i xs)
+      ∙ ap (λ ys. flat_map text (take i xs) ++ flat_map text ys) later

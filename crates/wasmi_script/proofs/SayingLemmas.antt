@@ -15,7 +15,7 @@ use Rattle.wasmi_core.specs.declared.calls.Call.TheVariants.{SetRegister, GetReg
 use Rattle.wasmi_core.specs.declared.calls.Call.TheVariants.{Shift}
 use Rattle.wasmi_core.specs.declared.calls.Call.TheVariants.{Test, Extract, Replace, Shuffle, VectorLoad, LoadLane}
 use Rattle.wasmi_core.specs.declared.calls.Call.TheVariants.{VectorStore, StoreLane}
-use Rattle.wasmi_script.specs.declared.script.Part.{Part}
+use Rattle.wasmi_script.specs.declared.script.TenantRun.{TenantRun}
 use Rattle.wasmi_script.specs.declared.script.Script.{Script}
 use Rattle.wasmi_script.specs.declared.script.header.MeterLine.{MeterLine}
 use Rattle.wasmi_script.specs.declared.script.header.MeterLine.TheVariants.{Off, On}
@@ -375,7 +375,7 @@ added old words new (inr (inr (inr (inr (inl a))))) =
     }) ∙ ap (with_call said) (sym (call_is operands a.call a.named.1)) ∙ sym (told_by_call words said a.call after)
     ∙ ap (said_by words said) a.named.0
 added old words new (inr (inr (inr (inr (inr a))))) =
-    let part : Part = record { tenant = old.tenant; calls = old.calls } in
+    let part : TenantRun = record { tenant = old.tenant; calls = old.calls } in
     let earlier = ap (map part_said) a.earlier ∙ map-append part_said old.earlier.items (part ∷ []) in
     (λ i. record {
       meter = (a.header i).meter;

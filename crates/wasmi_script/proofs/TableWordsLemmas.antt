@@ -10,7 +10,8 @@ use Rattle.wasmi_script.proofs.NumbersLemmas.{same_limit}
 use Rattle.wasmi_script.proofs.TypeWordsLemmas.{same_width, same_reference_type}
 
 -- words that write a type's limits name it
-pub names_of : (element min max width : List ℕ) (i : IndexType) (e : RefType) (m : ℕ) (x : Option ℕ) (ty : TableTypeValue)
+pub names_of : (element min max width : List ℕ) (i : IndexType) (e : RefType) (m : ℕ) (x : Option ℕ)
+    (ty : TableTypeValue)
     → element ≡ reference_word e → WritesNumber 64 min m → WritesLimit max x → width ≡ width_word i
     → HasLimits i e m x ty → NamesTableType element min max width ty
 names_of element min max width i e m x ty we wm wx ww h = record {
@@ -22,7 +23,8 @@ names_of element min max width i e m x ty we wm wx ww h = record {
 }
 
 -- and words that name a type write its limits alone
-pub limits_of : (element min max width : List ℕ) (i : IndexType) (e : RefType) (m : ℕ) (x : Option ℕ) (ty : TableTypeValue)
+pub limits_of : (element min max width : List ℕ) (i : IndexType) (e : RefType) (m : ℕ) (x : Option ℕ)
+    (ty : TableTypeValue)
     → element ≡ reference_word e → WritesNumber 64 min m → WritesLimit max x → width ≡ width_word i
     → NamesTableType element min max width ty → HasLimits i e m x ty
 limits_of element min max width i e m x ty we wm wx ww h = record {

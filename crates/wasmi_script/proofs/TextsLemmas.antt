@@ -29,8 +29,10 @@ texts words = map (λ word. word.now) words
 abbrev IsNumber : ℕ → Bor (List ℕ) → Type 0
 IsNumber bits word = IsDecimal word.now × (decimal_value word.now < 2 ^ bits)
 
-retell_numbers : (bits : ℕ) (words words' : Words) (numbers : List ℕ) → texts words ≡ texts words' → WritesNumbers bits words numbers → WritesNumbers bits words' numbers
-retell_numbers bits words words' numbers same (all, is) = (numbered words words' same all, is ∙ valued words words' same)
+retell_numbers : (bits : ℕ) (words words' : Words) (numbers : List ℕ) → texts words ≡ texts words'
+    → WritesNumbers bits words numbers → WritesNumbers bits words' numbers
+retell_numbers bits words words' numbers same (all, is) =
+    (numbered words words' same all, is ∙ valued words words' same)
   where
     numbered : (ws vs : Words) → texts ws ≡ texts vs → AreNumbers bits ws → AreNumbers bits vs
     numbered [] [] same all = All-nil (IsNumber bits)
@@ -40,9 +42,11 @@ retell_numbers bits words words' numbers same (all, is) = (numbered words words'
         let here : w.now ≡ v.now = cc in
         let rest : texts ws ≡ texts vs = cc in
         let number : (t : List ℕ) → Type 0 = λ t. IsDecimal t × (decimal_value t < 2 ^ bits) in
-        All-cons (IsNumber bits) v vs (subst number here (All-head (IsNumber bits) w ws all)) (numbered ws vs rest (All-tail (IsNumber bits) w ws all))
+        All-cons (IsNumber bits) v vs (subst number here (All-head (IsNumber bits) w ws all))
+        (numbered ws vs rest (All-tail (IsNumber bits) w ws all))
 
-    valued : (ws vs : Words) → texts ws ≡ texts vs → map (λ word. decimal_value word.now) ws ≡ map (λ word. decimal_value word.now) vs
+    valued : (ws vs : Words) → texts ws ≡ texts vs
+        → map (λ word. decimal_value word.now) ws ≡ map (λ word. decimal_value word.now) vs
     valued [] [] same = refl
     valued [] (v ∷ vs) same = absurd cc
     valued (w ∷ ws) [] same = absurd cc
@@ -51,9 +55,11 @@ retell_numbers bits words words' numbers same (all, is) = (numbered words words'
         let rest : texts ws ≡ texts vs = cc in
         (λ i. decimal_value (here i) ∷ valued ws vs rest i)
 
-retell_lanes : (words words' : Words) (lanes : List ℕ) → texts words ≡ texts words' → WritesLanes words lanes → WritesLanes words' lanes
+retell_lanes : (words words' : Words) (lanes : List ℕ) → texts words ≡ texts words' → WritesLanes words lanes
+    → WritesLanes words' lanes
 retell_lanes words words' lanes same writes = record {
-  sixteen = sym (length-map words' (λ word. word.now)) ∙ ap length (sym same) ∙ length-map words (λ word. word.now) ∙ writes.sixteen;
+  sixteen = sym (length-map words' (λ word. word.now)) ∙ ap length (sym same) ∙ length-map words (λ word. word.now)
+      ∙ writes.sixteen;
   written = retell_numbers 5 words words' lanes same writes.written;
 }
 
@@ -76,11 +82,17 @@ module _ (words words' : Words) (same : texts words ≡ texts words') where
   retell_operands GetFuel w = as_many ∙ w
   retell_operands (NewMemory ty) w = (
     as_many ∙ w.0,
-    on 3 (λ t. NamesType (word_at words' 0) (word_at words' 1) (word_at words' 2) t ty) (on 2 (λ t. NamesType (word_at words' 0) (word_at words' 1) t (word_at words 3) ty) (on 1 (λ t. NamesType (word_at words' 0) t (word_at words 2) (word_at words 3) ty) (on 0 (λ t. NamesType t (word_at words 1) (word_at words 2) (word_at words 3) ty) w.1))),
+    on 3 (λ t. NamesType (word_at words' 0) (word_at words' 1) (word_at words' 2) t ty)
+        (on 2 (λ t. NamesType (word_at words' 0) (word_at words' 1) t (word_at words 3) ty)
+        (on 1 (λ t. NamesType (word_at words' 0) t (word_at words 2) (word_at words 3) ty)
+        (on 0 (λ t. NamesType t (word_at words 1) (word_at words 2) (word_at words 3) ty) w.1))),
   )
   retell_operands (NewLentMemory ty) w = (
     as_many ∙ w.0,
-    on 3 (λ t. NamesType (word_at words' 0) (word_at words' 1) (word_at words' 2) t ty) (on 2 (λ t. NamesType (word_at words' 0) (word_at words' 1) t (word_at words 3) ty) (on 1 (λ t. NamesType (word_at words' 0) t (word_at words 2) (word_at words 3) ty) (on 0 (λ t. NamesType t (word_at words 1) (word_at words 2) (word_at words 3) ty) w.1))),
+    on 3 (λ t. NamesType (word_at words' 0) (word_at words' 1) (word_at words' 2) t ty)
+        (on 2 (λ t. NamesType (word_at words' 0) (word_at words' 1) t (word_at words 3) ty)
+        (on 1 (λ t. NamesType (word_at words' 0) t (word_at words 2) (word_at words 3) ty)
+        (on 0 (λ t. NamesType t (word_at words 1) (word_at words 2) (word_at words 3) ty) w.1))),
   )
   retell_operands (GrowMemory memory pages) w = (
     as_many ∙ w.0,
@@ -119,7 +131,10 @@ module _ (words words' : Words) (same : texts words ≡ texts words') where
   )
   retell_operands (NewTable ty init) w = (
     as_many ∙ w.0,
-    on 3 (λ t. NamesTableType (word_at words' 0) (word_at words' 1) (word_at words' 2) t ty) (on 2 (λ t. NamesTableType (word_at words' 0) (word_at words' 1) t (word_at words 3) ty) (on 1 (λ t. NamesTableType (word_at words' 0) t (word_at words 2) (word_at words 3) ty) (on 0 (λ t. NamesTableType t (word_at words 1) (word_at words 2) (word_at words 3) ty) w.1))),
+    on 3 (λ t. NamesTableType (word_at words' 0) (word_at words' 1) (word_at words' 2) t ty)
+        (on 2 (λ t. NamesTableType (word_at words' 0) (word_at words' 1) t (word_at words 3) ty)
+        (on 1 (λ t. NamesTableType (word_at words' 0) t (word_at words 2) (word_at words 3) ty)
+        (on 0 (λ t. NamesTableType t (word_at words 1) (word_at words 2) (word_at words 3) ty) w.1))),
     on 5 (λ t. WritesReference (word_at words' 4) t init) (on 4 (λ t. WritesReference t (word_at words 5) init) w.2),
   )
   retell_operands (GrowTable table delta init) w = (
@@ -279,7 +294,8 @@ module _ (words words' : Words) (same : texts words ≡ texts words') where
   )
 
   retell_limiter : (line : LimiterLine) → WritesLimiter words line → WritesLimiter words' line
-  retell_limiter (Quota line) w = (as_many ∙ w.0, on 0 (λ t. WritesNumber 64 t line.bytes) w.1, on 1 (λ t. WritesNumber 64 t line.elements) w.2)
+  retell_limiter (Quota line) w =
+      (as_many ∙ w.0, on 0 (λ t. WritesNumber 64 t line.bytes) w.1, on 1 (λ t. WritesNumber 64 t line.elements) w.2)
   retell_limiter (Answers answers) w = sym same ∙ w
   retell_limiter (Tenants line) w = (
     as_many ∙ w.0,
@@ -293,11 +309,18 @@ module _ (words words' : Words) (same : texts words ≡ texts words') where
   retell_meter : (line : Option MeterLine) → IsSomeAnd line (NamesMeter words) → IsSomeAnd line (NamesMeter words')
   retell_meter None w = absurd w
   retell_meter (Some Off) w = (as_many ∙ w.0, sym (at 0) ∙ w.1, sym (at 1) ∙ w.2)
-  retell_meter (Some (On bytes)) w = (as_many ∙ w.0, sym (at 0) ∙ w.1, sym (at 1) ∙ w.2, on 2 (λ t. WritesNumber 32 t bytes) w.3)
+  retell_meter (Some (On bytes)) w =
+      (as_many ∙ w.0, sym (at 0) ∙ w.1, sym (at 1) ∙ w.2, on 2 (λ t. WritesNumber 32 t bytes) w.3)
 
   retell_region : (line : Option RegionLine) → IsSomeAnd line (NamesRegion words) → IsSomeAnd line (NamesRegion words')
   retell_region None w = absurd w
-  retell_region (Some line) w = (as_many ∙ w.0, sym (at 0) ∙ w.1, on 1 (λ t. WritesNumber 64 t line.len) w.2, on 2 (λ t. WritesNumber 8 t line.byte) w.3)
+  retell_region (Some line) w = (
+    as_many ∙ w.0,
+    sym (at 0)
+        ∙ w.1,
+    on 1 (λ t. WritesNumber 64 t line.len) w.2,
+    on 2 (λ t. WritesNumber 8 t line.byte) w.3,
+  )
 
   retell_tenant : (tenants tenant : ℕ) → NamesTenant words tenants tenant → NamesTenant words' tenants tenant
   retell_tenant tenants tenant w = (as_many ∙ w.0, sym (at 0) ∙ w.1, on 1 (λ t. WritesNumber 64 t tenant) w.2, w.3)
@@ -305,11 +328,18 @@ module _ (words words' : Words) (same : texts words ≡ texts words') where
 -- a line adds the same, whatever words have its texts
 module _ (words words' : Words) (same : texts words ≡ texts words') where
   retell_names : (call : Call) → Names words call → Names words' call
-  retell_names call names = (names.0 ∙ at words words' same 0, retell_operands (drop 1 words) (drop 1 words') (later words words' same 1) call names.1)
+  retell_names call names = (
+    names.0 ∙ at words words' same 0,
+    retell_operands (drop 1 words) (drop 1 words') (later words words' same 1) call names.1,
+  )
 
-  retell_limiter_line : (line : Option LimiterLine) → IsSomeAnd line (NamesLimiter words) → IsSomeAnd line (NamesLimiter words')
+  retell_limiter_line : (line : Option LimiterLine) → IsSomeAnd line (NamesLimiter words)
+      → IsSomeAnd line (NamesLimiter words')
   retell_limiter_line None names = absurd names
-  retell_limiter_line (Some line) names = (names.0 ∙ at words words' same 0, retell_limiter (drop 1 words) (drop 1 words') (later words words' same 1) line names.1)
+  retell_limiter_line (Some line) names = (
+    names.0 ∙ at words words' same 0,
+    retell_limiter (drop 1 words) (drop 1 words') (later words words' same 1) line names.1,
+  )
 
   none_left : words ≡ [] → words' ≡ []
   none_left empty = empty_of words' (sym same ∙ ap texts empty) where

@@ -32,22 +32,27 @@ same_text a b e = search (rules, tests)
 
 module _ {A : Type 0} (name_of : A → List ℕ) where
   -- where each row of a table has the name of its op, what it gives a name is the op of that name
-  found_named : (table : List (Row A)) (name : List ℕ) (op : A) → rows_named name_of table ≡ true → entry_of table name ≡ Some op → name ≡ name_of op
+  found_named : (table : List (Row A)) (name : List ℕ) (op : A) → rows_named name_of table ≡ true
+      → entry_of table name ≡ Some op → name ≡ name_of op
   found_named [] name op right found = cc
   found_named (row ∷ rows) name op right found =
       elim (bytes_eq row.0 (name_of row.1)) as
       (λ b. bytes_eq row.0 (name_of row.1) ≡ b → cond b (rows_named name_of rows) false ≡ true → name ≡ name_of op) [
         | true ↦ λ same others.
-            elim (bytes_eq row.0 name) as (λ b. bytes_eq row.0 name ≡ b → cond b (Some row.1) (entry_of rows name) ≡ Some op → name ≡ name_of op) [
-              | true ↦ λ here is. let a = same_text row.0 (name_of row.1) same in let b = same_text row.0 name here in cc
+            elim (bytes_eq row.0 name) as
+            (λ b. bytes_eq row.0 name ≡ b → cond b (Some row.1) (entry_of rows name) ≡ Some op → name ≡ name_of op) [
+              | true ↦ λ here is. let a = same_text row.0 (name_of row.1) same in let b =
+                  same_text row.0 name here in cc
               | false ↦ λ here is. found_named rows name op others is
             ] refl found
         | false ↦ λ same none. cc
       ] refl right
 
   -- what a table accepts by a name, it accepts by the name's meaning, where it has each op under its name
-  pub accepts_named : (table : List (Row A)) → rows_named name_of table ≡ true → ((op : A) → IsNamed table (name_of op) op)
-      → (name : List ℕ) (result : Result A LineError) → Accepts result (IsNamed table name) → Accepts result (λ op. name ≡ name_of op)
+  pub accepts_named : (table : List (Row A)) → rows_named name_of table ≡ true
+      → ((op : A) → IsNamed table (name_of op) op)
+      → (name : List ℕ) (result : Result A LineError) → Accepts result (IsNamed table name)
+      → Accepts result (λ op. name ≡ name_of op)
   accepts_named table right whole name result = accepts_same result (IsNamed table name) (λ op. name ≡ name_of op)
       (λ op. found_named table name op right) (λ op is. subst (λ text. IsNamed table text op) (sym is) (whole op))
 

@@ -1,8 +1,8 @@
 -- What an `answers` line says, and the limiter that answers by it.
 use Rattle.std.specs.Prelude.{◌≡◌, All, ℕ, ◌+◌, ◌-◌, ◌^◌, min, List, Ok, Err, true, false, codes, map, slice_index_or}
 use Rattle.wasmi_meter.specs.declared.error.LimiterError.TheVariants.{ResourceLimiterDeniedAllocation}
-use Rattle.wasmi_meter.specs.Limiter.{Question, Answer, Failure, Heed, Rules}
-use Rattle.wasmi_script.specs.declared.answering.AnswerList.{AnswerList}
+use Rattle.wasmi_meter.specs.Limiter.{Question, Answer, Failure, NoticeAnswer, Rules}
+use Rattle.wasmi_script.specs.declared.listed_limiter.AnswerList.{AnswerList}
 use Rattle.wasmi_script.specs.declared.script.header.answers.AnswerWord.{AnswerWord}
 use Rattle.wasmi_script.specs.declared.script.header.answers.AnswerWord.TheVariants.{Permit, Deny, Error, Complain}
 use Rattle.wasmi_script.specs.Words.{Words}
@@ -26,9 +26,9 @@ answer_by Error = Err ResourceLimiterDeniedAllocation
 answer_by Complain = Ok true
 
 -- what a notice is answered after a question that this word answered
-abbrev pub heed_by : AnswerWord → Heed
-heed_by Complain = Err ResourceLimiterDeniedAllocation
-heed_by word = Ok tt
+abbrev pub notice_answer_by : AnswerWord → NoticeAnswer
+notice_answer_by Complain = Err ResourceLimiterDeniedAllocation
+notice_answer_by word = Ok tt
 
 -- the word of the next question: `permit` after the last one
 abbrev pub next_word : AnswerList → AnswerWord
@@ -51,17 +51,18 @@ pub record TakesWord (list : AnswerList) (answer : Answer) (list' : AnswerList) 
 abbrev pub answer_rules : Rules AnswerList
 answer_rules = record {
   asked = λ list question answer list'. TakesWord list answer list';
-  noticed = λ list failure heed list'. (heed ≡ heed_by list.last) × (list' ≡ list);
+  noticed = λ list failure notice_answer list'. (notice_answer ≡ notice_answer_by list.last) × (list' ≡ list);
 }
 
--- a limiter whose words, with the last one asked for, let each notice be heeded: none of them is `complain`
+-- a limiter whose words, with the last one asked for, let each notice be accepted: none of them is `complain`
 pub record NeverComplains (list : AnswerList) : Type 0 where
-  pub words : All (λ word. heed_by word ≡ Ok tt) list.words.now
-  pub last : heed_by list.last ≡ Ok tt
+  pub words : All (λ word. notice_answer_by word ≡ Ok tt) list.words.now
+  pub last : notice_answer_by list.last ≡ Ok tt
 
--- such a limiter heeds each notice, and stays one
-pub record QuietListsHeed : Type 0 where
+-- such a limiter accepts each notice, and stays one
+pub record QuietListsAcceptNotices : Type 0 where
   pub asked : (list : AnswerList) (question : Question) (answer : Answer) (list' : AnswerList)
       → NeverComplains list → answer_rules.asked list question answer list' → NeverComplains list'
-  pub noticed : (list : AnswerList) (failure : Failure) (heed : Heed) (list' : AnswerList)
-      → NeverComplains list → answer_rules.noticed list failure heed list' → (heed ≡ Ok tt) × NeverComplains list'
+  pub noticed : (list : AnswerList) (failure : Failure) (notice_answer : NoticeAnswer) (list' : AnswerList)
+      → NeverComplains list → answer_rules.noticed list failure notice_answer list'
+      → (notice_answer ≡ Ok tt) × NeverComplains list'

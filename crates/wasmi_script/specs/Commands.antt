@@ -57,37 +57,53 @@ command_word (StoreLane op a memory ptr offset) = codes "vstorelane"
 abbrev pub WritesOperands : Words → Call → Type 0
 WritesOperands words (SetFuel fuel) = (length words ≡ 1) × WritesNumber 64 (word_at words 0) fuel
 WritesOperands words GetFuel = length words ≡ 0
-WritesOperands words (NewMemory ty) = (length words ≡ 4) × NamesType (word_at words 0) (word_at words 1) (word_at words 2) (word_at words 3) ty
-WritesOperands words (NewLentMemory ty) = (length words ≡ 4) × NamesType (word_at words 0) (word_at words 1) (word_at words 2) (word_at words 3) ty
-WritesOperands words (GrowMemory memory pages) = (length words ≡ 2) × WritesNumber 64 (word_at words 0) memory × WritesNumber 64 (word_at words 1) pages
-WritesOperands words (DropMemory memory) = (length words ≡ 2) × (word_at words 0 ≡ codes "memory") × WritesNumber 64 (word_at words 1) memory
+WritesOperands words (NewMemory ty) =
+    (length words ≡ 4) × NamesType (word_at words 0) (word_at words 1) (word_at words 2) (word_at words 3) ty
+WritesOperands words (NewLentMemory ty) =
+    (length words ≡ 4) × NamesType (word_at words 0) (word_at words 1) (word_at words 2) (word_at words 3) ty
+WritesOperands words (GrowMemory memory pages) =
+    (length words ≡ 2) × WritesNumber 64 (word_at words 0) memory × WritesNumber 64 (word_at words 1) pages
+WritesOperands words (DropMemory memory) =
+    (length words ≡ 2) × (word_at words 0 ≡ codes "memory") × WritesNumber 64 (word_at words 1) memory
 WritesOperands words (Read memory offset len) = (length words ≡ 3)
-    × WritesNumber 64 (word_at words 0) memory × WritesNumber 64 (word_at words 1) offset × WritesNumber 64 (word_at words 2) len
+    × WritesNumber 64 (word_at words 0) memory × WritesNumber 64 (word_at words 1) offset
+    × WritesNumber 64 (word_at words 2) len
 WritesOperands words (Write memory offset bytes) = (2 ≤ length words)
-    × WritesNumber 64 (word_at words 0) memory × WritesNumber 64 (word_at words 1) offset × WritesNumbers 8 (drop 2 words) bytes.items
+    × WritesNumber 64 (word_at words 0) memory × WritesNumber 64 (word_at words 1) offset
+    × WritesNumbers 8 (drop 2 words) bytes.items
 WritesOperands words (Load op memory ptr offset) = (length words ≡ 4) × (word_at words 0 ≡ load_name op)
-    × WritesNumber 64 (word_at words 1) memory × WritesNumber 64 (word_at words 2) ptr × WritesNumber 64 (word_at words 3) offset
+    × WritesNumber 64 (word_at words 1) memory × WritesNumber 64 (word_at words 2) ptr
+    × WritesNumber 64 (word_at words 3) offset
 WritesOperands words (Store op memory ptr offset value) = (length words ≡ 5) × (word_at words 0 ≡ store_name op)
-    × WritesNumber 64 (word_at words 1) memory × WritesNumber 64 (word_at words 2) ptr × WritesNumber 64 (word_at words 3) offset
+    × WritesNumber 64 (word_at words 1) memory × WritesNumber 64 (word_at words 2) ptr
+    × WritesNumber 64 (word_at words 3) offset
     × (lo : ℕ) × WritesNumber 64 (word_at words 4) lo × (value ≡ raw_of lo)
 WritesOperands words (NewTable ty init) = (length words ≡ 6)
-    × NamesTableType (word_at words 0) (word_at words 1) (word_at words 2) (word_at words 3) ty × WritesReference (word_at words 4) (word_at words 5) init
+    × NamesTableType (word_at words 0) (word_at words 1) (word_at words 2) (word_at words 3) ty
+    × WritesReference (word_at words 4) (word_at words 5) init
 WritesOperands words (GrowTable table delta init) = (length words ≡ 4)
-    × WritesNumber 64 (word_at words 0) table × WritesNumber 64 (word_at words 1) delta × WritesReference (word_at words 2) (word_at words 3) init
-WritesOperands words (DropTable table) = (length words ≡ 2) × (word_at words 0 ≡ codes "table") × WritesNumber 64 (word_at words 1) table
-WritesOperands words (GetElement table index) = (length words ≡ 2) × WritesNumber 64 (word_at words 0) table × WritesNumber 64 (word_at words 1) index
+    × WritesNumber 64 (word_at words 0) table × WritesNumber 64 (word_at words 1) delta
+    × WritesReference (word_at words 2) (word_at words 3) init
+WritesOperands words (DropTable table) =
+    (length words ≡ 2) × (word_at words 0 ≡ codes "table") × WritesNumber 64 (word_at words 1) table
+WritesOperands words (GetElement table index) =
+    (length words ≡ 2) × WritesNumber 64 (word_at words 0) table × WritesNumber 64 (word_at words 1) index
 WritesOperands words (SetElement table index value) = (length words ≡ 4)
-    × WritesNumber 64 (word_at words 0) table × WritesNumber 64 (word_at words 1) index × WritesReference (word_at words 2) (word_at words 3) value
+    × WritesNumber 64 (word_at words 0) table × WritesNumber 64 (word_at words 1) index
+    × WritesReference (word_at words 2) (word_at words 3) value
 WritesOperands words (InitTable table segment dst src len) = (length words ≡ 5)
-    × WritesNumber 64 (word_at words 0) table × WritesNumber 64 (word_at words 1) segment × WritesNumber 64 (word_at words 2) dst
+    × WritesNumber 64 (word_at words 0) table × WritesNumber 64 (word_at words 1) segment
+    × WritesNumber 64 (word_at words 2) dst
     × WritesNumber 32 (word_at words 3) src × WritesNumber 32 (word_at words 4) len
 WritesOperands words (CopyTable dst_table dst src_table src len) = (length words ≡ 5)
     × WritesNumber 64 (word_at words 0) dst_table × WritesNumber 64 (word_at words 1) dst
-    × WritesNumber 64 (word_at words 2) src_table × WritesNumber 64 (word_at words 3) src × WritesNumber 64 (word_at words 4) len
+    × WritesNumber 64 (word_at words 2) src_table × WritesNumber 64 (word_at words 3) src
+    × WritesNumber 64 (word_at words 4) len
 WritesOperands words (FillTable table dst value len) = (length words ≡ 5)
     × WritesNumber 64 (word_at words 0) table × WritesNumber 64 (word_at words 1) dst
     × WritesReference (word_at words 2) (word_at words 3) value × WritesNumber 64 (word_at words 4) len
-WritesOperands words (NewSegment ty items) = (1 ≤ length words) × (word_at words 0 ≡ reference_word ty) × WritesNumbers 32 (drop 1 words) items.items
+WritesOperands words (NewSegment ty items) =
+    (1 ≤ length words) × (word_at words 0 ≡ reference_word ty) × WritesNumbers 32 (drop 1 words) items.items
 WritesOperands words (DropItems segment) = (length words ≡ 1) × WritesNumber 64 (word_at words 0) segment
 WritesOperands words (NewGlobal value ty) = (length words ≡ 4)
     × (word_at words 0 ≡ value_word ty.content) × (word_at words 1 ≡ mutability_word ty.mutability)
@@ -97,7 +113,8 @@ WritesOperands words (SetGlobal global value) = (length words ≡ 4)
     × WritesNumber 64 (word_at words 2) value.raw.lo × WritesNumber 64 (word_at words 3) value.raw.hi
 WritesOperands words (GetGlobal global) = (length words ≡ 1) × WritesNumber 64 (word_at words 0) global
 WritesOperands words (SetRegister dst value) = (length words ≡ 3)
-    × WritesNumber 8 (word_at words 0) dst × WritesNumber 64 (word_at words 1) value.lo × WritesNumber 64 (word_at words 2) value.hi
+    × WritesNumber 8 (word_at words 0) dst × WritesNumber 64 (word_at words 1) value.lo
+    × WritesNumber 64 (word_at words 2) value.hi
 WritesOperands words (GetRegister a) = (length words ≡ 1) × WritesNumber 8 (word_at words 0) a
 WritesOperands words (Make op dst a) = (length words ≡ 3) × NamesMake (word_at words 0) op
     × WritesNumber 8 (word_at words 1) dst × WritesNumber 8 (word_at words 2) a
@@ -109,9 +126,12 @@ WritesOperands words (Ternary op dst a b c) = (length words ≡ 5) × NamesTerna
     × WritesNumber 8 (word_at words 1) dst
     × WritesNumber 8 (word_at words 2) a × WritesNumber 8 (word_at words 3) b × WritesNumber 8 (word_at words 4) c
 WritesOperands words (Shift op dst a amount) = (length words ≡ 4) × NamesShift (word_at words 0) op
-    × WritesNumber 8 (word_at words 1) dst × WritesNumber 8 (word_at words 2) a × WritesNumber 32 (word_at words 3) amount
-WritesOperands words (Test op a) = (length words ≡ 2) × NamesTest (word_at words 0) op × WritesNumber 8 (word_at words 1) a
-WritesOperands words (Extract op a) = (length words ≡ 3) × NamesExtract (word_at words 0) (word_at words 2) op × WritesNumber 8 (word_at words 1) a
+    × WritesNumber 8 (word_at words 1) dst × WritesNumber 8 (word_at words 2) a
+    × WritesNumber 32 (word_at words 3) amount
+WritesOperands words (Test op a) =
+    (length words ≡ 2) × NamesTest (word_at words 0) op × WritesNumber 8 (word_at words 1) a
+WritesOperands words (Extract op a) =
+    (length words ≡ 3) × NamesExtract (word_at words 0) (word_at words 2) op × WritesNumber 8 (word_at words 1) a
 WritesOperands words (Replace op dst a item) = (length words ≡ 5) × NamesReplace (word_at words 0) (word_at words 3) op
     × WritesNumber 8 (word_at words 1) dst × WritesNumber 8 (word_at words 2) a × WritesNumber 8 (word_at words 4) item
 WritesOperands words (Shuffle dst a b lanes) = (3 ≤ length words)
@@ -119,15 +139,21 @@ WritesOperands words (Shuffle dst a b lanes) = (3 ≤ length words)
     × WritesLanes (drop 3 words) lanes
 WritesOperands words (VectorLoad op dst memory ptr offset) = (length words ≡ 5) × NamesLoad (word_at words 0) op
     × WritesNumber 8 (word_at words 1) dst
-    × WritesNumber 64 (word_at words 2) memory × WritesNumber 64 (word_at words 3) ptr × WritesNumber 64 (word_at words 4) offset
-WritesOperands words (LoadLane op dst a memory ptr offset) = (length words ≡ 7) × NamesLoadLane (word_at words 0) (word_at words 3) op
+    × WritesNumber 64 (word_at words 2) memory × WritesNumber 64 (word_at words 3) ptr
+    × WritesNumber 64 (word_at words 4) offset
+WritesOperands words (LoadLane op dst a memory ptr offset) =
+    (length words ≡ 7) × NamesLoadLane (word_at words 0) (word_at words 3) op
     × WritesNumber 8 (word_at words 1) dst × WritesNumber 8 (word_at words 2) a
-    × WritesNumber 64 (word_at words 4) memory × WritesNumber 64 (word_at words 5) ptr × WritesNumber 64 (word_at words 6) offset
+    × WritesNumber 64 (word_at words 4) memory × WritesNumber 64 (word_at words 5) ptr
+    × WritesNumber 64 (word_at words 6) offset
 WritesOperands words (VectorStore a memory ptr offset) = (length words ≡ 4) × WritesNumber 8 (word_at words 0) a
-    × WritesNumber 64 (word_at words 1) memory × WritesNumber 64 (word_at words 2) ptr × WritesNumber 64 (word_at words 3) offset
-WritesOperands words (StoreLane op a memory ptr offset) = (length words ≡ 6) × NamesStoreLane (word_at words 0) (word_at words 2) op
+    × WritesNumber 64 (word_at words 1) memory × WritesNumber 64 (word_at words 2) ptr
+    × WritesNumber 64 (word_at words 3) offset
+WritesOperands words (StoreLane op a memory ptr offset) =
+    (length words ≡ 6) × NamesStoreLane (word_at words 0) (word_at words 2) op
     × WritesNumber 8 (word_at words 1) a
-    × WritesNumber 64 (word_at words 3) memory × WritesNumber 64 (word_at words 4) ptr × WritesNumber 64 (word_at words 5) offset
+    × WritesNumber 64 (word_at words 3) memory × WritesNumber 64 (word_at words 4) ptr
+    × WritesNumber 64 (word_at words 5) offset
 
 -- the word that a command begins with, and the words after it, name this call
 abbrev pub NamesAfter : List ℕ → Words → Call → Type 0

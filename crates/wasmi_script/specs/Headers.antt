@@ -17,7 +17,8 @@ use Rattle.wasmi_script.specs.Answers.{WritesAnswers}
 -- the words of a line name this meter line
 abbrev pub NamesMeter : Words → MeterLine → Type 0
 NamesMeter words Off = (length words ≡ 2) × (word_at words 0 ≡ codes "meter") × (word_at words 1 ≡ codes "off")
-NamesMeter words (On bytes_per_fuel) = (length words ≡ 3) × (word_at words 0 ≡ codes "meter") × (word_at words 1 ≡ codes "on")
+NamesMeter words (On bytes_per_fuel) =
+    (length words ≡ 3) × (word_at words 0 ≡ codes "meter") × (word_at words 1 ≡ codes "on")
     × WritesNumber 32 (word_at words 2) bytes_per_fuel
 
 -- the word that a limiter line begins with
@@ -28,9 +29,11 @@ limiter_word (Tenants line) = codes "tenants"
 
 -- the words after the first write what the line says
 abbrev pub WritesLimiter : Words → LimiterLine → Type 0
-WritesLimiter words (Quota line) = (length words ≡ 2) × WritesNumber 64 (word_at words 0) line.bytes × WritesNumber 64 (word_at words 1) line.elements
+WritesLimiter words (Quota line) =
+    (length words ≡ 2) × WritesNumber 64 (word_at words 0) line.bytes × WritesNumber 64 (word_at words 1) line.elements
 WritesLimiter words (Answers answers) = WritesAnswers words answers.items
-WritesLimiter words (Tenants line) = (length words ≡ 3) × WritesNumber 64 (word_at words 0) line.count × (1 ≤ line.count) × (line.count ≤ 1024)
+WritesLimiter words (Tenants line) =
+    (length words ≡ 3) × WritesNumber 64 (word_at words 0) line.count × (1 ≤ line.count) × (line.count ≤ 1024)
     × WritesNumber 64 (word_at words 1) line.bytes × WritesNumber 64 (word_at words 2) line.elements
 
 -- the word that a limiter line begins with, and the words after it, name this line
@@ -53,7 +56,8 @@ tenants_of limiter = 0
 
 -- the words of a line name one of so many tenants
 abbrev pub NamesTenant : Words → ℕ → ℕ → Type 0
-NamesTenant words tenants tenant = (length words ≡ 2) × (word_at words 0 ≡ codes "as") × WritesNumber 64 (word_at words 1) tenant × (tenant < tenants)
+NamesTenant words tenants tenant =
+    (length words ≡ 2) × (word_at words 0 ≡ codes "as") × WritesNumber 64 (word_at words 1) tenant × (tenant < tenants)
 
 -- a pool has no region
 abbrev pub AreApart : Option LimiterLine → Option RegionLine → Type 0
@@ -67,7 +71,8 @@ meter_off = record { left = None; costs = default_costs }
 -- the meter that a line asks for, with no fuel left yet
 abbrev pub meter_said : MeterLine → Meter
 meter_said Off = meter_off
-meter_said (On bytes_per_fuel) = record { left = Some 0; costs = record default_costs { bytes_copied_per_fuel = bytes_per_fuel } }
+meter_said (On bytes_per_fuel) =
+    record { left = Some 0; costs = record default_costs { bytes_copied_per_fuel = bytes_per_fuel } }
 
 -- the meter that a script starts with: off without a line that says more
 abbrev pub meter_of : Header → Meter

@@ -13,19 +13,29 @@ use Rattle.wasmi_script.specs.Numbers.{WritesNumber, WritesNumbers}
 
 -- two words name the extraction of a lane; an index of 16 lanes is a number of 4 bits, and so on
 abbrev pub NamesExtract : List ℕ → List ℕ → ExtractOp → Type 0
-NamesExtract name lane (extract.I8x16ExtractLaneS index) = (name ≡ codes "i8x16_extract_lane_s") × WritesNumber 4 lane index
-NamesExtract name lane (extract.I8x16ExtractLaneU index) = (name ≡ codes "i8x16_extract_lane_u") × WritesNumber 4 lane index
-NamesExtract name lane (extract.I16x8ExtractLaneS index) = (name ≡ codes "i16x8_extract_lane_s") × WritesNumber 3 lane index
-NamesExtract name lane (extract.I16x8ExtractLaneU index) = (name ≡ codes "i16x8_extract_lane_u") × WritesNumber 3 lane index
-NamesExtract name lane (extract.I32x4ExtractLane index) = (name ≡ codes "i32x4_extract_lane") × WritesNumber 2 lane index
-NamesExtract name lane (extract.I64x2ExtractLane index) = (name ≡ codes "i64x2_extract_lane") × WritesNumber 1 lane index
+NamesExtract name lane (extract.I8x16ExtractLaneS index) =
+    (name ≡ codes "i8x16_extract_lane_s") × WritesNumber 4 lane index
+NamesExtract name lane (extract.I8x16ExtractLaneU index) =
+    (name ≡ codes "i8x16_extract_lane_u") × WritesNumber 4 lane index
+NamesExtract name lane (extract.I16x8ExtractLaneS index) =
+    (name ≡ codes "i16x8_extract_lane_s") × WritesNumber 3 lane index
+NamesExtract name lane (extract.I16x8ExtractLaneU index) =
+    (name ≡ codes "i16x8_extract_lane_u") × WritesNumber 3 lane index
+NamesExtract name lane (extract.I32x4ExtractLane index) =
+    (name ≡ codes "i32x4_extract_lane") × WritesNumber 2 lane index
+NamesExtract name lane (extract.I64x2ExtractLane index) =
+    (name ≡ codes "i64x2_extract_lane") × WritesNumber 1 lane index
 
 -- two words name the replacement of a lane
 abbrev pub NamesReplace : List ℕ → List ℕ → ReplaceOp → Type 0
-NamesReplace name lane (replace.I8x16ReplaceLane index) = (name ≡ codes "i8x16_replace_lane") × WritesNumber 4 lane index
-NamesReplace name lane (replace.I16x8ReplaceLane index) = (name ≡ codes "i16x8_replace_lane") × WritesNumber 3 lane index
-NamesReplace name lane (replace.I32x4ReplaceLane index) = (name ≡ codes "i32x4_replace_lane") × WritesNumber 2 lane index
-NamesReplace name lane (replace.I64x2ReplaceLane index) = (name ≡ codes "i64x2_replace_lane") × WritesNumber 1 lane index
+NamesReplace name lane (replace.I8x16ReplaceLane index) =
+    (name ≡ codes "i8x16_replace_lane") × WritesNumber 4 lane index
+NamesReplace name lane (replace.I16x8ReplaceLane index) =
+    (name ≡ codes "i16x8_replace_lane") × WritesNumber 3 lane index
+NamesReplace name lane (replace.I32x4ReplaceLane index) =
+    (name ≡ codes "i32x4_replace_lane") × WritesNumber 2 lane index
+NamesReplace name lane (replace.I64x2ReplaceLane index) =
+    (name ≡ codes "i64x2_replace_lane") × WritesNumber 1 lane index
 
 -- two words name the load of a lane
 abbrev pub NamesLoadLane : List ℕ → List ℕ → LoadLaneOp → Type 0

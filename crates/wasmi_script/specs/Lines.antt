@@ -70,11 +70,14 @@ pub record AddsPart (old : Script) (words : Words) (new : Script) : Type 0 where
 
 -- a line without words adds nothing
 abbrev pub AddsLine : Script → Words → Script → Type 0
-AddsLine old words new = ((words ≡ []) × (new ≡ old)) ⊎ AddsMeter old words new ⊎ AddsLimiter old words new ⊎ AddsRegion old words new ⊎ AddsCall old words new ⊎ AddsPart old words new
+AddsLine old words new =
+    ((words ≡ []) × (new ≡ old)) ⊎ AddsMeter old words new ⊎ AddsLimiter old words new ⊎ AddsRegion old words new
+    ⊎ AddsCall old words new ⊎ AddsPart old words new
 
 -- a line of a script: a text, by its words
 abbrev pub TakesLine : Script → List ℕ → Script → Type 0
-TakesLine old line new = IsUtf8 line × (words : Words) × (map (λ word. word.now) words ≡ words_in line) × AddsLine old words new
+TakesLine old line new =
+    IsUtf8 line × (words : Words) × (map (λ word. word.now) words ≡ words_in line) × AddsLine old words new
 
 -- lines taken one after the other
 abbrev pub TakesLines : List (List ℕ) → Script → Script → Type 0

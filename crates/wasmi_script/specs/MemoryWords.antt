@@ -6,14 +6,16 @@ use Rattle.wasmi_script.specs.Numbers.{WritesNumber, WritesLimit}
 use Rattle.wasmi_script.specs.TypeWords.{width_word}
 
 -- a memory type, which there is, of these settings
-pub record HasSettings (index : IndexType) (minimum : ℕ) (maximum : Option ℕ) (log2 : ℕ) (ty : MemoryTypeValue) : Type 0 where
+pub record HasSettings (index : IndexType) (minimum : ℕ) (maximum : Option ℕ) (log2 : ℕ)
+    (ty : MemoryTypeValue) : Type 0 where
   pub same_index : ty.index ≡ index
   pub same_minimum : ty.minimum ≡ minimum
   pub same_maximum : ty.maximum ≡ maximum
   pub same_log2 : page_log2 ty.page ≡ log2
   pub valid : IsValid ty
 
--- four words name this memory type, which there is: its minimum, its maximum, its page size and the width of its addresses
+-- four words name this memory type, which there is: its minimum, its maximum, its page size and the width of its
+-- addresses
 pub record NamesType (minimum maximum log2 width : List ℕ) (ty : MemoryTypeValue) : Type 0 where
   pub minimum_word : WritesNumber 64 minimum ty.minimum
   pub maximum_word : WritesLimit maximum ty.maximum

@@ -38,7 +38,9 @@ amounts_text bytes elements = codes "held " ++ (decimal bytes ++ (codes " " ++ d
 
 -- what the tenant of an index holds
 abbrev pub tenant_text : ℕ → State → List ℕ
-tenant_text index machine = codes "held " ++ (decimal index ++ (codes " " ++ (decimal (total machine Bytes) ++ (codes " " ++ decimal (total machine Elements)))))
+tenant_text index machine =
+    codes "held " ++
+    (decimal index ++ (codes " " ++ (decimal (total machine Bytes) ++ (codes " " ++ decimal (total machine Elements)))))
 
 -- a line for each tenant
 abbrev pub tenants_text : List State → List ℕ
@@ -60,13 +62,15 @@ HasReplies outcome = IfOk outcome (λ replayed. length (calls_of replayed.script
 
 -- what is printed: the replies and what is held then, or why the script isn't run
 abbrev pub outcome_text : Outcome → List ℕ
-outcome_text (Ok replayed) = replies_text (calls_of replayed.script) replayed.ran.replies.items ++ held_text replayed.ran.held
+outcome_text (Ok replayed) =
+    replies_text (calls_of replayed.script) replayed.ran.replies.items ++ held_text replayed.ran.held
 outcome_text (Err error) = line (error_text error)
 
 -- The outcome of the bytes of a reader: a run of the script that they write, a line that is no command, or that they
 -- are too many. Memory may always be wanting, and the reader may fail.
 abbrev pub IsOutcomeOf : List ℕ → Outcome → Type 0
-IsOutcomeOf bytes (Ok replayed) = (length bytes ≤ LIMIT) × WritesScript bytes replayed.script × IsReplayOf replayed.script replayed.ran
+IsOutcomeOf bytes (Ok replayed) =
+    (length bytes ≤ LIMIT) × WritesScript bytes replayed.script × IsReplayOf replayed.script replayed.ran
 IsOutcomeOf bytes (Err (BadCommand number)) = (length bytes ≤ LIMIT) × IsFirstBadLine bytes number
 IsOutcomeOf bytes (Err TooLong) = LIMIT < length bytes
 IsOutcomeOf bytes (Err OutOfMemory) = ⊤
@@ -75,7 +79,8 @@ IsOutcomeOf bytes (Err ReadFault) = ⊤
 -- the writer has got the whole text and the status is the outcome's, or it has got a front of the text and failed
 abbrev pub PrintsOutcome : Option (List ℕ) → Option (List ℕ) → Outcome → Status → Type 0
 PrintsOutcome old new outcome status =
-    (Appends old new (outcome_text outcome) × (status ≡ status_after outcome)) ⊎ (AppendsFront old new (outcome_text outcome) × (status ≡ Fault))
+    (Appends old new (outcome_text outcome) × (status ≡ status_after outcome))
+    ⊎ (AppendsFront old new (outcome_text outcome) × (status ≡ Fault))
 
 -- the bytes of a reader have an outcome, and a writer has got it
 pub record Replays (given old new : Option (List ℕ)) (status : Status) : Type 0 where

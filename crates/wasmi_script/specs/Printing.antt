@@ -28,7 +28,8 @@ pub record Prints {W : Type 0} (contents : W → Option (List ℕ)) (old new : P
   pub passed : Passes (contents old.writer.now) (contents new.writer.now) old.chunk.bytes new.chunk.bytes text
 
 -- a text is printed in part: the writer gets the front of what waits and of the text
-pub record PrintsFront {W : Type 0} (contents : W → Option (List ℕ)) (old new : Printer W) (text : List ℕ) : Type 0 where
+pub record PrintsFront {W : Type 0} (contents : W → Option (List ℕ)) (old new : Printer W)
+    (text : List ℕ) : Type 0 where
   pub writer : new.writer.ghost_name ≡ old.writer.ghost_name
   pub sent : AppendsFront (contents old.writer.now) (contents new.writer.now) (old.chunk.bytes ++ text)
 

@@ -18,12 +18,12 @@ use Rattle.wasmi_script.specs.declared.script.header.LimiterLine.{LimiterLine}
 use Rattle.wasmi_script.specs.declared.script.header.LimiterLine.TheVariants as Lines
 use Rattle.wasmi_script.specs.declared.script.header.QuotaLine.{QuotaLine}
 use Rattle.wasmi_script.specs.declared.script.header.TenantsLine.{TenantsLine}
-use Rattle.wasmi_script.specs.declared.script.Part.{Part}
+use Rattle.wasmi_script.specs.declared.script.TenantRun.{TenantRun}
 use Rattle.wasmi_script.specs.declared.replaying.Amounts.{Amounts}
 use Rattle.wasmi_script.specs.declared.replaying.Held.TheVariants.{Nothing}
 use Rattle.wasmi_script.specs.declared.replaying.Held.TheVariants as held
 use Rattle.wasmi_script.specs.declared.replaying.Ran.{Ran}
-use Rattle.wasmi_script.specs.declared.answering.AnswerList.{AnswerList}
+use Rattle.wasmi_script.specs.declared.listed_limiter.AnswerList.{AnswerList}
 use Rattle.wasmi_script.specs.declared.script.header.answers.AnswerWord.{AnswerWord}
 use Rattle.wasmi_script.specs.Answers.{IsNewList, answer_rules}
 use Rattle.wasmi_script.specs.Headers.{meter_of, start_of}
@@ -44,41 +44,50 @@ printed_holdings quota = record { bytes = (holdings quota).bytes; elements = (ho
 
 -- the replies are those of a run of the calls from a machine, under a limiter that answers by these words
 abbrev pub IsListedReplay : List AnswerWord → State → List Call → Ran → Type 0
-IsListedReplay words start calls ran = (ran.held ≡ Nothing) × (list : AnswerList) × IsNewList words list × (after : World (Option AnswerList))
-    × IsRunOf (optional_rules answer_rules) calls (record { state = start; limiter = Some list }) ran.replies.items after
+IsListedReplay words start calls ran =
+    (ran.held ≡ Nothing) × (list : AnswerList) × IsNewList words list × (after : World (Option AnswerList))
+    × IsRunOf (optional_rules answer_rules) calls
+    (record { state = start; limiter = Some list }) ran.replies.items after
 
 -- The replies are those of a run of the calls from a machine, without a limiter or under the one that a line asks for.
 -- What is held is what a quota then holds, which is all that the machine has.
 abbrev pub IsReplayUnder : Option LimiterLine → State → List Call → Ran → Type 0
 IsReplayUnder None start calls ran = (ran.held ≡ Nothing) × (after : World (Option NoLimits))
     × IsRunOf (optional_rules unlimited_rules) calls (record { state = start; limiter = None }) ran.replies.items after
-IsReplayUnder (Some (Lines.Quota line)) start calls ran = (quota : Quota) × IsNewQuota line quota × (end : State) × (after : Quota)
-    × IsRunOf (optional_rules quota_rules) calls (record { state = start; limiter = Some quota }) ran.replies.items (record { state = end; limiter = Some after })
+IsReplayUnder (Some (Lines.Quota line)) start calls ran =
+    (quota : Quota) × IsNewQuota line quota × (end : State) × (after : Quota)
+    × IsRunOf (optional_rules quota_rules) calls (record { state = start; limiter = Some quota }) ran.replies.items
+    (record { state = end; limiter = Some after })
     × HoldsTotals (holdings after) end × (ran.held ≡ held.Quota (printed_holdings after))
 IsReplayUnder (Some (Lines.Answers words)) start calls ran = IsListedReplay words.items start calls ran
 IsReplayUnder (Some (Lines.Tenants line)) start calls ran = ⊥
 
 -- a pool of new machines, as many as a line says, under its caps
 abbrev pub new_pool : TenantsLine → State → PoolValue
-new_pool line start = record { caps = record { bytes = line.bytes; elements = line.elements }; machines = replicate line.count start }
+new_pool line start =
+    record { caps = record { bytes = line.bytes; elements = line.elements }; machines = replicate line.count start }
 
 -- a tenant has run these calls, and its replies come after those that there were
 abbrev pub AnswersPart : PoolValue → ℕ → List Call → List Reply → List Reply → PoolValue → Type 0
-AnswersPart pool tenant calls replies replies' pool' = (answered : List Reply) × (replies' ≡ replies ++ answered) × RunsTenant pool tenant calls answered pool'
+AnswersPart pool tenant calls replies replies' pool' =
+    (answered : List Reply) × (replies' ≡ replies ++ answered) × RunsTenant pool tenant calls answered pool'
 
 -- the parts are run one after another, each in one run of its tenant
-abbrev pub AnswersParts : PoolValue → List Part → List Reply → List Reply → PoolValue → Type 0
+abbrev pub AnswersParts : PoolValue → List TenantRun → List Reply → List Reply → PoolValue → Type 0
 AnswersParts pool [] replies replies' pool' = (replies' ≡ replies) × (pool' ≡ pool)
 AnswersParts pool (part ∷ parts) replies replies' pool' = (between : List Reply) × (middle : PoolValue)
-    × AnswersPart pool part.tenant part.calls.items replies between middle × AnswersParts middle parts between replies' pool'
+    × AnswersPart pool part.tenant part.calls.items replies between middle
+    × AnswersParts middle parts between replies' pool'
 
--- The replies are those of the parts, the last one after the earlier ones, on a pool of new machines with the script's meter.
--- What is held is what the pool's machines have then.
+-- The replies are those of the parts, the last one after the earlier ones, on a pool of new machines with the script's
+-- meter. What is held is what the pool's machines have then.
 abbrev pub IsPoolReplay : TenantsLine → Script → Ran → Type 0
 IsPoolReplay line script ran = (pool : PoolValue) × (ran.held ≡ held.Tenants pool)
-    × AnswersParts (new_pool line (new_state (meter_of script.header))) (script.earlier.items ++ record { tenant = script.tenant; calls = script.calls } ∷ []) [] ran.replies.items pool
+    × AnswersParts (new_pool line (new_state (meter_of script.header)))
+    (script.earlier.items ++ record { tenant = script.tenant; calls = script.calls } ∷ []) [] ran.replies.items pool
 
--- the replies are those of the parts on a pool, or those of a run on a new machine with the script's meter and its region
+-- the replies are those of the parts on a pool, or those of a run on a new machine with the script's meter and its
+-- region
 abbrev pub IsReplayBy : Option LimiterLine → Script → Ran → Type 0
 IsReplayBy (Some (Lines.Tenants line)) script ran = IsPoolReplay line script ran
 IsReplayBy limiter script ran = IsReplayUnder limiter (start_of script.header) script.calls.items ran

@@ -4,7 +4,7 @@ use Rattle.std.specs.Option.{option_map}
 use Rattle.wasmi_types.specs.declared.value.RefType.{RefType}
 use Rattle.wasmi_core.specs.declared.calls.Call.{Call}
 use Rattle.wasmi_core.specs.declared.calls.Call.TheVariants.{Write, NewSegment}
-use Rattle.wasmi_script.specs.declared.script.Part.{Part}
+use Rattle.wasmi_script.specs.declared.script.TenantRun.{TenantRun}
 use Rattle.wasmi_script.specs.declared.script.Script.{Script}
 use Rattle.wasmi_script.specs.declared.script.header.MeterLine.{MeterLine}
 use Rattle.wasmi_script.specs.declared.script.header.RegionLine.{RegionLine}
@@ -42,7 +42,7 @@ pub record PartSaid : Type 0 where
   pub calls : List CallSaid
 
 -- what a part says
-abbrev pub part_said : Part → PartSaid
+abbrev pub part_said : TenantRun → PartSaid
 part_said part = record { tenant = part.tenant; calls = map call_said part.calls.items }
 
 -- a script: its header lines, its parts before the last `as` line, the last tenant and its calls

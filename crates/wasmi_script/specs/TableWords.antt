@@ -7,14 +7,16 @@ use Rattle.wasmi_script.specs.Numbers.{WritesNumber, WritesLimit}
 use Rattle.wasmi_script.specs.TypeWords.{width_word, reference_word}
 
 -- a table type, which there is, of these limits
-pub record HasLimits (index : IndexType) (element : RefType) (minimum : ℕ) (maximum : Option ℕ) (ty : TableTypeValue) : Type 0 where
+pub record HasLimits (index : IndexType) (element : RefType) (minimum : ℕ) (maximum : Option ℕ)
+    (ty : TableTypeValue) : Type 0 where
   pub same_index : ty.index ≡ index
   pub same_element : ty.element ≡ element
   pub same_minimum : ty.minimum ≡ minimum
   pub same_maximum : ty.maximum ≡ maximum
   pub valid : IsValid ty
 
--- four words name this table type, which there is: the type of its elements, its minimum, its maximum and the width of its indices
+-- four words name this table type, which there is: the type of its elements, its minimum, its maximum and the width of
+-- its indices
 pub record NamesTableType (element minimum maximum width : List ℕ) (ty : TableTypeValue) : Type 0 where
   pub element_text : element ≡ reference_word ty.element
   pub minimum_word : WritesNumber 64 minimum ty.minimum

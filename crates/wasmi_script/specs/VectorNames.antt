@@ -1,4 +1,5 @@
--- The names of the vector instructions: those of the functions of `wasmi_core::simd`, which are the standard's in snake case.
+-- The names of the vector instructions: those of the functions of `wasmi_core::simd`, which are the standard's in snake
+-- case.
 use Rattle.std.specs.Prelude.{◌≡◌, ℕ, List, [], ◌∷◌, Option, None, Some, cond, bytes_eq, codes}
 use Rattle.wasmi_vector_ops.specs.declared.make.MakeOp.{MakeOp}
 use Rattle.wasmi_vector_ops.specs.declared.make.MakeOp.TheVariants as make

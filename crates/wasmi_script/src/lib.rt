@@ -1,9 +1,9 @@
 //! Scripts of calls on a metered machine: reading, parsing, running, printing.
 #![tactic(auto)]
 
-mod answering;
 mod error;
 pub mod laws;
+mod listed_limiter;
 mod print;
 mod printer;
 mod reading;

@@ -25,7 +25,7 @@ impl fmt::Display for ReplyLine<'_> {
         match self.reply {
             Reply::Done => write!(f, "done"),
             Reply::Made(index) => {
-                let kind = kind_made(self.call);
+                let kind = made_word(self.call);
                 write!(f, "{kind} {index}")
             }
             Reply::Value(value) => write!(f, "raw {} {}", value.lo, value.hi),
@@ -71,8 +71,9 @@ impl fmt::Display for ByteNumbers<'_> {
     }
 }
 
-/// The word for what the call makes. Only creations make anything, and `Made` answers no other call.
-fn kind_made(call: &Call) -> &'static str
+/// The word for what the call makes. Only creations make anything, and `Made` answers no other
+/// call.
+fn made_word(call: &Call) -> &'static str
     ensures { result.now ≡ kind_text call.now }
 {
     match call {

@@ -13,8 +13,8 @@ const CHUNK: usize = 4096;
 /// How long a text may be that is printed at once, with a line feed.
 const LONGEST: usize = 256;
 
-/// Text that goes to a writer in chunks, without memory. Any error of the writer ends the printing, and so does a write
-/// that takes no byte.
+/// Text that goes to a writer in chunks, without memory. Any error of the writer ends the printing,
+/// and so does a write that takes no byte.
 #[derive(Drop)]
 pub struct Printer<'w, W> {
     writer: &'w mut W,
@@ -36,8 +36,10 @@ impl<'w, W: io::Write> Printer<'w, W> {
     /// Prints a text of less than `LONGEST` bytes.
     pub fn print<D: Display + Drop>(&mut self, text: D) -> fmt::Result
         requires { IsShort (D.output text) }
-        ensures ok { OnOk result (IfSome (D.output text) (λ bytes. Prints W.contents self.old self.new bytes)) }
-        ensures front { OnErr result (IfSome (D.output text) (λ bytes. PrintsFront W.contents self.old self.new bytes)) }
+        ensures ok { OnOk result
+            (IfSome (D.output text) (λ bytes. Prints W.contents self.old self.new bytes)) }
+        ensures front { OnErr result
+            (IfSome (D.output text) (λ bytes. PrintsFront W.contents self.old self.new bytes)) }
     {
         self.make_room()?;
         self.chunk.write(text)
@@ -46,8 +48,11 @@ impl<'w, W: io::Write> Printer<'w, W> {
     /// Prints a line of at most `LONGEST` bytes with its feed.
     pub fn print_line<D: Display + Drop>(&mut self, text: D) -> fmt::Result
         requires { IsShort (D.output text) }
-        ensures ok { OnOk result (IfSome (D.output text) (λ bytes. Prints W.contents self.old self.new (line bytes))) }
-        ensures front { OnErr result (IfSome (D.output text) (λ bytes. PrintsFront W.contents self.old self.new (line bytes))) }
+        ensures ok { OnOk result
+            (IfSome (D.output text) (λ bytes. Prints W.contents self.old self.new (line bytes))) }
+        ensures front { OnErr result
+            (IfSome (D.output text)
+            (λ bytes. PrintsFront W.contents self.old self.new (line bytes))) }
     {
         self.make_room()?;
         self.chunk.writeln(text)

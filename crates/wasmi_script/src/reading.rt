@@ -34,18 +34,21 @@ impl<'r, R: Read> Turns<'r, R> {
         requires { self.old.taken ≤ LIMIT }
         ensures taken { self.new.taken ≡ self.old.taken + 1 }
         ensures bound { ReadsAtMost result buffer.new }
-        ensures bytes { ReadConsumes (R.remaining self.old.reader.now) (R.remaining self.new.reader.now) result buffer.new }
+        ensures bytes { ReadConsumes (R.remaining self.old.reader.now)
+            (R.remaining self.new.reader.now) result buffer.new }
     {
         self.taken += 1;
         self.reader.read(buffer)
     }
 }
 
-/// The bytes of the reader up to its end, in at most `LIMIT + 1` turns: a turn that gives nothing is the end.
+/// The bytes of the reader up to its end, in at most `LIMIT + 1` turns: a turn that gives nothing
+/// is the end.
 pub fn read<R: Read>(alloc: Global, reader: &mut Turns<'_, R>) -> Result<Vec<u8>, ReplayError>
     requires { reader.old.taken ≡ 0 }
     ensures bounded { IfOk result (λ script. vec_len script ≤ LIMIT) }
-    ensures whole { IfOk result (λ script. IfSome (R.remaining reader.old.reader.now) (λ bytes. script.items ≡ bytes)) }
+    ensures whole { IfOk result
+        (λ script. IfSome (R.remaining reader.old.reader.now) (λ bytes. script.items ≡ bytes)) }
     ensures refused { IfErr result (IsReadError (R.remaining reader.old.reader.now)) }
     ensures turns { reader.new.taken ≤ LIMIT + 1 }
 {

@@ -11,8 +11,8 @@ ghost use Rattle.wasmi_script.specs.Texts.{reply_text, bytes_text};
 ghost use Rattle.wasmi_script.specs.Outcomes.{calls_of, replies_text, tenants_text, held_text, outcome_text, HasReplies, IsOutcomeOf, Replays};
 ghost use Rattle.std.specs.Io.KnownBytes.{Appends};
 
-use crate::answering::AnswerList;
 use crate::error::ReplayError;
+use crate::listed_limiter::AnswerList;
 use crate::print::ReplyLine;
 use crate::printer::Printer;
 use crate::reading::{LIMIT, Turns, read};
@@ -91,11 +91,13 @@ struct Amounts {
     elements: u64,
 }
 
-/// Reads the script, runs it and prints its replies, or prints why it isn't run. A line that can't be printed makes
-/// the status `Fault`; what went out before it stays.
+/// Reads the script, runs it and prints its replies, or prints why it isn't run. A line that can't
+/// be printed makes the status `Fault`; what went out before it stays.
 pub fn replay<R: io::Read, W: io::Write>(alloc: Global, reader: &mut R, writer: &mut W) -> Status
-    ensures limited { result ≡ Status.Answered → IfSome (R.remaining reader.old) (λ bytes. length bytes ≤ LIMIT) }
-    ensures ends { Replays (R.remaining reader.old) (W.contents writer.old) (W.contents writer.new) result }
+    ensures limited { result ≡ Status.Answered
+        → IfSome (R.remaining reader.old) (λ bytes. length bytes ≤ LIMIT) }
+    ensures ends { Replays (R.remaining reader.old) (W.contents writer.old)
+        (W.contents writer.new) result }
 {
     let outcome = answer(alloc, reader);
     match print(writer, &outcome) {
@@ -114,7 +116,8 @@ fn answer<R: io::Read>(alloc: Global, reader: &mut R) -> Result<Replayed, Replay
     Ok(Replayed { script, ran })
 }
 
-/// Runs the script's calls on a new machine with its meter and its region, or its parts on a pool of machines.
+/// Runs the script's calls on a new machine with its meter and its region, or its parts on a pool
+/// of machines.
 fn run_script(alloc: Global, script: &Script) -> Result<Ran, AllocError>
     ensures { IfOk result (IsReplayOf script.now) }
 {
@@ -129,8 +132,8 @@ fn run_script(alloc: Global, script: &Script) -> Result<Ran, AllocError>
     }
 }
 
-/// Runs the script's calls on this machine, under its limiter line or without a limiter. Where the line asks for a pool,
-/// the pool's machines run them, and this one, which has nothing, runs none.
+/// Runs the script's calls on this machine, under its limiter line or without a limiter. Where the
+/// line asks for a pool, the pool's machines run them, and this one, which has nothing, runs none.
 fn run_on(alloc: Global, machine: &mut Machine, script: &Script) -> Result<Ran, AllocError>
     requires held { HoldsTotals nothing_held machine.old }
     requires start { machine.old ≡ start_of script.now.header }
@@ -230,7 +233,8 @@ fn run_part(
     calls: &[Call],
     replies: &mut Vec<Reply>,
 ) -> Result<(), AllocError>
-    ensures { OnOk result (AnswersPart pool.old tenant calls.now replies.old.items replies.new.items pool.new) }
+    ensures { OnOk result
+        (AnswersPart pool.old tenant calls.now replies.old.items replies.new.items pool.new) }
 {
     match pool.run(tenant, calls) {
         Ok(mut answered) => replies.append(&mut answered),
@@ -242,8 +246,10 @@ fn run_part(
 /// Prints the outcome to its last byte.
 fn print<W: io::Write>(writer: &mut W, outcome: &Result<Replayed, ReplayError>) -> fmt::Result
     requires { HasReplies outcome.now }
-    ensures ok { OnOk result (Appends (W.contents writer.old) (W.contents writer.new) (outcome_text outcome.now)) }
-    ensures front { OnErr result (AppendsFront (W.contents writer.old) (W.contents writer.new) (outcome_text outcome.now)) }
+    ensures ok { OnOk result
+        (Appends (W.contents writer.old) (W.contents writer.new) (outcome_text outcome.now)) }
+    ensures front { OnErr result
+        (AppendsFront (W.contents writer.old) (W.contents writer.new) (outcome_text outcome.now)) }
 {
     let mut printer = Printer::new(writer);
     let printed = print_all(&mut printer, outcome);
@@ -258,7 +264,8 @@ fn print_all<W: io::Write>(
     outcome: &Result<Replayed, ReplayError>,
 ) -> fmt::Result
     requires { HasReplies outcome.now }
-    ensures ok { OnOk result (PrintsOut W.contents printer.old printer.new (outcome_text outcome.now)) }
+    ensures ok { OnOk result
+        (PrintsOut W.contents printer.old printer.new (outcome_text outcome.now)) }
     ensures front { OnErr result (PrintsFront W.contents printer.old printer.new (outcome_text outcome.now)) }
 {
     print_outcome(printer, outcome)?;
@@ -271,7 +278,8 @@ fn print_outcome<W: io::Write>(
     outcome: &Result<Replayed, ReplayError>,
 ) -> fmt::Result
     requires { HasReplies outcome.now }
-    ensures ok { OnOk result (Prints W.contents printer.old printer.new (outcome_text outcome.now)) }
+    ensures ok { OnOk result
+        (Prints W.contents printer.old printer.new (outcome_text outcome.now)) }
     ensures front { OnErr result (PrintsFront W.contents printer.old printer.new (outcome_text outcome.now)) }
 {
     match outcome {
@@ -283,8 +291,10 @@ fn print_outcome<W: io::Write>(
 /// Prints a line for each call of a script, and what is held.
 fn print_replayed<W: io::Write>(printer: &mut Printer<'_, W>, replayed: &Replayed) -> fmt::Result
     requires { length (calls_of replayed.now.script) ≡ length replayed.now.ran.replies.items }
-    ensures ok { OnOk result (Prints W.contents printer.old printer.new (outcome_text (Ok replayed.now))) }
-    ensures front { OnErr result (PrintsFront W.contents printer.old printer.new (outcome_text (Ok replayed.now))) }
+    ensures ok { OnOk result
+        (Prints W.contents printer.old printer.new (outcome_text (Ok replayed.now))) }
+    ensures front { OnErr result
+        (PrintsFront W.contents printer.old printer.new (outcome_text (Ok replayed.now))) }
 {
     print_script(printer, &replayed.script, replayed.ran.replies.as_slice())?;
     print_held(printer, &replayed.ran.held)
@@ -297,8 +307,12 @@ fn print_script<W: io::Write>(
     replies: &[Reply],
 ) -> fmt::Result
     requires { length (calls_of script.now) ≡ length replies.now }
-    ensures ok { OnOk result (Prints W.contents printer.old printer.new (replies_text (calls_of script.now) replies.now)) }
-    ensures front { OnErr result (PrintsFront W.contents printer.old printer.new (replies_text (calls_of script.now) replies.now)) }
+    ensures ok { OnOk result
+        (Prints W.contents printer.old printer.new
+        (replies_text (calls_of script.now) replies.now)) }
+    ensures front { OnErr result
+        (PrintsFront W.contents printer.old printer.new
+        (replies_text (calls_of script.now) replies.now)) }
 {
     let mut rest = replies;
     for part in &script.earlier {
@@ -315,8 +329,10 @@ fn print_replies<W: io::Write>(
     calls: &[Call],
     replies: &[Reply],
 ) -> fmt::Result
-    ensures ok { OnOk result (Prints W.contents printer.old printer.new (replies_text calls.now replies.now)) }
-    ensures front { OnErr result (PrintsFront W.contents printer.old printer.new (replies_text calls.now replies.now)) }
+    ensures ok { OnOk result
+        (Prints W.contents printer.old printer.new (replies_text calls.now replies.now)) }
+    ensures front { OnErr result
+        (PrintsFront W.contents printer.old printer.new (replies_text calls.now replies.now)) }
 {
     for (call, reply) in calls.iter().zip(replies) {
         print_reply(printer, call, reply)?;
@@ -330,8 +346,10 @@ fn print_reply<W: io::Write>(
     call: &Call,
     reply: &Reply,
 ) -> fmt::Result
-    ensures ok { OnOk result (Prints W.contents printer.old printer.new (line (reply_text call.now reply.now))) }
-    ensures front { OnErr result (PrintsFront W.contents printer.old printer.new (line (reply_text call.now reply.now))) }
+    ensures ok { OnOk result
+        (Prints W.contents printer.old printer.new (line (reply_text call.now reply.now))) }
+    ensures front { OnErr result
+        (PrintsFront W.contents printer.old printer.new (line (reply_text call.now reply.now))) }
 {
     match reply {
         Reply::Bytes(bytes) => print_bytes(printer, bytes.as_slice()),
@@ -341,8 +359,11 @@ fn print_reply<W: io::Write>(
 
 /// The line of bytes that were read.
 fn print_bytes<W: io::Write>(printer: &mut Printer<'_, W>, bytes: &[u8]) -> fmt::Result
-    ensures ok { OnOk result (Prints W.contents printer.old printer.new (line (codes "bytes" ++ bytes_text bytes.now))) }
-    ensures front { OnErr result (PrintsFront W.contents printer.old printer.new (line (codes "bytes" ++ bytes_text bytes.now))) }
+    ensures ok { OnOk result
+        (Prints W.contents printer.old printer.new (line (codes "bytes" ++ bytes_text bytes.now))) }
+    ensures front { OnErr result
+        (PrintsFront W.contents printer.old printer.new
+        (line (codes "bytes" ++ bytes_text bytes.now))) }
 {
     printer.print("bytes")?;
     for byte in bytes {
@@ -367,8 +388,10 @@ fn print_held<W: io::Write>(printer: &mut Printer<'_, W>, held: &Held) -> fmt::R
 
 /// What each tenant of a pool holds.
 fn print_tenants<W: io::Write>(printer: &mut Printer<'_, W>, pool: &Pool) -> fmt::Result
-    ensures ok { OnOk result (Prints W.contents printer.old printer.new (tenants_text pool.now.machines)) }
-    ensures front { OnErr result (PrintsFront W.contents printer.old printer.new (tenants_text pool.now.machines)) }
+    ensures ok { OnOk result
+        (Prints W.contents printer.old printer.new (tenants_text pool.now.machines)) }
+    ensures front { OnErr result
+        (PrintsFront W.contents printer.old printer.new (tenants_text pool.now.machines)) }
 {
     for index in 0..pool.len() {
         let bytes = pool.held_bytes(index).unwrap();

@@ -29,7 +29,7 @@ pub struct Script {
     /// What its header lines say.
     pub header: Header,
     /// The parts before the last `as` line.
-    pub earlier: Vec<Part>,
+    pub earlier: Vec<TenantRun>,
     /// The tenant of the last part: 0 without an `as` line.
     pub tenant: usize,
     /// The calls of the last part, in order: all of them without an `as` line.
@@ -38,7 +38,7 @@ pub struct Script {
 
 /// The calls between two `as` lines.
 #[derive(Drop)]
-pub struct Part {
+pub struct TenantRun {
     /// Whose calls they are, from 0.
     pub tenant: usize,
     /// The call of each command, in order.
@@ -48,8 +48,8 @@ pub struct Part {
 impl Script {
     ghost use Rattle.wasmi_script.specs.Lines.{AddsLine, AddsMeter, AddsLimiter, AddsRegion, AddsCall, AddsPart, HasNoCommands};
 
-    /// Takes in one line's words. Header lines stand before all commands, at most one `meter` line, one limiter line and one
-    /// `region` line, and a line without words is skipped.
+    /// Takes in one line's words. Header lines stand before all commands, at most one `meter` line,
+    /// one limiter line and one `region` line, and a line without words is skipped.
     fn take_line(&mut self, alloc: Global, words: &[&str]) -> Result<(), LineError>
         ensures ok { OnOk result (AddsLine self.old words.now self.new) }
         ensures refused { IfErr result (λ error. error ≡ LineError.BadCommand → (new : Script)
@@ -110,7 +110,8 @@ impl Script {
     /// Header lines stand before all commands.
     fn expect_no_commands(&self) -> Result<(), LineError>
         ensures ok { OnOk result (HasNoCommands self.now) }
-        ensures err { IfErr result (λ error. (error ≡ LineError.BadCommand) × ¬ (HasNoCommands self.now)) }
+        ensures err { IfErr result
+            (λ error. (error ≡ LineError.BadCommand) × ¬ (HasNoCommands self.now)) }
     {
         if self.calls.is_empty() && self.earlier.is_empty() {
             Ok(())
@@ -127,7 +128,7 @@ impl Script {
     {
         let tenant = tenant_named(words, self.header.tenants())?;
         let calls = mem::replace(&mut self.calls, Vec::new(alloc));
-        let part = Part {
+        let part = TenantRun {
             tenant: self.tenant,
             calls,
         };
@@ -185,7 +186,9 @@ pub fn parse(alloc: Global, bytes: &[u8]) -> Result<Script, ReplayError>
     ensures script { IfOk result (WritesScript bytes.now) }
     ensures calls { IfOk result (λ script. vec_len script.calls ≤ length bytes.now + 1) }
     ensures refused { IfErr result (IsParseError bytes.now) }
-    ensures line { IfErr result (λ error. (line : ℕ) → error ≡ ReplayError.BadCommand line → (0 < line) × (line ≤ length bytes.now + 1)) }
+    ensures line { IfErr result
+        (λ error. (line : ℕ) → error ≡ ReplayError.BadCommand line
+        → (0 < line) × (line ≤ length bytes.now + 1)) }
 {
     let mut script = Script {
         header: Header::default(),

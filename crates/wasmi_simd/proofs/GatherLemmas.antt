@@ -16,7 +16,9 @@ spelled p (suc n) g = g 0 + p * spelled p n (λ i. g (suc i))
 
 spelled_same : (p n : ℕ) (g h : ℕ → ℕ) → ((i : ℕ) → i < n → g i ≡ h i) → spelled p n g ≡ spelled p n h
 spelled_same p zero g h each = refl
-spelled_same p (suc n) g h each = ap₂ (λ x y. x + p * y) (each 0 (omega arith)) (spelled_same p n (λ i. g (suc i)) (λ i. h (suc i)) (λ i lt. each (suc i) (omega arith)))
+spelled_same p (suc n) g h each =
+    ap₂ (λ x y. x + p * y) (each 0 (omega arith))
+    (spelled_same p n (λ i. g (suc i)) (λ i. h (suc i)) (λ i lt. each (suc i) (omega arith)))
 
 -- a word is its lanes, as digits
 word_spelled : (w n v : ℕ) → v < 2 ^ (n * w) → v ≡ spelled (2 ^ w) n (λ i. field (w * i) w v)
@@ -28,8 +30,10 @@ word_spelled w (suc n) v fits =
     let more : suc n * w ≡ n * w + w = suc-mul n w in
     let less : v < 2 ^ (n * w + w) = subst (λ k. v < 2 ^ k) more fits in
     let rest : spelled (2 ^ w) n (λ i. field (w * suc i) w v) ≡ v / 2 ^ w =
-    spelled_same (2 ^ w) n (λ i. field (w * suc i) w v) (λ i. field (w * i) w (v / 2 ^ w)) (λ i _. next_lane w i v) ∙ sym (word_spelled w n (v / 2 ^ w) (shr_below v (n * w) w less)) in
-    sym (ap₂ (λ a b. a + 2 ^ w * b) (first_lane w v) rest ∙ omega (arith, div-add-mod' v (2 ^ w), mul_comm (2 ^ w) (v / 2 ^ w)))
+    spelled_same (2 ^ w) n (λ i. field (w * suc i) w v) (λ i. field (w * i) w (v / 2 ^ w)) (λ i _. next_lane w i v)
+    ∙ sym (word_spelled w n (v / 2 ^ w) (shr_below v (n * w) w less)) in
+    sym (ap₂ (λ a b. a + 2 ^ w * b) (first_lane w v) rest
+    ∙ omega (arith, div-add-mod' v (2 ^ w), mul_comm (2 ^ w) (v / 2 ^ w)))
 
 -- ---- the highest bits of lanes, as digits
 
@@ -51,7 +55,8 @@ highest_bit : (h x : ℕ) → x < 2 ^ suc h → x / 2 ^ h ≡ one_if (leb (2 ^ h
 highest_bit h x fits =
     elim (cases_lt x (2 ^ h)) as (λ _. x / 2 ^ h ≡ one_if (leb (2 ^ h) x)) [
       | inl below ↦ div-eq_of_lt below ∙ sym (ap one_if (lt-leb (2 ^ h) x below))
-      | inr above ↦ one_time (x / 2 ^ h) (x % 2 ^ h) (2 ^ h) (div-add-mod' x (2 ^ h)) (mod-lt x (pow_pos h)) above (omega (arith, pow-suc 2 h)) ∙ sym (ap one_if (le-leb (2 ^ h) x above))
+      | inr above ↦ one_time (x / 2 ^ h) (x % 2 ^ h) (2 ^ h) (div-add-mod' x (2 ^ h)) (mod-lt x (pow_pos h)) above
+          (omega (arith, pow-suc 2 h)) ∙ sym (ap one_if (le-leb (2 ^ h) x above))
     ]
   where
     one_time : {x : ℕ} (q r p : ℕ) → q * p + r ≡ x → r < p → p ≤ x → x < p + p → q ≡ 1
@@ -61,7 +66,8 @@ highest_bit h x fits =
 
 highest_alone : (h x : ℕ) → x < 2 ^ suc h → bit_and x (2 ^ h) ≡ one_if (leb (2 ^ h) x) * 2 ^ h
 highest_alone h x fits =
-    and_pow x h ∙ ap (λ n. n % 2 * 2 ^ h) (highest_bit h x fits) ∙ ap (λ n. n * 2 ^ h) (mod-eq_of_lt (omega (arith, at_most_one (leb (2 ^ h) x))))
+    and_pow x h ∙ ap (λ n. n % 2 * 2 ^ h) (highest_bit h x fits)
+    ∙ ap (λ n. n * 2 ^ h) (mod-eq_of_lt (omega (arith, at_most_one (leb (2 ^ h) x))))
 
 -- those of the n lanes of h + 1 bits of v
 pub tops_spelled : (h n v tops : ℕ) → n * suc h ≡ 64 → v < 2 ^ 64 → tops ≡ number_l (2 ^ suc h) (replicate n (2 ^ h))
@@ -71,10 +77,12 @@ tops_spelled h n v tops whole fits is =
     let less : bit_and v tops < 2 ^ 64 = omega (arith, and_le_l v tops) in
     let top : 2 ^ h < 2 ^ suc h = omega (arith, pow-suc 2 h, pow_pos h) in
     word_spelled (suc h) n (bit_and v tops) (subst (λ k. bit_and v tops < 2 ^ k) all less)
-    ∙ spelled_same (2 ^ suc h) n (λ i. field (suc h * i) (suc h) (bit_and v tops)) (λ i. one_if (leb (2 ^ h) (field (suc h * i) (suc h) v)) * 2 ^ h)
+    ∙ spelled_same (2 ^ suc h) n (λ i. field (suc h * i) (suc h) (bit_and v tops))
+    (λ i. one_if (leb (2 ^ h) (field (suc h * i) (suc h) v)) * 2 ^ h)
     (λ i inside.
     field_and (suc h * i) (suc h) v tops
-    ∙ ap (bit_and (field (suc h * i) (suc h) v)) (ap (field (suc h * i) (suc h)) is ∙ repeated_lane (suc h) n i (2 ^ h) top inside)
+    ∙ ap (bit_and (field (suc h * i) (suc h) v))
+    (ap (field (suc h * i) (suc h)) is ∙ repeated_lane (suc h) n i (2 ^ h) top inside)
     ∙ highest_alone h (field (suc h * i) (suc h) v) (field_lt (suc h * i) (suc h) v))
 
 -- the highest bit of a word
@@ -87,16 +95,20 @@ one_top v fits =
 -- ---- digits of 0 or 1, brought together
 
 -- by a product, to the highest byte: those of 8 lanes
-pub gathered_8 : (d : ℕ → ℕ) → ((i : ℕ) → d i ≤ 1) → spelled (2 ^ 8) 8 (λ i. d i * 2 ^ 7) * 0x0002_0408_1020_4081 % 2 ^ 64 / 2 ^ 56 ≡ spelled 2 8 d
+pub gathered_8 : (d : ℕ → ℕ) → ((i : ℕ) → d i ≤ 1)
+    → spelled (2 ^ 8) 8 (λ i. d i * 2 ^ 7) * 0x0002_0408_1020_4081 % 2 ^ 64 / 2 ^ 56 ≡ spelled 2 8 d
 gathered_8 d small = omega (arith, small 0, small 1, small 2, small 3, small 4, small 5, small 6, small 7)
 
 -- those of 4 lanes of a low word, moved down by 4 bits, and of 4 lanes of a high word
 pub gathered_16 : (l h : ℕ → ℕ) → ((i : ℕ) → l i ≤ 1) → ((i : ℕ) → h i ≤ 1)
-    → (spelled (2 ^ 16) 4 (λ i. l i * 2 ^ 15) / 2 ^ 4 + spelled (2 ^ 16) 4 (λ i. h i * 2 ^ 15)) * 0x0000_2000_4000_8001 % 2 ^ 64 / 2 ^ 56 ≡ spelled 2 4 l + 2 ^ 4 * spelled 2 4 h
-gathered_16 l h small_l small_h = omega (arith, small_l 0, small_l 1, small_l 2, small_l 3, small_h 0, small_h 1, small_h 2, small_h 3)
+    → (spelled (2 ^ 16) 4 (λ i. l i * 2 ^ 15) / 2 ^ 4 + spelled (2 ^ 16) 4 (λ i. h i * 2 ^ 15)) * 0x0000_2000_4000_8001
+    % 2 ^ 64 / 2 ^ 56 ≡ spelled 2 4 l + 2 ^ 4 * spelled 2 4 h
+gathered_16 l h small_l small_h =
+    omega (arith, small_l 0, small_l 1, small_l 2, small_l 3, small_h 0, small_h 1, small_h 2, small_h 3)
 
 -- by a shift, to the lowest bits: those of 2 lanes of a low word and of 2 lanes of a high word
 pub gathered_32 : (l h : ℕ → ℕ) → ((i : ℕ) → l i ≤ 1) → ((i : ℕ) → h i ≤ 1) → (x : ℕ)
     → x ≡ spelled (2 ^ 32) 2 (λ i. l i * 2 ^ 31) / 2 ^ 31 + spelled (2 ^ 32) 2 (λ i. h i * 2 ^ 31) / 2 ^ 29
     → bit_and (x + x / 2 ^ 31) 0xf ≡ spelled 2 2 l + 2 ^ 2 * spelled 2 2 h
-gathered_32 l h small_l small_h x is = and_mask (x + x / 2 ^ 31) 4 ∙ omega (arith, small_l 0, small_l 1, small_h 0, small_h 1)
+gathered_32 l h small_l small_h x is =
+    and_mask (x + x / 2 ^ 31) 4 ∙ omega (arith, small_l 0, small_l 1, small_h 0, small_h 1)

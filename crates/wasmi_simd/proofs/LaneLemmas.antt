@@ -11,10 +11,10 @@ use mir.Val.{hbits}
 use mir.Syntax.{w128}
 use Rattle.wasmi_types.specs.Wrapping.{Width, w8, w16, w32, w64, bits, signed, wrap}
 use Rattle.wasmi_lanes.specs.Lane.{lane, unsigned}
-use Rattle.wasmi_lanes.proofs.Vectors.{lane_below}
+use Rattle.wasmi_lanes.proofs.LaneVectorLemmas.{lane_below}
 use Rattle.wasmi_lanes.proofs.VectorLemmas.{lane_of_from}
 use Rattle.wasmi_simd.specs.Widening.{lane_count, half_unary, half_binary, pairwise_unary, pairwise_binary, from_low_high, first_bits, lane_bits, every_lane}
-use Rattle.wasmi_simd.proofs.TruthLemmas.{bits_below, holds_of_each, each_holds}
+use Rattle.wasmi_simd.proofs.ReductionLemmas.{bits_below, holds_of_each, each_holds}
 use Rattle.wasmi_simd.proofs.WideningLemmas.{wrap_below, wrapped_is, extended_fits}
 
 -- ---- lanes made of narrower ones
@@ -26,21 +26,28 @@ module _ {A : Type 0} (narrow wide : Width) (read : ℕ → A) (i : ℕ) (inside
   lane_of_half first row v = lane_of_from wide i inside (λ k. row (read (lane narrow v (first + k))))
 
   pub lane_of_halves : (first : ℕ) (row : A → A → ℕ) (a b : ℕ)
-      → lane wide (half_binary narrow wide first read row a b) i ≡ row (read (lane narrow a (first + i))) (read (lane narrow b (first + i))) % 2 ^ bits wide
+      → lane wide (half_binary narrow wide first read row a b) i
+      ≡ row (read (lane narrow a (first + i))) (read (lane narrow b (first + i))) % 2 ^ bits wide
   unfolding half_binary
-  lane_of_halves first row a b = lane_of_from wide i inside (λ k. row (read (lane narrow a (first + k))) (read (lane narrow b (first + k))))
+  lane_of_halves first row a b =
+      lane_of_from wide i inside (λ k. row (read (lane narrow a (first + k))) (read (lane narrow b (first + k))))
 
   pub lane_of_pair : (row : A → A → ℕ) (v : ℕ)
-      → lane wide (pairwise_unary narrow wide read row v) i ≡ row (read (lane narrow v (2 * i))) (read (lane narrow v (2 * i + 1))) % 2 ^ bits wide
+      → lane wide (pairwise_unary narrow wide read row v) i
+      ≡ row (read (lane narrow v (2 * i))) (read (lane narrow v (2 * i + 1))) % 2 ^ bits wide
   unfolding pairwise_unary
-  lane_of_pair row v = lane_of_from wide i inside (λ k. row (read (lane narrow v (2 * k))) (read (lane narrow v (2 * k + 1))))
+  lane_of_pair row v =
+      lane_of_from wide i inside (λ k. row (read (lane narrow v (2 * k))) (read (lane narrow v (2 * k + 1))))
 
   pub lane_of_pairs : (row : A → A → A → A → ℕ) (a b : ℕ)
       → lane wide (pairwise_binary narrow wide read row a b) i
-      ≡ row (read (lane narrow a (2 * i))) (read (lane narrow a (2 * i + 1))) (read (lane narrow b (2 * i))) (read (lane narrow b (2 * i + 1))) % 2 ^ bits wide
+      ≡ row (read (lane narrow a (2 * i))) (read (lane narrow a (2 * i + 1))) (read (lane narrow b (2 * i)))
+      (read (lane narrow b (2 * i + 1))) % 2 ^ bits wide
   unfolding pairwise_binary
   lane_of_pairs row a b =
-      lane_of_from wide i inside (λ k. row (read (lane narrow a (2 * k))) (read (lane narrow a (2 * k + 1))) (read (lane narrow b (2 * k))) (read (lane narrow b (2 * k + 1))))
+      lane_of_from wide i inside
+      (λ k. row (read (lane narrow a (2 * k))) (read (lane narrow a (2 * k + 1))) (read (lane narrow b (2 * k)))
+      (read (lane narrow b (2 * k + 1))))
 
 -- ---- extended lanes
 
@@ -49,7 +56,9 @@ pub signed_of_wrapped : (w : Width) (z : ℤ) → FitsSigned w z → signed w (w
 signed_of_wrapped w z fits = ap (signed w) (wrapped_is w z fits) ∙ to_z-of_z w z fits
 
 wider_half : (narrow wide : Width) → bits narrow ≤ bits wide → T (leb (hbits narrow) (hbits wide))
-wider_half narrow wide wider = T_from_true (leb (hbits narrow) (hbits wide)) (le-leb (hbits narrow) (hbits wide) (omega (arith, one_less narrow, one_less wide)))
+wider_half narrow wide wider =
+    T_from_true (leb (hbits narrow) (hbits wide))
+    (le-leb (hbits narrow) (hbits wide) (omega (arith, one_less narrow, one_less wide)))
   where
     one_less : (w : Width) → bits w ≡ hbits w + 1
     one_less w8 = refl
@@ -59,13 +68,17 @@ wider_half narrow wide wider = T_from_true (leb (hbits narrow) (hbits wide)) (le
     one_less w128 = refl
 
 module _ (narrow wide : Width) (wider : bits narrow ≤ bits wide) (i : ℕ) (inside : i < lane_count wide) where
-  pub signed_of_extended : (first v : ℕ) → signed wide (lane wide (half_unary narrow wide first (signed narrow) (wrap wide) v) i) ≡ signed narrow (lane narrow v (first + i))
+  pub signed_of_extended : (first v : ℕ)
+      → signed wide (lane wide (half_unary narrow wide first (signed narrow) (wrap wide) v) i)
+      ≡ signed narrow (lane narrow v (first + i))
   signed_of_extended first v =
       let z : ℤ = signed narrow (lane narrow v (first + i)) in
-      ap (signed wide) (lane_of_half narrow wide (signed narrow) i inside first (wrap wide) v ∙ mod-eq_of_lt (wrap_below wide z))
+      ap (signed wide)
+      (lane_of_half narrow wide (signed narrow) i inside first (wrap wide) v ∙ mod-eq_of_lt (wrap_below wide z))
       ∙ signed_of_wrapped wide z (extended_fits narrow wide v (first + i) (wider_half narrow wide wider))
 
-  pub lane_of_extended : (first v : ℕ) → lane wide (half_unary narrow wide first unsigned (λ x. x) v) i ≡ lane narrow v (first + i)
+  pub lane_of_extended : (first v : ℕ)
+      → lane wide (half_unary narrow wide first unsigned (λ x. x) v) i ≡ lane narrow v (first + i)
   lane_of_extended first v =
       let more : 2 ^ bits narrow ≤ 2 ^ bits wide = pow_mono wider in
       let below : lane narrow v (first + i) < 2 ^ bits narrow = lane_below narrow v (first + i) in
@@ -76,22 +89,31 @@ module _ (narrow wide : Width) (wider : bits narrow ≤ bits wide) (i : ℕ) (in
 module _ {A : Type 0} (wide narrow : Width) (read : ℕ → A) (row : A → ℕ) (low high i : ℕ) where
   -- the row of a lane of either operand, wrapped
   chosen : ℕ → Bool → ℕ
-  chosen k t = (if t then row (read (lane wide low k)) else row (read (lane wide high (k - lane_count wide)))) % 2 ^ bits narrow
+  chosen k t = (if t then row (read (lane wide low k)) else row (read (lane wide high (k - lane_count wide)))) % 2 ^
+      bits narrow
 
-  lane_chosen : (k : ℕ) → k < lane_count narrow → lane narrow (from_low_high wide narrow read row low high) k ≡ chosen k (nat_lt k (lane_count wide))
+  lane_chosen : (k : ℕ) → k < lane_count narrow
+      → lane narrow (from_low_high wide narrow read row low high) k ≡ chosen k (nat_lt k (lane_count wide))
   unfolding from_low_high chosen
-  lane_chosen k inside = lane_of_from narrow k inside (λ j. if nat_lt j (lane_count wide) then row (read (lane wide low j)) else row (read (lane wide high (j - lane_count wide))))
+  lane_chosen k inside =
+      lane_of_from narrow k inside
+      (λ j. if nat_lt j (lane_count wide) then row (read (lane wide low j)) else row
+      (read (lane wide high (j - lane_count wide))))
 
-  pub lane_of_low : i < lane_count wide → i < lane_count narrow → lane narrow (from_low_high wide narrow read row low high) i ≡ row (read (lane wide low i)) % 2 ^ bits narrow
+  pub lane_of_low : i < lane_count wide → i < lane_count narrow
+      → lane narrow (from_low_high wide narrow read row low high) i ≡ row (read (lane wide low i)) % 2 ^ bits narrow
   unfolding chosen
   lane_of_low first inside = lane_chosen i inside ∙ ap (chosen i) (lt-ltb i (lane_count wide) first)
 
-  pub lane_of_high : lane_count wide + i < lane_count narrow → lane narrow (from_low_high wide narrow read row low high) (lane_count wide + i) ≡ row (read (lane wide high i)) % 2 ^ bits narrow
+  pub lane_of_high : lane_count wide + i < lane_count narrow
+      → lane narrow (from_low_high wide narrow read row low high) (lane_count wide + i)
+      ≡ row (read (lane wide high i)) % 2 ^ bits narrow
   unfolding chosen
   lane_of_high inside =
       let n : ℕ = lane_count wide in
       let back : n + i - n ≡ i = omega arith in
-      lane_chosen (n + i) inside ∙ ap (chosen (n + i)) (le-ltb (n + i) n (omega arith)) ∙ ap (λ k. row (read (lane wide high k)) % 2 ^ bits narrow) back
+      lane_chosen (n + i) inside ∙ ap (chosen (n + i)) (le-ltb (n + i) n (omega arith))
+      ∙ ap (λ k. row (read (lane wide high k)) % 2 ^ bits narrow) back
 
 -- ---- bits of tests
 
@@ -114,7 +136,8 @@ bit_of_first (suc n) test (suc i) inside =
     bit_at-suc (low + 2 * rest) i ∙ ap (λ k. bit_at k i) half ∙ bit_of_first n (λ i. test (suc i)) i (omega arith)
 
 module _ {A : Type 0} (w : Width) (read : ℕ → A) (test : A → Bool) (v : ℕ) where
-  pub bit_of_lane : (i : ℕ) → i < lane_count w → bit_at (lane_bits w read test v) i ≡ (if test (read (lane w v i)) then 1 else 0)
+  pub bit_of_lane : (i : ℕ) → i < lane_count w
+      → bit_at (lane_bits w read test v) i ≡ (if test (read (lane w v i)) then 1 else 0)
   unfolding lane_bits
   bit_of_lane i inside = bit_of_first (lane_count w) (λ k. test (read (lane w v k))) i inside
 

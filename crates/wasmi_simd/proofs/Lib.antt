@@ -1,7 +1,7 @@
 pub mod WideningLemmas
 mod GatherLemmas
-mod Halves
+mod HalfLemmas
 mod LaneLemmas
-mod Neighbours
+mod EvenOddLemmas
 mod ShiftLemmas
-mod TruthLemmas
+mod ReductionLemmas

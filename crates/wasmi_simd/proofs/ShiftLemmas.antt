@@ -14,7 +14,7 @@ use Rattle.wasmi_types.specs.Wrapping.{Width, w8, bits, signed, wrap}
 use Rattle.wasmi_lanes.specs.Lane.{lane}
 use Rattle.wasmi_raw.specs.Vector.{vector_of}
 use Rattle.wasmi_lanes.specs.Words.{field, lanes_in_word, in_each_lane}
-use Rattle.wasmi_lanes.proofs.Digits.{number_below}
+use Rattle.wasmi_lanes.proofs.DigitLemmas.{number_below}
 use Rattle.wasmi_lanes.proofs.FieldLemmas.{field_and, field_mod, first_lane, repeated_lane}
 use Rattle.wasmi_lanes.proofs.WordVectorLemmas.{EachLane, lane_of_each}
 
@@ -24,8 +24,11 @@ field_mul : (k w u c : ℕ) → (u % 2 ^ k) * c < 2 ^ k → field k w (u * c) �
 unfolding field
 field_mul k w u c low =
     let p : ℕ = 2 ^ k in
-    let parts : u * c ≡ (u / p * c) * p + u % p * c = ap (λ n. n * c) (sym (div-add-mod' u p)) ∙ add-mul (u / p * p) (u % p) c ∙ ap (λ n. n + u % p * c) (mul_right_comm (u / p) p c) in
-    ap (λ n. n / p % 2 ^ w) parts ∙ ap (λ n. n % 2 ^ w) (div-mul-add (u / p * c) p (u % p * c) low) ∙ sym (mul-mod_first (u / p) c (2 ^ w))
+    let parts : u * c ≡ (u / p * c) * p + u % p * c =
+    ap (λ n. n * c) (sym (div-add-mod' u p)) ∙ add-mul (u / p * p) (u % p) c
+    ∙ ap (λ n. n + u % p * c) (mul_right_comm (u / p) p c) in
+    ap (λ n. n / p % 2 ^ w) parts ∙ ap (λ n. n % 2 ^ w) (div-mul-add (u / p * c) p (u % p * c) low)
+    ∙ sym (mul-mod_first (u / p) c (2 ^ w))
 
 -- the bits below lane i, times c
 scaled_low : (w c u i : ℕ) → ((j : ℕ) → j < i → field (w * j) w u * c < 2 ^ w) → (u % 2 ^ (w * i)) * c < 2 ^ (w * i)
@@ -37,15 +40,19 @@ scaled_low w c u (suc i) each =
     let q : ℕ = 2 ^ (w * i) in
     let x : ℕ = u / q % 2 ^ w in
     let place : w * suc i ≡ w + w * i = omega (arith, mul-suc w i) in
-    let parts : (u % 2 ^ (w + w * i)) * c ≡ (x * c) * q + u % q * c = ap (λ n. n * c) (mod-pow-add u w (w * i)) ∙ add-mul (x * q) (u % q) c ∙ ap (λ n. n + u % q * c) (mul_right_comm x q c) in
+    let parts : (u % 2 ^ (w + w * i)) * c ≡ (x * c) * q + u % q * c =
+    ap (λ n. n * c) (mod-pow-add u w (w * i)) ∙ add-mul (x * q) (u % q) c
+    ∙ ap (λ n. n + u % q * c) (mul_right_comm x q c) in
     let low : u % q * c < q = scaled_low w c u i (λ j lt. each j (omega arith)) in
     let here : x * c < 2 ^ w = each i (omega arith) in
     let rows : (x * c + 1) * q ≤ 2 ^ w * q = mul-le (x * c + 1) q (2 ^ w) q (omega arith) (le_refl q) in
-    let fits : (u % 2 ^ (w + w * i)) * c < 2 ^ (w + w * i) = omega (arith, parts, pow-add 2 w (w * i), add-mul (x * c) 1 q, one-mul q) in
+    let fits : (u % 2 ^ (w + w * i)) * c < 2 ^ (w + w * i) =
+    omega (arith, parts, pow-add 2 w (w * i), add-mul (x * c) 1 q, one-mul q) in
     subst (λ k. (u % 2 ^ k) * c < 2 ^ k) (sym place) fits
 
 -- a product that keeps each lane within its width
-pub lane_scaled : (w n c u : ℕ) → ((j : ℕ) → j < n → field (w * j) w u * c < 2 ^ w) → (i : ℕ) → i < n → field (w * i) w (u * c) ≡ field (w * i) w u * c
+pub lane_scaled : (w n c u : ℕ) → ((j : ℕ) → j < n → field (w * j) w u * c < 2 ^ w) → (i : ℕ) → i < n
+    → field (w * i) w (u * c) ≡ field (w * i) w u * c
 lane_scaled w n c u each i lt =
     field_mul (w * i) w u c (scaled_low w c u i (λ j below. each j (omega arith))) ∙ mod-eq_of_lt (each i lt)
 
@@ -55,59 +62,76 @@ shl_cut : (w s r x : ℕ) → r + s ≡ w → (x % 2 ^ r) * 2 ^ s ≡ (x * 2 ^ s
 shl_cut w s r x e =
     let m : ℕ = x % 2 ^ r in
     let whole : 2 ^ r * 2 ^ s ≡ 2 ^ w = sym (pow-add 2 r s) ∙ ap (λ n. 2 ^ n) e in
-    let parts : x * 2 ^ s ≡ x / 2 ^ r * 2 ^ w + m * 2 ^ s = ap (λ n. n * 2 ^ s) (sym (div-add-mod' x (2 ^ r))) ∙ add-mul (x / 2 ^ r * 2 ^ r) m (2 ^ s) ∙ ap (λ n. n + m * 2 ^ s) (mul_assoc (x / 2 ^ r) (2 ^ r) (2 ^ s) ∙ ap (λ n. x / 2 ^ r * n) whole) in
+    let parts : x * 2 ^ s ≡ x / 2 ^ r * 2 ^ w + m * 2 ^ s =
+    ap (λ n. n * 2 ^ s) (sym (div-add-mod' x (2 ^ r))) ∙ add-mul (x / 2 ^ r * 2 ^ r) m (2 ^ s)
+    ∙ ap (λ n. n + m * 2 ^ s) (mul_assoc (x / 2 ^ r) (2 ^ r) (2 ^ s) ∙ ap (λ n. x / 2 ^ r * n) whole) in
     let small : m * 2 ^ s < 2 ^ w = subst (λ n. m * 2 ^ s < 2 ^ n) e (shl_below m r s (mod-lt x (pow_pos r))) in
     sym (ap (λ n. n % 2 ^ w) parts ∙ mod-mul-add (x / 2 ^ r) (2 ^ w) (m * 2 ^ s) small)
 
-pub lane_shl : (w n s r v mask : ℕ) → n * w ≤ 64 → r + s ≡ w → ((j : ℕ) → j < n → field (w * j) w mask ≡ 2 ^ r - 1) → (i : ℕ) → i < n →
+pub lane_shl : (w n s r v mask : ℕ) → n * w ≤ 64 → r + s ≡ w → ((j : ℕ) → j < n → field (w * j) w mask ≡ 2 ^ r - 1)
+    → (i : ℕ) → i < n →
     field (w * i) w ((bit_and v mask * 2 ^ s) % 2 ^ 64) ≡ (field (w * i) w v * 2 ^ s) % 2 ^ w
 lane_shl w n s r v mask whole e is i lt =
-    let within : w * i + w ≤ 64 = omega (arith, mul-le (suc i) w n w (omega arith) (le_refl w), suc-mul i w, mul_comm i w) in
+    let within : w * i + w ≤ 64 =
+    omega (arith, mul-le (suc i) w n w (omega arith) (le_refl w), suc-mul i w, mul_comm i w) in
     let kept : (j : ℕ) → j < n → field (w * j) w (bit_and v mask) ≡ field (w * j) w v % 2 ^ r =
-    λ j below. field_and (w * j) w v mask ∙ ap (bit_and (field (w * j) w v)) (is j below) ∙ and_mask (field (w * j) w v) r in
+    λ j below. field_and (w * j) w v mask ∙ ap (bit_and (field (w * j) w v)) (is j below)
+    ∙ and_mask (field (w * j) w v) r in
     let small : (j : ℕ) → j < n → field (w * j) w (bit_and v mask) * 2 ^ s < 2 ^ w =
-    λ j below. subst (λ n. n < 2 ^ w) (sym (ap (λ n. n * 2 ^ s) (kept j below) ∙ shl_cut w s r (field (w * j) w v) e)) (mod-lt (field (w * j) w v * 2 ^ s) (pow_pos w)) in
+    λ j below. subst (λ n. n < 2 ^ w) (sym (ap (λ n. n * 2 ^ s) (kept j below) ∙ shl_cut w s r (field (w * j) w v) e))
+    (mod-lt (field (w * j) w v * 2 ^ s) (pow_pos w)) in
     field_mod (w * i) w 64 (bit_and v mask * 2 ^ s) within ∙ lane_scaled w n (2 ^ s) (bit_and v mask) small i lt
     ∙ ap (λ n. n * 2 ^ s) (kept i lt) ∙ shl_cut w s r (field (w * i) w v) e
 
 -- ---- a table of vectors, entry d with the low bits of each lane, all but its d highest ones
 
-abbrev pub low_bits : Width → ℕ → ℕ
-low_bits w d = in_each_lane w (2 ^ (bits w - d) - 1)
+abbrev pub shift_masks : Width → ℕ → ℕ
+shift_masks w d = in_each_lane w (2 ^ (bits w - d) - 1)
 
 abbrev pub masks : Width → List ℕ
-masks w = map (λ d. vector_of (low_bits w d) (low_bits w d)) (range_with_len 0 (bits w))
+masks w = map (λ d. vector_of (shift_masks w d) (shift_masks w d)) (range_with_len 0 (bits w))
 
 module _ (w : Width) (d : ℕ) (less : d < bits w) where
   low_bits_fit : 2 ^ (bits w - d) - 1 < 2 ^ bits w
   low_bits_fit = omega (arith, pow_mono {i = bits w - d} {j = bits w} (omega arith), pow_pos (bits w - d))
 
-  pub masked_lane : EachLane w (λ k. field k (bits w) (low_bits w d) ≡ 2 ^ (bits w - d) - 1)
-  masked_lane = lane_of_each w (2 ^ (bits w - d) - 1) (low_bits w d) low_bits_fit refl
+  pub masked_lane : EachLane w (λ k. field k (bits w) (shift_masks w d) ≡ 2 ^ (bits w - d) - 1)
+  masked_lane = lane_of_each w (2 ^ (bits w - d) - 1) (shift_masks w d) low_bits_fit refl
 
-  word_below : lanes_in_word w * bits w ≡ 64 → low_bits w d < 2 ^ 64
+  word_below : lanes_in_word w * bits w ≡ 64 → shift_masks w d < 2 ^ 64
   word_below whole =
       let lanes : List ℕ = replicate (lanes_in_word w) (2 ^ (bits w - d) - 1) in
-      let long : length lanes * bits w ≡ 64 = ap (λ n. n * bits w) (length-replicate (lanes_in_word w) (2 ^ (bits w - d) - 1)) ∙ whole in
-      subst (λ n. low_bits w d < 2 ^ n) long (number_below (bits w) lanes (Each1-replicate (λ x. x < 2 ^ bits w) (lanes_in_word w) (2 ^ (bits w - d) - 1) low_bits_fit))
+      let long : length lanes * bits w ≡ 64 =
+      ap (λ n. n * bits w) (length-replicate (lanes_in_word w) (2 ^ (bits w - d) - 1)) ∙ whole in
+      subst (λ n. shift_masks w d < 2 ^ n) long
+      (number_below (bits w) lanes
+      (Each1-replicate (λ x. x < 2 ^ bits w) (lanes_in_word w) (2 ^ (bits w - d) - 1) low_bits_fit))
 
   -- the two words of entry d
-  pub mask_at : (table : List ℕ) (v : ℕ) → table ≡ masks w → v ≡ get_or table d 0 → lanes_in_word w * bits w ≡ 64 → (v % 2 ^ 64 ∷ v / 2 ^ 64 ∷ []) ≡ replicate 2 (low_bits w d)
+  pub mask_at : (table : List ℕ) (v : ℕ) → table ≡ masks w → v ≡ get_or table d 0 → lanes_in_word w * bits w ≡ 64
+      → (v % 2 ^ 64 ∷ v / 2 ^ 64 ∷ []) ≡ replicate 2 (shift_masks w d)
   mask_at table v is at whole =
-      let k : ℕ = low_bits w d in
+      let k : ℕ = shift_masks w d in
       let fits : k < 2 ^ 64 = word_below whole in
-      let entry : v ≡ k * 2 ^ 64 + k = at ∙ ap (λ l. get_or l d 0) is ∙ get_or-map-range_with_len (λ i. vector_of (low_bits w i) (low_bits w i)) 0 (bits w) d d 0 less (omega arith) in
-      ap₂ (λ x y. x ∷ y ∷ []) (ap (λ n. n % 2 ^ 64) entry ∙ mod-mul-add k (2 ^ 64) k fits) (ap (λ n. n / 2 ^ 64) entry ∙ div-mul-add k (2 ^ 64) k fits)
+      let entry : v ≡ k * 2 ^ 64 + k =
+      at ∙ ap (λ l. get_or l d 0) is
+      ∙ get_or-map-range_with_len (λ i. vector_of (shift_masks w i) (shift_masks w i)) 0 (bits w) d d 0 less
+      (omega arith) in
+      ap₂ (λ x y. x ∷ y ∷ []) (ap (λ n. n % 2 ^ 64) entry ∙ mod-mul-add k (2 ^ 64) k fits)
+      (ap (λ n. n / 2 ^ 64) entry ∙ div-mul-add k (2 ^ 64) k fits)
 
 -- a word is one lane of 64 bits
-pub lane_of_word : (f : ℕ → ℕ) (x y : ℕ) → x < 2 ^ 64 → y < 2 ^ 64 → y ≡ f x → (i : ℕ) → i < 1 → field (64 * i) 64 y ≡ f (field (64 * i) 64 x)
-lane_of_word f x y fits_x fits_y is zero inside = first_lane 64 y ∙ mod-eq_of_lt fits_y ∙ is ∙ ap f (sym (first_lane 64 x ∙ mod-eq_of_lt fits_x))
+pub lane_of_word : (f : ℕ → ℕ) (x y : ℕ) → x < 2 ^ 64 → y < 2 ^ 64 → y ≡ f x → (i : ℕ) → i < 1
+    → field (64 * i) 64 y ≡ f (field (64 * i) 64 x)
+lane_of_word f x y fits_x fits_y is zero inside =
+    first_lane 64 y ∙ mod-eq_of_lt fits_y ∙ is ∙ ap f (sym (first_lane 64 x ∙ mod-eq_of_lt fits_x))
 lane_of_word f x y fits_x fits_y is (suc i) inside = absurd (omega arith)
 
 -- ---- shifts with the sign
 
 -- a number of 8 bits, moved by half of its range before a shift without sign, and back after it
-pub moved_and_back : (x s : ℕ) → x < 2 ^ 8 → s < 8 → ((x + 2 ^ 7) % 2 ^ 8 / 2 ^ s % 2 ^ 8 + (2 ^ 8 - 2 ^ (7 - s))) % 2 ^ 8 ≡ wrap w8 (int_shr (signed w8 x) s)
+pub moved_and_back : (x s : ℕ) → x < 2 ^ 8 → s < 8
+    → ((x + 2 ^ 7) % 2 ^ 8 / 2 ^ s % 2 ^ 8 + (2 ^ 8 - 2 ^ (7 - s))) % 2 ^ 8 ≡ wrap w8 (int_shr (signed w8 x) s)
 moved_and_back x s fits less =
     let p : ℕ = 2 ^ s in
     let q : ℕ = 2 ^ (7 - s) in
@@ -115,10 +139,13 @@ moved_and_back x s fits less =
     let half : q * p ≡ 128 = sym (pow-add 2 (7 - s) s) ∙ ap (λ n. 2 ^ n) sum in
     let some : 0 < p = pow_pos s in
     let small : q ≤ 128 = omega (arith, pow_mono {i = 7 - s} {j = 7} (omega arith)) in
-    elim (cases_lt x (2 ^ 7)) as (λ _. ((x + 2 ^ 7) % 2 ^ 8 / p % 2 ^ 8 + (2 ^ 8 - q)) % 2 ^ 8 ≡ wrap w8 (int_shr (signed w8 x) s)) [
+    elim (cases_lt x (2 ^ 7)) as
+    (λ _. ((x + 2 ^ 7) % 2 ^ 8 / p % 2 ^ 8 + (2 ^ 8 - q)) % 2 ^ 8 ≡ wrap w8 (int_shr (signed w8 x) s)) [
       | inl below ↦
-          let up : (x + 2 ^ 7) % 2 ^ 8 ≡ (q + x / p) * p + x % p = omega (arith, half, add-mul q (x / p) p, div-add-mod' x p) in
-          let quotient : (x + 2 ^ 7) % 2 ^ 8 / p ≡ q + x / p = ap (λ n. n / p) up ∙ div-mul-add (q + x / p) p (x % p) (mod-lt x some) in
+          let up : (x + 2 ^ 7) % 2 ^ 8 ≡ (q + x / p) * p + x % p =
+          omega (arith, half, add-mul q (x / p) p, div-add-mod' x p) in
+          let quotient : (x + 2 ^ 7) % 2 ^ 8 / p ≡ q + x / p =
+          ap (λ n. n / p) up ∙ div-mul-add (q + x / p) p (x % p) (mod-lt x some) in
           let least : x / p ≤ x = shr_le x s in
           ap (λ n. (n % 2 ^ 8 + (2 ^ 8 - q)) % 2 ^ 8) quotient ∙ omega arith
           ∙ sym (ap (λ t. wrap w8 (int_shr (sel t (pos x) (negsuc (2 ^ 8 - suc x))) s)) (lt-ltb x (2 ^ 7) below))
@@ -127,17 +154,30 @@ moved_and_back x s fits less =
           let least : y / p ≤ y = shr_le y s in
           let fewer : y / p < q = shr_below y (7 - s) s (subst (λ n. y < 2 ^ n) (sym sum) (omega arith)) in
           let rest : y % p < p = mod-lt y some in
-          let rows : (q - 1 - y / p) * p + y / p * p + p ≡ q * p = omega (arith, add-mul (q - 1 - y / p) (y / p) p, add-mul (q - 1 - y / p + y / p) 1 p, one-mul p, ap (λ n. n * p) (let e : q - 1 - y / p + y / p + 1 ≡ q = omega arith in e)) in
-          let down : (x + 2 ^ 7) % 2 ^ 8 ≡ (q - 1 - y / p) * p + (p - 1 - y % p) = omega (arith, half, div-add-mod' y p) in
-          let quotient : (x + 2 ^ 7) % 2 ^ 8 / p ≡ q - 1 - y / p = ap (λ n. n / p) down ∙ div-mul-add (q - 1 - y / p) p (p - 1 - y % p) (omega arith) in
+          let rows : (q - 1 - y / p) * p + y / p * p + p ≡ q * p =
+          omega (
+            arith,
+            add-mul (q - 1 - y / p) (y / p) p,
+            add-mul (q - 1 - y / p + y / p) 1 p,
+            one-mul p,
+            ap (λ n. n * p) (let e : q - 1 - y / p + y / p + 1 ≡ q = omega arith in e),
+          ) in
+          let down : (x + 2 ^ 7) % 2 ^ 8 ≡ (q - 1 - y / p) * p + (p - 1 - y % p) =
+          omega (arith, half, div-add-mod' y p) in
+          let quotient : (x + 2 ^ 7) % 2 ^ 8 / p ≡ q - 1 - y / p =
+          ap (λ n. n / p) down ∙ div-mul-add (q - 1 - y / p) p (p - 1 - y % p) (omega arith) in
           ap (λ n. (n % 2 ^ 8 + (2 ^ 8 - q)) % 2 ^ 8) quotient ∙ omega arith
           ∙ sym (ap (λ t. wrap w8 (int_shr (sel t (pos x) (negsuc (2 ^ 8 - suc x))) s)) (le-ltb x (2 ^ 7) above))
     ]
 
 -- a table of vectors, entry d with half of the range of 8 bits in each lane, shifted to the right by d
-pub half_at : (table : List ℕ) (v d : ℕ) → table ≡ map (λ k. number_l (2 ^ 8) (replicate 16 (2 ^ (7 - k)))) (range_with_len 0 8) → v ≡ get_or table d 0 → d < 8 → (i : ℕ) → i < 16 → lane w8 v i ≡ 2 ^ (7 - d)
+pub half_at : (table : List ℕ) (v d : ℕ)
+    → table ≡ map (λ k. number_l (2 ^ 8) (replicate 16 (2 ^ (7 - k)))) (range_with_len 0 8) → v ≡ get_or table d 0
+    → d < 8 → (i : ℕ) → i < 16 → lane w8 v i ≡ 2 ^ (7 - d)
 unfolding field
 half_at table v d is at less i inside =
     let entry : v ≡ number_l (2 ^ 8) (replicate 16 (2 ^ (7 - d))) =
-    at ∙ ap (λ l. get_or l d 0) is ∙ get_or-map-range_with_len (λ k. number_l (2 ^ 8) (replicate 16 (2 ^ (7 - k)))) 0 8 d d 0 less (omega arith) in
-    ap (λ n. lane w8 n i) entry ∙ repeated_lane 8 16 i (2 ^ (7 - d)) (omega (arith, pow_mono {i = 7 - d} {j = 7} (omega arith))) inside
+    at ∙ ap (λ l. get_or l d 0) is
+    ∙ get_or-map-range_with_len (λ k. number_l (2 ^ 8) (replicate 16 (2 ^ (7 - k)))) 0 8 d d 0 less (omega arith) in
+    ap (λ n. lane w8 n i) entry
+    ∙ repeated_lane 8 16 i (2 ^ (7 - d)) (omega (arith, pow_mono {i = 7 - d} {j = 7} (omega arith))) inside

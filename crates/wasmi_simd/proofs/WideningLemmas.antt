@@ -11,12 +11,13 @@ use Rattle.std.proofs.lemmas.Bool.{cases_lt, lt-ltb, le-ltb}
 use Rattle.wasmi_types.specs.Wrapping.{Width, bits, wrap, signed}
 use Rattle.wasmi_lanes.specs.Lane.{lane, signed_fits}
 use Rattle.wasmi_lanes.specs.Vector.{with_lane}
-use Rattle.wasmi_lanes.proofs.Vectors.{lane_below, lanes_make_vector}
+use Rattle.wasmi_lanes.proofs.LaneVectorLemmas.{lane_below, lanes_make_vector}
 use lib.Dec.{T}
 use mir.Val.{hbits}
 
 -- numbers that are `low` below n and `high` from n on
-pub by_halves : (n i : ℕ) (f low high : ℕ → ℕ) → ((k : ℕ) → k < n → f k ≡ low k) → ((k : ℕ) → k < n → f (n + k) ≡ high k) → i < 2 * n
+pub by_halves : (n i : ℕ) (f low high : ℕ → ℕ) → ((k : ℕ) → k < n → f k ≡ low k)
+    → ((k : ℕ) → k < n → f (n + k) ≡ high k) → i < 2 * n
     → f i ≡ (if nat_lt i n then low i else high (i - n))
 by_halves n i f low high is_low is_high inside =
     elim (cases_lt i n) as (λ _. f i ≡ (if nat_lt i n then low i else high (i - n))) [
@@ -44,29 +45,39 @@ pub wrapped_is : (w : Width) (z : ℤ) → FitsSigned w z → wrap w z ≡ cast_
 wrapped_is w z fits = sym (bits_of_wrapped w z) ∙ ap (cast_unsigned w) (int_wrap_fits w z fits)
 
 -- the bits of signed numbers, added or multiplied modulo 2 ^ w
-pub sum_of_bits : (w : Width) (x y : ℤ) → FitsSigned w x → FitsSigned w y → (cast_unsigned w x + cast_unsigned w y) % 2 ^ bits w ≡ wrap w (x +ℤ y)
+pub sum_of_bits : (w : Width) (x y : ℤ) → FitsSigned w x → FitsSigned w y
+    → (cast_unsigned w x + cast_unsigned w y) % 2 ^ bits w ≡ wrap w (x +ℤ y)
 sum_of_bits w x y fits_x fits_y =
-    sym (of_z-to_z w _ (mod-lt _ (pow_pos (bits w)))) ∙ ap (cast_unsigned w) (wrapping_add_is w x y fits_x fits_y) ∙ bits_of_wrapped w (x +ℤ y)
+    sym (of_z-to_z w _ (mod-lt _ (pow_pos (bits w)))) ∙ ap (cast_unsigned w) (wrapping_add_is w x y fits_x fits_y)
+    ∙ bits_of_wrapped w (x +ℤ y)
 
-pub product_of_bits : (w : Width) (x y : ℤ) → FitsSigned w x → FitsSigned w y → cast_unsigned w x * cast_unsigned w y % 2 ^ bits w ≡ wrap w (x *ℤ y)
+pub product_of_bits : (w : Width) (x y : ℤ) → FitsSigned w x → FitsSigned w y
+    → cast_unsigned w x * cast_unsigned w y % 2 ^ bits w ≡ wrap w (x *ℤ y)
 product_of_bits w x y fits_x fits_y =
-    sym (of_z-to_z w _ (mod-lt _ (pow_pos (bits w)))) ∙ ap (cast_unsigned w) (wrapping_mul_is w x y fits_x fits_y) ∙ bits_of_wrapped w (x *ℤ y)
+    sym (of_z-to_z w _ (mod-lt _ (pow_pos (bits w)))) ∙ ap (cast_unsigned w) (wrapping_mul_is w x y fits_x fits_y)
+    ∙ bits_of_wrapped w (x *ℤ y)
 
 -- the products of the bits of signed numbers, added modulo 2 ^ w
-pub dot_of_bits : (w : Width) (x x' y y' : ℤ) → FitsSigned w x → FitsSigned w x' → FitsSigned w y → FitsSigned w y' → FitsSigned w (x *ℤ y) → FitsSigned w (x' *ℤ y')
-    → (cast_unsigned w x * cast_unsigned w y % 2 ^ bits w + cast_unsigned w x' * cast_unsigned w y' % 2 ^ bits w) % 2 ^ bits w ≡ wrap w ((x *ℤ y) +ℤ (x' *ℤ y'))
+pub dot_of_bits : (w : Width) (x x' y y' : ℤ) → FitsSigned w x → FitsSigned w x' → FitsSigned w y → FitsSigned w y'
+    → FitsSigned w (x *ℤ y) → FitsSigned w (x' *ℤ y')
+    → (cast_unsigned w x * cast_unsigned w y % 2 ^ bits w + cast_unsigned w x' * cast_unsigned w y' % 2 ^ bits w) % 2 ^
+    bits w ≡ wrap w ((x *ℤ y) +ℤ (x' *ℤ y'))
 dot_of_bits w x x' y y' fits_x fits_x' fits_y fits_y' fits fits' =
-    ap₂ (λ p q. (p + q) % 2 ^ bits w) (product_of_bits w x y fits_x fits_y ∙ wrapped_is w (x *ℤ y) fits) (product_of_bits w x' y' fits_x' fits_y' ∙ wrapped_is w (x' *ℤ y') fits')
+    ap₂ (λ p q. (p + q) % 2 ^ bits w) (product_of_bits w x y fits_x fits_y ∙ wrapped_is w (x *ℤ y) fits)
+    (product_of_bits w x' y' fits_x' fits_y' ∙ wrapped_is w (x' *ℤ y') fits')
     ∙ sum_of_bits w (x *ℤ y) (x' *ℤ y') fits fits'
 
 -- a lane that is read signed is in the range of a wider signed type too
-pub extended_fits : (narrow wide : Width) (v i : ℕ) → T (leb (hbits narrow) (hbits wide)) → FitsSigned wide (signed narrow (lane narrow v i))
+pub extended_fits : (narrow wide : Width) (v i : ℕ) → T (leb (hbits narrow) (hbits wide))
+    → FitsSigned wide (signed narrow (lane narrow v i))
 extended_fits narrow wide v i wider = sfits_widen wider (signed_fits narrow (lane narrow v i) (lane_below narrow v i))
 
 -- and so is a product of two of them
-pub product_fits : (narrow wide : Width) (a i b j : ℕ) → 2 ^ hbits narrow * 2 ^ hbits narrow < 2 ^ hbits wide → FitsSigned wide (signed narrow (lane narrow a i) *ℤ signed narrow (lane narrow b j))
+pub product_fits : (narrow wide : Width) (a i b j : ℕ) → 2 ^ hbits narrow * 2 ^ hbits narrow < 2 ^ hbits wide
+    → FitsSigned wide (signed narrow (lane narrow a i) *ℤ signed narrow (lane narrow b j))
 product_fits narrow wide a i b j room =
-    fits_signed_mul wide (signed narrow (lane narrow a i)) (signed narrow (lane narrow b j)) (2 ^ hbits narrow) (2 ^ hbits narrow) (abs_at_most _ (in_range a i)) (abs_at_most _ (in_range b j)) room
+    fits_signed_mul wide (signed narrow (lane narrow a i)) (signed narrow (lane narrow b j)) (2 ^ hbits narrow)
+    (2 ^ hbits narrow) (abs_at_most _ (in_range a i)) (abs_at_most _ (in_range b j)) room
   where
     in_range : (v k : ℕ) → FitsSigned narrow (signed narrow (lane narrow v k))
     in_range v k = signed_fits narrow (lane narrow v k) (lane_below narrow v k)
@@ -76,12 +87,15 @@ product_fits narrow wide a i b j room =
     abs_at_most (negsuc n) fits = let below = fits.sfits in omega arith
 
 -- a number of w bits is a vector that has it in lane 0, and 0 in the others
-pub low_zero_is : (w : Width) (n number : ℕ) → n * bits w ≡ 128 → number < 2 ^ bits w → number < 2 ^ 128 → number ≡ with_lane w 0 0 number
+pub low_zero_is : (w : Width) (n number : ℕ) → n * bits w ≡ 128 → number < 2 ^ bits w → number < 2 ^ 128
+    → number ≡ with_lane w 0 0 number
 unfolding with_lane
 low_zero_is w n number filled below small = lanes_make_vector w n number _ filled small (λ i _. lane_is i)
   where
     lane_is : (i : ℕ) → lane w number i ≡ (if i == 0 then number else lane w 0 i)
-    lane_is zero = ap (λ k. number / 2 ^ k % 2 ^ bits w) (mul-zero (bits w)) ∙ ap (λ m. m % 2 ^ bits w) (div-one number) ∙ mod-eq_of_lt below
+    lane_is zero =
+        ap (λ k. number / 2 ^ k % 2 ^ bits w) (mul-zero (bits w)) ∙ ap (λ m. m % 2 ^ bits w) (div-one number)
+        ∙ mod-eq_of_lt below
     lane_is (suc i) =
         let wider : bits w ≤ bits w * suc i = omega (arith, mul-suc (bits w) i) in
         let above : 2 ^ bits w ≤ 2 ^ (bits w * suc i) = pow_mono wider in

@@ -1,6 +1,6 @@
--- Vectors made of lanes of another width, and what the lanes of one vector make together, in the terms of the WebAssembly
--- core specification (section "Numerics", "Vector Operations"). `read` is how an operand's lane is read, as it is or
--- signed, and `row` is the number of the resulting lane.
+-- Vectors made of lanes of another width, and what the lanes of one vector make together, in the terms of the
+-- WebAssembly core specification (section "Numerics", "Vector Operations"). `read` is how an operand's lane is read, as
+-- it is or signed, and `row` is the number of the resulting lane.
 use Rattle.std.specs.Prelude.{ℕ, zero, suc, ◌+◌, ◌-◌, ◌*◌, ◌/◌, Bool, true, ◌&&◌, nat_lt, if◌then◌else◌}
 use Rattle.wasmi_types.specs.Wrapping.{Width, bits}
 use Rattle.wasmi_lanes.specs.Lane.{lane}
@@ -10,7 +10,8 @@ use Rattle.wasmi_lanes.specs.Vector.{from_lanes}
 abbrev pub lane_count : Width → ℕ
 lane_count w = 128 / bits w
 
--- lane i is the row of the narrow lanes first + i: 0 is the first one of the lower half, `lane_count wide` that of the upper
+-- lane i is the row of the narrow lanes first + i: 0 is the first one of the lower half, `lane_count wide` that of the
+-- upper
 unfoldable pub half_unary : {A : Type 0} → (narrow wide : Width) → ℕ → (ℕ → A) → (A → ℕ) → ℕ → ℕ
 half_unary narrow wide first read row v = from_lanes wide (λ i. row (read (lane narrow v (first + i))))
 
@@ -31,7 +32,9 @@ pairwise_binary narrow wide read row a b =
 -- the rows of the wide lanes of `low`, then those of `high`
 unfoldable pub from_low_high : {A : Type 0} → (wide narrow : Width) → (ℕ → A) → (A → ℕ) → ℕ → ℕ → ℕ
 from_low_high wide narrow read row low high =
-    from_lanes narrow (λ i. if nat_lt i (lane_count wide) then row (read (lane wide low i)) else row (read (lane wide high (i - lane_count wide))))
+    from_lanes narrow
+    (λ i. if nat_lt i (lane_count wide) then row (read (lane wide low i)) else row
+    (read (lane wide high (i - lane_count wide))))
 
 -- whether the test holds of each number below n
 unfoldable pub holds_below : ℕ → (ℕ → Bool) → Bool

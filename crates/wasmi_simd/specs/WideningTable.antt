@@ -1,7 +1,7 @@
--- The vector instructions of the WebAssembly core specification (section "Numerics", "Vector Operations") that change the
--- width of lanes, shift lanes or test them, and the relaxed ones with the choice made here: what each gives, over whole
--- numbers. A vector is a number below 2 ^ 128, and each lane's number is read as it is (`unsigned`) or as a signed number
--- (`signed w`). A lane is computed without bounds, then wrapped or clamped.
+-- The vector instructions of the WebAssembly core specification (section "Numerics", "Vector Operations") that change
+-- the width of lanes, shift lanes or test them, and the relaxed ones with the choice made here: what each gives, over
+-- whole numbers. A vector is a number below 2 ^ 128, and each lane's number is read as it is (`unsigned`) or as a
+-- signed number (`signed w`). A lane is computed without bounds, then wrapped or clamped.
 use Rattle.std.specs.Prelude.{ℕ, ◌+◌, ◌-◌, ◌*◌, ◌/◌, ◌%◌, ◌^◌, Bool, not, nat_eq, nat_le, ◌+ℤ◌, ◌*ℤ◌}
 use Rattle.std.specs.Int.{int_shr}
 use Rattle.wasmi_types.specs.Wrapping.{Width, w8, w16, w32, bits, signed, wrap, clamp_signed, clamp_unsigned}

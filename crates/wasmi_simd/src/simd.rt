@@ -5,16 +5,16 @@
 //! specification: vector instructions; what each gives stands in `specs/WideningTable.antt`.
 //! Upstream: `wasmi_core::simd`.
 
+mod even_odd;
 mod extend;
 mod extmul;
 mod halves;
-mod low_bits;
 mod narrow;
-mod neighbours;
 mod pairwise;
+mod reductions;
 mod relaxed;
 mod shift;
-mod truth;
+mod shift_masks;
 mod vectors;
 
 pub use extend::{
@@ -38,6 +38,10 @@ pub use pairwise::{
     i16x8_extadd_pairwise_i8x16_s, i16x8_extadd_pairwise_i8x16_u, i16x8_relaxed_dot_i8x16_i7x16_s,
     i32x4_dot_i16x8_s, i32x4_extadd_pairwise_i16x8_s, i32x4_extadd_pairwise_i16x8_u,
 };
+pub use reductions::{
+    i8x16_all_true, i8x16_bitmask, i16x8_all_true, i16x8_bitmask, i32x4_all_true, i32x4_bitmask,
+    i64x2_all_true, i64x2_bitmask, v128_any_true,
+};
 pub use relaxed::{
     i8x16_relaxed_laneselect, i8x16_relaxed_swizzle, i16x8_relaxed_laneselect,
     i16x8_relaxed_q15mulr_s, i32x4_relaxed_dot_i8x16_i7x16_add_s, i32x4_relaxed_laneselect,
@@ -46,8 +50,4 @@ pub use relaxed::{
 pub use shift::{
     i8x16_shl, i8x16_shr_s, i8x16_shr_u, i16x8_shl, i16x8_shr_s, i16x8_shr_u, i32x4_shl,
     i32x4_shr_s, i32x4_shr_u, i64x2_shl, i64x2_shr_s, i64x2_shr_u,
-};
-pub use truth::{
-    i8x16_all_true, i8x16_bitmask, i16x8_all_true, i16x8_bitmask, i32x4_all_true, i32x4_bitmask,
-    i64x2_all_true, i64x2_bitmask, v128_any_true,
 };

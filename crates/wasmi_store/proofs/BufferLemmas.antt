@@ -3,7 +3,7 @@ use Rattle.std.proofs.Common.{◌≡◌, ℕ, ◌+◌, ◌-◌, ◌≤◌, List,
 use Rattle.std.proofs.lemmas.Bool.Decides.{nat_tests}
 use Rattle.std.proofs.lemmas.List.{take_all, take_at, drop_at, drop-drop, take-append-le, take-append-drop, length-append, length-replicate, length-take-le, length-drop}
 use Rattle.wasmi_store.specs.Buffer as buffer
-use Rattle.wasmi_store.specs.Buffer.{BufferValue, with_zeros, has_place_for}
+use Rattle.wasmi_store.specs.Buffer.{BufferValue, with_zeros, fits_room}
 use Rattle.wasmi_store.specs.Front.{refilled_front}
 use Rattle.wasmi_store.specs.Storage.{view_of, EndsWithin}
 use Rattle.wasmi_store.specs.declared.memory.buffer.Storage.TheVariants.{Owned, Lent}
@@ -34,21 +34,28 @@ module _ {Region : Type 0} (bytes : Region → List ℕ) (len n : ℕ) where
       let short : length v.items ≤ n = rw (sym whole) le in
       let added : w.items ≡ padded v.items (n - length v.items) = rw (grown, count, take_all n v.items short) refl in
       let full : length w.items ≡ n = rw added (length-padded v.items (n - length v.items) ∙ omega arith) in
-      let same : padded v.items (n - length v.items) ≡ padded (take len v.items) (n - length (take len v.items)) = rw whole refl in
+      let same : padded v.items (n - length v.items) ≡ padded (take len v.items) (n - length (take len v.items)) =
+      rw whole refl in
       ap (λ (l : List ℕ). record { bytes = l; room = buffer.Owned }) (take_all n w.items (omega arith) ∙ added ∙ same)
 
-  pub lent_grows : (region region' : Region) → EndsWithin bytes (Lent region) len → length (take len (bytes region)) ≤ n → has_place_for (view_of bytes (Lent region) len).room (n - length (take len (bytes region))) ≡ true
-      → (ws : List ℕ) → ws ≡ padded (take len (take n (bytes region))) (length (take n (bytes region)) - len) → bytes region' ≡ refilled_front (bytes region) n ws
-      → view_of bytes (Lent region') n ≡ with_zeros (view_of bytes (Lent region) len) (n - length (take len (bytes region)))
+  pub lent_grows : (region region' : Region) → EndsWithin bytes (Lent region) len → length (take len (bytes region)) ≤ n
+      → fits_room (view_of bytes (Lent region) len).room (n - length (take len (bytes region))) ≡ true
+      → (ws : List ℕ) → ws ≡ padded (take len (take n (bytes region))) (length (take n (bytes region)) - len)
+      → bytes region' ≡ refilled_front (bytes region) n ws
+      → view_of bytes (Lent region') n
+      ≡ with_zeros (view_of bytes (Lent region) len) (n - length (take len (bytes region)))
   lent_grows region region' ends le room ws zeros after =
       let xs : List ℕ = bytes region in
       let used : length (take len xs) ≡ len = length-take-le len xs ends in
       let left : length (drop len xs) ≡ length xs - len = length-drop len xs in
       let within : n ≤ length xs = grind (arith, nat_tests) in
       let front : length (take n xs) ≡ n = length-take-le n xs within in
-      let kept : take len (take n xs) ≡ take len xs = sym (take-append-le len (take n xs) (drop n xs) (omega arith)) ∙ ap (take len) (take-append-drop n xs) in
+      let kept : take len (take n xs) ≡ take len xs =
+      sym (take-append-le len (take n xs) (drop n xs) (omega arith)) ∙ ap (take len) (take-append-drop n xs) in
       let zeroed : ws ≡ padded (take len xs) (n - length (take len xs)) = rw (zeros, kept, front, used) refl in
-      let long : length ws ≡ n = ap length zeroed ∙ length-padded (take len xs) (n - length (take len xs)) ∙ omega arith in
+      let long : length ws ≡ n =
+      ap length zeroed ∙ length-padded (take len xs) (n - length (take len xs)) ∙ omega arith in
       let written : bytes region' ≡ ws ++ drop n xs = after ∙ front_written xs ws n within long in
-      let rest : drop (n - length (take len xs)) (drop len xs) ≡ drop n xs = drop-drop (n - length (take len xs)) len xs ∙ ap (λ (k : ℕ). drop k xs) (omega arith) in
+      let rest : drop (n - length (take len xs)) (drop len xs) ≡ drop n xs =
+      drop-drop (n - length (take len xs)) len xs ∙ ap (λ (k : ℕ). drop k xs) (omega arith) in
       rw (written, take_at ws (drop n xs) n long, drop_at ws (drop n xs) n long, rest, zeroed) refl

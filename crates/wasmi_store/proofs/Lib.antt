@@ -1,5 +1,5 @@
 mod BufferLemmas
-pub mod Fronts
+pub mod FrontLemmas
 pub mod GrowthLemmas
 pub mod MemoryLemmas
 pub mod TableLemmas

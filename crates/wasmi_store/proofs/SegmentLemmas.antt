@@ -1,14 +1,16 @@
 -- An element segment in the midst of being read.
 use Rattle.std.proofs.Common.{◌≡◌, ℕ, ◌<◌, List, [], ◌∷◌, ◌++◌, length, sym, subst, ap, ◌∙◌, arith, length-append}
 use Rattle.std.specs.Prelude.{Option, Some}
-use Rattle.wasmi_types.proofs.SoFar.{SoFar, SoFar-next, Yields-snoc}
+use Rattle.wasmi_types.proofs.SoFarLemmas.{SoFar, SoFar-next, Yields-snoc}
 use Rattle.wasmi_store.specs.Segment.{most_items, IsOutOfMemory}
 
-module _ {I : Type 0} {steps : I → Option ℕ → I → Type 0} {can : I → Type 0} {s t u : I} (xs : List ℕ) (e : SoFar steps can s [] (length xs) t xs) (x : ℕ) (next : steps t (Some x) u) where
+module _ {I : Type 0} {steps : I → Option ℕ → I → Type 0} {can : I → Type 0} {s t u : I} (xs : List ℕ)
+    (e : SoFar steps can s [] (length xs) t xs) (x : ℕ) (next : steps t (Some x) u) where
   -- one more item was appended
   pub read_next : (ys : List ℕ) → ys ≡ xs ++ x ∷ [] → can u → SoFar steps can s [] (length ys) u ys
   read_next ys appended callable =
-      subst (λ n. SoFar steps can s [] n u ys) (sym (ap length appended ∙ length-append xs (x ∷ []))) (SoFar-next e x next appended callable)
+      subst (λ n. SoFar steps can s [] n u ys) (sym (ap length appended ∙ length-append xs (x ∷ [])))
+      (SoFar-next e x next appended callable)
 
   -- memory was refused for one more item
   pub read_refused : length xs < most_items → IsOutOfMemory steps s u

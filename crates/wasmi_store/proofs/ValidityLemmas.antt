@@ -8,7 +8,7 @@ use Rattle.std.specs.Option.{option_map_or, ForSome}
 use Rattle.wasmi_meter.specs.Limiter.{Rules}
 use Rattle.wasmi_meter.specs.declared.error.MemoryError.{MemoryError}
 use Rattle.wasmi_meter.specs.declared.error.TableError.{TableError}
-use Rattle.wasmi_meter.specs.Attempt.{Situation, Effort, Fate, Unasked, Denied, Met, Failed, MayEnd, value_after}
+use Rattle.wasmi_meter.specs.Attempt.{MeteredValue, Request, AttemptOutcome, Unasked, Denied, Met, Failed, MayEnd, value_after}
 use Rattle.wasmi_typed.specs.declared.typed_ref.TypedRawRef.{TypedRawRef}
 use Rattle.wasmi_store.specs.Buffer.{Room}
 use Rattle.wasmi_store.specs.Growth.{Growth, Makes, Grows}
@@ -25,42 +25,51 @@ use Rattle.wasmi_store.specs.Table as table
 use Rattle.wasmi_store.proofs.GrowthLemmas.{on_test}
 
 -- what is made is made by an attempt that was met
-made_met : {T E S : Type 0} (rules : Rules S) (e : Effort (Unit {0}) E) (made x : T) (l l' : S) → Makes rules e made l (Ok x) l' → (x ≡ made) × (e.early ≡ None) × (e.late ≡ None)
+made_met : {T E S : Type 0} (rules : Rules S) (e : Request (Unit {0}) E) (made x : T) (l l' : S)
+    → Makes rules e made l (Ok x) l' → (x ≡ made) × (e.early ≡ None) × (e.late ≡ None)
 made_met rules e made x l l' (Unasked cause, attempt, answered) = cc
 made_met rules e made x l l' (Denied answer, attempt, answered) = cc
-made_met rules e made x l l' (Met, attempt, answered) = let is : x ≡ made = cc in (is, attempt.may_end.0, attempt.may_end.1)
-made_met rules e made x l l' (Failed cause heed, attempt, answered) = cc
+made_met rules e made x l l' (Met, attempt, answered) = let is : x ≡ made =
+    cc in (is, attempt.may_end.0, attempt.may_end.1)
+made_met rules e made x l l' (Failed cause notice_answer, attempt, answered) = cc
 
-module _ {V E S : Type 0} (rules : Rules S) (g : Growth V E) (Valid : V → Type 0) (s s' : Situation V S) (valid : Valid s.value) (grown : g.effort.early ≡ None → g.effort.late ≡ None → Valid g.effort.grown) where
+module _ {V E S : Type 0} (rules : Rules S) (g : Growth V E) (Valid : V → Type 0) (s s' : MeteredValue V S)
+    (valid : Valid s.value) (grown : g.request.early ≡ None → g.request.late ≡ None → Valid g.request.grown) where
   -- the value after an attempt
-  after_valid : (m : _) (fate : Fate E) → MayEnd g.effort m fate → Valid (value_after g.effort s.value fate)
+  after_valid : (m : _) (outcome : AttemptOutcome E) → MayEnd g.request m outcome
+      → Valid (value_after g.request s.value outcome)
   after_valid m (Unasked cause) may = valid
   after_valid m (Denied answer) may = valid
   after_valid m Met may = grown may.0 may.1
-  after_valid m (Failed cause heed) may = valid
+  after_valid m (Failed cause notice_answer) may = valid
 
   -- the value after a growth
   grown_valid : (result : Result ℕ E) (charge : ℕ) → Grows rules g s result charge s' → Valid s'.value
-  grown_valid result charge (inl none) = subst (λ (t : Situation V S). Valid t.value) (sym none.same) valid
-  grown_valid result charge (inr some) = subst Valid (sym some.attempt.value) (after_valid s.meter some.fate some.attempt.may_end)
+  grown_valid result charge (inl none) = subst (λ (t : MeteredValue V S). Valid t.value) (sym none.same) valid
+  grown_valid result charge (inr some) =
+      subst Valid (sym some.attempt.value) (after_valid s.meter some.outcome some.attempt.may_end)
 
 -- a cause that is absent, where it is there only if a test fails
-passed : {E : Type 0} (test : Bool) (cause : E) → (let none : Option E = None in if test then none else Some cause) ≡ None → test ≡ true
+passed : {E : Type 0} (test : Bool) (cause : E)
+    → (let none : Option E = None in if test then none else Some cause) ≡ None → test ≡ true
 passed true cause absent = refl
 passed false cause absent = absurd (none-some cause (sym absent))
 
 -- bytes that are whole pages, and the number of them
-pages_multiplied : (page : PageSize) (n : ℕ) → ((n * page_bytes page) % page_bytes page ≡ 0) × ((n * page_bytes page) / page_bytes page ≡ n)
+pages_multiplied : (page : PageSize) (n : ℕ)
+    → ((n * page_bytes page) % page_bytes page ≡ 0) × ((n * page_bytes page) / page_bytes page ≡ n)
 pages_multiplied Byte n = (omega arith, omega arith)
 pages_multiplied Wasm n = (omega arith, omega arith)
 
 pages_added : (page : PageSize) (size n : ℕ) → size % page_bytes page ≡ 0
-    → ((size + n * page_bytes page) % page_bytes page ≡ 0) × ((size + n * page_bytes page) / page_bytes page ≡ size / page_bytes page + n)
+    → ((size + n * page_bytes page) % page_bytes page ≡ 0)
+    × ((size + n * page_bytes page) / page_bytes page ≡ size / page_bytes page + n)
 pages_added Byte size n whole = (omega arith, omega arith)
 pages_added Wasm size n whole = (omega arith, omega arith)
 
 -- a minimum lies within its maximum, if there is one
-maximum_holds : (n : ℕ) (maximum : Option ℕ) → ForSome maximum (λ m. n ≤ m) → option_map_or (λ m. nat_le n m) maximum true ≡ true
+maximum_holds : (n : ℕ) (maximum : Option ℕ) → ForSome maximum (λ m. n ≤ m)
+    → option_map_or (λ m. nat_le n m) maximum true ≡ true
 maximum_holds n None within = refl
 maximum_holds n (Some m) within = let h = within m refl in grind (arith, nat_tests)
 
@@ -68,13 +77,16 @@ all_three : (a b c : Bool) → a ≡ true → b ≡ true → c ≡ true → a &&
 all_three a b c p q r = rw (p, q, r) refl
 
 -- the minimum of a valid memory type is in its bounds
-minimum_in_bounds : (ty : MemoryTypeValue) → memory_type.IsValid ty → nat_lt (minimum_bytes ty) (2 ^ 64) ≡ true → in_bounds ty ty.minimum ≡ true
+minimum_in_bounds : (ty : MemoryTypeValue) → memory_type.IsValid ty → nat_lt (minimum_bytes ty) (2 ^ 64) ≡ true
+    → in_bounds ty ty.minimum ≡ true
 minimum_in_bounds ty valid below =
     let h = valid.minimum in
-    all_three _ _ _ (grind (arith, nat_tests)) (maximum_holds ty.minimum ty.maximum (λ m is. (valid.maximum m is).0)) below
+    all_three _ _ _ (grind (arith, nat_tests))
+    (maximum_holds ty.minimum ty.maximum (λ m is. (valid.maximum m is).0)) below
 
 -- a memory that is made of a valid type
-pub made_memory_is_valid : {S : Type 0} (rules : Rules S) (room : Room) (ty : MemoryTypeValue) (l : S) (x : MemoryValue) (l' : S) → memory_type.IsValid ty → MakesMemory rules room ty l (Ok x) l' → IsValidMemory x
+pub made_memory_is_valid : {S : Type 0} (rules : Rules S) (room : Room) (ty : MemoryTypeValue) (l : S) (x : MemoryValue)
+    (l' : S) → memory_type.IsValid ty → MakesMemory rules room ty l (Ok x) l' → IsValidMemory x
 made_memory_is_valid rules room ty l x l' valid makes =
     let met = made_met rules (memory.creation_of room ty) (new_memory room ty) x l l' makes in
     let pages = pages_multiplied ty.page ty.minimum in
@@ -89,13 +101,17 @@ made_memory_is_valid rules room ty l x l' valid makes =
     })
 
 -- a growth of a valid memory
-pub grown_memory_is_valid : {S : Type 0} (rules : Rules S) (pages : ℕ) (s : Situation MemoryValue S) (result : Result ℕ MemoryError) (charge : ℕ) (s' : Situation MemoryValue S) → IsValidMemory s.value → GrowsMemory rules pages s result charge s' → IsValidMemory s'.value
+pub grown_memory_is_valid : {S : Type 0} (rules : Rules S) (pages : ℕ) (s : MeteredValue MemoryValue S)
+    (result : Result ℕ MemoryError) (charge : ℕ) (s' : MeteredValue MemoryValue S) → IsValidMemory s.value
+    → GrowsMemory rules pages s result charge s' → IsValidMemory s'.value
 grown_memory_is_valid rules pages s result charge s' valid grows =
     let x = s.value in
     let added = pages_added x.ty.page (length x.bytes) pages valid.sized.whole in
     let n = pages * page_bytes x.ty.page in
-    let size : length (with_zeros x n).bytes ≡ length x.bytes + n = length-append x.bytes (replicate n 0) ∙ ap (λ k. length x.bytes + k) (length-replicate {A = ℕ} n 0) in
-    grown_valid rules (record { amount = pages; size = pages_of x; effort = memory.growth_of x pages }) IsValidMemory s s' valid
+    let size : length (with_zeros x n).bytes ≡ length x.bytes + n =
+    length-append x.bytes (replicate n 0) ∙ ap (λ k. length x.bytes + k) (length-replicate {A = ℕ} n 0) in
+    grown_valid rules
+    (record { amount = pages; size = pages_of x; request = memory.growth_of x pages }) IsValidMemory s s' valid
     (λ early late. record {
       type = valid.type;
       sized = rw size (record {
@@ -106,7 +122,8 @@ grown_memory_is_valid rules pages s result charge s' valid grows =
     }) result charge grows
 
 -- a table that is made of a valid type
-pub made_table_is_valid : {S : Type 0} (rules : Rules S) (ty : TableTypeValue) (init : TypedRawRef) (l : S) (x : TableValue) (l' : S) → table_type.IsValid ty → MakesTable rules ty init l (Ok x) l' → IsValidTable x
+pub made_table_is_valid : {S : Type 0} (rules : Rules S) (ty : TableTypeValue) (init : TypedRawRef) (l : S)
+    (x : TableValue) (l' : S) → table_type.IsValid ty → MakesTable rules ty init l (Ok x) l' → IsValidTable x
 made_table_is_valid rules ty init l x l' valid makes =
     let met = made_met rules (table.creation_of ty init.ty) (new_table ty init.raw) x l l' makes in
     let least = valid.minimum in
@@ -120,12 +137,16 @@ made_table_is_valid rules ty init l x l' valid makes =
     })
 
 -- a growth of a valid table
-pub grown_table_is_valid : {S : Type 0} (rules : Rules S) (n : ℕ) (init : TypedRawRef) (s : Situation TableValue S) (result : Result ℕ TableError) (charge : ℕ) (s' : Situation TableValue S) → IsValidTable s.value → GrowsTable rules n init s result charge s' → IsValidTable s'.value
+pub grown_table_is_valid : {S : Type 0} (rules : Rules S) (n : ℕ) (init : TypedRawRef) (s : MeteredValue TableValue S)
+    (result : Result ℕ TableError) (charge : ℕ) (s' : MeteredValue TableValue S) → IsValidTable s.value
+    → GrowsTable rules n init s result charge s' → IsValidTable s'.value
 grown_table_is_valid rules n init s result charge s' valid grows =
     let x = s.value in
-    let size : length (with_more x n init.raw).elements ≡ size_of x + n = length-append x.elements (replicate n init.raw) ∙ ap (λ k. size_of x + k) (length-replicate n init.raw) in
+    let size : length (with_more x n init.raw).elements ≡ size_of x + n =
+    length-append x.elements (replicate n init.raw) ∙ ap (λ k. size_of x + k) (length-replicate n init.raw) in
     on_test (same_type x.ty.element init.ty) _ _ grows
-    (λ raw. grown_valid rules (record { amount = n; size = size_of x; effort = table.growth_of x n init.raw }) IsValidTable s s' valid
+    (λ raw. grown_valid rules
+    (record { amount = n; size = size_of x; request = table.growth_of x n init.raw }) IsValidTable s s' valid
     (λ early late. record {
       type = valid.type;
       sized = rw size (record {
@@ -134,4 +155,4 @@ grown_table_is_valid rules n init s result charge s' valid grows =
         within = passed _ _ late;
       });
     }) result charge raw)
-    (λ refused. subst (λ (t : Situation TableValue _). IsValidTable t.value) (sym refused.2) valid)
+    (λ refused. subst (λ (t : MeteredValue TableValue _). IsValidTable t.value) (sym refused.2) valid)

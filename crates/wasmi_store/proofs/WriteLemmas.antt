@@ -9,29 +9,33 @@ use Rattle.wasmi_types.specs.Access.{overwrite}
 use Rattle.wasmi_meter.specs.declared.error.TableError.TheVariants.{ElementTypeMismatch, OutOfFuel}
 use Rattle.wasmi_meter.specs.Meter.{Meter, Charges}
 use Rattle.wasmi_meter.proofs.AttemptLemmas.{meter_after_nothing}
-use Rattle.wasmi_store.specs.Table.{TableValue, TableWrite, copied, due_for, WritesTable}
+use Rattle.wasmi_store.specs.Table.{TableValue, TableWrite, copied, write_due, WritesTable}
 use Rattle.wasmi_store.proofs.GrowthLemmas.{payable, unpayable}
 
 module _ (w : TableWrite) (x : TableValue) (m : Meter) where
-  pub writes_mismatched : w.typed ≡ false → (charge : ℕ) × WritesTable w x (Some m) (Err ElementTypeMismatch) charge x (Some m)
+  pub writes_mismatched : w.typed ≡ false
+      → (charge : ℕ) × WritesTable w x (Some m) (Err ElementTypeMismatch) charge x (Some m)
   writes_mismatched other = (0, record { ends = rw other (refl, refl, refl); meter = meter_after_nothing (Some m) })
 
   module _ (same : w.typed ≡ true) where
     pub writes_outside : w.written ≡ None → (charge : ℕ) × WritesTable w x (Some m) (Err w.outside) charge x (Some m)
-    writes_outside none = (0, record { ends = rw (same, none) (refl, refl, refl); meter = meter_after_nothing (Some m) })
+    writes_outside none =
+        (0, record { ends = rw (same, none) (refl, refl, refl); meter = meter_after_nothing (Some m) })
 
     module _ (elements : List ℕ) (within : w.written ≡ Some elements) (m' : Meter) where
-      pub writes_unpaid : (required : ℕ) → Charges m (due_for w x (Some m)) (Err required) m' → (charge : ℕ) × WritesTable w x (Some m) (Err (OutOfFuel required)) charge x (Some m')
+      pub writes_unpaid : (required : ℕ) → Charges m (write_due w x (Some m)) (Err required) m'
+          → (charge : ℕ) × WritesTable w x (Some m) (Err (OutOfFuel required)) charge x (Some m')
       writes_unpaid required short =
           rw (short.1, short.2) (
             0,
             record {
-              ends = rw (same, within, unpayable m (due_for w x (Some m)) short.0) (refl, refl, refl);
+              ends = rw (same, within, unpayable m (write_due w x (Some m)) short.0) (refl, refl, refl);
               meter = meter_after_nothing (Some m);
             },
           )
 
-      pub writes_free : w.paid ≡ None → m' ≡ m → (x' : TableValue) → x' ≡ record x { elements = elements } → (charge : ℕ) × WritesTable w x (Some m) (Ok tt) charge x' (Some m')
+      pub writes_free : w.paid ≡ None → m' ≡ m → (x' : TableValue) → x' ≡ record x { elements = elements }
+          → (charge : ℕ) × WritesTable w x (Some m) (Ok tt) charge x' (Some m')
       writes_free free kept x' written =
           rw (kept, written) (
             0,
@@ -41,12 +45,13 @@ module _ (w : TableWrite) (x : TableValue) (m : Meter) where
             },
           )
 
-      pub writes_met : Charges m (due_for w x (Some m)) (Ok tt) m' → (x' : TableValue) → x' ≡ record x { elements = elements } → (charge : ℕ) × WritesTable w x (Some m) (Ok tt) charge x' (Some m')
+      pub writes_met : Charges m (write_due w x (Some m)) (Ok tt) m' → (x' : TableValue)
+          → x' ≡ record x { elements = elements } → (charge : ℕ) × WritesTable w x (Some m) (Ok tt) charge x' (Some m')
       writes_met enough x' written =
           rw (enough.1, written) (
-            due_for w x (Some m),
+            write_due w x (Some m),
             record {
-              ends = rw (same, within, payable m (due_for w x (Some m)) enough.0) (refl, refl, refl);
+              ends = rw (same, within, payable m (write_due w x (Some m)) enough.0) (refl, refl, refl);
               meter = refl;
             },
           )
@@ -56,29 +61,38 @@ pub overwritten_item : (xs : List ℕ) (i x : ℕ) → i < length xs → overwri
 overwritten_item xs i x within =
     let fits : nat_le (i + 1) (length xs) ≡ true = grind (arith, nat_tests) in
     let next : i + 1 ≡ suc i = omega arith in
-    rw fits (ap Some (append_assoc (take i xs) (x ∷ []) (drop (i + 1) xs) ∙ ap (λ (k : ℕ). take i xs ++ x ∷ drop k xs) next ∙ sym (set_split xs i x within)))
+    rw fits (ap Some
+    (append_assoc (take i xs) (x ∷ []) (drop (i + 1) xs) ∙ ap (λ (k : ℕ). take i xs ++ x ∷ drop k xs) next
+    ∙ sym (set_split xs i x within)))
 
 -- a number that isn't 0
 pub nonzero : (n k : ℕ) → n ≡ k → (n ≡ 0 → ⊥) → nat_eq k 0 ≡ false
 nonzero n k e some = grind (arith, nat_tests)
 
 -- a part of a list has as many items as it was asked for
-part_length : (source : List ℕ) (src len : ℕ) → nat_le (src + len) (length source) ≡ true → length (take len (drop src source)) ≡ len
+part_length : (source : List ℕ) (src len : ℕ) → nat_le (src + len) (length source) ≡ true
+    → length (take len (drop src source)) ≡ len
 part_length source src len within =
     let fits : src + len ≤ length source = grind (arith, nat_tests) in
     length-take-le len (drop src source) (omega (arith, length-drop src source))
 
 -- a copy whose source ends too early, one that ends past the table, and one within both
-pub copied_past_source : (xs : List ℕ) (dst : ℕ) (source : List ℕ) (src len : ℕ) → nat_le (src + len) (length source) ≡ false → copied xs dst source src len ≡ None
+pub copied_past_source : (xs : List ℕ) (dst : ℕ) (source : List ℕ) (src len : ℕ)
+    → nat_le (src + len) (length source) ≡ false → copied xs dst source src len ≡ None
 copied_past_source xs dst source src len short = rw short refl
 
-pub copied_past_end : (xs : List ℕ) (dst : ℕ) (source : List ℕ) (src len : ℕ) → nat_le (src + len) (length source) ≡ true → nat_le (dst + len) (length xs) ≡ false → copied xs dst source src len ≡ None
+pub copied_past_end : (xs : List ℕ) (dst : ℕ) (source : List ℕ) (src len : ℕ)
+    → nat_le (src + len) (length source) ≡ true → nat_le (dst + len) (length xs) ≡ false
+    → copied xs dst source src len ≡ None
 copied_past_end xs dst source src len within short = rw (within, part_length source src len within, short) refl
 
-pub copied_part : (xs : List ℕ) (dst : ℕ) (source : List ℕ) (src len : ℕ) → nat_le (src + len) (length source) ≡ true → nat_le (dst + len) (length xs) ≡ true
+pub copied_part : (xs : List ℕ) (dst : ℕ) (source : List ℕ) (src len : ℕ) → nat_le (src + len) (length source) ≡ true
+    → nat_le (dst + len) (length xs) ≡ true
     → copied xs dst source src len ≡ Some (take dst xs ++ take len (drop src source) ++ drop (dst + len) xs)
 copied_part xs dst source src len within fits = rw (within, part_length source src len within, fits) refl
 
 -- a copy of no item
-pub copied_nothing : (xs : List ℕ) (dst : ℕ) (source : List ℕ) (src : ℕ) → nat_le (src + 0) (length source) ≡ true → nat_le (dst + 0) (length xs) ≡ true → copied xs dst source src 0 ≡ Some xs
-copied_nothing xs dst source src within fits = copied_part xs dst source src 0 within fits ∙ ap Some (sym (paste-zero xs dst (drop src source)))
+pub copied_nothing : (xs : List ℕ) (dst : ℕ) (source : List ℕ) (src : ℕ) → nat_le (src + 0) (length source) ≡ true
+    → nat_le (dst + 0) (length xs) ≡ true → copied xs dst source src 0 ≡ Some xs
+copied_nothing xs dst source src within fits =
+    copied_part xs dst source src 0 within fits ∙ ap Some (sym (paste-zero xs dst (drop src source)))

@@ -19,9 +19,9 @@ abbrev pub with_bytes : BufferValue → List ℕ → BufferValue
 with_bytes b ws = record { bytes = refill (length b.bytes) b.bytes ws; room = b.room }
 
 -- whether a room has place for n more bytes: what is left of a lent region may be too short
-abbrev pub has_place_for : Room → ℕ → Bool
-has_place_for Owned n = true
-has_place_for (Lent rest) n = nat_le n (length rest)
+abbrev pub fits_room : Room → ℕ → Bool
+fits_room Owned n = true
+fits_room (Lent rest) n = nat_le n (length rest)
 
 -- why bytes that a room has place for could not be had: memory of one's own may be wanting, a lent region takes none
 abbrev pub LacksMemory : Room → MemoryError → Type 0
@@ -30,7 +30,7 @@ LacksMemory (Lent rest) error = ⊥
 
 -- why n more bytes could not be had: a lent region is too short, or memory is wanting
 abbrev pub CanFail : Room → ℕ → MemoryError → Type 0
-CanFail room n error = MatchBool (has_place_for room n) (LacksMemory room error) (error ≡ InvalidStaticBufferSize)
+CanFail room n error = MatchBool (fits_room room n) (LacksMemory room error) (error ≡ InvalidStaticBufferSize)
 
 -- the room once n bytes of it are used
 abbrev pub room_after : Room → ℕ → Room

@@ -1,32 +1,36 @@
 -- Making and growing a memory or a table, as an attempt with its answer.
 use Rattle.std.specs.Prelude.{◌≡◌, ◌<◌, ◌⊎◌, ℕ, Result, Ok}
 use Rattle.wasmi_meter.specs.Limiter.{Rules}
-use Rattle.wasmi_meter.specs.Attempt.{Situation, alone, Effort, Fate, Attempt, answer_of}
+use Rattle.wasmi_meter.specs.Attempt.{MeteredValue, alone, Request, AttemptOutcome, Attempt, answer_of}
 
 -- an attempt to make a value, which is answered where the attempt is met; no fuel is charged
-abbrev pub Makes : {T E S : Type 0} → Rules S → Effort (Unit {0}) E → T → S → Result T E → S → Type 0
-Makes {E = E} rules e made l result l' = (fate : Fate E) × Attempt rules e (alone l) fate 0 (alone l') × (result ≡ answer_of e made fate)
+abbrev pub Makes : {T E S : Type 0} → Rules S → Request (Unit {0}) E → T → S → Result T E → S → Type 0
+Makes {E = E} rules e made l result l' =
+    (outcome : AttemptOutcome E) × Attempt rules e (alone l) outcome 0 (alone l') × (result ≡ answer_of e made outcome)
 
 -- a growth: by how much, the size before it, and what is asked and paid for it
 pub record Growth (V E : Type 0) : Type 1 where
   pub amount : ℕ
   pub size : ℕ
-  pub effort : Effort V E
+  pub request : Request V E
 
 -- a growth by 0 answers the size, and nothing is touched
-pub record GrowsByNone {V E S : Type 0} (g : Growth V E) (s : Situation V S) (result : Result ℕ E) (charge : ℕ) (s' : Situation V S) : Type 0 where
+pub record GrowsByNone {V E S : Type 0} (g : Growth V E) (s : MeteredValue V S) (result : Result ℕ E) (charge : ℕ)
+    (s' : MeteredValue V S) : Type 0 where
   pub none : g.amount ≡ 0
   pub answered : result ≡ Ok g.size
   pub uncharged : charge ≡ 0
   pub same : s' ≡ s
 
 -- a growth by 1 or more is an attempt, and answers the old size where it is met
-pub record GrowsBySome {V E S : Type 0} (rules : Rules S) (g : Growth V E) (s : Situation V S) (result : Result ℕ E) (charge : ℕ) (s' : Situation V S) : Type 0 where
+pub record GrowsBySome {V E S : Type 0} (rules : Rules S) (g : Growth V E) (s : MeteredValue V S) (result : Result ℕ E)
+    (charge : ℕ) (s' : MeteredValue V S) : Type 0 where
   pub some : 0 < g.amount
-  pub fate : Fate E
-  pub attempt : Attempt rules g.effort s fate charge s'
-  pub answered : result ≡ answer_of g.effort g.size fate
+  pub outcome : AttemptOutcome E
+  pub attempt : Attempt rules g.request s outcome charge s'
+  pub answered : result ≡ answer_of g.request g.size outcome
 
 -- a growth with its answer and its charge
-abbrev pub Grows : {V E S : Type 0} → Rules S → Growth V E → Situation V S → Result ℕ E → ℕ → Situation V S → Type 0
+abbrev pub Grows : {V E S : Type 0} → Rules S → Growth V E → MeteredValue V S → Result ℕ E → ℕ → MeteredValue V S
+    → Type 0
 Grows rules g s result charge s' = GrowsByNone g s result charge s' ⊎ GrowsBySome rules g s result charge s'

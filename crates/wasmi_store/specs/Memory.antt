@@ -7,8 +7,8 @@ use Rattle.wasmi_meter.specs.declared.error.MemoryError.TheVariants.{OutOfBounds
 use Rattle.wasmi_meter.specs.declared.limiter.Kind.TheVariants.{Bytes}
 use Rattle.wasmi_meter.specs.Limiter.{MemoryFailure, Rules}
 use Rattle.wasmi_meter.specs.Costs.{copy_cost}
-use Rattle.wasmi_meter.specs.Attempt.{Situation, Effort}
-use Rattle.wasmi_store.specs.Buffer.{Room, Owned, has_place_for, LacksMemory, room_after}
+use Rattle.wasmi_meter.specs.Attempt.{MeteredValue, Request}
+use Rattle.wasmi_store.specs.Buffer.{Room, Owned, fits_room, LacksMemory, room_after}
 use Rattle.wasmi_store.specs.Growth.{Makes, Grows}
 use Rattle.wasmi_store.specs.MemoryType.{MemoryTypeValue, IsValid, page_bytes, minimum_bytes, maximum_bytes, in_bounds}
 
@@ -51,29 +51,31 @@ abbrev pub dynamic_type : MemoryValue → MemoryTypeValue
 dynamic_type x = record x.ty { minimum = pages_of x }
 
 -- what is asked where a memory of a type is made in a room, and the causes of a refusal; it costs no fuel
-abbrev pub creation_of : Room → MemoryTypeValue → Effort (Unit {0}) MemoryError
+abbrev pub creation_of : Room → MemoryTypeValue → Request (Unit {0}) MemoryError
 creation_of room ty = record {
   early = if nat_lt (minimum_bytes ty) (2 ^ 64) then None else Some MinimumSizeOverflow;
   question = record { kind = Bytes; current = 0; desired = minimum_bytes ty; maximum = maximum_bytes ty };
   denial = ResourceLimiterDeniedAllocation;
   refusal = ResourceLimiterDeniedAllocation;
   notice = MemoryFailure;
-  late = if has_place_for room (minimum_bytes ty) then None else Some InvalidStaticBufferSize;
+  late = if fits_room room (minimum_bytes ty) then None else Some InvalidStaticBufferSize;
   price = None;
   unpaid = OutOfFuel;
   refuses = LacksMemory room;
   grown = tt;
 }
 
--- what is asked and paid where a memory grows by so many pages, and the causes of a refusal: a short region before want of fuel
-abbrev pub growth_of : MemoryValue → ℕ → Effort MemoryValue MemoryError
+-- what is asked and paid where a memory grows by so many pages, and the causes of a refusal: a short region before want
+-- of fuel
+abbrev pub growth_of : MemoryValue → ℕ → Request MemoryValue MemoryError
 growth_of x pages = let added = pages * page_bytes x.ty.page in record {
   early = if in_bounds x.ty (pages_of x + pages) then None else Some OutOfBoundsGrowth;
-  question = record { kind = Bytes; current = length x.bytes; desired = length x.bytes + added; maximum = maximum_bytes x.ty };
+  question = record
+      { kind = Bytes; current = length x.bytes; desired = length x.bytes + added; maximum = maximum_bytes x.ty };
   denial = OutOfBoundsGrowth;
   refusal = ResourceLimiterDeniedAllocation;
   notice = MemoryFailure;
-  late = if has_place_for x.room added then None else Some InvalidStaticBufferSize;
+  late = if fits_room x.room added then None else Some InvalidStaticBufferSize;
   price = Some (λ costs. copy_cost costs added 1);
   unpaid = OutOfFuel;
   refuses = LacksMemory x.room;
@@ -81,22 +83,27 @@ growth_of x pages = let added = pages * page_bytes x.ty.page in record {
 }
 
 -- a memory of a type is made in a room
-abbrev pub MakesMemory : {S : Type 0} → Rules S → Room → MemoryTypeValue → S → Result MemoryValue MemoryError → S → Type 0
+abbrev pub MakesMemory : {S : Type 0} → Rules S → Room → MemoryTypeValue → S → Result MemoryValue MemoryError → S
+    → Type 0
 MakesMemory rules room ty l result l' = Makes rules (creation_of room ty) (new_memory room ty) l result l'
 
 -- the minimum of a type is permitted in bytes, or an error ends the making of a memory, whatever its room
 abbrev pub PermitsMinimum : {S : Type 0} → Rules S → MemoryTypeValue → S → Result ℕ MemoryError → S → Type 0
 PermitsMinimum rules ty l (Ok size) l' =
-    (size ≡ minimum_bytes ty) × (nat_lt (minimum_bytes ty) (2 ^ 64) ≡ true) × rules.asked l (creation_of Owned ty).question (Ok true) l'
+    (size ≡ minimum_bytes ty) × (nat_lt (minimum_bytes ty) (2 ^ 64) ≡ true)
+    × rules.asked l (creation_of Owned ty).question (Ok true) l'
 PermitsMinimum rules ty l (Err error) l' = (room : Room) → MakesMemory rules room ty l (Err error) l'
 
 -- a memory grows by so many pages, with its charge; it answers the old size in pages
-abbrev pub GrowsMemory : {S : Type 0} → Rules S → ℕ → Situation MemoryValue S → Result ℕ MemoryError → ℕ → Situation MemoryValue S → Type 0
+abbrev pub GrowsMemory : {S : Type 0} → Rules S → ℕ → MeteredValue MemoryValue S → Result ℕ MemoryError → ℕ
+    → MeteredValue MemoryValue S → Type 0
 GrowsMemory rules pages s result charge s' =
-    Grows rules (record { amount = pages; size = pages_of s.value; effort = growth_of s.value pages }) s result charge s'
+    Grows rules (record { amount = pages; size = pages_of s.value; request = growth_of s.value pages }) s result charge
+    s'
 
 -- bytes are written over those from an offset on where they end within the memory, and nothing is written else
 abbrev pub WritesMemory : MemoryValue → ℕ → List ℕ → Result (Unit {0}) MemoryError → MemoryValue → Type 0
 WritesMemory x offset source (Ok _) x' =
     (overwrite x.bytes offset source ≡ Some x'.bytes) × (x'.ty ≡ x.ty) × (x'.room ≡ x.room)
-WritesMemory x offset source (Err error) x' = (error ≡ OutOfBoundsAccess) × (overwrite x.bytes offset source ≡ None) × (x' ≡ x)
+WritesMemory x offset source (Err error) x' =
+    (error ≡ OutOfBoundsAccess) × (overwrite x.bytes offset source ≡ None) × (x' ≡ x)

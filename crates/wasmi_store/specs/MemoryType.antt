@@ -47,7 +47,8 @@ pub record IsValid (ty : MemoryTypeValue) : Type 0 where
 -- whether a memory of the type may have so many pages: as many as it can address, and no more than its maximum
 abbrev pub in_bounds : MemoryTypeValue → ℕ → Bool
 in_bounds ty pages =
-    nat_le pages (greatest_pages ty) && option_map_or (λ maximum. nat_le pages maximum) ty.maximum true && nat_lt (pages * page_bytes ty.page) (2 ^ 64)
+    nat_le pages (greatest_pages ty) && option_map_or (λ maximum. nat_le pages maximum) ty.maximum true && nat_lt
+    (pages * page_bytes ty.page) (2 ^ 64)
 
 -- a memory of type a may be given where one of type b is asked for (core specification, import matching)
 pub record IsSubtype (a b : MemoryTypeValue) : Type 0 where
@@ -68,4 +69,6 @@ default_settings = record { index = I32; page_size_log2 = 16; minimum = 0; maxim
 
 -- the type that the settings name, if there is a page of that size
 abbrev pub named_type : Settings → Option MemoryTypeValue
-named_type s = option_map (λ page. record { index = s.index; page = page; minimum = s.minimum; maximum = s.maximum }) (page_of_log2 s.page_size_log2)
+named_type s =
+    option_map (λ page. record { index = s.index; page = page; minimum = s.minimum; maximum = s.maximum })
+    (page_of_log2 s.page_size_log2)

@@ -48,7 +48,8 @@ module _ {I : Type 0} (steps : I → Option ℕ → I → Type 0) where
   IsReading s ty (Err error) t = IsRefusal s error t
 
 -- the answer after reading the iterator that x becomes
-pub record IsReadingOf {X I : Type 0} (becomes : X → I → Type 0) (steps : I → Option ℕ → I → Type 0) (ty : RefType) (x : X) (answer : Result SegmentValue SegmentError) : Type 0 where
+pub record IsReadingOf {X I : Type 0} (becomes : X → I → Type 0) (steps : I → Option ℕ → I → Type 0) (ty : RefType)
+    (x : X) (answer : Result SegmentValue SegmentError) : Type 0 where
   pub before : I
   pub after : I
   pub made : becomes x before

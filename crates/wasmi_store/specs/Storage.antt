@@ -14,7 +14,8 @@ module _ {Region : Type 0} where
   -- the buffer of the first bytes of a block, up to an end
   abbrev pub view_of : (Region → List ℕ) → Storage Region → ℕ → buffer.BufferValue
   view_of bytes (Owned v) end = record { bytes = take end v.items; room = buffer.Owned }
-  view_of bytes (Lent region) end = record { bytes = take end (bytes region); room = buffer.Lent (drop end (bytes region)) }
+  view_of bytes (Lent region) end =
+      record { bytes = take end (bytes region); room = buffer.Lent (drop end (bytes region)) }
 
   -- memory of a buffer's own ends with its bytes, and a region doesn't end before them
   abbrev pub EndsWithin : (Region → List ℕ) → Storage Region → ℕ → Type 0

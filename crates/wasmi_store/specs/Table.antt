@@ -11,7 +11,7 @@ use Rattle.wasmi_meter.specs.declared.limiter.Kind.TheVariants.{Elements}
 use Rattle.wasmi_meter.specs.Limiter.{TableFailure, Rules}
 use Rattle.wasmi_meter.specs.Costs.{copy_cost}
 use Rattle.wasmi_meter.specs.Meter.{Meter, meter_after}
-use Rattle.wasmi_meter.specs.Attempt.{Situation, Effort, amount_due, can_pay}
+use Rattle.wasmi_meter.specs.Attempt.{MeteredValue, Request, optional_due, covers}
 use Rattle.wasmi_store.specs.Growth.{Makes, Grows}
 use Rattle.wasmi_store.specs.TableType.{TableTypeValue, IsValid, is_indexable, is_within_maximum, same_type}
 
@@ -52,7 +52,7 @@ abbrev pub element_price : ℕ → CustomFuelCosts → ℕ
 element_price n costs = copy_cost costs n 4
 
 -- what is asked where a table of a type is made of a reference, and the causes of a refusal; it costs no fuel
-abbrev pub creation_of : TableTypeValue → RefType → Effort (Unit {0}) TableError
+abbrev pub creation_of : TableTypeValue → RefType → Request (Unit {0}) TableError
 creation_of ty init = record {
   early = if same_type ty.element init then None else Some ElementTypeMismatch;
   question = record { kind = Elements; current = 0; desired = ty.minimum; maximum = ty.maximum };
@@ -66,8 +66,9 @@ creation_of ty init = record {
   grown = tt;
 }
 
--- what is asked and paid where a table grows by n elements, and the causes of a refusal: the maximum is tested after the permission
-abbrev pub growth_of : TableValue → ℕ → ℕ → Effort TableValue TableError
+-- what is asked and paid where a table grows by n elements, and the causes of a refusal: the maximum is tested after
+-- the permission
+abbrev pub growth_of : TableValue → ℕ → ℕ → Request TableValue TableError
 growth_of x n reference = record {
   early = if is_indexable x.ty (size_of x + n) then None else Some GrowOutOfBounds;
   question = record { kind = Elements; current = size_of x; desired = size_of x + n; maximum = x.ty.maximum };
@@ -82,26 +83,32 @@ growth_of x n reference = record {
 }
 
 -- a table of a type is made of a reference
-abbrev pub MakesTable : {S : Type 0} → Rules S → TableTypeValue → TypedRawRef → S → Result TableValue TableError → S → Type 0
+abbrev pub MakesTable : {S : Type 0} → Rules S → TableTypeValue → TypedRawRef → S → Result TableValue TableError → S
+    → Type 0
 MakesTable rules ty init l result l' = Makes rules (creation_of ty init.ty) (new_table ty init.raw) l result l'
 
 -- a table grows by n elements, with its charge
-abbrev pub GrowsTableRaw : {S : Type 0} → Rules S → ℕ → ℕ → Situation TableValue S → Result ℕ TableError → ℕ → Situation TableValue S → Type 0
+abbrev pub GrowsTableRaw : {S : Type 0} → Rules S → ℕ → ℕ → MeteredValue TableValue S → Result ℕ TableError → ℕ
+    → MeteredValue TableValue S → Type 0
 GrowsTableRaw rules n reference s result charge s' =
-    Grows rules (record { amount = n; size = size_of s.value; effort = growth_of s.value n reference }) s result charge s'
+    Grows rules (record { amount = n; size = size_of s.value; request = growth_of s.value n reference }) s result charge
+    s'
 
--- The same with a reference that has a type, which is tested first, also for no element: where it is another, nothing is touched.
-abbrev pub GrowsTable : {S : Type 0} → Rules S → ℕ → TypedRawRef → Situation TableValue S → Result ℕ TableError → ℕ → Situation TableValue S → Type 0
+-- The same with a reference that has a type, which is tested first, also for no element: where it is another, nothing
+-- is touched.
+abbrev pub GrowsTable : {S : Type 0} → Rules S → ℕ → TypedRawRef → MeteredValue TableValue S → Result ℕ TableError → ℕ
+    → MeteredValue TableValue S → Type 0
 GrowsTable rules n init s result charge s' = MatchBool (same_type s.value.ty.element init.ty)
     (GrowsTableRaw rules n init.raw s result charge s')
     ((result ≡ Err ElementTypeMismatch) × (charge ≡ 0) × (s' ≡ s))
 
 -- the element at an index with its type, or none past the end
 abbrev pub element_at : TableValue → ℕ → Option TypedRawRef
-element_at x index = option_map (λ reference. record { raw = reference; ty = x.ty.element }) (slice_get x.elements index)
+element_at x index =
+    option_map (λ reference. record { raw = reference; ty = x.ty.element }) (slice_get x.elements index)
 
--- A call that writes over a part of a table: whether the types are the same; the elements afterwards, or none where a range ends past its list;
--- the error there; and how many elements are paid for, if any.
+-- A call that writes over a part of a table: whether the types are the same; the elements afterwards, or none where a
+-- range ends past its list; the error there; and how many elements are paid for, if any.
 pub record TableWrite : Type 0 where
   pub typed : Bool
   pub written : Option (List ℕ)
@@ -111,12 +118,22 @@ pub record TableWrite : Type 0 where
 -- one element is set to a reference
 abbrev pub setting_of : TableValue → ℕ → ℕ → TableWrite
 setting_of x index reference =
-    record { typed = true; written = overwrite x.elements index (reference ∷ []); outside = SetOutOfBounds; paid = None }
+    record {
+      typed = true;
+      written = overwrite x.elements index (reference ∷ []);
+      outside = SetOutOfBounds;
+      paid = None;
+    }
 
 -- so many elements from dst on are filled with a reference
 abbrev pub filling_of : TableValue → ℕ → ℕ → ℕ → TableWrite
 filling_of x dst reference len =
-    record { typed = true; written = overwrite x.elements dst (replicate len reference); outside = FillOutOfBounds; paid = Some len }
+    record {
+      typed = true;
+      written = overwrite x.elements dst (replicate len reference);
+      outside = FillOutOfBounds;
+      paid = Some len;
+    }
 
 -- elements whose part from dst on is written over by so many items of a list from src on
 abbrev pub copied : List ℕ → ℕ → List ℕ → ℕ → ℕ → Option (List ℕ)
@@ -124,12 +141,18 @@ copied elements dst source src len = option_and_then (λ part. overwrite element
 
 -- a part is copied from a table's elements, perhaps from its own
 abbrev pub copy_of : TableValue → ℕ → List ℕ → ℕ → ℕ → TableWrite
-copy_of x dst source src len = record { typed = true; written = copied x.elements dst source src len; outside = CopyOutOfBounds; paid = Some len }
+copy_of x dst source src len =
+    record { typed = true; written = copied x.elements dst source src len; outside = CopyOutOfBounds; paid = Some len }
 
 -- a part is initialized from an element segment's items; no item is free
 abbrev pub initialization_of : TableValue → ℕ → List ℕ → ℕ → ℕ → TableWrite
 initialization_of x dst items src len =
-    record { typed = true; written = copied x.elements dst items src len; outside = InitOutOfBounds; paid = if nat_eq len 0 then None else Some len }
+    record {
+      typed = true;
+      written = copied x.elements dst items src len;
+      outside = InitOutOfBounds;
+      paid = if nat_eq len 0 then None else Some len;
+    }
 
 -- a call that is given references of a type, which is tested first
 abbrev pub typed_by : TableValue → RefType → TableWrite → TableWrite
@@ -143,8 +166,8 @@ pub record Ending : Type 0 where
 
 module _ (w : TableWrite) (x : TableValue) (m : Option Meter) where
   -- what is due for it
-  abbrev pub due_for : ℕ
-  due_for = amount_due m (option_map element_price w.paid)
+  abbrev pub write_due : ℕ
+  write_due = optional_due m (option_map element_price w.paid)
 
   -- refused for a cause: nothing is taken, and the table stays
   abbrev pub Refuses : TableError → Ending → Type 0
@@ -154,10 +177,12 @@ module _ (w : TableWrite) (x : TableValue) (m : Option Meter) where
   abbrev pub EndsBy : Bool → Option (List ℕ) → Bool → Ending → Type 0
   EndsBy false written payable end = Refuses ElementTypeMismatch end
   EndsBy true None payable end = Refuses w.outside end
-  EndsBy true (Some elements) false end = Refuses (OutOfFuel due_for) end
-  EndsBy true (Some elements) true end = (end.result ≡ Ok tt) × (end.charge ≡ due_for) × (end.value ≡ record x { elements = elements })
+  EndsBy true (Some elements) false end = Refuses (OutOfFuel write_due) end
+  EndsBy true (Some elements) true end =
+      (end.result ≡ Ok tt) × (end.charge ≡ write_due) × (end.value ≡ record x { elements = elements })
 
   -- a part of a table is written over, with its charge
-  pub record WritesTable (result : Result (Unit {0}) TableError) (charge : ℕ) (x' : TableValue) (m' : Option Meter) : Type 0 where
-    pub ends : EndsBy w.typed w.written (can_pay m due_for) (record { result = result; charge = charge; value = x' })
+  pub record WritesTable (result : Result (Unit {0}) TableError) (charge : ℕ) (x' : TableValue)
+      (m' : Option Meter) : Type 0 where
+    pub ends : EndsBy w.typed w.written (covers m write_due) (record { result = result; charge = charge; value = x' })
     pub meter : m' ≡ option_map (λ m. meter_after m charge) m

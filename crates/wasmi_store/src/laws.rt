@@ -1,5 +1,5 @@
-//! What holds of all memories and tables and of all their types. These functions do nothing: each states a law as its
-//! contract.
+//! What holds of all memories and tables and of all their types. These functions do nothing: each
+//! states a law as its contract.
 ghost use Rattle.wasmi_store.specs.Memory.{IsValidMemory};
 ghost use Rattle.wasmi_store.specs.MemoryType.{MemoryTypeValue, IsSubtype};
 ghost use Rattle.wasmi_store.specs.Table.{IsValidTable};
@@ -8,8 +8,8 @@ ghost use Rattle.wasmi_store.specs.TableType as table;
 use crate::memory::{LinearMemory, Region};
 use crate::table::Table;
 
-/// Every memory is valid, also one that was written to or has grown: its type is valid, and its bytes are whole pages,
-/// as many as its type allows.
+/// Every memory is valid, also one that was written to or has grown: its type is valid, and its
+/// bytes are whole pages, as many as its type allows.
 ///
 /// Core specification, validity of memory instances.
 pub fn memories_are_valid<R: Region>(memory: &LinearMemory<R>)
@@ -18,8 +18,8 @@ pub fn memories_are_valid<R: Region>(memory: &LinearMemory<R>)
     memory.tell_valid();
 }
 
-/// Every table is valid, also one that was written to or has grown: its type is valid, and it has as many elements as
-/// that allows.
+/// Every table is valid, also one that was written to or has grown: its type is valid, and it has
+/// as many elements as that allows.
 ///
 /// Core specification, validity of table instances.
 pub fn tables_are_valid(table: &Table)
@@ -45,5 +45,6 @@ pub fn table_subtyping_is_reflexive()
 
 /// A subtype of a subtype is a subtype.
 pub fn table_subtyping_is_transitive()
-    ensures { (a b c : table.TableTypeValue) → table.IsSubtype a b → table.IsSubtype b c → table.IsSubtype a c }
+    ensures { (a b c : table.TableTypeValue) → table.IsSubtype a b → table.IsSubtype b c
+        → table.IsSubtype a c }
 {}

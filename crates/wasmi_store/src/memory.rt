@@ -29,7 +29,8 @@ fn permitted_minimum<L: ResourceLimiter>(
     limiter: &mut ResourceLimiterRef<L>,
 ) -> Result<usize, MemoryError>
     ensures loan { KeepsLoan limiter.old limiter.new }
-    ensures permitted { PermitsMinimum (optional_rules L.rules) ty (lent_limiter limiter.old) result (lent_limiter limiter.new) }
+    ensures permitted { PermitsMinimum (optional_rules L.rules) ty (lent_limiter limiter.old) result
+        (lent_limiter limiter.new) }
     ensures sized { IfOk result (λ size. IsSized ty size) }
 {
     let Some(size) = ty.minimum_size() else {
@@ -72,15 +73,16 @@ impl<'r> LinearMemory<&'r mut [u8]> {
     /// A memory of zeros, at the minimum of its type. It takes no fuel.
     ///
     /// Refusals in their order: `MinimumSizeOverflow` where the minimum has 2^64 bytes or more;
-    /// `ResourceLimiterDeniedAllocation` where the limiter doesn't permit; `OutOfSystemMemory`, of which the limiter
-    /// is told.
+    /// `ResourceLimiterDeniedAllocation` where the limiter doesn't permit; `OutOfSystemMemory`, of
+    /// which the limiter is told.
     pub fn new<L: ResourceLimiter>(
         alloc: Global,
         ty: MemoryType,
         limiter: &mut ResourceLimiterRef<L>,
     ) -> Result<Memory<'r>, MemoryError>
         ensures loan { KeepsLoan limiter.old limiter.new }
-        ensures made { MakesMemory (optional_rules L.rules) Owned ty (lent_limiter limiter.old) result (lent_limiter limiter.new) }
+        ensures made { MakesMemory (optional_rules L.rules) Owned ty
+            (lent_limiter limiter.old) result (lent_limiter limiter.new) }
     {
         let size = permitted_minimum(ty, limiter)?;
         match Buffer::new(alloc, size) {
@@ -89,20 +91,21 @@ impl<'r> LinearMemory<&'r mut [u8]> {
         }
     }
 
-    /// A memory of zeros at the front of a region, at the minimum of its type. It takes no fuel and no memory, and
-    /// leaves the bytes past the minimum alone.
+    /// A memory of zeros at the front of a region, at the minimum of its type. It takes no fuel and
+    /// no memory, and leaves the bytes past the minimum alone.
     ///
     /// Refusals in their order: `MinimumSizeOverflow` where the minimum has 2^64 bytes or more;
-    /// `ResourceLimiterDeniedAllocation` where the limiter doesn't permit; `InvalidStaticBufferSize` where the region
-    /// is shorter than the minimum, of which the limiter is told. After a refusal the loan has ended, and the bytes of
-    /// the region are unchanged.
+    /// `ResourceLimiterDeniedAllocation` where the limiter doesn't permit;
+    /// `InvalidStaticBufferSize` where the region is shorter than the minimum, of which the limiter
+    /// is told. After a refusal the loan has ended, and the bytes of the region are unchanged.
     pub fn new_static<L: ResourceLimiter>(
         ty: MemoryType,
         limiter: &mut ResourceLimiterRef<L>,
         region: &'r mut [u8],
     ) -> Result<Memory<'r>, MemoryError>
         ensures loan { KeepsLoan limiter.old limiter.new }
-        ensures made { MakesMemory (optional_rules L.rules) (Lent region.entry.now) ty (lent_limiter limiter.old) result (lent_limiter limiter.new) }
+        ensures made { MakesMemory (optional_rules L.rules) (Lent region.entry.now) ty
+            (lent_limiter limiter.old) result (lent_limiter limiter.new) }
     {
         let size = permitted_minimum(ty, limiter)?;
         match Buffer::new_static(region, size) {
@@ -117,7 +120,8 @@ impl<'r> LinearMemory<&'r mut [u8]> {
         ty: MemoryType,
         limiter: &mut L,
     ) -> Result<Memory<'r>, MemoryError>
-        ensures { MakesMemory (optional_rules L.rules) Owned ty (Some limiter.old) result (Some limiter.new) }
+        ensures { MakesMemory (optional_rules L.rules) Owned ty (Some limiter.old) result
+            (Some limiter.new) }
     {
         let mut lent = ResourceLimiterRef::from(limiter);
         let made = Memory::new(alloc, ty, &mut lent);
@@ -133,7 +137,8 @@ impl<'r> LinearMemory<&'r mut [u8]> {
         limiter: &mut L,
         region: &'r mut [u8],
     ) -> Result<Memory<'r>, MemoryError>
-        ensures { MakesMemory (optional_rules L.rules) (Lent region.entry.now) ty (Some limiter.old) result (Some limiter.new) }
+        ensures { MakesMemory (optional_rules L.rules) (Lent region.entry.now) ty
+            (Some limiter.old) result (Some limiter.new) }
     {
         let mut lent = ResourceLimiterRef::from(limiter);
         let made = Memory::new_static(ty, &mut lent, region);
@@ -165,7 +170,8 @@ impl<R: Region> LinearMemory<R> {
         let _len = self.buffer.len();
     }
 
-    /// The type that it was made with, with the present size as its minimum: a subtype of that type.
+    /// The type that it was made with, with the present size as its minimum: a subtype of that
+    /// type.
     pub fn dynamic_ty(&self) -> MemoryType
         ensures value { result ≡ dynamic_type self.now }
         ensures subtype { IsSubtype result self.now.ty }
@@ -198,20 +204,23 @@ impl<R: Region> LinearMemory<R> {
 
     /// The bytes, to be written over.
     pub fn data_mut(&mut self) -> &mut [u8]
-        ensures* writes_back { sem 𝓛 (Lends (the_row R.row R.Region) (Array u8 0) self.entry result (with_bytes self.old)) }
+        ensures* writes_back { sem 𝓛 (Lends (the_row R.row R.Region) (Array u8 0) self.entry result
+            (with_bytes self.old)) }
         ensures value { result.now ≡ self.old.bytes }
     {
         self.buffer.data_mut()
     }
 
-    /// Grows by so many pages of zeros, and answers the old size in pages. A growth by 0 touches nothing.
+    /// Grows by so many pages of zeros, and answers the old size in pages. A growth by 0 touches
+    /// nothing.
     ///
-    /// Refusals in their order: `OutOfBoundsGrowth` above the greatest number of pages or the maximum, or at 2^64
-    /// bytes or more; what the limiter answers (`OutOfBoundsGrowth` where it says no,
-    /// `ResourceLimiterDeniedAllocation` for an error); `InvalidStaticBufferSize` where a lent region is shorter than
-    /// the new size, which charges nothing; `OutOfFuel` where the meter is on and the added bytes cost more than is
-    /// left; `OutOfSystemMemory`, never of a lent memory, which leaves the charge taken. Of the last three the limiter
-    /// is told, and if it answers an error they become `ResourceLimiterDeniedAllocation`. Bytes of a region past the
+    /// Refusals in their order: `OutOfBoundsGrowth` above the greatest number of pages or the
+    /// maximum, or at 2^64 bytes or more; what the limiter answers (`OutOfBoundsGrowth` where it
+    /// says no, `ResourceLimiterDeniedAllocation` for an error); `InvalidStaticBufferSize` where a
+    /// lent region is shorter than the new size, which charges nothing; `OutOfFuel` where the meter
+    /// is on and the added bytes cost more than is left; `OutOfSystemMemory`, never of a lent
+    /// memory, which leaves the charge taken. Of the last three the limiter is told, and if it
+    /// answers an error they become `ResourceLimiterDeniedAllocation`. Bytes of a region past the
     /// new size are left alone.
     pub fn grow<L: ResourceLimiter>(
         &mut self,
@@ -221,8 +230,16 @@ impl<R: Region> LinearMemory<R> {
     ) -> Result<u64, MemoryError>
         ensures loan { KeepsLoan limiter.old limiter.new }
         ensures grown { (charge : ℕ) × GrowsMemory (optional_rules L.rules) additional
-            (record { value = self.old; meter = option_copied_mut fuel.entry; limiter = lent_limiter limiter.old }) result charge
-            (record { value = self.new; meter = left_behind (λ lent. lent.0.now) fuel.exit; limiter = lent_limiter limiter.new }) }
+            (record {
+              value = self.old;
+              meter = option_copied_mut fuel.entry;
+              limiter = lent_limiter limiter.old;
+            }) result charge
+            (record {
+              value = self.new;
+              meter = left_behind (λ lent. lent.0.now) fuel.exit;
+              limiter = lent_limiter limiter.new;
+            }) }
     {
         match fuel {
             Some(fuel) => self.grow_metered(additional, fuel, limiter),
@@ -241,8 +258,13 @@ impl<R: Region> LinearMemory<R> {
     ) -> Result<u64, MemoryError>
         ensures loan { KeepsLoan limiter.old limiter.new }
         ensures grown { (charge : ℕ) × GrowsMemory (optional_rules L.rules) additional
-            (record { value = self.old; meter = Some fuel.old; limiter = lent_limiter limiter.old }) result charge
-            (record { value = self.new; meter = Some fuel.new; limiter = lent_limiter limiter.new }) }
+            (record { value = self.old; meter = Some fuel.old; limiter = lent_limiter limiter.old })
+            result charge
+            (record {
+              value = self.new;
+              meter = Some fuel.new;
+              limiter = lent_limiter limiter.new;
+            }) }
     {
         let old_pages = self.size();
         if additional == 0 {
@@ -274,8 +296,16 @@ impl<R: Region> LinearMemory<R> {
         limiter: &mut L,
     ) -> Result<u64, MemoryError>
         ensures { (charge : ℕ) × GrowsMemory (optional_rules L.rules) additional
-            (record { value = self.old; meter = option_copied_mut fuel.entry; limiter = Some limiter.old }) result charge
-            (record { value = self.new; meter = left_behind (λ lent. lent.0.now) fuel.exit; limiter = Some limiter.new }) }
+            (record {
+              value = self.old;
+              meter = option_copied_mut fuel.entry;
+              limiter = Some limiter.old;
+            }) result charge
+            (record {
+              value = self.new;
+              meter = left_behind (λ lent. lent.0.now) fuel.exit;
+              limiter = Some limiter.new;
+            }) }
     {
         match fuel {
             Some(fuel) => self.grow_metered_lending(additional, fuel, limiter),
@@ -293,7 +323,8 @@ impl<R: Region> LinearMemory<R> {
         limiter: &mut L,
     ) -> Result<u64, MemoryError>
         ensures { (charge : ℕ) × GrowsMemory (optional_rules L.rules) additional
-            (record { value = self.old; meter = Some fuel.old; limiter = Some limiter.old }) result charge
+            (record { value = self.old; meter = Some fuel.old; limiter = Some limiter.old }) result
+            charge
             (record { value = self.new; meter = Some fuel.new; limiter = Some limiter.new }) }
     {
         let mut lent = ResourceLimiterRef::from(limiter);
@@ -315,11 +346,13 @@ impl<R: Region> LinearMemory<R> {
         self.ty.size_of_pages(pages)
     }
 
-    /// Copies the bytes from an offset on into a buffer, which is filled; it is `OutOfBoundsAccess` where they end
-    /// past the memory, and then nothing is copied.
+    /// Copies the bytes from an offset on into a buffer, which is filled; it is `OutOfBoundsAccess`
+    /// where they end past the memory, and then nothing is copied.
     pub fn read(&self, offset: usize, buffer: &mut [u8]) -> Result<(), MemoryError>
         ensures ok { OnOk result (at self.now.bytes offset (length buffer.old) ≡ Some buffer.new) }
-        ensures err { IfErr result (λ error. (error ≡ MemoryError.OutOfBoundsAccess) × (at self.now.bytes offset (length buffer.old) ≡ None) × (buffer.new ≡ buffer.old)) }
+        ensures err { IfErr result
+            (λ error. (error ≡ MemoryError.OutOfBoundsAccess)
+            × (at self.now.bytes offset (length buffer.old) ≡ None) × (buffer.new ≡ buffer.old)) }
     {
         let bytes = self.buffer.data();
         if bytes.len() < offset || bytes.len() - offset < buffer.len() {
@@ -330,8 +363,8 @@ impl<R: Region> LinearMemory<R> {
         Ok(())
     }
 
-    /// Writes bytes over those from an offset on; it is `OutOfBoundsAccess` where they would end past the memory, and
-    /// then nothing is written.
+    /// Writes bytes over those from an offset on; it is `OutOfBoundsAccess` where they would end
+    /// past the memory, and then nothing is written.
     pub fn write(&mut self, offset: usize, buffer: &[u8]) -> Result<(), MemoryError>
         ensures { WritesMemory self.old offset buffer.now result self.new }
     {

@@ -25,8 +25,8 @@ const DENIED: TableError = TableError::ResourceLimiterDeniedAllocation;
 
 /// A table: references of one type, null ones among them.
 ///
-/// The calls that are paid take a meter, or none; one that is absent or off is charged nothing. 64 bytes are copied for
-/// a fuel where a host chooses no other costs, and an element has 4 bytes.
+/// The calls that are paid take a meter, or none; one that is absent or off is charged nothing. 64
+/// bytes are copied for a fuel where a host chooses no other costs, and an element has 4 bytes.
 ///
 /// It is valid at any time: see [`crate::laws::tables_are_valid`].
 ///
@@ -54,8 +54,8 @@ impl Table {
 
     /// A table with one reference in each place, at the minimum of its type. It takes no fuel.
     ///
-    /// Refusals in their order: `ElementTypeMismatch`; `ResourceLimiterDeniedAllocation` where the limiter doesn't
-    /// permit; `OutOfSystemMemory`, of which the limiter is told.
+    /// Refusals in their order: `ElementTypeMismatch`; `ResourceLimiterDeniedAllocation` where the
+    /// limiter doesn't permit; `OutOfSystemMemory`, of which the limiter is told.
     pub fn new<L: ResourceLimiter>(
         alloc: Global,
         ty: TableType,
@@ -63,7 +63,8 @@ impl Table {
         limiter: &mut ResourceLimiterRef<L>,
     ) -> Result<Self, TableError>
         ensures loan { KeepsLoan limiter.old limiter.new }
-        ensures made { MakesTable (optional_rules L.rules) ty init (lent_limiter limiter.old) result (lent_limiter limiter.new) }
+        ensures made { MakesTable (optional_rules L.rules) ty init (lent_limiter limiter.old) result
+            (lent_limiter limiter.new) }
     {
         ty.ensure_element_type_matches(init.ty)?;
         let size = ty.minimum() as usize;
@@ -82,7 +83,8 @@ impl Table {
         init: TypedRawRef,
         limiter: &mut L,
     ) -> Result<Self, TableError>
-        ensures { MakesTable (optional_rules L.rules) ty init (Some limiter.old) result (Some limiter.new) }
+        ensures { MakesTable (optional_rules L.rules) ty init (Some limiter.old) result
+            (Some limiter.new) }
     {
         let mut lent = ResourceLimiterRef::from(limiter);
         let made = Table::new(alloc, ty, init, &mut lent);
@@ -108,7 +110,8 @@ impl Table {
         let _len = self.elements.len();
     }
 
-    /// The type that it was made with, with the present size as its minimum: a subtype of that type.
+    /// The type that it was made with, with the present size as its minimum: a subtype of that
+    /// type.
     pub fn dynamic_ty(&self) -> TableType
         ensures value { result ≡ dynamic_type self.now }
         ensures subtype { IsSubtype result self.now.ty }
@@ -124,8 +127,9 @@ impl Table {
         self.elements.len() as u64
     }
 
-    /// Grows by so many elements, each the given reference, and answers the old size. The type of the reference is
-    /// tested first, also in a growth by 0 (`ElementTypeMismatch`); then as `grow_raw`.
+    /// Grows by so many elements, each the given reference, and answers the old size. The type of
+    /// the reference is tested first, also in a growth by 0 (`ElementTypeMismatch`); then as
+    /// `grow_raw`.
     pub fn grow<L: ResourceLimiter>(
         &mut self,
         delta: u64,
@@ -135,8 +139,16 @@ impl Table {
     ) -> Result<u64, TableError>
         ensures loan { KeepsLoan limiter.old limiter.new }
         ensures grown { (charge : ℕ) × GrowsTable (optional_rules L.rules) delta init
-            (record { value = self.old; meter = option_copied_mut fuel.entry; limiter = lent_limiter limiter.old }) result charge
-            (record { value = self.new; meter = left_behind (λ lent. lent.0.now) fuel.exit; limiter = lent_limiter limiter.new }) }
+            (record {
+              value = self.old;
+              meter = option_copied_mut fuel.entry;
+              limiter = lent_limiter limiter.old;
+            }) result charge
+            (record {
+              value = self.new;
+              meter = left_behind (λ lent. lent.0.now) fuel.exit;
+              limiter = lent_limiter limiter.new;
+            }) }
     {
         match fuel {
             Some(fuel) => self.grow_metered(delta, init, fuel, limiter),
@@ -156,8 +168,13 @@ impl Table {
     ) -> Result<u64, TableError>
         ensures loan { KeepsLoan limiter.old limiter.new }
         ensures grown { (charge : ℕ) × GrowsTable (optional_rules L.rules) delta init
-            (record { value = self.old; meter = Some fuel.old; limiter = lent_limiter limiter.old }) result charge
-            (record { value = self.new; meter = Some fuel.new; limiter = lent_limiter limiter.new }) }
+            (record { value = self.old; meter = Some fuel.old; limiter = lent_limiter limiter.old })
+            result charge
+            (record {
+              value = self.new;
+              meter = Some fuel.new;
+              limiter = lent_limiter limiter.new;
+            }) }
     {
         self.ty.ensure_element_type_matches(init.ty)?;
         self.grow_raw_metered(delta, init.raw, fuel, limiter)
@@ -172,8 +189,16 @@ impl Table {
         limiter: &mut L,
     ) -> Result<u64, TableError>
         ensures { (charge : ℕ) × GrowsTable (optional_rules L.rules) delta init
-            (record { value = self.old; meter = option_copied_mut fuel.entry; limiter = Some limiter.old }) result charge
-            (record { value = self.new; meter = left_behind (λ lent. lent.0.now) fuel.exit; limiter = Some limiter.new }) }
+            (record {
+              value = self.old;
+              meter = option_copied_mut fuel.entry;
+              limiter = Some limiter.old;
+            }) result charge
+            (record {
+              value = self.new;
+              meter = left_behind (λ lent. lent.0.now) fuel.exit;
+              limiter = Some limiter.new;
+            }) }
     {
         match fuel {
             Some(fuel) => self.grow_metered_lending(delta, init, fuel, limiter),
@@ -192,7 +217,8 @@ impl Table {
         limiter: &mut L,
     ) -> Result<u64, TableError>
         ensures { (charge : ℕ) × GrowsTable (optional_rules L.rules) delta init
-            (record { value = self.old; meter = Some fuel.old; limiter = Some limiter.old }) result charge
+            (record { value = self.old; meter = Some fuel.old; limiter = Some limiter.old }) result
+            charge
             (record { value = self.new; meter = Some fuel.new; limiter = Some limiter.new }) }
     {
         let mut lent = ResourceLimiterRef::from(limiter);
@@ -203,13 +229,15 @@ impl Table {
         grown
     }
 
-    /// Grows by so many elements, each the given reference, and answers the old size. A growth by 0 touches nothing.
+    /// Grows by so many elements, each the given reference, and answers the old size. A growth by 0
+    /// touches nothing.
     ///
-    /// Refusals in their order: `GrowOutOfBounds` where there would be as many elements as indices, 2^32 or 2^64; what
-    /// the limiter answers (`GrowOutOfBounds` where it says no, `ResourceLimiterDeniedAllocation` for an error);
-    /// `GrowOutOfBounds` above the maximum; `OutOfFuel` where the meter is on and the new elements cost more than is
-    /// left; `OutOfSystemMemory`, which leaves the charge taken. Of the last three the limiter is told, and if it
-    /// answers an error they become `ResourceLimiterDeniedAllocation`.
+    /// Refusals in their order: `GrowOutOfBounds` where there would be as many elements as indices,
+    /// 2^32 or 2^64; what the limiter answers (`GrowOutOfBounds` where it says no,
+    /// `ResourceLimiterDeniedAllocation` for an error); `GrowOutOfBounds` above the maximum;
+    /// `OutOfFuel` where the meter is on and the new elements cost more than is left;
+    /// `OutOfSystemMemory`, which leaves the charge taken. Of the last three the limiter is told,
+    /// and if it answers an error they become `ResourceLimiterDeniedAllocation`.
     pub fn grow_raw<L: ResourceLimiter>(
         &mut self,
         delta: u64,
@@ -219,8 +247,16 @@ impl Table {
     ) -> Result<u64, TableError>
         ensures loan { KeepsLoan limiter.old limiter.new }
         ensures grown { (charge : ℕ) × GrowsTableRaw (optional_rules L.rules) delta init
-            (record { value = self.old; meter = option_copied_mut fuel.entry; limiter = lent_limiter limiter.old }) result charge
-            (record { value = self.new; meter = left_behind (λ lent. lent.0.now) fuel.exit; limiter = lent_limiter limiter.new }) }
+            (record {
+              value = self.old;
+              meter = option_copied_mut fuel.entry;
+              limiter = lent_limiter limiter.old;
+            }) result charge
+            (record {
+              value = self.new;
+              meter = left_behind (λ lent. lent.0.now) fuel.exit;
+              limiter = lent_limiter limiter.new;
+            }) }
     {
         match fuel {
             Some(fuel) => self.grow_raw_metered(delta, init, fuel, limiter),
@@ -240,8 +276,13 @@ impl Table {
     ) -> Result<u64, TableError>
         ensures loan { KeepsLoan limiter.old limiter.new }
         ensures grown { (charge : ℕ) × GrowsTableRaw (optional_rules L.rules) delta init
-            (record { value = self.old; meter = Some fuel.old; limiter = lent_limiter limiter.old }) result charge
-            (record { value = self.new; meter = Some fuel.new; limiter = lent_limiter limiter.new }) }
+            (record { value = self.old; meter = Some fuel.old; limiter = lent_limiter limiter.old })
+            result charge
+            (record {
+              value = self.new;
+              meter = Some fuel.new;
+              limiter = lent_limiter limiter.new;
+            }) }
     {
         let size = self.size();
         if delta == 0 {
@@ -273,8 +314,16 @@ impl Table {
         limiter: &mut L,
     ) -> Result<u64, TableError>
         ensures { (charge : ℕ) × GrowsTableRaw (optional_rules L.rules) delta init
-            (record { value = self.old; meter = option_copied_mut fuel.entry; limiter = Some limiter.old }) result charge
-            (record { value = self.new; meter = left_behind (λ lent. lent.0.now) fuel.exit; limiter = Some limiter.new }) }
+            (record {
+              value = self.old;
+              meter = option_copied_mut fuel.entry;
+              limiter = Some limiter.old;
+            }) result charge
+            (record {
+              value = self.new;
+              meter = left_behind (λ lent. lent.0.now) fuel.exit;
+              limiter = Some limiter.new;
+            }) }
     {
         match fuel {
             Some(fuel) => self.grow_raw_metered_lending(delta, init, fuel, limiter),
@@ -293,7 +342,8 @@ impl Table {
         limiter: &mut L,
     ) -> Result<u64, TableError>
         ensures { (charge : ℕ) × GrowsTableRaw (optional_rules L.rules) delta init
-            (record { value = self.old; meter = Some fuel.old; limiter = Some limiter.old }) result charge
+            (record { value = self.old; meter = Some fuel.old; limiter = Some limiter.old }) result
+            charge
             (record { value = self.new; meter = Some fuel.new; limiter = Some limiter.new }) }
     {
         let mut lent = ResourceLimiterRef::from(limiter);
@@ -312,17 +362,22 @@ impl Table {
         Some(TypedRawRef::new(raw, self.ty.element()))
     }
 
-    /// Sets the element at an index. Refusals in their order: `ElementTypeMismatch`, `SetOutOfBounds`.
+    /// Sets the element at an index. Refusals in their order: `ElementTypeMismatch`,
+    /// `SetOutOfBounds`.
     pub fn set(&mut self, index: u64, value: TypedRawRef) -> Result<(), TableError>
-        ensures { WritesTable (typed_by self.old value.ty (setting_of self.old index value.raw)) self.old None result 0 self.new None }
+        ensures { WritesTable
+            (typed_by self.old value.ty (setting_of self.old index value.raw)) self.old None result
+            0 self.new None }
     {
         self.ty.ensure_element_type_matches(value.ty)?;
         self.set_raw(index, value.raw)
     }
 
-    /// Sets the element at an index; it is `SetOutOfBounds` past the end. The type is the caller's matter.
+    /// Sets the element at an index; it is `SetOutOfBounds` past the end. The type is the caller's
+    /// matter.
     pub fn set_raw(&mut self, index: u64, value: RawRef) -> Result<(), TableError>
-        ensures { WritesTable (setting_of self.old index value) self.old None result 0 self.new None }
+        ensures { WritesTable
+            (setting_of self.old index value) self.old None result 0 self.new None }
     {
         let index = index as usize;
         if index >= self.elements.len() {
@@ -334,8 +389,8 @@ impl Table {
 
     /// Copies so many items of an element segment, from `src` on, over the elements from `dst` on.
     ///
-    /// Refusals in their order: `ElementTypeMismatch`; `InitOutOfBounds` where a range ends past the segment or the
-    /// table; `OutOfFuel`. No item is free.
+    /// Refusals in their order: `ElementTypeMismatch`; `InitOutOfBounds` where a range ends past
+    /// the segment or the table; `OutOfFuel`. No item is free.
     pub fn init(
         &mut self,
         element: ElementSegmentRef,
@@ -345,8 +400,10 @@ impl Table {
         fuel: Option<&mut Fuel>,
     ) -> Result<(), TableError>
         ensures { (charge : ℕ) × WritesTable
-            (typed_by self.old (segment_of element.entry).ty (initialization_of self.old dst (segment_of element.entry).items src len))
-            self.old (option_copied_mut fuel.entry) result charge self.new (left_behind (λ lent. lent.0.now) fuel.exit) }
+            (typed_by self.old (segment_of element.entry).ty
+            (initialization_of self.old dst (segment_of element.entry).items src len))
+            self.old (option_copied_mut fuel.entry) result charge self.new
+            (left_behind (λ lent. lent.0.now) fuel.exit) }
     {
         match fuel {
             Some(fuel) => self.init_metered(element, dst, src, len, fuel),
@@ -366,7 +423,8 @@ impl Table {
         fuel: &mut Fuel,
     ) -> Result<(), TableError>
         ensures { (charge : ℕ) × WritesTable
-            (typed_by self.old (segment_of element.entry).ty (initialization_of self.old dst (segment_of element.entry).items src len))
+            (typed_by self.old (segment_of element.entry).ty
+            (initialization_of self.old dst (segment_of element.entry).items src len))
             self.old (Some fuel.old) result charge self.new (Some fuel.new) }
     {
         self.ty.ensure_element_type_matches(element.ty())?;
@@ -385,10 +443,11 @@ impl Table {
         Ok(())
     }
 
-    /// Copies so many elements of another table, from `src` on, over the elements of a table from `dst` on.
+    /// Copies so many elements of another table, from `src` on, over the elements of a table from
+    /// `dst` on.
     ///
-    /// Refusals in their order: `ElementTypeMismatch`; `CopyOutOfBounds` where a range ends past its table;
-    /// `OutOfFuel`, also for no element.
+    /// Refusals in their order: `ElementTypeMismatch`; `CopyOutOfBounds` where a range ends past
+    /// its table; `OutOfFuel`, also for no element.
     pub fn copy(
         dst_table: &mut Table,
         dst: u64,
@@ -398,8 +457,10 @@ impl Table {
         fuel: Option<&mut Fuel>,
     ) -> Result<(), TableError>
         ensures { (charge : ℕ) × WritesTable
-            (typed_by dst_table.old src_table.now.ty.element (copy_of dst_table.old dst src_table.now.elements src len))
-            dst_table.old (option_copied_mut fuel.entry) result charge dst_table.new (left_behind (λ lent. lent.0.now) fuel.exit) }
+            (typed_by dst_table.old src_table.now.ty.element
+            (copy_of dst_table.old dst src_table.now.elements src len))
+            dst_table.old (option_copied_mut fuel.entry) result charge dst_table.new
+            (left_behind (λ lent. lent.0.now) fuel.exit) }
     {
         match fuel {
             Some(fuel) => dst_table.copy_metered(dst, src_table, src, len, fuel),
@@ -419,7 +480,8 @@ impl Table {
         fuel: &mut Fuel,
     ) -> Result<(), TableError>
         ensures { (charge : ℕ) × WritesTable
-            (typed_by self.old src_table.now.ty.element (copy_of self.old dst src_table.now.elements src len))
+            (typed_by self.old src_table.now.ty.element
+            (copy_of self.old dst src_table.now.elements src len))
             self.old (Some fuel.old) result charge self.new (Some fuel.new) }
     {
         self.ty.ensure_element_type_matches(src_table.ty.element())?;
@@ -435,10 +497,11 @@ impl Table {
         Ok(())
     }
 
-    /// Copies so many elements from `src` on over those from `dst` on. Where the ranges overlap, the old elements are
-    /// copied.
+    /// Copies so many elements from `src` on over those from `dst` on. Where the ranges overlap,
+    /// the old elements are copied.
     ///
-    /// Refusals in their order: `CopyOutOfBounds` where a range ends past the table; `OutOfFuel`, also for no element.
+    /// Refusals in their order: `CopyOutOfBounds` where a range ends past the table; `OutOfFuel`,
+    /// also for no element.
     pub fn copy_within(
         &mut self,
         dst: u64,
@@ -447,7 +510,8 @@ impl Table {
         fuel: Option<&mut Fuel>,
     ) -> Result<(), TableError>
         ensures { (charge : ℕ) × WritesTable (copy_of self.old dst self.old.elements src len)
-            self.old (option_copied_mut fuel.entry) result charge self.new (left_behind (λ lent. lent.0.now) fuel.exit) }
+            self.old (option_copied_mut fuel.entry) result charge self.new
+            (left_behind (λ lent. lent.0.now) fuel.exit) }
     {
         match fuel {
             Some(fuel) => self.copy_within_metered(dst, src, len, fuel),
@@ -480,8 +544,8 @@ impl Table {
         Ok(())
     }
 
-    /// Fills so many elements from `dst` on with a reference. The type of the reference is tested first
-    /// (`ElementTypeMismatch`); then as `fill_raw`.
+    /// Fills so many elements from `dst` on with a reference. The type of the reference is tested
+    /// first (`ElementTypeMismatch`); then as `fill_raw`.
     pub fn fill(
         &mut self,
         dst: u64,
@@ -489,8 +553,10 @@ impl Table {
         len: u64,
         fuel: Option<&mut Fuel>,
     ) -> Result<(), TableError>
-        ensures { (charge : ℕ) × WritesTable (typed_by self.old val.ty (filling_of self.old dst val.raw len))
-            self.old (option_copied_mut fuel.entry) result charge self.new (left_behind (λ lent. lent.0.now) fuel.exit) }
+        ensures { (charge : ℕ)
+            × WritesTable (typed_by self.old val.ty (filling_of self.old dst val.raw len))
+            self.old (option_copied_mut fuel.entry) result charge self.new
+            (left_behind (λ lent. lent.0.now) fuel.exit) }
     {
         match fuel {
             Some(fuel) => self.fill_metered(dst, val, len, fuel),
@@ -508,15 +574,16 @@ impl Table {
         len: u64,
         fuel: &mut Fuel,
     ) -> Result<(), TableError>
-        ensures { (charge : ℕ) × WritesTable (typed_by self.old val.ty (filling_of self.old dst val.raw len))
+        ensures { (charge : ℕ)
+            × WritesTable (typed_by self.old val.ty (filling_of self.old dst val.raw len))
             self.old (Some fuel.old) result charge self.new (Some fuel.new) }
     {
         self.ty.ensure_element_type_matches(val.ty)?;
         self.fill_raw_metered(dst, val.raw, len, fuel)
     }
 
-    /// Fills so many elements from `dst` on with a reference. Refusals in their order: `FillOutOfBounds` where they end
-    /// past the table; `OutOfFuel`, also for no element.
+    /// Fills so many elements from `dst` on with a reference. Refusals in their order:
+    /// `FillOutOfBounds` where they end past the table; `OutOfFuel`, also for no element.
     pub fn fill_raw(
         &mut self,
         dst: u64,
@@ -525,7 +592,8 @@ impl Table {
         fuel: Option<&mut Fuel>,
     ) -> Result<(), TableError>
         ensures { (charge : ℕ) × WritesTable (filling_of self.old dst val len)
-            self.old (option_copied_mut fuel.entry) result charge self.new (left_behind (λ lent. lent.0.now) fuel.exit) }
+            self.old (option_copied_mut fuel.entry) result charge self.new
+            (left_behind (λ lent. lent.0.now) fuel.exit) }
     {
         match fuel {
             Some(fuel) => self.fill_raw_metered(dst, val, len, fuel),

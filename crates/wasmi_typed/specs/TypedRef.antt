@@ -9,5 +9,6 @@ use Rattle.wasmi_typed.specs.declared.typed_ref.NotAReference.{NotAReference}
 
 -- the answer is the reference that a typed raw value is, or the error where its type is none of references
 abbrev pub IsReference : TypedRawVal → Result TypedRawRef NotAReference → Type 0
-IsReference typed (Ok reference) = (reference_of typed.ty ≡ Some reference.ty) × (reference.raw ≡ unsigned_in w32 typed.raw)
+IsReference typed (Ok reference) =
+    (reference_of typed.ty ≡ Some reference.ty) × (reference.raw ≡ unsigned_in w32 typed.raw)
 IsReference typed (Err error) = reference_of typed.ty ≡ None

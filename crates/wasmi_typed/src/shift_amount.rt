@@ -75,8 +75,8 @@ impl From<ShiftAmount> for u8 {
 
 /// A number whose bits are shifted, or a vector the bits of whose lanes are.
 ///
-/// The ten integer types have it and the arrays of the unsigned lanes of a vector, and no other type can. Upstream:
-/// `wasmi_core::IntoShiftAmount`, which other types can have.
+/// The ten integer types have it and the arrays of the unsigned lanes of a vector, and no other
+/// type can. Upstream: `wasmi_core::IntoShiftAmount`, which other types can have.
 pub trait IntoShiftAmount: sealed::Sealed {
     /// The type in which the amount is given.
     type ShiftSource: Copy + Number;
@@ -84,7 +84,8 @@ pub trait IntoShiftAmount: sealed::Sealed {
     /// The type of the number, or of a lane of the vector.
     type Lane: Number;
 
-    /// The remainder of `source` by the number of bits, or `None` where that is 0 and nothing is shifted.
+    /// The remainder of `source` by the number of bits, or `None` where that is 0 and nothing is
+    /// shifted.
     fn into_shift_amount(source: Self::ShiftSource) -> Option<ShiftAmount>
         ensures { result ≡ shift_amount (bits Self.Lane.width) (Self.ShiftSource.number source) };
 }

@@ -55,7 +55,8 @@ impl TypedRawRef {
 }
 
 impl From<TypedRawRef> for TypedRawVal {
-    ghost from_gives = { λ reference typed. typed ≡ record { ty = value_of reference.ty; raw = raw_of reference.raw } };
+    ghost from_gives = { λ reference typed. typed
+        ≡ record { ty = value_of reference.ty; raw = raw_of reference.raw } };
 
     fn from(reference: TypedRawRef) -> TypedRawVal {
         TypedRawVal::new(ValType::from(reference.ty), RawVal::from(reference.raw))

@@ -1,3 +1,3 @@
-pub mod SoFar
-pub mod Parts
-pub mod FunctionTypeOrder
+pub mod SoFarLemmas
+pub mod PartLemmas
+pub mod FunctionTypeOrderLemmas

@@ -7,4 +7,5 @@ at xs a n = if nat_le (a + n) (length xs) then Some (take n (drop a xs)) else No
 
 -- xs with ys at a, or none where the list ends before them
 abbrev pub overwrite : {A : Type 0} → List A → ℕ → List A → Option (List A)
-overwrite xs a ys = if nat_le (a + length ys) (length xs) then Some (take a xs ++ ys ++ drop (a + length ys) xs) else None
+overwrite xs a ys =
+    if nat_le (a + length ys) (length xs) then Some (take a xs ++ ys ++ drop (a + length ys) xs) else None

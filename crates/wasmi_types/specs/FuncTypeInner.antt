@@ -6,11 +6,14 @@ use Rattle.wasmi_types.specs.FunctionType.{FunctionType}
 
 -- the function type that is kept
 abbrev pub function_type_of : FuncTypeInner → FunctionType
-function_type_of (Inline params results types) = record { params = take params types; results = take results (drop params types) }
-function_type_of (Big params types) = record { params = take params (rc_slice_items types); results = drop params (rc_slice_items types) }
+function_type_of (Inline params results types) =
+    record { params = take params types; results = take results (drop params types) }
+function_type_of (Big params types) =
+    record { params = take params (rc_slice_items types); results = drop params (rc_slice_items types) }
 
 -- at most 21 entries stand inline, and more on the heap, of at most 1,000 parameters and 1,000 results
 abbrev pub IsKept : FuncTypeInner → Type 0
 IsKept (Inline params results types) = (params + results ≤ 21) × (length types ≡ 21)
 IsKept (Big params types) =
-    (21 < length (rc_slice_items types)) × (params ≤ 1000) × (params ≤ length (rc_slice_items types)) × (length (rc_slice_items types) ≤ params + 1000)
+    (21 < length (rc_slice_items types)) × (params ≤ 1000) × (params ≤ length (rc_slice_items types))
+    × (length (rc_slice_items types) ≤ params + 1000)

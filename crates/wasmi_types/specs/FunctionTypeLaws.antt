@@ -44,12 +44,16 @@ same_key false false m n m' n' xs ys e = (ap (λ l. slice_index l 1) e, ap (drop
 -- one order key, one function type
 pub order_key-one : (a b : FunctionType) → order_key a ≡ order_key b → a ≡ b
 order_key-one a b e =
-    let parts = same_key (nat_le (entry_count a) 21) (nat_le (entry_count b) 21) (length a.params) (length a.results) (length b.params) (length b.results) _ _ e in
-    let joined : entries a ≡ entries b = sym (types_from_numbers (entries a)) ∙ ap (map type_at) parts.1 ∙ types_from_numbers (entries b) in
+    let parts = same_key (nat_le (entry_count a) 21) (nat_le (entry_count b) 21) (length a.params) (length a.results)
+    (length b.params) (length b.results) _ _ e in
+    let joined : entries a ≡ entries b =
+    sym (types_from_numbers (entries a)) ∙ ap (map type_at) parts.1 ∙ types_from_numbers (entries b) in
     let params : a.params ≡ b.params =
-    sym (take-append_seam a.params a.results) ∙ (λ i. take (parts.0 i) (joined i)) ∙ take-append_seam b.params b.results in
+    sym (take-append_seam a.params a.results) ∙ (λ i. take (parts.0 i) (joined i))
+    ∙ take-append_seam b.params b.results in
     let results : a.results ≡ b.results =
-    sym (drop-append_seam a.params a.results) ∙ (λ i. drop (parts.0 i) (joined i)) ∙ drop-append_seam b.params b.results in
+    sym (drop-append_seam a.params a.results) ∙ (λ i. drop (parts.0 i) (joined i))
+    ∙ drop-append_seam b.params b.results in
     λ i. record { params = params i; results = results i }
 
 -- a test that decides whether two values are the same is an equivalence
@@ -82,7 +86,8 @@ module _ {E : ValType → ValType → Bool} (decides : (x y : ValType) → Decid
   pub same_lists_equiv : IsEquivalence (same_lists E)
   same_lists_equiv =
       let types : IsEquivalence E = equivalence_from_decides decides in
-      and_equiv (on_equiv (λ (ty : FunctionType). ty.params) (lists_equiv types)) (on_equiv (λ (ty : FunctionType). ty.results) (lists_equiv types))
+      and_equiv (on_equiv (λ (ty : FunctionType). ty.params) (lists_equiv types))
+      (on_equiv (λ (ty : FunctionType). ty.results) (lists_equiv types))
 
   -- the same function types have the same of anything
   pub same_lists_alike : {B : Type 0} (f : FunctionType → B) (a b : FunctionType) → same_lists E a b ≡ true → f a ≡ f b

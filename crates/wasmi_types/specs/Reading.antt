@@ -18,7 +18,8 @@ module _ {I : Type 0} (steps : I → Option ValType → I → Type 0) where
     pub run : Yields steps s xs t ⊎ YieldsThen steps s xs None t
     pub short : length xs ≤ 1000
 
-module _ {P R : Type 0} (of_params : P → Option ValType → P → Type 0) (of_results : R → Option ValType → R → Type 0) where
+module _ {P R : Type 0} (of_params : P → Option ValType → P → Type 0)
+    (of_results : R → Option ValType → R → Type 0) where
   -- memory was refused: the parameters from p to p' and then the results from r to r' were more than 21 together
   pub record IsOutOfMemory (p : P) (r : R) (p' : P) (r' : R) : Type 0 where
     pub params : List ValType
@@ -31,7 +32,8 @@ module _ {P R : Type 0} (of_params : P → Option ValType → P → Type 0) (of_
   -- why no function type was read
   abbrev pub IsRefusal : P → R → FuncTypeError → P → R → Type 0
   IsRefusal p r TooManyFunctionParams p' r' = ReadsTooMany 1000 of_params p p' × (r' ≡ r)
-  IsRefusal p r TooManyFunctionResults p' r' = ((params : List ValType) × ReadsAll 1000 of_params p params p') × ReadsTooMany 1000 of_results r r'
+  IsRefusal p r TooManyFunctionResults p' r' =
+      ((params : List ValType) × ReadsAll 1000 of_params p params p') × ReadsTooMany 1000 of_results r r'
   IsRefusal p r OutOfMemory p' r' = IsOutOfMemory p r p' r'
 
   -- the answer after calls from p to p' and from r to r': the function type of all that came, or the refusal
@@ -40,8 +42,10 @@ module _ {P R : Type 0} (of_params : P → Option ValType → P → Type 0) (of_
   IsReading p r (Err error) p' r' = IsRefusal p r error p' r'
 
 -- the answer after reading the iterators that x and y become
-pub record IsReadingOf {X Y P R : Type 0} (params_becomes : X → P → Type 0) (of_params : P → Option ValType → P → Type 0)
-    (results_becomes : Y → R → Type 0) (of_results : R → Option ValType → R → Type 0) (x : X) (y : Y) (answer : Result FunctionType FuncTypeError) : Type 0 where
+pub record IsReadingOf {X Y P R : Type 0} (params_becomes : X → P → Type 0)
+    (of_params : P → Option ValType → P → Type 0)
+    (results_becomes : Y → R → Type 0) (of_results : R → Option ValType → R → Type 0) (x : X) (y : Y)
+    (answer : Result FunctionType FuncTypeError) : Type 0 where
   pub params_before : P
   pub params_after : P
   pub results_before : R
@@ -72,4 +76,5 @@ module _ {I : Type 0} (steps : I → Option ValType → I → Type 0) where
 
   -- why a part was not read
   abbrev pub IsPartRefusal : FuncTypeError → I → List ValType → FuncTypeError → I → Type 0
-  IsPartRefusal too_many s before error t = ((error ≡ too_many) × ReadsTooMany 1000 steps s t) ⊎ ((error ≡ OutOfMemory) × IsPartOutOfMemory s before t)
+  IsPartRefusal too_many s before error t =
+      ((error ≡ too_many) × ReadsTooMany 1000 steps s t) ⊎ ((error ≡ OutOfMemory) × IsPartOutOfMemory s before t)

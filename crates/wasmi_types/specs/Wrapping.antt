@@ -2,7 +2,8 @@
 use Rattle.std.specs.Prelude.{ℕ, ◌^◌, ℤ, pos, unsigned_abs}
 use Rattle.std.specs.Int.{int_rem_euclid}
 pub use mir.Val.{bits}
--- the widths of 8 to 64 bits; a number below 2 ^ w, less 2 ^ w where it is 2 ^ (w - 1) or more; the nearest number of a signed or unsigned width
+-- the widths of 8 to 64 bits; a number below 2 ^ w, less 2 ^ w where it is 2 ^ (w - 1) or more; the nearest number of a
+-- signed or unsigned width
 pub use Rattle.std.specs.Int.{Width, w8, w16, w32, w64, cast_signed as signed, saturate_signed as clamp_signed, saturate_unsigned as clamp_unsigned}
 
 -- the number below 2 ^ w that differs from z by a multiple of 2 ^ w

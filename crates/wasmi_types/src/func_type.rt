@@ -40,7 +40,8 @@ impl fmt::Display for FuncTypeError {
 
 impl Error for FuncTypeError {}
 
-/// The type of a function: the types of its parameters and those of its results, at most 1,000 each.
+/// The type of a function: the types of its parameters and those of its results, at most 1,000
+/// each.
 ///
 /// Up to 21 of them together stand in the value; more are shared by all clones of it.
 /// Core specification 2.3, function types. Upstream: `wasmi_core::FuncType`.
@@ -92,29 +93,35 @@ impl FuncType {
         P: IntoIterator<Item = ValType>,
         R: IntoIterator<Item = ValType>,
         requires params { (it : P.IntoIter) → P.into_iter_gives params it → P.IntoIter.can_next it }
-        requires results { (first : P.IntoIter) (second : R.IntoIter) → P.into_iter_gives params first → R.into_iter_gives results second
+        requires results { (first : P.IntoIter) (second : R.IntoIter) → P.into_iter_gives params first
+            → R.into_iter_gives results second
             → AfterAll P.IntoIter.next_gives first (R.IntoIter.can_next second) }
-        ensures { IsReadingOf P.into_iter_gives P.IntoIter.next_gives R.into_iter_gives R.IntoIter.next_gives params results result }
+        ensures { IsReadingOf P.into_iter_gives P.IntoIter.next_gives R.into_iter_gives
+            R.IntoIter.next_gives params results result }
     {
         let mut params = params.into_iter();
         let mut results = results.into_iter();
         Self::read(alloc, &mut params, &mut results)
     }
 
-    /// Reads the parameters, then the results, each up to the first `None`, which is taken as the end.
+    /// Reads the parameters, then the results, each up to the first `None`, which is taken as the
+    /// end.
     ///
-    /// Of each it reads at most 1,001 items: more than 1,000 parameters are refused before any result is read, then
-    /// more than 1,000 results. Memory is taken, and can be refused, only where there are more than 21 items. Nothing
-    /// is read after the end or after a refusal, and the results may be read only once the parameters have ended.
+    /// Of each it reads at most 1,001 items: more than 1,000 parameters are refused before any
+    /// result is read, then more than 1,000 results. Memory is taken, and can be refused, only
+    /// where there are more than 21 items. Nothing is read after the end or after a refusal, and
+    /// the results may be read only once the parameters have ended.
     ///
-    /// Own: `new` takes its iterators by value, so that its contract can't say what is left of them.
+    /// Own: `new` takes its iterators by value, so that its contract can't say what is left of
+    /// them.
     pub fn read<P, R>(alloc: Global, params: &mut P, results: &mut R) -> Result<Self, FuncTypeError>
     where
         P: Iterator<Item = ValType>,
         R: Iterator<Item = ValType>,
         requires params { P.can_next params.old }
         requires results { AfterAll P.next_gives params.old (R.can_next results.old) }
-        ensures { IsReading P.next_gives R.next_gives params.old results.old result params.new results.new }
+        ensures { IsReading P.next_gives R.next_gives params.old results.old result params.new
+            results.new }
     {
         let mut entries = Entries::new(alloc);
         let len_params = entries.read(params, FuncTypeError::TooManyFunctionParams)?;
@@ -337,7 +344,8 @@ impl PartialOrd for FuncType {
 
     ghost partial_cmp = { as_partial_cmp function_type_cmp };
 
-    ghost laws = { partial_order_from_agreeing_total function_type_cmp (on_texts order_key) (λ a b. refl) (same_lists_by_cmp same_type_decides) };
+    ghost laws = { partial_order_from_agreeing_total function_type_cmp (on_texts order_key)
+        (λ a b. refl) (same_lists_by_cmp same_type_decides) };
 
     fn partial_cmp(&self, other: &Self) -> Option<Ordering> {
         Some(self.cmp(other))
@@ -387,7 +395,8 @@ impl Model for Entries {
 
     ghost view = { λ entries. take entries.len entries.inline ++ entries.rest.items };
 
-    ghost invariant = { λ entries. (length entries.inline ≡ 21) × (entries.len ≤ 21) × (entries.len < 21 → entries.rest.items ≡ []) };
+    ghost invariant = { λ entries. (length entries.inline ≡ 21) × (entries.len ≤ 21)
+        × (entries.len < 21 → entries.rest.items ≡ []) };
 }
 
 impl Entries {
@@ -438,8 +447,10 @@ impl Entries {
     where
         I: Iterator<Item = ValType>,
         requires { I.can_next types.old }
-        ensures ok { IfOk result (λ count. IsPart I.next_gives types.old self.old count types.new self.new) }
-        ensures err { IfErr result (λ error. IsPartRefusal I.next_gives too_many types.old self.old error types.new) }
+        ensures ok { IfOk result
+            (λ count. IsPart I.next_gives types.old self.old count types.new self.new) }
+        ensures err { IfErr result
+            (λ error. IsPartRefusal I.next_gives too_many types.old self.old error types.new) }
     {
         for count in 0..MAX_LEN {
             match self.push_next(types) {

@@ -9,8 +9,8 @@ use std::error::Error;
 use std::fmt;
 use std::marker::Model;
 
-/// Why a call of WebAssembly code or of the host ended early: a trap code, an exit status, a message
-/// or an error of the host. It stands in the value, and nothing is allocated for it.
+/// Why a call of WebAssembly code or of the host ended early: a trap code, an exit status, a
+/// message or an error of the host. It stands in the value, and nothing is allocated for it.
 ///
 /// Upstream: `wasmi_core::Trap`.
 #[derive(Debug, Drop)]
@@ -88,7 +88,8 @@ impl<H: HostError> Trap<H> {
 
     /// The error of the host to be changed, if this carries one.
     pub fn downcast_mut(&mut self) -> Option<&mut H>
-        ensures* writes_back { sem 𝓛 (LendsIf (the_row H.row) H.row self.entry result (with_host_error self.old) self.old) }
+        ensures* writes_back { sem 𝓛 (LendsIf (the_row H.row) H.row self.entry result
+            (with_host_error self.old) self.old) }
         ensures value { option_copied_mut result ≡ host_error_of self.old }
     {
         self.reason.as_host_mut()
@@ -110,7 +111,8 @@ impl<H> TrapReason<H> {
     ghost use Rattle.wasmi_types.specs.contracts.trap.TrapReason.{the_row};
 
     fn as_host_mut(&mut self) -> Option<&mut H>
-        ensures* writes_back { sem 𝓛 (LendsIf (the_row H.row) H.row self.entry result (with_host_error self.old) self.old) }
+        ensures* writes_back { sem 𝓛 (LendsIf (the_row H.row) H.row self.entry result
+            (with_host_error self.old) self.old) }
         ensures value { option_copied_mut result ≡ host_error_of self.old }
     {
         match self {

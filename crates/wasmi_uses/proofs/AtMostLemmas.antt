@@ -5,7 +5,7 @@ use Rattle.std.proofs.lemmas.Bool.{leb-true}
 use Rattle.std.proofs.lemmas.List.{length-replicate}
 use Rattle.std.proofs.lemmas.Option.{same_Some}
 use Rattle.wasmi_meter.specs.declared.error.MemoryError.{MemoryError}
-use Rattle.wasmi_meter.specs.Attempt.{Situation, Effort, Fate, Unasked, Denied, Met, Failed, Follows, value_after}
+use Rattle.wasmi_meter.specs.Attempt.{MeteredValue, Request, AttemptOutcome, Unasked, Denied, Met, Failed, Follows, value_after}
 use Rattle.wasmi_meter.specs.Limiter.{optional_rules}
 use Rattle.wasmi_meter.specs.Meter.{Meter}
 use Rattle.wasmi_store.specs.Memory.{MemoryValue, GrowsMemory, growth_of}
@@ -15,18 +15,18 @@ use Rattle.wasmi_uses.specs.AtMost.{at_most_rules}
 
 module _ (l l' : AtMost) where
   -- however an attempt ends, the limiter stays
-  limiter_stays : {V E : Type 0} (e : Effort V E) (fate : Fate E)
-      → Follows e (optional_rules at_most_rules) (Some l) fate (Some l') → l' ≡ l
+  limiter_stays : {V E : Type 0} (e : Request V E) (outcome : AttemptOutcome E)
+      → Follows e (optional_rules at_most_rules) (Some l) outcome (Some l') → l' ≡ l
   limiter_stays e (Unasked cause) follows = same_Some l' l follows
   limiter_stays e (Denied answer) follows = follows.1
   limiter_stays e Met follows = follows.1
-  limiter_stays e (Failed cause heed) (Some p, asked, noticed) = noticed.1 ∙ asked.1
-  limiter_stays e (Failed cause heed) (None, asked, noticed) = elim asked [ ]
+  limiter_stays e (Failed cause notice_answer) (Some p, asked, noticed) = noticed.1 ∙ asked.1
+  limiter_stays e (Failed cause notice_answer) (None, asked, noticed) = elim asked [ ]
 
   -- however it ends, a memory that was within the limit is so
-  value_within : (x : MemoryValue) (pages : ℕ) (fate : Fate MemoryError)
-      → Follows (growth_of x pages) (optional_rules at_most_rules) (Some l) fate (Some l') → length x.bytes ≤ l.bytes
-      → length (value_after (growth_of x pages) x fate).bytes ≤ l.bytes
+  value_within : (x : MemoryValue) (pages : ℕ) (outcome : AttemptOutcome MemoryError)
+      → Follows (growth_of x pages) (optional_rules at_most_rules) (Some l) outcome (Some l') → length x.bytes ≤ l.bytes
+      → length (value_after (growth_of x pages) x outcome).bytes ≤ l.bytes
   value_within x pages (Unasked cause) follows small = small
   value_within x pages (Denied answer) follows small = small
   value_within x pages Met follows small =
@@ -38,7 +38,7 @@ module _ (l l' : AtMost) where
         length-append x.bytes (replicate (pages * page_bytes x.ty.page) 0),
         length-replicate {A = ℕ} (pages * page_bytes x.ty.page) 0,
       )
-  value_within x pages (Failed cause heed) follows small = small
+  value_within x pages (Failed cause notice_answer) follows small = small
 
   module _ (x x' : MemoryValue) (m m' : Option Meter) where
     abbrev Grown : ℕ → Result ℕ MemoryError → ℕ → Type 0
@@ -51,15 +51,15 @@ module _ (l l' : AtMost) where
 
     -- so the limiter stays after a growth, and no more than it permits is there
     pub grown_stays : (pages : ℕ) (result : Result ℕ MemoryError) (charge : ℕ) → Grown pages result charge → l' ≡ l
-    grown_stays pages result charge (inl none) = same_Some l' l (ap (λ (s : Situation MemoryValue (Option AtMost)).
+    grown_stays pages result charge (inl none) = same_Some l' l (ap (λ (s : MeteredValue MemoryValue (Option AtMost)).
         s.limiter) none.same)
-    grown_stays pages result charge (inr some) = limiter_stays (growth_of x pages) some.fate some.attempt.follows
+    grown_stays pages result charge (inr some) = limiter_stays (growth_of x pages) some.outcome some.attempt.follows
 
     pub grown_within : (pages : ℕ) (result : Result ℕ MemoryError) (charge : ℕ) → Grown pages result charge
         → length x.bytes ≤ l.bytes → length x'.bytes ≤ l.bytes
     grown_within pages result charge (inl none) small =
-        subst (λ (y : MemoryValue). length y.bytes ≤ l.bytes) (sym (ap (λ (s : Situation MemoryValue (Option
+        subst (λ (y : MemoryValue). length y.bytes ≤ l.bytes) (sym (ap (λ (s : MeteredValue MemoryValue (Option
         AtMost)). s.value) none.same)) small
     grown_within pages result charge (inr some) small =
         subst (λ (y : MemoryValue). length y.bytes ≤ l.bytes) (sym some.attempt.value) (value_within x pages
-        some.fate some.attempt.follows small)
+        some.outcome some.attempt.follows small)

@@ -10,9 +10,9 @@ abbrev pub permits : AtMost → Kind → ℕ → Bool
 permits limiter Bytes desired = nat_le desired limiter.bytes
 permits limiter Elements desired = false
 
--- it says so, heeds each notice, and stays the same
+-- it says so, accepts each notice, and stays the same
 abbrev pub at_most_rules : Rules AtMost
 at_most_rules = record {
   asked = λ l q answer l'. (answer ≡ Ok (permits l q.kind q.desired)) × (l' ≡ l);
-  noticed = λ l failure heed l'. (heed ≡ Ok tt) × (l' ≡ l);
+  noticed = λ l failure notice_answer l'. (notice_answer ≡ Ok tt) × (l' ≡ l);
 }

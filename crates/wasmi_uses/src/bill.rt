@@ -19,8 +19,8 @@ pub struct Bill {
     pub charged: u64,
 }
 
-/// Runs calls, and makes out a bill: with what is left it is what was left before, and it is what the calls were
-/// charged, one by one. A call that sets the fuel has no place in it.
+/// Runs calls, and makes out a bill: with what is left it is what was left before, and it is what
+/// the calls were charged, one by one. A call that sets the fuel has no place in it.
 pub fn run_billed<L: ResourceLimiter>(
     machine: &mut Machine,
     calls: &[Call],
@@ -30,7 +30,8 @@ pub fn run_billed<L: ResourceLimiter>(
     ensures run { IfOk result (λ bill. IsRunOf (optional_rules L.rules) calls.now
         (world machine.old (Some limiter.old)) bill.replies.items
         (world machine.new (Some limiter.new))) }
-    ensures bill { IfOk result (λ bill. IsBill machine.old calls.now bill.replies.items bill.charged machine.new) }
+    ensures bill { IfOk result
+        (λ bill. IsBill machine.old calls.now bill.replies.items bill.charged machine.new) }
     ensures off { machine.old.meter.left ≡ None → IfOk result (λ bill. bill.charged ≡ 0) }
     ensures err { OnErr result ((machine.new ≡ machine.old) × (limiter.new ≡ limiter.old)) }
 {

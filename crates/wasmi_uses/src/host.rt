@@ -19,8 +19,9 @@ pub struct Plugin<'r> {
     pub replies: Vec<Reply>,
 }
 
-/// Runs the calls of a plug-in on a machine of its own with this meter, under a quota of so many bytes of memories and
-/// elements of tables. Whatever the calls, the machine has no more of either afterwards.
+/// Runs the calls of a plug-in on a machine of its own with this meter, under a quota of so many
+/// bytes of memories and elements of tables. Whatever the calls, the machine has no more of either
+/// afterwards.
 pub fn run_plugin<'r>(
     alloc: Global,
     fuel: Fuel,
@@ -28,7 +29,8 @@ pub fn run_plugin<'r>(
     bytes: u64,
     elements: u64,
 ) -> Result<Plugin<'r>, AllocError>
-    ensures run { IfOk result (λ ran. RunsUnderQuota bytes elements fuel calls.now ran.replies.items ran.machine) }
+    ensures run { IfOk result
+        (λ ran. RunsUnderQuota bytes elements fuel calls.now ran.replies.items ran.machine) }
     ensures bytes { IfOk result (λ ran. total ran.machine Bytes ≤ bytes) }
     ensures elements { IfOk result (λ ran. total ran.machine Elements ≤ elements) }
 {
@@ -39,8 +41,9 @@ pub fn run_plugin<'r>(
     Ok(Plugin { machine, replies })
 }
 
-/// Runs the calls of the first tenant of a pool, and then those of the second. Whatever they ask for, all tenants
-/// together stay within the pool's caps, which stay. After an error the first may have run.
+/// Runs the calls of the first tenant of a pool, and then those of the second. Whatever they ask
+/// for, all tenants together stay within the pool's caps, which stay. After an error the first may
+/// have run.
 pub fn run_both(
     pool: &mut Pool,
     first: &[Call],

@@ -55,8 +55,8 @@ impl ResourceLimiter for AtMost {
     }
 }
 
-/// Grows a memory by so many pages of its type, and answers its old size in pages. Where it had no more bytes than the
-/// limiter permits it has no more afterwards, and the limiter stays as it was.
+/// Grows a memory by so many pages of its type, and answers its old size in pages. Where it had no
+/// more bytes than the limiter permits it has no more afterwards, and the limiter stays as it was.
 ///
 /// The errors are those of `Memory::grow`, in its order.
 pub fn grow(
@@ -66,9 +66,11 @@ pub fn grow(
     limiter: &mut AtMost,
 ) -> Result<u64, MemoryError>
     ensures grown { (charge : _) × GrowsMemory (optional_rules at_most_rules) pages
-        (record { value = memory.old; meter = Some fuel.old; limiter = Some limiter.old }) result charge
+        (record { value = memory.old; meter = Some fuel.old; limiter = Some limiter.old }) result
+        charge
         (record { value = memory.new; meter = Some fuel.new; limiter = Some limiter.new }) }
-    ensures within { length memory.old.bytes ≤ limiter.old.bytes → length memory.new.bytes ≤ limiter.old.bytes }
+    ensures within { length memory.old.bytes ≤ limiter.old.bytes
+        → length memory.new.bytes ≤ limiter.old.bytes }
     ensures limiter { limiter.new ≡ limiter.old }
 {
     memory.grow_lending(pages, Some(fuel), limiter)

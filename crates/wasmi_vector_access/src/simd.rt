@@ -6,7 +6,7 @@
 
 mod extending;
 mod lane;
-mod one_lane;
+mod memory_lane;
 mod splat;
 mod whole;
 
@@ -15,7 +15,7 @@ pub use extending::{
     v128_load16x4_s_at, v128_load16x4_u, v128_load16x4_u_at, v128_load32x2_s, v128_load32x2_s_at,
     v128_load32x2_u, v128_load32x2_u_at,
 };
-pub use one_lane::{
+pub use memory_lane::{
     v128_load8_lane, v128_load8_lane_at, v128_load16_lane, v128_load16_lane_at, v128_load32_lane,
     v128_load32_lane_at, v128_load64_lane, v128_load64_lane_at, v128_store8_lane,
     v128_store8_lane_at, v128_store16_lane, v128_store16_lane_at, v128_store32_lane,

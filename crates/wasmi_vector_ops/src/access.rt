@@ -113,7 +113,8 @@ pub enum StoreLaneOp {
 }
 
 impl StoreLaneOp {
-    /// Stores the lane at `ptr + offset`. The only error is `MemoryOutOfBounds`, and then nothing is written.
+    /// Stores the lane at `ptr + offset`. The only error is `MemoryOutOfBounds`, and then nothing
+    /// is written.
     #[inline]
     pub fn store(
         self,

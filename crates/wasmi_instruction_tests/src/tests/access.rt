@@ -15,8 +15,8 @@ const ONES: [u8; 16] = [255; 16];
 
 const SEVENS: [u8; 16] = [7; 16];
 
-/// A load of 16 bytes 255, plainly and at an address, gives `$value` at `$last`, the last address that fits. It is refused
-/// one past it, and at sums of 2 to the power 64 or more.
+/// A load of 16 bytes 255, plainly and at an address, gives `$value` at `$last`, the last address
+/// that fits. It is refused one past it, and at sums of 2 to the power 64 or more.
 macro_rules! loads {
     ($rt:expr; $plain:ident, $at:ident, $last:expr, $value:expr) => {
         let answers = [$plain(&ONES, $last, 0), $at(&ONES, $last)];
@@ -64,8 +64,9 @@ const STORED_32: [u8; 16] = [7, 7, 7, 7, 7, 7, 7, 7, 7, 7, 7, 7, 1, 2, 3, 4];
 
 const STORED_64: [u8; 16] = [7, 7, 7, 7, 7, 7, 7, 7, 1, 2, 3, 4, 5, 6, 7, 8];
 
-/// A store to 16 bytes 7, plainly and at an address, leaves `$stored` at `$last`, the last address that fits. It is refused
-/// one past it, and at sums of 2 to the power 64 or more, and then writes nothing.
+/// A store to 16 bytes 7, plainly and at an address, leaves `$stored` at `$last`, the last address
+/// that fits. It is refused one past it, and at sums of 2 to the power 64 or more, and then writes
+/// nothing.
 macro_rules! stores {
     ($rt:expr; $plain:ident, $at:ident, $last:expr, $value:expr, $stored:expr) => {{
         let mut untouched = SEVENS;

@@ -4,7 +4,7 @@ ghost use Rattle.std.specs.Prelude.{◌≡◌, ◌*◌, ◌%◌, ◌^◌, ◌+�
 ghost use Rattle.wasmi_types.specs.Wrapping.{w8, w16, w32, w64, clamp_signed};
 ghost use Rattle.wasmi_lanewise.specs.VectorTable as vector;
 
-use crate::simd::{fractions, order, words};
+use crate::simd::{order, q15, words};
 use wasmi_lanes::{I8x16, I16x8, I32x4, U8x16, U16x8, U32x4, on_vectors};
 use wasmi_raw::V128;
 
@@ -106,8 +106,9 @@ pub fn i64x2_mul(lhs: V128, rhs: V128) -> V128
     V128::from_words(a_low.wrapping_mul(b_low), product_by_u128(a_high, b_high))
 }
 
-// The product modulo 2 to the power 64, as the high word of one of 128 bits. Beside a product of two words LLVM doesn't
-// take it for a lane of the same vector, whose product (three of `pmuludq`) is slower than two of words.
+// The product modulo 2 to the power 64, as the high word of one of 128 bits. Beside a product of
+// two words LLVM doesn't take it for a lane of the same vector, whose product (three of `pmuludq`)
+// is slower than two of words.
 #[inline(always)]
 fn product_by_u128(x: u64, y: u64) -> u64
     ensures { result ≡ x * y % 2 ^ 64 }
@@ -179,12 +180,13 @@ pub fn i16x8_sub_sat_u(lhs: V128, rhs: V128) -> V128
     on_vectors::binary::<U16x8, _>(lhs, rhs, |x, y| x.saturating_sub(y))
 }
 
-/// The products of the lanes, read as signed fractions of 2 to the power 15, rounded and clamped to the signed range.
+/// The products of the lanes, read as signed q15 of 2 to the power 15, rounded and clamped to the
+/// signed range.
 #[inline]
 pub fn i16x8_q15mulr_sat_s(lhs: V128, rhs: V128) -> V128
     ensures { result ≡ vector.q15mulr_sat_s lhs rhs }
 {
-    fractions::rounded_products(lhs, rhs)
+    q15::rounded_products(lhs, rhs)
 }
 
 /// The smaller ones of the lanes, read signed.

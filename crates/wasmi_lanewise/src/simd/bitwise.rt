@@ -3,7 +3,7 @@
 ghost use Rattle.std.specs.Prelude.{◌≡◌};
 ghost use Rattle.wasmi_lanewise.specs.VectorTable as vector;
 
-use wasmi_lanes::{from_words, words_of};
+use wasmi_lanes::{from_u64x2, u64x2_of};
 use wasmi_raw::V128;
 
 /// Bitwise and.
@@ -58,6 +58,6 @@ pub fn v128_andnot(lhs: V128, rhs: V128) -> V128
 pub fn v128_bitselect(v1: V128, v2: V128, c: V128) -> V128
     ensures { result ≡ vector.v128_bitselect v1 v2 c }
 {
-    let ones = words_of(c);
-    from_words((words_of(v1) & ones) | (words_of(v2) & !ones))
+    let ones = u64x2_of(c);
+    from_u64x2((u64x2_of(v1) & ones) | (u64x2_of(v2) & !ones))
 }

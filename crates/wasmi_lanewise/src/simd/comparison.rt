@@ -183,7 +183,8 @@ pub fn i32x4_le_u(lhs: V128, rhs: V128) -> V128
     order::at_most_u::<u32>(lhs, rhs)
 }
 
-/// All ones where the lane of `lhs` is greater than that of `rhs`, both read signed, else all zeros.
+/// All ones where the lane of `lhs` is greater than that of `rhs`, both read signed, else all
+/// zeros.
 #[inline]
 pub fn i8x16_gt_s(lhs: V128, rhs: V128) -> V128
     ensures { result ≡ vector.gt_s w8 lhs rhs }
@@ -191,7 +192,8 @@ pub fn i8x16_gt_s(lhs: V128, rhs: V128) -> V128
     order::greater_s::<u8>(lhs, rhs)
 }
 
-/// All ones where the lane of `lhs` is greater than that of `rhs`, both read signed, else all zeros.
+/// All ones where the lane of `lhs` is greater than that of `rhs`, both read signed, else all
+/// zeros.
 #[inline]
 pub fn i16x8_gt_s(lhs: V128, rhs: V128) -> V128
     ensures { result ≡ vector.gt_s w16 lhs rhs }
@@ -199,7 +201,8 @@ pub fn i16x8_gt_s(lhs: V128, rhs: V128) -> V128
     order::greater_s::<u16>(lhs, rhs)
 }
 
-/// All ones where the lane of `lhs` is greater than that of `rhs`, both read signed, else all zeros.
+/// All ones where the lane of `lhs` is greater than that of `rhs`, both read signed, else all
+/// zeros.
 #[inline]
 pub fn i32x4_gt_s(lhs: V128, rhs: V128) -> V128
     ensures { result ≡ vector.gt_s w32 lhs rhs }
@@ -207,7 +210,8 @@ pub fn i32x4_gt_s(lhs: V128, rhs: V128) -> V128
     order::greater_s::<u32>(lhs, rhs)
 }
 
-/// All ones where the lane of `lhs` is greater than that of `rhs`, both read signed, else all zeros.
+/// All ones where the lane of `lhs` is greater than that of `rhs`, both read signed, else all
+/// zeros.
 #[inline]
 pub fn i64x2_gt_s(lhs: V128, rhs: V128) -> V128
     ensures { result ≡ vector.gt_s w64 lhs rhs }
@@ -215,7 +219,8 @@ pub fn i64x2_gt_s(lhs: V128, rhs: V128) -> V128
     order::greater_s::<u64>(lhs, rhs)
 }
 
-/// All ones where the lane of `lhs` is greater than that of `rhs`, both read unsigned, else all zeros.
+/// All ones where the lane of `lhs` is greater than that of `rhs`, both read unsigned, else all
+/// zeros.
 #[inline]
 pub fn i8x16_gt_u(lhs: V128, rhs: V128) -> V128
     ensures { result ≡ vector.gt_u w8 lhs rhs }
@@ -223,7 +228,8 @@ pub fn i8x16_gt_u(lhs: V128, rhs: V128) -> V128
     order::greater_u::<u8>(lhs, rhs)
 }
 
-/// All ones where the lane of `lhs` is greater than that of `rhs`, both read unsigned, else all zeros.
+/// All ones where the lane of `lhs` is greater than that of `rhs`, both read unsigned, else all
+/// zeros.
 #[inline]
 pub fn i16x8_gt_u(lhs: V128, rhs: V128) -> V128
     ensures { result ≡ vector.gt_u w16 lhs rhs }
@@ -231,7 +237,8 @@ pub fn i16x8_gt_u(lhs: V128, rhs: V128) -> V128
     order::greater_u::<u16>(lhs, rhs)
 }
 
-/// All ones where the lane of `lhs` is greater than that of `rhs`, both read unsigned, else all zeros.
+/// All ones where the lane of `lhs` is greater than that of `rhs`, both read unsigned, else all
+/// zeros.
 #[inline]
 pub fn i32x4_gt_u(lhs: V128, rhs: V128) -> V128
     ensures { result ≡ vector.gt_u w32 lhs rhs }

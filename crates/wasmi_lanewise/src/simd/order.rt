@@ -47,7 +47,7 @@ pub(super) fn at_least_u<T: SimdLane>(lhs: V128, rhs: V128) -> V128
 pub(super) fn less_s<T: SimdLane>(lhs: V128, rhs: V128) -> V128
     ensures { result ≡ vector.lt_s T.width lhs rhs }
 {
-    ones_if_less::<T>(T::raised(T::lanes_of(lhs)), T::raised(T::lanes_of(rhs)))
+    ones_if_less::<T>(T::biased(T::lanes_of(lhs)), T::biased(T::lanes_of(rhs)))
 }
 
 /// All ones where the lane of `lhs` is greater than that of `rhs`, read signed, else all zeros.
@@ -63,7 +63,7 @@ pub(super) fn greater_s<T: SimdLane>(lhs: V128, rhs: V128) -> V128
 pub(super) fn at_most_s<T: SimdLane>(lhs: V128, rhs: V128) -> V128
     ensures { result ≡ vector.le_s T.width lhs rhs }
 {
-    zeros_if_less::<T>(T::raised(T::lanes_of(rhs)), T::raised(T::lanes_of(lhs)))
+    zeros_if_less::<T>(T::biased(T::lanes_of(rhs)), T::biased(T::lanes_of(lhs)))
 }
 
 /// All ones where the lane of `lhs` is at least that of `rhs`, read signed, else all zeros.
@@ -98,7 +98,7 @@ pub(super) fn smaller_s<T: SimdLane>(lhs: V128, rhs: V128) -> V128
     ensures { result ≡ vector.min_s T.width lhs rhs }
 {
     let (a, b) = (T::lanes_of(lhs), T::lanes_of(rhs));
-    T::vector_of(T::choose_if_less(T::raised(b), T::raised(a), b, a))
+    T::vector_of(T::choose_if_less(T::biased(b), T::biased(a), b, a))
 }
 
 /// The larger ones of the lanes, read signed.
@@ -107,12 +107,14 @@ pub(super) fn larger_s<T: SimdLane>(lhs: V128, rhs: V128) -> V128
     ensures { result ≡ vector.max_s T.width lhs rhs }
 {
     let (a, b) = (T::lanes_of(lhs), T::lanes_of(rhs));
-    T::vector_of(T::choose_if_less(T::raised(b), T::raised(a), a, b))
+    T::vector_of(T::choose_if_less(T::biased(b), T::biased(a), a, b))
 }
 
 #[inline(always)]
 fn ones_if_less<T: SimdLane>(a: T::Vector, b: T::Vector) -> V128
-    ensures lanes { (i : ℕ) → i < T.COUNT → lane T.width result i ≡ (if nat_lt (T.at a i) (T.at b i) then 2 ^ bits T.width - 1 else 0) }
+    ensures lanes { (i : ℕ) → i < T.COUNT
+        → lane T.width result i
+        ≡ (if nat_lt (T.at a i) (T.at b i) then 2 ^ bits T.width - 1 else 0) }
     ensures in_range { result < 2 ^ 128 }
 {
     let ones = T::splat(T::ALL_ONES);
@@ -122,7 +124,9 @@ fn ones_if_less<T: SimdLane>(a: T::Vector, b: T::Vector) -> V128
 
 #[inline(always)]
 fn zeros_if_less<T: SimdLane>(a: T::Vector, b: T::Vector) -> V128
-    ensures lanes { (i : ℕ) → i < T.COUNT → lane T.width result i ≡ (if nat_lt (T.at a i) (T.at b i) then 0 else 2 ^ bits T.width - 1) }
+    ensures lanes { (i : ℕ) → i < T.COUNT
+        → lane T.width result i
+        ≡ (if nat_lt (T.at a i) (T.at b i) then 0 else 2 ^ bits T.width - 1) }
     ensures in_range { result < 2 ^ 128 }
 {
     let ones = T::splat(T::ALL_ONES);

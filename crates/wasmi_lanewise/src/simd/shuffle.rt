@@ -32,10 +32,11 @@ pub fn i8x16_swizzle(a: V128, s: V128) -> V128
 #[inline(always)]
 fn picked_or_zero(table: u8x16, indices: u8x16) -> u8x16
     ensures lanes { (i : ℕ) → i < 16 → slice_index result i
-        ≡ (if nat_lt (slice_index indices i) 16 then slice_index table (slice_index indices i) else 0) }
+        ≡ (if nat_lt (slice_index indices i) 16 then slice_index table
+        (slice_index indices i) else 0) }
 {
-    let raised = indices.simd_min(u8x16::splat(16)) + u8x16::splat(0x70);
-    table.swizzle_dyn_within::<16>(raised & u8x16::splat(0x8f))
+    let biased = indices.simd_min(u8x16::splat(16)) + u8x16::splat(0x70);
+    table.swizzle_dyn_within::<16>(biased & u8x16::splat(0x8f))
 }
 
 /// The lanes of `table` at the low four bits of the indices.

@@ -40,7 +40,8 @@ pub fn i64x2_neg(v: V128) -> V128
     words::negations::<u64>(v)
 }
 
-/// The absolute values of the lanes, read signed; the least number is its own, modulo 2 to the power 8.
+/// The absolute values of the lanes, read signed; the least number is its own, modulo 2 to the
+/// power 8.
 #[inline]
 pub fn i8x16_abs(v: V128) -> V128
     ensures { result ≡ vector.abs w8 v }
@@ -48,7 +49,8 @@ pub fn i8x16_abs(v: V128) -> V128
     on_vectors::unary::<I8x16, _>(v, |x| x.wrapping_abs())
 }
 
-/// The absolute values of the lanes, read signed; the least number is its own, modulo 2 to the power 16.
+/// The absolute values of the lanes, read signed; the least number is its own, modulo 2 to the
+/// power 16.
 #[inline]
 pub fn i16x8_abs(v: V128) -> V128
     ensures { result ≡ vector.abs w16 v }
@@ -56,7 +58,8 @@ pub fn i16x8_abs(v: V128) -> V128
     on_vectors::unary::<I16x8, _>(v, |x| x.wrapping_abs())
 }
 
-/// The absolute values of the lanes, read signed; the least number is its own, modulo 2 to the power 32.
+/// The absolute values of the lanes, read signed; the least number is its own, modulo 2 to the
+/// power 32.
 #[inline]
 pub fn i32x4_abs(v: V128) -> V128
     ensures { result ≡ vector.abs w32 v }
@@ -64,7 +67,8 @@ pub fn i32x4_abs(v: V128) -> V128
     on_vectors::unary::<I32x4, _>(v, |x| x.wrapping_abs())
 }
 
-/// The absolute values of the lanes, read signed; the least number is its own, modulo 2 to the power 64.
+/// The absolute values of the lanes, read signed; the least number is its own, modulo 2 to the
+/// power 64.
 #[inline]
 pub fn i64x2_abs(v: V128) -> V128
     ensures { result ≡ vector.abs w64 v }

@@ -11,7 +11,7 @@ ghost use Rattle.wasmi_lanewise.specs.VectorTable as vector;
 
 use std::simd::prelude::*;
 use wasmi_lanes::words::{word_add, word_differ, word_sub};
-use wasmi_lanes::{WordLane, from_words, words_of};
+use wasmi_lanes::{WordLane, from_u64x2, u64x2_of};
 use wasmi_raw::V128;
 
 /// The sums of the lanes, modulo 2 to the power of their width.
@@ -47,7 +47,7 @@ pub(super) fn differences<T: WordLane>(lhs: V128, rhs: V128) -> V128
 fn inverted(v: V128) -> V128
     ensures { result ≡ vector.v128_not v }
 {
-    from_words(!words_of(v))
+    from_u64x2(!u64x2_of(v))
 }
 
 /// The lanes negated, modulo 2 to the power of their width.
@@ -127,17 +127,19 @@ fn ones_if_equal(a: u64, b: u64) -> u64
 }
 
 // The vector of two words of which each lane is 0 or its highest bit alone, those with the bit
-// filled with ones: twice the bit, which is the bit above the lane, less the lane's lowest. Of plain
-// words LLVM would take two vectors a turn of a loop, and regroup their words before and after.
+// filled with ones: twice the bit, which is the bit above the lane, less the lane's lowest. Of
+// plain words LLVM would take two vectors a turn of a loop, and regroup their words before and
+// after.
 #[inline(always)]
 fn filled<T: WordLane>(low: u64, high: u64) -> V128
     requires low { AreMarks T.width low }
     requires high { AreMarks T.width high }
-    ensures words { (x : ℕ) × (y : ℕ) × (result ≡ vector_of x y) × (x < 2 ^ 64) × (y < 2 ^ 64) × AreFilled T.width low x × AreFilled T.width high y }
+    ensures words { (x : ℕ) × (y : ℕ) × (result ≡ vector_of x y) × (x < 2 ^ 64) × (y < 2 ^ 64)
+        × AreFilled T.width low x × AreFilled T.width high y }
 {
     let marks = u64x2::from_array([low, high]);
     let ones = marks >> u64x2::splat(u64::from(T::BITS - 1));
-    from_words((marks + marks) - ones)
+    from_u64x2((marks + marks) - ones)
 }
 
 /// The averages of the lanes, read unsigned, halves rounded up.
@@ -165,8 +167,8 @@ fn word_averages(a: u64, b: u64, tops: u64) -> u64
 
 /// How many bits of each lane of 8 bits are one.
 ///
-/// Counted in lanes of 2, 4 and 8 bits in turn, each the sum of its halves. Both words are one value
-/// of the processor's, for the reason at `filled`.
+/// Counted in lanes of 2, 4 and 8 bits in turn, each the sum of its halves. Both words are one
+/// value of the processor's, for the reason at `filled`.
 #[inline(always)]
 pub(super) fn counts_of_ones(v: V128) -> V128
     ensures { result ≡ vector.popcnt w8 v }
@@ -178,5 +180,5 @@ pub(super) fn counts_of_ones(v: V128) -> V128
     let twos = u64x2::splat(0x3333_3333_3333_3333);
     let nibbles = (pairs & twos) + ((pairs >> u64x2::splat(2)) & twos);
     let fours = u64x2::splat(0x0f0f_0f0f_0f0f_0f0f);
-    from_words((nibbles + (nibbles >> u64x2::splat(4))) & fours)
+    from_u64x2((nibbles + (nibbles >> u64x2::splat(4))) & fours)
 }

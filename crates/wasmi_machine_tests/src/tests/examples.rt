@@ -13,7 +13,7 @@ struct OnePage;
 impl ResourceLimiter for OnePage {
     ghost rules = { record {
       asked = λ limiter question answer limiter'. Unit {0};
-      noticed = λ limiter failure heed limiter'. Unit {0};
+      noticed = λ limiter failure notice_answer limiter'. Unit {0};
     } };
 
     fn memory_growing(

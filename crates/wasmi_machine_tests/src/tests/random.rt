@@ -12,7 +12,7 @@ const REGION: u64 = 3;
 
 /// A memory or a table as it is foretold, and the replies where it can't be made or grown.
 #[derive(Clone, Copy)]
-pub(super) struct Part {
+pub(super) struct Instance {
     /// Pages or elements.
     pub(super) size: u64,
     /// By how much it grows.
@@ -28,7 +28,7 @@ pub(super) struct Part {
 }
 
 /// A memory with pages of 64 KiB.
-const OWNED: Part = Part {
+const OWNED: Instance = Instance {
     size: 1,
     growth: 1,
     most: u64::MAX,
@@ -41,14 +41,14 @@ const OWNED: Part = Part {
 };
 
 /// Such a memory without a page.
-pub(super) const EMPTY: Part = Part {
+pub(super) const EMPTY: Instance = Instance {
     size: 0,
     most_metered: 0,
     ..OWNED
 };
 
 /// A memory in the spare region, with pages of one byte, which cost nothing.
-const LENT: Part = Part {
+const LENT: Instance = Instance {
     size: 2,
     most: REGION,
     most_metered: REGION,
@@ -57,7 +57,7 @@ const LENT: Part = Part {
 };
 
 /// A table, of which 16 elements can't be paid for.
-const TABLE: Part = Part {
+const TABLE: Instance = Instance {
     size: 2,
     growth: 16,
     most: u64::MAX,
@@ -67,7 +67,7 @@ const TABLE: Part = Part {
     too_large: ReplyRow::Table(TableError::OutOfFuel { required_fuel: 1 }),
 };
 
-impl Part {
+impl Instance {
     /// The reply where a size is out of reach.
     fn failed(&self, size: u64, is_metered: bool) -> Option<ReplyRow> {
         let most = if is_metered {
@@ -100,14 +100,14 @@ struct Foretold {
     random: RandomAnswers,
     is_metered: bool,
     has_region: bool,
-    memories: Vec<Part>,
-    tables: Vec<Part>,
+    memories: Vec<Instance>,
+    tables: Vec<Instance>,
 }
 
 /// The reply to the creation of one part more.
 fn create(
-    parts: &mut Vec<Part>,
-    part: Part,
+    parts: &mut Vec<Instance>,
+    part: Instance,
     random: &mut RandomAnswers,
     is_metered: bool,
 ) -> Result<ReplyRow, AllocError> {
@@ -125,7 +125,7 @@ fn create(
 
 /// The reply to the growth of the part at an index.
 fn grow(
-    parts: &mut [Part],
+    parts: &mut [Instance],
     index: usize,
     random: &mut RandomAnswers,
     is_metered: bool,
@@ -138,7 +138,7 @@ fn grow(
 
 impl Foretold {
     /// The reply to the creation of a memory.
-    fn new_memory(&mut self, memory: Part) -> Result<ReplyRow, AllocError> {
+    fn new_memory(&mut self, memory: Instance) -> Result<ReplyRow, AllocError> {
         create(
             &mut self.memories,
             memory,
@@ -153,7 +153,7 @@ impl Foretold {
             return Ok(ReplyRow::NoRegion);
         }
         self.has_region = false;
-        self.new_memory(Part { size, ..LENT })
+        self.new_memory(Instance { size, ..LENT })
     }
 
     /// The call that three random bits choose, and its reply.
@@ -239,9 +239,9 @@ const RANDOM_CALLS: [u64; 4] = [
 
 #[test]
 fn random_answers_leave_creations_as_they_are_told(rt: HostRuntime) -> Result<(), Fail> {
-    for (answers, heeds, _permitted) in RANDOM_NUMBERS {
+    for (answers, accepts, _permitted) in RANDOM_NUMBERS {
         for calls in RANDOM_CALLS {
-            let random = RandomAnswers::new(answers, heeds);
+            let random = RandomAnswers::new(answers, accepts);
             runs_as_foretold(&rt, false, random, calls)?;
             runs_as_foretold(&rt, true, random, calls)?;
         }

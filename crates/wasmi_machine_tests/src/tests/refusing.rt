@@ -11,20 +11,21 @@ use wasmi_core::{LimiterError, Machine, MemoryError, ResourceLimiter, TableError
 
 const REFUSAL: LimiterError = LimiterError::ResourceLimiterDeniedAllocation;
 
-/// Answers questions by the bits of one number, two for each, and notices by the bits of another, one for each.
+/// Answers questions by the bits of one number, two for each, and notices by the bits of another,
+/// one for each.
 #[derive(Clone, Copy, Debug, PartialEq, Eq)]
 pub(super) struct RandomAnswers {
     answers: u64,
-    heeds: u64,
+    accepts: u64,
     questions: u32,
     notices: u32,
 }
 
 impl RandomAnswers {
-    pub(super) fn new(answers: u64, heeds: u64) -> Self {
+    pub(super) fn new(answers: u64, accepts: u64) -> Self {
         RandomAnswers {
             answers,
-            heeds,
+            accepts,
             questions: 0,
             notices: 0,
         }
@@ -41,9 +42,9 @@ impl RandomAnswers {
         }
     }
 
-    pub(super) fn heed(&mut self) -> Result<(), LimiterError> {
-        let bit = self.heeds & 1;
-        self.heeds = self.heeds.rotate_right(1);
+    pub(super) fn notice_answer(&mut self) -> Result<(), LimiterError> {
+        let bit = self.accepts & 1;
+        self.accepts = self.accepts.rotate_right(1);
         self.notices = self.notices.saturating_add(1);
         if bit == 0 { Ok(()) } else { Err(REFUSAL) }
     }
@@ -52,7 +53,7 @@ impl RandomAnswers {
     pub(super) fn reply(&mut self, replies: Replies) -> ReplyRow {
         match (self.answer(), replies.failed) {
             (Ok(true), None) => replies.permitted,
-            (Ok(true), Some(failed)) => match self.heed() {
+            (Ok(true), Some(failed)) => match self.notice_answer() {
                 Ok(()) => failed,
                 Err(_) => replies.refused,
             },
@@ -67,7 +68,7 @@ impl RandomAnswers {
 pub(super) struct Replies {
     pub(super) permitted: ReplyRow,
     pub(super) denied: ReplyRow,
-    /// The limiter answers, or heeds the notice, by an error.
+    /// The limiter answers, or accepts the notice, by an error.
     pub(super) refused: ReplyRow,
     /// What is permitted fails, where it does.
     pub(super) failed: Option<ReplyRow>,
@@ -98,11 +99,11 @@ impl ResourceLimiter for RandomAnswers {
     }
 
     fn memory_grow_failed(&mut self, _error: &MemoryError) -> Result<(), LimiterError> {
-        self.heed()
+        self.notice_answer()
     }
 
     fn table_grow_failed(&mut self, _error: &TableError) -> Result<(), LimiterError> {
-        self.heed()
+        self.notice_answer()
     }
 
     fn instances(&self) -> usize {
@@ -128,7 +129,8 @@ pub(super) const RANDOM_NUMBERS: [(u64, u64, u64); 4] = [
 
 static NO_PAGES: [Step; 1] = [(CallRow::NewPages(0, None), ReplyRow::Made(0))];
 
-/// Grows a memory 32 times by one page under these answers, and compares the replies and how many pages it then has.
+/// Grows a memory 32 times by one page under these answers, and compares the replies and how many
+/// pages it then has.
 fn grows_by_random_answers(
     rt: &(impl Abort + AllocGlobal),
     machine: &mut Machine,
@@ -153,8 +155,8 @@ fn grows_by_random_answers(
 
 #[test]
 fn random_answers_leave_a_run_as_it_is_told(rt: HostRuntime) -> Result<(), Fail> {
-    for (answers, heeds, permitted) in RANDOM_NUMBERS {
-        let random = RandomAnswers::new(answers, heeds);
+    for (answers, accepts, permitted) in RANDOM_NUMBERS {
+        let random = RandomAnswers::new(answers, accepts);
         let pages = grows_by_random_answers(&rt, &mut unmetered(rt.alloc()), false, random)?;
         same(&rt, "the growths permitted", pages, permitted);
         let pages = grows_by_random_answers(&rt, &mut metered(rt.alloc()), true, random)?;
@@ -168,8 +170,8 @@ static TWO_CALLS: [Step; 2] = [
     (CallRow::NewBytes(3), ReplyRow::Made(0)),
 ];
 
-/// With ample memory the run is answered. Under `rt try --test --fail-alloc N` it may find none for its replies, and has then
-/// done nothing.
+/// With ample memory the run is answered. Under `rt try --test --fail-alloc N` it may find none for
+/// its replies, and has then done nothing.
 #[test]
 fn a_run_without_room_does_nothing(rt: HostRuntime) -> Result<(), Fail> {
     let mut random = RandomAnswers::new(u64::MAX, 0);

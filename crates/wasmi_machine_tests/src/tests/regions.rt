@@ -1,10 +1,12 @@
-//! What the lender of a machine's spare region finds in it after the loan; `wasmi_script_tests` has scripts on regions.
+//! What the lender of a machine's spare region finds in it after the loan; `wasmi_script_tests` has
+//! scripts on regions.
 use super::{CallRow, MemoryRow, ReplyRow, Step, runs_to, same};
 use std::process::Abort;
 use std::test::Fail;
 use wasmi_core::{Fuel, FuelCostsProvider, Machine, MemoryError};
 
-/// Runs calls on a machine with a region of ten bytes of 7, and compares the replies, and what the lender finds then.
+/// Runs calls on a machine with a region of ten bytes of 7, and compares the replies, and what the
+/// lender finds then.
 fn finds(rt: &(impl Abort + AllocGlobal), steps: &[Step], expected: [u8; 10]) -> Result<(), Fail> {
     let mut region = [7; 10];
     let fuel = Fuel::new(false, FuelCostsProvider::default());

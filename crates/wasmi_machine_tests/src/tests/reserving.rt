@@ -13,7 +13,8 @@ use wasmi_core::{
     run_reserving,
 };
 
-/// Runs calls under a limiter that holds what the machine has, and compares the replies, and what both have then.
+/// Runs calls under a limiter that holds what the machine has, and compares the replies, and what
+/// both have then.
 fn reserves<L: Reserving>(
     rt: &(impl Abort + AllocGlobal),
     machine: &mut Machine,
@@ -92,8 +93,12 @@ const COMPLAINT: LimiterError = LimiterError::ResourceLimiterDeniedAllocation;
 
 impl ResourceLimiter for Allowance {
     ghost rules = { record {
-      asked = λ a question answer a'. Reserves question answer (record { bytes = a.bytes; elements = a.elements; last = a.last }) (record { bytes = a'.bytes; elements = a'.elements; last = a'.last });
-      noticed = λ a failure heed a'. GivesBack (kind_of failure) (record { bytes = a.bytes; elements = a.elements; last = a.last }) (record { bytes = a'.bytes; elements = a'.elements; last = a'.last });
+      asked = λ a question answer a'. Reserves question answer
+          (record { bytes = a.bytes; elements = a.elements; last = a.last })
+          (record { bytes = a'.bytes; elements = a'.elements; last = a'.last });
+      noticed = λ a failure notice_answer a'. GivesBack (kind_of failure)
+          (record { bytes = a.bytes; elements = a.elements; last = a.last })
+          (record { bytes = a'.bytes; elements = a'.elements; last = a'.last });
     } };
 
     fn memory_growing(
@@ -176,7 +181,7 @@ impl Reserving for Allowance {
 
     ghost reserves = { λ a a' question answer asked. asked };
 
-    ghost gives_back = { λ a a' failure heed noticed. noticed };
+    ghost gives_back = { λ a a' failure notice_answer noticed. noticed };
 }
 
 static FOUR_GROWTHS: [Step; 6] = [

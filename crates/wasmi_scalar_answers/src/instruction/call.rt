@@ -14,7 +14,10 @@ where
     R: Into<ScalarAnswer>,
     F: FnOnce(T) -> R + Drop,
     requires { F.IsAlwaysCallable function }
-    ensures { IfSome result (OfOne (λ word value. T.from_str_gives word (Ok value)) (λ value answer. (output : R) × F.post function value output × R.converts output answer) operands.now) }
+    ensures { IfSome result
+        (OfOne (λ word value. T.from_str_gives word (Ok value))
+        (λ value answer. (output : R) × F.post function value output × R.converts output answer)
+        operands.now) }
 {
     let [value] = operands else {
         return None;
@@ -31,7 +34,10 @@ where
     R: Into<ScalarAnswer>,
     F: FnOnce(T, T) -> R + Drop,
     requires { F.IsAlwaysCallable function }
-    ensures { IfSome result (OfTwo (λ word value. T.from_str_gives word (Ok value)) (λ lhs rhs answer. (output : R) × F.post function lhs rhs output × R.converts output answer) operands.now) }
+    ensures { IfSome result
+        (OfTwo (λ word value. T.from_str_gives word (Ok value))
+        (λ lhs rhs answer. (output : R) × F.post function lhs rhs output × R.converts output answer)
+        operands.now) }
 {
     let [lhs, rhs] = operands else {
         return None;
@@ -49,7 +55,11 @@ where
     R: Into<ScalarAnswer>,
     F: FnOnce(T, T, T, T) -> R + Drop,
     requires { F.IsAlwaysCallable function }
-    ensures { IfSome result (OfFour (λ word value. T.from_str_gives word (Ok value)) (λ lhs_lo lhs_hi rhs_lo rhs_hi answer. (output : R) × F.post function lhs_lo lhs_hi rhs_lo rhs_hi output × R.converts output answer) operands.now) }
+    ensures { IfSome result
+        (OfFour (λ word value. T.from_str_gives word (Ok value))
+        (λ lhs_lo lhs_hi rhs_lo rhs_hi answer. (output : R)
+        × F.post function lhs_lo lhs_hi rhs_lo rhs_hi output × R.converts output answer)
+        operands.now) }
 {
     let [lhs_lo, lhs_hi, rhs_lo, rhs_hi] = operands else {
         return None;

@@ -164,7 +164,8 @@ impl Instruction {
         entry(&INSTRUCTIONS, name)
     }
 
-    /// What the instruction answers for these operands, if they are as many numbers of the right types as it takes.
+    /// What the instruction answers for these operands, if they are as many numbers of the right
+    /// types as it takes.
     pub(super) fn execute(self, operands: &[&str]) -> Option<ScalarAnswer>
         ensures { IfSome result (Executes self operands.now) }
     {

@@ -18,7 +18,8 @@ use super::line::LineError;
 use std::alloc::Global;
 use wasmi_core::Call;
 
-/// The call that a line's words name. The first word says which call, the words after it are its operands.
+/// The call that a line's words name. The first word says which call, the words after it are its
+/// operands.
 pub fn command(alloc: Global, words: &[&str]) -> Result<Call, LineError>
     ensures { AcceptsWithMemory result (Names words.now) }
 {

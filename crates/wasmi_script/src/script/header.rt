@@ -35,8 +35,8 @@ pub enum LimiterLine {
     Tenants(TenantsLine),
 }
 
-/// What a `quota` line says: the most bytes and the most elements that the limiter permits, of all memories and of all
-/// tables together.
+/// What a `quota` line says: the most bytes and the most elements that the limiter permits, of all
+/// memories and of all tables together.
 #[derive(Clone, Copy)]
 pub struct QuotaLine {
     /// The most bytes of memories.
@@ -45,8 +45,8 @@ pub struct QuotaLine {
     pub elements: u64,
 }
 
-/// What a `tenants` line says: a pool of so many machines, and the most bytes and the most elements that all of them have
-/// together.
+/// What a `tenants` line says: a pool of so many machines, and the most bytes and the most elements
+/// that all of them have together.
 #[derive(Clone, Copy)]
 pub struct TenantsLine {
     /// How many machines there are, from 1 to 1,024.
@@ -85,7 +85,8 @@ impl Header {
         ensures others { (self.new.limiter ≡ self.old.limiter) × (self.new.region ≡ self.old.region) }
         ensures err { OnErr result (self.new ≡ self.old) }
         ensures bad { IfErr result (λ error. error ≡ LineError.BadCommand) }
-        ensures refused { OnErr result (self.old.meter ≡ None → (line : MeterLine) → ¬ (NamesMeter words.now line)) }
+        ensures refused { OnErr result
+            (self.old.meter ≡ None → (line : MeterLine) → ¬ (NamesMeter words.now line)) }
     {
         if self.meter.is_some() {
             return Err(LineError::BadCommand);
@@ -102,7 +103,8 @@ impl Header {
         ensures others { (self.new.meter ≡ self.old.meter) × (self.new.region ≡ self.old.region) }
         ensures err { OnErr result (self.new ≡ self.old) }
         ensures refused { IfErr result (λ error. error ≡ LineError.BadCommand → self.old.limiter ≡ None
-            → (line : LimiterLine) → ¬ (NamesLimiter words.now line × AreApart (Some line) self.old.region)) }
+            → (line : LimiterLine)
+            → ¬ (NamesLimiter words.now line × AreApart (Some line) self.old.region)) }
     {
         if self.limiter.is_some() {
             return Err(LineError::BadCommand);
@@ -124,7 +126,8 @@ impl Header {
         ensures err { OnErr result (self.new ≡ self.old) }
         ensures bad { IfErr result (λ error. error ≡ LineError.BadCommand) }
         ensures refused { OnErr result (self.old.region ≡ None
-            → (line : RegionLine) → ¬ (NamesRegion words.now line × AreApart self.old.limiter (Some line))) }
+            → (line : RegionLine)
+            → ¬ (NamesRegion words.now line × AreApart self.old.limiter (Some line))) }
     {
         if self.region.is_some() || matches!(self.limiter, Some(LimiterLine::Tenants(_))) {
             return Err(LineError::BadCommand);

@@ -1,4 +1,5 @@
-//! The names of the vector instructions: a table for each shape, and those of lanes in `lane`; those of loads and stores in `access`.
+//! The names of the vector instructions: a table for each shape, and those of lanes in `lane`;
+//! those of loads and stores in `access`.
 ghost use Rattle.std.specs.Prelude.{map};
 ghost use Rattle.wasmi_script.specs.Acceptance.{Accepts};
 ghost use Rattle.wasmi_script.specs.VectorNames.{IsNamed, NamesMake, NamesUnary, NamesBinary, NamesTernary, NamesShift, NamesTest, NamesLoad};

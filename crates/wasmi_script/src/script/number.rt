@@ -7,7 +7,8 @@ ghost use Rattle.wasmi_script.specs.Acceptance.{Accepts};
 
 use super::line::LineError;
 
-/// The number that a word writes in decimal digits, if it fits its type. Leading zeros are allowed, a sign isn't.
+/// The number that a word writes in decimal digits, if it fits its type. Leading zeros are allowed,
+/// a sign isn't.
 pub fn number<T: TryFrom<u64>>(word: &str) -> Result<T, LineError>
 where
     T::Error: Drop,
@@ -36,7 +37,8 @@ pub fn number_or_none(word: &str) -> Result<Option<u64>, LineError>
 
 /// The number that a word writes in decimal digits, if it is below 2^64.
 fn decimal(word: &str) -> Result<u64, LineError>
-    ensures value { OkIff result (IsDecimal word.now × (decimal_value word.now < 2 ^ 64)) (decimal_value word.now) }
+    ensures value { OkIff result (IsDecimal word.now × (decimal_value word.now < 2 ^ 64))
+        (decimal_value word.now) }
     ensures refused { IfErr result (λ error. error ≡ LineError.BadCommand) }
 {
     if !is_decimal(word) {

@@ -2,7 +2,8 @@
 use super::answers;
 use std::test::Fail;
 
-// A load, how many bytes it reads, and what it gives of the bytes 128 to 135 at place 0 and at place 3.
+// A load, how many bytes it reads, and what it gives of the bytes 128 to 135 at place 0 and at
+// place 3.
 #[derive(Clone, Copy)]
 struct Load {
     name: &'static str,
@@ -106,7 +107,8 @@ fn each_load_reads_its_bytes(rt: HostRuntime) -> Result<(), Fail> {
     Ok(())
 }
 
-// A store, how many bytes it writes, and what bytes 255 are after a store of the bytes 1 to 8 at place 3.
+// A store, how many bytes it writes, and what bytes 255 are after a store of the bytes 1 to 8 at
+// place 3.
 #[derive(Clone, Copy)]
 struct Store {
     name: &'static str,

@@ -120,7 +120,8 @@ fn reads_from_slow_readers(rt: HostRuntime) {
     }
 }
 
-// What of the mixed table's lines reaches this writer, which takes one byte a turn where its good turns come to an end.
+// What of the mixed table's lines reaches this writer, which takes one byte a turn where its good
+// turns come to an end.
 fn ends<R: Abort>(rt: &R, alloc: Global, writer: &mut Target, status: CheckStatus) {
     let ended = compare(alloc, Source::of(MIXED.as_bytes()), writer);
     same(rt, ended, status, "how it ends");

@@ -4,7 +4,8 @@ use std::alloc::Global;
 use std::io;
 use std::io::{ErrorKind, Read, Write};
 
-// A reader of these bytes, at most so many a turn. After so many good turns each turn fails with this error.
+// A reader of these bytes, at most so many a turn. After so many good turns each turn fails with
+// this error.
 #[derive(Drop)]
 pub struct Source<'a> {
     bytes: &'a [u8],

@@ -1,5 +1,5 @@
-//! Each vector instruction by its name, on operands on which no two of one shape answer the same, but for those of one
-//! meaning. The answers are the Rust crate's.
+//! Each vector instruction by its name, on operands on which no two of one shape answer the same,
+//! but for those of one meaning. The answers are the Rust crate's.
 use super::answers_each;
 
 const MAKES: &str = "\

@@ -6,7 +6,8 @@ use std::io::ErrorKind;
 use std::process::Abort;
 use wasmi_script::{Status, replay};
 
-// What the metered script prints to this writer, which takes one byte a turn where its good turns come to an end.
+// What the metered script prints to this writer, which takes one byte a turn where its good turns
+// come to an end.
 fn ends<R: Abort>(rt: &R, alloc: Global, writer: &mut Target, status: Status) {
     let ended = replay(alloc, &mut Source::of(METERED.as_bytes()), writer);
     same(rt, ended, status, "how it ends");

@@ -6,11 +6,10 @@ ghost use Rattle.wasmi_lanes.specs.Lane.{lane};
 ghost use Rattle.wasmi_simd.specs.WideningTable as vector;
 
 use super::halves::{
-    high_bytes, high_bytes_signed, high_eighths, high_eighths_signed, high_quarters,
-    high_quarters_signed, low_bytes, low_bytes_signed, low_eighths, low_eighths_signed,
-    low_quarters, low_quarters_signed,
+    high_bytes, high_bytes_signed, high_i16x8, high_i32x4, high_u16x8, high_u32x4, low_bytes,
+    low_bytes_signed, low_i16x8, low_i32x4, low_u16x8, low_u32x4,
 };
-use super::vectors::{from_eighths, from_halves, from_quarters, quarters_of};
+use super::vectors::{from_halves, from_u16x8, from_u32x4, u32x4_of};
 use std::simd::prelude::*;
 use wasmi_raw::V128;
 
@@ -19,7 +18,7 @@ use wasmi_raw::V128;
 pub fn i16x8_extend_low_i8x16_s(v: V128) -> V128
     ensures { result ≡ vector.extend_low_s w8 w16 v }
 {
-    from_eighths(low_bytes_signed(v))
+    from_u16x8(low_bytes_signed(v))
 }
 
 /// The lanes of the lower half, read unsigned.
@@ -27,7 +26,7 @@ pub fn i16x8_extend_low_i8x16_s(v: V128) -> V128
 pub fn i16x8_extend_low_i8x16_u(v: V128) -> V128
     ensures { result ≡ vector.extend_low_u w8 w16 v }
 {
-    from_eighths(low_bytes(v))
+    from_u16x8(low_bytes(v))
 }
 
 /// The lanes of the upper half, read signed.
@@ -35,7 +34,7 @@ pub fn i16x8_extend_low_i8x16_u(v: V128) -> V128
 pub fn i16x8_extend_high_i8x16_s(v: V128) -> V128
     ensures { result ≡ vector.extend_high_s w8 w16 v }
 {
-    from_eighths(high_bytes_signed(v))
+    from_u16x8(high_bytes_signed(v))
 }
 
 /// The lanes of the upper half, read unsigned.
@@ -43,7 +42,7 @@ pub fn i16x8_extend_high_i8x16_s(v: V128) -> V128
 pub fn i16x8_extend_high_i8x16_u(v: V128) -> V128
     ensures { result ≡ vector.extend_high_u w8 w16 v }
 {
-    from_eighths(high_bytes(v))
+    from_u16x8(high_bytes(v))
 }
 
 /// The lanes of the lower half, read signed.
@@ -51,7 +50,7 @@ pub fn i16x8_extend_high_i8x16_u(v: V128) -> V128
 pub fn i32x4_extend_low_i16x8_s(v: V128) -> V128
     ensures { result ≡ vector.extend_low_s w16 w32 v }
 {
-    from_quarters(low_eighths_signed(v))
+    from_u32x4(low_i16x8(v))
 }
 
 /// The lanes of the lower half, read unsigned.
@@ -59,7 +58,7 @@ pub fn i32x4_extend_low_i16x8_s(v: V128) -> V128
 pub fn i32x4_extend_low_i16x8_u(v: V128) -> V128
     ensures { result ≡ vector.extend_low_u w16 w32 v }
 {
-    from_quarters(low_eighths(v))
+    from_u32x4(low_u16x8(v))
 }
 
 /// The lanes of the upper half, read signed.
@@ -67,7 +66,7 @@ pub fn i32x4_extend_low_i16x8_u(v: V128) -> V128
 pub fn i32x4_extend_high_i16x8_s(v: V128) -> V128
     ensures { result ≡ vector.extend_high_s w16 w32 v }
 {
-    from_quarters(high_eighths_signed(v))
+    from_u32x4(high_i16x8(v))
 }
 
 /// The lanes of the upper half, read unsigned.
@@ -75,7 +74,7 @@ pub fn i32x4_extend_high_i16x8_s(v: V128) -> V128
 pub fn i32x4_extend_high_i16x8_u(v: V128) -> V128
     ensures { result ≡ vector.extend_high_u w16 w32 v }
 {
-    from_quarters(high_eighths(v))
+    from_u32x4(high_u16x8(v))
 }
 
 /// The lanes of the lower half, read signed.
@@ -83,7 +82,7 @@ pub fn i32x4_extend_high_i16x8_u(v: V128) -> V128
 pub fn i64x2_extend_low_i32x4_s(v: V128) -> V128
     ensures { result ≡ vector.extend_low_s w32 w64 v }
 {
-    from_halves(low_quarters_signed(v))
+    from_halves(low_i32x4(v))
 }
 
 /// The lanes of the lower half, read unsigned.
@@ -91,7 +90,7 @@ pub fn i64x2_extend_low_i32x4_s(v: V128) -> V128
 pub fn i64x2_extend_low_i32x4_u(v: V128) -> V128
     ensures { result ≡ vector.extend_low_u w32 w64 v }
 {
-    from_halves(low_quarters(v))
+    from_halves(low_u32x4(v))
 }
 
 /// The lanes of the upper half, read signed.
@@ -99,7 +98,7 @@ pub fn i64x2_extend_low_i32x4_u(v: V128) -> V128
 pub fn i64x2_extend_high_i32x4_s(v: V128) -> V128
     ensures { result ≡ vector.extend_high_s w32 w64 v }
 {
-    from_halves(high_quarters_signed(v))
+    from_halves(high_i32x4(v))
 }
 
 /// The lanes of the upper half, read unsigned.
@@ -107,7 +106,7 @@ pub fn i64x2_extend_high_i32x4_s(v: V128) -> V128
 pub fn i64x2_extend_high_i32x4_u(v: V128) -> V128
     ensures { result ≡ vector.extend_high_u w32 w64 v }
 {
-    from_halves(high_quarters(v))
+    from_halves(high_u32x4(v))
 }
 
 /// The 8 lanes of 8 bits of a number, read signed, lane 0 the lowest.
@@ -187,13 +186,14 @@ pub fn v128_low32_zero(number: u32) -> V128
 pub fn v128_low64_zero(number: u64) -> V128
     ensures { result ≡ vector.low_zero w64 number }
 {
-    from_quarters(lower_half_alone(V128::from_words(number, 0)))
+    from_u32x4(lower_half_alone(V128::from_words(number, 0)))
 }
 
-// The lanes of 32 bits of the lower half, and zeros behind them: of two words LLVM makes two stores.
+// The lanes of 32 bits of the lower half, and zeros behind them: of two words LLVM makes two
+// stores.
 #[inline(always)]
 fn lower_half_alone(v: V128) -> u32x4
     ensures { result ≡ lane w32 v 0 ∷ lane w32 v 1 ∷ 0 ∷ 0 ∷ [] }
 {
-    quarters_of(v).shuffle(u32x4::splat(0), [0, 1, 4, 5])
+    u32x4_of(v).shuffle(u32x4::splat(0), [0, 1, 4, 5])
 }

@@ -5,13 +5,11 @@ ghost use Rattle.wasmi_types.specs.Wrapping.{w8, w16, w32, w64};
 ghost use Rattle.wasmi_simd.specs.WideningTable as vector;
 
 use super::halves::{
-    high_bytes, high_bytes_signed, high_eighths, high_eighths_signed, high_quarters,
-    high_quarters_signed, low_bytes, low_bytes_signed, low_eighths, low_eighths_signed,
-    low_quarters, low_quarters_signed,
+    high_bytes, high_bytes_signed, high_i16x8, high_i32x4, high_u16x8, high_u32x4, low_bytes,
+    low_bytes_signed, low_i16x8, low_i32x4, low_u16x8, low_u32x4,
 };
 use super::vectors::{
-    from_eighths, from_halves, from_quarters, product_of_eighths, product_of_halves,
-    product_of_quarters,
+    from_halves, from_u16x8, from_u32x4, product_of_halves, product_of_u16x8, product_of_u32x4,
 };
 use wasmi_raw::V128;
 
@@ -20,7 +18,7 @@ use wasmi_raw::V128;
 pub fn i16x8_extmul_low_i8x16_s(lhs: V128, rhs: V128) -> V128
     ensures { result ≡ vector.extmul_low_s w8 w16 lhs rhs }
 {
-    from_eighths(product_of_eighths(low_bytes_signed(lhs), low_bytes_signed(rhs)))
+    from_u16x8(product_of_u16x8(low_bytes_signed(lhs), low_bytes_signed(rhs)))
 }
 
 /// The products of the lanes of the lower halves, read unsigned.
@@ -28,7 +26,7 @@ pub fn i16x8_extmul_low_i8x16_s(lhs: V128, rhs: V128) -> V128
 pub fn i16x8_extmul_low_i8x16_u(lhs: V128, rhs: V128) -> V128
     ensures { result ≡ vector.extmul_low_u w8 w16 lhs rhs }
 {
-    from_eighths(product_of_eighths(low_bytes(lhs), low_bytes(rhs)))
+    from_u16x8(product_of_u16x8(low_bytes(lhs), low_bytes(rhs)))
 }
 
 /// The products of the lanes of the upper halves, read signed.
@@ -36,7 +34,7 @@ pub fn i16x8_extmul_low_i8x16_u(lhs: V128, rhs: V128) -> V128
 pub fn i16x8_extmul_high_i8x16_s(lhs: V128, rhs: V128) -> V128
     ensures { result ≡ vector.extmul_high_s w8 w16 lhs rhs }
 {
-    from_eighths(product_of_eighths(high_bytes_signed(lhs), high_bytes_signed(rhs)))
+    from_u16x8(product_of_u16x8(high_bytes_signed(lhs), high_bytes_signed(rhs)))
 }
 
 /// The products of the lanes of the upper halves, read unsigned.
@@ -44,7 +42,7 @@ pub fn i16x8_extmul_high_i8x16_s(lhs: V128, rhs: V128) -> V128
 pub fn i16x8_extmul_high_i8x16_u(lhs: V128, rhs: V128) -> V128
     ensures { result ≡ vector.extmul_high_u w8 w16 lhs rhs }
 {
-    from_eighths(product_of_eighths(high_bytes(lhs), high_bytes(rhs)))
+    from_u16x8(product_of_u16x8(high_bytes(lhs), high_bytes(rhs)))
 }
 
 /// The products of the lanes of the lower halves, read signed.
@@ -52,7 +50,7 @@ pub fn i16x8_extmul_high_i8x16_u(lhs: V128, rhs: V128) -> V128
 pub fn i32x4_extmul_low_i16x8_s(lhs: V128, rhs: V128) -> V128
     ensures { result ≡ vector.extmul_low_s w16 w32 lhs rhs }
 {
-    from_quarters(product_of_quarters(low_eighths_signed(lhs), low_eighths_signed(rhs)))
+    from_u32x4(product_of_u32x4(low_i16x8(lhs), low_i16x8(rhs)))
 }
 
 /// The products of the lanes of the lower halves, read unsigned.
@@ -60,7 +58,7 @@ pub fn i32x4_extmul_low_i16x8_s(lhs: V128, rhs: V128) -> V128
 pub fn i32x4_extmul_low_i16x8_u(lhs: V128, rhs: V128) -> V128
     ensures { result ≡ vector.extmul_low_u w16 w32 lhs rhs }
 {
-    from_quarters(product_of_quarters(low_eighths(lhs), low_eighths(rhs)))
+    from_u32x4(product_of_u32x4(low_u16x8(lhs), low_u16x8(rhs)))
 }
 
 /// The products of the lanes of the upper halves, read signed.
@@ -68,7 +66,7 @@ pub fn i32x4_extmul_low_i16x8_u(lhs: V128, rhs: V128) -> V128
 pub fn i32x4_extmul_high_i16x8_s(lhs: V128, rhs: V128) -> V128
     ensures { result ≡ vector.extmul_high_s w16 w32 lhs rhs }
 {
-    from_quarters(product_of_quarters(high_eighths_signed(lhs), high_eighths_signed(rhs)))
+    from_u32x4(product_of_u32x4(high_i16x8(lhs), high_i16x8(rhs)))
 }
 
 /// The products of the lanes of the upper halves, read unsigned.
@@ -76,7 +74,7 @@ pub fn i32x4_extmul_high_i16x8_s(lhs: V128, rhs: V128) -> V128
 pub fn i32x4_extmul_high_i16x8_u(lhs: V128, rhs: V128) -> V128
     ensures { result ≡ vector.extmul_high_u w16 w32 lhs rhs }
 {
-    from_quarters(product_of_quarters(high_eighths(lhs), high_eighths(rhs)))
+    from_u32x4(product_of_u32x4(high_u16x8(lhs), high_u16x8(rhs)))
 }
 
 /// The products of the lanes of the lower halves, read signed.
@@ -84,7 +82,7 @@ pub fn i32x4_extmul_high_i16x8_u(lhs: V128, rhs: V128) -> V128
 pub fn i64x2_extmul_low_i32x4_s(lhs: V128, rhs: V128) -> V128
     ensures { result ≡ vector.extmul_low_s w32 w64 lhs rhs }
 {
-    from_halves(product_of_halves(low_quarters_signed(lhs), low_quarters_signed(rhs)))
+    from_halves(product_of_halves(low_i32x4(lhs), low_i32x4(rhs)))
 }
 
 /// The products of the lanes of the lower halves, read unsigned.
@@ -92,7 +90,7 @@ pub fn i64x2_extmul_low_i32x4_s(lhs: V128, rhs: V128) -> V128
 pub fn i64x2_extmul_low_i32x4_u(lhs: V128, rhs: V128) -> V128
     ensures { result ≡ vector.extmul_low_u w32 w64 lhs rhs }
 {
-    from_halves(product_of_halves(low_quarters(lhs), low_quarters(rhs)))
+    from_halves(product_of_halves(low_u32x4(lhs), low_u32x4(rhs)))
 }
 
 /// The products of the lanes of the upper halves, read signed.
@@ -100,7 +98,7 @@ pub fn i64x2_extmul_low_i32x4_u(lhs: V128, rhs: V128) -> V128
 pub fn i64x2_extmul_high_i32x4_s(lhs: V128, rhs: V128) -> V128
     ensures { result ≡ vector.extmul_high_s w32 w64 lhs rhs }
 {
-    from_halves(product_of_halves(high_quarters_signed(lhs), high_quarters_signed(rhs)))
+    from_halves(product_of_halves(high_i32x4(lhs), high_i32x4(rhs)))
 }
 
 /// The products of the lanes of the upper halves, read unsigned.
@@ -108,5 +106,5 @@ pub fn i64x2_extmul_high_i32x4_s(lhs: V128, rhs: V128) -> V128
 pub fn i64x2_extmul_high_i32x4_u(lhs: V128, rhs: V128) -> V128
     ensures { result ≡ vector.extmul_high_u w32 w64 lhs rhs }
 {
-    from_halves(product_of_halves(high_quarters(lhs), high_quarters(rhs)))
+    from_halves(product_of_halves(high_u32x4(lhs), high_u32x4(rhs)))
 }

@@ -6,7 +6,7 @@ ghost use Rattle.std.specs.Int.{cast_unsigned};
 ghost use Rattle.wasmi_types.specs.Wrapping.{w8, w16, w32, w64, signed};
 ghost use Rattle.wasmi_lanes.specs.Lane.{lane};
 
-use super::vectors::{eighths_of, quarters_of, signed_eighths_of, signed_quarters_of};
+use super::vectors::{i16x8_of, i32x4_of, u16x8_of, u32x4_of};
 use std::simd::prelude::*;
 use wasmi_lanes::bytes_of;
 use wasmi_raw::V128;
@@ -38,7 +38,8 @@ pub(super) fn low_bytes_signed(v: V128) -> u16x8
 /// The upper 8 lanes of 8 bits, the sign copied.
 #[inline(always)]
 pub(super) fn high_bytes_signed(v: V128) -> u16x8
-    ensures lanes { (i : ℕ) → i < 8 → slice_index result i ≡ cast_unsigned w16 (signed w8 (lane w8 v (8 + i))) }
+    ensures lanes { (i : ℕ) → i < 8
+        → slice_index result i ≡ cast_unsigned w16 (signed w8 (lane w8 v (8 + i))) }
 {
     sign_copied(high_bytes(v))
 }
@@ -46,7 +47,8 @@ pub(super) fn high_bytes_signed(v: V128) -> u16x8
 // Numbers of 8 bits, the sign copied to 16: their highest bit is flipped, and taken off again.
 #[inline(always)]
 fn sign_copied(bytes: u16x8) -> u16x8
-    ensures lanes { (i x : ℕ) → i < 8 → slice_index bytes i ≡ x → x < 2 ^ 8 → slice_index result i ≡ cast_unsigned w16 (signed w8 x) }
+    ensures lanes { (i x : ℕ) → i < 8 → slice_index bytes i ≡ x → x < 2 ^ 8
+        → slice_index result i ≡ cast_unsigned w16 (signed w8 x) }
 {
     let tops = u16x8::splat(0x80);
     (bytes ^ tops) - tops
@@ -54,35 +56,36 @@ fn sign_copied(bytes: u16x8) -> u16x8
 
 /// The lower 4 lanes of 16 bits.
 #[inline(always)]
-pub(super) fn low_eighths(v: V128) -> u32x4
+pub(super) fn low_u16x8(v: V128) -> u32x4
     ensures lanes { (i : ℕ) → i < 4 → slice_index result i ≡ lane w16 v i }
 {
-    eighths_of(v).extract::<0, 4>().cast::<u32>()
+    u16x8_of(v).extract::<0, 4>().cast::<u32>()
 }
 
 /// The upper 4 lanes of 16 bits.
 #[inline(always)]
-pub(super) fn high_eighths(v: V128) -> u32x4
+pub(super) fn high_u16x8(v: V128) -> u32x4
     ensures lanes { (i : ℕ) → i < 4 → slice_index result i ≡ lane w16 v (4 + i) }
 {
-    eighths_of(v).extract::<4, 4>().cast::<u32>()
+    u16x8_of(v).extract::<4, 4>().cast::<u32>()
 }
 
 /// The lower 4 lanes of 16 bits, the sign copied.
 #[inline(always)]
-pub(super) fn low_eighths_signed(v: V128) -> u32x4
+pub(super) fn low_i16x8(v: V128) -> u32x4
     ensures lanes { (i : ℕ) → i < 4 → slice_index result i ≡ cast_unsigned w32 (signed w16 (lane w16 v i)) }
 {
-    let items = signed_eighths_of(v).extract::<0, 4>().cast::<i32>();
+    let items = i16x8_of(v).extract::<0, 4>().cast::<i32>();
     u32x4::from_le_bytes(items.to_le_bytes())
 }
 
 /// The upper 4 lanes of 16 bits, the sign copied.
 #[inline(always)]
-pub(super) fn high_eighths_signed(v: V128) -> u32x4
-    ensures lanes { (i : ℕ) → i < 4 → slice_index result i ≡ cast_unsigned w32 (signed w16 (lane w16 v (4 + i))) }
+pub(super) fn high_i16x8(v: V128) -> u32x4
+    ensures lanes { (i : ℕ) → i < 4
+        → slice_index result i ≡ cast_unsigned w32 (signed w16 (lane w16 v (4 + i))) }
 {
-    let items = signed_eighths_of(v).extract::<4, 4>().cast::<i32>();
+    let items = i16x8_of(v).extract::<4, 4>().cast::<i32>();
     u32x4::from_le_bytes(items.to_le_bytes())
 }
 
@@ -90,36 +93,37 @@ pub(super) fn high_eighths_signed(v: V128) -> u32x4
 ///
 /// Zeros come between them: of a cast LLVM takes the lanes out of their word.
 #[inline(always)]
-pub(super) fn low_quarters(v: V128) -> u64x2
+pub(super) fn low_u32x4(v: V128) -> u64x2
     ensures lanes { (i : ℕ) → i < 2 → slice_index result i ≡ lane w32 v i }
 {
-    let items = quarters_of(v).shuffle(u32x4::splat(0), [0, 4, 1, 5]);
+    let items = u32x4_of(v).shuffle(u32x4::splat(0), [0, 4, 1, 5]);
     u64x2::from_le_bytes(items.to_le_bytes())
 }
 
 /// The upper 2 lanes of 32 bits.
 #[inline(always)]
-pub(super) fn high_quarters(v: V128) -> u64x2
+pub(super) fn high_u32x4(v: V128) -> u64x2
     ensures lanes { (i : ℕ) → i < 2 → slice_index result i ≡ lane w32 v (2 + i) }
 {
-    let items = quarters_of(v).shuffle(u32x4::splat(0), [2, 4, 3, 5]);
+    let items = u32x4_of(v).shuffle(u32x4::splat(0), [2, 4, 3, 5]);
     u64x2::from_le_bytes(items.to_le_bytes())
 }
 
 /// The lower 2 lanes of 32 bits, the sign copied.
 #[inline(always)]
-pub(super) fn low_quarters_signed(v: V128) -> u64x2
+pub(super) fn low_i32x4(v: V128) -> u64x2
     ensures lanes { (i : ℕ) → i < 2 → slice_index result i ≡ cast_unsigned w64 (signed w32 (lane w32 v i)) }
 {
-    let items = signed_quarters_of(v).extract::<0, 2>().cast::<i64>();
+    let items = i32x4_of(v).extract::<0, 2>().cast::<i64>();
     u64x2::from_le_bytes(items.to_le_bytes())
 }
 
 /// The upper 2 lanes of 32 bits, the sign copied.
 #[inline(always)]
-pub(super) fn high_quarters_signed(v: V128) -> u64x2
-    ensures lanes { (i : ℕ) → i < 2 → slice_index result i ≡ cast_unsigned w64 (signed w32 (lane w32 v (2 + i))) }
+pub(super) fn high_i32x4(v: V128) -> u64x2
+    ensures lanes { (i : ℕ) → i < 2
+        → slice_index result i ≡ cast_unsigned w64 (signed w32 (lane w32 v (2 + i))) }
 {
-    let items = signed_quarters_of(v).extract::<2, 2>().cast::<i64>();
+    let items = i32x4_of(v).extract::<2, 2>().cast::<i64>();
     u64x2::from_le_bytes(items.to_le_bytes())
 }

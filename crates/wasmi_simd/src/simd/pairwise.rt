@@ -4,13 +4,12 @@ ghost use Rattle.std.specs.Prelude.{◌≡◌};
 ghost use Rattle.wasmi_types.specs.Wrapping.{w8, w16, w32};
 ghost use Rattle.wasmi_simd.specs.WideningTable as vector;
 
-use super::neighbours::{
-    even_bytes, even_bytes_signed, even_eighths, even_eighths_signed, odd_bytes, odd_bytes_signed,
-    odd_eighths, odd_eighths_signed,
+use super::even_odd::{
+    even_bytes, even_bytes_signed, even_i16x8, even_u16x8, odd_bytes, odd_bytes_signed, odd_i16x8,
+    odd_u16x8,
 };
 use super::vectors::{
-    from_eighths, from_quarters, product_of_eighths, product_of_quarters, sum_of_eighths,
-    sum_of_quarters,
+    from_u16x8, from_u32x4, product_of_u16x8, product_of_u32x4, sum_of_u16x8, sum_of_u32x4,
 };
 use wasmi_raw::V128;
 
@@ -19,7 +18,7 @@ use wasmi_raw::V128;
 pub fn i16x8_extadd_pairwise_i8x16_s(v: V128) -> V128
     ensures { result ≡ vector.extadd_pairwise_s w8 w16 v }
 {
-    from_eighths(sum_of_eighths(even_bytes_signed(v), odd_bytes_signed(v)))
+    from_u16x8(sum_of_u16x8(even_bytes_signed(v), odd_bytes_signed(v)))
 }
 
 /// The sums of neighbouring lanes, read unsigned.
@@ -27,7 +26,7 @@ pub fn i16x8_extadd_pairwise_i8x16_s(v: V128) -> V128
 pub fn i16x8_extadd_pairwise_i8x16_u(v: V128) -> V128
     ensures { result ≡ vector.extadd_pairwise_u w8 w16 v }
 {
-    from_eighths(sum_of_eighths(even_bytes(v), odd_bytes(v)))
+    from_u16x8(sum_of_u16x8(even_bytes(v), odd_bytes(v)))
 }
 
 /// The sums of neighbouring lanes, read signed.
@@ -35,7 +34,7 @@ pub fn i16x8_extadd_pairwise_i8x16_u(v: V128) -> V128
 pub fn i32x4_extadd_pairwise_i16x8_s(v: V128) -> V128
     ensures { result ≡ vector.extadd_pairwise_s w16 w32 v }
 {
-    from_quarters(sum_of_quarters(even_eighths_signed(v), odd_eighths_signed(v)))
+    from_u32x4(sum_of_u32x4(even_i16x8(v), odd_i16x8(v)))
 }
 
 /// The sums of neighbouring lanes, read unsigned.
@@ -43,7 +42,7 @@ pub fn i32x4_extadd_pairwise_i16x8_s(v: V128) -> V128
 pub fn i32x4_extadd_pairwise_i16x8_u(v: V128) -> V128
     ensures { result ≡ vector.extadd_pairwise_u w16 w32 v }
 {
-    from_quarters(sum_of_quarters(even_eighths(v), odd_eighths(v)))
+    from_u32x4(sum_of_u32x4(even_u16x8(v), odd_u16x8(v)))
 }
 
 /// The sums of the products of neighbouring lanes, read signed, modulo 2 to the power 32.
@@ -51,9 +50,9 @@ pub fn i32x4_extadd_pairwise_i16x8_u(v: V128) -> V128
 pub fn i32x4_dot_i16x8_s(lhs: V128, rhs: V128) -> V128
     ensures { result ≡ vector.dot_s w16 w32 lhs rhs }
 {
-    let evens = product_of_quarters(even_eighths_signed(lhs), even_eighths_signed(rhs));
-    let odds = product_of_quarters(odd_eighths_signed(lhs), odd_eighths_signed(rhs));
-    from_quarters(sum_of_quarters(evens, odds))
+    let evens = product_of_u32x4(even_i16x8(lhs), even_i16x8(rhs));
+    let odds = product_of_u32x4(odd_i16x8(lhs), odd_i16x8(rhs));
+    from_u32x4(sum_of_u32x4(evens, odds))
 }
 
 /// The sums of the products of neighbouring lanes, both read signed, modulo 2 to the power 16.
@@ -61,7 +60,7 @@ pub fn i32x4_dot_i16x8_s(lhs: V128, rhs: V128) -> V128
 pub fn i16x8_relaxed_dot_i8x16_i7x16_s(lhs: V128, rhs: V128) -> V128
     ensures { result ≡ vector.relaxed_dot_s lhs rhs }
 {
-    let evens = product_of_eighths(even_bytes_signed(lhs), even_bytes_signed(rhs));
-    let odds = product_of_eighths(odd_bytes_signed(lhs), odd_bytes_signed(rhs));
-    from_eighths(sum_of_eighths(evens, odds))
+    let evens = product_of_u16x8(even_bytes_signed(lhs), even_bytes_signed(rhs));
+    let odds = product_of_u16x8(odd_bytes_signed(lhs), odd_bytes_signed(rhs));
+    from_u16x8(sum_of_u16x8(evens, odds))
 }

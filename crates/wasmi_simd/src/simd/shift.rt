@@ -9,10 +9,10 @@ ghost use Rattle.wasmi_types.specs.Wrapping.{w8, w16, w32, w64};
 ghost use Rattle.wasmi_lanes.specs.Lane.{lane};
 ghost use Rattle.wasmi_simd.specs.WideningTable as vector;
 
-use super::low_bits::NarrowLane;
+use super::shift_masks::NarrowLane;
 use std::simd::prelude::*;
 use wasmi_lanes::{
-    I16x8, I32x4, I64x2, SimdLane, bytes_of, from_bytes, from_words, on_vectors, words_of,
+    I16x8, I32x4, I64x2, SimdLane, bytes_of, from_bytes, from_u64x2, on_vectors, u64x2_of,
 };
 use wasmi_raw::V128;
 
@@ -30,8 +30,8 @@ pub fn i8x16_shr_s(v: V128, amount: u32) -> V128
     ensures { result ≡ vector.shr_s w8 v amount }
 {
     // What the lanes were moved by is a multiple of what they are divided by.
-    let raised = u8::vector_of(u8::raised(u8::lanes_of(v)));
-    let shifted = i8x16_shr_u(raised, amount);
+    let biased = u8::vector_of(u8::biased(u8::lanes_of(v)));
+    let shifted = i8x16_shr_u(biased, amount);
     from_bytes(difference_of_bytes(
         bytes_of(shifted),
         bytes_of(half_shifted(u64::from(amount % 8))),
@@ -99,7 +99,7 @@ pub fn i32x4_shr_u(v: V128, amount: u32) -> V128
 pub fn i64x2_shl(v: V128, amount: u32) -> V128
     ensures { result ≡ vector.shl w64 v amount }
 {
-    from_words(words_of(v) << u64x2::splat(u64::from(amount % 64)))
+    from_u64x2(u64x2_of(v) << u64x2::splat(u64::from(amount % 64)))
 }
 
 /// The lanes shifted to the right, the sign copied. `amount` is taken modulo 64.
@@ -115,7 +115,7 @@ pub fn i64x2_shr_s(v: V128, amount: u32) -> V128
 pub fn i64x2_shr_u(v: V128, amount: u32) -> V128
     ensures { result ≡ vector.shr_u w64 v amount }
 {
-    from_words(words_of(v) >> u64x2::splat(u64::from(amount % 64)))
+    from_u64x2(u64x2_of(v) >> u64x2::splat(u64::from(amount % 64)))
 }
 
 #[inline(always)]
@@ -123,8 +123,8 @@ fn shifted_left<T: NarrowLane>(v: V128, amount: u32) -> V128
     ensures { result ≡ vector.shl T.width v amount }
 {
     let amount = u64::from(amount % T::BITS);
-    let kept = T::low_bits(amount);
-    from_words((words_of(v) & kept) << u64x2::splat(amount))
+    let kept = T::shift_masks(amount);
+    from_u64x2((u64x2_of(v) & kept) << u64x2::splat(amount))
 }
 
 #[inline(always)]
@@ -132,14 +132,15 @@ fn shifted_right<T: NarrowLane>(v: V128, amount: u32) -> V128
     ensures { result ≡ vector.shr_u T.width v amount }
 {
     let amount = u64::from(amount % T::BITS);
-    let kept = T::low_bits(amount);
-    from_words((words_of(v) >> u64x2::splat(amount)) & kept)
+    let kept = T::shift_masks(amount);
+    from_u64x2((u64x2_of(v) >> u64x2::splat(amount)) & kept)
 }
 
 /// The differences of lanes of 8 bits, modulo 2 to the power 8.
 #[inline(always)]
 fn difference_of_bytes(a: u8x16, b: u8x16) -> u8x16
-    ensures lanes { (i : ℕ) → i < 16 → slice_index result i ≡ (slice_index a i + (2 ^ 8 - slice_index b i)) % 2 ^ 8 }
+    ensures lanes { (i : ℕ) → i < 16
+        → slice_index result i ≡ (slice_index a i + (2 ^ 8 - slice_index b i)) % 2 ^ 8 }
 {
     a - b
 }

@@ -11,7 +11,7 @@ use wasmi_raw::V128;
 
 /// The lanes of 16 bits.
 #[inline(always)]
-pub(super) fn eighths_of(v: V128) -> u16x8
+pub(super) fn u16x8_of(v: V128) -> u16x8
     ensures lanes { (i : ℕ) → i < 8 → slice_index result i ≡ lane w16 v i }
 {
     u16x8::from_le_bytes(bytes_of(v))
@@ -19,7 +19,7 @@ pub(super) fn eighths_of(v: V128) -> u16x8
 
 /// The lanes of 32 bits.
 #[inline(always)]
-pub(super) fn quarters_of(v: V128) -> u32x4
+pub(super) fn u32x4_of(v: V128) -> u32x4
     ensures lanes { (i : ℕ) → i < 4 → slice_index result i ≡ lane w32 v i }
 {
     u32x4::from_le_bytes(bytes_of(v))
@@ -27,7 +27,7 @@ pub(super) fn quarters_of(v: V128) -> u32x4
 
 /// The lanes of 16 bits, read signed.
 #[inline(always)]
-pub(super) fn signed_eighths_of(v: V128) -> i16x8
+pub(super) fn i16x8_of(v: V128) -> i16x8
     ensures lanes { (i : ℕ) → i < 8 → slice_index_or result i (pos 0) ≡ signed w16 (lane w16 v i) }
 {
     i16x8::from_le_bytes(bytes_of(v))
@@ -35,7 +35,7 @@ pub(super) fn signed_eighths_of(v: V128) -> i16x8
 
 /// The lanes of 32 bits, read signed.
 #[inline(always)]
-pub(super) fn signed_quarters_of(v: V128) -> i32x4
+pub(super) fn i32x4_of(v: V128) -> i32x4
     ensures lanes { (i : ℕ) → i < 4 → slice_index_or result i (pos 0) ≡ signed w32 (lane w32 v i) }
 {
     i32x4::from_le_bytes(bytes_of(v))
@@ -43,7 +43,7 @@ pub(super) fn signed_quarters_of(v: V128) -> i32x4
 
 /// The vector of these lanes of 16 bits.
 #[inline(always)]
-pub(super) fn from_eighths(items: u16x8) -> V128
+pub(super) fn from_u16x8(items: u16x8) -> V128
     ensures lanes { (i : ℕ) → i < 8 → lane w16 result i ≡ slice_index items i }
     ensures in_range { result < 2 ^ 128 }
 {
@@ -53,7 +53,7 @@ pub(super) fn from_eighths(items: u16x8) -> V128
 
 /// The vector of these lanes of 32 bits.
 #[inline(always)]
-pub(super) fn from_quarters(items: u32x4) -> V128
+pub(super) fn from_u32x4(items: u32x4) -> V128
     ensures lanes { (i : ℕ) → i < 4 → lane w32 result i ≡ slice_index items i }
     ensures in_range { result < 2 ^ 128 }
 {
@@ -73,7 +73,7 @@ pub(super) fn from_halves(items: u64x2) -> V128
 
 /// The sums of lanes of 16 bits, modulo 2 to the power 16.
 #[inline(always)]
-pub(super) fn sum_of_eighths(a: u16x8, b: u16x8) -> u16x8
+pub(super) fn sum_of_u16x8(a: u16x8, b: u16x8) -> u16x8
     ensures lanes { (i : ℕ) → i < 8 → slice_index result i ≡ (slice_index a i + slice_index b i) % 2 ^ 16 }
 {
     a + b
@@ -81,7 +81,7 @@ pub(super) fn sum_of_eighths(a: u16x8, b: u16x8) -> u16x8
 
 /// The sums of lanes of 32 bits, modulo 2 to the power 32.
 #[inline(always)]
-pub(super) fn sum_of_quarters(a: u32x4, b: u32x4) -> u32x4
+pub(super) fn sum_of_u32x4(a: u32x4, b: u32x4) -> u32x4
     ensures lanes { (i : ℕ) → i < 4 → slice_index result i ≡ (slice_index a i + slice_index b i) % 2 ^ 32 }
 {
     a + b
@@ -89,7 +89,7 @@ pub(super) fn sum_of_quarters(a: u32x4, b: u32x4) -> u32x4
 
 /// The products of lanes of 16 bits, modulo 2 to the power 16.
 #[inline(always)]
-pub(super) fn product_of_eighths(a: u16x8, b: u16x8) -> u16x8
+pub(super) fn product_of_u16x8(a: u16x8, b: u16x8) -> u16x8
     ensures lanes { (i : ℕ) → i < 8 → slice_index result i ≡ slice_index a i * slice_index b i % 2 ^ 16 }
 {
     a * b
@@ -97,7 +97,7 @@ pub(super) fn product_of_eighths(a: u16x8, b: u16x8) -> u16x8
 
 /// The products of lanes of 32 bits, modulo 2 to the power 32.
 #[inline(always)]
-pub(super) fn product_of_quarters(a: u32x4, b: u32x4) -> u32x4
+pub(super) fn product_of_u32x4(a: u32x4, b: u32x4) -> u32x4
     ensures lanes { (i : ℕ) → i < 4 → slice_index result i ≡ slice_index a i * slice_index b i % 2 ^ 32 }
 {
     a * b

@@ -8,8 +8,8 @@ use std::alloc::Global;
 use std::marker::Model;
 use wasmi_meter::MemoryError;
 
-/// A block of bytes, of which a buffer's are the first. Both forms begin with their pointer, so that an access to a
-/// buffer doesn't depend on the form.
+/// A block of bytes, of which a buffer's are the first. Both forms begin with their pointer, so
+/// that an access to a buffer doesn't depend on the form.
 #[derive(Debug, Drop)]
 enum Storage<R: Region> {
     Owned(Vec<u8>),
@@ -33,7 +33,8 @@ impl<R: Region> Storage<R> {
 
     fn front_mut(&mut self, end: usize) -> &mut [u8]
         requires { end ≤ length (block R.bytes self.old) }
-        ensures* writes_back { sem 𝓛 (Lends (the_row R.row) (Array u8 0) self.entry result (block_refilled R.refilled self.old end)) }
+        ensures* writes_back { sem 𝓛 (Lends (the_row R.row) (Array u8 0) self.entry result
+            (block_refilled R.refilled self.old end)) }
         ensures value { result.now ≡ take end (block R.bytes self.old) }
     {
         match self {
@@ -43,7 +44,8 @@ impl<R: Region> Storage<R> {
     }
 }
 
-/// Bytes that lie in memory of their own, or at the front of a region. Its name in signatures is [`ByteBuffer`].
+/// Bytes that lie in memory of their own, or at the front of a region. Its name in signatures is
+/// [`ByteBuffer`].
 #[derive(Debug)]
 pub struct Buffer<R: Region> {
     storage: Storage<R>,
@@ -61,8 +63,8 @@ impl<R: Region> Model for Buffer<R> {
     ghost invariant = { λ b. EndsWithin R.bytes b.storage b.len };
 }
 
-// The block is dropped in a variable: the borrow checker doesn't follow the drop of an enum that holds a `&mut` and
-// lies in a field.
+// The block is dropped in a variable: the borrow checker doesn't follow the drop of an enum that
+// holds a `&mut` and lies in a field.
 impl<R: Region + Drop> Drop for Buffer<R> {
     fn drop(self) {
         let Buffer { storage, len: _ } = self;
@@ -85,7 +87,7 @@ fn zero_from(bytes: &mut [u8], start: usize)
 pub type ByteBuffer<'r> = Buffer<&'r mut [u8]>;
 
 impl<R: Region> Buffer<R> {
-    ghost use Rattle.wasmi_store.specs.Buffer.{with_bytes, with_zeros, has_place_for, CanFail};
+    ghost use Rattle.wasmi_store.specs.Buffer.{with_bytes, with_zeros, fits_room, CanFail};
     ghost use Rattle.wasmi_store.specs.contracts.memory.buffer.Buffer.{the_row};
 
     /// The bytes.
@@ -97,7 +99,8 @@ impl<R: Region> Buffer<R> {
 
     /// The bytes, to be written over.
     pub fn data_mut(&mut self) -> &mut [u8]
-        ensures* writes_back { sem 𝓛 (Lends (the_row R.row R.Region) (Array u8 0) self.entry result (with_bytes self.old)) }
+        ensures* writes_back { sem 𝓛 (Lends (the_row R.row R.Region) (Array u8 0) self.entry result
+            (with_bytes self.old)) }
         ensures value { result.now ≡ self.old.bytes }
     {
         self.storage.front_mut(self.len)
@@ -110,9 +113,10 @@ impl<R: Region> Buffer<R> {
         self.len
     }
 
-    /// Whether there is room for a new number of bytes. It is false exactly for a lent region that is shorter.
+    /// Whether there is room for a new number of bytes. It is false exactly for a lent region that
+    /// is shorter.
     pub fn has_room(&self, new_size: usize) -> bool
-        ensures { result ≡ has_place_for self.now.room (new_size - length self.now.bytes) }
+        ensures { result ≡ fits_room self.now.room (new_size - length self.now.bytes) }
     {
         match &self.storage {
             Storage::Owned(_) => true,
@@ -132,12 +136,15 @@ impl<R: Region> Buffer<R> {
 
     /// Appends zeros, up to a new number of bytes that isn't below the present one.
     ///
-    /// An owned buffer is refused only for want of memory (`OutOfSystemMemory`), a lent one only where its region is
-    /// shorter (`InvalidStaticBufferSize`). A lent one takes no memory, and leaves the bytes past the new size alone.
+    /// An owned buffer is refused only for want of memory (`OutOfSystemMemory`), a lent one only
+    /// where its region is shorter (`InvalidStaticBufferSize`). A lent one takes no memory, and
+    /// leaves the bytes past the new size alone.
     pub fn grow(&mut self, new_size: usize) -> Result<(), MemoryError>
         requires { length self.old.bytes ≤ new_size }
-        ensures ok { OnOk result (self.new ≡ with_zeros self.old (new_size - length self.old.bytes)) }
-        ensures fits { OnOk result (has_place_for self.old.room (new_size - length self.old.bytes) ≡ true) }
+        ensures ok { OnOk result
+            (self.new ≡ with_zeros self.old (new_size - length self.old.bytes)) }
+        ensures fits { OnOk result
+            (fits_room self.old.room (new_size - length self.old.bytes) ≡ true) }
         ensures err { OnErr result (self.new ≡ self.old) }
         ensures cause { IfErr result (CanFail self.old.room (new_size - length self.old.bytes)) }
     {
@@ -157,7 +164,7 @@ impl<R: Region> Buffer<R> {
 }
 
 impl<'r> Buffer<&'r mut [u8]> {
-    ghost use Rattle.wasmi_store.specs.Buffer.{Owned, Lent, zeros_in, has_place_for};
+    ghost use Rattle.wasmi_store.specs.Buffer.{Owned, Lent, zeros_in, fits_room};
 
     /// So many zeros in memory of their own. It is refused only for want of memory.
     pub fn new(alloc: Global, size: usize) -> Result<ByteBuffer<'r>, MemoryError>
@@ -173,13 +180,18 @@ impl<'r> Buffer<&'r mut [u8]> {
         }
     }
 
-    /// So many zeros at the front of a region. It takes no memory, and leaves the bytes past them alone.
+    /// So many zeros at the front of a region. It takes no memory, and leaves the bytes past them
+    /// alone.
     ///
-    /// It is refused only where the region is shorter (`InvalidStaticBufferSize`): then the loan has ended, and the
-    /// region's bytes are unchanged.
+    /// It is refused only where the region is shorter (`InvalidStaticBufferSize`): then the loan
+    /// has ended, and the region's bytes are unchanged.
     pub fn new_static(region: &'r mut [u8], size: usize) -> Result<ByteBuffer<'r>, MemoryError>
-        ensures ok { IfOk result (λ b. (has_place_for (Lent region.entry.now) size ≡ true) × (b ≡ zeros_in (Lent region.entry.now) size)) }
-        ensures err { IfErr result (λ e. (has_place_for (Lent region.entry.now) size ≡ false) × (e ≡ MemoryError.InvalidStaticBufferSize)) }
+        ensures ok { IfOk result
+            (λ b. (fits_room (Lent region.entry.now) size ≡ true)
+            × (b ≡ zeros_in (Lent region.entry.now) size)) }
+        ensures err { IfErr result
+            (λ e. (fits_room (Lent region.entry.now) size ≡ false)
+            × (e ≡ MemoryError.InvalidStaticBufferSize)) }
     {
         if region.len() < size {
             return Err(MemoryError::InvalidStaticBufferSize);

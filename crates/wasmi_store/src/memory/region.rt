@@ -29,7 +29,8 @@ pub trait Region: sealed::Sealed {
         ensures* writes_back { sem 𝓛 (Lends Self.row (Array u8 0) self.entry result (refilled self.old end)) }
         ensures value { result.now ≡ take end (bytes self.old) };
 
-    ghost refills: { (r : Self) (end : ℕ) (ws : List ℕ) → bytes (refilled r end ws) ≡ refilled_front (bytes r) end ws };
+    ghost refills: { (r : Self) (end : ℕ) (ws : List ℕ)
+        → bytes (refilled r end ws) ≡ refilled_front (bytes r) end ws };
 }
 
 impl<'r> Region for &'r mut [u8] {

@@ -45,7 +45,8 @@ impl PageSize {
     }
 }
 
-/// The type of a linear memory: its address type, its page size, and its minimum and optional maximum in pages.
+/// The type of a linear memory: its address type, its page size, and its minimum and optional
+/// maximum in pages.
 ///
 /// Core specification, memory types. Upstream: `wasmi_core::MemoryType`.
 #[derive(Clone, Copy, Debug, PartialEq, Eq)]
@@ -61,11 +62,14 @@ impl Model for MemoryType {
 
     ghost Value = { MemoryTypeValue };
 
-    ghost view = { λ t. record { index = t.index; page = t.page; minimum = t.minimum; maximum = t.maximum } };
+    ghost view = { λ t. record
+        { index = t.index; page = t.page; minimum = t.minimum; maximum = t.maximum } };
 
-    ghost invariant = { λ t. IsValid (record { index = t.index; page = t.page; minimum = t.minimum; maximum = t.maximum }) };
+    ghost invariant = { λ t. IsValid
+        (record { index = t.index; page = t.page; minimum = t.minimum; maximum = t.maximum }) };
 
-    ghost inverse = { λ t. record { index = t.index; page = t.page; minimum = t.minimum; maximum = t.maximum } };
+    ghost inverse = { λ t. record
+        { index = t.index; page = t.page; minimum = t.minimum; maximum = t.maximum } };
 }
 
 impl MemoryType {
@@ -122,8 +126,9 @@ impl MemoryType {
         self.page.log2()
     }
 
-    /// Whether a memory of this type may be given where one of the other type is asked for: with the same address type
-    /// and page size, a minimum that isn't smaller, and a maximum that isn't above the other's, if that has one.
+    /// Whether a memory of this type may be given where one of the other type is asked for: with
+    /// the same address type and page size, a minimum that isn't smaller, and a maximum that isn't
+    /// above the other's, if that has one.
     pub fn is_subtype_of(&self, other: &Self) -> bool
         ensures { IsTrue result ↔ IsSubtype self.now other.now }
     {
@@ -143,7 +148,8 @@ impl MemoryType {
 
     /// The minimum in bytes, if it is below 2^64.
     pub(super) fn minimum_size(self) -> Option<usize>
-        ensures size { result ≡ (if nat_lt (minimum_bytes self) (2 ^ 64) then Some (minimum_bytes self) else None) }
+        ensures size { result
+            ≡ (if nat_lt (minimum_bytes self) (2 ^ 64) then Some (minimum_bytes self) else None) }
         ensures valid { IsValid self }
     {
         let size = self.minimum.checked_mul(u64::from(self.page.bytes()))?;
@@ -195,7 +201,12 @@ impl Model for MemoryTypeBuilder {
 
     ghost Value = { Settings };
 
-    ghost view = { λ b. record { index = b.index; page_size_log2 = b.page_size_log2; minimum = b.minimum; maximum = b.maximum } };
+    ghost view = { λ b. record {
+      index = b.index;
+      page_size_log2 = b.page_size_log2;
+      minimum = b.minimum;
+      maximum = b.maximum;
+    } };
 }
 
 impl Default for MemoryTypeBuilder {
@@ -257,12 +268,13 @@ impl MemoryTypeBuilder {
         self
     }
 
-    /// The type. It is `InvalidMemoryType` for a page size other than 1 byte and 64 KiB, for limits above what the
-    /// address type reaches, and for a minimum above the maximum.
+    /// The type. It is `InvalidMemoryType` for a page size other than 1 byte and 64 KiB, for limits
+    /// above what the address type reaches, and for a minimum above the maximum.
     pub fn build(self) -> Result<MemoryType, MemoryError>
         ensures { MatchResult result
             (λ ty. (named_type self ≡ Some ty) × IsValid ty)
-            (λ error. (error ≡ MemoryError.InvalidMemoryType) × ¬ (IsSomeAnd (named_type self) IsValid)) }
+            (λ error. (error ≡ MemoryError.InvalidMemoryType)
+            × ¬ (IsSomeAnd (named_type self) IsValid)) }
     {
         let Some(page) = PageSize::from_log2(self.page_size_log2) else {
             return Err(MemoryError::InvalidMemoryType);

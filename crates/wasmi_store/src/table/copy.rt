@@ -5,10 +5,10 @@ ghost use Rattle.wasmi_types.specs.Access.{overwrite};
 use wasmi_raw::RawRef;
 
 /// How many items are copied at once.
-const PART: usize = 4096;
+const CHUNK: usize = 4096;
 
-/// Copies so many items over others of the same list: those that move up from the last part on, so that each is read before it
-/// is written over.
+/// Copies so many items over others of the same list: those that move up from the last part on, so
+/// that each is read before it is written over.
 pub(super) fn copy_part_within(elements: &mut [RawRef], dst: usize, src: usize, len: usize)
     requires dst { dst + len ≤ length elements.old }
     requires src { src + len ≤ length elements.old }
@@ -17,28 +17,31 @@ pub(super) fn copy_part_within(elements: &mut [RawRef], dst: usize, src: usize, 
     if dst <= src {
         let mut done = 0;
         while done < len {
-            let count = PART.min(len - done);
+            let count = CHUNK.min(len - done);
             copy_few_within(elements, dst + done, src + done, count);
             done += count;
         }
     } else {
         let mut left = len;
         while 0 < left {
-            let count = PART.min(left);
+            let count = CHUNK.min(left);
             left -= count;
             copy_few_within(elements, dst + left, src + left, count);
         }
     }
 }
 
-/// Copies at most `PART` items over others of the same list. LLVM drops the buffer: the two copies become one `memmove`.
+/// Copies at most `CHUNK` items over others of the same list. LLVM drops the buffer: the two copies
+/// become one `memmove`.
 fn copy_few_within(elements: &mut [RawRef], dst: usize, src: usize, len: usize)
     requires few { len ≤ 4096 }
     requires dst { dst + len ≤ length elements.old }
     requires src { src + len ≤ length elements.old }
-    ensures { elements.new ≡ take dst elements.old ++ take len (drop src elements.old) ++ drop (dst + len) elements.old }
+    ensures { elements.new
+        ≡ take dst elements.old ++ take len (drop src elements.old) ++ drop
+        (dst + len) elements.old }
 {
-    let mut few = [RawRef::null(); PART];
+    let mut few = [RawRef::null(); CHUNK];
     few[..len].copy_from_slice(&elements[src..src + len]);
     elements[dst..dst + len].copy_from_slice(&few[..len]);
 }

@@ -85,8 +85,8 @@ impl ElementSegment {
 
     /// Reads references of a type up to the first `None`, which is taken as the end.
     ///
-    /// It reads at most 2^32 items, and nothing after the end or after a refusal: `TooManyItems` at the last of those
-    /// items, `OutOfSystemMemory` at the item for which memory was refused.
+    /// It reads at most 2^32 items, and nothing after the end or after a refusal: `TooManyItems` at
+    /// the last of those items, `OutOfSystemMemory` at the item for which memory was refused.
     ///
     /// Own: `new` takes its iterator by value, so that its contract can't say what is left of it.
     pub fn read<I>(alloc: Global, ty: RefType, items: &mut I) -> Result<Self, SegmentError>

@@ -6,7 +6,8 @@ use std::marker::Model;
 use wasmi_meter::TableError;
 use wasmi_types::{IndexType, RefType};
 
-/// The type of a table: its index type, the type of its elements, and its minimum and optional maximum in elements.
+/// The type of a table: its index type, the type of its elements, and its minimum and optional
+/// maximum in elements.
 ///
 /// Core specification, table types. Upstream: `wasmi_core::TableType`.
 #[derive(Clone, Copy, Debug, PartialEq, Eq)]
@@ -22,11 +23,19 @@ impl Model for TableType {
 
     ghost Value = { TableTypeValue };
 
-    ghost view = { λ t. record { index = t.index; element = t.element; minimum = t.minimum; maximum = t.maximum } };
+    ghost view = { λ t. record
+        { index = t.index; element = t.element; minimum = t.minimum; maximum = t.maximum } };
 
-    ghost invariant = { λ t. IsValid (record { index = t.index; element = t.element; minimum = t.minimum; maximum = t.maximum }) };
+    ghost invariant = { λ t. IsValid
+        (record {
+          index = t.index;
+          element = t.element;
+          minimum = t.minimum;
+          maximum = t.maximum;
+        }) };
 
-    ghost inverse = { λ t. record { index = t.index; element = t.element; minimum = t.minimum; maximum = t.maximum } };
+    ghost inverse = { λ t. record
+        { index = t.index; element = t.element; minimum = t.minimum; maximum = t.maximum } };
 }
 
 impl TableType {
@@ -36,7 +45,8 @@ impl TableType {
     /// A type with 32-bit indices. The minimum isn't above the maximum.
     pub fn new(element: RefType, minimum: u32, maximum: Option<u32>) -> Self
         requires { IfSome maximum (λ most. minimum ≤ most) }
-        ensures { result ≡ record { index = I32; element = element; minimum = minimum; maximum = maximum } }
+        ensures { result
+            ≡ record { index = I32; element = element; minimum = minimum; maximum = maximum } }
     {
         TableType {
             index: IndexType::I32,
@@ -52,7 +62,8 @@ impl TableType {
     /// A type with 64-bit indices. The minimum isn't above the maximum.
     pub fn new64(element: RefType, minimum: u64, maximum: Option<u64>) -> Self
         requires { IfSome maximum (λ most. minimum ≤ most) }
-        ensures { result ≡ record { index = I64; element = element; minimum = minimum; maximum = maximum } }
+        ensures { result
+            ≡ record { index = I64; element = element; minimum = minimum; maximum = maximum } }
     {
         TableType {
             index: IndexType::I64,
@@ -98,8 +109,9 @@ impl TableType {
         self.maximum
     }
 
-    /// Whether a table of this type may be given where one of the other type is asked for: with the same index type
-    /// and type of elements, a minimum that isn't smaller, and a maximum that isn't above the other's, if that has one.
+    /// Whether a table of this type may be given where one of the other type is asked for: with the
+    /// same index type and type of elements, a minimum that isn't smaller, and a maximum that isn't
+    /// above the other's, if that has one.
     pub fn is_subtype_of(&self, other: &Self) -> bool
         ensures { IsTrue result ↔ IsSubtype self.now other.now }
     {
@@ -113,7 +125,8 @@ impl TableType {
     pub(super) fn ensure_element_type_matches(self, ty: RefType) -> Result<(), TableError>
         ensures { MatchResult result
             (λ _. same_type self.element ty ≡ true)
-            (λ error. (error ≡ TableError.ElementTypeMismatch) × (same_type self.element ty ≡ false)) }
+            (λ error. (error ≡ TableError.ElementTypeMismatch)
+            × (same_type self.element ty ≡ false)) }
     {
         if self.element != ty {
             return Err(TableError::ElementTypeMismatch);

@@ -1,4 +1,5 @@
-//! Every way in which the creation of a memory can end, and what the creations of memories and tables share.
+//! Every way in which the creation of a memory can end, and what the creations of memories and
+//! tables share.
 use super::recorder::{COMPLAINT, Failure, Question, Recorder, same_record};
 use super::{memory_type, new_memory, same};
 use std::alloc::Global;
@@ -20,7 +21,8 @@ pub enum Subject {
     Table(RefType),
 }
 
-/// A creation under a limiter with this answer and this heed: how it ends, and what the limiter was asked and told.
+/// A creation under a limiter with this answer and this notice_answer: how it ends, and what the
+/// limiter was asked and told.
 #[derive(Clone, Copy)]
 pub struct Creation {
     pub what: &'static str,
@@ -28,7 +30,7 @@ pub struct Creation {
     pub minimum: u64,
     pub maximum: Option<u64>,
     pub answer: Result<bool, LimiterError>,
-    pub heed: Result<(), LimiterError>,
+    pub notice_answer: Result<(), LimiterError>,
     pub outcome: Result<u64, Failure>,
     pub question: Option<Question>,
     pub notice: Option<Failure>,
@@ -71,7 +73,7 @@ fn make_memory(
 
 /// Makes what a row says, and compares.
 fn compare_creation(rt: &impl Abort, alloc: Global, row: &Creation) {
-    let mut recorder = Recorder::new(row.answer, row.heed);
+    let mut recorder = Recorder::new(row.answer, row.notice_answer);
     let outcome = match row.subject {
         Subject::Memory32 => make_memory(rt, alloc, row, false, &mut recorder),
         Subject::Memory64 => make_memory(rt, alloc, row, true, &mut recorder),
@@ -96,7 +98,7 @@ const PERMITTED: Creation = Creation {
     maximum: Some(2),
     subject: Subject::Memory32,
     answer: Ok(true),
-    heed: Ok(()),
+    notice_answer: Ok(()),
     outcome: Ok(1),
     question: Some(Question {
         kind: Kind::Bytes,
@@ -162,8 +164,8 @@ static CREATIONS: [Creation; 7] = [
     },
     WANTING,
     Creation {
-        what: "want of memory, and the limiter heeds with an error",
-        heed: Err(COMPLAINT),
+        what: "want of memory, and the limiter accepts with an error",
+        notice_answer: Err(COMPLAINT),
         outcome: Err(DENIED),
         ..WANTING
     },

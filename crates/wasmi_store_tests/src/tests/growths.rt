@@ -1,4 +1,5 @@
-//! Every way in which the growth of a memory can end, and what the growths of memories and tables share.
+//! Every way in which the growth of a memory can end, and what the growths of memories and tables
+//! share.
 use super::creations::Subject;
 use super::recorder::{COMPLAINT, Failure, Question, Recorder, same_record};
 use super::{ample_memory, func, grow, memory_type, metered, same, table_of};
@@ -8,8 +9,9 @@ use wasmi_meter::{Fuel, Kind, LimiterError, MemoryError, ResourceLimiterRef};
 use wasmi_store::{Table, TableType};
 use wasmi_types::RefType;
 
-/// A growth of a memory of one page or of a table of one function, with so much fuel, under a limiter with this answer
-/// and this heed: how it ends, what the limiter was asked and told, and the fuel that is left.
+/// A growth of a memory of one page or of a table of one function, with so much fuel, under a
+/// limiter with this answer and this notice_answer: how it ends, what the limiter was asked and
+/// told, and the fuel that is left.
 #[derive(Clone, Copy)]
 pub struct Growth {
     pub what: &'static str,
@@ -18,7 +20,7 @@ pub struct Growth {
     pub delta: u64,
     pub fuel: u64,
     pub answer: Result<bool, LimiterError>,
-    pub heed: Result<(), LimiterError>,
+    pub notice_answer: Result<(), LimiterError>,
     pub outcome: Result<u64, Failure>,
     pub question: Option<Question>,
     pub notice: Option<Failure>,
@@ -90,7 +92,7 @@ fn grow_table(
 /// Makes and grows what a row says, and compares.
 fn compare_growth(rt: &impl Abort, alloc: Global, row: &Growth) {
     let mut meter = metered(row.fuel);
-    let mut recorder = Recorder::new(row.answer, row.heed);
+    let mut recorder = Recorder::new(row.answer, row.notice_answer);
     let (outcome, size) = match row.subject {
         Subject::Memory32 => grow_memory(rt, alloc, row, false, &mut meter, &mut recorder),
         Subject::Memory64 => grow_memory(rt, alloc, row, true, &mut meter, &mut recorder),
@@ -123,7 +125,7 @@ const PERMITTED: Growth = Growth {
     delta: 1,
     fuel: 1024,
     answer: Ok(true),
-    heed: Ok(()),
+    notice_answer: Ok(()),
     outcome: Ok(1),
     question: Some(Question {
         kind: Kind::Bytes,
@@ -205,15 +207,15 @@ static GROWTHS: [Growth; 10] = [
     },
     WANT_OF_FUEL,
     Growth {
-        what: "want of fuel, and the limiter heeds with an error",
-        heed: Err(COMPLAINT),
+        what: "want of fuel, and the limiter accepts with an error",
+        notice_answer: Err(COMPLAINT),
         outcome: Err(DENIED),
         ..WANT_OF_FUEL
     },
     WANT_OF_MEMORY,
     Growth {
-        what: "want of memory, and the limiter heeds with an error",
-        heed: Err(COMPLAINT),
+        what: "want of memory, and the limiter accepts with an error",
+        notice_answer: Err(COMPLAINT),
         outcome: Err(DENIED),
         ..WANT_OF_MEMORY
     },

@@ -7,8 +7,9 @@ use wasmi_raw::RawRef;
 use wasmi_store::{Memory, Table, TableType};
 use wasmi_types::RefType;
 
-/// A memory of 64 pages of one byte that grows by as many, with fuel 1, under a quota of so many bytes: its size; the
-/// size before the growth, if it was made; the bytes that the quota holds, and the fuel that is left.
+/// A memory of 64 pages of one byte that grows by as many, with fuel 1, under a quota of so many
+/// bytes: its size; the size before the growth, if it was made; the bytes that the quota holds, and
+/// the fuel that is left.
 #[derive(Clone, Copy)]
 struct MemoryLoan {
     what: &'static str,
@@ -82,8 +83,8 @@ fn lends_quotas_to_memories(rt: HostRuntime) {
     }
 }
 
-/// A table of two elements that grows by one, and by one again, under a quota of so many elements: its size; the sizes
-/// before the growths, if it was made; and the elements that the quota holds.
+/// A table of two elements that grows by one, and by one again, under a quota of so many elements:
+/// its size; the sizes before the growths, if it was made; and the elements that the quota holds.
 #[derive(Clone, Copy)]
 struct TableLoan {
     what: &'static str,

@@ -13,7 +13,8 @@ use wasmi_meter::{
 
 /// Lends its limiter for one question, and knows what became of it.
 fn ask_once<L: ResourceLimiter>(limiter: &mut L) -> Result<bool, LimiterError>
-    ensures { L.rules.asked limiter.old (record { kind = Bytes; current = 0; desired = 5; maximum = None }) result limiter.new }
+    ensures { L.rules.asked limiter.old
+        (record { kind = Bytes; current = 0; desired = 5; maximum = None }) result limiter.new }
 {
     let mut lent = ResourceLimiterRef::from(limiter);
     let answer = lent.memory_growing(0, 5, None);
@@ -26,7 +27,9 @@ fn ask_once<L: ResourceLimiter>(limiter: &mut L) -> Result<bool, LimiterError>
 /// Asks the limiter itself, where the reference leads to one.
 fn ask_through<L: ResourceLimiter>(lent: &mut ResourceLimiterRef<L>) -> Result<bool, LimiterError>
     ensures loan { KeepsLoan lent.old lent.new }
-    ensures asked { (optional_rules L.rules).asked (lent_limiter lent.old) (record { kind = Bytes; current = 0; desired = 5; maximum = None }) result (lent_limiter lent.new) }
+    ensures asked { (optional_rules L.rules).asked (lent_limiter lent.old)
+        (record { kind = Bytes; current = 0; desired = 5; maximum = None }) result
+        (lent_limiter lent.new) }
 {
     match lent.as_resource_limiter() {
         Some(limiter) => limiter.memory_growing(0, 5, None),
@@ -44,8 +47,13 @@ fn a_lender_finds_what_became_of_its_limiter(rt: HostRuntime) {
     }
     let table_answer = lent.table_growing(3, 10, Some(9));
     same(&rt, "10 elements", table_answer, Ok(false));
-    let memory_heed = lent.memory_grow_failed(&MemoryError::OutOfSystemMemory);
-    same(&rt, "a memory's notice", memory_heed, Err(COMPLAINT));
+    let memory_notice_answer = lent.memory_grow_failed(&MemoryError::OutOfSystemMemory);
+    same(
+        &rt,
+        "a memory's notice",
+        memory_notice_answer,
+        Err(COMPLAINT),
+    );
     if let Some(limiter) = lent.as_resource_limiter() {
         let asked = table_question(3, 10, Some(9));
         same(&rt, "the last question", limiter.question, asked);
@@ -53,8 +61,8 @@ fn a_lender_finds_what_became_of_its_limiter(rt: HostRuntime) {
         same(&rt, "a memory's notice", limiter.notice, notice);
         limiter.question = None;
     }
-    let table_heed = lent.table_grow_failed(&TableError::GrowOutOfBounds);
-    same(&rt, "a table's notice", table_heed, Err(COMPLAINT));
+    let table_notice_answer = lent.table_grow_failed(&TableError::GrowOutOfBounds);
+    same(&rt, "a table's notice", table_notice_answer, Err(COMPLAINT));
     let Some(limiter) = lent.into_resource_limiter() else {
         unreachable!()
     };
@@ -75,10 +83,10 @@ fn permits_all(rt: &impl Abort, lent: &mut ResourceLimiterRef<NoLimits>) {
     same(rt, "bytes", memory_answer, Ok(true));
     let table_answer = lent.table_growing(0, usize::MAX, None);
     same(rt, "elements", table_answer, Ok(true));
-    let memory_heed = lent.memory_grow_failed(&MemoryError::OutOfSystemMemory);
-    same(rt, "a memory's notice", memory_heed, Ok(()));
-    let table_heed = lent.table_grow_failed(&TableError::OutOfSystemMemory);
-    same(rt, "a table's notice", table_heed, Ok(()));
+    let memory_notice_answer = lent.memory_grow_failed(&MemoryError::OutOfSystemMemory);
+    same(rt, "a memory's notice", memory_notice_answer, Ok(()));
+    let table_notice_answer = lent.table_grow_failed(&TableError::OutOfSystemMemory);
+    same(rt, "a table's notice", table_notice_answer, Ok(()));
 }
 
 #[test]

@@ -44,7 +44,8 @@ fn growth_to_all_addresses_is_out_of_bounds(rt: HostRuntime) {
     same_record(&rt, "the creation alone", &recorder, creation, None);
 }
 
-/// A growth by a page with so much fuel, under a quota of two pages: how it ends, and what is left and held then.
+/// A growth by a page with so much fuel, under a quota of two pages: how it ends, and what is left
+/// and held then.
 struct MeteredGrowth {
     fuel: u64,
     outcome: Result<u64, MemoryError>,

@@ -22,12 +22,12 @@ pub enum Failure {
     Table(TableError),
 }
 
-/// Gives each question the answer and each notice the heed that it was told to give, and keeps what it was asked and
-/// told last, and how often.
+/// Gives each question the answer and each notice the notice_answer that it was told to give, and
+/// keeps what it was asked and told last, and how often.
 #[derive(Drop)]
 pub struct Recorder {
     pub answer: Result<bool, LimiterError>,
-    pub heed: Result<(), LimiterError>,
+    pub notice_answer: Result<(), LimiterError>,
     pub questions: u32,
     pub question: Option<Question>,
     pub notices: u32,
@@ -35,10 +35,13 @@ pub struct Recorder {
 }
 
 impl Recorder {
-    pub(super) fn new(answer: Result<bool, LimiterError>, heed: Result<(), LimiterError>) -> Self {
+    pub(super) fn new(
+        answer: Result<bool, LimiterError>,
+        notice_answer: Result<(), LimiterError>,
+    ) -> Self {
         Recorder {
             answer,
-            heed,
+            notice_answer,
             questions: 0,
             question: None,
             notices: 0,
@@ -55,7 +58,7 @@ impl Recorder {
     fn is_told(&mut self, notice: Failure) -> Result<(), LimiterError> {
         self.notices = self.notices.saturating_add(1);
         self.notice = Some(notice);
-        self.heed
+        self.notice_answer
     }
 }
 

@@ -62,14 +62,14 @@ fn only_a_shorter_region_has_no_room(rt: HostRuntime) {
     }
 }
 
-/// A creation on a region of 4 bytes of 7, in pages of one byte, under a limiter with this answer and this heed: how
-/// it ends, what the limiter was told, and what the lender finds.
+/// A creation on a region of 4 bytes of 7, in pages of one byte, under a limiter with this answer
+/// and this notice_answer: how it ends, what the limiter was told, and what the lender finds.
 #[derive(Clone, Copy)]
 struct Creation {
     what: &'static str,
     minimum: u64,
     answer: Result<bool, LimiterError>,
-    heed: Result<(), LimiterError>,
+    notice_answer: Result<(), LimiterError>,
     outcome: Result<u64, Failure>,
     notice: Option<Failure>,
     found: [u8; 4],
@@ -79,7 +79,7 @@ const WITHIN: Creation = Creation {
     what: "within the region",
     minimum: 3,
     answer: Ok(true),
-    heed: Ok(()),
+    notice_answer: Ok(()),
     outcome: Ok(3),
     notice: None,
     found: [0, 0, 0, 7],
@@ -112,8 +112,8 @@ static CREATIONS: [Creation; 7] = [
     },
     SHORT,
     Creation {
-        what: "a short region, and the limiter heeds with an error",
-        heed: Err(COMPLAINT),
+        what: "a short region, and the limiter accepts with an error",
+        notice_answer: Err(COMPLAINT),
         outcome: Err(DENIED),
         ..SHORT
     },
@@ -136,7 +136,7 @@ static CREATIONS: [Creation; 7] = [
 /// Makes the memory, ends the loan, and compares.
 fn compare_creation(rt: &impl Abort, row: &Creation) {
     let ty = memory_type(rt, row.minimum, Some(9), 0, false);
-    let mut recorder = Recorder::new(row.answer, row.heed);
+    let mut recorder = Recorder::new(row.answer, row.notice_answer);
     let mut region = [7; 4];
     let outcome = memory_size(lent_memory(ty, &mut recorder, &mut region));
     same(rt, row.what, outcome, row.outcome);
@@ -158,16 +158,16 @@ fn records_creations(rt: HostRuntime) {
     same_record(&rt, "a minimum of all bytes", &recorder, None, None);
 }
 
-/// A growth of the bytes 1, 2, 3 on a region of 6 bytes, in pages of one byte that costs one fuel, under a limiter
-/// with this answer and this heed: how it ends, what the limiter was told, the fuel that is left, and what the lender
-/// finds.
+/// A growth of the bytes 1, 2, 3 on a region of 6 bytes, in pages of one byte that costs one fuel,
+/// under a limiter with this answer and this notice_answer: how it ends, what the limiter was told,
+/// the fuel that is left, and what the lender finds.
 #[derive(Clone, Copy)]
 struct Growth {
     what: &'static str,
     pages: u64,
     fuel: u64,
     answer: Result<bool, LimiterError>,
-    heed: Result<(), LimiterError>,
+    notice_answer: Result<(), LimiterError>,
     outcome: Result<u64, Failure>,
     notice: Option<Failure>,
     left: u64,
@@ -181,7 +181,7 @@ const BY_TWO: Growth = Growth {
     pages: 2,
     fuel: 4,
     answer: Ok(true),
-    heed: Ok(()),
+    notice_answer: Ok(()),
     outcome: Ok(3),
     notice: None,
     left: 2,
@@ -226,8 +226,8 @@ static GROWTHS: [Growth; 7] = [
         ..BY_FOUR
     },
     Growth {
-        what: "past the region, and the limiter heeds with an error",
-        heed: Err(COMPLAINT),
+        what: "past the region, and the limiter accepts with an error",
+        notice_answer: Err(COMPLAINT),
         outcome: Err(DENIED),
         ..BY_FOUR
     },
@@ -247,7 +247,7 @@ fn compare_growth(rt: &impl Abort, row: &Growth) {
     let mut memory = ample_region(rt, ty, &mut region);
     same(rt, row.what, memory.write(0, &[1, 2, 3]), Ok(()));
     let mut meter = metered_at(1, row.fuel);
-    let mut recorder = Recorder::new(row.answer, row.heed);
+    let mut recorder = Recorder::new(row.answer, row.notice_answer);
     let grown = grow(&mut memory, row.pages, Some(&mut meter), &mut recorder);
     drop(memory);
     same(rt, row.what, memory_outcome(grown), row.outcome);

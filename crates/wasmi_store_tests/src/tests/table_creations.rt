@@ -15,7 +15,7 @@ const PERMITTED: Creation = Creation {
     minimum: 2,
     maximum: None,
     answer: Ok(true),
-    heed: Ok(()),
+    notice_answer: Ok(()),
     outcome: Ok(2),
     question: Some(Question {
         kind: Kind::Elements,
@@ -75,8 +75,8 @@ static CREATIONS: [Creation; 7] = [
     },
     WANTING,
     Creation {
-        what: "want of memory, and the limiter heeds with an error",
-        heed: Err(COMPLAINT),
+        what: "want of memory, and the limiter accepts with an error",
+        notice_answer: Err(COMPLAINT),
         outcome: Err(DENIED),
         ..WANTING
     },

@@ -18,7 +18,7 @@ const PERMITTED: Growth = Growth {
     delta: 16,
     fuel: 3,
     answer: Ok(true),
-    heed: Ok(()),
+    notice_answer: Ok(()),
     outcome: Ok(1),
     question: Some(Question {
         kind: Kind::Elements,
@@ -130,22 +130,22 @@ static GROWTHS: [Growth; 13] = [
         ..ABOVE_THE_MAXIMUM
     },
     Growth {
-        what: "above the maximum, and the limiter heeds with an error",
-        heed: Err(COMPLAINT),
+        what: "above the maximum, and the limiter accepts with an error",
+        notice_answer: Err(COMPLAINT),
         outcome: Err(DENIED),
         ..ABOVE_THE_MAXIMUM
     },
     WANT_OF_FUEL,
     Growth {
-        what: "want of fuel, and the limiter heeds with an error",
-        heed: Err(COMPLAINT),
+        what: "want of fuel, and the limiter accepts with an error",
+        notice_answer: Err(COMPLAINT),
         outcome: Err(DENIED),
         ..WANT_OF_FUEL
     },
     WANT_OF_MEMORY,
     Growth {
-        what: "want of memory, and the limiter heeds with an error",
-        heed: Err(COMPLAINT),
+        what: "want of memory, and the limiter accepts with an error",
+        notice_answer: Err(COMPLAINT),
         outcome: Err(DENIED),
         ..WANT_OF_MEMORY
     },

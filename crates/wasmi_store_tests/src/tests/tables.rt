@@ -56,8 +56,8 @@ enum Write {
     },
 }
 
-/// A write on a table that the steps before it left, with a meter or without: how it ends, and the fuel and the
-/// elements then.
+/// A write on a table that the steps before it left, with a meter or without: how it ends, and the
+/// fuel and the elements then.
 #[derive(Clone, Copy)]
 struct Step {
     what: &'static str,

@@ -16,4 +16,5 @@ pub returns-clause-bits : goal.returns-clause-bits
 returns-clause-bits c = bits c
 
 pub returns-clause-read : goal.returns-clause-read
-returns-clause-read c = λ i inside. ap (signed w8) (bits c i inside) ∙ c.wrapped_numbers.ensures.signed w8 c.args.number c.ranges.number
+returns-clause-read c =
+    λ i inside. ap (signed w8) (bits c i inside) ∙ c.wrapped_numbers.ensures.signed w8 c.args.number c.ranges.number

@@ -5,4 +5,5 @@ use Rattle.wasmi_callers.proofs.pools.run_alone.Goals as goal
 pub returns : goal.returns
 returns c =
     if_ok_too c.run.result c.run.ensures.ran (λ replies ran shown.
-    alone_after c.permitted_runs_as_alone.ensures c.args.pool.now c.args.index c.args.calls.now replies.items c.run.new.self (c.replies_permit.ensures _ _ _ replies.items _ shown ran))
+    alone_after c.permitted_runs_as_alone.ensures c.args.pool.now c.args.index c.args.calls.now replies.items
+    c.run.new.self (c.replies_permit.ensures _ _ _ replies.items _ shown ran))

@@ -7,5 +7,7 @@ pub returns : goal.returns
 returns c =
     λ has has'.
     let second = rw c.requires.machines at c.in_ok-second.ensures.run in
-    let one = c.replies_are_one.ensures c.no_limits_leave_no_choice.ensures c.no_limits_heed_all.ensures c.args.calls.now _ c.in_ok-first.first.items c.in_ok-second.second.items _ _ has has' c.in_ok-first.ensures.run second in
+    let one = c.replies_are_one.ensures c.no_limits_leave_no_choice.ensures c.no_limits_accept_notices.ensures
+    c.args.calls.now _ c.in_ok-first.first.items c.in_ok-second.second.items _ _ has has' c.in_ok-first.ensures.run
+    second in
     (one.0, ap (λ (w : World (Option NoLimits)). w.state) one.1)

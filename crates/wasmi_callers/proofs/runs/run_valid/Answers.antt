@@ -7,4 +7,5 @@ use Rattle.wasmi_callers.proofs.runs.run_valid.Goals as goal
 pub returns : goal.returns
 returns g c =
     if_ok_too c.run_lending.result c.run_lending.ensures.run (λ replies ran.
-    c.runs_keep_validity.ensures _ ran.0 _ c.states_are_valid.ensures (subst (All IsValidCall) (sym ran.1) c.requires) ran.3)
+    c.runs_keep_validity.ensures _ ran.0 _ c.states_are_valid.ensures
+    (subst (All IsValidCall) (sym ran.1) c.requires) ran.3)

@@ -10,11 +10,15 @@ returns-clause-loaded c =
     let whole : value % 2 ^ 32 % 2 ^ 32 ≡ value = omega (arith, c.ranges.value.fits) in
     let loaded_again : c.load_at.result ≡ Ok value =
     c.load_at.ensures.value
-    ∙ c.stored_number_is_loaded.ensures.natural 4 (value % 2 ^ 32) c.args.address c.args.memory.now c.store_at.new.memory (λ n. n) c.in_ok-store_at.ensures
+    ∙ c.stored_number_is_loaded.ensures.natural 4
+    (value % 2 ^ 32) c.args.address c.args.memory.now c.store_at.new.memory (λ n. n) c.in_ok-store_at.ensures
     ∙ ap Ok whole in
-    let P : Result ℕ TrapCode → Type 0 = λ r. MatchResult r (λ number. number ≡ value) (λ trap. trap ≡ MemoryOutOfBounds) in
+    let P : Result ℕ TrapCode → Type 0 =
+    λ r. MatchResult r (λ number. number ≡ value) (λ trap. trap ≡ MemoryOutOfBounds) in
     subst P (sym loaded_again) refl
 
 pub returns-clause-outside : goal.returns-clause-outside
 returns-clause-outside c =
-    if_ok_always c.load_at.result (c.stored_number_is_loaded.ensures.outside 4 (c.args.value % 2 ^ 32) c.args.address c.args.memory.now c.store_at.new.memory c.in_ok-store_at.ensures)
+    if_ok_always c.load_at.result
+    (c.stored_number_is_loaded.ensures.outside 4
+    (c.args.value % 2 ^ 32) c.args.address c.args.memory.now c.store_at.new.memory c.in_ok-store_at.ensures)

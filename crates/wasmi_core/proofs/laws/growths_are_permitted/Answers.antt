@@ -1,6 +1,6 @@
 use Rattle.wasmi_meter.specs.Limiter.{optional_rules}
 use Rattle.wasmi_core.proofs.ExchangeLemmas as exchange
-use Rattle.wasmi_core.proofs.Turns.{each_turn}
+use Rattle.wasmi_core.proofs.TurnLemmas.{each_turn}
 use Rattle.wasmi_core.proofs.laws.growths_are_permitted.Goals as goal
 
 pub returns-clause-turn : goal.returns-clause-turn

@@ -1,6 +1,6 @@
 use Rattle.wasmi_meter.specs.Limiter.{optional_rules}
 use Rattle.wasmi_core.proofs.RefusalLemmas as refusal
-use Rattle.wasmi_core.proofs.Turns.{each_turn}
+use Rattle.wasmi_core.proofs.TurnLemmas.{each_turn}
 use Rattle.wasmi_core.proofs.laws.refusals_keep_contents.Goals as goal
 
 pub returns-clause-turn : goal.returns-clause-turn

@@ -2,7 +2,7 @@ use Rattle.std.proofs.Common.{◌+◌, [], ◌∷◌, ◌++◌, ◌∙◌, refl,
 use Rattle.std.proofs.lemmas.List.{take_more, map_push}
 use Rattle.wasmi_meter.specs.Limiter.{optional_rules}
 use Rattle.wasmi_core.specs.World.{Turn}
-use Rattle.wasmi_core.proofs.Turns.{Run-push}
+use Rattle.wasmi_core.proofs.TurnLemmas.{Run-push}
 use Rattle.wasmi_core.proofs.running.run.Goals as goal
 
 -- the turn of this call stands after the turns so far

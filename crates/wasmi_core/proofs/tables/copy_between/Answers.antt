@@ -1,7 +1,7 @@
 use Rattle.std.proofs.Common.{◌++◌, get_or, set, Some, ap, sym, ◌∙◌, arith}
 use Rattle.std.proofs.lemmas.List.{set-append_left, set-append_right}
 use Rattle.std.proofs.lemmas.Option.{slice_get-get_or}
-use Rattle.wasmi_core.specs.TableRows.{copy_from}
+use Rattle.wasmi_core.specs.TableEffects.{copy_from}
 use Rattle.wasmi_core.proofs.CopyLemmas.{copies_at}
 use Rattle.wasmi_core.proofs.tables.copy_between.Goals as goal
 

@@ -1,7 +1,7 @@
 use Rattle.std.proofs.Common.{◌≡◌, ◌+◌, ◌*◌, ◌^◌, ap, arith, ◌∙◌}
 use Rattle.wasmi_types.specs.Wrapping.{w8}
 use Rattle.wasmi_lanes.specs.Lane.{lane}
-use Rattle.wasmi_lanes.proofs.Digits.{digit_at}
+use Rattle.wasmi_lanes.proofs.DigitLemmas.{digit_at}
 use Rattle.wasmi_lanes.proofs.vector_bytes.bytes_of.Goals as goal
 
 pub returns-clause-lanes : goal.returns-clause-lanes

@@ -13,12 +13,18 @@ use Rattle.wasmi_scalar_answers.proofs.line.answers.Goals as goal
 
 pub returns : goal.returns
 returns c =
-    let found : c.position.result ≡ position is_arrow c.args.words.now = position_from_yields_List is_arrow _ _ c.position.result c.position.ensures.ran (YieldsList-from_slice _ c.iter.ensures.rest) (λ x b q k. search (rules, tests)) in
+    let found : c.position.result ≡ position is_arrow c.args.words.now =
+    position_from_yields_List is_arrow _ _ c.position.result c.position.ensures.ran
+    (YieldsList-from_slice _ c.iter.ensures.rest) (λ x b q k. search (rules, tests)) in
     let words = c.args.words.now in
     let arrow = c.in_ok-arrow.arrow in
     record {
       arrow = arrow;
       first_arrow = sym found ∙ c.branch-arrow.ensures ∙ ap continue_value c.in_ok-arrow.is;
-      answered = subst (λ operands. IsSomeAnd (instruction_named (line_word (take arrow words) 0)) (λ instruction. Executes instruction operands c.in_ok-answer.answer)) (take_rest (take arrow words) 1) c.in_ok-answer.ensures;
-      written = subst (λ answer. WritesScalarAnswer answer c.in_ok-expected.expected) (take_rest words (arrow + 1)) c.in_ok-expected.ensures;
+      answered = subst
+          (λ operands. IsSomeAnd (instruction_named (line_word (take arrow words) 0))
+          (λ instruction. Executes instruction operands c.in_ok-answer.answer))
+          (take_rest (take arrow words) 1) c.in_ok-answer.ensures;
+      written = subst (λ answer. WritesScalarAnswer answer c.in_ok-expected.expected)
+          (take_rest words (arrow + 1)) c.in_ok-expected.ensures;
     }

@@ -5,7 +5,8 @@ use Rattle.std.proofs.KnownBytes.{Appends-nil, Appends-trans, Appends-kept}
 use Rattle.wasmi_script.proofs.printer.send_all.Goals as goal
 
 moves_front : (all front rest : List ℕ) (n : ℕ) → all ≡ front ++ rest → all ≡ (front ++ take n rest) ++ drop n rest
-moves_front all front rest n e = e ∙ ap (λ l. front ++ l) (sym (take-append-drop n rest)) ∙ sym (append_assoc front (take n rest) (drop n rest))
+moves_front all front rest n e =
+    e ∙ ap (λ l. front ++ l) (sym (take-append-drop n rest)) ∙ sym (append_assoc front (take n rest) (drop n rest))
 
 pub loop-rest-init : goal.loop-rest-init
 loop-rest-init g c = ([], search rules, Appends-nil _)
@@ -24,8 +25,12 @@ pub returns-in-Ok-eq0-clause-front : goal.returns-in-Ok-eq0-clause-front
 returns-in-Ok-eq0-clause-front g c =
     let (front, split, appended) = c.loop-rest.invariant in
     let rest = c.loop-rest.rest.now in
-    let n = c.in-Ok-eq0.field-0 in
-    (front ++ take n rest, drop n rest, moves_front _ front rest n split, Appends-trans _ _ _ _ _ appended c.in-Ok-eq0.ensures.bytes)
+    let n = c.in-Ok-eq0.field-0 in (
+      front ++ take n rest,
+      drop n rest,
+      moves_front _ front rest n split,
+      Appends-trans _ _ _ _ _ appended c.in-Ok-eq0.ensures.bytes,
+    )
 
 pub returns-in-Err-clause-front : goal.returns-in-Err-clause-front
 returns-in-Err-clause-front g c =

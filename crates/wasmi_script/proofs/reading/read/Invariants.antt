@@ -8,5 +8,6 @@ invariant-loop-turn g l = record {
   counted : l.reader.taken ≡ l._turn;
   turned : l._turn ≤ vec_len l.script;
   bounded : vec_len l.script ≤ LIMIT;
-  taken : Consumes (g.R.Read.remaining l.initial.reader.reader.now) (g.R.Read.remaining l.reader.reader.now) l.script.items;
+  taken : Consumes (g.R.Read.remaining l.initial.reader.reader.now)
+      (g.R.Read.remaining l.reader.reader.now) l.script.items;
 }

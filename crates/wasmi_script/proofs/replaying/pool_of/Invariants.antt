@@ -4,4 +4,8 @@ use Rattle.wasmi_script.specs.Headers.{meter_of}
 use Rattle.wasmi_script.proofs.replaying.pool_of.Given as goal
 
 abbrev pub invariant-loop-index : goal.invariant-loop-index
-invariant-loop-index l = l.pool ≡ record { caps = record { bytes = l.fn.line.bytes; elements = l.fn.line.elements }; machines = replicate l._index (new_state (meter_of l.header)) }
+invariant-loop-index l =
+    l.pool ≡ record {
+      caps = record { bytes = l.fn.line.bytes; elements = l.fn.line.elements };
+      machines = replicate l._index (new_state (meter_of l.header));
+    }

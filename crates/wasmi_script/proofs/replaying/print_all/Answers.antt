@@ -6,7 +6,13 @@ pub returns-in_err-print_outcome-clause-front : goal.returns-in_err-print_outcom
 returns-in_err-print_outcome-clause-front g c = always_err c.from_residual.result c.in_err-print_outcome.ensures.front
 
 pub returns-clause-ok : goal.returns-clause-ok
-returns-clause-ok g c = ok_weaker c.flush.result (prints_out g.W.Write.contents _ _ _ (outcome_text c.args.outcome.now) c.in_ok-print_outcome.ensures.ok) c.flush.ensures.ok
+returns-clause-ok g c =
+    ok_weaker c.flush.result
+    (prints_out g.W.Write.contents _ _ _ (outcome_text c.args.outcome.now) c.in_ok-print_outcome.ensures.ok)
+    c.flush.ensures.ok
 
 pub returns-clause-front : goal.returns-clause-front
-returns-clause-front g c = err_weaker c.flush.result (prints_out_front g.W.Write.contents _ _ _ (outcome_text c.args.outcome.now) c.in_ok-print_outcome.ensures.ok) c.flush.ensures.front
+returns-clause-front g c =
+    err_weaker c.flush.result
+    (prints_out_front g.W.Write.contents _ _ _ (outcome_text c.args.outcome.now) c.in_ok-print_outcome.ensures.ok)
+    c.flush.ensures.front

@@ -11,36 +11,54 @@ abbrev byte_text : ℕ → List ℕ
 byte_text byte = codes " " ++ decimal byte
 
 pub returns-in_err-print-clause-front : goal.returns-in_err-print-clause-front
-returns-in_err-print-clause-front g c = always_err c.from_residual.result (prints_first g.W.Write.contents _ _ (codes "bytes") (bytes_text c.args.bytes.now ++ codes "\n") _ refl c.in_err-print.ensures.front)
+returns-in_err-print-clause-front g c =
+    always_err c.from_residual.result
+    (prints_first g.W.Write.contents _ _ (codes "bytes")
+    (bytes_text c.args.bytes.now ++ codes "\n") _ refl c.in_err-print.ensures.front)
 
 pub returns-in_err-print-2-clause-front : goal.returns-in_err-print-2-clause-front
 returns-in_err-print-2-clause-front g c =
     let bytes = c.args.bytes.now in
     let i = c.loop-byte.byte-index in
-    let whole : line (codes "bytes" ++ bytes_text bytes) ≡ (codes "bytes" ++ bytes_text (take i bytes)) ++ (byte_text (get_or bytes i 0) ++ (bytes_text (drop (i + 1) bytes) ++ codes "\n")) =
+    let whole : line (codes "bytes" ++ bytes_text bytes)
+    ≡ (codes "bytes" ++ bytes_text (take i bytes)) ++
+    (byte_text (get_or bytes i 0) ++ (bytes_text (drop (i + 1) bytes) ++ codes "\n")) =
     ap (λ t. line (codes "bytes" ++ t)) (texts_at byte_text bytes i 0 c.loop-byte-test.true)
-    ∙ append_assoc (codes "bytes") (bytes_text (take i bytes) ++ (byte_text (get_or bytes i 0) ++ bytes_text (drop (i + 1) bytes))) (codes "\n")
-    ∙ ap (λ t. codes "bytes" ++ t) (append_assoc (bytes_text (take i bytes)) (byte_text (get_or bytes i 0) ++ bytes_text (drop (i + 1) bytes)) (codes "\n"))
-    ∙ ap (λ t. codes "bytes" ++ (bytes_text (take i bytes) ++ t)) (append_assoc (byte_text (get_or bytes i 0)) (bytes_text (drop (i + 1) bytes)) (codes "\n")) in
-    always_err c.from_residual-in_err-print-2.result (prints_front g.W.Write.contents _ _ _ _ _ _ _ whole c.loop-byte.invariant c.in_err-print-2.ensures.front)
+    ∙ append_assoc (codes "bytes")
+    (bytes_text (take i bytes) ++ (byte_text (get_or bytes i 0) ++ bytes_text (drop (i + 1) bytes))) (codes "\n")
+    ∙ ap (λ t. codes "bytes" ++ t)
+    (append_assoc (bytes_text (take i bytes)) (byte_text (get_or bytes i 0) ++ bytes_text (drop (i + 1) bytes))
+    (codes "\n"))
+    ∙ ap (λ t. codes "bytes" ++ (bytes_text (take i bytes) ++ t))
+    (append_assoc (byte_text (get_or bytes i 0)) (bytes_text (drop (i + 1) bytes)) (codes "\n")) in
+    always_err c.from_residual-in_err-print-2.result
+    (prints_front g.W.Write.contents _ _ _ _ _ _ _ whole c.loop-byte.invariant c.in_err-print-2.ensures.front)
 
 pub loop-byte-preserved : goal.loop-byte-preserved
 loop-byte-preserved g c =
     let bytes = c.args.bytes.now in
     let i = c.loop-byte.byte-index in
-    prints_then g.W.Write.contents _ _ _ (codes "bytes" ++ bytes_text (take i bytes)) (byte_text (get_or bytes i 0)) _ (ap (λ t. codes "bytes" ++ t) (texts_more byte_text bytes i 0 c.loop-byte-test.true)) c.loop-byte.invariant c.in_ok-print-2.ensures.ok
+    prints_then g.W.Write.contents _ _ _ (codes "bytes" ++ bytes_text (take i bytes)) (byte_text (get_or bytes i 0)) _
+    (ap (λ t. codes "bytes" ++ t) (texts_more byte_text bytes i 0 c.loop-byte-test.true)) c.loop-byte.invariant
+    c.in_ok-print-2.ensures.ok
 
 pub returns-clause-ok : goal.returns-clause-ok
 returns-clause-ok g c =
     let bytes = c.args.bytes.now in
-    let all : take c.loop-byte.byte-index bytes ≡ bytes = take_all c.loop-byte.byte-index bytes c.loop-byte-test.false in
-    ok_weaker c.print-2.result (λ last. prints_then g.W.Write.contents _ _ _ _ (codes "\n") _ (ap (λ bs. line (codes "bytes" ++ bytes_text bs)) (sym all)) c.loop-byte.invariant last) c.print-2.ensures.ok
+    let all : take c.loop-byte.byte-index bytes ≡ bytes =
+    take_all c.loop-byte.byte-index bytes c.loop-byte-test.false in
+    ok_weaker c.print-2.result
+    (λ last. prints_then g.W.Write.contents _ _ _ _ (codes "\n") _
+    (ap (λ bs. line (codes "bytes" ++ bytes_text bs)) (sym all)) c.loop-byte.invariant last) c.print-2.ensures.ok
 
 pub returns-clause-front : goal.returns-clause-front
 returns-clause-front g c =
     let bytes = c.args.bytes.now in
-    let all : take c.loop-byte.byte-index bytes ≡ bytes = take_all c.loop-byte.byte-index bytes c.loop-byte-test.false in
-    err_weaker c.print-2.result (λ sent. prints_front g.W.Write.contents _ _ _ _ (codes "\n") [] _ (ap (λ bs. line (codes "bytes" ++ bytes_text bs)) (sym all)) c.loop-byte.invariant sent) c.print-2.ensures.front
+    let all : take c.loop-byte.byte-index bytes ≡ bytes =
+    take_all c.loop-byte.byte-index bytes c.loop-byte-test.false in
+    err_weaker c.print-2.result
+    (λ sent. prints_front g.W.Write.contents _ _ _ _ (codes "\n") [] _
+    (ap (λ bs. line (codes "bytes" ++ bytes_text bs)) (sym all)) c.loop-byte.invariant sent) c.print-2.ensures.front
 
 pub print-requires-in-loop-byte : goal.print-requires-in-loop-byte
 print-requires-in-loop-byte g c = byte_short _

@@ -5,4 +5,5 @@ use Rattle.wasmi_script.proofs.replaying.print_replies.Given as goal
 
 abbrev pub invariant-loop-call : goal.invariant-loop-call
 invariant-loop-call g l =
-    Prints g.W.Write.contents l.fn.printer l.printer (flat_map (λ turn. line (reply_text turn.0.now turn.1.now)) l.yielded)
+    Prints g.W.Write.contents l.fn.printer l.printer
+    (flat_map (λ turn. line (reply_text turn.0.now turn.1.now)) l.yielded)

@@ -18,10 +18,17 @@ returns-in_err-print_line-clause-front g c =
     let bytes : option_map (λ s. total s Bytes) (slice_get machines index) ≡ Some c.unwrap-bytes.result = cc in
     let elements : option_map (λ s. total s Elements) (slice_get machines index) ≡ Some c.unwrap-elements.result = cc in
     let one = one_tenant machines index c.unwrap-bytes.result c.unwrap-elements.result bytes elements in
-    let this = line (codes "held " ++ (decimal index ++ (codes " " ++ (decimal c.unwrap-bytes.result ++ (codes " " ++ decimal c.unwrap-elements.result))))) in
-    let whole : tenants_text machines ≡ tenants_text (take index machines) ++ (this ++ later_tenants machines (index + 1)) =
-    tenants_split machines (index + 1) ∙ ap (λ t. t ++ later_tenants machines (index + 1)) one ∙ append_assoc (tenants_text (take index machines)) this (later_tenants machines (index + 1)) in
-    always_err c.from_residual.result (prints_front g.W.Write.contents _ _ _ _ this _ _ whole c.loop-index.invariant c.in_err-print_line.ensures.front)
+    let this = line
+    (codes "held " ++
+    (decimal index ++
+    (codes " " ++ (decimal c.unwrap-bytes.result ++ (codes " " ++ decimal c.unwrap-elements.result))))) in
+    let whole : tenants_text machines
+    ≡ tenants_text (take index machines) ++ (this ++ later_tenants machines (index + 1)) =
+    tenants_split machines (index + 1) ∙ ap (λ t. t ++ later_tenants machines (index + 1)) one
+    ∙ append_assoc (tenants_text (take index machines)) this (later_tenants machines (index + 1)) in
+    always_err c.from_residual.result
+    (prints_front g.W.Write.contents _ _ _ _ this _ _ whole c.loop-index.invariant
+    c.in_err-print_line.ensures.front)
 
 pub loop-index-preserved : goal.loop-index-preserved
 loop-index-preserved g c =

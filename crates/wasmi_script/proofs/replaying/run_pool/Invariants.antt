@@ -5,4 +5,6 @@ use Rattle.wasmi_script.specs.Replays.{AnswersParts, new_pool}
 use Rattle.wasmi_script.proofs.replaying.run_pool.Given as goal
 
 abbrev pub invariant-loop-part : goal.invariant-loop-part
-invariant-loop-part l = AnswersParts (new_pool l.fn.line (new_state (meter_of l.script.header))) (take l.part-index l.script.earlier.items) [] l.replies.items l.pool
+invariant-loop-part l =
+    AnswersParts (new_pool l.fn.line (new_state (meter_of l.script.header))) (take l.part-index l.script.earlier.items)
+    [] l.replies.items l.pool

@@ -6,4 +6,5 @@ use Rattle.wasmi_script.proofs.script.parse.Given as goal
 abbrev pub invariant-loop-index : goal.invariant-loop-index
 invariant-loop-index l =
     (vec_len l.script.calls ≤ length l.yielded)
-    × (empty : Script) × (empty.header ≡ record { meter = None; limiter = None; region = None }) × HasNoCommands empty × (empty.tenant ≡ 0) × TakesLines (map (λ item. item.1.now) l.yielded) empty l.script
+    × (empty : Script) × (empty.header ≡ record { meter = None; limiter = None; region = None }) × HasNoCommands empty
+    × (empty.tenant ≡ 0) × TakesLines (map (λ item. item.1.now) l.yielded) empty l.script

@@ -1,5 +1,5 @@
 use Rattle.wasmi_simd.proofs.LaneLemmas.{bit_of_first, bit_of_lane, bits_of_lanes_below}
-use Rattle.wasmi_simd.proofs.TruthLemmas.{bits_below}
+use Rattle.wasmi_simd.proofs.ReductionLemmas.{bits_below}
 use Rattle.wasmi_simd.proofs.laws.bits_of_lanes.Goals as goal
 
 pub returns-clause-bit : goal.returns-clause-bit

@@ -6,13 +6,18 @@ use Rattle.wasmi_simd.proofs.LaneLemmas.{signed_of_extended, lane_of_extended}
 use Rattle.wasmi_simd.proofs.laws.extended_lanes.Goals as goal
 
 pub returns-clause-low_s : goal.returns-clause-low_s
-returns-clause-low_s c = λ narrow wide v i wider inside. signed_of_extended narrow wide wider i inside 0 v ∙ ap (λ k. signed narrow (lane narrow v k)) (zero-add i)
+returns-clause-low_s c =
+    λ narrow wide v i wider inside. signed_of_extended narrow wide wider i inside 0 v
+    ∙ ap (λ k. signed narrow (lane narrow v k)) (zero-add i)
 
 pub returns-clause-low_u : goal.returns-clause-low_u
-returns-clause-low_u c = λ narrow wide v i wider inside. lane_of_extended narrow wide wider i inside 0 v ∙ ap (lane narrow v) (zero-add i)
+returns-clause-low_u c =
+    λ narrow wide v i wider inside. lane_of_extended narrow wide wider i inside 0 v ∙ ap (lane narrow v) (zero-add i)
 
 pub returns-clause-high_s : goal.returns-clause-high_s
-returns-clause-high_s c = λ narrow wide v i wider inside. signed_of_extended narrow wide wider i inside (lane_count wide) v
+returns-clause-high_s c =
+    λ narrow wide v i wider inside. signed_of_extended narrow wide wider i inside (lane_count wide) v
 
 pub returns-clause-high_u : goal.returns-clause-high_u
-returns-clause-high_u c = λ narrow wide v i wider inside. lane_of_extended narrow wide wider i inside (lane_count wide) v
+returns-clause-high_u c =
+    λ narrow wide v i wider inside. lane_of_extended narrow wide wider i inside (lane_count wide) v

@@ -11,8 +11,10 @@ pub returns-clause-bytes : goal.returns-clause-bytes
 returns-clause-bytes c = bytes-signed w128 c.args.self c.to_le_bytes.result c.ranges.self c.to_le_bytes.ensures
 
 pub returns-clause-number : goal.returns-clause-number
-returns-clause-number c = ap number_of (returns-clause-bytes c) ∙ number_of_bytes_16 (wrap w128 c.args.self) (wrap_below w128 c.args.self)
+returns-clause-number c =
+    ap number_of (returns-clause-bytes c) ∙ number_of_bytes_16 (wrap w128 c.args.self) (wrap_below w128 c.args.self)
 
 pub returns-clause-round_trip : goal.returns-clause-round_trip
 returns-clause-round_trip c =
-    ap (cast_signed w128) (returns-clause-number c ∙ wrap_signed w128 c.args.self c.ranges.self) ∙ to_z-of_z w128 c.args.self c.ranges.self
+    ap (cast_signed w128) (returns-clause-number c ∙ wrap_signed w128 c.args.self c.ranges.self)
+    ∙ to_z-of_z w128 c.args.self c.ranges.self

@@ -9,7 +9,9 @@ pub returns-clause-bytes : goal.returns-clause-bytes
 returns-clause-bytes c = bytes-unsigned w128 c.args.self c.to_le_bytes.result (search rules) c.to_le_bytes.ensures
 
 pub returns-clause-number : goal.returns-clause-number
-returns-clause-number c = ap number_of c.to_le_bytes.ensures ∙ number_of_bytes_16 c.args.self (search rules) ∙ sym (wrap_unsigned w128 c.args.self (search rules))
+returns-clause-number c =
+    ap number_of c.to_le_bytes.ensures ∙ number_of_bytes_16 c.args.self (search rules)
+    ∙ sym (wrap_unsigned w128 c.args.self (search rules))
 
 pub returns-clause-round_trip : goal.returns-clause-round_trip
 returns-clause-round_trip c = ap number_of c.to_le_bytes.ensures ∙ number_of_bytes_16 c.args.self (search rules)

@@ -7,15 +7,18 @@ use Rattle.wasmi_budget.proofs.pool.Pool.held.Goals as goal
 
 pub totals-requires-clause-bytes : goal.totals-requires-clause-bytes
 totals-requires-clause-bytes c =
-    let found : slice_get c.self.inside.machines.items c.args.index ≡ Some c.in_ok-machine.machine.now = search (rules, slice_get_read) in
+    let found : slice_get c.self.inside.machines.items c.args.index ≡ Some c.in_ok-machine.machine.now =
+    search (rules, slice_get_read) in
     total_fits _ c.self.invariant c.args.index c.in_ok-machine.machine.now found Bytes
 
 pub totals-requires-clause-elements : goal.totals-requires-clause-elements
 totals-requires-clause-elements c =
-    let found : slice_get c.self.inside.machines.items c.args.index ≡ Some c.in_ok-machine.machine.now = search (rules, slice_get_read) in
+    let found : slice_get c.self.inside.machines.items c.args.index ≡ Some c.in_ok-machine.machine.now =
+    search (rules, slice_get_read) in
     total_fits _ c.self.invariant c.args.index c.in_ok-machine.machine.now found Elements
 
 pub returns : goal.returns
 returns c =
-    let found : slice_get c.self.inside.machines.items c.args.index ≡ Some c.in_ok-machine.machine.now = search (rules, slice_get_read) in
+    let found : slice_get c.self.inside.machines.items c.args.index ≡ Some c.in_ok-machine.machine.now =
+    search (rules, slice_get_read) in
     rw (c.totals.ensures, ← c.self.view_is, found) refl

@@ -6,18 +6,24 @@ use Rattle.wasmi_budget.proofs.pool.Pool.run.Goals.{in-Ok, in-Err}
 
 pub index_mut-machine-requires : goal.index_mut-machine-requires
 index_mut-machine-requires c =
-    let inside = given_inside _ c.args.self.now c.self.view_is c.args.index c.in-Some.tenant (sym c.tenant.ensures ∙ c.in-Some.is) in
+    let inside = given_inside _ c.args.self.now c.self.view_is c.args.index c.in-Some.tenant
+    (sym c.tenant.ensures ∙ c.in-Some.is) in
     omega (arith, inside, c.self.inside.machines.ok)
 
 pub run_reserving-requires : goal.run_reserving-requires
 run_reserving-requires c =
-    given_holds _ c.args.self.now c.self.view_is c.args.index c.in-Some.tenant (sym c.tenant.ensures ∙ c.in-Some.is) c.index_mut-machine.result.now c.index_mut-machine.ensures.value
+    given_holds _ c.args.self.now c.self.view_is c.args.index c.in-Some.tenant
+    (sym c.tenant.ensures ∙ c.in-Some.is) c.index_mut-machine.result.now c.index_mut-machine.ensures.value
 
 pub invariant_of-self : goal.invariant_of-self
 invariant_of-self c =
     let given = sym c.tenant.ensures ∙ c.in-Some.is in
     record {
-      within = given_within _ c.args.self.now c.self.view_is c.args.index c.in-Some.tenant given c.index_mut-machine.result.now c.index_mut-machine.ensures.value c.run_reserving.new.machine c.run_reserving.new.limiter c.args.calls.now (λ replies. replies.items) c.run_reserving.result c.self.invariant.within c.run_reserving.ensures.run c.run_reserving.ensures.err c.run_reserving.ensures.held;
+      within = given_within _ c.args.self.now c.self.view_is c.args.index c.in-Some.tenant given
+          c.index_mut-machine.result.now c.index_mut-machine.ensures.value c.run_reserving.new.machine
+          c.run_reserving.new.limiter c.args.calls.now
+          (λ replies. replies.items) c.run_reserving.result c.self.invariant.within c.run_reserving.ensures.run
+          c.run_reserving.ensures.err c.run_reserving.ensures.held;
       fits = c.self.invariant.fits;
     }
 
@@ -25,13 +31,17 @@ pub returns-clause-ran : goal.returns-clause-ran
 returns-clause-ran c =
     let given = sym c.tenant.ensures ∙ c.in-Some.is in
     elim c.match-run_reserving.branch [
-      | in-Ok w ↦ rw (w.result-is, ← c.self.view_is) (given_runs _ c.args.self.now c.self.view_is c.args.index c.in-Some.tenant given c.index_mut-machine.result.now c.index_mut-machine.ensures.value c.run_reserving.new.machine c.run_reserving.new.limiter c.args.calls.now w.in-Ok.replies.items w.in-Ok.ensures.run)
+      | in-Ok w ↦ rw (w.result-is, ← c.self.view_is)
+          (given_runs _ c.args.self.now c.self.view_is c.args.index c.in-Some.tenant given
+          c.index_mut-machine.result.now c.index_mut-machine.ensures.value c.run_reserving.new.machine
+          c.run_reserving.new.limiter c.args.calls.now w.in-Ok.replies.items w.in-Ok.ensures.run)
       | in-Err w ↦ rw w.result-is tt
     ]
 
 pub returns-clause-no_tenant : goal.returns-clause-no_tenant
 returns-clause-no_tenant c =
-    let inside = given_inside _ c.args.self.now c.self.view_is c.args.index c.in-Some.tenant (sym c.tenant.ensures ∙ c.in-Some.is) in
+    let inside = given_inside _ c.args.self.now c.self.view_is c.args.index c.in-Some.tenant
+    (sym c.tenant.ensures ∙ c.in-Some.is) in
     let machines = ap (λ (pool : PoolValue). length pool.machines) c.self.view_is in
     elim c.match-run_reserving.branch [
       | in-Ok w ↦ rw w.result-is (λ error. absurd cc, λ past. absurd (omega (arith, past, inside, machines)))

@@ -5,12 +5,17 @@ use Rattle.wasmi_budget.proofs.PoolLemmas.{held_within, tenant_beside}
 use Rattle.wasmi_budget.proofs.pool.Pool.tenant.Goals as goal
 
 pub overflow_sub-others : goal.overflow_sub-others
-overflow_sub-others c = rw c.held_by_all-all.ensures (held_within c.args.self.now c.args.index c.in_ok-held.held (sym c.held.ensures ∙ c.in_ok-held.was) Bytes)
+overflow_sub-others c =
+    rw c.held_by_all-all.ensures
+    (held_within c.args.self.now c.args.index c.in_ok-held.held (sym c.held.ensures ∙ c.in_ok-held.was) Bytes)
 
 pub overflow_sub-others-2 : goal.overflow_sub-others-2
-overflow_sub-others-2 c = rw c.held_by_all-all.ensures (held_within c.args.self.now c.args.index c.in_ok-held.held (sym c.held.ensures ∙ c.in_ok-held.was) Elements)
+overflow_sub-others-2 c =
+    rw c.held_by_all-all.ensures
+    (held_within c.args.self.now c.args.index c.in_ok-held.held (sym c.held.ensures ∙ c.in_ok-held.was) Elements)
 
 pub returns : goal.returns
 returns c =
     let caps = ap (λ (pool : PoolValue). pool.caps) c.self.view_is in
-    rw (c.new.ensures, c.held_by_all-all.ensures, caps) (tenant_beside c.args.self.now c.args.index c.in_ok-held.held (sym c.held.ensures ∙ c.in_ok-held.was))
+    rw (c.new.ensures, c.held_by_all-all.ensures, caps)
+    (tenant_beside c.args.self.now c.args.index c.in_ok-held.held (sym c.held.ensures ∙ c.in_ok-held.was))

@@ -4,12 +4,18 @@ use Rattle.wasmi_budget.proofs.tenant.Tenant.take.Goals.{in-Bytes, in-Elements}
 
 pub returns-then-held-difference : goal.returns-then-held-difference
 returns-then-held-difference c = record {
-  within = λ within. absurd (omega (arith, within, c.of.ensures, c.of-2.ensures, c.of-3.ensures, c.if-held-difference.true));
+  within = λ within. absurd
+      (omega (arith, within, c.of.ensures, c.of-2.ensures, c.of-3.ensures, c.if-held-difference.true));
   above = λ above. (refl, refl);
 }
 
 pub returns : goal.returns
 returns c = record {
-  within = λ within. (refl, elim c.match-kind.branch [ in-Bytes w ↦ rw (w.self-is, w.in-Bytes.is) refl | in-Elements w ↦ rw (w.self-is, w.in-Elements.is) refl ]);
-  above = λ above. absurd (omega (arith, above, c.of.ensures, c.of-2.ensures, c.of-3.ensures, c.if-held-difference.false));
+  within = λ within. (
+    refl,
+    elim c.match-kind.branch
+        [ in-Bytes w ↦ rw (w.self-is, w.in-Bytes.is) refl | in-Elements w ↦ rw (w.self-is, w.in-Elements.is) refl ],
+  );
+  above = λ above. absurd
+      (omega (arith, above, c.of.ensures, c.of-2.ensures, c.of-3.ensures, c.if-held-difference.false));
 }

@@ -2,7 +2,7 @@ use Rattle.std.proofs.Common.{refl}
 use Rattle.std.specs.Option.{option_copied_mut}
 use Rattle.wasmi_meter.specs.LimiterRef.{lent_limiter}
 use Rattle.wasmi_core.specs.State.{live_at}
-use Rattle.wasmi_core.specs.MemoryRows.{bytes_appended}
+use Rattle.wasmi_core.specs.MemoryEffects.{bytes_appended}
 use Rattle.wasmi_core.proofs.store.Store.step_memory.Goals as goal
 
 pub returns-in-NewMemory-clause-step : goal.returns-in-NewMemory-clause-step

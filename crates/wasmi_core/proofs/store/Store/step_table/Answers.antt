@@ -1,8 +1,8 @@
 use Rattle.std.proofs.Common.{refl, subst}
 use Rattle.wasmi_meter.specs.LimiterRef.{lent_limiter}
-use Rattle.wasmi_core.specs.TableRows.{WritesTableAt, initialization_from, metered, element_bytes}
+use Rattle.wasmi_core.specs.TableEffects.{WritesTableAt, initialization_from, metered, element_bytes}
 use Rattle.wasmi_core.specs.State.{live_at}
-use Rattle.wasmi_core.proofs.TableRowsLemmas.{part_from}
+use Rattle.wasmi_core.proofs.TableEffectsLemmas.{part_from}
 use Rattle.wasmi_core.proofs.store.Store.step_table.Goals as goal
 
 pub returns-in-NewTable-clause-step : goal.returns-in-NewTable-clause-step
@@ -74,8 +74,8 @@ returns-in-SetElement-clause-step g c = (
 )
 
 -- no element segment of that index
-pub returns-in_default-find-clause-step : goal.returns-in_default-find-clause-step
-returns-in_default-find-clause-step g c = (
+pub returns-in_default-value_at-clause-step : goal.returns-in_default-value_at-clause-step
+returns-in_default-value_at-clause-step g c = (
   0,
   0,
   rw (c.in-InitTable.is, ← c.self.view_is)
@@ -83,7 +83,7 @@ returns-in_default-find-clause-step g c = (
         part = c.self.inside.tables.slots.items;
         meter = c.self.inside.fuel;
         row =
-            rw (← c.deref.ensures.value, ← c.in_default-find.ensures) (refl, refl, refl);
+            rw (← c.deref.ensures.value, ← c.in_default-value_at.ensures) (refl, refl, refl);
         wrote = refl;
         after = refl;
       }),

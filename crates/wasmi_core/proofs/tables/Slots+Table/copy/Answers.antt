@@ -2,7 +2,7 @@ use Rattle.std.proofs.Common.{◌≡◌, ◌++◌, length, ap, sym, subst, ◌�
 use Rattle.std.specs.Prelude.{take, drop}
 use Rattle.std.proofs.Math.Seq.{take-append_seam}
 use Rattle.wasmi_core.specs.State.{live_at}
-use Rattle.wasmi_core.specs.TableRows.{WritesTableFrom, copy_from, metered}
+use Rattle.wasmi_core.specs.TableEffects.{WritesTableFrom, copy_from, metered}
 use Rattle.wasmi_core.proofs.tables.Slots+Table.copy.Goals as goal
 
 pub returns : goal.returns

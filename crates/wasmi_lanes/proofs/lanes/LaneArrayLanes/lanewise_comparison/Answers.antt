@@ -13,7 +13,8 @@ loop-i-preserved g c =
     let self_inside : c.loop-i.i < length c.args.self.items = search rules in
     let other_inside : c.loop-i.i < length c.args.other.items = search rules in
     let x = get_or_default c.args.self.items c.loop-i.i c.index-self-i.result g.T.LaneInteger.ALL_ZEROS self_inside in
-    let y = get_or_default c.args.other.items c.loop-i.i c.index-other-i.result g.T.LaneInteger.ALL_ZEROS other_inside in
+    let y = get_or_default c.args.other.items c.loop-i.i c.index-other-i.result g.T.LaneInteger.ALL_ZEROS other_inside
+    in
     (c.f.result, rw (x, y) at c.f.ensures, rw get_or-set_same c.ones_if.ensures))
 
 pub returns : goal.returns

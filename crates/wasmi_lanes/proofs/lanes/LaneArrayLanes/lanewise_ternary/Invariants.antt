@@ -4,4 +4,6 @@ use Rattle.wasmi_lanes.proofs.lanes.LaneArrayLanes.lanewise_ternary.Given as goa
 abbrev pub invariant-loop-i : goal.invariant-loop-i
 invariant-loop-i g l =
     let default = g.T.LaneInteger.ALL_ZEROS in
-    (k : ℕ) → k < l.i → goal.F-post g l.f (slice_index_or l.fn.self.items k default) (slice_index_or l.fn.b.items k default) (slice_index_or l.fn.c.items k default) (slice_index_or l.items k default)
+    (k : ℕ) → k < l.i
+    → goal.F-post g l.f (slice_index_or l.fn.self.items k default) (slice_index_or l.fn.b.items k default)
+    (slice_index_or l.fn.c.items k default) (slice_index_or l.items k default)

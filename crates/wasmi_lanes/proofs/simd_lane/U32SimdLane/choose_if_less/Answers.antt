@@ -3,4 +3,7 @@ use Rattle.wasmi_lanes.proofs.ChoiceLemmas.{chosen_where_less}
 use Rattle.wasmi_lanes.proofs.simd_lane.U32SimdLane.choose_if_less.Goals as goal
 
 pub returns : goal.returns
-returns c = record { lanes = chosen_where_less w32 4 c.args.a c.args.b c.args.chosen c.args.other c.fits-a.0 c.fits-b.0 c.fits-chosen.0 c.fits-other.0 }
+returns c = record {
+  lanes = chosen_where_less w32 4 c.args.a c.args.b c.args.chosen c.args.other c.fits-a.0 c.fits-b.0 c.fits-chosen.0
+      c.fits-other.0;
+}

@@ -2,7 +2,7 @@ use Rattle.std.proofs.Common.{◌∙◌, ap₂, nat_lt, if◌then◌else◌}
 use Rattle.std.specs.Int.{int_max}
 use Rattle.wasmi_types.specs.Wrapping.{signed, wrap}
 use Rattle.wasmi_lanes.specs.Vector.{binary_of_lanes}
-use Rattle.wasmi_lanewise.proofs.OrderLemmas.{raised, ordered_make_vector, signed_larger_is}
+use Rattle.wasmi_lanewise.proofs.OrderLemmas.{biased, ordered_make_vector, signed_larger_is}
 use Rattle.wasmi_lanewise.proofs.simd.order.larger_s.Goals as goal
 
 pub returns : goal.returns
@@ -11,6 +11,10 @@ returns g c =
     let w = g.T.LaneInteger.width in
     let is = c.vector_of.ensures in
     let at = g.T.SimdLane.at in
-    ordered_make_vector w g.T.SimdLane.COUNT g.met.T.SimdLane.filled c.args.lhs c.args.rhs _ is.in_range (λ x. x) (λ x y. if nat_lt (raised w y) (raised w x) then x else y) (λ x y. wrap w (int_max (signed w x) (signed w y))) _ _
-    (λ i inside. is.lanes i inside ∙ c.choose_if_less.ensures.lanes i inside ∙ ap₂ (λ x y. if nat_lt x y then at c.lanes_of-a.result i else at c.lanes_of-b.result i) (c.raised.ensures.lanes i inside) (c.raised-2.ensures.lanes i inside))
+    ordered_make_vector w g.T.SimdLane.COUNT g.met.T.SimdLane.filled c.args.lhs c.args.rhs _ is.in_range (λ x. x)
+    (λ x y. if nat_lt (biased w y) (biased w x) then x else y)
+    (λ x y. wrap w (int_max (signed w x) (signed w y))) _ _
+    (λ i inside. is.lanes i inside ∙ c.choose_if_less.ensures.lanes i inside
+    ∙ ap₂ (λ x y. if nat_lt x y then at c.lanes_of-a.result i else at c.lanes_of-b.result i)
+    (c.biased.ensures.lanes i inside) (c.biased-2.ensures.lanes i inside))
     c.lanes_of-a.ensures.lanes c.lanes_of-b.ensures.lanes (signed_larger_is w)

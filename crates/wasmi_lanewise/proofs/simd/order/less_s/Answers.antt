@@ -2,7 +2,7 @@ use Rattle.std.proofs.Common.{◌-◌, ◌^◌, nat_lt, if◌then◌else◌}
 use Rattle.std.specs.Int.RustNames.{int_lt}
 use Rattle.wasmi_types.specs.Wrapping.{bits, signed}
 use Rattle.wasmi_lanes.specs.Vector.{comparison_of_lanes}
-use Rattle.wasmi_lanewise.proofs.OrderLemmas.{raised, raised_lanes, ordered_make_vector, ones_where_less}
+use Rattle.wasmi_lanewise.proofs.OrderLemmas.{biased, raised_lanes, ordered_make_vector, ones_where_less}
 use Rattle.wasmi_lanewise.proofs.simd.order.less_s.Goals as goal
 
 pub returns : goal.returns
@@ -10,5 +10,9 @@ unfolding comparison_of_lanes
 returns g c =
     let w = g.T.LaneInteger.width in
     let is = c.ones_if_less.ensures in
-    ordered_make_vector w g.T.SimdLane.COUNT g.met.T.SimdLane.filled c.args.lhs c.args.rhs _ is.in_range (raised w) (λ x y. if nat_lt x y then 2 ^ bits w - 1 else 0) (λ p q. if int_lt (signed w p) (signed w q) then 2 ^ bits w - 1 else 0) _ _
-    is.lanes (raised_lanes w _ c.args.lhs _ _ c.raised.ensures.lanes c.lanes_of.ensures.lanes) (raised_lanes w _ c.args.rhs _ _ c.raised-2.ensures.lanes c.lanes_of-2.ensures.lanes) (ones_where_less w (2 ^ bits w - 1))
+    ordered_make_vector w g.T.SimdLane.COUNT g.met.T.SimdLane.filled c.args.lhs c.args.rhs _ is.in_range (biased w)
+    (λ x y. if nat_lt x y then 2 ^ bits w - 1 else 0)
+    (λ p q. if int_lt (signed w p) (signed w q) then 2 ^ bits w - 1 else 0) _ _
+    is.lanes (raised_lanes w _ c.args.lhs _ _ c.biased.ensures.lanes c.lanes_of.ensures.lanes)
+    (raised_lanes w _ c.args.rhs _ _ c.biased-2.ensures.lanes c.lanes_of-2.ensures.lanes)
+    (ones_where_less w (2 ^ bits w - 1))

@@ -10,6 +10,7 @@ returns g c =
       lanes = λ i inside.
           is.lanes i inside ∙ c.choose_if_less.ensures.lanes i inside
           ∙ ap₂ (λ ones zeros. if nat_lt (at c.args.a i) (at c.args.b i) then zeros else ones)
-          (c.splat-ones.ensures.lanes i inside ∙ ap item.image c.ALL_ONES.ensures ∙ item.image_of_ones) (c.splat-zeros.ensures.lanes i inside ∙ ap item.image c.ALL_ZEROS.ensures ∙ item.image_of_zeros);
+          (c.splat-ones.ensures.lanes i inside ∙ ap item.image c.ALL_ONES.ensures ∙ item.image_of_ones)
+          (c.splat-zeros.ensures.lanes i inside ∙ ap item.image c.ALL_ZEROS.ensures ∙ item.image_of_zeros);
       in_range = is.in_range;
     }

@@ -1,8 +1,8 @@
 use Rattle.std.proofs.Common.{◌-◌, ◌%◌, ◌<◌, ◌≡◌, ◌∙◌, refl, ap, slice_index, nat_lt, if◌then◌else◌, arith}
 use Rattle.wasmi_lanes.specs.Lane.{lane}
-use Rattle.wasmi_lanes.proofs.Vectors.{lanes_make_vector}
+use Rattle.wasmi_lanes.proofs.LaneVectorLemmas.{lanes_make_vector}
 use Rattle.wasmi_types.specs.Wrapping.{w8}
-use Rattle.wasmi_lanewise.proofs.Chosen.{first_or_other}
+use Rattle.wasmi_lanewise.proofs.ChosenLemmas.{first_or_other}
 use Rattle.wasmi_lanewise.proofs.simd.shuffle.i8x16_shuffle.Goals as goal
 
 pub returns : goal.returns
@@ -17,5 +17,7 @@ returns c =
     (c.picked-low.ensures.lanes i inside ∙ c.bytes_of.ensures.lanes (index i % 16) (omega arith))
     (λ above.
     let same : index i % 16 ≡ index i - 16 = omega arith in
-    c.picked-high.ensures.lanes i inside ∙ c.bytes_of-2.ensures.lanes (index i % 16) (omega arith) ∙ ap (lane w8 c.args.b) same)
-    ∙ ap (λ k. if nat_lt k 16 then lane w8 c.args.a k else lane w8 c.args.b (k - 16)) (c.bytes_of_indices-indices.ensures.lanes i inside))
+    c.picked-high.ensures.lanes i inside ∙ c.bytes_of-2.ensures.lanes (index i % 16) (omega arith)
+    ∙ ap (lane w8 c.args.b) same)
+    ∙ ap (λ k. if nat_lt k 16 then lane w8 c.args.a k else lane w8 c.args.b (k - 16))
+    (c.bytes_of_indices-indices.ensures.lanes i inside))

@@ -1,9 +1,9 @@
 use Rattle.std.proofs.Common.{◌∙◌, refl, ap, slice_index, nat_lt, if◌then◌else◌}
 use Rattle.wasmi_lanes.specs.Lane.{lane}
 use Rattle.wasmi_lanes.specs.Vector.{unary_of_lanes}
-use Rattle.wasmi_lanes.proofs.Vectors.{lanes_make_vector}
+use Rattle.wasmi_lanes.proofs.LaneVectorLemmas.{lanes_make_vector}
 use Rattle.wasmi_types.specs.Wrapping.{w8}
-use Rattle.wasmi_lanewise.proofs.Chosen.{below_or_zero}
+use Rattle.wasmi_lanewise.proofs.ChosenLemmas.{below_or_zero}
 use Rattle.wasmi_lanewise.proofs.simd.shuffle.i8x16_swizzle.Goals as goal
 
 pub returns : goal.returns
@@ -13,5 +13,6 @@ returns c =
     (λ i inside.
     c.from_bytes.ensures.lanes i inside
     ∙ c.picked_or_zero.ensures.lanes i inside
-    ∙ below_or_zero (slice_index c.bytes_of-2.result i) (slice_index c.bytes_of.result) (lane w8 c.args.a) c.bytes_of.ensures.lanes
+    ∙ below_or_zero (slice_index c.bytes_of-2.result i) (slice_index c.bytes_of.result)
+    (lane w8 c.args.a) c.bytes_of.ensures.lanes
     ∙ ap (λ k. if nat_lt k 16 then lane w8 c.args.a k else 0) (c.bytes_of-2.ensures.lanes i inside))

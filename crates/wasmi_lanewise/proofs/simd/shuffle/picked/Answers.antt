@@ -1,4 +1,4 @@
-use Rattle.wasmi_lanewise.proofs.Chosen.{nibbles_may_index, picked_at}
+use Rattle.wasmi_lanewise.proofs.ChosenLemmas.{nibbles_may_index, picked_at}
 use Rattle.wasmi_lanewise.proofs.simd.shuffle.picked.Goals as goal
 
 pub swizzle : goal.swizzle

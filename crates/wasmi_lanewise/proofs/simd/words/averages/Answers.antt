@@ -1,7 +1,7 @@
 use Rattle.std.proofs.Common.{◌+◌, ◌/◌, ◌∙◌}
 use Rattle.wasmi_lanes.specs.Words.{IsLane}
 use Rattle.wasmi_lanes.specs.Vector.{binary_of_lanes}
-use Rattle.wasmi_lanes.proofs.WordVectorLemmas.{words_of, equal_lanes, binary_by_words}
+use Rattle.wasmi_lanes.proofs.WordVectorLemmas.{u64x2_of, equal_lanes, binary_by_words}
 use Rattle.wasmi_lanewise.proofs.simd.words.averages.Goals as goal
 
 pub returns : goal.returns
@@ -9,5 +9,9 @@ unfolding binary_of_lanes
 returns g c =
     let law = g.met.T.WordLane in
     let w = g.T.LaneInteger.width in
-    binary_by_words w (IsLane c.TOPS-tops.result) law.whole (equal_lanes w _ law.whole (c.TOPS-tops.ensures ∙ law.highest)) (λ w x y. (x + y + 1) / 2) (words_of c.words-a_low.ensures.low c.words-a_low.ensures.high) (words_of c.words-b_low.ensures.low c.words-b_low.ensures.high)
-    c.word_averages.type_inv c.word_averages-2.type_inv c.word_averages.ensures c.word_averages-2.ensures c.from_words.ensures
+    binary_by_words w (IsLane c.TOPS-tops.result) law.whole
+    (equal_lanes w _ law.whole (c.TOPS-tops.ensures ∙ law.highest)) (λ w x y. (x + y + 1) / 2)
+    (u64x2_of c.words-a_low.ensures.low c.words-a_low.ensures.high)
+    (u64x2_of c.words-b_low.ensures.low c.words-b_low.ensures.high)
+    c.word_averages.type_inv c.word_averages-2.type_inv c.word_averages.ensures c.word_averages-2.ensures
+    c.from_u64x2.ensures

@@ -1,7 +1,7 @@
 use Rattle.std.proofs.Common.{◌-◌, ◌^◌, ◌∙◌, nat_eq, if◌then◌else◌}
 use Rattle.wasmi_types.specs.Wrapping.{bits}
 use Rattle.wasmi_lanes.specs.Vector.{comparison_of_lanes}
-use Rattle.wasmi_lanes.proofs.WordVectorLemmas.{words_of, words_make_binary, equal_lanes}
+use Rattle.wasmi_lanes.proofs.WordVectorLemmas.{u64x2_of, words_make_binary, equal_lanes}
 use Rattle.wasmi_lanewise.proofs.MarkLemmas.{equal_marks, equal_filled, differs_in_lanes}
 use Rattle.wasmi_lanewise.proofs.simd.words.equal.Goals as goal
 
@@ -21,6 +21,8 @@ returns g c =
     let w = g.T.LaneInteger.width in
     let lanes = equal_lanes w _ g.met.T.WordLane.whole (c.TOPS-tops.ensures ∙ g.met.T.WordLane.highest) in
     let f = c.filled.ensures.words in
-    words_make_binary w g.met.T.WordLane.whole (λ x y. if nat_eq x y then 2 ^ bits w - 1 else 0) _ _ _ _ _ _ f.0 f.1 _ (words_of c.words-a_low.ensures.low c.words-a_low.ensures.high) (words_of c.words-b_low.ensures.low c.words-b_low.ensures.high) f.3 f.4
+    words_make_binary w g.met.T.WordLane.whole (λ x y. if nat_eq x y then 2 ^ bits w - 1 else 0) _ _ _ _ _ _ f.0 f.1 _
+    (u64x2_of c.words-a_low.ensures.low c.words-a_low.ensures.high)
+    (u64x2_of c.words-b_low.ensures.low c.words-b_low.ensures.high) f.3 f.4
     (equal_filled w _ _ _ _ _ lanes (differs_in_lanes w _ _ _ _ lanes c.word_differ.ensures.lanes) f.5)
     (equal_filled w _ _ _ _ _ lanes (differs_in_lanes w _ _ _ _ lanes c.word_differ-2.ensures.lanes) f.6) f.2

@@ -15,7 +15,7 @@ returns g c =
       words = (
         filled c.args.low c.from.result,
         filled c.args.high c.from.result,
-        c.from_words.ensures _ _ refl,
+        c.from_u64x2.ensures _ _ refl,
         filled_below c.args.low c.from.result,
         filled_below c.args.high c.from.result,
         marks_filled (bits w) (lanes_in_word w) c.args.low c.from.result top low law.whole c.requires.low,

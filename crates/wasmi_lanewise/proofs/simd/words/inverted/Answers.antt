@@ -5,4 +5,5 @@ use Rattle.wasmi_lanewise.proofs.simd.words.inverted.Goals as goal
 pub returns : goal.returns
 returns c =
     let v = c.args.v in
-    inverted_is v _ (omega arith) (c.from_words.ensures (2 ^ 64 - 1 - v % 2 ^ 64) (2 ^ 64 - 1 - v / 2 ^ 64) (rw c.words_of.ensures refl))
+    inverted_is v _ (omega arith)
+    (c.from_u64x2.ensures (2 ^ 64 - 1 - v % 2 ^ 64) (2 ^ 64 - 1 - v / 2 ^ 64) (rw c.u64x2_of.ensures refl))

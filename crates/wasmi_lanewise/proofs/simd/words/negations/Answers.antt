@@ -1,6 +1,6 @@
 use Rattle.std.proofs.Common.{◌-◌, ◌%◌, ◌^◌, ◌∙◌, arith}
 use Rattle.wasmi_lanes.specs.Vector.{unary_of_lanes}
-use Rattle.wasmi_lanes.proofs.WordVectorLemmas.{words_of, InnerLane, inner_lanes, of_either, unary_by_words}
+use Rattle.wasmi_lanes.proofs.WordVectorLemmas.{u64x2_of, InnerLane, inner_lanes, of_either, unary_by_words}
 use Rattle.wasmi_lanewise.proofs.WordLemmas.{negated_lane}
 use Rattle.wasmi_lanewise.proofs.simd.words.negations.Goals as goal
 
@@ -10,6 +10,11 @@ returns g c =
     let law = g.met.T.WordLane in
     let w = g.T.LaneInteger.width in
     let tops = c.INNER_TOPS-tops.result in
-    unary_by_words w (InnerLane tops) law.whole (inner_lanes w _ law.whole (c.INNER_TOPS-tops.ensures ∙ law.inner)) (λ w x. (2 ^ w - x) % 2 ^ w) (words_of c.words-low.ensures.low c.words-low.ensures.high) (omega arith) (omega arith)
-    (λ start width lane. negated_lane tops start width _ _ c.word_add.type_inv lane (of_either (c.word_add.ensures.lanes start width) (c.word_add.ensures.last start width) lane))
-    (λ start width lane. negated_lane tops start width _ _ c.word_add-2.type_inv lane (of_either (c.word_add-2.ensures.lanes start width) (c.word_add-2.ensures.last start width) lane)) c.from_words.ensures
+    unary_by_words w (InnerLane tops) law.whole (inner_lanes w _ law.whole (c.INNER_TOPS-tops.ensures ∙ law.inner))
+    (λ w x. (2 ^ w - x) % 2 ^ w) (u64x2_of c.words-low.ensures.low c.words-low.ensures.high) (omega arith)
+    (omega arith)
+    (λ start width lane. negated_lane tops start width _ _ c.word_add.type_inv lane
+    (of_either (c.word_add.ensures.lanes start width) (c.word_add.ensures.last start width) lane))
+    (λ start width lane. negated_lane tops start width _ _ c.word_add-2.type_inv lane
+    (of_either (c.word_add-2.ensures.lanes start width) (c.word_add-2.ensures.last start width) lane))
+    c.from_u64x2.ensures

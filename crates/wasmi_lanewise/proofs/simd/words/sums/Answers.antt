@@ -1,6 +1,6 @@
 use Rattle.std.proofs.Common.{◌+◌, ◌%◌, ◌^◌, ◌∙◌}
 use Rattle.wasmi_lanes.specs.Vector.{binary_of_lanes}
-use Rattle.wasmi_lanes.proofs.WordVectorLemmas.{words_of, InnerLane, inner_lanes, of_either, binary_by_words}
+use Rattle.wasmi_lanes.proofs.WordVectorLemmas.{u64x2_of, InnerLane, inner_lanes, of_either, binary_by_words}
 use Rattle.wasmi_lanewise.proofs.simd.words.sums.Goals as goal
 
 pub returns : goal.returns
@@ -8,5 +8,11 @@ unfolding binary_of_lanes
 returns g c =
     let law = g.met.T.WordLane in
     let w = g.T.LaneInteger.width in
-    binary_by_words w (InnerLane c.INNER_TOPS-tops.result) law.whole (inner_lanes w _ law.whole (c.INNER_TOPS-tops.ensures ∙ law.inner)) (λ w x y. (x + y) % 2 ^ w) (words_of c.words-a_low.ensures.low c.words-a_low.ensures.high) (words_of c.words-b_low.ensures.low c.words-b_low.ensures.high)
-    c.word_add.type_inv c.word_add-2.type_inv (λ start width. of_either (c.word_add.ensures.lanes start width) (c.word_add.ensures.last start width)) (λ start width. of_either (c.word_add-2.ensures.lanes start width) (c.word_add-2.ensures.last start width)) c.from_words.ensures
+    binary_by_words w (InnerLane c.INNER_TOPS-tops.result) law.whole
+    (inner_lanes w _ law.whole (c.INNER_TOPS-tops.ensures ∙ law.inner)) (λ w x y. (x + y) % 2 ^ w)
+    (u64x2_of c.words-a_low.ensures.low c.words-a_low.ensures.high)
+    (u64x2_of c.words-b_low.ensures.low c.words-b_low.ensures.high)
+    c.word_add.type_inv c.word_add-2.type_inv
+    (λ start width. of_either (c.word_add.ensures.lanes start width) (c.word_add.ensures.last start width))
+    (λ start width. of_either (c.word_add-2.ensures.lanes start width) (c.word_add-2.ensures.last start width))
+    c.from_u64x2.ensures

@@ -5,5 +5,7 @@ use Rattle.wasmi_scalar.proofs.value.I64Integer.rotl.Goals as goal
 
 pub returns : goal.returns
 returns c =
-    rotated_to_left w64 c.args.lhs c.args.rhs c.rotate_left.result (c.cast_unsigned.result % 64) (lit< tt) (lit≤ tt) c.ranges.lhs (search rules)
-    (cut_amount_is w64 c.args.rhs c.cast_unsigned.result (lit< tt) c.ranges.rhs c.cast_unsigned.ensures) c.rotate_left.ensures
+    rotated_to_left w64 c.args.lhs c.args.rhs c.rotate_left.result (c.cast_unsigned.result % 64) (lit< tt)
+    (lit≤ tt) c.ranges.lhs (search rules)
+    (cut_amount_is w64 c.args.rhs c.cast_unsigned.result (lit< tt) c.ranges.rhs c.cast_unsigned.ensures)
+    c.rotate_left.ensures

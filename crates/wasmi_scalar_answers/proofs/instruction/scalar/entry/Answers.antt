@@ -10,10 +10,13 @@ use Rattle.wasmi_scalar_answers.proofs.instruction.scalar.entry.Goals as goal
 
 -- the first entry of a name, and what it names
 instruction_beside_found : (names : List (Bor (List ℕ) × Instruction)) (name : List ℕ)
-    → instruction_beside (map (λ it. (it.0.now, it.1)) names) name ≡ option_map (λ it. it.1) (find (λ it. bytes_eq it.0.now name) names)
+    → instruction_beside (map (λ it. (it.0.now, it.1)) names) name
+    ≡ option_map (λ it. it.1) (find (λ it. bytes_eq it.0.now name) names)
 instruction_beside_found [] name = refl
 instruction_beside_found (it ∷ rest) name =
-    elim (bytes_eq it.0.now name) as (λ b. option_map (λ (r : List ℕ × Instruction). r.1) (cond b (Some (it.0.now, it.1)) (find (λ r. bytes_eq r.0 name) (map (λ r. (r.0.now, r.1)) rest)))
+    elim (bytes_eq it.0.now name) as
+    (λ b. option_map (λ (r : List ℕ × Instruction). r.1)
+    (cond b (Some (it.0.now, it.1)) (find (λ r. bytes_eq r.0 name) (map (λ r. (r.0.now, r.1)) rest)))
     ≡ option_map (λ (r : Bor (List ℕ) × Instruction). r.1) (cond b (Some it) (find (λ r. bytes_eq r.0.now name) rest))) [
       | true ↦ refl
       | false ↦ instruction_beside_found rest name
@@ -22,13 +25,21 @@ instruction_beside_found (it ∷ rest) name =
 pub returns-in_err-instruction : goal.returns-in_err-instruction
 returns-in_err-instruction c =
     let name = c.args.name.now in
-    let found : option_map (λ it. it.now) c.find.result ≡ find (λ it. bytes_eq it.0.now name) c.args.names.now = find_from_yields_List (λ it. bytes_eq it.0.now name) _ _ c.find.result c.find.ensures.ran (YieldsList-from_slice _ c.iter.ensures.rest) (λ x b q k. search (rules, tests)) in
+    let found : option_map (λ it. it.now) c.find.result ≡ find (λ it. bytes_eq it.0.now name) c.args.names.now =
+    find_from_yields_List (λ it. bytes_eq it.0.now name) _ _ c.find.result c.find.ensures.ran
+    (YieldsList-from_slice _ c.iter.ensures.rest) (λ x b q k. search (rules, tests)) in
     let none : c.find.result ≡ None = c.branch-instruction.ensures ∙ ap continue_value c.in_err-instruction.is in
-    c.from_residual.ensures ∙ sym (instruction_beside_found c.args.names.now name ∙ ap (option_map (λ it. it.1)) (sym found ∙ ap (option_map (λ it. it.now)) none))
+    c.from_residual.ensures
+    ∙ sym (instruction_beside_found c.args.names.now name
+    ∙ ap (option_map (λ it. it.1)) (sym found ∙ ap (option_map (λ it. it.now)) none))
 
 pub returns : goal.returns
 returns c =
     let name = c.args.name.now in
-    let found : option_map (λ it. it.now) c.find.result ≡ find (λ it. bytes_eq it.0.now name) c.args.names.now = find_from_yields_List (λ it. bytes_eq it.0.now name) _ _ c.find.result c.find.ensures.ran (YieldsList-from_slice _ c.iter.ensures.rest) (λ x b q k. search (rules, tests)) in
-    let some : c.find.result ≡ Some c.in_ok-instruction.field-0 = c.branch-instruction.ensures ∙ ap continue_value c.in_ok-instruction.is in
-    sym (instruction_beside_found c.args.names.now name ∙ ap (option_map (λ it. it.1)) (sym found ∙ ap (option_map (λ it. it.now)) some))
+    let found : option_map (λ it. it.now) c.find.result ≡ find (λ it. bytes_eq it.0.now name) c.args.names.now =
+    find_from_yields_List (λ it. bytes_eq it.0.now name) _ _ c.find.result c.find.ensures.ran
+    (YieldsList-from_slice _ c.iter.ensures.rest) (λ x b q k. search (rules, tests)) in
+    let some : c.find.result ≡ Some c.in_ok-instruction.field-0 =
+    c.branch-instruction.ensures ∙ ap continue_value c.in_ok-instruction.is in
+    sym (instruction_beside_found c.args.names.now name
+    ∙ ap (option_map (λ it. it.1)) (sym found ∙ ap (option_map (λ it. it.now)) some))

@@ -6,4 +6,5 @@ use Rattle.wasmi_script.proofs.print.ByteNumbersDisplay.fmt.Given as goal
 -- the bytes so far are written
 abbrev pub invariant-loop-byte : goal.invariant-loop-byte
 invariant-loop-byte g l =
-    IsPlainFormatter l.fn.f → HasWritten g.W.Write.write_str_gives l.fn.f (bytes_text (take l.byte-index l.self.0.now)) l.f
+    IsPlainFormatter l.fn.f
+    → HasWritten g.W.Write.write_str_gives l.fn.f (bytes_text (take l.byte-index l.self.0.now)) l.f

@@ -11,13 +11,15 @@ use Rattle.wasmi_script.proofs.AcceptanceLemmas.{refused_with_memory}
 use Rattle.wasmi_script.proofs.script.header.listed.Goals as goal
 
 -- a line of answers has the words of answers
-words_of : (words : Words) (line : LimiterLine) → NamesLimiterAfter (codes "answers") words line → (answers : Vec AnswerWord) × WritesAnswers words answers.items
-words_of words (Answers answers) names = (answers, names.1)
-words_of words (Quota line) names = absurd (search (rules, tests, names))
-words_of words (Tenants line) names = absurd (search (rules, tests, names))
+answers_of_line : (words : Words) (line : LimiterLine) → NamesLimiterAfter (codes "answers") words line
+    → (answers : Vec AnswerWord) × WritesAnswers words answers.items
+answers_of_line words (Answers answers) names = (answers, names.1)
+answers_of_line words (Quota line) names = absurd (search (rules, tests, names))
+answers_of_line words (Tenants line) names = absurd (search (rules, tests, names))
 
 pub returns-in_err-answers_of : goal.returns-in_err-answers_of
 returns-in_err-answers_of c =
     let same : c.from_residual.result ≡ Err c.in_err-answers_of.field-0.0 = search rules in
     subst (λ result. AcceptsWithMemory result (NamesLimiterAfter (codes "answers") c.args.operands.now)) (sym same)
-    (refused_with_memory c.in_err-answers_of.field-0.0 _ _ (words_of c.args.operands.now) c.in_err-answers_of.ensures)
+    (refused_with_memory c.in_err-answers_of.field-0.0 _ _
+    (answers_of_line c.args.operands.now) c.in_err-answers_of.ensures)

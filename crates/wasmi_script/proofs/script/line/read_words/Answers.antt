@@ -11,7 +11,8 @@ returns c =
     let all = YieldsList-end
     (YieldsList-at c.into_iter-word-iterator.ensures.into_iter_gives
     (YieldsList-from_filter _ (λ word. nat_lt 0 (length word))
-    (YieldsList-at c.filter-word-items.ensures.source (YieldsList-from_str_split 32 c.args.line.now (lit< tt) split.text split.has_more split.pattern))
+    (YieldsList-at c.filter-word-items.ensures.source
+    (YieldsList-from_str_split 32 c.args.line.now (lit< tt) split.text split.has_more split.pattern))
     c.filter-word-items.ensures.closure (λ x r q k. search (rules, tests))))
     c.loop-word.yielded _ c.loop-word.yielded_by _ _ c.in-None.is c.next.ensures.steps in
     ap (map (λ word. word.now)) c.loop-word.invariant ∙ all.0

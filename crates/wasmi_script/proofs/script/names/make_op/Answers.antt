@@ -6,4 +6,5 @@ use Rattle.wasmi_script.proofs.script.names.make_op.Goals as goal
 
 pub returns : goal.returns
 unfolding NamesMake
-returns c = accepts_named make_name (map (λ row. (row.0.now, row.1)) MAKES) refl make_found c.args.name.now c.op_named.result c.op_named.ensures
+returns c = accepts_named make_name
+    (map (λ row. (row.0.now, row.1)) MAKES) refl make_found c.args.name.now c.op_named.result c.op_named.ensures

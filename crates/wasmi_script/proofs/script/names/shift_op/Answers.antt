@@ -6,4 +6,5 @@ use Rattle.wasmi_script.proofs.script.names.shift_op.Goals as goal
 
 pub returns : goal.returns
 unfolding NamesShift
-returns c = accepts_named shift_name (map (λ row. (row.0.now, row.1)) SHIFTS) refl shift_found c.args.name.now c.op_named.result c.op_named.ensures
+returns c = accepts_named shift_name
+    (map (λ row. (row.0.now, row.1)) SHIFTS) refl shift_found c.args.name.now c.op_named.result c.op_named.ensures

@@ -6,4 +6,5 @@ use Rattle.wasmi_script.proofs.script.names.ternary_op.Goals as goal
 
 pub returns : goal.returns
 unfolding NamesTernary
-returns c = accepts_named ternary_name (map (λ row. (row.0.now, row.1)) TERNARIES) refl ternary_found c.args.name.now c.op_named.result c.op_named.ensures
+returns c = accepts_named ternary_name
+    (map (λ row. (row.0.now, row.1)) TERNARIES) refl ternary_found c.args.name.now c.op_named.result c.op_named.ensures

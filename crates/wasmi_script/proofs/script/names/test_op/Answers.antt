@@ -6,4 +6,5 @@ use Rattle.wasmi_script.proofs.script.names.test_op.Goals as goal
 
 pub returns : goal.returns
 unfolding NamesTest
-returns c = accepts_named test_name (map (λ row. (row.0.now, row.1)) TESTS) refl test_found c.args.name.now c.op_named.result c.op_named.ensures
+returns c = accepts_named test_name
+    (map (λ row. (row.0.now, row.1)) TESTS) refl test_found c.args.name.now c.op_named.result c.op_named.ensures

@@ -6,4 +6,5 @@ use Rattle.wasmi_script.proofs.script.names.unary_op.Goals as goal
 
 pub returns : goal.returns
 unfolding NamesUnary
-returns c = accepts_named unary_name (map (λ row. (row.0.now, row.1)) UNARIES) refl unary_found c.args.name.now c.op_named.result c.op_named.ensures
+returns c = accepts_named unary_name
+    (map (λ row. (row.0.now, row.1)) UNARIES) refl unary_found c.args.name.now c.op_named.result c.op_named.ensures

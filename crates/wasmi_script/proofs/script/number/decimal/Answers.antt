@@ -21,7 +21,8 @@ pub returns-in-Ok-clause-value : goal.returns-in-Ok-clause-value
 unfolding IsDecimal decimal_value
 returns-in-Ok-clause-value c =
     let digits = by_index.to _ (c.is_decimal.ensures.0 (search rules)) in
-    let (fits, same) = parse_digits by_digits {E = Unit {0}} 64 c.args.word.now (Ok c.in-Ok.number) c.in-Ok.ensures.value.0 digits in
+    let (fits, same) =
+    parse_digits by_digits {E = Unit {0}} 64 c.args.word.now (Ok c.in-Ok.number) c.in-Ok.ensures.value.0 digits in
     (((fits.0, digits), fits.1), same)
 
 pub returns-in-Err-clause-value : goal.returns-in-Err-clause-value

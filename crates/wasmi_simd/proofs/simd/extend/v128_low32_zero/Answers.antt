@@ -8,4 +8,5 @@ pub returns : goal.returns
 returns c =
     let n = c.args.number in
     let small : n < 2 ^ 128 = omega arith in
-    c.v128_low64_zero.ensures ∙ ap (low_zero w64) (omega arith) ∙ sym (low_zero_is w64 2 n refl (omega arith) small) ∙ low_zero_is w32 4 n refl (omega arith) small
+    c.v128_low64_zero.ensures ∙ ap (low_zero w64) (omega arith) ∙ sym (low_zero_is w64 2 n refl (omega arith) small)
+    ∙ low_zero_is w32 4 n refl (omega arith) small

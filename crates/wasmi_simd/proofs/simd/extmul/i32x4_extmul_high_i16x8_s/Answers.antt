@@ -1,9 +1,11 @@
 use Rattle.std.proofs.Common.{◌+◌, ◌∙◌, refl}
 use Rattle.wasmi_types.specs.Wrapping.{w16, w32}
-use Rattle.wasmi_simd.proofs.Halves.{products_make_vector}
+use Rattle.wasmi_simd.proofs.HalfLemmas.{products_make_vector}
 use Rattle.wasmi_simd.proofs.simd.extmul.i32x4_extmul_high_i16x8_s.Goals as goal
 
 pub returns : goal.returns
 returns c =
-    products_make_vector w16 w32 4 4 c.from_quarters.result (λ i. 4 + i) refl tt c.from_quarters.ensures.in_range (λ i. refl) c.args.lhs c.args.rhs _ _
-    (λ i inside. c.from_quarters.ensures.lanes i inside ∙ c.product_of_quarters.ensures.lanes i inside) c.high_eighths_signed.ensures.lanes c.high_eighths_signed-2.ensures.lanes
+    products_make_vector w16 w32 4 4 c.from_u32x4.result (λ i. 4 + i) refl tt c.from_u32x4.ensures.in_range
+    (λ i. refl) c.args.lhs c.args.rhs _ _
+    (λ i inside. c.from_u32x4.ensures.lanes i inside ∙ c.product_of_u32x4.ensures.lanes i inside)
+    c.high_i16x8.ensures.lanes c.high_i16x8-2.ensures.lanes

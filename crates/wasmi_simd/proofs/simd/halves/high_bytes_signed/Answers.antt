@@ -1,6 +1,9 @@
 use Rattle.wasmi_types.specs.Wrapping.{w8}
-use Rattle.wasmi_lanes.proofs.Vectors.{lane_below}
+use Rattle.wasmi_lanes.proofs.LaneVectorLemmas.{lane_below}
 use Rattle.wasmi_simd.proofs.simd.halves.high_bytes_signed.Goals as goal
 
 pub returns : goal.returns
-returns c = record { lanes = λ i inside. c.sign_copied.ensures.lanes i _ inside (c.high_bytes.ensures.lanes i inside) (lane_below w8 c.args.v _) }
+returns c = record {
+  lanes = λ i inside. c.sign_copied.ensures.lanes i _ inside (c.high_bytes.ensures.lanes i inside)
+      (lane_below w8 c.args.v _);
+}

@@ -1,4 +1,4 @@
-use Rattle.wasmi_simd.proofs.Halves.{sign_copied_at}
+use Rattle.wasmi_simd.proofs.HalfLemmas.{sign_copied_at}
 use Rattle.wasmi_simd.proofs.simd.halves.sign_copied.Goals as goal
 
 pub returns : goal.returns

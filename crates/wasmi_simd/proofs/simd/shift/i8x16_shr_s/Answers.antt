@@ -2,7 +2,7 @@ use Rattle.std.proofs.Common.{ℕ, ◌+◌, ◌-◌, ◌%◌, ◌/◌, ◌^◌, 
 use Rattle.wasmi_types.specs.Wrapping.{w8}
 use Rattle.wasmi_lanes.specs.Lane.{lane}
 use Rattle.wasmi_lanes.specs.Vector.{unary_of_lanes}
-use Rattle.wasmi_lanes.proofs.Vectors.{lane_below, lanes_make_vector}
+use Rattle.wasmi_lanes.proofs.LaneVectorLemmas.{lane_below, lanes_make_vector}
 use Rattle.wasmi_lanes.proofs.VectorLemmas.{lane_of_lanes}
 use Rattle.wasmi_simd.proofs.ShiftLemmas.{moved_and_back}
 use Rattle.wasmi_simd.proofs.simd.shift.i8x16_shr_s.Goals as goal
@@ -15,7 +15,10 @@ returns c =
     (λ i inside.
     c.from_bytes.ensures.lanes i inside ∙ c.difference_of_bytes.ensures.lanes i inside
     ∙ ap₂ (λ x y. (x + (2 ^ 8 - y)) % 2 ^ 8)
-    (c.bytes_of.ensures.lanes i inside ∙ ap (λ n. lane w8 n i) c.i8x16_shr_u-shifted.ensures ∙ lane_of_lanes w8 (λ k. lane w8 c.vector_of-raised.result k / 2 ^ s) 16 i refl inside
-    ∙ ap (λ n. n / 2 ^ s % 2 ^ 8) (c.vector_of-raised.ensures.lanes i inside ∙ c.raised.ensures.lanes i inside ∙ ap (λ n. (n + 2 ^ 7) % 2 ^ 8) (c.lanes_of.ensures.lanes i inside)))
+    (c.bytes_of.ensures.lanes i inside ∙ ap (λ n. lane w8 n i) c.i8x16_shr_u-shifted.ensures
+    ∙ lane_of_lanes w8 (λ k. lane w8 c.vector_of-biased.result k / 2 ^ s) 16 i refl inside
+    ∙ ap (λ n. n / 2 ^ s % 2 ^ 8)
+    (c.vector_of-biased.ensures.lanes i inside ∙ c.biased.ensures.lanes i inside
+    ∙ ap (λ n. (n + 2 ^ 7) % 2 ^ 8) (c.lanes_of.ensures.lanes i inside)))
     (c.bytes_of-2.ensures.lanes i inside ∙ c.half_shifted.ensures.lanes i inside ∙ ap (λ n. 2 ^ (7 - n)) c.from.ensures)
     ∙ moved_and_back (lane w8 c.args.v i) s (lane_below w8 c.args.v i) (omega arith))

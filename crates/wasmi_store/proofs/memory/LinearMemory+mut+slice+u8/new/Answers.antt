@@ -12,5 +12,7 @@ returns-in_err-size-clause-made g c =
 
 pub returns-in-Err-clause-made : goal.returns-in-Err-clause-made
 returns-in-Err-clause-made g c =
-    makes_refused (optional_rules g.L.ResourceLimiter.rules) Owned c.args.ty _ _ c.in_ok-size.size c.in_ok-size.ensures.permitted refl
+    makes_refused
+    (optional_rules g.L.ResourceLimiter.rules) Owned c.args.ty _ _ c.in_ok-size.size c.in_ok-size.ensures.permitted
+    refl
     _ c.in-Err.ensures.err _ _ c.tell.ensures.told.1 _ c.tell.ensures.told.2

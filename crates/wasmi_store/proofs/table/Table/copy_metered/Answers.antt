@@ -5,16 +5,21 @@ use Rattle.wasmi_store.proofs.table.Table.copy_metered.Goals as goal
 
 pub returns-then-not-lies_within : goal.returns-then-not-lies_within
 returns-then-not-lies_within c =
-    rw (← c.self.view_is, ← c.src_table.view_is) (writes_outside _ _ _ (rw c.element.ensures at c.in_ok-ensure_element_type_matches.ensures) (elim c.then-not-lies_within.branch [
-      | then-not-lies_within-via-then-not-lies_within w ↦ copied_past_source _ _ _ _ _ (sym (rw c.as_slice-items.ensures.value at w.if-not-lies_within.ensures))
+    rw (← c.self.view_is, ← c.src_table.view_is)
+    (writes_outside _ _ _ (rw c.element.ensures at c.in_ok-ensure_element_type_matches.ensures)
+    (elim c.then-not-lies_within.branch [
+      | then-not-lies_within-via-then-not-lies_within w ↦ copied_past_source _ _ _ _ _
+          (sym (rw c.as_slice-items.ensures.value at w.if-not-lies_within.ensures))
       | then-not-lies_within-via-else-not-lies_within+then-not-lies_within-2 w ↦
-          copied_past_end _ _ _ _ _ (sym (rw c.as_slice-items.ensures.value at w.if-not-lies_within.ensures)) (sym (rw w.as_slice.ensures.value at w.if-not-lies_within-2.ensures))
+          copied_past_end _ _ _ _ _ (sym (rw c.as_slice-items.ensures.value at w.if-not-lies_within.ensures))
+          (sym (rw w.as_slice.ensures.value at w.if-not-lies_within-2.ensures))
     ]))
 
 pub returns-in-Err : goal.returns-in-Err
 returns-in-Err c =
     rw (← c.self.view_is, ← c.src_table.view_is) (
     writes_unpaid _ _ _ (rw c.element.ensures at c.in_ok-ensure_element_type_matches.ensures)
-    _ (copied_part _ _ _ _ _ (sym (rw c.as_slice-items.ensures.value at c.if-not-lies_within.ensures)) (sym (rw c.as_slice.ensures.value at c.if-not-lies_within-2.ensures)))
+    _ (copied_part _ _ _ _ _ (sym (rw c.as_slice-items.ensures.value at c.if-not-lies_within.ensures))
+    (sym (rw c.as_slice.ensures.value at c.if-not-lies_within-2.ensures)))
     _ _ c.in-Err.ensures
     )

@@ -6,6 +6,7 @@ pub returns-in-Err : goal.returns-in-Err
 returns-in-Err c =
     rw (← c.self.view_is) (
     writes_unpaid _ _ _ refl
-    _ (copied_part _ _ _ _ _ (sym (rw c.as_slice-items.ensures.value at c.if-not-lies_within.ensures)) (sym (rw c.as_slice-items.ensures.value at c.if-not-lies_within-2.ensures)))
+    _ (copied_part _ _ _ _ _ (sym (rw c.as_slice-items.ensures.value at c.if-not-lies_within.ensures))
+    (sym (rw c.as_slice-items.ensures.value at c.if-not-lies_within-2.ensures)))
     _ _ c.in-Err.ensures
     )

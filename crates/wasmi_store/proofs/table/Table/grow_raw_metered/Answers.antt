@@ -8,7 +8,10 @@ use Rattle.wasmi_store.proofs.table.Table.grow_raw_metered.Goals as goal
 pub returns-in_default-clause-grown : goal.returns-in_default-clause-grown
 returns-in_default-clause-grown g c =
     let size = rw (← c.self.view_is) at c.size-size.ensures.value in
-    rw (← c.self.view_is) (grows_unasked (optional_rules g.L.ResourceLimiter.rules) _ c.args.fuel.now _ c.args.delta c.args.init c.if-delta-eq0.false (rw size at c.in_default.ensures))
+    rw (← c.self.view_is)
+    (grows_unasked
+    (optional_rules g.L.ResourceLimiter.rules) _ c.args.fuel.now _ c.args.delta c.args.init c.if-delta-eq0.false
+    (rw size at c.in_default.ensures))
 
 pub returns-in_err-permission-clause-grown : goal.returns-in_err-permission-clause-grown
 returns-in_err-permission-clause-grown g c =
@@ -16,7 +19,9 @@ returns-in_err-permission-clause-grown g c =
     let size = rw (← c.self.view_is) at c.size-size.ensures.value in
     let grown = rw size at c.in-Some.ensures in
     rw (p.1, p.2, ← c.self.view_is) (
-    grows_denied (optional_rules g.L.ResourceLimiter.rules) _ c.args.fuel.now _ c.args.delta c.args.init c.if-delta-eq0.false grown.0 c.size-size.result c.in-Some.desired c.maximum_size.result size grown.1 c.maximum_size.ensures
+    grows_denied (optional_rules g.L.ResourceLimiter.rules) _ c.args.fuel.now _ c.args.delta c.args.init
+    c.if-delta-eq0.false grown.0 c.size-size.result c.in-Some.desired c.maximum_size.result size grown.1
+    c.maximum_size.ensures
     _ _ c.table_growing-answer.ensures.asked _ c.in_err-permission.ensures
     )
 
@@ -25,7 +30,9 @@ returns-then-not-allows_size-clause-grown g c =
     let size = rw (← c.self.view_is) at c.size-size.ensures.value in
     let grown = rw size at c.in-Some.ensures in
     rw (← c.self.view_is) (
-    grows_above (optional_rules g.L.ResourceLimiter.rules) _ c.args.fuel.now _ c.args.delta c.args.init c.if-delta-eq0.false grown.0 c.size-size.result c.in-Some.desired c.maximum_size.result size grown.1 c.maximum_size.ensures
+    grows_above (optional_rules g.L.ResourceLimiter.rules) _ c.args.fuel.now _ c.args.delta c.args.init
+    c.if-delta-eq0.false grown.0 c.size-size.result c.in-Some.desired c.maximum_size.result size grown.1
+    c.maximum_size.ensures
     _ (rw c.in_ok-permission.ensures at c.table_growing-answer.ensures.asked) (sym c.if-not-allows_size.ensures)
     _ _ c.tell.ensures.told.1 _ c.tell.ensures.told.2
     )
@@ -35,7 +42,9 @@ returns-in-Err-clause-grown g c =
     let size = rw (← c.self.view_is) at c.size-size.ensures.value in
     let grown = rw size at c.in-Some.ensures in
     rw (← c.self.view_is) (
-    grows_unpaid (optional_rules g.L.ResourceLimiter.rules) _ c.args.fuel.now _ c.args.delta c.args.init c.if-delta-eq0.false grown.0 c.size-size.result c.in-Some.desired c.maximum_size.result size grown.1 c.maximum_size.ensures
+    grows_unpaid (optional_rules g.L.ResourceLimiter.rules) _ c.args.fuel.now _ c.args.delta c.args.init
+    c.if-delta-eq0.false grown.0 c.size-size.result c.in-Some.desired c.maximum_size.result size grown.1
+    c.maximum_size.ensures
     _ (rw c.in_ok-permission.ensures at c.table_growing-answer.ensures.asked) (sym c.if-not-allows_size.ensures)
     c.charge.new.fuel _ _ _ c.in-Err.ensures c.tell-in-Err.ensures.told.1 _ c.tell-in-Err.ensures.told.2
     )
@@ -45,10 +54,13 @@ returns-then-is_err-clause-grown g c =
     let size = rw (← c.self.view_is) at c.size-size.ensures.value in
     let grown = rw size at c.in-Some.ensures in
     rw (← c.self.view_is) (
-    grows_refused (optional_rules g.L.ResourceLimiter.rules) _ c.args.fuel.now _ c.args.delta c.args.init c.if-delta-eq0.false grown.0 c.size-size.result c.in-Some.desired c.maximum_size.result size grown.1 c.maximum_size.ensures
+    grows_refused
+    (optional_rules g.L.ResourceLimiter.rules) _ c.args.fuel.now _ c.args.delta c.args.init c.if-delta-eq0.false
+    grown.0 c.size-size.result c.in-Some.desired c.maximum_size.result size grown.1 c.maximum_size.ensures
     _ (rw c.in_ok-permission.ensures at c.table_growing-answer.ensures.asked) (sym c.if-not-allows_size.ensures)
     c.charge.new.fuel c.in_default-charge.ensures _ _ _
-    (ap (λ (es : List ℕ). let x : TableValue = record { ty = c.self.inside.ty; elements = es } in x) (rw c.if-is_err.ensures.negation at c.resize.ensures.items))
+    (ap (λ (es : List ℕ). let x : TableValue = record { ty = c.self.inside.ty; elements = es } in x)
+    (rw c.if-is_err.ensures.negation at c.resize.ensures.items))
     c.tell-then-is_err.ensures.told.1 _ c.tell-then-is_err.ensures.told.2
     )
 
@@ -57,9 +69,13 @@ returns-clause-grown g c =
     let size = rw (← c.self.view_is) at c.size-size.ensures.value in
     let grown = rw size at c.in-Some.ensures in
     rw (← c.self.view_is) (
-    grows_met (optional_rules g.L.ResourceLimiter.rules) _ c.args.fuel.now _ c.args.delta c.args.init c.if-delta-eq0.false grown.0 c.size-size.result c.in-Some.desired c.maximum_size.result size grown.1 c.maximum_size.ensures
+    grows_met (optional_rules g.L.ResourceLimiter.rules) _ c.args.fuel.now _ c.args.delta c.args.init
+    c.if-delta-eq0.false grown.0 c.size-size.result c.in-Some.desired c.maximum_size.result size grown.1
+    c.maximum_size.ensures
     _ (rw c.in_ok-permission.ensures at c.table_growing-answer.ensures.asked) (sym c.if-not-allows_size.ensures)
     c.charge.new.fuel c.in_default-charge.ensures _
-    (ap (λ (es : List ℕ). let x : TableValue = record { ty = c.self.inside.ty; elements = es } in x) ((rw c.if-is_err.ensures.negation at c.resize.ensures.items) ∙ resized _ _ c.args.delta _ c.args.init c.self.inside.elements.ok.0 grown.1))
+    (ap (λ (es : List ℕ). let x : TableValue = record { ty = c.self.inside.ty; elements = es } in x)
+    ((rw c.if-is_err.ensures.negation at c.resize.ensures.items)
+    ∙ resized _ _ c.args.delta _ c.args.init c.self.inside.elements.ok.0 grown.1))
     _ size
     )

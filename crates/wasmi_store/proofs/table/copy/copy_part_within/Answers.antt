@@ -8,7 +8,9 @@ loop-done-preserved c =
     let within : c.loop-done.done + c.min-count.result ≤ c.args.len = omega (arith, c.loop-done-test.true) in
     record {
       within = within;
-      copied = c.copy_few_within.ensures ∙ copied_down c.args.elements.now c.loop-done.elements c.args.dst c.args.src c.loop-done.done c.min-count.result c.if-dst-src.true (omega (arith, within, c.requires.src)) c.loop-done.invariant.copied;
+      copied = c.copy_few_within.ensures
+          ∙ copied_down c.args.elements.now c.loop-done.elements c.args.dst c.args.src c.loop-done.done
+          c.min-count.result c.if-dst-src.true (omega (arith, within, c.requires.src)) c.loop-done.invariant.copied;
     }
 
 pub loop-left-preserved : goal.loop-left-preserved
@@ -17,5 +19,9 @@ loop-left-preserved c =
     let some : c.min-count-in-loop-left.result ≤ c.loop-left.left = omega arith in
     record {
       within = omega (arith, c.loop-left.invariant.within);
-      copied = c.copy_few_within-in-loop-left.ensures ∙ copied_up c.args.elements.now c.loop-left.elements c.args.dst c.args.src c.args.len c.loop-left.left c.min-count-in-loop-left.result (omega (arith, c.if-dst-src.false)) some c.loop-left.invariant.within c.requires.dst c.loop-left.invariant.copied;
+      copied = c.copy_few_within-in-loop-left.ensures
+          ∙ copied_up c.args.elements.now c.loop-left.elements c.args.dst c.args.src c.args.len c.loop-left.left
+          c.min-count-in-loop-left.result
+          (omega (arith, c.if-dst-src.false)) some c.loop-left.invariant.within c.requires.dst
+          c.loop-left.invariant.copied;
     }

@@ -10,4 +10,5 @@ use Rattle.wasmi_types.proofs.func_type.FuncTypePartialEq.eq.Goals as goal
 pub returns-clause-same : goal.returns-clause-same
 returns-clause-same c =
     let e : c.eq.result ≡ same_lists (sameb the_type) c.args.self.now c.args.other.now = search rules in
-    subst (λ r. Decides r (c.args.self.now ≡ c.args.other.now)) (sym e) (same_lists_decides same_type_decides c.args.self.now c.args.other.now)
+    subst (λ r. Decides r (c.args.self.now ≡ c.args.other.now)) (sym e)
+    (same_lists_decides same_type_decides c.args.self.now c.args.other.now)

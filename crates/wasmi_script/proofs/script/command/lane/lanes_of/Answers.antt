@@ -12,7 +12,8 @@ use Rattle.wasmi_script.proofs.script.command.lane.lanes_of.Goals as goal
 
 -- sixteen words are accepted where each of them writes a lane
 accepted : (words : Words) (result : Result (List ℕ) LineError) → length words ≡ 16
-    → IfOk result (WritesNumbers 5 words) → IfErr result (λ error. (error ≡ BadCommand) × ¬ (AreNumbers 5 words)) → Accepts result (WritesLanes words)
+    → IfOk result (WritesNumbers 5 words) → IfErr result (λ error. (error ≡ BadCommand) × ¬ (AreNumbers 5 words))
+    → Accepts result (WritesLanes words)
 accepted words (Ok lanes) count taken refused = record { sixteen = count; written = taken }
 accepted words (Err BadCommand) count taken refused = λ lanes writes. refused.1 writes.written.0
 accepted words (Err OutOfMemory) count taken refused = absurd (variant refused.0) where
@@ -31,8 +32,10 @@ returns c =
     let same = c.in-Some.ensures.cases.same in
     let taken : IfOk result (WritesNumbers 5 words) =
     IfOk-weaker _ _ _
-    (λ lanes all. numbers_of 5 _ words lanes (λ word number says. let is : WritesNumber 5 word.now number = search rules in is) all.whole)
+    (λ lanes all. numbers_of 5 _ words lanes
+    (λ word number says. let is : WritesNumber 5 word.now number = search rules in is) all.whole)
     c.try_map.ensures.ok in
     let refused : IfErr result (λ error. (error ≡ BadCommand) × ¬ (AreNumbers 5 words)) =
-    IfErr-weaker _ _ _ (λ error bad. refused_at words bad.0 error bad.1 (search rules) (λ fits. search rules)) c.try_map.ensures.err in
+    IfErr-weaker _ _ _
+    (λ error bad. refused_at words bad.0 error bad.1 (search rules) (λ fits. search rules)) c.try_map.ensures.err in
     subst (λ ws. Accepts result (WritesLanes ws)) same (accepted words result (search rules) taken refused)

@@ -6,4 +6,5 @@ use Rattle.wasmi_script.proofs.script.command.segment.references_of.Goals as goa
 pub loop-word-preserved : goal.loop-word-preserved
 loop-word-preserved c =
     subst (WritesNumbers 32 _) (sym c.in_ok-push.ensures.items)
-    (one_number 32 c.args.words.now c.loop-word.word-index _ _ _ c.loop-word-test.true c.loop-word.invariant c.in_ok-raw_reference.ensures)
+    (one_number 32 c.args.words.now c.loop-word.word-index _ _ _ c.loop-word-test.true c.loop-word.invariant
+    c.in_ok-raw_reference.ensures)

@@ -17,6 +17,8 @@ returns c =
     let i = c.in_ok-index.index in
     let wm : WritesNumber 64 min m = search rules in
     accepts_same c.type_of.result (HasLimits i e m x) (NamesTableType element min max width)
-    (λ ty h. names_of element min max width i e m x ty c.in_ok-element.ensures wm c.in_ok-maximum.ensures c.in_ok-index.ensures h)
-    (λ ty h. limits_of element min max width i e m x ty c.in_ok-element.ensures wm c.in_ok-maximum.ensures c.in_ok-index.ensures h)
+    (λ ty h. names_of element min max width i e m x ty c.in_ok-element.ensures wm c.in_ok-maximum.ensures
+    c.in_ok-index.ensures h)
+    (λ ty h. limits_of element min max width i e m x ty c.in_ok-element.ensures wm c.in_ok-maximum.ensures
+    c.in_ok-index.ensures h)
     c.type_of.ensures

@@ -7,11 +7,13 @@ use Rattle.wasmi_script.proofs.script.header.answers.answers_of.Goals as goal
 pub loop-word-preserved : goal.loop-word-preserved
 loop-word-preserved c =
     subst (WritesAnswers _) (sym c.in_ok-push.ensures.items)
-    (one_answer c.args.words.now c.loop-word.word-index _ _ _ c.loop-word-test.true c.loop-word.invariant c.in_ok-answer_of.ensures)
+    (one_answer c.args.words.now c.loop-word.word-index _ _ _ c.loop-word-test.true c.loop-word.invariant
+    c.in_ok-answer_of.ensures)
 
 pub returns-in_err-answer_of : goal.returns-in_err-answer_of
 returns-in_err-answer_of c =
     let words = c.args.words.now in
     let same : c.from_residual.result ≡ Err c.in_err-answer_of.field-0.0 = search rules in
     subst (λ result. AcceptsWithMemory result (λ answers. WritesAnswers words answers.items)) (sym same)
-    (no_answers (λ answers. answers.items) words c.loop-word.word-index _ c.in_err-answer_of.field-0.0 c.loop-word-test.true c.in_err-answer_of.ensures)
+    (no_answers (λ answers. answers.items) words c.loop-word.word-index _ c.in_err-answer_of.field-0.0
+    c.loop-word-test.true c.in_err-answer_of.ensures)

@@ -1,6 +1,6 @@
 use Rattle.std.proofs.Common.{◌≡◌, ◌≤◌, ◌-◌, subst, sym, length, true}
 use Rattle.wasmi_store.specs.Storage.{view_of, EndsWithin}
-use Rattle.wasmi_store.specs.Buffer.{has_place_for}
+use Rattle.wasmi_store.specs.Buffer.{fits_room}
 use Rattle.wasmi_store.proofs.BufferLemmas.{owned_grows, lent_grows}
 use Rattle.wasmi_store.proofs.memory.buffer.Buffer.grow.Goals as goal
 use Rattle.wasmi_store.proofs.memory.buffer.Buffer.grow.Goals.{in-Owned+in-Ok, in-Lent}
@@ -11,7 +11,9 @@ returns-clause-ok g c =
     let len = c.self.inside.len in
     let n = c.args.new_size in
     let below : length (view_of bytes c.self.inside.storage len).bytes ≤ n = rw c.self.view_is c.requires in
-    let room : has_place_for (view_of bytes c.self.inside.storage len).room (n - length (view_of bytes c.self.inside.storage len).bytes) ≡ true = rw c.self.view_is (sym c.if-not-has_room.ensures) in
+    let room : fits_room (view_of bytes c.self.inside.storage len).room
+    (n - length (view_of bytes c.self.inside.storage len).bytes) ≡ true =
+    rw c.self.view_is (sym c.if-not-has_room.ensures) in
     elim c.match-self.branch [
       | in-Owned+in-Ok w ↦
           rw (w.self-inside-is, ← c.self.view_is, w.in-Owned.is) (
@@ -23,6 +25,8 @@ returns-clause-ok g c =
           lent_grows bytes len n w.in-Lent.region (g.R.Region.refilled w.in-Lent.region n w.zero_from.new.bytes)
           (subst (λ s. EndsWithin bytes s len) w.in-Lent.is c.self.invariant)
           (subst (λ s. length (view_of bytes s len).bytes ≤ n) w.in-Lent.is below)
-          (subst (λ s. has_place_for (view_of bytes s len).room (n - length (view_of bytes s len).bytes) ≡ true) w.in-Lent.is room)
-          w.zero_from.new.bytes (rw (← w.front_mut.ensures.value) w.zero_from.ensures) (g.met.R.Region.refills w.in-Lent.region n w.zero_from.new.bytes))
+          (subst (λ s. fits_room (view_of bytes s len).room (n - length (view_of bytes s len).bytes) ≡ true)
+          w.in-Lent.is room)
+          w.zero_from.new.bytes (rw (← w.front_mut.ensures.value) w.zero_from.ensures)
+          (g.met.R.Region.refills w.in-Lent.region n w.zero_from.new.bytes))
     ]

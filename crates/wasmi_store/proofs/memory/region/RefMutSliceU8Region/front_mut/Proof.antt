@@ -1,4 +1,5 @@
--- The front of a region that a reference leads to is lent. The borrow checker shows no write-back clause for a part of a slice, so this proof walks the code by hand.
+-- The front of a region that a reference leads to is lent. The borrow checker shows no write-back clause for a part of
+-- a slice, so this proof walks the code by hand.
 use mathlib.Core.Path.{◌≡◌, refl}
 use Prim.Native.Nat.{ℕ, ◌≤◌}
 use native.Mathlib.Omega.{arith}
@@ -30,13 +31,16 @@ use denote.Through.{renamed, lends_inner_slice}
 use denote.Triple.Walked.{says, Stays, stay_dropped, walk_of, ends_at, Goes-dropped, Goes-spent_ref}
 use borrow.Table.Elements.{length-take-le}
 use Rattle.std.proofs.raw_atomic.Walks.{proved}
-use Rattle.wasmi_store.proofs.Fronts.{front_lent, lends_front, refilled}
+use Rattle.wasmi_store.proofs.FrontLemmas.{front_lent, lends_front, refilled}
 use Rattle.wasmi_store.specs.contracts.memory.region.RefMutSliceU8Region.front_mut as f
 use Rattle.wasmi_store.proofs.memory.region.RefMutSliceU8Region.front_mut.Statement.{statement}
 use Rattle.wasmi_store.proofs.memory.region.RefMutSliceU8Region.front_mut.Code as code
 
 abbrev stayed : Stays f.ended.signature.params f.ended.kept
-stayed = (stay_dropped (mut_ref_to (0 ∷ []) tt (mut_slice_of (1 ∷ []) tt (plain (λ _. u8)))) no, (stay_dropped (plain (λ _. usize)) yes, tt))
+stayed = (
+  stay_dropped (mut_ref_to (0 ∷ []) tt (mut_slice_of (1 ∷ []) tt (plain (λ _. u8)))) no,
+  (stay_dropped (plain (λ _. usize)) yes, tt),
+)
 
 -- the region's type, where the code reads through the outer reference
 abbrev written : Ty
@@ -45,15 +49,21 @@ written = slice_ty (ty_ref erased mut (ty_int w8))
 pub front_mut_spec : {M : Type 1} → statement M
 front_mut_spec 𝓤 𝓛 𝓜 𝓡 wired =
     let c = f.clauses 𝓛 𝓜.mem 𝓡.returns in let W = walk_of 𝓛 f.ended stayed c in
-    proved 𝓛 f.ended stayed c 𝓜 𝓡 (Goes-spent_ref 𝓛 2 (0 ∷ []) tt (mut_slice_of (1 ∷ []) tt (plain (λ _. u8))), (Goes-dropped 𝓛 2 (plain (λ _. usize)) yes (λ κs x w. refl), tt))
+    proved 𝓛 f.ended stayed c 𝓜 𝓡 (
+      Goes-spent_ref 𝓛 2 (0 ∷ []) tt (mut_slice_of (1 ∷ []) tt (plain (λ _. u8))),
+      (Goes-dropped 𝓛 2 (plain (λ _. usize)) yes (λ κs x w. refl), tt),
+    )
     f.Key.name code.function (code.unfolded 𝓤 𝓛.H 𝓜 𝓡 wired)
-    (λ κs. (mut_vals, (uint_vals w64, tt))) (λ κs. (mut_Tells (named 0) κs.0 (MutSlice (named 1) κs.1.0 u8), (uint_Tells w64, tt))) (λ κs qs bounds a _ are.
+    (λ κs. (mut_vals, (uint_vals w64, tt)))
+    (λ κs. (mut_Tells (named 0) κs.0 (MutSlice (named 1) κs.1.0 u8), (uint_Tells w64, tt))) (λ κs qs bounds a _ are.
     let κ = κs.0 in let κ' = κs.1.0 in let q = qs.0 in let q' = qs.1.0 in let x = a.0 in let m : ℕ = a.1.0 in
     let Inner = MutSlice (named 1) κ' u8 in
-    let b = x.ref_ptr.0 in let o = x.ref_ptr.1 in let r = x.now in let pb = r.ref_ptr.0 in let po = r.ref_ptr.1 in let xs = r.now in
+    let b = x.ref_ptr.0 in let o = x.ref_ptr.1 in let r = x.now in let pb = r.ref_ptr.0 in let po =
+    r.ref_ptr.1 in let xs = r.now in
     let word = slice_val r.ref_ptr (length xs) in
     let y : W.Ghost = ((κs, qs, bounds, a, (mut_vals x, (vint w64 m ∷ [], tt))), tt) in
-    qed 𝓛 (((‵ (flft κ q) ⊛ ‵ (flft κ' q') ⊛ ‵ ftrue) ⊛ ‵ (owns (MutRef (named 0) κ Inner ∷ usize ∷ []) a y.0.4)) ∷ raw (fact 𝓤 (m ≤ length xs)) ∷ []) ∵
+    qed 𝓛 (((‵ (flft κ q) ⊛ ‵ (flft κ' q') ⊛ ‵ ftrue) ⊛ ‵ (owns (MutRef (named 0) κ Inner ∷ usize ∷ []) a y.0.4)) ∷ raw
+    (fact 𝓤 (m ≤ length xs)) ∷ []) ∵
     move ! (1 ∷ []) $ heard ! _ (λ le.
     let count : length (take m xs) ≡ m = length-take-le m xs le in
     split ! $ enter ! _ _ _ _ _ $
@@ -62,22 +72,37 @@ front_mut_spec 𝓤 𝓛 𝓜 𝓡 wired =
     opens ! tt Inner {h = r} b o (λ vs. move ! (1 ∷ []) $
     peeks ! Inner (Is Inner) (shows 𝓛 Inner) r vs (λ told.
     let es : vs ≡ mut_slice_vals r = told.0.0 in let rm = told.0.1 in
-    rewrite ! 0 (λ (us : List Val). ‵ (Inner.own_val r us)) es refl $ rewrite ! 1 (λ (us : List Val). ‵ (cell_at full_share Inner.mir us b o)) es refl $ move ! (1 ∷ []) $
+    rewrite ! 0 (λ (us : List Val). ‵ (Inner.own_val r us)) es refl $ rewrite ! 1
+    (λ (us : List Val). ‵ (cell_at full_share Inner.mir us b o)) es refl $ move ! (1 ∷ []) $
     use1 𝓛 (‵ (fat full_share written b o word)) (𝓛.laws.raw_at full_share written b o word) $
     -- [the region's cell; what it owns; the open borrow, in three entries; the region's token; true]
-    sets ! (of_opd ! (load ! (through ! refl (fld ! refl (stop !))) (look_in ! 0 (sub ! 1 refl (whole !))))) refl (tt, record { fits = rm.0 }) $
-    sets ! (addr ! (through ! refl (fld ! refl (hop ! (look_in ! 0 (sub ! 0 refl (whole !))) (stop !))))) refl (tt, tt) $
-    sets ! (agg ! (and_then ! (get ! refl) (and_then ! (get ! refl) (no_more !)))) refl (tt, (tt, (record { fits = rm.0 }, tt))) $
+    sets ! (of_opd ! (load ! (through ! refl (fld ! refl (stop !))) (look_in ! 0 (sub ! 1 refl (whole !))))) refl
+    (tt, record { fits = rm.0 }) $
+    sets ! (addr ! (through ! refl (fld ! refl (hop ! (look_in ! 0 (sub ! 0 refl (whole !))) (stop !))))) refl
+    (tt, tt) $
+    sets ! (agg ! (and_then ! (get ! refl) (and_then ! (get ! refl) (no_more !)))) refl
+    (tt, (tt, (record { fits = rm.0 }, tt))) $
     sets ! (addr ! (from ! (fld ! refl (hop ! (look_in_at ! 5 (sub ! 0 refl (whole !))) (stop !))))) refl (tt, tt) $
-    sets ! (agg ! (and_then ! (get ! refl) (and_then ! (get ! refl) (no_more !)))) refl (tt, (tt, (record { fits = are.1.0.1 }, tt))) $
+    sets ! (agg ! (and_then ! (get ! refl) (and_then ! (get ! refl) (no_more !)))) refl
+    (tt, (tt, (record { fits = are.1.0.1 }, tt))) $
     use1 𝓛 (‵ (fat full_share (bare written) b o word)) (𝓛.laws.at_raw full_share written b o word) $
     closes ! tt Inner r (mut_slice_vals r) b o $
-    use3 𝓛 (later (some (λ (δ : GName). ‵ ((MutSlice (named 0) κ u8).own_val (renamed r δ) (mut_slice_vals r)) ⊛ ‵ (flft κ q) ⊛ ‵ (follows Inner (Array u8 0) x.ghost_name δ (at_last r)))))
+    use3 𝓛 (later
+    (some (λ (δ : GName). ‵ ((MutSlice (named 0) κ u8).own_val (renamed r δ) (mut_slice_vals r)) ⊛ ‵ (flft κ q) ⊛ ‵
+    (follows Inner (Array u8 0) x.ghost_name δ (at_last r)))))
     (lends_inner_slice 𝓛 u8 (named 0) (named 1) κ κ' x bounds.0 rm q) $ await ! tt $ pick ! (λ δ. split3 ! $
-    use2 𝓛 (later (some (front_lent 𝓛 u8 (named 0) κ q pb po δ xs m m))) (lends_front 𝓛 u8 (named 0) κ q pb po δ xs m le (omega arith, omega arith) (mut_slice_vals r)) $ await ! tt $ pick ! (λ δ'. split3 ! $
+    use2 𝓛 (later (some (front_lent 𝓛 u8 (named 0) κ q pb po δ xs m m)))
+    (lends_front 𝓛 u8 (named 0) κ q pb po δ xs m le (omega arith, omega arith) (mut_slice_vals r)) $ await ! tt $
+    pick ! (λ δ'. split3 ! $
     move ! (3 ∷ 2 ∷ []) $
-    use2 𝓛 (‵ (follows Inner (Array u8 0) x.ghost_name δ' (λ ws. at_last r (refilled 𝓛 u8 (named 0) κ q pb po δ xs m ws)))) (follows_then 𝓛 Inner (Array u8 0) (Array u8 0) (at_last r) (refilled 𝓛 u8 (named 0) κ q pb po δ xs m) x.ghost_name δ δ') $
+    use2 𝓛 (‵ (follows Inner (Array u8 0) x.ghost_name δ'
+    (λ ws. at_last r (refilled 𝓛 u8 (named 0) κ q pb po δ xs m ws))))
+    (follows_then 𝓛 Inner (Array u8 0) (Array u8 0) (at_last r)
+    (refilled 𝓛 u8 (named 0) κ q pb po δ xs m) x.ghost_name δ δ') $
     -- [the region follows the front; the front; the tokens]
-    returns ! (look_at ! 0 refl) $ free_all ! refl $ keep ! (3 ∷ 4 ∷ 2 ∷ 0 ∷ 1 ∷ []) $ join ! $ move ! (1 ∷ 0 ∷ []) $ join ! $
-    suffices ! _ (ends_at 𝓛 f.ended stayed c y (slice_val (pb, po) m) (record { ref_ptr = (pb, po); ghost_name = δ'; now = take m xs }) (tt, (tt, tt)) (tt, (tt, tt))) $
-    nothing ! $ nothing ! $ fjoin ! $ nothing ! $ fjoin ! $ move ! (0 ∷ 3 ∷ []) $ join ! $ move ! (1 ∷ 0 ∷ []) $ join ! $ frame ! $ says ! refl $ done !)))))))
+    returns ! (look_at ! 0 refl) $ free_all ! refl $ keep ! (3 ∷ 4 ∷ 2 ∷ 0 ∷ 1 ∷ []) $ join ! $ move !
+    (1 ∷ 0 ∷ []) $ join ! $
+    suffices ! _ (ends_at 𝓛 f.ended stayed c y (slice_val (pb, po) m)
+    (record { ref_ptr = (pb, po); ghost_name = δ'; now = take m xs }) (tt, (tt, tt)) (tt, (tt, tt))) $
+    nothing ! $ nothing ! $ fjoin ! $ nothing ! $ fjoin ! $ move ! (0 ∷ 3 ∷ []) $ join ! $ move !
+    (1 ∷ 0 ∷ []) $ join ! $ frame ! $ says ! refl $ done !)))))))

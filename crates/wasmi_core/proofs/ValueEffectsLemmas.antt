@@ -1,0 +1,160 @@
+-- What holds of each row on element segments and globals.
+use Rattle.std.proofs.Common.{Err, List, Ok, Result, ap, arith, inl, inr, length, refl, subst, sym, ℕ, ◌∙◌, ◌≡◌, ◌≤◌}
+use Rattle.std.specs.Prelude.{All, slice_get, slice_set}
+use Rattle.wasmi_core.proofs.EffectLemmas.{appended_valid, appends_back, appends_same, changes_same, item_back}
+use Rattle.wasmi_core.specs.Determinism.{HasMemory}
+use Rattle.wasmi_core.specs.Laws.{IsRefusal}
+use Rattle.wasmi_core.specs.Effects.{AddsEntry, reply_of}
+use Rattle.wasmi_core.specs.Validity.{IsValidSegment}
+use Rattle.wasmi_core.specs.ValueEffects.{CreatesGlobal, CreatesSegment, DropsItemsAt, IsSegmentOf, SetsGlobalAt}
+use Rattle.wasmi_core.specs.declared.calls.Reply.{Reply}
+use Rattle.wasmi_store.specs.Segment.{SegmentValue, most_items}
+use Rattle.wasmi_store.specs.declared.table.element.SegmentError.{SegmentError}
+use Rattle.wasmi_store.specs.declared.table.element.SegmentError.TheVariants.{OutOfSystemMemory, TooManyItems}
+use Rattle.wasmi_typed.specs.Global.{GlobalInstance, SetsGlobal}
+use Rattle.wasmi_typed.specs.declared.global.GlobalError.{GlobalError}
+use Rattle.wasmi_typed.specs.declared.global.GlobalError.TheVariants.{ImmutableWrite, TypeMismatch}
+use Rattle.wasmi_typed.specs.declared.global.Mutability.{Mutability}
+use Rattle.wasmi_typed.specs.declared.global.Mutability.TheVariants.{Const, Var}
+use Rattle.wasmi_typed.specs.declared.typed.TypedRawVal.{TypedRawVal}
+use Rattle.wasmi_types.specs.declared.value.RefType.{RefType}
+use Rattle.wasmi_core.specs.declared.calls.Reply.TheVariants as replied
+
+-- a global that is refused stays
+global_back : (x x' : GlobalInstance) (value : TypedRawVal) (result : Result (Unit {0}) GlobalError)
+    → IsRefusal (reply_of (λ _. replied.Done) replied.Global result) → SetsGlobal x value result x' → x' ≡ x
+global_back x x' value (Ok _) refused sets = absurd refused
+global_back x x' value (Err ImmutableWrite) refused sets = sets.1
+global_back x x' value (Err TypeMismatch) refused sets = sets.2
+
+-- a refused creation of an element segment leaves the list
+pub segment_back : (ty : RefType) (items : List ℕ) (segments : List SegmentValue) (reply : Reply)
+    (segments' : List SegmentValue) → IsRefusal reply → CreatesSegment ty items segments reply segments'
+    → segments' ≡ segments
+segment_back ty items segments reply segments' refused (inl none) = none.1
+segment_back ty items segments reply segments' refused (inr (result, is, appends)) =
+    appends_back replied.Segment (λ x. x) result segments reply segments' refused appends
+
+-- so of a global
+pub global_made_back : (global : GlobalInstance) (globals : List GlobalInstance) (reply : Reply)
+    (globals' : List GlobalInstance) → IsRefusal reply → CreatesGlobal global globals reply globals'
+    → globals' ≡ globals
+global_made_back global globals reply globals' refused (inl none) = none.1
+global_made_back global globals reply globals' refused (inr made) = absurd (rw made.0 at refused)
+
+-- so does a refused drop of items
+pub items_refused : (k : ℕ) (segments : List SegmentValue) (reply : Reply) (segments' : List SegmentValue)
+    → IsRefusal reply → DropsItemsAt k segments reply segments' → segments' ≡ segments
+items_refused k segments reply segments' refused drops =
+    item_back k segments reply segments' _ (λ x x' c. absurd (rw c.0 at refused)) drops
+
+-- a global that is not set leaves the list
+pub global_refused : (k : ℕ) (value : TypedRawVal) (globals : List GlobalInstance) (reply : Reply)
+    (globals' : List GlobalInstance) → IsRefusal reply → SetsGlobalAt k value globals reply globals'
+    → globals' ≡ globals
+global_refused k value globals reply globals' refused sets =
+    item_back k globals reply globals' _ (λ x x' c. global_back x x' value c.0 (rw c.2 at refused) c.1) sets
+
+-- element segments, globals and registers
+-- memory wasn't refused
+abbrev IsHad : Result SegmentValue SegmentError → Type 0
+IsHad (Err OutOfSystemMemory) = ⊥
+IsHad result = Unit {0}
+
+-- as the reply tells
+had : (result : Result SegmentValue SegmentError) (segments : List SegmentValue) (reply : Reply)
+    (segments' : List SegmentValue) → HasMemory reply
+    → AddsEntry (λ x. x) replied.Segment result segments reply segments' → IsHad result
+had (Ok x) segments reply segments' has appends = tt
+had (Err TooManyItems) segments reply segments' has appends = tt
+had (Err OutOfSystemMemory) segments reply segments' has appends = absurd (rw appends.0 at has)
+
+-- then there is one result
+segment_made : (ty : RefType) (items : List ℕ) (result result' : Result SegmentValue SegmentError) → IsHad result
+    → IsHad result' → IsSegmentOf ty items result → IsSegmentOf ty items result' → result ≡ result'
+segment_made ty items (Ok x) (Ok y) h h' is is' = ap Ok (is.1 ∙ sym is'.1)
+segment_made ty items (Ok x) (Err TooManyItems) h h' is is' = absurd (omega (arith, is.0, is'))
+segment_made ty items (Ok x) (Err OutOfSystemMemory) h h' is is' = absurd h'
+segment_made ty items (Err TooManyItems) (Ok y) h h' is is' = absurd (omega (arith, is'.0, is))
+segment_made ty items (Err TooManyItems) (Err TooManyItems) h h' is is' = refl
+segment_made ty items (Err TooManyItems) (Err OutOfSystemMemory) h h' is is' = absurd h'
+segment_made ty items (Err OutOfSystemMemory) result' h h' is is' = absurd h
+
+-- two creations of an element segment
+pub segments_same : (ty : RefType) (items : List ℕ) (segments : List SegmentValue) (reply reply' : Reply)
+    (segments' segments'' : List SegmentValue) → HasMemory reply → HasMemory reply'
+    → CreatesSegment ty items segments reply segments' → CreatesSegment ty items segments reply' segments''
+    → (reply ≡ reply') × (segments' ≡ segments'')
+segments_same ty items segments reply reply' segments' segments'' room room' (inl none) b = absurd (rw none.0 at room)
+segments_same ty items segments reply reply' segments' segments'' room room' (inr a) (inl none) =
+    absurd (rw none.0 at room')
+segments_same ty items segments reply reply' segments' segments'' room room' (inr (result, is, appends))
+    (inr (result', is', appends')) =
+    let h = had result segments reply segments' room appends in
+    let h' = had result' segments reply' segments'' room' appends' in
+    let made = segment_made ty items result result' h h' is is' in
+    appends_same (λ x. x) replied.Segment result segments reply reply' segments' segments'' appends
+    (subst (λ r. AddsEntry (λ x. x) replied.Segment r segments reply' segments'') (sym made) appends')
+
+-- two drops of items
+pub items_same : (k : ℕ) (segments : List SegmentValue) (reply reply' : Reply)
+    (segments' segments'' : List SegmentValue) → DropsItemsAt k segments reply segments'
+    → DropsItemsAt k segments reply' segments'' → (reply ≡ reply') × (segments' ≡ segments'')
+items_same k segments reply reply' segments' segments'' a b =
+    changes_same (slice_get segments k) (slice_set segments k) segments reply reply' segments' segments''
+    _ _ (λ x x' x'' c c'. (c.0 ∙ sym c'.0, c.1 ∙ sym c'.1)) a b
+
+-- two creations of a global
+pub globals_same : (global : GlobalInstance) (globals : List GlobalInstance) (reply reply' : Reply)
+    (globals' globals'' : List GlobalInstance) → HasMemory reply → HasMemory reply'
+    → CreatesGlobal global globals reply globals' → CreatesGlobal global globals reply' globals''
+    → (reply ≡ reply') × (globals' ≡ globals'')
+globals_same global globals reply reply' globals' globals'' room room' (inl none) b = absurd (rw none.0 at room)
+globals_same global globals reply reply' globals' globals'' room room' (inr a) (inl none) = absurd (rw none.0 at room')
+globals_same global globals reply reply' globals' globals'' room room' (inr a) (inr b) = (a.0 ∙ sym b.0, a.1 ∙ sym b.1)
+
+-- no global is variable and constant
+var_const : (m : Mutability) → m ≡ Var → m ≡ Const → ⊥
+var_const m var const = let clash : Var ≡ Const = sym var ∙ const in absurd cc
+
+-- two calls that set a global
+global_same : (x x' x'' : GlobalInstance) (value : TypedRawVal) (result result' : Result (Unit {0}) GlobalError)
+    → SetsGlobal x value result x' → SetsGlobal x value result' x'' → (result ≡ result') × (x' ≡ x'')
+global_same x x' x'' value (Ok u) (Ok u') a b = (refl, a.2 ∙ sym b.2)
+global_same x x' x'' value (Ok u) (Err ImmutableWrite) a b = absurd (var_const x.ty.mutability a.0 b.0)
+global_same x x' x'' value (Ok u) (Err TypeMismatch) a b = absurd (b.1 a.1)
+global_same x x' x'' value (Err ImmutableWrite) (Ok u) a b = absurd (var_const x.ty.mutability b.0 a.0)
+global_same x x' x'' value (Err TypeMismatch) (Ok u) a b = absurd (a.1 b.1)
+global_same x x' x'' value (Err ImmutableWrite) (Err ImmutableWrite) a b = (refl, a.1 ∙ sym b.1)
+global_same x x' x'' value (Err ImmutableWrite) (Err TypeMismatch) a b = absurd (var_const x.ty.mutability b.0 a.0)
+global_same x x' x'' value (Err TypeMismatch) (Err ImmutableWrite) a b = absurd (var_const x.ty.mutability a.0 b.0)
+global_same x x' x'' value (Err TypeMismatch) (Err TypeMismatch) a b = (refl, a.2 ∙ sym b.2)
+
+-- so in the list
+pub global_sets_same : (k : ℕ) (value : TypedRawVal) (globals : List GlobalInstance) (reply reply' : Reply)
+    (globals' globals'' : List GlobalInstance) → SetsGlobalAt k value globals reply globals'
+    → SetsGlobalAt k value globals reply' globals'' → (reply ≡ reply') × (globals' ≡ globals'')
+global_sets_same k value globals reply reply' globals' globals'' a b =
+    changes_same (slice_get globals k) (slice_set globals k) globals reply reply' globals' globals''
+    _ _ (λ x x' x'' c c'.
+    let both =
+    global_same x x' x'' value c.0 c'.0 c.1 c'.1 in
+    (c.2 ∙ ap (reply_of (λ _. replied.Done) replied.Global) both.0 ∙ sym c'.2, both.1)) a b
+
+-- a segment that is made
+segment_valid : (ty : _) (items : List ℕ) (result : Result SegmentValue _) (segment : SegmentValue)
+    → result ≡ Ok segment → IsSegmentOf ty items result → IsValidSegment segment
+segment_valid ty items (Ok made) segment is fits =
+    let same : segment ≡ made = cc in
+    let held : segment.items ≡ items = ap (λ (x : SegmentValue). x.items) (same ∙ fits.1) in
+    subst (λ (xs : List ℕ). length xs ≤ most_items) (sym held) fits.0
+segment_valid ty items (Err error) segment is fits = cc
+
+-- so in the list
+pub creates_segment_valid : (ty : _) (items : List ℕ) (segments : List SegmentValue) (reply : Reply)
+    (segments' : List SegmentValue) → CreatesSegment ty items segments reply segments' → All IsValidSegment segments
+    → All IsValidSegment segments'
+creates_segment_valid ty items segments reply segments' (inl none) valid = subst (All IsValidSegment) (sym none.1) valid
+creates_segment_valid ty items segments reply segments' (inr (result, fits, appends)) valid =
+    appended_valid IsValidSegment replied.Segment result segments reply segments'
+    (λ segment is. segment_valid ty items result segment is fits) appends valid

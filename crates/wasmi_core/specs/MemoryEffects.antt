@@ -1,0 +1,68 @@
+-- The calls on memories: what each does to the list of slots.
+use Rattle.std.specs.Prelude.{◌≡◌, ◌⊎◌, ◌*◌, ℕ, Option, Some, None, Result, List, MatchOption}
+use Rattle.std.specs.Option.{option_map_or}
+use Rattle.wasmi_types.specs.Access.{at}
+use Rattle.wasmi_types.specs.declared.trap.TrapCode.{TrapCode}
+use Rattle.wasmi_access.specs.LoadStore.{IsStore}
+use Rattle.wasmi_meter.specs.declared.error.MemoryError.{MemoryError}
+use Rattle.wasmi_meter.specs.declared.error.MemoryError.TheVariants.{OutOfBoundsAccess}
+use Rattle.wasmi_meter.specs.Limiter.{Rules}
+use Rattle.wasmi_store.specs.Buffer.{Lent}
+use Rattle.wasmi_store.specs.MemoryType.{MemoryTypeValue, page_bytes}
+use Rattle.wasmi_store.specs.Memory.{MemoryValue, MakesMemory, WritesMemory}
+use Rattle.wasmi_core.specs.declared.calls.Reply.{Reply}
+use Rattle.wasmi_core.specs.declared.calls.Reply.TheVariants.{Done, Value, Number, Bytes, Memory, Trap, NoSuch, NoRegion, NoRoom}
+use Rattle.wasmi_core.specs.declared.slots.Slot.{Slot}
+use Rattle.wasmi_core.specs.declared.ops.LoadOp.{LoadOp}
+use Rattle.wasmi_core.specs.AccessOps.{loaded_raw}
+use Rattle.wasmi_core.specs.State.{MemoryPart, live_at}
+use Rattle.wasmi_core.specs.Effects.{reply_of, OnLive, Creates, ChangesAt}
+
+-- the bytes that a growth by so many pages has appended, by its reply
+abbrev pub bytes_appended : Option MemoryValue → ℕ → Reply → ℕ
+bytes_appended None pages reply = 0
+bytes_appended (Some x) pages (Number size) = pages * page_bytes x.ty.page
+bytes_appended (Some x) pages reply = 0
+
+-- the spare region after a creation in it: it is spent, unless a slot could not be had
+abbrev pub spare_after : Reply → Option (List ℕ) → Option (List ℕ)
+spare_after NoRoom spare = spare
+spare_after reply spare = None
+
+-- a creation in the spare region; without one nothing is asked
+abbrev pub CreatesLent : {S : Type 0} → Rules S → MemoryTypeValue → MemoryPart → S → Reply → MemoryPart → S → Type 0
+CreatesLent rules ty part l reply part' l' = MatchOption part.spare ((reply ≡ NoRegion) × (part' ≡ part) × (l' ≡ l))
+    (λ region. Creates Memory (MakesMemory rules (Lent region) ty) part.slots l reply part'.slots l'
+    × (part'.spare ≡ spare_after reply part.spare))
+
+-- a read: its bounds come before the want of memory for the reply
+abbrev pub ReadsBytes : Option (List ℕ) → Reply → Type 0
+ReadsBytes None reply = reply ≡ Memory OutOfBoundsAccess
+ReadsBytes (Some bytes) reply = (reply ≡ NoRoom) ⊎ (reply ≡ Bytes bytes)
+
+abbrev pub ReadsMemoryAt : ℕ → ℕ → ℕ → List (Slot MemoryValue) → Reply → Type 0
+ReadsMemoryAt k offset len slots reply =
+    OnLive (live_at slots k) (reply ≡ NoSuch) (λ x. ReadsBytes (at x.bytes offset len) reply)
+
+-- a write
+abbrev pub WritesMemoryAt : ℕ → ℕ → List ℕ → List (Slot MemoryValue) → Reply → List (Slot MemoryValue) → Type 0
+WritesMemoryAt k offset bytes slots reply slots' = ChangesAt k slots reply slots'
+    (λ x x'. (result : Result (Unit {0}) MemoryError) × WritesMemory x offset bytes result x'
+    × (reply ≡ reply_of (λ _. Done) Memory result))
+
+-- the reply to a load from a memory, if the memory is there
+abbrev pub load_reply : LoadOp → ℕ → Option MemoryValue → Reply
+load_reply op a memory = option_map_or (λ x. reply_of Value Trap (loaded_raw op x.bytes a)) memory NoSuch
+
+-- a load
+abbrev pub LoadsMemoryAt : LoadOp → ℕ → ℕ → List (Slot MemoryValue) → Reply → Type 0
+LoadsMemoryAt op k a slots reply = reply ≡ load_reply op a (live_at slots k)
+
+-- a store: the memory has the bytes at the address, or the store traps and the memory is the same
+abbrev pub StoresMemory : MemoryValue → ℕ → List ℕ → Result (Unit {0}) TrapCode → MemoryValue → Type 0
+StoresMemory x a stored result x' = IsStore x.bytes a stored x'.bytes result × (x'.ty ≡ x.ty) × (x'.room ≡ x.room)
+
+abbrev pub StoresMemoryAt : ℕ → ℕ → List ℕ → List (Slot MemoryValue) → Reply → List (Slot MemoryValue) → Type 0
+StoresMemoryAt k a stored slots reply slots' = ChangesAt k slots reply slots'
+    (λ x x'. (result : Result (Unit {0}) TrapCode) × StoresMemory x a stored result x'
+    × (reply ≡ reply_of (λ _. Done) Trap result))

@@ -1,0 +1,91 @@
+-- The calls on tables: what each does to the list of slots.
+use Rattle.std.specs.Prelude.{◌≡◌, ℕ, Option, Some, None, Result, List}
+use Rattle.std.specs.Option.{option_map, option_map_or}
+use Rattle.wasmi_typed.specs.declared.typed_ref.TypedRawRef.{TypedRawRef}
+use Rattle.wasmi_meter.specs.declared.error.TableError.{TableError}
+use Rattle.wasmi_meter.specs.Costs.{cut_product}
+use Rattle.wasmi_meter.specs.Meter.{Meter}
+use Rattle.wasmi_meter.specs.Attempt.{MeteredValue}
+use Rattle.wasmi_store.specs.Segment.{SegmentValue}
+use Rattle.wasmi_store.specs.Table.{TableValue, TableWrite, WritesTable, element_at, setting_of, filling_of, copy_of, initialization_of, typed_by}
+use Rattle.wasmi_core.specs.declared.calls.Reply.{Reply}
+use Rattle.wasmi_core.specs.declared.calls.Reply.TheVariants.{Done, Number, Reference, Table, NoSuch}
+use Rattle.wasmi_core.specs.declared.slots.Slot.{Slot}
+use Rattle.wasmi_core.specs.declared.slots.Slot.TheVariants.{Live}
+use Rattle.wasmi_core.specs.State.{live_value, live_at}
+use Rattle.wasmi_core.specs.Effects.{reply_of, OnLive, IsNoSuch, ChangesAt, ActsAt}
+
+-- the element that is asked of a table, if the table is there
+abbrev pub element_reply : ℕ → Option TableValue → Reply
+element_reply index table = option_map_or (λ x. Reference (element_at x index)) table NoSuch
+
+abbrev pub GetsElementAt : ℕ → ℕ → List (Slot TableValue) → Reply → Type 0
+GetsElementAt k index slots reply = reply ≡ element_reply index (live_at slots k)
+
+-- an element is set
+abbrev pub SetsElementAt : ℕ → ℕ → TypedRawRef → List (Slot TableValue) → Reply → List (Slot TableValue) → Type 0
+SetsElementAt k index value slots reply slots' = ChangesAt k slots reply slots'
+    (λ x x'. (result : Result (Unit {0}) TableError)
+    × WritesTable (typed_by x value.ty (setting_of x index value.raw)) x None result 0 x' None
+    × (reply ≡ reply_of (λ _. Done) Table result))
+
+-- tables, and the meter that is charged
+abbrev pub Metered : Type 0
+Metered = MeteredValue (List (Slot TableValue)) (Unit {0})
+
+abbrev pub metered : List (Slot TableValue) → Meter → Metered
+metered slots m = record { value = slots; meter = Some m; limiter = tt }
+
+-- a part of a table is written over, with its charge
+abbrev pub WritesTableAt : ℕ → (TableValue → TableWrite) → Metered → Reply → ℕ → Metered → Type 0
+WritesTableAt k write = ActsAt k (reply_of (λ _. Done) Table)
+    (λ s result charge s'. WritesTable (write s.value) s.value s.meter result charge s'.value s'.meter)
+
+-- the same with what a live value has, if there is one
+abbrev pub WritesTableFrom : {X : Type 0} → Option X → ℕ → (X → TableValue → TableWrite) → Metered → Reply → ℕ → Metered
+    → Type 0
+WritesTableFrom source k write s reply charge s' =
+    OnLive source (IsNoSuch s reply charge s') (λ x. WritesTableAt k (write x) s reply charge s')
+
+-- a slot's table is written over with what another slot's table has
+abbrev pub CopiesSlot : (TableValue → TableValue → TableWrite) → Slot TableValue
+    → MeteredValue (Slot TableValue) (Unit {0}) → Reply → ℕ → MeteredValue (Slot TableValue) (Unit {0}) → Type 0
+CopiesSlot write source s reply charge s' =
+    OnLive (live_value source) (IsNoSuch s reply charge s')
+    (λ y. OnLive (live_value s.value) (IsNoSuch s reply charge s')
+    (λ x. (result : Result (Unit {0}) TableError) × (x' : TableValue)
+    × WritesTable (write y x) x s.meter result charge x' s'.meter
+    × (reply ≡ reply_of (λ _. Done) Table result) × (s'.value ≡ Live x')))
+
+-- what is written over: a part that is filled, copied from a table, or initialized from an element segment
+abbrev pub filling : ℕ → TypedRawRef → ℕ → TableValue → TableWrite
+filling dst value len x = typed_by x value.ty (filling_of x dst value.raw len)
+
+abbrev pub copy_from : ℕ → ℕ → ℕ → TableValue → TableValue → TableWrite
+copy_from dst src len source x = typed_by x source.ty.element (copy_of x dst source.elements src len)
+
+abbrev pub initialization_from : ℕ → ℕ → ℕ → SegmentValue → TableValue → TableWrite
+initialization_from dst src len segment x = typed_by x segment.ty (initialization_of x dst segment.items src len)
+
+-- what a part of a table is written over with: a reference, elements of a table, or items of an element segment, from a
+-- place on, if it is there
+pub data Source : Type 0 where
+  OfReference : TypedRawRef → Source
+  OfTable : Option TableValue → ℕ → Source
+  OfSegment : Option SegmentValue → ℕ → Source
+
+-- what so many of them write over a table from a place on, if they are there
+abbrev pub write_of : Source → ℕ → ℕ → Option (TableValue → TableWrite)
+write_of (OfReference value) dst len = Some (filling dst value len)
+write_of (OfTable source src) dst len = option_map (copy_from dst src len) source
+write_of (OfSegment segment src) dst len = option_map (initialization_from dst src len) segment
+
+-- a part of a table is written over by such a write, if there is one
+abbrev pub WritesPartAt : ℕ → Option (TableValue → TableWrite) → Metered → Reply → ℕ → Metered → Type 0
+WritesPartAt k write = WritesTableFrom write k (λ w. w)
+
+-- the bytes that an accepted call on so many elements has written
+abbrev pub element_bytes : ℕ → Reply → ℕ
+element_bytes n Done = cut_product n 4
+element_bytes n (Number size) = cut_product n 4
+element_bytes n reply = 0

@@ -1,0 +1,48 @@
+-- The calls on element segments and globals: what each does to the list of them.
+use Rattle.std.specs.Prelude.{◌≡◌, ◌⊎◌, ◌≤◌, ◌<◌, ◌++◌, ℕ, Option, Result, Ok, Err, List, [], ◌∷◌, length, slice_get}
+use Rattle.std.specs.Option.{option_map_or}
+use Rattle.wasmi_types.specs.declared.value.RefType.{RefType}
+use Rattle.wasmi_typed.specs.declared.typed.TypedRawVal.{TypedRawVal}
+use Rattle.wasmi_typed.specs.declared.global.GlobalError.{GlobalError}
+use Rattle.wasmi_typed.specs.Global.{GlobalInstance, SetsGlobal}
+use Rattle.wasmi_store.specs.declared.table.element.SegmentError.{SegmentError}
+use Rattle.wasmi_store.specs.declared.table.element.SegmentError.TheVariants.{TooManyItems, OutOfSystemMemory}
+use Rattle.wasmi_store.specs.Segment.{SegmentValue, most_items, dropped}
+use Rattle.wasmi_core.specs.declared.calls.Reply.{Reply}
+use Rattle.wasmi_core.specs.declared.calls.Reply.TheVariants.{Done, Made, Value, Global, Segment, NoSuch, NoRoom}
+use Rattle.wasmi_core.specs.Effects.{reply_of, ChangesItem, AddsEntry}
+
+-- the segment of these items, unless there are too many, or memory is refused for some
+abbrev pub IsSegmentOf : RefType → List ℕ → Result SegmentValue SegmentError → Type 0
+IsSegmentOf ty items (Ok segment) = (length items ≤ most_items) × (segment ≡ record { ty = ty; items = items })
+IsSegmentOf ty items (Err TooManyItems) = most_items < length items
+IsSegmentOf ty items (Err OutOfSystemMemory) = 0 < length items
+
+-- an element segment is made
+abbrev pub CreatesSegment : RefType → List ℕ → List SegmentValue → Reply → List SegmentValue → Type 0
+CreatesSegment ty items segments reply segments' = ((reply ≡ NoRoom) × (segments' ≡ segments))
+    ⊎ ((result : Result SegmentValue SegmentError) × IsSegmentOf ty items result
+    × AddsEntry (λ x. x) Segment result segments reply segments')
+
+-- its items are dropped
+abbrev pub DropsItemsAt : ℕ → List SegmentValue → Reply → List SegmentValue → Type 0
+DropsItemsAt k segments reply segments' =
+    ChangesItem k segments reply segments' (λ x x'. (reply ≡ Done) × (x' ≡ dropped x))
+
+-- a global is made
+abbrev pub CreatesGlobal : GlobalInstance → List GlobalInstance → Reply → List GlobalInstance → Type 0
+CreatesGlobal global globals reply globals' = ((reply ≡ NoRoom) × (globals' ≡ globals))
+    ⊎ ((reply ≡ Made (length globals)) × (globals' ≡ globals ++ global ∷ []))
+
+-- it is set
+abbrev pub SetsGlobalAt : ℕ → TypedRawVal → List GlobalInstance → Reply → List GlobalInstance → Type 0
+SetsGlobalAt k value globals reply globals' = ChangesItem k globals reply globals'
+    (λ x x'. (result : Result (Unit {0}) GlobalError) × SetsGlobal x value result x'
+    × (reply ≡ reply_of (λ _. Done) Global result))
+
+-- the value that is asked of a global, if it is there
+abbrev pub global_reply : Option GlobalInstance → Reply
+global_reply global = option_map_or (λ x. Value x.value) global NoSuch
+
+abbrev pub GetsGlobalAt : ℕ → List GlobalInstance → Reply → Type 0
+GetsGlobalAt k globals reply = reply ≡ global_reply (slice_get globals k)

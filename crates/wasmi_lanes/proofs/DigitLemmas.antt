@@ -1,0 +1,104 @@
+-- A number and its digits to the base 2 ^ b, as `digits_l` and `number_l` of std have them.
+use Rattle.std.proofs.Common.{ℕ, zero, suc, ◌+◌, ◌*◌, ◌/◌, ◌%◌, ◌^◌, ◌<◌, ◌≤◌, ◌≡◌, refl, sym, subst, ◌∙◌, ap, arith, List, [], ◌∷◌, length, get_or, replicate, mul_comm, mul-suc, mul-zero, zero-mul, suc-mul, div-one}
+use Rattle.std.specs.Simd.Lanes.{digits_l, number_l, Each1, zip2}
+use Rattle.std.proofs.Math.Nat.{mod-one, mul-add, mul-one, mod-eq_of_lt}
+use Rattle.std.proofs.lemmas.Nat.{mod-pow-add, div-mul-add, mod-mul-add, shr-shr, pow-add, mul-le}
+use Rattle.std.proofs.lemmas.Simd.{Each1-from_get_or, get_or-zip2, get_or-replicate, length-replicate}
+use Rattle.wasmi_types.specs.Wrapping.{Width, bits}
+use Rattle.wasmi_lanes.specs.Lane.{lane}
+
+-- the digit of v at i
+abbrev digit : ℕ → ℕ → ℕ → ℕ
+digit b v i = v / 2 ^ (b * i) % 2 ^ b
+
+digit_first : (b v : ℕ) → digit b v 0 ≡ v % 2 ^ b
+digit_first b v = ap (λ k. v / 2 ^ k % 2 ^ b) (mul-zero b) ∙ ap (λ n. n % 2 ^ b) (div-one v)
+
+digit_next : (b i v : ℕ) → digit b v (suc i) ≡ digit b (v / 2 ^ b) i
+digit_next b i v =
+    let next : b * suc i ≡ b + b * i = omega (arith, mul-suc b i) in
+    ap (λ k. v / 2 ^ k % 2 ^ b) next ∙ ap (λ n. n % 2 ^ b) (sym (shr-shr v b (b * i)))
+
+-- the list of digits has them in their places
+pub digit_at : (b n v i d : ℕ) → i < n → get_or (digits_l (2 ^ b) n v) i d ≡ v / 2 ^ (b * i) % 2 ^ b
+digit_at b zero v i d below = absurd (omega arith)
+digit_at b (suc n) v zero d below = sym (digit_first b v)
+digit_at b (suc n) v (suc i) d below = digit_at b n (v / 2 ^ b) i d (omega arith) ∙ sym (digit_next b i v)
+
+length_digits : (p n v : ℕ) → length (digits_l p n v) ≡ n
+length_digits p zero v = refl
+length_digits p (suc n) v = ap suc (length_digits p n (v / p))
+
+turned : (p x n : ℕ) → x + p * n ≡ n * p + x
+turned p x n = omega (arith, mul_comm p n)
+
+-- the number of a list of digits has them in their places
+pub number_at : (b : ℕ) (xs : List ℕ) (i d : ℕ) → Each1 (λ x. x < 2 ^ b) xs → i < length xs
+    → number_l (2 ^ b) xs / 2 ^ (b * i) % 2 ^ b ≡ get_or xs i d
+number_at b [] i d fits below = absurd (omega arith)
+number_at b (x ∷ xs) zero d fits below =
+    let n = number_l (2 ^ b) xs in
+    digit_first b (x + 2 ^ b * n) ∙ ap (λ k. k % 2 ^ b) (turned (2 ^ b) x n) ∙ mod-mul-add n (2 ^ b) x fits.0
+number_at b (x ∷ xs) (suc i) d fits below =
+    let n = number_l (2 ^ b) xs in
+    digit_next b i (x + 2 ^ b * n)
+    ∙ ap (λ k. digit b k i) (ap (λ k. k / 2 ^ b) (turned (2 ^ b) x n) ∙ div-mul-add n (2 ^ b) x fits.0)
+    ∙ number_at b xs i d fits.1 (omega arith)
+
+-- and is below the power that has one digit more
+pub number_below : (b : ℕ) (xs : List ℕ) → Each1 (λ x. x < 2 ^ b) xs → number_l (2 ^ b) xs < 2 ^ (length xs * b)
+number_below b [] fits = let none : 2 ^ (0 * b) ≡ 1 = ap (λ k. 2 ^ k) (zero-mul b) in omega arith
+number_below b (x ∷ xs) fits =
+    let n = number_l (2 ^ b) xs in
+    let q = 2 ^ (length xs * b) in
+    let below : n < q = number_below b xs fits.1 in
+    let first : x < 2 ^ b = fits.0 in
+    let rows : 2 ^ b * (n + 1) ≤ 2 ^ b * q = mul-le (2 ^ b) (n + 1) (2 ^ b) q (le_self (2 ^ b)) (omega arith) in
+    let whole : 2 ^ (suc (length xs) * b) ≡ q * 2 ^ b =
+    ap (λ k. 2 ^ k) (suc-mul (length xs) b) ∙ pow-add 2 (length xs * b) b in
+    omega (arith, rows, whole, mul_comm (2 ^ b) q, mul-add (2 ^ b) n 1, mul-one (2 ^ b))
+  where
+    le_self : (n : ℕ) → n ≤ n
+    le_self n = omega arith
+
+-- the number of the digits of v
+pub number_of_digits : (b n v : ℕ) → number_l (2 ^ b) (digits_l (2 ^ b) n v) ≡ v % 2 ^ (n * b)
+number_of_digits b zero v = sym (mod-one v) ∙ ap (λ k. v % 2 ^ k) (sym (zero-mul b))
+number_of_digits b (suc n) v =
+    let high : number_l (2 ^ b) (digits_l (2 ^ b) n (v / 2 ^ b)) ≡ v / 2 ^ b % 2 ^ (n * b) =
+    number_of_digits b n (v / 2 ^ b) in
+    let whole : v % 2 ^ (suc n * b) ≡ (v / 2 ^ b % 2 ^ (n * b)) * 2 ^ b + v % 2 ^ b =
+    ap (λ k. v % 2 ^ k) (suc-mul n b) ∙ mod-pow-add v (n * b) b in
+    omega (arith, ap (λ k. 2 ^ b * k) high, mul_comm (2 ^ b) (v / 2 ^ b % 2 ^ (n * b)), whole)
+
+-- a lane of a vector, as it is read from its bytes
+pub read_at : (b n v : ℕ) (bytes : List ℕ) (i d : ℕ) → i < n → number_l 256 bytes ≡ v
+    → get_or (digits_l (2 ^ b) n (number_l 256 bytes)) i d ≡ v / 2 ^ (b * i) % 2 ^ b
+read_at b n v bytes i d below is = digit_at b n (number_l 256 bytes) i d below ∙ ap (λ k. k / 2 ^ (b * i) % 2 ^ b) is
+
+-- a lane of the vector whose number is that of xs
+pub lane_of_number : (w : Width) (n : ℕ) (xs : List ℕ) (r i : ℕ) → length xs ≡ n
+    → ((k : ℕ) → get_or xs k 0 < 2 ^ bits w) → i < n → r ≡ number_l (2 ^ bits w) xs → get_or xs i 0 ≡ lane w r i
+lane_of_number w n xs r i long fits below is =
+    let each = Each1-from_get_or (λ x. x < 2 ^ bits w) xs 0 (λ k inside. fits k) in
+    sym (ap (λ k. lane w k i) is ∙ number_at (bits w) xs i 0 each (subst (λ k. i < k) (sym long) below))
+
+-- a lane of a vector, as it is written by its bytes
+pub written_at : (w : Width) (n : ℕ) (xs : List ℕ) (r i : ℕ) → n * bits w ≡ 128 → length xs ≡ n
+    → ((k : ℕ) → get_or xs k 0 < 2 ^ bits w) → i < n
+    → r ≡ number_l 256 (digits_l 256 16 (number_l (2 ^ bits w) xs)) → get_or xs i 0 ≡ lane w r i
+written_at w n xs r i filled long fits below is =
+    let number = number_l (2 ^ bits w) xs in
+    let small : number < 2 ^ (length xs * bits w) =
+    number_below (bits w) xs (Each1-from_get_or (λ x. x < 2 ^ bits w) xs 0 (λ k inside. fits k)) in
+    let exponent : length xs * bits w ≡ 128 = ap (λ k. k * bits w) long ∙ filled in
+    let whole : number % 2 ^ 128 ≡ number = mod-eq_of_lt (subst (λ k. number < 2 ^ k) exponent small) in
+    lane_of_number w n xs r i long fits below (is ∙ number_of_digits 8 16 number ∙ whole)
+
+-- a lane of lanes to each of which x was added
+pub added_at : (w : Width) (n x : ℕ) (xs : List ℕ) (i : ℕ) → length xs ≡ n → i < n
+    → get_or (zip2 (λ a b. (a + b) % 2 ^ bits w) xs (replicate n x)) i 0 ≡ (get_or xs i 0 + x) % 2 ^ bits w
+added_at w n x xs i long inside =
+    get_or-zip2 (λ a b. (a + b) % 2 ^ bits w) xs (replicate n x) i 0 0 0 (subst (λ k. i < k) (sym long) inside)
+    (subst (λ k. i < k) (sym (length-replicate n x)) inside)
+    ∙ ap (λ b. (get_or xs i 0 + b) % 2 ^ bits w) (get_or-replicate n i x 0 inside)

@@ -1,0 +1,75 @@
+-- A vector is made of its lanes.
+use Rattle.std.proofs.Common.{ℕ, zero, suc, ◌+◌, ◌-◌, ◌*◌, ◌/◌, ◌%◌, ◌^◌, ◌<◌, ◌≡◌, sym, ◌∙◌, ap, subst, arith, add_comm, Bool, true, false, if◌then◌else◌}
+use Rattle.std.proofs.lemmas.Nat.{pow_pos, mod-pow-add}
+use Rattle.std.proofs.Math.Nat.{mod-eq_of_lt, mod-lt, mod-one, mul-suc}
+use Rattle.wasmi_lanes.specs.declared.item.LaneInteger.{Ghosts}
+use Rattle.wasmi_lanes.specs.Lane.{lane}
+use Rattle.wasmi_lanes.specs.Vector.{first_lanes, from_lanes}
+use Rattle.wasmi_types.specs.Wrapping.{Width, w8, w16, w32, w64, bits}
+use mir.Syntax.{w128}
+
+pub lane_below : (w : Width) (v i : ℕ) → lane w v i < 2 ^ bits w
+lane_below w v i = mod-lt (v / 2 ^ (bits w * i)) (pow_pos (bits w))
+
+pub lanes_of_width : (w : Width) (n : ℕ) → n * bits w ≡ 128 → 128 / bits w ≡ n
+lanes_of_width w8 n e = omega arith
+lanes_of_width w16 n e = omega arith
+lanes_of_width w32 n e = omega arith
+lanes_of_width w64 n e = omega arith
+lanes_of_width w128 n e = omega arith
+
+joined : (l l' t t' p v : ℕ) → l ≡ l' → t ≡ t' → v ≡ t' * p + l' → l + t * p ≡ v
+joined l l' t t' p v e f h = ap (λ k. k + t * p) e ∙ ap (λ k. l' + k * p) f ∙ add_comm l' (t' * p) ∙ sym h
+
+first_lanes_are : (w : Width) (v : ℕ) (f : ℕ → ℕ) (n : ℕ) → ((i : ℕ) → i < n → lane w v i ≡ f i)
+    → first_lanes w n f ≡ v % 2 ^ (bits w * n)
+unfolding first_lanes
+first_lanes_are w v f zero each =
+    let none : bits w * 0 ≡ 0 = omega arith in
+    sym (ap (λ k. v % 2 ^ k) none ∙ mod-one v)
+first_lanes_are w v f (suc n) each =
+    let b = bits w in
+    let low : first_lanes w n f ≡ v % 2 ^ (b * n) = first_lanes_are w v f n (λ i h. each i (omega arith)) in
+    let top : lane w v n ≡ f n = each n (omega arith) in
+    let same : f n % 2 ^ b ≡ v / 2 ^ (b * n) % 2 ^ b =
+    ap (λ k. k % 2 ^ b) (sym top) ∙ mod-eq_of_lt (lane_below w v n) in
+    let e : b * suc n ≡ b + b * n = mul-suc b n ∙ add_comm (b * n) b in
+    let split : v % 2 ^ (b * suc n) ≡ (v / 2 ^ (b * n) % 2 ^ b) * 2 ^ (b * n) + v % 2 ^ (b * n) =
+    ap (λ k. v % 2 ^ k) e ∙ mod-pow-add v b (b * n) in
+    joined (first_lanes w n f) (v % 2 ^ (b * n)) (f n % 2 ^ b) (v / 2 ^ (b * n) % 2 ^ b) (2 ^ (b * n))
+    (v % 2 ^ (b * suc n)) low same split
+
+-- a number below 2 ^ 128 is the vector of its lanes
+pub lanes_make_vector : (w : Width) (n v : ℕ) (f : ℕ → ℕ) → n * bits w ≡ 128 → v < 2 ^ 128
+    → ((i : ℕ) → i < n → lane w v i ≡ f i) → v ≡ from_lanes w f
+lanes_make_vector w n v f filled below each =
+    let whole : bits w * n ≡ 128 = omega arith in
+    sym (ap (λ k. first_lanes w k f) (lanes_of_width w n filled) ∙ first_lanes_are w v f n each
+    ∙ ap (λ k. v % 2 ^ k) whole ∙ mod-eq_of_lt below)
+
+-- lanes as items, an integer each
+module _ {A : Type 0} (item : Ghosts A) where
+  -- what is read from a lane is in the range of its type
+  pub item_fits : (v i : ℕ) (x : A) → x ≡ item.read (lane item.width v i) → item.Fits x
+  item_fits v i x is = subst item.Fits (sym is) (item.read_fits (lane item.width v i) (lane_below item.width v i))
+
+  -- a vector whose lanes read as items has the numbers of these items as its lanes
+  pub items_make_vector :
+      (n : ℕ) (items : ℕ → A) (r : ℕ) (f : ℕ → ℕ)
+      → n * bits item.width ≡ 128
+      → ((i : ℕ) → i < n → items i ≡ item.read (lane item.width r i))
+      → r < 2 ^ 128
+      → ((i : ℕ) → i < n → item.Fits (items i) → item.image (items i) ≡ f i)
+      → r ≡ from_lanes item.width f
+  items_make_vector n items r f filled is below rows =
+      lanes_make_vector item.width n r f filled below
+      (λ i h.
+      sym (item.image_of_read (lane item.width r i) (lane_below item.width r i))
+      ∙ ap item.image (sym (is i h))
+      ∙ rows i h (item_fits r i (items i) (is i h)))
+
+  -- the number of an item that is all ones or all zeros
+  pub image_of_choice : (t : Bool)
+      → item.image (if t then item.ALL_ONES else item.ALL_ZEROS) ≡ (if t then 2 ^ bits item.width - 1 else 0)
+  image_of_choice true = item.image_of_ones
+  image_of_choice false = item.image_of_zeros

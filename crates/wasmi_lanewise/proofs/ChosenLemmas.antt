@@ -1,0 +1,203 @@
+-- Bytes chosen by indices, as std::simd chooses them.
+use Rattle.std.proofs.Common.{ℕ, ◌%◌, ◌<◌, ◌≤◌, ◌≡◌, List, length, get_or, replicate, map, ◌+◌, ◌*◌, ◌/◌, ◌⊎◌, refl, sym, subst, ap, ap₂, ◌∙◌, arith, inl, inr, nat_lt, if◌then◌else◌, Bool, true, false, not, ◌||◌, cond, ltb, leb, bit_and, w8, Fits}
+use Rattle.std.specs.Simd.Lanes.{zip2, sel_l, Each1}
+use Rattle.std.proofs.lemmas.Bool.{cases_lt, lt-ltb, le-ltb}
+use Rattle.std.proofs.lemmas.Nat.{and_mask}
+use Rattle.std.proofs.lemmas.Simd.{swz_l, SwzOk, SwzOk-from_below, SwzOk-from_Each1, Each1-from_get_or, Each1-get_or, below_from_Fits, length-zip2, get_or-zip2, get_or-replicate, get_or-swz_l, get_or-swz_l_below, get_or-sel_l, length-sel_l, tops_compared}
+use Rattle.std.proofs.lemmas.List.FromFn.{get_or-map-range_with_len}
+use Rattle.std.specs.List.{range_with_len}
+use Rattle.std.proofs.Math.Nat.{mod-eq_of_lt}
+use lib.Dec.{T}
+use lib.Lanes.{top}
+
+-- the low four bits of each index
+abbrev nibbles : List ℕ → List ℕ
+nibbles js = zip2 bit_and js (replicate 16 15)
+
+module _ (js : List ℕ) (long : length js ≡ 16) where
+  length_nibbles : length (nibbles js) ≡ 16
+  length_nibbles = length-zip2 bit_and js (replicate 16 15) long ∙ long
+
+  nibble_at : (i : ℕ) → i < 16 → get_or (nibbles js) i 0 ≡ get_or js i 0 % 16
+  nibble_at i inside =
+      get_or-zip2 bit_and js (replicate 16 15) i 0 0 0 (omega arith) inside
+      ∙ ap (bit_and (get_or js i 0)) (get_or-replicate 16 i 15 0 inside) ∙ and_mask (get_or js i 0) 4
+
+  nibble_below : (i : ℕ) → i < 16 → get_or (nibbles js) i 0 < 16
+  nibble_below i inside = let is = nibble_at i inside in omega arith
+
+  pub nibbles_may_index : SwzOk w8 16 16 0 (nibbles js)
+  nibbles_may_index =
+      let whole = length_nibbles in
+      SwzOk-from_below w8 16 1 16 0 (nibbles js) refl (omega arith)
+      (Each1-from_get_or (λ j. j < 16) (nibbles js) 0 (λ i inside. nibble_below i (omega arith)))
+
+  pub picked_at : (table : List ℕ) (i : ℕ) → i < 16
+      → get_or (swz_l w8 16 table 0 (nibbles js)) i 0 ≡ get_or table (get_or js i 0 % 16) 0
+  picked_at table i inside =
+      let whole = length_nibbles in
+      get_or-swz_l_below w8 16 table 0 (nibbles js) i (omega arith) (nibble_below i inside)
+      ∙ ap (λ j. get_or table j 0) (let is = nibble_at i inside in omega arith)
+
+  pub chosen_at : (low high : List ℕ) (i : ℕ) → length low ≡ 16 → length high ≡ 16 → i < 16
+      → get_or (sel_l (map (top 7) (zip2 (λ a b. cond (ltb a b) 255 0) js (replicate 16 16))) low high) i 0
+      ≡ (if nat_lt (get_or js i 0) 16 then get_or low i 0 else get_or high i 0)
+  chosen_at low high i long_low long_high inside =
+      let tests : List Bool = zip2 ltb js (replicate 16 16) in
+      let whole : length tests ≡ 16 = length-zip2 ltb js (replicate 16 16) long ∙ long in
+      let test : get_or tests i false ≡ ltb (get_or js i 0) 16 =
+      get_or-zip2 ltb js (replicate 16 16) i 0 0 false (omega arith) inside
+      ∙ ap (ltb (get_or js i 0)) (get_or-replicate 16 i 16 0 inside) in
+      ap (λ ms. get_or (sel_l ms low high) i 0) (tops_compared w8 ltb js (replicate 16 16))
+      ∙ get_or-sel_l tests low high i 0 (omega arith) (omega arith) (omega arith)
+      ∙ ap (λ t. cond t (get_or low i 0) (get_or high i 0)) test
+
+-- ---- the table at the indices below 16, else 0
+
+-- what holds of the numbers below n, as it was computed
+pub computed : {X : Type 0} (f g : ℕ → X) (n k : ℕ) (d : X) → map f (range_with_len 0 n) ≡ map g (range_with_len 0 n)
+    → k < n → f k ≡ g k
+computed f g n k d same below =
+    let place : 0 + k ≡ k = omega arith in
+    sym (get_or-map-range_with_len f 0 n k k d below place) ∙ ap (λ l. get_or l k d) same
+    ∙ get_or-map-range_with_len g 0 n k k d below place
+
+-- an index below 16 is the position, and one above becomes 128
+abbrev position : ℕ → ℕ
+position j = bit_and ((cond (ltb j 16) j 16 + 112) % 256) 143
+
+zero_from_16 : (j : ℕ) → j < 256 → leb 128 (position j) ≡ not (ltb j 16)
+zero_from_16 j below = computed (λ k. leb 128 (position k)) (λ k. not (ltb k 16)) 256 j false refl below
+
+same_below_16 : (j : ℕ) → j < 16 → position j ≡ j
+same_below_16 j below = computed position (λ k. k) 16 j 0 refl below
+
+position_fits : (j : ℕ) → j < 256 → (leb 128 (position j) || ltb (position j) 16) ≡ true
+position_fits j below = computed (λ k. leb 128 (position k) || ltb (position k) 16) (λ _. true) 256 j false refl below
+
+-- the positions of indices
+abbrev positions : List ℕ → List ℕ
+positions js =
+    let least = sel_l (map (top 7) (zip2 (λ a b. cond (ltb a b) 255 0) js (replicate 16 16))) js (replicate 16 16) in
+    zip2 bit_and (zip2 (λ a b. (a + b) % 256) least (replicate 16 112)) (replicate 16 143)
+
+module _ (js : List ℕ) (long : length js ≡ 16) (fits : Each1 (Fits w8) js) where
+  abbrev tests : List Bool
+  tests = map (top 7) (zip2 (λ a b. cond (ltb a b) 255 0) js (replicate 16 16))
+
+  abbrev least : List ℕ
+  least = sel_l tests js (replicate 16 16)
+
+  is_least : least ≡ sel_l (zip2 ltb js (replicate 16 16)) js (replicate 16 16)
+  is_least = ap (λ ms. sel_l ms js (replicate 16 16)) (tops_compared w8 ltb js (replicate 16 16))
+
+  many_tests : length (zip2 ltb js (replicate 16 16)) ≡ 16
+  many_tests = length-zip2 ltb js (replicate 16 16) long ∙ long
+
+  many_least : length least ≡ 16
+  many_least =
+      let many = many_tests in
+      ap length is_least ∙ length-sel_l (zip2 ltb js (replicate 16 16)) js (replicate 16 16) (omega arith) many ∙ many
+
+  least_at : (i : ℕ) → i < 16 → get_or least i 0 ≡ cond (ltb (get_or js i 0) 16) (get_or js i 0) 16
+  least_at i inside =
+      let many = many_tests in
+      let limit : List ℕ = replicate 16 16 in
+      let sixteen : get_or limit i 0 ≡ 16 = get_or-replicate 16 i 16 0 inside in
+      ap (λ l. get_or l i 0) is_least
+      ∙ get_or-sel_l (zip2 ltb js (replicate 16 16)) js (replicate 16 16) i 0 (omega arith) (omega arith) inside
+      ∙ ap₂ (λ t x. cond t (get_or js i 0) x)
+      (get_or-zip2 ltb js (replicate 16 16) i 0 0 false (omega arith) inside ∙ ap (ltb (get_or js i 0)) sixteen)
+      sixteen
+
+  abbrev sums : List ℕ
+  sums = zip2 (λ a b. (a + b) % 256) least (replicate 16 112)
+
+  many_sums : length sums ≡ 16
+  many_sums = length-zip2 (λ a b. (a + b) % 256) least (replicate 16 112) many_least ∙ many_least
+
+  length_positions : length (positions js) ≡ 16
+  length_positions = length-zip2 bit_and sums (replicate 16 143) many_sums ∙ many_sums
+
+  position_at : (i : ℕ) → i < 16 → get_or (positions js) i 0 ≡ position (get_or js i 0)
+  position_at i inside =
+      let at_least : i < length least = omega (arith, many_least) in
+      let at_sums : i < length sums = omega (arith, many_sums) in
+      get_or-zip2 bit_and sums (replicate 16 143) i 0 0 0 at_sums inside
+      ∙ ap₂ bit_and
+      (get_or-zip2 (λ a b. (a + b) % 256) least (replicate 16 112) i 0 0 0 at_least inside
+      ∙ ap₂ (λ a b. (a + b) % 256) (least_at i inside) (get_or-replicate 16 i 112 0 inside))
+      (get_or-replicate 16 i 143 0 inside)
+
+  index_below : (i : ℕ) → i < 16 → get_or js i 0 < 256
+  index_below i inside = Each1-get_or (λ j. j < 256) js i 0 (omega arith) (below_from_Fits w8 js fits)
+
+  pub positions_may_index : SwzOk w8 16 16 0 (positions js)
+  positions_may_index =
+      let whole = length_positions in
+      SwzOk-from_Each1 w8 16 1 16 0 (positions js) refl (omega arith)
+      (Each1-from_get_or (λ j. T (leb 128 j || ltb j 16)) (positions js) 0
+      (λ i inside.
+      let within : i < 16 = omega arith in
+      subst T (sym (ap (λ p. leb 128 p || ltb p 16) (position_at i within)
+      ∙ position_fits (get_or js i 0) (index_below i within))) tt))
+
+  pub picked_or_zero_at : (table : List ℕ) (i : ℕ) → i < 16
+      → get_or (swz_l w8 16 table 0 (positions js)) i 0
+      ≡ (if nat_lt (get_or js i 0) 16 then get_or table (get_or js i 0) 0 else 0)
+  picked_or_zero_at table i inside =
+      let whole = length_positions in
+      let j : ℕ = get_or js i 0 in
+      let place : 16 * ((0 + i) / 16) + get_or (positions js) i 0 ≡ position j = omega (arith, position_at i inside) in
+      get_or-swz_l w8 16 table 0 (positions js) i (omega arith)
+      ∙ ap₂ (λ p q. cond (leb 128 p) 0 (get_or table q 0)) (position_at i inside) place
+      ∙ ap (λ t. cond t 0 (get_or table (position j) 0)) (zero_from_16 j (index_below i inside))
+      ∙ either (cases_lt j 16)
+    where
+      either : {j : ℕ} → (j < 16) ⊎ (16 ≤ j)
+          → cond (not (ltb j 16)) 0 (get_or table (position j) 0) ≡ (if nat_lt j 16 then get_or table j 0 else 0)
+      either {j} (inl below) =
+          ap (λ t. cond (not t) 0 (get_or table (position j) 0)) (lt-ltb j 16 below)
+          ∙ ap (λ k. get_or table k 0) (same_below_16 j below)
+          ∙ sym (ap (λ t. if t then get_or table j 0 else 0) (lt-ltb j 16 below))
+      either {j} (inr above) =
+          ap (λ t. cond (not t) 0 (get_or table (position j) 0)) (le-ltb j 16 above)
+          ∙ sym (ap (λ t. if t then get_or table j 0 else 0) (le-ltb j 16 above))
+
+-- ---- the table at indices below 16
+
+module _ (js : List ℕ) (long : length js ≡ 16) (below : (i : ℕ) → i < 16 → get_or js i 0 < 16) where
+  pub indices_may_index : SwzOk w8 16 16 0 js
+  indices_may_index =
+      SwzOk-from_below w8 16 1 16 0 js refl (omega arith)
+      (Each1-from_get_or (λ j. j < 16) js 0 (λ i inside. below i (omega arith)))
+
+  pub picked_inside_at : (table : List ℕ) (i : ℕ) → i < 16
+      → get_or (swz_l w8 16 table 0 js) i 0 ≡ get_or table (get_or js i 0) 0
+  picked_inside_at table i inside =
+      let place : 16 * ((0 + i) / 16) + get_or js i 0 ≡ get_or js i 0 = omega arith in
+      get_or-swz_l_below w8 16 table 0 js i (omega arith) (below i inside) ∙ ap (λ j. get_or table j 0) place
+
+-- of the numbers f of the first 16 indices, the one at k, and another where k is above 15
+pub first_or_other : (k low high other : ℕ) (f : ℕ → ℕ) → low ≡ f (k % 16) → (16 ≤ k → high ≡ other)
+    → (if nat_lt k 16 then low else high) ≡ (if nat_lt k 16 then f k else other)
+first_or_other k low high other f is_low is_other =
+    elim (cases_lt k 16) as (λ _. (if nat_lt k 16 then low else high) ≡ (if nat_lt k 16 then f k else other)) [
+      | inl below ↦
+          ap (λ t. if t then low else high) (lt-ltb k 16 below) ∙ is_low ∙ ap f (mod-eq_of_lt below)
+          ∙ sym (ap (λ t. if t then f k else other) (lt-ltb k 16 below))
+      | inr above ↦
+          ap (λ t. if t then low else high) (le-ltb k 16 above) ∙ is_other above
+          ∙ sym (ap (λ t. if t then f k else other) (le-ltb k 16 above))
+    ]
+
+-- functions that agree below 16, at the numbers below 16
+pub below_or_zero : (k : ℕ) (f g : ℕ → ℕ) → ((i : ℕ) → i < 16 → f i ≡ g i)
+    → (if nat_lt k 16 then f k else 0) ≡ (if nat_lt k 16 then g k else 0)
+below_or_zero k f g same =
+    elim (cases_lt k 16) as (λ _. (if nat_lt k 16 then f k else 0) ≡ (if nat_lt k 16 then g k else 0)) [
+      | inl below ↦ ap (λ t. if t then f k else 0) (lt-ltb k 16 below) ∙ same k below
+          ∙ sym (ap (λ t. if t then g k else 0) (lt-ltb k 16 below))
+      | inr above ↦ ap (λ t. if t then f k else 0) (le-ltb k 16 above)
+          ∙ sym (ap (λ t. if t then g k else 0) (le-ltb k 16 above))
+    ]

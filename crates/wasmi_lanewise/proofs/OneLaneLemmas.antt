@@ -1,0 +1,112 @@
+-- One lane of a vector: by its bytes, and among lanes that are chosen by their numbers.
+use Rattle.std.proofs.Common.{ℕ, ◌+◌, ◌-◌, ◌*◌, ◌/◌, ◌%◌, ◌^◌, ◌<◌, ◌≡◌, List, [], ◌∷◌, length, get_or, replicate, map, refl, sym, ap, ap₂, ◌∙◌, arith, if◌then◌else◌, Bool, true, false, cond, eqb, ltb, bit_and, zero-add, mul_comm, mul-add, mul-one, add-mul}
+use Rattle.std.proofs.lemmas.Nat.{shr-shr, mod-pow-add, and_mask}
+use Rattle.std.specs.Simd.Lanes.{zip2, sel_l, number_l, digits_l}
+use Rattle.std.proofs.lemmas.Bool.{ltb-true}
+use Rattle.std.proofs.lemmas.List.{get_or-map}
+use Rattle.std.proofs.lemmas.Simd.{length-zip2, get_or-zip2, get_or-replicate, length-replicate, get_or-sel_l, tops_compared}
+use Rattle.std.proofs.lemmas.List.FromFn.{get_or-range_with_len, length-range_with_len}
+use Rattle.std.specs.List.{range_with_len}
+use Rattle.wasmi_types.specs.Wrapping.{Width, bits}
+use Rattle.wasmi_lanes.specs.Lane.{lane}
+use Rattle.wasmi_lanes.specs.Vector.{with_lane}
+use Rattle.wasmi_lanes.proofs.LaneVectorLemmas.{lanes_make_vector}
+use Rattle.wasmi_lanewise.proofs.ChosenLemmas.{computed}
+use mir.Val.{hbits}
+use lib.Lanes.{top}
+
+-- of n lanes, an item where the number of the lane is k, else the lane as it was
+item_at : (w : Width) (n k item : ℕ) (numbers lanes : List ℕ) (i : ℕ) → numbers ≡ range_with_len 0 n → length lanes ≡ n
+    → i < n
+    → get_or (sel_l (map (top (hbits w)) (zip2 (λ a b. cond (eqb a b) (2 ^ bits w - 1) 0) numbers (replicate n k)))
+    (replicate n item) lanes) i 0
+    ≡ (if eqb i k then item else get_or lanes i 0)
+item_at w n k item numbers lanes i counted long inside =
+    let tests : List Bool = zip2 eqb numbers (replicate n k) in
+    let many : length numbers ≡ n = ap length counted ∙ length-range_with_len 0 n in
+    let tested : length tests ≡ n =
+    length-zip2 eqb numbers (replicate n k) (many ∙ sym (length-replicate n k)) ∙ many in
+    let number : get_or numbers i 0 ≡ i =
+    ap (λ xs. get_or xs i 0) counted ∙ get_or-range_with_len 0 n i 0 inside ∙ zero-add i in
+    let test : get_or tests i false ≡ eqb i k =
+    get_or-zip2 eqb numbers (replicate n k) i 0 0 false (omega arith) (omega (arith, length-replicate n k))
+    ∙ ap₂ eqb number (get_or-replicate n i k 0 inside) in
+    ap (λ ms. get_or (sel_l ms (replicate n item) lanes) i 0) (tops_compared w eqb numbers (replicate n k))
+    ∙ get_or-sel_l tests (replicate n item) lanes i 0 (omega arith) (omega (arith, length-replicate n item))
+    (omega arith)
+    ∙ ap₂ (λ t x. cond t x (get_or lanes i 0)) test (get_or-replicate n i item 0 inside)
+
+-- the vector of n lanes that are an item where the number of the lane is k, and those of v elsewhere
+pub chosen_make_vector : (w : Width) (n v k at item r : ℕ) (numbers places lanes : List ℕ) → n * bits w ≡ 128
+    → numbers ≡ range_with_len 0 n → places ≡ replicate n k → length lanes ≡ n → k ≡ at
+    → ((i : ℕ) → i < n → get_or lanes i 0 ≡ lane w v i)
+    → ((i : ℕ) → i < n
+    → get_or (sel_l (map (top (hbits w)) (zip2 (λ a b. cond (eqb a b) (2 ^ bits w - 1) 0) numbers places))
+    (replicate n item) lanes) i 0 ≡ lane w r i)
+    → r < 2 ^ 128
+    → r ≡ with_lane w v at item
+unfolding with_lane
+chosen_make_vector w n v k at item r numbers places lanes filled counted placed long is_at is written below =
+    lanes_make_vector w n r _ filled below
+    (λ i inside.
+    sym (written i inside)
+    ∙ ap (λ ks. get_or
+    (sel_l (map (top (hbits w)) (zip2 (λ a b. cond (eqb a b) (2 ^ bits w - 1) 0) numbers ks))
+    (replicate n item) lanes) i 0) placed
+    ∙ item_at w n k item numbers lanes i counted long inside
+    ∙ ap₂ (λ j x. if eqb i j then item else x) is_at (is i inside))
+
+-- ---- a lane of 16 or 32 bits, by its bytes
+
+pub first_byte : (bytes : List ℕ) (x : ℕ) → length bytes ≡ 16 → get_or bytes 0 0 ≡ x → x < 256
+    → bit_and (number_l 256 bytes % 2 ^ 32) 255 ≡ x
+first_byte [] x long is fits = absurd (omega arith)
+first_byte (a ∷ rest) x long is fits =
+    let low : number_l 256 (a ∷ rest) % 2 ^ 32 % 2 ^ 8 ≡ x = omega (arith, is) in
+    and_mask (number_l 256 (a ∷ rest) % 2 ^ 32) 8 ∙ low
+
+pub first_two_bytes : (bytes : List ℕ) (x y : ℕ) → length bytes ≡ 16 → get_or bytes 0 0 ≡ x → get_or bytes 1 0 ≡ y
+    → x < 256 → y < 256 → number_l 256 bytes % 65536 ≡ x + 256 * y
+first_two_bytes [] x y long is_x is_y fits_x fits_y = absurd (omega arith)
+first_two_bytes (a ∷ []) x y long is_x is_y fits_x fits_y = absurd (omega arith)
+first_two_bytes (a ∷ b ∷ rest) x y long is_x is_y fits_x fits_y = omega (arith, is_x, is_y)
+
+pub first_four_bytes : (bytes : List ℕ) (x y z t : ℕ) → length bytes ≡ 16 → get_or bytes 0 0 ≡ x → get_or bytes 1 0 ≡ y
+    → get_or bytes 2 0 ≡ z → get_or bytes 3 0 ≡ t
+    → x < 256 → y < 256 → z < 256 → t < 256 → number_l 256 bytes % 2 ^ 32 ≡ (x + 256 * y) + 65536 * (z + 256 * t)
+first_four_bytes [] x y z t long is_x is_y is_z is_t fits_x fits_y fits_z fits_t = absurd (omega arith)
+first_four_bytes (a ∷ []) x y z t long is_x is_y is_z is_t fits_x fits_y fits_z fits_t = absurd (omega arith)
+first_four_bytes (a ∷ b ∷ []) x y z t long is_x is_y is_z is_t fits_x fits_y fits_z fits_t = absurd (omega arith)
+first_four_bytes (a ∷ b ∷ c ∷ []) x y z t long is_x is_y is_z is_t fits_x fits_y fits_z fits_t = absurd (omega arith)
+first_four_bytes (a ∷ b ∷ c ∷ d ∷ rest) x y z t long is_x is_y is_z is_t fits_x fits_y fits_z fits_t =
+    omega (arith, is_x, is_y, is_z, is_t)
+
+-- a lane is made of its two halves
+pub joined_halves : (b v k : ℕ)
+    → v / 2 ^ (b * (2 * k)) % 2 ^ b + 2 ^ b * (v / 2 ^ (b * (2 * k + 1)) % 2 ^ b) ≡ v / 2 ^ ((b + b) * k) % 2 ^ (b + b)
+joined_halves b v k =
+    let n = v / 2 ^ ((b + b) * k) in
+    let twice : 2 * k ≡ k + k = omega arith in
+    let first : b * (2 * k) ≡ (b + b) * k = ap (λ m. b * m) twice ∙ mul-add b k k ∙ sym (add-mul b b k) in
+    let second : b * (2 * k + 1) ≡ (b + b) * k + b = omega (arith, mul-add b (2 * k) 1, mul-one b, first) in
+    let low : v / 2 ^ (b * (2 * k)) % 2 ^ b ≡ n % 2 ^ b = ap (λ m. v / 2 ^ m % 2 ^ b) first in
+    let high : v / 2 ^ (b * (2 * k + 1)) % 2 ^ b ≡ n / 2 ^ b % 2 ^ b =
+    ap (λ m. v / 2 ^ m % 2 ^ b) second ∙ ap (λ m. m % 2 ^ b) (sym (shr-shr v ((b + b) * k) b)) in
+    omega (arith, low, ap (λ m. 2 ^ b * m) high, mul_comm (2 ^ b) (n / 2 ^ b % 2 ^ b), mod-pow-add n b b)
+
+-- the bytes of a word of 32 bits and of zeros, as indices
+abbrev indices_of : ℕ → List ℕ
+indices_of x = digits_l 256 16 (number_l (2 ^ 32) (x ∷ 0 ∷ 0 ∷ 0 ∷ []))
+
+-- where each word of a table has bytes below 16
+pub indices_inside : (f : ℕ → ℕ) (n k i : ℕ)
+    → map (λ m. map (λ j. ltb j 16) (indices_of (f m))) (range_with_len 0 n)
+    ≡ map (λ _. replicate 16 true) (range_with_len 0 n) → k < n → i < 16
+    → get_or (indices_of (f k)) i 0 < 16
+indices_inside f n k i same below inside =
+    let all : map (λ j. ltb j 16) (indices_of (f k)) ≡ replicate 16 true =
+    computed (λ m. map (λ j. ltb j 16) (indices_of (f m))) (λ _. replicate 16 true) n k [] same below in
+    let long : length (indices_of (f k)) ≡ 16 = refl in
+    ltb-true (get_or (indices_of (f k)) i 0) 16
+    (sym (get_or-map (λ j. ltb j 16) (indices_of (f k)) i 0 false (omega arith)) ∙ ap (λ l. get_or l i false) all
+    ∙ get_or-replicate 16 i true false inside)

@@ -1,0 +1,15 @@
+use Rattle.std.proofs.Common.{refl}
+use Rattle.wasmi_types.specs.Wrapping.{w16}
+use Rattle.wasmi_lanes.proofs.DigitLemmas.{read_at}
+use Rattle.wasmi_lanewise.proofs.OneLaneLemmas.{chosen_make_vector}
+use Rattle.wasmi_lanewise.proofs.simd.variable_lane.with_lane_of_16.Goals as goal
+
+pub returns : goal.returns
+returns c =
+    let old = c.bytes_of.ensures in
+    let new = c.write_from.ensures in
+    let index = c.from.ensures in
+    chosen_make_vector w16 8 c.args.vector c.from.result c.args.at c.args.item c.write_from.result
+    c.numbers_of_16.result c.in_each_lane_of_16.result _
+    refl c.numbers_of_16.ensures c.in_each_lane_of_16.ensures refl index.0
+    (λ i inside. read_at 16 8 c.args.vector c.bytes_of.result i 0 inside old.number) new.lanes new.in_range

@@ -1,5 +1,0 @@
-use Rattle.wasmi_script.proofs.AnswersLemmas.{quiet_lists}
-use Rattle.wasmi_script.proofs.laws.quiet_lists_heed.Goals as goal
-
-pub returns : goal.returns
-returns c = quiet_lists

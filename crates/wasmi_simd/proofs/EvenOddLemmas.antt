@@ -1,0 +1,171 @@
+-- Lanes of two neighbouring lanes, as std::simd takes each out of them.
+use Rattle.std.proofs.Common.{ℕ, ℤ, pos, negsuc, suc, ◌+◌, ◌-◌, ◌*◌, ◌/◌, ◌%◌, ◌^◌, ◌<◌, ◌≤◌, ◌≡◌, List, length, get_or, map, replicate, refl, sym, ◌∙◌, ap, ap₂, arith, inl, inr, Bool, true, false, ltb, leb, bit_and}
+use Rattle.std.proofs.lemmas.Bool.{cases_lt, lt-ltb, le-ltb}
+use Rattle.std.proofs.lemmas.List.{length-map}
+use Rattle.std.proofs.lemmas.Nat.{pow_pos, and_mask, mod-pow-add, shr-shr, div-mul-add, mod-mul-add}
+use Rattle.std.proofs.lemmas.Simd.{get_or-zip2, get_or-replicate, length-replicate, length-zip2}
+use Rattle.std.specs.Int.{cast_unsigned, cast_signed}
+use Rattle.std.specs.Int.Signed.{shr_z}
+use Rattle.std.specs.Simd.Lanes.{digits_l, number_l, zip2}
+use Rattle.wasmi_types.specs.Wrapping.{Width, w8, w16, w32, bits}
+use Rattle.wasmi_lanes.specs.Lane.{lane}
+use Rattle.wasmi_lanes.proofs.LaneVectorLemmas.{lane_below}
+use Rattle.wasmi_simd.proofs.HalfLemmas.{bits_at, reread}
+use Rattle.wasmi_simd.proofs.WideningLemmas.{extended_fits}
+use lib.Dec.{T}
+use mir.Val.{hbits, sel}
+
+-- ---- lanes and one number
+
+-- an operation on each lane and one number
+number_at : (op : ℕ → ℕ → ℕ) (n k i : ℕ) (xs : List ℕ) → length xs ≡ n → i < n
+    → get_or (zip2 op xs (replicate n k)) i 0 ≡ op (get_or xs i 0) k
+number_at op n k i xs long inside =
+    get_or-zip2 op xs (replicate n k) i 0 0 0 (omega arith) (omega (arith, length-replicate n k))
+    ∙ ap (op (get_or xs i 0)) (get_or-replicate n i k 0 inside)
+
+number_long : (op : ℕ → ℕ → ℕ) (n k : ℕ) (xs : List ℕ) → length xs ≡ n → length (zip2 op xs (replicate n k)) ≡ n
+number_long op n k xs long = length-zip2 op xs (replicate n k) (long ∙ sym (length-replicate n k)) ∙ long
+
+-- ---- a width that is twice another
+
+same_side : (a b c d : ℕ) → (a < b → c < d) → (b ≤ a → d ≤ c) → ltb a b ≡ ltb c d
+same_side a b c d up down =
+    elim (cases_lt a b) as (λ _. ltb a b ≡ ltb c d) [
+      | inl below ↦ lt-ltb a b below ∙ sym (lt-ltb c d (up below))
+      | inr above ↦ le-ltb a b above ∙ sym (le-ltb c d (down above))
+    ]
+
+-- a signed number, shifted to the right by half of its width, is its upper half, read signed
+shifted_is : (narrow wide : Width) (v high : ℕ) → ltb v (2 ^ hbits wide) ≡ ltb high (2 ^ hbits narrow)
+    → v / 2 ^ bits narrow ≡ high
+    → (2 ^ bits wide - suc v) / 2 ^ bits narrow ≡ 2 ^ bits narrow - suc high
+    → shr_z (cast_signed wide v) (2 ^ bits narrow) ≡ cast_signed narrow high
+shifted_is narrow wide v high sign up down =
+    ap (λ t. shr_z (sel t (pos v) (negsuc (2 ^ bits wide - suc v))) (2 ^ bits narrow)) sign
+    ∙ by_sign (ltb high (2 ^ hbits narrow))
+  where
+    by_sign : (t : Bool)
+        → shr_z (sel t (pos v) (negsuc (2 ^ bits wide - suc v))) (2 ^ bits narrow)
+        ≡ sel t (pos high) (negsuc (2 ^ bits narrow - suc high))
+    by_sign true = ap pos up
+    by_sign false = ap negsuc down
+
+-- a number of `wide` bits of two halves: shifted to the right as a signed number, and to the left
+pub record IsTwice (narrow wide : Width) : Type 0 where
+  pub twice : bits wide ≡ 2 * bits narrow
+  pub wider : T (leb (hbits narrow) (hbits wide))
+  pub upper : (high low : ℕ) → high < 2 ^ bits narrow → low < 2 ^ bits narrow
+      → shr_z (cast_signed wide (high * 2 ^ bits narrow + low)) (2 ^ bits narrow) ≡ cast_signed narrow high
+  pub lower : (high low : ℕ) → high < 2 ^ bits narrow → low < 2 ^ bits narrow
+      → (high * 2 ^ bits narrow + low) * 2 ^ bits narrow % 2 ^ bits wide ≡ low * 2 ^ bits narrow + 0
+
+pub bytes_of_u16x8 : IsTwice w8 w16
+bytes_of_u16x8 = record {
+  twice = refl;
+  wider = tt;
+  upper = λ high low fits_high fits_low.
+      shifted_is w8 w16 (high * 2 ^ 8 + low) high
+      (same_side (high * 2 ^ 8 + low) (2 ^ 15) high (2 ^ 7) (λ h. omega arith) (λ h. omega arith)) (omega arith)
+      (omega arith);
+  lower = λ high low fits_high fits_low. omega arith;
+}
+
+pub u16x8_of_u32x4 : IsTwice w16 w32
+u16x8_of_u32x4 = record {
+  twice = refl;
+  wider = tt;
+  upper = λ high low fits_high fits_low.
+      shifted_is w16 w32 (high * 2 ^ 16 + low) high
+      (same_side (high * 2 ^ 16 + low) (2 ^ 31) high (2 ^ 15) (λ h. omega arith) (λ h. omega arith)) (omega arith)
+      (omega arith);
+  lower = λ high low fits_high fits_low. omega arith;
+}
+
+-- ---- neighbouring lanes of a vector
+
+module _ (narrow wide : Width) (is_twice : IsTwice narrow wide) (n v : ℕ) (filled : n * bits wide ≡ 128) where
+  abbrev even : ℕ → ℕ
+  even i = lane narrow v (2 * i)
+
+  abbrev odd : ℕ → ℕ
+  odd i = lane narrow v (2 * i + 1)
+
+  -- a lane of twice the width is two neighbouring lanes
+  pub pair_is : (i : ℕ) → lane wide v i ≡ odd i * 2 ^ bits narrow + even i
+  pair_is i =
+      let b = bits narrow in
+      let from : bits wide * i ≡ b * (2 * i) = ap (λ k. k * i) is_twice.twice ∙ grind arith in
+      let next : b * (2 * i) + b ≡ b * (2 * i + 1) = grind arith in
+      let whole : bits wide ≡ b + b = omega (arith, is_twice.twice) in
+      ap₂ (λ k m. v / 2 ^ k % 2 ^ m) from whole
+      ∙ mod-pow-add (v / 2 ^ (b * (2 * i))) b b
+      ∙ ap (λ m. m % 2 ^ b * 2 ^ b + even i) (shr-shr v (b * (2 * i)) b ∙ ap (λ k. v / 2 ^ k) next)
+
+  module _ (xs : List ℕ) (long : length xs ≡ n) (is : (i : ℕ) → i < n → get_or xs i 0 ≡ lane wide v i) where
+    pub even_at : (i : ℕ) → i < n → get_or (zip2 bit_and xs (replicate n (2 ^ bits narrow - 1))) i 0 ≡ even i
+    even_at i inside =
+        number_at bit_and n (2 ^ bits narrow - 1) i xs long inside
+        ∙ and_mask (get_or xs i 0) (bits narrow)
+        ∙ ap (λ m. m % 2 ^ bits narrow) (is i inside ∙ pair_is i)
+        ∙ mod-mul-add (odd i) (2 ^ bits narrow) (even i) (lane_below narrow v (2 * i))
+
+    pub odd_at : (i : ℕ) → i < n → get_or (zip2 (λ a b. a / 2 ^ b) xs (replicate n (bits narrow))) i 0 ≡ odd i
+    odd_at i inside =
+        number_at (λ a b. a / 2 ^ b) n (bits narrow) i xs long inside
+        ∙ ap (λ m. m / 2 ^ bits narrow) (is i inside ∙ pair_is i)
+        ∙ div-mul-add (odd i) (2 ^ bits narrow) (even i) (lane_below narrow v (2 * i))
+
+  module _ (xs : List ℤ) (long : length xs ≡ n)
+      (is : (i : ℕ) → i < n → get_or xs i (pos 0) ≡ cast_signed wide (lane wide v i)) where
+    abbrev words : List ℕ
+    words = map (cast_unsigned wide) xs
+
+    abbrev shifted_right : ℕ → ℕ → ℕ
+    shifted_right a b = cast_unsigned wide (shr_z (cast_signed wide a) (2 ^ b))
+
+    abbrev shifted_left : ℕ → ℕ → ℕ
+    shifted_left a b = a * 2 ^ b % 2 ^ bits wide
+
+    words_long : length words ≡ n
+    words_long = length-map xs (cast_unsigned wide) ∙ long
+
+    word_is : (i : ℕ) → i < n → get_or words i 0 ≡ odd i * 2 ^ bits narrow + even i
+    word_is i inside = bits_at wide n i (lane wide v i) xs long inside (is i inside) (lane_below wide v i) ∙ pair_is i
+
+    pub odd_signed_at : (i : ℕ) → i < n
+        → get_or (digits_l (2 ^ bits wide) n
+        (number_l 256
+        (digits_l 256 16 (number_l (2 ^ bits wide) (zip2 shifted_right words (replicate n (bits narrow))))))) i 0
+        ≡ cast_unsigned wide (cast_signed narrow (odd i))
+    odd_signed_at i inside =
+        reread wide n (zip2 shifted_right words (replicate n (bits narrow))) (λ k. cast_signed narrow (odd k)) i filled
+        (number_long shifted_right n (bits narrow) words words_long)
+        (λ k below.
+        number_at shifted_right n (bits narrow) k words words_long below
+        ∙ ap (λ m. shifted_right m (bits narrow)) (word_is k below)
+        ∙ ap (cast_unsigned wide)
+        (is_twice.upper (odd k) (even k) (lane_below narrow v (2 * k + 1)) (lane_below narrow v (2 * k))))
+        (λ k. extended_fits narrow wide v (2 * k + 1) is_twice.wider) inside
+
+    pub even_signed_at : (i : ℕ) → i < n
+        → get_or (digits_l (2 ^ bits wide) n
+        (number_l 256
+        (digits_l 256 16
+        (number_l (2 ^ bits wide)
+        (zip2 shifted_right (zip2 shifted_left words (replicate n (bits narrow))) (replicate n (bits narrow))))))) i
+        0
+        ≡ cast_unsigned wide (cast_signed narrow (even i))
+    even_signed_at i inside =
+        let lefts = zip2 shifted_left words (replicate n (bits narrow)) in
+        let lefts_long = number_long shifted_left n (bits narrow) words words_long in
+        reread wide n (zip2 shifted_right lefts (replicate n (bits narrow))) (λ k. cast_signed narrow (even k)) i filled
+        (number_long shifted_right n (bits narrow) lefts lefts_long)
+        (λ k below.
+        number_at shifted_right n (bits narrow) k lefts lefts_long below
+        ∙ ap (λ m. shifted_right m (bits narrow))
+        (number_at shifted_left n (bits narrow) k words words_long below
+        ∙ ap (λ m. shifted_left m (bits narrow)) (word_is k below)
+        ∙ is_twice.lower (odd k) (even k) (lane_below narrow v (2 * k + 1)) (lane_below narrow v (2 * k)))
+        ∙ ap (cast_unsigned wide) (is_twice.upper (even k) 0 (lane_below narrow v (2 * k)) (pow_pos (bits narrow))))
+        (λ k. extended_fits narrow wide v (2 * k) is_twice.wider) inside

@@ -1,0 +1,144 @@
+-- The lanes of half a vector, as std::simd takes, extends and multiplies them.
+use Rattle.std.proofs.Common.{ℕ, suc, ℤ, pos, negsuc, ◌*ℤ◌, Bool, true, false, ltb, bit_xor, replicate, ◌+◌, ◌-◌, ◌*◌, ◌%◌, ◌^◌, ◌<◌, ◌≤◌, ◌≡◌, ◌⊎◌, inl, inr, List, ◌++◌, length, get_or, map, leb, refl, sym, subst, ◌∙◌, ap, ap₂, arith, FitsSigned}
+use Rattle.std.proofs.Math.Nat.{mod-eq_of_lt, mul-le-mul}
+use Rattle.std.proofs.lemmas.Simd.{pick_l_left, pick_l-range_with_len, get_or-chunk, length-zip2, get_or-zip2, get_or-replicate}
+use Rattle.std.specs.List.{range_with_len}
+use Rattle.std.proofs.lemmas.Bool.{cases_lt, ltb-true, ltb-false}
+use Rattle.std.proofs.lemmas.Int.{of_z-to_z}
+use Rattle.std.proofs.lemmas.List.{get_or-map, get_or_past, length-map}
+use Rattle.std.proofs.lemmas.List.FromFn.{length-range_with_len}
+use Rattle.std.proofs.lemmas.Nat.{pow_pos}
+use Rattle.std.specs.Int.{cast_unsigned, cast_signed}
+use Rattle.std.specs.Simd.Lanes.{digits_l, number_l, zip2}
+use Rattle.wasmi_types.specs.Wrapping.{Width, w8, w16, bits, signed, wrap}
+use Rattle.wasmi_lanes.specs.Lane.{lane}
+use Rattle.wasmi_lanes.proofs.DigitLemmas.{digit_at, written_at}
+use Rattle.wasmi_lanes.proofs.TopLemmas.{xor_top}
+use Rattle.wasmi_lanes.proofs.LaneVectorLemmas.{lane_below, lanes_make_vector}
+use Rattle.wasmi_simd.specs.Widening.{half_unary, half_binary}
+use Rattle.wasmi_simd.proofs.WideningLemmas.{extended_fits, wrapped_is, product_of_bits}
+use lib.Dec.{T}
+use lib.Lanes.{pick_l, all_below}
+use mir.Val.{hbits, sel}
+use mir.ValLaws.{of_z_fits}
+
+-- neighbouring items, picked from a list and a copy of it
+pub extracted_at : (xs : List ℕ) (n first count i : ℕ) → length xs ≡ n → T (all_below n (range_with_len first count))
+    → first + count ≤ n → i < count
+    → get_or (pick_l 0 (xs ++ xs) (range_with_len first count)) i 0 ≡ get_or xs (first + i) 0
+extracted_at xs n first count i long inside room below =
+    ap (λ l. get_or l i 0)
+    (pick_l_left 0 xs xs n (range_with_len first count) long inside
+    ∙ pick_l-range_with_len 0 xs first count (omega arith))
+    ∙ get_or-chunk first count xs i 0 below
+
+-- the product of x and y modulo m, where they are at most p
+pub product_at : (x y x' y' p m : ℕ) → x ≡ x' → y ≡ y' → x' ≤ p → y' ≤ p → p * p < m → x * y % m ≡ x' * y'
+product_at x y x' y' p m is_x is_y small_x small_y room =
+    let bound : x' * y' ≤ p * p = mul-le-mul small_x small_y in
+    ap₂ (λ a b. a * b % m) is_x is_y ∙ mod-eq_of_lt (omega arith)
+
+-- the bits of a lane that was read signed
+pub bits_at : (w : Width) (n i word : ℕ) (xs : List ℤ) → length xs ≡ n → i < n
+    → get_or xs i (pos 0) ≡ cast_signed w word → word < 2 ^ bits w → get_or (map (cast_unsigned w) xs) i 0 ≡ word
+bits_at w n i word xs long inside is fits =
+    get_or-map (cast_unsigned w) xs i (pos 0) 0 (omega arith) ∙ ap (cast_unsigned w) is ∙ of_z-to_z w word fits
+
+-- lanes that are the bits of signed numbers, read from the bytes to which they were written
+pub reread : (w : Width) (n : ℕ) (xs : List ℕ) (f : ℕ → ℤ) (i : ℕ) → n * bits w ≡ 128 → length xs ≡ n
+    → ((k : ℕ) → k < n → get_or xs k 0 ≡ cast_unsigned w (f k))
+    → ((k : ℕ) → FitsSigned w (f k))
+    → i < n
+    → get_or (digits_l (2 ^ bits w) n (number_l 256 (digits_l 256 16 (number_l (2 ^ bits w) xs)))) i 0
+    ≡ cast_unsigned w (f i)
+reread w n xs f i filled long is fits below =
+    let r = number_l 256 (digits_l 256 16 (number_l (2 ^ bits w) xs)) in
+    digit_at (bits w) n r i 0 below ∙ sym (written_at w n xs r i filled long (λ k. small k (cases_lt k n)) below refl)
+    ∙ is i below
+  where
+    small : (k : ℕ) → (k < n) ⊎ (n ≤ k) → get_or xs k 0 < 2 ^ bits w
+    small k (inl inside) = subst (λ m. m < 2 ^ bits w) (sym (is k inside)) (of_z_fits w (f k) (fits k)).fits
+    small k (inr past) = subst (λ m. m < 2 ^ bits w) (sym (get_or_past xs k 0 (omega arith))) (pow_pos (bits w))
+
+-- neighbouring signed lanes, extended
+pub extended_at : (narrow wide : Width) (n first count v : ℕ) (xs : List ℤ) (i : ℕ) → length xs ≡ n
+    → count * bits wide ≡ 128
+    → T (all_below n (range_with_len first count))
+    → first + count ≤ n
+    → T (leb (hbits narrow) (hbits wide))
+    → ((k : ℕ) → k < n → get_or xs k (pos 0) ≡ cast_signed narrow (lane narrow v k))
+    → i < count
+    → get_or (digits_l (2 ^ bits wide) count
+    (number_l 256
+    (digits_l 256 16
+    (number_l (2 ^ bits wide)
+    (map (λ m. cast_unsigned wide (cast_signed narrow m))
+    (pick_l 0 (map (cast_unsigned narrow) xs ++ map (cast_unsigned narrow) xs) (range_with_len first count))))))) i
+    0
+    ≡ cast_unsigned wide (cast_signed narrow (lane narrow v (first + i)))
+extended_at narrow wide n first count v xs i long filled inside room wider is below =
+    let extend = λ (m : ℕ). cast_unsigned wide (cast_signed narrow m) in
+    let words = map (cast_unsigned narrow) xs in
+    let words_long : length words ≡ n = length-map xs (cast_unsigned narrow) ∙ long in
+    let picked = pick_l 0 (words ++ words) (range_with_len first count) in
+    let picked_long : length picked ≡ count =
+    length-map (range_with_len first count) (λ k. get_or (words ++ words) k 0)
+    ∙ length-range_with_len first count in
+    reread wide count (map extend picked) (λ k. cast_signed narrow (lane narrow v (first + k))) i filled
+    (length-map picked extend ∙ picked_long)
+    (λ k fits.
+    get_or-map extend picked k 0 0 (omega arith)
+    ∙ ap extend (extracted_at words n first count k words_long inside room fits
+    ∙ bits_at narrow n (first + k) (lane narrow v (first + k)) xs long (omega arith) (is (first + k) (omega arith))
+    (lane_below narrow v (first + k))))
+    (λ k. extended_fits narrow wide v (first + k) wider) below
+
+-- a vector whose lanes are the bits of narrow lanes that were read signed, or of their products, is its row
+module _ (narrow wide : Width) (n first r : ℕ) (at : ℕ → ℕ) (filled : n * bits wide ≡ 128)
+    (wider : T (leb (hbits narrow) (hbits wide))) (below : r < 2 ^ 128) (place : (i : ℕ) → at i ≡ first + i) where
+  pub extended_make_vector : (v : ℕ)
+      → ((i : ℕ) → i < n → lane wide r i ≡ cast_unsigned wide (signed narrow (lane narrow v (at i))))
+      → r ≡ half_unary narrow wide first (signed narrow) (wrap wide) v
+  unfolding half_unary
+  extended_make_vector v is =
+      lanes_make_vector wide n r _ filled below
+      (λ i inside.
+      is i inside ∙ sym
+      (wrapped_is wide (signed narrow (lane narrow v (at i))) (extended_fits narrow wide v (at i) wider))
+      ∙ ap (λ k. wrap wide (signed narrow (lane narrow v k))) (place i))
+
+  pub products_make_vector : (a b : ℕ) (x y : ℕ → ℕ)
+      → ((i : ℕ) → i < n → lane wide r i ≡ x i * y i % 2 ^ bits wide)
+      → ((i : ℕ) → i < n → x i ≡ cast_unsigned wide (signed narrow (lane narrow a (at i))))
+      → ((i : ℕ) → i < n → y i ≡ cast_unsigned wide (signed narrow (lane narrow b (at i))))
+      → r ≡ half_binary narrow wide first (signed narrow) (λ p q. wrap wide (p *ℤ q)) a b
+  unfolding half_binary
+  products_make_vector a b x y is is_x is_y =
+      lanes_make_vector wide n r _ filled below
+      (λ i inside.
+      is i inside ∙ ap₂ (λ p q. p * q % 2 ^ bits wide) (is_x i inside) (is_y i inside)
+      ∙ product_of_bits wide (signed narrow (lane narrow a (at i))) (signed narrow (lane narrow b (at i)))
+      (extended_fits narrow wide a (at i) wider) (extended_fits narrow wide b (at i) wider)
+      ∙ ap (λ k. wrap wide (signed narrow (lane narrow a k) *ℤ signed narrow (lane narrow b k))) (place i))
+
+-- a number of 8 bits with its highest bit flipped and taken off again, at 16 bits
+flipped_is : (x : ℕ) → x < 256 → (bit_xor x 128 + (65536 - 128)) % 65536 ≡ cast_unsigned w16 (signed w8 x)
+flipped_is x fits = ap (λ k. (k + 65408) % 65536) (xor_top 7 x 1 fits (omega arith)) ∙ read (ltb x 128) refl
+  where
+    read : (low : Bool) → ltb x 128 ≡ low
+        → ((x + 128) % 256 + 65408) % 65536 ≡ cast_unsigned w16 (sel low (pos x) (negsuc (256 - suc x)))
+    read true is = let under = ltb-true x 128 is in omega arith
+    read false is = let over = ltb-false x 128 is in omega arith
+
+pub sign_copied_at : (xs : List ℕ) (i x : ℕ) → length xs ≡ 8 → i < 8 → get_or xs i 0 ≡ x → x < 256
+    → get_or (zip2 (λ a b. (a + (65536 - b)) % 65536) (zip2 bit_xor xs (replicate 8 128)) (replicate 8 128)) i 0
+    ≡ cast_unsigned w16 (signed w8 x)
+sign_copied_at xs i x long inside is fits =
+    let flips : List ℕ = zip2 bit_xor xs (replicate 8 128) in
+    let many : length flips ≡ 8 = length-zip2 bit_xor xs (replicate 8 128) long ∙ long in
+    get_or-zip2 (λ a b. (a + (65536 - b)) % 65536) flips (replicate 8 128) i 0 0 0 (omega arith) inside
+    ∙ ap₂ (λ a b. (a + (65536 - b)) % 65536)
+    (get_or-zip2 bit_xor xs (replicate 8 128) i 0 0 0 (omega arith) inside
+    ∙ ap₂ bit_xor is (get_or-replicate 8 i 128 0 inside))
+    (get_or-replicate 8 i 128 0 inside)
+    ∙ flipped_is x fits

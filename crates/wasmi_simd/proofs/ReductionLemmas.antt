@@ -1,0 +1,313 @@
+-- Tests of the lanes of a vector, made of the tests of its two words.
+use Rattle.std.proofs.Common.{◌≡◌, ℕ, zero, suc, ◌+◌, ◌-◌, ◌*◌, ◌/◌, ◌%◌, ◌^◌, ◌<◌, ◌≤◌, refl, inl, inr, sym, ap, ap₂, subst, ◌∙◌, arith, Bool, true, false, not, eqb, nat_eq, ◌&&◌, if◌then◌else◌, bit_and, bit_or, true≢false, zero-mul, suc-mul, mul-suc, mul-zero, mul_comm, mul-add, mul_assoc, one-mul, add-mul, le_refl, lit<, mod-eq_of_lt, pow-suc, suc-add, zero-add}
+use Rattle.std.proofs.Math.Nat.{div-eq_of_lt, mod-one, add-mod_right}
+use Rattle.std.proofs.Math.Dec.{eqb-suc-zero}
+use Rattle.std.proofs.lemmas.Nat.{div-mul-add, mod-pow-add, pow_pos, pow-add, mul-le, and_le_l, and_le_r, or_shifted, or_comm}
+use Rattle.std.proofs.lemmas.Nat.Bits.{and_pow}
+use Rattle.std.specs.Int.Bits.{and_self}
+use Rattle.std.proofs.lemmas.Bool.{eqb-true, eq-eqb, cases_eq, cases_lt}
+use Rattle.std.proofs.Math.Pow.{pow_mono}
+use Rattle.wasmi_types.specs.Wrapping.{Width, bits}
+use Rattle.wasmi_lanes.specs.Lane.{lane, unsigned}
+use Rattle.wasmi_lanes.specs.Words.{field, lanes_in_word, in_each_lane}
+use Rattle.wasmi_lanes.proofs.FieldLemmas.{field_lt, field_and, field_not, field_wrapping_sub, field_of_zero, same_words}
+use Rattle.wasmi_lanes.proofs.LaneVectorLemmas.{lanes_of_width}
+use Rattle.wasmi_lanes.proofs.WordVectorLemmas.{AreWords, low_lane, high_lane, filled, some_bits, lane_of_each, top_in_range}
+use Rattle.wasmi_simd.specs.Widening.{holds_below, first_bits, every_lane, lane_bits}
+
+-- ---- tests that hold of all numbers below n
+
+both_true : (a b : Bool) → a ≡ true → b ≡ true → (a && b) ≡ true
+both_true a b is_a is_b = ap₂ (λ x y. x && y) is_a is_b
+
+first_true : (a b : Bool) → (a && b) ≡ true → a ≡ true
+first_true true b is = refl
+first_true false b is = is
+
+second_true : (a b : Bool) → (a && b) ≡ true → b ≡ true
+second_true true b is = is
+second_true false true is = refl
+second_true false false is = is
+
+pub holds_of_each : (n : ℕ) (test : ℕ → Bool) → ((i : ℕ) → i < n → test i ≡ true) → holds_below n test ≡ true
+unfolding holds_below
+holds_of_each zero test each = refl
+holds_of_each (suc n) test each =
+    both_true (holds_below n test) (test n) (holds_of_each n test (λ i inside. each i (omega arith)))
+    (each n (omega arith))
+
+pub each_holds : (n : ℕ) (test : ℕ → Bool) → holds_below n test ≡ true → (i : ℕ) → i < n → test i ≡ true
+unfolding holds_below
+each_holds zero test all i inside = absurd (omega arith)
+each_holds (suc n) test all i inside = elim (cases_eq i n) [
+  | inl last ↦ ap test last ∙ second_true (holds_below n test) (test n) all
+  | inr other ↦ each_holds n test (first_true (holds_below n test) (test n) all) i (omega arith)
+]
+
+holds_as : (n : ℕ) (f g : ℕ → Bool) → ((i : ℕ) → i < n → f i ≡ g i) → holds_below n f ≡ holds_below n g
+unfolding holds_below
+holds_as zero f g each = refl
+holds_as (suc n) f g each =
+    ap₂ (λ a b. a && b) (holds_as n f g (λ i inside. each i (omega arith))) (each n (omega arith))
+
+-- the first n numbers, and then m more
+holds_joined : (n m : ℕ) (test : ℕ → Bool)
+    → holds_below (n + m) test ≡ (holds_below n test && holds_below m (λ i. test (n + i)))
+unfolding holds_below
+holds_joined n zero test =
+    ap (λ k. holds_below k test) (let e : n + 0 ≡ n = omega arith in e) ∙ sym (and_true (holds_below n test))
+  where
+    and_true : (a : Bool) → (a && true) ≡ a
+    and_true true = refl
+    and_true false = refl
+holds_joined n (suc m) test =
+    let more : n + suc m ≡ suc (n + m) = omega arith in
+    ap (λ k. holds_below k test) more ∙ ap (λ b. b && test (n + m)) (holds_joined n m test)
+    ∙ and_assoc (holds_below n test) (holds_below m (λ i. test (n + i))) (test (n + m))
+  where
+    and_assoc : (a b c : Bool) → ((a && b) && c) ≡ (a && (b && c))
+    and_assoc true b c = refl
+    and_assoc false b c = refl
+
+bits_as : (n : ℕ) (f g : ℕ → Bool) → ((i : ℕ) → i < n → f i ≡ g i) → first_bits n f ≡ first_bits n g
+unfolding first_bits
+bits_as zero f g each = refl
+bits_as (suc n) f g each =
+    ap₂ (λ b m. (if b then 1 else 0) + 2 * m) (each 0 (omega arith))
+    (bits_as n (λ i. f (suc i)) (λ i. g (suc i)) (λ i inside. each (suc i) (omega arith)))
+
+pub bits_below : (n : ℕ) (f : ℕ → Bool) → first_bits n f < 2 ^ n
+unfolding first_bits
+bits_below zero f = lit< tt
+bits_below (suc n) f =
+    let rest : first_bits n (λ i. f (suc i)) < 2 ^ n = bits_below n (λ i. f (suc i)) in
+    let power : 2 ^ suc n ≡ 2 ^ n * 2 = pow-suc 2 n in
+    let bit : (if f 0 then 1 else 0) ≤ 1 = bit_at_most (f 0) in
+    omega (arith, rest, power, bit)
+  where
+    bit_at_most : (b : Bool) → (if b then 1 else 0) ≤ 1
+    bit_at_most true = omega arith
+    bit_at_most false = omega arith
+
+bits_joined : (n m : ℕ) (f : ℕ → Bool) → first_bits (n + m) f ≡ first_bits n f + 2 ^ n * first_bits m (λ i. f (n + i))
+unfolding first_bits
+bits_joined zero m f =
+    ap (λ k. first_bits k f) (zero-add m) ∙ bits_as m f (λ i. f (0 + i)) (λ i inside. ap f (sym (zero-add i)))
+    ∙ omega (arith, one-mul (first_bits m (λ i. f (0 + i))))
+bits_joined (suc n) m f =
+    let rest : ℕ = first_bits m (λ i. f (suc n + i)) in
+    let later : first_bits m (λ i. f (suc (n + i))) ≡ rest =
+    bits_as m (λ i. f (suc (n + i))) (λ i. f (suc n + i)) (λ i inside. ap f (sym (suc-add n i))) in
+    ap (λ k. first_bits k f) (suc-add n m)
+    ∙ ap (λ k. (if f 0 then 1 else 0) + 2 * k)
+    (bits_joined n m (λ i. f (suc i)) ∙ ap (λ k. first_bits n (λ i. f (suc i)) + 2 ^ n * k) later)
+    ∙ omega (
+      arith,
+      mul-add 2 (first_bits n (λ i. f (suc i))) (2 ^ n * rest),
+      mul_assoc 2 (2 ^ n) rest,
+      ap (λ k. k * rest) (pow-suc 2 n),
+      ap (λ k. k * rest) (mul_comm 2 (2 ^ n)),
+    )
+
+same_truth : (a b : Bool) → (a ≡ true → b ≡ true) → (b ≡ true → a ≡ true) → a ≡ b
+same_truth true b to from = sym (to refl)
+same_truth false true to from = from refl
+same_truth false false to from = refl
+
+-- a number below 2 ^ h has no bit h
+low_top : (h y : ℕ) → y < 2 ^ h → bit_and y (2 ^ h) ≡ 0
+low_top h y less = and_pow y h ∙ ap (λ n. n % 2 * 2 ^ h) (div-eq_of_lt less) ∙ zero-mul (2 ^ h)
+
+-- the highest bit of x - 1 that x doesn't have: there is one where x is 0, and 1 is borrowed
+top_of_borrow : (h x : ℕ) → x < 2 ^ suc h
+    → bit_and (bit_and ((x + (2 ^ suc h - 1)) % 2 ^ suc h) (2 ^ suc h - 1 - x)) (2 ^ h)
+    ≡ (if nat_eq x 0 then 2 ^ h else 0)
+top_of_borrow h zero fits =
+    let m : ℕ = 2 ^ suc h in
+    let ones : ℕ = m - 1 in
+    let some : 0 < 2 ^ h = pow_pos h in
+    let twice : m ≡ 2 ^ h * 2 = pow-suc 2 h in
+    let same : (0 + ones) % m ≡ ones = ap (λ n. n % m) (zero-add ones) ∙ mod-eq_of_lt (omega arith) in
+    let parts : ones ≡ 1 * 2 ^ h + (2 ^ h - 1) = omega arith in
+    let top : ones / 2 ^ h ≡ 1 = ap (λ n. n / 2 ^ h) parts ∙ div-mul-add 1 (2 ^ h) (2 ^ h - 1) (omega arith) in
+    let all : ones - 0 ≡ ones = omega arith in
+    ap₂ (λ m n. bit_and (bit_and m n) (2 ^ h)) same all ∙ ap (λ n. bit_and n (2 ^ h)) (and_self ones) ∙ and_pow ones h
+    ∙ ap (λ n. n % 2 * 2 ^ h) top ∙ one-mul (2 ^ h)
+top_of_borrow h (suc x) fits =
+    let m : ℕ = 2 ^ suc h in
+    let rest : ℕ = m - 1 - suc x in
+    let twice : m ≡ 2 ^ h * 2 = pow-suc 2 h in
+    let moved : suc x + (m - 1) ≡ x + m = omega arith in
+    let less : (suc x + (m - 1)) % m ≡ x = ap (λ n. n % m) moved ∙ add-mod_right x m ∙ mod-eq_of_lt (omega arith) in
+    let clear : bit_and (bit_and x rest) (2 ^ h) ≡ 0 =
+    elim (cases_lt x (2 ^ h)) as (λ _. bit_and (bit_and x rest) (2 ^ h) ≡ 0) [
+      | inl below ↦ low_top h (bit_and x rest) (omega (arith, and_le_l x rest))
+      | inr above ↦ low_top h (bit_and x rest) (omega (arith, and_le_r x rest))
+    ] in
+    ap (λ n. bit_and (bit_and n rest) (2 ^ h)) less ∙ clear ∙ sym (ap (λ t. if t then 2 ^ h else 0) (eqb-suc-zero x))
+
+-- a mark stands in the lowest lane that is 0, and none where no lane is 0: nothing is borrowed from a lane below which
+-- there is no 0
+module _ (h n v ones tops : ℕ) (whole : n * suc h ≡ 64) (fits : v < 2 ^ 64) (fits_ones : ones < 2 ^ 64)
+    (each_one : (i : ℕ) → i < n → field (suc h * i) (suc h) ones ≡ 1)
+    (each_top : (i : ℕ) → i < n → field (suc h * i) (suc h) tops ≡ 2 ^ h) where
+  abbrev is_some : ℕ → Bool
+  is_some i = not (nat_eq (field (suc h * i) (suc h) v) 0)
+
+  abbrev marks : ℕ
+  marks = bit_and (bit_and ((v + (2 ^ 64 - ones)) % 2 ^ 64) (2 ^ 64 - 1 - v)) tops
+
+  lane_inside : (i : ℕ) → i < n → suc h * i + suc h ≤ 64
+  lane_inside i inside =
+      omega (
+        arith,
+        whole,
+        mul-le (suc i) (suc h) n (suc h) (omega arith) (le_refl (suc h)),
+        suc-mul i (suc h),
+        mul_comm i (suc h),
+      )
+
+  some_there : (t : ℕ) → not (nat_eq t 0) ≡ true → 1 ≤ t
+  some_there zero is = absurd (true≢false (sym is))
+  some_there (suc t) is = omega arith
+
+  enough_below : (i : ℕ) → i < n → ((j : ℕ) → j < i → is_some j ≡ true) → ones % 2 ^ (suc h * i) ≤ v % 2 ^ (suc h * i)
+  unfolding field
+  enough_below zero inside some =
+      let none : suc h * 0 ≡ 0 = mul-zero (suc h) in
+      subst (λ k. ones % 2 ^ k ≤ v % 2 ^ k) (sym none) (omega (arith, mod-one ones))
+  enough_below (suc i) inside some =
+      let b : ℕ = suc h * i in
+      let p : ℕ = 2 ^ b in
+      let x : ℕ = v / p % 2 ^ suc h in
+      let next : suc h * suc i ≡ suc h + b = omega (arith, mul-suc (suc h) i) in
+      let low : ones % p ≤ v % p = enough_below i (omega arith) (λ j below. some j (omega arith)) in
+      let here : 1 ≤ x = some_there x (some i (omega arith)) in
+      let rows : 1 * p ≤ x * p = mul-le 1 p x p here (le_refl p) in
+      let one : ones / p % 2 ^ suc h ≡ 1 = each_one i (omega arith) in
+      let left : ones % 2 ^ (suc h + b) ≡ 1 * p + ones % p =
+      mod-pow-add ones (suc h) b ∙ ap (λ k. k * p + ones % p) one in
+      subst (λ k. ones % 2 ^ k ≤ v % 2 ^ k) (sym next) (omega (arith, left, mod-pow-add v (suc h) b))
+
+  mark_is : (i : ℕ) → i < n → ((j : ℕ) → j < i → is_some j ≡ true)
+      → field (suc h * i) (suc h) marks ≡ (if nat_eq (field (suc h * i) (suc h) v) 0 then 2 ^ h else 0)
+  mark_is i inside some =
+      let k : ℕ = suc h * i in
+      let w : ℕ = suc h in
+      let less : ℕ = (v + (2 ^ 64 - ones)) % 2 ^ 64 in
+      let rest : ℕ = 2 ^ 64 - 1 - v in
+      let borrowed : field k w less ≡ (field k w v + (2 ^ w - 1)) % 2 ^ w =
+      field_wrapping_sub k w 64 v ones (lane_inside i inside) fits_ones (enough_below i inside some)
+      ∙ ap (λ m. (field k w v + (2 ^ w - m)) % 2 ^ w) (each_one i inside) in
+      field_and k w (bit_and less rest) tops
+      ∙ ap₂ bit_and (field_and k w less rest ∙ ap₂ bit_and borrowed (field_not k w 64 v (lane_inside i inside) fits))
+      (each_top i inside)
+      ∙ top_of_borrow h (field k w v) (field_lt k w v)
+
+  no_mark : (t : ℕ) → (if nat_eq t 0 then 2 ^ h else 0) ≡ 0 → not (nat_eq t 0) ≡ true
+  no_mark zero is = absurd (omega (arith, pow_pos h))
+  no_mark (suc t) is = ap not (eqb-suc-zero t)
+
+  some_below : marks ≡ 0 → (i : ℕ) → i ≤ n → (j : ℕ) → j < i → is_some j ≡ true
+  some_below none zero le j below = absurd (omega arith)
+  some_below none (suc i) le j below = elim (cases_eq j i) [
+    | inl last ↦
+        let clear : field (suc h * i) (suc h) marks ≡ 0 =
+        ap (field (suc h * i) (suc h)) none ∙ field_of_zero (suc h * i) (suc h) in
+        ap is_some last
+        ∙ no_mark (field (suc h * i) (suc h) v)
+        (sym (mark_is i (omega arith) (some_below none i (omega arith))) ∙ clear)
+    | inr other ↦ some_below none i (omega arith) j (omega arith)
+  ]
+
+  no_zero_marked : (t : ℕ) → not (nat_eq t 0) ≡ true → (if nat_eq t 0 then 2 ^ h else 0) ≡ 0
+  no_zero_marked zero is = absurd (true≢false (sym is))
+  no_zero_marked (suc t) is = ap (λ b. if b then 2 ^ h else 0) (eqb-suc-zero t)
+
+  pub no_mark_is : tops < 2 ^ 64 → eqb marks 0 ≡ holds_below n is_some
+  no_mark_is fits_tops =
+      let all_bits : 64 ≡ n * suc h = sym whole in
+      let below : marks < 2 ^ 64 =
+      omega (arith, and_le_r (bit_and ((v + (2 ^ 64 - ones)) % 2 ^ 64) (2 ^ 64 - 1 - v)) tops) in
+      same_truth (eqb marks 0) (holds_below n is_some)
+      (λ e. holds_of_each n is_some (λ i inside. some_below (eqb-true marks 0 e) n (le_refl n) i inside))
+      (λ all. eq-eqb marks 0
+      (same_words (suc h) n marks 0 (subst (λ k. marks < 2 ^ k) all_bits below) (pow_pos (n * suc h))
+      (λ i inside.
+      mark_is i inside (λ j less. each_holds n is_some all j (omega arith))
+      ∙ no_zero_marked (field (suc h * i) (suc h) v) (each_holds n is_some all i inside)
+      ∙ sym (field_of_zero (suc h * i) (suc h)))))
+
+no_mark_at : (b n v ones tops : ℕ) → 0 < b → n * b ≡ 64 → v < 2 ^ 64 → ones < 2 ^ 64 → tops < 2 ^ 64
+    → ((i : ℕ) → i < n → field (b * i) b ones ≡ 1) → ((i : ℕ) → i < n → field (b * i) b tops ≡ 2 ^ (b - 1))
+    → eqb (bit_and (bit_and ((v + (2 ^ 64 - ones)) % 2 ^ 64) (2 ^ 64 - 1 - v)) tops) 0
+    ≡ holds_below n (λ i. not (nat_eq (field (b * i) b v) 0))
+no_mark_at zero n v ones tops pos whole fits fits_ones fits_tops each_one each_top = absurd (omega arith)
+no_mark_at (suc h) n v ones tops pos whole fits fits_ones fits_tops each_one each_top =
+    let back : suc h - 1 ≡ h = omega arith in
+    no_mark_is h n v ones tops whole fits fits_ones each_one
+    (λ i inside. each_top i inside ∙ ap (λ k. 2 ^ k) back) fits_tops
+
+-- no lane of w bits of v is 0
+pub no_mark_in_word : (w : Width) (v ones tops : ℕ) → lanes_in_word w * bits w ≡ 64 → v < 2 ^ 64 → ones < 2 ^ 64
+    → tops < 2 ^ 64
+    → ones ≡ in_each_lane w 1 → tops ≡ in_each_lane w (2 ^ (bits w - 1))
+    → eqb (bit_and (bit_and ((v + (2 ^ 64 - ones)) % 2 ^ 64) (2 ^ 64 - 1 - v)) tops) 0
+    ≡ holds_below (lanes_in_word w) (λ i. not (nat_eq (field (bits w * i) (bits w) v) 0))
+no_mark_in_word w v ones tops whole fits fits_ones fits_tops is_ones is_tops =
+    no_mark_at (bits w) (lanes_in_word w) v ones tops (some_bits w) whole fits fits_ones fits_tops
+    (lane_of_each w 1 ones (pow_mono {i = 1} {j = bits w} (some_bits w)) is_ones)
+    (lane_of_each w (2 ^ (bits w - 1)) tops (top_in_range (bits w) (some_bits w)) is_tops)
+
+module _ (w : Width) (whole : lanes_in_word w * bits w ≡ 64) (v low high : ℕ) (words : AreWords v low high) where
+  -- a test of all lanes
+  pub every_lane_of_words : (test : ℕ → Bool)
+      → (holds_below (lanes_in_word w) (λ i. test (field (bits w * i) (bits w) low)) && holds_below (lanes_in_word w)
+      (λ i. test (field (bits w * i) (bits w) high)))
+      ≡ every_lane w unsigned test v
+  unfolding every_lane
+  every_lane_of_words test =
+      let n : ℕ = lanes_in_word w in
+      ap₂ (λ a b. a && b)
+      (holds_as n (λ i. test (field (bits w * i) (bits w) low)) (λ i. test (lane w v i))
+      (λ i inside. ap test (ap (field (bits w * i) (bits w)) words.low_is ∙ sym (low_lane w whole v i inside))))
+      (holds_as n (λ i. test (field (bits w * i) (bits w) high)) (λ i. test (lane w v (n + i)))
+      (λ i inside. ap test (ap (field (bits w * i) (bits w)) words.high_is ∙ sym (high_lane w whole v i))))
+      ∙ sym (holds_joined n n (λ i. test (lane w v i)))
+      ∙ ap (λ k. holds_below k (λ i. test (lane w v i))) (sym (lanes_of_width w (n + n) (filled w whole)))
+
+  -- the bits of all lanes
+  pub bits_of_words : (test : ℕ → Bool)
+      → first_bits (lanes_in_word w) (λ i. test (field (bits w * i) (bits w) low)) + 2 ^ lanes_in_word w * first_bits
+      (lanes_in_word w) (λ i. test (field (bits w * i) (bits w) high))
+      ≡ lane_bits w unsigned test v
+  unfolding lane_bits
+  bits_of_words test =
+      let n : ℕ = lanes_in_word w in
+      ap₂ (λ a b. a + 2 ^ n * b)
+      (bits_as n (λ i. test (field (bits w * i) (bits w) low)) (λ i. test (lane w v i))
+      (λ i inside. ap test (ap (field (bits w * i) (bits w)) words.low_is ∙ sym (low_lane w whole v i inside))))
+      (bits_as n (λ i. test (field (bits w * i) (bits w) high)) (λ i. test (lane w v (n + i)))
+      (λ i inside. ap test (ap (field (bits w * i) (bits w)) words.high_is ∙ sym (high_lane w whole v i))))
+      ∙ sym (bits_joined n n (λ i. test (lane w v i)))
+      ∙ ap (λ k. first_bits k (λ i. test (lane w v i))) (sym (lanes_of_width w (n + n) (filled w whole)))
+
+  -- those of the low word, and above them those of the high word
+  pub bitmask_by_words : (test : ℕ → Bool) (a b : ℕ) → lanes_in_word w + lanes_in_word w ≤ 32
+      → a ≡ first_bits (lanes_in_word w) (λ i. test (field (bits w * i) (bits w) low))
+      → b ≡ first_bits (lanes_in_word w) (λ i. test (field (bits w * i) (bits w) high))
+      → bit_or a (b * 2 ^ lanes_in_word w % 2 ^ 32) ≡ lane_bits w unsigned test v
+  bitmask_by_words test a b few is_a is_b =
+      let n : ℕ = lanes_in_word w in
+      let p : ℕ = 2 ^ n in
+      let below_a : a < p =
+      subst (λ k. k < p) (sym is_a) (bits_below n (λ i. test (field (bits w * i) (bits w) low))) in
+      let below_b : b < p =
+      subst (λ k. k < p) (sym is_b) (bits_below n (λ i. test (field (bits w * i) (bits w) high))) in
+      let room : p * p ≤ 2 ^ 32 = omega (arith, pow-add 2 n n, pow_mono {i = n + n} {j = 32} few) in
+      let rows : (b + 1) * p ≤ p * p = mul-le (b + 1) p p p (omega arith) (le_refl p) in
+      let whole : b * p % 2 ^ 32 ≡ b * p = mod-eq_of_lt (omega (arith, add-mul b 1 p, one-mul p)) in
+      ap (bit_or a) whole ∙ or_comm a (b * p) ∙ or_shifted b n a below_a
+      ∙ ap₂ (λ x y. y * p + x) is_a is_b
+      ∙ omega (arith, mul_comm (first_bits n (λ i. test (field (bits w * i) (bits w) high))) p)
+      ∙ bits_of_words test

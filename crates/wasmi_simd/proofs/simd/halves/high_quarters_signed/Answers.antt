@@ -1,9 +1,0 @@
-use Rattle.std.proofs.Common.{◌≡◌, length, refl, arith, rules}
-use Rattle.wasmi_types.specs.Wrapping.{w32, w64}
-use Rattle.wasmi_simd.proofs.Halves.{extended_at}
-use Rattle.wasmi_simd.proofs.simd.halves.high_quarters_signed.Goals as goal
-
-pub returns : goal.returns
-returns c =
-    let long : length c.signed_quarters_of.result ≡ 4 = search rules in
-    record { lanes = λ i below. extended_at w32 w64 4 2 2 c.args.v c.signed_quarters_of.result i long refl tt (omega arith) tt c.signed_quarters_of.ensures.lanes below }

@@ -1,7 +1,0 @@
-use Rattle.std.proofs.Common.{◌∙◌, refl}
-use Rattle.wasmi_types.specs.Wrapping.{w32}
-use Rattle.wasmi_simd.proofs.ShiftLemmas.{mask_at}
-use Rattle.wasmi_simd.proofs.simd.low_bits.U32NarrowLane.low_bits.Goals as goal
-
-pub returns : goal.returns
-returns c = c.words_of.ensures ∙ mask_at w32 c.args.dropped c.requires _ _ refl c.from.ensures refl

@@ -1,9 +1,0 @@
-use Rattle.std.proofs.Common.{◌≡◌, length, refl, rules}
-use Rattle.wasmi_types.specs.Wrapping.{w16, w32}
-use Rattle.wasmi_simd.proofs.Neighbours.{eighths_of_quarters, odd_at}
-use Rattle.wasmi_simd.proofs.simd.neighbours.odd_eighths.Goals as goal
-
-pub returns : goal.returns
-returns c =
-    let long : length c.quarters_of.result ≡ 4 = search rules in
-    record { lanes = odd_at w16 w32 eighths_of_quarters 4 c.args.v refl c.quarters_of.result long c.quarters_of.ensures.lanes }

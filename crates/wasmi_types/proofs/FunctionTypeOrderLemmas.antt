@@ -1,0 +1,90 @@
+-- The order of function types, place by place.
+use Rattle.std.proofs.Common.{◌≡◌, ℕ, Bool, true, false, not, List, [], ◌∷◌, length, map, refl, ap, subst, ◌∙◌, nat_le, if◌then◌else◌}
+use Rattle.std.specs.declared.cmp.Ordering.{Ordering}
+use Rattle.std.specs.declared.cmp.Ordering.TheVariants.{Less, Equal, Greater}
+use Rattle.std.specs.Ordering.{bool_cmp, nat_cmp, ordering_then, is_eq}
+use Rattle.std.specs.Cmp.Lexicographic.{slice_cmp, bytes_decides, texts_ties, on_texts}
+use Rattle.std.specs.Cmp.{tied_itself}
+use Rattle.wasmi_types.specs.declared.value.ValType.{ValType}
+use Rattle.wasmi_types.specs.declared.value.ValType.TheVariants.{I32, I64, F32, F64, V128, FuncRef, ExternRef}
+use Rattle.wasmi_types.specs.contracts.value.ValTypeOrd.TheImpl.{ghosts}
+use Rattle.wasmi_types.specs.FunctionType.{FunctionType, entries, entry_count, type_number, order_key, function_type_cmp}
+use Rattle.wasmi_types.specs.FunctionTypeLaws.{order_key-one}
+
+-- value types are ordered by their places
+cmp-type_number : (x y : ValType) → ghosts.cmp x y ≡ nat_cmp (type_number x) (type_number y)
+cmp-type_number I32 y =
+    elim y as (λ k. ghosts.cmp I32 k ≡ nat_cmp (type_number I32) (type_number k))
+    [ I32 ↦ refl | I64 ↦ refl | F32 ↦ refl | F64 ↦ refl | V128 ↦ refl | FuncRef ↦ refl | ExternRef ↦ refl ]
+cmp-type_number I64 y =
+    elim y as (λ k. ghosts.cmp I64 k ≡ nat_cmp (type_number I64) (type_number k))
+    [ I32 ↦ refl | I64 ↦ refl | F32 ↦ refl | F64 ↦ refl | V128 ↦ refl | FuncRef ↦ refl | ExternRef ↦ refl ]
+cmp-type_number F32 y =
+    elim y as (λ k. ghosts.cmp F32 k ≡ nat_cmp (type_number F32) (type_number k))
+    [ I32 ↦ refl | I64 ↦ refl | F32 ↦ refl | F64 ↦ refl | V128 ↦ refl | FuncRef ↦ refl | ExternRef ↦ refl ]
+cmp-type_number F64 y =
+    elim y as (λ k. ghosts.cmp F64 k ≡ nat_cmp (type_number F64) (type_number k))
+    [ I32 ↦ refl | I64 ↦ refl | F32 ↦ refl | F64 ↦ refl | V128 ↦ refl | FuncRef ↦ refl | ExternRef ↦ refl ]
+cmp-type_number V128 y =
+    elim y as (λ k. ghosts.cmp V128 k ≡ nat_cmp (type_number V128) (type_number k))
+    [ I32 ↦ refl | I64 ↦ refl | F32 ↦ refl | F64 ↦ refl | V128 ↦ refl | FuncRef ↦ refl | ExternRef ↦ refl ]
+cmp-type_number FuncRef y =
+    elim y as (λ k. ghosts.cmp FuncRef k ≡ nat_cmp (type_number FuncRef) (type_number k))
+    [ I32 ↦ refl | I64 ↦ refl | F32 ↦ refl | F64 ↦ refl | V128 ↦ refl | FuncRef ↦ refl | ExternRef ↦ refl ]
+cmp-type_number ExternRef y =
+    elim y as (λ k. ghosts.cmp ExternRef k ≡ nat_cmp (type_number ExternRef) (type_number k))
+    [ I32 ↦ refl | I64 ↦ refl | F32 ↦ refl | F64 ↦ refl | V128 ↦ refl | FuncRef ↦ refl | ExternRef ↦ refl ]
+
+cmp-entries : (xs ys : List ValType)
+    → slice_cmp ghosts.cmp xs ys ≡ slice_cmp nat_cmp (map type_number xs) (map type_number ys)
+cmp-entries [] [] = refl
+cmp-entries [] (y ∷ ys) = refl
+cmp-entries (x ∷ xs) [] = refl
+cmp-entries (x ∷ xs) (y ∷ ys) = λ i. ordering_then (cmp-type_number x y i) (cmp-entries xs ys i)
+
+then-assoc : (x y z : Ordering) → ordering_then (ordering_then x y) z ≡ ordering_then x (ordering_then y z)
+then-assoc Less y z = refl
+then-assoc Equal y z = refl
+then-assoc Greater y z = refl
+
+then-equal : (x : Ordering) → ordering_then x Equal ≡ x
+then-equal Less = refl
+then-equal Equal = refl
+then-equal Greater = refl
+
+by_places : (v w : Bool) (m n m' n' : ℕ) (xs ys : List ℕ)
+    → ordering_then
+    (ordering_then (ordering_then (bool_cmp (not v) (not w)) (nat_cmp m m'))
+    (nat_cmp (if v then n else 0) (if w then n' else 0))) (slice_cmp nat_cmp xs ys)
+    ≡ slice_cmp nat_cmp (if v then 0 ∷ m ∷ n ∷ xs else 1 ∷ m ∷ xs) (if w then 0 ∷ m' ∷ n' ∷ ys else 1 ∷ m' ∷ ys)
+by_places true true m n m' n' xs ys = then-assoc (nat_cmp m m') (nat_cmp n n') (slice_cmp nat_cmp xs ys)
+by_places true false m n m' n' xs ys = refl
+by_places false true m n m' n' xs ys = refl
+by_places false false m n m' n' xs ys = ap (λ o. ordering_then o (slice_cmp nat_cmp xs ys)) (then-equal (nat_cmp m m'))
+
+-- the size, the number of parameters, the number of results of a small one, and the entries
+abbrev pub places_cmp : (v w : Bool) (m n m' n' : ℕ) (xs ys : List ValType) → Ordering
+places_cmp v w m n m' n' xs ys =
+    ordering_then (ordering_then (ordering_then (bool_cmp v w) (nat_cmp m m')) (nat_cmp n n'))
+    (slice_cmp ghosts.cmp xs ys)
+
+abbrev pub is_small : FunctionType → Bool
+is_small ty = nat_le (entry_count ty) 21
+
+pub function_type_cmp-places : (a b : FunctionType)
+    → places_cmp (not (is_small a)) (not (is_small b)) (length a.params) (if is_small a then length a.results else 0)
+    (length b.params) (if is_small b then length b.results else 0) (entries a) (entries b)
+    ≡ function_type_cmp a b
+function_type_cmp-places a b =
+    ap (ordering_then _) (cmp-entries (entries a) (entries b))
+    ∙ by_places (is_small a) (is_small b) (length a.params) (length a.results) (length b.params) (length b.results)
+    (map type_number (entries a)) (map type_number (entries b))
+
+-- the order answers equal for a function type and itself alone
+pub function_type_cmp-equal : (a b : FunctionType)
+    → (function_type_cmp a b ≡ Equal → a ≡ b) × (a ≡ b → function_type_cmp a b ≡ Equal)
+function_type_cmp-equal a b = (
+  λ e. order_key-one a b
+      ((bytes_decides (order_key a) (order_key b)).0 (texts_ties (order_key a) (order_key b) ∙ ap is_eq e)),
+  λ e. subst (λ ty. function_type_cmp a ty ≡ Equal) e (tied_itself (on_texts order_key) a),
+)

@@ -1,0 +1,237 @@
+//! Loads into one lane, and stores of one.
+
+ghost use Rattle.std.specs.Prelude.{◌≡◌, ◌+◌};
+ghost use Rattle.wasmi_types.specs.Bytes.{le_bytes};
+ghost use Rattle.wasmi_types.specs.Wrapping.{w8, w16, w32, w64};
+ghost use Rattle.wasmi_access.specs.LoadStore.{loaded, IsStore};
+ghost use Rattle.wasmi_lanes.specs.Lane as lanes;
+ghost use Rattle.wasmi_lanes.specs.Vector.{with_lane};
+
+use super::lane::{
+    lane_of_8, lane_of_16, lane_of_32, lane_of_64, with_lane_of_8, with_lane_of_16,
+    with_lane_of_32, with_lane_of_64,
+};
+use wasmi_access::access::{load, load_at, store, store_at};
+use wasmi_lanes::{ImmLaneIdx2, ImmLaneIdx4, ImmLaneIdx8, ImmLaneIdx16};
+use wasmi_raw::V128;
+use wasmi_types::TrapCode;
+
+/// `v128.load8_lane`: `v` with 8 bits in one lane.
+#[inline]
+pub fn v128_load8_lane(
+    memory: &[u8],
+    ptr: u64,
+    offset: u64,
+    v: V128,
+    lane: ImmLaneIdx16,
+) -> Result<V128, TrapCode>
+    ensures { result ≡ loaded 1 (with_lane w8 v lane) memory.now (ptr + offset) }
+{
+    Ok(with_lane_of_8(v, lane, load::<u8>(memory, ptr, offset)?))
+}
+
+/// `v128.load8_lane` at an address.
+#[inline]
+pub fn v128_load8_lane_at(
+    memory: &[u8],
+    address: usize,
+    v: V128,
+    lane: ImmLaneIdx16,
+) -> Result<V128, TrapCode>
+    ensures { result ≡ loaded 1 (with_lane w8 v lane) memory.now address }
+{
+    Ok(with_lane_of_8(v, lane, load_at::<u8>(memory, address)?))
+}
+
+/// `v128.load16_lane`: `v` with 16 bits in one lane.
+#[inline]
+pub fn v128_load16_lane(
+    memory: &[u8],
+    ptr: u64,
+    offset: u64,
+    v: V128,
+    lane: ImmLaneIdx8,
+) -> Result<V128, TrapCode>
+    ensures { result ≡ loaded 2 (with_lane w16 v lane) memory.now (ptr + offset) }
+{
+    Ok(with_lane_of_16(v, lane, load::<u16>(memory, ptr, offset)?))
+}
+
+/// `v128.load16_lane` at an address.
+#[inline]
+pub fn v128_load16_lane_at(
+    memory: &[u8],
+    address: usize,
+    v: V128,
+    lane: ImmLaneIdx8,
+) -> Result<V128, TrapCode>
+    ensures { result ≡ loaded 2 (with_lane w16 v lane) memory.now address }
+{
+    Ok(with_lane_of_16(v, lane, load_at::<u16>(memory, address)?))
+}
+
+/// `v128.load32_lane`: `v` with 32 bits in one lane.
+#[inline]
+pub fn v128_load32_lane(
+    memory: &[u8],
+    ptr: u64,
+    offset: u64,
+    v: V128,
+    lane: ImmLaneIdx4,
+) -> Result<V128, TrapCode>
+    ensures { result ≡ loaded 4 (with_lane w32 v lane) memory.now (ptr + offset) }
+{
+    Ok(with_lane_of_32(v, lane, load::<u32>(memory, ptr, offset)?))
+}
+
+/// `v128.load32_lane` at an address.
+#[inline]
+pub fn v128_load32_lane_at(
+    memory: &[u8],
+    address: usize,
+    v: V128,
+    lane: ImmLaneIdx4,
+) -> Result<V128, TrapCode>
+    ensures { result ≡ loaded 4 (with_lane w32 v lane) memory.now address }
+{
+    Ok(with_lane_of_32(v, lane, load_at::<u32>(memory, address)?))
+}
+
+/// `v128.load64_lane`: `v` with 64 bits in one lane.
+#[inline]
+pub fn v128_load64_lane(
+    memory: &[u8],
+    ptr: u64,
+    offset: u64,
+    v: V128,
+    lane: ImmLaneIdx2,
+) -> Result<V128, TrapCode>
+    ensures { result ≡ loaded 8 (with_lane w64 v lane) memory.now (ptr + offset) }
+{
+    Ok(with_lane_of_64(v, lane, load::<u64>(memory, ptr, offset)?))
+}
+
+/// `v128.load64_lane` at an address.
+#[inline]
+pub fn v128_load64_lane_at(
+    memory: &[u8],
+    address: usize,
+    v: V128,
+    lane: ImmLaneIdx2,
+) -> Result<V128, TrapCode>
+    ensures { result ≡ loaded 8 (with_lane w64 v lane) memory.now address }
+{
+    Ok(with_lane_of_64(v, lane, load_at::<u64>(memory, address)?))
+}
+
+/// `v128.store8_lane`: the 8 bits of one lane of `v`.
+#[inline]
+pub fn v128_store8_lane(
+    memory: &mut [u8],
+    ptr: u64,
+    offset: u64,
+    v: V128,
+    lane: ImmLaneIdx16,
+) -> Result<(), TrapCode>
+    ensures { IsStore memory.old (ptr + offset)
+        (le_bytes 1 (lanes.lane w8 v lane)) memory.new result }
+{
+    store::<u8>(memory, ptr, offset, lane_of_8(v, lane))
+}
+
+/// `v128.store8_lane` at an address.
+#[inline]
+pub fn v128_store8_lane_at(
+    memory: &mut [u8],
+    address: usize,
+    v: V128,
+    lane: ImmLaneIdx16,
+) -> Result<(), TrapCode>
+    ensures { IsStore memory.old address (le_bytes 1 (lanes.lane w8 v lane)) memory.new result }
+{
+    store_at::<u8>(memory, address, lane_of_8(v, lane))
+}
+
+/// `v128.store16_lane`: the 16 bits of one lane of `v`.
+#[inline]
+pub fn v128_store16_lane(
+    memory: &mut [u8],
+    ptr: u64,
+    offset: u64,
+    v: V128,
+    lane: ImmLaneIdx8,
+) -> Result<(), TrapCode>
+    ensures { IsStore memory.old (ptr + offset)
+        (le_bytes 2 (lanes.lane w16 v lane)) memory.new result }
+{
+    store::<u16>(memory, ptr, offset, lane_of_16(v, lane))
+}
+
+/// `v128.store16_lane` at an address.
+#[inline]
+pub fn v128_store16_lane_at(
+    memory: &mut [u8],
+    address: usize,
+    v: V128,
+    lane: ImmLaneIdx8,
+) -> Result<(), TrapCode>
+    ensures { IsStore memory.old address (le_bytes 2 (lanes.lane w16 v lane)) memory.new result }
+{
+    store_at::<u16>(memory, address, lane_of_16(v, lane))
+}
+
+/// `v128.store32_lane`: the 32 bits of one lane of `v`.
+#[inline]
+pub fn v128_store32_lane(
+    memory: &mut [u8],
+    ptr: u64,
+    offset: u64,
+    v: V128,
+    lane: ImmLaneIdx4,
+) -> Result<(), TrapCode>
+    ensures { IsStore memory.old (ptr + offset)
+        (le_bytes 4 (lanes.lane w32 v lane)) memory.new result }
+{
+    store::<u32>(memory, ptr, offset, lane_of_32(v, lane))
+}
+
+/// `v128.store32_lane` at an address.
+#[inline]
+pub fn v128_store32_lane_at(
+    memory: &mut [u8],
+    address: usize,
+    v: V128,
+    lane: ImmLaneIdx4,
+) -> Result<(), TrapCode>
+    ensures { IsStore memory.old address (le_bytes 4 (lanes.lane w32 v lane)) memory.new result }
+{
+    store_at::<u32>(memory, address, lane_of_32(v, lane))
+}
+
+/// `v128.store64_lane`: the 64 bits of one lane of `v`.
+#[inline]
+pub fn v128_store64_lane(
+    memory: &mut [u8],
+    ptr: u64,
+    offset: u64,
+    v: V128,
+    lane: ImmLaneIdx2,
+) -> Result<(), TrapCode>
+    ensures { IsStore memory.old (ptr + offset)
+        (le_bytes 8 (lanes.lane w64 v lane)) memory.new result }
+{
+    store::<u64>(memory, ptr, offset, lane_of_64(v, lane))
+}
+
+/// `v128.store64_lane` at an address.
+#[inline]
+pub fn v128_store64_lane_at(
+    memory: &mut [u8],
+    address: usize,
+    v: V128,
+    lane: ImmLaneIdx2,
+) -> Result<(), TrapCode>
+    ensures { IsStore memory.old address (le_bytes 8 (lanes.lane w64 v lane)) memory.new result }
+{
+    store_at::<u64>(memory, address, lane_of_64(v, lane))
+}
