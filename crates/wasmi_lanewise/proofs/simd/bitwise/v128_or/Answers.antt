@@ -7,5 +7,5 @@ pub returns : goal.returns
 returns c =
     let a = c.words-a_low.ensures in
     let b = c.words-b_low.ensures in
-    on_words bit_or or_shr or_mod c.args.lhs c.args.rhs _ _ _ _ c.from_u64x2.result a.low a.high b.low b.high
-    c.from_u64x2.ensures
+    on_words bit_or or_shr or_mod c.args.lhs c.args.rhs _ _ _ _ c.from_words.result a.low a.high b.low b.high
+    c.from_words.ensures

@@ -23,10 +23,10 @@ unfolding splat_of
 returns c =
     let n = c.args.word in
     let both : ℕ = n + 2 ^ 64 * n in
-    let is : c.from_u64x2.result ≡ n = omega arith in
+    let is : c.from_words.result ≡ n = omega arith in
     let small : both < 2 ^ 128 = omega arith in
     c.from_bytes.ensures.number
     ∙ number_of_digits 8 16 (number_l (2 ^ 32) c.lower_half_twice.result)
     ∙ ap (λ items. number_l (2 ^ 32) items % 2 ^ 128) c.lower_half_twice.ensures
-    ∙ ap (λ k. k % 2 ^ 128) (number_of_both c.from_u64x2.result n is (omega arith)) ∙ mod-eq_of_lt small
+    ∙ ap (λ k. k % 2 ^ 128) (number_of_both c.from_words.result n is (omega arith)) ∙ mod-eq_of_lt small
     ∙ lanes_make_vector w64 2 both (λ _. n) refl small (λ i inside. words_of_both n i (omega arith) inside)

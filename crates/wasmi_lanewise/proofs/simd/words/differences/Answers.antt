@@ -16,4 +16,4 @@ returns g c =
     c.word_sub.type_inv c.word_sub-2.type_inv
     (λ start width. of_either (c.word_sub.ensures.lanes start width) (c.word_sub.ensures.last start width))
     (λ start width. of_either (c.word_sub-2.ensures.lanes start width) (c.word_sub-2.ensures.last start width))
-    (inverted_words c.word_sub.type_inv c.word_sub-2.type_inv c.from_u64x2.ensures c.inverted-2.ensures)
+    (inverted_words c.word_sub.type_inv c.word_sub-2.type_inv c.from_words.ensures c.inverted-2.ensures)

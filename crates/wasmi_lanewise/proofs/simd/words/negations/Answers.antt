@@ -17,4 +17,4 @@ returns g c =
     (of_either (c.word_add.ensures.lanes start width) (c.word_add.ensures.last start width) lane))
     (λ start width lane. negated_lane tops start width _ _ c.word_add-2.type_inv lane
     (of_either (c.word_add-2.ensures.lanes start width) (c.word_add-2.ensures.last start width) lane))
-    c.from_u64x2.ensures
+    c.from_words.ensures
