@@ -18,7 +18,7 @@ use Rattle.wasmi_budget.specs.declared.amounts.Amounts.{Amounts}
 use Rattle.wasmi_budget.specs.declared.tenant.Tenant.{Tenant}
 use Rattle.wasmi_budget.specs.Amounts.{amount_of, amounts_of}
 use Rattle.wasmi_budget.specs.Tenant.{holdings, held_together, tenant_rules}
-use Rattle.wasmi_budget.specs.TenantLaws.{asked_reserves, noticed_gives_back}
+use Rattle.wasmi_budget.specs.TenantProofs.{asked_reserves, noticed_gives_back}
 use Rattle.wasmi_budget.specs.Pool.{PoolValue, total_of, IsWithinCaps, IsKept, tenant_at, AddsTenant, RunsTenant}
 use Rattle.wasmi_budget.specs.Runs.{PoolTurn, Added, Ran, Refused, PoolStep, PoolRun}
 use Rattle.wasmi_budget.proofs.TenantLemmas.{StaysWithin, run_stays_within}

@@ -1,6 +1,6 @@
 pub mod Amounts
 pub mod Tenant
-pub mod TenantLaws
+pub mod TenantProofs
 pub mod Pool
 pub mod Runs
 pub mod Isolation

@@ -120,7 +120,7 @@ impl ResourceLimiter for Tenant {
 
 impl Reserving for Tenant {
     ghost use Rattle.wasmi_budget.specs.Tenant.{holdings};
-    ghost use Rattle.wasmi_budget.specs.TenantLaws.{asked_reserves, noticed_gives_back};
+    ghost use Rattle.wasmi_budget.specs.TenantProofs.{asked_reserves, noticed_gives_back};
 
     ghost holdings = { holdings };
 

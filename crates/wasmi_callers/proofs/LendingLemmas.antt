@@ -13,7 +13,7 @@ use Rattle.wasmi_meter.specs.Holdings.{Holdings, HoldsTheSame, Reserves, amount_
 use Rattle.wasmi_meter.specs.Limiter.{Question, Answer, NoticeAnswer, IsDenial, kind_of, optional_rules}
 use Rattle.wasmi_meter.specs.Meter.{Meter}
 use Rattle.wasmi_meter.specs.Quota.{holdings, quota_rules, Asked, Noticed}
-use Rattle.wasmi_meter.specs.QuotaLaws.{asked_reserves}
+use Rattle.wasmi_meter.specs.QuotaProofs.{asked_reserves}
 use Rattle.wasmi_meter.proofs.QuotaLemmas.{asked_is_within, noticed_is_within}
 use Rattle.wasmi_store.specs.Buffer.{Room}
 use Rattle.wasmi_store.specs.Growth.{Makes, Growth, Grows}

@@ -6,6 +6,6 @@ pub mod Meter
 pub mod Attempt
 pub mod Holdings
 pub mod Quota
-pub mod QuotaLaws
+pub mod QuotaProofs
 pub mod Texts
 pub mod Errors

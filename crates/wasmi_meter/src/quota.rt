@@ -126,7 +126,7 @@ impl ResourceLimiter for Quota {
 
 impl Reserving for Quota {
     ghost use Rattle.wasmi_meter.specs.Quota.{holdings};
-    ghost use Rattle.wasmi_meter.specs.QuotaLaws.{asked_reserves};
+    ghost use Rattle.wasmi_meter.specs.QuotaProofs.{asked_reserves};
 
     ghost holdings = { holdings };
 

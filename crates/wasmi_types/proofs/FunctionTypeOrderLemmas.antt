@@ -9,7 +9,7 @@ use Rattle.wasmi_types.specs.declared.value.ValType.{ValType}
 use Rattle.wasmi_types.specs.declared.value.ValType.TheVariants.{I32, I64, F32, F64, V128, FuncRef, ExternRef}
 use Rattle.wasmi_types.specs.contracts.value.ValTypeOrd.TheImpl.{ghosts}
 use Rattle.wasmi_types.specs.FunctionType.{FunctionType, entries, entry_count, type_number, order_key, function_type_cmp}
-use Rattle.wasmi_types.specs.FunctionTypeLaws.{order_key-one}
+use Rattle.wasmi_types.specs.FunctionTypeProofs.{order_key-one}
 
 -- value types are ordered by their places
 cmp-type_number : (x y : ValType) → ghosts.cmp x y ≡ nat_cmp (type_number x) (type_number y)

@@ -9,6 +9,6 @@ pub mod FunctionType
 pub mod FuncTypeInner
 pub mod Iteration
 pub mod Reading
-pub mod FunctionTypeLaws
-pub mod ValTypeLaws
+pub mod FunctionTypeProofs
+pub mod ValTypeProofs
 pub mod FuncTypeError

@@ -289,8 +289,8 @@ impl Clone for FuncType {
 
 impl PartialEq for FuncType {
     ghost use Rattle.std.specs.Cmp.{partial_equiv_from_equiv};
-    ghost use Rattle.wasmi_types.specs.FunctionTypeLaws.{same_lists_equiv};
-    ghost use Rattle.wasmi_types.specs.ValTypeLaws.{same_type_decides};
+    ghost use Rattle.wasmi_types.specs.FunctionTypeProofs.{same_lists_equiv};
+    ghost use Rattle.wasmi_types.specs.ValTypeProofs.{same_type_decides};
 
     ghost eq = { same_lists ⟦<ValType as PartialEq>⟧.eq };
 
@@ -305,15 +305,15 @@ impl PartialEq for FuncType {
 }
 
 impl Eq for FuncType {
-    ghost use Rattle.wasmi_types.specs.FunctionTypeLaws.{same_lists_equiv};
-    ghost use Rattle.wasmi_types.specs.ValTypeLaws.{same_type_decides};
+    ghost use Rattle.wasmi_types.specs.FunctionTypeProofs.{same_lists_equiv};
+    ghost use Rattle.wasmi_types.specs.ValTypeProofs.{same_type_decides};
 
     ghost laws = { same_lists_equiv same_type_decides };
 }
 
 impl Ord for FuncType {
-    ghost use Rattle.wasmi_types.specs.FunctionTypeLaws.{same_lists_by_cmp};
-    ghost use Rattle.wasmi_types.specs.ValTypeLaws.{same_type_decides};
+    ghost use Rattle.wasmi_types.specs.FunctionTypeProofs.{same_lists_by_cmp};
+    ghost use Rattle.wasmi_types.specs.ValTypeProofs.{same_type_decides};
     ghost use Rattle.std.specs.Cmp.Lexicographic.{on_texts};
     ghost use Rattle.std.specs.Ordering.{as_partial_cmp};
     ghost use Rattle.std.proofs.Common.{refl};
@@ -335,8 +335,8 @@ impl Ord for FuncType {
 }
 
 impl PartialOrd for FuncType {
-    ghost use Rattle.wasmi_types.specs.FunctionTypeLaws.{same_lists_by_cmp};
-    ghost use Rattle.wasmi_types.specs.ValTypeLaws.{same_type_decides};
+    ghost use Rattle.wasmi_types.specs.FunctionTypeProofs.{same_lists_by_cmp};
+    ghost use Rattle.wasmi_types.specs.ValTypeProofs.{same_type_decides};
     ghost use Rattle.std.specs.Cmp.Lexicographic.{on_texts};
     ghost use Rattle.std.specs.Cmp.{partial_order_from_agreeing_total};
     ghost use Rattle.std.specs.Ordering.{as_partial_cmp};
@@ -353,8 +353,8 @@ impl PartialOrd for FuncType {
 }
 
 impl Hash for FuncType {
-    ghost use Rattle.wasmi_types.specs.FunctionTypeLaws.{same_lists_alike};
-    ghost use Rattle.wasmi_types.specs.ValTypeLaws.{same_type_decides};
+    ghost use Rattle.wasmi_types.specs.FunctionTypeProofs.{same_lists_alike};
+    ghost use Rattle.wasmi_types.specs.ValTypeProofs.{same_type_decides};
     ghost use Rattle.wasmi_types.specs.FunctionType.{lists_input};
 
     ghost hash_input = { lists_input ⟦<ValType as Hash>⟧.hash_input };
