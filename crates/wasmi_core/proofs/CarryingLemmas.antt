@@ -130,7 +130,7 @@ module _ {S T : Type 0} (image : S → T) where
         free = step.free;
         part = step.part;
         limiter = image step.limiter;
-        row = creates_too replied.Memory (memory.creation_of Owned ty) (new_memory Owned ty) w.state.memories
+        effect = creates_too replied.Memory (memory.creation_of Owned ty) (new_memory Owned ty) w.state.memories
             step.part turn.reply w.limiter step.limiter step.effect;
         after = ap (carried image) step.after;
       }
@@ -138,7 +138,7 @@ module _ {S T : Type 0} (image : S → T) where
         free = step.free;
         part = step.part;
         limiter = image step.limiter;
-        row = on_live_too w.state.spare _ _ _ _ (λ none. (none.0, none.1, ap image none.2))
+        effect = on_live_too w.state.spare _ _ _ _ (λ none. (none.0, none.1, ap image none.2))
             (λ region h. (
               creates_too replied.Memory (memory.creation_of (Lent region) ty)
                   (new_memory (Lent region) ty) w.state.memories step.part.slots turn.reply w.limiter step.limiter h.0,
@@ -150,7 +150,7 @@ module _ {S T : Type 0} (image : S → T) where
         part = step.part;
         meter = step.meter;
         limiter = image step.limiter;
-        row = acts_too k (reply_of replied.Number replied.Memory) (GrowsMemory rules pages) (GrowsMemory rules' pages)
+        effect = acts_too k (reply_of replied.Number replied.Memory) (GrowsMemory rules pages) (GrowsMemory rules' pages)
             (λ s. grows_too
             (record { amount = pages; size = pages_of s.value; request = memory.growth_of s.value pages }) s)
             _ _ turn.reply turn.charge step.effect;
@@ -161,7 +161,7 @@ module _ {S T : Type 0} (image : S → T) where
         free = step.free;
         part = step.part;
         limiter = image step.limiter;
-        row = creates_too replied.Table (table.creation_of ty init.ty) (new_table ty init.raw) w.state.tables
+        effect = creates_too replied.Table (table.creation_of ty init.ty) (new_table ty init.raw) w.state.tables
             step.part turn.reply w.limiter step.limiter step.effect;
         after = ap (carried image) step.after;
       }
@@ -169,7 +169,7 @@ module _ {S T : Type 0} (image : S → T) where
         part = step.part;
         meter = step.meter;
         limiter = image step.limiter;
-        row = acts_too k (reply_of replied.Number replied.Table) (GrowsTable rules n init) (GrowsTable rules' n init)
+        effect = acts_too k (reply_of replied.Number replied.Table) (GrowsTable rules n init) (GrowsTable rules' n init)
             (table_growth_too n init) _ _ turn.reply turn.charge step.effect;
         wrote = step.wrote;
         after = ap (carried image) step.after;
@@ -178,17 +178,17 @@ module _ {S T : Type 0} (image : S → T) where
           record {
             part = step.part;
             meter = step.meter;
-            row = step.effect;
+            effect = step.effect;
             wrote = step.wrote;
             after = ap
                 (carried image) step.after;
           }
       effect_carried (Told told) step =
-          record { free = step.free; row = step.effect; after = ap (carried image) step.after }
+          record { free = step.free; effect = step.effect; after = ap (carried image) step.after }
       effect_carried (BytesRead k offset len) step =
-          record { free = step.free; row = step.effect; after = ap (carried image) step.after }
+          record { free = step.free; effect = step.effect; after = ap (carried image) step.after }
       effect_carried effect step =
-          record { free = step.free; machine = step.machine; row = step.effect; after = ap (carried image) step.after }
+          record { free = step.free; machine = step.machine; effect = step.effect; after = ap (carried image) step.after }
 
 -- a run under the first is one under the second, with the same turns and machines
 pub runs_too : {S T : Type 0} (image : S → T) (rules : Rules S) (rules' : Rules T) → Carries image rules rules'

@@ -393,34 +393,34 @@ change_owned : (s : State) (reply : Reply) (s' : State) (change : Change) → Ta
 change_owned s reply s' (BytesWritten k offset bytes) c =
     record {
       part = map owned_slot c.part;
-      row = writes_owned s.memories k reply c.part offset bytes c.effect;
+      effect = writes_owned s.memories k reply c.part offset bytes c.effect;
       after = ap
           owned c.after;
     }
 change_owned s reply s' (BytesStored k a stored) c =
     record {
       part = map owned_slot c.part;
-      row = vector_stores_owned s.memories k reply c.part a stored c.effect;
+      effect = vector_stores_owned s.memories k reply c.part a stored c.effect;
       after =
           ap owned c.after;
     }
 change_owned s reply s' (MemoryDropped k) c =
     record {
       part = map owned_slot c.part;
-      row = drops_owned s.memories k reply c.part c.effect;
+      effect = drops_owned s.memories k reply c.part c.effect;
       after = ap owned c.after;
     }
-change_owned s reply s' change c = record { part = c.part; row = c.effect; after = ap owned c.after }
+change_owned s reply s' change c = record { part = c.part; effect = c.effect; after = ap owned c.after }
 
 module _ {S : Type 0} (rules : Rules S) (w : World S) (turn : Turn) (w' : World S) where
   -- each effect that fits
   effect_owned : (effect : Effect) → EffectFits w.state effect → TakesEffect rules effect w turn w'
       → TakesEffect rules effect (owned_world w) turn (owned_world w')
-  effect_owned (Told told) fits step = record { free = step.free; row = step.effect; after = ap owned_world step.after }
+  effect_owned (Told told) fits step = record { free = step.free; effect = step.effect; after = ap owned_world step.after }
   effect_owned (BytesRead k offset len) fits step =
       record {
         free = step.free;
-        row = on_owned w.state.memories k _ _ _ _ step.effect (λ missing. missing) (λ x h. h);
+        effect = on_owned w.state.memories k _ _ _ _ step.effect (λ missing. missing) (λ x h. h);
         after = ap owned_world step.after;
       }
   effect_owned (FuelSet fuel) fits step =
@@ -435,7 +435,7 @@ module _ {S : Type 0} (rules : Rules S) (w : World S) (turn : Turn) (w' : World 
       record {
         free = step.free;
         machine = owned step.machine;
-        row = change_owned w.state turn.reply step.machine
+        effect = change_owned w.state turn.reply step.machine
             change step.effect;
         after = ap owned_world step.after;
       }
@@ -443,7 +443,7 @@ module _ {S : Type 0} (rules : Rules S) (w : World S) (turn : Turn) (w' : World 
     free = step.free;
     part = map owned_slot step.part;
     limiter = step.limiter;
-    row = creates_owned rules Owned ty w.state.memories w.limiter turn.reply step.part step.limiter refl step.effect;
+    effect = creates_owned rules Owned ty w.state.memories w.limiter turn.reply step.part step.limiter refl step.effect;
     after = ap owned_world step.after;
   }
   effect_owned (LentMemoryMade ty) fits step = absurd fits
@@ -451,7 +451,7 @@ module _ {S : Type 0} (rules : Rules S) (w : World S) (turn : Turn) (w' : World 
     part = map owned_slot step.part;
     meter = step.meter;
     limiter = step.limiter;
-    row = growth_owned w.state.memories k rules pages (Some w.state.meter) w.limiter turn.reply turn.charge step.part
+    effect = growth_owned w.state.memories k rules pages (Some w.state.meter) w.limiter turn.reply turn.charge step.part
         (Some step.meter) step.limiter fits step.effect;
     wrote = step.wrote ∙ appended_owned w.state.memories k pages turn.reply;
     after = ap owned_world step.after;
@@ -461,7 +461,7 @@ module _ {S : Type 0} (rules : Rules S) (w : World S) (turn : Turn) (w' : World 
         free = step.free;
         part = step.part;
         limiter = step.limiter;
-        row = step.effect;
+        effect = step.effect;
         after = ap owned_world
             step.after;
       }
@@ -470,7 +470,7 @@ module _ {S : Type 0} (rules : Rules S) (w : World S) (turn : Turn) (w' : World 
         part = step.part;
         meter = step.meter;
         limiter = step.limiter;
-        row = step.effect;
+        effect = step.effect;
         wrote = step.wrote;
         after = ap owned_world step.after;
       }
@@ -478,7 +478,7 @@ module _ {S : Type 0} (rules : Rules S) (w : World S) (turn : Turn) (w' : World 
       record {
         part = step.part;
         meter = step.meter;
-        row = step.effect;
+        effect = step.effect;
         wrote = step.wrote;
         after = ap owned_world
             step.after;
@@ -511,7 +511,7 @@ creation_is_owned rules w turn w' ty region called spare fits step =
       free = lent.free;
       part = map owned_slot lent.part.slots;
       limiter = lent.limiter;
-      row = creates_owned rules (Lent region) ty w.state.memories w.limiter turn.reply lent.part.slots lent.limiter
+      effect = creates_owned rules (Lent region) ty w.state.memories w.limiter turn.reply lent.part.slots lent.limiter
           (grind (arith, nat_tests, fits)) creates.0;
       after = ap unlent_world lent.after;
     }

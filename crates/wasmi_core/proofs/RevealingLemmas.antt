@@ -135,7 +135,7 @@ module _ {S : Type 0} (rules rules' : Rules S) (Shows : Reply → Type 0) where
         free = step.free;
         part = step.part;
         limiter = step.limiter;
-        row = creates_revealed replied.Memory (memory.creation_of Owned ty) (each.memory_made Owned ty)
+        effect = creates_revealed replied.Memory (memory.creation_of Owned ty) (each.memory_made Owned ty)
             (new_memory Owned ty) w.state.memories w.limiter
             (record { reply = turn.reply; part = step.part; limiter = step.limiter }) shows step.effect;
         after = step.after;
@@ -144,7 +144,7 @@ module _ {S : Type 0} (rules rules' : Rules S) (Shows : Reply → Type 0) where
         free = step.free;
         part = step.part;
         limiter = step.limiter;
-        row = on_live_too w.state.spare _ _ _ _ (λ none. none)
+        effect = on_live_too w.state.spare _ _ _ _ (λ none. none)
             (λ region h. (
               creates_revealed replied.Memory (memory.creation_of (Lent region) ty)
                   (each.memory_made (Lent region) ty) (new_memory (Lent region) ty) w.state.memories w.limiter
@@ -157,7 +157,7 @@ module _ {S : Type 0} (rules rules' : Rules S) (Shows : Reply → Type 0) where
         part = step.part;
         meter = step.meter;
         limiter = step.limiter;
-        row =
+        effect =
             acts_revealed k (reply_of replied.Number replied.Memory) (GrowsMemory rules pages)
             (GrowsMemory rules' pages) turn.reply
             (λ s s' result charge is. grows_revealed
@@ -172,7 +172,7 @@ module _ {S : Type 0} (rules rules' : Rules S) (Shows : Reply → Type 0) where
         free = step.free;
         part = step.part;
         limiter = step.limiter;
-        row = creates_revealed replied.Table (table.creation_of ty init.ty) (each.table_made ty init.ty)
+        effect = creates_revealed replied.Table (table.creation_of ty init.ty) (each.table_made ty init.ty)
             (new_table ty init.raw) w.state.tables w.limiter
             (record { reply = turn.reply; part = step.part; limiter = step.limiter }) shows step.effect;
         after = step.after;
@@ -181,7 +181,7 @@ module _ {S : Type 0} (rules rules' : Rules S) (Shows : Reply → Type 0) where
         part = step.part;
         meter = step.meter;
         limiter = step.limiter;
-        row = acts_revealed k (reply_of replied.Number replied.Table) (GrowsTable rules n init)
+        effect = acts_revealed k (reply_of replied.Number replied.Table) (GrowsTable rules n init)
             (GrowsTable rules' n init) turn.reply
             (λ s s' result charge is. table_growth_revealed n init s s' result charge (subst Shows is shows))
             _ _ turn.charge

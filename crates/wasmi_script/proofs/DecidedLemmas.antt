@@ -116,25 +116,25 @@ module _ {S : Type 0} (rules : Rules S) where
   retold_effect : (w : World S) (turn : Turn) (w' : World S) (other : Call) (effect : Effect)
       → TakesEffect rules effect w turn w' → TakesEffect rules effect w (by_call turn other) w'
   retold_effect w turn w' other (Told reply) step =
-      record { free = step.free; row = step.effect; after = step.after }
+      record { free = step.free; effect = step.effect; after = step.after }
   retold_effect w turn w' other (BytesRead k offset len) step =
-      record { free = step.free; row = step.effect; after = step.after }
+      record { free = step.free; effect = step.effect; after = step.after }
   retold_effect w turn w' other (FuelSet fuel) step =
-      record { free = step.free; machine = step.machine; row = step.effect; after = step.after }
+      record { free = step.free; machine = step.machine; effect = step.effect; after = step.after }
   retold_effect w turn w' other (Changed change) step =
-      record { free = step.free; machine = step.machine; row = step.effect; after = step.after }
+      record { free = step.free; machine = step.machine; effect = step.effect; after = step.after }
   retold_effect w turn w' other (MemoryMade ty) step =
-      record { free = step.free; part = step.part; limiter = step.limiter; row = step.effect; after = step.after }
+      record { free = step.free; part = step.part; limiter = step.limiter; effect = step.effect; after = step.after }
   retold_effect w turn w' other (LentMemoryMade ty) step =
-      record { free = step.free; part = step.part; limiter = step.limiter; row = step.effect; after = step.after }
+      record { free = step.free; part = step.part; limiter = step.limiter; effect = step.effect; after = step.after }
   retold_effect w turn w' other (TableMade ty init) step =
-      record { free = step.free; part = step.part; limiter = step.limiter; row = step.effect; after = step.after }
+      record { free = step.free; part = step.part; limiter = step.limiter; effect = step.effect; after = step.after }
   retold_effect w turn w' other (MemoryGrown k pages) step =
       record {
         part = step.part;
         meter = step.meter;
         limiter = step.limiter;
-        row = step.effect;
+        effect = step.effect;
         wrote =
             step.wrote;
         after = step.after;
@@ -144,13 +144,13 @@ module _ {S : Type 0} (rules : Rules S) where
         part = step.part;
         meter = step.meter;
         limiter = step.limiter;
-        row = step.effect;
+        effect = step.effect;
         wrote =
             step.wrote;
         after = step.after;
       }
   retold_effect w turn w' other (PartWritten k source dst len) step =
-      record { part = step.part; meter = step.meter; row = step.effect; wrote = step.wrote; after = step.after }
+      record { part = step.part; meter = step.meter; effect = step.effect; wrote = step.wrote; after = step.after }
 
   retold_step : (w : World S) (turn : Turn) (w' : World S) (other : Call) → call_said other ≡ call_said turn.call
       → Step rules w turn w'

@@ -7,12 +7,12 @@ returns-in-SetFuel-clause-step g c = (
   0,
   0,
   rw c.in-SetFuel.is
-      (record { free = (refl, refl); machine = c.set_fuel.new.self; row = c.set_fuel.ensures; after = refl }),
+      (record { free = (refl, refl); machine = c.set_fuel.new.self; effect = c.set_fuel.ensures; after = refl }),
 )
 
 pub returns-in-GetFuel-clause-step : goal.returns-in-GetFuel-clause-step
 returns-in-GetFuel-clause-step g c =
-    (0, 0, rw c.in-GetFuel.is (record { free = (refl, refl); row = c.get_fuel.ensures; after = refl }))
+    (0, 0, rw c.in-GetFuel.is (record { free = (refl, refl); effect = c.get_fuel.ensures; after = refl }))
 
 pub returns-in-NewSegment-clause-step : goal.returns-in-NewSegment-clause-step
 returns-in-NewSegment-clause-step g c = (
@@ -22,10 +22,10 @@ returns-in-NewSegment-clause-step g c = (
       (record {
         free = (refl, refl);
         machine = _;
-        row =
+        effect =
             record {
               part = c.create_segment.new.segments.items;
-              row = rw c.deref.ensures.value at c.create_segment.ensures;
+              effect = rw c.deref.ensures.value at c.create_segment.ensures;
               after = refl;
             };
         after = refl;
@@ -40,8 +40,8 @@ returns-in-DropItems-clause-step g c = (
       (record {
         free = (refl, refl);
         machine = _;
-        row =
-            record { part = c.drop_items.new.segments.items; row = c.drop_items.ensures; after = refl };
+        effect =
+            record { part = c.drop_items.new.segments.items; effect = c.drop_items.ensures; after = refl };
         after = refl;
       }),
 )
@@ -54,8 +54,8 @@ returns-in-NewGlobal-clause-step g c = (
       (record {
         free = (refl, refl);
         machine = _;
-        row =
-            record { part = c.create_global.new.globals.items; row = c.create_global.ensures; after = refl };
+        effect =
+            record { part = c.create_global.new.globals.items; effect = c.create_global.ensures; after = refl };
         after = refl;
       }),
 )
@@ -68,8 +68,8 @@ returns-in-SetGlobal-clause-step g c = (
       (record {
         free = (refl, refl);
         machine = _;
-        row =
-            record { part = c.set_global.new.globals.items; row = c.set_global.ensures; after = refl };
+        effect =
+            record { part = c.set_global.new.globals.items; effect = c.set_global.ensures; after = refl };
         after = refl;
       }),
 )
@@ -81,7 +81,7 @@ returns-in-GetGlobal-clause-step g c = (
   rw (c.in-GetGlobal.is, ← c.self-in-GetGlobal.view_is)
       (record {
         free = (refl, refl);
-        row = rw c.deref-in-GetGlobal.ensures.value at c.get_global.ensures;
+        effect = rw c.deref-in-GetGlobal.ensures.value at c.get_global.ensures;
         after = refl;
       }),
 )

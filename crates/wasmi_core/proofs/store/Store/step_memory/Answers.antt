@@ -14,7 +14,7 @@ returns-in-NewMemory-clause-step g c = (
         free = (refl, refl);
         part = c.create.new.self.slots.items;
         limiter = lent_limiter c.create.new.limiter;
-        row =
+        effect =
             c.create.ensures.made;
         after = refl;
       }),
@@ -31,7 +31,7 @@ returns-in-GrowMemory-clause-step g c =
             part = c.grow.new.self.slots.items;
             meter = c.grow.new.fuel;
             limiter = lent_limiter c.grow.new.limiter;
-            row =
+            effect =
                 grown.1;
             wrote = refl;
             after = refl;
@@ -46,15 +46,15 @@ returns-in-DropMemory-clause-step g c = (
       (record {
         free = (refl, refl);
         machine = _;
-        row =
-            record { part = c.drop_live.new.self.slots.items; row = c.drop_live.ensures; after = refl };
+        effect =
+            record { part = c.drop_live.new.self.slots.items; effect = c.drop_live.ensures; after = refl };
         after = refl;
       }),
 )
 
 pub returns-in-Read-clause-step : goal.returns-in-Read-clause-step
 returns-in-Read-clause-step g c =
-    (0, 0, rw (c.in-Read.is, ← c.self.view_is) (record { free = (refl, refl); row = c.read.ensures; after = refl }))
+    (0, 0, rw (c.in-Read.is, ← c.self.view_is) (record { free = (refl, refl); effect = c.read.ensures; after = refl }))
 
 pub returns-in-Write-clause-step : goal.returns-in-Write-clause-step
 returns-in-Write-clause-step g c = (
@@ -64,10 +64,10 @@ returns-in-Write-clause-step g c = (
       (record {
         free = (refl, refl);
         machine = _;
-        row =
+        effect =
             record {
               part = c.write.new.self.slots.items;
-              row = rw c.deref.ensures.value at c.write.ensures;
+              effect = rw c.deref.ensures.value at c.write.ensures;
               after = refl;
             };
         after = refl;
@@ -76,7 +76,7 @@ returns-in-Write-clause-step g c = (
 
 pub returns-in-Load-clause-step : goal.returns-in-Load-clause-step
 returns-in-Load-clause-step g c =
-    (0, 0, rw (c.in-Load.is, ← c.self.view_is) (record { free = (refl, refl); row = c.load.ensures; after = refl }))
+    (0, 0, rw (c.in-Load.is, ← c.self.view_is) (record { free = (refl, refl); effect = c.load.ensures; after = refl }))
 
 pub returns-in-Store-clause-step : goal.returns-in-Store-clause-step
 returns-in-Store-clause-step g c = (
@@ -86,8 +86,8 @@ returns-in-Store-clause-step g c = (
       (record {
         free = (refl, refl);
         machine = _;
-        row =
-            record { part = c.store.new.self.slots.items; row = c.store.ensures; after = refl };
+        effect =
+            record { part = c.store.new.self.slots.items; effect = c.store.ensures; after = refl };
         after = refl;
       }),
 )
@@ -105,7 +105,7 @@ returns-in-NewLentMemory-clause-step g c = (
               c.create_lent.new.spare;
         };
         limiter = lent_limiter c.create_lent.new.limiter;
-        row = c.create_lent.ensures.made;
+        effect = c.create_lent.ensures.made;
         after = refl;
       }),
 )

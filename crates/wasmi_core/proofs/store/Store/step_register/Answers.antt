@@ -7,8 +7,8 @@ returns-in-SetRegister g c =
     (record {
       free = (refl, refl);
       machine = _;
-      row =
-          record { part = c.set.new.self.values; row = c.set.ensures; after = refl };
+      effect =
+          record { part = c.set.new.self.values; effect = c.set.ensures; after = refl };
       after = refl;
     })
 
@@ -18,8 +18,8 @@ returns-in-Make g c =
     (record {
       free = (refl, refl);
       machine = _;
-      row =
-          record { part = c.make.new.self.values; row = c.make.ensures; after = refl };
+      effect =
+          record { part = c.make.new.self.values; effect = c.make.ensures; after = refl };
       after = refl;
     })
 
@@ -29,8 +29,8 @@ returns-in-Unary g c =
     (record {
       free = (refl, refl);
       machine = _;
-      row =
-          record { part = c.unary.new.self.values; row = c.unary.ensures; after = refl };
+      effect =
+          record { part = c.unary.new.self.values; effect = c.unary.ensures; after = refl };
       after = refl;
     })
 
@@ -40,8 +40,8 @@ returns-in-Binary g c =
     (record {
       free = (refl, refl);
       machine = _;
-      row =
-          record { part = c.binary.new.self.values; row = c.binary.ensures; after = refl };
+      effect =
+          record { part = c.binary.new.self.values; effect = c.binary.ensures; after = refl };
       after = refl;
     })
 
@@ -51,8 +51,8 @@ returns-in-Ternary g c =
     (record {
       free = (refl, refl);
       machine = _;
-      row =
-          record { part = c.ternary.new.self.values; row = c.ternary.ensures; after = refl };
+      effect =
+          record { part = c.ternary.new.self.values; effect = c.ternary.ensures; after = refl };
       after = refl;
     })
 
@@ -62,8 +62,8 @@ returns-in-Shift g c =
     (record {
       free = (refl, refl);
       machine = _;
-      row =
-          record { part = c.shift.new.self.values; row = c.shift.ensures; after = refl };
+      effect =
+          record { part = c.shift.new.self.values; effect = c.shift.ensures; after = refl };
       after = refl;
     })
 
@@ -73,8 +73,8 @@ returns-in-Replace g c =
     (record {
       free = (refl, refl);
       machine = _;
-      row =
-          record { part = c.replace.new.self.values; row = c.replace.ensures; after = refl };
+      effect =
+          record { part = c.replace.new.self.values; effect = c.replace.ensures; after = refl };
       after = refl;
     })
 
@@ -84,7 +84,7 @@ returns-in-Shuffle g c =
     (record {
       free = (refl, refl);
       machine = _;
-      row =
-          record { part = c.shuffle.new.self.values; row = c.shuffle.ensures; after = refl };
+      effect =
+          record { part = c.shuffle.new.self.values; effect = c.shuffle.ensures; after = refl };
       after = refl;
     })

@@ -14,7 +14,7 @@ returns-in-NewTable-clause-step g c = (
         free = (refl, refl);
         part = c.create.new.self.slots.items;
         limiter = lent_limiter c.create.new.limiter;
-        row =
+        effect =
             c.create.ensures.made;
         after = refl;
       }),
@@ -30,7 +30,7 @@ returns-in-GrowTable-clause-step g c =
             part = c.grow.new.self.slots.items;
             meter = c.grow.new.fuel;
             limiter = lent_limiter c.grow.new.limiter;
-            row =
+            effect =
                 grown.1;
             wrote = refl;
             after = refl;
@@ -45,8 +45,8 @@ returns-in-DropTable-clause-step g c = (
       (record {
         free = (refl, refl);
         machine = _;
-        row =
-            record { part = c.drop_live.new.self.slots.items; row = c.drop_live.ensures; after = refl };
+        effect =
+            record { part = c.drop_live.new.self.slots.items; effect = c.drop_live.ensures; after = refl };
         after = refl;
       }),
 )
@@ -56,7 +56,7 @@ returns-in-GetElement-clause-step g c = (
   0,
   0,
   rw (c.in-GetElement.is, ← c.self.view_is)
-      (record { free = (refl, refl); row = c.get.ensures; after = refl }),
+      (record { free = (refl, refl); effect = c.get.ensures; after = refl }),
 )
 
 pub returns-in-SetElement-clause-step : goal.returns-in-SetElement-clause-step
@@ -67,8 +67,8 @@ returns-in-SetElement-clause-step g c = (
       (record {
         free = (refl, refl);
         machine = _;
-        row =
-            record { part = c.set.new.self.slots.items; row = c.set.ensures; after = refl };
+        effect =
+            record { part = c.set.new.self.slots.items; effect = c.set.ensures; after = refl };
         after = refl;
       }),
 )
@@ -82,7 +82,7 @@ returns-in_default-value_at-clause-step g c = (
       (record {
         part = c.self.inside.tables.slots.items;
         meter = c.self.inside.fuel;
-        row =
+        effect =
             rw (← c.deref.ensures.value, ← c.in_default-value_at.ensures) (refl, refl, refl);
         wrote = refl;
         after = refl;
@@ -97,7 +97,7 @@ returns-in-Some-clause-step g c = (
       (record {
         part = c.init.new.self.slots.items;
         meter = c.init.new.fuel;
-        row =
+        effect =
             rw (← c.deref.ensures.value, ← c.in-Some.ensures)
             (subst (λ segment. WritesTableAt c.in-InitTable.table
             (initialization_from c.in-InitTable.dst c.in-InitTable.src c.in-InitTable.len segment)
@@ -116,7 +116,7 @@ returns-in-CopyTable-clause-step g c = (
       (record {
         part = c.copy.new.self.slots.items;
         meter = c.copy.new.fuel;
-        row = part_from
+        effect = part_from
             (live_at c.self.inside.tables.slots.items c.in-CopyTable.src_table) c.in-CopyTable.dst_table
             _ _ _ _ _ c.copy.ensures.1;
         wrote = refl;
@@ -132,7 +132,7 @@ returns-in-FillTable-clause-step g c = (
       (record {
         part = c.fill.new.self.slots.items;
         meter = c.fill.new.fuel;
-        row = c.fill.ensures.1;
+        effect = c.fill.ensures.1;
         wrote = refl;
         after =
             refl;

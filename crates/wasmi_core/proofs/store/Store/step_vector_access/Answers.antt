@@ -8,10 +8,10 @@ returns-in_default-live g c =
     (record {
       free = (refl, refl);
       machine = _;
-      row =
+      effect =
           record {
             part = c.self.inside.registers.values;
-            row = rw (← c.in_default-live.ensures) (refl, refl);
+            effect = rw (← c.in_default-live.ensures) (refl, refl);
             after = refl;
           };
       after = refl;
@@ -23,10 +23,10 @@ returns-in-Some g c =
     (record {
       free = (refl, refl);
       machine = _;
-      row =
+      effect =
           record {
             part = c.load.new.self.values;
-            row = rw (← c.in-Some.ensures) (rw c.data.ensures at c.load.ensures);
+            effect = rw (← c.in-Some.ensures) (rw c.data.ensures at c.load.ensures);
             after = refl;
           };
       after = refl;
@@ -39,10 +39,10 @@ returns-in_default-vector g c =
     (record {
       free = (refl, refl);
       machine = _;
-      row =
+      effect =
           record {
             part = c.self.inside.registers.values;
-            row = rw (← c.in_default-vector.ensures) (refl, refl);
+            effect = rw (← c.in_default-vector.ensures) (refl, refl);
             after =
                 refl;
           };
@@ -55,10 +55,10 @@ returns-in_default-live-2 g c =
     (record {
       free = (refl, refl);
       machine = _;
-      row =
+      effect =
           record {
             part = c.self.inside.registers.values;
-            row =
+            effect =
                 rw (← c.in-Some-vector.ensures, ← c.in_default-live-2.ensures) (refl, refl);
             after = refl;
           };
@@ -71,10 +71,10 @@ returns-in-Some-live g c =
     (record {
       free = (refl, refl);
       machine = _;
-      row =
+      effect =
           record {
             part = c.load_lane.new.self.values;
-            row = rw (← c.in-Some-vector.ensures, ← c.in-Some-live.ensures)
+            effect = rw (← c.in-Some-vector.ensures, ← c.in-Some-live.ensures)
                 (rw c.data-in-LoadLane.ensures at c.load_lane.ensures);
             after = refl;
           };
@@ -88,10 +88,10 @@ returns-in-Some-vector-2 g c =
     (record {
       free = (refl, refl);
       machine = _;
-      row =
+      effect =
           record {
             part = c.store_vector.new.self.slots.items;
-            row = rw (← c.in-Some-vector-2.ensures)
+            effect = rw (← c.in-Some-vector-2.ensures)
                 c.store_vector.ensures;
             after = refl;
           };
