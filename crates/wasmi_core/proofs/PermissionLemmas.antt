@@ -15,18 +15,18 @@ use Rattle.wasmi_core.proofs.RevealingLemmas.{Reveals, run_revealed}
 module _ {S : Type 0} (rules : Rules S) where
   -- the replies to an attempt's errors tell whether it was denied, where those of a denial do
   denial_revealed : {V E : Type 0} (refusal : E → Reply) (e : Request V E) → (TellsNoDenial (refusal e.denial) → ⊥)
-      → (TellsNoDenial (refusal e.refusal) → ⊥) → Reveals rules (permitting rules) TellsNoDenial refusal e
-  denial_revealed refusal e denied failed (Unasked c) l l' shown f = f
-  denial_revealed refusal e denied failed (Denied (Ok permitted)) l l' shown f = absurd (denied (shown _ refl))
-  denial_revealed refusal e denied failed (Denied (Err error)) l l' shown f = absurd (failed (shown _ refl))
-  denial_revealed refusal e denied failed Met l l' shown f = (refl, f)
-  denial_revealed refusal e denied failed (Failed c notice_answer) l l' shown (permitted, asks, notices) =
+      → (TellsNoDenial (refusal e.refusal) → ⊥) → Reveals rules (permitting rules) TellsNoDenial (λ l. Unit {0}) refusal e
+  denial_revealed refusal e denied failed (Unasked c) l l' within shown f = f
+  denial_revealed refusal e denied failed (Denied (Ok permitted)) l l' within shown f = absurd (denied (shown _ refl))
+  denial_revealed refusal e denied failed (Denied (Err error)) l l' within shown f = absurd (failed (shown _ refl))
+  denial_revealed refusal e denied failed Met l l' within shown f = (refl, f)
+  denial_revealed refusal e denied failed (Failed c notice_answer) l l' within shown (permitted, asks, notices) =
       (permitted, (refl, asks), notices)
 
   -- a run of whose replies none tells of a denial
   pub permitted_run : (w : World S) (turns : List Turn) (w' : World S) → All TellsNoDenial (map Turn.reply turns)
       → Run rules w turns w' → Run (permitting rules) w turns w'
-  permitted_run = run_revealed rules (permitting rules) TellsNoDenial
+  permitted_run w turns w' = run_revealed rules (permitting rules) TellsNoDenial (λ l. Unit {0})
       (record {
         memory_made = λ room ty. denial_revealed replied.Memory (memory.creation_of room ty) (λ told. told)
             (λ told. told);
@@ -36,3 +36,4 @@ module _ {S : Type 0} (rules : Rules S) where
         table_grown = λ x n reference. denial_revealed replied.Table (table.growth_of x n reference) (λ told. told)
             (λ told. told);
       })
+      (λ v turn v' within step. tt) w turns w' tt

@@ -1,4 +1,5 @@
--- What the replies of a run reveal of its limiter: a run is one by narrower rules, where its replies show it.
+-- What the replies of a run reveal of its limiter: a run is one by narrower rules, where its replies show it and the
+-- limiter is in states of which this holds.
 use Rattle.std.proofs.Common.{Err, List, Result, [], ap, inl, inr, map, subst, sym, ℕ, ◌∙◌, ◌∷◌, ◌≡◌}
 use Rattle.std.proofs.lemmas.List.Elements.{All-head, All-tail}
 use Rattle.std.specs.Prelude.{All}
@@ -6,7 +7,7 @@ use Rattle.wasmi_core.proofs.EffectLemmas.{Outcome, on_live_too, on_test_too}
 use Rattle.wasmi_core.specs.Effects.{ActsAt, AddsEntry, Creates, reply_of}
 use Rattle.wasmi_core.specs.Runs.{Run}
 use Rattle.wasmi_core.specs.State.{live_at}
-use Rattle.wasmi_core.specs.Steps.{Effect, LentMemoryMade, MemoryGrown, MemoryMade, TableGrown, TableMade, TakesEffect, effect_of}
+use Rattle.wasmi_core.specs.Steps.{Effect, LentMemoryMade, MemoryGrown, MemoryMade, TableGrown, TableMade, TakesEffect, effect_of, Step}
 use Rattle.wasmi_core.specs.World.{Turn, World}
 use Rattle.wasmi_core.specs.declared.calls.Reply.{Reply}
 use Rattle.wasmi_core.specs.declared.slots.Slot.{Slot}
@@ -43,32 +44,32 @@ answered_error e value Met c is = absurd is
 answered_error e value (Failed cause notice_answer) c is = ap Err (sym is)
 
 -- a call on a slot
-acts_revealed : {S X R : Type 0} (k : ℕ) (reply_to : R → Reply)
+acts_revealed : {S X R : Type 0} (Within : S → Type 0) (k : ℕ) (reply_to : R → Reply)
     (Acts Acts' : MeteredValue X S → R → ℕ → MeteredValue X S → Type 0) (reply : Reply)
-    → ((s s' : MeteredValue X S) (result : R) (charge : ℕ) → reply ≡ reply_to result → Acts s result charge s'
-    → Acts' s result charge s')
-    → (s s' : MeteredValue (List (Slot X)) S) (charge : ℕ) → ActsAt k reply_to Acts s reply charge s'
-    → ActsAt k reply_to Acts' s reply charge s'
-acts_revealed k reply_to Acts Acts' reply too s s' charge acts =
+    → ((s s' : MeteredValue X S) (result : R) (charge : ℕ) → Within s.limiter → reply ≡ reply_to result
+    → Acts s result charge s' → Acts' s result charge s')
+    → (s s' : MeteredValue (List (Slot X)) S) (charge : ℕ) → Within s.limiter
+    → ActsAt k reply_to Acts s reply charge s' → ActsAt k reply_to Acts' s reply charge s'
+acts_revealed Within k reply_to Acts Acts' reply too s s' charge within acts =
     on_live_too (live_at s.value k) _ _ _ _ (λ missing. missing)
-    (λ x h. (h.0, h.1, too _ _ h.0 charge h.3 h.2, h.3, h.4)) acts
+    (λ x h. (h.0, h.1, too _ _ h.0 charge within h.3 h.2, h.3, h.4)) acts
 
-module _ {S : Type 0} (rules rules' : Rules S) (Shows : Reply → Type 0) where
+module _ {S : Type 0} (rules rules' : Rules S) (Shows : Reply → Type 0) (Within : S → Type 0) where
   -- where the replies to an attempt's errors show it, what the limiter sees is by the narrower rules
   abbrev pub Reveals : {V E : Type 0} → (E → Reply) → Request V E → Type 0
   Reveals {V} {E} refusal e =
-      (outcome : AttemptOutcome E) (l l' : S) → ((c : E) → IsErrorOf e outcome c → Shows (refusal c))
+      (outcome : AttemptOutcome E) (l l' : S) → Within l → ((c : E) → IsErrorOf e outcome c → Shows (refusal c))
       → Follows e rules l outcome l'
       → Follows e rules' l outcome l'
 
   -- so is the attempt
   attempt_revealed : {V E : Type 0} (refusal : E → Reply) (e : Request V E) → Reveals refusal e
-      → (s s' : MeteredValue V S) (outcome : AttemptOutcome E) (charge : ℕ)
+      → (s s' : MeteredValue V S) (outcome : AttemptOutcome E) (charge : ℕ) → Within s.limiter
       → ((c : E) → IsErrorOf e outcome c → Shows (refusal c)) → Attempt rules e s outcome charge s'
       → Attempt rules' e s outcome charge s'
-  attempt_revealed refusal e reveals s s' outcome charge shown a = record {
+  attempt_revealed refusal e reveals s s' outcome charge within shown a = record {
     may_end = a.may_end;
-    follows = reveals outcome s.limiter s'.limiter shown a.follows;
+    follows = reveals outcome s.limiter s'.limiter within shown a.follows;
     charged = a.charged;
     meter = a.meter;
     value = a.value;
@@ -76,28 +77,28 @@ module _ {S : Type 0} (rules rules' : Rules S) (Shows : Reply → Type 0) where
 
   -- a creation
   creates_revealed : {X E : Type 0} (refusal : E → Reply) (e : Request (Unit {0}) E) → Reveals refusal e
-      → (made : X) (slots : List (Slot X)) (l : S) (o : Outcome (List (Slot X)) S) → Shows o.reply
+      → (made : X) (slots : List (Slot X)) (l : S) (o : Outcome (List (Slot X)) S) → Within l → Shows o.reply
       → Creates refusal (Makes rules e made) slots l o.reply o.part o.limiter
       → Creates refusal (Makes rules' e made) slots l o.reply o.part o.limiter
-  creates_revealed refusal e reveals made slots l o shows (inl none) = inl none
-  creates_revealed refusal e reveals made slots l o shows (inr (result, (outcome, attempt, answered), appends)) =
+  creates_revealed refusal e reveals made slots l o within shows (inl none) = inl none
+  creates_revealed refusal e reveals made slots l o within shows (inr (result, (outcome, attempt, answered), appends)) =
       let shown : (c : _) → IsErrorOf e outcome c → Shows (refusal c) =
       λ c is. subst Shows (subst (λ r. AddsEntry Live refusal r slots o.reply o.part)
       (answered ∙ answered_error e made outcome c is) appends).0 shows
       in
       inr (
         result,
-        (outcome, attempt_revealed refusal e reveals (alone l) (alone o.limiter) outcome 0 shown attempt, answered),
+        (outcome, attempt_revealed refusal e reveals (alone l) (alone o.limiter) outcome 0 within shown attempt, answered),
         appends,
       )
 
   -- a growth
   grows_revealed : {V E : Type 0} (g : Growth V E) (refusal : E → Reply) → Reveals refusal g.request
-      → (s s' : MeteredValue V S) (result : Result ℕ E) (charge : ℕ)
+      → (s s' : MeteredValue V S) (result : Result ℕ E) (charge : ℕ) → Within s.limiter
       → Shows (reply_of replied.Number refusal result) → Grows rules g s result charge s'
       → Grows rules' g s result charge s'
-  grows_revealed g refusal reveals s s' result charge shows (inl none) = inl none
-  grows_revealed g refusal reveals s s' result charge shows (inr some) =
+  grows_revealed g refusal reveals s s' result charge within shows (inl none) = inl none
+  grows_revealed g refusal reveals s s' result charge within shows (inr some) =
       let shown : (c : _) → IsErrorOf g.request some.outcome c → Shows (refusal c) =
       λ c error. subst Shows (ap (reply_of replied.Number refusal)
       (some.answered ∙ answered_error g.request g.size some.outcome c error)) shows in
@@ -105,7 +106,7 @@ module _ {S : Type 0} (rules rules' : Rules S) (Shows : Reply → Type 0) where
         some = some.some;
         outcome = some.outcome;
         attempt = attempt_revealed refusal g.request reveals s s'
-            some.outcome charge shown some.attempt;
+            some.outcome charge within shown some.attempt;
         answered = some.answered;
       })
 
@@ -120,16 +121,16 @@ module _ {S : Type 0} (rules rules' : Rules S) (Shows : Reply → Type 0) where
     -- a growth of a table, whose type is tested first
     table_growth_revealed : (n : ℕ) (init : TypedRawRef) (s s' : MeteredValue TableValue S)
         (result : Result ℕ TableError)
-        (charge : ℕ) → Shows (reply_of replied.Number replied.Table result) → GrowsTable rules n init s result charge s'
-        → GrowsTable rules' n init s result charge s'
-    table_growth_revealed n init s s' result charge shows grows =
+        (charge : ℕ) → Within s.limiter → Shows (reply_of replied.Number replied.Table result)
+        → GrowsTable rules n init s result charge s' → GrowsTable rules' n init s result charge s'
+    table_growth_revealed n init s s' result charge within shows grows =
         on_test_too (same_type s.value.ty.element init.ty) _ _ _ _
         (grows_revealed (record { amount = n; size = size_of s.value; request = table.growth_of s.value n init.raw })
-        replied.Table (each.table_grown s.value n init.raw) s s' result charge shows)
+        replied.Table (each.table_grown s.value n init.raw) s s' result charge within shows)
         (λ mismatch. mismatch) grows
 
     -- an effect of any call
-    module _ (w : World S) (turn : Turn) (w' : World S) (shows : Shows turn.reply) where
+    module _ (w : World S) (turn : Turn) (w' : World S) (within : Within w.limiter) (shows : Shows turn.reply) where
       effect_revealed : (effect : Effect) → TakesEffect rules effect w turn w' → TakesEffect rules' effect w turn w'
       effect_revealed (MemoryMade ty) step = record {
         free = step.free;
@@ -137,7 +138,7 @@ module _ {S : Type 0} (rules rules' : Rules S) (Shows : Reply → Type 0) where
         limiter = step.limiter;
         effect = creates_revealed replied.Memory (memory.creation_of Owned ty) (each.memory_made Owned ty)
             (new_memory Owned ty) w.state.memories w.limiter
-            (record { reply = turn.reply; part = step.part; limiter = step.limiter }) shows step.effect;
+            (record { reply = turn.reply; part = step.part; limiter = step.limiter }) within shows step.effect;
         after = step.after;
       }
       effect_revealed (LentMemoryMade ty) step = record {
@@ -148,7 +149,7 @@ module _ {S : Type 0} (rules rules' : Rules S) (Shows : Reply → Type 0) where
             (λ region h. (
               creates_revealed replied.Memory (memory.creation_of (Lent region) ty)
                   (each.memory_made (Lent region) ty) (new_memory (Lent region) ty) w.state.memories w.limiter
-                  (record { reply = turn.reply; part = step.part.slots; limiter = step.limiter }) shows h.0,
+                  (record { reply = turn.reply; part = step.part.slots; limiter = step.limiter }) within shows h.0,
               h.1,
             )) step.effect;
         after = step.after;
@@ -158,13 +159,13 @@ module _ {S : Type 0} (rules rules' : Rules S) (Shows : Reply → Type 0) where
         meter = step.meter;
         limiter = step.limiter;
         effect =
-            acts_revealed k (reply_of replied.Number replied.Memory) (GrowsMemory rules pages)
+            acts_revealed Within k (reply_of replied.Number replied.Memory) (GrowsMemory rules pages)
             (GrowsMemory rules' pages) turn.reply
-            (λ s s' result charge is. grows_revealed
+            (λ s s' result charge inside is. grows_revealed
             (record { amount = pages; size = pages_of s.value; request = memory.growth_of s.value pages })
-            replied.Memory (each.memory_grown s.value pages) s s' result charge
+            replied.Memory (each.memory_grown s.value pages) s s' result charge inside
             (subst Shows is shows))
-            _ _ turn.charge step.effect;
+            _ _ turn.charge within step.effect;
         wrote = step.wrote;
         after = step.after;
       }
@@ -174,30 +175,32 @@ module _ {S : Type 0} (rules rules' : Rules S) (Shows : Reply → Type 0) where
         limiter = step.limiter;
         effect = creates_revealed replied.Table (table.creation_of ty init.ty) (each.table_made ty init.ty)
             (new_table ty init.raw) w.state.tables w.limiter
-            (record { reply = turn.reply; part = step.part; limiter = step.limiter }) shows step.effect;
+            (record { reply = turn.reply; part = step.part; limiter = step.limiter }) within shows step.effect;
         after = step.after;
       }
       effect_revealed (TableGrown k n init) step = record {
         part = step.part;
         meter = step.meter;
         limiter = step.limiter;
-        effect = acts_revealed k (reply_of replied.Number replied.Table) (GrowsTable rules n init)
+        effect = acts_revealed Within k (reply_of replied.Number replied.Table) (GrowsTable rules n init)
             (GrowsTable rules' n init) turn.reply
-            (λ s s' result charge is. table_growth_revealed n init s s' result charge (subst Shows is shows))
-            _ _ turn.charge
-            step.effect;
+            (λ s s' result charge inside is. table_growth_revealed n init s s' result charge inside (subst Shows is shows))
+            _ _ turn.charge within step.effect;
         wrote = step.wrote;
         after = step.after;
       }
       effect_revealed effect step = step
 
-    -- a run
-    pub run_revealed : (w : World S) (turns : List Turn) (w' : World S) → All Shows (map Turn.reply turns)
+    -- a run whose turns keep the limiter in such states
+    pub run_revealed : ((w : World S) (turn : Turn) (w' : World S) → Within w.limiter → Step rules w turn w'
+        → Within w'.limiter)
+        → (w : World S) (turns : List Turn) (w' : World S) → Within w.limiter → All Shows (map Turn.reply turns)
         → Run rules w turns w' → Run rules' w turns w'
-    run_revealed w [] w' shown ran = ran
-    run_revealed w (turn ∷ turns) w' shown (v, step, ran) = (
+    run_revealed keeps w [] w' within shown ran = ran
+    run_revealed keeps w (turn ∷ turns) w' within shown (v, step, ran) = (
       v,
-      effect_revealed w turn v (All-head Shows turn.reply (map Turn.reply turns) shown) (effect_of w.state turn.call)
-          step,
-      run_revealed v turns w' (All-tail Shows turn.reply (map Turn.reply turns) shown) ran,
+      effect_revealed w turn v within (All-head Shows turn.reply (map Turn.reply turns) shown)
+          (effect_of w.state turn.call) step,
+      run_revealed keeps v turns w' (keeps w turn v within step)
+          (All-tail Shows turn.reply (map Turn.reply turns) shown) ran,
     )

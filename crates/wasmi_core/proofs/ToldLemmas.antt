@@ -1,12 +1,13 @@
 -- Where each notice is accepted, the replies show whether anybody is told of want of memory.
-use Rattle.std.proofs.Common.{◌≡◌, ◌∙◌, Option, Some, None, List, [], ◌∷◌, map, refl, sym, ap, subst}
+use Rattle.std.proofs.Common.{◌≡◌, ◌∙◌, Option, Some, None, Ok, true, List, [], ◌∷◌, map, refl, sym, ap, subst}
 use Rattle.std.proofs.lemmas.List.Elements.{All-nil, All-cons, All-head, All-tail}
 use Rattle.std.specs.Prelude.{All}
 use Rattle.wasmi_meter.specs.declared.error.MemoryError.{MemoryError}
 use Rattle.wasmi_meter.specs.declared.error.MemoryError.TheVariants as memerr
 use Rattle.wasmi_meter.specs.declared.error.TableError.{TableError}
 use Rattle.wasmi_meter.specs.declared.error.TableError.TheVariants as taberr
-use Rattle.wasmi_meter.specs.Limiter.{MemoryFailure, TableFailure, Rules, unlimited_rules, optional_rules}
+use Rattle.wasmi_meter.specs.Limiter.{Question, Answer, Failure, NoticeAnswer, MemoryFailure, TableFailure, Rules}
+use Rattle.wasmi_meter.specs.Limiter.{AskedIf, NoticedIf, unlimited_rules, optional_rules}
 use Rattle.wasmi_meter.specs.Quota.{quota_rules}
 use Rattle.wasmi_meter.specs.Attempt.{Request, Unasked, Denied, Met, Failed, error_of_failure}
 use Rattle.wasmi_store.specs.Memory as memory
@@ -15,9 +16,12 @@ use Rattle.wasmi_core.specs.declared.calls.Call.{Call}
 use Rattle.wasmi_core.specs.declared.calls.Reply.{Reply}
 use Rattle.wasmi_core.specs.declared.calls.Reply.TheVariants as replied
 use Rattle.wasmi_core.specs.World.{World, Turn}
+use Rattle.wasmi_core.specs.Exchange.{Exchange, Nothing, Denial, Permission, Notice, Passes}
+use Rattle.wasmi_core.specs.Steps.{Step}
 use Rattle.wasmi_core.specs.Runs.{Run, IsRunOf}
-use Rattle.wasmi_core.specs.Determinism.{AcceptsNotices, IsNoWant, IsDeterministic, with_memory, HasMemory, HaveMemory}
+use Rattle.wasmi_core.specs.Determinism.{AcceptsNotices, StaysAccepting, IsIn, IsNoWant, IsDeterministic, with_memory, HasMemory, HaveMemory}
 use Rattle.wasmi_core.proofs.DeterminismLemmas as determinism
+use Rattle.wasmi_core.proofs.ExchangeLemmas.{growths_are_permitted}
 use Rattle.wasmi_core.proofs.RevealingLemmas.{Reveals, run_revealed}
 
 -- an error of which a reply that has memory tells is no want of it
@@ -46,31 +50,52 @@ no_table taberr.CopyOutOfBounds has = tt
 no_table taberr.ElementTypeMismatch has = tt
 no_table (taberr.OutOfFuel required) has = tt
 
-module _ {S : Type 0} (rules : Rules S) (accepts : AcceptsNotices rules) where
+module _ {S : Type 0} (rules : Rules S) (IsAccepting : S → Type 0) (stays : StaysAccepting rules IsAccepting) where
   -- the replies to an attempt's errors tell whether the limiter is told of want of memory
   want_revealed : {V E : Type 0} (refusal : E → Reply) (e : Request V E)
       → ((c : E) → HasMemory (refusal c) → IsNoWant (e.notice c))
-      → Reveals rules (with_memory rules) HasMemory refusal e
-  want_revealed refusal e nowant (Unasked c) l l' shown f = f
-  want_revealed refusal e nowant (Denied answer) l l' shown f = f
-  want_revealed refusal e nowant Met l l' shown f = f
-  want_revealed refusal e nowant (Failed c notice_answer) l l' shown (permitted, asks, notices) =
-      let accepted = accepts permitted (e.notice c) notice_answer l' notices in (
+      → Reveals rules (with_memory rules) HasMemory IsAccepting refusal e
+  want_revealed refusal e nowant (Unasked c) l l' within shown f = f
+  want_revealed refusal e nowant (Denied answer) l l' within shown f = f
+  want_revealed refusal e nowant Met l l' within shown f = f
+  want_revealed refusal e nowant (Failed c notice_answer) l l' within shown (permitted, asks, notices) =
+      let still = stays.asked l e.question (Ok true) permitted within asks in
+      let accepted = stays.noticed permitted (e.notice c) notice_answer l' still notices in (
         permitted,
         asks,
-        (notices, nowant c (subst (λ h. HasMemory (refusal (error_of_failure e.refusal c h))) accepted (shown _ refl))),
+        (
+          notices,
+          nowant c (subst (λ h. HasMemory (refusal (error_of_failure e.refusal c h))) accepted.0 (shown _ refl)),
+        ),
       )
 
+  -- an exchange leaves the limiter in these states
+  exchange_stays : (exchange : Exchange) (l l' : S) → Passes rules l exchange l' → IsAccepting l → IsAccepting l'
+  exchange_stays Nothing l l' passes within = subst IsAccepting (sym passes) within
+  exchange_stays (Denial question answer) l l' passes within = stays.asked l question answer l' within passes.1
+  exchange_stays (Permission question) l l' passes within = stays.asked l question (Ok true) l' within passes
+  exchange_stays (Notice question failure notice_answer) l l' (kind, permitted, asks, notices) within =
+      (stays.noticed permitted failure notice_answer l' (stays.asked l question (Ok true) permitted within asks)
+      notices).1
+
+  -- so does a step
+  step_stays : (w : World S) (turn : Turn) (w' : World S) → IsAccepting w.limiter → Step rules w turn w'
+      → IsAccepting w'.limiter
+  step_stays w turn w' within step =
+      let exchanged = growths_are_permitted rules w turn w' step in
+      exchange_stays exchanged.0 w.limiter w'.limiter exchanged.1.0 within
+
   -- a run whose replies have memory is one under these rules
-  pub told_run : (w : World S) (turns : List Turn) (w' : World S) → All HasMemory (map Turn.reply turns)
-      → Run rules w turns w' → Run (with_memory rules) w turns w'
-  told_run = run_revealed rules (with_memory rules) HasMemory
+  pub told_run : (w : World S) (turns : List Turn) (w' : World S) → IsAccepting w.limiter
+      → All HasMemory (map Turn.reply turns) → Run rules w turns w' → Run (with_memory rules) w turns w'
+  told_run = run_revealed rules (with_memory rules) HasMemory IsAccepting
       (record {
         memory_made = λ room ty. want_revealed replied.Memory (memory.creation_of room ty) no_memory;
         memory_grown = λ x pages. want_revealed replied.Memory (memory.growth_of x pages) no_memory;
         table_made = λ ty init. want_revealed replied.Table (table.creation_of ty init) no_table;
         table_grown = λ x n reference. want_revealed replied.Table (table.growth_of x n reference) no_table;
       })
+      step_stays
 
 -- turns whose replies have memory, and their replies
 all_shown : (turns : List Turn) → HaveMemory turns → All HasMemory (map Turn.reply turns)
@@ -91,13 +116,33 @@ replies_have : (turns : List Turn) (replies : List Reply) → map Turn.reply tur
     → HaveMemory turns
 replies_have turns replies is has = all_have turns (subst (All HasMemory) (sym is) has)
 
--- a limiter that may be absent accepts all that the limiter accepts
-optional_accepts : {L : Type 0} (rules : Rules L) → AcceptsNotices rules → AcceptsNotices (optional_rules rules)
-optional_accepts rules accepts (Some l) failure notice_answer (Some l') noticed =
-    accepts l failure notice_answer l' noticed
-optional_accepts rules accepts (Some l) failure notice_answer None noticed = absurd noticed
-optional_accepts rules accepts None failure notice_answer (Some l') noticed = absurd noticed
-optional_accepts rules accepts None failure notice_answer None noticed = noticed
+-- a limiter that accepts each notice does so in any state
+pub accepts_always : {S : Type 0} (rules : Rules S) → AcceptsNotices rules → StaysAccepting rules (λ l. Unit {0})
+accepts_always rules accepts = record {
+  asked = λ l question answer l' within asks. tt;
+  noticed = λ l failure notice_answer l' within notices. (accepts l failure notice_answer l' notices, tt);
+}
+
+-- a limiter that may be absent stays in the states in which the limiter stays
+module _ {L : Type 0} (rules : Rules L) (IsAccepting : L → Type 0) (stays : StaysAccepting rules IsAccepting) where
+  asked_stays : (l : Option L) (question : Question) (answer : Answer) (l' : Option L) → IsIn IsAccepting l
+      → AskedIf rules l question answer l' → IsIn IsAccepting l'
+  asked_stays (Some l) question answer (Some l') within asks = stays.asked l question answer l' within asks
+  asked_stays (Some l) question answer None within asks = tt
+  asked_stays None question answer (Some l') within asks = absurd asks
+  asked_stays None question answer None within asks = tt
+
+  noticed_stays : (l : Option L) (failure : Failure) (notice_answer : NoticeAnswer) (l' : Option L)
+      → IsIn IsAccepting l → NoticedIf rules l failure notice_answer l'
+      → (notice_answer ≡ Ok tt) × IsIn IsAccepting l'
+  noticed_stays (Some l) failure notice_answer (Some l') within notices =
+      stays.noticed l failure notice_answer l' within notices
+  noticed_stays (Some l) failure notice_answer None within notices = absurd notices
+  noticed_stays None failure notice_answer (Some l') within notices = absurd notices
+  noticed_stays None failure notice_answer None within notices = (notices, tt)
+
+  optional_stays : StaysAccepting (optional_rules rules) (IsIn IsAccepting)
+  optional_stays = record { asked = asked_stays; noticed = noticed_stays }
 
 -- the limiter that permits everything
 pub unlimited_accepts : {S : Type 0} → AcceptsNotices (unlimited_rules {S = S})
@@ -114,23 +159,43 @@ pub record SeenRun {S : Type 0} (rules : Rules S) (calls : List Call) (w : World
   pub has : All HasMemory replies
   pub ran : IsRunOf rules calls w replies after
 
-module _ {L : Type 0} (rules : Rules L) (accepts : AcceptsNotices rules) where
+module _ {L : Type 0} (rules : Rules L) (IsAccepting : L → Type 0) (stays : StaysAccepting rules IsAccepting) where
   -- so where the limiter may be absent
-  pub told_runs : (w : World (Option L)) (turns : List Turn) (w' : World (Option L)) → HaveMemory turns
-      → Run (optional_rules rules) w turns w' → Run (with_memory (optional_rules rules)) w turns w'
-  told_runs w turns w' have =
-      told_run (optional_rules rules) (optional_accepts rules accepts) w turns w' (all_shown turns have)
+  accepted_runs : (w : World (Option L)) (turns : List Turn) (w' : World (Option L)) → IsIn IsAccepting w.limiter
+      → HaveMemory turns → Run (optional_rules rules) w turns w' → Run (with_memory (optional_rules rules)) w turns w'
+  accepted_runs w turns w' within have =
+      told_run (optional_rules rules) (IsIn IsAccepting) (optional_stays rules IsAccepting stays) w turns w' within
+      (all_shown turns have)
 
   -- two runs of the same calls, as a host sees them
-  pub replies_are_one : IsDeterministic rules → (calls : List Call) (w : World (Option L))
-      (a b : SeenRun (optional_rules rules) calls w) → (a.replies ≡ b.replies) × (a.after ≡ b.after)
-  replies_are_one once calls w a b =
+  pub accepted_replies_are_one : IsDeterministic rules → (calls : List Call) (w : World (Option L))
+      → IsIn IsAccepting w.limiter
+      → (a b : SeenRun (optional_rules rules) calls w) → (a.replies ≡ b.replies) × (a.after ≡ b.after)
+  accepted_replies_are_one once calls w within a b =
       let (turns, made, told, ran) = a.ran in
       let (turns', made', told', ran') = b.ran in
       let have = replies_have turns a.replies told a.has in
       let have' = replies_have turns' b.replies told' b.has in
       let one =
       determinism.runs_are_one (optional_rules rules) (determinism.optional_once rules once) w turns turns' a.after
-      b.after (made ∙ sym made') have have' (told_runs w turns a.after have ran)
-      (told_runs w turns' b.after have' ran') in
+      b.after (made ∙ sym made') have have' (accepted_runs w turns a.after within have ran)
+      (accepted_runs w turns' b.after within have' ran') in
       (sym told ∙ ap (map Turn.reply) one.0 ∙ told', one.1)
+
+-- any limiter is in a state of which nothing is said
+any_state : {L : Type 0} (l : Option L) → IsIn (λ state. Unit {0}) l
+any_state (Some l) = tt
+any_state None = tt
+
+module _ {L : Type 0} (rules : Rules L) (accepts : AcceptsNotices rules) where
+  -- a run whose replies have memory, under a limiter that accepts each notice
+  pub told_runs : (w : World (Option L)) (turns : List Turn) (w' : World (Option L)) → HaveMemory turns
+      → Run (optional_rules rules) w turns w' → Run (with_memory (optional_rules rules)) w turns w'
+  told_runs w turns w' =
+      accepted_runs rules (λ l. Unit {0}) (accepts_always rules accepts) w turns w' (any_state w.limiter)
+
+  -- two runs of the same calls under such a limiter
+  pub replies_are_one : IsDeterministic rules → (calls : List Call) (w : World (Option L))
+      (a b : SeenRun (optional_rules rules) calls w) → (a.replies ≡ b.replies) × (a.after ≡ b.after)
+  replies_are_one once calls w =
+      accepted_replies_are_one rules (λ l. Unit {0}) (accepts_always rules accepts) once calls w (any_state w.limiter)

@@ -1,5 +1,5 @@
 -- Limiters that leave no choice, and runs in which memory isn't wanting.
-use Rattle.std.specs.Prelude.{◌≡◌, List, [], ◌∷◌, Ok}
+use Rattle.std.specs.Prelude.{◌≡◌, List, [], ◌∷◌, Ok, Option, Some, None}
 use Rattle.wasmi_meter.specs.declared.error.MemoryError.TheVariants as memory
 use Rattle.wasmi_meter.specs.declared.error.TableError.TheVariants as table
 use Rattle.wasmi_meter.specs.Limiter.{Question, Answer, Failure, MemoryFailure, TableFailure, NoticeAnswer, Rules}
@@ -21,6 +21,18 @@ abbrev pub AcceptsNotices : {S : Type 0} → Rules S → Type 0
 AcceptsNotices {S} rules =
     (l : S) (failure : Failure) (notice_answer : NoticeAnswer) (l' : S) → rules.noticed l failure notice_answer l'
     → notice_answer ≡ Ok tt
+
+-- a limiter in one of these states accepts each notice, and stays in them
+pub record StaysAccepting {S : Type 0} (rules : Rules S) (IsAccepting : S → Type 0) : Type 0 where
+  pub asked : (l : S) (question : Question) (answer : Answer) (l' : S) → IsAccepting l
+      → rules.asked l question answer l' → IsAccepting l'
+  pub noticed : (l : S) (failure : Failure) (notice_answer : NoticeAnswer) (l' : S) → IsAccepting l
+      → rules.noticed l failure notice_answer l' → (notice_answer ≡ Ok tt) × IsAccepting l'
+
+-- a limiter that may be absent is in one of these states, where it is there
+abbrev pub IsIn : {S : Type 0} → (S → Type 0) → Option S → Type 0
+IsIn IsAccepting (Some l) = IsAccepting l
+IsIn IsAccepting None = Unit {0}
 
 -- the failure isn't want of memory
 abbrev pub IsNoWant : Failure → Type 0

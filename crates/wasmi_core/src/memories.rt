@@ -223,7 +223,8 @@ fn read_bytes(alloc: Global, memory: &[u8], offset: usize, len: usize) -> Reply
     }
 }
 
-/// Stores a number to a memory.
+/// Stores a number to a memory. A function of the memory alone, as the two below: its clause says
+/// what the memory becomes, apart from the slot that lends it.
 fn store(
     memory: &mut Memory,
     op: StoreOp,
