@@ -8,6 +8,7 @@ use mir.Val.{hbits}
 
 module _ (w : Width) (n : ℕ) (a b chosen other : List ℕ) (long_a : length a ≡ n) (long_b : length b ≡ n)
     (long_chosen : length chosen ≡ n) (long_other : length other ≡ n) where
+  -- lane i of the chosen lanes is that of `chosen` where lane i of a is less than that of b, else that of `other`
   pub chosen_where_less : (i : ℕ) → i < n
       → get_or (sel_l (map (top (hbits w)) (zip2 (λ x y. cond (ltb x y) (2 ^ bits w - 1) 0) a b)) chosen other) i 0
       ≡ (if nat_lt (get_or a i 0) (get_or b i 0) then get_or chosen i 0 else get_or other i 0)

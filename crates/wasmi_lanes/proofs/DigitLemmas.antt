@@ -11,9 +11,11 @@ use Rattle.wasmi_lanes.specs.Lane.{lane}
 abbrev digit : ℕ → ℕ → ℕ → ℕ
 digit b v i = v / 2 ^ (b * i) % 2 ^ b
 
+-- the digit of v at 0 is its lowest b bits
 digit_first : (b v : ℕ) → digit b v 0 ≡ v % 2 ^ b
 digit_first b v = ap (λ k. v / 2 ^ k % 2 ^ b) (mul-zero b) ∙ ap (λ n. n % 2 ^ b) (div-one v)
 
+-- the digit of v at i + 1 is that of v / 2 ^ b at i
 digit_next : (b i v : ℕ) → digit b v (suc i) ≡ digit b (v / 2 ^ b) i
 digit_next b i v =
     let next : b * suc i ≡ b + b * i = omega (arith, mul-suc b i) in
@@ -25,10 +27,12 @@ digit_at b zero v i d below = absurd (omega arith)
 digit_at b (suc n) v zero d below = sym (digit_first b v)
 digit_at b (suc n) v (suc i) d below = digit_at b n (v / 2 ^ b) i d (omega arith) ∙ sym (digit_next b i v)
 
+-- the list of n digits of a number has n items
 length_digits : (p n v : ℕ) → length (digits_l p n v) ≡ n
 length_digits p zero v = refl
 length_digits p (suc n) v = ap suc (length_digits p n (v / p))
 
+-- x + p * n, with its factors and its summands swapped
 turned : (p x n : ℕ) → x + p * n ≡ n * p + x
 turned p x n = omega (arith, mul_comm p n)
 

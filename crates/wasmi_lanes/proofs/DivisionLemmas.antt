@@ -25,15 +25,18 @@ from_fields v start (width ∷ widths) fits whole =
     ap (λ n. x % q * p + n) (rest ∙ ap₂ ◌*◌ above place ∙ moved)
     ∙ omega (arith, add-mul (x / q * q) (x % q) p, ap (λ n. n * p) (div-add-mod' x q))
 
+-- a word is the word of its own lanes, whatever their widths are, where these have the sum 64
 pub word_from_lanes : (v : ℕ) (widths : List ℕ) → v < 2 ^ 64 → sum widths ≡ 64
     → v ≡ word_of_lanes (λ k w. field k w v) 0 widths
 word_from_lanes v widths fits whole = sym (from_fields v 0 widths fits (omega arith) ∙ mul-one (v / 1) ∙ div-one v)
 
+-- lanes of tops from start on up to the end of the word have widths whose sum with start is 64
 widths_of_lanes : (tops start : ℕ) (widths : List ℕ) → AreLanes tops start widths → start + sum widths ≡ 64
 widths_of_lanes tops start [] end = omega arith
 widths_of_lanes tops start (width ∷ widths) lanes =
     omega (arith, widths_of_lanes tops (start + width) widths lanes.1, sum_by-cons (λ x. x) width widths)
 
+-- two functions that agree on every lane of tops give the same word of these lanes
 same_lanes : (tops start : ℕ) (widths : List ℕ) (f g : ℕ → ℕ → ℕ) → ((k w : ℕ) → IsLane tops k w → f k w ≡ g k w)
     → AreLanes tops start widths
     → word_of_lanes f start widths ≡ word_of_lanes g start widths

@@ -7,28 +7,34 @@ use Rattle.std.proofs.Math.Pow.{ones_split, shr_mono, mod-mod-pow}
 use Rattle.std.proofs.lemmas.Nat.{pow_pos, shr-shr, and_mask, div-add-mod', div-mul-add, mod-mul-add, and_shr, and_mod, or_shr, or_mod, xor_shr, xor_mod, field_of, shr_below}
 use Rattle.wasmi_lanes.specs.Words.{field}
 
+-- a field of w bits is below 2 ^ w
 pub field_lt : (k w a : ℕ) → field k w a < 2 ^ w
 unfolding field
 field_lt k w a = mod-lt (a / 2 ^ k) (pow_pos w)
 
+-- a field of the bits that a and b share is the bits that their fields share
 pub field_and : (k w a b : ℕ) → field k w (bit_and a b) ≡ bit_and (field k w a) (field k w b)
 unfolding field
 field_and k w a b = ap (λ n. n % 2 ^ w) (and_shr a b k) ∙ and_mod (a / 2 ^ k) (b / 2 ^ k) w
 
+-- a field of the bits that a or b has is the bits that either's field has
 pub field_or : (k w a b : ℕ) → field k w (bit_or a b) ≡ bit_or (field k w a) (field k w b)
 unfolding field
 field_or k w a b = ap (λ n. n % 2 ^ w) (or_shr a b k) ∙ or_mod (a / 2 ^ k) (b / 2 ^ k) w
 
+-- a field of the bits in which a and b differ is the bits in which their fields differ
 pub field_xor : (k w a b : ℕ) → field k w (bit_xor a b) ≡ bit_xor (field k w a) (field k w b)
 unfolding field
 field_xor k w a b = ap (λ n. n % 2 ^ w) (xor_shr a b k) ∙ xor_mod (a / 2 ^ k) (b / 2 ^ k) w
 
+-- the bits of a sum from k on are the sum of those of a and b, where the bits below k give no carry
 shr_add : (k a b : ℕ) → a % 2 ^ k + b % 2 ^ k < 2 ^ k → (a + b) / 2 ^ k ≡ a / 2 ^ k + b / 2 ^ k
 shr_add k a b h =
     let parts : a + b ≡ (a / 2 ^ k + b / 2 ^ k) * 2 ^ k + (a % 2 ^ k + b % 2 ^ k) =
     omega (arith, div-add-mod' a (2 ^ k), div-add-mod' b (2 ^ k), add-mul (a / 2 ^ k) (b / 2 ^ k) (2 ^ k)) in
     ap (λ n. n / 2 ^ k) parts ∙ div-mul-add (a / 2 ^ k + b / 2 ^ k) (2 ^ k) (a % 2 ^ k + b % 2 ^ k) h
 
+-- a field of 0 is 0
 pub field_of_zero : (k w : ℕ) → field k w 0 ≡ 0
 unfolding field
 field_of_zero k w = ap (λ n. n % 2 ^ w) (zero-div (2 ^ k)) ∙ zero-mod (2 ^ w)
@@ -60,6 +66,7 @@ shr_sub k a b le low =
     let fits : (a - b) % 2 ^ k + b % 2 ^ k < 2 ^ k = low_sub k a b le low in
     sym (shr_add k (a - b) b fits) ∙ ap (λ n. n / 2 ^ k) (sym whole)
 
+-- where c + b is a, c modulo q is the difference of a modulo q and b modulo q, wrapped
 wrap_sub : (q a b c : ℕ) → 0 < q → c + b ≡ a → c % q ≡ (a % q + (q - b % q)) % q
 wrap_sub q a b c pos e =
     let below : b % q < q = mod-lt b pos in
@@ -80,6 +87,7 @@ field_mod k w n a within =
     let e : n ≡ (i + w) + k = omega arith in
     ap (λ m. a % 2 ^ m / 2 ^ k % 2 ^ w) e ∙ ap (λ m. m % 2 ^ w) (field_of a (i + w) k) ∙ mod-mod-pow (a / 2 ^ k) i w
 
+-- the complement of j + k bits consists of the complements of the upper j bits and of the lower k bits
 complement : (j k v : ℕ) → v < 2 ^ (j + k)
     → 2 ^ (j + k) - 1 - v ≡ (2 ^ j - 1 - v / 2 ^ k) * 2 ^ k + (2 ^ k - 1 - v % 2 ^ k)
 complement j k v fits =
@@ -92,11 +100,13 @@ complement j k v fits =
     let parts : v / 2 ^ k * 2 ^ k + v % 2 ^ k ≡ v = div-add-mod' v (2 ^ k) in
     omega (arith, ones_split j k, rows, parts)
 
+-- the upper j bits of the complement of j + k bits are the complement of the upper j bits
 complement_shr : (j k v : ℕ) → v < 2 ^ (j + k) → (2 ^ (j + k) - 1 - v) / 2 ^ k ≡ 2 ^ j - 1 - v / 2 ^ k
 complement_shr j k v fits =
     ap (λ n. n / 2 ^ k) (complement j k v fits)
     ∙ div-mul-add (2 ^ j - 1 - v / 2 ^ k) (2 ^ k) (2 ^ k - 1 - v % 2 ^ k) (omega (arith, pow_pos k))
 
+-- the lower k bits of the complement of j + k bits are the complement of the lower k bits
 complement_mod : (j k v : ℕ) → v < 2 ^ (j + k) → (2 ^ (j + k) - 1 - v) % 2 ^ k ≡ 2 ^ k - 1 - v % 2 ^ k
 complement_mod j k v fits =
     ap (λ n. n % 2 ^ k) (complement j k v fits)
@@ -130,12 +140,14 @@ field_wrapping_sub k w n a b within fits low =
 
 -- ---- lanes of one width, the first at 0
 
+-- lane 0 of a word is its lowest w bits
 pub first_lane : (w v : ℕ) → field (w * 0) w v ≡ v % 2 ^ w
 unfolding field
 first_lane w v =
     let none : w * 0 ≡ 0 = mul-zero w in
     ap (λ k. v / 2 ^ k % 2 ^ w) none ∙ ap (λ n. n % 2 ^ w) (div-one v)
 
+-- lane i + 1 of a word is lane i of the word without its lowest w bits
 pub next_lane : (w i v : ℕ) → field (w * suc i) w v ≡ field (w * i) w (v / 2 ^ w)
 unfolding field
 next_lane w i v =

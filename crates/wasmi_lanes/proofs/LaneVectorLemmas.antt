@@ -8,9 +8,11 @@ use Rattle.wasmi_lanes.specs.Vector.{first_lanes, from_lanes}
 use Rattle.wasmi_types.specs.Wrapping.{Width, w8, w16, w32, w64, bits}
 use mir.Syntax.{w128}
 
+-- a lane is below 2 to the power of its width
 pub lane_below : (w : Width) (v i : ℕ) → lane w v i < 2 ^ bits w
 lane_below w v i = mod-lt (v / 2 ^ (bits w * i)) (pow_pos (bits w))
 
+-- where n lanes of a width make 128 bits, 128 divided by the width is n
 pub lanes_of_width : (w : Width) (n : ℕ) → n * bits w ≡ 128 → 128 / bits w ≡ n
 lanes_of_width w8 n e = omega arith
 lanes_of_width w16 n e = omega arith
@@ -18,9 +20,11 @@ lanes_of_width w32 n e = omega arith
 lanes_of_width w64 n e = omega arith
 lanes_of_width w128 n e = omega arith
 
+-- a number of the parts l' and t' is the number of parts that are equal to them
 joined : (l l' t t' p v : ℕ) → l ≡ l' → t ≡ t' → v ≡ t' * p + l' → l + t * p ≡ v
 joined l l' t t' p v e f h = ap (λ k. k + t * p) e ∙ ap (λ k. l' + k * p) f ∙ add_comm l' (t' * p) ∙ sym h
 
+-- where f gives the first n lanes of v, the number of these lanes is the bits of v that they take
 first_lanes_are : (w : Width) (v : ℕ) (f : ℕ → ℕ) (n : ℕ) → ((i : ℕ) → i < n → lane w v i ≡ f i)
     → first_lanes w n f ≡ v % 2 ^ (bits w * n)
 unfolding first_lanes

@@ -51,6 +51,7 @@ lane_split h x fits =
     let whole : x % 2 ^ (1 + h) ≡ x = ap (λ i. x % 2 ^ i) one ∙ mod-eq_of_lt fits in
     sym (mod-pow-add x 1 h) ∙ whole
 
+-- of h + 1 bits, c the top and m the others, to flip the top is to add 2 ^ h modulo 2 ^ (h + 1)
 flipped : (h c m : ℕ) → c < 2 → m < 2 ^ h
     → bit_xor (c * 2 ^ h + m) (1 * 2 ^ h + 0) ≡ (c * 2 ^ h + m + 1 * 2 ^ h) % 2 ^ suc h
 flipped h zero m bit low =
@@ -89,6 +90,7 @@ turns h z n =
     let sum : z + n * 2 ^ h ≡ (z + n % 2 * 2 ^ h) + n / 2 * 2 ^ suc h = omega arith in
     sym (ap (λ m. m % 2 ^ suc h) sum ∙ add-mul-mod_self_right (z + n % 2 * 2 ^ h) (n / 2) (2 ^ suc h))
 
+-- a bit b and its complement c make 1, so (a + c) * p and b * p make a * p and p
 tops_of : (a b c p : ℕ) → c ≡ 1 - b → b < 2 → (a + c) * p + b * p ≡ a * p + p
 tops_of a b c p e bit =
     let one : (a + c) + b ≡ a + 1 = omega arith in
@@ -98,9 +100,11 @@ tops_of a b c p e bit =
 pub xor_tops : (h z n : ℕ) → z < 2 ^ suc h → bit_xor z (n % 2 * 2 ^ h) ≡ (z + n * 2 ^ h) % 2 ^ suc h
 xor_tops h z n fits = xor_top h z (n % 2) fits (omega arith) ∙ turns h z n
 
+-- the bit h in which x and y differ, in its place, is the sum of their bits h modulo 2
 and_top_xor : (h x y : ℕ) → bit_and (bit_xor x y) (2 ^ h) ≡ (bit_at x h + bit_at y h) % 2 * 2 ^ h
 and_top_xor h x y = and_pow (bit_xor x y) h ∙ ap (λ b. b * 2 ^ h) (bit_at_xor x y h)
 
+-- the sum of the bits below the tops, its top flipped where the tops differ, is the sum of two lanes, wrapped
 pub lane_add : (h x y : ℕ) → x < 2 ^ suc h → y < 2 ^ suc h →
     bit_xor ((bit_and x (2 ^ h - 1) + bit_and y (2 ^ h - 1)) % 2 ^ suc h) (bit_and (bit_xor x y) (2 ^ h))
     ≡ (x + y) % 2 ^ suc h
@@ -114,9 +118,11 @@ lane_add h x y fx fy =
     ap₂ bit_xor (ap (λ n. n % 2 ^ suc h) low ∙ mod-eq_of_lt small) (and_top_xor h x y)
     ∙ xor_tops h (x % 2 ^ h + y % 2 ^ h) (bit_at x h + bit_at y h) small ∙ ap (λ n. n % 2 ^ suc h) sum
 
+-- x with its top set is its bits below the top and 2 ^ h
 or_top : (h x : ℕ) → x < 2 ^ suc h → bit_or x (2 ^ h) ≡ x % 2 ^ h + 2 ^ h
 or_top h x fits = omega (arith, or_add_and x (2 ^ h), and_pow x h, lane_split h x fits)
 
+-- the top of the complement of h + 1 bits is the complement of their top
 pub not_top : (h y : ℕ) → y < 2 ^ suc h → bit_at (2 ^ suc h - 1 - y) h ≡ 1 - bit_at y h
 unfolding field
 not_top h y fits =
@@ -124,6 +130,7 @@ not_top h y fits =
     let sum : h + 1 ≤ suc h = omega arith in
     field_not h 1 (suc h) y sum fits
 
+-- x with its top set less the bits of y below the top, top flipped where the tops are equal, is x - y, wrapped
 pub lane_sub : (h x y : ℕ) → x < 2 ^ suc h → y < 2 ^ suc h →
     bit_xor ((bit_or x (2 ^ h) + (2 ^ suc h - bit_and y (2 ^ h - 1))) % 2 ^ suc h)
     (bit_and (bit_xor x (2 ^ suc h - 1 - y)) (2 ^ h)) ≡ (x + (2 ^ suc h - y)) % 2 ^ suc h
@@ -145,16 +152,19 @@ same_from_xor x y e =
     sym (xor_zero_r x) ∙ ap (bit_xor x) (sym (xor_self y)) ∙ sym (xor_assoc x y y) ∙ ap (λ z. bit_xor z y) e
     ∙ xor_zero_l y
 
+-- a bit b that makes a number of at least p out of p and a rest below p is 1
 top_case : (b p r s : ℕ) → b < 2 → r < p → b * p + r ≡ s → p ≤ s → b ≡ 1
 top_case zero p r s bit low e le = absurd (omega arith)
 top_case (suc zero) p r s bit low e le = refl
 top_case (suc (suc b)) p r s bit low e le = absurd (omega arith)
 
+-- a number of h + 1 bits that is at least 2 ^ h has its top
 top_of : (h s : ℕ) → s < 2 ^ suc h → 2 ^ h ≤ s → bit_at s h ≡ 1
 top_of h s fits le =
     let whole : bit_at s h * 2 ^ h + s % 2 ^ h ≡ s = lane_split h s fits in
     top_case (bit_at s h) (2 ^ h) (s % 2 ^ h) s (bit_at-lt s h) (mod-lt s (pow_pos h)) whole le
 
+-- where z of h + 1 bits isn't 0, z or the sum s of its bits below the top and 2 ^ h - 1 has the top
 some_top : (h z s b : ℕ) → z < 2 ^ suc h → 0 < z → s ≡ z % 2 ^ h + (2 ^ h - 1) → s < 2 ^ suc h → bit_at z h ≡ b
     → max (bit_at s h) b ≡ 1
 some_top h z s zero fits pos e small at =
@@ -164,6 +174,7 @@ some_top h z s zero fits pos e small at =
 some_top h z s (suc zero) fits pos e small at = omega (arith, bit_at-lt s h)
 some_top h z s (suc (suc b)) fits pos e small at = absurd (omega (arith, bit_at-lt z h))
 
+-- so the top of a lane that isn't 0, in the lane or in that sum, is set
 lane_some : (h z : ℕ) → z < 2 ^ suc h → 0 < z →
     bit_and (bit_or ((bit_and z (2 ^ h - 1) + (2 ^ h - 1)) % 2 ^ suc h) z) (2 ^ h) ≡ 2 ^ h
 lane_some h z fits pos =
@@ -175,6 +186,7 @@ lane_some h z fits pos =
     ap (λ n. bit_and (bit_or n z) (2 ^ h)) sum ∙ and_pow (bit_or s z) h ∙ ap (λ b. b * 2 ^ h) (bit_at_or s z h ∙ set)
     ∙ one-mul (2 ^ h)
 
+-- and it isn't set where the lane is 0
 lane_none : (h : ℕ) → bit_and (bit_or ((bit_and 0 (2 ^ h - 1) + (2 ^ h - 1)) % 2 ^ suc h) 0) (2 ^ h) ≡ 0
 lane_none h =
     let small : 2 ^ h - 1 < 2 ^ suc h = omega (arith, pow-suc 2 h, pow_pos h) in

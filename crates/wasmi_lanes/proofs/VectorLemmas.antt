@@ -26,6 +26,7 @@ lanes_below w f (suc n) =
     subst (λ k. first_lanes w n f + x * p < 2 ^ k) (sym next)
     (omega (arith, lanes_below w f n, pow-add 2 (bits w) (bits w * n), add-mul x 1 p, one-mul p))
 
+-- lane i of the number whose first n lanes are f is f i at the lane's width, where i is below n
 lane_of_first : (w : Width) (f : ℕ → ℕ) (n i : ℕ) → i < n → lane w (first_lanes w n f) i ≡ f i % 2 ^ bits w
 unfolding first_lanes field
 lane_of_first w f zero i inside = absurd (omega arith)
@@ -46,20 +47,24 @@ lane_of_first w f (suc n) i inside =
           ∙ lane_of_first w f n i (omega arith)
     ]
 
+-- lane i of the vector of the lanes f is f i at the lane's width, where n lanes make 128 bits
 pub lane_of_lanes : (w : Width) (f : ℕ → ℕ) (n i : ℕ) → n * bits w ≡ 128 → i < n
     → lane w (from_lanes w f) i ≡ f i % 2 ^ bits w
 lane_of_lanes w f n i filled inside =
     ap (λ k. lane w (first_lanes w k f) i) (lanes_of_width w n filled) ∙ lane_of_first w f n i inside
 
 module _ (w : Width) (i : ℕ) (inside : i < 128 / bits w) where
+  -- lane i of the vector of the lanes f is f i at the lane's width
   pub lane_of_from : (f : ℕ → ℕ) → lane w (from_lanes w f) i ≡ f i % 2 ^ bits w
   lane_of_from f = lane_of_first w f (128 / bits w) i inside
 
+  -- lane i of the vector of a row of one operand is the row of the operand's lane i
   pub lane_of_unary : {A : Type 0} (read : ℕ → A) (row : A → ℕ) (a : ℕ)
       → lane w (unary_of_lanes w read row a) i ≡ row (read (lane w a i)) % 2 ^ bits w
   unfolding unary_of_lanes
   lane_of_unary read row a = lane_of_from (λ i. row (read (lane w a i)))
 
+  -- lane i of the vector of a row of two operands is the row of their lanes i
   pub lane_of_binary : {A : Type 0} (read : ℕ → A) (row : A → A → ℕ) (a b : ℕ)
       → lane w (binary_of_lanes w read row a b) i ≡ row (read (lane w a i)) (read (lane w b i)) % 2 ^ bits w
   unfolding binary_of_lanes
@@ -70,6 +75,7 @@ module _ (w : Width) (i : ℕ) (inside : i < 128 / bits w) where
   choice_fits true = mod-eq_of_lt (let fits : 2 ^ bits w - 1 < 2 ^ bits w = omega (arith, pow_pos (bits w)) in fits)
   choice_fits false = mod-eq_of_lt (pow_pos (bits w))
 
+  -- lane i of a comparison is all ones where the test of the operands' lanes i holds, else all zeros
   pub lane_of_comparison : {A : Type 0} (read : ℕ → A) (test : A → A → Bool) (a b : ℕ)
       → lane w (comparison_of_lanes w read test a b) i
       ≡ (if test (read (lane w a i)) (read (lane w b i)) then 2 ^ bits w - 1 else 0)
@@ -78,15 +84,18 @@ module _ (w : Width) (i : ℕ) (inside : i < 128 / bits w) where
       lane_of_from (λ i. if test (read (lane w a i)) (read (lane w b i)) then 2 ^ bits w - 1 else 0)
       ∙ choice_fits (test (read (lane w a i)) (read (lane w b i)))
 
+  -- lane i of the vector with n in each lane is n
   pub lane_of_splat : (n : ℕ) → n < 2 ^ bits w → lane w (splat_of w n) i ≡ n
   unfolding splat_of
   lane_of_splat n fits = lane_of_from (λ _. n) ∙ mod-eq_of_lt fits
 
+  -- n or a lane, as a test decides, is within the width
   replaced_fits : (v n : ℕ) (t : Bool) → n < 2 ^ bits w
       → (if t then n else lane w v i) % 2 ^ bits w ≡ (if t then n else lane w v i)
   replaced_fits v n true fits = mod-eq_of_lt fits
   replaced_fits v n false fits = mod-eq_of_lt (lane_below w v i)
 
+  -- lane i of v with n in lane k is n where i is k, else lane i of v
   pub lane_of_with_lane : (v k n : ℕ) → n < 2 ^ bits w
       → lane w (with_lane w v k n) i ≡ (if i == k then n else lane w v i)
   unfolding with_lane

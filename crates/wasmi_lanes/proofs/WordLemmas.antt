@@ -10,6 +10,7 @@ use Rattle.wasmi_lanes.proofs.TopLemmas.{room, filled, lane_add, lane_sub, lane_
 -- the bits of a word from k to k + w - 1, where those of tops are `top` and what comes from below has room
 module _ (tops k w top : ℕ) (fits : tops < 2 ^ 64) (starts : (k ≡ 0) ⊎ (bit_at tops (k - 1) ≡ 1)) (within : k + w ≤ 64)
     (is : field k w tops ≡ top) where
+  -- the field of the bits that aren't in tops is the complement of top
   rest_is : field k w (2 ^ 64 - 1 - tops) ≡ 2 ^ w - 1 - top
   rest_is = field_not k w 64 tops within fits ∙ ap (λ n. 2 ^ w - 1 - n) is
 
@@ -21,11 +22,13 @@ module _ (tops k w top : ℕ) (fits : tops < 2 ^ 64) (starts : (k ≡ 0) ⊎ (bi
   marked : (v : ℕ) → field k w (bit_and v tops) ≡ bit_and (field k w v) top
   marked v = field_and k w v tops ∙ ap (bit_and (field k w v)) is
 
+  -- below the field, what v has beside the tops is less than half of what fits
   below : (v : ℕ) → 2 * (bit_and v (2 ^ 64 - 1 - tops) % 2 ^ k) < 2 ^ k
   below v =
       let start : k ≤ 64 = omega arith in
       room tops k v fits start starts
 
+  -- the field of the sum of two words, made without carries over tops, is that sum of their fields
   sum_at : (a b : ℕ) →
       field k w (bit_xor ((bit_and a (2 ^ 64 - 1 - tops) + bit_and b (2 ^ 64 - 1 - tops)) % 2 ^ 64)
       (bit_and (bit_xor a b) tops))
@@ -40,9 +43,11 @@ module _ (tops k w top : ℕ) (fits : tops < 2 ^ 64) (starts : (k ≡ 0) ⊎ (bi
       ∙ ap₂ (λ m n. (m + n) % 2 ^ w) (kept a) (kept b))
       (marked (bit_xor a b) ∙ ap (λ n. bit_and n top) (field_xor k w a b))
 
+  -- v with the tops set
   biased : (v : ℕ) → field k w (bit_or v tops) ≡ bit_or (field k w v) top
   biased v = field_or k w v tops ∙ ap (bit_or (field k w v)) is
 
+  -- the field of the difference of two words, made without borrows over tops, is that difference of their fields
   difference_at : (a b : ℕ) → b < 2 ^ 64 →
       field k w (bit_xor ((bit_or a tops + (2 ^ 64 - bit_and b (2 ^ 64 - 1 - tops))) % 2 ^ 64)
       (bit_and (bit_xor a (2 ^ 64 - 1 - b)) tops))
@@ -58,6 +63,7 @@ module _ (tops k w top : ℕ) (fits : tops < 2 ^ 64) (starts : (k ≡ 0) ⊎ (bi
       ∙ ap (λ n. bit_and n top)
       (field_xor k w a (2 ^ 64 - 1 - b) ∙ ap (bit_xor (field k w a)) (field_not k w 64 b within fits_b)))
 
+  -- the field of the marks of the lanes in which a and b differ is the mark of their fields
   differ_at : (a b : ℕ) →
       field k w (bit_and
       (bit_or ((bit_and (bit_xor a b) (2 ^ 64 - 1 - tops) + (2 ^ 64 - 1 - tops)) % 2 ^ 64) (bit_xor a b)) tops)
@@ -81,14 +87,17 @@ module _ (tops k w top : ℕ) (fits : tops < 2 ^ 64) (starts : (k ≡ 0) ⊎ (bi
 no_lane : {A : Type 0} (tops k : ℕ) → IsLane tops k 0 → A
 no_lane tops k lane = absurd (omega (arith, lane.top, field_lt k 0 tops))
 
+-- tops has in its lane of h + 1 bits the bit h alone
 top_is : (tops k h : ℕ) → IsLane tops k (suc h) → field k (suc h) tops ≡ 2 ^ h
 top_is tops k h lane =
     let back : suc h - 1 ≡ h = omega arith in
     lane.top ∙ ap (λ n. 2 ^ n) back
 
+-- the complement of the top of h + 1 bits is all ones below it
 beside_top : (h : ℕ) → 2 ^ suc h - 1 - 2 ^ h ≡ 2 ^ h - 1
 beside_top h = omega (arith, pow-suc 2 h)
 
+-- at a lane of tops, the sum of two words without carries over tops is the sum of the lanes, wrapped
 pub add_lane : (tops k w a b : ℕ) → tops < 2 ^ 64 → IsLane tops k w →
     field k w (bit_xor ((bit_and a (2 ^ 64 - 1 - tops) + bit_and b (2 ^ 64 - 1 - tops)) % 2 ^ 64)
     (bit_and (bit_xor a b) tops)) ≡ (field k w a + field k w b) % 2 ^ w
@@ -100,6 +109,7 @@ add_lane tops k (suc h) a b fits lane =
     ∙ ap (λ r. bit_xor ((bit_and x r + bit_and y r) % 2 ^ suc h) (bit_and (bit_xor x y) (2 ^ h))) (beside_top h)
     ∙ lane_add h x y (field_lt k (suc h) a) (field_lt k (suc h) b)
 
+-- at a lane of tops, the difference of two words without borrows over tops is that of the lanes, wrapped
 pub sub_lane : (tops k w a b : ℕ) → tops < 2 ^ 64 → b < 2 ^ 64 → IsLane tops k w →
     field k w (bit_xor ((bit_or a tops + (2 ^ 64 - bit_and b (2 ^ 64 - 1 - tops))) % 2 ^ 64)
     (bit_and (bit_xor a (2 ^ 64 - 1 - b)) tops)) ≡ (field k w a + (2 ^ w - field k w b)) % 2 ^ w
@@ -112,6 +122,7 @@ sub_lane tops k (suc h) a b fits fits_b lane =
     (bit_and (bit_xor x (2 ^ suc h - 1 - y)) (2 ^ h))) (beside_top h)
     ∙ lane_sub h x y (field_lt k (suc h) a) (field_lt k (suc h) b)
 
+-- at a lane of tops, the marks of the lanes in which a and b differ have its top where these differ, else 0
 pub differ_lane : (tops k w a b : ℕ) → tops < 2 ^ 64 → IsLane tops k w →
     field k w (bit_and
     (bit_or ((bit_and (bit_xor a b) (2 ^ 64 - 1 - tops) + (2 ^ 64 - 1 - tops)) % 2 ^ 64) (bit_xor a b)) tops)
@@ -138,6 +149,7 @@ all_kept w x fits =
 unflipped : (x y : ℕ) → bit_xor x (bit_and y 0) ≡ x
 unflipped x y = ap (bit_xor x) (and_zero_r y) ∙ xor_zero_r x
 
+-- above the last top, the sum of two words without carries over tops is the sum of the lanes, wrapped
 pub add_last : (tops k w a b : ℕ) → tops < 2 ^ 64 → IsLastLane tops k w →
     field k w (bit_xor ((bit_and a (2 ^ 64 - 1 - tops) + bit_and b (2 ^ 64 - 1 - tops)) % 2 ^ 64)
     (bit_and (bit_xor a b) tops)) ≡ (field k w a + field k w b) % 2 ^ w
@@ -148,6 +160,7 @@ add_last tops k w a b fits last =
     ∙ ap₂ (λ m n. (m + n) % 2 ^ w) (all_kept w (field k w a) (field_lt k w a))
     (all_kept w (field k w b) (field_lt k w b))
 
+-- above the last top, the difference of two words without borrows over tops is that of the lanes, wrapped
 pub sub_last : (tops k w a b : ℕ) → tops < 2 ^ 64 → b < 2 ^ 64 → IsLastLane tops k w →
     field k w (bit_xor ((bit_or a tops + (2 ^ 64 - bit_and b (2 ^ 64 - 1 - tops))) % 2 ^ 64)
     (bit_and (bit_xor a (2 ^ 64 - 1 - b)) tops)) ≡ (field k w a + (2 ^ w - field k w b)) % 2 ^ w

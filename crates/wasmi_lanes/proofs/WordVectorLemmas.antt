@@ -20,14 +20,22 @@ pub record AreWords (v low high : ℕ) : Type 0 where
   pub low_is : low ≡ v % 2 ^ 64
   pub high_is : high ≡ v / 2 ^ 64
 
+-- the lower and the upper 64 bits of a vector are its words
 pub u64x2_of : {v low high : ℕ} → low ≡ v % 2 ^ 64 → high ≡ v / 2 ^ 64 → AreWords v low high
 u64x2_of low_is high_is = record { low_is = low_is; high_is = high_is }
+
+-- two words of 64 bits make the vector r
+pub record MakeVector (low high r : ℕ) : Type 0 where
+  pub low_fits : low < 2 ^ 64
+  pub high_fits : high < 2 ^ 64
+  pub is : r ≡ vector_of low high
 
 -- a fact of each lane of w bits of a word, by where it begins
 abbrev pub EachLane : Width → (ℕ → Type 0) → Type 0
 EachLane w P = (i : ℕ) → i < lanes_in_word w → P (bits w * i)
 
 module _ (w : Width) (whole : lanes_in_word w * bits w ≡ 64) where
+  -- a lane of a word ends within its 64 bits
   pub lane_within : (i : ℕ) → i < lanes_in_word w → bits w * i + bits w ≤ 64
   lane_within i inside =
       omega (
@@ -38,6 +46,7 @@ module _ (w : Width) (whole : lanes_in_word w * bits w ≡ 64) where
         mul_comm i (bits w),
       )
 
+  -- the lanes of two words make 128 bits
   pub filled : (lanes_in_word w + lanes_in_word w) * bits w ≡ 128
   filled = omega (
     arith,
@@ -47,11 +56,12 @@ module _ (w : Width) (whole : lanes_in_word w * bits w ≡ 64) where
     mul-add (bits w) (lanes_in_word w) (lanes_in_word w),
   )
 
-  -- the lanes of a vector, in its low word and in its high word
+  -- a lane of a vector, up to as many as a word has, is a lane of its low word
   pub low_lane : (v i : ℕ) → i < lanes_in_word w → lane w v i ≡ field (bits w * i) (bits w) (v % 2 ^ 64)
   unfolding field
   low_lane v i inside = sym (field_mod (bits w * i) (bits w) 64 v (lane_within i inside))
 
+  -- a lane of a vector after those of its low word is a lane of its high word
   pub high_lane : (v i : ℕ) → lane w v (lanes_in_word w + i) ≡ field (bits w * i) (bits w) (v / 2 ^ 64)
   unfolding field
   high_lane v i =
@@ -60,12 +70,15 @@ module _ (w : Width) (whole : lanes_in_word w * bits w ≡ 64) where
       ap (λ k. v / 2 ^ k % 2 ^ bits w) place ∙ ap (λ x. x % 2 ^ bits w) (sym (shr-shr v 64 (bits w * i)))
 
   -- the vector of two words whose lanes are f of their numbers
-  words_make_vector : (low high r : ℕ) (f : ℕ → ℕ) → low < 2 ^ 64 → high < 2 ^ 64 → r ≡ vector_of low high
+  words_make_vector : (low high r : ℕ) (f : ℕ → ℕ) → MakeVector low high r
       → ((i : ℕ) → i < lanes_in_word w → field (bits w * i) (bits w) low ≡ f i)
       → ((i : ℕ) → i < lanes_in_word w → field (bits w * i) (bits w) high ≡ f (lanes_in_word w + i))
       → r ≡ from_lanes w f
-  words_make_vector low high r f fits_low fits_high is low_is high_is =
+  words_make_vector low high r f words low_is high_is =
       let n : ℕ = lanes_in_word w in
+      let low_fits : low < 2 ^ 64 = words.low_fits in
+      let high_fits : high < 2 ^ 64 = words.high_fits in
+      let is : r ≡ vector_of low high = words.is in
       let low_word : r % 2 ^ 64 ≡ low = omega arith in
       let high_word : r / 2 ^ 64 ≡ high = omega arith in
       let below : r < 2 ^ 128 = omega arith in
@@ -80,35 +93,34 @@ module _ (w : Width) (whole : lanes_in_word w * bits w ≡ 64) where
       ])
 
   -- words whose lanes are a row of an operand's make the vector whose lanes are that row of the operand's
-  pub words_make_unary : (row : ℕ → ℕ) (a low_a high_a low high r : ℕ) → AreWords a low_a high_a → low < 2 ^ 64
-      → high < 2 ^ 64
+  pub words_make_unary : {low_a high_a low high : ℕ} (row : ℕ → ℕ) (a r : ℕ) → AreWords a low_a high_a
+      → MakeVector low high r
       → EachLane w (λ k. field k (bits w) low ≡ row (field k (bits w) low_a))
       → EachLane w (λ k. field k (bits w) high ≡ row (field k (bits w) high_a))
-      → r ≡ vector_of low high
       → r ≡ from_lanes w (λ i. row (lane w a i))
-  words_make_unary row a low_a high_a low high r of_a fits_low fits_high low_is high_is is =
-      words_make_vector low high r (λ i. row (lane w a i)) fits_low fits_high is
+  words_make_unary {low_a} {high_a} {low} {high} row a r of_a of_r low_is high_is =
+      words_make_vector low high r (λ i. row (lane w a i)) of_r
       (λ i inside. low_is i inside ∙ ap row (ap (field (bits w * i) (bits w)) of_a.low_is ∙ sym (low_lane a i inside)))
       (λ i inside. high_is i inside ∙ ap row (ap (field (bits w * i) (bits w)) of_a.high_is ∙ sym (high_lane a i)))
 
   -- and of two operands
-  pub words_make_binary : (row : ℕ → ℕ → ℕ) (a low_a high_a b low_b high_b low high r : ℕ) → AreWords a low_a high_a
-      → AreWords b low_b high_b → low < 2 ^ 64 → high < 2 ^ 64
+  pub words_make_binary : {low_a high_a low_b high_b low high : ℕ} (row : ℕ → ℕ → ℕ) (a b r : ℕ)
+      → AreWords a low_a high_a → AreWords b low_b high_b → MakeVector low high r
       → EachLane w (λ k. field k (bits w) low ≡ row (field k (bits w) low_a) (field k (bits w) low_b))
       → EachLane w (λ k. field k (bits w) high ≡ row (field k (bits w) high_a) (field k (bits w) high_b))
-      → r ≡ vector_of low high
       → r ≡ from_lanes w (λ i. row (lane w a i) (lane w b i))
-  words_make_binary row a low_a high_a b low_b high_b low high r of_a of_b fits_low fits_high low_is high_is is =
+  words_make_binary {low_a} {high_a} {low_b} {high_b} {low} {high} row a b r of_a of_b of_r low_is high_is =
       let lower : (v x i : ℕ) → x ≡ v % 2 ^ 64 → i < lanes_in_word w → field (bits w * i) (bits w) x ≡ lane w v i =
       λ v x i e inside. ap (field (bits w * i) (bits w)) e ∙ sym (low_lane v i inside) in
       let upper : (v x i : ℕ) → x ≡ v / 2 ^ 64 → field (bits w * i) (bits w) x ≡ lane w v (lanes_in_word w + i) =
       λ v x i e. ap (field (bits w * i) (bits w)) e ∙ sym (high_lane v i) in
-      words_make_vector low high r (λ i. row (lane w a i) (lane w b i)) fits_low fits_high is
+      words_make_vector low high r (λ i. row (lane w a i) (lane w b i)) of_r
       (λ i inside. low_is i inside ∙ ap₂ row (lower a low_a i of_a.low_is inside) (lower b low_b i of_b.low_is inside))
       (λ i inside. high_is i inside ∙ ap₂ row (upper a high_a i of_a.high_is) (upper b high_b i of_b.high_is))
 
 -- ---- the highest bits of lanes of one width
 
+-- each lane begins at the bottom, or right above the top of the lane below
 top_below : (h n tops : ℕ) → ((j : ℕ) → j < n → field (suc h * j) (suc h) tops ≡ 2 ^ h) → (i : ℕ) → i < n
     → (suc h * i ≡ 0) ⊎ (bit_at tops (suc h * i - 1) ≡ 1)
 top_below h n tops each zero lt = inl (mul-zero (suc h))
@@ -129,6 +141,7 @@ tops_each (suc h) n tops pos fits each i lt = record {
       (arith, mul-le (suc i) (suc h) n (suc h) (omega arith) (le_refl (suc h)), suc-mul i (suc h), mul_comm i (suc h));
 }
 
+-- a width has at least one bit
 pub some_bits : (w : Width) → 0 < bits w
 some_bits w8 = omega arith
 some_bits w16 = omega arith
@@ -142,6 +155,7 @@ pub lane_of_each : (w : Width) (n word : ℕ) → n < 2 ^ bits w → word ≡ in
 lane_of_each w n word fits is i inside =
     ap (field (bits w * i) (bits w)) is ∙ repeated_lane (bits w) (lanes_in_word w) i n fits inside
 
+-- the highest of b bits alone is a number of b bits
 pub top_in_range : (b : ℕ) → 0 < b → 2 ^ (b - 1) < 2 ^ b
 top_in_range zero pos = absurd (omega arith)
 top_in_range (suc h) pos =
@@ -168,6 +182,7 @@ starts_within tops (suc j) le (inr e) =
     let room : suc j - 1 + 1 ≤ 63 = omega arith in
     inr (field_mod (suc j - 1) 1 63 tops room ∙ e)
 
+-- without the highest bit of the word, the lane of tops that ends the word has no top
 last_is_free : (tops k w : ℕ) → 0 < w → field k w tops ≡ 2 ^ (w - 1) → k + w ≡ 64 → field k w (tops % 2 ^ 63) ≡ 0
 unfolding field
 last_is_free tops k zero pos top whole = absurd (omega arith)
@@ -185,6 +200,7 @@ last_is_free tops k (suc h) pos top whole =
 abbrev pub InnerLane : ℕ → ℕ → ℕ → Type 0
 InnerLane tops start width = IsLane tops start width ⊎ IsLastLane tops start width
 
+-- without the highest bit of the word, a lane of tops is a lane still, or the last one
 without_last_top : (tops k w : ℕ) → 0 < w → IsLane tops k w → InnerLane (tops % 2 ^ 63) k w
 without_last_top tops k w pos lane = elim (cases_lt (k + w) 64) [
   | inl inner ↦
@@ -214,6 +230,7 @@ inner_lanes w inner whole is i inside =
     subst (λ t. InnerLane t (bits w * i) (bits w)) (sym is)
     (without_last_top tops (bits w * i) (bits w) (some_bits w) (equal_lanes w tops whole refl i inside))
 
+-- what follows from A and from B follows where either holds
 pub of_either : {A B C : Type 0} → (A → C) → (B → C) → A ⊎ B → C
 of_either f g (inl a) = f a
 of_either f g (inr b) = g b
@@ -230,21 +247,25 @@ BinaryInLanes Lane row r a b =
 
 module _ (w : Width) (Lane : ℕ → ℕ → Type 0) (whole : lanes_in_word w * bits w ≡ 64)
     (lanes : EachLane w (λ k. Lane k (bits w))) where
+  -- words whose lanes are a row of an operand's make the vector whose lanes are that row of the operand's
   pub unary_by_words : {a low_a high_a low high r : ℕ} (row : ℕ → ℕ → ℕ) → AreWords a low_a high_a → low < 2 ^ 64
       → high < 2 ^ 64
       → UnaryInLanes Lane row low low_a → UnaryInLanes Lane row high high_a → r ≡ vector_of low high
       → r ≡ from_lanes w (λ i. row (bits w) (lane w a i))
   unary_by_words {a} {low_a} {high_a} {low} {high} {r} row of_a fits_low fits_high low_is high_is is_r =
-      words_make_unary w whole (row (bits w)) a low_a high_a low high r of_a fits_low fits_high
+      words_make_unary w whole (row (bits w)) a r of_a
+      (record { low_fits = fits_low; high_fits = fits_high; is = is_r })
       (λ i inside. low_is (bits w * i) (bits w) (lanes i inside))
-      (λ i inside. high_is (bits w * i) (bits w) (lanes i inside)) is_r
+      (λ i inside. high_is (bits w * i) (bits w) (lanes i inside))
 
+  -- and of two operands
   pub binary_by_words : {a low_a high_a b low_b high_b low high r : ℕ} (row : ℕ → ℕ → ℕ → ℕ) → AreWords a low_a high_a
       → AreWords b low_b high_b → low < 2 ^ 64 → high < 2 ^ 64
       → BinaryInLanes Lane row low low_a low_b → BinaryInLanes Lane row high high_a high_b → r ≡ vector_of low high
       → r ≡ from_lanes w (λ i. row (bits w) (lane w a i) (lane w b i))
   binary_by_words {a} {low_a} {high_a} {b} {low_b} {high_b} {low} {high}
       {r} row of_a of_b fits_low fits_high low_is high_is is_r =
-      words_make_binary w whole (row (bits w)) a low_a high_a b low_b high_b low high r of_a of_b fits_low fits_high
+      words_make_binary w whole (row (bits w)) a b r of_a of_b
+      (record { low_fits = fits_low; high_fits = fits_high; is = is_r })
       (λ i inside. low_is (bits w * i) (bits w) (lanes i inside))
-      (λ i inside. high_is (bits w * i) (bits w) (lanes i inside)) is_r
+      (λ i inside. high_is (bits w * i) (bits w) (lanes i inside))

@@ -45,6 +45,7 @@ pub type ImmLaneIdx32 = ImmLaneIdx<32>;
 
 /// A type of lane indices of which there are as many as a vector, or two vectors, have lanes.
 pub trait CountsLanes<const N: usize> {
+    /// A vector, or two vectors of bytes, have `N` lanes.
     ghost is_lane_count: { IsLaneCount N };
 }
 
@@ -104,11 +105,15 @@ pub trait LaneIndex: Copy + Into<u8> + TryFrom<u8, Error = OutOfBoundsLaneIdx> {
     /// The number of an index.
     ghost number: { Self → ℕ };
 
-    ghost number_is: { (lane : Self) (n : ℕ) → Self.converts lane n → (n ≡ number lane) × (n < COUNT) };
+    /// An index gives its number, which is below `COUNT`.
+    ghost number_is: { (lane : Self) (n : ℕ) → Self.converts lane n
+        → (n ≡ number lane) × (n < COUNT) };
 
+    /// A number that makes an index is that of the index, and below `COUNT`.
     ghost taken: { (n : ℕ) (lane : Self) → Self.try_from_gives n (Ok lane)
         → (number lane ≡ n) × (n < COUNT) };
 
+    /// A number that makes no index is `COUNT` or more.
     ghost refused: { (n : ℕ) (error : _) → Self.try_from_gives n (Err error) → COUNT ≤ n };
 }
 
@@ -133,6 +138,7 @@ pub trait IntoLaneIdx: LaneInteger {
     /// The index of a lane of these integers.
     type LaneIdx: LaneIndex;
 
+    /// As many lanes as there are indices make 128 bits.
     ghost count: { Self.LaneIdx.COUNT * bits Self.width ≡ 128 };
 }
 

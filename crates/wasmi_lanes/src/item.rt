@@ -30,16 +30,22 @@ pub trait LaneInteger: Copy {
     /// The item whose bits are all zeros.
     const ALL_ZEROS: Self;
 
+    /// The item whose bits are all ones, in contracts.
     ghost ALL_ONES: { Self };
 
+    /// The item whose bits are all zeros, in contracts.
     ghost ALL_ZEROS: { Self };
 
+    /// The number of all ones is the largest of the width.
     ghost image_of_ones: { image ALL_ONES ≡ 2 ^ bits width - 1 };
 
+    /// The number of all zeros is 0.
     ghost image_of_zeros: { image ALL_ZEROS ≡ 0 };
 
+    /// The number of the item as which a lane's number is read is that number.
     ghost image_of_read: { (n : ℕ) → n < 2 ^ bits width → image (read n) ≡ n };
 
+    /// The item as which a lane's number is read is in its type's range.
     ghost read_fits: { (n : ℕ) → n < 2 ^ bits width → Fits (read n) };
 }
 
@@ -56,6 +62,7 @@ pub trait LaneItem<const N: usize>: LaneInteger {
             → slice_index_or items.now i Self.ALL_ZEROS ≡ Self.read (lane Self.width result i) }
         ensures in_range { result < 2 ^ 128 };
 
+    /// `N` lanes make 128 bits.
     ghost filled: { N * bits Self.width ≡ 128 };
 }
 

@@ -22,6 +22,7 @@ pub trait Lanes: Copy {
     /// The number of lanes.
     const LANES: usize;
 
+    /// The number of lanes, in contracts.
     ghost LANES: { ℕ };
 
     /// The item whose bits are all ones.
@@ -30,8 +31,10 @@ pub trait Lanes: Copy {
     /// The item whose bits are all zeros.
     const ALL_ZEROS: Self::Item;
 
+    /// The item whose bits are all ones, in contracts.
     ghost ALL_ONES: { Self.Item };
 
+    /// The item whose bits are all zeros, in contracts.
     ghost ALL_ZEROS: { Self.Item };
 
     /// The lanes of a vector.
@@ -90,12 +93,16 @@ pub trait Lanes: Copy {
         ensures steps { ReducesTo (λ i before after. F.post f i (item self i) before after) LANES acc
             result };
 
+    /// The lanes make 128 bits.
     ghost filled: { LANES * bits Self.Item.width ≡ 128 };
 
+    /// There are as many indices as lanes.
     ghost counted: { Self.LaneIdx.COUNT ≡ LANES };
 
+    /// All ones are those of the item's type.
     ghost ones: { ALL_ONES ≡ Self.Item.ALL_ONES };
 
+    /// All zeros are those of the item's type.
     ghost zeros: { ALL_ZEROS ≡ Self.Item.ALL_ZEROS };
 }
 

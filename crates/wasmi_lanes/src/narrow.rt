@@ -8,6 +8,7 @@ use crate::lanes::{LaneArray, Lanes};
 
 /// An integer of which twice as many fill a vector as of `U`.
 pub trait Narrower<U: LaneItem<M>, const N: usize, const M: usize>: LaneItem<N> {
+    /// There are twice as many as of `U`.
     ghost twice: { N ≡ 2 * M };
 }
 
@@ -44,6 +45,7 @@ pub trait FromWide<W: Lanes>: Lanes {
         ensures high { (i : ℕ) → i < W.LANES
             → F.post f (W.item high i) (Self.item result (W.LANES + i)) };
 
+    /// There are twice as many lanes as wide ones.
     ghost twice: { Self.LANES ≡ 2 * W.LANES };
 }
 

@@ -49,6 +49,7 @@ pub trait SimdLane: LaneInteger {
         ensures lanes { (i : ℕ) → i < COUNT
             → at result i ≡ (if nat_lt (at a i) (at b i) then at chosen i else at other i) };
 
+    /// The lanes make 128 bits.
     ghost filled: { COUNT * bits Self.width ≡ 128 };
 }
 

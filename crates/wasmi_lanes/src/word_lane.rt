@@ -11,32 +11,41 @@ pub trait WordLane: LaneInteger {
     /// The width of a lane.
     const BITS: u32;
 
+    /// The width of a lane, in contracts.
     ghost BITS: { ℕ };
 
     /// The highest bit of each lane of a word.
     const TOPS: u64;
 
+    /// The highest bit of each lane of a word, in contracts.
     ghost TOPS: { ℕ };
 
     /// The highest bit of each lane of a word but the last: a sum or a difference needs no top at
     /// the end of the word, and without it LLVM makes one step of it where a word is one lane.
     const INNER_TOPS: u64;
 
+    /// The highest bit of each lane of a word but the last, in contracts.
     ghost INNER_TOPS: { ℕ };
 
     /// The lowest bit of each lane of a word.
     const ONES: u64;
 
+    /// The lowest bit of each lane of a word, in contracts.
     ghost ONES: { ℕ };
 
+    /// `BITS` is the width.
     ghost wide: { BITS ≡ bits Self.width };
 
+    /// The lanes of a word make 64 bits.
     ghost whole: { lanes_in_word Self.width * bits Self.width ≡ 64 };
 
+    /// `TOPS` has the highest bit alone in each lane.
     ghost highest: { TOPS ≡ in_each_lane Self.width (2 ^ (bits Self.width - 1)) };
 
+    /// `INNER_TOPS` is `TOPS` without the highest bit of the word.
     ghost inner: { INNER_TOPS ≡ in_each_lane Self.width (2 ^ (bits Self.width - 1)) % 2 ^ 63 };
 
+    /// `ONES` has 1 in each lane.
     ghost lowest: { ONES ≡ in_each_lane Self.width 1 };
 }
 

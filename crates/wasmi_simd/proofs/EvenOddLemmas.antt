@@ -1,4 +1,4 @@
--- Lanes of two neighbouring lanes, as std::simd takes each out of them.
+-- The even and the odd lanes of a vector, as std::simd takes each out of a lane of twice the width.
 use Rattle.std.proofs.Common.{ℕ, ℤ, pos, negsuc, suc, ◌+◌, ◌-◌, ◌*◌, ◌/◌, ◌%◌, ◌^◌, ◌<◌, ◌≤◌, ◌≡◌, List, length, get_or, map, replicate, refl, sym, ◌∙◌, ap, ap₂, arith, inl, inr, Bool, true, false, ltb, leb, bit_and}
 use Rattle.std.proofs.lemmas.Bool.{cases_lt, lt-ltb, le-ltb}
 use Rattle.std.proofs.lemmas.List.{length-map}
@@ -10,7 +10,7 @@ use Rattle.std.specs.Simd.Lanes.{digits_l, number_l, zip2}
 use Rattle.wasmi_types.specs.Wrapping.{Width, w8, w16, w32, bits}
 use Rattle.wasmi_lanes.specs.Lane.{lane}
 use Rattle.wasmi_lanes.proofs.LaneVectorLemmas.{lane_below}
-use Rattle.wasmi_simd.proofs.HalfLemmas.{bits_at, reread}
+use Rattle.wasmi_simd.proofs.HalfLemmas.{AreSignedLanes, bits_at, reread}
 use Rattle.wasmi_simd.proofs.WideningLemmas.{extended_fits}
 use lib.Dec.{T}
 use mir.Val.{hbits, sel}
@@ -24,11 +24,13 @@ number_at op n k i xs long inside =
     get_or-zip2 op xs (replicate n k) i 0 0 0 (omega arith) (omega (arith, length-replicate n k))
     ∙ ap (op (get_or xs i 0)) (get_or-replicate n i k 0 inside)
 
+-- an operation on each of n lanes and one number gives n lanes
 number_long : (op : ℕ → ℕ → ℕ) (n k : ℕ) (xs : List ℕ) → length xs ≡ n → length (zip2 op xs (replicate n k)) ≡ n
 number_long op n k xs long = length-zip2 op xs (replicate n k) (long ∙ sym (length-replicate n k)) ∙ long
 
 -- ---- a width that is twice another
 
+-- where a < b gives c < d, and b ≤ a gives d ≤ c, the tests for less agree
 same_side : (a b c d : ℕ) → (a < b → c < d) → (b ≤ a → d ≤ c) → ltb a b ≡ ltb c d
 same_side a b c d up down =
     elim (cases_lt a b) as (λ _. ltb a b ≡ ltb c d) [
@@ -60,6 +62,7 @@ pub record IsTwice (narrow wide : Width) : Type 0 where
   pub lower : (high low : ℕ) → high < 2 ^ bits narrow → low < 2 ^ bits narrow
       → (high * 2 ^ bits narrow + low) * 2 ^ bits narrow % 2 ^ bits wide ≡ low * 2 ^ bits narrow + 0
 
+-- 16 bits are two halves of 8 bits
 pub bytes_of_u16x8 : IsTwice w8 w16
 bytes_of_u16x8 = record {
   twice = refl;
@@ -71,6 +74,7 @@ bytes_of_u16x8 = record {
   lower = λ high low fits_high fits_low. omega arith;
 }
 
+-- 32 bits are two halves of 16 bits
 pub u16x8_of_u32x4 : IsTwice w16 w32
 u16x8_of_u32x4 = record {
   twice = refl;
@@ -82,7 +86,7 @@ u16x8_of_u32x4 = record {
   lower = λ high low fits_high fits_low. omega arith;
 }
 
--- ---- neighbouring lanes of a vector
+-- ---- the even and the odd lanes of a vector
 
 module _ (narrow wide : Width) (is_twice : IsTwice narrow wide) (n v : ℕ) (filled : n * bits wide ≡ 128) where
   abbrev even : ℕ → ℕ
@@ -91,7 +95,7 @@ module _ (narrow wide : Width) (is_twice : IsTwice narrow wide) (n v : ℕ) (fil
   abbrev odd : ℕ → ℕ
   odd i = lane narrow v (2 * i + 1)
 
-  -- a lane of twice the width is two neighbouring lanes
+  -- a lane of twice the width is an even lane and, above it, the odd one
   pub pair_is : (i : ℕ) → lane wide v i ≡ odd i * 2 ^ bits narrow + even i
   pair_is i =
       let b = bits narrow in
@@ -103,6 +107,7 @@ module _ (narrow wide : Width) (is_twice : IsTwice narrow wide) (n v : ℕ) (fil
       ∙ ap (λ m. m % 2 ^ b * 2 ^ b + even i) (shr-shr v (b * (2 * i)) b ∙ ap (λ k. v / 2 ^ k) next)
 
   module _ (xs : List ℕ) (long : length xs ≡ n) (is : (i : ℕ) → i < n → get_or xs i 0 ≡ lane wide v i) where
+    -- lane i of the wide lanes, masked to the narrow width, is the even narrow lane
     pub even_at : (i : ℕ) → i < n → get_or (zip2 bit_and xs (replicate n (2 ^ bits narrow - 1))) i 0 ≡ even i
     even_at i inside =
         number_at bit_and n (2 ^ bits narrow - 1) i xs long inside
@@ -110,14 +115,14 @@ module _ (narrow wide : Width) (is_twice : IsTwice narrow wide) (n v : ℕ) (fil
         ∙ ap (λ m. m % 2 ^ bits narrow) (is i inside ∙ pair_is i)
         ∙ mod-mul-add (odd i) (2 ^ bits narrow) (even i) (lane_below narrow v (2 * i))
 
+    -- lane i of the wide lanes, shifted to the right by the narrow width, is the odd narrow lane
     pub odd_at : (i : ℕ) → i < n → get_or (zip2 (λ a b. a / 2 ^ b) xs (replicate n (bits narrow))) i 0 ≡ odd i
     odd_at i inside =
         number_at (λ a b. a / 2 ^ b) n (bits narrow) i xs long inside
         ∙ ap (λ m. m / 2 ^ bits narrow) (is i inside ∙ pair_is i)
         ∙ div-mul-add (odd i) (2 ^ bits narrow) (even i) (lane_below narrow v (2 * i))
 
-  module _ (xs : List ℤ) (long : length xs ≡ n)
-      (is : (i : ℕ) → i < n → get_or xs i (pos 0) ≡ cast_signed wide (lane wide v i)) where
+  module _ (xs : List ℤ) (of_v : AreSignedLanes wide n v xs) where
     abbrev words : List ℕ
     words = map (cast_unsigned wide) xs
 
@@ -127,12 +132,16 @@ module _ (narrow wide : Width) (is_twice : IsTwice narrow wide) (n v : ℕ) (fil
     abbrev shifted_left : ℕ → ℕ → ℕ
     shifted_left a b = a * 2 ^ b % 2 ^ bits wide
 
+    -- there are n wide lanes as bits
     words_long : length words ≡ n
-    words_long = length-map xs (cast_unsigned wide) ∙ long
+    words_long = length-map xs (cast_unsigned wide) ∙ of_v.long
 
+    -- the bits of a wide lane are those of its two narrow lanes, the odd one the upper
     word_is : (i : ℕ) → i < n → get_or words i 0 ≡ odd i * 2 ^ bits narrow + even i
-    word_is i inside = bits_at wide n i (lane wide v i) xs long inside (is i inside) (lane_below wide v i) ∙ pair_is i
+    word_is i inside =
+        bits_at wide n i (lane wide v i) xs of_v.long inside (of_v.lanes i inside) (lane_below wide v i) ∙ pair_is i
 
+    -- lane i, shifted to the right by the narrow width, is the odd narrow lane, extended with its sign
     pub odd_signed_at : (i : ℕ) → i < n
         → get_or (digits_l (2 ^ bits wide) n
         (number_l 256
@@ -148,6 +157,7 @@ module _ (narrow wide : Width) (is_twice : IsTwice narrow wide) (n v : ℕ) (fil
         (is_twice.upper (odd k) (even k) (lane_below narrow v (2 * k + 1)) (lane_below narrow v (2 * k))))
         (λ k. extended_fits narrow wide v (2 * k + 1) is_twice.wider) inside
 
+    -- lane i, shifted to the left before, is the even narrow lane, extended with its sign
     pub even_signed_at : (i : ℕ) → i < n
         → get_or (digits_l (2 ^ bits wide) n
         (number_l 256

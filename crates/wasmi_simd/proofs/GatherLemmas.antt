@@ -14,6 +14,7 @@ abbrev spelled : ℕ → ℕ → (ℕ → ℕ) → ℕ
 spelled p zero g = 0
 spelled p (suc n) g = g 0 + p * spelled p n (λ i. g (suc i))
 
+-- the same digits give the same number
 spelled_same : (p n : ℕ) (g h : ℕ → ℕ) → ((i : ℕ) → i < n → g i ≡ h i) → spelled p n g ≡ spelled p n h
 spelled_same p zero g h each = refl
 spelled_same p (suc n) g h each =
@@ -40,6 +41,7 @@ word_spelled w (suc n) v fits =
 abbrev one_if : Bool → ℕ
 one_if t = if t then 1 else 0
 
+-- the number that is 1 where a test holds, else 0, is at most 1
 pub at_most_one : (t : Bool) → one_if t ≤ 1
 at_most_one true = omega arith
 at_most_one false = omega arith
@@ -64,6 +66,7 @@ highest_bit h x fits =
     one_time (suc zero) r p is low above below = refl
     one_time (suc (suc q)) r p is low above below = absurd (omega (arith, add-mul 2 q p))
 
+-- the highest bit of a number of h + 1 bits, in its place
 highest_alone : (h x : ℕ) → x < 2 ^ suc h → bit_and x (2 ^ h) ≡ one_if (leb (2 ^ h) x) * 2 ^ h
 highest_alone h x fits =
     and_pow x h ∙ ap (λ n. n % 2 * 2 ^ h) (highest_bit h x fits)

@@ -60,13 +60,21 @@ reread w n xs f i filled long is fits below =
     small k (inl inside) = subst (λ m. m < 2 ^ bits w) (sym (is k inside)) (of_z_fits w (f k) (fits k)).fits
     small k (inr past) = subst (λ m. m < 2 ^ bits w) (sym (get_or_past xs k 0 (omega arith))) (pow_pos (bits w))
 
--- neighbouring signed lanes, extended
-pub extended_at : (narrow wide : Width) (n first count v : ℕ) (xs : List ℤ) (i : ℕ) → length xs ≡ n
-    → count * bits wide ≡ 128
-    → T (all_below n (range_with_len first count))
-    → first + count ≤ n
-    → T (leb (hbits narrow) (hbits wide))
-    → ((k : ℕ) → k < n → get_or xs k (pos 0) ≡ cast_signed narrow (lane narrow v k))
+-- xs is the n lanes of v of this width, read signed
+pub record AreSignedLanes (w : Width) (n v : ℕ) (xs : List ℤ) : Type 0 where
+  pub long : length xs ≡ n
+  pub lanes : (i : ℕ) → i < n → get_or xs i (pos 0) ≡ cast_signed w (lane w v i)
+
+-- the narrow lanes from `first` on, `count` of the n, fill a vector when they are extended
+pub record IsHalf (narrow wide : Width) (n first count : ℕ) : Type 0 where
+  pub filled : count * bits wide ≡ 128
+  pub inside : T (all_below n (range_with_len first count))
+  pub room : first + count ≤ n
+  pub wider : T (leb (hbits narrow) (hbits wide))
+
+-- the lanes of half a vector, read signed and extended
+pub extended_at : (narrow wide : Width) (n first count v : ℕ) (xs : List ℤ) (i : ℕ) → AreSignedLanes narrow n v xs
+    → IsHalf narrow wide n first count
     → i < count
     → get_or (digits_l (2 ^ bits wide) count
     (number_l 256
@@ -76,26 +84,29 @@ pub extended_at : (narrow wide : Width) (n first count v : ℕ) (xs : List ℤ) 
     (pick_l 0 (map (cast_unsigned narrow) xs ++ map (cast_unsigned narrow) xs) (range_with_len first count))))))) i
     0
     ≡ cast_unsigned wide (cast_signed narrow (lane narrow v (first + i)))
-extended_at narrow wide n first count v xs i long filled inside room wider is below =
+extended_at narrow wide n first count v xs i of_v half below =
+    let room : first + count ≤ n = half.room in
     let extend = λ (m : ℕ). cast_unsigned wide (cast_signed narrow m) in
     let words = map (cast_unsigned narrow) xs in
-    let words_long : length words ≡ n = length-map xs (cast_unsigned narrow) ∙ long in
+    let words_long : length words ≡ n = length-map xs (cast_unsigned narrow) ∙ of_v.long in
     let picked = pick_l 0 (words ++ words) (range_with_len first count) in
     let picked_long : length picked ≡ count =
     length-map (range_with_len first count) (λ k. get_or (words ++ words) k 0)
     ∙ length-range_with_len first count in
-    reread wide count (map extend picked) (λ k. cast_signed narrow (lane narrow v (first + k))) i filled
+    reread wide count (map extend picked) (λ k. cast_signed narrow (lane narrow v (first + k))) i half.filled
     (length-map picked extend ∙ picked_long)
     (λ k fits.
     get_or-map extend picked k 0 0 (omega arith)
-    ∙ ap extend (extracted_at words n first count k words_long inside room fits
-    ∙ bits_at narrow n (first + k) (lane narrow v (first + k)) xs long (omega arith) (is (first + k) (omega arith))
+    ∙ ap extend (extracted_at words n first count k words_long half.inside room fits
+    ∙ bits_at narrow n (first + k) (lane narrow v (first + k)) xs of_v.long (omega arith)
+    (of_v.lanes (first + k) (omega arith))
     (lane_below narrow v (first + k))))
-    (λ k. extended_fits narrow wide v (first + k) wider) below
+    (λ k. extended_fits narrow wide v (first + k) half.wider) below
 
 -- a vector whose lanes are the bits of narrow lanes that were read signed, or of their products, is its row
 module _ (narrow wide : Width) (n first r : ℕ) (at : ℕ → ℕ) (filled : n * bits wide ≡ 128)
     (wider : T (leb (hbits narrow) (hbits wide))) (below : r < 2 ^ 128) (place : (i : ℕ) → at i ≡ first + i) where
+  -- the bits of narrow lanes that were read signed make the vector of these lanes, extended
   pub extended_make_vector : (v : ℕ)
       → ((i : ℕ) → i < n → lane wide r i ≡ cast_unsigned wide (signed narrow (lane narrow v (at i))))
       → r ≡ half_unary narrow wide first (signed narrow) (wrap wide) v
@@ -107,6 +118,7 @@ module _ (narrow wide : Width) (n first r : ℕ) (at : ℕ → ℕ) (filled : n 
       (wrapped_is wide (signed narrow (lane narrow v (at i))) (extended_fits narrow wide v (at i) wider))
       ∙ ap (λ k. wrap wide (signed narrow (lane narrow v k))) (place i))
 
+  -- the products of two operands' narrow lanes that were read signed make the vector of these products
   pub products_make_vector : (a b : ℕ) (x y : ℕ → ℕ)
       → ((i : ℕ) → i < n → lane wide r i ≡ x i * y i % 2 ^ bits wide)
       → ((i : ℕ) → i < n → x i ≡ cast_unsigned wide (signed narrow (lane narrow a (at i))))
@@ -130,6 +142,7 @@ flipped_is x fits = ap (λ k. (k + 65408) % 65536) (xor_top 7 x 1 fits (omega ar
     read true is = let under = ltb-true x 128 is in omega arith
     read false is = let over = ltb-false x 128 is in omega arith
 
+-- x of 8 bits in a lane of 16, with bit 7 flipped and 128 taken off, is x read signed, at 16 bits
 pub sign_copied_at : (xs : List ℕ) (i x : ℕ) → length xs ≡ 8 → i < 8 → get_or xs i 0 ≡ x → x < 256
     → get_or (zip2 (λ a b. (a + (65536 - b)) % 65536) (zip2 bit_xor xs (replicate 8 128)) (replicate 8 128)) i 0
     ≡ cast_unsigned w16 (signed w8 x)

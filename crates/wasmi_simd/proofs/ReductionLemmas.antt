@@ -1,4 +1,4 @@
--- Tests of the lanes of a vector, made of the tests of its two words.
+-- Tests of the lanes of a vector and the bits that they give, made of those of its two words.
 use Rattle.std.proofs.Common.{◌≡◌, ℕ, zero, suc, ◌+◌, ◌-◌, ◌*◌, ◌/◌, ◌%◌, ◌^◌, ◌<◌, ◌≤◌, refl, inl, inr, sym, ap, ap₂, subst, ◌∙◌, arith, Bool, true, false, not, eqb, nat_eq, ◌&&◌, if◌then◌else◌, bit_and, bit_or, true≢false, zero-mul, suc-mul, mul-suc, mul-zero, mul_comm, mul-add, mul_assoc, one-mul, add-mul, le_refl, lit<, mod-eq_of_lt, pow-suc, suc-add, zero-add}
 use Rattle.std.proofs.Math.Nat.{div-eq_of_lt, mod-one, add-mod_right}
 use Rattle.std.proofs.Math.Dec.{eqb-suc-zero}
@@ -17,18 +17,22 @@ use Rattle.wasmi_simd.specs.Widening.{holds_below, first_bits, every_lane, lane_
 
 -- ---- tests that hold of all numbers below n
 
+-- two true tests are true together
 both_true : (a b : Bool) → a ≡ true → b ≡ true → (a && b) ≡ true
 both_true a b is_a is_b = ap₂ (λ x y. x && y) is_a is_b
 
+-- of two tests that are true together the first is true
 first_true : (a b : Bool) → (a && b) ≡ true → a ≡ true
 first_true true b is = refl
 first_true false b is = is
 
+-- of two tests that are true together the second is true
 second_true : (a b : Bool) → (a && b) ≡ true → b ≡ true
 second_true true b is = is
 second_true false true is = refl
 second_true false false is = is
 
+-- a test that holds of each number below n holds of all of them at once
 pub holds_of_each : (n : ℕ) (test : ℕ → Bool) → ((i : ℕ) → i < n → test i ≡ true) → holds_below n test ≡ true
 unfolding holds_below
 holds_of_each zero test each = refl
@@ -36,6 +40,7 @@ holds_of_each (suc n) test each =
     both_true (holds_below n test) (test n) (holds_of_each n test (λ i inside. each i (omega arith)))
     (each n (omega arith))
 
+-- a test that holds of all numbers below n at once holds of each
 pub each_holds : (n : ℕ) (test : ℕ → Bool) → holds_below n test ≡ true → (i : ℕ) → i < n → test i ≡ true
 unfolding holds_below
 each_holds zero test all i inside = absurd (omega arith)
@@ -44,6 +49,7 @@ each_holds (suc n) test all i inside = elim (cases_eq i n) [
   | inr other ↦ each_holds n test (first_true (holds_below n test) (test n) all) i (omega arith)
 ]
 
+-- of two tests that agree on each number below n, both hold of all or neither does
 holds_as : (n : ℕ) (f g : ℕ → Bool) → ((i : ℕ) → i < n → f i ≡ g i) → holds_below n f ≡ holds_below n g
 unfolding holds_below
 holds_as zero f g each = refl
@@ -69,6 +75,7 @@ holds_joined n (suc m) test =
     and_assoc true b c = refl
     and_assoc false b c = refl
 
+-- two tests that agree on each number below n give the same n bits
 bits_as : (n : ℕ) (f g : ℕ → Bool) → ((i : ℕ) → i < n → f i ≡ g i) → first_bits n f ≡ first_bits n g
 unfolding first_bits
 bits_as zero f g each = refl
@@ -76,6 +83,7 @@ bits_as (suc n) f g each =
     ap₂ (λ b m. (if b then 1 else 0) + 2 * m) (each 0 (omega arith))
     (bits_as n (λ i. f (suc i)) (λ i. g (suc i)) (λ i inside. each (suc i) (omega arith)))
 
+-- the bits of a test of the numbers below n are a number of n bits
 pub bits_below : (n : ℕ) (f : ℕ → Bool) → first_bits n f < 2 ^ n
 unfolding first_bits
 bits_below zero f = lit< tt
@@ -89,6 +97,7 @@ bits_below (suc n) f =
     bit_at_most true = omega arith
     bit_at_most false = omega arith
 
+-- the first n + m bits of a test are its first n bits and, above them, the m bits of the numbers from n on
 bits_joined : (n m : ℕ) (f : ℕ → Bool) → first_bits (n + m) f ≡ first_bits n f + 2 ^ n * first_bits m (λ i. f (n + i))
 unfolding first_bits
 bits_joined zero m f =
@@ -109,10 +118,11 @@ bits_joined (suc n) m f =
       ap (λ k. k * rest) (mul_comm 2 (2 ^ n)),
     )
 
-same_truth : (a b : Bool) → (a ≡ true → b ≡ true) → (b ≡ true → a ≡ true) → a ≡ b
-same_truth true b to from = sym (to refl)
-same_truth false true to from = from refl
-same_truth false false to from = refl
+-- two tests of which each follows from the other are the same
+same_test : (a b : Bool) → (a ≡ true → b ≡ true) → (b ≡ true → a ≡ true) → a ≡ b
+same_test true b to from = sym (to refl)
+same_test false true to from = from refl
+same_test false false to from = refl
 
 -- a number below 2 ^ h has no bit h
 low_top : (h y : ℕ) → y < 2 ^ h → bit_and y (2 ^ h) ≡ 0
@@ -157,6 +167,7 @@ module _ (h n v ones tops : ℕ) (whole : n * suc h ≡ 64) (fits : v < 2 ^ 64) 
   abbrev marks : ℕ
   marks = bit_and (bit_and ((v + (2 ^ 64 - ones)) % 2 ^ 64) (2 ^ 64 - 1 - v)) tops
 
+  -- a lane ends within the word
   lane_inside : (i : ℕ) → i < n → suc h * i + suc h ≤ 64
   lane_inside i inside =
       omega (
@@ -167,10 +178,12 @@ module _ (h n v ones tops : ℕ) (whole : n * suc h ≡ 64) (fits : v < 2 ^ 64) 
         mul_comm i (suc h),
       )
 
+  -- a number that isn't 0 is at least 1
   some_there : (t : ℕ) → not (nat_eq t 0) ≡ true → 1 ≤ t
   some_there zero is = absurd (true≢false (sym is))
   some_there (suc t) is = omega arith
 
+  -- below a lane under which no lane is 0, v is at least the ones, so nothing is borrowed
   enough_below : (i : ℕ) → i < n → ((j : ℕ) → j < i → is_some j ≡ true) → ones % 2 ^ (suc h * i) ≤ v % 2 ^ (suc h * i)
   unfolding field
   enough_below zero inside some =
@@ -189,6 +202,7 @@ module _ (h n v ones tops : ℕ) (whole : n * suc h ≡ 64) (fits : v < 2 ^ 64) 
       mod-pow-add ones (suc h) b ∙ ap (λ k. k * p + ones % p) one in
       subst (λ k. ones % 2 ^ k ≤ v % 2 ^ k) (sym next) (omega (arith, left, mod-pow-add v (suc h) b))
 
+  -- a lane under which no lane is 0 has a mark where it is 0 itself
   mark_is : (i : ℕ) → i < n → ((j : ℕ) → j < i → is_some j ≡ true)
       → field (suc h * i) (suc h) marks ≡ (if nat_eq (field (suc h * i) (suc h) v) 0 then 2 ^ h else 0)
   mark_is i inside some =
@@ -204,10 +218,12 @@ module _ (h n v ones tops : ℕ) (whole : n * suc h ≡ 64) (fits : v < 2 ^ 64) 
       (each_top i inside)
       ∙ top_of_borrow h (field k w v) (field_lt k w v)
 
+  -- a lane without mark isn't 0
   no_mark : (t : ℕ) → (if nat_eq t 0 then 2 ^ h else 0) ≡ 0 → not (nat_eq t 0) ≡ true
   no_mark zero is = absurd (omega (arith, pow_pos h))
   no_mark (suc t) is = ap not (eqb-suc-zero t)
 
+  -- where there is no mark, no lane is 0
   some_below : marks ≡ 0 → (i : ℕ) → i ≤ n → (j : ℕ) → j < i → is_some j ≡ true
   some_below none zero le j below = absurd (omega arith)
   some_below none (suc i) le j below = elim (cases_eq j i) [
@@ -220,16 +236,18 @@ module _ (h n v ones tops : ℕ) (whole : n * suc h ≡ 64) (fits : v < 2 ^ 64) 
     | inr other ↦ some_below none i (omega arith) j (omega arith)
   ]
 
+  -- a lane that isn't 0 has no mark
   no_zero_marked : (t : ℕ) → not (nat_eq t 0) ≡ true → (if nat_eq t 0 then 2 ^ h else 0) ≡ 0
   no_zero_marked zero is = absurd (true≢false (sym is))
   no_zero_marked (suc t) is = ap (λ b. if b then 2 ^ h else 0) (eqb-suc-zero t)
 
+  -- there is no mark where no lane is 0, and only there
   pub no_mark_is : tops < 2 ^ 64 → eqb marks 0 ≡ holds_below n is_some
   no_mark_is fits_tops =
       let all_bits : 64 ≡ n * suc h = sym whole in
       let below : marks < 2 ^ 64 =
       omega (arith, and_le_r (bit_and ((v + (2 ^ 64 - ones)) % 2 ^ 64) (2 ^ 64 - 1 - v)) tops) in
-      same_truth (eqb marks 0) (holds_below n is_some)
+      same_test (eqb marks 0) (holds_below n is_some)
       (λ e. holds_of_each n is_some (λ i inside. some_below (eqb-true marks 0 e) n (le_refl n) i inside))
       (λ all. eq-eqb marks 0
       (same_words (suc h) n marks 0 (subst (λ k. marks < 2 ^ k) all_bits below) (pow_pos (n * suc h))
@@ -238,6 +256,7 @@ module _ (h n v ones tops : ℕ) (whole : n * suc h ≡ 64) (fits : v < 2 ^ 64) 
       ∙ no_zero_marked (field (suc h * i) (suc h) v) (each_holds n is_some all i inside)
       ∙ sym (field_of_zero (suc h * i) (suc h)))))
 
+-- so with lanes of b bits: there is no mark where no lane is 0, and only there
 no_mark_at : (b n v ones tops : ℕ) → 0 < b → n * b ≡ 64 → v < 2 ^ 64 → ones < 2 ^ 64 → tops < 2 ^ 64
     → ((i : ℕ) → i < n → field (b * i) b ones ≡ 1) → ((i : ℕ) → i < n → field (b * i) b tops ≡ 2 ^ (b - 1))
     → eqb (bit_and (bit_and ((v + (2 ^ 64 - ones)) % 2 ^ 64) (2 ^ 64 - 1 - v)) tops) 0

@@ -20,6 +20,7 @@ use Rattle.wasmi_lanes.proofs.WordVectorLemmas.{EachLane, lane_of_each}
 
 -- ---- products
 
+-- a field of u * c is the field of u times c, wrapped, where the bits below, times c, stay below
 field_mul : (k w u c : ℕ) → (u % 2 ^ k) * c < 2 ^ k → field k w (u * c) ≡ (field k w u * c) % 2 ^ w
 unfolding field
 field_mul k w u c low =
@@ -58,6 +59,7 @@ lane_scaled w n c u each i lt =
 
 -- ---- shifts by s, with the low w - s bits of each lane as mask
 
+-- the lower r bits of x, shifted to the left by s, are x, shifted, at r + s bits
 shl_cut : (w s r x : ℕ) → r + s ≡ w → (x % 2 ^ r) * 2 ^ s ≡ (x * 2 ^ s) % 2 ^ w
 shl_cut w s r x e =
     let m : ℕ = x % 2 ^ r in
@@ -68,6 +70,7 @@ shl_cut w s r x e =
     let small : m * 2 ^ s < 2 ^ w = subst (λ n. m * 2 ^ s < 2 ^ n) e (shl_below m r s (mod-lt x (pow_pos r))) in
     sym (ap (λ n. n % 2 ^ w) parts ∙ mod-mul-add (x / 2 ^ r) (2 ^ w) (m * 2 ^ s) small)
 
+-- a lane of v, masked to r bits a lane and shifted to the left by s, is the lane, shifted, at its width
 pub lane_shl : (w n s r v mask : ℕ) → n * w ≤ 64 → r + s ≡ w → ((j : ℕ) → j < n → field (w * j) w mask ≡ 2 ^ r - 1)
     → (i : ℕ) → i < n →
     field (w * i) w ((bit_and v mask * 2 ^ s) % 2 ^ 64) ≡ (field (w * i) w v * 2 ^ s) % 2 ^ w
@@ -92,12 +95,15 @@ abbrev pub masks : Width → List ℕ
 masks w = map (λ d. vector_of (shift_masks w d) (shift_masks w d)) (range_with_len 0 (bits w))
 
 module _ (w : Width) (d : ℕ) (less : d < bits w) where
+  -- the ones in all but d bits of a lane are a number of its width
   low_bits_fit : 2 ^ (bits w - d) - 1 < 2 ^ bits w
   low_bits_fit = omega (arith, pow_mono {i = bits w - d} {j = bits w} (omega arith), pow_pos (bits w - d))
 
+  -- each lane of the mask of entry d has all but its d highest bits
   pub masked_lane : EachLane w (λ k. field k (bits w) (shift_masks w d) ≡ 2 ^ (bits w - d) - 1)
   masked_lane = lane_of_each w (2 ^ (bits w - d) - 1) (shift_masks w d) low_bits_fit refl
 
+  -- the mask of entry d is a word
   word_below : lanes_in_word w * bits w ≡ 64 → shift_masks w d < 2 ^ 64
   word_below whole =
       let lanes : List ℕ = replicate (lanes_in_word w) (2 ^ (bits w - d) - 1) in

@@ -44,13 +44,14 @@ bits_of_wrapped w z = of_z-to_z w (wrap w z) (wrap_below w z)
 pub wrapped_is : (w : Width) (z : ℤ) → FitsSigned w z → wrap w z ≡ cast_unsigned w z
 wrapped_is w z fits = sym (bits_of_wrapped w z) ∙ ap (cast_unsigned w) (int_wrap_fits w z fits)
 
--- the bits of signed numbers, added or multiplied modulo 2 ^ w
+-- the bits of signed numbers, added modulo 2 ^ w, are their sum, wrapped
 pub sum_of_bits : (w : Width) (x y : ℤ) → FitsSigned w x → FitsSigned w y
     → (cast_unsigned w x + cast_unsigned w y) % 2 ^ bits w ≡ wrap w (x +ℤ y)
 sum_of_bits w x y fits_x fits_y =
     sym (of_z-to_z w _ (mod-lt _ (pow_pos (bits w)))) ∙ ap (cast_unsigned w) (wrapping_add_is w x y fits_x fits_y)
     ∙ bits_of_wrapped w (x +ℤ y)
 
+-- the bits of signed numbers, multiplied modulo 2 ^ w, are their product, wrapped
 pub product_of_bits : (w : Width) (x y : ℤ) → FitsSigned w x → FitsSigned w y
     → cast_unsigned w x * cast_unsigned w y % 2 ^ bits w ≡ wrap w (x *ℤ y)
 product_of_bits w x y fits_x fits_y =

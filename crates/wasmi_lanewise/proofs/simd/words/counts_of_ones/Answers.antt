@@ -11,6 +11,6 @@ returns c =
     let v = c.words-low.ensures in
     let low = c.words-low.result.0 in
     let high = c.words-low.result.1 in
-    words_make_unary w8 refl count_ones c.args.v low high (counts low) (counts high) c.from_u64x2.result
-    (record { low_is = v.low; high_is = v.high }) (counts_below low) (counts_below high)
-    (counts_at low (omega (arith, v.low))) (counts_at high (omega (arith, v.high))) (c.from_u64x2.ensures _ _ refl)
+    words_make_unary w8 refl count_ones c.args.v c.from_u64x2.result (record { low_is = v.low; high_is = v.high })
+    (record { low_fits = counts_below low; high_fits = counts_below high; is = c.from_u64x2.ensures _ _ refl })
+    (counts_at low (omega (arith, v.low))) (counts_at high (omega (arith, v.high)))

@@ -7,6 +7,6 @@ pub returns : goal.returns
 returns c =
     let long : length c.i16x8_of.result ≡ 8 = search rules in
     record {
-      lanes = odd_signed_at w8 w16 bytes_of_u16x8 8 c.args.v refl c.i16x8_of.result long
-          c.i16x8_of.ensures.lanes;
+      lanes = odd_signed_at w8 w16 bytes_of_u16x8 8 c.args.v refl c.i16x8_of.result
+          (record { long = long; lanes = c.i16x8_of.ensures.lanes });
     }

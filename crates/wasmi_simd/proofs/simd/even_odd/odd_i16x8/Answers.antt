@@ -7,6 +7,6 @@ pub returns : goal.returns
 returns c =
     let long : length c.i32x4_of.result ≡ 4 = search rules in
     record {
-      lanes = odd_signed_at w16 w32 u16x8_of_u32x4 4 c.args.v refl c.i32x4_of.result long
-          c.i32x4_of.ensures.lanes;
+      lanes = odd_signed_at w16 w32 u16x8_of_u32x4 4 c.args.v refl c.i32x4_of.result
+          (record { long = long; lanes = c.i32x4_of.ensures.lanes });
     }

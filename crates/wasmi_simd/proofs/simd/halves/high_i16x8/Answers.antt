@@ -7,6 +7,7 @@ pub returns : goal.returns
 returns c =
     let long : length c.i16x8_of.result ≡ 8 = search rules in
     record {
-      lanes = λ i below. extended_at w16 w32 8 4 4 c.args.v c.i16x8_of.result i long refl tt
-          (omega arith) tt c.i16x8_of.ensures.lanes below;
+      lanes = λ i below. extended_at w16 w32 8 4 4 c.args.v c.i16x8_of.result i
+          (record { long = long; lanes = c.i16x8_of.ensures.lanes })
+          (record { filled = refl; inside = tt; room = omega arith; wider = tt }) below;
     }

@@ -7,6 +7,7 @@ pub returns : goal.returns
 returns c =
     let long : length c.i32x4_of.result ≡ 4 = search rules in
     record {
-      lanes = λ i below. extended_at w32 w64 4 2 2 c.args.v c.i32x4_of.result i long refl tt
-          (omega arith) tt c.i32x4_of.ensures.lanes below;
+      lanes = λ i below. extended_at w32 w64 4 2 2 c.args.v c.i32x4_of.result i
+          (record { long = long; lanes = c.i32x4_of.ensures.lanes })
+          (record { filled = refl; inside = tt; room = omega arith; wider = tt }) below;
     }

@@ -15,9 +15,12 @@ returns c =
     let fits_low : low < 2 ^ 64 = omega arith in
     let fits_high : high < 2 ^ 64 = omega arith in
     let row : ℕ → ℕ = λ x. x * 2 ^ s % 2 ^ 64 in
-    words_make_unary w64 refl row c.args.v low high _ _ _ (u64x2_of refl refl) (mod-lt (low * 2 ^ s) (lit< tt))
-    (mod-lt (high * 2 ^ s) (lit< tt))
+    words_make_unary w64 refl row c.args.v _ (u64x2_of refl refl)
+    (record {
+      low_fits = mod-lt (low * 2 ^ s) (lit< tt);
+      high_fits = mod-lt (high * 2 ^ s) (lit< tt);
+      is = c.from_u64x2.ensures _ _ (rw c.u64x2_of.ensures refl);
+    })
     (lane_of_word row low (row low) fits_low (mod-lt (low * 2 ^ s) (lit< tt)) refl)
     (lane_of_word row high (row high) fits_high (mod-lt (high * 2 ^ s) (lit< tt)) refl)
-    (c.from_u64x2.ensures _ _ (rw c.u64x2_of.ensures refl))
     ∙ ap (λ n. from_lanes w64 (λ i. lane w64 c.args.v i * 2 ^ n % 2 ^ 64)) c.from.ensures

@@ -16,9 +16,12 @@ returns c =
     let fits_low : low < 2 ^ 64 = omega arith in
     let fits_high : high < 2 ^ 64 = omega arith in
     let row : ℕ → ℕ = λ x. x / 2 ^ s in
-    words_make_unary w64 refl row c.args.v low high _ _ _ (u64x2_of refl refl) (omega (arith, div-le_self low (2 ^ s)))
-    (omega (arith, div-le_self high (2 ^ s)))
+    words_make_unary w64 refl row c.args.v _ (u64x2_of refl refl)
+    (record {
+      low_fits = omega (arith, div-le_self low (2 ^ s));
+      high_fits = omega (arith, div-le_self high (2 ^ s));
+      is = c.from_u64x2.ensures _ _ (rw c.u64x2_of.ensures refl);
+    })
     (lane_of_word row low (row low) fits_low (omega (arith, div-le_self low (2 ^ s))) refl)
     (lane_of_word row high (row high) fits_high (omega (arith, div-le_self high (2 ^ s))) refl)
-    (c.from_u64x2.ensures _ _ (rw c.u64x2_of.ensures refl))
     ∙ ap (λ n. from_lanes w64 (λ i. lane w64 c.args.v i / 2 ^ n)) c.from.ensures

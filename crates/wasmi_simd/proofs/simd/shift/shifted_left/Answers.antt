@@ -21,9 +21,12 @@ returns g c =
     let each = masked_lane w s less in
     let low : ℕ = c.args.v % 2 ^ 64 in
     let high : ℕ = c.args.v / 2 ^ 64 in
-    words_make_unary w whole (λ x. x * 2 ^ s % 2 ^ bits w) c.args.v low high _ _ _ (u64x2_of refl refl)
-    (mod-lt (bit_and low kept * 2 ^ s) (lit< tt)) (mod-lt (bit_and high kept * 2 ^ s) (lit< tt))
+    words_make_unary w whole (λ x. x * 2 ^ s % 2 ^ bits w) c.args.v _ (u64x2_of refl refl)
+    (record {
+      low_fits = mod-lt (bit_and low kept * 2 ^ s) (lit< tt);
+      high_fits = mod-lt (bit_and high kept * 2 ^ s) (lit< tt);
+      is = c.from_u64x2.ensures _ _ (rw c.u64x2_of.ensures (rw c.shift_masks-kept.ensures refl));
+    })
     (lane_shl (bits w) (lanes_in_word w) s (bits w - s) low kept (le_of_eq whole) keep each)
     (lane_shl (bits w) (lanes_in_word w) s (bits w - s) high kept (le_of_eq whole) keep each)
-    (c.from_u64x2.ensures _ _ (rw c.u64x2_of.ensures (rw c.shift_masks-kept.ensures refl)))
     ∙ ap (λ n. from_lanes w (λ i. lane w c.args.v i * 2 ^ n % 2 ^ bits w)) amount

@@ -21,10 +21,12 @@ returns g c =
     let each = masked_lane w s less in
     let low : ℕ = c.args.v % 2 ^ 64 in
     let high : ℕ = c.args.v / 2 ^ 64 in
-    words_make_unary w g.met.T.WordLane.whole (λ x. x / 2 ^ s) c.args.v low high _ _ _ (u64x2_of refl refl)
-    (omega (arith, and_le_l (low / 2 ^ s) kept, shr_le low s))
-    (omega (arith, and_le_l (high / 2 ^ s) kept, shr_le high s))
+    words_make_unary w g.met.T.WordLane.whole (λ x. x / 2 ^ s) c.args.v _ (u64x2_of refl refl)
+    (record {
+      low_fits = omega (arith, and_le_l (low / 2 ^ s) kept, shr_le low s);
+      high_fits = omega (arith, and_le_l (high / 2 ^ s) kept, shr_le high s);
+      is = c.from_u64x2.ensures _ _ (rw c.u64x2_of.ensures (rw c.shift_masks-kept.ensures refl));
+    })
     (λ i inside. lane_shr (bits w) s (bits w - s) (bits w * i) low kept keep (each i inside))
     (λ i inside. lane_shr (bits w) s (bits w - s) (bits w * i) high kept keep (each i inside))
-    (c.from_u64x2.ensures _ _ (rw c.u64x2_of.ensures (rw c.shift_masks-kept.ensures refl)))
     ∙ ap (λ n. from_lanes w (λ i. lane w c.args.v i / 2 ^ n)) amount
