@@ -187,6 +187,7 @@ module _ {S : Type 0} (account : Account) (w : World S) (turn : Turn) (w' : Worl
   module _ (balances : Balances account w.state.meter) where
     -- the turn ends in this world
     module _ {v : World S} (is : w' ≡ v) where
+      -- where the meter pays the charge of the turn, the account balances after it
       charged : Takes w.state.meter turn.charge v.state.meter → Goes
       charged takes =
           let t =

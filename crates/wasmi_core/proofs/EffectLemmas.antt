@@ -35,6 +35,7 @@ both_live (Some x) Missing Missing' Fact Fact' h h' = (h, h')
 
 -- a live value is put back into its slot
 module _ {X : Type 0} where
+  -- a slot with the live value x is `Live x`
   live_slot : (slot : Option (Slot X)) (x : X) → option_and_then live_value slot ≡ Some x → slot ≡ Some (Live x)
   live_slot None x found = absurd (none-some x found)
   live_slot (Some (Gone last)) x found = absurd (none-some x found)
@@ -76,6 +77,7 @@ module _ {X : Type 0} where
 
 -- each work, refused
 module _ {E : Type 0} (refusal : E → Reply) where
+  -- a refused entry leaves the list
   pub appends_back : {X A : Type 0} (entry : X → A) (result : Result X E) (list : List A) (reply : Reply)
       (list' : List A) → IsRefusal reply → AddsEntry entry refusal result list reply list' → list' ≡ list
   appends_back entry (Ok x) list reply list' refused appends = absurd (rw appends.0 at refused)

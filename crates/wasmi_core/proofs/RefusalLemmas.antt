@@ -52,6 +52,7 @@ spare_kept s s' call reply leaves = leaves
 
 -- the turn ends in a world with the same state, or with the same state but for its meter
 module _ {S : Type 0} (w w' : World S) where
+  -- with the same state, the contents and the spare region are the same
   kept : {v : World S} → w' ≡ v → v.state ≡ w.state → SameContents w.state w'.state × (w'.state.spare ≡ w.state.spare)
   kept is same =
       rw (is, same) (

@@ -131,6 +131,7 @@ module _ {S : Type 0} (rules rules' : Rules S) (Shows : Reply → Type 0) (Withi
 
     -- an effect of any call
     module _ (w : World S) (turn : Turn) (w' : World S) (within : Within w.limiter) (shows : Shows turn.reply) where
+      -- where its reply shows it, an effect under the one rules is one under the others
       effect_revealed : (effect : Effect) → TakesEffect rules effect w turn w' → TakesEffect rules' effect w turn w'
       effect_revealed (MemoryMade ty) step = record {
         free = step.free;

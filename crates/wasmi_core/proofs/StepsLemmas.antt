@@ -88,6 +88,7 @@ KeepsRegisters s registers = length registers ≡ length s.registers
 
 -- the parts of a state
 module _ (s : State) where
+  -- the memories
   the_memories : PartOf s (with_memories s) s.memories (KeepsMemories s)
   the_memories = record {
     whole = refl;

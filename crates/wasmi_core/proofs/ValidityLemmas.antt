@@ -42,6 +42,7 @@ names_valid s call valid = tt
 
 -- the state with other memories or tables, and another meter
 module _ (s : State) (valid : IsValid s) (meter : Meter) where
+  -- with other memories that are valid, it is valid
   memories_valid : (memories : List (Slot MemoryValue)) (spare : Option (List ℕ)) → AllValid IsValidMemory memories
       → (s' : State) → s' ≡ record s { memories = memories; meter = meter; spare = spare } → IsValid s'
   memories_valid memories spare h s' is =

@@ -15,23 +15,28 @@ abbrev nibbles : List ℕ → List ℕ
 nibbles js = zip2 bit_and js (replicate 16 15)
 
 module _ (js : List ℕ) (long : length js ≡ 16) where
+  -- there are 16 nibbles
   length_nibbles : length (nibbles js) ≡ 16
   length_nibbles = length-zip2 bit_and js (replicate 16 15) long ∙ long
 
+  -- each nibble is the index in its place, modulo 16
   nibble_at : (i : ℕ) → i < 16 → get_or (nibbles js) i 0 ≡ get_or js i 0 % 16
   nibble_at i inside =
       get_or-zip2 bit_and js (replicate 16 15) i 0 0 0 (omega arith) inside
       ∙ ap (bit_and (get_or js i 0)) (get_or-replicate 16 i 15 0 inside) ∙ and_mask (get_or js i 0) 4
 
+  -- each nibble is below 16
   nibble_below : (i : ℕ) → i < 16 → get_or (nibbles js) i 0 < 16
   nibble_below i inside = let is = nibble_at i inside in omega arith
 
+  -- a choice of std::simd among 16 bytes may be by the nibbles
   pub nibbles_may_index : SwzOk w8 16 16 0 (nibbles js)
   nibbles_may_index =
       let whole = length_nibbles in
       SwzOk-from_below w8 16 1 16 0 (nibbles js) refl (omega arith)
       (Each1-from_get_or (λ j. j < 16) (nibbles js) 0 (λ i inside. nibble_below i (omega arith)))
 
+  -- the byte that a nibble chooses of a table is the one at the index modulo 16
   pub picked_at : (table : List ℕ) (i : ℕ) → i < 16
       → get_or (swz_l w8 16 table 0 (nibbles js)) i 0 ≡ get_or table (get_or js i 0 % 16) 0
   picked_at table i inside =
@@ -39,6 +44,7 @@ module _ (js : List ℕ) (long : length js ≡ 16) where
       get_or-swz_l_below w8 16 table 0 (nibbles js) i (omega arith) (nibble_below i inside)
       ∙ ap (λ j. get_or table j 0) (let is = nibble_at i inside in omega arith)
 
+  -- of two lists, an item of the first where the index in its place is below 16, else one of the second
   pub chosen_at : (low high : List ℕ) (i : ℕ) → length low ≡ 16 → length high ≡ 16 → i < 16
       → get_or (sel_l (map (top 7) (zip2 (λ a b. cond (ltb a b) 255 0) js (replicate 16 16))) low high) i 0
       ≡ (if nat_lt (get_or js i 0) 16 then get_or low i 0 else get_or high i 0)
@@ -66,12 +72,15 @@ computed f g n k d same below =
 abbrev position : ℕ → ℕ
 position j = bit_and ((cond (ltb j 16) j 16 + 112) % 256) 143
 
+-- the position of an index is 128 or more just where the index isn't below 16
 zero_from_16 : (j : ℕ) → j < 256 → leb 128 (position j) ≡ not (ltb j 16)
 zero_from_16 j below = computed (λ k. leb 128 (position k)) (λ k. not (ltb k 16)) 256 j false refl below
 
+-- the position of an index below 16 is the index
 same_below_16 : (j : ℕ) → j < 16 → position j ≡ j
 same_below_16 j below = computed position (λ k. k) 16 j 0 refl below
 
+-- a position is 128 or more, or below 16
 position_fits : (j : ℕ) → j < 256 → (leb 128 (position j) || ltb (position j) 16) ≡ true
 position_fits j below = computed (λ k. leb 128 (position k) || ltb (position k) 16) (λ _. true) 256 j false refl below
 
@@ -88,17 +97,21 @@ module _ (js : List ℕ) (long : length js ≡ 16) (fits : Each1 (Fits w8) js) w
   abbrev least : List ℕ
   least = sel_l tests js (replicate 16 16)
 
+  -- the highest bits of the masks choose as the comparisons do
   is_least : least ≡ sel_l (zip2 ltb js (replicate 16 16)) js (replicate 16 16)
   is_least = ap (λ ms. sel_l ms js (replicate 16 16)) (tops_compared w8 ltb js (replicate 16 16))
 
+  -- there are 16 comparisons
   many_tests : length (zip2 ltb js (replicate 16 16)) ≡ 16
   many_tests = length-zip2 ltb js (replicate 16 16) long ∙ long
 
+  -- `least` has 16 items
   many_least : length least ≡ 16
   many_least =
       let many = many_tests in
       ap length is_least ∙ length-sel_l (zip2 ltb js (replicate 16 16)) js (replicate 16 16) (omega arith) many ∙ many
 
+  -- an item of `least` is the index in its place where that is below 16, else 16
   least_at : (i : ℕ) → i < 16 → get_or least i 0 ≡ cond (ltb (get_or js i 0) 16) (get_or js i 0) 16
   least_at i inside =
       let many = many_tests in
@@ -113,12 +126,15 @@ module _ (js : List ℕ) (long : length js ≡ 16) (fits : Each1 (Fits w8) js) w
   abbrev sums : List ℕ
   sums = zip2 (λ a b. (a + b) % 256) least (replicate 16 112)
 
+  -- `sums` has 16 items
   many_sums : length sums ≡ 16
   many_sums = length-zip2 (λ a b. (a + b) % 256) least (replicate 16 112) many_least ∙ many_least
 
+  -- there are 16 positions
   length_positions : length (positions js) ≡ 16
   length_positions = length-zip2 bit_and sums (replicate 16 143) many_sums ∙ many_sums
 
+  -- each is the position of the index in its place
   position_at : (i : ℕ) → i < 16 → get_or (positions js) i 0 ≡ position (get_or js i 0)
   position_at i inside =
       let at_least : i < length least = omega (arith, many_least) in
@@ -129,9 +145,11 @@ module _ (js : List ℕ) (long : length js ≡ 16) (fits : Each1 (Fits w8) js) w
       ∙ ap₂ (λ a b. (a + b) % 256) (least_at i inside) (get_or-replicate 16 i 112 0 inside))
       (get_or-replicate 16 i 143 0 inside)
 
+  -- an index is below 256
   index_below : (i : ℕ) → i < 16 → get_or js i 0 < 256
   index_below i inside = Each1-get_or (λ j. j < 256) js i 0 (omega arith) (below_from_Fits w8 js fits)
 
+  -- a choice of std::simd among 16 bytes may be by the positions
   pub positions_may_index : SwzOk w8 16 16 0 (positions js)
   positions_may_index =
       let whole = length_positions in
@@ -142,6 +160,7 @@ module _ (js : List ℕ) (long : length js ≡ 16) (fits : Each1 (Fits w8) js) w
       subst T (sym (ap (λ p. leb 128 p || ltb p 16) (position_at i within)
       ∙ position_fits (get_or js i 0) (index_below i within))) tt))
 
+  -- by the positions, the byte of a table at the index is chosen where the index is below 16, else 0
   pub picked_or_zero_at : (table : List ℕ) (i : ℕ) → i < 16
       → get_or (swz_l w8 16 table 0 (positions js)) i 0
       ≡ (if nat_lt (get_or js i 0) 16 then get_or table (get_or js i 0) 0 else 0)
@@ -167,11 +186,13 @@ module _ (js : List ℕ) (long : length js ≡ 16) (fits : Each1 (Fits w8) js) w
 -- ---- the table at indices below 16
 
 module _ (js : List ℕ) (long : length js ≡ 16) (below : (i : ℕ) → i < 16 → get_or js i 0 < 16) where
+  -- a choice of std::simd among 16 bytes may be by indices below 16
   pub indices_may_index : SwzOk w8 16 16 0 js
   indices_may_index =
       SwzOk-from_below w8 16 1 16 0 js refl (omega arith)
       (Each1-from_get_or (λ j. j < 16) js 0 (λ i inside. below i (omega arith)))
 
+  -- by indices below 16, the byte of a table at the index is chosen
   pub picked_inside_at : (table : List ℕ) (i : ℕ) → i < 16
       → get_or (swz_l w8 16 table 0 js) i 0 ≡ get_or table (get_or js i 0) 0
   picked_inside_at table i inside =

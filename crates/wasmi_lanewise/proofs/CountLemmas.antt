@@ -11,13 +11,14 @@ use Rattle.wasmi_lanes.proofs.FieldLemmas.{field_and, field_add, field_lt, field
 use Rattle.wasmi_lanes.proofs.TopLemmas.{clear_top}
 use Rattle.wasmi_lanewise.proofs.MeanLemmas.{mean_low}
 
--- the lower half of a lane, and its upper half
+-- a lane, masked by the ones of its lower half, is that half
 lower_half : (w k y mask : ℕ) → field k (w + w) mask ≡ 2 ^ w - 1 → field k (w + w) (bit_and y mask) ≡ field k w y
 unfolding field
 lower_half w k y mask is =
     field_and k (w + w) y mask ∙ ap (bit_and (y / 2 ^ k % 2 ^ (w + w))) is ∙ and_mask (y / 2 ^ k % 2 ^ (w + w)) w
     ∙ mod-mod-pow (y / 2 ^ k) w w
 
+-- a lane of the word moved down by half a lane, so masked, is the upper half of the lane
 upper_half : (w k y mask : ℕ) → field k (w + w) mask ≡ 2 ^ w - 1
     → field k (w + w) (bit_and (y / 2 ^ w) mask) ≡ field (k + w) w y
 unfolding field
@@ -82,12 +83,14 @@ count_step w n v y mask pos fits is counted i lt =
     (upper_half w k y mask (is i lt) ∙ high)
     ∙ mod-eq_of_lt small ∙ omega (arith, halves w k v)
 
+-- a single bit is the number of its ones
 one_bit : (b : ℕ) → b < 2 → b ≡ count_ones b
 unfolding ones
 one_bit zero lt = refl
 one_bit (suc zero) lt = refl
 one_bit (suc (suc b)) lt = absurd (omega arith)
 
+-- two bits are twice the upper one and the lower one
 pair_split : (k v : ℕ) → field k 2 v ≡ field (k + 1) 1 v * 2 + field k 1 v
 unfolding field
 pair_split k v = mod-pow-add (v / 2 ^ k) 1 1 ∙ ap (λ n. n % 2 * 2 + v / 2 ^ k % 2) (shr-shr v k 1)
@@ -125,11 +128,13 @@ first_pairs v j fits below =
 
 -- the last step: lanes of 4 bits hold 4 at most, so that their highest bit is clear
 module _ (v z : ℕ) (counted : (j : ℕ) → j < 16 → field (4 * j) 4 z ≡ count_ones (field (4 * j) 4 v)) where
+  -- the highest bit of each lane of 4 bits is clear
   off : (j : ℕ) → j < 16 → bit_at z (4 * j + 3) ≡ 0
   off j below =
       sym (top_of_lane (4 * j) 3 z)
       ∙ omega (arith, counted j below, ones-le 4 (field (4 * j) 4 v) (field_lt (4 * j) 4 v))
 
+  -- what lies below a byte, in z and in z moved down by 4 bits, has a sum without a carry into the byte
   room : (i : ℕ) → i < 8 → z % 2 ^ (8 * i) + z / 16 % 2 ^ (8 * i) < 2 ^ (8 * i)
   room zero below = omega (arith, mod-one z, mod-one (z / 16))
   room (suc i) below =
@@ -143,12 +148,14 @@ module _ (v z : ℕ) (counted : (j : ℕ) → j < 16 → field (4 * j) 4 z ≡ c
       subst (λ k. z % 2 ^ k + z / 16 % 2 ^ k < 2 ^ k) (sym place)
       (omega (arith, clear_top z top first, clear_top (z / 16) top second, pow-suc 2 top))
 
+  -- 4 bits of the word moved down by 4 bits are the next 4 bits of the word
   shifted : (k : ℕ) → field k 4 (z / 16) ≡ field (k + 4) 4 z
   unfolding field
   shifted k =
       let turned : 4 + k ≡ k + 4 = omega arith in
       ap (λ n. n % 16) (shr-shr z 4 k) ∙ ap (λ n. z / 2 ^ n % 16) turned
 
+  -- each byte of the masked sum is the number of ones of that byte of v
   last_bytes : (i : ℕ) → i < 8
       → field (8 * i) 8 (bit_and ((z + z / 16) % 2 ^ 64) 0x0f0f_0f0f_0f0f_0f0f) ≡ count_ones (field (8 * i) 8 v)
   last_bytes i below =
@@ -174,9 +181,11 @@ counts v =
     let nibbles = (bit_and pairs 0x3333_3333_3333_3333 + bit_and (pairs / 4) 0x3333_3333_3333_3333) % 2 ^ 64 in
     bit_and ((nibbles + nibbles / 16) % 2 ^ 64) 0x0f0f_0f0f_0f0f_0f0f
 
+-- the word of counts is below 2 ^ 64
 pub counts_below : (v : ℕ) → counts v < 2 ^ 64
 counts_below v = omega (arith, and_le_r)
 
+-- each byte of the word of counts is the number of ones of that byte of the word
 pub counts_at : (v : ℕ) → v < 2 ^ 64 → (i : ℕ) → i < 8 → field (8 * i) 8 (counts v) ≡ count_ones (field (8 * i) 8 v)
 counts_at v fits i below =
     let pairs : ℕ = (v + (2 ^ 64 - bit_and (v / 2) 0x5555_5555_5555_5555)) % 2 ^ 64 in

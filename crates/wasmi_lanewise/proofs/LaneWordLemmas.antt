@@ -5,26 +5,35 @@ use Rattle.wasmi_raw.specs.Vector.{vector_of}
 use Rattle.wasmi_types.specs.Wrapping.{w64}
 use Rattle.wasmi_lanes.specs.Lane.{lane, unsigned}
 use Rattle.wasmi_lanes.specs.Vector.{first_lanes, binary_of_lanes}
+use Rattle.wasmi_lanes.proofs.WordVectorLemmas.{AreWords}
 
--- where an operation on a number is the same operation on its high bits and on its low bits
-module _ (op : ℕ → ℕ → ℕ)
-    (on_high : (a b k : ℕ) → op a b / 2 ^ k ≡ op (a / 2 ^ k) (b / 2 ^ k))
-    (on_low : (a b k : ℕ) → op a b % 2 ^ k ≡ op (a % 2 ^ k) (b % 2 ^ k)) where
-  pub on_words : (a b low_a high_a low_b high_b r : ℕ) → low_a ≡ a % 2 ^ 64 → high_a ≡ a / 2 ^ 64 → low_b ≡ b % 2 ^ 64
-      → high_b ≡ b / 2 ^ 64
-      → r ≡ vector_of (op low_a low_b) (op high_a high_b) → r ≡ op a b
-  on_words a b low_a high_a low_b high_b r is_low_a is_high_a is_low_b is_high_b is =
-      is
-      ∙ ap₂ (λ high low. high * 2 ^ 64 + low) (ap₂ op is_high_a is_high_b ∙ sym (on_high a b 64))
-      (ap₂ op is_low_a is_low_b ∙ sym (on_low a b 64))
-      ∙ div-add-mod' (op a b) (2 ^ 64)
+-- an operation on numbers that is the same operation on their high bits and on their low bits
+pub record IsBitwise (op : ℕ → ℕ → ℕ) : Type 0 where
+  pub on_high : (a b k : ℕ) → op a b / 2 ^ k ≡ op (a / 2 ^ k) (b / 2 ^ k)
+  pub on_low : (a b k : ℕ) → op a b % 2 ^ k ≡ op (a % 2 ^ k) (b % 2 ^ k)
+
+-- the vector of a bitwise operation on the words is the operation on the vectors
+pub on_words : (op : ℕ → ℕ → ℕ) → IsBitwise op → (a b low_a high_a low_b high_b r : ℕ) → AreWords a low_a high_a
+    → AreWords b low_b high_b → r ≡ vector_of (op low_a low_b) (op high_a high_b) → r ≡ op a b
+on_words op bitwise a b low_a high_a low_b high_b r of_a of_b is =
+    is
+    ∙ ap₂ (λ high low. high * 2 ^ 64 + low) (ap₂ op of_a.high_is of_b.high_is ∙ sym (bitwise.on_high a b 64))
+    (ap₂ op of_a.low_is of_b.low_is ∙ sym (bitwise.on_low a b 64))
+    ∙ div-add-mod' (op a b) (2 ^ 64)
+
+-- a word that is the row of two words
+pub record IsRowOf (row : ℕ → ℕ → ℕ) (a b word : ℕ) : Type 0 where
+  pub fits : word < 2 ^ 64
+  pub is : word ≡ row a b
 
 -- lanes of 64 bits are the words
-pub lanes_are_words : (row : ℕ → ℕ → ℕ) (a b low high r : ℕ) → a < 2 ^ 128 → b < 2 ^ 128 → low < 2 ^ 64 → high < 2 ^ 64
-    → low ≡ row (a % 2 ^ 64) (b % 2 ^ 64) → high ≡ row (a / 2 ^ 64) (b / 2 ^ 64)
+pub lanes_are_words : (row : ℕ → ℕ → ℕ) (a b low high r : ℕ) → a < 2 ^ 128 → b < 2 ^ 128
+    → IsRowOf row (a % 2 ^ 64) (b % 2 ^ 64) low → IsRowOf row (a / 2 ^ 64) (b / 2 ^ 64) high
     → r ≡ vector_of low high → r ≡ binary_of_lanes w64 unsigned row a b
 unfolding binary_of_lanes first_lanes
-lanes_are_words row a b low high r fits_a fits_b fits_low fits_high is_low is_high is =
-    let first : row (lane w64 a 0) (lane w64 b 0) ≡ low = ap₂ row (omega arith) (omega arith) ∙ sym is_low in
-    let second : row (lane w64 a 1) (lane w64 b 1) ≡ high = ap₂ row (omega arith) (omega arith) ∙ sym is_high in
+lanes_are_words row a b low high r fits_a fits_b of_low of_high is =
+    let low_fits : low < 2 ^ 64 = of_low.fits in
+    let high_fits : high < 2 ^ 64 = of_high.fits in
+    let first : row (lane w64 a 0) (lane w64 b 0) ≡ low = ap₂ row (omega arith) (omega arith) ∙ sym of_low.is in
+    let second : row (lane w64 a 1) (lane w64 b 1) ≡ high = ap₂ row (omega arith) (omega arith) ∙ sym of_high.is in
     omega (arith, is, first, second)

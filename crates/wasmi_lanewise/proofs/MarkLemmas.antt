@@ -16,6 +16,7 @@ use Rattle.wasmi_lanes.proofs.WordVectorLemmas.{EachLane}
 abbrev Clear : ℕ → ℕ → ℕ → Type 0
 Clear h v k = v / 2 ^ k % 2 ^ h ≡ 0
 
+-- a lane that is 0 or its highest bit alone is clear below that bit
 mark_clear : (h k v : ℕ) → (field k (suc h) v ≡ 0) ⊎ (field k (suc h) v ≡ 2 ^ h) → Clear h v k
 unfolding field
 mark_clear h k v mark =
@@ -80,6 +81,7 @@ fill_case h f b (inr e) at =
     ap₂ bit_or e less ∙ joined
     ∙ sym (ap (λ n. cond (eqb n 0) 0 (2 ^ suc h - 1)) e ∙ ap (λ t. cond t 0 (2 ^ suc h - 1)) some)
 
+-- a lane of marks less its lowest bit has no bit in common with the lane
 apart_case : (h f b : ℕ) → (f ≡ 0) ⊎ (f ≡ 2 ^ h) → b ≡ bit_at f h → bit_and f (f - b) ≡ 0
 apart_case h f b (inl e) at =
     let less : f - b ≡ 0 = omega arith in
@@ -93,18 +95,22 @@ module _ (h k v : ℕ) (mark : (field k (suc h) v ≡ 0) ⊎ (field k (suc h) v 
   abbrev lowest : ℕ
   lowest = field k (suc h) (v / 2 ^ h)
 
+  -- the lane of the marks that were shifted down is the mark's bit
   lowest_is : lowest ≡ bit_at (field k (suc h) v) h
   lowest_is = lane_shifted h k v next ∙ sym (top_of_lane k h v)
 
+  -- the lane of the marks less the shifted ones is the lane less that bit
   less_lane : field k (suc h) (v - v / 2 ^ h) ≡ field k (suc h) v - lowest
   less_lane =
       field_sub k (suc h) v (v / 2 ^ h) (shr_le v h) (low_shifted h k v (mark_clear h k v mark))
       ∙ less_case h (field k (suc h) v) lowest mark lowest_is
 
+  -- joined with the marks less the shifted ones, a marked lane is all ones, and another all zeros
   fill_lane : field k (suc h) (bit_or v (v - v / 2 ^ h)) ≡ cond (eqb (field k (suc h) v) 0) 0 (2 ^ suc h - 1)
   fill_lane = field_or k (suc h) v (v - v / 2 ^ h) ∙ ap (bit_or (field k (suc h) v)) less_lane
       ∙ fill_case h (field k (suc h) v) lowest mark lowest_is
 
+  -- the marks and the marks less the shifted ones have no bit in common in the lane
   apart_lane : field k (suc h) (bit_and v (v - v / 2 ^ h)) ≡ 0
   apart_lane = field_and k (suc h) v (v - v / 2 ^ h) ∙ ap (bit_and (field k (suc h) v)) less_lane
       ∙ apart_case h (field k (suc h) v) lowest mark lowest_is
@@ -139,6 +145,7 @@ next_clear h n v fits whole marks i lt = elim (cases_lt (i + 1) n) [
 abbrev pub filled : ℕ → ℕ → ℕ
 filled v top = ((v + v) % 2 ^ 64 + (2 ^ 64 - v / 2 ^ top)) % 2 ^ 64
 
+-- the word of filled marks is below 2 ^ 64
 pub filled_below : (v top : ℕ) → filled v top < 2 ^ 64
 filled_below v top = mod-lt ((v + v) % 2 ^ 64 + (2 ^ 64 - v / 2 ^ top)) (lit< tt)
 
@@ -156,6 +163,7 @@ filled_is v top fits apart =
 
 module _ (h n v : ℕ) (fits : v < 2 ^ 64) (whole : n * suc h ≡ 64)
     (marks : (i : ℕ) → i < n → (field (suc h * i) (suc h) v ≡ 0) ⊎ (field (suc h * i) (suc h) v ≡ 2 ^ h)) where
+  -- the marks and the marks less the shifted ones have no bit in common
   apart : bit_and v (v - v / 2 ^ h) ≡ 0
   apart =
       let less : bit_and v (v - v / 2 ^ h) < 2 ^ 64 = omega (arith, and_le_l v (v - v / 2 ^ h)) in
@@ -164,12 +172,14 @@ module _ (h n v : ℕ) (fits : v < 2 ^ 64) (whole : n * suc h ≡ 64)
       (λ i lt. apart_lane h (suc h * i) v (marks i lt) (next_clear h n v fits whole marks i lt)
       ∙ sym (field_of_zero (suc h * i) (suc h)))
 
+  -- each lane of the filled marks is all ones where it was marked, else all zeros
   filled_lane : (i : ℕ) → i < n
       → field (suc h * i) (suc h) (filled v h) ≡ cond (eqb (field (suc h * i) (suc h) v) 0) 0 (2 ^ suc h - 1)
   filled_lane i lt =
       ap (field (suc h * i) (suc h)) (filled_is v h fits apart)
       ∙ fill_lane h (suc h * i) v (marks i lt) (next_clear h n v fits whole marks i lt)
 
+-- a lane of marks that were filled is all ones where it was marked, else all zeros
 pub marks_filled : (b n v top : ℕ) → top ≡ b - 1 → v < 2 ^ 64 → n * b ≡ 64 → Marked b n v → (i : ℕ) → i < n
     → field (b * i) b (filled v top) ≡ cond (eqb (field (b * i) b v) 0) 0 (2 ^ b - 1)
 marks_filled zero n v top is fits whole marks i lt = absurd (omega (arith, whole))
@@ -187,12 +197,14 @@ abbrev pub Differs : Width → ℕ → ℕ → ℕ → Type 0
 Differs w a b r =
     EachLane w (λ k. field k (bits w) r ≡ cond (eqb (field k (bits w) a) (field k (bits w) b)) 0 (2 ^ (bits w - 1)))
 
+-- what marks each lane of `tops` in which a and b differ marks those of w bits, where they are lanes of `tops`
 pub differs_in_lanes : (w : Width) (tops a b r : ℕ) → EachLane w (λ k. IsLane tops k (bits w))
     → ((start width : ℕ) → IsLane tops start width
     → field start width r ≡ cond (eqb (field start width a) (field start width b)) 0 (2 ^ (width - 1)))
     → Differs w a b r
 differs_in_lanes w tops a b r lanes differs i inside = differs (bits w * i) (bits w) (lanes i inside)
 
+-- what has the highest bits of the lanes that differ is a word of marks
 pub differ_marks : (w : Width) (a b r : ℕ) → Differs w a b r → AreMarks w r
 differ_marks w a b r differs i inside =
     let k : ℕ = bits w * i in
@@ -203,6 +215,7 @@ differ_marks w a b r differs i inside =
     either_mark true p = inl refl
     either_mark false p = inr refl
 
+-- with all highest bits flipped, it has those of the lanes that are equal
 equal_lane : (w : Width) (tops a b r : ℕ) → EachLane w (λ k. IsLane tops k (bits w)) → Differs w a b r
     → EachLane w (λ k. field k (bits w) (bit_xor r tops)
     ≡ cond (eqb (field k (bits w) a) (field k (bits w) b)) (2 ^ (bits w - 1)) 0)
@@ -215,6 +228,7 @@ equal_lane w tops a b r lanes differs i inside =
     other_mark true p = xor_zero_l p
     other_mark false p = xor_self p
 
+-- with all highest bits flipped, it is a word of marks as well
 pub equal_marks : (w : Width) (tops a b r : ℕ) → EachLane w (λ k. IsLane tops k (bits w)) → Differs w a b r
     → AreMarks w (bit_xor r tops)
 equal_marks w tops a b r lanes differs i inside =
@@ -230,6 +244,7 @@ equal_marks w tops a b r lanes differs i inside =
 abbrev pub Fills : Width → ℕ → ℕ → Type 0
 Fills w m f = EachLane w (λ k. field k (bits w) f ≡ cond (eqb (field k (bits w) m) 0) 0 (2 ^ bits w - 1))
 
+-- where those marks are filled, the lanes that differ are all ones, the others all zeros
 pub different_filled : (w : Width) (a b r f : ℕ) → Differs w a b r → Fills w r f
     → EachLane w (λ k. field k (bits w) f
     ≡ cond (not (eqb (field k (bits w) a) (field k (bits w) b))) (2 ^ bits w - 1) 0)
@@ -243,6 +258,7 @@ different_filled w a b r f differs fills i inside =
     full true p q pos = refl
     full false p q pos = ap (λ b. cond b 0 q) (ne_eqb p 0 (λ z. absurd (omega arith)))
 
+-- where the flipped marks are filled, the lanes that are equal are all ones, the others all zeros
 pub equal_filled : (w : Width) (tops a b r f : ℕ) → EachLane w (λ k. IsLane tops k (bits w)) → Differs w a b r
     → Fills w (bit_xor r tops) f
     → EachLane w (λ k. field k (bits w) f ≡ cond (eqb (field k (bits w) a) (field k (bits w) b)) (2 ^ bits w - 1) 0)

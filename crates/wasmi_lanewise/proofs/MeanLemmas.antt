@@ -8,6 +8,7 @@ use Rattle.std.specs.Int.{bit_at}
 use Rattle.wasmi_lanes.specs.Words.{field, IsLane}
 use Rattle.wasmi_lanes.proofs.FieldLemmas.{field_or, field_xor, field_lt, field_sub, field_not, lane_shr}
 
+-- modulo 2 ^ k, half of z without its bit k - 1 is at most z
 pub mean_low : (k z rest : ℕ) → (k ≡ 0) ⊎ (bit_at rest (k - 1) ≡ 0) → bit_and (z / 2) rest % 2 ^ k ≤ z % 2 ^ k
 mean_low zero z rest starts = omega arith
 mean_low (suc j) z rest (inl e) = absurd (omega arith)
@@ -29,6 +30,7 @@ mean_low (suc j) z rest (inr e) =
 pub xor_le_or : (a b : ℕ) → bit_xor a b ≤ bit_or a b
 xor_le_or a b = omega (arith, xor_add_and a b, or_add_and a b)
 
+-- a lane of half of a word, masked by all bits of the lane but the highest, is half of the lane
 lane_half : (k h z rest : ℕ) → field k (suc h) rest ≡ 2 ^ h - 1
     → field k (suc h) (bit_and (z / 2) rest) ≡ field k (suc h) z / 2
 lane_half k h z rest is =
@@ -56,6 +58,7 @@ mean_suc_lane k h a b rest starts is =
     field_sub k w (bit_or a b) s le low ∙ ap₂ (λ m n. (m + (2 ^ w - n)) % 2 ^ w) (field_or k w a b) half
     ∙ ap (λ n. n % 2 ^ w) mean ∙ add-mod_right ((x + y + 1) / 2) (2 ^ w) ∙ mod-eq_of_lt small
 
+-- where a word has the bit right below k, the inverted word hasn't, unless k is 0
 not_starts : (tops k : ℕ) → tops < 2 ^ 64 → k ≤ 64 → (k ≡ 0) ⊎ (bit_at tops (k - 1) ≡ 1)
     → (k ≡ 0) ⊎ (bit_at (2 ^ 64 - 1 - tops) (k - 1) ≡ 0)
 not_starts tops zero fits le starts = inl refl
@@ -66,6 +69,7 @@ not_starts tops (suc j) fits le (inr e) =
     bit_at_not w64 tops (suc j - 1) fits place in
     inr (omega (arith, off))
 
+-- a lane of the bits of either, less half of those that differ, is the mean of both lanes, rounded up
 pub mean_lane : (tops k w a b : ℕ) → tops < 2 ^ 64 → IsLane tops k w →
     field k w (bit_or a b - bit_and (bit_xor a b / 2) (2 ^ 64 - 1 - tops)) ≡ (field k w a + field k w b + 1) / 2
 mean_lane tops k zero a b fits lane = absurd (omega (arith, lane.top, field_lt k 0 tops))

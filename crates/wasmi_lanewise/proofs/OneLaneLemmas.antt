@@ -36,50 +36,80 @@ item_at w n k item numbers lanes i counted long inside =
     (omega arith)
     ∙ ap₂ (λ t x. cond t x (get_or lanes i 0)) test (get_or-replicate n i item 0 inside)
 
--- the vector of n lanes that are an item where the number of the lane is k, and those of v elsewhere
-pub chosen_make_vector : (w : Width) (n v k at item r : ℕ) (numbers places lanes : List ℕ) → n * bits w ≡ 128
-    → numbers ≡ range_with_len 0 n → places ≡ replicate n k → length lanes ≡ n → k ≡ at
-    → ((i : ℕ) → i < n → get_or lanes i 0 ≡ lane w v i)
-    → ((i : ℕ) → i < n
-    → get_or (sel_l (map (top (hbits w)) (zip2 (λ a b. cond (eqb a b) (2 ^ bits w - 1) 0) numbers places))
-    (replicate n item) lanes) i 0 ≡ lane w r i)
-    → r < 2 ^ 128
-    → r ≡ with_lane w v at item
+-- r has n lanes: an item where the number of the lane is `at`, and those of v elsewhere
+pub record IsLaneWrite (w : Width) (n v at item r : ℕ) : Type 0 where
+  pub filled : n * bits w ≡ 128
+  -- the numbers of the lanes, and `at` in each lane
+  pub numbers : List ℕ
+  pub places : List ℕ
+  pub counted : numbers ≡ range_with_len 0 n
+  pub placed : places ≡ replicate n at
+  -- the lanes of v
+  pub lanes : List ℕ
+  pub long : length lanes ≡ n
+  pub are : (i : ℕ) → i < n → get_or lanes i 0 ≡ lane w v i
+  pub written : (i : ℕ) → i < n
+      → get_or (sel_l (map (top (hbits w)) (zip2 (λ a b. cond (eqb a b) (2 ^ bits w - 1) 0) numbers places))
+      (replicate n item) lanes) i 0 ≡ lane w r i
+  pub below : r < 2 ^ 128
+
+-- it is v with the item in the lane at that place
+pub chosen_make_vector : (w : Width) (n v at item r : ℕ) → IsLaneWrite w n v at item r → r ≡ with_lane w v at item
 unfolding with_lane
-chosen_make_vector w n v k at item r numbers places lanes filled counted placed long is_at is written below =
-    lanes_make_vector w n r _ filled below
+chosen_make_vector w n v at item r write =
+    lanes_make_vector w n r _ write.filled write.below
     (λ i inside.
-    sym (written i inside)
+    sym (write.written i inside)
     ∙ ap (λ ks. get_or
-    (sel_l (map (top (hbits w)) (zip2 (λ a b. cond (eqb a b) (2 ^ bits w - 1) 0) numbers ks))
-    (replicate n item) lanes) i 0) placed
-    ∙ item_at w n k item numbers lanes i counted long inside
-    ∙ ap₂ (λ j x. if eqb i j then item else x) is_at (is i inside))
+    (sel_l (map (top (hbits w)) (zip2 (λ a b. cond (eqb a b) (2 ^ bits w - 1) 0) write.numbers ks))
+    (replicate n item) write.lanes) i 0) write.placed
+    ∙ item_at w n at item write.numbers write.lanes i write.counted write.long inside
+    ∙ ap (λ x. if eqb i at then item else x) (write.are i inside))
 
 -- ---- a lane of 16 or 32 bits, by its bytes
 
-pub first_byte : (bytes : List ℕ) (x : ℕ) → length bytes ≡ 16 → get_or bytes 0 0 ≡ x → x < 256
+-- a byte that stands at this place of a list
+pub record IsByteAt (bytes : List ℕ) (i x : ℕ) : Type 0 where
+  pub is : get_or bytes i 0 ≡ x
+  pub fits : x < 256
+
+-- the lowest 8 bits of the number of 16 bytes are the first byte
+pub first_byte : (bytes : List ℕ) (x : ℕ) → length bytes ≡ 16 → IsByteAt bytes 0 x
     → bit_and (number_l 256 bytes % 2 ^ 32) 255 ≡ x
-first_byte [] x long is fits = absurd (omega arith)
-first_byte (a ∷ rest) x long is fits =
-    let low : number_l 256 (a ∷ rest) % 2 ^ 32 % 2 ^ 8 ≡ x = omega (arith, is) in
+first_byte [] x long first = absurd (omega arith)
+first_byte (a ∷ rest) x long first =
+    let fits : x < 256 = first.fits in
+    let low : number_l 256 (a ∷ rest) % 2 ^ 32 % 2 ^ 8 ≡ x = omega (arith, first.is) in
     and_mask (number_l 256 (a ∷ rest) % 2 ^ 32) 8 ∙ low
 
-pub first_two_bytes : (bytes : List ℕ) (x y : ℕ) → length bytes ≡ 16 → get_or bytes 0 0 ≡ x → get_or bytes 1 0 ≡ y
-    → x < 256 → y < 256 → number_l 256 bytes % 65536 ≡ x + 256 * y
-first_two_bytes [] x y long is_x is_y fits_x fits_y = absurd (omega arith)
-first_two_bytes (a ∷ []) x y long is_x is_y fits_x fits_y = absurd (omega arith)
-first_two_bytes (a ∷ b ∷ rest) x y long is_x is_y fits_x fits_y = omega (arith, is_x, is_y)
+-- the lowest 16 bits of the number of 16 bytes are the first two bytes
+pub first_two_bytes : (bytes : List ℕ) (x y : ℕ) → length bytes ≡ 16 → IsByteAt bytes 0 x → IsByteAt bytes 1 y
+    → number_l 256 bytes % 65536 ≡ x + 256 * y
+first_two_bytes [] x y long first second = absurd (omega arith)
+first_two_bytes (a ∷ []) x y long first second = absurd (omega arith)
+first_two_bytes (a ∷ b ∷ rest) x y long first second =
+    omega (arith, first.is, first.fits, second.is, second.fits)
 
-pub first_four_bytes : (bytes : List ℕ) (x y z t : ℕ) → length bytes ≡ 16 → get_or bytes 0 0 ≡ x → get_or bytes 1 0 ≡ y
-    → get_or bytes 2 0 ≡ z → get_or bytes 3 0 ≡ t
-    → x < 256 → y < 256 → z < 256 → t < 256 → number_l 256 bytes % 2 ^ 32 ≡ (x + 256 * y) + 65536 * (z + 256 * t)
-first_four_bytes [] x y z t long is_x is_y is_z is_t fits_x fits_y fits_z fits_t = absurd (omega arith)
-first_four_bytes (a ∷ []) x y z t long is_x is_y is_z is_t fits_x fits_y fits_z fits_t = absurd (omega arith)
-first_four_bytes (a ∷ b ∷ []) x y z t long is_x is_y is_z is_t fits_x fits_y fits_z fits_t = absurd (omega arith)
-first_four_bytes (a ∷ b ∷ c ∷ []) x y z t long is_x is_y is_z is_t fits_x fits_y fits_z fits_t = absurd (omega arith)
-first_four_bytes (a ∷ b ∷ c ∷ d ∷ rest) x y z t long is_x is_y is_z is_t fits_x fits_y fits_z fits_t =
-    omega (arith, is_x, is_y, is_z, is_t)
+-- the lowest 32 bits of the number of 16 bytes are the first four bytes
+pub first_four_bytes : (bytes : List ℕ) (x y z t : ℕ) → length bytes ≡ 16 → IsByteAt bytes 0 x → IsByteAt bytes 1 y
+    → IsByteAt bytes 2 z → IsByteAt bytes 3 t
+    → number_l 256 bytes % 2 ^ 32 ≡ (x + 256 * y) + 65536 * (z + 256 * t)
+first_four_bytes [] x y z t long first second third fourth = absurd (omega arith)
+first_four_bytes (a ∷ []) x y z t long first second third fourth = absurd (omega arith)
+first_four_bytes (a ∷ b ∷ []) x y z t long first second third fourth = absurd (omega arith)
+first_four_bytes (a ∷ b ∷ c ∷ []) x y z t long first second third fourth = absurd (omega arith)
+first_four_bytes (a ∷ b ∷ c ∷ d ∷ rest) x y z t long first second third fourth =
+    omega (
+      arith,
+      first.is,
+      first.fits,
+      second.is,
+      second.fits,
+      third.is,
+      third.fits,
+      fourth.is,
+      fourth.fits,
+    )
 
 -- a lane is made of its two halves
 pub joined_halves : (b v k : ℕ)

@@ -20,6 +20,7 @@ half_is w32 = refl
 half_is w64 = refl
 half_is w128 = refl
 
+-- the range of w bits is twice its half
 whole_is : (w : Width) → 2 ^ bits w ≡ 2 ^ hbits w + 2 ^ hbits w
 whole_is w8 = refl
 whole_is w16 = refl
@@ -35,6 +36,7 @@ biased w x = (x + 2 ^ (bits w - 1)) % 2 ^ bits w
 abbrev read_as : Width → Bool → ℕ → ℤ
 read_as w low x = sel low (pos x) (negsuc (2 ^ bits w - suc x))
 
+-- two comparisons that follow from each other give the same
 same_less : (a b c d : ℕ) → (a < b → c < d) → (b ≤ a → d ≤ c) → ltb a b ≡ ltb c d
 same_less a b c d up down =
     elim (cases_lt a b) as (λ _. ltb a b ≡ ltb c d) [
@@ -42,6 +44,7 @@ same_less a b c d up down =
       | inr above ↦ le-ltb a b above ∙ sym (le-ltb c d (down above))
     ]
 
+-- a number is at most another just where that one isn't less
 at_most_is_not_less : (a b : ℕ) → leb a b ≡ not (ltb b a)
 at_most_is_not_less a b =
     elim (cases_lt b a) as (λ _. leb a b ≡ not (ltb b a)) [
@@ -49,6 +52,7 @@ at_most_is_not_less a b =
       | inr below ↦ le-leb a b below ∙ sym (ap not (le-ltb b a below))
     ]
 
+-- so for integers
 int_at_most_is_not_less : (a b : ℤ) → int_le a b ≡ not (int_lt b a)
 int_at_most_is_not_less (pos a) (pos b) = at_most_is_not_less a b
 int_at_most_is_not_less (pos a) (negsuc b) = refl
@@ -56,9 +60,11 @@ int_at_most_is_not_less (negsuc a) (pos b) = refl
 int_at_most_is_not_less (negsuc a) (negsuc b) = at_most_is_not_less b a
 
 module _ (w : Width) where
+  -- a number below half of the range is moved up by the half
   low_raised : (x : ℕ) → x < 2 ^ hbits w → biased w x ≡ x + 2 ^ hbits w
   low_raised x below = ap (λ n. (x + n) % 2 ^ bits w) (half_is w) ∙ mod-eq_of_lt (omega (arith, whole_is w))
 
+  -- a number from half of the range on is moved down by the half
   high_raised : (x : ℕ) → 2 ^ hbits w ≤ x → x < 2 ^ bits w → biased w x ≡ x - 2 ^ hbits w
   high_raised x above fits =
       let sum : x + 2 ^ hbits w ≡ (x - 2 ^ hbits w) + 2 ^ bits w = omega (arith, whole_is w) in
@@ -66,6 +72,7 @@ module _ (w : Width) where
       ∙ add-mod_right (x - 2 ^ hbits w) (2 ^ bits w) ∙ mod-eq_of_lt (omega arith)
 
   module _ (x y : ℕ) (fits_x : x < 2 ^ bits w) (fits_y : y < 2 ^ bits w) where
+    -- moved numbers are in the order of the signed numbers, read by the half of the range in which each lies
     less_where : (low_x low_y : Bool) → ltb x (2 ^ hbits w) ≡ low_x → ltb y (2 ^ hbits w) ≡ low_y
         → ltb (biased w x) (biased w y) ≡ int_lt (read_as w low_x x) (read_as w low_y y)
     less_where true true is_x is_y =
@@ -88,6 +95,7 @@ module _ (w : Width) where
         ∙ same_less (x - 2 ^ hbits w) (y - 2 ^ hbits w) (2 ^ bits w - suc y) (2 ^ bits w - suc x) (λ h. omega arith)
         (λ h. omega arith)
 
+    -- moved numbers are in the order of the signed numbers with their bits
     raised_is_less : ltb (biased w x) (biased w y) ≡ int_lt (signed w x) (signed w y)
     raised_is_less = less_where (ltb x (2 ^ hbits w)) (ltb y (2 ^ hbits w)) refl refl
 
@@ -111,6 +119,7 @@ zeros_where_less a b n = turned (ltb b a) ∙ sym (ap (λ t. if t then n else 0)
     turned true = refl
     turned false = refl
 
+-- so for integers
 zeros_where_int_less : (a b : ℤ) (n : ℕ) → (if int_lt b a then 0 else n) ≡ (if int_le a b then n else 0)
 zeros_where_int_less a b n = turned (int_lt b a) ∙ sym (ap (λ t. if t then n else 0) (int_at_most_is_not_less a b))
   where
@@ -118,12 +127,14 @@ zeros_where_int_less a b n = turned (int_lt b a) ∙ sym (ap (λ t. if t then n 
     turned true = refl
     turned false = refl
 
+-- of two numbers, the second where it is less, else the first, is the smaller
 pub smaller_is : (a b : ℕ) → (if ltb b a then b else a) ≡ min a b
 smaller_is a b = elim (cases_lt b a) as (λ _. (if ltb b a then b else a) ≡ min a b) [
   | inl below ↦ ap (λ t. if t then b else a) (lt-ltb b a below) ∙ omega arith
   | inr above ↦ ap (λ t. if t then b else a) (le-ltb b a above) ∙ omega arith
 ]
 
+-- of two numbers, the first where the second is less, else the second, is the larger
 pub larger_is : (a b : ℕ) → (if ltb b a then a else b) ≡ max a b
 larger_is a b = elim (cases_lt b a) as (λ _. (if ltb b a then a else b) ≡ max a b) [
   | inl below ↦ ap (λ t. if t then a else b) (lt-ltb b a below) ∙ omega arith
@@ -136,12 +147,14 @@ wrap_chosen : (w : Width) (t : Bool) (x y : ℕ) → x < 2 ^ bits w → y < 2 ^ 
 wrap_chosen w true x y fits_x fits_y = sym (wrap_signed w x fits_x)
 wrap_chosen w false x y fits_x fits_y = sym (wrap_signed w y fits_y)
 
+-- chosen by the order of the moved numbers, it has the bits of the smaller of the signed numbers
 pub signed_smaller_is : (w : Width) (a b : ℕ) → a < 2 ^ bits w → b < 2 ^ bits w
     → (if ltb (biased w b) (biased w a) then b else a) ≡ wrap w (int_min (signed w a) (signed w b))
 signed_smaller_is w a b fits_a fits_b =
     ap (λ t. if t then b else a) (raised_is_less w b a fits_b fits_a)
     ∙ wrap_chosen w (int_lt (signed w b) (signed w a)) b a fits_b fits_a
 
+-- so the larger of the signed numbers
 pub signed_larger_is : (w : Width) (a b : ℕ) → a < 2 ^ bits w → b < 2 ^ bits w
     → (if ltb (biased w b) (biased w a) then a else b) ≡ wrap w (int_max (signed w a) (signed w b))
 signed_larger_is w a b fits_a fits_b =
@@ -150,17 +163,26 @@ signed_larger_is w a b fits_a fits_b =
 
 -- ---- vectors whose lanes are chosen by an order of the operands' lanes, as they are (`move` is the identity) or moved
 
-module _ (w : Width) (n : ℕ) (filled : n * bits w ≡ 128) (a b r : ℕ) (below : r < 2 ^ 128) where
-  pub ordered_make_vector : (move : ℕ → ℕ) (f row : ℕ → ℕ → ℕ) (x y : ℕ → ℕ)
-      → ((i : ℕ) → i < n → lane w r i ≡ f (x i) (y i))
-      → ((i : ℕ) → i < n → x i ≡ move (lane w a i))
-      → ((i : ℕ) → i < n → y i ≡ move (lane w b i))
-      → ((p q : ℕ) → p < 2 ^ bits w → q < 2 ^ bits w → f (move p) (move q) ≡ row p q)
-      → r ≡ from_lanes w (λ i. row (lane w a i) (lane w b i))
-  ordered_make_vector move f row x y is is_x is_y same =
-      lanes_make_vector w n r _ filled below
-      (λ i inside. is i inside ∙ ap₂ f (is_x i inside) (is_y i inside)
-      ∙ same (lane w a i) (lane w b i) (lane_below w a i) (lane_below w b i))
+-- the n lanes of r are f of the moved lanes of a and b, which is the row of the lanes as they are
+pub record IsChosen (w : Width) (n a b r : ℕ) (row : ℕ → ℕ → ℕ) : Type 0 where
+  pub filled : n * bits w ≡ 128
+  pub below : r < 2 ^ 128
+  pub move : ℕ → ℕ
+  pub f : ℕ → ℕ → ℕ
+  pub lhs : ℕ → ℕ
+  pub rhs : ℕ → ℕ
+  pub lanes : (i : ℕ) → i < n → lane w r i ≡ f (lhs i) (rhs i)
+  pub lhs_is : (i : ℕ) → i < n → lhs i ≡ move (lane w a i)
+  pub rhs_is : (i : ℕ) → i < n → rhs i ≡ move (lane w b i)
+  pub same : (p q : ℕ) → p < 2 ^ bits w → q < 2 ^ bits w → f (move p) (move q) ≡ row p q
+
+-- it is the vector of the rows of the lanes of a and b
+pub ordered_make_vector : (w : Width) (n a b r : ℕ) (row : ℕ → ℕ → ℕ) → IsChosen w n a b r row
+    → r ≡ from_lanes w (λ i. row (lane w a i) (lane w b i))
+ordered_make_vector w n a b r row chosen =
+    lanes_make_vector w n r _ chosen.filled chosen.below
+    (λ i inside. chosen.lanes i inside ∙ ap₂ chosen.f (chosen.lhs_is i inside) (chosen.rhs_is i inside)
+    ∙ chosen.same (lane w a i) (lane w b i) (lane_below w a i) (lane_below w b i))
 
 -- lanes that were moved by half of their range
 pub raised_lanes : (w : Width) (n v : ℕ) (x y : ℕ → ℕ) → ((i : ℕ) → i < n → y i ≡ biased w (x i))
@@ -172,6 +194,7 @@ pub ones_where_less : (w : Width) (n p q : ℕ) → p < 2 ^ bits w → q < 2 ^ b
     → (if ltb (biased w p) (biased w q) then n else 0) ≡ (if int_lt (signed w p) (signed w q) then n else 0)
 ones_where_less w n p q fits_p fits_q = ap (λ t. if t then n else 0) (raised_is_less w p q fits_p fits_q)
 
+-- all zeros where q, moved, is less than p, moved, else all ones: all ones where p is at most q as signed numbers
 pub ones_where_at_most : (w : Width) (n p q : ℕ) → p < 2 ^ bits w → q < 2 ^ bits w
     → (if ltb (biased w q) (biased w p) then 0 else n) ≡ (if int_le (signed w p) (signed w q) then n else 0)
 ones_where_at_most w n p q fits_p fits_q =

@@ -18,11 +18,13 @@ use mir.Val.{sel}
 
 -- ---- a product of two lanes, at 32 bits
 
+-- a signed number of 16 bits is at most 2 ^ 15 away from 0
 abs_of_lane : (x : ℤ) → FitsSigned w16 x → unsigned_abs x ≤ 32768
 abs_of_lane (pos n) fits = let below = fits.sfits in omega arith
 abs_of_lane (negsuc n) fits = let below = fits.sfits in omega arith
 
 module _ (x y : ℤ) (fits_x : FitsSigned w16 x) (fits_y : FitsSigned w16 y) where
+  -- the product is at most 2 ^ 30 away from 0
   product_is_small : unsigned_abs (x *ℤ y) ≤ 2 ^ 30
   product_is_small =
       let bound : unsigned_abs x * unsigned_abs y ≤ 32768 * 32768 =
@@ -47,9 +49,11 @@ module _ (x y : ℤ) (fits_x : FitsSigned w16 x) (fits_y : FitsSigned w16 y) whe
           let bound : 32768 * 32768 ≤ unsigned_abs x * unsigned_abs y = mul-le-mul least_x least_y in
           inr (omega (arith, bound, unsigned_abs-mul x y))
 
+  -- a signed number of 16 bits is one of 32 bits
   lane_in_32_bits : (z : ℤ) → FitsSigned w16 z → FitsSigned w32 z
   lane_in_32_bits z fits = fits_signed_from_abs w32 z (let small = abs_of_lane z fits in omega arith)
 
+  -- the product of the bits, modulo 2 ^ 32, has the bits of the product
   product_in_32_bits : cast_unsigned w32 x * cast_unsigned w32 y % 2 ^ 32 ≡ cast_unsigned w32 (x *ℤ y)
   product_in_32_bits =
       sym (of_z-to_z w32 _ (mod-lt _ (pow_pos 32)))
@@ -61,6 +65,7 @@ module _ (x y : ℤ) (fits_x : FitsSigned w16 x) (fits_y : FitsSigned w16 y) whe
 abbrev pub extended : ℕ → ℕ
 extended x = cast_unsigned w32 (signed w16 x)
 
+-- the lower half of an extended lane is the lane
 lower_is : (x : ℕ) → x < 65536 → extended x % 65536 ≡ x
 lower_is x fits = read (ltb x 32768) refl
   where
@@ -68,6 +73,7 @@ lower_is x fits = read (ltb x 32768) refl
     read true is = omega arith
     read false is = omega arith
 
+-- the lower half of the product of two lanes is that of the product of the extended lanes
 lower_half : (x y : ℕ) → x < 65536 → y < 65536 → x * y % 65536 ≡ extended x * extended y % 2 ^ 32 % 65536
 lower_half x y fits_x fits_y =
     sym (mod-mod-pow (extended x * extended y) 16 16 ∙ mul-mod (extended x) (extended y) 65536
@@ -86,6 +92,7 @@ rounded l = (l / 2 + 8192) % 65536 / 16384
 abbrev HasDouble : ℕ → Type 0
 HasDouble h = (h < 16384) ⊎ (32768 ≤ h)
 
+-- an upper half whose double fits is doubled, modulo 2 ^ 16
 doubled_is : (h : ℕ) → HasDouble h → h < 65536 → doubled h ≡ (h + h) % 65536
 doubled_is h part fits = chosen (cases_lt ((h + 32768) % 65536) 49151) part
   where
@@ -101,6 +108,7 @@ doubled_is h part fits = chosen (cases_lt ((h + 32768) % 65536) 49151) part
 abbrev of_halves : ℕ → ℕ
 of_halves u = (doubled (u / 65536) + rounded (u % 65536)) % 65536
 
+-- both halves of u together are u / 2 ^ 15, rounded, modulo 2 ^ 16, where the double of the upper half fits
 halves_rounded : (u : ℕ) → u < 2 ^ 32 → HasDouble (u / 65536) → of_halves u ≡ (u + 16384) / 32768 % 65536
 halves_rounded u fits part =
     let h : ℕ = u / 65536 in
@@ -116,6 +124,7 @@ rounded_negative : (n : ℕ) (t : Bool) → ltb 16384 (suc n) ≡ t → suc n �
 rounded_negative n true is small = let above = ltb-true 16384 (suc n) is in omega arith
 rounded_negative n false is small = let below = ltb-false 16384 (suc n) is in omega arith
 
+-- both halves of the bits of a product together are the product / 2 ^ 15, rounded, clamped and wrapped
 by_product : (z : ℤ) → unsigned_abs z ≤ 2 ^ 30 → (unsigned_abs z ≤ 2 ^ 30 - 2 ^ 15) ⊎ (2 ^ 30 ≤ unsigned_abs z)
     → of_halves (cast_unsigned w32 z) ≡ wrap w16 (clamp_signed w16 (int_shr (z +ℤ pos 16384) 15))
 by_product (pos n) small (inl below) =
@@ -155,6 +164,7 @@ flipped_is x fits =
     read true is = let under = ltb-true x 32768 is in omega arith
     read false is = let over = ltb-false x 32768 is in omega arith
 
+-- flipping the highest bit of each lane and taking it off again extends the lane
 pub extended_at : (xs : List ℕ) (i : ℕ) → length xs ≡ 8 → Each1 (Fits w16) xs → i < 8
     → get_or (zip2 (λ a b. (a + (2 ^ 32 - b)) % 2 ^ 32) (zip2 bit_xor (map (λ x. x) xs) (replicate 8 32768))
     (replicate 8 32768)) i 0 ≡ extended (get_or xs i 0)
@@ -175,13 +185,16 @@ abbrev uppers : List ℕ → List ℕ → List ℕ
 uppers xs ys = zip2 (λ a b. a / 2 ^ b) (zip2 (λ a b. a * b % 2 ^ 32) xs ys) (replicate 8 16)
 
 module _ (xs ys : List ℕ) (long_x : length xs ≡ 8) (long_y : length ys ≡ 8) where
+  -- there are 8 products
   many_products : length (zip2 (λ a b. a * b % 2 ^ 32) xs ys) ≡ 8
   many_products = length-zip2 (λ a b. a * b % 2 ^ 32) xs ys (long_x ∙ sym long_y) ∙ long_x
 
+  -- there are 8 upper halves
   many_uppers : length (uppers xs ys) ≡ 8
   many_uppers =
       length-zip2 (λ a b. a / 2 ^ b) (zip2 (λ a b. a * b % 2 ^ 32) xs ys) (replicate 8 16) many_products ∙ many_products
 
+  -- each is the upper half of the product in its place
   upper_at : (i : ℕ) → i < 8 → get_or (uppers xs ys) i 0 ≡ get_or xs i 0 * get_or ys i 0 % 2 ^ 32 / 65536
   upper_at i inside =
       let many = many_products in
@@ -189,6 +202,7 @@ module _ (xs ys : List ℕ) (long_x : length xs ≡ 8) (long_y : length ys ≡ 8
       ∙ ap₂ (λ a b. a / 2 ^ b) (get_or-zip2 (λ a b. a * b % 2 ^ 32) xs ys i 0 0 0 (omega arith) (omega arith))
       (get_or-replicate 8 i 16 0 inside)
 
+  -- the upper halves fit into 16 bits
   pub uppers_fit : Each1 (Fits w16) (uppers xs ys)
   uppers_fit =
       let many = many_uppers in
@@ -198,12 +212,14 @@ module _ (xs ys : List ℕ) (long_x : length xs ≡ 8) (long_y : length ys ≡ 8
       let is = upper_at i within in
       record { fits = omega (arith, is, mod-lt (get_or xs i 0 * get_or ys i 0) (pow_pos 32)) })
 
+  -- so after they were cast to 16 bits
   pub upper_halves_at : (i : ℕ) → i < 8
       → get_or (map (λ x. x) (uppers xs ys)) i 0 ≡ get_or xs i 0 * get_or ys i 0 % 2 ^ 32 / 65536
   upper_halves_at i inside =
       let many = many_uppers in
       get_or-map (λ x. x) (uppers xs ys) i 0 0 (omega arith) ∙ upper_at i inside
 
+-- halved, 2 ^ 13 added and divided by 2 ^ 14, each lower half is rounded
 pub quotients_at : (xs : List ℕ) (i : ℕ) → length xs ≡ 8 → i < 8
     → get_or (zip2 (λ a b. a / 2 ^ b)
     (zip2 (λ a b. (a + b) % 65536) (zip2 (λ a b. a / 2 ^ b) xs (replicate 8 1)) (replicate 8 8192))

@@ -19,6 +19,7 @@ ones_lane k w within =
 
 -- ---- a vector inverted, and its words
 
+-- the vector of the inverted words of a vector is the vector inverted
 pub inverted_is : (v r : ℕ) → v < 2 ^ 128 → r ≡ vector_of (2 ^ 64 - 1 - v % 2 ^ 64) (2 ^ 64 - 1 - v / 2 ^ 64)
     → r ≡ v128_not v
 inverted_is v r fits is = omega (arith, is)
@@ -28,16 +29,19 @@ pub words_of_inverted : {v i low high : ℕ} → v < 2 ^ 128 → i ≡ v128_not 
     → AreWords v (2 ^ 64 - 1 - low) (2 ^ 64 - 1 - high)
 words_of_inverted fits is of_i = u64x2_of (omega (arith, is, of_i.low_is)) (omega (arith, is, of_i.high_is))
 
+-- the vector of inverted words, inverted, is the vector of the words
 pub inverted_words : {low high i r : ℕ} → low < 2 ^ 64 → high < 2 ^ 64
     → i ≡ vector_of (2 ^ 64 - 1 - low) (2 ^ 64 - 1 - high) → r ≡ v128_not i → r ≡ vector_of low high
 inverted_words fits_low fits_high is_i is_r = omega (arith, is_i, is_r)
 
 -- ---- a lane and all ones, inverted: the lane negated
 
+-- an inner lane ends within the word
 within_word : (tops k w : ℕ) → InnerLane tops k w → k + w ≤ 64
 within_word tops k w (inl lane) = lane.within
 within_word tops k w (inr lane) = omega (arith, lane.whole)
 
+-- modulo p, x less 1, taken from p - 1, is x negated
 less_one_inverted : (p x : ℕ) → x < p → p - 1 - (x + (p - 1)) % p ≡ (p - x) % p
 less_one_inverted p zero fits =
     let all : (p - 1) % p ≡ p - 1 = mod-eq_of_lt (omega arith) in
@@ -51,6 +55,7 @@ less_one_inverted p (suc y) fits =
     let less : p - 1 - (suc y + (p - 1)) % p ≡ p - suc y = omega (arith, rest) in
     less ∙ sym (mod-eq_of_lt (omega arith))
 
+-- a lane and all ones, inverted, is the lane negated
 pub negated_lane : (tops k w v r : ℕ) → r < 2 ^ 64 → InnerLane tops k w
     → field k w r ≡ (field k w v + field k w (2 ^ 64 - 1)) % 2 ^ w
     → field k w (2 ^ 64 - 1 - r) ≡ (2 ^ w - field k w v) % 2 ^ w
@@ -66,6 +71,7 @@ abbrev DiffersIn : ℕ → ℕ → ℕ → ℕ → ℕ → Type 0
 DiffersIn w n a b r =
     (i : ℕ) → i < n → field (w * i) w r ≡ cond (eqb (field (w * i) w a) (field (w * i) w b)) 0 (2 ^ (w - 1))
 
+-- words of which no lane differs are the same
 same_where_none_differs : (w n a b r : ℕ) → a < 2 ^ (n * w) → b < 2 ^ (n * w) → DiffersIn w n a b r → r ≡ 0 → a ≡ b
 same_where_none_differs w n a b r fits_a fits_b differs none =
     same_words w n a b fits_a fits_b
@@ -78,6 +84,7 @@ same_where_none_differs w n a b r fits_a fits_b differs none =
       | inr other ↦ absurd (omega (arith, pow_pos (w - 1), sym (ap (λ t. cond t 0 (2 ^ (w - 1))) other.0) ∙ is))
     ]
 
+-- of two words that are the same, no lane differs
 none_differs_where_same : (w n a b r : ℕ) → r < 2 ^ (n * w) → DiffersIn w n a b r → a ≡ b → r ≡ 0
 none_differs_where_same w n a b r fits differs same =
     same_words w n r 0 fits (pow_pos (n * w))
@@ -97,12 +104,14 @@ DiffersInBits a b r =
     → field start width r ≡ cond (eqb (field start width a) (field start width b)) 0 (2 ^ (width - 1))
 
 module _ {a b r : ℕ} (fits_a : a < 2 ^ 64) (fits_b : b < 2 ^ 64) (differs : DiffersInBits a b r) where
+  -- where no bit differs, a choice by whether the words are equal is its first
   pub equal_where_zero : (p q : ℕ) → r ≡ 0 → p ≡ cond (eqb a b) p q
   equal_where_zero p q none =
       sym (ap (λ t. cond t p q)
       (eq-eqb a b (same_where_none_differs 1 64 a b r fits_a fits_b
       (λ i inside. differs (1 * i) 1 (bit_lane i inside)) none)))
 
+  -- where some bit differs, it is its second
   pub different_where_some : (p q : ℕ) → r < 2 ^ 64 → (r ≡ 0 → ⊥) → q ≡ cond (eqb a b) p q
   different_where_some p q fits some =
       sym (ap (λ t. cond t p q)

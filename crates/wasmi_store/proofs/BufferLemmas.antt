@@ -12,6 +12,7 @@ use Rattle.wasmi_store.specs.declared.memory.buffer.Storage.TheVariants.{Owned, 
 abbrev padded : List ℕ → ℕ → List ℕ
 padded xs n = xs ++ replicate n 0
 
+-- n zeros make a list longer by n
 length-padded : (xs : List ℕ) (n : ℕ) → length (padded xs n) ≡ length xs + n
 length-padded xs n =
     let both : length (padded xs n) ≡ length xs + length (replicate {A = ℕ} n 0) = length-append xs (replicate n 0) in
@@ -25,6 +26,7 @@ front_written xs ws n within long =
     ap (λ (l : List ℕ). l ++ drop n xs) (take_at ws (drop (length ws) (take n xs)) (length (take n xs)) (omega arith))
 
 module _ {Region : Type 0} (bytes : Region → List ℕ) (len n : ℕ) where
+  -- memory of its own that was padded up to n bytes holds the buffer with zeros after its bytes
   pub owned_grows : (v w : Vec ℕ Global) → EndsWithin bytes (Owned v) len → length (take len v.items) ≤ n
       → w.items ≡ padded (take n v.items) (n - v.len)
       → view_of bytes (Owned w) n ≡ with_zeros (view_of bytes (Owned v) len) (n - length (take len v.items))
@@ -38,6 +40,7 @@ module _ {Region : Type 0} (bytes : Region → List ℕ) (len n : ℕ) where
       rw whole refl in
       ap (λ (l : List ℕ). record { bytes = l; room = buffer.Owned }) (take_all n w.items (omega arith) ∙ added ∙ same)
 
+  -- a region whose first n bytes were written over, by the buffer's and zeros, holds the buffer with zeros
   pub lent_grows : (region region' : Region) → EndsWithin bytes (Lent region) len → length (take len (bytes region)) ≤ n
       → fits_room (view_of bytes (Lent region) len).room (n - length (take len (bytes region))) ≡ true
       → (ws : List ℕ) → ws ≡ padded (take len (take n (bytes region))) (length (take n (bytes region)) - len)

@@ -50,6 +50,7 @@ module _ {M : Type 1} {𝓤 : Ura M} (𝓛 : Logic 𝓤) (R : RattleType) (ℓ :
       ∙ ap (λ (l : List R.Denot). take (length front) l ++ back) (append-nil ws)
       ∙ ap (λ (l : List R.Denot). l ++ back) (take_all (length front) ws (omega arith))
 
+  -- the front, written over, and what follows it stand in one row
   put : m ≤ length xs → (ws : List R.Denot)
       → ent 𝓤 (sep 𝓤 (sem 𝓛 ((Arr (mem R) (length front)).own_at ws b o))
       (sem 𝓛 (cells (mem R) back b (past (length front)))))
@@ -75,6 +76,7 @@ module _ {M : Type 1} {𝓤 : Ura M} (𝓛 : Logic 𝓤) (R : RattleType) (ℓ :
       ‵ ((MutSlice ℓ κ R).own_val (record { ref_ptr = (b, o); ghost_name = δ; now = front }) (slice_val (b, o) k ∷ []))
       ⊛ ‵ (flft κ q) ⊛ ‵ (follows (Array R 0) (Array R 0) γ δ refilled)
 
+  -- the front of a mutable slice is lent, and the lender ends with what is written to it
   pub lends_front : m ≤ length xs → Room R (length front) → (vs : List Val)
       → ent 𝓤 (sep 𝓤 (sem 𝓛 ((MutSlice ℓ κ R).own_val (record { ref_ptr = (b, o); ghost_name = γ; now = xs }) vs))
       (A.lft κ q)) (H.⇛ (ex 𝓤 (FrontLent m)))

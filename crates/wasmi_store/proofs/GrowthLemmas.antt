@@ -2,17 +2,18 @@
 use Rattle.std.proofs.Common.{◌≡◌, ℕ, ◌<◌, ◌≤◌, Bool, true, false, Option, Some, None, Result, Ok, Err, inr, refl, ap, ◌∙◌, arith}
 use Rattle.std.specs.Prelude.{if◌then◌else◌, MatchBool}
 use Rattle.std.proofs.lemmas.Bool.Decides.{nat_tests}
-use Rattle.wasmi_meter.specs.Limiter.{Answer, NoticeAnswer, Rules}
+use Rattle.wasmi_meter.specs.Limiter.{Question, Answer, NoticeAnswer, Rules}
 use Rattle.wasmi_meter.specs.Meter.{Meter, amount_left, Charges}
 use Rattle.wasmi_meter.specs.Attempt.{MeteredValue, alone, Request, AttemptOutcome, Unasked, Denied, Met, Failed, Attempt, Permits, answer_of, error_of_failure, optional_due, covers}
 use Rattle.wasmi_meter.proofs.AttemptLemmas.{attempt_unasked, attempt_denied, attempt_late, attempt_unpaid, attempt_refused, attempt_met}
 use Rattle.wasmi_store.specs.Growth.{Makes, Growth, Grows}
 
--- a cause that is there only where a test fails
+-- of a cause that is there only where a test fails: where it holds, there is none
 pub no_cause : {E : Type 0} (b : Bool) (cause : E) → b ≡ true
     → (let none : Option E = None in if b then none else Some cause) ≡ None
 no_cause b cause h = rw h refl
 
+-- where the test fails, the cause is there
 pub a_cause : {E : Type 0} (b : Bool) (cause : E) → b ≡ false
     → (let none : Option E = None in if b then none else Some cause) ≡ Some cause
 a_cause b cause h = rw h refl
@@ -28,114 +29,164 @@ pub of_loan : {L : Type 0} (Holds : Option L → Option L → Type 0) (s s' : Op
     → s' ≡ Some l' → Holds s s' → Holds (Some l) (Some l')
 of_loan Holds s s' l l' before after holds = rw (← before, ← after) holds
 
--- whether so much can be paid
+-- what is left, or less, can be paid
 pub payable : (m : Meter) (n : ℕ) → n ≤ amount_left m → covers (Some m) n ≡ true
 payable m n h = grind (arith, nat_tests)
 
+-- more than what is left can't be paid
 pub unpayable : (m : Meter) (n : ℕ) → amount_left m < n → covers (Some m) n ≡ false
 unpayable m n h = grind (arith, nat_tests)
 
+-- no early cause stands against what is asked, and this is the question
+pub record IsAsked {V E : Type 0} (e : Request V E) (question : Question) : Type 0 where
+  pub early : e.early ≡ None
+  pub question_is : question ≡ e.question
+
+-- no early cause stands against it, and the limiter permits it
+pub record IsPermitted {V E S : Type 0} (rules : Rules S) (e : Request V E) (l permitted : S) : Type 0 where
+  pub early : e.early ≡ None
+  pub asks : rules.asked l e.question (Ok true) permitted
+
+-- it is permitted, and no late cause stands against it: the charge is next
+pub record ReachesCharge {V E S : Type 0} (rules : Rules S) (e : Request V E) (l permitted : S) : Type 0 where
+  pub permits : IsPermitted rules e l permitted
+  pub late : e.late ≡ None
+
+-- the limiter gets a notice of a cause, and the error is by its answer
+pub record TellsOf {V E S : Type 0} (rules : Rules S) (e : Request V E) (cause : E) (l : S) (error : E) (l' : S)
+    : Type 0 where
+  pub answer : NoticeAnswer
+  pub notices : rules.noticed l (e.notice cause) answer l'
+  pub answers : error ≡ error_of_failure e.refusal cause answer
+
+-- it is permitted where the question is
+pub permitted_by : {V E S : Type 0} (rules : Rules S) (e : Request V E) (question : Question) → IsAsked e question
+    → (l permitted : S) → rules.asked l question (Ok true) permitted → IsPermitted rules e l permitted
+permitted_by rules e question is l permitted asks =
+    record { early = is.early; asks = rw is.question_is at asks }
+
 module _ {T E S : Type 0} (rules : Rules S) (e : Request (Unit {0}) E) (made : T) (l : S) where
+  -- where an early cause stands, the limiter isn't asked, and the cause is answered
   pub makes_unasked : (cause : E) → e.early ≡ Some cause → Makes rules e made l (Err cause) l
   makes_unasked cause early = (Unasked cause, attempt_unasked rules e (alone l) cause early, refl)
 
-  module _ (early : e.early ≡ None) where
-    pub makes_denied : (answer : Answer) (l' : S) → rules.asked l e.question answer l' → (error : E)
-        → Permits e.denial e.refusal answer (Err error) → Makes rules e made l (Err error) l'
-    makes_denied answer l' asks error denies =
-        (Denied answer, attempt_denied rules e (alone l) early answer l' denies.0 asks, ap Err denies.1)
+  -- where the limiter doesn't permit it, the error of its answer is answered
+  pub makes_denied : (question : Question) → IsAsked e question → (answer : Answer) (l' : S)
+      → rules.asked l question answer l' → (error : E) → Permits e.denial e.refusal answer (Err error)
+      → Makes rules e made l (Err error) l'
+  makes_denied question is answer l' asks error denies = (
+    Denied answer,
+    attempt_denied rules e (alone l) is.early answer l' denies.0 (rw is.question_is at asks),
+    ap Err denies.1,
+  )
 
-    module _ (p : S) (asks : rules.asked l e.question (Ok true) p) where
-      pub makes_late : (cause : E) (notice_answer : NoticeAnswer) (l' : S) → e.late ≡ Some cause
-          → rules.noticed p (e.notice cause) notice_answer l' → (error : E)
-          → error ≡ error_of_failure e.refusal cause notice_answer → Makes rules e made l (Err error) l'
-      makes_late cause notice_answer l' late notices error answers = (
-        Failed cause notice_answer,
-        attempt_late rules e (alone l) early p asks cause notice_answer l' late notices,
-        ap Err answers,
-      )
+  -- where a late cause stands after the permission, the limiter gets a notice, and the error is by its answer
+  pub makes_late : (permitted : S) → IsPermitted rules e l permitted → (cause : E) → e.late ≡ Some cause
+      → (error : E) (l' : S) → TellsOf rules e cause permitted error l' → Makes rules e made l (Err error) l'
+  makes_late permitted permits cause late error l' tells = (
+    Failed cause tells.answer,
+    attempt_late rules e (alone l) permits.early permitted permits.asks cause tells.answer l' late tells.notices,
+    ap Err tells.answers,
+  )
 
-      module _ (late : e.late ≡ None) where
-        pub makes_refused : (cause : E) (notice_answer : NoticeAnswer) (l' : S) → e.refuses cause
-            → rules.noticed p (e.notice cause) notice_answer l' → (error : E)
-            → error ≡ error_of_failure e.refusal cause notice_answer → Makes rules e made l (Err error) l'
-        makes_refused cause notice_answer l' refuses notices error answers = (
-          Failed cause notice_answer,
-          attempt_refused rules e (alone l) early p asks late refl cause notice_answer l' refuses notices,
-          ap Err answers,
-        )
+  -- where what it is made in refuses it, the limiter gets a notice, and the error is by its answer
+  pub makes_refused : (permitted : S) → ReachesCharge rules e l permitted → (cause : E) → e.refuses cause
+      → (error : E) (l' : S) → TellsOf rules e cause permitted error l' → Makes rules e made l (Err error) l'
+  makes_refused permitted reaches cause refuses error l' tells = (
+    Failed cause tells.answer,
+    attempt_refused rules e (alone l) reaches.permits.early permitted reaches.permits.asks reaches.late refl cause
+        tells.answer l' refuses tells.notices,
+    ap Err tells.answers,
+  )
 
-        pub makes_met : (x : T) → x ≡ made → Makes rules e made l (Ok x) p
-        makes_met x is = (Met, attempt_met rules e (alone l) early p asks late refl, ap Ok is)
+-- a growth by 1 or more, with what stands before it
+pub record GrowthAttempt (V E S : Type 0) : Type 1 where
+  pub rules : Rules S
+  pub growth : Growth V E
+  pub some : growth.amount ≡ 0 → ⊥
+  pub value : V
+  pub meter : Meter
+  pub limiter : S
 
-module _ {V E S : Type 0} (rules : Rules S) (g : Growth V E) (x : V) (m : Meter) (l : S) (some : g.amount ≡ 0 → ⊥) where
+module _ {V E S : Type 0} (t : GrowthAttempt V E S) where
   abbrev before : MeteredValue V S
-  before = record { value = x; meter = Some m; limiter = l }
+  before = record { value = t.value; meter = Some t.meter; limiter = t.limiter }
+
+  abbrev request : Request V E
+  request = t.growth.request
+
+  -- what is due
+  abbrev price : ℕ
+  price = optional_due (Some t.meter) t.growth.request.price
+
+  -- it ends so, with some charge
+  abbrev pub EndsIn : Result ℕ E → V → Meter → S → Type 0
+  EndsIn result x' m' l' =
+      (charge : ℕ)
+      × Grows t.rules t.growth before result charge (record { value = x'; meter = Some m'; limiter = l' })
 
   -- an attempt with its answer is a growth
   grows : (outcome : AttemptOutcome E) (charge : ℕ) (s' : MeteredValue V S)
-      → Attempt rules g.request before outcome charge s' → (result : Result ℕ E)
-      → result ≡ answer_of g.request g.size outcome → (charge : ℕ) × Grows rules g before result charge s'
+      → Attempt t.rules request before outcome charge s' → (result : Result ℕ E)
+      → result ≡ answer_of request t.growth.size outcome → (charge : ℕ) × Grows t.rules t.growth before result charge s'
   grows outcome charge s' attempt result answered =
-      (charge, inr (record { some = omega (arith, some); outcome = outcome; attempt = attempt; answered = answered }))
+      (charge, inr (record { some = omega (arith, t.some); outcome = outcome; attempt = attempt; answered = answered }))
 
-  pub grows_unasked : (cause : E) → g.request.early ≡ Some cause
-      → (charge : ℕ) × Grows rules g before (Err cause) charge before
-  grows_unasked cause early = grows (Unasked cause) 0 before (attempt_unasked rules g.request before cause early) _ refl
+  -- where an early cause stands, the limiter isn't asked, nothing changes, and the cause is answered
+  pub grows_unasked : (cause : E) → request.early ≡ Some cause → EndsIn (Err cause) t.value t.meter t.limiter
+  grows_unasked cause early = grows (Unasked cause) 0 before (attempt_unasked t.rules request before cause early) _ refl
 
-  module _ (early : g.request.early ≡ None) where
-    pub grows_denied : (answer : Answer) (l' : S) → rules.asked l g.request.question answer l' → (error : E)
-        → Permits g.request.denial g.request.refusal answer (Err error)
-        → (charge : ℕ) × Grows rules g before (Err error) charge (record { value = x; meter = Some m; limiter = l' })
-    grows_denied answer l' asks error denies =
-        grows (Denied answer) 0 _ (attempt_denied rules g.request before early answer l' denies.0 asks) _
-        (ap Err denies.1)
+  -- where the limiter doesn't permit it, the error of its answer is answered, and nothing else changes
+  pub grows_denied : (question : Question) → IsAsked request question → (answer : Answer) (l' : S)
+      → t.rules.asked t.limiter question answer l' → (error : E)
+      → Permits request.denial request.refusal answer (Err error) → EndsIn (Err error) t.value t.meter l'
+  grows_denied question is answer l' asks error denies =
+      grows (Denied answer) 0 _
+      (attempt_denied t.rules request before is.early answer l' denies.0 (rw is.question_is at asks)) _
+      (ap Err denies.1)
 
-    module _ (p : S) (asks : rules.asked l g.request.question (Ok true) p) where
-      pub grows_late : (cause : E) (notice_answer : NoticeAnswer) (l' : S) → g.request.late ≡ Some cause
-          → rules.noticed p (g.request.notice cause) notice_answer l' → (error : E)
-          → error ≡ error_of_failure g.request.refusal cause notice_answer
-          → (charge : ℕ) × Grows rules g before (Err error) charge (record { value = x; meter = Some m; limiter = l' })
-      grows_late cause notice_answer l' late notices error answers =
-          grows (Failed cause notice_answer) 0 _
-          (attempt_late rules g.request before early p asks cause notice_answer l' late notices) _ (ap Err answers)
+  module _ (permitted : S) where
+    -- where a late cause stands after the permission, the limiter gets a notice, and nothing is charged
+    pub grows_late : IsPermitted t.rules request t.limiter permitted → (cause : E) → request.late ≡ Some cause
+        → (error : E) (l' : S) → TellsOf t.rules request cause permitted error l'
+        → EndsIn (Err error) t.value t.meter l'
+    grows_late permits cause late error l' tells =
+        grows (Failed cause tells.answer) 0 _
+        (attempt_late t.rules request before permits.early permitted permits.asks cause tells.answer l' late
+        tells.notices) _
+        (ap Err tells.answers)
 
-      module _ (late : g.request.late ≡ None) (m' : Meter) where
-        abbrev price : ℕ
-        price = optional_due (Some m) g.request.price
+    module _ (reaches : ReachesCharge t.rules request t.limiter permitted) (m' : Meter) where
+      -- where the price can't be paid, the limiter gets a notice, and nothing is charged
+      pub grows_unpaid : (required : ℕ) → Charges t.meter price (Err required) m' → (error : E) (l' : S)
+          → TellsOf t.rules request (request.unpaid required) permitted error l' → EndsIn (Err error) t.value m' l'
+      grows_unpaid required short error l' tells =
+          rw short.2 (
+          grows (Failed (request.unpaid price) tells.answer) 0 _
+          (attempt_unpaid t.rules request before reaches.permits.early permitted reaches.permits.asks reaches.late
+          tells.answer l' (unpayable t.meter price short.0) (rw short.1 at tells.notices)) _
+          (ap Err (tells.answers ∙ ap (λ n. error_of_failure request.refusal (request.unpaid n) tells.answer) short.1))
+          )
 
-        pub grows_unpaid : (required : ℕ) (notice_answer : NoticeAnswer) (l' : S) → Charges m price (Err required) m'
-            → rules.noticed p (g.request.notice (g.request.unpaid required)) notice_answer l' → (error : E)
-            → error ≡ error_of_failure g.request.refusal (g.request.unpaid required) notice_answer
-            → (charge : ℕ)
-            × Grows rules g before (Err error) charge (record { value = x; meter = Some m'; limiter = l' })
-        grows_unpaid required notice_answer l' short notices error answers =
-            rw short.2 (
-            grows (Failed (g.request.unpaid price) notice_answer) 0 _
-            (attempt_unpaid rules g.request before early p asks late notice_answer l' (unpayable m price short.0)
-            (rw short.1 at notices)) _
-            (ap Err (answers ∙ ap (λ n. error_of_failure g.request.refusal (g.request.unpaid n) notice_answer) short.1))
+      module _ (enough : Charges t.meter price (Ok tt) m') where
+        -- where the price is paid and what it grows into refuses it, the limiter gets a notice, and the value stays
+        pub grows_refused : (cause : E) → request.refuses cause → (x' : V) → x' ≡ t.value → (error : E) (l' : S)
+            → TellsOf t.rules request cause permitted error l' → EndsIn (Err error) x' m' l'
+        grows_refused cause refuses x' same error l' tells =
+            rw (enough.1, same) (
+            grows (Failed cause tells.answer) price _
+            (attempt_refused t.rules request before reaches.permits.early permitted reaches.permits.asks reaches.late
+            (payable t.meter price enough.0) cause tells.answer l' refuses tells.notices) _
+            (ap Err tells.answers)
             )
 
-        module _ (enough : Charges m price (Ok tt) m') where
-          pub grows_refused : (cause : E) (notice_answer : NoticeAnswer) (l' : S) (x' : V) → x' ≡ x
-              → g.request.refuses cause → rules.noticed p (g.request.notice cause) notice_answer l' → (error : E)
-              → error ≡ error_of_failure g.request.refusal cause notice_answer
-              → (charge : ℕ)
-              × Grows rules g before (Err error) charge (record { value = x'; meter = Some m'; limiter = l' })
-          grows_refused cause notice_answer l' x' same refuses notices error answers =
-              rw (enough.1, same) (
-              grows (Failed cause notice_answer) price _
-              (attempt_refused rules g.request before early p asks late
-              (payable m price enough.0) cause notice_answer l' refuses notices) _
-              (ap Err answers)
-              )
-
-          pub grows_met : (x' : V) → x' ≡ g.request.grown → (old : ℕ) → old ≡ g.size
-              → (charge : ℕ)
-              × Grows rules g before (Ok old) charge (record { value = x'; meter = Some m'; limiter = p })
-          grows_met x' grown old answers =
-              rw (enough.1, grown) (
-              grows Met price _ (attempt_met rules g.request before early p asks late (payable m price enough.0)) _
-              (ap Ok answers)
-              )
+        -- where the price is paid and no cause stands, the value has grown, and the old size is answered
+        pub grows_met : (x' : V) → x' ≡ request.grown → (old : ℕ) → old ≡ t.growth.size
+            → EndsIn (Ok old) x' m' permitted
+        grows_met x' grown old answers =
+            rw (enough.1, grown) (
+            grows Met price _
+            (attempt_met t.rules request before reaches.permits.early permitted reaches.permits.asks reaches.late
+            (payable t.meter price enough.0)) _
+            (ap Ok answers)
+            )

@@ -61,6 +61,7 @@ pages_multiplied : (page : PageSize) (n : ℕ)
 pages_multiplied Byte n = (omega arith, omega arith)
 pages_multiplied Wasm n = (omega arith, omega arith)
 
+-- whole pages and n pages more are whole pages, and n more of them
 pages_added : (page : PageSize) (size n : ℕ) → size % page_bytes page ≡ 0
     → ((size + n * page_bytes page) % page_bytes page ≡ 0)
     × ((size + n * page_bytes page) / page_bytes page ≡ size / page_bytes page + n)
@@ -73,6 +74,7 @@ maximum_holds : (n : ℕ) (maximum : Option ℕ) → ForSome maximum (λ m. n �
 maximum_holds n None within = refl
 maximum_holds n (Some m) within = let h = within m refl in grind (arith, nat_tests)
 
+-- three tests that hold, together
 all_three : (a b c : Bool) → a ≡ true → b ≡ true → c ≡ true → a && b && c ≡ true
 all_three a b c p q r = rw (p, q, r) refl
 

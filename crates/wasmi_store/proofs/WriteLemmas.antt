@@ -13,16 +13,19 @@ use Rattle.wasmi_store.specs.Table.{TableValue, TableWrite, copied, write_due, W
 use Rattle.wasmi_store.proofs.GrowthLemmas.{payable, unpayable}
 
 module _ (w : TableWrite) (x : TableValue) (m : Meter) where
+  -- a write of another type is refused, without a charge
   pub writes_mismatched : w.typed ≡ false
       → (charge : ℕ) × WritesTable w x (Some m) (Err ElementTypeMismatch) charge x (Some m)
   writes_mismatched other = (0, record { ends = rw other (refl, refl, refl); meter = meter_after_nothing (Some m) })
 
   module _ (same : w.typed ≡ true) where
+    -- a write of a part that isn't there is refused, without a charge
     pub writes_outside : w.written ≡ None → (charge : ℕ) × WritesTable w x (Some m) (Err w.outside) charge x (Some m)
     writes_outside none =
         (0, record { ends = rw (same, none) (refl, refl, refl); meter = meter_after_nothing (Some m) })
 
     module _ (elements : List ℕ) (within : w.written ≡ Some elements) (m' : Meter) where
+      -- a write that can't be paid is refused, without a charge
       pub writes_unpaid : (required : ℕ) → Charges m (write_due w x (Some m)) (Err required) m'
           → (charge : ℕ) × WritesTable w x (Some m) (Err (OutOfFuel required)) charge x (Some m')
       writes_unpaid required short =
@@ -34,6 +37,7 @@ module _ (w : TableWrite) (x : TableValue) (m : Meter) where
             },
           )
 
+      -- a write of no price is done, without a charge
       pub writes_free : w.paid ≡ None → m' ≡ m → (x' : TableValue) → x' ≡ record x { elements = elements }
           → (charge : ℕ) × WritesTable w x (Some m) (Ok tt) charge x' (Some m')
       writes_free free kept x' written =
@@ -45,6 +49,7 @@ module _ (w : TableWrite) (x : TableValue) (m : Meter) where
             },
           )
 
+      -- a write that can be paid is done, and what is due is charged
       pub writes_met : Charges m (write_due w x (Some m)) (Ok tt) m' → (x' : TableValue)
           → x' ≡ record x { elements = elements } → (charge : ℕ) × WritesTable w x (Some m) (Ok tt) charge x' (Some m')
       writes_met enough x' written =
@@ -76,16 +81,18 @@ part_length source src len within =
     let fits : src + len ≤ length source = grind (arith, nat_tests) in
     length-take-le len (drop src source) (omega (arith, length-drop src source))
 
--- a copy whose source ends too early, one that ends past the table, and one within both
+-- a copy whose source ends too early copies nothing
 pub copied_past_source : (xs : List ℕ) (dst : ℕ) (source : List ℕ) (src len : ℕ)
     → nat_le (src + len) (length source) ≡ false → copied xs dst source src len ≡ None
 copied_past_source xs dst source src len short = rw short refl
 
+-- a copy that ends past the table copies nothing
 pub copied_past_end : (xs : List ℕ) (dst : ℕ) (source : List ℕ) (src len : ℕ)
     → nat_le (src + len) (length source) ≡ true → nat_le (dst + len) (length xs) ≡ false
     → copied xs dst source src len ≡ None
 copied_past_end xs dst source src len within short = rw (within, part_length source src len within, short) refl
 
+-- a copy within both writes over its part
 pub copied_part : (xs : List ℕ) (dst : ℕ) (source : List ℕ) (src len : ℕ) → nat_le (src + len) (length source) ≡ true
     → nat_le (dst + len) (length xs) ≡ true
     → copied xs dst source src len ≡ Some (take dst xs ++ take len (drop src source) ++ drop (dst + len) xs)

@@ -29,6 +29,7 @@ pub trait Region: sealed::Sealed {
         ensures* writes_back { sem 𝓛 (Lends Self.row (Array u8 0) self.entry result (refilled self.old end)) }
         ensures value { result.now ≡ take end (bytes self.old) };
 
+    /// The bytes of a region whose front was written over.
     ghost refills: { (r : Self) (end : ℕ) (ws : List ℕ)
         → bytes (refilled r end ws) ≡ refilled_front (bytes r) end ws };
 }

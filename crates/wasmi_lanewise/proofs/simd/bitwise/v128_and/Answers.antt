@@ -1,5 +1,6 @@
 use Rattle.std.specs.Prelude.{bit_and}
 use Rattle.std.proofs.lemmas.Nat.{and_shr, and_mod}
+use Rattle.wasmi_lanes.proofs.WordVectorLemmas.{u64x2_of}
 use Rattle.wasmi_lanewise.proofs.LaneWordLemmas.{on_words}
 use Rattle.wasmi_lanewise.proofs.simd.bitwise.v128_and.Goals as goal
 
@@ -7,5 +8,5 @@ pub returns : goal.returns
 returns c =
     let a = c.words-a_low.ensures in
     let b = c.words-b_low.ensures in
-    on_words bit_and and_shr and_mod c.args.lhs c.args.rhs _ _ _ _ c.from_words.result a.low a.high b.low b.high
-    c.from_words.ensures
+    on_words bit_and (record { on_high = and_shr; on_low = and_mod }) c.args.lhs c.args.rhs _ _ _ _
+    c.from_words.result (u64x2_of a.low a.high) (u64x2_of b.low b.high) c.from_words.ensures

@@ -11,10 +11,19 @@ returns g c =
     let w = g.T.LaneInteger.width in
     let is = c.vector_of.ensures in
     let at = g.T.SimdLane.at in
-    ordered_make_vector w g.T.SimdLane.COUNT g.met.T.SimdLane.filled c.args.lhs c.args.rhs _ is.in_range (λ x. x)
-    (λ x y. if nat_lt (biased w y) (biased w x) then x else y)
-    (λ x y. wrap w (int_max (signed w x) (signed w y))) _ _
-    (λ i inside. is.lanes i inside ∙ c.choose_if_less.ensures.lanes i inside
-    ∙ ap₂ (λ x y. if nat_lt x y then at c.lanes_of-a.result i else at c.lanes_of-b.result i)
-    (c.biased.ensures.lanes i inside) (c.biased-2.ensures.lanes i inside))
-    c.lanes_of-a.ensures.lanes c.lanes_of-b.ensures.lanes (signed_larger_is w)
+    ordered_make_vector w g.T.SimdLane.COUNT c.args.lhs c.args.rhs _
+    (λ x y. wrap w (int_max (signed w x) (signed w y)))
+    (record {
+      filled = g.met.T.SimdLane.filled;
+      below = is.in_range;
+      move = λ x. x;
+      f = λ x y. if nat_lt (biased w y) (biased w x) then x else y;
+      lhs = _;
+      rhs = _;
+      lanes = λ i inside. is.lanes i inside ∙ c.choose_if_less.ensures.lanes i inside
+          ∙ ap₂ (λ x y. if nat_lt x y then at c.lanes_of-a.result i else at c.lanes_of-b.result i)
+          (c.biased.ensures.lanes i inside) (c.biased-2.ensures.lanes i inside);
+      lhs_is = c.lanes_of-a.ensures.lanes;
+      rhs_is = c.lanes_of-b.ensures.lanes;
+      same = signed_larger_is w;
+    })

@@ -10,9 +10,17 @@ unfolding comparison_of_lanes
 returns g c =
     let w = g.T.LaneInteger.width in
     let is = c.ones_if_less.ensures in
-    ordered_make_vector w g.T.SimdLane.COUNT g.met.T.SimdLane.filled c.args.lhs c.args.rhs _ is.in_range (biased w)
-    (λ x y. if nat_lt x y then 2 ^ bits w - 1 else 0)
-    (λ p q. if int_lt (signed w p) (signed w q) then 2 ^ bits w - 1 else 0) _ _
-    is.lanes (raised_lanes w _ c.args.lhs _ _ c.biased.ensures.lanes c.lanes_of.ensures.lanes)
-    (raised_lanes w _ c.args.rhs _ _ c.biased-2.ensures.lanes c.lanes_of-2.ensures.lanes)
-    (ones_where_less w (2 ^ bits w - 1))
+    ordered_make_vector w g.T.SimdLane.COUNT c.args.lhs c.args.rhs _
+    (λ p q. if int_lt (signed w p) (signed w q) then 2 ^ bits w - 1 else 0)
+    (record {
+      filled = g.met.T.SimdLane.filled;
+      below = is.in_range;
+      move = biased w;
+      f = λ x y. if nat_lt x y then 2 ^ bits w - 1 else 0;
+      lhs = _;
+      rhs = _;
+      lanes = is.lanes;
+      lhs_is = raised_lanes w _ c.args.lhs _ _ c.biased.ensures.lanes c.lanes_of.ensures.lanes;
+      rhs_is = raised_lanes w _ c.args.rhs _ _ c.biased-2.ensures.lanes c.lanes_of-2.ensures.lanes;
+      same = ones_where_less w (2 ^ bits w - 1);
+    })

@@ -10,5 +10,17 @@ returns g c =
     let w = g.T.LaneInteger.width in
     let is = c.ones_if_less.ensures in
     let row : ℕ → ℕ → ℕ = λ x y. if nat_lt x y then 2 ^ bits w - 1 else 0 in
-    ordered_make_vector w g.T.SimdLane.COUNT g.met.T.SimdLane.filled _ _ _ is.in_range
-    (λ x. x) row row _ _ is.lanes c.lanes_of.ensures.lanes c.lanes_of-2.ensures.lanes (λ p q _ _. refl)
+    ordered_make_vector w g.T.SimdLane.COUNT _ _ _
+    row
+    (record {
+      filled = g.met.T.SimdLane.filled;
+      below = is.in_range;
+      move = λ x. x;
+      f = row;
+      lhs = _;
+      rhs = _;
+      lanes = is.lanes;
+      lhs_is = c.lanes_of.ensures.lanes;
+      rhs_is = c.lanes_of-2.ensures.lanes;
+      same = λ p q _ _. refl;
+    })

@@ -18,8 +18,14 @@ returns c =
     let second : slice_index c.indices_of_16-indices.result 1 ≡ 2 * at + 1 =
     omega (arith, index.0, inside, c.indices_of_16-indices.ensures.second) in
     first_two_bytes c.picked_inside.result (lane w8 v (2 * at)) (lane w8 v (2 * at + 1)) long
-    (c.picked_inside.ensures.lanes 0 (omega arith) ∙ ap bytes first ∙ c.bytes_of.ensures.lanes (2 * at) (omega arith))
-    (c.picked_inside.ensures.lanes 1 (omega arith) ∙ ap bytes second
-    ∙ c.bytes_of.ensures.lanes (2 * at + 1) (omega arith))
-    (lane_below w8 v (2 * at)) (lane_below w8 v (2 * at + 1))
+    (record {
+      is = c.picked_inside.ensures.lanes 0 (omega arith) ∙ ap bytes first
+          ∙ c.bytes_of.ensures.lanes (2 * at) (omega arith);
+      fits = lane_below w8 v (2 * at);
+    })
+    (record {
+      is = c.picked_inside.ensures.lanes 1 (omega arith) ∙ ap bytes second
+          ∙ c.bytes_of.ensures.lanes (2 * at + 1) (omega arith);
+      fits = lane_below w8 v (2 * at + 1);
+    })
     ∙ joined_halves 8 v at

@@ -2,7 +2,7 @@ use Rattle.std.proofs.Common.{ℕ, ◌≡◌, ◌+◌, ◌*◌, ◌<◌, ◌∙�
 use Rattle.wasmi_types.specs.Wrapping.{w8}
 use Rattle.wasmi_lanes.specs.Lane.{lane}
 use Rattle.wasmi_lanes.proofs.LaneVectorLemmas.{lane_below}
-use Rattle.wasmi_lanewise.proofs.OneLaneLemmas.{first_four_bytes, joined_halves}
+use Rattle.wasmi_lanewise.proofs.OneLaneLemmas.{IsByteAt, first_four_bytes, joined_halves}
 use Rattle.wasmi_lanewise.proofs.simd.variable_lane.lane_of_32.Goals as goal
 
 pub returns : goal.returns
@@ -12,16 +12,17 @@ returns c =
     let index = c.from.ensures in
     let inside : at < 4 = omega (arith, index.0, index.1) in
     let long : length c.picked_inside.result ≡ 16 = search rules in
-    let byte : (i k : ℕ) → i < 4 → k ≡ 4 * at + i → slice_index c.picked_inside.result i ≡ lane w8 v k =
+    let byte : (i k : ℕ) → i < 4 → k ≡ 4 * at + i → IsByteAt c.picked_inside.result i (lane w8 v k) =
     λ i k below is.
     let place : slice_index c.indices_of_32-indices.result i ≡ k =
     omega (arith, index.0, inside, is, c.indices_of_32-indices.ensures.lanes i below) in
-    c.picked_inside.ensures.lanes i (omega arith) ∙ ap (slice_index c.bytes_of.result) place
-    ∙ c.bytes_of.ensures.lanes k (omega arith) in
+    record {
+      is = c.picked_inside.ensures.lanes i (omega arith) ∙ ap (slice_index c.bytes_of.result) place
+          ∙ c.bytes_of.ensures.lanes k (omega arith);
+      fits = lane_below w8 v k;
+    } in
     first_four_bytes c.picked_inside.result _ _ _ _ long
     (byte 0 (2 * (2 * at)) (omega arith) (omega arith)) (byte 1 (2 * (2 * at) + 1) (omega arith) (omega arith))
     (byte 2 (2 * (2 * at + 1)) (omega arith) (omega arith)) (byte 3 (2 * (2 * at + 1) + 1) (omega arith) (omega arith))
-    (lane_below w8 v (2 * (2 * at))) (lane_below w8 v (2 * (2 * at) + 1)) (lane_below w8 v (2 * (2 * at + 1)))
-    (lane_below w8 v (2 * (2 * at + 1) + 1))
     ∙ ap₂ (λ x y. x + 65536 * y) (joined_halves 8 v (2 * at)) (joined_halves 8 v (2 * at + 1))
     ∙ joined_halves 16 v at

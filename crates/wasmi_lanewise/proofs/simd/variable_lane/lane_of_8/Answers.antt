@@ -14,6 +14,8 @@ returns c =
     let long : length c.picked_inside.result ≡ 16 = search rules in
     let first : slice_index c.indices_of_8-indices.result 0 ≡ at = c.indices_of_8-indices.ensures.first ∙ index.0 in
     first_byte c.picked_inside.result (lane w8 v at) long
-    (c.picked_inside.ensures.lanes 0 (omega arith) ∙ ap (slice_index c.bytes_of.result) first
-    ∙ c.bytes_of.ensures.lanes at inside)
-    (lane_below w8 v at)
+    (record {
+      is = c.picked_inside.ensures.lanes 0 (omega arith) ∙ ap (slice_index c.bytes_of.result) first
+          ∙ c.bytes_of.ensures.lanes at inside;
+      fits = lane_below w8 v at;
+    })

@@ -2,7 +2,9 @@ use Rattle.std.proofs.Common.{refl}
 use Rattle.std.proofs.lemmas.Result.{err_from_is_err_and}
 use Rattle.wasmi_meter.specs.Limiter.{optional_rules}
 use Rattle.wasmi_store.specs.Buffer.{Owned}
-use Rattle.wasmi_store.proofs.MemoryLemmas.{makes_refused}
+use Rattle.wasmi_store.specs.Memory.{creation_of, new_memory}
+use Rattle.wasmi_store.proofs.GrowthLemmas.{makes_refused}
+use Rattle.wasmi_store.proofs.MemoryLemmas.{making_reaches}
 use Rattle.wasmi_store.proofs.memory.LinearMemory+mut+slice+u8.new.Goals as goal
 
 pub returns-in_err-size-clause-made : goal.returns-in_err-size-clause-made
@@ -12,7 +14,8 @@ returns-in_err-size-clause-made g c =
 
 pub returns-in-Err-clause-made : goal.returns-in-Err-clause-made
 returns-in-Err-clause-made g c =
-    makes_refused
-    (optional_rules g.L.ResourceLimiter.rules) Owned c.args.ty _ _ c.in_ok-size.size c.in_ok-size.ensures.permitted
-    refl
-    _ c.in-Err.ensures.err _ _ c.tell.ensures.told.1 _ c.tell.ensures.told.2
+    let rules = optional_rules g.L.ResourceLimiter.rules in
+    makes_refused rules (creation_of Owned c.args.ty) (new_memory Owned c.args.ty) _ _
+    (making_reaches rules Owned c.args.ty _ _ c.in_ok-size.size c.in_ok-size.ensures.permitted refl)
+    _ c.in-Err.ensures.err
+    _ _ (record { answer = _; notices = c.tell.ensures.told.1; answers = c.tell.ensures.told.2 })

@@ -14,4 +14,5 @@ returns-in-Err-clause-made g c =
     let e = c.in-Err.ensures.err in
     makes_short (optional_rules g.L.ResourceLimiter.rules)
     (Lent c.args.region.now) c.args.ty _ _ c.in_ok-size.size c.in_ok-size.ensures.permitted e.0
-    _ _ (rw e.1 at c.tell.ensures.told.1) _ (rw e.1 at c.tell.ensures.told.2)
+    _ _
+    (record { answer = _; notices = rw e.1 at c.tell.ensures.told.1; answers = rw e.1 at c.tell.ensures.told.2 })

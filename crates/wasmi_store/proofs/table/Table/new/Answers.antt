@@ -1,6 +1,9 @@
+use Rattle.std.proofs.Common.{refl}
 use Rattle.std.proofs.lemmas.Result.{err_from_is_err_and}
 use Rattle.wasmi_meter.specs.Limiter.{optional_rules}
-use Rattle.wasmi_store.proofs.TableLemmas.{makes_mismatched, makes_denied, makes_refused}
+use Rattle.wasmi_store.specs.Table.{creation_of, new_table}
+use Rattle.wasmi_store.proofs.GrowthLemmas.{permitted_by, makes_denied, makes_refused}
+use Rattle.wasmi_store.proofs.TableLemmas.{makes_mismatched, making_asked}
 use Rattle.wasmi_store.proofs.table.Table.new.Goals as goal
 
 pub returns-in_err-ensure_element_type_matches-clause-made : goal.returns-in_err-ensure_element_type_matches-clause-made
@@ -13,16 +16,24 @@ pub returns-in_err-permission-clause-made : goal.returns-in_err-permission-claus
 returns-in_err-permission-clause-made g c =
     let p = err_from_is_err_and c.from_residual-in_err-permission.result c.from_residual-in_err-permission.ensures.1 in
     rw (p.1, p.2) (
-    makes_denied (optional_rules g.L.ResourceLimiter.rules) c.args.ty c.args.init _
-    c.in_ok-ensure_element_type_matches.ensures c.minimum-size.result c.minimum-size.ensures.value
-    c.maximum_size.result c.maximum_size.ensures
+    makes_denied (optional_rules g.L.ResourceLimiter.rules) (creation_of c.args.ty c.args.init.ty)
+    (new_table c.args.ty c.args.init.raw) _ _
+    (making_asked c.args.ty c.args.init c.in_ok-ensure_element_type_matches.ensures
+    c.minimum-size.result c.minimum-size.ensures.value c.maximum_size.result c.maximum_size.ensures)
     _ _ c.table_growing-answer.ensures.asked _ c.in_err-permission.ensures
     )
 
 pub returns-in-Err-clause-made : goal.returns-in-Err-clause-made
 returns-in-Err-clause-made g c =
-    makes_refused
-    (optional_rules g.L.ResourceLimiter.rules) c.args.ty c.args.init _ c.in_ok-ensure_element_type_matches.ensures
-    c.minimum-size.result c.minimum-size.ensures.value c.maximum_size.result c.maximum_size.ensures
-    _ (rw c.in_ok-permission.ensures at c.table_growing-answer.ensures.asked)
-    _ _ c.tell.ensures.told.1 _ c.tell.ensures.told.2
+    let rules = optional_rules g.L.ResourceLimiter.rules in
+    let creation = creation_of c.args.ty c.args.init.ty in
+    let asked = making_asked c.args.ty c.args.init c.in_ok-ensure_element_type_matches.ensures
+    c.minimum-size.result c.minimum-size.ensures.value c.maximum_size.result c.maximum_size.ensures in
+    makes_refused rules creation (new_table c.args.ty c.args.init.raw) _ _
+    (record {
+      permits = permitted_by rules creation _ asked _ _
+          (rw c.in_ok-permission.ensures at c.table_growing-answer.ensures.asked);
+      late = refl;
+    })
+    _ refl
+    _ _ (record { answer = _; notices = c.tell.ensures.told.1; answers = c.tell.ensures.told.2 })
