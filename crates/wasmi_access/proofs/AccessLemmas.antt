@@ -13,6 +13,7 @@ use Rattle.wasmi_types.specs.Access.{at, overwrite}
 use Rattle.wasmi_access.specs.LoadStore.{loaded, value_of_bytes, IsStore, IsSameOutside}
 use Rattle.wasmi_access.proofs.ByteLemmas.{number_of-low_first}
 
+-- where a list is there only if a test holds, and one is there, the test holds and it is that list
 chosen : (b : Bool) (zs new : List ℕ) → (if b then Some zs else None) ≡ Some new → (b ≡ true) × (zs ≡ new)
 chosen true zs new e = grind (arith, common_steps, e)
 chosen false zs new e = cc
@@ -26,10 +27,11 @@ accepted xs a ys new e =
     chosen (nat_le (a + length ys) (length xs)) (take a xs ++ ys ++ drop (a + length ys) xs) new e in
     (leb-true (a + length ys) (length xs) both.0, both.1, both.0)
 
--- the list from a place on, and before it
+-- from the length of its first part on, a list is its second part
 from_place : (ps zs : List ℕ) (a : ℕ) → length ps ≡ a → drop a (ps ++ zs) ≡ zs
 from_place ps zs a e = ap (λ n. drop n (ps ++ zs)) (sym e) ∙ drop-append_seam ps zs
 
+-- up to the length of its first part, a list is its first part
 to_place : (ps zs : List ℕ) (a : ℕ) → length ps ≡ a → take a (ps ++ zs) ≡ ps
 to_place ps zs a e = ap (λ n. take n (ps ++ zs)) (sym e) ∙ take-append_seam ps zs
 
@@ -41,10 +43,12 @@ written xs a ys h =
     ∙ ap (take (length ys)) (from_place (take a xs) (ys ++ drop (a + length ys) xs) a (length-take-le a xs h))
     ∙ take-append_seam ys (drop (a + length ys) xs)
 
+-- a list is as long after ys was put at a as before
 kept : (xs : List ℕ) (a : ℕ) (ys : List ℕ) → a + length ys ≤ length xs
     → length (take a xs ++ ys ++ drop (a + length ys) xs) ≡ length xs
 kept xs a ys h = grind (arith, common_steps)
 
+-- what was put at a is found there
 at-overwrite : (xs : List ℕ) (a : ℕ) (ys new : List ℕ) → overwrite xs a ys ≡ Some new → at new a (length ys) ≡ Some ys
 at-overwrite xs a ys new e =
     let facts = accepted xs a ys new e in
@@ -55,6 +59,7 @@ at-overwrite xs a ys new e =
     ap (λ zs. take (length ys) (drop a zs)) (sym facts.1) ∙ written xs a ys (omega (arith, fits)) in
     ap (λ b. if b then Some (take (length ys) (drop a new)) else None) yes ∙ ap Some there
 
+-- before ys and after it, the list is the same as before ys was put at a
 outside_by_length : (old new : List ℕ) (a : ℕ) (ys : List ℕ) → overwrite old a ys ≡ Some new
     → IsSameOutside old new a (length ys)
 outside_by_length old new a ys e =
@@ -71,10 +76,12 @@ outside_by_length old new a ys e =
 
 -- ---- the bytes of a number
 
+-- the k bytes of a number from byte i on are k
 length-low_first : (i k n : ℕ) → length (bytes_low_first i k n) ≡ k
 length-low_first i zero n = refl
 length-low_first i (suc k) n = ap suc (length-low_first (suc i) k n)
 
+-- 256 to the power k is 2 to the power 8 * k
 bytes_power : (k : ℕ) → 256 ^ k ≡ 2 ^ (8 * k)
 bytes_power zero = refl
 bytes_power (suc k) =

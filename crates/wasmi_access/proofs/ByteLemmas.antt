@@ -14,15 +14,18 @@ use lib.Arith.{mod-mul}
 
 -- ---- the bytes of a number
 
+-- a power of 256 is above 0
 pow-pos : (k : ℕ) → 0 < 256 ^ k
 pow-pos zero = lit< tt
 pow-pos (suc k) = let before : 0 < 256 ^ k = pow-pos k in let e : 256 ^ suc k ≡ 256 ^ k * 256 =
     pow-suc 256 k in omega (arith, before, e)
 
+-- byte i of a number is its quotient by 256 to the power i, modulo 256
 byte_at-is : (i n : ℕ) → byte_at i n ≡ n / 256 ^ i % 256
 byte_at-is zero n = ap (λ m. m % 256) (sym (div-one n))
 byte_at-is (suc i) n = refl
 
+-- the number of the k bytes of n from byte i on is the quotient of n by 256 ^ i, modulo 256 ^ k
 pub number_of-low_first : (i k n : ℕ) → number_of (bytes_low_first i k n) ≡ n / 256 ^ i % 256 ^ k
 unfolding number_of
 number_of-low_first i zero n = sym (mod-one (n / 256 ^ i))
@@ -41,10 +44,12 @@ number_of-low_first i (suc k) n =
 
 -- ---- the number of some bytes
 
+-- byte i is worth its product by 256 to the power i
 byte_worth-is : (i b : ℕ) → byte_worth i b ≡ b * 256 ^ i
 byte_worth-is zero b = sym (mul-one b)
 byte_worth-is (suc i) b = refl
 
+-- one more byte at the end adds its product by 256 to the power of the length so far
 number_of-push : (bs : List ℕ) (b : ℕ) → number_of (bs ++ b ∷ []) ≡ number_of bs + b * 256 ^ length bs
 unfolding number_of
 number_of-push [] b = omega arith
@@ -55,6 +60,7 @@ number_of-push (c ∷ bs) b =
     ∙ mul_comm (b * 256 ^ length bs) 256 in
     omega (arith, rest, power)
 
+-- what the bytes 0 to k are worth together is the number of the first k + 1 bytes
 pub sum_through-number_of : (bs : List ℕ) (k : ℕ) → k < length bs
     → sum_through (λ i. byte_worth i (get_or bs i 0)) k ≡ number_of (take (suc k) bs)
 unfolding number_of
@@ -73,6 +79,7 @@ sum_through-number_of bs (suc k) h =
 
 -- ---- the bytes of the number of some bytes
 
+-- the bytes of n from byte i + 1 on are those of n / 256 from byte i on
 low_first-next : (i k n : ℕ) → bytes_low_first (suc i) k n ≡ bytes_low_first i k (n / 256)
 low_first-next i zero n = refl
 low_first-next i (suc k) n =
@@ -82,6 +89,7 @@ low_first-next i (suc k) n =
     ap (λ b. b ∷ bytes_low_first (suc (suc i)) k n) here
     ∙ ap (λ bs. byte_at i (n / 256) ∷ bs) (low_first-next (suc i) k n)
 
+-- the bytes of the number of a list are the list, where each byte is below 256
 low_first-number_of : (bs : List ℕ) → ((i : ℕ) → get_or bs i 0 < 256) → le_bytes (length bs) (number_of bs) ≡ bs
 unfolding number_of
 low_first-number_of [] h = refl
@@ -94,10 +102,12 @@ low_first-number_of (b ∷ bs) h =
     ∙ ap (λ cs. b ∷ cs)
     (low_first-next 0 (length bs) (b + 256 * number_of bs) ∙ ap (bytes_low_first 0 (length bs)) quotient ∙ rest)
 
+-- the same, where the length of the list is k
 le_bytes-number_of : (bs : List ℕ) (k : ℕ) → length bs ≡ k → ((i : ℕ) → get_or bs i 0 < 256)
     → le_bytes k (number_of bs) ≡ bs
 le_bytes-number_of bs k e h = ap (λ j. le_bytes j (number_of bs)) (sym e) ∙ low_first-number_of bs h
 
+-- the number of a list whose bytes are below 256 is below 256 to the power of its length
 number_of-below : (bs : List ℕ) → ((i : ℕ) → get_or bs i 0 < 256) → number_of bs < 256 ^ length bs
 unfolding number_of
 number_of-below [] h = lit< tt
@@ -109,24 +119,28 @@ number_of-below (b ∷ bs) h =
 
 -- ---- at the widths of the numbers
 
+-- the number of the k bytes of n is n, where n is below 256 to the power k
 pub number_of-bytes : (k n : ℕ) → n < 256 ^ k → number_of (le_bytes k n) ≡ n
 number_of-bytes k n h = number_of-low_first 0 k n ∙ ap (λ m. m % 256 ^ k) (div-one n) ∙ mod-eq_of_lt h
 
+-- what all bytes of a list are worth together is the number of the list
 pub number_of-whole : (bs : List ℕ) (k : ℕ) → length bs ≡ suc k
     → sum_through (λ i. byte_worth i (get_or bs i 0)) k ≡ number_of bs
 number_of-whole bs k e = sum_through-number_of bs k (omega arith) ∙ ap number_of (take_all (suc k) bs (omega arith))
 
+-- the bytes of what the bytes of a list are worth together are the list
 pub le_bytes-whole : (bs : List ℕ) (k n : ℕ) → length bs ≡ suc k → ((i : ℕ) → get_or bs i 0 < 256)
     → n ≡ sum_through (λ i. byte_worth i (get_or bs i 0)) k → le_bytes (suc k) n ≡ bs
 le_bytes-whole bs k n e h is = ap (le_bytes (suc k)) (is ∙ number_of-whole bs k e) ∙ le_bytes-number_of bs (suc k) e h
 
--- of a number of an unsigned type
+-- the same of a number of an unsigned type, cut to its width
 pub le_bytes-unsigned : (w : Width) (bs : List ℕ) (k n : ℕ) → n < 2 ^ bits w → length bs ≡ suc k
     → ((i : ℕ) → get_or bs i 0 < 256)
     → n ≡ sum_through (λ i. byte_worth i (get_or bs i 0)) k → le_bytes (suc k) (wrap w (pos n)) ≡ bs
 le_bytes-unsigned w bs k n below e h is = ap (le_bytes (suc k)) (wrap_unsigned w n below) ∙ le_bytes-whole bs k n e h is
 
--- of a number of a signed type, as the code's calls say it
+-- a number of a signed type that was read of a list of bytes is, cut to its width, the number of the list, as the
+-- code's calls say it
 pub number_of-signed : (w : Width) (bs : List ℕ) (k : ℕ) (z : ℤ) → 256 ^ suc k ≡ 2 ^ bits w → SFits w z
     → length bs ≡ suc k → ((i : ℕ) → get_or bs i 0 < 256)
     → z ≡ cast_signed w (sum_through (λ i. byte_worth i (get_or bs i 0)) k)
@@ -140,6 +154,7 @@ number_of-signed w bs k z wide f e h is =
     ap (wrap w) (to_z-of_z w z f) ∙ wrap_signed w z f ∙ ap (cast_unsigned w) is ∙ of_z-to_z w whole below
     ∙ number_of-whole bs k e
 
+-- and its bytes are the list
 pub le_bytes-signed : (w : Width) (bs : List ℕ) (k : ℕ) (z : ℤ) → 256 ^ suc k ≡ 2 ^ bits w → SFits w z
     → length bs ≡ suc k → ((i : ℕ) → get_or bs i 0 < 256)
     → z ≡ cast_signed w (sum_through (λ i. byte_worth i (get_or bs i 0)) k)
@@ -147,44 +162,54 @@ pub le_bytes-signed : (w : Width) (bs : List ℕ) (k : ℕ) (z : ℤ) → 256 ^ 
 le_bytes-signed w bs k z wide f e h is =
     ap (le_bytes (suc k)) (number_of-signed w bs k z wide f e h is) ∙ le_bytes-number_of bs (suc k) e h
 
--- the bytes of an unsigned number, and of a signed one as the code's calls say it, are those of the number modulo 2 to
--- the power w
+-- the bytes of an unsigned number are those of the number cut to its width
 pub bytes-unsigned : (w : Width) (n : ℕ) (bs : List ℕ) → n < 2 ^ bits w → bs ≡ to_le_bytes w n
     → bs ≡ to_le_bytes w (wrap w (pos n))
 bytes-unsigned w n bs h e = e ∙ ap (to_le_bytes w) (sym (wrap_unsigned w n h))
 
+-- the bytes of a signed number, as the code's calls say it, are those of the number cut to its width
 pub bytes-signed : (w : Width) (z : ℤ) (bs : List ℕ) → SFits w z
     → bs ≡ to_le_bytes w (cast_unsigned w (cast_signed w (cast_unsigned w z))) → bs ≡ to_le_bytes w (wrap w z)
 bytes-signed w z bs f e =
     e ∙ ap (λ y. to_le_bytes w (cast_unsigned w y)) (to_z-of_z w z f) ∙ ap (to_le_bytes w) (sym (wrap_signed w z f))
 
+-- the number that std reads of 1 byte is that of the list
 pub number_of_whole_1 : (bs : List ℕ) → length bs ≡ 1 → from_le_bytes w8 bs ≡ number_of bs
 number_of_whole_1 bs e = number_of-whole bs 0 e
 
+-- the number of the 2 bytes of a number of 16 bits is that number
 pub number_of_bytes_2 : (n : ℕ) → n < 2 ^ 16 → number_of (to_le_bytes w16 n) ≡ n
 number_of_bytes_2 n h = number_of-bytes 2 n h
 
+-- the number that std reads of 2 bytes is that of the list
 pub number_of_whole_2 : (bs : List ℕ) → length bs ≡ 2 → from_le_bytes w16 bs ≡ number_of bs
 number_of_whole_2 bs e = number_of-whole bs 1 e
 
+-- the number of the 4 bytes of a number of 32 bits is that number
 pub number_of_bytes_4 : (n : ℕ) → n < 2 ^ 32 → number_of (to_le_bytes w32 n) ≡ n
 number_of_bytes_4 n h = number_of-bytes 4 n h
 
+-- the number that std reads of 4 bytes is that of the list
 pub number_of_whole_4 : (bs : List ℕ) → length bs ≡ 4 → from_le_bytes w32 bs ≡ number_of bs
 number_of_whole_4 bs e = number_of-whole bs 3 e
 
+-- the number of the 8 bytes of a number of 64 bits is that number
 pub number_of_bytes_8 : (n : ℕ) → n < 2 ^ 64 → number_of (to_le_bytes w64 n) ≡ n
 number_of_bytes_8 n h = number_of-bytes 8 n h
 
+-- the number that std reads of 8 bytes is that of the list
 pub number_of_whole_8 : (bs : List ℕ) → length bs ≡ 8 → from_le_bytes w64 bs ≡ number_of bs
 number_of_whole_8 bs e = number_of-whole bs 7 e
 
+-- the number of the 16 bytes of a number of 128 bits is that number
 pub number_of_bytes_16 : (n : ℕ) → n < 2 ^ 128 → number_of (to_le_bytes w128 n) ≡ n
 number_of_bytes_16 n h = number_of-bytes 16 n h
 
+-- the number that std reads of 16 bytes is that of the list
 pub number_of_whole_16 : (bs : List ℕ) → length bs ≡ 16 → from_le_bytes w128 bs ≡ number_of bs
 number_of_whole_16 bs e = number_of-whole bs 15 e
 
+-- the number of one byte is the byte
 pub number_of_single : (b : ℕ) → number_of (b ∷ []) ≡ b
 unfolding number_of
 number_of_single b = omega arith

@@ -25,13 +25,16 @@ use Rattle.wasmi_core.proofs.PermissionLemmas.{permitted_run}
 use Rattle.wasmi_budget.specs.Isolation.{PermittingRun, own_turns}
 use Rattle.wasmi_budget.specs.Laws.{OthersDontShow, RunsAsAlone, RepliesPermit}
 
+-- an answer isn't both yes and no
 no_permission : {answer : Answer} {taken : Bool} → answer ≡ Ok true → answer ≡ Ok taken → taken ≡ false → ⊥
 no_permission permitted answered denied = cc
 
+-- nothing has the amount 0 of each kind
 amount_of-nothing : (kind : Kind) → amount_of nothing kind ≡ 0
 amount_of-nothing Bytes = refl
 amount_of-nothing Elements = refl
 
+-- a tenant that is permitted a difference beside others is permitted it alone
 permitted_alone : (tenant tenant' : Tenant) (q : Question) (answer : Answer) → answer ≡ Ok true
     → Asked tenant q answer tenant' → Asked (alone tenant) q answer (alone tenant')
 permitted_alone tenant tenant' q answer permitted (taken, answered, takes) =
@@ -47,6 +50,7 @@ permitted_alone tenant tenant' q answer permitted (taken, answered, takes) =
       )
     ]
 
+-- what a tenant does where each question is permitted, it does where the others hold nothing
 alone_carries : Carries (option_map alone) (permitting (optional_rules tenant_rules)) (optional_rules tenant_rules)
 alone_carries = record { asked = asks; noticed = notices }
   where
@@ -66,15 +70,17 @@ alone_carries = record { asked = asks; noticed = notices }
     notices None failure notice_answer (Some l') noticed = absurd noticed
     notices None failure notice_answer None noticed = noticed
 
+-- a run in which each question is permitted is one where the others hold nothing
 pub others_do_not_show : OthersDontShow
 others_do_not_show s s' tenant tenant' turns ran =
     runs_too (option_map alone) (permitting (optional_rules tenant_rules))
     (optional_rules tenant_rules) alone_carries _ turns _ ran
 
+-- false isn't true
 true_not_false : false ≡ true → ⊥
 true_not_false same = cc
 
--- a machine is at its index after another one was added, or has become another
+-- a machine is at its index after another one was added
 kept_added : (machines : List State) (index : ℕ) (s added : State) → slice_get machines index ≡ Some s
     → slice_get (machines ++ added ∷ []) index ≡ Some s
 kept_added machines index s added found =
@@ -83,6 +89,7 @@ kept_added machines index s added found =
     (omega (arith, inside))
     (sym (get_or_append_left machines (added ∷ []) s index inside ∙ get_or_from_slice_get machines index s s found))
 
+-- a machine is at its index after the one at another index has become another
 kept_set : (machines : List State) (index i : ℕ) (s t : State) → index ≢ i → slice_get machines index ≡ Some s
     → slice_get (slice_set machines i t) index ≡ Some s
 kept_set machines index i s t other found =
@@ -130,6 +137,7 @@ module _ (caps : Amounts) (index : ℕ) (pool' : PoolValue) where
   module _ (pool : PoolValue) (capped : pool.caps ≡ caps) (s : State) (found : slice_get pool.machines index ≡ Some s)
       (i : ℕ) (calls : List Call) (replies : List Reply) (next : PoolValue) (turns : List PoolTurn)
       (rest : (t : State) → next.caps ≡ caps → slice_get next.machines index ≡ Some t → EndsAlone t turns) where
+    -- one run and calls after it end for the machine as its own turns alone do, if the calls do
     ran_alone : (same : Bool) → Decides same (i ≡ index)
         → MatchBool same (RunsTenantBy (permitting (optional_rules tenant_rules)) pool i calls replies next)
         (RunsTenant pool i calls replies next) → EndsAlone s (if same then Ran 0 calls replies ∷ turns else turns)
@@ -156,6 +164,7 @@ module _ (caps : Amounts) (index : ℕ) (pool' : PoolValue) where
         ∙ kept_set pool.machines index i s runs.machine'
         (λ same. absurd (true_not_false (decides.1 (sym same)))) found)
 
+  -- calls by which the tenant of the index is never denied end for its machine as its own turns alone do
   ends_alone : (pool : PoolValue) → pool.caps ≡ caps → (s : State) → slice_get pool.machines index ≡ Some s
       → (turns : List PoolTurn) → PermittingRun index pool turns pool' → EndsAlone s (own_turns index turns)
   ends_alone pool capped s found [] ran = (s, ap (λ (p : PoolValue). slice_get p.machines index) ran ∙ found, refl)
@@ -170,6 +179,7 @@ module _ (caps : Amounts) (index : ℕ) (pool' : PoolValue) where
       ends_alone next (ap PoolValue.caps same ∙ capped) s
       (ap (λ (p : PoolValue). slice_get p.machines index) same ∙ found) turns ran
 
+-- a tenant that is never denied gets what it gets alone under the same caps
 pub permitted_runs_as_alone : RunsAsAlone
 permitted_runs_as_alone pool index s found turns pool' ran =
     ends_alone pool.caps index pool' pool refl s found turns ran

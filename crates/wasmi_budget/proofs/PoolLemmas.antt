@@ -82,9 +82,11 @@ mapped f (Some x) y is = (x, refl, sym (same_Some (f x) y is))
 module _ (pool : PoolValue) (index : ℕ) where
   module _ (held : Amounts)
       (is : option_map (λ s. amounts_of (total s)) (slice_get pool.machines index) ≡ Some held) where
+    -- there is a machine at the index that has these amounts
     found : (s : State) × (slice_get pool.machines index ≡ Some s) × (held ≡ amounts_of (total s))
     found = mapped (λ s. amounts_of (total s)) (slice_get pool.machines index) held is
 
+    -- they are, with what the others have, what all have
     others_left : (kind : Kind)
         → amount_of held kind + total_of (remove pool.machines index) kind ≡ total_of pool.machines kind
     others_left kind =
@@ -136,6 +138,7 @@ module _ (pool : PoolValue) (index : ℕ) where
 -- a machine becomes another under its limiter
 module _ (pool : PoolValue) (within : IsWithinCaps pool) (index : ℕ) (s : State)
     (found : slice_get pool.machines index ≡ Some s) (s' : State) (tenant' : Tenant) where
+  -- before its run the tenant is within the caps
   first_stays : StaysWithin (tenant_at pool index s) (tenant_at pool index s)
   first_stays =
       record {
@@ -144,6 +147,7 @@ module _ (pool : PoolValue) (within : IsWithinCaps pool) (index : ℕ) (s : Stat
         within = λ kind. rw (tenant_held_together pool index s found kind) (within kind);
       }
 
+  -- the pool is within its caps with the other machine, where the tenant that holds what it has stayed within them
   replaced_within : StaysWithin (tenant_at pool index s) tenant' → HoldsTotals (holdings tenant') s'
       → IsWithinCaps (record pool { machines = slice_set pool.machines index s' })
   replaced_within stays held kind =
@@ -155,6 +159,7 @@ module _ (pool : PoolValue) (within : IsWithinCaps pool) (index : ℕ) (s : Stat
       let caps = ap (λ amounts. amount_of amounts kind) stays.caps in
       omega (arith, own, all, bound, others, caps)
 
+  -- a run under its limiter keeps the tenant within the caps
   ran_within : (turns : List Turn)
       → Run (optional_rules tenant_rules) (record { state = s; limiter = Some (tenant_at pool index s) }) turns
       (record { state = s'; limiter = Some tenant' }) → StaysWithin (tenant_at pool index s) tenant'
@@ -166,6 +171,7 @@ module _ (pool : PoolValue) (within : IsWithinCaps pool) (index : ℕ) (s : Stat
 -- have become
 module _ (pool now : PoolValue) (same : pool ≡ now) (index : ℕ) (tenant : Tenant)
     (given : option_map (tenant_at now index) (slice_get now.machines index) ≡ Some tenant) where
+  -- there is a machine at the index, and the tenant is that of it
   machine_given : (x : State) × (slice_get pool.machines index ≡ Some x) × (tenant ≡ tenant_at pool index x)
   machine_given =
       mapped (tenant_at pool index) (slice_get pool.machines index) tenant
@@ -176,12 +182,15 @@ module _ (pool now : PoolValue) (same : pool ≡ now) (index : ℕ) (tenant : Te
   given_inside = slice_get_within pool.machines index machine_given.0 machine_given.1
 
   module _ (s : State) (read : s ≡ get_or pool.machines index s) where
+    -- this machine is the one that was read
     same_machine : machine_given.0 ≡ s
     same_machine = sym (read ∙ get_or_from_slice_get pool.machines index machine_given.0 s machine_given.1)
 
+    -- the machine that was read is at the index
     found_given : slice_get pool.machines index ≡ Some s
     found_given = machine_given.1 ∙ ap Some same_machine
 
+    -- the tenant is that of the machine that was read
     given_tenant : tenant ≡ tenant_at pool index s
     given_tenant = machine_given.2 ∙ ap (tenant_at pool index) same_machine
 
@@ -190,6 +199,7 @@ module _ (pool now : PoolValue) (same : pool ≡ now) (index : ℕ) (tenant : Te
     given_holds = subst (λ t. HoldsTotals (holdings t) s) (sym given_tenant) (record { bytes = refl; elements = refl })
 
     module _ (s' : State) (tenant' : Tenant) (calls : List Call) where
+      -- a run under the tenant is one under the limiter of the machine that was read
       given_ran : (replies : List Reply)
           → IsRunOf (optional_rules tenant_rules) calls (record { state = s; limiter = Some tenant }) replies
           (record { state = s'; limiter = Some tenant' })
@@ -257,17 +267,20 @@ adds_within pool s pool' within adds kind = rw adds.added (pushed kind)
         within Elements in omega
         (arith, bound, adds.empty.elements, sum_by_push (λ t. total t Elements) pool.machines s)
 
+-- one call keeps the caps
 caps_kept : (pool : PoolValue) (turn : PoolTurn) (pool' : PoolValue) → PoolStep pool turn pool' → pool'.caps ≡ pool.caps
 caps_kept pool (Added s) pool' adds = ap PoolValue.caps adds.added
 caps_kept pool (Ran index calls replies) pool' runs = ap PoolValue.caps runs.after
 caps_kept pool Refused pool' same = ap PoolValue.caps same
 
+-- one call keeps the pool within its caps
 step_within : (pool : PoolValue) (turn : PoolTurn) (pool' : PoolValue) → IsWithinCaps pool → PoolStep pool turn pool'
     → IsWithinCaps pool'
 step_within pool (Added s) pool' within adds = adds_within pool s pool' within adds
 step_within pool (Ran index calls replies) pool' within runs = runs_within pool index calls replies pool' within runs
 step_within pool Refused pool' within same = rw same within
 
+-- calls one after another keep the caps, and the pool within them
 pub caps_hold : (pool : PoolValue) → IsWithinCaps pool → (turns : List PoolTurn) (pool' : PoolValue)
     → PoolRun pool turns pool' → (pool'.caps ≡ pool.caps) × IsWithinCaps pool'
 caps_hold pool within [] pool' ran = rw ran (refl, within)

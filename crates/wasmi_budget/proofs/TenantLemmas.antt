@@ -20,6 +20,7 @@ pub record StaysWithin (tenant tenant' : Tenant) : Type 0 where
   pub others : tenant'.others ≡ tenant.others
   pub within : (kind : Kind) → held_together tenant' kind ≤ amount_of tenant'.caps kind
 
+-- all together are within the caps after n more of a kind that fit
 more_within : (tenant : Tenant) (q n : _) → held_together tenant q + n ≤ amount_of tenant.caps q
     → ((kind : Kind) → held_together tenant kind ≤ amount_of tenant.caps kind) → (kind : Kind)
     → held_together (with_holdings tenant (with_more (holdings tenant) q n)) kind ≤ amount_of tenant.caps kind
@@ -28,6 +29,7 @@ more_within tenant Bytes n fits within Elements = within Elements
 more_within tenant Elements n fits within Bytes = within Bytes
 more_within tenant Elements n fits within Elements = omega (arith, fits)
 
+-- a question keeps a tenant within the caps
 asks_within : (first tenant tenant' : Tenant) (q : Question) (answer : Answer) → StaysWithin first tenant
     → Asked tenant q answer tenant' → StaysWithin first tenant'
 asks_within first tenant tenant' q answer stays (taken, answered, takes) =
@@ -46,6 +48,7 @@ record HoldsNoMore (h h' : Holdings) : Type 0 where
   bytes : h'.bytes ≤ h.bytes
   elements : h'.elements ≤ h.elements
 
+-- no more is held once the last difference was taken back
 without_less : (kind : Kind) (h : Holdings) (last : Option (Kind × ℕ)) → HoldsNoMore h (without_last_of kind h last)
 without_less Bytes h None = record { bytes = omega arith; elements = omega arith }
 without_less Bytes h (Some (Bytes, n)) = record { bytes = omega arith; elements = omega arith }
@@ -54,12 +57,14 @@ without_less Elements h None = record { bytes = omega arith; elements = omega ar
 without_less Elements h (Some (Bytes, n)) = record { bytes = omega arith; elements = omega arith }
 without_less Elements h (Some (Elements, n)) = record { bytes = omega arith; elements = omega arith }
 
+-- all together are within the caps where no more is held than before
 less_within : (tenant : Tenant) (h : Holdings) → HoldsNoMore (holdings tenant) h
     → ((kind : Kind) → held_together tenant kind ≤ amount_of tenant.caps kind) → (kind : Kind)
     → held_together (with_holdings tenant h) kind ≤ amount_of tenant.caps kind
 less_within tenant h less within Bytes = let bound = within Bytes in omega (arith, less.bytes, bound)
 less_within tenant h less within Elements = let bound = within Elements in omega (arith, less.elements, bound)
 
+-- a notice keeps a tenant within the caps
 notices_within : (first tenant tenant' : Tenant) (failure : Failure) (notice_answer : NoticeAnswer)
     → StaysWithin first tenant → Noticed tenant failure notice_answer tenant' → StaysWithin first tenant'
 notices_within first tenant tenant' failure notice_answer stays noticed =
@@ -80,7 +85,7 @@ run_stays_within first within w w' turns tenant' is is' ran =
     w first is (record { caps = refl; others = refl; within = within }) turns w' ran in
     subst (StaysWithin first) (same_Some kept.0 tenant' (sym kept.1 ∙ is')) kept.2
 
--- what is taken, twice
+-- what is to be taken leaves no choice of whether it is, nor of the tenant after it
 takes_once : (tenant : Tenant) (kind : Kind) (n : ℕ) (taken taken' : Bool) (a b : Tenant) → Takes tenant kind n taken a
     → Takes tenant kind n taken' b → (taken ≡ taken') × (a ≡ b)
 takes_once tenant kind n taken taken' a b first second =
@@ -91,13 +96,14 @@ takes_once tenant kind n taken taken' a b first second =
           second.within within in (one.0 ∙ sym other.0, one.1 ∙ sym other.1)
     ]
 
+-- a question leaves no choice of the answer, nor of the tenant after it
 asked_once : (tenant : Tenant) (q : Question) (answer answer' : Answer) (a b : Tenant) → Asked tenant q answer a
     → Asked tenant q answer' b → (answer ≡ answer') × (a ≡ b)
 asked_once tenant q answer answer' a b (taken, answered, takes) (taken', answered', takes') =
     let one = takes_once tenant q.kind (q.desired - q.current) taken taken' a b takes takes' in
     (answered ∙ ap Ok one.0 ∙ sym answered', one.1)
 
--- a tenant leaves no choice, and accepts each notice
+-- a tenant leaves no choice
 pub tenant_once : IsDeterministic tenant_rules
 tenant_once = record {
   asked = λ tenant q answer answer' a b first second. asked_once tenant q answer answer' a b first second;
@@ -105,5 +111,6 @@ tenant_once = record {
       (first.0 ∙ sym second.0, first.1 ∙ sym second.1);
 }
 
+-- a tenant accepts each notice
 pub tenant_accepts : AcceptsNotices tenant_rules
 tenant_accepts tenant failure notice_answer tenant' noticed = noticed.0

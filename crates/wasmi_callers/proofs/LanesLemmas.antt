@@ -19,6 +19,7 @@ mixed_lanes = (
   ),
 )
 
+-- a test whose bit is 1 holds
 holds_of_bit : (test : Bool) → ◌≡◌ {A = ℕ} (if test then 1 else 0) 1 → IsTrue test
 holds_of_bit true is = refl
 holds_of_bit false is = absurd (omega (arith, is))

@@ -26,16 +26,18 @@ use Rattle.wasmi_store.specs.TableType.{TableTypeValue, same_type}
 use Rattle.wasmi_store.proofs.GrowthLemmas.{on_test}
 use Rattle.wasmi_callers.specs.Lending.{Counts, bytes_made, elements_made}
 
--- what is held of a kind after n more of it, after the same, and after n more that were taken back
+-- after n more of a kind, n more of it is held
 held_more : (kind : Kind) (n : ℕ) (h h' : Holdings) → h' ≡ with_more h kind n
     → amount_held h' kind ≡ amount_held h kind + n
 held_more Bytes n h h' more = ap (λ (k : Holdings). k.bytes) more
 held_more Elements n h h' more = ap (λ (k : Holdings). k.elements) more
 
+-- where as much is held of each kind, as much is held of one
 held_same : (kind : Kind) (h h' : Holdings) → HoldsTheSame h h' → amount_held h' kind ≡ amount_held h kind
 held_same Bytes h h' same = same.bytes
 held_same Elements h h' same = same.elements
 
+-- after n more of a kind that were taken back, as much of it is held
 taken_back : (kind : Kind) (n : ℕ) (h p h' : Holdings) → p ≡ with_more h kind n → h' ≡ without_last kind p
     → amount_held h' kind ≡ amount_held h kind
 taken_back Bytes n h p h' more back =
@@ -121,12 +123,14 @@ module _ {V E : Type 0} (e : Request V E) where
 -- what is made counts as what was asked for, and a refusal as nothing
 module _ {T E : Type 0} (e : Request (Unit {0}) E) (made : T) (size : Result T E → ℕ)
     (full : size (Ok made) ≡ asked_for e) (empty : (cause : E) → size (Err cause) ≡ 0) where
+  -- an attempt adds the size of its answer to what is held
   size_made : (outcome : AttemptOutcome E) → added e outcome ≡ size (answer_of e made outcome)
   size_made (Unasked cause) = sym (empty cause)
   size_made (Denied answer) = sym (empty _)
   size_made Met = sym full
   size_made (Failed cause notice_answer) = sym (empty _)
 
+  -- a creation counts as the size of what it answers
   creation_counts : TellsOfKind e → (quota quota' : Quota) (result : Result T E)
       → Makes (optional_rules quota_rules) e made (Some quota) result (Some quota')
       → Counts (kind e) quota 0 quota' (size result)
@@ -138,10 +142,12 @@ module _ {T E : Type 0} (e : Request (Unit {0}) E) (made : T) (size : Result T E
 abbrev under : {V : Type 0} → Quota → V → Option Meter → MeteredValue V (Option Quota)
 under quota x m = record { value = x; meter = m; limiter = Some quota }
 
+-- a value is the same where it is with its meter and its quota
 same_value : {V : Type 0} (quota quota' : Quota) (x x' : V) (m m' : Option Meter)
     → under quota' x' m' ≡ under quota x m → x' ≡ x
 same_value {V = V} quota quota' x x' m m' same = ap (λ (s : MeteredValue V (Option Quota)). s.value) same
 
+-- a quota is the same where it is with a value and its meter
 same_quota : {V : Type 0} (quota quota' : Quota) (x x' : V) (m m' : Option Meter)
     → under quota' x' m' ≡ under quota x m → Some quota' ≡ Some quota
 same_quota {V = V} quota quota' x x' m m' same = ap (λ (s : MeteredValue V (Option Quota)). s.limiter) same
@@ -154,15 +160,16 @@ untouched_counts kind size quota quota' x x' m m' same =
     nothing_counts kind (size x) quota quota' (same_quota quota quota' x x' m m' same)
     )
 
--- a growth counts as the difference of the sizes
 module _ {V E : Type 0} (g : Growth V E) (size : V → ℕ) (x : V)
     (full : size g.request.grown ≡ size x + asked_for g.request) (tells : TellsOfKind g.request) where
+  -- an attempt adds the same to the size as to what is held
   size_grown : (outcome : AttemptOutcome E) → size (value_after g.request x outcome) ≡ size x + added g.request outcome
   size_grown (Unasked cause) = omega arith
   size_grown (Denied answer) = omega arith
   size_grown Met = full
   size_grown (Failed cause notice_answer) = omega arith
 
+  -- a growth counts as the difference of the sizes, however it ends
   growth_counts : (quota quota' : Quota) (m m' : Option Meter) (x' : V) (result : Result ℕ E) (charge : ℕ)
       → Grows (optional_rules quota_rules) g (under quota x m) result charge (under quota' x' m')
       → Counts (kind g.request) quota (size x) quota' (size x')
@@ -174,10 +181,11 @@ module _ {V E : Type 0} (g : Growth V E) (size : V → ℕ) (x : V)
       let sizes = ap size some.attempt.value ∙ size_grown some.outcome in
       record { held = omega (arith, sizes, counts.held); within = counts.within }
 
--- the length of what is made of n, and of what has grown by n
+-- the length of n items is the difference of n and 0
 length_made : (n y : ℕ) → length (replicate n y) ≡ n - 0
 length_made n y = omega (arith, length-replicate {A = ℕ} n y)
 
+-- the length after n more items is the length before, and the difference of the two
 length_grown : (xs : List ℕ) (n y : ℕ) → length (xs ++ replicate n y) ≡ length xs + (length xs + n - length xs)
 length_grown xs n y = omega (arith, length-append xs (replicate n y), length-replicate {A = ℕ} n y)
 

@@ -58,20 +58,29 @@ beside_after hidden pool index calls replies pool' permitted =
       ),
     )
 
--- two runs of one tenant from one pool
+-- a run of a tenant of which no reply tells of want of memory
+pub record RunsWithMemory (pool : PoolValue) (index : ℕ) (calls : List Call) (pool' : PoolValue) : Type 0 where
+  pub replies : List Reply
+  pub has : All HasMemory replies
+  pub ran : RunsTenant pool index calls replies pool'
+
+-- two such runs of one tenant from one pool have the same replies, and leave the same pool
 pub pools_same : RepliesAreOne tenant_rules → IsDeterministic tenant_rules → AcceptsNotices tenant_rules
-    → (pool p p' : PoolValue) (index : ℕ) (calls : List Call) (replies replies' : List Reply) → All HasMemory replies
-    → All HasMemory replies'
-    → RunsTenant pool index calls replies p → RunsTenant pool index calls replies' p' → (replies ≡ replies') × (p ≡ p')
-pools_same one once accepts pool p p' index calls replies replies' has has' a b =
-    let found : b.machine ≡ a.machine = same_Some b.machine a.machine (sym b.found ∙ a.found) in
+    → (pool p p' : PoolValue) (index : ℕ) (calls : List Call)
+    → (a : RunsWithMemory pool index calls p) (b : RunsWithMemory pool index calls p')
+    → (a.replies ≡ b.replies) × (p ≡ p')
+pools_same one once accepts pool p p' index calls a b =
+    let first = a.ran in
+    let second = b.ran in
+    let found : second.machine ≡ first.machine =
+    same_Some second.machine first.machine (sym second.found ∙ first.found) in
     let ran = subst
-    (λ s. IsRunOf (optional_rules tenant_rules) calls (world s (Some (tenant_at pool index s))) replies'
-    (world b.machine' (Some b.tenant'))) found b.ran in
-    let same = one once accepts calls _ replies replies' _ _ has has' a.ran ran in
-    let machine : a.machine' ≡ b.machine' = ap (λ (w : World (Option Tenant)). w.state) same.1 in (
+    (λ s. IsRunOf (optional_rules tenant_rules) calls (world s (Some (tenant_at pool index s))) b.replies
+    (world second.machine' (Some second.tenant'))) found second.ran in
+    let same = one once accepts calls _ a.replies b.replies _ _ a.has b.has first.ran ran in
+    let machine : first.machine' ≡ second.machine' = ap (λ (w : World (Option Tenant)). w.state) same.1 in (
       same.0,
-      a.after
+      first.after
           ∙ ap (λ s. let q : PoolValue = record pool { machines = slice_set pool.machines index s } in q) machine
-          ∙ sym b.after,
+          ∙ sym second.after,
     )

@@ -8,10 +8,12 @@ use Rattle.wasmi_callers.specs.declared.recorder.Event.TheVariants.{Failed}
 use Rattle.wasmi_callers.specs.declared.recorder.Recorder.{Recorder}
 use Rattle.wasmi_callers.specs.Recorder.{event_of, recorder_rules, OneGrows, LeavesTrace}
 
+-- one more item, and then another, are two more items
 append_twice : {X : Type 0} (xs : List X) (y z : X) → (xs ++ y ∷ []) ++ z ∷ [] ≡ xs ++ y ∷ z ∷ []
 append_twice [] y z = refl
 append_twice (x ∷ xs) y z = ap (λ l. x ∷ l) (append_twice xs y z)
 
+-- where a place has grown as was asked, one size has become the one that was asked for
 one_grows : (place : Place) (q : Question) (sizes sizes' : List ℕ) → GrowsAsAsked place q sizes sizes'
     → OneGrows q.current q.desired sizes sizes'
 one_grows Nowhere q sizes sizes' grows = absurd grows
@@ -19,6 +21,7 @@ one_grows New q sizes sizes' grows = inl grows
 one_grows (At k) q sizes sizes' (up, found, put) = inr (k, found, put)
 
 module _ (l l' : Recorder) (sizes sizes' : Kind → List ℕ) (place : Place) where
+  -- an exchange with a recorder leaves its trace
   pub traced : (exchange : Exchange) → Passes (optional_rules recorder_rules) (Some l) exchange (Some l')
       → GrowsBy place exchange sizes sizes' → LeavesTrace l.events.items sizes l'.events.items sizes'
   traced Nothing same still = inl (ap (λ (x : Recorder). x.events.items) (same_Some l' l same), still)

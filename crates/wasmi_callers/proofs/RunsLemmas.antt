@@ -53,6 +53,7 @@ module _ {S : Type 0} (rules : Rules S) where
     fitting_runs v turns w' (All-tail FitsAnyRegions turn.call (map Turn.call turns) fits) ran,
   )
 
+  -- a run of calls that fit any regions is one of the same machine with memories of its own
   pub fitting_owned : LentRunsAreOwned rules → (calls : List Call) (w w' : World S) (replies : List Reply)
       → All FitsAnyRegions calls → IsRunOf rules calls w replies w'
       → IsRunOf rules calls (owned_world w) replies (owned_world w')
@@ -83,6 +84,7 @@ all_have (turn ∷ turns) has = (
   all_have turns (All-tail HasMemory turn.reply (map Turn.reply turns) has),
 )
 
+-- the same of the replies of a run
 pub replies_have : (turns : List Turn) (replies : List Reply) → map Turn.reply turns ≡ replies → All HasMemory replies
     → HaveMemory turns
 replies_have turns replies is has = all_have turns (subst (All HasMemory) (sym is) has)
@@ -92,6 +94,7 @@ pub record IsWithin (s : State) (quota : Quota) : Type 0 where
   pub bytes : total s Bytes ≤ cap_of quota Bytes
   pub elements : total s Elements ≤ cap_of quota Elements
 
+-- a machine is within caps where a quota holds what it has, is within its caps, and has the same caps
 held_within : (s : State) (first quota : Quota) → HoldsTotals (holdings quota) s → IsWithinCaps quota
     → (quota.bytes ≡ first.bytes) × (quota.elements ≡ first.elements) → IsWithin s first
 held_within s first quota held within caps =
@@ -100,6 +103,7 @@ held_within s first quota held within caps =
       elements = omega (arith, held.elements, within.elements, caps.1);
     }
 
+-- a machine whose quota was within its caps is within them after a run that was accepted or refused
 pub within_quota : {R E : Type 0} (items : R → List Reply) → QuotasStayWithin
     → (s s' : State) (quota quota' : Quota) (calls : List Call) (result : Result R E) → IsWithinCaps quota
     → HoldsTotals (holdings quota') s'

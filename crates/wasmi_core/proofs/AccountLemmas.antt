@@ -25,7 +25,7 @@ use Rattle.wasmi_meter.specs.declared.error.TableError.{TableError}
 use Rattle.wasmi_store.proofs.GrowthLemmas.{on_test}
 use Rattle.wasmi_store.specs.Growth.{Grows, Growth}
 use Rattle.wasmi_store.specs.Memory.{GrowsMemory, MemoryValue, pages_of}
-use Rattle.wasmi_store.specs.Table.{EndsBy, GrowsTable, TableValue, TableWrite, WritesTable, growth_due, size_of}
+use Rattle.wasmi_store.specs.Table.{EndsBy, GrowsTable, TableValue, TableWrite, WritesTable, write_due, size_of}
 use Rattle.wasmi_store.specs.TableType.{same_type}
 use Rattle.wasmi_typed.specs.declared.typed_ref.TypedRawRef.{TypedRawRef}
 use Rattle.wasmi_store.specs.Memory as memory
@@ -110,7 +110,7 @@ module _ (w : TableWrite) (x : TableValue) (m : Meter) (result : Result (Unit {0
     (x' : TableValue) where
   -- a write over a part of a table is charged no more than is left
   ends_paid : (typed : Bool) (written : Option (List ℕ)) (payable : Bool)
-      → covers (Some m) (growth_due w x (Some m)) ≡ payable
+      → covers (Some m) (write_due w x (Some m)) ≡ payable
       → EndsBy w x (Some m) typed written payable (record { result = result; charge = charge; value = x' })
       → IsCharged m charge
   ends_paid false written payable enough ends = paid_free m charge ends.1

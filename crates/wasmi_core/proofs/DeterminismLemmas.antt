@@ -291,29 +291,29 @@ module _ {S : Type 0} (rules : Rules S) (once : IsDeterministic rules) (w : Worl
   effect_same : (effect : Effect) → TakesEffect (with_memory rules) effect w t v
       → TakesEffect (with_memory rules) effect w t' v' → Same w t t' v v'
   effect_same (Told reply) step step' =
-      free w t t' v v' step.free step'.free (step.effect ∙ sym step'.row) step.after step'.after
+      free w t t' v v' step.free step'.free (step.effect ∙ sym step'.effect) step.after step'.after
   effect_same (BytesRead k offset len) step step' =
       free w t t' v v' step.free step'.free
-      (reads_same k offset len w.state.memories t.reply t'.reply room room' step.effect step'.row) step.after
+      (reads_same k offset len w.state.memories t.reply t'.reply room room' step.effect step'.effect) step.after
       step'.after
   effect_same (FuelSet fuel) step step' =
       changed w t t' v v' (λ s. s) step.machine step'.machine step.free step'.free
-      (step.effect.0 ∙ sym step'.row.0, step.effect.1 ∙ sym step'.row.1) step.after step'.after
+      (step.effect.0 ∙ sym step'.effect.0, step.effect.1 ∙ sym step'.effect.1) step.after step'.after
   effect_same (Changed change) step step' =
       changed w t t' v v' (λ s. s) step.machine step'.machine step.free step'.free
-      ((change_facts w.state change).same t.reply t'.reply step.machine step'.machine room room' step.effect step'.row)
+      ((change_facts w.state change).same t.reply t'.reply step.machine step'.machine room room' step.effect step'.effect)
       step.after step'.after
   effect_same (MemoryMade ty) step step' =
       asked w t t' v v' (with_memories w.state) step.part step'.part step.limiter step'.limiter step.free step'.free
       (memory_same once Owned ty w.state.memories w.limiter
       (record { reply = t.reply; part = step.part; limiter = step.limiter })
-      (record { reply = t'.reply; part = step'.part; limiter = step'.limiter }) room room' step.effect step'.row)
+      (record { reply = t'.reply; part = step'.part; limiter = step'.limiter }) room room' step.effect step'.effect)
       step.after step'.after
   effect_same (LentMemoryMade ty) step step' =
       asked w t t' v v' (with_memory_part w.state) step.part step'.part step.limiter step'.limiter step.free step'.free
       (lent_same once ty (memory_part w.state) w.limiter
       (record { reply = t.reply; part = step.part; limiter = step.limiter })
-      (record { reply = t'.reply; part = step'.part; limiter = step'.limiter }) room room' step.effect step'.row)
+      (record { reply = t'.reply; part = step'.part; limiter = step'.limiter }) room room' step.effect step'.effect)
       step.after step'.after
   effect_same (MemoryGrown k pages) step step' =
       paid w t t' v v' (with_memories w.state) step.part step'.part step.meter step'.meter
@@ -323,25 +323,25 @@ module _ {S : Type 0} (rules : Rules S) (once : IsDeterministic rules) (w : Worl
       (record { amount = pages; size = pages_of s.value; request = memory.growth_of s.value pages })
       (record { wants = memory_wants s.value.room }) s) k (reply_of replied.Number replied.Memory) _
       (acted t step.part step.meter step.limiter) (acted t' step'.part step'.meter step'.limiter)
-      step.effect step'.row) step.wrote step'.wrote step.after step'.after
+      step.effect step'.effect) step.wrote step'.wrote step.after step'.after
   effect_same (TableMade ty init) step step' =
       asked w t t' v v' (with_tables w.state) step.part step'.part step.limiter step'.limiter step.free step'.free
       (creates_same replied.Table (MakesTable (with_memory rules) ty init)
       (makes_same once (table.creation_of ty init.ty) (record { wants = table_wants }) (new_table ty init.raw))
       w.state.tables w.limiter (record { reply = t.reply; part = step.part; limiter = step.limiter })
-      (record { reply = t'.reply; part = step'.part; limiter = step'.limiter }) room room' step.effect step'.row)
+      (record { reply = t'.reply; part = step'.part; limiter = step'.limiter }) room room' step.effect step'.effect)
       step.after step'.after
   effect_same (TableGrown k n init) step step' =
       paid w t t' v v' (with_tables w.state) step.part step'.part step.meter step'.meter (element_bytes n)
       step.limiter step'.limiter
       (acts_same (GrowsTable (with_memory rules) n init) (table_growth_same once n init) k
       (reply_of replied.Number replied.Table) _ (acted t step.part step.meter step.limiter)
-      (acted t' step'.part step'.meter step'.limiter) step.effect step'.row) step.wrote
+      (acted t' step'.part step'.meter step'.limiter) step.effect step'.effect) step.wrote
       step'.wrote step.after step'.after
   effect_same (PartWritten k source dst len) step step' =
       paid_unasked w t t' v v' (with_tables w.state) step.part step'.part step.meter step'.meter (element_bytes len)
       (table_copies_same (write_of source dst len) k (λ write. write) _ t.reply t'.reply t.charge t'.charge
-      _ _ step.effect step'.row) step.wrote step'.wrote step.after step'.after
+      _ _ step.effect step'.effect) step.wrote step'.wrote step.after step'.after
 
 module _ {S : Type 0} (rules : Rules S) (once : IsDeterministic rules) where
   -- two runs

@@ -58,7 +58,7 @@ change_of : (s : State) {A : Type 0} (with_part : A → State) (old : A) (Keeps 
 change_of s with_part old Keeps Effect part facts = record {
   back = λ reply s' refused c. c.after ∙ ap with_part (facts.back reply c.part refused c.effect) ∙ part.whole;
   same = λ reply reply' s' s'' has has' c c'.
-      let both = facts.same reply reply' c.part c'.part has has' c.effect c'.row in
+      let both = facts.same reply reply' c.part c'.part has has' c.effect c'.effect in
       (both.0, c.after ∙ ap with_part both.1 ∙ sym c'.after);
   meter = λ reply s' c. ap (λ (t : State). t.meter) c.after ∙ part.meter c.part;
   still = λ reply s' c kind. ap (λ t. sizes t kind) c.after

@@ -33,7 +33,7 @@ use Rattle.wasmi_store.proofs.GrowthLemmas.{on_test}
 use Rattle.wasmi_store.specs.Growth.{Grows, Growth}
 use Rattle.wasmi_store.specs.Memory.{GrowsMemory, MemoryValue, pages_of}
 use Rattle.wasmi_store.specs.MemoryType.{greatest_pages, in_bounds, page_bytes}
-use Rattle.wasmi_store.specs.Table.{EndsBy, GrowsTable, TableValue, TableWrite, WritesTable, growth_due, element_price, size_of}
+use Rattle.wasmi_store.specs.Table.{EndsBy, GrowsTable, TableValue, TableWrite, WritesTable, write_due, element_price, size_of}
 use Rattle.wasmi_store.specs.TableType.{same_type}
 use Rattle.wasmi_typed.specs.declared.typed_ref.TypedRawRef.{TypedRawRef}
 use Rattle.wasmi_store.specs.Memory as memory
@@ -281,7 +281,7 @@ table_growth_writes {S} rules k n init slots m l reply charge slots' m' l' acts 
 -- a call that writes over a part of a table
 module _ (w : TableWrite) (x : TableValue) (len : ℕ) (m : Meter) (charge : ℕ) where
   -- the charge pays for the elements, where there are some
-  len_bound : (paid : (w.paid ≡ Some len) ⊎ (len ≡ 0)) → charge ≡ growth_due w x (Some m) → (left : ℕ)
+  len_bound : (paid : (w.paid ≡ Some len) ⊎ (len ≡ 0)) → charge ≡ write_due w x (Some m) → (left : ℕ)
       → m.left ≡ Some left → 0 < rate m → cut_product len 4 ≤ rate m * charge + (rate m - 1)
   len_bound (inl paid) charged left on rated =
       due_pays m left len 4 charge on rated

@@ -1,3 +1,5 @@
+//! What the tests share: comparisons, of one answer and of rows of them.
+
 use std::fmt::Debug;
 use std::process::Abort;
 

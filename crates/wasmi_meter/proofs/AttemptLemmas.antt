@@ -19,11 +19,13 @@ meter_after_nothing (Some m) = ap Some (unchanged m.left m.costs)
         ap (λ (k : ℕ). let m : Meter = record { left = Some k; costs = costs } in m) (omega arith)
 
 module _ {V E S : Type 0} (rules : Rules S) (e : Request V E) (s : MeteredValue V S) where
+  -- with an early cause nothing is asked, nothing is charged, and all is the same
   pub attempt_unasked : (cause : E) → e.early ≡ Some cause → Attempt rules e s (Unasked cause) 0 s
   attempt_unasked cause early =
       record { may_end = early; follows = refl; charged = refl; meter = meter_after_nothing s.meter; value = refl }
 
   module _ (early : e.early ≡ None) where
+    -- a denial: nothing is charged, and the limiter alone is another
     pub attempt_denied : (answer : Answer) (l : S) → IsDenial answer → rules.asked s.limiter e.question answer l
         → Attempt rules e s (Denied answer) 0 (record s { limiter = l })
     attempt_denied answer l denial asks =
@@ -49,6 +51,7 @@ module _ {V E S : Type 0} (rules : Rules S) (e : Request V E) (s : MeteredValue 
       }
 
       module _ (late : e.late ≡ None) where
+        -- too little is left: nothing is charged, and the limiter is told of it
         pub attempt_unpaid : (notice_answer : NoticeAnswer) (l : S)
             → covers s.meter (optional_due s.meter e.price) ≡ false
             → rules.noticed p (e.notice (e.unpaid (optional_due s.meter e.price))) notice_answer l
@@ -63,6 +66,7 @@ module _ {V E S : Type 0} (rules : Rules S) (e : Request V E) (s : MeteredValue 
         }
 
         module _ (enough : covers s.meter (optional_due s.meter e.price) ≡ true) where
+          -- what is grown into refuses: what is due is charged, and the limiter is told of it
           pub attempt_refused : (cause : E) (notice_answer : NoticeAnswer) (l : S) → e.refuses cause
               → rules.noticed p (e.notice cause) notice_answer l
               → Attempt rules e s (Failed cause notice_answer) (optional_due s.meter e.price)
@@ -75,6 +79,7 @@ module _ {V E S : Type 0} (rules : Rules S) (e : Request V E) (s : MeteredValue 
             value = refl;
           }
 
+          -- nothing stands against it: the value has grown, and what is due is charged
           pub attempt_met : Attempt rules e s Met (optional_due s.meter e.price)
               (record {
                 value = e.grown;

@@ -21,11 +21,12 @@ module _ (quota quota' : Quota) (within : IsWithinCaps quota) where
       let elements : quota'.held_elements ≡ quota.held_elements + n = ap (λ (h : Holdings). h.elements) more in
       record { bytes = omega arith; elements = omega arith }
 
-  -- after no more of each kind, and after the same of each
+  -- after no more of each kind
   no_more_is_within : quota'.held_bytes ≤ quota.held_bytes → quota'.held_elements ≤ quota.held_elements
       → SameCaps quota quota' → IsWithinCaps quota'
   no_more_is_within bytes elements caps = record { bytes = omega arith; elements = omega arith }
 
+  -- after the same of each kind
   the_same_is_within : holdings quota' ≡ holdings quota → SameCaps quota quota' → IsWithinCaps quota'
   the_same_is_within same =
       let bytes : quota'.held_bytes ≡ quota.held_bytes = ap (λ (h : Holdings). h.bytes) same in
@@ -48,6 +49,7 @@ module _ (quota quota' : Quota) (within : IsWithinCaps quota) where
   less_is_within Bytes None less = the_same_is_within less
   less_is_within Elements None less = the_same_is_within less
 
+  -- after a question
   pub asked_is_within : (q : Question) (answer : Answer) → Asked quota q answer quota' → IsWithinCaps quota'
   asked_is_within q answer asked =
       elim (cases_lt (cap_of quota q.kind) (amount_held (holdings quota) q.kind + (q.desired - q.current))) [
@@ -55,6 +57,7 @@ module _ (quota quota' : Quota) (within : IsWithinCaps quota) where
         | inr fits ↦ more_is_within q.kind (q.desired - q.current) fits (asked.permits fits).1 asked.caps
       ]
 
+  -- after a notice
   pub noticed_is_within : (failure : Failure) (notice_answer : NoticeAnswer)
       → Noticed quota failure notice_answer quota' → IsWithinCaps quota'
   noticed_is_within failure notice_answer noticed =

@@ -12,14 +12,17 @@ use lib.Bits.{or_self}
 
 -- ---- `x << k` is the product by 2 to the power k
 
+-- t is v less u, where v is t + u
 moved : (u v t : ℕ) → v ≡ t + u → neg_ℤ (pos u) +ℤ pos v ≡ pos t
 moved u v t e = omega (arith, ints, e)
 
+-- p times n, less p times a + 1, is p times b, where n is b + a + 1
 product_moved : (a p n b : ℕ) → b + suc a ≡ n → (negsuc a *ℤ pos p) +ℤ pos (p * n) ≡ pos (b * p)
 product_moved a p n b e =
     let whole : p * n ≡ b * p + suc a * p = mul_comm p n ∙ ap (λ m. m * p) (sym e) ∙ add-mul b (suc a) p in
     moved (suc a * p) (p * n) (b * p) whole
 
+-- the product by p of the unsigned image, cut to the width and read signed, is that of the number, wrapped
 shl_is : (w : Width) (z : ℤ) (p : ℕ) → 2 ^ hbits w ≤ 2 ^ bits w → SFits w z
     → cast_signed w (cast_unsigned w z * p % 2 ^ bits w) ≡ int_wrap w (z *ℤ pos p)
 unfolding int_wrap
@@ -33,6 +36,7 @@ shl_is w (negsuc n) p le f =
 
 -- ---- rotations: the two parts share no bit
 
+-- the bits that go up k places and those that come in below, put together, are their sum
 parts_apart : (b n k j : ℕ) → n < 2 ^ b → j + k ≡ b
     → bit_or (n * 2 ^ k % 2 ^ b) (n / 2 ^ j) ≡ n * 2 ^ k % 2 ^ b + n / 2 ^ j
 parts_apart b n k j h e =
@@ -46,7 +50,8 @@ parts_apart b n k j h e =
     ap (λ m. bit_or m (n / 2 ^ j)) high ∙ or_shifted (n % 2 ^ j) k (n / 2 ^ j) small
     ∙ ap (λ m. m + n / 2 ^ j) (sym high)
 
--- std's words write the amount that is left modulo the width, so that none of the bits is also all of them
+-- std's two parts of a rotation to the left by k, put together, are it: its words write the amount that is left modulo
+-- the width, so that none of the bits is also all of them
 left_by : (b n k : ℕ) → n < 2 ^ b → k < b → bit_or (n * 2 ^ k % 2 ^ b) (n / 2 ^ ((b - k) % b)) ≡ rotated_left b n k
 left_by b n zero h l =
     let rest : (b - 0) % b ≡ 0 = ap (λ m. m % b) (sub-zero b) ∙ mod_self b in
@@ -59,6 +64,7 @@ left_by b n (suc j) h l =
     let rest : (b - suc j) % b ≡ b - suc j = mod-eq_of_lt (omega (arith, l)) in
     ap (λ m. bit_or (n * 2 ^ suc j % 2 ^ b) (n / 2 ^ m)) rest ∙ parts_apart b n (suc j) (b - suc j) h (omega (arith, l))
 
+-- std's two parts of a rotation to the right by k, put together, are one to the left by the rest of the bits
 right_by : (b n k : ℕ) → n < 2 ^ b → k < b
     → bit_or (n / 2 ^ k) (n * 2 ^ ((b - k) % b) % 2 ^ b) ≡ rotated_left b n (b - k)
 right_by b n zero h l =
@@ -78,22 +84,25 @@ right_by b n (suc j) h l =
     ∙ parts_apart b n (b - suc j) (suc j) h (omega (arith, l))
     ∙ sym (ap (λ m. n * 2 ^ (b - suc j) % 2 ^ b + n / 2 ^ m) back)
 
+-- the unsigned image of a signed number is below 2 to the power of the width
 image_below : (w : Width) (z : ℤ) → 2 ^ hbits w ≤ 2 ^ bits w → SFits w z → cast_unsigned w z < 2 ^ bits w
 image_below w (pos n) le f = omega (arith, le, f.sfits)
 image_below w (negsuc n) le f = let p : 0 < 2 ^ bits w = pow_pos (bits w) in omega (arith, p)
 
 -- ---- as the code's calls say it, where a signed number is read from its bits
 
--- the amount, and the amount that was already cut to the width
+-- the amount modulo the width is the one of the table
 pub amount_is : (w : Width) (y : ℤ) (k : ℕ) → SFits w y → k ≡ cast_unsigned w (cast_signed w (cast_unsigned w y))
     → k % bits w ≡ amount_of w y
 amount_is w y k f e = ap (λ m. m % bits w) (e ∙ ap (cast_unsigned w) (to_z-of_z w y f))
 
+-- so is the amount that was already cut to the width
 pub cut_amount_is : (w : Width) (y : ℤ) (k : ℕ) → 0 < bits w → SFits w y
     → k ≡ cast_unsigned w (cast_signed w (cast_unsigned w y))
     → k % bits w % bits w ≡ amount_of w y
 cut_amount_is w y k p f e = mod-eq_of_lt (mod_below k (bits w) p) ∙ amount_is w y k f e
 
+-- a shift to the left by the amount is the one of the table
 pub shifted : (w : Width) (z y r : ℤ) (k : ℕ) → 2 ^ hbits w ≤ 2 ^ bits w → SFits w z → SFits w r
     → k % bits w ≡ amount_of w y
     → r ≡ int_shl w (cast_signed w (cast_unsigned w z)) (k % bits w) → cast_signed w (cast_unsigned w r) ≡ ishl w z y
@@ -101,6 +110,7 @@ shifted w z y r k le fz fr amount e =
     to_z-of_z w r fr ∙ e ∙ ap (λ v. int_shl w v (k % bits w)) (to_z-of_z w z fz) ∙ shl_is w z (2 ^ (k % bits w)) le fz
     ∙ ap (λ j. int_wrap w (z *ℤ pos (2 ^ j))) amount
 
+-- a rotation to the left by the amount is the one of the table
 pub rotated_to_left : (w : Width) (z y r : ℤ) (k : ℕ) → 0 < bits w → 2 ^ hbits w ≤ 2 ^ bits w → SFits w z → SFits w r
     → k % bits w ≡ amount_of w y
     → r ≡ cast_signed w (rotate_left w (cast_unsigned w (cast_signed w (cast_unsigned w z))) k)
@@ -111,6 +121,7 @@ rotated_to_left w z y r k p le fz fr amount e =
     (left_by (bits w) (cast_unsigned w z) (k % bits w) (image_below w z le fz) (mod_below k (bits w) p))
     ∙ ap (λ j. cast_signed w (rotated_left (bits w) (cast_unsigned w z) j)) amount
 
+-- a rotation to the right by the amount is the one of the table
 pub rotated_to_right : (w : Width) (z y r : ℤ) (k : ℕ) → 0 < bits w → 2 ^ hbits w ≤ 2 ^ bits w → SFits w z → SFits w r
     → k % bits w ≡ amount_of w y
     → r ≡ cast_signed w (rotate_right w (cast_unsigned w (cast_signed w (cast_unsigned w z))) k)

@@ -1,3 +1,5 @@
+//! What the tests share: scripts that are run, and comparisons with what they have to print.
+
 mod accesses;
 mod bad_lines;
 mod comparison;

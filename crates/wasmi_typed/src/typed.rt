@@ -15,6 +15,7 @@ use wasmi_types::ValType;
 ///
 /// Upstream: `wasmi_core::Typed`.
 pub trait Typed {
+    /// The value type, in contracts.
     ghost TY: { ValType };
 
     /// The value type.

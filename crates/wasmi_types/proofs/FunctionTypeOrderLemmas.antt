@@ -35,6 +35,7 @@ cmp-type_number ExternRef y =
     elim y as (λ k. ghosts.cmp ExternRef k ≡ nat_cmp (type_number ExternRef) (type_number k))
     [ I32 ↦ refl | I64 ↦ refl | F32 ↦ refl | F64 ↦ refl | V128 ↦ refl | FuncRef ↦ refl | ExternRef ↦ refl ]
 
+-- lists of value types are ordered by the lists of their places
 cmp-entries : (xs ys : List ValType)
     → slice_cmp ghosts.cmp xs ys ≡ slice_cmp nat_cmp (map type_number xs) (map type_number ys)
 cmp-entries [] [] = refl
@@ -42,16 +43,19 @@ cmp-entries [] (y ∷ ys) = refl
 cmp-entries (x ∷ xs) [] = refl
 cmp-entries (x ∷ xs) (y ∷ ys) = λ i. ordering_then (cmp-type_number x y i) (cmp-entries xs ys i)
 
+-- of three orderings one after another, the first two or the last two may be taken together
 then-assoc : (x y z : Ordering) → ordering_then (ordering_then x y) z ≡ ordering_then x (ordering_then y z)
 then-assoc Less y z = refl
 then-assoc Equal y z = refl
 then-assoc Greater y z = refl
 
+-- Equal after an ordering changes nothing
 then-equal : (x : Ordering) → ordering_then x Equal ≡ x
 then-equal Less = refl
 then-equal Equal = refl
 then-equal Greater = refl
 
+-- what is compared place by place is compared as lists of these places
 by_places : (v w : Bool) (m n m' n' : ℕ) (xs ys : List ℕ)
     → ordering_then
     (ordering_then (ordering_then (bool_cmp (not v) (not w)) (nat_cmp m m'))
@@ -71,6 +75,7 @@ places_cmp v w m n m' n' xs ys =
 abbrev pub is_small : FunctionType → Bool
 is_small ty = nat_le (entry_count ty) 21
 
+-- the order compares the size, the numbers of parameters and of results of a small one, and the entries
 pub function_type_cmp-places : (a b : FunctionType)
     → places_cmp (not (is_small a)) (not (is_small b)) (length a.params) (if is_small a then length a.results else 0)
     (length b.params) (if is_small b then length b.results else 0) (entries a) (entries b)

@@ -1,3 +1,4 @@
+-- How a function type is kept: inline where it is small, and on the heap otherwise.
 use Rattle.std.specs.Prelude.{◌≡◌, ◌+◌, ◌<◌, ◌≤◌, length, take, drop}
 use Rattle.std.specs.Rc.{rc_slice_items}
 use Rattle.wasmi_types.specs.declared.func_type.FuncTypeInner.{FuncTypeInner}

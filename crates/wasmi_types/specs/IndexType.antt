@@ -1,3 +1,4 @@
+-- What the type of an address means: its value type, its width, and the narrower of two.
 use Rattle.std.specs.Prelude.{ℕ}
 use Rattle.wasmi_types.specs.declared.index_ty.IndexType.{IndexType}
 use Rattle.wasmi_types.specs.declared.index_ty.IndexType.TheVariants.{I32, I64}

@@ -1,3 +1,4 @@
+-- The number and the text of each trap code.
 use Rattle.std.specs.Prelude.{◌≡◌, ℕ, ◌<◌, ◌⊎◌, List, Result, Ok, IsErr, codes}
 use Rattle.wasmi_types.specs.declared.trap.TrapCode.{TrapCode}
 use Rattle.wasmi_types.specs.declared.trap.TrapCode.TheVariants.{UnreachableCodeReached, MemoryOutOfBounds, TableOutOfBounds, IndirectCallToNull, IntegerDivisionByZero, IntegerOverflow, BadConversionToInteger, StackOverflow, BadSignature, OutOfFuel, GrowthOperationLimited, OutOfSystemMemory}

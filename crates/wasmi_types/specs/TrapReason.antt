@@ -1,3 +1,4 @@
+-- What the reason of a trap carries, and its text.
 use Rattle.std.specs.Prelude.{ℕ, List, ◌++◌, Option, Some, None, ℤ, codes, string_bytes}
 use Rattle.std.specs.Fmt.{signed_decimal}
 use Rattle.wasmi_types.specs.Trap.{code_message}

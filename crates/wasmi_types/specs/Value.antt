@@ -1,3 +1,4 @@
+-- Which value types are number types, and which are reference types.
 use Rattle.std.specs.Prelude.{Bool, true, false, Option, Some, None}
 use Rattle.wasmi_types.specs.declared.value.ValType.{ValType}
 use Rattle.wasmi_types.specs.declared.value.ValType.TheVariants.{I32, I64, F32, F64, V128, FuncRef, ExternRef}

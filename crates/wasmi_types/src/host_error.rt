@@ -1,3 +1,5 @@
+//! Errors of the host.
+
 use std::fmt::{Debug, Display};
 
 /// An error of the host, which a [`Trap`](crate::Trap) can carry.

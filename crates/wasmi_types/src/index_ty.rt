@@ -1,3 +1,5 @@
+//! The types of addresses and of table indices.
+
 ghost use Rattle.std.specs.Prelude.{◌≡◌, ◌↔◌, ◌^◌, IsTrue};
 ghost use Rattle.wasmi_types.specs.IndexType.{address_type, address_bits, narrower};
 

@@ -1,3 +1,5 @@
+//! Value types and reference types.
+
 ghost use Rattle.std.specs.Prelude.{◌≡◌, is_some};
 ghost use Rattle.wasmi_types.specs.Value.{is_number_type, reference_of, value_of};
 

@@ -49,12 +49,13 @@ module _ (l l' : AtMost) where
     })
         result charge (record { value = x'; meter = m'; limiter = Some l' })
 
-    -- so the limiter stays after a growth, and no more than it permits is there
+    -- so the limiter stays after a growth
     pub grown_stays : (pages : ℕ) (result : Result ℕ MemoryError) (charge : ℕ) → Grown pages result charge → l' ≡ l
     grown_stays pages result charge (inl none) = same_Some l' l (ap (λ (s : MeteredValue MemoryValue (Option AtMost)).
         s.limiter) none.same)
     grown_stays pages result charge (inr some) = limiter_stays (growth_of x pages) some.outcome some.attempt.follows
 
+    -- and a memory that was within the limit is so after a growth
     pub grown_within : (pages : ℕ) (result : Result ℕ MemoryError) (charge : ℕ) → Grown pages result charge
         → length x.bytes ≤ l.bytes → length x'.bytes ≤ l.bytes
     grown_within pages result charge (inl none) small =

@@ -1,3 +1,5 @@
+//! What the tests share: comparisons, of values and of their texts.
+
 mod function_types;
 mod globals;
 mod raw_values;

@@ -1,3 +1,5 @@
+//! Loads and stores of numbers, up to the last byte and past it.
+
 use super::{same, same_rows};
 use std::fmt::Debug;
 use std::process::Abort;

@@ -1,3 +1,5 @@
+//! Lanes: their indices, reading and writing one, and operations on each.
+
 use super::same_rows;
 use wasmi_lanes::laws::{
     differences_of_lanes, lanes_there_and_back, sums_of_lanes, tops_of_different_lanes,

@@ -1,3 +1,5 @@
+//! Lane by lane vector instructions, of which none lets a lane touch its neighbours.
+
 use super::same_rows;
 use wasmi_lanewise::simd::*;
 use wasmi_raw::V128;

@@ -1,3 +1,5 @@
+//! Scalar instructions, on numbers at the bounds of their types too.
+
 use super::{same, same_rows};
 use std::fmt::Debug;
 use std::process::Abort;

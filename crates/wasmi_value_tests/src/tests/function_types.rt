@@ -1,3 +1,5 @@
+//! Function types: how they are made, copied, compared and hashed, and what is refused.
+
 use super::{same, same_text};
 use FuncTypeError::{TooManyFunctionParams, TooManyFunctionResults};
 use ValType::{ExternRef, F32, F64, I32, I64, V128};

@@ -1,3 +1,5 @@
+//! Global variables: which can be written, and the errors of it.
+
 ghost use Rattle.std.specs.Prelude.{◌≡◌};
 ghost use Rattle.wasmi_typed.specs.Global.{with_value};
 

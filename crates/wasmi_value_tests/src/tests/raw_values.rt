@@ -1,3 +1,5 @@
+//! Raw values: what is written and read back, and how they compare.
+
 use super::same;
 use std::fmt::Debug;
 use std::num::{

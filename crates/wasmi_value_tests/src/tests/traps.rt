@@ -1,3 +1,5 @@
+//! Traps and trap codes: their numbers, their texts, and what a trap carries.
+
 use super::{same, same_text};
 use std::alloc::Global;
 use std::fmt;

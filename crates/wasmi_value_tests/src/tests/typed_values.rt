@@ -1,3 +1,5 @@
+//! Raw values with their types, and the amounts of shifts.
+
 use super::same;
 use std::num::{NonZeroI32, NonZeroI64, NonZeroU32, NonZeroU64};
 use std::process::Abort;

@@ -1,3 +1,5 @@
+//! Value types, reference types and index types, and hints.
+
 use super::same;
 use ValType::{ExternRef, F32, F64, FuncRef, I32, I64, V128};
 use wasmi_types::{IndexType, RefType, ValType, hint};
