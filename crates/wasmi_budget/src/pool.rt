@@ -16,7 +16,7 @@ use wasmi_core::{Call, Machine, Reply, run_reserving};
 pub enum AddError {
     /// The machine has bytes or elements, or had some that it dropped.
     NotEmpty,
-    /// Memory was refused.
+    /// Memory for one more tenant was refused.
     NoRoom,
 }
 
@@ -25,7 +25,7 @@ pub enum AddError {
 pub enum PoolError {
     /// No tenant has the index.
     NoTenant,
-    /// Room for the replies was refused.
+    /// Memory for the replies, one for each call, was refused. No call was answered.
     OutOfMemory,
 }
 

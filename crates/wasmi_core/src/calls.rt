@@ -15,8 +15,12 @@ use wasmi_vector_ops::{
 };
 
 /// One call on a machine. Memories, tables, element segments and globals go by their indices, which
-/// count from 0 for each kind and aren't used again. Registers go by their numbers from 0 to 15;
-/// `dst` is the one that takes the result, and a refused call keeps it.
+/// count from 0 for each kind and aren't used again: there is no such memory or table once it is
+/// dropped. Registers go by their numbers from 0 to 15; `dst` is the one that takes the result, and
+/// a refused call keeps it.
+///
+/// Replies stand in the order of the tests: the first that applies is the reply. `Memory` and
+/// `Table` carry what the method of `Memory` or `Table` answers.
 #[derive(Debug, Drop)]
 pub enum Call {
     /// Sets the fuel that is left: `Done`, or `Fuel` where metering is off.
@@ -30,36 +34,39 @@ pub enum Call {
     /// `NoRegion` where there is no spare region, `NoRoom` where its slot can't be had, or
     /// `Memory`. But for `NoRegion` and `NoRoom` the region is spent.
     NewLentMemory(MemoryType),
-    /// Grows a memory by so many pages: `Number` of the old size in pages, or `Memory`.
+    /// Grows a memory by so many pages: `Number` of the old size in pages, `NoSuch` where there is
+    /// no such memory, or `Memory`.
     GrowMemory {
         memory: usize,
         pages: u64,
     },
     /// Drops a memory, whose bytes are given back; its size still counts in the machine's total:
-    /// `Done`.
+    /// `Done`, or `NoSuch` where there is no such memory.
     DropMemory(usize),
-    /// So many bytes of a memory: `Bytes`, `Memory` where they end past it, or then `NoRoom` where
-    /// the reply's buffer can't be had.
+    /// So many bytes of a memory: `Bytes`, `NoSuch` where there is no such memory, `Memory` where
+    /// they end past it, or then `NoRoom` where the reply's buffer can't be had.
     Read {
         memory: usize,
         offset: usize,
         len: usize,
     },
-    /// Writes bytes over those of a memory from an offset on: `Done`, or `Memory` where they would
-    /// end past it.
+    /// Writes bytes over those of a memory from an offset on: `Done`, `NoSuch` where there is no
+    /// such memory, or `Memory` where they would end past it.
     Write {
         memory: usize,
         offset: usize,
         bytes: Vec<u8>,
     },
-    /// Loads a number from a memory at `ptr + offset`: `Value`, or `Trap` where it ends past it.
+    /// Loads a number from a memory at `ptr + offset`: `Value`, `NoSuch` where there is no such
+    /// memory, or `Trap` where it ends past it.
     Load {
         op: LoadOp,
         memory: usize,
         ptr: u64,
         offset: u64,
     },
-    /// Stores a number to a memory at `ptr + offset`: `Done`, or `Trap` where it would end past it.
+    /// Stores a number to a memory at `ptr + offset`: `Done`, `NoSuch` where there is no such
+    /// memory, or `Trap` where it would end past it.
     Store {
         op: StoreOp,
         memory: usize,
@@ -73,27 +80,34 @@ pub enum Call {
         ty: TableType,
         init: TypedRawRef,
     },
-    /// Grows a table by so many elements: `Number` of the old size in elements, or `Table`.
+    /// Grows a table by so many elements: `Number` of the old size in elements, `NoSuch` where
+    /// there is no such table, or `Table`.
     GrowTable {
         table: usize,
         delta: u64,
         init: TypedRawRef,
     },
     /// Drops a table, whose elements are given back; its size still counts in the machine's total:
-    /// `Done`.
+    /// `Done`, or `NoSuch` where there is no such table.
     DropTable(usize),
-    /// The element of a table, if there is one: `Reference`.
+    /// The element of a table, if there is one: `Reference`, or `NoSuch` where there is no such
+    /// table.
     GetElement {
         table: usize,
         index: u64,
     },
-    /// Sets an element of a table: `Done` or `Table`.
+    /// Sets an element of a table: `Done`, `NoSuch` where there is no such table, or `Table` with
+    /// `ElementTypeMismatch` where the reference isn't of the type of the elements, then
+    /// `SetOutOfBounds` where the index is past the end.
     SetElement {
         table: usize,
         index: u64,
         value: TypedRawRef,
     },
-    /// Copies a part of an element segment to a table: `Done` or `Table`.
+    /// Copies so many items of an element segment, from `src` on, over the elements of a table from
+    /// `dst` on: `Done`, `NoSuch` where there is no such segment or table, or `Table` with
+    /// `ElementTypeMismatch` where their types differ, then `InitOutOfBounds` where a range ends
+    /// past the segment or the table, then `OutOfFuel`; no item costs no fuel.
     InitTable {
         table: usize,
         segment: usize,
@@ -101,7 +115,11 @@ pub enum Call {
         src: u32,
         len: u32,
     },
-    /// Copies a part of a table to another or within it: `Done` or `Table`.
+    /// Copies so many elements of a table, from `src` on, over those of another or of itself from
+    /// `dst` on: `Done`, `NoSuch` where there is no such table, or `Table` with
+    /// `ElementTypeMismatch` where their types differ, then `CopyOutOfBounds` where a range ends
+    /// past its table, then `OutOfFuel`, also for no element. Where ranges of one table overlap,
+    /// the old elements are copied.
     CopyTable {
         dst_table: usize,
         dst: u64,
@@ -109,7 +127,10 @@ pub enum Call {
         src: u64,
         len: u64,
     },
-    /// Fills a part of a table with a reference: `Done` or `Table`.
+    /// Fills so many elements of a table with a reference, from `dst` on: `Done`, `NoSuch` where
+    /// there is no such table, or `Table` with `ElementTypeMismatch` where the reference isn't of
+    /// the type of the elements, then `FillOutOfBounds` where they end past the table, then
+    /// `OutOfFuel`, also for no element.
     FillTable {
         table: usize,
         dst: u64,
@@ -122,47 +143,51 @@ pub enum Call {
         ty: RefType,
         items: Vec<RawRef>,
     },
-    /// Drops the items of an element segment, which stays: `Done`.
+    /// Drops the items of an element segment, which stays: `Done`, or `NoSuch` where there is no
+    /// such segment.
     DropItems(usize),
     /// Makes a global: `Made` with its index, or `NoRoom` where its slot can't be had.
     NewGlobal {
         value: RawVal,
         ty: GlobalType,
     },
-    /// Sets a global: `Done` or `Global`.
+    /// Sets a global: `Done`, `NoSuch` where there is no such global, or `Global` with
+    /// `ImmutableWrite` where it is a constant, then `TypeMismatch` where the value isn't of its
+    /// type.
     SetGlobal {
         global: usize,
         value: TypedRawVal,
     },
-    /// The value of a global: `Value`.
+    /// The value of a global: `Value`, or `NoSuch` where there is no such global.
     GetGlobal(usize),
-    /// Sets a register: `Done`.
+    /// Sets a register: `Done`, or `NoSuch` where there is no such register.
     SetRegister {
         dst: u8,
         value: RawVal,
     },
-    /// The value of a register: `Value`.
+    /// The value of a register: `Value`, or `NoSuch` where there is no such register.
     GetRegister(u8),
-    /// Makes a vector of the item in register `a`: `Done`.
+    /// Makes a vector of the item in register `a`: `Done`, or `NoSuch` where there is no such
+    /// register.
     Make {
         op: MakeOp,
         dst: u8,
         a: u8,
     },
-    /// An instruction of one vector: `Done`.
+    /// An instruction of one vector: `Done`, or `NoSuch` where there is no such register.
     Unary {
         op: UnaryOp,
         dst: u8,
         a: u8,
     },
-    /// An instruction of two vectors: `Done`.
+    /// An instruction of two vectors: `Done`, or `NoSuch` where there is no such register.
     Binary {
         op: BinaryOp,
         dst: u8,
         a: u8,
         b: u8,
     },
-    /// An instruction of three vectors: `Done`.
+    /// An instruction of three vectors: `Done`, or `NoSuch` where there is no such register.
     Ternary {
         op: TernaryOp,
         dst: u8,
@@ -170,38 +195,41 @@ pub enum Call {
         b: u8,
         c: u8,
     },
-    /// Shifts the lanes of a vector: `Done`.
+    /// Shifts the lanes of a vector by `amount` modulo their width: `Done`, or `NoSuch` where there
+    /// is no such register.
     Shift {
         op: ShiftOp,
         dst: u8,
         a: u8,
         amount: u32,
     },
-    /// Tests a vector, or takes its mask: `Value`.
+    /// Tests a vector, or takes its mask: `Value`, or `NoSuch` where there is no such register.
     Test {
         op: TestOp,
         a: u8,
     },
-    /// Takes a lane from a vector: `Value`.
+    /// Takes a lane from a vector: `Value`, or `NoSuch` where there is no such register.
     Extract {
         op: ExtractOp,
         a: u8,
     },
-    /// Puts the item in register `item` into a lane of a vector: `Done`.
+    /// Puts the item in register `item` into a lane of a vector: `Done`, or `NoSuch` where there is
+    /// no such register.
     Replace {
         op: ReplaceOp,
         dst: u8,
         a: u8,
         item: u8,
     },
-    /// Picks bytes of two vectors: `Done`.
+    /// Picks bytes of two vectors: `Done`, or `NoSuch` where there is no such register.
     Shuffle {
         dst: u8,
         a: u8,
         b: u8,
         lanes: [ImmLaneIdx32; 16],
     },
-    /// Loads a vector from a memory at `ptr + offset`: `Done`, or `Trap` where it ends past it.
+    /// Loads a vector from a memory at `ptr + offset`: `Done`, `NoSuch` where there is no such
+    /// memory or register, or `Trap` where it ends past it.
     VectorLoad {
         op: VectorLoadOp,
         dst: u8,
@@ -209,8 +237,8 @@ pub enum Call {
         ptr: u64,
         offset: u64,
     },
-    /// Loads a lane of a vector from a memory at `ptr + offset`: `Done`, or `Trap` where it ends
-    /// past it.
+    /// Loads a lane of a vector from a memory at `ptr + offset`: `Done`, `NoSuch` where there is no
+    /// such memory or register, or `Trap` where it ends past it.
     LoadLane {
         op: LoadLaneOp,
         dst: u8,
@@ -219,15 +247,16 @@ pub enum Call {
         ptr: u64,
         offset: u64,
     },
-    /// Stores a vector to a memory at `ptr + offset`: `Done`, or `Trap` where it would end past it.
+    /// Stores a vector to a memory at `ptr + offset`: `Done`, `NoSuch` where there is no such
+    /// memory or register, or `Trap` where it would end past it.
     VectorStore {
         a: u8,
         memory: usize,
         ptr: u64,
         offset: u64,
     },
-    /// Stores a lane of a vector to a memory at `ptr + offset`: `Done`, or `Trap` where it would
-    /// end past it.
+    /// Stores a lane of a vector to a memory at `ptr + offset`: `Done`, `NoSuch` where there is no
+    /// such memory or register, or `Trap` where it would end past it.
     StoreLane {
         op: StoreLaneOp,
         a: u8,
@@ -260,15 +289,17 @@ impl Call {
 /// The reply to one call.
 #[derive(Debug, Drop, PartialEq, Eq)]
 pub enum Reply {
-    /// It is done.
+    /// The call is done, and answers nothing else.
     Done,
-    /// The index of what was made.
+    /// The index of the memory, table, element segment or global that was made.
     Made(usize),
-    /// A raw value.
+    /// The value of a global or a register, or a number that `Load`, `Test` or `Extract` gives, in
+    /// the low word.
     Value(RawVal),
-    /// A number.
+    /// The old size, of `GrowMemory` in pages, of `GrowTable` in elements, or the fuel that is left,
+    /// of `GetFuel`.
     Number(u64),
-    /// The bytes that were read.
+    /// The bytes that `Read` asked for.
     Bytes(ByteList),
     /// An element of a table, or none past its end.
     Reference(Option<TypedRawRef>),
@@ -282,9 +313,10 @@ pub enum Reply {
     Global(GlobalError),
     /// Why an element segment could not be made.
     Segment(SegmentError),
-    /// Why an instruction trapped.
+    /// Why a load or a store trapped: `MemoryOutOfBounds`.
     Trap(TrapCode),
-    /// An index or a register names nothing; nothing was asked or changed.
+    /// There is no such memory, table, element segment, global or register. It is tested first;
+    /// nothing was asked or changed.
     NoSuch,
     /// There is no spare region; nothing was asked or changed.
     NoRegion,
@@ -292,7 +324,8 @@ pub enum Reply {
     NoRoom,
 }
 
-/// A list of bytes.
+/// The bytes of a reply, with a memory of their own: what is read stays as it was when the memory
+/// is written, grown or dropped. Two lists are equal where their bytes are.
 #[derive(Debug, Drop)]
 pub struct ByteList {
     bytes: Vec<u8>,

@@ -178,6 +178,7 @@ impl FuelCostsProvider {
 /// Upstream: `wasmi_core::FuelError`.
 #[derive(Clone, Debug, PartialEq, Eq, Drop)]
 pub enum FuelError {
+    /// The meter is off: it has no fuel to set, to tell or to take.
     FuelMeteringDisabled,
     /// So much was asked for, and less is left. The text is upstream's.
     OutOfFuel { required_fuel: u64 },

@@ -39,8 +39,8 @@ impl Unsigned for i64 {
 
 /// An integer type of WebAssembly.
 ///
-/// Upstream: `Integer`, private there. The amount of a shift or a rotation is taken modulo the
-/// width.
+/// Upstream: `Integer`, private there. An amount is read unsigned: a shift by -1 is one by the
+/// width less 1.
 pub trait Integer: Unsigned + Number {
     /// Whether the number is 0.
     fn is_zero(self) -> bool
@@ -58,25 +58,27 @@ pub trait Integer: Unsigned + Number {
     fn count_ones(self) -> Self
         ensures { Self.number result ≡ ipopcnt Self.width (Self.number self) };
 
-    /// Shifts to the left.
+    /// Shifts to the left by `rhs` modulo the width, filling with zeros.
     fn shl(lhs: Self, rhs: Self) -> Self
         ensures { Self.number result ≡ ishl Self.width (Self.number lhs) (Self.number rhs) };
 
-    /// Shifts to the right, filling with the highest bit.
+    /// Shifts to the right by `rhs` modulo the width, filling with the highest bit.
     fn shr_s(lhs: Self, rhs: Self) -> Self
         ensures { Self.number result ≡ ishr_s Self.width (Self.number lhs) (Self.number rhs) };
 
-    /// Shifts to the right, filling with zeros.
+    /// Shifts to the right by `rhs` modulo the width, filling with zeros.
     fn shr_u(lhs: Self::Uint, rhs: Self::Uint) -> Self::Uint
         ensures { unsigned_abs (Self.Uint.number result)
             ≡ ishr_u Self.width (unsigned_abs (Self.Uint.number lhs))
             (unsigned_abs (Self.Uint.number rhs)) };
 
-    /// Rotates to the left.
+    /// Rotates to the left by `rhs` modulo the width: the bits that leave at the top come in at the
+    /// bottom.
     fn rotl(lhs: Self, rhs: Self) -> Self
         ensures { Self.number result ≡ irotl Self.width (Self.number lhs) (Self.number rhs) };
 
-    /// Rotates to the right.
+    /// Rotates to the right by `rhs` modulo the width: the bits that leave at the bottom come in at
+    /// the top.
     fn rotr(lhs: Self, rhs: Self) -> Self
         ensures { Self.number result ≡ irotr Self.width (Self.number lhs) (Self.number rhs) };
 

@@ -1,5 +1,43 @@
 //! What the tests share: scripts that are run, and comparisons with what they have to print.
 
+// Lines, and beside each what is printed for it; after a `;` stands what is printed at the end. An
+// empty last line is a line feed at the end.
+macro_rules! script {
+    (
+        $first:expr $(=> $first_printed:expr)?
+        $(, $line:expr $(=> $printed:expr)?)* $(,)?
+        $(; $($last:expr),+ $(,)?)?
+    ) => {
+        $crate::tests::Script {
+            text: concat!($first $(, "\n", $line)*),
+            printed: concat!(
+                $($first_printed, "\n",)?
+                $($($printed, "\n",)?)*
+                $($($last, "\n",)+)?
+            ),
+        }
+    };
+}
+
+// A script whose calls are answered, with one more header line or none, and what is held then.
+macro_rules! metered {
+    ($($header:literal; $held:literal)?) => {
+        script! {
+            "meter on 64",
+            $($header,)?
+            "fuel 2000" => "done",
+            "memory 1 2 16 32" => "memory 0",
+            "write 0 65535 44" => "done",
+            "grow 0 1" => "value 1",
+            "grow 0 1" => "error out of bounds memory growth",
+            "read 0 65535 2" => "bytes 44 0",
+            "left" => "value 976",
+            ""
+            $(; $held)?
+        }
+    };
+}
+
 mod accesses;
 mod bad_lines;
 mod comparison;
@@ -24,14 +62,17 @@ use std::str;
 use streams::{Source, Target};
 use wasmi_script::{Status, replay};
 
-// A script whose calls are answered, and what it prints.
-const METERED: &str =
-    "meter on 64\nfuel 2000\nmemory 1 2 16 32\nwrite 0 65535 44\ngrow 0 1\ngrow 0 1\nread 0 65535 2\nleft\n";
+// A text, and all that is printed for it.
+#[derive(Clone, Copy)]
+struct Script {
+    text: &'static str,
+    printed: &'static str,
+}
 
-const METERED_PRINTED: &str =
-    "done\nmemory 0\ndone\nvalue 1\nerror out of bounds memory growth\nbytes 44 0\nvalue 976\n";
+// A script whose calls are answered.
+const METERED: Script = metered! {};
 
-fn same<T: PartialEq + Debug + Drop>(rt: &impl Abort, answer: T, expected: T, what: &str) {
+fn same<T: PartialEq + Debug + Drop>(rt: &impl Abort, what: &str, answer: T, expected: T) {
     assert_eq!(rt; answer, expected, "{what}");
 }
 
@@ -44,7 +85,7 @@ fn same_text(rt: &impl Abort, printed: &[u8], expected: &[u8]) {
 fn prints<R: Abort>(rt: &R, alloc: Global, reader: &mut Source<'_>, printed: &str, status: Status) {
     let mut writer = Target::new(alloc);
     let ended = replay(alloc, reader, &mut writer);
-    same(rt, ended, status, printed);
+    same(rt, printed, ended, status);
     same_text(rt, writer.text(), printed.as_bytes());
 }
 
@@ -54,9 +95,9 @@ fn answers<R: Abort>(rt: &R, alloc: Global, script: &str, printed: &str) {
     prints(rt, alloc, &mut reader, printed, Status::Answered);
 }
 
-// Scripts whose calls are answered, and what they print.
-fn answers_each<R: Abort>(rt: &R, alloc: Global, rows: &[(&str, &str)]) {
-    for (script, printed) in rows {
-        answers(rt, alloc, script, printed);
+// Scripts whose calls are answered.
+fn answers_each<R: Abort>(rt: &R, alloc: Global, scripts: &[Script]) {
+    for script in scripts {
+        answers(rt, alloc, script.text, script.printed);
     }
 }

@@ -1,4 +1,28 @@
 //! What the tests share: comparisons, types of memories, and references and tables of them.
+/// A row in which the limiter gives another answer to the question of a row, and is obeyed.
+macro_rules! denied {
+    ($row:ident, $what:literal, $answer:expr, $base:ident) => {
+        $row {
+            what: $what,
+            answer: $answer,
+            outcome: Err(DENIED),
+            ..$base
+        }
+    };
+}
+
+/// A row in which the limiter accepts the notice of a row by an error.
+macro_rules! complained {
+    ($row:ident, $what:literal, $base:ident) => {
+        $row {
+            what: concat!($what, ", and the limiter accepts with an error"),
+            notice_answer: Err(COMPLAINT),
+            outcome: Err(DENIED),
+            ..$base
+        }
+    };
+}
+
 mod buffers;
 mod creations;
 mod errors;

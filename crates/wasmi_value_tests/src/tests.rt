@@ -13,12 +13,12 @@ use std::fmt::{Debug, Display};
 use std::process::Abort;
 
 /// Compares an answer with what it has to be. It is proved here once, and not at each row.
-fn same<T: PartialEq + Debug + Drop>(rt: &impl Abort, answer: T, expected: T) {
-    assert_eq!(rt; answer, expected);
+fn same<T: PartialEq + Debug + Drop>(rt: &impl Abort, what: &str, answer: T, expected: T) {
+    assert_eq!(rt; answer, expected, "{what}");
 }
 
 /// Compares the text of a value with what it has to be.
 fn same_text(rt: &impl Abort, alloc: Global, value: &impl Display, expected: &str) {
     let text = format!(in alloc; "{value}").expect(rt, "memory");
-    same(rt, text.as_str(), expected);
+    same(rt, "a text", text.as_str(), expected);
 }

@@ -24,7 +24,8 @@ pub enum ExtractOp {
 }
 
 impl ExtractOp {
-    /// The lane.
+    /// The lane in the low bits of a raw value: one of 8 or 16 bits extended to 32, by its sign
+    /// (`_s`) or by zeros (`_u`), one of 32 or 64 bits as it is. All higher bits are 0.
     #[inline]
     pub fn apply(self, a: V128) -> RawVal
         ensures { result ≡ extracted_raw self a }

@@ -7,78 +7,148 @@ use super::call::{binary, quaternary, unary};
 use crate::scalar_answer::ScalarAnswer;
 use wasmi_scalar::wasm;
 
-/// A scalar integer instruction.
+/// A scalar integer instruction, a variant for each function of `wasmi_scalar::wasm`.
 #[derive(Clone, Copy)]
 pub enum Instruction {
+    /// `i32_add`
     I32Add,
+    /// `i32_sub`
     I32Sub,
+    /// `i32_mul`
     I32Mul,
+    /// `i32_bitand`
     I32Bitand,
+    /// `i32_bitor`
     I32Bitor,
+    /// `i32_bitxor`
     I32Bitxor,
+    /// `i32_shl`
     I32Shl,
+    /// `i32_shr_s`
     I32ShrS,
+    /// `i32_shr_u`
     I32ShrU,
+    /// `i32_rotl`
     I32Rotl,
+    /// `i32_rotr`
     I32Rotr,
+    /// `i32_div_s`
     I32DivS,
+    /// `i32_div_u`
     I32DivU,
+    /// `i32_rem_s`
     I32RemS,
+    /// `i32_rem_u`
     I32RemU,
+    /// `i32_clz`
     I32Clz,
+    /// `i32_ctz`
     I32Ctz,
+    /// `i32_popcnt`
     I32Popcnt,
+    /// `i32_eqz`
     I32Eqz,
+    /// `i32_eq`
     I32Eq,
+    /// `i32_ne`
     I32Ne,
+    /// `i32_lt_s`
     I32LtS,
+    /// `i32_lt_u`
     I32LtU,
+    /// `i32_le_s`
     I32LeS,
+    /// `i32_le_u`
     I32LeU,
+    /// `i32_gt_s`
     I32GtS,
+    /// `i32_gt_u`
     I32GtU,
+    /// `i32_ge_s`
     I32GeS,
+    /// `i32_ge_u`
     I32GeU,
+    /// `i64_add`
     I64Add,
+    /// `i64_sub`
     I64Sub,
+    /// `i64_mul`
     I64Mul,
+    /// `i64_bitand`
     I64Bitand,
+    /// `i64_bitor`
     I64Bitor,
+    /// `i64_bitxor`
     I64Bitxor,
+    /// `i64_shl`
     I64Shl,
+    /// `i64_shr_s`
     I64ShrS,
+    /// `i64_shr_u`
     I64ShrU,
+    /// `i64_rotl`
     I64Rotl,
+    /// `i64_rotr`
     I64Rotr,
+    /// `i64_div_s`
     I64DivS,
+    /// `i64_div_u`
     I64DivU,
+    /// `i64_rem_s`
     I64RemS,
+    /// `i64_rem_u`
     I64RemU,
+    /// `i64_clz`
     I64Clz,
+    /// `i64_ctz`
     I64Ctz,
+    /// `i64_popcnt`
     I64Popcnt,
+    /// `i64_eqz`
     I64Eqz,
+    /// `i64_eq`
     I64Eq,
+    /// `i64_ne`
     I64Ne,
+    /// `i64_lt_s`
     I64LtS,
+    /// `i64_lt_u`
     I64LtU,
+    /// `i64_le_s`
     I64LeS,
+    /// `i64_le_u`
     I64LeU,
+    /// `i64_gt_s`
     I64GtS,
+    /// `i64_gt_u`
     I64GtU,
+    /// `i64_ge_s`
     I64GeS,
+    /// `i64_ge_u`
     I64GeU,
+    /// `i32_wrap_i64`
     I32WrapI64,
+    /// `i64_extend_i32_s`
     I64ExtendI32S,
+    /// `i64_extend_i32_u`
     I64ExtendI32U,
+    /// `i32_extend8_s`
     I32Extend8S,
+    /// `i32_extend16_s`
     I32Extend16S,
+    /// `i64_extend8_s`
     I64Extend8S,
+    /// `i64_extend16_s`
     I64Extend16S,
+    /// `i64_extend32_s`
     I64Extend32S,
+    /// `i64_add128`
     I64Add128,
+    /// `i64_sub128`
     I64Sub128,
+    /// `i64_mul_wide_s`
     I64MulWideS,
+    /// `i64_mul_wide_u`
     I64MulWideU,
 }
 

@@ -1,6 +1,6 @@
 //! Tables of answers.
 use super::streams::{After, Source, Target};
-use super::{same, same_text};
+use super::{Script, same, same_text};
 use std::alloc::Global;
 use std::io::ErrorKind;
 use std::process::Abort;
@@ -17,53 +17,86 @@ fn compares<R: Abort>(
 ) {
     let mut writer = Target::new(alloc);
     let ended = compare(alloc, table, &mut writer);
-    same(rt, ended, status, printed);
+    same(rt, printed, ended, status);
     same_text(rt, writer.text(), printed.as_bytes());
 }
 
-// Tables, what is printed of them, and how that ends.
-const TABLES: [(&str, &str, CheckStatus); 7] = [
+// Tables with what is printed of them, and how that ends.
+const TABLES: [(Script, CheckStatus); 7] = [
     (
-        "i32_div_s -2147483648 -1 -> trap IntegerOverflow\ni64_mul_wide_u -1 -1 -> 1 -2\ni32_eqz 0 -> 1",
-        "3 agree, 0 don't\n",
+        script! {
+            "i32_div_s -2147483648 -1 -> trap IntegerOverflow",
+            "i64_mul_wide_u -1 -1 -> 1 -2",
+            "i32_eqz 0 -> 1";
+            "3 agree, 0 don't",
+        },
         CheckStatus::Agreed,
     ),
     (
-        "i32_add 1 1 -> 3\ni64_lt_u 1 2 -> 0\ni64_add128 -1 0 1 0 -> 0 0\n",
-        "line 1: the answer is 2\nline 2: the answer is 1\nline 3: the answer is 0 1\n0 agree, 3 don't\n",
+        script! {
+            "i32_add 1 1 -> 3" => "line 1: the answer is 2",
+            "i64_lt_u 1 2 -> 0" => "line 2: the answer is 1",
+            "i64_add128 -1 0 1 0 -> 0 0" => "line 3: the answer is 0 1",
+            "";
+            "0 agree, 3 don't",
+        },
         CheckStatus::Differed,
     ),
     (
-        "i32_rem_u 1 0 -> trap IntegerOverflow\ni32_add 1 1 -> 2\n",
-        "line 1: the answer is trap IntegerDivisionByZero\n1 agree, 1 don't\n",
+        script! {
+            "i32_rem_u 1 0 -> trap IntegerOverflow" =>
+                "line 1: the answer is trap IntegerDivisionByZero",
+            "i32_add 1 1 -> 2",
+            "";
+            "1 agree, 1 don't",
+        },
         CheckStatus::Differed,
     ),
     (
-        "i32_add 1 2147483648 -> 0\n\ni32_add 1 -> 1\ni32_none 1 1 -> 2\ni32_add 1 1 -> 2\r\ni32_add 1 +1 -> 2",
-        "line 1: malformed\nline 2: malformed\nline 3: malformed\nline 4: malformed\nline 5: malformed\nline 6: malformed\n0 agree, 6 don't\n",
+        script! {
+            "i32_add 1 2147483648 -> 0" => "line 1: malformed",
+            "" => "line 2: malformed",
+            "i32_add 1 -> 1" => "line 3: malformed",
+            "i32_none 1 1 -> 2" => "line 4: malformed",
+            "i32_add 1 1 -> 2\r" => "line 5: malformed",
+            "i32_add 1 +1 -> 2" => "line 6: malformed";
+            "0 agree, 6 don't",
+        },
         CheckStatus::Differed,
     ),
     (
-        "i8x16_add 1 0 255 0 -> 0 0\ni32_add 1 1 -> 2",
-        "line 1: malformed\n1 agree, 1 don't\n",
+        script! {
+            "i8x16_add 1 0 255 0 -> 0 0" => "line 1: malformed",
+            "i32_add 1 1 -> 2";
+            "1 agree, 1 don't",
+        },
         CheckStatus::Differed,
     ),
-    ("", "0 agree, 0 don't\n", CheckStatus::Differed),
     (
-        "\n",
-        "line 1: malformed\n0 agree, 1 don't\n",
+        script! {
+            "";
+            "0 agree, 0 don't",
+        },
+        CheckStatus::Differed,
+    ),
+    (
+        script! {
+            "" => "line 1: malformed",
+            "";
+            "0 agree, 1 don't",
+        },
         CheckStatus::Differed,
     ),
 ];
 
 #[test]
 fn compares_lines(rt: HostRuntime) {
-    for (table, printed, status) in TABLES {
+    for (table, status) in TABLES {
         compares(
             &rt,
             rt.alloc(),
-            Source::of(table.as_bytes()),
-            printed,
+            Source::of(table.text.as_bytes()),
+            table.printed,
             status,
         );
     }
@@ -101,20 +134,23 @@ fn tells_of_faults(rt: HostRuntime) {
 }
 
 // A table of which two lines don't agree, and what is printed of it.
-const MIXED: &str = "i32_eqz 1 -> 1\ni32_eqz 0 -> 1\ni32_none 1 -> 1";
-
-const MIXED_PRINTED: &str = "line 1: the answer is 0\nline 3: malformed\n1 agree, 2 don't\n";
+const MIXED: Script = script! {
+    "i32_eqz 1 -> 1" => "line 1: the answer is 0",
+    "i32_eqz 0 -> 1",
+    "i32_none 1 -> 1" => "line 3: malformed";
+    "1 agree, 2 don't",
+};
 
 #[test]
 fn reads_from_slow_readers(rt: HostRuntime) {
     for at_once in [1, 2, 7, 30] {
-        let mut reader = Source::of(MIXED.as_bytes());
+        let mut reader = Source::of(MIXED.text.as_bytes());
         reader.at_once = at_once;
         compares(
             &rt,
             rt.alloc(),
             reader,
-            MIXED_PRINTED,
+            MIXED.printed,
             CheckStatus::Differed,
         );
     }
@@ -123,10 +159,10 @@ fn reads_from_slow_readers(rt: HostRuntime) {
 // What of the mixed table's lines reaches this writer, which takes one byte a turn where its good
 // turns come to an end.
 fn ends<R: Abort>(rt: &R, alloc: Global, writer: &mut Target, status: CheckStatus) {
-    let ended = compare(alloc, Source::of(MIXED.as_bytes()), writer);
-    same(rt, ended, status, "how it ends");
-    let sent = writer.good_turns.min(MIXED_PRINTED.len());
-    same_text(rt, writer.text(), &MIXED_PRINTED.as_bytes()[..sent]);
+    let ended = compare(alloc, Source::of(MIXED.text.as_bytes()), writer);
+    same(rt, "how it ends", ended, status);
+    let sent = writer.good_turns.min(MIXED.printed.len());
+    same_text(rt, writer.text(), &MIXED.printed.as_bytes()[..sent]);
 }
 
 #[test]
@@ -135,13 +171,13 @@ fn prints_to_slow_writers(rt: HostRuntime) {
         let mut writer = Target::new(rt.alloc());
         writer.at_once = at_once;
         ends(&rt, rt.alloc(), &mut writer, CheckStatus::Differed);
-        same(&rt, writer.is_flushed, true, "all is flushed");
+        same(&rt, "all is flushed", writer.is_flushed, true);
     }
 }
 
 #[test]
 fn tells_of_writers_that_fail(rt: HostRuntime) {
-    for good_turns in 0..MIXED_PRINTED.len() {
+    for good_turns in 0..MIXED.printed.len() {
         for after in [After::Fails(ErrorKind::BrokenPipe), After::TakesNothing] {
             let mut writer = Target::new(rt.alloc());
             writer.at_once = 1;

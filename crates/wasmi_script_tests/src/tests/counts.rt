@@ -41,7 +41,7 @@ fn answers_under<R: Abort>(
     let mut reader = Source::of(script.as_slice());
     let mut writer = Target::new(alloc);
     let ended = replay(alloc, &mut reader, &mut writer);
-    same(rt, ended, Status::Answered, first);
+    same(rt, first, ended, Status::Answered);
     same_text(rt, writer.text(), printed.as_slice());
     Ok(())
 }

@@ -9,20 +9,20 @@ use wasmi_script::{ReplayError, ReplyLine, Status};
 
 fn has_text<T: Display>(rt: &impl Abort, alloc: Global, value: &T, text: &str) -> Result<(), Fail> {
     let printed = format!(in alloc; "{value}")?;
-    same(rt, printed.as_str(), text, text);
+    same(rt, text, printed.as_str(), text);
     Ok(())
 }
 
 #[test]
 fn each_status_has_its_number(rt: HostRuntime) {
-    same(&rt, Status::Answered.code(), 0, "all is answered");
-    same(&rt, Status::BadScript.code(), 2, "a bad script");
-    same(&rt, Status::OutOfMemory.code(), 3, "want of memory");
+    same(&rt, "all is answered", Status::Answered.code(), 0);
+    same(&rt, "a bad script", Status::BadScript.code(), 2);
+    same(&rt, "want of memory", Status::OutOfMemory.code(), 3);
     same(
         &rt,
+        "a reader or writer that fails",
         Status::Fault.code(),
         4,
-        "a reader or writer that fails",
     );
 }
 

@@ -1,70 +1,105 @@
 //! Scripts whose calls are answered, and what they print.
-use super::{METERED, METERED_PRINTED, answers, answers_each};
+use super::{METERED, Script, answers, answers_each};
 use std::test::Fail;
 
-static ANSWERED: [(&str, &str); 17] = [
-    (METERED, METERED_PRINTED),
-    ("", ""),
-    (
-        "fuel 5\ngrow 0 1",
-        "error fuel metering is disabled\nno such\n",
-    ),
-    (
-        "memory 0 none 0 32\ngrow 0 3\nread 0 2 2\nread 0 3 0",
-        "memory 0\nvalue 0\nerror out of bounds memory access\nbytes\n",
-    ),
-    (
-        "meter on 64\nfuel 1000\nmemory 1 2 16 32\ngrow 0 1\nleft",
-        "done\nmemory 0\nerror not enough fuel. required=1024\nvalue 1000\n",
-    ),
-    (
-        "memory 1 1 16 32\ngrow 0 0\ngrow 0 1\nleft",
-        "memory 0\nvalue 1\nerror out of bounds memory growth\nerror fuel metering is disabled\n",
-    ),
-    (
-        "memory 0 none 0 32\nwrite 0 0\nwrite 0 0 1",
-        "memory 0\ndone\nerror out of bounds memory access\n",
-    ),
-    (
-        "meter on 64\nmemory 0 none 0 32\ngrow 0 63\ngrow 0 64",
-        "memory 0\nvalue 0\nerror not enough fuel. required=1\n",
-    ),
-    (
-        "\n  meter  on 0064 \n\n fuel  007  \nleft ",
-        "done\nvalue 7\n",
-    ),
-    (
-        "meter off\nmemory 1 none 16 64\nmemory 0 none 0 64\nread 1 0 1\nread 2 0 1",
-        "memory 0\nmemory 1\nerror out of bounds memory access\nno such\n",
-    ),
-    (
-        "meter on 64\nquota 131072 0\nfuel 2000\nmemory 1 2 16 32\nwrite 0 65535 44\ngrow 0 1\ngrow 0 1\nread 0 65535 2\nleft\n",
-        "done\nmemory 0\ndone\nvalue 1\nerror out of bounds memory growth\nbytes 44 0\nvalue 976\nheld 131072 0\n",
-    ),
-    (
-        "quota 65535 0\nmemory 1 none 16 32\nmemory 0 none 16 32\ngrow 0 0",
-        "error a resource limiter denied to allocate or grow the linear memory\nmemory 0\nvalue 0\nheld 0 0\n",
-    ),
-    (
-        "quota 131072 0\nmemory 1 none 16 32\ndrop memory 0\nmemory 1 none 16 32\nmemory 1 none 16 32",
-        "memory 0\ndone\nmemory 1\nerror a resource limiter denied to allocate or grow the linear memory\nheld 131072 0\n",
-    ),
-    (
-        "quota 65536 3\ntable func 2 none 32 func 0\ndrop table 0\ndrop table 0\ntgrow 0 1 func 0\ntable func 2 none 32 func 0\ntable func 1 none 32 func 0",
-        "table 0\ndone\nno such\nno such\nerror a resource limiter denied to allocate or grow the table\ntable 1\nheld 0 3\n",
-    ),
-    (
-        "memory 1 none 16 32\nstore i32_store8 0 0 0 300\nload i32_load8_u 0 0 0\nload load_u64 0 65529 0",
-        "memory 0\ndone\nraw 44 0\nerror out of bounds memory access\n",
-    ),
-    (
-        "memory 1 none 16 32\nwrite 0 0 255\nload i32_load8_s 0 0 0\nload i64_load8_s 0 0 0",
-        "memory 0\ndone\nraw 4294967295 0\nraw 18446744073709551615 0\n",
-    ),
-    (
-        "memory 1 none 16 32\nstore store32 0 65533 0 1\nread 0 65533 3\nload load_u32 0 18446744073709551615 1",
-        "memory 0\nerror out of bounds memory access\nbytes 0 0 0\nerror out of bounds memory access\n",
-    ),
+static ANSWERED: [Script; 17] = [
+    METERED,
+    script! { "" },
+    script! {
+        "fuel 5" => "error fuel metering is disabled",
+        "grow 0 1" => "no such",
+    },
+    script! {
+        "memory 0 none 0 32" => "memory 0",
+        "grow 0 3" => "value 0",
+        "read 0 2 2" => "error out of bounds memory access",
+        "read 0 3 0" => "bytes",
+    },
+    script! {
+        "meter on 64",
+        "fuel 1000" => "done",
+        "memory 1 2 16 32" => "memory 0",
+        "grow 0 1" => "error not enough fuel. required=1024",
+        "left" => "value 1000",
+    },
+    script! {
+        "memory 1 1 16 32" => "memory 0",
+        "grow 0 0" => "value 1",
+        "grow 0 1" => "error out of bounds memory growth",
+        "left" => "error fuel metering is disabled",
+    },
+    script! {
+        "memory 0 none 0 32" => "memory 0",
+        "write 0 0" => "done",
+        "write 0 0 1" => "error out of bounds memory access",
+    },
+    script! {
+        "meter on 64",
+        "memory 0 none 0 32" => "memory 0",
+        "grow 0 63" => "value 0",
+        "grow 0 64" => "error not enough fuel. required=1",
+    },
+    script! {
+        "",
+        "  meter  on 0064 ",
+        "",
+        " fuel  007  " => "done",
+        "left " => "value 7",
+    },
+    script! {
+        "meter off",
+        "memory 1 none 16 64" => "memory 0",
+        "memory 0 none 0 64" => "memory 1",
+        "read 1 0 1" => "error out of bounds memory access",
+        "read 2 0 1" => "no such",
+    },
+    metered! { "quota 131072 0"; "held 131072 0" },
+    script! {
+        "quota 65535 0",
+        "memory 1 none 16 32" =>
+            "error a resource limiter denied to allocate or grow the linear memory",
+        "memory 0 none 16 32" => "memory 0",
+        "grow 0 0" => "value 0";
+        "held 0 0",
+    },
+    script! {
+        "quota 131072 0",
+        "memory 1 none 16 32" => "memory 0",
+        "drop memory 0" => "done",
+        "memory 1 none 16 32" => "memory 1",
+        "memory 1 none 16 32" =>
+            "error a resource limiter denied to allocate or grow the linear memory";
+        "held 131072 0",
+    },
+    script! {
+        "quota 65536 3",
+        "table func 2 none 32 func 0" => "table 0",
+        "drop table 0" => "done",
+        "drop table 0" => "no such",
+        "tgrow 0 1 func 0" => "no such",
+        "table func 2 none 32 func 0" =>
+            "error a resource limiter denied to allocate or grow the table",
+        "table func 1 none 32 func 0" => "table 1";
+        "held 0 3",
+    },
+    script! {
+        "memory 1 none 16 32" => "memory 0",
+        "store i32_store8 0 0 0 300" => "done",
+        "load i32_load8_u 0 0 0" => "raw 44 0",
+        "load load_u64 0 65529 0" => "error out of bounds memory access",
+    },
+    script! {
+        "memory 1 none 16 32" => "memory 0",
+        "write 0 0 255" => "done",
+        "load i32_load8_s 0 0 0" => "raw 4294967295 0",
+        "load i64_load8_s 0 0 0" => "raw 18446744073709551615 0",
+    },
+    script! {
+        "memory 1 none 16 32" => "memory 0",
+        "store store32 0 65533 0 1" => "error out of bounds memory access",
+        "read 0 65533 3" => "bytes 0 0 0",
+        "load load_u32 0 18446744073709551615 1" => "error out of bounds memory access",
+    },
 ];
 
 #[test]
@@ -73,35 +108,49 @@ fn prints_the_replies(rt: HostRuntime) {
 }
 
 // Numbers of twenty digits, memories that can't be had, indices and places past the end.
-static LARGE_NUMBERS: [(&str, &str); 7] = [
-    (
-        "meter on 1\nfuel 18446744073709551615\nleft",
-        "done\nvalue 18446744073709551615\n",
-    ),
-    (
-        "meter on 1\nfuel 000018446744073709551615\nleft",
-        "done\nvalue 18446744073709551615\n",
-    ),
-    (
-        "quota 18446744073709551615 18446744073709551615\nmemory 160 none 16 32\nmemory 1000 none 16 64",
-        "memory 0\nmemory 1\nheld 76021760 0\n",
-    ),
-    (
-        "quota 18446744073709551615 0\nmemory 281474976710655 none 16 64\nmemory 1 none 16 64\ngrow 0 281474976710654",
-        "error tried to allocate more virtual memory than available on the system\nmemory 0\nerror tried to allocate more virtual memory than available on the system\nheld 65536 0\n",
-    ),
-    (
-        "memory 281474976710656 none 16 64\nmemory 0 none 16 64\ngrow 0 281474976710656",
-        "error the minimum size of the memory type overflows the system index type\nmemory 0\nerror out of bounds memory growth\n",
-    ),
-    (
-        "grow 18446744073709551615 18446744073709551615\nread 1 18446744073709551615 18446744073709551615",
-        "no such\nno such\n",
-    ),
-    (
-        "memory 1 none 16 32\nread 0 18446744073709551615 18446744073709551615\nread 0 1 18446744073709551615\nread 0 18446744073709551615 1\nwrite 0 18446744073709551615 1",
-        "memory 0\nerror out of bounds memory access\nerror out of bounds memory access\nerror out of bounds memory access\nerror out of bounds memory access\n",
-    ),
+static LARGE_NUMBERS: [Script; 7] = [
+    script! {
+        "meter on 1",
+        "fuel 18446744073709551615" => "done",
+        "left" => "value 18446744073709551615",
+    },
+    script! {
+        "meter on 1",
+        "fuel 000018446744073709551615" => "done",
+        "left" => "value 18446744073709551615",
+    },
+    script! {
+        "quota 18446744073709551615 18446744073709551615",
+        "memory 160 none 16 32" => "memory 0",
+        "memory 1000 none 16 64" => "memory 1";
+        "held 76021760 0",
+    },
+    script! {
+        "quota 18446744073709551615 0",
+        "memory 281474976710655 none 16 64" =>
+            "error tried to allocate more virtual memory than available on the system",
+        "memory 1 none 16 64" => "memory 0",
+        "grow 0 281474976710654" =>
+            "error tried to allocate more virtual memory than available on the system";
+        "held 65536 0",
+    },
+    script! {
+        "memory 281474976710656 none 16 64" =>
+            "error the minimum size of the memory type overflows the system index type",
+        "memory 0 none 16 64" => "memory 0",
+        "grow 0 281474976710656" => "error out of bounds memory growth",
+    },
+    script! {
+        "grow 18446744073709551615 18446744073709551615" => "no such",
+        "read 1 18446744073709551615 18446744073709551615" => "no such",
+    },
+    script! {
+        "memory 1 none 16 32" => "memory 0",
+        "read 0 18446744073709551615 18446744073709551615" => "error out of bounds memory access",
+        "read 0 1 18446744073709551615" => "error out of bounds memory access",
+        "read 0 18446744073709551615 1" => "error out of bounds memory access",
+        "write 0 18446744073709551615 1" => "error out of bounds memory access",
+    },
 ];
 
 #[test]
@@ -110,26 +159,63 @@ fn takes_numbers_of_twenty_digits(rt: HostRuntime) {
 }
 
 // Where lines and words stand.
-static PLACES: [(&str, &str); 7] = [
-    (
-        "\n\n\n\n\n\n\n\n\n\n\n\nleft",
-        "error fuel metering is disabled\n",
-    ),
-    ("     \n\n   \n", ""),
-    (
-        "\n\n\nmeter on 1\n\n\nfuel 3\n\n\nleft\n\n\n",
-        "done\nvalue 3\n",
-    ),
-    (
-        "    meter     on       64\nfuel      9\n       left",
-        "done\nvalue 9\n",
-    ),
-    ("quota 131072 0\nmeter on 64\nleft", "value 0\nheld 0 0\n"),
-    (
-        "memory 1 none 16 32\nwrite   0  1     7   8 \nread 0 0   4",
-        "memory 0\ndone\nbytes 0 7 8 0\n",
-    ),
-    ("meter off\nleft", "error fuel metering is disabled\n"),
+static PLACES: [Script; 7] = [
+    script! {
+        "",
+        "",
+        "",
+        "",
+        "",
+        "",
+        "",
+        "",
+        "",
+        "",
+        "",
+        "",
+        "left" => "error fuel metering is disabled",
+    },
+    script! {
+        "     ",
+        "",
+        "   ",
+        "",
+    },
+    script! {
+        "",
+        "",
+        "",
+        "meter on 1",
+        "",
+        "",
+        "fuel 3" => "done",
+        "",
+        "",
+        "left" => "value 3",
+        "",
+        "",
+        "",
+    },
+    script! {
+        "    meter     on       64",
+        "fuel      9" => "done",
+        "       left" => "value 9",
+    },
+    script! {
+        "quota 131072 0",
+        "meter on 64",
+        "left" => "value 0";
+        "held 0 0",
+    },
+    script! {
+        "memory 1 none 16 32" => "memory 0",
+        "write   0  1     7   8 " => "done",
+        "read 0 0   4" => "bytes 0 7 8 0",
+    },
+    script! {
+        "meter off",
+        "left" => "error fuel metering is disabled",
+    },
 ];
 
 #[test]

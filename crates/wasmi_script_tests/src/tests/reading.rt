@@ -1,6 +1,6 @@
 //! How a script is read.
 use super::streams::Source;
-use super::{METERED, METERED_PRINTED, prints, same};
+use super::{METERED, prints, same};
 use std::io::ErrorKind;
 use std::test::Fail;
 use wasmi_script::{LIMIT, Status};
@@ -23,7 +23,7 @@ fn reads_a_limited_script(rt: HostRuntime) -> Result<(), Fail> {
             status,
         );
     }
-    same(&rt, LIMIT, 1_048_576, "the most bytes of a script");
+    same(&rt, "the most bytes of a script", LIMIT, 1_048_576);
     Ok(())
 }
 
@@ -39,16 +39,16 @@ fn reads_from_slow_readers(rt: HostRuntime) {
         (4096, 2),
     ];
     for (at_once, turns) in rows {
-        let mut reader = Source::of(METERED.as_bytes());
+        let mut reader = Source::of(METERED.text.as_bytes());
         reader.at_once = at_once;
         prints(
             &rt,
             rt.alloc(),
             &mut reader,
-            METERED_PRINTED,
+            METERED.printed,
             Status::Answered,
         );
-        same(&rt, reader.turns, turns, "the turns of a reader");
+        same(&rt, "the turns of a reader", reader.turns, turns);
     }
 }
 
@@ -105,7 +105,7 @@ fn takes_at_most_one_turn_more_than_bytes(rt: HostRuntime) -> Result<(), Fail> {
             _ => "",
         };
         prints(&rt, rt.alloc(), &mut reader, printed, row.status);
-        same(&rt, reader.turns, row.turns, "the turns of a reader");
+        same(&rt, "the turns of a reader", reader.turns, row.turns);
     }
     Ok(())
 }
@@ -121,7 +121,7 @@ fn each_error_of_a_reader_is_a_fault(rt: HostRuntime) {
     ];
     for error in errors {
         for good_turns in 0..4 {
-            let mut reader = Source::of(METERED.as_bytes());
+            let mut reader = Source::of(METERED.text.as_bytes());
             reader.at_once = 40;
             reader.good_turns = good_turns;
             reader.error = error;
@@ -132,14 +132,14 @@ fn each_error_of_a_reader_is_a_fault(rt: HostRuntime) {
 
 #[test]
 fn what_is_met_first_decides(rt: HostRuntime) {
-    let mut ended = Source::of(METERED.as_bytes());
+    let mut ended = Source::of(METERED.text.as_bytes());
     ended.at_once = 40;
     ended.good_turns = 4;
     prints(
         &rt,
         rt.alloc(),
         &mut ended,
-        METERED_PRINTED,
+        METERED.printed,
         Status::Answered,
     );
     let mut before_a_bad_line = Source::of(b"left 1\nleft");

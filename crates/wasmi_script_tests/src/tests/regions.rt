@@ -1,41 +1,79 @@
 //! Scripts with a lent region, and what they print.
 use super::streams::Source;
-use super::{answers_each, prints};
+use super::{Script, answers_each, prints};
 use wasmi_script::Status;
 
-static LENT: [(&str, &str); 8] = [
-    (
-        "region 65536 7\nmeter on 64\nfuel 2048\nlent 0 2 16 32\ngrow 0 1\nread 0 65534 2\ngrow 0 1\nleft\nlent 0 2 16 32",
-        "done\nmemory 0\nvalue 0\nbytes 0 0\nerror tried to use too small static buffer\nvalue 1024\nno region\n",
-    ),
-    (
-        "region 65536 7\nmeter on 64\nlent 1 2 16 32\ngrow 0 1",
-        "memory 0\nerror tried to use too small static buffer\n",
-    ),
-    (
-        "lent 0 none 16 32\nlent 1 none 0 64\nmemory 0 none 0 32",
-        "no region\nno region\nmemory 0\n",
-    ),
-    (
-        "region 4 7\nlent 5 none 0 32\nlent 0 none 0 32\nmemory 2 none 0 32\nread 0 0 2",
-        "error tried to use too small static buffer\nno region\nmemory 0\nbytes 0 0\n",
-    ),
-    (
-        "region 0 255\nlent 0 none 0 32\ngrow 0 0\ngrow 0 1\nread 0 0 0\nmemory 1 none 0 32\ngrow 1 1",
-        "memory 0\nvalue 0\nerror tried to use too small static buffer\nbytes\nmemory 1\nvalue 1\n",
-    ),
-    (
-        "quota 10 0\nregion 8 1\nlent 3 none 0 32\nwrite 0 2 9\ngrow 0 5\nread 0 0 8\ngrow 0 1\ndrop memory 0\nlent 0 none 0 32\nmemory 2 none 0 32\nmemory 1 none 0 32",
-        "memory 0\ndone\nvalue 3\nbytes 0 0 9 0 0 0 0 0\nerror tried to use too small static buffer\ndone\nno region\nmemory 1\nerror a resource limiter denied to allocate or grow the linear memory\nheld 10 0\n",
-    ),
-    (
-        "answers deny permit complain permit\nregion 9 9\nlent 1 none 0 32\nlent 1 none 0 32\nmemory 1 none 0 32\ngrow 0 1",
-        "error a resource limiter denied to allocate or grow the linear memory\nno region\nmemory 0\nvalue 1\n",
-    ),
-    (
-        "region 9 9\nanswers permit complain permit\nlent 1 none 0 32\ngrow 0 9\ngrow 0 8\nread 0 0 9",
-        "memory 0\nerror a resource limiter denied to allocate or grow the linear memory\nvalue 1\nbytes 0 0 0 0 0 0 0 0 0\n",
-    ),
+static LENT: [Script; 8] = [
+    script! {
+        "region 65536 7",
+        "meter on 64",
+        "fuel 2048" => "done",
+        "lent 0 2 16 32" => "memory 0",
+        "grow 0 1" => "value 0",
+        "read 0 65534 2" => "bytes 0 0",
+        "grow 0 1" => "error tried to use too small static buffer",
+        "left" => "value 1024",
+        "lent 0 2 16 32" => "no region",
+    },
+    script! {
+        "region 65536 7",
+        "meter on 64",
+        "lent 1 2 16 32" => "memory 0",
+        "grow 0 1" => "error tried to use too small static buffer",
+    },
+    script! {
+        "lent 0 none 16 32" => "no region",
+        "lent 1 none 0 64" => "no region",
+        "memory 0 none 0 32" => "memory 0",
+    },
+    script! {
+        "region 4 7",
+        "lent 5 none 0 32" => "error tried to use too small static buffer",
+        "lent 0 none 0 32" => "no region",
+        "memory 2 none 0 32" => "memory 0",
+        "read 0 0 2" => "bytes 0 0",
+    },
+    script! {
+        "region 0 255",
+        "lent 0 none 0 32" => "memory 0",
+        "grow 0 0" => "value 0",
+        "grow 0 1" => "error tried to use too small static buffer",
+        "read 0 0 0" => "bytes",
+        "memory 1 none 0 32" => "memory 1",
+        "grow 1 1" => "value 1",
+    },
+    script! {
+        "quota 10 0",
+        "region 8 1",
+        "lent 3 none 0 32" => "memory 0",
+        "write 0 2 9" => "done",
+        "grow 0 5" => "value 3",
+        "read 0 0 8" => "bytes 0 0 9 0 0 0 0 0",
+        "grow 0 1" => "error tried to use too small static buffer",
+        "drop memory 0" => "done",
+        "lent 0 none 0 32" => "no region",
+        "memory 2 none 0 32" => "memory 1",
+        "memory 1 none 0 32" =>
+            "error a resource limiter denied to allocate or grow the linear memory";
+        "held 10 0",
+    },
+    script! {
+        "answers deny permit complain permit",
+        "region 9 9",
+        "lent 1 none 0 32" =>
+            "error a resource limiter denied to allocate or grow the linear memory",
+        "lent 1 none 0 32" => "no region",
+        "memory 1 none 0 32" => "memory 0",
+        "grow 0 1" => "value 1",
+    },
+    script! {
+        "region 9 9",
+        "answers permit complain permit",
+        "lent 1 none 0 32" => "memory 0",
+        "grow 0 9" => "error a resource limiter denied to allocate or grow the linear memory",
+        "grow 0 8" => "value 1",
+        "read 0 0 9" => "bytes 0 0 0 0 0 0 0 0 0",
+    },
 ];
 
 #[test]

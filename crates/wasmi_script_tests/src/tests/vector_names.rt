@@ -1,1209 +1,627 @@
 //! Each vector instruction by its name, on operands on which no two of one shape answer the same,
 //! but for those of one meaning. The answers are the Rust crate's.
-use super::answers_each;
+use super::{Script, answers_each};
 
-const MAKES: &str = "\
-set 0 10658279502124588487 11412144476497975780
-make i8x16_splat 1 0
-show 1
-make i16x8_splat 1 0
-show 1
-make i32x4_splat 1 0
-show 1
-make i64x2_splat 1 0
-show 1
-make v128_widen8x8_s 1 0
-show 1
-make v128_widen8x8_u 1 0
-show 1
-make v128_widen16x4_s 1 0
-show 1
-make v128_widen16x4_u 1 0
-show 1
-make v128_widen32x2_s 1 0
-show 1
-make v128_widen32x2_u 1 0
-show 1
-make v128_low32_zero 1 0
-show 1
-make v128_low64_zero 1 0
-show 1
-";
+const MAKES: Script = script! {
+    "set 0 10658279502124588487 11412144476497975780" => "done",
+    "make i8x16_splat 1 0" => "done",
+    "show 1" => "raw 14395694394777257927 14395694394777257927",
+    "make i16x8_splat 1 0" => "done",
+    "show 1" => "raw 11369229264991264199 11369229264991264199",
+    "make i32x4_splat 1 0" => "done",
+    "show 1" => "raw 13328013628376784327 13328013628376784327",
+    "make i64x2_splat 1 0" => "done",
+    "show 1" => "raw 10658279502124588487 10658279502124588487",
+    "make v128_widen8x8_s 1 0" => "done",
+    "show 1" => "raw 18426759311701966791 18416344681732439996",
+    "make v128_widen8x8_u 1 0" => "done",
+    "show 1" => "raw 51792452287004871 41377822317478076",
+    "make v128_widen16x4_s 1 0" => "done",
+    "show 1" => "raw 18446665969729248711 18446625231964459196",
+    "make v128_widen16x4_u 1 0" => "done",
+    "show 1" => "raw 203366701505991 162628936716476",
+    "make v128_widen32x2_s 1 0" => "done",
+    "show 1" => "raw 18446744072517754311 18446744071896158396",
+    "make v128_widen32x2_u 1 0" => "done",
+    "show 1" => "raw 3103169991 2481574076",
+    "make v128_low32_zero 1 0" => "done",
+    "show 1" => "raw 3103169991 0",
+    "make v128_low64_zero 1 0" => "done",
+    "show 1" => "raw 10658279502124588487 0",
+    "",
+};
 
-const MAKES_PRINTED: &str = "\
-done
-done
-raw 14395694394777257927 14395694394777257927
-done
-raw 11369229264991264199 11369229264991264199
-done
-raw 13328013628376784327 13328013628376784327
-done
-raw 10658279502124588487 10658279502124588487
-done
-raw 18426759311701966791 18416344681732439996
-done
-raw 51792452287004871 41377822317478076
-done
-raw 18446665969729248711 18446625231964459196
-done
-raw 203366701505991 162628936716476
-done
-raw 18446744072517754311 18446744071896158396
-done
-raw 3103169991 2481574076
-done
-raw 3103169991 0
-done
-raw 10658279502124588487 0
-";
+const UNARIES: Script = script! {
+    "set 0 890727360438182992 15149836622520594227" => "done",
+    "unary v128_not 1 0" => "done",
+    "show 1" => "raw 17556016713271368623 3296907451188957388",
+    "unary i8x16_neg 1 0" => "done",
+    "show 1" => "raw 17628356886109445296 3369247624027034061",
+    "unary i16x8_neg 1 0" => "done",
+    "show 1" => "raw 17556298192543112112 3297188930460700877",
+    "unary i32x4_neg 1 0" => "done",
+    "show 1" => "raw 17556016717566335920 3296907455483924685",
+    "unary i64x2_neg 1 0" => "done",
+    "show 1" => "raw 17556016713271368624 3296907451188957389",
+    "unary i8x16_abs 1 0" => "done",
+    "show 1" => "raw 890726671963741264 3332391200298970931",
+    "unary i16x8_abs 1 0" => "done",
+    "show 1" => "raw 890727359141731248 3296925353234870067",
+    "unary i32x4_abs 1 0" => "done",
+    "show 1" => "raw 890727359141665712 3296907451811180339",
+    "unary i64x2_abs 1 0" => "done",
+    "show 1" => "raw 890727360438182992 3296907451188957389",
+    "unary i8x16_popcnt 1 0" => "done",
+    "show 1" => "raw 145248797516366594 289920334147355908",
+    "unary i16x8_extend_low_i8x16_s 1 0" => "done",
+    "show 1" => "raw 18421692405639282768 3378094865907664",
+    "unary i16x8_extend_low_i8x16_u 1 0" => "done",
+    "show 1" => "raw 46725546224386128 3378094865842384",
+    "unary i16x8_extend_high_i8x16_s 1 0" => "done",
+    "show 1" => "raw 5347522049409075 18433796495364325412",
+    "unary i16x8_extend_high_i8x16_u 1 0" => "done",
+    "show 1" => "raw 5067146584326195 59110015692701732",
+    "unary i32x4_extend_low_i16x8_s 1 0" => "done",
+    "show 1" => "raw 18446645822037664848 13589276557264",
+    "unary i32x4_extend_low_i16x8_u 1 0" => "done",
+    "show 1" => "raw 183219009922128 13589276557264",
+    "unary i32x4_extend_high_i16x8_s 1 0" => "done",
+    "show 1" => "raw 20388209766195 18446693766757615652",
+    "unary i32x4_extend_high_i16x8_u 1 0" => "done",
+    "show 1" => "raw 20388209766195 231168024774692",
+    "unary i64x2_extend_low_i32x4_s 1 0" => "done",
+    "show 1" => "raw 18446744072210326608 207388624",
+    "unary i64x2_extend_low_i32x4_u 1 0" => "done",
+    "show 1" => "raw 2795742288 207388624",
+    "unary i64x2_extend_high_i32x4_s 1 0" => "done",
+    "show 1" => "raw 311111475 18446744072941930532",
+    "unary i64x2_extend_high_i32x4_u 1 0" => "done",
+    "show 1" => "raw 311111475 3527346212",
+    "unary i16x8_extadd_pairwise_i8x16_s 1 0" => "done",
+    "show 1" => "raw 29273741163364340 4785267871121506",
+    "unary i16x8_extadd_pairwise_i8x16_u 1 0" => "done",
+    "show 1" => "raw 29274836413513972 76842857630859362",
+    "unary i32x4_extadd_pairwise_i16x8_s 1 0" => "done",
+    "show 1" => "raw 154124901370611 18446702717469475262",
+    "unary i32x4_extadd_pairwise_i16x8_u 1 0" => "done",
+    "show 1" => "raw 154120606534387 240118736634302",
+    "",
+};
 
-const UNARIES: &str = "\
-set 0 890727360438182992 15149836622520594227
-unary v128_not 1 0
-show 1
-unary i8x16_neg 1 0
-show 1
-unary i16x8_neg 1 0
-show 1
-unary i32x4_neg 1 0
-show 1
-unary i64x2_neg 1 0
-show 1
-unary i8x16_abs 1 0
-show 1
-unary i16x8_abs 1 0
-show 1
-unary i32x4_abs 1 0
-show 1
-unary i64x2_abs 1 0
-show 1
-unary i8x16_popcnt 1 0
-show 1
-unary i16x8_extend_low_i8x16_s 1 0
-show 1
-unary i16x8_extend_low_i8x16_u 1 0
-show 1
-unary i16x8_extend_high_i8x16_s 1 0
-show 1
-unary i16x8_extend_high_i8x16_u 1 0
-show 1
-unary i32x4_extend_low_i16x8_s 1 0
-show 1
-unary i32x4_extend_low_i16x8_u 1 0
-show 1
-unary i32x4_extend_high_i16x8_s 1 0
-show 1
-unary i32x4_extend_high_i16x8_u 1 0
-show 1
-unary i64x2_extend_low_i32x4_s 1 0
-show 1
-unary i64x2_extend_low_i32x4_u 1 0
-show 1
-unary i64x2_extend_high_i32x4_s 1 0
-show 1
-unary i64x2_extend_high_i32x4_u 1 0
-show 1
-unary i16x8_extadd_pairwise_i8x16_s 1 0
-show 1
-unary i16x8_extadd_pairwise_i8x16_u 1 0
-show 1
-unary i32x4_extadd_pairwise_i16x8_s 1 0
-show 1
-unary i32x4_extadd_pairwise_i16x8_u 1 0
-show 1
-";
+const BINARIES: Script = script! {
+    "set 0 2784229351520374647 9256112523104956769" => "done",
+    "set 1 16105092124636441571 14334677267312937985" => "done",
+    "binary i8x16_add 2 0 1" => "done",
+    "show 2" => "raw 370237229609253466 5071988118375447906",
+    "binary i16x8_add 2 0 1" => "done",
+    "show 2" => "raw 442295923175586650 5144045712413375842",
+    "binary i32x4_add 2 0 1" => "done",
+    "show 2" => "raw 442577398152297306 5144045712413375842",
+    "binary i64x2_add 2 0 1" => "done",
+    "show 2" => "raw 442577402447264602 5144045716708343138",
+    "binary i8x16_sub 2 0 1" => "done",
+    "show 2" => "raw 5126163875098600596 13440236927834465632",
+    "binary i16x8_sub 2 0 1" => "done",
+    "show 2" => "raw 5126162775570195348 13368179333796537696",
+    "binary i32x4_sub 2 0 1" => "done",
+    "show 2" => "raw 5125881300593484692 13368179333796537696",
+    "binary i64x2_sub 2 0 1" => "done",
+    "show 2" => "raw 5125881300593484692 13368179329501570400",
+    "binary i8x16_mul 2 0 1" => "done",
+    "show 2" => "raw 1909728290322433413 21482018202340449",
+    "binary i16x8_mul 2 0 1" => "done",
+    "show 2" => "raw 5656718785536521093 11838894456046796129",
+    "binary i32x4_mul 2 0 1" => "done",
+    "show 2" => "raw 6154366541705704325 2665906440632647009",
+    "binary i64x2_mul 2 0 1" => "done",
+    "show 2" => "raw 17484516845811331973 2531566069841509729",
+    "binary i8x16_add_sat_s 2 0 1" => "done",
+    "show 2" => "raw 396458382908783194 9251328572575268194",
+    "binary i8x16_add_sat_u 2 0 1" => "done",
+    "show 2" => "raw 18446744073709550335 18446553115164753250",
+    "binary i16x8_add_sat_s 2 0 1" => "done",
+    "show 2" => "raw 442337927955741530 9223462549880913250",
+    "binary i16x8_add_sat_u 2 0 1" => "done",
+    "show 2" => "raw 18446744073709550426 18446553115168554338",
+    "binary i8x16_sub_sat_s 2 0 1" => "done",
+    "show 2" => "raw 5126163875098624127 13438548076816573792",
+    "binary i8x16_sub_sat_u 2 0 1" => "done",
+    "show 2" => "raw 9851626382697472 88261589017952",
+    "binary i16x8_sub_sat_s 2 0 1" => "done",
+    "show 2" => "raw 5126162775570219008 13368179332644545888",
+    "binary i16x8_sub_sat_u 2 0 1" => "done",
+    "show 2" => "raw 2192647060 88261577942368",
+    "binary i16x8_q15mulr_sat_s 2 0 1" => "done",
+    "show 2" => "raw 17740013441422369062 4097431952060515489",
+    "binary i8x16_min_s 2 0 1" => "done",
+    "show 2" => "raw 16105032624352169955 9290645684669058049",
+    "binary i8x16_min_u 2 0 1" => "done",
+    "show 2" => "raw 2774377725137677175 9256024261515938817",
+    "binary i16x8_min_s 2 0 1" => "done",
+    "show 2" => "raw 16105032624352169847 9256024262522571777",
+    "binary i16x8_min_u 2 0 1" => "done",
+    "show 2" => "raw 2784229349327727587 9256024261527014401",
+    "binary i32x4_min_s 2 0 1" => "done",
+    "show 2" => "raw 16105092126829088631 9256112524100504577",
+    "binary i32x4_min_u 2 0 1" => "done",
+    "show 2" => "raw 2784229349327727587 9256112523104956769",
+    "binary i8x16_max_s 2 0 1" => "done",
+    "show 2" => "raw 2784288851804646263 14300144105748836705",
+    "binary i8x16_max_u 2 0 1" => "done",
+    "show 2" => "raw 16114943751019139043 14334765528901955937",
+    "binary i16x8_max_s 2 0 1" => "done",
+    "show 2" => "raw 2784288851804646371 14334765527895322977",
+    "binary i16x8_max_u 2 0 1" => "done",
+    "show 2" => "raw 16105092126829088631 14334765528890880353",
+    "binary i32x4_max_s 2 0 1" => "done",
+    "show 2" => "raw 2784229349327727587 14334677266317390177",
+    "binary i32x4_max_u 2 0 1" => "done",
+    "show 2" => "raw 16105092126829088631 14334677267312937985",
+    "binary i8x16_avgr_u 2 0 1" => "done",
+    "show 2" => "raw 9480830272594148781 11795535632697335601",
+    "binary i16x8_avgr_u 2 0 1" => "done",
+    "show 2" => "raw 9444801475566796205 11795535632697335473",
+    "binary v128_and 2 0 1" => "done",
+    "show 2" => "raw 468517115130022755 9251520652157255681",
+    "binary v128_or 2 0 1" => "done",
+    "show 2" => "raw 18420804361026793463 14339269138260639073",
+    "binary v128_xor 2 0 1" => "done",
+    "show 2" => "raw 17952287245896770708 5087748486103383392",
+    "binary v128_andnot 2 0 1" => "done",
+    "show 2" => "raw 2315712236390351892 4591870947701088",
+    "binary i8x16_swizzle 2 0 1" => "done",
+    "show 2" => "raw 0 157930250062991",
+    "binary i16x8_extmul_low_i8x16_s 2 0 1" => "done",
+    "show 2" => "raw 18377513525137764997 18093825580619727299",
+    "binary i16x8_extmul_low_i8x16_u 2 0 1" => "done",
+    "show 2" => "raw 8793988755523725701 2385308564734856643",
+    "binary i16x8_extmul_high_i8x16_s 2 0 1" => "done",
+    "show 2" => "raw 15934012567195484257 2089943232406421960",
+    "binary i16x8_extmul_high_i8x16_u 2 0 1" => "done",
+    "show 2" => "raw 6422144072375074913 7133820883433488840",
+    "binary i32x4_extmul_low_i16x8_s 2 0 1" => "done",
+    "show 2" => "raw 18397431178271585157 18093297815028347843",
+    "binary i32x4_extmul_low_i16x8_u 2 0 1" => "done",
+    "show 2" => "raw 8878228938408981381 2430622737470436291",
+    "binary i32x4_extmul_high_i16x8_s 2 0 1" => "done",
+    "show 2" => "raw 15921168072360115553 2048755526830076872",
+    "binary i32x4_extmul_high_i16x8_u 2 0 1" => "done",
+    "show 2" => "raw 6461075580091678049 7192710726217315272",
+    "binary i64x2_extmul_low_i32x4_s 2 0 1" => "done",
+    "show 2" => "raw 18397506861489910661 18093310640829019075",
+    "binary i64x2_extmul_low_i32x4_u 2 0 1" => "done",
+    "show 2" => "raw 8878423246813983621 2430795914368562115",
+    "binary i64x2_extmul_high_i32x4_s 2 0 1" => "done",
+    "show 2" => "raw 15921159243988057441 2048735040451326920",
+    "binary i64x2_extmul_high_i32x4_u 2 0 1" => "done",
+    "show 2" => "raw 6461121044401208673 7192780751979361224",
+    "binary i8x16_narrow_i16x8_s 2 0 1" => "done",
+    "show 2" => "raw 9259259544473731200 9259260644002135935",
+    "binary i8x16_narrow_i16x8_u 2 0 1" => "done",
+    "show 2" => "raw 72057594021150720 71777214277943295",
+    "binary i16x8_narrow_i32x4_s 2 0 1" => "done",
+    "show 2" => "raw 9223512772195614720 9223512776490647551",
+    "binary i16x8_narrow_i32x4_u 2 0 1" => "done",
+    "show 2" => "raw 281474976645120 65535",
+    "binary i32x4_dot_i16x8_s 2 0 1" => "done",
+    "show 2" => "raw 1384296425736880563 2072174887723865955",
+    "binary i16x8_relaxed_dot_i8x16_i7x16_s 2 0 1" => "done",
+    "show 2" => "raw 2997737613428310858 1534603883066819245",
+    "binary i8x16_relaxed_swizzle 2 0 1" => "done",
+    "show 2" => "raw 0 157930250062991",
+    "binary i16x8_relaxed_q15mulr_s 2 0 1" => "done",
+    "show 2" => "raw 17740013441422369062 4097431952060515489",
+    "",
+};
 
-const UNARIES_PRINTED: &str = "\
-done
-done
-raw 17556016713271368623 3296907451188957388
-done
-raw 17628356886109445296 3369247624027034061
-done
-raw 17556298192543112112 3297188930460700877
-done
-raw 17556016717566335920 3296907455483924685
-done
-raw 17556016713271368624 3296907451188957389
-done
-raw 890726671963741264 3332391200298970931
-done
-raw 890727359141731248 3296925353234870067
-done
-raw 890727359141665712 3296907451811180339
-done
-raw 890727360438182992 3296907451188957389
-done
-raw 145248797516366594 289920334147355908
-done
-raw 18421692405639282768 3378094865907664
-done
-raw 46725546224386128 3378094865842384
-done
-raw 5347522049409075 18433796495364325412
-done
-raw 5067146584326195 59110015692701732
-done
-raw 18446645822037664848 13589276557264
-done
-raw 183219009922128 13589276557264
-done
-raw 20388209766195 18446693766757615652
-done
-raw 20388209766195 231168024774692
-done
-raw 18446744072210326608 207388624
-done
-raw 2795742288 207388624
-done
-raw 311111475 18446744072941930532
-done
-raw 311111475 3527346212
-done
-raw 29273741163364340 4785267871121506
-done
-raw 29274836413513972 76842857630859362
-done
-raw 154124901370611 18446702717469475262
-done
-raw 154120606534387 240118736634302
-";
+const COMPARISONS: Script = script! {
+    "set 0 1327572068617114221 5901565386386709117" => "done",
+    "set 1 1327572068617114221 5901565386013878213" => "done",
+    "set 2 16927985197677779527 9171361802319593741" => "done",
+    "set 3 16928037974235880344 15316523362282930445" => "done",
+    "binary i8x16_eq 4 0 1" => "done",
+    "show 4" => "raw 18446744073709551615 18446744069414584320",
+    "binary i8x16_eq 5 2 3" => "done",
+    "show 5" => "raw 18446463698244403200 280375481860095",
+    "binary i16x8_eq 4 0 1" => "done",
+    "show 4" => "raw 18446744073709551615 18446744069414584320",
+    "binary i16x8_eq 5 2 3" => "done",
+    "show 5" => "raw 18446462603027742720 65535",
+    "binary i32x4_eq 4 0 1" => "done",
+    "show 4" => "raw 18446744073709551615 18446744069414584320",
+    "binary i32x4_eq 5 2 3" => "done",
+    "show 5" => "raw 0 0",
+    "binary i64x2_eq 4 0 1" => "done",
+    "show 4" => "raw 18446744073709551615 0",
+    "binary i64x2_eq 5 2 3" => "done",
+    "show 5" => "raw 0 0",
+    "binary i8x16_ne 4 0 1" => "done",
+    "show 4" => "raw 0 4294967295",
+    "binary i8x16_ne 5 2 3" => "done",
+    "show 5" => "raw 280375465148415 18446463698227691520",
+    "binary i16x8_ne 4 0 1" => "done",
+    "show 4" => "raw 0 4294967295",
+    "binary i16x8_ne 5 2 3" => "done",
+    "show 5" => "raw 281470681808895 18446744073709486080",
+    "binary i32x4_ne 4 0 1" => "done",
+    "show 4" => "raw 0 4294967295",
+    "binary i32x4_ne 5 2 3" => "done",
+    "show 5" => "raw 18446744073709551615 18446744073709551615",
+    "binary i64x2_ne 4 0 1" => "done",
+    "show 4" => "raw 0 18446744073709551615",
+    "binary i64x2_ne 5 2 3" => "done",
+    "show 5" => "raw 18446744073709551615 18446744073709551615",
+    "binary i8x16_lt_s 4 0 1" => "done",
+    "show 4" => "raw 0 65280",
+    "binary i8x16_lt_s 5 2 3" => "done",
+    "show 5" => "raw 280375465148160 4278190080",
+    "binary i16x8_lt_s 4 0 1" => "done",
+    "show 4" => "raw 0 65535",
+    "binary i16x8_lt_s 5 2 3" => "done",
+    "show 5" => "raw 281470681808895 4294901760",
+    "binary i32x4_lt_s 4 0 1" => "done",
+    "show 4" => "raw 0 0",
+    "binary i32x4_lt_s 5 2 3" => "done",
+    "show 5" => "raw 18446744069414584320 4294967295",
+    "binary i64x2_lt_s 4 0 1" => "done",
+    "show 4" => "raw 0 0",
+    "binary i64x2_lt_s 5 2 3" => "done",
+    "show 5" => "raw 18446744073709551615 0",
+    "binary i8x16_lt_u 4 0 1" => "done",
+    "show 4" => "raw 0 65535",
+    "binary i8x16_lt_u 5 2 3" => "done",
+    "show 5" => "raw 280375465083135 18446462603011031040",
+    "binary i16x8_lt_u 4 0 1" => "done",
+    "show 4" => "raw 0 65535",
+    "binary i16x8_lt_u 5 2 3" => "done",
+    "show 5" => "raw 281470681743360 18446462603027742720",
+    "binary i32x4_lt_u 4 0 1" => "done",
+    "show 4" => "raw 0 0",
+    "binary i32x4_lt_u 5 2 3" => "done",
+    "show 5" => "raw 18446744069414584320 18446744073709551615",
+    "binary i8x16_le_s 4 0 1" => "done",
+    "show 4" => "raw 18446744073709551615 18446744069414649600",
+    "binary i8x16_le_s 5 2 3" => "done",
+    "show 5" => "raw 18446744073709551360 280379760050175",
+    "binary i16x8_le_s 4 0 1" => "done",
+    "show 4" => "raw 18446744073709551615 18446744069414649855",
+    "binary i16x8_le_s 5 2 3" => "done",
+    "show 5" => "raw 18446744073709551615 4294967295",
+    "binary i32x4_le_s 4 0 1" => "done",
+    "show 4" => "raw 18446744073709551615 18446744069414584320",
+    "binary i32x4_le_s 5 2 3" => "done",
+    "show 5" => "raw 18446744069414584320 4294967295",
+    "binary i64x2_le_s 4 0 1" => "done",
+    "show 4" => "raw 18446744073709551615 0",
+    "binary i64x2_le_s 5 2 3" => "done",
+    "show 5" => "raw 18446744073709551615 0",
+    "binary i8x16_le_u 4 0 1" => "done",
+    "show 4" => "raw 18446744073709551615 18446744069414649855",
+    "binary i8x16_le_u 5 2 3" => "done",
+    "show 5" => "raw 18446744073709486335 18446742978492891135",
+    "binary i16x8_le_u 4 0 1" => "done",
+    "show 4" => "raw 18446744073709551615 18446744069414649855",
+    "binary i16x8_le_u 5 2 3" => "done",
+    "show 5" => "raw 18446744073709486080 18446462603027808255",
+    "binary i32x4_le_u 4 0 1" => "done",
+    "show 4" => "raw 18446744073709551615 18446744069414584320",
+    "binary i32x4_le_u 5 2 3" => "done",
+    "show 5" => "raw 18446744069414584320 18446744073709551615",
+    "binary i8x16_gt_s 4 0 1" => "done",
+    "show 4" => "raw 0 4294902015",
+    "binary i8x16_gt_s 5 2 3" => "done",
+    "show 5" => "raw 255 18446463693949501440",
+    "binary i16x8_gt_s 4 0 1" => "done",
+    "show 4" => "raw 0 4294901760",
+    "binary i16x8_gt_s 5 2 3" => "done",
+    "show 5" => "raw 0 18446744069414584320",
+    "binary i32x4_gt_s 4 0 1" => "done",
+    "show 4" => "raw 0 4294967295",
+    "binary i32x4_gt_s 5 2 3" => "done",
+    "show 5" => "raw 4294967295 18446744069414584320",
+    "binary i64x2_gt_s 4 0 1" => "done",
+    "show 4" => "raw 0 18446744073709551615",
+    "binary i64x2_gt_s 5 2 3" => "done",
+    "show 5" => "raw 0 18446744073709551615",
+    "binary i8x16_gt_u 4 0 1" => "done",
+    "show 4" => "raw 0 4294901760",
+    "binary i8x16_gt_u 5 2 3" => "done",
+    "show 5" => "raw 65280 1095216660480",
+    "binary i16x8_gt_u 4 0 1" => "done",
+    "show 4" => "raw 0 4294901760",
+    "binary i16x8_gt_u 5 2 3" => "done",
+    "show 5" => "raw 65535 281470681743360",
+    "binary i32x4_gt_u 4 0 1" => "done",
+    "show 4" => "raw 0 4294967295",
+    "binary i32x4_gt_u 5 2 3" => "done",
+    "show 5" => "raw 4294967295 0",
+    "binary i8x16_ge_s 4 0 1" => "done",
+    "show 4" => "raw 18446744073709551615 18446744073709486335",
+    "binary i8x16_ge_s 5 2 3" => "done",
+    "show 5" => "raw 18446463698244403455 18446744069431361535",
+    "binary i16x8_ge_s 4 0 1" => "done",
+    "show 4" => "raw 18446744073709551615 18446744073709486080",
+    "binary i16x8_ge_s 5 2 3" => "done",
+    "show 5" => "raw 18446462603027742720 18446744069414649855",
+    "binary i32x4_ge_s 4 0 1" => "done",
+    "show 4" => "raw 18446744073709551615 18446744073709551615",
+    "binary i32x4_ge_s 5 2 3" => "done",
+    "show 5" => "raw 4294967295 18446744069414584320",
+    "binary i64x2_ge_s 4 0 1" => "done",
+    "show 4" => "raw 18446744073709551615 18446744073709551615",
+    "binary i64x2_ge_s 5 2 3" => "done",
+    "show 5" => "raw 0 18446744073709551615",
+    "binary i8x16_ge_u 4 0 1" => "done",
+    "show 4" => "raw 18446744073709551615 18446744073709486080",
+    "binary i8x16_ge_u 5 2 3" => "done",
+    "show 5" => "raw 18446463698244468480 281470698520575",
+    "binary i16x8_ge_u 4 0 1" => "done",
+    "show 4" => "raw 18446744073709551615 18446744073709486080",
+    "binary i16x8_ge_u 5 2 3" => "done",
+    "show 5" => "raw 18446462603027808255 281470681808895",
+    "binary i32x4_ge_u 4 0 1" => "done",
+    "show 4" => "raw 18446744073709551615 18446744073709551615",
+    "binary i32x4_ge_u 5 2 3" => "done",
+    "show 5" => "raw 4294967295 0",
+    "",
+};
 
-const BINARIES: &str = "\
-set 0 2784229351520374647 9256112523104956769
-set 1 16105092124636441571 14334677267312937985
-binary i8x16_add 2 0 1
-show 2
-binary i16x8_add 2 0 1
-show 2
-binary i32x4_add 2 0 1
-show 2
-binary i64x2_add 2 0 1
-show 2
-binary i8x16_sub 2 0 1
-show 2
-binary i16x8_sub 2 0 1
-show 2
-binary i32x4_sub 2 0 1
-show 2
-binary i64x2_sub 2 0 1
-show 2
-binary i8x16_mul 2 0 1
-show 2
-binary i16x8_mul 2 0 1
-show 2
-binary i32x4_mul 2 0 1
-show 2
-binary i64x2_mul 2 0 1
-show 2
-binary i8x16_add_sat_s 2 0 1
-show 2
-binary i8x16_add_sat_u 2 0 1
-show 2
-binary i16x8_add_sat_s 2 0 1
-show 2
-binary i16x8_add_sat_u 2 0 1
-show 2
-binary i8x16_sub_sat_s 2 0 1
-show 2
-binary i8x16_sub_sat_u 2 0 1
-show 2
-binary i16x8_sub_sat_s 2 0 1
-show 2
-binary i16x8_sub_sat_u 2 0 1
-show 2
-binary i16x8_q15mulr_sat_s 2 0 1
-show 2
-binary i8x16_min_s 2 0 1
-show 2
-binary i8x16_min_u 2 0 1
-show 2
-binary i16x8_min_s 2 0 1
-show 2
-binary i16x8_min_u 2 0 1
-show 2
-binary i32x4_min_s 2 0 1
-show 2
-binary i32x4_min_u 2 0 1
-show 2
-binary i8x16_max_s 2 0 1
-show 2
-binary i8x16_max_u 2 0 1
-show 2
-binary i16x8_max_s 2 0 1
-show 2
-binary i16x8_max_u 2 0 1
-show 2
-binary i32x4_max_s 2 0 1
-show 2
-binary i32x4_max_u 2 0 1
-show 2
-binary i8x16_avgr_u 2 0 1
-show 2
-binary i16x8_avgr_u 2 0 1
-show 2
-binary v128_and 2 0 1
-show 2
-binary v128_or 2 0 1
-show 2
-binary v128_xor 2 0 1
-show 2
-binary v128_andnot 2 0 1
-show 2
-binary i8x16_swizzle 2 0 1
-show 2
-binary i16x8_extmul_low_i8x16_s 2 0 1
-show 2
-binary i16x8_extmul_low_i8x16_u 2 0 1
-show 2
-binary i16x8_extmul_high_i8x16_s 2 0 1
-show 2
-binary i16x8_extmul_high_i8x16_u 2 0 1
-show 2
-binary i32x4_extmul_low_i16x8_s 2 0 1
-show 2
-binary i32x4_extmul_low_i16x8_u 2 0 1
-show 2
-binary i32x4_extmul_high_i16x8_s 2 0 1
-show 2
-binary i32x4_extmul_high_i16x8_u 2 0 1
-show 2
-binary i64x2_extmul_low_i32x4_s 2 0 1
-show 2
-binary i64x2_extmul_low_i32x4_u 2 0 1
-show 2
-binary i64x2_extmul_high_i32x4_s 2 0 1
-show 2
-binary i64x2_extmul_high_i32x4_u 2 0 1
-show 2
-binary i8x16_narrow_i16x8_s 2 0 1
-show 2
-binary i8x16_narrow_i16x8_u 2 0 1
-show 2
-binary i16x8_narrow_i32x4_s 2 0 1
-show 2
-binary i16x8_narrow_i32x4_u 2 0 1
-show 2
-binary i32x4_dot_i16x8_s 2 0 1
-show 2
-binary i16x8_relaxed_dot_i8x16_i7x16_s 2 0 1
-show 2
-binary i8x16_relaxed_swizzle 2 0 1
-show 2
-binary i16x8_relaxed_q15mulr_s 2 0 1
-show 2
-";
+const TERNARIES: Script = script! {
+    "set 0 1736392818365009963 10750541312280087032" => "done",
+    "set 1 16781078052021535861 3960482443532127989" => "done",
+    "set 2 1585446675937841368 7713914763314685786" => "done",
+    "ternary v128_bitselect 3 0 1 2" => "done",
+    "show 3" => "raw 17934174378984543277 1581662173093251581",
+    "ternary i8x16_relaxed_laneselect 3 0 1 2" => "done",
+    "show 3" => "raw 17934174378984543277 1581662173093251581",
+    "ternary i16x8_relaxed_laneselect 3 0 1 2" => "done",
+    "show 3" => "raw 17934174378984543277 1581662173093251581",
+    "ternary i32x4_relaxed_laneselect 3 0 1 2" => "done",
+    "show 3" => "raw 17934174378984543277 1581662173093251581",
+    "ternary i64x2_relaxed_laneselect 3 0 1 2" => "done",
+    "show 3" => "raw 17934174378984543277 1581662173093251581",
+    "ternary i32x4_relaxed_dot_i8x16_i7x16_add_s 3 0 1 2" => "done",
+    "show 3" => "raw 1585423637733266708 7713814810835759736",
+    "",
+};
 
-const BINARIES_PRINTED: &str = "\
-done
-done
-done
-raw 370237229609253466 5071988118375447906
-done
-raw 442295923175586650 5144045712413375842
-done
-raw 442577398152297306 5144045712413375842
-done
-raw 442577402447264602 5144045716708343138
-done
-raw 5126163875098600596 13440236927834465632
-done
-raw 5126162775570195348 13368179333796537696
-done
-raw 5125881300593484692 13368179333796537696
-done
-raw 5125881300593484692 13368179329501570400
-done
-raw 1909728290322433413 21482018202340449
-done
-raw 5656718785536521093 11838894456046796129
-done
-raw 6154366541705704325 2665906440632647009
-done
-raw 17484516845811331973 2531566069841509729
-done
-raw 396458382908783194 9251328572575268194
-done
-raw 18446744073709550335 18446553115164753250
-done
-raw 442337927955741530 9223462549880913250
-done
-raw 18446744073709550426 18446553115168554338
-done
-raw 5126163875098624127 13438548076816573792
-done
-raw 9851626382697472 88261589017952
-done
-raw 5126162775570219008 13368179332644545888
-done
-raw 2192647060 88261577942368
-done
-raw 17740013441422369062 4097431952060515489
-done
-raw 16105032624352169955 9290645684669058049
-done
-raw 2774377725137677175 9256024261515938817
-done
-raw 16105032624352169847 9256024262522571777
-done
-raw 2784229349327727587 9256024261527014401
-done
-raw 16105092126829088631 9256112524100504577
-done
-raw 2784229349327727587 9256112523104956769
-done
-raw 2784288851804646263 14300144105748836705
-done
-raw 16114943751019139043 14334765528901955937
-done
-raw 2784288851804646371 14334765527895322977
-done
-raw 16105092126829088631 14334765528890880353
-done
-raw 2784229349327727587 14334677266317390177
-done
-raw 16105092126829088631 14334677267312937985
-done
-raw 9480830272594148781 11795535632697335601
-done
-raw 9444801475566796205 11795535632697335473
-done
-raw 468517115130022755 9251520652157255681
-done
-raw 18420804361026793463 14339269138260639073
-done
-raw 17952287245896770708 5087748486103383392
-done
-raw 2315712236390351892 4591870947701088
-done
-raw 0 157930250062991
-done
-raw 18377513525137764997 18093825580619727299
-done
-raw 8793988755523725701 2385308564734856643
-done
-raw 15934012567195484257 2089943232406421960
-done
-raw 6422144072375074913 7133820883433488840
-done
-raw 18397431178271585157 18093297815028347843
-done
-raw 8878228938408981381 2430622737470436291
-done
-raw 15921168072360115553 2048755526830076872
-done
-raw 6461075580091678049 7192710726217315272
-done
-raw 18397506861489910661 18093310640829019075
-done
-raw 8878423246813983621 2430795914368562115
-done
-raw 15921159243988057441 2048735040451326920
-done
-raw 6461121044401208673 7192780751979361224
-done
-raw 9259259544473731200 9259260644002135935
-done
-raw 72057594021150720 71777214277943295
-done
-raw 9223512772195614720 9223512776490647551
-done
-raw 281474976645120 65535
-done
-raw 1384296425736880563 2072174887723865955
-done
-raw 2997737613428310858 1534603883066819245
-done
-raw 0 157930250062991
-done
-raw 17740013441422369062 4097431952060515489
-";
+const SHIFTS: Script = script! {
+    "set 0 12118702314076249850 15363115918905073056" => "done",
+    "shift i8x16_shl 1 0 77" => "done",
+    "show 1" => "raw 54290036425801792 11565244807852892160",
+    "shift i8x16_shr_s 1 0 77" => "done",
+    "show 1" => "raw 18230856047927558399 18303190723174007549",
+    "shift i8x16_shr_u 1 0 77" => "done",
+    "show 1" => "raw 360571661369540615 432633653571551749",
+    "shift i16x8_shl 1 0 77" => "done",
+    "show 1" => "raw 13835198792770535424 9223618329606881280",
+    "shift i16x8_shr_s 1 0 77" => "done",
+    "show 1" => "raw 18445899657369354240 18446462594437808130",
+    "shift i16x8_shr_u 1 0 77" => "done",
+    "show 1" => "raw 1407383473487872 1688875630526466",
+    "shift i32x4_shl 1 0 77" => "done",
+    "show 1" => "raw 14479495014526173184 10957504186340868096",
+    "shift i32x4_shr_s 1 0 77" => "done",
+    "show 1" => "raw 18445971606661515712 18446367658480724962",
+    "shift i32x4_shr_u 1 0 77" => "done",
+    "show 1" => "raw 1479332765649344 1875380290415586",
+    "shift i64x2_shl 1 0 77" => "done",
+    "show 1" => "raw 14479496281541525504 10957536823797350400",
+    "shift i64x2_shr_s 1 0 77" => "done",
+    "show 1" => "raw 18445971607674440128 18446367654257060834",
+    "shift i64x2_shr_u 1 0 77" => "done",
+    "show 1" => "raw 1479333778573760 1875380361194466",
+    "",
+};
 
-const COMPARISONS: &str = "\
-set 0 1327572068617114221 5901565386386709117
-set 1 1327572068617114221 5901565386013878213
-set 2 16927985197677779527 9171361802319593741
-set 3 16928037974235880344 15316523362282930445
-binary i8x16_eq 4 0 1
-show 4
-binary i8x16_eq 5 2 3
-show 5
-binary i16x8_eq 4 0 1
-show 4
-binary i16x8_eq 5 2 3
-show 5
-binary i32x4_eq 4 0 1
-show 4
-binary i32x4_eq 5 2 3
-show 5
-binary i64x2_eq 4 0 1
-show 4
-binary i64x2_eq 5 2 3
-show 5
-binary i8x16_ne 4 0 1
-show 4
-binary i8x16_ne 5 2 3
-show 5
-binary i16x8_ne 4 0 1
-show 4
-binary i16x8_ne 5 2 3
-show 5
-binary i32x4_ne 4 0 1
-show 4
-binary i32x4_ne 5 2 3
-show 5
-binary i64x2_ne 4 0 1
-show 4
-binary i64x2_ne 5 2 3
-show 5
-binary i8x16_lt_s 4 0 1
-show 4
-binary i8x16_lt_s 5 2 3
-show 5
-binary i16x8_lt_s 4 0 1
-show 4
-binary i16x8_lt_s 5 2 3
-show 5
-binary i32x4_lt_s 4 0 1
-show 4
-binary i32x4_lt_s 5 2 3
-show 5
-binary i64x2_lt_s 4 0 1
-show 4
-binary i64x2_lt_s 5 2 3
-show 5
-binary i8x16_lt_u 4 0 1
-show 4
-binary i8x16_lt_u 5 2 3
-show 5
-binary i16x8_lt_u 4 0 1
-show 4
-binary i16x8_lt_u 5 2 3
-show 5
-binary i32x4_lt_u 4 0 1
-show 4
-binary i32x4_lt_u 5 2 3
-show 5
-binary i8x16_le_s 4 0 1
-show 4
-binary i8x16_le_s 5 2 3
-show 5
-binary i16x8_le_s 4 0 1
-show 4
-binary i16x8_le_s 5 2 3
-show 5
-binary i32x4_le_s 4 0 1
-show 4
-binary i32x4_le_s 5 2 3
-show 5
-binary i64x2_le_s 4 0 1
-show 4
-binary i64x2_le_s 5 2 3
-show 5
-binary i8x16_le_u 4 0 1
-show 4
-binary i8x16_le_u 5 2 3
-show 5
-binary i16x8_le_u 4 0 1
-show 4
-binary i16x8_le_u 5 2 3
-show 5
-binary i32x4_le_u 4 0 1
-show 4
-binary i32x4_le_u 5 2 3
-show 5
-binary i8x16_gt_s 4 0 1
-show 4
-binary i8x16_gt_s 5 2 3
-show 5
-binary i16x8_gt_s 4 0 1
-show 4
-binary i16x8_gt_s 5 2 3
-show 5
-binary i32x4_gt_s 4 0 1
-show 4
-binary i32x4_gt_s 5 2 3
-show 5
-binary i64x2_gt_s 4 0 1
-show 4
-binary i64x2_gt_s 5 2 3
-show 5
-binary i8x16_gt_u 4 0 1
-show 4
-binary i8x16_gt_u 5 2 3
-show 5
-binary i16x8_gt_u 4 0 1
-show 4
-binary i16x8_gt_u 5 2 3
-show 5
-binary i32x4_gt_u 4 0 1
-show 4
-binary i32x4_gt_u 5 2 3
-show 5
-binary i8x16_ge_s 4 0 1
-show 4
-binary i8x16_ge_s 5 2 3
-show 5
-binary i16x8_ge_s 4 0 1
-show 4
-binary i16x8_ge_s 5 2 3
-show 5
-binary i32x4_ge_s 4 0 1
-show 4
-binary i32x4_ge_s 5 2 3
-show 5
-binary i64x2_ge_s 4 0 1
-show 4
-binary i64x2_ge_s 5 2 3
-show 5
-binary i8x16_ge_u 4 0 1
-show 4
-binary i8x16_ge_u 5 2 3
-show 5
-binary i16x8_ge_u 4 0 1
-show 4
-binary i16x8_ge_u 5 2 3
-show 5
-binary i32x4_ge_u 4 0 1
-show 4
-binary i32x4_ge_u 5 2 3
-show 5
-";
+const TESTS: Script = script! {
+    "set 0 9295712209692885248 9295852949311947009" => "done",
+    "set 1 9295712211840335872 9295852949311947009" => "done",
+    "set 2 9295712209676009472 9295852949311947009" => "done",
+    "set 3 0 9295852949311947009" => "done",
+    "test i8x16_all_true 0" => "raw 0 0",
+    "test i8x16_all_true 1" => "raw 0 0",
+    "test i8x16_all_true 2" => "raw 0 0",
+    "test i8x16_all_true 3" => "raw 0 0",
+    "test i16x8_all_true 0" => "raw 1 0",
+    "test i16x8_all_true 1" => "raw 0 0",
+    "test i16x8_all_true 2" => "raw 0 0",
+    "test i16x8_all_true 3" => "raw 0 0",
+    "test i32x4_all_true 0" => "raw 1 0",
+    "test i32x4_all_true 1" => "raw 1 0",
+    "test i32x4_all_true 2" => "raw 0 0",
+    "test i32x4_all_true 3" => "raw 0 0",
+    "test i64x2_all_true 0" => "raw 1 0",
+    "test i64x2_all_true 1" => "raw 1 0",
+    "test i64x2_all_true 2" => "raw 1 0",
+    "test i64x2_all_true 3" => "raw 0 0",
+    "test v128_any_true 0" => "raw 1 0",
+    "test v128_any_true 1" => "raw 1 0",
+    "test v128_any_true 2" => "raw 1 0",
+    "test v128_any_true 3" => "raw 1 0",
+    "test i8x16_bitmask 0" => "raw 43650 0",
+    "test i8x16_bitmask 1" => "raw 43656 0",
+    "test i8x16_bitmask 2" => "raw 43648 0",
+    "test i8x16_bitmask 3" => "raw 43520 0",
+    "test i16x8_bitmask 0" => "raw 249 0",
+    "test i16x8_bitmask 1" => "raw 250 0",
+    "test i16x8_bitmask 2" => "raw 248 0",
+    "test i16x8_bitmask 3" => "raw 240 0",
+    "test i32x4_bitmask 0" => "raw 14 0",
+    "test i32x4_bitmask 1" => "raw 15 0",
+    "test i32x4_bitmask 2" => "raw 14 0",
+    "test i32x4_bitmask 3" => "raw 12 0",
+    "test i64x2_bitmask 0" => "raw 3 0",
+    "test i64x2_bitmask 1" => "raw 3 0",
+    "test i64x2_bitmask 2" => "raw 3 0",
+    "test i64x2_bitmask 3" => "raw 2 0",
+    "",
+};
 
-const COMPARISONS_PRINTED: &str = "\
-done
-done
-done
-done
-done
-raw 18446744073709551615 18446744069414584320
-done
-raw 18446463698244403200 280375481860095
-done
-raw 18446744073709551615 18446744069414584320
-done
-raw 18446462603027742720 65535
-done
-raw 18446744073709551615 18446744069414584320
-done
-raw 0 0
-done
-raw 18446744073709551615 0
-done
-raw 0 0
-done
-raw 0 4294967295
-done
-raw 280375465148415 18446463698227691520
-done
-raw 0 4294967295
-done
-raw 281470681808895 18446744073709486080
-done
-raw 0 4294967295
-done
-raw 18446744073709551615 18446744073709551615
-done
-raw 0 18446744073709551615
-done
-raw 18446744073709551615 18446744073709551615
-done
-raw 0 65280
-done
-raw 280375465148160 4278190080
-done
-raw 0 65535
-done
-raw 281470681808895 4294901760
-done
-raw 0 0
-done
-raw 18446744069414584320 4294967295
-done
-raw 0 0
-done
-raw 18446744073709551615 0
-done
-raw 0 65535
-done
-raw 280375465083135 18446462603011031040
-done
-raw 0 65535
-done
-raw 281470681743360 18446462603027742720
-done
-raw 0 0
-done
-raw 18446744069414584320 18446744073709551615
-done
-raw 18446744073709551615 18446744069414649600
-done
-raw 18446744073709551360 280379760050175
-done
-raw 18446744073709551615 18446744069414649855
-done
-raw 18446744073709551615 4294967295
-done
-raw 18446744073709551615 18446744069414584320
-done
-raw 18446744069414584320 4294967295
-done
-raw 18446744073709551615 0
-done
-raw 18446744073709551615 0
-done
-raw 18446744073709551615 18446744069414649855
-done
-raw 18446744073709486335 18446742978492891135
-done
-raw 18446744073709551615 18446744069414649855
-done
-raw 18446744073709486080 18446462603027808255
-done
-raw 18446744073709551615 18446744069414584320
-done
-raw 18446744069414584320 18446744073709551615
-done
-raw 0 4294902015
-done
-raw 255 18446463693949501440
-done
-raw 0 4294901760
-done
-raw 0 18446744069414584320
-done
-raw 0 4294967295
-done
-raw 4294967295 18446744069414584320
-done
-raw 0 18446744073709551615
-done
-raw 0 18446744073709551615
-done
-raw 0 4294901760
-done
-raw 65280 1095216660480
-done
-raw 0 4294901760
-done
-raw 65535 281470681743360
-done
-raw 0 4294967295
-done
-raw 4294967295 0
-done
-raw 18446744073709551615 18446744073709486335
-done
-raw 18446463698244403455 18446744069431361535
-done
-raw 18446744073709551615 18446744073709486080
-done
-raw 18446462603027742720 18446744069414649855
-done
-raw 18446744073709551615 18446744073709551615
-done
-raw 4294967295 18446744069414584320
-done
-raw 18446744073709551615 18446744073709551615
-done
-raw 0 18446744073709551615
-done
-raw 18446744073709551615 18446744073709486080
-done
-raw 18446463698244468480 281470698520575
-done
-raw 18446744073709551615 18446744073709486080
-done
-raw 18446462603027808255 281470681808895
-done
-raw 18446744073709551615 18446744073709551615
-done
-raw 4294967295 0
-";
+const EXTRACTS: Script = script! {
+    "set 0 14818489584308449237 10519837767505660117" => "done",
+    "set 1 11854699511971959196 1221126655773685969" => "done",
+    "extract i8x16_extract_lane_s 0 0" => "raw 4294967253 0",
+    "extract i8x16_extract_lane_s 0 1" => "raw 4294967279 0",
+    "extract i8x16_extract_lane_s 0 15" => "raw 4294967185 0",
+    "extract i8x16_extract_lane_u 0 0" => "raw 213 0",
+    "extract i8x16_extract_lane_u 0 1" => "raw 239 0",
+    "extract i8x16_extract_lane_u 0 15" => "raw 145 0",
+    "extract i16x8_extract_lane_s 0 0" => "raw 4294963157 0",
+    "extract i16x8_extract_lane_s 0 1" => "raw 4294960263 0",
+    "extract i16x8_extract_lane_s 0 7" => "raw 4294939133 0",
+    "extract i16x8_extract_lane_u 0 0" => "raw 61397 0",
+    "extract i16x8_extract_lane_u 0 1" => "raw 58503 0",
+    "extract i16x8_extract_lane_u 0 7" => "raw 37373 0",
+    "extract i32x4_extract_lane 0 0" => "raw 3834114005 0",
+    "extract i32x4_extract_lane 0 1" => "raw 3450198467 0",
+    "extract i32x4_extract_lane 0 3" => "raw 2449340598 0",
+    "extract i64x2_extract_lane 0 0" => "raw 14818489584308449237 0",
+    "extract i64x2_extract_lane 0 1" => "raw 10519837767505660117 0",
+    "extract i64x2_extract_lane 0 1" => "raw 10519837767505660117 0",
+    "",
+};
 
-const TERNARIES: &str = "\
-set 0 1736392818365009963 10750541312280087032
-set 1 16781078052021535861 3960482443532127989
-set 2 1585446675937841368 7713914763314685786
-ternary v128_bitselect 3 0 1 2
-show 3
-ternary i8x16_relaxed_laneselect 3 0 1 2
-show 3
-ternary i16x8_relaxed_laneselect 3 0 1 2
-show 3
-ternary i32x4_relaxed_laneselect 3 0 1 2
-show 3
-ternary i64x2_relaxed_laneselect 3 0 1 2
-show 3
-ternary i32x4_relaxed_dot_i8x16_i7x16_add_s 3 0 1 2
-show 3
-";
+const REPLACES: Script = script! {
+    "set 0 14818489584308449237 10519837767505660117" => "done",
+    "set 1 11854699511971959196 1221126655773685969" => "done",
+    "replace i8x16_replace_lane 2 0 0 1" => "done",
+    "show 2" => "raw 14818489584308449180 10519837767505660117",
+    "replace i8x16_replace_lane 2 0 1 1" => "done",
+    "show 2" => "raw 14818489584308427989 10519837767505660117",
+    "replace i8x16_replace_lane 2 0 15 1" => "done",
+    "show 2" => "raw 14818489584308449237 11312471301922867413",
+    "replace i16x8_replace_lane 2 0 0 1" => "done",
+    "show 2" => "raw 14818489584308441500 10519837767505660117",
+    "replace i16x8_replace_lane 2 0 1 1" => "done",
+    "show 2" => "raw 14818489583991058389 10519837767505660117",
+    "replace i16x8_replace_lane 2 0 7 1" => "done",
+    "show 2" => "raw 14818489584308449237 15104220713192114389",
+    "replace i32x4_replace_lane 2 0 0 1" => "done",
+    "show 2" => "raw 14818489583462109596 10519837767505660117",
+    "replace i32x4_replace_lane 2 0 1 1" => "done",
+    "show 2" => "raw 12832393185041313749 10519837767505660117",
+    "replace i32x4_replace_lane 2 0 3 1" => "done",
+    "show 2" => "raw 14818489584308449237 12832393183537776853",
+    "replace i64x2_replace_lane 2 0 0 1" => "done",
+    "show 2" => "raw 11854699511971959196 10519837767505660117",
+    "replace i64x2_replace_lane 2 0 1 1" => "done",
+    "show 2" => "raw 14818489584308449237 11854699511971959196",
+    "replace i64x2_replace_lane 2 0 1 1" => "done",
+    "show 2" => "raw 14818489584308449237 11854699511971959196",
+    "",
+};
 
-const TERNARIES_PRINTED: &str = "\
-done
-done
-done
-done
-raw 17934174378984543277 1581662173093251581
-done
-raw 17934174378984543277 1581662173093251581
-done
-raw 17934174378984543277 1581662173093251581
-done
-raw 17934174378984543277 1581662173093251581
-done
-raw 17934174378984543277 1581662173093251581
-done
-raw 1585423637733266708 7713814810835759736
-";
+const LOADS: Script = script! {
+    "memory 1 none 16 32" => "memory 0",
+    "write 0 8 191 71 228 49 197 11 38 231 173 165 119 244 59 187 73 169" => "done",
+    "vload v128_load 0 0 3 5" => "done",
+    "show 0" => "raw 16656013213449865151 12198486931888645549",
+    "vload v128_load8x8_s 0 0 3 5" => "done",
+    "show 0" => "raw 14073628581167039 18439707362501328837",
+    "vload v128_load8x8_u 0 0 3 5" => "done",
+    "show 0" => "raw 13793253116018879 65020882829639877",
+    "vload v128_load16x4_s 0 0 3 5" => "done",
+    "show 0" => "raw 54855322322879 18446716749127617477",
+    "vload v128_load16x4_u 0 0 3 5" => "done",
+    "show 0" => "raw 54855322322879 254150394776517",
+    "vload v128_load32x2_s 0 0 3 5" => "done",
+    "show 0" => "raw 837044159 18446744073292614597",
+    "vload v128_load32x2_u 0 0 3 5" => "done",
+    "show 0" => "raw 837044159 3878030277",
+    "vload v128_load8_splat 0 0 3 5" => "done",
+    "show 0" => "raw 13816973012072644543 13816973012072644543",
+    "vload v128_load16_splat 0 0 3 5" => "done",
+    "show 0" => "raw 5169929784112662463 5169929784112662463",
+    "vload v128_load32_splat 0 0 3 5" => "done",
+    "show 0" => "raw 3595077289049868223 3595077289049868223",
+    "vload v128_load64_splat 0 0 3 5" => "done",
+    "show 0" => "raw 16656013213449865151 16656013213449865151",
+    "vload v128_load32_zero 0 0 3 5" => "done",
+    "show 0" => "raw 837044159 0",
+    "vload v128_load64_zero 0 0 3 5" => "done",
+    "show 0" => "raw 16656013213449865151 0",
+    "",
+};
 
-const SHIFTS: &str = "\
-set 0 12118702314076249850 15363115918905073056
-shift i8x16_shl 1 0 77
-show 1
-shift i8x16_shr_s 1 0 77
-show 1
-shift i8x16_shr_u 1 0 77
-show 1
-shift i16x8_shl 1 0 77
-show 1
-shift i16x8_shr_s 1 0 77
-show 1
-shift i16x8_shr_u 1 0 77
-show 1
-shift i32x4_shl 1 0 77
-show 1
-shift i32x4_shr_s 1 0 77
-show 1
-shift i32x4_shr_u 1 0 77
-show 1
-shift i64x2_shl 1 0 77
-show 1
-shift i64x2_shr_s 1 0 77
-show 1
-shift i64x2_shr_u 1 0 77
-show 1
-";
+const LOAD_LANES: Script = script! {
+    "memory 1 none 16 32" => "memory 0",
+    "write 0 8 4 68 0 75 29 237 99 191" => "done",
+    "set 0 14818489584308449237 10519837767505660117" => "done",
+    "set 1 11854699511971959196 1221126655773685969" => "done",
+    "vloadlane v128_load8_lane 2 0 0 0 3 5" => "done",
+    "show 2" => "raw 14818489584308449028 10519837767505660117",
+    "vloadlane v128_load8_lane 2 0 1 0 3 5" => "done",
+    "show 2" => "raw 14818489584308389077 10519837767505660117",
+    "vloadlane v128_load8_lane 2 0 15 0 3 5" => "done",
+    "show 2" => "raw 14818489584308449237 359717008157821141",
+    "vloadlane v128_load16_lane 2 0 0 0 3 5" => "done",
+    "show 2" => "raw 14818489584308405252 10519837767505660117",
+    "vloadlane v128_load16_lane 2 0 1 0 3 5" => "done",
+    "show 2" => "raw 14818489581615509461 10519837767505660117",
+    "vloadlane v128_load16_lane 2 0 7 0 3 5" => "done",
+    "show 2" => "raw 14818489584308449237 4901315757384255701",
+    "vloadlane v128_load32_lane 2 0 0 0 3 5" => "done",
+    "show 2" => "raw 14818489581732643844 10519837767505660117",
+    "vloadlane v128_load32_lane 2 0 1 0 3 5" => "done",
+    "show 2" => "raw 5404394340649267157 10519837767505660117",
+    "vloadlane v128_load32_lane 2 0 3 0 3 5" => "done",
+    "show 2" => "raw 14818489584308449237 5404394339145730261",
+    "vloadlane v128_load64_lane 2 0 0 0 3 5" => "done",
+    "show 2" => "raw 13791127194006733828 10519837767505660117",
+    "vloadlane v128_load64_lane 2 0 1 0 3 5" => "done",
+    "show 2" => "raw 14818489584308449237 13791127194006733828",
+    "vloadlane v128_load64_lane 2 0 1 0 3 5" => "done",
+    "show 2" => "raw 14818489584308449237 13791127194006733828",
+    "",
+};
 
-const SHIFTS_PRINTED: &str = "\
-done
-done
-raw 54290036425801792 11565244807852892160
-done
-raw 18230856047927558399 18303190723174007549
-done
-raw 360571661369540615 432633653571551749
-done
-raw 13835198792770535424 9223618329606881280
-done
-raw 18445899657369354240 18446462594437808130
-done
-raw 1407383473487872 1688875630526466
-done
-raw 14479495014526173184 10957504186340868096
-done
-raw 18445971606661515712 18446367658480724962
-done
-raw 1479332765649344 1875380290415586
-done
-raw 14479496281541525504 10957536823797350400
-done
-raw 18445971607674440128 18446367654257060834
-done
-raw 1479333778573760 1875380361194466
-";
-
-const TESTS: &str = "\
-set 0 9295712209692885248 9295852949311947009
-set 1 9295712211840335872 9295852949311947009
-set 2 9295712209676009472 9295852949311947009
-set 3 0 9295852949311947009
-test i8x16_all_true 0
-test i8x16_all_true 1
-test i8x16_all_true 2
-test i8x16_all_true 3
-test i16x8_all_true 0
-test i16x8_all_true 1
-test i16x8_all_true 2
-test i16x8_all_true 3
-test i32x4_all_true 0
-test i32x4_all_true 1
-test i32x4_all_true 2
-test i32x4_all_true 3
-test i64x2_all_true 0
-test i64x2_all_true 1
-test i64x2_all_true 2
-test i64x2_all_true 3
-test v128_any_true 0
-test v128_any_true 1
-test v128_any_true 2
-test v128_any_true 3
-test i8x16_bitmask 0
-test i8x16_bitmask 1
-test i8x16_bitmask 2
-test i8x16_bitmask 3
-test i16x8_bitmask 0
-test i16x8_bitmask 1
-test i16x8_bitmask 2
-test i16x8_bitmask 3
-test i32x4_bitmask 0
-test i32x4_bitmask 1
-test i32x4_bitmask 2
-test i32x4_bitmask 3
-test i64x2_bitmask 0
-test i64x2_bitmask 1
-test i64x2_bitmask 2
-test i64x2_bitmask 3
-";
-
-const TESTS_PRINTED: &str = "\
-done
-done
-done
-done
-raw 0 0
-raw 0 0
-raw 0 0
-raw 0 0
-raw 1 0
-raw 0 0
-raw 0 0
-raw 0 0
-raw 1 0
-raw 1 0
-raw 0 0
-raw 0 0
-raw 1 0
-raw 1 0
-raw 1 0
-raw 0 0
-raw 1 0
-raw 1 0
-raw 1 0
-raw 1 0
-raw 43650 0
-raw 43656 0
-raw 43648 0
-raw 43520 0
-raw 249 0
-raw 250 0
-raw 248 0
-raw 240 0
-raw 14 0
-raw 15 0
-raw 14 0
-raw 12 0
-raw 3 0
-raw 3 0
-raw 3 0
-raw 2 0
-";
-
-const EXTRACTS: &str = "\
-set 0 14818489584308449237 10519837767505660117
-set 1 11854699511971959196 1221126655773685969
-extract i8x16_extract_lane_s 0 0
-extract i8x16_extract_lane_s 0 1
-extract i8x16_extract_lane_s 0 15
-extract i8x16_extract_lane_u 0 0
-extract i8x16_extract_lane_u 0 1
-extract i8x16_extract_lane_u 0 15
-extract i16x8_extract_lane_s 0 0
-extract i16x8_extract_lane_s 0 1
-extract i16x8_extract_lane_s 0 7
-extract i16x8_extract_lane_u 0 0
-extract i16x8_extract_lane_u 0 1
-extract i16x8_extract_lane_u 0 7
-extract i32x4_extract_lane 0 0
-extract i32x4_extract_lane 0 1
-extract i32x4_extract_lane 0 3
-extract i64x2_extract_lane 0 0
-extract i64x2_extract_lane 0 1
-extract i64x2_extract_lane 0 1
-";
-
-const EXTRACTS_PRINTED: &str = "\
-done
-done
-raw 4294967253 0
-raw 4294967279 0
-raw 4294967185 0
-raw 213 0
-raw 239 0
-raw 145 0
-raw 4294963157 0
-raw 4294960263 0
-raw 4294939133 0
-raw 61397 0
-raw 58503 0
-raw 37373 0
-raw 3834114005 0
-raw 3450198467 0
-raw 2449340598 0
-raw 14818489584308449237 0
-raw 10519837767505660117 0
-raw 10519837767505660117 0
-";
-
-const REPLACES: &str = "\
-set 0 14818489584308449237 10519837767505660117
-set 1 11854699511971959196 1221126655773685969
-replace i8x16_replace_lane 2 0 0 1
-show 2
-replace i8x16_replace_lane 2 0 1 1
-show 2
-replace i8x16_replace_lane 2 0 15 1
-show 2
-replace i16x8_replace_lane 2 0 0 1
-show 2
-replace i16x8_replace_lane 2 0 1 1
-show 2
-replace i16x8_replace_lane 2 0 7 1
-show 2
-replace i32x4_replace_lane 2 0 0 1
-show 2
-replace i32x4_replace_lane 2 0 1 1
-show 2
-replace i32x4_replace_lane 2 0 3 1
-show 2
-replace i64x2_replace_lane 2 0 0 1
-show 2
-replace i64x2_replace_lane 2 0 1 1
-show 2
-replace i64x2_replace_lane 2 0 1 1
-show 2
-";
-
-const REPLACES_PRINTED: &str = "\
-done
-done
-done
-raw 14818489584308449180 10519837767505660117
-done
-raw 14818489584308427989 10519837767505660117
-done
-raw 14818489584308449237 11312471301922867413
-done
-raw 14818489584308441500 10519837767505660117
-done
-raw 14818489583991058389 10519837767505660117
-done
-raw 14818489584308449237 15104220713192114389
-done
-raw 14818489583462109596 10519837767505660117
-done
-raw 12832393185041313749 10519837767505660117
-done
-raw 14818489584308449237 12832393183537776853
-done
-raw 11854699511971959196 10519837767505660117
-done
-raw 14818489584308449237 11854699511971959196
-done
-raw 14818489584308449237 11854699511971959196
-";
-
-const LOADS: &str = "\
-memory 1 none 16 32
-write 0 8 191 71 228 49 197 11 38 231 173 165 119 244 59 187 73 169
-vload v128_load 0 0 3 5
-show 0
-vload v128_load8x8_s 0 0 3 5
-show 0
-vload v128_load8x8_u 0 0 3 5
-show 0
-vload v128_load16x4_s 0 0 3 5
-show 0
-vload v128_load16x4_u 0 0 3 5
-show 0
-vload v128_load32x2_s 0 0 3 5
-show 0
-vload v128_load32x2_u 0 0 3 5
-show 0
-vload v128_load8_splat 0 0 3 5
-show 0
-vload v128_load16_splat 0 0 3 5
-show 0
-vload v128_load32_splat 0 0 3 5
-show 0
-vload v128_load64_splat 0 0 3 5
-show 0
-vload v128_load32_zero 0 0 3 5
-show 0
-vload v128_load64_zero 0 0 3 5
-show 0
-";
-
-const LOADS_PRINTED: &str = "\
-memory 0
-done
-done
-raw 16656013213449865151 12198486931888645549
-done
-raw 14073628581167039 18439707362501328837
-done
-raw 13793253116018879 65020882829639877
-done
-raw 54855322322879 18446716749127617477
-done
-raw 54855322322879 254150394776517
-done
-raw 837044159 18446744073292614597
-done
-raw 837044159 3878030277
-done
-raw 13816973012072644543 13816973012072644543
-done
-raw 5169929784112662463 5169929784112662463
-done
-raw 3595077289049868223 3595077289049868223
-done
-raw 16656013213449865151 16656013213449865151
-done
-raw 837044159 0
-done
-raw 16656013213449865151 0
-";
-
-const LOAD_LANES: &str = "\
-memory 1 none 16 32
-write 0 8 4 68 0 75 29 237 99 191
-set 0 14818489584308449237 10519837767505660117
-set 1 11854699511971959196 1221126655773685969
-vloadlane v128_load8_lane 2 0 0 0 3 5
-show 2
-vloadlane v128_load8_lane 2 0 1 0 3 5
-show 2
-vloadlane v128_load8_lane 2 0 15 0 3 5
-show 2
-vloadlane v128_load16_lane 2 0 0 0 3 5
-show 2
-vloadlane v128_load16_lane 2 0 1 0 3 5
-show 2
-vloadlane v128_load16_lane 2 0 7 0 3 5
-show 2
-vloadlane v128_load32_lane 2 0 0 0 3 5
-show 2
-vloadlane v128_load32_lane 2 0 1 0 3 5
-show 2
-vloadlane v128_load32_lane 2 0 3 0 3 5
-show 2
-vloadlane v128_load64_lane 2 0 0 0 3 5
-show 2
-vloadlane v128_load64_lane 2 0 1 0 3 5
-show 2
-vloadlane v128_load64_lane 2 0 1 0 3 5
-show 2
-";
-
-const LOAD_LANES_PRINTED: &str = "\
-memory 0
-done
-done
-done
-done
-raw 14818489584308449028 10519837767505660117
-done
-raw 14818489584308389077 10519837767505660117
-done
-raw 14818489584308449237 359717008157821141
-done
-raw 14818489584308405252 10519837767505660117
-done
-raw 14818489581615509461 10519837767505660117
-done
-raw 14818489584308449237 4901315757384255701
-done
-raw 14818489581732643844 10519837767505660117
-done
-raw 5404394340649267157 10519837767505660117
-done
-raw 14818489584308449237 5404394339145730261
-done
-raw 13791127194006733828 10519837767505660117
-done
-raw 14818489584308449237 13791127194006733828
-done
-raw 14818489584308449237 13791127194006733828
-";
-
-const STORE_LANES: &str = "\
-memory 1 none 16 32
-write 0 8 4 68 0 75 29 237 99 191
-set 0 14818489584308449237 10519837767505660117
-set 1 11854699511971959196 1221126655773685969
-vstorelane v128_store8_lane 0 0 0 20 3
-read 0 22 10
-vstorelane v128_store8_lane 0 1 0 30 3
-read 0 32 10
-vstorelane v128_store8_lane 0 15 0 40 3
-read 0 42 10
-vstorelane v128_store16_lane 0 0 0 20 3
-read 0 22 10
-vstorelane v128_store16_lane 0 1 0 30 3
-read 0 32 10
-vstorelane v128_store16_lane 0 7 0 40 3
-read 0 42 10
-vstorelane v128_store32_lane 0 0 0 20 3
-read 0 22 10
-vstorelane v128_store32_lane 0 1 0 30 3
-read 0 32 10
-vstorelane v128_store32_lane 0 3 0 40 3
-read 0 42 10
-vstorelane v128_store64_lane 0 0 0 20 3
-read 0 22 10
-vstorelane v128_store64_lane 0 1 0 30 3
-read 0 32 10
-vstorelane v128_store64_lane 0 1 0 40 3
-read 0 42 10
-";
-
-const STORE_LANES_PRINTED: &str = "\
-memory 0
-done
-done
-done
-done
-bytes 0 213 0 0 0 0 0 0 0 0
-done
-bytes 0 239 0 0 0 0 0 0 0 0
-done
-bytes 0 145 0 0 0 0 0 0 0 0
-done
-bytes 0 213 239 0 0 0 0 0 0 0
-done
-bytes 0 135 228 0 0 0 0 0 0 0
-done
-bytes 0 253 145 0 0 0 0 0 0 0
-done
-bytes 0 213 239 135 228 0 0 0 0 0
-done
-bytes 0 195 217 165 205 0 0 0 0 0
-done
-bytes 0 182 248 253 145 0 0 0 0 0
-done
-bytes 0 213 239 135 228 195 217 165 205 0
-done
-bytes 0 213 200 233 138 182 248 253 145 0
-done
-bytes 0 213 200 233 138 182 248 253 145 0
-";
+const STORE_LANES: Script = script! {
+    "memory 1 none 16 32" => "memory 0",
+    "write 0 8 4 68 0 75 29 237 99 191" => "done",
+    "set 0 14818489584308449237 10519837767505660117" => "done",
+    "set 1 11854699511971959196 1221126655773685969" => "done",
+    "vstorelane v128_store8_lane 0 0 0 20 3" => "done",
+    "read 0 22 10" => "bytes 0 213 0 0 0 0 0 0 0 0",
+    "vstorelane v128_store8_lane 0 1 0 30 3" => "done",
+    "read 0 32 10" => "bytes 0 239 0 0 0 0 0 0 0 0",
+    "vstorelane v128_store8_lane 0 15 0 40 3" => "done",
+    "read 0 42 10" => "bytes 0 145 0 0 0 0 0 0 0 0",
+    "vstorelane v128_store16_lane 0 0 0 20 3" => "done",
+    "read 0 22 10" => "bytes 0 213 239 0 0 0 0 0 0 0",
+    "vstorelane v128_store16_lane 0 1 0 30 3" => "done",
+    "read 0 32 10" => "bytes 0 135 228 0 0 0 0 0 0 0",
+    "vstorelane v128_store16_lane 0 7 0 40 3" => "done",
+    "read 0 42 10" => "bytes 0 253 145 0 0 0 0 0 0 0",
+    "vstorelane v128_store32_lane 0 0 0 20 3" => "done",
+    "read 0 22 10" => "bytes 0 213 239 135 228 0 0 0 0 0",
+    "vstorelane v128_store32_lane 0 1 0 30 3" => "done",
+    "read 0 32 10" => "bytes 0 195 217 165 205 0 0 0 0 0",
+    "vstorelane v128_store32_lane 0 3 0 40 3" => "done",
+    "read 0 42 10" => "bytes 0 182 248 253 145 0 0 0 0 0",
+    "vstorelane v128_store64_lane 0 0 0 20 3" => "done",
+    "read 0 22 10" => "bytes 0 213 239 135 228 195 217 165 205 0",
+    "vstorelane v128_store64_lane 0 1 0 30 3" => "done",
+    "read 0 32 10" => "bytes 0 213 200 233 138 182 248 253 145 0",
+    "vstorelane v128_store64_lane 0 1 0 40 3" => "done",
+    "read 0 42 10" => "bytes 0 213 200 233 138 182 248 253 145 0",
+    "",
+};
 
 /// The instructions of each shape.
-static SHAPES: [(&str, &str); 12] = [
-    (MAKES, MAKES_PRINTED),
-    (UNARIES, UNARIES_PRINTED),
-    (BINARIES, BINARIES_PRINTED),
-    (COMPARISONS, COMPARISONS_PRINTED),
-    (TERNARIES, TERNARIES_PRINTED),
-    (SHIFTS, SHIFTS_PRINTED),
-    (TESTS, TESTS_PRINTED),
-    (EXTRACTS, EXTRACTS_PRINTED),
-    (REPLACES, REPLACES_PRINTED),
-    (LOADS, LOADS_PRINTED),
-    (LOAD_LANES, LOAD_LANES_PRINTED),
-    (STORE_LANES, STORE_LANES_PRINTED),
+static SHAPES: [Script; 12] = [
+    MAKES,
+    UNARIES,
+    BINARIES,
+    COMPARISONS,
+    TERNARIES,
+    SHIFTS,
+    TESTS,
+    EXTRACTS,
+    REPLACES,
+    LOADS,
+    LOAD_LANES,
+    STORE_LANES,
 ];
 
 #[test]

@@ -1,6 +1,6 @@
 //! Writers that are slow or fail.
 use super::streams::{After, Source, Target};
-use super::{METERED, METERED_PRINTED, same, same_text};
+use super::{METERED, same, same_text};
 use std::alloc::Global;
 use std::io::ErrorKind;
 use std::process::Abort;
@@ -9,10 +9,10 @@ use wasmi_script::{Status, replay};
 // What the metered script prints to this writer, which takes one byte a turn where its good turns
 // come to an end.
 fn ends<R: Abort>(rt: &R, alloc: Global, writer: &mut Target, status: Status) {
-    let ended = replay(alloc, &mut Source::of(METERED.as_bytes()), writer);
-    same(rt, ended, status, "how it ends");
-    let sent = writer.good_turns.min(METERED_PRINTED.len());
-    same_text(rt, writer.text(), &METERED_PRINTED.as_bytes()[..sent]);
+    let ended = replay(alloc, &mut Source::of(METERED.text.as_bytes()), writer);
+    same(rt, "how it ends", ended, status);
+    let sent = writer.good_turns.min(METERED.printed.len());
+    same_text(rt, writer.text(), &METERED.printed.as_bytes()[..sent]);
 }
 
 #[test]
@@ -21,16 +21,16 @@ fn prints_to_slow_writers(rt: HostRuntime) {
         let mut writer = Target::new(rt.alloc());
         writer.at_once = at_once;
         ends(&rt, rt.alloc(), &mut writer, Status::Answered);
-        same(&rt, writer.is_flushed, true, "all is flushed");
+        same(&rt, "all is flushed", writer.is_flushed, true);
         if at_once == 1 {
-            same(&rt, writer.turns, METERED_PRINTED.len(), "turns");
+            same(&rt, "turns", writer.turns, METERED.printed.len());
         }
     }
 }
 
 #[test]
 fn stops_where_a_write_fails_or_takes_nothing(rt: HostRuntime) {
-    for good_turns in 0..METERED_PRINTED.len() {
+    for good_turns in 0..METERED.printed.len() {
         for after in [After::Fails(ErrorKind::Interrupted), After::TakesNothing] {
             let mut writer = Target::new(rt.alloc());
             writer.at_once = 1;
@@ -72,7 +72,7 @@ fn a_reason_that_cannot_be_printed_is_a_fault(rt: HostRuntime) {
         writer.good_turns = good_turns;
         writer.flush_fails = flush_fails;
         let ended = replay(rt.alloc(), &mut Source::of(script.as_bytes()), &mut writer);
-        same(&rt, ended, Status::Fault, script);
+        same(&rt, script, ended, Status::Fault);
         same_text(&rt, writer.text(), printed.as_bytes());
     }
 }

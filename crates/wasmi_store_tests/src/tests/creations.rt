@@ -127,18 +127,8 @@ const WANTING: Creation = Creation {
 
 static CREATIONS: [Creation; 7] = [
     PERMITTED,
-    Creation {
-        what: "the limiter says no",
-        answer: Ok(false),
-        outcome: Err(DENIED),
-        ..PERMITTED
-    },
-    Creation {
-        what: "the limiter answers an error",
-        answer: Err(COMPLAINT),
-        outcome: Err(DENIED),
-        ..PERMITTED
-    },
+    denied! { Creation, "the limiter says no", Ok(false), PERMITTED },
+    denied! { Creation, "the limiter answers an error", Err(COMPLAINT), PERMITTED },
     Creation {
         what: "a maximum of all bytes",
         minimum: 0,
@@ -163,12 +153,7 @@ static CREATIONS: [Creation; 7] = [
         ..PERMITTED
     },
     WANTING,
-    Creation {
-        what: "want of memory, and the limiter accepts with an error",
-        notice_answer: Err(COMPLAINT),
-        outcome: Err(DENIED),
-        ..WANTING
-    },
+    complained! { Creation, "want of memory", WANTING },
 ];
 
 #[test]

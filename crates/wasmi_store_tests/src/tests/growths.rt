@@ -206,19 +206,9 @@ static GROWTHS: [Growth; 10] = [
         ..PERMITTED
     },
     WANT_OF_FUEL,
-    Growth {
-        what: "want of fuel, and the limiter accepts with an error",
-        notice_answer: Err(COMPLAINT),
-        outcome: Err(DENIED),
-        ..WANT_OF_FUEL
-    },
+    complained! { Growth, "want of fuel", WANT_OF_FUEL },
     WANT_OF_MEMORY,
-    Growth {
-        what: "want of memory, and the limiter accepts with an error",
-        notice_answer: Err(COMPLAINT),
-        outcome: Err(DENIED),
-        ..WANT_OF_MEMORY
-    },
+    complained! { Growth, "want of memory", WANT_OF_MEMORY },
 ];
 
 #[test]

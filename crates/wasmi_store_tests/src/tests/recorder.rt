@@ -49,9 +49,9 @@ impl Recorder {
         }
     }
 
-    fn is_asked(&mut self, question: Question) -> Result<bool, LimiterError> {
+    fn is_asked(&mut self, question: Option<Question>) -> Result<bool, LimiterError> {
         self.questions = self.questions.saturating_add(1);
-        self.question = Some(question);
+        self.question = question;
         self.answer
     }
 
@@ -74,12 +74,7 @@ impl ResourceLimiter for Recorder {
         desired: usize,
         maximum: Option<usize>,
     ) -> Result<bool, LimiterError> {
-        self.is_asked(Question {
-            kind: Kind::Bytes,
-            current,
-            desired,
-            maximum,
-        })
+        self.is_asked(memory_question(current, desired, maximum))
     }
 
     fn table_growing(
@@ -88,12 +83,7 @@ impl ResourceLimiter for Recorder {
         desired: usize,
         maximum: Option<usize>,
     ) -> Result<bool, LimiterError> {
-        self.is_asked(Question {
-            kind: Kind::Elements,
-            current,
-            desired,
-            maximum,
-        })
+        self.is_asked(table_question(current, desired, maximum))
     }
 
     fn memory_grow_failed(&mut self, error: &MemoryError) -> Result<(), LimiterError> {

@@ -129,26 +129,11 @@ static GROWTHS: [Growth; 13] = [
         }),
         ..ABOVE_THE_MAXIMUM
     },
-    Growth {
-        what: "above the maximum, and the limiter accepts with an error",
-        notice_answer: Err(COMPLAINT),
-        outcome: Err(DENIED),
-        ..ABOVE_THE_MAXIMUM
-    },
     WANT_OF_FUEL,
-    Growth {
-        what: "want of fuel, and the limiter accepts with an error",
-        notice_answer: Err(COMPLAINT),
-        outcome: Err(DENIED),
-        ..WANT_OF_FUEL
-    },
     WANT_OF_MEMORY,
-    Growth {
-        what: "want of memory, and the limiter accepts with an error",
-        notice_answer: Err(COMPLAINT),
-        outcome: Err(DENIED),
-        ..WANT_OF_MEMORY
-    },
+    complained! { Growth, "above the maximum", ABOVE_THE_MAXIMUM },
+    complained! { Growth, "want of fuel", WANT_OF_FUEL },
+    complained! { Growth, "want of memory", WANT_OF_MEMORY },
 ];
 
 #[test]

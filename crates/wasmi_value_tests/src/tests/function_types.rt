@@ -17,10 +17,10 @@ fn function_type(rt: &impl Abort, alloc: Global, lists: Lists) -> FuncType {
     let (params, results) = lists;
     let made = FuncType::new(alloc, params.iter().copied(), results.iter().copied());
     let ty = made.expect(rt, "a function type");
-    same(rt, ty.params_results(), lists);
-    same(rt, (ty.params(), ty.results()), lists);
+    same(rt, "both lists", ty.params_results(), lists);
+    same(rt, "each list", (ty.params(), ty.results()), lists);
     let counts = (usize::from(ty.len_params()), usize::from(ty.len_results()));
-    same(rt, counts, (params.len(), results.len()));
+    same(rt, "counts", counts, (params.len(), results.len()));
     ty
 }
 
@@ -34,8 +34,8 @@ fn hash_of(ty: &FuncType) -> u64 {
 fn check_copy(rt: &impl Abort, alloc: Global, lists: Lists) {
     let ty = function_type(rt, alloc, lists);
     let copy = ty.clone().expect(rt, "memory");
-    same(rt, hash_of(&copy), hash_of(&ty));
-    same(rt, copy, function_type(rt, alloc, lists));
+    same(rt, "hash of a copy", hash_of(&copy), hash_of(&ty));
+    same(rt, "copy", copy, function_type(rt, alloc, lists));
 }
 
 /// Compares two function types, of which the first is below the second.
@@ -45,11 +45,13 @@ fn check_order(rt: &impl Abort, alloc: Global, pair: (Lists, Lists)) {
     let orders = (lower.cmp(&higher), higher.cmp(&lower));
     same(
         rt,
+        "order",
         (pair, orders),
         (pair, (Ordering::Less, Ordering::Greater)),
     );
     same(
         rt,
+        "comparisons",
         (pair, lower < higher, lower != higher),
         (pair, true, true),
     );
@@ -174,13 +176,13 @@ static READS: [((usize, usize), (usize, usize), Option<FuncTypeError>); 7] = [
 fn reads_until_the_first_none(rt: HostRuntime) {
     for &(ends, expected, refusal) in &READS {
         let (made, reads) = read(rt.alloc(), ends);
-        same(&rt, (ends, reads), (ends, expected));
+        same(&rt, "reads", (ends, reads), (ends, expected));
         match made {
             Ok(ty) => {
                 let counts = (usize::from(ty.len_params()), usize::from(ty.len_results()));
-                same(&rt, (counts, None), (ends, refusal));
+                same(&rt, "counts", (counts, None), (ends, refusal));
             }
-            Err(error) => same(&rt, (ends, Some(error)), (ends, refusal)),
+            Err(error) => same(&rt, "refusal", (ends, Some(error)), (ends, refusal)),
         }
     }
 }
@@ -198,7 +200,7 @@ fn types_after_the_first_none_are_not_taken(rt: HostRuntime) {
     for &(ends, taken) in &TAKEN {
         let (made, _) = read(rt.alloc(), ends);
         let ty = made.expect(&rt, "a function type");
-        same(&rt, ty.params_results(), taken);
+        same(&rt, "types that are taken", ty.params_results(), taken);
     }
 }
 

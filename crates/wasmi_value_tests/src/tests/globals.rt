@@ -13,8 +13,13 @@ fn constants_are_not_written(rt: HostRuntime) {
     let constant = GlobalType::new(ValType::I32, Mutability::Const);
     let mut global = Global::new(RawVal::from(7u32), constant);
     let set = global.set(TypedRawVal::from(1i64));
-    same(&rt, set, Err(GlobalError::ImmutableWrite));
-    same(&rt, global.get(), TypedRawVal::from(7u32));
+    same(&rt, "set a constant", set, Err(GlobalError::ImmutableWrite));
+    same(
+        &rt,
+        "value of a constant",
+        global.get(),
+        TypedRawVal::from(7u32),
+    );
 }
 
 #[test]
@@ -22,11 +27,26 @@ fn variables_are_written_with_their_type(rt: HostRuntime) {
     let variable = GlobalType::new(ValType::I32, Mutability::Var);
     let mut global = Global::new(RawVal::from(7u32), variable);
     let set = global.set(TypedRawVal::from(1i64));
-    same(&rt, set, Err(GlobalError::TypeMismatch));
-    same(&rt, *global.get_raw(), RawVal::from(7u32));
-    same(&rt, global.set(TypedRawVal::from(8u32)), Ok(()));
-    same(&rt, global.get(), TypedRawVal::from(8u32));
-    same(&rt, global.ty(), variable);
+    same(
+        &rt,
+        "set to another type",
+        set,
+        Err(GlobalError::TypeMismatch),
+    );
+    same(
+        &rt,
+        "value that is kept",
+        *global.get_raw(),
+        RawVal::from(7u32),
+    );
+    same(&rt, "set", global.set(TypedRawVal::from(8u32)), Ok(()));
+    same(
+        &rt,
+        "value that is set",
+        global.get(),
+        TypedRawVal::from(8u32),
+    );
+    same(&rt, "type", global.ty(), variable);
 }
 
 #[test]
@@ -35,11 +55,13 @@ fn global_types_are_constant_or_variable(rt: HostRuntime) {
         let ty = GlobalType::new(ValType::I32, mutability);
         same(
             &rt,
+            "content and mutability",
             (ty.content(), ty.mutability()),
             (ValType::I32, mutability),
         );
         same(
             &rt,
+            "constant or variable",
             (mutability.is_const(), mutability.is_mut()),
             (!is_mut, is_mut),
         );
@@ -63,9 +85,14 @@ fn globals_are_written_in_place(rt: HostRuntime) {
     let variable = GlobalType::new(ValType::V128, Mutability::Var);
     let mut global = Global::new(RawVal::default(), variable);
     let before = replace(&mut global, RawVal { lo: 1, hi: 2 });
-    same(&rt, before, RawVal::default());
+    same(&rt, "value before", before, RawVal::default());
     global.get_raw_mut().hi = 5;
-    same(&rt, *global.get_raw(), RawVal { lo: 1, hi: 5 });
+    same(
+        &rt,
+        "value written in place",
+        *global.get_raw(),
+        RawVal { lo: 1, hi: 5 },
+    );
 }
 
 #[test]

@@ -29,9 +29,14 @@ fn check_read_back<T: Copy + PartialEq + Debug + ReadBack<Read = T>>(rt: &impl A
 where
     RawVal: WriteAs<T>,
 {
-    same(rt, over(value).read_as(), value);
+    same(rt, "written by `write_as`", over(value).read_as(), value);
     let mut raw = ONES;
-    same(rt, written_value_is_read(&mut raw, value), value);
+    same(
+        rt,
+        "written by the law",
+        written_value_is_read(&mut raw, value),
+        value,
+    );
 }
 
 #[test]
@@ -54,8 +59,8 @@ fn check_low_word<T: Copy + Into<RawVal> + ReadBack>(rt: &impl Abort, what: &str
 where
     RawVal: WriteAs<T>,
 {
-    same(rt, (what, value.into()), (what, RawVal { lo, hi: 0 }));
-    same(rt, (what, over(value)), (what, RawVal { lo, hi: u64::MAX }));
+    same(rt, what, value.into(), RawVal { lo, hi: 0 });
+    same(rt, what, over(value), RawVal { lo, hi: u64::MAX });
 }
 
 #[test]
@@ -89,26 +94,31 @@ fn non_zero_integers_set_the_low_word_alone(rt: HostRuntime) {
 fn equality_looks_at_both_words(rt: HostRuntime) {
     let mut raw = RawVal::from(V128::from(u128::MAX));
     raw.write_as(0u32);
-    same(&rt, (raw.lo, raw.hi), (0, 18446744073709551615));
-    same(&rt, raw == RawVal::from(0u32), false);
+    same(&rt, "words", (raw.lo, raw.hi), (0, 18446744073709551615));
+    same(&rt, "equality", raw == RawVal::from(0u32), false);
 }
 
 #[test]
 fn floats_and_bits_are_the_low_word(rt: HostRuntime) {
     let floats = (F32::from_bits(9), F64::from_bits(9));
     let raws = [RawVal::from(floats.0), RawVal::from(floats.1)];
-    same(&rt, raws, [RawVal { lo: 9, hi: 0 }; 2]);
-    same(&rt, RawVal::from_bits64(3), RawVal { lo: 3, hi: 0 });
-    same(&rt, RawVal::default(), RawVal { lo: 0, hi: 0 });
+    same(&rt, "floats", raws, [RawVal { lo: 9, hi: 0 }; 2]);
+    same(&rt, "bits", RawVal::from_bits64(3), RawVal { lo: 3, hi: 0 });
+    same(&rt, "default", RawVal::default(), RawVal { lo: 0, hi: 0 });
 }
 
 #[test]
 fn a_vector_is_both_words(rt: HostRuntime) {
     let vector = V128::from((2 << 64) + 1);
-    same(&rt, RawVal::from(vector), RawVal { lo: 1, hi: 2 });
-    same(&rt, vector.words(), (1, 2));
-    same(&rt, V128::from_words(1, 2), vector);
-    same(&rt, V128::from(ONES).as_u128(), u128::MAX);
+    same(
+        &rt,
+        "raw value of a vector",
+        RawVal::from(vector),
+        RawVal { lo: 1, hi: 2 },
+    );
+    same(&rt, "words of a vector", vector.words(), (1, 2));
+    same(&rt, "vector of words", V128::from_words(1, 2), vector);
+    same(&rt, "vector of ones", V128::from(ONES).as_u128(), u128::MAX);
 }
 
 #[test]
@@ -119,14 +129,19 @@ fn a_raw_value_becomes_an_integer(rt: HostRuntime) {
         i32::from(ONES),
         i64::from(ONES),
     );
-    same(&rt, signed, (-1, -1, -1, -1));
+    same(&rt, "signed", signed, (-1, -1, -1, -1));
     let unsigned = (
         u8::from(ONES),
         u16::from(ONES),
         u32::from(ONES),
         u64::from(ONES),
     );
-    same(&rt, unsigned, (255, 65535, 4294967295, u64::MAX));
+    same(
+        &rt,
+        "unsigned",
+        unsigned,
+        (255, 65535, 4294967295, u64::MAX),
+    );
 }
 
 #[test]
@@ -134,12 +149,12 @@ fn a_raw_value_becomes_a_bool_or_a_float(rt: HostRuntime) {
     let raw = RawVal::from_bits64(256);
     let truth: bool = raw.read_as();
     let byte: u8 = raw.read_as();
-    same(&rt, (truth, byte), (true, 0));
+    same(&rt, "bool and byte", (truth, byte), (true, 0));
     let truths = (bool::from(raw), bool::from(RawVal::default()));
-    same(&rt, truths, (true, false));
-    same(&rt, raw.to_bits64(), 256);
-    same(&rt, F32::from(ONES).to_bits(), u32::MAX);
-    same(&rt, F64::from(ONES).to_bits(), u64::MAX);
+    same(&rt, "bools", truths, (true, false));
+    same(&rt, "bits", raw.to_bits64(), 256);
+    same(&rt, "F32", F32::from(ONES).to_bits(), u32::MAX);
+    same(&rt, "F64", F64::from(ONES).to_bits(), u64::MAX);
 }
 
 static ASCENDING: [(RawVal, RawVal); 3] = [
@@ -152,6 +167,6 @@ static ASCENDING: [(RawVal, RawVal); 3] = [
 fn is_ordered_by_the_low_word_first(rt: HostRuntime) {
     for &(lower, higher) in &ASCENDING {
         let answer = (lower, higher, lower < higher);
-        same(&rt, answer, (lower, higher, true));
+        same(&rt, "order", answer, (lower, higher, true));
     }
 }

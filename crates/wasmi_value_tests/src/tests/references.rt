@@ -7,12 +7,17 @@ use wasmi_types::{RefType, ValType};
 
 #[test]
 fn references_are_their_bits(rt: HostRuntime) {
-    same(&rt, u32::from(RawRef::null()), 0);
-    same(&rt, RawRef::null().is_null(), true);
+    same(&rt, "bits of null", u32::from(RawRef::null()), 0);
+    same(&rt, "null", RawRef::null().is_null(), true);
     let seven = RawRef::from(7);
-    same(&rt, (seven.is_null(), u32::from(seven)), (false, 7));
-    same(&rt, seven == RawRef::from(7), true);
-    same(&rt, seven < RawRef::from(u32::MAX), true);
+    same(
+        &rt,
+        "seven",
+        (seven.is_null(), u32::from(seven)),
+        (false, 7),
+    );
+    same(&rt, "equality", seven == RawRef::from(7), true);
+    same(&rt, "order", seven < RawRef::from(u32::MAX), true);
 }
 
 #[test]
@@ -22,19 +27,24 @@ fn references_are_read_and_written(rt: HostRuntime) {
         hi: u64::MAX,
     };
     let read: RawRef = raw.read_as();
-    same(&rt, read, RawRef::from(u32::MAX));
+    same(&rt, "read", read, RawRef::from(u32::MAX));
     raw.write_as(RawRef::from(7));
     let expected = RawVal {
         lo: 7,
         hi: u64::MAX,
     };
-    same(&rt, raw, expected);
-    same(&rt, RawVal::from(RawRef::from(7)), RawVal { lo: 7, hi: 0 });
+    same(&rt, "written", raw, expected);
+    same(
+        &rt,
+        "raw value",
+        RawVal::from(RawRef::from(7)),
+        RawVal { lo: 7, hi: 0 },
+    );
     let cut = RawVal {
         lo: (1 << 32) + 5,
         hi: 1,
     };
-    same(&rt, RawRef::from(cut), RawRef::from(5));
+    same(&rt, "low bits", RawRef::from(cut), RawRef::from(5));
 }
 
 #[test]
@@ -43,7 +53,7 @@ fn equal_references_hash_alike(rt: HostRuntime) {
     RawRef::from(7).hash(&mut first);
     let mut second = DefaultHasher::new();
     RawRef::from(7).hash(&mut second);
-    same(&rt, first.finish(), second.finish());
+    same(&rt, "hash", first.finish(), second.finish());
 }
 
 #[test]
@@ -51,22 +61,33 @@ fn typed_references_are_typed_values(rt: HostRuntime) {
     let null = TypedRawRef::null(RefType::Extern);
     same(
         &rt,
+        "typed null",
         (null.raw(), null.ty()),
         (RawRef::null(), RefType::Extern),
     );
     let reference = TypedRawRef::new(RawRef::from(7), RefType::Func);
     let typed = TypedRawVal::new(ValType::FuncRef, RawVal::from(7u32));
-    same(&rt, TypedRawVal::from(reference), typed);
+    same(&rt, "typed value", TypedRawVal::from(reference), typed);
     let expected = TypedRawRef::new(RawRef::from(7), RefType::Func);
     let typed = TypedRawVal::new(ValType::FuncRef, RawVal::from(7u32));
-    same(&rt, TypedRawRef::try_from(typed), Ok(expected));
+    same(
+        &rt,
+        "typed reference",
+        TypedRawRef::try_from(typed),
+        Ok(expected),
+    );
     let wide = RawVal {
         lo: (1 << 32) + 7,
         hi: 1,
     };
     let of_host = TypedRawVal::new(ValType::ExternRef, wide);
     let expected = TypedRawRef::new(RawRef::from(7), RefType::Extern);
-    same(&rt, TypedRawRef::try_from(of_host), Ok(expected));
+    same(
+        &rt,
+        "reference of the host",
+        TypedRawRef::try_from(of_host),
+        Ok(expected),
+    );
 }
 
 #[test]
@@ -79,7 +100,12 @@ fn other_values_are_no_references(rt: HostRuntime) {
         ValType::V128,
     ] {
         let typed = TypedRawVal::new(ty, RawVal::from(1u32));
-        same(&rt, TypedRawRef::try_from(typed), Err(NotAReference));
+        same(
+            &rt,
+            "no reference",
+            TypedRawRef::try_from(typed),
+            Err(NotAReference),
+        );
     }
     same_text(&rt, rt.alloc(), &NotAReference, "not a reference type");
 }

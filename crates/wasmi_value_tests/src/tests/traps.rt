@@ -45,14 +45,14 @@ static TRAP_CODES: [(u8, TrapCode, &str); 12] = [
 #[test]
 fn trap_code_conversion(rt: HostRuntime) {
     for (number, code, text) in &TRAP_CODES {
-        same(&rt, u8::from(*code), *number);
-        same(&rt, TrapCode::try_from(*number), Ok(*code));
-        same(&rt, code.trap_message(), *text);
+        same(&rt, text, u8::from(*code), *number);
+        same(&rt, text, TrapCode::try_from(*number), Ok(*code));
+        same(&rt, text, code.trap_message(), *text);
         same_text(&rt, rt.alloc(), code, text);
     }
     for number in [0, 13, 255] {
         let answer = (number, TrapCode::try_from(number));
-        same(&rt, answer, (number, Err(InvalidTrapCode)));
+        same(&rt, "no trap code", answer, (number, Err(InvalidTrapCode)));
     }
 }
 
@@ -76,13 +76,14 @@ fn check_trap(rt: &impl Abort, alloc: Global, mut trap: Trap<Refused>, text: &st
     let error = trap.downcast_ref().copied();
     same(
         rt,
+        text,
         (trap.trap_code(), trap.i32_exit_status(), error),
         reason,
     );
     if let Some(error) = trap.downcast_mut() {
         error.0 = 8;
     }
-    same(rt, trap.downcast(), error.and(Some(Refused(8))));
+    same(rt, text, trap.downcast(), error.and(Some(Refused(8))));
 }
 
 #[test]

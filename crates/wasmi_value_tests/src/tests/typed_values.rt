@@ -17,13 +17,9 @@ fn check_typed<T: Typed + Into<RawVal>>(
 ) {
     let typed = TypedRawVal::from(value);
     let raw = RawVal { lo, hi: 0 };
-    same(rt, (what, typed.ty(), typed.raw()), (what, ty, raw));
-    same(
-        rt,
-        (what, typed),
-        (what, TypedRawVal::new(ty, RawVal::from(lo))),
-    );
-    same(rt, (what, RawVal::from(typed)), (what, raw));
+    same(rt, what, (typed.ty(), typed.raw()), (ty, raw));
+    same(rt, what, typed, TypedRawVal::new(ty, RawVal::from(lo)));
+    same(rt, what, RawVal::from(typed), raw);
 }
 
 #[test]
@@ -44,7 +40,7 @@ fn typed_values_have_their_type_and_bits(rt: HostRuntime) {
     check_typed(&rt, "NonZeroU32", NonZeroU32::MIN, ValType::I32, 1);
     check_typed(&rt, "NonZeroI64", NonZeroI64::MIN, ValType::I64, 1 << 63);
     check_typed(&rt, "NonZeroU64", NonZeroU64::MIN, ValType::I64, 1);
-    same(&rt, ShiftAmount::TY, ValType::I32);
+    same(&rt, "type of an amount", ShiftAmount::TY, ValType::I32);
 }
 
 #[test]
@@ -56,16 +52,16 @@ fn typed_values_are_read_by_their_bits(rt: HostRuntime) {
         i32::from(ones),
         i64::from(ones),
     );
-    same(&rt, signed, (-1, -1, -1, -1));
+    same(&rt, "signed", signed, (-1, -1, -1, -1));
     let unsigned = (
         u8::from(ones),
         u16::from(ones),
         u32::from(ones),
         u64::from(ones),
     );
-    same(&rt, unsigned, (255, 65535, u32::MAX, u64::MAX));
-    same(&rt, bool::from(ones), true);
-    same(&rt, V128::from(ones).as_u128(), u128::MAX);
+    same(&rt, "unsigned", unsigned, (255, 65535, u32::MAX, u64::MAX));
+    same(&rt, "bool", bool::from(ones), true);
+    same(&rt, "V128", V128::from(ones).as_u128(), u128::MAX);
 }
 
 /// Compares the remainder of an amount, which is `None` where nothing is shifted.
@@ -76,7 +72,7 @@ fn check_shift<T: IntoShiftAmount>(
     bits: Option<u8>,
 ) {
     let answer = T::into_shift_amount(amount).map(u8::from);
-    same(rt, (what, answer), (what, bits));
+    same(rt, what, answer, bits);
 }
 
 #[test]
@@ -97,5 +93,5 @@ fn shift_amounts_are_remainders(rt: HostRuntime) {
     check_shift::<[u16; 8]>(&rt, "[u16; 8]", 17, Some(1));
     check_shift::<[u32; 4]>(&rt, "[u32; 4]", 64, None);
     check_shift::<[u64; 2]>(&rt, "[u64; 2]", 65, Some(1));
-    same(&rt, u8::from(ShiftAmount::from(200)), 200);
+    same(&rt, "amount", u8::from(ShiftAmount::from(200)), 200);
 }

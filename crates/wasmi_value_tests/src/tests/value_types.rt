@@ -18,11 +18,11 @@ static VALUE_TYPES: [(ValType, bool, Option<RefType>); 7] = [
 #[test]
 fn value_types_are_numbers_vectors_or_references(rt: HostRuntime) {
     for &(ty, is_num, reference) in &VALUE_TYPES {
-        same(&rt, (ty, ty.is_num()), (ty, is_num));
-        same(&rt, (ty, ty.is_ref()), (ty, reference.is_some()));
-        same(&rt, (ty, ty.as_ref()), (ty, reference));
+        same(&rt, "is_num", (ty, ty.is_num()), (ty, is_num));
+        same(&rt, "is_ref", (ty, ty.is_ref()), (ty, reference.is_some()));
+        same(&rt, "as_ref", (ty, ty.as_ref()), (ty, reference));
         if let Some(reference) = reference {
-            same(&rt, ValType::from(reference), ty);
+            same(&rt, "type of a reference", ValType::from(reference), ty);
         }
     }
 }
@@ -37,18 +37,28 @@ fn value_types_ascend(rt: HostRuntime) {
         V128 < FuncRef,
         FuncRef < ExternRef,
     ];
-    same(&rt, ascending, [true; 6]);
-    same(&rt, None < Some(I32), true);
-    same(&rt, RefType::Func < RefType::Extern, true);
+    same(&rt, "value types", ascending, [true; 6]);
+    same(&rt, "none and some", None < Some(I32), true);
+    same(
+        &rt,
+        "reference types",
+        RefType::Func < RefType::Extern,
+        true,
+    );
 }
 
 #[test]
 fn index_types_are_32_or_64_bits_wide(rt: HostRuntime) {
     let (narrow, wide) = (IndexType::I32, IndexType::I64);
-    same(&rt, (narrow.ty(), narrow.is_64()), (I32, false));
-    same(&rt, (wide.ty(), wide.is_64()), (I64, true));
-    same(&rt, narrow.max_size(), 4_294_967_296);
-    same(&rt, wide.max_size(), 18_446_744_073_709_551_616);
+    same(&rt, "narrow", (narrow.ty(), narrow.is_64()), (I32, false));
+    same(&rt, "wide", (wide.ty(), wide.is_64()), (I64, true));
+    same(&rt, "narrow size", narrow.max_size(), 4_294_967_296);
+    same(
+        &rt,
+        "wide size",
+        wide.max_size(),
+        18_446_744_073_709_551_616,
+    );
 }
 
 #[test]
@@ -60,7 +70,7 @@ fn the_narrower_index_type_is_the_minimum(rt: HostRuntime) {
         narrow.min(&wide),
         narrow.min(&narrow),
     ];
-    same(&rt, least, [wide, narrow, narrow, narrow]);
+    same(&rt, "minima", least, [wide, narrow, narrow, narrow]);
 }
 
 #[test]
@@ -68,6 +78,6 @@ fn hints_answer_their_condition(rt: HostRuntime) {
     hint::cold();
     for condition in [false, true] {
         let answers = (hint::likely(condition), hint::unlikely(condition));
-        same(&rt, answers, (condition, condition));
+        same(&rt, "hints", answers, (condition, condition));
     }
 }
