@@ -150,7 +150,8 @@ module _ {S T : Type 0} (image : S → T) where
         part = step.part;
         meter = step.meter;
         limiter = image step.limiter;
-        effect = acts_too k (reply_of replied.Number replied.Memory) (GrowsMemory rules pages) (GrowsMemory rules' pages)
+        effect = acts_too k (reply_of replied.Number replied.Memory) (GrowsMemory rules pages)
+            (GrowsMemory rules' pages)
             (λ s. grows_too
             (record { amount = pages; size = pages_of s.value; request = memory.growth_of s.value pages }) s)
             _ _ turn.reply turn.charge step.effect;
@@ -188,7 +189,12 @@ module _ {S T : Type 0} (image : S → T) where
       effect_carried (BytesRead k offset len) step =
           record { free = step.free; effect = step.effect; after = ap (carried image) step.after }
       effect_carried effect step =
-          record { free = step.free; machine = step.machine; effect = step.effect; after = ap (carried image) step.after }
+          record {
+            free = step.free;
+            machine = step.machine;
+            effect = step.effect;
+            after = ap (carried image) step.after;
+          }
 
 -- a run under the first is one under the second, with the same turns and machines
 pub runs_too : {S T : Type 0} (image : S → T) (rules : Rules S) (rules' : Rules T) → Carries image rules rules'

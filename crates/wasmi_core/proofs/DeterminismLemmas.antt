@@ -301,7 +301,8 @@ module _ {S : Type 0} (rules : Rules S) (once : IsDeterministic rules) (w : Worl
       (step.effect.0 ∙ sym step'.effect.0, step.effect.1 ∙ sym step'.effect.1) step.after step'.after
   effect_same (Changed change) step step' =
       changed w t t' v v' (λ s. s) step.machine step'.machine step.free step'.free
-      ((change_facts w.state change).same t.reply t'.reply step.machine step'.machine room room' step.effect step'.effect)
+      ((change_facts w.state change).same t.reply t'.reply step.machine step'.machine room room' step.effect
+      step'.effect)
       step.after step'.after
   effect_same (MemoryMade ty) step step' =
       asked w t t' v v' (with_memories w.state) step.part step'.part step.limiter step'.limiter step.free step'.free

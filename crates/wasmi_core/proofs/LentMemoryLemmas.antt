@@ -416,7 +416,8 @@ module _ {S : Type 0} (rules : Rules S) (w : World S) (turn : Turn) (w' : World 
   -- each effect that fits
   effect_owned : (effect : Effect) → EffectFits w.state effect → TakesEffect rules effect w turn w'
       → TakesEffect rules effect (owned_world w) turn (owned_world w')
-  effect_owned (Told told) fits step = record { free = step.free; effect = step.effect; after = ap owned_world step.after }
+  effect_owned (Told told) fits step =
+      record { free = step.free; effect = step.effect; after = ap owned_world step.after }
   effect_owned (BytesRead k offset len) fits step =
       record {
         free = step.free;

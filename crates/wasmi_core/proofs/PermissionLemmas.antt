@@ -15,7 +15,8 @@ use Rattle.wasmi_core.proofs.RevealingLemmas.{Reveals, run_revealed}
 module _ {S : Type 0} (rules : Rules S) where
   -- the replies to an attempt's errors tell whether it was denied, where those of a denial do
   denial_revealed : {V E : Type 0} (refusal : E → Reply) (e : Request V E) → (TellsNoDenial (refusal e.denial) → ⊥)
-      → (TellsNoDenial (refusal e.refusal) → ⊥) → Reveals rules (permitting rules) TellsNoDenial (λ l. Unit {0}) refusal e
+      → (TellsNoDenial (refusal e.refusal) → ⊥)
+      → Reveals rules (permitting rules) TellsNoDenial (λ l. Unit {0}) refusal e
   denial_revealed refusal e denied failed (Unasked c) l l' within shown f = f
   denial_revealed refusal e denied failed (Denied (Ok permitted)) l l' within shown f = absurd (denied (shown _ refl))
   denial_revealed refusal e denied failed (Denied (Err error)) l l' within shown f = absurd (failed (shown _ refl))

@@ -88,7 +88,11 @@ module _ {S : Type 0} (rules rules' : Rules S) (Shows : Reply → Type 0) (Withi
       in
       inr (
         result,
-        (outcome, attempt_revealed refusal e reveals (alone l) (alone o.limiter) outcome 0 within shown attempt, answered),
+        (
+          outcome,
+          attempt_revealed refusal e reveals (alone l) (alone o.limiter) outcome 0 within shown attempt,
+          answered,
+        ),
         appends,
       )
 
@@ -185,7 +189,8 @@ module _ {S : Type 0} (rules rules' : Rules S) (Shows : Reply → Type 0) (Withi
         limiter = step.limiter;
         effect = acts_revealed Within k (reply_of replied.Number replied.Table) (GrowsTable rules n init)
             (GrowsTable rules' n init) turn.reply
-            (λ s s' result charge inside is. table_growth_revealed n init s s' result charge inside (subst Shows is shows))
+            (λ s s' result charge inside is. table_growth_revealed n init s s' result charge inside
+            (subst Shows is shows))
             _ _ turn.charge within step.effect;
         wrote = step.wrote;
         after = step.after;

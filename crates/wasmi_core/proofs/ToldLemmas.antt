@@ -125,6 +125,7 @@ accepts_always rules accepts = record {
 
 -- a limiter that may be absent stays in the states in which the limiter stays
 module _ {L : Type 0} (rules : Rules L) (IsAccepting : L → Type 0) (stays : StaysAccepting rules IsAccepting) where
+  -- by a question
   asked_stays : (l : Option L) (question : Question) (answer : Answer) (l' : Option L) → IsIn IsAccepting l
       → AskedIf rules l question answer l' → IsIn IsAccepting l'
   asked_stays (Some l) question answer (Some l') within asks = stays.asked l question answer l' within asks
@@ -132,6 +133,7 @@ module _ {L : Type 0} (rules : Rules L) (IsAccepting : L → Type 0) (stays : St
   asked_stays None question answer (Some l') within asks = absurd asks
   asked_stays None question answer None within asks = tt
 
+  -- by a notice
   noticed_stays : (l : Option L) (failure : Failure) (notice_answer : NoticeAnswer) (l' : Option L)
       → IsIn IsAccepting l → NoticedIf rules l failure notice_answer l'
       → (notice_answer ≡ Ok tt) × IsIn IsAccepting l'
@@ -141,6 +143,7 @@ module _ {L : Type 0} (rules : Rules L) (IsAccepting : L → Type 0) (stays : St
   noticed_stays None failure notice_answer (Some l') within notices = absurd notices
   noticed_stays None failure notice_answer None within notices = (notices, tt)
 
+  -- by both
   optional_stays : StaysAccepting (optional_rules rules) (IsIn IsAccepting)
   optional_stays = record { asked = asked_stays; noticed = noticed_stays }
 

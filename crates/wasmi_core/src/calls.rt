@@ -296,8 +296,8 @@ pub enum Reply {
     /// The value of a global or a register, or a number that `Load`, `Test` or `Extract` gives, in
     /// the low word.
     Value(RawVal),
-    /// The old size, of `GrowMemory` in pages, of `GrowTable` in elements, or the fuel that is left,
-    /// of `GetFuel`.
+    /// The old size, of `GrowMemory` in pages, of `GrowTable` in elements, or the fuel left, of
+    /// `GetFuel`.
     Number(u64),
     /// The bytes that `Read` asked for.
     Bytes(ByteList),

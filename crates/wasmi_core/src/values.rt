@@ -1,5 +1,5 @@
-//! The element segments and globals of a machine, by their indices. These are functions of one list of
-//! the store each, so that what else the store has stays out of their contracts.
+//! The element segments and globals of a machine, by their indices. These are functions of one
+//! list of the store each, so that what else the store has stays out of their contracts.
 ghost use Rattle.std.specs.Prelude.{◌≡◌, slice_get};
 ghost use Rattle.std.specs.Option.{option_copied};
 ghost use Rattle.wasmi_core.specs.ValueEffects.{CreatesSegment, DropsItemsAt, CreatesGlobal, SetsGlobalAt, GetsGlobalAt, IsSegmentOf};
