@@ -1,0 +1,2 @@
+mod CallsLemmas
+mod ScriptsLemmas

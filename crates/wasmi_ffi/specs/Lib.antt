@@ -1,0 +1,8 @@
+-- What the calls for C answer.
+pub mod Accesses
+pub mod Binary
+pub mod Lanes
+pub mod Scripts
+pub mod Ternary
+pub mod Unary
+pub mod Words

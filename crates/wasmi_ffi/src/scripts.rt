@@ -1,0 +1,43 @@
+//! A script of calls, from bytes to bytes.
+ghost use Rattle.std.specs.Prelude.{◌≡◌, [], Some};
+ghost use Rattle.wasmi_script.specs.Outcomes.{Replays};
+ghost use Rattle.wasmi_ffi.specs.Scripts.{AnswersScript};
+
+use crate::status::TOO_SMALL;
+use std::alloc::Global;
+use wasmi_script::{Status, replay};
+
+/// Runs a script, and writes what it prints to the front of `text`. `needed` is set to the length
+/// of that, in bytes.
+///
+/// The status is that of the program: 0 where every call was answered, 2 for a bad line or a script
+/// above 1,048,576 bytes, 3 for want of memory, 4 for want of memory to write: the text is a front
+/// then; 5 where `text` is shorter than what is printed: then nothing is written to it.
+#[tactic(auto, using(crate::proofs::ScriptsLemmas::stands, crate::proofs::ScriptsLemmas::too_long))]
+#[unsafe(no_mangle)]
+pub extern "C" fn wasmi_script_run(
+    alloc: Global,
+    script: &[u8],
+    text: &mut [u8],
+    needed: &mut usize,
+) -> u8
+    ensures answers { AnswersScript script.now text.old text.new needed.new result }
+{
+    let mut printed = Vec::new(alloc);
+    let status = print(alloc, script, &mut printed);
+    *needed = printed.len();
+    if text.len() < printed.len() {
+        return TOO_SMALL;
+    }
+    let front = &mut text[..printed.len()];
+    front.copy_from_slice(printed.as_slice());
+    status.code()
+}
+
+/// Runs a script, and writes what it prints to a buffer.
+fn print(alloc: Global, script: &[u8], printed: &mut Vec<u8>) -> Status
+    ensures replays { Replays (Some script.now) (Some printed.old.items) (Some printed.new.items) result }
+{
+    let mut reader = script;
+    replay(alloc, &mut reader, printed)
+}

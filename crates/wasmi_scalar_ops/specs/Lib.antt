@@ -1,0 +1,4 @@
+pub mod AccessOps
+pub mod BinaryOps
+pub mod Raw
+pub mod UnaryOps

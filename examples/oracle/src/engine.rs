@@ -1,0 +1,112 @@
+//! The functions of the crate, on the same words.
+use crate::ffi::{Answer, Words};
+use wasmi_core::{RawVal, TrapCode, V128, simd, wasm};
+
+pub type Unary = Box<dyn Fn(Words) -> Answer>;
+pub type Binary = Box<dyn Fn(Words, Words) -> Answer>;
+pub type Ternary = Box<dyn Fn(Words, Words, Words) -> Answer>;
+pub type Extract = Box<dyn Fn(u8, Words) -> Option<Answer>>;
+pub type Replace = Box<dyn Fn(u8, Words, Words) -> Option<Answer>>;
+pub type Load = Box<dyn Fn(&[u8], u64, u64) -> Answer>;
+pub type Store = Box<dyn Fn(&mut [u8], u64, u64, Words) -> u8>;
+pub type LoadLane = Box<dyn Fn(u8, &[u8], u64, u64, Words) -> Option<Answer>>;
+pub type StoreLane = Box<dyn Fn(u8, &mut [u8], u64, u64, Words) -> Option<u8>>;
+
+fn vector(words: Words) -> V128 {
+    V128::from(u128::from(words.hi) << 64 | u128::from(words.lo))
+}
+
+/// The value of a type that the words stand for.
+fn value<A: From<RawVal>>(words: Words) -> A {
+    A::from(RawVal::from(vector(words)))
+}
+
+/// What a function of the crate gives.
+pub trait Gives {
+    fn answer(self) -> Answer;
+}
+
+macro_rules! gives {
+    ($($value:ty),*) => {
+        $(impl Gives for $value {
+            fn answer(self) -> Answer {
+                let bits = V128::from(RawVal::from(self)).as_u128();
+                let value = Words { lo: bits as u64, hi: (bits >> 64) as u64 };
+                Answer { value, status: 0 }
+            }
+        })*
+    };
+}
+gives!(i32, u32, i64, u64, bool, V128);
+
+impl Gives for (i64, i64) {
+    fn answer(self) -> Answer {
+        let value = Words { lo: self.0 as u64, hi: self.1 as u64 };
+        Answer { value, status: 0 }
+    }
+}
+
+impl<T: Gives> Gives for Result<T, TrapCode> {
+    fn answer(self) -> Answer {
+        match self {
+            Ok(value) => value.answer(),
+            Err(trap) => Answer { value: Words::default(), status: trap as u8 },
+        }
+    }
+}
+
+fn status(outcome: Result<(), TrapCode>) -> u8 {
+    outcome.map_or_else(|trap| trap as u8, |()| 0)
+}
+
+fn unary<A: From<RawVal>, R: Gives>(f: impl Fn(A) -> R + 'static) -> Unary {
+    Box::new(move |a| f(value(a)).answer())
+}
+
+fn binary<A: From<RawVal>, B: From<RawVal>, R: Gives>(f: impl Fn(A, B) -> R + 'static) -> Binary {
+    Box::new(move |a, b| f(value(a), value(b)).answer())
+}
+
+fn wide(f: impl Fn(i64, i64, i64, i64) -> (i64, i64) + 'static) -> Binary {
+    Box::new(move |a, b| f(a.lo as i64, a.hi as i64, b.lo as i64, b.hi as i64).answer())
+}
+
+fn ternary(f: impl Fn(V128, V128, V128) -> V128 + 'static) -> Ternary {
+    Box::new(move |a, b, c| f(vector(a), vector(b), vector(c)).answer())
+}
+
+fn extract<L: TryFrom<u8>, R: Gives>(f: impl Fn(V128, L) -> R + 'static) -> Extract {
+    Box::new(move |lane, a| Some(f(vector(a), L::try_from(lane).ok()?).answer()))
+}
+
+fn replace<L: TryFrom<u8>, I: From<RawVal>>(f: impl Fn(V128, L, I) -> V128 + 'static) -> Replace {
+    Box::new(move |lane, a, item| Some(f(vector(a), L::try_from(lane).ok()?, value(item)).answer()))
+}
+
+fn load<R: Gives>(f: impl Fn(&[u8], u64, u64) -> R + 'static) -> Load {
+    Box::new(move |memory, ptr, offset| f(memory, ptr, offset).answer())
+}
+
+fn store<I: From<RawVal>>(
+    f: impl Fn(&mut [u8], u64, u64, I) -> Result<(), TrapCode> + 'static,
+) -> Store {
+    Box::new(move |memory, ptr, offset, item| status(f(memory, ptr, offset, value(item))))
+}
+
+fn load_lane<L: TryFrom<u8>>(
+    f: impl Fn(&[u8], u64, u64, V128, L) -> Result<V128, TrapCode> + 'static,
+) -> LoadLane {
+    Box::new(move |lane, memory, ptr, offset, a| {
+        Some(f(memory, ptr, offset, vector(a), L::try_from(lane).ok()?).answer())
+    })
+}
+
+fn store_lane<L: TryFrom<u8>>(
+    f: impl Fn(&mut [u8], u64, u64, V128, L) -> Result<(), TrapCode> + 'static,
+) -> StoreLane {
+    Box::new(move |lane, memory, ptr, offset, a| {
+        Some(status(f(memory, ptr, offset, vector(a), L::try_from(lane).ok()?)))
+    })
+}
+
+include!(concat!(env!("OUT_DIR"), "/tables.rs"));
