@@ -4,6 +4,7 @@ ghost use Rattle.wasmi_core.specs.Totals.{HoldsTotals};
 
 mod absent;
 mod examples;
+mod interpreter;
 mod loans;
 mod pools;
 mod random;

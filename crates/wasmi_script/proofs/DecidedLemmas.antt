@@ -21,6 +21,7 @@ use Rattle.wasmi_core.specs.Steps.{TableMade}
 use Rattle.wasmi_core.specs.Steps.{TableGrown, PartWritten, effect_of, TakesEffect, Step}
 use Rattle.wasmi_core.specs.Runs.{Run, IsRunOf}
 use Rattle.wasmi_core.specs.Determinism.{IsDeterministic, AcceptsNotices, HasMemory}
+use Rattle.wasmi_core.proofs.CarryingLemmas.{carried}
 use Rattle.wasmi_core.proofs.DeterminismLemmas.{unlimited_once, quota_once}
 use Rattle.wasmi_core.proofs.ToldLemmas.{replies_are_one, unlimited_accepts, quota_accepts}
 use Rattle.wasmi_budget.specs.Pool.{PoolValue, RunsTenant, tenant_at}
@@ -28,31 +29,38 @@ use Rattle.wasmi_budget.specs.Tenant.{tenant_rules}
 use Rattle.wasmi_script.specs.declared.error.ReplayError.TheVariants.{BadCommand, TooLong, OutOfMemory, ReadFault}
 use Rattle.wasmi_script.specs.declared.replaying.Ran.{Ran}
 use Rattle.wasmi_script.specs.declared.replaying.Held.TheVariants as holding
-use Rattle.wasmi_script.specs.declared.script.TenantRun.{TenantRun}
-use Rattle.wasmi_script.specs.declared.script.Script.{Script}
-use Rattle.wasmi_script.specs.declared.script.header.Header.{Header}
-use Rattle.wasmi_script.specs.declared.script.header.LimiterLine.{LimiterLine}
-use Rattle.wasmi_script.specs.declared.script.header.MeterLine.{MeterLine}
-use Rattle.wasmi_script.specs.declared.script.header.LimiterLine.TheVariants.{Quota, Answers, Tenants}
-use Rattle.wasmi_script.specs.Headers.{meter_said, meter_off, meter_of, region_bytes, start_of}
+use Rattle.wasmi_grammar.specs.declared.script.TenantRun.{TenantRun}
+use Rattle.wasmi_grammar.specs.declared.script.Script.{Script}
+use Rattle.wasmi_grammar.specs.declared.header.Header.{Header}
+use Rattle.wasmi_grammar.specs.declared.header.LimiterLine.{LimiterLine}
+use Rattle.wasmi_grammar.specs.declared.header.MeterLine.{MeterLine}
+use Rattle.wasmi_grammar.specs.declared.header.LimiterLine.TheVariants.{Quota, Answers, Tenants}
+use Rattle.wasmi_grammar.specs.Headers.{meter_said, meter_off, meter_of, region_bytes, start_of}
 use Rattle.wasmi_script.specs.Printing.{line}
 use Rattle.wasmi_script.specs.Texts.{kind_text, reply_text, error_text}
-use Rattle.wasmi_script.specs.Replays.{IsNewQuota, printed_holdings, IsReplayUnder, IsReplayBy, IsReplayOf}
+use Rattle.wasmi_script.specs.declared.listed_limiter.AnswerList.{AnswerList}
+use Rattle.wasmi_grammar.specs.declared.header.answers.AnswerWord.{AnswerWord}
+use Rattle.wasmi_script.specs.Replays.{IsNewQuota, printed_holdings, IsListedReplay, IsReplayUnder, IsReplayBy, IsReplayOf}
 use Rattle.wasmi_script.specs.Replays.{AnswersParts, new_pool}
 use Rattle.wasmi_script.specs.Outcomes.{calls_of, replies_text, held_text}
-use Rattle.wasmi_script.specs.Sayings.{CallSaid, WriteSaid, SegmentSaid, OtherCall, call_said, limiter_said, PartSaid}
-use Rattle.wasmi_script.specs.Sayings.{part_said}
-use Rattle.wasmi_script.specs.Sayings.{ScriptSaid, SayTheSame}
-use Rattle.wasmi_script.specs.Decided.{HasNoAnswers, OutcomesAreOne}
+use Rattle.wasmi_grammar.specs.Sayings.{CallSaid, WriteSaid, SegmentSaid, OtherCall, call_said, limiter_said, PartSaid}
+use Rattle.wasmi_grammar.specs.Sayings.{part_said}
+use Rattle.wasmi_grammar.specs.Sayings.{ScriptSaid, SayTheSame}
+use Rattle.wasmi_script.specs.ListedLimiter.{answer_rules, notice_answer_by}
+use Rattle.wasmi_script.specs.Decided.{HasNoComplain, OutcomesAreOne}
+use Rattle.wasmi_script.proofs.ListedRunsLemmas.{placed, placed_run, new_lists, quiet_new, quiet_lists_decide}
 use Rattle.wasmi_script.proofs.OutcomesLemmas.{calls_in}
-use Rattle.wasmi_script.proofs.OneScriptLemmas.{texts_once, bad_lines_once, no_bad_line}
+use Rattle.wasmi_grammar.proofs.OneScriptLemmas.{texts_once, bad_lines_once, no_bad_line}
 
 -- a call by what it says
 abbrev Says : CallSaid → Call → Type 0
+-- a write, by its place and its bytes
 Says (WriteSaid memory offset bytes) call = (v : Vec ℕ _) × (call ≡ Write memory offset v) × (v.items ≡ bytes)
+-- a new segment, by its type and its items
 Says (SegmentSaid ty items) call = (v : Vec ℕ _) × (call ≡ NewSegment ty v) × (v.items ≡ items)
 Says (OtherCall other) call = call ≡ other
 
+-- each call is one of what it says
 says : (call : Call) → Says (call_said call) call
 says (Write memory offset bytes) = (bytes, refl, refl)
 says (NewSegment ty items) = (items, refl, refl)
@@ -64,6 +72,7 @@ same_effect s (Write memory offset bytes) call' (v, is, items) = ap (effect_of s
 same_effect s (NewSegment ty items) call' (v, is, same) = ap (effect_of s) is ∙ rw same refl
 same_effect s call call' is = ap (effect_of s) is
 
+-- calls that say the same make the same kind of thing
 pub same_kind : (call call' : Call) → Says (call_said call) call' → kind_text call' ≡ kind_text call
 same_kind (Write memory offset bytes) call' (v, is, items) = ap kind_text is
 same_kind (NewSegment ty items) call' (v, is, same) = ap kind_text is
@@ -76,6 +85,7 @@ calls_said (part ∷ parts) =
     map-append call_said part.calls.items (calls_in parts)
     ∙ ap (λ later. map call_said part.calls.items ++ later) (calls_said parts)
 
+-- scripts that say the same have calls that say the same, part after part
 all_said : (script script' : Script) → SayTheSame script script'
     → map call_said (calls_of script) ≡ map call_said (calls_of script')
 all_said script script' same =
@@ -96,6 +106,7 @@ reply_same : (call call' : Call) (reply : Reply) → kind_text call' ≡ kind_te
 reply_same call call' (Made index) same = ap (λ kind. kind ++ (codes " " ++ decimal index)) same
 reply_same call call' reply same = refl
 
+-- the same replies to calls that say the same have the same text
 replies_same : (calls calls' : List Call) (replies : List Reply) → map call_said calls ≡ map call_said calls'
     → replies_text calls replies ≡ replies_text calls' replies
 replies_same [] [] replies same = refl
@@ -113,6 +124,7 @@ module _ {S : Type 0} (rules : Rules S) where
   abbrev by_call : Turn → Call → Turn
   by_call turn other = record { call = other; reply = turn.reply; charge = turn.charge; written = turn.written }
 
+  -- a turn that takes an effect takes it by any other call too
   retold_effect : (w : World S) (turn : Turn) (w' : World S) (other : Call) (effect : Effect)
       → TakesEffect rules effect w turn w' → TakesEffect rules effect w (by_call turn other) w'
   retold_effect w turn w' other (Told reply) step =
@@ -152,6 +164,7 @@ module _ {S : Type 0} (rules : Rules S) where
   retold_effect w turn w' other (PartWritten k source dst len) step =
       record { part = step.part; meter = step.meter; effect = step.effect; wrote = step.wrote; after = step.after }
 
+  -- a step by a call is one by another call that says the same
   retold_step : (w : World S) (turn : Turn) (w' : World S) (other : Call) → call_said other ≡ call_said turn.call
       → Step rules w turn w'
       → Step rules w (by_call turn other) w'
@@ -161,6 +174,7 @@ module _ {S : Type 0} (rules : Rules S) where
       subst (λ e. TakesEffect rules e w (by_call turn other) w') effect
       (retold_effect w turn w' other (effect_of w.state turn.call) step)
 
+  -- turns that are a run are one by other calls that say the same, with the same replies
   retold_run : (turns : List Turn) (calls : List Call) (w w' : World S)
       → map call_said calls ≡ map call_said (map Turn.call turns) → Run rules w turns w'
       → (retold : List Turn) × (map Turn.call retold ≡ calls) ×
@@ -192,6 +206,7 @@ HaveBoth replies replies' = All HasMemory replies × All HasMemory replies'
 
 -- two runs of calls that say the same, from one machine under one limiter that leaves no choice and accepts each notice
 module _ {L : Type 0} (rules : Rules L) (once : IsDeterministic rules) (accepts : AcceptsNotices rules) where
+  -- where neither tells of want of memory, both have the same replies and end alike
   run_once : (calls calls' : List Call) (w v v' : World (Option L)) (replies replies' : List Reply)
       → map call_said calls ≡ map call_said calls'
       → IsRunOf (optional_rules rules) calls w replies v → IsRunOf (optional_rules rules) calls' w replies' v'
@@ -230,6 +245,30 @@ record SameRan (ran ran' : Ran) : Type 0 where
   pub replies : ran.replies.items ≡ ran'.replies.items
   pub held : held_text ran.held ≡ held_text ran'.held
 
+-- there is no `answers` line
+abbrev HasNoAnswers : Option LimiterLine → Type 0
+HasNoAnswers (Some (Answers words)) = ⊥
+HasNoAnswers limiter = Unit {0}
+
+-- so it is under limiters of the same words, of which none is `complain`
+listed_once : (words : List AnswerWord) (start : State) (calls calls' : List Call) (ran ran' : Ran)
+    → All (λ word. notice_answer_by word ≡ Ok tt) words → map call_said calls ≡ map call_said calls'
+    → IsListedReplay words start calls ran → IsListedReplay words start calls' ran'
+    → HaveBoth ran.replies.items ran'.replies.items → SameRan ran ran'
+listed_once words start calls calls' ran ran' quiet same (held, list, new, after, run)
+    (held', list', new', after', run') has =
+    let here = placed_run calls _ after ran.replies.items run in
+    let there = placed_run calls _ after' ran'.replies.items
+    (retold (optional_rules answer_rules) calls calls' _ after' ran'.replies.items same run') in
+    let again = subst (λ (l : AnswerList). IsRunOf (optional_rules answer_rules) calls
+    (record { state = start; limiter = Some l }) ran'.replies.items (carried (option_map placed) after'))
+    (new_lists words list' list new' new) there in
+    record {
+      replies = (quiet_lists_decide calls start (placed list) (quiet_new words list quiet new) ran.replies.items
+          ran'.replies.items _ _ has.0 has.1 here again).0;
+      held = ap held_text (held ∙ sym held');
+    }
+
 -- so it is without a limiter and under a quota
 under_once : (limiter : Option LimiterLine) (start : State) (calls calls' : List Call) (ran ran' : Ran)
     → HasNoAnswers limiter
@@ -261,11 +300,13 @@ under_once (Some (Tenants asked)) start calls calls' ran ran' none same replay r
 
 -- what all items have, the earlier ones have and the later ones
 module _ {X : Type 0} (P : X → Type 0) where
+  -- what holds of all items of two lists together holds of all of the first
   earlier_have : (xs ys : List X) → All P (xs ++ ys) → All P xs
   earlier_have [] ys all = All-nil P
   earlier_have (x ∷ xs) ys all =
       All-cons P x xs (All-head P x (xs ++ ys) all) (earlier_have xs ys (All-tail P x (xs ++ ys) all))
 
+  -- what holds of all items of two lists together holds of all of the second
   later_have : (xs ys : List X) → All P (xs ++ ys) → All P ys
   later_have [] ys all = all
   later_have (x ∷ xs) ys all = later_have xs ys (All-tail P x (xs ++ ys) all)
@@ -281,6 +322,7 @@ before_parts (part ∷ parts) pool pool' replies replies' (between, middle, (ans
 
 -- the runs of tenants, one after the other
 module _ (once : IsDeterministic tenant_rules) where
+  -- two runs of a tenant by calls that say the same have the same replies and leave the same pool
   tenant_once : (pool middle middle' : PoolValue) (tenant : ℕ) (calls calls' : List Call)
       (replies replies' : List Reply) → map call_said calls ≡ map call_said calls'
       → RunsTenant pool tenant calls replies middle → RunsTenant pool tenant calls' replies' middle'
@@ -299,6 +341,7 @@ module _ (once : IsDeterministic tenant_rules) where
             ∙ sym ran'.after,
       )
 
+  -- two runs of parts that say the same have the same replies and leave the same pool
   parts_once : (parts parts' : List TenantRun) (pool last last' : PoolValue) (replies given given' : List Reply)
       → map part_said parts ≡ map part_said parts'
       → AnswersParts pool parts replies given last → AnswersParts pool parts' replies given' last'
@@ -376,15 +419,38 @@ module _ (once : IsDeterministic tenant_rules) where
   same_line (Some (Tenants asked)) (Some (Answers words)) none same = absurd cc
   same_line (Some (Tenants asked)) (Some (Tenants asked')) none same = cc
 
-  replays_once : (script script' : Script) (ran ran' : Ran) → HasNoAnswers script.header.limiter
+  -- replays of scripts that say the same, where no word is `complain`
+  replays_once : (script script' : Script) (ran ran' : Ran) → HasNoComplain script.header.limiter
       → SayTheSame script script'
       → IsReplayOf script ran → IsReplayOf script' ran' → HaveBoth ran.replies.items ran'.replies.items
       → SameRan ran ran'
-  replays_once script script' ran ran' none same replay replay' has =
-      let limiters = same_line script.header.limiter script'.header.limiter none (ap ScriptSaid.limiter same) in
-      by_once script.header.limiter script script' ran ran' none same replay
-      (subst (λ l. IsReplayBy l script' ran') (sym limiters) replay') has
+  replays_once script script' ran ran' quiet same replay replay' has =
+      by script.header.limiter script'.header.limiter quiet (ap ScriptSaid.limiter same) replay replay'
+    where
+      other : (l l' : Option LimiterLine) → HasNoAnswers l → option_map limiter_said l ≡ option_map limiter_said l'
+          → IsReplayBy l script ran → IsReplayBy l' script' ran' → SameRan ran ran'
+      other l l' none said replay replay' =
+          by_once l script script' ran ran' none same replay
+          (subst (λ line. IsReplayBy line script' ran') (sym (same_line l l' none said)) replay') has
 
+      by : (l l' : Option LimiterLine) → HasNoComplain l → option_map limiter_said l ≡ option_map limiter_said l'
+          → IsReplayBy l script ran → IsReplayBy l' script' ran' → SameRan ran ran'
+      by (Some (Answers words)) (Some (Answers words')) quiet said replay replay' =
+          let given : words.items ≡ words'.items = cc in
+          let start = starts_same script.header script'.header (ap ScriptSaid.meter same) (ap ScriptSaid.region same) in
+          listed_once words.items (start_of script.header) script.calls.items script'.calls.items ran ran' quiet
+          (ap ScriptSaid.calls same) replay
+          (subst (λ (g : List AnswerWord). IsListedReplay g (start_of script.header) script'.calls.items ran')
+          (sym given)
+          (subst (λ (s : State). IsListedReplay words'.items s script'.calls.items ran') (sym start) replay')) has
+      by (Some (Answers words)) None quiet said replay replay' = absurd cc
+      by (Some (Answers words)) (Some (Quota asked)) quiet said replay replay' = absurd cc
+      by (Some (Answers words)) (Some (Tenants asked)) quiet said replay replay' = absurd cc
+      by None l' quiet said replay replay' = other None l' tt said replay replay'
+      by (Some (Quota asked)) l' quiet said replay replay' = other (Some (Quota asked)) l' tt said replay replay'
+      by (Some (Tenants asked)) l' quiet said replay replay' = other (Some (Tenants asked)) l' tt said replay replay'
+
+  -- two outcomes of the same bytes that these decide end alike
   pub outcomes_once : OutcomesAreOne
   outcomes_once bytes (Ok a) (Ok b) (short, writes, replay) (short', writes', replay') (has, none) (has', none') =
       let same = texts_once bytes a.script b.script writes writes' in

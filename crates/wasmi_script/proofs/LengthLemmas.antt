@@ -26,7 +26,7 @@ use Rattle.wasmi_core.specs.declared.calls.Reply.TheVariants.{Done, Made, Value,
 use Rattle.wasmi_script.specs.declared.error.ReplayError.{ReplayError}
 use Rattle.wasmi_script.specs.declared.error.ReplayError.TheVariants.{BadCommand, TooLong, ReadFault}
 use Rattle.wasmi_script.specs.declared.error.ReplayError.TheVariants as Errors
-use Rattle.wasmi_script.specs.TypeWords.{reference_word}
+use Rattle.wasmi_grammar.specs.TypeWords.{reference_word}
 use Rattle.wasmi_script.specs.Texts.{kind_text, reply_text, error_text}
 
 -- the digits of a number are at most 64
@@ -42,6 +42,7 @@ digits_short (suc k) base upper n acc =
       | false ↦ omega (arith, digits_short k base upper (n / base) (glyph ∷ acc))
     ]
 
+-- a number in decimal has at most 64 digits
 decimal_short : (n : ℕ) → length (decimal n) ≤ 64
 unfolding digits
 decimal_short n = digits_short 64 10 false n []
@@ -91,6 +92,7 @@ kind_short (StoreLane op a memory ptr offset) = lit≤ tt
 numbered : (text : List ℕ) (n : ℕ) → length text ≤ 100 → length (text ++ decimal n) ≤ 164
 numbered text n short = omega (arith, length-append text (decimal n), decimal_short n, short)
 
+-- a memory error's text has at most 164 bytes
 memory_short : (error : MemoryError) → length (memory_error_text error) ≤ 164
 memory_short memory.OutOfSystemMemory = lit≤ tt
 memory_short memory.OutOfBoundsGrowth = lit≤ tt
@@ -102,6 +104,7 @@ memory_short memory.MinimumSizeOverflow = lit≤ tt
 memory_short memory.MaximumSizeOverflow = lit≤ tt
 memory_short (memory.OutOfFuel required) = numbered (codes "not enough fuel. required=") required (lit≤ tt)
 
+-- a table error's text has at most 164 bytes
 table_short : (error : TableError) → length (table_error_text error) ≤ 164
 table_short table.OutOfSystemMemory = lit≤ tt
 table_short table.MinimumSizeOverflow = lit≤ tt
@@ -115,18 +118,22 @@ table_short table.CopyOutOfBounds = lit≤ tt
 table_short table.ElementTypeMismatch = lit≤ tt
 table_short (table.OutOfFuel required) = numbered (codes "not enough fuel: required=") required (lit≤ tt)
 
+-- a fuel error's text has at most 164 bytes
 fuel_short : (error : FuelError) → length (fuel_error_text error) ≤ 164
 fuel_short fuel.FuelMeteringDisabled = lit≤ tt
 fuel_short (fuel.OutOfFuel required) = numbered (codes "ouf of fuel. required=") required (lit≤ tt)
 
+-- a global error's text has at most 164 bytes
 global_short : (error : GlobalError) → length (global_error_text error) ≤ 164
 global_short ImmutableWrite = lit≤ tt
 global_short TypeMismatch = lit≤ tt
 
+-- a segment error's text has at most 164 bytes
 segment_short : (error : SegmentError) → length (segment_error_text error) ≤ 164
 segment_short segment.TooManyItems = lit≤ tt
 segment_short segment.OutOfSystemMemory = lit≤ tt
 
+-- a trap's text has at most 164 bytes
 trap_short : (code : TrapCode) → length (code_message code) ≤ 164
 trap_short trap.UnreachableCodeReached = lit≤ tt
 trap_short trap.MemoryOutOfBounds = lit≤ tt
@@ -141,6 +148,7 @@ trap_short trap.OutOfFuel = lit≤ tt
 trap_short trap.GrowthOperationLimited = lit≤ tt
 trap_short trap.OutOfSystemMemory = lit≤ tt
 
+-- the word of a reference type has at most 6 bytes
 reference_short : (ty : RefType) → length (reference_word ty) ≤ 6
 reference_short Func = lit≤ tt
 reference_short Extern = lit≤ tt
@@ -149,6 +157,7 @@ reference_short Extern = lit≤ tt
 failed : (text : List ℕ) → length text ≤ 164 → length (codes "error " ++ text) < 256
 failed text fits = omega (arith, length-append (codes "error ") text, fits)
 
+-- a word of at most 40 bytes with a space and a number has at most 105
 one_number : (word : List ℕ) (n : ℕ) → length word ≤ 40 → length (word ++ (codes " " ++ decimal n)) ≤ 105
 one_number word n short =
     omega (
@@ -159,6 +168,7 @@ one_number word n short =
       short,
     )
 
+-- a word of at most 40 bytes with two numbers has at most 169
 two_numbers : (word : List ℕ) (m n : ℕ) → length word ≤ 40
     → length (word ++ (decimal m ++ (codes " " ++ decimal n))) ≤ 169
 two_numbers word m n short =
@@ -172,6 +182,7 @@ two_numbers word m n short =
       short,
     )
 
+-- a word of at most 5 bytes with three numbers may be printed at once
 pub three_numbers : (word : List ℕ) (k m n : ℕ) → length word ≤ 5
     → length (word ++ (decimal k ++ (codes " " ++ (decimal m ++ (codes " " ++ decimal n))))) < 256
 three_numbers word k m n short =

@@ -12,7 +12,7 @@ use Rattle.wasmi_core.specs.declared.calls.Call.{Call}
 use Rattle.wasmi_core.specs.declared.calls.Reply.{Reply}
 use Rattle.wasmi_core.specs.State.{State}
 use Rattle.wasmi_core.specs.Totals.{total}
-use Rattle.wasmi_script.specs.declared.script.TenantRun.{TenantRun}
+use Rattle.wasmi_grammar.specs.declared.script.TenantRun.{TenantRun}
 use Rattle.wasmi_script.proofs.PrintingLemmas.{texts_more, texts_at}
 use Rattle.wasmi_script.specs.Printing.{line}
 use Rattle.wasmi_script.specs.Texts.{reply_text}
@@ -40,6 +40,7 @@ enumerate_append n (x ∷ xs) ys =
 abbrev one_text : ℕ × State → List ℕ
 one_text tenant = line (tenant_text tenant.0 tenant.1)
 
+-- the lines of some tenants, and then of others, whose numbers go on after theirs
 tenants_append : (machines others : List State)
     → tenants_text (machines ++ others)
     ≡ tenants_text machines ++ flat_map one_text (enumerate_from (length machines) others)
@@ -60,6 +61,7 @@ tenants_more machines machine =
 abbrev pub later_tenants : List State → ℕ → List ℕ
 later_tenants machines index = flat_map one_text (enumerate_from (length (take index machines)) (drop index machines))
 
+-- the lines of all tenants are those of the tenants up to a place, and then the later ones
 pub tenants_split : (machines : List State) (index : ℕ)
     → tenants_text machines ≡ tenants_text (take index machines) ++ later_tenants machines index
 tenants_split machines index =

@@ -2,7 +2,7 @@
 use Rattle.std.proofs.Common.{◌++◌, List, [], ◌∷◌, refl, subst}
 use Rattle.wasmi_core.specs.declared.calls.Reply.{Reply}
 use Rattle.wasmi_budget.specs.Pool.{PoolValue}
-use Rattle.wasmi_script.specs.declared.script.TenantRun.{TenantRun}
+use Rattle.wasmi_grammar.specs.declared.script.TenantRun.{TenantRun}
 use Rattle.wasmi_script.specs.Replays.{AnswersPart, AnswersParts}
 
 -- one part more

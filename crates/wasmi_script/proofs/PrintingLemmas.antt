@@ -56,6 +56,7 @@ passes_flushed : (a b c : Option (List ℕ)) (u v s : List ℕ) → Passes a b u
 passes_flushed a b c u v s (front, split, sent) flushed =
     subst (Appends a c) (sym split) (Appends-trans a b c front v sent flushed)
 
+-- a text that is printed, and then a front of what waits
 front_flushed : (a b c : Option (List ℕ)) (u v s : List ℕ) → Passes a b u v s → AppendsFront b c v
     → AppendsFront a c (u ++ s)
 front_flushed a b c u v s (front, split, sent) (front', rest, split', sent') = (
@@ -70,6 +71,7 @@ front_flushed a b c u v s (front, split, sent) (front', rest, split', sent') = (
 abbrev pub Takes : ArrayString → List ℕ → ArrayString → Type 0
 Takes s bytes t = t.bytes ≡ s.bytes ++ bytes
 
+-- a text that is written into a chunk stands after what was there
 taken : (s t : ArrayString) (bytes : List ℕ) → WritesInCalls Takes s bytes t → t.bytes ≡ s.bytes ++ bytes
 taken s t bytes writes = contents_after_writes Takes (λ x. x.bytes) (λ w bs v h. h) s bytes t writes
 
@@ -78,10 +80,12 @@ pub always_err : {A E : Type 0} {P : Type 0} (r : Result A E) → P → OnErr r 
 always_err (Ok x) p = tt
 always_err (Err e) p = p
 
+-- what holds where a call doesn't fail holds in a weaker form
 pub ok_weaker : {A E : Type 0} {P Q : Type 0} (r : Result A E) → (P → Q) → OnOk r P → OnOk r Q
 ok_weaker (Ok x) weaker p = weaker p
 ok_weaker (Err e) weaker p = tt
 
+-- what holds where a call fails holds in a weaker form
 pub err_weaker : {A E : Type 0} {P Q : Type 0} (r : Result A E) → (P → Q) → OnErr r P → OnErr r Q
 err_weaker (Ok x) weaker p = tt
 err_weaker (Err e) weaker p = weaker p
@@ -143,6 +147,7 @@ module _ {W : Type 0} (contents : W → Option (List ℕ)) where
   prints_out p q r text printed sent =
       record { writer = sent.writer ∙ printed.writer; sent = passes_flushed _ _ _ _ _ text printed.passed sent.sent }
 
+  -- a text that is printed, and then a front of what waits
   pub prints_out_front : (p q r : Printer W) (text : List ℕ) → Prints contents p q text → SendsFront contents q r
       → PrintsFront contents p r text
   prints_out_front p q r text printed sent =
@@ -186,6 +191,7 @@ module _ {W : Type 0} (contents : W → Option (List ℕ)) where
   no_room (Err e) (Some bytes) p q text sent =
       record { writer = sent.writer; sent = front_longer _ _ _ (text bytes) sent.sent }
 
+  -- a text for which there is room, but that can't be made
   pub no_text : {E : Type 0} (r : Result (Unit {0}) E) (output : Option (List ℕ)) (p q s : Printer W)
       (text : List ℕ → List ℕ)
       → Prints contents p q [] → s.writer ≡ q.writer
@@ -203,12 +209,14 @@ module _ {W : Type 0} (contents : W → Option (List ℕ)) where
 
 -- texts one after the other: those up to a place, the one there, and the later ones
 module _ {X : Type 0} {A : Type 0} (text : X → List A) where
+  -- those up to the next place are those up to a place and the one there
   pub texts_more : (xs : List X) (i : ℕ) (d : X) → i < length xs
       → flat_map text (take (i + 1) xs) ≡ flat_map text (take i xs) ++ text (get_or xs i d)
   texts_more xs i d within =
       ap (flat_map text) (take_more xs i d within) ∙ flat_map-append text (take i xs) (get_or xs i d ∷ [])
       ∙ ap (λ t. flat_map text (take i xs) ++ t) (append-nil (text (get_or xs i d)))
 
+  -- all of them are those up to a place, the one there and the later ones
   pub texts_at : (xs : List X) (i : ℕ) (d : X) → i < length xs
       → flat_map text xs ≡ flat_map text (take i xs) ++ (text (get_or xs i d) ++ flat_map text (drop (i + 1) xs))
   texts_at xs i d within =

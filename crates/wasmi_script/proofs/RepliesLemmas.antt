@@ -10,13 +10,13 @@ use Rattle.wasmi_core.specs.World.{World, Turn}
 use Rattle.wasmi_core.specs.Runs.{IsRunOf}
 use Rattle.wasmi_budget.specs.Pool.{PoolValue}
 use Rattle.wasmi_script.specs.declared.replaying.Ran.{Ran}
-use Rattle.wasmi_script.specs.declared.script.TenantRun.{TenantRun}
-use Rattle.wasmi_script.specs.declared.script.Script.{Script}
-use Rattle.wasmi_script.specs.declared.script.header.LimiterLine.{LimiterLine}
-use Rattle.wasmi_script.specs.declared.script.header.LimiterLine.TheVariants.{Quota, Answers, Tenants}
-use Rattle.wasmi_script.specs.Words.{Words}
-use Rattle.wasmi_script.specs.Headers.{tenants_of}
-use Rattle.wasmi_script.specs.Lines.{AddsLine, TakesLines, MakeScript}
+use Rattle.wasmi_grammar.specs.declared.script.TenantRun.{TenantRun}
+use Rattle.wasmi_grammar.specs.declared.script.Script.{Script}
+use Rattle.wasmi_grammar.specs.declared.header.LimiterLine.{LimiterLine}
+use Rattle.wasmi_grammar.specs.declared.header.LimiterLine.TheVariants.{Quota, Answers, Tenants}
+use Rattle.wasmi_grammar.specs.Words.{Words}
+use Rattle.wasmi_grammar.specs.Headers.{tenants_of}
+use Rattle.wasmi_grammar.specs.Lines.{AddsLine, TakesLines, MakeScript}
 use Rattle.wasmi_script.specs.Replays.{AnswersParts, IsReplayUnder, IsReplayBy, IsReplayOf}
 use Rattle.wasmi_script.specs.Outcomes.{calls_of}
 use Rattle.wasmi_script.proofs.OutcomesLemmas.{calls_in}
@@ -27,6 +27,7 @@ run_count : {S : Type 0} (rules : Rules S) (calls : List Call) (w : World S) (re
 run_count rules calls w replies w' (turns, called, replied, run) =
     sym (ap length called) ∙ length-map turns Turn.call ∙ sym (length-map turns Turn.reply) ∙ ap length replied
 
+-- a replay on one machine has a reply to each call
 under_count : (limiter : Option LimiterLine) (start : State) (calls : List Call) (ran : Ran)
     → IsReplayUnder limiter start calls ran → length calls ≡ length ran.replies.items
 under_count None start calls ran (held, after, run) = run_count _ _ _ _ _ run
@@ -54,6 +55,7 @@ parts_count (part ∷ parts) pool replies replies' pool' (between, middle, (answ
 abbrev IsSingle : Script → Type 0
 IsSingle script = tenants_of script.header.limiter ≡ 0 → script.earlier.items ≡ []
 
+-- one line more leaves one part to a script without tenants
 single_more : (old : Script) (words : Words) (new : Script) → IsSingle old → AddsLine old words new → IsSingle new
 single_more old words new single (inl a) = subst IsSingle (sym a.1) single
 single_more old words new single (inr (inl a)) = λ none. a.commands.earlier ∙ a.before_commands.no_parts
@@ -64,14 +66,17 @@ single_more old words new single (inr (inr (inr (inr (inl a))))) =
 single_more old words new single (inr (inr (inr (inr (inr a))))) =
     λ none. absurd (omega (arith, a.tenant.2.1, ap (λ h. tenants_of h.limiter) (sym a.header) ∙ none))
 
+-- lines leave one part to a script without tenants
 single_all : (lines : List (List ℕ)) (old new : Script) → IsSingle old → TakesLines lines old new → IsSingle new
 single_all [] old new single same = subst IsSingle (sym same) single
 single_all (line ∷ lines) old new single (middle, taken, later) =
     single_all lines middle new (single_more old taken.1 middle single taken.3) later
 
+-- a script that lines make has one part if it has no tenants
 made_single : (lines : List (List ℕ)) (script : Script) → MakeScript lines script → IsSingle script
 made_single lines script made = single_all lines made.empty script (λ none. made.no_commands.no_parts) made.lines
 
+-- a replay on one machine has a reply to each call of a script of one part
 one_count : (limiter : Option LimiterLine) (start : State) (script : Script) (ran : Ran) → script.earlier.items ≡ []
     → IsReplayUnder limiter start script.calls.items ran
     → length (calls_of script) ≡ length ran.replies.items
@@ -79,6 +84,7 @@ one_count limiter start script ran single replay =
     ap (λ ps. length (calls_in ps ++ script.calls.items)) single
     ∙ under_count limiter start script.calls.items ran replay
 
+-- a replay by any limiter line has a reply to each call of its script
 by_count : (limiter : Option LimiterLine) (script : Script) (ran : Ran)
     → (tenants_of limiter ≡ 0 → script.earlier.items ≡ []) → IsReplayBy limiter script ran
     → length (calls_of script) ≡ length ran.replies.items

@@ -2,20 +2,21 @@
 use Rattle.std.specs.Prelude.{◌≡◌, ⊤, ℕ, List, All, Option, Some, Ok, Err}
 use Rattle.wasmi_core.specs.Determinism.{HasMemory}
 use Rattle.wasmi_script.specs.declared.error.ReplayError.TheVariants.{OutOfMemory, ReadFault}
-use Rattle.wasmi_script.specs.declared.script.header.LimiterLine.{LimiterLine}
-use Rattle.wasmi_script.specs.declared.script.header.LimiterLine.TheVariants.{Answers}
+use Rattle.wasmi_grammar.specs.declared.header.LimiterLine.{LimiterLine}
+use Rattle.wasmi_grammar.specs.declared.header.LimiterLine.TheVariants.{Answers}
+use Rattle.wasmi_script.specs.ListedLimiter.{notice_answer_by}
 use Rattle.wasmi_script.specs.Outcomes.{Outcome, IsOutcomeOf, outcome_text}
 use Rattle.wasmi_script.specs.Status.{status_after}
 
--- there is no `answers` line
-abbrev pub HasNoAnswers : Option LimiterLine → Type 0
-HasNoAnswers (Some (Answers words)) = ⊥
-HasNoAnswers limiter = ⊤
+-- no word of an `answers` line is `complain`: each notice is accepted
+abbrev pub HasNoComplain : Option LimiterLine → Type 0
+HasNoComplain (Some (Answers words)) = All (λ word. notice_answer_by word ≡ Ok tt) words.items
+HasNoComplain limiter = ⊤
 
--- Memory isn't wanting and the reader doesn't fail: no reply tells of want of memory, and without an `answers` line no
--- notice of it is answered by another error.
+-- Memory isn't wanting and the reader doesn't fail: no reply tells of want of memory, and where no word is `complain`,
+-- no notice of it is answered by another error.
 abbrev pub IsDecided : Outcome → Type 0
-IsDecided (Ok replayed) = All HasMemory replayed.ran.replies.items × HasNoAnswers replayed.script.header.limiter
+IsDecided (Ok replayed) = All HasMemory replayed.ran.replies.items × HasNoComplain replayed.script.header.limiter
 IsDecided (Err OutOfMemory) = ⊥
 IsDecided (Err ReadFault) = ⊥
 IsDecided (Err error) = ⊤

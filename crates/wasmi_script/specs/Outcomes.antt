@@ -8,7 +8,7 @@ use Rattle.wasmi_core.specs.declared.calls.Call.{Call}
 use Rattle.wasmi_core.specs.declared.calls.Reply.{Reply}
 use Rattle.wasmi_core.specs.State.{State}
 use Rattle.wasmi_core.specs.Totals.{total}
-use Rattle.wasmi_script.specs.declared.script.Script.{Script}
+use Rattle.wasmi_grammar.specs.declared.script.Script.{Script}
 use Rattle.wasmi_script.specs.declared.replaying.Held.{Held}
 use Rattle.wasmi_script.specs.declared.replaying.Held.TheVariants.{Nothing, Quota, Tenants}
 use Rattle.wasmi_script.specs.declared.replaying.Replayed.{Replayed}
@@ -17,8 +17,8 @@ use Rattle.wasmi_script.specs.declared.error.ReplayError.TheVariants.{BadCommand
 use Rattle.wasmi_script.specs.declared.reading.TheConstants.{LIMIT}
 use Rattle.wasmi_script.specs.declared.replaying.Status.{Status}
 use Rattle.wasmi_script.specs.declared.replaying.Status.TheVariants.{Fault}
-use Rattle.wasmi_script.specs.Lines.{WritesScript}
-use Rattle.wasmi_script.specs.Refusals.{IsFirstBadLine}
+use Rattle.wasmi_grammar.specs.Lines.{WritesScript}
+use Rattle.wasmi_grammar.specs.Refusals.{IsFirstBadLine}
 use Rattle.wasmi_script.specs.Printing.{AppendsFront, line}
 use Rattle.wasmi_script.specs.Replays.{IsReplayOf}
 use Rattle.wasmi_script.specs.Status.{status_after}

@@ -13,20 +13,20 @@ use Rattle.wasmi_core.specs.Runs.{IsRunOf}
 use Rattle.wasmi_core.specs.Totals.{HoldsTotals}
 use Rattle.wasmi_core.specs.declared.calls.Reply.{Reply}
 use Rattle.wasmi_budget.specs.Pool.{PoolValue, RunsTenant}
-use Rattle.wasmi_script.specs.declared.script.Script.{Script}
-use Rattle.wasmi_script.specs.declared.script.header.LimiterLine.{LimiterLine}
-use Rattle.wasmi_script.specs.declared.script.header.LimiterLine.TheVariants as Lines
-use Rattle.wasmi_script.specs.declared.script.header.QuotaLine.{QuotaLine}
-use Rattle.wasmi_script.specs.declared.script.header.TenantsLine.{TenantsLine}
-use Rattle.wasmi_script.specs.declared.script.TenantRun.{TenantRun}
+use Rattle.wasmi_grammar.specs.declared.script.Script.{Script}
+use Rattle.wasmi_grammar.specs.declared.header.LimiterLine.{LimiterLine}
+use Rattle.wasmi_grammar.specs.declared.header.LimiterLine.TheVariants as Lines
+use Rattle.wasmi_grammar.specs.declared.header.QuotaLine.{QuotaLine}
+use Rattle.wasmi_grammar.specs.declared.header.TenantsLine.{TenantsLine}
+use Rattle.wasmi_grammar.specs.declared.script.TenantRun.{TenantRun}
 use Rattle.wasmi_script.specs.declared.replaying.Amounts.{Amounts}
 use Rattle.wasmi_script.specs.declared.replaying.Held.TheVariants.{Nothing}
 use Rattle.wasmi_script.specs.declared.replaying.Held.TheVariants as held
 use Rattle.wasmi_script.specs.declared.replaying.Ran.{Ran}
 use Rattle.wasmi_script.specs.declared.listed_limiter.AnswerList.{AnswerList}
-use Rattle.wasmi_script.specs.declared.script.header.answers.AnswerWord.{AnswerWord}
-use Rattle.wasmi_script.specs.Answers.{IsNewList, answer_rules}
-use Rattle.wasmi_script.specs.Headers.{meter_of, start_of}
+use Rattle.wasmi_grammar.specs.declared.header.answers.AnswerWord.{AnswerWord}
+use Rattle.wasmi_script.specs.ListedLimiter.{IsNewList, answer_rules}
+use Rattle.wasmi_grammar.specs.Headers.{meter_of, start_of}
 
 -- what a limiter holds that has permitted nothing yet
 abbrev pub nothing_held : Holdings

@@ -4,6 +4,7 @@ ghost use Rattle.wasmi_script.specs.declared.error.ReplayError.TheVariants.{OutO
 
 use std::alloc::{AllocError, AllocFailed};
 use std::fmt;
+use wasmi_grammar::ParseError;
 
 /// Why a script isn't run. The text is what the program prints.
 #[derive(Clone, Copy, Debug, PartialEq, Eq)]
@@ -49,5 +50,18 @@ impl<T: Drop> From<AllocFailed<T>> for ReplayError {
 
     fn from(_: AllocFailed<T>) -> Self {
         ReplayError::OutOfMemory
+    }
+}
+
+impl From<ParseError> for ReplayError {
+    ghost use Rattle.wasmi_script.specs.Refusals.{replay_error};
+
+    ghost from_gives = { λ error replayed. replayed ≡ replay_error error };
+
+    fn from(error: ParseError) -> Self {
+        match error {
+            ParseError::BadCommand { line } => ReplayError::BadCommand { line },
+            ParseError::OutOfMemory => ReplayError::OutOfMemory,
+        }
     }
 }

@@ -1,4 +1,4 @@
-//! Scripts of calls on a metered machine: reading, parsing, running, printing.
+//! Scripts of calls on a metered machine: reading, running, printing.
 #![tactic(auto)]
 
 mod error;
@@ -8,7 +8,6 @@ mod print;
 mod printer;
 mod reading;
 mod replaying;
-mod script;
 
 pub use error::ReplayError;
 pub use print::ReplyLine;

@@ -1,8 +1,8 @@
 //! A limiter that answers from a list of words.
 ghost use Rattle.std.specs.Prelude.{◌≡◌};
 
-use crate::script::AnswerWord;
 use wasmi_core::{LimiterError, MemoryError, ResourceLimiter, TableError};
+use wasmi_grammar::AnswerWord;
 
 /// A limiter that answers each question by the next of its words, and permits once there is none
 /// left.
@@ -17,7 +17,7 @@ pub struct AnswerList<'w> {
 }
 
 impl<'w> AnswerList<'w> {
-    ghost use Rattle.wasmi_script.specs.Answers.{IsNewList, TakesWord, notice_answer_by};
+    ghost use Rattle.wasmi_script.specs.ListedLimiter.{IsNewList, TakesWord, notice_answer_by};
 
     /// A limiter that was asked nothing yet.
     pub fn new(words: &'w [AnswerWord]) -> Self
@@ -58,7 +58,7 @@ impl<'w> AnswerList<'w> {
 }
 
 impl ResourceLimiter for AnswerList<'_> {
-    ghost use Rattle.wasmi_script.specs.Answers.{answer_rules};
+    ghost use Rattle.wasmi_script.specs.ListedLimiter.{answer_rules};
 
     ghost rules = { answer_rules };
 

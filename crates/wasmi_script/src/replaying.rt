@@ -1,7 +1,7 @@
 //! A script from its reader to the printed lines.
 ghost use Rattle.std.specs.Prelude.{◌≡◌, ◌≤◌, ◌++◌, None, Some, length, codes, Ok, IfOk, IfSome, OnOk, OnErr};
-ghost use Rattle.wasmi_script.specs.Headers.{meter_of, start_of};
-ghost use Rattle.wasmi_script.specs.Lines.{WritesScript};
+ghost use Rattle.wasmi_grammar.specs.Headers.{meter_of, start_of};
+ghost use Rattle.wasmi_grammar.specs.Lines.{WritesScript};
 ghost use Rattle.wasmi_core.specs.State.{new_state};
 ghost use Rattle.wasmi_core.specs.Totals.{HoldsTotals};
 ghost use Rattle.wasmi_script.specs.Replays.{IsReplayOf, IsReplayUnder, IsListedReplay, IsPoolReplay, AnswersPart, new_pool, nothing_held};
@@ -16,14 +16,14 @@ use crate::listed_limiter::AnswerList;
 use crate::print::ReplyLine;
 use crate::printer::Printer;
 use crate::reading::{LIMIT, Turns, read};
-use crate::script::{
-    AnswerWord, Header, LimiterLine, QuotaLine, RegionLine, Script, TenantsLine, parse,
-};
 use std::alloc::{AllocError, Global};
 use std::{fmt, io};
 use wasmi_budget::Pool;
 use wasmi_core::{
     Call, Machine, NoLimits, Quota, Reply, ResourceLimiterRef, run, run_lending, run_reserving,
+};
+use wasmi_grammar::{
+    AnswerWord, Header, LimiterLine, QuotaLine, RegionLine, Script, TenantsLine, parse,
 };
 
 /// How a replay ended.
@@ -99,14 +99,15 @@ pub fn replay<R: io::Read, W: io::Write>(alloc: Global, reader: &mut R, writer: 
     ensures ends { Replays (R.remaining reader.old) (W.contents writer.old)
         (W.contents writer.new) result }
 {
-    let outcome = answer(alloc, reader);
+    let outcome = outcome_of(alloc, reader);
     match print(writer, &outcome) {
         Ok(()) => status_of(&outcome),
         Err(_) => Status::Fault,
     }
 }
 
-fn answer<R: io::Read>(alloc: Global, reader: &mut R) -> Result<Replayed, ReplayError>
+/// Reads the script and runs it.
+fn outcome_of<R: io::Read>(alloc: Global, reader: &mut R) -> Result<Replayed, ReplayError>
     ensures outcome { IfSome (R.remaining reader.old) (λ bytes. IsOutcomeOf bytes result) }
     ensures replies { HasReplies result }
 {

@@ -1,3 +1,4 @@
 mod AtMostLemmas
 mod HostLemmas
 mod BillLemmas
+mod InterpreterLemmas

@@ -1,3 +1,4 @@
 pub mod AtMost
 pub mod Host
 pub mod Bill
+pub mod Interpreter

@@ -1,8 +1,8 @@
 use Rattle.std.proofs.Common.{◌≡◌, ◌≤◌, ◌∙◌, ◌+◌, ◌++◌, ◌∷◌, [], take, length, refl, sym, ap, subst}
 use Rattle.std.proofs.lemmas.List.{take_more, take_all}
 use Rattle.wasmi_core.specs.State.{new_state}
-use Rattle.wasmi_script.specs.declared.script.TenantRun.{TenantRun}
-use Rattle.wasmi_script.specs.Headers.{meter_of}
+use Rattle.wasmi_grammar.specs.declared.script.TenantRun.{TenantRun}
+use Rattle.wasmi_grammar.specs.Headers.{meter_of}
 use Rattle.wasmi_script.specs.Replays.{AnswersPart, AnswersParts, new_pool}
 use Rattle.wasmi_script.proofs.PoolLemmas.{one_part}
 use Rattle.wasmi_script.proofs.replaying.run_pool.Goals as goal

@@ -1,0 +1,134 @@
+-- What the operands of a command write, by the word that it begins with.
+use Rattle.std.proofs.Common.{ℕ, ◌≡◌, List, [], ◌∷◌, Result, Err, bytes_eq, cond, codes, subst}
+use Rattle.wasmi_core.specs.declared.ops.LoadOp.{LoadOp}
+use Rattle.wasmi_core.specs.declared.ops.StoreOp.{StoreOp}
+use Rattle.wasmi_raw.specs.declared.raw.RawVal.{RawVal}
+use Rattle.wasmi_typed.specs.declared.global.GlobalType.{GlobalType}
+use Rattle.wasmi_typed.specs.declared.typed.TypedRawVal.{TypedRawVal}
+use Rattle.wasmi_typed.specs.declared.typed_ref.TypedRawRef.{TypedRawRef}
+use Rattle.wasmi_vector_ops.specs.declared.access.VectorLoadOp.{VectorLoadOp}
+use Rattle.wasmi_vector_ops.specs.declared.binary.BinaryOp.{BinaryOp}
+use Rattle.wasmi_vector_ops.specs.declared.make.MakeOp.{MakeOp}
+use Rattle.wasmi_vector_ops.specs.declared.shift.ShiftOp.{ShiftOp}
+use Rattle.wasmi_vector_ops.specs.declared.ternary.TernaryOp.{TernaryOp}
+use Rattle.wasmi_vector_ops.specs.declared.test.TestOp.{TestOp}
+use Rattle.wasmi_vector_ops.specs.declared.unary.UnaryOp.{UnaryOp}
+use Rattle.wasmi_core.specs.declared.calls.Call.{Call}
+use Rattle.wasmi_core.specs.declared.calls.Call.TheVariants.{SetFuel, GetFuel, NewMemory, NewLentMemory, GrowMemory, DropMemory, Read, Write, Load, Store, NewTable, GrowTable, DropTable, GetElement, SetElement, InitTable, CopyTable, FillTable, NewSegment, DropItems, NewGlobal, SetGlobal, GetGlobal, SetRegister, GetRegister, Make, Unary, Binary, Ternary, Shift, Test, Extract, Replace, Shuffle, VectorLoad, LoadLane, VectorStore, StoreLane}
+use Rattle.wasmi_grammar.specs.declared.line.LineError.{LineError}
+use Rattle.wasmi_grammar.specs.Acceptance.{Accepts}
+use Rattle.wasmi_grammar.specs.Words.{Words}
+use Rattle.wasmi_grammar.specs.Commands.{command_word, WritesOperands, NamesAfter}
+use Rattle.wasmi_grammar.proofs.AcceptanceLemmas.{refused_through}
+
+-- what is said beside a word, if anything is
+abbrev said : List (List ℕ × Type 0) → List ℕ → Type 0
+said [] word = Unit {0}
+said (row ∷ rows) word = cond (bytes_eq row.0 word) row.1 (said rows word)
+
+-- what the operands of these commands write
+abbrev forms : Words → List (List ℕ × Type 0)
+forms words =
+    (codes "grow", (memory : ℕ) × (pages : ℕ) × WritesOperands words (GrowMemory memory pages)) ∷
+    (codes "read", (memory : ℕ) × (offset : ℕ) × (len : ℕ) × WritesOperands words (Read memory offset len)) ∷ (
+      codes "load",
+      (op : LoadOp) × (memory : ℕ) × (ptr : ℕ) × (offset : ℕ)
+          × WritesOperands words (Load op memory ptr offset),
+    ) ∷ (
+      codes "store",
+      (op : StoreOp) × (memory : ℕ) × (ptr : ℕ) × (offset : ℕ) × (value : RawVal)
+          × WritesOperands words (Store op memory ptr offset value),
+    ) ∷ (
+      codes "tgrow",
+      (table : ℕ) × (delta : ℕ) × (init : TypedRawRef)
+          × WritesOperands words (GrowTable table delta init),
+    ) ∷
+    (codes "get", (table : ℕ) × (index : ℕ) × WritesOperands words (GetElement table index)) ∷ (
+      codes "tset",
+      (table : ℕ) × (index : ℕ) × (value : TypedRawRef)
+          × WritesOperands words (SetElement table index value),
+    ) ∷ (
+      codes "init",
+      (table : ℕ) × (segment : ℕ) × (dst : ℕ) × (src : ℕ) × (len : ℕ)
+          × WritesOperands words (InitTable table segment dst src len),
+    ) ∷ (
+      codes "copy",
+      (dst_table : ℕ) × (dst : ℕ) × (src_table : ℕ) × (src : ℕ) × (len : ℕ)
+          × WritesOperands words (CopyTable dst_table dst src_table src len),
+    ) ∷ (
+      codes "fill",
+      (table : ℕ) × (dst : ℕ) × (value : TypedRawRef) × (len : ℕ)
+          × WritesOperands words (FillTable table dst value len),
+    ) ∷
+    (codes "global", (value : RawVal) × (ty : GlobalType) × WritesOperands words (NewGlobal value ty)) ∷
+    (codes "gset", (global : ℕ) × (value : TypedRawVal) × WritesOperands words (SetGlobal global value)) ∷
+    (codes "set", (dst : ℕ) × (value : RawVal) × WritesOperands words (SetRegister dst value)) ∷
+    (codes "make", (op : MakeOp) × (dst : ℕ) × (a : ℕ) × WritesOperands words (Make op dst a)) ∷
+    (codes "unary", (op : UnaryOp) × (dst : ℕ) × (a : ℕ) × WritesOperands words (Unary op dst a)) ∷
+    (codes "binary", (op : BinaryOp) × (dst : ℕ) × (a : ℕ) × (b : ℕ) × WritesOperands words (Binary op dst a b)) ∷ (
+      codes "ternary",
+      (op : TernaryOp) × (dst : ℕ) × (a : ℕ) × (b : ℕ) × (c : ℕ)
+          × WritesOperands words (Ternary op dst a b c),
+    ) ∷
+    (codes "shift", (op : ShiftOp) × (dst : ℕ) × (a : ℕ) × (amount : ℕ) × WritesOperands words (Shift op dst a amount))
+    ∷
+    (codes "test", (op : TestOp) × (a : ℕ) × WritesOperands words (Test op a)) ∷ (
+      codes "vload",
+      (op : VectorLoadOp) × (dst : ℕ) × (memory : ℕ) × (ptr : ℕ) × (offset : ℕ)
+          × WritesOperands words (VectorLoad op dst memory ptr offset),
+    ) ∷ (
+      codes "vstore",
+      (a : ℕ) × (memory : ℕ) × (ptr : ℕ) × (offset : ℕ)
+          × WritesOperands words (VectorStore a memory ptr offset),
+    ) ∷
+    []
+
+-- a call's operands are written in the form of its word
+form : (words : Words) (call : Call) → WritesOperands words call → said (forms words) (command_word call)
+form words (SetFuel fuel) w = tt
+form words GetFuel w = tt
+form words (NewMemory ty) w = tt
+form words (NewLentMemory ty) w = tt
+form words (GrowMemory memory pages) w = (memory, pages, w)
+form words (DropMemory memory) w = tt
+form words (Read memory offset len) w = (memory, offset, len, w)
+form words (Write memory offset bytes) w = tt
+form words (Load op memory ptr offset) w = (op, memory, ptr, offset, w)
+form words (Store op memory ptr offset value) w = (op, memory, ptr, offset, value, w)
+form words (NewTable ty init) w = tt
+form words (GrowTable table delta init) w = (table, delta, init, w)
+form words (DropTable table) w = tt
+form words (GetElement table index) w = (table, index, w)
+form words (SetElement table index value) w = (table, index, value, w)
+form words (InitTable table segment dst src len) w = (table, segment, dst, src, len, w)
+form words (CopyTable dst_table dst src_table src len) w = (dst_table, dst, src_table, src, len, w)
+form words (FillTable table dst value len) w = (table, dst, value, len, w)
+form words (NewSegment ty items) w = tt
+form words (DropItems segment) w = tt
+form words (NewGlobal value ty) w = (value, ty, w)
+form words (SetGlobal global value) w = (global, value, w)
+form words (GetGlobal global) w = tt
+form words (SetRegister dst value) w = (dst, value, w)
+form words (GetRegister a) w = tt
+form words (Make op dst a) w = (op, dst, a, w)
+form words (Unary op dst a) w = (op, dst, a, w)
+form words (Binary op dst a b) w = (op, dst, a, b, w)
+form words (Ternary op dst a b c) w = (op, dst, a, b, c, w)
+form words (Shift op dst a amount) w = (op, dst, a, amount, w)
+form words (Test op a) w = (op, a, w)
+form words (Extract op a) w = tt
+form words (Replace op dst a item) w = tt
+form words (Shuffle dst a b lanes) w = tt
+form words (VectorLoad op dst memory ptr offset) w = (op, dst, memory, ptr, offset, w)
+form words (LoadLane op dst a memory ptr offset) w = tt
+form words (VectorStore a memory ptr offset) w = (a, memory, ptr, offset, w)
+form words (StoreLane op a memory ptr offset) w = tt
+
+-- a command is refused since its operands are
+pub refused_after : {A : Type 0} (error : LineError) (P : A → Type 0) (word : List ℕ) (words : Words)
+    (result : Result Call LineError)
+    → result ≡ Err error → Accepts {A = A} (Err error) P → (said (forms words) word → (a : A) × P a)
+    → Accepts result (NamesAfter word words)
+refused_after error P word words result is refused part =
+    refused_through error result is
+    (λ call names. part (subst (said (forms words)) names.0 (form words call names.1))) refused

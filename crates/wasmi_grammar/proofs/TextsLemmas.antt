@@ -1,0 +1,406 @@
+-- What a line adds is told by the texts of its words alone.
+use Rattle.std.proofs.Common.{ℕ, ◌<◌, ◌≤◌, ◌^◌, ◌≡◌, ◌∙◌, List, [], ◌∷◌, Bor, Option, Some, None, IsSomeAnd, length, map, drop, slice_index_or, inl, inr, refl, sym, ap, subst}
+use Rattle.std.proofs.lemmas.List.{length-map, drop-map}
+use Rattle.std.proofs.lemmas.List.Elements.{All-cons, All-nil, All-head, All-tail}
+use Rattle.wasmi_core.specs.declared.calls.Call.{Call}
+use Rattle.wasmi_core.specs.declared.calls.Call.TheVariants.{SetFuel, GetFuel, NewMemory, NewLentMemory, GrowMemory, DropMemory, Read, Write, Load, Store, NewTable, GrowTable, DropTable, GetElement, SetElement, InitTable, CopyTable, FillTable, NewSegment, DropItems, NewGlobal, SetGlobal, GetGlobal, SetRegister, GetRegister, Make, Unary, Binary, Ternary, Shift, Test, Extract, Replace, Shuffle, VectorLoad, LoadLane, VectorStore, StoreLane}
+use Rattle.wasmi_grammar.specs.declared.script.Script.{Script}
+use Rattle.wasmi_grammar.specs.declared.header.MeterLine.{MeterLine}
+use Rattle.wasmi_grammar.specs.declared.header.MeterLine.TheVariants.{Off, On}
+use Rattle.wasmi_grammar.specs.declared.header.LimiterLine.{LimiterLine}
+use Rattle.wasmi_grammar.specs.declared.header.LimiterLine.TheVariants.{Quota, Answers, Tenants}
+use Rattle.wasmi_grammar.specs.declared.header.RegionLine.{RegionLine}
+use Rattle.wasmi_grammar.specs.Words.{Words, word_at}
+use Rattle.wasmi_grammar.specs.Numbers.{IsDecimal, decimal_value, AreNumbers, WritesNumber, WritesNumbers}
+use Rattle.wasmi_grammar.specs.MemoryWords.{NamesType}
+use Rattle.wasmi_grammar.specs.TableWords.{NamesTableType}
+use Rattle.wasmi_grammar.specs.TypeWords.{WritesReference}
+use Rattle.wasmi_grammar.specs.VectorNames.{NamesMake, NamesUnary, NamesBinary, NamesTernary, NamesShift, NamesTest, NamesLoad}
+use Rattle.wasmi_grammar.specs.LaneNames.{NamesExtract, NamesReplace, NamesLoadLane, NamesStoreLane, WritesLanes}
+use Rattle.wasmi_grammar.specs.Commands.{WritesOperands, Names}
+use Rattle.wasmi_grammar.specs.Headers.{NamesMeter, NamesLimiter, NamesRegion, NamesTenant, WritesLimiter, tenants_of}
+use Rattle.wasmi_grammar.specs.Lines.{AddsLine}
+
+-- words with the same texts
+abbrev texts : Words → List (List ℕ)
+texts words = map (λ word. word.now) words
+
+-- write the same numbers
+abbrev IsNumber : ℕ → Bor (List ℕ) → Type 0
+IsNumber bits word = IsDecimal word.now × (decimal_value word.now < 2 ^ bits)
+
+-- words with the same texts write the same numbers
+retell_numbers : (bits : ℕ) (words words' : Words) (numbers : List ℕ) → texts words ≡ texts words'
+    → WritesNumbers bits words numbers → WritesNumbers bits words' numbers
+retell_numbers bits words words' numbers same (all, is) =
+    (numbered words words' same all, is ∙ valued words words' same)
+  where
+    numbered : (ws vs : Words) → texts ws ≡ texts vs → AreNumbers bits ws → AreNumbers bits vs
+    numbered [] [] same all = All-nil (IsNumber bits)
+    numbered [] (v ∷ vs) same all = absurd cc
+    numbered (w ∷ ws) [] same all = absurd cc
+    numbered (w ∷ ws) (v ∷ vs) same all =
+        let here : w.now ≡ v.now = cc in
+        let rest : texts ws ≡ texts vs = cc in
+        let number : (t : List ℕ) → Type 0 = λ t. IsDecimal t × (decimal_value t < 2 ^ bits) in
+        All-cons (IsNumber bits) v vs (subst number here (All-head (IsNumber bits) w ws all))
+        (numbered ws vs rest (All-tail (IsNumber bits) w ws all))
+
+    valued : (ws vs : Words) → texts ws ≡ texts vs
+        → map (λ word. decimal_value word.now) ws ≡ map (λ word. decimal_value word.now) vs
+    valued [] [] same = refl
+    valued [] (v ∷ vs) same = absurd cc
+    valued (w ∷ ws) [] same = absurd cc
+    valued (w ∷ ws) (v ∷ vs) same =
+        let here : w.now ≡ v.now = cc in
+        let rest : texts ws ≡ texts vs = cc in
+        (λ i. decimal_value (here i) ∷ valued ws vs rest i)
+
+-- words with the same texts write the same lanes of a shuffle
+retell_lanes : (words words' : Words) (lanes : List ℕ) → texts words ≡ texts words' → WritesLanes words lanes
+    → WritesLanes words' lanes
+retell_lanes words words' lanes same writes = record {
+  sixteen = sym (length-map words' (λ word. word.now)) ∙ ap length (sym same) ∙ length-map words (λ word. word.now)
+      ∙ writes.sixteen;
+  written = retell_numbers 5 words words' lanes same writes.written;
+}
+
+-- and so do the operands of a call, and the words of a header line
+module _ (words words' : Words) (same : texts words ≡ texts words') where
+  -- words with the same texts are as many
+  as_many : length words' ≡ length words
+  as_many = sym (length-map words' (λ word. word.now)) ∙ ap length (sym same) ∙ length-map words (λ word. word.now)
+
+  -- at each place they have the same text
+  at : (k : ℕ) → word_at words k ≡ word_at words' k
+  at k = ap (λ ts. slice_index_or ts k []) same
+
+  -- what holds of the text at a place of the one holds of the text there of the other
+  on : (k : ℕ) (Says : List ℕ → Type 0) → Says (word_at words k) → Says (word_at words' k)
+  on k Says says = subst Says (at k) says
+
+  -- without as many of their first words they have the same texts
+  pub later : (k : ℕ) → texts (drop k words) ≡ texts (drop k words')
+  later k = sym (drop-map (λ word. word.now) k words) ∙ ap (drop k) same ∙ drop-map (λ word. word.now) k words'
+
+  -- operands with the same texts write the same call
+  retell_operands : (call : Call) → WritesOperands words call → WritesOperands words' call
+  retell_operands (SetFuel fuel) w = (as_many ∙ w.0, on 0 (λ t. WritesNumber 64 t fuel) w.1)
+  retell_operands GetFuel w = as_many ∙ w
+  retell_operands (NewMemory ty) w = (
+    as_many ∙ w.0,
+    on 3 (λ t. NamesType (word_at words' 0) (word_at words' 1) (word_at words' 2) t ty)
+        (on 2 (λ t. NamesType (word_at words' 0) (word_at words' 1) t (word_at words 3) ty)
+        (on 1 (λ t. NamesType (word_at words' 0) t (word_at words 2) (word_at words 3) ty)
+        (on 0 (λ t. NamesType t (word_at words 1) (word_at words 2) (word_at words 3) ty) w.1))),
+  )
+  retell_operands (NewLentMemory ty) w = (
+    as_many ∙ w.0,
+    on 3 (λ t. NamesType (word_at words' 0) (word_at words' 1) (word_at words' 2) t ty)
+        (on 2 (λ t. NamesType (word_at words' 0) (word_at words' 1) t (word_at words 3) ty)
+        (on 1 (λ t. NamesType (word_at words' 0) t (word_at words 2) (word_at words 3) ty)
+        (on 0 (λ t. NamesType t (word_at words 1) (word_at words 2) (word_at words 3) ty) w.1))),
+  )
+  retell_operands (GrowMemory memory pages) w = (
+    as_many ∙ w.0,
+    on 0 (λ t. WritesNumber 64 t memory) w.1,
+    on 1 (λ t. WritesNumber 64 t pages) w.2,
+  )
+  retell_operands (DropMemory memory) w = (as_many ∙ w.0, sym (at 0) ∙ w.1, on 1 (λ t. WritesNumber 64 t memory) w.2)
+  retell_operands (Read memory offset len) w = (
+    as_many ∙ w.0,
+    on 0 (λ t. WritesNumber 64 t memory) w.1,
+    on 1 (λ t. WritesNumber 64 t offset) w.2,
+    on 2 (λ t. WritesNumber 64 t len) w.3,
+  )
+  retell_operands (Write memory offset bytes) w = (
+    subst (λ n. 2 ≤ n) (sym as_many) w.0,
+    on 0 (λ t. WritesNumber 64 t memory) w.1,
+    on 1 (λ t. WritesNumber 64 t offset) w.2,
+    retell_numbers 8 (drop 2 words) (drop 2 words') bytes.items (later 2) w.3,
+  )
+  retell_operands (Load op memory ptr offset) w = (
+    as_many ∙ w.0,
+    sym (at 0) ∙ w.1,
+    on 1 (λ t. WritesNumber 64 t memory) w.2,
+    on 2 (λ t. WritesNumber 64 t ptr) w.3,
+    on 3 (λ t. WritesNumber 64 t offset) w.4,
+  )
+  retell_operands (Store op memory ptr offset value) w = (
+    as_many ∙ w.0,
+    sym (at 0) ∙ w.1,
+    on 1 (λ t. WritesNumber 64 t memory) w.2,
+    on 2 (λ t. WritesNumber 64 t ptr) w.3,
+    on 3 (λ t. WritesNumber 64 t offset) w.4,
+    w.5,
+    on 4 (λ t. WritesNumber 64 t w.5) w.6,
+    w.7,
+  )
+  retell_operands (NewTable ty init) w = (
+    as_many ∙ w.0,
+    on 3 (λ t. NamesTableType (word_at words' 0) (word_at words' 1) (word_at words' 2) t ty)
+        (on 2 (λ t. NamesTableType (word_at words' 0) (word_at words' 1) t (word_at words 3) ty)
+        (on 1 (λ t. NamesTableType (word_at words' 0) t (word_at words 2) (word_at words 3) ty)
+        (on 0 (λ t. NamesTableType t (word_at words 1) (word_at words 2) (word_at words 3) ty) w.1))),
+    on 5 (λ t. WritesReference (word_at words' 4) t init) (on 4 (λ t. WritesReference t (word_at words 5) init) w.2),
+  )
+  retell_operands (GrowTable table delta init) w = (
+    as_many ∙ w.0,
+    on 0 (λ t. WritesNumber 64 t table) w.1,
+    on 1 (λ t. WritesNumber 64 t delta) w.2,
+    on 3 (λ t. WritesReference (word_at words' 2) t init) (on 2 (λ t. WritesReference t (word_at words 3) init) w.3),
+  )
+  retell_operands (DropTable table) w = (as_many ∙ w.0, sym (at 0) ∙ w.1, on 1 (λ t. WritesNumber 64 t table) w.2)
+  retell_operands (GetElement table index) w = (
+    as_many ∙ w.0,
+    on 0 (λ t. WritesNumber 64 t table) w.1,
+    on 1 (λ t. WritesNumber 64 t index) w.2,
+  )
+  retell_operands (SetElement table index value) w = (
+    as_many ∙ w.0,
+    on 0 (λ t. WritesNumber 64 t table) w.1,
+    on 1 (λ t. WritesNumber 64 t index) w.2,
+    on 3 (λ t. WritesReference (word_at words' 2) t value) (on 2 (λ t. WritesReference t (word_at words 3) value) w.3),
+  )
+  retell_operands (InitTable table segment dst src len) w = (
+    as_many ∙ w.0,
+    on 0 (λ t. WritesNumber 64 t table) w.1,
+    on 1 (λ t. WritesNumber 64 t segment) w.2,
+    on 2 (λ t. WritesNumber 64 t dst) w.3,
+    on 3 (λ t. WritesNumber 32 t src) w.4,
+    on 4 (λ t. WritesNumber 32 t len) w.5,
+  )
+  retell_operands (CopyTable dst_table dst src_table src len) w = (
+    as_many ∙ w.0,
+    on 0 (λ t. WritesNumber 64 t dst_table) w.1,
+    on 1 (λ t. WritesNumber 64 t dst) w.2,
+    on 2 (λ t. WritesNumber 64 t src_table) w.3,
+    on 3 (λ t. WritesNumber 64 t src) w.4,
+    on 4 (λ t. WritesNumber 64 t len) w.5,
+  )
+  retell_operands (FillTable table dst value len) w = (
+    as_many ∙ w.0,
+    on 0 (λ t. WritesNumber 64 t table) w.1,
+    on 1 (λ t. WritesNumber 64 t dst) w.2,
+    on 3 (λ t. WritesReference (word_at words' 2) t value) (on 2 (λ t. WritesReference t (word_at words 3) value) w.3),
+    on 4 (λ t. WritesNumber 64 t len) w.4,
+  )
+  retell_operands (NewSegment ty items) w = (
+    subst (λ n. 1 ≤ n) (sym as_many) w.0,
+    sym (at 0) ∙ w.1,
+    retell_numbers 32 (drop 1 words) (drop 1 words') items.items (later 1) w.2,
+  )
+  retell_operands (DropItems segment) w = (as_many ∙ w.0, on 0 (λ t. WritesNumber 64 t segment) w.1)
+  retell_operands (NewGlobal value ty) w = (
+    as_many ∙ w.0,
+    sym (at 0) ∙ w.1,
+    sym (at 1) ∙ w.2,
+    on 2 (λ t. WritesNumber 64 t value.lo) w.3,
+    on 3 (λ t. WritesNumber 64 t value.hi) w.4,
+  )
+  retell_operands (SetGlobal global value) w = (
+    as_many ∙ w.0,
+    on 0 (λ t. WritesNumber 64 t global) w.1,
+    sym (at 1) ∙ w.2,
+    on 2 (λ t. WritesNumber 64 t value.raw.lo) w.3,
+    on 3 (λ t. WritesNumber 64 t value.raw.hi) w.4,
+  )
+  retell_operands (GetGlobal global) w = (as_many ∙ w.0, on 0 (λ t. WritesNumber 64 t global) w.1)
+  retell_operands (SetRegister dst value) w = (
+    as_many ∙ w.0,
+    on 0 (λ t. WritesNumber 8 t dst) w.1,
+    on 1 (λ t. WritesNumber 64 t value.lo) w.2,
+    on 2 (λ t. WritesNumber 64 t value.hi) w.3,
+  )
+  retell_operands (GetRegister a) w = (as_many ∙ w.0, on 0 (λ t. WritesNumber 8 t a) w.1)
+  retell_operands (Make op dst a) w = (
+    as_many ∙ w.0,
+    on 0 (λ t. NamesMake t op) w.1,
+    on 1 (λ t. WritesNumber 8 t dst) w.2,
+    on 2 (λ t. WritesNumber 8 t a) w.3,
+  )
+  retell_operands (Unary op dst a) w = (
+    as_many ∙ w.0,
+    on 0 (λ t. NamesUnary t op) w.1,
+    on 1 (λ t. WritesNumber 8 t dst) w.2,
+    on 2 (λ t. WritesNumber 8 t a) w.3,
+  )
+  retell_operands (Binary op dst a b) w = (
+    as_many ∙ w.0,
+    on 0 (λ t. NamesBinary t op) w.1,
+    on 1 (λ t. WritesNumber 8 t dst) w.2,
+    on 2 (λ t. WritesNumber 8 t a) w.3,
+    on 3 (λ t. WritesNumber 8 t b) w.4,
+  )
+  retell_operands (Ternary op dst a b c) w = (
+    as_many ∙ w.0,
+    on 0 (λ t. NamesTernary t op) w.1,
+    on 1 (λ t. WritesNumber 8 t dst) w.2,
+    on 2 (λ t. WritesNumber 8 t a) w.3,
+    on 3 (λ t. WritesNumber 8 t b) w.4,
+    on 4 (λ t. WritesNumber 8 t c) w.5,
+  )
+  retell_operands (Shift op dst a amount) w = (
+    as_many ∙ w.0,
+    on 0 (λ t. NamesShift t op) w.1,
+    on 1 (λ t. WritesNumber 8 t dst) w.2,
+    on 2 (λ t. WritesNumber 8 t a) w.3,
+    on 3 (λ t. WritesNumber 32 t amount) w.4,
+  )
+  retell_operands (Test op a) w = (as_many ∙ w.0, on 0 (λ t. NamesTest t op) w.1, on 1 (λ t. WritesNumber 8 t a) w.2)
+  retell_operands (Extract op a) w = (
+    as_many ∙ w.0,
+    on 2 (λ t. NamesExtract (word_at words' 0) t op) (on 0 (λ t. NamesExtract t (word_at words 2) op) w.1),
+    on 1 (λ t. WritesNumber 8 t a) w.2,
+  )
+  retell_operands (Replace op dst a item) w = (
+    as_many ∙ w.0,
+    on 3 (λ t. NamesReplace (word_at words' 0) t op) (on 0 (λ t. NamesReplace t (word_at words 3) op) w.1),
+    on 1 (λ t. WritesNumber 8 t dst) w.2,
+    on 2 (λ t. WritesNumber 8 t a) w.3,
+    on 4 (λ t. WritesNumber 8 t item) w.4,
+  )
+  retell_operands (Shuffle dst a b lanes) w = (
+    subst (λ n. 3 ≤ n) (sym as_many) w.0,
+    on 0 (λ t. WritesNumber 8 t dst) w.1,
+    on 1 (λ t. WritesNumber 8 t a) w.2,
+    on 2 (λ t. WritesNumber 8 t b) w.3,
+    retell_lanes (drop 3 words) (drop 3 words') lanes (later 3) w.4,
+  )
+  retell_operands (VectorLoad op dst memory ptr offset) w = (
+    as_many ∙ w.0,
+    on 0 (λ t. NamesLoad t op) w.1,
+    on 1 (λ t. WritesNumber 8 t dst) w.2,
+    on 2 (λ t. WritesNumber 64 t memory) w.3,
+    on 3 (λ t. WritesNumber 64 t ptr) w.4,
+    on 4 (λ t. WritesNumber 64 t offset) w.5,
+  )
+  retell_operands (LoadLane op dst a memory ptr offset) w = (
+    as_many ∙ w.0,
+    on 3 (λ t. NamesLoadLane (word_at words' 0) t op) (on 0 (λ t. NamesLoadLane t (word_at words 3) op) w.1),
+    on 1 (λ t. WritesNumber 8 t dst) w.2,
+    on 2 (λ t. WritesNumber 8 t a) w.3,
+    on 4 (λ t. WritesNumber 64 t memory) w.4,
+    on 5 (λ t. WritesNumber 64 t ptr) w.5,
+    on 6 (λ t. WritesNumber 64 t offset) w.6,
+  )
+  retell_operands (VectorStore a memory ptr offset) w = (
+    as_many ∙ w.0,
+    on 0 (λ t. WritesNumber 8 t a) w.1,
+    on 1 (λ t. WritesNumber 64 t memory) w.2,
+    on 2 (λ t. WritesNumber 64 t ptr) w.3,
+    on 3 (λ t. WritesNumber 64 t offset) w.4,
+  )
+  retell_operands (StoreLane op a memory ptr offset) w = (
+    as_many ∙ w.0,
+    on 2 (λ t. NamesStoreLane (word_at words' 0) t op) (on 0 (λ t. NamesStoreLane t (word_at words 2) op) w.1),
+    on 1 (λ t. WritesNumber 8 t a) w.2,
+    on 3 (λ t. WritesNumber 64 t memory) w.3,
+    on 4 (λ t. WritesNumber 64 t ptr) w.4,
+    on 5 (λ t. WritesNumber 64 t offset) w.5,
+  )
+
+  -- operands with the same texts write the same limiter line
+  retell_limiter : (line : LimiterLine) → WritesLimiter words line → WritesLimiter words' line
+  retell_limiter (Quota line) w =
+      (as_many ∙ w.0, on 0 (λ t. WritesNumber 64 t line.bytes) w.1, on 1 (λ t. WritesNumber 64 t line.elements) w.2)
+  retell_limiter (Answers answers) w = sym same ∙ w
+  retell_limiter (Tenants line) w = (
+    as_many ∙ w.0,
+    on 0 (λ t. WritesNumber 64 t line.count) w.1,
+    w.2,
+    w.3,
+    on 1 (λ t. WritesNumber 64 t line.bytes) w.4,
+    on 2 (λ t. WritesNumber 64 t line.elements) w.5,
+  )
+
+  -- words with the same texts name the same meter line
+  retell_meter : (line : Option MeterLine) → IsSomeAnd line (NamesMeter words) → IsSomeAnd line (NamesMeter words')
+  retell_meter None w = absurd w
+  retell_meter (Some Off) w = (as_many ∙ w.0, sym (at 0) ∙ w.1, sym (at 1) ∙ w.2)
+  retell_meter (Some (On bytes)) w =
+      (as_many ∙ w.0, sym (at 0) ∙ w.1, sym (at 1) ∙ w.2, on 2 (λ t. WritesNumber 32 t bytes) w.3)
+
+  -- words with the same texts name the same region line
+  retell_region : (line : Option RegionLine) → IsSomeAnd line (NamesRegion words) → IsSomeAnd line (NamesRegion words')
+  retell_region None w = absurd w
+  retell_region (Some line) w = (
+    as_many ∙ w.0,
+    sym (at 0)
+        ∙ w.1,
+    on 1 (λ t. WritesNumber 64 t line.len) w.2,
+    on 2 (λ t. WritesNumber 8 t line.byte) w.3,
+  )
+
+  -- words with the same texts name the same tenant
+  retell_tenant : (tenants tenant : ℕ) → NamesTenant words tenants tenant → NamesTenant words' tenants tenant
+  retell_tenant tenants tenant w = (as_many ∙ w.0, sym (at 0) ∙ w.1, on 1 (λ t. WritesNumber 64 t tenant) w.2, w.3)
+
+-- a line adds the same, whatever words have its texts
+module _ (words words' : Words) (same : texts words ≡ texts words') where
+  -- words with the same texts name the same call
+  retell_names : (call : Call) → Names words call → Names words' call
+  retell_names call names = (
+    names.0 ∙ at words words' same 0,
+    retell_operands (drop 1 words) (drop 1 words') (later words words' same 1) call names.1,
+  )
+
+  -- words with the same texts name the same limiter line
+  retell_limiter_line : (line : Option LimiterLine) → IsSomeAnd line (NamesLimiter words)
+      → IsSomeAnd line (NamesLimiter words')
+  retell_limiter_line None names = absurd names
+  retell_limiter_line (Some line) names = (
+    names.0 ∙ at words words' same 0,
+    retell_limiter (drop 1 words) (drop 1 words') (later words words' same 1) line names.1,
+  )
+
+  -- where the one are no words, the other are none
+  none_left : words ≡ [] → words' ≡ []
+  none_left empty = empty_of words' (sym same ∙ ap texts empty) where
+    empty_of : (ws : Words) → texts ws ≡ [] → ws ≡ []
+    empty_of [] is = refl
+    empty_of (w ∷ ws) is = absurd cc
+
+  -- a line of words adds what each line of words with the same texts adds
+  pub retell : (old new : Script) → AddsLine old words new → AddsLine old words' new
+  retell old new (inl a) = inl (none_left a.0, a.1)
+  retell old new (inr (inl a)) = inr (inl (record {
+    before_commands = a.before_commands;
+    first = a.first;
+    meter = retell_meter words words' same new.header.meter a.meter;
+    limiter = a.limiter;
+    region = a.region;
+    commands = a.commands;
+  }))
+  retell old new (inr (inr (inl a))) = inr (inr (inl (record {
+    before_commands = a.before_commands;
+    first = a.first;
+    limiter = retell_limiter_line new.header.limiter a.limiter;
+    apart = a.apart;
+    meter = a.meter;
+    region = a.region;
+    commands = a.commands;
+  })))
+  retell old new (inr (inr (inr (inl a)))) = inr (inr (inr (inl (record {
+    before_commands = a.before_commands;
+    first = a.first;
+    region = retell_region words words' same new.header.region a.region;
+    apart = a.apart;
+    meter = a.meter;
+    limiter = a.limiter;
+    commands = a.commands;
+  }))))
+  retell old new (inr (inr (inr (inr (inl a))))) = inr (inr (inr (inr (inl (record {
+    call = a.call;
+    named = retell_names a.call a.named;
+    calls = a.calls;
+    earlier = a.earlier;
+    tenant = a.tenant;
+    header = a.header;
+  })))))
+  retell old new (inr (inr (inr (inr (inr a))))) = inr (inr (inr (inr (inr (record {
+    tenant = retell_tenant words words' same (tenants_of old.header.limiter) new.tenant a.tenant;
+    earlier = a.earlier;
+    calls = a.calls;
+    header = a.header;
+  })))))

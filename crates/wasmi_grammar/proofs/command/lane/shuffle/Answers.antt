@@ -1,0 +1,15 @@
+use Rattle.std.proofs.Common.{arith}
+use Rattle.std.proofs.lemmas.Grind.{common_steps}
+use Rattle.wasmi_grammar.proofs.command.lane.shuffle.Goals as goal
+
+pub returns-in_err-number : goal.returns-in_err-number
+returns-in_err-number c = grind (arith, common_steps)
+
+pub returns-in_err-number-2 : goal.returns-in_err-number-2
+returns-in_err-number-2 c = grind (arith, common_steps)
+
+pub returns-in_err-number-3 : goal.returns-in_err-number-3
+returns-in_err-number-3 c = grind (arith, common_steps)
+
+pub returns-in_err-lanes_of : goal.returns-in_err-lanes_of
+returns-in_err-lanes_of c = grind (arith, common_steps)

@@ -1,0 +1,18 @@
+use Rattle.std.proofs.Common.{arith}
+use Rattle.std.proofs.lemmas.Grind.{common_steps}
+use Rattle.wasmi_grammar.proofs.command.vector_access.load_lane.Goals as goal
+
+pub returns-in_err-number : goal.returns-in_err-number
+returns-in_err-number c = grind (arith, common_steps)
+
+pub returns-in_err-number-2 : goal.returns-in_err-number-2
+returns-in_err-number-2 c = grind (arith, common_steps)
+
+pub returns-in_err-number-3 : goal.returns-in_err-number-3
+returns-in_err-number-3 c = grind (arith, common_steps)
+
+pub returns-in_err-number-4 : goal.returns-in_err-number-4
+returns-in_err-number-4 c = grind (arith, common_steps)
+
+pub returns-in_err-number-5 : goal.returns-in_err-number-5
+returns-in_err-number-5 c = grind (arith, common_steps)

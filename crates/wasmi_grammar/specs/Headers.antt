@@ -1,0 +1,87 @@
+-- What the words of a header line mean, and what the header lines ask for.
+use Rattle.std.specs.Prelude.{◌≡◌, ◌≤◌, ◌<◌, ℕ, Option, List, Some, None, length, codes, drop, replicate}
+use Rattle.std.specs.Option.{option_map, option_map_or}
+use Rattle.wasmi_meter.specs.Costs.{default_costs}
+use Rattle.wasmi_meter.specs.Meter.{Meter}
+use Rattle.wasmi_core.specs.State.{State, new_state}
+use Rattle.wasmi_grammar.specs.declared.header.Header.{Header}
+use Rattle.wasmi_grammar.specs.declared.header.MeterLine.{MeterLine}
+use Rattle.wasmi_grammar.specs.declared.header.MeterLine.TheVariants.{Off, On}
+use Rattle.wasmi_grammar.specs.declared.header.LimiterLine.{LimiterLine}
+use Rattle.wasmi_grammar.specs.declared.header.LimiterLine.TheVariants.{Quota, Answers, Tenants}
+use Rattle.wasmi_grammar.specs.declared.header.RegionLine.{RegionLine}
+use Rattle.wasmi_grammar.specs.Words.{Words, word_at}
+use Rattle.wasmi_grammar.specs.Numbers.{WritesNumber}
+use Rattle.wasmi_grammar.specs.Answers.{WritesAnswers}
+
+-- the words of a line name this meter line
+abbrev pub NamesMeter : Words → MeterLine → Type 0
+NamesMeter words Off = (length words ≡ 2) × (word_at words 0 ≡ codes "meter") × (word_at words 1 ≡ codes "off")
+NamesMeter words (On bytes_per_fuel) =
+    (length words ≡ 3) × (word_at words 0 ≡ codes "meter") × (word_at words 1 ≡ codes "on")
+    × WritesNumber 32 (word_at words 2) bytes_per_fuel
+
+-- the word that a limiter line begins with
+abbrev pub limiter_word : LimiterLine → List ℕ
+limiter_word (Quota line) = codes "quota"
+limiter_word (Answers answers) = codes "answers"
+limiter_word (Tenants line) = codes "tenants"
+
+-- the words after the first write what the line says
+abbrev pub WritesLimiter : Words → LimiterLine → Type 0
+WritesLimiter words (Quota line) =
+    (length words ≡ 2) × WritesNumber 64 (word_at words 0) line.bytes × WritesNumber 64 (word_at words 1) line.elements
+WritesLimiter words (Answers answers) = WritesAnswers words answers.items
+WritesLimiter words (Tenants line) =
+    (length words ≡ 3) × WritesNumber 64 (word_at words 0) line.count × (1 ≤ line.count) × (line.count ≤ 1024)
+    × WritesNumber 64 (word_at words 1) line.bytes × WritesNumber 64 (word_at words 2) line.elements
+
+-- the word that a limiter line begins with, and the words after it, name this line
+abbrev pub NamesLimiterAfter : List ℕ → Words → LimiterLine → Type 0
+NamesLimiterAfter name operands line = (limiter_word line ≡ name) × WritesLimiter operands line
+
+-- the words of a line name this limiter line
+abbrev pub NamesLimiter : Words → LimiterLine → Type 0
+NamesLimiter words line = NamesLimiterAfter (word_at words 0) (drop 1 words) line
+
+-- the words of a line name this region
+abbrev pub NamesRegion : Words → RegionLine → Type 0
+NamesRegion words line = (length words ≡ 3) × (word_at words 0 ≡ codes "region")
+    × WritesNumber 64 (word_at words 1) line.len × WritesNumber 8 (word_at words 2) line.byte
+
+-- how many tenants a limiter line asks for
+abbrev pub tenants_of : Option LimiterLine → ℕ
+tenants_of (Some (Tenants line)) = line.count
+tenants_of limiter = 0
+
+-- the words of a line name one of so many tenants
+abbrev pub NamesTenant : Words → ℕ → ℕ → Type 0
+NamesTenant words tenants tenant =
+    (length words ≡ 2) × (word_at words 0 ≡ codes "as") × WritesNumber 64 (word_at words 1) tenant × (tenant < tenants)
+
+-- a pool has no region
+abbrev pub AreApart : Option LimiterLine → Option RegionLine → Type 0
+AreApart (Some (Tenants line)) (Some region) = ⊥
+AreApart limiter region = Unit {0}
+
+-- a meter that is off
+abbrev pub meter_off : Meter
+meter_off = record { left = None; costs = default_costs }
+
+-- the meter that a line asks for, with no fuel left yet
+abbrev pub meter_said : MeterLine → Meter
+meter_said Off = meter_off
+meter_said (On bytes_per_fuel) =
+    record { left = Some 0; costs = record default_costs { bytes_copied_per_fuel = bytes_per_fuel } }
+
+-- the meter that a script starts with: off without a line that says more
+abbrev pub meter_of : Header → Meter
+meter_of header = option_map_or meter_said header.meter meter_off
+
+-- the bytes of a region that a line asks for
+abbrev pub region_bytes : RegionLine → List ℕ
+region_bytes line = replicate line.len line.byte
+
+-- the machine that a script starts with: new, with its meter and its region
+abbrev pub start_of : Header → State
+start_of header = record (new_state (meter_of header)) { spare = option_map region_bytes header.region }

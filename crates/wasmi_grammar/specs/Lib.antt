@@ -1,0 +1,16 @@
+pub mod Words
+pub mod Numbers
+pub mod Acceptance
+pub mod AccessNames
+pub mod VectorNames
+pub mod LaneNames
+pub mod TypeWords
+pub mod MemoryWords
+pub mod TableWords
+pub mod Commands
+pub mod Answers
+pub mod Headers
+pub mod Openings
+pub mod Lines
+pub mod Refusals
+pub mod Sayings

@@ -1,0 +1,22 @@
+//! Commands that drop a memory or a table.
+ghost use Rattle.std.specs.Prelude.{codes};
+ghost use Rattle.wasmi_grammar.specs.Acceptance.{Accepts};
+ghost use Rattle.wasmi_grammar.specs.Commands.{NamesAfter};
+
+use crate::line::LineError;
+use crate::number::number;
+use wasmi_core::Call;
+
+/// `drop memory K` and `drop table K`.
+pub fn drop_live(operands: &[&str]) -> Result<Call, LineError>
+    ensures { Accepts result (NamesAfter (codes "drop") operands.now) }
+{
+    let [kind, index] = operands else {
+        return Err(LineError::BadCommand);
+    };
+    match *kind {
+        "memory" => Ok(Call::DropMemory(number(index)?)),
+        "table" => Ok(Call::DropTable(number(index)?)),
+        _ => Err(LineError::BadCommand),
+    }
+}

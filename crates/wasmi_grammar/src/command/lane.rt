@@ -1,0 +1,64 @@
+//! Commands of vector instructions that take indices of lanes.
+ghost use Rattle.std.specs.Prelude.{codes};
+ghost use Rattle.wasmi_grammar.specs.Acceptance.{Accepts};
+ghost use Rattle.wasmi_grammar.specs.Commands.{NamesAfter};
+ghost use Rattle.wasmi_grammar.specs.LaneNames.{WritesLanes};
+
+use crate::line::LineError;
+use crate::names::lane::{extract_op, index, replace_op};
+use crate::number::number;
+use wasmi_core::Call;
+use wasmi_core::simd::ImmLaneIdx32;
+
+/// `extract NAME A LANE`.
+pub fn extract(operands: &[&str]) -> Result<Call, LineError>
+    ensures { Accepts result (NamesAfter (codes "extract") operands.now) }
+{
+    let [name, a, lane] = operands else {
+        return Err(LineError::BadCommand);
+    };
+    Ok(Call::Extract {
+        op: extract_op(name, lane)?,
+        a: number(a)?,
+    })
+}
+
+/// `replace NAME D A LANE B`.
+pub fn replace(operands: &[&str]) -> Result<Call, LineError>
+    ensures { Accepts result (NamesAfter (codes "replace") operands.now) }
+{
+    let [name, dst, a, lane, item] = operands else {
+        return Err(LineError::BadCommand);
+    };
+    Ok(Call::Replace {
+        op: replace_op(name, lane)?,
+        dst: number(dst)?,
+        a: number(a)?,
+        item: number(item)?,
+    })
+}
+
+/// `shuffle D A B LANE ...`, with sixteen lanes.
+pub fn shuffle(operands: &[&str]) -> Result<Call, LineError>
+    ensures { Accepts result (NamesAfter (codes "shuffle") operands.now) }
+{
+    let [dst, a, b, lanes @ ..] = operands else {
+        return Err(LineError::BadCommand);
+    };
+    Ok(Call::Shuffle {
+        dst: number(dst)?,
+        a: number(a)?,
+        b: number(b)?,
+        lanes: lanes_of(lanes)?,
+    })
+}
+
+/// The indices of lanes that sixteen words write, one each.
+fn lanes_of(words: &[&str]) -> Result<[ImmLaneIdx32; 16], LineError>
+    ensures { Accepts result (WritesLanes words.now) }
+{
+    let Some(words) = words.as_array::<16>() else {
+        return Err(LineError::BadCommand);
+    };
+    words.try_map(|word| index(word))
+}

@@ -1,0 +1,111 @@
+//! Commands of memories.
+ghost use Rattle.std.specs.Prelude.{◌≡◌, codes, IfErr, IfOk};
+ghost use Rattle.wasmi_grammar.specs.Acceptance.{Accepts, AcceptsWithMemory};
+ghost use Rattle.wasmi_grammar.specs.Commands.{NamesAfter};
+ghost use Rattle.wasmi_grammar.specs.MemoryWords.{HasSettings, NamesType};
+ghost use Rattle.wasmi_grammar.specs.Numbers.{AreNumbers, WritesNumbers};
+
+use crate::line::LineError;
+use crate::number::{number, number_or_none};
+use crate::operand;
+use crate::types::index_ty;
+use std::alloc::Global;
+use wasmi_core::{Call, IndexType, MemoryType};
+
+/// `memory MIN MAX LOG2 WIDTH`.
+pub fn new_memory(operands: &[&str]) -> Result<Call, LineError>
+    ensures { Accepts result (NamesAfter (codes "memory") operands.now) }
+{
+    let [min, max, log2, width] = operands else {
+        return Err(LineError::BadCommand);
+    };
+    Ok(Call::NewMemory(memory_type(min, max, log2, width)?))
+}
+
+/// `lent MIN MAX LOG2 WIDTH`.
+pub fn new_lent_memory(operands: &[&str]) -> Result<Call, LineError>
+    ensures { Accepts result (NamesAfter (codes "lent") operands.now) }
+{
+    let [min, max, log2, width] = operands else {
+        return Err(LineError::BadCommand);
+    };
+    Ok(Call::NewLentMemory(memory_type(min, max, log2, width)?))
+}
+
+/// `grow K PAGES`.
+pub fn grow(operands: &[&str]) -> Result<Call, LineError>
+    ensures { Accepts result (NamesAfter (codes "grow") operands.now) }
+{
+    let (memory, pages) = operand::two(operands)?;
+    Ok(Call::GrowMemory { memory, pages })
+}
+
+/// `read K OFFSET LEN`.
+pub fn read(operands: &[&str]) -> Result<Call, LineError>
+    ensures { Accepts result (NamesAfter (codes "read") operands.now) }
+{
+    let (memory, offset, len) = operand::three(operands)?;
+    Ok(Call::Read {
+        memory,
+        offset,
+        len,
+    })
+}
+
+/// `write K OFFSET BYTE ...`, which may have no byte.
+pub fn write(alloc: Global, operands: &[&str]) -> Result<Call, LineError>
+    ensures { AcceptsWithMemory result (NamesAfter (codes "write") operands.now) }
+{
+    let [memory, offset, bytes @ ..] = operands else {
+        return Err(LineError::BadCommand);
+    };
+    Ok(Call::Write {
+        memory: number(memory)?,
+        offset: number(offset)?,
+        bytes: bytes_of(alloc, bytes)?,
+    })
+}
+
+/// The bytes that the words write, one each.
+fn bytes_of(alloc: Global, words: &[&str]) -> Result<Vec<u8>, LineError>
+    ensures bytes { IfOk result (λ bytes. WritesNumbers 8 words.now bytes.items) }
+    ensures refused { IfErr result (λ error. error ≡ LineError.BadCommand → ¬ (AreNumbers 8 words.now)) }
+{
+    let mut bytes = Vec::new(alloc);
+    for word in words {
+        bytes.push(number(word)?)?;
+    }
+    Ok(bytes)
+}
+
+/// The memory type of these words, if there is such a type.
+fn memory_type(min: &str, max: &str, log2: &str, width: &str) -> Result<MemoryType, LineError>
+    ensures { Accepts result (NamesType min.now max.now log2.now width.now) }
+{
+    let minimum = number(min)?;
+    let maximum = number_or_none(max)?;
+    let page_size_log2 = number(log2)?;
+    let index = index_ty(width)?;
+    type_of(index, minimum, maximum, page_size_log2)
+}
+
+/// The memory type of these settings, if there is such a type.
+fn type_of(
+    index: IndexType,
+    minimum: u64,
+    maximum: Option<u64>,
+    page_size_log2: u8,
+) -> Result<MemoryType, LineError>
+    ensures { Accepts result (HasSettings index minimum maximum page_size_log2) }
+{
+    let mut builder = MemoryType::builder();
+    builder
+        .min(minimum)
+        .max(maximum)
+        .page_size_log2(page_size_log2)
+        .memory64(matches!(index, IndexType::I64));
+    match builder.build() {
+        Ok(ty) => Ok(ty),
+        Err(_) => Err(LineError::BadCommand),
+    }
+}

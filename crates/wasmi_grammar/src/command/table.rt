@@ -1,0 +1,147 @@
+//! Commands of tables.
+ghost use Rattle.std.specs.Prelude.{◌≡◌, ◌<◌, ◌^◌, codes, IfErr};
+ghost use Rattle.std.specs.Result.{OkIff};
+ghost use Rattle.wasmi_grammar.specs.Acceptance.{Accepts};
+ghost use Rattle.wasmi_grammar.specs.Commands.{NamesAfter};
+ghost use Rattle.wasmi_grammar.specs.TableWords.{HasLimits, NamesTableType};
+
+use crate::line::LineError;
+use crate::number::{number, number_or_none};
+use crate::operand;
+use crate::types::{index_ty, ref_type, reference};
+use wasmi_core::{Call, IndexType, RefType, TableType, TypedRawRef};
+
+/// `table T MIN X WIDTH T N`.
+pub fn new_table(operands: &[&str]) -> Result<Call, LineError>
+    ensures { Accepts result (NamesAfter (codes "table") operands.now) }
+{
+    let [element, min, max, width, ty, raw] = operands else {
+        return Err(LineError::BadCommand);
+    };
+    Ok(Call::NewTable {
+        ty: table_type(element, min, max, width)?,
+        init: reference(ty, raw)?,
+    })
+}
+
+/// `tgrow K DELTA T N`.
+pub fn grow(operands: &[&str]) -> Result<Call, LineError>
+    ensures { Accepts result (NamesAfter (codes "tgrow") operands.now) }
+{
+    let (table, delta, ty, raw) = operand::four(operands)?;
+    Ok(Call::GrowTable {
+        table,
+        delta,
+        init: TypedRawRef::new(raw, ty),
+    })
+}
+
+/// `get K I`.
+pub fn get(operands: &[&str]) -> Result<Call, LineError>
+    ensures { Accepts result (NamesAfter (codes "get") operands.now) }
+{
+    let (table, index) = operand::two(operands)?;
+    Ok(Call::GetElement { table, index })
+}
+
+/// `tset K I T N`.
+pub fn set(operands: &[&str]) -> Result<Call, LineError>
+    ensures { Accepts result (NamesAfter (codes "tset") operands.now) }
+{
+    let (table, index, ty, raw) = operand::four(operands)?;
+    Ok(Call::SetElement {
+        table,
+        index,
+        value: TypedRawRef::new(raw, ty),
+    })
+}
+
+/// `init K SEGMENT DST SRC LEN`.
+pub fn init(operands: &[&str]) -> Result<Call, LineError>
+    ensures { Accepts result (NamesAfter (codes "init") operands.now) }
+{
+    let (table, segment, dst, src, len) = operand::five(operands)?;
+    Ok(Call::InitTable {
+        table,
+        segment,
+        dst,
+        src,
+        len,
+    })
+}
+
+/// `copy K DST K SRC LEN`.
+pub fn copy(operands: &[&str]) -> Result<Call, LineError>
+    ensures { Accepts result (NamesAfter (codes "copy") operands.now) }
+{
+    let (dst_table, dst, src_table, src, len) = operand::five(operands)?;
+    Ok(Call::CopyTable {
+        dst_table,
+        dst,
+        src_table,
+        src,
+        len,
+    })
+}
+
+/// `fill K DST T N LEN`.
+pub fn fill(operands: &[&str]) -> Result<Call, LineError>
+    ensures { Accepts result (NamesAfter (codes "fill") operands.now) }
+{
+    let (table, dst, ty, raw, len) = operand::five(operands)?;
+    Ok(Call::FillTable {
+        table,
+        dst,
+        value: TypedRawRef::new(raw, ty),
+        len,
+    })
+}
+
+/// The table type of these words, if there is such a type.
+fn table_type(element: &str, min: &str, max: &str, width: &str) -> Result<TableType, LineError>
+    ensures { Accepts result (NamesTableType element.now min.now max.now width.now) }
+{
+    let element = ref_type(element)?;
+    let minimum = number(min)?;
+    let maximum = number_or_none(max)?;
+    let index = index_ty(width)?;
+    type_of(index, element, minimum, maximum)
+}
+
+/// The table type of these limits, if there is such a type.
+fn type_of(
+    index: IndexType,
+    element: RefType,
+    minimum: u64,
+    maximum: Option<u64>,
+) -> Result<TableType, LineError>
+    ensures { Accepts result (HasLimits index element minimum maximum) }
+{
+    if let Some(most) = maximum {
+        if most < minimum {
+            return Err(LineError::BadCommand);
+        }
+    }
+    match index {
+        IndexType::I32 => {
+            let minimum = index32(minimum)?;
+            let maximum = match maximum {
+                Some(most) => Some(index32(most)?),
+                None => None,
+            };
+            Ok(TableType::new(element, minimum, maximum))
+        }
+        IndexType::I64 => Ok(TableType::new64(element, minimum, maximum)),
+    }
+}
+
+/// The limit of a table whose indices have 32 bits.
+fn index32(limit: u64) -> Result<u32, LineError>
+    ensures value { OkIff result (limit < 2 ^ 32) limit }
+    ensures refused { IfErr result (λ error. error ≡ LineError.BadCommand) }
+{
+    match u32::try_from(limit) {
+        Ok(limit) => Ok(limit),
+        Err(_) => Err(LineError::BadCommand),
+    }
+}

@@ -1,0 +1,240 @@
+//! The header lines of a script.
+ghost use Rattle.std.specs.Prelude.{◌≡◌, codes, None, Some, IsSomeAnd, IfErr, OnOk, OnErr};
+ghost use Rattle.wasmi_grammar.specs.Acceptance.{Accepts, AcceptsWithMemory};
+ghost use Rattle.wasmi_grammar.specs.Headers.{NamesMeter, NamesLimiter, NamesLimiterAfter, NamesRegion, AreApart, meter_of, tenants_of};
+
+mod answers;
+
+use crate::line::LineError;
+use crate::number::number;
+pub use answers::AnswerWord;
+use answers::answers_of;
+use std::alloc::Global;
+use wasmi_core::{CustomFuelCosts, Fuel, FuelCostsProvider};
+
+/// The most tenants that a script may have.
+const MOST_TENANTS: usize = 1024;
+
+/// What a `meter` line says.
+#[derive(Clone, Copy)]
+pub enum MeterLine {
+    /// `meter off`: no fuel is counted.
+    Off,
+    /// `meter on R`: R bytes are copied for one fuel.
+    On(u32),
+}
+
+/// What a limiter line says. A script has at most one, of whatever kind.
+#[derive(Drop)]
+pub enum LimiterLine {
+    /// `quota B E`.
+    Quota(QuotaLine),
+    /// `answers W ...`, which may have no word: one for each question, in order.
+    Answers(Vec<AnswerWord>),
+    /// `tenants N B E`.
+    Tenants(TenantsLine),
+}
+
+/// What a `quota` line says: the most bytes and the most elements that the limiter permits, of all
+/// memories and of all tables together.
+#[derive(Clone, Copy)]
+pub struct QuotaLine {
+    /// The most bytes of memories.
+    pub bytes: u64,
+    /// The most elements of tables.
+    pub elements: u64,
+}
+
+/// What a `tenants` line says: a pool of so many machines, and the most bytes and the most elements
+/// that all of them have together.
+#[derive(Clone, Copy)]
+pub struct TenantsLine {
+    /// How many machines there are, from 1 to 1,024.
+    pub count: usize,
+    /// The most bytes of memories.
+    pub bytes: u64,
+    /// The most elements of tables.
+    pub elements: u64,
+}
+
+/// What a `region` line says: a lent region of so many bytes, all the same.
+#[derive(Clone, Copy)]
+pub struct RegionLine {
+    /// How many bytes it has.
+    pub len: usize,
+    /// Each of its bytes.
+    pub byte: u8,
+}
+
+/// The header lines that a script has.
+#[derive(Drop, Default)]
+pub struct Header {
+    /// The `meter` line, if there is one. Without it the meter is off.
+    pub meter: Option<MeterLine>,
+    /// The limiter line, if there is one. Without it no limiter is given.
+    pub limiter: Option<LimiterLine>,
+    /// The `region` line, if there is one. Without it no region is lent.
+    pub region: Option<RegionLine>,
+}
+
+impl Header {
+    /// Takes in a `meter` line, of which a script has at most one.
+    pub(crate) fn take_meter(&mut self, words: &[&str]) -> Result<(), LineError>
+        ensures first { OnOk result (self.old.meter ≡ None) }
+        ensures meter { OnOk result (IsSomeAnd self.new.meter (NamesMeter words.now)) }
+        ensures others { (self.new.limiter ≡ self.old.limiter) × (self.new.region ≡ self.old.region) }
+        ensures err { OnErr result (self.new ≡ self.old) }
+        ensures bad { IfErr result (λ error. error ≡ LineError.BadCommand) }
+        ensures refused { OnErr result
+            (self.old.meter ≡ None → (line : MeterLine) → ¬ (NamesMeter words.now line)) }
+    {
+        if self.meter.is_some() {
+            return Err(LineError::BadCommand);
+        }
+        self.meter = Some(meter_line(words)?);
+        Ok(())
+    }
+
+    /// Takes in a limiter line, of which a script has at most one. A pool has no region.
+    pub(crate) fn take_limiter(&mut self, alloc: Global, words: &[&str]) -> Result<(), LineError>
+        ensures first { OnOk result (self.old.limiter ≡ None) }
+        ensures apart { OnOk result (AreApart self.new.limiter self.old.region) }
+        ensures limiter { OnOk result (IsSomeAnd self.new.limiter (NamesLimiter words.now)) }
+        ensures others { (self.new.meter ≡ self.old.meter) × (self.new.region ≡ self.old.region) }
+        ensures err { OnErr result (self.new ≡ self.old) }
+        ensures refused { IfErr result (λ error. error ≡ LineError.BadCommand → self.old.limiter ≡ None
+            → (line : LimiterLine)
+            → ¬ (NamesLimiter words.now line × AreApart (Some line) self.old.region)) }
+    {
+        if self.limiter.is_some() {
+            return Err(LineError::BadCommand);
+        }
+        let line = limiter_line(alloc, words)?;
+        if self.region.is_some() && matches!(line, LimiterLine::Tenants(_)) {
+            return Err(LineError::BadCommand);
+        }
+        self.limiter = Some(line);
+        Ok(())
+    }
+
+    /// Takes in a `region` line, of which a script has at most one, and none where it has a pool.
+    pub(crate) fn take_region(&mut self, words: &[&str]) -> Result<(), LineError>
+        ensures first { OnOk result (self.old.region ≡ None) }
+        ensures apart { OnOk result (AreApart self.old.limiter self.new.region) }
+        ensures region { OnOk result (IsSomeAnd self.new.region (NamesRegion words.now)) }
+        ensures others { (self.new.meter ≡ self.old.meter) × (self.new.limiter ≡ self.old.limiter) }
+        ensures err { OnErr result (self.new ≡ self.old) }
+        ensures bad { IfErr result (λ error. error ≡ LineError.BadCommand) }
+        ensures refused { OnErr result (self.old.region ≡ None
+            → (line : RegionLine)
+            → ¬ (NamesRegion words.now line × AreApart self.old.limiter (Some line))) }
+    {
+        if self.region.is_some() || matches!(self.limiter, Some(LimiterLine::Tenants(_))) {
+            return Err(LineError::BadCommand);
+        }
+        self.region = Some(region_line(words)?);
+        Ok(())
+    }
+
+    /// How many tenants the script has: none without a `tenants` line.
+    pub fn tenants(&self) -> usize
+        ensures { result ≡ tenants_of self.now.limiter }
+    {
+        match &self.limiter {
+            Some(LimiterLine::Tenants(line)) => line.count,
+            _ => 0,
+        }
+    }
+
+    /// The meter that the script asks for. Without a `meter` line it is off.
+    pub fn fuel(&self) -> Fuel
+        ensures { result ≡ meter_of self.now }
+    {
+        match self.meter {
+            Some(MeterLine::On(bytes_copied_per_fuel)) => {
+                let costs = CustomFuelCosts {
+                    bytes_copied_per_fuel,
+                    fuel_per_bytes_translated: 7,
+                    fuel_per_bytes_validated: 2,
+                };
+                Fuel::new(true, FuelCostsProvider::custom(costs))
+            }
+            Some(MeterLine::Off) | None => Fuel::new(false, FuelCostsProvider::default()),
+        }
+    }
+}
+
+/// What the words of a `meter` line say.
+fn meter_line(words: &[&str]) -> Result<MeterLine, LineError>
+    ensures { Accepts result (NamesMeter words.now) }
+{
+    match words {
+        ["meter", "off"] => Ok(MeterLine::Off),
+        ["meter", "on", bytes_per_fuel] => Ok(MeterLine::On(number(bytes_per_fuel)?)),
+        _ => Err(LineError::BadCommand),
+    }
+}
+
+/// What the words of a `region` line say.
+fn region_line(words: &[&str]) -> Result<RegionLine, LineError>
+    ensures { Accepts result (NamesRegion words.now) }
+{
+    match words {
+        ["region", len, byte] => Ok(RegionLine {
+            len: number(len)?,
+            byte: number(byte)?,
+        }),
+        _ => Err(LineError::BadCommand),
+    }
+}
+
+/// What the words of a limiter line say: the first word which limiter, the others how it answers.
+#[tactic(auto, using(crate::proofs::AcceptanceLemmas::with_memory))]
+fn limiter_line(alloc: Global, words: &[&str]) -> Result<LimiterLine, LineError>
+    ensures { AcceptsWithMemory result (NamesLimiter words.now) }
+{
+    match words {
+        ["quota", operands @ ..] => quota(operands),
+        ["answers", operands @ ..] => listed(alloc, operands),
+        ["tenants", operands @ ..] => tenants(operands),
+        _ => Err(LineError::BadCommand),
+    }
+}
+
+/// `quota B E`.
+fn quota(operands: &[&str]) -> Result<LimiterLine, LineError>
+    ensures { Accepts result (NamesLimiterAfter (codes "quota") operands.now) }
+{
+    let [bytes, elements] = operands else {
+        return Err(LineError::BadCommand);
+    };
+    Ok(LimiterLine::Quota(QuotaLine {
+        bytes: number(bytes)?,
+        elements: number(elements)?,
+    }))
+}
+
+/// `tenants N B E`.
+fn tenants(operands: &[&str]) -> Result<LimiterLine, LineError>
+    ensures { Accepts result (NamesLimiterAfter (codes "tenants") operands.now) }
+{
+    let [count, bytes, elements] = operands else {
+        return Err(LineError::BadCommand);
+    };
+    let count = number(count)?;
+    if !(1..=MOST_TENANTS).contains(&count) {
+        return Err(LineError::BadCommand);
+    }
+    Ok(LimiterLine::Tenants(TenantsLine {
+        count,
+        bytes: number(bytes)?,
+        elements: number(elements)?,
+    }))
+}
+
+/// `answers W ...`, which may have no word.
+fn listed(alloc: Global, operands: &[&str]) -> Result<LimiterLine, LineError>
+    ensures { AcceptsWithMemory result (NamesLimiterAfter (codes "answers") operands.now) }
+{
+    Ok(LimiterLine::Answers(answers_of(alloc, operands)?))
+}

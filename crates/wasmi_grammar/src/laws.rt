@@ -1,0 +1,19 @@
+//! What holds of all texts and of the scripts that they write. These functions do nothing: each
+//! states a law as its contract.
+ghost use Rattle.wasmi_grammar.specs.Sayings.{FirstBadLinesAreOne, TextsWriteOneScript, WrittenTextsHaveNoBadLine};
+
+/// Two scripts that one text writes say the same: the same header lines, the same parts, the same
+/// last tenant and the same calls. A list counts by its items, however it is held.
+pub fn texts_write_one_script()
+    ensures { TextsWriteOneScript }
+{}
+
+/// The first bad line of a text is one number.
+pub fn first_bad_lines_are_one()
+    ensures { FirstBadLinesAreOne }
+{}
+
+/// A text that writes a script has no bad line.
+pub fn written_texts_have_no_bad_line()
+    ensures { WrittenTextsHaveNoBadLine }
+{}

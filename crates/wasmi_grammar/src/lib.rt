@@ -1,0 +1,17 @@
+//! The text of a script: what its lines say, and the script that they write.
+#![tactic(auto)]
+
+mod command;
+mod error;
+mod header;
+pub mod laws;
+mod line;
+mod names;
+mod number;
+mod operand;
+mod script;
+mod types;
+
+pub use error::ParseError;
+pub use header::{AnswerWord, Header, LimiterLine, MeterLine, QuotaLine, RegionLine, TenantsLine};
+pub use script::{Script, TenantRun, parse};

@@ -1,0 +1,204 @@
+//! Programs of the interpreter of `wasmi_uses`.
+use super::{CallRow, ReplyRow, Step, memory_size, metered, runs_to, runs_under, same, unmetered};
+use std::test::Fail;
+use wasmi_core::{NoLimits, Quota, RawVal, Reply, TrapCode};
+use wasmi_uses::interpreter::{Ending, Instruction, Outcome, execute};
+
+/// The factorial of 20. Local 0 counts down, and local 2 is -1.
+static FACTORIAL: [Instruction; 7] = [
+    Instruction::Constant { dst: 0, number: 20 },
+    Instruction::Constant { dst: 1, number: 1 },
+    Instruction::Constant {
+        dst: 2,
+        number: u64::MAX,
+    },
+    Instruction::Multiply {
+        dst: 1,
+        lhs: 1,
+        rhs: 0,
+    },
+    Instruction::Add {
+        dst: 0,
+        lhs: 0,
+        rhs: 2,
+    },
+    Instruction::BranchIf {
+        condition: 0,
+        target: 3,
+    },
+    Instruction::Return(1),
+];
+
+#[test]
+fn a_factorial(rt: HostRuntime) -> Result<(), Fail> {
+    let mut machine = unmetered(rt.alloc());
+    let outcome = execute(&FACTORIAL, &mut machine, &mut NoLimits, 1000);
+    let expected = Outcome {
+        ending: Some(Ending::Returned(RawVal::from(2432902008176640000u64))),
+        place: 6,
+        executed: 63,
+    };
+    same(&rt, "the outcome", outcome, expected);
+    Ok(())
+}
+
+static FUEL: [Step; 1] = [(CallRow::SetFuel(100), ReplyRow::Done)];
+
+static LEFT: [Step; 1] = [(CallRow::GetFuel, ReplyRow::Number(36))];
+
+static SPENT: [Step; 1] = [(CallRow::GetFuel, ReplyRow::Number(0))];
+
+#[test]
+fn each_instruction_is_charged(rt: HostRuntime) -> Result<(), Fail> {
+    let mut machine = metered(rt.alloc());
+    runs_to(&rt, &mut machine, &FUEL)?;
+    let outcome = execute(&FACTORIAL, &mut machine, &mut NoLimits, 1000);
+    same(&rt, "the place", outcome.place, 6);
+    runs_to(&rt, &mut machine, &LEFT)?;
+    let outcome = execute(&FACTORIAL, &mut machine, &mut NoLimits, 1000);
+    let expected = Outcome {
+        ending: Some(Ending::OutOfFuel),
+        place: 3,
+        executed: 36,
+    };
+    same(&rt, "the outcome", outcome, expected);
+    runs_to(&rt, &mut machine, &SPENT)?;
+    Ok(())
+}
+
+/// The sum of 32 words of a memory, byte by byte. The first loop writes to the words the bytes of
+/// their indices, the second adds them up. Local 0 is the address, local 1 counts down, local 2 is
+/// the word, local 3 has the bytes 1, local 4 is 8, local 5 is -1, and local 6 is the sum.
+static CHECKSUM: [Instruction; 17] = [
+    Instruction::Constant {
+        dst: 3,
+        number: 0x0101_0101_0101_0101,
+    },
+    Instruction::Constant { dst: 4, number: 8 },
+    Instruction::Constant {
+        dst: 5,
+        number: u64::MAX,
+    },
+    Instruction::Constant { dst: 1, number: 32 },
+    Instruction::Store {
+        ptr: 0,
+        offset: 0,
+        value: 2,
+    },
+    Instruction::Add {
+        dst: 2,
+        lhs: 2,
+        rhs: 3,
+    },
+    Instruction::Add {
+        dst: 0,
+        lhs: 0,
+        rhs: 4,
+    },
+    Instruction::Add {
+        dst: 1,
+        lhs: 1,
+        rhs: 5,
+    },
+    Instruction::BranchIf {
+        condition: 1,
+        target: 4,
+    },
+    Instruction::Constant { dst: 0, number: 0 },
+    Instruction::Constant { dst: 1, number: 32 },
+    Instruction::Load {
+        dst: 2,
+        ptr: 0,
+        offset: 0,
+    },
+    Instruction::AddBytes {
+        dst: 6,
+        lhs: 6,
+        rhs: 2,
+    },
+    Instruction::Add {
+        dst: 0,
+        lhs: 0,
+        rhs: 4,
+    },
+    Instruction::Add {
+        dst: 1,
+        lhs: 1,
+        rhs: 5,
+    },
+    Instruction::BranchIf {
+        condition: 1,
+        target: 11,
+    },
+    Instruction::Return(6),
+];
+
+static WORDS: [Step; 1] = [(CallRow::NewBytes(256), ReplyRow::Made(0))];
+
+#[test]
+fn a_checksum_over_a_memory(rt: HostRuntime) -> Result<(), Fail> {
+    let mut machine = unmetered(rt.alloc());
+    runs_to(&rt, &mut machine, &WORDS)?;
+    let outcome = execute(&CHECKSUM, &mut machine, &mut NoLimits, 1000);
+    // The sum of the numbers from 0 to 31 is 496, and 240 modulo 256.
+    let expected = Outcome {
+        ending: Some(Ending::Returned(RawVal::from(0xF0F0_F0F0_F0F0_F0F0u64))),
+        place: 16,
+        executed: 326,
+    };
+    same(&rt, "the outcome", outcome, expected);
+    Ok(())
+}
+
+/// The size of a memory after a growth by one page.
+static GROWTH: [Instruction; 4] = [
+    Instruction::Constant { dst: 0, number: 1 },
+    Instruction::Grow { pages: 0 },
+    Instruction::Size { dst: 1 },
+    Instruction::Return(1),
+];
+
+static PAGE: [Step; 1] = [(CallRow::NewPages(1, None), ReplyRow::Made(0))];
+
+#[test]
+fn a_growth_under_a_quota(rt: HostRuntime) -> Result<(), Fail> {
+    for (bytes, pages) in [(65536u64, 1u64), (131071, 1), (131072, 2)] {
+        let mut machine = unmetered(rt.alloc());
+        let mut quota = Quota::new(bytes, 0);
+        runs_under(&rt, &mut machine, &PAGE, &mut quota)?;
+        let outcome = execute(&GROWTH, &mut machine, &mut quota, 1000);
+        let expected = Some(Ending::Returned(RawVal::from(pages)));
+        same(&rt, "the ending", outcome.ending, expected);
+        same(&rt, "the size", memory_size(&machine, 0), Some(pages));
+        same(&rt, "the bytes", quota.held_bytes(), pages * 65536);
+    }
+    Ok(())
+}
+
+#[test]
+fn programs_that_end_otherwise(rt: HostRuntime) -> Result<(), Fail> {
+    let past_the_end = Instruction::Load {
+        dst: 0,
+        ptr: 0,
+        offset: 249,
+    };
+    let trap = Reply::Trap(TrapCode::MemoryOutOfBounds);
+    for (instruction, ending, executed) in [
+        (Instruction::Branch(0), None, 1000),
+        (Instruction::Branch(1), Some(Ending::Undefined), 1),
+        (Instruction::Return(16), Some(Ending::Undefined), 0),
+        (past_the_end, Some(Ending::Refused(trap)), 0),
+        (
+            Instruction::Constant { dst: 16, number: 0 },
+            Some(Ending::Refused(Reply::NoSuch)),
+            0,
+        ),
+    ] {
+        let mut machine = unmetered(rt.alloc());
+        runs_to(&rt, &mut machine, &WORDS)?;
+        let outcome = execute(&[instruction], &mut machine, &mut NoLimits, 1000);
+        same(&rt, "the ending", outcome.ending, ending);
+        same(&rt, "the instructions", outcome.executed, executed);
+    }
+    Ok(())
+}

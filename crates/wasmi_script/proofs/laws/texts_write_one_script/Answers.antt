@@ -1,5 +1,0 @@
-use Rattle.wasmi_script.proofs.OneScriptLemmas.{texts_once}
-use Rattle.wasmi_script.proofs.laws.texts_write_one_script.Goals as goal
-
-pub returns : goal.returns
-returns c = texts_once

@@ -1,5 +1,0 @@
-use Rattle.wasmi_script.proofs.OneScriptLemmas.{no_bad_line}
-use Rattle.wasmi_script.proofs.laws.written_texts_have_no_bad_line.Goals as goal
-
-pub returns : goal.returns
-returns c = no_bad_line
