@@ -88,16 +88,20 @@ def declarations(text):
             at += 1
             continue
         if bare.startswith("module "):
+            after = at + 1
+            while not bare.endswith(" where") and after < len(lines):
+                bare += " " + lines[after].strip()
+                after += 1
             opens = blocks[-1][1] + binders(bare)
             comment = []
-            at += 1
+            at = after
             continue
         head = HEAD.match(line)
         words = head.group(2).split() if head else []
         rest = (head.group(4) or "") if head else ""
         name = head.group(3) if head else ""
         is_type = "record" in words or "data" in words
-        if head and name not in NO_NAMES and (is_type or re.match(r"^(?: [({].*)? : ", rest) or rest.rstrip() == " :"):
+        if head and name not in NO_NAMES and (is_type or re.match(r"^(?: (?:\([^=]*\)|\{[^=]*\}))* : ", rest) or rest.rstrip() == " :"):
             whole, after = rest, at + 1
             while after < len(lines) and indent_of(lines[after]) > column and lines[after].strip():
                 if is_type or re.search(r"(^| )(=|where)( |$)", whole):

@@ -90,9 +90,11 @@ module _ (old new : Script) (words : Words) (some : 1 ≤ length words) (none : 
   abbrev text : List ℕ
   text = (get_or words 0 none).now
 
+  -- the text of the line's first word is its word at 0
   first : text ≡ word_at words 0
   first = sym (first_word words none empty)
 
+  -- none of the five kinds of line is added
   no_line : (text ≡ codes "meter" → ¬ (AddsMeter old words new)) → (IsLimiterWord text → ¬ (AddsLimiter old words new))
       → (text ≡ codes "region" → ¬ (AddsRegion old words new))
       → (¬ (IsReserved text) → ¬ (AddsCall old words new)) → (text ≡ codes "as" → ¬ (AddsPart old words new))
@@ -108,26 +110,31 @@ module _ (old new : Script) (words : Words) (some : 1 ≤ length words) (none : 
       call (subst (λ text. ¬ (IsReserved text)) (a.named.0 ∙ sym first) (no_call a.call)) a
   no_line meter limiter region call part (inr (inr (inr (inr (inr a))))) = part (first ∙ a.tenant.1) a
 
+  -- a meter line that isn't added is no line
   pub no_meter_line : Opens text Meter → ¬ (AddsMeter old words new) → ¬ (AddsLine old words new)
   no_meter_line is refused =
       no_line (λ e. refused) (λ w. absurd ((limiter_apart text w).0 is)) (λ e. absurd (meter_region (sym is ∙ e)))
       (λ free. absurd (free (inl is))) (λ e. absurd (meter_as (sym is ∙ e)))
 
+  -- so for a limiter line
   pub no_limiter_line : Opens text Limiter → ¬ (AddsLimiter old words new) → ¬ (AddsLine old words new)
   no_limiter_line is refused = let apart = limiter_apart text is in
       no_line (λ e. absurd (apart.0 e)) (λ w. refused) (λ e. absurd (apart.1 e)) (λ free. absurd (free (inr (inl is))))
       (λ e. absurd (apart.2 e))
 
+  -- so for a region line
   pub no_region_line : Opens text Region → ¬ (AddsRegion old words new) → ¬ (AddsLine old words new)
   no_region_line is refused =
       no_line (λ e. absurd (meter_region (sym e ∙ is))) (λ w. absurd ((limiter_apart text w).1 is)) (λ e. refused)
       (λ free. absurd (free (inr (inr (inl is))))) (λ e. absurd (region_as (sym is ∙ e)))
 
+  -- so for a call
   pub no_call_line : Opens text Call → ¬ (AddsCall old words new) → ¬ (AddsLine old words new)
   no_call_line free refused =
       no_line (λ e. absurd (free (inl e))) (λ w. absurd (free (inr (inl w)))) (λ e. absurd (free (inr (inr (inl e)))))
       (λ same. refused) (λ e. absurd (free (inr (inr (inr e)))))
 
+  -- so for an `as` line
   pub no_part_line : Opens text As → ¬ (AddsPart old words new) → ¬ (AddsLine old words new)
   no_part_line is refused =
       no_line (λ e. absurd (meter_as (sym e ∙ is))) (λ w. absurd ((limiter_apart text w).2 is))

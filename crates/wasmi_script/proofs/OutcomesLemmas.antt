@@ -115,6 +115,7 @@ module _ (parts : List TenantRun) (last : List Call) (replies before rest : List
   abbrev later_calls : List Call
   later_calls = calls_in (drop (i + 1) parts) ++ last
 
+  -- all calls are those before this part, its own, and those later
   all_calls : calls_in parts ++ last ≡ calls_in (take i parts) ++ (calls ++ later_calls)
   all_calls =
       ap (λ cs. cs ++ last)
@@ -123,10 +124,12 @@ module _ (parts : List TenantRun) (last : List Call) (replies before rest : List
       ∙ append_assoc (calls_in (take i parts)) (calls ++ calls_in (drop (i + 1) parts)) last
       ∙ ap (λ cs. calls_in (take i parts) ++ cs) (append_assoc calls (calls_in (drop (i + 1) parts)) last)
 
+  -- the calls of one part more are those before it and its own
   pub calls_more : calls_in (take (i + 1) parts) ≡ calls_in (take i parts) ++ calls
   calls_more = texts_more (λ p. p.calls.items) parts i part within
       ∙ ap (λ p. calls_in (take i parts) ++ p.calls.items) (sym here)
 
+  -- there is a reply for each call of the part
   pub part_fits : length calls ≤ length rest
   part_fits = omega (
     arith,
@@ -142,9 +145,11 @@ module _ (parts : List TenantRun) (last : List Call) (replies before rest : List
   -- and where the part's replies are cut off
   module _ (answered later : List Reply) (cut : rest ≡ answered ++ later)
       (answers : length answered ≡ length calls) where
+    -- all replies are those so far, those to the part, and those later
     pub replies_more : replies ≡ (before ++ answered) ++ later
     replies_more = split ∙ ap (λ rs. before ++ rs) cut ∙ sym (append_assoc before answered later)
 
+    -- there are as many replies so far as calls of one part more
     pub count_more : length (calls_in (take (i + 1) parts)) ≡ length (before ++ answered)
     count_more = omega (
       arith,
@@ -155,11 +160,13 @@ module _ (parts : List TenantRun) (last : List Call) (replies before rest : List
       length-append before answered,
     )
 
+    -- the text of one part more is that so far and that of the part
     pub text_more : replies_text (calls_in (take (i + 1) parts)) (before ++ answered)
         ≡ replies_text (calls_in (take i parts)) before ++ replies_text calls answered
     text_more = ap (λ cs. replies_text cs (before ++ answered)) calls_more
         ∙ replies_joined (calls_in (take i parts)) calls before answered count
 
+    -- the whole text is that so far, that of the part, and what comes later
     pub text_whole : replies_text (calls_in parts ++ last) replies
         ≡ replies_text (calls_in (take i parts)) before ++
         (replies_text calls answered ++ replies_text later_calls later)
