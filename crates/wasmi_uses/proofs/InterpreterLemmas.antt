@@ -1,5 +1,5 @@
 -- What a program did is a run.
-use Rattle.std.proofs.Common.{◌≡◌, ◌-◌, ◌<◌, ℕ, zero, suc, Some, None, MatchOption, List, [], ◌∷◌, ◌++◌, refl, sym, subst}
+use Rattle.std.proofs.Common.{◌≡◌, ◌+◌, ◌-◌, ◌<◌, ℕ, zero, suc, Some, None, MatchOption, List, [], ◌∷◌, ◌++◌, refl, sym, subst, arith}
 use Rattle.wasmi_meter.specs.Limiter.{Rules}
 use Rattle.wasmi_core.specs.declared.calls.Call.{Call}
 use Rattle.wasmi_core.specs.declared.calls.Call.TheVariants.{SetFuel}
@@ -12,7 +12,15 @@ use Rattle.wasmi_uses.specs.declared.interpreter.Action.{Action}
 use Rattle.wasmi_uses.specs.declared.interpreter.Action.TheVariants.{Calls, Continues, Branches, Returns}
 use Rattle.wasmi_uses.specs.declared.interpreter.Ending.{Ending}
 use Rattle.wasmi_uses.specs.declared.interpreter.Ending.TheVariants.{Returned, Refused, Undefined, OutOfFuel}
-use Rattle.wasmi_uses.specs.Interpreter.{TakesFuel, Leads, Reaches, EndsAt, HasRun}
+use Rattle.wasmi_uses.specs.Interpreter.{TakesFuel, Leads, LeadsAt, Reaches, EndsAt, HasRun}
+
+-- one instruction more leads on from where those so far have led
+pub reaches_more : {S : Type 0} (rules : Rules S) (program : List Instruction) (w : World S) (n at : ℕ) (v : World S)
+    → Reaches rules program w n at v → (at' : ℕ) (v' : World S) → LeadsAt rules program at v at' v'
+    → Reaches rules program w (n + 1) at' v'
+reaches_more rules program w n at v path at' v' leads =
+    let next : n + 1 ≡ suc n = omega arith in
+    subst (λ k. Reaches rules program w k at' v') (sym next) (at, v, path, leads)
 
 module _ {S : Type 0} (rules : Rules S) (joins : RunsOfCallsJoin rules) (w : World S) where
   -- a run goes on by a call
