@@ -17,7 +17,8 @@ instruction_beside_found (it ∷ rest) name =
     elim (bytes_eq it.0.now name) as
     (λ b. option_map (λ (r : List ℕ × Instruction). r.1)
     (cond b (Some (it.0.now, it.1)) (find (λ r. bytes_eq r.0 name) (map (λ r. (r.0.now, r.1)) rest)))
-    ≡ option_map (λ (r : Bor (List ℕ) × Instruction). r.1) (cond b (Some it) (find (λ r. bytes_eq r.0.now name) rest))) [
+    ≡ option_map (λ (r : Bor (List ℕ) × Instruction). r.1)
+    (cond b (Some it) (find (λ r. bytes_eq r.0.now name) rest))) [
       | true ↦ refl
       | false ↦ instruction_beside_found rest name
     ]
