@@ -1,12 +1,13 @@
 -- The number of a list of bytes.
-use Rattle.std.proofs.Common.{◌≡◌, ℕ, zero, suc, ◌+◌, ◌*◌, ◌/◌, ◌%◌, ◌^◌, ◌<◌, List, [], ◌∷◌, ◌++◌, length, take, get_or, refl, ap, sym, subst, ◌∙◌, arith, div-one, mod-eq_of_lt, lit<, mul-one, mul_comm, mul_assoc}
+use Rattle.std.proofs.Common.{◌≡◌, ℕ, zero, suc, ◌+◌, ◌-◌, ◌*◌, ◌/◌, ◌%◌, ◌^◌, ◌<◌, List, [], ◌∷◌, ◌++◌, length, take, get_or, refl, ap, sym, subst, ◌∙◌, arith, div-one, mod-eq_of_lt, lit<, mul-one, mul_comm, mul_assoc}
 use Rattle.std.proofs.Math.Nat.{div-div-eq-div-mul, pow-suc, mod-one}
 use Rattle.std.specs.Prelude.{ℤ, pos}
 use Rattle.std.proofs.lemmas.Int.{to_z-of_z, of_z-to_z}
-use mir.Val.{SFits, bits}
+use Rattle.std.proofs.Math.Facts.{sfits_to_z}
+use mir.Val.{Fits, SFits, bits}
 use Rattle.std.proofs.lemmas.List.{length-take-le, take_all}
 use Rattle.std.proofs.Math.Seq.{take-suc}
-use Rattle.std.specs.Int.{bytes_low_first, byte_at, byte_worth, sum_through, from_le_bytes, to_le_bytes, Width, cast_signed, cast_unsigned, w8, w16, w32, w64, w128}
+use Rattle.std.specs.Int.{bytes_low_first, byte_at, byte_worth, sum_through, from_le_bytes, to_le_bytes, byte_len, Width, cast_signed, cast_unsigned, w8, w16, w32, w64, w128}
 use Rattle.wasmi_types.specs.Bytes.{number_of, le_bytes}
 use Rattle.wasmi_types.specs.Wrapping.{wrap}
 use Rattle.wasmi_access.proofs.WrapLemmas.{wrap_unsigned, wrap_signed}
@@ -139,28 +140,35 @@ pub le_bytes-unsigned : (w : Width) (bs : List ℕ) (k n : ℕ) → n < 2 ^ bits
     → n ≡ sum_through (λ i. byte_worth i (get_or bs i 0)) k → le_bytes (suc k) (wrap w (pos n)) ≡ bs
 le_bytes-unsigned w bs k n below e h is = ap (le_bytes (suc k)) (wrap_unsigned w n below) ∙ le_bytes-whole bs k n e h is
 
--- a number of a signed type that was read of a list of bytes is, cut to its width, the number of the list, as the
--- code's calls say it
-pub number_of-signed : (w : Width) (bs : List ℕ) (k : ℕ) (z : ℤ) → 256 ^ suc k ≡ 2 ^ bits w → SFits w z
-    → length bs ≡ suc k → ((i : ℕ) → get_or bs i 0 < 256)
-    → z ≡ cast_signed w (sum_through (λ i. byte_worth i (get_or bs i 0)) k)
-    → wrap w (cast_signed w (cast_unsigned w z)) ≡ number_of bs
-number_of-signed w bs k z wide f e h is =
-    let whole = sum_through (λ i. byte_worth i (get_or bs i 0)) k in
-    let below : whole < 2 ^ bits w =
-    let P : ℕ → Type 0 = λ m. m < 2 ^ bits w in
-    let Q : ℕ → Type 0 = λ m. number_of bs < m in
-    subst P (sym (number_of-whole bs k e)) (subst Q (ap (λ j. 256 ^ j) e ∙ wide) (number_of-below bs h)) in
-    ap (wrap w) (to_z-of_z w z f) ∙ wrap_signed w z f ∙ ap (cast_unsigned w) is ∙ of_z-to_z w whole below
-    ∙ number_of-whole bs k e
+-- as many numbers have the bytes of a width as its bits
+bytes_are_bits : (w : Width) → 256 ^ suc (byte_len w - 1) ≡ 2 ^ bits w
+bytes_are_bits w =
+    elim w as (λ v. 256 ^ suc (byte_len v - 1) ≡ 2 ^ bits v)
+    [ w8 ↦ refl | w16 ↦ refl | w32 ↦ refl | w64 ↦ refl | w128 ↦ refl ]
 
--- and its bytes are the list
-pub le_bytes-signed : (w : Width) (bs : List ℕ) (k : ℕ) (z : ℤ) → 256 ^ suc k ≡ 2 ^ bits w → SFits w z
-    → length bs ≡ suc k → ((i : ℕ) → get_or bs i 0 < 256)
-    → z ≡ cast_signed w (sum_through (λ i. byte_worth i (get_or bs i 0)) k)
-    → le_bytes (suc k) (wrap w (cast_signed w (cast_unsigned w z))) ≡ bs
-le_bytes-signed w bs k z wide f e h is =
-    ap (le_bytes (suc k)) (number_of-signed w bs k z wide f e h is) ∙ le_bytes-number_of bs (suc k) e h
+-- a number of a signed type that was read of a list of bytes, as the code's calls say it
+module _ (w : Width) (bs : List ℕ) {z : ℤ} (is : z ≡ cast_signed w (from_le_bytes w bs))
+    (long : length bs ≡ suc (byte_len w - 1)) (each : (i : ℕ) → get_or bs i 0 < 256) where
+  -- cut to its width, it is the number of the list
+  pub number_of-signed : wrap w (cast_signed w (cast_unsigned w z)) ≡ number_of bs
+  number_of-signed =
+      let k = byte_len w - 1 in
+      let whole = sum_through (λ i. byte_worth i (get_or bs i 0)) k in
+      let below : whole < 2 ^ bits w =
+      let P : ℕ → Type 0 = λ m. m < 2 ^ bits w in
+      let Q : ℕ → Type 0 = λ m. number_of bs < m in
+      subst P (sym (number_of-whole bs k long))
+      (subst Q (ap (λ j. 256 ^ j) long ∙ bytes_are_bits w) (number_of-below bs each)) in
+      let fits_whole : Fits w whole = record { fits = below } in
+      let fits : SFits w z = subst (SFits w) (sym is) (sfits_to_z fits_whole) in
+      ap (wrap w) (to_z-of_z w z fits) ∙ wrap_signed w z fits ∙ ap (cast_unsigned w) is ∙ of_z-to_z w whole below
+      ∙ number_of-whole bs k long
+
+  -- and its bytes are the list
+  pub le_bytes-signed : le_bytes (suc (byte_len w - 1)) (wrap w (cast_signed w (cast_unsigned w z))) ≡ bs
+  le_bytes-signed =
+      let k = byte_len w - 1 in
+      ap (le_bytes (suc k)) number_of-signed ∙ le_bytes-number_of bs (suc k) long each
 
 -- the bytes of an unsigned number are those of the number cut to its width
 pub bytes-unsigned : (w : Width) (n : ℕ) (bs : List ℕ) → n < 2 ^ bits w → bs ≡ to_le_bytes w n

@@ -208,7 +208,7 @@ pub fn load_u64_at(memory: &[u8], address: usize) -> Result<u64, TrapCode>
 
 /// `i32.store8`: the value modulo 2 to the power 8.
 #[inline]
-#[tactic(auto, using(crate::proofs::WrapLemmas::image_8_32))]
+#[tactic(auto, using(crate::proofs::WrapLemmas::image_low))]
 pub fn i32_store8(memory: &mut [u8], ptr: u64, offset: u64, value: i32) -> Result<(), TrapCode>
     ensures { IsStore memory.old (ptr + offset)
         (le_bytes 1 (cast_unsigned w32 value % 2 ^ 8)) memory.new result }
@@ -218,7 +218,7 @@ pub fn i32_store8(memory: &mut [u8], ptr: u64, offset: u64, value: i32) -> Resul
 
 /// `i32.store8` at an address.
 #[inline]
-#[tactic(auto, using(crate::proofs::WrapLemmas::image_8_32))]
+#[tactic(auto, using(crate::proofs::WrapLemmas::image_low))]
 pub fn i32_store8_at(memory: &mut [u8], address: usize, value: i32) -> Result<(), TrapCode>
     ensures { IsStore memory.old address
         (le_bytes 1 (cast_unsigned w32 value % 2 ^ 8)) memory.new result }
@@ -228,7 +228,7 @@ pub fn i32_store8_at(memory: &mut [u8], address: usize, value: i32) -> Result<()
 
 /// `i32.store16`: the value modulo 2 to the power 16.
 #[inline]
-#[tactic(auto, using(crate::proofs::WrapLemmas::image_16_32))]
+#[tactic(auto, using(crate::proofs::WrapLemmas::image_low))]
 pub fn i32_store16(memory: &mut [u8], ptr: u64, offset: u64, value: i32) -> Result<(), TrapCode>
     ensures { IsStore memory.old (ptr + offset)
         (le_bytes 2 (cast_unsigned w32 value % 2 ^ 16)) memory.new result }
@@ -238,7 +238,7 @@ pub fn i32_store16(memory: &mut [u8], ptr: u64, offset: u64, value: i32) -> Resu
 
 /// `i32.store16` at an address.
 #[inline]
-#[tactic(auto, using(crate::proofs::WrapLemmas::image_16_32))]
+#[tactic(auto, using(crate::proofs::WrapLemmas::image_low))]
 pub fn i32_store16_at(memory: &mut [u8], address: usize, value: i32) -> Result<(), TrapCode>
     ensures { IsStore memory.old address
         (le_bytes 2 (cast_unsigned w32 value % 2 ^ 16)) memory.new result }
@@ -248,7 +248,7 @@ pub fn i32_store16_at(memory: &mut [u8], address: usize, value: i32) -> Result<(
 
 /// `i64.store8`: the value modulo 2 to the power 8.
 #[inline]
-#[tactic(auto, using(crate::proofs::WrapLemmas::image_8_64))]
+#[tactic(auto, using(crate::proofs::WrapLemmas::image_low))]
 pub fn i64_store8(memory: &mut [u8], ptr: u64, offset: u64, value: i64) -> Result<(), TrapCode>
     ensures { IsStore memory.old (ptr + offset)
         (le_bytes 1 (cast_unsigned w64 value % 2 ^ 8)) memory.new result }
@@ -258,7 +258,7 @@ pub fn i64_store8(memory: &mut [u8], ptr: u64, offset: u64, value: i64) -> Resul
 
 /// `i64.store8` at an address.
 #[inline]
-#[tactic(auto, using(crate::proofs::WrapLemmas::image_8_64))]
+#[tactic(auto, using(crate::proofs::WrapLemmas::image_low))]
 pub fn i64_store8_at(memory: &mut [u8], address: usize, value: i64) -> Result<(), TrapCode>
     ensures { IsStore memory.old address
         (le_bytes 1 (cast_unsigned w64 value % 2 ^ 8)) memory.new result }
@@ -268,7 +268,7 @@ pub fn i64_store8_at(memory: &mut [u8], address: usize, value: i64) -> Result<()
 
 /// `i64.store16`: the value modulo 2 to the power 16.
 #[inline]
-#[tactic(auto, using(crate::proofs::WrapLemmas::image_16_64))]
+#[tactic(auto, using(crate::proofs::WrapLemmas::image_low))]
 pub fn i64_store16(memory: &mut [u8], ptr: u64, offset: u64, value: i64) -> Result<(), TrapCode>
     ensures { IsStore memory.old (ptr + offset)
         (le_bytes 2 (cast_unsigned w64 value % 2 ^ 16)) memory.new result }
@@ -278,7 +278,7 @@ pub fn i64_store16(memory: &mut [u8], ptr: u64, offset: u64, value: i64) -> Resu
 
 /// `i64.store16` at an address.
 #[inline]
-#[tactic(auto, using(crate::proofs::WrapLemmas::image_16_64))]
+#[tactic(auto, using(crate::proofs::WrapLemmas::image_low))]
 pub fn i64_store16_at(memory: &mut [u8], address: usize, value: i64) -> Result<(), TrapCode>
     ensures { IsStore memory.old address
         (le_bytes 2 (cast_unsigned w64 value % 2 ^ 16)) memory.new result }
@@ -288,7 +288,7 @@ pub fn i64_store16_at(memory: &mut [u8], address: usize, value: i64) -> Result<(
 
 /// `i64.store32`: the value modulo 2 to the power 32.
 #[inline]
-#[tactic(auto, using(crate::proofs::WrapLemmas::image_32_64))]
+#[tactic(auto, using(crate::proofs::WrapLemmas::image_low))]
 pub fn i64_store32(memory: &mut [u8], ptr: u64, offset: u64, value: i64) -> Result<(), TrapCode>
     ensures { IsStore memory.old (ptr + offset)
         (le_bytes 4 (cast_unsigned w64 value % 2 ^ 32)) memory.new result }
@@ -298,7 +298,7 @@ pub fn i64_store32(memory: &mut [u8], ptr: u64, offset: u64, value: i64) -> Resu
 
 /// `i64.store32` at an address.
 #[inline]
-#[tactic(auto, using(crate::proofs::WrapLemmas::image_32_64))]
+#[tactic(auto, using(crate::proofs::WrapLemmas::image_low))]
 pub fn i64_store32_at(memory: &mut [u8], address: usize, value: i64) -> Result<(), TrapCode>
     ensures { IsStore memory.old address
         (le_bytes 4 (cast_unsigned w64 value % 2 ^ 32)) memory.new result }
@@ -308,7 +308,7 @@ pub fn i64_store32_at(memory: &mut [u8], address: usize, value: i64) -> Result<(
 
 /// `i32.store`: the 32 bits of the value.
 #[inline]
-#[tactic(auto, using(crate::proofs::WrapLemmas::whole_32))]
+#[tactic(auto, using(crate::proofs::WrapLemmas::wrap_unsigned))]
 pub fn store32(memory: &mut [u8], ptr: u64, offset: u64, value: u32) -> Result<(), TrapCode>
     ensures { IsStore memory.old (ptr + offset) (le_bytes 4 value) memory.new result }
 {
@@ -317,7 +317,7 @@ pub fn store32(memory: &mut [u8], ptr: u64, offset: u64, value: u32) -> Result<(
 
 /// `i32.store` at an address.
 #[inline]
-#[tactic(auto, using(crate::proofs::WrapLemmas::whole_32))]
+#[tactic(auto, using(crate::proofs::WrapLemmas::wrap_unsigned))]
 pub fn store32_at(memory: &mut [u8], address: usize, value: u32) -> Result<(), TrapCode>
     ensures { IsStore memory.old address (le_bytes 4 value) memory.new result }
 {
@@ -326,7 +326,7 @@ pub fn store32_at(memory: &mut [u8], address: usize, value: u32) -> Result<(), T
 
 /// `i64.store`: the 64 bits of the value.
 #[inline]
-#[tactic(auto, using(crate::proofs::WrapLemmas::whole_64))]
+#[tactic(auto, using(crate::proofs::WrapLemmas::wrap_unsigned))]
 pub fn store64(memory: &mut [u8], ptr: u64, offset: u64, value: u64) -> Result<(), TrapCode>
     ensures { IsStore memory.old (ptr + offset) (le_bytes 8 value) memory.new result }
 {
@@ -335,7 +335,7 @@ pub fn store64(memory: &mut [u8], ptr: u64, offset: u64, value: u64) -> Result<(
 
 /// `i64.store` at an address.
 #[inline]
-#[tactic(auto, using(crate::proofs::WrapLemmas::whole_64))]
+#[tactic(auto, using(crate::proofs::WrapLemmas::wrap_unsigned))]
 pub fn store64_at(memory: &mut [u8], address: usize, value: u64) -> Result<(), TrapCode>
     ensures { IsStore memory.old address (le_bytes 8 value) memory.new result }
 {
