@@ -13,9 +13,9 @@ pub record IsBitwise (op : ℕ → ℕ → ℕ) : Type 0 where
   pub on_low : (a b k : ℕ) → op a b % 2 ^ k ≡ op (a % 2 ^ k) (b % 2 ^ k)
 
 -- the vector of a bitwise operation on the words is the operation on the vectors
-pub on_words : (op : ℕ → ℕ → ℕ) → IsBitwise op → (a b low_a high_a low_b high_b r : ℕ) → AreWords a low_a high_a
+pub on_words : {a b low_a high_a low_b high_b r : ℕ} (op : ℕ → ℕ → ℕ) → IsBitwise op → AreWords a low_a high_a
     → AreWords b low_b high_b → r ≡ vector_of (op low_a low_b) (op high_a high_b) → r ≡ op a b
-on_words op bitwise a b low_a high_a low_b high_b r of_a of_b is =
+on_words {a} {b} op bitwise of_a of_b is =
     is
     ∙ ap₂ (λ high low. high * 2 ^ 64 + low) (ap₂ op of_a.high_is of_b.high_is ∙ sym (bitwise.on_high a b 64))
     (ap₂ op of_a.low_is of_b.low_is ∙ sym (bitwise.on_low a b 64))

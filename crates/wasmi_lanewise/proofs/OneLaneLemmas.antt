@@ -7,10 +7,10 @@ use Rattle.std.proofs.lemmas.List.{get_or-map}
 use Rattle.std.proofs.lemmas.Simd.{length-zip2, get_or-zip2, get_or-replicate, length-replicate, get_or-sel_l, tops_compared}
 use Rattle.std.proofs.lemmas.List.FromFn.{get_or-range_with_len, length-range_with_len}
 use Rattle.std.specs.List.{range_with_len}
-use Rattle.wasmi_types.specs.Wrapping.{Width, bits}
+use Rattle.wasmi_types.specs.Wrapping.{Width, w8, bits}
 use Rattle.wasmi_lanes.specs.Lane.{lane}
 use Rattle.wasmi_lanes.specs.Vector.{with_lane}
-use Rattle.wasmi_lanes.proofs.LaneVectorLemmas.{lanes_make_vector}
+use Rattle.wasmi_lanes.proofs.LaneVectorLemmas.{lanes_make_vector, lane_below}
 use Rattle.wasmi_lanewise.proofs.ChosenLemmas.{computed}
 use mir.Val.{hbits}
 use lib.Lanes.{top}
@@ -36,35 +36,28 @@ item_at w n k item numbers lanes i counted long inside =
     (omega arith)
     ∙ ap₂ (λ t x. cond t x (get_or lanes i 0)) test (get_or-replicate n i item 0 inside)
 
--- r has n lanes: an item where the number of the lane is `at`, and those of v elsewhere
-pub record IsLaneWrite (w : Width) (n v at item r : ℕ) : Type 0 where
-  pub filled : n * bits w ≡ 128
-  -- the numbers of the lanes, and `at` in each lane
-  pub numbers : List ℕ
-  pub places : List ℕ
-  pub counted : numbers ≡ range_with_len 0 n
-  pub placed : places ≡ replicate n at
-  -- the lanes of v
-  pub lanes : List ℕ
-  pub long : length lanes ≡ n
-  pub are : (i : ℕ) → i < n → get_or lanes i 0 ≡ lane w v i
-  pub written : (i : ℕ) → i < n
-      → get_or (sel_l (map (top (hbits w)) (zip2 (λ a b. cond (eqb a b) (2 ^ bits w - 1) 0) numbers places))
-      (replicate n item) lanes) i 0 ≡ lane w r i
-  pub below : r < 2 ^ 128
+-- xs is the n lanes of v of this width
+pub record AreLanes (w : Width) (n v : ℕ) (xs : List ℕ) : Type 0 where
+  pub long : length xs ≡ n
+  pub are : (i : ℕ) → i < n → get_or xs i 0 ≡ lane w v i
 
--- it is v with the item in the lane at that place
-pub chosen_make_vector : (w : Width) (n v at item r : ℕ) → IsLaneWrite w n v at item r → r ≡ with_lane w v at item
+-- an item where the number of the lane is `at`, and the lanes of v elsewhere: v with the item in the lane at that place
+pub item_makes_vector : (w : Width) (n v at item : ℕ) {r : ℕ} {numbers places : List ℕ} (lanes : List ℕ)
+    → n * bits w ≡ 128 → numbers ≡ range_with_len 0 n → places ≡ replicate n at → AreLanes w n v lanes
+    → ((i : ℕ) → i < n
+    → get_or (sel_l (map (top (hbits w)) (zip2 (λ a b. cond (eqb a b) (2 ^ bits w - 1) 0) numbers places))
+    (replicate n item) lanes) i 0 ≡ lane w r i)
+    → r < 2 ^ 128 → r ≡ with_lane w v at item
 unfolding with_lane
-chosen_make_vector w n v at item r write =
-    lanes_make_vector w n r _ write.filled write.below
+item_makes_vector w n v at item {r} {numbers} {places} lanes filled counted placed of_v written below =
+    lanes_make_vector w n r _ filled below
     (λ i inside.
-    sym (write.written i inside)
+    sym (written i inside)
     ∙ ap (λ ks. get_or
-    (sel_l (map (top (hbits w)) (zip2 (λ a b. cond (eqb a b) (2 ^ bits w - 1) 0) write.numbers ks))
-    (replicate n item) write.lanes) i 0) write.placed
-    ∙ item_at w n at item write.numbers write.lanes i write.counted write.long inside
-    ∙ ap (λ x. if eqb i at then item else x) (write.are i inside))
+    (sel_l (map (top (hbits w)) (zip2 (λ a b. cond (eqb a b) (2 ^ bits w - 1) 0) numbers ks))
+    (replicate n item) lanes) i 0) placed
+    ∙ item_at w n at item numbers lanes i counted of_v.long inside
+    ∙ ap (λ x. if eqb i at then item else x) (of_v.are i inside))
 
 -- ---- a lane of 16 or 32 bits, by its bytes
 
@@ -72,6 +65,15 @@ chosen_make_vector w n v at item r write =
 pub record IsByteAt (bytes : List ℕ) (i x : ℕ) : Type 0 where
   pub is : get_or bytes i 0 ≡ x
   pub fits : x < 256
+
+-- a byte of a vector, picked by its index
+pub byte_picked : (v : ℕ) (bytes indices : ℕ → ℕ) (xs : List ℕ) (i k : ℕ)
+    → ((j : ℕ) → j < 16 → get_or xs j 0 ≡ bytes (indices j)) → ((j : ℕ) → j < 16 → bytes j ≡ lane w8 v j)
+    → i < 16 → k < 16 → indices i ≡ k → IsByteAt xs i (lane w8 v k)
+byte_picked v bytes indices xs i k is_picked are inside_i inside_k place = record {
+  is = is_picked i inside_i ∙ ap bytes place ∙ are k inside_k;
+  fits = lane_below w8 v k;
+}
 
 -- the lowest 8 bits of the number of 16 bytes are the first byte
 pub first_byte : (bytes : List ℕ) (x : ℕ) → length bytes ≡ 16 → IsByteAt bytes 0 x

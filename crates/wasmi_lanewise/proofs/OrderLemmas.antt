@@ -7,8 +7,9 @@ use Rattle.std.proofs.Math.Nat.{mod-eq_of_lt, add-mod_right}
 use Rattle.std.proofs.lemmas.Bool.{cases_lt, lt-ltb, le-ltb, le-leb, lt-leb, ltb-true, ltb-false}
 use Rattle.wasmi_types.specs.Wrapping.{Width, w8, w16, w32, w64, bits, signed, wrap}
 use Rattle.wasmi_lanes.specs.Lane.{lane}
-use Rattle.wasmi_lanes.specs.Vector.{from_lanes}
+use Rattle.wasmi_lanes.specs.Vector.{from_lanes, binary_of_lanes, comparison_of_lanes}
 use Rattle.wasmi_lanes.proofs.LaneVectorLemmas.{lanes_make_vector, lane_below}
+use Rattle.wasmi_lanewise.specs.VectorTable.{lt_u, le_u, lt_s, le_s, min_u, max_u, min_s, max_s}
 use mir.Syntax.{w128}
 use mir.Val.{sel, hbits}
 
@@ -29,7 +30,7 @@ whole_is w64 = refl
 whole_is w128 = refl
 
 -- the number whose lowest bits are those of a signed one, moved by half of the range
-abbrev pub biased : Width → ℕ → ℕ
+abbrev biased : Width → ℕ → ℕ
 biased w x = (x + 2 ^ (bits w - 1)) % 2 ^ bits w
 
 -- the signed number, where `low` says whether x is below half of the range
@@ -112,7 +113,7 @@ module _ (w : Width) where
           omega (arith, same)
 
 -- all zeros where b is less than a, else all ones: as many as where a is at most b
-pub zeros_where_less : (a b n : ℕ) → (if ltb b a then 0 else n) ≡ (if leb a b then n else 0)
+zeros_where_less : (a b n : ℕ) → (if ltb b a then 0 else n) ≡ (if leb a b then n else 0)
 zeros_where_less a b n = turned (ltb b a) ∙ sym (ap (λ t. if t then n else 0) (at_most_is_not_less a b))
   where
     turned : (t : Bool) → (if t then 0 else n) ≡ (if not t then n else 0)
@@ -128,14 +129,14 @@ zeros_where_int_less a b n = turned (int_lt b a) ∙ sym (ap (λ t. if t then n 
     turned false = refl
 
 -- of two numbers, the second where it is less, else the first, is the smaller
-pub smaller_is : (a b : ℕ) → (if ltb b a then b else a) ≡ min a b
+smaller_is : (a b : ℕ) → (if ltb b a then b else a) ≡ min a b
 smaller_is a b = elim (cases_lt b a) as (λ _. (if ltb b a then b else a) ≡ min a b) [
   | inl below ↦ ap (λ t. if t then b else a) (lt-ltb b a below) ∙ omega arith
   | inr above ↦ ap (λ t. if t then b else a) (le-ltb b a above) ∙ omega arith
 ]
 
 -- of two numbers, the first where the second is less, else the second, is the larger
-pub larger_is : (a b : ℕ) → (if ltb b a then a else b) ≡ max a b
+larger_is : (a b : ℕ) → (if ltb b a then a else b) ≡ max a b
 larger_is a b = elim (cases_lt b a) as (λ _. (if ltb b a then a else b) ≡ max a b) [
   | inl below ↦ ap (λ t. if t then a else b) (lt-ltb b a below) ∙ omega arith
   | inr above ↦ ap (λ t. if t then a else b) (le-ltb b a above) ∙ omega arith
@@ -148,54 +149,105 @@ wrap_chosen w true x y fits_x fits_y = sym (wrap_signed w x fits_x)
 wrap_chosen w false x y fits_x fits_y = sym (wrap_signed w y fits_y)
 
 -- chosen by the order of the moved numbers, it has the bits of the smaller of the signed numbers
-pub signed_smaller_is : (w : Width) (a b : ℕ) → a < 2 ^ bits w → b < 2 ^ bits w
+signed_smaller_is : (w : Width) (a b : ℕ) → a < 2 ^ bits w → b < 2 ^ bits w
     → (if ltb (biased w b) (biased w a) then b else a) ≡ wrap w (int_min (signed w a) (signed w b))
 signed_smaller_is w a b fits_a fits_b =
     ap (λ t. if t then b else a) (raised_is_less w b a fits_b fits_a)
     ∙ wrap_chosen w (int_lt (signed w b) (signed w a)) b a fits_b fits_a
 
 -- so the larger of the signed numbers
-pub signed_larger_is : (w : Width) (a b : ℕ) → a < 2 ^ bits w → b < 2 ^ bits w
+signed_larger_is : (w : Width) (a b : ℕ) → a < 2 ^ bits w → b < 2 ^ bits w
     → (if ltb (biased w b) (biased w a) then a else b) ≡ wrap w (int_max (signed w a) (signed w b))
 signed_larger_is w a b fits_a fits_b =
     ap (λ t. if t then a else b) (raised_is_less w b a fits_b fits_a)
     ∙ wrap_chosen w (int_lt (signed w b) (signed w a)) a b fits_a fits_b
 
--- ---- vectors whose lanes are chosen by an order of the operands' lanes, as they are (`move` is the identity) or moved
-
--- the n lanes of r are f of the moved lanes of a and b, which is the row of the lanes as they are
-pub record IsChosen (w : Width) (n a b r : ℕ) (row : ℕ → ℕ → ℕ) : Type 0 where
-  pub filled : n * bits w ≡ 128
-  pub below : r < 2 ^ 128
-  pub move : ℕ → ℕ
-  pub f : ℕ → ℕ → ℕ
-  pub lhs : ℕ → ℕ
-  pub rhs : ℕ → ℕ
-  pub lanes : (i : ℕ) → i < n → lane w r i ≡ f (lhs i) (rhs i)
-  pub lhs_is : (i : ℕ) → i < n → lhs i ≡ move (lane w a i)
-  pub rhs_is : (i : ℕ) → i < n → rhs i ≡ move (lane w b i)
-  pub same : (p q : ℕ) → p < 2 ^ bits w → q < 2 ^ bits w → f (move p) (move q) ≡ row p q
-
--- it is the vector of the rows of the lanes of a and b
-pub ordered_make_vector : (w : Width) (n a b r : ℕ) (row : ℕ → ℕ → ℕ) → IsChosen w n a b r row
-    → r ≡ from_lanes w (λ i. row (lane w a i) (lane w b i))
-ordered_make_vector w n a b r row chosen =
-    lanes_make_vector w n r _ chosen.filled chosen.below
-    (λ i inside. chosen.lanes i inside ∙ ap₂ chosen.f (chosen.lhs_is i inside) (chosen.rhs_is i inside)
-    ∙ chosen.same (lane w a i) (lane w b i) (lane_below w a i) (lane_below w b i))
-
--- lanes that were moved by half of their range
-pub raised_lanes : (w : Width) (n v : ℕ) (x y : ℕ → ℕ) → ((i : ℕ) → i < n → y i ≡ biased w (x i))
-    → ((i : ℕ) → i < n → x i ≡ lane w v i) → (i : ℕ) → i < n → y i ≡ biased w (lane w v i)
-raised_lanes w n v x y is_y is_x i inside = is_y i inside ∙ ap (biased w) (is_x i inside)
-
 -- all ones or all zeros by a comparison, in the order of the signed numbers
-pub ones_where_less : (w : Width) (n p q : ℕ) → p < 2 ^ bits w → q < 2 ^ bits w
+ones_where_less : (w : Width) (n p q : ℕ) → p < 2 ^ bits w → q < 2 ^ bits w
     → (if ltb (biased w p) (biased w q) then n else 0) ≡ (if int_lt (signed w p) (signed w q) then n else 0)
 ones_where_less w n p q fits_p fits_q = ap (λ t. if t then n else 0) (raised_is_less w p q fits_p fits_q)
 
 -- all zeros where q, moved, is less than p, moved, else all ones: all ones where p is at most q as signed numbers
-pub ones_where_at_most : (w : Width) (n p q : ℕ) → p < 2 ^ bits w → q < 2 ^ bits w
+ones_where_at_most : (w : Width) (n p q : ℕ) → p < 2 ^ bits w → q < 2 ^ bits w
     → (if ltb (biased w q) (biased w p) then 0 else n) ≡ (if int_le (signed w p) (signed w q) then n else 0)
 ones_where_at_most w n p q fits_p fits_q =
     ap (λ t. if t then 0 else n) (raised_is_less w q p fits_q fits_p) ∙ zeros_where_int_less (signed w p) (signed w q) n
+
+-- ---- vectors whose lanes are chosen by an order of the operands' lanes x and y, as they are or moved
+
+module _ (w : Width) (n : ℕ) (filled : n * bits w ≡ 128) (a b : ℕ) {r : ℕ} (below : r < 2 ^ 128) {x y : ℕ → ℕ}
+    (is_x : (i : ℕ) → i < n → x i ≡ lane w a i) (is_y : (i : ℕ) → i < n → y i ≡ lane w b i) where
+  -- lanes that are f of the operands' lanes, which is a row of them, make the vector of this row
+  chosen_make_vector : (f row : ℕ → ℕ → ℕ) → ((i : ℕ) → i < n → lane w r i ≡ f (x i) (y i))
+      → ((p : ℕ) → (q : ℕ) → p < 2 ^ bits w → q < 2 ^ bits w → f p q ≡ row p q)
+      → r ≡ from_lanes w (λ i. row (lane w a i) (lane w b i))
+  chosen_make_vector f row is same =
+      lanes_make_vector w n r _ filled below
+      (λ i inside. is i inside ∙ ap₂ f (is_x i inside) (is_y i inside)
+      ∙ same (lane w a i) (lane w b i) (lane_below w a i) (lane_below w b i))
+
+  -- all ones where x is less
+  pub less_make_vector : ((i : ℕ) → i < n → lane w r i ≡ (if ltb (x i) (y i) then 2 ^ bits w - 1 else 0))
+      → r ≡ lt_u w a b
+  unfolding comparison_of_lanes
+  less_make_vector is = chosen_make_vector (λ p q. if ltb p q then 2 ^ bits w - 1 else 0) _ is (λ p q _ _. refl)
+
+  -- all zeros where y is less
+  pub at_most_make_vector : ((i : ℕ) → i < n → lane w r i ≡ (if ltb (y i) (x i) then 0 else 2 ^ bits w - 1))
+      → r ≡ le_u w a b
+  unfolding comparison_of_lanes
+  at_most_make_vector is =
+      chosen_make_vector (λ p q. if ltb q p then 0 else 2 ^ bits w - 1)
+      (λ p q. if leb p q then 2 ^ bits w - 1 else 0) is (λ p q _ _. zeros_where_less p q (2 ^ bits w - 1))
+
+  -- y where it is less
+  pub smaller_make_vector : ((i : ℕ) → i < n → lane w r i ≡ (if ltb (y i) (x i) then y i else x i)) → r ≡ min_u w a b
+  unfolding binary_of_lanes
+  smaller_make_vector is = chosen_make_vector (λ p q. if ltb q p then q else p) min is (λ p q _ _. smaller_is p q)
+
+  -- x where y is less
+  pub larger_make_vector : ((i : ℕ) → i < n → lane w r i ≡ (if ltb (y i) (x i) then x i else y i)) → r ≡ max_u w a b
+  unfolding binary_of_lanes
+  larger_make_vector is = chosen_make_vector (λ p q. if ltb q p then p else q) max is (λ p q _ _. larger_is p q)
+
+  module _ {x' y' : ℕ → ℕ} (moved_x : (i : ℕ) → i < n → x' i ≡ biased w (x i))
+      (moved_y : (i : ℕ) → i < n → y' i ≡ biased w (y i)) where
+    -- all ones where x, moved, is less
+    pub signed_less_make_vector : ((i : ℕ) → i < n → lane w r i ≡ (if ltb (x' i) (y' i) then 2 ^ bits w - 1 else 0))
+        → r ≡ lt_s w a b
+    unfolding comparison_of_lanes
+    signed_less_make_vector is =
+        let f : ℕ → ℕ → ℕ = λ p q. if ltb p q then 2 ^ bits w - 1 else 0 in
+        chosen_make_vector (λ p q. f (biased w p) (biased w q))
+        (λ p q. if int_lt (signed w p) (signed w q) then 2 ^ bits w - 1 else 0)
+        (λ i inside. is i inside ∙ ap₂ f (moved_x i inside) (moved_y i inside)) (ones_where_less w (2 ^ bits w - 1))
+
+    -- all zeros where y, moved, is less
+    pub signed_at_most_make_vector :
+        ((i : ℕ) → i < n → lane w r i ≡ (if ltb (y' i) (x' i) then 0 else 2 ^ bits w - 1)) → r ≡ le_s w a b
+    unfolding comparison_of_lanes
+    signed_at_most_make_vector is =
+        let f : ℕ → ℕ → ℕ = λ p q. if ltb q p then 0 else 2 ^ bits w - 1 in
+        chosen_make_vector (λ p q. f (biased w p) (biased w q))
+        (λ p q. if int_le (signed w p) (signed w q) then 2 ^ bits w - 1 else 0)
+        (λ i inside. is i inside ∙ ap₂ f (moved_x i inside) (moved_y i inside)) (ones_where_at_most w (2 ^ bits w - 1))
+
+    -- y where it is less, moved
+    pub signed_smaller_make_vector : ((i : ℕ) → i < n → lane w r i ≡ (if ltb (y' i) (x' i) then y i else x i))
+        → r ≡ min_s w a b
+    unfolding binary_of_lanes
+    signed_smaller_make_vector is =
+        chosen_make_vector (λ p q. if ltb (biased w q) (biased w p) then q else p)
+        (λ p q. wrap w (int_min (signed w p) (signed w q)))
+        (λ i inside. is i inside ∙ ap₂ (λ p q. if ltb q p then y i else x i) (moved_x i inside) (moved_y i inside))
+        (signed_smaller_is w)
+
+    -- x where y is less, moved
+    pub signed_larger_make_vector : ((i : ℕ) → i < n → lane w r i ≡ (if ltb (y' i) (x' i) then x i else y i))
+        → r ≡ max_s w a b
+    unfolding binary_of_lanes
+    signed_larger_make_vector is =
+        chosen_make_vector (λ p q. if ltb (biased w q) (biased w p) then p else q)
+        (λ p q. wrap w (int_max (signed w p) (signed w q)))
+        (λ i inside. is i inside ∙ ap₂ (λ p q. if ltb q p then x i else y i) (moved_x i inside) (moved_y i inside))
+        (signed_larger_is w)

@@ -16,7 +16,7 @@ returns c =
     (rw (c.u64x2_of-ones.ensures, c.u64x2_of.ensures, c.u64x2_of-2.ensures) refl) in
     let low_zeros : 2 ^ 64 - 1 - m % 2 ^ 64 ≡ zeros % 2 ^ 64 = omega arith in
     let high_zeros : 2 ^ 64 - 1 - m / 2 ^ 64 ≡ zeros / 2 ^ 64 = omega arith in
-    on_words bit_or (record { on_high = or_shr; on_low = or_mod }) (bit_and a m) (bit_and b zeros) _ _ _ _ _
+    on_words bit_or (record { on_high = or_shr; on_low = or_mod })
     (u64x2_of (sym (and_mod a m 64)) (sym (and_shr a m 64)))
     (u64x2_of (ap (bit_and (b % 2 ^ 64)) low_zeros ∙ sym (and_mod b zeros 64))
     (ap (bit_and (b / 2 ^ 64)) high_zeros ∙ sym (and_shr b zeros 64))) is

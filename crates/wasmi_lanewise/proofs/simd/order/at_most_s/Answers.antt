@@ -1,26 +1,8 @@
-use Rattle.std.proofs.Common.{◌-◌, ◌^◌, nat_lt, if◌then◌else◌}
-use Rattle.std.specs.Int.RustNames.{int_le}
-use Rattle.wasmi_types.specs.Wrapping.{bits, signed}
-use Rattle.wasmi_lanes.specs.Vector.{comparison_of_lanes}
-use Rattle.wasmi_lanewise.proofs.OrderLemmas.{biased, raised_lanes, ordered_make_vector, ones_where_at_most}
+use Rattle.wasmi_lanewise.proofs.OrderLemmas.{signed_at_most_make_vector}
 use Rattle.wasmi_lanewise.proofs.simd.order.at_most_s.Goals as goal
 
 pub returns : goal.returns
-unfolding comparison_of_lanes
 returns g c =
-    let w = g.T.LaneInteger.width in
-    let is = c.zeros_if_less.ensures in
-    ordered_make_vector w g.T.SimdLane.COUNT c.args.lhs c.args.rhs _
-    (λ p q. if int_le (signed w p) (signed w q) then 2 ^ bits w - 1 else 0)
-    (record {
-      filled = g.met.T.SimdLane.filled;
-      below = is.in_range;
-      move = biased w;
-      f = λ x y. if nat_lt y x then 0 else 2 ^ bits w - 1;
-      lhs = _;
-      rhs = _;
-      lanes = is.lanes;
-      lhs_is = raised_lanes w _ c.args.lhs _ _ c.biased-2.ensures.lanes c.lanes_of-2.ensures.lanes;
-      rhs_is = raised_lanes w _ c.args.rhs _ _ c.biased.ensures.lanes c.lanes_of.ensures.lanes;
-      same = ones_where_at_most w (2 ^ bits w - 1);
-    })
+    signed_at_most_make_vector g.T.LaneInteger.width g.T.SimdLane.COUNT g.met.T.SimdLane.filled c.args.lhs c.args.rhs
+    c.zeros_if_less.ensures.in_range c.lanes_of-2.ensures.lanes c.lanes_of.ensures.lanes
+    c.biased-2.ensures.lanes c.biased.ensures.lanes c.zeros_if_less.ensures.lanes

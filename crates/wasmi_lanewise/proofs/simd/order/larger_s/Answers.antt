@@ -1,29 +1,9 @@
-use Rattle.std.proofs.Common.{◌∙◌, ap₂, nat_lt, if◌then◌else◌}
-use Rattle.std.specs.Int.{int_max}
-use Rattle.wasmi_types.specs.Wrapping.{signed, wrap}
-use Rattle.wasmi_lanes.specs.Vector.{binary_of_lanes}
-use Rattle.wasmi_lanewise.proofs.OrderLemmas.{biased, ordered_make_vector, signed_larger_is}
+use Rattle.std.proofs.Common.{◌∙◌}
+use Rattle.wasmi_lanewise.proofs.OrderLemmas.{signed_larger_make_vector}
 use Rattle.wasmi_lanewise.proofs.simd.order.larger_s.Goals as goal
 
 pub returns : goal.returns
-unfolding binary_of_lanes
 returns g c =
-    let w = g.T.LaneInteger.width in
-    let is = c.vector_of.ensures in
-    let at = g.T.SimdLane.at in
-    ordered_make_vector w g.T.SimdLane.COUNT c.args.lhs c.args.rhs _
-    (λ x y. wrap w (int_max (signed w x) (signed w y)))
-    (record {
-      filled = g.met.T.SimdLane.filled;
-      below = is.in_range;
-      move = λ x. x;
-      f = λ x y. if nat_lt (biased w y) (biased w x) then x else y;
-      lhs = _;
-      rhs = _;
-      lanes = λ i inside. is.lanes i inside ∙ c.choose_if_less.ensures.lanes i inside
-          ∙ ap₂ (λ x y. if nat_lt x y then at c.lanes_of-a.result i else at c.lanes_of-b.result i)
-          (c.biased.ensures.lanes i inside) (c.biased-2.ensures.lanes i inside);
-      lhs_is = c.lanes_of-a.ensures.lanes;
-      rhs_is = c.lanes_of-b.ensures.lanes;
-      same = signed_larger_is w;
-    })
+    signed_larger_make_vector g.T.LaneInteger.width g.T.SimdLane.COUNT g.met.T.SimdLane.filled c.args.lhs c.args.rhs
+    c.vector_of.ensures.in_range c.lanes_of-a.ensures.lanes c.lanes_of-b.ensures.lanes c.biased-2.ensures.lanes
+    c.biased.ensures.lanes (λ i inside. c.vector_of.ensures.lanes i inside ∙ c.choose_if_less.ensures.lanes i inside)

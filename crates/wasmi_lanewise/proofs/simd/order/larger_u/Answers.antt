@@ -1,24 +1,9 @@
-use Rattle.std.proofs.Common.{◌∙◌, max, nat_lt, if◌then◌else◌}
-use Rattle.wasmi_lanes.specs.Vector.{binary_of_lanes}
-use Rattle.wasmi_lanewise.proofs.OrderLemmas.{ordered_make_vector, larger_is}
+use Rattle.std.proofs.Common.{◌∙◌}
+use Rattle.wasmi_lanewise.proofs.OrderLemmas.{larger_make_vector}
 use Rattle.wasmi_lanewise.proofs.simd.order.larger_u.Goals as goal
 
 pub returns : goal.returns
-unfolding binary_of_lanes
 returns g c =
-    let w = g.T.LaneInteger.width in
-    let is = c.vector_of.ensures in
-    ordered_make_vector w g.T.SimdLane.COUNT c.args.lhs c.args.rhs _
-    max
-    (record {
-      filled = g.met.T.SimdLane.filled;
-      below = is.in_range;
-      move = λ x. x;
-      f = λ x y. if nat_lt y x then x else y;
-      lhs = _;
-      rhs = _;
-      lanes = λ i inside. is.lanes i inside ∙ c.choose_if_less.ensures.lanes i inside;
-      lhs_is = c.lanes_of-a.ensures.lanes;
-      rhs_is = c.lanes_of-b.ensures.lanes;
-      same = λ p q _ _. larger_is p q;
-    })
+    larger_make_vector g.T.LaneInteger.width g.T.SimdLane.COUNT g.met.T.SimdLane.filled c.args.lhs c.args.rhs
+    c.vector_of.ensures.in_range c.lanes_of-a.ensures.lanes c.lanes_of-b.ensures.lanes
+    (λ i inside. c.vector_of.ensures.lanes i inside ∙ c.choose_if_less.ensures.lanes i inside)

@@ -1,27 +1,19 @@
-use Rattle.std.proofs.Common.{ℕ, ◌≡◌, ◌+◌, ◌*◌, ◌<◌, ◌∙◌, ap, ap₂, arith, rules, slice_index, length}
+use Rattle.std.proofs.Common.{ℕ, ◌≡◌, ◌+◌, ◌*◌, ◌<◌, ◌∙◌, ap₂, arith, rules}
 use Rattle.wasmi_types.specs.Wrapping.{w8}
 use Rattle.wasmi_lanes.specs.Lane.{lane}
-use Rattle.wasmi_lanes.proofs.LaneVectorLemmas.{lane_below}
-use Rattle.wasmi_lanewise.proofs.OneLaneLemmas.{IsByteAt, first_four_bytes, joined_halves}
+use Rattle.wasmi_lanewise.proofs.OneLaneLemmas.{IsByteAt, byte_picked, first_four_bytes, joined_halves}
 use Rattle.wasmi_lanewise.proofs.simd.variable_lane.lane_of_32.Goals as goal
 
 pub returns : goal.returns
 returns c =
     let v = c.args.vector in
     let at = c.args.at in
-    let index = c.from.ensures in
-    let inside : at < 4 = omega (arith, index.0, index.1) in
-    let long : length c.picked_inside.result ≡ 16 = search rules in
+    let inside : at < 4 = omega (arith, c.from.ensures.0, c.from.ensures.1) in
     let byte : (i k : ℕ) → i < 4 → k ≡ 4 * at + i → IsByteAt c.picked_inside.result i (lane w8 v k) =
-    λ i k below is.
-    let place : slice_index c.indices_of_32-indices.result i ≡ k =
-    omega (arith, index.0, inside, is, c.indices_of_32-indices.ensures.lanes i below) in
-    record {
-      is = c.picked_inside.ensures.lanes i (omega arith) ∙ ap (slice_index c.bytes_of.result) place
-          ∙ c.bytes_of.ensures.lanes k (omega arith);
-      fits = lane_below w8 v k;
-    } in
-    first_four_bytes c.picked_inside.result _ _ _ _ long
+    λ i k below is. byte_picked v _ _ c.picked_inside.result i k c.picked_inside.ensures.lanes c.bytes_of.ensures.lanes
+    (omega arith) (omega arith)
+    (omega (arith, c.from.ensures.0, inside, is, c.indices_of_32-indices.ensures.lanes i below)) in
+    first_four_bytes c.picked_inside.result _ _ _ _ (search rules)
     (byte 0 (2 * (2 * at)) (omega arith) (omega arith)) (byte 1 (2 * (2 * at) + 1) (omega arith) (omega arith))
     (byte 2 (2 * (2 * at + 1)) (omega arith) (omega arith)) (byte 3 (2 * (2 * at + 1) + 1) (omega arith) (omega arith))
     ∙ ap₂ (λ x y. x + 65536 * y) (joined_halves 8 v (2 * at)) (joined_halves 8 v (2 * at + 1))

@@ -8,9 +8,8 @@ pub returns : goal.returns
 unfolding binary_of_lanes
 returns g c =
     let law = g.met.T.WordLane in
-    let w = g.T.LaneInteger.width in
-    binary_by_words w (InnerLane c.INNER_TOPS-tops.result) law.whole
-    (inner_lanes w _ law.whole (c.INNER_TOPS-tops.ensures ∙ law.inner)) (λ w x y. (x + (2 ^ w - y)) % 2 ^ w)
+    binary_by_words g.T.LaneInteger.width (InnerLane c.INNER_TOPS-tops.result) law.whole
+    (inner_lanes _ _ law.whole (c.INNER_TOPS-tops.ensures ∙ law.inner)) (λ w x y. (x + (2 ^ w - y)) % 2 ^ w)
     (words_of_inverted (omega arith) c.inverted.ensures (u64x2_of c.words-a_low.ensures.low c.words-a_low.ensures.high))
     (u64x2_of c.words-b_low.ensures.low c.words-b_low.ensures.high)
     c.word_sub.type_inv c.word_sub-2.type_inv
