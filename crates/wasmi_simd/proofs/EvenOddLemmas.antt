@@ -1,18 +1,17 @@
 -- The even and the odd lanes of a vector, as std::simd takes each out of a lane of twice the width.
-use Rattle.std.proofs.Common.{ℕ, ℤ, pos, negsuc, suc, ◌+◌, ◌-◌, ◌*◌, ◌/◌, ◌%◌, ◌^◌, ◌<◌, ◌≤◌, ◌≡◌, List, length, get_or, map, replicate, refl, sym, ◌∙◌, ap, ap₂, arith, inl, inr, Bool, true, false, ltb, leb, bit_and}
+use Rattle.std.proofs.Common.{ℕ, ℤ, pos, negsuc, suc, ◌+◌, ◌-◌, ◌*◌, ◌/◌, ◌%◌, ◌^◌, ◌<◌, ◌≤◌, ◌≡◌, List, length, get_or, map, replicate, sym, subst, ◌∙◌, ap, ap₂, arith, suc-mul, add-mul, mul_assoc, le_refl, inl, inr, Bool, true, false, ltb, bit_and}
 use Rattle.std.proofs.lemmas.Bool.{cases_lt, lt-ltb, le-ltb}
 use Rattle.std.proofs.lemmas.List.{length-map}
-use Rattle.std.proofs.lemmas.Nat.{pow_pos, and_mask, mod-pow-add, shr-shr, div-mul-add, mod-mul-add}
+use Rattle.std.proofs.lemmas.Nat.{pow_pos, and_mask, mod-pow-add, shr-shr, div-mul-add, mod-mul-add, pow-add, mul-le, shr_below, shl_below}
 use Rattle.std.proofs.lemmas.Simd.{get_or-zip2, get_or-replicate, length-replicate, length-zip2}
 use Rattle.std.specs.Int.{cast_unsigned, cast_signed}
 use Rattle.std.specs.Int.Signed.{shr_z}
 use Rattle.std.specs.Simd.Lanes.{digits_l, number_l, zip2}
-use Rattle.wasmi_types.specs.Wrapping.{Width, w8, w16, w32, bits}
+use Rattle.wasmi_types.specs.Wrapping.{Width, bits}
 use Rattle.wasmi_lanes.specs.Lane.{lane}
 use Rattle.wasmi_lanes.proofs.LaneVectorLemmas.{lane_below}
 use Rattle.wasmi_simd.proofs.HalfLemmas.{AreSignedLanes, bits_at, reread}
-use Rattle.wasmi_simd.proofs.WideningLemmas.{extended_fits}
-use lib.Dec.{T}
+use Rattle.wasmi_simd.proofs.WideningLemmas.{IsWidening, extended_fits}
 use mir.Val.{hbits, sel}
 
 -- ---- lanes and one number
@@ -53,42 +52,48 @@ shifted_is narrow wide v high sign up down =
     by_sign true = ap pos up
     by_sign false = ap negsuc down
 
--- a number of `wide` bits of two halves: shifted to the right as a signed number, and to the left
-pub record IsTwice (narrow wide : Width) : Type 0 where
-  pub twice : bits wide ≡ 2 * bits narrow
-  pub wider : T (leb (hbits narrow) (hbits wide))
-  pub upper : (high low : ℕ) → high < 2 ^ bits narrow → low < 2 ^ bits narrow
-      → shr_z (cast_signed wide (high * 2 ^ bits narrow + low)) (2 ^ bits narrow) ≡ cast_signed narrow high
-  pub lower : (high low : ℕ) → high < 2 ^ bits narrow → low < 2 ^ bits narrow
-      → (high * 2 ^ bits narrow + low) * 2 ^ bits narrow % 2 ^ bits wide ≡ low * 2 ^ bits narrow + 0
+module _ {narrow wide : Width} {n : ℕ} (widens : IsWidening narrow wide n) (high low : ℕ)
+    (fits_high : high < 2 ^ bits narrow) (fits_low : low < 2 ^ bits narrow) where
+  -- a number of two halves, shifted to the right as a signed number, is its upper half, read signed
+  upper_signed : shr_z (cast_signed wide (high * 2 ^ bits narrow + low)) (2 ^ bits narrow) ≡ cast_signed narrow high
+  upper_signed =
+      let p : ℕ = 2 ^ bits narrow in
+      let h : ℕ = 2 ^ hbits narrow in
+      let v : ℕ = high * p + low in
+      let whole : 2 ^ bits wide ≡ p * p =
+      ap (λ k. 2 ^ k) widens.twice ∙ pow-add 2 (bits narrow) (bits narrow) in
+      let half : 2 ^ hbits wide ≡ h * p = ap (λ k. 2 ^ k) widens.half ∙ pow-add 2 (hbits narrow) (bits narrow) in
+      let quotient : v / p ≡ high = div-mul-add high p low fits_low in
+      let next : suc high * p ≡ high * p + p = suc-mul high p in
+      let rest : p * p ≡ (p - suc high) * p + suc high * p =
+      ap (λ k. k * p) (let e : p ≡ (p - suc high) + suc high = omega arith in e)
+      ∙ add-mul (p - suc high) (suc high) p in
+      let left : 2 ^ bits wide - suc v ≡ (p - suc high) * p + (p - suc low) = omega (arith, whole, rest, next) in
+      shifted_is narrow wide v high
+      (same_side v (2 ^ hbits wide) high h
+      (λ below. subst (λ q. q < h) quotient
+      (shr_below v (hbits narrow) (bits narrow) (subst (λ k. v < 2 ^ k) widens.half below)))
+      (λ above. elim (cases_lt high h) as (λ _. h ≤ high) [
+        | inl under ↦ absurd (omega (arith, half, next, mul-le (suc high) p h p (omega arith) (le_refl p)))
+        | inr over ↦ over
+      ])) quotient
+      (ap (λ k. k / p) left ∙ div-mul-add (p - suc high) p (p - suc low) (omega arith))
 
--- 16 bits are two halves of 8 bits
-pub bytes_of_u16x8 : IsTwice w8 w16
-bytes_of_u16x8 = record {
-  twice = refl;
-  wider = tt;
-  upper = λ high low fits_high fits_low.
-      shifted_is w8 w16 (high * 2 ^ 8 + low) high
-      (same_side (high * 2 ^ 8 + low) (2 ^ 15) high (2 ^ 7) (λ h. omega arith) (λ h. omega arith)) (omega arith)
-      (omega arith);
-  lower = λ high low fits_high fits_low. omega arith;
-}
-
--- 32 bits are two halves of 16 bits
-pub u16x8_of_u32x4 : IsTwice w16 w32
-u16x8_of_u32x4 = record {
-  twice = refl;
-  wider = tt;
-  upper = λ high low fits_high fits_low.
-      shifted_is w16 w32 (high * 2 ^ 16 + low) high
-      (same_side (high * 2 ^ 16 + low) (2 ^ 31) high (2 ^ 15) (λ h. omega arith) (λ h. omega arith)) (omega arith)
-      (omega arith);
-  lower = λ high low fits_high fits_low. omega arith;
-}
+  -- shifted to the left, it is its lower half in the place of the upper one
+  lower_shifted : (high * 2 ^ bits narrow + low) * 2 ^ bits narrow % 2 ^ bits wide ≡ low * 2 ^ bits narrow + 0
+  lower_shifted =
+      let p : ℕ = 2 ^ bits narrow in
+      let whole : 2 ^ bits wide ≡ p * p =
+      ap (λ k. 2 ^ k) widens.twice ∙ pow-add 2 (bits narrow) (bits narrow) in
+      let small : low * p < p * p =
+      subst (λ k. low * p < k) (pow-add 2 (bits narrow) (bits narrow))
+      (shl_below low (bits narrow) (bits narrow) fits_low) in
+      ap₂ (λ k m. k % m) (add-mul (high * p) low p ∙ ap (λ k. k + low * p) (mul_assoc high p p)) whole
+      ∙ mod-mul-add high (p * p) (low * p) small ∙ omega arith
 
 -- ---- the even and the odd lanes of a vector
 
-module _ (narrow wide : Width) (is_twice : IsTwice narrow wide) (n v : ℕ) (filled : n * bits wide ≡ 128) where
+module _ {narrow wide : Width} {n : ℕ} (widens : IsWidening narrow wide n) (v : ℕ) where
   abbrev even : ℕ → ℕ
   even i = lane narrow v (2 * i)
 
@@ -99,10 +104,9 @@ module _ (narrow wide : Width) (is_twice : IsTwice narrow wide) (n v : ℕ) (fil
   pub pair_is : (i : ℕ) → lane wide v i ≡ odd i * 2 ^ bits narrow + even i
   pair_is i =
       let b = bits narrow in
-      let from : bits wide * i ≡ b * (2 * i) = ap (λ k. k * i) is_twice.twice ∙ grind arith in
+      let from : bits wide * i ≡ b * (2 * i) = ap (λ k. k * i) widens.twice ∙ grind arith in
       let next : b * (2 * i) + b ≡ b * (2 * i + 1) = grind arith in
-      let whole : bits wide ≡ b + b = omega (arith, is_twice.twice) in
-      ap₂ (λ k m. v / 2 ^ k % 2 ^ m) from whole
+      ap₂ (λ k m. v / 2 ^ k % 2 ^ m) from widens.twice
       ∙ mod-pow-add (v / 2 ^ (b * (2 * i))) b b
       ∙ ap (λ m. m % 2 ^ b * 2 ^ b + even i) (shr-shr v (b * (2 * i)) b ∙ ap (λ k. v / 2 ^ k) next)
 
@@ -148,14 +152,15 @@ module _ (narrow wide : Width) (is_twice : IsTwice narrow wide) (n v : ℕ) (fil
         (digits_l 256 16 (number_l (2 ^ bits wide) (zip2 shifted_right words (replicate n (bits narrow))))))) i 0
         ≡ cast_unsigned wide (cast_signed narrow (odd i))
     odd_signed_at i inside =
-        reread wide n (zip2 shifted_right words (replicate n (bits narrow))) (λ k. cast_signed narrow (odd k)) i filled
+        reread wide n (zip2 shifted_right words (replicate n (bits narrow)))
+        (λ k. cast_signed narrow (odd k)) i widens.filled
         (number_long shifted_right n (bits narrow) words words_long)
         (λ k below.
         number_at shifted_right n (bits narrow) k words words_long below
         ∙ ap (λ m. shifted_right m (bits narrow)) (word_is k below)
         ∙ ap (cast_unsigned wide)
-        (is_twice.upper (odd k) (even k) (lane_below narrow v (2 * k + 1)) (lane_below narrow v (2 * k))))
-        (λ k. extended_fits narrow wide v (2 * k + 1) is_twice.wider) inside
+        (upper_signed widens (odd k) (even k) (lane_below narrow v (2 * k + 1)) (lane_below narrow v (2 * k))))
+        (λ k. extended_fits narrow wide v (2 * k + 1) widens.wider) inside
 
     -- lane i, shifted to the left before, is the even narrow lane, extended with its sign
     pub even_signed_at : (i : ℕ) → i < n
@@ -169,13 +174,15 @@ module _ (narrow wide : Width) (is_twice : IsTwice narrow wide) (n v : ℕ) (fil
     even_signed_at i inside =
         let lefts = zip2 shifted_left words (replicate n (bits narrow)) in
         let lefts_long = number_long shifted_left n (bits narrow) words words_long in
-        reread wide n (zip2 shifted_right lefts (replicate n (bits narrow))) (λ k. cast_signed narrow (even k)) i filled
+        reread wide n (zip2 shifted_right lefts (replicate n (bits narrow)))
+        (λ k. cast_signed narrow (even k)) i widens.filled
         (number_long shifted_right n (bits narrow) lefts lefts_long)
         (λ k below.
         number_at shifted_right n (bits narrow) k lefts lefts_long below
         ∙ ap (λ m. shifted_right m (bits narrow))
         (number_at shifted_left n (bits narrow) k words words_long below
         ∙ ap (λ m. shifted_left m (bits narrow)) (word_is k below)
-        ∙ is_twice.lower (odd k) (even k) (lane_below narrow v (2 * k + 1)) (lane_below narrow v (2 * k)))
-        ∙ ap (cast_unsigned wide) (is_twice.upper (even k) 0 (lane_below narrow v (2 * k)) (pow_pos (bits narrow))))
-        (λ k. extended_fits narrow wide v (2 * k) is_twice.wider) inside
+        ∙ lower_shifted widens (odd k) (even k) (lane_below narrow v (2 * k + 1)) (lane_below narrow v (2 * k)))
+        ∙ ap (cast_unsigned wide)
+        (upper_signed widens (even k) 0 (lane_below narrow v (2 * k)) (pow_pos (bits narrow))))
+        (λ k. extended_fits narrow wide v (2 * k) widens.wider) inside

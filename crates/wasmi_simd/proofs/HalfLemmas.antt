@@ -1,6 +1,6 @@
 -- The lanes of half a vector, as std::simd takes, extends and multiplies them.
-use Rattle.std.proofs.Common.{ℕ, suc, ℤ, pos, negsuc, ◌*ℤ◌, Bool, true, false, ltb, bit_xor, replicate, ◌+◌, ◌-◌, ◌*◌, ◌%◌, ◌^◌, ◌<◌, ◌≤◌, ◌≡◌, ◌⊎◌, inl, inr, List, ◌++◌, length, get_or, map, leb, refl, sym, subst, ◌∙◌, ap, ap₂, arith, FitsSigned}
-use Rattle.std.proofs.Math.Nat.{mod-eq_of_lt, mul-le-mul}
+use Rattle.std.proofs.Common.{ℕ, suc, ℤ, pos, negsuc, ◌*ℤ◌, Bool, true, false, ltb, bit_xor, replicate, ◌+◌, ◌-◌, ◌*◌, ◌%◌, ◌^◌, ◌<◌, ◌≤◌, ◌≡◌, ◌⊎◌, inl, inr, List, ◌++◌, length, get_or, map, refl, sym, subst, ◌∙◌, ap, ap₂, arith, FitsSigned}
+use Rattle.std.proofs.Math.Nat.{mod-eq_of_lt}
 use Rattle.std.proofs.lemmas.Simd.{pick_l_left, pick_l-range_with_len, get_or-chunk, length-zip2, get_or-zip2, get_or-replicate}
 use Rattle.std.specs.List.{range_with_len}
 use Rattle.std.proofs.lemmas.Bool.{cases_lt, ltb-true, ltb-false}
@@ -11,15 +11,15 @@ use Rattle.std.proofs.lemmas.Nat.{pow_pos}
 use Rattle.std.specs.Int.{cast_unsigned, cast_signed}
 use Rattle.std.specs.Simd.Lanes.{digits_l, number_l, zip2}
 use Rattle.wasmi_types.specs.Wrapping.{Width, w8, w16, bits, signed, wrap}
-use Rattle.wasmi_lanes.specs.Lane.{lane}
-use Rattle.wasmi_lanes.proofs.DigitLemmas.{digit_at, written_at}
+use Rattle.wasmi_lanes.specs.Lane.{lane, unsigned}
+use Rattle.wasmi_lanes.proofs.DigitLemmas.{digit_at, read_at, written_at}
 use Rattle.wasmi_lanes.proofs.TopLemmas.{xor_top}
 use Rattle.wasmi_lanes.proofs.LaneVectorLemmas.{lane_below, lanes_make_vector}
 use Rattle.wasmi_simd.specs.Widening.{half_unary, half_binary}
-use Rattle.wasmi_simd.proofs.WideningLemmas.{extended_fits, wrapped_is, product_of_bits}
+use Rattle.wasmi_simd.proofs.WideningLemmas.{IsWidening, extended_fits, wrapped_is, product_of_bits, product_below}
 use lib.Dec.{T}
 use lib.Lanes.{pick_l, all_below}
-use mir.Val.{hbits, sel}
+use mir.Val.{sel}
 use mir.ValLaws.{of_z_fits}
 
 -- neighbouring items, picked from a list and a copy of it
@@ -31,12 +31,6 @@ extracted_at xs n first count i long inside room below =
     (pick_l_left 0 xs xs n (range_with_len first count) long inside
     ∙ pick_l-range_with_len 0 xs first count (omega arith))
     ∙ get_or-chunk first count xs i 0 below
-
--- the product of x and y modulo m, where they are at most p
-pub product_at : (x y x' y' p m : ℕ) → x ≡ x' → y ≡ y' → x' ≤ p → y' ≤ p → p * p < m → x * y % m ≡ x' * y'
-product_at x y x' y' p m is_x is_y small_x small_y room =
-    let bound : x' * y' ≤ p * p = mul-le-mul small_x small_y in
-    ap₂ (λ a b. a * b % m) is_x is_y ∙ mod-eq_of_lt (omega arith)
 
 -- the bits of a lane that was read signed
 pub bits_at : (w : Width) (n i word : ℕ) (xs : List ℤ) → length xs ≡ n → i < n
@@ -65,73 +59,106 @@ pub record AreSignedLanes (w : Width) (n v : ℕ) (xs : List ℤ) : Type 0 where
   pub long : length xs ≡ n
   pub lanes : (i : ℕ) → i < n → get_or xs i (pos 0) ≡ cast_signed w (lane w v i)
 
--- the narrow lanes from `first` on, `count` of the n, fill a vector when they are extended
-pub record IsHalf (narrow wide : Width) (n first count : ℕ) : Type 0 where
-  pub filled : count * bits wide ≡ 128
-  pub inside : T (all_below n (range_with_len first count))
-  pub room : first + count ≤ n
-  pub wider : T (leb (hbits narrow) (hbits wide))
+-- lane i of the half that begins with lane `first` is lane `at i`
+pub record IsHalf (first : ℕ) (at : ℕ → ℕ) : Type 0 where
+  pub place : (i : ℕ) → at i ≡ first + i
 
--- the lanes of half a vector, read signed and extended
-pub extended_at : (narrow wide : Width) (n first count v : ℕ) (xs : List ℤ) (i : ℕ) → AreSignedLanes narrow n v xs
-    → IsHalf narrow wide n first count
-    → i < count
-    → get_or (digits_l (2 ^ bits wide) count
-    (number_l 256
-    (digits_l 256 16
-    (number_l (2 ^ bits wide)
-    (map (λ m. cast_unsigned wide (cast_signed narrow m))
-    (pick_l 0 (map (cast_unsigned narrow) xs ++ map (cast_unsigned narrow) xs) (range_with_len first count))))))) i
-    0
-    ≡ cast_unsigned wide (cast_signed narrow (lane narrow v (first + i)))
-extended_at narrow wide n first count v xs i of_v half below =
-    let room : first + count ≤ n = half.room in
-    let extend = λ (m : ℕ). cast_unsigned wide (cast_signed narrow m) in
-    let words = map (cast_unsigned narrow) xs in
-    let words_long : length words ≡ n = length-map xs (cast_unsigned narrow) ∙ of_v.long in
-    let picked = pick_l 0 (words ++ words) (range_with_len first count) in
-    let picked_long : length picked ≡ count =
-    length-map (range_with_len first count) (λ k. get_or (words ++ words) k 0)
-    ∙ length-range_with_len first count in
-    reread wide count (map extend picked) (λ k. cast_signed narrow (lane narrow v (first + k))) i half.filled
-    (length-map picked extend ∙ picked_long)
-    (λ k fits.
-    get_or-map extend picked k 0 0 (omega arith)
-    ∙ ap extend (extracted_at words n first count k words_long half.inside room fits
-    ∙ bits_at narrow n (first + k) (lane narrow v (first + k)) xs of_v.long (omega arith)
-    (of_v.lanes (first + k) (omega arith))
-    (lane_below narrow v (first + k))))
-    (λ k. extended_fits narrow wide v (first + k) half.wider) below
+-- the lower half begins with lane 0
+pub lower : IsHalf 0 (λ i. i)
+lower = record { place = λ i. omega arith }
 
--- a vector whose lanes are the bits of narrow lanes that were read signed, or of their products, is its row
-module _ (narrow wide : Width) (n first r : ℕ) (at : ℕ → ℕ) (filled : n * bits wide ≡ 128)
-    (wider : T (leb (hbits narrow) (hbits wide))) (below : r < 2 ^ 128) (place : (i : ℕ) → at i ≡ first + i) where
-  -- the bits of narrow lanes that were read signed make the vector of these lanes, extended
-  pub extended_make_vector : (v : ℕ)
-      → ((i : ℕ) → i < n → lane wide r i ≡ cast_unsigned wide (signed narrow (lane narrow v (at i))))
-      → r ≡ half_unary narrow wide first (signed narrow) (wrap wide) v
-  unfolding half_unary
-  extended_make_vector v is =
-      lanes_make_vector wide n r _ filled below
-      (λ i inside.
-      is i inside ∙ sym
-      (wrapped_is wide (signed narrow (lane narrow v (at i))) (extended_fits narrow wide v (at i) wider))
-      ∙ ap (λ k. wrap wide (signed narrow (lane narrow v k))) (place i))
+-- the upper half begins with lane n, where each half has n lanes
+pub upper : (n : ℕ) → IsHalf n (λ i. n + i)
+upper n = record { place = λ i. refl }
 
-  -- the products of two operands' narrow lanes that were read signed make the vector of these products
-  pub products_make_vector : (a b : ℕ) (x y : ℕ → ℕ)
-      → ((i : ℕ) → i < n → lane wide r i ≡ x i * y i % 2 ^ bits wide)
-      → ((i : ℕ) → i < n → x i ≡ cast_unsigned wide (signed narrow (lane narrow a (at i))))
-      → ((i : ℕ) → i < n → y i ≡ cast_unsigned wide (signed narrow (lane narrow b (at i))))
-      → r ≡ half_binary narrow wide first (signed narrow) (λ p q. wrap wide (p *ℤ q)) a b
-  unfolding half_binary
-  products_make_vector a b x y is is_x is_y =
-      lanes_make_vector wide n r _ filled below
-      (λ i inside.
-      is i inside ∙ ap₂ (λ p q. p * q % 2 ^ bits wide) (is_x i inside) (is_y i inside)
-      ∙ product_of_bits wide (signed narrow (lane narrow a (at i))) (signed narrow (lane narrow b (at i)))
-      (extended_fits narrow wide a (at i) wider) (extended_fits narrow wide b (at i) wider)
-      ∙ ap (λ k. wrap wide (signed narrow (lane narrow a k) *ℤ signed narrow (lane narrow b k))) (place i))
+-- lanes, read signed from the bytes of a vector
+pub signed_read_at : (w : Width) (n v : ℕ) (bytes : List ℕ) → length (digits_l (2 ^ bits w) n (number_l 256 bytes)) ≡ n
+    → number_l 256 bytes ≡ v → (i : ℕ) → i < n
+    → get_or (map (signed w) (digits_l (2 ^ bits w) n (number_l 256 bytes))) i (pos 0) ≡ signed w (lane w v i)
+signed_read_at w n v bytes long is i inside =
+    get_or-map (signed w) (digits_l (2 ^ bits w) n (number_l 256 bytes)) i 0 (pos 0) (omega arith)
+    ∙ ap (signed w) (read_at (bits w) n v bytes i 0 inside is)
+
+module _ {narrow wide : Width} {n first : ℕ} {at : ℕ → ℕ} (widens : IsWidening narrow wide n)
+    (half : IsHalf first at) where
+  -- the lanes of half a vector of `all` narrow lanes, read signed and extended
+  pub extended_at : (all : ℕ) → T (all_below all (range_with_len first n)) → first + n ≤ all
+      → (v : ℕ) (xs : List ℤ) → AreSignedLanes narrow all v xs
+      → (i : ℕ) → i < n
+      → get_or (digits_l (2 ^ bits wide) n
+      (number_l 256
+      (digits_l 256 16
+      (number_l (2 ^ bits wide)
+      (map (λ m. cast_unsigned wide (cast_signed narrow m))
+      (pick_l 0 (map (cast_unsigned narrow) xs ++ map (cast_unsigned narrow) xs) (range_with_len first n))))))) i
+      0
+      ≡ cast_unsigned wide (cast_signed narrow (lane narrow v (at i)))
+  extended_at all inside room v xs of_v i below =
+      let extend = λ (m : ℕ). cast_unsigned wide (cast_signed narrow m) in
+      let words = map (cast_unsigned narrow) xs in
+      let words_long : length words ≡ all = length-map xs (cast_unsigned narrow) ∙ of_v.long in
+      let picked = pick_l 0 (words ++ words) (range_with_len first n) in
+      let picked_long : length picked ≡ n =
+      length-map (range_with_len first n) (λ k. get_or (words ++ words) k 0)
+      ∙ length-range_with_len first n in
+      reread wide n (map extend picked) (λ k. cast_signed narrow (lane narrow v (first + k))) i widens.filled
+      (length-map picked extend ∙ picked_long)
+      (λ k fits.
+      get_or-map extend picked k 0 0 (omega arith)
+      ∙ ap extend (extracted_at words all first n k words_long inside room fits
+      ∙ bits_at narrow all (first + k) (lane narrow v (first + k)) xs of_v.long (omega arith)
+      (of_v.lanes (first + k) (omega arith))
+      (lane_below narrow v (first + k))))
+      (λ k. extended_fits narrow wide v (first + k) widens.wider) below
+      ∙ ap (λ k. extend (lane narrow v k)) (sym (half.place i))
+
+  module _ {r : ℕ} (below : r < 2 ^ 128) where
+    -- the narrow lanes of half a vector make the vector of these lanes
+    pub half_makes_vector : (v : ℕ) → ((i : ℕ) → i < n → lane wide r i ≡ lane narrow v (at i))
+        → r ≡ half_unary narrow wide first unsigned (λ m. m) v
+    unfolding half_unary
+    half_makes_vector v is =
+        lanes_make_vector wide n r _ widens.filled below
+        (λ i inside. is i inside ∙ ap (lane narrow v) (half.place i))
+
+    -- the bits of narrow lanes that were read signed make the vector of these lanes, extended
+    pub extended_make_vector : (v : ℕ)
+        → ((i : ℕ) → i < n → lane wide r i ≡ cast_unsigned wide (signed narrow (lane narrow v (at i))))
+        → r ≡ half_unary narrow wide first (signed narrow) (wrap wide) v
+    unfolding half_unary
+    extended_make_vector v is =
+        lanes_make_vector wide n r _ widens.filled below
+        (λ i inside.
+        is i inside ∙ sym
+        (wrapped_is wide (signed narrow (lane narrow v (at i))) (extended_fits narrow wide v (at i) widens.wider))
+        ∙ ap (λ k. wrap wide (signed narrow (lane narrow v k))) (half.place i))
+
+    module _ (a b : ℕ) {x y : ℕ → ℕ} (is : (i : ℕ) → i < n → lane wide r i ≡ x i * y i % 2 ^ bits wide) where
+      -- the products of two operands' narrow lanes make the vector of these products
+      pub products_make_vector : ((i : ℕ) → i < n → x i ≡ lane narrow a (at i))
+          → ((i : ℕ) → i < n → y i ≡ lane narrow b (at i))
+          → r ≡ half_binary narrow wide first unsigned (λ p q. p * q) a b
+      unfolding half_binary
+      products_make_vector is_x is_y =
+          lanes_make_vector wide n r _ widens.filled below
+          (λ i inside.
+          is i inside ∙ ap₂ (λ p q. p * q % 2 ^ bits wide) (is_x i inside) (is_y i inside)
+          ∙ mod-eq_of_lt (product_below widens (lane_below narrow a (at i)) (lane_below narrow b (at i)))
+          ∙ ap (λ k. lane narrow a k * lane narrow b k) (half.place i))
+
+      -- and so where the lanes were read signed
+      pub signed_products_make_vector :
+          ((i : ℕ) → i < n → x i ≡ cast_unsigned wide (signed narrow (lane narrow a (at i))))
+          → ((i : ℕ) → i < n → y i ≡ cast_unsigned wide (signed narrow (lane narrow b (at i))))
+          → r ≡ half_binary narrow wide first (signed narrow) (λ p q. wrap wide (p *ℤ q)) a b
+      unfolding half_binary
+      signed_products_make_vector is_x is_y =
+          lanes_make_vector wide n r _ widens.filled below
+          (λ i inside.
+          is i inside ∙ ap₂ (λ p q. p * q % 2 ^ bits wide) (is_x i inside) (is_y i inside)
+          ∙ product_of_bits wide (signed narrow (lane narrow a (at i))) (signed narrow (lane narrow b (at i)))
+          (extended_fits narrow wide a (at i) widens.wider) (extended_fits narrow wide b (at i) widens.wider)
+          ∙ ap (λ k. wrap wide (signed narrow (lane narrow a k) *ℤ signed narrow (lane narrow b k))) (half.place i))
 
 -- a number of 8 bits with its highest bit flipped and taken off again, at 16 bits
 flipped_is : (x : ℕ) → x < 256 → (bit_xor x 128 + (65536 - 128)) % 65536 ≡ cast_unsigned w16 (signed w8 x)

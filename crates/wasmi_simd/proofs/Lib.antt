@@ -3,5 +3,6 @@ mod GatherLemmas
 mod HalfLemmas
 mod LaneLemmas
 mod EvenOddLemmas
+mod PairwiseLemmas
 mod ShiftLemmas
 mod ReductionLemmas

@@ -156,11 +156,17 @@ top_of_borrow h (suc x) fits =
     ] in
     ap (λ n. bit_and (bit_and n rest) (2 ^ h)) less ∙ clear ∙ sym (ap (λ t. if t then 2 ^ h else 0) (eqb-suc-zero x))
 
+-- v has n lanes of h + 1 bits, in each of which `ones` has a 1, and `tops` the highest bit alone
+record IsZeroTest (h n v ones tops : ℕ) : Type 0 where
+  whole : n * suc h ≡ 64
+  fits : v < 2 ^ 64
+  fits_ones : ones < 2 ^ 64
+  each_one : (i : ℕ) → i < n → field (suc h * i) (suc h) ones ≡ 1
+  each_top : (i : ℕ) → i < n → field (suc h * i) (suc h) tops ≡ 2 ^ h
+
 -- a mark stands in the lowest lane that is 0, and none where no lane is 0: nothing is borrowed from a lane below which
 -- there is no 0
-module _ (h n v ones tops : ℕ) (whole : n * suc h ≡ 64) (fits : v < 2 ^ 64) (fits_ones : ones < 2 ^ 64)
-    (each_one : (i : ℕ) → i < n → field (suc h * i) (suc h) ones ≡ 1)
-    (each_top : (i : ℕ) → i < n → field (suc h * i) (suc h) tops ≡ 2 ^ h) where
+module _ (h n v ones tops : ℕ) (given : IsZeroTest h n v ones tops) where
   abbrev is_some : ℕ → Bool
   is_some i = not (nat_eq (field (suc h * i) (suc h) v) 0)
 
@@ -172,7 +178,7 @@ module _ (h n v ones tops : ℕ) (whole : n * suc h ≡ 64) (fits : v < 2 ^ 64) 
   lane_inside i inside =
       omega (
         arith,
-        whole,
+        given.whole,
         mul-le (suc i) (suc h) n (suc h) (omega arith) (le_refl (suc h)),
         suc-mul i (suc h),
         mul_comm i (suc h),
@@ -197,7 +203,7 @@ module _ (h n v ones tops : ℕ) (whole : n * suc h ≡ 64) (fits : v < 2 ^ 64) 
       let low : ones % p ≤ v % p = enough_below i (omega arith) (λ j below. some j (omega arith)) in
       let here : 1 ≤ x = some_there x (some i (omega arith)) in
       let rows : 1 * p ≤ x * p = mul-le 1 p x p here (le_refl p) in
-      let one : ones / p % 2 ^ suc h ≡ 1 = each_one i (omega arith) in
+      let one : ones / p % 2 ^ suc h ≡ 1 = given.each_one i (omega arith) in
       let left : ones % 2 ^ (suc h + b) ≡ 1 * p + ones % p =
       mod-pow-add ones (suc h) b ∙ ap (λ k. k * p + ones % p) one in
       subst (λ k. ones % 2 ^ k ≤ v % 2 ^ k) (sym next) (omega (arith, left, mod-pow-add v (suc h) b))
@@ -211,11 +217,12 @@ module _ (h n v ones tops : ℕ) (whole : n * suc h ≡ 64) (fits : v < 2 ^ 64) 
       let less : ℕ = (v + (2 ^ 64 - ones)) % 2 ^ 64 in
       let rest : ℕ = 2 ^ 64 - 1 - v in
       let borrowed : field k w less ≡ (field k w v + (2 ^ w - 1)) % 2 ^ w =
-      field_wrapping_sub k w 64 v ones (lane_inside i inside) fits_ones (enough_below i inside some)
-      ∙ ap (λ m. (field k w v + (2 ^ w - m)) % 2 ^ w) (each_one i inside) in
+      field_wrapping_sub k w 64 v ones (lane_inside i inside) given.fits_ones (enough_below i inside some)
+      ∙ ap (λ m. (field k w v + (2 ^ w - m)) % 2 ^ w) (given.each_one i inside) in
       field_and k w (bit_and less rest) tops
-      ∙ ap₂ bit_and (field_and k w less rest ∙ ap₂ bit_and borrowed (field_not k w 64 v (lane_inside i inside) fits))
-      (each_top i inside)
+      ∙ ap₂ bit_and
+      (field_and k w less rest ∙ ap₂ bit_and borrowed (field_not k w 64 v (lane_inside i inside) given.fits))
+      (given.each_top i inside)
       ∙ top_of_borrow h (field k w v) (field_lt k w v)
 
   -- a lane without mark isn't 0
@@ -242,9 +249,9 @@ module _ (h n v ones tops : ℕ) (whole : n * suc h ≡ 64) (fits : v < 2 ^ 64) 
   no_zero_marked (suc t) is = ap (λ b. if b then 2 ^ h else 0) (eqb-suc-zero t)
 
   -- there is no mark where no lane is 0, and only there
-  pub no_mark_is : tops < 2 ^ 64 → eqb marks 0 ≡ holds_below n is_some
+  no_mark_is : tops < 2 ^ 64 → eqb marks 0 ≡ holds_below n is_some
   no_mark_is fits_tops =
-      let all_bits : 64 ≡ n * suc h = sym whole in
+      let all_bits : 64 ≡ n * suc h = sym given.whole in
       let below : marks < 2 ^ 64 =
       omega (arith, and_le_r (bit_and ((v + (2 ^ 64 - ones)) % 2 ^ 64) (2 ^ 64 - 1 - v)) tops) in
       same_test (eqb marks 0) (holds_below n is_some)
@@ -264,8 +271,15 @@ no_mark_at : (b n v ones tops : ℕ) → 0 < b → n * b ≡ 64 → v < 2 ^ 64 �
 no_mark_at zero n v ones tops pos whole fits fits_ones fits_tops each_one each_top = absurd (omega arith)
 no_mark_at (suc h) n v ones tops pos whole fits fits_ones fits_tops each_one each_top =
     let back : suc h - 1 ≡ h = omega arith in
-    no_mark_is h n v ones tops whole fits fits_ones each_one
-    (λ i inside. each_top i inside ∙ ap (λ k. 2 ^ k) back) fits_tops
+    no_mark_is h n v ones tops
+    (record {
+      whole = whole;
+      fits = fits;
+      fits_ones = fits_ones;
+      each_one = each_one;
+      each_top = λ i inside. each_top i inside ∙ ap (λ k. 2 ^ k) back;
+    })
+    fits_tops
 
 -- no lane of w bits of v is 0
 pub no_mark_in_word : (w : Width) (v ones tops : ℕ) → lanes_in_word w * bits w ≡ 64 → v < 2 ^ 64 → ones < 2 ^ 64
@@ -279,6 +293,16 @@ no_mark_in_word w v ones tops whole fits fits_ones fits_tops is_ones is_tops =
     (lane_of_each w (2 ^ (bits w - 1)) tops (top_in_range (bits w) (some_bits w)) is_tops)
 
 module _ (w : Width) (whole : lanes_in_word w * bits w ≡ 64) (v low high : ℕ) (words : AreWords v low high) where
+  -- a test of a lane of the low word is that of the same lane of the vector
+  low_test : (test : ℕ → Bool) (i : ℕ) → i < lanes_in_word w
+      → test (field (bits w * i) (bits w) low) ≡ test (lane w v i)
+  low_test test i inside = ap test (ap (field (bits w * i) (bits w)) words.low_is ∙ sym (low_lane w whole v i inside))
+
+  -- a test of a lane of the high word is that of a lane of the vector, after those of the low word
+  high_test : (test : ℕ → Bool) (i : ℕ) → i < lanes_in_word w
+      → test (field (bits w * i) (bits w) high) ≡ test (lane w v (lanes_in_word w + i))
+  high_test test i _ = ap test (ap (field (bits w * i) (bits w)) words.high_is ∙ sym (high_lane w whole v i))
+
   -- a test of all lanes
   pub every_lane_of_words : (test : ℕ → Bool)
       → (holds_below (lanes_in_word w) (λ i. test (field (bits w * i) (bits w) low)) && holds_below (lanes_in_word w)
@@ -288,10 +312,8 @@ module _ (w : Width) (whole : lanes_in_word w * bits w ≡ 64) (v low high : ℕ
   every_lane_of_words test =
       let n : ℕ = lanes_in_word w in
       ap₂ (λ a b. a && b)
-      (holds_as n (λ i. test (field (bits w * i) (bits w) low)) (λ i. test (lane w v i))
-      (λ i inside. ap test (ap (field (bits w * i) (bits w)) words.low_is ∙ sym (low_lane w whole v i inside))))
-      (holds_as n (λ i. test (field (bits w * i) (bits w) high)) (λ i. test (lane w v (n + i)))
-      (λ i inside. ap test (ap (field (bits w * i) (bits w)) words.high_is ∙ sym (high_lane w whole v i))))
+      (holds_as n (λ i. test (field (bits w * i) (bits w) low)) (λ i. test (lane w v i)) (low_test test))
+      (holds_as n (λ i. test (field (bits w * i) (bits w) high)) (λ i. test (lane w v (n + i))) (high_test test))
       ∙ sym (holds_joined n n (λ i. test (lane w v i)))
       ∙ ap (λ k. holds_below k (λ i. test (lane w v i))) (sym (lanes_of_width w (n + n) (filled w whole)))
 
@@ -304,10 +326,8 @@ module _ (w : Width) (whole : lanes_in_word w * bits w ≡ 64) (v low high : ℕ
   bits_of_words test =
       let n : ℕ = lanes_in_word w in
       ap₂ (λ a b. a + 2 ^ n * b)
-      (bits_as n (λ i. test (field (bits w * i) (bits w) low)) (λ i. test (lane w v i))
-      (λ i inside. ap test (ap (field (bits w * i) (bits w)) words.low_is ∙ sym (low_lane w whole v i inside))))
-      (bits_as n (λ i. test (field (bits w * i) (bits w) high)) (λ i. test (lane w v (n + i)))
-      (λ i inside. ap test (ap (field (bits w * i) (bits w)) words.high_is ∙ sym (high_lane w whole v i))))
+      (bits_as n (λ i. test (field (bits w * i) (bits w) low)) (λ i. test (lane w v i)) (low_test test))
+      (bits_as n (λ i. test (field (bits w * i) (bits w) high)) (λ i. test (lane w v (n + i))) (high_test test))
       ∙ sym (bits_joined n n (λ i. test (lane w v i)))
       ∙ ap (λ k. first_bits k (λ i. test (lane w v i))) (sym (lanes_of_width w (n + n) (filled w whole)))
 

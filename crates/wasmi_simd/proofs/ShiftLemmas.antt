@@ -1,22 +1,24 @@
 -- Lanes of words that are shifted, with the bits masked that would leave their lane.
-use Rattle.std.proofs.Common.{◌≡◌, ℕ, zero, suc, ◌+◌, ◌-◌, ◌*◌, ◌/◌, ◌%◌, ◌^◌, ◌<◌, ◌≤◌, refl, inl, inr, pos, negsuc, sym, ap, ap₂, subst, ◌∙◌, arith, add-mul, mul-suc, mul-zero, mul_assoc, mul_comm, mul_right_comm, one-mul, zero-mul, suc-mul, le_refl, mod-lt, mod-eq_of_lt, bit_and, List, [], ◌∷◌, map, replicate, length, get_or}
+use Rattle.std.proofs.Common.{◌≡◌, ℕ, zero, suc, ◌+◌, ◌-◌, ◌*◌, ◌/◌, ◌%◌, ◌^◌, ◌<◌, ◌≤◌, refl, inl, inr, pos, negsuc, sym, ap, ap₂, subst, ◌∙◌, arith, add-mul, mul-suc, mul-zero, mul_assoc, mul_comm, mul_right_comm, one-mul, zero-mul, suc-mul, le_refl, mod-lt, mod-eq_of_lt, lit<, le_of_eq, bit_and, List, [], ◌∷◌, map, replicate, length, get_or}
 use Rattle.std.proofs.lemmas.Simd.{length-replicate, Each1-replicate}
 use Rattle.std.proofs.Math.Nat.{mod-one}
 use Rattle.std.proofs.lemmas.Bool.{cases_lt, lt-ltb, le-ltb}
 use Rattle.std.specs.Int.{int_shr}
 use Rattle.std.specs.Simd.Lanes.{number_l}
 use mir.Val.{sel}
-use Rattle.std.proofs.lemmas.Nat.{pow_pos, pow-add, mod-pow-add, and_mask, mul-mod_first, div-add-mod', div-mul-add, mod-mul-add, mul-le, shl_below, shr_below, shr_le}
+use Rattle.std.proofs.lemmas.Nat.{and_le_l, pow_pos, pow-add, mod-pow-add, and_mask, mul-mod_first, div-add-mod', div-mul-add, mod-mul-add, mul-le, shl_below, shr_below, shr_le}
 use Rattle.std.proofs.Math.Pow.{pow_mono}
 use Rattle.std.specs.List.{range_with_len}
 use Rattle.std.proofs.lemmas.List.FromFn.{get_or-map-range_with_len}
-use Rattle.wasmi_types.specs.Wrapping.{Width, w8, bits, signed, wrap}
-use Rattle.wasmi_lanes.specs.Lane.{lane}
+use Rattle.wasmi_types.specs.Wrapping.{Width, w8, w64, bits, signed, wrap}
+use Rattle.wasmi_lanes.specs.Lane.{lane, unsigned}
+use Rattle.wasmi_lanes.specs.Vector.{unary_of_lanes, from_lanes}
 use Rattle.wasmi_raw.specs.Vector.{vector_of}
 use Rattle.wasmi_lanes.specs.Words.{field, lanes_in_word, in_each_lane}
 use Rattle.wasmi_lanes.proofs.DigitLemmas.{number_below}
-use Rattle.wasmi_lanes.proofs.FieldLemmas.{field_and, field_mod, first_lane, repeated_lane}
-use Rattle.wasmi_lanes.proofs.WordVectorLemmas.{EachLane, lane_of_each}
+use Rattle.wasmi_lanes.proofs.FieldLemmas.{field_and, field_mod, first_lane, repeated_lane, lane_shr}
+use Rattle.wasmi_lanes.proofs.WordVectorLemmas.{EachLane, lane_of_each, u64x2_of, words_make_unary, some_bits}
+use Rattle.wasmi_simd.specs.WideningTable.{shl, shr_u}
 
 -- ---- products
 
@@ -127,11 +129,66 @@ module _ (w : Width) (d : ℕ) (less : d < bits w) where
       (ap (λ n. n / 2 ^ 64) entry ∙ div-mul-add k (2 ^ 64) k fits)
 
 -- a word is one lane of 64 bits
-pub lane_of_word : (f : ℕ → ℕ) (x y : ℕ) → x < 2 ^ 64 → y < 2 ^ 64 → y ≡ f x → (i : ℕ) → i < 1
+lane_of_word : (f : ℕ → ℕ) (x y : ℕ) → x < 2 ^ 64 → y < 2 ^ 64 → y ≡ f x → (i : ℕ) → i < 1
     → field (64 * i) 64 y ≡ f (field (64 * i) 64 x)
 lane_of_word f x y fits_x fits_y is zero inside =
     first_lane 64 y ∙ mod-eq_of_lt fits_y ∙ is ∙ ap f (sym (first_lane 64 x ∙ mod-eq_of_lt fits_x))
 lane_of_word f x y fits_x fits_y is (suc i) inside = absurd (omega arith)
+
+-- ---- vectors whose words are those of another, shifted
+
+module _ (w : Width) (whole : lanes_in_word w * bits w ≡ 64) (v amount s : ℕ) (fits : v < 2 ^ 128)
+    (is_s : s ≡ amount % bits w) where
+  -- words that are f of the operand's words, and whose lanes are a row of the operand's, make the vector of this row
+  words_shifted : {r : ℕ} (f : ℕ → ℕ) (row : ℕ → ℕ → ℕ) → ((x : ℕ) → x < 2 ^ 64 → f x < 2 ^ 64)
+      → ((x : ℕ) → x < 2 ^ 64 → EachLane w (λ k. field k (bits w) (f x) ≡ row s (field k (bits w) x)))
+      → r ≡ vector_of (f (v % 2 ^ 64)) (f (v / 2 ^ 64)) → r ≡ unary_of_lanes w unsigned (row (amount % bits w)) v
+  unfolding unary_of_lanes
+  words_shifted {r} f row fits_f each is =
+      let low : ℕ = v % 2 ^ 64 in
+      let high : ℕ = v / 2 ^ 64 in
+      let fits_low : low < 2 ^ 64 = omega arith in
+      let fits_high : high < 2 ^ 64 = omega arith in
+      words_make_unary w whole (row s) v r (u64x2_of refl refl)
+      (record { low_fits = fits_f low fits_low; high_fits = fits_f high fits_high; is = is })
+      (each low fits_low) (each high fits_high)
+      ∙ ap (λ n. from_lanes w (λ i. row n (lane w v i))) is_s
+
+  -- the amount is below the width
+  amount_below : s < bits w
+  amount_below = subst (λ k. k < bits w) (sym is_s) (mod-lt amount (some_bits w))
+
+  -- words that are masked, then shifted to the left
+  pub words_shifted_left : {r : ℕ}
+      → r ≡ vector_of (bit_and (v % 2 ^ 64) (shift_masks w s) * 2 ^ s % 2 ^ 64)
+      (bit_and (v / 2 ^ 64) (shift_masks w s) * 2 ^ s % 2 ^ 64) → r ≡ shl w v amount
+  words_shifted_left is =
+      let less : s < bits w = amount_below in
+      let keep : bits w - s + s ≡ bits w = omega arith in
+      let kept : ℕ = shift_masks w s in
+      words_shifted (λ x. bit_and x kept * 2 ^ s % 2 ^ 64) (λ n x. x * 2 ^ n % 2 ^ bits w)
+      (λ x _. mod-lt (bit_and x kept * 2 ^ s) (lit< tt))
+      (λ x _. lane_shl (bits w) (lanes_in_word w) s (bits w - s) x kept (le_of_eq whole) keep (masked_lane w s less)) is
+
+  -- words that are shifted to the right, then masked
+  pub words_shifted_right : {r : ℕ}
+      → r ≡ vector_of (bit_and (v % 2 ^ 64 / 2 ^ s) (shift_masks w s)) (bit_and (v / 2 ^ 64 / 2 ^ s) (shift_masks w s))
+      → r ≡ shr_u w v amount
+  words_shifted_right is =
+      let less : s < bits w = amount_below in
+      let keep : bits w - s + s ≡ bits w = omega arith in
+      let kept : ℕ = shift_masks w s in
+      words_shifted (λ x. bit_and (x / 2 ^ s) kept) (λ n x. x / 2 ^ n)
+      (λ x below. omega (arith, and_le_l (x / 2 ^ s) kept, shr_le x s))
+      (λ x _ i inside. lane_shr (bits w) s (bits w - s) (bits w * i) x kept keep (masked_lane w s less i inside)) is
+
+-- words of one lane, each shifted whole
+pub whole_words_shifted : (v amount s : ℕ) {r : ℕ} → v < 2 ^ 128 → s ≡ amount % 64 → (row : ℕ → ℕ → ℕ)
+    → ((x : ℕ) → x < 2 ^ 64 → row s x < 2 ^ 64)
+    → r ≡ vector_of (row s (v % 2 ^ 64)) (row s (v / 2 ^ 64)) → r ≡ unary_of_lanes w64 unsigned (row (amount % 64)) v
+whole_words_shifted v amount s fits is_s row fits_row is =
+    words_shifted w64 refl v amount s fits is_s (row s) row fits_row
+    (λ x below. lane_of_word (row s) x (row s x) below (fits_row x below) refl) is
 
 -- ---- shifts with the sign
 

@@ -1,6 +1,6 @@
 -- Vectors made of lanes of another width, and what the lanes of one vector make together.
-use Rattle.std.proofs.Common.{ℕ, zero, suc, ◌+◌, ◌-◌, ◌*◌, ◌/◌, ◌%◌, ◌^◌, ◌<◌, ◌≤◌, ◌≡◌, sym, ◌∙◌, ap, ap₂, arith, inl, inr, ℤ, pos, negsuc, unsigned_abs, leb, nat_lt, if◌then◌else◌, ◌==◌, div-one, mul-zero, mul-suc, ◌+ℤ◌, ◌*ℤ◌, FitsSigned}
-use Rattle.std.proofs.lemmas.Nat.{pow_pos}
+use Rattle.std.proofs.Common.{ℕ, zero, suc, ◌+◌, ◌-◌, ◌*◌, ◌/◌, ◌%◌, ◌^◌, ◌<◌, ◌≤◌, ◌≡◌, sym, ◌∙◌, ap, ap₂, arith, inl, inr, ℤ, pos, negsuc, unsigned_abs, leb, nat_lt, if◌then◌else◌, ◌==◌, div-one, mul-zero, mul-suc, lit<, refl, subst, le_refl, pow-suc, ◌+ℤ◌, ◌*ℤ◌, FitsSigned}
+use Rattle.std.proofs.lemmas.Nat.{pow_pos, mul-le, shl_below}
 use Rattle.std.proofs.lemmas.Int.{of_z-to_z, wrapping_add_is, wrapping_mul_is, int_wrap_fits, fits_signed_mul}
 use Rattle.std.proofs.Math.Facts.{sfits_widen}
 use Rattle.std.specs.Int.{cast_unsigned, int_wrap, int_rem_euclid}
@@ -8,12 +8,33 @@ use Rattle.std.proofs.Math.Nat.{mod-eq_of_lt, mod-lt, div-eq_of_lt, zero-div}
 use Rattle.std.proofs.Math.Dec.{eqb-suc-zero}
 use Rattle.std.proofs.Math.Pow.{pow_mono}
 use Rattle.std.proofs.lemmas.Bool.{cases_lt, lt-ltb, le-ltb}
-use Rattle.wasmi_types.specs.Wrapping.{Width, bits, wrap, signed}
+use Rattle.wasmi_types.specs.Wrapping.{Width, w8, w16, w32, w64, bits, wrap, signed}
 use Rattle.wasmi_lanes.specs.Lane.{lane, signed_fits}
 use Rattle.wasmi_lanes.specs.Vector.{with_lane}
 use Rattle.wasmi_lanes.proofs.LaneVectorLemmas.{lane_below, lanes_make_vector}
+use Rattle.wasmi_lanes.proofs.WordVectorLemmas.{some_bits}
 use lib.Dec.{T}
 use mir.Val.{hbits}
+
+-- a lane of `wide` has twice the bits of one of `narrow`, and n lanes of `wide` make a vector
+pub record IsWidening (narrow wide : Width) (n : ℕ) : Type 0 where
+  pub filled : n * bits wide ≡ 128
+  pub twice : bits wide ≡ bits narrow + bits narrow
+  pub half : hbits wide ≡ hbits narrow + bits narrow
+  pub wider : T (leb (hbits narrow) (hbits wide))
+  pub room : 2 ^ hbits narrow * 2 ^ hbits narrow < 2 ^ hbits wide
+
+-- 8 lanes of 16 bits, each of two bytes
+pub bytes_widened : IsWidening w8 w16 8
+bytes_widened = record { filled = refl; twice = refl; half = refl; wider = tt; room = lit< tt }
+
+-- 4 lanes of 32 bits, each of two of 16
+pub u16x8_widened : IsWidening w16 w32 4
+u16x8_widened = record { filled = refl; twice = refl; half = refl; wider = tt; room = lit< tt }
+
+-- 2 lanes of 64 bits, each of two of 32
+pub u32x4_widened : IsWidening w32 w64 2
+u32x4_widened = record { filled = refl; twice = refl; half = refl; wider = tt; room = lit< tt }
 
 -- numbers that are `low` below n and `high` from n on
 pub by_halves : (n i : ℕ) (f low high : ℕ → ℕ) → ((k : ℕ) → k < n → f k ≡ low k)
@@ -86,6 +107,23 @@ product_fits narrow wide a i b j room =
     abs_at_most : (z : ℤ) → FitsSigned narrow z → unsigned_abs z ≤ 2 ^ hbits narrow
     abs_at_most (pos n) fits = let below = fits.sfits in omega arith
     abs_at_most (negsuc n) fits = let below = fits.sfits in omega arith
+
+module _ {narrow wide : Width} {n : ℕ} (widens : IsWidening narrow wide n) {x y : ℕ} where
+  -- the product of two numbers of the narrow width is below 2 to the power of the wide one
+  pub product_below : x < 2 ^ bits narrow → y < 2 ^ bits narrow → x * y < 2 ^ bits wide
+  product_below fits_x fits_y =
+      let b = bits narrow in
+      let rows : x * y ≤ x * 2 ^ b = mul-le x y x (2 ^ b) (le_refl x) (omega arith) in
+      let whole : x * 2 ^ b < 2 ^ bits wide =
+      subst (λ k. x * 2 ^ b < 2 ^ k) (sym widens.twice) (shl_below x b b fits_x) in
+      omega arith
+
+  -- and so is their sum
+  pub sum_below : x < 2 ^ bits narrow → y < 2 ^ bits narrow → x + y < 2 ^ bits wide
+  sum_below fits_x fits_y =
+      let b = bits narrow in
+      let more : suc b ≤ bits wide = omega (arith, widens.twice, some_bits narrow) in
+      omega (arith, pow-suc 2 b, pow_mono {i = suc b} {j = bits wide} more)
 
 -- a number of w bits is a vector that has it in lane 0, and 0 in the others
 pub low_zero_is : (w : Width) (n number : ℕ) → n * bits w ≡ 128 → number < 2 ^ bits w → number < 2 ^ 128

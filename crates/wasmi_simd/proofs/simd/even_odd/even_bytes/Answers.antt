@@ -1,9 +1,8 @@
-use Rattle.std.proofs.Common.{◌≡◌, length, refl, rules}
-use Rattle.wasmi_types.specs.Wrapping.{w8, w16}
-use Rattle.wasmi_simd.proofs.EvenOddLemmas.{bytes_of_u16x8, even_at}
+use Rattle.std.proofs.Common.{rules}
+use Rattle.wasmi_simd.proofs.WideningLemmas.{bytes_widened}
+use Rattle.wasmi_simd.proofs.EvenOddLemmas.{even_at}
 use Rattle.wasmi_simd.proofs.simd.even_odd.even_bytes.Goals as goal
 
 pub returns : goal.returns
-returns c =
-    let long : length c.u16x8_of.result ≡ 8 = search rules in
-    record { lanes = even_at w8 w16 bytes_of_u16x8 8 c.args.v refl c.u16x8_of.result long c.u16x8_of.ensures.lanes }
+returns c = record
+    { lanes = even_at bytes_widened c.args.v c.u16x8_of.result (search rules) c.u16x8_of.ensures.lanes }

@@ -1,12 +1,10 @@
-use Rattle.std.proofs.Common.{◌≡◌, length, refl, rules}
-use Rattle.wasmi_types.specs.Wrapping.{w8, w16}
-use Rattle.wasmi_simd.proofs.EvenOddLemmas.{bytes_of_u16x8, odd_signed_at}
+use Rattle.std.proofs.Common.{rules}
+use Rattle.wasmi_simd.proofs.WideningLemmas.{bytes_widened}
+use Rattle.wasmi_simd.proofs.EvenOddLemmas.{odd_signed_at}
 use Rattle.wasmi_simd.proofs.simd.even_odd.odd_bytes_signed.Goals as goal
 
 pub returns : goal.returns
-returns c =
-    let long : length c.i16x8_of.result ≡ 8 = search rules in
-    record {
-      lanes = odd_signed_at w8 w16 bytes_of_u16x8 8 c.args.v refl c.i16x8_of.result
-          (record { long = long; lanes = c.i16x8_of.ensures.lanes });
-    }
+returns c = record {
+  lanes = odd_signed_at bytes_widened c.args.v c.i16x8_of.result
+      (record { long = search rules; lanes = c.i16x8_of.ensures.lanes });
+}

@@ -1,10 +1,9 @@
-use Rattle.std.proofs.Common.{◌∙◌, refl, arith}
-use Rattle.wasmi_types.specs.Wrapping.{w8, w16}
-use Rattle.wasmi_simd.proofs.HalfLemmas.{extended_make_vector}
+use Rattle.std.proofs.Common.{◌∙◌}
+use Rattle.wasmi_simd.proofs.WideningLemmas.{bytes_widened}
+use Rattle.wasmi_simd.proofs.HalfLemmas.{lower, extended_make_vector}
 use Rattle.wasmi_simd.proofs.simd.extend.i16x8_extend_low_i8x16_s.Goals as goal
 
 pub returns : goal.returns
 returns c =
-    extended_make_vector w8 w16 8 0 c.from_u16x8.result (λ i. i) refl tt c.from_u16x8.ensures.in_range
-    (λ i. omega arith) c.args.v
+    extended_make_vector bytes_widened lower c.from_u16x8.ensures.in_range c.args.v
     (λ i inside. c.from_u16x8.ensures.lanes i inside ∙ c.low_bytes_signed.ensures.lanes i inside)

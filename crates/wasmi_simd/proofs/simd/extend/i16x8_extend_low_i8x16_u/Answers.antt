@@ -1,13 +1,9 @@
-use Rattle.std.proofs.Common.{◌∙◌, refl, ap, arith}
-use Rattle.wasmi_types.specs.Wrapping.{w8, w16}
-use Rattle.wasmi_lanes.specs.Lane.{lane}
-use Rattle.wasmi_lanes.proofs.LaneVectorLemmas.{lanes_make_vector}
-use Rattle.wasmi_simd.specs.Widening.{half_unary}
+use Rattle.std.proofs.Common.{◌∙◌}
+use Rattle.wasmi_simd.proofs.WideningLemmas.{bytes_widened}
+use Rattle.wasmi_simd.proofs.HalfLemmas.{lower, half_makes_vector}
 use Rattle.wasmi_simd.proofs.simd.extend.i16x8_extend_low_i8x16_u.Goals as goal
 
 pub returns : goal.returns
-unfolding half_unary
 returns c =
-    lanes_make_vector w16 8 c.from_u16x8.result _ refl c.from_u16x8.ensures.in_range
-    (λ i below. c.from_u16x8.ensures.lanes i below ∙ c.low_bytes.ensures.lanes i below
-    ∙ ap (lane w8 c.args.v) (omega arith))
+    half_makes_vector bytes_widened lower c.from_u16x8.ensures.in_range c.args.v
+    (λ i inside. c.from_u16x8.ensures.lanes i inside ∙ c.low_bytes.ensures.lanes i inside)

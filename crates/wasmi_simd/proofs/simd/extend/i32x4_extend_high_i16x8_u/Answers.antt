@@ -1,11 +1,9 @@
-use Rattle.std.proofs.Common.{◌∙◌, refl}
-use Rattle.wasmi_types.specs.Wrapping.{w32}
-use Rattle.wasmi_lanes.proofs.LaneVectorLemmas.{lanes_make_vector}
-use Rattle.wasmi_simd.specs.Widening.{half_unary}
+use Rattle.std.proofs.Common.{◌∙◌}
+use Rattle.wasmi_simd.proofs.WideningLemmas.{u16x8_widened}
+use Rattle.wasmi_simd.proofs.HalfLemmas.{upper, half_makes_vector}
 use Rattle.wasmi_simd.proofs.simd.extend.i32x4_extend_high_i16x8_u.Goals as goal
 
 pub returns : goal.returns
-unfolding half_unary
 returns c =
-    lanes_make_vector w32 4 c.from_u32x4.result _ refl c.from_u32x4.ensures.in_range
-    (λ i below. c.from_u32x4.ensures.lanes i below ∙ c.high_u16x8.ensures.lanes i below)
+    half_makes_vector u16x8_widened (upper 4) c.from_u32x4.ensures.in_range c.args.v
+    (λ i inside. c.from_u32x4.ensures.lanes i inside ∙ c.high_u16x8.ensures.lanes i inside)

@@ -1,10 +1,9 @@
-use Rattle.std.proofs.Common.{◌∙◌, refl, arith}
-use Rattle.wasmi_types.specs.Wrapping.{w32, w64}
-use Rattle.wasmi_simd.proofs.HalfLemmas.{extended_make_vector}
+use Rattle.std.proofs.Common.{◌∙◌}
+use Rattle.wasmi_simd.proofs.WideningLemmas.{u32x4_widened}
+use Rattle.wasmi_simd.proofs.HalfLemmas.{lower, extended_make_vector}
 use Rattle.wasmi_simd.proofs.simd.extend.i64x2_extend_low_i32x4_s.Goals as goal
 
 pub returns : goal.returns
 returns c =
-    extended_make_vector w32 w64 2 0 c.from_halves.result (λ i. i) refl tt c.from_halves.ensures.in_range
-    (λ i. omega arith) c.args.v
+    extended_make_vector u32x4_widened lower c.from_halves.ensures.in_range c.args.v
     (λ i inside. c.from_halves.ensures.lanes i inside ∙ c.low_i32x4.ensures.lanes i inside)

@@ -1,11 +1,10 @@
-use Rattle.std.proofs.Common.{◌+◌, ◌∙◌, refl}
-use Rattle.wasmi_types.specs.Wrapping.{w16, w32}
-use Rattle.wasmi_simd.proofs.HalfLemmas.{products_make_vector}
+use Rattle.std.proofs.Common.{◌∙◌}
+use Rattle.wasmi_simd.proofs.WideningLemmas.{u16x8_widened}
+use Rattle.wasmi_simd.proofs.HalfLemmas.{upper, signed_products_make_vector}
 use Rattle.wasmi_simd.proofs.simd.extmul.i32x4_extmul_high_i16x8_s.Goals as goal
 
 pub returns : goal.returns
 returns c =
-    products_make_vector w16 w32 4 4 c.from_u32x4.result (λ i. 4 + i) refl tt c.from_u32x4.ensures.in_range
-    (λ i. refl) c.args.lhs c.args.rhs _ _
+    signed_products_make_vector u16x8_widened (upper 4) c.from_u32x4.ensures.in_range c.args.lhs c.args.rhs
     (λ i inside. c.from_u32x4.ensures.lanes i inside ∙ c.product_of_u32x4.ensures.lanes i inside)
     c.high_i16x8.ensures.lanes c.high_i16x8-2.ensures.lanes

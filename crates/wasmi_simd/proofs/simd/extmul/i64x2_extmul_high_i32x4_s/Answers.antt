@@ -1,11 +1,10 @@
-use Rattle.std.proofs.Common.{◌+◌, ◌∙◌, refl}
-use Rattle.wasmi_types.specs.Wrapping.{w32, w64}
-use Rattle.wasmi_simd.proofs.HalfLemmas.{products_make_vector}
+use Rattle.std.proofs.Common.{◌∙◌}
+use Rattle.wasmi_simd.proofs.WideningLemmas.{u32x4_widened}
+use Rattle.wasmi_simd.proofs.HalfLemmas.{upper, signed_products_make_vector}
 use Rattle.wasmi_simd.proofs.simd.extmul.i64x2_extmul_high_i32x4_s.Goals as goal
 
 pub returns : goal.returns
 returns c =
-    products_make_vector w32 w64 2 2 c.from_halves.result (λ i. 2 + i) refl tt c.from_halves.ensures.in_range
-    (λ i. refl) c.args.lhs c.args.rhs _ _
+    signed_products_make_vector u32x4_widened (upper 2) c.from_halves.ensures.in_range c.args.lhs c.args.rhs
     (λ i inside. c.from_halves.ensures.lanes i inside ∙ c.product_of_halves.ensures.lanes i inside)
     c.high_i32x4.ensures.lanes c.high_i32x4-2.ensures.lanes

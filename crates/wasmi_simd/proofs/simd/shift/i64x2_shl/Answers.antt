@@ -1,26 +1,8 @@
-use Rattle.std.proofs.Common.{ℕ, ◌<◌, ◌*◌, ◌/◌, ◌%◌, ◌^◌, ◌∙◌, ap, refl, arith, mod-lt, lit<}
-use Rattle.wasmi_types.specs.Wrapping.{w64}
-use Rattle.wasmi_lanes.specs.Lane.{lane}
-use Rattle.wasmi_lanes.specs.Vector.{unary_of_lanes, from_lanes}
-use Rattle.wasmi_lanes.proofs.WordVectorLemmas.{u64x2_of, words_make_unary}
-use Rattle.wasmi_simd.proofs.ShiftLemmas.{lane_of_word}
+use Rattle.std.proofs.Common.{◌*◌, ◌%◌, ◌^◌, refl, arith, mod-lt, lit<}
+use Rattle.wasmi_simd.proofs.ShiftLemmas.{whole_words_shifted}
 use Rattle.wasmi_simd.proofs.simd.shift.i64x2_shl.Goals as goal
 
 pub returns : goal.returns
-unfolding unary_of_lanes
 returns c =
-    let s : ℕ = c.from.result in
-    let low : ℕ = c.args.v % 2 ^ 64 in
-    let high : ℕ = c.args.v / 2 ^ 64 in
-    let fits_low : low < 2 ^ 64 = omega arith in
-    let fits_high : high < 2 ^ 64 = omega arith in
-    let row : ℕ → ℕ = λ x. x * 2 ^ s % 2 ^ 64 in
-    words_make_unary w64 refl row c.args.v _ (u64x2_of refl refl)
-    (record {
-      low_fits = mod-lt (low * 2 ^ s) (lit< tt);
-      high_fits = mod-lt (high * 2 ^ s) (lit< tt);
-      is = c.from_u64x2.ensures _ _ (rw c.u64x2_of.ensures refl);
-    })
-    (lane_of_word row low (row low) fits_low (mod-lt (low * 2 ^ s) (lit< tt)) refl)
-    (lane_of_word row high (row high) fits_high (mod-lt (high * 2 ^ s) (lit< tt)) refl)
-    ∙ ap (λ n. from_lanes w64 (λ i. lane w64 c.args.v i * 2 ^ n % 2 ^ 64)) c.from.ensures
+    whole_words_shifted c.args.v c.args.amount c.from.result (omega arith) c.from.ensures (λ n x. x * 2 ^ n % 2 ^ 64)
+    (λ x _. mod-lt (x * 2 ^ c.from.result) (lit< tt)) (c.from_u64x2.ensures _ _ (rw c.u64x2_of.ensures refl))

@@ -1,14 +1,7 @@
-use Rattle.std.proofs.Common.{◌^◌, ◌∙◌, ap, pos}
-use Rattle.std.proofs.lemmas.List.{get_or-map}
-use Rattle.std.specs.Simd.Lanes.{digits_l, number_l}
-use Rattle.wasmi_types.specs.Wrapping.{w32, signed}
-use Rattle.wasmi_lanes.proofs.DigitLemmas.{read_at}
+use Rattle.std.proofs.Common.{refl}
+use Rattle.wasmi_types.specs.Wrapping.{w32}
+use Rattle.wasmi_simd.proofs.HalfLemmas.{signed_read_at}
 use Rattle.wasmi_simd.proofs.simd.vectors.i32x4_of.Goals as goal
 
 pub returns : goal.returns
-returns c =
-    record {
-      lanes = λ i inside.
-          get_or-map (signed w32) (digits_l (2 ^ 32) 4 (number_l 256 c.bytes_of.result)) i 0 (pos 0) inside
-          ∙ ap (signed w32) (read_at 32 4 c.args.v c.bytes_of.result i 0 inside c.bytes_of.ensures.number);
-    }
+returns c = record { lanes = signed_read_at w32 4 c.args.v c.bytes_of.result refl c.bytes_of.ensures.number }
