@@ -18,17 +18,11 @@ filled-requires-clause-high g c =
 pub returns : goal.returns
 unfolding comparison_of_lanes
 returns g c =
-    let w = g.T.LaneInteger.width in
-    let lanes = equal_lanes w _ g.met.T.WordLane.whole (c.TOPS-tops.ensures ∙ g.met.T.WordLane.highest) in
-    words_make_binary w g.met.T.WordLane.whole (λ x y. if nat_eq x y then 2 ^ bits w - 1 else 0) _ _ _
+    let lanes = equal_lanes _ _ g.met.T.WordLane.whole (c.TOPS-tops.ensures ∙ g.met.T.WordLane.highest) in
+    let f = c.filled.ensures.words in
+    words_make_binary _ g.met.T.WordLane.whole (λ x y. if nat_eq x y then 2 ^ bits g.T.LaneInteger.width - 1 else 0) _ _ _
     (u64x2_of c.words-a_low.ensures.low c.words-a_low.ensures.high)
     (u64x2_of c.words-b_low.ensures.low c.words-b_low.ensures.high)
-    (record {
-      low_fits = c.filled.ensures.words.3;
-      high_fits = c.filled.ensures.words.4;
-      is = c.filled.ensures.words.2;
-    })
-    (equal_filled w _ _ _ _ _ lanes
-    (differs_in_lanes w _ _ _ _ lanes c.word_differ.ensures.lanes) c.filled.ensures.words.5)
-    (equal_filled w _ _ _ _ _ lanes
-    (differs_in_lanes w _ _ _ _ lanes c.word_differ-2.ensures.lanes) c.filled.ensures.words.6)
+    (record { low_fits = f.3; high_fits = f.4; is = f.2 })
+    (equal_filled _ _ _ _ _ _ lanes (differs_in_lanes _ _ _ _ _ lanes c.word_differ.ensures.lanes) f.5)
+    (equal_filled _ _ _ _ _ _ lanes (differs_in_lanes _ _ _ _ _ lanes c.word_differ-2.ensures.lanes) f.6)

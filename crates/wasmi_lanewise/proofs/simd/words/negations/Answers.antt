@@ -8,9 +8,8 @@ pub returns : goal.returns
 unfolding unary_of_lanes
 returns g c =
     let law = g.met.T.WordLane in
-    let w = g.T.LaneInteger.width in
     let tops = c.INNER_TOPS-tops.result in
-    unary_by_words w (InnerLane tops) law.whole (inner_lanes w _ law.whole (c.INNER_TOPS-tops.ensures ∙ law.inner))
+    unary_by_words _ (InnerLane tops) law.whole (inner_lanes _ _ law.whole (c.INNER_TOPS-tops.ensures ∙ law.inner))
     (λ w x. (2 ^ w - x) % 2 ^ w) (u64x2_of c.words-low.ensures.low c.words-low.ensures.high) (omega arith)
     (omega arith)
     (λ start width lane. negated_lane tops start width _ _ c.word_add.type_inv lane
