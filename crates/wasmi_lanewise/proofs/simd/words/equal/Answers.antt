@@ -20,8 +20,8 @@ unfolding comparison_of_lanes
 returns g c =
     let lanes = equal_lanes _ _ g.met.T.WordLane.whole (c.TOPS-tops.ensures ∙ g.met.T.WordLane.highest) in
     let f = c.filled.ensures.words in
-    words_make_binary _ g.met.T.WordLane.whole (λ x y. if nat_eq x y then 2 ^ bits g.T.LaneInteger.width - 1 else 0) _ _ _
-    (u64x2_of c.words-a_low.ensures.low c.words-a_low.ensures.high)
+    words_make_binary _ g.met.T.WordLane.whole (λ x y. if nat_eq x y then 2 ^ bits g.T.LaneInteger.width - 1 else 0)
+    _ _ _ (u64x2_of c.words-a_low.ensures.low c.words-a_low.ensures.high)
     (u64x2_of c.words-b_low.ensures.low c.words-b_low.ensures.high)
     (record { low_fits = f.3; high_fits = f.4; is = f.2 })
     (equal_filled _ _ _ _ _ _ lanes (differs_in_lanes _ _ _ _ _ lanes c.word_differ.ensures.lanes) f.5)
