@@ -42,14 +42,14 @@ pub record AreLanes (w : Width) (n v : ℕ) (xs : List ℕ) : Type 0 where
   pub are : (i : ℕ) → i < n → get_or xs i 0 ≡ lane w v i
 
 -- an item where the number of the lane is `at`, and the lanes of v elsewhere: v with the item in the lane at that place
-pub item_makes_vector : (w : Width) (n v at item : ℕ) {r : ℕ} {numbers places : List ℕ} (lanes : List ℕ)
+pub lane_written : (w : Width) (n v at item : ℕ) {r : ℕ} {numbers places : List ℕ} (lanes : List ℕ)
     → n * bits w ≡ 128 → numbers ≡ range_with_len 0 n → places ≡ replicate n at → AreLanes w n v lanes
     → ((i : ℕ) → i < n
     → get_or (sel_l (map (top (hbits w)) (zip2 (λ a b. cond (eqb a b) (2 ^ bits w - 1) 0) numbers places))
     (replicate n item) lanes) i 0 ≡ lane w r i)
     → r < 2 ^ 128 → r ≡ with_lane w v at item
 unfolding with_lane
-item_makes_vector w n v at item {r} {numbers} {places} lanes filled counted placed of_v written below =
+lane_written w n v at item {r} {numbers} {places} lanes filled counted placed of_v written below =
     lanes_make_vector w n r _ filled below
     (λ i inside.
     sym (written i inside)
