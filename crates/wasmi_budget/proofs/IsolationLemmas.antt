@@ -9,15 +9,16 @@ use Rattle.std.specs.Prelude.{All, MatchBool, if◌then◌else◌, nat_eq, slice
 use Rattle.std.specs.Option.{option_map}
 use Rattle.wasmi_meter.specs.declared.limiter.Kind.{Kind}
 use Rattle.wasmi_meter.specs.declared.limiter.Kind.TheVariants.{Bytes, Elements}
+use Rattle.wasmi_meter.specs.declared.amounts.Amounts.{Amounts}
+use Rattle.wasmi_meter.specs.Amounts.{amount_of, nothing}
+use Rattle.wasmi_meter.specs.Capped.{held_together, Asked}
 use Rattle.wasmi_meter.specs.Limiter.{Question, Answer, Failure, NoticeAnswer, optional_rules}
 use Rattle.wasmi_core.specs.declared.calls.Call.{Call}
 use Rattle.wasmi_core.specs.declared.calls.Reply.{Reply}
 use Rattle.wasmi_core.specs.State.{State}
 use Rattle.wasmi_core.proofs.CarryingLemmas.{Carries, runs_too}
-use Rattle.wasmi_budget.specs.declared.amounts.Amounts.{Amounts}
 use Rattle.wasmi_budget.specs.declared.tenant.Tenant.{Tenant}
-use Rattle.wasmi_budget.specs.Amounts.{amount_of, nothing}
-use Rattle.wasmi_budget.specs.Tenant.{held_together, Asked, tenant_rules, alone}
+use Rattle.wasmi_budget.specs.Tenant.{capped_tenant, tenant_rules, without_others}
 use Rattle.wasmi_budget.specs.Pool.{PoolValue, tenant_at, RunsTenantBy, RunsTenant}
 use Rattle.wasmi_budget.specs.Runs.{PoolTurn, Added, Ran, Refused, PoolRun}
 use Rattle.wasmi_core.specs.Permission.{permitting, TellsNoDenial}
@@ -36,27 +37,33 @@ amount_of-nothing Elements = refl
 
 -- a tenant that is permitted a difference beside others is permitted it alone
 permitted_alone : (tenant tenant' : Tenant) (q : Question) (answer : Answer) → answer ≡ Ok true
-    → Asked tenant q answer tenant' → Asked (alone tenant) q answer (alone tenant')
-permitted_alone tenant tenant' q answer permitted (taken, answered, takes) =
-    elim (cases_lt (amount_of tenant.caps q.kind) (held_together tenant q.kind + (q.desired - q.current))) [
-      | inl above ↦ absurd (no_permission permitted answered (takes.above above).0)
+    → Asked capped_tenant tenant q answer tenant'
+    → Asked capped_tenant (without_others tenant) q answer (without_others tenant')
+permitted_alone tenant tenant' q answer permitted (taken, answered, more) =
+    let together = held_together capped_tenant tenant q.kind in
+    elim (cases_lt (amount_of tenant.caps q.kind) (together + (q.desired - q.current))) [
+      | inl above ↦ absurd (no_permission permitted answered (more.takes.above above).0)
       | inr fits ↦ (
         true,
         permitted,
         record {
-          within = λ within. (refl, ap alone (takes.within fits).1);
-          above = λ above. absurd (omega (arith, above, fits, amount_of-nothing q.kind));
+          takes = record {
+            within = λ within. (refl, (more.takes.within fits).1);
+            above = λ above. absurd (omega (arith, above, fits, amount_of-nothing q.kind));
+          };
+          rest = ap without_others more.rest;
         },
       )
     ]
 
 -- what a tenant does where each question is permitted, it does where the others hold nothing
-alone_carries : Carries (option_map alone) (permitting (optional_rules tenant_rules)) (optional_rules tenant_rules)
+alone_carries : Carries (option_map without_others) (permitting (optional_rules tenant_rules))
+    (optional_rules tenant_rules)
 alone_carries = record { asked = asks; noticed = notices }
   where
     asks : (l : Option Tenant) (q : Question) (answer : Answer) (l' : Option Tenant)
         → (permitting (optional_rules tenant_rules)).asked l q answer l'
-        → (optional_rules tenant_rules).asked (option_map alone l) q answer (option_map alone l')
+        → (optional_rules tenant_rules).asked (option_map without_others l) q answer (option_map without_others l')
     asks (Some l) q answer (Some l') (permitted, asked) = permitted_alone l l' q answer permitted asked
     asks (Some l) q answer None (permitted, asked) = absurd asked
     asks None q answer (Some l') (permitted, asked) = absurd asked
@@ -64,8 +71,10 @@ alone_carries = record { asked = asks; noticed = notices }
 
     notices : (l : Option Tenant) (failure : Failure) (notice_answer : NoticeAnswer) (l' : Option Tenant)
         → (optional_rules tenant_rules).noticed l failure notice_answer l'
-        → (optional_rules tenant_rules).noticed (option_map alone l) failure notice_answer (option_map alone l')
-    notices (Some l) failure notice_answer (Some l') (accepted, after) = (accepted, ap alone after)
+        → (optional_rules tenant_rules).noticed (option_map without_others l) failure notice_answer
+        (option_map without_others l')
+    notices (Some l) failure notice_answer (Some l') noticed = record
+        { accepts = noticed.accepts; gives_back = noticed.gives_back; rest = ap without_others noticed.rest }
     notices (Some l) failure notice_answer None noticed = absurd noticed
     notices None failure notice_answer (Some l') noticed = absurd noticed
     notices None failure notice_answer None noticed = noticed
@@ -73,7 +82,7 @@ alone_carries = record { asked = asks; noticed = notices }
 -- a run in which each question is permitted is one where the others hold nothing
 pub others_do_not_show : OthersDontShow
 others_do_not_show s s' tenant tenant' turns ran =
-    runs_too (option_map alone) (permitting (optional_rules tenant_rules))
+    runs_too (option_map without_others) (permitting (optional_rules tenant_rules))
     (optional_rules tenant_rules) alone_carries _ turns _ ran
 
 -- false isn't true
@@ -117,7 +126,7 @@ run_alone pool index calls replies pool' runs = record {
   machine = runs.machine;
   found = refl;
   machine' = runs.machine';
-  tenant' = alone runs.tenant';
+  tenant' = without_others runs.tenant';
   ran = (
     runs.ran.0,
     runs.ran.1,
@@ -134,55 +143,71 @@ module _ (caps : Amounts) (index : ℕ) (pool' : PoolValue) where
   EndsAlone s turns =
       (s' : State) × (slice_get pool'.machines index ≡ Some s') × PoolRun (only caps s) turns (only caps s')
 
-  module _ (pool : PoolValue) (capped : pool.caps ≡ caps) (s : State) (found : slice_get pool.machines index ≡ Some s)
-      (i : ℕ) (calls : List Call) (replies : List Reply) (next : PoolValue) (turns : List PoolTurn)
-      (rest : (t : State) → next.caps ≡ caps → slice_get next.machines index ≡ Some t → EndsAlone t turns) where
-    -- one run and calls after it end for the machine as its own turns alone do, if the calls do
-    ran_alone : (same : Bool) → Decides same (i ≡ index)
-        → MatchBool same (RunsTenantBy (permitting (optional_rules tenant_rules)) pool i calls replies next)
-        (RunsTenant pool i calls replies next) → EndsAlone s (if same then Ran 0 calls replies ∷ turns else turns)
-    ran_alone true decides runs =
-        let is = decides.0 refl in
-        let own = same_Some runs.machine s (sym runs.found ∙ ap (slice_get pool.machines) is ∙ found) in
-        let at = ap (λ (p : PoolValue). slice_get p.machines index) runs.after
-        ∙ ap (λ k. slice_get (slice_set pool.machines k runs.machine') index) is
-        ∙ set_at pool.machines index s runs.machine' found in
-        let tail = rest runs.machine' (ap PoolValue.caps runs.after ∙ capped) at in
-        let step = subst (λ c. RunsTenant (only c runs.machine) 0 calls replies (only c runs.machine')) capped
-        (run_alone pool i calls replies next runs) in (
-          tail.0,
-          tail.1,
-          (
-            only caps runs.machine',
-            subst (λ t. RunsTenant (only caps t) 0 calls replies (only caps runs.machine')) own step,
-            tail.2,
-          ),
+  -- the machine of the index in a pool with these caps
+  record IsThere (pool : PoolValue) (s : State) : Type 0 where
+    capped : pool.caps ≡ caps
+    found : slice_get pool.machines index ≡ Some s
+
+  -- a machine that has the index in a pool with other machines
+  there_among : (pool : PoolValue) (s t : State) (next : PoolValue) (machines : List State) → IsThere pool s
+      → next ≡ record pool { machines = machines } → slice_get machines index ≡ Some t → IsThere next t
+  there_among pool s t next machines there is at = record {
+    capped = ap PoolValue.caps is ∙ there.capped;
+    found = ap (λ (p : PoolValue). slice_get p.machines index) is ∙ at;
+  }
+
+  module _ (pool : PoolValue) (s : State) (there : IsThere pool s) (calls : List Call) (replies : List Reply)
+      (next : PoolValue) where
+    -- a permitted run of the tenant of the index is one of the only tenant
+    own_run : RunsTenantBy (permitting (optional_rules tenant_rules)) pool index calls replies next
+        → (t : State) × IsThere next t × RunsTenant (only caps s) 0 calls replies (only caps t)
+    own_run runs =
+        let own = same_Some runs.machine s (sym runs.found ∙ there.found) in
+        let step = subst (λ c. RunsTenant (only c runs.machine) 0 calls replies (only c runs.machine')) there.capped
+        (run_alone pool index calls replies next runs) in (
+          runs.machine',
+          there_among pool s runs.machine' next (slice_set pool.machines index runs.machine') there runs.after
+              (set_at pool.machines index s runs.machine' there.found),
+          subst (λ t. RunsTenant (only caps t) 0 calls replies (only caps runs.machine')) own step,
         )
-    ran_alone false decides runs =
-        rest s (ap PoolValue.caps runs.after ∙ capped)
-        (ap (λ (p : PoolValue). slice_get p.machines index) runs.after
-        ∙ kept_set pool.machines index i s runs.machine'
-        (λ same. absurd (true_not_false (decides.1 (sym same)))) found)
+
+    -- a run of another tenant leaves the machine of the index
+    other_run : (i : ℕ) → index ≢ i → RunsTenant pool i calls replies next → IsThere next s
+    other_run i other runs =
+        there_among pool s s next (slice_set pool.machines i runs.machine') there runs.after
+        (kept_set pool.machines index i s runs.machine' other there.found)
 
   -- calls by which the tenant of the index is never denied end for its machine as its own turns alone do
-  ends_alone : (pool : PoolValue) → pool.caps ≡ caps → (s : State) → slice_get pool.machines index ≡ Some s
-      → (turns : List PoolTurn) → PermittingRun index pool turns pool' → EndsAlone s (own_turns index turns)
-  ends_alone pool capped s found [] ran = (s, ap (λ (p : PoolValue). slice_get p.machines index) ran ∙ found, refl)
-  ends_alone pool capped s found (Added a ∷ turns) (next, adds, ran) =
-      ends_alone next (ap PoolValue.caps adds.added ∙ capped) s
-      (ap (λ (p : PoolValue). slice_get p.machines index) adds.added ∙ kept_added pool.machines index s a found)
+  ends_alone : (pool : PoolValue) (s : State) → IsThere pool s → (turns : List PoolTurn)
+      → PermittingRun index pool turns pool' → EndsAlone s (own_turns index turns)
+  ends_alone pool s there [] ran = (s, ap (λ (p : PoolValue). slice_get p.machines index) ran ∙ there.found, refl)
+  ends_alone pool s there (Added a ∷ turns) (next, adds, ran) =
+      ends_alone next s
+      (there_among pool s s next (pool.machines ++ a ∷ []) there adds.added
+      (kept_added pool.machines index s a there.found))
       turns ran
-  ends_alone pool capped s found (Ran i calls replies ∷ turns) (next, runs, ran) =
-      ran_alone pool capped s found i calls replies next (own_turns index turns)
-      (λ t caps at. ends_alone next caps t at turns ran) (nat_eq i index) (Decides-eqb i index) runs
-  ends_alone pool capped s found (Refused ∷ turns) (next, same, ran) =
-      ends_alone next (ap PoolValue.caps same ∙ capped) s
-      (ap (λ (p : PoolValue). slice_get p.machines index) same ∙ found) turns ran
+  ends_alone pool s there (Refused ∷ turns) (next, same, ran) =
+      ends_alone next s (there_among pool s s next pool.machines there same there.found) turns ran
+  ends_alone pool s there (Ran i calls replies ∷ turns) (next, runs, ran) =
+      by_index (λ t at. ends_alone next t at turns ran) (nat_eq i index) (Decides-eqb i index) runs
+    where
+      by_index : ((t : State) → IsThere next t → EndsAlone t (own_turns index turns)) → (same : Bool)
+          → Decides same (i ≡ index)
+          → MatchBool same (RunsTenantBy (permitting (optional_rules tenant_rules)) pool i calls replies next)
+          (RunsTenant pool i calls replies next)
+          → EndsAlone s (if same then Ran 0 calls replies ∷ own_turns index turns else own_turns index turns)
+      by_index rest true decides runs =
+          let own = own_run pool s there calls replies next (rw (decides.0 refl) at runs) in
+          let tail = rest own.0 own.1 in
+          (tail.0, tail.1, (only caps own.0, own.2, tail.2))
+      by_index rest false decides runs =
+          rest s
+          (other_run pool s there calls replies next i (λ same. absurd (true_not_false (decides.1 (sym same)))) runs)
 
 -- a tenant that is never denied gets what it gets alone under the same caps
 pub permitted_runs_as_alone : RunsAsAlone
 permitted_runs_as_alone pool index s found turns pool' ran =
-    ends_alone pool.caps index pool' pool refl s found turns ran
+    ends_alone pool.caps index pool' pool s (record { capped = refl; found = found }) turns ran
 
 -- a run of which no reply tells of a denial
 pub replies_permit : RepliesPermit

@@ -6,19 +6,20 @@ use Rattle.std.specs.Option.{option_map}
 use Rattle.std.specs.Prelude.{slice_get, slice_set, remove}
 use Rattle.wasmi_meter.specs.declared.limiter.Kind.{Kind}
 use Rattle.wasmi_meter.specs.declared.limiter.Kind.TheVariants.{Bytes, Elements}
+use Rattle.wasmi_meter.specs.declared.amounts.Amounts.{Amounts}
+use Rattle.wasmi_meter.specs.Amounts.{amount_of, amounts_of}
+use Rattle.wasmi_meter.specs.Capped.{held_together}
+use Rattle.wasmi_meter.specs.CappedProofs.{asked_reserves, noticed_gives_back}
 use Rattle.wasmi_meter.specs.Limiter.{optional_rules}
 use Rattle.wasmi_core.specs.declared.calls.Call.{Call}
 use Rattle.wasmi_core.specs.declared.calls.Reply.{Reply}
 use Rattle.wasmi_core.specs.State.{State}
-use Rattle.wasmi_core.specs.World.{World, Turn}
+use Rattle.wasmi_core.specs.World.{World, Turn, world}
 use Rattle.wasmi_core.specs.Runs.{Run, IsRunOf}
 use Rattle.wasmi_core.specs.Totals.{total, HoldsTotals}
 use Rattle.wasmi_core.proofs.HoldingLemmas.{totals_are_held}
-use Rattle.wasmi_budget.specs.declared.amounts.Amounts.{Amounts}
 use Rattle.wasmi_budget.specs.declared.tenant.Tenant.{Tenant}
-use Rattle.wasmi_budget.specs.Amounts.{amount_of, amounts_of}
-use Rattle.wasmi_budget.specs.Tenant.{holdings, held_together, tenant_rules}
-use Rattle.wasmi_budget.specs.TenantProofs.{asked_reserves, noticed_gives_back}
+use Rattle.wasmi_budget.specs.Tenant.{holdings, capped_tenant, tenant_rules}
 use Rattle.wasmi_budget.specs.Pool.{PoolValue, total_of, IsWithinCaps, IsKept, tenant_at, AddsTenant, RunsTenant}
 use Rattle.wasmi_budget.specs.Runs.{PoolTurn, Added, Ran, Refused, PoolStep, PoolRun}
 use Rattle.wasmi_budget.proofs.TenantLemmas.{StaysWithin, run_stays_within}
@@ -46,15 +47,17 @@ total_fits pool kept index s found kind = let split = total_split pool.machines 
     kept.within kind in let fits = kept.fits kind in omega (arith, split, within, fits)
 
 -- so is what it has beside those before it
-pub total_so_far : (pool : PoolValue) → IsKept pool → (index : ℕ) (s : State) → slice_get pool.machines index ≡ Some s
-    → (kind : Kind) → total_of (take index pool.machines) kind + total s kind < 2 ^ 64
-total_so_far pool kept index s found kind =
+pub total_so_far : (pool now : PoolValue) → pool ≡ now → IsKept pool → (index : ℕ) (s : State)
+    → slice_get pool.machines index ≡ Some s → (kind : Kind) (before own : ℕ)
+    → before ≡ total_of (take index now.machines) kind → own ≡ total s kind → before + own < 2 ^ 64
+total_so_far pool now same kept index s found kind before own so_far has =
+    let these = ap (λ (p : PoolValue). total_of (take index p.machines) kind) same in
     let more = sum_by_more_le (λ t. total t kind) pool.machines index s
     (slice_get_within pool.machines index s found) in
-    let own = ap (λ t. total t kind) (get_or_from_slice_get pool.machines index s s found) in
+    let read = ap (λ t. total t kind) (get_or_from_slice_get pool.machines index s s found) in
     let within = kept.within kind in
     let fits = kept.fits kind in
-    omega (arith, more, own, within, fits)
+    omega (arith, more, read, within, fits, these, so_far, has)
 
 -- the amount of a kind among amounts by kind
 amount_of-amounts_of : (amount : Kind → ℕ) (kind : Kind) → amount_of (amounts_of amount) kind ≡ amount kind
@@ -63,13 +66,13 @@ amount_of-amounts_of amount Elements = refl
 
 -- a tenant that holds what a machine has
 amount_held_total : (tenant : Tenant) (s : State) → HoldsTotals (holdings tenant) s → (kind : Kind)
-    → amount_of tenant.held kind ≡ total s kind
+    → amount_of tenant.holdings.held kind ≡ total s kind
 amount_held_total tenant s held Bytes = held.bytes
 amount_held_total tenant s held Elements = held.elements
 
 -- a tenant before its run holds together with the others what all machines have
 tenant_held_together : (pool : PoolValue) (index : ℕ) (s : State) → slice_get pool.machines index ≡ Some s
-    → (kind : Kind) → held_together (tenant_at pool index s) kind ≡ total_of pool.machines kind
+    → (kind : Kind) → held_together capped_tenant (tenant_at pool index s) kind ≡ total_of pool.machines kind
 tenant_held_together pool index s found Bytes = total_split pool.machines index s found Bytes
 tenant_held_together pool index s found Elements = total_split pool.machines index s found Elements
 
@@ -98,42 +101,32 @@ module _ (pool : PoolValue) (index : ℕ) where
     pub held_within : (kind : Kind) → amount_of held kind ≤ total_of pool.machines kind
     held_within kind = let others = others_left kind in omega (arith, others)
 
-    -- the limiter beside the others
-    pub tenant_beside : Some
-        (record {
-          caps = pool.caps;
-          others = record {
-            bytes = total_of pool.machines Bytes - held.bytes;
-            elements = total_of pool.machines Elements - held.elements;
-          };
-          held = held;
-          last = None;
-        })
-        ≡ option_map (tenant_at pool index) (slice_get pool.machines index)
+    -- a limiter that holds them, beside what of all is left
+    abbrev beside : Tenant
+    beside = record {
+      caps = pool.caps;
+      others = record {
+        bytes = total_of pool.machines Bytes - held.bytes;
+        elements = total_of pool.machines Elements - held.elements;
+      };
+      holdings = record { held = held; last = None };
+    }
+
+    -- it is that of the machine
+    pub tenant_beside : Some beside ≡ option_map (tenant_at pool index) (slice_get pool.machines index)
     tenant_beside =
         let bytes : total_of pool.machines Bytes - held.bytes ≡ total_of (remove pool.machines index) Bytes =
         let others = others_left Bytes in omega (arith, others) in
         let elements : total_of pool.machines Elements - held.elements
         ≡ total_of (remove pool.machines index) Elements = let others =
         others_left Elements in omega (arith, others) in
-        let beside : Some
-        (record {
-          caps = pool.caps;
-          others = record {
-            bytes = total_of pool.machines Bytes - held.bytes;
-            elements = total_of pool.machines Elements - held.elements;
-          };
-          held = held;
-          last = None;
-        })
-        ≡ Some (tenant_at pool index found.0) =
+        let same : Some beside ≡ Some (tenant_at pool index found.0) =
         λ i. Some (record {
           caps = pool.caps;
           others = record { bytes = bytes i; elements = elements i };
-          held = found.2 i;
-          last = None;
+          holdings = record { held = found.2 i; last = None };
         }) in
-        beside ∙ ap (option_map (tenant_at pool index)) (sym found.1)
+        same ∙ ap (option_map (tenant_at pool index)) (sym found.1)
 
 -- a machine becomes another under its limiter
 module _ (pool : PoolValue) (within : IsWithinCaps pool) (index : ℕ) (s : State)
@@ -142,8 +135,8 @@ module _ (pool : PoolValue) (within : IsWithinCaps pool) (index : ℕ) (s : Stat
   first_stays : StaysWithin (tenant_at pool index s) (tenant_at pool index s)
   first_stays =
       record {
-        caps = refl;
-        others = refl;
+        caps = λ kind. refl;
+        others = λ kind. refl;
         within = λ kind. rw (tenant_held_together pool index s found kind) (within kind);
       }
 
@@ -154,9 +147,8 @@ module _ (pool : PoolValue) (within : IsWithinCaps pool) (index : ℕ) (s : Stat
       let own = amount_held_total tenant' s' held kind in
       let all = total_replaced pool.machines index s found kind s' in
       let bound = stays.within kind in
-      let others = ap (λ amounts. amount_of amounts kind) stays.others
-      ∙ amount_of-amounts_of (total_of (remove pool.machines index)) kind in
-      let caps = ap (λ amounts. amount_of amounts kind) stays.caps in
+      let others = stays.others kind ∙ amount_of-amounts_of (total_of (remove pool.machines index)) kind in
+      let caps = stays.caps kind in
       omega (arith, own, all, bound, others, caps)
 
   -- a run under its limiter keeps the tenant within the caps
@@ -167,8 +159,12 @@ module _ (pool : PoolValue) (within : IsWithinCaps pool) (index : ℕ) (s : Stat
       run_stays_within (tenant_at pool index s) first_stays.within _
       (record { state = s'; limiter = Some tenant' }) turns tenant' refl refl ran
 
--- what `Pool::run` has done: a tenant that the pool gave out, the machine that was read at its index, and what both
--- have become
+-- the machine of an index, with the tenant that the pool gives out for it
+pub record IsGiven (pool : PoolValue) (index : ℕ) (w : World Tenant) : Type 0 where
+  pub found : slice_get pool.machines index ≡ Some w.state
+  pub tenant : w.limiter ≡ tenant_at pool index w.state
+
+-- a tenant that the pool gave out
 module _ (pool now : PoolValue) (same : pool ≡ now) (index : ℕ) (tenant : Tenant)
     (given : option_map (tenant_at now index) (slice_get now.machines index) ≡ Some tenant) where
   -- there is a machine at the index, and the tenant is that of it
@@ -181,64 +177,62 @@ module _ (pool now : PoolValue) (same : pool ≡ now) (index : ℕ) (tenant : Te
   pub given_inside : index < length pool.machines
   given_inside = slice_get_within pool.machines index machine_given.0 machine_given.1
 
-  module _ (s : State) (read : s ≡ get_or pool.machines index s) where
-    -- this machine is the one that was read
-    same_machine : machine_given.0 ≡ s
-    same_machine = sym (read ∙ get_or_from_slice_get pool.machines index machine_given.0 s machine_given.1)
-
-    -- the machine that was read is at the index
-    found_given : slice_get pool.machines index ≡ Some s
-    found_given = machine_given.1 ∙ ap Some same_machine
-
-    -- the tenant is that of the machine that was read
-    given_tenant : tenant ≡ tenant_at pool index s
-    given_tenant = machine_given.2 ∙ ap (tenant_at pool index) same_machine
-
-    -- the tenant holds what its machine has
-    pub given_holds : HoldsTotals (holdings tenant) s
-    given_holds = subst (λ t. HoldsTotals (holdings t) s) (sym given_tenant) (record { bytes = refl; elements = refl })
-
-    module _ (s' : State) (tenant' : Tenant) (calls : List Call) where
-      -- a run under the tenant is one under the limiter of the machine that was read
-      given_ran : (replies : List Reply)
-          → IsRunOf (optional_rules tenant_rules) calls (record { state = s; limiter = Some tenant }) replies
-          (record { state = s'; limiter = Some tenant' })
-          → IsRunOf (optional_rules tenant_rules) calls
-          (record { state = s; limiter = Some (tenant_at pool index s) }) replies
-          (record { state = s'; limiter = Some tenant' })
-      given_ran replies ran =
-          subst (λ t. IsRunOf (optional_rules tenant_rules) calls (record { state = s; limiter = Some t }) replies
-          (record { state = s'; limiter = Some tenant' })) given_tenant ran
-
-      -- an accepted run
-      pub given_runs : (replies : List Reply)
-          → IsRunOf (optional_rules tenant_rules) calls (record { state = s; limiter = Some tenant }) replies
-          (record { state = s'; limiter = Some tenant' })
-          → RunsTenant pool index calls replies (record pool { machines = slice_set pool.machines index s' })
-      given_runs replies ran = record {
-        machine = s;
-        found = found_given;
-        machine' = s';
-        tenant' = tenant';
-        ran = given_ran replies ran;
-        after = refl;
+  -- the machine that is read at the index is given with it
+  pub read_given : (s : State) → s ≡ get_or pool.machines index s → IsGiven pool index (world s tenant)
+  read_given s read =
+      let own : machine_given.0 ≡ s =
+      sym (read ∙ get_or_from_slice_get pool.machines index machine_given.0 s machine_given.1) in
+      record {
+        found = machine_given.1 ∙ ap Some own;
+        tenant = machine_given.2 ∙ ap (tenant_at pool index) own;
       }
 
-      -- the pool stays within its caps, by the two outcomes
-      pub given_within : {R E : Type 0} (items : R → List Reply) (result : Result R E) → IsWithinCaps pool
-          → IfOk result
-          (λ replies. IsRunOf (optional_rules tenant_rules) calls (record { state = s; limiter = Some tenant })
-          (items replies) (record { state = s'; limiter = Some tenant' }))
-          → OnErr result ((s' ≡ s) × (tenant' ≡ tenant)) → HoldsTotals (holdings tenant') s'
-          → IsWithinCaps (record pool { machines = slice_set pool.machines index s' })
-      given_within items (Ok replies) within ran same held =
-          let own = given_ran (items replies) ran in
-          replaced_within pool within index s found_given s' tenant'
-          (ran_within pool within index s found_given s' tenant' own.0 own.3) held
-      given_within items (Err error) within ran same held =
-          replaced_within pool within index s found_given s' tenant'
-          (subst (StaysWithin (tenant_at pool index s)) (sym (same.1 ∙ given_tenant))
-          (first_stays pool within index s found_given s' tenant')) held
+-- a machine with its limiter, lent
+abbrev lent : World Tenant → World (Option Tenant)
+lent w = world w.state (Some w.limiter)
+
+-- what `Pool::run` has done with a machine and its tenant, and what both have become
+module _ (pool : PoolValue) (index : ℕ) (w : World Tenant) (given : IsGiven pool index w) where
+  -- the tenant holds what its machine has
+  pub given_holds : HoldsTotals (holdings w.limiter) w.state
+  given_holds =
+      subst (λ t. HoldsTotals (holdings t) w.state) (sym given.tenant) (record { bytes = refl; elements = refl })
+
+  module _ (w' : World Tenant) (calls : List Call) where
+    -- a run under the tenant is one under the limiter of its machine
+    given_ran : (replies : List Reply) → IsRunOf (optional_rules tenant_rules) calls (lent w) replies (lent w')
+        → IsRunOf (optional_rules tenant_rules) calls (world w.state (Some (tenant_at pool index w.state))) replies
+        (lent w')
+    given_ran replies ran =
+        subst (λ t. IsRunOf (optional_rules tenant_rules) calls (world w.state (Some t)) replies (lent w'))
+        given.tenant ran
+
+    -- an accepted run
+    pub given_runs : (replies : List Reply) → IsRunOf (optional_rules tenant_rules) calls (lent w) replies (lent w')
+        → RunsTenant pool index calls replies (record pool { machines = slice_set pool.machines index w'.state })
+    given_runs replies ran = record {
+      machine = w.state;
+      found = given.found;
+      machine' = w'.state;
+      tenant' = w'.limiter;
+      ran = given_ran replies ran;
+      after = refl;
+    }
+
+    -- the pool stays within its caps, by the two outcomes
+    pub given_within : {R E : Type 0} (items : R → List Reply) (result : Result R E) → IsWithinCaps pool
+        → IfOk result (λ replies. IsRunOf (optional_rules tenant_rules) calls (lent w) (items replies) (lent w'))
+        → OnErr result ((w'.state ≡ w.state) × (w'.limiter ≡ w.limiter))
+        → HoldsTotals (holdings w'.limiter) w'.state
+        → IsWithinCaps (record pool { machines = slice_set pool.machines index w'.state })
+    given_within items (Ok replies) within ran same held =
+        let own = given_ran (items replies) ran in
+        replaced_within pool within index w.state given.found w'.state w'.limiter
+        (ran_within pool within index w.state given.found w'.state w'.limiter own.0 own.3) held
+    given_within items (Err error) within ran same held =
+        replaced_within pool within index w.state given.found w'.state w'.limiter
+        (subst (StaysWithin (tenant_at pool index w.state)) (sym (same.1 ∙ given.tenant))
+        (first_stays pool within index w.state given.found w'.state w'.limiter)) held
 
 -- a run keeps the pool within its caps
 pub runs_within : (pool : PoolValue) (index : ℕ) (calls : List Call) (replies : List Reply) (pool' : PoolValue)
@@ -246,7 +240,7 @@ pub runs_within : (pool : PoolValue) (index : ℕ) (calls : List Call) (replies 
 runs_within pool index calls replies pool' within runs =
     let end : World (Option Tenant) = record { state = runs.machine'; limiter = Some runs.tenant' } in
     let after = totals_are_held tenant_rules holdings
-    (record { reserves = asked_reserves; gives_back = noticed_gives_back }) runs.machine
+    (record { reserves = asked_reserves capped_tenant; gives_back = noticed_gives_back capped_tenant }) runs.machine
     (tenant_at pool index runs.machine) (record { bytes = refl; elements = refl }) runs.ran.0 end runs.ran.3 in
     let held : HoldsTotals (holdings runs.tenant') runs.machine' =
     subst (λ tenant. HoldsTotals (holdings tenant) runs.machine')

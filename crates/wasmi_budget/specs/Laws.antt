@@ -5,7 +5,7 @@ use Rattle.wasmi_core.specs.State.{State}
 use Rattle.wasmi_core.specs.World.{Turn}
 use Rattle.wasmi_core.specs.Runs.{Run}
 use Rattle.wasmi_budget.specs.declared.tenant.Tenant.{Tenant}
-use Rattle.wasmi_budget.specs.Tenant.{tenant_rules, alone}
+use Rattle.wasmi_budget.specs.Tenant.{tenant_rules, without_others}
 use Rattle.wasmi_core.specs.declared.calls.Call.{Call}
 use Rattle.wasmi_core.specs.declared.calls.Reply.{Reply}
 use Rattle.wasmi_budget.specs.Pool.{PoolValue, IsWithinCaps, RunsTenantBy, RunsTenant}
@@ -25,8 +25,8 @@ abbrev pub OthersDontShow : Type 0
 OthersDontShow = (s s' : State) (tenant tenant' : Tenant) (turns : List Turn)
     → Run (permitting (optional_rules tenant_rules)) (record { state = s; limiter = Some tenant }) turns
     (record { state = s'; limiter = Some tenant' })
-    → Run (optional_rules tenant_rules) (record { state = s; limiter = Some (alone tenant) }) turns
-    (record { state = s'; limiter = Some (alone tenant') })
+    → Run (optional_rules tenant_rules) (record { state = s; limiter = Some (without_others tenant) }) turns
+    (record { state = s'; limiter = Some (without_others tenant') })
 
 -- a tenant that is never denied gets, run after run, what it gets alone under the same caps
 abbrev pub RunsAsAlone : Type 0

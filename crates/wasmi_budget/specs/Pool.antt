@@ -2,17 +2,17 @@
 use Rattle.std.specs.Prelude.{◌≡◌, ◌≤◌, ◌<◌, ◌^◌, ◌++◌, ℕ, List, [], ◌∷◌, Option, Some, None, slice_get, slice_set, sum_by, remove}
 use Rattle.wasmi_meter.specs.declared.limiter.Kind.{Kind}
 use Rattle.wasmi_meter.specs.declared.limiter.Kind.TheVariants.{Bytes, Elements}
+use Rattle.wasmi_meter.specs.declared.amounts.Amounts.{Amounts}
+use Rattle.wasmi_meter.specs.Amounts.{amount_of, amounts_of}
 use Rattle.wasmi_meter.specs.Limiter.{Rules, optional_rules}
 use Rattle.wasmi_core.specs.declared.calls.Call.{Call}
 use Rattle.wasmi_core.specs.declared.calls.Reply.{Reply}
 use Rattle.wasmi_core.specs.State.{State}
 use Rattle.wasmi_core.specs.Totals.{total}
 use Rattle.wasmi_core.specs.Runs.{IsRunOf}
-use Rattle.wasmi_budget.specs.declared.amounts.Amounts.{Amounts}
 use Rattle.wasmi_budget.specs.declared.pool.AddError.{AddError}
 use Rattle.wasmi_budget.specs.declared.pool.AddError.TheVariants.{NotEmpty, NoRoom}
 use Rattle.wasmi_budget.specs.declared.tenant.Tenant.{Tenant}
-use Rattle.wasmi_budget.specs.Amounts.{amount_of, amounts_of}
 use Rattle.wasmi_budget.specs.Tenant.{tenant_rules}
 
 -- a pool: its caps, and the machines of its tenants by their indices
@@ -39,8 +39,7 @@ tenant_at pool index s =
     record {
       caps = pool.caps;
       others = amounts_of (total_of (remove pool.machines index));
-      held = amounts_of (total s);
-      last = None;
+      holdings = record { held = amounts_of (total s); last = None };
     }
 
 -- the machine has no bytes and no elements, and dropped none

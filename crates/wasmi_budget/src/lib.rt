@@ -1,7 +1,6 @@
 //! Pools of machines whose memories and tables stay, all together, within one cap of each kind.
 #![tactic(auto)]
 
-mod amounts;
 pub mod laws;
 mod pool;
 mod tenant;

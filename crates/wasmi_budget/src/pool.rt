@@ -1,15 +1,16 @@
 //! The pool.
 ghost use Rattle.std.specs.Prelude.{◌≡◌, ◌≤◌, ◌↔◌, ◌<◌, ◌^◌, length, [], IsTrue, IfOk, IfErr, OnErr, IsErrOf, slice_get};
 ghost use Rattle.std.specs.Option.{option_map};
+ghost use Rattle.wasmi_meter.specs.declared.limiter.Kind.{Kind};
 ghost use Rattle.wasmi_meter.specs.declared.limiter.Kind.TheVariants.{Bytes, Elements};
+ghost use Rattle.wasmi_meter.specs.Amounts.{amounts_of};
 ghost use Rattle.wasmi_core.specs.Totals.{total};
-ghost use Rattle.wasmi_budget.specs.Amounts.{amounts_of};
 
-use crate::amounts::Amounts;
 use crate::tenant::Tenant;
 use std::alloc::Global as Allocator;
 use std::marker::Model;
 use wasmi_core::{Call, Machine, Reply, run_reserving};
+use wasmi_meter::Amounts;
 
 /// Why a machine isn't added to a pool, in the order of the tests.
 #[derive(Debug, PartialEq, Eq, Drop)]
@@ -177,8 +178,7 @@ impl<'r> Pool<'r> {
 
 /// What a machine has of each kind.
 fn totals(machine: &Machine) -> Amounts
-    requires bytes { total machine.now Bytes < 2 ^ 64 }
-    requires elements { total machine.now Elements < 2 ^ 64 }
+    requires { (kind : Kind) → total machine.now kind < 2 ^ 64 }
     ensures { result ≡ amounts_of (total machine.now) }
 {
     Amounts {

@@ -6,15 +6,18 @@ use Rattle.wasmi_meter.specs.declared.error.MemoryError.{MemoryError}
 use Rattle.wasmi_meter.specs.declared.error.TableError.{TableError}
 use Rattle.wasmi_meter.specs.declared.limiter.Kind.{Kind}
 use Rattle.wasmi_meter.specs.declared.limiter.Kind.TheVariants.{Bytes, Elements}
+use Rattle.wasmi_meter.specs.declared.holdings.Holdings.{Holdings}
 use Rattle.wasmi_meter.specs.declared.quota.Quota.{Quota}
 use Rattle.wasmi_meter.specs.Attempt.{MeteredValue, Request, AttemptOutcome, Unasked, Denied, Met, Failed, MayEnd, Follows}
 use Rattle.wasmi_meter.specs.Attempt.{answer_of, value_after}
-use Rattle.wasmi_meter.specs.Holdings.{Holdings, HoldsTheSame, Reserves, amount_held, with_more, without_last}
+use Rattle.wasmi_meter.specs.Capped.{Asked, Noticed}
+use Rattle.wasmi_meter.specs.CappedProofs.{asked_reserves}
+use Rattle.wasmi_meter.specs.Holdings.{HoldsTheSame, Reserves, amount_held, with_more, without_last}
 use Rattle.wasmi_meter.specs.Limiter.{Question, Answer, NoticeAnswer, IsDenial, kind_of, optional_rules}
 use Rattle.wasmi_meter.specs.Meter.{Meter}
-use Rattle.wasmi_meter.specs.Quota.{holdings, quota_rules, Asked, Noticed}
-use Rattle.wasmi_meter.specs.QuotaProofs.{asked_reserves}
-use Rattle.wasmi_meter.proofs.QuotaLemmas.{asked_is_within, noticed_is_within}
+use Rattle.wasmi_meter.specs.Quota.{holdings, capped_quota, quota_rules}
+use Rattle.wasmi_meter.proofs.CappedLemmas.{asked_is_within, noticed_is_within}
+use Rattle.wasmi_meter.proofs.QuotaLemmas.{quota_keeps}
 use Rattle.wasmi_store.specs.Buffer.{Room}
 use Rattle.wasmi_store.specs.Growth.{Makes, Growth, Grows}
 use Rattle.wasmi_store.specs.Memory as memory
@@ -29,8 +32,8 @@ use Rattle.wasmi_callers.specs.Lending.{Counts, bytes_made, elements_made}
 -- after n more of a kind, n more of it is held
 held_more : (kind : Kind) (n : ℕ) (h h' : Holdings) → h' ≡ with_more h kind n
     → amount_held h' kind ≡ amount_held h kind + n
-held_more Bytes n h h' more = ap (λ (k : Holdings). k.bytes) more
-held_more Elements n h h' more = ap (λ (k : Holdings). k.elements) more
+held_more Bytes n h h' more = ap (λ (k : Holdings). k.held.bytes) more
+held_more Elements n h h' more = ap (λ (k : Holdings). k.held.elements) more
 
 -- where as much is held of each kind, as much is held of one
 held_same : (kind : Kind) (h h' : Holdings) → HoldsTheSame h h' → amount_held h' kind ≡ amount_held h kind
@@ -42,11 +45,11 @@ taken_back : (kind : Kind) (n : ℕ) (h p h' : Holdings) → p ≡ with_more h k
     → amount_held h' kind ≡ amount_held h kind
 taken_back Bytes n h p h' more back =
     let after = back ∙ ap (without_last Bytes) more in
-    let less : h'.bytes ≡ (h.bytes + n) - n = ap (λ (k : Holdings). k.bytes) after in
+    let less : h'.held.bytes ≡ (h.held.bytes + n) - n = ap (λ (k : Holdings). k.held.bytes) after in
     omega arith
 taken_back Elements n h p h' more back =
     let after = back ∙ ap (without_last Elements) more in
-    let less : h'.elements ≡ (h.elements + n) - n = ap (λ (k : Holdings). k.elements) after in
+    let less : h'.held.elements ≡ (h.held.elements + n) - n = ap (λ (k : Holdings). k.held.elements) after in
     omega arith
 
 -- a denial keeps what is held
@@ -83,17 +86,18 @@ module _ {V E : Type 0} (e : Request V E) where
 
   module _ (tells : TellsOfKind e) (quota quota' : Quota) where
     -- a permission that is followed by a notice
-    failure_counts : (cause : E) (notice_answer : NoticeAnswer) (p : Quota) → Asked quota e.question (Ok true) p
-        → Noticed p (e.notice cause) notice_answer quota' → Counts kind quota 0 quota' 0
+    failure_counts : (cause : E) (notice_answer : NoticeAnswer) (p : Quota)
+        → Asked capped_quota quota e.question (Ok true) p
+        → Noticed capped_quota p (e.notice cause) notice_answer quota' → Counts kind quota 0 quota' 0
     failure_counts cause notice_answer p asked noticed =
-        let more = asked_reserves quota p e.question (Ok true) asked in
+        let more = asked_reserves capped_quota quota p e.question (Ok true) asked in
         let back = rw (tells cause) at noticed.gives_back in
         let same = taken_back kind asked_for (holdings quota) (holdings p) (holdings quota') more back in
         record {
           held = omega (arith, same);
           within = λ caps.
-              let permitted = asked_is_within quota p caps e.question (Ok true) asked in
-              noticed_is_within p quota' permitted (e.notice cause) notice_answer noticed;
+              let permitted = asked_is_within capped_quota quota_keeps quota p caps e.question (Ok true) asked in
+              noticed_is_within capped_quota quota_keeps p quota' permitted (e.notice cause) notice_answer noticed;
         }
 
     -- an attempt, however it ends
@@ -102,19 +106,19 @@ module _ {V E : Type 0} (e : Request V E) where
         → Counts kind quota 0 quota' (added outcome)
     attempt_counts m (Unasked cause) may follows = nothing_counts kind 0 quota quota' follows
     attempt_counts m (Denied answer) may follows =
-        let reserves = asked_reserves quota quota' e.question answer follows in
+        let reserves = asked_reserves capped_quota quota quota' e.question answer follows in
         let denied = denied_same e.question answer (holdings quota) (holdings quota') may.1 reserves in
         let same = held_same kind (holdings quota) (holdings quota') denied in
         record {
           held = omega (arith, same);
-          within = λ caps. asked_is_within quota quota' caps e.question answer follows;
+          within = λ caps. asked_is_within capped_quota quota_keeps quota quota' caps e.question answer follows;
         }
     attempt_counts m Met may follows =
-        let reserves = asked_reserves quota quota' e.question (Ok true) follows in
+        let reserves = asked_reserves capped_quota quota quota' e.question (Ok true) follows in
         let more = held_more kind asked_for (holdings quota) (holdings quota') reserves in
         record {
           held = omega (arith, more);
-          within = λ caps. asked_is_within quota quota' caps e.question (Ok true) follows;
+          within = λ caps. asked_is_within capped_quota quota_keeps quota quota' caps e.question (Ok true) follows;
         }
     attempt_counts m (Failed cause notice_answer) may (Some p, asked, noticed) =
         failure_counts cause notice_answer p asked noticed
@@ -139,45 +143,39 @@ module _ {T E : Type 0} (e : Request (Unit {0}) E) (made : T) (size : Result T E
       subst (λ n. Counts (kind e) quota 0 quota' n) (size_made outcome ∙ ap size (sym answered)) counts
 
 -- a value with a meter and a quota
-abbrev under : {V : Type 0} → Quota → V → Option Meter → MeteredValue V (Option Quota)
-under quota x m = record { value = x; meter = m; limiter = Some quota }
+abbrev under : {V : Type 0} → Quota → V → Option Meter → MeteredValue V Quota
+under quota x m = record { value = x; meter = m; limiter = quota }
 
--- a value is the same where it is with its meter and its quota
-same_value : {V : Type 0} (quota quota' : Quota) (x x' : V) (m m' : Option Meter)
-    → under quota' x' m' ≡ under quota x m → x' ≡ x
-same_value {V = V} quota quota' x x' m m' same = ap (λ (s : MeteredValue V (Option Quota)). s.value) same
-
--- a quota is the same where it is with a value and its meter
-same_quota : {V : Type 0} (quota quota' : Quota) (x x' : V) (m m' : Option Meter)
-    → under quota' x' m' ≡ under quota x m → Some quota' ≡ Some quota
-same_quota {V = V} quota quota' x x' m m' same = ap (λ (s : MeteredValue V (Option Quota)). s.limiter) same
+-- the quota is lent
+abbrev lent : {V : Type 0} → MeteredValue V Quota → MeteredValue V (Option Quota)
+lent s = record { value = s.value; meter = s.meter; limiter = Some s.limiter }
 
 -- a growth that left all as it was
-untouched_counts : {V : Type 0} (kind : Kind) (size : V → ℕ) (quota quota' : Quota) (x x' : V) (m m' : Option Meter)
-    → under quota' x' m' ≡ under quota x m → Counts kind quota (size x) quota' (size x')
-untouched_counts kind size quota quota' x x' m m' same =
-    rw (same_value quota quota' x x' m m' same) (
-    nothing_counts kind (size x) quota quota' (same_quota quota quota' x x' m m' same)
+untouched_counts : {V : Type 0} (kind : Kind) (size : V → ℕ) (s s' : MeteredValue V Quota) → lent s' ≡ lent s
+    → Counts kind s.limiter (size s.value) s'.limiter (size s'.value)
+untouched_counts {V = V} kind size s s' same =
+    rw (ap (λ (t : MeteredValue V (Option Quota)). t.value) same) (
+    nothing_counts kind (size s.value) s.limiter s'.limiter (ap (λ (t : MeteredValue V (Option Quota)). t.limiter) same)
     )
 
-module _ {V E : Type 0} (g : Growth V E) (size : V → ℕ) (x : V)
-    (full : size g.request.grown ≡ size x + asked_for g.request) (tells : TellsOfKind g.request) where
+module _ {V E : Type 0} (g : Growth V E) (size : V → ℕ) (s : MeteredValue V Quota)
+    (full : size g.request.grown ≡ size s.value + asked_for g.request) (tells : TellsOfKind g.request) where
   -- an attempt adds the same to the size as to what is held
-  size_grown : (outcome : AttemptOutcome E) → size (value_after g.request x outcome) ≡ size x + added g.request outcome
+  size_grown : (outcome : AttemptOutcome E)
+      → size (value_after g.request s.value outcome) ≡ size s.value + added g.request outcome
   size_grown (Unasked cause) = omega arith
   size_grown (Denied answer) = omega arith
   size_grown Met = full
   size_grown (Failed cause notice_answer) = omega arith
 
   -- a growth counts as the difference of the sizes, however it ends
-  growth_counts : (quota quota' : Quota) (m m' : Option Meter) (x' : V) (result : Result ℕ E) (charge : ℕ)
-      → Grows (optional_rules quota_rules) g (under quota x m) result charge (under quota' x' m')
-      → Counts (kind g.request) quota (size x) quota' (size x')
-  growth_counts quota quota' m m' x' result charge (inl none) =
-      untouched_counts (kind g.request) size quota quota' x x' m m' none.same
-  growth_counts quota quota' m m' x' result charge (inr some) =
-      let counts = attempt_counts g.request tells quota quota' m some.outcome some.attempt.may_end some.attempt.follows
-      in
+  growth_counts : (s' : MeteredValue V Quota) (result : Result ℕ E) (charge : ℕ)
+      → Grows (optional_rules quota_rules) g (lent s) result charge (lent s')
+      → Counts (kind g.request) s.limiter (size s.value) s'.limiter (size s'.value)
+  growth_counts s' result charge (inl none) = untouched_counts (kind g.request) size s s' none.same
+  growth_counts s' result charge (inr some) =
+      let counts = attempt_counts g.request tells s.limiter s'.limiter s.meter some.outcome some.attempt.may_end
+      some.attempt.follows in
       let sizes = ap size some.attempt.value ∙ size_grown some.outcome in
       record { held = omega (arith, sizes, counts.held); within = counts.within }
 
@@ -211,27 +209,32 @@ module _ (quota quota' : Quota) where
 
   -- a memory that grows
   pub memory_grown_counts : (pages : ℕ) (x x' : MemoryValue) (m m' : Option Meter) (result : Result ℕ MemoryError)
-      (charge : ℕ) → GrowsMemory (optional_rules quota_rules) pages (under quota x m) result charge (under quota' x' m')
+      (charge : ℕ)
+      → GrowsMemory (optional_rules quota_rules) pages (lent (under quota x m)) result charge
+      (lent (under quota' x' m'))
       → Counts Bytes quota (length x.bytes) quota' (length x'.bytes)
-  memory_grown_counts pages x x' m m' =
+  memory_grown_counts pages x x' m m' result charge =
       let g : Growth _ _ = record { amount = pages; size = pages_of x; request = memory.growth_of x pages } in
       let full = length_grown x.bytes (pages * page_bytes x.ty.page) 0 in
-      growth_counts g (λ (y : MemoryValue). length y.bytes) x full (λ cause. refl) quota quota' m m' x'
+      growth_counts g (λ (y : MemoryValue). length y.bytes) (under quota x m) full (λ cause. refl) (under quota' x' m')
+      result charge
 
   module _ (n : ℕ) (x x' : TableValue) (m m' : Option Meter) (result : Result ℕ TableError) (charge : ℕ) where
     -- a table that grows
     pub table_grown_counts : (reference : ℕ)
-        → GrowsTableRaw (optional_rules quota_rules) n reference (under quota x m) result charge (under quota' x' m')
+        → GrowsTableRaw (optional_rules quota_rules) n reference (lent (under quota x m)) result charge
+        (lent (under quota' x' m'))
         → Counts Elements quota (size_of x) quota' (size_of x')
     table_grown_counts reference =
         let g : Growth _ _ = record { amount = n; size = size_of x; request = table.growth_of x n reference } in
         let full = length_grown x.elements n reference in
-        growth_counts g size_of x full (λ cause. refl) quota quota' m m' x' result charge
+        growth_counts g size_of (under quota x m) full (λ cause. refl) (under quota' x' m') result charge
 
     -- a table that grows by a reference with a type
     pub typed_table_grown_counts : (init : _)
-        → GrowsTable (optional_rules quota_rules) n init (under quota x m) result charge (under quota' x' m')
+        → GrowsTable (optional_rules quota_rules) n init (lent (under quota x m)) result charge
+        (lent (under quota' x' m'))
         → Counts Elements quota (size_of x) quota' (size_of x')
     typed_table_grown_counts init grows =
         on_test (same_type x.ty.element init.ty) _ _ grows (table_grown_counts init.raw)
-        (λ refused. untouched_counts Elements size_of quota quota' x x' m m' refused.2)
+        (λ refused. untouched_counts Elements size_of (under quota x m) (under quota' x' m') refused.2)

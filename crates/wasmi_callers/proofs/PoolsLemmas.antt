@@ -44,19 +44,10 @@ pub beside_after : OthersDontShow
     → RunsTenantBy (permitting (optional_rules tenant_rules)) pool index calls replies pool'
     → RunsBeside pool index calls replies
 beside_after hidden pool index calls replies pool' permitted =
-    let ran = permitted.ran in (
-      permitted.machine,
-      permitted.machine',
-      permitted.tenant',
-      permitted.found,
-      (
-        ran.0,
-        ran.1,
-        ran.2,
-        hidden permitted.machine permitted.machine'
-            (tenant_at pool index permitted.machine) permitted.tenant' ran.0 ran.3,
-      ),
-    )
+    let ran = permitted.ran in
+    let beside = hidden permitted.machine permitted.machine' (tenant_at pool index permitted.machine) permitted.tenant'
+    ran.0 ran.3 in
+    (permitted.machine, permitted.machine', permitted.tenant', permitted.found, (ran.0, ran.1, ran.2, beside))
 
 -- a run of a tenant of which no reply tells of want of memory
 pub record RunsWithMemory (pool : PoolValue) (index : ℕ) (calls : List Call) (pool' : PoolValue) : Type 0 where

@@ -16,9 +16,10 @@ use Rattle.wasmi_core.specs.LentMemory.{RunInRegions, owned_world, unlent_world}
 use Rattle.wasmi_core.specs.Determinism.{HasMemory, HaveMemory}
 use Rattle.wasmi_callers.specs.Runs.{FitsAnyRegions, HasRegionFor}
 use Rattle.wasmi_core.specs.Laws.{LentRunsAreOwned, LentCreationsAreOwned, QuotasStayWithin}
+use Rattle.wasmi_meter.specs.declared.limiter.Kind.{Kind}
 use Rattle.wasmi_meter.specs.declared.limiter.Kind.TheVariants.{Bytes, Elements}
 use Rattle.wasmi_meter.specs.declared.quota.Quota.{Quota}
-use Rattle.wasmi_meter.specs.Quota.{holdings, cap_of, IsWithinCaps, quota_rules}
+use Rattle.wasmi_meter.specs.Quota.{holdings, cap_of, IsWithinCaps, SameCaps, quota_rules}
 use Rattle.wasmi_meter.specs.Limiter.{optional_rules}
 use Rattle.wasmi_core.specs.World.{world}
 use Rattle.wasmi_core.specs.Totals.{total, HoldsTotals}
@@ -89,19 +90,15 @@ pub replies_have : (turns : List Turn) (replies : List Reply) → map Turn.reply
     → HaveMemory turns
 replies_have turns replies is has = all_have turns (subst (All HasMemory) (sym is) has)
 
--- what a machine has, once its quota stayed within its caps
-pub record IsWithin (s : State) (quota : Quota) : Type 0 where
-  pub bytes : total s Bytes ≤ cap_of quota Bytes
-  pub elements : total s Elements ≤ cap_of quota Elements
+-- a machine has no more than the caps of a quota
+abbrev IsWithin : State → Quota → Type 0
+IsWithin s quota = (kind : Kind) → total s kind ≤ cap_of quota kind
 
 -- a machine is within caps where a quota holds what it has, is within its caps, and has the same caps
 held_within : (s : State) (first quota : Quota) → HoldsTotals (holdings quota) s → IsWithinCaps quota
-    → (quota.bytes ≡ first.bytes) × (quota.elements ≡ first.elements) → IsWithin s first
-held_within s first quota held within caps =
-    record {
-      bytes = omega (arith, held.bytes, within.bytes, caps.0);
-      elements = omega (arith, held.elements, within.elements, caps.1);
-    }
+    → SameCaps first quota → IsWithin s first
+held_within s first quota held within caps Bytes = omega (arith, held.bytes, within Bytes, caps Bytes)
+held_within s first quota held within caps Elements = omega (arith, held.elements, within Elements, caps Elements)
 
 -- a machine whose quota was within its caps is within them after a run that was accepted or refused
 pub within_quota : {R E : Type 0} (items : R → List Reply) → QuotasStayWithin
@@ -115,7 +112,7 @@ within_quota items stays s s' quota quota' calls (Ok replies) within held ran sa
     let after = stays s quota within ran.0 (world s' (Some quota')) ran.3 in
     let is : quota' ≡ after.0 = same_Some quota' after.0 after.1 in
     held_within s' quota quota' held (subst IsWithinCaps (sym is) after.2)
-    (ap (λ (q : Quota). q.bytes) is ∙ after.3.bytes, ap (λ (q : Quota). q.elements) is ∙ after.3.elements)
+    (subst (SameCaps quota) (sym is) after.3)
 within_quota items stays s s' quota quota' calls (Err error) within held ran same =
     held_within s' quota quota' held (subst IsWithinCaps (sym same.1) within)
-    (ap (λ (q : Quota). q.bytes) same.1, ap (λ (q : Quota). q.elements) same.1)
+    (λ kind. ap (λ q. cap_of q kind) same.1)

@@ -7,7 +7,7 @@ use Rattle.wasmi_core.specs.State.{State}
 use Rattle.wasmi_core.specs.World.{world}
 use Rattle.wasmi_core.specs.Runs.{IsRunOf}
 use Rattle.wasmi_budget.specs.declared.tenant.Tenant.{Tenant}
-use Rattle.wasmi_budget.specs.Tenant.{tenant_rules, alone}
+use Rattle.wasmi_budget.specs.Tenant.{tenant_rules, without_others}
 use Rattle.wasmi_budget.specs.Pool.{PoolValue, tenant_at}
 use Rattle.wasmi_budget.specs.Runs.{Ran, PoolRun}
 
@@ -22,5 +22,5 @@ RunsAlone pool index calls replies pool' =
 abbrev pub RunsBeside : PoolValue → ℕ → List Call → List Reply → Type 0
 RunsBeside pool index calls replies =
     (s : State) × (s' : State) × (tenant' : Tenant) × (slice_get pool.machines index ≡ Some s)
-    × IsRunOf (optional_rules tenant_rules) calls (world s (Some (alone (tenant_at pool index s)))) replies
-    (world s' (Some (alone tenant')))
+    × IsRunOf (optional_rules tenant_rules) calls (world s (Some (without_others (tenant_at pool index s)))) replies
+    (world s' (Some (without_others tenant')))

@@ -56,7 +56,7 @@ pub fn make_grown_memory<'r>(
     pages: u64,
     cap: u64,
 ) -> Result<(Memory<'r>, Quota), MemoryError>
-    ensures held { IfOk result (λ made. (holdings made.1).bytes ≡ length made.0.bytes) }
+    ensures held { IfOk result (λ made. (holdings made.1).held.bytes ≡ length made.0.bytes) }
     ensures within { IfOk result (λ made. IsWithinCaps made.1) }
 {
     let mut quota = Quota::new(cap, 0);

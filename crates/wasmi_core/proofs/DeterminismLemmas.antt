@@ -1,6 +1,5 @@
 -- Where the limiter leaves no choice and memory isn't wanting, a turn is decided by its call.
-use Rattle.std.proofs.Common.{Bool, Err, List, None, Ok, Option, Result, Some, [], ap, arith, false, inl, inr, map, refl, subst, sym, true, ℕ, ◌+◌, ◌-◌, ◌∙◌, ◌∷◌, ◌≡◌}
-use Rattle.std.proofs.lemmas.Bool.{cases_lt}
+use Rattle.std.proofs.Common.{Bool, Err, List, None, Ok, Option, Result, Some, [], ap, arith, false, inl, inr, map, refl, subst, sym, true, ℕ, ◌∙◌, ◌∷◌, ◌≡◌}
 use Rattle.std.proofs.lemmas.Option.{none-some, same_Some}
 use Rattle.std.specs.Option.{option_map}
 use Rattle.std.specs.Prelude.{MatchBool}
@@ -20,13 +19,13 @@ use Rattle.wasmi_core.specs.declared.calls.Call.{Call}
 use Rattle.wasmi_core.specs.declared.calls.Reply.{Reply}
 use Rattle.wasmi_core.specs.declared.slots.Slot.{Slot}
 use Rattle.wasmi_meter.specs.Attempt.{Attempt, Denied, Request, Failed, AttemptOutcome, Follows, IsFirstCause, MayEnd, Met, MeteredValue, Unasked, alone, optional_due, answer_of, covers, outcome_charge, value_after}
-use Rattle.wasmi_meter.specs.Holdings.{Holdings, amount_held}
+use Rattle.wasmi_meter.specs.Capped.{Capped, capped_rules}
 use Rattle.wasmi_meter.specs.Limiter.{Answer, Failure, NoticeAnswer, IsDenial, MemoryFailure, Question, Rules, TableFailure, optional_rules, unlimited_rules}
 use Rattle.wasmi_meter.specs.Meter.{Meter, meter_after}
-use Rattle.wasmi_meter.specs.Quota.{Asked, SameCaps, cap_of, holdings, quota_rules}
+use Rattle.wasmi_meter.specs.Quota.{capped_quota, quota_rules}
+use Rattle.wasmi_meter.proofs.CappedLemmas.{asked_once, noticed_once}
 use Rattle.wasmi_meter.specs.declared.error.MemoryError.{MemoryError}
 use Rattle.wasmi_meter.specs.declared.error.TableError.{TableError}
-use Rattle.wasmi_meter.specs.declared.quota.Quota.{Quota}
 use Rattle.wasmi_store.proofs.GrowthLemmas.{on_test}
 use Rattle.wasmi_store.specs.Buffer.{LacksMemory, Lent, Owned, Room}
 use Rattle.wasmi_store.specs.Growth.{Grows, Growth, Makes}
@@ -399,34 +398,10 @@ unlimited_once = record {
   noticed = λ l failure a a' l' l'' h h'. (h.0 ∙ sym h'.0, h.1 ∙ sym h'.1);
 }
 
--- a quota
-same_quota : (quota quota' quota'' : Quota) → SameCaps quota quota' → SameCaps quota quota''
-    → holdings quota' ≡ holdings quota'' → quota' ≡ quota''
-same_quota quota quota' quota'' caps caps' same = λ i. record {
-  bytes = (caps.bytes ∙ sym caps'.bytes) i;
-  elements = (caps.elements ∙ sym caps'.elements) i;
-  held_bytes = ap (λ (h : Holdings). h.bytes) same i;
-  held_elements = ap (λ (h : Holdings). h.elements) same i;
-  last = ap (λ (h : Holdings). h.last) same i;
-}
-
--- a question to a quota
-quota_asks : (quota : Quota) (q : Question) (a a' : Answer) (quota' quota'' : Quota) → Asked quota q a quota'
-    → Asked quota q a' quota'' → (a ≡ a') × (quota' ≡ quota'')
-quota_asks quota q a a' quota' quota'' h h' =
-    elim (cases_lt (cap_of quota q.kind) (amount_held (holdings quota) q.kind + (q.desired - q.current))) [
-      | inl above ↦ ((h.denies above).0 ∙ sym (h'.denies above).0, (h.denies above).1 ∙ sym (h'.denies above).1)
-      | inr within ↦ (
-        (h.permits within).0 ∙ sym (h'.permits within).0,
-        same_quota quota quota' quota'' h.caps h'.caps
-            ((h.permits within).1 ∙ sym (h'.permits within).1),
-      )
-    ]
+-- limiters with caps
+pub capped_once : {L : Type 0} (c : Capped L) → IsDeterministic (capped_rules c)
+capped_once c = record { asked = asked_once c; noticed = noticed_once c }
 
 -- so a quota leaves no choice
 pub quota_once : IsDeterministic quota_rules
-quota_once = record {
-  asked = λ l question a a' l' l'' h h'. quota_asks l question a a' l' l'' h h';
-  noticed = λ l failure a a' l' l'' h h'.
-      (h.accepts ∙ sym h'.accepts, same_quota l l' l'' h.caps h'.caps (h.gives_back ∙ sym h'.gives_back));
-}
+quota_once = capped_once capped_quota

@@ -4,7 +4,8 @@ use Rattle.std.proofs.lemmas.Option.{same_Some}
 use Rattle.std.proofs.Common.{subst, IfOk, OnErr}
 use Rattle.wasmi_meter.specs.declared.limiter.Kind.{Kind}
 use Rattle.wasmi_meter.specs.declared.limiter.Kind.TheVariants.{Bytes, Elements}
-use Rattle.wasmi_meter.specs.Holdings.{Holdings, HoldsTheSame, Reserves, GivesBack, with_more, without_last}
+use Rattle.wasmi_meter.specs.declared.holdings.Holdings.{Holdings}
+use Rattle.wasmi_meter.specs.Holdings.{HoldsTheSame, Reserves, GivesBack, with_more, without_last}
 use Rattle.wasmi_meter.specs.Limiter.{Question, Answer, IsDenial, Failure, kind_of, NoticeAnswer, Rules, optional_rules}
 use Rattle.wasmi_core.specs.declared.calls.Call.{Call}
 use Rattle.wasmi_core.specs.declared.calls.Reply.{Reply}
@@ -29,15 +30,15 @@ given_back : (kind : Kind) (n : ℕ) (h p h' : Holdings) → p ≡ with_more h k
 given_back Bytes n h p h' more gives =
     let less = gives ∙ ap (without_last Bytes) more in
     record {
-      bytes = ap (λ (x : Holdings). x.bytes) less
+      bytes = ap (λ (x : Holdings). x.held.bytes) less
           ∙ omega arith;
-      elements = ap (λ (x : Holdings). x.elements) less;
+      elements = ap (λ (x : Holdings). x.held.elements) less;
     }
 given_back Elements n h p h' more gives =
     let less = gives ∙ ap (without_last Elements) more in
     record {
-      bytes = ap (λ (x : Holdings). x.bytes) less;
-      elements = ap (λ (x : Holdings). x.elements) less
+      bytes = ap (λ (x : Holdings). x.held.bytes) less;
+      elements = ap (λ (x : Holdings). x.held.elements) less
           ∙ omega arith;
     }
 
@@ -64,12 +65,12 @@ module _ (s s' : State) where
       → sum (sizes s' kind) ≡ sum (sizes s kind) + n
       → ((other : Kind) → other ≢ kind → sizes s' other ≡ sizes s other) → HoldsTotals h' s'
   more_held Bytes n h h' held more grown others = record {
-    bytes = ap (λ (x : Holdings). x.bytes) more ∙ ap (λ k. k + n) held.bytes ∙ sym grown;
-    elements = ap (λ (x : Holdings). x.elements) more ∙ held.elements ∙ ap sum (sym (others Elements (λ e. cc)));
+    bytes = ap (λ (x : Holdings). x.held.bytes) more ∙ ap (λ k. k + n) held.bytes ∙ sym grown;
+    elements = ap (λ (x : Holdings). x.held.elements) more ∙ held.elements ∙ ap sum (sym (others Elements (λ e. cc)));
   }
   more_held Elements n h h' held more grown others = record {
-    bytes = ap (λ (x : Holdings). x.bytes) more ∙ held.bytes ∙ ap sum (sym (others Bytes (λ e. cc)));
-    elements = ap (λ (x : Holdings). x.elements) more ∙ ap (λ k. k + n) held.elements ∙ sym grown;
+    bytes = ap (λ (x : Holdings). x.held.bytes) more ∙ held.bytes ∙ ap sum (sym (others Bytes (λ e. cc)));
+    elements = ap (λ (x : Holdings). x.held.elements) more ∙ ap (λ k. k + n) held.elements ∙ sym grown;
   }
 
 -- what the questions to a limiter add to what it holds, and what notices take back

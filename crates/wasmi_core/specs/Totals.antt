@@ -2,7 +2,7 @@
 use Rattle.std.specs.Prelude.{◌≡◌, ℕ, List, length, map, sum}
 use Rattle.wasmi_meter.specs.declared.limiter.Kind.{Kind}
 use Rattle.wasmi_meter.specs.declared.limiter.Kind.TheVariants.{Bytes, Elements}
-use Rattle.wasmi_meter.specs.Holdings.{Holdings}
+use Rattle.wasmi_meter.specs.declared.holdings.Holdings.{Holdings}
 use Rattle.wasmi_store.specs.Memory.{MemoryValue}
 use Rattle.wasmi_store.specs.Table.{size_of}
 use Rattle.wasmi_core.specs.declared.slots.Slot.{Slot}
@@ -29,5 +29,5 @@ total s kind = sum (sizes s kind)
 
 -- exactly these totals are held
 pub record HoldsTotals (h : Holdings) (s : State) : Type 0 where
-  pub bytes : h.bytes ≡ total s Bytes
-  pub elements : h.elements ≡ total s Elements
+  pub bytes : h.held.bytes ≡ total s Bytes
+  pub elements : h.held.elements ≡ total s Elements

@@ -1,2 +1,3 @@
 pub mod AttemptLemmas
+pub mod CappedLemmas
 pub mod QuotaLemmas

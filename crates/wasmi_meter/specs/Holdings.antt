@@ -1,40 +1,42 @@
 -- What a limiter holds that counts its permissions.
-use Rattle.std.specs.Prelude.{◌≡◌, ℕ, ◌+◌, ◌-◌, Option, Some, None, Ok, Err, true, false}
+use Rattle.std.specs.Prelude.{◌≡◌, ℕ, ◌+◌, ◌-◌, ◌≤◌, ◌<◌, Option, Some, None, Ok, Err, Bool, true, false}
+use Rattle.wasmi_meter.specs.declared.holdings.Holdings.{Holdings}
 use Rattle.wasmi_meter.specs.declared.limiter.Kind.{Kind}
 use Rattle.wasmi_meter.specs.declared.limiter.Kind.TheVariants.{Bytes, Elements}
+use Rattle.wasmi_meter.specs.Amounts.{amount_of, with_amount}
 use Rattle.wasmi_meter.specs.Limiter.{Question, Answer}
-
--- what is held of each kind, and the last difference that was permitted and not given back
-pub record Holdings : Type 0 where
-  pub bytes : ℕ
-  pub elements : ℕ
-  pub last : Option (Kind × ℕ)
 
 -- what is held of a kind
 abbrev pub amount_held : Holdings → Kind → ℕ
-amount_held h Bytes = h.bytes
-amount_held h Elements = h.elements
+amount_held h kind = amount_of h.held kind
 
 -- n more of a kind
 abbrev pub with_more : Holdings → Kind → ℕ → Holdings
-with_more h Bytes n = record { bytes = h.bytes + n; elements = h.elements; last = Some (Bytes, n) }
-with_more h Elements n = record { bytes = h.bytes; elements = h.elements + n; last = Some (Elements, n) }
+with_more h kind n = record { held = with_amount h.held kind (amount_held h kind + n); last = Some (kind, n) }
 
 -- a notice of a kind takes back the last difference of that kind, once; with nothing of that kind to take back, all
 -- stays
 abbrev pub without_last_of : Kind → Holdings → Option (Kind × ℕ) → Holdings
-without_last_of Bytes h (Some (Bytes, n)) = record { bytes = h.bytes - n; elements = h.elements; last = None }
-without_last_of Elements h (Some (Elements, n)) = record { bytes = h.bytes; elements = h.elements - n; last = None }
+without_last_of Bytes h (Some (Bytes, n)) =
+    record { held = with_amount h.held Bytes (h.held.bytes - n); last = None }
+without_last_of Elements h (Some (Elements, n)) =
+    record { held = with_amount h.held Elements (h.held.elements - n); last = None }
 without_last_of kind h last = h
 
 -- what is held after a notice of a kind
 abbrev pub without_last : Kind → Holdings → Holdings
 without_last kind h = without_last_of kind h h.last
 
+-- so many more of a kind are taken exactly where they stay, with what is held and what others hold, within the cap, and
+-- nothing changes otherwise
+pub record Takes (others cap : ℕ) (h : Holdings) (kind : Kind) (n : ℕ) (taken : Bool) (h' : Holdings) : Type 0 where
+  pub within : others + amount_held h kind + n ≤ cap → (taken ≡ true) × (h' ≡ with_more h kind n)
+  pub above : cap < others + amount_held h kind + n → (taken ≡ false) × (h' ≡ h)
+
 -- as much is held of each kind
 pub record HoldsTheSame (h h' : Holdings) : Type 0 where
-  pub bytes : h'.bytes ≡ h.bytes
-  pub elements : h'.elements ≡ h.elements
+  pub bytes : h'.held.bytes ≡ h.held.bytes
+  pub elements : h'.held.elements ≡ h.held.elements
 
 -- a permission adds the difference that was asked for, and another answer keeps what is held
 abbrev pub Reserves : Question → Answer → Holdings → Holdings → Type 0

@@ -4,8 +4,10 @@ pub mod Lending
 pub mod Costs
 pub mod Meter
 pub mod Attempt
+pub mod Amounts
 pub mod Holdings
+pub mod Capped
+pub mod CappedProofs
 pub mod Quota
-pub mod QuotaProofs
 pub mod Texts
 pub mod Errors

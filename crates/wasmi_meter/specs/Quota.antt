@@ -1,45 +1,37 @@
--- A quota's rule.
-use Rattle.std.specs.Prelude.{◌≡◌, ◌+◌, ◌-◌, ◌≤◌, ◌<◌, ℕ, Ok, true, false}
+-- A quota's rules: those of limiters with caps, where no others hold anything.
+use Rattle.std.specs.Prelude.{◌≡◌, ℕ}
+use Rattle.wasmi_meter.specs.declared.holdings.Holdings.{Holdings}
 use Rattle.wasmi_meter.specs.declared.limiter.Kind.{Kind}
-use Rattle.wasmi_meter.specs.declared.limiter.Kind.TheVariants.{Bytes, Elements}
 use Rattle.wasmi_meter.specs.declared.quota.Quota.{Quota}
-use Rattle.wasmi_meter.specs.Limiter.{Question, Answer, Failure, NoticeAnswer, kind_of, Rules}
-use Rattle.wasmi_meter.specs.Holdings.{Holdings, amount_held, with_more, without_last}
+use Rattle.wasmi_meter.specs.Amounts.{amount_of}
+use Rattle.wasmi_meter.specs.Capped.{Capped, IsWithin, capped_rules}
+use Rattle.wasmi_meter.specs.Limiter.{Rules}
 
 -- what a quota holds
 abbrev pub holdings : Quota → Holdings
-holdings quota = record { bytes = quota.held_bytes; elements = quota.held_elements; last = quota.last }
+holdings quota = quota.holdings
 
 -- the most that it may hold of a kind
 abbrev pub cap_of : Quota → Kind → ℕ
-cap_of quota Bytes = quota.bytes
-cap_of quota Elements = quota.elements
+cap_of quota kind = amount_of quota.caps kind
+
+-- quotas as limiters with caps
+abbrev pub capped_quota : Capped Quota
+capped_quota = record {
+  holdings = holdings;
+  with_holdings = λ quota h. record quota { holdings = h };
+  others = λ quota kind. 0;
+  cap = cap_of;
+}
 
 -- no more of a kind is held than its cap
-pub record IsWithinCaps (quota : Quota) : Type 0 where
-  pub bytes : (holdings quota).bytes ≤ cap_of quota Bytes
-  pub elements : (holdings quota).elements ≤ cap_of quota Elements
+abbrev pub IsWithinCaps : Quota → Type 0
+IsWithinCaps = IsWithin capped_quota
 
 -- the caps stay
-pub record SameCaps (quota quota' : Quota) : Type 0 where
-  pub bytes : quota'.bytes ≡ quota.bytes
-  pub elements : quota'.elements ≡ quota.elements
-
--- It permits exactly where what is held and the difference aren't above the cap, and says no and changes nothing
--- otherwise.
-pub record Asked (quota : Quota) (q : Question) (answer : Answer) (quota' : Quota) : Type 0 where
-  pub permits : amount_held (holdings quota) q.kind + (q.desired - q.current) ≤ cap_of quota q.kind →
-      (answer ≡ Ok true) × (holdings quota' ≡ with_more (holdings quota) q.kind (q.desired - q.current))
-  pub denies : cap_of quota q.kind < amount_held (holdings quota) q.kind + (q.desired - q.current)
-      → (answer ≡ Ok false) × (quota' ≡ quota)
-  pub caps : SameCaps quota quota'
-
--- It gives the last difference back where it is of the kind, once, and changes nothing otherwise.
-pub record Noticed (quota : Quota) (failure : Failure) (notice_answer : NoticeAnswer) (quota' : Quota) : Type 0 where
-  pub accepts : notice_answer ≡ Ok tt
-  pub gives_back : holdings quota' ≡ without_last (kind_of failure) (holdings quota)
-  pub caps : SameCaps quota quota'
+abbrev pub SameCaps : Quota → Quota → Type 0
+SameCaps quota quota' = (kind : Kind) → cap_of quota' kind ≡ cap_of quota kind
 
 -- the rules of a quota
 abbrev pub quota_rules : Rules Quota
-quota_rules = record { asked = Asked; noticed = Noticed }
+quota_rules = capped_rules capped_quota

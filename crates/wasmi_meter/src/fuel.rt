@@ -243,7 +243,7 @@ impl Model for Fuel {
 
 impl Fuel {
     ghost use Rattle.wasmi_meter.specs.Meter.{Meter, amount_left, meter_set, ConsumesFuel};
-    ghost use Rattle.wasmi_meter.specs.Costs.{costs_of};
+    ghost use Rattle.wasmi_meter.specs.Costs.{costs_of, default_costs};
 
     /// A meter with no fuel left yet.
     pub fn new(enabled: bool, costs: FuelCostsProvider) -> Self
@@ -255,6 +255,15 @@ impl Fuel {
             enabled,
             costs,
         }
+    }
+
+    /// A meter that is off, at the default costs.
+    ///
+    /// Own: upstream has no such call.
+    pub fn unmetered() -> Self
+        ensures { result ≡ record { left = None; costs = default_costs } }
+    {
+        Fuel::new(false, FuelCostsProvider::default())
     }
 
     fn check_fuel_metering_enabled(&self) -> Result<(), FuelError>

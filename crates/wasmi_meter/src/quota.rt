@@ -2,7 +2,9 @@
 ghost use Rattle.std.specs.Prelude.{◌≡◌, None};
 ghost use Rattle.wasmi_meter.specs.declared.limiter.Kind.TheVariants.{Bytes, Elements};
 
+use crate::amounts::Amounts;
 use crate::error::{LimiterError, MemoryError, TableError};
+use crate::holdings::Holdings;
 use crate::limiter::{Kind, ResourceLimiter};
 use crate::reserving::Reserving;
 
@@ -13,44 +15,50 @@ use crate::reserving::Reserving;
 /// Own: upstream implements no limiter.
 #[derive(Debug, Drop)]
 pub struct Quota {
-    bytes: u64,
-    elements: u64,
-    held_bytes: u64,
-    held_elements: u64,
-    last: Option<(Kind, u64)>,
+    caps: Amounts,
+    holdings: Holdings,
 }
 
 impl Quota {
-    ghost use Rattle.wasmi_meter.specs.Quota.{holdings, cap_of, IsWithinCaps};
+    ghost use Rattle.wasmi_meter.specs.Amounts.{nothing};
+    ghost use Rattle.wasmi_meter.specs.Capped.{TakesMore};
+    ghost use Rattle.wasmi_meter.specs.Quota.{holdings, cap_of, capped_quota, IsWithinCaps};
 
     /// A quota of so many bytes and elements, of which nothing is held yet.
     pub fn new(bytes: u64, elements: u64) -> Self
         ensures bytes { cap_of result Bytes ≡ bytes }
         ensures elements { cap_of result Elements ≡ elements }
-        ensures nothing_held { holdings result ≡ record { bytes = 0; elements = 0; last = None } }
+        ensures nothing_held { holdings result ≡ record { held = nothing; last = None } }
         ensures within { IsWithinCaps result }
     {
         Quota {
-            bytes,
-            elements,
-            held_bytes: 0,
-            held_elements: 0,
-            last: None,
+            caps: Amounts { bytes, elements },
+            holdings: Holdings::new(Amounts {
+                bytes: 0,
+                elements: 0,
+            }),
         }
     }
 
     /// The bytes that it permitted and that weren't given back.
     pub fn held_bytes(&self) -> u64
-        ensures { result ≡ (holdings self.now).bytes }
+        ensures { result ≡ (holdings self.now).held.bytes }
     {
-        self.held_bytes
+        self.holdings.held().bytes
     }
 
     /// The elements that it permitted and that weren't given back.
     pub fn held_elements(&self) -> u64
-        ensures { result ≡ (holdings self.now).elements }
+        ensures { result ≡ (holdings self.now).held.elements }
     {
-        self.held_elements
+        self.holdings.held().elements
+    }
+
+    /// Takes so many more of a kind, if what is held of it stays within the cap.
+    fn take(&mut self, kind: Kind, difference: u64) -> bool
+        ensures { TakesMore capped_quota self.old kind difference result self.new }
+    {
+        self.holdings.take(kind, difference, 0, self.caps.of(kind))
     }
 }
 
@@ -65,13 +73,7 @@ impl ResourceLimiter for Quota {
         desired: usize,
         _maximum: Option<usize>,
     ) -> Result<bool, LimiterError> {
-        let difference = (desired - current) as u64;
-        if self.held_bytes > self.bytes || difference > self.bytes - self.held_bytes {
-            return Ok(false);
-        }
-        self.held_bytes += difference;
-        self.last = Some((Kind::Bytes, difference));
-        Ok(true)
+        Ok(self.take(Kind::Bytes, (desired - current) as u64))
     }
 
     fn table_growing(
@@ -80,28 +82,16 @@ impl ResourceLimiter for Quota {
         desired: usize,
         _maximum: Option<usize>,
     ) -> Result<bool, LimiterError> {
-        let difference = (desired - current) as u64;
-        if self.held_elements > self.elements || difference > self.elements - self.held_elements {
-            return Ok(false);
-        }
-        self.held_elements += difference;
-        self.last = Some((Kind::Elements, difference));
-        Ok(true)
+        Ok(self.take(Kind::Elements, (desired - current) as u64))
     }
 
     fn memory_grow_failed(&mut self, _error: &MemoryError) -> Result<(), LimiterError> {
-        if let Some((Kind::Bytes, difference)) = self.last {
-            self.held_bytes = self.held_bytes.saturating_sub(difference);
-            self.last = None;
-        }
+        self.holdings.give_back(Kind::Bytes);
         Ok(())
     }
 
     fn table_grow_failed(&mut self, _error: &TableError) -> Result<(), LimiterError> {
-        if let Some((Kind::Elements, difference)) = self.last {
-            self.held_elements = self.held_elements.saturating_sub(difference);
-            self.last = None;
-        }
+        self.holdings.give_back(Kind::Elements);
         Ok(())
     }
 
@@ -125,20 +115,20 @@ impl ResourceLimiter for Quota {
 }
 
 impl Reserving for Quota {
-    ghost use Rattle.wasmi_meter.specs.Quota.{holdings};
-    ghost use Rattle.wasmi_meter.specs.QuotaProofs.{asked_reserves};
+    ghost use Rattle.wasmi_meter.specs.CappedProofs.{asked_reserves, noticed_gives_back};
+    ghost use Rattle.wasmi_meter.specs.Quota.{holdings, capped_quota};
 
     ghost holdings = { holdings };
 
     fn held_bytes(&self) -> u64 {
-        self.held_bytes
+        self.holdings.held().bytes
     }
 
     fn held_elements(&self) -> u64 {
-        self.held_elements
+        self.holdings.held().elements
     }
 
-    ghost reserves = { asked_reserves };
+    ghost reserves = { asked_reserves capped_quota };
 
-    ghost gives_back = { λ l l' failure notice_answer noticed. noticed.gives_back };
+    ghost gives_back = { noticed_gives_back capped_quota };
 }

@@ -1,6 +1,7 @@
 //! Limiters that count what they permitted.
 ghost use Rattle.std.specs.Prelude.{◌≡◌};
-ghost use Rattle.wasmi_meter.specs.Holdings.{Holdings, Reserves, GivesBack};
+ghost use Rattle.wasmi_meter.specs.declared.holdings.Holdings.{Holdings};
+ghost use Rattle.wasmi_meter.specs.Holdings.{Reserves, GivesBack};
 ghost use Rattle.wasmi_meter.specs.Limiter.{Question, Answer, Failure, NoticeAnswer, kind_of};
 
 use crate::limiter::ResourceLimiter;
@@ -16,11 +17,11 @@ pub trait Reserving: ResourceLimiter {
 
     /// The bytes that it permitted and that weren't given back.
     fn held_bytes(&self) -> u64
-        ensures { result ≡ (holdings self.now).bytes };
+        ensures { result ≡ (holdings self.now).held.bytes };
 
     /// The elements that it permitted and that weren't given back.
     fn held_elements(&self) -> u64
-        ensures { result ≡ (holdings self.now).elements };
+        ensures { result ≡ (holdings self.now).held.elements };
 
     /// A permission adds the difference that was asked for, and another answer keeps what is held.
     ghost reserves: { (l l' : Self) (question : Question) (answer : Answer)

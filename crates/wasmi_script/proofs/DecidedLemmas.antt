@@ -8,7 +8,6 @@ use Rattle.std.proofs.lemmas.List.{map-append}
 use Rattle.std.proofs.lemmas.List.Elements.{All-head, All-tail, All-cons, All-nil}
 use Rattle.wasmi_meter.specs.declared.quota.Quota as quotas
 use Rattle.wasmi_meter.specs.Limiter.{Rules, unlimited_rules, optional_rules}
-use Rattle.wasmi_meter.specs.Holdings.{Holdings}
 use Rattle.wasmi_meter.specs.Quota.{holdings, quota_rules}
 use Rattle.wasmi_core.specs.declared.calls.Call.{Call}
 use Rattle.wasmi_core.specs.declared.calls.Call.TheVariants.{Write, NewSegment}
@@ -233,11 +232,8 @@ new_quotas : (asked : _) (quota quota' : quotas.Quota) → IsNewQuota asked quot
 new_quotas asked quota quota' new new' =
     let held : holdings quota ≡ holdings quota' = new.nothing ∙ sym new'.nothing in
     λ i. record {
-      bytes = (new.bytes ∙ sym new'.bytes) i;
-      elements = (new.elements ∙ sym new'.elements) i;
-      held_bytes = ap (λ (h : Holdings). h.bytes) held i;
-      held_elements = ap (λ (h : Holdings). h.elements) held i;
-      last = ap (λ (h : Holdings). h.last) held i;
+      caps = record { bytes = (new.bytes ∙ sym new'.bytes) i; elements = (new.elements ∙ sym new'.elements) i };
+      holdings = held i;
     }
 
 -- two runs have the same replies, and what is held then has the same text

@@ -4,7 +4,8 @@ use Rattle.wasmi_meter.specs.Limiter.{optional_rules, unlimited_rules}
 use Rattle.wasmi_meter.specs.declared.limiter.NoLimits.{NoLimits}
 use Rattle.wasmi_meter.specs.declared.quota.Quota.{Quota}
 use Rattle.wasmi_meter.specs.declared.limiter.Kind.TheVariants.{Bytes, Elements}
-use Rattle.wasmi_meter.specs.Holdings.{Holdings}
+use Rattle.wasmi_meter.specs.declared.holdings.Holdings.{Holdings}
+use Rattle.wasmi_meter.specs.Amounts.{nothing}
 use Rattle.wasmi_meter.specs.Quota.{quota_rules, cap_of, holdings}
 use Rattle.wasmi_core.specs.declared.calls.Call.{Call}
 use Rattle.wasmi_core.specs.State.{State, new_state}
@@ -30,7 +31,7 @@ use Rattle.wasmi_grammar.specs.Headers.{meter_of, start_of}
 
 -- what a limiter holds that has permitted nothing yet
 abbrev pub nothing_held : Holdings
-nothing_held = record { bytes = 0; elements = 0; last = None }
+nothing_held = record { held = nothing; last = None }
 
 -- a quota of these caps that holds nothing yet
 pub record IsNewQuota (line : QuotaLine) (quota : Quota) : Type 0 where
@@ -40,7 +41,7 @@ pub record IsNewQuota (line : QuotaLine) (quota : Quota) : Type 0 where
 
 -- what a quota holds, as the program prints it
 abbrev pub printed_holdings : Quota → Amounts
-printed_holdings quota = record { bytes = (holdings quota).bytes; elements = (holdings quota).elements }
+printed_holdings quota = record { bytes = (holdings quota).held.bytes; elements = (holdings quota).held.elements }
 
 -- the replies are those of a run of the calls from a machine, under a limiter that answers by these words
 abbrev pub IsListedReplay : List AnswerWord → State → List Call → Ran → Type 0

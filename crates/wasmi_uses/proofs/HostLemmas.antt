@@ -23,12 +23,12 @@ held_capped : (s : State) (quota quota' : Quota) → HoldsTotals (holdings quota
     → SameCaps quota quota' → IsCapped s quota
 held_capped s quota quota' held within caps =
     record {
-      bytes = omega (arith, held.bytes, within.bytes, caps.bytes);
+      bytes = omega (arith, held.bytes, within Bytes, caps Bytes);
       elements = omega (
         arith,
         held.elements,
-        within.elements,
-        caps.elements,
+        within Elements,
+        caps Elements,
       );
     }
 

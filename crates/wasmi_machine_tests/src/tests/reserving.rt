@@ -94,11 +94,11 @@ const COMPLAINT: LimiterError = LimiterError::ResourceLimiterDeniedAllocation;
 impl ResourceLimiter for Allowance {
     ghost rules = { record {
       asked = λ a question answer a'. Reserves question answer
-          (record { bytes = a.bytes; elements = a.elements; last = a.last })
-          (record { bytes = a'.bytes; elements = a'.elements; last = a'.last });
+          (record { held = record { bytes = a.bytes; elements = a.elements }; last = a.last })
+          (record { held = record { bytes = a'.bytes; elements = a'.elements }; last = a'.last });
       noticed = λ a failure notice_answer a'. GivesBack (kind_of failure)
-          (record { bytes = a.bytes; elements = a.elements; last = a.last })
-          (record { bytes = a'.bytes; elements = a'.elements; last = a'.last });
+          (record { held = record { bytes = a.bytes; elements = a.elements }; last = a.last })
+          (record { held = record { bytes = a'.bytes; elements = a'.elements }; last = a'.last });
     } };
 
     fn memory_growing(
@@ -169,7 +169,8 @@ impl ResourceLimiter for Allowance {
 }
 
 impl Reserving for Allowance {
-    ghost holdings = { λ a. record { bytes = a.bytes; elements = a.elements; last = a.last } };
+    ghost holdings = { λ a. record
+        { held = record { bytes = a.bytes; elements = a.elements }; last = a.last } };
 
     fn held_bytes(&self) -> u64 {
         self.bytes

@@ -1,21 +1,14 @@
 use Rattle.std.proofs.Common.{◌≡◌, Some, refl, rules}
 use Rattle.std.proofs.lemmas.Option.{slice_get_read}
 use Rattle.std.specs.Prelude.{slice_get}
-use Rattle.wasmi_meter.specs.declared.limiter.Kind.TheVariants.{Bytes, Elements}
 use Rattle.wasmi_budget.proofs.PoolLemmas.{total_fits}
 use Rattle.wasmi_budget.proofs.pool.Pool.held.Goals as goal
 
-pub totals-requires-clause-bytes : goal.totals-requires-clause-bytes
-totals-requires-clause-bytes c =
+pub totals-requires : goal.totals-requires
+totals-requires c =
     let found : slice_get c.self.inside.machines.items c.args.index ≡ Some c.in_ok-machine.machine.now =
     search (rules, slice_get_read) in
-    total_fits _ c.self.invariant c.args.index c.in_ok-machine.machine.now found Bytes
-
-pub totals-requires-clause-elements : goal.totals-requires-clause-elements
-totals-requires-clause-elements c =
-    let found : slice_get c.self.inside.machines.items c.args.index ≡ Some c.in_ok-machine.machine.now =
-    search (rules, slice_get_read) in
-    total_fits _ c.self.invariant c.args.index c.in_ok-machine.machine.now found Elements
+    total_fits _ c.self.invariant c.args.index c.in_ok-machine.machine.now found
 
 pub returns : goal.returns
 returns c =

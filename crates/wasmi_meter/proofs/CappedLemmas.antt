@@ -1,0 +1,105 @@
+-- Limiters with caps leave no choice, and stay within their caps.
+use Rattle.std.proofs.Common.{◌≡◌, ℕ, ◌+◌, ◌-◌, ◌≤◌, Bool, Option, Some, None, Ok, inl, inr, sym, ap, ◌∙◌, arith}
+use Rattle.std.proofs.lemmas.Bool.{cases_lt}
+use Rattle.wasmi_meter.specs.declared.holdings.Holdings.{Holdings}
+use Rattle.wasmi_meter.specs.declared.limiter.Kind.{Kind}
+use Rattle.wasmi_meter.specs.declared.limiter.Kind.TheVariants.{Bytes, Elements}
+use Rattle.wasmi_meter.specs.Capped.{Capped, held_together, IsWithin, Asked, Noticed}
+use Rattle.wasmi_meter.specs.Holdings.{amount_held, with_more, without_last_of, Takes}
+use Rattle.wasmi_meter.specs.Limiter.{Question, Answer, Failure, NoticeAnswer, kind_of}
+
+-- what is to be taken leaves no choice of whether it is, nor of what is held after it
+takes_once : (others cap : ℕ) (h : Holdings) (kind : Kind) (n : ℕ) (taken taken' : Bool) (a b : Holdings)
+    → Takes others cap h kind n taken a → Takes others cap h kind n taken' b → (taken ≡ taken') × (a ≡ b)
+takes_once others cap h kind n taken taken' a b first second =
+    elim (cases_lt cap (others + amount_held h kind + n)) [
+      | inl above ↦ let one = first.above above in let other =
+          second.above above in (one.0 ∙ sym other.0, one.1 ∙ sym other.1)
+      | inr within ↦ let one = first.within within in let other =
+          second.within within in (one.0 ∙ sym other.0, one.1 ∙ sym other.1)
+    ]
+
+-- after n more of a kind that fit, what is held of each kind fits
+more_fits : (others cap : Kind → ℕ) (h : Holdings) (q : Kind) (n : ℕ) → others q + amount_held h q + n ≤ cap q
+    → ((kind : Kind) → others kind + amount_held h kind ≤ cap kind) → (kind : Kind)
+    → others kind + amount_held (with_more h q n) kind ≤ cap kind
+more_fits others cap h Bytes n fits within Bytes = omega (arith, fits)
+more_fits others cap h Bytes n fits within Elements = within Elements
+more_fits others cap h Elements n fits within Bytes = within Bytes
+more_fits others cap h Elements n fits within Elements = omega (arith, fits)
+
+-- no more is held of a kind once a last difference was taken back
+less_held : (back : Kind) (h : Holdings) (last : Option (Kind × ℕ)) (kind : Kind)
+    → amount_held (without_last_of back h last) kind ≤ amount_held h kind
+less_held Bytes h None kind = omega arith
+less_held Elements h None kind = omega arith
+less_held Bytes h (Some (Elements, n)) kind = omega arith
+less_held Elements h (Some (Bytes, n)) kind = omega arith
+less_held Bytes h (Some (Bytes, n)) Bytes = omega arith
+less_held Bytes h (Some (Bytes, n)) Elements = omega arith
+less_held Elements h (Some (Elements, n)) Bytes = omega arith
+less_held Elements h (Some (Elements, n)) Elements = omega arith
+
+-- the caps, and what others hold, are the same with other holdings
+pub record KeepsCaps {L : Type 0} (c : Capped L) : Type 0 where
+  pub cap : (l : L) (h : Holdings) (kind : Kind) → c.cap (c.with_holdings l h) kind ≡ c.cap l kind
+  pub others : (l : L) (h : Holdings) (kind : Kind) → c.others (c.with_holdings l h) kind ≡ c.others l kind
+
+module _ {L : Type 0} (c : Capped L) where
+  -- a question leaves no choice of the answer, nor of the limiter after it
+  pub asked_once : (l : L) (q : Question) (answer answer' : Answer) (a b : L) → Asked c l q answer a
+      → Asked c l q answer' b → (answer ≡ answer') × (a ≡ b)
+  asked_once l q answer answer' a b (taken, answered, first) (taken', answered', second) =
+      let one = takes_once (c.others l q.kind) (c.cap l q.kind) (c.holdings l) q.kind (q.desired - q.current)
+      taken taken' (c.holdings a) (c.holdings b) first.takes second.takes in
+      (answered ∙ ap Ok one.0 ∙ sym answered', first.rest ∙ ap (c.with_holdings l) one.1 ∙ sym second.rest)
+
+  -- nor does a notice
+  pub noticed_once : (l : L) (failure : Failure) (answer answer' : NoticeAnswer) (a b : L)
+      → Noticed c l failure answer a → Noticed c l failure answer' b → (answer ≡ answer') × (a ≡ b)
+  noticed_once l failure answer answer' a b first second = (
+    first.accepts ∙ sym second.accepts,
+    first.rest ∙ ap (c.with_holdings l) (first.gives_back ∙ sym second.gives_back) ∙ sym second.rest,
+  )
+
+  module _ (keeps : KeepsCaps c) (l l' : L) where
+    -- the caps stay where all but the holdings does
+    pub caps_kept : l' ≡ c.with_holdings l (c.holdings l') → (kind : Kind) → c.cap l' kind ≡ c.cap l kind
+    caps_kept rest kind = ap (λ k. c.cap k kind) rest ∙ keeps.cap l (c.holdings l') kind
+
+    -- so does what others hold
+    pub others_kept : l' ≡ c.with_holdings l (c.holdings l') → (kind : Kind) → c.others l' kind ≡ c.others l kind
+    others_kept rest kind = ap (λ k. c.others k kind) rest ∙ keeps.others l (c.holdings l') kind
+
+    -- within the caps by what is held
+    holds_within : l' ≡ c.with_holdings l (c.holdings l')
+        → ((kind : Kind) → c.others l kind + amount_held (c.holdings l') kind ≤ c.cap l kind) → IsWithin c l'
+    holds_within rest fits kind =
+        let cap = caps_kept rest kind in
+        let others = others_kept rest kind in
+        let bound = fits kind in
+        omega (arith, cap, others, bound)
+
+    -- a question leads from within the caps to within them
+    pub asked_is_within : IsWithin c l → (q : Question) (answer : Answer) → Asked c l q answer l' → IsWithin c l'
+    asked_is_within within q answer (taken, answered, more) =
+        elim (cases_lt (c.cap l q.kind) (held_together c l q.kind + (q.desired - q.current))) [
+          | inl above ↦ holds_within more.rest (λ kind.
+              let same = ap (λ h. amount_held h kind) (more.takes.above above).1 in
+              let bound = within kind in
+              omega (arith, same, bound))
+          | inr fits ↦ holds_within more.rest (λ kind.
+              let is = ap (λ h. amount_held h kind) (more.takes.within fits).1 in
+              let bound = more_fits (c.others l) (c.cap l) (c.holdings l) q.kind _ fits within kind in
+              omega (arith, is, bound))
+        ]
+
+    -- so does a notice
+    pub noticed_is_within : IsWithin c l → (failure : Failure) (notice_answer : NoticeAnswer)
+        → Noticed c l failure notice_answer l' → IsWithin c l'
+    noticed_is_within within failure notice_answer noticed =
+        holds_within noticed.rest (λ kind.
+        let is = ap (λ h. amount_held h kind) noticed.gives_back in
+        let less = less_held (kind_of failure) (c.holdings l) (c.holdings l).last kind in
+        let bound = within kind in
+        omega (arith, is, less, bound))

@@ -1,0 +1,29 @@
+//! Amounts of both kinds.
+ghost use Rattle.std.specs.Prelude.{◌≡◌};
+
+use crate::limiter::Kind;
+
+/// So many bytes of linear memories, and so many elements of tables.
+///
+/// Own: upstream implements no limiter.
+#[derive(Clone, Copy, Debug)]
+pub struct Amounts {
+    /// The bytes of linear memories.
+    pub bytes: u64,
+    /// The elements of tables.
+    pub elements: u64,
+}
+
+impl Amounts {
+    ghost use Rattle.wasmi_meter.specs.Amounts.{amount_of};
+
+    /// The amount of one kind.
+    pub fn of(&self, kind: Kind) -> u64
+        ensures { result ≡ amount_of self.now kind }
+    {
+        match kind {
+            Kind::Bytes => self.bytes,
+            Kind::Elements => self.elements,
+        }
+    }
+}

@@ -1,0 +1,67 @@
+//! What is held of each kind, with the last difference that was taken.
+ghost use Rattle.std.specs.Prelude.{◌≡◌, None};
+
+use crate::amounts::Amounts;
+use crate::limiter::Kind;
+
+/// What a limiter with caps holds of each kind, and the last difference that it took and didn't
+/// give back.
+///
+/// Own: upstream implements no limiter.
+#[derive(Clone, Copy, Debug)]
+pub struct Holdings {
+    held: Amounts,
+    last: Option<(Kind, u64)>,
+}
+
+impl Holdings {
+    ghost use Rattle.wasmi_meter.specs.Holdings.{Takes, without_last};
+
+    /// So much is held, and nothing can be given back.
+    pub fn new(held: Amounts) -> Self
+        ensures { result ≡ record { held = held; last = None } }
+    {
+        Holdings { held, last: None }
+    }
+
+    /// What is held.
+    pub fn held(&self) -> Amounts
+        ensures { result ≡ self.now.held }
+    {
+        self.held
+    }
+
+    /// Takes so many more of a kind, if they stay within the cap with what is held and what others
+    /// hold.
+    pub fn take(&mut self, kind: Kind, difference: u64, others: u64, cap: u64) -> bool
+        ensures { Takes others cap self.old kind difference result self.new }
+    {
+        let together = others as u128 + self.held.of(kind) as u128;
+        if together + difference as u128 > cap as u128 {
+            return false;
+        }
+        match kind {
+            Kind::Bytes => self.held.bytes += difference,
+            Kind::Elements => self.held.elements += difference,
+        }
+        self.last = Some((kind, difference));
+        true
+    }
+
+    /// Gives back what was taken last, if it is of this kind.
+    pub fn give_back(&mut self, kind: Kind)
+        ensures { self.new ≡ without_last kind self.old }
+    {
+        match (kind, self.last) {
+            (Kind::Bytes, Some((Kind::Bytes, difference))) => {
+                self.held.bytes = self.held.bytes.saturating_sub(difference);
+                self.last = None;
+            }
+            (Kind::Elements, Some((Kind::Elements, difference))) => {
+                self.held.elements = self.held.elements.saturating_sub(difference);
+                self.last = None;
+            }
+            _ => {}
+        }
+    }
+}
