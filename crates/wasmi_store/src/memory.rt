@@ -12,13 +12,14 @@ mod buffer;
 mod region;
 mod ty;
 
+use crate::optional_meter::with_meter;
 pub use buffer::{Buffer, ByteBuffer};
 pub use region::Region;
 use std::alloc::Global;
 use std::marker::Model;
 pub use ty::{MemoryType, MemoryTypeBuilder};
 use wasmi_meter::growth::{charge, permission, tell};
-use wasmi_meter::{Fuel, FuelCostsProvider, MemoryError, ResourceLimiter, ResourceLimiterRef};
+use wasmi_meter::{Fuel, MemoryError, ResourceLimiter, ResourceLimiterRef};
 
 /// What a memory answers where the limiter answers an error.
 const DENIED: MemoryError = MemoryError::ResourceLimiterDeniedAllocation;
@@ -241,13 +242,7 @@ impl<R: Region> LinearMemory<R> {
               limiter = lent_limiter limiter.new;
             }) }
     {
-        match fuel {
-            Some(fuel) => self.grow_metered(additional, fuel, limiter),
-            None => {
-                let mut unmetered = Fuel::new(false, FuelCostsProvider::default());
-                self.grow_metered(additional, &mut unmetered, limiter)
-            }
-        }
+        with_meter!(fuel => self.grow_metered(additional, fuel, limiter))
     }
 
     fn grow_metered<L: ResourceLimiter>(
@@ -307,13 +302,7 @@ impl<R: Region> LinearMemory<R> {
               limiter = Some limiter.new;
             }) }
     {
-        match fuel {
-            Some(fuel) => self.grow_metered_lending(additional, fuel, limiter),
-            None => {
-                let mut unmetered = Fuel::new(false, FuelCostsProvider::default());
-                self.grow_metered_lending(additional, &mut unmetered, limiter)
-            }
-        }
+        with_meter!(fuel => self.grow_metered_lending(additional, fuel, limiter))
     }
 
     fn grow_metered_lending<L: ResourceLimiter>(

@@ -10,13 +10,14 @@ mod copy;
 mod element;
 mod ty;
 
+use crate::optional_meter::with_meter;
 use copy::copy_part_within;
 pub use element::{ElementSegment, ElementSegmentRef, SegmentError};
 use std::alloc::Global;
 use std::marker::Model;
 pub use ty::TableType;
 use wasmi_meter::growth::{charge, permission, tell};
-use wasmi_meter::{Fuel, FuelCostsProvider, ResourceLimiter, ResourceLimiterRef, TableError};
+use wasmi_meter::{Fuel, ResourceLimiter, ResourceLimiterRef, TableError};
 use wasmi_raw::RawRef;
 use wasmi_typed::TypedRawRef;
 
@@ -150,13 +151,7 @@ impl Table {
               limiter = lent_limiter limiter.new;
             }) }
     {
-        match fuel {
-            Some(fuel) => self.grow_metered(delta, init, fuel, limiter),
-            None => {
-                let mut unmetered = Fuel::new(false, FuelCostsProvider::default());
-                self.grow_metered(delta, init, &mut unmetered, limiter)
-            }
-        }
+        with_meter!(fuel => self.grow_metered(delta, init, fuel, limiter))
     }
 
     fn grow_metered<L: ResourceLimiter>(
@@ -200,13 +195,7 @@ impl Table {
               limiter = Some limiter.new;
             }) }
     {
-        match fuel {
-            Some(fuel) => self.grow_metered_lending(delta, init, fuel, limiter),
-            None => {
-                let mut unmetered = Fuel::new(false, FuelCostsProvider::default());
-                self.grow_metered_lending(delta, init, &mut unmetered, limiter)
-            }
-        }
+        with_meter!(fuel => self.grow_metered_lending(delta, init, fuel, limiter))
     }
 
     fn grow_metered_lending<L: ResourceLimiter>(
@@ -258,13 +247,7 @@ impl Table {
               limiter = lent_limiter limiter.new;
             }) }
     {
-        match fuel {
-            Some(fuel) => self.grow_raw_metered(delta, init, fuel, limiter),
-            None => {
-                let mut unmetered = Fuel::new(false, FuelCostsProvider::default());
-                self.grow_raw_metered(delta, init, &mut unmetered, limiter)
-            }
-        }
+        with_meter!(fuel => self.grow_raw_metered(delta, init, fuel, limiter))
     }
 
     fn grow_raw_metered<L: ResourceLimiter>(
@@ -325,13 +308,7 @@ impl Table {
               limiter = Some limiter.new;
             }) }
     {
-        match fuel {
-            Some(fuel) => self.grow_raw_metered_lending(delta, init, fuel, limiter),
-            None => {
-                let mut unmetered = Fuel::new(false, FuelCostsProvider::default());
-                self.grow_raw_metered_lending(delta, init, &mut unmetered, limiter)
-            }
-        }
+        with_meter!(fuel => self.grow_raw_metered_lending(delta, init, fuel, limiter))
     }
 
     fn grow_raw_metered_lending<L: ResourceLimiter>(
@@ -405,13 +382,7 @@ impl Table {
             self.old (option_copied_mut fuel.entry) result charge self.new
             (left_behind (λ lent. lent.0.now) fuel.exit) }
     {
-        match fuel {
-            Some(fuel) => self.init_metered(element, dst, src, len, fuel),
-            None => {
-                let mut unmetered = Fuel::new(false, FuelCostsProvider::default());
-                self.init_metered(element, dst, src, len, &mut unmetered)
-            }
-        }
+        with_meter!(fuel => self.init_metered(element, dst, src, len, fuel))
     }
 
     fn init_metered(
@@ -462,13 +433,7 @@ impl Table {
             dst_table.old (option_copied_mut fuel.entry) result charge dst_table.new
             (left_behind (λ lent. lent.0.now) fuel.exit) }
     {
-        match fuel {
-            Some(fuel) => dst_table.copy_metered(dst, src_table, src, len, fuel),
-            None => {
-                let mut unmetered = Fuel::new(false, FuelCostsProvider::default());
-                dst_table.copy_metered(dst, src_table, src, len, &mut unmetered)
-            }
-        }
+        with_meter!(fuel => dst_table.copy_metered(dst, src_table, src, len, fuel))
     }
 
     fn copy_metered(
@@ -513,13 +478,7 @@ impl Table {
             self.old (option_copied_mut fuel.entry) result charge self.new
             (left_behind (λ lent. lent.0.now) fuel.exit) }
     {
-        match fuel {
-            Some(fuel) => self.copy_within_metered(dst, src, len, fuel),
-            None => {
-                let mut unmetered = Fuel::new(false, FuelCostsProvider::default());
-                self.copy_within_metered(dst, src, len, &mut unmetered)
-            }
-        }
+        with_meter!(fuel => self.copy_within_metered(dst, src, len, fuel))
     }
 
     fn copy_within_metered(
@@ -558,13 +517,7 @@ impl Table {
             self.old (option_copied_mut fuel.entry) result charge self.new
             (left_behind (λ lent. lent.0.now) fuel.exit) }
     {
-        match fuel {
-            Some(fuel) => self.fill_metered(dst, val, len, fuel),
-            None => {
-                let mut unmetered = Fuel::new(false, FuelCostsProvider::default());
-                self.fill_metered(dst, val, len, &mut unmetered)
-            }
-        }
+        with_meter!(fuel => self.fill_metered(dst, val, len, fuel))
     }
 
     fn fill_metered(
@@ -595,13 +548,7 @@ impl Table {
             self.old (option_copied_mut fuel.entry) result charge self.new
             (left_behind (λ lent. lent.0.now) fuel.exit) }
     {
-        match fuel {
-            Some(fuel) => self.fill_raw_metered(dst, val, len, fuel),
-            None => {
-                let mut unmetered = Fuel::new(false, FuelCostsProvider::default());
-                self.fill_raw_metered(dst, val, len, &mut unmetered)
-            }
-        }
+        with_meter!(fuel => self.fill_raw_metered(dst, val, len, fuel))
     }
 
     fn fill_raw_metered(
