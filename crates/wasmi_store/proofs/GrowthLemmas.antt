@@ -5,7 +5,7 @@ use Rattle.std.proofs.lemmas.Bool.Decides.{nat_tests}
 use Rattle.wasmi_meter.specs.Limiter.{Question, Answer, NoticeAnswer, Rules}
 use Rattle.wasmi_meter.specs.Meter.{Meter, amount_left, Charges}
 use Rattle.wasmi_meter.specs.Attempt.{MeteredValue, alone, Request, AttemptOutcome, Unasked, Denied, Met, Failed, Attempt, Permits, answer_of, error_of_failure, optional_due, covers}
-use Rattle.wasmi_meter.proofs.AttemptLemmas.{attempt_unasked, attempt_denied, attempt_late, attempt_unpaid, attempt_refused, attempt_met}
+use Rattle.wasmi_meter.proofs.AttemptLemmas.{IsPermitted, ReachesCharge, attempt_unasked, attempt_denied, attempt_late, attempt_unpaid, attempt_refused, attempt_met}
 use Rattle.wasmi_store.specs.Growth.{Makes, Growth, Grows}
 
 -- of a cause that is there only where a test fails: where it holds, there is none
@@ -42,16 +42,6 @@ pub record IsAsked {V E : Type 0} (e : Request V E) (question : Question) : Type
   pub early : e.early ≡ None
   pub question_is : question ≡ e.question
 
--- no early cause stands against it, and the limiter permits it
-pub record IsPermitted {V E S : Type 0} (rules : Rules S) (e : Request V E) (l permitted : S) : Type 0 where
-  pub early : e.early ≡ None
-  pub asks : rules.asked l e.question (Ok true) permitted
-
--- it is permitted, and no late cause stands against it: the charge is next
-pub record ReachesCharge {V E S : Type 0} (rules : Rules S) (e : Request V E) (l permitted : S) : Type 0 where
-  pub permits : IsPermitted rules e l permitted
-  pub late : e.late ≡ None
-
 -- the limiter gets a notice of a cause, and the error is by its answer
 pub record TellsOf {V E S : Type 0} (rules : Rules S) (e : Request V E) (cause : E) (l : S) (error : E) (l' : S)
     : Type 0 where
@@ -85,7 +75,7 @@ module _ {T E S : Type 0} (rules : Rules S) (e : Request (Unit {0}) E) (made : T
       → (error : E) (l' : S) → TellsOf rules e cause permitted error l' → Makes rules e made l (Err error) l'
   makes_late permitted permits cause late error l' tells = (
     Failed cause tells.answer,
-    attempt_late rules e (alone l) permits.early permitted permits.asks cause tells.answer l' late tells.notices,
+    attempt_late rules e (alone l) permitted permits cause tells.answer l' late tells.notices,
     ap Err tells.answers,
   )
 
@@ -94,8 +84,7 @@ module _ {T E S : Type 0} (rules : Rules S) (e : Request (Unit {0}) E) (made : T
       → (error : E) (l' : S) → TellsOf rules e cause permitted error l' → Makes rules e made l (Err error) l'
   makes_refused permitted reaches cause refuses error l' tells = (
     Failed cause tells.answer,
-    attempt_refused rules e (alone l) reaches.permits.early permitted reaches.permits.asks reaches.late refl cause
-        tells.answer l' refuses tells.notices,
+    attempt_refused rules e (alone l) permitted reaches refl cause tells.answer l' refuses tells.notices,
     ap Err tells.answers,
   )
 
@@ -152,8 +141,7 @@ module _ {V E S : Type 0} (t : GrowthAttempt V E S) where
         → EndsIn (Err error) t.value t.meter l'
     grows_late permits cause late error l' tells =
         grows (Failed cause tells.answer) 0 _
-        (attempt_late t.rules request before permits.early permitted permits.asks cause tells.answer l' late
-        tells.notices) _
+        (attempt_late t.rules request before permitted permits cause tells.answer l' late tells.notices) _
         (ap Err tells.answers)
 
     module _ (reaches : ReachesCharge t.rules request t.limiter permitted) (m' : Meter) where
@@ -163,8 +151,8 @@ module _ {V E S : Type 0} (t : GrowthAttempt V E S) where
       grows_unpaid required short error l' tells =
           rw short.2 (
           grows (Failed (request.unpaid price) tells.answer) 0 _
-          (attempt_unpaid t.rules request before reaches.permits.early permitted reaches.permits.asks reaches.late
-          tells.answer l' (unpayable t.meter price short.0) (rw short.1 at tells.notices)) _
+          (attempt_unpaid t.rules request before permitted reaches tells.answer l'
+          (unpayable t.meter price short.0) (rw short.1 at tells.notices)) _
           (ap Err (tells.answers ∙ ap (λ n. error_of_failure request.refusal (request.unpaid n) tells.answer) short.1))
           )
 
@@ -175,7 +163,7 @@ module _ {V E S : Type 0} (t : GrowthAttempt V E S) where
         grows_refused cause refuses x' same error l' tells =
             rw (enough.1, same) (
             grows (Failed cause tells.answer) price _
-            (attempt_refused t.rules request before reaches.permits.early permitted reaches.permits.asks reaches.late
+            (attempt_refused t.rules request before permitted reaches
             (payable t.meter price enough.0) cause tells.answer l' refuses tells.notices) _
             (ap Err tells.answers)
             )
@@ -186,7 +174,6 @@ module _ {V E S : Type 0} (t : GrowthAttempt V E S) where
         grows_met x' grown old answers =
             rw (enough.1, grown) (
             grows Met price _
-            (attempt_met t.rules request before reaches.permits.early permitted reaches.permits.asks reaches.late
-            (payable t.meter price enough.0)) _
+            (attempt_met t.rules request before permitted reaches (payable t.meter price enough.0)) _
             (ap Ok answers)
             )

@@ -12,7 +12,8 @@ use Rattle.wasmi_store.specs.Buffer.{Room, fits_room, LacksMemory, CanFail}
 use Rattle.wasmi_store.specs.MemoryType.{MemoryTypeValue, page_bytes, minimum_bytes, maximum_bytes, in_bounds}
 use Rattle.wasmi_store.specs.Memory.{MemoryValue, pages_of, with_zeros, new_memory, creation_of, growth_of, MakesMemory, PermitsMinimum}
 use Rattle.wasmi_store.proofs.GrowthLemmas as any
-use Rattle.wasmi_store.proofs.GrowthLemmas.{no_cause, a_cause, IsAsked, IsPermitted, permitted_by, ReachesCharge, TellsOf, GrowthAttempt, EndsIn}
+use Rattle.wasmi_meter.proofs.AttemptLemmas.{IsPermitted, ReachesCharge}
+use Rattle.wasmi_store.proofs.GrowthLemmas.{no_cause, a_cause, IsAsked, permitted_by, TellsOf, GrowthAttempt, EndsIn}
 
 -- a number that is there only where a test holds
 tested : (b : Bool) (n size : ℕ) → Some size ≡ (if b then Some n else None) → (b ≡ true) × (size ≡ n)

@@ -13,7 +13,8 @@ use Rattle.wasmi_meter.specs.Attempt.{MeteredValue}
 use Rattle.wasmi_store.specs.TableType.{TableTypeValue, is_indexable, is_within_maximum, same_type}
 use Rattle.wasmi_store.specs.Table.{TableValue, size_of, new_table, creation_of, growth_of, MakesTable, GrowsTableRaw, GrowsTable}
 use Rattle.wasmi_store.proofs.GrowthLemmas as any
-use Rattle.wasmi_store.proofs.GrowthLemmas.{no_cause, a_cause, IsAsked, permitted_by, ReachesCharge, GrowthAttempt, EndsIn}
+use Rattle.wasmi_meter.proofs.AttemptLemmas.{ReachesCharge}
+use Rattle.wasmi_store.proofs.GrowthLemmas.{no_cause, a_cause, IsAsked, permitted_by, GrowthAttempt, EndsIn}
 
 -- a list that is resized upwards
 pub resized : (xs : List ℕ) (size n desired reference : ℕ) → size ≡ length xs → desired ≡ length xs + n
