@@ -8,9 +8,9 @@ use Rattle.wasmi_meter.specs.Limiter.{Question, Answer, Rules}
 use Rattle.wasmi_meter.specs.Meter.{Meter, due, Charges}
 use Rattle.wasmi_meter.specs.Costs.{copy_cost}
 use Rattle.wasmi_meter.specs.Attempt.{Permits, optional_due}
-use Rattle.wasmi_store.specs.Buffer.{Room, fits_room, LacksMemory, CanFail}
+use Rattle.wasmi_store.specs.Buffer.{Room, with_zeros, fits_room, LacksMemory, CanFail}
 use Rattle.wasmi_store.specs.MemoryType.{MemoryTypeValue, page_bytes, minimum_bytes, maximum_bytes, in_bounds}
-use Rattle.wasmi_store.specs.Memory.{MemoryValue, pages_of, with_zeros, new_memory, creation_of, growth_of, MakesMemory, PermitsMinimum}
+use Rattle.wasmi_store.specs.Memory.{MemoryValue, memory_of, buffer_of, pages_of, new_memory, creation_of, growth_of, MakesMemory, PermitsMinimum}
 use Rattle.wasmi_store.proofs.GrowthLemmas as any
 use Rattle.wasmi_meter.proofs.AttemptLemmas.{IsPermitted, ReachesCharge}
 use Rattle.wasmi_store.proofs.GrowthLemmas.{no_cause, a_cause, IsAsked, permitted_by, TellsOf, GrowthAttempt, EndsIn}
@@ -141,6 +141,7 @@ module _ (x : MemoryValue) (pages : ℕ) where
     growth_lacks cause holds fails = rw holds at fails
 
     -- with zeros for the bytes that are added, it is the grown memory
-    pub growth_met : (x' : MemoryValue) → x' ≡ with_zeros x (question.desired - question.current)
+    pub growth_met : (x' : MemoryValue)
+        → x' ≡ memory_of x.ty (with_zeros (buffer_of x) (question.desired - question.current))
         → x' ≡ (growth_of x pages).grown
     growth_met x' extended = rw added at extended

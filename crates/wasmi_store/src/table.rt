@@ -4,6 +4,7 @@ ghost use Rattle.std.specs.Option.{option_copied_mut};
 ghost use Rattle.wasmi_types.specs.Access.{overwrite};
 ghost use Rattle.wasmi_meter.specs.Limiter.{optional_rules};
 ghost use Rattle.wasmi_meter.specs.LimiterRef.{lent_limiter, KeepsLoan, left_behind};
+ghost use Rattle.wasmi_store.specs.Growth.{metered_value};
 ghost use Rattle.wasmi_store.specs.Segment.{segment_of};
 
 mod copy;
@@ -11,7 +12,7 @@ mod element;
 mod ty;
 
 use crate::optional_meter::with_meter;
-use copy::copy_part_within;
+use copy::copy_overlapping;
 pub use element::{ElementSegment, ElementSegmentRef, SegmentError};
 use std::alloc::Global;
 use std::marker::Model;
@@ -140,16 +141,10 @@ impl Table {
     ) -> Result<u64, TableError>
         ensures loan { KeepsLoan limiter.old limiter.new }
         ensures grown { (charge : ℕ) × GrowsTable (optional_rules L.rules) delta init
-            (record {
-              value = self.old;
-              meter = option_copied_mut fuel.entry;
-              limiter = lent_limiter limiter.old;
-            }) result charge
-            (record {
-              value = self.new;
-              meter = left_behind (λ lent. lent.0.now) fuel.exit;
-              limiter = lent_limiter limiter.new;
-            }) }
+            (metered_value self.old (option_copied_mut fuel.entry) (lent_limiter limiter.old))
+            result charge
+            (metered_value self.new (left_behind (λ lent. lent.0.now) fuel.exit)
+            (lent_limiter limiter.new)) }
     {
         with_meter!(fuel => self.grow_metered(delta, init, fuel, limiter))
     }
@@ -163,13 +158,8 @@ impl Table {
     ) -> Result<u64, TableError>
         ensures loan { KeepsLoan limiter.old limiter.new }
         ensures grown { (charge : ℕ) × GrowsTable (optional_rules L.rules) delta init
-            (record { value = self.old; meter = Some fuel.old; limiter = lent_limiter limiter.old })
-            result charge
-            (record {
-              value = self.new;
-              meter = Some fuel.new;
-              limiter = lent_limiter limiter.new;
-            }) }
+            (metered_value self.old (Some fuel.old) (lent_limiter limiter.old)) result charge
+            (metered_value self.new (Some fuel.new) (lent_limiter limiter.new)) }
     {
         self.ty.ensure_element_type_matches(init.ty)?;
         self.grow_raw_metered(delta, init.raw, fuel, limiter)
@@ -184,16 +174,9 @@ impl Table {
         limiter: &mut L,
     ) -> Result<u64, TableError>
         ensures { (charge : ℕ) × GrowsTable (optional_rules L.rules) delta init
-            (record {
-              value = self.old;
-              meter = option_copied_mut fuel.entry;
-              limiter = Some limiter.old;
-            }) result charge
-            (record {
-              value = self.new;
-              meter = left_behind (λ lent. lent.0.now) fuel.exit;
-              limiter = Some limiter.new;
-            }) }
+            (metered_value self.old (option_copied_mut fuel.entry) (Some limiter.old)) result charge
+            (metered_value self.new (left_behind (λ lent. lent.0.now) fuel.exit)
+            (Some limiter.new)) }
     {
         with_meter!(fuel => self.grow_metered_lending(delta, init, fuel, limiter))
     }
@@ -206,9 +189,8 @@ impl Table {
         limiter: &mut L,
     ) -> Result<u64, TableError>
         ensures { (charge : ℕ) × GrowsTable (optional_rules L.rules) delta init
-            (record { value = self.old; meter = Some fuel.old; limiter = Some limiter.old }) result
-            charge
-            (record { value = self.new; meter = Some fuel.new; limiter = Some limiter.new }) }
+            (metered_value self.old (Some fuel.old) (Some limiter.old)) result charge
+            (metered_value self.new (Some fuel.new) (Some limiter.new)) }
     {
         let mut lent = ResourceLimiterRef::from(limiter);
         let grown = self.grow_metered(delta, init, fuel, &mut lent);
@@ -236,16 +218,10 @@ impl Table {
     ) -> Result<u64, TableError>
         ensures loan { KeepsLoan limiter.old limiter.new }
         ensures grown { (charge : ℕ) × GrowsTableRaw (optional_rules L.rules) delta init
-            (record {
-              value = self.old;
-              meter = option_copied_mut fuel.entry;
-              limiter = lent_limiter limiter.old;
-            }) result charge
-            (record {
-              value = self.new;
-              meter = left_behind (λ lent. lent.0.now) fuel.exit;
-              limiter = lent_limiter limiter.new;
-            }) }
+            (metered_value self.old (option_copied_mut fuel.entry) (lent_limiter limiter.old))
+            result charge
+            (metered_value self.new (left_behind (λ lent. lent.0.now) fuel.exit)
+            (lent_limiter limiter.new)) }
     {
         with_meter!(fuel => self.grow_raw_metered(delta, init, fuel, limiter))
     }
@@ -259,13 +235,8 @@ impl Table {
     ) -> Result<u64, TableError>
         ensures loan { KeepsLoan limiter.old limiter.new }
         ensures grown { (charge : ℕ) × GrowsTableRaw (optional_rules L.rules) delta init
-            (record { value = self.old; meter = Some fuel.old; limiter = lent_limiter limiter.old })
-            result charge
-            (record {
-              value = self.new;
-              meter = Some fuel.new;
-              limiter = lent_limiter limiter.new;
-            }) }
+            (metered_value self.old (Some fuel.old) (lent_limiter limiter.old)) result charge
+            (metered_value self.new (Some fuel.new) (lent_limiter limiter.new)) }
     {
         let size = self.size();
         if delta == 0 {
@@ -297,16 +268,9 @@ impl Table {
         limiter: &mut L,
     ) -> Result<u64, TableError>
         ensures { (charge : ℕ) × GrowsTableRaw (optional_rules L.rules) delta init
-            (record {
-              value = self.old;
-              meter = option_copied_mut fuel.entry;
-              limiter = Some limiter.old;
-            }) result charge
-            (record {
-              value = self.new;
-              meter = left_behind (λ lent. lent.0.now) fuel.exit;
-              limiter = Some limiter.new;
-            }) }
+            (metered_value self.old (option_copied_mut fuel.entry) (Some limiter.old)) result charge
+            (metered_value self.new (left_behind (λ lent. lent.0.now) fuel.exit)
+            (Some limiter.new)) }
     {
         with_meter!(fuel => self.grow_raw_metered_lending(delta, init, fuel, limiter))
     }
@@ -319,9 +283,8 @@ impl Table {
         limiter: &mut L,
     ) -> Result<u64, TableError>
         ensures { (charge : ℕ) × GrowsTableRaw (optional_rules L.rules) delta init
-            (record { value = self.old; meter = Some fuel.old; limiter = Some limiter.old }) result
-            charge
-            (record { value = self.new; meter = Some fuel.new; limiter = Some limiter.new }) }
+            (metered_value self.old (Some fuel.old) (Some limiter.old)) result charge
+            (metered_value self.new (Some fuel.new) (Some limiter.new)) }
     {
         let mut lent = ResourceLimiterRef::from(limiter);
         let grown = self.grow_raw_metered(delta, init, fuel, &mut lent);
@@ -410,7 +373,7 @@ impl Table {
             return Err(TableError::OutOfFuel { required_fuel });
         }
         let (dst, src, len) = (dst as usize, src as usize, len as usize);
-        copy_part(self.elements.as_mut_slice(), dst, &items[src..src + len]);
+        write_range(self.elements.as_mut_slice(), dst, &items[src..src + len]);
         Ok(())
     }
 
@@ -458,7 +421,7 @@ impl Table {
             return Err(TableError::OutOfFuel { required_fuel });
         }
         let (dst, src, len) = (dst as usize, src as usize, len as usize);
-        copy_part(self.elements.as_mut_slice(), dst, &items[src..src + len]);
+        write_range(self.elements.as_mut_slice(), dst, &items[src..src + len]);
         Ok(())
     }
 
@@ -499,7 +462,7 @@ impl Table {
             return Err(TableError::OutOfFuel { required_fuel });
         }
         let elements = self.elements.as_mut_slice();
-        copy_part_within(elements, dst as usize, src as usize, len as usize);
+        copy_overlapping(elements, dst as usize, src as usize, len as usize);
         Ok(())
     }
 
@@ -567,7 +530,7 @@ impl Table {
         if let Err(required_fuel) = charge::<RawRef>(fuel, len) {
             return Err(TableError::OutOfFuel { required_fuel });
         }
-        fill_part(
+        fill_range(
             self.elements.as_mut_slice(),
             dst as usize,
             len as usize,
@@ -594,7 +557,7 @@ fn set_item(elements: &mut [RawRef], index: usize, value: RawRef)
 }
 
 /// Copies items over those from an index on.
-fn copy_part(elements: &mut [RawRef], index: usize, items: &[RawRef])
+fn write_range(elements: &mut [RawRef], index: usize, items: &[RawRef])
     requires { index + length items.now ≤ length elements.old }
     ensures { overwrite elements.old index items.now ≡ Some elements.new }
 {
@@ -603,7 +566,7 @@ fn copy_part(elements: &mut [RawRef], index: usize, items: &[RawRef])
 }
 
 /// Fills so many items from an index on.
-fn fill_part(elements: &mut [RawRef], index: usize, len: usize, value: RawRef)
+fn fill_range(elements: &mut [RawRef], index: usize, len: usize, value: RawRef)
     requires { index + len ≤ length elements.old }
     ensures { overwrite elements.old index (replicate len value) ≡ Some elements.new }
 {

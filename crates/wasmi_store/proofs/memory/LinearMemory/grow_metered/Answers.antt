@@ -1,8 +1,7 @@
 use Rattle.std.proofs.Common.{Ok, Err, sym, ap}
 use Rattle.std.proofs.lemmas.Result.{err_from_is_err_and}
 use Rattle.wasmi_meter.specs.Limiter.{optional_rules}
-use Rattle.wasmi_store.specs.Buffer.{BufferValue}
-use Rattle.wasmi_store.specs.Memory.{MemoryValue, growth_of}
+use Rattle.wasmi_store.specs.Memory.{memory_of, growth_of}
 use Rattle.wasmi_store.proofs.GrowthLemmas.{permitted_by, grows_denied, grows_late, grows_unpaid, grows_refused, grows_met}
 use Rattle.wasmi_store.proofs.MemoryLemmas.{growing, grows_unasked, growth_asked, growth_short, growth_reaches, growth_charged, growth_lacks, growth_met}
 use Rattle.wasmi_store.proofs.memory.LinearMemory.grow_metered.Goals as goal
@@ -69,8 +68,7 @@ returns-in-Err-grow-clause-grown g c =
     (growth_lacks _ c.args.additional _ asked _ (rw c.len-old_size.ensures (sym c.if-not-has_room.ensures))
     (rw c.len-old_size.ensures c.in-Err-grow.ensures.cause))
     _
-    (ap (λ (b : BufferValue). let x : MemoryValue = record
-    { ty = c.self.inside.ty; bytes = b.bytes; room = b.room } in x) c.in-Err-grow.ensures.err)
+    (ap (memory_of c.self.inside.ty) c.in-Err-grow.ensures.err)
     _ _
     (record { answer = _; notices = c.tell-in-Err-grow.ensures.told.1; answers = c.tell-in-Err-grow.ensures.told.2 })
     )
@@ -88,7 +86,6 @@ returns-clause-grown g c =
     c.charge.new.fuel (growth_charged _ c.args.additional _ asked c.args.fuel.now (Ok tt) c.charge.new.fuel
     c.in_default-charge.ensures) _
     (growth_met _ c.args.additional _ asked _ (rw c.len-old_size.ensures
-    (ap (λ (b : BufferValue). let x : MemoryValue = record
-    { ty = c.self.inside.ty; bytes = b.bytes; room = b.room } in x) c.in_default-grow.ensures.ok)))
+    (ap (memory_of c.self.inside.ty) c.in_default-grow.ensures.ok)))
     _ (rw (← c.self.view_is) at c.size-old_pages.ensures.value)
     )
