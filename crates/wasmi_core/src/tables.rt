@@ -132,7 +132,7 @@ impl Slots<Table> {
         done(table.init(segment, dst, src, len, Some(fuel)))
     }
 
-    /// Copies a part of a table to another, or within it.
+    /// Copies a range of a table to another one, or within it.
     pub(crate) fn copy(
         &mut self,
         dst_index: usize,
@@ -149,16 +149,17 @@ impl Slots<Table> {
             (metered self.new.slots.items fuel.new) }
     {
         if dst_index == src_index {
-            return self.copy_within(dst_index, dst, src, len, fuel);
+            return self.copy_in_one(dst_index, dst, src, len, fuel);
         }
         if dst_index >= self.slots.len() || src_index >= self.slots.len() {
             return Reply::NoSuch;
         }
-        let part = CopyRange { dst, src, len };
-        copy_between(self.slots.as_mut_slice(), dst_index, src_index, part, fuel)
+        let range = CopyRange { dst, src, len };
+        copy_to_other(self.slots.as_mut_slice(), dst_index, src_index, range, fuel)
     }
 
-    fn copy_within(&mut self, index: usize, dst: u64, src: u64, len: u64, fuel: &mut Fuel) -> Reply
+    /// Copies a range of a table within it.
+    fn copy_in_one(&mut self, index: usize, dst: u64, src: u64, len: u64, fuel: &mut Fuel) -> Reply
         ensures { (charge : ℕ)
             × WritesTableFrom (live_at self.old.slots.items index) index (copy_from dst src len)
             (metered self.old.slots.items fuel.old) result charge
@@ -179,12 +180,12 @@ struct CopyRange {
     len: u64,
 }
 
-/// Copies a part of a table to another one.
-fn copy_between(
+/// Copies a range of a table to another one.
+fn copy_to_other(
     slots: &mut [Slot<Table>],
     dst_index: usize,
     src_index: usize,
-    part: CopyRange,
+    range: CopyRange,
     fuel: &mut Fuel,
 ) -> Reply
     requires dst { dst_index < length slots.old }
@@ -192,32 +193,32 @@ fn copy_between(
     requires other { dst_index ≢ src_index }
     ensures { (charge : ℕ)
         × WritesTableFrom (live_at slots.old src_index) dst_index
-        (copy_from part.dst part.src part.len)
+        (copy_from range.dst range.src range.len)
         (metered slots.old fuel.old) result charge (metered slots.new fuel.new) }
 {
     if dst_index < src_index {
         let (front, back) = slots.split_at_mut(src_index);
-        copy_slot(&mut front[dst_index], &back[0], part, fuel)
+        copy_from_slot(&mut front[dst_index], &back[0], range, fuel)
     } else {
         let (front, back) = slots.split_at_mut(dst_index);
-        copy_slot(&mut back[0], &front[src_index], part, fuel)
+        copy_from_slot(&mut back[0], &front[src_index], range, fuel)
     }
 }
 
-/// Copies a part of the table in a slot to that in another one.
-fn copy_slot(
+/// Copies a range of the table in a slot to that in another one, if both are live.
+fn copy_from_slot(
     slot: &mut Slot<Table>,
     source: &Slot<Table>,
-    part: CopyRange,
+    range: CopyRange,
     fuel: &mut Fuel,
 ) -> Reply
-    ensures { (charge : ℕ) × CopiesSlot (copy_from part.dst part.src part.len) source.now
+    ensures { (charge : ℕ) × CopiesSlot (copy_from range.dst range.src range.len) source.now
         (record { value = slot.old; meter = Some fuel.old; limiter = tt }) result charge
         (record { value = slot.new; meter = Some fuel.new; limiter = tt }) }
 {
     match (slot, source) {
         (Slot::Live(table), Slot::Live(source)) => {
-            let CopyRange { dst, src, len } = part;
+            let CopyRange { dst, src, len } = range;
             done(Table::copy(table, dst, source, src, len, Some(fuel)))
         }
         _ => Reply::NoSuch,

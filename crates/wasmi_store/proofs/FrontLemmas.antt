@@ -19,6 +19,7 @@ use types.Mut.{open_ref}
 use denote.RattleType.{RattleType}
 use denote.Memory.{mem}
 use denote.Array.{Array}
+use denote.MutBor.{MutBor}
 use denote.Slice.{MutSlice, Room, slice_val}
 use denote.Follow.{follows}
 use denote.FollowSlice.{heres_id, slice_of}
@@ -27,9 +28,22 @@ use Rattle.std.proofs.lemmas.List.{take_all, drop_all}
 use Rattle.std.specs.List.{refill}
 use borrow.Table.Elements.{at, cut_app, join_app, length-take-le}
 
-module _ {M : Type 1} {𝓤 : Ura M} (𝓛 : Logic 𝓤) (R : RattleType) (ℓ : Lifetime) (κ : Lft) (q : Share) (b o : ℕ)
-    (γ : GName) (xs : List R.Denot) (m : ℕ) where
+module _ {M : Type 1} {𝓤 : Ura M} (𝓛 : Logic 𝓤) (R : RattleType) (ℓ : Lifetime) (κ : Lft) (q : Share)
+    (x : MutBor (List R.Denot)) (m : ℕ) where
   open 𝓛 use {H, A}
+
+  -- the slice's block and its place there, its ghost name, and its items
+  abbrev b : ℕ
+  b = x.ref_ptr.0
+
+  abbrev o : ℕ
+  o = x.ref_ptr.1
+
+  abbrev γ : GName
+  γ = x.ghost_name
+
+  abbrev xs : List R.Denot
+  xs = x.now
 
   abbrev front : List R.Denot
   front = take m xs
@@ -78,11 +92,11 @@ module _ {M : Type 1} {𝓤 : Ura M} (𝓛 : Logic 𝓤) (R : RattleType) (ℓ :
 
   -- the front of a mutable slice is lent, and the lender ends with what is written to it
   pub lends_front : m ≤ length xs → Room R (length front) → (vs : List Val)
-      → ent 𝓤 (sep 𝓤 (sem 𝓛 ((MutSlice ℓ κ R).own_val (record { ref_ptr = (b, o); ghost_name = γ; now = xs }) vs))
+      → ent 𝓤 (sep 𝓤 (sem 𝓛 ((MutSlice ℓ κ R).own_val x vs))
       (A.lft κ q)) (H.⇛ (ex 𝓤 (FrontLent m)))
   lends_front le rm vs =
       let count : length front ≡ m = length-take-le m xs le in
-      qed 𝓛 (‵ ((MutSlice ℓ κ R).own_val (record { ref_ptr = (b, o); ghost_name = γ; now = xs }) vs) ∷ ‵ (flft κ q) ∷
+      qed 𝓛 (‵ ((MutSlice ℓ κ R).own_val x vs) ∷ ‵ (flft κ q) ∷
       []) ∵ updating ! $ fsplit3 ! $ drop ! $
       rewrite ! 0 (λ (l : List R.Denot). ‵ (fobs γ ((coded_list R.coded).code l))) (heres_id R xs) refl $ open_ref ! tt
       (Arr (mem R) (length xs)) {b = b} {o = o} $ fsplit ! $ drop ! $

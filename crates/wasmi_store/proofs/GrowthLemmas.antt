@@ -43,11 +43,10 @@ pub record IsAsked {V E : Type 0} (e : Request V E) (question : Question) : Type
   pub question_is : question ≡ e.question
 
 -- the limiter gets a notice of a cause, and the error is by its answer
-pub record TellsOf {V E S : Type 0} (rules : Rules S) (e : Request V E) (cause : E) (l : S) (error : E) (l' : S)
-    : Type 0 where
-  pub answer : NoticeAnswer
-  pub notices : rules.noticed l (e.notice cause) answer l'
-  pub answers : error ≡ error_of_failure e.refusal cause answer
+abbrev pub TellsOf : {V E S : Type 0} → Rules S → Request V E → E → S → E → S → Type 0
+TellsOf rules e cause l error l' =
+    (answer : NoticeAnswer) × rules.noticed l (e.notice cause) answer l'
+    × (error ≡ error_of_failure e.refusal cause answer)
 
 -- it is permitted where the question is
 pub permitted_by : {V E S : Type 0} (rules : Rules S) (e : Request V E) (question : Question) → IsAsked e question
@@ -74,18 +73,18 @@ module _ {T E S : Type 0} (rules : Rules S) (e : Request (Unit {0}) E) (made : T
   pub makes_late : (permitted : S) → IsPermitted rules e l permitted → (cause : E) → e.late ≡ Some cause
       → (error : E) (l' : S) → TellsOf rules e cause permitted error l' → Makes rules e made l (Err error) l'
   makes_late permitted permits cause late error l' tells = (
-    Failed cause tells.answer,
-    attempt_late rules e (alone l) permitted permits cause tells.answer l' late tells.notices,
-    ap Err tells.answers,
+    Failed cause tells.0,
+    attempt_late rules e (alone l) permitted permits cause tells.0 l' late tells.1,
+    ap Err tells.2,
   )
 
   -- where what it is made in refuses it, the limiter gets a notice, and the error is by its answer
   pub makes_refused : (permitted : S) → ReachesCharge rules e l permitted → (cause : E) → e.refuses cause
       → (error : E) (l' : S) → TellsOf rules e cause permitted error l' → Makes rules e made l (Err error) l'
   makes_refused permitted reaches cause refuses error l' tells = (
-    Failed cause tells.answer,
-    attempt_refused rules e (alone l) permitted reaches refl cause tells.answer l' refuses tells.notices,
-    ap Err tells.answers,
+    Failed cause tells.0,
+    attempt_refused rules e (alone l) permitted reaches refl cause tells.0 l' refuses tells.1,
+    ap Err tells.2,
   )
 
 -- a growth by 1 or more, with what stands before it
@@ -140,9 +139,9 @@ module _ {V E S : Type 0} (t : GrowthAttempt V E S) where
         → (error : E) (l' : S) → TellsOf t.rules request cause permitted error l'
         → EndsIn (Err error) t.value t.meter l'
     grows_late permits cause late error l' tells =
-        grows (Failed cause tells.answer) 0 _
-        (attempt_late t.rules request before permitted permits cause tells.answer l' late tells.notices) _
-        (ap Err tells.answers)
+        grows (Failed cause tells.0) 0 _
+        (attempt_late t.rules request before permitted permits cause tells.0 l' late tells.1) _
+        (ap Err tells.2)
 
     module _ (reaches : ReachesCharge t.rules request t.limiter permitted) (m' : Meter) where
       -- where the price can't be paid, the limiter gets a notice, and nothing is charged
@@ -150,10 +149,10 @@ module _ {V E S : Type 0} (t : GrowthAttempt V E S) where
           → TellsOf t.rules request (request.unpaid required) permitted error l' → EndsIn (Err error) t.value m' l'
       grows_unpaid required short error l' tells =
           rw short.2 (
-          grows (Failed (request.unpaid price) tells.answer) 0 _
-          (attempt_unpaid t.rules request before permitted reaches tells.answer l'
-          (unpayable t.meter price short.0) (rw short.1 at tells.notices)) _
-          (ap Err (tells.answers ∙ ap (λ n. error_of_failure request.refusal (request.unpaid n) tells.answer) short.1))
+          grows (Failed (request.unpaid price) tells.0) 0 _
+          (attempt_unpaid t.rules request before permitted reaches tells.0 l'
+          (unpayable t.meter price short.0) (rw short.1 at tells.1)) _
+          (ap Err (tells.2 ∙ ap (λ n. error_of_failure request.refusal (request.unpaid n) tells.0) short.1))
           )
 
       module _ (enough : Charges t.meter price (Ok tt) m') where
@@ -162,10 +161,10 @@ module _ {V E S : Type 0} (t : GrowthAttempt V E S) where
             → TellsOf t.rules request cause permitted error l' → EndsIn (Err error) x' m' l'
         grows_refused cause refuses x' same error l' tells =
             rw (enough.1, same) (
-            grows (Failed cause tells.answer) price _
+            grows (Failed cause tells.0) price _
             (attempt_refused t.rules request before permitted reaches
-            (payable t.meter price enough.0) cause tells.answer l' refuses tells.notices) _
-            (ap Err tells.answers)
+            (payable t.meter price enough.0) cause tells.0 l' refuses tells.1) _
+            (ap Err tells.2)
             )
 
         -- where the price is paid and no cause stands, the value has grown, and the old size is answered

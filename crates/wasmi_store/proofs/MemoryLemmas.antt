@@ -1,16 +1,16 @@
 -- The making and the growth of a memory, by what was tested on the way.
-use Rattle.std.proofs.Common.{◌≡◌, ℕ, ◌+◌, ◌-◌, ◌*◌, ◌^◌, Bool, true, false, Option, Some, None, length, Result, Ok, Err, refl, arith}
+use Rattle.std.proofs.Common.{◌≡◌, ℕ, ◌+◌, ◌-◌, ◌*◌, ◌^◌, Bool, true, false, Option, Some, None, length, Ok, Err, refl, arith}
 use Rattle.std.specs.Prelude.{if◌then◌else◌, nat_lt}
 use Rattle.wasmi_meter.specs.declared.error.MemoryError.{MemoryError}
-use Rattle.wasmi_meter.specs.declared.error.MemoryError.TheVariants.{OutOfBoundsGrowth, ResourceLimiterDeniedAllocation, MinimumSizeOverflow, InvalidStaticBufferSize}
+use Rattle.wasmi_meter.specs.declared.error.MemoryError.TheVariants.{OutOfBoundsGrowth, ResourceLimiterDeniedAllocation, MinimumSizeOverflow, InvalidStaticBufferSize, OutOfFuel}
 use Rattle.wasmi_meter.specs.declared.limiter.Kind.TheVariants.{Bytes}
 use Rattle.wasmi_meter.specs.Limiter.{Question, Answer, Rules}
 use Rattle.wasmi_meter.specs.Meter.{Meter, due, Charges}
 use Rattle.wasmi_meter.specs.Costs.{copy_cost}
-use Rattle.wasmi_meter.specs.Attempt.{Permits, optional_due}
-use Rattle.wasmi_store.specs.Buffer.{Room, fits_room, LacksMemory, CanFail}
+use Rattle.wasmi_meter.specs.Attempt.{Permits}
+use Rattle.wasmi_store.specs.Buffer.{Room, with_zeros, fits_room, CanFail}
 use Rattle.wasmi_store.specs.MemoryType.{MemoryTypeValue, page_bytes, minimum_bytes, maximum_bytes, in_bounds}
-use Rattle.wasmi_store.specs.Memory.{MemoryValue, pages_of, with_zeros, new_memory, creation_of, growth_of, MakesMemory, PermitsMinimum}
+use Rattle.wasmi_store.specs.Memory.{MemoryValue, memory_of, buffer_of, pages_of, new_memory, creation_of, growth_of, MakesMemory, PermitsMinimum}
 use Rattle.wasmi_store.proofs.GrowthLemmas as any
 use Rattle.wasmi_meter.proofs.AttemptLemmas.{IsPermitted, ReachesCharge}
 use Rattle.wasmi_store.proofs.GrowthLemmas.{no_cause, a_cause, IsAsked, permitted_by, TellsOf, GrowthAttempt, EndsIn}
@@ -100,47 +100,79 @@ pub grows_unasked : {S : Type 0} (rules : Rules S) (x : MemoryValue) (m : Meter)
 grows_unasked rules x m l pages some outside =
     any.grows_unasked (growing rules x m l pages some) OutOfBoundsGrowth (a_cause _ _ outside)
 
-module _ (x : MemoryValue) (pages : ℕ) where
-  -- a growth within the bounds asks for its sizes
-  pub growth_asked : in_bounds x.ty (pages_of x + pages) ≡ true → (size desired : ℕ) (maximum : Option ℕ)
-      → size ≡ length x.bytes → desired ≡ length x.bytes + pages * page_bytes x.ty.page
-      → maximum ≡ maximum_bytes x.ty
-      → IsAsked (growth_of x pages)
-      (record { kind = Bytes; current = size; desired = desired; maximum = maximum })
-  growth_asked within size desired maximum sized reaches cut =
-      record { early = no_cause _ _ within; question_is = rw (sized, reaches, cut) refl }
+-- a growth within the bounds asks for its sizes
+pub growth_asked : (x : MemoryValue) (pages : ℕ) {size desired : ℕ} {maximum : Option ℕ}
+    → (in_bounds x.ty (pages_of x + pages) ≡ true) × (desired ≡ length x.bytes + pages * page_bytes x.ty.page)
+    → size ≡ length x.bytes → maximum ≡ maximum_bytes x.ty
+    → IsAsked (growth_of x pages)
+    (record { kind = Bytes; current = size; desired = desired; maximum = maximum })
+growth_asked x pages found sized cut =
+    record { early = no_cause _ _ found.0; question_is = rw (sized, found.1, cut) refl }
 
-  module _ (question : Question) (is : IsAsked (growth_of x pages) question) where
-    -- the size grows by that of the pages
-    pub added : question.desired - question.current ≡ pages * page_bytes x.ty.page
-    added = rw is.question_is (omega arith)
+-- a growth by so many pages asks this, and the limiter permits it
+pub record PermitsGrowth {S : Type 0} (rules : Rules S) (x : MemoryValue) (m : Meter) (l : S) (pages : ℕ)
+    (question : Question) (p : S) : Type 0 where
+  pub some : pages ≡ 0 → ⊥
+  pub is : IsAsked (growth_of x pages) question
+  pub asks : rules.asked l question (Ok true) p
 
-    -- where the room is too short, that is the late cause
-    pub growth_short : fits_room x.room (question.desired - question.current) ≡ false
-        → (growth_of x pages).late ≡ Some InvalidStaticBufferSize
-    growth_short short = a_cause _ _ (rw added at short)
+-- so where its sizes are asked for, and the limiter says yes
+pub growth_permitted : {S : Type 0} (rules : Rules S) (x : MemoryValue) (m : Meter) (pages : ℕ) {question : Question}
+    {l p : S} {answer : Answer} → (pages ≡ 0 → ⊥) → IsAsked (growth_of x pages) question → answer ≡ Ok true
+    → rules.asked l question answer p → PermitsGrowth rules x m l pages question p
+growth_permitted rules x m pages some asked says asks =
+    record { some = some; is = asked; asks = rw says at asks }
 
-    -- where it is permitted and the room has place, nothing stands before the charge
-    pub growth_reaches : {S : Type 0} (rules : Rules S) (l p : S) → rules.asked l question (Ok true) p
-        → fits_room x.room (question.desired - question.current) ≡ true
-        → ReachesCharge rules (growth_of x pages) l p
-    growth_reaches rules l p asks holds = record {
-      permits = permitted_by rules (growth_of x pages) question is l p asks;
-      late = no_cause _ _ (rw added at holds);
-    }
+-- a growth that is permitted, by what was tested after the permission
+module _ {S : Type 0} {rules : Rules S} {x : MemoryValue} {m : Meter} {l : S} {pages : ℕ} {question : Question} {p : S}
+    (permits : PermitsGrowth rules x m l pages question p) where
+  abbrev t : GrowthAttempt MemoryValue MemoryError S
+  t = growing rules x m l pages permits.some
 
-    -- what is charged for the bytes that are added is the price
-    pub growth_charged : (m : Meter) (result : Result (Unit {0}) ℕ) (m' : Meter)
-        → Charges m (due m (λ costs. copy_cost costs (question.desired - question.current) 1)) result m'
-        → Charges m (optional_due (Some m) (growth_of x pages).price) result m'
-    growth_charged m result m' charges = rw added at charges
+  -- how many bytes are asked for beyond those of the memory, and beyond the size that the limiter is told
+  abbrev more : ℕ
+  more = question.desired - length x.bytes
 
-    -- where the room has place, what it can fail by is that it takes no more
-    pub growth_lacks : (cause : MemoryError) → fits_room x.room (question.desired - question.current) ≡ true
-        → CanFail x.room (question.desired - question.current) cause → LacksMemory x.room cause
-    growth_lacks cause holds fails = rw holds at fails
+  abbrev asked_more : ℕ
+  asked_more = question.desired - question.current
 
-    -- with zeros for the bytes that are added, it is the grown memory
-    pub growth_met : (x' : MemoryValue) → x' ≡ with_zeros x (question.desired - question.current)
-        → x' ≡ (growth_of x pages).grown
-    growth_met x' extended = rw added at extended
+  -- it is permitted
+  permitted : IsPermitted rules (growth_of x pages) l p
+  permitted = permitted_by rules (growth_of x pages) question permits.is l p permits.asks
+
+  -- the first is the bytes of the pages
+  added : more ≡ pages * page_bytes x.ty.page
+  added = rw permits.is.question_is (omega arith)
+
+  -- and so is the second
+  asked_added : asked_more ≡ pages * page_bytes x.ty.page
+  asked_added = rw permits.is.question_is (omega arith)
+
+  -- where the room is too short, the limiter gets a notice, and nothing is charged
+  pub grows_short : fits_room x.room more ≡ false → (error : MemoryError) (l' : S)
+      → TellsOf rules (growth_of x pages) InvalidStaticBufferSize p error l' → EndsIn t (Err error) x m l'
+  grows_short short error l' tells =
+      any.grows_late t p permitted InvalidStaticBufferSize (a_cause _ _ (rw added at short)) error l' tells
+
+  module _ (holds : fits_room x.room more ≡ true) (m' : Meter) where
+    -- nothing stands before the charge
+    reaches : ReachesCharge rules (growth_of x pages) l p
+    reaches = record { permits = permitted; late = no_cause _ _ (rw added at holds) }
+
+    -- where the price can't be paid, the limiter gets a notice, and nothing is charged
+    pub grows_unpaid : (required : ℕ) → Charges m (due m (λ costs. copy_cost costs asked_more 1)) (Err required) m'
+        → (error : MemoryError) (l' : S) → TellsOf rules (growth_of x pages) (OutOfFuel required) p error l'
+        → EndsIn t (Err error) x m' l'
+    grows_unpaid required short = any.grows_unpaid t p reaches m' required (rw asked_added at short)
+
+    module _ (enough : Charges m (due m (λ costs. copy_cost costs asked_more 1)) (Ok tt) m') where
+      -- where the price is paid and the room takes no more, the limiter gets a notice, and the memory stays
+      pub grows_refused : (cause : MemoryError) → CanFail x.room more cause → (x' : MemoryValue) → x' ≡ x
+          → (error : MemoryError) (l' : S) → TellsOf rules (growth_of x pages) cause p error l'
+          → EndsIn t (Err error) x' m' l'
+      grows_refused cause fails = any.grows_refused t p reaches m' (rw asked_added at enough) cause (rw holds at fails)
+
+      -- where the price is paid and the room takes more, the memory has grown, and the old size is answered
+      pub grows_met : (x' : MemoryValue) → x' ≡ memory_of x.ty (with_zeros (buffer_of x) more) → (old : ℕ)
+          → old ≡ pages_of x → EndsIn t (Ok old) x' m' p
+      grows_met x' grown = any.grows_met t p reaches m' (rw asked_added at enough) x' (rw added at grown)

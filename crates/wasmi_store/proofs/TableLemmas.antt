@@ -5,16 +5,16 @@ use Rattle.std.specs.Prelude.{MatchBool}
 use Rattle.wasmi_typed.specs.declared.typed_ref.TypedRawRef.{TypedRawRef}
 use Rattle.wasmi_meter.specs.declared.fuel.CustomFuelCosts.{CustomFuelCosts}
 use Rattle.wasmi_meter.specs.declared.error.TableError.{TableError}
-use Rattle.wasmi_meter.specs.declared.error.TableError.TheVariants.{GrowOutOfBounds, ElementTypeMismatch}
+use Rattle.wasmi_meter.specs.declared.error.TableError.TheVariants.{GrowOutOfBounds, ElementTypeMismatch, OutOfFuel, OutOfSystemMemory}
 use Rattle.wasmi_meter.specs.declared.limiter.Kind.TheVariants.{Elements}
-use Rattle.wasmi_meter.specs.Limiter.{Question, Rules}
-use Rattle.wasmi_meter.specs.Meter.{Meter}
+use Rattle.wasmi_meter.specs.Limiter.{Question, Answer, Rules}
+use Rattle.wasmi_meter.specs.Meter.{Meter, due, Charges}
 use Rattle.wasmi_meter.specs.Attempt.{MeteredValue}
 use Rattle.wasmi_store.specs.TableType.{TableTypeValue, is_indexable, is_within_maximum, same_type}
-use Rattle.wasmi_store.specs.Table.{TableValue, size_of, new_table, creation_of, growth_of, MakesTable, GrowsTableRaw, GrowsTable}
+use Rattle.wasmi_store.specs.Table.{TableValue, size_of, new_table, with_more, element_price, creation_of, growth_of, MakesTable, GrowsTableRaw, GrowsTable}
 use Rattle.wasmi_store.proofs.GrowthLemmas as any
-use Rattle.wasmi_meter.proofs.AttemptLemmas.{ReachesCharge}
-use Rattle.wasmi_store.proofs.GrowthLemmas.{no_cause, a_cause, IsAsked, permitted_by, GrowthAttempt, EndsIn}
+use Rattle.wasmi_meter.proofs.AttemptLemmas.{IsPermitted, ReachesCharge}
+use Rattle.wasmi_store.proofs.GrowthLemmas.{no_cause, a_cause, IsAsked, permitted_by, TellsOf, GrowthAttempt, EndsIn}
 
 -- a list that is resized upwards
 pub resized : (xs : List ℕ) (size n desired reference : ℕ) → size ≡ length xs → desired ≡ length xs + n
@@ -58,32 +58,71 @@ pub grows_unasked : {S : Type 0} (rules : Rules S) (x : TableValue) (m : Meter) 
 grows_unasked rules x m l n reference some outside =
     any.grows_unasked (growing rules x m l n reference some) GrowOutOfBounds (a_cause _ _ outside)
 
-module _ (x : TableValue) (n reference : ℕ) where
+module _ (x : TableValue) (n reference : ℕ) {size desired : ℕ} {maximum : Option ℕ} (sized : size ≡ size_of x)
+    (found : (is_indexable x.ty (size + n) ≡ true) × (desired ≡ size + n)) (most : maximum ≡ x.ty.maximum) where
+  abbrev question : Question
+  question = record { kind = Elements; current = size; desired = desired; maximum = maximum }
+
   -- a growth up to what can be indexed asks for its sizes
-  pub growth_asked : is_indexable x.ty (size_of x + n) ≡ true → (size desired : ℕ) (maximum : Option ℕ)
-      → size ≡ size_of x → desired ≡ size_of x + n → maximum ≡ x.ty.maximum
-      → IsAsked (growth_of x n reference)
-      (record { kind = Elements; current = size; desired = desired; maximum = maximum })
-  growth_asked indexable size desired maximum sized reaches most =
-      record { early = no_cause _ _ indexable; question_is = rw (sized, reaches, most) refl }
+  pub growth_asked : IsAsked (growth_of x n reference) question
+  growth_asked =
+      record { early = no_cause _ _ (rw sized at found.0); question_is = rw (rw sized at found.1, sized, most) refl }
 
-  module _ (question : Question) (is : IsAsked (growth_of x n reference) question) where
-    -- the size that is asked for is that after the growth
-    pub desired_is : question.desired ≡ size_of x + n
-    desired_is = rw is.question_is refl
+-- a growth by n elements asks this, and the limiter permits it
+pub record PermitsGrowth {S : Type 0} (rules : Rules S) (x : TableValue) (m : Meter) (l : S) (n reference : ℕ)
+    (question : Question) (p : S) : Type 0 where
+  pub some : n ≡ 0 → ⊥
+  pub is : IsAsked (growth_of x n reference) question
+  pub asks : rules.asked l question (Ok true) p
 
-    -- where the maximum lies below, that is the late cause
-    pub growth_above : is_within_maximum x.ty question.desired ≡ false
-        → (growth_of x n reference).late ≡ Some GrowOutOfBounds
-    growth_above above = a_cause _ _ (rw desired_is at above)
+-- so where its sizes are asked for, and the limiter says yes
+pub growth_permitted : {S : Type 0} (rules : Rules S) (x : TableValue) (m : Meter) (n reference : ℕ)
+    {question : Question} {l p : S} {answer : Answer} → (n ≡ 0 → ⊥) → IsAsked (growth_of x n reference) question
+    → answer ≡ Ok true → rules.asked l question answer p → PermitsGrowth rules x m l n reference question p
+growth_permitted rules x m n reference some asked says asks =
+    record { some = some; is = asked; asks = rw says at asks }
 
-    -- where it is permitted and within the maximum, nothing stands before the charge
-    pub growth_reaches : {S : Type 0} (rules : Rules S) (l p : S) → rules.asked l question (Ok true) p
-        → is_within_maximum x.ty question.desired ≡ true → ReachesCharge rules (growth_of x n reference) l p
-    growth_reaches rules l p asks within = record {
-      permits = permitted_by rules (growth_of x n reference) question is l p asks;
-      late = no_cause _ _ (rw desired_is at within);
-    }
+-- a growth that is permitted, by what was tested after the permission
+module _ {S : Type 0} {rules : Rules S} {x : TableValue} {m : Meter} {l : S} {n reference : ℕ} {question : Question}
+    {p : S} (permits : PermitsGrowth rules x m l n reference question p) where
+  abbrev t : GrowthAttempt TableValue TableError S
+  t = growing rules x m l n reference permits.some
+
+  -- it is permitted
+  permitted : IsPermitted rules (growth_of x n reference) l p
+  permitted = permitted_by rules (growth_of x n reference) question permits.is l p permits.asks
+
+  -- the size that is asked for is that after the growth
+  desired_is : question.desired ≡ size_of x + n
+  desired_is = rw permits.is.question_is refl
+
+  -- where the maximum lies below, the limiter gets a notice, and nothing is charged
+  pub grows_above : is_within_maximum x.ty question.desired ≡ false → (error : TableError) (l' : S)
+      → TellsOf rules (growth_of x n reference) GrowOutOfBounds p error l' → EndsIn t (Err error) x m l'
+  grows_above above error l' tells =
+      any.grows_late t p permitted GrowOutOfBounds (a_cause _ _ (rw desired_is at above)) error l' tells
+
+  module _ (within : is_within_maximum x.ty question.desired ≡ true) (m' : Meter) where
+    -- nothing stands before the charge
+    reaches : ReachesCharge rules (growth_of x n reference) l p
+    reaches = record { permits = permitted; late = no_cause _ _ (rw desired_is at within) }
+
+    -- where the price can't be paid, the limiter gets a notice, and nothing is charged
+    pub grows_unpaid : (required : ℕ) → Charges m (due m (element_price n)) (Err required) m' → (error : TableError)
+        (l' : S) → TellsOf rules (growth_of x n reference) (OutOfFuel required) p error l'
+        → EndsIn t (Err error) x m' l'
+    grows_unpaid = any.grows_unpaid t p reaches m'
+
+    module _ (enough : Charges m (due m (element_price n)) (Ok tt) m') where
+      -- where the price is paid and memory is wanting, the limiter gets a notice, and the table stays
+      pub grows_refused : (x' : TableValue) → x' ≡ x → (error : TableError) (l' : S)
+          → TellsOf rules (growth_of x n reference) OutOfSystemMemory p error l' → EndsIn t (Err error) x' m' l'
+      grows_refused = any.grows_refused t p reaches m' enough OutOfSystemMemory refl
+
+      -- where the price is paid and memory isn't wanting, the table has grown, and the old size is answered
+      pub grows_met : (x' : TableValue) → x' ≡ with_more x n reference → (old : ℕ) → old ≡ size_of x
+          → EndsIn t (Ok old) x' m' p
+      grows_met = any.grows_met t p reaches m' enough
 
 -- a growth with a meter that is off is one without a meter
 module _ {S : Type 0} (rules : Rules S) (n reference : ℕ) (x : TableValue) (l : S) (costs : CustomFuelCosts)

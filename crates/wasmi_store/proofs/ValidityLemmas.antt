@@ -10,13 +10,13 @@ use Rattle.wasmi_meter.specs.declared.error.MemoryError.{MemoryError}
 use Rattle.wasmi_meter.specs.declared.error.TableError.{TableError}
 use Rattle.wasmi_meter.specs.Attempt.{MeteredValue, Request, AttemptOutcome, Unasked, Denied, Met, Failed, MayEnd, value_after}
 use Rattle.wasmi_typed.specs.declared.typed_ref.TypedRawRef.{TypedRawRef}
-use Rattle.wasmi_store.specs.Buffer.{Room}
+use Rattle.wasmi_store.specs.Buffer.{Room, with_zeros}
 use Rattle.wasmi_store.specs.Growth.{Growth, Makes, Grows}
 use Rattle.wasmi_store.specs.declared.memory.ty.PageSize.{PageSize}
 use Rattle.wasmi_store.specs.declared.memory.ty.PageSize.TheVariants.{Byte, Wasm}
 use Rattle.wasmi_store.specs.MemoryType.{MemoryTypeValue, page_bytes, minimum_bytes, greatest_pages, in_bounds}
 use Rattle.wasmi_store.specs.MemoryType as memory_type
-use Rattle.wasmi_store.specs.Memory.{MemoryValue, pages_of, new_memory, with_zeros, IsValidMemory, MakesMemory, GrowsMemory}
+use Rattle.wasmi_store.specs.Memory.{MemoryValue, buffer_of, pages_of, new_memory, IsValidMemory, MakesMemory, GrowsMemory}
 use Rattle.wasmi_store.specs.Memory as memory
 use Rattle.wasmi_store.specs.TableType.{TableTypeValue, is_indexable, is_within_maximum, same_type}
 use Rattle.wasmi_store.specs.TableType as table_type
@@ -110,7 +110,7 @@ grown_memory_is_valid rules pages s result charge s' valid grows =
     let x = s.value in
     let added = pages_added x.ty.page (length x.bytes) pages valid.sized.whole in
     let n = pages * page_bytes x.ty.page in
-    let size : length (with_zeros x n).bytes ≡ length x.bytes + n =
+    let size : length (with_zeros (buffer_of x) n).bytes ≡ length x.bytes + n =
     length-append x.bytes (replicate n 0) ∙ ap (λ k. length x.bytes + k) (length-replicate {A = ℕ} n 0) in
     grown_valid rules
     (record { amount = pages; size = pages_of x; request = memory.growth_of x pages }) IsValidMemory s s' valid

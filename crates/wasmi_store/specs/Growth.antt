@@ -1,7 +1,12 @@
 -- Making and growing a memory or a table, as an attempt with its answer.
-use Rattle.std.specs.Prelude.{◌≡◌, ◌<◌, ◌⊎◌, ℕ, Result, Ok}
+use Rattle.std.specs.Prelude.{◌≡◌, ◌<◌, ◌⊎◌, ℕ, Option, Result, Ok}
 use Rattle.wasmi_meter.specs.Limiter.{Rules}
+use Rattle.wasmi_meter.specs.Meter.{Meter}
 use Rattle.wasmi_meter.specs.Attempt.{MeteredValue, alone, Request, AttemptOutcome, Attempt, answer_of}
+
+-- a value with its meter, if there is one, and its limiter
+abbrev pub metered_value : {V S : Type 0} → V → Option Meter → S → MeteredValue V S
+metered_value value meter limiter = record { value = value; meter = meter; limiter = limiter }
 
 -- an attempt to make a value, which is answered where the attempt is met; no fuel is charged
 abbrev pub Makes : {T E S : Type 0} → Rules S → Request (Unit {0}) E → T → S → Result T E → S → Type 0

@@ -1,6 +1,5 @@
 -- Linear memories: making one, growing it, reading and writing (core specification, memory instances).
-use Rattle.std.specs.Prelude.{◌≡◌, ◌+◌, ◌*◌, ◌/◌, ◌%◌, ◌≤◌, ◌^◌, ℕ, List, ◌++◌, length, replicate, nat_lt, true, if◌then◌else◌, Some, None, Result, Ok, Err}
-use Rattle.std.specs.List.{refill}
+use Rattle.std.specs.Prelude.{◌≡◌, ◌+◌, ◌*◌, ◌/◌, ◌%◌, ◌≤◌, ◌^◌, ℕ, List, length, nat_lt, true, if◌then◌else◌, Some, None, Result, Ok, Err}
 use Rattle.wasmi_types.specs.Access.{overwrite}
 use Rattle.wasmi_meter.specs.declared.error.MemoryError.{MemoryError}
 use Rattle.wasmi_meter.specs.declared.error.MemoryError.TheVariants.{OutOfBoundsGrowth, OutOfBoundsAccess, ResourceLimiterDeniedAllocation, MinimumSizeOverflow, InvalidStaticBufferSize, OutOfFuel}
@@ -8,7 +7,7 @@ use Rattle.wasmi_meter.specs.declared.limiter.Kind.TheVariants.{Bytes}
 use Rattle.wasmi_meter.specs.Limiter.{MemoryFailure, Rules}
 use Rattle.wasmi_meter.specs.Costs.{copy_cost}
 use Rattle.wasmi_meter.specs.Attempt.{MeteredValue, Request}
-use Rattle.wasmi_store.specs.Buffer.{Room, Owned, fits_room, LacksMemory, room_after}
+use Rattle.wasmi_store.specs.Buffer.{BufferValue, Room, Owned, fits_room, LacksMemory, zeros_in, with_zeros}
 use Rattle.wasmi_store.specs.Growth.{Makes, Grows}
 use Rattle.wasmi_store.specs.MemoryType.{MemoryTypeValue, IsValid, page_bytes, minimum_bytes, maximum_bytes, in_bounds}
 
@@ -22,18 +21,17 @@ pub record MemoryValue : Type 0 where
 abbrev pub pages_of : MemoryValue → ℕ
 pages_of x = length x.bytes / page_bytes x.ty.page
 
+-- the memory of a type whose bytes are a buffer's
+abbrev pub memory_of : MemoryTypeValue → BufferValue → MemoryValue
+memory_of ty b = record { ty = ty; bytes = b.bytes; room = b.room }
+
+-- the buffer of its bytes
+abbrev pub buffer_of : MemoryValue → BufferValue
+buffer_of x = record { bytes = x.bytes; room = x.room }
+
 -- a new memory of zeros in a room, at the minimum of its type
 abbrev pub new_memory : Room → MemoryTypeValue → MemoryValue
-new_memory room ty =
-    record { ty = ty; bytes = replicate (minimum_bytes ty) 0; room = room_after room (minimum_bytes ty) }
-
--- the memory with n zeros after its bytes
-abbrev pub with_zeros : MemoryValue → ℕ → MemoryValue
-with_zeros x n = record { ty = x.ty; bytes = x.bytes ++ replicate n 0; room = room_after x.room n }
-
--- the memory whose bytes were written over, by as many
-abbrev pub with_bytes : MemoryValue → List ℕ → MemoryValue
-with_bytes x ws = record { ty = x.ty; bytes = refill (length x.bytes) x.bytes ws; room = x.room }
+new_memory room ty = memory_of ty (zeros_in room (minimum_bytes ty))
 
 -- so many bytes are whole pages, as many as the type allows
 pub record IsSized (ty : MemoryTypeValue) (size : ℕ) : Type 0 where
@@ -79,7 +77,7 @@ growth_of x pages = let added = pages * page_bytes x.ty.page in record {
   price = Some (λ costs. copy_cost costs added 1);
   unpaid = OutOfFuel;
   refuses = LacksMemory x.room;
-  grown = with_zeros x added;
+  grown = memory_of x.ty (with_zeros (buffer_of x) added);
 }
 
 -- a memory of a type is made in a room

@@ -4,6 +4,7 @@
 pub mod laws;
 mod limits;
 mod memory;
+mod optional_meter;
 mod table;
 
 pub use memory::{Buffer, ByteBuffer, LinearMemory, Memory, MemoryType, MemoryTypeBuilder, Region};

@@ -5,6 +5,7 @@ ghost use Rattle.std.specs.Borrow.{sem, Lends, Array, u8};
 ghost use Rattle.wasmi_types.specs.Access.{at};
 ghost use Rattle.wasmi_meter.specs.Limiter.{optional_rules};
 ghost use Rattle.wasmi_meter.specs.LimiterRef.{lent_limiter, KeepsLoan, left_behind};
+ghost use Rattle.wasmi_store.specs.Growth.{metered_value};
 ghost use Rattle.wasmi_store.specs.Memory.{PermitsMinimum, IsSized, IsValidMemory};
 ghost use Rattle.wasmi_store.specs.MemoryType.{page_bytes, in_bounds};
 
@@ -12,13 +13,14 @@ mod buffer;
 mod region;
 mod ty;
 
+use crate::optional_meter::with_meter;
 pub use buffer::{Buffer, ByteBuffer};
 pub use region::Region;
 use std::alloc::Global;
 use std::marker::Model;
 pub use ty::{MemoryType, MemoryTypeBuilder};
 use wasmi_meter::growth::{charge, permission, tell};
-use wasmi_meter::{Fuel, FuelCostsProvider, MemoryError, ResourceLimiter, ResourceLimiterRef};
+use wasmi_meter::{Fuel, MemoryError, ResourceLimiter, ResourceLimiterRef};
 
 /// What a memory answers where the limiter answers an error.
 const DENIED: MemoryError = MemoryError::ResourceLimiterDeniedAllocation;
@@ -50,11 +52,11 @@ pub struct LinearMemory<R: Region> {
 
 impl<R: Region> Model for LinearMemory<R> {
     ghost use Rattle.std.specs.Prelude.{length};
-    ghost use Rattle.wasmi_store.specs.Memory.{MemoryValue, IsSized};
+    ghost use Rattle.wasmi_store.specs.Memory.{MemoryValue, memory_of, IsSized};
 
     ghost Value = { MemoryValue };
 
-    ghost view = { λ m. record { ty = m.ty; bytes = m.buffer.bytes; room = m.buffer.room } };
+    ghost view = { λ m. memory_of m.ty m.buffer };
 
     ghost invariant = { λ m. IsSized m.ty (length m.buffer.bytes) };
 }
@@ -150,7 +152,8 @@ impl<'r> LinearMemory<&'r mut [u8]> {
 }
 
 impl<R: Region> LinearMemory<R> {
-    ghost use Rattle.wasmi_store.specs.Memory.{pages_of, dynamic_type, GrowsMemory, WritesMemory, with_bytes};
+    ghost use Rattle.wasmi_store.specs.Memory.{memory_of, buffer_of, pages_of, dynamic_type, GrowsMemory, WritesMemory};
+    ghost use Rattle.wasmi_store.specs.Buffer.{with_bytes};
     ghost use Rattle.wasmi_store.specs.MemoryType.{IsSubtype};
     ghost use Rattle.wasmi_store.specs.contracts.memory.LinearMemory.{the_row};
 
@@ -205,7 +208,7 @@ impl<R: Region> LinearMemory<R> {
     /// The bytes, to be written over.
     pub fn data_mut(&mut self) -> &mut [u8]
         ensures* writes_back { sem 𝓛 (Lends (the_row R.row R.Region) (Array u8 0) self.entry result
-            (with_bytes self.old)) }
+            (λ ws. memory_of self.old.ty (with_bytes (buffer_of self.old) ws))) }
         ensures value { result.now ≡ self.old.bytes }
     {
         self.buffer.data_mut()
@@ -230,24 +233,12 @@ impl<R: Region> LinearMemory<R> {
     ) -> Result<u64, MemoryError>
         ensures loan { KeepsLoan limiter.old limiter.new }
         ensures grown { (charge : ℕ) × GrowsMemory (optional_rules L.rules) additional
-            (record {
-              value = self.old;
-              meter = option_copied_mut fuel.entry;
-              limiter = lent_limiter limiter.old;
-            }) result charge
-            (record {
-              value = self.new;
-              meter = left_behind (λ lent. lent.0.now) fuel.exit;
-              limiter = lent_limiter limiter.new;
-            }) }
+            (metered_value self.old (option_copied_mut fuel.entry) (lent_limiter limiter.old))
+            result charge
+            (metered_value self.new (left_behind (λ lent. lent.0.now) fuel.exit)
+            (lent_limiter limiter.new)) }
     {
-        match fuel {
-            Some(fuel) => self.grow_metered(additional, fuel, limiter),
-            None => {
-                let mut unmetered = Fuel::new(false, FuelCostsProvider::default());
-                self.grow_metered(additional, &mut unmetered, limiter)
-            }
-        }
+        with_meter!(fuel => self.grow_metered(additional, fuel, limiter))
     }
 
     fn grow_metered<L: ResourceLimiter>(
@@ -258,13 +249,8 @@ impl<R: Region> LinearMemory<R> {
     ) -> Result<u64, MemoryError>
         ensures loan { KeepsLoan limiter.old limiter.new }
         ensures grown { (charge : ℕ) × GrowsMemory (optional_rules L.rules) additional
-            (record { value = self.old; meter = Some fuel.old; limiter = lent_limiter limiter.old })
-            result charge
-            (record {
-              value = self.new;
-              meter = Some fuel.new;
-              limiter = lent_limiter limiter.new;
-            }) }
+            (metered_value self.old (Some fuel.old) (lent_limiter limiter.old)) result charge
+            (metered_value self.new (Some fuel.new) (lent_limiter limiter.new)) }
     {
         let old_pages = self.size();
         if additional == 0 {
@@ -296,24 +282,11 @@ impl<R: Region> LinearMemory<R> {
         limiter: &mut L,
     ) -> Result<u64, MemoryError>
         ensures { (charge : ℕ) × GrowsMemory (optional_rules L.rules) additional
-            (record {
-              value = self.old;
-              meter = option_copied_mut fuel.entry;
-              limiter = Some limiter.old;
-            }) result charge
-            (record {
-              value = self.new;
-              meter = left_behind (λ lent. lent.0.now) fuel.exit;
-              limiter = Some limiter.new;
-            }) }
+            (metered_value self.old (option_copied_mut fuel.entry) (Some limiter.old)) result charge
+            (metered_value self.new (left_behind (λ lent. lent.0.now) fuel.exit)
+            (Some limiter.new)) }
     {
-        match fuel {
-            Some(fuel) => self.grow_metered_lending(additional, fuel, limiter),
-            None => {
-                let mut unmetered = Fuel::new(false, FuelCostsProvider::default());
-                self.grow_metered_lending(additional, &mut unmetered, limiter)
-            }
-        }
+        with_meter!(fuel => self.grow_metered_lending(additional, fuel, limiter))
     }
 
     fn grow_metered_lending<L: ResourceLimiter>(
@@ -323,9 +296,8 @@ impl<R: Region> LinearMemory<R> {
         limiter: &mut L,
     ) -> Result<u64, MemoryError>
         ensures { (charge : ℕ) × GrowsMemory (optional_rules L.rules) additional
-            (record { value = self.old; meter = Some fuel.old; limiter = Some limiter.old }) result
-            charge
-            (record { value = self.new; meter = Some fuel.new; limiter = Some limiter.new }) }
+            (metered_value self.old (Some fuel.old) (Some limiter.old)) result charge
+            (metered_value self.new (Some fuel.new) (Some limiter.new)) }
     {
         let mut lent = ResourceLimiterRef::from(limiter);
         let grown = self.grow_metered(additional, fuel, &mut lent);

@@ -4,19 +4,21 @@ ghost use Rattle.std.specs.Option.{option_copied_mut};
 ghost use Rattle.wasmi_types.specs.Access.{overwrite};
 ghost use Rattle.wasmi_meter.specs.Limiter.{optional_rules};
 ghost use Rattle.wasmi_meter.specs.LimiterRef.{lent_limiter, KeepsLoan, left_behind};
+ghost use Rattle.wasmi_store.specs.Growth.{metered_value};
 ghost use Rattle.wasmi_store.specs.Segment.{segment_of};
 
 mod copy;
 mod element;
 mod ty;
 
-use copy::copy_part_within;
+use crate::optional_meter::with_meter;
+use copy::copy_overlapping;
 pub use element::{ElementSegment, ElementSegmentRef, SegmentError};
 use std::alloc::Global;
 use std::marker::Model;
 pub use ty::TableType;
 use wasmi_meter::growth::{charge, permission, tell};
-use wasmi_meter::{Fuel, FuelCostsProvider, ResourceLimiter, ResourceLimiterRef, TableError};
+use wasmi_meter::{Fuel, ResourceLimiter, ResourceLimiterRef, TableError};
 use wasmi_raw::RawRef;
 use wasmi_typed::TypedRawRef;
 
@@ -139,24 +141,12 @@ impl Table {
     ) -> Result<u64, TableError>
         ensures loan { KeepsLoan limiter.old limiter.new }
         ensures grown { (charge : ℕ) × GrowsTable (optional_rules L.rules) delta init
-            (record {
-              value = self.old;
-              meter = option_copied_mut fuel.entry;
-              limiter = lent_limiter limiter.old;
-            }) result charge
-            (record {
-              value = self.new;
-              meter = left_behind (λ lent. lent.0.now) fuel.exit;
-              limiter = lent_limiter limiter.new;
-            }) }
+            (metered_value self.old (option_copied_mut fuel.entry) (lent_limiter limiter.old))
+            result charge
+            (metered_value self.new (left_behind (λ lent. lent.0.now) fuel.exit)
+            (lent_limiter limiter.new)) }
     {
-        match fuel {
-            Some(fuel) => self.grow_metered(delta, init, fuel, limiter),
-            None => {
-                let mut unmetered = Fuel::new(false, FuelCostsProvider::default());
-                self.grow_metered(delta, init, &mut unmetered, limiter)
-            }
-        }
+        with_meter!(fuel => self.grow_metered(delta, init, fuel, limiter))
     }
 
     fn grow_metered<L: ResourceLimiter>(
@@ -168,13 +158,8 @@ impl Table {
     ) -> Result<u64, TableError>
         ensures loan { KeepsLoan limiter.old limiter.new }
         ensures grown { (charge : ℕ) × GrowsTable (optional_rules L.rules) delta init
-            (record { value = self.old; meter = Some fuel.old; limiter = lent_limiter limiter.old })
-            result charge
-            (record {
-              value = self.new;
-              meter = Some fuel.new;
-              limiter = lent_limiter limiter.new;
-            }) }
+            (metered_value self.old (Some fuel.old) (lent_limiter limiter.old)) result charge
+            (metered_value self.new (Some fuel.new) (lent_limiter limiter.new)) }
     {
         self.ty.ensure_element_type_matches(init.ty)?;
         self.grow_raw_metered(delta, init.raw, fuel, limiter)
@@ -189,24 +174,11 @@ impl Table {
         limiter: &mut L,
     ) -> Result<u64, TableError>
         ensures { (charge : ℕ) × GrowsTable (optional_rules L.rules) delta init
-            (record {
-              value = self.old;
-              meter = option_copied_mut fuel.entry;
-              limiter = Some limiter.old;
-            }) result charge
-            (record {
-              value = self.new;
-              meter = left_behind (λ lent. lent.0.now) fuel.exit;
-              limiter = Some limiter.new;
-            }) }
+            (metered_value self.old (option_copied_mut fuel.entry) (Some limiter.old)) result charge
+            (metered_value self.new (left_behind (λ lent. lent.0.now) fuel.exit)
+            (Some limiter.new)) }
     {
-        match fuel {
-            Some(fuel) => self.grow_metered_lending(delta, init, fuel, limiter),
-            None => {
-                let mut unmetered = Fuel::new(false, FuelCostsProvider::default());
-                self.grow_metered_lending(delta, init, &mut unmetered, limiter)
-            }
-        }
+        with_meter!(fuel => self.grow_metered_lending(delta, init, fuel, limiter))
     }
 
     fn grow_metered_lending<L: ResourceLimiter>(
@@ -217,9 +189,8 @@ impl Table {
         limiter: &mut L,
     ) -> Result<u64, TableError>
         ensures { (charge : ℕ) × GrowsTable (optional_rules L.rules) delta init
-            (record { value = self.old; meter = Some fuel.old; limiter = Some limiter.old }) result
-            charge
-            (record { value = self.new; meter = Some fuel.new; limiter = Some limiter.new }) }
+            (metered_value self.old (Some fuel.old) (Some limiter.old)) result charge
+            (metered_value self.new (Some fuel.new) (Some limiter.new)) }
     {
         let mut lent = ResourceLimiterRef::from(limiter);
         let grown = self.grow_metered(delta, init, fuel, &mut lent);
@@ -247,24 +218,12 @@ impl Table {
     ) -> Result<u64, TableError>
         ensures loan { KeepsLoan limiter.old limiter.new }
         ensures grown { (charge : ℕ) × GrowsTableRaw (optional_rules L.rules) delta init
-            (record {
-              value = self.old;
-              meter = option_copied_mut fuel.entry;
-              limiter = lent_limiter limiter.old;
-            }) result charge
-            (record {
-              value = self.new;
-              meter = left_behind (λ lent. lent.0.now) fuel.exit;
-              limiter = lent_limiter limiter.new;
-            }) }
+            (metered_value self.old (option_copied_mut fuel.entry) (lent_limiter limiter.old))
+            result charge
+            (metered_value self.new (left_behind (λ lent. lent.0.now) fuel.exit)
+            (lent_limiter limiter.new)) }
     {
-        match fuel {
-            Some(fuel) => self.grow_raw_metered(delta, init, fuel, limiter),
-            None => {
-                let mut unmetered = Fuel::new(false, FuelCostsProvider::default());
-                self.grow_raw_metered(delta, init, &mut unmetered, limiter)
-            }
-        }
+        with_meter!(fuel => self.grow_raw_metered(delta, init, fuel, limiter))
     }
 
     fn grow_raw_metered<L: ResourceLimiter>(
@@ -276,13 +235,8 @@ impl Table {
     ) -> Result<u64, TableError>
         ensures loan { KeepsLoan limiter.old limiter.new }
         ensures grown { (charge : ℕ) × GrowsTableRaw (optional_rules L.rules) delta init
-            (record { value = self.old; meter = Some fuel.old; limiter = lent_limiter limiter.old })
-            result charge
-            (record {
-              value = self.new;
-              meter = Some fuel.new;
-              limiter = lent_limiter limiter.new;
-            }) }
+            (metered_value self.old (Some fuel.old) (lent_limiter limiter.old)) result charge
+            (metered_value self.new (Some fuel.new) (lent_limiter limiter.new)) }
     {
         let size = self.size();
         if delta == 0 {
@@ -314,24 +268,11 @@ impl Table {
         limiter: &mut L,
     ) -> Result<u64, TableError>
         ensures { (charge : ℕ) × GrowsTableRaw (optional_rules L.rules) delta init
-            (record {
-              value = self.old;
-              meter = option_copied_mut fuel.entry;
-              limiter = Some limiter.old;
-            }) result charge
-            (record {
-              value = self.new;
-              meter = left_behind (λ lent. lent.0.now) fuel.exit;
-              limiter = Some limiter.new;
-            }) }
+            (metered_value self.old (option_copied_mut fuel.entry) (Some limiter.old)) result charge
+            (metered_value self.new (left_behind (λ lent. lent.0.now) fuel.exit)
+            (Some limiter.new)) }
     {
-        match fuel {
-            Some(fuel) => self.grow_raw_metered_lending(delta, init, fuel, limiter),
-            None => {
-                let mut unmetered = Fuel::new(false, FuelCostsProvider::default());
-                self.grow_raw_metered_lending(delta, init, &mut unmetered, limiter)
-            }
-        }
+        with_meter!(fuel => self.grow_raw_metered_lending(delta, init, fuel, limiter))
     }
 
     fn grow_raw_metered_lending<L: ResourceLimiter>(
@@ -342,9 +283,8 @@ impl Table {
         limiter: &mut L,
     ) -> Result<u64, TableError>
         ensures { (charge : ℕ) × GrowsTableRaw (optional_rules L.rules) delta init
-            (record { value = self.old; meter = Some fuel.old; limiter = Some limiter.old }) result
-            charge
-            (record { value = self.new; meter = Some fuel.new; limiter = Some limiter.new }) }
+            (metered_value self.old (Some fuel.old) (Some limiter.old)) result charge
+            (metered_value self.new (Some fuel.new) (Some limiter.new)) }
     {
         let mut lent = ResourceLimiterRef::from(limiter);
         let grown = self.grow_raw_metered(delta, init, fuel, &mut lent);
@@ -405,13 +345,7 @@ impl Table {
             self.old (option_copied_mut fuel.entry) result charge self.new
             (left_behind (λ lent. lent.0.now) fuel.exit) }
     {
-        match fuel {
-            Some(fuel) => self.init_metered(element, dst, src, len, fuel),
-            None => {
-                let mut unmetered = Fuel::new(false, FuelCostsProvider::default());
-                self.init_metered(element, dst, src, len, &mut unmetered)
-            }
-        }
+        with_meter!(fuel => self.init_metered(element, dst, src, len, fuel))
     }
 
     fn init_metered(
@@ -439,7 +373,7 @@ impl Table {
             return Err(TableError::OutOfFuel { required_fuel });
         }
         let (dst, src, len) = (dst as usize, src as usize, len as usize);
-        copy_part(self.elements.as_mut_slice(), dst, &items[src..src + len]);
+        write_range(self.elements.as_mut_slice(), dst, &items[src..src + len]);
         Ok(())
     }
 
@@ -462,13 +396,7 @@ impl Table {
             dst_table.old (option_copied_mut fuel.entry) result charge dst_table.new
             (left_behind (λ lent. lent.0.now) fuel.exit) }
     {
-        match fuel {
-            Some(fuel) => dst_table.copy_metered(dst, src_table, src, len, fuel),
-            None => {
-                let mut unmetered = Fuel::new(false, FuelCostsProvider::default());
-                dst_table.copy_metered(dst, src_table, src, len, &mut unmetered)
-            }
-        }
+        with_meter!(fuel => dst_table.copy_metered(dst, src_table, src, len, fuel))
     }
 
     fn copy_metered(
@@ -493,7 +421,7 @@ impl Table {
             return Err(TableError::OutOfFuel { required_fuel });
         }
         let (dst, src, len) = (dst as usize, src as usize, len as usize);
-        copy_part(self.elements.as_mut_slice(), dst, &items[src..src + len]);
+        write_range(self.elements.as_mut_slice(), dst, &items[src..src + len]);
         Ok(())
     }
 
@@ -513,13 +441,7 @@ impl Table {
             self.old (option_copied_mut fuel.entry) result charge self.new
             (left_behind (λ lent. lent.0.now) fuel.exit) }
     {
-        match fuel {
-            Some(fuel) => self.copy_within_metered(dst, src, len, fuel),
-            None => {
-                let mut unmetered = Fuel::new(false, FuelCostsProvider::default());
-                self.copy_within_metered(dst, src, len, &mut unmetered)
-            }
-        }
+        with_meter!(fuel => self.copy_within_metered(dst, src, len, fuel))
     }
 
     fn copy_within_metered(
@@ -540,7 +462,7 @@ impl Table {
             return Err(TableError::OutOfFuel { required_fuel });
         }
         let elements = self.elements.as_mut_slice();
-        copy_part_within(elements, dst as usize, src as usize, len as usize);
+        copy_overlapping(elements, dst as usize, src as usize, len as usize);
         Ok(())
     }
 
@@ -558,13 +480,7 @@ impl Table {
             self.old (option_copied_mut fuel.entry) result charge self.new
             (left_behind (λ lent. lent.0.now) fuel.exit) }
     {
-        match fuel {
-            Some(fuel) => self.fill_metered(dst, val, len, fuel),
-            None => {
-                let mut unmetered = Fuel::new(false, FuelCostsProvider::default());
-                self.fill_metered(dst, val, len, &mut unmetered)
-            }
-        }
+        with_meter!(fuel => self.fill_metered(dst, val, len, fuel))
     }
 
     fn fill_metered(
@@ -595,13 +511,7 @@ impl Table {
             self.old (option_copied_mut fuel.entry) result charge self.new
             (left_behind (λ lent. lent.0.now) fuel.exit) }
     {
-        match fuel {
-            Some(fuel) => self.fill_raw_metered(dst, val, len, fuel),
-            None => {
-                let mut unmetered = Fuel::new(false, FuelCostsProvider::default());
-                self.fill_raw_metered(dst, val, len, &mut unmetered)
-            }
-        }
+        with_meter!(fuel => self.fill_raw_metered(dst, val, len, fuel))
     }
 
     fn fill_raw_metered(
@@ -620,7 +530,7 @@ impl Table {
         if let Err(required_fuel) = charge::<RawRef>(fuel, len) {
             return Err(TableError::OutOfFuel { required_fuel });
         }
-        fill_part(
+        fill_range(
             self.elements.as_mut_slice(),
             dst as usize,
             len as usize,
@@ -647,7 +557,7 @@ fn set_item(elements: &mut [RawRef], index: usize, value: RawRef)
 }
 
 /// Copies items over those from an index on.
-fn copy_part(elements: &mut [RawRef], index: usize, items: &[RawRef])
+fn write_range(elements: &mut [RawRef], index: usize, items: &[RawRef])
     requires { index + length items.now ≤ length elements.old }
     ensures { overwrite elements.old index items.now ≡ Some elements.new }
 {
@@ -656,7 +566,7 @@ fn copy_part(elements: &mut [RawRef], index: usize, items: &[RawRef])
 }
 
 /// Fills so many items from an index on.
-fn fill_part(elements: &mut [RawRef], index: usize, len: usize, value: RawRef)
+fn fill_range(elements: &mut [RawRef], index: usize, len: usize, value: RawRef)
     requires { index + len ≤ length elements.old }
     ensures { overwrite elements.old index (replicate len value) ≡ Some elements.new }
 {

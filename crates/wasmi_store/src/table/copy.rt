@@ -1,4 +1,4 @@
-//! Copies of a part of a list over another part of it.
+//! Copies of a range of a list over another range of it.
 ghost use Rattle.std.specs.Prelude.{◌≡◌, ◌+◌, ◌≤◌, ◌++◌, length, take, drop, Some};
 ghost use Rattle.wasmi_types.specs.Access.{overwrite};
 
@@ -9,7 +9,7 @@ const CHUNK: usize = 4096;
 
 /// Copies so many items over others of the same list: those that move up from the last part on, so
 /// that each is read before it is written over.
-pub(super) fn copy_part_within(elements: &mut [RawRef], dst: usize, src: usize, len: usize)
+pub(super) fn copy_overlapping(elements: &mut [RawRef], dst: usize, src: usize, len: usize)
     requires dst { dst + len ≤ length elements.old }
     requires src { src + len ≤ length elements.old }
     ensures { overwrite elements.old dst (take len (drop src elements.old)) ≡ Some elements.new }
@@ -18,7 +18,7 @@ pub(super) fn copy_part_within(elements: &mut [RawRef], dst: usize, src: usize, 
         let mut done = 0;
         while done < len {
             let count = CHUNK.min(len - done);
-            copy_few_within(elements, dst + done, src + done, count);
+            copy_chunk(elements, dst + done, src + done, count);
             done += count;
         }
     } else {
@@ -26,14 +26,14 @@ pub(super) fn copy_part_within(elements: &mut [RawRef], dst: usize, src: usize, 
         while 0 < left {
             let count = CHUNK.min(left);
             left -= count;
-            copy_few_within(elements, dst + left, src + left, count);
+            copy_chunk(elements, dst + left, src + left, count);
         }
     }
 }
 
 /// Copies at most `CHUNK` items over others of the same list. LLVM drops the buffer: the two copies
 /// become one `memmove`.
-fn copy_few_within(elements: &mut [RawRef], dst: usize, src: usize, len: usize)
+fn copy_chunk(elements: &mut [RawRef], dst: usize, src: usize, len: usize)
     requires few { len ≤ 4096 }
     requires dst { dst + len ≤ length elements.old }
     requires src { src + len ≤ length elements.old }

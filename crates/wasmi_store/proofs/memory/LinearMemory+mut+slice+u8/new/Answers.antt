@@ -18,4 +18,4 @@ returns-in-Err-clause-made g c =
     makes_refused rules (creation_of Owned c.args.ty) (new_memory Owned c.args.ty) _ _
     (making_reaches rules Owned c.args.ty _ _ c.in_ok-size.size c.in_ok-size.ensures.permitted refl)
     _ c.in-Err.ensures.err
-    _ _ (record { answer = _; notices = c.tell.ensures.told.1; answers = c.tell.ensures.told.2 })
+    _ _ c.tell.ensures.told

@@ -15,4 +15,4 @@ returns-in-Err-clause-made g c =
     makes_short (optional_rules g.L.ResourceLimiter.rules)
     (Lent c.args.region.now) c.args.ty _ _ c.in_ok-size.size c.in_ok-size.ensures.permitted e.0
     _ _
-    (record { answer = _; notices = rw e.1 at c.tell.ensures.told.1; answers = rw e.1 at c.tell.ensures.told.2 })
+    (rw e.1 at c.tell.ensures.told)

@@ -7,5 +7,5 @@ returns-in-Some-clause-grown g c = rw c.in-Some.is c.grow_metered.ensures.grown
 
 pub returns-in-None-clause-grown : goal.returns-in-None-clause-grown
 returns-in-None-clause-grown g c =
-    let e = rw c.new-unmetered.ensures at c.grow_metered-in-None.ensures.grown in
+    let e = rw c.unmetered-off.ensures at c.grow_metered-in-None.ensures.grown in
     rw c.in-None.is (e.0, grows_unmetered (optional_rules g.L.ResourceLimiter.rules) _ c.args.init _ _ _ _ _ _ _ _ e.1)

@@ -36,4 +36,4 @@ returns-in-Err-clause-made g c =
       late = refl;
     })
     _ refl
-    _ _ (record { answer = _; notices = c.tell.ensures.told.1; answers = c.tell.ensures.told.2 })
+    _ _ c.tell.ensures.told

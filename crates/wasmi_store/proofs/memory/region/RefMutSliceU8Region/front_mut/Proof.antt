@@ -91,14 +91,14 @@ front_mut_spec 𝓤 𝓛 𝓜 𝓡 wired =
     (some (λ (δ : GName). ‵ ((MutSlice (named 0) κ u8).own_val (renamed r δ) (mut_slice_vals r)) ⊛ ‵ (flft κ q) ⊛ ‵
     (follows Inner (Array u8 0) x.ghost_name δ (at_last r)))))
     (lends_inner_slice 𝓛 u8 (named 0) (named 1) κ κ' x bounds.0 rm q) $ await ! tt $ pick ! (λ δ. split3 ! $
-    use2 𝓛 (later (some (front_lent 𝓛 u8 (named 0) κ q pb po δ xs m m)))
-    (lends_front 𝓛 u8 (named 0) κ q pb po δ xs m le (omega arith, omega arith) (mut_slice_vals r)) $ await ! tt $
+    use2 𝓛 (later (some (front_lent 𝓛 u8 (named 0) κ q (renamed r δ) m m)))
+    (lends_front 𝓛 u8 (named 0) κ q (renamed r δ) m le (omega arith, omega arith) (mut_slice_vals r)) $ await ! tt $
     pick ! (λ δ'. split3 ! $
     move ! (3 ∷ 2 ∷ []) $
     use2 𝓛 (‵ (follows Inner (Array u8 0) x.ghost_name δ'
-    (λ ws. at_last r (refilled 𝓛 u8 (named 0) κ q pb po δ xs m ws))))
+    (λ ws. at_last r (refilled 𝓛 u8 (named 0) κ q (renamed r δ) m ws))))
     (follows_then 𝓛 Inner (Array u8 0) (Array u8 0) (at_last r)
-    (refilled 𝓛 u8 (named 0) κ q pb po δ xs m) x.ghost_name δ δ') $
+    (refilled 𝓛 u8 (named 0) κ q (renamed r δ) m) x.ghost_name δ δ') $
     -- [the region follows the front; the front; the tokens]
     returns ! (look_at ! 0 refl) $ free_all ! refl $ keep ! (3 ∷ 4 ∷ 2 ∷ 0 ∷ 1 ∷ []) $ join ! $ move !
     (1 ∷ 0 ∷ []) $ join ! $

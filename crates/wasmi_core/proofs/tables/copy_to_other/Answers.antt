@@ -3,7 +3,7 @@ use Rattle.std.proofs.lemmas.List.{set-append_left, set-append_right}
 use Rattle.std.proofs.lemmas.Option.{slice_get-get_or}
 use Rattle.wasmi_core.specs.TableEffects.{copy_from}
 use Rattle.wasmi_core.proofs.CopyLemmas.{copies_at}
-use Rattle.wasmi_core.proofs.tables.copy_between.Goals as goal
+use Rattle.wasmi_core.proofs.tables.copy_to_other.Goals as goal
 
 pub returns-then-dst_index-src_index : goal.returns-then-dst_index-src_index
 returns-then-dst_index-src_index c =
@@ -14,9 +14,9 @@ returns-then-dst_index-src_index c =
     let front = c.split_at_mut-front.result.0.now in
     let back = c.split_at_mut-front.result.1.now in
     let before = c.if-dst_index-src_index.true in (
-      c.copy_slot.ensures.0,
+      c.copy_from_slot.ensures.0,
       copies_at (record {
-        write = copy_from c.args.part.dst c.args.part.src c.args.part.len;
+        write = copy_from c.args.range.dst c.args.range.src c.args.range.len;
         slots = slots;
         into = c.args.dst_index;
         from = c.args.src_index;
@@ -27,16 +27,16 @@ returns-then-dst_index-src_index c =
           ∙ ap Some (sym (parts.by_index.0 c.args.dst_index slot before)))
           (slice_get-get_or slots c.args.src_index source c.requires.src
           ∙ ap Some (ap (λ k. get_or slots k source) (omega arith) ∙ sym (parts.by_index.1 0 source)))
-          c.copy_slot.ensures.1 _
-          (sym (set-append_left front back c.args.dst_index c.copy_slot.new.slot
+          c.copy_from_slot.ensures.1 _
+          (sym (set-append_left front back c.args.dst_index c.copy_from_slot.new.slot
           (omega (arith, parts.front_len, before)))
-          ∙ ap (λ xs. set xs c.args.dst_index c.copy_slot.new.slot) (sym parts.value)),
+          ∙ ap (λ xs. set xs c.args.dst_index c.copy_from_slot.new.slot) (sym parts.value)),
     )
 
 pub returns-else-dst_index-src_index : goal.returns-else-dst_index-src_index
 returns-else-dst_index-src_index c =
     let parts = c.split_at_mut-front-else-dst_index-src_index.ensures in
-    let copy = c.copy_slot-else-dst_index-src_index in
+    let copy = c.copy_from_slot-else-dst_index-src_index in
     let slots = c.args.slots.now in
     let slot = c.index-back-0-else-dst_index-src_index.result in
     let source = c.index-front-src_index.result in
@@ -45,7 +45,7 @@ returns-else-dst_index-src_index c =
     let back = c.split_at_mut-front-else-dst_index-src_index.result.1.now in (
       copy.ensures.0,
       copies_at (record {
-        write = copy_from c.args.part.dst c.args.part.src c.args.part.len;
+        write = copy_from c.args.range.dst c.args.range.src c.args.range.len;
         slots = slots;
         into = c.args.dst_index;
         from = c.args.src_index;

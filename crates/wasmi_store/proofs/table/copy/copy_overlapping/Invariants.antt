@@ -1,6 +1,6 @@
 use Rattle.std.proofs.Common.{◌-◌, ◌≡◌, ◌+◌, ◌≤◌, drop}
 use lib.Seq.{paste}
-use Rattle.wasmi_store.proofs.table.copy.copy_part_within.Given as goal
+use Rattle.wasmi_store.proofs.table.copy.copy_overlapping.Given as goal
 
 abbrev pub invariant-loop-done : goal.invariant-loop-done
 invariant-loop-done l = record {
