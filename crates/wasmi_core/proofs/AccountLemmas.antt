@@ -12,7 +12,7 @@ use Rattle.wasmi_core.specs.Effects.{ActsAt, reply_of}
 use Rattle.wasmi_core.specs.Runs.{Run}
 use Rattle.wasmi_core.specs.State.{State, live_at}
 use Rattle.wasmi_core.specs.Steps.{Changed, Effect, FuelSet, MemoryGrown, PartWritten, TableGrown, TakesEffect, effect_of}
-use Rattle.wasmi_core.specs.TableEffects.{WritesTableAt, WritesTableFrom, metered, write_of}
+use Rattle.wasmi_core.specs.TableEffects.{Metered, WritesPartAt, WritesTableAt, metered, write_of}
 use Rattle.wasmi_core.specs.World.{Turn, World}
 use Rattle.wasmi_core.specs.declared.calls.Call.{Call}
 use Rattle.wasmi_core.specs.declared.calls.Call.TheVariants.{SetFuel}
@@ -168,16 +168,15 @@ table_write_takes k write slots m reply charge slots' m' writes =
     s'.value s'.meter) k (reply_of (λ _. replied.Done) replied.Table) slots m tt reply charge slots' m' tt
     (λ x result x'. write_takes (write x) x m result charge x' m') writes
 
--- so from what may be missing
-table_copy_takes : {X : Type 0} (source : Option X) (k : ℕ) (write : X → TableValue → TableWrite)
-    (slots : List (Slot TableValue)) (m : Meter) (reply : Reply) (charge : ℕ) (slots' : List (Slot TableValue))
-    (m' : Meter)
-    → WritesTableFrom source k write (metered slots m) reply charge (metered slots' m') → Takes m charge m'
-table_copy_takes source k write slots m reply charge slots' m' writes =
-    on_live source _ _ writes
+-- so where the write may be missing
+part_takes : (k : ℕ) (part : Option (TableValue → TableWrite)) (slots : List (Slot TableValue)) (m : Meter)
+    (reply : Reply) (charge : ℕ) (slots' : List (Slot TableValue)) (m' : Meter)
+    → WritesPartAt k part (metered slots m) reply charge (metered slots' m') → Takes m charge m'
+part_takes k part slots m reply charge slots' m' writes =
+    on_live part _ _ writes
     (λ missing. takes_nothing m m' charge missing.1
-    (same_Some m' m (ap (λ (s : MeteredValue (List (Slot TableValue)) (Unit {0})). s.meter) missing.2)))
-    (λ x found h. table_write_takes k (write x) slots m reply charge slots' m' h)
+    (same_Some m' m (ap (λ (s : Metered). s.meter) missing.2)))
+    (λ write found h. table_write_takes k write slots m reply charge slots' m' h)
 
 module _ {S : Type 0} (account : Account) (w : World S) (turn : Turn) (w' : World S) where
   -- the account after this turn, where it doesn't set the fuel
@@ -236,8 +235,8 @@ module _ {S : Type 0} (rules : Rules S) (account : Account) (w : World S) (turn 
       step.meter step.limiter step.effect)
   effect_balances (PartWritten k source dst len) step balances =
       charged account w turn w' balances step.after
-      (table_copy_takes (write_of source dst len) k (λ write. write) w.state.tables w.state.meter turn.reply
-      turn.charge step.part step.meter step.effect)
+      (part_takes k (write_of source dst len) w.state.tables w.state.meter turn.reply turn.charge step.part step.meter
+      step.effect)
   effect_balances effect step balances = uncharged account w turn w' balances step.after step.free.0 refl
 
 module _ {S : Type 0} (rules : Rules S) where

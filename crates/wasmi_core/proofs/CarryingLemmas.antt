@@ -37,6 +37,19 @@ module _ {S T : Type 0} (image : S → T) where
   abbrev moved : {V : Type 0} → MeteredValue V S → MeteredValue V T
   moved s = record { value = s.value; meter = s.meter; limiter = image s.limiter }
 
+  -- a call on what an index names
+  acts_too : {X R : Type 0} (k : ℕ) (reply_to : R → Reply)
+      (Acts : MeteredValue X S → R → ℕ → MeteredValue X S → Type 0)
+      (Acts' : MeteredValue X T → R → ℕ → MeteredValue X T → Type 0)
+      → ((s s' : MeteredValue X S) (result : R) (charge : ℕ) → Acts s result charge s'
+      → Acts' (moved s) result charge (moved s'))
+      → (s s' : MeteredValue (List (Slot X)) S) (reply : Reply) (charge : ℕ)
+      → ActsAt k reply_to Acts s reply charge s'
+      → ActsAt k reply_to Acts' (moved s) reply charge (moved s')
+  acts_too k reply_to Acts Acts' too s s' reply charge acts =
+      on_live_too (live_at s.value k) _ _ _ _ (λ missing. (missing.0, missing.1, ap moved missing.2))
+      (λ x h. (h.0, h.1, too _ _ h.0 charge h.2, h.3, h.4)) acts
+
   module _ {rules : Rules S} {rules' : Rules T} (carries : Carries image rules rules') where
     module _ {V E : Type 0} (e : Request V E) where
       -- what passes between an attempt and its limiter
@@ -98,19 +111,6 @@ module _ {S T : Type 0} (image : S → T) where
     creates_too refusal e made slots slots' reply l l' (inl none) = inl (none.0, none.1, ap image none.2)
     creates_too refusal e made slots slots' reply l l' (inr (result, makes, appends)) =
         inr (result, makes_too e made l l' result makes, appends)
-
-    -- a call on what an index names
-    acts_too : {X R : Type 0} (k : ℕ) (reply_to : R → Reply)
-        (Acts : MeteredValue X S → R → ℕ → MeteredValue X S → Type 0)
-        (Acts' : MeteredValue X T → R → ℕ → MeteredValue X T → Type 0)
-        → ((s s' : MeteredValue X S) (result : R) (charge : ℕ) → Acts s result charge s'
-        → Acts' (moved s) result charge (moved s'))
-        → (s s' : MeteredValue (List (Slot X)) S) (reply : Reply) (charge : ℕ)
-        → ActsAt k reply_to Acts s reply charge s'
-        → ActsAt k reply_to Acts' (moved s) reply charge (moved s')
-    acts_too k reply_to Acts Acts' too s s' reply charge acts =
-        on_live_too (live_at s.value k) _ _ _ _ (λ missing. (missing.0, missing.1, ap moved missing.2))
-        (λ x h. (h.0, h.1, too _ _ h.0 charge h.2, h.3, h.4)) acts
 
     -- a growth of a table, whose type is tested first
     table_growth_too : (n : ℕ) (init : TypedRawRef) (s s' : MeteredValue TableValue S) (result : Result ℕ _)

@@ -5,7 +5,7 @@ use Rattle.std.specs.Prelude.{All, if◌then◌else◌, nat_eq, slice_get}
 use Rattle.wasmi_core.proofs.MemoryEffectsLemmas.{overwrite_length, vector_store_back, vector_store_kept, vector_store_valid, vector_stores_same, write_refused, write_valid, writes_same, written_kept}
 use Rattle.wasmi_core.proofs.RegisterEffectsLemmas.{takes_back, takes_count, takes_same}
 use Rattle.wasmi_core.proofs.EffectLemmas.{AllValid, changes_valid, drops_back, drops_kept, drops_same, drops_valid, item_valid}
-use Rattle.wasmi_core.proofs.TableEffectsLemmas.{KeepsLength, copied_length, set_kept, set_refused, set_valid, sets_same}
+use Rattle.wasmi_core.proofs.TableEffectsLemmas.{IsWrite, copied_length, set_kept, set_refused, set_valid, sets_same}
 use Rattle.wasmi_core.proofs.TotalLemmas.{each_kind}
 use Rattle.wasmi_core.proofs.ValueEffectsLemmas.{creates_segment_valid, global_made_back, global_refused, global_sets_same, globals_same, items_refused, items_same, segment_back, segments_same}
 use Rattle.wasmi_core.specs.Determinism.{HasMemory}
@@ -22,7 +22,7 @@ use Rattle.wasmi_core.specs.declared.slots.Slot.{Slot}
 use Rattle.wasmi_raw.specs.declared.raw.RawVal.{RawVal}
 use Rattle.wasmi_store.specs.Memory.{IsValidMemory, MemoryValue}
 use Rattle.wasmi_store.specs.Segment.{SegmentValue}
-use Rattle.wasmi_store.specs.Table.{IsValidTable, TableValue, TableWrite, size_of}
+use Rattle.wasmi_store.specs.Table.{IsValidTable, TableValue, size_of}
 use Rattle.wasmi_types.specs.Access.{at}
 
 -- what holds of a row on a part: a refusal leaves it, it is decided where memory isn't wanting, and it keeps a fact
@@ -258,11 +258,7 @@ init_pays : (len : ℕ) (none : Bool) → nat_eq len 0 ≡ none → ((if none th
 init_pays len true is = inr (grind (arith, nat_tests, is))
 init_pays len false is = inl refl
 
--- what so many elements write keeps a table's length, and is paid for by that many, unless there are none
-abbrev pub IsWrite : ℕ → (TableValue → TableWrite) → Type 0
-IsWrite len write = (x : TableValue) → KeepsLength (write x) x × (((write x).paid ≡ Some len) ⊎ (len ≡ 0))
-
--- so for each source
+-- what each source writes is a write of so many elements
 pub source_writes : (source : Source) (dst len : ℕ) → OnLive (write_of source dst len) (Unit {0}) (IsWrite len)
 source_writes (OfReference value) dst len =
     λ x. (λ elements is. overwrite_length x.elements (replicate len value.raw) elements dst is, inl refl)

@@ -8,14 +8,15 @@ use Rattle.std.proofs.lemmas.Option.{same_Some}
 use Rattle.std.specs.Option.{option_map, option_map_or}
 use Rattle.std.specs.Prelude.{cond, if◌then◌else◌, is_some, nat_eq, nat_le, nat_lt, ◌&&◌}
 use Rattle.wasmi_core.proofs.AccountLemmas.{Takes, grows_takes, write_takes}
-use Rattle.wasmi_core.proofs.EffectLemmas.{both_live, on_live, on_live_too}
+use Rattle.wasmi_core.proofs.EffectLemmas.{both_live, on_live}
 use Rattle.wasmi_core.proofs.StepsLemmas.{change_facts, source_writes}
+use Rattle.wasmi_core.proofs.TableEffectsLemmas.{IsWrite}
 use Rattle.wasmi_core.specs.MemoryEffects.{bytes_appended}
 use Rattle.wasmi_core.specs.Effects.{ActsAt, OnLive, reply_of}
 use Rattle.wasmi_core.specs.Runs.{Run}
 use Rattle.wasmi_core.specs.State.{State, live_at}
 use Rattle.wasmi_core.specs.Steps.{Changed, Effect, FuelSet, MemoryGrown, PartWritten, TableGrown, TakesEffect, effect_of}
-use Rattle.wasmi_core.specs.TableEffects.{WritesTableAt, WritesTableFrom, element_bytes, metered, write_of}
+use Rattle.wasmi_core.specs.TableEffects.{Metered, WritesPartAt, WritesTableAt, element_bytes, metered, write_of}
 use Rattle.wasmi_core.specs.World.{Turn, World}
 use Rattle.wasmi_core.specs.Writing.{IsBounded, amount_set, amounts_set, bytes_written, charges_for_writing, has_written, is_accepted, is_charged, writing_turns}
 use Rattle.wasmi_core.specs.declared.calls.Call.{Call}
@@ -311,32 +312,28 @@ module _ (w : TableWrite) (x : TableValue) (len : ℕ) (m : Meter) (charge : ℕ
   write_result paid x' m' (Err error) writes =
       refuses m m' charge (same_costs m m' charge writes.meter) (write_takes w x m (Err error) charge x' m' writes)
 
-module _ (k : ℕ) where
-  -- a write over a part of the table of an index
-  table_write_writes : (write : TableValue → TableWrite) (len : ℕ) (slots : List (Slot TableValue)) (m : Meter)
-      (reply : Reply) (charge : ℕ) (slots' : List (Slot TableValue)) (m' : Meter)
-      → ((x : TableValue) → ((write x).paid ≡ Some len) ⊎ (len ≡ 0))
+-- the writes over a part of the table of an index
+module _ (k len : ℕ) (slots : List (Slot TableValue)) (m : Meter) (reply : Reply) (charge : ℕ)
+    (slots' : List (Slot TableValue)) (m' : Meter) where
+  -- what a write has written
+  table_write_writes : (write : TableValue → TableWrite) → IsWrite len write
       → WritesTableAt k write (metered slots m) reply charge (metered slots' m')
       → Wrote m charge (element_bytes len reply) (is_accepted reply) 0 m'
-  table_write_writes write len slots m reply charge slots' m' paid writes =
+  table_write_writes write is writes =
       on_live (live_at slots k) _ _ writes
       (λ missing. rw missing.0
-      (idles m m' charge _ refl
-      (same_Some m' m (ap (λ (s : MeteredValue (List (Slot TableValue)) (Unit {0})). s.meter) missing.2))))
-      (λ x found a. rw a.3 (write_result (write x) x len m charge (paid x) a.1 m' a.0 a.2))
+      (idles m m' charge _ refl (same_Some m' m (ap (λ (s : Metered). s.meter) missing.2))))
+      (λ x found a. rw a.3 (write_result (write x) x len m charge (is x).1 a.1 m' a.0 a.2))
 
--- so from what may be missing
-table_copy_writes : {X : Type 0} (source : Option X) (k : ℕ) (write : X → TableValue → TableWrite) (len : ℕ)
-    (slots : List (Slot TableValue)) (m : Meter) (reply : Reply) (charge : ℕ) (slots' : List (Slot TableValue))
-    (m' : Meter) → OnLive source (Unit {0}) (λ y. (x : TableValue) → ((write y x).paid ≡ Some len) ⊎ (len ≡ 0))
-    → WritesTableFrom source k write (metered slots m) reply charge (metered slots' m')
-    → Wrote m charge (element_bytes len reply) (is_accepted reply) 0 m'
-table_copy_writes source k write len slots m reply charge slots' m' paid writes =
-    on_live source _ _ (both_live source _ _ _ _ paid writes)
-    (λ missing. rw missing.1.0
-    (idles m m' charge _ refl
-    (same_Some m' m (ap (λ (s : MeteredValue (List (Slot TableValue)) (Unit {0})). s.meter) missing.1.2))))
-    (λ y found h. table_write_writes k (write y) len slots m reply charge slots' m' h.0 h.1)
+  -- so where the write may be missing
+  part_writes : (part : Option (TableValue → TableWrite)) → OnLive part (Unit {0}) (IsWrite len)
+      → WritesPartAt k part (metered slots m) reply charge (metered slots' m')
+      → Wrote m charge (element_bytes len reply) (is_accepted reply) 0 m'
+  part_writes part is writes =
+      on_live part _ _ (both_live part _ _ _ _ is writes)
+      (λ missing. rw missing.1.0
+      (idles m m' charge _ refl (same_Some m' m (ap (λ (s : Metered). s.meter) missing.1.2))))
+      (λ write found h. table_write_writes write h.0 h.1)
 
 module _ {S : Type 0} (w : World S) (turn : Turn) (w' : World S) where
   -- the turn ends in this world
@@ -387,12 +384,9 @@ module _ {S : Type 0} (rules : Rules S) (w : World S) (turn : Turn) (w' : World 
       (table_growth_writes rules k n init w.state.tables w.state.meter w.limiter turn.reply turn.charge step.part
       step.meter step.limiter step.effect)
   effect_writes (PartWritten k source dst len) step =
-      let paid =
-      on_live_too (write_of source dst len) _ _ _ _ (λ none. tt) (λ write is x. (is x).1)
-      (source_writes source dst len) in
       writes_as w turn w' step.after step.wrote
-      (table_copy_writes (write_of source dst len) k (λ write. write) len w.state.tables w.state.meter turn.reply
-      turn.charge step.part step.meter paid step.effect)
+      (part_writes k len w.state.tables w.state.meter turn.reply turn.charge step.part step.meter
+      (write_of source dst len) (source_writes source dst len) step.effect)
   effect_writes effect step = idle w turn w' step.after step.free.1 refl
 
 -- a run, by what is left at its start
