@@ -4,9 +4,9 @@ use Rattle.std.proofs.Common.{Err, List, Result, Some, [], ap, inl, inr, map, su
 use Rattle.std.proofs.lemmas.List.Elements.{All-head, All-tail}
 use Rattle.std.specs.Prelude.{All}
 use Rattle.wasmi_core.proofs.EffectLemmas.{Outcome, on_live_too, on_test_too}
-use Rattle.wasmi_core.specs.Effects.{ActsAt, AddsEntry, Creates, reply_of}
+use Rattle.wasmi_core.specs.Effects.{ActsAt, ActsMetered, AddsEntry, Asks, Creates, reply_of}
 use Rattle.wasmi_core.specs.Runs.{Run}
-use Rattle.wasmi_core.specs.State.{live_at}
+use Rattle.wasmi_core.specs.State.{State, live_at}
 use Rattle.wasmi_core.specs.Steps.{Effect, LentMemoryMade, MemoryGrown, MemoryMade, TableGrown, TableMade, TakesEffect, effect_of, Step}
 use Rattle.wasmi_core.specs.World.{Turn, World}
 use Rattle.wasmi_core.specs.declared.calls.Reply.{Reply}
@@ -144,67 +144,63 @@ module _ {S : Type 0} (n : Narrowing S) where
 
     -- an effect of any call
     module _ (w : World S) (turn : Turn) (w' : World S) (within : n.within w.limiter) (shows : n.shown turn.reply) where
+      -- a turn that makes something under the limiter
+      asks_revealed : {A : Type 0} {with_part : A → State} {Row Row' : S → Reply → A → S → Type 0}
+          (step : Asks w turn w' with_part Row) → Row' w.limiter turn.reply step.part step.limiter
+          → Asks w turn w' with_part Row'
+      asks_revealed step row =
+          record { free = step.free; part = step.part; limiter = step.limiter; effect = row; after = step.after }
+
+      -- a turn with a charge
+      pays_revealed : {A : Type 0} {old : A} {with_part : A → State}
+          {Row Row' : MeteredValue A S → Reply → ℕ → MeteredValue A S → Type 0} {bytes : Reply → ℕ}
+          (step : ActsMetered w turn w' old with_part Row bytes)
+          → Row' (record { value = old; meter = Some w.state.meter; limiter = w.limiter }) turn.reply turn.charge
+          (record { value = step.part; meter = Some step.meter; limiter = step.limiter })
+          → ActsMetered w turn w' old with_part Row' bytes
+      pays_revealed step row = record {
+        part = step.part;
+        meter = step.meter;
+        limiter = step.limiter;
+        effect = row;
+        wrote = step.wrote;
+        after = step.after;
+      }
+
       -- where its reply shows it, an effect under the one rules is one under the others
       effect_revealed : (effect : Effect) → TakesEffect n.rules effect w turn w'
           → TakesEffect n.narrower effect w turn w'
-      effect_revealed (MemoryMade ty) step = record {
-        free = step.free;
-        part = step.part;
-        limiter = step.limiter;
-        effect = creates_revealed replied.Memory (memory.creation_of Owned ty) (each.memory_made Owned ty)
-            (new_memory Owned ty) w.state.memories w.limiter
-            (record { reply = turn.reply; part = step.part; limiter = step.limiter }) within shows step.effect;
-        after = step.after;
-      }
-      effect_revealed (LentMemoryMade ty) step = record {
-        free = step.free;
-        part = step.part;
-        limiter = step.limiter;
-        effect = on_live_too w.state.spare _ _ _ _ (λ none. none)
-            (λ region h. (
-              creates_revealed replied.Memory (memory.creation_of (Lent region) ty)
-                  (each.memory_made (Lent region) ty) (new_memory (Lent region) ty) w.state.memories w.limiter
-                  (record { reply = turn.reply; part = step.part.slots; limiter = step.limiter }) within shows h.0,
-              h.1,
-            )) step.effect;
-        after = step.after;
-      }
-      effect_revealed (MemoryGrown k pages) step = record {
-        part = step.part;
-        meter = step.meter;
-        limiter = step.limiter;
-        effect = acts_revealed k (reply_of replied.Number replied.Memory) (GrowsMemory n.rules pages)
-            (GrowsMemory n.narrower pages) _ _ turn.reply turn.charge
-            (λ x x' result is. grows_revealed
-            (record { amount = pages; size = pages_of x; request = memory.growth_of x pages }) replied.Memory
-            (each.memory_grown x pages) (record { value = x; meter = Some w.state.meter; limiter = w.limiter })
-            (record { value = x'; meter = Some step.meter; limiter = step.limiter }) result turn.charge within
-            (subst n.shown is shows)) step.effect;
-        wrote = step.wrote;
-        after = step.after;
-      }
-      effect_revealed (TableMade ty init) step = record {
-        free = step.free;
-        part = step.part;
-        limiter = step.limiter;
-        effect = creates_revealed replied.Table (table.creation_of ty init.ty) (each.table_made ty init.ty)
-            (new_table ty init.raw) w.state.tables w.limiter
-            (record { reply = turn.reply; part = step.part; limiter = step.limiter }) within shows step.effect;
-        after = step.after;
-      }
-      effect_revealed (TableGrown k delta init) step = record {
-        part = step.part;
-        meter = step.meter;
-        limiter = step.limiter;
-        effect = acts_revealed k (reply_of replied.Number replied.Table) (GrowsTable n.rules delta init)
-            (GrowsTable n.narrower delta init) _ _ turn.reply turn.charge
-            (λ x x' result is. table_growth_revealed delta init
-            (record { value = x; meter = Some w.state.meter; limiter = w.limiter })
-            (record { value = x'; meter = Some step.meter; limiter = step.limiter }) result turn.charge within
-            (subst n.shown is shows)) step.effect;
-        wrote = step.wrote;
-        after = step.after;
-      }
+      effect_revealed (MemoryMade ty) step =
+          asks_revealed step (creates_revealed replied.Memory (memory.creation_of Owned ty) (each.memory_made Owned ty)
+          (new_memory Owned ty) w.state.memories w.limiter
+          (record { reply = turn.reply; part = step.part; limiter = step.limiter }) within shows step.effect)
+      effect_revealed (LentMemoryMade ty) step =
+          asks_revealed step (on_live_too w.state.spare _ _ _ _ (λ none. none)
+          (λ region h. (
+            creates_revealed replied.Memory (memory.creation_of (Lent region) ty)
+                (each.memory_made (Lent region) ty) (new_memory (Lent region) ty) w.state.memories w.limiter
+                (record { reply = turn.reply; part = step.part.slots; limiter = step.limiter }) within shows h.0,
+            h.1,
+          )) step.effect)
+      effect_revealed (MemoryGrown k pages) step =
+          pays_revealed step (acts_revealed k (reply_of replied.Number replied.Memory) (GrowsMemory n.rules pages)
+          (GrowsMemory n.narrower pages) _ _ turn.reply turn.charge
+          (λ x x' result is. grows_revealed
+          (record { amount = pages; size = pages_of x; request = memory.growth_of x pages }) replied.Memory
+          (each.memory_grown x pages) (record { value = x; meter = Some w.state.meter; limiter = w.limiter })
+          (record { value = x'; meter = Some step.meter; limiter = step.limiter }) result turn.charge within
+          (subst n.shown is shows)) step.effect)
+      effect_revealed (TableMade ty init) step =
+          asks_revealed step (creates_revealed replied.Table (table.creation_of ty init.ty) (each.table_made ty init.ty)
+          (new_table ty init.raw) w.state.tables w.limiter
+          (record { reply = turn.reply; part = step.part; limiter = step.limiter }) within shows step.effect)
+      effect_revealed (TableGrown k delta init) step =
+          pays_revealed step (acts_revealed k (reply_of replied.Number replied.Table) (GrowsTable n.rules delta init)
+          (GrowsTable n.narrower delta init) _ _ turn.reply turn.charge
+          (λ x x' result is. table_growth_revealed delta init
+          (record { value = x; meter = Some w.state.meter; limiter = w.limiter })
+          (record { value = x'; meter = Some step.meter; limiter = step.limiter }) result turn.charge within
+          (subst n.shown is shows)) step.effect)
       effect_revealed effect step = step
 
     -- a run whose turns keep the limiter in such states

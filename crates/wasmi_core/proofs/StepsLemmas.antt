@@ -86,6 +86,18 @@ KeepsSegments s segments = All IsValidSegment s.segments → All IsValidSegment 
 abbrev KeepsRegisters : State → List RawVal → Type 0
 KeepsRegisters s registers = length registers ≡ length s.registers
 
+-- a state is valid, if each of its parts is where those of another one are
+valid_by : (s s' : State) → (AllValid IsValidMemory s.memories → AllValid IsValidMemory s'.memories)
+    → (AllValid IsValidTable s.tables → AllValid IsValidTable s'.tables)
+    → (All IsValidSegment s.segments → All IsValidSegment s'.segments)
+    → (length s.registers ≡ 16 → length s'.registers ≡ 16) → IsValid s → IsValid s'
+valid_by s s' memories tables segments registers v = record {
+  memories = memories v.memories;
+  tables = tables v.tables;
+  segments = segments v.segments;
+  registers = registers v.registers;
+}
+
 -- the parts of a state
 module _ (s : State) where
   -- the memories
@@ -94,12 +106,7 @@ module _ (s : State) where
     whole = refl;
     meter = λ part. refl;
     still = λ part keeps. each_kind (λ kind. sizes (with_memories s part) kind ≡ sizes s kind) keeps.0 refl;
-    valid = λ part keeps v. record {
-      memories = keeps.1 v.memories;
-      tables = v.tables;
-      segments = v.segments;
-      registers = v.registers;
-    };
+    valid = λ part keeps. valid_by s (with_memories s part) keeps.1 (λ v. v) (λ v. v) (λ v. v);
   }
 
   -- the tables
@@ -108,57 +115,39 @@ module _ (s : State) where
     whole = refl;
     meter = λ part. refl;
     still = λ part keeps. each_kind (λ kind. sizes (with_tables s part) kind ≡ sizes s kind) refl keeps.0;
-    valid = λ part keeps v. record {
-      memories = v.memories;
-      tables = keeps.1 v.tables;
-      segments = v.segments;
-      registers = v.registers;
-    };
+    valid = λ part keeps. valid_by s (with_tables s part) (λ v. v) keeps.1 (λ v. v) (λ v. v);
+  }
+
+  -- a part that is neither the memories, the tables nor the meter
+  unsized : {A : Type 0} (with_part : A → State) (old : A) (Keeps : A → Type 0) → with_part old ≡ s
+      → ((part : A) → ((with_part part).memories ≡ s.memories) × ((with_part part).tables ≡ s.tables)
+      × ((with_part part).meter ≡ s.meter))
+      → ((part : A) → Keeps part → IsValid s → IsValid (with_part part)) → PartOf s with_part old Keeps
+  unsized with_part old Keeps whole same valid = record {
+    whole = whole;
+    meter = λ part. (same part).2;
+    still = λ part keeps. each_kind (λ kind. sizes (with_part part) kind ≡ sizes s kind)
+        (ap (map (slot_count byte_count)) (same part).0) (ap (map (slot_count size_of)) (same part).1);
+    valid = valid;
   }
 
   -- the element segments
   the_segments : PartOf s (with_segments s) s.segments (KeepsSegments s)
-  the_segments = record {
-    whole = refl;
-    meter = λ part. refl;
-    still = λ part keeps. each_kind (λ kind. sizes (with_segments s part) kind ≡ sizes s kind) refl refl;
-    valid = λ part keeps v. record {
-      memories = v.memories;
-      tables = v.tables;
-      segments = keeps v.segments;
-      registers = v.registers;
-    };
-  }
+  the_segments =
+      unsized (with_segments s) s.segments (KeepsSegments s) refl (λ part. (refl, refl, refl))
+      (λ part keeps. valid_by s (with_segments s part) (λ v. v) (λ v. v) keeps (λ v. v))
 
   -- the globals
   the_globals : PartOf s (with_globals s) s.globals (λ globals. Unit {0})
-  the_globals = record {
-    whole = refl;
-    meter = λ part. refl;
-    still = λ part keeps. each_kind (λ kind. sizes (with_globals s part) kind ≡ sizes s kind) refl refl;
-    valid = λ part keeps v. record {
-      memories = v.memories;
-      tables = v.tables;
-      segments = v.segments;
-      registers =
-          v.registers;
-    };
-  }
+  the_globals =
+      unsized (with_globals s) s.globals (λ globals. Unit {0}) refl (λ part. (refl, refl, refl))
+      (λ part keeps. valid_by s (with_globals s part) (λ v. v) (λ v. v) (λ v. v) (λ v. v))
 
   -- the registers
   the_registers : PartOf s (with_registers s) s.registers (KeepsRegisters s)
-  the_registers = record {
-    whole = refl;
-    meter = λ part. refl;
-    still = λ part keeps. each_kind (λ kind. sizes (with_registers s part) kind ≡ sizes s kind) refl refl;
-    valid = λ part keeps v. record {
-      memories = v.memories;
-      tables = v.tables;
-      segments = v.segments;
-      registers =
-          keeps ∙ v.registers;
-    };
-  }
+  the_registers =
+      unsized (with_registers s) s.registers (KeepsRegisters s) refl (λ part. (refl, refl, refl))
+      (λ part keeps. valid_by s (with_registers s part) (λ v. v) (λ v. v) (λ v. v) (λ v. keeps ∙ v))
 
 -- each change of one part
 pub change_facts : (s : State) (change : Change) → ChangeFacts s (TakesChange change s)

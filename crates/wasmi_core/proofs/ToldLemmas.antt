@@ -27,28 +27,12 @@ use Rattle.wasmi_core.proofs.RevealingLemmas.{Narrowing, Reveals, run_revealed}
 -- an error of which a reply that has memory tells is no want of it
 no_memory : (c : MemoryError) → HasMemory (replied.Memory c) → IsNoWant (MemoryFailure c)
 no_memory memerr.OutOfSystemMemory has = has
-no_memory memerr.OutOfBoundsGrowth has = tt
-no_memory memerr.OutOfBoundsAccess has = tt
-no_memory memerr.InvalidMemoryType has = tt
-no_memory memerr.InvalidStaticBufferSize has = tt
-no_memory memerr.ResourceLimiterDeniedAllocation has = tt
-no_memory memerr.MinimumSizeOverflow has = tt
-no_memory memerr.MaximumSizeOverflow has = tt
-no_memory (memerr.OutOfFuel required) has = tt
+no_memory c has = tt
 
 -- so for tables
 no_table : (c : TableError) → HasMemory (replied.Table c) → IsNoWant (TableFailure c)
 no_table taberr.OutOfSystemMemory has = has
-no_table taberr.MinimumSizeOverflow has = tt
-no_table taberr.MaximumSizeOverflow has = tt
-no_table taberr.ResourceLimiterDeniedAllocation has = tt
-no_table taberr.GrowOutOfBounds has = tt
-no_table taberr.InitOutOfBounds has = tt
-no_table taberr.FillOutOfBounds has = tt
-no_table taberr.SetOutOfBounds has = tt
-no_table taberr.CopyOutOfBounds has = tt
-no_table taberr.ElementTypeMismatch has = tt
-no_table (taberr.OutOfFuel required) has = tt
+no_table c has = tt
 
 module _ {S : Type 0} (rules : Rules S) (IsAccepting : S → Type 0) (stays : StaysAccepting rules IsAccepting) where
   -- the replies that have memory, in these states of the limiter
