@@ -7,7 +7,7 @@ use Rattle.std.proofs.lemmas.List.Sums.{sum_by-cons}
 use Rattle.std.proofs.lemmas.Option.{same_Some}
 use Rattle.std.specs.Option.{option_map, option_map_or}
 use Rattle.std.specs.Prelude.{cond, if◌then◌else◌, is_some, nat_eq, nat_le, nat_lt, ◌&&◌}
-use Rattle.wasmi_core.proofs.AccountLemmas.{Takes, grows_takes, write_takes}
+use Rattle.wasmi_core.proofs.AccountLemmas.{Growing, Takes, after, before, growing, grows_takes, write_takes}
 use Rattle.wasmi_core.proofs.EffectLemmas.{both_live, on_live}
 use Rattle.wasmi_core.proofs.StepsLemmas.{change_facts, source_writes}
 use Rattle.wasmi_core.proofs.TableEffectsLemmas.{IsWrite}
@@ -112,22 +112,10 @@ due_pays m left values size charge on rated is =
 same_costs : (m m' : Meter) (charge : ℕ) → Some m' ≡ Some (meter_after m charge) → m'.costs ≡ m.costs
 same_costs m m' charge is = ap (λ (m : Meter). m.costs) (same_Some m' (meter_after m charge) is)
 
--- what a growth is between: a value, a meter and a limiter, and what they have become by a charge
-record Growing (V S : Type 0) : Type 0 where
-  value : V
-  meter : Meter
-  limiter : S
-  charge : ℕ
-  value' : V
-  meter' : Meter
-  limiter' : S
-
 module _ {V E S : Type 0} (rules : Rules S) (g : Growth V E) (t : Growing V S) where
   -- it has grown, with this result
   abbrev Grown : Result ℕ E → Type 0
-  Grown result =
-      Grows rules g (record { value = t.value; meter = Some t.meter; limiter = t.limiter }) result t.charge
-      (record { value = t.value'; meter = Some t.meter'; limiter = t.limiter' })
+  Grown result = Grows rules g (before t) result t.charge (after t)
 
   -- the costs stay
   growth_costs : (result : Result ℕ E) → Grown result → t.meter'.costs ≡ t.meter.costs
@@ -222,27 +210,33 @@ module _ {S : Type 0} (rules : Rules S) (pages : ℕ) (t : Growing MemoryValue S
       (λ none. ap (λ n. n * page_bytes t.value.ty.page) none ∙ omega arith) memory_bound size grows
   memory_result (Err error) grows = growth_refuses rules growth t error grows
 
+-- the growth of one value among others, by the same charge
+abbrev grown_to : {V W S : Type 0} → Growing W S → V → V → Growing V S
+grown_to t x x' = record {
+  value = x;
+  meter = t.meter;
+  limiter = t.limiter;
+  charge = t.charge;
+  value' = x';
+  meter' = t.meter';
+  limiter' = t.limiter';
+}
+
 -- nothing is appended where there is no memory
 nothing_appended : (o : Option MemoryValue) (pages : ℕ) → bytes_appended o pages replied.NoSuch ≡ 0
 nothing_appended None pages = refl
 nothing_appended (Some x) pages = refl
 
 -- a growth of the memory of an index
-memory_growth_writes : {S : Type 0} (rules : Rules S) (k pages : ℕ) (slots : List (Slot MemoryValue)) (m : Meter)
-    (l : S) (reply : Reply) (charge : ℕ) (slots' : List (Slot MemoryValue)) (m' : Meter) (l' : S)
-    → ActsAt k (reply_of replied.Number replied.Memory) (GrowsMemory rules pages)
-    (record { value = slots; meter = Some m; limiter = l }) reply charge
-    (record { value = slots'; meter = Some m'; limiter = l' })
-    → Wrote m charge (bytes_appended (live_at slots k) pages reply) (is_accepted reply) 0 m'
-memory_growth_writes {S} rules k pages slots m l reply charge slots' m' l' acts =
-    on_live (live_at slots k) _ _ acts
-    (λ missing. rw missing.0 (idles m m' charge _ (nothing_appended (live_at slots k) pages)
-    (same_Some m' m (ap (λ (s : MeteredValue (List (Slot MemoryValue)) S). s.meter) missing.2))))
-    (λ x found a.
-    let t : Growing MemoryValue S =
-    record { value = x; meter = m; limiter = l; charge = charge; value' = a.1; meter' = m'; limiter' = l' }
-    in
-    rw (found, a.3) (memory_result rules pages t a.0 a.2))
+memory_growth_writes : {S : Type 0} (rules : Rules S) (k pages : ℕ) (t : Growing (List (Slot MemoryValue)) S)
+    (reply : Reply)
+    → ActsAt k (reply_of replied.Number replied.Memory) (GrowsMemory rules pages) (before t) reply t.charge (after t)
+    → Wrote t.meter t.charge (bytes_appended (live_at t.value k) pages reply) (is_accepted reply) 0 t.meter'
+memory_growth_writes {S} rules k pages t reply acts =
+    on_live (live_at t.value k) _ _ acts
+    (λ missing. rw missing.0 (idles t.meter t.meter' t.charge _ (nothing_appended (live_at t.value k) pages)
+    (same_Some t.meter' t.meter (ap (λ (s : MeteredValue (List (Slot MemoryValue)) S). s.meter) missing.2))))
+    (λ x found a. rw (found, a.3) (memory_result rules pages (grown_to t x a.1) a.0 a.2))
 
 -- a growth of a table
 module _ {S : Type 0} (rules : Rules S) (n reference : ℕ) (t : Growing TableValue S) where
@@ -260,24 +254,18 @@ module _ {S : Type 0} (rules : Rules S) (n reference : ℕ) (t : Growing TableVa
   table_result (Err error) grows = growth_refuses rules table_growth t error grows
 
 -- a growth of the table of an index
-table_growth_writes : {S : Type 0} (rules : Rules S) (k n : ℕ) (init : TypedRawRef) (slots : List (Slot TableValue))
-    (m : Meter) (l : S) (reply : Reply) (charge : ℕ) (slots' : List (Slot TableValue)) (m' : Meter) (l' : S)
-    → ActsAt k (reply_of replied.Number replied.Table) (GrowsTable rules n init)
-    (record { value = slots; meter = Some m; limiter = l }) reply charge
-    (record { value = slots'; meter = Some m'; limiter = l' })
-    → Wrote m charge (element_bytes n reply) (is_accepted reply) 0 m'
-table_growth_writes {S} rules k n init slots m l reply charge slots' m' l' acts =
-    on_live (live_at slots k) _ _ acts
-    (λ missing. rw missing.0
-    (idles m m' charge _ refl
-    (same_Some m' m (ap (λ (s : MeteredValue (List (Slot TableValue)) S). s.meter) missing.2))))
-    (λ x found a.
-    let t : Growing TableValue S =
-    record { value = x; meter = m; limiter = l; charge = charge; value' = a.1; meter' = m'; limiter' = l' }
-    in
-    rw a.3 (on_test (same_type x.ty.element init.ty) _ _ a.2
-    (λ h. table_result rules n init.raw t a.0 h)
-    (λ h. rw h.0 (idles m m' charge _ refl (same_Some m' m (ap (λ (s : MeteredValue TableValue S). s.meter) h.2))))))
+table_growth_writes : {S : Type 0} (rules : Rules S) (k n : ℕ) (init : TypedRawRef)
+    (t : Growing (List (Slot TableValue)) S) (reply : Reply)
+    → ActsAt k (reply_of replied.Number replied.Table) (GrowsTable rules n init) (before t) reply t.charge (after t)
+    → Wrote t.meter t.charge (element_bytes n reply) (is_accepted reply) 0 t.meter'
+table_growth_writes {S} rules k n init t reply acts =
+    on_live (live_at t.value k) _ _ acts
+    (λ missing. rw missing.0 (idles t.meter t.meter' t.charge _ refl
+    (same_Some t.meter' t.meter (ap (λ (s : MeteredValue (List (Slot TableValue)) S). s.meter) missing.2))))
+    (λ x found a. rw a.3 (on_test (same_type x.ty.element init.ty) _ _ a.2
+    (λ h. table_result rules n init.raw (grown_to t x a.1) a.0 h)
+    (λ h. rw h.0 (idles t.meter t.meter' t.charge _ refl
+    (same_Some t.meter' t.meter (ap (λ (s : MeteredValue TableValue S). s.meter) h.2))))))
 
 -- a call that writes over a part of a table
 module _ (w : TableWrite) (x : TableValue) (len : ℕ) (m : Meter) (charge : ℕ) where
@@ -377,12 +365,12 @@ module _ {S : Type 0} (rules : Rules S) (w : World S) (turn : Turn) (w' : World 
       idle w turn w' step.after step.free.1 ((change_facts w.state change).meter turn.reply step.machine step.effect)
   effect_writes (MemoryGrown k pages) step =
       writes_as w turn w' step.after step.wrote
-      (memory_growth_writes rules k pages w.state.memories w.state.meter w.limiter turn.reply turn.charge step.part
-      step.meter step.limiter step.effect)
+      (memory_growth_writes rules k pages
+      (growing w w.state.memories turn.charge step.part step.meter step.limiter) turn.reply step.effect)
   effect_writes (TableGrown k n init) step =
       writes_as w turn w' step.after step.wrote
-      (table_growth_writes rules k n init w.state.tables w.state.meter w.limiter turn.reply turn.charge step.part
-      step.meter step.limiter step.effect)
+      (table_growth_writes rules k n init
+      (growing w w.state.tables turn.charge step.part step.meter step.limiter) turn.reply step.effect)
   effect_writes (PartWritten k source dst len) step =
       writes_as w turn w' step.after step.wrote
       (part_writes k len w.state.tables w.state.meter turn.reply turn.charge step.part step.meter
