@@ -12,13 +12,13 @@ use Rattle.wasmi_core.specs.Effects.{ActsAt, reply_of}
 use Rattle.wasmi_core.specs.Runs.{Run}
 use Rattle.wasmi_core.specs.State.{State, live_at}
 use Rattle.wasmi_core.specs.Steps.{Changed, Effect, FuelSet, MemoryGrown, PartWritten, TableGrown, TakesEffect, effect_of}
-use Rattle.wasmi_core.specs.TableEffects.{WritesTableAt, WritesTableFrom, metered, write_of}
+use Rattle.wasmi_core.specs.TableEffects.{Metered, WritesPartAt, WritesTableAt, metered, write_of}
 use Rattle.wasmi_core.specs.World.{Turn, World}
 use Rattle.wasmi_core.specs.declared.calls.Call.{Call}
 use Rattle.wasmi_core.specs.declared.calls.Call.TheVariants.{SetFuel}
 use Rattle.wasmi_core.specs.declared.calls.Reply.{Reply}
 use Rattle.wasmi_core.specs.declared.slots.Slot.{Slot}
-use Rattle.wasmi_meter.specs.Attempt.{Attempt, Denied, Request, Failed, AttemptOutcome, Met, MeteredValue, Unasked, optional_due, covers}
+use Rattle.wasmi_meter.specs.Attempt.{Attempt, Denied, Request, Failed, AttemptOutcome, Met, MeteredValue, Unasked, optional_due, covers, with_value}
 use Rattle.wasmi_meter.specs.Limiter.{Rules}
 use Rattle.wasmi_meter.specs.Meter.{Meter, due, meter_after}
 use Rattle.wasmi_meter.specs.declared.error.TableError.{TableError}
@@ -122,62 +122,88 @@ module _ (w : TableWrite) (x : TableValue) (m : Meter) (result : Result (Unit {0
   pub write_takes : (m' : Meter) → WritesTable w x (Some m) result charge x' (Some m') → Takes m charge m'
   write_takes m' writes = takes_paid m m' charge (ends_paid w.typed w.written _ refl writes.ends) writes.meter
 
+-- what a growth is between: a value, a meter and a limiter, and what they have become by a charge
+pub record Growing (V S : Type 0) : Type 0 where
+  pub value : V
+  pub meter : Meter
+  pub limiter : S
+  pub charge : ℕ
+  pub value' : V
+  pub meter' : Meter
+  pub limiter' : S
+
+-- a part of a world, its meter and its limiter, and what they have become by a charge
+abbrev pub growing : {V S : Type 0} → World S → V → ℕ → V → Meter → S → Growing V S
+growing w value charge value' meter' limiter' = record {
+  value = value;
+  meter = w.state.meter;
+  limiter = w.limiter;
+  charge = charge;
+  value' = value';
+  meter' = meter';
+  limiter' = limiter';
+}
+
+-- what there is before it, and after it
+abbrev pub before : {V S : Type 0} → Growing V S → MeteredValue V S
+before t = record { value = t.value; meter = Some t.meter; limiter = t.limiter }
+
+abbrev pub after : {V S : Type 0} → Growing V S → MeteredValue V S
+after t = record { value = t.value'; meter = Some t.meter'; limiter = t.limiter' }
+
 -- a call on what an index names
 acts_takes : {X R S : Type 0} (Acts : MeteredValue X S → R → ℕ → MeteredValue X S → Type 0) (k : ℕ)
-    (reply_to : R → Reply)
-    (slots : List (Slot X)) (m : Meter) (l : S) (reply : Reply) (charge : ℕ) (slots' : List (Slot X)) (m' : Meter)
-    (l' : S)
-    → ((x : X) (result : R) (x' : X) → Acts (record { value = x; meter = Some m; limiter = l }) result charge (record
-    { value = x'; meter = Some m'; limiter = l' }) → Takes m charge m')
-    → ActsAt k reply_to Acts (record { value = slots; meter = Some m; limiter = l }) reply charge
-    (record { value = slots'; meter = Some m'; limiter = l' }) → Takes m charge m'
-acts_takes {X = X} {S = S} Acts k reply_to slots m l reply charge slots' m' l' takes acts =
-    on_live (live_at slots k) _ _ acts
-    (λ missing. takes_nothing m m' charge missing.1
-    (same_Some m' m (ap (λ (s : MeteredValue (List (Slot X)) S). s.meter) missing.2)))
+    (reply_to : R → Reply) (t : Growing (List (Slot X)) S) (reply : Reply)
+    → ((x : X) (result : R) (x' : X) → Acts (with_value (before t) x) result t.charge (with_value (after t) x')
+    → Takes t.meter t.charge t.meter')
+    → ActsAt k reply_to Acts (before t) reply t.charge (after t) → Takes t.meter t.charge t.meter'
+acts_takes {X = X} {S = S} Acts k reply_to t reply takes acts =
+    on_live (live_at t.value k) _ _ acts
+    (λ missing. takes_nothing t.meter t.meter' t.charge missing.1
+    (same_Some t.meter' t.meter (ap (λ (s : MeteredValue (List (Slot X)) S). s.meter) missing.2)))
     (λ x found act. takes x act.0 act.1 act.2)
 
 -- a growth of the memory of an index
-memory_growth_takes : {S : Type 0} (rules : Rules S) (k pages : ℕ) (slots : List (Slot MemoryValue)) (m : Meter)
-    (l : S) (reply : Reply) (charge : ℕ) (slots' : List (Slot MemoryValue)) (m' : Meter) (l' : S)
-    → ActsAt k (reply_of replied.Number replied.Memory) (GrowsMemory rules pages)
-    (record { value = slots; meter = Some m; limiter = l }) reply charge
-    (record { value = slots'; meter = Some m'; limiter = l' }) → Takes m charge m'
-memory_growth_takes rules k pages slots m l reply charge slots' m' l' acts =
-    acts_takes (GrowsMemory rules pages) k (reply_of replied.Number replied.Memory) slots m l reply charge slots' m' l'
+memory_growth_takes : {S : Type 0} (rules : Rules S) (k pages : ℕ) (t : Growing (List (Slot MemoryValue)) S)
+    (reply : Reply)
+    → ActsAt k (reply_of replied.Number replied.Memory) (GrowsMemory rules pages) (before t) reply t.charge (after t)
+    → Takes t.meter t.charge t.meter'
+memory_growth_takes rules k pages t reply acts =
+    acts_takes (GrowsMemory rules pages) k (reply_of replied.Number replied.Memory) t reply
     (λ x result x'. grows_takes rules
-    (record { amount = pages; size = pages_of x; request = memory.growth_of x pages }) x m l result charge x' m' l')
+    (record { amount = pages; size = pages_of x; request = memory.growth_of x pages }) x t.meter t.limiter result
+    t.charge x' t.meter' t.limiter')
     acts
 
 -- a growth of the table of an index
-table_growth_takes : {S : Type 0} (rules : Rules S) (k n : ℕ) (init : TypedRawRef) (slots : List (Slot TableValue))
-    (m : Meter) (l : S) (reply : Reply) (charge : ℕ) (slots' : List (Slot TableValue)) (m' : Meter) (l' : S)
-    → ActsAt k (reply_of replied.Number replied.Table) (GrowsTable rules n init)
-    (record { value = slots; meter = Some m; limiter = l }) reply charge
-    (record { value = slots'; meter = Some m'; limiter = l' }) → Takes m charge m'
-table_growth_takes rules k n init slots m l reply charge slots' m' l' acts =
-    acts_takes (GrowsTable rules n init) k (reply_of replied.Number replied.Table) slots m l reply charge slots' m' l'
-    (λ x result x'. table_grows_takes rules n init x m l result charge x' m' l') acts
+table_growth_takes : {S : Type 0} (rules : Rules S) (k n : ℕ) (init : TypedRawRef)
+    (t : Growing (List (Slot TableValue)) S) (reply : Reply)
+    → ActsAt k (reply_of replied.Number replied.Table) (GrowsTable rules n init) (before t) reply t.charge (after t)
+    → Takes t.meter t.charge t.meter'
+table_growth_takes rules k n init t reply acts =
+    acts_takes (GrowsTable rules n init) k (reply_of replied.Number replied.Table) t reply
+    (λ x result x'. table_grows_takes rules n init x t.meter t.limiter result t.charge x' t.meter' t.limiter') acts
 
 -- a write over a part of the table of an index
 table_write_takes : (k : ℕ) (write : TableValue → TableWrite) (slots : List (Slot TableValue)) (m : Meter)
     (reply : Reply) (charge : ℕ) (slots' : List (Slot TableValue)) (m' : Meter)
     → WritesTableAt k write (metered slots m) reply charge (metered slots' m') → Takes m charge m'
 table_write_takes k write slots m reply charge slots' m' writes =
-    acts_takes {S = Unit {0}} (λ s result charge s'. WritesTable (write s.value) s.value s.meter result charge
-    s'.value s'.meter) k (reply_of (λ _. replied.Done) replied.Table) slots m tt reply charge slots' m' tt
-    (λ x result x'. write_takes (write x) x m result charge x' m') writes
+    acts_takes {X = TableValue} {S = Unit {0}}
+    (λ s result charge s'. WritesTable (write s.value) s.value s.meter result charge s'.value s'.meter) k
+    (reply_of (λ _. replied.Done) replied.Table)
+    (record { value = slots; meter = m; limiter = tt; charge = charge; value' = slots'; meter' = m'; limiter' = tt })
+    reply (λ x result x'. write_takes (write x) x m result charge x' m') writes
 
--- so from what may be missing
-table_copy_takes : {X : Type 0} (source : Option X) (k : ℕ) (write : X → TableValue → TableWrite)
-    (slots : List (Slot TableValue)) (m : Meter) (reply : Reply) (charge : ℕ) (slots' : List (Slot TableValue))
-    (m' : Meter)
-    → WritesTableFrom source k write (metered slots m) reply charge (metered slots' m') → Takes m charge m'
-table_copy_takes source k write slots m reply charge slots' m' writes =
-    on_live source _ _ writes
+-- so where the write may be missing
+part_takes : (k : ℕ) (part : Option (TableValue → TableWrite)) (slots : List (Slot TableValue)) (m : Meter)
+    (reply : Reply) (charge : ℕ) (slots' : List (Slot TableValue)) (m' : Meter)
+    → WritesPartAt k part (metered slots m) reply charge (metered slots' m') → Takes m charge m'
+part_takes k part slots m reply charge slots' m' writes =
+    on_live part _ _ writes
     (λ missing. takes_nothing m m' charge missing.1
-    (same_Some m' m (ap (λ (s : MeteredValue (List (Slot TableValue)) (Unit {0})). s.meter) missing.2)))
-    (λ x found h. table_write_takes k (write x) slots m reply charge slots' m' h)
+    (same_Some m' m (ap (λ (s : Metered). s.meter) missing.2)))
+    (λ write found h. table_write_takes k write slots m reply charge slots' m' h)
 
 module _ {S : Type 0} (account : Account) (w : World S) (turn : Turn) (w' : World S) where
   -- the account after this turn, where it doesn't set the fuel
@@ -228,16 +254,16 @@ module _ {S : Type 0} (rules : Rules S) (account : Account) (w : World S) (turn 
       ((change_facts w.state change).meter turn.reply step.machine step.effect)
   effect_balances (MemoryGrown k pages) step balances =
       charged account w turn w' balances step.after
-      (memory_growth_takes rules k pages w.state.memories w.state.meter w.limiter turn.reply turn.charge step.part
-      step.meter step.limiter step.effect)
+      (memory_growth_takes rules k pages
+      (growing w w.state.memories turn.charge step.part step.meter step.limiter) turn.reply step.effect)
   effect_balances (TableGrown k n init) step balances =
       charged account w turn w' balances step.after
-      (table_growth_takes rules k n init w.state.tables w.state.meter w.limiter turn.reply turn.charge step.part
-      step.meter step.limiter step.effect)
+      (table_growth_takes rules k n init
+      (growing w w.state.tables turn.charge step.part step.meter step.limiter) turn.reply step.effect)
   effect_balances (PartWritten k source dst len) step balances =
       charged account w turn w' balances step.after
-      (table_copy_takes (write_of source dst len) k (λ write. write) w.state.tables w.state.meter turn.reply
-      turn.charge step.part step.meter step.effect)
+      (part_takes k (write_of source dst len) w.state.tables w.state.meter turn.reply turn.charge step.part step.meter
+      step.effect)
   effect_balances effect step balances = uncharged account w turn w' balances step.after step.free.0 refl
 
 module _ {S : Type 0} (rules : Rules S) where

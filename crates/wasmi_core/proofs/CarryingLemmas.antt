@@ -1,9 +1,9 @@
 -- A run under one limiter is one under another that may answer the same.
-use Rattle.std.proofs.Common.{List, Result, [], ap, inl, inr, ℕ, ◌∷◌}
+use Rattle.std.proofs.Common.{List, Result, Some, [], ap, inl, inr, ℕ, ◌∷◌}
 use Rattle.wasmi_core.proofs.EffectLemmas.{on_live_too, on_test_too}
-use Rattle.wasmi_core.specs.Effects.{ActsAt, Creates, reply_of}
+use Rattle.wasmi_core.specs.Effects.{ActsAt, ActsMetered, Asks, Creates, reply_of}
 use Rattle.wasmi_core.specs.Runs.{Run}
-use Rattle.wasmi_core.specs.State.{live_at}
+use Rattle.wasmi_core.specs.State.{State, live_at}
 use Rattle.wasmi_core.specs.Steps.{BytesRead, Effect, LentMemoryMade, MemoryGrown, MemoryMade, PartWritten, TableGrown, TableMade, TakesEffect, Told, effect_of}
 use Rattle.wasmi_core.specs.World.{Turn, World}
 use Rattle.wasmi_core.specs.declared.calls.Reply.{Reply}
@@ -36,6 +36,19 @@ module _ {S T : Type 0} (image : S → T) where
   -- the situation with the image of its limiter
   abbrev moved : {V : Type 0} → MeteredValue V S → MeteredValue V T
   moved s = record { value = s.value; meter = s.meter; limiter = image s.limiter }
+
+  -- a call on what an index names
+  acts_too : {X R : Type 0} (k : ℕ) (reply_to : R → Reply)
+      (Acts : MeteredValue X S → R → ℕ → MeteredValue X S → Type 0)
+      (Acts' : MeteredValue X T → R → ℕ → MeteredValue X T → Type 0)
+      → ((s s' : MeteredValue X S) (result : R) (charge : ℕ) → Acts s result charge s'
+      → Acts' (moved s) result charge (moved s'))
+      → (s s' : MeteredValue (List (Slot X)) S) (reply : Reply) (charge : ℕ)
+      → ActsAt k reply_to Acts s reply charge s'
+      → ActsAt k reply_to Acts' (moved s) reply charge (moved s')
+  acts_too k reply_to Acts Acts' too s s' reply charge acts =
+      on_live_too (live_at s.value k) _ _ _ _ (λ missing. (missing.0, missing.1, ap moved missing.2))
+      (λ x h. (h.0, h.1, too _ _ h.0 charge h.2, h.3, h.4)) acts
 
   module _ {rules : Rules S} {rules' : Rules T} (carries : Carries image rules rules') where
     module _ {V E : Type 0} (e : Request V E) where
@@ -99,19 +112,6 @@ module _ {S T : Type 0} (image : S → T) where
     creates_too refusal e made slots slots' reply l l' (inr (result, makes, appends)) =
         inr (result, makes_too e made l l' result makes, appends)
 
-    -- a call on what an index names
-    acts_too : {X R : Type 0} (k : ℕ) (reply_to : R → Reply)
-        (Acts : MeteredValue X S → R → ℕ → MeteredValue X S → Type 0)
-        (Acts' : MeteredValue X T → R → ℕ → MeteredValue X T → Type 0)
-        → ((s s' : MeteredValue X S) (result : R) (charge : ℕ) → Acts s result charge s'
-        → Acts' (moved s) result charge (moved s'))
-        → (s s' : MeteredValue (List (Slot X)) S) (reply : Reply) (charge : ℕ)
-        → ActsAt k reply_to Acts s reply charge s'
-        → ActsAt k reply_to Acts' (moved s) reply charge (moved s')
-    acts_too k reply_to Acts Acts' too s s' reply charge acts =
-        on_live_too (live_at s.value k) _ _ _ _ (λ missing. (missing.0, missing.1, ap moved missing.2))
-        (λ x h. (h.0, h.1, too _ _ h.0 charge h.2, h.3, h.4)) acts
-
     -- a growth of a table, whose type is tested first
     table_growth_too : (n : ℕ) (init : TypedRawRef) (s s' : MeteredValue TableValue S) (result : Result ℕ _)
         (charge : ℕ)
@@ -123,58 +123,61 @@ module _ {S T : Type 0} (image : S → T) where
         (λ mismatch. (mismatch.0, mismatch.1, ap moved mismatch.2)) grows
 
     module _ (w : World S) (turn : Turn) (w' : World S) where
+      -- a turn that makes something under the limiter
+      asks_too : {A : Type 0} {with_part : A → State} {Row : S → Reply → A → S → Type 0}
+          {Row' : T → Reply → A → T → Type 0} (step : Asks w turn w' with_part Row)
+          → Row' (image w.limiter) turn.reply step.part (image step.limiter)
+          → Asks (carried image w) turn (carried image w') with_part Row'
+      asks_too step row = record {
+        free = step.free;
+        part = step.part;
+        limiter = image step.limiter;
+        effect = row;
+        after = ap (carried image) step.after;
+      }
+
+      -- a turn with a charge
+      pays_too : {A : Type 0} {old : A} {with_part : A → State}
+          {Row : MeteredValue A S → Reply → ℕ → MeteredValue A S → Type 0}
+          {Row' : MeteredValue A T → Reply → ℕ → MeteredValue A T → Type 0} {bytes : Reply → ℕ}
+          (step : ActsMetered w turn w' old with_part Row bytes)
+          → Row' (record { value = old; meter = Some w.state.meter; limiter = image w.limiter }) turn.reply turn.charge
+          (record { value = step.part; meter = Some step.meter; limiter = image step.limiter })
+          → ActsMetered (carried image w) turn (carried image w') old with_part Row' bytes
+      pays_too step row = record {
+        part = step.part;
+        meter = step.meter;
+        limiter = image step.limiter;
+        effect = row;
+        wrote = step.wrote;
+        after = ap (carried image) step.after;
+      }
+
       -- each effect
       effect_carried : (effect : Effect) → TakesEffect rules effect w turn w'
           → TakesEffect rules' effect (carried image w) turn (carried image w')
-      effect_carried (MemoryMade ty) step = record {
-        free = step.free;
-        part = step.part;
-        limiter = image step.limiter;
-        effect = creates_too replied.Memory (memory.creation_of Owned ty) (new_memory Owned ty) w.state.memories
-            step.part turn.reply w.limiter step.limiter step.effect;
-        after = ap (carried image) step.after;
-      }
-      effect_carried (LentMemoryMade ty) step = record {
-        free = step.free;
-        part = step.part;
-        limiter = image step.limiter;
-        effect = on_live_too w.state.spare _ _ _ _ (λ none. (none.0, none.1, ap image none.2))
-            (λ region h. (
-              creates_too replied.Memory (memory.creation_of (Lent region) ty)
-                  (new_memory (Lent region) ty) w.state.memories step.part.slots turn.reply w.limiter step.limiter h.0,
-              h.1,
-            )) step.effect;
-        after = ap (carried image) step.after;
-      }
-      effect_carried (MemoryGrown k pages) step = record {
-        part = step.part;
-        meter = step.meter;
-        limiter = image step.limiter;
-        effect = acts_too k (reply_of replied.Number replied.Memory) (GrowsMemory rules pages)
-            (GrowsMemory rules' pages)
-            (λ s. grows_too
-            (record { amount = pages; size = pages_of s.value; request = memory.growth_of s.value pages }) s)
-            _ _ turn.reply turn.charge step.effect;
-        wrote = step.wrote;
-        after = ap (carried image) step.after;
-      }
-      effect_carried (TableMade ty init) step = record {
-        free = step.free;
-        part = step.part;
-        limiter = image step.limiter;
-        effect = creates_too replied.Table (table.creation_of ty init.ty) (new_table ty init.raw) w.state.tables
-            step.part turn.reply w.limiter step.limiter step.effect;
-        after = ap (carried image) step.after;
-      }
-      effect_carried (TableGrown k n init) step = record {
-        part = step.part;
-        meter = step.meter;
-        limiter = image step.limiter;
-        effect = acts_too k (reply_of replied.Number replied.Table) (GrowsTable rules n init) (GrowsTable rules' n init)
-            (table_growth_too n init) _ _ turn.reply turn.charge step.effect;
-        wrote = step.wrote;
-        after = ap (carried image) step.after;
-      }
+      effect_carried (MemoryMade ty) step =
+          asks_too step (creates_too replied.Memory (memory.creation_of Owned ty) (new_memory Owned ty)
+          w.state.memories step.part turn.reply w.limiter step.limiter step.effect)
+      effect_carried (LentMemoryMade ty) step =
+          asks_too step (on_live_too w.state.spare _ _ _ _ (λ none. (none.0, none.1, ap image none.2))
+          (λ region h. (
+            creates_too replied.Memory (memory.creation_of (Lent region) ty)
+                (new_memory (Lent region) ty) w.state.memories step.part.slots turn.reply w.limiter step.limiter h.0,
+            h.1,
+          )) step.effect)
+      effect_carried (MemoryGrown k pages) step =
+          pays_too step (acts_too k (reply_of replied.Number replied.Memory) (GrowsMemory rules pages)
+          (GrowsMemory rules' pages)
+          (λ s. grows_too (record { amount = pages; size = pages_of s.value; request = memory.growth_of s.value pages })
+          s)
+          _ _ turn.reply turn.charge step.effect)
+      effect_carried (TableMade ty init) step =
+          asks_too step (creates_too replied.Table (table.creation_of ty init.ty) (new_table ty init.raw) w.state.tables
+          step.part turn.reply w.limiter step.limiter step.effect)
+      effect_carried (TableGrown k n init) step =
+          pays_too step (acts_too k (reply_of replied.Number replied.Table) (GrowsTable rules n init)
+          (GrowsTable rules' n init) (table_growth_too n init) _ _ turn.reply turn.charge step.effect)
       effect_carried (PartWritten k source dst len) step =
           record {
             part = step.part;

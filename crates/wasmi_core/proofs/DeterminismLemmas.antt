@@ -4,17 +4,17 @@ use Rattle.std.proofs.lemmas.Option.{none-some, same_Some}
 use Rattle.std.specs.Option.{option_map}
 use Rattle.std.specs.Prelude.{MatchBool}
 use Rattle.wasmi_core.proofs.MemoryEffectsLemmas.{reads_same}
-use Rattle.wasmi_core.proofs.EffectLemmas.{Acted, Outcome, acts_same, creates_same, on_both}
+use Rattle.wasmi_core.proofs.EffectLemmas.{Acted, HasOneEnding, HasOneOutcome, acts_same, creates_same, on_both}
 use Rattle.wasmi_core.proofs.StepsLemmas.{change_facts}
-use Rattle.wasmi_core.proofs.TableEffectsLemmas.{table_copies_same}
+use Rattle.wasmi_core.proofs.TableEffectsLemmas.{parts_same}
 use Rattle.wasmi_core.specs.Determinism.{HasMemory, HaveMemory, IsDeterministic, IsNoWant, with_memory}
-use Rattle.wasmi_core.specs.MemoryEffects.{CreatesLent, bytes_appended, spare_after}
-use Rattle.wasmi_core.specs.Effects.{Creates, reply_of}
+use Rattle.wasmi_core.specs.MemoryEffects.{CreatesLent, spare_after}
+use Rattle.wasmi_core.specs.Effects.{ActsMetered, ActsMeteredUnasked, Asks, Changes, Creates, OnlyReplies, reply_of}
 use Rattle.wasmi_core.specs.Runs.{Run}
-use Rattle.wasmi_core.specs.State.{MemoryPart, State, live_at, memory_part, with_memories, with_memory_part, with_tables}
+use Rattle.wasmi_core.specs.State.{MemoryPart, State, memory_part}
 use Rattle.wasmi_core.specs.Steps.{BytesRead, Changed, Effect, FuelSet, LentMemoryMade, MemoryGrown, MemoryMade, PartWritten, TableGrown, TableMade, TakesEffect, Told, effect_of}
-use Rattle.wasmi_core.specs.TableEffects.{element_bytes, write_of}
-use Rattle.wasmi_core.specs.World.{IsFree, Turn, World}
+use Rattle.wasmi_core.specs.TableEffects.{write_of}
+use Rattle.wasmi_core.specs.World.{Turn, World}
 use Rattle.wasmi_core.specs.declared.calls.Call.{Call}
 use Rattle.wasmi_core.specs.declared.calls.Reply.{Reply}
 use Rattle.wasmi_core.specs.declared.slots.Slot.{Slot}
@@ -152,22 +152,15 @@ table_wants cause lacks other = rw lacks at other
 
 -- a memory is made
 memory_same : {S : Type 0} {rules : Rules S} → IsDeterministic rules → (room : Room) (ty : MemoryTypeValue)
-    (slots : List (Slot MemoryValue)) (l : S) (o o' : Outcome (List (Slot MemoryValue)) S) → HasMemory o.reply
-    → HasMemory o'.reply
-    → Creates replied.Memory (MakesMemory (with_memory rules) room ty) slots l o.reply o.part o.limiter
-    → Creates replied.Memory (MakesMemory (with_memory rules) room ty) slots l o'.reply o'.part o'.limiter
-    → (o.reply ≡ o'.reply) × (o.part ≡ o'.part) × (o.limiter ≡ o'.limiter)
-memory_same {rules = rules} once room ty slots l o o' has has' a b =
+    (slots : List (Slot MemoryValue)) (l : S)
+    → HasOneOutcome (Creates replied.Memory (MakesMemory (with_memory rules) room ty) slots l)
+memory_same {rules = rules} once room ty slots l =
     creates_same replied.Memory (MakesMemory (with_memory rules) room ty)
-    (makes_same once (memory.creation_of room ty) (record { wants = memory_wants room }) (new_memory room ty))
-    slots l o o' has has' a b
+    (makes_same once (memory.creation_of room ty) (record { wants = memory_wants room }) (new_memory room ty)) slots l
 
 -- a memory is made in the spare region
 lent_same : {S : Type 0} {rules : Rules S} → IsDeterministic rules → (ty : MemoryTypeValue) (part : MemoryPart) (l : S)
-    (o o' : Outcome MemoryPart S) → HasMemory o.reply → HasMemory o'.reply
-    → CreatesLent (with_memory rules) ty part l o.reply o.part o.limiter
-    → CreatesLent (with_memory rules) ty part l o'.reply o'.part o'.limiter
-    → (o.reply ≡ o'.reply) × (o.part ≡ o'.part) × (o.limiter ≡ o'.limiter)
+    → HasOneOutcome (CreatesLent (with_memory rules) ty part l)
 lent_same once ty part l o o' has has' a b =
     on_both part.spare _ _ _ _ a b (λ h h'. (h.0 ∙ sym h'.0, h.1 ∙ sym h'.1, h.2 ∙ sym h'.2))
     (λ region h h'.
@@ -178,80 +171,91 @@ lent_same once ty part l o o' has has' a b =
     let spare = h.1 ∙ ap (λ r. spare_after r part.spare) same.0 ∙ sym h'.1 in
     (same.0, λ i. record { slots = same.1 i; spare = spare i }, same.2))
 
--- two turns from one world
+-- what a turn on one part of the state ends in
+abbrev acted : {A S : Type 0} → Turn → A → Meter → S → Acted A S
+acted t part meter limiter =
+    record {
+      reply = t.reply;
+      charge = t.charge;
+      after = record { value = part; meter = Some meter; limiter = limiter };
+    }
+
+-- two turns from one world, whose effects are one
 module _ {S : Type 0} (w : World S) (t t' : Turn) (v v' : World S) where
   abbrev Same : Type 0
   Same = (t.reply ≡ t'.reply) × (t.charge ≡ t'.charge) × (t.written ≡ t'.written) × (v ≡ v')
 
-  -- a turn that only replies
-  free : IsFree t → IsFree t' → t.reply ≡ t'.reply → v ≡ w → v' ≡ w → Same
-  free f f' same is is' = (same, f.0 ∙ sym f'.0, f.1 ∙ sym f'.1, is ∙ sym is')
+  -- turns that only reply
+  told_once : {Row : Reply → Type 0} → OnlyReplies w t v Row → OnlyReplies w t' v' Row
+      → (Row t.reply → Row t'.reply → t.reply ≡ t'.reply) → Same
+  told_once step step' once = (
+    once step.effect step'.effect,
+    step.free.0 ∙ sym step'.free.0,
+    step.free.1 ∙ sym step'.free.1,
+    step.after ∙ sym step'.after,
+  )
 
-  module _ {A : Type 0} (with_part : A → State) (part part' : A) where
-    -- a turn that changes a part of the state
-    changed : IsFree t → IsFree t' → (t.reply ≡ t'.reply) × (part ≡ part') → v ≡ record w { state = with_part part }
-        → v' ≡ record w { state = with_part part' } → Same
-    changed f f' same is is' = (
-      same.0,
-      f.0 ∙ sym f'.0,
-      f.1 ∙ sym f'.1,
-      is
-          ∙ ap (λ p. let u : World S = record w { state = with_part p } in u) same.1 ∙ sym is',
-    )
+  -- turns that change the state
+  changed_once : {Row : Reply → State → Type 0} → Changes w t v Row → Changes w t' v' Row
+      → ((s s' : State) → Row t.reply s → Row t'.reply s' → (t.reply ≡ t'.reply) × (s ≡ s')) → Same
+  changed_once step step' once =
+      let same = once step.machine step'.machine step.effect step'.effect in (
+        same.0,
+        step.free.0 ∙ sym step'.free.0,
+        step.free.1 ∙ sym step'.free.1,
+        step.after ∙ ap (λ s. let u : World S = record w { state = s } in u) same.1 ∙ sym step'.after,
+      )
 
-    -- a turn that makes something under the limiter
-    asked : (l l' : S) → IsFree t → IsFree t' → (t.reply ≡ t'.reply) × (part ≡ part') × (l ≡ l')
-        → v ≡ record { state = with_part part; limiter = l } → v' ≡ record { state = with_part part'; limiter = l' }
-        → Same
-    asked l l' f f' same is is' = (
-      same.0,
-      f.0 ∙ sym f'.0,
-      f.1 ∙ sym f'.1,
-      is
-          ∙ (λ i. record { state = with_part (same.1 i); limiter = same.2 i }) ∙ sym is',
-    )
+  module _ {A : Type 0} {with_part : A → State} where
+    -- turns that make something under the limiter
+    asked_once : {Row : S → Reply → A → S → Type 0} → Asks w t v with_part Row → Asks w t' v' with_part Row
+        → HasMemory t.reply → HasMemory t'.reply → HasOneOutcome (Row w.limiter) → Same
+    asked_once step step' has has' once =
+        let same =
+        once (record { reply = t.reply; part = step.part; limiter = step.limiter })
+        (record { reply = t'.reply; part = step'.part; limiter = step'.limiter }) has has' step.effect step'.effect
+        in (
+          same.0,
+          step.free.0 ∙ sym step'.free.0,
+          step.free.1 ∙ sym step'.free.1,
+          step.after ∙ (λ i. record { state = with_part (same.1 i); limiter = same.2 i }) ∙ sym step'.after,
+        )
 
-    module _ (m m' : Meter) (written : Reply → ℕ) where
-      -- a turn with a charge
-      paid : (l l' : S)
-          → (t.reply ≡ t'.reply) × (t.charge ≡ t'.charge) × ((let s : MeteredValue A S =
-          record { value = part; meter = Some m; limiter = l } in s) ≡ record {
-            value = part';
-            meter = Some m';
-            limiter = l';
-          }) → t.written ≡ written t.reply → t'.written ≡ written t'.reply
-          → v ≡ record { state = record (with_part part) { meter = m }; limiter = l }
-          → v' ≡ record { state = record (with_part part') { meter = m' }; limiter = l' } → Same
-      paid l l' same wrote wrote' is is' =
+    module _ {old : A} {bytes : Reply → ℕ} where
+      -- turns with a charge
+      paid_once : {Row : MeteredValue A S → Reply → ℕ → MeteredValue A S → Type 0}
+          → ActsMetered w t v old with_part Row bytes → ActsMetered w t' v' old with_part Row bytes
+          → HasOneEnding (Row (record { value = old; meter = Some w.state.meter; limiter = w.limiter })) → Same
+      paid_once step step' once =
+          let same =
+          once (acted t step.part step.meter step.limiter) (acted t' step'.part step'.meter step'.limiter) step.effect
+          step'.effect in
           let parts = ap (λ (s : MeteredValue A S). s.value) same.2 in
-          let meters = same_Some m m' (ap (λ (s : MeteredValue A S). s.meter) same.2) in
+          let meters = same_Some step.meter step'.meter (ap (λ (s : MeteredValue A S). s.meter) same.2) in
           let limiters = ap (λ (s : MeteredValue A S). s.limiter) same.2 in (
             same.0,
             same.1,
-            wrote ∙ ap written same.0 ∙ sym wrote',
-            is
+            step.wrote ∙ ap bytes same.0 ∙ sym step'.wrote,
+            step.after
                 ∙ (λ i. record { state = record (with_part (parts i)) { meter = meters i }; limiter = limiters i })
-                ∙ sym is',
+                ∙ sym step'.after,
           )
 
       -- so where the limiter is not reached
-      paid_unasked : (t.reply ≡ t'.reply) × (t.charge ≡ t'.charge) × ((let s : MeteredValue A (Unit {0}) =
-          record { value = part; meter = Some m; limiter = tt } in s) ≡ record {
-            value = part';
-            meter = Some m';
-            limiter = tt;
-          }) → t.written ≡ written t.reply → t'.written ≡ written t'.reply
-          → v ≡ record w { state = record (with_part part) { meter = m } }
-          → v' ≡ record w { state = record (with_part part') { meter = m' } } → Same
-      paid_unasked same wrote wrote' is is' =
+      unasked_once : {Row : MeteredValue A (Unit {0}) → Reply → ℕ → MeteredValue A (Unit {0}) → Type 0}
+          → ActsMeteredUnasked w t v old with_part Row bytes → ActsMeteredUnasked w t' v' old with_part Row bytes
+          → HasOneEnding (Row (record { value = old; meter = Some w.state.meter; limiter = tt })) → Same
+      unasked_once step step' once =
+          let same =
+          once (acted t step.part step.meter tt) (acted t' step'.part step'.meter tt) step.effect step'.effect in
           let parts = ap (λ (s : MeteredValue A (Unit {0})). s.value) same.2 in
-          let meters = same_Some m m' (ap (λ (s : MeteredValue A (Unit {0})). s.meter) same.2) in (
+          let meters = same_Some step.meter step'.meter (ap (λ (s : MeteredValue A (Unit {0})). s.meter) same.2) in (
             same.0,
             same.1,
-            wrote ∙ ap written same.0 ∙ sym wrote',
-            is
+            step.wrote ∙ ap bytes same.0 ∙ sym step'.wrote,
+            step.after
                 ∙ (λ i. record { state = record (with_part (parts i)) { meter = meters i }; limiter = w.limiter })
-                ∙ sym is',
+                ∙ sym step'.after,
           )
 
 -- two growths of a table
@@ -275,73 +279,37 @@ table_growth_same {rules = rules} once n init s result result' charge charge' s'
         result result' charge charge' s' s'' h h'
     by_type false h h' = (h.0 ∙ sym h'.0, h.1 ∙ sym h'.1, h.2 ∙ sym h'.2)
 
--- what a turn on one part of the state ends in
-abbrev acted : {A S : Type 0} → Turn → A → Meter → S → Acted A S
-acted t part meter limiter =
-    record {
-      reply = t.reply;
-      charge = t.charge;
-      after = record { value = part; meter = Some meter; limiter = limiter };
-    }
-
 module _ {S : Type 0} (rules : Rules S) (once : IsDeterministic rules) (w : World S) (t t' : Turn) (v v' : World S)
     (room : HasMemory t.reply) (room' : HasMemory t'.reply) where
   -- each effect
   effect_same : (effect : Effect) → TakesEffect (with_memory rules) effect w t v
       → TakesEffect (with_memory rules) effect w t' v' → Same w t t' v v'
-  effect_same (Told reply) step step' =
-      free w t t' v v' step.free step'.free (step.effect ∙ sym step'.effect) step.after step'.after
+  effect_same (Told told) step step' = told_once w t t' v v' step step' (λ is is'. is ∙ sym is')
   effect_same (BytesRead k offset len) step step' =
-      free w t t' v v' step.free step'.free
-      (reads_same k offset len w.state.memories t.reply t'.reply room room' step.effect step'.effect) step.after
-      step'.after
+      told_once w t t' v v' step step' (reads_same k offset len w.state.memories t.reply t'.reply room room')
   effect_same (FuelSet fuel) step step' =
-      changed w t t' v v' (λ s. s) step.machine step'.machine step.free step'.free
-      (step.effect.0 ∙ sym step'.effect.0, step.effect.1 ∙ sym step'.effect.1) step.after step'.after
+      changed_once w t t' v v' step step' (λ s s' is is'. (is.0 ∙ sym is'.0, is.1 ∙ sym is'.1))
   effect_same (Changed change) step step' =
-      changed w t t' v v' (λ s. s) step.machine step'.machine step.free step'.free
-      ((change_facts w.state change).same t.reply t'.reply step.machine step'.machine room room' step.effect
-      step'.effect)
-      step.after step'.after
+      changed_once w t t' v v' step step'
+      (λ s s'. (change_facts w.state change).same t.reply t'.reply s s' room room')
   effect_same (MemoryMade ty) step step' =
-      asked w t t' v v' (with_memories w.state) step.part step'.part step.limiter step'.limiter step.free step'.free
-      (memory_same once Owned ty w.state.memories w.limiter
-      (record { reply = t.reply; part = step.part; limiter = step.limiter })
-      (record { reply = t'.reply; part = step'.part; limiter = step'.limiter }) room room' step.effect step'.effect)
-      step.after step'.after
+      asked_once w t t' v v' step step' room room' (memory_same once Owned ty w.state.memories w.limiter)
   effect_same (LentMemoryMade ty) step step' =
-      asked w t t' v v' (with_memory_part w.state) step.part step'.part step.limiter step'.limiter step.free step'.free
-      (lent_same once ty (memory_part w.state) w.limiter
-      (record { reply = t.reply; part = step.part; limiter = step.limiter })
-      (record { reply = t'.reply; part = step'.part; limiter = step'.limiter }) room room' step.effect step'.effect)
-      step.after step'.after
+      asked_once w t t' v v' step step' room room' (lent_same once ty (memory_part w.state) w.limiter)
   effect_same (MemoryGrown k pages) step step' =
-      paid w t t' v v' (with_memories w.state) step.part step'.part step.meter step'.meter
-      (bytes_appended (live_at w.state.memories k) pages) step.limiter step'.limiter
-      (acts_same (GrowsMemory (with_memory rules) pages)
+      paid_once w t t' v v' step step' (acts_same (GrowsMemory (with_memory rules) pages)
       (λ s. grows_same once
       (record { amount = pages; size = pages_of s.value; request = memory.growth_of s.value pages })
-      (record { wants = memory_wants s.value.room }) s) k (reply_of replied.Number replied.Memory) _
-      (acted t step.part step.meter step.limiter) (acted t' step'.part step'.meter step'.limiter)
-      step.effect step'.effect) step.wrote step'.wrote step.after step'.after
+      (record { wants = memory_wants s.value.room }) s) k (reply_of replied.Number replied.Memory) _)
   effect_same (TableMade ty init) step step' =
-      asked w t t' v v' (with_tables w.state) step.part step'.part step.limiter step'.limiter step.free step'.free
-      (creates_same replied.Table (MakesTable (with_memory rules) ty init)
+      asked_once w t t' v v' step step' room room' (creates_same replied.Table (MakesTable (with_memory rules) ty init)
       (makes_same once (table.creation_of ty init.ty) (record { wants = table_wants }) (new_table ty init.raw))
-      w.state.tables w.limiter (record { reply = t.reply; part = step.part; limiter = step.limiter })
-      (record { reply = t'.reply; part = step'.part; limiter = step'.limiter }) room room' step.effect step'.effect)
-      step.after step'.after
+      w.state.tables w.limiter)
   effect_same (TableGrown k n init) step step' =
-      paid w t t' v v' (with_tables w.state) step.part step'.part step.meter step'.meter (element_bytes n)
-      step.limiter step'.limiter
-      (acts_same (GrowsTable (with_memory rules) n init) (table_growth_same once n init) k
-      (reply_of replied.Number replied.Table) _ (acted t step.part step.meter step.limiter)
-      (acted t' step'.part step'.meter step'.limiter) step.effect step'.effect) step.wrote
-      step'.wrote step.after step'.after
+      paid_once w t t' v v' step step' (acts_same (GrowsTable (with_memory rules) n init)
+      (table_growth_same once n init) k (reply_of replied.Number replied.Table) _)
   effect_same (PartWritten k source dst len) step step' =
-      paid_unasked w t t' v v' (with_tables w.state) step.part step'.part step.meter step'.meter (element_bytes len)
-      (table_copies_same (write_of source dst len) k (λ write. write) _ t.reply t'.reply t.charge t'.charge
-      _ _ step.effect step'.effect) step.wrote step'.wrote step.after step'.after
+      unasked_once w t t' v v' step step' (parts_same k (write_of source dst len) _)
 
 module _ {S : Type 0} (rules : Rules S) (once : IsDeterministic rules) where
   -- two runs

@@ -127,13 +127,17 @@ pub record Outcome (A S : Type 0) : Type 0 where
   pub part : A
   pub limiter : S
 
+-- a creation ends in one way, where memory isn't wanting
+abbrev pub HasOneOutcome : {A S : Type 0} → (Reply → A → S → Type 0) → Type 0
+HasOneOutcome {A} {S} Row =
+    (o o' : Outcome A S) → HasMemory o.reply → HasMemory o'.reply → Row o.reply o.part o.limiter
+    → Row o'.reply o'.part o'.limiter → (o.reply ≡ o'.reply) × (o.part ≡ o'.part) × (o.limiter ≡ o'.limiter)
+
 -- two creations in a new slot
 pub creates_same : {X E S : Type 0} (refusal : E → Reply) (Makes : S → Result X E → S → Type 0)
     → ((l : S) (result result' : Result X E) (l' l'' : S) → Makes l result l' → Makes l result' l''
     → (result ≡ result') × (l' ≡ l''))
-    → (slots : List (Slot X)) (l : S) (o o' : Outcome (List (Slot X)) S) → HasMemory o.reply → HasMemory o'.reply
-    → Creates refusal Makes slots l o.reply o.part o.limiter → Creates refusal Makes slots l o'.reply o'.part o'.limiter
-    → (o.reply ≡ o'.reply) × (o.part ≡ o'.part) × (o.limiter ≡ o'.limiter)
+    → (slots : List (Slot X)) (l : S) → HasOneOutcome (Creates refusal Makes slots l)
 creates_same refusal Makes same slots l o o' room room' (inl none) b = absurd (rw none.0 at room)
 creates_same refusal Makes same slots l o o' room room' (inr a) (inl none) = absurd (rw none.0 at room')
 creates_same refusal Makes same slots l o o' room room' (inr (result, makes, appends))
@@ -145,20 +149,35 @@ creates_same refusal Makes same slots l o o' room room' (inr (result, makes, app
     in
     (put.0, put.1, made.1)
 
+-- a row on a part is decided: two of it are one
+abbrev pub IsDecided : {A : Type 0} → (Reply → A → Type 0) → Type 0
+IsDecided {A} Row =
+    (reply reply' : Reply) (part part' : A) → Row reply part → Row reply' part'
+    → (reply ≡ reply') × (part ≡ part')
+
+-- a change is decided, where the change of what was found is
+abbrev pub ChangesOnce : {X : Type 0} → (Reply → X → X → Type 0) → Type 0
+ChangesOnce {X} Change = (x : X) → IsDecided (λ reply. Change reply x)
+
 -- two changes
-pub changes_same : {X A : Type 0} (found : Option X) (put : X → A) (part : A) (reply reply' : Reply)
-    (part' part'' : A) (Change Change' : X → X → Type 0)
-    → ((x x' x'' : X) → Change x x' → Change' x x'' → (reply ≡ reply') × (x' ≡ x''))
-    → ChangesFound found put part reply part' Change → ChangesFound found put part reply' part'' Change'
-    → (reply ≡ reply') × (part' ≡ part'')
-changes_same found put part reply reply' part' part'' Change Change' same a b =
+changes_same : {X A : Type 0} (found : Option X) (put : X → A) (part : A) (Change : Reply → X → X → Type 0)
+    → ChangesOnce Change → IsDecided (λ reply part'. ChangesFound found put part reply part' (Change reply))
+changes_same found put part Change once reply reply' part' part'' a b =
     on_both found _ _ _ _ a b (λ h h'. (h.0 ∙ sym h'.0, h.1 ∙ sym h'.1))
-    (λ x h h'. let both = same x h.0 h'.0 h.1 h'.1 in (both.0, h.2 ∙ ap put both.1 ∙ sym h'.2))
+    (λ x h h'. let both = once x reply reply' h.0 h'.0 h.1 h'.1 in (both.0, h.2 ∙ ap put both.1 ∙ sym h'.2))
+
+-- so in a slot
+pub slot_same : {X : Type 0} (k : ℕ) (slots : List (Slot X)) (Change : Reply → X → X → Type 0) → ChangesOnce Change
+    → IsDecided (λ reply slots'. ChangesAt k slots reply slots' (Change reply))
+slot_same k slots Change = changes_same (live_at slots k) (λ x. slice_set slots k (Live x)) slots Change
+
+-- so in a list
+pub item_same : {X : Type 0} (k : ℕ) (items : List X) (Change : Reply → X → X → Type 0) → ChangesOnce Change
+    → IsDecided (λ reply items'. ChangesItem k items reply items' (Change reply))
+item_same k items Change = changes_same (slice_get items k) (slice_set items k) items Change
 
 -- two drops
-pub drops_same : {X : Type 0} (count : X → ℕ) (k : ℕ) (slots : List (Slot X)) (reply reply' : Reply)
-    (slots' slots'' : List (Slot X)) → DropsAt count k slots reply slots' → DropsAt count k slots reply' slots''
-    → (reply ≡ reply') × (slots' ≡ slots'')
+pub drops_same : {X : Type 0} (count : X → ℕ) (k : ℕ) (slots : List (Slot X)) → IsDecided (DropsAt count k slots)
 drops_same count k slots reply reply' slots' slots'' a b =
     on_both (live_at slots k) _ _ _ _ a b (λ h h'. (h.0 ∙ sym h'.0, h.1 ∙ sym h'.1))
     (λ x h h'. (h.0 ∙ sym h'.0, h.1 ∙ sym h'.1))
@@ -169,13 +188,17 @@ pub record Acted (A S : Type 0) : Type 0 where
   pub charge : ℕ
   pub after : MeteredValue A S
 
+-- a call on what an index names ends in one way
+abbrev pub HasOneEnding : {A S : Type 0} → (Reply → ℕ → MeteredValue A S → Type 0) → Type 0
+HasOneEnding {A} {S} Row =
+    (o o' : Acted A S) → Row o.reply o.charge o.after → Row o'.reply o'.charge o'.after
+    → (o.reply ≡ o'.reply) × (o.charge ≡ o'.charge) × (o.after ≡ o'.after)
+
 -- two calls on what an index names
 pub acts_same : {X R S : Type 0} (Acts : MeteredValue X S → R → ℕ → MeteredValue X S → Type 0)
     → ((s : MeteredValue X S) (result result' : R) (charge charge' : ℕ) (s' s'' : MeteredValue X S)
     → Acts s result charge s' → Acts s result' charge' s'' → (result ≡ result') × (charge ≡ charge') × (s' ≡ s''))
-    → (k : ℕ) (reply_to : R → Reply) (s : MeteredValue (List (Slot X)) S) (o o' : Acted (List (Slot X)) S)
-    → ActsAt k reply_to Acts s o.reply o.charge o.after → ActsAt k reply_to Acts s o'.reply o'.charge o'.after
-    → (o.reply ≡ o'.reply) × (o.charge ≡ o'.charge) × (o.after ≡ o'.after)
+    → (k : ℕ) (reply_to : R → Reply) (s : MeteredValue (List (Slot X)) S) → HasOneEnding (ActsAt k reply_to Acts s)
 acts_same {X = X} {S = S} Acts same k reply_to s o o' a b =
     on_both (live_at s.value k) _ _ _ _ a b (λ h h'. (h.0 ∙ sym h'.0, h.1 ∙ sym h'.1, h.2 ∙ sym h'.2))
     (λ x (result, x', acts, replies, put) (result', x'', acts', replies', put').

@@ -2,16 +2,16 @@
 use Rattle.std.proofs.Common.{Bool, List, None, Option, Result, Some, [], ap, arith, false, inl, inr, length, map, refl, replicate, subst, sym, true, ℕ, ◌*◌, ◌++◌, ◌+◌, ◌-◌, ◌∙◌, ◌∷◌, ◌≡◌, ◌≢◌, ◌≤◌, ◌⊎◌}
 use Rattle.std.proofs.lemmas.List.{length-append, length-replicate, map_push}
 use Rattle.std.specs.Prelude.{if◌then◌else◌, is_none, slice_get, slice_set, ◌&&◌}
-use Rattle.wasmi_core.proofs.EffectLemmas.{on_live, on_live_too}
+use Rattle.wasmi_core.proofs.EffectLemmas.{on_live}
 use Rattle.wasmi_core.proofs.StepsLemmas.{change_facts, source_writes}
-use Rattle.wasmi_core.proofs.TableEffectsLemmas.{copy_kept}
+use Rattle.wasmi_core.proofs.TableEffectsLemmas.{part_kept}
 use Rattle.wasmi_core.proofs.TotalLemmas.{count_at, counts_kept, counts_set, each_kind}
 use Rattle.wasmi_core.specs.Exchange.{growth_due, At, ChargesAt, ChargesBy, Denial, Exchange, Exchanges, GrowsAsAsked, GrowsBy, New, Nothing, NothingGrows, Notice, Nowhere, Passes, Permission, Place, place_of}
 use Rattle.wasmi_core.specs.MemoryEffects.{CreatesLent}
 use Rattle.wasmi_core.specs.Effects.{ActsAt, AddsEntry, Creates, reply_of}
 use Rattle.wasmi_core.specs.State.{MemoryPart, State, live_at, memory_part, with_tables}
 use Rattle.wasmi_core.specs.Steps.{Changed, Effect, FuelSet, LentMemoryMade, MemoryGrown, MemoryMade, PartWritten, Step, TableGrown, TableMade, TakesEffect, effect_of}
-use Rattle.wasmi_core.specs.TableEffects.{write_of}
+use Rattle.wasmi_core.specs.TableEffects.{metered, write_of}
 use Rattle.wasmi_core.specs.Totals.{byte_count, sizes, slot_count}
 use Rattle.wasmi_core.specs.World.{Turn, World}
 use Rattle.wasmi_core.specs.declared.calls.Call.{Call}
@@ -460,13 +460,10 @@ module _ {S : Type 0} (rules : Rules S) (w : World S) (turn : Turn) (w' : World 
       step.meter
       (rw step.after step.effect)
   effect_passes (PartWritten k source dst len) step =
-      let keeps =
-      on_live_too (write_of source dst len) _ _ _ _ (λ none. tt) (λ write is x. (is x).0) (source_writes source dst len)
-      in
       idle rules w turn.charge w' step.after refl
       (each_kind (λ kind. sizes (with_tables w.state step.part) kind ≡ sizes w.state kind) refl
-      (copy_kept k w.state.tables w.state.meter turn.reply turn.charge step.part step.meter (write_of source dst len)
-      (λ write. write) keeps step.effect))
+      (part_kept k (metered w.state.tables w.state.meter) (metered step.part step.meter) turn.reply turn.charge len
+      (write_of source dst len) (source_writes source dst len) step.effect))
   effect_passes effect step = idle rules w turn.charge w' step.after refl (λ kind. refl)
 
 -- each step

@@ -313,33 +313,26 @@ module _ (slots : List (Slot MemoryValue)) (k : ℕ) where
       by_value None v = refl
       by_value (Some x) v = refl
 
-  -- a growth
-  growth_owned : {S : Type 0} (rules : Rules S) (pages : ℕ) (m : Option Meter) (l : S) (reply : Reply) (charge : ℕ)
-      (slots' : List (Slot MemoryValue)) (m' : Option Meter) (l' : S)
-      → OnLive (live_at slots k) (Unit {0}) (FitsRoom pages)
-      → ActsAt k (reply_of replied.Number replied.Memory) (GrowsMemory rules pages)
-      (record { value = slots; meter = m; limiter = l }) reply charge
-      (record { value = slots'; meter = m'; limiter = l' })
-      → ActsAt k (reply_of replied.Number replied.Memory) (GrowsMemory rules pages)
-      (record { value = map owned_slot slots; meter = m; limiter = l }) reply charge
-      (record { value = map owned_slot slots'; meter = m'; limiter = l' })
-  growth_owned {S} rules pages m l reply charge slots' m' l' fits acts =
-      on_owned _ _ _ _ (both_live (live_at slots k) _ _ _ _ fits acts)
-      (λ missing. (
-        missing.1.0,
-        missing.1.1,
-        ap
-            (λ (t : MeteredValue (List (Slot MemoryValue)) S). with_value t (map owned_slot t.value)) missing.1.2,
-      ))
-      (λ x h. (
-        h.1.0,
-        owned_memory h.1.1,
-        grows_owned rules pages (record { value = x; meter = m; limiter = l }) h.1.0
-            charge (record { value = h.1.1; meter = m'; limiter = l' }) h.0 h.1.2,
-        h.1.3,
-        put_owned slots' (Live h.1.1)
-            h.1.4,
-      ))
+-- a growth
+growth_owned : {S : Type 0} (rules : Rules S) (k pages : ℕ) (s s' : MeteredValue (List (Slot MemoryValue)) S)
+    (reply : Reply) (charge : ℕ) → OnLive (live_at s.value k) (Unit {0}) (FitsRoom pages)
+    → ActsAt k (reply_of replied.Number replied.Memory) (GrowsMemory rules pages) s reply charge s'
+    → ActsAt k (reply_of replied.Number replied.Memory) (GrowsMemory rules pages)
+    (with_value s (map owned_slot s.value)) reply charge (with_value s' (map owned_slot s'.value))
+growth_owned {S} rules k pages s s' reply charge fits acts =
+    on_owned s.value k _ _ _ _ (both_live (live_at s.value k) _ _ _ _ fits acts)
+    (λ missing. (
+      missing.1.0,
+      missing.1.1,
+      ap (λ (t : MeteredValue (List (Slot MemoryValue)) S). with_value t (map owned_slot t.value)) missing.1.2,
+    ))
+    (λ x h. (
+      h.1.0,
+      owned_memory h.1.1,
+      grows_owned rules pages (with_value s x) h.1.0 charge (with_value s' h.1.1) h.0 h.1.2,
+      h.1.3,
+      put_owned s.value k s'.value (Live h.1.1) h.1.4,
+    ))
 
 -- a memory is made in a slot
 appends_owned : (result : Result MemoryValue MemoryError) (slots : List (Slot MemoryValue)) (reply : Reply)
@@ -452,8 +445,10 @@ module _ {S : Type 0} (rules : Rules S) (w : World S) (turn : Turn) (w' : World 
     part = map owned_slot step.part;
     meter = step.meter;
     limiter = step.limiter;
-    effect = growth_owned w.state.memories k rules pages (Some w.state.meter) w.limiter turn.reply turn.charge step.part
-        (Some step.meter) step.limiter fits step.effect;
+    effect = growth_owned rules k pages
+        (record { value = w.state.memories; meter = Some w.state.meter; limiter = w.limiter })
+        (record { value = step.part; meter = Some step.meter; limiter = step.limiter }) turn.reply turn.charge fits
+        step.effect;
     wrote = step.wrote ∙ appended_owned w.state.memories k pages turn.reply;
     after = ap owned_world step.after;
   }

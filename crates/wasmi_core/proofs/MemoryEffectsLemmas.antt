@@ -3,8 +3,8 @@ use Rattle.std.proofs.Common.{Bool, Err, List, None, Ok, Option, Result, Some, a
 use Rattle.std.proofs.lemmas.Bool.Decides.{nat_tests}
 use Rattle.std.proofs.lemmas.List.{length-append, length-drop, length-take-le}
 use Rattle.std.proofs.lemmas.Option.{none-some, same_Some}
-use Rattle.std.specs.Prelude.{MatchOption, if◌then◌else◌, nat_le, slice_set}
-use Rattle.wasmi_core.proofs.EffectLemmas.{AllValid, changes_back, changes_kept, changes_same, changes_valid, creates_back, grows_back, on_both, on_live, put_back}
+use Rattle.std.specs.Prelude.{MatchOption, if◌then◌else◌, nat_le}
+use Rattle.wasmi_core.proofs.EffectLemmas.{AllValid, IsDecided, changes_back, changes_kept, changes_valid, creates_back, grows_back, on_both, on_live, put_back, slot_same}
 use Rattle.wasmi_core.specs.Determinism.{HasMemory}
 use Rattle.wasmi_core.specs.Laws.{IsRefusal}
 use Rattle.wasmi_core.specs.MemoryEffects.{CreatesLent, ReadsBytes, ReadsMemoryAt, StoresMemory, StoresMemoryAt, WritesMemoryAt, spare_after}
@@ -14,7 +14,6 @@ use Rattle.wasmi_core.specs.State.{MemoryPart, live_at}
 use Rattle.wasmi_core.specs.Totals.{byte_count, slot_count}
 use Rattle.wasmi_core.specs.declared.calls.Reply.{Reply}
 use Rattle.wasmi_core.specs.declared.slots.Slot.{Slot}
-use Rattle.wasmi_core.specs.declared.slots.Slot.TheVariants.{Live}
 use Rattle.wasmi_meter.specs.Attempt.{MeteredValue, with_value}
 use Rattle.wasmi_meter.specs.Limiter.{Rules}
 use Rattle.wasmi_meter.specs.declared.error.MemoryError.{MemoryError}
@@ -143,31 +142,24 @@ store_same x x' x'' a stored (Err trap) (Err trap') (bytes, ty, room) (bytes', t
 )
 
 -- two writes to the memory of an index
-pub writes_same : (k offset : ℕ) (source : List ℕ) (slots : List (Slot MemoryValue)) (reply reply' : Reply)
-    (slots' slots'' : List (Slot MemoryValue)) → WritesMemoryAt k offset source slots reply slots'
-    → WritesMemoryAt k offset source slots reply' slots'' → (reply ≡ reply') × (slots' ≡ slots'')
-writes_same k offset source slots reply reply' slots' slots'' a b =
-    changes_same (live_at slots k) (λ x. slice_set slots k (Live x)) slots reply reply' slots' slots''
-    _ _ (λ x x' x'' h h'.
-    let both =
-    write_same x x' x'' offset source h.0 h'.0 h.1 h'.1 in
-    (h.2 ∙ ap (reply_of (λ _. replied.Done) replied.Memory) both.0 ∙ sym h'.2, both.1)) a b
+pub writes_same : (k offset : ℕ) (source : List ℕ) (slots : List (Slot MemoryValue))
+    → IsDecided (WritesMemoryAt k offset source slots)
+writes_same k offset source slots =
+    slot_same k slots _ (λ x reply reply' x' x'' h h'.
+    let both = write_same x x' x'' offset source h.0 h'.0 h.1 h'.1 in
+    (h.2 ∙ ap (reply_of (λ _. replied.Done) replied.Memory) both.0 ∙ sym h'.2, both.1))
 
 -- two stores to it
-stores_same : (k a : ℕ) (stored : List ℕ) (slots : List (Slot MemoryValue)) (reply reply' : Reply)
-    (slots' slots'' : List (Slot MemoryValue)) → StoresMemoryAt k a stored slots reply slots'
-    → StoresMemoryAt k a stored slots reply' slots'' → (reply ≡ reply') × (slots' ≡ slots'')
-stores_same k a stored slots reply reply' slots' slots'' h h' =
-    changes_same (live_at slots k) (λ x. slice_set slots k (Live x)) slots reply reply' slots' slots''
-    _ _ (λ x x' x'' c c'.
-    let both =
-    store_same x x' x'' a stored c.0 c'.0 c.1 c'.1 in
-    (c.2 ∙ ap (reply_of (λ _. replied.Done) replied.Trap) both.0 ∙ sym c'.2, both.1)) h h'
+stores_same : (k a : ℕ) (stored : List ℕ) (slots : List (Slot MemoryValue))
+    → IsDecided (StoresMemoryAt k a stored slots)
+stores_same k a stored slots =
+    slot_same k slots _ (λ x reply reply' x' x'' h h'.
+    let both = store_same x x' x'' a stored h.0 h'.0 h.1 h'.1 in
+    (h.2 ∙ ap (reply_of (λ _. replied.Done) replied.Trap) both.0 ∙ sym h'.2, both.1))
 
 -- two stores of what may be missing
-pub vector_stores_same : (k a : ℕ) (stored : Option (List ℕ)) (slots : List (Slot MemoryValue)) (reply reply' : Reply)
-    (slots' slots'' : List (Slot MemoryValue)) → StoresVectorAt k a stored slots reply slots'
-    → StoresVectorAt k a stored slots reply' slots'' → (reply ≡ reply') × (slots' ≡ slots'')
+pub vector_stores_same : (k a : ℕ) (stored : Option (List ℕ)) (slots : List (Slot MemoryValue))
+    → IsDecided (StoresVectorAt k a stored slots)
 vector_stores_same k a None slots reply reply' slots' slots'' h h' = (h.0 ∙ sym h'.0, h.1 ∙ sym h'.1)
 vector_stores_same k a (Some stored) slots reply reply' slots' slots'' h h' =
     stores_same k a stored slots reply reply' slots' slots'' h h'

@@ -10,13 +10,18 @@ use Rattle.wasmi_core.specs.declared.calls.Reply.TheVariants as replied
 use Rattle.wasmi_core.specs.World.{World, Turn}
 use Rattle.wasmi_core.specs.Runs.{Run}
 use Rattle.wasmi_core.specs.Permission.{permitting, TellsNoDenial}
-use Rattle.wasmi_core.proofs.RevealingLemmas.{Reveals, run_revealed}
+use Rattle.wasmi_core.proofs.RevealingLemmas.{Narrowing, Reveals, run_revealed}
 
 module _ {S : Type 0} (rules : Rules S) where
+  -- the replies that tell of no denial, in any state of the limiter
+  abbrev undenied : Narrowing S
+  undenied =
+      record { rules = rules; narrower = permitting rules; shown = TellsNoDenial; within = λ l. Unit {0} }
+
   -- the replies to an attempt's errors tell whether it was denied, where those of a denial do
   denial_revealed : {V E : Type 0} (refusal : E → Reply) (e : Request V E) → (TellsNoDenial (refusal e.denial) → ⊥)
       → (TellsNoDenial (refusal e.refusal) → ⊥)
-      → Reveals rules (permitting rules) TellsNoDenial (λ l. Unit {0}) refusal e
+      → Reveals undenied refusal e
   denial_revealed refusal e denied failed (Unasked c) l l' within shown f = f
   denial_revealed refusal e denied failed (Denied (Ok permitted)) l l' within shown f = absurd (denied (shown _ refl))
   denial_revealed refusal e denied failed (Denied (Err error)) l l' within shown f = absurd (failed (shown _ refl))
@@ -27,7 +32,7 @@ module _ {S : Type 0} (rules : Rules S) where
   -- a run of whose replies none tells of a denial
   pub permitted_run : (w : World S) (turns : List Turn) (w' : World S) → All TellsNoDenial (map Turn.reply turns)
       → Run rules w turns w' → Run (permitting rules) w turns w'
-  permitted_run w turns w' = run_revealed rules (permitting rules) TellsNoDenial (λ l. Unit {0})
+  permitted_run w turns w' = run_revealed undenied
       (record {
         memory_made = λ room ty. denial_revealed replied.Memory (memory.creation_of room ty) (λ told. told)
             (λ told. told);

@@ -6,7 +6,7 @@ use Rattle.std.specs.Prelude.{All, MatchBool, if◌then◌else◌, is_none, is_s
 use Rattle.wasmi_core.proofs.MemoryEffectsLemmas.{lent_back, lent_spare, memory_growth_back}
 use Rattle.wasmi_core.proofs.EffectLemmas.{creates_back, on_live}
 use Rattle.wasmi_core.proofs.StepsLemmas.{change_facts}
-use Rattle.wasmi_core.proofs.TableEffectsLemmas.{table_copy_back, table_growth_back}
+use Rattle.wasmi_core.proofs.TableEffectsLemmas.{part_back, table_growth_back}
 use Rattle.wasmi_core.specs.Determinism.{IsNoWant}
 use Rattle.wasmi_core.specs.Laws.{IsRefusal, IsToldOfWant, Keeps, KeepsMeter, KeepsSpare, SameContents}
 use Rattle.wasmi_core.specs.MemoryEffects.{spare_after}
@@ -14,7 +14,7 @@ use Rattle.wasmi_core.specs.Effects.{ActsAt, reply_of}
 use Rattle.wasmi_core.specs.Runs.{Run}
 use Rattle.wasmi_core.specs.State.{State, live_at, memory_part, with_memories, with_tables}
 use Rattle.wasmi_core.specs.Steps.{Changed, Effect, FuelSet, LentMemoryMade, MemoryGrown, MemoryMade, PartWritten, Step, TableGrown, TableMade, TakesEffect, effect_of}
-use Rattle.wasmi_core.specs.TableEffects.{Metered, WritesTableAt, WritesTableFrom, metered, write_of}
+use Rattle.wasmi_core.specs.TableEffects.{Metered, WritesPartAt, WritesTableAt, metered, write_of}
 use Rattle.wasmi_core.specs.World.{Turn, World}
 use Rattle.wasmi_core.specs.declared.calls.Call.{Call}
 use Rattle.wasmi_core.specs.declared.calls.Call.TheVariants.{NewLentMemory}
@@ -115,8 +115,8 @@ module _ {S : Type 0} (rules : Rules S) (w : World S) (turn : Turn) (w' : World 
   effect_back (PartWritten k source dst len) step =
       paid w w' step.meter step.after
       (ap (λ part. let s : State = record (with_tables w.state part) { meter = step.meter } in s)
-      (table_copy_back k w.state.tables w.state.meter turn.reply refused turn.charge step.part step.meter
-      (write_of source dst len) (λ write. write) step.effect))
+      (part_back k (metered w.state.tables w.state.meter) (metered step.part step.meter) turn.reply turn.charge refused
+      (write_of source dst len) step.effect))
   effect_back effect step = kept w w' step.after refl
 
 -- a meter of which nothing was taken
@@ -223,12 +223,12 @@ module _ (k : ℕ) (slots : List (Slot TableValue)) (m : Meter) (reply : Reply) 
       (λ x found h. free_meter m m' charge (ends_free (write x) x (Some m) charge h.1 (write x).typed
       (write x).written _ h.0 (rw h.3 at refused) h.2.ends) h.2.meter)
 
-  -- so from what may be missing
-  copy_meter : {X : Type 0} (source : Option X) (write : X → TableValue → TableWrite)
-      → WritesTableFrom source k write (metered slots m) reply charge (metered slots' m') → m' ≡ m
-  copy_meter source write writes =
-      on_live source _ _ writes (λ missing. same_Some m' m (ap (λ (s : Metered). s.meter) missing.2))
-      (λ y found h. write_meter (write y) h)
+  -- so where the write may be missing
+  part_meter : (part : Option (TableValue → TableWrite))
+      → WritesPartAt k part (metered slots m) reply charge (metered slots' m') → m' ≡ m
+  part_meter part writes =
+      on_live part _ _ writes (λ missing. same_Some m' m (ap (λ (s : Metered). s.meter) missing.2))
+      (λ write found h. write_meter write h)
 
 module _ {S : Type 0} (rules : Rules S) (w : World S) (turn : Turn) (w' : World S)
     (refused : IsRefusal turn.reply) where
@@ -292,8 +292,8 @@ module _ {S : Type 0} (rules : Rules S) (w : World S) (turn : Turn) (w' : World 
       (table_meter k n init step.part step.meter step.limiter step.effect)
   effect_meter (PartWritten k source dst len) step =
       ends_with (with_tables w.state step.part) step.meter w.limiter step.after
-      (inl (copy_meter k w.state.tables w.state.meter turn.reply refused turn.charge step.part step.meter
-      (write_of source dst len) (λ write. write) step.effect))
+      (inl (part_meter k w.state.tables w.state.meter turn.reply refused turn.charge step.part step.meter
+      (write_of source dst len) step.effect))
   effect_meter effect step = stays step.after refl
 
 -- each step

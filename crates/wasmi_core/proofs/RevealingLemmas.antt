@@ -1,18 +1,18 @@
 -- What the replies of a run reveal of its limiter: a run is one by narrower rules, where its replies show it and the
 -- limiter is in states of which this holds.
-use Rattle.std.proofs.Common.{Err, List, Result, [], ap, inl, inr, map, subst, sym, ℕ, ◌∙◌, ◌∷◌, ◌≡◌}
+use Rattle.std.proofs.Common.{Err, List, Result, Some, [], ap, inl, inr, map, subst, sym, ℕ, ◌∙◌, ◌∷◌, ◌≡◌}
 use Rattle.std.proofs.lemmas.List.Elements.{All-head, All-tail}
 use Rattle.std.specs.Prelude.{All}
 use Rattle.wasmi_core.proofs.EffectLemmas.{Outcome, on_live_too, on_test_too}
-use Rattle.wasmi_core.specs.Effects.{ActsAt, AddsEntry, Creates, reply_of}
+use Rattle.wasmi_core.specs.Effects.{ActsAt, ActsMetered, AddsEntry, Asks, Creates, reply_of}
 use Rattle.wasmi_core.specs.Runs.{Run}
-use Rattle.wasmi_core.specs.State.{live_at}
+use Rattle.wasmi_core.specs.State.{State, live_at}
 use Rattle.wasmi_core.specs.Steps.{Effect, LentMemoryMade, MemoryGrown, MemoryMade, TableGrown, TableMade, TakesEffect, effect_of, Step}
 use Rattle.wasmi_core.specs.World.{Turn, World}
 use Rattle.wasmi_core.specs.declared.calls.Reply.{Reply}
 use Rattle.wasmi_core.specs.declared.slots.Slot.{Slot}
 use Rattle.wasmi_core.specs.declared.slots.Slot.TheVariants.{Live}
-use Rattle.wasmi_meter.specs.Attempt.{Attempt, Denied, Request, Failed, AttemptOutcome, Follows, Met, MeteredValue, Unasked, alone, answer_of, error_of_answer, error_of_failure}
+use Rattle.wasmi_meter.specs.Attempt.{Attempt, Denied, Request, Failed, AttemptOutcome, Follows, Met, MeteredValue, Unasked, alone, answer_of, error_of_answer, error_of_failure, with_value}
 use Rattle.wasmi_meter.specs.Limiter.{Rules}
 use Rattle.wasmi_meter.specs.declared.error.TableError.{TableError}
 use Rattle.wasmi_store.specs.Buffer.{Lent, Owned, Room}
@@ -44,29 +44,37 @@ answered_error e value Met c is = absurd is
 answered_error e value (Failed cause notice_answer) c is = ap Err (sym is)
 
 -- a call on a slot
-acts_revealed : {S X R : Type 0} (Within : S → Type 0) (k : ℕ) (reply_to : R → Reply)
-    (Acts Acts' : MeteredValue X S → R → ℕ → MeteredValue X S → Type 0) (reply : Reply)
-    → ((s s' : MeteredValue X S) (result : R) (charge : ℕ) → Within s.limiter → reply ≡ reply_to result
-    → Acts s result charge s' → Acts' s result charge s')
-    → (s s' : MeteredValue (List (Slot X)) S) (charge : ℕ) → Within s.limiter
+acts_revealed : {S X R : Type 0} (k : ℕ) (reply_to : R → Reply)
+    (Acts Acts' : MeteredValue X S → R → ℕ → MeteredValue X S → Type 0)
+    (s s' : MeteredValue (List (Slot X)) S) (reply : Reply) (charge : ℕ)
+    → ((x x' : X) (result : R) → reply ≡ reply_to result → Acts (with_value s x) result charge (with_value s' x')
+    → Acts' (with_value s x) result charge (with_value s' x'))
     → ActsAt k reply_to Acts s reply charge s' → ActsAt k reply_to Acts' s reply charge s'
-acts_revealed Within k reply_to Acts Acts' reply too s s' charge within acts =
+acts_revealed k reply_to Acts Acts' s s' reply charge too acts =
     on_live_too (live_at s.value k) _ _ _ _ (λ missing. missing)
-    (λ x h. (h.0, h.1, too _ _ h.0 charge within h.3 h.2, h.3, h.4)) acts
+    (λ x h. (h.0, h.1, too x h.1 h.0 h.3 h.2, h.3, h.4)) acts
 
-module _ {S : Type 0} (rules rules' : Rules S) (Shows : Reply → Type 0) (Within : S → Type 0) where
+-- the rules of a limiter and narrower ones, with the replies that show that it keeps to the narrower ones, and the
+-- states of the limiter in which they do
+pub record Narrowing (S : Type 0) : Type 1 where
+  pub rules : Rules S
+  pub narrower : Rules S
+  pub shown : Reply → Type 0
+  pub within : S → Type 0
+
+module _ {S : Type 0} (n : Narrowing S) where
   -- where the replies to an attempt's errors show it, what the limiter sees is by the narrower rules
   abbrev pub Reveals : {V E : Type 0} → (E → Reply) → Request V E → Type 0
   Reveals {V} {E} refusal e =
-      (outcome : AttemptOutcome E) (l l' : S) → Within l → ((c : E) → IsErrorOf e outcome c → Shows (refusal c))
-      → Follows e rules l outcome l'
-      → Follows e rules' l outcome l'
+      (outcome : AttemptOutcome E) (l l' : S) → n.within l → ((c : E) → IsErrorOf e outcome c → n.shown (refusal c))
+      → Follows e n.rules l outcome l'
+      → Follows e n.narrower l outcome l'
 
   -- so is the attempt
   attempt_revealed : {V E : Type 0} (refusal : E → Reply) (e : Request V E) → Reveals refusal e
-      → (s s' : MeteredValue V S) (outcome : AttemptOutcome E) (charge : ℕ) → Within s.limiter
-      → ((c : E) → IsErrorOf e outcome c → Shows (refusal c)) → Attempt rules e s outcome charge s'
-      → Attempt rules' e s outcome charge s'
+      → (s s' : MeteredValue V S) (outcome : AttemptOutcome E) (charge : ℕ) → n.within s.limiter
+      → ((c : E) → IsErrorOf e outcome c → n.shown (refusal c)) → Attempt n.rules e s outcome charge s'
+      → Attempt n.narrower e s outcome charge s'
   attempt_revealed refusal e reveals s s' outcome charge within shown a = record {
     may_end = a.may_end;
     follows = reveals outcome s.limiter s'.limiter within shown a.follows;
@@ -77,13 +85,13 @@ module _ {S : Type 0} (rules rules' : Rules S) (Shows : Reply → Type 0) (Withi
 
   -- a creation
   creates_revealed : {X E : Type 0} (refusal : E → Reply) (e : Request (Unit {0}) E) → Reveals refusal e
-      → (made : X) (slots : List (Slot X)) (l : S) (o : Outcome (List (Slot X)) S) → Within l → Shows o.reply
-      → Creates refusal (Makes rules e made) slots l o.reply o.part o.limiter
-      → Creates refusal (Makes rules' e made) slots l o.reply o.part o.limiter
+      → (made : X) (slots : List (Slot X)) (l : S) (o : Outcome (List (Slot X)) S) → n.within l → n.shown o.reply
+      → Creates refusal (Makes n.rules e made) slots l o.reply o.part o.limiter
+      → Creates refusal (Makes n.narrower e made) slots l o.reply o.part o.limiter
   creates_revealed refusal e reveals made slots l o within shows (inl none) = inl none
   creates_revealed refusal e reveals made slots l o within shows (inr (result, (outcome, attempt, answered), appends)) =
-      let shown : (c : _) → IsErrorOf e outcome c → Shows (refusal c) =
-      λ c is. subst Shows (subst (λ r. AddsEntry Live refusal r slots o.reply o.part)
+      let shown : (c : _) → IsErrorOf e outcome c → n.shown (refusal c) =
+      λ c is. subst n.shown (subst (λ r. AddsEntry Live refusal r slots o.reply o.part)
       (answered ∙ answered_error e made outcome c is) appends).0 shows
       in
       inr (
@@ -98,13 +106,13 @@ module _ {S : Type 0} (rules rules' : Rules S) (Shows : Reply → Type 0) (Withi
 
   -- a growth
   grows_revealed : {V E : Type 0} (g : Growth V E) (refusal : E → Reply) → Reveals refusal g.request
-      → (s s' : MeteredValue V S) (result : Result ℕ E) (charge : ℕ) → Within s.limiter
-      → Shows (reply_of replied.Number refusal result) → Grows rules g s result charge s'
-      → Grows rules' g s result charge s'
+      → (s s' : MeteredValue V S) (result : Result ℕ E) (charge : ℕ) → n.within s.limiter
+      → n.shown (reply_of replied.Number refusal result) → Grows n.rules g s result charge s'
+      → Grows n.narrower g s result charge s'
   grows_revealed g refusal reveals s s' result charge within shows (inl none) = inl none
   grows_revealed g refusal reveals s s' result charge within shows (inr some) =
-      let shown : (c : _) → IsErrorOf g.request some.outcome c → Shows (refusal c) =
-      λ c error. subst Shows (ap (reply_of replied.Number refusal)
+      let shown : (c : _) → IsErrorOf g.request some.outcome c → n.shown (refusal c) =
+      λ c error. subst n.shown (ap (reply_of replied.Number refusal)
       (some.answered ∙ answered_error g.request g.size some.outcome c error)) shows in
       inr (record {
         some = some.some;
@@ -123,90 +131,88 @@ module _ {S : Type 0} (rules rules' : Rules S) (Shows : Reply → Type 0) (Withi
 
   module _ (each : EachReveals) where
     -- a growth of a table, whose type is tested first
-    table_growth_revealed : (n : ℕ) (init : TypedRawRef) (s s' : MeteredValue TableValue S)
+    table_growth_revealed : (delta : ℕ) (init : TypedRawRef) (s s' : MeteredValue TableValue S)
         (result : Result ℕ TableError)
-        (charge : ℕ) → Within s.limiter → Shows (reply_of replied.Number replied.Table result)
-        → GrowsTable rules n init s result charge s' → GrowsTable rules' n init s result charge s'
-    table_growth_revealed n init s s' result charge within shows grows =
+        (charge : ℕ) → n.within s.limiter → n.shown (reply_of replied.Number replied.Table result)
+        → GrowsTable n.rules delta init s result charge s' → GrowsTable n.narrower delta init s result charge s'
+    table_growth_revealed delta init s s' result charge within shows grows =
         on_test_too (same_type s.value.ty.element init.ty) _ _ _ _
-        (grows_revealed (record { amount = n; size = size_of s.value; request = table.growth_of s.value n init.raw })
-        replied.Table (each.table_grown s.value n init.raw) s s' result charge within shows)
+        (grows_revealed
+        (record { amount = delta; size = size_of s.value; request = table.growth_of s.value delta init.raw })
+        replied.Table (each.table_grown s.value delta init.raw) s s' result charge within shows)
         (λ mismatch. mismatch) grows
 
     -- an effect of any call
-    module _ (w : World S) (turn : Turn) (w' : World S) (within : Within w.limiter) (shows : Shows turn.reply) where
+    module _ (w : World S) (turn : Turn) (w' : World S) (within : n.within w.limiter) (shows : n.shown turn.reply) where
+      -- a turn that makes something under the limiter
+      asks_revealed : {A : Type 0} {with_part : A → State} {Row Row' : S → Reply → A → S → Type 0}
+          (step : Asks w turn w' with_part Row) → Row' w.limiter turn.reply step.part step.limiter
+          → Asks w turn w' with_part Row'
+      asks_revealed step row =
+          record { free = step.free; part = step.part; limiter = step.limiter; effect = row; after = step.after }
+
+      -- a turn with a charge
+      pays_revealed : {A : Type 0} {old : A} {with_part : A → State}
+          {Row Row' : MeteredValue A S → Reply → ℕ → MeteredValue A S → Type 0} {bytes : Reply → ℕ}
+          (step : ActsMetered w turn w' old with_part Row bytes)
+          → Row' (record { value = old; meter = Some w.state.meter; limiter = w.limiter }) turn.reply turn.charge
+          (record { value = step.part; meter = Some step.meter; limiter = step.limiter })
+          → ActsMetered w turn w' old with_part Row' bytes
+      pays_revealed step row = record {
+        part = step.part;
+        meter = step.meter;
+        limiter = step.limiter;
+        effect = row;
+        wrote = step.wrote;
+        after = step.after;
+      }
+
       -- where its reply shows it, an effect under the one rules is one under the others
-      effect_revealed : (effect : Effect) → TakesEffect rules effect w turn w' → TakesEffect rules' effect w turn w'
-      effect_revealed (MemoryMade ty) step = record {
-        free = step.free;
-        part = step.part;
-        limiter = step.limiter;
-        effect = creates_revealed replied.Memory (memory.creation_of Owned ty) (each.memory_made Owned ty)
-            (new_memory Owned ty) w.state.memories w.limiter
-            (record { reply = turn.reply; part = step.part; limiter = step.limiter }) within shows step.effect;
-        after = step.after;
-      }
-      effect_revealed (LentMemoryMade ty) step = record {
-        free = step.free;
-        part = step.part;
-        limiter = step.limiter;
-        effect = on_live_too w.state.spare _ _ _ _ (λ none. none)
-            (λ region h. (
-              creates_revealed replied.Memory (memory.creation_of (Lent region) ty)
-                  (each.memory_made (Lent region) ty) (new_memory (Lent region) ty) w.state.memories w.limiter
-                  (record { reply = turn.reply; part = step.part.slots; limiter = step.limiter }) within shows h.0,
-              h.1,
-            )) step.effect;
-        after = step.after;
-      }
-      effect_revealed (MemoryGrown k pages) step = record {
-        part = step.part;
-        meter = step.meter;
-        limiter = step.limiter;
-        effect =
-            acts_revealed Within k (reply_of replied.Number replied.Memory) (GrowsMemory rules pages)
-            (GrowsMemory rules' pages) turn.reply
-            (λ s s' result charge inside is. grows_revealed
-            (record { amount = pages; size = pages_of s.value; request = memory.growth_of s.value pages })
-            replied.Memory (each.memory_grown s.value pages) s s' result charge inside
-            (subst Shows is shows))
-            _ _ turn.charge within step.effect;
-        wrote = step.wrote;
-        after = step.after;
-      }
-      effect_revealed (TableMade ty init) step = record {
-        free = step.free;
-        part = step.part;
-        limiter = step.limiter;
-        effect = creates_revealed replied.Table (table.creation_of ty init.ty) (each.table_made ty init.ty)
-            (new_table ty init.raw) w.state.tables w.limiter
-            (record { reply = turn.reply; part = step.part; limiter = step.limiter }) within shows step.effect;
-        after = step.after;
-      }
-      effect_revealed (TableGrown k n init) step = record {
-        part = step.part;
-        meter = step.meter;
-        limiter = step.limiter;
-        effect = acts_revealed Within k (reply_of replied.Number replied.Table) (GrowsTable rules n init)
-            (GrowsTable rules' n init) turn.reply
-            (λ s s' result charge inside is. table_growth_revealed n init s s' result charge inside
-            (subst Shows is shows))
-            _ _ turn.charge within step.effect;
-        wrote = step.wrote;
-        after = step.after;
-      }
+      effect_revealed : (effect : Effect) → TakesEffect n.rules effect w turn w'
+          → TakesEffect n.narrower effect w turn w'
+      effect_revealed (MemoryMade ty) step =
+          asks_revealed step (creates_revealed replied.Memory (memory.creation_of Owned ty) (each.memory_made Owned ty)
+          (new_memory Owned ty) w.state.memories w.limiter
+          (record { reply = turn.reply; part = step.part; limiter = step.limiter }) within shows step.effect)
+      effect_revealed (LentMemoryMade ty) step =
+          asks_revealed step (on_live_too w.state.spare _ _ _ _ (λ none. none)
+          (λ region h. (
+            creates_revealed replied.Memory (memory.creation_of (Lent region) ty)
+                (each.memory_made (Lent region) ty) (new_memory (Lent region) ty) w.state.memories w.limiter
+                (record { reply = turn.reply; part = step.part.slots; limiter = step.limiter }) within shows h.0,
+            h.1,
+          )) step.effect)
+      effect_revealed (MemoryGrown k pages) step =
+          pays_revealed step (acts_revealed k (reply_of replied.Number replied.Memory) (GrowsMemory n.rules pages)
+          (GrowsMemory n.narrower pages) _ _ turn.reply turn.charge
+          (λ x x' result is. grows_revealed
+          (record { amount = pages; size = pages_of x; request = memory.growth_of x pages }) replied.Memory
+          (each.memory_grown x pages) (record { value = x; meter = Some w.state.meter; limiter = w.limiter })
+          (record { value = x'; meter = Some step.meter; limiter = step.limiter }) result turn.charge within
+          (subst n.shown is shows)) step.effect)
+      effect_revealed (TableMade ty init) step =
+          asks_revealed step (creates_revealed replied.Table (table.creation_of ty init.ty) (each.table_made ty init.ty)
+          (new_table ty init.raw) w.state.tables w.limiter
+          (record { reply = turn.reply; part = step.part; limiter = step.limiter }) within shows step.effect)
+      effect_revealed (TableGrown k delta init) step =
+          pays_revealed step (acts_revealed k (reply_of replied.Number replied.Table) (GrowsTable n.rules delta init)
+          (GrowsTable n.narrower delta init) _ _ turn.reply turn.charge
+          (λ x x' result is. table_growth_revealed delta init
+          (record { value = x; meter = Some w.state.meter; limiter = w.limiter })
+          (record { value = x'; meter = Some step.meter; limiter = step.limiter }) result turn.charge within
+          (subst n.shown is shows)) step.effect)
       effect_revealed effect step = step
 
     -- a run whose turns keep the limiter in such states
-    pub run_revealed : ((w : World S) (turn : Turn) (w' : World S) → Within w.limiter → Step rules w turn w'
-        → Within w'.limiter)
-        → (w : World S) (turns : List Turn) (w' : World S) → Within w.limiter → All Shows (map Turn.reply turns)
-        → Run rules w turns w' → Run rules' w turns w'
+    pub run_revealed : ((w : World S) (turn : Turn) (w' : World S) → n.within w.limiter → Step n.rules w turn w'
+        → n.within w'.limiter)
+        → (w : World S) (turns : List Turn) (w' : World S) → n.within w.limiter
+        → All n.shown (map Turn.reply turns) → Run n.rules w turns w' → Run n.narrower w turns w'
     run_revealed keeps w [] w' within shown ran = ran
     run_revealed keeps w (turn ∷ turns) w' within shown (v, step, ran) = (
       v,
-      effect_revealed w turn v within (All-head Shows turn.reply (map Turn.reply turns) shown)
+      effect_revealed w turn v within (All-head n.shown turn.reply (map Turn.reply turns) shown)
           (effect_of w.state turn.call) step,
       run_revealed keeps v turns w' (keeps w turn v within step)
-          (All-tail Shows turn.reply (map Turn.reply turns) shown) ran,
+          (All-tail n.shown turn.reply (map Turn.reply turns) shown) ran,
     )

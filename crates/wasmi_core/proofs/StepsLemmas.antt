@@ -5,7 +5,7 @@ use Rattle.std.specs.Prelude.{All, if◌then◌else◌, nat_eq, slice_get}
 use Rattle.wasmi_core.proofs.MemoryEffectsLemmas.{overwrite_length, vector_store_back, vector_store_kept, vector_store_valid, vector_stores_same, write_refused, write_valid, writes_same, written_kept}
 use Rattle.wasmi_core.proofs.RegisterEffectsLemmas.{takes_back, takes_count, takes_same}
 use Rattle.wasmi_core.proofs.EffectLemmas.{AllValid, changes_valid, drops_back, drops_kept, drops_same, drops_valid, item_valid}
-use Rattle.wasmi_core.proofs.TableEffectsLemmas.{KeepsLength, copied_length, set_kept, set_refused, set_valid, sets_same}
+use Rattle.wasmi_core.proofs.TableEffectsLemmas.{IsWrite, copied_length, set_kept, set_refused, set_valid, sets_same}
 use Rattle.wasmi_core.proofs.TotalLemmas.{each_kind}
 use Rattle.wasmi_core.proofs.ValueEffectsLemmas.{creates_segment_valid, global_made_back, global_refused, global_sets_same, globals_same, items_refused, items_same, segment_back, segments_same}
 use Rattle.wasmi_core.specs.Determinism.{HasMemory}
@@ -22,7 +22,7 @@ use Rattle.wasmi_core.specs.declared.slots.Slot.{Slot}
 use Rattle.wasmi_raw.specs.declared.raw.RawVal.{RawVal}
 use Rattle.wasmi_store.specs.Memory.{IsValidMemory, MemoryValue}
 use Rattle.wasmi_store.specs.Segment.{SegmentValue}
-use Rattle.wasmi_store.specs.Table.{IsValidTable, TableValue, TableWrite, size_of}
+use Rattle.wasmi_store.specs.Table.{IsValidTable, TableValue, size_of}
 use Rattle.wasmi_types.specs.Access.{at}
 
 -- what holds of a row on a part: a refusal leaves it, it is decided where memory isn't wanting, and it keeps a fact
@@ -86,6 +86,18 @@ KeepsSegments s segments = All IsValidSegment s.segments → All IsValidSegment 
 abbrev KeepsRegisters : State → List RawVal → Type 0
 KeepsRegisters s registers = length registers ≡ length s.registers
 
+-- a state is valid, if each of its parts is where those of another one are
+valid_by : (s s' : State) → (AllValid IsValidMemory s.memories → AllValid IsValidMemory s'.memories)
+    → (AllValid IsValidTable s.tables → AllValid IsValidTable s'.tables)
+    → (All IsValidSegment s.segments → All IsValidSegment s'.segments)
+    → (length s.registers ≡ 16 → length s'.registers ≡ 16) → IsValid s → IsValid s'
+valid_by s s' memories tables segments registers v = record {
+  memories = memories v.memories;
+  tables = tables v.tables;
+  segments = segments v.segments;
+  registers = registers v.registers;
+}
+
 -- the parts of a state
 module _ (s : State) where
   -- the memories
@@ -94,12 +106,7 @@ module _ (s : State) where
     whole = refl;
     meter = λ part. refl;
     still = λ part keeps. each_kind (λ kind. sizes (with_memories s part) kind ≡ sizes s kind) keeps.0 refl;
-    valid = λ part keeps v. record {
-      memories = keeps.1 v.memories;
-      tables = v.tables;
-      segments = v.segments;
-      registers = v.registers;
-    };
+    valid = λ part keeps. valid_by s (with_memories s part) keeps.1 (λ v. v) (λ v. v) (λ v. v);
   }
 
   -- the tables
@@ -108,57 +115,39 @@ module _ (s : State) where
     whole = refl;
     meter = λ part. refl;
     still = λ part keeps. each_kind (λ kind. sizes (with_tables s part) kind ≡ sizes s kind) refl keeps.0;
-    valid = λ part keeps v. record {
-      memories = v.memories;
-      tables = keeps.1 v.tables;
-      segments = v.segments;
-      registers = v.registers;
-    };
+    valid = λ part keeps. valid_by s (with_tables s part) (λ v. v) keeps.1 (λ v. v) (λ v. v);
+  }
+
+  -- a part that is neither the memories, the tables nor the meter
+  unsized : {A : Type 0} (with_part : A → State) (old : A) (Keeps : A → Type 0) → with_part old ≡ s
+      → ((part : A) → ((with_part part).memories ≡ s.memories) × ((with_part part).tables ≡ s.tables)
+      × ((with_part part).meter ≡ s.meter))
+      → ((part : A) → Keeps part → IsValid s → IsValid (with_part part)) → PartOf s with_part old Keeps
+  unsized with_part old Keeps whole same valid = record {
+    whole = whole;
+    meter = λ part. (same part).2;
+    still = λ part keeps. each_kind (λ kind. sizes (with_part part) kind ≡ sizes s kind)
+        (ap (map (slot_count byte_count)) (same part).0) (ap (map (slot_count size_of)) (same part).1);
+    valid = valid;
   }
 
   -- the element segments
   the_segments : PartOf s (with_segments s) s.segments (KeepsSegments s)
-  the_segments = record {
-    whole = refl;
-    meter = λ part. refl;
-    still = λ part keeps. each_kind (λ kind. sizes (with_segments s part) kind ≡ sizes s kind) refl refl;
-    valid = λ part keeps v. record {
-      memories = v.memories;
-      tables = v.tables;
-      segments = keeps v.segments;
-      registers = v.registers;
-    };
-  }
+  the_segments =
+      unsized (with_segments s) s.segments (KeepsSegments s) refl (λ part. (refl, refl, refl))
+      (λ part keeps. valid_by s (with_segments s part) (λ v. v) (λ v. v) keeps (λ v. v))
 
   -- the globals
   the_globals : PartOf s (with_globals s) s.globals (λ globals. Unit {0})
-  the_globals = record {
-    whole = refl;
-    meter = λ part. refl;
-    still = λ part keeps. each_kind (λ kind. sizes (with_globals s part) kind ≡ sizes s kind) refl refl;
-    valid = λ part keeps v. record {
-      memories = v.memories;
-      tables = v.tables;
-      segments = v.segments;
-      registers =
-          v.registers;
-    };
-  }
+  the_globals =
+      unsized (with_globals s) s.globals (λ globals. Unit {0}) refl (λ part. (refl, refl, refl))
+      (λ part keeps. valid_by s (with_globals s part) (λ v. v) (λ v. v) (λ v. v) (λ v. v))
 
   -- the registers
   the_registers : PartOf s (with_registers s) s.registers (KeepsRegisters s)
-  the_registers = record {
-    whole = refl;
-    meter = λ part. refl;
-    still = λ part keeps. each_kind (λ kind. sizes (with_registers s part) kind ≡ sizes s kind) refl refl;
-    valid = λ part keeps v. record {
-      memories = v.memories;
-      tables = v.tables;
-      segments = v.segments;
-      registers =
-          keeps ∙ v.registers;
-    };
-  }
+  the_registers =
+      unsized (with_registers s) s.registers (KeepsRegisters s) refl (λ part. (refl, refl, refl))
+      (λ part keeps. valid_by s (with_registers s part) (λ v. v) (λ v. v) (λ v. v) (λ v. keeps ∙ v))
 
 -- each change of one part
 pub change_facts : (s : State) (change : Change) → ChangeFacts s (TakesChange change s)
@@ -258,11 +247,7 @@ init_pays : (len : ℕ) (none : Bool) → nat_eq len 0 ≡ none → ((if none th
 init_pays len true is = inr (grind (arith, nat_tests, is))
 init_pays len false is = inl refl
 
--- what so many elements write keeps a table's length, and is paid for by that many, unless there are none
-abbrev pub IsWrite : ℕ → (TableValue → TableWrite) → Type 0
-IsWrite len write = (x : TableValue) → KeepsLength (write x) x × (((write x).paid ≡ Some len) ⊎ (len ≡ 0))
-
--- so for each source
+-- what each source writes is a write of so many elements
 pub source_writes : (source : Source) (dst len : ℕ) → OnLive (write_of source dst len) (Unit {0}) (IsWrite len)
 source_writes (OfReference value) dst len =
     λ x. (λ elements is. overwrite_length x.elements (replicate len value.raw) elements dst is, inl refl)

@@ -1,15 +1,14 @@
 -- What holds of each row on tables.
-use Rattle.std.proofs.Common.{Bool, List, None, Option, Result, Some, [], ap, false, length, map, refl, subst, sym, true, ℕ, ◌∙◌, ◌∷◌, ◌≡◌}
+use Rattle.std.proofs.Common.{Bool, List, None, Option, Result, Some, [], ap, false, length, map, refl, subst, sym, true, ℕ, ◌∙◌, ◌∷◌, ◌≡◌, ◌⊎◌}
 use Rattle.std.proofs.lemmas.Option.{none-some}
 use Rattle.std.specs.Option.{option_and_then, option_map}
-use Rattle.std.specs.Prelude.{slice_set}
 use Rattle.wasmi_core.proofs.MemoryEffectsLemmas.{overwrite_length}
-use Rattle.wasmi_core.proofs.EffectLemmas.{AllValid, acts_same, acts_valid, both_live, changes_back, changes_kept, changes_same, changes_valid, grows_back, on_both, on_live, put_back}
+use Rattle.wasmi_core.proofs.EffectLemmas.{AllValid, HasOneEnding, IsDecided, acts_same, acts_valid, both_live, changes_back, changes_kept, changes_valid, grows_back, on_both, on_live, put_back, slot_same}
 use Rattle.wasmi_core.proofs.TotalLemmas.{counts_kept}
 use Rattle.wasmi_core.specs.Laws.{IsRefusal}
 use Rattle.wasmi_core.specs.Effects.{ActsAt, OnLive, reply_of}
 use Rattle.wasmi_core.specs.State.{live_at}
-use Rattle.wasmi_core.specs.TableEffects.{Metered, SetsElementAt, WritesPartAt, WritesTableAt, WritesTableFrom, metered}
+use Rattle.wasmi_core.specs.TableEffects.{Metered, SetsElementAt, WritesPartAt, WritesTableAt, WritesTableFrom}
 use Rattle.wasmi_core.specs.Totals.{slot_count}
 use Rattle.wasmi_core.specs.declared.calls.Reply.{Reply}
 use Rattle.wasmi_core.specs.declared.slots.Slot.{Slot}
@@ -42,23 +41,20 @@ module _ (w : TableWrite) (x : TableValue) (m : Option Meter) (charge : ℕ) (x'
       → IsRefusal (reply_of (λ _. replied.Done) replied.Table result) → WritesTable w x m result charge x' m' → x' ≡ x
   write_back m' result refused writes = ends_back w.typed w.written _ result refused writes.ends
 
-module _ (k : ℕ) (slots : List (Slot TableValue)) (m : Meter) (reply : Reply) (refused : IsRefusal reply) (charge : ℕ)
-    (slots' : List (Slot TableValue)) (m' : Meter) where
+module _ (k : ℕ) (s s' : Metered) (reply : Reply) (charge : ℕ) (refused : IsRefusal reply) where
   -- so in its slot
-  table_write_back : (write : TableValue → TableWrite)
-      → WritesTableAt k write (metered slots m) reply charge (metered slots' m') → slots' ≡ slots
+  table_write_back : (write : TableValue → TableWrite) → WritesTableAt k write s reply charge s' → s'.value ≡ s.value
   table_write_back write writes =
-      on_live (live_at slots k) _ _ writes
+      on_live (live_at s.value k) _ _ writes
       (λ missing. ap (λ (s : Metered). s.value) missing.2)
-      (λ x found h. h.4 ∙ put_back slots k x h.1 found (write_back (write x) x (Some m) charge h.1 (Some m') h.0
+      (λ x found h. h.4 ∙ put_back s.value k x h.1 found (write_back (write x) x s.meter charge h.1 s'.meter h.0
       (rw h.3 at refused) h.2))
 
-  -- so from what may be missing
-  pub table_copy_back : {X : Type 0} (source : Option X) (write : X → TableValue → TableWrite)
-      → WritesTableFrom source k write (metered slots m) reply charge (metered slots' m') → slots' ≡ slots
-  table_copy_back source write writes =
-      on_live source _ _ writes (λ missing. ap (λ (s : Metered). s.value) missing.2)
-      (λ y found h. table_write_back (write y) h)
+  -- so where the write may be missing
+  pub part_back : (part : Option (TableValue → TableWrite)) → WritesPartAt k part s reply charge s' → s'.value ≡ s.value
+  part_back part writes =
+      on_live part _ _ writes (λ missing. ap (λ (s : Metered). s.value) missing.2)
+      (λ write found h. table_write_back write h)
 
 -- a refused growth leaves the slots
 pub table_growth_back : {S : Type 0} (rules : Rules S) (k n : ℕ) (init : TypedRawRef)
@@ -101,22 +97,18 @@ module _ (w : TableWrite) (x : TableValue) (m : Option Meter) (end end' : Ending
       (ends.0, ends.1, ends.2, a.meter ∙ ap (λ c. option_map (λ m. meter_after m c) m) ends.1 ∙ sym b.meter)
 
 -- two calls that set an element
-pub sets_same : (k index : ℕ) (value : TypedRawRef) (slots : List (Slot TableValue)) (reply reply' : Reply)
-    (slots' slots'' : List (Slot TableValue)) → SetsElementAt k index value slots reply slots'
-    → SetsElementAt k index value slots reply' slots'' → (reply ≡ reply') × (slots' ≡ slots'')
-sets_same k index value slots reply reply' slots' slots'' a b =
-    changes_same (live_at slots k) (λ x. slice_set slots k (Live x)) slots reply reply' slots' slots''
-    _ _ (λ x x' x'' h h'.
+pub sets_same : (k index : ℕ) (value : TypedRawRef) (slots : List (Slot TableValue))
+    → IsDecided (SetsElementAt k index value slots)
+sets_same k index value slots =
+    slot_same k slots _ (λ x reply reply' x' x'' h h'.
     let both =
     table_write_same _ x None (record { result = h.0; charge = 0; value = x' })
     (record { result = h'.0; charge = 0; value = x'' }) None None h.1 h'.1 in
-    (h.2 ∙ ap (reply_of (λ _. replied.Done) replied.Table) both.0 ∙ sym h'.2, both.2)) a b
+    (h.2 ∙ ap (reply_of (λ _. replied.Done) replied.Table) both.0 ∙ sym h'.2, both.2))
 
 -- two writes over a part of the table of an index
-table_writes_same : (k : ℕ) (write : TableValue → TableWrite) (s : Metered) (reply reply' : Reply)
-    (charge charge' : ℕ) (s' s'' : Metered) → WritesTableAt k write s reply charge s'
-    → WritesTableAt k write s reply' charge' s'' → (reply ≡ reply') × (charge ≡ charge') × (s' ≡ s'')
-table_writes_same k write s reply reply' charge charge' s' s'' a b =
+table_writes_same : (k : ℕ) (write : TableValue → TableWrite) (s : Metered) → HasOneEnding (WritesTableAt k write s)
+table_writes_same k write s =
     acts_same {S = Unit {0}} (λ s result charge s'. WritesTable (write s.value) s.value s.meter result charge s'.value
     s'.meter)
     (λ s result result' charge charge' s' s'' h h'.
@@ -124,20 +116,22 @@ table_writes_same k write s reply reply' charge charge' s' s'' a b =
     table_write_same (write s.value) s.value s.meter (record { result = result; charge = charge; value = s'.value })
     (record { result = result'; charge = charge'; value = s''.value }) s'.meter s''.meter h h' in
     (both.0, both.1, λ i. record { value = both.2 i; meter = both.3 i; limiter = tt }))
-    k (reply_of (λ _. replied.Done) replied.Table) s (record { reply = reply; charge = charge; after = s' })
-    (record { reply = reply'; charge = charge'; after = s'' }) a b
+    k (reply_of (λ _. replied.Done) replied.Table) s
 
--- so from what may be missing
-pub table_copies_same : {X : Type 0} (source : Option X) (k : ℕ) (write : X → TableValue → TableWrite) (s : Metered)
-    (reply reply' : Reply) (charge charge' : ℕ) (s' s'' : Metered) → WritesTableFrom source k write s reply charge s'
-    → WritesTableFrom source k write s reply' charge' s'' → (reply ≡ reply') × (charge ≡ charge') × (s' ≡ s'')
-table_copies_same source k write s reply reply' charge charge' s' s'' a b =
-    on_both source _ _ _ _ a b (λ h h'. (h.0 ∙ sym h'.0, h.1 ∙ sym h'.1, h.2 ∙ sym h'.2))
-    (λ y h h'. table_writes_same k (write y) s reply reply' charge charge' s' s'' h h')
+-- so where the write may be missing
+pub parts_same : (k : ℕ) (part : Option (TableValue → TableWrite)) (s : Metered)
+    → HasOneEnding (WritesPartAt k part s)
+parts_same k part s o o' a b =
+    on_both part _ _ _ _ a b (λ h h'. (h.0 ∙ sym h'.0, h.1 ∙ sym h'.1, h.2 ∙ sym h'.2))
+    (λ write h h'. table_writes_same k write s o o' h h')
 
 -- what may be written over a table has as many elements
 abbrev pub KeepsLength : TableWrite → TableValue → Type 0
 KeepsLength w x = (elements : List ℕ) → w.written ≡ Some elements → length elements ≡ length x.elements
+
+-- what so many elements write keeps a table's length, and is paid for by that many, unless there are none
+abbrev pub IsWrite : ℕ → (TableValue → TableWrite) → Type 0
+IsWrite len write = (x : TableValue) → KeepsLength (write x) x × (((write x).paid ≡ Some len) ⊎ (len ≡ 0))
 
 -- what is copied over a part leaves its length
 pub copied_length : (elements written : List ℕ) (dst : ℕ) (part : Option (List ℕ))
@@ -161,28 +155,24 @@ module _ (w : TableWrite) (x : TableValue) (m : Option Meter) (result : Result (
   write_count m' writes = ends_count w.typed w.written _ refl writes.ends
 
 -- the writes over a table at an index
-module _ (k : ℕ) (slots : List (Slot TableValue)) (m : Meter) (reply : Reply) (charge : ℕ)
-    (slots' : List (Slot TableValue)) (m' : Meter) where
+module _ (k : ℕ) (s s' : Metered) (reply : Reply) (charge : ℕ) (len : ℕ) where
   -- so it keeps the sizes
-  pub write_kept : (write : TableValue → TableWrite) → ((x : TableValue) → KeepsLength (write x) x)
-      → WritesTableAt k write (metered slots m) reply charge (metered slots' m')
-      → map (slot_count size_of) slots' ≡ map (slot_count size_of) slots
-  write_kept write keeps writes =
-      on_live (live_at slots k) _ _ writes
+  write_kept : (write : TableValue → TableWrite) → IsWrite len write → WritesTableAt k write s reply charge s'
+      → map (slot_count size_of) s'.value ≡ map (slot_count size_of) s.value
+  write_kept write is writes =
+      on_live (live_at s.value k) _ _ writes
       (λ missing. ap (λ (s : Metered). map (slot_count size_of) s.value) missing.2)
       (λ x found h. ap (map (slot_count size_of)) h.4
-      ∙ counts_kept size_of slots k x (Live h.1) found
-      (write_count (write x) x (Some m) h.0 charge h.1 (keeps x) (Some m') h.2))
+      ∙ counts_kept size_of s.value k x (Live h.1) found
+      (write_count (write x) x s.meter h.0 charge h.1 (is x).0 s'.meter h.2))
 
-  -- so from what may be missing
-  pub copy_kept : {X : Type 0} (source : Option X) (write : X → TableValue → TableWrite)
-      → OnLive source (Unit {0}) (λ y. (x : TableValue) → KeepsLength (write y x) x)
-      → WritesTableFrom source k write (metered slots m) reply charge (metered slots' m')
-      → map (slot_count size_of) slots' ≡ map (slot_count size_of) slots
-  copy_kept source write keeps writes =
-      on_live source _ _ (both_live source _ _ _ _ keeps writes)
+  -- so where the write may be missing
+  pub part_kept : (part : Option (TableValue → TableWrite)) → OnLive part (Unit {0}) (IsWrite len)
+      → WritesPartAt k part s reply charge s' → map (slot_count size_of) s'.value ≡ map (slot_count size_of) s.value
+  part_kept part is writes =
+      on_live part _ _ (both_live part _ _ _ _ is writes)
       (λ missing. ap (λ (s : Metered). map (slot_count size_of) s.value) missing.1.2)
-      (λ y found h. write_kept (write y) h.0 h.1)
+      (λ write found h. write_kept write h.0 h.1)
 
 -- an element that is set keeps the sizes
 pub set_kept : (k : ℕ) (slots : List (Slot TableValue)) (reply : Reply) (slots' : List (Slot TableValue)) (index : ℕ)
@@ -219,23 +209,22 @@ module _ (w : TableWrite) (x : TableValue) (m : Option Meter) (result : Result (
       table_as_long x x' (ends_typed w.typed w.written _ writes.ends)
       (write_count w x m result charge x' keeps m' writes) valid
 
--- a table that is written over, perhaps from something that is missing
-writes_valid : (k : ℕ) (write : TableValue → TableWrite) → ((x : TableValue) → KeepsLength (write x) x)
-    → (s s' : Metered) (reply : Reply) (charge : ℕ) → WritesTableAt k write s reply charge s'
-    → AllValid IsValidTable s.value → AllValid IsValidTable s'.value
-writes_valid k write keeps s s' reply charge writes valid =
-    acts_valid IsValidTable k _ _ (λ t t' result c h w. written_valid (write t.value) t.value t.meter result c
-    t'.value (keeps t.value) t'.meter h w) s s' reply charge writes valid
+-- a table that is written over
+module _ (k : ℕ) (s s' : Metered) (reply : Reply) (charge : ℕ) (len : ℕ) where
+  -- at an index
+  write_valid : (write : TableValue → TableWrite) → IsWrite len write → WritesTableAt k write s reply charge s'
+      → AllValid IsValidTable s.value → AllValid IsValidTable s'.value
+  write_valid write is writes valid =
+      acts_valid IsValidTable k _ _ (λ t t' result c h w. written_valid (write t.value) t.value t.meter result c
+      t'.value (is t.value).0 t'.meter h w) s s' reply charge writes valid
 
--- so from what may be missing
-pub writes_from_valid : {X : Type 0} (source : Option X) (k : ℕ) (write : X → TableValue → TableWrite)
-    → OnLive source (Unit {0}) (λ y. (x : TableValue) → KeepsLength (write y x) x)
-    → (s s' : Metered) (reply : Reply) (charge : ℕ) → WritesTableFrom source k write s reply charge s'
-    → AllValid IsValidTable s.value → AllValid IsValidTable s'.value
-writes_from_valid source k write keeps s s' reply charge writes valid =
-    on_live source _ _ (both_live source _ _ _ _ keeps writes)
-    (λ missing. subst (λ (t : Metered). AllValid IsValidTable t.value) (sym missing.1.2) valid)
-    (λ y found w. writes_valid k (write y) w.0 s s' reply charge w.1 valid)
+  -- so where the write may be missing
+  pub part_valid : (part : Option (TableValue → TableWrite)) → OnLive part (Unit {0}) (IsWrite len)
+      → WritesPartAt k part s reply charge s' → AllValid IsValidTable s.value → AllValid IsValidTable s'.value
+  part_valid part is writes valid =
+      on_live part _ _ (both_live part _ _ _ _ is writes)
+      (λ missing. subst (λ (t : Metered). AllValid IsValidTable t.value) (sym missing.1.2) valid)
+      (λ write found h. write_valid write h.0 h.1 valid)
 
 -- an element that is set
 pub set_valid : (k index : ℕ) (value : TypedRawRef) (slots : List (Slot TableValue)) (reply : Reply)

@@ -22,39 +22,28 @@ use Rattle.wasmi_core.specs.Runs.{Run, IsRunOf}
 use Rattle.wasmi_core.specs.Determinism.{AcceptsNotices, StaysAccepting, IsIn, IsNoWant, IsDeterministic, with_memory, HasMemory, HaveMemory}
 use Rattle.wasmi_core.proofs.DeterminismLemmas as determinism
 use Rattle.wasmi_core.proofs.ExchangeLemmas.{growths_are_permitted}
-use Rattle.wasmi_core.proofs.RevealingLemmas.{Reveals, run_revealed}
+use Rattle.wasmi_core.proofs.RevealingLemmas.{Narrowing, Reveals, run_revealed}
 
 -- an error of which a reply that has memory tells is no want of it
 no_memory : (c : MemoryError) → HasMemory (replied.Memory c) → IsNoWant (MemoryFailure c)
 no_memory memerr.OutOfSystemMemory has = has
-no_memory memerr.OutOfBoundsGrowth has = tt
-no_memory memerr.OutOfBoundsAccess has = tt
-no_memory memerr.InvalidMemoryType has = tt
-no_memory memerr.InvalidStaticBufferSize has = tt
-no_memory memerr.ResourceLimiterDeniedAllocation has = tt
-no_memory memerr.MinimumSizeOverflow has = tt
-no_memory memerr.MaximumSizeOverflow has = tt
-no_memory (memerr.OutOfFuel required) has = tt
+no_memory c has = tt
 
 -- so for tables
 no_table : (c : TableError) → HasMemory (replied.Table c) → IsNoWant (TableFailure c)
 no_table taberr.OutOfSystemMemory has = has
-no_table taberr.MinimumSizeOverflow has = tt
-no_table taberr.MaximumSizeOverflow has = tt
-no_table taberr.ResourceLimiterDeniedAllocation has = tt
-no_table taberr.GrowOutOfBounds has = tt
-no_table taberr.InitOutOfBounds has = tt
-no_table taberr.FillOutOfBounds has = tt
-no_table taberr.SetOutOfBounds has = tt
-no_table taberr.CopyOutOfBounds has = tt
-no_table taberr.ElementTypeMismatch has = tt
-no_table (taberr.OutOfFuel required) has = tt
+no_table c has = tt
 
 module _ {S : Type 0} (rules : Rules S) (IsAccepting : S → Type 0) (stays : StaysAccepting rules IsAccepting) where
+  -- the replies that have memory, in these states of the limiter
+  abbrev telling : Narrowing S
+  telling =
+      record { rules = rules; narrower = with_memory rules; shown = HasMemory; within = IsAccepting }
+
   -- the replies to an attempt's errors tell whether the limiter is told of want of memory
   want_revealed : {V E : Type 0} (refusal : E → Reply) (e : Request V E)
       → ((c : E) → HasMemory (refusal c) → IsNoWant (e.notice c))
-      → Reveals rules (with_memory rules) HasMemory IsAccepting refusal e
+      → Reveals telling refusal e
   want_revealed refusal e nowant (Unasked c) l l' within shown f = f
   want_revealed refusal e nowant (Denied answer) l l' within shown f = f
   want_revealed refusal e nowant Met l l' within shown f = f
@@ -88,7 +77,7 @@ module _ {S : Type 0} (rules : Rules S) (IsAccepting : S → Type 0) (stays : St
   -- a run whose replies have memory is one under these rules
   pub told_run : (w : World S) (turns : List Turn) (w' : World S) → IsAccepting w.limiter
       → All HasMemory (map Turn.reply turns) → Run rules w turns w' → Run (with_memory rules) w turns w'
-  told_run = run_revealed rules (with_memory rules) HasMemory IsAccepting
+  told_run = run_revealed telling
       (record {
         memory_made = λ room ty. want_revealed replied.Memory (memory.creation_of room ty) no_memory;
         memory_grown = λ x pages. want_revealed replied.Memory (memory.growth_of x pages) no_memory;

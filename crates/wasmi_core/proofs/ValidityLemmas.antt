@@ -2,9 +2,9 @@
 use Rattle.std.proofs.Common.{List, Option, [], ap, map, subst, sym, ℕ, ◌∷◌, ◌≡◌}
 use Rattle.std.proofs.lemmas.List.Elements.{All-head, All-tail}
 use Rattle.std.specs.Prelude.{All}
-use Rattle.wasmi_core.proofs.EffectLemmas.{AllValid, acts_valid, creates_valid, on_live, on_live_too}
+use Rattle.wasmi_core.proofs.EffectLemmas.{AllValid, acts_valid, creates_valid, on_live}
 use Rattle.wasmi_core.proofs.StepsLemmas.{change_facts, source_writes}
-use Rattle.wasmi_core.proofs.TableEffectsLemmas.{writes_from_valid}
+use Rattle.wasmi_core.proofs.TableEffectsLemmas.{part_valid}
 use Rattle.wasmi_core.specs.Effects.{reply_of}
 use Rattle.wasmi_core.specs.Runs.{Run}
 use Rattle.wasmi_core.specs.State.{MemoryPart, State}
@@ -109,12 +109,9 @@ module _ {S : Type 0} (rules : Rules S) (w : World S) (turn : Turn) (w' : World 
       _ _ turn.reply turn.charge step.effect valid.tables)
       w'.state (ap now step.after)
   effect_valid (PartWritten k source dst len) typed step =
-      let keeps =
-      on_live_too (write_of source dst len) _ _ _ _ (λ none. tt) (λ write is x. (is x).0)
-      (source_writes source dst len) in
       tables_valid w.state valid step.meter step.part
-      (writes_from_valid (write_of source dst len) k (λ write. write) keeps (metered w.state.tables m)
-      (metered step.part step.meter) turn.reply turn.charge step.effect valid.tables)
+      (part_valid k (metered w.state.tables m) (metered step.part step.meter) turn.reply turn.charge len
+      (write_of source dst len) (source_writes source dst len) step.effect valid.tables)
       w'.state (ap now step.after)
   effect_valid effect typed step = rw (ap now step.after) valid
 

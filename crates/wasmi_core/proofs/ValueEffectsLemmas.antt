@@ -1,7 +1,7 @@
 -- What holds of each row on element segments and globals.
 use Rattle.std.proofs.Common.{Err, List, Ok, Result, ap, arith, inl, inr, length, refl, subst, sym, ℕ, ◌∙◌, ◌≡◌, ◌≤◌}
-use Rattle.std.specs.Prelude.{All, slice_get, slice_set}
-use Rattle.wasmi_core.proofs.EffectLemmas.{appended_valid, appends_back, appends_same, changes_same, item_back}
+use Rattle.std.specs.Prelude.{All}
+use Rattle.wasmi_core.proofs.EffectLemmas.{IsDecided, appended_valid, appends_back, appends_same, item_back, item_same}
 use Rattle.wasmi_core.specs.Determinism.{HasMemory}
 use Rattle.wasmi_core.specs.Laws.{IsRefusal}
 use Rattle.wasmi_core.specs.Effects.{AddsEntry, reply_of}
@@ -97,12 +97,9 @@ segments_same ty items segments reply reply' segments' segments'' room room' (in
     (subst (λ r. AddsEntry (λ x. x) replied.Segment r segments reply' segments'') (sym made) appends')
 
 -- two drops of items
-pub items_same : (k : ℕ) (segments : List SegmentValue) (reply reply' : Reply)
-    (segments' segments'' : List SegmentValue) → DropsItemsAt k segments reply segments'
-    → DropsItemsAt k segments reply' segments'' → (reply ≡ reply') × (segments' ≡ segments'')
-items_same k segments reply reply' segments' segments'' a b =
-    changes_same (slice_get segments k) (slice_set segments k) segments reply reply' segments' segments''
-    _ _ (λ x x' x'' c c'. (c.0 ∙ sym c'.0, c.1 ∙ sym c'.1)) a b
+pub items_same : (k : ℕ) (segments : List SegmentValue) → IsDecided (DropsItemsAt k segments)
+items_same k segments =
+    item_same k segments _ (λ x reply reply' x' x'' h h'. (h.0 ∙ sym h'.0, h.1 ∙ sym h'.1))
 
 -- two creations of a global
 pub globals_same : (global : GlobalInstance) (globals : List GlobalInstance) (reply reply' : Reply)
@@ -131,15 +128,12 @@ global_same x x' x'' value (Err TypeMismatch) (Err ImmutableWrite) a b = absurd 
 global_same x x' x'' value (Err TypeMismatch) (Err TypeMismatch) a b = (refl, a.2 ∙ sym b.2)
 
 -- so in the list
-pub global_sets_same : (k : ℕ) (value : TypedRawVal) (globals : List GlobalInstance) (reply reply' : Reply)
-    (globals' globals'' : List GlobalInstance) → SetsGlobalAt k value globals reply globals'
-    → SetsGlobalAt k value globals reply' globals'' → (reply ≡ reply') × (globals' ≡ globals'')
-global_sets_same k value globals reply reply' globals' globals'' a b =
-    changes_same (slice_get globals k) (slice_set globals k) globals reply reply' globals' globals''
-    _ _ (λ x x' x'' c c'.
-    let both =
-    global_same x x' x'' value c.0 c'.0 c.1 c'.1 in
-    (c.2 ∙ ap (reply_of (λ _. replied.Done) replied.Global) both.0 ∙ sym c'.2, both.1)) a b
+pub global_sets_same : (k : ℕ) (value : TypedRawVal) (globals : List GlobalInstance)
+    → IsDecided (SetsGlobalAt k value globals)
+global_sets_same k value globals =
+    item_same k globals _ (λ x reply reply' x' x'' h h'.
+    let both = global_same x x' x'' value h.0 h'.0 h.1 h'.1 in
+    (h.2 ∙ ap (reply_of (λ _. replied.Done) replied.Global) both.0 ∙ sym h'.2, both.1))
 
 -- a segment that is made
 segment_valid : (ty : _) (items : List ℕ) (result : Result SegmentValue _) (segment : SegmentValue)

@@ -7,15 +7,16 @@ use Rattle.std.proofs.lemmas.List.Sums.{sum_by-cons}
 use Rattle.std.proofs.lemmas.Option.{same_Some}
 use Rattle.std.specs.Option.{option_map, option_map_or}
 use Rattle.std.specs.Prelude.{cond, if◌then◌else◌, is_some, nat_eq, nat_le, nat_lt, ◌&&◌}
-use Rattle.wasmi_core.proofs.AccountLemmas.{Takes, grows_takes, write_takes}
-use Rattle.wasmi_core.proofs.EffectLemmas.{both_live, on_live, on_live_too}
+use Rattle.wasmi_core.proofs.AccountLemmas.{Growing, Takes, after, before, growing, grows_takes, write_takes}
+use Rattle.wasmi_core.proofs.EffectLemmas.{both_live, on_live}
 use Rattle.wasmi_core.proofs.StepsLemmas.{change_facts, source_writes}
+use Rattle.wasmi_core.proofs.TableEffectsLemmas.{IsWrite}
 use Rattle.wasmi_core.specs.MemoryEffects.{bytes_appended}
 use Rattle.wasmi_core.specs.Effects.{ActsAt, OnLive, reply_of}
 use Rattle.wasmi_core.specs.Runs.{Run}
 use Rattle.wasmi_core.specs.State.{State, live_at}
 use Rattle.wasmi_core.specs.Steps.{Changed, Effect, FuelSet, MemoryGrown, PartWritten, TableGrown, TakesEffect, effect_of}
-use Rattle.wasmi_core.specs.TableEffects.{WritesTableAt, WritesTableFrom, element_bytes, metered, write_of}
+use Rattle.wasmi_core.specs.TableEffects.{Metered, WritesPartAt, WritesTableAt, element_bytes, metered, write_of}
 use Rattle.wasmi_core.specs.World.{Turn, World}
 use Rattle.wasmi_core.specs.Writing.{IsBounded, amount_set, amounts_set, bytes_written, charges_for_writing, has_written, is_accepted, is_charged, writing_turns}
 use Rattle.wasmi_core.specs.declared.calls.Call.{Call}
@@ -111,22 +112,10 @@ due_pays m left values size charge on rated is =
 same_costs : (m m' : Meter) (charge : ℕ) → Some m' ≡ Some (meter_after m charge) → m'.costs ≡ m.costs
 same_costs m m' charge is = ap (λ (m : Meter). m.costs) (same_Some m' (meter_after m charge) is)
 
--- what a growth is between: a value, a meter and a limiter, and what they have become by a charge
-record Growing (V S : Type 0) : Type 0 where
-  value : V
-  meter : Meter
-  limiter : S
-  charge : ℕ
-  value' : V
-  meter' : Meter
-  limiter' : S
-
 module _ {V E S : Type 0} (rules : Rules S) (g : Growth V E) (t : Growing V S) where
   -- it has grown, with this result
   abbrev Grown : Result ℕ E → Type 0
-  Grown result =
-      Grows rules g (record { value = t.value; meter = Some t.meter; limiter = t.limiter }) result t.charge
-      (record { value = t.value'; meter = Some t.meter'; limiter = t.limiter' })
+  Grown result = Grows rules g (before t) result t.charge (after t)
 
   -- the costs stay
   growth_costs : (result : Result ℕ E) → Grown result → t.meter'.costs ≡ t.meter.costs
@@ -221,27 +210,33 @@ module _ {S : Type 0} (rules : Rules S) (pages : ℕ) (t : Growing MemoryValue S
       (λ none. ap (λ n. n * page_bytes t.value.ty.page) none ∙ omega arith) memory_bound size grows
   memory_result (Err error) grows = growth_refuses rules growth t error grows
 
+-- the growth of one value among others, by the same charge
+abbrev grown_to : {V W S : Type 0} → Growing W S → V → V → Growing V S
+grown_to t x x' = record {
+  value = x;
+  meter = t.meter;
+  limiter = t.limiter;
+  charge = t.charge;
+  value' = x';
+  meter' = t.meter';
+  limiter' = t.limiter';
+}
+
 -- nothing is appended where there is no memory
 nothing_appended : (o : Option MemoryValue) (pages : ℕ) → bytes_appended o pages replied.NoSuch ≡ 0
 nothing_appended None pages = refl
 nothing_appended (Some x) pages = refl
 
 -- a growth of the memory of an index
-memory_growth_writes : {S : Type 0} (rules : Rules S) (k pages : ℕ) (slots : List (Slot MemoryValue)) (m : Meter)
-    (l : S) (reply : Reply) (charge : ℕ) (slots' : List (Slot MemoryValue)) (m' : Meter) (l' : S)
-    → ActsAt k (reply_of replied.Number replied.Memory) (GrowsMemory rules pages)
-    (record { value = slots; meter = Some m; limiter = l }) reply charge
-    (record { value = slots'; meter = Some m'; limiter = l' })
-    → Wrote m charge (bytes_appended (live_at slots k) pages reply) (is_accepted reply) 0 m'
-memory_growth_writes {S} rules k pages slots m l reply charge slots' m' l' acts =
-    on_live (live_at slots k) _ _ acts
-    (λ missing. rw missing.0 (idles m m' charge _ (nothing_appended (live_at slots k) pages)
-    (same_Some m' m (ap (λ (s : MeteredValue (List (Slot MemoryValue)) S). s.meter) missing.2))))
-    (λ x found a.
-    let t : Growing MemoryValue S =
-    record { value = x; meter = m; limiter = l; charge = charge; value' = a.1; meter' = m'; limiter' = l' }
-    in
-    rw (found, a.3) (memory_result rules pages t a.0 a.2))
+memory_growth_writes : {S : Type 0} (rules : Rules S) (k pages : ℕ) (t : Growing (List (Slot MemoryValue)) S)
+    (reply : Reply)
+    → ActsAt k (reply_of replied.Number replied.Memory) (GrowsMemory rules pages) (before t) reply t.charge (after t)
+    → Wrote t.meter t.charge (bytes_appended (live_at t.value k) pages reply) (is_accepted reply) 0 t.meter'
+memory_growth_writes {S} rules k pages t reply acts =
+    on_live (live_at t.value k) _ _ acts
+    (λ missing. rw missing.0 (idles t.meter t.meter' t.charge _ (nothing_appended (live_at t.value k) pages)
+    (same_Some t.meter' t.meter (ap (λ (s : MeteredValue (List (Slot MemoryValue)) S). s.meter) missing.2))))
+    (λ x found a. rw (found, a.3) (memory_result rules pages (grown_to t x a.1) a.0 a.2))
 
 -- a growth of a table
 module _ {S : Type 0} (rules : Rules S) (n reference : ℕ) (t : Growing TableValue S) where
@@ -259,24 +254,18 @@ module _ {S : Type 0} (rules : Rules S) (n reference : ℕ) (t : Growing TableVa
   table_result (Err error) grows = growth_refuses rules table_growth t error grows
 
 -- a growth of the table of an index
-table_growth_writes : {S : Type 0} (rules : Rules S) (k n : ℕ) (init : TypedRawRef) (slots : List (Slot TableValue))
-    (m : Meter) (l : S) (reply : Reply) (charge : ℕ) (slots' : List (Slot TableValue)) (m' : Meter) (l' : S)
-    → ActsAt k (reply_of replied.Number replied.Table) (GrowsTable rules n init)
-    (record { value = slots; meter = Some m; limiter = l }) reply charge
-    (record { value = slots'; meter = Some m'; limiter = l' })
-    → Wrote m charge (element_bytes n reply) (is_accepted reply) 0 m'
-table_growth_writes {S} rules k n init slots m l reply charge slots' m' l' acts =
-    on_live (live_at slots k) _ _ acts
-    (λ missing. rw missing.0
-    (idles m m' charge _ refl
-    (same_Some m' m (ap (λ (s : MeteredValue (List (Slot TableValue)) S). s.meter) missing.2))))
-    (λ x found a.
-    let t : Growing TableValue S =
-    record { value = x; meter = m; limiter = l; charge = charge; value' = a.1; meter' = m'; limiter' = l' }
-    in
-    rw a.3 (on_test (same_type x.ty.element init.ty) _ _ a.2
-    (λ h. table_result rules n init.raw t a.0 h)
-    (λ h. rw h.0 (idles m m' charge _ refl (same_Some m' m (ap (λ (s : MeteredValue TableValue S). s.meter) h.2))))))
+table_growth_writes : {S : Type 0} (rules : Rules S) (k n : ℕ) (init : TypedRawRef)
+    (t : Growing (List (Slot TableValue)) S) (reply : Reply)
+    → ActsAt k (reply_of replied.Number replied.Table) (GrowsTable rules n init) (before t) reply t.charge (after t)
+    → Wrote t.meter t.charge (element_bytes n reply) (is_accepted reply) 0 t.meter'
+table_growth_writes {S} rules k n init t reply acts =
+    on_live (live_at t.value k) _ _ acts
+    (λ missing. rw missing.0 (idles t.meter t.meter' t.charge _ refl
+    (same_Some t.meter' t.meter (ap (λ (s : MeteredValue (List (Slot TableValue)) S). s.meter) missing.2))))
+    (λ x found a. rw a.3 (on_test (same_type x.ty.element init.ty) _ _ a.2
+    (λ h. table_result rules n init.raw (grown_to t x a.1) a.0 h)
+    (λ h. rw h.0 (idles t.meter t.meter' t.charge _ refl
+    (same_Some t.meter' t.meter (ap (λ (s : MeteredValue TableValue S). s.meter) h.2))))))
 
 -- a call that writes over a part of a table
 module _ (w : TableWrite) (x : TableValue) (len : ℕ) (m : Meter) (charge : ℕ) where
@@ -311,32 +300,28 @@ module _ (w : TableWrite) (x : TableValue) (len : ℕ) (m : Meter) (charge : ℕ
   write_result paid x' m' (Err error) writes =
       refuses m m' charge (same_costs m m' charge writes.meter) (write_takes w x m (Err error) charge x' m' writes)
 
-module _ (k : ℕ) where
-  -- a write over a part of the table of an index
-  table_write_writes : (write : TableValue → TableWrite) (len : ℕ) (slots : List (Slot TableValue)) (m : Meter)
-      (reply : Reply) (charge : ℕ) (slots' : List (Slot TableValue)) (m' : Meter)
-      → ((x : TableValue) → ((write x).paid ≡ Some len) ⊎ (len ≡ 0))
+-- the writes over a part of the table of an index
+module _ (k len : ℕ) (slots : List (Slot TableValue)) (m : Meter) (reply : Reply) (charge : ℕ)
+    (slots' : List (Slot TableValue)) (m' : Meter) where
+  -- what a write has written
+  table_write_writes : (write : TableValue → TableWrite) → IsWrite len write
       → WritesTableAt k write (metered slots m) reply charge (metered slots' m')
       → Wrote m charge (element_bytes len reply) (is_accepted reply) 0 m'
-  table_write_writes write len slots m reply charge slots' m' paid writes =
+  table_write_writes write is writes =
       on_live (live_at slots k) _ _ writes
       (λ missing. rw missing.0
-      (idles m m' charge _ refl
-      (same_Some m' m (ap (λ (s : MeteredValue (List (Slot TableValue)) (Unit {0})). s.meter) missing.2))))
-      (λ x found a. rw a.3 (write_result (write x) x len m charge (paid x) a.1 m' a.0 a.2))
+      (idles m m' charge _ refl (same_Some m' m (ap (λ (s : Metered). s.meter) missing.2))))
+      (λ x found a. rw a.3 (write_result (write x) x len m charge (is x).1 a.1 m' a.0 a.2))
 
--- so from what may be missing
-table_copy_writes : {X : Type 0} (source : Option X) (k : ℕ) (write : X → TableValue → TableWrite) (len : ℕ)
-    (slots : List (Slot TableValue)) (m : Meter) (reply : Reply) (charge : ℕ) (slots' : List (Slot TableValue))
-    (m' : Meter) → OnLive source (Unit {0}) (λ y. (x : TableValue) → ((write y x).paid ≡ Some len) ⊎ (len ≡ 0))
-    → WritesTableFrom source k write (metered slots m) reply charge (metered slots' m')
-    → Wrote m charge (element_bytes len reply) (is_accepted reply) 0 m'
-table_copy_writes source k write len slots m reply charge slots' m' paid writes =
-    on_live source _ _ (both_live source _ _ _ _ paid writes)
-    (λ missing. rw missing.1.0
-    (idles m m' charge _ refl
-    (same_Some m' m (ap (λ (s : MeteredValue (List (Slot TableValue)) (Unit {0})). s.meter) missing.1.2))))
-    (λ y found h. table_write_writes k (write y) len slots m reply charge slots' m' h.0 h.1)
+  -- so where the write may be missing
+  part_writes : (part : Option (TableValue → TableWrite)) → OnLive part (Unit {0}) (IsWrite len)
+      → WritesPartAt k part (metered slots m) reply charge (metered slots' m')
+      → Wrote m charge (element_bytes len reply) (is_accepted reply) 0 m'
+  part_writes part is writes =
+      on_live part _ _ (both_live part _ _ _ _ is writes)
+      (λ missing. rw missing.1.0
+      (idles m m' charge _ refl (same_Some m' m (ap (λ (s : Metered). s.meter) missing.1.2))))
+      (λ write found h. table_write_writes write h.0 h.1)
 
 module _ {S : Type 0} (w : World S) (turn : Turn) (w' : World S) where
   -- the turn ends in this world
@@ -380,19 +365,16 @@ module _ {S : Type 0} (rules : Rules S) (w : World S) (turn : Turn) (w' : World 
       idle w turn w' step.after step.free.1 ((change_facts w.state change).meter turn.reply step.machine step.effect)
   effect_writes (MemoryGrown k pages) step =
       writes_as w turn w' step.after step.wrote
-      (memory_growth_writes rules k pages w.state.memories w.state.meter w.limiter turn.reply turn.charge step.part
-      step.meter step.limiter step.effect)
+      (memory_growth_writes rules k pages
+      (growing w w.state.memories turn.charge step.part step.meter step.limiter) turn.reply step.effect)
   effect_writes (TableGrown k n init) step =
       writes_as w turn w' step.after step.wrote
-      (table_growth_writes rules k n init w.state.tables w.state.meter w.limiter turn.reply turn.charge step.part
-      step.meter step.limiter step.effect)
+      (table_growth_writes rules k n init
+      (growing w w.state.tables turn.charge step.part step.meter step.limiter) turn.reply step.effect)
   effect_writes (PartWritten k source dst len) step =
-      let paid =
-      on_live_too (write_of source dst len) _ _ _ _ (λ none. tt) (λ write is x. (is x).1)
-      (source_writes source dst len) in
       writes_as w turn w' step.after step.wrote
-      (table_copy_writes (write_of source dst len) k (λ write. write) len w.state.tables w.state.meter turn.reply
-      turn.charge step.part step.meter paid step.effect)
+      (part_writes k len w.state.tables w.state.meter turn.reply turn.charge step.part step.meter
+      (write_of source dst len) (source_writes source dst len) step.effect)
   effect_writes effect step = idle w turn w' step.after step.free.1 refl
 
 -- a run, by what is left at its start

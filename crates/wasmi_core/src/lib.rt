@@ -20,18 +20,21 @@ pub use calls::{ByteList, Call, Reply};
 pub use machine::Machine;
 pub use ops::{LoadOp, StoreOp};
 pub use running::{run, run_lending, run_reserving};
-pub use wasmi_access::access;
-pub use wasmi_lanes::words;
+pub use wasmi_access::{access, laws as access_laws};
+pub use wasmi_lanes::{laws as lane_laws, on_vectors, words};
 pub use wasmi_meter::{
-    CustomFuelCosts, Fuel, FuelCosts, FuelCostsProvider, FuelError, Kind, LimiterError,
-    MemoryError, NoLimits, Quota, Reserving, ResourceLimiter, ResourceLimiterRef, TableError,
-    ValueSize,
+    CustomFuelCosts, Fuel, FuelCosts, FuelCostsProvider, FuelError, Kind, Lender, LimiterError,
+    LimiterRef, MemoryError, NoLimits, Quota, Reserving, ResourceLimiter, ResourceLimiterRef,
+    TableError, ValueSize,
 };
-pub use wasmi_raw::{F32, F64, Number, RawRef, RawVal, ReadAs, ReadBack, V128, WriteAs};
+pub use wasmi_raw::{
+    F32, F64, Number, RawRef, RawVal, ReadAs, ReadBack, V128, WriteAs, laws as raw_laws,
+};
 pub use wasmi_scalar::value::{Integer, SignExtendFrom, Unsigned};
+pub use wasmi_simd::laws as widening_laws;
 pub use wasmi_store::{
-    ByteBuffer, ElementSegment, ElementSegmentRef, Memory, MemoryType, MemoryTypeBuilder,
-    SegmentError, Table, TableType,
+    Buffer, ByteBuffer, ElementSegment, ElementSegmentRef, LinearMemory, Memory, MemoryType,
+    MemoryTypeBuilder, Region, SegmentError, Table, TableType, laws as store_laws,
 };
 pub use wasmi_typed::{
     Global, GlobalError, GlobalType, IntoShiftAmount, Mutability, NotAReference, ShiftAmount,

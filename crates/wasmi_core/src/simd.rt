@@ -2,6 +2,13 @@
 //!
 //! Upstream: `wasmi_core::simd`.
 
+pub use wasmi_lanes::LaneArray;
+pub use wasmi_lanes::LaneIndex;
+pub use wasmi_lanes::LaneInteger;
+pub use wasmi_lanes::LaneItem;
+pub use wasmi_lanes::Narrower;
+pub use wasmi_lanes::SimdLane;
+pub use wasmi_lanes::WordLane;
 pub use wasmi_lanewise::simd::FromNarrow;
 pub use wasmi_lanewise::simd::FromWide;
 pub use wasmi_lanewise::simd::I8x16;

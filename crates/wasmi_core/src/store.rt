@@ -243,6 +243,7 @@ impl<'r> Store<'r> {
     }
 
     /// Answers one call on registers, which doesn't reach the limiter: only the contract names `L`.
+    #[tactic(auto, using(crate::proofs::StoreLemmas::changes_part))]
     fn step_register<L: ResourceLimiter>(&mut self, call: &Call) -> Reply
         requires { subject_of call.now ≡ RegisterFile }
         ensures { AnswersAlone (optional_rules L.rules) call.now self.old result self.new }
