@@ -17,4 +17,3 @@ pub mod Writing
 pub mod Determinism
 pub mod LentMemory
 pub mod Laws
-pub mod AccessOps

@@ -6,7 +6,6 @@ mod calls;
 pub mod laws;
 mod machine;
 mod memories;
-mod ops;
 mod registers;
 mod running;
 pub mod simd;
@@ -18,7 +17,6 @@ pub mod wasm;
 
 pub use calls::{ByteList, Call, Reply};
 pub use machine::Machine;
-pub use ops::{LoadOp, StoreOp};
 pub use running::{run, run_lending, run_reserving};
 pub use wasmi_access::access;
 pub use wasmi_lanes::words;
@@ -29,6 +27,7 @@ pub use wasmi_meter::{
 };
 pub use wasmi_raw::{F32, F64, Number, RawRef, RawVal, ReadAs, ReadBack, V128, WriteAs};
 pub use wasmi_scalar::value::{Integer, SignExtendFrom, Unsigned};
+pub use wasmi_scalar_ops::{LoadOp, ScalarBinaryOp, ScalarUnaryOp, StoreOp};
 pub use wasmi_store::{
     ByteBuffer, ElementSegment, ElementSegmentRef, Memory, MemoryType, MemoryTypeBuilder,
     SegmentError, Table, TableType,
