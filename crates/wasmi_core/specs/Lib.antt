@@ -17,7 +17,6 @@ pub mod Writing
 pub mod Determinism
 pub mod LentMemory
 pub mod Laws
-pub mod AccessOps
 pub use Rattle.wasmi_types.specs.Bytes
 pub use Rattle.wasmi_types.specs.Access
 pub use Rattle.wasmi_types.specs.Wrapping
@@ -39,6 +38,10 @@ pub use Rattle.wasmi_typed.specs.NotAReference
 pub use Rattle.wasmi_access.specs.LoadStore
 pub use Rattle.wasmi_scalar.specs.Numerics
 pub use Rattle.wasmi_scalar.specs.Wide
+pub use Rattle.wasmi_scalar_ops.specs.AccessOps
+pub use Rattle.wasmi_scalar_ops.specs.BinaryOps as ScalarBinaryOps
+pub use Rattle.wasmi_scalar_ops.specs.UnaryOps as ScalarUnaryOps
+pub use Rattle.wasmi_scalar_ops.specs.Raw as RawResults
 pub use Rattle.wasmi_lanes.specs.Lane
 pub use Rattle.wasmi_lanes.specs.Vector
 pub use Rattle.wasmi_lanes.specs.Words

@@ -11,7 +11,7 @@ use Rattle.wasmi_vector_ops.specs.AccessOps.{loaded_vector, loaded_lane}
 use Rattle.wasmi_core.specs.declared.calls.Reply.{Reply}
 use Rattle.wasmi_core.specs.declared.calls.Reply.TheVariants.{Done, Value, Trap, NoSuch}
 use Rattle.wasmi_core.specs.declared.slots.Slot.{Slot}
-use Rattle.wasmi_core.specs.AccessOps.{as_raw}
+use Rattle.wasmi_scalar_ops.specs.Raw.{as_raw}
 use Rattle.wasmi_core.specs.MemoryEffects.{StoresMemoryAt}
 
 -- the vector in a register, if there is one

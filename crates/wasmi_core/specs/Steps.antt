@@ -31,7 +31,7 @@ use Rattle.wasmi_core.specs.World.{World, Turn, world}
 use Rattle.wasmi_core.specs.State.{State, live_at, with_memories, memory_part, with_memory_part, with_tables, with_segments, with_globals, with_registers}
 use Rattle.wasmi_core.specs.Effects.{reply_of, Creates, DropsAt, ActsAt, ChangesPart, OnlyReplies, Changes, Asks, ActsMetered, ActsMeteredUnasked}
 use Rattle.wasmi_core.specs.Totals.{byte_count}
-use Rattle.wasmi_core.specs.AccessOps.{stored_bytes}
+use Rattle.wasmi_scalar_ops.specs.AccessOps.{stored_bytes}
 use Rattle.wasmi_core.specs.FuelEffects.{SetsFuel, get_fuel_reply}
 use Rattle.wasmi_core.specs.MemoryEffects.{bytes_appended, CreatesLent, ReadsMemoryAt, WritesMemoryAt, load_reply}
 use Rattle.wasmi_core.specs.TableEffects.{Source, OfReference, OfTable, OfSegment, element_reply, SetsElementAt, write_of, WritesPartAt, element_bytes}

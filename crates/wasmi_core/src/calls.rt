@@ -1,11 +1,11 @@
 //! What a machine can be asked, and what it replies.
 ghost use Rattle.std.specs.Prelude.{◌≡◌};
 
-use crate::ops::{LoadOp, StoreOp};
 use std::marker::Model;
 use wasmi_lanes::ImmLaneIdx32;
 use wasmi_meter::{FuelError, MemoryError, TableError};
 use wasmi_raw::{RawRef, RawVal};
+use wasmi_scalar_ops::{LoadOp, StoreOp};
 use wasmi_store::{MemoryType, SegmentError, TableType};
 use wasmi_typed::{GlobalError, GlobalType, TypedRawRef, TypedRawVal};
 use wasmi_types::{RefType, TrapCode};

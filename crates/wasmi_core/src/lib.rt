@@ -6,7 +6,6 @@ mod calls;
 pub mod laws;
 mod machine;
 mod memories;
-mod ops;
 mod registers;
 mod running;
 pub mod simd;
@@ -18,7 +17,6 @@ pub mod wasm;
 
 pub use calls::{ByteList, Call, Reply};
 pub use machine::Machine;
-pub use ops::{LoadOp, StoreOp};
 pub use running::{run, run_lending, run_reserving};
 pub use wasmi_access::{access, laws as access_laws};
 pub use wasmi_lanes::{laws as lane_laws, on_vectors, words};
@@ -31,6 +29,7 @@ pub use wasmi_raw::{
     F32, F64, Number, RawRef, RawVal, ReadAs, ReadBack, V128, WriteAs, laws as raw_laws,
 };
 pub use wasmi_scalar::value::{Integer, SignExtendFrom, Unsigned};
+pub use wasmi_scalar_ops::{LoadOp, ScalarBinaryOp, ScalarUnaryOp, StoreOp};
 pub use wasmi_simd::laws as widening_laws;
 pub use wasmi_store::{
     Buffer, ByteBuffer, ElementSegment, ElementSegmentRef, LinearMemory, Memory, MemoryType,

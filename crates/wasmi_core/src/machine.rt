@@ -1,15 +1,12 @@
 //! The machine.
 ghost use Rattle.std.specs.Prelude.{◌≡◌, ◌<◌, ◌↔◌, ℕ, Option, IsSome, Some, length, slice_get, IfSome};
 ghost use Rattle.std.specs.Option.{option_copied};
-ghost use Rattle.wasmi_meter.specs.Limiter.{optional_rules};
-ghost use Rattle.wasmi_meter.specs.LimiterRef.{lent_limiter, KeepsLoan};
 
-use crate::calls::{Call, Reply};
 use crate::store::Store;
 use crate::values::value_at;
 use std::alloc::Global as Allocator;
 use std::marker::Model;
-use wasmi_meter::{Fuel, ResourceLimiter, ResourceLimiterRef};
+use wasmi_meter::Fuel;
 use wasmi_raw::RawVal;
 use wasmi_store::{ElementSegment, Memory, Table};
 use wasmi_typed::Global;
@@ -37,9 +34,7 @@ impl<'r> Model for Machine<'r> {
 
 impl<'r> Machine<'r> {
     ghost use Rattle.wasmi_core.specs.State.{new_state, with_spare, live_at};
-    ghost use Rattle.wasmi_core.specs.Steps.{Answers};
     ghost use Rattle.wasmi_core.specs.Validity.{IsValid};
-    ghost use Rattle.wasmi_core.specs.World.{world};
     ghost use Rattle.wasmi_core.specs.Totals.{total};
     ghost use Rattle.wasmi_meter.specs.declared.limiter.Kind.TheVariants.{Bytes, Elements};
 
@@ -129,39 +124,5 @@ impl<'r> Machine<'r> {
         ensures { IsValid self.now }
     {
         let _ = &self.store;
-    }
-
-    /// Answers one call, as `run` answers each of a list.
-    ///
-    /// Own: upstream leaves running to the interpreter.
-    #[inline(always)]
-    pub fn step<L: ResourceLimiter>(
-        &mut self,
-        call: &Call,
-        limiter: &mut ResourceLimiterRef<L>,
-    ) -> Reply
-        ensures loan { KeepsLoan limiter.old limiter.new }
-        ensures step { Answers (optional_rules L.rules) call.now
-            (world self.old (lent_limiter limiter.old)) result
-            (world self.new (lent_limiter limiter.new)) }
-        ensures valid { IsValid self.new }
-    {
-        call.tell_valid();
-        self.store.step(call, limiter)
-    }
-
-    /// Answers one call, as `step`, under a limiter that is lent for this call alone.
-    #[inline(always)]
-    pub fn step_lending<L: ResourceLimiter>(&mut self, call: &Call, limiter: &mut L) -> Reply
-        ensures step { Answers (optional_rules L.rules) call.now
-            (world self.old (Some limiter.old)) result (world self.new (Some limiter.new)) }
-        ensures valid { IsValid self.new }
-    {
-        let mut lent = ResourceLimiterRef::from(limiter);
-        let reply = self.step(call, &mut lent);
-        let Some(_limiter) = lent.into_resource_limiter() else {
-            unreachable!()
-        };
-        reply
     }
 }

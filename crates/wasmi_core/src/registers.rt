@@ -11,7 +11,7 @@ ghost use Rattle.wasmi_vector_ops.specs.ShiftOps.{shifted_vector};
 ghost use Rattle.wasmi_vector_ops.specs.TernaryOps.{ternary_vector};
 ghost use Rattle.wasmi_vector_ops.specs.TestOps.{tested_raw};
 ghost use Rattle.wasmi_vector_ops.specs.UnaryOps.{unary_vector};
-ghost use Rattle.wasmi_core.specs.AccessOps.{as_raw};
+ghost use Rattle.wasmi_scalar_ops.specs.Raw.{as_raw};
 ghost use Rattle.wasmi_core.specs.RegisterEffects.{TakesRegister, given_vector, of_one, of_two, of_three, raw_reply, vector_at};
 
 use crate::calls::Reply;

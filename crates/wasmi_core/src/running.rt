@@ -1,16 +1,53 @@
-//! Runs of calls.
+//! One call, and runs of calls.
 ghost use Rattle.std.specs.Prelude.{◌≡◌, Some, IfOk, OnErr};
 ghost use Rattle.wasmi_meter.specs.Limiter.{optional_rules};
 ghost use Rattle.wasmi_meter.specs.LimiterRef.{lent_limiter, KeepsLoan};
 ghost use Rattle.wasmi_core.specs.Validity.{IsValid};
 ghost use Rattle.wasmi_core.specs.World.{world};
 ghost use Rattle.wasmi_core.specs.Runs.{IsRunOf};
+ghost use Rattle.wasmi_core.specs.Steps.{Answers};
 ghost use Rattle.wasmi_core.specs.Totals.{HoldsTotals};
 
 use crate::calls::{Call, Reply};
 use crate::machine::Machine;
 use std::alloc::AllocError;
 use wasmi_meter::{Reserving, ResourceLimiter, ResourceLimiterRef};
+
+impl<'r> Machine<'r> {
+    /// Answers one call, as `run` answers each of a list.
+    ///
+    /// Own: upstream leaves running to the interpreter.
+    #[inline(always)]
+    pub fn step<L: ResourceLimiter>(
+        &mut self,
+        call: &Call,
+        limiter: &mut ResourceLimiterRef<L>,
+    ) -> Reply
+        ensures loan { KeepsLoan limiter.old limiter.new }
+        ensures step { Answers (optional_rules L.rules) call.now
+            (world self.old (lent_limiter limiter.old)) result
+            (world self.new (lent_limiter limiter.new)) }
+        ensures valid { IsValid self.new }
+    {
+        call.tell_valid();
+        self.store.step(call, limiter)
+    }
+
+    /// Answers one call, as `step`, under a limiter that is lent for this call alone.
+    #[inline(always)]
+    pub fn step_lending<L: ResourceLimiter>(&mut self, call: &Call, limiter: &mut L) -> Reply
+        ensures step { Answers (optional_rules L.rules) call.now
+            (world self.old (Some limiter.old)) result (world self.new (Some limiter.new)) }
+        ensures valid { IsValid self.new }
+    {
+        let mut lent = ResourceLimiterRef::from(limiter);
+        let reply = self.step(call, &mut lent);
+        let Some(_limiter) = lent.into_resource_limiter() else {
+            unreachable!()
+        };
+        reply
+    }
+}
 
 /// Answers calls in turn. Room for the replies is had first; where it is refused, nothing happened.
 ///

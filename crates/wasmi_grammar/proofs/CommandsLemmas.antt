@@ -1,7 +1,7 @@
 -- What the operands of a command write, by the word that it begins with.
 use Rattle.std.proofs.Common.{ℕ, ◌≡◌, List, [], ◌∷◌, Result, Err, bytes_eq, cond, codes, subst}
-use Rattle.wasmi_core.specs.declared.ops.LoadOp.{LoadOp}
-use Rattle.wasmi_core.specs.declared.ops.StoreOp.{StoreOp}
+use Rattle.wasmi_scalar_ops.specs.declared.access.LoadOp.{LoadOp}
+use Rattle.wasmi_scalar_ops.specs.declared.access.StoreOp.{StoreOp}
 use Rattle.wasmi_raw.specs.declared.raw.RawVal.{RawVal}
 use Rattle.wasmi_typed.specs.declared.global.GlobalType.{GlobalType}
 use Rattle.wasmi_typed.specs.declared.typed.TypedRawVal.{TypedRawVal}

@@ -15,10 +15,10 @@ use Rattle.wasmi_store.specs.declared.memory.ty.PageSize.{PageSize}
 use Rattle.wasmi_store.specs.declared.memory.ty.PageSize.TheVariants.{Byte, Wasm}
 use Rattle.wasmi_store.specs.MemoryType.{MemoryTypeValue, page_log2, page_of_log2}
 use Rattle.wasmi_store.specs.TableType.{TableTypeValue}
-use Rattle.wasmi_core.specs.declared.ops.LoadOp.{LoadOp}
-use Rattle.wasmi_core.specs.declared.ops.LoadOp.TheVariants as load
-use Rattle.wasmi_core.specs.declared.ops.StoreOp.{StoreOp}
-use Rattle.wasmi_core.specs.declared.ops.StoreOp.TheVariants as store
+use Rattle.wasmi_scalar_ops.specs.declared.access.LoadOp.{LoadOp}
+use Rattle.wasmi_scalar_ops.specs.declared.access.LoadOp.TheVariants as load
+use Rattle.wasmi_scalar_ops.specs.declared.access.StoreOp.{StoreOp}
+use Rattle.wasmi_scalar_ops.specs.declared.access.StoreOp.TheVariants as store
 use Rattle.wasmi_vector_ops.specs.declared.access.LoadLaneOp.{LoadLaneOp}
 use Rattle.wasmi_vector_ops.specs.declared.access.LoadLaneOp.TheVariants as load_lane
 use Rattle.wasmi_vector_ops.specs.declared.access.StoreLaneOp.{StoreLaneOp}

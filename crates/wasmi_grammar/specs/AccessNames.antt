@@ -1,9 +1,9 @@
 -- The names of loads and stores.
 use Rattle.std.specs.Prelude.{ℕ, List, codes}
-use Rattle.wasmi_core.specs.declared.ops.LoadOp.{LoadOp}
-use Rattle.wasmi_core.specs.declared.ops.LoadOp.TheVariants.{I32Load8S, I32Load8U, I32Load16S, I32Load16U, I64Load8S, I64Load8U, I64Load16S, I64Load16U, I64Load32S, I64Load32U, LoadU32, LoadU64}
-use Rattle.wasmi_core.specs.declared.ops.StoreOp.{StoreOp}
-use Rattle.wasmi_core.specs.declared.ops.StoreOp.TheVariants.{I32Store8, I32Store16, I64Store8, I64Store16, I64Store32, Store32, Store64}
+use Rattle.wasmi_scalar_ops.specs.declared.access.LoadOp.{LoadOp}
+use Rattle.wasmi_scalar_ops.specs.declared.access.LoadOp.TheVariants.{I32Load8S, I32Load8U, I32Load16S, I32Load16U, I64Load8S, I64Load8U, I64Load16S, I64Load16U, I64Load32S, I64Load32U, LoadU32, LoadU64}
+use Rattle.wasmi_scalar_ops.specs.declared.access.StoreOp.{StoreOp}
+use Rattle.wasmi_scalar_ops.specs.declared.access.StoreOp.TheVariants.{I32Store8, I32Store16, I64Store8, I64Store16, I64Store32, Store32, Store64}
 
 -- the name of a load
 abbrev pub load_name : LoadOp → List ℕ

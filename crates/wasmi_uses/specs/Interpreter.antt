@@ -13,7 +13,7 @@ use Rattle.wasmi_core.specs.declared.calls.Call.{Call}
 use Rattle.wasmi_core.specs.declared.calls.Call.TheVariants as call
 use Rattle.wasmi_core.specs.declared.calls.Reply.{Reply}
 use Rattle.wasmi_core.specs.declared.calls.Reply.TheVariants.{Done, Number, Memory}
-use Rattle.wasmi_core.specs.declared.ops.StoreOp.TheVariants.{Store64}
+use Rattle.wasmi_scalar_ops.specs.declared.access.StoreOp.TheVariants.{Store64}
 use Rattle.wasmi_core.specs.State.{State, live_at}
 use Rattle.wasmi_core.specs.World.{World}
 use Rattle.wasmi_core.specs.Steps.{Answers}
