@@ -68,4 +68,5 @@ memory_is minimum maximum log2 width ty w = λ i. option_and_then (λ index. opt
   page = page;
   minimum = sym w.minimum_word.1 i;
   maximum = limit_is maximum ty.maximum w.maximum_word i;
-}) (page_is (decimal_value log2) ty.page w.log2_word.1 i)) (named_is index.enum tt width_word refl width ty.index w.width_text i)
+}) (page_is (decimal_value log2) ty.page w.log2_word.1 i))
+    (named_is index.enum tt width_word refl width ty.index w.width_text i)

@@ -98,8 +98,10 @@ module _ (words : Words) where
       (codes "lent", option_map (λ ty. Other (NewLentMemory ty)) (memory_named (word 0) (word 1) (word 2) (word 3))) ∷
       (codes "grow", Some (Other (GrowMemory (number 0) (number 1)))) ∷
       (codes "read", Some (Other (Read (number 0) (number 1) (number 2)))) ∷
-      (codes "write", Some (WriteSaid (number 0) (number 1) (numbers_in (drop 2 words)))) ∷
-      (codes "load", option_map (λ op. Other (Load op (number 1) (number 2) (number 3))) (named load.enum tt load_name (word 0))) ∷ (
+      (codes "write", Some (WriteSaid (number 0) (number 1) (numbers_in (drop 2 words)))) ∷ (
+        codes "load",
+        option_map (λ op. Other (Load op (number 1) (number 2) (number 3))) (named load.enum tt load_name (word 0)),
+      ) ∷ (
         codes "store",
         option_map (λ op. Other (Store op (number 1) (number 2) (number 3) (raw_of (number 4))))
             (named store.enum tt store_name (word 0)),
@@ -123,8 +125,11 @@ module _ (words : Words) where
         codes "fill",
         option_map (λ value. Other (FillTable (number 0) (number 1) value (number 4)))
             (reference_named (word 2) (word 3)),
+      ) ∷ (
+        codes "segment",
+        option_map (λ ty. SegmentSaid ty (numbers_in (drop 1 words)))
+            (named reference_type.enum tt reference_word (word 0)),
       ) ∷
-      (codes "segment", option_map (λ ty. SegmentSaid ty (numbers_in (drop 1 words))) (named reference_type.enum tt reference_word (word 0))) ∷
       (codes "empty", Some (Other (DropItems (number 0)))) ∷ (
         codes "global",
         option_and_then
@@ -139,15 +144,24 @@ module _ (words : Words) where
       (codes "gget", Some (Other (GetGlobal (number 0)))) ∷
       (codes "set", Some (Other (SetRegister (number 0) (raw 1 2)))) ∷
       (codes "show", Some (Other (GetRegister (number 0)))) ∷
-      (codes "make", option_map (λ op. Other (Make op (number 1) (number 2))) (named make.enum tt make_name (word 0))) ∷
-      (codes "unary", option_map (λ op. Other (Unary op (number 1) (number 2))) (named unary.enum tt unary_name (word 0))) ∷
-      (codes "binary", option_map (λ op. Other (Binary op (number 1) (number 2) (number 3))) (named binary.enum tt binary_name (word 0)))
+      (codes "make", option_map (λ op. Other (Make op (number 1) (number 2))) (named make.enum tt make_name (word 0)))
+      ∷ (
+        codes "unary",
+        option_map (λ op. Other (Unary op (number 1) (number 2))) (named unary.enum tt unary_name (word 0)),
+      ) ∷ (
+        codes "binary",
+        option_map (λ op. Other (Binary op (number 1) (number 2) (number 3)))
+            (named binary.enum tt binary_name (word 0)),
+      )
       ∷ (
         codes "ternary",
         option_map (λ op. Other (Ternary op (number 1) (number 2) (number 3) (number 4)))
             (named ternary.enum tt ternary_name (word 0)),
+      ) ∷ (
+        codes "shift",
+        option_map (λ op. Other (Shift op (number 1) (number 2) (number 3)))
+            (named shift.enum tt shift_name (word 0)),
       ) ∷
-      (codes "shift", option_map (λ op. Other (Shift op (number 1) (number 2) (number 3))) (named shift.enum tt shift_name (word 0))) ∷
       (codes "test", option_map (λ op. Other (Test op (number 1))) (named test.enum tt test_name (word 0))) ∷
       (codes "extract", option_map (λ op. Other (Extract op (number 1))) (extract_named (word 0) (word 2))) ∷ (
         codes "replace",
@@ -185,7 +199,8 @@ module _ (words : Words) where
   call_is (Read memory offset len) w = λ i. Some (Other (Read (sym w.1.1 i) (sym w.2.1 i) (sym w.3.1 i)))
   call_is (Write memory offset bytes) w = λ i. Some (WriteSaid (sym w.1.1 i) (sym w.2.1 i) (sym w.3.1 i))
   call_is (Load op memory ptr offset) w = λ i.
-      option_map (λ op. Other (Load op (sym w.2.1 i) (sym w.3.1 i) (sym w.4.1 i))) (named_is load.enum tt load_name refl (word 0) op w.1 i)
+      option_map (λ op. Other (Load op (sym w.2.1 i) (sym w.3.1 i) (sym w.4.1 i)))
+      (named_is load.enum tt load_name refl (word 0) op w.1 i)
   call_is (Store op memory ptr offset value) w = λ i.
       option_map (λ op. Other (Store op (sym w.2.1 i) (sym w.3.1 i) (sym w.4.1 i) (sym (w.7 ∙ ap raw_of w.6.1) i)))
       (named_is store.enum tt store_name refl (word 0) op w.1 i)
@@ -207,14 +222,17 @@ module _ (words : Words) where
   call_is (FillTable table dst value len) w = λ i.
       option_map (λ value. Other (FillTable (sym w.1.1 i) (sym w.2.1 i) value (sym w.4.1 i)))
       (reference_is (word 2) (word 3) value w.3 i)
-  call_is (NewSegment ty items) w = λ i. option_map (λ ty. SegmentSaid ty (sym w.2.1 i)) (named_is reference_type.enum tt reference_word refl (word 0) ty w.1 i)
+  call_is (NewSegment ty items) w =
+      λ i. option_map (λ ty. SegmentSaid ty (sym w.2.1 i))
+      (named_is reference_type.enum tt reference_word refl (word 0) ty w.1 i)
   call_is (DropItems segment) w = λ i. Some (Other (DropItems (sym w.1.1 i)))
   call_is (NewGlobal value ty) w =
       let lo = sym w.3.1 in
       let hi = sym w.4.1 in
       λ i. option_and_then (λ content. option_map (λ mutability.
       Other (NewGlobal (record { lo = lo i; hi = hi i }) (record { content = content; mutability = mutability })))
-      (named_is mutability.enum tt mutability_word refl (word 1) ty.mutability w.2 i)) (named_is value_type.enum tt value_word refl (word 0) ty.content w.1 i)
+      (named_is mutability.enum tt mutability_word refl (word 1) ty.mutability w.2 i))
+      (named_is value_type.enum tt value_word refl (word 0) ty.content w.1 i)
   call_is (SetGlobal global value) w =
       let lo = sym w.3.1 in
       let hi = sym w.4.1 in
@@ -226,17 +244,22 @@ module _ (words : Words) where
       Some (Other (SetRegister (sym w.1.1 i) (record { lo = sym w.2.1 i; hi = sym w.3.1 i })))
   call_is (GetRegister a) w = λ i. Some (Other (GetRegister (sym w.1.1 i)))
   call_is (Make op dst a) w = λ i.
-      option_map (λ op. Other (Make op (sym w.2.1 i) (sym w.3.1 i))) (named_is make.enum tt make_name refl (word 0) op w.1 i)
+      option_map (λ op. Other (Make op (sym w.2.1 i) (sym w.3.1 i)))
+      (named_is make.enum tt make_name refl (word 0) op w.1 i)
   call_is (Unary op dst a) w = λ i.
-      option_map (λ op. Other (Unary op (sym w.2.1 i) (sym w.3.1 i))) (named_is unary.enum tt unary_name refl (word 0) op w.1 i)
+      option_map (λ op. Other (Unary op (sym w.2.1 i) (sym w.3.1 i)))
+      (named_is unary.enum tt unary_name refl (word 0) op w.1 i)
   call_is (Binary op dst a b) w = λ i.
-      option_map (λ op. Other (Binary op (sym w.2.1 i) (sym w.3.1 i) (sym w.4.1 i))) (named_is binary.enum tt binary_name refl (word 0) op w.1 i)
+      option_map (λ op. Other (Binary op (sym w.2.1 i) (sym w.3.1 i) (sym w.4.1 i)))
+      (named_is binary.enum tt binary_name refl (word 0) op w.1 i)
   call_is (Ternary op dst a b c) w = λ i.
       option_map (λ op. Other (Ternary op (sym w.2.1 i) (sym w.3.1 i) (sym w.4.1 i) (sym w.5.1 i)))
       (named_is ternary.enum tt ternary_name refl (word 0) op w.1 i)
   call_is (Shift op dst a amount) w = λ i.
-      option_map (λ op. Other (Shift op (sym w.2.1 i) (sym w.3.1 i) (sym w.4.1 i))) (named_is shift.enum tt shift_name refl (word 0) op w.1 i)
-  call_is (Test op a) w = λ i. option_map (λ op. Other (Test op (sym w.2.1 i))) (named_is test.enum tt test_name refl (word 0) op w.1 i)
+      option_map (λ op. Other (Shift op (sym w.2.1 i) (sym w.3.1 i) (sym w.4.1 i)))
+      (named_is shift.enum tt shift_name refl (word 0) op w.1 i)
+  call_is (Test op a) w =
+      λ i. option_map (λ op. Other (Test op (sym w.2.1 i))) (named_is test.enum tt test_name refl (word 0) op w.1 i)
   call_is (Extract op a) w = λ i.
       option_map (λ op. Other (Extract op (sym w.2.1 i))) (extract_is (word 0) (word 2) op w.1 i)
   call_is (Replace op dst a item) w = λ i.

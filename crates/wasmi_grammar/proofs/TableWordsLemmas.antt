@@ -39,7 +39,9 @@ pub limits_of : (element min max width : List ℕ) (w : WrittenLimits element mi
     → NamesTableType element min max width ty → HasLimits w.index w.element_type w.minimum w.maximum ty
 limits_of element min max width w ty h = record {
   same_index = one_named index.enum tt width_word refl ty.index w.index (sym h.width_text ∙ w.writes_index);
-  same_element = one_named reference_type.enum tt reference_word refl ty.element w.element_type (sym h.element_text ∙ w.writes_element);
+  same_element =
+      one_named reference_type.enum tt reference_word refl ty.element w.element_type
+      (sym h.element_text ∙ w.writes_element);
   same_minimum = h.minimum_word.1 ∙ sym w.writes_minimum.1;
   same_maximum = same_limit max ty.maximum w.maximum h.maximum_word w.writes_maximum;
   valid = h.valid;
@@ -64,4 +66,5 @@ table_is element minimum maximum width ty w = λ i. option_and_then (λ index. o
   element = element;
   minimum = sym w.minimum_word.1 i;
   maximum = limit_is maximum ty.maximum w.maximum_word i;
-}) (named_is reference_type.enum tt reference_word refl element ty.element w.element_text i)) (named_is index.enum tt width_word refl width ty.index w.width_text i)
+}) (named_is reference_type.enum tt reference_word refl element ty.element w.element_text i))
+    (named_is index.enum tt width_word refl width ty.index w.width_text i)

@@ -14,7 +14,7 @@ use Rattle.wasmi_grammar.specs.declared.header.LimiterLine.{LimiterLine}
 use Rattle.wasmi_grammar.specs.declared.header.LimiterLine.TheVariants.{Quota, Answers, Tenants}
 use Rattle.wasmi_grammar.specs.declared.header.RegionLine.{RegionLine}
 use Rattle.wasmi_operands.specs.Words.{Words, word_at}
-use Rattle.wasmi_operands.specs.Numbers.{IsDecimal, decimal_value, AreNumbers, WritesNumber, WritesNumbers}
+use Rattle.wasmi_operands.specs.Numbers.{IsDecimal, decimal_value, AreNumbers, WritesNumbers}
 use Rattle.wasmi_grammar.specs.MemoryWords.{NamesType}
 use Rattle.wasmi_grammar.specs.TableWords.{NamesTableType}
 use Rattle.wasmi_operands.specs.TypeWords.{WritesReference}

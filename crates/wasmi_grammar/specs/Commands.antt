@@ -144,7 +144,8 @@ WritesOperands words (Replace op dst a item) = (length words ≡ 5) × NamesRepl
 WritesOperands words (Shuffle dst a b lanes) = (3 ≤ length words)
     × WritesNumber 8 (word_at words 0) dst × WritesNumber 8 (word_at words 1) a × WritesNumber 8 (word_at words 2) b
     × WritesLanes (drop 3 words) lanes
-WritesOperands words (VectorLoad op dst memory ptr offset) = (length words ≡ 5) × IsName vector_load_name (word_at words 0) op
+WritesOperands words (VectorLoad op dst memory ptr offset) =
+    (length words ≡ 5) × IsName vector_load_name (word_at words 0) op
     × WritesNumber 8 (word_at words 1) dst
     × WritesNumber 64 (word_at words 2) memory × WritesNumber 64 (word_at words 3) ptr
     × WritesNumber 64 (word_at words 4) offset
