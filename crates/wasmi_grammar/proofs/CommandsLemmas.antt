@@ -15,11 +15,11 @@ use Rattle.wasmi_vector_ops.specs.declared.test.TestOp.{TestOp}
 use Rattle.wasmi_vector_ops.specs.declared.unary.UnaryOp.{UnaryOp}
 use Rattle.wasmi_core.specs.declared.calls.Call.{Call}
 use Rattle.wasmi_core.specs.declared.calls.Call.TheVariants.{SetFuel, GetFuel, NewMemory, NewLentMemory, GrowMemory, DropMemory, Read, Write, Load, Store, NewTable, GrowTable, DropTable, GetElement, SetElement, InitTable, CopyTable, FillTable, NewSegment, DropItems, NewGlobal, SetGlobal, GetGlobal, SetRegister, GetRegister, Make, Unary, Binary, Ternary, Shift, Test, Extract, Replace, Shuffle, VectorLoad, LoadLane, VectorStore, StoreLane}
-use Rattle.wasmi_grammar.specs.declared.line.LineError.{LineError}
-use Rattle.wasmi_grammar.specs.Acceptance.{Accepts}
-use Rattle.wasmi_grammar.specs.Words.{Words}
+use Rattle.wasmi_operands.specs.declared.error.LineError.{LineError}
+use Rattle.wasmi_operands.specs.Acceptance.{Accepts}
+use Rattle.wasmi_operands.specs.Words.{Words}
 use Rattle.wasmi_grammar.specs.Commands.{command_word, WritesOperands, NamesAfter}
-use Rattle.wasmi_grammar.proofs.AcceptanceLemmas.{refused_through}
+use Rattle.wasmi_operands.proofs.AcceptanceLemmas.{refused_through}
 
 -- what is said beside a word, if anything is
 abbrev said : List (List ℕ × Type 0) → List ℕ → Type 0

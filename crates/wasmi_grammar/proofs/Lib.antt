@@ -1,15 +1,9 @@
 pub mod ScriptLemmas
 pub mod LinesLemmas
 pub mod AnswersLemmas
-pub mod AcceptanceLemmas
 pub mod CommandsLemmas
-pub mod WordsLemmas
-pub mod NumbersLemmas
-pub mod TypeWordsLemmas
 pub mod MemoryWordsLemmas
 pub mod TableWordsLemmas
 pub mod TextsLemmas
-pub mod VectorNamesLemmas
-pub mod NamesLemmas
 pub mod SayingLemmas
 pub mod OneScriptLemmas

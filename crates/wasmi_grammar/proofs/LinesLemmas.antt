@@ -8,7 +8,7 @@ use Rattle.wasmi_grammar.specs.declared.header.MeterLine.TheVariants.{Off, On}
 use Rattle.wasmi_grammar.specs.declared.header.LimiterLine.{LimiterLine}
 use Rattle.wasmi_grammar.specs.declared.header.LimiterLine.TheVariants.{Quota, Answers, Tenants}
 use Rattle.wasmi_grammar.specs.declared.header.RegionLine.{RegionLine}
-use Rattle.wasmi_grammar.specs.Words.{Words, word_at}
+use Rattle.wasmi_operands.specs.Words.{Words, word_at}
 use Rattle.wasmi_grammar.specs.Commands.{command_word}
 use Rattle.wasmi_grammar.specs.Headers.{NamesMeter, NamesLimiter, NamesRegion, limiter_word}
 use Rattle.wasmi_grammar.specs.Openings.{IsLimiterWord, IsReserved, Opens}

@@ -8,7 +8,7 @@ use Rattle.wasmi_grammar.specs.declared.script.Script.{Script}
 use Rattle.wasmi_grammar.specs.declared.header.LimiterLine.{LimiterLine}
 use Rattle.wasmi_grammar.specs.declared.header.LimiterLine.TheVariants.{Quota, Answers, Tenants}
 use Rattle.wasmi_grammar.specs.declared.header.RegionLine.{RegionLine}
-use Rattle.wasmi_grammar.specs.Words.{Words}
+use Rattle.wasmi_operands.specs.Words.{Words}
 use Rattle.wasmi_grammar.specs.Headers.{NamesTenant, AreApart, tenants_of}
 use Rattle.wasmi_grammar.specs.Lines.{HasNoCommands, AddsLine, TakesLine, TakesLines, MakeScript, lines_in}
 use Rattle.wasmi_grammar.specs.Refusals.{IsBadLine, IsFirstBadLine}

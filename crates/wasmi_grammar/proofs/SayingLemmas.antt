@@ -5,6 +5,18 @@ use Rattle.std.specs.Option.{option_map, option_and_then}
 use Rattle.std.proofs.lemmas.List.{map-append}
 use Rattle.wasmi_raw.specs.declared.raw.RawVal.{RawVal}
 use Rattle.wasmi_raw.specs.RawVal.{raw_of}
+use Rattle.wasmi_types.specs.contracts.value.RefType as reference_type
+use Rattle.wasmi_types.specs.contracts.value.ValType as value_type
+use Rattle.wasmi_typed.specs.contracts.global.Mutability as mutability
+use Rattle.wasmi_core.specs.contracts.ops.LoadOp as load
+use Rattle.wasmi_core.specs.contracts.ops.StoreOp as store
+use Rattle.wasmi_vector_ops.specs.contracts.make.MakeOp as make
+use Rattle.wasmi_vector_ops.specs.contracts.unary.UnaryOp as unary
+use Rattle.wasmi_vector_ops.specs.contracts.binary.BinaryOp as binary
+use Rattle.wasmi_vector_ops.specs.contracts.ternary.TernaryOp as ternary
+use Rattle.wasmi_vector_ops.specs.contracts.shift.ShiftOp as shift
+use Rattle.wasmi_vector_ops.specs.contracts.test.TestOp as test
+use Rattle.wasmi_vector_ops.specs.contracts.access.VectorLoadOp as vector_load
 use Rattle.wasmi_core.specs.declared.calls.Call.{Call}
 use Rattle.wasmi_core.specs.declared.calls.Call.TheVariants.{SetFuel, GetFuel, NewMemory, NewLentMemory, GrowMemory}
 use Rattle.wasmi_core.specs.declared.calls.Call.TheVariants.{DropMemory}
@@ -22,8 +34,18 @@ use Rattle.wasmi_grammar.specs.declared.header.MeterLine.TheVariants.{Off, On}
 use Rattle.wasmi_grammar.specs.declared.header.LimiterLine.{LimiterLine}
 use Rattle.wasmi_grammar.specs.declared.header.LimiterLine.TheVariants.{Quota, Answers, Tenants}
 use Rattle.wasmi_grammar.specs.declared.header.RegionLine.{RegionLine}
-use Rattle.wasmi_grammar.specs.Words.{Words, word_at}
-use Rattle.wasmi_grammar.specs.Numbers.{decimal_value}
+use Rattle.wasmi_operands.specs.Words.{Words, word_at}
+use Rattle.wasmi_operands.specs.Numbers.{decimal_value}
+use Rattle.wasmi_operands.specs.Names.{IsName}
+use Rattle.wasmi_operands.specs.TypeWords.{reference_word, value_word, mutability_word}
+use Rattle.wasmi_operands.specs.AccessNames.{load_name, store_name}
+use Rattle.wasmi_operands.specs.MakeNames.{make_name}
+use Rattle.wasmi_operands.specs.UnaryNames.{unary_name}
+use Rattle.wasmi_operands.specs.BinaryNames.{binary_name}
+use Rattle.wasmi_operands.specs.TernaryNames.{ternary_name}
+use Rattle.wasmi_operands.specs.ShiftNames.{shift_name}
+use Rattle.wasmi_operands.specs.TestNames.{test_name}
+use Rattle.wasmi_operands.specs.VectorLoadNames.{vector_load_name}
 use Rattle.wasmi_grammar.specs.Commands.{command_word, WritesOperands}
 use Rattle.wasmi_grammar.specs.Headers.{NamesMeter, NamesLimiter, NamesRegion, WritesLimiter, limiter_word}
 use Rattle.wasmi_grammar.specs.Lines.{AddsLine}
@@ -31,17 +53,13 @@ use Rattle.wasmi_grammar.specs.Sayings.{CallSaid, WriteSaid, SegmentSaid, OtherC
 use Rattle.wasmi_grammar.specs.Sayings.{AnswersSaid}
 use Rattle.wasmi_grammar.specs.Sayings.{OtherLimiter, limiter_said, part_said, ScriptSaid, script_said}
 use Rattle.wasmi_grammar.proofs.LinesLemmas.{meter_first, region_first}
-use Rattle.wasmi_grammar.proofs.NamesLemmas.{type_named, type_is, value_named, value_is, mutability_named, mutability_is}
-use Rattle.wasmi_grammar.proofs.NamesLemmas.{load_named, load_is, store_named, store_is, make_named, make_is}
-use Rattle.wasmi_grammar.proofs.NamesLemmas.{unary_named, unary_is}
-use Rattle.wasmi_grammar.proofs.NamesLemmas.{binary_named, binary_is, ternary_named, ternary_is, shift_named, shift_is}
-use Rattle.wasmi_grammar.proofs.NamesLemmas.{test_named, test_is, vector_load_named, vector_load_is, extract_named}
-use Rattle.wasmi_grammar.proofs.NamesLemmas.{extract_is}
-use Rattle.wasmi_grammar.proofs.NamesLemmas.{replace_named, replace_is, load_lane_named, load_lane_is, store_lane_named}
-use Rattle.wasmi_grammar.proofs.NamesLemmas.{store_lane_is}
-use Rattle.wasmi_grammar.proofs.NamesLemmas.{reference_named, reference_is, memory_named, memory_is, table_named}
-use Rattle.wasmi_grammar.proofs.NamesLemmas.{table_is}
-use Rattle.wasmi_grammar.proofs.NamesLemmas.{answers_named, answers_is}
+use Rattle.wasmi_operands.proofs.NamesLemmas.{named, named_is}
+use Rattle.wasmi_operands.proofs.TypeWordsLemmas.{reference_named, reference_is}
+use Rattle.wasmi_operands.proofs.LaneNamesLemmas.{extract_named, extract_is, replace_named, replace_is}
+use Rattle.wasmi_operands.proofs.LaneNamesLemmas.{load_lane_named, load_lane_is, store_lane_named, store_lane_is}
+use Rattle.wasmi_grammar.proofs.MemoryWordsLemmas.{memory_named, memory_is}
+use Rattle.wasmi_grammar.proofs.TableWordsLemmas.{table_named, table_is}
+use Rattle.wasmi_grammar.proofs.AnswersLemmas.{answers_named, answers_is}
 
 -- what a table has beside a word, or something else
 abbrev found_or : {A : Type 0} → List (List ℕ × A) → List ℕ → A → A
@@ -80,11 +98,13 @@ module _ (words : Words) where
       (codes "lent", option_map (λ ty. Other (NewLentMemory ty)) (memory_named (word 0) (word 1) (word 2) (word 3))) ∷
       (codes "grow", Some (Other (GrowMemory (number 0) (number 1)))) ∷
       (codes "read", Some (Other (Read (number 0) (number 1) (number 2)))) ∷
-      (codes "write", Some (WriteSaid (number 0) (number 1) (numbers_in (drop 2 words)))) ∷
-      (codes "load", option_map (λ op. Other (Load op (number 1) (number 2) (number 3))) (load_named (word 0))) ∷ (
+      (codes "write", Some (WriteSaid (number 0) (number 1) (numbers_in (drop 2 words)))) ∷ (
+        codes "load",
+        option_map (λ op. Other (Load op (number 1) (number 2) (number 3))) (named load.enum tt load_name (word 0)),
+      ) ∷ (
         codes "store",
         option_map (λ op. Other (Store op (number 1) (number 2) (number 3) (raw_of (number 4))))
-            (store_named (word 0)),
+            (named store.enum tt store_name (word 0)),
       ) ∷ (
         codes "table",
         option_and_then
@@ -105,32 +125,44 @@ module _ (words : Words) where
         codes "fill",
         option_map (λ value. Other (FillTable (number 0) (number 1) value (number 4)))
             (reference_named (word 2) (word 3)),
+      ) ∷ (
+        codes "segment",
+        option_map (λ ty. SegmentSaid ty (numbers_in (drop 1 words)))
+            (named reference_type.enum tt reference_word (word 0)),
       ) ∷
-      (codes "segment", option_map (λ ty. SegmentSaid ty (numbers_in (drop 1 words))) (type_named (word 0))) ∷
       (codes "empty", Some (Other (DropItems (number 0)))) ∷ (
         codes "global",
         option_and_then
             (λ content. option_map
             (λ mutability. Other (NewGlobal (raw 2 3) (record { content = content; mutability = mutability })))
-            (mutability_named (word 1))) (value_named (word 0)),
+            (named mutability.enum tt mutability_word (word 1))) (named value_type.enum tt value_word (word 0)),
       ) ∷ (
         codes "gset",
         option_map (λ ty. Other (SetGlobal (number 0) (record { ty = ty; raw = raw 2 3 })))
-            (value_named (word 1)),
+            (named value_type.enum tt value_word (word 1)),
       ) ∷
       (codes "gget", Some (Other (GetGlobal (number 0)))) ∷
       (codes "set", Some (Other (SetRegister (number 0) (raw 1 2)))) ∷
       (codes "show", Some (Other (GetRegister (number 0)))) ∷
-      (codes "make", option_map (λ op. Other (Make op (number 1) (number 2))) (make_named (word 0))) ∷
-      (codes "unary", option_map (λ op. Other (Unary op (number 1) (number 2))) (unary_named (word 0))) ∷
-      (codes "binary", option_map (λ op. Other (Binary op (number 1) (number 2) (number 3))) (binary_named (word 0)))
+      (codes "make", option_map (λ op. Other (Make op (number 1) (number 2))) (named make.enum tt make_name (word 0)))
+      ∷ (
+        codes "unary",
+        option_map (λ op. Other (Unary op (number 1) (number 2))) (named unary.enum tt unary_name (word 0)),
+      ) ∷ (
+        codes "binary",
+        option_map (λ op. Other (Binary op (number 1) (number 2) (number 3)))
+            (named binary.enum tt binary_name (word 0)),
+      )
       ∷ (
         codes "ternary",
         option_map (λ op. Other (Ternary op (number 1) (number 2) (number 3) (number 4)))
-            (ternary_named (word 0)),
+            (named ternary.enum tt ternary_name (word 0)),
+      ) ∷ (
+        codes "shift",
+        option_map (λ op. Other (Shift op (number 1) (number 2) (number 3)))
+            (named shift.enum tt shift_name (word 0)),
       ) ∷
-      (codes "shift", option_map (λ op. Other (Shift op (number 1) (number 2) (number 3))) (shift_named (word 0))) ∷
-      (codes "test", option_map (λ op. Other (Test op (number 1))) (test_named (word 0))) ∷
+      (codes "test", option_map (λ op. Other (Test op (number 1))) (named test.enum tt test_name (word 0))) ∷
       (codes "extract", option_map (λ op. Other (Extract op (number 1))) (extract_named (word 0) (word 2))) ∷ (
         codes "replace",
         option_map (λ op. Other (Replace op (number 1) (number 2) (number 4)))
@@ -139,7 +171,7 @@ module _ (words : Words) where
       (codes "shuffle", Some (Other (Shuffle (number 0) (number 1) (number 2) (numbers_in (drop 3 words))))) ∷ (
         codes "vload",
         option_map (λ op. Other (VectorLoad op (number 1) (number 2) (number 3) (number 4)))
-            (vector_load_named (word 0)),
+            (named vector_load.enum tt vector_load_name (word 0)),
       ) ∷ (
         codes "vloadlane",
         option_map
@@ -156,6 +188,7 @@ module _ (words : Words) where
 
   -- operands that write a call give what the call says, beside its word
   call_is : (call : Call) → WritesOperands words call → beside calls_named (command_word call) ≡ Some (call_said call)
+  unfolding IsName
   call_is (SetFuel fuel) w = λ i. Some (Other (SetFuel (sym w.1.1 i)))
   call_is GetFuel w = refl
   call_is (NewMemory ty) w = λ i.
@@ -166,10 +199,11 @@ module _ (words : Words) where
   call_is (Read memory offset len) w = λ i. Some (Other (Read (sym w.1.1 i) (sym w.2.1 i) (sym w.3.1 i)))
   call_is (Write memory offset bytes) w = λ i. Some (WriteSaid (sym w.1.1 i) (sym w.2.1 i) (sym w.3.1 i))
   call_is (Load op memory ptr offset) w = λ i.
-      option_map (λ op. Other (Load op (sym w.2.1 i) (sym w.3.1 i) (sym w.4.1 i))) (load_is (word 0) op w.1 i)
+      option_map (λ op. Other (Load op (sym w.2.1 i) (sym w.3.1 i) (sym w.4.1 i)))
+      (named_is load.enum tt load_name refl (word 0) op w.1 i)
   call_is (Store op memory ptr offset value) w = λ i.
       option_map (λ op. Other (Store op (sym w.2.1 i) (sym w.3.1 i) (sym w.4.1 i) (sym (w.7 ∙ ap raw_of w.6.1) i)))
-      (store_is (word 0) op w.1 i)
+      (named_is store.enum tt store_name refl (word 0) op w.1 i)
   call_is (NewTable ty init) w = λ i.
       option_and_then
       (λ ty. option_map (λ init. Other (NewTable ty init)) (reference_is (word 4) (word 5) init w.2 i))
@@ -188,36 +222,44 @@ module _ (words : Words) where
   call_is (FillTable table dst value len) w = λ i.
       option_map (λ value. Other (FillTable (sym w.1.1 i) (sym w.2.1 i) value (sym w.4.1 i)))
       (reference_is (word 2) (word 3) value w.3 i)
-  call_is (NewSegment ty items) w = λ i. option_map (λ ty. SegmentSaid ty (sym w.2.1 i)) (type_is (word 0) ty w.1 i)
+  call_is (NewSegment ty items) w =
+      λ i. option_map (λ ty. SegmentSaid ty (sym w.2.1 i))
+      (named_is reference_type.enum tt reference_word refl (word 0) ty w.1 i)
   call_is (DropItems segment) w = λ i. Some (Other (DropItems (sym w.1.1 i)))
   call_is (NewGlobal value ty) w =
       let lo = sym w.3.1 in
       let hi = sym w.4.1 in
       λ i. option_and_then (λ content. option_map (λ mutability.
       Other (NewGlobal (record { lo = lo i; hi = hi i }) (record { content = content; mutability = mutability })))
-      (mutability_is (word 1) ty.mutability w.2 i)) (value_is (word 0) ty.content w.1 i)
+      (named_is mutability.enum tt mutability_word refl (word 1) ty.mutability w.2 i))
+      (named_is value_type.enum tt value_word refl (word 0) ty.content w.1 i)
   call_is (SetGlobal global value) w =
       let lo = sym w.3.1 in
       let hi = sym w.4.1 in
       λ i. option_map (λ ty. Other
       (SetGlobal (sym w.1.1 i) (record { ty = ty; raw = record { lo = lo i; hi = hi i } })))
-      (value_is (word 1) value.ty w.2 i)
+      (named_is value_type.enum tt value_word refl (word 1) value.ty w.2 i)
   call_is (GetGlobal global) w = λ i. Some (Other (GetGlobal (sym w.1.1 i)))
   call_is (SetRegister dst value) w = λ i.
       Some (Other (SetRegister (sym w.1.1 i) (record { lo = sym w.2.1 i; hi = sym w.3.1 i })))
   call_is (GetRegister a) w = λ i. Some (Other (GetRegister (sym w.1.1 i)))
   call_is (Make op dst a) w = λ i.
-      option_map (λ op. Other (Make op (sym w.2.1 i) (sym w.3.1 i))) (make_is (word 0) op w.1 i)
+      option_map (λ op. Other (Make op (sym w.2.1 i) (sym w.3.1 i)))
+      (named_is make.enum tt make_name refl (word 0) op w.1 i)
   call_is (Unary op dst a) w = λ i.
-      option_map (λ op. Other (Unary op (sym w.2.1 i) (sym w.3.1 i))) (unary_is (word 0) op w.1 i)
+      option_map (λ op. Other (Unary op (sym w.2.1 i) (sym w.3.1 i)))
+      (named_is unary.enum tt unary_name refl (word 0) op w.1 i)
   call_is (Binary op dst a b) w = λ i.
-      option_map (λ op. Other (Binary op (sym w.2.1 i) (sym w.3.1 i) (sym w.4.1 i))) (binary_is (word 0) op w.1 i)
+      option_map (λ op. Other (Binary op (sym w.2.1 i) (sym w.3.1 i) (sym w.4.1 i)))
+      (named_is binary.enum tt binary_name refl (word 0) op w.1 i)
   call_is (Ternary op dst a b c) w = λ i.
       option_map (λ op. Other (Ternary op (sym w.2.1 i) (sym w.3.1 i) (sym w.4.1 i) (sym w.5.1 i)))
-      (ternary_is (word 0) op w.1 i)
+      (named_is ternary.enum tt ternary_name refl (word 0) op w.1 i)
   call_is (Shift op dst a amount) w = λ i.
-      option_map (λ op. Other (Shift op (sym w.2.1 i) (sym w.3.1 i) (sym w.4.1 i))) (shift_is (word 0) op w.1 i)
-  call_is (Test op a) w = λ i. option_map (λ op. Other (Test op (sym w.2.1 i))) (test_is (word 0) op w.1 i)
+      option_map (λ op. Other (Shift op (sym w.2.1 i) (sym w.3.1 i) (sym w.4.1 i)))
+      (named_is shift.enum tt shift_name refl (word 0) op w.1 i)
+  call_is (Test op a) w =
+      λ i. option_map (λ op. Other (Test op (sym w.2.1 i))) (named_is test.enum tt test_name refl (word 0) op w.1 i)
   call_is (Extract op a) w = λ i.
       option_map (λ op. Other (Extract op (sym w.2.1 i))) (extract_is (word 0) (word 2) op w.1 i)
   call_is (Replace op dst a item) w = λ i.
@@ -227,7 +269,7 @@ module _ (words : Words) where
       Some (Other (Shuffle (sym w.1.1 i) (sym w.2.1 i) (sym w.3.1 i) (sym w.4.written.1 i)))
   call_is (VectorLoad op dst memory ptr offset) w = λ i.
       option_map (λ op. Other (VectorLoad op (sym w.2.1 i) (sym w.3.1 i) (sym w.4.1 i) (sym w.5.1 i)))
-      (vector_load_is (word 0) op w.1 i)
+      (named_is vector_load.enum tt vector_load_name refl (word 0) op w.1 i)
   call_is (LoadLane op dst a memory ptr offset) w = λ i.
       option_map (λ op. Other (LoadLane op (sym w.2.1 i) (sym w.3.1 i) (sym w.4.1 i) (sym w.5.1 i) (sym w.6.1 i)))
       (load_lane_is (word 0) (word 3) op w.1 i)

@@ -2,6 +2,9 @@
 use Rattle.std.proofs.Common.{ℕ, ◌<◌, ◌≤◌, ◌^◌, ◌≡◌, ◌∙◌, List, [], ◌∷◌, Bor, Option, Some, None, IsSomeAnd, length, map, drop, slice_index_or, inl, inr, refl, sym, ap, subst}
 use Rattle.std.proofs.lemmas.List.{length-map, drop-map}
 use Rattle.std.proofs.lemmas.List.Elements.{All-cons, All-nil, All-head, All-tail}
+use Rattle.wasmi_typed.specs.declared.typed_ref.TypedRawRef.{TypedRawRef}
+use Rattle.wasmi_store.specs.MemoryType.{MemoryTypeValue}
+use Rattle.wasmi_store.specs.TableType.{TableTypeValue}
 use Rattle.wasmi_core.specs.declared.calls.Call.{Call}
 use Rattle.wasmi_core.specs.declared.calls.Call.TheVariants.{SetFuel, GetFuel, NewMemory, NewLentMemory, GrowMemory, DropMemory, Read, Write, Load, Store, NewTable, GrowTable, DropTable, GetElement, SetElement, InitTable, CopyTable, FillTable, NewSegment, DropItems, NewGlobal, SetGlobal, GetGlobal, SetRegister, GetRegister, Make, Unary, Binary, Ternary, Shift, Test, Extract, Replace, Shuffle, VectorLoad, LoadLane, VectorStore, StoreLane}
 use Rattle.wasmi_grammar.specs.declared.script.Script.{Script}
@@ -10,13 +13,20 @@ use Rattle.wasmi_grammar.specs.declared.header.MeterLine.TheVariants.{Off, On}
 use Rattle.wasmi_grammar.specs.declared.header.LimiterLine.{LimiterLine}
 use Rattle.wasmi_grammar.specs.declared.header.LimiterLine.TheVariants.{Quota, Answers, Tenants}
 use Rattle.wasmi_grammar.specs.declared.header.RegionLine.{RegionLine}
-use Rattle.wasmi_grammar.specs.Words.{Words, word_at}
-use Rattle.wasmi_grammar.specs.Numbers.{IsDecimal, decimal_value, AreNumbers, WritesNumber, WritesNumbers}
+use Rattle.wasmi_operands.specs.Words.{Words, word_at}
+use Rattle.wasmi_operands.specs.Numbers.{IsDecimal, decimal_value, AreNumbers, WritesNumbers}
 use Rattle.wasmi_grammar.specs.MemoryWords.{NamesType}
 use Rattle.wasmi_grammar.specs.TableWords.{NamesTableType}
-use Rattle.wasmi_grammar.specs.TypeWords.{WritesReference}
-use Rattle.wasmi_grammar.specs.VectorNames.{NamesMake, NamesUnary, NamesBinary, NamesTernary, NamesShift, NamesTest, NamesLoad}
-use Rattle.wasmi_grammar.specs.LaneNames.{NamesExtract, NamesReplace, NamesLoadLane, NamesStoreLane, WritesLanes}
+use Rattle.wasmi_operands.specs.TypeWords.{WritesReference}
+use Rattle.wasmi_operands.specs.Names.{IsName}
+use Rattle.wasmi_operands.specs.MakeNames.{make_name}
+use Rattle.wasmi_operands.specs.UnaryNames.{unary_name}
+use Rattle.wasmi_operands.specs.BinaryNames.{binary_name}
+use Rattle.wasmi_operands.specs.TernaryNames.{ternary_name}
+use Rattle.wasmi_operands.specs.ShiftNames.{shift_name}
+use Rattle.wasmi_operands.specs.TestNames.{test_name}
+use Rattle.wasmi_operands.specs.VectorLoadNames.{vector_load_name}
+use Rattle.wasmi_operands.specs.LaneNames.{NamesExtract, NamesReplace, NamesLoadLane, NamesStoreLane, WritesLanes}
 use Rattle.wasmi_grammar.specs.Commands.{WritesOperands, Names}
 use Rattle.wasmi_grammar.specs.Headers.{NamesMeter, NamesLimiter, NamesRegion, NamesTenant, WritesLimiter, tenants_of}
 use Rattle.wasmi_grammar.specs.Lines.{AddsLine}
@@ -79,262 +89,142 @@ module _ (words words' : Words) (same : texts words ≡ texts words') where
   on : (k : ℕ) (Says : List ℕ → Type 0) → Says (word_at words k) → Says (word_at words' k)
   on k Says says = subst Says (at k) says
 
+  -- a number that is written at a place of the one is written there in the other
+  number : {n : ℕ} {Fits : Type 0} (k : ℕ)
+      → IsDecimal (word_at words k) × (n ≡ decimal_value (word_at words k)) × Fits
+      → IsDecimal (word_at words' k) × (n ≡ decimal_value (word_at words' k)) × Fits
+  number k w = (subst IsDecimal (at k) w.0, w.1 ∙ ap decimal_value (at k), w.2)
+
+  -- an instruction that the first word of the one names is named by the first of the other
+  named : {A : Type 0} (name_of : A → List ℕ) (op : A) → IsName name_of (word_at words 0) op
+      → IsName name_of (word_at words' 0) op
+  named name_of op w = on 0 (λ t. IsName name_of t op) w
+
+  -- so is an instruction on one lane, by its first word and the lane's
+  on_lane : {A : Type 0} (Names : List ℕ → List ℕ → A → Type 0) (op : A) (k : ℕ)
+      → Names (word_at words 0) (word_at words k) op → Names (word_at words' 0) (word_at words' k) op
+  on_lane Names op k w = on k (λ t. Names (word_at words' 0) t op) (on 0 (λ t. Names t (word_at words k) op) w)
+
+  -- a reference that is written at two places is written there
+  reference : (r : TypedRawRef) (k l : ℕ) → WritesReference (word_at words k) (word_at words l) r
+      → WritesReference (word_at words' k) (word_at words' l) r
+  reference r k l w = (sym (at k) ∙ w.0, number l w.1)
+
+  -- a memory type that the first four words name is the same
+  memory_type : (ty : MemoryTypeValue)
+      → NamesType (word_at words 0) (word_at words 1) (word_at words 2) (word_at words 3) ty
+      → NamesType (word_at words' 0) (word_at words' 1) (word_at words' 2) (word_at words' 3) ty
+  memory_type ty w = subst {A = ℕ → List ℕ} (λ t. NamesType (t 0) (t 1) (t 2) (t 3) ty) (λ i k. at k i) w
+
+  -- and a table type
+  table_type : (ty : TableTypeValue)
+      → NamesTableType (word_at words 0) (word_at words 1) (word_at words 2) (word_at words 3) ty
+      → NamesTableType (word_at words' 0) (word_at words' 1) (word_at words' 2) (word_at words' 3) ty
+  table_type ty w = subst {A = ℕ → List ℕ} (λ t. NamesTableType (t 0) (t 1) (t 2) (t 3) ty) (λ i k. at k i) w
+
   -- without as many of their first words they have the same texts
   pub later : (k : ℕ) → texts (drop k words) ≡ texts (drop k words')
   later k = sym (drop-map (λ word. word.now) k words) ∙ ap (drop k) same ∙ drop-map (λ word. word.now) k words'
 
   -- operands with the same texts write the same call
   retell_operands : (call : Call) → WritesOperands words call → WritesOperands words' call
-  retell_operands (SetFuel fuel) w = (as_many ∙ w.0, on 0 (λ t. WritesNumber 64 t fuel) w.1)
+  retell_operands (SetFuel fuel) w = (as_many ∙ w.0, number 0 w.1)
   retell_operands GetFuel w = as_many ∙ w
-  retell_operands (NewMemory ty) w = (
-    as_many ∙ w.0,
-    on 3 (λ t. NamesType (word_at words' 0) (word_at words' 1) (word_at words' 2) t ty)
-        (on 2 (λ t. NamesType (word_at words' 0) (word_at words' 1) t (word_at words 3) ty)
-        (on 1 (λ t. NamesType (word_at words' 0) t (word_at words 2) (word_at words 3) ty)
-        (on 0 (λ t. NamesType t (word_at words 1) (word_at words 2) (word_at words 3) ty) w.1))),
-  )
-  retell_operands (NewLentMemory ty) w = (
-    as_many ∙ w.0,
-    on 3 (λ t. NamesType (word_at words' 0) (word_at words' 1) (word_at words' 2) t ty)
-        (on 2 (λ t. NamesType (word_at words' 0) (word_at words' 1) t (word_at words 3) ty)
-        (on 1 (λ t. NamesType (word_at words' 0) t (word_at words 2) (word_at words 3) ty)
-        (on 0 (λ t. NamesType t (word_at words 1) (word_at words 2) (word_at words 3) ty) w.1))),
-  )
-  retell_operands (GrowMemory memory pages) w = (
-    as_many ∙ w.0,
-    on 0 (λ t. WritesNumber 64 t memory) w.1,
-    on 1 (λ t. WritesNumber 64 t pages) w.2,
-  )
-  retell_operands (DropMemory memory) w = (as_many ∙ w.0, sym (at 0) ∙ w.1, on 1 (λ t. WritesNumber 64 t memory) w.2)
-  retell_operands (Read memory offset len) w = (
-    as_many ∙ w.0,
-    on 0 (λ t. WritesNumber 64 t memory) w.1,
-    on 1 (λ t. WritesNumber 64 t offset) w.2,
-    on 2 (λ t. WritesNumber 64 t len) w.3,
-  )
+  retell_operands (NewMemory ty) w = (as_many ∙ w.0, memory_type ty w.1)
+  retell_operands (NewLentMemory ty) w = (as_many ∙ w.0, memory_type ty w.1)
+  retell_operands (GrowMemory memory pages) w = (as_many ∙ w.0, number 0 w.1, number 1 w.2)
+  retell_operands (DropMemory memory) w = (as_many ∙ w.0, sym (at 0) ∙ w.1, number 1 w.2)
+  retell_operands (Read memory offset len) w = (as_many ∙ w.0, number 0 w.1, number 1 w.2, number 2 w.3)
   retell_operands (Write memory offset bytes) w = (
     subst (λ n. 2 ≤ n) (sym as_many) w.0,
-    on 0 (λ t. WritesNumber 64 t memory) w.1,
-    on 1 (λ t. WritesNumber 64 t offset) w.2,
+    number 0 w.1,
+    number 1 w.2,
     retell_numbers 8 (drop 2 words) (drop 2 words') bytes.items (later 2) w.3,
   )
-  retell_operands (Load op memory ptr offset) w = (
-    as_many ∙ w.0,
-    sym (at 0) ∙ w.1,
-    on 1 (λ t. WritesNumber 64 t memory) w.2,
-    on 2 (λ t. WritesNumber 64 t ptr) w.3,
-    on 3 (λ t. WritesNumber 64 t offset) w.4,
-  )
-  retell_operands (Store op memory ptr offset value) w = (
-    as_many ∙ w.0,
-    sym (at 0) ∙ w.1,
-    on 1 (λ t. WritesNumber 64 t memory) w.2,
-    on 2 (λ t. WritesNumber 64 t ptr) w.3,
-    on 3 (λ t. WritesNumber 64 t offset) w.4,
-    w.5,
-    on 4 (λ t. WritesNumber 64 t w.5) w.6,
-    w.7,
-  )
-  retell_operands (NewTable ty init) w = (
-    as_many ∙ w.0,
-    on 3 (λ t. NamesTableType (word_at words' 0) (word_at words' 1) (word_at words' 2) t ty)
-        (on 2 (λ t. NamesTableType (word_at words' 0) (word_at words' 1) t (word_at words 3) ty)
-        (on 1 (λ t. NamesTableType (word_at words' 0) t (word_at words 2) (word_at words 3) ty)
-        (on 0 (λ t. NamesTableType t (word_at words 1) (word_at words 2) (word_at words 3) ty) w.1))),
-    on 5 (λ t. WritesReference (word_at words' 4) t init) (on 4 (λ t. WritesReference t (word_at words 5) init) w.2),
-  )
-  retell_operands (GrowTable table delta init) w = (
-    as_many ∙ w.0,
-    on 0 (λ t. WritesNumber 64 t table) w.1,
-    on 1 (λ t. WritesNumber 64 t delta) w.2,
-    on 3 (λ t. WritesReference (word_at words' 2) t init) (on 2 (λ t. WritesReference t (word_at words 3) init) w.3),
-  )
-  retell_operands (DropTable table) w = (as_many ∙ w.0, sym (at 0) ∙ w.1, on 1 (λ t. WritesNumber 64 t table) w.2)
-  retell_operands (GetElement table index) w = (
-    as_many ∙ w.0,
-    on 0 (λ t. WritesNumber 64 t table) w.1,
-    on 1 (λ t. WritesNumber 64 t index) w.2,
-  )
-  retell_operands (SetElement table index value) w = (
-    as_many ∙ w.0,
-    on 0 (λ t. WritesNumber 64 t table) w.1,
-    on 1 (λ t. WritesNumber 64 t index) w.2,
-    on 3 (λ t. WritesReference (word_at words' 2) t value) (on 2 (λ t. WritesReference t (word_at words 3) value) w.3),
-  )
-  retell_operands (InitTable table segment dst src len) w = (
-    as_many ∙ w.0,
-    on 0 (λ t. WritesNumber 64 t table) w.1,
-    on 1 (λ t. WritesNumber 64 t segment) w.2,
-    on 2 (λ t. WritesNumber 64 t dst) w.3,
-    on 3 (λ t. WritesNumber 32 t src) w.4,
-    on 4 (λ t. WritesNumber 32 t len) w.5,
-  )
-  retell_operands (CopyTable dst_table dst src_table src len) w = (
-    as_many ∙ w.0,
-    on 0 (λ t. WritesNumber 64 t dst_table) w.1,
-    on 1 (λ t. WritesNumber 64 t dst) w.2,
-    on 2 (λ t. WritesNumber 64 t src_table) w.3,
-    on 3 (λ t. WritesNumber 64 t src) w.4,
-    on 4 (λ t. WritesNumber 64 t len) w.5,
-  )
-  retell_operands (FillTable table dst value len) w = (
-    as_many ∙ w.0,
-    on 0 (λ t. WritesNumber 64 t table) w.1,
-    on 1 (λ t. WritesNumber 64 t dst) w.2,
-    on 3 (λ t. WritesReference (word_at words' 2) t value) (on 2 (λ t. WritesReference t (word_at words 3) value) w.3),
-    on 4 (λ t. WritesNumber 64 t len) w.4,
-  )
+  retell_operands (Load op memory ptr offset) w =
+      (as_many ∙ w.0, sym (at 0) ∙ w.1, number 1 w.2, number 2 w.3, number 3 w.4)
+  retell_operands (Store op memory ptr offset value) w =
+      (as_many ∙ w.0, sym (at 0) ∙ w.1, number 1 w.2, number 2 w.3, number 3 w.4, w.5, number 4 w.6, w.7)
+  retell_operands (NewTable ty init) w = (as_many ∙ w.0, table_type ty w.1, reference init 4 5 w.2)
+  retell_operands (GrowTable table delta init) w = (as_many ∙ w.0, number 0 w.1, number 1 w.2, reference init 2 3 w.3)
+  retell_operands (DropTable table) w = (as_many ∙ w.0, sym (at 0) ∙ w.1, number 1 w.2)
+  retell_operands (GetElement table index) w = (as_many ∙ w.0, number 0 w.1, number 1 w.2)
+  retell_operands (SetElement table index value) w =
+      (as_many ∙ w.0, number 0 w.1, number 1 w.2, reference value 2 3 w.3)
+  retell_operands (InitTable table segment dst src len) w =
+      (as_many ∙ w.0, number 0 w.1, number 1 w.2, number 2 w.3, number 3 w.4, number 4 w.5)
+  retell_operands (CopyTable dst_table dst src_table src len) w =
+      (as_many ∙ w.0, number 0 w.1, number 1 w.2, number 2 w.3, number 3 w.4, number 4 w.5)
+  retell_operands (FillTable table dst value len) w =
+      (as_many ∙ w.0, number 0 w.1, number 1 w.2, reference value 2 3 w.3, number 4 w.4)
   retell_operands (NewSegment ty items) w = (
     subst (λ n. 1 ≤ n) (sym as_many) w.0,
     sym (at 0) ∙ w.1,
     retell_numbers 32 (drop 1 words) (drop 1 words') items.items (later 1) w.2,
   )
-  retell_operands (DropItems segment) w = (as_many ∙ w.0, on 0 (λ t. WritesNumber 64 t segment) w.1)
-  retell_operands (NewGlobal value ty) w = (
-    as_many ∙ w.0,
-    sym (at 0) ∙ w.1,
-    sym (at 1) ∙ w.2,
-    on 2 (λ t. WritesNumber 64 t value.lo) w.3,
-    on 3 (λ t. WritesNumber 64 t value.hi) w.4,
-  )
-  retell_operands (SetGlobal global value) w = (
-    as_many ∙ w.0,
-    on 0 (λ t. WritesNumber 64 t global) w.1,
-    sym (at 1) ∙ w.2,
-    on 2 (λ t. WritesNumber 64 t value.raw.lo) w.3,
-    on 3 (λ t. WritesNumber 64 t value.raw.hi) w.4,
-  )
-  retell_operands (GetGlobal global) w = (as_many ∙ w.0, on 0 (λ t. WritesNumber 64 t global) w.1)
-  retell_operands (SetRegister dst value) w = (
-    as_many ∙ w.0,
-    on 0 (λ t. WritesNumber 8 t dst) w.1,
-    on 1 (λ t. WritesNumber 64 t value.lo) w.2,
-    on 2 (λ t. WritesNumber 64 t value.hi) w.3,
-  )
-  retell_operands (GetRegister a) w = (as_many ∙ w.0, on 0 (λ t. WritesNumber 8 t a) w.1)
-  retell_operands (Make op dst a) w = (
-    as_many ∙ w.0,
-    on 0 (λ t. NamesMake t op) w.1,
-    on 1 (λ t. WritesNumber 8 t dst) w.2,
-    on 2 (λ t. WritesNumber 8 t a) w.3,
-  )
-  retell_operands (Unary op dst a) w = (
-    as_many ∙ w.0,
-    on 0 (λ t. NamesUnary t op) w.1,
-    on 1 (λ t. WritesNumber 8 t dst) w.2,
-    on 2 (λ t. WritesNumber 8 t a) w.3,
-  )
-  retell_operands (Binary op dst a b) w = (
-    as_many ∙ w.0,
-    on 0 (λ t. NamesBinary t op) w.1,
-    on 1 (λ t. WritesNumber 8 t dst) w.2,
-    on 2 (λ t. WritesNumber 8 t a) w.3,
-    on 3 (λ t. WritesNumber 8 t b) w.4,
-  )
-  retell_operands (Ternary op dst a b c) w = (
-    as_many ∙ w.0,
-    on 0 (λ t. NamesTernary t op) w.1,
-    on 1 (λ t. WritesNumber 8 t dst) w.2,
-    on 2 (λ t. WritesNumber 8 t a) w.3,
-    on 3 (λ t. WritesNumber 8 t b) w.4,
-    on 4 (λ t. WritesNumber 8 t c) w.5,
-  )
-  retell_operands (Shift op dst a amount) w = (
-    as_many ∙ w.0,
-    on 0 (λ t. NamesShift t op) w.1,
-    on 1 (λ t. WritesNumber 8 t dst) w.2,
-    on 2 (λ t. WritesNumber 8 t a) w.3,
-    on 3 (λ t. WritesNumber 32 t amount) w.4,
-  )
-  retell_operands (Test op a) w = (as_many ∙ w.0, on 0 (λ t. NamesTest t op) w.1, on 1 (λ t. WritesNumber 8 t a) w.2)
-  retell_operands (Extract op a) w = (
-    as_many ∙ w.0,
-    on 2 (λ t. NamesExtract (word_at words' 0) t op) (on 0 (λ t. NamesExtract t (word_at words 2) op) w.1),
-    on 1 (λ t. WritesNumber 8 t a) w.2,
-  )
-  retell_operands (Replace op dst a item) w = (
-    as_many ∙ w.0,
-    on 3 (λ t. NamesReplace (word_at words' 0) t op) (on 0 (λ t. NamesReplace t (word_at words 3) op) w.1),
-    on 1 (λ t. WritesNumber 8 t dst) w.2,
-    on 2 (λ t. WritesNumber 8 t a) w.3,
-    on 4 (λ t. WritesNumber 8 t item) w.4,
-  )
+  retell_operands (DropItems segment) w = (as_many ∙ w.0, number 0 w.1)
+  retell_operands (NewGlobal value ty) w =
+      (as_many ∙ w.0, sym (at 0) ∙ w.1, sym (at 1) ∙ w.2, number 2 w.3, number 3 w.4)
+  retell_operands (SetGlobal global value) w =
+      (as_many ∙ w.0, number 0 w.1, sym (at 1) ∙ w.2, number 2 w.3, number 3 w.4)
+  retell_operands (GetGlobal global) w = (as_many ∙ w.0, number 0 w.1)
+  retell_operands (SetRegister dst value) w = (as_many ∙ w.0, number 0 w.1, number 1 w.2, number 2 w.3)
+  retell_operands (GetRegister a) w = (as_many ∙ w.0, number 0 w.1)
+  retell_operands (Make op dst a) w = (as_many ∙ w.0, named make_name op w.1, number 1 w.2, number 2 w.3)
+  retell_operands (Unary op dst a) w = (as_many ∙ w.0, named unary_name op w.1, number 1 w.2, number 2 w.3)
+  retell_operands (Binary op dst a b) w =
+      (as_many ∙ w.0, named binary_name op w.1, number 1 w.2, number 2 w.3, number 3 w.4)
+  retell_operands (Ternary op dst a b c) w =
+      (as_many ∙ w.0, named ternary_name op w.1, number 1 w.2, number 2 w.3, number 3 w.4, number 4 w.5)
+  retell_operands (Shift op dst a amount) w =
+      (as_many ∙ w.0, named shift_name op w.1, number 1 w.2, number 2 w.3, number 3 w.4)
+  retell_operands (Test op a) w = (as_many ∙ w.0, named test_name op w.1, number 1 w.2)
+  retell_operands (Extract op a) w = (as_many ∙ w.0, on_lane NamesExtract op 2 w.1, number 1 w.2)
+  retell_operands (Replace op dst a item) w =
+      (as_many ∙ w.0, on_lane NamesReplace op 3 w.1, number 1 w.2, number 2 w.3, number 4 w.4)
   retell_operands (Shuffle dst a b lanes) w = (
     subst (λ n. 3 ≤ n) (sym as_many) w.0,
-    on 0 (λ t. WritesNumber 8 t dst) w.1,
-    on 1 (λ t. WritesNumber 8 t a) w.2,
-    on 2 (λ t. WritesNumber 8 t b) w.3,
+    number 0 w.1,
+    number 1 w.2,
+    number 2 w.3,
     retell_lanes (drop 3 words) (drop 3 words') lanes (later 3) w.4,
   )
-  retell_operands (VectorLoad op dst memory ptr offset) w = (
-    as_many ∙ w.0,
-    on 0 (λ t. NamesLoad t op) w.1,
-    on 1 (λ t. WritesNumber 8 t dst) w.2,
-    on 2 (λ t. WritesNumber 64 t memory) w.3,
-    on 3 (λ t. WritesNumber 64 t ptr) w.4,
-    on 4 (λ t. WritesNumber 64 t offset) w.5,
-  )
+  retell_operands (VectorLoad op dst memory ptr offset) w =
+      (as_many ∙ w.0, named vector_load_name op w.1, number 1 w.2, number 2 w.3, number 3 w.4, number 4 w.5)
   retell_operands (LoadLane op dst a memory ptr offset) w = (
     as_many ∙ w.0,
-    on 3 (λ t. NamesLoadLane (word_at words' 0) t op) (on 0 (λ t. NamesLoadLane t (word_at words 3) op) w.1),
-    on 1 (λ t. WritesNumber 8 t dst) w.2,
-    on 2 (λ t. WritesNumber 8 t a) w.3,
-    on 4 (λ t. WritesNumber 64 t memory) w.4,
-    on 5 (λ t. WritesNumber 64 t ptr) w.5,
-    on 6 (λ t. WritesNumber 64 t offset) w.6,
+    on_lane NamesLoadLane op 3 w.1,
+    number 1 w.2,
+    number 2 w.3,
+    number 4 w.4,
+    number 5 w.5,
+    number 6 w.6,
   )
-  retell_operands (VectorStore a memory ptr offset) w = (
-    as_many ∙ w.0,
-    on 0 (λ t. WritesNumber 8 t a) w.1,
-    on 1 (λ t. WritesNumber 64 t memory) w.2,
-    on 2 (λ t. WritesNumber 64 t ptr) w.3,
-    on 3 (λ t. WritesNumber 64 t offset) w.4,
-  )
-  retell_operands (StoreLane op a memory ptr offset) w = (
-    as_many ∙ w.0,
-    on 2 (λ t. NamesStoreLane (word_at words' 0) t op) (on 0 (λ t. NamesStoreLane t (word_at words 2) op) w.1),
-    on 1 (λ t. WritesNumber 8 t a) w.2,
-    on 3 (λ t. WritesNumber 64 t memory) w.3,
-    on 4 (λ t. WritesNumber 64 t ptr) w.4,
-    on 5 (λ t. WritesNumber 64 t offset) w.5,
-  )
+  retell_operands (VectorStore a memory ptr offset) w =
+      (as_many ∙ w.0, number 0 w.1, number 1 w.2, number 2 w.3, number 3 w.4)
+  retell_operands (StoreLane op a memory ptr offset) w =
+      (as_many ∙ w.0, on_lane NamesStoreLane op 2 w.1, number 1 w.2, number 3 w.3, number 4 w.4, number 5 w.5)
 
   -- operands with the same texts write the same limiter line
   retell_limiter : (line : LimiterLine) → WritesLimiter words line → WritesLimiter words' line
-  retell_limiter (Quota line) w =
-      (as_many ∙ w.0, on 0 (λ t. WritesNumber 64 t line.bytes) w.1, on 1 (λ t. WritesNumber 64 t line.elements) w.2)
+  retell_limiter (Quota line) w = (as_many ∙ w.0, number 0 w.1, number 1 w.2)
   retell_limiter (Answers answers) w = sym same ∙ w
-  retell_limiter (Tenants line) w = (
-    as_many ∙ w.0,
-    on 0 (λ t. WritesNumber 64 t line.count) w.1,
-    w.2,
-    w.3,
-    on 1 (λ t. WritesNumber 64 t line.bytes) w.4,
-    on 2 (λ t. WritesNumber 64 t line.elements) w.5,
-  )
+  retell_limiter (Tenants line) w = (as_many ∙ w.0, number 0 w.1, w.2, w.3, number 1 w.4, number 2 w.5)
 
   -- words with the same texts name the same meter line
   retell_meter : (line : Option MeterLine) → IsSomeAnd line (NamesMeter words) → IsSomeAnd line (NamesMeter words')
   retell_meter None w = absurd w
   retell_meter (Some Off) w = (as_many ∙ w.0, sym (at 0) ∙ w.1, sym (at 1) ∙ w.2)
-  retell_meter (Some (On bytes)) w =
-      (as_many ∙ w.0, sym (at 0) ∙ w.1, sym (at 1) ∙ w.2, on 2 (λ t. WritesNumber 32 t bytes) w.3)
+  retell_meter (Some (On bytes)) w = (as_many ∙ w.0, sym (at 0) ∙ w.1, sym (at 1) ∙ w.2, number 2 w.3)
 
   -- words with the same texts name the same region line
   retell_region : (line : Option RegionLine) → IsSomeAnd line (NamesRegion words) → IsSomeAnd line (NamesRegion words')
   retell_region None w = absurd w
-  retell_region (Some line) w = (
-    as_many ∙ w.0,
-    sym (at 0)
-        ∙ w.1,
-    on 1 (λ t. WritesNumber 64 t line.len) w.2,
-    on 2 (λ t. WritesNumber 8 t line.byte) w.3,
-  )
+  retell_region (Some line) w = (as_many ∙ w.0, sym (at 0) ∙ w.1, number 1 w.2, number 2 w.3)
 
   -- words with the same texts name the same tenant
   retell_tenant : (tenants tenant : ℕ) → NamesTenant words tenants tenant → NamesTenant words' tenants tenant
-  retell_tenant tenants tenant w = (as_many ∙ w.0, sym (at 0) ∙ w.1, on 1 (λ t. WritesNumber 64 t tenant) w.2, w.3)
+  retell_tenant tenants tenant w = (as_many ∙ w.0, sym (at 0) ∙ w.1, number 1 w.2, w.3)
 
 -- a line adds the same, whatever words have its texts
 module _ (words words' : Words) (same : texts words ≡ texts words') where

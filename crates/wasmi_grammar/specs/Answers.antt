@@ -2,7 +2,7 @@
 use Rattle.std.specs.Prelude.{◌≡◌, ℕ, List, codes, map}
 use Rattle.wasmi_grammar.specs.declared.header.answers.AnswerWord.{AnswerWord}
 use Rattle.wasmi_grammar.specs.declared.header.answers.AnswerWord.TheVariants.{Permit, Deny, Error, Complain}
-use Rattle.wasmi_grammar.specs.Words.{Words}
+use Rattle.wasmi_operands.specs.Words.{Words}
 
 -- the word that stands for an answer
 abbrev pub answer_text : AnswerWord → List ℕ

@@ -3,14 +3,21 @@ use Rattle.std.specs.Prelude.{◌≡◌, ℕ, ◌≤◌, List, length, codes, dr
 use Rattle.wasmi_raw.specs.RawVal.{raw_of}
 use Rattle.wasmi_core.specs.declared.calls.Call.{Call}
 use Rattle.wasmi_core.specs.declared.calls.Call.TheVariants.{SetFuel, GetFuel, NewMemory, NewLentMemory, GrowMemory, DropMemory, Read, Write, Load, Store, NewTable, GrowTable, DropTable, GetElement, SetElement, InitTable, CopyTable, FillTable, NewSegment, DropItems, NewGlobal, SetGlobal, GetGlobal, SetRegister, GetRegister, Make, Unary, Binary, Ternary, Shift, Test, Extract, Replace, Shuffle, VectorLoad, LoadLane, VectorStore, StoreLane}
-use Rattle.wasmi_grammar.specs.Words.{Words, word_at}
-use Rattle.wasmi_grammar.specs.Numbers.{WritesNumber, WritesNumbers}
+use Rattle.wasmi_operands.specs.Words.{Words, word_at}
+use Rattle.wasmi_operands.specs.Numbers.{WritesNumber, WritesNumbers}
 use Rattle.wasmi_grammar.specs.MemoryWords.{NamesType}
 use Rattle.wasmi_grammar.specs.TableWords.{NamesTableType}
-use Rattle.wasmi_grammar.specs.TypeWords.{reference_word, value_word, mutability_word, WritesReference}
-use Rattle.wasmi_grammar.specs.AccessNames.{load_name, store_name}
-use Rattle.wasmi_grammar.specs.VectorNames.{NamesMake, NamesUnary, NamesBinary, NamesTernary, NamesShift, NamesTest, NamesLoad}
-use Rattle.wasmi_grammar.specs.LaneNames.{NamesExtract, NamesReplace, NamesLoadLane, NamesStoreLane, WritesLanes}
+use Rattle.wasmi_operands.specs.TypeWords.{reference_word, value_word, mutability_word, WritesReference}
+use Rattle.wasmi_operands.specs.AccessNames.{load_name, store_name}
+use Rattle.wasmi_operands.specs.Names.{IsName}
+use Rattle.wasmi_operands.specs.MakeNames.{make_name}
+use Rattle.wasmi_operands.specs.UnaryNames.{unary_name}
+use Rattle.wasmi_operands.specs.BinaryNames.{binary_name}
+use Rattle.wasmi_operands.specs.TernaryNames.{ternary_name}
+use Rattle.wasmi_operands.specs.ShiftNames.{shift_name}
+use Rattle.wasmi_operands.specs.TestNames.{test_name}
+use Rattle.wasmi_operands.specs.VectorLoadNames.{vector_load_name}
+use Rattle.wasmi_operands.specs.LaneNames.{NamesExtract, NamesReplace, NamesLoadLane, NamesStoreLane, WritesLanes}
 
 -- the word that a command begins with
 abbrev pub command_word : Call → List ℕ
@@ -116,20 +123,20 @@ WritesOperands words (SetRegister dst value) = (length words ≡ 3)
     × WritesNumber 8 (word_at words 0) dst × WritesNumber 64 (word_at words 1) value.lo
     × WritesNumber 64 (word_at words 2) value.hi
 WritesOperands words (GetRegister a) = (length words ≡ 1) × WritesNumber 8 (word_at words 0) a
-WritesOperands words (Make op dst a) = (length words ≡ 3) × NamesMake (word_at words 0) op
+WritesOperands words (Make op dst a) = (length words ≡ 3) × IsName make_name (word_at words 0) op
     × WritesNumber 8 (word_at words 1) dst × WritesNumber 8 (word_at words 2) a
-WritesOperands words (Unary op dst a) = (length words ≡ 3) × NamesUnary (word_at words 0) op
+WritesOperands words (Unary op dst a) = (length words ≡ 3) × IsName unary_name (word_at words 0) op
     × WritesNumber 8 (word_at words 1) dst × WritesNumber 8 (word_at words 2) a
-WritesOperands words (Binary op dst a b) = (length words ≡ 4) × NamesBinary (word_at words 0) op
+WritesOperands words (Binary op dst a b) = (length words ≡ 4) × IsName binary_name (word_at words 0) op
     × WritesNumber 8 (word_at words 1) dst × WritesNumber 8 (word_at words 2) a × WritesNumber 8 (word_at words 3) b
-WritesOperands words (Ternary op dst a b c) = (length words ≡ 5) × NamesTernary (word_at words 0) op
+WritesOperands words (Ternary op dst a b c) = (length words ≡ 5) × IsName ternary_name (word_at words 0) op
     × WritesNumber 8 (word_at words 1) dst
     × WritesNumber 8 (word_at words 2) a × WritesNumber 8 (word_at words 3) b × WritesNumber 8 (word_at words 4) c
-WritesOperands words (Shift op dst a amount) = (length words ≡ 4) × NamesShift (word_at words 0) op
+WritesOperands words (Shift op dst a amount) = (length words ≡ 4) × IsName shift_name (word_at words 0) op
     × WritesNumber 8 (word_at words 1) dst × WritesNumber 8 (word_at words 2) a
     × WritesNumber 32 (word_at words 3) amount
 WritesOperands words (Test op a) =
-    (length words ≡ 2) × NamesTest (word_at words 0) op × WritesNumber 8 (word_at words 1) a
+    (length words ≡ 2) × IsName test_name (word_at words 0) op × WritesNumber 8 (word_at words 1) a
 WritesOperands words (Extract op a) =
     (length words ≡ 3) × NamesExtract (word_at words 0) (word_at words 2) op × WritesNumber 8 (word_at words 1) a
 WritesOperands words (Replace op dst a item) = (length words ≡ 5) × NamesReplace (word_at words 0) (word_at words 3) op
@@ -137,7 +144,8 @@ WritesOperands words (Replace op dst a item) = (length words ≡ 5) × NamesRepl
 WritesOperands words (Shuffle dst a b lanes) = (3 ≤ length words)
     × WritesNumber 8 (word_at words 0) dst × WritesNumber 8 (word_at words 1) a × WritesNumber 8 (word_at words 2) b
     × WritesLanes (drop 3 words) lanes
-WritesOperands words (VectorLoad op dst memory ptr offset) = (length words ≡ 5) × NamesLoad (word_at words 0) op
+WritesOperands words (VectorLoad op dst memory ptr offset) =
+    (length words ≡ 5) × IsName vector_load_name (word_at words 0) op
     × WritesNumber 8 (word_at words 1) dst
     × WritesNumber 64 (word_at words 2) memory × WritesNumber 64 (word_at words 3) ptr
     × WritesNumber 64 (word_at words 4) offset

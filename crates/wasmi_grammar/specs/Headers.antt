@@ -10,8 +10,8 @@ use Rattle.wasmi_grammar.specs.declared.header.MeterLine.TheVariants.{Off, On}
 use Rattle.wasmi_grammar.specs.declared.header.LimiterLine.{LimiterLine}
 use Rattle.wasmi_grammar.specs.declared.header.LimiterLine.TheVariants.{Quota, Answers, Tenants}
 use Rattle.wasmi_grammar.specs.declared.header.RegionLine.{RegionLine}
-use Rattle.wasmi_grammar.specs.Words.{Words, word_at}
-use Rattle.wasmi_grammar.specs.Numbers.{WritesNumber}
+use Rattle.wasmi_operands.specs.Words.{Words, word_at}
+use Rattle.wasmi_operands.specs.Numbers.{WritesNumber}
 use Rattle.wasmi_grammar.specs.Answers.{WritesAnswers}
 
 -- the words of a line name this meter line

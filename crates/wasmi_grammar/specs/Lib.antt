@@ -1,10 +1,3 @@
-pub mod Words
-pub mod Numbers
-pub mod Acceptance
-pub mod AccessNames
-pub mod VectorNames
-pub mod LaneNames
-pub mod TypeWords
 pub mod MemoryWords
 pub mod TableWords
 pub mod Commands

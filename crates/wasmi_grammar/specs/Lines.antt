@@ -1,16 +1,12 @@
 -- What the lines of a script add to it.
-use Rattle.std.specs.Prelude.{◌≡◌, ℕ, ◌⊎◌, List, [], ◌∷◌, ◌++◌, None, IsSomeAnd, filter, length, nat_lt, ◌==◌, map}
+use Rattle.std.specs.Prelude.{◌≡◌, ℕ, ◌⊎◌, List, [], ◌∷◌, ◌++◌, None, IsSomeAnd, ◌==◌, map}
 use Rattle.std.specs.List.{slice_split}
 use Rattle.std.specs.Str.{IsUtf8}
 use Rattle.wasmi_core.specs.declared.calls.Call.{Call}
 use Rattle.wasmi_grammar.specs.declared.script.Script.{Script}
-use Rattle.wasmi_grammar.specs.Words.{Words}
+use Rattle.wasmi_operands.specs.Words.{Words, words_in}
 use Rattle.wasmi_grammar.specs.Commands.{Names}
 use Rattle.wasmi_grammar.specs.Headers.{NamesMeter, NamesLimiter, NamesRegion, NamesTenant, AreApart, tenants_of}
-
--- the words of a line: what stands between its spaces
-unfoldable pub words_in : List ℕ → List (List ℕ)
-words_in line = filter (λ word. nat_lt 0 (length word)) (slice_split (λ byte. byte == 32) line)
 
 -- no command was taken yet
 pub record HasNoCommands (script : Script) : Type 0 where

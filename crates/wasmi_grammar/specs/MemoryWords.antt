@@ -2,8 +2,8 @@
 use Rattle.std.specs.Prelude.{◌≡◌, ℕ, List, Option}
 use Rattle.wasmi_types.specs.declared.index_ty.IndexType.{IndexType}
 use Rattle.wasmi_store.specs.MemoryType.{MemoryTypeValue, IsValid, page_log2}
-use Rattle.wasmi_grammar.specs.Numbers.{WritesNumber, WritesLimit}
-use Rattle.wasmi_grammar.specs.TypeWords.{width_word}
+use Rattle.wasmi_operands.specs.Numbers.{WritesNumber, WritesLimit}
+use Rattle.wasmi_operands.specs.TypeWords.{width_word}
 
 -- a memory type, which there is, of these settings
 pub record HasSettings (index : IndexType) (minimum : ℕ) (maximum : Option ℕ) (log2 : ℕ)

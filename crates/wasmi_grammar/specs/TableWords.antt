@@ -3,8 +3,8 @@ use Rattle.std.specs.Prelude.{◌≡◌, ℕ, List, Option}
 use Rattle.wasmi_types.specs.declared.index_ty.IndexType.{IndexType}
 use Rattle.wasmi_types.specs.declared.value.RefType.{RefType}
 use Rattle.wasmi_store.specs.TableType.{TableTypeValue, IsValid}
-use Rattle.wasmi_grammar.specs.Numbers.{WritesNumber, WritesLimit}
-use Rattle.wasmi_grammar.specs.TypeWords.{width_word, reference_word}
+use Rattle.wasmi_operands.specs.Numbers.{WritesNumber, WritesLimit}
+use Rattle.wasmi_operands.specs.TypeWords.{width_word, reference_word}
 
 -- a table type, which there is, of these limits
 pub record HasLimits (index : IndexType) (element : RefType) (minimum : ℕ) (maximum : Option ℕ)

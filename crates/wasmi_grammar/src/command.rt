@@ -1,5 +1,5 @@
 //! The commands of a script, each of which is one call.
-ghost use Rattle.wasmi_grammar.specs.Acceptance.{AcceptsWithMemory};
+ghost use Rattle.wasmi_operands.specs.Acceptance.{AcceptsWithMemory};
 ghost use Rattle.wasmi_grammar.specs.Commands.{Names, NamesAfter};
 
 mod access;
@@ -14,9 +14,9 @@ mod table;
 mod vector;
 mod vector_access;
 
-use crate::line::LineError;
 use std::alloc::Global;
 use wasmi_core::Call;
+use wasmi_operands::LineError;
 
 /// The call that a line's words name. The first word says which call, the words after it are its
 /// operands.
@@ -30,7 +30,7 @@ pub fn command(alloc: Global, words: &[&str]) -> Result<Call, LineError>
 }
 
 /// The call of a command with this name and these operands.
-#[tactic(auto, using(crate::proofs::AcceptanceLemmas::with_memory))]
+#[tactic(auto, using(wasmi_operands::proofs::AcceptanceLemmas::with_memory))]
 fn named(alloc: Global, name: &str, operands: &[&str]) -> Result<Call, LineError>
     ensures { AcceptsWithMemory result (NamesAfter name.now operands.now) }
 {

@@ -1,16 +1,15 @@
 //! The header lines of a script.
 ghost use Rattle.std.specs.Prelude.{◌≡◌, codes, None, Some, IsSomeAnd, IfErr, OnOk, OnErr};
-ghost use Rattle.wasmi_grammar.specs.Acceptance.{Accepts, AcceptsWithMemory};
+ghost use Rattle.wasmi_operands.specs.Acceptance.{Accepts, AcceptsWithMemory};
 ghost use Rattle.wasmi_grammar.specs.Headers.{NamesMeter, NamesLimiter, NamesLimiterAfter, NamesRegion, AreApart, meter_of, tenants_of};
 
 mod answers;
 
-use crate::line::LineError;
-use crate::number::number;
 pub use answers::AnswerWord;
 use answers::answers_of;
 use std::alloc::Global;
 use wasmi_core::{CustomFuelCosts, Fuel, FuelCostsProvider};
+use wasmi_operands::{LineError, number};
 
 /// The most tenants that a script may have.
 const MOST_TENANTS: usize = 1024;
@@ -189,7 +188,7 @@ fn region_line(words: &[&str]) -> Result<RegionLine, LineError>
 }
 
 /// What the words of a limiter line say: the first word which limiter, the others how it answers.
-#[tactic(auto, using(crate::proofs::AcceptanceLemmas::with_memory))]
+#[tactic(auto, using(wasmi_operands::proofs::AcceptanceLemmas::with_memory))]
 fn limiter_line(alloc: Global, words: &[&str]) -> Result<LimiterLine, LineError>
     ensures { AcceptsWithMemory result (NamesLimiter words.now) }
 {

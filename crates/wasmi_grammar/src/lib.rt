@@ -5,12 +5,7 @@ mod command;
 mod error;
 mod header;
 pub mod laws;
-mod line;
-mod names;
-mod number;
-mod operand;
 mod script;
-mod types;
 
 pub use error::ParseError;
 pub use header::{AnswerWord, Header, LimiterLine, MeterLine, QuotaLine, RegionLine, TenantsLine};

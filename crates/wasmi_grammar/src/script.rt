@@ -1,6 +1,6 @@
 //! The script's lines: header lines, and then commands.
 ghost use Rattle.std.specs.Prelude.{◌≡◌, [], ℕ, ◌+◌, ◌<◌, ◌≤◌, length, vec_len, IfOk, IfErr, OnOk, OnErr, ◌≢◌};
-ghost use Rattle.wasmi_grammar.specs.Acceptance.{Accepts};
+ghost use Rattle.wasmi_operands.specs.Acceptance.{Accepts};
 ghost use Rattle.wasmi_grammar.specs.Lines.{WritesScript};
 ghost use Rattle.wasmi_grammar.specs.Refusals.{IsParseError};
 ghost use Rattle.wasmi_grammar.specs.Openings.{Opens};
@@ -9,11 +9,10 @@ ghost use Rattle.wasmi_grammar.specs.Headers.{NamesTenant};
 use crate::command::command;
 use crate::error::ParseError;
 use crate::header::Header;
-use crate::line::{LineError, read_words};
-use crate::number::number;
 use std::alloc::Global;
 use std::{mem, str};
 use wasmi_core::Call;
+use wasmi_operands::{LineError, number, read_words};
 
 /// What a script asks for.
 #[derive(Drop)]

@@ -14,7 +14,7 @@ use Rattle.wasmi_grammar.specs.declared.script.TenantRun.{TenantRun}
 use Rattle.wasmi_grammar.specs.declared.script.Script.{Script}
 use Rattle.wasmi_grammar.specs.declared.header.LimiterLine.{LimiterLine}
 use Rattle.wasmi_grammar.specs.declared.header.LimiterLine.TheVariants.{Quota, Answers, Tenants}
-use Rattle.wasmi_grammar.specs.Words.{Words}
+use Rattle.wasmi_operands.specs.Words.{Words}
 use Rattle.wasmi_grammar.specs.Headers.{tenants_of}
 use Rattle.wasmi_grammar.specs.Lines.{AddsLine, TakesLines, MakeScript}
 use Rattle.wasmi_script.specs.Replays.{AnswersParts, IsReplayUnder, IsReplayBy, IsReplayOf}

@@ -13,7 +13,7 @@ use Rattle.wasmi_core.specs.declared.calls.Reply.TheVariants.{Done, Made, Value,
 use Rattle.wasmi_script.specs.declared.error.ReplayError.{ReplayError}
 use Rattle.wasmi_script.specs.declared.error.ReplayError.TheVariants.{BadCommand, TooLong, ReadFault}
 use Rattle.wasmi_script.specs.declared.error.ReplayError.TheVariants as Errors
-use Rattle.wasmi_grammar.specs.TypeWords.{reference_word}
+use Rattle.wasmi_operands.specs.TypeWords.{reference_word}
 
 -- the word for what a call makes; only creations make anything
 abbrev pub kind_text : Call → List ℕ

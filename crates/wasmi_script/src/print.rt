@@ -1,7 +1,7 @@
 //! Replies as text.
 ghost use Rattle.std.specs.Prelude.{◌≡◌};
 ghost use Rattle.wasmi_script.specs.Texts.{kind_text};
-ghost use Rattle.wasmi_grammar.specs.TypeWords.{reference_word};
+ghost use Rattle.wasmi_operands.specs.TypeWords.{reference_word};
 
 use std::fmt;
 use wasmi_core::{Call, RefType, Reply};

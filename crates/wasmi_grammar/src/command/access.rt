@@ -1,11 +1,10 @@
 //! Commands that load from a memory or store to it.
 ghost use Rattle.std.specs.Prelude.{codes};
-ghost use Rattle.wasmi_grammar.specs.Acceptance.{Accepts};
+ghost use Rattle.wasmi_operands.specs.Acceptance.{Accepts};
 ghost use Rattle.wasmi_grammar.specs.Commands.{NamesAfter};
 
-use crate::line::LineError;
-use crate::operand;
 use wasmi_core::{Call, RawVal};
+use wasmi_operands::{LineError, operand};
 
 /// `load NAME K PTR OFFSET`.
 pub fn load(operands: &[&str]) -> Result<Call, LineError>

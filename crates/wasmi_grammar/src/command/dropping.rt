@@ -1,11 +1,10 @@
 //! Commands that drop a memory or a table.
 ghost use Rattle.std.specs.Prelude.{codes};
-ghost use Rattle.wasmi_grammar.specs.Acceptance.{Accepts};
+ghost use Rattle.wasmi_operands.specs.Acceptance.{Accepts};
 ghost use Rattle.wasmi_grammar.specs.Commands.{NamesAfter};
 
-use crate::line::LineError;
-use crate::number::number;
 use wasmi_core::Call;
+use wasmi_operands::{LineError, number};
 
 /// `drop memory K` and `drop table K`.
 pub fn drop_live(operands: &[&str]) -> Result<Call, LineError>

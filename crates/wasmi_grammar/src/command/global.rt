@@ -1,12 +1,10 @@
 //! Commands of globals.
 ghost use Rattle.std.specs.Prelude.{codes};
-ghost use Rattle.wasmi_grammar.specs.Acceptance.{Accepts};
+ghost use Rattle.wasmi_operands.specs.Acceptance.{Accepts};
 ghost use Rattle.wasmi_grammar.specs.Commands.{NamesAfter};
 
-use crate::line::LineError;
-use crate::number::number;
-use crate::operand;
 use wasmi_core::{Call, GlobalType, RawVal, TypedRawVal};
+use wasmi_operands::{LineError, number, operand};
 
 /// `global V const|var LO HI`.
 pub fn new_global(operands: &[&str]) -> Result<Call, LineError>

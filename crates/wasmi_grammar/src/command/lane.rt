@@ -1,14 +1,13 @@
 //! Commands of vector instructions that take indices of lanes.
 ghost use Rattle.std.specs.Prelude.{codes};
-ghost use Rattle.wasmi_grammar.specs.Acceptance.{Accepts};
+ghost use Rattle.wasmi_operands.specs.Acceptance.{Accepts};
 ghost use Rattle.wasmi_grammar.specs.Commands.{NamesAfter};
-ghost use Rattle.wasmi_grammar.specs.LaneNames.{WritesLanes};
+ghost use Rattle.wasmi_operands.specs.LaneNames.{WritesLanes};
 
-use crate::line::LineError;
-use crate::names::lane::{extract_op, index, replace_op};
-use crate::number::number;
 use wasmi_core::Call;
 use wasmi_core::simd::ImmLaneIdx32;
+use wasmi_operands::names::lane::{extract_op, index, replace_op};
+use wasmi_operands::{LineError, number};
 
 /// `extract NAME A LANE`.
 pub fn extract(operands: &[&str]) -> Result<Call, LineError>

@@ -1,16 +1,13 @@
 //! Commands of memories.
 ghost use Rattle.std.specs.Prelude.{◌≡◌, codes, IfErr, IfOk};
-ghost use Rattle.wasmi_grammar.specs.Acceptance.{Accepts, AcceptsWithMemory};
+ghost use Rattle.wasmi_operands.specs.Acceptance.{Accepts, AcceptsWithMemory};
 ghost use Rattle.wasmi_grammar.specs.Commands.{NamesAfter};
 ghost use Rattle.wasmi_grammar.specs.MemoryWords.{HasSettings, NamesType};
-ghost use Rattle.wasmi_grammar.specs.Numbers.{AreNumbers, WritesNumbers};
+ghost use Rattle.wasmi_operands.specs.Numbers.{AreNumbers, WritesNumbers};
 
-use crate::line::LineError;
-use crate::number::{number, number_or_none};
-use crate::operand;
-use crate::types::index_ty;
 use std::alloc::Global;
 use wasmi_core::{Call, IndexType, MemoryType};
+use wasmi_operands::{LineError, index_ty, number, number_or_none, operand};
 
 /// `memory MIN MAX LOG2 WIDTH`.
 pub fn new_memory(operands: &[&str]) -> Result<Call, LineError>

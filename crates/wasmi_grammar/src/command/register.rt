@@ -1,12 +1,10 @@
 //! Commands of the registers.
 ghost use Rattle.std.specs.Prelude.{codes};
-ghost use Rattle.wasmi_grammar.specs.Acceptance.{Accepts};
+ghost use Rattle.wasmi_operands.specs.Acceptance.{Accepts};
 ghost use Rattle.wasmi_grammar.specs.Commands.{NamesAfter};
 
-use crate::line::LineError;
-use crate::number::number;
-use crate::operand;
 use wasmi_core::{Call, RawVal};
+use wasmi_operands::{LineError, number, operand};
 
 /// `set D LO HI`.
 pub fn set(operands: &[&str]) -> Result<Call, LineError>

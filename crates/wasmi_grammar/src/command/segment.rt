@@ -1,14 +1,12 @@
 //! Commands of element segments.
 ghost use Rattle.std.specs.Prelude.{◌≡◌, codes, IfErr, IfOk};
-ghost use Rattle.wasmi_grammar.specs.Acceptance.{Accepts, AcceptsWithMemory};
+ghost use Rattle.wasmi_operands.specs.Acceptance.{Accepts, AcceptsWithMemory};
 ghost use Rattle.wasmi_grammar.specs.Commands.{NamesAfter};
-ghost use Rattle.wasmi_grammar.specs.Numbers.{AreNumbers, WritesNumbers};
+ghost use Rattle.wasmi_operands.specs.Numbers.{AreNumbers, WritesNumbers};
 
-use crate::line::LineError;
-use crate::number::number;
-use crate::types::{raw_reference, ref_type};
 use std::alloc::Global;
 use wasmi_core::{Call, RawRef};
+use wasmi_operands::{LineError, number, raw_reference, ref_type};
 
 /// `segment T N ...`, which may have no reference.
 pub fn new_segment(alloc: Global, operands: &[&str]) -> Result<Call, LineError>

@@ -1,15 +1,12 @@
 //! Commands of tables.
 ghost use Rattle.std.specs.Prelude.{◌≡◌, ◌<◌, ◌^◌, codes, IfErr};
 ghost use Rattle.std.specs.Result.{OkIff};
-ghost use Rattle.wasmi_grammar.specs.Acceptance.{Accepts};
+ghost use Rattle.wasmi_operands.specs.Acceptance.{Accepts};
 ghost use Rattle.wasmi_grammar.specs.Commands.{NamesAfter};
 ghost use Rattle.wasmi_grammar.specs.TableWords.{HasLimits, NamesTableType};
 
-use crate::line::LineError;
-use crate::number::{number, number_or_none};
-use crate::operand;
-use crate::types::{index_ty, ref_type, reference};
 use wasmi_core::{Call, IndexType, RefType, TableType, TypedRawRef};
+use wasmi_operands::{LineError, index_ty, number, number_or_none, operand, ref_type, reference};
 
 /// `table T MIN X WIDTH T N`.
 pub fn new_table(operands: &[&str]) -> Result<Call, LineError>

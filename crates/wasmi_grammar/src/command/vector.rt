@@ -1,11 +1,10 @@
 //! Commands of vector instructions whose operands are registers.
 ghost use Rattle.std.specs.Prelude.{codes};
-ghost use Rattle.wasmi_grammar.specs.Acceptance.{Accepts};
+ghost use Rattle.wasmi_operands.specs.Acceptance.{Accepts};
 ghost use Rattle.wasmi_grammar.specs.Commands.{NamesAfter};
 
-use crate::line::LineError;
-use crate::operand;
 use wasmi_core::Call;
+use wasmi_operands::{LineError, operand};
 
 /// `make NAME D A`.
 pub fn make(operands: &[&str]) -> Result<Call, LineError>

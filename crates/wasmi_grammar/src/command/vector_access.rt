@@ -1,13 +1,11 @@
 //! Commands that load a vector or a lane from a memory, or store it there.
 ghost use Rattle.std.specs.Prelude.{codes};
-ghost use Rattle.wasmi_grammar.specs.Acceptance.{Accepts};
+ghost use Rattle.wasmi_operands.specs.Acceptance.{Accepts};
 ghost use Rattle.wasmi_grammar.specs.Commands.{NamesAfter};
 
-use crate::line::LineError;
-use crate::names::lane::{load_lane_op, store_lane_op};
-use crate::number::number;
-use crate::operand;
 use wasmi_core::Call;
+use wasmi_operands::names::lane::{load_lane_op, store_lane_op};
+use wasmi_operands::{LineError, number, operand};
 
 /// `vload NAME D K PTR OFFSET`.
 pub fn load(operands: &[&str]) -> Result<Call, LineError>

@@ -1,10 +1,10 @@
 //! The words of an `answers` line.
 ghost use Rattle.std.specs.Prelude.{◌≡◌};
-ghost use Rattle.wasmi_grammar.specs.Acceptance.{Accepts, AcceptsWithMemory};
+ghost use Rattle.wasmi_operands.specs.Acceptance.{Accepts, AcceptsWithMemory};
 ghost use Rattle.wasmi_grammar.specs.Answers.{WritesAnswers, answer_text};
 
-use crate::line::LineError;
 use std::alloc::Global;
+use wasmi_operands::LineError;
 
 /// What an `answers` line says of one question to the limiter.
 #[derive(Clone, Copy)]

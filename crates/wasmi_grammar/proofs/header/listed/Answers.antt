@@ -3,11 +3,11 @@ use Rattle.std.specs.Global.{Vec}
 use Rattle.wasmi_grammar.specs.declared.header.answers.AnswerWord.{AnswerWord}
 use Rattle.wasmi_grammar.specs.declared.header.LimiterLine.{LimiterLine}
 use Rattle.wasmi_grammar.specs.declared.header.LimiterLine.TheVariants.{Quota, Answers, Tenants}
-use Rattle.wasmi_grammar.specs.Acceptance.{AcceptsWithMemory}
+use Rattle.wasmi_operands.specs.Acceptance.{AcceptsWithMemory}
 use Rattle.wasmi_grammar.specs.Answers.{WritesAnswers}
 use Rattle.wasmi_grammar.specs.Headers.{NamesLimiterAfter}
-use Rattle.wasmi_grammar.specs.Words.{Words}
-use Rattle.wasmi_grammar.proofs.AcceptanceLemmas.{refused_with_memory}
+use Rattle.wasmi_operands.specs.Words.{Words}
+use Rattle.wasmi_operands.proofs.AcceptanceLemmas.{refused_with_memory}
 use Rattle.wasmi_grammar.proofs.header.listed.Goals as goal
 
 -- a line of answers has the words of answers

@@ -5,7 +5,8 @@ use Rattle.std.proofs.lemmas.Simd.{map-map}
 use Rattle.std.proofs.lemmas.Iterator.Consumers.{YieldsList-at, YieldsList-so_far, YieldsList-turn, YieldsList-end, YieldsList-from_enumerate}
 use Rattle.std.proofs.lemmas.Iterator.Splits.{YieldsList-from_slice_split}
 use Rattle.std.specs.List.{slice_split}
-use Rattle.wasmi_grammar.specs.Lines.{TakesLine, TakesLines, lines_in, words_in}
+use Rattle.wasmi_operands.specs.Words.{words_in}
+use Rattle.wasmi_grammar.specs.Lines.{TakesLine, TakesLines, lines_in}
 use Rattle.wasmi_grammar.proofs.TextsLemmas.{retell}
 use Rattle.wasmi_grammar.proofs.ScriptLemmas.{one_more, without_numbers, lines_at}
 use Rattle.wasmi_grammar.proofs.script.parse.Goals as goal

@@ -1,13 +1,13 @@
 use Rattle.std.proofs.Common.{◌≡◌, ◌<◌, ◌^◌, Bor, ℕ, List, Result, Ok, Err, IfErr, IfOk, length, rules, subst}
 use Rattle.std.proofs.lemmas.Result.{IfErr-weaker, IfOk-weaker}
 use Rattle.std.specs.List.{IsAmong}
-use Rattle.wasmi_grammar.specs.declared.line.LineError.{LineError}
-use Rattle.wasmi_grammar.specs.declared.line.LineError.TheVariants.{BadCommand, OutOfMemory}
-use Rattle.wasmi_grammar.specs.Acceptance.{Accepts}
-use Rattle.wasmi_grammar.specs.LaneNames.{WritesLanes}
-use Rattle.wasmi_grammar.specs.Numbers.{IsDecimal, decimal_value, AreNumbers, WritesNumber, WritesNumbers}
-use Rattle.wasmi_grammar.specs.Words.{Words}
-use Rattle.wasmi_grammar.proofs.NumbersLemmas.{no_numbers, numbers_of}
+use Rattle.wasmi_operands.specs.declared.error.LineError.{LineError}
+use Rattle.wasmi_operands.specs.declared.error.LineError.TheVariants.{BadCommand, OutOfMemory}
+use Rattle.wasmi_operands.specs.Acceptance.{Accepts}
+use Rattle.wasmi_operands.specs.LaneNames.{WritesLanes}
+use Rattle.wasmi_operands.specs.Numbers.{IsDecimal, decimal_value, AreNumbers, WritesNumber, WritesNumbers}
+use Rattle.wasmi_operands.specs.Words.{Words}
+use Rattle.wasmi_operands.proofs.NumbersLemmas.{no_numbers, numbers_of}
 use Rattle.wasmi_grammar.proofs.command.lane.lanes_of.Goals as goal
 
 -- sixteen words are accepted where each of them writes a lane

@@ -1,6 +1,6 @@
 use Rattle.std.proofs.Common.{sym, subst}
-use Rattle.wasmi_grammar.specs.Numbers.{WritesNumbers}
-use Rattle.wasmi_grammar.proofs.NumbersLemmas.{one_number}
+use Rattle.wasmi_operands.specs.Numbers.{WritesNumbers}
+use Rattle.wasmi_operands.proofs.NumbersLemmas.{one_number}
 use Rattle.wasmi_grammar.proofs.command.segment.references_of.Goals as goal
 
 pub loop-word-preserved : goal.loop-word-preserved

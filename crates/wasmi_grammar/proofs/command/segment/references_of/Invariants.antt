@@ -1,5 +1,5 @@
 use Rattle.std.proofs.Common.{take}
-use Rattle.wasmi_grammar.specs.Numbers.{WritesNumbers}
+use Rattle.wasmi_operands.specs.Numbers.{WritesNumbers}
 use Rattle.wasmi_grammar.proofs.command.segment.references_of.Given as goal
 
 abbrev pub invariant-loop-word : goal.invariant-loop-word

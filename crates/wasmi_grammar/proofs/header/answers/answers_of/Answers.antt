@@ -1,5 +1,5 @@
 use Rattle.std.proofs.Common.{◌≡◌, Err, rules, sym, subst}
-use Rattle.wasmi_grammar.specs.Acceptance.{AcceptsWithMemory}
+use Rattle.wasmi_operands.specs.Acceptance.{AcceptsWithMemory}
 use Rattle.wasmi_grammar.specs.Answers.{WritesAnswers}
 use Rattle.wasmi_grammar.proofs.AnswersLemmas.{one_answer, no_answers}
 use Rattle.wasmi_grammar.proofs.header.answers.answers_of.Goals as goal

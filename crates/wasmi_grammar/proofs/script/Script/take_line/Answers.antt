@@ -1,6 +1,6 @@
 use Rattle.std.proofs.Common.{refl}
 use Rattle.std.proofs.lemmas.Result.{IfErr-weaker}
-use Rattle.wasmi_grammar.proofs.AcceptanceLemmas.{on_refusal}
+use Rattle.wasmi_operands.proofs.AcceptanceLemmas.{on_refusal}
 use Rattle.wasmi_grammar.proofs.LinesLemmas.{no_meter_line, no_limiter_line, no_region_line, no_call_line, no_part_line}
 use Rattle.wasmi_grammar.proofs.script.Script.take_line.Goals as goal
 

@@ -1,0 +1,5 @@
+pub mod AcceptanceLemmas
+pub mod NamesLemmas
+pub mod NumbersLemmas
+pub mod TypeWordsLemmas
+pub mod LaneNamesLemmas

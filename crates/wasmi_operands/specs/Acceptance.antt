@@ -1,0 +1,16 @@
+-- What is taken of a line, and what is a bad command.
+use Rattle.std.specs.Prelude.{Result, Ok, Err, ⊤}
+use Rattle.wasmi_operands.specs.declared.error.LineError.{LineError}
+use Rattle.wasmi_operands.specs.declared.error.LineError.TheVariants.{BadCommand, OutOfMemory}
+
+-- what is accepted is meant, and what is refused is a bad command: nothing is meant
+abbrev pub Accepts : {A : Type 0} → Result A LineError → (A → Type 0) → Type 0
+Accepts (Ok a) Means = Means a
+Accepts (Err BadCommand) Means = (a : _) → ¬ (Means a)
+Accepts (Err OutOfMemory) Means = ⊥
+
+-- the same where memory is taken, which may be wanting
+abbrev pub AcceptsWithMemory : {A : Type 0} → Result A LineError → (A → Type 0) → Type 0
+AcceptsWithMemory (Ok a) Means = Means a
+AcceptsWithMemory (Err BadCommand) Means = (a : _) → ¬ (Means a)
+AcceptsWithMemory (Err OutOfMemory) Means = ⊤
