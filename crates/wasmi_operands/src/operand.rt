@@ -23,9 +23,7 @@ use wasmi_raw::RawRef;
 use wasmi_scalar_ops::{LoadOp, StoreOp};
 use wasmi_typed::Mutability;
 use wasmi_types::{RefType, ValType};
-use wasmi_vector_ops::{
-    BinaryOp, MakeOp, ShiftOp, TernaryOp, TestOp, UnaryOp, VectorLoadOp,
-};
+use wasmi_vector_ops::{BinaryOp, MakeOp, ShiftOp, TernaryOp, TestOp, UnaryOp, VectorLoadOp};
 
 /// What one word of a command can write.
 pub trait Operand: Copy {
