@@ -22,12 +22,12 @@ use Rattle.wasmi_core.specs.Runs.{Run, IsRunOf}
 use Rattle.wasmi_core.specs.Determinism.{IsDeterministic, AcceptsNotices, HasMemory}
 use Rattle.wasmi_core.proofs.CarryingLemmas.{carried}
 use Rattle.wasmi_core.proofs.DeterminismLemmas.{unlimited_once, quota_once}
-use Rattle.wasmi_core.proofs.ToldLemmas.{replies_are_one, unlimited_accepts, quota_accepts}
+use Rattle.wasmi_core.proofs.ToldLemmas.{SeenRun, replies_are_one, unlimited_accepts, quota_accepts}
 use Rattle.wasmi_budget.specs.Pool.{PoolValue, RunsTenant, tenant_at}
 use Rattle.wasmi_budget.specs.Tenant.{tenant_rules}
 use Rattle.wasmi_script.specs.declared.error.ReplayError.TheVariants.{BadCommand, TooLong, OutOfMemory, ReadFault}
-use Rattle.wasmi_script.specs.declared.replaying.Ran.{Ran}
-use Rattle.wasmi_script.specs.declared.replaying.Held.TheVariants as holding
+use Rattle.wasmi_script.specs.declared.running.Ran.{Ran}
+use Rattle.wasmi_script.specs.declared.running.Held.TheVariants as holding
 use Rattle.wasmi_grammar.specs.declared.script.TenantRun.{TenantRun}
 use Rattle.wasmi_grammar.specs.declared.script.Script.{Script}
 use Rattle.wasmi_grammar.specs.declared.header.Header.{Header}
@@ -146,8 +146,7 @@ module _ {S : Type 0} (rules : Rules S) where
         meter = step.meter;
         limiter = step.limiter;
         effect = step.effect;
-        wrote =
-            step.wrote;
+        wrote = step.wrote;
         after = step.after;
       }
   retold_effect w turn w' other (TableGrown k n init) step =
@@ -156,8 +155,7 @@ module _ {S : Type 0} (rules : Rules S) where
         meter = step.meter;
         limiter = step.limiter;
         effect = step.effect;
-        wrote =
-            step.wrote;
+        wrote = step.wrote;
         after = step.after;
       }
   retold_effect w turn w' other (PartWritten k source dst len) step =
@@ -206,17 +204,15 @@ HaveBoth replies replies' = All HasMemory replies × All HasMemory replies'
 -- two runs of calls that say the same, from one machine under one limiter that leaves no choice and accepts each notice
 module _ {L : Type 0} (rules : Rules L) (once : IsDeterministic rules) (accepts : AcceptsNotices rules) where
   -- where neither tells of want of memory, both have the same replies and end alike
-  run_once : (calls calls' : List Call) (w v v' : World (Option L)) (replies replies' : List Reply)
-      → map call_said calls ≡ map call_said calls'
-      → IsRunOf (optional_rules rules) calls w replies v → IsRunOf (optional_rules rules) calls' w replies' v'
-      → HaveBoth replies replies' → (replies ≡ replies') × (v ≡ v')
-  run_once calls calls' w v v' replies replies' same ran ran' has =
-      replies_are_one rules accepts once calls w (record { replies = replies; after = v; has = has.0; ran = ran })
-      (record {
-        replies = replies';
-        after = v';
-        has = has.1;
-        ran = retold (optional_rules rules) calls calls' w v' replies' same ran';
+  run_once : (calls calls' : List Call) (w : World (Option L)) → map call_said calls ≡ map call_said calls'
+      → (a : SeenRun (optional_rules rules) calls w) (b : SeenRun (optional_rules rules) calls' w)
+      → (a.replies ≡ b.replies) × (a.after ≡ b.after)
+  run_once calls calls' w same a b =
+      replies_are_one rules accepts once calls w a (record {
+        replies = b.replies;
+        after = b.after;
+        has = b.has;
+        ran = retold (optional_rules rules) calls calls' w b.after b.replies same b.ran;
       })
 
 -- scripts that say the same start with the same machine
@@ -272,8 +268,9 @@ under_once : (limiter : Option LimiterLine) (start : State) (calls calls' : List
     → IsReplayUnder limiter start calls' ran'
     → HaveBoth ran.replies.items ran'.replies.items → SameRan ran ran'
 under_once None start calls calls' ran ran' none same (held, after, run) (held', after', run') has = record {
-  replies = (run_once unlimited_rules unlimited_once unlimited_accepts calls calls' _ after after' ran.replies.items
-      ran'.replies.items same run run' has).0;
+  replies = (run_once unlimited_rules unlimited_once unlimited_accepts calls calls' _ same
+      (record { replies = ran.replies.items; after = after; has = has.0; ran = run })
+      (record { replies = ran'.replies.items; after = after'; has = has.1; ran = run' })).0;
   held = ap held_text (held ∙ sym held');
 }
 under_once (Some (Quota asked)) start calls calls' ran ran' none same (quota, new, end, after, run, totals, held)
@@ -282,8 +279,9 @@ under_once (Some (Quota asked)) start calls calls' ran ran' none same (quota, ne
     (record { state = start; limiter = Some q })
     ran'.replies.items (record { state = end'; limiter = Some after' }))
     (sym (new_quotas asked quota quota' new new')) run' in
-    let one = run_once quota_rules quota_once quota_accepts calls calls' _ _ _ ran.replies.items ran'.replies.items same
-    run again has in
+    let one = run_once quota_rules quota_once quota_accepts calls calls' _ same
+    (record { replies = ran.replies.items; after = _; has = has.0; ran = run })
+    (record { replies = ran'.replies.items; after = _; has = has.1; ran = again }) in
     let limiters : Some after ≡ Some after' = ap (λ (w : World (Option quotas.Quota)). w.limiter) one.1 in
     let afters : after ≡ after' = cc in
     record {
@@ -316,51 +314,72 @@ before_parts (part ∷ parts) pool pool' replies replies' (between, middle, (ans
     earlier_have HasMemory replies answered
     (subst (All HasMemory) is (before_parts parts middle pool' between replies' later has))
 
+-- a run of a tenant whose replies tell of no want of memory
+record TenantRan (pool : PoolValue) (tenant : ℕ) (calls : List Call) : Type 0 where
+  pub replies : List Reply
+  pub after : PoolValue
+  pub has : All HasMemory replies
+  pub ran : RunsTenant pool tenant calls replies after
+
+-- runs of parts, whose replies come after some and tell of no want of memory
+record PartsRan (pool : PoolValue) (parts : List TenantRun) (before : List Reply) : Type 0 where
+  pub replies : List Reply
+  pub after : PoolValue
+  pub has : All HasMemory replies
+  pub ran : AnswersParts pool parts before replies after
+
 -- the runs of tenants, one after the other
 module _ (once : IsDeterministic tenant_rules) where
   -- two runs of a tenant by calls that say the same have the same replies and leave the same pool
-  tenant_once : (pool middle middle' : PoolValue) (tenant : ℕ) (calls calls' : List Call)
-      (replies replies' : List Reply) → map call_said calls ≡ map call_said calls'
-      → RunsTenant pool tenant calls replies middle → RunsTenant pool tenant calls' replies' middle'
-      → HaveBoth replies replies'
-      → (replies ≡ replies') × (middle ≡ middle')
-  tenant_once pool middle middle' tenant calls calls' replies replies' same ran ran' has =
+  tenant_once : (pool : PoolValue) (tenant : ℕ) (calls calls' : List Call) → map call_said calls ≡ map call_said calls'
+      → (a : TenantRan pool tenant calls) (b : TenantRan pool tenant calls')
+      → (a.replies ≡ b.replies) × (a.after ≡ b.after)
+  tenant_once pool tenant calls calls' same a b =
+      let ran = a.ran in
+      let ran' = b.ran in
       let found : Some ran'.machine ≡ Some ran.machine = sym ran'.found ∙ ran.found in
       let machine : ran'.machine ≡ ran.machine = cc in
       let again = subst (λ (s : State). IsRunOf (optional_rules tenant_rules) calls'
       (record { state = s; limiter = Some (tenant_at pool tenant s) })
-      replies' (record { state = ran'.machine'; limiter = Some ran'.tenant' })) machine ran'.ran in
-      let one = run_once tenant_rules once
-      (λ l failure notice_answer l' noticed. noticed.0) calls calls' _ _ _ replies replies' same ran.ran again has in (
+      b.replies (record { state = ran'.machine'; limiter = Some ran'.tenant' })) machine ran'.ran in
+      let one = run_once tenant_rules once (λ l failure notice_answer l' noticed. noticed.0) calls calls' _ same
+      (record { replies = a.replies; after = _; has = a.has; ran = ran.ran })
+      (record { replies = b.replies; after = _; has = b.has; ran = again }) in (
         one.0,
         ran.after ∙ (λ i. record pool { machines = slice_set pool.machines tenant (one.1 i).state })
             ∙ sym ran'.after,
       )
 
   -- two runs of parts that say the same have the same replies and leave the same pool
-  parts_once : (parts parts' : List TenantRun) (pool last last' : PoolValue) (replies given given' : List Reply)
+  parts_once : (parts parts' : List TenantRun) (pool : PoolValue) (before : List Reply)
       → map part_said parts ≡ map part_said parts'
-      → AnswersParts pool parts replies given last → AnswersParts pool parts' replies given' last'
-      → HaveBoth given given'
-      → (given ≡ given') × (last ≡ last')
-  parts_once [] [] pool last last' replies given given' same is is' has = (is.0 ∙ sym is'.0, is.1 ∙ sym is'.1)
-  parts_once [] (part' ∷ parts') pool last last' replies given given' same is is' has = absurd cc
-  parts_once (part ∷ parts) [] pool last last' replies given given' same is is' has = absurd cc
-  parts_once (part ∷ parts) (part' ∷ parts') pool last last' replies given given' same
-      (between, middle, (answered, is, ran), later) (between', middle', (answered', is', ran'), later') has =
+      → (a : PartsRan pool parts before) (b : PartsRan pool parts' before)
+      → (a.replies ≡ b.replies) × (a.after ≡ b.after)
+  parts_once [] [] pool before same a b = (a.ran.0 ∙ sym b.ran.0, a.ran.1 ∙ sym b.ran.1)
+  parts_once [] (part' ∷ parts') pool before same a b = absurd cc
+  parts_once (part ∷ parts) [] pool before same a b = absurd cc
+  parts_once (part ∷ parts) (part' ∷ parts') pool before same a b =
+      let (between, middle, (answered, is, ran), later) = a.ran in
+      let (between', middle', (answered', is', ran'), later') = b.ran in
       let here : part_said part ≡ part_said part' = cc in
       let rest : map part_said parts ≡ map part_said parts' = cc in
       let tenant = ap PartSaid.tenant here in
-      let now = subst (All HasMemory) is (before_parts parts middle last between given later has.0) in
-      let now' = subst (All HasMemory) is' (before_parts parts' middle' last' between' given' later' has.1) in
-      let one = tenant_once pool middle middle' part.tenant part.calls.items part'.calls.items answered answered'
-      (ap PartSaid.calls here) ran
-      (subst (λ k. RunsTenant pool k part'.calls.items answered' middle') (sym tenant) ran')
-      (later_have HasMemory replies answered now, later_have HasMemory replies answered' now') in
-      let joined : between' ≡ between = is' ∙ ap (λ a. replies ++ a) (sym one.0) ∙ sym is in
-      let again = subst (λ b. AnswersParts middle parts' b given' last') joined
-      (subst (λ (p : PoolValue). AnswersParts p parts' between' given' last') (sym one.1) later') in
-      parts_once parts parts' middle last last' between given given' rest later again has
+      let now = subst (All HasMemory) is (before_parts parts middle a.after between a.replies later a.has) in
+      let now' = subst (All HasMemory) is' (before_parts parts' middle' b.after between' b.replies later' b.has) in
+      let one = tenant_once pool part.tenant part.calls.items part'.calls.items (ap PartSaid.calls here)
+      (record { replies = answered; after = middle; has = later_have HasMemory before answered now; ran = ran })
+      (record {
+        replies = answered';
+        after = middle';
+        has = later_have HasMemory before answered' now';
+        ran = subst (λ k. RunsTenant pool k part'.calls.items answered' middle') (sym tenant) ran';
+      }) in
+      let joined : between' ≡ between = is' ∙ ap (λ a. before ++ a) (sym one.0) ∙ sym is in
+      let again = subst (λ between. AnswersParts middle parts' between b.replies b.after) joined
+      (subst (λ (p : PoolValue). AnswersParts p parts' between' b.replies b.after) (sym one.1) later') in
+      parts_once parts parts' middle between rest
+      (record { replies = a.replies; after = a.after; has = a.has; ran = later })
+      (record { replies = b.replies; after = b.after; has = b.has; ran = again })
 
   -- replays of scripts that say the same, by the limiter line
   by_once : (limiter : Option LimiterLine) (script script' : Script) (ran ran' : Ran) → HasNoAnswers limiter
@@ -395,9 +414,9 @@ module _ (once : IsDeterministic tenant_rules) where
         ap (λ (m : Option MeterLine). option_map_or meter_said m meter_off) (ap ScriptSaid.meter (sym same)) in
         let again = subst (λ m. AnswersParts (new_pool asked (new_state m))
         (script'.earlier.items ++ part' ∷ []) [] ran'.replies.items pool') meters answers' in
-        let one = parts_once (script.earlier.items ++ part ∷ [])
-        (script'.earlier.items ++ part' ∷ []) _ pool pool' [] ran.replies.items ran'.replies.items parts answers
-        again has in
+        let one = parts_once (script.earlier.items ++ part ∷ []) (script'.earlier.items ++ part' ∷ []) _ [] parts
+        (record { replies = ran.replies.items; after = pool; has = has.0; ran = answers })
+        (record { replies = ran'.replies.items; after = pool'; has = has.1; ran = again }) in
         record { replies = one.0; held = ap held_text (held ∙ ap holding.Tenants one.1 ∙ sym held') }
 
   -- limiter lines but `answers` say all that they are

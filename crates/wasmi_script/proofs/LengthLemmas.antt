@@ -20,7 +20,7 @@ use Rattle.wasmi_store.specs.declared.table.element.SegmentError.{SegmentError}
 use Rattle.wasmi_store.specs.declared.table.element.SegmentError.TheVariants as segment
 use Rattle.wasmi_store.specs.SegmentError.{segment_error_text}
 use Rattle.wasmi_core.specs.declared.calls.Call.{Call}
-use Rattle.wasmi_core.specs.declared.calls.Call.TheVariants.{SetFuel, GetFuel, NewMemory, NewLentMemory, GrowMemory, DropMemory, Read, Write, Load, Store, NewTable, GrowTable, DropTable, GetElement, SetElement, InitTable, CopyTable, FillTable, NewSegment, DropItems, NewGlobal, SetGlobal, GetGlobal, SetRegister, GetRegister, Make, Unary, Binary, Ternary, Shift, Test, Extract, Replace, Shuffle, VectorLoad, LoadLane, VectorStore, StoreLane}
+use Rattle.wasmi_core.specs.declared.calls.Call.TheVariants.{GetFuel}
 use Rattle.wasmi_core.specs.declared.calls.Reply.{Reply}
 use Rattle.wasmi_core.specs.declared.calls.Reply.TheVariants.{Done, Made, Value, Number, Bytes, Reference, Memory, Table, Fuel, Global, Segment, Trap, NoSuch, NoRegion, NoRoom}
 use Rattle.wasmi_script.specs.declared.error.ReplayError.{ReplayError}
@@ -49,44 +49,8 @@ decimal_short n = digits_short 64 10 false n []
 
 -- the word for what a call makes
 kind_short : (call : Call) → length (kind_text call) ≤ 7
-kind_short (SetFuel fuel) = lit≤ tt
 kind_short GetFuel = lit≤ tt
-kind_short (NewMemory ty) = lit≤ tt
-kind_short (NewLentMemory ty) = lit≤ tt
-kind_short (GrowMemory memory pages) = lit≤ tt
-kind_short (DropMemory memory) = lit≤ tt
-kind_short (Read memory offset len) = lit≤ tt
-kind_short (Write memory offset bytes) = lit≤ tt
-kind_short (Load op memory ptr offset) = lit≤ tt
-kind_short (Store op memory ptr offset value) = lit≤ tt
-kind_short (NewTable ty init) = lit≤ tt
-kind_short (GrowTable table delta init) = lit≤ tt
-kind_short (DropTable table) = lit≤ tt
-kind_short (GetElement table index) = lit≤ tt
-kind_short (SetElement table index value) = lit≤ tt
-kind_short (InitTable table segment dst src len) = lit≤ tt
-kind_short (CopyTable dst_table dst src_table src len) = lit≤ tt
-kind_short (FillTable table dst value len) = lit≤ tt
-kind_short (NewSegment ty items) = lit≤ tt
-kind_short (DropItems segment) = lit≤ tt
-kind_short (NewGlobal value ty) = lit≤ tt
-kind_short (SetGlobal global value) = lit≤ tt
-kind_short (GetGlobal global) = lit≤ tt
-kind_short (SetRegister dst value) = lit≤ tt
-kind_short (GetRegister a) = lit≤ tt
-kind_short (Make op dst a) = lit≤ tt
-kind_short (Unary op dst a) = lit≤ tt
-kind_short (Binary op dst a b) = lit≤ tt
-kind_short (Ternary op dst a b c) = lit≤ tt
-kind_short (Shift op dst a amount) = lit≤ tt
-kind_short (Test op a) = lit≤ tt
-kind_short (Extract op a) = lit≤ tt
-kind_short (Replace op dst a item) = lit≤ tt
-kind_short (Shuffle dst a b lanes) = lit≤ tt
-kind_short (VectorLoad op dst memory ptr offset) = lit≤ tt
-kind_short (LoadLane op dst a memory ptr offset) = lit≤ tt
-kind_short (VectorStore a memory ptr offset) = lit≤ tt
-kind_short (StoreLane op a memory ptr offset) = lit≤ tt
+kind_short call = lit≤ tt
 
 -- the texts of errors
 numbered : (text : List ℕ) (n : ℕ) → length text ≤ 100 → length (text ++ decimal n) ≤ 164
@@ -94,29 +58,13 @@ numbered text n short = omega (arith, length-append text (decimal n), decimal_sh
 
 -- a memory error's text has at most 164 bytes
 memory_short : (error : MemoryError) → length (memory_error_text error) ≤ 164
-memory_short memory.OutOfSystemMemory = lit≤ tt
-memory_short memory.OutOfBoundsGrowth = lit≤ tt
-memory_short memory.OutOfBoundsAccess = lit≤ tt
-memory_short memory.InvalidMemoryType = lit≤ tt
-memory_short memory.InvalidStaticBufferSize = lit≤ tt
-memory_short memory.ResourceLimiterDeniedAllocation = lit≤ tt
-memory_short memory.MinimumSizeOverflow = lit≤ tt
-memory_short memory.MaximumSizeOverflow = lit≤ tt
 memory_short (memory.OutOfFuel required) = numbered (codes "not enough fuel. required=") required (lit≤ tt)
+memory_short error = lit≤ tt
 
 -- a table error's text has at most 164 bytes
 table_short : (error : TableError) → length (table_error_text error) ≤ 164
-table_short table.OutOfSystemMemory = lit≤ tt
-table_short table.MinimumSizeOverflow = lit≤ tt
-table_short table.MaximumSizeOverflow = lit≤ tt
-table_short table.ResourceLimiterDeniedAllocation = lit≤ tt
-table_short table.GrowOutOfBounds = lit≤ tt
-table_short table.InitOutOfBounds = lit≤ tt
-table_short table.FillOutOfBounds = lit≤ tt
-table_short table.SetOutOfBounds = lit≤ tt
-table_short table.CopyOutOfBounds = lit≤ tt
-table_short table.ElementTypeMismatch = lit≤ tt
 table_short (table.OutOfFuel required) = numbered (codes "not enough fuel: required=") required (lit≤ tt)
+table_short error = lit≤ tt
 
 -- a fuel error's text has at most 164 bytes
 fuel_short : (error : FuelError) → length (fuel_error_text error) ≤ 164
@@ -135,18 +83,8 @@ segment_short segment.OutOfSystemMemory = lit≤ tt
 
 -- a trap's text has at most 164 bytes
 trap_short : (code : TrapCode) → length (code_message code) ≤ 164
-trap_short trap.UnreachableCodeReached = lit≤ tt
-trap_short trap.MemoryOutOfBounds = lit≤ tt
-trap_short trap.TableOutOfBounds = lit≤ tt
-trap_short trap.IndirectCallToNull = lit≤ tt
-trap_short trap.IntegerDivisionByZero = lit≤ tt
-trap_short trap.IntegerOverflow = lit≤ tt
-trap_short trap.BadConversionToInteger = lit≤ tt
-trap_short trap.StackOverflow = lit≤ tt
-trap_short trap.BadSignature = lit≤ tt
 trap_short trap.OutOfFuel = lit≤ tt
-trap_short trap.GrowthOperationLimited = lit≤ tt
-trap_short trap.OutOfSystemMemory = lit≤ tt
+trap_short code = lit≤ tt
 
 -- the word of a reference type has at most 6 bytes
 reference_short : (ty : RefType) → length (reference_word ty) ≤ 6

@@ -1,10 +1,10 @@
 -- Lines that are printed one after the other.
-use Rattle.std.proofs.Common.{ℕ, ◌+◌, ◌<◌, ◌≡◌, ◌∙◌, ◌++◌, ◌∷◌, List, [], length, take, drop, get_or, length-append, ◌≤◌, refl, sym, ap, arith, append_assoc, append-nil, take-append-drop, length-take-le, codes}
+use Rattle.std.proofs.Common.{ℕ, ◌+◌, ◌<◌, ◌≡◌, ◌∙◌, ◌++◌, ◌∷◌, List, [], length, take, drop, get_or, length-append, ◌≤◌, refl, sym, ap, arith, append_assoc, append-nil, subst, take-append-drop, length-take-le, codes}
 use Rattle.std.specs.List.{flat_map, enumerate_from, slice_get}
 use Rattle.std.specs.Option.{option_map}
 use Rattle.std.specs.Fmt.{decimal}
-use Rattle.std.proofs.Common.{Option, None, Some}
-use Rattle.std.proofs.lemmas.List.{take_more}
+use Rattle.std.proofs.Common.{Option, None, Some, Ok}
+use Rattle.std.proofs.lemmas.List.{take_more, take_all}
 use Rattle.std.proofs.lemmas.List.Concat.{flat_map-append}
 use Rattle.std.proofs.lemmas.Option.{slice_get_within, get_or_from_slice_get}
 use Rattle.wasmi_meter.specs.declared.limiter.Kind.TheVariants.{Bytes, Elements}
@@ -13,10 +13,11 @@ use Rattle.wasmi_core.specs.declared.calls.Reply.{Reply}
 use Rattle.wasmi_core.specs.State.{State}
 use Rattle.wasmi_core.specs.Totals.{total}
 use Rattle.wasmi_grammar.specs.declared.script.TenantRun.{TenantRun}
+use Rattle.wasmi_script.specs.declared.outcome.Replayed.{Replayed}
 use Rattle.wasmi_script.proofs.PrintingLemmas.{texts_more, texts_at}
 use Rattle.wasmi_script.specs.Printing.{line}
-use Rattle.wasmi_script.specs.Texts.{reply_text}
-use Rattle.wasmi_script.specs.Outcomes.{replies_text, tenant_text, tenants_text}
+use Rattle.wasmi_script.specs.Texts.{bytes_text, reply_text}
+use Rattle.wasmi_script.specs.Outcomes.{calls_of, replies_text, tenant_text, tenants_text, held_text, outcome_text}
 
 -- the replies to some calls, and those to later ones
 pub replies_joined : (xs ys : List Call) (rs ss : List Reply) → length xs ≡ length rs
@@ -99,81 +100,151 @@ one_tenant machines index bytes elements is_bytes is_elements =
           ∙ ap (λ n. tenants_text (take index machines) ++ line
           (codes "held " ++ (decimal index ++ (codes " " ++ (decimal bytes ++ (codes " " ++ decimal n)))))) is_e
 
+-- the lines of all tenants are those up to a place, the line there and the later ones
+pub tenants_whole : (machines : List State) (index bytes elements : ℕ)
+    → option_map (λ s. total s Bytes) (slice_get machines index) ≡ Some bytes
+    → option_map (λ s. total s Elements) (slice_get machines index) ≡ Some elements
+    → tenants_text machines
+    ≡ tenants_text (take index machines) ++
+    (line (codes "held " ++ (decimal index ++ (codes " " ++ (decimal bytes ++ (codes " " ++ decimal elements)))))
+    ++ later_tenants machines (index + 1))
+tenants_whole machines index bytes elements is_bytes is_elements =
+    tenants_split machines (index + 1)
+    ∙ ap (λ t. t ++ later_tenants machines (index + 1)) (one_tenant machines index bytes elements is_bytes is_elements)
+    ∙ append_assoc (tenants_text (take index machines)) _ (later_tenants machines (index + 1))
+
+-- the line of bytes that were read is the text of all of them, and a line feed
+pub bytes_whole : (bytes : List ℕ) (i : ℕ) → length bytes ≤ i
+    → line (codes "bytes" ++ bytes_text bytes) ≡ (codes "bytes" ++ bytes_text (take i bytes)) ++ codes "\n"
+bytes_whole bytes i all = ap (λ bs. line (codes "bytes" ++ bytes_text bs)) (sym (take_all i bytes all))
+
+-- what is printed of a script, by its replies in whatever list they are seen
+pub outcome_split : (replayed : Replayed) (replies : List Reply) → replies ≡ replayed.ran.replies.items
+    → outcome_text (Ok replayed) ≡ replies_text (calls_of replayed.script) replies ++ held_text replayed.ran.held
+outcome_split replayed replies same =
+    ap (λ rs. replies_text (calls_of replayed.script) rs ++ held_text replayed.ran.held) (sym same)
+
 -- the calls of parts
 abbrev pub calls_in : List TenantRun → List Call
 calls_in parts = flat_map (λ part. part.calls.items) parts
 
+-- the replies to the parts up to a place, and those that are left: together a reply for each call
+pub record RepliesLeft (parts : List TenantRun) (last : List Call) (replies : List Reply) (i : ℕ)
+    (rest : List Reply) : Type 0 where
+  pub before : List Reply
+  pub each : length (calls_in parts ++ last) ≡ length replies
+  pub split : replies ≡ before ++ rest
+  pub count : length (calls_in (take i parts)) ≡ length before
+
+-- the part of a place
+pub record IsPartAt (parts : List TenantRun) (i : ℕ) (part : TenantRun) : Type 0 where
+  pub within : i < length parts
+  pub here : part ≡ get_or parts i part
+
+-- a part of the place of a list is one of these parts, if the list is theirs
+pub part_at : (parts seen : List TenantRun) (i : ℕ) (part : TenantRun) → seen ≡ parts → i < length seen
+    → part ≡ get_or seen i part → IsPartAt parts i part
+part_at parts seen i part same within here = record {
+  within = subst (λ ps. i < length ps) same within;
+  here = subst (λ ps. part ≡ get_or ps i part) same here;
+}
+
+-- the replies that are left, cut behind those to some calls
+pub record IsCut (calls : List Call) (rest answered later : List Reply) : Type 0 where
+  pub count : ℕ
+  pub counted : count ≡ length calls
+  pub front : answered ≡ take count rest
+  pub back : later ≡ drop count rest
+
 -- What is left of the replies has those to the part of a place: with them those to the parts so far are one part more,
 -- and the text is that of the parts so far, of this part, and of what comes later.
-module _ (parts : List TenantRun) (last : List Call) (replies before rest : List Reply) (i : ℕ) (part : TenantRun)
-    (each : length (calls_in parts ++ last) ≡ length replies) (split : replies ≡ before ++ rest)
-    (count : length (calls_in (take i parts)) ≡ length before) (within : i < length parts)
-    (here : part ≡ get_or parts i part) where
+module _ (parts : List TenantRun) (last : List Call) (replies rest : List Reply) (i : ℕ) (part : TenantRun)
+    (left : RepliesLeft parts last replies i rest) (at : IsPartAt parts i part) where
   abbrev calls : List Call
   calls = part.calls.items
+
+  abbrev so_far : List Call
+  so_far = calls_in (take i parts)
 
   abbrev later_calls : List Call
   later_calls = calls_in (drop (i + 1) parts) ++ last
 
   -- all calls are those before this part, its own, and those later
-  all_calls : calls_in parts ++ last ≡ calls_in (take i parts) ++ (calls ++ later_calls)
+  all_calls : calls_in parts ++ last ≡ so_far ++ (calls ++ later_calls)
   all_calls =
       ap (λ cs. cs ++ last)
-      (texts_at (λ p. p.calls.items) parts i part within
-      ∙ ap (λ p. calls_in (take i parts) ++ (p.calls.items ++ calls_in (drop (i + 1) parts))) (sym here))
-      ∙ append_assoc (calls_in (take i parts)) (calls ++ calls_in (drop (i + 1) parts)) last
-      ∙ ap (λ cs. calls_in (take i parts) ++ cs) (append_assoc calls (calls_in (drop (i + 1) parts)) last)
+      (texts_at (λ p. p.calls.items) parts i part at.within
+      ∙ ap (λ p. so_far ++ (p.calls.items ++ calls_in (drop (i + 1) parts))) (sym at.here))
+      ∙ append_assoc so_far (calls ++ calls_in (drop (i + 1) parts)) last
+      ∙ ap (λ cs. so_far ++ cs) (append_assoc calls (calls_in (drop (i + 1) parts)) last)
 
   -- the calls of one part more are those before it and its own
-  pub calls_more : calls_in (take (i + 1) parts) ≡ calls_in (take i parts) ++ calls
-  calls_more = texts_more (λ p. p.calls.items) parts i part within
-      ∙ ap (λ p. calls_in (take i parts) ++ p.calls.items) (sym here)
+  pub calls_more : calls_in (take (i + 1) parts) ≡ so_far ++ calls
+  calls_more = texts_more (λ p. p.calls.items) parts i part at.within ∙ ap (λ p. so_far ++ p.calls.items) (sym at.here)
 
   -- there is a reply for each call of the part
   pub part_fits : length calls ≤ length rest
   part_fits = omega (
     arith,
-    each,
-    count,
-    ap length split,
-    length-append before rest,
+    left.each,
+    left.count,
+    ap length left.split,
+    length-append left.before rest,
     ap length all_calls,
-    length-append (calls_in (take i parts)) (calls ++ later_calls),
+    length-append so_far (calls ++ later_calls),
     length-append calls later_calls,
   )
 
   -- and where the part's replies are cut off
-  module _ (answered later : List Reply) (cut : rest ≡ answered ++ later)
-      (answers : length answered ≡ length calls) where
+  module _ (answered later : List Reply) (cut : IsCut calls rest answered later) where
+    -- there are as many as calls
+    answers : length answered ≡ length calls
+    answers = ap length cut.front ∙ length-take-le cut.count rest (omega (arith, cut.counted, part_fits)) ∙ cut.counted
+
+    -- what is left is the part's replies and those later
+    parted : rest ≡ answered ++ later
+    parted = sym (take-append-drop cut.count rest) ∙ (λ i. sym cut.front i ++ sym cut.back i)
+
     -- all replies are those so far, those to the part, and those later
-    pub replies_more : replies ≡ (before ++ answered) ++ later
-    replies_more = split ∙ ap (λ rs. before ++ rs) cut ∙ sym (append_assoc before answered later)
+    pub replies_more : replies ≡ (left.before ++ answered) ++ later
+    replies_more = left.split ∙ ap (λ rs. left.before ++ rs) parted ∙ sym (append_assoc left.before answered later)
 
     -- there are as many replies so far as calls of one part more
-    pub count_more : length (calls_in (take (i + 1) parts)) ≡ length (before ++ answered)
+    pub count_more : length (calls_in (take (i + 1) parts)) ≡ length (left.before ++ answered)
     count_more = omega (
       arith,
-      count,
+      left.count,
       answers,
       ap length calls_more,
-      length-append (calls_in (take i parts)) calls,
-      length-append before answered,
+      length-append so_far calls,
+      length-append left.before answered,
     )
 
     -- the text of one part more is that so far and that of the part
-    pub text_more : replies_text (calls_in (take (i + 1) parts)) (before ++ answered)
-        ≡ replies_text (calls_in (take i parts)) before ++ replies_text calls answered
-    text_more = ap (λ cs. replies_text cs (before ++ answered)) calls_more
-        ∙ replies_joined (calls_in (take i parts)) calls before answered count
+    pub text_more : replies_text (calls_in (take (i + 1) parts)) (left.before ++ answered)
+        ≡ replies_text so_far left.before ++ replies_text calls answered
+    text_more = ap (λ cs. replies_text cs (left.before ++ answered)) calls_more
+        ∙ replies_joined so_far calls left.before answered left.count
 
     -- the whole text is that so far, that of the part, and what comes later
     pub text_whole : replies_text (calls_in parts ++ last) replies
-        ≡ replies_text (calls_in (take i parts)) before ++
-        (replies_text calls answered ++ replies_text later_calls later)
+        ≡ replies_text so_far left.before ++ (replies_text calls answered ++ replies_text later_calls later)
     text_whole =
         ap (λ cs. replies_text cs replies) all_calls
-        ∙ ap (λ rs. replies_text (calls_in (take i parts) ++ (calls ++ later_calls)) rs)
-        (split ∙ ap (λ rs. before ++ rs) cut)
-        ∙ replies_joined (calls_in (take i parts)) (calls ++ later_calls) before (answered ++ later) count
-        ∙ ap (λ t. replies_text (calls_in (take i parts)) before ++ t)
+        ∙ ap (λ rs. replies_text (so_far ++ (calls ++ later_calls)) rs)
+        (left.split ∙ ap (λ rs. left.before ++ rs) parted)
+        ∙ replies_joined so_far (calls ++ later_calls) left.before (answered ++ later) left.count
+        ∙ ap (λ t. replies_text so_far left.before ++ t)
         (replies_joined calls later_calls answered later (sym answers))
+
+-- after all parts the replies that are left are those to the last calls
+pub text_last : (parts : List TenantRun) (last : List Call) (replies rest : List Reply) (i : ℕ)
+    (left : RepliesLeft parts last replies i rest) → length parts ≤ i
+    → replies_text (calls_in parts ++ last) replies
+    ≡ replies_text (calls_in (take i parts)) left.before ++ replies_text last rest
+text_last parts last replies rest i left all =
+    let whole = take_all i parts all in
+    ap (replies_text (calls_in parts ++ last)) left.split
+    ∙ replies_joined (calls_in parts) last left.before rest
+    (subst (λ ps. length (calls_in ps) ≡ length left.before) whole left.count)
+    ∙ ap (λ ps. replies_text (calls_in ps) left.before ++ replies_text last rest) (sym whole)

@@ -141,6 +141,11 @@ module _ {W : Type 0} (contents : W → Option (List ℕ)) where
         sent = front_then _ _ _ _ _ s t rest text is first.passed sent.sent;
       }
 
+  -- the front of a text whose first part is printed, and its last one in part
+  pub prints_last : (p q r : Printer W) (s t text : List ℕ) → text ≡ s ++ t → Prints contents p q s
+      → PrintsFront contents q r t → PrintsFront contents p r text
+  prints_last p q r s t text is = prints_front p q r s t [] text (is ∙ ap (λ l. s ++ l) (sym (append-nil t)))
+
   -- a text that is printed, and then what waits
   pub prints_out : (p q r : Printer W) (text : List ℕ) → Prints contents p q text → Sends contents q r
       → PrintsOut contents p r text

@@ -9,7 +9,7 @@ use Rattle.wasmi_core.specs.State.{State}
 use Rattle.wasmi_core.specs.World.{World, Turn}
 use Rattle.wasmi_core.specs.Runs.{IsRunOf}
 use Rattle.wasmi_budget.specs.Pool.{PoolValue}
-use Rattle.wasmi_script.specs.declared.replaying.Ran.{Ran}
+use Rattle.wasmi_script.specs.declared.running.Ran.{Ran}
 use Rattle.wasmi_grammar.specs.declared.script.TenantRun.{TenantRun}
 use Rattle.wasmi_grammar.specs.declared.script.Script.{Script}
 use Rattle.wasmi_grammar.specs.declared.header.LimiterLine.{LimiterLine}

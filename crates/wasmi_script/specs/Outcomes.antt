@@ -9,9 +9,9 @@ use Rattle.wasmi_core.specs.declared.calls.Reply.{Reply}
 use Rattle.wasmi_core.specs.State.{State}
 use Rattle.wasmi_core.specs.Totals.{total}
 use Rattle.wasmi_grammar.specs.declared.script.Script.{Script}
-use Rattle.wasmi_script.specs.declared.replaying.Held.{Held}
-use Rattle.wasmi_script.specs.declared.replaying.Held.TheVariants.{Nothing, Quota, Tenants}
-use Rattle.wasmi_script.specs.declared.replaying.Replayed.{Replayed}
+use Rattle.wasmi_script.specs.declared.running.Held.{Held}
+use Rattle.wasmi_script.specs.declared.running.Held.TheVariants.{Nothing, Quota, Tenants}
+use Rattle.wasmi_script.specs.declared.outcome.Replayed.{Replayed}
 use Rattle.wasmi_script.specs.declared.error.ReplayError.{ReplayError}
 use Rattle.wasmi_script.specs.declared.error.ReplayError.TheVariants.{BadCommand, TooLong, OutOfMemory, ReadFault}
 use Rattle.wasmi_script.specs.declared.reading.TheConstants.{LIMIT}

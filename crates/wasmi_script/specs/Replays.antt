@@ -20,10 +20,10 @@ use Rattle.wasmi_grammar.specs.declared.header.LimiterLine.TheVariants as Lines
 use Rattle.wasmi_grammar.specs.declared.header.QuotaLine.{QuotaLine}
 use Rattle.wasmi_grammar.specs.declared.header.TenantsLine.{TenantsLine}
 use Rattle.wasmi_grammar.specs.declared.script.TenantRun.{TenantRun}
-use Rattle.wasmi_script.specs.declared.replaying.Amounts.{Amounts}
-use Rattle.wasmi_script.specs.declared.replaying.Held.TheVariants.{Nothing}
-use Rattle.wasmi_script.specs.declared.replaying.Held.TheVariants as held
-use Rattle.wasmi_script.specs.declared.replaying.Ran.{Ran}
+use Rattle.wasmi_script.specs.declared.running.Amounts.{Amounts}
+use Rattle.wasmi_script.specs.declared.running.Held.TheVariants.{Nothing}
+use Rattle.wasmi_script.specs.declared.running.Held.TheVariants as held
+use Rattle.wasmi_script.specs.declared.running.Ran.{Ran}
 use Rattle.wasmi_script.specs.declared.listed_limiter.AnswerList.{AnswerList}
 use Rattle.wasmi_grammar.specs.declared.header.answers.AnswerWord.{AnswerWord}
 use Rattle.wasmi_script.specs.ListedLimiter.{IsNewList, answer_rules}

@@ -4,10 +4,12 @@
 mod error;
 pub mod laws;
 mod listed_limiter;
+mod outcome;
 mod print;
 mod printer;
 mod reading;
 mod replaying;
+mod running;
 
 pub use error::ReplayError;
 pub use print::ReplyLine;

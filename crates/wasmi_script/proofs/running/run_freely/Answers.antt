@@ -7,7 +7,7 @@ use Rattle.wasmi_core.specs.declared.calls.Reply.{Reply}
 use Rattle.wasmi_core.specs.State.{State}
 use Rattle.wasmi_core.specs.World.{World}
 use Rattle.wasmi_core.specs.Runs.{IsRunOf}
-use Rattle.wasmi_script.proofs.replaying.run_freely.Goals as goal
+use Rattle.wasmi_script.proofs.running.run_freely.Goals as goal
 
 -- a run whose limiter is none
 run_of_none : (calls : List Call) (s : State) (l : Option NoLimits) (replies : List Reply)

@@ -1,5 +1,5 @@
 use Rattle.wasmi_script.proofs.LengthLemmas.{held_short}
-use Rattle.wasmi_script.proofs.replaying.print_held.Goals as goal
+use Rattle.wasmi_script.proofs.outcome.print_held.Goals as goal
 
 pub print_line-requires : goal.print_line-requires
 print_line-requires g c = held_short _ _

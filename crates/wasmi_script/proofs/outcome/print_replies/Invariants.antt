@@ -1,7 +1,7 @@
 use Rattle.std.proofs.Common.{flat_map}
 use Rattle.wasmi_script.specs.Texts.{reply_text}
 use Rattle.wasmi_script.specs.Printing.{Prints, line}
-use Rattle.wasmi_script.proofs.replaying.print_replies.Given as goal
+use Rattle.wasmi_script.proofs.outcome.print_replies.Given as goal
 
 abbrev pub invariant-loop-call : goal.invariant-loop-call
 invariant-loop-call g l =

@@ -1,11 +1,11 @@
-use Rattle.std.proofs.Common.{◌≡◌, ◌∙◌, ◌+◌, ◌++◌, [], ℕ, List, codes, take, drop, get_or, refl, sym, ap, append_assoc}
+use Rattle.std.proofs.Common.{◌≡◌, ◌∙◌, ◌+◌, ◌++◌, ℕ, List, codes, take, drop, get_or, refl, ap, append_assoc}
 use Rattle.std.specs.Fmt.{decimal}
-use Rattle.std.proofs.lemmas.List.{take_all}
 use Rattle.wasmi_script.specs.Printing.{line}
 use Rattle.wasmi_script.specs.Texts.{bytes_text}
 use Rattle.wasmi_script.proofs.LengthLemmas.{byte_short}
-use Rattle.wasmi_script.proofs.PrintingLemmas.{always_err, ok_weaker, err_weaker, prints_then, prints_first, prints_front, texts_more, texts_at}
-use Rattle.wasmi_script.proofs.replaying.print_bytes.Goals as goal
+use Rattle.wasmi_script.proofs.OutcomesLemmas.{bytes_whole}
+use Rattle.wasmi_script.proofs.PrintingLemmas.{always_err, ok_weaker, err_weaker, prints_then, prints_first, prints_front, prints_last, texts_more, texts_at}
+use Rattle.wasmi_script.proofs.outcome.print_bytes.Goals as goal
 
 abbrev byte_text : ℕ → List ℕ
 byte_text byte = codes " " ++ decimal byte
@@ -44,21 +44,15 @@ loop-byte-preserved g c =
 
 pub returns-clause-ok : goal.returns-clause-ok
 returns-clause-ok g c =
-    let bytes = c.args.bytes.now in
-    let all : take c.loop-byte.byte-index bytes ≡ bytes =
-    take_all c.loop-byte.byte-index bytes c.loop-byte-test.false in
+    let whole = bytes_whole c.args.bytes.now c.loop-byte.byte-index c.loop-byte-test.false in
     ok_weaker c.print-2.result
-    (λ last. prints_then g.W.Write.contents _ _ _ _ (codes "\n") _
-    (ap (λ bs. line (codes "bytes" ++ bytes_text bs)) (sym all)) c.loop-byte.invariant last) c.print-2.ensures.ok
+    (prints_then g.W.Write.contents _ _ _ _ _ _ whole c.loop-byte.invariant) c.print-2.ensures.ok
 
 pub returns-clause-front : goal.returns-clause-front
 returns-clause-front g c =
-    let bytes = c.args.bytes.now in
-    let all : take c.loop-byte.byte-index bytes ≡ bytes =
-    take_all c.loop-byte.byte-index bytes c.loop-byte-test.false in
+    let whole = bytes_whole c.args.bytes.now c.loop-byte.byte-index c.loop-byte-test.false in
     err_weaker c.print-2.result
-    (λ sent. prints_front g.W.Write.contents _ _ _ _ (codes "\n") [] _
-    (ap (λ bs. line (codes "bytes" ++ bytes_text bs)) (sym all)) c.loop-byte.invariant sent) c.print-2.ensures.front
+    (prints_last g.W.Write.contents _ _ _ _ _ _ whole c.loop-byte.invariant) c.print-2.ensures.front
 
 pub print-requires-in-loop-byte : goal.print-requires-in-loop-byte
 print-requires-in-loop-byte g c = byte_short _

@@ -1,7 +1,7 @@
 use Rattle.std.proofs.Common.{◌≡◌, replicate}
 use Rattle.wasmi_core.specs.State.{new_state}
 use Rattle.wasmi_grammar.specs.Headers.{meter_of}
-use Rattle.wasmi_script.proofs.replaying.pool_of.Given as goal
+use Rattle.wasmi_script.proofs.running.pool_of.Given as goal
 
 abbrev pub invariant-loop-index : goal.invariant-loop-index
 invariant-loop-index l =

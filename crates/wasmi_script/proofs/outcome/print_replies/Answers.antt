@@ -10,7 +10,7 @@ use Rattle.wasmi_script.specs.Printing.{line}
 use Rattle.wasmi_script.specs.Texts.{reply_text}
 use Rattle.wasmi_script.specs.Outcomes.{replies_text}
 use Rattle.wasmi_script.proofs.PrintingLemmas.{always_err, prints_none, prints_then, prints_front, texts_at}
-use Rattle.wasmi_script.proofs.replaying.print_replies.Goals as goal
+use Rattle.wasmi_script.proofs.outcome.print_replies.Goals as goal
 
 -- what is seen of a call and its reply
 abbrev turn_of : Bor Call × Bor Reply → Call × Reply

@@ -5,7 +5,7 @@ use Rattle.wasmi_grammar.specs.declared.script.TenantRun.{TenantRun}
 use Rattle.wasmi_grammar.specs.Headers.{meter_of}
 use Rattle.wasmi_script.specs.Replays.{AnswersPart, AnswersParts, new_pool}
 use Rattle.wasmi_script.proofs.PoolLemmas.{one_part}
-use Rattle.wasmi_script.proofs.replaying.run_pool.Goals as goal
+use Rattle.wasmi_script.proofs.running.run_pool.Goals as goal
 
 pub loop-part-preserved : goal.loop-part-preserved
 loop-part-preserved c =

@@ -1,6 +1,6 @@
 use Rattle.wasmi_script.specs.Outcomes.{outcome_text}
 use Rattle.wasmi_script.proofs.PrintingLemmas.{always_err, ok_weaker, err_weaker, prints_out, prints_out_front}
-use Rattle.wasmi_script.proofs.replaying.print_all.Goals as goal
+use Rattle.wasmi_script.proofs.outcome.print_all.Goals as goal
 
 pub returns-in_err-print_outcome-clause-front : goal.returns-in_err-print_outcome-clause-front
 returns-in_err-print_outcome-clause-front g c = always_err c.from_residual.result c.in_err-print_outcome.ensures.front

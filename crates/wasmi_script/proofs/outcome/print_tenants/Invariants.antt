@@ -1,7 +1,7 @@
 use Rattle.std.proofs.Common.{take}
 use Rattle.wasmi_script.specs.Outcomes.{tenants_text}
 use Rattle.wasmi_script.specs.Printing.{Prints}
-use Rattle.wasmi_script.proofs.replaying.print_tenants.Given as goal
+use Rattle.wasmi_script.proofs.outcome.print_tenants.Given as goal
 
 abbrev pub invariant-loop-index : goal.invariant-loop-index
 invariant-loop-index g l =

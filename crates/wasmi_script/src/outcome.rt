@@ -1,0 +1,182 @@
+//! The lines that a replay prints, by its outcome.
+ghost use Rattle.std.specs.Prelude.{◌≡◌, ◌++◌, length, codes, Ok, OnOk, OnErr};
+ghost use Rattle.std.specs.Io.KnownBytes.{Appends};
+ghost use Rattle.wasmi_script.specs.Printing.{AppendsFront, Prints, PrintsFront, PrintsOut, line};
+ghost use Rattle.wasmi_script.specs.Texts.{reply_text, bytes_text};
+ghost use Rattle.wasmi_script.specs.Outcomes.{calls_of, replies_text, tenants_text, held_text, outcome_text, HasReplies};
+
+use crate::error::ReplayError;
+use crate::print::ReplyLine;
+use crate::printer::Printer;
+use crate::running::{Amounts, Held, Ran};
+use std::{fmt, io};
+use wasmi_budget::Pool;
+use wasmi_core::{Call, Reply};
+use wasmi_grammar::Script;
+
+/// A script and what its run answered.
+#[derive(Drop)]
+pub struct Replayed {
+    /// What was run.
+    pub script: Script,
+    /// What it answered.
+    pub ran: Ran,
+}
+
+/// Prints the outcome to its last byte.
+pub fn print<W: io::Write>(writer: &mut W, outcome: &Result<Replayed, ReplayError>) -> fmt::Result
+    requires { HasReplies outcome.now }
+    ensures ok { OnOk result
+        (Appends (W.contents writer.old) (W.contents writer.new) (outcome_text outcome.now)) }
+    ensures front { OnErr result
+        (AppendsFront (W.contents writer.old) (W.contents writer.new) (outcome_text outcome.now)) }
+{
+    let mut printer = Printer::new(writer);
+    let printed = print_all(&mut printer, outcome);
+    // No effect at run time: the proof reads what the writer has from this use.
+    let _ = &*printer.into_writer();
+    printed
+}
+
+/// Prints the outcome and flushes the writer.
+fn print_all<W: io::Write>(
+    printer: &mut Printer<'_, W>,
+    outcome: &Result<Replayed, ReplayError>,
+) -> fmt::Result
+    requires { HasReplies outcome.now }
+    ensures ok { OnOk result
+        (PrintsOut W.contents printer.old printer.new (outcome_text outcome.now)) }
+    ensures front { OnErr result (PrintsFront W.contents printer.old printer.new (outcome_text outcome.now)) }
+{
+    print_outcome(printer, outcome)?;
+    printer.flush()
+}
+
+/// Prints a line for each call and what is held, or why the script isn't run.
+fn print_outcome<W: io::Write>(
+    printer: &mut Printer<'_, W>,
+    outcome: &Result<Replayed, ReplayError>,
+) -> fmt::Result
+    requires { HasReplies outcome.now }
+    ensures ok { OnOk result
+        (Prints W.contents printer.old printer.new (outcome_text outcome.now)) }
+    ensures front { OnErr result (PrintsFront W.contents printer.old printer.new (outcome_text outcome.now)) }
+{
+    match outcome {
+        Ok(replayed) => print_replayed(printer, replayed),
+        Err(error) => printer.print_line(format_args!("{error}")),
+    }
+}
+
+/// Prints a line for each call of a script, and what is held.
+fn print_replayed<W: io::Write>(printer: &mut Printer<'_, W>, replayed: &Replayed) -> fmt::Result
+    requires { length (calls_of replayed.now.script) ≡ length replayed.now.ran.replies.items }
+    ensures ok { OnOk result
+        (Prints W.contents printer.old printer.new (outcome_text (Ok replayed.now))) }
+    ensures front { OnErr result
+        (PrintsFront W.contents printer.old printer.new (outcome_text (Ok replayed.now))) }
+{
+    print_script(printer, &replayed.script, replayed.ran.replies.as_slice())?;
+    print_held(printer, &replayed.ran.held)
+}
+
+/// A line for each call of a script, with its reply.
+fn print_script<W: io::Write>(
+    printer: &mut Printer<'_, W>,
+    script: &Script,
+    replies: &[Reply],
+) -> fmt::Result
+    requires { length (calls_of script.now) ≡ length replies.now }
+    ensures ok { OnOk result
+        (Prints W.contents printer.old printer.new
+        (replies_text (calls_of script.now) replies.now)) }
+    ensures front { OnErr result
+        (PrintsFront W.contents printer.old printer.new
+        (replies_text (calls_of script.now) replies.now)) }
+{
+    let mut rest = replies;
+    for part in &script.earlier {
+        let (answered, later) = rest.split_at(part.calls.len());
+        print_replies(printer, &part.calls, answered)?;
+        rest = later;
+    }
+    print_replies(printer, &script.calls, rest)
+}
+
+/// A line for each call, with its reply.
+fn print_replies<W: io::Write>(
+    printer: &mut Printer<'_, W>,
+    calls: &[Call],
+    replies: &[Reply],
+) -> fmt::Result
+    ensures ok { OnOk result
+        (Prints W.contents printer.old printer.new (replies_text calls.now replies.now)) }
+    ensures front { OnErr result
+        (PrintsFront W.contents printer.old printer.new (replies_text calls.now replies.now)) }
+{
+    for (call, reply) in calls.iter().zip(replies) {
+        print_reply(printer, call, reply)?;
+    }
+    Ok(())
+}
+
+/// A call's reply. Bytes are printed one after the other, since they may be many.
+fn print_reply<W: io::Write>(
+    printer: &mut Printer<'_, W>,
+    call: &Call,
+    reply: &Reply,
+) -> fmt::Result
+    ensures ok { OnOk result
+        (Prints W.contents printer.old printer.new (line (reply_text call.now reply.now))) }
+    ensures front { OnErr result
+        (PrintsFront W.contents printer.old printer.new (line (reply_text call.now reply.now))) }
+{
+    match reply {
+        Reply::Bytes(bytes) => print_bytes(printer, bytes.as_slice()),
+        _ => printer.print_line(ReplyLine { call, reply }),
+    }
+}
+
+/// The line of bytes that were read.
+fn print_bytes<W: io::Write>(printer: &mut Printer<'_, W>, bytes: &[u8]) -> fmt::Result
+    ensures ok { OnOk result
+        (Prints W.contents printer.old printer.new (line (codes "bytes" ++ bytes_text bytes.now))) }
+    ensures front { OnErr result
+        (PrintsFront W.contents printer.old printer.new
+        (line (codes "bytes" ++ bytes_text bytes.now))) }
+{
+    printer.print("bytes")?;
+    for byte in bytes {
+        printer.print(format_args!(" {byte}"))?;
+    }
+    printer.print("\n")
+}
+
+/// What a quota holds, or what each tenant of a pool holds.
+fn print_held<W: io::Write>(printer: &mut Printer<'_, W>, held: &Held) -> fmt::Result
+    ensures ok { OnOk result (Prints W.contents printer.old printer.new (held_text held.now)) }
+    ensures front { OnErr result (PrintsFront W.contents printer.old printer.new (held_text held.now)) }
+{
+    match held {
+        Held::Nothing => Ok(()),
+        Held::Quota(Amounts { bytes, elements }) => {
+            printer.print_line(format_args!("held {bytes} {elements}"))
+        }
+        Held::Tenants(pool) => print_tenants(printer, pool),
+    }
+}
+
+/// What each tenant of a pool holds.
+fn print_tenants<W: io::Write>(printer: &mut Printer<'_, W>, pool: &Pool) -> fmt::Result
+    ensures ok { OnOk result
+        (Prints W.contents printer.old printer.new (tenants_text pool.now.machines)) }
+    ensures front { OnErr result
+        (PrintsFront W.contents printer.old printer.new (tenants_text pool.now.machines)) }
+{
+    for index in 0..pool.len() {
+        let bytes = pool.held_bytes(index).unwrap();
+        let elements = pool.held_elements(index).unwrap();
+        printer.print_line(format_args!("held {index} {bytes} {elements}"))?;
+    }
+    Ok(())
+}
