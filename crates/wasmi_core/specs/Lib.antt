@@ -17,6 +17,7 @@ pub mod Writing
 pub mod Determinism
 pub mod LentMemory
 pub mod Laws
+pub mod Types
 pub use Rattle.wasmi_types.specs.Bytes
 pub use Rattle.wasmi_types.specs.Access
 pub use Rattle.wasmi_types.specs.Wrapping
@@ -78,3 +79,5 @@ pub use Rattle.wasmi_meter.specs.declared.limiter.Kind.TheVariants as Kinds
 pub use Rattle.wasmi_meter.specs.declared.error.MemoryError.TheVariants as MemoryErrors
 pub use Rattle.wasmi_meter.specs.declared.error.TableError.TheVariants as TableErrors
 pub use Rattle.wasmi_types.specs.declared.trap.TrapCode.TheVariants as TrapCodes
+pub use Rattle.wasmi_vector_ops.specs.declared.access.VectorLoadOp.TheVariants as VectorLoads
+pub use Rattle.wasmi_vector_ops.specs.declared.binary.BinaryOp.TheVariants as Binaries
