@@ -16,6 +16,8 @@ pub use Rattle.wasmi_meter.specs.declared.fuel.CustomFuelCosts.{CustomFuelCosts}
 pub use Rattle.wasmi_meter.specs.declared.limiter.Kind.{Kind}
 pub use Rattle.wasmi_meter.specs.declared.quota.Quota.{Quota}
 pub use Rattle.wasmi_store.specs.declared.table.element.SegmentError.{SegmentError}
+pub use Rattle.wasmi_scalar_ops.specs.declared.access.LoadOp.{LoadOp}
+pub use Rattle.wasmi_scalar_ops.specs.declared.access.StoreOp.{StoreOp}
 pub use Rattle.wasmi_vector_ops.specs.declared.binary.BinaryOp.{BinaryOp}
 pub use Rattle.wasmi_vector_ops.specs.declared.unary.UnaryOp.{UnaryOp}
 pub use Rattle.wasmi_vector_ops.specs.declared.ternary.TernaryOp.{TernaryOp}
@@ -29,6 +31,4 @@ pub use Rattle.wasmi_vector_ops.specs.declared.access.LoadLaneOp.{LoadLaneOp}
 pub use Rattle.wasmi_vector_ops.specs.declared.access.StoreLaneOp.{StoreLaneOp}
 pub use Rattle.wasmi_core.specs.declared.calls.Call.{Call}
 pub use Rattle.wasmi_core.specs.declared.calls.Reply.{Reply}
-pub use Rattle.wasmi_core.specs.declared.ops.LoadOp.{LoadOp}
-pub use Rattle.wasmi_core.specs.declared.ops.StoreOp.{StoreOp}
 pub use Rattle.wasmi_core.specs.declared.slots.Slot.{Slot}
