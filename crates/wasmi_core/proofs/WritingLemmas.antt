@@ -15,10 +15,10 @@ use Rattle.wasmi_core.specs.MemoryEffects.{bytes_appended}
 use Rattle.wasmi_core.specs.Effects.{ActsAt, OnLive, reply_of}
 use Rattle.wasmi_core.specs.Runs.{Run}
 use Rattle.wasmi_core.specs.State.{State, live_at}
-use Rattle.wasmi_core.specs.Steps.{Changed, Effect, FuelSet, MemoryGrown, PartWritten, TableGrown, TakesEffect, effect_of}
+use Rattle.wasmi_core.specs.Steps.{Changed, Effect, FuelSet, MemoryGrown, PartWritten, TableGrown, TakesEffect, effect_of, is_charged}
 use Rattle.wasmi_core.specs.TableEffects.{Metered, WritesPartAt, WritesTableAt, element_bytes, metered, write_of}
 use Rattle.wasmi_core.specs.World.{Turn, World}
-use Rattle.wasmi_core.specs.Writing.{IsBounded, amount_set, amounts_set, bytes_written, charges_for_writing, has_written, is_accepted, is_charged, writing_turns}
+use Rattle.wasmi_core.specs.Writing.{IsBounded, amount_set, amounts_set, bytes_written, charges_for_writing, has_written, is_accepted, writing_turns}
 use Rattle.wasmi_core.specs.declared.calls.Call.{Call}
 use Rattle.wasmi_core.specs.declared.calls.Call.TheVariants.{SetFuel}
 use Rattle.wasmi_core.specs.declared.calls.Reply.{Reply}

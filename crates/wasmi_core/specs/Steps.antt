@@ -1,5 +1,5 @@
 -- One step of the machine: what each call does, and what that changes in a world.
-use Rattle.std.specs.Prelude.{◌≡◌, ◌+◌, ℕ, List, Option, Some, Result, Ok, slice_get}
+use Rattle.std.specs.Prelude.{◌≡◌, ◌+◌, ℕ, Bool, true, false, List, Option, Some, Result, Ok, slice_get}
 use Rattle.std.specs.Option.{option_map, option_and_then}
 use Rattle.wasmi_types.specs.Bytes.{le_bytes}
 use Rattle.wasmi_types.specs.declared.trap.TrapCode.{TrapCode}
@@ -86,6 +86,15 @@ subject_of (VectorLoad op dst k ptr offset) = Vectors
 subject_of (LoadLane op dst a k ptr offset) = Vectors
 subject_of (VectorStore a k ptr offset) = Vectors
 subject_of (StoreLane op a k ptr offset) = Vectors
+
+-- the calls that are charged for what they write: growths, and those that write over a part of a table
+abbrev pub is_charged : Call → Bool
+is_charged (GrowMemory k pages) = true
+is_charged (GrowTable k n init) = true
+is_charged (InitTable k j dst src len) = true
+is_charged (CopyTable k dst j src len) = true
+is_charged (FillTable k dst value len) = true
+is_charged call = false
 
 -- what changes one part of the state, but for the meter: nothing is charged, and the limiter isn't reached
 pub data Change : Type 0 where

@@ -1,22 +1,14 @@
 -- The bytes that turns have written by growing and copying, and the fuel that they were charged for it.
 use Rattle.std.specs.Prelude.{◌≡◌, ℕ, ◌+◌, ◌-◌, ◌*◌, ◌≤◌, ◌<◌, Bool, true, false, ◌&&◌, if◌then◌else◌, List, count_by, sum_by}
 use Rattle.wasmi_core.specs.declared.calls.Call.{Call}
-use Rattle.wasmi_core.specs.declared.calls.Call.TheVariants.{SetFuel, GrowMemory, GrowTable, InitTable, CopyTable, FillTable}
+use Rattle.wasmi_core.specs.declared.calls.Call.TheVariants.{SetFuel}
 use Rattle.wasmi_core.specs.declared.calls.Reply.{Reply}
 use Rattle.wasmi_core.specs.declared.calls.Reply.TheVariants.{Done, Number}
 use Rattle.wasmi_core.specs.World.{Turn}
+use Rattle.wasmi_core.specs.Steps.{is_charged}
 use Rattle.wasmi_core.specs.Account.{charges}
 
--- the calls that are charged for what they write: growths, and those that write over a part of a table
-abbrev pub is_charged : Call → Bool
-is_charged (GrowMemory k pages) = true
-is_charged (GrowTable k n init) = true
-is_charged (InitTable k j dst src len) = true
-is_charged (CopyTable k dst j src len) = true
-is_charged (FillTable k dst value len) = true
-is_charged call = false
-
--- whether such a call was accepted
+-- whether a call that is charged for what it writes was accepted
 abbrev pub is_accepted : Reply → Bool
 is_accepted Done = true
 is_accepted (Number size) = true
