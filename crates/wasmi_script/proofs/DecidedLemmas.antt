@@ -331,7 +331,7 @@ module _ (once : IsDeterministic tenant_rules) where
       (record { state = s; limiter = Some (tenant_at pool tenant s) })
       replies' (record { state = ran'.machine'; limiter = Some ran'.tenant' })) machine ran'.ran in
       let one = run_once tenant_rules once
-      (λ l failure notice_answer l' noticed. noticed.0) calls calls' _ _ _ replies replies' same ran.ran again has in (
+      (λ l failure answer l' noticed. noticed.accepts) calls calls' _ _ _ replies replies' same ran.ran again has in (
         one.0,
         ran.after ∙ (λ i. record pool { machines = slice_set pool.machines tenant (one.1 i).state })
             ∙ sym ran'.after,
