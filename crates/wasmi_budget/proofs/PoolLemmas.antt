@@ -98,8 +98,12 @@ module _ (pool : PoolValue) (index : ℕ) where
         omega (arith, split, own)
 
     -- one machine has no more than all
-    pub held_within : (kind : Kind) → amount_of held kind ≤ total_of pool.machines kind
-    held_within kind = let others = others_left kind in omega (arith, others)
+    pub held_within : (all : Amounts) → all ≡ amounts_of (total_of pool.machines) → (kind : Kind)
+        → amount_of held kind ≤ amount_of all kind
+    held_within all is_all kind =
+        let sum = ap (λ amounts. amount_of amounts kind) is_all ∙ amount_of-amounts_of (total_of pool.machines) kind in
+        let others = others_left kind in
+        omega (arith, sum, others)
 
     -- a limiter that holds them, beside what of all is left
     abbrev beside : Tenant

@@ -6,13 +6,12 @@ use Rattle.wasmi_budget.proofs.pool.Pool.tenant.Goals as goal
 
 pub overflow_sub-others : goal.overflow_sub-others
 overflow_sub-others c =
-    rw c.held_by_all-all.ensures
-    (held_within c.args.self.now c.args.index c.in_ok-held.held (sym c.held.ensures ∙ c.in_ok-held.was) Bytes)
+    held_within c.args.self.now c.args.index _ (sym c.held.ensures ∙ c.in_ok-held.was) _ c.held_by_all-all.ensures Bytes
 
 pub overflow_sub-others-2 : goal.overflow_sub-others-2
 overflow_sub-others-2 c =
-    rw c.held_by_all-all.ensures
-    (held_within c.args.self.now c.args.index c.in_ok-held.held (sym c.held.ensures ∙ c.in_ok-held.was) Elements)
+    held_within c.args.self.now c.args.index _
+    (sym c.held.ensures ∙ c.in_ok-held.was) _ c.held_by_all-all.ensures Elements
 
 pub returns : goal.returns
 returns c =
