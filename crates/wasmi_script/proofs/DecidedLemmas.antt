@@ -342,7 +342,8 @@ module _ (once : IsDeterministic tenant_rules) where
       let again = subst (λ (s : State). IsRunOf (optional_rules tenant_rules) calls'
       (record { state = s; limiter = Some (tenant_at pool tenant s) })
       b.replies (record { state = ran'.machine'; limiter = Some ran'.tenant' })) machine ran'.ran in
-      let one = run_once tenant_rules once (λ l failure notice_answer l' noticed. noticed.accepts) calls calls' _ same
+      let one = run_once tenant_rules once (λ l failure notice_answer l' noticed. noticed.accepts)
+      calls calls' _ same
       (record { replies = a.replies; after = _; has = a.has; ran = ran.ran })
       (record { replies = b.replies; after = _; has = b.has; ran = again }) in (
         one.0,
