@@ -2,7 +2,7 @@ use Rattle.wasmi_meter.specs.Limiter.{optional_rules}
 use Rattle.wasmi_meter.specs.LimiterRef.{lent_limiter}
 use Rattle.wasmi_core.specs.World.{world}
 use Rattle.wasmi_core.proofs.ValidityLemmas.{answer_is_valid}
-use Rattle.wasmi_core.proofs.running.Machine.step.Goals as goal
+use Rattle.wasmi_core.proofs.machine.Machine.step.Goals as goal
 
 pub invariant_of-self : goal.invariant_of-self
 invariant_of-self g c =

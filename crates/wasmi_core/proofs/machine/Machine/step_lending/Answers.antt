@@ -1,7 +1,7 @@
 use Rattle.std.proofs.Common.{rules}
 use Rattle.wasmi_meter.specs.Limiter.{optional_rules}
 use Rattle.wasmi_core.proofs.TurnLemmas.{answers_by}
-use Rattle.wasmi_core.proofs.running.Machine.step_lending.Goals as goal
+use Rattle.wasmi_core.proofs.machine.Machine.step_lending.Goals as goal
 
 pub returns-clause-step : goal.returns-clause-step
 returns-clause-step g c =
