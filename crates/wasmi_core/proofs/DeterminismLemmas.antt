@@ -208,9 +208,9 @@ module _ {S : Type 0} (w : World S) (t t' : Turn) (v v' : World S) where
 
   module _ {A : Type 0} {with_part : A → State} where
     -- turns that make something under the limiter
-    creation_once : {Row : S → Reply → A → S → Type 0} → Asks w t v with_part Row → Asks w t' v' with_part Row
+    made_once : {Row : S → Reply → A → S → Type 0} → Asks w t v with_part Row → Asks w t' v' with_part Row
         → HasMemory t.reply → HasMemory t'.reply → HasOneOutcome (Row w.limiter) → Same
-    creation_once step step' has has' once =
+    made_once step step' has has' once =
         let same =
         once (record { reply = t.reply; part = step.part; limiter = step.limiter })
         (record { reply = t'.reply; part = step'.part; limiter = step'.limiter }) has has' step.effect step'.effect
@@ -293,16 +293,16 @@ module _ {S : Type 0} (rules : Rules S) (once : IsDeterministic rules) (w : Worl
       changed_once w t t' v v' step step'
       (λ s s'. (change_facts w.state change).same t.reply t'.reply s s' room room')
   effect_same (MemoryMade ty) step step' =
-      creation_once w t t' v v' step step' room room' (memory_same once Owned ty w.state.memories w.limiter)
+      made_once w t t' v v' step step' room room' (memory_same once Owned ty w.state.memories w.limiter)
   effect_same (LentMemoryMade ty) step step' =
-      creation_once w t t' v v' step step' room room' (lent_same once ty (memory_part w.state) w.limiter)
+      made_once w t t' v v' step step' room room' (lent_same once ty (memory_part w.state) w.limiter)
   effect_same (MemoryGrown k pages) step step' =
       paid_once w t t' v v' step step' (acts_same (GrowsMemory (with_memory rules) pages)
       (λ s. grows_same once
       (record { amount = pages; size = pages_of s.value; request = memory.growth_of s.value pages })
       (record { wants = memory_wants s.value.room }) s) k (reply_of replied.Number replied.Memory) _)
   effect_same (TableMade ty init) step step' =
-      creation_once w t t' v v' step step' room room' (creates_same replied.Table (MakesTable (with_memory rules) ty init)
+      made_once w t t' v v' step step' room room' (creates_same replied.Table (MakesTable (with_memory rules) ty init)
       (makes_same once (table.creation_of ty init.ty) (record { wants = table_wants }) (new_table ty init.raw))
       w.state.tables w.limiter)
   effect_same (TableGrown k n init) step step' =
