@@ -14,7 +14,7 @@ typedef struct { uint64_t lo, hi; } wasmi_words;
 /* What an instruction answers for one element of an array: the value, or 0 where it traps, and the status. */
 typedef struct { wasmi_words value; uint8_t status; } wasmi_answer;
 
-/* What a call returns, besides the numbers of other traps. After any but WASMI_DONE nothing is written. */
+/* What a call but wasmi_script_run returns, besides the numbers of other traps. After any but WASMI_DONE nothing is written. */
 enum {
     WASMI_DONE = 0,
     WASMI_MEMORY_OUT_OF_BOUNDS = 2,
