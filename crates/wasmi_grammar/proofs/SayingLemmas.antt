@@ -197,7 +197,7 @@ module _ (words : Words) where
       option_map (λ ty. Other (NewLentMemory ty)) (memory_is (word 0) (word 1) (word 2) (word 3) ty w.1 i)
   call_is (GrowMemory memory pages) w = λ i. Some (Other (GrowMemory (sym w.1.1 i) (sym w.2.1 i)))
   call_is (Read memory offset len) w = λ i. Some (Other (Read (sym w.1.1 i) (sym w.2.1 i) (sym w.3.1 i)))
-  call_is (Write memory offset bytes) w = λ i. Some (WriteSaid (sym w.1.1 i) (sym w.2.1 i) (sym w.3.1 i))
+  call_is (Write memory offset bytes) w = λ i. Some (WriteSaid (sym w.0.1.1 i) (sym w.0.2.1 i) (sym w.1.1 i))
   call_is (Load op memory ptr offset) w = λ i.
       option_map (λ op. Other (Load op (sym w.2.1 i) (sym w.3.1 i) (sym w.4.1 i)))
       (named_is load.enum tt load_name refl (word 0) op w.1 i)
@@ -223,8 +223,8 @@ module _ (words : Words) where
       option_map (λ value. Other (FillTable (sym w.1.1 i) (sym w.2.1 i) value (sym w.4.1 i)))
       (reference_is (word 2) (word 3) value w.3 i)
   call_is (NewSegment ty items) w =
-      λ i. option_map (λ ty. SegmentSaid ty (sym w.2.1 i))
-      (named_is reference_type.enum tt reference_word refl (word 0) ty w.1 i)
+      λ i. option_map (λ ty. SegmentSaid ty (sym w.1.1 i))
+      (named_is reference_type.enum tt reference_word refl (word 0) ty w.0.1 i)
   call_is (DropItems segment) w = λ i. Some (Other (DropItems (sym w.1.1 i)))
   call_is (NewGlobal value ty) w =
       let lo = sym w.3.1 in
@@ -266,7 +266,7 @@ module _ (words : Words) where
       option_map (λ op. Other (Replace op (sym w.2.1 i) (sym w.3.1 i) (sym w.4.1 i)))
       (replace_is (word 0) (word 3) op w.1 i)
   call_is (Shuffle dst a b lanes) w = λ i.
-      Some (Other (Shuffle (sym w.1.1 i) (sym w.2.1 i) (sym w.3.1 i) (sym w.4.written.1 i)))
+      Some (Other (Shuffle (sym w.0.1.1 i) (sym w.0.2.1 i) (sym w.0.3.1 i) (sym w.1.written.1 i)))
   call_is (VectorLoad op dst memory ptr offset) w = λ i.
       option_map (λ op. Other (VectorLoad op (sym w.2.1 i) (sym w.3.1 i) (sym w.4.1 i) (sym w.5.1 i)))
       (named_is vector_load.enum tt vector_load_name refl (word 0) op w.1 i)

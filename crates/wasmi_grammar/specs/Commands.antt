@@ -60,108 +60,89 @@ command_word (LoadLane op dst a memory ptr offset) = codes "vloadlane"
 command_word (VectorStore a memory ptr offset) = codes "vstore"
 command_word (StoreLane op a memory ptr offset) = codes "vstorelane"
 
--- the words after the first write what the call is given
+-- so many operands, the k-th of which is the text `word k`, write what the call is given, but for a list at their end
+abbrev pub OperandsWrite : ℕ → (ℕ → List ℕ) → Call → Type 0
+OperandsWrite count word (SetFuel fuel) = (count ≡ 1) × WritesNumber 64 (word 0) fuel
+OperandsWrite count word GetFuel = count ≡ 0
+OperandsWrite count word (NewMemory ty) = (count ≡ 4) × NamesType (word 0) (word 1) (word 2) (word 3) ty
+OperandsWrite count word (NewLentMemory ty) = (count ≡ 4) × NamesType (word 0) (word 1) (word 2) (word 3) ty
+OperandsWrite count word (GrowMemory memory pages) =
+    (count ≡ 2) × WritesNumber 64 (word 0) memory × WritesNumber 64 (word 1) pages
+OperandsWrite count word (DropMemory memory) = (count ≡ 2) × (word 0 ≡ codes "memory") × WritesNumber 64 (word 1) memory
+OperandsWrite count word (Read memory offset len) =
+    (count ≡ 3) × WritesNumber 64 (word 0) memory × WritesNumber 64 (word 1) offset × WritesNumber 64 (word 2) len
+OperandsWrite count word (Write memory offset bytes) =
+    (2 ≤ count) × WritesNumber 64 (word 0) memory × WritesNumber 64 (word 1) offset
+OperandsWrite count word (Load op memory ptr offset) = (count ≡ 4) × (word 0 ≡ load_name op)
+    × WritesNumber 64 (word 1) memory × WritesNumber 64 (word 2) ptr × WritesNumber 64 (word 3) offset
+OperandsWrite count word (Store op memory ptr offset value) = (count ≡ 5) × (word 0 ≡ store_name op)
+    × WritesNumber 64 (word 1) memory × WritesNumber 64 (word 2) ptr × WritesNumber 64 (word 3) offset × (lo : ℕ)
+    × WritesNumber 64 (word 4) lo × (value ≡ raw_of lo)
+OperandsWrite count word (NewTable ty init) =
+    (count ≡ 6) × NamesTableType (word 0) (word 1) (word 2) (word 3) ty × WritesReference (word 4) (word 5) init
+OperandsWrite count word (GrowTable table delta init) = (count ≡ 4) × WritesNumber 64 (word 0) table
+    × WritesNumber 64 (word 1) delta × WritesReference (word 2) (word 3) init
+OperandsWrite count word (DropTable table) = (count ≡ 2) × (word 0 ≡ codes "table") × WritesNumber 64 (word 1) table
+OperandsWrite count word (GetElement table index) =
+    (count ≡ 2) × WritesNumber 64 (word 0) table × WritesNumber 64 (word 1) index
+OperandsWrite count word (SetElement table index value) = (count ≡ 4) × WritesNumber 64 (word 0) table
+    × WritesNumber 64 (word 1) index × WritesReference (word 2) (word 3) value
+OperandsWrite count word (InitTable table segment dst src len) = (count ≡ 5) × WritesNumber 64 (word 0) table
+    × WritesNumber 64 (word 1) segment × WritesNumber 64 (word 2) dst × WritesNumber 32 (word 3) src
+    × WritesNumber 32 (word 4) len
+OperandsWrite count word (CopyTable dst_table dst src_table src len) = (count ≡ 5) × WritesNumber 64 (word 0) dst_table
+    × WritesNumber 64 (word 1) dst × WritesNumber 64 (word 2) src_table × WritesNumber 64 (word 3) src
+    × WritesNumber 64 (word 4) len
+OperandsWrite count word (FillTable table dst value len) = (count ≡ 5) × WritesNumber 64 (word 0) table
+    × WritesNumber 64 (word 1) dst × WritesReference (word 2) (word 3) value × WritesNumber 64 (word 4) len
+OperandsWrite count word (NewSegment ty items) = (1 ≤ count) × (word 0 ≡ reference_word ty)
+OperandsWrite count word (DropItems segment) = (count ≡ 1) × WritesNumber 64 (word 0) segment
+OperandsWrite count word (NewGlobal value ty) = (count ≡ 4) × (word 0 ≡ value_word ty.content)
+    × (word 1 ≡ mutability_word ty.mutability) × WritesNumber 64 (word 2) value.lo × WritesNumber 64 (word 3) value.hi
+OperandsWrite count word (SetGlobal global value) = (count ≡ 4) × WritesNumber 64 (word 0) global
+    × (word 1 ≡ value_word value.ty) × WritesNumber 64 (word 2) value.raw.lo × WritesNumber 64 (word 3) value.raw.hi
+OperandsWrite count word (GetGlobal global) = (count ≡ 1) × WritesNumber 64 (word 0) global
+OperandsWrite count word (SetRegister dst value) =
+    (count ≡ 3) × WritesNumber 8 (word 0) dst × WritesNumber 64 (word 1) value.lo × WritesNumber 64 (word 2) value.hi
+OperandsWrite count word (GetRegister a) = (count ≡ 1) × WritesNumber 8 (word 0) a
+OperandsWrite count word (Make op dst a) =
+    (count ≡ 3) × IsName make_name (word 0) op × WritesNumber 8 (word 1) dst × WritesNumber 8 (word 2) a
+OperandsWrite count word (Unary op dst a) =
+    (count ≡ 3) × IsName unary_name (word 0) op × WritesNumber 8 (word 1) dst × WritesNumber 8 (word 2) a
+OperandsWrite count word (Binary op dst a b) = (count ≡ 4) × IsName binary_name (word 0) op
+    × WritesNumber 8 (word 1) dst × WritesNumber 8 (word 2) a × WritesNumber 8 (word 3) b
+OperandsWrite count word (Ternary op dst a b c) = (count ≡ 5) × IsName ternary_name (word 0) op
+    × WritesNumber 8 (word 1) dst × WritesNumber 8 (word 2) a × WritesNumber 8 (word 3) b × WritesNumber 8 (word 4) c
+OperandsWrite count word (Shift op dst a amount) = (count ≡ 4) × IsName shift_name (word 0) op
+    × WritesNumber 8 (word 1) dst × WritesNumber 8 (word 2) a × WritesNumber 32 (word 3) amount
+OperandsWrite count word (Test op a) = (count ≡ 2) × IsName test_name (word 0) op × WritesNumber 8 (word 1) a
+OperandsWrite count word (Extract op a) = (count ≡ 3) × NamesExtract (word 0) (word 2) op × WritesNumber 8 (word 1) a
+OperandsWrite count word (Replace op dst a item) = (count ≡ 5) × NamesReplace (word 0) (word 3) op
+    × WritesNumber 8 (word 1) dst × WritesNumber 8 (word 2) a × WritesNumber 8 (word 4) item
+OperandsWrite count word (Shuffle dst a b lanes) =
+    (3 ≤ count) × WritesNumber 8 (word 0) dst × WritesNumber 8 (word 1) a × WritesNumber 8 (word 2) b
+OperandsWrite count word (VectorLoad op dst memory ptr offset) = (count ≡ 5) × IsName vector_load_name (word 0) op
+    × WritesNumber 8 (word 1) dst × WritesNumber 64 (word 2) memory × WritesNumber 64 (word 3) ptr
+    × WritesNumber 64 (word 4) offset
+OperandsWrite count word (LoadLane op dst a memory ptr offset) = (count ≡ 7) × NamesLoadLane (word 0) (word 3) op
+    × WritesNumber 8 (word 1) dst × WritesNumber 8 (word 2) a × WritesNumber 64 (word 4) memory
+    × WritesNumber 64 (word 5) ptr × WritesNumber 64 (word 6) offset
+OperandsWrite count word (VectorStore a memory ptr offset) = (count ≡ 4) × WritesNumber 8 (word 0) a
+    × WritesNumber 64 (word 1) memory × WritesNumber 64 (word 2) ptr × WritesNumber 64 (word 3) offset
+OperandsWrite count word (StoreLane op a memory ptr offset) = (count ≡ 6) × NamesStoreLane (word 0) (word 2) op
+    × WritesNumber 8 (word 1) a × WritesNumber 64 (word 3) memory × WritesNumber 64 (word 4) ptr
+    × WritesNumber 64 (word 5) offset
+
+-- the words after the first write what the call is given: its list, if it has one, is what the last of them write
 abbrev pub WritesOperands : Words → Call → Type 0
-WritesOperands words (SetFuel fuel) = (length words ≡ 1) × WritesNumber 64 (word_at words 0) fuel
-WritesOperands words GetFuel = length words ≡ 0
-WritesOperands words (NewMemory ty) =
-    (length words ≡ 4) × NamesType (word_at words 0) (word_at words 1) (word_at words 2) (word_at words 3) ty
-WritesOperands words (NewLentMemory ty) =
-    (length words ≡ 4) × NamesType (word_at words 0) (word_at words 1) (word_at words 2) (word_at words 3) ty
-WritesOperands words (GrowMemory memory pages) =
-    (length words ≡ 2) × WritesNumber 64 (word_at words 0) memory × WritesNumber 64 (word_at words 1) pages
-WritesOperands words (DropMemory memory) =
-    (length words ≡ 2) × (word_at words 0 ≡ codes "memory") × WritesNumber 64 (word_at words 1) memory
-WritesOperands words (Read memory offset len) = (length words ≡ 3)
-    × WritesNumber 64 (word_at words 0) memory × WritesNumber 64 (word_at words 1) offset
-    × WritesNumber 64 (word_at words 2) len
-WritesOperands words (Write memory offset bytes) = (2 ≤ length words)
-    × WritesNumber 64 (word_at words 0) memory × WritesNumber 64 (word_at words 1) offset
+WritesOperands words (Write memory offset bytes) =
+    OperandsWrite (length words) (word_at words) (Write memory offset bytes)
     × WritesNumbers 8 (drop 2 words) bytes.items
-WritesOperands words (Load op memory ptr offset) = (length words ≡ 4) × (word_at words 0 ≡ load_name op)
-    × WritesNumber 64 (word_at words 1) memory × WritesNumber 64 (word_at words 2) ptr
-    × WritesNumber 64 (word_at words 3) offset
-WritesOperands words (Store op memory ptr offset value) = (length words ≡ 5) × (word_at words 0 ≡ store_name op)
-    × WritesNumber 64 (word_at words 1) memory × WritesNumber 64 (word_at words 2) ptr
-    × WritesNumber 64 (word_at words 3) offset
-    × (lo : ℕ) × WritesNumber 64 (word_at words 4) lo × (value ≡ raw_of lo)
-WritesOperands words (NewTable ty init) = (length words ≡ 6)
-    × NamesTableType (word_at words 0) (word_at words 1) (word_at words 2) (word_at words 3) ty
-    × WritesReference (word_at words 4) (word_at words 5) init
-WritesOperands words (GrowTable table delta init) = (length words ≡ 4)
-    × WritesNumber 64 (word_at words 0) table × WritesNumber 64 (word_at words 1) delta
-    × WritesReference (word_at words 2) (word_at words 3) init
-WritesOperands words (DropTable table) =
-    (length words ≡ 2) × (word_at words 0 ≡ codes "table") × WritesNumber 64 (word_at words 1) table
-WritesOperands words (GetElement table index) =
-    (length words ≡ 2) × WritesNumber 64 (word_at words 0) table × WritesNumber 64 (word_at words 1) index
-WritesOperands words (SetElement table index value) = (length words ≡ 4)
-    × WritesNumber 64 (word_at words 0) table × WritesNumber 64 (word_at words 1) index
-    × WritesReference (word_at words 2) (word_at words 3) value
-WritesOperands words (InitTable table segment dst src len) = (length words ≡ 5)
-    × WritesNumber 64 (word_at words 0) table × WritesNumber 64 (word_at words 1) segment
-    × WritesNumber 64 (word_at words 2) dst
-    × WritesNumber 32 (word_at words 3) src × WritesNumber 32 (word_at words 4) len
-WritesOperands words (CopyTable dst_table dst src_table src len) = (length words ≡ 5)
-    × WritesNumber 64 (word_at words 0) dst_table × WritesNumber 64 (word_at words 1) dst
-    × WritesNumber 64 (word_at words 2) src_table × WritesNumber 64 (word_at words 3) src
-    × WritesNumber 64 (word_at words 4) len
-WritesOperands words (FillTable table dst value len) = (length words ≡ 5)
-    × WritesNumber 64 (word_at words 0) table × WritesNumber 64 (word_at words 1) dst
-    × WritesReference (word_at words 2) (word_at words 3) value × WritesNumber 64 (word_at words 4) len
 WritesOperands words (NewSegment ty items) =
-    (1 ≤ length words) × (word_at words 0 ≡ reference_word ty) × WritesNumbers 32 (drop 1 words) items.items
-WritesOperands words (DropItems segment) = (length words ≡ 1) × WritesNumber 64 (word_at words 0) segment
-WritesOperands words (NewGlobal value ty) = (length words ≡ 4)
-    × (word_at words 0 ≡ value_word ty.content) × (word_at words 1 ≡ mutability_word ty.mutability)
-    × WritesNumber 64 (word_at words 2) value.lo × WritesNumber 64 (word_at words 3) value.hi
-WritesOperands words (SetGlobal global value) = (length words ≡ 4)
-    × WritesNumber 64 (word_at words 0) global × (word_at words 1 ≡ value_word value.ty)
-    × WritesNumber 64 (word_at words 2) value.raw.lo × WritesNumber 64 (word_at words 3) value.raw.hi
-WritesOperands words (GetGlobal global) = (length words ≡ 1) × WritesNumber 64 (word_at words 0) global
-WritesOperands words (SetRegister dst value) = (length words ≡ 3)
-    × WritesNumber 8 (word_at words 0) dst × WritesNumber 64 (word_at words 1) value.lo
-    × WritesNumber 64 (word_at words 2) value.hi
-WritesOperands words (GetRegister a) = (length words ≡ 1) × WritesNumber 8 (word_at words 0) a
-WritesOperands words (Make op dst a) = (length words ≡ 3) × IsName make_name (word_at words 0) op
-    × WritesNumber 8 (word_at words 1) dst × WritesNumber 8 (word_at words 2) a
-WritesOperands words (Unary op dst a) = (length words ≡ 3) × IsName unary_name (word_at words 0) op
-    × WritesNumber 8 (word_at words 1) dst × WritesNumber 8 (word_at words 2) a
-WritesOperands words (Binary op dst a b) = (length words ≡ 4) × IsName binary_name (word_at words 0) op
-    × WritesNumber 8 (word_at words 1) dst × WritesNumber 8 (word_at words 2) a × WritesNumber 8 (word_at words 3) b
-WritesOperands words (Ternary op dst a b c) = (length words ≡ 5) × IsName ternary_name (word_at words 0) op
-    × WritesNumber 8 (word_at words 1) dst
-    × WritesNumber 8 (word_at words 2) a × WritesNumber 8 (word_at words 3) b × WritesNumber 8 (word_at words 4) c
-WritesOperands words (Shift op dst a amount) = (length words ≡ 4) × IsName shift_name (word_at words 0) op
-    × WritesNumber 8 (word_at words 1) dst × WritesNumber 8 (word_at words 2) a
-    × WritesNumber 32 (word_at words 3) amount
-WritesOperands words (Test op a) =
-    (length words ≡ 2) × IsName test_name (word_at words 0) op × WritesNumber 8 (word_at words 1) a
-WritesOperands words (Extract op a) =
-    (length words ≡ 3) × NamesExtract (word_at words 0) (word_at words 2) op × WritesNumber 8 (word_at words 1) a
-WritesOperands words (Replace op dst a item) = (length words ≡ 5) × NamesReplace (word_at words 0) (word_at words 3) op
-    × WritesNumber 8 (word_at words 1) dst × WritesNumber 8 (word_at words 2) a × WritesNumber 8 (word_at words 4) item
-WritesOperands words (Shuffle dst a b lanes) = (3 ≤ length words)
-    × WritesNumber 8 (word_at words 0) dst × WritesNumber 8 (word_at words 1) a × WritesNumber 8 (word_at words 2) b
-    × WritesLanes (drop 3 words) lanes
-WritesOperands words (VectorLoad op dst memory ptr offset) =
-    (length words ≡ 5) × IsName vector_load_name (word_at words 0) op
-    × WritesNumber 8 (word_at words 1) dst
-    × WritesNumber 64 (word_at words 2) memory × WritesNumber 64 (word_at words 3) ptr
-    × WritesNumber 64 (word_at words 4) offset
-WritesOperands words (LoadLane op dst a memory ptr offset) =
-    (length words ≡ 7) × NamesLoadLane (word_at words 0) (word_at words 3) op
-    × WritesNumber 8 (word_at words 1) dst × WritesNumber 8 (word_at words 2) a
-    × WritesNumber 64 (word_at words 4) memory × WritesNumber 64 (word_at words 5) ptr
-    × WritesNumber 64 (word_at words 6) offset
-WritesOperands words (VectorStore a memory ptr offset) = (length words ≡ 4) × WritesNumber 8 (word_at words 0) a
-    × WritesNumber 64 (word_at words 1) memory × WritesNumber 64 (word_at words 2) ptr
-    × WritesNumber 64 (word_at words 3) offset
-WritesOperands words (StoreLane op a memory ptr offset) =
-    (length words ≡ 6) × NamesStoreLane (word_at words 0) (word_at words 2) op
-    × WritesNumber 8 (word_at words 1) a
-    × WritesNumber 64 (word_at words 3) memory × WritesNumber 64 (word_at words 4) ptr
-    × WritesNumber 64 (word_at words 5) offset
+    OperandsWrite (length words) (word_at words) (NewSegment ty items) × WritesNumbers 32 (drop 1 words) items.items
+WritesOperands words (Shuffle dst a b lanes) =
+    OperandsWrite (length words) (word_at words) (Shuffle dst a b lanes) × WritesLanes (drop 3 words) lanes
+WritesOperands words call = OperandsWrite (length words) (word_at words) call
 
 -- the word that a command begins with, and the words after it, name this call
 abbrev pub NamesAfter : List ℕ → Words → Call → Type 0
