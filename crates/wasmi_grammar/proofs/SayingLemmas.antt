@@ -8,8 +8,8 @@ use Rattle.wasmi_raw.specs.RawVal.{raw_of}
 use Rattle.wasmi_types.specs.contracts.value.RefType as reference_type
 use Rattle.wasmi_types.specs.contracts.value.ValType as value_type
 use Rattle.wasmi_typed.specs.contracts.global.Mutability as mutability
-use Rattle.wasmi_core.specs.contracts.ops.LoadOp as load
-use Rattle.wasmi_core.specs.contracts.ops.StoreOp as store
+use Rattle.wasmi_scalar_ops.specs.contracts.access.LoadOp as load
+use Rattle.wasmi_scalar_ops.specs.contracts.access.StoreOp as store
 use Rattle.wasmi_vector_ops.specs.contracts.make.MakeOp as make
 use Rattle.wasmi_vector_ops.specs.contracts.unary.UnaryOp as unary
 use Rattle.wasmi_vector_ops.specs.contracts.binary.BinaryOp as binary
