@@ -1,5 +1,6 @@
 //! What the tests share: short words for calls and replies, and runs that compare the replies.
 ghost use Rattle.std.specs.Prelude.{None};
+ghost use Rattle.wasmi_meter.specs.Amounts.{nothing};
 ghost use Rattle.wasmi_core.specs.Totals.{HoldsTotals};
 
 mod absent;
@@ -218,9 +219,9 @@ fn runs_to(
 
 /// A new machine whose meter is off.
 fn unmetered(alloc: Global) -> Machine<'static>
-    ensures { HoldsTotals (record { bytes = 0; elements = 0; last = None }) result }
+    ensures { HoldsTotals (record { held = nothing; last = None }) result }
 {
-    Machine::new(alloc, Fuel::new(false, FuelCostsProvider::default()))
+    Machine::new(alloc, Fuel::unmetered())
 }
 
 /// A meter that takes one fuel for 64 copied bytes, where it is on.
@@ -235,7 +236,7 @@ fn meter(is_on: bool) -> Fuel {
 
 /// A new machine with such a meter, which is on.
 fn metered(alloc: Global) -> Machine<'static>
-    ensures { HoldsTotals (record { bytes = 0; elements = 0; last = None }) result }
+    ensures { HoldsTotals (record { held = nothing; last = None }) result }
 {
     Machine::new(alloc, meter(true))
 }
