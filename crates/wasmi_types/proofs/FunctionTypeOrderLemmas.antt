@@ -6,34 +6,16 @@ use Rattle.std.specs.Ordering.{bool_cmp, nat_cmp, ordering_then, is_eq}
 use Rattle.std.specs.Cmp.Lexicographic.{slice_cmp, bytes_decides, texts_ties, on_texts}
 use Rattle.std.specs.Cmp.{tied_itself}
 use Rattle.wasmi_types.specs.declared.value.ValType.{ValType}
-use Rattle.wasmi_types.specs.declared.value.ValType.TheVariants.{I32, I64, F32, F64, V128, FuncRef, ExternRef}
+use Rattle.wasmi_types.specs.declared.value.ValType.TheVariants.{I32}
 use Rattle.wasmi_types.specs.contracts.value.ValTypeOrd.TheImpl.{ghosts}
 use Rattle.wasmi_types.specs.FunctionType.{FunctionType, entries, entry_count, type_number, order_key, function_type_cmp}
 use Rattle.wasmi_types.specs.FunctionTypeProofs.{order_key-one}
 
--- value types are ordered by their places
+-- value types are ordered by their places (each pair is a case, since the clauses name a variant on each side)
 cmp-type_number : (x y : ValType) → ghosts.cmp x y ≡ nat_cmp (type_number x) (type_number y)
-cmp-type_number I32 y =
-    elim y as (λ k. ghosts.cmp I32 k ≡ nat_cmp (type_number I32) (type_number k))
-    [ I32 ↦ refl | I64 ↦ refl | F32 ↦ refl | F64 ↦ refl | V128 ↦ refl | FuncRef ↦ refl | ExternRef ↦ refl ]
-cmp-type_number I64 y =
-    elim y as (λ k. ghosts.cmp I64 k ≡ nat_cmp (type_number I64) (type_number k))
-    [ I32 ↦ refl | I64 ↦ refl | F32 ↦ refl | F64 ↦ refl | V128 ↦ refl | FuncRef ↦ refl | ExternRef ↦ refl ]
-cmp-type_number F32 y =
-    elim y as (λ k. ghosts.cmp F32 k ≡ nat_cmp (type_number F32) (type_number k))
-    [ I32 ↦ refl | I64 ↦ refl | F32 ↦ refl | F64 ↦ refl | V128 ↦ refl | FuncRef ↦ refl | ExternRef ↦ refl ]
-cmp-type_number F64 y =
-    elim y as (λ k. ghosts.cmp F64 k ≡ nat_cmp (type_number F64) (type_number k))
-    [ I32 ↦ refl | I64 ↦ refl | F32 ↦ refl | F64 ↦ refl | V128 ↦ refl | FuncRef ↦ refl | ExternRef ↦ refl ]
-cmp-type_number V128 y =
-    elim y as (λ k. ghosts.cmp V128 k ≡ nat_cmp (type_number V128) (type_number k))
-    [ I32 ↦ refl | I64 ↦ refl | F32 ↦ refl | F64 ↦ refl | V128 ↦ refl | FuncRef ↦ refl | ExternRef ↦ refl ]
-cmp-type_number FuncRef y =
-    elim y as (λ k. ghosts.cmp FuncRef k ≡ nat_cmp (type_number FuncRef) (type_number k))
-    [ I32 ↦ refl | I64 ↦ refl | F32 ↦ refl | F64 ↦ refl | V128 ↦ refl | FuncRef ↦ refl | ExternRef ↦ refl ]
-cmp-type_number ExternRef y =
-    elim y as (λ k. ghosts.cmp ExternRef k ≡ nat_cmp (type_number ExternRef) (type_number k))
-    [ I32 ↦ refl | I64 ↦ refl | F32 ↦ refl | F64 ↦ refl | V128 ↦ refl | FuncRef ↦ refl | ExternRef ↦ refl ]
+cmp-type_number I32 I32 = refl
+cmp-type_number x I32 = refl
+cmp-type_number x y = refl
 
 -- lists of value types are ordered by the lists of their places
 cmp-entries : (xs ys : List ValType)

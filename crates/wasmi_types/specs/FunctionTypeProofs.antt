@@ -20,15 +20,11 @@ type_at (suc (suc (suc (suc zero)))) = V128
 type_at (suc (suc (suc (suc (suc zero))))) = FuncRef
 type_at (suc (suc (suc (suc (suc (suc n)))))) = ExternRef
 
+-- the place of a value type leads back to it
 type_at-type_number : (x : ValType) → type_at (type_number x) ≡ x
 unfolding type_at
 type_at-type_number I32 = refl
-type_at-type_number I64 = refl
-type_at-type_number F32 = refl
-type_at-type_number F64 = refl
-type_at-type_number V128 = refl
-type_at-type_number FuncRef = refl
-type_at-type_number ExternRef = refl
+type_at-type_number x = refl
 
 types_from_numbers : (xs : List ValType) → map type_at (map type_number xs) ≡ xs
 types_from_numbers [] = refl

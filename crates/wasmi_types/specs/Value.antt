@@ -1,7 +1,7 @@
 -- Which value types are number types, and which are reference types.
 use Rattle.std.specs.Prelude.{Bool, true, false, Option, Some, None}
 use Rattle.wasmi_types.specs.declared.value.ValType.{ValType}
-use Rattle.wasmi_types.specs.declared.value.ValType.TheVariants.{I32, I64, F32, F64, V128, FuncRef, ExternRef}
+use Rattle.wasmi_types.specs.declared.value.ValType.TheVariants.{I32, I64, F32, F64, FuncRef, ExternRef}
 use Rattle.wasmi_types.specs.declared.value.RefType.{RefType}
 use Rattle.wasmi_types.specs.declared.value.RefType.TheVariants.{Func, Extern}
 
@@ -11,19 +11,13 @@ is_number_type I32 = true
 is_number_type I64 = true
 is_number_type F32 = true
 is_number_type F64 = true
-is_number_type V128 = false
-is_number_type FuncRef = false
-is_number_type ExternRef = false
+is_number_type _ = false
 
 -- the reference type of a value type, if it is one
 abbrev pub reference_of : ValType → Option RefType
-reference_of I32 = None
-reference_of I64 = None
-reference_of F32 = None
-reference_of F64 = None
-reference_of V128 = None
 reference_of FuncRef = Some Func
 reference_of ExternRef = Some Extern
+reference_of _ = None
 
 -- the value type of a reference type
 abbrev pub value_of : RefType → ValType
