@@ -12,20 +12,24 @@ pub field_lt : (k w a : ℕ) → field k w a < 2 ^ w
 unfolding field
 field_lt k w a = mod-lt (a / 2 ^ k) (pow_pos w)
 
+-- a field of what op gives is what op gives of the operands' fields, where op goes through division and remainders
+field_of_both : (op : ℕ → ℕ → ℕ) → ((a b k : ℕ) → op a b / 2 ^ k ≡ op (a / 2 ^ k) (b / 2 ^ k))
+    → ((a b w : ℕ) → op a b % 2 ^ w ≡ op (a % 2 ^ w) (b % 2 ^ w)) → (k w a b : ℕ)
+    → field k w (op a b) ≡ op (field k w a) (field k w b)
+unfolding field
+field_of_both op shr low k w a b = ap (λ n. n % 2 ^ w) (shr a b k) ∙ low (a / 2 ^ k) (b / 2 ^ k) w
+
 -- a field of the bits that a and b share is the bits that their fields share
 pub field_and : (k w a b : ℕ) → field k w (bit_and a b) ≡ bit_and (field k w a) (field k w b)
-unfolding field
-field_and k w a b = ap (λ n. n % 2 ^ w) (and_shr a b k) ∙ and_mod (a / 2 ^ k) (b / 2 ^ k) w
+field_and = field_of_both bit_and and_shr and_mod
 
 -- a field of the bits that a or b has is the bits that either's field has
 pub field_or : (k w a b : ℕ) → field k w (bit_or a b) ≡ bit_or (field k w a) (field k w b)
-unfolding field
-field_or k w a b = ap (λ n. n % 2 ^ w) (or_shr a b k) ∙ or_mod (a / 2 ^ k) (b / 2 ^ k) w
+field_or = field_of_both bit_or or_shr or_mod
 
 -- a field of the bits in which a and b differ is the bits in which their fields differ
 pub field_xor : (k w a b : ℕ) → field k w (bit_xor a b) ≡ bit_xor (field k w a) (field k w b)
-unfolding field
-field_xor k w a b = ap (λ n. n % 2 ^ w) (xor_shr a b k) ∙ xor_mod (a / 2 ^ k) (b / 2 ^ k) w
+field_xor = field_of_both bit_xor xor_shr xor_mod
 
 -- the bits of a sum from k on are the sum of those of a and b, where the bits below k give no carry
 shr_add : (k a b : ℕ) → a % 2 ^ k + b % 2 ^ k < 2 ^ k → (a + b) / 2 ^ k ≡ a / 2 ^ k + b / 2 ^ k

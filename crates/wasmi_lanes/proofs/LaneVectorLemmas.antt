@@ -1,5 +1,5 @@
 -- A vector is made of its lanes.
-use Rattle.std.proofs.Common.{ℕ, zero, suc, ◌+◌, ◌-◌, ◌*◌, ◌/◌, ◌%◌, ◌^◌, ◌<◌, ◌≡◌, sym, ◌∙◌, ap, subst, arith, add_comm, Bool, true, false, if◌then◌else◌}
+use Rattle.std.proofs.Common.{ℕ, zero, suc, ◌+◌, ◌-◌, ◌*◌, ◌/◌, ◌%◌, ◌^◌, ◌<◌, ◌≡◌, sym, ◌∙◌, ap, ap₂, subst, arith, add_comm, Bool, true, false, if◌then◌else◌}
 use Rattle.std.proofs.lemmas.Nat.{pow_pos, mod-pow-add}
 use Rattle.std.proofs.Math.Nat.{mod-eq_of_lt, mod-lt, mod-one, mul-suc}
 use Rattle.wasmi_lanes.specs.declared.item.LaneInteger.{Ghosts}
@@ -71,6 +71,32 @@ module _ {A : Type 0} (item : Ghosts A) where
       sym (item.image_of_read (lane item.width r i) (lane_below item.width r i))
       ∙ ap item.image (sym (is i h))
       ∙ rows i h (item_fits r i (items i) (is i h)))
+
+  -- the first n items are what is read from the lanes of v
+  abbrev pub AreLanesOf : ℕ → ℕ → (ℕ → A) → Type 0
+  AreLanesOf n v items = (i : ℕ) → i < n → items i ≡ item.read (lane item.width v i)
+
+  -- what is read from the lanes of r at each index is in this relation to what is read from those of a and b, so that a
+  -- row which gives the numbers of such items gives the vector r
+  pub record RelatedLanes (n : ℕ) (P : A → A → A → Type 0) (a b r : ℕ) : Type 0 where
+    pub make_vector : (row : A → A → ℕ)
+        → ((x y z : A) → item.Fits x → item.Fits y → item.Fits z → P x y z → item.image z ≡ row x y)
+        → r ≡ from_lanes item.width (λ i. row (item.read (lane item.width a i)) (item.read (lane item.width b i)))
+    pub each : (i : ℕ) → i < n
+        → P (item.read (lane item.width a i)) (item.read (lane item.width b i)) (item.read (lane item.width r i))
+
+  -- lanes are in the relation of the items that they are read as
+  pub related_lanes : {n a b r : ℕ} {x y z : ℕ → A} (P : A → A → A → Type 0) → n * bits item.width ≡ 128 → r < 2 ^ 128
+      → AreLanesOf n a x → AreLanesOf n b y → AreLanesOf n r z → ((i : ℕ) → i < n → P (x i) (y i) (z i))
+      → RelatedLanes n P a b r
+  related_lanes {n} {a} {b} {r} {x} {y} {z} P filled below is_x is_y is_z given = record {
+    make_vector = λ row rows.
+        items_make_vector n z r _ filled is_z below
+        (λ i h fits_z.
+        rows (x i) (y i) (z i) (item_fits a i (x i) (is_x i h)) (item_fits b i (y i) (is_y i h)) fits_z (given i h)
+        ∙ ap₂ row (is_x i h) (is_y i h));
+    each = λ i h. rw (sym (is_x i h), sym (is_y i h), sym (is_z i h)) (given i h);
+  }
 
   -- the number of an item that is all ones or all zeros
   pub image_of_choice : (t : Bool)
