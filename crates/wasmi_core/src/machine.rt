@@ -1,7 +1,9 @@
 //! The machine.
 ghost use Rattle.std.specs.Prelude.{◌≡◌, ◌<◌, ◌↔◌, ℕ, Option, IsSome, Some, length, slice_get, IfSome};
-ghost use Rattle.std.specs.Option.{option_copied};
+ghost use Rattle.std.specs.Option.{option_copied, option_copied_mut};
 
+use crate::registers::Registers;
+use crate::slots::Slots;
 use crate::store::Store;
 use crate::values::value_at;
 use std::alloc::Global as Allocator;
@@ -42,9 +44,7 @@ impl<'r> Machine<'r> {
     pub fn new(alloc: Allocator, fuel: Fuel) -> Machine<'r>
         ensures { result ≡ new_state fuel }
     {
-        Machine {
-            store: Store::new(alloc, fuel),
-        }
+        Machine::with_nothing(alloc, fuel, None)
     }
 
     /// A machine with this meter and this spare region, on which nothing was made yet. It takes no
@@ -52,12 +52,24 @@ impl<'r> Machine<'r> {
     pub fn with_region(alloc: Allocator, fuel: Fuel, region: &'r mut [u8]) -> Machine<'r>
         ensures { result ≡ with_spare (new_state fuel) region.entry.now }
     {
-        Machine {
-            store: Store {
-                spare: Some(region),
-                ..Store::new(alloc, fuel)
-            },
-        }
+        Machine::with_nothing(alloc, fuel, Some(region))
+    }
+
+    /// A machine with this meter, and with this spare region if there is one.
+    fn with_nothing(alloc: Allocator, fuel: Fuel, spare: Option<&'r mut [u8]>) -> Machine<'r>
+        ensures { result ≡ record (new_state fuel) { spare = option_copied_mut spare.entry } }
+    {
+        let store = Store {
+            alloc,
+            memories: Slots::new(alloc),
+            tables: Slots::new(alloc),
+            segments: Vec::new(alloc),
+            globals: Vec::new(alloc),
+            registers: Registers::default(),
+            fuel,
+            spare,
+        };
+        Machine { store }
     }
 
     /// The meter.

@@ -1,7 +1,7 @@
 //! The registers of a machine.
-ghost use Rattle.std.specs.Prelude.{◌≡◌, ◌+◌, Some, Ok, slice_get, replicate, length};
+ghost use Rattle.std.specs.Prelude.{◌≡◌, ◌+◌, Some, Ok, slice_get, length};
 ghost use Rattle.std.specs.Option.{option_map, option_and_then};
-ghost use Rattle.wasmi_raw.specs.RawVal.{raw_of, raw_of_vector};
+ghost use Rattle.wasmi_raw.specs.RawVal.{raw_of_vector};
 ghost use Rattle.wasmi_lanewise.specs.VectorTable.{shuffle};
 ghost use Rattle.wasmi_vector_ops.specs.AccessOps.{loaded_vector, loaded_lane};
 ghost use Rattle.wasmi_vector_ops.specs.BinaryOps.{binary_vector};
@@ -24,22 +24,13 @@ use wasmi_vector_ops::{
     VectorLoadOp,
 };
 
-/// The 16 registers of raw values, by their numbers from 0.
-#[derive(Debug, Drop)]
+/// The 16 registers of raw values, by their numbers from 0. At first they are zeros.
+#[derive(Debug, Default, Drop)]
 pub(crate) struct Registers {
     pub(crate) values: [RawVal; 16],
 }
 
 impl Registers {
-    /// Registers of zeros.
-    pub(crate) fn new() -> Self
-        ensures { result.values ≡ replicate 16 (raw_of 0) }
-    {
-        Registers {
-            values: [RawVal::from_bits64(0); 16],
-        }
-    }
-
     /// The value of a register, if there is one.
     pub(crate) fn get(&self, register: u8) -> Option<RawVal>
         ensures value { result ≡ slice_get self.now.values register }

@@ -48,26 +48,9 @@ impl<'r> Model for Store<'r> {
 }
 
 impl<'r> Store<'r> {
-    ghost use Rattle.wasmi_core.specs.State.{new_state};
     ghost use Rattle.wasmi_core.specs.FuelEffects.{SetsFuel, get_fuel_reply};
     ghost use Rattle.wasmi_core.specs.Steps.{Answers, AnswersAlone, subject_of, Memories, Tables, RegisterFile, Vectors};
     ghost use Rattle.wasmi_core.specs.World.{world};
-
-    /// A store with this meter, in which nothing was made yet. It takes no memory.
-    pub(crate) fn new(alloc: Allocator, fuel: Fuel) -> Self
-        ensures { result ≡ new_state fuel }
-    {
-        Store {
-            alloc,
-            memories: Slots::new(alloc),
-            tables: Slots::new(alloc),
-            segments: Vec::new(alloc),
-            globals: Vec::new(alloc),
-            registers: Registers::new(),
-            fuel,
-            spare: None,
-        }
-    }
 
     fn set_fuel(&mut self, fuel: u64) -> Reply
         ensures { SetsFuel fuel self.old result self.new }
