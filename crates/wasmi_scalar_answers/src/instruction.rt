@@ -4,6 +4,7 @@ ghost use Rattle.wasmi_scalar_answers.specs.Instructions.{Executes};
 ghost use Rattle.wasmi_scalar_answers.specs.Names.{instruction_named};
 
 mod call;
+mod integer;
 mod scalar;
 
 use crate::scalar_answer::ScalarAnswer;

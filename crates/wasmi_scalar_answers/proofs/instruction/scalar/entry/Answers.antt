@@ -1,8 +1,7 @@
-use Rattle.std.proofs.Common.{rules, tests, ◌≡◌, ◌∙◌, ◌∷◌, ℕ, Bor, List, [], Some, None, true, false, cond, map, refl, sym, ap, bytes_eq}
+use Rattle.std.proofs.Common.{rules, tests, ◌≡◌, ◌∙◌, ◌∷◌, ℕ, Bor, List, [], Some, true, false, cond, map, refl, sym, ap, bytes_eq}
 use Rattle.std.proofs.lemmas.Iterator.{YieldsList-from_slice}
 use Rattle.std.proofs.lemmas.Iterator.Search.{find_from_yields_List}
 use Rattle.std.specs.List.{find}
-use Rattle.std.specs.ControlFlow.{continue_value}
 use Rattle.std.specs.Option.{option_map}
 use Rattle.wasmi_scalar_answers.specs.declared.instruction.scalar.Instruction.{Instruction}
 use Rattle.wasmi_scalar_answers.specs.Names.{instruction_beside}
@@ -23,24 +22,12 @@ instruction_beside_found (it ∷ rest) name =
       | false ↦ instruction_beside_found rest name
     ]
 
-pub returns-in_err-instruction : goal.returns-in_err-instruction
-returns-in_err-instruction c =
-    let name = c.args.name.now in
-    let found : option_map (λ it. it.now) c.find.result ≡ find (λ it. bytes_eq it.0.now name) c.args.names.now =
-    find_from_yields_List (λ it. bytes_eq it.0.now name) _ _ c.find.result c.find.ensures.ran
-    (YieldsList-from_slice _ c.iter.ensures.rest) (λ x b q k. search (rules, tests)) in
-    let none : c.find.result ≡ None = c.branch-instruction.ensures ∙ ap continue_value c.in_err-instruction.is in
-    c.from_residual.ensures
-    ∙ sym (instruction_beside_found c.args.names.now name
-    ∙ ap (option_map (λ it. it.1)) (sym found ∙ ap (option_map (λ it. it.now)) none))
-
 pub returns : goal.returns
 returns c =
     let name = c.args.name.now in
-    let found : option_map (λ it. it.now) c.find.result ≡ find (λ it. bytes_eq it.0.now name) c.args.names.now =
-    find_from_yields_List (λ it. bytes_eq it.0.now name) _ _ c.find.result c.find.ensures.ran
+    let found : option_map (λ it. it.now) c.find-row.result ≡ find (λ it. bytes_eq it.0.now name) c.args.names.now =
+    find_from_yields_List (λ it. bytes_eq it.0.now name) _ _ c.find-row.result c.find-row.ensures.ran
     (YieldsList-from_slice _ c.iter.ensures.rest) (λ x b q k. search (rules, tests)) in
-    let some : c.find.result ≡ Some c.in_ok-instruction.field-0 =
-    c.branch-instruction.ensures ∙ ap continue_value c.in_ok-instruction.is in
-    sym (instruction_beside_found c.args.names.now name
-    ∙ ap (option_map (λ it. it.1)) (sym found ∙ ap (option_map (λ it. it.now)) some))
+    let is : c.map.result ≡ option_map (λ it. it.1) (option_map (λ it. it.now) c.find-row.result) =
+    search (rules, tests) in
+    is ∙ ap (option_map (λ it. it.1)) found ∙ sym (instruction_beside_found c.args.names.now name)
