@@ -1,7 +1,7 @@
 -- What a line adds is told by its words: what is said after it is a function of them and of what was said before.
 use Rattle.std.proofs.Common.{ℕ, ◌≡◌, ◌∙◌, ◌++◌, List, [], ◌∷◌, Option, Some, None, bytes_eq, cond, codes, map, drop}
-use Rattle.std.proofs.Common.{IsSomeAnd, inl, inr, refl, sym, ap}
-use Rattle.std.specs.Option.{option_map, option_and_then}
+use Rattle.std.proofs.Common.{inl, inr, refl, sym, ap}
+use Rattle.std.specs.Option.{option_map, option_map_or, option_and_then}
 use Rattle.std.proofs.lemmas.List.{map-append}
 use Rattle.wasmi_raw.specs.declared.raw.RawVal.{RawVal}
 use Rattle.wasmi_raw.specs.RawVal.{raw_of}
@@ -27,8 +27,11 @@ use Rattle.wasmi_core.specs.declared.calls.Call.TheVariants.{SetRegister, GetReg
 use Rattle.wasmi_core.specs.declared.calls.Call.TheVariants.{Shift}
 use Rattle.wasmi_core.specs.declared.calls.Call.TheVariants.{Test, Extract, Replace, Shuffle, VectorLoad, LoadLane}
 use Rattle.wasmi_core.specs.declared.calls.Call.TheVariants.{VectorStore, StoreLane}
+use Rattle.wasmi_grammar.specs.declared.script.Line.{Line}
+use Rattle.wasmi_grammar.specs.declared.script.Line.TheVariants.{Meter, Limiter, Region, As, Call as Command}
 use Rattle.wasmi_grammar.specs.declared.script.TenantRun.{TenantRun}
-use Rattle.wasmi_grammar.specs.declared.script.Script.{Script}
+use Rattle.wasmi_grammar.specs.declared.script.ScriptBuilder.{ScriptBuilder}
+use Rattle.wasmi_grammar.specs.declared.header.Header.{Header}
 use Rattle.wasmi_grammar.specs.declared.header.MeterLine.{MeterLine}
 use Rattle.wasmi_grammar.specs.declared.header.MeterLine.TheVariants.{Off, On}
 use Rattle.wasmi_grammar.specs.declared.header.LimiterLine.{LimiterLine}
@@ -47,16 +50,15 @@ use Rattle.wasmi_operands.specs.ShiftNames.{shift_name}
 use Rattle.wasmi_operands.specs.TestNames.{test_name}
 use Rattle.wasmi_operands.specs.VectorLoadNames.{vector_load_name}
 use Rattle.wasmi_grammar.specs.Commands.{command_word, WritesOperands}
-use Rattle.wasmi_grammar.specs.Headers.{NamesMeter, NamesLimiter, NamesRegion, WritesLimiter, limiter_word}
-use Rattle.wasmi_grammar.specs.Lines.{AddsLine}
+use Rattle.wasmi_grammar.specs.Headers.{WritesMeter, WritesLimiter, WritesRegion, limiter_word}
+use Rattle.wasmi_grammar.specs.Lines.{NamesLine, AddsLine, AddsWords}
 use Rattle.wasmi_grammar.specs.Sayings.{CallSaid, WriteSaid, SegmentSaid, OtherCall as Other, call_said, LimiterSaid}
 use Rattle.wasmi_grammar.specs.Sayings.{AnswersSaid}
-use Rattle.wasmi_grammar.specs.Sayings.{OtherLimiter, limiter_said, part_said, ScriptSaid, script_said}
-use Rattle.wasmi_grammar.proofs.LinesLemmas.{meter_first, region_first}
+use Rattle.wasmi_grammar.specs.Sayings.{OtherLimiter, limiter_said, PartSaid, part_said}
 use Rattle.wasmi_operands.proofs.NamesLemmas.{named, named_is}
 use Rattle.wasmi_operands.proofs.TypeWordsLemmas.{reference_named, reference_is}
-use Rattle.wasmi_operands.proofs.LaneNamesLemmas.{extract_named, extract_is, replace_named, replace_is}
-use Rattle.wasmi_operands.proofs.LaneNamesLemmas.{load_lane_named, load_lane_is, store_lane_named, store_lane_is}
+use Rattle.wasmi_operands.specs.LaneNames.{extractions, replacements, lane_loads, lane_stores}
+use Rattle.wasmi_operands.proofs.LaneNamesLemmas.{lane_named, lane_is}
 use Rattle.wasmi_grammar.proofs.MemoryWordsLemmas.{memory_named, memory_is}
 use Rattle.wasmi_grammar.proofs.TableWordsLemmas.{table_named, table_is}
 use Rattle.wasmi_grammar.proofs.AnswersLemmas.{answers_named, answers_is}
@@ -69,6 +71,22 @@ found_or (row ∷ rows) word other = cond (bytes_eq row.0 word) row.1 (found_or 
 -- the same of a table that has a thing or none
 abbrev beside : {A : Type 0} → List (List ℕ × Option A) → List ℕ → Option A
 beside rows word = found_or rows word None
+
+-- what a line says, with its lists as lists
+pub data LineSaid : Type 0 where
+  MeterSaid : MeterLine → LineSaid
+  LimiterTold : LimiterSaid → LineSaid
+  RegionSaid : RegionLine → LineSaid
+  TenantSaid : ℕ → LineSaid
+  CallTold : CallSaid → LineSaid
+
+-- what a line says
+abbrev pub line_said : Line → LineSaid
+line_said (Meter line) = MeterSaid line
+line_said (Limiter line) = LimiterTold (limiter_said line)
+line_said (Region line) = RegionSaid line
+line_said (As tenant) = TenantSaid tenant
+line_said (Command call) = CallTold (call_said call)
 
 abbrev numbers_in : Words → List ℕ
 numbers_in words = map (λ word. decimal_value word.now) words
@@ -163,10 +181,10 @@ module _ (words : Words) where
             (named shift.enum tt shift_name (word 0)),
       ) ∷
       (codes "test", option_map (λ op. Other (Test op (number 1))) (named test.enum tt test_name (word 0))) ∷
-      (codes "extract", option_map (λ op. Other (Extract op (number 1))) (extract_named (word 0) (word 2))) ∷ (
+      (codes "extract", option_map (λ op. Other (Extract op (number 1))) (lane_named extractions (word 0) (word 2))) ∷ (
         codes "replace",
         option_map (λ op. Other (Replace op (number 1) (number 2) (number 4)))
-            (replace_named (word 0) (word 3)),
+            (lane_named replacements (word 0) (word 3)),
       ) ∷
       (codes "shuffle", Some (Other (Shuffle (number 0) (number 1) (number 2) (numbers_in (drop 3 words))))) ∷ (
         codes "vload",
@@ -176,12 +194,12 @@ module _ (words : Words) where
         codes "vloadlane",
         option_map
             (λ op. Other (LoadLane op (number 1) (number 2) (number 4) (number 5) (number 6)))
-            (load_lane_named (word 0) (word 3)),
+            (lane_named lane_loads (word 0) (word 3)),
       ) ∷
       (codes "vstore", Some (Other (VectorStore (number 0) (number 1) (number 2) (number 3)))) ∷ (
         codes "vstorelane",
         option_map (λ op. Other (StoreLane op (number 1) (number 3) (number 4) (number 5)))
-            (store_lane_named (word 0) (word 2)),
+            (lane_named lane_stores (word 0) (word 2)),
       ) ∷
       (codes "drop", beside drops_named (word 0)) ∷
       []
@@ -261,10 +279,10 @@ module _ (words : Words) where
   call_is (Test op a) w =
       λ i. option_map (λ op. Other (Test op (sym w.2.1 i))) (named_is test.enum tt test_name refl (word 0) op w.1 i)
   call_is (Extract op a) w = λ i.
-      option_map (λ op. Other (Extract op (sym w.2.1 i))) (extract_is (word 0) (word 2) op w.1 i)
+      option_map (λ op. Other (Extract op (sym w.2.1 i))) (lane_is extractions (word 0) (word 2) op w.1 i)
   call_is (Replace op dst a item) w = λ i.
       option_map (λ op. Other (Replace op (sym w.2.1 i) (sym w.3.1 i) (sym w.4.1 i)))
-      (replace_is (word 0) (word 3) op w.1 i)
+      (lane_is replacements (word 0) (word 3) op w.1 i)
   call_is (Shuffle dst a b lanes) w = λ i.
       Some (Other (Shuffle (sym w.0.1.1 i) (sym w.0.2.1 i) (sym w.0.3.1 i) (sym w.1.written.1 i)))
   call_is (VectorLoad op dst memory ptr offset) w = λ i.
@@ -272,163 +290,149 @@ module _ (words : Words) where
       (named_is vector_load.enum tt vector_load_name refl (word 0) op w.1 i)
   call_is (LoadLane op dst a memory ptr offset) w = λ i.
       option_map (λ op. Other (LoadLane op (sym w.2.1 i) (sym w.3.1 i) (sym w.4.1 i) (sym w.5.1 i) (sym w.6.1 i)))
-      (load_lane_is (word 0) (word 3) op w.1 i)
+      (lane_is lane_loads (word 0) (word 3) op w.1 i)
   call_is (VectorStore a memory ptr offset) w = λ i.
       Some (Other (VectorStore (sym w.1.1 i) (sym w.2.1 i) (sym w.3.1 i) (sym w.4.1 i)))
   call_is (StoreLane op a memory ptr offset) w = λ i.
       option_map (λ op. Other (StoreLane op (sym w.2.1 i) (sym w.3.1 i) (sym w.4.1 i) (sym w.5.1 i)))
-      (store_lane_is (word 0) (word 2) op w.1 i)
+      (lane_is lane_stores (word 0) (word 2) op w.1 i)
   call_is (DropMemory memory) w = ap (beside drops_named) w.1 ∙ (λ i. Some (Other (DropMemory (sym w.2.1 i))))
   call_is (DropTable table) w = ap (beside drops_named) w.1 ∙ (λ i. Some (Other (DropTable (sym w.2.1 i))))
 
-  -- what the operands of a limiter line say
+  -- what the operands of each header line say, and those of `as`
+  abbrev meter_named : MeterLine
+  meter_named = cond (bytes_eq (word 0) (codes "off")) Off (On (number 1))
+
   abbrev quota_named : LimiterSaid
   quota_named = OtherLimiter (Quota (record { bytes = number 0; elements = number 1 }))
 
   abbrev tenants_named : LimiterSaid
   tenants_named = OtherLimiter (Tenants (record { count = number 0; bytes = number 1; elements = number 2 }))
 
-  abbrev limiters_named : List (List ℕ × Option LimiterSaid)
-  limiters_named =
-      (codes "quota", Some quota_named) ∷ (codes "answers", Some (AnswersSaid (answers_named words)))
-      ∷ (codes "tenants", Some tenants_named) ∷ []
+  abbrev region_named : RegionLine
+  region_named = record { len = number 0; byte = number 1 }
+
+  -- the line that operands write, by the word before them
+  abbrev lines_named : List (List ℕ × Option LineSaid)
+  lines_named =
+      (codes "meter", Some (MeterSaid meter_named)) ∷
+      (codes "quota", Some (LimiterTold quota_named)) ∷
+      (codes "answers", Some (LimiterTold (AnswersSaid (answers_named words)))) ∷
+      (codes "tenants", Some (LimiterTold tenants_named)) ∷
+      (codes "region", Some (RegionSaid region_named)) ∷
+      (codes "as", Some (TenantSaid (number 0))) ∷
+      []
+
+  abbrev line_named : List ℕ → Option LineSaid
+  line_named name = found_or lines_named name (option_map CallTold (beside calls_named name))
+
+  -- operands that write a meter line give it
+  meter_is : (line : MeterLine) → WritesMeter words line → meter_named ≡ line
+  meter_is Off w = λ i. cond (bytes_eq (w.1 i) (codes "off")) Off (On (number 1))
+  meter_is (On bytes) w =
+      (λ i. cond (bytes_eq (w.1 i) (codes "off")) Off (On (number 1))) ∙ (λ i. On (sym w.2.1 i))
+
+  -- operands that write a region line give it
+  region_is : (line : RegionLine) → WritesRegion words line → region_named ≡ line
+  region_is line w = λ i. record { len = sym w.1.1 i; byte = sym w.2.1 i }
 
   -- operands that write a limiter line give what the line says, beside its word
   limiter_is : (line : LimiterLine) → WritesLimiter words line
-      → beside limiters_named (limiter_word line) ≡ Some (limiter_said line)
-  limiter_is (Quota line) w = λ i. Some (OtherLimiter (Quota (record { bytes = sym w.1.1 i; elements = sym w.2.1 i })))
-  limiter_is (Answers answers) w = λ i. Some (AnswersSaid (answers_is words answers.items w i))
+      → line_named (limiter_word line) ≡ Some (LimiterTold (limiter_said line))
+  limiter_is (Quota line) w =
+      λ i. Some (LimiterTold (OtherLimiter (Quota (record { bytes = sym w.1.1 i; elements = sym w.2.1 i }))))
+  limiter_is (Answers answers) w = λ i. Some (LimiterTold (AnswersSaid (answers_is words answers.items w i)))
   limiter_is (Tenants line) w =
-      λ i. Some (OtherLimiter (Tenants (record { count = sym w.1.1 i; bytes = sym w.4.1 i; elements = sym w.5.1 i })))
+      let count = sym w.1.1 in
+      let bytes = sym w.4.1 in
+      let elements = sym w.5.1 in
+      λ i. Some (LimiterTold (OtherLimiter
+      (Tenants (record { count = count i; bytes = bytes i; elements = elements i }))))
 
-  -- what the words of a meter line say
-  abbrev meter_named : MeterLine
-  meter_named = cond (bytes_eq (word 1) (codes "off")) Off (On (number 2))
-
-  -- a meter line that the words name is the one that they give
-  meter_is : (line : Option MeterLine) → IsSomeAnd line (NamesMeter words) → line ≡ Some meter_named
-  meter_is None w = absurd w
-  meter_is (Some Off) w = λ i. Some (cond (bytes_eq (sym w.2 i) (codes "off")) Off (On (number 2)))
-  meter_is (Some (On bytes)) w =
-      (λ i. Some (On (w.3.1 i))) ∙ (λ i. Some (cond (bytes_eq (sym w.2 i) (codes "off")) Off (On (number 2))))
-
-  -- what the words of a region line say
-  abbrev region_named : RegionLine
-  region_named = record { len = number 1; byte = number 2 }
-
-  -- a region line that the words name is the one that they give
-  region_is : (line : Option RegionLine) → IsSomeAnd line (NamesRegion words) → line ≡ Some region_named
-  region_is None w = absurd w
-  region_is (Some line) w = λ i. Some (record { len = w.2.1 i; byte = w.3.1 i })
-
--- what is said after a line that names a call
-abbrev with_call : ScriptSaid → Option CallSaid → ScriptSaid
-with_call said None = said
-with_call said (Some call) = record said { calls = said.calls ++ call ∷ [] }
-
--- what is said after a limiter line, or an `as` line
-module _ (words : Words) (said : ScriptSaid) where
-  abbrev with_limiter : ScriptSaid
-  with_limiter = record said { limiter = beside (limiters_named (drop 1 words)) (word words 0) }
-
-  abbrev with_part : ScriptSaid
-  with_part = record said {
-    earlier = said.earlier ++ (record { tenant = said.tenant; calls = said.calls }) ∷ [];
-    tenant = number words 1;
-    calls = [];
-  }
-
-  -- what is said after a line, by its first word
-  abbrev lines_named : List (List ℕ × ScriptSaid)
-  lines_named =
-      (codes "meter", record said { meter = Some (meter_named words) }) ∷
-      (codes "quota", with_limiter) ∷ (codes "answers", with_limiter) ∷ (codes "tenants", with_limiter) ∷
-      (codes "region", record said { region = Some (region_named words) }) ∷ (codes "as", with_part) ∷ []
-
-  abbrev said_by : List ℕ → ScriptSaid
-  said_by text = found_or lines_named text (with_call said (beside (calls_named (drop 1 words)) text))
-
-  -- no line but a command is told by a command's word
-  told_by_call : (call : Call) (other : ScriptSaid) → found_or lines_named (command_word call) other ≡ other
+  -- a command's word is the word of no other line
+  told_by_call : (call : Call) (other : Option LineSaid) → found_or lines_named (command_word call) other ≡ other
   told_by_call GetFuel other = refl
   told_by_call call other = refl
 
-  -- a limiter line's word tells what is said after a limiter line
-  told_by_limiter : (line : LimiterLine) → said_by (limiter_word line) ≡ with_limiter
-  told_by_limiter (Quota line) = refl
-  told_by_limiter (Answers answers) = refl
-  told_by_limiter (Tenants line) = refl
+  -- a first word and operands that say a line give what it says
+  pub line_is : (name : List ℕ) (line : Line) → NamesLine name words line → line_named name ≡ Some (line_said line)
+  line_is name (Meter line) w = ap line_named w.0 ∙ ap (λ m. Some (MeterSaid m)) (meter_is line w.1)
+  line_is name (Limiter line) w = ap line_named (sym w.0) ∙ limiter_is line w.1
+  line_is name (Region line) w = ap line_named w.0 ∙ ap (λ r. Some (RegionSaid r)) (region_is line w.1)
+  line_is name (As tenant) w = ap line_named w.0 ∙ ap (λ t. Some (TenantSaid t)) (sym w.1.1.1)
+  line_is name (Command call) w =
+      ap line_named (sym w.0) ∙ told_by_call call (option_map CallTold (beside calls_named (command_word call)))
+      ∙ ap (option_map CallTold) (call_is call w.1)
+
+-- what lines say: the header lines, the parts before the last `as` line, the last tenant and its calls
+pub record LinesSaid : Type 0 where
+  pub meter : Option MeterLine
+  pub limiter : Option LimiterSaid
+  pub region : Option RegionLine
+  pub earlier : List PartSaid
+  pub tenant : ℕ
+  pub calls : List CallSaid
+
+-- what a header, parts, and a last part of this tenant and these calls say
+abbrev pub said_of : Header → List TenantRun → ℕ → List Call → LinesSaid
+said_of header earlier tenant calls = record {
+  meter = header.meter;
+  limiter = option_map limiter_said header.limiter;
+  region = header.region;
+  earlier = map part_said earlier;
+  tenant = tenant;
+  calls = map call_said calls;
+}
+
+-- what the lines of a builder say
+abbrev pub lines_said : ScriptBuilder → LinesSaid
+lines_said builder = said_of builder.header builder.earlier.items builder.tenant builder.calls.items
+
+-- the lines of two builders say the same
+abbrev pub BuildTheSame : ScriptBuilder → ScriptBuilder → Type 0
+BuildTheSame builder builder' = lines_said builder ≡ lines_said builder'
 
 -- what is said after a line
-pub said_after : Words → ScriptSaid → ScriptSaid
-said_after words said = said_by words said (word words 0)
+abbrev said_with : LinesSaid → LineSaid → LinesSaid
+said_with said (MeterSaid line) = record said { meter = Some line }
+said_with said (LimiterTold line) = record said { limiter = Some line }
+said_with said (RegionSaid line) = record said { region = Some line }
+said_with said (TenantSaid tenant) = record said {
+  earlier = said.earlier ++ (record { tenant = said.tenant; calls = said.calls }) ∷ [];
+  tenant = tenant;
+  calls = [];
+}
+said_with said (CallTold call) = record said { calls = said.calls ++ call ∷ [] }
 
--- a limiter line that is named
-limiter_said_is : (words : Words) (line : Option LimiterLine) → IsSomeAnd line (NamesLimiter words)
-    → (named : LimiterLine) × (limiter_word named ≡ word words 0)
-    × (option_map limiter_said line ≡ beside (limiters_named (drop 1 words)) (word words 0))
-limiter_said_is words None w = absurd w
-limiter_said_is words (Some line) w = (
-  line,
-  w.0,
-  sym (ap (beside (limiters_named (drop 1 words))) (sym w.0) ∙ limiter_is (drop 1 words) line w.1),
-)
+-- what is said after words
+pub said_after : Words → LinesSaid → LinesSaid
+said_after words said = option_map_or (said_with said) (line_named (drop 1 words) (word_at words 0)) said
 
 -- a line leads from what is said before it to what is said after it
-pub added : (old : Script) (words : Words) (new : Script) → AddsLine old words new
-    → script_said new ≡ said_after words (script_said old)
-unfolding said_after
-added old words new (inl a) = ap script_said a.1 ∙ ap (λ ws. said_after ws (script_said old)) (sym a.0)
-added old words new (inr (inl a)) =
-    (λ i. record {
-      meter = meter_is words new.header.meter a.meter i;
-      limiter = option_map limiter_said (a.limiter i);
-      region = a.region i;
-      earlier = map part_said (a.commands.earlier i);
-      tenant = a.commands.tenant i;
-      calls = map call_said (a.commands.calls i);
-    }) ∙ ap (said_by words (script_said old)) (sym (meter_first words new.header.meter a.meter))
-added old words new (inr (inr (inl a))) =
-    let named = limiter_said_is words new.header.limiter a.limiter in
-    (λ i. record {
-      meter = a.meter i;
-      limiter = named.2 i;
-      region = a.region i;
-      earlier = map part_said (a.commands.earlier i);
-      tenant = a.commands.tenant i;
-      calls = map call_said (a.commands.calls i);
-    }) ∙ sym (told_by_limiter words (script_said old) named.0) ∙ ap (said_by words (script_said old)) named.1
-added old words new (inr (inr (inr (inl a)))) =
-    (λ i. record {
-      meter = a.meter i;
-      limiter = option_map limiter_said (a.limiter i);
-      region = region_is words new.header.region a.region i;
-      earlier = map part_said (a.commands.earlier i);
-      tenant = a.commands.tenant i;
-      calls = map call_said (a.commands.calls i);
-    }) ∙ ap (said_by words (script_said old)) (sym (region_first words new.header.region a.region))
-added old words new (inr (inr (inr (inr (inl a))))) =
-    let said = script_said old in
-    let operands = drop 1 words in
-    let calls = ap (map call_said) a.calls ∙ map-append call_said old.calls.items (a.call ∷ []) in
-    let after = with_call said (beside (calls_named operands) (command_word a.call)) in
-    (λ i. record {
-      meter = (a.header i).meter;
-      limiter = option_map limiter_said (a.header i).limiter;
-      region = (a.header i).region;
-      earlier = map part_said (a.earlier i);
-      tenant = a.tenant i;
-      calls = calls i;
-    }) ∙ ap (with_call said) (sym (call_is operands a.call a.named.1)) ∙ sym (told_by_call words said a.call after)
-    ∙ ap (said_by words said) a.named.0
-added old words new (inr (inr (inr (inr (inr a))))) =
+line_added : (old : ScriptBuilder) (line : Line) (new : ScriptBuilder) → AddsLine old line new
+    → lines_said new ≡ said_with (lines_said old) (line_said line)
+line_added old (Meter line) new a =
+    λ i. said_of (a.header i) (a.commands.earlier i) (a.commands.tenant i) (a.commands.calls i)
+line_added old (Limiter line) new a =
+    λ i. said_of (a.header i) (a.commands.earlier i) (a.commands.tenant i) (a.commands.calls i)
+line_added old (Region line) new a =
+    λ i. said_of (a.header i) (a.commands.earlier i) (a.commands.tenant i) (a.commands.calls i)
+line_added old (As tenant) new a =
     let part : TenantRun = record { tenant = old.tenant; calls = old.calls } in
-    let earlier = ap (map part_said) a.earlier ∙ map-append part_said old.earlier.items (part ∷ []) in
-    (λ i. record {
-      meter = (a.header i).meter;
-      limiter = option_map limiter_said (a.header i).limiter;
-      region = (a.header i).region;
-      earlier = earlier i;
-      tenant = a.tenant.2.1 i;
-      calls = map call_said (a.calls i);
-    }) ∙ ap (said_by words (script_said old)) (sym a.tenant.1)
+    let said = said_of old.header old.earlier.items tenant [] in
+    (λ i. said_of (a.header i) (a.earlier i) (a.tenant i) (a.calls i))
+    ∙ ap (λ parts. record said { earlier = parts }) (map-append part_said old.earlier.items (part ∷ []))
+line_added old (Command call) new a =
+    (λ i. said_of (a.header i) (a.earlier i) (a.tenant i) (a.calls i))
+    ∙ ap (λ calls. record (lines_said old) { calls = calls }) (map-append call_said old.calls.items (call ∷ []))
+
+-- and so do words
+pub added : (old : ScriptBuilder) (words : Words) (new : ScriptBuilder) → AddsWords old words new
+    → lines_said new ≡ said_after words (lines_said old)
+unfolding said_after
+added old words new (inl a) = ap lines_said a.1 ∙ ap (λ ws. said_after ws (lines_said old)) (sym a.0)
+added old words new (inr (line, names, adds)) =
+    let said = lines_said old in
+    line_added old line new adds
+    ∙ ap (λ told. option_map_or (said_with said) told said)
+    (sym (line_is (drop 1 words) (word_at words 0) line names))

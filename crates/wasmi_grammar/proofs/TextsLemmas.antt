@@ -1,10 +1,12 @@
 -- What a line adds is told by the texts of its words alone.
-use Rattle.std.proofs.Common.{ℕ, ◌<◌, ◌^◌, ◌≡◌, ◌∙◌, List, [], ◌∷◌, Bor, Option, Some, None, IsSomeAnd, length, map, drop, slice_index_or, inl, inr, refl, sym, ap, subst}
+use Rattle.std.proofs.Common.{ℕ, ◌<◌, ◌^◌, ◌≡◌, ◌∙◌, List, [], ◌∷◌, Bor, length, map, drop, slice_index_or, inl, inr, refl, sym, ap, subst}
 use Rattle.std.proofs.lemmas.List.{length-map, drop-map}
 use Rattle.std.proofs.lemmas.List.Elements.{All-cons, All-nil, All-head, All-tail}
 use Rattle.wasmi_core.specs.declared.calls.Call.{Call}
 use Rattle.wasmi_core.specs.declared.calls.Call.TheVariants.{Write, NewSegment, Shuffle}
-use Rattle.wasmi_grammar.specs.declared.script.Script.{Script}
+use Rattle.wasmi_grammar.specs.declared.script.Line.{Line}
+use Rattle.wasmi_grammar.specs.declared.script.Line.TheVariants.{Meter, Limiter, Region, As, Call as Command}
+use Rattle.wasmi_grammar.specs.declared.script.ScriptBuilder.{ScriptBuilder}
 use Rattle.wasmi_grammar.specs.declared.header.MeterLine.{MeterLine}
 use Rattle.wasmi_grammar.specs.declared.header.MeterLine.TheVariants.{Off, On}
 use Rattle.wasmi_grammar.specs.declared.header.LimiterLine.{LimiterLine}
@@ -13,9 +15,9 @@ use Rattle.wasmi_grammar.specs.declared.header.RegionLine.{RegionLine}
 use Rattle.wasmi_operands.specs.Words.{Words, word_at}
 use Rattle.wasmi_operands.specs.Numbers.{IsDecimal, decimal_value, AreNumbers, WritesNumbers}
 use Rattle.wasmi_operands.specs.LaneNames.{WritesLanes}
-use Rattle.wasmi_grammar.specs.Commands.{OperandsWrite, WritesOperands, Names}
-use Rattle.wasmi_grammar.specs.Headers.{NamesMeter, NamesLimiter, NamesRegion, NamesTenant, WritesLimiter, tenants_of}
-use Rattle.wasmi_grammar.specs.Lines.{AddsLine}
+use Rattle.wasmi_grammar.specs.Commands.{OperandsWrite, WritesOperands}
+use Rattle.wasmi_grammar.specs.Headers.{WritesMeter, WritesLimiter, WritesRegion, WritesTenant}
+use Rattle.wasmi_grammar.specs.Lines.{NamesLine, AddsWords}
 
 -- words with the same texts
 abbrev texts : Words → List (List ℕ)
@@ -61,7 +63,7 @@ retell_lanes words words' lanes same writes = record {
   written = retell_numbers 5 words words' lanes same writes.written;
 }
 
--- and so do the operands of a call, and the words of a header line
+-- and so do the operands of a line
 module _ (words words' : Words) (same : texts words ≡ texts words') where
   -- words with the same texts are as many
   as_many : length words' ≡ length words
@@ -78,7 +80,7 @@ module _ (words words' : Words) (same : texts words ≡ texts words') where
   number k w = (subst IsDecimal (at k) w.0, w.1 ∙ ap decimal_value (at k), w.2)
 
   -- without as many of their first words they have the same texts
-  pub later : (k : ℕ) → texts (drop k words) ≡ texts (drop k words')
+  later : (k : ℕ) → texts (drop k words) ≡ texts (drop k words')
   later k = sym (drop-map (λ word. word.now) k words) ∙ ap (drop k) same ∙ drop-map (λ word. word.now) k words'
 
   -- operands with the same texts write the same but for a list at their end
@@ -110,86 +112,38 @@ module _ (words words' : Words) (same : texts words ≡ texts words') where
   retell_limiter (Answers answers) w = sym same ∙ w
   retell_limiter (Tenants line) w = (as_many ∙ w.0, number 0 w.1, w.2, w.3, number 1 w.4, number 2 w.5)
 
-  -- words with the same texts name the same meter line
-  retell_meter : (line : Option MeterLine) → IsSomeAnd line (NamesMeter words) → IsSomeAnd line (NamesMeter words')
-  retell_meter None w = absurd w
-  retell_meter (Some Off) w = (as_many ∙ w.0, sym (at 0) ∙ w.1, sym (at 1) ∙ w.2)
-  retell_meter (Some (On bytes)) w = (as_many ∙ w.0, sym (at 0) ∙ w.1, sym (at 1) ∙ w.2, number 2 w.3)
+  -- operands with the same texts write the same meter line
+  retell_meter : (line : MeterLine) → WritesMeter words line → WritesMeter words' line
+  retell_meter Off w = (as_many ∙ w.0, sym (at 0) ∙ w.1)
+  retell_meter (On bytes) w = (as_many ∙ w.0, sym (at 0) ∙ w.1, number 1 w.2)
 
-  -- words with the same texts name the same region line
-  retell_region : (line : Option RegionLine) → IsSomeAnd line (NamesRegion words) → IsSomeAnd line (NamesRegion words')
-  retell_region None w = absurd w
-  retell_region (Some line) w = (as_many ∙ w.0, sym (at 0) ∙ w.1, number 1 w.2, number 2 w.3)
+  -- operands with the same texts write the same region line
+  retell_region : (line : RegionLine) → WritesRegion words line → WritesRegion words' line
+  retell_region line w = (as_many ∙ w.0, number 0 w.1, number 1 w.2)
 
-  -- words with the same texts name the same tenant
-  retell_tenant : (tenants tenant : ℕ) → NamesTenant words tenants tenant → NamesTenant words' tenants tenant
-  retell_tenant tenants tenant w = (as_many ∙ w.0, sym (at 0) ∙ w.1, number 1 w.2, w.3)
+  -- operands with the same texts write the same tenant
+  retell_tenant : (tenant : ℕ) → WritesTenant words tenant → WritesTenant words' tenant
+  retell_tenant tenant w = (as_many ∙ w.0, number 0 w.1)
 
--- a line adds the same, whatever words have its texts
-module _ (words words' : Words) (same : texts words ≡ texts words') where
-  -- words with the same texts name the same call
-  retell_names : (call : Call) → Names words call → Names words' call
-  retell_names call names = (
-    names.0 ∙ at words words' same 0,
-    retell_operands (drop 1 words) (drop 1 words') (later words words' same 1) call names.1,
-  )
+  -- operands with the same texts say the same after a first word
+  retell_line : (name : List ℕ) (line : Line) → NamesLine name words line → NamesLine name words' line
+  retell_line name (Meter line) w = (w.0, retell_meter line w.1)
+  retell_line name (Limiter line) w = (w.0, retell_limiter line w.1)
+  retell_line name (Region line) w = (w.0, retell_region line w.1)
+  retell_line name (As tenant) w = (w.0, retell_tenant tenant w.1)
+  retell_line name (Command call) w = (w.0, retell_operands call w.1)
 
-  -- words with the same texts name the same limiter line
-  retell_limiter_line : (line : Option LimiterLine) → IsSomeAnd line (NamesLimiter words)
-      → IsSomeAnd line (NamesLimiter words')
-  retell_limiter_line None names = absurd names
-  retell_limiter_line (Some line) names = (
-    names.0 ∙ at words words' same 0,
-    retell_limiter (drop 1 words) (drop 1 words') (later words words' same 1) line names.1,
-  )
+-- where the one are no words, the other are none
+none_left : (words words' : Words) → texts words ≡ texts words' → words ≡ [] → words' ≡ []
+none_left words [] same empty = refl
+none_left words (word ∷ words') same empty =
+    let none : texts (word ∷ words') ≡ [] = sym same ∙ ap texts empty in absurd cc
 
-  -- where the one are no words, the other are none
-  none_left : words ≡ [] → words' ≡ []
-  none_left empty = empty_of words' (sym same ∙ ap texts empty) where
-    empty_of : (ws : Words) → texts ws ≡ [] → ws ≡ []
-    empty_of [] is = refl
-    empty_of (w ∷ ws) is = absurd cc
-
-  -- a line of words adds what each line of words with the same texts adds
-  pub retell : (old new : Script) → AddsLine old words new → AddsLine old words' new
-  retell old new (inl a) = inl (none_left a.0, a.1)
-  retell old new (inr (inl a)) = inr (inl (record {
-    before_commands = a.before_commands;
-    first = a.first;
-    meter = retell_meter words words' same new.header.meter a.meter;
-    limiter = a.limiter;
-    region = a.region;
-    commands = a.commands;
-  }))
-  retell old new (inr (inr (inl a))) = inr (inr (inl (record {
-    before_commands = a.before_commands;
-    first = a.first;
-    limiter = retell_limiter_line new.header.limiter a.limiter;
-    apart = a.apart;
-    meter = a.meter;
-    region = a.region;
-    commands = a.commands;
-  })))
-  retell old new (inr (inr (inr (inl a)))) = inr (inr (inr (inl (record {
-    before_commands = a.before_commands;
-    first = a.first;
-    region = retell_region words words' same new.header.region a.region;
-    apart = a.apart;
-    meter = a.meter;
-    limiter = a.limiter;
-    commands = a.commands;
-  }))))
-  retell old new (inr (inr (inr (inr (inl a))))) = inr (inr (inr (inr (inl (record {
-    call = a.call;
-    named = retell_names a.call a.named;
-    calls = a.calls;
-    earlier = a.earlier;
-    tenant = a.tenant;
-    header = a.header;
-  })))))
-  retell old new (inr (inr (inr (inr (inr a))))) = inr (inr (inr (inr (inr (record {
-    tenant = retell_tenant words words' same (tenants_of old.header.limiter) new.tenant a.tenant;
-    earlier = a.earlier;
-    calls = a.calls;
-    header = a.header;
-  })))))
+-- words add what all words with the same texts add
+pub retell : (words words' : Words) → texts words ≡ texts words' → (old new : ScriptBuilder) → AddsWords old words new
+    → AddsWords old words' new
+retell words words' same old new (inl a) = inl (none_left words words' same a.0, a.1)
+retell words words' same old new (inr (line, names, adds)) =
+    let name = word_at words' 0 in
+    let here = subst (λ name. NamesLine name (drop 1 words) line) (at words words' same 0) names in
+    inr (line, retell_line (drop 1 words) (drop 1 words') (later words words' same 1) name line here, adds)

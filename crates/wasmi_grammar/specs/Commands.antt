@@ -147,7 +147,3 @@ WritesOperands words call = OperandsWrite (length words) (word_at words) call
 -- the word that a command begins with, and the words after it, name this call
 abbrev pub NamesAfter : List ℕ → Words → Call → Type 0
 NamesAfter name operands call = (command_word call ≡ name) × WritesOperands operands call
-
--- the words of a line name this call
-abbrev pub Names : Words → Call → Type 0
-Names words call = NamesAfter (word_at words 0) (drop 1 words) call

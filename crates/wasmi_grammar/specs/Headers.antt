@@ -1,5 +1,5 @@
 -- What the words of a header line mean, and what the header lines ask for.
-use Rattle.std.specs.Prelude.{◌≡◌, ◌≤◌, ◌<◌, ℕ, Option, List, Some, None, length, codes, drop, replicate}
+use Rattle.std.specs.Prelude.{◌≡◌, ◌≤◌, ℕ, Option, List, Some, None, length, codes, replicate}
 use Rattle.std.specs.Option.{option_map, option_map_or}
 use Rattle.wasmi_meter.specs.Costs.{default_costs}
 use Rattle.wasmi_meter.specs.Meter.{Meter}
@@ -14,12 +14,11 @@ use Rattle.wasmi_operands.specs.Words.{Words, word_at}
 use Rattle.wasmi_operands.specs.Numbers.{WritesNumber}
 use Rattle.wasmi_grammar.specs.Answers.{WritesAnswers}
 
--- the words of a line name this meter line
-abbrev pub NamesMeter : Words → MeterLine → Type 0
-NamesMeter words Off = (length words ≡ 2) × (word_at words 0 ≡ codes "meter") × (word_at words 1 ≡ codes "off")
-NamesMeter words (On bytes_per_fuel) =
-    (length words ≡ 3) × (word_at words 0 ≡ codes "meter") × (word_at words 1 ≡ codes "on")
-    × WritesNumber 32 (word_at words 2) bytes_per_fuel
+-- the words after the first write what the meter line says
+abbrev pub WritesMeter : Words → MeterLine → Type 0
+WritesMeter words Off = (length words ≡ 1) × (word_at words 0 ≡ codes "off")
+WritesMeter words (On bytes_per_fuel) =
+    (length words ≡ 2) × (word_at words 0 ≡ codes "on") × WritesNumber 32 (word_at words 1) bytes_per_fuel
 
 -- the word that a limiter line begins with
 abbrev pub limiter_word : LimiterLine → List ℕ
@@ -40,24 +39,19 @@ WritesLimiter words (Tenants line) =
 abbrev pub NamesLimiterAfter : List ℕ → Words → LimiterLine → Type 0
 NamesLimiterAfter name operands line = (limiter_word line ≡ name) × WritesLimiter operands line
 
--- the words of a line name this limiter line
-abbrev pub NamesLimiter : Words → LimiterLine → Type 0
-NamesLimiter words line = NamesLimiterAfter (word_at words 0) (drop 1 words) line
+-- the words after the first write what the region line says
+abbrev pub WritesRegion : Words → RegionLine → Type 0
+WritesRegion words line =
+    (length words ≡ 2) × WritesNumber 64 (word_at words 0) line.len × WritesNumber 8 (word_at words 1) line.byte
 
--- the words of a line name this region
-abbrev pub NamesRegion : Words → RegionLine → Type 0
-NamesRegion words line = (length words ≡ 3) × (word_at words 0 ≡ codes "region")
-    × WritesNumber 64 (word_at words 1) line.len × WritesNumber 8 (word_at words 2) line.byte
+-- the words after the first write which tenant the `as` line means
+abbrev pub WritesTenant : Words → ℕ → Type 0
+WritesTenant words tenant = (length words ≡ 1) × WritesNumber 64 (word_at words 0) tenant
 
 -- how many tenants a limiter line asks for
 abbrev pub tenants_of : Option LimiterLine → ℕ
 tenants_of (Some (Tenants line)) = line.count
 tenants_of limiter = 0
-
--- the words of a line name one of so many tenants
-abbrev pub NamesTenant : Words → ℕ → ℕ → Type 0
-NamesTenant words tenants tenant =
-    (length words ≡ 2) × (word_at words 0 ≡ codes "as") × WritesNumber 64 (word_at words 1) tenant × (tenant < tenants)
 
 -- a pool has no region
 abbrev pub AreApart : Option LimiterLine → Option RegionLine → Type 0

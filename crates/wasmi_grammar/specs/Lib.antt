@@ -3,7 +3,6 @@ pub mod TableWords
 pub mod Commands
 pub mod Answers
 pub mod Headers
-pub mod Openings
 pub mod Lines
 pub mod Refusals
 pub mod Sayings

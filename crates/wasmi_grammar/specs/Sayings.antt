@@ -45,14 +45,12 @@ pub record PartSaid : Type 0 where
 abbrev pub part_said : TenantRun → PartSaid
 part_said part = record { tenant = part.tenant; calls = map call_said part.calls.items }
 
--- a script: its header lines, its parts before the last `as` line, the last tenant and its calls
+-- a script: its header lines and its parts
 pub record ScriptSaid : Type 0 where
   pub meter : Option MeterLine
   pub limiter : Option LimiterSaid
   pub region : Option RegionLine
-  pub earlier : List PartSaid
-  pub tenant : ℕ
-  pub calls : List CallSaid
+  pub parts : List PartSaid
 
 -- what a script says
 abbrev pub script_said : Script → ScriptSaid
@@ -60,9 +58,7 @@ script_said script = record {
   meter = script.header.meter;
   limiter = option_map limiter_said script.header.limiter;
   region = script.header.region;
-  earlier = map part_said script.earlier.items;
-  tenant = script.tenant;
-  calls = map call_said script.calls.items;
+  parts = map part_said script.parts.items;
 }
 
 -- two scripts say the same

@@ -1,7 +1,7 @@
 //! The header lines of a script.
-ghost use Rattle.std.specs.Prelude.{◌≡◌, codes, None, Some, IsSomeAnd, IfErr, OnOk, OnErr};
+ghost use Rattle.std.specs.Prelude.{◌≡◌, codes, None, Some, IfErr, OnOk, OnErr};
 ghost use Rattle.wasmi_operands.specs.Acceptance.{Accepts, AcceptsWithMemory};
-ghost use Rattle.wasmi_grammar.specs.Headers.{NamesMeter, NamesLimiter, NamesLimiterAfter, NamesRegion, AreApart, meter_of, tenants_of};
+ghost use Rattle.wasmi_grammar.specs.Headers.{WritesMeter, NamesLimiterAfter, WritesRegion, AreApart, meter_of, tenants_of};
 
 mod answers;
 
@@ -78,37 +78,33 @@ pub struct Header {
 
 impl Header {
     /// Takes in a `meter` line, of which a script has at most one.
-    pub(crate) fn take_meter(&mut self, words: &[&str]) -> Result<(), LineError>
+    pub(crate) fn take_meter(&mut self, line: MeterLine) -> Result<(), LineError>
         ensures first { OnOk result (self.old.meter ≡ None) }
-        ensures meter { OnOk result (IsSomeAnd self.new.meter (NamesMeter words.now)) }
-        ensures others { (self.new.limiter ≡ self.old.limiter) × (self.new.region ≡ self.old.region) }
+        ensures meter { OnOk result (self.new ≡ record self.old { meter = Some line }) }
         ensures err { OnErr result (self.new ≡ self.old) }
         ensures bad { IfErr result (λ error. error ≡ LineError.BadCommand) }
-        ensures refused { OnErr result
-            (self.old.meter ≡ None → (line : MeterLine) → ¬ (NamesMeter words.now line)) }
+        ensures refused { OnErr result (¬ (self.old.meter ≡ None)) }
     {
         if self.meter.is_some() {
             return Err(LineError::BadCommand);
         }
-        self.meter = Some(meter_line(words)?);
+        self.meter = Some(line);
         Ok(())
     }
 
     /// Takes in a limiter line, of which a script has at most one. A pool has no region.
-    pub(crate) fn take_limiter(&mut self, alloc: Global, words: &[&str]) -> Result<(), LineError>
+    pub(crate) fn take_limiter(&mut self, line: LimiterLine) -> Result<(), LineError>
         ensures first { OnOk result (self.old.limiter ≡ None) }
-        ensures apart { OnOk result (AreApart self.new.limiter self.old.region) }
-        ensures limiter { OnOk result (IsSomeAnd self.new.limiter (NamesLimiter words.now)) }
-        ensures others { (self.new.meter ≡ self.old.meter) × (self.new.region ≡ self.old.region) }
+        ensures apart { OnOk result (AreApart (Some line) self.old.region) }
+        ensures limiter { OnOk result (self.new ≡ record self.old { limiter = Some line }) }
         ensures err { OnErr result (self.new ≡ self.old) }
-        ensures refused { IfErr result (λ error. error ≡ LineError.BadCommand → self.old.limiter ≡ None
-            → (line : LimiterLine)
-            → ¬ (NamesLimiter words.now line × AreApart (Some line) self.old.region)) }
+        ensures bad { IfErr result (λ error. error ≡ LineError.BadCommand) }
+        ensures refused { OnErr result
+            (self.old.limiter ≡ None → ¬ (AreApart (Some line) self.old.region)) }
     {
         if self.limiter.is_some() {
             return Err(LineError::BadCommand);
         }
-        let line = limiter_line(alloc, words)?;
         if self.region.is_some() && matches!(line, LimiterLine::Tenants(_)) {
             return Err(LineError::BadCommand);
         }
@@ -117,21 +113,19 @@ impl Header {
     }
 
     /// Takes in a `region` line, of which a script has at most one, and none where it has a pool.
-    pub(crate) fn take_region(&mut self, words: &[&str]) -> Result<(), LineError>
+    pub(crate) fn take_region(&mut self, line: RegionLine) -> Result<(), LineError>
         ensures first { OnOk result (self.old.region ≡ None) }
-        ensures apart { OnOk result (AreApart self.old.limiter self.new.region) }
-        ensures region { OnOk result (IsSomeAnd self.new.region (NamesRegion words.now)) }
-        ensures others { (self.new.meter ≡ self.old.meter) × (self.new.limiter ≡ self.old.limiter) }
+        ensures apart { OnOk result (AreApart self.old.limiter (Some line)) }
+        ensures region { OnOk result (self.new ≡ record self.old { region = Some line }) }
         ensures err { OnErr result (self.new ≡ self.old) }
         ensures bad { IfErr result (λ error. error ≡ LineError.BadCommand) }
-        ensures refused { OnErr result (self.old.region ≡ None
-            → (line : RegionLine)
-            → ¬ (NamesRegion words.now line × AreApart self.old.limiter (Some line))) }
+        ensures refused { OnErr result
+            (self.old.region ≡ None → ¬ (AreApart self.old.limiter (Some line))) }
     {
         if self.region.is_some() || matches!(self.limiter, Some(LimiterLine::Tenants(_))) {
             return Err(LineError::BadCommand);
         }
-        self.region = Some(region_line(words)?);
+        self.region = Some(line);
         Ok(())
     }
 
@@ -163,45 +157,32 @@ impl Header {
     }
 }
 
-/// What the words of a `meter` line say.
-fn meter_line(words: &[&str]) -> Result<MeterLine, LineError>
-    ensures { Accepts result (NamesMeter words.now) }
+/// What the words after `meter` say.
+pub(crate) fn meter_line(operands: &[&str]) -> Result<MeterLine, LineError>
+    ensures { Accepts result (WritesMeter operands.now) }
 {
-    match words {
-        ["meter", "off"] => Ok(MeterLine::Off),
-        ["meter", "on", bytes_per_fuel] => Ok(MeterLine::On(number(bytes_per_fuel)?)),
+    match operands {
+        ["off"] => Ok(MeterLine::Off),
+        ["on", bytes_per_fuel] => Ok(MeterLine::On(number(bytes_per_fuel)?)),
         _ => Err(LineError::BadCommand),
     }
 }
 
-/// What the words of a `region` line say.
-fn region_line(words: &[&str]) -> Result<RegionLine, LineError>
-    ensures { Accepts result (NamesRegion words.now) }
+/// What the words after `region` say.
+pub(crate) fn region_line(operands: &[&str]) -> Result<RegionLine, LineError>
+    ensures { Accepts result (WritesRegion operands.now) }
 {
-    match words {
-        ["region", len, byte] => Ok(RegionLine {
-            len: number(len)?,
-            byte: number(byte)?,
-        }),
-        _ => Err(LineError::BadCommand),
-    }
-}
-
-/// What the words of a limiter line say: the first word which limiter, the others how it answers.
-#[tactic(auto, using(wasmi_operands::proofs::AcceptanceLemmas::with_memory))]
-fn limiter_line(alloc: Global, words: &[&str]) -> Result<LimiterLine, LineError>
-    ensures { AcceptsWithMemory result (NamesLimiter words.now) }
-{
-    match words {
-        ["quota", operands @ ..] => quota(operands),
-        ["answers", operands @ ..] => listed(alloc, operands),
-        ["tenants", operands @ ..] => tenants(operands),
-        _ => Err(LineError::BadCommand),
-    }
+    let [len, byte] = operands else {
+        return Err(LineError::BadCommand);
+    };
+    Ok(RegionLine {
+        len: number(len)?,
+        byte: number(byte)?,
+    })
 }
 
 /// `quota B E`.
-fn quota(operands: &[&str]) -> Result<LimiterLine, LineError>
+pub(crate) fn quota(operands: &[&str]) -> Result<LimiterLine, LineError>
     ensures { Accepts result (NamesLimiterAfter (codes "quota") operands.now) }
 {
     let [bytes, elements] = operands else {
@@ -214,7 +195,7 @@ fn quota(operands: &[&str]) -> Result<LimiterLine, LineError>
 }
 
 /// `tenants N B E`.
-fn tenants(operands: &[&str]) -> Result<LimiterLine, LineError>
+pub(crate) fn tenants(operands: &[&str]) -> Result<LimiterLine, LineError>
     ensures { Accepts result (NamesLimiterAfter (codes "tenants") operands.now) }
 {
     let [count, bytes, elements] = operands else {
@@ -232,7 +213,7 @@ fn tenants(operands: &[&str]) -> Result<LimiterLine, LineError>
 }
 
 /// `answers W ...`, which may have no word.
-fn listed(alloc: Global, operands: &[&str]) -> Result<LimiterLine, LineError>
+pub(crate) fn listed(alloc: Global, operands: &[&str]) -> Result<LimiterLine, LineError>
     ensures { AcceptsWithMemory result (NamesLimiterAfter (codes "answers") operands.now) }
 {
     Ok(LimiterLine::Answers(answers_of(alloc, operands)?))

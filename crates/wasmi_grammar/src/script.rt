@@ -1,15 +1,19 @@
 //! The script's lines: header lines, and then commands.
 ghost use Rattle.std.specs.Prelude.{◌≡◌, [], ℕ, ◌+◌, ◌<◌, ◌≤◌, length, vec_len, IfOk, IfErr, OnOk, OnErr, ◌≢◌};
-ghost use Rattle.wasmi_operands.specs.Acceptance.{Accepts};
-ghost use Rattle.wasmi_grammar.specs.Lines.{WritesScript};
+ghost use Rattle.wasmi_operands.specs.Acceptance.{Accepts, AcceptsWithMemory};
+ghost use Rattle.wasmi_grammar.specs.Commands.{NamesAfter};
+ghost use Rattle.wasmi_grammar.specs.Headers.{WritesTenant};
+ghost use Rattle.wasmi_grammar.specs.Lines.{WritesScript, NamesLine, calls_of};
 ghost use Rattle.wasmi_grammar.specs.Refusals.{IsParseError};
-ghost use Rattle.wasmi_grammar.specs.Openings.{Opens};
-ghost use Rattle.wasmi_grammar.specs.Headers.{NamesTenant};
 
-use crate::command::command;
+use crate::command::{
+    access, dropping, fuel, global, lane, memory, register, segment, table, vector, vector_access,
+};
 use crate::error::ParseError;
-use crate::header::Header;
-use std::alloc::Global;
+use crate::header::{
+    Header, LimiterLine, MeterLine, RegionLine, listed, meter_line, quota, region_line, tenants,
+};
+use std::alloc::{AllocError, Global};
 use std::{mem, str};
 use wasmi_core::Call;
 use wasmi_operands::{LineError, number, read_words};
@@ -19,12 +23,8 @@ use wasmi_operands::{LineError, number, read_words};
 pub struct Script {
     /// What its header lines say.
     pub header: Header,
-    /// The parts before the last `as` line.
-    pub earlier: Vec<TenantRun>,
-    /// The tenant of the last part: 0 without an `as` line.
-    pub tenant: usize,
-    /// The calls of the last part, in order: all of them without an `as` line.
-    pub calls: Vec<Call>,
+    /// Its calls by parts, which `as` lines separate: without one there is one part, tenant 0's.
+    pub parts: Vec<TenantRun>,
 }
 
 /// The calls between two `as` lines.
@@ -37,65 +37,118 @@ pub struct TenantRun {
 }
 
 impl Script {
-    ghost use Rattle.wasmi_grammar.specs.Lines.{AddsLine, AddsMeter, AddsLimiter, AddsRegion, AddsCall, AddsPart, HasNoCommands};
+    ghost use Rattle.wasmi_grammar.specs.Lines.{first_calls};
+
+    /// The calls of the first part: all of them without an `as` line.
+    pub fn first_calls(&self) -> &[Call]
+        ensures { result.now ≡ first_calls self.now.parts.items }
+    {
+        match self.parts.first() {
+            Some(part) => &part.calls,
+            None => &[],
+        }
+    }
+}
+
+/// A script whose lines are taken in one after the other.
+#[derive(Drop)]
+struct ScriptBuilder {
+    /// What the header lines say.
+    header: Header,
+    /// The parts before the last `as` line.
+    earlier: Vec<TenantRun>,
+    /// The tenant of the last part: 0 without an `as` line.
+    tenant: usize,
+    /// The calls of the last part.
+    calls: Vec<Call>,
+}
+
+impl ScriptBuilder {
+    ghost use Rattle.wasmi_grammar.specs.Lines.{AddsWords, AddsLine, AddsMeter, AddsLimiter, AddsRegion, AddsCall, AddsPart, HasNoCommands, IsNewBuilder, Builds};
+
+    /// A script without lines.
+    fn new(alloc: Global) -> Self
+        ensures { IsNewBuilder result }
+    {
+        ScriptBuilder {
+            header: Header::default(),
+            earlier: Vec::new(alloc),
+            tenant: 0,
+            calls: Vec::new(alloc),
+        }
+    }
+
+    /// The script of the lines, with its last part.
+    fn build(self) -> Result<Script, AllocError>
+        ensures { IfOk result (Builds self) }
+    {
+        let ScriptBuilder {
+            header,
+            earlier: mut parts,
+            tenant,
+            calls,
+        } = self;
+        parts.push(TenantRun { tenant, calls })?;
+        Ok(Script { header, parts })
+    }
 
     /// Takes in one line's words. Header lines stand before all commands, at most one `meter` line,
     /// one limiter line and one `region` line, and a line without words is skipped.
     fn take_line(&mut self, alloc: Global, words: &[&str]) -> Result<(), LineError>
-        ensures ok { OnOk result (AddsLine self.old words.now self.new) }
-        ensures refused { IfErr result (λ error. error ≡ LineError.BadCommand → (new : Script)
-            → ¬ (AddsLine self.old words.now new)) }
+        ensures ok { OnOk result (AddsWords self.old words.now self.new) }
+        ensures refused { IfErr result (λ error. error ≡ LineError.BadCommand
+            → (new : ScriptBuilder) → ¬ (AddsWords self.old words.now new)) }
     {
-        let [name, ..] = words else {
+        let [name, operands @ ..] = words else {
             return Ok(());
         };
-        match opening_of(name) {
-            Opening::Meter => self.take_meter(words),
-            Opening::Limiter => self.take_limiter(alloc, words),
-            Opening::Region => self.take_region(words),
-            Opening::As => self.take_part(alloc, words),
-            Opening::Call => self.take_call(alloc, words),
+        let line = line_of(alloc, name, operands)?;
+        self.take(alloc, line)
+    }
+
+    /// Takes in what a line says.
+    fn take(&mut self, alloc: Global, line: Line) -> Result<(), LineError>
+        ensures ok { OnOk result (AddsLine self.old line self.new) }
+        ensures refused { IfErr result (λ error. error ≡ LineError.BadCommand
+            → (new : ScriptBuilder) → ¬ (AddsLine self.old line new)) }
+    {
+        match line {
+            Line::Meter(line) => self.take_meter(line),
+            Line::Limiter(line) => self.take_limiter(line),
+            Line::Region(line) => self.take_region(line),
+            Line::As(tenant) => self.take_part(alloc, tenant),
+            Line::Call(call) => self.take_call(call),
         }
     }
 
     /// Takes in a `meter` line.
-    fn take_meter(&mut self, words: &[&str]) -> Result<(), LineError>
-        ensures ok { OnOk result (AddsMeter self.old words.now self.new) }
+    fn take_meter(&mut self, line: MeterLine) -> Result<(), LineError>
+        ensures ok { OnOk result (AddsMeter self.old line self.new) }
         ensures bad { IfErr result (λ error. error ≡ LineError.BadCommand) }
-        ensures refused { OnErr result ((new : Script) → ¬ (AddsMeter self.old words.now new)) }
+        ensures refused { OnErr result ((new : ScriptBuilder) → ¬ (AddsMeter self.old line new)) }
     {
         self.expect_no_commands()?;
-        self.header.take_meter(words)
+        self.header.take_meter(line)
     }
 
     /// Takes in a limiter line.
-    fn take_limiter(&mut self, alloc: Global, words: &[&str]) -> Result<(), LineError>
-        ensures ok { OnOk result (AddsLimiter self.old words.now self.new) }
-        ensures refused { IfErr result (λ error. error ≡ LineError.BadCommand → (new : Script)
-            → ¬ (AddsLimiter self.old words.now new)) }
+    fn take_limiter(&mut self, line: LimiterLine) -> Result<(), LineError>
+        ensures ok { OnOk result (AddsLimiter self.old line self.new) }
+        ensures bad { IfErr result (λ error. error ≡ LineError.BadCommand) }
+        ensures refused { OnErr result ((new : ScriptBuilder) → ¬ (AddsLimiter self.old line new)) }
     {
         self.expect_no_commands()?;
-        self.header.take_limiter(alloc, words)
+        self.header.take_limiter(line)
     }
 
     /// Takes in a `region` line.
-    fn take_region(&mut self, words: &[&str]) -> Result<(), LineError>
-        ensures ok { OnOk result (AddsRegion self.old words.now self.new) }
+    fn take_region(&mut self, line: RegionLine) -> Result<(), LineError>
+        ensures ok { OnOk result (AddsRegion self.old line self.new) }
         ensures bad { IfErr result (λ error. error ≡ LineError.BadCommand) }
-        ensures refused { OnErr result ((new : Script) → ¬ (AddsRegion self.old words.now new)) }
+        ensures refused { OnErr result ((new : ScriptBuilder) → ¬ (AddsRegion self.old line new)) }
     {
         self.expect_no_commands()?;
-        self.header.take_region(words)
-    }
-
-    /// Takes in a command.
-    fn take_call(&mut self, alloc: Global, words: &[&str]) -> Result<(), LineError>
-        ensures ok { OnOk result (AddsCall self.old words.now self.new) }
-        ensures refused { IfErr result (λ error. error ≡ LineError.BadCommand → (new : Script)
-            → ¬ (AddsCall self.old words.now new)) }
-    {
-        self.calls.push(command(alloc, words)?)?;
-        Ok(())
+        self.header.take_region(line)
     }
 
     /// Header lines stand before all commands.
@@ -111,13 +164,24 @@ impl Script {
         }
     }
 
-    /// Takes in an `as` line: what follows are the calls of another tenant.
-    fn take_part(&mut self, alloc: Global, words: &[&str]) -> Result<(), LineError>
-        ensures ok { OnOk result (AddsPart self.old words.now self.new) }
-        ensures refused { IfErr result (λ error. error ≡ LineError.BadCommand → (new : Script)
-            → ¬ (AddsPart self.old words.now new)) }
+    /// Takes in a command's call.
+    fn take_call(&mut self, call: Call) -> Result<(), LineError>
+        ensures ok { OnOk result (AddsCall self.old call self.new) }
+        ensures memory { IfErr result (λ error. error ≡ LineError.OutOfMemory) }
     {
-        let tenant = tenant_named(words, self.header.tenants())?;
+        self.calls.push(call)?;
+        Ok(())
+    }
+
+    /// Takes in an `as` line: what follows are the calls of another tenant, of whom there is one.
+    fn take_part(&mut self, alloc: Global, tenant: usize) -> Result<(), LineError>
+        ensures ok { OnOk result (AddsPart self.old tenant self.new) }
+        ensures refused { IfErr result (λ error. error ≡ LineError.BadCommand
+            → (new : ScriptBuilder) → ¬ (AddsPart self.old tenant new)) }
+    {
+        if tenant >= self.header.tenants() {
+            return Err(LineError::BadCommand);
+        }
         let calls = mem::replace(&mut self.calls, Vec::new(alloc));
         let part = TenantRun {
             tenant: self.tenant,
@@ -129,64 +193,103 @@ impl Script {
     }
 }
 
-/// What a line is by its first word.
-#[derive(Clone, Copy)]
-enum Opening {
+/// What a line with words says.
+#[derive(Drop)]
+enum Line {
     /// A `meter` line.
-    Meter,
+    Meter(MeterLine),
     /// A limiter line.
-    Limiter,
+    Limiter(LimiterLine),
     /// A `region` line.
-    Region,
-    /// An `as` line.
-    As,
-    /// A command that is a call, if it is anything.
-    Call,
+    Region(RegionLine),
+    /// An `as` line, with its tenant.
+    As(usize),
+    /// A command, with its call.
+    Call(Call),
 }
 
-/// What a line with this first word is.
-fn opening_of(name: &str) -> Opening
-    ensures { Opens name.now result }
+/// What a line's first word and the words after it say.
+fn line_of(alloc: Global, name: &str, operands: &[&str]) -> Result<Line, LineError>
+    ensures { AcceptsWithMemory result (NamesLine name.now operands.now) }
 {
     match name {
-        "meter" => Opening::Meter,
-        "quota" | "answers" | "tenants" => Opening::Limiter,
-        "region" => Opening::Region,
-        "as" => Opening::As,
-        _ => Opening::Call,
+        "meter" => Ok(Line::Meter(meter_line(operands)?)),
+        "quota" => Ok(Line::Limiter(quota(operands)?)),
+        "answers" => Ok(Line::Limiter(listed(alloc, operands)?)),
+        "tenants" => Ok(Line::Limiter(tenants(operands)?)),
+        "region" => Ok(Line::Region(region_line(operands)?)),
+        "as" => Ok(Line::As(tenant_named(operands)?)),
+        _ => Ok(Line::Call(command(alloc, name, operands)?)),
     }
 }
 
-/// The tenant that the words of an `as` line name, if it is one of so many.
-fn tenant_named(words: &[&str], tenants: usize) -> Result<usize, LineError>
-    ensures { Accepts result (NamesTenant words.now tenants) }
+/// The tenant that the words after `as` say.
+fn tenant_named(operands: &[&str]) -> Result<usize, LineError>
+    ensures { Accepts result (WritesTenant operands.now) }
 {
-    let ["as", tenant] = words else {
+    let [tenant] = operands else {
         return Err(LineError::BadCommand);
     };
-    let tenant = number(tenant)?;
-    if tenant < tenants {
-        Ok(tenant)
-    } else {
-        Err(LineError::BadCommand)
+    number(tenant)
+}
+
+/// The call of a command with this name and these operands.
+#[tactic(auto, using(wasmi_operands::proofs::AcceptanceLemmas::with_memory))]
+fn command(alloc: Global, name: &str, operands: &[&str]) -> Result<Call, LineError>
+    ensures { AcceptsWithMemory result (NamesAfter name.now operands.now) }
+{
+    match name {
+        "fuel" => fuel::set_fuel(operands),
+        "left" => fuel::get_fuel(operands),
+        "memory" => memory::new_memory(operands),
+        "lent" => memory::new_lent_memory(operands),
+        "grow" => memory::grow(operands),
+        "drop" => dropping::drop_live(operands),
+        "read" => memory::read(operands),
+        "write" => memory::write(alloc, operands),
+        "load" => access::load(operands),
+        "store" => access::store(operands),
+        "table" => table::new_table(operands),
+        "tgrow" => table::grow(operands),
+        "get" => table::get(operands),
+        "tset" => table::set(operands),
+        "init" => table::init(operands),
+        "copy" => table::copy(operands),
+        "fill" => table::fill(operands),
+        "segment" => segment::new_segment(alloc, operands),
+        "empty" => segment::empty(operands),
+        "global" => global::new_global(operands),
+        "gset" => global::set(operands),
+        "gget" => global::get(operands),
+        "set" => register::set(operands),
+        "show" => register::show(operands),
+        "make" => vector::make(operands),
+        "unary" => vector::unary(operands),
+        "binary" => vector::binary(operands),
+        "ternary" => vector::ternary(operands),
+        "shift" => vector::shift(operands),
+        "test" => vector::test(operands),
+        "extract" => lane::extract(operands),
+        "replace" => lane::replace(operands),
+        "shuffle" => lane::shuffle(operands),
+        "vload" => vector_access::load(operands),
+        "vloadlane" => vector_access::load_lane(operands),
+        "vstore" => vector_access::store(operands),
+        "vstorelane" => vector_access::store_lane(operands),
+        _ => Err(LineError::BadCommand),
     }
 }
 
 /// The script that the bytes write. Of several bad lines the first is named.
 pub fn parse(alloc: Global, bytes: &[u8]) -> Result<Script, ParseError>
     ensures script { IfOk result (WritesScript bytes.now) }
-    ensures calls { IfOk result (λ script. vec_len script.calls ≤ length bytes.now + 1) }
+    ensures calls { IfOk result (λ script. length (calls_of script) ≤ length bytes.now + 1) }
     ensures refused { IfErr result (IsParseError bytes.now) }
     ensures line { IfErr result
         (λ error. (line : ℕ) → error ≡ ParseError.BadCommand line
         → (0 < line) × (line ≤ length bytes.now + 1)) }
 {
-    let mut script = Script {
-        header: Header::default(),
-        earlier: Vec::new(alloc),
-        tenant: 0,
-        calls: Vec::new(alloc),
-    };
+    let mut builder = ScriptBuilder::new(alloc);
     let mut words = Vec::new(alloc);
     for (index, bytes) in bytes.split(|byte| *byte == b'\n').enumerate() {
         let line = index + 1;
@@ -194,11 +297,11 @@ pub fn parse(alloc: Global, bytes: &[u8]) -> Result<Script, ParseError>
             return Err(ParseError::BadCommand { line });
         };
         read_words(text, &mut words)?;
-        match script.take_line(alloc, words.as_slice()) {
+        match builder.take_line(alloc, words.as_slice()) {
             Ok(()) => {}
             Err(LineError::BadCommand) => return Err(ParseError::BadCommand { line }),
             Err(LineError::OutOfMemory) => return Err(ParseError::OutOfMemory),
         }
     }
-    Ok(script)
+    Ok(builder.build()?)
 }

@@ -44,7 +44,7 @@ one_passes ([] ∷ parts) bare test all (inr c) = one_passes parts bare (λ c. t
 one_passes ((field ∷ fields) ∷ parts) bare test all c = absurd bare
 
 -- equal bytes are one text
-same_text : (a b : List ℕ) → bytes_eq a b ≡ true → a ≡ b
+pub same_text : (a b : List ℕ) → bytes_eq a b ≡ true → a ≡ b
 same_text a b e = search (rules, tests)
 
 module _ {A : Type 0} (name_of : A → List ℕ) where

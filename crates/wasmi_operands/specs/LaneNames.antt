@@ -1,5 +1,5 @@
 -- The names of the instructions on one lane, each with the word of the lane's index.
-use Rattle.std.specs.Prelude.{◌≡◌, ℕ, List, length, codes}
+use Rattle.std.specs.Prelude.{◌≡◌, ℕ, ◌<◌, ◌^◌, List, [], ◌∷◌, length, codes, Option, IsSomeAnd}
 use Rattle.wasmi_vector_ops.specs.declared.lane.ExtractOp.{ExtractOp}
 use Rattle.wasmi_vector_ops.specs.declared.lane.ExtractOp.TheVariants as extract
 use Rattle.wasmi_vector_ops.specs.declared.lane.ReplaceOp.{ReplaceOp}
@@ -9,41 +9,75 @@ use Rattle.wasmi_vector_ops.specs.declared.access.LoadLaneOp.TheVariants as load
 use Rattle.wasmi_vector_ops.specs.declared.access.StoreLaneOp.{StoreLaneOp}
 use Rattle.wasmi_vector_ops.specs.declared.access.StoreLaneOp.TheVariants as store
 use Rattle.wasmi_operands.specs.Words.{Words}
-use Rattle.wasmi_operands.specs.Numbers.{WritesNumber, WritesNumbers}
+use Rattle.wasmi_operands.specs.Numbers.{IsDecimal, WritesNumbers, decimal_value}
+use Rattle.wasmi_operands.specs.Names.{Row, entry_of}
 
--- two words are this name and a lane's index of so many bits: 4 where there are 16 lanes, and so on
-abbrev pub NamesLane : List ℕ → ℕ → List ℕ → List ℕ → ℕ → Type 0
-NamesLane text bits name lane index = (name ≡ text) × WritesNumber bits lane index
+-- a row of a table: the name of an instruction on a lane, the bits of the index, and the instruction of an index
+abbrev pub LaneRow : Type 0 → Type 0
+LaneRow Op = Row (ℕ × (ℕ → Op))
+
+-- a word writes a lane's index of so many bits (4 where there are 16 lanes, and so on), and this is its instruction
+abbrev pub NamesBeside : {Op : Type 0} → Option (ℕ × (ℕ → Op)) → List ℕ → Op → Type 0
+NamesBeside found lane op = IsSomeAnd found (λ row. IsDecimal lane × (decimal_value lane < 2 ^ row.0)
+    × (op ≡ row.1 (decimal_value lane)))
+
+-- two words are the name of a row and an index of its lanes, and name its instruction of that index
+unfoldable pub NamesLane : {Op : Type 0} → List (LaneRow Op) → List ℕ → List ℕ → Op → Type 0
+NamesLane rows name lane op = NamesBeside (entry_of rows name) lane op
+
+-- the replacements of a lane
+abbrev pub replacements : List (LaneRow ReplaceOp)
+replacements =
+    (codes "i8x16_replace_lane", (4, λ index. replace.I8x16ReplaceLane index)) ∷
+    (codes "i16x8_replace_lane", (3, λ index. replace.I16x8ReplaceLane index)) ∷
+    (codes "i32x4_replace_lane", (2, λ index. replace.I32x4ReplaceLane index)) ∷
+    (codes "i64x2_replace_lane", (1, λ index. replace.I64x2ReplaceLane index)) ∷
+    []
 
 -- two words name the replacement of a lane
 abbrev pub NamesReplace : List ℕ → List ℕ → ReplaceOp → Type 0
-NamesReplace name lane (replace.I8x16ReplaceLane index) = NamesLane (codes "i8x16_replace_lane") 4 name lane index
-NamesReplace name lane (replace.I16x8ReplaceLane index) = NamesLane (codes "i16x8_replace_lane") 3 name lane index
-NamesReplace name lane (replace.I32x4ReplaceLane index) = NamesLane (codes "i32x4_replace_lane") 2 name lane index
-NamesReplace name lane (replace.I64x2ReplaceLane index) = NamesLane (codes "i64x2_replace_lane") 1 name lane index
+NamesReplace = NamesLane replacements
+
+-- the loads of a lane
+abbrev pub lane_loads : List (LaneRow LoadLaneOp)
+lane_loads =
+    (codes "v128_load8_lane", (4, λ index. load.V128Load8Lane index)) ∷
+    (codes "v128_load16_lane", (3, λ index. load.V128Load16Lane index)) ∷
+    (codes "v128_load32_lane", (2, λ index. load.V128Load32Lane index)) ∷
+    (codes "v128_load64_lane", (1, λ index. load.V128Load64Lane index)) ∷
+    []
 
 -- two words name the load of a lane
 abbrev pub NamesLoadLane : List ℕ → List ℕ → LoadLaneOp → Type 0
-NamesLoadLane name lane (load.V128Load8Lane index) = NamesLane (codes "v128_load8_lane") 4 name lane index
-NamesLoadLane name lane (load.V128Load16Lane index) = NamesLane (codes "v128_load16_lane") 3 name lane index
-NamesLoadLane name lane (load.V128Load32Lane index) = NamesLane (codes "v128_load32_lane") 2 name lane index
-NamesLoadLane name lane (load.V128Load64Lane index) = NamesLane (codes "v128_load64_lane") 1 name lane index
+NamesLoadLane = NamesLane lane_loads
+
+-- the stores of a lane
+abbrev pub lane_stores : List (LaneRow StoreLaneOp)
+lane_stores =
+    (codes "v128_store8_lane", (4, λ index. store.V128Store8Lane index)) ∷
+    (codes "v128_store16_lane", (3, λ index. store.V128Store16Lane index)) ∷
+    (codes "v128_store32_lane", (2, λ index. store.V128Store32Lane index)) ∷
+    (codes "v128_store64_lane", (1, λ index. store.V128Store64Lane index)) ∷
+    []
 
 -- two words name the store of a lane
 abbrev pub NamesStoreLane : List ℕ → List ℕ → StoreLaneOp → Type 0
-NamesStoreLane name lane (store.V128Store8Lane index) = NamesLane (codes "v128_store8_lane") 4 name lane index
-NamesStoreLane name lane (store.V128Store16Lane index) = NamesLane (codes "v128_store16_lane") 3 name lane index
-NamesStoreLane name lane (store.V128Store32Lane index) = NamesLane (codes "v128_store32_lane") 2 name lane index
-NamesStoreLane name lane (store.V128Store64Lane index) = NamesLane (codes "v128_store64_lane") 1 name lane index
+NamesStoreLane = NamesLane lane_stores
+
+-- the extractions of a lane
+abbrev pub extractions : List (LaneRow ExtractOp)
+extractions =
+    (codes "i8x16_extract_lane_s", (4, λ index. extract.I8x16ExtractLaneS index)) ∷
+    (codes "i8x16_extract_lane_u", (4, λ index. extract.I8x16ExtractLaneU index)) ∷
+    (codes "i16x8_extract_lane_s", (3, λ index. extract.I16x8ExtractLaneS index)) ∷
+    (codes "i16x8_extract_lane_u", (3, λ index. extract.I16x8ExtractLaneU index)) ∷
+    (codes "i32x4_extract_lane", (2, λ index. extract.I32x4ExtractLane index)) ∷
+    (codes "i64x2_extract_lane", (1, λ index. extract.I64x2ExtractLane index)) ∷
+    []
 
 -- two words name the extraction of a lane
 abbrev pub NamesExtract : List ℕ → List ℕ → ExtractOp → Type 0
-NamesExtract name lane (extract.I8x16ExtractLaneS index) = NamesLane (codes "i8x16_extract_lane_s") 4 name lane index
-NamesExtract name lane (extract.I8x16ExtractLaneU index) = NamesLane (codes "i8x16_extract_lane_u") 4 name lane index
-NamesExtract name lane (extract.I16x8ExtractLaneS index) = NamesLane (codes "i16x8_extract_lane_s") 3 name lane index
-NamesExtract name lane (extract.I16x8ExtractLaneU index) = NamesLane (codes "i16x8_extract_lane_u") 3 name lane index
-NamesExtract name lane (extract.I32x4ExtractLane index) = NamesLane (codes "i32x4_extract_lane") 2 name lane index
-NamesExtract name lane (extract.I64x2ExtractLane index) = NamesLane (codes "i64x2_extract_lane") 1 name lane index
+NamesExtract = NamesLane extractions
 
 -- sixteen words write the lanes of a shuffle, of which there are 32 to choose from
 pub record WritesLanes (words : Words) (lanes : List ℕ) : Type 0 where

@@ -3,9 +3,8 @@
 
 mod error;
 pub mod names;
-pub mod operand;
 mod types;
-mod words;
+pub mod words;
 
 pub use error::LineError;
 pub use types::{index_ty, mutability, raw_reference, ref_type, reference, val_type};

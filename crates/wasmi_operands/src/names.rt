@@ -302,8 +302,6 @@ pub fn load_op(name: &str) -> Result<VectorLoadOp, LineError>
 fn op_named<T: Copy>(table: &[(&str, T)], name: &str) -> Result<T, LineError>
     ensures { Accepts result (IsNamed (map (λ row. (row.0.now, row.1)) table.now) name.now) }
 {
-    match table.iter().find(|(known, _)| *known == name) {
-        Some((_, op)) => Ok(*op),
-        None => Err(LineError::BadCommand),
-    }
+    let row = table.iter().find(|(known, _)| *known == name);
+    row.map(|(_, op)| *op).ok_or(LineError::BadCommand)
 }

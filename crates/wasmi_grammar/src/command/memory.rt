@@ -7,7 +7,7 @@ ghost use Rattle.wasmi_operands.specs.Numbers.{AreNumbers, WritesNumbers};
 
 use std::alloc::Global;
 use wasmi_core::{Call, IndexType, MemoryType};
-use wasmi_operands::{LineError, index_ty, number, number_or_none, operand};
+use wasmi_operands::{LineError, index_ty, number, number_or_none, words};
 
 /// `memory MIN MAX LOG2 WIDTH`.
 pub fn new_memory(operands: &[&str]) -> Result<Call, LineError>
@@ -33,7 +33,7 @@ pub fn new_lent_memory(operands: &[&str]) -> Result<Call, LineError>
 pub fn grow(operands: &[&str]) -> Result<Call, LineError>
     ensures { Accepts result (NamesAfter (codes "grow") operands.now) }
 {
-    let (memory, pages) = operand::two(operands)?;
+    let (memory, pages) = words::two(operands)?;
     Ok(Call::GrowMemory { memory, pages })
 }
 
@@ -41,7 +41,7 @@ pub fn grow(operands: &[&str]) -> Result<Call, LineError>
 pub fn read(operands: &[&str]) -> Result<Call, LineError>
     ensures { Accepts result (NamesAfter (codes "read") operands.now) }
 {
-    let (memory, offset, len) = operand::three(operands)?;
+    let (memory, offset, len) = words::three(operands)?;
     Ok(Call::Read {
         memory,
         offset,

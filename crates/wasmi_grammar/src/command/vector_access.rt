@@ -5,13 +5,13 @@ ghost use Rattle.wasmi_grammar.specs.Commands.{NamesAfter};
 
 use wasmi_core::Call;
 use wasmi_operands::names::lane::{load_lane_op, store_lane_op};
-use wasmi_operands::{LineError, number, operand};
+use wasmi_operands::{LineError, number, words};
 
 /// `vload NAME D K PTR OFFSET`.
 pub fn load(operands: &[&str]) -> Result<Call, LineError>
     ensures { Accepts result (NamesAfter (codes "vload") operands.now) }
 {
-    let (op, dst, memory, ptr, offset) = operand::five(operands)?;
+    let (op, dst, memory, ptr, offset) = words::five(operands)?;
     Ok(Call::VectorLoad {
         op,
         dst,
@@ -42,7 +42,7 @@ pub fn load_lane(operands: &[&str]) -> Result<Call, LineError>
 pub fn store(operands: &[&str]) -> Result<Call, LineError>
     ensures { Accepts result (NamesAfter (codes "vstore") operands.now) }
 {
-    let (a, memory, ptr, offset) = operand::four(operands)?;
+    let (a, memory, ptr, offset) = words::four(operands)?;
     Ok(Call::VectorStore {
         a,
         memory,

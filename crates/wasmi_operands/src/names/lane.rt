@@ -1,4 +1,6 @@
 //! The instructions on one lane, by their names and the word of the lane's index.
+#![tactic(auto, unfolding(crate::specs::LaneNames::NamesLane))]
+
 ghost use Rattle.std.specs.Prelude.{◌<◌, ◌^◌, IfErr, IfOk, Err, Ok, ◌≡◌};
 ghost use Rattle.wasmi_operands.specs.Acceptance.{Accepts};
 ghost use Rattle.wasmi_operands.specs.LaneNames.{NamesExtract, NamesReplace, NamesLoadLane, NamesStoreLane};

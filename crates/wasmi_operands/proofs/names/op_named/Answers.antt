@@ -1,4 +1,4 @@
-use Rattle.std.proofs.Common.{◌≡◌, ◌∙◌, ◌∷◌, ℕ, Bor, true, false, List, [], None, Some, bytes_eq, cond, map, refl, ap, sym, rules, tests}
+use Rattle.std.proofs.Common.{◌≡◌, ◌∙◌, ◌∷◌, ℕ, Bor, true, false, List, [], Some, bytes_eq, cond, map, refl, ap, sym, rules, tests}
 use Rattle.std.proofs.lemmas.Iterator.{YieldsList-from_slice}
 use Rattle.std.proofs.lemmas.Iterator.Search.{find_from_yields_List}
 use Rattle.std.specs.List.{find}
@@ -18,22 +18,14 @@ entry_of_found (row ∷ rows) name =
       | false ↦ entry_of_found rows name
     ]
 
-pub returns-in-Some : goal.returns-in-Some
-returns-in-Some g c =
+pub returns : goal.returns
+returns g c =
     let name = c.args.name.now in
-    let found : option_map (λ row. row.now) c.find.result ≡ find (λ row. bytes_eq row.0.now name) c.args.table.now =
-    find_from_yields_List (λ row. bytes_eq row.0.now name) _ _ c.find.result c.find.ensures.ran
+    let found : option_map (λ row. row.now) c.find-row.result ≡ find (λ row. bytes_eq row.0.now name) c.args.table.now =
+    find_from_yields_List (λ row. bytes_eq row.0.now name) _ _ c.find-row.result c.find-row.ensures.ran
     (YieldsList-from_slice _ c.iter.ensures.rest) (λ x b q k. search (rules, tests)) in
-    entry_of_found c.args.table.now name
-    ∙ ap (option_map (λ row. row.1)) (sym found ∙ ap (option_map (λ row. row.now)) c.in-Some.is)
-
-pub returns-in-None : goal.returns-in-None
-returns-in-None g c op named =
-    let name = c.args.name.now in
-    let found : option_map (λ row. row.now) c.find.result ≡ find (λ row. bytes_eq row.0.now name) c.args.table.now =
-    find_from_yields_List (λ row. bytes_eq row.0.now name) _ _ c.find.result c.find.ensures.ran
-    (YieldsList-from_slice _ c.iter.ensures.rest) (λ x b q k. search (rules, tests)) in
-    let none = entry_of_found c.args.table.now name
-    ∙ ap (option_map (λ row. row.1)) (sym found ∙ ap (option_map (λ row. row.now)) c.in-None.is) in
-    let both : None ≡ Some op = sym none ∙ named in
-    cc
+    let is : c.map.result ≡ option_map (λ row. row.1) (option_map (λ row. row.now) c.find-row.result) =
+    search (rules, tests) in
+    let named : c.map.result ≡ entry_of (map (λ row. (row.0.now, row.1)) c.args.table.now) name =
+    is ∙ ap (option_map (λ row. row.1)) found ∙ sym (entry_of_found c.args.table.now name) in
+    search (rules, tests)
