@@ -39,16 +39,16 @@ use Rattle.wasmi_script.specs.Printing.{line}
 use Rattle.wasmi_script.specs.Texts.{kind_text, reply_text, error_text}
 use Rattle.wasmi_script.specs.declared.listed_limiter.AnswerList.{AnswerList}
 use Rattle.wasmi_grammar.specs.declared.header.answers.AnswerWord.{AnswerWord}
-use Rattle.wasmi_script.specs.Replays.{IsNewQuota, printed_holdings, IsListedReplay, IsReplayUnder, IsReplayBy, IsReplayOf}
+use Rattle.wasmi_script.specs.Replays.{IsNewQuota, IsListedReplay, IsReplayUnder, IsReplayBy, IsReplayOf}
 use Rattle.wasmi_script.specs.Replays.{AnswersParts, new_pool}
-use Rattle.wasmi_script.specs.Outcomes.{calls_of, replies_text, held_text}
+use Rattle.wasmi_grammar.specs.Lines.{calls_in, calls_of, first_calls}
+use Rattle.wasmi_script.specs.Outcomes.{replies_text, held_text}
 use Rattle.wasmi_grammar.specs.Sayings.{CallSaid, WriteSaid, SegmentSaid, OtherCall, call_said, limiter_said, PartSaid}
 use Rattle.wasmi_grammar.specs.Sayings.{part_said}
 use Rattle.wasmi_grammar.specs.Sayings.{ScriptSaid, SayTheSame}
 use Rattle.wasmi_script.specs.ListedLimiter.{answer_rules, notice_answer_by}
 use Rattle.wasmi_script.specs.Decided.{HasNoComplain, OutcomesAreOne}
 use Rattle.wasmi_script.proofs.ListedRunsLemmas.{placed, placed_run, new_lists, quiet_new, quiet_lists_decide}
-use Rattle.wasmi_script.proofs.OutcomesLemmas.{calls_in}
 use Rattle.wasmi_grammar.proofs.OneScriptLemmas.{texts_once, bad_lines_once, no_bad_line}
 
 -- a call by what it says
@@ -88,16 +88,25 @@ calls_said (part ∷ parts) =
 all_said : (script script' : Script) → SayTheSame script script'
     → map call_said (calls_of script) ≡ map call_said (calls_of script')
 all_said script script' same =
-    split script
-    ∙ ap (λ s. flat_map PartSaid.calls s.earlier ++ s.calls) same
-    ∙ sym (split script')
-  where
-    split : (s : Script)
-        → map call_said (calls_of s) ≡ flat_map PartSaid.calls
-        (map part_said s.earlier.items) ++ map call_said s.calls.items
-    split s =
-        map-append call_said (calls_in s.earlier.items) s.calls.items
-        ∙ ap (λ earlier. earlier ++ map call_said s.calls.items) (calls_said s.earlier.items)
+    calls_said script.parts.items ∙ ap (λ s. flat_map PartSaid.calls s.parts) same
+    ∙ sym (calls_said script'.parts.items)
+
+-- what the calls of the first part say
+first_said : List PartSaid → List CallSaid
+first_said [] = []
+first_said (part ∷ later) = part.calls
+
+-- the calls of the first part say that
+first_is : (parts : List TenantRun) → map call_said (first_calls parts) ≡ first_said (map part_said parts)
+unfolding first_said
+first_is [] = refl
+first_is (part ∷ later) = refl
+
+-- scripts that say the same have first parts whose calls say the same
+first_same : (script script' : Script) → SayTheSame script script'
+    → map call_said (first_calls script.parts.items) ≡ map call_said (first_calls script'.parts.items)
+first_same script script' same =
+    first_is script.parts.items ∙ ap (λ s. first_said s.parts) same ∙ sym (first_is script'.parts.items)
 
 -- and the same replies to them the same text
 reply_same : (call call' : Call) (reply : Reply) → kind_text call' ≡ kind_text call
@@ -287,7 +296,7 @@ under_once (Some (Quota asked)) start calls calls' ran ran' none same (quota, ne
     record {
       replies = one.0;
       held =
-          ap held_text (held ∙ ap (λ q. holding.Quota (printed_holdings q)) afters ∙ sym held');
+          ap held_text (held ∙ ap (λ q. holding.Quota (holdings q).held) afters ∙ sym held');
     }
 under_once (Some (Answers words)) start calls calls' ran ran' none same replay replay' has = absurd none
 under_once (Some (Tenants asked)) start calls calls' ran ran' none same replay replay' has = absurd replay
@@ -391,12 +400,13 @@ module _ (once : IsDeterministic tenant_rules) where
     start : start_of script.header ≡ start_of script'.header
     start = starts_same script.header script'.header (ap ScriptSaid.meter same) (ap ScriptSaid.region same)
 
-    alone : (l : Option LimiterLine) → HasNoAnswers l → IsReplayUnder l (start_of script.header) script.calls.items ran
-        → IsReplayUnder l (start_of script'.header) script'.calls.items ran' → SameRan ran ran'
+    alone : (l : Option LimiterLine) → HasNoAnswers l
+        → IsReplayUnder l (start_of script.header) (first_calls script.parts.items) ran
+        → IsReplayUnder l (start_of script'.header) (first_calls script'.parts.items) ran' → SameRan ran ran'
     alone l none replay replay' =
-        under_once l (start_of script.header) script.calls.items script'.calls.items ran ran' none
-        (ap ScriptSaid.calls same) replay
-        (subst (λ (s : State). IsReplayUnder l s script'.calls.items ran') (sym start) replay') has
+        under_once l (start_of script.header) (first_calls script.parts.items) (first_calls script'.parts.items)
+        ran ran' none (first_same script script' same) replay
+        (subst (λ (s : State). IsReplayUnder l s (first_calls script'.parts.items) ran') (sym start) replay') has
 
     by : (l : Option LimiterLine) → HasNoAnswers l → IsReplayBy l script ran → IsReplayBy l script' ran'
         → SameRan ran ran'
@@ -404,18 +414,11 @@ module _ (once : IsDeterministic tenant_rules) where
     by (Some (Quota asked)) none replay replay' = alone (Some (Quota asked)) none replay replay'
     by (Some (Answers words)) none replay replay' = absurd none
     by (Some (Tenants asked)) none (pool, held, answers) (pool', held', answers') =
-        let part : TenantRun = record { tenant = script.tenant; calls = script.calls } in
-        let part' : TenantRun = record { tenant = script'.tenant; calls = script'.calls } in
-        let parts : map part_said (script.earlier.items ++ part ∷ []) ≡ map part_said
-        (script'.earlier.items ++ part' ∷ []) =
-        map-append part_said script.earlier.items (part ∷ [])
-        ∙ ap (λ s. s.earlier ++ record { tenant = s.tenant; calls = s.calls } ∷ []) same
-        ∙ sym (map-append part_said script'.earlier.items (part' ∷ [])) in
         let meters : meter_of script'.header ≡ meter_of script.header =
         ap (λ (m : Option MeterLine). option_map_or meter_said m meter_off) (ap ScriptSaid.meter (sym same)) in
         let again = subst (λ m. AnswersParts (new_pool asked (new_state m))
-        (script'.earlier.items ++ part' ∷ []) [] ran'.replies.items pool') meters answers' in
-        let one = parts_once (script.earlier.items ++ part ∷ []) (script'.earlier.items ++ part' ∷ []) _ [] parts
+        script'.parts.items [] ran'.replies.items pool') meters answers' in
+        let one = parts_once script.parts.items script'.parts.items _ [] (ap ScriptSaid.parts same)
         (record { replies = ran.replies.items; after = pool; has = has.0; ran = answers })
         (record { replies = ran'.replies.items; after = pool'; has = has.1; ran = again }) in
         record { replies = one.0; held = ap held_text (held ∙ ap holding.Tenants one.1 ∙ sym held') }
@@ -454,11 +457,12 @@ module _ (once : IsDeterministic tenant_rules) where
       by (Some (Answers words)) (Some (Answers words')) quiet said replay replay' =
           let given : words.items ≡ words'.items = cc in
           let start = starts_same script.header script'.header (ap ScriptSaid.meter same) (ap ScriptSaid.region same) in
-          listed_once words.items (start_of script.header) script.calls.items script'.calls.items ran ran' quiet
-          (ap ScriptSaid.calls same) replay
-          (subst (λ (g : List AnswerWord). IsListedReplay g (start_of script.header) script'.calls.items ran')
-          (sym given)
-          (subst (λ (s : State). IsListedReplay words'.items s script'.calls.items ran') (sym start) replay')) has
+          listed_once words.items (start_of script.header) (first_calls script.parts.items)
+          (first_calls script'.parts.items) ran ran' quiet (first_same script script' same) replay
+          (subst (λ (g : List AnswerWord).
+          IsListedReplay g (start_of script.header) (first_calls script'.parts.items) ran') (sym given)
+          (subst (λ (s : State). IsListedReplay words'.items s (first_calls script'.parts.items) ran') (sym start)
+          replay')) has
       by (Some (Answers words)) None quiet said replay replay' = absurd cc
       by (Some (Answers words)) (Some (Quota asked)) quiet said replay replay' = absurd cc
       by (Some (Answers words)) (Some (Tenants asked)) quiet said replay replay' = absurd cc

@@ -17,7 +17,8 @@ use Rattle.wasmi_script.specs.declared.outcome.Replayed.{Replayed}
 use Rattle.wasmi_script.proofs.PrintingLemmas.{texts_more, texts_at}
 use Rattle.wasmi_script.specs.Printing.{line}
 use Rattle.wasmi_script.specs.Texts.{bytes_text, reply_text}
-use Rattle.wasmi_script.specs.Outcomes.{calls_of, replies_text, tenant_text, tenants_text, held_text, outcome_text}
+use Rattle.wasmi_grammar.specs.Lines.{calls_in, calls_of}
+use Rattle.wasmi_script.specs.Outcomes.{replies_text, tenant_text, tenants_text, held_text, outcome_text}
 
 -- the replies to some calls, and those to later ones
 pub replies_joined : (xs ys : List Call) (rs ss : List Reply) → length xs ≡ length rs
@@ -124,15 +125,10 @@ pub outcome_split : (replayed : Replayed) (replies : List Reply) → replies ≡
 outcome_split replayed replies same =
     ap (λ rs. replies_text (calls_of replayed.script) rs ++ held_text replayed.ran.held) (sym same)
 
--- the calls of parts
-abbrev pub calls_in : List TenantRun → List Call
-calls_in parts = flat_map (λ part. part.calls.items) parts
-
 -- the replies to the parts up to a place, and those that are left: together a reply for each call
-pub record RepliesLeft (parts : List TenantRun) (last : List Call) (replies : List Reply) (i : ℕ)
-    (rest : List Reply) : Type 0 where
+pub record RepliesLeft (parts : List TenantRun) (replies : List Reply) (i : ℕ) (rest : List Reply) : Type 0 where
   pub before : List Reply
-  pub each : length (calls_in parts ++ last) ≡ length replies
+  pub each : length (calls_in parts) ≡ length replies
   pub split : replies ≡ before ++ rest
   pub count : length (calls_in (take i parts)) ≡ length before
 
@@ -158,8 +154,8 @@ pub record IsCut (calls : List Call) (rest answered later : List Reply) : Type 0
 
 -- What is left of the replies has those to the part of a place: with them those to the parts so far are one part more,
 -- and the text is that of the parts so far, of this part, and of what comes later.
-module _ (parts : List TenantRun) (last : List Call) (replies rest : List Reply) (i : ℕ) (part : TenantRun)
-    (left : RepliesLeft parts last replies i rest) (at : IsPartAt parts i part) where
+module _ (parts : List TenantRun) (replies rest : List Reply) (i : ℕ) (part : TenantRun)
+    (left : RepliesLeft parts replies i rest) (at : IsPartAt parts i part) where
   abbrev calls : List Call
   calls = part.calls.items
 
@@ -167,16 +163,13 @@ module _ (parts : List TenantRun) (last : List Call) (replies rest : List Reply)
   so_far = calls_in (take i parts)
 
   abbrev later_calls : List Call
-  later_calls = calls_in (drop (i + 1) parts) ++ last
+  later_calls = calls_in (drop (i + 1) parts)
 
   -- all calls are those before this part, its own, and those later
-  all_calls : calls_in parts ++ last ≡ so_far ++ (calls ++ later_calls)
+  all_calls : calls_in parts ≡ so_far ++ (calls ++ later_calls)
   all_calls =
-      ap (λ cs. cs ++ last)
-      (texts_at (λ p. p.calls.items) parts i part at.within
-      ∙ ap (λ p. so_far ++ (p.calls.items ++ calls_in (drop (i + 1) parts))) (sym at.here))
-      ∙ append_assoc so_far (calls ++ calls_in (drop (i + 1) parts)) last
-      ∙ ap (λ cs. so_far ++ cs) (append_assoc calls (calls_in (drop (i + 1) parts)) last)
+      texts_at (λ p. p.calls.items) parts i part at.within
+      ∙ ap (λ p. so_far ++ (p.calls.items ++ later_calls)) (sym at.here)
 
   -- the calls of one part more are those before it and its own
   pub calls_more : calls_in (take (i + 1) parts) ≡ so_far ++ calls
@@ -227,7 +220,7 @@ module _ (parts : List TenantRun) (last : List Call) (replies rest : List Reply)
         ∙ replies_joined so_far calls left.before answered left.count
 
     -- the whole text is that so far, that of the part, and what comes later
-    pub text_whole : replies_text (calls_in parts ++ last) replies
+    pub text_whole : replies_text (calls_in parts) replies
         ≡ replies_text so_far left.before ++ (replies_text calls answered ++ replies_text later_calls later)
     text_whole =
         ap (λ cs. replies_text cs replies) all_calls
@@ -237,14 +230,15 @@ module _ (parts : List TenantRun) (last : List Call) (replies rest : List Reply)
         ∙ ap (λ t. replies_text so_far left.before ++ t)
         (replies_joined calls later_calls answered later (sym answers))
 
--- after all parts the replies that are left are those to the last calls
-pub text_last : (parts : List TenantRun) (last : List Call) (replies rest : List Reply) (i : ℕ)
-    (left : RepliesLeft parts last replies i rest) → length parts ≤ i
-    → replies_text (calls_in parts ++ last) replies
-    ≡ replies_text (calls_in (take i parts)) left.before ++ replies_text last rest
-text_last parts last replies rest i left all =
+-- after all parts the text is that of all replies
+pub text_last : (parts : List TenantRun) (replies rest : List Reply) (i : ℕ) (left : RepliesLeft parts replies i rest)
+    → length parts ≤ i
+    → replies_text (calls_in (take i parts)) left.before ≡ replies_text (calls_in parts) replies
+text_last parts replies rest i left all =
     let whole = take_all i parts all in
-    ap (replies_text (calls_in parts ++ last)) left.split
-    ∙ replies_joined (calls_in parts) last left.before rest
-    (subst (λ ps. length (calls_in ps) ≡ length left.before) whole left.count)
-    ∙ ap (λ ps. replies_text (calls_in ps) left.before ++ replies_text last rest) (sym whole)
+    let count = subst (λ ps. length (calls_in ps) ≡ length left.before) whole left.count in
+    let text = replies_text (calls_in parts) left.before in
+    ap (λ ps. replies_text (calls_in ps) left.before) whole ∙ sym (append-nil text)
+    ∙ sym (replies_joined (calls_in parts) [] left.before rest count)
+    ∙ ap (λ calls. replies_text calls (left.before ++ rest)) (append-nil (calls_in parts))
+    ∙ ap (replies_text (calls_in parts)) (sym left.split)

@@ -1,7 +1,7 @@
 -- The limiter that answers from the words of an `answers` line.
 use Rattle.std.specs.Prelude.{◌≡◌, All, ◌+◌, ◌-◌, ◌^◌, min, List, Option, Some, Ok, Err, true, false, slice_index_or}
 use Rattle.wasmi_meter.specs.declared.error.LimiterError.TheVariants.{ResourceLimiterDeniedAllocation}
-use Rattle.wasmi_meter.specs.Limiter.{Question, Answer, Failure, NoticeAnswer, Rules, optional_rules}
+use Rattle.wasmi_meter.specs.Limiter.{Answer, NoticeAnswer, Rules, optional_rules}
 use Rattle.wasmi_core.specs.declared.calls.Call.{Call}
 use Rattle.wasmi_core.specs.declared.calls.Reply.{Reply}
 use Rattle.wasmi_core.specs.State.{State}

@@ -8,7 +8,6 @@ use Rattle.wasmi_core.specs.declared.calls.Call.{Call}
 use Rattle.wasmi_core.specs.declared.calls.Reply.{Reply}
 use Rattle.wasmi_core.specs.State.{State}
 use Rattle.wasmi_core.specs.Totals.{total}
-use Rattle.wasmi_grammar.specs.declared.script.Script.{Script}
 use Rattle.wasmi_script.specs.declared.running.Held.{Held}
 use Rattle.wasmi_script.specs.declared.running.Held.TheVariants.{Nothing, Quota, Tenants}
 use Rattle.wasmi_script.specs.declared.outcome.Replayed.{Replayed}
@@ -17,7 +16,7 @@ use Rattle.wasmi_script.specs.declared.error.ReplayError.TheVariants.{BadCommand
 use Rattle.wasmi_script.specs.declared.reading.TheConstants.{LIMIT}
 use Rattle.wasmi_script.specs.declared.replaying.Status.{Status}
 use Rattle.wasmi_script.specs.declared.replaying.Status.TheVariants.{Fault}
-use Rattle.wasmi_grammar.specs.Lines.{WritesScript}
+use Rattle.wasmi_grammar.specs.Lines.{WritesScript, calls_of}
 use Rattle.wasmi_grammar.specs.Refusals.{IsFirstBadLine}
 use Rattle.wasmi_script.specs.Printing.{AppendsFront, line}
 use Rattle.wasmi_script.specs.Replays.{IsReplayOf}
@@ -27,10 +26,6 @@ use Rattle.wasmi_script.specs.Texts.{reply_text, error_text}
 -- a line for each call, with its reply
 abbrev pub replies_text : List Call → List Reply → List ℕ
 replies_text calls replies = flat_map (λ turn. line (reply_text turn.0 turn.1)) (zip calls replies)
-
--- all calls of a script, part after part
-abbrev pub calls_of : Script → List Call
-calls_of script = flat_map (λ part. part.calls.items) script.earlier.items ++ script.calls.items
 
 -- what a quota holds
 abbrev pub amounts_text : ℕ → ℕ → List ℕ

@@ -20,7 +20,7 @@ use Rattle.wasmi_grammar.specs.declared.header.LimiterLine.TheVariants as Lines
 use Rattle.wasmi_grammar.specs.declared.header.QuotaLine.{QuotaLine}
 use Rattle.wasmi_grammar.specs.declared.header.TenantsLine.{TenantsLine}
 use Rattle.wasmi_grammar.specs.declared.script.TenantRun.{TenantRun}
-use Rattle.wasmi_script.specs.declared.running.Amounts.{Amounts}
+use Rattle.wasmi_grammar.specs.Lines.{first_calls}
 use Rattle.wasmi_script.specs.declared.running.Held.TheVariants.{Nothing}
 use Rattle.wasmi_script.specs.declared.running.Held.TheVariants as held
 use Rattle.wasmi_script.specs.declared.running.Ran.{Ran}
@@ -39,10 +39,6 @@ pub record IsNewQuota (line : QuotaLine) (quota : Quota) : Type 0 where
   pub elements : cap_of quota Elements ≡ line.elements
   pub nothing : holdings quota ≡ nothing_held
 
--- what a quota holds, as the program prints it
-abbrev pub printed_holdings : Quota → Amounts
-printed_holdings quota = record { bytes = (holdings quota).held.bytes; elements = (holdings quota).held.elements }
-
 -- the replies are those of a run of the calls from a machine, under a limiter that answers by these words
 abbrev pub IsListedReplay : List AnswerWord → State → List Call → Ran → Type 0
 IsListedReplay words start calls ran =
@@ -59,7 +55,7 @@ IsReplayUnder (Some (Lines.Quota line)) start calls ran =
     (quota : Quota) × IsNewQuota line quota × (end : State) × (after : Quota)
     × IsRunOf (optional_rules quota_rules) calls (record { state = start; limiter = Some quota }) ran.replies.items
     (record { state = end; limiter = Some after })
-    × HoldsTotals (holdings after) end × (ran.held ≡ held.Quota (printed_holdings after))
+    × HoldsTotals (holdings after) end × (ran.held ≡ held.Quota (holdings after).held)
 IsReplayUnder (Some (Lines.Answers words)) start calls ran = IsListedReplay words.items start calls ran
 IsReplayUnder (Some (Lines.Tenants line)) start calls ran = ⊥
 
@@ -80,18 +76,18 @@ AnswersParts pool (part ∷ parts) replies replies' pool' = (between : List Repl
     × AnswersPart pool part.tenant part.calls.items replies between middle
     × AnswersParts middle parts between replies' pool'
 
--- The replies are those of the parts, the last one after the earlier ones, on a pool of new machines with the script's
--- meter. What is held is what the pool's machines have then.
+-- The replies are those of the parts, one after another, on a pool of new machines with the script's meter.
+-- What is held is what the pool's machines have then.
 abbrev pub IsPoolReplay : TenantsLine → Script → Ran → Type 0
 IsPoolReplay line script ran = (pool : PoolValue) × (ran.held ≡ held.Tenants pool)
     × AnswersParts (new_pool line (new_state (meter_of script.header)))
-    (script.earlier.items ++ record { tenant = script.tenant; calls = script.calls } ∷ []) [] ran.replies.items pool
+    script.parts.items [] ran.replies.items pool
 
 -- the replies are those of the parts on a pool, or those of a run on a new machine with the script's meter and its
 -- region
 abbrev pub IsReplayBy : Option LimiterLine → Script → Ran → Type 0
 IsReplayBy (Some (Lines.Tenants line)) script ran = IsPoolReplay line script ran
-IsReplayBy limiter script ran = IsReplayUnder limiter (start_of script.header) script.calls.items ran
+IsReplayBy limiter script ran = IsReplayUnder limiter (start_of script.header) (first_calls script.parts.items) ran
 
 -- the replies are those of a run as the script's header lines ask for it
 abbrev pub IsReplayOf : Script → Ran → Type 0

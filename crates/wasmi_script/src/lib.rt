@@ -5,13 +5,12 @@ mod error;
 pub mod laws;
 mod listed_limiter;
 mod outcome;
-mod print;
 mod printer;
 mod reading;
 mod replaying;
 mod running;
 
 pub use error::ReplayError;
-pub use print::ReplyLine;
+pub use outcome::ReplyLine;
 pub use reading::LIMIT;
 pub use replaying::{Status, replay};

@@ -12,6 +12,7 @@ use wasmi_core::{
     Call, Machine, NoLimits, Quota, Reply, ResourceLimiterRef, run, run_lending, run_reserving,
 };
 use wasmi_grammar::{AnswerWord, Header, LimiterLine, QuotaLine, RegionLine, Script, TenantsLine};
+use wasmi_meter::Amounts;
 
 /// What the run of a script's calls answered.
 #[derive(Drop)]
@@ -31,15 +32,6 @@ pub enum Held {
     Quota(Amounts),
     /// What the tenants of a pool hold.
     Tenants(Pool<'static>),
-}
-
-/// What a quota holds.
-#[derive(Clone, Copy)]
-pub struct Amounts {
-    /// Bytes of memories.
-    pub bytes: u64,
-    /// Elements of tables.
-    pub elements: u64,
 }
 
 /// Runs the script's calls on a new machine with its meter and its region, or its parts on a pool
@@ -66,9 +58,9 @@ fn run_on(alloc: Global, machine: &mut Machine, script: &Script) -> Result<Ran, 
     ensures { IfOk result (IsReplayOf script.now) }
 {
     match &script.header.limiter {
-        None => run_freely(machine, &script.calls),
-        Some(LimiterLine::Quota(line)) => run_under_quota(machine, &script.calls, *line),
-        Some(LimiterLine::Answers(words)) => run_answered(machine, &script.calls, words),
+        None => run_freely(machine, script.first_calls()),
+        Some(LimiterLine::Quota(line)) => run_under_quota(machine, script.first_calls(), *line),
+        Some(LimiterLine::Answers(words)) => run_answered(machine, script.first_calls(), words),
         Some(LimiterLine::Tenants(line)) => run_pool(alloc, script, *line),
     }
 }
@@ -128,10 +120,9 @@ fn run_pool(alloc: Global, script: &Script, line: TenantsLine) -> Result<Ran, Al
 {
     let mut pool = pool_of(alloc, &script.header, line)?;
     let mut replies = Vec::new(alloc);
-    for part in &script.earlier {
+    for part in &script.parts {
         run_part(&mut pool, part.tenant, &part.calls, &mut replies)?;
     }
-    run_part(&mut pool, script.tenant, &script.calls, &mut replies)?;
     Ok(Ran {
         replies,
         held: Held::Tenants(pool),

@@ -1,7 +1,7 @@
 use Rattle.std.proofs.Common.{◌≡◌, ◌≤◌, ◌++◌, [], length, refl, arith, subst}
 use Rattle.wasmi_script.specs.Printing.{Prints, PrintsFront}
 use Rattle.wasmi_script.specs.Outcomes.{replies_text}
-use Rattle.wasmi_script.proofs.PrintingLemmas.{always_err, ok_weaker, err_weaker, prints_none, prints_then, prints_front, prints_last}
+use Rattle.wasmi_script.proofs.PrintingLemmas.{always_err, prints_none, prints_then, prints_front}
 use Rattle.wasmi_script.proofs.OutcomesLemmas.{IsCut, part_at, part_fits, replies_more, count_more, text_more, text_whole, text_last}
 use Rattle.wasmi_script.proofs.outcome.print_script.Goals as goal
 
@@ -13,13 +13,13 @@ pub split_at-requires : goal.split_at-requires
 split_at-requires g c =
     let part = c.part-item.result in
     let at = part_at _ _ _ part c.deref-part-items.ensures.value c.loop-part-test.true c.part-item.is in
-    omega (arith, part_fits _ _ _ _ _ part c.loop-part.invariant.0 at, c.len.ensures, part.calls.ok.0)
+    omega (arith, part_fits _ _ _ _ part c.loop-part.invariant.0 at, c.len.ensures, part.calls.ok.0)
 
 pub returns-in_err-print_replies-clause-front : goal.returns-in_err-print_replies-clause-front
 returns-in_err-print_replies-clause-front g c =
     let part = c.part-item.result in
     let at = part_at _ _ _ part c.deref-part-items.ensures.value c.loop-part-test.true c.part-item.is in
-    let whole = text_whole _ _ _ _ _ part c.loop-part.invariant.0 at _ _ (record {
+    let whole = text_whole _ _ _ _ part c.loop-part.invariant.0 at _ _ (record {
       count = c.len.result;
       counted = omega (arith, c.len.ensures, part.calls.ok.0);
       front = c.split_at.ensures.front;
@@ -42,10 +42,10 @@ loop-part-preserved g c =
       record {
         before = left.before ++ answered;
         each = left.each;
-        split = replies_more _ _ _ _ _ part left at _ _ cut;
-        count = count_more _ _ _ _ _ part left at _ _ cut;
+        split = replies_more _ _ _ _ part left at _ _ cut;
+        count = count_more _ _ _ _ part left at _ _ cut;
       },
-      prints_then g.W.Write.contents _ _ _ _ _ _ (text_more _ _ _ _ _ part left at _ _ cut) c.loop-part.invariant.1
+      prints_then g.W.Write.contents _ _ _ _ _ _ (text_more _ _ _ _ part left at _ _ cut) c.loop-part.invariant.1
           (subst (λ cs. Prints g.W.Write.contents c.loop-part.printer c.print_replies.new.printer
           (replies_text cs answered)) c.deref.ensures.value c.in_ok-print_replies.ensures.ok),
     )
@@ -54,17 +54,5 @@ pub returns-clause-ok : goal.returns-clause-ok
 returns-clause-ok g c =
     let all = subst (λ ps. length ps ≤ c.loop-part.part-index) c.deref-part-items.ensures.value c.loop-part-test.false
     in
-    let whole = text_last _ _ _ _ _ c.loop-part.invariant.0 all in
-    ok_weaker c.print_replies-2.result (λ more. prints_then g.W.Write.contents _ _ _ _ _ _ whole c.loop-part.invariant.1
-    (subst (λ cs. Prints g.W.Write.contents c.loop-part.printer c.print_replies-2.new.printer
-    (replies_text cs c.loop-part.rest.now)) c.deref-2.ensures.value more)) c.print_replies-2.ensures.ok
-
-pub returns-clause-front : goal.returns-clause-front
-returns-clause-front g c =
-    let all = subst (λ ps. length ps ≤ c.loop-part.part-index) c.deref-part-items.ensures.value c.loop-part-test.false
-    in
-    let whole = text_last _ _ _ _ _ c.loop-part.invariant.0 all in
-    err_weaker c.print_replies-2.result (λ sent. prints_last g.W.Write.contents _ _ _ _ _ _ whole
-    c.loop-part.invariant.1 (subst (λ cs. PrintsFront g.W.Write.contents c.loop-part.printer
-    c.print_replies-2.new.printer (replies_text cs c.loop-part.rest.now)) c.deref-2.ensures.value sent))
-    c.print_replies-2.ensures.front
+    subst (λ text. Prints g.W.Write.contents c.args.printer.now c.loop-part.printer text)
+    (text_last _ _ _ _ c.loop-part.invariant.0 all) c.loop-part.invariant.1

@@ -1,7 +1,6 @@
 use Rattle.std.proofs.Common.{◌≡◌, ◌≤◌, ◌∙◌, ◌+◌, ◌++◌, ◌∷◌, [], take, length, refl, sym, ap, subst}
 use Rattle.std.proofs.lemmas.List.{take_more, take_all}
 use Rattle.wasmi_core.specs.State.{new_state}
-use Rattle.wasmi_grammar.specs.declared.script.TenantRun.{TenantRun}
 use Rattle.wasmi_grammar.specs.Headers.{meter_of}
 use Rattle.wasmi_script.specs.Replays.{AnswersPart, AnswersParts, new_pool}
 use Rattle.wasmi_script.proofs.PoolLemmas.{one_part}
@@ -19,7 +18,7 @@ loop-part-preserved c =
     c.run_part.new.replies.items c.run_part.new.pool) c.deref.ensures.value c.in_ok-run_part.ensures in
     let more : take (i + 1) items ≡ take i items ++ part ∷ [] =
     take_more items i part c.loop-part-test.true ∙ ap (λ p. take i items ++ p ∷ []) (sym c.part-item.is) in
-    let same : items ≡ c.args.script.now.earlier.items = c.deref-part-items.ensures.value in
+    let same : items ≡ c.args.script.now.parts.items = c.deref-part-items.ensures.value in
     subst (λ ps. AnswersParts start (take (i + 1) ps) [] c.run_part.new.replies.items c.run_part.new.pool) same
     (subst (λ ps. AnswersParts start ps [] c.run_part.new.replies.items c.run_part.new.pool) (sym more)
     (one_part (take i items) part start c.loop-part.pool c.run_part.new.pool
@@ -29,21 +28,12 @@ loop-part-preserved c =
 
 pub returns : goal.returns
 returns c =
-    let script = c.args.script.now in
-    let last : TenantRun = record { tenant = script.tenant; calls = script.calls } in
-    let start = new_pool c.args.line (new_state (meter_of script.header)) in
-    let same = c.deref-part-items.ensures.value in
-    let all : take c.loop-part.part-index script.earlier.items ≡ script.earlier.items =
-    take_all c.loop-part.part-index script.earlier.items
-    (subst (λ ps. length ps ≤ c.loop-part.part-index) same c.loop-part-test.false) in
-    let ran : AnswersPart c.loop-part.pool script.tenant script.calls.items c.loop-part.replies.items
-    c.run_part-2.new.replies.items c.run_part-2.new.pool =
-    subst (λ calls. AnswersPart c.loop-part.pool script.tenant calls c.loop-part.replies.items
-    c.run_part-2.new.replies.items c.run_part-2.new.pool) c.deref-2.ensures.value c.in_ok-run_part-2.ensures in (
-      c.run_part-2.new.pool,
+    let parts = c.args.script.now.parts.items in
+    let start = new_pool c.args.line (new_state (meter_of c.args.script.now.header)) in
+    let all : take c.loop-part.part-index parts ≡ parts =
+    take_all c.loop-part.part-index parts
+    (subst (λ ps. length ps ≤ c.loop-part.part-index) c.deref-part-items.ensures.value c.loop-part-test.false) in (
+      c.loop-part.pool,
       refl,
-      one_part script.earlier.items last start c.loop-part.pool c.run_part-2.new.pool
-          [] c.loop-part.replies.items c.run_part-2.new.replies.items
-          (subst (λ ps. AnswersParts start ps [] c.loop-part.replies.items c.loop-part.pool) all c.loop-part.invariant)
-          ran,
+      subst (λ ps. AnswersParts start ps [] c.loop-part.replies.items c.loop-part.pool) all c.loop-part.invariant,
     )

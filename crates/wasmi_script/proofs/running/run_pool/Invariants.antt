@@ -6,5 +6,5 @@ use Rattle.wasmi_script.proofs.running.run_pool.Given as goal
 
 abbrev pub invariant-loop-part : goal.invariant-loop-part
 invariant-loop-part l =
-    AnswersParts (new_pool l.fn.line (new_state (meter_of l.script.header))) (take l.part-index l.script.earlier.items)
+    AnswersParts (new_pool l.fn.line (new_state (meter_of l.script.header))) (take l.part-index l.script.parts.items)
     [] l.replies.items l.pool

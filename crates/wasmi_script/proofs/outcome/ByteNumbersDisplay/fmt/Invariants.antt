@@ -1,7 +1,7 @@
 use Rattle.std.proofs.Common.{take}
 use Rattle.std.specs.Fmt.{HasWritten, IsPlainFormatter}
 use Rattle.wasmi_script.specs.Texts.{bytes_text}
-use Rattle.wasmi_script.proofs.print.ByteNumbersDisplay.fmt.Given as goal
+use Rattle.wasmi_script.proofs.outcome.ByteNumbersDisplay.fmt.Given as goal
 
 -- the bytes so far are written
 abbrev pub invariant-loop-byte : goal.invariant-loop-byte
