@@ -2,63 +2,15 @@
 use super::memory_type;
 use std::test::Fail;
 use wasmi_core::{
-    Call, Fuel, FuelCostsProvider, LimiterError, Machine, Memory, MemoryError, NoLimits, Quota,
-    RawVal, ReadAs, Reply, ResourceLimiter, ResourceLimiterRef, TableError, run_lending, simd,
+    Call, Fuel, FuelCostsProvider, Machine, Memory, MemoryError, Quota, RawVal, ReadAs, Reply,
+    ResourceLimiterRef, run_lending, simd,
 };
-
-/// A limiter that permits memories of at most one page of 64 KiB, and no table.
-#[derive(Drop)]
-struct OnePage;
-
-impl ResourceLimiter for OnePage {
-    ghost rules = { record {
-      asked = λ limiter question answer limiter'. Unit {0};
-      noticed = λ limiter failure notice_answer limiter'. Unit {0};
-    } };
-
-    fn memory_growing(
-        &mut self,
-        _current: usize,
-        desired: usize,
-        _maximum: Option<usize>,
-    ) -> Result<bool, LimiterError> {
-        Ok(desired <= 65536)
-    }
-
-    fn table_growing(
-        &mut self,
-        _current: usize,
-        _desired: usize,
-        _maximum: Option<usize>,
-    ) -> Result<bool, LimiterError> {
-        Ok(false)
-    }
-
-    fn memory_grow_failed(&mut self, _error: &MemoryError) -> Result<(), LimiterError> {
-        Ok(())
-    }
-
-    fn table_grow_failed(&mut self, _error: &TableError) -> Result<(), LimiterError> {
-        Ok(())
-    }
-
-    fn instances(&self) -> usize {
-        usize::MAX
-    }
-
-    fn tables(&self) -> usize {
-        usize::MAX
-    }
-
-    fn memories(&self) -> usize {
-        usize::MAX
-    }
-}
+use wasmi_uses::limiter::AtMost;
 
 #[test]
 fn a_memory_under_a_limiter(rt: HostRuntime) -> Result<(), Fail> {
     let one_page = memory_type(1, None, 16)?;
-    let mut limiter = OnePage;
+    let mut limiter = AtMost { bytes: 65536 };
     let mut lent = ResourceLimiterRef::from(&mut limiter);
     let mut memory = Memory::new(rt.alloc(), one_page, &mut lent)?;
     let refused = memory.grow(1, None, &mut lent);
