@@ -1,9 +1,7 @@
 //! The limiter of one machine of a pool.
 ghost use Rattle.std.specs.Prelude.{◌≡◌, None};
 
-use wasmi_meter::{
-    Amounts, Holdings, Kind, LimiterError, MemoryError, Reserving, ResourceLimiter, TableError,
-};
+use wasmi_meter::{Amounts, Holdings, Kind, LimiterByKind, LimiterError, Reserving};
 
 /// The limiter of one machine of a pool: it permits what keeps all tenants together within the
 /// caps, and says no to the rest. It counts each difference that it permitted, and takes the last
@@ -42,55 +40,23 @@ impl Tenant {
     }
 }
 
-impl ResourceLimiter for Tenant {
+impl LimiterByKind for Tenant {
     ghost use Rattle.wasmi_budget.specs.Tenant.{tenant_rules};
 
-    ghost rules = { tenant_rules };
+    ghost kind_rules = { tenant_rules };
 
-    fn memory_growing(
+    fn growing(
         &mut self,
+        kind: Kind,
         current: usize,
         desired: usize,
-        _maximum: Option<usize>,
     ) -> Result<bool, LimiterError> {
-        Ok(self.take(Kind::Bytes, (desired - current) as u64))
+        Ok(self.take(kind, (desired - current) as u64))
     }
 
-    fn table_growing(
-        &mut self,
-        current: usize,
-        desired: usize,
-        _maximum: Option<usize>,
-    ) -> Result<bool, LimiterError> {
-        Ok(self.take(Kind::Elements, (desired - current) as u64))
-    }
-
-    fn memory_grow_failed(&mut self, _error: &MemoryError) -> Result<(), LimiterError> {
-        self.holdings.give_back(Kind::Bytes);
+    fn grow_failed(&mut self, kind: Kind) -> Result<(), LimiterError> {
+        self.holdings.give_back(kind);
         Ok(())
-    }
-
-    fn table_grow_failed(&mut self, _error: &TableError) -> Result<(), LimiterError> {
-        self.holdings.give_back(Kind::Elements);
-        Ok(())
-    }
-
-    fn instances(&self) -> usize
-        ensures { result ≡ usize.MAX }
-    {
-        usize::MAX
-    }
-
-    fn tables(&self) -> usize
-        ensures { result ≡ usize.MAX }
-    {
-        usize::MAX
-    }
-
-    fn memories(&self) -> usize
-        ensures { result ≡ usize.MAX }
-    {
-        usize::MAX
     }
 }
 

@@ -15,7 +15,7 @@ pub use amounts::Amounts;
 pub use error::{LimiterError, MemoryError, TableError};
 pub use fuel::{CustomFuelCosts, Fuel, FuelCosts, FuelCostsProvider, FuelError, ValueSize};
 pub use holdings::Holdings;
-pub use limiter::{Kind, NoLimits, ResourceLimiter};
+pub use limiter::{Kind, LimiterByKind, NoLimits, ResourceLimiter};
 pub use limiter_ref::{Lender, LimiterRef, ResourceLimiterRef};
 pub use quota::Quota;
 pub use reserving::Reserving;

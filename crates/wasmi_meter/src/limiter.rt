@@ -1,7 +1,7 @@
 //! Who may grow: a limiter is asked before each growth, and told of one that it permitted and that
 //! then failed.
-ghost use Rattle.std.specs.Prelude.{◌≡◌, ◌≤◌};
-ghost use Rattle.wasmi_meter.specs.Limiter.{MemoryFailure, TableFailure, Rules, unlimited_rules};
+ghost use Rattle.std.specs.Prelude.{◌≡◌, ◌≤◌, ℕ, Option};
+ghost use Rattle.wasmi_meter.specs.Limiter.{Failure, MemoryFailure, TableFailure, Rules, kind_of, unlimited_rules};
 ghost use Rattle.wasmi_meter.specs.declared.limiter.Kind.TheVariants.{Bytes, Elements};
 
 use crate::error::{LimiterError, MemoryError, TableError};
@@ -70,37 +70,54 @@ pub trait ResourceLimiter {
     fn memories(&self) -> usize;
 }
 
-/// A limiter that permits everything.
-#[derive(Clone, Copy, Debug)]
-pub struct NoLimits;
+/// Decides by the kind of what grows, whatever its type allows and whatever the error of a notice
+/// is. Each is a [`ResourceLimiter`] that allows any number of instances, tables and memories.
+///
+/// Own: upstream has no such trait.
+pub trait LimiterByKind {
+    /// What it may answer to a question and to a notice, and what it is afterwards.
+    ghost kind_rules: { Rules Self };
 
-impl ResourceLimiter for NoLimits {
-    ghost rules = { unlimited_rules };
+    /// May what is of this kind grow from `current` to `desired`, in bytes or elements?
+    fn growing(&mut self, kind: Kind, current: usize, desired: usize) -> Result<bool, LimiterError>
+        requires { current ≤ desired }
+        ensures { (maximum : Option ℕ) → kind_rules.asked self.old
+            (record { kind = kind; current = current; desired = desired; maximum = maximum })
+            result self.new };
+
+    /// What is of this kind was permitted to grow and did not.
+    fn grow_failed(&mut self, kind: Kind) -> Result<(), LimiterError>
+        ensures { (failure : Failure) → kind_of failure ≡ kind
+            → kind_rules.noticed self.old failure result self.new };
+}
+
+impl<L: LimiterByKind> ResourceLimiter for L {
+    ghost rules = { L.kind_rules };
 
     fn memory_growing(
         &mut self,
-        _current: usize,
-        _desired: usize,
+        current: usize,
+        desired: usize,
         _maximum: Option<usize>,
     ) -> Result<bool, LimiterError> {
-        Ok(true)
+        self.growing(Kind::Bytes, current, desired)
     }
 
     fn table_growing(
         &mut self,
-        _current: usize,
-        _desired: usize,
+        current: usize,
+        desired: usize,
         _maximum: Option<usize>,
     ) -> Result<bool, LimiterError> {
-        Ok(true)
+        self.growing(Kind::Elements, current, desired)
     }
 
     fn memory_grow_failed(&mut self, _error: &MemoryError) -> Result<(), LimiterError> {
-        Ok(())
+        self.grow_failed(Kind::Bytes)
     }
 
     fn table_grow_failed(&mut self, _error: &TableError) -> Result<(), LimiterError> {
-        Ok(())
+        self.grow_failed(Kind::Elements)
     }
 
     fn instances(&self) -> usize
@@ -119,5 +136,26 @@ impl ResourceLimiter for NoLimits {
         ensures { result ≡ usize.MAX }
     {
         usize::MAX
+    }
+}
+
+/// A limiter that permits everything.
+#[derive(Clone, Copy, Debug)]
+pub struct NoLimits;
+
+impl LimiterByKind for NoLimits {
+    ghost kind_rules = { unlimited_rules };
+
+    fn growing(
+        &mut self,
+        _kind: Kind,
+        _current: usize,
+        _desired: usize,
+    ) -> Result<bool, LimiterError> {
+        Ok(true)
+    }
+
+    fn grow_failed(&mut self, _kind: Kind) -> Result<(), LimiterError> {
+        Ok(())
     }
 }

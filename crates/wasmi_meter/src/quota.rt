@@ -3,9 +3,9 @@ ghost use Rattle.std.specs.Prelude.{◌≡◌, None};
 ghost use Rattle.wasmi_meter.specs.declared.limiter.Kind.TheVariants.{Bytes, Elements};
 
 use crate::amounts::Amounts;
-use crate::error::{LimiterError, MemoryError, TableError};
+use crate::error::LimiterError;
 use crate::holdings::Holdings;
-use crate::limiter::{Kind, ResourceLimiter};
+use crate::limiter::{Kind, LimiterByKind};
 use crate::reserving::Reserving;
 
 /// A limiter that permits what stays within two caps, and says no to the rest. It counts each
@@ -62,55 +62,23 @@ impl Quota {
     }
 }
 
-impl ResourceLimiter for Quota {
+impl LimiterByKind for Quota {
     ghost use Rattle.wasmi_meter.specs.Quota.{quota_rules};
 
-    ghost rules = { quota_rules };
+    ghost kind_rules = { quota_rules };
 
-    fn memory_growing(
+    fn growing(
         &mut self,
+        kind: Kind,
         current: usize,
         desired: usize,
-        _maximum: Option<usize>,
     ) -> Result<bool, LimiterError> {
-        Ok(self.take(Kind::Bytes, (desired - current) as u64))
+        Ok(self.take(kind, (desired - current) as u64))
     }
 
-    fn table_growing(
-        &mut self,
-        current: usize,
-        desired: usize,
-        _maximum: Option<usize>,
-    ) -> Result<bool, LimiterError> {
-        Ok(self.take(Kind::Elements, (desired - current) as u64))
-    }
-
-    fn memory_grow_failed(&mut self, _error: &MemoryError) -> Result<(), LimiterError> {
-        self.holdings.give_back(Kind::Bytes);
+    fn grow_failed(&mut self, kind: Kind) -> Result<(), LimiterError> {
+        self.holdings.give_back(kind);
         Ok(())
-    }
-
-    fn table_grow_failed(&mut self, _error: &TableError) -> Result<(), LimiterError> {
-        self.holdings.give_back(Kind::Elements);
-        Ok(())
-    }
-
-    fn instances(&self) -> usize
-        ensures { result ≡ usize.MAX }
-    {
-        usize::MAX
-    }
-
-    fn tables(&self) -> usize
-        ensures { result ≡ usize.MAX }
-    {
-        usize::MAX
-    }
-
-    fn memories(&self) -> usize
-        ensures { result ≡ usize.MAX }
-    {
-        usize::MAX
     }
 }
 
