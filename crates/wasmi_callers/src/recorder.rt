@@ -4,10 +4,7 @@ ghost use Rattle.wasmi_core.specs.Totals.{sizes};
 ghost use Rattle.wasmi_callers.specs.Recorder.{recorder_rules, Permits, Hears, LeavesTrace};
 
 use std::alloc::{AllocError, Global};
-use wasmi_core::{
-    Call, Kind, LimiterError, Machine, MemoryError, Reply, ResourceLimiter, TableError, laws,
-    run_lending,
-};
+use wasmi_core::{Call, Kind, LimiterByKind, LimiterError, Machine, Reply, laws, run_lending};
 
 /// What a limiter was asked and has permitted, or was told.
 #[derive(Clone, Copy, Debug, PartialEq, Eq)]
@@ -59,53 +56,24 @@ impl Recorder {
     }
 }
 
-impl ResourceLimiter for Recorder {
-    ghost rules = { recorder_rules };
+impl LimiterByKind for Recorder {
+    ghost kind_rules = { recorder_rules };
 
-    fn memory_growing(
+    fn growing(
         &mut self,
+        kind: Kind,
         current: usize,
         desired: usize,
-        _maximum: Option<usize>,
     ) -> Result<bool, LimiterError> {
         Ok(self.permit(Event::Permitted {
-            kind: Kind::Bytes,
+            kind,
             current,
             desired,
         }))
     }
 
-    fn table_growing(
-        &mut self,
-        current: usize,
-        desired: usize,
-        _maximum: Option<usize>,
-    ) -> Result<bool, LimiterError> {
-        Ok(self.permit(Event::Permitted {
-            kind: Kind::Elements,
-            current,
-            desired,
-        }))
-    }
-
-    fn memory_grow_failed(&mut self, _error: &MemoryError) -> Result<(), LimiterError> {
-        self.hear(Kind::Bytes)
-    }
-
-    fn table_grow_failed(&mut self, _error: &TableError) -> Result<(), LimiterError> {
-        self.hear(Kind::Elements)
-    }
-
-    fn instances(&self) -> usize {
-        usize::MAX
-    }
-
-    fn tables(&self) -> usize {
-        usize::MAX
-    }
-
-    fn memories(&self) -> usize {
-        usize::MAX
+    fn grow_failed(&mut self, kind: Kind) -> Result<(), LimiterError> {
+        self.hear(kind)
     }
 }
 

@@ -1,8 +1,8 @@
 //! A limiter that answers from a list of words.
 ghost use Rattle.std.specs.Prelude.{◌≡◌};
 
-use wasmi_core::{LimiterError, MemoryError, ResourceLimiter, TableError};
 use wasmi_grammar::AnswerWord;
+use wasmi_meter::{Kind, LimiterByKind, LimiterError};
 
 /// A limiter that answers each question by the next of its words, and permits once there is none
 /// left.
@@ -57,46 +57,21 @@ impl<'w> AnswerList<'w> {
     }
 }
 
-impl ResourceLimiter for AnswerList<'_> {
+impl LimiterByKind for AnswerList<'_> {
     ghost use Rattle.wasmi_script.specs.ListedLimiter.{answer_rules};
 
-    ghost rules = { answer_rules };
+    ghost kind_rules = { answer_rules };
 
-    fn memory_growing(
+    fn growing(
         &mut self,
+        _kind: Kind,
         _current: usize,
         _desired: usize,
-        _maximum: Option<usize>,
     ) -> Result<bool, LimiterError> {
         self.answer()
     }
 
-    fn table_growing(
-        &mut self,
-        _current: usize,
-        _desired: usize,
-        _maximum: Option<usize>,
-    ) -> Result<bool, LimiterError> {
-        self.answer()
-    }
-
-    fn memory_grow_failed(&mut self, _error: &MemoryError) -> Result<(), LimiterError> {
+    fn grow_failed(&mut self, _kind: Kind) -> Result<(), LimiterError> {
         self.notice_answer()
-    }
-
-    fn table_grow_failed(&mut self, _error: &TableError) -> Result<(), LimiterError> {
-        self.notice_answer()
-    }
-
-    fn instances(&self) -> usize {
-        usize::MAX
-    }
-
-    fn tables(&self) -> usize {
-        usize::MAX
-    }
-
-    fn memories(&self) -> usize {
-        usize::MAX
     }
 }

@@ -7,7 +7,7 @@ use super::{
 use std::alloc::AllocGlobal;
 use std::process::Abort;
 use std::test::Fail;
-use wasmi_core::{LimiterError, Machine, MemoryError, ResourceLimiter, TableError, run_lending};
+use wasmi_core::{Kind, LimiterByKind, LimiterError, Machine, run_lending};
 
 const REFUSAL: LimiterError = LimiterError::ResourceLimiterDeniedAllocation;
 
@@ -74,48 +74,23 @@ pub(super) struct Replies {
     pub(super) failed: Option<ReplyRow>,
 }
 
-impl ResourceLimiter for RandomAnswers {
-    ghost rules = { record {
+impl LimiterByKind for RandomAnswers {
+    ghost kind_rules = { record {
       asked = λ _ _ _ _. Unit {0};
       noticed = λ _ _ _ _. Unit {0};
     } };
 
-    fn memory_growing(
+    fn growing(
         &mut self,
+        _kind: Kind,
         _current: usize,
         _desired: usize,
-        _maximum: Option<usize>,
     ) -> Result<bool, LimiterError> {
         self.answer()
     }
 
-    fn table_growing(
-        &mut self,
-        _current: usize,
-        _desired: usize,
-        _maximum: Option<usize>,
-    ) -> Result<bool, LimiterError> {
-        self.answer()
-    }
-
-    fn memory_grow_failed(&mut self, _error: &MemoryError) -> Result<(), LimiterError> {
+    fn grow_failed(&mut self, _kind: Kind) -> Result<(), LimiterError> {
         self.notice_answer()
-    }
-
-    fn table_grow_failed(&mut self, _error: &TableError) -> Result<(), LimiterError> {
-        self.notice_answer()
-    }
-
-    fn instances(&self) -> usize {
-        0
-    }
-
-    fn tables(&self) -> usize {
-        0
-    }
-
-    fn memories(&self) -> usize {
-        0
     }
 }
 
