@@ -1,6 +1,6 @@
 -- The scalar instructions of two operands.
-use Rattle.std.specs.Prelude.{◌*◌, ◌*ℤ◌, Result, Ok}
-use Rattle.std.specs.Int.{w32, w64, w128, cast_unsigned}
+use Rattle.std.specs.Prelude.{ℕ, ℤ, Bool, ◌*◌, ◌*ℤ◌, Result, Ok}
+use Rattle.std.specs.Int.{Width, w32, w64, w128, cast_unsigned}
 use Rattle.wasmi_types.specs.declared.trap.TrapCode.{TrapCode}
 use Rattle.wasmi_raw.specs.declared.raw.RawVal.{RawVal}
 use Rattle.wasmi_raw.specs.RawVal.{raw_of, raw_of_vector, signed_in, unsigned_in, vector_in}
@@ -11,58 +11,91 @@ use Rattle.wasmi_scalar_ops.specs.declared.binary.ScalarBinaryOp.{ScalarBinaryOp
 use Rattle.wasmi_scalar_ops.specs.declared.binary.ScalarBinaryOp.TheVariants as binary
 
 -- what an instruction of two raw values gives, or its trap
-abbrev pub binary_raw : ScalarBinaryOp → RawVal → RawVal → Result RawVal TrapCode
-binary_raw binary.I32Add lhs rhs = Ok (signed_raw w32 (iadd w32 (signed_in w32 lhs) (signed_in w32 rhs)))
-binary_raw binary.I32Sub lhs rhs = Ok (signed_raw w32 (isub w32 (signed_in w32 lhs) (signed_in w32 rhs)))
-binary_raw binary.I32Mul lhs rhs = Ok (signed_raw w32 (imul w32 (signed_in w32 lhs) (signed_in w32 rhs)))
-binary_raw binary.I32Bitand lhs rhs = Ok (signed_raw w32 (iand w32 (signed_in w32 lhs) (signed_in w32 rhs)))
-binary_raw binary.I32Bitor lhs rhs = Ok (signed_raw w32 (ior w32 (signed_in w32 lhs) (signed_in w32 rhs)))
-binary_raw binary.I32Bitxor lhs rhs = Ok (signed_raw w32 (ixor w32 (signed_in w32 lhs) (signed_in w32 rhs)))
-binary_raw binary.I32Shl lhs rhs = Ok (signed_raw w32 (ishl w32 (signed_in w32 lhs) (signed_in w32 rhs)))
-binary_raw binary.I32ShrS lhs rhs = Ok (signed_raw w32 (ishr_s w32 (signed_in w32 lhs) (signed_in w32 rhs)))
-binary_raw binary.I32ShrU lhs rhs = Ok (raw_of (ishr_u w32 (unsigned_in w32 lhs) (unsigned_in w32 rhs)))
-binary_raw binary.I32Rotl lhs rhs = Ok (signed_raw w32 (irotl w32 (signed_in w32 lhs) (signed_in w32 rhs)))
-binary_raw binary.I32Rotr lhs rhs = Ok (signed_raw w32 (irotr w32 (signed_in w32 lhs) (signed_in w32 rhs)))
-binary_raw binary.I32DivS lhs rhs = as_raw (signed_raw w32) (idiv_s w32 (signed_in w32 lhs) (signed_in w32 rhs))
-binary_raw binary.I32DivU lhs rhs = as_raw raw_of (idiv_u (unsigned_in w32 lhs) (unsigned_in w32 rhs))
-binary_raw binary.I32RemS lhs rhs = as_raw (signed_raw w32) (irem_s (signed_in w32 lhs) (signed_in w32 rhs))
-binary_raw binary.I32RemU lhs rhs = as_raw raw_of (irem_u (unsigned_in w32 lhs) (unsigned_in w32 rhs))
-binary_raw binary.I32Eq lhs rhs = Ok (truth_raw (ieq (signed_in w32 lhs) (signed_in w32 rhs)))
-binary_raw binary.I32Ne lhs rhs = Ok (truth_raw (ine (signed_in w32 lhs) (signed_in w32 rhs)))
-binary_raw binary.I32LtS lhs rhs = Ok (truth_raw (ilt_s (signed_in w32 lhs) (signed_in w32 rhs)))
-binary_raw binary.I32LtU lhs rhs = Ok (truth_raw (ilt_u (unsigned_in w32 lhs) (unsigned_in w32 rhs)))
-binary_raw binary.I32LeS lhs rhs = Ok (truth_raw (ile_s (signed_in w32 lhs) (signed_in w32 rhs)))
-binary_raw binary.I32LeU lhs rhs = Ok (truth_raw (ile_u (unsigned_in w32 lhs) (unsigned_in w32 rhs)))
-binary_raw binary.I32GtS lhs rhs = Ok (truth_raw (igt_s (signed_in w32 lhs) (signed_in w32 rhs)))
-binary_raw binary.I32GtU lhs rhs = Ok (truth_raw (igt_u (unsigned_in w32 lhs) (unsigned_in w32 rhs)))
-binary_raw binary.I32GeS lhs rhs = Ok (truth_raw (ige_s (signed_in w32 lhs) (signed_in w32 rhs)))
-binary_raw binary.I32GeU lhs rhs = Ok (truth_raw (ige_u (unsigned_in w32 lhs) (unsigned_in w32 rhs)))
-binary_raw binary.I64Add lhs rhs = Ok (signed_raw w64 (iadd w64 (signed_in w64 lhs) (signed_in w64 rhs)))
-binary_raw binary.I64Sub lhs rhs = Ok (signed_raw w64 (isub w64 (signed_in w64 lhs) (signed_in w64 rhs)))
-binary_raw binary.I64Mul lhs rhs = Ok (signed_raw w64 (imul w64 (signed_in w64 lhs) (signed_in w64 rhs)))
-binary_raw binary.I64Bitand lhs rhs = Ok (signed_raw w64 (iand w64 (signed_in w64 lhs) (signed_in w64 rhs)))
-binary_raw binary.I64Bitor lhs rhs = Ok (signed_raw w64 (ior w64 (signed_in w64 lhs) (signed_in w64 rhs)))
-binary_raw binary.I64Bitxor lhs rhs = Ok (signed_raw w64 (ixor w64 (signed_in w64 lhs) (signed_in w64 rhs)))
-binary_raw binary.I64Shl lhs rhs = Ok (signed_raw w64 (ishl w64 (signed_in w64 lhs) (signed_in w64 rhs)))
-binary_raw binary.I64ShrS lhs rhs = Ok (signed_raw w64 (ishr_s w64 (signed_in w64 lhs) (signed_in w64 rhs)))
-binary_raw binary.I64ShrU lhs rhs = Ok (raw_of (ishr_u w64 (unsigned_in w64 lhs) (unsigned_in w64 rhs)))
-binary_raw binary.I64Rotl lhs rhs = Ok (signed_raw w64 (irotl w64 (signed_in w64 lhs) (signed_in w64 rhs)))
-binary_raw binary.I64Rotr lhs rhs = Ok (signed_raw w64 (irotr w64 (signed_in w64 lhs) (signed_in w64 rhs)))
-binary_raw binary.I64DivS lhs rhs = as_raw (signed_raw w64) (idiv_s w64 (signed_in w64 lhs) (signed_in w64 rhs))
-binary_raw binary.I64DivU lhs rhs = as_raw raw_of (idiv_u (unsigned_in w64 lhs) (unsigned_in w64 rhs))
-binary_raw binary.I64RemS lhs rhs = as_raw (signed_raw w64) (irem_s (signed_in w64 lhs) (signed_in w64 rhs))
-binary_raw binary.I64RemU lhs rhs = as_raw raw_of (irem_u (unsigned_in w64 lhs) (unsigned_in w64 rhs))
-binary_raw binary.I64Eq lhs rhs = Ok (truth_raw (ieq (signed_in w64 lhs) (signed_in w64 rhs)))
-binary_raw binary.I64Ne lhs rhs = Ok (truth_raw (ine (signed_in w64 lhs) (signed_in w64 rhs)))
-binary_raw binary.I64LtS lhs rhs = Ok (truth_raw (ilt_s (signed_in w64 lhs) (signed_in w64 rhs)))
-binary_raw binary.I64LtU lhs rhs = Ok (truth_raw (ilt_u (unsigned_in w64 lhs) (unsigned_in w64 rhs)))
-binary_raw binary.I64LeS lhs rhs = Ok (truth_raw (ile_s (signed_in w64 lhs) (signed_in w64 rhs)))
-binary_raw binary.I64LeU lhs rhs = Ok (truth_raw (ile_u (unsigned_in w64 lhs) (unsigned_in w64 rhs)))
-binary_raw binary.I64GtS lhs rhs = Ok (truth_raw (igt_s (signed_in w64 lhs) (signed_in w64 rhs)))
-binary_raw binary.I64GtU lhs rhs = Ok (truth_raw (igt_u (unsigned_in w64 lhs) (unsigned_in w64 rhs)))
-binary_raw binary.I64GeS lhs rhs = Ok (truth_raw (ige_s (signed_in w64 lhs) (signed_in w64 rhs)))
-binary_raw binary.I64GeU lhs rhs = Ok (truth_raw (ige_u (unsigned_in w64 lhs) (unsigned_in w64 rhs)))
-binary_raw binary.I64Add128 lhs rhs = Ok (raw_of_vector (add128 (vector_in lhs) (vector_in rhs)))
-binary_raw binary.I64Sub128 lhs rhs = Ok (raw_of_vector (sub128 (vector_in lhs) (vector_in rhs)))
-binary_raw binary.I64MulWideS lhs rhs = Ok (raw_of_vector (cast_unsigned w128 (signed_in w64 lhs *ℤ signed_in w64 rhs)))
-binary_raw binary.I64MulWideU lhs rhs = Ok (raw_of_vector (unsigned_in w64 lhs * unsigned_in w64 rhs))
+abbrev pub RawOperation : Type 0
+RawOperation = RawVal → RawVal → Result RawVal TrapCode
+
+-- an operation on two numbers that are read signed in a width
+abbrev pub signed_operation : Width → (Width → ℤ → ℤ → ℤ) → RawOperation
+signed_operation w operator lhs rhs = Ok (signed_raw w (operator w (signed_in w lhs) (signed_in w rhs)))
+
+-- the same of numbers that are read unsigned
+abbrev pub unsigned_operation : Width → (Width → ℕ → ℕ → ℕ) → RawOperation
+unsigned_operation w operator lhs rhs = Ok (raw_of (operator w (unsigned_in w lhs) (unsigned_in w rhs)))
+
+-- an operation on two numbers that are read signed in a width, which may trap
+abbrev pub signed_partial : Width → (ℤ → ℤ → Result ℤ TrapCode) → RawOperation
+signed_partial w operator lhs rhs = as_raw (signed_raw w) (operator (signed_in w lhs) (signed_in w rhs))
+
+-- the same of numbers that are read unsigned
+abbrev pub unsigned_partial : Width → (ℕ → ℕ → Result ℕ TrapCode) → RawOperation
+unsigned_partial w operator lhs rhs = as_raw raw_of (operator (unsigned_in w lhs) (unsigned_in w rhs))
+
+-- a comparison of two numbers that are read signed in a width
+abbrev pub signed_comparison : Width → (ℤ → ℤ → Bool) → RawOperation
+signed_comparison w relation lhs rhs = Ok (truth_raw (relation (signed_in w lhs) (signed_in w rhs)))
+
+-- the same of numbers that are read unsigned
+abbrev pub unsigned_comparison : Width → (ℕ → ℕ → Bool) → RawOperation
+unsigned_comparison w relation lhs rhs = Ok (truth_raw (relation (unsigned_in w lhs) (unsigned_in w rhs)))
+
+-- an operation on two numbers of 128 bits
+abbrev pub wide_operation : (ℕ → ℕ → ℕ) → RawOperation
+wide_operation operator lhs rhs = Ok (raw_of_vector (operator (vector_in lhs) (vector_in rhs)))
+
+-- the operation of each instruction
+abbrev pub binary_raw : ScalarBinaryOp → RawOperation
+binary_raw binary.I32Add = signed_operation w32 iadd
+binary_raw binary.I32Sub = signed_operation w32 isub
+binary_raw binary.I32Mul = signed_operation w32 imul
+binary_raw binary.I32Bitand = signed_operation w32 iand
+binary_raw binary.I32Bitor = signed_operation w32 ior
+binary_raw binary.I32Bitxor = signed_operation w32 ixor
+binary_raw binary.I32Shl = signed_operation w32 ishl
+binary_raw binary.I32ShrS = signed_operation w32 ishr_s
+binary_raw binary.I32ShrU = unsigned_operation w32 ishr_u
+binary_raw binary.I32Rotl = signed_operation w32 irotl
+binary_raw binary.I32Rotr = signed_operation w32 irotr
+binary_raw binary.I32DivS = signed_partial w32 (idiv_s w32)
+binary_raw binary.I32DivU = unsigned_partial w32 idiv_u
+binary_raw binary.I32RemS = signed_partial w32 irem_s
+binary_raw binary.I32RemU = unsigned_partial w32 irem_u
+binary_raw binary.I32Eq = signed_comparison w32 ieq
+binary_raw binary.I32Ne = signed_comparison w32 ine
+binary_raw binary.I32LtS = signed_comparison w32 ilt_s
+binary_raw binary.I32LtU = unsigned_comparison w32 ilt_u
+binary_raw binary.I32LeS = signed_comparison w32 ile_s
+binary_raw binary.I32LeU = unsigned_comparison w32 ile_u
+binary_raw binary.I32GtS = signed_comparison w32 igt_s
+binary_raw binary.I32GtU = unsigned_comparison w32 igt_u
+binary_raw binary.I32GeS = signed_comparison w32 ige_s
+binary_raw binary.I32GeU = unsigned_comparison w32 ige_u
+binary_raw binary.I64Add = signed_operation w64 iadd
+binary_raw binary.I64Sub = signed_operation w64 isub
+binary_raw binary.I64Mul = signed_operation w64 imul
+binary_raw binary.I64Bitand = signed_operation w64 iand
+binary_raw binary.I64Bitor = signed_operation w64 ior
+binary_raw binary.I64Bitxor = signed_operation w64 ixor
+binary_raw binary.I64Shl = signed_operation w64 ishl
+binary_raw binary.I64ShrS = signed_operation w64 ishr_s
+binary_raw binary.I64ShrU = unsigned_operation w64 ishr_u
+binary_raw binary.I64Rotl = signed_operation w64 irotl
+binary_raw binary.I64Rotr = signed_operation w64 irotr
+binary_raw binary.I64DivS = signed_partial w64 (idiv_s w64)
+binary_raw binary.I64DivU = unsigned_partial w64 idiv_u
+binary_raw binary.I64RemS = signed_partial w64 irem_s
+binary_raw binary.I64RemU = unsigned_partial w64 irem_u
+binary_raw binary.I64Eq = signed_comparison w64 ieq
+binary_raw binary.I64Ne = signed_comparison w64 ine
+binary_raw binary.I64LtS = signed_comparison w64 ilt_s
+binary_raw binary.I64LtU = unsigned_comparison w64 ilt_u
+binary_raw binary.I64LeS = signed_comparison w64 ile_s
+binary_raw binary.I64LeU = unsigned_comparison w64 ile_u
+binary_raw binary.I64GtS = signed_comparison w64 igt_s
+binary_raw binary.I64GtU = unsigned_comparison w64 igt_u
+binary_raw binary.I64GeS = signed_comparison w64 ige_s
+binary_raw binary.I64GeU = unsigned_comparison w64 ige_u
+binary_raw binary.I64Add128 = wide_operation add128
+binary_raw binary.I64Sub128 = wide_operation sub128
+binary_raw binary.I64MulWideS =
+    λ lhs rhs. Ok (raw_of_vector (cast_unsigned w128 (signed_in w64 lhs *ℤ signed_in w64 rhs)))
+binary_raw binary.I64MulWideU = λ lhs rhs. Ok (raw_of_vector (unsigned_in w64 lhs * unsigned_in w64 rhs))

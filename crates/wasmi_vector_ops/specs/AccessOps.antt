@@ -16,19 +16,19 @@ use Rattle.wasmi_vector_ops.specs.declared.access.StoreLaneOp.TheVariants as sto
 
 -- the vector that a load from an address gives, or the trap
 abbrev pub loaded_vector : VectorLoadOp → List ℕ → ℕ → Result ℕ TrapCode
-loaded_vector load.V128Load bytes a = loaded 16 (λ n. n) bytes a
-loaded_vector load.V128Load8x8S bytes a = loaded 8 (widening.widen_s w8 w16) bytes a
-loaded_vector load.V128Load8x8U bytes a = loaded 8 (widening.widen_u w8 w16) bytes a
-loaded_vector load.V128Load16x4S bytes a = loaded 8 (widening.widen_s w16 w32) bytes a
-loaded_vector load.V128Load16x4U bytes a = loaded 8 (widening.widen_u w16 w32) bytes a
-loaded_vector load.V128Load32x2S bytes a = loaded 8 (widening.widen_s w32 w64) bytes a
-loaded_vector load.V128Load32x2U bytes a = loaded 8 (widening.widen_u w32 w64) bytes a
-loaded_vector load.V128Load8Splat bytes a = loaded 1 (splat_of w8) bytes a
-loaded_vector load.V128Load16Splat bytes a = loaded 2 (splat_of w16) bytes a
-loaded_vector load.V128Load32Splat bytes a = loaded 4 (splat_of w32) bytes a
-loaded_vector load.V128Load64Splat bytes a = loaded 8 (splat_of w64) bytes a
-loaded_vector load.V128Load32Zero bytes a = loaded 4 (widening.low_zero w32) bytes a
-loaded_vector load.V128Load64Zero bytes a = loaded 8 (widening.low_zero w64) bytes a
+loaded_vector load.V128Load = loaded 16 (λ n. n)
+loaded_vector load.V128Load8x8S = loaded 8 (widening.widen_s w8 w16)
+loaded_vector load.V128Load8x8U = loaded 8 (widening.widen_u w8 w16)
+loaded_vector load.V128Load16x4S = loaded 8 (widening.widen_s w16 w32)
+loaded_vector load.V128Load16x4U = loaded 8 (widening.widen_u w16 w32)
+loaded_vector load.V128Load32x2S = loaded 8 (widening.widen_s w32 w64)
+loaded_vector load.V128Load32x2U = loaded 8 (widening.widen_u w32 w64)
+loaded_vector load.V128Load8Splat = loaded 1 (splat_of w8)
+loaded_vector load.V128Load16Splat = loaded 2 (splat_of w16)
+loaded_vector load.V128Load32Splat = loaded 4 (splat_of w32)
+loaded_vector load.V128Load64Splat = loaded 8 (splat_of w64)
+loaded_vector load.V128Load32Zero = loaded 4 (widening.low_zero w32)
+loaded_vector load.V128Load64Zero = loaded 8 (widening.low_zero w64)
 
 -- the vector with a lane that is loaded from an address, or the trap
 abbrev pub loaded_lane : LoadLaneOp → ℕ → List ℕ → ℕ → Result ℕ TrapCode

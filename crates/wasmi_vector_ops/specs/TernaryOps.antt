@@ -7,9 +7,9 @@ use Rattle.wasmi_vector_ops.specs.declared.ternary.TernaryOp.TheVariants as tern
 
 -- what an instruction of three vectors gives
 abbrev pub ternary_vector : TernaryOp → ℕ → ℕ → ℕ → ℕ
-ternary_vector ternary.V128Bitselect a b c = vector.v128_bitselect a b c
-ternary_vector ternary.I8x16RelaxedLaneselect a b c = widening.relaxed_laneselect a b c
-ternary_vector ternary.I16x8RelaxedLaneselect a b c = widening.relaxed_laneselect a b c
-ternary_vector ternary.I32x4RelaxedLaneselect a b c = widening.relaxed_laneselect a b c
-ternary_vector ternary.I64x2RelaxedLaneselect a b c = widening.relaxed_laneselect a b c
-ternary_vector ternary.I32x4RelaxedDotI8x16I7x16AddS a b c = widening.relaxed_dot_add_s a b c
+ternary_vector ternary.V128Bitselect = vector.v128_bitselect
+ternary_vector ternary.I8x16RelaxedLaneselect = widening.relaxed_laneselect
+ternary_vector ternary.I16x8RelaxedLaneselect = widening.relaxed_laneselect
+ternary_vector ternary.I32x4RelaxedLaneselect = widening.relaxed_laneselect
+ternary_vector ternary.I64x2RelaxedLaneselect = widening.relaxed_laneselect
+ternary_vector ternary.I32x4RelaxedDotI8x16I7x16AddS = widening.relaxed_dot_add_s
