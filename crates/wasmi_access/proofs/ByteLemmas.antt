@@ -181,41 +181,36 @@ pub bytes-signed : (w : Width) (z : ℤ) (bs : List ℕ) → SFits w z
 bytes-signed w z bs f e =
     e ∙ ap (λ y. to_le_bytes w (cast_unsigned w y)) (to_z-of_z w z f) ∙ ap (to_le_bytes w) (sym (wrap_signed w z f))
 
--- the number that std reads of 1 byte is that of the list
-pub number_of_whole_1 : (bs : List ℕ) → length bs ≡ 1 → from_le_bytes w8 bs ≡ number_of bs
-number_of_whole_1 bs e = number_of-whole bs 0 e
+-- what holds at each width of a number
+pub record AtEachWidth (P : Width → Type 0) : Type 0 where
+  pub at_8 : P w8
+  pub at_16 : P w16
+  pub at_32 : P w32
+  pub at_64 : P w64
+  pub at_128 : P w128
+
+-- the number that std reads of as many bytes as a width has is that of the list
+pub number_of_whole : AtEachWidth
+    (λ w. (bs : List ℕ) → length bs ≡ suc (byte_len w - 1) → from_le_bytes w bs ≡ number_of bs)
+number_of_whole = record {
+  at_8 = λ bs. number_of-whole bs 0;
+  at_16 = λ bs. number_of-whole bs 1;
+  at_32 = λ bs. number_of-whole bs 3;
+  at_64 = λ bs. number_of-whole bs 7;
+  at_128 = λ bs. number_of-whole bs 15;
+}
 
 -- the number of the 2 bytes of a number of 16 bits is that number
 pub number_of_bytes_2 : (n : ℕ) → n < 2 ^ 16 → number_of (to_le_bytes w16 n) ≡ n
 number_of_bytes_2 n h = number_of-bytes 2 n h
 
--- the number that std reads of 2 bytes is that of the list
-pub number_of_whole_2 : (bs : List ℕ) → length bs ≡ 2 → from_le_bytes w16 bs ≡ number_of bs
-number_of_whole_2 bs e = number_of-whole bs 1 e
-
 -- the number of the 4 bytes of a number of 32 bits is that number
 pub number_of_bytes_4 : (n : ℕ) → n < 2 ^ 32 → number_of (to_le_bytes w32 n) ≡ n
 number_of_bytes_4 n h = number_of-bytes 4 n h
 
--- the number that std reads of 4 bytes is that of the list
-pub number_of_whole_4 : (bs : List ℕ) → length bs ≡ 4 → from_le_bytes w32 bs ≡ number_of bs
-number_of_whole_4 bs e = number_of-whole bs 3 e
-
 -- the number of the 8 bytes of a number of 64 bits is that number
 pub number_of_bytes_8 : (n : ℕ) → n < 2 ^ 64 → number_of (to_le_bytes w64 n) ≡ n
 number_of_bytes_8 n h = number_of-bytes 8 n h
-
--- the number that std reads of 8 bytes is that of the list
-pub number_of_whole_8 : (bs : List ℕ) → length bs ≡ 8 → from_le_bytes w64 bs ≡ number_of bs
-number_of_whole_8 bs e = number_of-whole bs 7 e
-
--- the number of the 16 bytes of a number of 128 bits is that number
-pub number_of_bytes_16 : (n : ℕ) → n < 2 ^ 128 → number_of (to_le_bytes w128 n) ≡ n
-number_of_bytes_16 n h = number_of-bytes 16 n h
-
--- the number that std reads of 16 bytes is that of the list
-pub number_of_whole_16 : (bs : List ℕ) → length bs ≡ 16 → from_le_bytes w128 bs ≡ number_of bs
-number_of_whole_16 bs e = number_of-whole bs 15 e
 
 -- the number of one byte is the byte
 pub number_of_single : (b : ℕ) → number_of (b ∷ []) ≡ b

@@ -14,7 +14,7 @@ impl LittleEndianConvert for u8 {
     }
 
     #[inline]
-    #[tactic(auto, using(crate::proofs::ByteLemmas::number_of_whole_1))]
+    #[tactic(auto, using(crate::proofs::ByteLemmas::number_of_whole))]
     fn from_le_bytes(bytes: [u8; 1]) -> u8 {
         u8::from_le_bytes(bytes)
     }
@@ -32,7 +32,7 @@ impl LittleEndianConvert for u16 {
     }
 
     #[inline]
-    #[tactic(auto, using(crate::proofs::ByteLemmas::number_of_whole_2))]
+    #[tactic(auto, using(crate::proofs::ByteLemmas::number_of_whole))]
     fn from_le_bytes(bytes: [u8; 2]) -> u16 {
         u16::from_le_bytes(bytes)
     }
@@ -50,7 +50,7 @@ impl LittleEndianConvert for u32 {
     }
 
     #[inline]
-    #[tactic(auto, using(crate::proofs::ByteLemmas::number_of_whole_4))]
+    #[tactic(auto, using(crate::proofs::ByteLemmas::number_of_whole))]
     fn from_le_bytes(bytes: [u8; 4]) -> u32 {
         u32::from_le_bytes(bytes)
     }
@@ -68,7 +68,7 @@ impl LittleEndianConvert for u64 {
     }
 
     #[inline]
-    #[tactic(auto, using(crate::proofs::ByteLemmas::number_of_whole_8))]
+    #[tactic(auto, using(crate::proofs::ByteLemmas::number_of_whole))]
     fn from_le_bytes(bytes: [u8; 8]) -> u64 {
         u64::from_le_bytes(bytes)
     }
@@ -80,13 +80,12 @@ impl LittleEndianConvert for u128 {
     type Bytes = [u8; 16];
 
     #[inline]
-    #[tactic(auto, using(crate::proofs::ByteLemmas::number_of_bytes_16))]
     fn into_le_bytes(self) -> [u8; 16] {
         self.to_le_bytes()
     }
 
     #[inline]
-    #[tactic(auto, using(crate::proofs::ByteLemmas::number_of_whole_16))]
+    #[tactic(auto, using(crate::proofs::ByteLemmas::number_of_whole))]
     fn from_le_bytes(bytes: [u8; 16]) -> u128 {
         u128::from_le_bytes(bytes)
     }
@@ -104,7 +103,7 @@ impl LittleEndianConvert for i8 {
     }
 
     #[inline]
-    #[tactic(auto, using(crate::proofs::ByteLemmas::number_of_whole_1))]
+    #[tactic(auto, using(crate::proofs::ByteLemmas::number_of_whole))]
     fn from_le_bytes(bytes: [u8; 1]) -> i8 {
         i8::from_le_bytes(bytes)
     }
@@ -122,7 +121,7 @@ impl LittleEndianConvert for i16 {
     }
 
     #[inline]
-    #[tactic(auto, using(crate::proofs::ByteLemmas::number_of_whole_2))]
+    #[tactic(auto, using(crate::proofs::ByteLemmas::number_of_whole))]
     fn from_le_bytes(bytes: [u8; 2]) -> i16 {
         i16::from_le_bytes(bytes)
     }
@@ -140,7 +139,7 @@ impl LittleEndianConvert for i32 {
     }
 
     #[inline]
-    #[tactic(auto, using(crate::proofs::ByteLemmas::number_of_whole_4))]
+    #[tactic(auto, using(crate::proofs::ByteLemmas::number_of_whole))]
     fn from_le_bytes(bytes: [u8; 4]) -> i32 {
         i32::from_le_bytes(bytes)
     }
@@ -158,7 +157,7 @@ impl LittleEndianConvert for i64 {
     }
 
     #[inline]
-    #[tactic(auto, using(crate::proofs::ByteLemmas::number_of_whole_8))]
+    #[tactic(auto, using(crate::proofs::ByteLemmas::number_of_whole))]
     fn from_le_bytes(bytes: [u8; 8]) -> i64 {
         i64::from_le_bytes(bytes)
     }
@@ -170,13 +169,12 @@ impl LittleEndianConvert for i128 {
     type Bytes = [u8; 16];
 
     #[inline]
-    #[tactic(auto, using(crate::proofs::ByteLemmas::number_of_bytes_16))]
     fn into_le_bytes(self) -> [u8; 16] {
         self.to_le_bytes()
     }
 
     #[inline]
-    #[tactic(auto, using(crate::proofs::ByteLemmas::number_of_whole_16))]
+    #[tactic(auto, using(crate::proofs::ByteLemmas::number_of_whole))]
     fn from_le_bytes(bytes: [u8; 16]) -> i128 {
         i128::from_le_bytes(bytes)
     }

@@ -1,7 +1,7 @@
 use Rattle.std.proofs.Common.{ap, ◌∙◌}
 use Rattle.std.proofs.lemmas.Int.{to_z-of_z}
 use Rattle.std.specs.Int.{w128, cast_signed}
-use Rattle.wasmi_access.proofs.ByteLemmas.{bytes-signed, number_of_bytes_16}
+use Rattle.wasmi_access.proofs.ByteLemmas.{bytes-signed, number_of-bytes}
 use Rattle.wasmi_access.proofs.WrapLemmas.{wrap_below, wrap_signed}
 use Rattle.wasmi_types.specs.Bytes.{number_of}
 use Rattle.wasmi_types.specs.Wrapping.{wrap}
@@ -12,7 +12,7 @@ returns-clause-bytes c = bytes-signed w128 c.args.self c.to_le_bytes.result c.ra
 
 pub returns-clause-number : goal.returns-clause-number
 returns-clause-number c =
-    ap number_of (returns-clause-bytes c) ∙ number_of_bytes_16 (wrap w128 c.args.self) (wrap_below w128 c.args.self)
+    ap number_of (returns-clause-bytes c) ∙ number_of-bytes 16 (wrap w128 c.args.self) (wrap_below w128 c.args.self)
 
 pub returns-clause-round_trip : goal.returns-clause-round_trip
 returns-clause-round_trip c =

@@ -1,6 +1,6 @@
 use Rattle.std.proofs.Common.{rules, ap, sym, ◌∙◌}
 use Rattle.std.specs.Int.{w128}
-use Rattle.wasmi_access.proofs.ByteLemmas.{bytes-unsigned, number_of_bytes_16}
+use Rattle.wasmi_access.proofs.ByteLemmas.{bytes-unsigned, number_of-bytes}
 use Rattle.wasmi_access.proofs.WrapLemmas.{wrap_unsigned}
 use Rattle.wasmi_types.specs.Bytes.{number_of}
 use Rattle.wasmi_access.proofs.integer.U128LittleEndianConvert.into_le_bytes.Goals as goal
@@ -10,8 +10,8 @@ returns-clause-bytes c = bytes-unsigned w128 c.args.self c.to_le_bytes.result (s
 
 pub returns-clause-number : goal.returns-clause-number
 returns-clause-number c =
-    ap number_of c.to_le_bytes.ensures ∙ number_of_bytes_16 c.args.self (search rules)
+    ap number_of c.to_le_bytes.ensures ∙ number_of-bytes 16 c.args.self (search rules)
     ∙ sym (wrap_unsigned w128 c.args.self (search rules))
 
 pub returns-clause-round_trip : goal.returns-clause-round_trip
-returns-clause-round_trip c = ap number_of c.to_le_bytes.ensures ∙ number_of_bytes_16 c.args.self (search rules)
+returns-clause-round_trip c = ap number_of c.to_le_bytes.ensures ∙ number_of-bytes 16 c.args.self (search rules)

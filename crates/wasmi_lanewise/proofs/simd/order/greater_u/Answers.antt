@@ -1,6 +1,0 @@
-use Rattle.wasmi_lanes.specs.Vector.{comparison_of_lanes}
-use Rattle.wasmi_lanewise.proofs.simd.order.greater_u.Goals as goal
-
-pub returns : goal.returns
-unfolding comparison_of_lanes
-returns g c = c.less_u.ensures
