@@ -96,11 +96,12 @@ pub amount_is : (w : Width) (y : ℤ) (k : ℕ) → SFits w y → k ≡ cast_uns
     → k % bits w ≡ amount_of w y
 amount_is w y k f e = ap (λ m. m % bits w) (e ∙ ap (cast_unsigned w) (to_z-of_z w y f))
 
--- so is the amount that was already cut to the width
+-- so is the amount itself, which is below the width
 pub cut_amount_is : (w : Width) (y : ℤ) (k : ℕ) → 0 < bits w → SFits w y
-    → k ≡ cast_unsigned w (cast_signed w (cast_unsigned w y))
-    → k % bits w % bits w ≡ amount_of w y
-cut_amount_is w y k p f e = mod-eq_of_lt (mod_below k (bits w) p) ∙ amount_is w y k f e
+    → k ≡ amount_of w (cast_signed w (cast_unsigned w y)) → k % bits w ≡ amount_of w y
+cut_amount_is w y k p f e =
+    ap (λ j. j % bits w) (e ∙ ap (amount_of w) (to_z-of_z w y f))
+    ∙ mod-eq_of_lt (mod_below (cast_unsigned w y) (bits w) p)
 
 -- a shift to the left by the amount is the one of the table
 pub shifted : (w : Width) (z y r : ℤ) (k : ℕ) → 2 ^ hbits w ≤ 2 ^ bits w → SFits w z → SFits w r
@@ -110,24 +111,29 @@ shifted w z y r k le fz fr amount e =
     to_z-of_z w r fr ∙ e ∙ ap (λ v. int_shl w v (k % bits w)) (to_z-of_z w z fz) ∙ shl_is w z (2 ^ (k % bits w)) le fz
     ∙ ap (λ j. int_wrap w (z *ℤ pos (2 ^ j))) amount
 
--- a rotation to the left by the amount is the one of the table
-pub rotated_to_left : (w : Width) (z y r : ℤ) (k : ℕ) → 0 < bits w → 2 ^ hbits w ≤ 2 ^ bits w → SFits w z → SFits w r
-    → k % bits w ≡ amount_of w y
-    → r ≡ cast_signed w (rotate_left w (cast_unsigned w (cast_signed w (cast_unsigned w z))) k)
-    → cast_signed w (cast_unsigned w r) ≡ irotl w z y
-rotated_to_left w z y r k p le fz fr amount e =
-    to_z-of_z w r fr ∙ e ∙ ap (λ v. cast_signed w (rotate_left w (cast_unsigned w v) k)) (to_z-of_z w z fz)
-    ∙ ap (cast_signed w)
-    (left_by (bits w) (cast_unsigned w z) (k % bits w) (image_below w z le fz) (mod_below k (bits w) p))
-    ∙ ap (λ j. cast_signed w (rotated_left (bits w) (cast_unsigned w z) j)) amount
+-- std's rotation by k, where it is one to the left by `places` of k modulo the width, is that of the amount
+rotated : (w : Width) (z y r : ℤ) (k : ℕ) → SFits w z → SFits w r → k % bits w ≡ amount_of w y → (rotate : ℕ → ℕ → ℕ)
+    (places : ℕ → ℕ) → r ≡ cast_signed w (rotate (cast_unsigned w (cast_signed w (cast_unsigned w z))) k)
+    → rotate (cast_unsigned w z) k ≡ rotated_left (bits w) (cast_unsigned w z) (places (k % bits w))
+    → cast_signed w (cast_unsigned w r)
+    ≡ cast_signed w (rotated_left (bits w) (cast_unsigned w z) (places (amount_of w y)))
+rotated w z y r k fz fr amount rotate places e same =
+    to_z-of_z w r fr ∙ e ∙ ap (λ v. cast_signed w (rotate (cast_unsigned w v) k)) (to_z-of_z w z fz)
+    ∙ ap (cast_signed w) same
+    ∙ ap (λ j. cast_signed w (rotated_left (bits w) (cast_unsigned w z) (places j))) amount
 
--- a rotation to the right by the amount is the one of the table
-pub rotated_to_right : (w : Width) (z y r : ℤ) (k : ℕ) → 0 < bits w → 2 ^ hbits w ≤ 2 ^ bits w → SFits w z → SFits w r
-    → k % bits w ≡ amount_of w y
-    → r ≡ cast_signed w (rotate_right w (cast_unsigned w (cast_signed w (cast_unsigned w z))) k)
-    → cast_signed w (cast_unsigned w r) ≡ irotr w z y
-rotated_to_right w z y r k p le fz fr amount e =
-    to_z-of_z w r fr ∙ e ∙ ap (λ v. cast_signed w (rotate_right w (cast_unsigned w v) k)) (to_z-of_z w z fz)
-    ∙ ap (cast_signed w)
-    (right_by (bits w) (cast_unsigned w z) (k % bits w) (image_below w z le fz) (mod_below k (bits w) p))
-    ∙ ap (λ j. cast_signed w (rotated_left (bits w) (cast_unsigned w z) (bits w - j))) amount
+module _ (w : Width) (z y r : ℤ) (k : ℕ) (p : 0 < bits w) (le : 2 ^ hbits w ≤ 2 ^ bits w) (fz : SFits w z)
+    (fr : SFits w r) (amount : k % bits w ≡ amount_of w y) where
+  -- a rotation to the left by the amount is the one of the table
+  pub rotated_to_left : r ≡ cast_signed w (rotate_left w (cast_unsigned w (cast_signed w (cast_unsigned w z))) k)
+      → cast_signed w (cast_unsigned w r) ≡ irotl w z y
+  rotated_to_left e =
+      rotated w z y r k fz fr amount (rotate_left w) (λ j. j) e
+      (left_by (bits w) (cast_unsigned w z) (k % bits w) (image_below w z le fz) (mod_below k (bits w) p))
+
+  -- a rotation to the right by the amount is the one of the table
+  pub rotated_to_right : r ≡ cast_signed w (rotate_right w (cast_unsigned w (cast_signed w (cast_unsigned w z))) k)
+      → cast_signed w (cast_unsigned w r) ≡ irotr w z y
+  rotated_to_right e =
+      rotated w z y r k fz fr amount (rotate_right w) (λ j. bits w - j) e
+      (right_by (bits w) (cast_unsigned w z) (k % bits w) (image_below w z le fz) (mod_below k (bits w) p))

@@ -102,25 +102,26 @@ abbrev pub ine : ℤ → ℤ → Bool
 ine x y = not (int_eq x y)
 
 abbrev pub ilt_s : ℤ → ℤ → Bool
-ilt_s x y = int_lt x y
+ilt_s = int_lt
 
 abbrev pub ilt_u : ℕ → ℕ → Bool
-ilt_u m n = nat_lt m n
-
-abbrev pub igt_s : ℤ → ℤ → Bool
-igt_s x y = int_lt y x
-
-abbrev pub igt_u : ℕ → ℕ → Bool
-igt_u m n = nat_lt n m
+ilt_u = nat_lt
 
 abbrev pub ile_s : ℤ → ℤ → Bool
-ile_s x y = int_le x y
+ile_s = int_le
 
 abbrev pub ile_u : ℕ → ℕ → Bool
-ile_u m n = nat_le m n
+ile_u = nat_le
+
+-- greater is less, and at least is at most, of the numbers exchanged
+abbrev pub igt_s : ℤ → ℤ → Bool
+igt_s x y = ilt_s y x
+
+abbrev pub igt_u : ℕ → ℕ → Bool
+igt_u m n = ilt_u n m
 
 abbrev pub ige_s : ℤ → ℤ → Bool
-ige_s x y = int_le y x
+ige_s x y = ile_s y x
 
 abbrev pub ige_u : ℕ → ℕ → Bool
-ige_u m n = nat_le n m
+ige_u m n = ile_u n m

@@ -4,8 +4,8 @@
 //! numerics.
 
 ghost use Rattle.std.specs.Prelude.{◌≡◌, false, refl, unsigned_abs};
-ghost use Rattle.std.specs.Int.{int_wrap};
-ghost use Rattle.wasmi_scalar.specs.Numerics.{Answers, idiv_s, idiv_u, irem_s, irem_u, ishl, ishr_s, ishr_u, irotl, irotr, iclz, ictz, ipopcnt, ieqz};
+ghost use Rattle.std.specs.Int.{int_wrap, w64};
+ghost use Rattle.wasmi_scalar.specs.Numerics.{Answers, amount_of, idiv_s, idiv_u, irem_s, irem_u, ishl, ishr_s, ishr_u, irotl, irotr, iclz, ictz, ipopcnt, ieqz};
 
 use wasmi_access::access::WrapInto;
 use wasmi_raw::Number;
@@ -217,12 +217,12 @@ impl Integer for i64 {
 
     #[inline]
     fn shl(lhs: i64, rhs: i64) -> i64 {
-        lhs.wrapping_shl((rhs.cast_unsigned() % 64) as u32)
+        lhs.wrapping_shl(amount(rhs))
     }
 
     #[inline]
     fn shr_s(lhs: i64, rhs: i64) -> i64 {
-        lhs.wrapping_shr((rhs.cast_unsigned() % 64) as u32)
+        lhs.wrapping_shr(amount(rhs))
     }
 
     #[inline]
@@ -232,12 +232,12 @@ impl Integer for i64 {
 
     #[inline]
     fn rotl(lhs: i64, rhs: i64) -> i64 {
-        lhs.rotate_left((rhs.cast_unsigned() % 64) as u32)
+        lhs.rotate_left(amount(rhs))
     }
 
     #[inline]
     fn rotr(lhs: i64, rhs: i64) -> i64 {
-        lhs.rotate_right((rhs.cast_unsigned() % 64) as u32)
+        lhs.rotate_right(amount(rhs))
     }
 
     #[inline]
@@ -269,6 +269,14 @@ impl Integer for i64 {
     ghost is_as_wide = { refl };
 
     ghost is_of_unsigned = { refl };
+}
+
+// The amount of a shift or a rotation, modulo the width.
+#[inline(always)]
+fn amount(rhs: i64) -> u32
+    ensures { result ≡ amount_of w64 rhs }
+{
+    (rhs.cast_unsigned() % 64) as u32
 }
 
 impl SignExtendFrom<i8> for i32 {

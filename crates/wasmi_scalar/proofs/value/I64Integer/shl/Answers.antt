@@ -1,11 +1,9 @@
-use Rattle.std.proofs.Common.{rules, lit<, lit≤, ◌%◌}
+use Rattle.std.proofs.Common.{rules, lit<, lit≤}
 use Rattle.std.specs.Int.{w64}
 use Rattle.wasmi_scalar.proofs.ShiftLemmas.{cut_amount_is, shifted}
 use Rattle.wasmi_scalar.proofs.value.I64Integer.shl.Goals as goal
 
 pub returns : goal.returns
 returns c =
-    shifted w64 c.args.lhs c.args.rhs c.wrapping_shl.result (c.cast_unsigned.result % 64) (lit≤ tt) c.ranges.lhs
-    (search rules)
-    (cut_amount_is w64 c.args.rhs c.cast_unsigned.result (lit< tt) c.ranges.rhs c.cast_unsigned.ensures)
-    c.wrapping_shl.ensures
+    shifted w64 c.args.lhs c.args.rhs c.wrapping_shl.result c.amount.result (lit≤ tt) c.ranges.lhs (search rules)
+    (cut_amount_is w64 c.args.rhs c.amount.result (lit< tt) c.ranges.rhs c.amount.ensures) c.wrapping_shl.ensures
