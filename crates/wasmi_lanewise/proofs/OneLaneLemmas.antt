@@ -75,43 +75,34 @@ byte_picked v bytes indices xs i k is_picked are inside_i inside_k place = recor
   fits = lane_below w8 v k;
 }
 
--- the lowest 8 bits of the number of 16 bytes are the first byte
-pub first_byte : (bytes : List ℕ) (x : ℕ) → length bytes ≡ 16 → IsByteAt bytes 0 x
-    → bit_and (number_l 256 bytes % 2 ^ 32) 255 ≡ x
-first_byte [] x long first = absurd (omega arith)
-first_byte (a ∷ rest) x long first =
-    let fits : x < 256 = first.fits in
-    let low : number_l 256 (a ∷ rest) % 2 ^ 32 % 2 ^ 8 ≡ x = omega (arith, first.is) in
-    and_mask (number_l 256 (a ∷ rest) % 2 ^ 32) 8 ∙ low
+-- the lowest 8 bits of the number of bytes are the first byte
+pub first_byte : (bytes : List ℕ) (x : ℕ) → IsByteAt bytes 0 x → bit_and (number_l 256 bytes % 2 ^ 32) 255 ≡ x
+first_byte bytes x first = and_mask (number_l 256 bytes % 2 ^ 32) 8 ∙ low bytes first
+  where
+    low : (bytes : List ℕ) → IsByteAt bytes 0 x → number_l 256 bytes % 2 ^ 32 % 2 ^ 8 ≡ x
+    low [] first = omega (arith, first.is)
+    low (a ∷ rest) first = omega (arith, first.is, first.fits)
 
--- the lowest 16 bits of the number of 16 bytes are the first two bytes
-pub first_two_bytes : (bytes : List ℕ) (x y : ℕ) → length bytes ≡ 16 → IsByteAt bytes 0 x → IsByteAt bytes 1 y
+-- the lowest 16 bits of the number of bytes are the first two bytes
+pub first_two_bytes : (bytes : List ℕ) (x y : ℕ) → IsByteAt bytes 0 x → IsByteAt bytes 1 y
     → number_l 256 bytes % 65536 ≡ x + 256 * y
-first_two_bytes [] x y long first second = absurd (omega arith)
-first_two_bytes (a ∷ []) x y long first second = absurd (omega arith)
-first_two_bytes (a ∷ b ∷ rest) x y long first second =
-    omega (arith, first.is, first.fits, second.is, second.fits)
+first_two_bytes [] x y first second = omega (arith, first.is, second.is)
+first_two_bytes (a ∷ []) x y first second = omega (arith, first.is, first.fits, second.is)
+first_two_bytes (a ∷ b ∷ rest) x y first second = omega (arith, first.is, first.fits, second.is, second.fits)
 
--- the lowest 32 bits of the number of 16 bytes are the first four bytes
-pub first_four_bytes : (bytes : List ℕ) (x y z t : ℕ) → length bytes ≡ 16 → IsByteAt bytes 0 x → IsByteAt bytes 1 y
-    → IsByteAt bytes 2 z → IsByteAt bytes 3 t
+-- the lowest 32 bits of the number of bytes are the first four bytes
+pub first_four_bytes : (bytes : List ℕ) (x y z t : ℕ) → IsByteAt bytes 0 x → IsByteAt bytes 1 y → IsByteAt bytes 2 z
+    → IsByteAt bytes 3 t
     → number_l 256 bytes % 2 ^ 32 ≡ (x + 256 * y) + 65536 * (z + 256 * t)
-first_four_bytes [] x y z t long first second third fourth = absurd (omega arith)
-first_four_bytes (a ∷ []) x y z t long first second third fourth = absurd (omega arith)
-first_four_bytes (a ∷ b ∷ []) x y z t long first second third fourth = absurd (omega arith)
-first_four_bytes (a ∷ b ∷ c ∷ []) x y z t long first second third fourth = absurd (omega arith)
-first_four_bytes (a ∷ b ∷ c ∷ d ∷ rest) x y z t long first second third fourth =
-    omega (
-      arith,
-      first.is,
-      first.fits,
-      second.is,
-      second.fits,
-      third.is,
-      third.fits,
-      fourth.is,
-      fourth.fits,
-    )
+first_four_bytes [] x y z t first second third fourth =
+    omega (arith, first.is, second.is, third.is, fourth.is)
+first_four_bytes (a ∷ []) x y z t first second third fourth =
+    omega (arith, first.is, first.fits, second.is, third.is, fourth.is)
+first_four_bytes (a ∷ b ∷ rest) x y z t first second third fourth =
+    let upper : number_l 256 rest % 65536 ≡ z + 256 * t =
+    first_two_bytes rest z t (record { is = third.is; fits = third.fits })
+    (record { is = fourth.is; fits = fourth.fits }) in
+    omega (arith, first.is, first.fits, second.is, second.fits, upper)
 
 -- a lane is made of its two halves
 pub joined_halves : (b v k : ℕ)

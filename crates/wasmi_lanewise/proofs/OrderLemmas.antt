@@ -173,15 +173,23 @@ ones_where_at_most : (w : Width) (n p q : ℕ) → p < 2 ^ bits w → q < 2 ^ bi
 ones_where_at_most w n p q fits_p fits_q =
     ap (λ t. if t then 0 else n) (raised_is_less w q p fits_q fits_p) ∙ zeros_where_int_less (signed w p) (signed w q) n
 
+-- lanes that are chosen from two vectors, each with one number in all its lanes, are chosen from the two numbers
+pub chosen_numbers : {n : ℕ} (chosen other : ℕ) (test : ℕ → Bool) {r from_chosen from_other : ℕ → ℕ}
+    → ((i : ℕ) → i < n → r i ≡ (if test i then from_chosen i else from_other i))
+    → ((i : ℕ) → i < n → from_chosen i ≡ chosen) → ((i : ℕ) → i < n → from_other i ≡ other)
+    → (i : ℕ) → i < n → r i ≡ (if test i then chosen else other)
+chosen_numbers chosen other test is is_chosen is_other i inside =
+    is i inside ∙ ap₂ (λ p q. if test i then p else q) (is_chosen i inside) (is_other i inside)
+
 -- ---- vectors whose lanes are chosen by an order of the operands' lanes x and y, as they are or moved
 
 module _ (w : Width) (n : ℕ) (filled : n * bits w ≡ 128) (a b : ℕ) {r : ℕ} (below : r < 2 ^ 128) {x y : ℕ → ℕ}
     (is_x : (i : ℕ) → i < n → x i ≡ lane w a i) (is_y : (i : ℕ) → i < n → y i ≡ lane w b i) where
   -- lanes that are f of the operands' lanes, which is a row of them, make the vector of this row
-  chosen_make_vector : (f row : ℕ → ℕ → ℕ) → ((i : ℕ) → i < n → lane w r i ≡ f (x i) (y i))
+  pub rows_make_vector : (f row : ℕ → ℕ → ℕ) → ((i : ℕ) → i < n → lane w r i ≡ f (x i) (y i))
       → ((p : ℕ) → (q : ℕ) → p < 2 ^ bits w → q < 2 ^ bits w → f p q ≡ row p q)
       → r ≡ from_lanes w (λ i. row (lane w a i) (lane w b i))
-  chosen_make_vector f row is same =
+  rows_make_vector f row is same =
       lanes_make_vector w n r _ filled below
       (λ i inside. is i inside ∙ ap₂ f (is_x i inside) (is_y i inside)
       ∙ same (lane w a i) (lane w b i) (lane_below w a i) (lane_below w b i))
@@ -190,64 +198,62 @@ module _ (w : Width) (n : ℕ) (filled : n * bits w ≡ 128) (a b : ℕ) {r : �
   pub less_make_vector : ((i : ℕ) → i < n → lane w r i ≡ (if ltb (x i) (y i) then 2 ^ bits w - 1 else 0))
       → r ≡ lt_u w a b
   unfolding comparison_of_lanes
-  less_make_vector is = chosen_make_vector (λ p q. if ltb p q then 2 ^ bits w - 1 else 0) _ is (λ p q _ _. refl)
+  less_make_vector is = rows_make_vector (λ p q. if ltb p q then 2 ^ bits w - 1 else 0) _ is (λ p q _ _. refl)
 
   -- all zeros where y is less
   pub at_most_make_vector : ((i : ℕ) → i < n → lane w r i ≡ (if ltb (y i) (x i) then 0 else 2 ^ bits w - 1))
       → r ≡ le_u w a b
   unfolding comparison_of_lanes
   at_most_make_vector is =
-      chosen_make_vector (λ p q. if ltb q p then 0 else 2 ^ bits w - 1)
+      rows_make_vector (λ p q. if ltb q p then 0 else 2 ^ bits w - 1)
       (λ p q. if leb p q then 2 ^ bits w - 1 else 0) is (λ p q _ _. zeros_where_less p q (2 ^ bits w - 1))
 
   -- y where it is less
   pub smaller_make_vector : ((i : ℕ) → i < n → lane w r i ≡ (if ltb (y i) (x i) then y i else x i)) → r ≡ min_u w a b
   unfolding binary_of_lanes
-  smaller_make_vector is = chosen_make_vector (λ p q. if ltb q p then q else p) min is (λ p q _ _. smaller_is p q)
+  smaller_make_vector is = rows_make_vector (λ p q. if ltb q p then q else p) min is (λ p q _ _. smaller_is p q)
 
   -- x where y is less
   pub larger_make_vector : ((i : ℕ) → i < n → lane w r i ≡ (if ltb (y i) (x i) then x i else y i)) → r ≡ max_u w a b
   unfolding binary_of_lanes
-  larger_make_vector is = chosen_make_vector (λ p q. if ltb q p then p else q) max is (λ p q _ _. larger_is p q)
+  larger_make_vector is = rows_make_vector (λ p q. if ltb q p then p else q) max is (λ p q _ _. larger_is p q)
 
-  module _ {x' y' : ℕ → ℕ} (moved_x : (i : ℕ) → i < n → x' i ≡ biased w (x i))
-      (moved_y : (i : ℕ) → i < n → y' i ≡ biased w (y i)) where
+  module _ {x' y' : ℕ → ℕ}
+      (moved : ((i : ℕ) → i < n → x' i ≡ biased w (x i)) × ((i : ℕ) → i < n → y' i ≡ biased w (y i))) where
+    -- lanes that are f of the operands' lanes, and of these lanes moved, make the vector of the row that this is
+    moved_make_vector : (f : ℕ → ℕ → ℕ → ℕ → ℕ) {row : ℕ → ℕ → ℕ}
+        → ((i : ℕ) → i < n → lane w r i ≡ f (x i) (y i) (x' i) (y' i))
+        → ((p : ℕ) → (q : ℕ) → p < 2 ^ bits w → q < 2 ^ bits w → f p q (biased w p) (biased w q) ≡ row p q)
+        → r ≡ from_lanes w (λ i. row (lane w a i) (lane w b i))
+    moved_make_vector f is =
+        rows_make_vector (λ p q. f p q (biased w p) (biased w q)) _
+        (λ i inside. is i inside ∙ ap₂ (f (x i) (y i)) (moved.0 i inside) (moved.1 i inside))
+
     -- all ones where x, moved, is less
     pub signed_less_make_vector : ((i : ℕ) → i < n → lane w r i ≡ (if ltb (x' i) (y' i) then 2 ^ bits w - 1 else 0))
         → r ≡ lt_s w a b
     unfolding comparison_of_lanes
     signed_less_make_vector is =
-        let f : ℕ → ℕ → ℕ = λ p q. if ltb p q then 2 ^ bits w - 1 else 0 in
-        chosen_make_vector (λ p q. f (biased w p) (biased w q))
-        (λ p q. if int_lt (signed w p) (signed w q) then 2 ^ bits w - 1 else 0)
-        (λ i inside. is i inside ∙ ap₂ f (moved_x i inside) (moved_y i inside)) (ones_where_less w (2 ^ bits w - 1))
+        moved_make_vector (λ _ _ p q. if ltb p q then 2 ^ bits w - 1 else 0) is (ones_where_less w (2 ^ bits w - 1))
 
     -- all zeros where y, moved, is less
     pub signed_at_most_make_vector :
         ((i : ℕ) → i < n → lane w r i ≡ (if ltb (y' i) (x' i) then 0 else 2 ^ bits w - 1)) → r ≡ le_s w a b
     unfolding comparison_of_lanes
     signed_at_most_make_vector is =
-        let f : ℕ → ℕ → ℕ = λ p q. if ltb q p then 0 else 2 ^ bits w - 1 in
-        chosen_make_vector (λ p q. f (biased w p) (biased w q))
-        (λ p q. if int_le (signed w p) (signed w q) then 2 ^ bits w - 1 else 0)
-        (λ i inside. is i inside ∙ ap₂ f (moved_x i inside) (moved_y i inside)) (ones_where_at_most w (2 ^ bits w - 1))
+        moved_make_vector (λ _ _ p q. if ltb q p then 0 else 2 ^ bits w - 1) is
+        (ones_where_at_most w (2 ^ bits w - 1))
 
     -- y where it is less, moved
     pub signed_smaller_make_vector : ((i : ℕ) → i < n → lane w r i ≡ (if ltb (y' i) (x' i) then y i else x i))
         → r ≡ min_s w a b
     unfolding binary_of_lanes
     signed_smaller_make_vector is =
-        chosen_make_vector (λ p q. if ltb (biased w q) (biased w p) then q else p)
-        (λ p q. wrap w (int_min (signed w p) (signed w q)))
-        (λ i inside. is i inside ∙ ap₂ (λ p q. if ltb q p then y i else x i) (moved_x i inside) (moved_y i inside))
-        (signed_smaller_is w)
+        moved_make_vector (λ p q p' q'. if ltb q' p' then q else p) is (signed_smaller_is w)
 
     -- x where y is less, moved
     pub signed_larger_make_vector : ((i : ℕ) → i < n → lane w r i ≡ (if ltb (y' i) (x' i) then x i else y i))
         → r ≡ max_s w a b
     unfolding binary_of_lanes
     signed_larger_make_vector is =
-        chosen_make_vector (λ p q. if ltb (biased w q) (biased w p) then p else q)
-        (λ p q. wrap w (int_max (signed w p) (signed w q)))
-        (λ i inside. is i inside ∙ ap₂ (λ p q. if ltb q p then x i else y i) (moved_x i inside) (moved_y i inside))
-        (signed_larger_is w)
+        moved_make_vector (λ p q p' q'. if ltb q' p' then p else q) is (signed_larger_is w)

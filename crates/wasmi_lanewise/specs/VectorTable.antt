@@ -125,26 +125,28 @@ eq w = comparison_of_lanes w unsigned nat_eq
 abbrev pub ne : Width → ℕ → ℕ → ℕ
 ne w = comparison_of_lanes w unsigned (λ x y. not (nat_eq x y))
 
+-- of lanes read signed
 abbrev pub lt_s : Width → ℕ → ℕ → ℕ
 lt_s w = comparison_of_lanes w (signed w) int_lt
-
-abbrev pub lt_u : Width → ℕ → ℕ → ℕ
-lt_u w = comparison_of_lanes w unsigned nat_lt
-
-abbrev pub gt_s : Width → ℕ → ℕ → ℕ
-gt_s w = comparison_of_lanes w (signed w) (λ x y. int_lt y x)
-
-abbrev pub gt_u : Width → ℕ → ℕ → ℕ
-gt_u w = comparison_of_lanes w unsigned (λ x y. nat_lt y x)
 
 abbrev pub le_s : Width → ℕ → ℕ → ℕ
 le_s w = comparison_of_lanes w (signed w) int_le
 
+abbrev pub gt_s : Width → ℕ → ℕ → ℕ
+gt_s w a b = lt_s w b a
+
+abbrev pub ge_s : Width → ℕ → ℕ → ℕ
+ge_s w a b = le_s w b a
+
+-- of lanes read as they are
+abbrev pub lt_u : Width → ℕ → ℕ → ℕ
+lt_u w = comparison_of_lanes w unsigned nat_lt
+
 abbrev pub le_u : Width → ℕ → ℕ → ℕ
 le_u w = comparison_of_lanes w unsigned nat_le
 
-abbrev pub ge_s : Width → ℕ → ℕ → ℕ
-ge_s w = comparison_of_lanes w (signed w) (λ x y. int_le y x)
+abbrev pub gt_u : Width → ℕ → ℕ → ℕ
+gt_u w a b = lt_u w b a
 
 abbrev pub ge_u : Width → ℕ → ℕ → ℕ
-ge_u w = comparison_of_lanes w unsigned (λ x y. nat_le y x)
+ge_u w a b = le_u w b a

@@ -117,9 +117,7 @@ fn ones_if_less<T: SimdLane>(a: T::Vector, b: T::Vector) -> V128
         ≡ (if nat_lt (T.at a i) (T.at b i) then 2 ^ bits T.width - 1 else 0) }
     ensures in_range { result < 2 ^ 128 }
 {
-    let ones = T::splat(T::ALL_ONES);
-    let zeros = T::splat(T::ALL_ZEROS);
-    T::vector_of(T::choose_if_less(a, b, ones, zeros))
+    T::vector_of(T::choose_if_less(a, b, ones::<T>(), zeros::<T>()))
 }
 
 #[inline(always)]
@@ -129,7 +127,21 @@ fn zeros_if_less<T: SimdLane>(a: T::Vector, b: T::Vector) -> V128
         ≡ (if nat_lt (T.at a i) (T.at b i) then 0 else 2 ^ bits T.width - 1) }
     ensures in_range { result < 2 ^ 128 }
 {
-    let ones = T::splat(T::ALL_ONES);
-    let zeros = T::splat(T::ALL_ZEROS);
-    T::vector_of(T::choose_if_less(a, b, zeros, ones))
+    T::vector_of(T::choose_if_less(a, b, zeros::<T>(), ones::<T>()))
+}
+
+// All ones in each lane.
+#[inline(always)]
+fn ones<T: SimdLane>() -> T::Vector
+    ensures lanes { (i : ℕ) → i < T.COUNT → T.at result i ≡ 2 ^ bits T.width - 1 }
+{
+    T::splat(T::ALL_ONES)
+}
+
+// All zeros in each lane.
+#[inline(always)]
+fn zeros<T: SimdLane>() -> T::Vector
+    ensures lanes { (i : ℕ) → i < T.COUNT → T.at result i ≡ 0 }
+{
+    T::splat(T::ALL_ZEROS)
 }

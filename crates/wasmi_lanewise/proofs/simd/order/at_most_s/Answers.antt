@@ -5,4 +5,4 @@ pub returns : goal.returns
 returns g c =
     signed_at_most_make_vector g.T.LaneInteger.width g.T.SimdLane.COUNT g.met.T.SimdLane.filled c.args.lhs c.args.rhs
     c.zeros_if_less.ensures.in_range c.lanes_of-2.ensures.lanes c.lanes_of.ensures.lanes
-    c.biased-2.ensures.lanes c.biased.ensures.lanes c.zeros_if_less.ensures.lanes
+    (c.biased-2.ensures.lanes, c.biased.ensures.lanes) c.zeros_if_less.ensures.lanes

@@ -1,16 +1,10 @@
-use Rattle.std.proofs.Common.{◌∙◌, ap, ap₂, nat_lt, if◌then◌else◌}
+use Rattle.std.proofs.Common.{◌∙◌}
+use Rattle.wasmi_lanewise.proofs.OrderLemmas.{chosen_numbers}
 use Rattle.wasmi_lanewise.proofs.simd.order.ones_if_less.Goals as goal
 
 pub returns : goal.returns
-returns g c =
-    let item = g.T.LaneInteger in
-    let at = g.T.SimdLane.at in
-    let is = c.vector_of.ensures in
-    record {
-      lanes = λ i inside.
-          is.lanes i inside ∙ c.choose_if_less.ensures.lanes i inside
-          ∙ ap₂ (λ ones zeros. if nat_lt (at c.args.a i) (at c.args.b i) then ones else zeros)
-          (c.splat-ones.ensures.lanes i inside ∙ ap item.image c.ALL_ONES.ensures ∙ item.image_of_ones)
-          (c.splat-zeros.ensures.lanes i inside ∙ ap item.image c.ALL_ZEROS.ensures ∙ item.image_of_zeros);
-      in_range = is.in_range;
-    }
+returns g c = record {
+  lanes = chosen_numbers _ _ _ (λ i h. c.vector_of.ensures.lanes i h ∙ c.choose_if_less.ensures.lanes i h)
+      c.ones.ensures.lanes c.zeros.ensures.lanes;
+  in_range = c.vector_of.ensures.in_range;
+}

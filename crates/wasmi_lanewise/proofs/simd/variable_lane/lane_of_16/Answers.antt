@@ -1,4 +1,4 @@
-use Rattle.std.proofs.Common.{ℕ, ◌≡◌, ◌+◌, ◌*◌, ◌<◌, ◌∙◌, arith, rules, slice_index}
+use Rattle.std.proofs.Common.{ℕ, ◌≡◌, ◌+◌, ◌*◌, ◌<◌, ◌∙◌, arith, slice_index}
 use Rattle.wasmi_types.specs.Wrapping.{w8}
 use Rattle.wasmi_lanes.specs.Lane.{lane}
 use Rattle.wasmi_lanewise.proofs.OneLaneLemmas.{IsByteAt, byte_picked, first_two_bytes, joined_halves}
@@ -12,7 +12,7 @@ returns c =
     → IsByteAt c.picked_inside.result i (lane w8 c.args.vector k) =
     λ i k. byte_picked c.args.vector _ _ c.picked_inside.result i k c.picked_inside.ensures.lanes
     c.bytes_of.ensures.lanes in
-    first_two_bytes c.picked_inside.result _ _ (search rules)
+    first_two_bytes c.picked_inside.result _ _
     (byte 0 (2 * at) (omega arith) (omega arith)
     (omega (arith, c.from.ensures.0, inside, c.indices_of_16-indices.ensures.first)))
     (byte 1 (2 * at + 1) (omega arith) (omega arith)

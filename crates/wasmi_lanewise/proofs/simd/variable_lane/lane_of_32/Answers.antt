@@ -1,4 +1,4 @@
-use Rattle.std.proofs.Common.{ℕ, ◌≡◌, ◌+◌, ◌*◌, ◌<◌, ◌∙◌, ap₂, arith, rules}
+use Rattle.std.proofs.Common.{ℕ, ◌≡◌, ◌+◌, ◌*◌, ◌<◌, ◌∙◌, ap₂, arith}
 use Rattle.wasmi_types.specs.Wrapping.{w8}
 use Rattle.wasmi_lanes.specs.Lane.{lane}
 use Rattle.wasmi_lanewise.proofs.OneLaneLemmas.{IsByteAt, byte_picked, first_four_bytes, joined_halves}
@@ -13,7 +13,7 @@ returns c =
     λ i k below is. byte_picked v _ _ c.picked_inside.result i k c.picked_inside.ensures.lanes c.bytes_of.ensures.lanes
     (omega arith) (omega arith)
     (omega (arith, c.from.ensures.0, inside, is, c.indices_of_32-indices.ensures.lanes i below)) in
-    first_four_bytes c.picked_inside.result _ _ _ _ (search rules)
+    first_four_bytes c.picked_inside.result _ _ _ _
     (byte 0 (2 * (2 * at)) (omega arith) (omega arith)) (byte 1 (2 * (2 * at) + 1) (omega arith) (omega arith))
     (byte 2 (2 * (2 * at + 1)) (omega arith) (omega arith)) (byte 3 (2 * (2 * at + 1) + 1) (omega arith) (omega arith))
     ∙ ap₂ (λ x y. x + 65536 * y) (joined_halves 8 v (2 * at)) (joined_halves 8 v (2 * at + 1))

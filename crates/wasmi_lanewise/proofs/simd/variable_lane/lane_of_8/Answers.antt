@@ -1,10 +1,10 @@
-use Rattle.std.proofs.Common.{◌∙◌, arith, rules}
+use Rattle.std.proofs.Common.{◌∙◌, arith}
 use Rattle.wasmi_lanewise.proofs.OneLaneLemmas.{byte_picked, first_byte}
 use Rattle.wasmi_lanewise.proofs.simd.variable_lane.lane_of_8.Goals as goal
 
 pub returns : goal.returns
 returns c =
-    first_byte c.picked_inside.result _ (search rules)
+    first_byte c.picked_inside.result _
     (byte_picked c.args.vector _ _ c.picked_inside.result 0 c.args.at c.picked_inside.ensures.lanes
     c.bytes_of.ensures.lanes
     (omega arith) (omega (arith, c.from.ensures.0, c.from.ensures.1))
