@@ -8,9 +8,7 @@ use super::even_odd::{
     even_bytes, even_bytes_signed, even_i16x8, even_u16x8, odd_bytes, odd_bytes_signed, odd_i16x8,
     odd_u16x8,
 };
-use super::vectors::{
-    from_u16x8, from_u32x4, product_of_u16x8, product_of_u32x4, sum_of_u16x8, sum_of_u32x4,
-};
+use super::vectors::{product_of_u16x8, product_of_u32x4, sums_of_u16x8, sums_of_u32x4};
 use wasmi_raw::V128;
 
 /// The sums of neighbouring lanes, read signed.
@@ -18,7 +16,7 @@ use wasmi_raw::V128;
 pub fn i16x8_extadd_pairwise_i8x16_s(v: V128) -> V128
     ensures { result ≡ vector.extadd_pairwise_s w8 w16 v }
 {
-    from_u16x8(sum_of_u16x8(even_bytes_signed(v), odd_bytes_signed(v)))
+    sums_of_u16x8(even_bytes_signed(v), odd_bytes_signed(v))
 }
 
 /// The sums of neighbouring lanes, read unsigned.
@@ -26,7 +24,7 @@ pub fn i16x8_extadd_pairwise_i8x16_s(v: V128) -> V128
 pub fn i16x8_extadd_pairwise_i8x16_u(v: V128) -> V128
     ensures { result ≡ vector.extadd_pairwise_u w8 w16 v }
 {
-    from_u16x8(sum_of_u16x8(even_bytes(v), odd_bytes(v)))
+    sums_of_u16x8(even_bytes(v), odd_bytes(v))
 }
 
 /// The sums of neighbouring lanes, read signed.
@@ -34,7 +32,7 @@ pub fn i16x8_extadd_pairwise_i8x16_u(v: V128) -> V128
 pub fn i32x4_extadd_pairwise_i16x8_s(v: V128) -> V128
     ensures { result ≡ vector.extadd_pairwise_s w16 w32 v }
 {
-    from_u32x4(sum_of_u32x4(even_i16x8(v), odd_i16x8(v)))
+    sums_of_u32x4(even_i16x8(v), odd_i16x8(v))
 }
 
 /// The sums of neighbouring lanes, read unsigned.
@@ -42,7 +40,7 @@ pub fn i32x4_extadd_pairwise_i16x8_s(v: V128) -> V128
 pub fn i32x4_extadd_pairwise_i16x8_u(v: V128) -> V128
     ensures { result ≡ vector.extadd_pairwise_u w16 w32 v }
 {
-    from_u32x4(sum_of_u32x4(even_u16x8(v), odd_u16x8(v)))
+    sums_of_u32x4(even_u16x8(v), odd_u16x8(v))
 }
 
 /// The sums of the products of neighbouring lanes, read signed, modulo 2 to the power 32.
@@ -52,7 +50,7 @@ pub fn i32x4_dot_i16x8_s(lhs: V128, rhs: V128) -> V128
 {
     let evens = product_of_u32x4(even_i16x8(lhs), even_i16x8(rhs));
     let odds = product_of_u32x4(odd_i16x8(lhs), odd_i16x8(rhs));
-    from_u32x4(sum_of_u32x4(evens, odds))
+    sums_of_u32x4(evens, odds)
 }
 
 /// The sums of the products of neighbouring lanes, both read signed, modulo 2 to the power 16.
@@ -62,5 +60,5 @@ pub fn i16x8_relaxed_dot_i8x16_i7x16_s(lhs: V128, rhs: V128) -> V128
 {
     let evens = product_of_u16x8(even_bytes_signed(lhs), even_bytes_signed(rhs));
     let odds = product_of_u16x8(odd_bytes_signed(lhs), odd_bytes_signed(rhs));
-    from_u16x8(sum_of_u16x8(evens, odds))
+    sums_of_u16x8(evens, odds)
 }

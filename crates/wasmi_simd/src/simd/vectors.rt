@@ -71,20 +71,22 @@ pub(super) fn from_halves(items: u64x2) -> V128
     u64::write_from(&items)
 }
 
-/// The sums of lanes of 16 bits, modulo 2 to the power 16.
+/// The vector of the sums of lanes of 16 bits, modulo 2 to the power 16.
 #[inline(always)]
-pub(super) fn sum_of_u16x8(a: u16x8, b: u16x8) -> u16x8
-    ensures lanes { (i : ℕ) → i < 8 → slice_index result i ≡ (slice_index a i + slice_index b i) % 2 ^ 16 }
+pub(super) fn sums_of_u16x8(a: u16x8, b: u16x8) -> V128
+    ensures lanes { (i : ℕ) → i < 8 → lane w16 result i ≡ (slice_index a i + slice_index b i) % 2 ^ 16 }
+    ensures in_range { result < 2 ^ 128 }
 {
-    a + b
+    from_u16x8(a + b)
 }
 
-/// The sums of lanes of 32 bits, modulo 2 to the power 32.
+/// The vector of the sums of lanes of 32 bits, modulo 2 to the power 32.
 #[inline(always)]
-pub(super) fn sum_of_u32x4(a: u32x4, b: u32x4) -> u32x4
-    ensures lanes { (i : ℕ) → i < 4 → slice_index result i ≡ (slice_index a i + slice_index b i) % 2 ^ 32 }
+pub(super) fn sums_of_u32x4(a: u32x4, b: u32x4) -> V128
+    ensures lanes { (i : ℕ) → i < 4 → lane w32 result i ≡ (slice_index a i + slice_index b i) % 2 ^ 32 }
+    ensures in_range { result < 2 ^ 128 }
 {
-    a + b
+    from_u32x4(a + b)
 }
 
 /// The products of lanes of 16 bits, modulo 2 to the power 16.

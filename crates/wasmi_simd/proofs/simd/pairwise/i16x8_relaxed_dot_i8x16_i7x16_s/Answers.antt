@@ -1,12 +1,9 @@
-use Rattle.std.proofs.Common.{◌∙◌}
 use Rattle.wasmi_simd.proofs.WideningLemmas.{bytes_widened}
 use Rattle.wasmi_simd.proofs.PairwiseLemmas.{dots_make_vector}
 use Rattle.wasmi_simd.proofs.simd.pairwise.i16x8_relaxed_dot_i8x16_i7x16_s.Goals as goal
 
 pub returns : goal.returns
 returns c =
-    dots_make_vector bytes_widened c.from_u16x8.ensures.in_range c.args.lhs c.args.rhs
-    (λ i inside. c.from_u16x8.ensures.lanes i inside ∙ c.sum_of_u16x8.ensures.lanes i inside)
+    dots_make_vector bytes_widened c.sums_of_u16x8.ensures.in_range c.args.lhs c.args.rhs c.sums_of_u16x8.ensures.lanes
     c.product_of_u16x8-evens.ensures.lanes c.product_of_u16x8-odds.ensures.lanes c.even_bytes_signed.ensures.lanes
-    c.odd_bytes_signed.ensures.lanes
-    c.even_bytes_signed-2.ensures.lanes c.odd_bytes_signed-2.ensures.lanes
+    c.odd_bytes_signed.ensures.lanes c.even_bytes_signed-2.ensures.lanes c.odd_bytes_signed-2.ensures.lanes

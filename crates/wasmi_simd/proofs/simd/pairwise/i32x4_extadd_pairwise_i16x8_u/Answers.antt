@@ -1,10 +1,8 @@
-use Rattle.std.proofs.Common.{◌∙◌}
 use Rattle.wasmi_simd.proofs.WideningLemmas.{u16x8_widened}
 use Rattle.wasmi_simd.proofs.PairwiseLemmas.{sums_make_vector}
 use Rattle.wasmi_simd.proofs.simd.pairwise.i32x4_extadd_pairwise_i16x8_u.Goals as goal
 
 pub returns : goal.returns
 returns c =
-    sums_make_vector u16x8_widened c.from_u32x4.ensures.in_range c.args.v
-    (λ i inside. c.from_u32x4.ensures.lanes i inside ∙ c.sum_of_u32x4.ensures.lanes i inside)
+    sums_make_vector u16x8_widened c.sums_of_u32x4.ensures.in_range c.args.v c.sums_of_u32x4.ensures.lanes
     c.even_u16x8.ensures.lanes c.odd_u16x8.ensures.lanes
