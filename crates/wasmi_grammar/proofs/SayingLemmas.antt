@@ -307,7 +307,7 @@ module _ (words : Words) where
   quota_named = OtherLimiter (Quota (record { bytes = number 0; elements = number 1 }))
 
   abbrev tenants_named : LimiterSaid
-  tenants_named = OtherLimiter (Tenants (record { count = number 0; bytes = number 1; elements = number 2 }))
+  tenants_named = OtherLimiter (Tenants (record { count = number 0; caps = record { bytes = number 1; elements = number 2 } }))
 
   abbrev region_named : RegionLine
   region_named = record { len = number 0; byte = number 1 }
@@ -339,7 +339,7 @@ module _ (words : Words) where
   -- operands that write a limiter line give what the line says, beside its word
   limiter_is : (line : LimiterLine) → WritesLimiter words line
       → line_named (limiter_word line) ≡ Some (LimiterTold (limiter_said line))
-  limiter_is (Quota line) w =
+  limiter_is (Quota caps) w =
       λ i. Some (LimiterTold (OtherLimiter (Quota (record { bytes = sym w.1.1 i; elements = sym w.2.1 i }))))
   limiter_is (Answers answers) w = λ i. Some (LimiterTold (AnswersSaid (answers_is words answers.items w i)))
   limiter_is (Tenants line) w =
@@ -347,7 +347,7 @@ module _ (words : Words) where
       let bytes = sym w.4.1 in
       let elements = sym w.5.1 in
       λ i. Some (LimiterTold (OtherLimiter
-      (Tenants (record { count = count i; bytes = bytes i; elements = elements i }))))
+      (Tenants (record { count = count i; caps = record { bytes = bytes i; elements = elements i } }))))
 
   -- a command's word is the word of no other line
   told_by_call : (call : Call) (other : Option LineSaid) → found_or lines_named (command_word call) other ≡ other

@@ -22,18 +22,18 @@ WritesMeter words (On bytes_per_fuel) =
 
 -- the word that a limiter line begins with
 abbrev pub limiter_word : LimiterLine → List ℕ
-limiter_word (Quota line) = codes "quota"
+limiter_word (Quota caps) = codes "quota"
 limiter_word (Answers answers) = codes "answers"
 limiter_word (Tenants line) = codes "tenants"
 
 -- the words after the first write what the line says
 abbrev pub WritesLimiter : Words → LimiterLine → Type 0
-WritesLimiter words (Quota line) =
-    (length words ≡ 2) × WritesNumber 64 (word_at words 0) line.bytes × WritesNumber 64 (word_at words 1) line.elements
+WritesLimiter words (Quota caps) =
+    (length words ≡ 2) × WritesNumber 64 (word_at words 0) caps.bytes × WritesNumber 64 (word_at words 1) caps.elements
 WritesLimiter words (Answers answers) = WritesAnswers words answers.items
 WritesLimiter words (Tenants line) =
     (length words ≡ 3) × WritesNumber 64 (word_at words 0) line.count × (1 ≤ line.count) × (line.count ≤ 1024)
-    × WritesNumber 64 (word_at words 1) line.bytes × WritesNumber 64 (word_at words 2) line.elements
+    × WritesNumber 64 (word_at words 1) line.caps.bytes × WritesNumber 64 (word_at words 2) line.caps.elements
 
 -- the word that a limiter line begins with, and the words after it, name this line
 abbrev pub NamesLimiterAfter : List ℕ → Words → LimiterLine → Type 0

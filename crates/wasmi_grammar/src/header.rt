@@ -9,6 +9,7 @@ pub use answers::AnswerWord;
 use answers::answers_of;
 use std::alloc::Global;
 use wasmi_core::{CustomFuelCosts, Fuel, FuelCostsProvider};
+use wasmi_meter::Amounts;
 use wasmi_operands::{LineError, number};
 
 /// The most tenants that a script may have.
@@ -26,34 +27,22 @@ pub enum MeterLine {
 /// What a limiter line says. A script has at most one, of whatever kind.
 #[derive(Drop)]
 pub enum LimiterLine {
-    /// `quota B E`.
-    Quota(QuotaLine),
+    /// `quota B E`: the most bytes and the most elements that the limiter permits, of all memories
+    /// and of all tables together.
+    Quota(Amounts),
     /// `answers W ...`, which may have no word: one for each question, in order.
     Answers(Vec<AnswerWord>),
     /// `tenants N B E`.
     Tenants(TenantsLine),
 }
 
-/// What a `quota` line says: the most bytes and the most elements that the limiter permits, of all
-/// memories and of all tables together.
-#[derive(Clone, Copy)]
-pub struct QuotaLine {
-    /// The most bytes of memories.
-    pub bytes: u64,
-    /// The most elements of tables.
-    pub elements: u64,
-}
-
-/// What a `tenants` line says: a pool of so many machines, and the most bytes and the most elements
-/// that all of them have together.
+/// What a `tenants` line says: a pool of so many machines.
 #[derive(Clone, Copy)]
 pub struct TenantsLine {
     /// How many machines there are, from 1 to 1,024.
     pub count: usize,
-    /// The most bytes of memories.
-    pub bytes: u64,
-    /// The most elements of tables.
-    pub elements: u64,
+    /// The most bytes and the most elements that all of them have together.
+    pub caps: Amounts,
 }
 
 /// What a `region` line says: a lent region of so many bytes, all the same.
@@ -188,7 +177,7 @@ pub(crate) fn quota(operands: &[&str]) -> Result<LimiterLine, LineError>
     let [bytes, elements] = operands else {
         return Err(LineError::BadCommand);
     };
-    Ok(LimiterLine::Quota(QuotaLine {
+    Ok(LimiterLine::Quota(Amounts {
         bytes: number(bytes)?,
         elements: number(elements)?,
     }))
@@ -207,8 +196,10 @@ pub(crate) fn tenants(operands: &[&str]) -> Result<LimiterLine, LineError>
     }
     Ok(LimiterLine::Tenants(TenantsLine {
         count,
-        bytes: number(bytes)?,
-        elements: number(elements)?,
+        caps: Amounts {
+            bytes: number(bytes)?,
+            elements: number(elements)?,
+        },
     }))
 }
 

@@ -8,5 +8,5 @@ pub mod laws;
 mod script;
 
 pub use error::ParseError;
-pub use header::{AnswerWord, Header, LimiterLine, MeterLine, QuotaLine, RegionLine, TenantsLine};
+pub use header::{AnswerWord, Header, LimiterLine, MeterLine, RegionLine, TenantsLine};
 pub use script::{Script, TenantRun, parse};

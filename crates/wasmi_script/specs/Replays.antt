@@ -5,6 +5,7 @@ use Rattle.wasmi_meter.specs.declared.limiter.NoLimits.{NoLimits}
 use Rattle.wasmi_meter.specs.declared.quota.Quota.{Quota}
 use Rattle.wasmi_meter.specs.declared.limiter.Kind.TheVariants.{Bytes, Elements}
 use Rattle.wasmi_meter.specs.declared.holdings.Holdings.{Holdings}
+use Rattle.wasmi_meter.specs.declared.amounts.Amounts.{Amounts}
 use Rattle.wasmi_meter.specs.Amounts.{nothing}
 use Rattle.wasmi_meter.specs.Quota.{quota_rules, cap_of, holdings}
 use Rattle.wasmi_core.specs.declared.calls.Call.{Call}
@@ -17,7 +18,6 @@ use Rattle.wasmi_budget.specs.Pool.{PoolValue, RunsTenant}
 use Rattle.wasmi_grammar.specs.declared.script.Script.{Script}
 use Rattle.wasmi_grammar.specs.declared.header.LimiterLine.{LimiterLine}
 use Rattle.wasmi_grammar.specs.declared.header.LimiterLine.TheVariants as Lines
-use Rattle.wasmi_grammar.specs.declared.header.QuotaLine.{QuotaLine}
 use Rattle.wasmi_grammar.specs.declared.header.TenantsLine.{TenantsLine}
 use Rattle.wasmi_grammar.specs.declared.script.TenantRun.{TenantRun}
 use Rattle.wasmi_grammar.specs.Lines.{first_calls}
@@ -34,9 +34,9 @@ abbrev pub nothing_held : Holdings
 nothing_held = record { held = nothing; last = None }
 
 -- a quota of these caps that holds nothing yet
-pub record IsNewQuota (line : QuotaLine) (quota : Quota) : Type 0 where
-  pub bytes : cap_of quota Bytes ≡ line.bytes
-  pub elements : cap_of quota Elements ≡ line.elements
+pub record IsNewQuota (caps : Amounts) (quota : Quota) : Type 0 where
+  pub bytes : cap_of quota Bytes ≡ caps.bytes
+  pub elements : cap_of quota Elements ≡ caps.elements
   pub nothing : holdings quota ≡ nothing_held
 
 -- the replies are those of a run of the calls from a machine, under a limiter that answers by these words
@@ -51,8 +51,8 @@ IsListedReplay words start calls ran =
 abbrev pub IsReplayUnder : Option LimiterLine → State → List Call → Ran → Type 0
 IsReplayUnder None start calls ran = (ran.held ≡ Nothing) × (after : World (Option NoLimits))
     × IsRunOf (optional_rules unlimited_rules) calls (record { state = start; limiter = None }) ran.replies.items after
-IsReplayUnder (Some (Lines.Quota line)) start calls ran =
-    (quota : Quota) × IsNewQuota line quota × (end : State) × (after : Quota)
+IsReplayUnder (Some (Lines.Quota caps)) start calls ran =
+    (quota : Quota) × IsNewQuota caps quota × (end : State) × (after : Quota)
     × IsRunOf (optional_rules quota_rules) calls (record { state = start; limiter = Some quota }) ran.replies.items
     (record { state = end; limiter = Some after })
     × HoldsTotals (holdings after) end × (ran.held ≡ held.Quota (holdings after).held)
@@ -61,8 +61,7 @@ IsReplayUnder (Some (Lines.Tenants line)) start calls ran = ⊥
 
 -- a pool of new machines, as many as a line says, under its caps
 abbrev pub new_pool : TenantsLine → State → PoolValue
-new_pool line start =
-    record { caps = record { bytes = line.bytes; elements = line.elements }; machines = replicate line.count start }
+new_pool line start = record { caps = line.caps; machines = replicate line.count start }
 
 -- a tenant has run these calls, and its replies come after those that there were
 abbrev pub AnswersPart : PoolValue → ℕ → List Call → List Reply → List Reply → PoolValue → Type 0

@@ -11,7 +11,7 @@ use wasmi_budget::Pool;
 use wasmi_core::{
     Call, Machine, NoLimits, Quota, Reply, ResourceLimiterRef, run, run_lending, run_reserving,
 };
-use wasmi_grammar::{AnswerWord, Header, LimiterLine, QuotaLine, RegionLine, Script, TenantsLine};
+use wasmi_grammar::{AnswerWord, Header, LimiterLine, RegionLine, Script, TenantsLine};
 use wasmi_meter::Amounts;
 
 /// What the run of a script's calls answered.
@@ -59,7 +59,7 @@ fn run_on(alloc: Global, machine: &mut Machine, script: &Script) -> Result<Ran, 
 {
     match &script.header.limiter {
         None => run_freely(machine, script.first_calls()),
-        Some(LimiterLine::Quota(line)) => run_under_quota(machine, script.first_calls(), *line),
+        Some(LimiterLine::Quota(caps)) => run_under_quota(machine, script.first_calls(), *caps),
         Some(LimiterLine::Answers(words)) => run_answered(machine, script.first_calls(), words),
         Some(LimiterLine::Tenants(line)) => run_pool(alloc, script, *line),
     }
@@ -77,16 +77,12 @@ fn run_freely(machine: &mut Machine, calls: &[Call]) -> Result<Ran, AllocError>
     })
 }
 
-/// Runs the calls under the quota that a line asks for.
-fn run_under_quota(
-    machine: &mut Machine,
-    calls: &[Call],
-    line: QuotaLine,
-) -> Result<Ran, AllocError>
+/// Runs the calls under a quota of these caps.
+fn run_under_quota(machine: &mut Machine, calls: &[Call], caps: Amounts) -> Result<Ran, AllocError>
     requires { HoldsTotals nothing_held machine.old }
-    ensures { IfOk result (IsReplayUnder (Some (LimiterLine.Quota line)) machine.old calls.now) }
+    ensures { IfOk result (IsReplayUnder (Some (LimiterLine.Quota caps)) machine.old calls.now) }
 {
-    let mut quota = Quota::new(line.bytes, line.elements);
+    let mut quota = Quota::new(caps.bytes, caps.elements);
     let replies = run_reserving(machine, calls, &mut quota)?;
     let held = Amounts {
         bytes: quota.held_bytes(),
@@ -133,7 +129,7 @@ fn run_pool(alloc: Global, script: &Script, line: TenantsLine) -> Result<Ran, Al
 fn pool_of(alloc: Global, header: &Header, line: TenantsLine) -> Result<Pool<'static>, AllocError>
     ensures { IfOk result (λ pool. pool ≡ new_pool line (new_state (meter_of header.now))) }
 {
-    let mut pool = Pool::new(alloc, line.bytes, line.elements);
+    let mut pool = Pool::new(alloc, line.caps.bytes, line.caps.elements);
     for _index in 0..line.count {
         // A new machine has nothing, so room alone can be wanting.
         if pool.add(Machine::new(alloc, header.fuel())).is_err() {

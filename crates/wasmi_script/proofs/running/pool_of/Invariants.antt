@@ -6,6 +6,6 @@ use Rattle.wasmi_script.proofs.running.pool_of.Given as goal
 abbrev pub invariant-loop-index : goal.invariant-loop-index
 invariant-loop-index l =
     l.pool ≡ record {
-      caps = record { bytes = l.fn.line.bytes; elements = l.fn.line.elements };
+      caps = l.fn.line.caps;
       machines = replicate l._index (new_state (meter_of l.header));
     }
