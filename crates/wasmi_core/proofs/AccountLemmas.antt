@@ -23,7 +23,7 @@ use Rattle.wasmi_meter.specs.Limiter.{Rules}
 use Rattle.wasmi_meter.specs.Meter.{Meter, due, meter_after}
 use Rattle.wasmi_meter.specs.declared.error.TableError.{TableError}
 use Rattle.wasmi_store.proofs.GrowthLemmas.{on_test}
-use Rattle.wasmi_store.specs.Growth.{Grows, Growth}
+use Rattle.wasmi_store.specs.Growth.{Grows, Growth, metered_value}
 use Rattle.wasmi_store.specs.Memory.{GrowsMemory, MemoryValue, pages_of}
 use Rattle.wasmi_store.specs.Table.{EndsBy, GrowsTable, TableValue, TableWrite, WritesTable, write_due, size_of}
 use Rattle.wasmi_store.specs.TableType.{same_type}
@@ -122,67 +122,71 @@ module _ (w : TableWrite) (x : TableValue) (m : Meter) (result : Result (Unit {0
   pub write_takes : (m' : Meter) → WritesTable w x (Some m) result charge x' (Some m') → Takes m charge m'
   write_takes m' writes = takes_paid m m' charge (ends_paid w.typed w.written _ refl writes.ends) writes.meter
 
--- what a growth is between: a value, a meter and a limiter, and what they have become by a charge
-pub record Growing (V S : Type 0) : Type 0 where
+-- a value, the meter that is charged for it, and the limiter that is asked
+pub record Situation (V S : Type 0) : Type 0 where
   pub value : V
   pub meter : Meter
   pub limiter : S
+
+-- another value in the same situation
+abbrev pub in_situation : {V W S : Type 0} → Situation V S → W → Situation W S
+in_situation v value = record { value = value; meter = v.meter; limiter = v.limiter }
+
+-- what a growth leads from and to, and what it is charged
+pub record Growing (V S : Type 0) : Type 0 where
+  pub first : Situation V S
   pub charge : ℕ
-  pub value' : V
-  pub meter' : Meter
-  pub limiter' : S
+  pub last : Situation V S
 
 -- a part of a world, its meter and its limiter, and what they have become by a charge
 abbrev pub growing : {V S : Type 0} → World S → V → ℕ → V → Meter → S → Growing V S
 growing w value charge value' meter' limiter' = record {
-  value = value;
-  meter = w.state.meter;
-  limiter = w.limiter;
+  first = record { value = value; meter = w.state.meter; limiter = w.limiter };
   charge = charge;
-  value' = value';
-  meter' = meter';
-  limiter' = limiter';
+  last = record { value = value'; meter = meter'; limiter = limiter' };
 }
 
 -- what there is before it, and after it
 abbrev pub before : {V S : Type 0} → Growing V S → MeteredValue V S
-before t = record { value = t.value; meter = Some t.meter; limiter = t.limiter }
+before t = metered_value t.first.value (Some t.first.meter) t.first.limiter
 
 abbrev pub after : {V S : Type 0} → Growing V S → MeteredValue V S
-after t = record { value = t.value'; meter = Some t.meter'; limiter = t.limiter' }
+after t = metered_value t.last.value (Some t.last.meter) t.last.limiter
 
 -- a call on what an index names
 acts_takes : {X R S : Type 0} (Acts : MeteredValue X S → R → ℕ → MeteredValue X S → Type 0) (k : ℕ)
     (reply_to : R → Reply) (t : Growing (List (Slot X)) S) (reply : Reply)
     → ((x : X) (result : R) (x' : X) → Acts (with_value (before t) x) result t.charge (with_value (after t) x')
-    → Takes t.meter t.charge t.meter')
-    → ActsAt k reply_to Acts (before t) reply t.charge (after t) → Takes t.meter t.charge t.meter'
+    → Takes t.first.meter t.charge t.last.meter)
+    → ActsAt k reply_to Acts (before t) reply t.charge (after t) → Takes t.first.meter t.charge t.last.meter
 acts_takes {X = X} {S = S} Acts k reply_to t reply takes acts =
-    on_live (live_at t.value k) _ _ acts
-    (λ missing. takes_nothing t.meter t.meter' t.charge missing.1
-    (same_Some t.meter' t.meter (ap (λ (s : MeteredValue (List (Slot X)) S). s.meter) missing.2)))
+    on_live (live_at t.first.value k) _ _ acts
+    (λ missing. takes_nothing t.first.meter t.last.meter t.charge missing.1
+    (same_Some t.last.meter t.first.meter (ap (λ (s : MeteredValue (List (Slot X)) S). s.meter) missing.2)))
     (λ x found act. takes x act.0 act.1 act.2)
 
 -- a growth of the memory of an index
 memory_growth_takes : {S : Type 0} (rules : Rules S) (k pages : ℕ) (t : Growing (List (Slot MemoryValue)) S)
     (reply : Reply)
     → ActsAt k (reply_of replied.Number replied.Memory) (GrowsMemory rules pages) (before t) reply t.charge (after t)
-    → Takes t.meter t.charge t.meter'
+    → Takes t.first.meter t.charge t.last.meter
 memory_growth_takes rules k pages t reply acts =
     acts_takes (GrowsMemory rules pages) k (reply_of replied.Number replied.Memory) t reply
     (λ x result x'. grows_takes rules
-    (record { amount = pages; size = pages_of x; request = memory.growth_of x pages }) x t.meter t.limiter result
-    t.charge x' t.meter' t.limiter')
+    (record { amount = pages; size = pages_of x; request = memory.growth_of x pages }) x t.first.meter t.first.limiter
+    result
+    t.charge x' t.last.meter t.last.limiter)
     acts
 
 -- a growth of the table of an index
 table_growth_takes : {S : Type 0} (rules : Rules S) (k n : ℕ) (init : TypedRawRef)
     (t : Growing (List (Slot TableValue)) S) (reply : Reply)
     → ActsAt k (reply_of replied.Number replied.Table) (GrowsTable rules n init) (before t) reply t.charge (after t)
-    → Takes t.meter t.charge t.meter'
+    → Takes t.first.meter t.charge t.last.meter
 table_growth_takes rules k n init t reply acts =
     acts_takes (GrowsTable rules n init) k (reply_of replied.Number replied.Table) t reply
-    (λ x result x'. table_grows_takes rules n init x t.meter t.limiter result t.charge x' t.meter' t.limiter') acts
+    (λ x result x'. table_grows_takes rules n init x t.first.meter t.first.limiter result t.charge x' t.last.meter
+    t.last.limiter) acts
 
 -- a write over a part of the table of an index
 table_write_takes : (k : ℕ) (write : TableValue → TableWrite) (slots : List (Slot TableValue)) (m : Meter)
@@ -192,7 +196,11 @@ table_write_takes k write slots m reply charge slots' m' writes =
     acts_takes {X = TableValue} {S = Unit {0}}
     (λ s result charge s'. WritesTable (write s.value) s.value s.meter result charge s'.value s'.meter) k
     (reply_of (λ _. replied.Done) replied.Table)
-    (record { value = slots; meter = m; limiter = tt; charge = charge; value' = slots'; meter' = m'; limiter' = tt })
+    (record {
+      first = record { value = slots; meter = m; limiter = tt };
+      charge = charge;
+      last = record { value = slots'; meter = m'; limiter = tt };
+    })
     reply (λ x result x'. write_takes (write x) x m result charge x' m') writes
 
 -- so where the write may be missing

@@ -20,7 +20,7 @@ use Rattle.wasmi_core.specs.declared.calls.Reply.{Reply}
 use Rattle.wasmi_core.specs.declared.slots.Slot.{Slot}
 use Rattle.wasmi_meter.specs.Attempt.{Attempt, Denied, Request, Failed, AttemptOutcome, Follows, IsFirstCause, MayEnd, Met, MeteredValue, Unasked, alone, optional_due, answer_of, covers, outcome_charge, value_after}
 use Rattle.wasmi_meter.specs.Capped.{Capped, capped_rules}
-use Rattle.wasmi_meter.specs.Limiter.{Answer, Failure, NoticeAnswer, IsDenial, MemoryFailure, Question, Rules, TableFailure, optional_rules, unlimited_rules}
+use Rattle.wasmi_meter.specs.Limiter.{Answer, AskedIf, NoticedIf, IsDenial, MemoryFailure, Rules, TableFailure, optional_rules, unlimited_rules}
 use Rattle.wasmi_meter.specs.Meter.{Meter, meter_after}
 use Rattle.wasmi_meter.specs.Quota.{capped_quota, quota_rules}
 use Rattle.wasmi_meter.proofs.CappedLemmas.{asked_once, noticed_once}
@@ -333,31 +333,30 @@ module _ {S : Type 0} (rules : Rules S) (once : IsDeterministic rules) where
       first_same : (c c' : Call) (cs cs' : List Call) → (c ∷ cs) ≡ (c' ∷ cs') → (c ≡ c') × (cs ≡ cs')
       first_same c c' cs cs' same = (cc, cc)
 
+-- what a limiter that may be absent answers to a question or a notice is one, where the limiter's own answer is one,
+-- where none has a known answer, and where it neither comes nor goes
+once_if : {L A : Type 0} (Answers : Option L → A → Option L → Type 0) (known : A)
+    → ((l : L) (a a' : A) (l' l'' : L) → Answers (Some l) a (Some l') → Answers (Some l) a' (Some l'')
+    → (a ≡ a') × (l' ≡ l''))
+    → ((a : A) → Answers None a None → a ≡ known)
+    → ((l : L) (a : A) → (Answers (Some l) a None → ⊥) × (Answers None a (Some l) → ⊥))
+    → (l : Option L) (a a' : A) (l' l'' : Option L) → Answers l a l' → Answers l a' l'' → (a ≡ a') × (l' ≡ l'')
+once_if Answers known once none stays (Some l) a a' (Some l') (Some l'') h h' =
+    let s = once l a a' l' l'' h h' in (s.0, ap Some s.1)
+once_if Answers known once none stays (Some l) a a' None l'' h h' = absurd ((stays l a).0 h)
+once_if Answers known once none stays (Some l) a a' (Some l') None h h' = absurd ((stays l a').0 h')
+once_if Answers known once none stays None a a' None None h h' = (none a h ∙ sym (none a' h'), refl)
+once_if Answers known once none stays None a a' (Some l') l'' h h' = absurd ((stays l' a).1 h)
+once_if Answers known once none stays None a a' None (Some l'') h h' = absurd ((stays l'' a').1 h')
+
 -- a limiter that may be absent leaves no choice where the limiter leaves none
 pub optional_once : {L : Type 0} (rules : Rules L) → IsDeterministic rules → IsDeterministic (optional_rules rules)
-optional_once {L} rules once = record { asked = asks; noticed = notices }
-  where
-    asks : (l : Option L) (question : Question) (a a' : Answer) (l' l'' : Option L)
-        → (optional_rules rules).asked l question a l' → (optional_rules rules).asked l question a' l''
-        → (a ≡ a') × (l' ≡ l'')
-    asks (Some l) question a a' (Some l') (Some l'') h h' =
-        let s = once.asked l question a a' l' l'' h h' in (s.0, ap Some s.1)
-    asks (Some l) question a a' None l'' h h' = absurd h
-    asks (Some l) question a a' (Some l') None h h' = absurd h'
-    asks None question a a' None None h h' = (h ∙ sym h', refl)
-    asks None question a a' (Some l') l'' h h' = absurd h
-    asks None question a a' None (Some l'') h h' = absurd h'
-
-    notices : (l : Option L) (failure : Failure) (a a' : NoticeAnswer) (l' l'' : Option L)
-        → (optional_rules rules).noticed l failure a l' → (optional_rules rules).noticed l failure a' l''
-        → (a ≡ a') × (l' ≡ l'')
-    notices (Some l) failure a a' (Some l') (Some l'') h h' =
-        let s = once.noticed l failure a a' l' l'' h h' in (s.0, ap Some s.1)
-    notices (Some l) failure a a' None l'' h h' = absurd h
-    notices (Some l) failure a a' (Some l') None h h' = absurd h'
-    notices None failure a a' None None h h' = (h ∙ sym h', refl)
-    notices None failure a a' (Some l') l'' h h' = absurd h
-    notices None failure a a' None (Some l'') h h' = absurd h'
+optional_once rules once = record {
+  asked = λ l question. once_if (λ l a l'. AskedIf rules l question a l') (Ok true)
+      (λ l a a' l' l'' h h'. once.asked l question a a' l' l'' h h') (λ a h. h) (λ l a. (λ h. h, λ h. h)) l;
+  noticed = λ l failure. once_if (λ l a l'. NoticedIf rules l failure a l') (Ok tt)
+      (λ l a a' l' l'' h h'. once.noticed l failure a a' l' l'' h h') (λ a h. h) (λ l a. (λ h. h, λ h. h)) l;
+}
 
 -- the limiter that permits everything
 pub unlimited_once : {S : Type 0} → IsDeterministic (unlimited_rules {S = S})

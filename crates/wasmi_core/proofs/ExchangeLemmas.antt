@@ -14,6 +14,8 @@ use Rattle.wasmi_core.specs.Steps.{Changed, Effect, FuelSet, LentMemoryMade, Mem
 use Rattle.wasmi_core.specs.TableEffects.{metered, write_of}
 use Rattle.wasmi_core.specs.Totals.{byte_count, sizes, slot_count}
 use Rattle.wasmi_core.specs.World.{Turn, World}
+use Rattle.wasmi_core.specs.Laws.{RunsGrowAsPermitted}
+use Rattle.wasmi_core.proofs.TurnLemmas.{each_turn}
 use Rattle.wasmi_core.specs.declared.calls.Call.{Call}
 use Rattle.wasmi_core.specs.declared.calls.Call.TheVariants.{NewMemory}
 use Rattle.wasmi_core.specs.declared.calls.Reply.{Reply}
@@ -472,3 +474,7 @@ pub growths_are_permitted : {S : Type 0} (rules : Rules S) (w : World S) (turn :
 growths_are_permitted rules w turn w' step =
     subst (λ place. Passed rules (meeting_of w turn.charge w') place) (same_place w.state turn.call)
     (effect_passes rules w turn w' (effect_of w.state turn.call) step)
+
+-- so each turn of a run
+pub run_growths_are_permitted : {S : Type 0} (rules : Rules S) → RunsGrowAsPermitted rules
+run_growths_are_permitted rules = each_turn rules _ (growths_are_permitted rules)

@@ -7,6 +7,7 @@ use Rattle.std.specs.Option.{option_and_then, option_map}
 use Rattle.std.specs.Prelude.{MatchBool, MatchOption, if◌then◌else◌, is_none, slice_get, slice_set, ◌&&◌}
 use Rattle.std.specs.Result.{result_map_both}
 use Rattle.wasmi_core.proofs.EffectLemmas.{both_live}
+use Rattle.wasmi_core.proofs.StoreLemmas.{acts_too, asks_too, changes_too}
 use Rattle.wasmi_core.specs.LentMemory.{FitsRegions, FitsRoom, RunInRegions, owned, owned_memory, owned_slot, owned_world, unlent_world}
 use Rattle.wasmi_core.specs.MemoryEffects.{StoresMemoryAt, WritesMemoryAt, bytes_appended, load_reply}
 use Rattle.wasmi_core.specs.RegisterEffects.{StoresVectorAt, lane_loaded, vector_at, vector_loaded}
@@ -19,7 +20,6 @@ use Rattle.wasmi_core.specs.World.{Turn, World}
 use Rattle.wasmi_core.specs.declared.calls.Call.{Call}
 use Rattle.wasmi_core.specs.declared.calls.Call.TheVariants.{Load, LoadLane, NewLentMemory, NewMemory, VectorLoad}
 use Rattle.wasmi_core.specs.declared.calls.Reply.{Reply}
-use Rattle.wasmi_scalar_ops.specs.declared.access.LoadOp.{LoadOp}
 use Rattle.wasmi_core.specs.declared.slots.Slot.{Slot}
 use Rattle.wasmi_core.specs.declared.slots.Slot.TheVariants.{Gone, Live}
 use Rattle.wasmi_meter.specs.Attempt.{Attempt, Denied, Request, Failed, AttemptOutcome, Follows, IsFirstCause, MayEnd, Met, MeteredValue, Unasked, optional_due, answer_of, covers, outcome_charge, value_after, with_value}
@@ -29,28 +29,15 @@ use Rattle.wasmi_meter.specs.declared.error.MemoryError.{MemoryError}
 use Rattle.wasmi_store.specs.Buffer.{LacksMemory, Lent, Owned, Room, fits_room}
 use Rattle.wasmi_store.specs.Memory.{GrowsMemory, MakesMemory, MemoryValue, WritesMemory, new_memory, pages_of}
 use Rattle.wasmi_store.specs.MemoryType.{MemoryTypeValue, in_bounds, minimum_bytes, page_bytes}
-use Rattle.wasmi_vector_ops.specs.declared.access.LoadLaneOp.{LoadLaneOp}
-use Rattle.wasmi_vector_ops.specs.declared.access.VectorLoadOp.{VectorLoadOp}
 use Rattle.wasmi_store.specs.Memory as memory
 use Rattle.wasmi_core.specs.declared.calls.Reply.TheVariants as replied
 
 -- An attempt where nothing stands between the permission and the charge, and where more may refuse after it.
-module _ {V W E : Type 0} (e : Request V E) (refuses : E → Type 0)
-    (lacks : (cause : E) → e.refuses cause → refuses cause) (own : V → W) where
+module _ {V E : Type 0} (e : Request V E) (refuses : E → Type 0)
+    (lacks : (cause : E) → e.refuses cause → refuses cause) (own : V → V) where
   -- the same request without a late cause
-  abbrev eased : Request W E
-  eased = record {
-    early = e.early;
-    question = e.question;
-    denial = e.denial;
-    refusal = e.refusal;
-    notice = e.notice;
-    late = None;
-    price = e.price;
-    unpaid = e.unpaid;
-    refuses = refuses;
-    grown = own e.grown;
-  }
+  abbrev eased : Request V E
+  eased = record e { late = None; refuses = refuses; grown = own e.grown }
 
   -- no late cause is met: there is none, or an early one stands before it
   abbrev IsEasy : Type 0
@@ -273,45 +260,15 @@ module _ (slots : List (Slot MemoryValue)) (k : ℕ) where
     vector_stores_owned a None stores = (stores.0, ap (map owned_slot) stores.1)
     vector_stores_owned a (Some stored) stores = stores_owned a stored stores
 
-  -- the bytes appended by a growth
-  appended_owned : (pages : ℕ) (reply : Reply)
-      → bytes_appended (live_at slots k) pages reply ≡ bytes_appended (live_at (map owned_slot slots) k) pages reply
-  appended_owned pages reply =
-      by_value (live_at slots k) ∙ ap (λ o. bytes_appended o pages reply) (sym (owned_at slots k))
+  -- what is made of the live memory of an index, or of none, whatever its room is
+  made_owned : {A : Type 0} (made : Option MemoryValue → A)
+      → ((x : MemoryValue) → made (Some x) ≡ made (Some (owned_memory x)))
+      → made (live_at slots k) ≡ made (live_at (map owned_slot slots) k)
+  made_owned made same = by_value (live_at slots k) ∙ ap made (sym (owned_at slots k))
     where
-      by_value : (o : Option MemoryValue) → bytes_appended o pages reply ≡ bytes_appended (option_map owned_memory
-          o) pages reply
+      by_value : (o : Option MemoryValue) → made o ≡ made (option_map owned_memory o)
       by_value None = refl
-      by_value (Some x) = refl
-
-  -- the reply to a load
-  load_owned : (op : LoadOp) (a : ℕ) → load_reply op a (live_at slots k) ≡ load_reply op a (live_at
-      (map owned_slot slots) k)
-  load_owned op a = by_value (live_at slots k) ∙ ap (load_reply op a) (sym (owned_at slots k))
-    where
-      by_value : (o : Option MemoryValue) → load_reply op a o ≡ load_reply op a (option_map owned_memory o)
-      by_value None = refl
-      by_value (Some x) = refl
-
-  -- what a load of a vector gives
-  vector_loaded_owned : (op : VectorLoadOp) (a : ℕ)
-      → vector_loaded op a (live_at slots k) ≡ vector_loaded op a (live_at (map owned_slot slots) k)
-  vector_loaded_owned op a = by_value (live_at slots k) ∙ ap (vector_loaded op a) (sym (owned_at slots k))
-    where
-      by_value : (o : Option MemoryValue) → vector_loaded op a o ≡ vector_loaded op a (option_map owned_memory o)
-      by_value None = refl
-      by_value (Some x) = refl
-
-  -- what a load of a lane gives
-  lane_loaded_owned : (op : LoadLaneOp) (a : ℕ) (vector : Option ℕ)
-      → lane_loaded op a vector (live_at slots k) ≡ lane_loaded op a vector (live_at (map owned_slot slots) k)
-  lane_loaded_owned op a vector =
-      by_value (live_at slots k) vector ∙ ap (lane_loaded op a vector) (sym (owned_at slots k))
-    where
-      by_value : (o : Option MemoryValue) (v : Option ℕ)
-          → lane_loaded op a v o ≡ lane_loaded op a v (option_map owned_memory o)
-      by_value None v = refl
-      by_value (Some x) v = refl
+      by_value (Some x) = same x
 
 -- a growth
 growth_owned : {S : Type 0} (rules : Rules S) (k pages : ℕ) (s s' : MeteredValue (List (Slot MemoryValue)) S)
@@ -372,12 +329,13 @@ effect_fits s call fits = fits
 
 -- a call has the same effect on both machines
 effect_kept : (s : State) (call : Call) → effect_of s call ≡ effect_of (owned s) call
-effect_kept s (Load op k ptr offset) = ap Told (load_owned s.memories k op (ptr + offset))
+effect_kept s (Load op k ptr offset) = ap Told (made_owned s.memories k (load_reply op (ptr + offset)) (λ x. refl))
 effect_kept s (VectorLoad op dst k ptr offset) =
-    ap (λ given. Changed (RegisterSet dst given)) (vector_loaded_owned s.memories k op (ptr + offset))
+    ap (λ given. Changed (RegisterSet dst given))
+    (made_owned s.memories k (vector_loaded op (ptr + offset)) (λ x. refl))
 effect_kept s (LoadLane op dst a k ptr offset) =
     ap (λ given. Changed (RegisterSet dst given))
-    (lane_loaded_owned s.memories k op (ptr + offset) (vector_at s.registers a))
+    (made_owned s.memories k (lane_loaded op (ptr + offset) (vector_at s.registers a)) (λ x. refl))
 effect_kept s call = refl
 
 -- a change of one part is the same change with such memories
@@ -418,58 +376,26 @@ module _ {S : Type 0} (rules : Rules S) (w : World S) (turn : Turn) (w' : World 
         after = ap owned_world step.after;
       }
   effect_owned (FuelSet fuel) fits step =
-      record {
-        free = step.free;
-        machine = owned step.machine;
-        effect = (step.effect.0, ap owned step.effect.1);
-        after = ap
-            owned_world step.after;
-      }
+      changes_too step (owned step.machine) (step.effect.0, ap owned step.effect.1) (ap owned_world step.after)
   effect_owned (Changed change) fits step =
-      record {
-        free = step.free;
-        machine = owned step.machine;
-        effect = change_owned w.state turn.reply step.machine
-            change step.effect;
-        after = ap owned_world step.after;
-      }
-  effect_owned (MemoryMade ty) fits step = record {
-    free = step.free;
-    part = map owned_slot step.part;
-    limiter = step.limiter;
-    effect = creates_owned rules Owned ty w.state.memories w.limiter turn.reply step.part step.limiter refl step.effect;
-    after = ap owned_world step.after;
-  }
+      changes_too step (owned step.machine) (change_owned w.state turn.reply step.machine change step.effect)
+      (ap owned_world step.after)
+  effect_owned (MemoryMade ty) fits step =
+      asks_too step (map owned_slot step.part)
+      (creates_owned rules Owned ty w.state.memories w.limiter turn.reply step.part step.limiter refl step.effect)
+      (ap owned_world step.after)
   effect_owned (LentMemoryMade ty) fits step = absurd fits
-  effect_owned (MemoryGrown k pages) fits step = record {
-    part = map owned_slot step.part;
-    meter = step.meter;
-    limiter = step.limiter;
-    effect = growth_owned rules k pages
-        (record { value = w.state.memories; meter = Some w.state.meter; limiter = w.limiter })
-        (record { value = step.part; meter = Some step.meter; limiter = step.limiter }) turn.reply turn.charge fits
-        step.effect;
-    wrote = step.wrote ∙ appended_owned w.state.memories k pages turn.reply;
-    after = ap owned_world step.after;
-  }
-  effect_owned (TableMade ty init) fits step =
-      record {
-        free = step.free;
-        part = step.part;
-        limiter = step.limiter;
-        effect = step.effect;
-        after = ap owned_world
-            step.after;
-      }
+  effect_owned (MemoryGrown k pages) fits step =
+      acts_too step (map owned_slot step.part)
+      (growth_owned rules k pages
+      (record { value = w.state.memories; meter = Some w.state.meter; limiter = w.limiter })
+      (record { value = step.part; meter = Some step.meter; limiter = step.limiter }) turn.reply turn.charge fits
+      step.effect)
+      (made_owned w.state.memories k (λ o. bytes_appended o pages turn.reply) (λ x. refl))
+      (ap owned_world step.after)
+  effect_owned (TableMade ty init) fits step = asks_too step step.part step.effect (ap owned_world step.after)
   effect_owned (TableGrown k n init) fits step =
-      record {
-        part = step.part;
-        meter = step.meter;
-        limiter = step.limiter;
-        effect = step.effect;
-        wrote = step.wrote;
-        after = ap owned_world step.after;
-      }
+      acts_too step step.part step.effect refl (ap owned_world step.after)
   effect_owned (PartWritten k source dst len) fits step =
       record {
         part = step.part;

@@ -114,14 +114,17 @@ reads_same k offset len slots reply reply' room room' a b =
     on_both (live_at slots k) _ _ _ _ a b (λ h h'. h ∙ sym h')
     (λ x h h'. read_same (at x.bytes offset len) reply reply' room room' h h')
 
+-- two memories with the same type, bytes and room
+memory_same : (x x' : MemoryValue) → x.ty ≡ x'.ty → Some x.bytes ≡ Some x'.bytes → x.room ≡ x'.room → x ≡ x'
+memory_same x x' ty bytes room =
+    let same = same_Some x.bytes x'.bytes bytes in λ k. record { ty = ty k; bytes = same k; room = room k }
+
 -- two writes
 write_same : (x x' x'' : MemoryValue) (offset : ℕ) (source : List ℕ) (result result' : Result (Unit {0}) MemoryError)
     → WritesMemory x offset source result x' → WritesMemory x offset source result' x''
     → (result ≡ result') × (x' ≡ x'')
 write_same x x' x'' offset source (Ok u) (Ok u') (bytes, ty, room) (bytes', ty', room') =
-    let same =
-    same_Some x'.bytes x''.bytes (sym bytes ∙ bytes') in
-    (refl, λ k. record { ty = (ty ∙ sym ty') k; bytes = same k; room = (room ∙ sym room') k })
+    (refl, memory_same x' x'' (ty ∙ sym ty') (sym bytes ∙ bytes') (room ∙ sym room'))
 write_same x x' x'' offset source (Ok u) (Err error) a b = absurd (none-some x'.bytes (sym b.1 ∙ a.0))
 write_same x x' x'' offset source (Err error) (Ok u) a b = absurd (none-some x''.bytes (sym a.1 ∙ b.0))
 write_same x x' x'' offset source (Err error) (Err error') a b = (ap Err (a.0 ∙ sym b.0), a.2 ∙ sym b.2)
@@ -130,15 +133,12 @@ write_same x x' x'' offset source (Err error) (Err error') a b = (ap Err (a.0 �
 store_same : (x x' x'' : MemoryValue) (a : ℕ) (stored : List ℕ) (result result' : Result (Unit {0}) TrapCode)
     → StoresMemory x a stored result x' → StoresMemory x a stored result' x'' → (result ≡ result') × (x' ≡ x'')
 store_same x x' x'' a stored (Ok u) (Ok u') (bytes, ty, room) (bytes', ty', room') =
-    let same =
-    same_Some x'.bytes x''.bytes (sym bytes ∙ bytes') in
-    (refl, λ k. record { ty = (ty ∙ sym ty') k; bytes = same k; room = (room ∙ sym room') k })
+    (refl, memory_same x' x'' (ty ∙ sym ty') (sym bytes ∙ bytes') (room ∙ sym room'))
 store_same x x' x'' a stored (Ok u) (Err trap) h h' = absurd (none-some x'.bytes (sym h'.0.1 ∙ h.0))
 store_same x x' x'' a stored (Err trap) (Ok u) h h' = absurd (none-some x''.bytes (sym h.0.1 ∙ h'.0))
 store_same x x' x'' a stored (Err trap) (Err trap') (bytes, ty, room) (bytes', ty', room') = (
   ap Err (bytes.0 ∙ sym bytes'.0),
-  λ k.
-      record { ty = (ty ∙ sym ty') k; bytes = (bytes.2 ∙ sym bytes'.2) k; room = (room ∙ sym room') k },
+  memory_same x' x'' (ty ∙ sym ty') (ap Some (bytes.2 ∙ sym bytes'.2)) (room ∙ sym room'),
 )
 
 -- two writes to the memory of an index

@@ -8,7 +8,8 @@ use Rattle.wasmi_core.proofs.EffectLemmas.{creates_back, on_live}
 use Rattle.wasmi_core.proofs.StepsLemmas.{change_facts}
 use Rattle.wasmi_core.proofs.TableEffectsLemmas.{part_back, table_growth_back}
 use Rattle.wasmi_core.specs.Determinism.{IsNoWant}
-use Rattle.wasmi_core.specs.Laws.{IsRefusal, IsToldOfWant, Keeps, KeepsMeter, KeepsSpare, SameContents}
+use Rattle.wasmi_core.proofs.TurnLemmas.{each_turn}
+use Rattle.wasmi_core.specs.Laws.{IsRefusal, IsToldOfWant, Keeps, KeepsMeter, KeepsSpare, RefusalsInRunsKeepContents, SameContents}
 use Rattle.wasmi_core.specs.MemoryEffects.{spare_after}
 use Rattle.wasmi_core.specs.Effects.{ActsAt, reply_of}
 use Rattle.wasmi_core.specs.Runs.{Run}
@@ -308,6 +309,10 @@ refusals_keep_contents rules w turn w' step refused =
       meter = effect_meter
           rules w turn w' refused effect step;
     }
+
+-- so each turn of a run
+pub run_refusals_keep_contents : {S : Type 0} (rules : Rules S) → RefusalsInRunsKeepContents rules
+run_refusals_keep_contents rules = each_turn rules _ (refusals_keep_contents rules)
 
 -- contents that are the same twice
 same_twice : (s t u : State) → SameContents s t → SameContents t u → SameContents s u

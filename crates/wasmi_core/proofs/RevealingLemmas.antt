@@ -1,9 +1,10 @@
 -- What the replies of a run reveal of its limiter: a run is one by narrower rules, where its replies show it and the
 -- limiter is in states of which this holds.
-use Rattle.std.proofs.Common.{Err, List, Result, Some, [], ap, inl, inr, map, subst, sym, ℕ, ◌∙◌, ◌∷◌, ◌≡◌}
+use Rattle.std.proofs.Common.{Err, List, Result, Some, [], ap, inl, inr, map, refl, subst, sym, ℕ, ◌∙◌, ◌∷◌, ◌≡◌}
 use Rattle.std.proofs.lemmas.List.Elements.{All-head, All-tail}
 use Rattle.std.specs.Prelude.{All}
 use Rattle.wasmi_core.proofs.EffectLemmas.{Outcome, on_live_too, on_test_too}
+use Rattle.wasmi_core.proofs.StoreLemmas.{acts_too, asks_too}
 use Rattle.wasmi_core.specs.Effects.{ActsAt, ActsMetered, AddsEntry, Asks, Creates, reply_of}
 use Rattle.wasmi_core.specs.Runs.{Run}
 use Rattle.wasmi_core.specs.State.{State, live_at}
@@ -148,8 +149,7 @@ module _ {S : Type 0} (n : Narrowing S) where
       asks_revealed : {A : Type 0} {with_part : A → State} {Row Row' : S → Reply → A → S → Type 0}
           (step : Asks w turn w' with_part Row) → Row' w.limiter turn.reply step.part step.limiter
           → Asks w turn w' with_part Row'
-      asks_revealed step row =
-          record { free = step.free; part = step.part; limiter = step.limiter; effect = row; after = step.after }
+      asks_revealed step row = asks_too step step.part row step.after
 
       -- a turn with a charge
       pays_revealed : {A : Type 0} {old : A} {with_part : A → State}
@@ -158,14 +158,7 @@ module _ {S : Type 0} (n : Narrowing S) where
           → Row' (record { value = old; meter = Some w.state.meter; limiter = w.limiter }) turn.reply turn.charge
           (record { value = step.part; meter = Some step.meter; limiter = step.limiter })
           → ActsMetered w turn w' old with_part Row' bytes
-      pays_revealed step row = record {
-        part = step.part;
-        meter = step.meter;
-        limiter = step.limiter;
-        effect = row;
-        wrote = step.wrote;
-        after = step.after;
-      }
+      pays_revealed step row = acts_too step step.part row refl step.after
 
       -- where its reply shows it, an effect under the one rules is one under the others
       effect_revealed : (effect : Effect) → TakesEffect n.rules effect w turn w'

@@ -7,7 +7,7 @@ use Rattle.std.proofs.lemmas.List.Sums.{sum_by-cons}
 use Rattle.std.proofs.lemmas.Option.{same_Some}
 use Rattle.std.specs.Option.{option_map, option_map_or}
 use Rattle.std.specs.Prelude.{cond, if◌then◌else◌, is_some, nat_eq, nat_le, nat_lt, ◌&&◌}
-use Rattle.wasmi_core.proofs.AccountLemmas.{Growing, Takes, after, before, growing, grows_takes, write_takes}
+use Rattle.wasmi_core.proofs.AccountLemmas.{Growing, Takes, after, before, growing, grows_takes, in_situation, write_takes}
 use Rattle.wasmi_core.proofs.EffectLemmas.{both_live, on_live}
 use Rattle.wasmi_core.proofs.StepsLemmas.{change_facts, source_writes}
 use Rattle.wasmi_core.proofs.TableEffectsLemmas.{IsWrite}
@@ -118,45 +118,48 @@ module _ {V E S : Type 0} (rules : Rules S) (g : Growth V E) (t : Growing V S) w
   Grown result = Grows rules g (before t) result t.charge (after t)
 
   -- the costs stay
-  growth_costs : (result : Result ℕ E) → Grown result → t.meter'.costs ≡ t.meter.costs
+  growth_costs : (result : Result ℕ E) → Grown result → t.last.meter.costs ≡ t.first.meter.costs
   growth_costs result (inl none) =
-      ap (λ (m : Meter). m.costs) (same_Some t.meter' t.meter (ap (λ (s : MeteredValue V S). s.meter) none.same))
-  growth_costs result (inr some) = same_costs t.meter t.meter' t.charge some.attempt.meter
+      ap (λ (m : Meter). m.costs)
+      (same_Some t.last.meter t.first.meter (ap (λ (s : MeteredValue V S). s.meter) none.same))
+  growth_costs result (inr some) = same_costs t.first.meter t.last.meter t.charge some.attempt.meter
 
   -- the charge is taken
-  growth_takes : (result : Result ℕ E) → Grown result → Takes t.meter t.charge t.meter'
+  growth_takes : (result : Result ℕ E) → Grown result → Takes t.first.meter t.charge t.last.meter
   growth_takes result grows =
-      grows_takes rules g t.value t.meter t.limiter result t.charge t.value' t.meter' t.limiter' grows
+      grows_takes rules g t.first.value t.first.meter t.first.limiter result t.charge t.last.value t.last.meter
+      t.last.limiter grows
 
   -- a growth that is refused writes nothing
-  growth_refuses : (error : E) → Grown (Err error) → Wrote t.meter t.charge 0 false 0 t.meter'
+  growth_refuses : (error : E) → Grown (Err error) → Wrote t.first.meter t.charge 0 false 0 t.last.meter
   growth_refuses error grows =
-      refuses t.meter t.meter' t.charge (growth_costs (Err error) grows) (growth_takes (Err error) grows)
+      refuses t.first.meter t.last.meter t.charge (growth_costs (Err error) grows) (growth_takes (Err error) grows)
 
   -- an accepted growth, whose charge pays for so many bytes where nothing stood in its way
   module _ (bytes : ℕ) (none : g.amount ≡ 0 → bytes ≡ 0)
-      (bound : (left : ℕ) → t.meter.left ≡ Some left → 0 < rate t.meter → g.request.early ≡ None
-      → t.charge ≡ optional_due (Some t.meter) g.request.price
-      → bytes ≤ rate t.meter * t.charge + (rate t.meter - 1)) where
+      (bound : (left : ℕ) → t.first.meter.left ≡ Some left → 0 < rate t.first.meter → g.request.early ≡ None
+      → t.charge ≡ optional_due (Some t.first.meter) g.request.price
+      → bytes ≤ rate t.first.meter * t.charge + (rate t.first.meter - 1)) where
     -- the charge pays for the bytes
-    met_bound : (size : ℕ) → Grown (Ok size) → (left : ℕ) → t.meter.left ≡ Some left → 0 < rate t.meter
-        → bytes ≤ rate t.meter * t.charge + (rate t.meter - 1)
+    met_bound : (size : ℕ) → Grown (Ok size) → (left : ℕ) → t.first.meter.left ≡ Some left → 0 < rate t.first.meter
+        → bytes ≤ rate t.first.meter * t.charge + (rate t.first.meter - 1)
     met_bound size (inl grows) left on rated = let nothing = none grows.none in omega (arith, nothing)
     met_bound size (inr grows) left on rated =
         by_outcome grows.outcome grows.attempt.may_end grows.attempt.charged grows.answered
       where
-        by_outcome : (outcome : AttemptOutcome E) → MayEnd g.request (Some t.meter) outcome
-            → t.charge ≡ outcome_charge g.request (Some t.meter) outcome
-            → Ok size ≡ answer_of g.request g.size outcome → bytes ≤ rate t.meter * t.charge + (rate t.meter - 1)
+        by_outcome : (outcome : AttemptOutcome E) → MayEnd g.request (Some t.first.meter) outcome
+            → t.charge ≡ outcome_charge g.request (Some t.first.meter) outcome
+            → Ok size ≡ answer_of g.request g.size outcome
+            → bytes ≤ rate t.first.meter * t.charge + (rate t.first.meter - 1)
         by_outcome (Unasked cause) may charged answered = absurd cc
         by_outcome (Denied answer) may charged answered = absurd cc
         by_outcome Met may charged answered = bound left on rated may.0 charged
         by_outcome (Failed cause notice_answer) may charged answered = absurd cc
 
     -- what it has written
-    growth_pays : (size : ℕ) → Grown (Ok size) → Wrote t.meter t.charge bytes true 0 t.meter'
+    growth_pays : (size : ℕ) → Grown (Ok size) → Wrote t.first.meter t.charge bytes true 0 t.last.meter
     growth_pays size grows =
-        pays t.meter t.meter' t.charge bytes (growth_costs (Ok size) grows) (growth_takes (Ok size) grows)
+        pays t.first.meter t.last.meter t.charge bytes (growth_costs (Ok size) grows) (growth_takes (Ok size) grows)
         (met_bound size grows)
 
 -- a growth of a memory
@@ -182,45 +185,38 @@ early_none false cause is = absurd cc
 module _ {S : Type 0} (rules : Rules S) (pages : ℕ) (t : Growing MemoryValue S) where
   -- the growth
   abbrev growth : Growth MemoryValue MemoryError
-  growth = record { amount = pages; size = pages_of t.value; request = memory.growth_of t.value pages }
+  growth = record { amount = pages; size = pages_of t.first.value; request = memory.growth_of t.first.value pages }
 
   -- its charge pays for its bytes
-  memory_bound : (left : ℕ) → t.meter.left ≡ Some left → 0 < rate t.meter → growth.request.early ≡ None
-      → t.charge ≡ optional_due (Some t.meter) growth.request.price
-      → pages * page_bytes t.value.ty.page ≤ rate t.meter * t.charge + (rate t.meter - 1)
+  memory_bound : (left : ℕ) → t.first.meter.left ≡ Some left → 0 < rate t.first.meter → growth.request.early ≡ None
+      → t.charge ≡ optional_due (Some t.first.meter) growth.request.price
+      → pages * page_bytes t.first.value.ty.page ≤ rate t.first.meter * t.charge + (rate t.first.meter - 1)
   memory_bound left on rated early charged =
-      let x = t.value in
+      let x = t.first.value in
       let fits =
       added_fits (nat_le (pages_of x + pages) (greatest_pages x.ty))
       (option_map_or (λ maximum. nat_le (pages_of x + pages) maximum) x.ty.maximum true) x pages
       (early_none (in_bounds x.ty (pages_of x + pages)) MemoryError.OutOfBoundsGrowth early)
       in
       let bytes = pages * page_bytes x.ty.page in
-      let paid : cut_product bytes 1 ≤ rate t.meter * t.charge + (rate t.meter - 1) =
-      due_pays t.meter left bytes 1 t.charge on rated charged
+      let paid : cut_product bytes 1 ≤ rate t.first.meter * t.charge + (rate t.first.meter - 1) =
+      due_pays t.first.meter left bytes 1 t.charge on rated charged
       in
       omega (arith, fits, paid)
 
   -- what it has written, by its result
   memory_result : (result : Result ℕ MemoryError) → Grown rules growth t result
-      → Wrote t.meter t.charge (bytes_appended (Some t.value) pages (reply_of replied.Number replied.Memory result))
-      (is_accepted (reply_of replied.Number replied.Memory result)) 0 t.meter'
+      → Wrote t.first.meter t.charge
+      (bytes_appended (Some t.first.value) pages (reply_of replied.Number replied.Memory result))
+      (is_accepted (reply_of replied.Number replied.Memory result)) 0 t.last.meter
   memory_result (Ok size) grows =
-      growth_pays rules growth t (pages * page_bytes t.value.ty.page)
-      (λ none. ap (λ n. n * page_bytes t.value.ty.page) none ∙ omega arith) memory_bound size grows
+      growth_pays rules growth t (pages * page_bytes t.first.value.ty.page)
+      (λ none. ap (λ n. n * page_bytes t.first.value.ty.page) none ∙ omega arith) memory_bound size grows
   memory_result (Err error) grows = growth_refuses rules growth t error grows
 
 -- the growth of one value among others, by the same charge
 abbrev grown_to : {V W S : Type 0} → Growing W S → V → V → Growing V S
-grown_to t x x' = record {
-  value = x;
-  meter = t.meter;
-  limiter = t.limiter;
-  charge = t.charge;
-  value' = x';
-  meter' = t.meter';
-  limiter' = t.limiter';
-}
+grown_to t x x' = record { first = in_situation t.first x; charge = t.charge; last = in_situation t.last x' }
 
 -- nothing is appended where there is no memory
 nothing_appended : (o : Option MemoryValue) (pages : ℕ) → bytes_appended o pages replied.NoSuch ≡ 0
@@ -231,41 +227,44 @@ nothing_appended (Some x) pages = refl
 memory_growth_writes : {S : Type 0} (rules : Rules S) (k pages : ℕ) (t : Growing (List (Slot MemoryValue)) S)
     (reply : Reply)
     → ActsAt k (reply_of replied.Number replied.Memory) (GrowsMemory rules pages) (before t) reply t.charge (after t)
-    → Wrote t.meter t.charge (bytes_appended (live_at t.value k) pages reply) (is_accepted reply) 0 t.meter'
+    → Wrote t.first.meter t.charge (bytes_appended (live_at t.first.value k) pages reply)
+    (is_accepted reply) 0 t.last.meter
 memory_growth_writes {S} rules k pages t reply acts =
-    on_live (live_at t.value k) _ _ acts
-    (λ missing. rw missing.0 (idles t.meter t.meter' t.charge _ (nothing_appended (live_at t.value k) pages)
-    (same_Some t.meter' t.meter (ap (λ (s : MeteredValue (List (Slot MemoryValue)) S). s.meter) missing.2))))
+    on_live (live_at t.first.value k) _ _ acts
+    (λ missing. rw missing.0
+    (idles t.first.meter t.last.meter t.charge _ (nothing_appended (live_at t.first.value k) pages)
+    (same_Some t.last.meter t.first.meter (ap (λ (s : MeteredValue (List (Slot MemoryValue)) S). s.meter) missing.2))))
     (λ x found a. rw (found, a.3) (memory_result rules pages (grown_to t x a.1) a.0 a.2))
 
 -- a growth of a table
 module _ {S : Type 0} (rules : Rules S) (n reference : ℕ) (t : Growing TableValue S) where
   -- the growth
   abbrev table_growth : Growth TableValue TableError
-  table_growth = record { amount = n; size = size_of t.value; request = table.growth_of t.value n reference }
+  table_growth =
+      record { amount = n; size = size_of t.first.value; request = table.growth_of t.first.value n reference }
 
   -- what it has written, by its result
   table_result : (result : Result ℕ TableError) → Grown rules table_growth t result
-      → Wrote t.meter t.charge (element_bytes n (reply_of replied.Number replied.Table result))
-      (is_accepted (reply_of replied.Number replied.Table result)) 0 t.meter'
+      → Wrote t.first.meter t.charge (element_bytes n (reply_of replied.Number replied.Table result))
+      (is_accepted (reply_of replied.Number replied.Table result)) 0 t.last.meter
   table_result (Ok size) grows =
       growth_pays rules table_growth t (cut_product n 4) (λ none. ap (λ k. cut_product k 4) none ∙ omega arith)
-      (λ left on rated early charged. due_pays t.meter left n 4 t.charge on rated charged) size grows
+      (λ left on rated early charged. due_pays t.first.meter left n 4 t.charge on rated charged) size grows
   table_result (Err error) grows = growth_refuses rules table_growth t error grows
 
 -- a growth of the table of an index
 table_growth_writes : {S : Type 0} (rules : Rules S) (k n : ℕ) (init : TypedRawRef)
     (t : Growing (List (Slot TableValue)) S) (reply : Reply)
     → ActsAt k (reply_of replied.Number replied.Table) (GrowsTable rules n init) (before t) reply t.charge (after t)
-    → Wrote t.meter t.charge (element_bytes n reply) (is_accepted reply) 0 t.meter'
+    → Wrote t.first.meter t.charge (element_bytes n reply) (is_accepted reply) 0 t.last.meter
 table_growth_writes {S} rules k n init t reply acts =
-    on_live (live_at t.value k) _ _ acts
-    (λ missing. rw missing.0 (idles t.meter t.meter' t.charge _ refl
-    (same_Some t.meter' t.meter (ap (λ (s : MeteredValue (List (Slot TableValue)) S). s.meter) missing.2))))
+    on_live (live_at t.first.value k) _ _ acts
+    (λ missing. rw missing.0 (idles t.first.meter t.last.meter t.charge _ refl
+    (same_Some t.last.meter t.first.meter (ap (λ (s : MeteredValue (List (Slot TableValue)) S). s.meter) missing.2))))
     (λ x found a. rw a.3 (on_test (same_type x.ty.element init.ty) _ _ a.2
     (λ h. table_result rules n init.raw (grown_to t x a.1) a.0 h)
-    (λ h. rw h.0 (idles t.meter t.meter' t.charge _ refl
-    (same_Some t.meter' t.meter (ap (λ (s : MeteredValue TableValue S). s.meter) h.2))))))
+    (λ h. rw h.0 (idles t.first.meter t.last.meter t.charge _ refl
+    (same_Some t.last.meter t.first.meter (ap (λ (s : MeteredValue TableValue S). s.meter) h.2))))))
 
 -- a call that writes over a part of a table
 module _ (w : TableWrite) (x : TableValue) (len : ℕ) (m : Meter) (charge : ℕ) where

@@ -4,11 +4,13 @@ ghost use Rattle.wasmi_types.specs.Bytes.{le_bytes};
 ghost use Rattle.wasmi_meter.specs.Limiter.{optional_rules};
 ghost use Rattle.wasmi_meter.specs.LimiterRef.{lent_limiter, KeepsLoan};
 ghost use Rattle.wasmi_store.specs.Buffer.{Owned};
+ghost use Rattle.wasmi_store.specs.Growth.{metered_value};
 ghost use Rattle.wasmi_store.specs.Memory.{MakesMemory, GrowsMemory};
 ghost use Rattle.wasmi_vector_ops.specs.AccessOps.{stored_lane};
 ghost use Rattle.wasmi_scalar_ops.specs.AccessOps.{stored_bytes};
 ghost use Rattle.wasmi_core.specs.Effects.{reply_of, ActsAt, Creates};
-ghost use Rattle.std.specs.Option.{option_copied_mut};
+ghost use Rattle.std.specs.Option.{option_copied_mut, option_map};
+ghost use Rattle.wasmi_core.specs.RegisterEffects.{StoresVectorAt};
 ghost use Rattle.wasmi_core.specs.MemoryEffects.{CreatesLent, ReadsMemoryAt, ReadsBytes, WritesMemoryAt, LoadsMemoryAt, StoresMemoryAt, StoresMemory};
 ghost use Rattle.wasmi_types.specs.Access.{at};
 
@@ -86,16 +88,9 @@ impl<'r> Slots<Memory<'r>> {
         ensures grown { (charge : ℕ)
             × ActsAt index (reply_of Reply.Number Reply.Memory)
             (GrowsMemory (optional_rules L.rules) pages)
-            (record {
-              value = self.old.slots.items;
-              meter = Some fuel.old;
-              limiter = lent_limiter limiter.old;
-            }) result charge
-            (record {
-              value = self.new.slots.items;
-              meter = Some fuel.new;
-              limiter = lent_limiter limiter.new;
-            }) }
+            (metered_value self.old.slots.items (Some fuel.old) (lent_limiter limiter.old))
+            result charge
+            (metered_value self.new.slots.items (Some fuel.new) (lent_limiter limiter.new)) }
     {
         let Some(memory) = self.live_mut(index) else {
             return Reply::NoSuch;
@@ -164,35 +159,41 @@ impl<'r> Slots<Memory<'r>> {
 
 /// The stores of vectors.
 impl<'r> Slots<Memory<'r>> {
-    /// Stores a vector to a memory.
+    /// Stores a vector to a memory, if its register is there.
     pub(crate) fn store_vector(
         &mut self,
-        vector: V128,
+        vector: Option<V128>,
         index: usize,
         ptr: u64,
         offset: u64,
     ) -> Reply
-        ensures { StoresMemoryAt index (ptr + offset)
-            (le_bytes 16 vector) self.old.slots.items result self.new.slots.items }
+        ensures { StoresVectorAt index (ptr + offset) (option_map (le_bytes 16) vector)
+            self.old.slots.items result self.new.slots.items }
     {
+        let Some(vector) = vector else {
+            return Reply::NoSuch;
+        };
         let Some(memory) = self.live_mut(index) else {
             return Reply::NoSuch;
         };
         stored(store_vector(memory, vector, ptr, offset))
     }
 
-    /// Stores a lane of a vector to a memory.
+    /// Stores a lane of a vector to a memory, if its register is there.
     pub(crate) fn store_lane(
         &mut self,
         op: StoreLaneOp,
-        vector: V128,
+        vector: Option<V128>,
         index: usize,
         ptr: u64,
         offset: u64,
     ) -> Reply
-        ensures { StoresMemoryAt index (ptr + offset)
-            (stored_lane op vector) self.old.slots.items result self.new.slots.items }
+        ensures { StoresVectorAt index (ptr + offset) (option_map (stored_lane op) vector)
+            self.old.slots.items result self.new.slots.items }
     {
+        let Some(vector) = vector else {
+            return Reply::NoSuch;
+        };
         let Some(memory) = self.live_mut(index) else {
             return Reply::NoSuch;
         };

@@ -289,9 +289,7 @@ impl<'r> Store<'r> {
                 ptr,
                 offset,
             } => {
-                let Some(a) = self.registers.vector(*a) else {
-                    return Reply::NoSuch;
-                };
+                let a = self.registers.vector(*a);
                 self.memories.store_vector(a, *memory, *ptr, *offset)
             }
             Call::StoreLane {
@@ -301,9 +299,7 @@ impl<'r> Store<'r> {
                 ptr,
                 offset,
             } => {
-                let Some(a) = self.registers.vector(*a) else {
-                    return Reply::NoSuch;
-                };
+                let a = self.registers.vector(*a);
                 self.memories.store_lane(*op, a, *memory, *ptr, *offset)
             }
             _ => unreachable!(),

@@ -2,6 +2,7 @@
 ghost use Rattle.std.specs.Prelude.{◌≡◌, ◌≢◌, ◌<◌, length, ℕ, Some};
 ghost use Rattle.wasmi_meter.specs.Limiter.{optional_rules};
 ghost use Rattle.wasmi_meter.specs.LimiterRef.{lent_limiter, KeepsLoan};
+ghost use Rattle.wasmi_store.specs.Growth.{metered_value};
 ghost use Rattle.wasmi_store.specs.Segment.{segment_of};
 ghost use Rattle.wasmi_store.specs.Table.{MakesTable, GrowsTable};
 ghost use Rattle.wasmi_core.specs.Effects.{reply_of, ActsAt, Creates};
@@ -51,16 +52,9 @@ impl Slots<Table> {
         ensures grown { (charge : ℕ)
             × ActsAt index (reply_of Reply.Number Reply.Table)
             (GrowsTable (optional_rules L.rules) delta init)
-            (record {
-              value = self.old.slots.items;
-              meter = Some fuel.old;
-              limiter = lent_limiter limiter.old;
-            }) result charge
-            (record {
-              value = self.new.slots.items;
-              meter = Some fuel.new;
-              limiter = lent_limiter limiter.new;
-            }) }
+            (metered_value self.old.slots.items (Some fuel.old) (lent_limiter limiter.old))
+            result charge
+            (metered_value self.new.slots.items (Some fuel.new) (lent_limiter limiter.new)) }
     {
         let Some(table) = self.live_mut(index) else {
             return Reply::NoSuch;
@@ -213,8 +207,8 @@ fn copy_from_slot(
     fuel: &mut Fuel,
 ) -> Reply
     ensures { (charge : ℕ) × CopiesSlot (copy_from range.dst range.src range.len) source.now
-        (record { value = slot.old; meter = Some fuel.old; limiter = tt }) result charge
-        (record { value = slot.new; meter = Some fuel.new; limiter = tt }) }
+        (metered_value slot.old (Some fuel.old) tt) result charge
+        (metered_value slot.new (Some fuel.new) tt) }
 {
     match (slot, source) {
         (Slot::Live(table), Slot::Live(source)) => {

@@ -26,9 +26,3 @@ pub returns-in-Some-live : goal.returns-in-Some-live
 returns-in-Some-live g c =
     λ limiter. rw (c.in-LoadLane.is, ← c.self.view_is, ← c.in-Some-vector.ensures, ← c.in-Some-live.ensures)
     (changes_part _ (rw c.data-in-LoadLane.ensures at c.load_lane.ensures))
-
--- a store of a vector
-pub returns-in-Some-vector-2 : goal.returns-in-Some-vector-2
-returns-in-Some-vector-2 g c =
-    λ limiter. rw (c.in-VectorStore.is, ← c.self.view_is, ← c.in-Some-vector-2.ensures)
-    (changes_part _ c.store_vector.ensures)
