@@ -26,65 +26,53 @@ abbrev said : List (List ℕ × Type 0) → List ℕ → Type 0
 said [] word = Unit {0}
 said (row ∷ rows) word = cond (bytes_eq row.0 word) row.1 (said rows word)
 
--- what the operands of these commands write
-abbrev forms : Words → List (List ℕ × Type 0)
-forms words =
-    (codes "grow", (memory : ℕ) × (pages : ℕ) × WritesOperands words (GrowMemory memory pages)) ∷
-    (codes "read", (memory : ℕ) × (offset : ℕ) × (len : ℕ) × WritesOperands words (Read memory offset len)) ∷ (
+-- what the operands of these commands write, as they write a call
+abbrev forms : (Call → Type 0) → List (List ℕ × Type 0)
+forms Writes =
+    (codes "grow", (memory : ℕ) × (pages : ℕ) × Writes (GrowMemory memory pages)) ∷
+    (codes "read", (memory : ℕ) × (offset : ℕ) × (len : ℕ) × Writes (Read memory offset len)) ∷ (
       codes "load",
-      (op : LoadOp) × (memory : ℕ) × (ptr : ℕ) × (offset : ℕ)
-          × WritesOperands words (Load op memory ptr offset),
+      (op : LoadOp) × (memory : ℕ) × (ptr : ℕ) × (offset : ℕ) × Writes (Load op memory ptr offset),
     ) ∷ (
       codes "store",
       (op : StoreOp) × (memory : ℕ) × (ptr : ℕ) × (offset : ℕ) × (value : RawVal)
-          × WritesOperands words (Store op memory ptr offset value),
-    ) ∷ (
-      codes "tgrow",
-      (table : ℕ) × (delta : ℕ) × (init : TypedRawRef)
-          × WritesOperands words (GrowTable table delta init),
+          × Writes (Store op memory ptr offset value),
     ) ∷
-    (codes "get", (table : ℕ) × (index : ℕ) × WritesOperands words (GetElement table index)) ∷ (
-      codes "tset",
-      (table : ℕ) × (index : ℕ) × (value : TypedRawRef)
-          × WritesOperands words (SetElement table index value),
-    ) ∷ (
+    (codes "tgrow", (table : ℕ) × (delta : ℕ) × (init : TypedRawRef) × Writes (GrowTable table delta init)) ∷
+    (codes "get", (table : ℕ) × (index : ℕ) × Writes (GetElement table index)) ∷
+    (codes "tset", (table : ℕ) × (index : ℕ) × (value : TypedRawRef) × Writes (SetElement table index value)) ∷ (
       codes "init",
       (table : ℕ) × (segment : ℕ) × (dst : ℕ) × (src : ℕ) × (len : ℕ)
-          × WritesOperands words (InitTable table segment dst src len),
+          × Writes (InitTable table segment dst src len),
     ) ∷ (
       codes "copy",
       (dst_table : ℕ) × (dst : ℕ) × (src_table : ℕ) × (src : ℕ) × (len : ℕ)
-          × WritesOperands words (CopyTable dst_table dst src_table src len),
+          × Writes (CopyTable dst_table dst src_table src len),
     ) ∷ (
       codes "fill",
-      (table : ℕ) × (dst : ℕ) × (value : TypedRawRef) × (len : ℕ)
-          × WritesOperands words (FillTable table dst value len),
+      (table : ℕ) × (dst : ℕ) × (value : TypedRawRef) × (len : ℕ) × Writes (FillTable table dst value len),
     ) ∷
-    (codes "global", (value : RawVal) × (ty : GlobalType) × WritesOperands words (NewGlobal value ty)) ∷
-    (codes "gset", (global : ℕ) × (value : TypedRawVal) × WritesOperands words (SetGlobal global value)) ∷
-    (codes "set", (dst : ℕ) × (value : RawVal) × WritesOperands words (SetRegister dst value)) ∷
-    (codes "make", (op : MakeOp) × (dst : ℕ) × (a : ℕ) × WritesOperands words (Make op dst a)) ∷
-    (codes "unary", (op : UnaryOp) × (dst : ℕ) × (a : ℕ) × WritesOperands words (Unary op dst a)) ∷
-    (codes "binary", (op : BinaryOp) × (dst : ℕ) × (a : ℕ) × (b : ℕ) × WritesOperands words (Binary op dst a b)) ∷ (
-      codes "ternary",
-      (op : TernaryOp) × (dst : ℕ) × (a : ℕ) × (b : ℕ) × (c : ℕ)
-          × WritesOperands words (Ternary op dst a b c),
-    ) ∷
-    (codes "shift", (op : ShiftOp) × (dst : ℕ) × (a : ℕ) × (amount : ℕ) × WritesOperands words (Shift op dst a amount))
-    ∷
-    (codes "test", (op : TestOp) × (a : ℕ) × WritesOperands words (Test op a)) ∷ (
+    (codes "global", (value : RawVal) × (ty : GlobalType) × Writes (NewGlobal value ty)) ∷
+    (codes "gset", (global : ℕ) × (value : TypedRawVal) × Writes (SetGlobal global value)) ∷
+    (codes "set", (dst : ℕ) × (value : RawVal) × Writes (SetRegister dst value)) ∷
+    (codes "make", (op : MakeOp) × (dst : ℕ) × (a : ℕ) × Writes (Make op dst a)) ∷
+    (codes "unary", (op : UnaryOp) × (dst : ℕ) × (a : ℕ) × Writes (Unary op dst a)) ∷
+    (codes "binary", (op : BinaryOp) × (dst : ℕ) × (a : ℕ) × (b : ℕ) × Writes (Binary op dst a b)) ∷
+    (codes "ternary", (op : TernaryOp) × (dst : ℕ) × (a : ℕ) × (b : ℕ) × (c : ℕ) × Writes (Ternary op dst a b c)) ∷
+    (codes "shift", (op : ShiftOp) × (dst : ℕ) × (a : ℕ) × (amount : ℕ) × Writes (Shift op dst a amount)) ∷
+    (codes "test", (op : TestOp) × (a : ℕ) × Writes (Test op a)) ∷ (
       codes "vload",
       (op : VectorLoadOp) × (dst : ℕ) × (memory : ℕ) × (ptr : ℕ) × (offset : ℕ)
-          × WritesOperands words (VectorLoad op dst memory ptr offset),
+          × Writes (VectorLoad op dst memory ptr offset),
     ) ∷ (
       codes "vstore",
-      (a : ℕ) × (memory : ℕ) × (ptr : ℕ) × (offset : ℕ)
-          × WritesOperands words (VectorStore a memory ptr offset),
+      (a : ℕ) × (memory : ℕ) × (ptr : ℕ) × (offset : ℕ) × Writes (VectorStore a memory ptr offset),
     ) ∷
     []
 
 -- a call's operands are written in the form of its word
-form : (words : Words) (call : Call) → WritesOperands words call → said (forms words) (command_word call)
+form : (words : Words) (call : Call) → WritesOperands words call
+    → said (forms (WritesOperands words)) (command_word call)
 form words (SetFuel fuel) w = tt
 form words GetFuel w = tt
 form words (NewMemory ty) w = tt
@@ -127,8 +115,8 @@ form words (StoreLane op a memory ptr offset) w = tt
 -- a command is refused since its operands are
 pub refused_after : {A : Type 0} (error : LineError) (P : A → Type 0) (word : List ℕ) (words : Words)
     (result : Result Call LineError)
-    → result ≡ Err error → Accepts {A = A} (Err error) P → (said (forms words) word → (a : A) × P a)
+    → result ≡ Err error → Accepts {A = A} (Err error) P → (said (forms (WritesOperands words)) word → (a : A) × P a)
     → Accepts result (NamesAfter word words)
 refused_after error P word words result is refused part =
     refused_through error result is
-    (λ call names. part (subst (said (forms words)) names.0 (form words call names.1))) refused
+    (λ call names. part (subst (said (forms (WritesOperands words))) names.0 (form words call names.1))) refused

@@ -259,56 +259,39 @@ no_bad_line text script number made bad =
     (empties_same bad.taken.empty taken.empty bad.taken.is_new taken.is_new) bad.taken.lines bad.is_bad
     (subst (λ lines. TakesLines lines taken.empty made.builder) bad.lines taken.lines)
 
--- lines of which those before a bad one are taken
-record StopsAfter (lines : List (List ℕ)) (old : ScriptBuilder) (before : List (List ℕ)) : Type 0 where
-  pub bad : List ℕ
-  pub after : List (List ℕ)
-  pub split : lines ≡ before ++ bad ∷ after
-  pub builder : ScriptBuilder
-  pub taken : TakesLines before old builder
-  pub is_bad : IsBadLine builder bad
+-- lines of which those before a bad one are taken: that line, those after it and what the ones before it lead to
+abbrev StopsAfter : List (List ℕ) → ScriptBuilder → List (List ℕ) → Type 0
+StopsAfter lines old before =
+    (bad : List ℕ) × (after : List (List ℕ)) × (lines ≡ before ++ bad ∷ after) × (builder : ScriptBuilder)
+    × TakesLines before old builder × IsBadLine builder bad
 
 -- a bad line stands at one place
 one_place : (before before' lines : List (List ℕ)) (old old' : ScriptBuilder) → BuildTheSame old old'
     → StopsAfter lines old before
     → StopsAfter lines old' before' → length before ≡ length before'
 one_place [] [] lines old old' same s s' = refl
-one_place [] (line ∷ before') lines old old' same s s' =
-    let here : line ≡ s.bad = cc in
-    let taken = subst (λ l. TakesLine old' l s'.taken.0) here s'.taken.1 in
-    absurd (refused s.builder old' s'.taken.0 s.bad (ap lines_said s.taken ∙ same) s.is_bad taken)
-one_place (line ∷ before) [] lines old old' same s s' =
-    let here : line ≡ s'.bad = cc in
-    let taken = subst (λ l. TakesLine old l s.taken.0) here s.taken.1 in
-    absurd (refused s'.builder old s.taken.0 s'.bad (ap lines_said s'.taken ∙ sym same) s'.is_bad taken)
-one_place (line ∷ before) (line' ∷ before') lines old old' same s s' =
+one_place [] (line ∷ before') lines old old' same (bad, after, split, builder, is, wrong)
+    (bad', after', split', builder', (m', t', l'), wrong') =
+    let here : line ≡ bad = cc in
+    let taken = subst (λ line. TakesLine old' line m') here t' in
+    absurd (refused builder old' m' bad (ap lines_said is ∙ same) wrong taken)
+one_place (line ∷ before) [] lines old old' same (bad, after, split, builder, (m, t, l), wrong)
+    (bad', after', split', builder', is', wrong') =
+    let here : line ≡ bad' = cc in
+    let taken = subst (λ line. TakesLine old line m) here t in
+    absurd (refused builder' old m bad' (ap lines_said is' ∙ sym same) wrong' taken)
+one_place (line ∷ before) (line' ∷ before') lines old old' same (bad, after, split, builder, (m, t, l), wrong)
+    (bad', after', split', builder', (m', t', l'), wrong') =
     let here : line' ≡ line = cc in
-    let rest : before ++ s.bad ∷ s.after ≡ before' ++ s'.bad ∷ s'.after = cc in
-    let taken = subst (λ l. TakesLine old' l s'.taken.0) here s'.taken.1 in
-    let next = line_once line old old' s.taken.0 s'.taken.0 same s.taken.1 taken in
-    ap (λ n. suc n) (one_place before before' (before ++ s.bad ∷ s.after) s.taken.0 s'.taken.0 next
-    (record { bad = s.bad; after = s.after; split = refl; builder = s.builder; taken = s.taken.2; is_bad = s.is_bad })
-    (record {
-      bad = s'.bad;
-      after = s'.after;
-      split = rest;
-      builder = s'.builder;
-      taken = s'.taken.2;
-      is_bad =
-          s'.is_bad;
-    }))
+    let rest : before ++ bad ∷ after ≡ before' ++ bad' ∷ after' = cc in
+    let next = line_once line old old' m m' same t (subst (λ line. TakesLine old' line m') here t') in
+    ap (λ n. suc n) (one_place before before' (before ++ bad ∷ after) m m' next
+    (bad, after, refl, builder, l, wrong) (bad', after', rest, builder', l', wrong'))
 
 -- so does the first bad line of a text
 stops : (text : List ℕ) (number : ℕ) (bad : IsFirstBadLine text number)
     → StopsAfter (lines_in text) bad.taken.empty bad.before
-stops text number bad = record {
-  bad = bad.bad;
-  after = bad.after;
-  split = bad.lines;
-  builder = bad.builder;
-  taken = bad.taken.lines;
-  is_bad = bad.is_bad;
-}
+stops text number bad = (bad.bad, bad.after, bad.lines, bad.builder, bad.taken.lines, bad.is_bad)
 
 -- the first bad line of a text is one number
 pub bad_lines_once : FirstBadLinesAreOne

@@ -1,3 +1,4 @@
+pub mod LimitWords
 pub mod MemoryWords
 pub mod TableWords
 pub mod Commands

@@ -1,24 +1,22 @@
 -- What the words of a memory type mean.
-use Rattle.std.specs.Prelude.{◌≡◌, ℕ, List, Option}
-use Rattle.wasmi_types.specs.declared.index_ty.IndexType.{IndexType}
+use Rattle.std.specs.Prelude.{◌≡◌, ℕ, List}
 use Rattle.wasmi_store.specs.MemoryType.{MemoryTypeValue, IsValid, page_log2}
-use Rattle.wasmi_operands.specs.Numbers.{WritesNumber, WritesLimit}
-use Rattle.wasmi_operands.specs.TypeWords.{width_word}
+use Rattle.wasmi_operands.specs.Numbers.{WritesNumber}
+use Rattle.wasmi_grammar.specs.LimitWords.{Limits, WritesLimits}
 
--- a memory type, which there is, of these settings
-pub record HasSettings (index : IndexType) (minimum : ℕ) (maximum : Option ℕ) (log2 : ℕ)
-    (ty : MemoryTypeValue) : Type 0 where
-  pub same_index : ty.index ≡ index
-  pub same_minimum : ty.minimum ≡ minimum
-  pub same_maximum : ty.maximum ≡ maximum
+-- the limits of a memory type
+abbrev pub memory_limits : MemoryTypeValue → Limits
+memory_limits ty = record { index = ty.index; minimum = ty.minimum; maximum = ty.maximum }
+
+-- a memory type, which there is, of these limits and this page size
+pub record HasSettings (limits : Limits) (log2 : ℕ) (ty : MemoryTypeValue) : Type 0 where
+  pub same_limits : memory_limits ty ≡ limits
   pub same_log2 : page_log2 ty.page ≡ log2
   pub valid : IsValid ty
 
 -- four words name this memory type, which there is: its minimum, its maximum, its page size and the width of its
 -- addresses
 pub record NamesType (minimum maximum log2 width : List ℕ) (ty : MemoryTypeValue) : Type 0 where
-  pub minimum_word : WritesNumber 64 minimum ty.minimum
-  pub maximum_word : WritesLimit maximum ty.maximum
+  pub limits_words : WritesLimits minimum maximum width (memory_limits ty)
   pub log2_word : WritesNumber 8 log2 (page_log2 ty.page)
-  pub width_text : width ≡ width_word ty.index
   pub valid : IsValid ty

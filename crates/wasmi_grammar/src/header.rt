@@ -184,6 +184,7 @@ pub(crate) fn quota(operands: &[&str]) -> Result<LimiterLine, LineError>
 }
 
 /// `tenants N B E`.
+#[tactic(auto, using(std::proofs::lemmas::Grind::common_steps))]
 pub(crate) fn tenants(operands: &[&str]) -> Result<LimiterLine, LineError>
     ensures { Accepts result (NamesLimiterAfter (codes "tenants") operands.now) }
 {

@@ -10,6 +10,7 @@ use wasmi_operands::names::lane::{extract_op, index, replace_op};
 use wasmi_operands::{LineError, number};
 
 /// `extract NAME A LANE`.
+#[tactic(auto, using(std::proofs::lemmas::Grind::common_steps))]
 pub fn extract(operands: &[&str]) -> Result<Call, LineError>
     ensures { Accepts result (NamesAfter (codes "extract") operands.now) }
 {
@@ -23,6 +24,7 @@ pub fn extract(operands: &[&str]) -> Result<Call, LineError>
 }
 
 /// `replace NAME D A LANE B`.
+#[tactic(auto, using(std::proofs::lemmas::Grind::common_steps))]
 pub fn replace(operands: &[&str]) -> Result<Call, LineError>
     ensures { Accepts result (NamesAfter (codes "replace") operands.now) }
 {
@@ -38,6 +40,7 @@ pub fn replace(operands: &[&str]) -> Result<Call, LineError>
 }
 
 /// `shuffle D A B LANE ...`, with sixteen lanes.
+#[tactic(auto, using(std::proofs::lemmas::Grind::common_steps))]
 pub fn shuffle(operands: &[&str]) -> Result<Call, LineError>
     ensures { Accepts result (NamesAfter (codes "shuffle") operands.now) }
 {

@@ -50,6 +50,7 @@ pub fn read(operands: &[&str]) -> Result<Call, LineError>
 }
 
 /// `write K OFFSET BYTE ...`, which may have no byte.
+#[tactic(auto, using(std::proofs::lemmas::Grind::common_steps))]
 pub fn write(alloc: Global, operands: &[&str]) -> Result<Call, LineError>
     ensures { AcceptsWithMemory result (NamesAfter (codes "write") operands.now) }
 {
@@ -93,7 +94,8 @@ fn type_of(
     maximum: Option<u64>,
     page_size_log2: u8,
 ) -> Result<MemoryType, LineError>
-    ensures { Accepts result (HasSettings index minimum maximum page_size_log2) }
+    ensures { Accepts result (HasSettings
+        (record { index = index; minimum = minimum; maximum = maximum }) page_size_log2) }
 {
     let mut builder = MemoryType::builder();
     builder

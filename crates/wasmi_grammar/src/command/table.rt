@@ -112,7 +112,8 @@ fn type_of(
     minimum: u64,
     maximum: Option<u64>,
 ) -> Result<TableType, LineError>
-    ensures { Accepts result (HasLimits index element minimum maximum) }
+    ensures { Accepts result (HasLimits
+        (record { index = index; minimum = minimum; maximum = maximum }) element) }
 {
     if let Some(most) = maximum {
         if most < minimum {

@@ -22,6 +22,7 @@ pub fn load(operands: &[&str]) -> Result<Call, LineError>
 }
 
 /// `vloadlane NAME D A LANE K PTR OFFSET`.
+#[tactic(auto, using(std::proofs::lemmas::Grind::common_steps))]
 pub fn load_lane(operands: &[&str]) -> Result<Call, LineError>
     ensures { Accepts result (NamesAfter (codes "vloadlane") operands.now) }
 {
@@ -52,6 +53,7 @@ pub fn store(operands: &[&str]) -> Result<Call, LineError>
 }
 
 /// `vstorelane NAME A LANE K PTR OFFSET`.
+#[tactic(auto, using(std::proofs::lemmas::Grind::common_steps))]
 pub fn store_lane(operands: &[&str]) -> Result<Call, LineError>
     ensures { Accepts result (NamesAfter (codes "vstorelane") operands.now) }
 {

@@ -1,12 +1,20 @@
-use Rattle.std.proofs.Common.{ℕ, rules, tests, arith, refl, sym, ap, subst, ◌∙◌, ◌≡◌, ◌∷◌, [], map, List, ◌==◌, Bor, length}
+use Rattle.std.proofs.Common.{ℕ, rules, tests, arith, refl, sym, ap, subst, ◌∙◌, ◌≡◌, ◌+◌, ◌∷◌, [], map, List, ◌==◌, Bor, Bool, false, Option, Some, length}
+use denote.Param.Members.{Mut}
 use Rattle.std.proofs.lemmas.Grind.{common_steps}
+use Rattle.std.proofs.lemmas.Iterator.{YieldsList}
 use Rattle.std.proofs.lemmas.List.{map-append, length-map, length-append}
 use Rattle.std.proofs.lemmas.Simd.{map-map}
 use Rattle.std.proofs.lemmas.Iterator.Consumers.{YieldsList-at, YieldsList-so_far, YieldsList-turn, YieldsList-end, YieldsList-from_enumerate}
 use Rattle.std.proofs.lemmas.Iterator.Splits.{YieldsList-from_slice_split}
-use Rattle.std.specs.List.{slice_split}
+use Rattle.std.specs.Fn.{CalledAt}
+use Rattle.std.specs.Iterator.{Yields}
+use Rattle.std.specs.Iterator.Adapters.{enumerate_source, enumerate_count, enumerate_steps}
+use Rattle.std.specs.List.{enumerate_from}
+use Rattle.std.specs.Slice.Iter.{split_rest, split_done, split_callee, split_steps}
 use Rattle.wasmi_operands.specs.Words.{words_in}
+use Rattle.wasmi_grammar.specs.declared.script.ScriptBuilder.{ScriptBuilder}
 use Rattle.wasmi_grammar.specs.Lines.{TakesLine, TakesLines, AreTaken, lines_in}
+use Rattle.wasmi_grammar.specs.Refusals.{IsBadLine, IsFirstBadLine}
 use Rattle.wasmi_grammar.proofs.TextsLemmas.{retell}
 use Rattle.wasmi_grammar.proofs.ScriptLemmas.{one_more, without_numbers, stops_at, added_count}
 use Rattle.wasmi_grammar.proofs.script.parse.Goals as goal
@@ -18,6 +26,30 @@ line_of item = item.1.now
 -- the same line, with its number
 abbrev numbered : ℕ × Bor (List ℕ) → ℕ × List ℕ
 numbered item = (item.0, item.1.now)
+
+-- a text that is split at line feeds yields its lines, with their numbers
+lines_yielded : {F : Type 0} {g : Mut F (Bor ℕ × Unit {0}) Bool} {f : F} {split items iterator : _} (text : List ℕ)
+    → iterator ≡ items → enumerate_source items ≡ split → enumerate_count items ≡ 0
+    → split_rest split ≡ text → split_done split ≡ false → split_callee split ≡ f
+    → ((x : ℕ) (b : Bool) (q : F) → CalledAt g f x b q → (q ≡ f) × (b ≡ (x == 10)))
+    → YieldsList (enumerate_steps (split_steps g)) numbered iterator (enumerate_from 0 (lines_in text))
+unfolding lines_in
+lines_yielded {g = g} text gives source count rest done closure tests =
+    YieldsList-at gives (YieldsList-from_enumerate
+    (YieldsList-at source (YieldsList-from_slice_split g (λ byte. byte == 10) text rest done closure tests)) count)
+
+-- the line that is yielded next is the first bad one, where those before it are taken and it adds nothing to them
+next_is_bad : {S : Type 0} {steps : S → Option (ℕ × Bor (List ℕ)) → S → Type 0} {start here after : S}
+    (text : List ℕ) (yielded : List (ℕ × Bor (List ℕ))) (next : Option (ℕ × Bor (List ℕ))) (item : ℕ × Bor (List ℕ))
+    (builder : ScriptBuilder)
+    → YieldsList steps numbered start (enumerate_from 0 (lines_in text)) → Yields steps start yielded here
+    → next ≡ Some item → steps here next after → AreTaken (map line_of yielded) builder
+    → IsBadLine builder (line_of item) → IsFirstBadLine text (item.0 + 1)
+next_is_bad text yielded next item builder lines yields is step taken bad =
+    let texts = sym (map-map (λ p. p.1) numbered yielded) in
+    stops_at text (length yielded) (map numbered yielded) (numbered item) builder
+    (subst (λ lines. AreTaken lines builder) texts taken) (length-map yielded numbered)
+    (YieldsList-so_far lines yielded _ yields) (YieldsList-turn lines yielded _ yields next _ item is step) bad
 
 pub loop-index-init : goal.loop-index-init
 loop-index-init c = (
@@ -53,21 +85,16 @@ loop-index-preserved c =
     )
 
 pub returns-clause-script : goal.returns-clause-script
-unfolding lines_in
 returns-clause-script c =
     let (count, taken) = c.loop-index.invariant in
     let split = c.split.ensures in
-    let all = YieldsList-end
-    (YieldsList-at c.into_iter-index-iterator.ensures.into_iter_gives
-    (YieldsList-from_enumerate
-    (YieldsList-at c.enumerate-index-items.ensures.source
-    (YieldsList-from_slice_split _ (λ byte. byte == 10) c.args.bytes.now split.rest split.done split.closure
-    (λ x b q k. search (rules, tests))))
-    c.enumerate-index-items.ensures.count))
+    let all = YieldsList-end (lines_yielded c.args.bytes.now c.into_iter-index-iterator.ensures.into_iter_gives
+    c.enumerate-index-items.ensures.source c.enumerate-index-items.ensures.count split.rest split.done split.closure
+    (λ x b q k. search (rules, tests)))
     c.loop-index.yielded _ c.loop-index.yielded_by _ _ c.in-None.is c.next.ensures.steps in
     let line : ℕ × List ℕ → List ℕ = λ p. p.1 in
     let whole = sym (map-map line numbered c.loop-index.yielded) ∙ ap (map line) all.0
-    ∙ without_numbers 0 (slice_split (λ byte. byte == 10) c.args.bytes.now) in
+    ∙ without_numbers 0 (lines_in c.args.bytes.now) in
     record {
       builder = c.loop-index.builder;
       taken = subst (λ lines. AreTaken lines c.loop-index.builder) whole taken;
@@ -75,56 +102,25 @@ returns-clause-script c =
     }
 
 pub returns-in_default-clause-refused : goal.returns-in_default-clause-refused
-unfolding lines_in
 returns-in_default-clause-refused c =
-    let (count, taken) = c.loop-index.invariant in
-    let yielded = c.loop-index.yielded in
     let split = c.split.ensures in
-    let item : ℕ × Bor (List ℕ) = (c.in-Some.index, c.in-Some.bytes) in
-    let here = YieldsList-turn (YieldsList-at c.into_iter-index-iterator.ensures.into_iter_gives
-    (YieldsList-from_enumerate
-    (YieldsList-at c.enumerate-index-items.ensures.source
-    (YieldsList-from_slice_split _ (λ byte. byte == 10) c.args.bytes.now split.rest split.done split.closure
-    (λ x b q k. search (rules, tests))))
-    c.enumerate-index-items.ensures.count)) yielded _ c.loop-index.yielded_by _ _ item c.in-Some.is c.next.ensures.steps
-    in
-    let before = YieldsList-so_far (YieldsList-at c.into_iter-index-iterator.ensures.into_iter_gives
-    (YieldsList-from_enumerate
-    (YieldsList-at c.enumerate-index-items.ensures.source
-    (YieldsList-from_slice_split _ (λ byte. byte == 10) c.args.bytes.now split.rest split.done split.closure
-    (λ x b q k. search (rules, tests))))
-    c.enumerate-index-items.ensures.count)) yielded _ c.loop-index.yielded_by in
-    let texts = sym (map-map (λ p. p.1) numbered yielded) in
-    stops_at c.args.bytes.now (length yielded) (map numbered yielded) (numbered item) c.loop-index.builder
-    (subst (λ lines. AreTaken lines c.loop-index.builder) texts taken) (length-map yielded numbered) before here
-    (λ new takes. c.in_default.ensures.cases.0 takes.0)
+    next_is_bad c.args.bytes.now c.loop-index.yielded _ (c.in-Some.index, c.in-Some.bytes) c.loop-index.builder
+    (lines_yielded c.args.bytes.now c.into_iter-index-iterator.ensures.into_iter_gives
+    c.enumerate-index-items.ensures.source c.enumerate-index-items.ensures.count split.rest split.done split.closure
+    (λ x b q k. search (rules, tests))) c.loop-index.yielded_by c.in-Some.is c.next.ensures.steps
+    c.loop-index.invariant.1 (λ new takes. c.in_default.ensures.cases.0 takes.0)
 
 pub returns-in-Err-BadCommand-clause-refused : goal.returns-in-Err-BadCommand-clause-refused
-unfolding lines_in
 returns-in-Err-BadCommand-clause-refused c =
-    let (count, taken) = c.loop-index.invariant in
-    let yielded = c.loop-index.yielded in
     let split = c.split.ensures in
-    let item : ℕ × Bor (List ℕ) = (c.in-Some.index, c.in-Some.bytes) in
     let words = c.as_slice.result.now in
     let same : map (λ word. word.now) words ≡ words_in c.in-Some.bytes.now =
     ap (map (λ word. word.now)) c.as_slice.ensures.value ∙ c.in_ok-read_words.ensures
     ∙ ap words_in c.in-Ok.ensures.cases.0 in
-    let here = YieldsList-turn (YieldsList-at c.into_iter-index-iterator.ensures.into_iter_gives
-    (YieldsList-from_enumerate
-    (YieldsList-at c.enumerate-index-items.ensures.source
-    (YieldsList-from_slice_split _ (λ byte. byte == 10) c.args.bytes.now split.rest split.done split.closure
-    (λ x b q k. search (rules, tests))))
-    c.enumerate-index-items.ensures.count)) yielded _ c.loop-index.yielded_by _ _ item c.in-Some.is c.next.ensures.steps
-    in
-    let before = YieldsList-so_far (YieldsList-at c.into_iter-index-iterator.ensures.into_iter_gives
-    (YieldsList-from_enumerate
-    (YieldsList-at c.enumerate-index-items.ensures.source
-    (YieldsList-from_slice_split _ (λ byte. byte == 10) c.args.bytes.now split.rest split.done split.closure
-    (λ x b q k. search (rules, tests))))
-    c.enumerate-index-items.ensures.count)) yielded _ c.loop-index.yielded_by in
-    let texts = sym (map-map (λ p. p.1) numbered yielded) in
-    stops_at c.args.bytes.now (length yielded) (map numbered yielded) (numbered item) c.loop-index.builder
-    (subst (λ lines. AreTaken lines c.loop-index.builder) texts taken) (length-map yielded numbered) before here
+    next_is_bad c.args.bytes.now c.loop-index.yielded _ (c.in-Some.index, c.in-Some.bytes) c.loop-index.builder
+    (lines_yielded c.args.bytes.now c.into_iter-index-iterator.ensures.into_iter_gives
+    c.enumerate-index-items.ensures.source c.enumerate-index-items.ensures.count split.rest split.done split.closure
+    (λ x b q k. search (rules, tests))) c.loop-index.yielded_by c.in-Some.is c.next.ensures.steps
+    c.loop-index.invariant.1
     (λ new takes. c.in-Err-BadCommand.ensures.refused c.in-Err-BadCommand.field-0-is new
     (retell takes.1 words (takes.2 ∙ sym same) c.loop-index.builder new takes.3))

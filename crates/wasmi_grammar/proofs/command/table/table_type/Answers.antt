@@ -1,18 +1,15 @@
 use Rattle.std.proofs.Common.{rules}
 use Rattle.wasmi_operands.proofs.AcceptanceLemmas.{accepts_same}
-use Rattle.wasmi_grammar.proofs.TableWordsLemmas.{WrittenLimits, names_of, limits_of}
+use Rattle.wasmi_grammar.proofs.LimitWordsLemmas.{limits_written}
+use Rattle.wasmi_grammar.proofs.TableWordsLemmas.{WrittenTableType, names_of, limits_of}
 use Rattle.wasmi_grammar.proofs.command.table.table_type.Goals as goal
 
 pub returns : goal.returns
 returns c =
-    let written : WrittenLimits c.args.element.now c.args.min.now c.args.max.now c.args.width.now = record {
+    let written : WrittenTableType c.args.element.now c.args.min.now c.args.max.now c.args.width.now = record {
       element_type = c.in_ok-element.element;
       writes_element = c.in_ok-element.ensures;
-      minimum = c.in_ok-minimum.minimum;
-      writes_minimum = search rules;
-      maximum = c.in_ok-maximum.maximum;
-      writes_maximum = c.in_ok-maximum.ensures;
-      index = c.in_ok-index.index;
-      writes_index = c.in_ok-index.ensures;
+      limits = limits_written c.in_ok-index.index c.in_ok-minimum.minimum c.in_ok-maximum.maximum (search rules)
+          c.in_ok-maximum.ensures c.in_ok-index.ensures;
     } in
     accepts_same c.type_of.result _ _ (names_of _ _ _ _ written) (limits_of _ _ _ _ written) c.type_of.ensures

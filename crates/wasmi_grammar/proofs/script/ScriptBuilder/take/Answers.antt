@@ -5,16 +5,13 @@ use Rattle.wasmi_grammar.proofs.LinesLemmas.{refused_as}
 use Rattle.wasmi_grammar.proofs.script.ScriptBuilder.take.Goals as goal
 
 pub returns-in-Meter-clause-refused : goal.returns-in-Meter-clause-refused
-returns-in-Meter-clause-refused c =
-    refused_as c.args.self.now c.args.line _ c.take_meter.result c.in-Meter.is c.take_meter.ensures.refused
+returns-in-Meter-clause-refused c = refused_as _ _ _ _ c.in-Meter.is c.take_meter.ensures.refused
 
 pub returns-in-Limiter-clause-refused : goal.returns-in-Limiter-clause-refused
-returns-in-Limiter-clause-refused c =
-    refused_as c.args.self.now c.args.line _ c.take_limiter.result c.in-Limiter.is c.take_limiter.ensures.refused
+returns-in-Limiter-clause-refused c = refused_as _ _ _ _ c.in-Limiter.is c.take_limiter.ensures.refused
 
 pub returns-in-Region-clause-refused : goal.returns-in-Region-clause-refused
-returns-in-Region-clause-refused c =
-    refused_as c.args.self.now c.args.line _ c.take_region.result c.in-Region.is c.take_region.ensures.refused
+returns-in-Region-clause-refused c = refused_as _ _ _ _ c.in-Region.is c.take_region.ensures.refused
 
 pub returns-in-As-clause-refused : goal.returns-in-As-clause-refused
 returns-in-As-clause-refused c =
