@@ -21,8 +21,7 @@ entry_of_found (row ∷ rows) name =
 pub returns : goal.returns
 returns g c =
     let name = c.args.name.now in
-    let found : option_map (λ row. row.now) c.find-row.result ≡ find (λ row. bytes_eq row.0.now name) c.args.table.now =
-    find_from_yields_List (λ row. bytes_eq row.0.now name) _ _ c.find-row.result c.find-row.ensures.ran
+    let found = find_from_yields_List (λ row. bytes_eq row.0.now name) _ _ c.find-row.result c.find-row.ensures.ran
     (YieldsList-from_slice _ c.iter.ensures.rest) (λ x b q k. search (rules, tests)) in
     let is : c.map.result ≡ option_map (λ row. row.1) (option_map (λ row. row.now) c.find-row.result) =
     search (rules, tests) in
