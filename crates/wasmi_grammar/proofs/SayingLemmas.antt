@@ -307,7 +307,8 @@ module _ (words : Words) where
   quota_named = OtherLimiter (Quota (record { bytes = number 0; elements = number 1 }))
 
   abbrev tenants_named : LimiterSaid
-  tenants_named = OtherLimiter (Tenants (record { count = number 0; caps = record { bytes = number 1; elements = number 2 } }))
+  tenants_named =
+      OtherLimiter (Tenants (record { count = number 0; caps = record { bytes = number 1; elements = number 2 } }))
 
   abbrev region_named : RegionLine
   region_named = record { len = number 0; byte = number 1 }
