@@ -11,14 +11,12 @@ totals-held-requires c =
 
 pub overflow_add-all : goal.overflow_add-all
 overflow_add-all c =
-    let fits = total_so_far _ c.args.self.now c.self.view_is c.self.invariant c.loop-machine.machine-index
-    c.machine-item.result (search (rules, slice_get_read)) Bytes _ _ c.loop-machine.invariant.bytes
-    (ap (λ (held : Amounts). held.bytes) c.totals-held.ensures) in
+    let fits = total_so_far _ _ c.self.view_is c.self.invariant _ c.machine-item.result (search (rules, slice_get_read))
+    Bytes _ _ c.loop-machine.invariant.bytes (ap (λ (held : Amounts). held.bytes) c.totals-held.ensures) in
     omega (arith, fits)
 
 pub overflow_add-all-in-loop-machine : goal.overflow_add-all-in-loop-machine
 overflow_add-all-in-loop-machine c =
-    let fits = total_so_far _ c.args.self.now c.self.view_is c.self.invariant c.loop-machine.machine-index
-    c.machine-item.result (search (rules, slice_get_read)) Elements _ _ c.loop-machine.invariant.elements
-    (ap (λ (held : Amounts). held.elements) c.totals-held.ensures) in
+    let fits = total_so_far _ _ c.self.view_is c.self.invariant _ c.machine-item.result (search (rules, slice_get_read))
+    Elements _ _ c.loop-machine.invariant.elements (ap (λ (held : Amounts). held.elements) c.totals-held.ensures) in
     omega (arith, fits)
