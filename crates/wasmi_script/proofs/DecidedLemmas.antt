@@ -7,6 +7,7 @@ use Rattle.std.specs.Option.{option_map, option_map_or}
 use Rattle.std.proofs.lemmas.List.{map-append}
 use Rattle.std.proofs.lemmas.List.Elements.{All-head, All-tail, All-cons, All-nil}
 use Rattle.wasmi_meter.specs.declared.quota.Quota as quotas
+use Rattle.wasmi_meter.specs.Attempt.{MeteredValue}
 use Rattle.wasmi_meter.specs.Limiter.{Rules, unlimited_rules, optional_rules}
 use Rattle.wasmi_meter.specs.Quota.{holdings, quota_rules}
 use Rattle.wasmi_core.specs.declared.calls.Call.{Call}
@@ -15,6 +16,7 @@ use Rattle.wasmi_core.specs.declared.calls.Reply.{Reply}
 use Rattle.wasmi_core.specs.declared.calls.Reply.TheVariants.{Made}
 use Rattle.wasmi_core.specs.State.{State, new_state}
 use Rattle.wasmi_core.specs.World.{World, Turn}
+use Rattle.wasmi_core.specs.Effects.{ActsMetered}
 use Rattle.wasmi_core.specs.Steps.{Effect, Told, BytesRead, FuelSet, Changed, MemoryMade, LentMemoryMade, MemoryGrown}
 use Rattle.wasmi_core.specs.Steps.{TableMade}
 use Rattle.wasmi_core.specs.Steps.{TableGrown, PartWritten, effect_of, TakesEffect, Step}
@@ -132,6 +134,17 @@ module _ {S : Type 0} (rules : Rules S) where
   abbrev by_call : Turn → Call → Turn
   by_call turn other = record { call = other; reply = turn.reply; charge = turn.charge; written = turn.written }
 
+  -- a turn that acts on one part of the state under the limiter, with a charge, does so by any other call too
+  acts_again : {A : Type 0} {old : A} {with_part : A → State}
+      {Acts : MeteredValue A S → Reply → ℕ → MeteredValue A S → Type 0} {bytes : Reply → ℕ}
+      (w : World S) (turn : Turn) (w' : World S) (other : Call) → ActsMetered w turn w' old with_part Acts bytes
+      → ActsMetered w (by_call turn other) w' old with_part Acts bytes
+  acts_again w turn w' other a =
+      record {
+        part = a.part; meter = a.meter; limiter = a.limiter;
+        effect = a.effect; wrote = a.wrote; after = a.after;
+      }
+
   -- a turn that takes an effect takes it by any other call too
   retold_effect : (w : World S) (turn : Turn) (w' : World S) (other : Call) (effect : Effect)
       → TakesEffect rules effect w turn w' → TakesEffect rules effect w (by_call turn other) w'
@@ -149,24 +162,8 @@ module _ {S : Type 0} (rules : Rules S) where
       record { free = step.free; part = step.part; limiter = step.limiter; effect = step.effect; after = step.after }
   retold_effect w turn w' other (TableMade ty init) step =
       record { free = step.free; part = step.part; limiter = step.limiter; effect = step.effect; after = step.after }
-  retold_effect w turn w' other (MemoryGrown k pages) step =
-      record {
-        part = step.part;
-        meter = step.meter;
-        limiter = step.limiter;
-        effect = step.effect;
-        wrote = step.wrote;
-        after = step.after;
-      }
-  retold_effect w turn w' other (TableGrown k n init) step =
-      record {
-        part = step.part;
-        meter = step.meter;
-        limiter = step.limiter;
-        effect = step.effect;
-        wrote = step.wrote;
-        after = step.after;
-      }
+  retold_effect w turn w' other (MemoryGrown k pages) step = acts_again w turn w' other step
+  retold_effect w turn w' other (TableGrown k n init) step = acts_again w turn w' other step
   retold_effect w turn w' other (PartWritten k source dst len) step =
       record { part = step.part; meter = step.meter; effect = step.effect; wrote = step.wrote; after = step.after }
 

@@ -1,24 +1,14 @@
 -- No text that is printed at once is long.
 use Rattle.std.proofs.Common.{ℕ, zero, suc, ◌+◌, ◌<◌, ◌≤◌, ◌/◌, ◌%◌, ◌==◌, ◌≡◌, ◌++◌, ◌∷◌, List, [], Bool, true, false, length, length-append, codes, None, Some, if◌then◌else◌, lit≤, lit<, arith, refl}
 use Rattle.std.specs.Fmt.{decimal, digits, digits_onto, digit_glyph}
-use Rattle.wasmi_types.specs.declared.trap.TrapCode.{TrapCode}
 use Rattle.wasmi_types.specs.declared.trap.TrapCode.TheVariants as trap
-use Rattle.wasmi_types.specs.Trap.{code_message}
 use Rattle.wasmi_types.specs.declared.value.RefType.{RefType}
 use Rattle.wasmi_types.specs.declared.value.RefType.TheVariants.{Func, Extern}
-use Rattle.wasmi_meter.specs.declared.error.MemoryError.{MemoryError}
 use Rattle.wasmi_meter.specs.declared.error.MemoryError.TheVariants as memory
-use Rattle.wasmi_meter.specs.declared.error.TableError.{TableError}
 use Rattle.wasmi_meter.specs.declared.error.TableError.TheVariants as table
-use Rattle.wasmi_meter.specs.declared.fuel.FuelError.{FuelError}
 use Rattle.wasmi_meter.specs.declared.fuel.FuelError.TheVariants as fuel
-use Rattle.wasmi_meter.specs.Texts.{fuel_error_text, memory_error_text, table_error_text}
-use Rattle.wasmi_typed.specs.declared.global.GlobalError.{GlobalError}
 use Rattle.wasmi_typed.specs.declared.global.GlobalError.TheVariants.{ImmutableWrite, TypeMismatch}
-use Rattle.wasmi_typed.specs.GlobalError.{global_error_text}
-use Rattle.wasmi_store.specs.declared.table.element.SegmentError.{SegmentError}
 use Rattle.wasmi_store.specs.declared.table.element.SegmentError.TheVariants as segment
-use Rattle.wasmi_store.specs.SegmentError.{segment_error_text}
 use Rattle.wasmi_core.specs.declared.calls.Call.{Call}
 use Rattle.wasmi_core.specs.declared.calls.Call.TheVariants.{GetFuel}
 use Rattle.wasmi_core.specs.declared.calls.Reply.{Reply}
@@ -52,48 +42,18 @@ kind_short : (call : Call) → length (kind_text call) ≤ 7
 kind_short GetFuel = lit≤ tt
 kind_short call = lit≤ tt
 
--- the texts of errors
+-- a text of at most 100 bytes with a number after it has at most 164
 numbered : (text : List ℕ) (n : ℕ) → length text ≤ 100 → length (text ++ decimal n) ≤ 164
 numbered text n short = omega (arith, length-append text (decimal n), decimal_short n, short)
-
--- a memory error's text has at most 164 bytes
-memory_short : (error : MemoryError) → length (memory_error_text error) ≤ 164
-memory_short (memory.OutOfFuel required) = numbered (codes "not enough fuel. required=") required (lit≤ tt)
-memory_short error = lit≤ tt
-
--- a table error's text has at most 164 bytes
-table_short : (error : TableError) → length (table_error_text error) ≤ 164
-table_short (table.OutOfFuel required) = numbered (codes "not enough fuel: required=") required (lit≤ tt)
-table_short error = lit≤ tt
-
--- a fuel error's text has at most 164 bytes
-fuel_short : (error : FuelError) → length (fuel_error_text error) ≤ 164
-fuel_short fuel.FuelMeteringDisabled = lit≤ tt
-fuel_short (fuel.OutOfFuel required) = numbered (codes "ouf of fuel. required=") required (lit≤ tt)
-
--- a global error's text has at most 164 bytes
-global_short : (error : GlobalError) → length (global_error_text error) ≤ 164
-global_short ImmutableWrite = lit≤ tt
-global_short TypeMismatch = lit≤ tt
-
--- a segment error's text has at most 164 bytes
-segment_short : (error : SegmentError) → length (segment_error_text error) ≤ 164
-segment_short segment.TooManyItems = lit≤ tt
-segment_short segment.OutOfSystemMemory = lit≤ tt
-
--- a trap's text has at most 164 bytes
-trap_short : (code : TrapCode) → length (code_message code) ≤ 164
-trap_short trap.OutOfFuel = lit≤ tt
-trap_short code = lit≤ tt
 
 -- the word of a reference type has at most 6 bytes
 reference_short : (ty : RefType) → length (reference_word ty) ≤ 6
 reference_short Func = lit≤ tt
 reference_short Extern = lit≤ tt
 
--- a text after a word, and numbers after it
-failed : (text : List ℕ) → length text ≤ 164 → length (codes "error " ++ text) < 256
-failed text fits = omega (arith, length-append (codes "error ") text, fits)
+-- the text of an error that tells a number
+failed : (text : List ℕ) (n : ℕ) → length text ≤ 100 → length (codes "error " ++ (text ++ decimal n)) < 256
+failed text n short = omega (arith, length-append (codes "error ") (text ++ decimal n), numbered text n short)
 
 -- a word of at most 40 bytes with a space and a number has at most 105
 one_number : (word : List ℕ) (n : ℕ) → length word ≤ 40 → length (word ++ (codes " " ++ decimal n)) ≤ 105
@@ -153,12 +113,20 @@ reply_short call (Bytes bytes) other = absurd (other bytes refl)
 reply_short call (Reference None) other = lit< tt
 reply_short call (Reference (Some reference)) other =
     omega (arith, one_number (reference_word reference.ty) reference.raw (omega (arith, reference_short reference.ty)))
-reply_short call (Memory error) other = failed (memory_error_text error) (memory_short error)
-reply_short call (Table error) other = failed (table_error_text error) (table_short error)
-reply_short call (Fuel error) other = failed (fuel_error_text error) (fuel_short error)
-reply_short call (Global error) other = failed (global_error_text error) (global_short error)
-reply_short call (Segment error) other = failed (segment_error_text error) (segment_short error)
-reply_short call (Trap code) other = failed (code_message code) (trap_short code)
+reply_short call (Memory (memory.OutOfFuel required)) other =
+    failed (codes "not enough fuel. required=") required (lit≤ tt)
+reply_short call (Memory error) other = lit< tt
+reply_short call (Table (table.OutOfFuel required)) other =
+    failed (codes "not enough fuel: required=") required (lit≤ tt)
+reply_short call (Table error) other = lit< tt
+reply_short call (Fuel fuel.FuelMeteringDisabled) other = lit< tt
+reply_short call (Fuel (fuel.OutOfFuel required)) other = failed (codes "ouf of fuel. required=") required (lit≤ tt)
+reply_short call (Global ImmutableWrite) other = lit< tt
+reply_short call (Global TypeMismatch) other = lit< tt
+reply_short call (Segment segment.TooManyItems) other = lit< tt
+reply_short call (Segment segment.OutOfSystemMemory) other = lit< tt
+reply_short call (Trap trap.OutOfFuel) other = lit< tt
+reply_short call (Trap code) other = lit< tt
 reply_short call NoSuch other = lit< tt
 reply_short call NoRegion other = lit< tt
 reply_short call NoRoom other = lit< tt

@@ -69,15 +69,18 @@ pub tenants_split : (machines : List State) (index : ℕ)
 tenants_split machines index =
     ap tenants_text (sym (take-append-drop index machines)) ∙ tenants_append (take index machines) (drop index machines)
 
+-- the tenant of an index has so many bytes and elements
+pub record IsHeldAt (machines : List State) (index bytes elements : ℕ) : Type 0 where
+  pub bytes_held : option_map (λ s. total s Bytes) (slice_get machines index) ≡ Some bytes
+  pub elements_held : option_map (λ s. total s Elements) (slice_get machines index) ≡ Some elements
+
 -- the line of the tenant of an index comes after those of the tenants before it
-pub one_tenant : (machines : List State) (index bytes elements : ℕ)
-    → option_map (λ s. total s Bytes) (slice_get machines index) ≡ Some bytes
-    → option_map (λ s. total s Elements) (slice_get machines index) ≡ Some elements
+pub one_tenant : (machines : List State) (index bytes elements : ℕ) → IsHeldAt machines index bytes elements
     → tenants_text (take (index + 1) machines)
     ≡ tenants_text (take index machines) ++ line
     (codes "held " ++ (decimal index ++ (codes " " ++ (decimal bytes ++ (codes " " ++ decimal elements)))))
-one_tenant machines index bytes elements is_bytes is_elements =
-    at_place (slice_get machines index) refl is_bytes is_elements where
+one_tenant machines index bytes elements held =
+    at_place (slice_get machines index) refl held.bytes_held held.elements_held where
       at_place : (found : Option State) → slice_get machines index ≡ found
           → option_map (λ s. total s Bytes) found ≡ Some bytes
           → option_map (λ s. total s Elements) found ≡ Some elements
@@ -102,16 +105,14 @@ one_tenant machines index bytes elements is_bytes is_elements =
           (codes "held " ++ (decimal index ++ (codes " " ++ (decimal bytes ++ (codes " " ++ decimal n)))))) is_e
 
 -- the lines of all tenants are those up to a place, the line there and the later ones
-pub tenants_whole : (machines : List State) (index bytes elements : ℕ)
-    → option_map (λ s. total s Bytes) (slice_get machines index) ≡ Some bytes
-    → option_map (λ s. total s Elements) (slice_get machines index) ≡ Some elements
+pub tenants_whole : (machines : List State) (index bytes elements : ℕ) → IsHeldAt machines index bytes elements
     → tenants_text machines
     ≡ tenants_text (take index machines) ++
     (line (codes "held " ++ (decimal index ++ (codes " " ++ (decimal bytes ++ (codes " " ++ decimal elements)))))
     ++ later_tenants machines (index + 1))
-tenants_whole machines index bytes elements is_bytes is_elements =
+tenants_whole machines index bytes elements held =
     tenants_split machines (index + 1)
-    ∙ ap (λ t. t ++ later_tenants machines (index + 1)) (one_tenant machines index bytes elements is_bytes is_elements)
+    ∙ ap (λ t. t ++ later_tenants machines (index + 1)) (one_tenant machines index bytes elements held)
     ∙ append_assoc (tenants_text (take index machines)) _ (later_tenants machines (index + 1))
 
 -- the line of bytes that were read is the text of all of them, and a line feed
@@ -204,14 +205,9 @@ module _ (parts : List TenantRun) (replies rest : List Reply) (i : ℕ) (part : 
 
     -- there are as many replies so far as calls of one part more
     pub count_more : length (calls_in (take (i + 1) parts)) ≡ length (left.before ++ answered)
-    count_more = omega (
-      arith,
-      left.count,
-      answers,
-      ap length calls_more,
-      length-append so_far calls,
-      length-append left.before answered,
-    )
+    count_more =
+        ap length calls_more ∙ length-append so_far calls ∙ (λ j. left.count j + sym answers j)
+        ∙ sym (length-append left.before answered)
 
     -- the text of one part more is that so far and that of the part
     pub text_more : replies_text (calls_in (take (i + 1) parts)) (left.before ++ answered)

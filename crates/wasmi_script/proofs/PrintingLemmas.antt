@@ -1,6 +1,6 @@
 -- Texts that are printed one after the other.
 use Rattle.std.proofs.Common.{◌≡◌, ◌∙◌, ◌+◌, ◌<◌, ℕ, List, [], ◌∷◌, ◌++◌, length, take, drop, get_or, add-one, take-append-drop, drop-cons, None, Some, Result, Ok, Err, IfSome, OnOk, OnErr, refl, sym, ap, append_assoc, append-nil, subst}
-use Rattle.std.specs.Fmt.{WritesInCalls, WritesText, with_newline}
+use Rattle.std.specs.Fmt.{WritesInCalls, WritesText}
 use Rattle.std.proofs.lemmas.Fmt.{contents_after_writes}
 use Rattle.std.specs.List.{flat_map}
 use Rattle.std.proofs.lemmas.List.{take_more}
@@ -10,7 +10,7 @@ use Rattle.std.specs.declared.option.Option.{Option}
 use Rattle.std.specs.Io.KnownBytes.{Appends}
 use Rattle.std.proofs.KnownBytes.{Appends-nil, Appends-trans}
 use Rattle.wasmi_script.specs.declared.printer.Printer.{Printer}
-use Rattle.wasmi_script.specs.Printing.{AppendsFront, Passes, Prints, PrintsFront, PrintsOut, Sends, SendsFront, line}
+use Rattle.wasmi_script.specs.Printing.{AppendsFront, Passes, Prints, PrintsFront, PrintsOut, Sends, SendsFront}
 
 -- no text
 passes_none : (known : Option (List ℕ)) (waiting : List ℕ) → Passes known known waiting waiting []
@@ -142,9 +142,19 @@ module _ {W : Type 0} (contents : W → Option (List ℕ)) where
       }
 
   -- the front of a text whose first part is printed, and its last one in part
-  pub prints_last : (p q r : Printer W) (s t text : List ℕ) → text ≡ s ++ t → Prints contents p q s
+  prints_last : (p q r : Printer W) (s t text : List ℕ) → text ≡ s ++ t → Prints contents p q s
       → PrintsFront contents q r t → PrintsFront contents p r text
   prints_last p q r s t text is = prints_front p q r s t [] text (is ∙ ap (λ l. s ++ l) (sym (append-nil t)))
+
+  -- a text is printed where its last part is
+  pub ok_last : {E : Type 0} (result : Result (Unit {0}) E) (p q r : Printer W) (s t text : List ℕ) → text ≡ s ++ t
+      → Prints contents p q s → OnOk result (Prints contents q r t) → OnOk result (Prints contents p r text)
+  ok_last result p q r s t text is first = ok_weaker result (prints_then p q r s t text is first)
+
+  -- and in part where its last part is printed in part
+  pub err_last : {E : Type 0} (result : Result (Unit {0}) E) (p q r : Printer W) (s t text : List ℕ) → text ≡ s ++ t
+      → Prints contents p q s → OnErr result (PrintsFront contents q r t) → OnErr result (PrintsFront contents p r text)
+  err_last result p q r s t text is first = err_weaker result (prints_last p q r s t text is first)
 
   -- a text that is printed, and then what waits
   pub prints_out : (p q r : Printer W) (text : List ℕ) → Prints contents p q text → Sends contents q r
@@ -168,24 +178,18 @@ module _ {W : Type 0} (contents : W → Option (List ℕ)) where
             (sym same) (passes_waits _ _ _ text is);
       }
 
-  -- a text that there is room for
-  pub printed : {E : Type 0} (r : Result (Unit {0}) E) (output : Option (List ℕ)) (p q s : Printer W)
-      → Prints contents p q [] → s.writer ≡ q.writer → OnOk r (WritesText Takes q.chunk output s.chunk)
-      → OnOk r (IfSome output (Prints contents p s))
-  printed (Ok x) None p q s room same writes = tt
-  printed (Ok x) (Some bytes) p q s room same writes =
-      prints_then p q s [] bytes bytes refl room (waits q s bytes same (taken q.chunk s.chunk bytes writes))
-  printed (Err e) output p q s room same writes = tt
-
-  -- and a line
-  pub printed_line : {E : Type 0} (r : Result (Unit {0}) E) (output : Option (List ℕ)) (p q s : Printer W)
-      → Prints contents p q [] → s.writer ≡ q.writer → OnOk r (WritesText Takes q.chunk (with_newline output) s.chunk)
-      → OnOk r (IfSome output (λ bytes. Prints contents p s (line bytes)))
-  printed_line (Ok x) None p q s room same writes = tt
-  printed_line (Ok x) (Some bytes) p q s room same writes =
-      prints_then p q s [] (line bytes) (line bytes) refl room
-      (waits q s (line bytes) same (taken q.chunk s.chunk (line bytes) writes))
-  printed_line (Err e) output p q s room same writes = tt
+  -- a text that there is room for, as it is or as it is written
+  pub printed : {E : Type 0} (r : Result (Unit {0}) E) (output written : Option (List ℕ)) (p q s : Printer W)
+      (text : List ℕ → List ℕ)
+      → ((bytes : List ℕ) → output ≡ Some bytes → written ≡ Some (text bytes))
+      → Prints contents p q [] → s.writer ≡ q.writer → OnOk r (WritesText Takes q.chunk written s.chunk)
+      → OnOk r (IfSome output (λ bytes. Prints contents p s (text bytes)))
+  printed (Ok x) None written p q s text as_written room same writes = tt
+  printed (Ok x) (Some bytes) written p q s text as_written room same writes =
+      let known = subst (λ o. WritesText Takes q.chunk o s.chunk) (as_written bytes refl) writes in
+      prints_then p q s [] (text bytes) (text bytes) refl room
+      (waits q s (text bytes) same (taken q.chunk s.chunk (text bytes) known))
+  printed (Err e) output written p q s text as_written room same writes = tt
 
   -- a text for which there is no room, or that can't be made
   pub no_room : {E : Type 0} (r : Result (Unit {0}) E) (output : Option (List ℕ)) (p q : Printer W)

@@ -62,12 +62,7 @@ impl LimiterByKind for AnswerList<'_> {
 
     ghost kind_rules = { answer_rules };
 
-    fn growing(
-        &mut self,
-        _kind: Kind,
-        _current: usize,
-        _desired: usize,
-    ) -> Result<bool, LimiterError> {
+    fn growing(&mut self, _: Kind, _: usize, _: usize) -> Result<bool, LimiterError> {
         self.answer()
     }
 

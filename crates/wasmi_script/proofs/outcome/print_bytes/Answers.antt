@@ -4,7 +4,7 @@ use Rattle.wasmi_script.specs.Printing.{line}
 use Rattle.wasmi_script.specs.Texts.{bytes_text}
 use Rattle.wasmi_script.proofs.LengthLemmas.{byte_short}
 use Rattle.wasmi_script.proofs.OutcomesLemmas.{bytes_whole}
-use Rattle.wasmi_script.proofs.PrintingLemmas.{always_err, ok_weaker, err_weaker, prints_then, prints_first, prints_front, prints_last, texts_more, texts_at}
+use Rattle.wasmi_script.proofs.PrintingLemmas.{always_err, ok_last, err_last, prints_then, prints_first, prints_front, texts_more, texts_at}
 use Rattle.wasmi_script.proofs.outcome.print_bytes.Goals as goal
 
 abbrev byte_text : ℕ → List ℕ
@@ -44,15 +44,13 @@ loop-byte-preserved g c =
 
 pub returns-clause-ok : goal.returns-clause-ok
 returns-clause-ok g c =
-    let whole = bytes_whole c.args.bytes.now c.loop-byte.byte-index c.loop-byte-test.false in
-    ok_weaker c.print-2.result
-    (prints_then g.W.Write.contents _ _ _ _ _ _ whole c.loop-byte.invariant) c.print-2.ensures.ok
+    ok_last g.W.Write.contents c.print-2.result _ _ _ _ _ _ (bytes_whole _ _ c.loop-byte-test.false)
+    c.loop-byte.invariant c.print-2.ensures.ok
 
 pub returns-clause-front : goal.returns-clause-front
 returns-clause-front g c =
-    let whole = bytes_whole c.args.bytes.now c.loop-byte.byte-index c.loop-byte-test.false in
-    err_weaker c.print-2.result
-    (prints_last g.W.Write.contents _ _ _ _ _ _ whole c.loop-byte.invariant) c.print-2.ensures.front
+    err_last g.W.Write.contents c.print-2.result _ _ _ _ _ _ (bytes_whole _ _ c.loop-byte-test.false)
+    c.loop-byte.invariant c.print-2.ensures.front
 
 pub print-requires-in-loop-byte : goal.print-requires-in-loop-byte
 print-requires-in-loop-byte g c = byte_short _

@@ -1,4 +1,4 @@
-use Rattle.wasmi_script.proofs.PrintingLemmas.{always_err, ok_weaker, err_weaker, prints_then, prints_first, prints_last}
+use Rattle.wasmi_script.proofs.PrintingLemmas.{always_err, ok_last, err_last, prints_first}
 use Rattle.wasmi_script.proofs.OutcomesLemmas.{outcome_split}
 use Rattle.wasmi_script.proofs.outcome.print_replayed.Goals as goal
 
@@ -10,12 +10,12 @@ returns-in_err-print_script-clause-front g c =
 
 pub returns-clause-ok : goal.returns-clause-ok
 returns-clause-ok g c =
-    ok_weaker c.print_held.result
-    (prints_then g.W.Write.contents _ _ _ _ _ _ (outcome_split c.args.replayed.now _ c.as_slice.ensures.value)
-    c.in_ok-print_script.ensures.ok) c.print_held.ensures.ok
+    ok_last g.W.Write.contents c.print_held.result _ _ _ _ _ _
+    (outcome_split c.args.replayed.now _ c.as_slice.ensures.value) c.in_ok-print_script.ensures.ok
+    c.print_held.ensures.ok
 
 pub returns-clause-front : goal.returns-clause-front
 returns-clause-front g c =
-    err_weaker c.print_held.result
-    (prints_last g.W.Write.contents _ _ _ _ _ _ (outcome_split c.args.replayed.now _ c.as_slice.ensures.value)
-    c.in_ok-print_script.ensures.ok) c.print_held.ensures.front
+    err_last g.W.Write.contents c.print_held.result _ _ _ _ _ _
+    (outcome_split c.args.replayed.now _ c.as_slice.ensures.value) c.in_ok-print_script.ensures.ok
+    c.print_held.ensures.front

@@ -1,12 +1,17 @@
-use Rattle.std.proofs.Common.{◌≡◌, ℕ, List, [], ◌++◌, rules, take, drop, sym, ap, ◌∙◌, subst, append_assoc, append-nil, take-append-drop, drop_of_length-le}
+use Rattle.std.proofs.Common.{Option, ◌≡◌, ℕ, List, [], ◌++◌, rules, take, drop, sym, ap, ◌∙◌, subst, append_assoc, append-nil, take-append-drop, drop_of_length-le}
 use Rattle.std.proofs.lemmas.List.{take_rest}
 use Rattle.std.specs.Io.KnownBytes.{Appends}
 use Rattle.std.proofs.KnownBytes.{Appends-nil, Appends-trans, Appends-kept}
 use Rattle.wasmi_script.proofs.printer.send_all.Goals as goal
 
-moves_front : (all front rest : List ℕ) (n : ℕ) → all ≡ front ++ rest → all ≡ (front ++ take n rest) ++ drop n rest
-moves_front all front rest n e =
-    e ∙ ap (λ l. front ++ l) (sym (take-append-drop n rest)) ∙ sym (append_assoc front (take n rest) (drop n rest))
+-- what is gone from a text and so many bytes of what is left are its front, once these are appended too
+takes_front : (known before after : Option (List ℕ)) (all front rest : List ℕ) (n : ℕ) → all ≡ front ++ rest
+    → Appends known before front → Appends before after (take n rest)
+    → (all ≡ (front ++ take n rest) ++ drop n rest) × Appends known after (front ++ take n rest)
+takes_front known before after all front rest n split appended more = (
+  split ∙ ap (λ l. front ++ l) (sym (take-append-drop n rest)) ∙ sym (append_assoc front (take n rest) (drop n rest)),
+  Appends-trans known before after front (take n rest) appended more,
+)
 
 pub loop-rest-init : goal.loop-rest-init
 loop-rest-init g c = ([], search rules, Appends-nil _)
@@ -15,22 +20,16 @@ pub loop-rest-preserved : goal.loop-rest-preserved
 loop-rest-preserved g c =
     let (front, split, appended) = c.loop-rest.invariant in
     let rest = c.loop-rest.rest.now in
-    let n = c.in-Ok.count in (
-      front ++ take n rest,
-      moves_front _ front rest n split ∙ ap (λ l. (front ++ take n rest) ++ l) (sym (take_rest rest n)),
-      Appends-trans _ _ _ _ _ appended c.in-Ok.ensures.bytes,
-    )
+    let n = c.in-Ok.count in
+    let (split', appended') = takes_front _ _ _ _ front rest n split appended c.in-Ok.ensures.bytes in
+    (front ++ take n rest, split' ∙ ap (λ l. (front ++ take n rest) ++ l) (sym (take_rest rest n)), appended')
 
 pub returns-in-Ok-eq0-clause-front : goal.returns-in-Ok-eq0-clause-front
 returns-in-Ok-eq0-clause-front g c =
     let (front, split, appended) = c.loop-rest.invariant in
     let rest = c.loop-rest.rest.now in
-    let n = c.in-Ok-eq0.field-0 in (
-      front ++ take n rest,
-      drop n rest,
-      moves_front _ front rest n split,
-      Appends-trans _ _ _ _ _ appended c.in-Ok-eq0.ensures.bytes,
-    )
+    let gone = takes_front _ _ _ _ front rest c.in-Ok-eq0.field-0 split appended c.in-Ok-eq0.ensures.bytes in
+    (_, _, gone.0, gone.1)
 
 pub returns-in-Err-clause-front : goal.returns-in-Err-clause-front
 returns-in-Err-clause-front g c =
