@@ -1,43 +1,32 @@
 -- What a machine has once it ran under a quota.
-use Rattle.std.proofs.Common.{◌≡◌, ◌≤◌, Some, List, sym, subst, arith}
+use Rattle.std.proofs.Common.{ℕ, ◌≡◌, ◌≤◌, Some, List, sym, subst, arith}
 use Rattle.std.proofs.lemmas.Option.{same_Some}
 use Rattle.wasmi_meter.specs.declared.limiter.Kind.TheVariants.{Bytes, Elements}
-use Rattle.wasmi_meter.specs.declared.quota.Quota.{Quota}
-use Rattle.wasmi_meter.specs.Limiter.{optional_rules}
-use Rattle.wasmi_meter.specs.Quota.{holdings, cap_of, IsWithinCaps, SameCaps, quota_rules}
+use Rattle.wasmi_meter.specs.Meter.{Meter}
+use Rattle.wasmi_meter.specs.Quota.{holdings, IsWithinCaps, SameCaps}
 use Rattle.wasmi_core.specs.declared.calls.Call.{Call}
 use Rattle.wasmi_core.specs.declared.calls.Reply.{Reply}
-use Rattle.wasmi_core.specs.State.{State}
+use Rattle.wasmi_core.specs.State.{State, new_state}
 use Rattle.wasmi_core.specs.World.{world}
-use Rattle.wasmi_core.specs.Runs.{IsRunOf}
 use Rattle.wasmi_core.specs.Totals.{total, HoldsTotals}
 use Rattle.wasmi_core.specs.Laws.{QuotasStayWithin}
+use Rattle.wasmi_uses.specs.Host.{RunsUnderQuota}
 
--- a machine has no more than the caps of a quota
-pub record IsCapped (s : State) (quota : Quota) : Type 0 where
-  pub bytes : total s Bytes ≤ cap_of quota Bytes
-  pub elements : total s Elements ≤ cap_of quota Elements
+-- a machine has no more of either kind
+pub record IsCapped (most_bytes most_elements : ℕ) (s : State) : Type 0 where
+  pub bytes : total s Bytes ≤ most_bytes
+  pub elements : total s Elements ≤ most_elements
 
--- what a quota holds is what the machine has, and is within its caps, which stayed
-held_capped : (s : State) (quota quota' : Quota) → HoldsTotals (holdings quota') s → IsWithinCaps quota'
-    → SameCaps quota quota' → IsCapped s quota
-held_capped s quota quota' held within caps =
+-- a plug-in's machine has no more than the caps of its quota, if the quota holds what the machine has
+pub run_capped : {bytes elements : ℕ} {meter : Meter} {calls : List Call} {replies : List Reply} {s : State}
+    → QuotasStayWithin → (run : RunsUnderQuota bytes elements meter calls replies s) → IsWithinCaps run.quota
+    → HoldsTotals (holdings run.quota') s → IsCapped bytes elements s
+run_capped {meter = meter} {s = s} stays run within held =
+    let after = stays (new_state meter) run.quota within run.ran.0 (world s (Some run.quota')) run.ran.3 in
+    let is : after.0 ≡ run.quota' = sym (same_Some run.quota' after.0 after.1) in
+    let still = subst IsWithinCaps is after.2 in
+    let caps = subst (SameCaps run.quota) is after.3 in
     record {
-      bytes = omega (arith, held.bytes, within Bytes, caps Bytes);
-      elements = omega (
-        arith,
-        held.elements,
-        within Elements,
-        caps Elements,
-      );
+      bytes = omega (arith, held.bytes, still Bytes, caps Bytes, run.bytes_cap);
+      elements = omega (arith, held.elements, still Elements, caps Elements, run.elements_cap);
     }
-
--- so after a run
-pub ran_capped : QuotasStayWithin → (s s' : State) (quota quota' : Quota) (calls : List Call) (replies : List Reply)
-    → IsWithinCaps quota
-    → HoldsTotals (holdings quota') s' → IsRunOf (optional_rules quota_rules) calls (world s (Some quota)) replies
-    (world s' (Some quota')) → IsCapped s' quota
-ran_capped stays s s' quota quota' calls replies within held ran =
-    let after = stays s quota within ran.0 (world s' (Some quota')) ran.3 in
-    let is : after.0 ≡ quota' = sym (same_Some quota' after.0 after.1) in
-    held_capped s' quota quota' held (subst IsWithinCaps is after.2) (subst (SameCaps quota) is after.3)

@@ -1,9 +1,9 @@
-use Rattle.std.proofs.Common.{Some, subst, arith}
+use Rattle.std.proofs.Common.{Some, subst}
 use Rattle.wasmi_meter.specs.Limiter.{optional_rules}
 use Rattle.wasmi_meter.specs.Quota.{quota_rules}
 use Rattle.wasmi_core.specs.World.{world}
 use Rattle.wasmi_core.specs.Runs.{IsRunOf}
-use Rattle.wasmi_uses.proofs.HostLemmas.{ran_capped}
+use Rattle.wasmi_uses.proofs.HostLemmas.{run_capped}
 use Rattle.wasmi_uses.proofs.host.run_plugin.Goals as goal
 
 pub returns-clause-run : goal.returns-clause-run
@@ -19,21 +19,13 @@ returns-clause-run c = record {
 }
 
 pub returns-clause-bytes : goal.returns-clause-bytes
-returns-clause-bytes c = omega (
-  arith,
-  c.new-quota.ensures.bytes,
-  (ran_capped c.quotas_stay_within.ensures c.new-machine.result c.run_reserving.new.machine c.new-quota.result
-      c.run_reserving.new.limiter
-      c.args.calls.now c.in_ok-replies.replies.items c.new-quota.ensures.within c.in_ok-replies.ensures.held
-      c.in_ok-replies.ensures.run).bytes,
-)
+unfolding returns-clause-run
+returns-clause-bytes c =
+    (run_capped c.quotas_stay_within.ensures (returns-clause-run c) c.new-quota.ensures.within
+    c.in_ok-replies.ensures.held).bytes
 
 pub returns-clause-elements : goal.returns-clause-elements
-returns-clause-elements c = omega (
-  arith,
-  c.new-quota.ensures.elements,
-  (ran_capped c.quotas_stay_within.ensures c.new-machine.result c.run_reserving.new.machine c.new-quota.result
-      c.run_reserving.new.limiter
-      c.args.calls.now c.in_ok-replies.replies.items c.new-quota.ensures.within c.in_ok-replies.ensures.held
-      c.in_ok-replies.ensures.run).elements,
-)
+unfolding returns-clause-run
+returns-clause-elements c =
+    (run_capped c.quotas_stay_within.ensures (returns-clause-run c) c.new-quota.ensures.within
+    c.in_ok-replies.ensures.held).elements
