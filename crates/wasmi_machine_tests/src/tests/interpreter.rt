@@ -66,6 +66,20 @@ fn each_instruction_is_charged(rt: HostRuntime) -> Result<(), Fail> {
     Ok(())
 }
 
+/// Moves the address of `CHECKSUM` to the next word.
+const NEXT_WORD: Instruction = Instruction::Add {
+    dst: 0,
+    lhs: 0,
+    rhs: 4,
+};
+
+/// Counts a turn of a loop of `CHECKSUM`.
+const COUNT_DOWN: Instruction = Instruction::Add {
+    dst: 1,
+    lhs: 1,
+    rhs: 5,
+};
+
 /// The sum of 32 words of a memory, byte by byte. The first loop writes to the words the bytes of
 /// their indices, the second adds them up. Local 0 is the address, local 1 counts down, local 2 is
 /// the word, local 3 has the bytes 1, local 4 is 8, local 5 is -1, and local 6 is the sum.
@@ -90,16 +104,8 @@ static CHECKSUM: [Instruction; 17] = [
         lhs: 2,
         rhs: 3,
     },
-    Instruction::Add {
-        dst: 0,
-        lhs: 0,
-        rhs: 4,
-    },
-    Instruction::Add {
-        dst: 1,
-        lhs: 1,
-        rhs: 5,
-    },
+    NEXT_WORD,
+    COUNT_DOWN,
     Instruction::BranchIf {
         condition: 1,
         target: 4,
@@ -116,16 +122,8 @@ static CHECKSUM: [Instruction; 17] = [
         lhs: 6,
         rhs: 2,
     },
-    Instruction::Add {
-        dst: 0,
-        lhs: 0,
-        rhs: 4,
-    },
-    Instruction::Add {
-        dst: 1,
-        lhs: 1,
-        rhs: 5,
-    },
+    NEXT_WORD,
+    COUNT_DOWN,
     Instruction::BranchIf {
         condition: 1,
         target: 11,

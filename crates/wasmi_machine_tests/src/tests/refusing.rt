@@ -80,12 +80,7 @@ impl LimiterByKind for RandomAnswers {
       noticed = λ _ _ _ _. Unit {0};
     } };
 
-    fn growing(
-        &mut self,
-        _kind: Kind,
-        _current: usize,
-        _desired: usize,
-    ) -> Result<bool, LimiterError> {
+    fn growing(&mut self, _: Kind, _: usize, _: usize) -> Result<bool, LimiterError> {
         self.answer()
     }
 

@@ -9,9 +9,10 @@ use std::alloc::AllocGlobal;
 use std::process::Abort;
 use std::test::Fail;
 use wasmi_core::{
-    Kind, LimiterError, Machine, MemoryError, Quota, Reserving, ResourceLimiter, TableError,
+    Kind, LimiterByKind, LimiterError, Machine, MemoryError, Quota, Reserving, TableError,
     run_reserving,
 };
+use wasmi_meter::{Amounts, Holdings};
 
 /// Runs calls under a limiter that holds what the machine has, and compares the replies, and what
 /// both have then.
@@ -84,100 +85,51 @@ fn dropped_tables_are_held(rt: HostRuntime) -> Result<(), Fail> {
 #[derive(Drop)]
 struct Allowance {
     growths: u32,
-    bytes: u64,
-    elements: u64,
-    last: Option<(Kind, u64)>,
+    holdings: Holdings,
 }
 
 const COMPLAINT: LimiterError = LimiterError::ResourceLimiterDeniedAllocation;
 
-impl ResourceLimiter for Allowance {
-    ghost rules = { record {
-      asked = λ a question answer a'. Reserves question answer
-          (record { held = record { bytes = a.bytes; elements = a.elements }; last = a.last })
-          (record { held = record { bytes = a'.bytes; elements = a'.elements }; last = a'.last });
-      noticed = λ a failure notice_answer a'. GivesBack (kind_of failure)
-          (record { held = record { bytes = a.bytes; elements = a.elements }; last = a.last })
-          (record { held = record { bytes = a'.bytes; elements = a'.elements }; last = a'.last });
+impl LimiterByKind for Allowance {
+    ghost kind_rules = { record {
+      asked = λ a question answer a'. Reserves question answer a.holdings a'.holdings;
+      noticed = λ a failure notice_answer a'. GivesBack (kind_of failure) a.holdings a'.holdings;
     } };
 
-    fn memory_growing(
+    fn growing(
         &mut self,
+        kind: Kind,
         current: usize,
         desired: usize,
-        _maximum: Option<usize>,
     ) -> Result<bool, LimiterError> {
-        let difference = (desired - current) as u64;
-        let (Some(growths), Some(bytes)) = (
-            self.growths.checked_sub(1),
-            self.bytes.checked_add(difference),
-        ) else {
+        let Some(growths) = self.growths.checked_sub(1) else {
             return Err(COMPLAINT);
         };
+        if !self
+            .holdings
+            .take(kind, (desired - current) as u64, 0, u64::MAX)
+        {
+            return Err(COMPLAINT);
+        }
         self.growths = growths;
-        self.bytes = bytes;
-        self.last = Some((Kind::Bytes, difference));
         Ok(true)
     }
 
-    fn table_growing(
-        &mut self,
-        current: usize,
-        desired: usize,
-        _maximum: Option<usize>,
-    ) -> Result<bool, LimiterError> {
-        let difference = (desired - current) as u64;
-        let (Some(growths), Some(elements)) = (
-            self.growths.checked_sub(1),
-            self.elements.checked_add(difference),
-        ) else {
-            return Err(COMPLAINT);
-        };
-        self.growths = growths;
-        self.elements = elements;
-        self.last = Some((Kind::Elements, difference));
-        Ok(true)
-    }
-
-    fn memory_grow_failed(&mut self, _error: &MemoryError) -> Result<(), LimiterError> {
-        if let Some((Kind::Bytes, difference)) = self.last {
-            self.bytes = self.bytes.saturating_sub(difference);
-            self.last = None;
-        }
+    fn grow_failed(&mut self, kind: Kind) -> Result<(), LimiterError> {
+        self.holdings.give_back(kind);
         Err(COMPLAINT)
-    }
-
-    fn table_grow_failed(&mut self, _error: &TableError) -> Result<(), LimiterError> {
-        if let Some((Kind::Elements, difference)) = self.last {
-            self.elements = self.elements.saturating_sub(difference);
-            self.last = None;
-        }
-        Err(COMPLAINT)
-    }
-
-    fn instances(&self) -> usize {
-        1
-    }
-
-    fn tables(&self) -> usize {
-        1
-    }
-
-    fn memories(&self) -> usize {
-        1
     }
 }
 
 impl Reserving for Allowance {
-    ghost holdings = { λ a. record
-        { held = record { bytes = a.bytes; elements = a.elements }; last = a.last } };
+    ghost holdings = { λ a. a.holdings };
 
     fn held_bytes(&self) -> u64 {
-        self.bytes
+        self.holdings.held().bytes
     }
 
     fn held_elements(&self) -> u64 {
-        self.elements
+        self.holdings.held().elements
     }
 
     ghost reserves = { λ a a' question answer asked. asked };
@@ -198,9 +150,10 @@ static FOUR_GROWTHS: [Step; 6] = [
 fn another_limiter_reserves(rt: HostRuntime) -> Result<(), Fail> {
     let mut allowance = Allowance {
         growths: 4,
-        bytes: 0,
-        elements: 0,
-        last: None,
+        holdings: Holdings::new(Amounts {
+            bytes: 0,
+            elements: 0,
+        }),
     };
     let mut machine = metered(rt.alloc());
     reserves(&rt, &mut machine, &FOUR_GROWTHS, &mut allowance)?;
