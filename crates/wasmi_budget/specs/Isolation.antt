@@ -1,5 +1,5 @@
 -- Runs in which a tenant is never denied.
-use Rattle.std.specs.Prelude.{◌≡◌, ℕ, nat_eq, if◌then◌else◌, MatchBool, List, [], ◌∷◌}
+use Rattle.std.specs.Prelude.{ℕ, nat_eq, if◌then◌else◌, MatchBool, List, [], ◌∷◌}
 use Rattle.wasmi_meter.specs.Limiter.{optional_rules}
 use Rattle.wasmi_core.specs.Permission.{permitting}
 use Rattle.wasmi_budget.specs.Tenant.{tenant_rules}

@@ -141,8 +141,12 @@ module _ {S : Type 0} (rules : Rules S) where
       → ActsMetered w (by_call turn other) w' old with_part Acts bytes
   acts_again w turn w' other a =
       record {
-        part = a.part; meter = a.meter; limiter = a.limiter;
-        effect = a.effect; wrote = a.wrote; after = a.after;
+        part = a.part;
+        meter = a.meter;
+        limiter = a.limiter;
+        effect = a.effect;
+        wrote = a.wrote;
+        after = a.after;
       }
 
   -- a turn that takes an effect takes it by any other call too

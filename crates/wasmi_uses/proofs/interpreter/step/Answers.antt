@@ -1,4 +1,4 @@
-use Rattle.std.proofs.Common.{◌≡◌, ◌∙◌, Some, true, false, refl, sym, ap}
+use Rattle.std.proofs.Common.{◌≡◌, ◌∙◌, Some, true, false, refl, sym}
 use Rattle.wasmi_core.specs.World.{world}
 use Rattle.wasmi_uses.specs.declared.interpreter.Action.TheVariants.{Calls}
 use Rattle.wasmi_uses.specs.Interpreter.{action_at, continues}
