@@ -1,6 +1,8 @@
 //! What a machine can be asked, and what it replies.
 ghost use Rattle.std.specs.Prelude.{◌≡◌};
 
+use std::fmt;
+use std::fmt::{Debug, Formatter, Write};
 use std::marker::Model;
 use wasmi_lanes::ImmLaneIdx32;
 use wasmi_meter::{FuelError, MemoryError, TableError};
@@ -21,7 +23,7 @@ use wasmi_vector_ops::{
 ///
 /// Replies stand in the order of the tests: the first that applies is the reply. `Memory` and
 /// `Table` carry what the method of `Memory` or `Table` answers.
-#[derive(Debug, Drop)]
+#[derive(Drop)]
 pub enum Call {
     /// Sets the fuel that is left: `Done`, or `Fuel` where metering is off.
     SetFuel(u64),
@@ -264,6 +266,59 @@ pub enum Call {
         ptr: u64,
         offset: u64,
     },
+}
+
+/// Shows the name of the call, without its operands.
+impl Debug for Call {
+    fn fmt<W: Write>(&self, f: &mut Formatter<W>) -> fmt::Result {
+        f.write_str(self.name())
+    }
+}
+
+impl Call {
+    // The name of the variant.
+    fn name(&self) -> &'static str {
+        match self {
+            Call::SetFuel(_) => "SetFuel",
+            Call::GetFuel => "GetFuel",
+            Call::NewMemory(_) => "NewMemory",
+            Call::NewLentMemory(_) => "NewLentMemory",
+            Call::GrowMemory { .. } => "GrowMemory",
+            Call::DropMemory(_) => "DropMemory",
+            Call::Read { .. } => "Read",
+            Call::Write { .. } => "Write",
+            Call::Load { .. } => "Load",
+            Call::Store { .. } => "Store",
+            Call::NewTable { .. } => "NewTable",
+            Call::GrowTable { .. } => "GrowTable",
+            Call::DropTable(_) => "DropTable",
+            Call::GetElement { .. } => "GetElement",
+            Call::SetElement { .. } => "SetElement",
+            Call::InitTable { .. } => "InitTable",
+            Call::CopyTable { .. } => "CopyTable",
+            Call::FillTable { .. } => "FillTable",
+            Call::NewSegment { .. } => "NewSegment",
+            Call::DropItems(_) => "DropItems",
+            Call::NewGlobal { .. } => "NewGlobal",
+            Call::SetGlobal { .. } => "SetGlobal",
+            Call::GetGlobal(_) => "GetGlobal",
+            Call::SetRegister { .. } => "SetRegister",
+            Call::GetRegister(_) => "GetRegister",
+            Call::Make { .. } => "Make",
+            Call::Unary { .. } => "Unary",
+            Call::Binary { .. } => "Binary",
+            Call::Ternary { .. } => "Ternary",
+            Call::Shift { .. } => "Shift",
+            Call::Test { .. } => "Test",
+            Call::Extract { .. } => "Extract",
+            Call::Replace { .. } => "Replace",
+            Call::Shuffle { .. } => "Shuffle",
+            Call::VectorLoad { .. } => "VectorLoad",
+            Call::LoadLane { .. } => "LoadLane",
+            Call::VectorStore { .. } => "VectorStore",
+            Call::StoreLane { .. } => "StoreLane",
+        }
+    }
 }
 
 impl Call {
