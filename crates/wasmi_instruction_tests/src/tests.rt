@@ -22,7 +22,10 @@ fn same<T>(rt: &impl Abort, what: &str, answer: T, expected: T)
 where
     T: PartialEq + Debug + Drop,
 {
-    assert_eq!(rt; answer, expected, "{what}");
+    assert!(rt;
+        answer == expected,
+        "{what}: {answer:?} in place of {expected:?}"
+    );
 }
 
 /// Compares the answers of some calls with what they have to be.

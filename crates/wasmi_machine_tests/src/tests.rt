@@ -28,7 +28,10 @@ use wasmi_core::{
 
 /// Compares an answer with the expected one; `what` says in the message what was compared.
 fn same<T: PartialEq + Debug + Drop>(rt: &impl Abort, what: &str, answer: T, expected: T) {
-    assert_eq!(rt; answer, expected, "{what}");
+    assert!(rt;
+        answer == expected,
+        "{what}: {answer:?} in place of {expected:?}"
+    );
 }
 
 /// A call on a memory, as a table can have it.

@@ -73,7 +73,10 @@ struct Script {
 const METERED: Script = metered! {};
 
 fn same<T: PartialEq + Debug + Drop>(rt: &impl Abort, what: &str, answer: T, expected: T) {
-    assert_eq!(rt; answer, expected, "{what}");
+    assert!(rt;
+        answer == expected,
+        "{what}: {answer:?} in place of {expected:?}"
+    );
 }
 
 fn same_text(rt: &impl Abort, printed: &[u8], expected: &[u8]) {

@@ -56,7 +56,10 @@ use wasmi_types::RefType;
 
 /// Compares an answer with the expected one; `what` says in the message of which call.
 fn same<T: PartialEq + Debug + Drop>(rt: &impl Abort, what: &str, answer: T, expected: T) {
-    assert_eq!(rt; answer, expected, "{what}");
+    assert!(rt;
+        answer == expected,
+        "{what}: {answer:?} in place of {expected:?}"
+    );
 }
 
 /// Compares what a value prints.

@@ -14,7 +14,10 @@ use std::process::Abort;
 
 /// Compares an answer with what it has to be. It is proved here once, and not at each row.
 fn same<T: PartialEq + Debug + Drop>(rt: &impl Abort, what: &str, answer: T, expected: T) {
-    assert_eq!(rt; answer, expected, "{what}");
+    assert!(rt;
+        answer == expected,
+        "{what}: {answer:?} in place of {expected:?}"
+    );
 }
 
 /// Compares the text of a value with what it has to be.

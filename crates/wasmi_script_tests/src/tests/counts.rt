@@ -1,7 +1,7 @@
 //! Scripts of every number of calls: no clause says that memory isn't wanting.
 use super::streams::{Source, Target};
 use super::{same, same_text};
-use std::alloc::{AllocError, Global};
+use std::alloc::Global;
 use std::process::Abort;
 use std::test::Fail;
 use wasmi_script::{Status, replay};
@@ -17,15 +17,6 @@ const HEADERS: [(&str, &str); 4] = [
 // Numbers of calls beside those up to 130.
 const COUNTS: [usize; 8] = [255, 256, 257, 511, 512, 513, 1024, 4097];
 
-// A line so many times.
-fn repeated(alloc: Global, line: &str, count: usize) -> Result<Vec<u8>, AllocError> {
-    let mut text = Vec::new(alloc);
-    for _turn in 0..count {
-        text.extend_from_slice(line.as_bytes())?;
-    }
-    Ok(text)
-}
-
 // A script of a header line and so many calls is answered.
 fn answers_under<R: Abort>(
     rt: &R,
@@ -34,15 +25,15 @@ fn answers_under<R: Abort>(
     count: usize,
 ) -> Result<(), Fail> {
     let (first, last) = header;
-    let mut script = repeated(alloc, first, 1)?;
-    script.append(&mut repeated(alloc, "show 0\n", count)?)?;
-    let mut printed = repeated(alloc, "raw 0 0\n", count)?;
-    printed.append(&mut repeated(alloc, last, 1)?)?;
-    let mut reader = Source::of(script.as_slice());
+    let mut script = String::from_str(alloc, first)?;
+    script.push_str("show 0\n".repeat(alloc, count)?.as_str())?;
+    let mut printed = "raw 0 0\n".repeat(alloc, count)?;
+    printed.push_str(last)?;
+    let mut reader = Source::of(script.as_bytes());
     let mut writer = Target::new(alloc);
     let ended = replay(alloc, &mut reader, &mut writer);
     same(rt, first, ended, Status::Answered);
-    same_text(rt, writer.text(), printed.as_slice());
+    same_text(rt, writer.text(), printed.as_bytes());
     Ok(())
 }
 
