@@ -60,14 +60,14 @@ def lane_rows(suffix, index):
         for sign in ("_s", "_u") if width < 32 else ("",):
             number = f"simd::{lanes}_extract_lane{sign}(x, {lane(count, index(count))})"
             number += "" if sign == "_u" else ".cast_unsigned()"
-            rows.append((f"{lanes}_extract_lane{sign}{suffix}", f"from_words(u64::from({number}), 0)"))
+            rows.append((f"{lanes}_extract_lane{sign}{suffix}", f"from_word_pair(u64::from({number}), 0)"))
     for lanes, width in LANES.items():
         count = 128 // width
         rows.append((f"{lanes}_replace_lane{suffix}", f"simd::{lanes}_replace_lane(x, {lane(count, index(count))}, {item(lanes, 'high')})"))
     return rows
 
 
-FIXED = "from_words(0x0f0f_0f0f_0f0f_0f0f, 0x00ff_00ff_00ff_00ff)"
+FIXED = "from_word_pair(0x0f0f_0f0f_0f0f_0f0f, 0x00ff_00ff_00ff_00ff)"
 
 
 def lanewise():
@@ -79,11 +79,11 @@ def lanewise():
     rows += [(it, f"simd::{it}(x, y)") for it in BINARY.split()]
     rows += [(it, f"simd::{it}(x)") for it in UNARY.split()]
     rows.append(("v128_bitselect_fixed", f"simd::v128_bitselect(x, y, {FIXED})"))
-    rows.append(("v128_bitselect", "simd::v128_bitselect(x, y, from_words(high, low))"))
+    rows.append(("v128_bitselect", "simd::v128_bitselect(x, y, from_word_pair(high, low))"))
     rows += lane_rows("_by_variable", lambda count: f"(low & {count - 1}) as u8")
     bytes_of_y = [f"(({word} >> {8 * i}) & 31) as u8" for word in ("low", "high") for i in range(8)]
     rows.append(("i8x16_shuffle_by_variable", f"simd::i8x16_shuffle(x, y, [{', '.join(lane(32, it) for it in bytes_of_y)}])"))
-    halves = "from_words(low & 0x1f1f_1f1f_1f1f_1f1f, high & 0x1f1f_1f1f_1f1f_1f1f)"
+    halves = "from_word_pair(low & 0x1f1f_1f1f_1f1f_1f1f, high & 0x1f1f_1f1f_1f1f_1f1f)"
     rows.append(("i8x16_swizzle_half_inside", f"simd::i8x16_swizzle(x, {halves})"))
     return rows
 
@@ -92,10 +92,10 @@ def widening():
     """The instructions of the module `simd` of `wasmi_simd`."""
     rows = [(it, f"simd::{it}(x, y)") for it in WIDENING_BINARY.split()]
     rows += [(it, f"simd::{it}(x)") for it in WIDENING_UNARY.split()]
-    rows += [(it, f"simd::{it}(x, y, from_words(high, low))") for it in TERNARY.split()]
+    rows += [(it, f"simd::{it}(x, y, from_word_pair(high, low))") for it in TERNARY.split()]
     rows += [(f"{lanes}_{it}", f"simd::{lanes}_{it}(x, (low & 0xffff_ffff) as u32)") for it in SHIFTS.split() for lanes in LANES]
     tests = [f"{lanes}_all_true" for lanes in LANES] + ["v128_any_true"] + [f"{lanes}_bitmask" for lanes in LANES]
-    rows += [(it, f"from_words(u64::from(simd::{it}(x)), 0)") for it in tests]
+    rows += [(it, f"from_word_pair(u64::from(simd::{it}(x)), 0)") for it in tests]
     rows += [(it, f"simd::{it}(low)") for it in WIDENING_WORDS.split()]
     rows.append(("v128_low32_zero", "simd::v128_low32_zero((low & 0xffff_ffff) as u32)"))
     return rows
@@ -136,7 +136,7 @@ def stores():
 
 def number_loads():
     """The loads of `wasmi_access`, within 16 KiB."""
-    return [(it, f"wasm::{it}(memory, {ADDRESS}).map(|x| from_words({bits}, 0))") for it, bits in NUMBER_LOADS.items()]
+    return [(it, f"wasm::{it}(memory, {ADDRESS}).map(|x| from_word_pair({bits}, 0))") for it, bits in NUMBER_LOADS.items()]
 
 
 def number_stores():

@@ -8,7 +8,7 @@
 #include <stdint.h>
 
 /* A value: an item of up to 64 bits in lo, or bits 0 to 63 and bits 64 to 127 of a vector. An instruction on 32 bits
-   leaves the higher bits of its operands out, and those of its value are 0. A truth value is 0 or 1. */
+   leaves the higher bits of its operands out, and those of its value are 0. A Boolean is 0 or 1. */
 typedef struct { uint64_t lo, hi; } wasmi_words;
 
 /* What an instruction answers for one element of an array: the value, or 0 where it traps, and the status. */

@@ -26,12 +26,12 @@ struct Row {
 
 const COUNT: usize = 1024;
 
-fn from_words(low: u64, high: u64) -> V128 {
+fn from_word_pair(low: u64, high: u64) -> V128 {
     V128::from(u128::from(low) | u128::from(high) << 64)
 }
 
 fn vector(words: Words) -> V128 {
-    from_words(words.low, words.high)
+    from_word_pair(words.low, words.high)
 }
 
 fn words(vector: V128) -> Words {

@@ -133,7 +133,8 @@ pub trait LittleEndianConvert: Number {
     fn into_le_bytes(self) -> Self::Bytes
         ensures bytes { Self.Bytes.bytes_of result
             ≡ le_bytes Self.Bytes.LEN (wrap Self.width (Self.number self)) }
-        ensures number { number_of (Self.Bytes.bytes_of result) ≡ wrap Self.width (Self.number self) }
+        ensures number { number_of (Self.Bytes.bytes_of result)
+            ≡ wrap Self.width (Self.number self) }
         ensures round_trip { Self.of_number
             (number_of_bits Self.is_signed Self.width (number_of (Self.Bytes.bytes_of result)))
             ≡ self };
@@ -144,7 +145,8 @@ pub trait LittleEndianConvert: Number {
             (number_of_bits Self.is_signed Self.width (number_of (Self.Bytes.bytes_of bytes))) }
         ensures read { Self.number result
             ≡ number_of_bits Self.is_signed Self.width (number_of (Self.Bytes.bytes_of bytes)) }
-        ensures number { wrap Self.width (Self.number result) ≡ number_of (Self.Bytes.bytes_of bytes) }
+        ensures number { wrap Self.width (Self.number result)
+            ≡ number_of (Self.Bytes.bytes_of bytes) }
         ensures round_trip { le_bytes Self.Bytes.LEN (wrap Self.width (Self.number result))
             ≡ Self.Bytes.bytes_of bytes };
 

@@ -102,7 +102,8 @@ pub fn doubled_bytes(v: V128) -> V128
 /// The bytes of the lower half and those of the upper half as numbers of 16 bits, with their signs.
 pub fn extended_bytes(v: V128) -> (V128, V128)
     ensures lower { (i : ℕ) → i < 8 → signed w16 (lane w16 result.0 i) ≡ signed w8 (lane w8 v i) }
-    ensures upper { (i : ℕ) → i < 8 → signed w16 (lane w16 result.1 i) ≡ signed w8 (lane w8 v (8 + i)) }
+    ensures upper { (i : ℕ) → i < 8
+        → signed w16 (lane w16 result.1 i) ≡ signed w8 (lane w8 v (8 + i)) }
 {
     widening_laws::extended_lanes();
     (i16x8_extend_low_i8x16_s(v), i16x8_extend_high_i8x16_s(v))
@@ -134,22 +135,22 @@ pub fn products_of_upper_bytes(a: V128, b: V128) -> V128
 }
 
 /// The sums of neighbouring bytes.
-pub fn sums_of_neighbours(v: V128) -> V128
+pub fn pairwise_sums(v: V128) -> V128
     ensures { (i : ℕ) → i < 8
         → lane w16 result i ≡ (lane w8 v (2 * i) + lane w8 v (2 * i + 1)) % 2 ^ 16 }
 {
-    widening_laws::lanes_of_neighbours::<u8>();
+    widening_laws::pairwise_lanes::<u8>();
     i16x8_extadd_pairwise_i8x16_u(v)
 }
 
-/// The products of the signed numbers of two vectors, two even_odd at a time, added up at 32 bits.
+/// The products of the signed numbers of two vectors, two at a time, added up at 32 bits.
 pub fn sums_of_products(a: V128, b: V128) -> V128
     ensures { (i : ℕ) → i < 4
         → lane w32 result i
         ≡ wrap w32 ((signed w16 (lane w16 a (2 * i)) *ℤ signed w16 (lane w16 b (2 * i))) +ℤ
         (signed w16 (lane w16 a (2 * i + 1)) *ℤ signed w16 (lane w16 b (2 * i + 1)))) }
 {
-    widening_laws::lanes_of_neighbours::<i16>();
+    widening_laws::pairwise_lanes::<i16>();
     widening_laws::wrapped_numbers();
     i32x4_dot_i16x8_s(a, b)
 }

@@ -123,20 +123,20 @@ module _ (w : TableWrite) (x : TableValue) (m : Meter) (result : Result (Unit {0
   write_takes m' writes = takes_paid m m' charge (ends_paid w.typed w.written _ refl writes.ends) writes.meter
 
 -- a value, the meter that is charged for it, and the limiter that is asked
-pub record Situation (V S : Type 0) : Type 0 where
+pub record ChargedValue (V S : Type 0) : Type 0 where
   pub value : V
   pub meter : Meter
   pub limiter : S
 
--- another value in the same situation
-abbrev pub in_situation : {V W S : Type 0} → Situation V S → W → Situation W S
-in_situation v value = record { value = value; meter = v.meter; limiter = v.limiter }
+-- another value with the same meter and limiter
+abbrev pub charged_value : {V W S : Type 0} → ChargedValue V S → W → ChargedValue W S
+charged_value v value = record { value = value; meter = v.meter; limiter = v.limiter }
 
 -- what a growth leads from and to, and what it is charged
 pub record Growing (V S : Type 0) : Type 0 where
-  pub first : Situation V S
+  pub first : ChargedValue V S
   pub charge : ℕ
-  pub last : Situation V S
+  pub last : ChargedValue V S
 
 -- a part of a world, its meter and its limiter, and what they have become by a charge
 abbrev pub growing : {V S : Type 0} → World S → V → ℕ → V → Meter → S → Growing V S

@@ -33,7 +33,7 @@ abbrev pub carried : {S T : Type 0} → (S → T) → World S → World T
 carried image w = record { state = w.state; limiter = image w.limiter }
 
 module _ {S T : Type 0} (image : S → T) where
-  -- the situation with the image of its limiter
+  -- the metered value with the image of its limiter
   abbrev moved : {V : Type 0} → MeteredValue V S → MeteredValue V T
   moved s = record { value = s.value; meter = s.meter; limiter = image s.limiter }
 
@@ -124,31 +124,32 @@ module _ {S T : Type 0} (image : S → T) where
 
     module _ (w : World S) (turn : Turn) (w' : World S) where
       -- a turn that makes something under the limiter
-      asks_too : {A : Type 0} {with_part : A → State} {Row : S → Reply → A → S → Type 0}
-          {Row' : T → Reply → A → T → Type 0} (step : Asks w turn w' with_part Row)
-          → Row' (image w.limiter) turn.reply step.part (image step.limiter)
-          → Asks (carried image w) turn (carried image w') with_part Row'
-      asks_too step row = record {
+      asks_too : {A : Type 0} {with_part : A → State} {Relation : S → Reply → A → S → Type 0}
+          {Relation' : T → Reply → A → T → Type 0} (step : Asks w turn w' with_part Relation)
+          → Relation' (image w.limiter) turn.reply step.part (image step.limiter)
+          → Asks (carried image w) turn (carried image w') with_part Relation'
+      asks_too step effect = record {
         free = step.free;
         part = step.part;
         limiter = image step.limiter;
-        effect = row;
+        effect = effect;
         after = ap (carried image) step.after;
       }
 
       -- a turn with a charge
       pays_too : {A : Type 0} {old : A} {with_part : A → State}
-          {Row : MeteredValue A S → Reply → ℕ → MeteredValue A S → Type 0}
-          {Row' : MeteredValue A T → Reply → ℕ → MeteredValue A T → Type 0} {bytes : Reply → ℕ}
-          (step : ActsMetered w turn w' old with_part Row bytes)
-          → Row' (record { value = old; meter = Some w.state.meter; limiter = image w.limiter }) turn.reply turn.charge
+          {Relation : MeteredValue A S → Reply → ℕ → MeteredValue A S → Type 0}
+          {Relation' : MeteredValue A T → Reply → ℕ → MeteredValue A T → Type 0} {bytes : Reply → ℕ}
+          (step : ActsMetered w turn w' old with_part Relation bytes)
+          → Relation' (record { value = old; meter = Some w.state.meter; limiter = image w.limiter }) turn.reply
+          turn.charge
           (record { value = step.part; meter = Some step.meter; limiter = image step.limiter })
-          → ActsMetered (carried image w) turn (carried image w') old with_part Row' bytes
-      pays_too step row = record {
+          → ActsMetered (carried image w) turn (carried image w') old with_part Relation' bytes
+      pays_too step effect = record {
         part = step.part;
         meter = step.meter;
         limiter = image step.limiter;
-        effect = row;
+        effect = effect;
         wrote = step.wrote;
         after = ap (carried image) step.after;
       }

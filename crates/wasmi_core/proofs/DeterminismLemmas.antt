@@ -186,8 +186,8 @@ module _ {S : Type 0} (w : World S) (t t' : Turn) (v v' : World S) where
   Same = (t.reply ≡ t'.reply) × (t.charge ≡ t'.charge) × (t.written ≡ t'.written) × (v ≡ v')
 
   -- turns that only reply
-  told_once : {Row : Reply → Type 0} → OnlyReplies w t v Row → OnlyReplies w t' v' Row
-      → (Row t.reply → Row t'.reply → t.reply ≡ t'.reply) → Same
+  told_once : {Relation : Reply → Type 0} → OnlyReplies w t v Relation → OnlyReplies w t' v' Relation
+      → (Relation t.reply → Relation t'.reply → t.reply ≡ t'.reply) → Same
   told_once step step' once = (
     once step.effect step'.effect,
     step.free.0 ∙ sym step'.free.0,
@@ -196,8 +196,8 @@ module _ {S : Type 0} (w : World S) (t t' : Turn) (v v' : World S) where
   )
 
   -- turns that change the state
-  changed_once : {Row : Reply → State → Type 0} → Changes w t v Row → Changes w t' v' Row
-      → ((s s' : State) → Row t.reply s → Row t'.reply s' → (t.reply ≡ t'.reply) × (s ≡ s')) → Same
+  changed_once : {Relation : Reply → State → Type 0} → Changes w t v Relation → Changes w t' v' Relation
+      → ((s s' : State) → Relation t.reply s → Relation t'.reply s' → (t.reply ≡ t'.reply) × (s ≡ s')) → Same
   changed_once step step' once =
       let same = once step.machine step'.machine step.effect step'.effect in (
         same.0,
@@ -208,8 +208,9 @@ module _ {S : Type 0} (w : World S) (t t' : Turn) (v v' : World S) where
 
   module _ {A : Type 0} {with_part : A → State} where
     -- turns that make something under the limiter
-    made_once : {Row : S → Reply → A → S → Type 0} → Asks w t v with_part Row → Asks w t' v' with_part Row
-        → HasMemory t.reply → HasMemory t'.reply → HasOneOutcome (Row w.limiter) → Same
+    made_once : {Relation : S → Reply → A → S → Type 0} → Asks w t v with_part Relation
+        → Asks w t' v' with_part Relation
+        → HasMemory t.reply → HasMemory t'.reply → HasOneOutcome (Relation w.limiter) → Same
     made_once step step' has has' once =
         let same =
         once (record { reply = t.reply; part = step.part; limiter = step.limiter })
@@ -223,9 +224,9 @@ module _ {S : Type 0} (w : World S) (t t' : Turn) (v v' : World S) where
 
     module _ {old : A} {bytes : Reply → ℕ} where
       -- turns with a charge
-      paid_once : {Row : MeteredValue A S → Reply → ℕ → MeteredValue A S → Type 0}
-          → ActsMetered w t v old with_part Row bytes → ActsMetered w t' v' old with_part Row bytes
-          → HasOneEnding (Row (record { value = old; meter = Some w.state.meter; limiter = w.limiter })) → Same
+      paid_once : {Relation : MeteredValue A S → Reply → ℕ → MeteredValue A S → Type 0}
+          → ActsMetered w t v old with_part Relation bytes → ActsMetered w t' v' old with_part Relation bytes
+          → HasOneEnding (Relation (record { value = old; meter = Some w.state.meter; limiter = w.limiter })) → Same
       paid_once step step' once =
           let same =
           once (acted t step.part step.meter step.limiter) (acted t' step'.part step'.meter step'.limiter) step.effect
@@ -242,9 +243,10 @@ module _ {S : Type 0} (w : World S) (t t' : Turn) (v v' : World S) where
           )
 
       -- so where the limiter is not reached
-      unasked_once : {Row : MeteredValue A (Unit {0}) → Reply → ℕ → MeteredValue A (Unit {0}) → Type 0}
-          → ActsMeteredUnasked w t v old with_part Row bytes → ActsMeteredUnasked w t' v' old with_part Row bytes
-          → HasOneEnding (Row (record { value = old; meter = Some w.state.meter; limiter = tt })) → Same
+      unasked_once : {Relation : MeteredValue A (Unit {0}) → Reply → ℕ → MeteredValue A (Unit {0}) → Type 0}
+          → ActsMeteredUnasked w t v old with_part Relation bytes
+          → ActsMeteredUnasked w t' v' old with_part Relation bytes
+          → HasOneEnding (Relation (record { value = old; meter = Some w.state.meter; limiter = tt })) → Same
       unasked_once step step' once =
           let same =
           once (acted t step.part step.meter tt) (acted t' step'.part step'.meter tt) step.effect step'.effect in

@@ -1,4 +1,4 @@
--- What holds of each row, and of each kind of row.
+-- What holds of each effect, and of each kind of effect.
 use Rattle.std.proofs.Common.{Bool, Err, List, None, Ok, Option, Result, Some, ap, false, inl, inr, map, refl, set, subst, sym, true, ℕ, ◌∙◌, ◌≡◌}
 use Rattle.std.proofs.lemmas.List.Elements.{All-get_or, All-push, All-set}
 use Rattle.std.proofs.lemmas.Option.{get_or_from_slice_get, none-some, same_Some, slice_get_within}
@@ -114,7 +114,7 @@ pub on_both : {X C : Type 0} (o : Option X) (Missing Missing' : Type 0) (Fact Fa
 on_both None Missing Missing' Fact Fact' h h' missing live = missing h h'
 on_both (Some x) Missing Missing' Fact Fact' h h' missing live = live x h h'
 
--- rows on lists and slots
+-- effects on lists and slots
 pub appends_same : {X A E : Type 0} (entry : X → A) (refusal : E → Reply) (result : Result X E) (list : List A)
     (reply reply' : Reply) (list' list'' : List A) → AddsEntry entry refusal result list reply list'
     → AddsEntry entry refusal result list reply' list'' → (reply ≡ reply') × (list' ≡ list'')
@@ -129,9 +129,9 @@ pub record Outcome (A S : Type 0) : Type 0 where
 
 -- a creation ends in one way, where memory isn't wanting
 abbrev pub HasOneOutcome : {A S : Type 0} → (Reply → A → S → Type 0) → Type 0
-HasOneOutcome {A} {S} Row =
-    (o o' : Outcome A S) → HasMemory o.reply → HasMemory o'.reply → Row o.reply o.part o.limiter
-    → Row o'.reply o'.part o'.limiter → (o.reply ≡ o'.reply) × (o.part ≡ o'.part) × (o.limiter ≡ o'.limiter)
+HasOneOutcome {A} {S} Relation =
+    (o o' : Outcome A S) → HasMemory o.reply → HasMemory o'.reply → Relation o.reply o.part o.limiter
+    → Relation o'.reply o'.part o'.limiter → (o.reply ≡ o'.reply) × (o.part ≡ o'.part) × (o.limiter ≡ o'.limiter)
 
 -- two creations in a new slot
 pub creates_same : {X E S : Type 0} (refusal : E → Reply) (Makes : S → Result X E → S → Type 0)
@@ -149,10 +149,10 @@ creates_same refusal Makes same slots l o o' room room' (inr (result, makes, app
     in
     (put.0, put.1, made.1)
 
--- a row on a part is decided: two of it are one
+-- an effect on a part is decided: two of it are one
 abbrev pub IsDecided : {A : Type 0} → (Reply → A → Type 0) → Type 0
-IsDecided {A} Row =
-    (reply reply' : Reply) (part part' : A) → Row reply part → Row reply' part'
+IsDecided {A} Relation =
+    (reply reply' : Reply) (part part' : A) → Relation reply part → Relation reply' part'
     → (reply ≡ reply') × (part ≡ part')
 
 -- a change is decided, where the change of what was found is
@@ -190,8 +190,8 @@ pub record Acted (A S : Type 0) : Type 0 where
 
 -- a call on what an index names ends in one way
 abbrev pub HasOneEnding : {A S : Type 0} → (Reply → ℕ → MeteredValue A S → Type 0) → Type 0
-HasOneEnding {A} {S} Row =
-    (o o' : Acted A S) → Row o.reply o.charge o.after → Row o'.reply o'.charge o'.after
+HasOneEnding {A} {S} Relation =
+    (o o' : Acted A S) → Relation o.reply o.charge o.after → Relation o'.reply o'.charge o'.after
     → (o.reply ≡ o'.reply) × (o.charge ≡ o'.charge) × (o.after ≡ o'.after)
 
 -- two calls on what an index names

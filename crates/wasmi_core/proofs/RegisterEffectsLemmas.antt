@@ -1,4 +1,4 @@
--- What holds of each row on registers.
+-- What holds of each effect on registers.
 use Rattle.std.proofs.Common.{Err, List, None, Ok, Option, Result, Some, ap, length, length-set, sym, ℕ, ◌∙◌, ◌≡◌}
 use Rattle.wasmi_core.specs.Laws.{IsRefusal}
 use Rattle.wasmi_core.specs.RegisterEffects.{TakesAt}

@@ -146,19 +146,19 @@ module _ {S : Type 0} (n : Narrowing S) where
     -- an effect of any call
     module _ (w : World S) (turn : Turn) (w' : World S) (within : n.within w.limiter) (shows : n.shown turn.reply) where
       -- a turn that makes something under the limiter
-      asks_revealed : {A : Type 0} {with_part : A → State} {Row Row' : S → Reply → A → S → Type 0}
-          (step : Asks w turn w' with_part Row) → Row' w.limiter turn.reply step.part step.limiter
-          → Asks w turn w' with_part Row'
-      asks_revealed step row = asks_too step step.part row step.after
+      asks_revealed : {A : Type 0} {with_part : A → State} {Relation Relation' : S → Reply → A → S → Type 0}
+          (step : Asks w turn w' with_part Relation) → Relation' w.limiter turn.reply step.part step.limiter
+          → Asks w turn w' with_part Relation'
+      asks_revealed step effect = asks_too step step.part effect step.after
 
       -- a turn with a charge
       pays_revealed : {A : Type 0} {old : A} {with_part : A → State}
-          {Row Row' : MeteredValue A S → Reply → ℕ → MeteredValue A S → Type 0} {bytes : Reply → ℕ}
-          (step : ActsMetered w turn w' old with_part Row bytes)
-          → Row' (record { value = old; meter = Some w.state.meter; limiter = w.limiter }) turn.reply turn.charge
+          {Relation Relation' : MeteredValue A S → Reply → ℕ → MeteredValue A S → Type 0} {bytes : Reply → ℕ}
+          (step : ActsMetered w turn w' old with_part Relation bytes)
+          → Relation' (record { value = old; meter = Some w.state.meter; limiter = w.limiter }) turn.reply turn.charge
           (record { value = step.part; meter = Some step.meter; limiter = step.limiter })
-          → ActsMetered w turn w' old with_part Row' bytes
-      pays_revealed step row = acts_too step step.part row refl step.after
+          → ActsMetered w turn w' old with_part Relation' bytes
+      pays_revealed step effect = acts_too step step.part effect refl step.after
 
       -- where its reply shows it, an effect under the one rules is one under the others
       effect_revealed : (effect : Effect) → TakesEffect n.rules effect w turn w'

@@ -25,8 +25,8 @@ use Rattle.wasmi_store.specs.Segment.{SegmentValue}
 use Rattle.wasmi_store.specs.Table.{IsValidTable, TableValue, size_of}
 use Rattle.wasmi_types.specs.Access.{at}
 
--- what holds of a row on a part: a refusal leaves it, it is decided where memory isn't wanting, and it keeps a fact
-pub record RowFacts {A : Type 0} (Effect : Reply → A → Type 0) (old : A) (Keeps : A → Type 0) : Type 0 where
+-- what holds of an effect on a part: a refusal leaves it, it is decided where memory isn't wanting, and it keeps a fact
+pub record EffectFacts {A : Type 0} (Effect : Reply → A → Type 0) (old : A) (Keeps : A → Type 0) : Type 0 where
   pub back : (reply : Reply) (part : A) → IsRefusal reply → Effect reply part → part ≡ old
   pub same : (reply reply' : Reply) (part part' : A) → HasMemory reply → HasMemory reply' → Effect reply part
       → Effect reply' part'
@@ -50,11 +50,11 @@ record PartOf (s : State) {A : Type 0} (with_part : A → State) (old : A) (Keep
   pub still : (part : A) → Keeps part → NothingGrows (sizes s) (sizes (with_part part))
   pub valid : (part : A) → Keeps part → IsValid s → IsValid (with_part part)
 
--- what holds of a row holds of the change of the part
+-- what holds of an effect holds of the change of the part
 change_of : (s : State) {A : Type 0} (with_part : A → State) (old : A) (Keeps : A → Type 0)
     (Effect : Reply → A → Type 0)
     → PartOf s with_part old Keeps
-    → RowFacts Effect old Keeps → ChangeFacts s (ChangesPart with_part Effect)
+    → EffectFacts Effect old Keeps → ChangeFacts s (ChangesPart with_part Effect)
 change_of s with_part old Keeps Effect part facts = record {
   back = λ reply s' refused c. c.after ∙ ap with_part (facts.back reply c.part refused c.effect) ∙ part.whole;
   same = λ reply reply' s' s'' has has' c c'.
@@ -153,93 +153,101 @@ module _ (s : State) where
 pub change_facts : (s : State) (change : Change) → ChangeFacts s (TakesChange change s)
 change_facts s (BytesWritten k offset bytes) =
     change_of s (with_memories s) s.memories (KeepsMemories s) _ (the_memories s) (record {
-      back = λ reply part refused row. write_refused k offset bytes s.memories reply part refused row;
-      same = λ reply reply' part part' has has' row row'. writes_same k offset bytes s.memories reply reply' part part'
-          row row';
-      keeps = λ reply part row. (
-        written_kept k s.memories reply part offset bytes row,
+      back = λ reply part refused effect. write_refused k offset bytes s.memories reply part refused effect;
+      same = λ reply reply' part part' has has' effect effect'. writes_same k offset bytes s.memories reply reply' part
+          part'
+          effect effect';
+      keeps = λ reply part effect. (
+        written_kept k s.memories reply part offset bytes effect,
         changes_valid IsValidMemory k s.memories reply part
-            _ (λ x x' valid change. write_valid x x' offset bytes change.0 valid change.1) row,
+            _ (λ x x' valid change. write_valid x x' offset bytes change.0 valid change.1) effect,
       );
     })
 change_facts s (BytesStored k a stored) =
     change_of s (with_memories s) s.memories (KeepsMemories s) _ (the_memories s) (record {
-      back = λ reply part refused row. vector_store_back k s.memories reply part a refused stored row;
-      same = λ reply reply' part part' has has' row row'.
+      back = λ reply part refused effect. vector_store_back k s.memories reply part a refused stored effect;
+      same = λ reply reply' part part' has has' effect effect'.
           vector_stores_same k a stored s.memories reply reply' part part'
-          row row';
-      keeps = λ reply part row. (
-        vector_store_kept k s.memories reply part a stored row,
+          effect effect';
+      keeps = λ reply part effect. (
+        vector_store_kept k s.memories reply part a stored effect,
         vector_store_valid k a stored
-            s.memories reply part row,
+            s.memories reply part effect,
       );
     })
 change_facts s (RegisterSet dst given) =
     change_of s (with_registers s) s.registers (KeepsRegisters s) _ (the_registers s) (record {
-      back = λ reply part refused row.
-          takes_back given (slice_get s.registers dst) dst s.registers reply part refused row;
-      same = λ reply reply' part part' has has' row row'. takes_same given (slice_get s.registers dst) dst s.registers
-          reply reply' part part' row row';
-      keeps = λ reply part row. takes_count given (slice_get s.registers dst) dst s.registers reply part row;
+      back = λ reply part refused effect.
+          takes_back given (slice_get s.registers dst) dst s.registers reply part refused effect;
+      same = λ reply reply' part part' has has' effect effect'. takes_same given
+          (slice_get s.registers dst) dst s.registers
+          reply reply' part part' effect effect';
+      keeps = λ reply part effect. takes_count given (slice_get s.registers dst) dst s.registers reply part effect;
     })
 change_facts s (MemoryDropped k) =
     change_of s (with_memories s) s.memories (KeepsMemories s) _ (the_memories s) (record {
-      back = λ reply part refused row. drops_back byte_count k s.memories reply part refused row;
-      same = λ reply reply' part part' has has' row row'. drops_same byte_count k s.memories reply reply' part part' row
-          row';
-      keeps = λ reply part row. (
-        drops_kept byte_count k s.memories reply part row,
+      back = λ reply part refused effect. drops_back byte_count k s.memories reply part refused effect;
+      same = λ reply reply' part part' has has' effect effect'. drops_same byte_count k s.memories reply reply' part
+          part' effect
+          effect';
+      keeps = λ reply part effect. (
+        drops_kept byte_count k s.memories reply part effect,
         drops_valid IsValidMemory byte_count k
-            s.memories reply part row,
+            s.memories reply part effect,
       );
     })
 change_facts s (TableDropped k) = change_of s (with_tables s) s.tables (KeepsTables s) _ (the_tables s) (record {
-  back = λ reply part refused row. drops_back size_of k s.tables reply part refused row;
-  same = λ reply reply' part part' has has' row row'. drops_same size_of k s.tables reply reply' part part' row row';
-  keeps = λ reply part row. (
-    drops_kept size_of k s.tables reply part row,
+  back = λ reply part refused effect. drops_back size_of k s.tables reply part refused effect;
+  same = λ reply reply' part part' has has' effect effect'. drops_same size_of k s.tables reply reply' part part' effect
+      effect';
+  keeps = λ reply part effect. (
+    drops_kept size_of k s.tables reply part effect,
     drops_valid IsValidTable size_of k s.tables
-        reply part row,
+        reply part effect,
   );
 })
 change_facts s (ElementSet k index value) =
     change_of s (with_tables s) s.tables (KeepsTables s) _ (the_tables s) (record {
-      back = λ reply part refused row. set_refused k index value s.tables reply part refused row;
-      same = λ reply reply' part part' has has' row row'.
-          sets_same k index value s.tables reply reply' part part' row row';
-      keeps = λ reply part row. (
-        set_kept k s.tables reply part index value row,
+      back = λ reply part refused effect. set_refused k index value s.tables reply part refused effect;
+      same = λ reply reply' part part' has has' effect effect'.
+          sets_same k index value s.tables reply reply' part part' effect effect';
+      keeps = λ reply part effect. (
+        set_kept k s.tables reply part index value effect,
         set_valid k index value s.tables reply
-            part row,
+            part effect,
       );
     })
 change_facts s (SegmentMade ty items) =
     change_of s (with_segments s) s.segments (KeepsSegments s) _ (the_segments s) (record {
-      back = λ reply part refused row. segment_back ty items s.segments reply part refused row;
-      same = λ reply reply' part part' has has' row row'. segments_same ty items s.segments reply reply' part part' has
-          has' row row';
-      keeps = λ reply part row. creates_segment_valid ty items s.segments reply part row;
+      back = λ reply part refused effect. segment_back ty items s.segments reply part refused effect;
+      same = λ reply reply' part part' has has' effect effect'. segments_same ty items s.segments reply reply' part
+          part' has
+          has' effect effect';
+      keeps = λ reply part effect. creates_segment_valid ty items s.segments reply part effect;
     })
 change_facts s (ItemsDropped k) =
     change_of s (with_segments s) s.segments (KeepsSegments s) _ (the_segments s) (record {
-      back = λ reply part refused row. items_refused k s.segments reply part refused row;
-      same = λ reply reply' part part' has has' row row'. items_same k s.segments reply reply' part part' row row';
-      keeps = λ reply part row. item_valid IsValidSegment k s.segments reply part
-          _ (λ x x' valid change. subst IsValidSegment (sym change.1) (omega arith)) row;
+      back = λ reply part refused effect. items_refused k s.segments reply part refused effect;
+      same = λ reply reply' part part' has has' effect effect'. items_same k s.segments reply reply' part part' effect
+          effect';
+      keeps = λ reply part effect. item_valid IsValidSegment k s.segments reply part
+          _ (λ x x' valid change. subst IsValidSegment (sym change.1) (omega arith)) effect;
     })
 change_facts s (GlobalMade global) =
     change_of s (with_globals s) s.globals (λ globals. Unit {0}) _ (the_globals s) (record {
-      back = λ reply part refused row. global_made_back global s.globals reply part refused row;
-      same = λ reply reply' part part' has has' row row'. globals_same global s.globals reply reply' part part' has has'
-          row row';
-      keeps = λ reply part row. tt;
+      back = λ reply part refused effect. global_made_back global s.globals reply part refused effect;
+      same = λ reply reply' part part' has has' effect effect'. globals_same global s.globals reply reply' part part'
+          has has'
+          effect effect';
+      keeps = λ reply part effect. tt;
     })
 change_facts s (GlobalSet k value) =
     change_of s (with_globals s) s.globals (λ globals. Unit {0}) _ (the_globals s) (record {
-      back = λ reply part refused row. global_refused k value s.globals reply part refused row;
-      same = λ reply reply' part part' has has' row row'. global_sets_same k value s.globals reply reply' part part' row
-          row';
-      keeps = λ reply part row. tt;
+      back = λ reply part refused effect. global_refused k value s.globals reply part refused effect;
+      same = λ reply reply' part part' has has' effect effect'. global_sets_same k value s.globals reply reply' part
+          part' effect
+          effect';
+      keeps = λ reply part effect. tt;
     })
 
 -- an initialization by no item is free

@@ -1,4 +1,4 @@
--- What holds of each row on tables.
+-- What holds of each effect on tables.
 use Rattle.std.proofs.Common.{Bool, List, None, Option, Result, Some, [], ap, false, length, map, refl, subst, sym, true, ℕ, ◌∙◌, ◌∷◌, ◌≡◌, ◌⊎◌}
 use Rattle.std.proofs.lemmas.Option.{none-some}
 use Rattle.std.specs.Option.{option_and_then, option_map}

@@ -1,4 +1,4 @@
--- What holds of each row on element segments and globals.
+-- What holds of each effect on element segments and globals.
 use Rattle.std.proofs.Common.{Err, List, Ok, Result, ap, arith, inl, inr, length, refl, subst, sym, ℕ, ◌∙◌, ◌≡◌, ◌≤◌}
 use Rattle.std.specs.Prelude.{All}
 use Rattle.wasmi_core.proofs.EffectLemmas.{IsDecided, appended_valid, appends_back, appends_same, item_back, item_same}

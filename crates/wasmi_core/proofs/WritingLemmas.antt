@@ -7,7 +7,7 @@ use Rattle.std.proofs.lemmas.List.Sums.{sum_by-cons}
 use Rattle.std.proofs.lemmas.Option.{same_Some}
 use Rattle.std.specs.Option.{option_map, option_map_or}
 use Rattle.std.specs.Prelude.{cond, if◌then◌else◌, is_some, nat_eq, nat_le, nat_lt, ◌&&◌}
-use Rattle.wasmi_core.proofs.AccountLemmas.{Growing, Takes, after, before, growing, grows_takes, in_situation, write_takes}
+use Rattle.wasmi_core.proofs.AccountLemmas.{Growing, Takes, after, before, growing, grows_takes, charged_value, write_takes}
 use Rattle.wasmi_core.proofs.EffectLemmas.{both_live, on_live}
 use Rattle.wasmi_core.proofs.StepsLemmas.{change_facts, source_writes}
 use Rattle.wasmi_core.proofs.TableEffectsLemmas.{IsWrite}
@@ -216,7 +216,7 @@ module _ {S : Type 0} (rules : Rules S) (pages : ℕ) (t : Growing MemoryValue S
 
 -- the growth of one value among others, by the same charge
 abbrev grown_to : {V W S : Type 0} → Growing W S → V → V → Growing V S
-grown_to t x x' = record { first = in_situation t.first x; charge = t.charge; last = in_situation t.last x' }
+grown_to t x x' = record { first = charged_value t.first x; charge = t.charge; last = charged_value t.last x' }
 
 -- nothing is appended where there is no memory
 nothing_appended : (o : Option MemoryValue) (pages : ℕ) → bytes_appended o pages replied.NoSuch ≡ 0

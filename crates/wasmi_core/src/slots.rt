@@ -118,7 +118,8 @@ impl<T> Slots<T> {
 
     fn value_mut(&mut self, index: usize) -> &mut T
         requires { IsSome (live_at self.old.slots.items index) }
-        ensures* writes_back { sem 𝓛 (Lends (the_row T.row) T.row self.entry result (with_live self.old index)) }
+        ensures* writes_back { sem 𝓛
+            (Lends (the_row T.row) T.row self.entry result (with_live self.old index)) }
         ensures value { live_at self.old.slots.items index ≡ Some result.now }
     {
         self.slots[index].value_mut()

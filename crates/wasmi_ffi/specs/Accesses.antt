@@ -10,7 +10,7 @@ use Rattle.wasmi_raw.specs.Vector.{vector_of}
 use Rattle.wasmi_access.specs.LoadStore.{accessed}
 use Rattle.wasmi_scalar_ops.specs.AccessOps.{loaded_raw, stored_bytes}
 use Rattle.wasmi_vector_ops.specs.AccessOps.{loaded_vector}
-use Rattle.wasmi_ffi.specs.Words.{as_words, raw_in, vector_words, words_of}
+use Rattle.wasmi_ffi.specs.Words.{as_words, raw_in, vector_words, raw_words}
 use Rattle.wasmi_ffi.specs.declared.status.TheConstants.{DONE}
 use Rattle.wasmi_ffi.specs.declared.words.Words.{Words}
 use Rattle.wasmi_ffi.specs.declared.store.TheConstants.{STORES}
@@ -22,7 +22,7 @@ use Rattle.wasmi_ffi.specs.declared.store.Store.TheVariants as store
 
 -- what a load from an address gives, or the trap
 abbrev pub loaded_words : Load → List ℕ → ℕ → Result Words TrapCode
-loaded_words (load.Scalar op) bytes a = as_words words_of (loaded_raw op bytes a)
+loaded_words (load.Scalar op) bytes a = as_words raw_words (loaded_raw op bytes a)
 loaded_words (load.Vector op) bytes a = as_words vector_words (loaded_vector op bytes a)
 
 -- the bytes that a store writes

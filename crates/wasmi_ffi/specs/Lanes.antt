@@ -4,7 +4,7 @@ use Rattle.wasmi_types.specs.declared.trap.TrapCode.{TrapCode}
 use Rattle.wasmi_raw.specs.Vector.{vector_of}
 use Rattle.wasmi_vector_ops.specs.LaneOps.{extracted_raw, replaced_vector}
 use Rattle.wasmi_vector_ops.specs.AccessOps.{loaded_lane, stored_lane}
-use Rattle.wasmi_ffi.specs.Words.{as_words, raw_in, vector_words, words_of}
+use Rattle.wasmi_ffi.specs.Words.{as_words, raw_in, vector_words, raw_words}
 use Rattle.wasmi_ffi.specs.declared.status.TheConstants.{NO_LANE}
 use Rattle.wasmi_ffi.specs.declared.words.Words.{Words}
 use Rattle.wasmi_vector_ops.specs.declared.lane.ExtractOp.{ExtractOp}
@@ -60,7 +60,7 @@ store_lane_op store_lane_kind.V128Store64Lane lane = on_lane 2 lane (λ index. s
 
 -- what an extraction gives
 abbrev pub extracted_words : ExtractOp → Words → Words
-extracted_words op a = words_of (extracted_raw op (vector_of a.lo a.hi))
+extracted_words op a = raw_words (extracted_raw op (vector_of a.lo a.hi))
 
 -- what a replacement gives
 unfoldable pub replaced_words : ReplaceOp → Words → Words → Words

@@ -12,8 +12,8 @@ use Rattle.wasmi_ffi.specs.declared.status.TheConstants.{DONE, UNKNOWN, LENGTHS_
 abbrev pub raw_in : Words → RawVal
 raw_in words = record { lo = words.lo; hi = words.hi }
 
-abbrev pub words_of : RawVal → Words
-words_of raw = record { lo = raw.lo; hi = raw.hi }
+abbrev pub raw_words : RawVal → Words
+raw_words raw = record { lo = raw.lo; hi = raw.hi }
 
 -- the words of a vector
 abbrev pub vector_words : ℕ → Words

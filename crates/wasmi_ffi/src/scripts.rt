@@ -36,7 +36,8 @@ pub extern "C" fn wasmi_script_run(
 
 /// Runs a script, and writes what it prints to a buffer.
 fn print(alloc: Global, script: &[u8], printed: &mut Vec<u8>) -> Status
-    ensures replays { Replays (Some script.now) (Some printed.old.items) (Some printed.new.items) result }
+    ensures replays { Replays (Some script.now) (Some printed.old.items)
+        (Some printed.new.items) result }
 {
     let mut reader = script;
     replay(alloc, &mut reader, printed)

@@ -19,7 +19,7 @@ pub enum Unary {
     Make(MakeOp),
     /// Of a vector, a vector.
     Vector(UnaryOp),
-    /// Of a vector, a truth value or a mask.
+    /// Of a vector, a Boolean or a mask.
     Test(TestOp),
 }
 

@@ -1,7 +1,7 @@
 //! Values as C passes them.
 ghost use Rattle.std.specs.Prelude.{◌≡◌};
 ghost use Rattle.wasmi_raw.specs.Vector.{vector_of};
-ghost use Rattle.wasmi_ffi.specs.Words.{answer_of, raw_in, vector_words, words_of};
+ghost use Rattle.wasmi_ffi.specs.Words.{answer_of, raw_in, vector_words, raw_words};
 
 use crate::status::DONE;
 use wasmi_raw::{RawVal, V128};
@@ -32,12 +32,12 @@ impl Words {
     pub fn vector(self) -> V128
         ensures { result ≡ vector_of self.lo self.hi }
     {
-        V128::from_words(self.lo, self.hi)
+        V128::from_word_pair(self.lo, self.hi)
     }
 
     /// The words of a raw value.
     pub fn of_raw(raw: RawVal) -> Words
-        ensures { result ≡ words_of raw }
+        ensures { result ≡ raw_words raw }
     {
         Words {
             lo: raw.lo,

@@ -24,7 +24,7 @@ use Rattle.wasmi_operands.proofs.AcceptanceLemmas.{refused_through}
 -- what is said beside a word, if anything is
 abbrev said : List (List ℕ × Type 0) → List ℕ → Type 0
 said [] word = Unit {0}
-said (row ∷ rows) word = cond (bytes_eq row.0 word) row.1 (said rows word)
+said (entry ∷ entries) word = cond (bytes_eq entry.0 word) entry.1 (said entries word)
 
 -- what the operands of these commands write, as they write a call
 abbrev forms : (Call → Type 0) → List (List ℕ × Type 0)

@@ -63,14 +63,14 @@ use Rattle.wasmi_grammar.proofs.MemoryWordsLemmas.{memory_named, memory_is}
 use Rattle.wasmi_grammar.proofs.TableWordsLemmas.{table_named, table_is}
 use Rattle.wasmi_grammar.proofs.AnswersLemmas.{answers_named, answers_is}
 
--- what a table has beside a word, or something else
+-- what a list has beside a word, or something else
 abbrev found_or : {A : Type 0} → List (List ℕ × A) → List ℕ → A → A
 found_or [] word other = other
-found_or (row ∷ rows) word other = cond (bytes_eq row.0 word) row.1 (found_or rows word other)
+found_or (entry ∷ entries) word other = cond (bytes_eq entry.0 word) entry.1 (found_or entries word other)
 
--- the same of a table that has a thing or none
+-- the same of a list that has a thing or none
 abbrev beside : {A : Type 0} → List (List ℕ × Option A) → List ℕ → Option A
-beside rows word = found_or rows word None
+beside entries word = found_or entries word None
 
 -- what a line says, with its lists as lists
 pub data LineSaid : Type 0 where

@@ -44,7 +44,8 @@ pub trait Lanes: Copy {
 
     /// The vector with these lanes.
     fn into_v128(self) -> V128
-        ensures lanes { (i : ℕ) → i < LANES → item self i ≡ Self.Item.read (lane Self.Item.width result i) }
+        ensures lanes { (i : ℕ) → i < LANES
+            → item self i ≡ Self.Item.read (lane Self.Item.width result i) }
         ensures in_range { result < 2 ^ 128 };
 
     /// The same item in all lanes.
@@ -69,7 +70,8 @@ pub trait Lanes: Copy {
     /// What `f` gives for the lanes of two vectors at each index.
     fn lanewise_binary<F: Fn(Self::Item, Self::Item) -> Self::Item>(self, other: Self, f: F) -> Self
         requires callable { F.IsAlwaysCallable f }
-        ensures lanes { (i : ℕ) → i < LANES → F.post f (item self i) (item other i) (item result i) };
+        ensures lanes { (i : ℕ) → i < LANES
+            → F.post f (item self i) (item other i) (item result i) };
 
     /// What `f` gives for the lanes of three vectors at each index.
     fn lanewise_ternary<F: Fn(Self::Item, Self::Item, Self::Item) -> Self::Item>(
@@ -79,18 +81,21 @@ pub trait Lanes: Copy {
         f: F,
     ) -> Self
         requires callable { F.IsAlwaysCallable f }
-        ensures lanes { (i : ℕ) → i < LANES → F.post f (item self i) (item b i) (item c i) (item result i) };
+        ensures lanes { (i : ℕ) → i < LANES
+            → F.post f (item self i) (item b i) (item c i) (item result i) };
 
     /// `ALL_ONES` in the lanes where `f` holds, `ALL_ZEROS` in the others.
     fn lanewise_comparison<F: Fn(Self::Item, Self::Item) -> bool>(self, other: Self, f: F) -> Self
         requires callable { F.IsAlwaysCallable f }
-        ensures lanes { (i : ℕ) → i < LANES → (holds : Bool) × F.post f (item self i) (item other i) holds
+        ensures lanes { (i : ℕ) → i < LANES
+            → (holds : Bool) × F.post f (item self i) (item other i) holds
             × (item result i ≡ (if holds then ALL_ONES else ALL_ZEROS)) };
 
     /// Turns `acc` into `f(i, lane i, acc)` for each lane index from 0 upwards.
     fn lanewise_reduce<T, F: Fn(u8, Self::Item, T) -> T>(self, acc: T, f: F) -> T
         requires callable { F.IsAlwaysCallable f }
-        ensures steps { ReducesTo (λ i before after. F.post f i (item self i) before after) LANES acc
+        ensures steps { ReducesTo
+            (λ i before after. F.post f i (item self i) before after) LANES acc
             result };
 
     /// The lanes make 128 bits.

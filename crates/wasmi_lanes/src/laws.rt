@@ -21,7 +21,8 @@ pub fn lanes_there_and_back<L: Lanes>(lanes: L) -> L
 pub fn lanes_of_made_vector()
     ensures made { (w : Width) (f : ℕ → ℕ) (i : ℕ) → i < 128 / bits w
         → lane w (from_lanes w f) i ≡ f i % 2 ^ bits w }
-    ensures splat { (w : Width) (n i : ℕ) → i < 128 / bits w → n < 2 ^ bits w → lane w (splat_of w n) i ≡ n }
+    ensures splat { (w : Width) (n i : ℕ) → i < 128 / bits w → n < 2 ^ bits w
+        → lane w (splat_of w n) i ≡ n }
     ensures with_lane { (w : Width) (v k n i : ℕ) → i < 128 / bits w → n < 2 ^ bits w
         → lane w (with_lane w v k n) i ≡ (if i == k then n else lane w v i) }
 {}
@@ -36,7 +37,8 @@ pub fn lanes_of_rows<L: Lanes>()
         → lane L.Item.width (binary_of_lanes L.Item.width read row a b) i
         ≡ row (read (lane L.Item.width a i))
         (read (lane L.Item.width b i)) % 2 ^ bits L.Item.width }
-    ensures comparison { (read : ℕ → L.Item) (test : L.Item → L.Item → Bool) (a b i : ℕ) → i < L.LANES
+    ensures comparison { (read : ℕ → L.Item) (test : L.Item → L.Item → Bool) (a b i : ℕ)
+        → i < L.LANES
         → lane L.Item.width (comparison_of_lanes L.Item.width read test a b) i
         ≡ (if test (read (lane L.Item.width a i))
         (read (lane L.Item.width b i)) then 2 ^ bits L.Item.width - 1 else 0) }

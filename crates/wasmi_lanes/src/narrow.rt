@@ -87,7 +87,8 @@ pub trait FromNarrow<S: FromWide<Self>>: Lanes {
     /// Lane i is made of the narrow lane i.
     fn low_unary<F: Fn(S::Item) -> Self::Item>(narrow: S, f: F) -> Self
         requires callable { F.IsAlwaysCallable f }
-        ensures lanes { (i : ℕ) → i < Self.LANES → F.post f (S.item narrow i) (Self.item result i) };
+        ensures lanes { (i : ℕ) → i < Self.LANES
+            → F.post f (S.item narrow i) (Self.item result i) };
 
     /// Lane i is made of the narrow lane i of the upper half.
     fn high_unary<F: Fn(S::Item) -> Self::Item>(narrow: S, f: F) -> Self
@@ -98,7 +99,8 @@ pub trait FromNarrow<S: FromWide<Self>>: Lanes {
     /// Lane i is made of the narrow lanes i of both operands.
     fn low_binary<F: Fn(S::Item, S::Item) -> Self::Item>(a: S, b: S, f: F) -> Self
         requires callable { F.IsAlwaysCallable f }
-        ensures lanes { (i : ℕ) → i < Self.LANES → F.post f (S.item a i) (S.item b i) (Self.item result i) };
+        ensures lanes { (i : ℕ) → i < Self.LANES
+            → F.post f (S.item a i) (S.item b i) (Self.item result i) };
 
     /// Lane i is made of the narrow lanes i of the upper halves of both operands.
     fn high_binary<F: Fn(S::Item, S::Item) -> Self::Item>(a: S, b: S, f: F) -> Self

@@ -42,7 +42,7 @@ pub fn from_bytes(bytes: u8x16) -> V128
     ensures in_range { result < 2 ^ 128 }
 {
     let [low, high] = u64x2::from_le_bytes(bytes).to_array();
-    V128::from_words(low, high)
+    V128::from_word_pair(low, high)
 }
 
 /// The words of a vector, the lower one first, as one value of the processor's.
@@ -60,5 +60,5 @@ pub fn from_u64x2(words: u64x2) -> V128
     ensures { (low high : ℕ) → words ≡ low ∷ high ∷ [] → result ≡ vector_of low high }
 {
     let [low, high] = words.to_array();
-    V128::from_words(low, high)
+    V128::from_word_pair(low, high)
 }

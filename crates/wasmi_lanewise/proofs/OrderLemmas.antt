@@ -62,12 +62,12 @@ int_at_most_is_not_less (negsuc a) (negsuc b) = at_most_is_not_less b a
 
 module _ (w : Width) where
   -- a number below half of the range is moved up by the half
-  low_raised : (x : ℕ) → x < 2 ^ hbits w → biased w x ≡ x + 2 ^ hbits w
-  low_raised x below = ap (λ n. (x + n) % 2 ^ bits w) (half_is w) ∙ mod-eq_of_lt (omega (arith, whole_is w))
+  low_biased : (x : ℕ) → x < 2 ^ hbits w → biased w x ≡ x + 2 ^ hbits w
+  low_biased x below = ap (λ n. (x + n) % 2 ^ bits w) (half_is w) ∙ mod-eq_of_lt (omega (arith, whole_is w))
 
   -- a number from half of the range on is moved down by the half
-  high_raised : (x : ℕ) → 2 ^ hbits w ≤ x → x < 2 ^ bits w → biased w x ≡ x - 2 ^ hbits w
-  high_raised x above fits =
+  high_biased : (x : ℕ) → 2 ^ hbits w ≤ x → x < 2 ^ bits w → biased w x ≡ x - 2 ^ hbits w
+  high_biased x above fits =
       let sum : x + 2 ^ hbits w ≡ (x - 2 ^ hbits w) + 2 ^ bits w = omega (arith, whole_is w) in
       ap (λ n. (x + n) % 2 ^ bits w) (half_is w) ∙ ap (λ n. n % 2 ^ bits w) sum
       ∙ add-mod_right (x - 2 ^ hbits w) (2 ^ bits w) ∙ mod-eq_of_lt (omega arith)
@@ -77,28 +77,28 @@ module _ (w : Width) where
     less_where : (low_x low_y : Bool) → ltb x (2 ^ hbits w) ≡ low_x → ltb y (2 ^ hbits w) ≡ low_y
         → ltb (biased w x) (biased w y) ≡ int_lt (read_as w low_x x) (read_as w low_y y)
     less_where true true is_x is_y =
-        ap₂ ltb (low_raised x (ltb-true x (2 ^ hbits w) is_x)) (low_raised y (ltb-true y (2 ^ hbits w) is_y))
+        ap₂ ltb (low_biased x (ltb-true x (2 ^ hbits w) is_x)) (low_biased y (ltb-true y (2 ^ hbits w) is_y))
         ∙ same_less (x + 2 ^ hbits w) (y + 2 ^ hbits w) x y (λ h. omega arith) (λ h. omega arith)
     less_where true false is_x is_y =
         let below = ltb-true x (2 ^ hbits w) is_x in
         let above = ltb-false y (2 ^ hbits w) is_y in
-        ap₂ ltb (low_raised x below) (high_raised y above fits_y)
+        ap₂ ltb (low_biased x below) (high_biased y above fits_y)
         ∙ le-ltb (x + 2 ^ hbits w) (y - 2 ^ hbits w) (omega (arith, whole_is w))
     less_where false true is_x is_y =
         let above = ltb-false x (2 ^ hbits w) is_x in
         let below = ltb-true y (2 ^ hbits w) is_y in
-        ap₂ ltb (high_raised x above fits_x) (low_raised y below)
+        ap₂ ltb (high_biased x above fits_x) (low_biased y below)
         ∙ lt-ltb (x - 2 ^ hbits w) (y + 2 ^ hbits w) (omega (arith, whole_is w))
     less_where false false is_x is_y =
         let above_x = ltb-false x (2 ^ hbits w) is_x in
         let above_y = ltb-false y (2 ^ hbits w) is_y in
-        ap₂ ltb (high_raised x above_x fits_x) (high_raised y above_y fits_y)
+        ap₂ ltb (high_biased x above_x fits_x) (high_biased y above_y fits_y)
         ∙ same_less (x - 2 ^ hbits w) (y - 2 ^ hbits w) (2 ^ bits w - suc y) (2 ^ bits w - suc x) (λ h. omega arith)
         (λ h. omega arith)
 
     -- moved numbers are in the order of the signed numbers with their bits
-    raised_is_less : ltb (biased w x) (biased w y) ≡ int_lt (signed w x) (signed w y)
-    raised_is_less = less_where (ltb x (2 ^ hbits w)) (ltb y (2 ^ hbits w)) refl refl
+    biased_is_less : ltb (biased w x) (biased w y) ≡ int_lt (signed w x) (signed w y)
+    biased_is_less = less_where (ltb x (2 ^ hbits w)) (ltb y (2 ^ hbits w)) refl refl
 
   -- the number of a signed number that was read from it
   pub wrap_signed : (x : ℕ) → x < 2 ^ bits w → wrap w (signed w x) ≡ x
@@ -152,26 +152,26 @@ wrap_chosen w false x y fits_x fits_y = sym (wrap_signed w y fits_y)
 signed_smaller_is : (w : Width) (a b : ℕ) → a < 2 ^ bits w → b < 2 ^ bits w
     → (if ltb (biased w b) (biased w a) then b else a) ≡ wrap w (int_min (signed w a) (signed w b))
 signed_smaller_is w a b fits_a fits_b =
-    ap (λ t. if t then b else a) (raised_is_less w b a fits_b fits_a)
+    ap (λ t. if t then b else a) (biased_is_less w b a fits_b fits_a)
     ∙ wrap_chosen w (int_lt (signed w b) (signed w a)) b a fits_b fits_a
 
 -- so the larger of the signed numbers
 signed_larger_is : (w : Width) (a b : ℕ) → a < 2 ^ bits w → b < 2 ^ bits w
     → (if ltb (biased w b) (biased w a) then a else b) ≡ wrap w (int_max (signed w a) (signed w b))
 signed_larger_is w a b fits_a fits_b =
-    ap (λ t. if t then a else b) (raised_is_less w b a fits_b fits_a)
+    ap (λ t. if t then a else b) (biased_is_less w b a fits_b fits_a)
     ∙ wrap_chosen w (int_lt (signed w b) (signed w a)) a b fits_a fits_b
 
 -- all ones or all zeros by a comparison, in the order of the signed numbers
 ones_where_less : (w : Width) (n p q : ℕ) → p < 2 ^ bits w → q < 2 ^ bits w
     → (if ltb (biased w p) (biased w q) then n else 0) ≡ (if int_lt (signed w p) (signed w q) then n else 0)
-ones_where_less w n p q fits_p fits_q = ap (λ t. if t then n else 0) (raised_is_less w p q fits_p fits_q)
+ones_where_less w n p q fits_p fits_q = ap (λ t. if t then n else 0) (biased_is_less w p q fits_p fits_q)
 
 -- all zeros where q, moved, is less than p, moved, else all ones: all ones where p is at most q as signed numbers
 ones_where_at_most : (w : Width) (n p q : ℕ) → p < 2 ^ bits w → q < 2 ^ bits w
     → (if ltb (biased w q) (biased w p) then 0 else n) ≡ (if int_le (signed w p) (signed w q) then n else 0)
 ones_where_at_most w n p q fits_p fits_q =
-    ap (λ t. if t then 0 else n) (raised_is_less w q p fits_q fits_p) ∙ zeros_where_int_less (signed w p) (signed w q) n
+    ap (λ t. if t then 0 else n) (biased_is_less w q p fits_q fits_p) ∙ zeros_where_int_less (signed w p) (signed w q) n
 
 -- lanes that are chosen from two vectors, each with one number in all its lanes, are chosen from the two numbers
 pub chosen_numbers : {n : ℕ} (chosen other : ℕ) (test : ℕ → Bool) {r from_chosen from_other : ℕ → ℕ}

@@ -1,4 +1,4 @@
--- The rounded product of two q15 of 2 to the power 15, by the halves of their product.
+-- The rounded product of two q15 numbers, signed and over 2 to the power 15, by the halves of their product.
 use Rattle.std.proofs.Common.{ℕ, ℤ, pos, negsuc, suc, ◌+◌, ◌-◌, ◌*◌, ◌/◌, ◌%◌, ◌^◌, ◌<◌, ◌≤◌, ◌≡◌, ◌⊎◌, inl, inr, ◌+ℤ◌, ◌*ℤ◌, Bool, true, false, cond, ltb, nat_lt, if◌then◌else◌, refl, sym, subst, ap, ap₂, ◌∙◌, arith, FitsSigned, unsigned_abs, List, length, get_or, map, replicate, bit_xor, mod-lt, Fits}
 use Rattle.std.specs.Int.{cast_unsigned, int_shr}
 use Rattle.std.specs.Int.Signed.{shr_z}

@@ -25,9 +25,9 @@ pub inverted_is : (v r : ℕ) → v < 2 ^ 128 → r ≡ vector_of (2 ^ 64 - 1 - 
 inverted_is v r fits is = omega (arith, is)
 
 -- the words of what is inverted, inverted again
-pub words_of_inverted : {v i low high : ℕ} → v < 2 ^ 128 → i ≡ v128_not v → AreWords i low high
+pub inverted_word_pair : {v i low high : ℕ} → v < 2 ^ 128 → i ≡ v128_not v → AreWords i low high
     → AreWords v (2 ^ 64 - 1 - low) (2 ^ 64 - 1 - high)
-words_of_inverted fits is of_i = u64x2_of (omega (arith, is, of_i.low_is)) (omega (arith, is, of_i.high_is))
+inverted_word_pair fits is of_i = u64x2_of (omega (arith, is, of_i.low_is)) (omega (arith, is, of_i.high_is))
 
 -- the vector of inverted words, inverted, is the vector of the words
 pub inverted_words : {low high i r : ℕ} → low < 2 ^ 64 → high < 2 ^ 64

@@ -11,7 +11,7 @@ pub record MeteredValue (V S : Type 0) : Type 0 where
   pub meter : Option Meter
   pub limiter : S
 
--- another value in the same situation
+-- another value with the same meter and limiter
 abbrev pub with_value : {V W S : Type 0} → MeteredValue V S → W → MeteredValue W S
 with_value s value = record { value = value; meter = s.meter; limiter = s.limiter }
 

@@ -39,7 +39,8 @@ pub trait GrowthError: Drop {
         limiter: &mut ResourceLimiterRef<L>,
     ) -> Result<(), LimiterError>
         ensures loan { KeepsLoan limiter.old limiter.new }
-        ensures noticed { (optional_rules L.rules).noticed (lent_limiter limiter.old) (notice self.now) result
+        ensures noticed { (optional_rules L.rules).noticed (lent_limiter limiter.old)
+            (notice self.now) result
             (lent_limiter limiter.new) };
 }
 

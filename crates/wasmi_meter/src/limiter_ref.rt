@@ -31,7 +31,8 @@ pub trait Lender: sealed::Sealed {
 
     /// Lends it.
     fn lend(&mut self) -> &mut Self::Lent
-        ensures* writes_back { sem 𝓛 (Lends Self.row Self.Lent.row self.entry result (last self.old)) }
+        ensures* writes_back { sem 𝓛
+            (Lends Self.row Self.Lent.row self.entry result (last self.old)) }
         ensures value { result.now ≡ shown self.old };
 }
 
@@ -102,7 +103,8 @@ impl<R> LimiterRef<R> {
     pub fn as_resource_limiter(&mut self) -> Option<&mut R::Lent>
     where
         R: Lender,
-        ensures* writes_back { sem 𝓛 (LendsLimiter R.row R.Lent.row R.Lender.last self.entry result) }
+        ensures* writes_back { sem 𝓛
+            (LendsLimiter R.row R.Lent.row R.Lender.last self.entry result) }
         ensures value { option_copied_mut result ≡ shown_of R.Lender.shown (loan self.old) }
     {
         match &mut self.limiter {

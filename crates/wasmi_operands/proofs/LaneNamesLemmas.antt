@@ -3,41 +3,42 @@ use Rattle.std.proofs.Common.{ℕ, ◌≡◌, List, [], ◌∷◌, Option, Some,
 use Rattle.std.specs.Bool.{⊤}
 use Rattle.std.specs.Option.{option_map}
 use Rattle.wasmi_operands.specs.Numbers.{decimal_value}
-use Rattle.wasmi_operands.specs.Names.{Row, entry_of}
-use Rattle.wasmi_operands.specs.LaneNames.{LaneRow, NamesBeside, NamesLane}
+use Rattle.wasmi_operands.specs.Names.{NameEntry, entry_of}
+use Rattle.wasmi_operands.specs.LaneNames.{LaneEntry, NamesBeside, NamesLane}
 use Rattle.wasmi_operands.proofs.NamesLemmas.{same_text}
 
--- no row of a table has this name
-abbrev pub LacksName : {A : Type 0} → List (Row A) → List ℕ → Type 0
+-- no entry of a list has this name
+abbrev pub LacksName : {A : Type 0} → List (NameEntry A) → List ℕ → Type 0
 LacksName [] name = ⊤
-LacksName (row ∷ rows) name = ¬ (name ≡ row.0) × LacksName rows name
+LacksName (entry ∷ entries) name = ¬ (name ≡ entry.0) × LacksName entries name
 
--- a table has nothing beside a name that none of its rows has
-no_entry : {A : Type 0} (rows : List (Row A)) (name : List ℕ) → LacksName rows name → entry_of rows name ≡ None
+-- a list has nothing beside a name that none of its entries has
+no_entry : {A : Type 0} (entries : List (NameEntry A)) (name : List ℕ) → LacksName entries name
+    → entry_of entries name ≡ None
 no_entry [] name other = refl
-no_entry (row ∷ rows) name other =
-    elim (bytes_eq row.0 name) as
-    (λ b. bytes_eq row.0 name ≡ b → cond b (Some row.1) (entry_of rows name) ≡ None) [
-      | true ↦ λ here. absurd (other.0 (sym (same_text row.0 name here)))
-      | false ↦ λ here. no_entry rows name other.1
+no_entry (entry ∷ entries) name other =
+    elim (bytes_eq entry.0 name) as
+    (λ b. bytes_eq entry.0 name ≡ b → cond b (Some entry.1) (entry_of entries name) ≡ None) [
+      | true ↦ λ here. absurd (other.0 (sym (same_text entry.0 name here)))
+      | false ↦ λ here. no_entry entries name other.1
     ] refl
 
-module _ {Op : Type 0} (rows : List (LaneRow Op)) (name lane : List ℕ) where
-  -- the instruction that two words name by a table, the second of which is a lane's index
+module _ {Op : Type 0} (entries : List (LaneEntry Op)) (name lane : List ℕ) where
+  -- the instruction that two words name by a list, the second of which is a lane's index
   pub lane_named : Option Op
-  lane_named = option_map (λ row. row.1 (decimal_value lane)) (entry_of rows name)
+  lane_named = option_map (λ entry. entry.1 (decimal_value lane)) (entry_of entries name)
 
-  -- two words that name an instruction by a table give that instruction
-  pub lane_is : (op : Op) → NamesLane rows name lane op → lane_named ≡ Some op
+  -- two words that name an instruction by a list give that instruction
+  pub lane_is : (op : Op) → NamesLane entries name lane op → lane_named ≡ Some op
   unfolding NamesLane lane_named
   lane_is op =
-      elim (entry_of rows name) as (λ found. NamesBeside found lane op
-      → option_map (λ row. row.1 (decimal_value lane)) found ≡ Some op) [
+      elim (entry_of entries name) as (λ found. NamesBeside found lane op
+      → option_map (λ entry. entry.1 (decimal_value lane)) found ≡ Some op) [
         | None ↦ λ w. absurd w
-        | Some row ↦ λ w. ap (λ it. Some it) (sym w.2)
+        | Some entry ↦ λ w. ap (λ it. Some it) (sym w.2)
       ]
 
-  -- a name that none of the rows has names no instruction
-  pub names_none : LacksName rows name → (op : Op) → ¬ (NamesLane rows name lane op)
+  -- a name that none of the entries has names no instruction
+  pub names_none : LacksName entries name → (op : Op) → ¬ (NamesLane entries name lane op)
   unfolding NamesLane
-  names_none other op w = subst (λ found. NamesBeside found lane op) (no_entry rows name other) w
+  names_none other op w = subst (λ found. NamesBeside found lane op) (no_entry entries name other) w

@@ -10,23 +10,23 @@ use Rattle.wasmi_vector_ops.specs.declared.access.StoreLaneOp.{StoreLaneOp}
 use Rattle.wasmi_vector_ops.specs.declared.access.StoreLaneOp.TheVariants as store
 use Rattle.wasmi_operands.specs.Words.{Words}
 use Rattle.wasmi_operands.specs.Numbers.{IsDecimal, WritesNumbers, decimal_value}
-use Rattle.wasmi_operands.specs.Names.{Row, entry_of}
+use Rattle.wasmi_operands.specs.Names.{NameEntry, entry_of}
 
--- a row of a table: the name of an instruction on a lane, the bits of the index, and the instruction of an index
-abbrev pub LaneRow : Type 0 → Type 0
-LaneRow Op = Row (ℕ × (ℕ → Op))
+-- an entry of a list: the name of an instruction on a lane, the bits of the index, and the instruction of an index
+abbrev pub LaneEntry : Type 0 → Type 0
+LaneEntry Op = NameEntry (ℕ × (ℕ → Op))
 
 -- a word writes a lane's index of so many bits (4 where there are 16 lanes, and so on), and this is its instruction
 abbrev pub NamesBeside : {Op : Type 0} → Option (ℕ × (ℕ → Op)) → List ℕ → Op → Type 0
-NamesBeside found lane op = IsSomeAnd found (λ row. IsDecimal lane × (decimal_value lane < 2 ^ row.0)
-    × (op ≡ row.1 (decimal_value lane)))
+NamesBeside found lane op = IsSomeAnd found (λ entry. IsDecimal lane × (decimal_value lane < 2 ^ entry.0)
+    × (op ≡ entry.1 (decimal_value lane)))
 
--- two words are the name of a row and an index of its lanes, and name its instruction of that index
-unfoldable pub NamesLane : {Op : Type 0} → List (LaneRow Op) → List ℕ → List ℕ → Op → Type 0
-NamesLane rows name lane op = NamesBeside (entry_of rows name) lane op
+-- two words are the name of an entry and an index of its lanes, and name its instruction of that index
+unfoldable pub NamesLane : {Op : Type 0} → List (LaneEntry Op) → List ℕ → List ℕ → Op → Type 0
+NamesLane entries name lane op = NamesBeside (entry_of entries name) lane op
 
 -- the replacements of a lane
-abbrev pub replacements : List (LaneRow ReplaceOp)
+abbrev pub replacements : List (LaneEntry ReplaceOp)
 replacements =
     (codes "i8x16_replace_lane", (4, λ index. replace.I8x16ReplaceLane index)) ∷
     (codes "i16x8_replace_lane", (3, λ index. replace.I16x8ReplaceLane index)) ∷
@@ -39,7 +39,7 @@ abbrev pub NamesReplace : List ℕ → List ℕ → ReplaceOp → Type 0
 NamesReplace = NamesLane replacements
 
 -- the loads of a lane
-abbrev pub lane_loads : List (LaneRow LoadLaneOp)
+abbrev pub lane_loads : List (LaneEntry LoadLaneOp)
 lane_loads =
     (codes "v128_load8_lane", (4, λ index. load.V128Load8Lane index)) ∷
     (codes "v128_load16_lane", (3, λ index. load.V128Load16Lane index)) ∷
@@ -52,7 +52,7 @@ abbrev pub NamesLoadLane : List ℕ → List ℕ → LoadLaneOp → Type 0
 NamesLoadLane = NamesLane lane_loads
 
 -- the stores of a lane
-abbrev pub lane_stores : List (LaneRow StoreLaneOp)
+abbrev pub lane_stores : List (LaneEntry StoreLaneOp)
 lane_stores =
     (codes "v128_store8_lane", (4, λ index. store.V128Store8Lane index)) ∷
     (codes "v128_store16_lane", (3, λ index. store.V128Store16Lane index)) ∷
@@ -65,7 +65,7 @@ abbrev pub NamesStoreLane : List ℕ → List ℕ → StoreLaneOp → Type 0
 NamesStoreLane = NamesLane lane_stores
 
 -- the extractions of a lane
-abbrev pub extractions : List (LaneRow ExtractOp)
+abbrev pub extractions : List (LaneEntry ExtractOp)
 extractions =
     (codes "i8x16_extract_lane_s", (4, λ index. extract.I8x16ExtractLaneS index)) ∷
     (codes "i8x16_extract_lane_u", (4, λ index. extract.I8x16ExtractLaneU index)) ∷

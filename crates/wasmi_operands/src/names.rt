@@ -1,4 +1,4 @@
-//! The names of the vector instructions: a table for each shape, and those of lanes in `lane`;
+//! The names of the vector instructions: a list for each shape, and those of lanes in `lane`;
 //! those of loads and stores in `access`.
 ghost use Rattle.std.specs.Prelude.{map};
 ghost use Rattle.wasmi_operands.specs.Acceptance.{Accepts};
@@ -298,10 +298,10 @@ pub fn load_op(name: &str) -> Result<VectorLoadOp, LineError>
     op_named(&LOADS, name)
 }
 
-/// The op of a name in a table.
-fn op_named<T: Copy>(table: &[(&str, T)], name: &str) -> Result<T, LineError>
-    ensures { Accepts result (IsNamed (map (λ row. (row.0.now, row.1)) table.now) name.now) }
+/// The op of a name in a list of names.
+fn op_named<T: Copy>(names: &[(&str, T)], name: &str) -> Result<T, LineError>
+    ensures { Accepts result (IsNamed (map (λ entry. (entry.0.now, entry.1)) names.now) name.now) }
 {
-    let row = table.iter().find(|(known, _)| *known == name);
-    row.map(|(_, op)| *op).ok_or(LineError::BadCommand)
+    let entry = names.iter().find(|(known, _)| *known == name);
+    entry.map(|(_, op)| *op).ok_or(LineError::BadCommand)
 }

@@ -50,7 +50,8 @@ pub trait Number: sealed::Sealed {
     ghost is_of_its_number: { (value : Self) → of_number (number value) ≡ value };
 
     /// A number of the type is that of its value.
-    ghost is_number_of_its_value: { (z : ℤ) → IsInRange is_signed width z → number (of_number z) ≡ z };
+    ghost is_number_of_its_value: { (z : ℤ) → IsInRange is_signed width z
+        → number (of_number z) ≡ z };
 }
 
 impl Number for i8 {

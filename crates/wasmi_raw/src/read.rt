@@ -86,7 +86,7 @@ impl ReadAs<V128> for RawVal {
     ghost read = { vector_in };
 
     fn read_as(&self) -> V128 {
-        V128::from_words(self.lo, self.hi)
+        V128::from_word_pair(self.lo, self.hi)
     }
 }
 

@@ -29,7 +29,7 @@ impl Model for V128 {
 
 impl V128 {
     /// The vector whose bits 0 to 63 are `low` and whose bits 64 to 127 are `high`.
-    pub fn from_words(low: u64, high: u64) -> V128
+    pub fn from_word_pair(low: u64, high: u64) -> V128
         ensures { result ≡ vector_of low high }
     {
         V128 { low, high }

@@ -24,9 +24,9 @@ UnsignedPair number answer = (lo : ℤ) × (hi : ℤ) × (answer ≡ Pair lo hi)
 abbrev pub SignedPair : ℤ → ScalarAnswer → Type 0
 SignedPair number answer = (lo : ℤ) × (hi : ℤ) × (answer ≡ Pair lo hi) × (signed_of lo hi ≡ number)
 
--- a truth value as a number
-abbrev pub truth : Bool → ScalarAnswer
-truth flag = Number (if flag then pos 1 else pos 0)
+-- a Boolean as a number
+abbrev pub boolean : Bool → ScalarAnswer
+boolean flag = Number (if flag then pos 1 else pos 0)
 
 -- a number or the trap in its place
 abbrev pub outcome : Result ℤ TrapCode → ScalarAnswer
@@ -77,17 +77,17 @@ ExecutesInteger w RemU = OfTwo WritesNatural (λ m n. Is (natural_outcome (irem_
 ExecutesInteger w Clz = OfOne WritesInteger (λ x. Is (Number (iclz w x)))
 ExecutesInteger w Ctz = OfOne WritesInteger (λ x. Is (Number (ictz w x)))
 ExecutesInteger w Popcnt = OfOne WritesInteger (λ x. Is (Number (ipopcnt w x)))
-ExecutesInteger w Eqz = OfOne WritesInteger (λ x. Is (truth (ieqz x)))
-ExecutesInteger w Eq = OfTwo WritesInteger (λ x y. Is (truth (ieq x y)))
-ExecutesInteger w Ne = OfTwo WritesInteger (λ x y. Is (truth (ine x y)))
-ExecutesInteger w LtS = OfTwo WritesInteger (λ x y. Is (truth (ilt_s x y)))
-ExecutesInteger w LtU = OfTwo WritesNatural (λ m n. Is (truth (ilt_u m n)))
-ExecutesInteger w LeS = OfTwo WritesInteger (λ x y. Is (truth (ile_s x y)))
-ExecutesInteger w LeU = OfTwo WritesNatural (λ m n. Is (truth (ile_u m n)))
-ExecutesInteger w GtS = OfTwo WritesInteger (λ x y. Is (truth (igt_s x y)))
-ExecutesInteger w GtU = OfTwo WritesNatural (λ m n. Is (truth (igt_u m n)))
-ExecutesInteger w GeS = OfTwo WritesInteger (λ x y. Is (truth (ige_s x y)))
-ExecutesInteger w GeU = OfTwo WritesNatural (λ m n. Is (truth (ige_u m n)))
+ExecutesInteger w Eqz = OfOne WritesInteger (λ x. Is (boolean (ieqz x)))
+ExecutesInteger w Eq = OfTwo WritesInteger (λ x y. Is (boolean (ieq x y)))
+ExecutesInteger w Ne = OfTwo WritesInteger (λ x y. Is (boolean (ine x y)))
+ExecutesInteger w LtS = OfTwo WritesInteger (λ x y. Is (boolean (ilt_s x y)))
+ExecutesInteger w LtU = OfTwo WritesNatural (λ m n. Is (boolean (ilt_u m n)))
+ExecutesInteger w LeS = OfTwo WritesInteger (λ x y. Is (boolean (ile_s x y)))
+ExecutesInteger w LeU = OfTwo WritesNatural (λ m n. Is (boolean (ile_u m n)))
+ExecutesInteger w GtS = OfTwo WritesInteger (λ x y. Is (boolean (igt_s x y)))
+ExecutesInteger w GtU = OfTwo WritesNatural (λ m n. Is (boolean (igt_u m n)))
+ExecutesInteger w GeS = OfTwo WritesInteger (λ x y. Is (boolean (ige_s x y)))
+ExecutesInteger w GeU = OfTwo WritesNatural (λ m n. Is (boolean (ige_u m n)))
 ExecutesInteger w Extend8S = OfOne WritesInteger (λ x. Is (Number (int_wrap w8 x)))
 ExecutesInteger w Extend16S = OfOne WritesInteger (λ x. Is (Number (int_wrap w16 x)))
 

@@ -63,8 +63,10 @@ impl Tally {
 
     /// How a comparison with these counts ends.
     fn status(self) -> CheckStatus
-        ensures agreed { result ≡ CheckStatus.Agreed ↔ ((self.differing ≡ 0) × (0 < self.agreeing)) }
-        ensures differed { result ≡ CheckStatus.Differed ↔ ((0 < self.differing) ⊎ (self.agreeing ≡ 0)) }
+        ensures agreed { result ≡ CheckStatus.Agreed
+            ↔ ((self.differing ≡ 0) × (0 < self.agreeing)) }
+        ensures differed { result ≡ CheckStatus.Differed
+            ↔ ((0 < self.differing) ⊎ (self.agreeing ≡ 0)) }
     {
         if self.differing == 0 && self.agreeing > 0 {
             CheckStatus::Agreed

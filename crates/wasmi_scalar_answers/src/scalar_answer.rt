@@ -10,7 +10,7 @@ use wasmi_types::TrapCode;
 /// What an instruction answers.
 #[derive(Clone, Copy, Debug, PartialEq, Eq)]
 pub enum ScalarAnswer {
-    /// A number. A truth value is 0 or 1.
+    /// A number. A Boolean is 0 or 1.
     Number(i128),
     /// The low and the high word of a number.
     Pair(i128, i128),

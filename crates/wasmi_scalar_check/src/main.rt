@@ -1,4 +1,4 @@
-//! Compares the table of answers on its standard input with what the instructions answer.
+//! Compares the list of answers on its standard input with what the instructions answer.
 #![tactic(auto)]
 
 use std::process::ExitCode;

@@ -6,7 +6,7 @@ use Rattle.wasmi_raw.specs.declared.raw.RawVal.{RawVal}
 use Rattle.wasmi_raw.specs.RawVal.{raw_of, raw_of_vector, signed_in, unsigned_in, vector_in}
 use Rattle.wasmi_scalar.specs.Numerics.{iadd, isub, imul, idiv_s, idiv_u, irem_s, irem_u, iand, ior, ixor, ishl, ishr_s, ishr_u, irotl, irotr, ieq, ine, ilt_s, ilt_u, igt_s, igt_u, ile_s, ile_u, ige_s, ige_u}
 use Rattle.wasmi_scalar.specs.Wide.{add128, sub128}
-use Rattle.wasmi_scalar_ops.specs.Raw.{as_raw, signed_raw, truth_raw}
+use Rattle.wasmi_scalar_ops.specs.Raw.{as_raw, signed_raw, bool_raw}
 use Rattle.wasmi_scalar_ops.specs.declared.binary.ScalarBinaryOp.{ScalarBinaryOp}
 use Rattle.wasmi_scalar_ops.specs.declared.binary.ScalarBinaryOp.TheVariants as binary
 
@@ -32,11 +32,11 @@ unsigned_partial w operator lhs rhs = as_raw raw_of (operator (unsigned_in w lhs
 
 -- a comparison of two numbers that are read signed in a width
 abbrev pub signed_comparison : Width → (ℤ → ℤ → Bool) → RawOperation
-signed_comparison w relation lhs rhs = Ok (truth_raw (relation (signed_in w lhs) (signed_in w rhs)))
+signed_comparison w relation lhs rhs = Ok (bool_raw (relation (signed_in w lhs) (signed_in w rhs)))
 
 -- the same of numbers that are read unsigned
 abbrev pub unsigned_comparison : Width → (ℕ → ℕ → Bool) → RawOperation
-unsigned_comparison w relation lhs rhs = Ok (truth_raw (relation (unsigned_in w lhs) (unsigned_in w rhs)))
+unsigned_comparison w relation lhs rhs = Ok (bool_raw (relation (unsigned_in w lhs) (unsigned_in w rhs)))
 
 -- an operation on two numbers of 128 bits
 abbrev pub wide_operation : (ℕ → ℕ → ℕ) → RawOperation

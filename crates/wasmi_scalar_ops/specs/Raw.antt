@@ -9,9 +9,9 @@ use Rattle.wasmi_raw.specs.RawVal.{raw_of}
 abbrev pub signed_raw : Width → ℤ → RawVal
 signed_raw w z = raw_of (cast_unsigned w z)
 
--- the raw value of a truth value, 0 or 1
-abbrev pub truth_raw : Bool → RawVal
-truth_raw flag = raw_of (from_bool flag)
+-- the raw value of a Boolean, 0 or 1
+abbrev pub bool_raw : Bool → RawVal
+bool_raw flag = raw_of (from_bool flag)
 
 -- an answer as a raw value; a trap stays
 abbrev pub as_raw : {A : Type 0} → (A → RawVal) → Result A TrapCode → Result RawVal TrapCode

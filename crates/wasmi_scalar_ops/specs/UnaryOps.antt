@@ -3,7 +3,7 @@ use Rattle.std.specs.Int.{w8, w16, w32, w64, int_wrap}
 use Rattle.wasmi_raw.specs.declared.raw.RawVal.{RawVal}
 use Rattle.wasmi_raw.specs.RawVal.{raw_of, signed_in, unsigned_in}
 use Rattle.wasmi_scalar.specs.Numerics.{iclz, ictz, ipopcnt, ieqz}
-use Rattle.wasmi_scalar_ops.specs.Raw.{signed_raw, truth_raw}
+use Rattle.wasmi_scalar_ops.specs.Raw.{signed_raw, bool_raw}
 use Rattle.wasmi_scalar_ops.specs.declared.unary.ScalarUnaryOp.{ScalarUnaryOp}
 use Rattle.wasmi_scalar_ops.specs.declared.unary.ScalarUnaryOp.TheVariants as unary
 
@@ -12,11 +12,11 @@ abbrev pub unary_raw : ScalarUnaryOp → RawVal → RawVal
 unary_raw unary.I32Clz raw = signed_raw w32 (iclz w32 (signed_in w32 raw))
 unary_raw unary.I32Ctz raw = signed_raw w32 (ictz w32 (signed_in w32 raw))
 unary_raw unary.I32Popcnt raw = signed_raw w32 (ipopcnt w32 (signed_in w32 raw))
-unary_raw unary.I32Eqz raw = truth_raw (ieqz (signed_in w32 raw))
+unary_raw unary.I32Eqz raw = bool_raw (ieqz (signed_in w32 raw))
 unary_raw unary.I64Clz raw = signed_raw w64 (iclz w64 (signed_in w64 raw))
 unary_raw unary.I64Ctz raw = signed_raw w64 (ictz w64 (signed_in w64 raw))
 unary_raw unary.I64Popcnt raw = signed_raw w64 (ipopcnt w64 (signed_in w64 raw))
-unary_raw unary.I64Eqz raw = truth_raw (ieqz (signed_in w64 raw))
+unary_raw unary.I64Eqz raw = bool_raw (ieqz (signed_in w64 raw))
 unary_raw unary.I32WrapI64 raw = signed_raw w32 (int_wrap w32 (signed_in w64 raw))
 unary_raw unary.I64ExtendI32S raw = signed_raw w64 (signed_in w32 raw)
 unary_raw unary.I64ExtendI32U raw = raw_of (unsigned_in w32 raw)

@@ -121,7 +121,7 @@ pub enum ScalarBinaryOp {
 }
 
 impl ScalarBinaryOp {
-    /// The result for two operands in raw values, or the trap. A truth value is 0 or 1; the
+    /// The result for two operands in raw values, or the trap. A Boolean is 0 or 1; the
     /// operands of 128 bits, and results of them, are the two words of a raw value.
     #[inline]
     pub fn apply(self, lhs: RawVal, rhs: RawVal) -> Result<RawVal, TrapCode>

@@ -43,7 +43,7 @@ pub enum ScalarUnaryOp {
 }
 
 impl ScalarUnaryOp {
-    /// The result for an operand in a raw value. A truth value is 0 or 1.
+    /// The result for an operand in a raw value. A Boolean is 0 or 1.
     #[inline]
     pub fn apply(self, raw: RawVal) -> RawVal
         ensures { result ≡ unary_raw self raw }

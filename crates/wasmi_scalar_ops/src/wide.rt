@@ -54,5 +54,5 @@ fn words(raw: RawVal) -> (i64, i64)
 fn of_words(lo: i64, hi: i64) -> RawVal
     ensures { result ≡ raw_of_vector (unsigned_of lo hi) }
 {
-    RawVal::from(V128::from_words(lo.cast_unsigned(), hi.cast_unsigned()))
+    RawVal::from(V128::from_word_pair(lo.cast_unsigned(), hi.cast_unsigned()))
 }

@@ -48,7 +48,8 @@ fn print_all<W: io::Write>(
     requires { HasReplies outcome.now }
     ensures ok { OnOk result
         (PrintsOut W.contents printer.old printer.new (outcome_text outcome.now)) }
-    ensures front { OnErr result (PrintsFront W.contents printer.old printer.new (outcome_text outcome.now)) }
+    ensures front { OnErr result
+        (PrintsFront W.contents printer.old printer.new (outcome_text outcome.now)) }
 {
     print_outcome(printer, outcome)?;
     printer.flush()
@@ -62,7 +63,8 @@ fn print_outcome<W: io::Write>(
     requires { HasReplies outcome.now }
     ensures ok { OnOk result
         (Prints W.contents printer.old printer.new (outcome_text outcome.now)) }
-    ensures front { OnErr result (PrintsFront W.contents printer.old printer.new (outcome_text outcome.now)) }
+    ensures front { OnErr result
+        (PrintsFront W.contents printer.old printer.new (outcome_text outcome.now)) }
 {
     match outcome {
         Ok(replayed) => print_replayed(printer, replayed),
@@ -157,7 +159,8 @@ fn print_bytes<W: io::Write>(printer: &mut Printer<'_, W>, bytes: &[u8]) -> fmt:
 /// What a quota holds, or what each tenant of a pool holds.
 fn print_held<W: io::Write>(printer: &mut Printer<'_, W>, held: &Held) -> fmt::Result
     ensures ok { OnOk result (Prints W.contents printer.old printer.new (held_text held.now)) }
-    ensures front { OnErr result (PrintsFront W.contents printer.old printer.new (held_text held.now)) }
+    ensures front { OnErr result
+        (PrintsFront W.contents printer.old printer.new (held_text held.now)) }
 {
     match held {
         Held::Nothing => Ok(()),

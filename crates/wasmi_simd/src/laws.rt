@@ -46,8 +46,9 @@ pub fn wrapped_numbers()
 
 /// Lane i of a vector that is made of neighbouring narrow lanes is the row of the narrow lanes 2i
 /// and 2i + 1, wrapped to the wide width. `A` is the integer as which a narrow lane is read.
-pub fn lanes_of_neighbours<A>()
-    ensures unary { (narrow wide : Width) (read : ℕ → A) (row : A → A → ℕ) (v i : ℕ) → i < lane_count wide
+pub fn pairwise_lanes<A>()
+    ensures unary { (narrow wide : Width) (read : ℕ → A) (row : A → A → ℕ) (v i : ℕ)
+        → i < lane_count wide
         → lane wide (pairwise_unary narrow wide read row v) i
         ≡ row (read (lane narrow v (2 * i)))
         (read (lane narrow v (2 * i + 1))) % 2 ^ bits wide }

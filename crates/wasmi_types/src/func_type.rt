@@ -95,7 +95,8 @@ impl FuncType {
         P: IntoIterator<Item = ValType>,
         R: IntoIterator<Item = ValType>,
         requires params { (it : P.IntoIter) → P.into_iter_gives params it → P.IntoIter.can_next it }
-        requires results { (first : P.IntoIter) (second : R.IntoIter) → P.into_iter_gives params first
+        requires results { (first : P.IntoIter) (second : R.IntoIter)
+            → P.into_iter_gives params first
             → R.into_iter_gives results second
             → AfterAll P.IntoIter.next_gives first (R.IntoIter.can_next second) }
         ensures { IsReadingOf P.into_iter_gives P.IntoIter.next_gives R.into_iter_gives
@@ -229,7 +230,8 @@ impl FuncType {
     fn order_key(&self) -> (bool, u16, u16, &[ValType])
         ensures big { result.0 ≡ not (nat_le (entry_count self.now) 21) }
         ensures params { result.1 ≡ length self.now.params }
-        ensures results { result.2 ≡ (if nat_le (entry_count self.now) 21 then length self.now.results else 0) }
+        ensures results { result.2
+            ≡ (if nat_le (entry_count self.now) 21 then length self.now.results else 0) }
         ensures entries { result.3.now ≡ entries self.now }
     {
         match &self.inner {
@@ -361,7 +363,8 @@ impl Hash for FuncType {
 
     ghost hash_input = { lists_input ⟦<ValType as Hash>⟧.hash_input };
 
-    ghost respects_eq = { same_lists_alike same_type_decides (lists_input ⟦<ValType as Hash>⟧.hash_input) };
+    ghost respects_eq = { same_lists_alike same_type_decides
+        (lists_input ⟦<ValType as Hash>⟧.hash_input) };
 
     fn hash<H: Hasher>(&self, state: &mut H) {
         self.params().hash(state);

@@ -8,7 +8,7 @@ use Rattle.wasmi_raw.specs.RawVal.{raw_of}
 use Rattle.wasmi_vector_ops.specs.declared.test.TestOp.{TestOp}
 use Rattle.wasmi_vector_ops.specs.declared.test.TestOp.TheVariants as test
 
--- the truth value or the mask that a test of a vector gives, as a raw value
+-- the Boolean or the mask that a test of a vector gives, as a raw value
 abbrev pub tested_raw : TestOp → ℕ → RawVal
 tested_raw test.I8x16AllTrue a = raw_of (from_bool (widening.all_true w8 a))
 tested_raw test.I16x8AllTrue a = raw_of (from_bool (widening.all_true w16 a))

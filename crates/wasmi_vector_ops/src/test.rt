@@ -29,7 +29,7 @@ pub enum TestOp {
 }
 
 impl TestOp {
-    /// The truth value, as 0 or 1, or the mask.
+    /// The Boolean, as 0 or 1, or the mask.
     #[inline]
     pub fn apply(self, a: V128) -> RawVal
         ensures { result ≡ tested_raw self a }

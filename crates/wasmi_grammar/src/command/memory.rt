@@ -67,7 +67,8 @@ pub fn write(alloc: Global, operands: &[&str]) -> Result<Call, LineError>
 /// The bytes that the words write, one each.
 fn bytes_of(alloc: Global, words: &[&str]) -> Result<Vec<u8>, LineError>
     ensures bytes { IfOk result (λ bytes. WritesNumbers 8 words.now bytes.items) }
-    ensures refused { IfErr result (λ error. error ≡ LineError.BadCommand → ¬ (AreNumbers 8 words.now)) }
+    ensures refused { IfErr result
+        (λ error. error ≡ LineError.BadCommand → ¬ (AreNumbers 8 words.now)) }
 {
     let mut bytes = Vec::new(alloc);
     for word in words {

@@ -34,7 +34,8 @@ pub fn empty(operands: &[&str]) -> Result<Call, LineError>
 /// The references that the words write, one each.
 fn references_of(alloc: Global, words: &[&str]) -> Result<Vec<RawRef>, LineError>
     ensures items { IfOk result (λ items. WritesNumbers 32 words.now items.items) }
-    ensures refused { IfErr result (λ error. error ≡ LineError.BadCommand → ¬ (AreNumbers 32 words.now)) }
+    ensures refused { IfErr result
+        (λ error. error ≡ LineError.BadCommand → ¬ (AreNumbers 32 words.now)) }
 {
     let mut items = Vec::new(alloc);
     for word in words {

@@ -321,7 +321,7 @@ fn lanes_are_made_of_wider_ones(rt: HostRuntime) {
 }
 
 #[test]
-fn words_of_unequal_lanes(rt: HostRuntime) {
+fn words_with_unequal_lanes(rt: HostRuntime) {
     // lanes of 16 and of 48 bits
     let tops = 9223372036854808576;
     answers!(&rt;

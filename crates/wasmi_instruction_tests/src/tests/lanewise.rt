@@ -1,4 +1,4 @@
-//! Lane by lane vector instructions, of which none lets a lane touch its neighbours.
+//! Lane by lane vector instructions, in which no lane touches another.
 
 use super::same_rows;
 use wasmi_lanewise::simd::*;
@@ -10,7 +10,7 @@ fn v128_or_works(rt: HostRuntime) {
 }
 
 #[test]
-fn lanes_do_not_touch_their_neighbours(rt: HostRuntime) {
+fn lanes_do_not_touch_each_other(rt: HostRuntime) {
     let zero = V128::from(0);
     answers!(&rt;
         i8x16_add(i16x8_splat(255), i16x8_splat(1)) => zero,

@@ -103,7 +103,7 @@ pub fn i64x2_mul(lhs: V128, rhs: V128) -> V128
 {
     let (a_low, a_high) = lhs.words();
     let (b_low, b_high) = rhs.words();
-    V128::from_words(a_low.wrapping_mul(b_low), product_by_u128(a_high, b_high))
+    V128::from_word_pair(a_low.wrapping_mul(b_low), product_by_u128(a_high, b_high))
 }
 
 // The product modulo 2 to the power 64, as the high word of one of 128 bits. Beside a product of
@@ -180,8 +180,8 @@ pub fn i16x8_sub_sat_u(lhs: V128, rhs: V128) -> V128
     on_vectors::binary::<U16x8, _>(lhs, rhs, |x, y| x.saturating_sub(y))
 }
 
-/// The products of the lanes, read as signed q15 of 2 to the power 15, rounded and clamped to the
-/// signed range.
+/// The products of the lanes as q15 numbers (signed, over 2 to the power 15), rounded and clamped
+/// to the signed range.
 #[inline]
 pub fn i16x8_q15mulr_sat_s(lhs: V128, rhs: V128) -> V128
     ensures { result ≡ vector.q15mulr_sat_s lhs rhs }

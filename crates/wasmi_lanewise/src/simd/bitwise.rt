@@ -13,7 +13,7 @@ pub fn v128_and(lhs: V128, rhs: V128) -> V128
 {
     let (a_low, a_high) = lhs.words();
     let (b_low, b_high) = rhs.words();
-    V128::from_words(a_low & b_low, a_high & b_high)
+    V128::from_word_pair(a_low & b_low, a_high & b_high)
 }
 
 /// Bitwise or.
@@ -23,7 +23,7 @@ pub fn v128_or(lhs: V128, rhs: V128) -> V128
 {
     let (a_low, a_high) = lhs.words();
     let (b_low, b_high) = rhs.words();
-    V128::from_words(a_low | b_low, a_high | b_high)
+    V128::from_word_pair(a_low | b_low, a_high | b_high)
 }
 
 /// Bitwise exclusive or.
@@ -33,7 +33,7 @@ pub fn v128_xor(lhs: V128, rhs: V128) -> V128
 {
     let (a_low, a_high) = lhs.words();
     let (b_low, b_high) = rhs.words();
-    V128::from_words(a_low ^ b_low, a_high ^ b_high)
+    V128::from_word_pair(a_low ^ b_low, a_high ^ b_high)
 }
 
 /// The bits of `v` inverted.
@@ -42,7 +42,7 @@ pub fn v128_not(v: V128) -> V128
     ensures { result ≡ vector.v128_not v }
 {
     let (low, high) = v.words();
-    V128::from_words(!low, !high)
+    V128::from_word_pair(!low, !high)
 }
 
 /// The bits of `lhs` where `rhs` has zeros.

@@ -54,7 +54,7 @@ pub fn i64x2_splat(item: i64) -> V128
 fn same_words(word: u64) -> V128
     ensures { result ≡ splat_of w64 word }
 {
-    from_bytes(lower_half_twice(V128::from_words(word, 0)).to_le_bytes())
+    from_bytes(lower_half_twice(V128::from_word_pair(word, 0)).to_le_bytes())
 }
 
 // The lanes of 32 bits of the lower half, twice.

@@ -1,4 +1,4 @@
-//! Products of lanes of 16 bits, read as signed q15 of 2 to the power 15, on vectors of
+//! Products of lanes of 16 bits as q15 numbers (signed, over 2 to the power 15), on vectors of
 //! `std::simd`.
 
 ghost use Rattle.std.specs.Prelude.{◌≡◌, ℕ, ◌+◌, ◌*◌, ◌/◌, ◌%◌, ◌^◌, ◌<◌, nat_lt, slice_index, if◌then◌else◌};
@@ -47,7 +47,8 @@ fn upper_halves(x: u16x8, y: u16x8) -> u16x8
 // The lower halves of the products of lanes, the same for signed and unsigned ones.
 #[inline(always)]
 fn lower_halves(x: u16x8, y: u16x8) -> u16x8
-    ensures lanes { (i : ℕ) → i < 8 → slice_index result i ≡ slice_index x i * slice_index y i % 2 ^ 16 }
+    ensures lanes { (i : ℕ) → i < 8
+        → slice_index result i ≡ slice_index x i * slice_index y i % 2 ^ 16 }
 {
     x * y
 }
@@ -76,7 +77,8 @@ fn rounded_quotients(items: u16x8) -> u16x8
 
 #[inline(always)]
 fn sums(x: u16x8, y: u16x8) -> u16x8
-    ensures lanes { (i : ℕ) → i < 8 → slice_index result i ≡ (slice_index x i + slice_index y i) % 2 ^ 16 }
+    ensures lanes { (i : ℕ) → i < 8
+        → slice_index result i ≡ (slice_index x i + slice_index y i) % 2 ^ 16 }
 {
     x + y
 }

@@ -42,7 +42,8 @@ fn picked_or_zero(table: u8x16, indices: u8x16) -> u8x16
 /// The lanes of `table` at the low four bits of the indices.
 #[inline(always)]
 pub(super) fn picked(table: u8x16, indices: u8x16) -> u8x16
-    ensures lanes { (i : ℕ) → i < 16 → slice_index result i ≡ slice_index table (slice_index indices i % 16) }
+    ensures lanes { (i : ℕ) → i < 16
+        → slice_index result i ≡ slice_index table (slice_index indices i % 16) }
 {
     table.swizzle_dyn_within::<16>(indices & u8x16::splat(15))
 }

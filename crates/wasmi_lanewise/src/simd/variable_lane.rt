@@ -86,7 +86,8 @@ fn indices_of_32(lane: u8) -> u8x16
 #[inline(always)]
 fn picked_inside(table: u8x16, indices: u8x16) -> u8x16
     requires { (i : ℕ) → i < 16 → slice_index indices i < 16 }
-    ensures lanes { (i : ℕ) → i < 16 → slice_index result i ≡ slice_index table (slice_index indices i) }
+    ensures lanes { (i : ℕ) → i < 16
+        → slice_index result i ≡ slice_index table (slice_index indices i) }
 {
     table.swizzle_dyn_within::<16>(indices)
 }

@@ -22,7 +22,7 @@ pub(super) fn sums<T: WordLane>(lhs: V128, rhs: V128) -> V128
     let tops = T::INNER_TOPS;
     let (a_low, a_high) = lhs.words();
     let (b_low, b_high) = rhs.words();
-    V128::from_words(word_add(a_low, b_low, tops), word_add(a_high, b_high, tops))
+    V128::from_word_pair(word_add(a_low, b_low, tops), word_add(a_high, b_high, tops))
 }
 
 /// The differences of the lanes, modulo 2 to the power of their width.
@@ -36,7 +36,7 @@ pub(super) fn differences<T: WordLane>(lhs: V128, rhs: V128) -> V128
     let tops = T::INNER_TOPS;
     let (a_low, a_high) = inverted(lhs).words();
     let (b_low, b_high) = rhs.words();
-    inverted(V128::from_words(
+    inverted(V128::from_word_pair(
         !word_sub(!a_low, b_low, tops),
         !word_sub(!a_high, b_high, tops),
     ))
@@ -59,7 +59,7 @@ pub(super) fn negations<T: WordLane>(v: V128) -> V128
 {
     let tops = T::INNER_TOPS;
     let (low, high) = v.words();
-    V128::from_words(
+    V128::from_word_pair(
         !word_add(low, u64::MAX, tops),
         !word_add(high, u64::MAX, tops),
     )
@@ -100,7 +100,7 @@ pub(super) fn equal_words(lhs: V128, rhs: V128) -> V128
 {
     let (a_low, a_high) = lhs.words();
     let (b_low, b_high) = rhs.words();
-    V128::from_words(ones_if_equal(a_low, b_low), ones_if_equal(a_high, b_high))
+    V128::from_word_pair(ones_if_equal(a_low, b_low), ones_if_equal(a_high, b_high))
 }
 
 /// All ones in the lanes of 64 bits that are different, else all zeros.
@@ -110,7 +110,7 @@ pub(super) fn different_words(lhs: V128, rhs: V128) -> V128
 {
     let (a_low, a_high) = lhs.words();
     let (b_low, b_high) = rhs.words();
-    V128::from_words(!ones_if_equal(a_low, b_low), !ones_if_equal(a_high, b_high))
+    V128::from_word_pair(!ones_if_equal(a_low, b_low), !ones_if_equal(a_high, b_high))
 }
 
 // All ones if two words are equal, else 0. They are compared as lanes of one bit, of which
@@ -150,7 +150,7 @@ pub(super) fn averages<T: WordLane>(lhs: V128, rhs: V128) -> V128
     let tops = T::TOPS;
     let (a_low, a_high) = lhs.words();
     let (b_low, b_high) = rhs.words();
-    V128::from_words(
+    V128::from_word_pair(
         word_averages(a_low, b_low, tops),
         word_averages(a_high, b_high, tops),
     )

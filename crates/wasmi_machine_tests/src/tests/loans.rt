@@ -7,7 +7,8 @@ use wasmi_core::{Memory, NoLimits, ResourceLimiterRef};
 
 /// A caller that writes through what a memory lends, and knows the memory afterwards.
 fn put_first(memory: &mut Memory)
-    ensures bytes { 0 < length memory.old.bytes → memory.new.bytes ≡ slice_set memory.old.bytes 0 7 }
+    ensures bytes { 0 < length memory.old.bytes
+        → memory.new.bytes ≡ slice_set memory.old.bytes 0 7 }
     ensures same_type { memory.new.ty ≡ memory.old.ty }
     ensures room { memory.new.room ≡ memory.old.room }
 {

@@ -151,6 +151,6 @@ impl Instruction {
 fn entry(names: &[(&str, Instruction)], name: &str) -> Option<Instruction>
     ensures { result ≡ instruction_beside (map (λ it. (it.0.now, it.1)) names.now) name.now }
 {
-    let row = names.iter().find(|(known, _)| *known == name);
-    row.map(|(_, instruction)| *instruction)
+    let found = names.iter().find(|(known, _)| *known == name);
+    found.map(|(_, instruction)| *instruction)
 }

@@ -1,4 +1,4 @@
-//! Tables of answers.
+//! Lists of answers.
 use super::streams::{After, Source, Target};
 use super::{Script, same, same_text};
 use std::alloc::Global;
@@ -7,22 +7,16 @@ use std::process::Abort;
 use std::test::Fail;
 use wasmi_scalar_answers::{CheckStatus, compare};
 
-// What is printed of a table, and how that ends.
-fn compares<R: Abort>(
-    rt: &R,
-    alloc: Global,
-    table: Source<'_>,
-    printed: &str,
-    status: CheckStatus,
-) {
+// What is printed of a list, and how that ends.
+fn compares<R: Abort>(rt: &R, alloc: Global, list: Source<'_>, printed: &str, status: CheckStatus) {
     let mut writer = Target::new(alloc);
-    let ended = compare(alloc, table, &mut writer);
+    let ended = compare(alloc, list, &mut writer);
     same(rt, printed, ended, status);
     same_text(rt, writer.text(), printed.as_bytes());
 }
 
-// Tables with what is printed of them, and how that ends.
-const TABLES: [(Script, CheckStatus); 7] = [
+// Lists with what is printed of them, and how that ends.
+const LISTS: [(Script, CheckStatus); 7] = [
     (
         script! {
             "i32_div_s -2147483648 -1 -> trap IntegerOverflow",
@@ -91,12 +85,12 @@ const TABLES: [(Script, CheckStatus); 7] = [
 
 #[test]
 fn compares_lines(rt: HostRuntime) {
-    for (table, status) in TABLES {
+    for (list, status) in LISTS {
         compares(
             &rt,
             rt.alloc(),
-            Source::of(table.text.as_bytes()),
-            table.printed,
+            Source::of(list.text.as_bytes()),
+            list.printed,
             status,
         );
     }
@@ -104,13 +98,13 @@ fn compares_lines(rt: HostRuntime) {
 
 #[test]
 fn names_a_line_far_down(rt: HostRuntime) -> Result<(), Fail> {
-    let mut table = "i32_eqz 0 -> 1\n".repeat(rt.alloc(), 122)?;
-    table.push_str("i32_eqz 1 -> 1\ni32_eqz 1 -> 0")?;
+    let mut list = "i32_eqz 0 -> 1\n".repeat(rt.alloc(), 122)?;
+    list.push_str("i32_eqz 1 -> 1\ni32_eqz 1 -> 0")?;
     let printed = "line 123: the answer is 0\n123 agree, 1 don't\n";
     compares(
         &rt,
         rt.alloc(),
-        Source::of(table.as_bytes()),
+        Source::of(list.as_bytes()),
         printed,
         CheckStatus::Differed,
     );
@@ -133,7 +127,7 @@ fn tells_of_faults(rt: HostRuntime) {
     }
 }
 
-// A table of which two lines don't agree, and what is printed of it.
+// A list of which two lines don't agree, and what is printed of it.
 const MIXED: Script = script! {
     "i32_eqz 1 -> 1" => "line 1: the answer is 0",
     "i32_eqz 0 -> 1",
@@ -156,7 +150,7 @@ fn reads_from_slow_readers(rt: HostRuntime) {
     }
 }
 
-// What of the mixed table's lines reaches this writer, which takes one byte a turn where its good
+// What of the mixed list's lines reaches this writer, which takes one byte a turn where its good
 // turns come to an end.
 fn ends<R: Abort>(rt: &R, alloc: Global, writer: &mut Target, status: CheckStatus) {
     let ended = compare(alloc, Source::of(MIXED.text.as_bytes()), writer);

@@ -116,7 +116,7 @@ pub fn i64x2_extend_high_i32x4_u(v: V128) -> V128
 pub fn v128_widen8x8_s(number: u64) -> V128
     ensures { result ≡ vector.widen_s w8 w16 number }
 {
-    i16x8_extend_low_i8x16_s(V128::from_words(number, 0))
+    i16x8_extend_low_i8x16_s(V128::from_word_pair(number, 0))
 }
 
 /// The 8 lanes of 8 bits of a number, read unsigned, lane 0 the lowest.
@@ -126,7 +126,7 @@ pub fn v128_widen8x8_s(number: u64) -> V128
 pub fn v128_widen8x8_u(number: u64) -> V128
     ensures { result ≡ vector.widen_u w8 w16 number }
 {
-    i16x8_extend_low_i8x16_u(V128::from_words(number, 0))
+    i16x8_extend_low_i8x16_u(V128::from_word_pair(number, 0))
 }
 
 /// The 4 lanes of 16 bits of a number, read signed, lane 0 the lowest.
@@ -136,7 +136,7 @@ pub fn v128_widen8x8_u(number: u64) -> V128
 pub fn v128_widen16x4_s(number: u64) -> V128
     ensures { result ≡ vector.widen_s w16 w32 number }
 {
-    i32x4_extend_low_i16x8_s(V128::from_words(number, 0))
+    i32x4_extend_low_i16x8_s(V128::from_word_pair(number, 0))
 }
 
 /// The 4 lanes of 16 bits of a number, read unsigned, lane 0 the lowest.
@@ -146,7 +146,7 @@ pub fn v128_widen16x4_s(number: u64) -> V128
 pub fn v128_widen16x4_u(number: u64) -> V128
     ensures { result ≡ vector.widen_u w16 w32 number }
 {
-    i32x4_extend_low_i16x8_u(V128::from_words(number, 0))
+    i32x4_extend_low_i16x8_u(V128::from_word_pair(number, 0))
 }
 
 /// The 2 lanes of 32 bits of a number, read signed, lane 0 the lowest.
@@ -156,7 +156,7 @@ pub fn v128_widen16x4_u(number: u64) -> V128
 pub fn v128_widen32x2_s(number: u64) -> V128
     ensures { result ≡ vector.widen_s w32 w64 number }
 {
-    i64x2_extend_low_i32x4_s(V128::from_words(number, 0))
+    i64x2_extend_low_i32x4_s(V128::from_word_pair(number, 0))
 }
 
 /// The 2 lanes of 32 bits of a number, read unsigned, lane 0 the lowest.
@@ -166,7 +166,7 @@ pub fn v128_widen32x2_s(number: u64) -> V128
 pub fn v128_widen32x2_u(number: u64) -> V128
     ensures { result ≡ vector.widen_u w32 w64 number }
 {
-    i64x2_extend_low_i32x4_u(V128::from_words(number, 0))
+    i64x2_extend_low_i32x4_u(V128::from_word_pair(number, 0))
 }
 
 /// The number in lane 0, and 0 in the others.
@@ -186,7 +186,7 @@ pub fn v128_low32_zero(number: u32) -> V128
 pub fn v128_low64_zero(number: u64) -> V128
     ensures { result ≡ vector.low_zero w64 number }
 {
-    from_u32x4(lower_half_alone(V128::from_words(number, 0)))
+    from_u32x4(lower_half_alone(V128::from_word_pair(number, 0)))
 }
 
 // The lanes of 32 bits of the lower half, and zeros behind them: of two words LLVM makes two

@@ -30,7 +30,8 @@ pub(super) fn high_bytes(v: V128) -> u16x8
 /// The lower 8 lanes of 8 bits, the sign copied.
 #[inline(always)]
 pub(super) fn low_bytes_signed(v: V128) -> u16x8
-    ensures lanes { (i : ℕ) → i < 8 → slice_index result i ≡ cast_unsigned w16 (signed w8 (lane w8 v i)) }
+    ensures lanes { (i : ℕ) → i < 8
+        → slice_index result i ≡ cast_unsigned w16 (signed w8 (lane w8 v i)) }
 {
     sign_copied(low_bytes(v))
 }
@@ -73,7 +74,8 @@ pub(super) fn high_u16x8(v: V128) -> u32x4
 /// The lower 4 lanes of 16 bits, the sign copied.
 #[inline(always)]
 pub(super) fn low_i16x8(v: V128) -> u32x4
-    ensures lanes { (i : ℕ) → i < 4 → slice_index result i ≡ cast_unsigned w32 (signed w16 (lane w16 v i)) }
+    ensures lanes { (i : ℕ) → i < 4
+        → slice_index result i ≡ cast_unsigned w32 (signed w16 (lane w16 v i)) }
 {
     let items = i16x8_of(v).extract::<0, 4>().cast::<i32>();
     u32x4::from_le_bytes(items.to_le_bytes())
@@ -112,7 +114,8 @@ pub(super) fn high_u32x4(v: V128) -> u64x2
 /// The lower 2 lanes of 32 bits, the sign copied.
 #[inline(always)]
 pub(super) fn low_i32x4(v: V128) -> u64x2
-    ensures lanes { (i : ℕ) → i < 2 → slice_index result i ≡ cast_unsigned w64 (signed w32 (lane w32 v i)) }
+    ensures lanes { (i : ℕ) → i < 2
+        → slice_index result i ≡ cast_unsigned w64 (signed w32 (lane w32 v i)) }
 {
     let items = i32x4_of(v).extract::<0, 2>().cast::<i64>();
     u64x2::from_le_bytes(items.to_le_bytes())

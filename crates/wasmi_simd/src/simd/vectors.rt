@@ -74,7 +74,8 @@ pub(super) fn from_halves(items: u64x2) -> V128
 /// The vector of the sums of lanes of 16 bits, modulo 2 to the power 16.
 #[inline(always)]
 pub(super) fn sums_of_u16x8(a: u16x8, b: u16x8) -> V128
-    ensures lanes { (i : ℕ) → i < 8 → lane w16 result i ≡ (slice_index a i + slice_index b i) % 2 ^ 16 }
+    ensures lanes { (i : ℕ) → i < 8
+        → lane w16 result i ≡ (slice_index a i + slice_index b i) % 2 ^ 16 }
     ensures in_range { result < 2 ^ 128 }
 {
     from_u16x8(a + b)
@@ -83,7 +84,8 @@ pub(super) fn sums_of_u16x8(a: u16x8, b: u16x8) -> V128
 /// The vector of the sums of lanes of 32 bits, modulo 2 to the power 32.
 #[inline(always)]
 pub(super) fn sums_of_u32x4(a: u32x4, b: u32x4) -> V128
-    ensures lanes { (i : ℕ) → i < 4 → lane w32 result i ≡ (slice_index a i + slice_index b i) % 2 ^ 32 }
+    ensures lanes { (i : ℕ) → i < 4
+        → lane w32 result i ≡ (slice_index a i + slice_index b i) % 2 ^ 32 }
     ensures in_range { result < 2 ^ 128 }
 {
     from_u32x4(a + b)
@@ -92,7 +94,8 @@ pub(super) fn sums_of_u32x4(a: u32x4, b: u32x4) -> V128
 /// The products of lanes of 16 bits, modulo 2 to the power 16.
 #[inline(always)]
 pub(super) fn product_of_u16x8(a: u16x8, b: u16x8) -> u16x8
-    ensures lanes { (i : ℕ) → i < 8 → slice_index result i ≡ slice_index a i * slice_index b i % 2 ^ 16 }
+    ensures lanes { (i : ℕ) → i < 8
+        → slice_index result i ≡ slice_index a i * slice_index b i % 2 ^ 16 }
 {
     a * b
 }
@@ -100,7 +103,8 @@ pub(super) fn product_of_u16x8(a: u16x8, b: u16x8) -> u16x8
 /// The products of lanes of 32 bits, modulo 2 to the power 32.
 #[inline(always)]
 pub(super) fn product_of_u32x4(a: u32x4, b: u32x4) -> u32x4
-    ensures lanes { (i : ℕ) → i < 4 → slice_index result i ≡ slice_index a i * slice_index b i % 2 ^ 32 }
+    ensures lanes { (i : ℕ) → i < 4
+        → slice_index result i ≡ slice_index a i * slice_index b i % 2 ^ 32 }
 {
     a * b
 }
@@ -108,7 +112,8 @@ pub(super) fn product_of_u32x4(a: u32x4, b: u32x4) -> u32x4
 /// The products of lanes of 64 bits, modulo 2 to the power 64.
 #[inline(always)]
 pub(super) fn product_of_halves(a: u64x2, b: u64x2) -> u64x2
-    ensures lanes { (i : ℕ) → i < 2 → slice_index result i ≡ slice_index a i * slice_index b i % 2 ^ 64 }
+    ensures lanes { (i : ℕ) → i < 2
+        → slice_index result i ≡ slice_index a i * slice_index b i % 2 ^ 64 }
 {
     a * b
 }

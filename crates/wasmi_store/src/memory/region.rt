@@ -26,7 +26,8 @@ pub trait Region: sealed::Sealed {
     /// Lends its front.
     fn front_mut(&mut self, end: usize) -> &mut [u8]
         requires { end ≤ length (bytes self.old) }
-        ensures* writes_back { sem 𝓛 (Lends Self.row (Array u8 0) self.entry result (refilled self.old end)) }
+        ensures* writes_back { sem 𝓛
+            (Lends Self.row (Array u8 0) self.entry result (refilled self.old end)) }
         ensures value { result.now ≡ take end (bytes self.old) };
 
     /// The bytes of a region whose front was written over.

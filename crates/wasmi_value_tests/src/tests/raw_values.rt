@@ -117,7 +117,7 @@ fn a_vector_is_both_words(rt: HostRuntime) {
         RawVal { lo: 1, hi: 2 },
     );
     same(&rt, "words of a vector", vector.words(), (1, 2));
-    same(&rt, "vector of words", V128::from_words(1, 2), vector);
+    same(&rt, "vector of words", V128::from_word_pair(1, 2), vector);
     same(&rt, "vector of ones", V128::from(ONES).as_u128(), u128::MAX);
 }
 
@@ -147,11 +147,11 @@ fn a_raw_value_becomes_an_integer(rt: HostRuntime) {
 #[test]
 fn a_raw_value_becomes_a_bool_or_a_float(rt: HostRuntime) {
     let raw = RawVal::from_bits64(256);
-    let truth: bool = raw.read_as();
+    let boolean: bool = raw.read_as();
     let byte: u8 = raw.read_as();
-    same(&rt, "bool and byte", (truth, byte), (true, 0));
-    let truths = (bool::from(raw), bool::from(RawVal::default()));
-    same(&rt, "bools", truths, (true, false));
+    same(&rt, "bool and byte", (boolean, byte), (true, 0));
+    let booleans = (bool::from(raw), bool::from(RawVal::default()));
+    same(&rt, "bools", booleans, (true, false));
     same(&rt, "bits", raw.to_bits64(), 256);
     same(&rt, "F32", F32::from(ONES).to_bits(), u32::MAX);
     same(&rt, "F64", F64::from(ONES).to_bits(), u64::MAX);

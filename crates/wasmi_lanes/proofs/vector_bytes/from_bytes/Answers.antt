@@ -13,7 +13,7 @@ pub returns : goal.returns
 returns c =
     let bytes = c.args.bytes in
     let below : number_l 256 bytes < 2 ^ 128 = each bytes c.fits-bytes in
-    let whole : c.from_words.result ≡ number_l 256 bytes = c.from_words.ensures ∙ omega (arith, below) in
+    let whole : c.from_word_pair.result ≡ number_l 256 bytes = c.from_word_pair.ensures ∙ omega (arith, below) in
     record {
       number = whole;
       lanes = λ i inside.

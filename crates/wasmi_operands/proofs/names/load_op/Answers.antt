@@ -8,5 +8,5 @@ use Rattle.wasmi_operands.proofs.names.load_op.Goals as goal
 
 pub returns : goal.returns
 unfolding IsName
-returns c = accepts_named enum tt vector_load_name (map (λ row. (row.0.now, row.1)) LOADS) refl refl
+returns c = accepts_named enum tt vector_load_name (map (λ entry. (entry.0.now, entry.1)) LOADS) refl refl
     c.args.name.now c.op_named.result c.op_named.ensures

@@ -8,5 +8,5 @@ use Rattle.wasmi_operands.proofs.names.ternary_op.Goals as goal
 
 pub returns : goal.returns
 unfolding IsName
-returns c = accepts_named enum tt ternary_name (map (λ row. (row.0.now, row.1)) TERNARIES) refl refl
+returns c = accepts_named enum tt ternary_name (map (λ entry. (entry.0.now, entry.1)) TERNARIES) refl refl
     c.args.name.now c.op_named.result c.op_named.ensures

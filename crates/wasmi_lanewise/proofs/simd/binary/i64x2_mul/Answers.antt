@@ -7,6 +7,6 @@ returns c =
     let a = c.words-a_low.ensures in
     let b = c.words-b_low.ensures in
     let row : ℕ → ℕ → ℕ = λ x y. x * y % 2 ^ 64 in
-    lanes_are_words row c.args.lhs c.args.rhs _ _ c.from_words.result (omega arith) (omega arith)
+    lanes_are_words row c.args.lhs c.args.rhs _ _ c.from_word_pair.result (omega arith) (omega arith)
     (record { fits = omega arith; is = ap₂ row a.low b.low })
-    (record { fits = omega arith; is = c.product_by_u128.ensures ∙ ap₂ row a.high b.high }) c.from_words.ensures
+    (record { fits = omega arith; is = c.product_by_u128.ensures ∙ ap₂ row a.high b.high }) c.from_word_pair.ensures

@@ -8,4 +8,4 @@ pub returns : goal.returns
 returns c =
     on_words bit_and (record { on_high = and_shr; on_low = and_mod })
     (u64x2_of c.words-a_low.ensures.low c.words-a_low.ensures.high)
-    (u64x2_of c.words-b_low.ensures.low c.words-b_low.ensures.high) c.from_words.ensures
+    (u64x2_of c.words-b_low.ensures.low c.words-b_low.ensures.high) c.from_word_pair.ensures

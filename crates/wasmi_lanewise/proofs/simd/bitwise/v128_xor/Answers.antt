@@ -8,4 +8,4 @@ pub returns : goal.returns
 returns c =
     on_words bit_xor (record { on_high = xor_shr; on_low = xor_mod })
     (u64x2_of c.words-a_low.ensures.low c.words-a_low.ensures.high)
-    (u64x2_of c.words-b_low.ensures.low c.words-b_low.ensures.high) c.from_words.ensures
+    (u64x2_of c.words-b_low.ensures.low c.words-b_low.ensures.high) c.from_word_pair.ensures

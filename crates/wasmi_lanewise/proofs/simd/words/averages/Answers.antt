@@ -13,4 +13,4 @@ returns g c =
     (u64x2_of c.words-a_low.ensures.low c.words-a_low.ensures.high)
     (u64x2_of c.words-b_low.ensures.low c.words-b_low.ensures.high)
     c.word_averages.type_inv c.word_averages-2.type_inv c.word_averages.ensures c.word_averages-2.ensures
-    c.from_words.ensures
+    c.from_word_pair.ensures

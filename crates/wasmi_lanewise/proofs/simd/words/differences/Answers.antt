@@ -1,7 +1,7 @@
 use Rattle.std.proofs.Common.{◌+◌, ◌-◌, ◌%◌, ◌^◌, ◌∙◌, arith}
 use Rattle.wasmi_lanes.specs.Vector.{binary_of_lanes}
 use Rattle.wasmi_lanes.proofs.WordVectorLemmas.{u64x2_of, InnerLane, inner_lanes, of_either, binary_by_words}
-use Rattle.wasmi_lanewise.proofs.WordLemmas.{words_of_inverted, inverted_words}
+use Rattle.wasmi_lanewise.proofs.WordLemmas.{inverted_word_pair, inverted_words}
 use Rattle.wasmi_lanewise.proofs.simd.words.differences.Goals as goal
 
 pub returns : goal.returns
@@ -10,9 +10,10 @@ returns g c =
     let law = g.met.T.WordLane in
     binary_by_words g.T.LaneInteger.width (InnerLane c.INNER_TOPS-tops.result) law.whole
     (inner_lanes _ _ law.whole (c.INNER_TOPS-tops.ensures ∙ law.inner)) (λ w x y. (x + (2 ^ w - y)) % 2 ^ w)
-    (words_of_inverted (omega arith) c.inverted.ensures (u64x2_of c.words-a_low.ensures.low c.words-a_low.ensures.high))
+    (inverted_word_pair (omega arith) c.inverted.ensures
+    (u64x2_of c.words-a_low.ensures.low c.words-a_low.ensures.high))
     (u64x2_of c.words-b_low.ensures.low c.words-b_low.ensures.high)
     c.word_sub.type_inv c.word_sub-2.type_inv
     (λ start width. of_either (c.word_sub.ensures.lanes start width) (c.word_sub.ensures.last start width))
     (λ start width. of_either (c.word_sub-2.ensures.lanes start width) (c.word_sub-2.ensures.last start width))
-    (inverted_words c.word_sub.type_inv c.word_sub-2.type_inv c.from_words.ensures c.inverted-2.ensures)
+    (inverted_words c.word_sub.type_inv c.word_sub-2.type_inv c.from_word_pair.ensures c.inverted-2.ensures)

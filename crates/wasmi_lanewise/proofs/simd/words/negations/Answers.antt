@@ -16,4 +16,4 @@ returns g c =
     (of_either (c.word_add.ensures.lanes start width) (c.word_add.ensures.last start width) lane))
     (λ start width lane. negated_lane tops start width _ _ c.word_add-2.type_inv lane
     (of_either (c.word_add-2.ensures.lanes start width) (c.word_add-2.ensures.last start width) lane))
-    c.from_words.ensures
+    c.from_word_pair.ensures

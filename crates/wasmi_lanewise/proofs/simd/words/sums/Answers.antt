@@ -14,4 +14,4 @@ returns g c =
     c.word_add.type_inv c.word_add-2.type_inv
     (λ start width. of_either (c.word_add.ensures.lanes start width) (c.word_add.ensures.last start width))
     (λ start width. of_either (c.word_add-2.ensures.lanes start width) (c.word_add-2.ensures.last start width))
-    c.from_words.ensures
+    c.from_word_pair.ensures

@@ -25,8 +25,8 @@ instruction_beside_found (it ∷ rest) name =
 pub returns : goal.returns
 returns c =
     let name = c.args.name.now in
-    let found = find_from_yields_List (λ it. bytes_eq it.0.now name) _ _ c.find-row.result c.find-row.ensures.ran
+    let found = find_from_yields_List (λ it. bytes_eq it.0.now name) _ _ c.find-found.result c.find-found.ensures.ran
     (YieldsList-from_slice _ c.iter.ensures.rest) (λ x b q k. search (rules, tests)) in
-    let is : c.map.result ≡ option_map (λ it. it.1) (option_map (λ it. it.now) c.find-row.result) =
+    let is : c.map.result ≡ option_map (λ it. it.1) (option_map (λ it. it.now) c.find-found.result) =
     search (rules, tests) in
     is ∙ ap (option_map (λ it. it.1)) found ∙ sym (instruction_beside_found c.args.names.now name)

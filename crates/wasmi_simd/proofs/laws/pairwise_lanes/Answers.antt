@@ -1,5 +1,5 @@
 use Rattle.wasmi_simd.proofs.LaneLemmas.{lane_of_pair, lane_of_pairs}
-use Rattle.wasmi_simd.proofs.laws.lanes_of_neighbours.Goals as goal
+use Rattle.wasmi_simd.proofs.laws.pairwise_lanes.Goals as goal
 
 pub returns-clause-unary : goal.returns-clause-unary
 returns-clause-unary g c = λ narrow wide read row v i inside. lane_of_pair narrow wide read i inside row v
