@@ -2,6 +2,9 @@
 use std::path::Path;
 use std::{env, fs};
 
+/// Names of the header that the crate has no function for.
+const LACKING: [&str; 0] = [];
+
 /// The rows of a table of the header, as a call of `of` for each name.
 fn rows(header: &str, shape: &str, of: &str) -> String {
     let first = format!("#define WASMI_{shape}_NAMES(X)");
@@ -12,6 +15,9 @@ fn rows(header: &str, shape: &str, of: &str) -> String {
         };
         let (_, rest) = row.split_once(", ").unwrap();
         let (name, _) = rest.split_once(')').unwrap();
+        if LACKING.contains(&name) {
+            continue;
+        }
         let scalar = ["i32_", "i64_", "load_", "store"];
         let module = if scalar.iter().any(|front| name.starts_with(front)) {
             "wasm"
