@@ -286,7 +286,7 @@ module _ {S : Type 0} (rules : Rules S) (once : IsDeterministic rules) (w : Worl
   -- each effect
   effect_same : (effect : Effect) → TakesEffect (with_memory rules) effect w t v
       → TakesEffect (with_memory rules) effect w t' v' → Same w t t' v v'
-  effect_same (Told told) step step' = told_once w t t' v v' step step' (λ is is'. is ∙ sym is')
+  effect_same (Told reply) step step' = told_once w t t' v v' step step' (λ is is'. is ∙ sym is')
   effect_same (BytesRead k offset len) step step' =
       told_once w t t' v v' step step' (reads_same k offset len w.state.memories t.reply t'.reply room room')
   effect_same (FuelSet fuel) step step' =

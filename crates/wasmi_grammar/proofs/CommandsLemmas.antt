@@ -6,8 +6,12 @@ use Rattle.wasmi_raw.specs.declared.raw.RawVal.{RawVal}
 use Rattle.wasmi_typed.specs.declared.global.GlobalType.{GlobalType}
 use Rattle.wasmi_typed.specs.declared.typed.TypedRawVal.{TypedRawVal}
 use Rattle.wasmi_typed.specs.declared.typed_ref.TypedRawRef.{TypedRawRef}
+use Rattle.wasmi_vector_ops.specs.declared.access.LoadLaneOp.{LoadLaneOp}
+use Rattle.wasmi_vector_ops.specs.declared.access.StoreLaneOp.{StoreLaneOp}
 use Rattle.wasmi_vector_ops.specs.declared.access.VectorLoadOp.{VectorLoadOp}
 use Rattle.wasmi_vector_ops.specs.declared.binary.BinaryOp.{BinaryOp}
+use Rattle.wasmi_vector_ops.specs.declared.lane.ExtractOp.{ExtractOp}
+use Rattle.wasmi_vector_ops.specs.declared.lane.ReplaceOp.{ReplaceOp}
 use Rattle.wasmi_vector_ops.specs.declared.make.MakeOp.{MakeOp}
 use Rattle.wasmi_vector_ops.specs.declared.shift.ShiftOp.{ShiftOp}
 use Rattle.wasmi_vector_ops.specs.declared.ternary.TernaryOp.{TernaryOp}
@@ -22,7 +26,7 @@ use Rattle.wasmi_grammar.specs.Commands.{command_word, WritesOperands, NamesAfte
 use Rattle.wasmi_operands.proofs.AcceptanceLemmas.{refused_through}
 
 -- what is said beside a word, if anything is
-abbrev said : List (List ℕ × Type 0) → List ℕ → Type 0
+abbrev pub said : List (List ℕ × Type 0) → List ℕ → Type 0
 said [] word = Unit {0}
 said (entry ∷ entries) word = cond (bytes_eq entry.0 word) entry.1 (said entries word)
 
@@ -60,13 +64,26 @@ forms Writes =
     (codes "binary", (op : BinaryOp) × (dst : ℕ) × (a : ℕ) × (b : ℕ) × Writes (Binary op dst a b)) ∷
     (codes "ternary", (op : TernaryOp) × (dst : ℕ) × (a : ℕ) × (b : ℕ) × (c : ℕ) × Writes (Ternary op dst a b c)) ∷
     (codes "shift", (op : ShiftOp) × (dst : ℕ) × (a : ℕ) × (amount : ℕ) × Writes (Shift op dst a amount)) ∷
-    (codes "test", (op : TestOp) × (a : ℕ) × Writes (Test op a)) ∷ (
+    (codes "test", (op : TestOp) × (a : ℕ) × Writes (Test op a)) ∷
+    (codes "extract", (op : ExtractOp) × (a : ℕ) × Writes (Extract op a)) ∷
+    (codes "replace", (op : ReplaceOp) × (dst : ℕ) × (a : ℕ) × (item : ℕ) × Writes (Replace op dst a item)) ∷ (
+      codes "shuffle",
+      (dst : ℕ) × (a : ℕ) × (b : ℕ) × (lanes : List ℕ) × Writes (Shuffle dst a b lanes),
+    ) ∷ (
       codes "vload",
       (op : VectorLoadOp) × (dst : ℕ) × (memory : ℕ) × (ptr : ℕ) × (offset : ℕ)
           × Writes (VectorLoad op dst memory ptr offset),
     ) ∷ (
+      codes "vloadlane",
+      (op : LoadLaneOp) × (dst : ℕ) × (a : ℕ) × (memory : ℕ) × (ptr : ℕ) × (offset : ℕ)
+          × Writes (LoadLane op dst a memory ptr offset),
+    ) ∷ (
       codes "vstore",
       (a : ℕ) × (memory : ℕ) × (ptr : ℕ) × (offset : ℕ) × Writes (VectorStore a memory ptr offset),
+    ) ∷ (
+      codes "vstorelane",
+      (op : StoreLaneOp) × (a : ℕ) × (memory : ℕ) × (ptr : ℕ) × (offset : ℕ)
+          × Writes (StoreLane op a memory ptr offset),
     ) ∷
     []
 
@@ -104,19 +121,27 @@ form words (Binary op dst a b) w = (op, dst, a, b, w)
 form words (Ternary op dst a b c) w = (op, dst, a, b, c, w)
 form words (Shift op dst a amount) w = (op, dst, a, amount, w)
 form words (Test op a) w = (op, a, w)
-form words (Extract op a) w = tt
-form words (Replace op dst a item) w = tt
-form words (Shuffle dst a b lanes) w = tt
+form words (Extract op a) w = (op, a, w)
+form words (Replace op dst a item) w = (op, dst, a, item, w)
+form words (Shuffle dst a b lanes) w = (dst, a, b, lanes, w)
 form words (VectorLoad op dst memory ptr offset) w = (op, dst, memory, ptr, offset, w)
-form words (LoadLane op dst a memory ptr offset) w = tt
+form words (LoadLane op dst a memory ptr offset) w = (op, dst, a, memory, ptr, offset, w)
 form words (VectorStore a memory ptr offset) w = (a, memory, ptr, offset, w)
-form words (StoreLane op a memory ptr offset) w = tt
+form words (StoreLane op a memory ptr offset) w = (op, a, memory, ptr, offset, w)
+
+-- what a word and what follows it write is refused since a part of it is
+pub refused_beside : {A B : Type 0} (entries : List (List ℕ × Type 0)) (word_of : B → List ℕ) (Writes : B → Type 0)
+    → ((b : B) → Writes b → said entries (word_of b)) → (error : LineError) (P : A → Type 0) (word : List ℕ)
+    (result : Result B LineError)
+    → result ≡ Err error → Accepts {A = A} (Err error) P → (said entries word → (a : A) × P a)
+    → Accepts result (λ b. (word_of b ≡ word) × Writes b)
+refused_beside entries word_of Writes written error P word result is refused part =
+    refused_through error result is (λ b names. part (subst (said entries) names.0 (written b names.1))) refused
 
 -- a command is refused since its operands are
 pub refused_after : {A : Type 0} (error : LineError) (P : A → Type 0) (word : List ℕ) (words : Words)
     (result : Result Call LineError)
     → result ≡ Err error → Accepts {A = A} (Err error) P → (said (forms (WritesOperands words)) word → (a : A) × P a)
     → Accepts result (NamesAfter word words)
-refused_after error P word words result is refused part =
-    refused_through error result is
-    (λ call names. part (subst (said (forms (WritesOperands words))) names.0 (form words call names.1))) refused
+refused_after error P word words =
+    refused_beside (forms (WritesOperands words)) command_word (WritesOperands words) (form words) error P word

@@ -2,6 +2,7 @@ pub mod ScriptLemmas
 pub mod LinesLemmas
 pub mod AnswersLemmas
 pub mod CommandsLemmas
+mod HeadersLemmas
 pub mod LimitWordsLemmas
 pub mod MemoryWordsLemmas
 pub mod TableWordsLemmas

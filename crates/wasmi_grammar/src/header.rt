@@ -10,7 +10,7 @@ use answers::answers_of;
 use std::alloc::Global;
 use wasmi_core::{CustomFuelCosts, Fuel, FuelCostsProvider};
 use wasmi_meter::Amounts;
-use wasmi_operands::{LineError, number};
+use wasmi_operands::{LineError, number, words};
 
 /// The most tenants that a script may have.
 const MOST_TENANTS: usize = 1024;
@@ -161,46 +161,29 @@ pub(crate) fn meter_line(operands: &[&str]) -> Result<MeterLine, LineError>
 pub(crate) fn region_line(operands: &[&str]) -> Result<RegionLine, LineError>
     ensures { Accepts result (WritesRegion operands.now) }
 {
-    let [len, byte] = operands else {
-        return Err(LineError::BadCommand);
-    };
-    Ok(RegionLine {
-        len: number(len)?,
-        byte: number(byte)?,
-    })
+    let (len, byte) = words::two(operands)?;
+    Ok(RegionLine { len, byte })
 }
 
 /// `quota B E`.
 pub(crate) fn quota(operands: &[&str]) -> Result<LimiterLine, LineError>
     ensures { Accepts result (NamesLimiterAfter (codes "quota") operands.now) }
 {
-    let [bytes, elements] = operands else {
-        return Err(LineError::BadCommand);
-    };
-    Ok(LimiterLine::Quota(Amounts {
-        bytes: number(bytes)?,
-        elements: number(elements)?,
-    }))
+    let (bytes, elements) = words::two(operands)?;
+    Ok(LimiterLine::Quota(Amounts { bytes, elements }))
 }
 
 /// `tenants N B E`.
-#[tactic(auto, using(std::proofs::lemmas::Grind::common_steps))]
 pub(crate) fn tenants(operands: &[&str]) -> Result<LimiterLine, LineError>
     ensures { Accepts result (NamesLimiterAfter (codes "tenants") operands.now) }
 {
-    let [count, bytes, elements] = operands else {
-        return Err(LineError::BadCommand);
-    };
-    let count = number(count)?;
+    let (count, bytes, elements) = words::three(operands)?;
     if !(1..=MOST_TENANTS).contains(&count) {
         return Err(LineError::BadCommand);
     }
     Ok(LimiterLine::Tenants(TenantsLine {
         count,
-        caps: Amounts {
-            bytes: number(bytes)?,
-            elements: number(elements)?,
-        },
+        caps: Amounts { bytes, elements },
     }))
 }
 

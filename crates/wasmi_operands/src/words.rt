@@ -241,10 +241,11 @@ pub fn three<A: Operand, B: Operand, C: Operand>(words: &[&str]) -> Result<(A, B
     ensures { Accepts result (λ all. (length words.now ≡ 3) × A.writes (word_at words.now 0) all.0
         × B.writes (word_at words.now 1) all.1 × C.writes (word_at words.now 2) all.2) }
 {
-    let [a, b, c] = words else {
+    let [front @ .., last] = words else {
         return Err(LineError::BadCommand);
     };
-    Ok((A::from_word(a)?, B::from_word(b)?, C::from_word(c)?))
+    let (a, b) = two(front)?;
+    Ok((a, b, C::from_word(last)?))
 }
 
 /// What four words write.
@@ -255,15 +256,11 @@ pub fn four<A: Operand, B: Operand, C: Operand, D: Operand>(
         × B.writes (word_at words.now 1) all.1 × C.writes (word_at words.now 2) all.2
         × D.writes (word_at words.now 3) all.3) }
 {
-    let [a, b, c, d] = words else {
+    let [front @ .., last] = words else {
         return Err(LineError::BadCommand);
     };
-    Ok((
-        A::from_word(a)?,
-        B::from_word(b)?,
-        C::from_word(c)?,
-        D::from_word(d)?,
-    ))
+    let (a, b, c) = three(front)?;
+    Ok((a, b, c, D::from_word(last)?))
 }
 
 /// What five words write.
@@ -274,14 +271,9 @@ pub fn five<A: Operand, B: Operand, C: Operand, D: Operand, E: Operand>(
         × B.writes (word_at words.now 1) all.1 × C.writes (word_at words.now 2) all.2
         × D.writes (word_at words.now 3) all.3 × E.writes (word_at words.now 4) all.4) }
 {
-    let [a, b, c, d, e] = words else {
+    let [front @ .., last] = words else {
         return Err(LineError::BadCommand);
     };
-    Ok((
-        A::from_word(a)?,
-        B::from_word(b)?,
-        C::from_word(c)?,
-        D::from_word(d)?,
-        E::from_word(e)?,
-    ))
+    let (a, b, c, d) = four(front)?;
+    Ok((a, b, c, d, E::from_word(last)?))
 }

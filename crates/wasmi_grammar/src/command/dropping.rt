@@ -13,9 +13,10 @@ pub fn drop_live(operands: &[&str]) -> Result<Call, LineError>
     let [kind, index] = operands else {
         return Err(LineError::BadCommand);
     };
+    let index = number(index)?;
     match *kind {
-        "memory" => Ok(Call::DropMemory(number(index)?)),
-        "table" => Ok(Call::DropTable(number(index)?)),
+        "memory" => Ok(Call::DropMemory(index)),
+        "table" => Ok(Call::DropTable(index)),
         _ => Err(LineError::BadCommand),
     }
 }

@@ -6,11 +6,11 @@ ghost use Rattle.wasmi_operands.specs.LaneNames.{WritesLanes};
 
 use wasmi_core::Call;
 use wasmi_core::simd::ImmLaneIdx32;
+use wasmi_operands::LineError;
 use wasmi_operands::names::lane::{extract_op, index, replace_op};
-use wasmi_operands::{LineError, number};
+use wasmi_operands::words::Operand;
 
 /// `extract NAME A LANE`.
-#[tactic(auto, using(std::proofs::lemmas::Grind::common_steps))]
 pub fn extract(operands: &[&str]) -> Result<Call, LineError>
     ensures { Accepts result (NamesAfter (codes "extract") operands.now) }
 {
@@ -19,12 +19,11 @@ pub fn extract(operands: &[&str]) -> Result<Call, LineError>
     };
     Ok(Call::Extract {
         op: extract_op(name, lane)?,
-        a: number(a)?,
+        a: Operand::from_word(a)?,
     })
 }
 
 /// `replace NAME D A LANE B`.
-#[tactic(auto, using(std::proofs::lemmas::Grind::common_steps))]
 pub fn replace(operands: &[&str]) -> Result<Call, LineError>
     ensures { Accepts result (NamesAfter (codes "replace") operands.now) }
 {
@@ -33,14 +32,13 @@ pub fn replace(operands: &[&str]) -> Result<Call, LineError>
     };
     Ok(Call::Replace {
         op: replace_op(name, lane)?,
-        dst: number(dst)?,
-        a: number(a)?,
-        item: number(item)?,
+        dst: Operand::from_word(dst)?,
+        a: Operand::from_word(a)?,
+        item: Operand::from_word(item)?,
     })
 }
 
 /// `shuffle D A B LANE ...`, with sixteen lanes.
-#[tactic(auto, using(std::proofs::lemmas::Grind::common_steps))]
 pub fn shuffle(operands: &[&str]) -> Result<Call, LineError>
     ensures { Accepts result (NamesAfter (codes "shuffle") operands.now) }
 {
@@ -48,9 +46,9 @@ pub fn shuffle(operands: &[&str]) -> Result<Call, LineError>
         return Err(LineError::BadCommand);
     };
     Ok(Call::Shuffle {
-        dst: number(dst)?,
-        a: number(a)?,
-        b: number(b)?,
+        dst: Operand::from_word(dst)?,
+        a: Operand::from_word(a)?,
+        b: Operand::from_word(b)?,
         lanes: lanes_of(lanes)?,
     })
 }

@@ -4,8 +4,9 @@ ghost use Rattle.wasmi_operands.specs.Acceptance.{Accepts};
 ghost use Rattle.wasmi_grammar.specs.Commands.{NamesAfter};
 
 use wasmi_core::Call;
+use wasmi_operands::LineError;
 use wasmi_operands::names::lane::{load_lane_op, store_lane_op};
-use wasmi_operands::{LineError, number, words};
+use wasmi_operands::words::{self, Operand};
 
 /// `vload NAME D K PTR OFFSET`.
 pub fn load(operands: &[&str]) -> Result<Call, LineError>
@@ -22,20 +23,20 @@ pub fn load(operands: &[&str]) -> Result<Call, LineError>
 }
 
 /// `vloadlane NAME D A LANE K PTR OFFSET`.
-#[tactic(auto, using(std::proofs::lemmas::Grind::common_steps))]
 pub fn load_lane(operands: &[&str]) -> Result<Call, LineError>
     ensures { Accepts result (NamesAfter (codes "vloadlane") operands.now) }
 {
-    let [name, dst, a, lane, memory, ptr, offset] = operands else {
+    let [name, dst, a, lane, place @ ..] = operands else {
         return Err(LineError::BadCommand);
     };
+    let (memory, ptr, offset) = words::three(place)?;
     Ok(Call::LoadLane {
         op: load_lane_op(name, lane)?,
-        dst: number(dst)?,
-        a: number(a)?,
-        memory: number(memory)?,
-        ptr: number(ptr)?,
-        offset: number(offset)?,
+        dst: Operand::from_word(dst)?,
+        a: Operand::from_word(a)?,
+        memory,
+        ptr,
+        offset,
     })
 }
 
@@ -53,18 +54,18 @@ pub fn store(operands: &[&str]) -> Result<Call, LineError>
 }
 
 /// `vstorelane NAME A LANE K PTR OFFSET`.
-#[tactic(auto, using(std::proofs::lemmas::Grind::common_steps))]
 pub fn store_lane(operands: &[&str]) -> Result<Call, LineError>
     ensures { Accepts result (NamesAfter (codes "vstorelane") operands.now) }
 {
-    let [name, a, lane, memory, ptr, offset] = operands else {
+    let [name, a, lane, place @ ..] = operands else {
         return Err(LineError::BadCommand);
     };
+    let (memory, ptr, offset) = words::three(place)?;
     Ok(Call::StoreLane {
         op: store_lane_op(name, lane)?,
-        a: number(a)?,
-        memory: number(memory)?,
-        ptr: number(ptr)?,
-        offset: number(offset)?,
+        a: Operand::from_word(a)?,
+        memory,
+        ptr,
+        offset,
     })
 }

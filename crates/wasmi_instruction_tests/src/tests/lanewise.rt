@@ -15,6 +15,7 @@ fn lanes_do_not_touch_each_other(rt: HostRuntime) {
     answers!(&rt;
         i8x16_add(i16x8_splat(255), i16x8_splat(1)) => zero,
         i8x16_sub(i16x8_splat(256), i16x8_splat(1)) => i16x8_splat(511),
+        i8x16_mul(i16x8_splat(511), i8x16_splat(3)) => i16x8_splat(1021),
         i8x16_eq(i16x8_splat(256), i16x8_splat(0)) => i16x8_splat(255),
         i8x16_abs(i8x16_splat(-128)) => i8x16_splat(-128),
         i16x8_avgr_u(i16x8_splat(-1), i16x8_splat(0)) => i16x8_splat(-32768),

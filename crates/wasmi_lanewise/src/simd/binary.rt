@@ -72,7 +72,8 @@ pub fn i64x2_sub(lhs: V128, rhs: V128) -> V128
     words::differences::<u64>(lhs, rhs)
 }
 
-/// The products of the lanes, modulo 2 to the power 8.
+/// The products of the lanes, modulo 2 to the power 8: upstream's alone, no instruction of
+/// WebAssembly.
 #[inline]
 pub fn i8x16_mul(lhs: V128, rhs: V128) -> V128
     ensures { result ≡ vector.mul w8 lhs rhs }

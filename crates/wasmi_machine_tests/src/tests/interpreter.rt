@@ -1,8 +1,21 @@
 //! Programs of the interpreter of `wasmi_uses`.
 use super::{CallRow, ReplyRow, Step, memory_size, metered, runs_to, runs_under, same, unmetered};
+use std::process::Abort;
 use std::test::Fail;
-use wasmi_core::{NoLimits, Quota, RawVal, Reply, TrapCode};
+use wasmi_core::{Machine, NoLimits, Quota, RawVal, Reply, ResourceLimiter, TrapCode};
 use wasmi_uses::interpreter::{Ending, Instruction, Outcome, execute};
+
+/// Executes at most 1,000 instructions of a program, and compares how it ends.
+fn ends<L: ResourceLimiter>(
+    rt: &impl Abort,
+    program: &[Instruction],
+    machine: &mut Machine,
+    limiter: &mut L,
+    expected: Outcome,
+) {
+    let outcome = execute(program, machine, limiter, 1000);
+    same(rt, "the outcome", outcome, expected);
+}
 
 /// The factorial of 20. Local 0 counts down, and local 2 is -1.
 static FACTORIAL: [Instruction; 7] = [
@@ -32,13 +45,12 @@ static FACTORIAL: [Instruction; 7] = [
 #[test]
 fn a_factorial(rt: HostRuntime) -> Result<(), Fail> {
     let mut machine = unmetered(rt.alloc());
-    let outcome = execute(&FACTORIAL, &mut machine, &mut NoLimits, 1000);
     let expected = Outcome {
         ending: Some(Ending::Returned(RawVal::from(2432902008176640000u64))),
         place: 6,
         executed: 63,
     };
-    same(&rt, "the outcome", outcome, expected);
+    ends(&rt, &FACTORIAL, &mut machine, &mut NoLimits, expected);
     Ok(())
 }
 
@@ -52,16 +64,19 @@ static SPENT: [Step; 1] = [(CallRow::GetFuel, ReplyRow::Number(0))];
 fn each_instruction_is_charged(rt: HostRuntime) -> Result<(), Fail> {
     let mut machine = metered(rt.alloc());
     runs_to(&rt, &mut machine, &FUEL)?;
-    let outcome = execute(&FACTORIAL, &mut machine, &mut NoLimits, 1000);
-    same(&rt, "the place", outcome.place, 6);
+    let returned = Outcome {
+        ending: Some(Ending::Returned(RawVal::from(2432902008176640000u64))),
+        place: 6,
+        executed: 63,
+    };
+    ends(&rt, &FACTORIAL, &mut machine, &mut NoLimits, returned);
     runs_to(&rt, &mut machine, &LEFT)?;
-    let outcome = execute(&FACTORIAL, &mut machine, &mut NoLimits, 1000);
-    let expected = Outcome {
+    let out_of_fuel = Outcome {
         ending: Some(Ending::OutOfFuel),
         place: 3,
         executed: 36,
     };
-    same(&rt, "the outcome", outcome, expected);
+    ends(&rt, &FACTORIAL, &mut machine, &mut NoLimits, out_of_fuel);
     runs_to(&rt, &mut machine, &SPENT)?;
     Ok(())
 }
@@ -137,14 +152,13 @@ static WORDS: [Step; 1] = [(CallRow::NewBytes(256), ReplyRow::Made(0))];
 fn a_checksum_over_a_memory(rt: HostRuntime) -> Result<(), Fail> {
     let mut machine = unmetered(rt.alloc());
     runs_to(&rt, &mut machine, &WORDS)?;
-    let outcome = execute(&CHECKSUM, &mut machine, &mut NoLimits, 1000);
     // The sum of the numbers from 0 to 31 is 496, and 240 modulo 256.
     let expected = Outcome {
         ending: Some(Ending::Returned(RawVal::from(0xF0F0_F0F0_F0F0_F0F0u64))),
         place: 16,
         executed: 326,
     };
-    same(&rt, "the outcome", outcome, expected);
+    ends(&rt, &CHECKSUM, &mut machine, &mut NoLimits, expected);
     Ok(())
 }
 
@@ -158,19 +172,27 @@ static GROWTH: [Instruction; 4] = [
 
 static PAGE: [Step; 1] = [(CallRow::NewPages(1, None), ReplyRow::Made(0))];
 
+/// Grows a memory of one page under a quota of so many bytes, to so many pages.
+fn grows_under(rt: &(impl Abort + AllocGlobal), bytes: u64, pages: u64) -> Result<(), Fail> {
+    let mut machine = unmetered(rt.alloc());
+    let mut quota = Quota::new(bytes, 0);
+    runs_under(rt, &mut machine, &PAGE, &mut quota)?;
+    let expected = Outcome {
+        ending: Some(Ending::Returned(RawVal::from(pages))),
+        place: 3,
+        executed: 3,
+    };
+    ends(rt, &GROWTH, &mut machine, &mut quota, expected);
+    same(rt, "the size", memory_size(&machine, 0), Some(pages));
+    same(rt, "the bytes", quota.held_bytes() / 65536, pages);
+    Ok(())
+}
+
 #[test]
 fn a_growth_under_a_quota(rt: HostRuntime) -> Result<(), Fail> {
-    for (bytes, pages) in [(65536u64, 1u64), (131071, 1), (131072, 2)] {
-        let mut machine = unmetered(rt.alloc());
-        let mut quota = Quota::new(bytes, 0);
-        runs_under(&rt, &mut machine, &PAGE, &mut quota)?;
-        let outcome = execute(&GROWTH, &mut machine, &mut quota, 1000);
-        let expected = Some(Ending::Returned(RawVal::from(pages)));
-        same(&rt, "the ending", outcome.ending, expected);
-        same(&rt, "the size", memory_size(&machine, 0), Some(pages));
-        same(&rt, "the bytes", quota.held_bytes(), pages * 65536);
-    }
-    Ok(())
+    grows_under(&rt, 65536, 1)?;
+    grows_under(&rt, 131071, 1)?;
+    grows_under(&rt, 131072, 2)
 }
 
 #[test]
@@ -181,22 +203,26 @@ fn programs_that_end_otherwise(rt: HostRuntime) -> Result<(), Fail> {
         offset: 249,
     };
     let trap = Reply::Trap(TrapCode::MemoryOutOfBounds);
-    for (instruction, ending, executed) in [
-        (Instruction::Branch(0), None, 1000),
-        (Instruction::Branch(1), Some(Ending::Undefined), 1),
-        (Instruction::Return(16), Some(Ending::Undefined), 0),
-        (past_the_end, Some(Ending::Refused(trap)), 0),
+    for (instruction, ending, place, executed) in [
+        (Instruction::Branch(0), None, 0, 1000),
+        (Instruction::Branch(1), Some(Ending::Undefined), 1, 1),
+        (Instruction::Return(16), Some(Ending::Undefined), 0, 0),
+        (past_the_end, Some(Ending::Refused(trap)), 0, 0),
         (
             Instruction::Constant { dst: 16, number: 0 },
             Some(Ending::Refused(Reply::NoSuch)),
+            0,
             0,
         ),
     ] {
         let mut machine = unmetered(rt.alloc());
         runs_to(&rt, &mut machine, &WORDS)?;
-        let outcome = execute(&[instruction], &mut machine, &mut NoLimits, 1000);
-        same(&rt, "the ending", outcome.ending, ending);
-        same(&rt, "the instructions", outcome.executed, executed);
+        let expected = Outcome {
+            ending,
+            place,
+            executed,
+        };
+        ends(&rt, &[instruction], &mut machine, &mut NoLimits, expected);
     }
     Ok(())
 }

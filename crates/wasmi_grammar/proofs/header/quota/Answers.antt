@@ -1,9 +1,9 @@
-use Rattle.std.proofs.Common.{arith}
-use Rattle.std.proofs.lemmas.Grind.{common_steps}
+use Rattle.std.proofs.Common.{codes, rules}
+use Rattle.wasmi_grammar.proofs.HeadersLemmas.{refused_limiter}
 use Rattle.wasmi_grammar.proofs.header.quota.Goals as goal
 
-pub returns-in_err-number : goal.returns-in_err-number
-returns-in_err-number c = grind (arith, common_steps)
-
-pub returns-in_err-number-2 : goal.returns-in_err-number-2
-returns-in_err-number-2 c = grind (arith, common_steps)
+pub returns-in_err-bytes : goal.returns-in_err-bytes
+returns-in_err-bytes c =
+    refused_limiter c.in_err-bytes.field-0.0 _ (codes "quota") c.args.operands.now c.from_residual.result
+    (search rules) c.in_err-bytes.ensures
+    (λ w. ((w.0.bytes, w.0.elements), w.1))
