@@ -11,8 +11,8 @@ use Rattle.wasmi_core.specs.Account.{Account, Balances, account_after, charged_b
 use Rattle.wasmi_core.specs.Effects.{ActsAt, reply_of}
 use Rattle.wasmi_core.specs.Runs.{Run}
 use Rattle.wasmi_core.specs.State.{State, live_at}
-use Rattle.wasmi_core.specs.Steps.{Changed, Effect, FuelSet, MemoryGrown, PartWritten, TableGrown, TakesEffect, effect_of}
-use Rattle.wasmi_core.specs.TableEffects.{Metered, WritesPartAt, WritesTableAt, metered, write_of}
+use Rattle.wasmi_core.specs.Steps.{Changed, Effect, FuelSet, MemoryGrown, RangeWritten, TableGrown, TakesEffect, effect_of}
+use Rattle.wasmi_core.specs.TableEffects.{Metered, WritesRangeAt, WritesTableAt, metered, write_of}
 use Rattle.wasmi_core.specs.World.{Turn, World}
 use Rattle.wasmi_core.specs.declared.calls.Call.{Call}
 use Rattle.wasmi_core.specs.declared.calls.Call.TheVariants.{SetFuel}
@@ -206,7 +206,7 @@ table_write_takes k write slots m reply charge slots' m' writes =
 -- so where the write may be missing
 part_takes : (k : ℕ) (part : Option (TableValue → TableWrite)) (slots : List (Slot TableValue)) (m : Meter)
     (reply : Reply) (charge : ℕ) (slots' : List (Slot TableValue)) (m' : Meter)
-    → WritesPartAt k part (metered slots m) reply charge (metered slots' m') → Takes m charge m'
+    → WritesRangeAt k part (metered slots m) reply charge (metered slots' m') → Takes m charge m'
 part_takes k part slots m reply charge slots' m' writes =
     on_live part _ _ writes
     (λ missing. takes_nothing m m' charge missing.1
@@ -268,7 +268,7 @@ module _ {S : Type 0} (rules : Rules S) (account : Account) (w : World S) (turn 
       charged account w turn w' balances step.after
       (table_growth_takes rules k n init
       (growing w w.state.tables turn.charge step.part step.meter step.limiter) turn.reply step.effect)
-  effect_balances (PartWritten k source dst len) step balances =
+  effect_balances (RangeWritten k source dst len) step balances =
       charged account w turn w' balances step.after
       (part_takes k (write_of source dst len) w.state.tables w.state.meter turn.reply turn.charge step.part step.meter
       step.effect)

@@ -4,7 +4,7 @@ use Rattle.wasmi_core.proofs.EffectLemmas.{on_live_too, on_test_too}
 use Rattle.wasmi_core.specs.Effects.{ActsAt, ActsMetered, Asks, Creates, reply_of}
 use Rattle.wasmi_core.specs.Runs.{Run}
 use Rattle.wasmi_core.specs.State.{State, live_at}
-use Rattle.wasmi_core.specs.Steps.{BytesRead, Effect, LentMemoryMade, MemoryGrown, MemoryMade, PartWritten, TableGrown, TableMade, TakesEffect, Told, effect_of}
+use Rattle.wasmi_core.specs.Steps.{BytesRead, Effect, LentMemoryMade, MemoryGrown, MemoryMade, RangeWritten, TableGrown, TableMade, TakesEffect, Told, effect_of}
 use Rattle.wasmi_core.specs.World.{Turn, World}
 use Rattle.wasmi_core.specs.declared.calls.Reply.{Reply}
 use Rattle.wasmi_core.specs.declared.slots.Slot.{Slot}
@@ -179,7 +179,7 @@ module _ {S T : Type 0} (image : S → T) where
       effect_carried (TableGrown k n init) step =
           pays_too step (acts_too k (reply_of replied.Number replied.Table) (GrowsTable rules n init)
           (GrowsTable rules' n init) (table_growth_too n init) _ _ turn.reply turn.charge step.effect)
-      effect_carried (PartWritten k source dst len) step =
+      effect_carried (RangeWritten k source dst len) step =
           record {
             part = step.part;
             meter = step.meter;

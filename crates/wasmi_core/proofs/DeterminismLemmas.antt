@@ -12,7 +12,7 @@ use Rattle.wasmi_core.specs.MemoryEffects.{CreatesLent, spare_after}
 use Rattle.wasmi_core.specs.Effects.{ActsMetered, ActsMeteredUnasked, Asks, Changes, Creates, OnlyReplies, reply_of}
 use Rattle.wasmi_core.specs.Runs.{Run}
 use Rattle.wasmi_core.specs.State.{MemoryPart, State, memory_part}
-use Rattle.wasmi_core.specs.Steps.{BytesRead, Changed, Effect, FuelSet, LentMemoryMade, MemoryGrown, MemoryMade, PartWritten, TableGrown, TableMade, TakesEffect, Told, effect_of}
+use Rattle.wasmi_core.specs.Steps.{BytesRead, Changed, Effect, FuelSet, LentMemoryMade, MemoryGrown, MemoryMade, RangeWritten, TableGrown, TableMade, TakesEffect, Told, effect_of}
 use Rattle.wasmi_core.specs.TableEffects.{write_of}
 use Rattle.wasmi_core.specs.World.{Turn, World}
 use Rattle.wasmi_core.specs.declared.calls.Call.{Call}
@@ -310,7 +310,7 @@ module _ {S : Type 0} (rules : Rules S) (once : IsDeterministic rules) (w : Worl
   effect_same (TableGrown k n init) step step' =
       paid_once w t t' v v' step step' (acts_same (GrowsTable (with_memory rules) n init)
       (table_growth_same once n init) k (reply_of replied.Number replied.Table) _)
-  effect_same (PartWritten k source dst len) step step' =
+  effect_same (RangeWritten k source dst len) step step' =
       unasked_once w t t' v v' step step' (parts_same k (write_of source dst len) _)
 
 module _ {S : Type 0} (rules : Rules S) (once : IsDeterministic rules) where

@@ -10,7 +10,7 @@ use Rattle.wasmi_core.specs.Exchange.{growth_due, At, ChargesAt, ChargesBy, Deni
 use Rattle.wasmi_core.specs.MemoryEffects.{CreatesLent}
 use Rattle.wasmi_core.specs.Effects.{ActsAt, AddsEntry, Creates, reply_of}
 use Rattle.wasmi_core.specs.State.{MemoryPart, State, live_at, memory_part, with_tables}
-use Rattle.wasmi_core.specs.Steps.{Changed, Effect, FuelSet, LentMemoryMade, MemoryGrown, MemoryMade, PartWritten, Step, TableGrown, TableMade, TakesEffect, effect_of}
+use Rattle.wasmi_core.specs.Steps.{Changed, Effect, FuelSet, LentMemoryMade, MemoryGrown, MemoryMade, RangeWritten, Step, TableGrown, TableMade, TakesEffect, effect_of}
 use Rattle.wasmi_core.specs.TableEffects.{metered, write_of}
 use Rattle.wasmi_core.specs.Totals.{byte_count, sizes, slot_count}
 use Rattle.wasmi_core.specs.World.{Turn, World}
@@ -461,7 +461,7 @@ module _ {S : Type 0} (rules : Rules S) (w : World S) (turn : Turn) (w' : World 
       table_grows rules w turn.charge w' (ap (λ (v : World S). v.state.memories) step.after) turn.reply k n init
       step.meter
       (rw step.after step.effect)
-  effect_passes (PartWritten k source dst len) step =
+  effect_passes (RangeWritten k source dst len) step =
       idle rules w turn.charge w' step.after refl
       (each_kind (λ kind. sizes (with_tables w.state step.part) kind ≡ sizes w.state kind) refl
       (part_kept k (metered w.state.tables w.state.meter) (metered step.part step.meter) turn.reply turn.charge len

@@ -14,7 +14,7 @@ use Rattle.wasmi_core.specs.RegisterEffects.{StoresVectorAt, lane_loaded, vector
 use Rattle.wasmi_core.specs.Effects.{ActsAt, AddsEntry, ChangesAt, Creates, DropsAt, OnLive, reply_of}
 use Rattle.wasmi_core.specs.Runs.{Run}
 use Rattle.wasmi_core.specs.State.{State, live_at, live_value}
-use Rattle.wasmi_core.specs.Steps.{BytesRead, BytesStored, BytesWritten, Change, Changed, Effect, FuelSet, LentMemoryMade, MemoryDropped, MemoryGrown, MemoryMade, PartWritten, RegisterSet, Step, TableGrown, TableMade, TakesChange, TakesEffect, Told, effect_of}
+use Rattle.wasmi_core.specs.Steps.{BytesRead, BytesStored, BytesWritten, Change, Changed, Effect, FuelSet, LentMemoryMade, MemoryDropped, MemoryGrown, MemoryMade, RangeWritten, RegisterSet, Step, TableGrown, TableMade, TakesChange, TakesEffect, Told, effect_of}
 use Rattle.wasmi_core.specs.Totals.{byte_count}
 use Rattle.wasmi_core.specs.World.{Turn, World}
 use Rattle.wasmi_core.specs.declared.calls.Call.{Call}
@@ -396,7 +396,7 @@ module _ {S : Type 0} (rules : Rules S) (w : World S) (turn : Turn) (w' : World 
   effect_owned (TableMade ty init) fits step = asks_too step step.part step.effect (ap owned_world step.after)
   effect_owned (TableGrown k n init) fits step =
       acts_too step step.part step.effect refl (ap owned_world step.after)
-  effect_owned (PartWritten k source dst len) fits step =
+  effect_owned (RangeWritten k source dst len) fits step =
       record {
         part = step.part;
         meter = step.meter;

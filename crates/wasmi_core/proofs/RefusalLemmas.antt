@@ -14,8 +14,8 @@ use Rattle.wasmi_core.specs.MemoryEffects.{spare_after}
 use Rattle.wasmi_core.specs.Effects.{ActsAt, reply_of}
 use Rattle.wasmi_core.specs.Runs.{Run}
 use Rattle.wasmi_core.specs.State.{State, live_at, memory_part, with_memories, with_tables}
-use Rattle.wasmi_core.specs.Steps.{Changed, Effect, FuelSet, LentMemoryMade, MemoryGrown, MemoryMade, PartWritten, Step, TableGrown, TableMade, TakesEffect, effect_of}
-use Rattle.wasmi_core.specs.TableEffects.{Metered, WritesPartAt, WritesTableAt, metered, write_of}
+use Rattle.wasmi_core.specs.Steps.{Changed, Effect, FuelSet, LentMemoryMade, MemoryGrown, MemoryMade, RangeWritten, Step, TableGrown, TableMade, TakesEffect, effect_of}
+use Rattle.wasmi_core.specs.TableEffects.{Metered, WritesRangeAt, WritesTableAt, metered, write_of}
 use Rattle.wasmi_core.specs.World.{Turn, World}
 use Rattle.wasmi_core.specs.declared.calls.Call.{Call}
 use Rattle.wasmi_core.specs.declared.calls.Call.TheVariants.{NewLentMemory}
@@ -113,7 +113,7 @@ module _ {S : Type 0} (rules : Rules S) (w : World S) (turn : Turn) (w' : World 
       (record { value = w.state.tables; meter = Some w.state.meter; limiter = w.limiter })
       (record { value = step.part; meter = Some step.meter; limiter = step.limiter }) turn.reply turn.charge refused
       step.effect))
-  effect_back (PartWritten k source dst len) step =
+  effect_back (RangeWritten k source dst len) step =
       paid w w' step.meter step.after
       (ap (λ part. let s : State = record (with_tables w.state part) { meter = step.meter } in s)
       (part_back k (metered w.state.tables w.state.meter) (metered step.part step.meter) turn.reply turn.charge refused
@@ -226,7 +226,7 @@ module _ (k : ℕ) (slots : List (Slot TableValue)) (m : Meter) (reply : Reply) 
 
   -- so where the write may be missing
   part_meter : (part : Option (TableValue → TableWrite))
-      → WritesPartAt k part (metered slots m) reply charge (metered slots' m') → m' ≡ m
+      → WritesRangeAt k part (metered slots m) reply charge (metered slots' m') → m' ≡ m
   part_meter part writes =
       on_live part _ _ writes (λ missing. same_Some m' m (ap (λ (s : Metered). s.meter) missing.2))
       (λ write found h. write_meter write h)
@@ -291,7 +291,7 @@ module _ {S : Type 0} (rules : Rules S) (w : World S) (turn : Turn) (w' : World 
   effect_meter (TableGrown k n init) step =
       ends_with (with_tables w.state step.part) step.meter step.limiter step.after
       (table_meter k n init step.part step.meter step.limiter step.effect)
-  effect_meter (PartWritten k source dst len) step =
+  effect_meter (RangeWritten k source dst len) step =
       ends_with (with_tables w.state step.part) step.meter w.limiter step.after
       (inl (part_meter k w.state.tables w.state.meter turn.reply refused turn.charge step.part step.meter
       (write_of source dst len) step.effect))

@@ -8,7 +8,7 @@ use Rattle.wasmi_core.proofs.TotalLemmas.{counts_kept}
 use Rattle.wasmi_core.specs.Laws.{IsRefusal}
 use Rattle.wasmi_core.specs.Effects.{ActsAt, OnLive, reply_of}
 use Rattle.wasmi_core.specs.State.{live_at}
-use Rattle.wasmi_core.specs.TableEffects.{Metered, SetsElementAt, WritesPartAt, WritesTableAt, WritesTableFrom}
+use Rattle.wasmi_core.specs.TableEffects.{Metered, SetsElementAt, WritesRangeAt, WritesTableAt, WritesTableFrom}
 use Rattle.wasmi_core.specs.Totals.{slot_count}
 use Rattle.wasmi_core.specs.declared.calls.Reply.{Reply}
 use Rattle.wasmi_core.specs.declared.slots.Slot.{Slot}
@@ -51,7 +51,8 @@ module _ (k : ℕ) (s s' : Metered) (reply : Reply) (charge : ℕ) (refused : Is
       (rw h.3 at refused) h.2))
 
   -- so where the write may be missing
-  pub part_back : (part : Option (TableValue → TableWrite)) → WritesPartAt k part s reply charge s' → s'.value ≡ s.value
+  pub part_back : (part : Option (TableValue → TableWrite)) → WritesRangeAt k part s reply charge s'
+      → s'.value ≡ s.value
   part_back part writes =
       on_live part _ _ writes (λ missing. ap (λ (s : Metered). s.value) missing.2)
       (λ write found h. table_write_back write h)
@@ -120,7 +121,7 @@ table_writes_same k write s =
 
 -- so where the write may be missing
 pub parts_same : (k : ℕ) (part : Option (TableValue → TableWrite)) (s : Metered)
-    → HasOneEnding (WritesPartAt k part s)
+    → HasOneEnding (WritesRangeAt k part s)
 parts_same k part s o o' a b =
     on_both part _ _ _ _ a b (λ h h'. (h.0 ∙ sym h'.0, h.1 ∙ sym h'.1, h.2 ∙ sym h'.2))
     (λ write h h'. table_writes_same k write s o o' h h')
@@ -168,7 +169,7 @@ module _ (k : ℕ) (s s' : Metered) (reply : Reply) (charge : ℕ) (len : ℕ) w
 
   -- so where the write may be missing
   pub part_kept : (part : Option (TableValue → TableWrite)) → OnLive part (Unit {0}) (IsWrite len)
-      → WritesPartAt k part s reply charge s' → map (slot_count size_of) s'.value ≡ map (slot_count size_of) s.value
+      → WritesRangeAt k part s reply charge s' → map (slot_count size_of) s'.value ≡ map (slot_count size_of) s.value
   part_kept part is writes =
       on_live part _ _ (both_live part _ _ _ _ is writes)
       (λ missing. ap (λ (s : Metered). map (slot_count size_of) s.value) missing.1.2)
@@ -220,7 +221,7 @@ module _ (k : ℕ) (s s' : Metered) (reply : Reply) (charge : ℕ) (len : ℕ) w
 
   -- so where the write may be missing
   pub part_valid : (part : Option (TableValue → TableWrite)) → OnLive part (Unit {0}) (IsWrite len)
-      → WritesPartAt k part s reply charge s' → AllValid IsValidTable s.value → AllValid IsValidTable s'.value
+      → WritesRangeAt k part s reply charge s' → AllValid IsValidTable s.value → AllValid IsValidTable s'.value
   part_valid part is writes valid =
       on_live part _ _ (both_live part _ _ _ _ is writes)
       (λ missing. subst (λ (t : Metered). AllValid IsValidTable t.value) (sym missing.1.2) valid)
@@ -238,6 +239,6 @@ set_valid k index value slots reply slots' sets valid =
 -- what is written with a live value, as a write that is there if the value is
 pub part_from : {X : Type 0} (source : Option X) (k : ℕ) (write : X → TableValue → TableWrite) (s : Metered)
     (reply : Reply) (charge : ℕ) (s' : Metered)
-    → WritesTableFrom source k write s reply charge s' → WritesPartAt k (option_map write source) s reply charge s'
+    → WritesTableFrom source k write s reply charge s' → WritesRangeAt k (option_map write source) s reply charge s'
 part_from None k write s reply charge s' writes = writes
 part_from (Some y) k write s reply charge s' writes = writes

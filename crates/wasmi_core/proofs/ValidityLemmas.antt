@@ -8,7 +8,7 @@ use Rattle.wasmi_core.proofs.TableEffectsLemmas.{part_valid}
 use Rattle.wasmi_core.specs.Effects.{reply_of}
 use Rattle.wasmi_core.specs.Runs.{Run}
 use Rattle.wasmi_core.specs.State.{MemoryPart, State}
-use Rattle.wasmi_core.specs.Steps.{Answers, Changed, Effect, FuelSet, LentMemoryMade, MemoryGrown, MemoryMade, PartWritten, TableGrown, TableMade, TakesEffect, effect_of}
+use Rattle.wasmi_core.specs.Steps.{Answers, Changed, Effect, FuelSet, LentMemoryMade, MemoryGrown, MemoryMade, RangeWritten, TableGrown, TableMade, TakesEffect, effect_of}
 use Rattle.wasmi_core.specs.TableEffects.{metered, write_of}
 use Rattle.wasmi_core.specs.Validity.{IsValid, IsValidCall}
 use Rattle.wasmi_core.specs.World.{Turn, World}
@@ -108,7 +108,7 @@ module _ {S : Type 0} (rules : Rules S) (w : World S) (turn : Turn) (w' : World 
       (λ s s' result charge h grows. store.grown_table_is_valid rules n init s result charge s' h grows)
       _ _ turn.reply turn.charge step.effect valid.tables)
       w'.state (ap now step.after)
-  effect_valid (PartWritten k source dst len) typed step =
+  effect_valid (RangeWritten k source dst len) typed step =
       tables_valid w.state valid step.meter step.part
       (part_valid k (metered w.state.tables m) (metered step.part step.meter) turn.reply turn.charge len
       (write_of source dst len) (source_writes source dst len) step.effect valid.tables)

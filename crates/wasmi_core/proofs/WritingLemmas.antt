@@ -15,8 +15,8 @@ use Rattle.wasmi_core.specs.MemoryEffects.{bytes_appended}
 use Rattle.wasmi_core.specs.Effects.{ActsAt, OnLive, reply_of}
 use Rattle.wasmi_core.specs.Runs.{Run}
 use Rattle.wasmi_core.specs.State.{State, live_at}
-use Rattle.wasmi_core.specs.Steps.{Changed, Effect, FuelSet, MemoryGrown, PartWritten, TableGrown, TakesEffect, effect_of, is_charged}
-use Rattle.wasmi_core.specs.TableEffects.{Metered, WritesPartAt, WritesTableAt, element_bytes, metered, write_of}
+use Rattle.wasmi_core.specs.Steps.{Changed, Effect, FuelSet, MemoryGrown, RangeWritten, TableGrown, TakesEffect, effect_of, is_charged}
+use Rattle.wasmi_core.specs.TableEffects.{Metered, WritesRangeAt, WritesTableAt, element_bytes, metered, write_of}
 use Rattle.wasmi_core.specs.World.{Turn, World}
 use Rattle.wasmi_core.specs.Writing.{IsBounded, amount_set, amounts_set, bytes_written, charges_for_writing, has_written, is_accepted, writing_turns}
 use Rattle.wasmi_core.specs.declared.calls.Call.{Call}
@@ -314,7 +314,7 @@ module _ (k len : ℕ) (slots : List (Slot TableValue)) (m : Meter) (reply : Rep
 
   -- so where the write may be missing
   part_writes : (part : Option (TableValue → TableWrite)) → OnLive part (Unit {0}) (IsWrite len)
-      → WritesPartAt k part (metered slots m) reply charge (metered slots' m')
+      → WritesRangeAt k part (metered slots m) reply charge (metered slots' m')
       → Wrote m charge (element_bytes len reply) (is_accepted reply) 0 m'
   part_writes part is writes =
       on_live part _ _ (both_live part _ _ _ _ is writes)
@@ -338,7 +338,7 @@ module _ {S : Type 0} (w : World S) (turn : Turn) (w' : World S) where
 abbrev is_charged_effect : Effect → Bool
 is_charged_effect (MemoryGrown k pages) = true
 is_charged_effect (TableGrown k n init) = true
-is_charged_effect (PartWritten k source dst len) = true
+is_charged_effect (RangeWritten k source dst len) = true
 is_charged_effect effect = false
 
 -- what an effect sets the fuel to
@@ -370,7 +370,7 @@ module _ {S : Type 0} (rules : Rules S) (w : World S) (turn : Turn) (w' : World 
       writes_as w turn w' step.after step.wrote
       (table_growth_writes rules k n init
       (growing w w.state.tables turn.charge step.part step.meter step.limiter) turn.reply step.effect)
-  effect_writes (PartWritten k source dst len) step =
+  effect_writes (RangeWritten k source dst len) step =
       writes_as w turn w' step.after step.wrote
       (part_writes k len w.state.tables w.state.meter turn.reply turn.charge step.part step.meter
       (write_of source dst len) (source_writes source dst len) step.effect)

@@ -34,7 +34,7 @@ use Rattle.wasmi_core.specs.Totals.{byte_count}
 use Rattle.wasmi_scalar_ops.specs.AccessOps.{stored_bytes}
 use Rattle.wasmi_core.specs.FuelEffects.{SetsFuel, get_fuel_reply}
 use Rattle.wasmi_core.specs.MemoryEffects.{bytes_appended, CreatesLent, ReadsMemoryAt, WritesMemoryAt, load_reply}
-use Rattle.wasmi_core.specs.TableEffects.{Source, OfReference, OfTable, OfSegment, element_reply, SetsElementAt, write_of, WritesPartAt, element_bytes}
+use Rattle.wasmi_core.specs.TableEffects.{Source, OfReference, OfTable, OfSegment, element_reply, SetsElementAt, write_of, WritesRangeAt, element_bytes}
 use Rattle.wasmi_core.specs.RegisterEffects.{TakesRegister, StoresVectorAt, given_vector, of_one, of_two, of_three, vector_loaded, lane_loaded, raw_reply, vector_at}
 use Rattle.wasmi_core.specs.ValueEffects.{CreatesSegment, DropsItemsAt, CreatesGlobal, SetsGlobalAt, global_reply}
 
@@ -110,7 +110,7 @@ pub data Change : Type 0 where
   GlobalSet : ℕ → TypedRawVal → Change
 
 -- what a call does, once its operands are read: all calls that only reply what is known have one kind of effect, all
--- that change one part alone another, and all that write over a part of a table a third
+-- that change one part alone another, and all that write over a range of a table a third
 pub data Effect : Type 0 where
   Told : Reply → Effect
   BytesRead : ℕ → ℕ → ℕ → Effect
@@ -121,7 +121,7 @@ pub data Effect : Type 0 where
   MemoryGrown : ℕ → ℕ → Effect
   TableMade : TableTypeValue → TypedRawRef → Effect
   TableGrown : ℕ → ℕ → TypedRawRef → Effect
-  PartWritten : ℕ → Source → ℕ → ℕ → Effect
+  RangeWritten : ℕ → Source → ℕ → ℕ → Effect
 
 -- the effect of a call on a machine in this state: a line for each call
 abbrev pub effect_of : State → Call → Effect
@@ -140,9 +140,9 @@ effect_of s (GrowTable k n init) = TableGrown k n init
 effect_of s (DropTable k) = Changed (TableDropped k)
 effect_of s (GetElement k index) = Told (element_reply index (live_at s.tables k))
 effect_of s (SetElement k index value) = Changed (ElementSet k index value)
-effect_of s (InitTable k j dst src len) = PartWritten k (OfSegment (slice_get s.segments j) src) dst len
-effect_of s (CopyTable k dst j src len) = PartWritten k (OfTable (live_at s.tables j) src) dst len
-effect_of s (FillTable k dst value len) = PartWritten k (OfReference value) dst len
+effect_of s (InitTable k j dst src len) = RangeWritten k (OfSegment (slice_get s.segments j) src) dst len
+effect_of s (CopyTable k dst j src len) = RangeWritten k (OfTable (live_at s.tables j) src) dst len
+effect_of s (FillTable k dst value len) = RangeWritten k (OfReference value) dst len
 effect_of s (NewSegment ty items) = Changed (SegmentMade ty items.items)
 effect_of s (DropItems k) = Changed (ItemsDropped k)
 effect_of s (NewGlobal value ty) = Changed (GlobalMade (record { value = value; ty = ty }))
@@ -210,8 +210,8 @@ TakesEffect rules (TableMade ty init) w turn w' =
 TakesEffect rules (TableGrown k n init) w turn w' =
     ActsMetered w turn w' w.state.tables (with_tables w.state)
     (ActsAt k (reply_of reply.Number reply.Table) (GrowsTable rules n init)) (element_bytes n)
-TakesEffect rules (PartWritten k source dst len) w turn w' =
-    ActsMeteredUnasked w turn w' w.state.tables (with_tables w.state) (WritesPartAt k (write_of source dst len))
+TakesEffect rules (RangeWritten k source dst len) w turn w' =
+    ActsMeteredUnasked w turn w' w.state.tables (with_tables w.state) (WritesRangeAt k (write_of source dst len))
     (element_bytes len)
 
 -- a step from one world to the next: the effect of the turn's call takes place

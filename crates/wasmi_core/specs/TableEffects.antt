@@ -80,9 +80,9 @@ write_of (OfReference value) dst len = Some (filling dst value len)
 write_of (OfTable source src) dst len = option_map (copy_from dst src len) source
 write_of (OfSegment segment src) dst len = option_map (initialization_from dst src len) segment
 
--- a part of a table is written over by such a write, if there is one
-abbrev pub WritesPartAt : ℕ → Option (TableValue → TableWrite) → Metered → Reply → ℕ → Metered → Type 0
-WritesPartAt k write = WritesTableFrom write k (λ w. w)
+-- a range of a table is written over by such a write, if there is one
+abbrev pub WritesRangeAt : ℕ → Option (TableValue → TableWrite) → Metered → Reply → ℕ → Metered → Type 0
+WritesRangeAt k write = WritesTableFrom write k (λ w. w)
 
 -- the bytes that an accepted call on so many elements has written
 abbrev pub element_bytes : ℕ → Reply → ℕ

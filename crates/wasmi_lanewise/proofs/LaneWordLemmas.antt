@@ -22,13 +22,13 @@ on_words {a} {b} op bitwise of_a of_b is =
     ∙ div-add-mod' (op a b) (2 ^ 64)
 
 -- a word that is the row of two words
-pub record IsRowOf (row : ℕ → ℕ → ℕ) (a b word : ℕ) : Type 0 where
+pub record IsWordOf (row : ℕ → ℕ → ℕ) (a b word : ℕ) : Type 0 where
   pub fits : word < 2 ^ 64
   pub is : word ≡ row a b
 
 -- lanes of 64 bits are the words
 pub lanes_are_words : (row : ℕ → ℕ → ℕ) (a b low high r : ℕ) → a < 2 ^ 128 → b < 2 ^ 128
-    → IsRowOf row (a % 2 ^ 64) (b % 2 ^ 64) low → IsRowOf row (a / 2 ^ 64) (b / 2 ^ 64) high
+    → IsWordOf row (a % 2 ^ 64) (b % 2 ^ 64) low → IsWordOf row (a / 2 ^ 64) (b / 2 ^ 64) high
     → r ≡ vector_of low high → r ≡ binary_of_lanes w64 unsigned row a b
 unfolding binary_of_lanes first_lanes
 lanes_are_words row a b low high r fits_a fits_b of_low of_high is =

@@ -36,7 +36,7 @@ fn same<T: PartialEq + Debug + Drop>(rt: &impl Abort, what: &str, answer: T, exp
 
 /// A call on a memory, as a table can have it.
 #[derive(Clone, Copy)]
-enum MemoryRow {
+enum MemoryCall {
     /// By how many pages.
     Grow(u64),
     /// From an offset on, so many bytes.
@@ -52,7 +52,7 @@ enum MemoryRow {
 
 /// A call, as a table can have it.
 #[derive(Clone, Copy)]
-enum CallRow {
+enum StaticCall {
     SetFuel(u64),
     GetFuel,
     /// A memory with pages of 64 KiB: its minimum and maximum.
@@ -62,7 +62,7 @@ enum CallRow {
     /// Such a memory in the spare region.
     NewLentBytes(u64),
     /// A call on the memory of an index.
-    Memory(usize, MemoryRow),
+    Memory(usize, MemoryCall),
     /// A table of null references to functions, without a maximum.
     NewTable(u32),
     /// A table, and by how many null references to functions.
@@ -78,7 +78,7 @@ enum CallRow {
 
 /// A reply, as a table can have it.
 #[derive(Clone, Copy)]
-enum ReplyRow {
+enum StaticReply {
     Done,
     Made(usize),
     Number(u64),
@@ -92,7 +92,7 @@ enum ReplyRow {
 }
 
 /// A call, and the reply that is expected.
-type Step = (CallRow, ReplyRow);
+type Step = (StaticCall, StaticReply);
 
 /// A segment of these objects of the host.
 fn new_segment(alloc: Global, bits: &[u32]) -> Result<Call, AllocError> {
@@ -107,61 +107,63 @@ fn new_segment(alloc: Global, bits: &[u32]) -> Result<Call, AllocError> {
 }
 
 /// The call of a row on a memory.
-fn memory_call(alloc: Global, memory: usize, row: MemoryRow) -> Result<Call, AllocError> {
+fn memory_call(alloc: Global, memory: usize, row: MemoryCall) -> Result<Call, AllocError> {
     Ok(match row {
-        MemoryRow::Grow(pages) => Call::GrowMemory { memory, pages },
-        MemoryRow::Read(offset, len) => Call::Read {
+        MemoryCall::Grow(pages) => Call::GrowMemory { memory, pages },
+        MemoryCall::Read(offset, len) => Call::Read {
             memory,
             offset,
             len,
         },
-        MemoryRow::Write(offset, bytes) => Call::Write {
+        MemoryCall::Write(offset, bytes) => Call::Write {
             memory,
             offset,
             bytes: bytes.to_vec(alloc)?,
         },
-        MemoryRow::Load(ptr) => Call::Load {
+        MemoryCall::Load(ptr) => Call::Load {
             op: LoadOp::I32Load8U,
             memory,
             ptr,
             offset: 0,
         },
-        MemoryRow::Store(ptr) => Call::Store {
+        MemoryCall::Store(ptr) => Call::Store {
             op: StoreOp::I32Store8,
             memory,
             ptr,
             offset: 0,
             value: RawVal::from(7u32),
         },
-        MemoryRow::Drop => Call::DropMemory(memory),
+        MemoryCall::Drop => Call::DropMemory(memory),
     })
 }
 
 /// The call of a row.
-fn call_of(alloc: Global, row: CallRow) -> Result<Call, Fail> {
+fn call_of(alloc: Global, row: StaticCall) -> Result<Call, Fail> {
     Ok(match row {
-        CallRow::SetFuel(fuel) => Call::SetFuel(fuel),
-        CallRow::GetFuel => Call::GetFuel,
-        CallRow::NewPages(minimum, maximum) => Call::NewMemory(memory_type(minimum, maximum, 16)?),
-        CallRow::NewBytes(minimum) => Call::NewMemory(memory_type(minimum, None, 0)?),
-        CallRow::NewLentBytes(minimum) => Call::NewLentMemory(memory_type(minimum, None, 0)?),
-        CallRow::Memory(memory, row) => memory_call(alloc, memory, row)?,
-        CallRow::NewTable(minimum) => Call::NewTable {
+        StaticCall::SetFuel(fuel) => Call::SetFuel(fuel),
+        StaticCall::GetFuel => Call::GetFuel,
+        StaticCall::NewPages(minimum, maximum) => Call::NewMemory(memory_type(
+            minimum, maximum, 16,
+        )?),
+        StaticCall::NewBytes(minimum) => Call::NewMemory(memory_type(minimum, None, 0)?),
+        StaticCall::NewLentBytes(minimum) => Call::NewLentMemory(memory_type(minimum, None, 0)?),
+        StaticCall::Memory(memory, row) => memory_call(alloc, memory, row)?,
+        StaticCall::NewTable(minimum) => Call::NewTable {
             ty: TableType::new(RefType::Func, minimum, None),
             init: func(0),
         },
-        CallRow::GrowTable(table, delta) => Call::GrowTable {
+        StaticCall::GrowTable(table, delta) => Call::GrowTable {
             table,
             delta,
             init: func(0),
         },
-        CallRow::DropTable(table) => Call::DropTable(table),
-        CallRow::NewSegment(bits) => new_segment(alloc, bits)?,
-        CallRow::NewGlobal(number) => Call::NewGlobal {
+        StaticCall::DropTable(table) => Call::DropTable(table),
+        StaticCall::NewSegment(bits) => new_segment(alloc, bits)?,
+        StaticCall::NewGlobal(number) => Call::NewGlobal {
             value: RawVal::from(number),
             ty: GlobalType::new(ValType::I32, Mutability::Const),
         },
-        CallRow::SetRegister(dst, number) => Call::SetRegister {
+        StaticCall::SetRegister(dst, number) => Call::SetRegister {
             dst,
             value: RawVal::from(number),
         },
@@ -169,17 +171,17 @@ fn call_of(alloc: Global, row: CallRow) -> Result<Call, Fail> {
 }
 
 /// The reply of a row.
-fn reply_of(alloc: Global, row: ReplyRow) -> Result<Reply, AllocError> {
+fn reply_of(alloc: Global, row: StaticReply) -> Result<Reply, AllocError> {
     Ok(match row {
-        ReplyRow::Done => Reply::Done,
-        ReplyRow::Made(index) => Reply::Made(index),
-        ReplyRow::Number(number) => Reply::Number(number),
-        ReplyRow::Bytes(bytes) => Reply::Bytes(ByteList::from(bytes.to_vec(alloc)?)),
-        ReplyRow::Memory(error) => Reply::Memory(error),
-        ReplyRow::Table(error) => Reply::Table(error),
-        ReplyRow::NoMeter => Reply::Fuel(FuelError::FuelMeteringDisabled),
-        ReplyRow::NoSuch => Reply::NoSuch,
-        ReplyRow::NoRegion => Reply::NoRegion,
+        StaticReply::Done => Reply::Done,
+        StaticReply::Made(index) => Reply::Made(index),
+        StaticReply::Number(number) => Reply::Number(number),
+        StaticReply::Bytes(bytes) => Reply::Bytes(ByteList::from(bytes.to_vec(alloc)?)),
+        StaticReply::Memory(error) => Reply::Memory(error),
+        StaticReply::Table(error) => Reply::Table(error),
+        StaticReply::NoMeter => Reply::Fuel(FuelError::FuelMeteringDisabled),
+        StaticReply::NoSuch => Reply::NoSuch,
+        StaticReply::NoRegion => Reply::NoRegion,
     })
 }
 

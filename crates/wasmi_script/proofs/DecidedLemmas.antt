@@ -19,7 +19,7 @@ use Rattle.wasmi_core.specs.World.{World, Turn}
 use Rattle.wasmi_core.specs.Effects.{ActsMetered}
 use Rattle.wasmi_core.specs.Steps.{Effect, Told, BytesRead, FuelSet, Changed, MemoryMade, LentMemoryMade, MemoryGrown}
 use Rattle.wasmi_core.specs.Steps.{TableMade}
-use Rattle.wasmi_core.specs.Steps.{TableGrown, PartWritten, effect_of, TakesEffect, Step}
+use Rattle.wasmi_core.specs.Steps.{TableGrown, RangeWritten, effect_of, TakesEffect, Step}
 use Rattle.wasmi_core.specs.Runs.{Run, IsRunOf}
 use Rattle.wasmi_core.specs.Determinism.{IsDeterministic, AcceptsNotices, HasMemory}
 use Rattle.wasmi_core.proofs.CarryingLemmas.{carried}
@@ -168,7 +168,7 @@ module _ {S : Type 0} (rules : Rules S) where
       record { free = step.free; part = step.part; limiter = step.limiter; effect = step.effect; after = step.after }
   retold_effect w turn w' other (MemoryGrown k pages) step = acts_again w turn w' other step
   retold_effect w turn w' other (TableGrown k n init) step = acts_again w turn w' other step
-  retold_effect w turn w' other (PartWritten k source dst len) step =
+  retold_effect w turn w' other (RangeWritten k source dst len) step =
       record { part = step.part; meter = step.meter; effect = step.effect; wrote = step.wrote; after = step.after }
 
   -- a step by a call is one by another call that says the same

@@ -1,3 +1,3 @@
 pub mod SoFarLemmas
-pub mod PartLemmas
+pub mod ReadingLemmas
 pub mod FunctionTypeOrderLemmas

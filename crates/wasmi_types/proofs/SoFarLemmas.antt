@@ -3,7 +3,7 @@ use Rattle.std.proofs.Common.{◌≡◌, ℕ, ◌+◌, ◌<◌, ◌≤◌, List,
 use Rattle.std.specs.Prelude.{Option, Some}
 use Rattle.std.specs.Iterator.{Yields}
 use Rattle.wasmi_types.specs.declared.value.ValType.{ValType}
-use Rattle.wasmi_types.specs.Reading.{IsPartOutOfMemory}
+use Rattle.wasmi_types.specs.Reading.{IsReadingOutOfMemory}
 
 -- one more call gave x
 pub Yields-snoc : {I A : Type 0} (steps : I → Option A → I → Type 0) (s t u : I) (xs : List A) (x : A)
@@ -37,7 +37,7 @@ SoFar-next {steps = steps} {s = s} {t = t} {u = u} {before = before} e x next ap
 pub SoFar-refused : {I : Type 0} {steps : I → Option ValType → I → Type 0} {can : I → Type 0} {s t u : I}
     {before after : List ValType} {n : ℕ}
     → SoFar steps can s before n t after → n < 1000 → (x : ValType) → steps t (Some x) u → 21 ≤ length after
-    → IsPartOutOfMemory steps s before u
+    → IsReadingOutOfMemory steps s before u
 SoFar-refused {steps = steps} {s = s} {t = t} {u = u} {before = before} e few x next many = record {
   types = e.items ++ x ∷ [];
   read = record {

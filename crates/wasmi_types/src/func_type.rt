@@ -405,7 +405,7 @@ impl Model for Entries {
 }
 
 impl Entries {
-    ghost use Rattle.wasmi_types.specs.Reading.{IsNextPart, IsPart, IsPartRefusal};
+    ghost use Rattle.wasmi_types.specs.Reading.{ReadsNextType, ReadsTypes, IsReadingRefusal};
 
     fn new(alloc: Global) -> Self
         ensures { result ≡ [] }
@@ -436,7 +436,8 @@ impl Entries {
     where
         I: Iterator<Item = ValType>,
         requires { I.can_next types.old }
-        ensures { IsNextPart I.next_gives I.can_next types.old self.old result types.new self.new }
+        ensures { ReadsNextType I.next_gives I.can_next types.old self.old result types.new
+            self.new }
     {
         match types.next() {
             Some(ty) => {
@@ -453,9 +454,9 @@ impl Entries {
         I: Iterator<Item = ValType>,
         requires { I.can_next types.old }
         ensures ok { IfOk result
-            (λ count. IsPart I.next_gives types.old self.old count types.new self.new) }
+            (λ count. ReadsTypes I.next_gives types.old self.old count types.new self.new) }
         ensures err { IfErr result
-            (λ error. IsPartRefusal I.next_gives too_many types.old self.old error types.new) }
+            (λ error. IsReadingRefusal I.next_gives too_many types.old self.old error types.new) }
     {
         for count in 0..MAX_LEN {
             match self.push_next(types) {

@@ -1,5 +1,5 @@
 //! Calls on memories that aren't there.
-use super::{CallRow, MemoryRow, ReplyRow, Step, metered, runs_to, runs_under, same};
+use super::{MemoryCall, StaticCall, StaticReply, Step, metered, runs_to, runs_under, same};
 use std::test::Fail;
 use wasmi_core::Quota;
 
@@ -8,39 +8,39 @@ fn absent_steps(memory: usize, place: usize) -> [Step; 5] {
     let ptr = place as u64;
     [
         (
-            CallRow::Memory(memory, MemoryRow::Grow(ptr)),
-            ReplyRow::NoSuch,
+            StaticCall::Memory(memory, MemoryCall::Grow(ptr)),
+            StaticReply::NoSuch,
         ),
         (
-            CallRow::Memory(memory, MemoryRow::Read(place, 1)),
-            ReplyRow::NoSuch,
+            StaticCall::Memory(memory, MemoryCall::Read(place, 1)),
+            StaticReply::NoSuch,
         ),
         (
-            CallRow::Memory(memory, MemoryRow::Write(place, &[7])),
-            ReplyRow::NoSuch,
+            StaticCall::Memory(memory, MemoryCall::Write(place, &[7])),
+            StaticReply::NoSuch,
         ),
         (
-            CallRow::Memory(memory, MemoryRow::Load(ptr)),
-            ReplyRow::NoSuch,
+            StaticCall::Memory(memory, MemoryCall::Load(ptr)),
+            StaticReply::NoSuch,
         ),
         (
-            CallRow::Memory(memory, MemoryRow::Store(ptr)),
-            ReplyRow::NoSuch,
+            StaticCall::Memory(memory, MemoryCall::Store(ptr)),
+            StaticReply::NoSuch,
         ),
     ]
 }
 
 static MADE: [Step; 2] = [
-    (CallRow::SetFuel(2000), ReplyRow::Done),
-    (CallRow::NewBytes(3), ReplyRow::Made(0)),
+    (StaticCall::SetFuel(2000), StaticReply::Done),
+    (StaticCall::NewBytes(3), StaticReply::Made(0)),
 ];
 
 static UNCHANGED: [Step; 2] = [
     (
-        CallRow::Memory(0, MemoryRow::Read(0, 3)),
-        ReplyRow::Bytes(&[0, 0, 0]),
+        StaticCall::Memory(0, MemoryCall::Read(0, 3)),
+        StaticReply::Bytes(&[0, 0, 0]),
     ),
-    (CallRow::GetFuel, ReplyRow::Number(2000)),
+    (StaticCall::GetFuel, StaticReply::Number(2000)),
 ];
 
 #[test]

@@ -1,5 +1,7 @@
 //! Programs of the interpreter of `wasmi_uses`.
-use super::{CallRow, ReplyRow, Step, memory_size, metered, runs_to, runs_under, same, unmetered};
+use super::{
+    StaticCall, StaticReply, Step, memory_size, metered, runs_to, runs_under, same, unmetered,
+};
 use std::process::Abort;
 use std::test::Fail;
 use wasmi_core::{Machine, NoLimits, Quota, RawVal, Reply, ResourceLimiter, TrapCode};
@@ -54,11 +56,11 @@ fn a_factorial(rt: HostRuntime) -> Result<(), Fail> {
     Ok(())
 }
 
-static FUEL: [Step; 1] = [(CallRow::SetFuel(100), ReplyRow::Done)];
+static FUEL: [Step; 1] = [(StaticCall::SetFuel(100), StaticReply::Done)];
 
-static LEFT: [Step; 1] = [(CallRow::GetFuel, ReplyRow::Number(36))];
+static LEFT: [Step; 1] = [(StaticCall::GetFuel, StaticReply::Number(36))];
 
-static SPENT: [Step; 1] = [(CallRow::GetFuel, ReplyRow::Number(0))];
+static SPENT: [Step; 1] = [(StaticCall::GetFuel, StaticReply::Number(0))];
 
 #[test]
 fn each_instruction_is_charged(rt: HostRuntime) -> Result<(), Fail> {
@@ -146,7 +148,7 @@ static CHECKSUM: [Instruction; 17] = [
     Instruction::Return(6),
 ];
 
-static WORDS: [Step; 1] = [(CallRow::NewBytes(256), ReplyRow::Made(0))];
+static WORDS: [Step; 1] = [(StaticCall::NewBytes(256), StaticReply::Made(0))];
 
 #[test]
 fn a_checksum_over_a_memory(rt: HostRuntime) -> Result<(), Fail> {
@@ -170,7 +172,7 @@ static GROWTH: [Instruction; 4] = [
     Instruction::Return(1),
 ];
 
-static PAGE: [Step; 1] = [(CallRow::NewPages(1, None), ReplyRow::Made(0))];
+static PAGE: [Step; 1] = [(StaticCall::NewPages(1, None), StaticReply::Made(0))];
 
 /// Grows a memory of one page under a quota of so many bytes, to so many pages.
 fn grows_under(rt: &(impl Abort + AllocGlobal), bytes: u64, pages: u64) -> Result<(), Fail> {

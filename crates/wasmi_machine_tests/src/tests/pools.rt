@@ -1,9 +1,9 @@
 //! Pools of tenants, by their calls; `wasmi_script_tests` has scripts of tenants.
-use super::{CallRow, MemoryRow, ReplyRow, Step, runs_to, same, split, unmetered};
+use super::{MemoryCall, StaticCall, StaticReply, Step, runs_to, same, split, unmetered};
 use std::test::Fail;
 use wasmi_budget::{AddError, Pool};
 
-static PAGE: [Step; 1] = [(CallRow::NewPages(1, None), ReplyRow::Made(0))];
+static PAGE: [Step; 1] = [(StaticCall::NewPages(1, None), StaticReply::Made(0))];
 
 #[test]
 fn ample_memory_pool_runs(rt: HostRuntime) -> Result<(), Fail> {
@@ -39,8 +39,8 @@ fn a_pool_takes_many_machines(rt: HostRuntime) -> Result<(), Fail> {
 }
 
 static DROPPED: [Step; 2] = [
-    (CallRow::NewPages(1, None), ReplyRow::Made(0)),
-    (CallRow::Memory(0, MemoryRow::Drop), ReplyRow::Done),
+    (StaticCall::NewPages(1, None), StaticReply::Made(0)),
+    (StaticCall::Memory(0, MemoryCall::Drop), StaticReply::Done),
 ];
 
 #[test]

@@ -1,7 +1,9 @@
 //! Creations and growths of memories, lent ones among them, and of tables, under a limiter that
 //! answers by random numbers.
 use super::refusing::{RANDOM_NUMBERS, RandomAnswers, Replies};
-use super::{CallRow, MemoryRow, ReplyRow, Step, memory_size, meter, runs_under, same, table_size};
+use super::{
+    MemoryCall, StaticCall, StaticReply, Step, memory_size, meter, runs_under, same, table_size,
+};
 use std::alloc::{AllocError, AllocGlobal, Global};
 use std::process::Abort;
 use std::test::Fail;
@@ -22,9 +24,9 @@ pub(super) struct Instance {
     /// How large it can be where a meter that is on has no fuel.
     most_metered: u64,
     /// The limiter denies a growth; it refuses, or denies a creation; the size is out of reach.
-    denied: ReplyRow,
-    refused: ReplyRow,
-    too_large: ReplyRow,
+    denied: StaticReply,
+    refused: StaticReply,
+    too_large: StaticReply,
 }
 
 /// A memory with pages of 64 KiB.
@@ -33,9 +35,9 @@ const OWNED: Instance = Instance {
     growth: 1,
     most: u64::MAX,
     most_metered: 1,
-    denied: ReplyRow::Memory(MemoryError::OutOfBoundsGrowth),
-    refused: ReplyRow::Memory(MemoryError::ResourceLimiterDeniedAllocation),
-    too_large: ReplyRow::Memory(MemoryError::OutOfFuel {
+    denied: StaticReply::Memory(MemoryError::OutOfBoundsGrowth),
+    refused: StaticReply::Memory(MemoryError::ResourceLimiterDeniedAllocation),
+    too_large: StaticReply::Memory(MemoryError::OutOfFuel {
         required_fuel: 1024,
     }),
 };
@@ -52,7 +54,7 @@ const LENT: Instance = Instance {
     size: 2,
     most: REGION,
     most_metered: REGION,
-    too_large: ReplyRow::Memory(MemoryError::InvalidStaticBufferSize),
+    too_large: StaticReply::Memory(MemoryError::InvalidStaticBufferSize),
     ..OWNED
 };
 
@@ -62,14 +64,14 @@ const TABLE: Instance = Instance {
     growth: 16,
     most: u64::MAX,
     most_metered: 2,
-    denied: ReplyRow::Table(TableError::GrowOutOfBounds),
-    refused: ReplyRow::Table(TableError::ResourceLimiterDeniedAllocation),
-    too_large: ReplyRow::Table(TableError::OutOfFuel { required_fuel: 1 }),
+    denied: StaticReply::Table(TableError::GrowOutOfBounds),
+    refused: StaticReply::Table(TableError::ResourceLimiterDeniedAllocation),
+    too_large: StaticReply::Table(TableError::OutOfFuel { required_fuel: 1 }),
 };
 
 impl Instance {
     /// The reply where a size is out of reach.
-    fn failed(&self, size: u64, is_metered: bool) -> Option<ReplyRow> {
+    fn failed(&self, size: u64, is_metered: bool) -> Option<StaticReply> {
         let most = if is_metered {
             self.most_metered
         } else {
@@ -79,15 +81,15 @@ impl Instance {
     }
 
     /// The reply to the growth.
-    pub(super) fn grow(&mut self, random: &mut RandomAnswers, is_metered: bool) -> ReplyRow {
+    pub(super) fn grow(&mut self, random: &mut RandomAnswers, is_metered: bool) -> StaticReply {
         let size = self.size.saturating_add(self.growth);
         let reply = random.reply(Replies {
-            permitted: ReplyRow::Number(self.size),
+            permitted: StaticReply::Number(self.size),
             denied: self.denied,
             refused: self.refused,
             failed: self.failed(size, is_metered),
         });
-        if let ReplyRow::Number(_) = reply {
+        if let StaticReply::Number(_) = reply {
             self.size = size;
         }
         reply
@@ -104,41 +106,41 @@ struct Foretold {
     tables: Vec<Instance>,
 }
 
-/// The reply to the creation of one part more.
+/// The reply to the creation of one instance more.
 fn create(
-    parts: &mut Vec<Instance>,
-    part: Instance,
+    instances: &mut Vec<Instance>,
+    instance: Instance,
     random: &mut RandomAnswers,
     is_metered: bool,
-) -> Result<ReplyRow, AllocError> {
+) -> Result<StaticReply, AllocError> {
     let reply = random.reply(Replies {
-        permitted: ReplyRow::Made(parts.len()),
-        denied: part.refused,
-        refused: part.refused,
-        failed: part.failed(part.size, is_metered),
+        permitted: StaticReply::Made(instances.len()),
+        denied: instance.refused,
+        refused: instance.refused,
+        failed: instance.failed(instance.size, is_metered),
     });
-    if let ReplyRow::Made(_) = reply {
-        parts.push(part)?;
+    if let StaticReply::Made(_) = reply {
+        instances.push(instance)?;
     }
     Ok(reply)
 }
 
-/// The reply to the growth of the part at an index.
+/// The reply to the growth of the instance at an index.
 fn grow(
-    parts: &mut [Instance],
+    instances: &mut [Instance],
     index: usize,
     random: &mut RandomAnswers,
     is_metered: bool,
-) -> ReplyRow {
-    match parts.get_mut(index) {
-        Some(part) => part.grow(random, is_metered),
-        None => ReplyRow::NoSuch,
+) -> StaticReply {
+    match instances.get_mut(index) {
+        Some(instance) => instance.grow(random, is_metered),
+        None => StaticReply::NoSuch,
     }
 }
 
 impl Foretold {
     /// The reply to the creation of a memory.
-    fn new_memory(&mut self, memory: Instance) -> Result<ReplyRow, AllocError> {
+    fn new_memory(&mut self, memory: Instance) -> Result<StaticReply, AllocError> {
         create(
             &mut self.memories,
             memory,
@@ -148,9 +150,9 @@ impl Foretold {
     }
 
     /// The reply to the creation of a memory in the spare region, which it spends.
-    fn new_lent_memory(&mut self, size: u64) -> Result<ReplyRow, AllocError> {
+    fn new_lent_memory(&mut self, size: u64) -> Result<StaticReply, AllocError> {
         if !self.has_region {
-            return Ok(ReplyRow::NoRegion);
+            return Ok(StaticReply::NoRegion);
         }
         self.has_region = false;
         self.new_memory(Instance { size, ..LENT })
@@ -160,19 +162,19 @@ impl Foretold {
     fn step(&mut self, bits: u64) -> Result<Step, AllocError> {
         let index = (bits & 1) as usize;
         Ok(match bits {
-            0 => (CallRow::NewPages(1, None), self.new_memory(OWNED)?),
-            1 => (CallRow::NewLentBytes(2), self.new_lent_memory(2)?),
-            2 => (CallRow::NewLentBytes(4), self.new_lent_memory(4)?),
+            0 => (StaticCall::NewPages(1, None), self.new_memory(OWNED)?),
+            1 => (StaticCall::NewLentBytes(2), self.new_lent_memory(2)?),
+            2 => (StaticCall::NewLentBytes(4), self.new_lent_memory(4)?),
             3 => {
                 let reply = create(&mut self.tables, TABLE, &mut self.random, self.is_metered)?;
-                (CallRow::NewTable(2), reply)
+                (StaticCall::NewTable(2), reply)
             }
             4 | 5 => (
-                CallRow::Memory(index, MemoryRow::Grow(1)),
+                StaticCall::Memory(index, MemoryCall::Grow(1)),
                 grow(&mut self.memories, index, &mut self.random, self.is_metered),
             ),
             _ => (
-                CallRow::GrowTable(index, 16),
+                StaticCall::GrowTable(index, 16),
                 grow(&mut self.tables, index, &mut self.random, self.is_metered),
             ),
         })

@@ -1,8 +1,8 @@
 //! Runs under a limiter that refuses and complains by random numbers, and runs that find no memory.
 use super::random::EMPTY;
 use super::{
-    CallRow, MemoryRow, ReplyRow, Step, memory_size, metered, runs_to, runs_under, same, split,
-    unmetered,
+    MemoryCall, StaticCall, StaticReply, Step, memory_size, metered, runs_to, runs_under, same,
+    split, unmetered,
 };
 use std::alloc::AllocGlobal;
 use std::process::Abort;
@@ -50,7 +50,7 @@ impl RandomAnswers {
     }
 
     /// The reply to what is asked for.
-    pub(super) fn reply(&mut self, replies: Replies) -> ReplyRow {
+    pub(super) fn reply(&mut self, replies: Replies) -> StaticReply {
         match (self.answer(), replies.failed) {
             (Ok(true), None) => replies.permitted,
             (Ok(true), Some(failed)) => match self.notice_answer() {
@@ -66,12 +66,12 @@ impl RandomAnswers {
 /// The replies to what is asked for, by what becomes of it.
 #[derive(Clone, Copy)]
 pub(super) struct Replies {
-    pub(super) permitted: ReplyRow,
-    pub(super) denied: ReplyRow,
+    pub(super) permitted: StaticReply,
+    pub(super) denied: StaticReply,
     /// The limiter answers, or accepts the notice, by an error.
-    pub(super) refused: ReplyRow,
+    pub(super) refused: StaticReply,
     /// What is permitted fails, where it does.
-    pub(super) failed: Option<ReplyRow>,
+    pub(super) failed: Option<StaticReply>,
 }
 
 impl LimiterByKind for RandomAnswers {
@@ -97,7 +97,7 @@ pub(super) const RANDOM_NUMBERS: [(u64, u64, u64); 4] = [
     (0xC0AC_29B7_C97C_50DD, 0x3F84_D5B5_B547_0917, 15),
 ];
 
-static NO_PAGES: [Step; 1] = [(CallRow::NewPages(0, None), ReplyRow::Made(0))];
+static NO_PAGES: [Step; 1] = [(StaticCall::NewPages(0, None), StaticReply::Made(0))];
 
 /// Grows a memory 32 times by one page under these answers, and compares the replies and how many
 /// pages it then has.
@@ -113,7 +113,7 @@ fn grows_by_random_answers(
     let mut steps: Vec<Step> = Vec::new(rt.alloc());
     for _growth in 0..32 {
         let reply = memory.grow(&mut same_answers, is_metered);
-        steps.push((CallRow::Memory(0, MemoryRow::Grow(1)), reply))?;
+        steps.push((StaticCall::Memory(0, MemoryCall::Grow(1)), reply))?;
     }
     let mut limiter = random;
     runs_under(rt, machine, &steps, &mut limiter)?;
@@ -136,8 +136,8 @@ fn random_answers_leave_a_run_as_it_is_told(rt: HostRuntime) -> Result<(), Fail>
 }
 
 static TWO_CALLS: [Step; 2] = [
-    (CallRow::SetFuel(7), ReplyRow::Done),
-    (CallRow::NewBytes(3), ReplyRow::Made(0)),
+    (StaticCall::SetFuel(7), StaticReply::Done),
+    (StaticCall::NewBytes(3), StaticReply::Made(0)),
 ];
 
 /// With ample memory the run is answered. Under `rt try --test --fail-alloc N` it may find none for

@@ -1,6 +1,6 @@
 //! What the lender of a machine's spare region finds in it after the loan; `wasmi_script_tests` has
 //! scripts on regions.
-use super::{CallRow, MemoryRow, ReplyRow, Step, runs_to, same};
+use super::{MemoryCall, StaticCall, StaticReply, Step, runs_to, same};
 use std::process::Abort;
 use std::test::Fail;
 use wasmi_core::{Fuel, FuelCostsProvider, Machine, MemoryError};
@@ -18,11 +18,14 @@ fn finds(rt: &(impl Abort + AllocGlobal), steps: &[Step], expected: [u8; 10]) ->
 }
 
 static LENT: [Step; 3] = [
-    (CallRow::NewLentBytes(2), ReplyRow::Made(0)),
-    (CallRow::Memory(0, MemoryRow::Grow(5)), ReplyRow::Number(2)),
+    (StaticCall::NewLentBytes(2), StaticReply::Made(0)),
     (
-        CallRow::Memory(0, MemoryRow::Write(1, &[1, 2])),
-        ReplyRow::Done,
+        StaticCall::Memory(0, MemoryCall::Grow(5)),
+        StaticReply::Number(2),
+    ),
+    (
+        StaticCall::Memory(0, MemoryCall::Write(1, &[1, 2])),
+        StaticReply::Done,
     ),
 ];
 
@@ -33,10 +36,10 @@ fn the_lender_finds_the_memory(rt: HostRuntime) -> Result<(), Fail> {
 
 static TOO_SHORT: [Step; 2] = [
     (
-        CallRow::NewLentBytes(11),
-        ReplyRow::Memory(MemoryError::InvalidStaticBufferSize),
+        StaticCall::NewLentBytes(11),
+        StaticReply::Memory(MemoryError::InvalidStaticBufferSize),
     ),
-    (CallRow::NewLentBytes(0), ReplyRow::NoRegion),
+    (StaticCall::NewLentBytes(0), StaticReply::NoRegion),
 ];
 
 #[test]
@@ -45,12 +48,12 @@ fn a_refused_creation_spends_the_region(rt: HostRuntime) -> Result<(), Fail> {
 }
 
 static DROPPED: [Step; 3] = [
-    (CallRow::NewLentBytes(2), ReplyRow::Made(0)),
+    (StaticCall::NewLentBytes(2), StaticReply::Made(0)),
     (
-        CallRow::Memory(0, MemoryRow::Write(0, &[1, 2])),
-        ReplyRow::Done,
+        StaticCall::Memory(0, MemoryCall::Write(0, &[1, 2])),
+        StaticReply::Done,
     ),
-    (CallRow::Memory(0, MemoryRow::Drop), ReplyRow::Done),
+    (StaticCall::Memory(0, MemoryCall::Drop), StaticReply::Done),
 ];
 
 #[test]

@@ -4,7 +4,7 @@ ghost use Rattle.wasmi_meter.specs.Holdings.{Reserves, GivesBack};
 ghost use Rattle.wasmi_meter.specs.Limiter.{kind_of};
 ghost use Rattle.wasmi_core.specs.Totals.{HoldsTotals};
 
-use super::{CallRow, MemoryRow, ReplyRow, Step, metered, same, split, unmetered};
+use super::{MemoryCall, StaticCall, StaticReply, Step, metered, same, split, unmetered};
 use std::alloc::AllocGlobal;
 use std::process::Abort;
 use std::test::Fail;
@@ -37,17 +37,25 @@ fn reserves<L: Reserving>(
     Ok(())
 }
 
-const MEMORY_DENIED: ReplyRow = ReplyRow::Memory(MemoryError::ResourceLimiterDeniedAllocation);
+const MEMORY_DENIED: StaticReply = StaticReply::Memory(
+    MemoryError::ResourceLimiterDeniedAllocation,
+);
 
 static MEMORIES: [Step; 8] = [
-    (CallRow::NewPages(1, None), ReplyRow::Made(0)),
-    (CallRow::Memory(0, MemoryRow::Drop), ReplyRow::Done),
-    (CallRow::NewPages(1, None), ReplyRow::Made(1)),
-    (CallRow::NewPages(1, None), MEMORY_DENIED),
-    (CallRow::Memory(0, MemoryRow::Drop), ReplyRow::NoSuch),
-    (CallRow::Memory(2, MemoryRow::Drop), ReplyRow::NoSuch),
-    (CallRow::Memory(0, MemoryRow::Grow(0)), ReplyRow::NoSuch),
-    (CallRow::Memory(0, MemoryRow::Read(0, 0)), ReplyRow::NoSuch),
+    (StaticCall::NewPages(1, None), StaticReply::Made(0)),
+    (StaticCall::Memory(0, MemoryCall::Drop), StaticReply::Done),
+    (StaticCall::NewPages(1, None), StaticReply::Made(1)),
+    (StaticCall::NewPages(1, None), MEMORY_DENIED),
+    (StaticCall::Memory(0, MemoryCall::Drop), StaticReply::NoSuch),
+    (StaticCall::Memory(2, MemoryCall::Drop), StaticReply::NoSuch),
+    (
+        StaticCall::Memory(0, MemoryCall::Grow(0)),
+        StaticReply::NoSuch,
+    ),
+    (
+        StaticCall::Memory(0, MemoryCall::Read(0, 0)),
+        StaticReply::NoSuch,
+    ),
 ];
 
 #[test]
@@ -61,15 +69,15 @@ fn dropped_memories_are_held(rt: HostRuntime) -> Result<(), Fail> {
 }
 
 static TABLES: [Step; 6] = [
-    (CallRow::NewTable(2), ReplyRow::Made(0)),
-    (CallRow::DropTable(0), ReplyRow::Done),
-    (CallRow::DropTable(0), ReplyRow::NoSuch),
-    (CallRow::GrowTable(0, 1), ReplyRow::NoSuch),
+    (StaticCall::NewTable(2), StaticReply::Made(0)),
+    (StaticCall::DropTable(0), StaticReply::Done),
+    (StaticCall::DropTable(0), StaticReply::NoSuch),
+    (StaticCall::GrowTable(0, 1), StaticReply::NoSuch),
     (
-        CallRow::NewTable(2),
-        ReplyRow::Table(TableError::ResourceLimiterDeniedAllocation),
+        StaticCall::NewTable(2),
+        StaticReply::Table(TableError::ResourceLimiterDeniedAllocation),
     ),
-    (CallRow::NewTable(1), ReplyRow::Made(1)),
+    (StaticCall::NewTable(1), StaticReply::Made(1)),
 ];
 
 #[test]
@@ -138,12 +146,12 @@ impl Reserving for Allowance {
 }
 
 static FOUR_GROWTHS: [Step; 6] = [
-    (CallRow::NewPages(1, None), ReplyRow::Made(0)),
-    (CallRow::Memory(0, MemoryRow::Grow(1)), MEMORY_DENIED),
-    (CallRow::NewTable(3), ReplyRow::Made(0)),
-    (CallRow::Memory(0, MemoryRow::Drop), ReplyRow::Done),
-    (CallRow::NewPages(2, None), ReplyRow::Made(1)),
-    (CallRow::Memory(1, MemoryRow::Grow(1)), MEMORY_DENIED),
+    (StaticCall::NewPages(1, None), StaticReply::Made(0)),
+    (StaticCall::Memory(0, MemoryCall::Grow(1)), MEMORY_DENIED),
+    (StaticCall::NewTable(3), StaticReply::Made(0)),
+    (StaticCall::Memory(0, MemoryCall::Drop), StaticReply::Done),
+    (StaticCall::NewPages(2, None), StaticReply::Made(1)),
+    (StaticCall::Memory(1, MemoryCall::Grow(1)), MEMORY_DENIED),
 ];
 
 #[test]

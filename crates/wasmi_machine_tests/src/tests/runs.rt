@@ -1,27 +1,34 @@
 //! Runs with ample memory, and runs that a quota watches.
 use super::{
-    CallRow, MemoryRow, ReplyRow, Step, memory_size, metered, runs_to, runs_under, same, unmetered,
+    MemoryCall, StaticCall, StaticReply, Step, memory_size, metered, runs_to, runs_under, same,
+    unmetered,
 };
 use std::test::Fail;
 use wasmi_core::{MemoryError, Quota};
 
-const REFUSED: ReplyRow = ReplyRow::Memory(MemoryError::OutOfBoundsGrowth);
+const REFUSED: StaticReply = StaticReply::Memory(MemoryError::OutOfBoundsGrowth);
 
 static METERED: [Step; 8] = [
-    (CallRow::SetFuel(2000), ReplyRow::Done),
-    (CallRow::NewPages(1, Some(2)), ReplyRow::Made(0)),
+    (StaticCall::SetFuel(2000), StaticReply::Done),
+    (StaticCall::NewPages(1, Some(2)), StaticReply::Made(0)),
     (
-        CallRow::Memory(0, MemoryRow::Write(65535, &[44])),
-        ReplyRow::Done,
+        StaticCall::Memory(0, MemoryCall::Write(65535, &[44])),
+        StaticReply::Done,
     ),
-    (CallRow::Memory(0, MemoryRow::Grow(1)), ReplyRow::Number(1)),
-    (CallRow::Memory(0, MemoryRow::Grow(1)), REFUSED),
     (
-        CallRow::Memory(0, MemoryRow::Read(65535, 2)),
-        ReplyRow::Bytes(&[44, 0]),
+        StaticCall::Memory(0, MemoryCall::Grow(1)),
+        StaticReply::Number(1),
     ),
-    (CallRow::GetFuel, ReplyRow::Number(976)),
-    (CallRow::Memory(1, MemoryRow::Read(0, 0)), ReplyRow::NoSuch),
+    (StaticCall::Memory(0, MemoryCall::Grow(1)), REFUSED),
+    (
+        StaticCall::Memory(0, MemoryCall::Read(65535, 2)),
+        StaticReply::Bytes(&[44, 0]),
+    ),
+    (StaticCall::GetFuel, StaticReply::Number(976)),
+    (
+        StaticCall::Memory(1, MemoryCall::Read(0, 0)),
+        StaticReply::NoSuch,
+    ),
 ];
 
 #[test]
@@ -35,21 +42,24 @@ fn ample_memory_runs(rt: HostRuntime) -> Result<(), Fail> {
 }
 
 static UNMETERED: [Step; 6] = [
-    (CallRow::NewBytes(0), ReplyRow::Made(0)),
-    (CallRow::Memory(0, MemoryRow::Grow(3)), ReplyRow::Number(0)),
+    (StaticCall::NewBytes(0), StaticReply::Made(0)),
     (
-        CallRow::Memory(0, MemoryRow::Read(2, 2)),
-        ReplyRow::Memory(MemoryError::OutOfBoundsAccess),
+        StaticCall::Memory(0, MemoryCall::Grow(3)),
+        StaticReply::Number(0),
     ),
     (
-        CallRow::Memory(0, MemoryRow::Read(3, 0)),
-        ReplyRow::Bytes(&[]),
+        StaticCall::Memory(0, MemoryCall::Read(2, 2)),
+        StaticReply::Memory(MemoryError::OutOfBoundsAccess),
     ),
     (
-        CallRow::Memory(0, MemoryRow::Read(0, 3)),
-        ReplyRow::Bytes(&[0, 0, 0]),
+        StaticCall::Memory(0, MemoryCall::Read(3, 0)),
+        StaticReply::Bytes(&[]),
     ),
-    (CallRow::SetFuel(5), ReplyRow::NoMeter),
+    (
+        StaticCall::Memory(0, MemoryCall::Read(0, 3)),
+        StaticReply::Bytes(&[0, 0, 0]),
+    ),
+    (StaticCall::SetFuel(5), StaticReply::NoMeter),
 ];
 
 #[test]
@@ -58,12 +68,12 @@ fn ample_memory_reads(rt: HostRuntime) -> Result<(), Fail> {
 }
 
 static WATCHED: [Step; 3] = [
-    (CallRow::NewPages(1, None), ReplyRow::Made(0)),
+    (StaticCall::NewPages(1, None), StaticReply::Made(0)),
     (
-        CallRow::NewPages(1, None),
-        ReplyRow::Memory(MemoryError::ResourceLimiterDeniedAllocation),
+        StaticCall::NewPages(1, None),
+        StaticReply::Memory(MemoryError::ResourceLimiterDeniedAllocation),
     ),
-    (CallRow::Memory(0, MemoryRow::Grow(1)), REFUSED),
+    (StaticCall::Memory(0, MemoryCall::Grow(1)), REFUSED),
 ];
 
 #[test]

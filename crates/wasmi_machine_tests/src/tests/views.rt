@@ -1,13 +1,13 @@
 //! What a host sees of a machine after a run.
-use super::{CallRow, ReplyRow, Step, func, runs_to, same, unmetered};
+use super::{StaticCall, StaticReply, Step, func, runs_to, same, unmetered};
 use std::test::Fail;
 use wasmi_core::RawVal;
 
 static MADE: [Step; 4] = [
-    (CallRow::NewTable(5), ReplyRow::Made(0)),
-    (CallRow::NewSegment(&[1, 2]), ReplyRow::Made(0)),
-    (CallRow::NewGlobal(7), ReplyRow::Made(0)),
-    (CallRow::SetRegister(15, 8), ReplyRow::Done),
+    (StaticCall::NewTable(5), StaticReply::Made(0)),
+    (StaticCall::NewSegment(&[1, 2]), StaticReply::Made(0)),
+    (StaticCall::NewGlobal(7), StaticReply::Made(0)),
+    (StaticCall::SetRegister(15, 8), StaticReply::Done),
 ];
 
 #[test]

@@ -1,5 +1,5 @@
 use Rattle.std.proofs.Common.{◌<◌, ◌∷◌, [], refl, arith, slice_index_or}
-use Rattle.wasmi_lanewise.proofs.OneLaneLemmas.{indices_inside}
+use Rattle.wasmi_lanewise.proofs.VariableLaneLemmas.{indices_inside}
 use Rattle.wasmi_lanewise.proofs.simd.variable_lane.indices_of_32.Goals as goal
 
 pub returns-clause-inside : goal.returns-clause-inside

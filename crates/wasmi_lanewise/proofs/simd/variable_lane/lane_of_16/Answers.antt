@@ -1,7 +1,7 @@
 use Rattle.std.proofs.Common.{ℕ, ◌≡◌, ◌+◌, ◌*◌, ◌<◌, ◌∙◌, arith, slice_index}
 use Rattle.wasmi_types.specs.Wrapping.{w8}
 use Rattle.wasmi_lanes.specs.Lane.{lane}
-use Rattle.wasmi_lanewise.proofs.OneLaneLemmas.{IsByteAt, byte_picked, first_two_bytes, joined_halves}
+use Rattle.wasmi_lanewise.proofs.VariableLaneLemmas.{IsByteAt, byte_picked, first_two_bytes, joined_halves}
 use Rattle.wasmi_lanewise.proofs.simd.variable_lane.lane_of_16.Goals as goal
 
 pub returns : goal.returns

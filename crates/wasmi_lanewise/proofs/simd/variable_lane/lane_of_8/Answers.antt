@@ -1,5 +1,5 @@
 use Rattle.std.proofs.Common.{◌∙◌, arith}
-use Rattle.wasmi_lanewise.proofs.OneLaneLemmas.{byte_picked, first_byte}
+use Rattle.wasmi_lanewise.proofs.VariableLaneLemmas.{byte_picked, first_byte}
 use Rattle.wasmi_lanewise.proofs.simd.variable_lane.lane_of_8.Goals as goal
 
 pub returns : goal.returns

@@ -1,7 +1,7 @@
 use Rattle.std.proofs.Common.{replicate, ap, refl, ◌∙◌}
 use Rattle.wasmi_types.specs.Wrapping.{w16}
 use Rattle.wasmi_lanes.proofs.DigitLemmas.{read_at}
-use Rattle.wasmi_lanewise.proofs.OneLaneLemmas.{lane_written}
+use Rattle.wasmi_lanewise.proofs.VariableLaneLemmas.{lane_written}
 use Rattle.wasmi_lanewise.proofs.simd.variable_lane.with_lane_of_16.Goals as goal
 
 pub returns : goal.returns

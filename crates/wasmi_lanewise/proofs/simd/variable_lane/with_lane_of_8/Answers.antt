@@ -1,6 +1,6 @@
 use Rattle.std.proofs.Common.{replicate, ap, refl, arith}
 use Rattle.wasmi_types.specs.Wrapping.{w8}
-use Rattle.wasmi_lanewise.proofs.OneLaneLemmas.{lane_written}
+use Rattle.wasmi_lanewise.proofs.VariableLaneLemmas.{lane_written}
 use Rattle.wasmi_lanewise.proofs.simd.variable_lane.with_lane_of_8.Goals as goal
 
 pub returns : goal.returns

@@ -1,6 +1,6 @@
 use Rattle.std.proofs.Common.{refl}
 use Rattle.std.proofs.lemmas.Result.{err_from_is_err_and}
-use Rattle.wasmi_types.proofs.PartLemmas.{refused_results, refused_end}
+use Rattle.wasmi_types.proofs.ReadingLemmas.{refused_results, refused_end}
 use Rattle.wasmi_types.proofs.func_type.FuncType.read.Goals as goal
 
 pub returns-in_err-len_results : goal.returns-in_err-len_results

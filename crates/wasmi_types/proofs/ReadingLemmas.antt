@@ -1,11 +1,11 @@
--- Parts of a reading, put together.
+-- The readings of parameters and of results, put together.
 use Rattle.std.proofs.Common.{◌≡◌, ℕ, ◌+◌, ◌<◌, List, [], ◌++◌, length, inl, inr, subst, sym, ap, ◌∙◌, arith, length-append}
 use Rattle.std.specs.Prelude.{Option}
 use Rattle.wasmi_types.specs.declared.value.ValType.{ValType}
 use Rattle.wasmi_types.specs.declared.func_type.FuncTypeError.{FuncTypeError}
 use Rattle.wasmi_types.specs.declared.func_type.FuncTypeError.TheVariants.{TooManyFunctionResults}
 use Rattle.wasmi_types.specs.Iteration.{ReadsAll}
-use Rattle.wasmi_types.specs.Reading.{ReadsSome, IsOutOfMemory, IsRefusal, IsPart, IsPartRefusal}
+use Rattle.wasmi_types.specs.Reading.{ReadsSome, IsOutOfMemory, IsRefusal, ReadsTypes, IsReadingRefusal}
 
 -- what was read to its end was read
 some_from_all : {I : Type 0} {steps : I → Option ValType → I → Type 0} {s t : I} {xs : List ValType}
@@ -15,7 +15,7 @@ some_from_all e = record { run = inr e.run; short = omega (arith, e.short) }
 module _ {P R : Type 0} {of_params : P → Option ValType → P → Type 0} {of_results : R → Option ValType → R → Type 0}
     {p p' : P} {r r' : R} {n : ℕ} {before entries : List ValType} where
   -- memory was refused after all parameters and some results
-  refused_memory : before ≡ [] → IsPart of_params p before n p' entries → (types : List ValType)
+  refused_memory : before ≡ [] → ReadsTypes of_params p before n p' entries → (types : List ValType)
       → ReadsSome of_results r types r' → 21 < length entries + length types
       → IsOutOfMemory of_params of_results p r p' r'
   refused_memory none first types second many = record {
@@ -28,8 +28,8 @@ module _ {P R : Type 0} {of_params : P → Option ValType → P → Type 0} {of_
   }
 
   -- the results were refused
-  pub refused_results : {error : FuncTypeError} → before ≡ [] → IsPart of_params p before n p' entries
-      → IsPartRefusal of_results TooManyFunctionResults r entries error r'
+  pub refused_results : {error : FuncTypeError} → before ≡ [] → ReadsTypes of_params p before n p' entries
+      → IsReadingRefusal of_results TooManyFunctionResults r entries error r'
       → IsRefusal of_params of_results p r error p' r'
   refused_results none first (inl e) =
       subst (λ error. IsRefusal of_params of_results p r error p' r') (sym e.0) ((first.types, first.read), e.1)
@@ -38,8 +38,8 @@ module _ {P R : Type 0} {of_params : P → Option ValType → P → Type 0} {of_
       (refused_memory none first e.1.types e.1.read e.1.many)
 
   -- memory was refused after all of both
-  pub refused_end : {m : ℕ} {all : List ValType} → before ≡ [] → IsPart of_params p before n p' entries
-      → IsPart of_results r entries m r' all → 21 < length all → IsOutOfMemory of_params of_results p r p' r'
+  pub refused_end : {m : ℕ} {all : List ValType} → before ≡ [] → ReadsTypes of_params p before n p' entries
+      → ReadsTypes of_results r entries m r' all → 21 < length all → IsOutOfMemory of_params of_results p r p' r'
   refused_end none first second many =
       refused_memory none first second.types (some_from_all second.read)
       (omega (arith, many, ap length second.kept, length-append entries second.types))
