@@ -1,14 +1,13 @@
 //! The header lines of a script.
 ghost use Rattle.std.specs.Prelude.{◌≡◌, codes, None, Some, IfErr, OnOk, OnErr};
 ghost use Rattle.wasmi_operands.specs.Acceptance.{Accepts, AcceptsWithMemory};
-ghost use Rattle.wasmi_grammar.specs.Headers.{WritesMeter, NamesLimiterAfter, WritesRegion, AreApart, meter_of, tenants_of};
+ghost use Rattle.wasmi_grammar.specs.Headers.{WritesMeter, NamesLimiterAfter, WritesRegion, AreApart, tenants_of};
 
 mod answers;
 
 pub use answers::AnswerWord;
 use answers::answers_of;
 use std::alloc::Global;
-use wasmi_core::{CustomFuelCosts, Fuel, FuelCostsProvider};
 use wasmi_meter::Amounts;
 use wasmi_operands::{LineError, number, words};
 
@@ -125,23 +124,6 @@ impl Header {
         match &self.limiter {
             Some(LimiterLine::Tenants(line)) => line.count,
             _ => 0,
-        }
-    }
-
-    /// The meter that the script asks for. Without a `meter` line it is off.
-    pub fn fuel(&self) -> Fuel
-        ensures { result ≡ meter_of self.now }
-    {
-        match self.meter {
-            Some(MeterLine::On(bytes_copied_per_fuel)) => {
-                let costs = CustomFuelCosts {
-                    bytes_copied_per_fuel,
-                    fuel_per_bytes_translated: 7,
-                    fuel_per_bytes_validated: 2,
-                };
-                Fuel::new(true, FuelCostsProvider::custom(costs))
-            }
-            Some(MeterLine::Off) | None => Fuel::new(false, FuelCostsProvider::default()),
         }
     }
 }

@@ -9,9 +9,10 @@ use crate::listed_limiter::AnswerList;
 use std::alloc::{AllocError, Global};
 use wasmi_budget::Pool;
 use wasmi_core::{
-    Call, Machine, NoLimits, Quota, Reply, ResourceLimiterRef, run, run_lending, run_reserving,
+    Call, CustomFuelCosts, Fuel, FuelCostsProvider, Machine, NoLimits, Quota, Reply,
+    ResourceLimiterRef, run, run_lending, run_reserving,
 };
-use wasmi_grammar::{AnswerWord, Header, LimiterLine, RegionLine, Script, TenantsLine};
+use wasmi_grammar::{AnswerWord, Header, LimiterLine, MeterLine, RegionLine, Script, TenantsLine};
 use wasmi_meter::Amounts;
 
 /// What the run of a script's calls answered.
@@ -39,7 +40,7 @@ pub enum Held {
 pub fn run_script(alloc: Global, script: &Script) -> Result<Ran, AllocError>
     ensures { IfOk result (IsReplayOf script.now) }
 {
-    let fuel = script.header.fuel();
+    let fuel = fuel_of(&script.header);
     match script.header.region {
         None => run_on(alloc, &mut Machine::new(alloc, fuel), script),
         Some(RegionLine { len, byte }) => {
@@ -47,6 +48,23 @@ pub fn run_script(alloc: Global, script: &Script) -> Result<Ran, AllocError>
             let mut machine = Machine::with_region(alloc, fuel, region.as_mut_slice());
             run_on(alloc, &mut machine, script)
         }
+    }
+}
+
+/// The meter that the header lines ask for. Without a `meter` line it is off.
+fn fuel_of(header: &Header) -> Fuel
+    ensures { result ≡ meter_of header.now }
+{
+    match header.meter {
+        Some(MeterLine::On(bytes_copied_per_fuel)) => {
+            let costs = CustomFuelCosts {
+                bytes_copied_per_fuel,
+                fuel_per_bytes_translated: 7,
+                fuel_per_bytes_validated: 2,
+            };
+            Fuel::new(true, FuelCostsProvider::custom(costs))
+        }
+        Some(MeterLine::Off) | None => Fuel::new(false, FuelCostsProvider::default()),
     }
 }
 
@@ -132,7 +150,7 @@ fn pool_of(alloc: Global, header: &Header, line: TenantsLine) -> Result<Pool<'st
     let mut pool = Pool::new(alloc, line.caps.bytes, line.caps.elements);
     for _index in 0..line.count {
         // A new machine has nothing, so room alone can be wanting.
-        if pool.add(Machine::new(alloc, header.fuel())).is_err() {
+        if pool.add(Machine::new(alloc, fuel_of(header))).is_err() {
             return Err(AllocError);
         }
     }
