@@ -1,4 +1,4 @@
-//! Tests of the program: scripts and what they print, and tables of answers.
+//! Tests of the program: scripts and what they print, and lists of answers.
 #![tactic(auto)]
 
 #[cfg(test)]
