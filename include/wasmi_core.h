@@ -11,8 +11,8 @@
    leaves the higher bits of its operands out, and those of its value are 0. A Boolean is 0 or 1. */
 typedef struct { uint64_t lo, hi; } wasmi_words;
 
-/* What an instruction answers for one element of an array: the value, or 0 where it traps, and the status. */
-typedef struct { wasmi_words value; uint8_t status; } wasmi_answer;
+/* What an instruction gives for one element of an array: the value, or 0 where it traps, and the status. */
+typedef struct { wasmi_words value; uint8_t status; } wasmi_result;
 
 /* What a call but wasmi_script_run returns, besides the numbers of other traps. After any but WASMI_DONE nothing is written. */
 enum {
@@ -46,7 +46,7 @@ uint8_t wasmi_unary(uint16_t number, wasmi_words a, wasmi_words *value);
 uint8_t wasmi_unary_each(uint16_t number, const wasmi_words *a, size_t a_len, wasmi_words *values, size_t values_len);
 uint8_t wasmi_binary(uint16_t number, wasmi_words a, wasmi_words b, wasmi_words *value);
 uint8_t wasmi_binary_each(uint16_t number, const wasmi_words *a, size_t a_len, const wasmi_words *b, size_t b_len,
-                          wasmi_answer *answers, size_t answers_len);
+                          wasmi_result *answers, size_t answers_len);
 uint8_t wasmi_ternary(uint16_t number, wasmi_words a, wasmi_words b, wasmi_words c, wasmi_words *value);
 uint8_t wasmi_ternary_each(uint16_t number, const wasmi_words *a, size_t a_len, const wasmi_words *b, size_t b_len,
                            const wasmi_words *c, size_t c_len, wasmi_words *values, size_t values_len);
@@ -55,7 +55,7 @@ uint8_t wasmi_ternary_each(uint16_t number, const wasmi_words *a, size_t a_len, 
 uint8_t wasmi_load(uint16_t number, const uint8_t *memory, size_t memory_len, uint64_t ptr, uint64_t offset,
                    wasmi_words *value);
 uint8_t wasmi_load_each(uint16_t number, const uint8_t *memory, size_t memory_len, const uint64_t *ptrs,
-                        size_t ptrs_len, uint64_t offset, wasmi_answer *answers, size_t answers_len);
+                        size_t ptrs_len, uint64_t offset, wasmi_result *answers, size_t answers_len);
 uint8_t wasmi_store(uint16_t number, uint8_t *memory, size_t memory_len, uint64_t ptr, uint64_t offset,
                     wasmi_words value);
 

@@ -27,7 +27,7 @@ int main(void) {
 
     const wasmi_words a[2] = {{0x7f7f7f7f7f7f7f7f, 0}, {1, 2}};
     const wasmi_words b[2] = {{0x0101010101010101, 1}, {3, 4}};
-    wasmi_answer sums[2];
+    wasmi_result sums[2];
     status = wasmi_binary_each(WASMI_BINARY_I8X16_ADD, a, 2, b, 2, sums, 2);
     printf("i8x16_add: status %d\n", status);
     for (size_t i = 0; i < 2; i++) {

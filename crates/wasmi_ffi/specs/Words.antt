@@ -5,7 +5,7 @@ use Rattle.wasmi_types.specs.Trap.{code_number}
 use Rattle.wasmi_types.specs.declared.trap.TrapCode.{TrapCode}
 use Rattle.wasmi_raw.specs.declared.raw.RawVal.{RawVal}
 use Rattle.wasmi_ffi.specs.declared.words.Words.{Words}
-use Rattle.wasmi_ffi.specs.declared.words.Answer.{Answer}
+use Rattle.wasmi_ffi.specs.declared.words.InstructionResult.{InstructionResult}
 use Rattle.wasmi_ffi.specs.declared.status.TheConstants.{DONE, UNKNOWN, LENGTHS_DIFFER}
 
 -- the raw value of two words, and the words of a raw value
@@ -25,9 +25,9 @@ as_words words (Ok value) = Ok (words value)
 as_words words (Err trap) = Err trap
 
 -- an answer with its status
-abbrev pub answer_of : Result Words TrapCode → Answer
-answer_of (Ok words) = record { value = words; status = DONE }
-answer_of (Err trap) = record { value = record { lo = 0; hi = 0 }; status = code_number trap }
+abbrev pub result_of : Result Words TrapCode → InstructionResult
+result_of (Ok words) = record { value = words; status = DONE }
+result_of (Err trap) = record { value = record { lo = 0; hi = 0 }; status = code_number trap }
 
 -- a value is written with the status 0, or none is, with the number of the trap
 abbrev pub Writes : Result Words TrapCode → Words → Words → ℕ → Type 0

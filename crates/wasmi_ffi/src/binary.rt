@@ -1,11 +1,11 @@
 //! The instructions of two operands.
 ghost use Rattle.std.specs.Prelude.{◌≡◌, length};
-ghost use Rattle.wasmi_ffi.specs.Words.{answer_of, IsEachOfTwo, OfInstruction, WhereLengths, Writes};
+ghost use Rattle.wasmi_ffi.specs.Words.{result_of, IsEachOfTwo, OfInstruction, WhereLengths, Writes};
 ghost use Rattle.wasmi_ffi.specs.Binary.{binary_of, binary_words};
 
 use crate::status::{DONE, LENGTHS_DIFFER, UNKNOWN};
 use crate::table::at;
-use crate::words::{Answer, Words};
+use crate::words::{InstructionResult, Words};
 use wasmi_raw::ReadAs;
 use wasmi_scalar_ops::ScalarBinaryOp;
 use wasmi_types::TrapCode;
@@ -233,12 +233,12 @@ pub extern "C" fn wasmi_binary_each(
     number: u16,
     a: &[Words],
     b: &[Words],
-    answers: &mut [Answer],
+    answers: &mut [InstructionResult],
 ) -> u8
     ensures { OfInstruction (binary_of number) answers.old answers.new result
         (λ op. WhereLengths ((length b.now ≡ length a.now) × (length answers.old ≡ length a.now))
         answers.old answers.new result
-        (IsEachOfTwo (λ x y. answer_of (binary_words op x y)) a.now b.now answers.new)) }
+        (IsEachOfTwo (λ x y. result_of (binary_words op x y)) a.now b.now answers.new)) }
 {
     match instruction(number) {
         Some(op) => each(op, a, b, answers),
@@ -246,16 +246,16 @@ pub extern "C" fn wasmi_binary_each(
     }
 }
 
-fn each(op: Binary, a: &[Words], b: &[Words], answers: &mut [Answer]) -> u8
+fn each(op: Binary, a: &[Words], b: &[Words], answers: &mut [InstructionResult]) -> u8
     ensures { WhereLengths ((length b.now ≡ length a.now) × (length answers.old ≡ length a.now))
         answers.old answers.new result
-        (IsEachOfTwo (λ x y. answer_of (binary_words op x y)) a.now b.now answers.new) }
+        (IsEachOfTwo (λ x y. result_of (binary_words op x y)) a.now b.now answers.new) }
 {
     if b.len() != a.len() || answers.len() != a.len() {
         return LENGTHS_DIFFER;
     }
     for i in 0..a.len() {
-        answers[i] = Answer::of(op.apply(a[i], b[i]));
+        answers[i] = InstructionResult::of(op.apply(a[i], b[i]));
     }
     DONE
 }

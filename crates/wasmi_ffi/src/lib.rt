@@ -15,4 +15,4 @@ mod ternary;
 mod unary;
 mod words;
 
-pub use words::{Answer, Words};
+pub use words::{InstructionResult, Words};

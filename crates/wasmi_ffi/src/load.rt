@@ -1,11 +1,11 @@
 //! The loads.
 ghost use Rattle.std.specs.Prelude.{◌≡◌, ◌+◌, length};
-ghost use Rattle.wasmi_ffi.specs.Words.{answer_of, IsEach, OfInstruction, WhereLengths, Writes};
+ghost use Rattle.wasmi_ffi.specs.Words.{result_of, IsEach, OfInstruction, WhereLengths, Writes};
 ghost use Rattle.wasmi_ffi.specs.Accesses.{load_of, loaded_words};
 
 use crate::status::{DONE, LENGTHS_DIFFER, UNKNOWN};
 use crate::table::at;
-use crate::words::{Answer, Words};
+use crate::words::{InstructionResult, Words};
 use wasmi_scalar_ops::LoadOp;
 use wasmi_types::TrapCode;
 use wasmi_vector_ops::VectorLoadOp;
@@ -99,11 +99,11 @@ pub extern "C" fn wasmi_load_each(
     memory: &[u8],
     ptrs: &[u64],
     offset: u64,
-    answers: &mut [Answer],
+    answers: &mut [InstructionResult],
 ) -> u8
     ensures { OfInstruction (load_of number) answers.old answers.new result
         (λ op. WhereLengths (length answers.old ≡ length ptrs.now) answers.old answers.new result
-        (IsEach (λ ptr. answer_of (loaded_words op memory.now (ptr + offset))) ptrs.now
+        (IsEach (λ ptr. result_of (loaded_words op memory.now (ptr + offset))) ptrs.now
         answers.new)) }
 {
     match instruction(number) {
@@ -112,16 +112,16 @@ pub extern "C" fn wasmi_load_each(
     }
 }
 
-fn each(op: Load, memory: &[u8], ptrs: &[u64], offset: u64, answers: &mut [Answer]) -> u8
+fn each(op: Load, memory: &[u8], ptrs: &[u64], offset: u64, answers: &mut [InstructionResult]) -> u8
     ensures { WhereLengths (length answers.old ≡ length ptrs.now) answers.old answers.new result
-        (IsEach (λ ptr. answer_of (loaded_words op memory.now (ptr + offset))) ptrs.now
+        (IsEach (λ ptr. result_of (loaded_words op memory.now (ptr + offset))) ptrs.now
         answers.new) }
 {
     if answers.len() != ptrs.len() {
         return LENGTHS_DIFFER;
     }
     for i in 0..ptrs.len() {
-        answers[i] = Answer::of(op.load(memory, ptrs[i], offset));
+        answers[i] = InstructionResult::of(op.load(memory, ptrs[i], offset));
     }
     DONE
 }

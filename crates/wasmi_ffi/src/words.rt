@@ -1,7 +1,7 @@
 //! Values as C passes them.
 ghost use Rattle.std.specs.Prelude.{◌≡◌};
 ghost use Rattle.wasmi_raw.specs.Vector.{vector_of};
-ghost use Rattle.wasmi_ffi.specs.Words.{answer_of, raw_in, vector_words, raw_words};
+ghost use Rattle.wasmi_ffi.specs.Words.{result_of, raw_in, vector_words, raw_words};
 
 use crate::status::DONE;
 use wasmi_raw::{RawVal, V128};
@@ -54,27 +54,27 @@ impl Words {
     }
 }
 
-/// What an instruction answers for one element of an array.
+/// What an instruction gives for one element of an array.
 #[repr(C)]
 #[derive(Clone, Copy)]
-pub struct Answer {
+pub struct InstructionResult {
     /// The value, or 0 where the instruction traps.
     pub value: Words,
     /// 0, or the number of the trap code.
     pub status: u8,
 }
 
-impl Answer {
+impl InstructionResult {
     /// The value, or the trap.
-    pub fn of(outcome: Result<Words, TrapCode>) -> Answer
-        ensures { result ≡ answer_of outcome }
+    pub fn of(outcome: Result<Words, TrapCode>) -> InstructionResult
+        ensures { result ≡ result_of outcome }
     {
         match outcome {
-            Ok(value) => Answer {
+            Ok(value) => InstructionResult {
                 value,
                 status: DONE,
             },
-            Err(trap) => Answer {
+            Err(trap) => InstructionResult {
                 value: Words { lo: 0, hi: 0 },
                 status: u8::from(trap),
             },

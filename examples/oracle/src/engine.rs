@@ -1,15 +1,15 @@
 //! The functions of the crate, on the same words.
-use crate::ffi::{Answer, Words};
+use crate::ffi::{InstructionResult, Words};
 use wasmi_core::{RawVal, TrapCode, V128, simd, wasm};
 
-pub type Unary = Box<dyn Fn(Words) -> Answer>;
-pub type Binary = Box<dyn Fn(Words, Words) -> Answer>;
-pub type Ternary = Box<dyn Fn(Words, Words, Words) -> Answer>;
-pub type Extract = Box<dyn Fn(u8, Words) -> Option<Answer>>;
-pub type Replace = Box<dyn Fn(u8, Words, Words) -> Option<Answer>>;
-pub type Load = Box<dyn Fn(&[u8], u64, u64) -> Answer>;
+pub type Unary = Box<dyn Fn(Words) -> InstructionResult>;
+pub type Binary = Box<dyn Fn(Words, Words) -> InstructionResult>;
+pub type Ternary = Box<dyn Fn(Words, Words, Words) -> InstructionResult>;
+pub type Extract = Box<dyn Fn(u8, Words) -> Option<InstructionResult>>;
+pub type Replace = Box<dyn Fn(u8, Words, Words) -> Option<InstructionResult>>;
+pub type Load = Box<dyn Fn(&[u8], u64, u64) -> InstructionResult>;
 pub type Store = Box<dyn Fn(&mut [u8], u64, u64, Words) -> u8>;
-pub type LoadLane = Box<dyn Fn(u8, &[u8], u64, u64, Words) -> Option<Answer>>;
+pub type LoadLane = Box<dyn Fn(u8, &[u8], u64, u64, Words) -> Option<InstructionResult>>;
 pub type StoreLane = Box<dyn Fn(u8, &mut [u8], u64, u64, Words) -> Option<u8>>;
 
 fn vector(words: Words) -> V128 {
@@ -23,16 +23,16 @@ fn value<A: From<RawVal>>(words: Words) -> A {
 
 /// What a function of the crate gives.
 pub trait Gives {
-    fn answer(self) -> Answer;
+    fn answer(self) -> InstructionResult;
 }
 
 macro_rules! gives {
     ($($value:ty),*) => {
         $(impl Gives for $value {
-            fn answer(self) -> Answer {
+            fn answer(self) -> InstructionResult {
                 let bits = V128::from(RawVal::from(self)).as_u128();
                 let value = Words { lo: bits as u64, hi: (bits >> 64) as u64 };
-                Answer { value, status: 0 }
+                InstructionResult { value, status: 0 }
             }
         })*
     };
@@ -40,17 +40,17 @@ macro_rules! gives {
 gives!(i32, u32, i64, u64, bool, V128);
 
 impl Gives for (i64, i64) {
-    fn answer(self) -> Answer {
+    fn answer(self) -> InstructionResult {
         let value = Words { lo: self.0 as u64, hi: self.1 as u64 };
-        Answer { value, status: 0 }
+        InstructionResult { value, status: 0 }
     }
 }
 
 impl<T: Gives> Gives for Result<T, TrapCode> {
-    fn answer(self) -> Answer {
+    fn answer(self) -> InstructionResult {
         match self {
             Ok(value) => value.answer(),
-            Err(trap) => Answer { value: Words::default(), status: trap as u8 },
+            Err(trap) => InstructionResult { value: Words::default(), status: trap as u8 },
         }
     }
 }

@@ -4,7 +4,7 @@
 mod engine;
 mod ffi;
 
-use ffi::{Answer, Words};
+use ffi::{InstructionResult, Words};
 use std::process::ExitCode;
 use std::{env, fmt};
 
@@ -91,7 +91,7 @@ impl Tally {
     }
 }
 
-fn value(answer: Answer) -> Words {
+fn value(answer: InstructionResult) -> Words {
     answer.value
 }
 
@@ -109,7 +109,7 @@ fn main() -> ExitCode {
     let mut operands = Operands(0x9e37_79b9_7f4a_7c15);
     let mut tally = Tally::default();
     let mut values = vec![Words::default(); BATCH];
-    let mut answers = vec![Answer::default(); BATCH];
+    let mut answers = vec![InstructionResult::default(); BATCH];
     for _ in 0..count.div_ceil(BATCH) {
         let (a, b, c) = (operands.batch(), operands.batch(), operands.batch());
         let lane = (operands.bits() % 16) as u8;
@@ -189,7 +189,7 @@ fn compare_accesses(
     let memory = memory(operands);
     let ptrs: Vec<u64> = (0..BATCH).map(|_| operands.pointer()).collect();
     let offset = operands.pointer() % 80;
-    let mut answers = vec![Answer::default(); BATCH];
+    let mut answers = vec![InstructionResult::default(); BATCH];
     for (number, (name, f)) in loads.iter().enumerate() {
         assert_eq!(ffi::load(number as u16, &memory, &ptrs, offset, &mut answers), 0);
         for i in 0..BATCH {

@@ -17,7 +17,7 @@ mod ffi {
 
     #[repr(C)]
     #[derive(Clone, Copy, Default)]
-    pub struct Answer {
+    pub struct InstructionResult {
         pub value: Words,
         pub status: u8,
     }
@@ -39,13 +39,13 @@ mod ffi {
             a_len: usize,
             b: *const Words,
             b_len: usize,
-            answers: *mut Answer,
+            answers: *mut InstructionResult,
             answers_len: usize,
         ) -> u8;
     }
 }
 
-use ffi::{Answer, Words, wasmi_binary};
+use ffi::{InstructionResult, Words, wasmi_binary};
 
 /// The status of a script, and what it prints.
 fn run_script(script: &str) -> (u8, Vec<u8>) {
@@ -71,8 +71,8 @@ fn run_script(script: &str) -> (u8, Vec<u8>) {
 }
 
 /// The status of an instruction on arrays, and what it answers for each two elements.
-fn binary_each(number: u16, a: &[Words], b: &[Words]) -> (u8, Vec<Answer>) {
-    let mut answers = vec![Answer::default(); a.len()];
+fn binary_each(number: u16, a: &[Words], b: &[Words]) -> (u8, Vec<InstructionResult>) {
+    let mut answers = vec![InstructionResult::default(); a.len()];
     // SAFETY: each slice is passed with its length, and they don't overlap.
     let status = unsafe {
         ffi::wasmi_binary_each(

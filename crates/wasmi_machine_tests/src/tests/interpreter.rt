@@ -174,10 +174,15 @@ static GROWTH: [Instruction; 4] = [
 
 static PAGE: [Step; 1] = [(StaticCall::NewPages(1, None), StaticReply::Made(0))];
 
-/// Grows a memory of one page under a quota of so many bytes, to so many pages.
-fn grows_under(rt: &(impl Abort + AllocGlobal), bytes: u64, pages: u64) -> Result<(), Fail> {
+/// Grows a memory of one page under a quota, to so many pages and bytes.
+fn grows_under(
+    rt: &(impl Abort + AllocGlobal),
+    cap: u64,
+    pages: u64,
+    bytes: u64,
+) -> Result<(), Fail> {
     let mut machine = unmetered(rt.alloc());
-    let mut quota = Quota::new(bytes, 0);
+    let mut quota = Quota::new(cap, 0);
     runs_under(rt, &mut machine, &PAGE, &mut quota)?;
     let expected = Outcome {
         ending: Some(Ending::Returned(RawVal::from(pages))),
@@ -186,15 +191,15 @@ fn grows_under(rt: &(impl Abort + AllocGlobal), bytes: u64, pages: u64) -> Resul
     };
     ends(rt, &GROWTH, &mut machine, &mut quota, expected);
     same(rt, "the size", memory_size(&machine, 0), Some(pages));
-    same(rt, "the bytes", quota.held_bytes() / 65536, pages);
+    same(rt, "the bytes", quota.held_bytes(), bytes);
     Ok(())
 }
 
 #[test]
 fn a_growth_under_a_quota(rt: HostRuntime) -> Result<(), Fail> {
-    grows_under(&rt, 65536, 1)?;
-    grows_under(&rt, 131071, 1)?;
-    grows_under(&rt, 131072, 2)
+    grows_under(&rt, 65536, 1, 65536)?;
+    grows_under(&rt, 131071, 1, 65536)?;
+    grows_under(&rt, 131072, 2, 131072)
 }
 
 #[test]
