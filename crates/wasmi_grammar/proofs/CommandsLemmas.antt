@@ -1,5 +1,5 @@
 -- What the operands of a command write, by the word that it begins with.
-use Rattle.std.proofs.Common.{ℕ, ◌≡◌, List, [], ◌∷◌, Result, Err, bytes_eq, cond, codes, subst}
+use Rattle.std.proofs.Common.{ℕ, ◌≡◌, List, [], ◌∷◌, Result, Err, bytes_eq, cond, codes, get_or, refl, subst}
 use Rattle.wasmi_scalar_ops.specs.declared.access.LoadOp.{LoadOp}
 use Rattle.wasmi_scalar_ops.specs.declared.access.StoreOp.{StoreOp}
 use Rattle.wasmi_raw.specs.declared.raw.RawVal.{RawVal}
@@ -21,9 +21,11 @@ use Rattle.wasmi_core.specs.declared.calls.Call.{Call}
 use Rattle.wasmi_core.specs.declared.calls.Call.TheVariants.{SetFuel, GetFuel, NewMemory, NewLentMemory, GrowMemory, DropMemory, Read, Write, Load, Store, NewTable, GrowTable, DropTable, GetElement, SetElement, InitTable, CopyTable, FillTable, NewSegment, DropItems, NewGlobal, SetGlobal, GetGlobal, SetRegister, GetRegister, Make, Unary, Binary, Ternary, Shift, Test, Extract, Replace, Shuffle, VectorLoad, LoadLane, VectorStore, StoreLane}
 use Rattle.wasmi_operands.specs.declared.error.LineError.{LineError}
 use Rattle.wasmi_operands.specs.Acceptance.{Accepts}
-use Rattle.wasmi_operands.specs.Words.{Words}
+use Rattle.wasmi_operands.specs.Numbers.{WritesNumber}
+use Rattle.wasmi_operands.specs.Words.{Words, word_at}
 use Rattle.wasmi_grammar.specs.Commands.{command_word, WritesOperands, NamesAfter}
 use Rattle.wasmi_operands.proofs.AcceptanceLemmas.{refused_through}
+use Rattle.wasmi_operands.proofs.WordsLemmas.{at_place}
 
 -- what is said beside a word, if anything is
 abbrev pub said : List (List ℕ × Type 0) → List ℕ → Type 0
@@ -145,3 +147,13 @@ pub refused_after : {A : Type 0} (error : LineError) (P : A → Type 0) (word : 
     → Accepts result (NamesAfter word words)
 refused_after error P word words =
     refused_beside (forms (WritesOperands words)) command_word (WritesOperands words) (form words) error P word
+
+-- a command is refused since the word at a place writes no number of so many bits
+pub refused_number : (bits k : ℕ) (error : LineError) (word : List ℕ) (words : Words) (result : Result Call LineError)
+    → result ≡ Err error
+    → Accepts {A = ℕ} (Err error) (WritesNumber bits (get_or words k (record { ref_ptr = (0, 0); now = [] })).now)
+    → (said (forms (WritesOperands words)) word → (n : ℕ) × WritesNumber bits (word_at words k) n)
+    → Accepts result (NamesAfter word words)
+refused_number bits k error word words result is refused part =
+    refused_after error _ word words result is refused
+    (λ w. ((part w).0, at_place (λ text. WritesNumber bits text (part w).0) words k k refl (part w).1))

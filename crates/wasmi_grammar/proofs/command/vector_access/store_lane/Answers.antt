@@ -1,7 +1,7 @@
-use Rattle.std.proofs.Common.{codes, rules, arith, refl}
+use Rattle.std.proofs.Common.{codes, rules, arith}
 use Rattle.wasmi_operands.specs.Numbers.{WritesNumber}
-use Rattle.wasmi_operands.proofs.WordsLemmas.{at_place, in_rest, length_of_rest}
-use Rattle.wasmi_grammar.proofs.CommandsLemmas.{refused_after}
+use Rattle.wasmi_operands.proofs.WordsLemmas.{in_rest, length_of_rest}
+use Rattle.wasmi_grammar.proofs.CommandsLemmas.{refused_after, refused_number}
 use Rattle.wasmi_grammar.proofs.command.vector_access.store_lane.Goals as goal
 
 pub returns-in_err-memory : goal.returns-in_err-memory
@@ -20,7 +20,6 @@ returns-in_err-memory c =
 
 pub returns-in_err-from_word : goal.returns-in_err-from_word
 returns-in_err-from_word c =
-    refused_after c.in_err-from_word.field-0.0 _
+    refused_number 8 1 c.in_err-from_word.field-0.0
     (codes "vstorelane") c.args.operands.now c.from_residual-in_err-from_word.result
-    (search rules) c.in_err-from_word.ensures
-    (λ w. (w.1, at_place (λ word. WritesNumber 8 word w.1) c.args.operands.now 1 1 refl w.5.2))
+    (search rules) c.in_err-from_word.ensures (λ w. (w.1, w.5.2))
