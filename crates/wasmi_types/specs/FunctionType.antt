@@ -7,6 +7,7 @@ use Rattle.std.specs.declared.cmp.Ordering.{Ordering}
 use Rattle.wasmi_types.specs.declared.value.ValType.{ValType}
 use Rattle.wasmi_types.specs.declared.value.ValType.TheVariants.{I32, I64, F32, F64, V128, FuncRef, ExternRef}
 
+-- the parameters and the results of a function
 pub record FunctionType : Type 0 where
   pub params : List ValType
   pub results : List ValType

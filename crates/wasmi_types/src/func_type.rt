@@ -99,7 +99,7 @@ impl FuncType {
             → P.into_iter_gives params first
             → R.into_iter_gives results second
             → AfterAll P.IntoIter.next_gives first (R.IntoIter.can_next second) }
-        ensures { IsReadingOf P.into_iter_gives P.IntoIter.next_gives R.into_iter_gives
+        ensures reading { IsReadingOf P.into_iter_gives P.IntoIter.next_gives R.into_iter_gives
             R.IntoIter.next_gives params results result }
     {
         let mut params = params.into_iter();
@@ -112,8 +112,8 @@ impl FuncType {
     ///
     /// Of each it reads at most 1,001 items: more than 1,000 parameters are refused before any
     /// result is read, then more than 1,000 results. Memory is taken, and can be refused, only
-    /// where there are more than 21 items. Nothing is read after the end or after a refusal, and
-    /// the results may be read only once the parameters have ended.
+    /// where there are more than 21 items. Of an iterator nothing is read after its end or after
+    /// its item number 1,001, and the results are read only once the parameters have ended.
     ///
     /// Own: `new` takes its iterators by value, so that its contract can't say what is left of
     /// them.
@@ -123,7 +123,8 @@ impl FuncType {
         R: Iterator<Item = ValType>,
         requires params { P.can_next params.old }
         requires results { AfterAll P.next_gives params.old (R.can_next results.old) }
-        ensures { IsReading P.next_gives R.next_gives params.old results.old result params.new
+        ensures reading { IsReading P.next_gives R.next_gives params.old results.old result
+            params.new
             results.new }
     {
         let mut entries = Entries::new(alloc);
@@ -435,8 +436,8 @@ impl Entries {
     fn push_next<I>(&mut self, types: &mut I) -> Result<bool, AllocError>
     where
         I: Iterator<Item = ValType>,
-        requires { I.can_next types.old }
-        ensures { ReadsNextType I.next_gives I.can_next types.old self.old result types.new
+        requires readable { I.can_next types.old }
+        ensures read { ReadsNextType I.next_gives I.can_next types.old self.old result types.new
             self.new }
     {
         match types.next() {
@@ -452,7 +453,7 @@ impl Entries {
     fn read<I>(&mut self, types: &mut I, too_many: FuncTypeError) -> Result<u16, FuncTypeError>
     where
         I: Iterator<Item = ValType>,
-        requires { I.can_next types.old }
+        requires readable { I.can_next types.old }
         ensures ok { IfOk result
             (λ count. ReadsTypes I.next_gives types.old self.old count types.new self.new) }
         ensures err { IfErr result

@@ -7,12 +7,18 @@ pub returns-in_err-len_results : goal.returns-in_err-len_results
 returns-in_err-len_results g c =
     let p = err_from_is_err_and c.from_residual-in_err-len_results.result c.from_residual-in_err-len_results.ensures.1
     in
-    rw (p.1, p.2) (refused_results c.new-entries.ensures c.in_ok-len_params.ensures.ok c.in_err-len_results.ensures.err)
+    record {
+      reading = rw (p.1, p.2)
+          (refused_results c.new-entries.ensures c.in_ok-len_params.ensures.ok c.in_err-len_results.ensures.err);
+    }
 
 pub returns : goal.returns
 returns g c =
-    refused_end c.new-entries.ensures c.in_ok-len_params.ensures.ok c.in_ok-len_results.ensures.ok
-    (c.in-Err.ensures.refused refl)
+    record {
+      reading = refused_end c.new-entries.ensures c.in_ok-len_params.ensures.ok c.in_ok-len_results.ensures.ok
+          (c.in-Err.ensures.refused refl);
+    }
 
 pub read-requires-2 : goal.read-requires-2
-read-requires-2 g c = let first = c.in_ok-len_params.ensures.ok in c.requires.results first.types _ first.read
+read-requires-2 g c =
+    let first = c.in_ok-len_params.ensures.ok in record { readable = c.requires.results first.types _ first.read }
