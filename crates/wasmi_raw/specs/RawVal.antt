@@ -9,6 +9,7 @@ use Rattle.wasmi_raw.specs.declared.raw.RawVal.{RawVal}
 abbrev pub unsigned_in : Width → RawVal → ℕ
 unsigned_in w raw = raw.lo % 2 ^ bits w
 
+-- the low bits of a raw value, as many as a width has, read signed
 abbrev pub signed_in : Width → RawVal → ℤ
 signed_in w raw = cast_signed w (raw.lo % 2 ^ bits w)
 
