@@ -168,7 +168,7 @@ impl Global {
     ///
     /// What is written has no type, so it is read as a value of the variable's type.
     pub fn get_raw_mut(&mut self) -> &mut RawVal
-        requires { self.old.ty.mutability ≡ Mutability.Var }
+        requires variable { self.old.ty.mutability ≡ Mutability.Var }
         ensures* writes_back { sem 𝓛 (LendsValue self.entry result) }
         ensures value { result.now ≡ self.old.value }
     {
