@@ -113,8 +113,8 @@ impl<const N: usize> StoreFrom for [u8; N] {
 /// Writes bytes over those at an address. In this form a number is stored from a register.
 #[inline]
 fn put<const N: usize>(memory: &mut [u8], address: usize, bytes: &[u8; N])
-    requires { address + N ≤ length memory.old }
-    ensures { overwrite memory.old address bytes.now ≡ Some memory.new }
+    requires room { address + N ≤ length memory.old }
+    ensures written { overwrite memory.old address bytes.now ≡ Some memory.new }
 {
     for i in 0..N {
         memory[address + i] = bytes[i];
