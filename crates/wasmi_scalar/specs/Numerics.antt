@@ -14,12 +14,15 @@ pub use Rattle.wasmi_access.specs.LoadStore.{Answers}
 
 -- ---- sums and products
 
+-- the sum, wrapped to the signed range
 abbrev pub iadd : Width → ℤ → ℤ → ℤ
 iadd w x y = int_wrap w (x +ℤ y)
 
+-- the difference, wrapped to the signed range
 abbrev pub isub : Width → ℤ → ℤ → ℤ
 isub w x y = int_wrap w (x -ℤ y)
 
+-- the product, wrapped to the signed range
 abbrev pub imul : Width → ℤ → ℤ → ℤ
 imul w x y = int_wrap w (x *ℤ y)
 
@@ -33,6 +36,7 @@ idiv_s w x y =
     else if int_eq (int_div x y) (pos (2 ^ (bits w - 1))) then Err IntegerOverflow
     else Ok (int_div x y)
 
+-- the quotient rounded down, where the divisor is not 0
 abbrev pub idiv_u : ℕ → ℕ → Result ℕ TrapCode
 idiv_u n d = if d == 0 then Err IntegerDivisionByZero else Ok (n / d)
 
@@ -40,17 +44,21 @@ idiv_u n d = if d == 0 then Err IntegerDivisionByZero else Ok (n / d)
 abbrev pub irem_s : ℤ → ℤ → Result ℤ TrapCode
 irem_s x y = if int_eq y (pos 0) then Err IntegerDivisionByZero else Ok (int_rem x y)
 
+-- the remainder of the quotient rounded down, where the divisor is not 0
 abbrev pub irem_u : ℕ → ℕ → Result ℕ TrapCode
 irem_u n d = if d == 0 then Err IntegerDivisionByZero else Ok (n % d)
 
 -- ---- bits
 
+-- the bits that are set in both
 abbrev pub iand : Width → ℤ → ℤ → ℤ
 iand w x y = cast_signed w (bit_and (cast_unsigned w x) (cast_unsigned w y))
 
+-- the bits that are set in one or both
 abbrev pub ior : Width → ℤ → ℤ → ℤ
 ior w x y = cast_signed w (bit_or (cast_unsigned w x) (cast_unsigned w y))
 
+-- the bits that are set in exactly one
 abbrev pub ixor : Width → ℤ → ℤ → ℤ
 ixor w x y = cast_signed w (bit_xor (cast_unsigned w x) (cast_unsigned w y))
 
@@ -58,6 +66,7 @@ ixor w x y = cast_signed w (bit_xor (cast_unsigned w x) (cast_unsigned w y))
 abbrev pub amount_of : Width → ℤ → ℕ
 amount_of w y = cast_unsigned w y % bits w
 
+-- the number shifted to the left by an amount modulo the width, wrapped
 abbrev pub ishl : Width → ℤ → ℤ → ℤ
 ishl w x y = int_wrap w (x *ℤ pos (2 ^ amount_of w y))
 
@@ -65,6 +74,7 @@ ishl w x y = int_wrap w (x *ℤ pos (2 ^ amount_of w y))
 abbrev pub ishr_s : Width → ℤ → ℤ → ℤ
 ishr_s w x y = int_shr x (amount_of w y)
 
+-- the number shifted to the right by an amount modulo the width, with zeros from above
 abbrev pub ishr_u : Width → ℕ → ℕ → ℕ
 ishr_u w n k = n / 2 ^ (k % bits w)
 
@@ -72,6 +82,7 @@ ishr_u w n k = n / 2 ^ (k % bits w)
 abbrev pub rotated_left : ℕ → ℕ → ℕ → ℕ
 rotated_left b n k = n * 2 ^ k % 2 ^ b + n / 2 ^ (b - k)
 
+-- the bits rotated to the left by an amount modulo the width
 abbrev pub irotl : Width → ℤ → ℤ → ℤ
 irotl w x y = cast_signed w (rotated_left (bits w) (cast_unsigned w x) (amount_of w y))
 
@@ -81,35 +92,45 @@ irotr w x y = cast_signed w (rotated_left (bits w) (cast_unsigned w x) (bits w -
 
 -- ---- counts
 
+-- how many zeros stand above the highest bit that is set; all bits for 0
 abbrev pub iclz : Width → ℤ → ℤ
 iclz w x = pos (leading_zeros w (cast_unsigned w x))
 
+-- how many zeros stand below the lowest bit that is set; all bits for 0
 abbrev pub ictz : Width → ℤ → ℤ
 ictz w x = pos (trailing_zeros w (cast_unsigned w x))
 
+-- how many bits are set
 abbrev pub ipopcnt : Width → ℤ → ℤ
 ipopcnt w x = pos (count_ones (cast_unsigned w x))
 
 -- ---- comparisons
 
+-- whether the number is 0
 abbrev pub ieqz : ℤ → Bool
 ieqz x = int_eq x (pos 0)
 
+-- whether the numbers are equal
 abbrev pub ieq : ℤ → ℤ → Bool
 ieq x y = int_eq x y
 
+-- whether the numbers differ
 abbrev pub ine : ℤ → ℤ → Bool
 ine x y = not (int_eq x y)
 
+-- whether the first is less, both read signed
 abbrev pub ilt_s : ℤ → ℤ → Bool
 ilt_s = int_lt
 
+-- whether the first is less, both read unsigned
 abbrev pub ilt_u : ℕ → ℕ → Bool
 ilt_u = nat_lt
 
+-- whether the first is at most the second, both read signed
 abbrev pub ile_s : ℤ → ℤ → Bool
 ile_s = int_le
 
+-- whether the first is at most the second, both read unsigned
 abbrev pub ile_u : ℕ → ℕ → Bool
 ile_u = nat_le
 
@@ -117,11 +138,14 @@ ile_u = nat_le
 abbrev pub igt_s : ℤ → ℤ → Bool
 igt_s x y = ilt_s y x
 
+-- whether the first is greater, both read unsigned
 abbrev pub igt_u : ℕ → ℕ → Bool
 igt_u m n = ilt_u n m
 
+-- whether the first is at least the second, both read signed
 abbrev pub ige_s : ℤ → ℤ → Bool
 ige_s x y = ile_s y x
 
+-- whether the first is at least the second, both read unsigned
 abbrev pub ige_u : ℕ → ℕ → Bool
 ige_u m n = ile_u n m
