@@ -18,7 +18,7 @@ RawOperation = RawVal → RawVal → Result RawVal TrapCode
 abbrev pub signed_operation : Width → (Width → ℤ → ℤ → ℤ) → RawOperation
 signed_operation w operator lhs rhs = Ok (signed_raw w (operator w (signed_in w lhs) (signed_in w rhs)))
 
--- the same of numbers that are read unsigned
+-- the operation on two raw values whose numbers are read unsigned
 abbrev pub unsigned_operation : Width → (Width → ℕ → ℕ → ℕ) → RawOperation
 unsigned_operation w operator lhs rhs = Ok (raw_of (operator w (unsigned_in w lhs) (unsigned_in w rhs)))
 
@@ -26,7 +26,7 @@ unsigned_operation w operator lhs rhs = Ok (raw_of (operator w (unsigned_in w lh
 abbrev pub signed_partial : Width → (ℤ → ℤ → Result ℤ TrapCode) → RawOperation
 signed_partial w operator lhs rhs = as_raw (signed_raw w) (operator (signed_in w lhs) (signed_in w rhs))
 
--- the same of numbers that are read unsigned
+-- the operation that may trap, on two raw values whose numbers are read unsigned
 abbrev pub unsigned_partial : Width → (ℕ → ℕ → Result ℕ TrapCode) → RawOperation
 unsigned_partial w operator lhs rhs = as_raw raw_of (operator (unsigned_in w lhs) (unsigned_in w rhs))
 
@@ -34,7 +34,7 @@ unsigned_partial w operator lhs rhs = as_raw raw_of (operator (unsigned_in w lhs
 abbrev pub signed_comparison : Width → (ℤ → ℤ → Bool) → RawOperation
 signed_comparison w relation lhs rhs = Ok (bool_raw (relation (signed_in w lhs) (signed_in w rhs)))
 
--- the same of numbers that are read unsigned
+-- the comparison of two raw values whose numbers are read unsigned
 abbrev pub unsigned_comparison : Width → (ℕ → ℕ → Bool) → RawOperation
 unsigned_comparison w relation lhs rhs = Ok (bool_raw (relation (unsigned_in w lhs) (unsigned_in w rhs)))
 

@@ -9,6 +9,8 @@ use wasmi_raw::{RawVal, ReadAs};
 use wasmi_types::TrapCode;
 
 /// A scalar load.
+///
+/// Own: instructions as values.
 #[derive(Clone, Copy, Debug, PartialEq, Eq)]
 pub enum LoadOp {
     /// `i32_load8_s`
@@ -61,6 +63,8 @@ impl LoadOp {
 }
 
 /// A scalar store.
+///
+/// Own: instructions as values.
 #[derive(Clone, Copy, Debug, PartialEq, Eq)]
 pub enum StoreOp {
     /// `i32_store8`

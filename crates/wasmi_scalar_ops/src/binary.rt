@@ -8,6 +8,8 @@ use wasmi_scalar::wasm;
 use wasmi_types::TrapCode;
 
 /// A scalar instruction of two operands.
+///
+/// Own: instructions as values.
 #[derive(Clone, Copy, Debug, PartialEq, Eq)]
 pub enum ScalarBinaryOp {
     /// `i32_add`
@@ -121,8 +123,11 @@ pub enum ScalarBinaryOp {
 }
 
 impl ScalarBinaryOp {
-    /// The result for two operands in raw values, or the trap. A Boolean is 0 or 1; the
-    /// operands of 128 bits, and results of them, are the two words of a raw value.
+    /// The result for two operands in raw values. A Boolean is 0 or 1; the operands of 128 bits,
+    /// and results of them, are the two words of a raw value.
+    ///
+    /// Divisions and remainders alone can trap: by zero with `IntegerDivisionByZero`, and a signed
+    /// division of the least number by -1 with `IntegerOverflow`.
     #[inline]
     pub fn apply(self, lhs: RawVal, rhs: RawVal) -> Result<RawVal, TrapCode>
         ensures { result ≡ binary_raw self lhs rhs }

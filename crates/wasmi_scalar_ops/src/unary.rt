@@ -6,6 +6,8 @@ use wasmi_raw::{RawVal, ReadAs};
 use wasmi_scalar::wasm;
 
 /// A scalar instruction of one operand.
+///
+/// Own: instructions as values.
 #[derive(Clone, Copy, Debug, PartialEq, Eq)]
 pub enum ScalarUnaryOp {
     /// `i32_clz`
