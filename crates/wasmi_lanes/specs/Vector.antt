@@ -17,6 +17,7 @@ from_lanes w f = first_lanes w (128 / bits w) f
 unfoldable pub unary_of_lanes : {A : Type 0} → (w : Width) → (ℕ → A) → (A → ℕ) → ℕ → ℕ
 unary_of_lanes w read row a = from_lanes w (λ i. row (read (lane w a i)))
 
+-- the vector whose lane i is the row of lanes i of two vectors, read in one way
 unfoldable pub binary_of_lanes : {A : Type 0} → (w : Width) → (ℕ → A) → (A → A → ℕ) → ℕ → ℕ → ℕ
 binary_of_lanes w read row a b = from_lanes w (λ i. row (read (lane w a i)) (read (lane w b i)))
 
