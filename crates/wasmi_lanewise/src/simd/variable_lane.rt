@@ -28,7 +28,7 @@ pub(super) fn lane_of_8(vector: V128, at: ImmLaneIdx16) -> u8
 // The index of a lane of 8 bits.
 #[inline(always)]
 fn indices_of_8(lane: u8) -> u8x16
-    requires { lane < 16 }
+    requires lane { lane < 16 }
     ensures first { slice_index result 0 ≡ lane }
     ensures inside { (i : ℕ) → i < 16 → slice_index result i < 16 }
 {
@@ -52,7 +52,7 @@ const BYTES_OF_16: [u32; 8] = [
 // The indices of the two bytes of a lane of 16 bits.
 #[inline(always)]
 fn indices_of_16(lane: u8) -> u8x16
-    requires { lane < 8 }
+    requires lane { lane < 8 }
     ensures first { slice_index result 0 ≡ 2 * lane }
     ensures second { slice_index result 1 ≡ 2 * lane + 1 }
     ensures inside { (i : ℕ) → i < 16 → slice_index result i < 16 }
@@ -75,7 +75,7 @@ const BYTES_OF_32: [u32; 4] = [0x0302_0100, 0x0706_0504, 0x0b0a_0908, 0x0f0e_0d0
 // The indices of the four bytes of a lane of 32 bits.
 #[inline(always)]
 fn indices_of_32(lane: u8) -> u8x16
-    requires { lane < 4 }
+    requires lane { lane < 4 }
     ensures lanes { (i : ℕ) → i < 4 → slice_index result i ≡ 4 * lane + i }
     ensures inside { (i : ℕ) → i < 16 → slice_index result i < 16 }
 {
@@ -85,7 +85,7 @@ fn indices_of_32(lane: u8) -> u8x16
 // The lanes of `table` at indices below 16.
 #[inline(always)]
 fn picked_inside(table: u8x16, indices: u8x16) -> u8x16
-    requires { (i : ℕ) → i < 16 → slice_index indices i < 16 }
+    requires inside { (i : ℕ) → i < 16 → slice_index indices i < 16 }
     ensures lanes { (i : ℕ) → i < 16
         → slice_index result i ≡ slice_index table (slice_index indices i) }
 {
@@ -160,8 +160,8 @@ const IN_EACH_LANE_OF_16: [u64; 8] = [
 
 #[inline(always)]
 fn in_each_lane_of_16(lane: u8) -> u16x8
-    requires { lane < 8 }
-    ensures { result ≡ replicate 8 lane }
+    requires lane { lane < 8 }
+    ensures lanes { result ≡ replicate 8 lane }
 {
     u16x8::from_le_bytes(u64x2::splat(IN_EACH_LANE_OF_16[usize::from(lane)]).to_le_bytes())
 }
