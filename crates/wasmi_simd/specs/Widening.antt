@@ -15,6 +15,7 @@ lane_count w = 128 / bits w
 unfoldable pub half_unary : {A : Type 0} → (narrow wide : Width) → ℕ → (ℕ → A) → (A → ℕ) → ℕ → ℕ
 half_unary narrow wide first read row v = from_lanes wide (λ i. row (read (lane narrow v (first + i))))
 
+-- the wide vector whose lane i is the row of the narrow lanes at first + i of two vectors
 unfoldable pub half_binary : {A : Type 0} → (narrow wide : Width) → ℕ → (ℕ → A) → (A → A → ℕ) → ℕ → ℕ → ℕ
 half_binary narrow wide first read row a b =
     from_lanes wide (λ i. row (read (lane narrow a (first + i))) (read (lane narrow b (first + i))))
@@ -24,6 +25,7 @@ unfoldable pub pairwise_unary : {A : Type 0} → (narrow wide : Width) → (ℕ 
 pairwise_unary narrow wide read row v =
     from_lanes wide (λ i. row (read (lane narrow v (2 * i))) (read (lane narrow v (2 * i + 1))))
 
+-- the wide vector whose lane i is the row of the narrow lanes 2 * i and 2 * i + 1 of two vectors
 unfoldable pub pairwise_binary : {A : Type 0} → (narrow wide : Width) → (ℕ → A) → (A → A → A → A → ℕ) → ℕ → ℕ → ℕ
 pairwise_binary narrow wide read row a b =
     from_lanes wide (λ i. row (read (lane narrow a (2 * i))) (read (lane narrow a (2 * i + 1)))

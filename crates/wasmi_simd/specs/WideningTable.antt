@@ -12,33 +12,43 @@ use Rattle.wasmi_simd.specs.Widening.{lane_count, half_unary, half_binary, pairw
 
 -- ---- widening: each takes the narrow width, then the wide one
 
+-- the low lanes read signed, at twice their width
 abbrev pub extend_low_s : Width → Width → ℕ → ℕ
 extend_low_s narrow wide = half_unary narrow wide 0 (signed narrow) (wrap wide)
 
+-- the low lanes read unsigned, at twice their width
 abbrev pub extend_low_u : Width → Width → ℕ → ℕ
 extend_low_u narrow wide = half_unary narrow wide 0 unsigned (λ x. x)
 
+-- the high lanes read signed, at twice their width
 abbrev pub extend_high_s : Width → Width → ℕ → ℕ
 extend_high_s narrow wide = half_unary narrow wide (lane_count wide) (signed narrow) (wrap wide)
 
+-- the high lanes read unsigned, at twice their width
 abbrev pub extend_high_u : Width → Width → ℕ → ℕ
 extend_high_u narrow wide = half_unary narrow wide (lane_count wide) unsigned (λ x. x)
 
+-- the products of the low lanes read signed, at twice their width
 abbrev pub extmul_low_s : Width → Width → ℕ → ℕ → ℕ
 extmul_low_s narrow wide = half_binary narrow wide 0 (signed narrow) (λ x y. wrap wide (x *ℤ y))
 
+-- the products of the low lanes read unsigned, at twice their width
 abbrev pub extmul_low_u : Width → Width → ℕ → ℕ → ℕ
 extmul_low_u narrow wide = half_binary narrow wide 0 unsigned (λ x y. x * y)
 
+-- the products of the high lanes read signed, at twice their width
 abbrev pub extmul_high_s : Width → Width → ℕ → ℕ → ℕ
 extmul_high_s narrow wide = half_binary narrow wide (lane_count wide) (signed narrow) (λ x y. wrap wide (x *ℤ y))
 
+-- the products of the high lanes read unsigned, at twice their width
 abbrev pub extmul_high_u : Width → Width → ℕ → ℕ → ℕ
 extmul_high_u narrow wide = half_binary narrow wide (lane_count wide) unsigned (λ x y. x * y)
 
+-- the sums of each two adjacent lanes read signed, at twice their width
 abbrev pub extadd_pairwise_s : Width → Width → ℕ → ℕ
 extadd_pairwise_s narrow wide = pairwise_unary narrow wide (signed narrow) (λ x y. wrap wide (x +ℤ y))
 
+-- the sums of each two adjacent lanes read unsigned, at twice their width
 abbrev pub extadd_pairwise_u : Width → Width → ℕ → ℕ
 extadd_pairwise_u narrow wide = pairwise_unary narrow wide unsigned (λ x y. x + y)
 
@@ -50,6 +60,7 @@ dot_s narrow wide = pairwise_binary narrow wide (signed narrow) (λ x x' y y'. w
 abbrev pub widen_s : Width → Width → ℕ → ℕ
 widen_s narrow wide number = extend_low_s narrow wide number
 
+-- the lanes of a number of 64 bits read unsigned, at twice their width
 abbrev pub widen_u : Width → Width → ℕ → ℕ
 widen_u narrow wide number = extend_low_u narrow wide number
 
@@ -59,28 +70,35 @@ low_zero w number = with_lane w 0 0 number
 
 -- ---- narrowing: each takes the wide width, then the narrow one, and reads signed lanes
 
+-- the lanes of two vectors read signed, clamped to the signed range of half their width
 abbrev pub narrow_s : Width → Width → ℕ → ℕ → ℕ
 narrow_s wide narrow = from_low_high wide narrow (signed wide) (λ x. wrap narrow (clamp_signed narrow x))
 
+-- the lanes of two vectors read signed, clamped to the unsigned range of half their width
 abbrev pub narrow_u : Width → Width → ℕ → ℕ → ℕ
 narrow_u wide narrow = from_low_high wide narrow (signed wide) (clamp_unsigned narrow)
 
 -- ---- shifts, by an amount modulo the width
 
+-- each lane shifted to the left by the amount modulo the width
 abbrev pub shl : Width → ℕ → ℕ → ℕ
 shl w v amount = unary_of_lanes w unsigned (λ x. (x * 2 ^ (amount % bits w)) % 2 ^ bits w) v
 
+-- each lane shifted to the right by the amount modulo the width, with its sign from above
 abbrev pub shr_s : Width → ℕ → ℕ → ℕ
 shr_s w v amount = unary_of_lanes w (signed w) (λ x. wrap w (int_shr x (amount % bits w))) v
 
+-- each lane shifted to the right by the amount modulo the width, with zeros from above
 abbrev pub shr_u : Width → ℕ → ℕ → ℕ
 shr_u w v amount = unary_of_lanes w unsigned (λ x. x / 2 ^ (amount % bits w)) v
 
 -- ---- tests
 
+-- whether no lane is 0
 abbrev pub all_true : Width → ℕ → Bool
 all_true w = every_lane w unsigned (λ x. not (nat_eq x 0))
 
+-- whether a bit is set
 abbrev pub any_true : ℕ → Bool
 any_true v = not (nat_eq v 0)
 
@@ -90,12 +108,15 @@ bitmask w = lane_bits w unsigned (λ x. nat_le (2 ^ (bits w - 1)) x)
 
 -- ---- relaxed instructions, each with one of the answers that the standard allows
 
+-- the lanes of the first vector at the indices in the second, 0 for an index above 15
 abbrev pub relaxed_swizzle : ℕ → ℕ → ℕ
 relaxed_swizzle a s = swizzle a s
 
+-- each bit of the first vector where the mask has a one, else of the second
 abbrev pub relaxed_laneselect : ℕ → ℕ → ℕ → ℕ
 relaxed_laneselect a b c = v128_bitselect a b c
 
+-- the rounded products of q15 numbers, clamped to the signed range
 abbrev pub relaxed_q15mulr_s : ℕ → ℕ → ℕ
 relaxed_q15mulr_s a b = q15mulr_sat_s a b
 
@@ -103,5 +124,6 @@ relaxed_q15mulr_s a b = q15mulr_sat_s a b
 abbrev pub relaxed_dot_s : ℕ → ℕ → ℕ
 relaxed_dot_s a b = dot_s w8 w16 a b
 
+-- the sums of each two adjacent lanes of relaxed_dot_s, at twice their width, and of the lanes of a third vector
 abbrev pub relaxed_dot_add_s : ℕ → ℕ → ℕ → ℕ
 relaxed_dot_add_s a b c = add w32 (extadd_pairwise_s w16 w32 (relaxed_dot_s a b)) c

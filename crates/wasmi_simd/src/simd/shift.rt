@@ -148,7 +148,7 @@ fn difference_of_bytes(a: u8x16, b: u8x16) -> u8x16
 /// Half of the range of 8 bits in each lane, shifted to the right.
 #[inline(always)]
 fn half_shifted(amount: u64) -> V128
-    requires { amount < 8 }
+    requires amount { amount < 8 }
     ensures lanes { (i : ℕ) → i < 16 → lane w8 result i ≡ 2 ^ (7 - amount) }
 {
     V128::from(HALVES_OF_8[amount as usize])

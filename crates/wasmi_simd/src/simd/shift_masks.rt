@@ -14,8 +14,8 @@ pub(super) trait NarrowLane: WordLane {
     /// The low bits of each lane of two words, all but its highest ones, of which there are
     /// `dropped`.
     fn shift_masks(dropped: u64) -> u64x2
-        requires { dropped < bits Self.width }
-        ensures { result
+        requires dropped { dropped < bits Self.width }
+        ensures masks { result
             ≡ replicate 2 (in_each_lane Self.width (2 ^ (bits Self.width - dropped) - 1)) };
 }
 
