@@ -17,6 +17,7 @@ pub record Question : Type 0 where
 abbrev pub Answer : Type 0
 Answer = Result Bool LimiterError
 
+-- what a limiter answers to a notice: it accepts it, or an error
 abbrev pub NoticeAnswer : Type 0
 NoticeAnswer = Result (Unit {0}) LimiterError
 

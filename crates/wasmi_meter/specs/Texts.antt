@@ -10,13 +10,16 @@ use Rattle.wasmi_meter.specs.declared.error.TableError.TheVariants as table
 use Rattle.wasmi_meter.specs.declared.fuel.FuelError.{FuelError}
 use Rattle.wasmi_meter.specs.declared.fuel.FuelError.TheVariants as fuel
 
+-- the text of a limiter's error
 abbrev pub limiter_error_text : LimiterError → List ℕ
 limiter_error_text limiter.ResourceLimiterDeniedAllocation = codes "resource limiter denied allocation"
 
+-- the text of an error of the meter
 abbrev pub fuel_error_text : FuelError → List ℕ
 fuel_error_text fuel.FuelMeteringDisabled = codes "fuel metering is disabled"
 fuel_error_text (fuel.OutOfFuel required) = codes "ouf of fuel. required=" ++ decimal required
 
+-- the text of an error of a memory
 abbrev pub memory_error_text : MemoryError → List ℕ
 memory_error_text memory.OutOfSystemMemory = codes "tried to allocate more virtual memory than available on the system"
 memory_error_text memory.OutOfBoundsGrowth = codes "out of bounds memory growth"
@@ -31,6 +34,7 @@ memory_error_text memory.MaximumSizeOverflow =
     codes "the maximum size of the memory type overflows the system index type"
 memory_error_text (memory.OutOfFuel required) = codes "not enough fuel. required=" ++ decimal required
 
+-- the text of an error of a table
 abbrev pub table_error_text : TableError → List ℕ
 table_error_text table.OutOfSystemMemory = codes "tried to allocate more virtual memory than available on the system"
 table_error_text table.MinimumSizeOverflow = codes "the minimum table size overflows the system bounds"

@@ -8,6 +8,8 @@ use std::marker::Model;
 use wasmi_raw::RawRef;
 
 /// The number of bytes that a copied value counts for, in place of its size in memory.
+///
+/// Own: upstream takes the size in memory of any type.
 pub trait ValueSize {
     /// The number of bytes, in contracts.
     ghost SIZE: { ℕ };
@@ -317,7 +319,7 @@ impl Fuel {
         &mut self,
         f: C,
     ) -> Result<u64, FuelError>
-        requires { IsSome self.old.left → C.IsAlwaysCallable f }
+        requires callable { IsSome self.old.left → C.IsAlwaysCallable f }
         ensures on { IsSome self.old.left
             → (amount : ℕ) × (costs : _) × (costs_of costs ≡ self.old.costs)
             × FnOnceReturnsAt C.FnOnce f costs amount
@@ -336,7 +338,7 @@ impl Fuel {
         &mut self,
         f: C,
     ) -> Result<(), FuelError>
-        requires { IsSome self.old.left → C.IsAlwaysCallable f }
+        requires callable { IsSome self.old.left → C.IsAlwaysCallable f }
         ensures on { IsSome self.old.left
             → (amount : ℕ) × (costs : _) × (costs_of costs ≡ self.old.costs)
             × FnOnceReturnsAt C.FnOnce f costs amount

@@ -1,5 +1,7 @@
 //! What every creation and growth does with its limiter's answers and its meter, whatever it is
 //! that grows.
+//!
+//! Own: upstream writes these steps in each function that grows something.
 ghost use Rattle.std.specs.Prelude.{◌≡◌};
 ghost use Rattle.wasmi_meter.specs.Attempt.{Permits, error_of_failure};
 ghost use Rattle.wasmi_meter.specs.Costs.{copy_cost};
@@ -29,6 +31,8 @@ pub fn permission<E: Drop>(
 }
 
 /// An error of what grows, of which a limiter can be told.
+///
+/// Own.
 pub trait GrowthError: Drop {
     /// How a limiter is told of it.
     ghost notice: { Self → Failure };

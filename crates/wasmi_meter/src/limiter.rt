@@ -7,6 +7,8 @@ ghost use Rattle.wasmi_meter.specs.declared.limiter.Kind.TheVariants.{Bytes, Ele
 use crate::error::{LimiterError, MemoryError, TableError};
 
 /// What grows: a linear memory, in bytes, or a table, in elements.
+///
+/// Own: upstream has a pair of methods for each.
 #[derive(Clone, Copy, Debug, PartialEq, Eq)]
 pub enum Kind {
     /// The bytes of linear memories.
@@ -20,6 +22,17 @@ pub enum Kind {
 /// Its `rules` relate the limiter before and after a call to the question or the notice and to what
 /// was answered; each implementation names its own. A creation asks with a current size of 0.
 ///
+/// # What the answers mean
+///
+/// To a question `Ok(true)` permits, and nothing else does. After `Ok(false)` a creation returns
+/// `ResourceLimiterDeniedAllocation`, and a growth returns `OutOfBoundsGrowth` for a memory and
+/// `GrowOutOfBounds` for a table. After `Err` both return `ResourceLimiterDeniedAllocation`. In
+/// these cases nothing has changed and no notice follows.
+///
+/// A notice follows a permission whose creation or growth failed. After `Ok(())` the call returns
+/// the error that the limiter was told of. After `Err` it returns
+/// `ResourceLimiterDeniedAllocation` in its place.
+///
 /// Upstream: `wasmi_core::ResourceLimiter`, whose notices have default bodies; here each
 /// implementation writes them.
 pub trait ResourceLimiter {
@@ -27,36 +40,38 @@ pub trait ResourceLimiter {
     ghost rules: { Rules Self };
 
     /// May a memory grow from `current` to `desired` bytes? `maximum`, in bytes, is the most that
-    /// its type allows.
+    /// its type allows. `Ok(true)` permits; `Ok(false)` and `Err` deny.
     fn memory_growing(
         &mut self,
         current: usize,
         desired: usize,
         maximum: Option<usize>,
     ) -> Result<bool, LimiterError>
-        requires { current ≤ desired }
-        ensures { rules.asked self.old
+        requires grows { current ≤ desired }
+        ensures asked { rules.asked self.old
             (record { kind = Bytes; current = current; desired = desired; maximum = maximum })
             result self.new };
 
     /// May a table grow from `current` to `desired` elements? `maximum` is the most that its type
-    /// allows.
+    /// allows. `Ok(true)` permits; `Ok(false)` and `Err` deny.
     fn table_growing(
         &mut self,
         current: usize,
         desired: usize,
         maximum: Option<usize>,
     ) -> Result<bool, LimiterError>
-        requires { current ≤ desired }
-        ensures { rules.asked self.old
+        requires grows { current ≤ desired }
+        ensures asked { rules.asked self.old
             (record { kind = Elements; current = current; desired = desired; maximum = maximum })
             result self.new };
 
-    /// A memory was permitted to grow and did not, for this error.
+    /// A memory was permitted to grow and did not, for this error. With `Ok(())` the call returns
+    /// this error; with `Err` it returns `ResourceLimiterDeniedAllocation`.
     fn memory_grow_failed(&mut self, error: &MemoryError) -> Result<(), LimiterError>
         ensures { rules.noticed self.old (MemoryFailure error.now) result self.new };
 
-    /// A table was permitted to grow and did not, for this error.
+    /// A table was permitted to grow and did not, for this error. With `Ok(())` the call returns
+    /// this error; with `Err` it returns `ResourceLimiterDeniedAllocation`.
     fn table_grow_failed(&mut self, error: &TableError) -> Result<(), LimiterError>
         ensures { rules.noticed self.old (TableFailure error.now) result self.new };
 
@@ -78,14 +93,16 @@ pub trait LimiterByKind {
     /// What it may answer to a question and to a notice, and what it is afterwards.
     ghost kind_rules: { Rules Self };
 
-    /// May what is of this kind grow from `current` to `desired`, in bytes or elements?
+    /// May what is of this kind grow from `current` to `desired`, in bytes or elements? The answers
+    /// mean what they mean for a [`ResourceLimiter`]: `Ok(true)` permits, and nothing else does.
     fn growing(&mut self, kind: Kind, current: usize, desired: usize) -> Result<bool, LimiterError>
-        requires { current ≤ desired }
-        ensures { (maximum : Option ℕ) → kind_rules.asked self.old
+        requires grows { current ≤ desired }
+        ensures asked { (maximum : Option ℕ) → kind_rules.asked self.old
             (record { kind = kind; current = current; desired = desired; maximum = maximum })
             result self.new };
 
-    /// What is of this kind was permitted to grow and did not.
+    /// What is of this kind was permitted to grow and did not. `Err` replaces the error that the
+    /// call returns by `ResourceLimiterDeniedAllocation`.
     fn grow_failed(&mut self, kind: Kind) -> Result<(), LimiterError>
         ensures { (failure : Failure) → kind_of failure ≡ kind
             → kind_rules.noticed self.old failure result self.new };
@@ -139,7 +156,9 @@ impl<L: LimiterByKind> ResourceLimiter for L {
     }
 }
 
-/// A limiter that permits everything.
+/// A limiter that permits everything and accepts each notice.
+///
+/// Own: upstream implements no limiter.
 #[derive(Clone, Copy, Debug)]
 pub struct NoLimits;
 

@@ -19,6 +19,8 @@ mod sealed {
 }
 
 /// What leads to a value that it can lend: a `&mut` reference, and nothing else.
+///
+/// Own: it gives contracts a name for what a reference becomes.
 pub trait Lender: sealed::Sealed {
     /// The type of what is lent.
     type Lent;
@@ -60,7 +62,8 @@ impl<R> fmt::Debug for LimiterRef<R> {
     }
 }
 
-/// A limiter that is lent, or none. Without a limiter every growth is permitted.
+/// A limiter that is lent, or none. Without a limiter every growth is permitted, and every notice
+/// is accepted.
 ///
 /// Where this reference goes out of scope or is dropped, nothing is known of the limiter
 /// afterwards. A caller that wants to know what it has become ends the loan by
@@ -116,14 +119,14 @@ impl<R> LimiterRef<R> {
 
 impl<'a, L: ResourceLimiter> LimiterRef<&'a mut L> {
     /// Asks the limiter, if there is one, whether a memory may grow from `current` to `desired`
-    /// bytes.
+    /// bytes, and returns its answer. Without a limiter it returns `Ok(true)`.
     pub fn memory_growing(
         &mut self,
         current: usize,
         desired: usize,
         maximum: Option<usize>,
     ) -> Result<bool, LimiterError>
-        requires { current ≤ desired }
+        requires grows { current ≤ desired }
         ensures loan { KeepsLoan self.old self.new }
         ensures asked { (optional_rules L.rules).asked (lent_limiter self.old)
             (record { kind = Bytes; current = current; desired = desired; maximum = maximum })
@@ -136,14 +139,14 @@ impl<'a, L: ResourceLimiter> LimiterRef<&'a mut L> {
     }
 
     /// Asks the limiter, if there is one, whether a table may grow from `current` to `desired`
-    /// elements.
+    /// elements, and returns its answer. Without a limiter it returns `Ok(true)`.
     pub fn table_growing(
         &mut self,
         current: usize,
         desired: usize,
         maximum: Option<usize>,
     ) -> Result<bool, LimiterError>
-        requires { current ≤ desired }
+        requires grows { current ≤ desired }
         ensures loan { KeepsLoan self.old self.new }
         ensures asked { (optional_rules L.rules).asked (lent_limiter self.old)
             (record { kind = Elements; current = current; desired = desired; maximum = maximum })
@@ -155,7 +158,8 @@ impl<'a, L: ResourceLimiter> LimiterRef<&'a mut L> {
         }
     }
 
-    /// Tells the limiter, if there is one, that a memory which it permitted to grow did not.
+    /// Tells the limiter, if there is one, that a memory which it permitted to grow did not, and
+    /// returns its answer. Without a limiter it returns `Ok(())`.
     pub fn memory_grow_failed(&mut self, error: &MemoryError) -> Result<(), LimiterError>
         ensures loan { KeepsLoan self.old self.new }
         ensures noticed { (optional_rules L.rules).noticed (lent_limiter self.old)
@@ -167,7 +171,8 @@ impl<'a, L: ResourceLimiter> LimiterRef<&'a mut L> {
         }
     }
 
-    /// Tells the limiter, if there is one, that a table which it permitted to grow did not.
+    /// Tells the limiter, if there is one, that a table which it permitted to grow did not, and
+    /// returns its answer. Without a limiter it returns `Ok(())`.
     pub fn table_grow_failed(&mut self, error: &TableError) -> Result<(), LimiterError>
         ensures loan { KeepsLoan self.old self.new }
         ensures noticed { (optional_rules L.rules).noticed (lent_limiter self.old)
