@@ -17,7 +17,7 @@ pub record MemoryValue : Type 0 where
   pub bytes : List ℕ
   pub room : Room
 
--- its size in pages
+-- the size of a memory in pages
 abbrev pub pages_of : MemoryValue → ℕ
 pages_of x = length x.bytes / page_bytes x.ty.page
 
@@ -44,7 +44,7 @@ pub record IsValidMemory (x : MemoryValue) : Type 0 where
   pub type : IsValid x.ty
   pub sized : IsSized x.ty (length x.bytes)
 
--- its type with the present size as the minimum
+-- a memory's type with the present size as the minimum
 abbrev pub dynamic_type : MemoryValue → MemoryTypeValue
 dynamic_type x = record x.ty { minimum = pages_of x }
 

@@ -20,6 +20,7 @@ abbrev pub page_bytes : PageSize → ℕ
 page_bytes Byte = 1
 page_bytes Wasm = 65536
 
+-- the logarithm of the page size in bytes
 abbrev pub page_log2 : PageSize → ℕ
 page_log2 Byte = 0
 page_log2 Wasm = 16
@@ -36,6 +37,7 @@ greatest_pages ty = 2 ^ address_bits ty.index / page_bytes ty.page
 abbrev pub minimum_bytes : MemoryTypeValue → ℕ
 minimum_bytes ty = ty.minimum * page_bytes ty.page
 
+-- the maximum in bytes, at most 2^64 - 1
 abbrev pub maximum_bytes : MemoryTypeValue → Option ℕ
 maximum_bytes ty = option_map (λ pages. min (pages * page_bytes ty.page) (2 ^ 64 - 1)) ty.maximum
 
@@ -64,6 +66,7 @@ pub record Settings : Type 0 where
   pub minimum : ℕ
   pub maximum : Option ℕ
 
+-- what a builder begins with
 abbrev pub default_settings : Settings
 default_settings = record { index = I32; page_size_log2 = 16; minimum = 0; maximum = None }
 

@@ -20,7 +20,7 @@ pub record TableValue : Type 0 where
   pub ty : TableTypeValue
   pub elements : List ℕ
 
--- its size
+-- how many elements a table has
 abbrev pub size_of : TableValue → ℕ
 size_of x = length x.elements
 
@@ -35,7 +35,7 @@ pub record IsValidTable (x : TableValue) : Type 0 where
   pub type : IsValid x.ty
   pub sized : IsSized x.ty (size_of x)
 
--- its type with the present size as the minimum
+-- a table's type with the present size as the minimum
 abbrev pub dynamic_type : TableValue → TableTypeValue
 dynamic_type x = record x.ty { minimum = size_of x }
 
@@ -94,8 +94,8 @@ GrowsTableRaw rules n reference s result charge s' =
     Grows rules (record { amount = n; size = size_of s.value; request = growth_of s.value n reference }) s result charge
     s'
 
--- The same with a reference that has a type, which is tested first, also for no element: where it is another, nothing
--- is touched.
+-- a growth by a reference that has a type, which is tested first, also for no element: where it is another, nothing
+-- is touched
 abbrev pub GrowsTable : {S : Type 0} → Rules S → ℕ → TypedRawRef → MeteredValue TableValue S → Result ℕ TableError → ℕ
     → MeteredValue TableValue S → Type 0
 GrowsTable rules n init s result charge s' = MatchBool (same_type s.value.ty.element init.ty)

@@ -265,7 +265,8 @@ impl<R: Region> LinearMemory<R> {
         if !self.buffer.has_room(size) {
             return Err(tell(limiter, MemoryError::InvalidStaticBufferSize, DENIED));
         }
-        if let Err(required_fuel) = charge::<u8>(fuel, (size - old_size) as u64) {
+        let paid = charge::<u8>(fuel, (size - old_size) as u64);
+        if let Err(required_fuel) = paid {
             return Err(tell(limiter, MemoryError::OutOfFuel { required_fuel }, DENIED));
         }
         if let Err(cause) = self.buffer.grow(size) {

@@ -550,16 +550,16 @@ fn lies_within(items: &[RawRef], index: u64, len: u64) -> bool
 
 /// Sets one item.
 fn set_item(elements: &mut [RawRef], index: usize, value: RawRef)
-    requires { index < length elements.old }
-    ensures { overwrite elements.old index (value ∷ []) ≡ Some elements.new }
+    requires inside { index < length elements.old }
+    ensures written { overwrite elements.old index (value ∷ []) ≡ Some elements.new }
 {
     elements[index] = value;
 }
 
 /// Copies items over those from an index on.
 fn write_range(elements: &mut [RawRef], index: usize, items: &[RawRef])
-    requires { index + length items.now ≤ length elements.old }
-    ensures { overwrite elements.old index items.now ≡ Some elements.new }
+    requires inside { index + length items.now ≤ length elements.old }
+    ensures written { overwrite elements.old index items.now ≡ Some elements.new }
 {
     let part = &mut elements[index..index + items.len()];
     part.copy_from_slice(items);
@@ -567,8 +567,8 @@ fn write_range(elements: &mut [RawRef], index: usize, items: &[RawRef])
 
 /// Fills so many items from an index on.
 fn fill_range(elements: &mut [RawRef], index: usize, len: usize, value: RawRef)
-    requires { index + len ≤ length elements.old }
-    ensures { overwrite elements.old index (replicate len value) ≡ Some elements.new }
+    requires inside { index + len ≤ length elements.old }
+    ensures written { overwrite elements.old index (replicate len value) ≡ Some elements.new }
 {
     let part = &mut elements[index..index + len];
     part.fill(value);

@@ -21,8 +21,8 @@ impl<R: Region> Storage<R> {
     ghost use Rattle.wasmi_store.specs.contracts.memory.buffer.Storage.{the_row};
 
     fn front(&self, end: usize) -> &[u8]
-        requires { end ≤ length (block R.bytes self.now) }
-        ensures { result.now ≡ take end (block R.bytes self.now) }
+        requires inside { end ≤ length (block R.bytes self.now) }
+        ensures value { result.now ≡ take end (block R.bytes self.now) }
     {
         let whole = match self {
             Storage::Owned(bytes) => bytes.as_slice(),
@@ -32,7 +32,7 @@ impl<R: Region> Storage<R> {
     }
 
     fn front_mut(&mut self, end: usize) -> &mut [u8]
-        requires { end ≤ length (block R.bytes self.old) }
+        requires inside { end ≤ length (block R.bytes self.old) }
         ensures* writes_back { sem 𝓛 (Lends (the_row R.row) (Array u8 0) self.entry result
             (block_refilled R.refilled self.old end)) }
         ensures value { result.now ≡ take end (block R.bytes self.old) }
@@ -74,8 +74,8 @@ impl<R: Region + Drop> Drop for Buffer<R> {
 
 /// Zeros the bytes of a slice from a place on.
 fn zero_from(bytes: &mut [u8], start: usize)
-    requires { start ≤ length bytes.old }
-    ensures { bytes.new ≡ take start bytes.old ++ replicate (length bytes.old - start) 0 }
+    requires inside { start ≤ length bytes.old }
+    ensures zeros { bytes.new ≡ take start bytes.old ++ replicate (length bytes.old - start) 0 }
 {
     let added = &mut bytes[start..];
     added.fill(0);
@@ -125,7 +125,7 @@ impl<R: Region> Buffer<R> {
     }
 
     pub(super) fn write(&mut self, offset: usize, source: &[u8])
-        requires { offset + length source.now ≤ length self.old.bytes }
+        requires inside { offset + length source.now ≤ length self.old.bytes }
         ensures bytes { overwrite self.old.bytes offset source.now ≡ Some self.new.bytes }
         ensures room { self.new.room ≡ self.old.room }
     {
@@ -140,7 +140,7 @@ impl<R: Region> Buffer<R> {
     /// where its region is shorter (`InvalidStaticBufferSize`). A lent one takes no memory, and
     /// leaves the bytes past the new size alone.
     pub fn grow(&mut self, new_size: usize) -> Result<(), MemoryError>
-        requires { length self.old.bytes ≤ new_size }
+        requires grows { length self.old.bytes ≤ new_size }
         ensures ok { OnOk result
             (self.new ≡ with_zeros self.old (new_size - length self.old.bytes)) }
         ensures fits { OnOk result

@@ -140,8 +140,8 @@ impl MemoryType {
 
     /// The type with another minimum.
     pub(super) fn with_minimum(self, minimum: u64) -> Self
-        requires { in_bounds self minimum ≡ true }
-        ensures { result ≡ record self { minimum = minimum } }
+        requires within { in_bounds self minimum ≡ true }
+        ensures value { result ≡ record self { minimum = minimum } }
     {
         MemoryType { minimum, ..self }
     }

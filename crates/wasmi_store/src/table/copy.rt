@@ -12,7 +12,8 @@ const CHUNK: usize = 4096;
 pub(super) fn copy_overlapping(elements: &mut [RawRef], dst: usize, src: usize, len: usize)
     requires dst { dst + len ≤ length elements.old }
     requires src { src + len ≤ length elements.old }
-    ensures { overwrite elements.old dst (take len (drop src elements.old)) ≡ Some elements.new }
+    ensures copied { overwrite elements.old dst (take len (drop src elements.old))
+        ≡ Some elements.new }
 {
     if dst <= src {
         let mut done = 0;
@@ -37,7 +38,7 @@ fn copy_chunk(elements: &mut [RawRef], dst: usize, src: usize, len: usize)
     requires few { len ≤ 4096 }
     requires dst { dst + len ≤ length elements.old }
     requires src { src + len ≤ length elements.old }
-    ensures { elements.new
+    ensures copied { elements.new
         ≡ take dst elements.old ++ take len (drop src elements.old) ++ drop
         (dst + len) elements.old }
 {

@@ -76,8 +76,9 @@ impl ElementSegment {
     pub fn new<I>(alloc: Global, ty: RefType, items: I) -> Result<Self, SegmentError>
     where
         I: IntoIterator<Item = RawRef>,
-        requires { (it : I.IntoIter) → I.into_iter_gives items it → I.IntoIter.can_next it }
-        ensures { IsReadingOf I.into_iter_gives I.IntoIter.next_gives ty items result }
+        requires readable { (it : I.IntoIter) → I.into_iter_gives items it
+            → I.IntoIter.can_next it }
+        ensures reading { IsReadingOf I.into_iter_gives I.IntoIter.next_gives ty items result }
     {
         let mut items = items.into_iter();
         Self::read(alloc, ty, &mut items)
@@ -92,8 +93,8 @@ impl ElementSegment {
     pub fn read<I>(alloc: Global, ty: RefType, items: &mut I) -> Result<Self, SegmentError>
     where
         I: Iterator<Item = RawRef>,
-        requires { I.can_next items.old }
-        ensures { IsReading I.next_gives items.old ty result items.new }
+        requires readable { I.can_next items.old }
+        ensures reading { IsReading I.next_gives items.old ty result items.new }
     {
         let mut read = Vec::new(alloc);
         'items: while read.len() < MAX_ITEMS {

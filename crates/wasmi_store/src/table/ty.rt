@@ -44,8 +44,8 @@ impl TableType {
 
     /// A type with 32-bit indices. The minimum isn't above the maximum.
     pub fn new(element: RefType, minimum: u32, maximum: Option<u32>) -> Self
-        requires { IfSome maximum (λ most. minimum ≤ most) }
-        ensures { result
+        requires ordered { IfSome maximum (λ most. minimum ≤ most) }
+        ensures value { result
             ≡ record { index = I32; element = element; minimum = minimum; maximum = maximum } }
     {
         TableType {
@@ -61,8 +61,8 @@ impl TableType {
 
     /// A type with 64-bit indices. The minimum isn't above the maximum.
     pub fn new64(element: RefType, minimum: u64, maximum: Option<u64>) -> Self
-        requires { IfSome maximum (λ most. minimum ≤ most) }
-        ensures { result
+        requires ordered { IfSome maximum (λ most. minimum ≤ most) }
+        ensures value { result
             ≡ record { index = I64; element = element; minimum = minimum; maximum = maximum } }
     {
         TableType {
@@ -138,7 +138,7 @@ impl TableType {
     pub(super) fn with_minimum(self, minimum: u64) -> Self
         requires indexable { is_indexable self minimum ≡ true }
         requires within { is_within_maximum self minimum ≡ true }
-        ensures { result ≡ record self { minimum = minimum } }
+        ensures value { result ≡ record self { minimum = minimum } }
     {
         TableType { minimum, ..self }
     }

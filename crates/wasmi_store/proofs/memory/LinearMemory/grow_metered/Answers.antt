@@ -38,7 +38,7 @@ returns-in-Err-clause-grown g c =
     c.if-additional-eq0.false (growth_asked _ _ (rw (← c.self.view_is) at c.in-Some.ensures) c.len-old_size.ensures
     c.maximum_size.ensures) c.in_ok-permission.ensures c.memory_growing-answer.ensures.asked in
     rw (← c.self.view_is)
-    (grows_unpaid permits (sym c.if-not-has_room.ensures) c.charge.new.fuel _ c.in-Err.ensures _ _
+    (grows_unpaid permits (sym c.if-not-has_room.ensures) c.charge-paid.new.fuel _ c.in-Err.ensures _ _
     c.tell-in-Err.ensures.told)
 
 pub returns-in-Err-grow-clause-grown : goal.returns-in-Err-grow-clause-grown
@@ -48,7 +48,7 @@ returns-in-Err-grow-clause-grown g c =
     c.maximum_size.ensures) c.in_ok-permission.ensures c.memory_growing-answer.ensures.asked in
     let same = ap (memory_of c.self.inside.ty) c.in-Err-grow.ensures.err in
     rw (← c.self.view_is)
-    (grows_refused permits (sym c.if-not-has_room.ensures) c.charge.new.fuel c.in_default-charge.ensures _
+    (grows_refused permits (sym c.if-not-has_room.ensures) c.charge-paid.new.fuel c.in_default-paid.ensures _
     c.in-Err-grow.ensures.cause _ same _ _ c.tell-in-Err-grow.ensures.told)
 
 pub returns-clause-grown : goal.returns-clause-grown
@@ -59,4 +59,4 @@ returns-clause-grown g c =
     let grown = ap (memory_of c.self.inside.ty) c.in_default-grow.ensures.ok in
     let pages = rw (← c.self.view_is) at c.size-old_pages.ensures.value in
     rw (← c.self.view_is)
-    (grows_met permits (sym c.if-not-has_room.ensures) c.charge.new.fuel c.in_default-charge.ensures _ grown _ pages)
+    (grows_met permits (sym c.if-not-has_room.ensures) c.charge-paid.new.fuel c.in_default-paid.ensures _ grown _ pages)

@@ -10,7 +10,7 @@ returns-clause-ok g c =
     let bytes = g.R.Region.bytes in
     let len = c.self.inside.len in
     let n = c.args.new_size in
-    let below : length (view_of bytes c.self.inside.storage len).bytes ≤ n = rw c.self.view_is c.requires in
+    let below : length (view_of bytes c.self.inside.storage len).bytes ≤ n = rw c.self.view_is c.requires.grows in
     let room : fits_room (view_of bytes c.self.inside.storage len).room
     (n - length (view_of bytes c.self.inside.storage len).bytes) ≡ true =
     rw c.self.view_is (sym c.if-not-has_room.ensures) in
@@ -27,6 +27,6 @@ returns-clause-ok g c =
           (subst (λ s. length (view_of bytes s len).bytes ≤ n) w.in-Lent.is below)
           (subst (λ s. fits_room (view_of bytes s len).room (n - length (view_of bytes s len).bytes) ≡ true)
           w.in-Lent.is room)
-          w.zero_from.new.bytes (rw (← w.front_mut.ensures.value) w.zero_from.ensures)
+          w.zero_from.new.bytes (rw (← w.front_mut.ensures.value) w.zero_from.ensures.zeros)
           (g.met.R.Region.refills w.in-Lent.region n w.zero_from.new.bytes))
     ]

@@ -4,8 +4,10 @@ use Rattle.wasmi_store.proofs.table.element.ElementSegment.read.Goals as goal
 
 pub returns-then-is_err : goal.returns-then-is_err
 returns-then-is_err g c =
-    read_refused c.items.read.items c.items.invariant.read c.in-Some.item c.in-Some.ensures.steps
-    (omega (arith, c.items-test.true, c.len.ensures, c.items.read.ok.0))
+    record {
+      reading = read_refused c.items.read.items c.items.invariant.read c.in-Some.item c.in-Some.ensures.steps
+          (omega (arith, c.items-test.true, c.len.ensures, c.items.read.ok.0));
+    }
 
 pub items-preserved : goal.items-preserved
 items-preserved g c =
