@@ -1,5 +1,5 @@
 -- What each turn takes of the meter.
-use Rattle.std.proofs.Common.{Bool, List, None, Option, Result, Some, [], ap, arith, false, inl, inr, refl, sym, true, ℕ, ◌+◌, ◌-◌, ◌∙◌, ◌∷◌, ◌≡◌, ◌≤◌}
+use Rattle.std.proofs.Common.{Bool, List, None, Option, Result, Some, [], ap, arith, false, inl, inr, refl, subst, sym, true, ℕ, ◌+◌, ◌-◌, ◌∙◌, ◌∷◌, ◌≡◌, ◌≤◌}
 use Rattle.std.proofs.lemmas.Bool.{and_parts}
 use Rattle.std.proofs.lemmas.Bool.Decides.{nat_tests}
 use Rattle.std.proofs.lemmas.Option.{same_Some}
@@ -7,11 +7,11 @@ use Rattle.std.specs.Option.{option_map, unwrap_or}
 use Rattle.std.specs.Prelude.{if◌then◌else◌, is_none, nat_le, ◌&&◌}
 use Rattle.wasmi_core.proofs.EffectLemmas.{on_live}
 use Rattle.wasmi_core.proofs.StepsLemmas.{change_facts}
-use Rattle.wasmi_core.specs.Account.{Account, Balances, account_after, charged_by, opened}
+use Rattle.wasmi_core.specs.Account.{Account, Balances, ChangesMeter, TakesCharge, account_after, charged_by, opened}
 use Rattle.wasmi_core.specs.Effects.{ActsAt, reply_of}
 use Rattle.wasmi_core.specs.Runs.{Run}
 use Rattle.wasmi_core.specs.State.{State, live_at}
-use Rattle.wasmi_core.specs.Steps.{Changed, Effect, FuelSet, MemoryGrown, RangeWritten, TableGrown, TakesEffect, effect_of}
+use Rattle.wasmi_core.specs.Steps.{Changed, Effect, FuelSet, MemoryGrown, RangeWritten, Step, TableGrown, TakesEffect, effect_of}
 use Rattle.wasmi_core.specs.TableEffects.{Metered, WritesRangeAt, WritesTableAt, metered, write_of}
 use Rattle.wasmi_core.specs.World.{Turn, World}
 use Rattle.wasmi_core.specs.declared.calls.Call.{Call}
@@ -20,7 +20,8 @@ use Rattle.wasmi_core.specs.declared.calls.Reply.{Reply}
 use Rattle.wasmi_core.specs.declared.slots.Slot.{Slot}
 use Rattle.wasmi_meter.specs.Attempt.{Attempt, Denied, Request, Failed, AttemptOutcome, Met, MeteredValue, Unasked, optional_due, covers, with_value}
 use Rattle.wasmi_meter.specs.Limiter.{Rules}
-use Rattle.wasmi_meter.specs.Meter.{Meter, due, meter_after}
+use Rattle.wasmi_meter.proofs.AttemptLemmas.{meter_after_nothing}
+use Rattle.wasmi_meter.specs.Meter.{Meter, amount_left, due, meter_after, meter_set}
 use Rattle.wasmi_meter.specs.declared.error.TableError.{TableError}
 use Rattle.wasmi_store.proofs.GrowthLemmas.{on_test}
 use Rattle.wasmi_store.specs.Growth.{Grows, Growth, metered_value}
@@ -32,41 +33,40 @@ use Rattle.wasmi_store.specs.Memory as memory
 use Rattle.wasmi_core.specs.declared.calls.Reply.TheVariants as replied
 use Rattle.wasmi_store.specs.Table as table
 
--- a meter that is on stays on, and what is left and the charge are what was left
-abbrev pub Takes : Meter → ℕ → Meter → Type 0
-Takes m charge m' = (left : ℕ) → m.left ≡ Some left → (rest : ℕ) × (m'.left ≡ Some rest) × (rest + charge ≡ left)
+-- nothing can be paid
+paid_free : (m : Meter) (charge : ℕ) → charge ≡ 0 → charge ≤ amount_left m
+paid_free m charge free = omega (arith, free)
 
 -- where nothing is charged and the meter stays
-pub takes_nothing : (m m' : Meter) (charge : ℕ) → charge ≡ 0 → m' ≡ m → Takes m charge m'
-takes_nothing m m' charge free same left on = (left, ap (λ (m : Meter). m.left) same ∙ on, omega (arith, free))
-
--- no more is charged than is left
-abbrev IsCharged : Meter → ℕ → Type 0
-IsCharged m charge = (left : ℕ) → m.left ≡ Some left → charge ≤ left
-
--- where what is charged can be paid
-takes_paid : (m m' : Meter) (charge : ℕ) → IsCharged m charge → Some m' ≡ Some (meter_after m charge)
-    → Takes m charge m'
-takes_paid m m' charge paid same left on = (
-  left - charge,
-  ap (λ (m : Meter). m.left) (same_Some m' (meter_after m charge) same)
-      ∙ ap (option_map (λ n. n - charge)) on,
-  omega (arith, paid left on),
+takes_nothing : (m m' : Meter) (charge : ℕ) → charge ≡ 0 → m' ≡ m → TakesCharge m charge m'
+takes_nothing m m' charge free same = (
+  paid_free m charge free,
+  same ∙ same_Some m (meter_after m 0) (meter_after_nothing (Some m)) ∙ ap (meter_after m) (sym free),
 )
 
--- nothing can be paid
-paid_free : (m : Meter) (charge : ℕ) → charge ≡ 0 → IsCharged m charge
-paid_free m charge free left on = omega (arith, free)
+-- where what is charged can be paid
+takes_paid : (m m' : Meter) (charge : ℕ) → charge ≤ amount_left m → Some m' ≡ Some (meter_after m charge)
+    → TakesCharge m charge m'
+takes_paid m m' charge paid same = (paid, same_Some m' (meter_after m charge) same)
+
+-- a meter that is on stays on, and what is left and the charge are what was left
+pub rest_left : (m m' : Meter) (charge : ℕ) → TakesCharge m charge m' → (left : ℕ) → m.left ≡ Some left
+    → (rest : ℕ) × (m'.left ≡ Some rest) × (rest + charge ≡ left)
+rest_left m m' charge takes left on =
+    let within : charge ≤ left = subst (λ (o : Option ℕ). charge ≤ unwrap_or o 0) on takes.0 in (
+      left - charge,
+      ap (λ (m : Meter). m.left) takes.1 ∙ ap (option_map (λ n. n - charge)) on,
+      omega (arith, within),
+    )
 
 -- what is due can be paid where a test says so
-paid_due : (m : Meter) (due charge : ℕ) → covers (Some m) due ≡ true → charge ≡ due → IsCharged m charge
-paid_due m due charge enough same left on =
-    let within : nat_le due left ≡ true = sym (ap (λ (o : Option ℕ). nat_le due (unwrap_or o 0)) on) ∙ enough in
-    grind (arith, nat_tests, within, same)
+paid_due : (m : Meter) (due charge : ℕ) → covers (Some m) due ≡ true → charge ≡ due → charge ≤ amount_left m
+paid_due m due charge enough same =
+    let within : nat_le due (amount_left m) ≡ true = enough in grind (arith, nat_tests, within, same)
 
 -- so where a test decides whether it is charged
 paid_if : (m : Meter) (due charge : ℕ) (tested : Bool) → (tested ≡ true → covers (Some m) due ≡ true)
-    → charge ≡ (if tested then due else 0) → IsCharged m charge
+    → charge ≡ (if tested then due else 0) → charge ≤ amount_left m
 paid_if m due charge true enough same = paid_due m due charge (enough refl) same
 paid_if m due charge false enough same = paid_free m charge same
 
@@ -75,7 +75,7 @@ module _ {V E S : Type 0} (rules : Rules S) (e : Request V E) (x : V) (m : Meter
   -- an attempt is charged no more than is left
   attempt_paid : (outcome : AttemptOutcome E)
       → Attempt rules e (record { value = x; meter = Some m; limiter = l }) outcome charge
-      (record { value = x'; meter = Some m'; limiter = l' }) → IsCharged m charge
+      (record { value = x'; meter = Some m'; limiter = l' }) → charge ≤ amount_left m
   attempt_paid (Unasked cause) attempt = paid_free m charge attempt.charged
   attempt_paid (Denied answer) attempt = paid_free m charge attempt.charged
   attempt_paid Met attempt = paid_due m _ charge attempt.may_end.2 attempt.charged
@@ -88,7 +88,7 @@ module _ {V E S : Type 0} (rules : Rules S) (e : Request V E) (x : V) (m : Meter
 pub grows_takes : {V E S : Type 0} (rules : Rules S) (g : Growth V E) (x : V) (m : Meter) (l : S)
     (result : Result ℕ E) (charge : ℕ) (x' : V) (m' : Meter) (l' : S)
     → Grows rules g (record { value = x; meter = Some m; limiter = l }) result charge
-    (record { value = x'; meter = Some m'; limiter = l' }) → Takes m charge m'
+    (record { value = x'; meter = Some m'; limiter = l' }) → TakesCharge m charge m'
 grows_takes {V = V} {S = S} rules g x m l result charge x' m' l' (inl none) =
     takes_nothing m m' charge none.uncharged (same_Some m' m (ap (λ (s : MeteredValue V S). s.meter) none.same))
 grows_takes rules g x m l result charge x' m' l' (inr some) =
@@ -99,7 +99,7 @@ grows_takes rules g x m l result charge x' m' l' (inr some) =
 table_grows_takes : {S : Type 0} (rules : Rules S) (n : ℕ) (init : TypedRawRef) (x : TableValue) (m : Meter) (l : S)
     (result : Result ℕ TableError) (charge : ℕ) (x' : TableValue) (m' : Meter) (l' : S)
     → GrowsTable rules n init (record { value = x; meter = Some m; limiter = l }) result charge
-    (record { value = x'; meter = Some m'; limiter = l' }) → Takes m charge m'
+    (record { value = x'; meter = Some m'; limiter = l' }) → TakesCharge m charge m'
 table_grows_takes {S} rules n init x m l result charge x' m' l' grows =
     on_test (same_type x.ty.element init.ty) _ _ grows
     (λ h. grows_takes rules (record { amount = n; size = size_of x; request = table.growth_of x n init.raw }) x m l
@@ -112,14 +112,14 @@ module _ (w : TableWrite) (x : TableValue) (m : Meter) (result : Result (Unit {0
   ends_paid : (typed : Bool) (written : Option (List ℕ)) (payable : Bool)
       → covers (Some m) (write_due w x (Some m)) ≡ payable
       → EndsBy w x (Some m) typed written payable (record { result = result; charge = charge; value = x' })
-      → IsCharged m charge
+      → charge ≤ amount_left m
   ends_paid false written payable enough ends = paid_free m charge ends.1
   ends_paid true None payable enough ends = paid_free m charge ends.1
   ends_paid true (Some elements) false enough ends = paid_free m charge ends.1
   ends_paid true (Some elements) true enough ends = paid_due m _ charge enough ends.1
 
   -- so it takes its charge
-  pub write_takes : (m' : Meter) → WritesTable w x (Some m) result charge x' (Some m') → Takes m charge m'
+  pub write_takes : (m' : Meter) → WritesTable w x (Some m) result charge x' (Some m') → TakesCharge m charge m'
   write_takes m' writes = takes_paid m m' charge (ends_paid w.typed w.written _ refl writes.ends) writes.meter
 
 -- a value, the meter that is charged for it, and the limiter that is asked
@@ -157,8 +157,8 @@ after t = metered_value t.last.value (Some t.last.meter) t.last.limiter
 acts_takes : {X R S : Type 0} (Acts : MeteredValue X S → R → ℕ → MeteredValue X S → Type 0) (k : ℕ)
     (reply_to : R → Reply) (t : Growing (List (Slot X)) S) (reply : Reply)
     → ((x : X) (result : R) (x' : X) → Acts (with_value (before t) x) result t.charge (with_value (after t) x')
-    → Takes t.first.meter t.charge t.last.meter)
-    → ActsAt k reply_to Acts (before t) reply t.charge (after t) → Takes t.first.meter t.charge t.last.meter
+    → TakesCharge t.first.meter t.charge t.last.meter)
+    → ActsAt k reply_to Acts (before t) reply t.charge (after t) → TakesCharge t.first.meter t.charge t.last.meter
 acts_takes {X = X} {S = S} Acts k reply_to t reply takes acts =
     on_live (live_at t.first.value k) _ _ acts
     (λ missing. takes_nothing t.first.meter t.last.meter t.charge missing.1
@@ -169,7 +169,7 @@ acts_takes {X = X} {S = S} Acts k reply_to t reply takes acts =
 memory_growth_takes : {S : Type 0} (rules : Rules S) (k pages : ℕ) (t : Growing (List (Slot MemoryValue)) S)
     (reply : Reply)
     → ActsAt k (reply_of replied.Number replied.Memory) (GrowsMemory rules pages) (before t) reply t.charge (after t)
-    → Takes t.first.meter t.charge t.last.meter
+    → TakesCharge t.first.meter t.charge t.last.meter
 memory_growth_takes rules k pages t reply acts =
     acts_takes (GrowsMemory rules pages) k (reply_of replied.Number replied.Memory) t reply
     (λ x result x'. grows_takes rules
@@ -182,7 +182,7 @@ memory_growth_takes rules k pages t reply acts =
 table_growth_takes : {S : Type 0} (rules : Rules S) (k n : ℕ) (init : TypedRawRef)
     (t : Growing (List (Slot TableValue)) S) (reply : Reply)
     → ActsAt k (reply_of replied.Number replied.Table) (GrowsTable rules n init) (before t) reply t.charge (after t)
-    → Takes t.first.meter t.charge t.last.meter
+    → TakesCharge t.first.meter t.charge t.last.meter
 table_growth_takes rules k n init t reply acts =
     acts_takes (GrowsTable rules n init) k (reply_of replied.Number replied.Table) t reply
     (λ x result x'. table_grows_takes rules n init x t.first.meter t.first.limiter result t.charge x' t.last.meter
@@ -191,7 +191,7 @@ table_growth_takes rules k n init t reply acts =
 -- a write over a part of the table of an index
 table_write_takes : (k : ℕ) (write : TableValue → TableWrite) (slots : List (Slot TableValue)) (m : Meter)
     (reply : Reply) (charge : ℕ) (slots' : List (Slot TableValue)) (m' : Meter)
-    → WritesTableAt k write (metered slots m) reply charge (metered slots' m') → Takes m charge m'
+    → WritesTableAt k write (metered slots m) reply charge (metered slots' m') → TakesCharge m charge m'
 table_write_takes k write slots m reply charge slots' m' writes =
     acts_takes {X = TableValue} {S = Unit {0}}
     (λ s result charge s'. WritesTable (write s.value) s.value s.meter result charge s'.value s'.meter) k
@@ -206,73 +206,75 @@ table_write_takes k write slots m reply charge slots' m' writes =
 -- so where the write may be missing
 part_takes : (k : ℕ) (part : Option (TableValue → TableWrite)) (slots : List (Slot TableValue)) (m : Meter)
     (reply : Reply) (charge : ℕ) (slots' : List (Slot TableValue)) (m' : Meter)
-    → WritesRangeAt k part (metered slots m) reply charge (metered slots' m') → Takes m charge m'
+    → WritesRangeAt k part (metered slots m) reply charge (metered slots' m') → TakesCharge m charge m'
 part_takes k part slots m reply charge slots' m' writes =
     on_live part _ _ writes
     (λ missing. takes_nothing m m' charge missing.1
     (same_Some m' m (ap (λ (s : Metered). s.meter) missing.2)))
     (λ write found h. table_write_takes k write slots m reply charge slots' m' h)
 
-module _ {S : Type 0} (account : Account) (w : World S) (turn : Turn) (w' : World S) where
-  -- the account after this turn, where it doesn't set the fuel
-  abbrev Goes : Type 0
-  Goes = Balances (record { granted = account.granted; charged = account.charged + turn.charge }) w'.state.meter
+-- what an effect with a charge makes of the meter
+abbrev ChangesMeterBy : Effect → Meter → ℕ → Meter → Type 0
+ChangesMeterBy (FuelSet fuel) m charge m' = m' ≡ meter_set m fuel
+ChangesMeterBy effect m charge m' = TakesCharge m charge m'
 
-  module _ (balances : Balances account w.state.meter) where
-    -- the turn ends in this world
-    module _ {v : World S} (is : w' ≡ v) where
-      -- where the meter pays the charge of the turn, the account balances after it
-      charged : Takes w.state.meter turn.charge v.state.meter → Goes
-      charged takes =
-          let t =
-          takes balances.0 balances.1 in (
-            t.0,
-            ap (λ (u : World S). u.state.meter.left) is ∙ t.1,
-            omega
-                (arith, t.2, balances.2),
-          )
+-- so by the call
+changed_meter : (s : State) (call : Call) (m : Meter) (charge : ℕ) (m' : Meter)
+    → ChangesMeterBy (effect_of s call) m charge m' → ChangesMeter call m charge m'
+changed_meter s (SetFuel fuel) m charge m' changes = changes
+changed_meter s call m charge m' changes = changes
 
-      -- so without a charge
-      uncharged : turn.charge ≡ 0 → v.state.meter ≡ w.state.meter → Goes
-      uncharged free same = charged (takes_nothing w.state.meter v.state.meter turn.charge free same)
+module _ {S : Type 0} (w : World S) (turn : Turn) (w' : World S) where
+  -- the turn ends in a world whose meter has paid
+  paid_in : {v : World S} → w' ≡ v → TakesCharge w.state.meter turn.charge v.state.meter
+      → TakesCharge w.state.meter turn.charge w'.state.meter
+  paid_in is takes = subst (λ (x : World S). TakesCharge w.state.meter turn.charge x.state.meter) (sym is) takes
 
--- the account after an effect
-abbrev charged_by_effect : Account → Effect → ℕ → Account
-charged_by_effect account (FuelSet fuel) charge = opened fuel
-charged_by_effect account effect charge = record { granted = account.granted; charged = account.charged + charge }
+  -- so without a charge
+  free_in : {v : World S} → w' ≡ v → turn.charge ≡ 0 → v.state.meter ≡ w.state.meter
+      → TakesCharge w.state.meter turn.charge w'.state.meter
+  free_in {v} is free same = paid_in is (takes_nothing w.state.meter v.state.meter turn.charge free same)
 
--- it is the account after the call
-same_account : (account : Account) (s : State) (call : Call) (charge : ℕ)
-    → charged_by_effect account (effect_of s call) charge ≡ charged_by account call charge
-same_account account s (SetFuel fuel) charge = refl
-same_account account s call charge = refl
-
-module _ {S : Type 0} (rules : Rules S) (account : Account) (w : World S) (turn : Turn) (w' : World S) where
+module _ {S : Type 0} (rules : Rules S) (w : World S) (turn : Turn) (w' : World S) where
   -- each effect
-  effect_balances : (effect : Effect) → TakesEffect rules effect w turn w' → Balances account w.state.meter
-      → Balances (charged_by_effect account effect turn.charge) w'.state.meter
-  effect_balances (FuelSet fuel) step balances = (
-    fuel,
-    ap (λ (v : World S). v.state.meter.left) step.after
-        ∙ (ap (λ (s : State). s.meter.left) step.effect.1 ∙ ap (option_map (λ n. fuel)) balances.1),
-    omega arith,
-  )
-  effect_balances (Changed change) step balances =
-      uncharged account w turn w' balances step.after step.free.0
+  effect_meter : (effect : Effect) → TakesEffect rules effect w turn w'
+      → ChangesMeterBy effect w.state.meter turn.charge w'.state.meter
+  effect_meter (FuelSet fuel) step =
+      ap (λ (v : World S). v.state.meter) step.after ∙ ap (λ (s : State). s.meter) step.effect.1
+  effect_meter (Changed change) step =
+      free_in w turn w' step.after step.free.0
       ((change_facts w.state change).meter turn.reply step.machine step.effect)
-  effect_balances (MemoryGrown k pages) step balances =
-      charged account w turn w' balances step.after
+  effect_meter (MemoryGrown k pages) step =
+      paid_in w turn w' step.after
       (memory_growth_takes rules k pages
       (growing w w.state.memories turn.charge step.part step.meter step.limiter) turn.reply step.effect)
-  effect_balances (TableGrown k n init) step balances =
-      charged account w turn w' balances step.after
+  effect_meter (TableGrown k n init) step =
+      paid_in w turn w' step.after
       (table_growth_takes rules k n init
       (growing w w.state.tables turn.charge step.part step.meter step.limiter) turn.reply step.effect)
-  effect_balances (RangeWritten k source dst len) step balances =
-      charged account w turn w' balances step.after
+  effect_meter (RangeWritten k source dst len) step =
+      paid_in w turn w' step.after
       (part_takes k (write_of source dst len) w.state.tables w.state.meter turn.reply turn.charge step.part step.meter
       step.effect)
-  effect_balances effect step balances = uncharged account w turn w' balances step.after step.free.0 refl
+  effect_meter effect step = free_in w turn w' step.after step.free.0 refl
+
+  -- so each step
+  pub step_meter : Step rules w turn w' → ChangesMeter turn.call w.state.meter turn.charge w'.state.meter
+  step_meter step =
+      changed_meter w.state turn.call w.state.meter turn.charge w'.state.meter
+      (effect_meter (effect_of w.state turn.call) step)
+
+-- an account that balances does so after a call that changes the meter
+call_balances : (account : Account) (call : Call) (m : Meter) (charge : ℕ) (m' : Meter)
+    → ChangesMeter call m charge m' → Balances account m → Balances (charged_by account call charge) m'
+call_balances account (SetFuel fuel) m charge m' changes balances = (
+  fuel,
+  ap (λ (m : Meter). m.left) changes ∙ ap (option_map (λ n. fuel)) balances.1,
+  omega arith,
+)
+call_balances account call m charge m' changes balances =
+    let rest = rest_left m m' charge changes balances.0 balances.1 in
+    (rest.0, rest.1, omega (arith, rest.2, balances.2))
 
 module _ {S : Type 0} (rules : Rules S) where
   -- a run
@@ -281,9 +283,9 @@ module _ {S : Type 0} (rules : Rules S) where
       → Balances (account_after account turns) w'.state.meter
   run_balances account w b [] w' ran = rw ran b
   run_balances account w b (turn ∷ turns) w' (v, step, ran) =
-      let balances = effect_balances rules account w turn v (effect_of w.state turn.call) step b in
       run_balances (charged_by account turn.call turn.charge) v
-      (rw (same_account account w.state turn.call turn.charge) at balances) turns w' ran
+      (call_balances account turn.call w.state.meter turn.charge v.state.meter (step_meter rules w turn v step) b)
+      turns w' ran
 
   -- so from the start
   pub fuel_balances : (w : World S) (left : ℕ) → w.state.meter.left ≡ Some left → (turns : List Turn) (w' : World S)

@@ -126,7 +126,9 @@ module _ {L : Type 0} (rules : Rules L) (holdings : L → Holdings) (keeps : Kee
       rw ran (l, refl, held)
   totals_are_held s l held (turn ∷ turns) w' (v, step, ran) =
       let passed = growths_are_permitted (optional_rules rules) (record { state = s; limiter = Some l }) turn v step in
-      let next = exchange_holds s v.state l v.limiter (place_of turn.call) passed.0 held passed.1 passed.2 in
+      let next =
+      exchange_holds s v.state l v.limiter (place_of turn.call) passed.exchange held passed.passes passed.grows
+      in
       totals_are_held v.state next.0 next.2 turns w' (rw next.1 at ran)
 
   -- so from a run that is reserving

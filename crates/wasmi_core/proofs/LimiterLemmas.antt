@@ -34,6 +34,8 @@ module _ {L : Type 0} (rules : Rules L) (Kept : L → Type 0)
   run_keeps w l is kept [] w' ran = rw ran (l, is, kept)
   run_keeps w l is kept (turn ∷ turns) w' (v, step, ran) =
       let passed = growths_are_permitted (optional_rules rules) w turn v step in
-      let passes = subst (λ limiter. Passes (optional_rules rules) limiter passed.0 v.limiter) is passed.1 in
-      let next = exchange_keeps l v.limiter passed.0 kept passes in
+      let passes =
+      subst (λ limiter. Passes (optional_rules rules) limiter passed.exchange v.limiter) is passed.passes
+      in
+      let next = exchange_keeps l v.limiter passed.exchange kept passes in
       run_keeps v next.0 next.1 next.2 turns w' ran

@@ -1,44 +1,35 @@
 -- What a refused turn leaves.
-use Rattle.std.proofs.Common.{Bool, List, None, Option, Result, Some, [], ap, false, inl, inr, map, refl, subst, sym, true, ℕ, ◌∙◌, ◌∷◌, ◌≡◌, ◌⊎◌}
+use Rattle.std.proofs.Common.{List, None, Option, Some, [], ap, inl, inr, map, refl, subst, sym, ℕ, ◌∙◌, ◌∷◌, ◌≡◌}
 use Rattle.std.proofs.lemmas.List.Elements.{All-head, All-tail}
 use Rattle.std.proofs.lemmas.Option.{same_Some}
-use Rattle.std.specs.Prelude.{All, MatchBool, if◌then◌else◌, is_none, is_some, ◌&&◌}
+use Rattle.std.specs.Prelude.{All, if◌then◌else◌, is_some}
 use Rattle.wasmi_core.proofs.MemoryEffectsLemmas.{lent_back, lent_spare, memory_growth_back}
-use Rattle.wasmi_core.proofs.EffectLemmas.{creates_back, on_live}
+use Rattle.wasmi_core.proofs.EffectLemmas.{creates_back}
+use Rattle.wasmi_core.proofs.ExchangeLemmas.{IsWantOrFree, growths_are_permitted, want_or_none}
 use Rattle.wasmi_core.proofs.StepsLemmas.{change_facts}
 use Rattle.wasmi_core.proofs.TableEffectsLemmas.{part_back, table_growth_back}
-use Rattle.wasmi_core.specs.Determinism.{IsNoWant}
 use Rattle.wasmi_core.proofs.TurnLemmas.{each_turn}
-use Rattle.wasmi_core.specs.Laws.{IsRefusal, IsToldOfWant, Keeps, KeepsMeter, KeepsSpare, RefusalsInRunsKeepContents, SameContents}
+use Rattle.wasmi_core.specs.Account.{ChangesMeter, TakesCharge}
+use Rattle.wasmi_core.specs.Exchange.{AsksFor, At, Denial, Exchange, Exchanges, New, Nothing, Notice, Nowhere, Passes, Permission, Place, RepliesTo, charge_at, elements_paid, failed_charge, failed_reply, growth_charge, growth_due, place_of, question_of, writing_charge}
+use Rattle.wasmi_core.specs.Laws.{Keeps, KeepsMeter, KeepsSpare, RefusalsInRunsKeepContents, SameContents}
 use Rattle.wasmi_core.specs.MemoryEffects.{spare_after}
-use Rattle.wasmi_core.specs.Effects.{ActsAt, reply_of}
 use Rattle.wasmi_core.specs.Runs.{Run}
-use Rattle.wasmi_core.specs.State.{State, live_at, memory_part, with_memories, with_tables}
+use Rattle.wasmi_core.specs.State.{State, memory_part, with_memories, with_tables}
 use Rattle.wasmi_core.specs.Steps.{Changed, Effect, FuelSet, LentMemoryMade, MemoryGrown, MemoryMade, RangeWritten, Step, TableGrown, TableMade, TakesEffect, effect_of}
-use Rattle.wasmi_core.specs.TableEffects.{Metered, WritesRangeAt, WritesTableAt, metered, write_of}
-use Rattle.wasmi_core.specs.World.{Turn, World}
+use Rattle.wasmi_core.specs.TableEffects.{metered, write_of}
+use Rattle.wasmi_core.specs.World.{IsRefusal, Turn, World}
 use Rattle.wasmi_core.specs.declared.calls.Call.{Call}
-use Rattle.wasmi_core.specs.declared.calls.Call.TheVariants.{NewLentMemory}
+use Rattle.wasmi_core.specs.declared.calls.Call.TheVariants.{NewLentMemory, SetFuel}
 use Rattle.wasmi_core.specs.declared.calls.Reply.{Reply}
-use Rattle.wasmi_core.specs.declared.slots.Slot.{Slot}
 use Rattle.wasmi_meter.proofs.AttemptLemmas.{meter_after_nothing}
-use Rattle.wasmi_meter.specs.Attempt.{Denied, Request, Failed, AttemptOutcome, Follows, IsFirstCause, MayEnd, Met, MeteredValue, Unasked, optional_due, answer_of, covers, outcome_charge}
-use Rattle.wasmi_meter.specs.Limiter.{NoticeAnswer, MemoryFailure, Rules, TableFailure, kind_of}
+use Rattle.wasmi_meter.specs.Limiter.{Failure, NoticeAnswer, Question, Rules}
 use Rattle.wasmi_meter.specs.Meter.{Meter, meter_after, meter_set}
-use Rattle.wasmi_meter.specs.declared.error.MemoryError.{MemoryError}
-use Rattle.wasmi_meter.specs.declared.error.TableError.{TableError}
 use Rattle.wasmi_meter.specs.declared.fuel.CustomFuelCosts.{CustomFuelCosts}
 use Rattle.wasmi_meter.specs.declared.fuel.FuelError.TheVariants.{FuelMeteringDisabled}
-use Rattle.wasmi_store.proofs.GrowthLemmas.{on_test}
-use Rattle.wasmi_store.specs.Buffer.{LacksMemory, Lent, Owned, Room}
-use Rattle.wasmi_store.specs.Growth.{Grows, Growth}
-use Rattle.wasmi_store.specs.Memory.{GrowsMemory, MakesMemory, MemoryValue, pages_of}
-use Rattle.wasmi_store.specs.Table.{EndsBy, GrowsTable, MakesTable, TableValue, TableWrite, size_of}
-use Rattle.wasmi_store.specs.TableType.{same_type}
-use Rattle.wasmi_typed.specs.declared.typed_ref.TypedRawRef.{TypedRawRef}
-use Rattle.wasmi_store.specs.Memory as memory
+use Rattle.wasmi_store.specs.Buffer.{Owned}
+use Rattle.wasmi_store.specs.Memory.{MakesMemory}
+use Rattle.wasmi_store.specs.Table.{MakesTable}
 use Rattle.wasmi_core.specs.declared.calls.Reply.TheVariants as replied
-use Rattle.wasmi_store.specs.Table as table
 
 -- the spare region stays, unless the effect makes a memory in it
 abbrev LeavesSpare : Effect → Reply → State → State → Type 0
@@ -121,10 +112,9 @@ module _ {S : Type 0} (rules : Rules S) (w : World S) (turn : Turn) (w' : World 
   effect_back effect step = kept w w' step.after refl
 
 -- a meter of which nothing was taken
-free_meter : (m m' : Meter) (charge : ℕ) → charge ≡ 0 → Some m' ≡ Some (meter_after m charge) → m' ≡ m
-free_meter m m' charge free taken =
-    same_Some m' (meter_after m charge) taken ∙ ap (meter_after m) free
-    ∙ sym (same_Some m (meter_after m 0) (meter_after_nothing (Some m)))
+free_meter : (m m' : Meter) (charge : ℕ) → charge ≡ 0 → TakesCharge m charge m' → m' ≡ m
+free_meter m m' charge free takes =
+    takes.1 ∙ ap (meter_after m) free ∙ sym (same_Some m (meter_after m 0) (meter_after_nothing (Some m)))
 
 -- a meter that is off isn't set
 unset : (left : Option ℕ) (costs : CustomFuelCosts) (fuel : ℕ) (reply : Reply) → IsRefusal reply
@@ -134,168 +124,93 @@ unset : (left : Option ℕ) (costs : CustomFuelCosts) (fuel : ℕ) (reply : Repl
 unset None costs fuel reply refused is = refl
 unset (Some n) costs fuel reply refused is = absurd (rw is at refused)
 
--- an request of which a limiter is told by its kind, and whose last cause is want of memory
-record TellsOfWant {V E : Type 0} (e : Request V E) : Type 0 where
-  tells : (cause : E) → kind_of (e.notice cause) ≡ e.question.kind
-  wants : (cause : E) → e.refuses cause → IsNoWant (e.notice cause) → ⊥
+-- what a refused write over a table is charged
+refused_writing : (m : Meter) (elements : Option ℕ) (reply : Reply) → IsRefusal reply
+    → writing_charge m elements reply ≡ 0
+refused_writing m elements replied.Done refused = absurd refused
+refused_writing m elements reply refused = refl
 
--- what a charge has taken of a meter, between two limiters
-record Taken {S : Type 0} (m m' : Meter) (l l' : S) (charge : ℕ) : Type 0 where
-  taken : Some m' ≡ Some (meter_after m charge)
-
--- the meter is as it was, unless the limiter was told of want of memory
-abbrev StaysOrTold : {S : Type 0} → Rules S → Meter → Meter → S → S → Type 0
-StaysOrTold rules m m' l l' = (m' ≡ m) ⊎ IsToldOfWant rules l l'
-
--- the meter after a refused growth, whose last cause is want of memory
-module _ {V E S : Type 0} (rules : Rules S) (e : Request V E) (told : TellsOfWant e) {m m' : Meter} {l l' : S}
-    {charge : ℕ} (after : Taken m m' l l' charge) where
-  -- it stays where nothing was charged
-  stayed : charge ≡ 0 → StaysOrTold rules m m' l l'
-  stayed free = inl (free_meter m m' charge free after.taken)
-
-  -- it failed after the permission
-  failed_meter : (cause : E) (notice_answer : NoticeAnswer) (late : Option E) (payable : Bool) (amount : ℕ)
-      → (late ≡ None → payable ≡ true → e.refuses cause) → charge ≡ (if is_none late && payable then amount else 0)
-      → Follows e rules l (Failed cause notice_answer) l' → StaysOrTold rules m m' l l'
-  failed_meter cause notice_answer (Some c) payable amount refuses charged follows = stayed charged
-  failed_meter cause notice_answer None false amount refuses charged follows = stayed charged
-  failed_meter cause notice_answer None true amount refuses charged follows =
-      inr (
-        e.question,
-        e.notice cause,
-        notice_answer,
-        told.wants cause (refuses refl refl),
-        (told.tells cause, follows.0, follows.1, follows.2),
-      )
-
-  -- by its outcome
-  outcome_meter : (refusal : E → Reply) (size : ℕ) (outcome : AttemptOutcome E)
-      → IsRefusal (reply_of replied.Number refusal (answer_of e size outcome)) → MayEnd e (Some m) outcome
-      → charge ≡ outcome_charge e (Some m) outcome → Follows e rules l outcome l' → StaysOrTold rules m m' l l'
-  outcome_meter refusal size (Unasked cause) refused may charged follows = stayed charged
-  outcome_meter refusal size (Denied answer) refused may charged follows = stayed charged
-  outcome_meter refusal size Met refused may charged follows = absurd refused
-  outcome_meter refusal size (Failed cause notice_answer) refused may charged follows =
-      let due = optional_due (Some m) e.price in
-      let refuses : e.late ≡ None → covers (Some m) due ≡ true → e.refuses cause =
-      λ late payable. subst (λ b. MatchBool b (e.refuses cause) (cause ≡ e.unpaid due)) payable
-      (subst (λ o. IsFirstCause e (Some m) o cause) late may.1)
-      in
-      failed_meter cause notice_answer e.late (covers (Some m) due) due refuses charged follows
-
--- the meter after a refused growth
-grows_meter : {V E S : Type 0} (rules : Rules S) (g : Growth V E) (refusal : E → Reply) → TellsOfWant g.request
-    → (x x' : V) (m m' : Meter) {l l' : S} (charge : ℕ) (result : Result ℕ E)
-    → IsRefusal (reply_of replied.Number refusal result)
-    → Grows rules g (record { value = x; meter = Some m; limiter = l }) result charge
-    (record { value = x'; meter = Some m'; limiter = l' }) → StaysOrTold rules m m' l l'
-grows_meter {V} {S = S} rules g refusal told x x' m m' charge result refused (inl none) =
-    inl (same_Some m' m (ap (λ (s : MeteredValue V S). s.meter) none.same))
-grows_meter rules g refusal told x x' m m' {l} {l'} charge result refused (inr some) =
-    let after : Taken m m' l l' charge = record { taken = some.attempt.meter } in
-    outcome_meter rules g.request told after refusal g.size some.outcome
-    (rw some.answered at refused) some.attempt.may_end
-    some.attempt.charged some.attempt.follows
-
--- what memory refuses is want of it
-lacks_memory : (room : Room) (cause : MemoryError) → LacksMemory room cause → IsNoWant (MemoryFailure cause) → ⊥
-lacks_memory Owned cause lacks nowant = subst (λ c. IsNoWant (MemoryFailure c)) lacks nowant
-lacks_memory (Lent rest) cause lacks nowant = lacks
-
--- the meter after a refused write over a table
-ends_free : (w : TableWrite) (x : TableValue) (m : Option Meter) (charge : ℕ) (x' : TableValue) (typed : Bool)
-    (written : Option (List ℕ)) (payable : Bool) (result : Result (Unit {0}) TableError)
-    → IsRefusal (reply_of (λ _. replied.Done) replied.Table result)
-    → EndsBy w x m typed written payable (record { result = result; charge = charge; value = x' }) → charge ≡ 0
-ends_free w x m charge x' false written payable result refused ends = ends.1
-ends_free w x m charge x' true None payable result refused ends = ends.1
-ends_free w x m charge x' true (Some elements) false result refused ends = ends.1
-ends_free w x m charge x' true (Some elements) true result refused ends = absurd (rw ends.0 at refused)
-
-module _ (k : ℕ) (slots : List (Slot TableValue)) (m : Meter) (reply : Reply) (refused : IsRefusal reply) (charge : ℕ)
-    (slots' : List (Slot TableValue)) (m' : Meter) where
-  -- a refused write over a part of a table leaves the meter
-  write_meter : (write : TableValue → TableWrite)
-      → WritesTableAt k write (metered slots m) reply charge (metered slots' m') → m' ≡ m
-  write_meter write writes =
-      on_live (live_at slots k) _ _ writes
-      (λ missing. same_Some m' m (ap (λ (s : Metered). s.meter) missing.2))
-      (λ x found h. free_meter m m' charge (ends_free (write x) x (Some m) charge h.1 (write x).typed
-      (write x).written _ h.0 (rw h.3 at refused) h.2.ends) h.2.meter)
-
-  -- so where the write may be missing
-  part_meter : (part : Option (TableValue → TableWrite))
-      → WritesRangeAt k part (metered slots m) reply charge (metered slots' m') → m' ≡ m
-  part_meter part writes =
-      on_live part _ _ writes (λ missing. same_Some m' m (ap (λ (s : Metered). s.meter) missing.2))
-      (λ write found h. write_meter write h)
+-- a growth that was permitted failed
+record IsFailed {S : Type 0} (rules : Rules S) (w : World S) (turn : Turn) (w' : World S) : Type 0 where
+  at : (k : ℕ) × (place_of turn.call ≡ At k)
+  question : Question
+  asks : question_of w.state turn.call ≡ Some question
+  failure : Failure
+  notice_answer : NoticeAnswer
+  tells : Passes rules w.limiter (Notice question failure notice_answer) w'.limiter
+  replies : turn.reply ≡ failed_reply failure notice_answer
+  charged : turn.charge ≡ failed_charge failure (growth_due w.state.meter question)
 
 module _ {S : Type 0} (rules : Rules S) (w : World S) (turn : Turn) (w' : World S)
     (refused : IsRefusal turn.reply) where
-  -- a turn that doesn't reach the meter, and one that has
-  stays : {v : World S} → w' ≡ v → v.state.meter ≡ w.state.meter → KeepsMeter rules w w'
-  stays is same = inl (ap (λ (x : World S). x.state.meter) is ∙ same)
+  -- the meter stays, where nothing was charged
+  stays : TakesCharge w.state.meter turn.charge w'.state.meter → turn.charge ≡ 0 → KeepsMeter rules w turn w'
+  stays takes free = inl (free_meter w.state.meter w'.state.meter turn.charge free takes)
 
-  -- one that ends with this meter and limiter
-  ends_with : (s : State) (m : Meter) (l : S) → w' ≡ record { state = record s { meter = m }; limiter = l }
-      → (m ≡ w.state.meter) ⊎ IsToldOfWant rules w.limiter l → KeepsMeter rules w w'
-  ends_with s m l is kept = subst (KeepsMeter rules w) (sym is) kept
+  -- where memory was wanting, its price is taken
+  failed_meter : (failed : IsFailed rules w turn w') → TakesCharge w.state.meter turn.charge w'.state.meter
+      → IsWantOrFree failed.failure → KeepsMeter rules w turn w'
+  failed_meter failed takes (inl (wants, paid)) = inr (record {
+    index = failed.at.0;
+    grows = failed.at.1;
+    question = failed.question;
+    asks = failed.asks;
+    failure = failed.failure;
+    notice_answer = failed.notice_answer;
+    wants = wants;
+    tells = failed.tells;
+    replies = failed.replies;
+    meter = subst (λ c. TakesCharge w.state.meter c w'.state.meter)
+        (failed.charged ∙ paid (growth_due w.state.meter failed.question)) takes;
+  })
+  failed_meter failed takes (inr free) =
+      stays takes (failed.charged ∙ free (growth_due w.state.meter failed.question))
 
-  -- a refused growth of a memory
-  memory_meter : (k pages : ℕ) (slots' : List (Slot MemoryValue)) (m' : Meter) (l' : S)
-      → ActsAt k (reply_of replied.Number replied.Memory) (GrowsMemory rules pages)
-      (record { value = w.state.memories; meter = Some w.state.meter; limiter = w.limiter }) turn.reply turn.charge
-      (record { value = slots'; meter = Some m'; limiter = l' })
-      → (m' ≡ w.state.meter) ⊎ IsToldOfWant rules w.limiter l'
-  memory_meter k pages slots' m' l' acts =
-      on_live (live_at w.state.memories k) _ _ acts
-      (λ missing. inl
-      (same_Some m' w.state.meter (ap (λ (s : MeteredValue (List (Slot MemoryValue)) S). s.meter) missing.2)))
-      (λ x found a. grows_meter rules
-      (record { amount = pages; size = pages_of x; request = memory.growth_of x pages })
-      replied.Memory (record { tells = λ cause. refl; wants = lacks_memory x.room }) x a.1 w.state.meter m'
-      turn.charge a.0 (rw a.3 at refused) a.2)
+  -- by its exchange
+  growth_meter : (k : ℕ) × (place_of turn.call ≡ At k) → (exchange : Exchange)
+      → AsksFor (question_of w.state turn.call) exchange turn.reply → Passes rules w.limiter exchange w'.limiter
+      → RepliesTo exchange turn.reply → turn.charge ≡ growth_charge exchange w.state.meter
+      → TakesCharge w.state.meter turn.charge w'.state.meter → KeepsMeter rules w turn w'
+  growth_meter at Nothing asks passes replies charged takes = stays takes charged
+  growth_meter at (Denial question answer) asks passes replies charged takes = stays takes charged
+  growth_meter at (Permission question) asks passes replies charged takes = absurd (replies refused)
+  growth_meter at (Notice question failure notice_answer) asks passes replies charged takes =
+      failed_meter (record {
+        at = at;
+        question = question;
+        asks = asks;
+        failure = failure;
+        notice_answer = notice_answer;
+        tells = passes;
+        replies = replies;
+        charged = charged;
+      }) takes (want_or_none failure)
 
-  -- a refused growth of a table
-  table_meter : (k n : ℕ) (init : TypedRawRef) (slots' : List (Slot TableValue)) (m' : Meter) (l' : S)
-      → ActsAt k (reply_of replied.Number replied.Table) (GrowsTable rules n init)
-      (record { value = w.state.tables; meter = Some w.state.meter; limiter = w.limiter }) turn.reply turn.charge
-      (record { value = slots'; meter = Some m'; limiter = l' })
-      → (m' ≡ w.state.meter) ⊎ IsToldOfWant rules w.limiter l'
-  table_meter k n init slots' m' l' acts =
-      on_live (live_at w.state.tables k) _ _ acts
-      (λ missing. inl
-      (same_Some m' w.state.meter (ap (λ (s : MeteredValue (List (Slot TableValue)) S). s.meter) missing.2)))
-      (λ x found a. on_test (same_type x.ty.element init.ty) _ _ a.2
-      (λ g. grows_meter rules (record { amount = n; size = size_of x; request = table.growth_of x n init.raw })
-      replied.Table
-      (record {
-        tells = λ cause. refl;
-        wants = λ cause lacks nowant. subst (λ c. IsNoWant (TableFailure c)) lacks
-            nowant;
-      })
-      x a.1 w.state.meter m' turn.charge a.0 (rw a.3 at refused) g)
-      (λ g. inl (same_Some m' w.state.meter (ap (λ (s : MeteredValue TableValue S). s.meter) g.2))))
+  module _ (x : Exchanges rules w turn w') (takes : TakesCharge w.state.meter turn.charge w'.state.meter) where
+    -- by its place
+    place_meter : (place : Place) → place_of turn.call ≡ place
+        → turn.charge ≡ charge_at place x.exchange w.state.meter (writing_charge w.state.meter
+        (elements_paid turn.call) turn.reply)
+        → KeepsMeter rules w turn w'
+    place_meter Nowhere at charged =
+        stays takes (charged ∙ refused_writing w.state.meter (elements_paid turn.call) turn.reply refused)
+    place_meter New at charged = stays takes charged
+    place_meter (At k) at charged = growth_meter (k, at) x.exchange x.asks x.passes x.replies charged takes
 
-  -- each effect
-  effect_meter : (effect : Effect) → TakesEffect rules effect w turn w' → KeepsMeter rules w w'
-  effect_meter (FuelSet fuel) step =
-      stays step.after (ap (λ (s : State). s.meter) step.effect.1 ∙ unset w.state.meter.left w.state.meter.costs fuel
-      turn.reply refused step.effect.0)
-  effect_meter (Changed change) step =
-      stays step.after ((change_facts w.state change).meter turn.reply step.machine step.effect)
-  effect_meter (MemoryGrown k pages) step =
-      ends_with (with_memories w.state step.part) step.meter step.limiter step.after
-      (memory_meter k pages step.part step.meter step.limiter step.effect)
-  effect_meter (TableGrown k n init) step =
-      ends_with (with_tables w.state step.part) step.meter step.limiter step.after
-      (table_meter k n init step.part step.meter step.limiter step.effect)
-  effect_meter (RangeWritten k source dst len) step =
-      ends_with (with_tables w.state step.part) step.meter w.limiter step.after
-      (inl (part_meter k w.state.tables w.state.meter turn.reply refused turn.charge step.part step.meter
-      (write_of source dst len) step.effect))
-  effect_meter effect step = stays step.after refl
+  -- where the fuel was to be set, metering is off
+  set_meter : (fuel : ℕ) → turn.call ≡ SetFuel fuel → Step rules w turn w' → w'.state.meter ≡ w.state.meter
+  set_meter fuel is step =
+      let sets : TakesEffect rules (FuelSet fuel) w turn w' =
+      subst (λ call. TakesEffect rules (effect_of w.state call) w turn w') is step
+      in
+      ap (λ (v : World S). v.state.meter) sets.after ∙ (ap (λ (s : State). s.meter) sets.effect.1
+      ∙ unset w.state.meter.left w.state.meter.costs fuel turn.reply refused sets.effect.0)
+
+  -- each call
+  call_meter : Exchanges rules w turn w' → Step rules w turn w' → (call : Call) → turn.call ≡ call
+      → ChangesMeter call w.state.meter turn.charge w'.state.meter → KeepsMeter rules w turn w'
+  call_meter x step (SetFuel fuel) is changes = inl (set_meter fuel is step)
+  call_meter x step call is changes = place_meter x changes (place_of turn.call) refl x.charged
 
 -- each step
 pub refusals_keep_contents : {S : Type 0} (rules : Rules S) (w : World S) (turn : Turn) (w' : World S)
@@ -303,11 +218,11 @@ pub refusals_keep_contents : {S : Type 0} (rules : Rules S) (w : World S) (turn 
 refusals_keep_contents rules w turn w' step refused =
     let effect = effect_of w.state turn.call in
     let back = effect_back rules w turn w' refused effect step in
+    let exchanged = growths_are_permitted rules w turn w' step in
     record {
       contents = back.0;
       spare = spare_kept w.state w'.state turn.call turn.reply back.1;
-      meter = effect_meter
-          rules w turn w' refused effect step;
+      meter = call_meter rules w turn w' refused exchanged step turn.call refl exchanged.meter;
     }
 
 -- so each turn of a run

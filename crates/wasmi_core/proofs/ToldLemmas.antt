@@ -72,7 +72,7 @@ module _ {S : Type 0} (rules : Rules S) (IsAccepting : S → Type 0) (stays : St
       → IsAccepting w'.limiter
   step_stays w turn w' within step =
       let exchanged = growths_are_permitted rules w turn w' step in
-      exchange_stays exchanged.0 w.limiter w'.limiter exchanged.1 within
+      exchange_stays exchanged.exchange w.limiter w'.limiter exchanged.passes within
 
   -- a run whose replies have memory is one under these rules
   pub told_run : (w : World S) (turns : List Turn) (w' : World S) → IsAccepting w.limiter

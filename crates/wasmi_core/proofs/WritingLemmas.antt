@@ -7,11 +7,12 @@ use Rattle.std.proofs.lemmas.List.Sums.{sum_by-cons}
 use Rattle.std.proofs.lemmas.Option.{same_Some}
 use Rattle.std.specs.Option.{option_map, option_map_or}
 use Rattle.std.specs.Prelude.{cond, if◌then◌else◌, is_some, nat_eq, nat_le, nat_lt, ◌&&◌}
-use Rattle.wasmi_core.proofs.AccountLemmas.{Growing, Takes, after, before, growing, grows_takes, charged_value, write_takes}
+use Rattle.wasmi_core.proofs.AccountLemmas.{Growing, after, before, growing, grows_takes, charged_value, rest_left, write_takes}
 use Rattle.wasmi_core.proofs.EffectLemmas.{both_live, on_live}
 use Rattle.wasmi_core.proofs.StepsLemmas.{change_facts, source_writes}
 use Rattle.wasmi_core.proofs.TableEffectsLemmas.{IsWrite}
 use Rattle.wasmi_core.specs.MemoryEffects.{bytes_appended}
+use Rattle.wasmi_core.specs.Account.{TakesCharge}
 use Rattle.wasmi_core.specs.Effects.{ActsAt, OnLive, reply_of}
 use Rattle.wasmi_core.specs.Runs.{Run}
 use Rattle.wasmi_core.specs.State.{State, live_at}
@@ -75,21 +76,21 @@ sets fuel m m' charge written none same = record {
 }
 
 -- a refusal: something may be charged, and nothing is written
-refuses : (m m' : Meter) (charge : ℕ) → m'.costs ≡ m.costs → Takes m charge m' → Wrote m charge 0 false 0 m'
+refuses : (m m' : Meter) (charge : ℕ) → m'.costs ≡ m.costs → TakesCharge m charge m' → Wrote m charge 0 false 0 m'
 refuses m m' charge same takes = record {
   costs = same;
   paid = λ left on rated. omega arith;
-  spent = λ left on. let t = takes left on in (t.0, t.1, omega (arith, t.2));
+  spent = λ left on. let t = rest_left m m' charge takes left on in (t.0, t.1, omega (arith, t.2));
 }
 
 -- a charge that pays for the bytes
-pays : (m m' : Meter) (charge written : ℕ) → m'.costs ≡ m.costs → Takes m charge m'
+pays : (m m' : Meter) (charge written : ℕ) → m'.costs ≡ m.costs → TakesCharge m charge m'
     → ((left : ℕ) → m.left ≡ Some left → 0 < rate m → written ≤ rate m * charge + (rate m - 1))
     → Wrote m charge written true 0 m'
 pays m m' charge written same takes bound = record {
   costs = same;
   paid = bound;
-  spent = λ left on. let t = takes left on in (t.0, t.1, omega (arith, t.2));
+  spent = λ left on. let t = rest_left m m' charge takes left on in (t.0, t.1, omega (arith, t.2));
 }
 
 -- what so many bytes cost pays for them
@@ -125,7 +126,7 @@ module _ {V E S : Type 0} (rules : Rules S) (g : Growth V E) (t : Growing V S) w
   growth_costs result (inr some) = same_costs t.first.meter t.last.meter t.charge some.attempt.meter
 
   -- the charge is taken
-  growth_takes : (result : Result ℕ E) → Grown result → Takes t.first.meter t.charge t.last.meter
+  growth_takes : (result : Result ℕ E) → Grown result → TakesCharge t.first.meter t.charge t.last.meter
   growth_takes result grows =
       grows_takes rules g t.first.value t.first.meter t.first.limiter result t.charge t.last.value t.last.meter
       t.last.limiter grows

@@ -101,7 +101,8 @@ module _ {S : Type 0} (w : World S) (turn : Turn) (w' : World S) where
     pub wrote : turn.written ≡ bytes turn.reply
     pub after : w' ≡ record { state = record (with_part part) { meter = meter }; limiter = limiter }
 
-  -- the same where the limiter is not reached
+  -- a turn that acts on one part of the state, with a charge, and with the bytes that it has written by its reply, and
+  -- does not reach the limiter
   pub record ActsMeteredUnasked {A : Type 0} (old : A) (with_part : A → State)
       (Effect : MeteredValue A (Unit {0}) → Reply → ℕ → MeteredValue A (Unit {0}) → Type 0)
       (bytes : Reply → ℕ) : Type 0 where

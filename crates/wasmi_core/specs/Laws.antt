@@ -12,13 +12,13 @@ use Rattle.wasmi_store.specs.Memory.{MemoryValue, pages_of, growth_of, GrowsMemo
 use Rattle.wasmi_core.specs.declared.calls.Call.{Call}
 use Rattle.wasmi_core.specs.declared.calls.Call.TheVariants.{NewMemory, NewLentMemory}
 use Rattle.wasmi_core.specs.declared.calls.Reply.{Reply}
-use Rattle.wasmi_core.specs.declared.calls.Reply.TheVariants.{Done, Made, Value, Number, Bytes, Reference, Memory, Table, Fuel, Global, Segment, Trap, NoSuch, NoRegion, NoRoom}
 use Rattle.wasmi_core.specs.State.{State}
 use Rattle.wasmi_core.specs.World.{World, Turn, world}
+pub use Rattle.wasmi_core.specs.World.{IsRefusal}
 use Rattle.wasmi_core.specs.Steps.{Step}
 use Rattle.wasmi_core.specs.Runs.{Sequence, Run, IsRunOf}
-use Rattle.wasmi_core.specs.Account.{opened, account_after, Balances, SetsNoFuel}
-use Rattle.wasmi_core.specs.Exchange.{Notice, Passes, Exchanges}
+use Rattle.wasmi_core.specs.Account.{opened, account_after, Balances, TakesCharge, SetsNoFuel}
+use Rattle.wasmi_core.specs.Exchange.{Notice, Passes, At, place_of, question_of, failed_reply, growth_due, Exchanges}
 use Rattle.wasmi_core.specs.MemoryEffects.{spare_after}
 use Rattle.wasmi_core.specs.Determinism.{IsDeterministic, AcceptsNotices, IsNoWant, with_memory, HasMemory, HaveMemory}
 use Rattle.wasmi_core.specs.LentMemory.{owned_world, unlent_world, RunInRegions}
@@ -26,24 +26,6 @@ use Rattle.wasmi_core.specs.Writing.{IsBounded, IsSpent}
 use Rattle.wasmi_core.specs.Permission.{permitting, TellsNoDenial}
 use Rattle.wasmi_core.specs.Validity.{IsValid, IsValidCall}
 use Rattle.wasmi_core.specs.Totals.{HoldsTotals}
-
--- a reply that tells why nothing was done
-abbrev pub IsRefusal : Reply → Type 0
-IsRefusal Done = ⊥
-IsRefusal (Made index) = ⊥
-IsRefusal (Value value) = ⊥
-IsRefusal (Number number) = ⊥
-IsRefusal (Bytes bytes) = ⊥
-IsRefusal (Reference element) = ⊥
-IsRefusal (Memory error) = Unit {0}
-IsRefusal (Table error) = Unit {0}
-IsRefusal (Fuel error) = Unit {0}
-IsRefusal (Global error) = Unit {0}
-IsRefusal (Segment error) = Unit {0}
-IsRefusal (Trap code) = Unit {0}
-IsRefusal NoSuch = Unit {0}
-IsRefusal NoRegion = Unit {0}
-IsRefusal NoRoom = Unit {0}
 
 -- all but the meter and the spare region is the same
 pub record SameContents (s s' : State) : Type 0 where
@@ -58,45 +40,55 @@ abbrev pub KeepsSpare : Call → Reply → State → State → Type 0
 KeepsSpare (NewLentMemory ty) reply s s' = s'.spare ≡ spare_after reply s.spare
 KeepsSpare call reply s s' = s'.spare ≡ s.spare
 
--- a limiter was told of want of memory after it had permitted
-abbrev pub IsToldOfWant : {S : Type 0} → Rules S → S → S → Type 0
-IsToldOfWant rules l l' =
-    (question : Question) × (failure : Failure) × (notice_answer : NoticeAnswer) × (IsNoWant failure → ⊥)
-    × Passes rules l (Notice question failure notice_answer) l'
+-- a growth fails after its charge: it was permitted and charged, and then memory was wanting, of which the limiter was
+-- told; the meter has its price less
+pub record FailsAfterCharge {S : Type 0} (rules : Rules S) (w : World S) (turn : Turn) (w' : World S) : Type 0 where
+  pub index : ℕ
+  pub grows : place_of turn.call ≡ At index
+  pub question : Question
+  pub asks : question_of w.state turn.call ≡ Some question
+  pub failure : Failure
+  pub notice_answer : NoticeAnswer
+  pub wants : IsNoWant failure → ⊥
+  pub tells : Passes rules w.limiter (Notice question failure notice_answer) w'.limiter
+  pub replies : turn.reply ≡ failed_reply failure notice_answer
+  pub meter : TakesCharge w.state.meter (growth_due w.state.meter question) w'.state.meter
 
--- the meter stays, unless memory was wanting after the charge
-abbrev pub KeepsMeter : {S : Type 0} → Rules S → World S → World S → Type 0
-KeepsMeter rules w w' = (w'.state.meter ≡ w.state.meter) ⊎ IsToldOfWant rules w.limiter w'.limiter
+-- the meter stays, unless a growth fails after its charge
+abbrev pub KeepsMeter : {S : Type 0} → Rules S → World S → Turn → World S → Type 0
+KeepsMeter rules w turn w' = (w'.state.meter ≡ w.state.meter) ⊎ FailsAfterCharge rules w turn w'
 
 -- what a refused turn keeps
 pub record Keeps {S : Type 0} (rules : Rules S) (w : World S) (turn : Turn) (w' : World S) : Type 0 where
   pub contents : SameContents w.state w'.state
   pub spare : KeepsSpare turn.call turn.reply w.state w'.state
-  pub meter : KeepsMeter rules w w'
+  pub meter : KeepsMeter rules w turn w'
 
 module _ {S : Type 0} (rules : Rules S) where
-  -- in each turn that is refused the contents stay, the meter where memory isn't wanting, and the spare region where no
-  -- memory was to be made in it
+  -- in each turn that is refused the contents stay; the meter, unless it is a growth that fails after its charge; and
+  -- the spare region, unless a memory was to be made in it
   abbrev pub RefusalsKeepContents : Type 0
   RefusalsKeepContents =
       (w : World S) (turn : Turn) (w' : World S) → Step rules w turn w' → IsRefusal turn.reply → Keeps rules w turn w'
 
-  -- so in each turn of a run that is refused, and a run in which each turn is refused keeps the contents
+  -- in a run each turn that is refused keeps what a refused turn keeps (`Keeps`)
   abbrev pub RefusalsInRunsKeepContents : Type 0
   RefusalsInRunsKeepContents = (w : World S) (turns : List Turn) (w' : World S) → Run rules w turns w'
       → Sequence (λ v turn v'. Step rules v turn v' × (IsRefusal turn.reply → Keeps rules v turn v')) w turns w'
 
+  -- a run in which each turn is refused keeps the contents
   abbrev pub RefusedRunsKeepContents : Type 0
   RefusedRunsKeepContents =
       (w : World S) (turns : List Turn) (w' : World S) → Run rules w turns w' → All IsRefusal (map Turn.reply turns)
       → SameContents w.state w'.state
 
-  -- in each turn a permission is followed by exactly the growth that was asked for, or by just one notice, and a denial
-  -- by neither; a growth is charged only after a permission, and at most once
+  -- in each turn the limiter is asked what the call asks, or nothing where it asks nothing; a permission is followed by
+  -- exactly the growth that was asked for, or by just one notice, and a denial by neither; a growth is charged only
+  -- after a permission, and then its price; what is charged is taken of the meter
   abbrev pub GrowsAsPermitted : Type 0
   GrowsAsPermitted = (w : World S) (turn : Turn) (w' : World S) → Step rules w turn w' → Exchanges rules w turn w'
 
-  -- so in each turn of a run
+  -- in a run each turn asks, grows and is charged as a step does (`Exchanges`)
   abbrev pub RunsGrowAsPermitted : Type 0
   RunsGrowAsPermitted =
       (w : World S) (turns : List Turn) (w' : World S) → Run rules w turns w'
@@ -143,7 +135,7 @@ module _ {S : Type 0} (rules : Rules S) where
   RunsJoin = (u : World S) (turns : List Turn) (v : World S) (turns' : List Turn) (w : World S) → Run rules u turns v
       → Run rules v turns' w → Run rules u (turns ++ turns') w
 
-  -- so are their calls, with their replies
+  -- a run of calls, and a run of calls from where it ends, are a run of all these calls, with the replies in turn
   abbrev pub RunsOfCallsJoin : Type 0
   RunsOfCallsJoin =
       (calls calls' : List Call) (u v w : World S) (replies replies' : List Reply) → IsRunOf rules calls u replies v

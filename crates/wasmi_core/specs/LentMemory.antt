@@ -13,22 +13,24 @@ use Rattle.wasmi_core.specs.World.{World, Turn}
 use Rattle.wasmi_core.specs.Effects.{OnLive}
 use Rattle.wasmi_core.specs.Steps.{Step}
 
--- the same memory with memory of its own to grow into
+-- a memory that grows into memory of its own, instead of a lent region
 abbrev pub owned_memory : MemoryValue → MemoryValue
 owned_memory x = record x { room = Owned }
 
+-- a slot whose memory, if one is live, grows into memory of its own
 abbrev pub owned_slot : Slot MemoryValue → Slot MemoryValue
 owned_slot (Live x) = Live (owned_memory x)
 owned_slot (Gone last) = Gone last
 
--- the same machine with such memories
+-- a machine whose memories all grow into memory of their own
 abbrev pub owned : State → State
 owned s = record s { memories = map owned_slot s.memories }
 
+-- a world whose memories all grow into memory of their own
 abbrev pub owned_world : {S : Type 0} → World S → World S
 owned_world w = record w { state = owned w.state }
 
--- and without its spare region
+-- a world whose memories all grow into memory of their own, without a spare region
 abbrev pub unlent_world : {S : Type 0} → World S → World S
 unlent_world w = record w { state = record (owned w.state) { spare = None } }
 

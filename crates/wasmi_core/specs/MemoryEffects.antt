@@ -40,11 +40,12 @@ abbrev pub ReadsBytes : Option (List ℕ) → Reply → Type 0
 ReadsBytes None reply = reply ≡ Memory OutOfBoundsAccess
 ReadsBytes (Some bytes) reply = (reply ≡ NoRoom) ⊎ (reply ≡ Bytes bytes)
 
+-- the reply to a read of so many bytes from an offset on, by the memory of an index
 abbrev pub ReadsMemoryAt : ℕ → ℕ → ℕ → List (Slot MemoryValue) → Reply → Type 0
 ReadsMemoryAt k offset len slots reply =
     OnLive (live_at slots k) (reply ≡ NoSuch) (λ x. ReadsBytes (at x.bytes offset len) reply)
 
--- a write
+-- the memory of an index is written over with bytes from an offset on, or the write is refused
 abbrev pub WritesMemoryAt : ℕ → ℕ → List ℕ → List (Slot MemoryValue) → Reply → List (Slot MemoryValue) → Type 0
 WritesMemoryAt k offset bytes slots reply slots' = ChangesAt k slots reply slots'
     (λ x x'. (result : Result (Unit {0}) MemoryError) × WritesMemory x offset bytes result x'
@@ -54,7 +55,7 @@ WritesMemoryAt k offset bytes slots reply slots' = ChangesAt k slots reply slots
 abbrev pub load_reply : LoadOp → ℕ → Option MemoryValue → Reply
 load_reply op a memory = option_map_or (λ x. reply_of Value Trap (loaded_raw op x.bytes a)) memory NoSuch
 
--- a load
+-- the reply to a load at an address of the memory of an index
 abbrev pub LoadsMemoryAt : LoadOp → ℕ → ℕ → List (Slot MemoryValue) → Reply → Type 0
 LoadsMemoryAt op k a slots reply = reply ≡ load_reply op a (live_at slots k)
 
@@ -62,6 +63,7 @@ LoadsMemoryAt op k a slots reply = reply ≡ load_reply op a (live_at slots k)
 abbrev pub StoresMemory : MemoryValue → ℕ → List ℕ → Result (Unit {0}) TrapCode → MemoryValue → Type 0
 StoresMemory x a stored result x' = IsStore x.bytes a stored x'.bytes result × (x'.ty ≡ x.ty) × (x'.room ≡ x.room)
 
+-- the memory of an index has the stored bytes at the address, or the store traps
 abbrev pub StoresMemoryAt : ℕ → ℕ → List ℕ → List (Slot MemoryValue) → Reply → List (Slot MemoryValue) → Type 0
 StoresMemoryAt k a stored slots reply slots' = ChangesAt k slots reply slots'
     (λ x x'. (result : Result (Unit {0}) TrapCode) × StoresMemory x a stored result x'

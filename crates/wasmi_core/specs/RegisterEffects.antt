@@ -27,6 +27,7 @@ TakesAt (Some (Ok value)) (Some old) dst registers reply registers' =
     (reply ≡ Done) × (registers' ≡ slice_set registers dst value)
 TakesAt (Some (Err trap)) (Some old) dst registers reply registers' = (reply ≡ Trap trap) × (registers' ≡ registers)
 
+-- the register of an index takes what a call gives, if there is such a register
 abbrev pub TakesRegister : ℕ → Option (Result RawVal TrapCode) → List RawVal → Reply → List RawVal → Type 0
 TakesRegister dst given registers reply registers' =
     TakesAt given (slice_get registers dst) dst registers reply registers'
@@ -35,20 +36,23 @@ TakesRegister dst given registers reply registers' =
 abbrev pub given_vector : ℕ → Result RawVal TrapCode
 given_vector v = Ok (raw_of_vector v)
 
--- what a row of one, two or three vectors gives, if all of them are there
+-- what a function of one vector gives a register, if the vector is there
 abbrev pub of_one : (ℕ → ℕ) → Option ℕ → Option (Result RawVal TrapCode)
 of_one row a = option_map (λ x. given_vector (row x)) a
 
+-- what a function of two vectors gives a register, if both are there
 abbrev pub of_two : (ℕ → ℕ → ℕ) → Option ℕ → Option ℕ → Option (Result RawVal TrapCode)
 of_two row a b = option_and_then (λ x. of_one (row x) b) a
 
+-- what a function of three vectors gives a register, if all three are there
 abbrev pub of_three : (ℕ → ℕ → ℕ → ℕ) → Option ℕ → Option ℕ → Option ℕ → Option (Result RawVal TrapCode)
 of_three row a b c = option_and_then (λ x. of_two (row x) b c) a
 
--- what a load from a memory gives, if the memory is there
+-- what a load of a vector from a memory gives a register, if the memory is there
 abbrev pub vector_loaded : VectorLoadOp → ℕ → Option MemoryValue → Option (Result RawVal TrapCode)
 vector_loaded op a memory = option_map (λ x. as_raw raw_of_vector (loaded_vector op x.bytes a)) memory
 
+-- what a load of one lane of a vector from a memory gives a register, if the vector and the memory are there
 abbrev pub lane_loaded : LoadLaneOp → ℕ → Option ℕ → Option MemoryValue → Option (Result RawVal TrapCode)
 lane_loaded op a vector memory =
     option_and_then (λ v. option_map (λ x. as_raw raw_of_vector (loaded_lane op v x.bytes a)) memory) vector

@@ -55,7 +55,7 @@ new_state meter =
 abbrev pub with_spare : State → List ℕ → State
 with_spare s region = record s { spare = Some region }
 
--- the state with other memories, tables, element segments, globals or registers
+-- the state with other memories
 abbrev pub with_memories : State → List (Slot MemoryValue) → State
 with_memories s memories = record s { memories = memories }
 
@@ -64,20 +64,26 @@ pub record MemoryPart : Type 0 where
   pub slots : List (Slot MemoryValue)
   pub spare : Option (List ℕ)
 
+-- the memories of a state, and its spare region
 abbrev pub memory_part : State → MemoryPart
 memory_part s = record { slots = s.memories; spare = s.spare }
 
+-- the state with other memories and another spare region
 abbrev pub with_memory_part : State → MemoryPart → State
 with_memory_part s part = record s { memories = part.slots; spare = part.spare }
 
+-- the state with other tables
 abbrev pub with_tables : State → List (Slot TableValue) → State
 with_tables s tables = record s { tables = tables }
 
+-- the state with other element segments
 abbrev pub with_segments : State → List SegmentValue → State
 with_segments s segments = record s { segments = segments }
 
+-- the state with other globals
 abbrev pub with_globals : State → List GlobalInstance → State
 with_globals s globals = record s { globals = globals }
 
+-- the state with other registers
 abbrev pub with_registers : State → List RawVal → State
 with_registers s registers = record s { registers = registers }

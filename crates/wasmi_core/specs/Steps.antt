@@ -47,6 +47,7 @@ pub data Subject : Type 0 where
   RegisterFile : Subject
   Vectors : Subject
 
+-- what each call is about: a line for each
 abbrev pub subject_of : Call → Subject
 subject_of (SetFuel fuel) = TheMeter
 subject_of GetFuel = TheMeter
@@ -224,7 +225,7 @@ Answers rules call w reply w' =
     (charge : ℕ) × (written : ℕ)
     × Step rules w (record { call = call; reply = reply; charge = charge; written = written }) w'
 
--- the same by a call that charges and writes nothing and doesn't reach the limiter, whatever the limiter is
+-- a call is answered by a reply without the limiter, whatever the limiter is, in a step that charges and writes nothing
 abbrev pub AnswersAlone : {S : Type 0} → Rules S → Call → State → Reply → State → Type 0
 AnswersAlone {S} rules call s reply s' =
     (limiter : S)

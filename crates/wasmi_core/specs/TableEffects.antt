@@ -19,10 +19,11 @@ use Rattle.wasmi_core.specs.Effects.{reply_of, OnLive, IsNoSuch, ChangesAt, Acts
 abbrev pub element_reply : ℕ → Option TableValue → Reply
 element_reply index table = option_map_or (λ x. Reference (element_at x index)) table NoSuch
 
+-- the reply to a call for an element of the table of an index
 abbrev pub GetsElementAt : ℕ → ℕ → List (Slot TableValue) → Reply → Type 0
 GetsElementAt k index slots reply = reply ≡ element_reply index (live_at slots k)
 
--- an element is set
+-- an element of the table of an index is set, or the call is refused
 abbrev pub SetsElementAt : ℕ → ℕ → TypedRawRef → List (Slot TableValue) → Reply → List (Slot TableValue) → Type 0
 SetsElementAt k index value slots reply slots' = ChangesAt k slots reply slots'
     (λ x x'. (result : Result (Unit {0}) TableError)
@@ -33,15 +34,17 @@ SetsElementAt k index value slots reply slots' = ChangesAt k slots reply slots'
 abbrev pub Metered : Type 0
 Metered = MeteredValue (List (Slot TableValue)) (Unit {0})
 
+-- tables and a meter, with no limiter to ask
 abbrev pub metered : List (Slot TableValue) → Meter → Metered
 metered slots m = record { value = slots; meter = Some m; limiter = tt }
 
--- a part of a table is written over, with its charge
+-- a part of the table of an index is written over, with its charge
 abbrev pub WritesTableAt : ℕ → (TableValue → TableWrite) → Metered → Reply → ℕ → Metered → Type 0
 WritesTableAt k write = ActsAt k (reply_of (λ _. Done) Table)
     (λ s result charge s'. WritesTable (write s.value) s.value s.meter result charge s'.value s'.meter)
 
--- the same with what a live value has, if there is one
+-- a part of the table of an index is written over with what a source has, with its charge; without a source the reply
+-- is `NoSuch`, and nothing has changed
 abbrev pub WritesTableFrom : {X : Type 0} → Option X → ℕ → (X → TableValue → TableWrite) → Metered → Reply → ℕ → Metered
     → Type 0
 WritesTableFrom source k write s reply charge s' =
@@ -57,13 +60,15 @@ CopiesSlot write source s reply charge s' =
     × WritesTable (write y x) x s.meter result charge x' s'.meter
     × (reply ≡ reply_of (λ _. Done) Table result) × (s'.value ≡ Live x')))
 
--- what is written over: a part that is filled, copied from a table, or initialized from an element segment
+-- the write of one reference over so many elements from a place on
 abbrev pub filling : ℕ → TypedRawRef → ℕ → TableValue → TableWrite
 filling dst value len x = typed_by x value.ty (filling_of x dst value.raw len)
 
+-- the write over so many elements from a place on, with those of a table from another place on
 abbrev pub copy_from : ℕ → ℕ → ℕ → TableValue → TableValue → TableWrite
 copy_from dst src len source x = typed_by x source.ty.element (copy_of x dst source.elements src len)
 
+-- the write over so many elements from a place on, with the items of an element segment from another place on
 abbrev pub initialization_from : ℕ → ℕ → ℕ → SegmentValue → TableValue → TableWrite
 initialization_from dst src len segment x = typed_by x segment.ty (initialization_of x dst segment.items src len)
 
@@ -74,7 +79,7 @@ pub data Source : Type 0 where
   OfTable : Option TableValue → ℕ → Source
   OfSegment : Option SegmentValue → ℕ → Source
 
--- what so many of them write over a table from a place on, if they are there
+-- the write over so many elements from a place on, with what a source has, if the source is there
 abbrev pub write_of : Source → ℕ → ℕ → Option (TableValue → TableWrite)
 write_of (OfReference value) dst len = Some (filling dst value len)
 write_of (OfTable source src) dst len = option_map (copy_from dst src len) source

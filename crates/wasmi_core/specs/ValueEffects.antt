@@ -24,7 +24,7 @@ CreatesSegment ty items segments reply segments' = ((reply ≡ NoRoom) × (segme
     ⊎ ((result : Result SegmentValue SegmentError) × IsSegmentOf ty items result
     × AddsEntry (λ x. x) Segment result segments reply segments')
 
--- its items are dropped
+-- the items of the element segment of an index are dropped
 abbrev pub DropsItemsAt : ℕ → List SegmentValue → Reply → List SegmentValue → Type 0
 DropsItemsAt k segments reply segments' =
     ChangesItem k segments reply segments' (λ x x'. (reply ≡ Done) × (x' ≡ dropped x))
@@ -34,7 +34,7 @@ abbrev pub CreatesGlobal : GlobalInstance → List GlobalInstance → Reply → 
 CreatesGlobal global globals reply globals' = ((reply ≡ NoRoom) × (globals' ≡ globals))
     ⊎ ((reply ≡ Made (length globals)) × (globals' ≡ globals ++ global ∷ []))
 
--- it is set
+-- the global of an index is set, or the call is refused
 abbrev pub SetsGlobalAt : ℕ → TypedRawVal → List GlobalInstance → Reply → List GlobalInstance → Type 0
 SetsGlobalAt k value globals reply globals' = ChangesItem k globals reply globals'
     (λ x x'. (result : Result (Unit {0}) GlobalError) × SetsGlobal x value result x'
@@ -44,5 +44,6 @@ SetsGlobalAt k value globals reply globals' = ChangesItem k globals reply global
 abbrev pub global_reply : Option GlobalInstance → Reply
 global_reply global = option_map_or (λ x. Value x.value) global NoSuch
 
+-- the reply to a call for the value of the global of an index
 abbrev pub GetsGlobalAt : ℕ → List GlobalInstance → Reply → Type 0
 GetsGlobalAt k globals reply = reply ≡ global_reply (slice_get globals k)

@@ -2,6 +2,7 @@
 use Rattle.std.specs.Prelude.{◌≡◌, ℕ}
 use Rattle.wasmi_core.specs.declared.calls.Call.{Call}
 use Rattle.wasmi_core.specs.declared.calls.Reply.{Reply}
+use Rattle.wasmi_core.specs.declared.calls.Reply.TheVariants.{Done, Made, Value, Number, Bytes, Reference, Memory, Table, Fuel, Global, Segment, Trap, NoSuch, NoRegion, NoRoom}
 use Rattle.wasmi_core.specs.State.{State}
 
 -- what a call can reach: the machine's state and the limiter
@@ -23,3 +24,21 @@ pub record Turn : Type 0 where
 -- a turn that is neither charged nor written by
 abbrev pub IsFree : Turn → Type 0
 IsFree turn = (turn.charge ≡ 0) × (turn.written ≡ 0)
+
+-- a reply that tells why nothing was done
+abbrev pub IsRefusal : Reply → Type 0
+IsRefusal Done = ⊥
+IsRefusal (Made index) = ⊥
+IsRefusal (Value value) = ⊥
+IsRefusal (Number number) = ⊥
+IsRefusal (Bytes bytes) = ⊥
+IsRefusal (Reference element) = ⊥
+IsRefusal (Memory error) = Unit {0}
+IsRefusal (Table error) = Unit {0}
+IsRefusal (Fuel error) = Unit {0}
+IsRefusal (Global error) = Unit {0}
+IsRefusal (Segment error) = Unit {0}
+IsRefusal (Trap code) = Unit {0}
+IsRefusal NoSuch = Unit {0}
+IsRefusal NoRegion = Unit {0}
+IsRefusal NoRoom = Unit {0}

@@ -8,30 +8,34 @@ use Rattle.wasmi_core.specs.World.{Turn}
 use Rattle.wasmi_core.specs.Steps.{is_charged}
 use Rattle.wasmi_core.specs.Account.{charges}
 
--- whether a call that is charged for what it writes was accepted
+-- whether a reply accepts a call that is charged for what it writes
 abbrev pub is_accepted : Reply → Bool
 is_accepted Done = true
 is_accepted (Number size) = true
 is_accepted reply = false
 
+-- whether a call with this reply is charged for what it writes, and was accepted
 abbrev pub has_written : Call → Reply → Bool
 has_written call reply = is_charged call && is_accepted reply
 
--- how many turns have written, what they were charged, and how many bytes they have written
+-- how many turns have written
 abbrev pub writing_turns : List Turn → ℕ
 writing_turns turns = count_by (λ turn. has_written turn.call turn.reply) turns
 
+-- what the turns that have written were charged
 abbrev pub charges_for_writing : List Turn → ℕ
 charges_for_writing turns = sum_by (λ turn. if has_written turn.call turn.reply then turn.charge else 0) turns
 
+-- how many bytes turns have written
 abbrev pub bytes_written : List Turn → ℕ
 bytes_written turns = sum_by (λ turn. turn.written) turns
 
--- the sum of all amounts to which the fuel was set
+-- the amount to which a call sets the fuel, or 0
 abbrev pub amount_set : Call → ℕ
 amount_set (SetFuel fuel) = fuel
 amount_set call = 0
 
+-- the sum of all amounts to which turns have set the fuel
 abbrev pub amounts_set : List Turn → ℕ
 amounts_set turns = sum_by (λ turn. amount_set turn.call) turns
 

@@ -1,5 +1,5 @@
 //! What a machine can be asked, and what it replies.
-ghost use Rattle.std.specs.Prelude.{◌≡◌};
+ghost use Rattle.std.specs.Prelude.{◌≡◌, MatchBool};
 
 use std::fmt;
 use std::fmt::{Debug, Formatter, Write};
@@ -23,6 +23,8 @@ use wasmi_vector_ops::{
 ///
 /// Replies stand in the order of the tests: the first that applies is the reply. `Memory` and
 /// `Table` carry what the method of `Memory` or `Table` answers.
+///
+/// Own: upstream leaves running to the interpreter.
 #[derive(Drop)]
 pub enum Call {
     /// Sets the fuel that is left: `Done`, or `Fuel` where metering is off.
@@ -322,7 +324,16 @@ impl Call {
 }
 
 impl Call {
+    ghost use Rattle.wasmi_core.specs.Account.{SetsNoFuel};
     ghost use Rattle.wasmi_core.specs.Validity.{IsValidCall};
+
+    /// Whether it is `SetFuel`. A list without one can be billed: see
+    /// [`crate::laws::charges_are_spent`].
+    pub fn sets_fuel(&self) -> bool
+        ensures { MatchBool result (SetsNoFuel self.now → ⊥) (SetsNoFuel self.now) }
+    {
+        matches!(self, Call::SetFuel(_))
+    }
 
     /// Does nothing that shows: its contract tells that the type which a call names is valid.
     #[inline(always)]
@@ -342,6 +353,8 @@ impl Call {
 }
 
 /// The reply to one call.
+///
+/// Own: upstream leaves running to the interpreter.
 #[derive(Debug, Drop, PartialEq, Eq)]
 pub enum Reply {
     /// The call is done, and answers nothing else.

@@ -1,5 +1,7 @@
 //! What holds of all runs. These functions do nothing: each states a law as its contract, for any
 //! limiter, of which a run may also have none.
+//!
+//! Own: upstream states no laws.
 ghost use Rattle.wasmi_meter.specs.Limiter.{optional_rules, unlimited_rules};
 ghost use Rattle.wasmi_meter.specs.declared.limiter.NoLimits.{NoLimits};
 ghost use Rattle.wasmi_meter.specs.Quota.{quota_rules};
@@ -17,9 +19,13 @@ pub fn runs_join<L: ResourceLimiter>()
     ensures calls { RunsOfCallsJoin (optional_rules L.rules) }
 {}
 
-/// In each turn that is refused the contents stay; the meter, unless the limiter was told of want
-/// of memory, which comes after the charge; and the spare region, unless a memory was to be made in
-/// it and a slot was there for it.
+/// In each turn that is refused the contents stay; the meter, unless it is a growth that fails
+/// after its charge; and the spare region, unless a memory was to be made in it and a slot was
+/// there for it.
+///
+/// A growth fails after its charge where its question was permitted, its price was left and taken,
+/// and then memory was wanting. The limiter was told so, the reply tells it too, unless the limiter
+/// answers the notice by an error, and the meter has exactly that price less (`FailsAfterCharge`).
 ///
 /// So it is in each turn of a run, and a run in which each turn is refused keeps the contents.
 pub fn refusals_keep_contents<L: ResourceLimiter>()
@@ -28,9 +34,14 @@ pub fn refusals_keep_contents<L: ResourceLimiter>()
     ensures all_refused { RefusedRunsKeepContents (optional_rules L.rules) }
 {}
 
-/// In each turn a permission is followed by exactly the growth that was asked for, or by just one
-/// notice, and a denial by neither. A growth is charged only after a permission, at most once, and
-/// then what the growth that was asked for costs.
+/// In each turn the limiter is asked the question of the call (`question_of`) where it has one,
+/// unless there is no room for the slot of what it makes, and nothing else. A permission is
+/// followed by exactly the growth that was asked for, or by just one notice, which the reply tells,
+/// and a denial by neither.
+///
+/// A growth that stands is charged its price, one for which memory was wanting too, and no other
+/// growth and no creation anything; a call that lets nothing grow is charged for the elements that
+/// it writes over a part of a table, and else nothing. So much was left, and is taken of the meter.
 ///
 /// A machine that is lent no limiter has each question permitted. So it is in each turn of a run.
 pub fn growths_are_permitted<L: ResourceLimiter>()

@@ -21,9 +21,9 @@ pub use running::{run, run_lending, run_reserving};
 pub use wasmi_access::{access, laws as access_laws};
 pub use wasmi_lanes::{laws as lane_laws, on_vectors, words};
 pub use wasmi_meter::{
-    CustomFuelCosts, Fuel, FuelCosts, FuelCostsProvider, FuelError, Kind, Lender, LimiterByKind,
-    LimiterError, LimiterRef, MemoryError, NoLimits, Quota, Reserving, ResourceLimiter,
-    ResourceLimiterRef, TableError, ValueSize,
+    Amounts, CustomFuelCosts, Fuel, FuelCosts, FuelCostsProvider, FuelError, Holdings, Kind,
+    Lender, LimiterByKind, LimiterError, LimiterRef, MemoryError, NoLimits, Quota, Reserving,
+    ResourceLimiter, ResourceLimiterRef, TableError, ValueSize, growth,
 };
 pub use wasmi_raw::{
     F32, F64, Number, RawRef, RawVal, ReadAs, ReadBack, V128, WriteAs, laws as raw_laws,

@@ -1,5 +1,5 @@
 //! The machine.
-ghost use Rattle.std.specs.Prelude.{◌≡◌, ◌<◌, ◌↔◌, ℕ, Option, IsSome, Some, length, slice_get, IfSome};
+ghost use Rattle.std.specs.Prelude.{◌≡◌, ◌+◌, ◌-◌, ◌<◌, ◌↔◌, ℕ, Option, IsSome, Some, None, Result, Err, length, slice_get, IfSome, MatchResult};
 ghost use Rattle.std.specs.Option.{option_copied, option_copied_mut};
 
 use crate::registers::Registers;
@@ -8,7 +8,7 @@ use crate::store::Store;
 use crate::values::value_at;
 use std::alloc::Global as Allocator;
 use std::marker::Model;
-use wasmi_meter::Fuel;
+use wasmi_meter::{Fuel, FuelError};
 use wasmi_raw::RawVal;
 use wasmi_store::{ElementSegment, Memory, Table};
 use wasmi_typed::Global;
@@ -18,6 +18,8 @@ use wasmi_typed::Global;
 /// loan of that region.
 ///
 /// Its state is valid at any time: see [`crate::laws::states_are_valid`].
+///
+/// Own: upstream's interpreter has a store of its own.
 #[derive(Debug, Drop)]
 pub struct Machine<'r> {
     pub(crate) store: Store<'r>,
@@ -39,6 +41,7 @@ impl<'r> Machine<'r> {
     ghost use Rattle.wasmi_core.specs.Validity.{IsValid};
     ghost use Rattle.wasmi_core.specs.Totals.{total};
     ghost use Rattle.wasmi_meter.specs.declared.limiter.Kind.TheVariants.{Bytes, Elements};
+    ghost use Rattle.wasmi_meter.specs.Meter.{ConsumesFuel, amount_left, meter_after};
 
     /// A machine with this meter, on which nothing was made yet. It takes no memory.
     pub fn new(alloc: Allocator, fuel: Fuel) -> Machine<'r>
@@ -79,6 +82,30 @@ impl<'r> Machine<'r> {
         &self.store.fuel
     }
 
+    /// Takes an amount of fuel, and answers what is left. It is `FuelMeteringDisabled` where the
+    /// meter is off; `OutOfFuel` with the amount where less is left, and then nothing is taken.
+    ///
+    /// It isn't a call, so a run has no turn for it: an interpreter pays by it for the instructions
+    /// that it executes between calls.
+    ///
+    /// Own: upstream's interpreter has the meter itself.
+    pub fn consume_fuel(&mut self, amount: u64) -> Result<u64, FuelError>
+        ensures on { IsSome self.old.meter.left
+            → ConsumesFuel self.old.meter amount (amount_left self.old.meter - amount) result
+            self.new.meter }
+        ensures off { self.old.meter.left ≡ None
+            → (result ≡ Err FuelError.FuelMeteringDisabled) × (self.new ≡ self.old) }
+        ensures rest { self.new ≡ record self.old { meter = self.new.meter } }
+        ensures balance { MatchResult result
+            (λ left. (self.new.meter.left ≡ Some left)
+            × (self.old.meter.left ≡ Some (left + amount))
+            × (self.new ≡ record self.old { meter = meter_after self.old.meter amount }))
+            (λ error. self.new ≡ self.old) }
+    {
+        self.store.fuel.get_fuel()?;
+        self.store.fuel.consume_fuel_unchecked(amount)
+    }
+
     /// The memory of an index, if there is one that wasn't dropped.
     pub fn memory(&self, index: usize) -> Option<&Memory<'r>>
         ensures { option_copied result ≡ live_at self.now.memories index }
@@ -116,14 +143,16 @@ impl<'r> Machine<'r> {
         self.store.registers.get(register)
     }
 
-    /// The bytes of all memories, dropped ones at their last size.
+    /// The bytes of all memories, dropped ones at their last size. It walks all slots: its cost
+    /// grows with the number of memories that were ever made, also of those that were dropped.
     pub fn total_bytes(&self) -> u128
         ensures { result ≡ total self.now Bytes }
     {
         self.store.memories.total()
     }
 
-    /// The elements of all tables, dropped ones at their last size.
+    /// The elements of all tables, dropped ones at their last size. It walks all slots: its cost
+    /// grows with the number of tables that were ever made, also of those that were dropped.
     pub fn total_elements(&self) -> u128
         ensures { result ≡ total self.now Elements }
     {

@@ -34,6 +34,8 @@ impl<'r> Machine<'r> {
     }
 
     /// Answers one call, as `step`, under a limiter that is lent for this call alone.
+    ///
+    /// Own: upstream leaves running to the interpreter.
     #[inline(always)]
     pub fn step_lending<L: ResourceLimiter>(&mut self, call: &Call, limiter: &mut L) -> Reply
         ensures step { Answers (optional_rules L.rules) call.now
@@ -74,6 +76,8 @@ pub fn run<L: ResourceLimiter>(
 }
 
 /// Answers calls in turn, as `run`, under a limiter that is lent for this run alone.
+///
+/// Own: upstream leaves running to the interpreter.
 pub fn run_lending<L: ResourceLimiter>(
     machine: &mut Machine,
     calls: &[Call],
@@ -95,12 +99,14 @@ pub fn run_lending<L: ResourceLimiter>(
 
 /// Answers calls in turn, as `run`, under a limiter that holds exactly what the machine has: it
 /// does so again afterwards.
+///
+/// Own: upstream leaves running to the interpreter.
 pub fn run_reserving<L: Reserving>(
     machine: &mut Machine,
     calls: &[Call],
     limiter: &mut L,
 ) -> Result<Vec<Reply>, AllocError>
-    requires { HoldsTotals (L.Reserving.holdings limiter.old) machine.old }
+    requires totals { HoldsTotals (L.Reserving.holdings limiter.old) machine.old }
     ensures run { IfOk result (λ replies. IsRunOf (optional_rules L.rules) calls.now
         (world machine.old (Some limiter.old)) replies.items
         (world machine.new (Some limiter.new))) }

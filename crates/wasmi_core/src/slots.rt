@@ -52,7 +52,7 @@ impl<T> Slot<T> {
     ghost use Rattle.wasmi_core.specs.contracts.slots.Slot.{the_row};
 
     fn value_mut(&mut self) -> &mut T
-        requires { IsSome (live_value self.old) }
+        requires live { IsSome (live_value self.old) }
         ensures* writes_back { sem 𝓛 (Lends (the_row T.row) T.row self.entry result Live) }
         ensures value { live_value self.old ≡ Some result.now }
     {
@@ -117,7 +117,7 @@ impl<T> Slots<T> {
     }
 
     fn value_mut(&mut self, index: usize) -> &mut T
-        requires { IsSome (live_at self.old.slots.items index) }
+        requires live { IsSome (live_at self.old.slots.items index) }
         ensures* writes_back { sem 𝓛
             (Lends (the_row T.row) T.row self.entry result (with_live self.old index)) }
         ensures value { live_at self.old.slots.items index ≡ Some result.now }
@@ -137,7 +137,7 @@ impl<T> Slots<T> {
     pub(crate) fn push(&mut self, value: T) -> usize
     where
         T: Drop,
-        requires { length self.old.slots.items < vec_capacity self.old.slots }
+        requires room { length self.old.slots.items < vec_capacity self.old.slots }
         ensures index { result ≡ length self.old.slots.items }
         ensures slots { self.new.slots.items ≡ self.old.slots.items ++ Live value ∷ [] }
     {

@@ -122,7 +122,7 @@ impl<'r> Store<'r> {
         call: &Call,
         limiter: &mut ResourceLimiterRef<L>,
     ) -> Reply
-        requires { subject_of call.now ≡ Memories }
+        requires subject { subject_of call.now ≡ Memories }
         ensures loan { KeepsLoan limiter.old limiter.new }
         ensures step { Answers (optional_rules L.rules) call.now
             (world self.old (lent_limiter limiter.old)) result
@@ -168,7 +168,7 @@ impl<'r> Store<'r> {
         call: &Call,
         limiter: &mut ResourceLimiterRef<L>,
     ) -> Reply
-        requires { subject_of call.now ≡ Tables }
+        requires subject { subject_of call.now ≡ Tables }
         ensures loan { KeepsLoan limiter.old limiter.new }
         ensures step { Answers (optional_rules L.rules) call.now
             (world self.old (lent_limiter limiter.old)) result
@@ -228,8 +228,8 @@ impl<'r> Store<'r> {
     /// Answers one call on registers, which doesn't reach the limiter: only the contract names `L`.
     #[tactic(auto, using(crate::proofs::StoreLemmas::changes_part))]
     fn step_register<L: ResourceLimiter>(&mut self, call: &Call) -> Reply
-        requires { subject_of call.now ≡ RegisterFile }
-        ensures { AnswersAlone (optional_rules L.rules) call.now self.old result self.new }
+        requires subject { subject_of call.now ≡ RegisterFile }
+        ensures step { AnswersAlone (optional_rules L.rules) call.now self.old result self.new }
     {
         match call {
             Call::SetRegister { dst, value } => self.registers.set(*dst, *value),
@@ -250,8 +250,8 @@ impl<'r> Store<'r> {
     /// Answers one load or store of a vector, which doesn't reach the limiter: only the contract
     /// names `L`.
     fn step_vector_access<L: ResourceLimiter>(&mut self, call: &Call) -> Reply
-        requires { subject_of call.now ≡ Vectors }
-        ensures { AnswersAlone (optional_rules L.rules) call.now self.old result self.new }
+        requires subject { subject_of call.now ≡ Vectors }
+        ensures step { AnswersAlone (optional_rules L.rules) call.now self.old result self.new }
     {
         match call {
             Call::VectorLoad {

@@ -185,7 +185,7 @@ fn copy_to_other(
     requires dst { dst_index < length slots.old }
     requires src { src_index < length slots.old }
     requires other { dst_index ≢ src_index }
-    ensures { (charge : ℕ)
+    ensures copied { (charge : ℕ)
         × WritesTableFrom (live_at slots.old src_index) dst_index
         (copy_from range.dst range.src range.len)
         (metered slots.old fuel.old) result charge (metered slots.new fuel.new) }

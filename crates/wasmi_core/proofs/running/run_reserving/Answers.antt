@@ -6,5 +6,5 @@ returns-clause-held g c =
     run_holds g.L.ResourceLimiter.rules g.L.Reserving.holdings
     (record { reserves = g.met.L.Reserving.reserves; gives_back = g.met.L.Reserving.gives_back })
     (λ replies. replies.items) (record { state = c.args.machine.now; limiter = c.args.limiter.now })
-    (record { state = c.run_lending.new.machine; limiter = c.run_lending.new.limiter }) _ c.requires _
+    (record { state = c.run_lending.new.machine; limiter = c.run_lending.new.limiter }) _ c.requires.totals _
     c.run_lending.ensures.run c.run_lending.ensures.err

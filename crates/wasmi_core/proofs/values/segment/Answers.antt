@@ -7,7 +7,7 @@ use Rattle.wasmi_core.proofs.values.segment.Goals as goal
 
 pub returns : goal.returns
 returns c =
-    let read = c.new.ensures in
+    let read = c.new.ensures.reading in
     subst (λ items. IsSegmentOf c.args.ty items c.new.result)
     (ap (λ i. iter_rest (copied_source i)) read.made ∙ ap iter_rest c.copied.ensures.source ∙ c.iter.ensures.rest)
     (segment_read _ (λ s. iter_rest (copied_source s)) first_copied last_copied c.args.ty read.before read.after

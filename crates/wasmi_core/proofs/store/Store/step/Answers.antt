@@ -30,7 +30,7 @@ returns-in-GetGlobal-clause-step g c =
     (replies (rw c.deref-in-GetGlobal.ensures.value at c.get_global.ensures))
 
 pub returns-in-VectorLoad-clause-step : goal.returns-in-VectorLoad-clause-step
-returns-in-VectorLoad-clause-step g c = (0, 0, c.step_vector_access.ensures (lent_limiter c.args.limiter.now))
+returns-in-VectorLoad-clause-step g c = (0, 0, c.step_vector_access.ensures.step (lent_limiter c.args.limiter.now))
 
 pub returns-in_default-clause-step : goal.returns-in_default-clause-step
-returns-in_default-clause-step g c = (0, 0, c.step_register.ensures (lent_limiter c.args.limiter.now))
+returns-in_default-clause-step g c = (0, 0, c.step_register.ensures.step (lent_limiter c.args.limiter.now))

@@ -10,13 +10,14 @@ returns c =
     let counted : c.args.self.now.slots.len ≡ length c.copy_to_other.new.slots = omega
     (arith, c.copy_to_other.auto.slots, c.as_mut_slice.ensures.len) in
     let write = copy_from c.args.dst c.args.src c.args.len in
+    let charge = c.copy_to_other.ensures.copied.0 in
     let copied =
     subst (λ xs. WritesTableFrom (live_at xs c.args.src_index) c.args.dst_index write (metered xs c.args.fuel.now)
-    c.copy_to_other.result c.copy_to_other.ensures.0 (metered c.copy_to_other.new.slots c.copy_to_other.new.fuel))
-    c.as_mut_slice.ensures.value c.copy_to_other.ensures.1 in (
-      c.copy_to_other.ensures.0,
+    c.copy_to_other.result charge (metered c.copy_to_other.new.slots c.copy_to_other.new.fuel))
+    c.as_mut_slice.ensures.value c.copy_to_other.ensures.copied.1 in (
+      charge,
       subst (λ ys. WritesTableFrom (live_at c.args.self.now.slots.items c.args.src_index) c.args.dst_index write
-          (metered c.args.self.now.slots.items c.args.fuel.now) c.copy_to_other.result c.copy_to_other.ensures.0
+          (metered c.args.self.now.slots.items c.args.fuel.now) c.copy_to_other.result charge
           (metered ys c.copy_to_other.new.fuel))
           (sym (ap (λ n. take n (c.copy_to_other.new.slots ++ drop (length c.copy_to_other.new.slots)
           c.args.self.now.slots.items)) counted ∙ take-append_seam c.copy_to_other.new.slots _)) copied,
