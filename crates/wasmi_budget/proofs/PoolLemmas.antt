@@ -1,6 +1,6 @@
 -- What the machines of a pool have together, as one of them runs.
-use Rattle.std.proofs.Common.{◌≡◌, ℕ, ◌+◌, ◌-◌, ◌≤◌, ◌<◌, ◌^◌, Option, Some, None, Result, Ok, Err, IfOk, OnErr, length, get_or, subst, take, List, [], ◌∷◌, ◌++◌, refl, sym, ap, ◌∙◌, arith}
-use Rattle.std.proofs.lemmas.List.Sums.{sum_by-remove, sum_by_more_le, sum_by-set, sum_by_push}
+use Rattle.std.proofs.Common.{◌≡◌, ℕ, ◌+◌, ◌-◌, ◌≤◌, ◌<◌, ◌^◌, Option, Some, None, length, get_or, subst, List, [], ◌∷◌, ◌++◌, refl, sym, ap, ◌∙◌, arith}
+use Rattle.std.proofs.lemmas.List.Sums.{sum_by-remove, sum_by-set, sum_by_push}
 use Rattle.std.proofs.lemmas.Option.{none-some, same_Some, slice_get_within, get_or_from_slice_get}
 use Rattle.std.specs.Option.{option_map}
 use Rattle.std.specs.Prelude.{slice_get, slice_set, remove}
@@ -40,29 +40,15 @@ module _ (machines : List State) (index : ℕ) (s : State) (found : slice_get ma
       let own = ap (λ t. total t kind) (get_or_from_slice_get machines index s s found) in
       omega (arith, set, own, total_split)
 
--- what one machine has is a number of 64 bits
-pub total_fits : (pool : PoolValue) → IsKept pool → (index : ℕ) (s : State) → slice_get pool.machines index ≡ Some s
-    → (kind : Kind) → total s kind < 2 ^ 64
-total_fits pool kept index s found kind = let split = total_split pool.machines index s found kind in let within =
-    kept.within kind in let fits = kept.fits kind in omega (arith, split, within, fits)
-
--- so is what it has beside those before it
-pub total_so_far : (pool now : PoolValue) → pool ≡ now → IsKept pool → (index : ℕ) (s : State)
-    → slice_get pool.machines index ≡ Some s → (kind : Kind) (before own : ℕ)
-    → before ≡ total_of (take index now.machines) kind → own ≡ total s kind → before + own < 2 ^ 64
-total_so_far pool now same kept index s found kind before own so_far has =
-    let these = ap (λ (p : PoolValue). total_of (take index p.machines) kind) same in
-    let more = sum_by_more_le (λ t. total t kind) pool.machines index s
-    (slice_get_within pool.machines index s found) in
-    let read = ap (λ t. total t kind) (get_or_from_slice_get pool.machines index s s found) in
-    let within = kept.within kind in
-    let fits = kept.fits kind in
-    omega (arith, more, read, within, fits, these, so_far, has)
-
 -- the amount of a kind among amounts by kind
 amount_of-amounts_of : (amount : Kind → ℕ) (kind : Kind) → amount_of (amounts_of amount) kind ≡ amount kind
 amount_of-amounts_of amount Bytes = refl
 amount_of-amounts_of amount Elements = refl
+
+-- amounts by kind that are the same of each kind
+amounts_same : (amount amount' : Kind → ℕ) → ((kind : Kind) → amount kind ≡ amount' kind)
+    → amounts_of amount ≡ amounts_of amount'
+amounts_same amount amount' same = λ i. amounts_of (λ kind. same kind i)
 
 -- a tenant that holds what a machine has
 amount_held_total : (tenant : Tenant) (s : State) → HoldsTotals (holdings tenant) s → (kind : Kind)
@@ -144,16 +130,23 @@ module _ (pool : PoolValue) (within : IsWithinCaps pool) (index : ℕ) (s : Stat
         within = λ kind. rw (tenant_held_together pool index s found kind) (within kind);
       }
 
-  -- the pool is within its caps with the other machine, where the tenant that holds what it has stayed within them
-  replaced_within : StaysWithin (tenant_at pool index s) tenant' → HoldsTotals (holdings tenant') s'
-      → IsWithinCaps (record pool { machines = slice_set pool.machines index s' })
-  replaced_within stays held kind =
-      let own = amount_held_total tenant' s' held kind in
-      let all = total_replaced pool.machines index s found kind s' in
-      let bound = stays.within kind in
-      let others = stays.others kind ∙ amount_of-amounts_of (total_of (remove pool.machines index)) kind in
-      let caps = stays.caps kind in
-      omega (arith, own, all, bound, others, caps)
+  module _ (stays : StaysWithin (tenant_at pool index s) tenant') (held : HoldsTotals (holdings tenant') s') where
+    -- with the other machine, all have what the tenant that holds what it has holds together with the others
+    replaced_total : (kind : Kind)
+        → held_together capped_tenant tenant' kind ≡ total_of (slice_set pool.machines index s') kind
+    replaced_total kind =
+        let own = amount_held_total tenant' s' held kind in
+        let all = total_replaced pool.machines index s found kind s' in
+        let others = stays.others kind ∙ amount_of-amounts_of (total_of (remove pool.machines index)) kind in
+        omega (arith, own, all, others)
+
+    -- the pool is within its caps then, where the tenant stayed within them
+    replaced_within : IsWithinCaps (record pool { machines = slice_set pool.machines index s' })
+    replaced_within kind =
+        let all = replaced_total kind in
+        let bound = stays.within kind in
+        let caps = stays.caps kind in
+        omega (arith, all, bound, caps)
 
   -- a run under its limiter keeps the tenant within the caps
   ran_within : (turns : List Turn)
@@ -223,20 +216,35 @@ module _ (pool : PoolValue) (index : ℕ) (w : World Tenant) (given : IsGiven po
       after = refl;
     }
 
-    -- the pool stays within its caps, by the two outcomes
-    pub given_within : {R E : Type 0} (items : R → List Reply) (result : Result R E) → IsWithinCaps pool
-        → IfOk result (λ replies. IsRunOf (optional_rules tenant_rules) calls (lent w) (items replies) (lent w'))
-        → OnErr result ((w'.state ≡ w.state) × (w'.limiter ≡ w.limiter))
-        → HoldsTotals (holdings w'.limiter) w'.state
-        → IsWithinCaps (record pool { machines = slice_set pool.machines index w'.state })
-    given_within items (Ok replies) within ran same held =
-        let own = given_ran (items replies) ran in
-        replaced_within pool within index w.state given.found w'.state w'.limiter
-        (ran_within pool within index w.state given.found w'.state w'.limiter own.0 own.3) held
-    given_within items (Err error) within ran same held =
-        replaced_within pool within index w.state given.found w'.state w'.limiter
-        (subst (StaysWithin (tenant_at pool index w.state)) (sym (same.1 ∙ given.tenant))
-        (first_stays pool within index w.state given.found w'.state w'.limiter)) held
+    -- after it the tenant is within the caps
+    pub given_stays : IsWithinCaps pool
+        → (replies : List Reply) → IsRunOf (optional_rules tenant_rules) calls (lent w) replies (lent w')
+        → StaysWithin (tenant_at pool index w.state) w'.limiter
+    given_stays within replies ran =
+        let own = given_ran replies ran in
+        ran_within pool within index w.state given.found w'.state w'.limiter own.0 own.3
+
+  module _ (w' : World Tenant) (held : Amounts) (kept : IsKept pool held)
+      (stays : StaysWithin (tenant_at pool index w.state) w'.limiter) where
+    -- what all hold then are numbers of 64 bits
+    pub given_fits : (kind : Kind) → held_together capped_tenant w'.limiter kind < 2 ^ 64
+    given_fits kind =
+        let bound = stays.within kind in
+        let caps = stays.caps kind in
+        let fits = kept.fits kind in
+        omega (arith, bound, caps, fits)
+
+    -- the pool is kept with these amounts, where the tenant holds what its machine has
+    pub given_kept : HoldsTotals (holdings w'.limiter) w'.state
+        → (held' : Amounts) → held' ≡ amounts_of (held_together capped_tenant w'.limiter)
+        → IsKept (record pool { machines = slice_set pool.machines index w'.state }) held'
+    given_kept holds held' is = record {
+      within = replaced_within pool kept.within index w.state given.found w'.state w'.limiter stays holds;
+      fits = kept.fits;
+      counted = is
+          ∙ amounts_same (held_together capped_tenant w'.limiter) (total_of (slice_set pool.machines index w'.state))
+          (replaced_total pool kept.within index w.state given.found w'.state w'.limiter stays holds);
+    }
 
 -- a run keeps the pool within its caps
 pub runs_within : (pool : PoolValue) (index : ℕ) (calls : List Call) (replies : List Reply) (pool' : PoolValue)

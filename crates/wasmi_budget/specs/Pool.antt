@@ -10,8 +10,8 @@ use Rattle.wasmi_core.specs.declared.calls.Reply.{Reply}
 use Rattle.wasmi_core.specs.State.{State}
 use Rattle.wasmi_core.specs.Totals.{total}
 use Rattle.wasmi_core.specs.Runs.{IsRunOf}
-use Rattle.wasmi_budget.specs.declared.pool.AddError.{AddError}
-use Rattle.wasmi_budget.specs.declared.pool.AddError.TheVariants.{NotEmpty, NoRoom}
+use Rattle.wasmi_budget.specs.declared.error.AddError.{AddError}
+use Rattle.wasmi_budget.specs.declared.error.AddError.TheVariants.{NotEmpty, NoRoom}
 use Rattle.wasmi_budget.specs.declared.tenant.Tenant.{Tenant}
 use Rattle.wasmi_budget.specs.Tenant.{tenant_rules}
 
@@ -28,10 +28,11 @@ total_of machines kind = sum_by (λ s. total s kind) machines
 abbrev pub IsWithinCaps : PoolValue → Type 0
 IsWithinCaps pool = (kind : Kind) → total_of pool.machines kind ≤ amount_of pool.caps kind
 
--- the same, where the caps are numbers of 64 bits
-pub record IsKept (pool : PoolValue) : Type 0 where
+-- all machines together are within the caps, which are numbers of 64 bits, and have these amounts
+pub record IsKept (pool : PoolValue) (held : Amounts) : Type 0 where
   pub within : IsWithinCaps pool
   pub fits : (kind : Kind) → amount_of pool.caps kind < 2 ^ 64
+  pub counted : held ≡ amounts_of (total_of pool.machines)
 
 -- the limiter of the machine s of an index: it holds what the machine has, beside what the others have
 abbrev pub tenant_at : PoolValue → ℕ → State → Tenant
@@ -68,6 +69,6 @@ pub record RunsTenantBy (rules : Rules (Option Tenant)) (pool : PoolValue) (inde
       replies (record { state = machine'; limiter = Some tenant' })
   pub after : pool' ≡ record pool { machines = slice_set pool.machines index machine' }
 
--- the same by a tenant's rules
+-- the machine of an index has run these calls under its limiter by a tenant's rules, and all else is the same
 abbrev pub RunsTenant : PoolValue → ℕ → List Call → List Reply → PoolValue → Type 0
 RunsTenant = RunsTenantBy (optional_rules tenant_rules)

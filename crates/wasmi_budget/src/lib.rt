@@ -1,9 +1,11 @@
 //! Pools of machines whose memories and tables stay, all together, within one cap of each kind.
 #![tactic(auto)]
 
+mod error;
 pub mod laws;
 mod pool;
 mod tenant;
 
-pub use pool::{AddError, Pool, PoolError};
+pub use error::{AddError, PoolError};
+pub use pool::Pool;
 pub use tenant::Tenant;

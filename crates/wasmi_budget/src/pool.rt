@@ -1,44 +1,28 @@
 //! The pool.
-ghost use Rattle.std.specs.Prelude.{◌≡◌, ◌≤◌, ◌↔◌, ◌<◌, ◌^◌, length, [], IsTrue, IfOk, IfErr, OnErr, IsErrOf, slice_get};
-ghost use Rattle.std.specs.Option.{option_map};
-ghost use Rattle.wasmi_meter.specs.declared.limiter.Kind.{Kind};
+ghost use Rattle.std.specs.Prelude.{◌≡◌, ◌≤◌, ◌↔◌, length, [], IsTrue, IfOk, IfErr, OnErr, IsErrOf, slice_get};
+ghost use Rattle.std.specs.Option.{option_map, option_copied};
 ghost use Rattle.wasmi_meter.specs.declared.limiter.Kind.TheVariants.{Bytes, Elements};
 ghost use Rattle.wasmi_meter.specs.Amounts.{amounts_of};
 ghost use Rattle.wasmi_core.specs.Totals.{total};
 
-use crate::tenant::Tenant;
+use crate::error::{AddError, PoolError};
+use crate::tenant::{CountedMachine, Tenant};
 use std::alloc::Global as Allocator;
 use std::marker::Model;
-use wasmi_core::{Call, Machine, Reply, run_reserving};
+use wasmi_core::{Call, Machine, Reply};
 use wasmi_meter::Amounts;
-
-/// Why a machine isn't added to a pool, in the order of the tests.
-#[derive(Debug, PartialEq, Eq, Drop)]
-pub enum AddError {
-    /// The machine has bytes or elements, or had some that it dropped.
-    NotEmpty,
-    /// Memory for one more tenant was refused.
-    NoRoom,
-}
-
-/// Why a pool makes no run, in the order of the tests.
-#[derive(Debug, PartialEq, Eq, Drop)]
-pub enum PoolError {
-    /// No tenant has the index.
-    NoTenant,
-    /// Memory for the replies, one for each call, was refused. No call was answered.
-    OutOfMemory,
-}
 
 /// Machines that share a cap on the bytes of their memories, and one on the elements of their
 /// tables: what all of them have, with what they dropped, stays within both. Each machine is a
-/// tenant; their indices count from 0.
+/// tenant; their indices count from 0. No tenant is ever removed, and what it dropped counts for
+/// ever.
 ///
 /// Own: upstream has no pool.
 #[derive(Debug, Drop)]
 pub struct Pool<'r> {
     caps: Amounts,
-    machines: Vec<Machine<'r>>,
+    held_by_all: Amounts,
+    machines: Vec<CountedMachine<'r>>,
 }
 
 impl<'r> Model for Pool<'r> {
@@ -48,7 +32,8 @@ impl<'r> Model for Pool<'r> {
 
     ghost view = { λ p. record { caps = p.caps; machines = p.machines.items } };
 
-    ghost invariant = { λ p. IsKept (record { caps = p.caps; machines = p.machines.items }) };
+    ghost invariant = { λ p.
+        IsKept (record { caps = p.caps; machines = p.machines.items }) p.held_by_all };
 }
 
 impl<'r> Pool<'r> {
@@ -62,6 +47,10 @@ impl<'r> Pool<'r> {
     {
         Pool {
             caps: Amounts { bytes, elements },
+            held_by_all: Amounts {
+                bytes: 0,
+                elements: 0,
+            },
             machines: Vec::new(alloc),
         }
     }
@@ -83,6 +72,10 @@ impl<'r> Pool<'r> {
 
     /// Adds a machine that has nothing yet, and answers its index. A machine that is refused is
     /// handed back.
+    ///
+    /// It costs what `Machine::total_bytes` and `total_elements` cost on the added machine, which
+    /// for one that was just made is nothing, and a place in a vector: what the other tenants have
+    /// isn't looked at.
     pub fn add(&mut self, machine: Machine<'r>) -> Result<usize, (AddError, Machine<'r>)>
         ensures added { IfOk result
             (λ index. (index ≡ length self.old.machines)
@@ -99,12 +92,15 @@ impl<'r> Pool<'r> {
         if self.machines.try_reserve(1).is_err() {
             return Err((AddError::NoRoom, machine));
         }
-        self.machines.push_reserved(machine);
+        self.machines.push_reserved(CountedMachine::empty(machine));
         Ok(index)
     }
 
     /// Answers calls on the machine of a tenant, in turn, under a limiter that permits what keeps
     /// all tenants together within the caps.
+    ///
+    /// It costs room for the replies, and what the calls cost: nothing that depends on how many
+    /// tenants there are, or on how much they made or dropped before.
     pub fn run(&mut self, index: usize, calls: &[Call]) -> Result<Vec<Reply>, PoolError>
         ensures ran { IfOk result
             (λ replies. RunsTenant self.old index calls.now replies.items self.new) }
@@ -116,13 +112,23 @@ impl<'r> Pool<'r> {
             return Err(PoolError::NoTenant);
         };
         let machine = &mut self.machines[index];
-        match run_reserving(machine, calls, &mut tenant) {
-            Ok(replies) => Ok(replies),
-            Err(_) => Err(PoolError::OutOfMemory),
-        }
+        let replies = machine.run(calls, &mut tenant)?;
+        self.held_by_all = tenant.held_by_all();
+        Ok(replies)
+    }
+
+    /// The machine of a tenant, if one has the index.
+    pub fn machine(&self, index: usize) -> Option<&Machine<'r>>
+        ensures machine { option_copied result ≡ slice_get self.now.machines index }
+        ensures within { IsWithinCaps self.now }
+    {
+        let machine = self.machines.get(index)?;
+        Some(machine.machine())
     }
 
     /// The bytes of a tenant's memories, with those that it dropped. They fit, since the cap does.
+    ///
+    /// It costs the same for each pool: the numbers are kept.
     pub fn held_bytes(&self, index: usize) -> Option<u64>
         ensures { result ≡ option_map (λ s. total s Bytes) (slice_get self.now.machines index) }
     {
@@ -130,6 +136,8 @@ impl<'r> Pool<'r> {
     }
 
     /// The elements of a tenant's tables, with those that it dropped. They fit, since the cap does.
+    ///
+    /// It costs the same for each pool, as `held_bytes`.
     pub fn held_elements(&self, index: usize) -> Option<u64>
         ensures { result ≡ option_map (λ s. total s Elements) (slice_get self.now.machines index) }
     {
@@ -142,23 +150,7 @@ impl<'r> Pool<'r> {
             ≡ option_map (λ s. amounts_of (total s)) (slice_get self.now.machines index) }
     {
         let machine = self.machines.get(index)?;
-        Some(totals(machine))
-    }
-
-    /// What all tenants' machines have.
-    fn held_by_all(&self) -> Amounts
-        ensures { result ≡ amounts_of (total_of self.now.machines) }
-    {
-        let mut all = Amounts {
-            bytes: 0,
-            elements: 0,
-        };
-        for machine in &self.machines {
-            let held = totals(machine);
-            all.bytes += held.bytes;
-            all.elements += held.elements;
-        }
-        all
+        Some(machine.held())
     }
 
     /// The limiter under which a tenant's machine runs.
@@ -167,22 +159,10 @@ impl<'r> Pool<'r> {
             ≡ option_map (tenant_at self.now index) (slice_get self.now.machines index) }
     {
         let held = self.held(index)?;
-        let all = self.held_by_all();
         let others = Amounts {
-            bytes: all.bytes - held.bytes,
-            elements: all.elements - held.elements,
+            bytes: self.held_by_all.bytes - held.bytes,
+            elements: self.held_by_all.elements - held.elements,
         };
         Some(Tenant::new(self.caps, others, held))
-    }
-}
-
-/// What a machine has of each kind.
-fn totals(machine: &Machine) -> Amounts
-    requires { (kind : Kind) → total machine.now kind < 2 ^ 64 }
-    ensures { result ≡ amounts_of (total machine.now) }
-{
-    Amounts {
-        bytes: machine.total_bytes() as u64,
-        elements: machine.total_elements() as u64,
     }
 }

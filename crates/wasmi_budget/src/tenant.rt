@@ -1,6 +1,10 @@
-//! The limiter of one machine of a pool.
-ghost use Rattle.std.specs.Prelude.{◌≡◌, None};
+//! One machine of a pool, with what it has, and its limiter.
+ghost use Rattle.std.specs.Prelude.{◌≡◌, ◌<◌, ◌^◌, None};
+ghost use Rattle.wasmi_meter.specs.declared.limiter.Kind.{Kind};
 
+use std::alloc::AllocError;
+use std::marker::Model;
+use wasmi_core::{Call, Machine, Reply, run_reserving};
 use wasmi_meter::{Amounts, Holdings, Kind, LimiterByKind, LimiterError, Reserving};
 
 /// The limiter of one machine of a pool: it permits what keeps all tenants together within the
@@ -16,7 +20,8 @@ pub struct Tenant {
 }
 
 impl Tenant {
-    ghost use Rattle.wasmi_meter.specs.Capped.{TakesMore};
+    ghost use Rattle.wasmi_meter.specs.Amounts.{amounts_of};
+    ghost use Rattle.wasmi_meter.specs.Capped.{TakesMore, held_together};
     ghost use Rattle.wasmi_budget.specs.Tenant.{capped_tenant};
 
     /// A tenant that holds this beside the others, under the caps.
@@ -28,6 +33,25 @@ impl Tenant {
             caps,
             others,
             holdings: Holdings::new(held),
+        }
+    }
+
+    /// What the tenant holds.
+    pub(crate) fn held(&self) -> Amounts
+        ensures { result ≡ self.now.holdings.held }
+    {
+        self.holdings.held()
+    }
+
+    /// What all tenants hold.
+    pub(crate) fn held_by_all(&self) -> Amounts
+        requires fits { (kind : Kind) → held_together capped_tenant self.now kind < 2 ^ 64 }
+        ensures value { result ≡ amounts_of (held_together capped_tenant self.now) }
+    {
+        let held = self.held();
+        Amounts {
+            bytes: self.others.bytes + held.bytes,
+            elements: self.others.elements + held.elements,
         }
     }
 
@@ -77,4 +101,80 @@ impl Reserving for Tenant {
     ghost reserves = { asked_reserves capped_tenant };
 
     ghost gives_back = { noticed_gives_back capped_tenant };
+}
+
+/// A machine, with what its memories and tables have, dropped ones with their last size. So what
+/// it has is known without a walk over them.
+#[derive(Debug, Drop)]
+pub(crate) struct CountedMachine<'r> {
+    machine: Machine<'r>,
+    held: Amounts,
+}
+
+impl<'r> Model for CountedMachine<'r> {
+    ghost use Rattle.std.specs.Prelude.{◌≡◌};
+    ghost use Rattle.wasmi_meter.specs.Amounts.{amounts_of};
+    ghost use Rattle.wasmi_core.specs.State.{State};
+    ghost use Rattle.wasmi_core.specs.Totals.{total};
+
+    ghost Value = { State };
+
+    ghost view = { λ m. m.machine };
+
+    ghost invariant = { λ m. m.held ≡ amounts_of (total m.machine) };
+}
+
+impl<'r> CountedMachine<'r> {
+    ghost use Rattle.std.specs.Prelude.{Some, IfOk, OnErr};
+    ghost use Rattle.wasmi_meter.specs.Amounts.{amounts_of};
+    ghost use Rattle.wasmi_meter.specs.Limiter.{optional_rules};
+    ghost use Rattle.wasmi_core.specs.Runs.{IsRunOf};
+    ghost use Rattle.wasmi_core.specs.Totals.{total, HoldsTotals};
+    ghost use Rattle.wasmi_core.specs.World.{world};
+    ghost use Rattle.wasmi_budget.specs.Pool.{HasNothing};
+    ghost use Rattle.wasmi_budget.specs.Tenant.{holdings, tenant_rules};
+
+    /// The machine, which has nothing yet.
+    pub(crate) fn empty(machine: Machine<'r>) -> Self
+        requires nothing { HasNothing machine }
+        ensures value { result ≡ machine.entry }
+    {
+        let held = Amounts {
+            bytes: 0,
+            elements: 0,
+        };
+        CountedMachine { machine, held }
+    }
+
+    /// The machine.
+    pub(crate) fn machine(&self) -> &Machine<'r>
+        ensures { result.now ≡ self.now }
+    {
+        &self.machine
+    }
+
+    /// What the machine has.
+    pub(crate) fn held(&self) -> Amounts
+        ensures { result ≡ amounts_of (total self.now) }
+    {
+        self.held
+    }
+
+    /// Answers calls in turn under a tenant that holds what the machine has: it does so again
+    /// afterwards, and what it holds is taken over from it.
+    pub(crate) fn run(
+        &mut self,
+        calls: &[Call],
+        tenant: &mut Tenant,
+    ) -> Result<Vec<Reply>, AllocError>
+        requires totals { HoldsTotals (holdings tenant.old) self.old }
+        ensures run { IfOk result (λ replies. IsRunOf (optional_rules tenant_rules) calls.now
+            (world self.old (Some tenant.old)) replies.items (world self.new (Some tenant.new))) }
+        ensures err { OnErr result ((self.new ≡ self.old) × (tenant.new ≡ tenant.old)) }
+        ensures held { HoldsTotals (holdings tenant.new) self.new }
+    {
+        let replies = run_reserving(&mut self.machine, calls, tenant)?;
+        self.held = tenant.held();
+        Ok(replies)
+    }
 }

@@ -1,0 +1,13 @@
+use Rattle.std.proofs.Common.{arith}
+use Rattle.wasmi_meter.specs.declared.limiter.Kind.TheVariants.{Bytes, Elements}
+use Rattle.wasmi_budget.proofs.tenant.Tenant.held_by_all.Goals as goal
+
+pub overflow_add-result : goal.overflow_add-result
+overflow_add-result c =
+    let fits = c.requires.fits Bytes in
+    rw c.held-held.ensures (omega (arith, fits))
+
+pub overflow_add-result-2 : goal.overflow_add-result-2
+overflow_add-result-2 c =
+    let fits = c.requires.fits Elements in
+    rw c.held-held.ensures (omega (arith, fits))

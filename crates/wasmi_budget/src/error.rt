@@ -1,0 +1,68 @@
+//! Why a pool refuses.
+ghost use Rattle.std.specs.Prelude.{◌≡◌};
+ghost use Rattle.wasmi_budget.specs.declared.error.PoolError.TheVariants.{OutOfMemory};
+
+use std::alloc::AllocError;
+use std::fmt;
+
+/// Why a machine isn't added to a pool, in the order of the tests.
+///
+/// Own: upstream has no pool.
+#[derive(Debug, PartialEq, Eq, Drop)]
+pub enum AddError {
+    /// The machine has bytes or elements, or had some that it dropped.
+    NotEmpty,
+    /// Memory for one more tenant was refused.
+    NoRoom,
+}
+
+impl fmt::Display for AddError {
+    ghost use Rattle.std.specs.Prelude.{Some};
+    ghost use Rattle.wasmi_budget.specs.Texts.{add_error_text};
+
+    ghost output = { λ error. Some (add_error_text error) };
+
+    fn fmt<W: fmt::Write>(&self, f: &mut fmt::Formatter<W>) -> fmt::Result {
+        f.write_str(match self {
+            Self::NotEmpty => "tried to add a machine that has or had bytes or elements",
+            Self::NoRoom => "out of memory for one more tenant",
+        })
+    }
+}
+
+impl std::error::Error for AddError {}
+
+/// Why a pool makes no run, in the order of the tests.
+///
+/// Own: upstream has no pool.
+#[derive(Debug, PartialEq, Eq, Drop)]
+pub enum PoolError {
+    /// No tenant has the index.
+    NoTenant,
+    /// Memory for the replies, one for each call, was refused. No call was answered.
+    OutOfMemory,
+}
+
+impl fmt::Display for PoolError {
+    ghost use Rattle.std.specs.Prelude.{Some};
+    ghost use Rattle.wasmi_budget.specs.Texts.{pool_error_text};
+
+    ghost output = { λ error. Some (pool_error_text error) };
+
+    fn fmt<W: fmt::Write>(&self, f: &mut fmt::Formatter<W>) -> fmt::Result {
+        f.write_str(match self {
+            Self::NoTenant => "tried to run a tenant that is not in the pool",
+            Self::OutOfMemory => "out of memory for the replies",
+        })
+    }
+}
+
+impl std::error::Error for PoolError {}
+
+impl From<AllocError> for PoolError {
+    ghost from_gives = { λ _ error. error ≡ OutOfMemory };
+
+    fn from(_: AllocError) -> Self {
+        PoolError::OutOfMemory
+    }
+}
