@@ -1,6 +1,6 @@
 -- What a quota holds after one creation or growth.
 use Rattle.std.proofs.Common.{◌≡◌, ◌∙◌, ℕ, ◌+◌, ◌-◌, ◌*◌, true, false, Option, Some, None, Result, Ok, Err, List, ◌++◌}
-use Rattle.std.proofs.Common.{length, replicate, refl, ap, sym, subst, inl, inr, arith, length-append}
+use Rattle.std.proofs.Common.{length, replicate, IfOk, refl, ap, sym, subst, inl, inr, arith, length-append}
 use Rattle.std.proofs.lemmas.List.{length-replicate}
 use Rattle.wasmi_meter.specs.declared.error.MemoryError.{MemoryError}
 use Rattle.wasmi_meter.specs.declared.error.TableError.{TableError}
@@ -13,7 +13,7 @@ use Rattle.wasmi_meter.specs.Attempt.{answer_of, value_after}
 use Rattle.wasmi_meter.specs.Capped.{Asked, Noticed}
 use Rattle.wasmi_meter.specs.CappedProofs.{asked_reserves}
 use Rattle.wasmi_meter.specs.Holdings.{HoldsTheSame, Reserves, amount_held, with_more, without_last}
-use Rattle.wasmi_meter.specs.Limiter.{Question, Answer, NoticeAnswer, IsDenial, kind_of, optional_rules}
+use Rattle.wasmi_meter.specs.Limiter.{Question, Answer, NoticeAnswer, IsDenial, Rules, kind_of, optional_rules}
 use Rattle.wasmi_meter.specs.Meter.{Meter}
 use Rattle.wasmi_meter.specs.Quota.{holdings, capped_quota, quota_rules}
 use Rattle.wasmi_meter.proofs.CappedLemmas.{asked_is_within, noticed_is_within}
@@ -238,3 +238,28 @@ module _ (quota quota' : Quota) where
     typed_table_grown_counts init grows =
         on_test (same_type x.ty.element init.ty) _ _ grows (table_grown_counts init.raw)
         (λ refused. untouched_counts Elements size_of (under quota x m) (under quota' x' m') refused.2)
+
+module _ {S : Type 0} (pages : ℕ) (s s' : MeteredValue MemoryValue S) (result : Result ℕ MemoryError) where
+  -- a memory has so many bytes more
+  abbrev HasMore : Type 0
+  HasMore = IfOk result (λ _. length s'.value.bytes ≡ length s.value.bytes + pages * page_bytes s.value.ty.page)
+
+  -- so it has where an attempt to let it grow is answered by a number
+  attempt_sized : (outcome : AttemptOutcome MemoryError)
+      → s'.value ≡ value_after (memory.growth_of s.value pages) s.value outcome
+      → result ≡ answer_of (memory.growth_of s.value pages) (pages_of s.value) outcome → HasMore
+  attempt_sized (Unasked cause) value answered = rw answered tt
+  attempt_sized (Denied answer) value answered = rw answered tt
+  attempt_sized Met value answered =
+      let more = pages * page_bytes s.value.ty.page in
+      rw answered (
+      ap (λ (x : MemoryValue). length x.bytes) value ∙ length-append s.value.bytes (replicate more 0)
+      ∙ ap (λ n. length s.value.bytes + n) (length-replicate {A = ℕ} more 0))
+  attempt_sized (Failed cause notice_answer) value answered = rw answered tt
+
+  -- so it has where it grows
+  pub grown_sized : (rules : Rules S) (charge : ℕ) → GrowsMemory rules pages s result charge s' → HasMore
+  grown_sized rules charge (inl none) =
+      let same = ap (λ (t : MeteredValue MemoryValue S). length t.value.bytes) none.same in
+      rw (none.answered, none.none, same) (omega arith)
+  grown_sized rules charge (inr some) = attempt_sized some.outcome some.attempt.value some.answered

@@ -3,3 +3,4 @@ mod LendingLemmas
 mod PoolsLemmas
 mod RecorderLemmas
 mod RunsLemmas
+mod TypesLemmas

@@ -3,6 +3,7 @@ use Rattle.std.proofs.Common.{◌≡◌, ◌∙◌, ℕ, true, Option, Some, Res
 use Rattle.std.proofs.lemmas.Bool.Decides.{nat_tests}
 use Rattle.std.proofs.lemmas.Option.{same_Some}
 use Rattle.std.specs.Prelude.{All, nat_eq, slice_set}
+use Rattle.wasmi_meter.specs.declared.amounts.Amounts.{Amounts}
 use Rattle.wasmi_meter.specs.Limiter.{optional_rules}
 use Rattle.wasmi_core.specs.declared.calls.Call.{Call}
 use Rattle.wasmi_core.specs.declared.calls.Reply.{Reply}
@@ -15,17 +16,21 @@ use Rattle.wasmi_budget.specs.declared.tenant.Tenant.{Tenant}
 use Rattle.wasmi_budget.specs.Tenant.{tenant_rules}
 use Rattle.wasmi_budget.specs.Laws.{CapsHold, OthersDontShow, RunsAsAlone}
 use Rattle.wasmi_budget.specs.Pool.{PoolValue, tenant_at, IsWithinCaps, RunsTenantBy, RunsTenant}
-use Rattle.wasmi_callers.specs.Pools.{RunsAlone, RunsBeside}
+use Rattle.wasmi_callers.specs.Pools.{RunsAlone, RunsBeside, StaysWithin}
 use Rattle.wasmi_budget.specs.Runs.{Ran}
 
--- the caps, after a run that was accepted or refused
-pub within_after : {R E : Type 0} (items : R → List Reply) → CapsHold
-    → (pool pool' : PoolValue) (index : ℕ) (calls : List Call) (result : Result R E) → IsWithinCaps pool
-    → IfOk result (λ replies. RunsTenant pool index calls (items replies) pool') → OnErr result (pool' ≡ pool)
-    → (pool'.caps ≡ pool.caps) × IsWithinCaps pool'
-within_after items holds pool pool' index calls (Ok replies) within ran same =
-    holds pool within (Ran index calls (items replies) ∷ []) pool' (pool', ran, refl)
-within_after items holds pool pool' index calls (Err error) within ran same = rw same (refl, within)
+-- the caps stay in a run, accepted or refused
+pub same_caps : {R E : Type 0} (items : R → List Reply) (pool pool' : PoolValue) (index : ℕ) (calls : List Call)
+    (result : Result R E) → IfOk result (λ replies. RunsTenant pool index calls (items replies) pool')
+    → OnErr result (pool' ≡ pool) → pool'.caps ≡ pool.caps
+same_caps items pool pool' index calls (Ok replies) ran same = ap (λ (p : PoolValue). p.caps) ran.after
+same_caps items pool pool' index calls (Err error) ran same = ap (λ (p : PoolValue). p.caps) same
+
+-- they hold after whatever calls follow
+pub stays_within : CapsHold → (caps : Amounts) (pool : PoolValue) → pool.caps ≡ caps → IsWithinCaps pool
+    → StaysWithin caps pool
+stays_within holds caps pool same within turns later ran =
+    let after = holds pool within turns later ran in (after.0 ∙ same, after.1)
 
 -- a run in which each question was permitted, as that of the only tenant
 pub alone_after : RunsAsAlone

@@ -1,6 +1,6 @@
 -- One call of a run, and facts of what is answered.
 use Rattle.std.proofs.Common.{◌≡◌, ◌≤◌, Some, OnErr, Result, Ok, Err, List, [], ◌∷◌, length, map, refl, sym, ap, subst, ◌∙◌, arith, IfOk}
-use Rattle.std.proofs.lemmas.List.Elements.{All-head, All-tail}
+use Rattle.std.proofs.lemmas.List.Elements.{All-cons, All-head, All-nil, All-tail}
 use Rattle.std.proofs.lemmas.Option.{same_Some}
 use Rattle.std.specs.Prelude.{All, slice_get}
 use Rattle.wasmi_store.specs.MemoryType.{MemoryTypeValue}
@@ -10,12 +10,13 @@ use Rattle.wasmi_core.specs.declared.calls.Call.TheVariants.{NewMemory, NewLentM
 use Rattle.wasmi_core.specs.declared.calls.Reply.{Reply}
 use Rattle.wasmi_core.specs.World.{World, Turn}
 use Rattle.wasmi_core.specs.Steps.{Step}
-use Rattle.wasmi_core.specs.Runs.{Run, IsRunOf}
+use Rattle.wasmi_core.specs.Runs.{Run, Sequence, IsRunOf}
+use Rattle.wasmi_core.specs.Validity.{IsValid, IsValidCall}
 use Rattle.wasmi_core.specs.State.{State}
 use Rattle.wasmi_core.specs.LentMemory.{RunInRegions, owned_world, unlent_world}
 use Rattle.wasmi_core.specs.Determinism.{HasMemory, HaveMemory}
 use Rattle.wasmi_callers.specs.Runs.{FitsAnyRegions, HasRegionFor}
-use Rattle.wasmi_core.specs.Laws.{LentRunsAreOwned, LentCreationsAreOwned, QuotasStayWithin}
+use Rattle.wasmi_core.specs.Laws.{LentRunsAreOwned, LentCreationsAreOwned, QuotasStayWithin, RunsKeepValidity}
 use Rattle.wasmi_meter.specs.declared.limiter.Kind.{Kind}
 use Rattle.wasmi_meter.specs.declared.limiter.Kind.TheVariants.{Bytes, Elements}
 use Rattle.wasmi_meter.specs.declared.quota.Quota.{Quota}
@@ -76,6 +77,19 @@ module _ {S : Type 0} (rules : Rules S) where
       )
   made_owned owns ty calls w w' replies is region (turn ∷ t ∷ turns, made, told, ran) =
       absurd (omega (arith, ap length (made ∙ is)))
+
+module _ {S : Type 0} (rules : Rules S) where
+  -- each turn of a run of calls whose types are valid leads to a valid state
+  pub stays_valid : RunsKeepValidity rules → (w : World S) (turns : List Turn) (w' : World S) → IsValid w.state
+      → All IsValidCall (map Turn.call turns) → Run rules w turns w'
+      → Sequence (λ v turn v'. Step rules v turn v' × IsValid v'.state) w turns w'
+  stays_valid keeps w [] w' valid named ran = ran
+  stays_valid keeps w (turn ∷ turns) w' valid named (v, step, ran) =
+      let first = All-head IsValidCall turn.call (map Turn.call turns) named in
+      let rest = All-tail IsValidCall turn.call (map Turn.call turns) named in
+      let alone = All-cons IsValidCall turn.call [] first (All-nil IsValidCall) in
+      let after = keeps w (turn ∷ []) v valid alone (v, step, refl) in
+      (v, (step, after), stays_valid keeps v turns w' after rest ran)
 
 -- replies that have memory are of turns that have it
 all_have : (turns : List Turn) → All HasMemory (map Turn.reply turns) → HaveMemory turns

@@ -19,13 +19,16 @@ Hears l kind notice_answer l' =
     length l.events.items < vec_capacity l.events
     → (notice_answer ≡ Ok tt) × (l'.events.items ≡ l.events.items ++ Failed kind ∷ [])
 
+-- the event that a permitted question leaves in a trace
 abbrev pub event_of : Question → Event
 event_of q = Permitted q.kind q.current q.desired
 
+-- a recorder answers a question: it permits where it can keep the trace, and gives no error
 abbrev pub Answers : Recorder → Question → Answer → Recorder → Type 0
 Answers l q (Ok permitted) l' = Permits l (event_of q) permitted l'
 Answers l q (Err error) l' = ⊥
 
+-- the rules of a recorder
 abbrev pub recorder_rules : Rules Recorder
 recorder_rules =
     record { asked = Answers; noticed = λ l failure notice_answer l'. Hears l (kind_of failure) notice_answer l' }

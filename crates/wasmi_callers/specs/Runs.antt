@@ -1,6 +1,8 @@
 -- What a caller says of runs.
-use Rattle.std.specs.Prelude.{◌≡◌, ◌<◌, ◌≤◌, ℕ, Some, List, ◌++◌, length, map}
-use Rattle.wasmi_meter.specs.Limiter.{Rules}
+use Rattle.std.specs.Prelude.{◌≡◌, ◌<◌, ◌≤◌, ℕ, true, Option, Some, List, [], ◌∷◌, ◌++◌, length, map}
+use Rattle.wasmi_meter.specs.Attempt.{Request, optional_due, covers}
+use Rattle.wasmi_meter.specs.Limiter.{Rules, Question, Answer, IsDenial}
+use Rattle.wasmi_meter.specs.Meter.{Meter}
 use Rattle.wasmi_store.specs.Buffer.{Lent}
 use Rattle.wasmi_store.specs.Memory.{MemoryValue}
 use Rattle.wasmi_store.specs.MemoryType.{MemoryTypeValue, minimum_bytes}
@@ -12,8 +14,9 @@ use Rattle.wasmi_core.specs.Steps.{Step}
 use Rattle.wasmi_core.specs.Runs.{Sequence, Run}
 use Rattle.wasmi_core.specs.State.{State}
 use Rattle.wasmi_core.specs.Account.{opened, account_after, Balances}
-use Rattle.wasmi_core.specs.Laws.{IsRefusal, Keeps}
+use Rattle.wasmi_core.specs.Laws.{IsRefusal, Keeps, KeepsMeter}
 use Rattle.wasmi_core.specs.LentMemory.{FitsRegions}
+use Rattle.wasmi_core.specs.Validity.{IsValid}
 use Rattle.wasmi_core.specs.Writing.{IsBounded, IsSpent}
 
 -- turns of these calls with these replies
@@ -21,15 +24,17 @@ pub record AreTurns (calls : List Call) (replies : List Reply) (turns : List Tur
   pub calls_of : map Turn.call turns ≡ calls
   pub replies_of : map Turn.reply turns ≡ replies
 
--- where metering was on, what is left and what the calls were charged are what was left before, or was set since
-abbrev pub IsBilled : State → List Call → List Reply → State → Type 0
-IsBilled s calls replies s' = (left : ℕ) → s.meter.left ≡ Some left
-    → (turns : List Turn) × AreTurns calls replies turns × Balances (account_after (opened left) turns) s'.meter
+-- Where metering was on, what is left and what a run was charged are what was left before, or was set since.
+abbrev pub IsBilled : {S : Type 0} → Rules S → List Call → World S → List Reply → World S → Type 0
+IsBilled rules calls w replies w' = (turns : List Turn) × AreTurns calls replies turns × Run rules w turns w'
+    × ((left : ℕ) → w.state.meter.left ≡ Some left → Balances (account_after (opened left) turns) w'.state.meter)
 
--- where metering was on at a rate above 0, the fuel bounds the bytes that the calls have written
-abbrev pub IsBoundedBy : State → List Call → List Reply → Type 0
-IsBoundedBy s calls replies = (left : ℕ) → s.meter.left ≡ Some left → 0 < s.meter.costs.bytes_copied_per_fuel
-    → (turns : List Turn) × AreTurns calls replies turns × IsBounded s.meter.costs.bytes_copied_per_fuel left turns
+-- Where metering was on at a rate above 0, what a run was charged and what was left before bound the bytes that it has
+-- written.
+abbrev pub IsBoundedBy : {S : Type 0} → Rules S → List Call → World S → List Reply → World S → Type 0
+IsBoundedBy rules calls w replies w' = (turns : List Turn) × AreTurns calls replies turns × Run rules w turns w'
+    × ((left : ℕ) → w.state.meter.left ≡ Some left → 0 < w.state.meter.costs.bytes_copied_per_fuel
+    → IsBounded w.state.meter.costs.bytes_copied_per_fuel left turns)
 
 -- a call that fits the regions of any machine
 abbrev pub FitsAnyRegions : Call → Type 0
@@ -41,6 +46,11 @@ abbrev pub IsRunOfBoth : {S : Type 0} → Rules S → List Call → List Call �
 IsRunOfBoth rules calls calls' w replies replies' w' =
     (turns : List Turn) × (turns' : List Turn) × AreTurns calls replies turns × AreTurns calls' replies' turns'
     × Run rules w (turns ++ turns') w'
+
+-- The step by a call with this reply keeps the meter as a refused turn does.
+abbrev pub IsMeterKept : {S : Type 0} → Rules S → Call → World S → Reply → World S → Type 0
+IsMeterKept rules call w reply w' = (turn : Turn) × AreTurns (call ∷ []) (reply ∷ []) (turn ∷ []) × Step rules w turn w'
+    × KeepsMeter rules w turn w'
 
 -- each turn that is refused keeps what a refused turn keeps
 abbrev pub KeepsWhereRefused : {S : Type 0} → Rules S → List Call → World S → List Reply → World S → Type 0
@@ -56,16 +66,29 @@ AreSameTurns rules w v v' = (turns : List Turn) × Run rules w turns v × Run ru
 abbrev pub IsLent : MemoryValue → Type 0
 IsLent x = (rest : List ℕ) × (x.room ≡ Lent rest)
 
+-- so much is left, or no meter is there, that a request can be paid
+abbrev pub CanPay : {V E : Type 0} → Option Meter → Request V E → Type 0
+CanPay m request = covers m (optional_due m request.price) ≡ true
+
+-- a limiter was asked a question, and denied it
+abbrev pub IsDenied : {S : Type 0} → Rules S → Question → S → S → Type 0
+IsDenied rules question l l' = (answer : Answer) × IsDenial answer × rules.asked l question answer l'
+
 -- the spare region is there, and no shorter than the minimum of a type
 abbrev pub HasRegionFor : MemoryTypeValue → State → Type 0
 HasRegionFor ty s = (region : List ℕ) × (s.spare ≡ Some region) × (minimum_bytes ty ≤ length region)
 
--- where metering was on, what was left is what is left and what the calls were charged, and that bounds what they have
--- written
-abbrev pub IsSpentBy : State → List Call → List Reply → State → Type 0
-IsSpentBy s calls replies s' = (left : ℕ) → s.meter.left ≡ Some left
-    → (left' : ℕ) × (s'.meter.left ≡ Some left') × (turns : List Turn) × AreTurns calls replies turns
-    × IsSpent s.meter.costs.bytes_copied_per_fuel left left' turns
+-- Where metering was on, what was left is what is left and what a run was charged, and that bounds what it has written.
+abbrev pub IsSpentBy : {S : Type 0} → Rules S → List Call → World S → List Reply → World S → Type 0
+IsSpentBy rules calls w replies w' = (turns : List Turn) × AreTurns calls replies turns × Run rules w turns w'
+    × ((left : ℕ) → w.state.meter.left ≡ Some left → (left' : ℕ) × (w'.state.meter.left ≡ Some left')
+    × IsSpent w.state.meter.costs.bytes_copied_per_fuel left left' turns)
+
+-- each turn of a run leads to a valid state
+abbrev pub StaysValid : {S : Type 0} → Rules S → List Call → World S → List Reply → World S → Type 0
+StaysValid rules calls w replies w' =
+    (turns : List Turn) × AreTurns calls replies turns
+    × Sequence (λ v turn v'. Step rules v turn v' × IsValid v'.state) w turns w'
 
 -- in each turn a permission is followed by exactly the growth that was asked for, or by just one notice, and a denial
 -- by neither

@@ -41,7 +41,6 @@ pub fn byte_in_one_lane(v: V128, at: ImmLaneIdx16, number: i8) -> V128
         → lane w8 result i ≡ (if i == at then wrap w8 number else lane w8 v i) }
 {
     lane_laws::lanes_of_made_vector();
-    widening_laws::wrapped_numbers();
     i8x16_replace_lane(v, at, number)
 }
 

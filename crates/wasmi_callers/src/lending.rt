@@ -1,10 +1,14 @@
 //! Callers of what makes a memory or a table, or lets it grow, under a limiter that is lent for
 //! that one call; and of the laws that every memory and every table is valid.
-ghost use Rattle.std.specs.Prelude.{◌≡◌, ◌≤◌, ◌*◌, true, length, IfOk};
+ghost use Rattle.std.specs.Prelude.{◌≡◌, ◌<◌, ◌≤◌, ◌*◌, ◌^◌, true, length, IfOk};
+ghost use Rattle.wasmi_types.specs.declared.index_ty.IndexType.TheVariants.{I32};
 ghost use Rattle.wasmi_meter.specs.declared.limiter.Kind.TheVariants.{Bytes, Elements};
 ghost use Rattle.wasmi_meter.specs.Quota.{holdings, IsWithinCaps};
-ghost use Rattle.wasmi_store.specs.MemoryType.{page_bytes};
-ghost use Rattle.wasmi_store.specs.Table.{size_of};
+ghost use Rattle.wasmi_store.specs.Memory.{pages_of};
+ghost use Rattle.wasmi_store.specs.MemoryType as memory_type;
+ghost use Rattle.wasmi_store.specs.MemoryType.{page_bytes, in_bounds};
+ghost use Rattle.wasmi_store.specs.Table.{IsSized, size_of};
+ghost use Rattle.wasmi_store.specs.TableType as table_type;
 ghost use Rattle.wasmi_store.specs.TableType.{is_within_maximum};
 ghost use Rattle.wasmi_callers.specs.Lending.{Counts, bytes_made, elements_made};
 
@@ -113,11 +117,35 @@ pub fn pages_of_memory(memory: &Memory) -> u64
     memory.size()
 }
 
-/// The size of any table: no fewer elements than its type's minimum, and no more than its maximum.
+/// The type of any memory: a valid one, which allows as many pages as the memory has.
+pub fn type_of_memory(memory: &Memory) -> MemoryType
+    ensures same { result ≡ memory.now.ty }
+    ensures valid { memory_type.IsValid result }
+    ensures within { in_bounds result (pages_of memory.now) ≡ true }
+{
+    laws::memories_are_valid(memory);
+    memory.ty()
+}
+
+/// The size of any table: no fewer elements than its type's minimum, and no more than its maximum,
+/// by a valid type; so fewer than 2^32 where its indices are 32 bits long.
 pub fn elements_of_table(table: &Table) -> u64
+    ensures value { result ≡ size_of table.now }
+    ensures valid { table_type.IsValid table.now.ty }
     ensures minimum { table.now.ty.minimum ≤ result }
     ensures maximum { is_within_maximum table.now.ty result ≡ true }
+    ensures indices { table.now.ty.index ≡ I32 → result < 2 ^ 32 }
 {
     laws::tables_are_valid(table);
     table.size()
+}
+
+/// The type of any table: a valid one, which allows as many elements as the table has.
+pub fn type_of_table(table: &Table) -> TableType
+    ensures same { result ≡ table.now.ty }
+    ensures valid { table_type.IsValid result }
+    ensures sized { IsSized result (size_of table.now) }
+{
+    laws::tables_are_valid(table);
+    table.ty()
 }

@@ -3,17 +3,17 @@ ghost use Rattle.std.specs.Prelude.{◌≡◌, IfOk, All};
 ghost use Rattle.wasmi_core.specs.Determinism.{HasMemory};
 ghost use Rattle.wasmi_core.specs.Permission.{TellsNoDenial};
 ghost use Rattle.wasmi_budget.specs.Pool.{IsWithinCaps};
-ghost use Rattle.wasmi_callers.specs.Pools.{RunsAlone, RunsBeside};
+ghost use Rattle.wasmi_callers.specs.Pools.{RunsAlone, RunsBeside, StaysWithin};
 
 use wasmi_budget::{Pool, PoolError, Tenant, laws};
 use wasmi_core::{Call, Reply, laws as core_laws};
 
-/// Makes calls on the machine of a tenant: whatever comes of it, all machines together stay within
-/// the caps.
+/// Makes calls on the machine of a tenant: whatever comes of it, and whatever calls on the pool
+/// follow, the caps stay, and all machines together stay within them.
 pub fn run_within(pool: &mut Pool, index: usize, calls: &[Call]) -> Result<Vec<Reply>, PoolError>
-    requires { IsWithinCaps pool.old }
     ensures caps { pool.new.caps ≡ pool.old.caps }
     ensures within { IsWithinCaps pool.new }
+    ensures later { StaysWithin pool.old.caps pool.new }
 {
     laws::caps_hold();
     pool.run(index, calls)
@@ -50,8 +50,9 @@ pub fn run_on_both(
     index: usize,
     calls: &[Call],
 ) -> Result<(Vec<Reply>, Vec<Reply>), PoolError>
-    requires { other.old ≡ pool.old }
-    ensures { IfOk result (λ replies. All HasMemory replies.0.items → All HasMemory replies.1.items
+    requires pools { other.old ≡ pool.old }
+    ensures same { IfOk result
+        (λ replies. All HasMemory replies.0.items → All HasMemory replies.1.items
         → (replies.0.items ≡ replies.1.items) × (pool.new ≡ other.new)) }
 {
     laws::tenants_leave_no_choice();

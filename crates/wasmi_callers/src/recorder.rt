@@ -22,6 +22,7 @@ pub enum Event {
 /// A limiter that permits each growth of which it can keep the trace.
 #[derive(Debug, Drop)]
 pub struct Recorder {
+    /// What it permitted and was told of, in order.
     pub events: Vec<Event>,
 }
 
@@ -84,8 +85,8 @@ pub fn call_recorded(
     calls: &[Call],
     recorder: &mut Recorder,
 ) -> Result<Vec<Reply>, AllocError>
-    requires { length calls.now ≡ 1 }
-    ensures { IfOk result
+    requires one { length calls.now ≡ 1 }
+    ensures trace { IfOk result
         (λ _. LeavesTrace recorder.old.events.items (sizes machine.old) recorder.new.events.items
         (sizes machine.new)) }
 {

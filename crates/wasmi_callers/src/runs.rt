@@ -1,30 +1,32 @@
 //! Callers of the laws over turns and runs.
-ghost use Rattle.std.specs.Prelude.{◌≡◌, ◌+◌, ◌*◌, ◌++◌, ◌≤◌, [], ◌∷◌, Some, Ok, true, IfOk, All};
+ghost use Rattle.std.specs.Prelude.{◌≡◌, ◌+◌, ◌*◌, ◌++◌, ◌≤◌, ◌⊎◌, [], ◌∷◌, Some, Ok, true, length, IfOk, All};
+ghost use Rattle.std.specs.Option.{option_copied_mut};
 ghost use Rattle.wasmi_meter.specs.Limiter.{optional_rules};
 ghost use Rattle.wasmi_meter.specs.declared.limiter.Kind.TheVariants.{Bytes, Elements};
 ghost use Rattle.wasmi_meter.specs.Quota.{holdings, cap_of, IsWithinCaps, quota_rules};
 ghost use Rattle.wasmi_store.specs.Buffer.{fits_room};
 ghost use Rattle.wasmi_store.specs.MemoryType.{page_bytes, in_bounds};
-ghost use Rattle.wasmi_store.specs.Memory.{pages_of};
+ghost use Rattle.wasmi_store.specs.Memory.{pages_of, growth_of};
 ghost use Rattle.wasmi_core.specs.Account.{SetsNoFuel};
 ghost use Rattle.wasmi_core.specs.Determinism.{HasMemory};
 ghost use Rattle.wasmi_core.specs.LentMemory.{owned_world, unlent_world};
-ghost use Rattle.wasmi_core.specs.Laws.{IsRefusal, SameContents, KeepsSpare, KeepsMeter};
+ghost use Rattle.wasmi_core.specs.Laws.{IsRefusal, SameContents, KeepsSpare};
 ghost use Rattle.wasmi_core.specs.Permission.{permitting, TellsNoDenial};
 ghost use Rattle.wasmi_core.specs.Runs.{IsRunOf};
 ghost use Rattle.wasmi_core.specs.Totals.{total, HoldsTotals};
 ghost use Rattle.wasmi_core.specs.Validity.{IsValid, IsValidCall};
 ghost use Rattle.wasmi_core.specs.World.{world};
-ghost use Rattle.wasmi_callers.specs.Runs.{IsBilled, IsBoundedBy, IsSpentBy, IsExchanged, KeepsWhereRefused, IsRunOfBoth, FitsAnyRegions, AreSameTurns, HasRegionFor, IsLent};
+ghost use Rattle.wasmi_callers.specs.Runs.{IsBilled, IsBoundedBy, IsSpentBy, IsExchanged, KeepsWhereRefused, IsMeterKept, StaysValid, IsRunOfBoth, FitsAnyRegions, AreSameTurns, HasRegionFor, IsLent, CanPay, IsDenied};
 
 use std::alloc::AllocError;
 use wasmi_core::{
-    Call, Machine, Memory, MemoryError, MemoryType, NoLimits, Quota, Reply, ResourceLimiter,
-    ResourceLimiterRef, laws, run_lending, run_reserving,
+    Call, Fuel, Machine, Memory, MemoryError, MemoryType, NoLimits, Quota, Reply, ResourceLimiter,
+    laws, run_lending, run_reserving,
 };
 
 /// Makes one call. Where it is refused, the machine has the contents that it had; the spare region,
-/// unless a memory was to be made in it; and what was left, unless memory was wanting.
+/// unless a memory was to be made in it; and the meter, unless it is a growth that was paid before
+/// memory was wanting: then the meter has its price less.
 pub fn call_refused<L: ResourceLimiter>(
     machine: &mut Machine,
     call: &Call,
@@ -33,8 +35,8 @@ pub fn call_refused<L: ResourceLimiter>(
     ensures contents { IsRefusal result → SameContents machine.old machine.new }
     ensures spare { IsRefusal result → KeepsSpare call.now result machine.old machine.new }
     ensures meter { IsRefusal result
-        → KeepsMeter (optional_rules L.rules) (world machine.old (Some limiter.old))
-        (world machine.new (Some limiter.new)) }
+        → IsMeterKept (optional_rules L.rules) call.now
+        (world machine.old (Some limiter.old)) result (world machine.new (Some limiter.new)) }
 {
     laws::refusals_keep_contents::<L>();
     machine.step_lending(call, limiter)
@@ -64,7 +66,9 @@ pub fn run_billed<L: ResourceLimiter>(
     calls: &[Call],
     limiter: &mut L,
 ) -> Result<Vec<Reply>, AllocError>
-    ensures { IfOk result (λ replies. IsBilled machine.old calls.now replies.items machine.new) }
+    ensures { IfOk result (λ replies. IsBilled (optional_rules L.rules) calls.now
+        (world machine.old (Some limiter.old)) replies.items
+        (world machine.new (Some limiter.new))) }
 {
     laws::fuel_balances::<L>();
     run_lending(machine, calls, limiter)
@@ -76,7 +80,9 @@ pub fn run_bounded<L: ResourceLimiter>(
     calls: &[Call],
     limiter: &mut L,
 ) -> Result<Vec<Reply>, AllocError>
-    ensures { IfOk result (λ replies. IsBoundedBy machine.old calls.now replies.items) }
+    ensures { IfOk result (λ replies. IsBoundedBy (optional_rules L.rules) calls.now
+        (world machine.old (Some limiter.old)) replies.items
+        (world machine.new (Some limiter.new))) }
 {
     laws::fuel_bounds_writing::<L>();
     run_lending(machine, calls, limiter)
@@ -89,8 +95,10 @@ pub fn run_spent<L: ResourceLimiter>(
     calls: &[Call],
     limiter: &mut L,
 ) -> Result<Vec<Reply>, AllocError>
-    requires { All SetsNoFuel calls.now }
-    ensures { IfOk result (λ replies. IsSpentBy machine.old calls.now replies.items machine.new) }
+    requires sets_no_fuel { All SetsNoFuel calls.now }
+    ensures spent { IfOk result (λ replies. IsSpentBy (optional_rules L.rules) calls.now
+        (world machine.old (Some limiter.old)) replies.items
+        (world machine.new (Some limiter.new))) }
 {
     laws::charges_are_spent::<L>();
     run_lending(machine, calls, limiter)
@@ -128,14 +136,17 @@ pub fn run_permitted<L: ResourceLimiter>(
 }
 
 /// Makes calls whose types are valid, on a machine whose state is valid as every machine's is: it
-/// is so afterwards.
+/// is so after each call.
 pub fn run_valid<L: ResourceLimiter>(
     machine: &mut Machine,
     calls: &[Call],
     limiter: &mut L,
 ) -> Result<Vec<Reply>, AllocError>
-    requires { All IsValidCall calls.now }
-    ensures { IfOk result (λ _. IsValid machine.new) }
+    requires valid { All IsValidCall calls.now }
+    ensures turns { IfOk result (λ replies. StaysValid (optional_rules L.rules) calls.now
+        (world machine.old (Some limiter.old)) replies.items
+        (world machine.new (Some limiter.new))) }
+    ensures after { IfOk result (λ _. IsValid machine.new) }
 {
     laws::states_are_valid(machine);
     laws::runs_keep_validity::<L>();
@@ -164,8 +175,8 @@ pub fn run_counted(
     calls: &[Call],
     quota: &mut Quota,
 ) -> Result<Vec<Reply>, AllocError>
-    requires { HoldsTotals (holdings quota.old) machine.old }
-    ensures { IfOk result (λ _. HoldsTotals (holdings quota.new) machine.new) }
+    requires holds { HoldsTotals (holdings quota.old) machine.old }
+    ensures counted { IfOk result (λ _. HoldsTotals (holdings quota.new) machine.new) }
 {
     laws::totals_are_held::<Quota>();
     run_lending(machine, calls, quota)
@@ -203,7 +214,8 @@ pub fn run_twice(
 ) -> Result<(Vec<Reply>, Vec<Reply>), AllocError>
     requires machines { other.old ≡ machine.old }
     requires quotas { other_quota.old ≡ quota.old }
-    ensures { IfOk result (λ replies. All HasMemory replies.0.items → All HasMemory replies.1.items
+    ensures same { IfOk result
+        (λ replies. All HasMemory replies.0.items → All HasMemory replies.1.items
         → (replies.0.items ≡ replies.1.items) × (machine.new ≡ other.new)
         × (quota.new ≡ other_quota.new)) }
 {
@@ -222,7 +234,8 @@ pub fn run_twice_unlimited(
     calls: &[Call],
 ) -> Result<(Vec<Reply>, Vec<Reply>), AllocError>
     requires machines { other.old ≡ machine.old }
-    ensures { IfOk result (λ replies. All HasMemory replies.0.items → All HasMemory replies.1.items
+    ensures same { IfOk result
+        (λ replies. All HasMemory replies.0.items → All HasMemory replies.1.items
         → (replies.0.items ≡ replies.1.items) × (machine.new ≡ other.new)) }
 {
     laws::no_limits_leave_no_choice();
@@ -245,7 +258,8 @@ pub fn run_twice_charged(
 ) -> Result<(Vec<Reply>, Vec<Reply>), AllocError>
     requires machines { other.old ≡ machine.old }
     requires quotas { other_quota.old ≡ quota.old }
-    ensures { IfOk result (λ replies. All HasMemory replies.0.items → All HasMemory replies.1.items
+    ensures same { IfOk result
+        (λ replies. All HasMemory replies.0.items → All HasMemory replies.1.items
         → AreSameTurns (optional_rules quota_rules)
         (record { state = machine.old; limiter = Some quota.old })
         (record { state = machine.new; limiter = Some quota.new })
@@ -267,8 +281,8 @@ pub fn run_in_regions<L: ResourceLimiter>(
     calls: &[Call],
     limiter: &mut L,
 ) -> Result<Vec<Reply>, AllocError>
-    requires { All FitsAnyRegions calls.now }
-    ensures { IfOk result (λ replies. IsRunOf (optional_rules L.rules) calls.now
+    requires fits { All FitsAnyRegions calls.now }
+    ensures owned { IfOk result (λ replies. IsRunOf (optional_rules L.rules) calls.now
         (owned_world (record { state = machine.old; limiter = Some limiter.old })) replies.items
         (owned_world (record { state = machine.new; limiter = Some limiter.new }))) }
 {
@@ -286,7 +300,8 @@ pub fn make_in_region<L: ResourceLimiter>(
 ) -> Result<Vec<Reply>, AllocError>
     requires call { calls.now ≡ Call.NewLentMemory ty ∷ [] }
     requires region { HasRegionFor ty machine.old }
-    ensures { IfOk result (λ replies. IsRunOf (optional_rules L.rules) (Call.NewMemory ty ∷ [])
+    ensures owned { IfOk result
+        (λ replies. IsRunOf (optional_rules L.rules) (Call.NewMemory ty ∷ [])
         (unlent_world (record { state = machine.old; limiter = Some limiter.old })) replies.items
         (unlent_world (record { state = machine.new; limiter = Some limiter.new }))) }
 {
@@ -294,16 +309,23 @@ pub fn make_in_region<L: ResourceLimiter>(
     run_lending(machine, calls, limiter)
 }
 
-/// Grows a lent memory that its type and its region have place for, with no meter and no limits: it
-/// grows.
-pub fn grow_in_region(memory: &mut Memory, pages: u64) -> Result<u64, MemoryError>
+/// Grows a lent memory that its type and its region have place for, where so much can be paid: it
+/// grows, or the limiter denies it.
+pub fn grow_in_region<L: ResourceLimiter>(
+    memory: &mut Memory,
+    pages: u64,
+    fuel: Option<&mut Fuel>,
+    limiter: &mut L,
+) -> Result<u64, MemoryError>
     requires lent { IsLent memory.old }
     requires inside { in_bounds memory.old.ty (pages_of memory.old + pages) ≡ true }
     requires place { fits_room memory.old.room (pages * page_bytes memory.old.ty.page) ≡ true }
-    ensures { result ≡ Ok (pages_of memory.old) }
+    requires paid { CanPay (option_copied_mut fuel) (growth_of memory.old pages) }
+    ensures result { (result ≡ Ok (pages_of memory.old))
+        ⊎ IsDenied L.rules (growth_of memory.old pages).question limiter.old limiter.new }
+    ensures size { IfOk result (λ _. length memory.new.bytes
+        ≡ length memory.old.bytes + pages * page_bytes memory.old.ty.page) }
 {
-    laws::lent_growths_succeed::<NoLimits>();
-    let mut unlimited = NoLimits;
-    let mut lent = ResourceLimiterRef::from(&mut unlimited);
-    memory.grow(pages, None, &mut lent)
+    laws::lent_growths_succeed::<L>();
+    memory.grow_lending(pages, fuel, limiter)
 }

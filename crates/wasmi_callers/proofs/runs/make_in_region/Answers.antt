@@ -4,6 +4,10 @@ use Rattle.wasmi_callers.proofs.runs.make_in_region.Goals as goal
 
 pub returns : goal.returns
 returns g c =
-    if_ok_too c.run_lending.result c.run_lending.ensures.run (λ replies ran.
-    made_owned (optional_rules g.L.ResourceLimiter.rules) c.lent_creations_are_owned.ensures c.args.ty c.args.calls.now
-    _ _ replies.items c.requires.call c.requires.region ran)
+    record {
+      owned =
+          if_ok_too c.run_lending.result c.run_lending.ensures.run (λ replies ran.
+          made_owned (optional_rules g.L.ResourceLimiter.rules) c.lent_creations_are_owned.ensures c.args.ty
+          c.args.calls.now
+          _ _ replies.items c.requires.call c.requires.region ran);
+    }

@@ -3,8 +3,9 @@ use Rattle.wasmi_callers.proofs.runs.run_bounded.Goals as goal
 
 pub returns : goal.returns
 returns g c =
-    if_ok_too c.run_lending.result c.run_lending.ensures.run (λ replies ran left on rated. (
+    if_ok_too c.run_lending.result c.run_lending.ensures.run (λ replies ran. (
       ran.0,
       record { calls_of = ran.1; replies_of = ran.2 },
-      c.fuel_bounds_writing.ensures _ left on rated ran.0 _ ran.3,
+      ran.3,
+      λ left on rated. c.fuel_bounds_writing.ensures _ left on rated ran.0 _ ran.3,
     ))

@@ -4,7 +4,10 @@ use Rattle.wasmi_callers.proofs.runs.run_in_regions.Goals as goal
 
 pub returns : goal.returns
 returns g c =
-    if_ok_too c.run_lending.result c.run_lending.ensures.run (λ replies ran.
-    fitting_owned
-    (optional_rules g.L.ResourceLimiter.rules) c.lent_runs_are_owned.ensures c.args.calls.now _ _ replies.items
-    c.requires ran)
+    record {
+      owned =
+          if_ok_too c.run_lending.result c.run_lending.ensures.run (λ replies ran.
+          fitting_owned
+          (optional_rules g.L.ResourceLimiter.rules) c.lent_runs_are_owned.ensures c.args.calls.now _ _ replies.items
+          c.requires.fits ran);
+    }

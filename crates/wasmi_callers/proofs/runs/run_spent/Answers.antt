@@ -6,6 +6,13 @@ use Rattle.wasmi_callers.proofs.runs.run_spent.Goals as goal
 
 pub returns : goal.returns
 returns g c =
-    if_ok_too c.run_lending.result c.run_lending.ensures.run (λ replies ran left on.
-    let spent = c.charges_are_spent.ensures _ left on ran.0 _ ran.3 (subst (All SetsNoFuel) (sym ran.1) c.requires) in
-    (spent.0, spent.1, ran.0, record { calls_of = ran.1; replies_of = ran.2 }, spent.2))
+    record {
+      spent =
+          if_ok_too c.run_lending.result c.run_lending.ensures.run (λ replies ran. (
+            ran.0,
+            record { calls_of = ran.1; replies_of = ran.2 },
+            ran.3,
+            λ left on. c.charges_are_spent.ensures _ left on ran.0 _ ran.3
+                (subst (All SetsNoFuel) (sym ran.1) c.requires.sets_no_fuel),
+          ));
+    }
