@@ -10,7 +10,7 @@ abbrev pub permits : AtMost → Kind → ℕ → Bool
 permits limiter Bytes desired = nat_le desired limiter.bytes
 permits limiter Elements desired = false
 
--- it says so, accepts each notice, and stays the same
+-- the rules of the limiter: it answers what it permits, accepts each notice, and stays the same
 abbrev pub at_most_rules : Rules AtMost
 at_most_rules = record {
   asked = λ l q answer l'. (answer ≡ Ok (permits l q.kind q.desired)) × (l' ≡ l);

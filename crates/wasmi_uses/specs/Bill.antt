@@ -1,21 +1,20 @@
 -- What a bill says.
 use Rattle.std.specs.Prelude.{◌≡◌, ◌+◌, ℕ, Some, List, map}
+use Rattle.wasmi_meter.specs.Limiter.{Rules}
 use Rattle.wasmi_meter.specs.Meter.{amount_left}
 use Rattle.wasmi_core.specs.declared.calls.Call.{Call}
 use Rattle.wasmi_core.specs.declared.calls.Reply.{Reply}
 use Rattle.wasmi_core.specs.Account.{charges}
-use Rattle.wasmi_core.specs.State.{State}
-use Rattle.wasmi_core.specs.World.{Turn}
+use Rattle.wasmi_core.specs.Runs.{Run}
+use Rattle.wasmi_core.specs.World.{World, Turn}
 
--- so much is what these calls were charged, and what was left is what is left and that
-pub record Accounts (calls : List Call) (replies : List Reply) (before charged after : ℕ) : Type 0 where
-  pub left : after + charged ≡ before
-  pub turns : List Turn
-  pub calls_of : map Turn.call turns ≡ calls
-  pub replies_of : map Turn.reply turns ≡ replies
+-- so much is what turns were charged, and what was left is what is left and that
+pub record Accounts (turns : List Turn) (before charged after : ℕ) : Type 0 where
   pub charges_of : charges turns ≡ charged
+  pub left : after + charged ≡ before
 
--- where metering was on, the bill is right
-abbrev pub IsBill : State → List Call → List Reply → ℕ → State → Type 0
-IsBill s calls replies charged s' = (left : ℕ) → s.meter.left ≡ Some left
-    → Accounts calls replies left charged (amount_left s'.meter)
+-- The bill of a run, each turn of which says what its call was charged: it is right where metering was on.
+abbrev pub IsBill : {S : Type 0} → Rules S → List Call → World S → List Reply → ℕ → World S → Type 0
+IsBill rules calls w replies charged w' =
+    (turns : List Turn) × (map Turn.call turns ≡ calls) × (map Turn.reply turns ≡ replies) × Run rules w turns w'
+    × ((left : ℕ) → w.state.meter.left ≡ Some left → Accounts turns left charged (amount_left w'.state.meter))

@@ -1,9 +1,8 @@
 //! A bill: what a run was charged.
-ghost use Rattle.std.specs.Prelude.{◌≡◌, None, Some, IfOk, OnErr, All};
+ghost use Rattle.std.specs.Prelude.{◌≡◌, ◌↔◌, None, Some, IsTrue, IfOk, IsErrOf, OnErr, All};
 ghost use Rattle.wasmi_meter.specs.Limiter.{optional_rules};
 ghost use Rattle.wasmi_meter.specs.Meter.{amount_left};
 ghost use Rattle.wasmi_core.specs.Account.{SetsNoFuel};
-ghost use Rattle.wasmi_core.specs.Runs.{IsRunOf};
 ghost use Rattle.wasmi_core.specs.World.{world};
 ghost use Rattle.wasmi_uses.specs.Bill.{IsBill};
 
@@ -19,6 +18,15 @@ pub struct Bill {
     pub charged: u64,
 }
 
+/// Why no call was made, in the order of the tests.
+#[derive(Debug, PartialEq, Eq, Drop)]
+pub enum BillError {
+    /// A call sets the fuel.
+    SetsFuel,
+    /// Memory for the replies was refused.
+    OutOfMemory,
+}
+
 /// Runs calls, and makes out a bill: with what is left it is what was left before, and it is what
 /// the calls were charged, one by one. A call that sets the fuel has no place in it.
 pub fn run_billed<L: ResourceLimiter>(
@@ -26,12 +34,10 @@ pub fn run_billed<L: ResourceLimiter>(
     calls: &[Call],
     limiter: &mut L,
 ) -> Result<Bill, AllocError>
-    requires { All SetsNoFuel calls.now }
-    ensures run { IfOk result (λ bill. IsRunOf (optional_rules L.rules) calls.now
-        (world machine.old (Some limiter.old)) bill.replies.items
+    requires sets_no_fuel { All SetsNoFuel calls.now }
+    ensures bill { IfOk result (λ bill. IsBill (optional_rules L.rules) calls.now
+        (world machine.old (Some limiter.old)) bill.replies.items bill.charged
         (world machine.new (Some limiter.new))) }
-    ensures bill { IfOk result
-        (λ bill. IsBill machine.old calls.now bill.replies.items bill.charged machine.new) }
     ensures off { machine.old.meter.left ≡ None → IfOk result (λ bill. bill.charged ≡ 0) }
     ensures err { OnErr result ((machine.new ≡ machine.old) × (limiter.new ≡ limiter.old)) }
 {
@@ -40,6 +46,40 @@ pub fn run_billed<L: ResourceLimiter>(
     let replies = run_lending(machine, calls, limiter)?;
     let charged = before.saturating_sub(left(machine));
     Ok(Bill { replies, charged })
+}
+
+/// As `run_billed`, for calls of unknown origin: where one of them sets the fuel, none is made.
+pub fn run_if_billable<L: ResourceLimiter>(
+    machine: &mut Machine,
+    calls: &[Call],
+    limiter: &mut L,
+) -> Result<Bill, BillError>
+    ensures bill { IfOk result (λ bill. IsBill (optional_rules L.rules) calls.now
+        (world machine.old (Some limiter.old)) bill.replies.items bill.charged
+        (world machine.new (Some limiter.new))) }
+    ensures off { machine.old.meter.left ≡ None → IfOk result (λ bill. bill.charged ≡ 0) }
+    ensures sets_fuel { IsErrOf result BillError.SetsFuel ↔ ¬ (All SetsNoFuel calls.now) }
+    ensures err { OnErr result ((machine.new ≡ machine.old) × (limiter.new ≡ limiter.old)) }
+{
+    if !is_billable(calls) {
+        return Err(BillError::SetsFuel);
+    }
+    match run_billed(machine, calls, limiter) {
+        Ok(bill) => Ok(bill),
+        Err(_) => Err(BillError::OutOfMemory),
+    }
+}
+
+/// Whether no call sets the fuel.
+fn is_billable(calls: &[Call]) -> bool
+    ensures { IsTrue result ↔ All SetsNoFuel calls.now }
+{
+    for call in calls {
+        if call.sets_fuel() {
+            return false;
+        }
+    }
+    true
 }
 
 /// What is left, and 0 where metering is off.

@@ -1,13 +1,14 @@
 //! A small interpreter: a list of instructions that runs on a machine under a limiter. Modules,
 //! functions and the validation of types are left out.
-ghost use Rattle.std.specs.Prelude.{◌≡◌, ◌<◌, Some, length, IsSome, MatchBool, MatchResult};
+ghost use Rattle.std.specs.Prelude.{◌≡◌, ◌<◌, Some, List, length, true, false, IsSome, MatchBool};
 ghost use Rattle.wasmi_meter.specs.Limiter.{optional_rules};
-ghost use Rattle.wasmi_core.specs.World.{world};
-ghost use Rattle.wasmi_uses.specs.Interpreter.{action_of, action_at, continues, TakesFuel, HasNoFuel, LeadsAt, EndsAt, Executes, IsWithinSteps, HasRun};
+ghost use Rattle.wasmi_core.specs.World.{Turn, world};
+ghost use Rattle.wasmi_core.specs.Runs.{Run};
+ghost use Rattle.wasmi_uses.specs.Interpreter.{action_of, action_at, place_after, IsGrowth, Follows, is_out_of_fuel, fuel_taken, StepsAt, Executes, TakesFuel, IsWithinSteps, HasRun};
 
 use wasmi_core::{
-    BinaryOp, Call, Machine, RawVal, ReadAs, Reply, ResourceLimiter, StoreOp, VectorLoadOp, laws,
-    wasm,
+    BinaryOp, Call, FuelError, Machine, RawVal, ReadAs, Reply, ResourceLimiter, StoreOp,
+    VectorLoadOp, laws, wasm,
 };
 
 /// One instruction. Locals are the registers of the machine, 0 to 15, and the memory is its memory
@@ -28,8 +29,10 @@ pub enum Instruction {
     Load { dst: u8, ptr: u8, offset: u64 },
     /// `i64.store`
     Store { ptr: u8, offset: u64, value: u8 },
-    /// `memory.grow` without its result: `Size` tells whether the memory has grown.
-    Grow { pages: u8 },
+    /// `memory.grow` by as many pages as a local says. The result is the old size in pages, or -1,
+    /// which is 2^64 - 1, where the growth is refused: out of bounds, denied by the limiter, out of
+    /// memory, or more than the fuel that is left pays for.
+    Grow { dst: u8, pages: u8 },
     /// `memory.size`
     Size { dst: u8 },
     /// `br` to an index of the program
@@ -45,6 +48,9 @@ pub enum Instruction {
 pub enum Action {
     /// The machine answers a call, and the next instruction follows.
     Calls(Call),
+    /// The memory grows by so many pages, a register takes the result, and the next instruction
+    /// follows.
+    Grows { dst: u8, pages: u64 },
     /// The next instruction follows.
     Continues,
     /// The instruction of an index follows.
@@ -60,9 +66,10 @@ pub enum Ending {
     Returned(RawVal),
     /// A call was refused: an access was out of bounds, or there is no such register or memory.
     Refused(Reply),
-    /// There is no next instruction, or it reads a register or a memory that isn't there.
+    /// There is no next instruction, or it reads a register or a memory that isn't there, or it is
+    /// a growth whose `dst` isn't there. No fuel is taken, and nothing has happened.
     Undefined,
-    /// The machine is metered, and has no fuel for the next instruction.
+    /// There is a next instruction, but the machine is metered and has no fuel for it.
     OutOfFuel,
 }
 
@@ -119,10 +126,11 @@ impl Instruction {
                     value,
                 }))
             }
-            Instruction::Grow { pages } => Some(Action::Calls(Call::GrowMemory {
-                memory: 0,
-                pages: machine.register(pages)?.to_bits64(),
-            })),
+            Instruction::Grow { dst, pages } => {
+                machine.register(dst)?;
+                let pages = machine.register(pages)?.to_bits64();
+                Some(Action::Grows { dst, pages })
+            }
             Instruction::Size { dst } => Some(set(dst, RawVal::from(machine.memory(0)?.size()))),
             Instruction::Branch(target) => Some(Action::Branches(target)),
             Instruction::BranchIf { condition, target } => {
@@ -153,80 +161,112 @@ fn action_at(program: &[Instruction], place: usize, machine: &Machine) -> Option
 }
 
 /// Takes one fuel, where the machine is metered; whether there was one to take.
-fn take_fuel<L: ResourceLimiter>(machine: &mut Machine, limiter: &mut L) -> bool
+fn take_fuel(machine: &mut Machine) -> bool
     ensures { MatchBool result
-        (TakesFuel (optional_rules L.rules) (world machine.old (Some limiter.old))
-        (world machine.new (Some limiter.new)))
-        (HasNoFuel (world machine.old (Some limiter.old)) (world machine.new (Some limiter.new))) }
+        ((is_out_of_fuel machine.old.meter ≡ false) × (machine.new ≡ fuel_taken machine.old))
+        ((is_out_of_fuel machine.old.meter ≡ true) × (machine.new ≡ machine.old)) }
 {
-    match machine.fuel().get_fuel() {
-        Err(_) => true,
-        Ok(0) => false,
-        Ok(left) => {
-            machine.step_lending(&Call::SetFuel(left - 1), limiter);
-            true
-        }
+    match machine.consume_fuel(1) {
+        Ok(_) => true,
+        Err(error) => match error {
+            FuelError::FuelMeteringDisabled => true,
+            FuelError::OutOfFuel { .. } => false,
+        },
     }
 }
 
-/// Whether a program goes on after a reply. A growth that is refused doesn't end it.
-fn continues(reply: &Reply) -> bool
-    ensures { result ≡ continues reply.now }
+/// What follows the reply to a call: the next place, or how the program ends.
+fn place_after(reply: Reply, next: usize) -> Result<usize, Ending>
+    ensures { result ≡ place_after reply next }
 {
-    matches!(reply, Reply::Done | Reply::Number(_) | Reply::Memory(_))
+    match reply {
+        Reply::Done => Ok(next),
+        reply => Err(Ending::Refused(reply)),
+    }
+}
+
+/// Grows the memory, and sets a register to the result of `memory.grow`: the reply to the last of
+/// these calls.
+fn grow<L: ResourceLimiter>(dst: u8, pages: u64, machine: &mut Machine, limiter: &mut L) -> Reply
+    ensures { (turns : List Turn) × Run (optional_rules L.rules)
+        (world machine.old (Some limiter.old)) turns (world machine.new (Some limiter.new))
+        × IsGrowth dst pages turns result }
+{
+    let size = match machine.step_lending(&Call::GrowMemory { memory: 0, pages }, limiter) {
+        Reply::Number(size) => size,
+        Reply::Memory(_) => u64::MAX,
+        reply => return reply,
+    };
+    let value = RawVal::from(size);
+    machine.step_lending(&Call::SetRegister { dst, value }, limiter)
+}
+
+/// Carries out an action: the place that follows, or how the program ends.
+fn act<L: ResourceLimiter>(
+    action: Action,
+    next: usize,
+    machine: &mut Machine,
+    limiter: &mut L,
+) -> Result<usize, Ending>
+    ensures { (turns : List Turn) × Run (optional_rules L.rules)
+        (world machine.old (Some limiter.old)) turns (world machine.new (Some limiter.new))
+        × Follows action next turns result }
+{
+    match action {
+        Action::Calls(call) => place_after(machine.step_lending(&call, limiter), next),
+        Action::Grows { dst, pages } => place_after(grow(dst, pages, machine, limiter), next),
+        Action::Continues => Ok(next),
+        Action::Branches(target) => Ok(target),
+        Action::Returns(value) => Err(Ending::Returned(value)),
+    }
 }
 
 /// Executes the instruction of a place, for one fuel where the machine is metered: the next place,
-/// or how the program ends.
+/// or how the program ends. The fuel is taken before the instruction does anything, and stays taken
+/// where its call is refused.
 pub fn step<L: ResourceLimiter>(
     program: &[Instruction],
     place: usize,
     machine: &mut Machine,
     limiter: &mut L,
 ) -> Result<usize, Ending>
-    ensures { MatchResult result
-        (λ next. LeadsAt (optional_rules L.rules) program.now place
-        (world machine.old (Some limiter.old)) next (world machine.new (Some limiter.new)))
-        (λ ending. EndsAt (optional_rules L.rules) program.now place
-        (world machine.old (Some limiter.old)) ending (world machine.new (Some limiter.new))) }
+    ensures { (turns : List Turn) × StepsAt (optional_rules L.rules) program.now place
+        (world machine.old (Some limiter.old)) turns result
+        (world machine.new (Some limiter.new)) }
 {
     let Some(action) = action_at(program, place, machine) else {
         return Err(Ending::Undefined);
     };
-    if !take_fuel(machine, limiter) {
+    if !take_fuel(machine) {
         return Err(Ending::OutOfFuel);
     }
-    match action {
-        Action::Calls(call) => {
-            let reply = machine.step_lending(&call, limiter);
-            if continues(&reply) {
-                Ok(place + 1)
-            } else {
-                Err(Ending::Refused(reply))
-            }
-        }
-        Action::Continues => Ok(place + 1),
-        Action::Branches(target) => Ok(target),
-        Action::Returns(value) => Err(Ending::Returned(value)),
-    }
+    act(action, place + 1, machine, limiter)
 }
 
 /// Executes a program from its first instruction on, at most so many instructions, each for one
-/// fuel where the machine is metered: so it returns, whatever the program. All that it does to the
-/// machine and the limiter is a run, of which each law over runs speaks.
+/// fuel where the machine is metered: so it returns, whatever the program. While metering is on,
+/// the fuel that was left is what is left afterwards, one for each instruction, also for the one at
+/// which the program returned or was refused, and what growths were charged.
+///
+/// What it leaves of the machine and the limiter is what a run leaves, of which each law over runs
+/// speaks. That run has a call that sets what is left wherever one fuel is taken, so the laws on
+/// fuel say little of it: `executed` says the same of the program itself.
 pub fn execute<L: ResourceLimiter>(
     program: &[Instruction],
     machine: &mut Machine,
     limiter: &mut L,
     steps: u64,
 ) -> Outcome
-    ensures executed { Executes (optional_rules L.rules) program.now
-        (world machine.old (Some limiter.old)) result (world machine.new (Some limiter.new)) }
+    ensures executed { (turns : List Turn) × Executes (optional_rules L.rules) program.now
+        (world machine.old (Some limiter.old)) turns result (world machine.new (Some limiter.new))
+        × TakesFuel machine.old.meter turns result machine.new.meter }
     ensures steps { IsWithinSteps steps result }
     ensures run { HasRun (optional_rules L.rules) (world machine.old (Some limiter.old))
         (world machine.new (Some limiter.new)) }
 {
     laws::runs_join::<L>();
+    laws::charges_are_spent::<L>();
+    laws::fuel_bounds_writing::<L>();
     let mut place = 0;
     for executed in 0..steps {
         match step(program, place, machine, limiter) {

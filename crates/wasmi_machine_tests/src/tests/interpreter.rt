@@ -164,42 +164,163 @@ fn a_checksum_over_a_memory(rt: HostRuntime) -> Result<(), Fail> {
     Ok(())
 }
 
-/// The size of a memory after a growth by one page.
-static GROWTH: [Instruction; 4] = [
-    Instruction::Constant { dst: 0, number: 1 },
-    Instruction::Grow { pages: 0 },
-    Instruction::Size { dst: 1 },
-    Instruction::Return(1),
+/// Grows a memory by two pages, and returns a copy of the result. Local 0 is how many pages, local
+/// 1 the result, local 2 its copy, and local 3 the size afterwards.
+static GROWTH: [Instruction; 5] = [
+    Instruction::Constant { dst: 0, number: 2 },
+    Instruction::Grow { dst: 1, pages: 0 },
+    Instruction::Copy { dst: 2, src: 1 },
+    Instruction::Size { dst: 3 },
+    Instruction::Return(2),
 ];
+
+/// How `GROWTH` ends, from its last instruction on.
+fn growth_ends(ending: Ending) -> Outcome {
+    Outcome {
+        ending: Some(ending),
+        place: 4,
+        executed: 4,
+    }
+}
 
 static PAGE: [Step; 1] = [(StaticCall::NewPages(1, None), StaticReply::Made(0))];
 
-/// Grows a memory of one page under a quota, to so many pages and bytes.
-fn grows_under(
-    rt: &(impl Abort + AllocGlobal),
+/// What `GROWTH` returns for a memory of one page under a quota, and the pages and bytes after it.
+struct UnderQuota {
     cap: u64,
+    result: u64,
     pages: u64,
     bytes: u64,
-) -> Result<(), Fail> {
-    let mut machine = unmetered(rt.alloc());
-    let mut quota = Quota::new(cap, 0);
-    runs_under(rt, &mut machine, &PAGE, &mut quota)?;
-    let expected = Outcome {
-        ending: Some(Ending::Returned(RawVal::from(pages))),
-        place: 3,
-        executed: 3,
-    };
-    ends(rt, &GROWTH, &mut machine, &mut quota, expected);
-    same(rt, "the size", memory_size(&machine, 0), Some(pages));
-    same(rt, "the bytes", quota.held_bytes(), bytes);
-    Ok(())
 }
+
+/// One byte decides about the growth. The result is the old size, or -1.
+static UNDER_QUOTAS: [UnderQuota; 3] = [
+    UnderQuota {
+        cap: 65536,
+        result: u64::MAX,
+        pages: 1,
+        bytes: 65536,
+    },
+    UnderQuota {
+        cap: 196607,
+        result: u64::MAX,
+        pages: 1,
+        bytes: 65536,
+    },
+    UnderQuota {
+        cap: 196608,
+        result: 1,
+        pages: 3,
+        bytes: 196608,
+    },
+];
 
 #[test]
 fn a_growth_under_a_quota(rt: HostRuntime) -> Result<(), Fail> {
-    grows_under(&rt, 65536, 1, 65536)?;
-    grows_under(&rt, 131071, 1, 65536)?;
-    grows_under(&rt, 131072, 2, 131072)
+    for row in &UNDER_QUOTAS {
+        let mut machine = unmetered(rt.alloc());
+        let mut quota = Quota::new(row.cap, 0);
+        runs_under(&rt, &mut machine, &PAGE, &mut quota)?;
+        let result = RawVal::from(row.result);
+        let expected = growth_ends(Ending::Returned(result));
+        ends(&rt, &GROWTH, &mut machine, &mut quota, expected);
+        same(&rt, "the size", memory_size(&machine, 0), Some(row.pages));
+        same(&rt, "the bytes", quota.held_bytes(), row.bytes);
+        for (local, value) in [RawVal::from(2u64), result, result, RawVal::from(row.pages)]
+            .iter()
+            .enumerate()
+        {
+            same(&rt, "a local", machine.register(local as u8), Some(*value));
+        }
+    }
+    Ok(())
+}
+
+/// What `GROWTH` returns for a memory of one page on a meter with so much fuel, unless it is out of
+/// fuel, and the fuel and the pages after it.
+struct OnMeter {
+    fuel: u64,
+    returned: Option<u64>,
+    left: u64,
+    pages: u64,
+}
+
+/// Two pages are 131,072 bytes and cost 2,048, and each of the five instructions costs 1. A growth
+/// that can't be paid is refused, and costs its instruction alone.
+static ON_METERS: [OnMeter; 3] = [
+    OnMeter {
+        fuel: 2053,
+        returned: Some(1),
+        left: 0,
+        pages: 3,
+    },
+    OnMeter {
+        fuel: 2052,
+        returned: None,
+        left: 0,
+        pages: 3,
+    },
+    OnMeter {
+        fuel: 2049,
+        returned: Some(u64::MAX),
+        left: 2044,
+        pages: 1,
+    },
+];
+
+#[test]
+fn a_growth_on_a_meter(rt: HostRuntime) -> Result<(), Fail> {
+    for row in &ON_METERS {
+        let mut machine = metered(rt.alloc());
+        let start = [
+            (StaticCall::SetFuel(row.fuel), StaticReply::Done),
+            (StaticCall::NewPages(1, None), StaticReply::Made(0)),
+        ];
+        runs_to(&rt, &mut machine, &start)?;
+        let ending = match row.returned {
+            Some(number) => Ending::Returned(RawVal::from(number)),
+            None => Ending::OutOfFuel,
+        };
+        let expected = growth_ends(ending);
+        ends(&rt, &GROWTH, &mut machine, &mut NoLimits, expected);
+        same(&rt, "the fuel", machine.fuel().get_fuel(), Ok(row.left));
+        same(&rt, "the size", memory_size(&machine, 0), Some(row.pages));
+    }
+    Ok(())
+}
+
+/// One instruction takes its fuel before it does anything, and only where it is one. There is no
+/// memory.
+#[test]
+fn fuel_is_taken_for_an_instruction(rt: HostRuntime) -> Result<(), Fail> {
+    let constant = Instruction::Constant { dst: 0, number: 7 };
+    let grow = Instruction::Grow { dst: 0, pages: 1 };
+    for (instruction, fuel, ending, executed, left) in [
+        (constant, 0, Ending::OutOfFuel, 0, 0),
+        (constant, 1, Ending::Undefined, 1, 0),
+        (Instruction::Return(16), 0, Ending::Undefined, 0, 0),
+        (grow, 0, Ending::OutOfFuel, 0, 0),
+        (grow, 1, Ending::Refused(Reply::NoSuch), 0, 0),
+    ] {
+        let mut machine = metered(rt.alloc());
+        let start = [(StaticCall::SetFuel(fuel), StaticReply::Done)];
+        runs_to(&rt, &mut machine, &start)?;
+        let expected = Outcome {
+            ending: Some(ending),
+            place: executed as usize,
+            executed,
+        };
+        ends(&rt, &[instruction], &mut machine, &mut NoLimits, expected);
+        same(&rt, "the fuel", machine.fuel().get_fuel(), Ok(left));
+        let number = if executed == 0 { 0 } else { 7u64 };
+        same(
+            &rt,
+            "the local",
+            machine.register(0),
+            Some(RawVal::from(number)),
+        );
+    }
+    Ok(())
 }
 
 #[test]
@@ -215,6 +336,12 @@ fn programs_that_end_otherwise(rt: HostRuntime) -> Result<(), Fail> {
         (Instruction::Branch(1), Some(Ending::Undefined), 1, 1),
         (Instruction::Return(16), Some(Ending::Undefined), 0, 0),
         (past_the_end, Some(Ending::Refused(trap)), 0, 0),
+        (
+            Instruction::Grow { dst: 16, pages: 0 },
+            Some(Ending::Undefined),
+            0,
+            0,
+        ),
         (
             Instruction::Constant { dst: 16, number: 0 },
             Some(Ending::Refused(Reply::NoSuch)),

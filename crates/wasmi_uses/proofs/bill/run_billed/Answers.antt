@@ -11,4 +11,4 @@ returns-clause-bill g c =
     omega (arith, c.saturating_sub-charged.ensures, c.left-before.ensures, c.left.ensures) in
     ran_billed (optional_rules g.L.ResourceLimiter.rules) c.charges_are_spent.ensures c.args.calls.now
     c.in_ok-replies.replies.items
-    _ _ c.saturating_sub-charged.result is c.requires c.in_ok-replies.ensures.run
+    _ _ c.saturating_sub-charged.result is c.requires.sets_no_fuel c.in_ok-replies.ensures.run
