@@ -2,7 +2,7 @@
 use Rattle.std.proofs.Common.{ℕ, ◌≡◌, List, [], ◌∷◌, Option, Some, None, true, false, bytes_eq, cond, refl, ap, sym, subst}
 use Rattle.std.specs.Bool.{⊤}
 use Rattle.std.specs.Option.{option_map}
-use Rattle.wasmi_operands.specs.Numbers.{decimal_value}
+use Rattle.wasmi_operands.specs.Decimal.{decimal_value}
 use Rattle.wasmi_operands.specs.Names.{NameEntry, entry_of}
 use Rattle.wasmi_operands.specs.LaneNames.{LaneEntry, NamesBeside, NamesLane}
 use Rattle.wasmi_operands.proofs.NamesLemmas.{same_text}

@@ -1,6 +1,6 @@
 pub mod AcceptanceLemmas
 pub mod NamesLemmas
-pub mod NumbersLemmas
+pub mod DecimalLemmas
 pub mod TypeWordsLemmas
 pub mod WordsLemmas
 pub mod LaneNamesLemmas

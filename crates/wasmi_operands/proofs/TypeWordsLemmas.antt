@@ -3,7 +3,7 @@ use Rattle.std.proofs.Common.{ℕ, ◌≡◌, List, Option, Some, refl, sym}
 use Rattle.std.specs.Option.{option_map}
 use Rattle.wasmi_types.specs.contracts.value.RefType.{enum}
 use Rattle.wasmi_typed.specs.declared.typed_ref.TypedRawRef.{TypedRawRef}
-use Rattle.wasmi_operands.specs.Numbers.{decimal_value}
+use Rattle.wasmi_operands.specs.Decimal.{decimal_value}
 use Rattle.wasmi_operands.specs.TypeWords.{reference_word, WritesReference}
 use Rattle.wasmi_operands.proofs.NamesLemmas.{named, named_is}
 

@@ -9,7 +9,7 @@ Accepts (Ok a) Means = Means a
 Accepts (Err BadCommand) Means = (a : _) → ¬ (Means a)
 Accepts (Err OutOfMemory) Means = ⊥
 
--- the same where memory is taken, which may be wanting
+-- the words are read as a value that means this, or they mean nothing of the kind, or memory was refused
 abbrev pub AcceptsWithMemory : {A : Type 0} → Result A LineError → (A → Type 0) → Type 0
 AcceptsWithMemory (Ok a) Means = Means a
 AcceptsWithMemory (Err BadCommand) Means = (a : _) → ¬ (Means a)

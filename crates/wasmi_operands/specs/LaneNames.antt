@@ -8,8 +8,8 @@ use Rattle.wasmi_vector_ops.specs.declared.access.LoadLaneOp.{LoadLaneOp}
 use Rattle.wasmi_vector_ops.specs.declared.access.LoadLaneOp.TheVariants as load
 use Rattle.wasmi_vector_ops.specs.declared.access.StoreLaneOp.{StoreLaneOp}
 use Rattle.wasmi_vector_ops.specs.declared.access.StoreLaneOp.TheVariants as store
-use Rattle.wasmi_operands.specs.Words.{Words}
-use Rattle.wasmi_operands.specs.Numbers.{IsDecimal, WritesNumbers, decimal_value}
+use Rattle.wasmi_operands.specs.Words.{Words, WritesEach}
+use Rattle.wasmi_operands.specs.Decimal.{IsDecimal, WritesNumber, decimal_value}
 use Rattle.wasmi_operands.specs.Names.{NameEntry, entry_of}
 
 -- an entry of a list: the name of an instruction on a lane, the bits of the index, and the instruction of an index
@@ -82,4 +82,4 @@ NamesExtract = NamesLane extractions
 -- sixteen words write the lanes of a shuffle, of which there are 32 to choose from
 pub record WritesLanes (words : Words) (lanes : List ℕ) : Type 0 where
   pub sixteen : length words ≡ 16
-  pub written : WritesNumbers 5 words lanes
+  pub written : WritesEach (WritesNumber 5) words lanes

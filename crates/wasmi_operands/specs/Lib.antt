@@ -1,5 +1,5 @@
 pub mod Words
-pub mod Numbers
+pub mod Decimal
 pub mod Acceptance
 pub mod TypeWords
 pub mod Names

@@ -9,7 +9,7 @@ use Rattle.wasmi_types.specs.declared.value.ValType.TheVariants.{I32, I64, F32, 
 use Rattle.wasmi_typed.specs.declared.global.Mutability.{Mutability}
 use Rattle.wasmi_typed.specs.declared.global.Mutability.TheVariants.{Const, Var}
 use Rattle.wasmi_typed.specs.declared.typed_ref.TypedRawRef.{TypedRawRef}
-use Rattle.wasmi_operands.specs.Numbers.{WritesNumber}
+use Rattle.wasmi_operands.specs.Decimal.{WritesNumber}
 
 -- the bits of an address or of an index
 abbrev pub width_word : IndexType → List ℕ

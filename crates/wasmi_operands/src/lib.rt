@@ -1,11 +1,14 @@
 //! The words of a script's line, and what they write: numbers, types, instructions and operands.
 #![tactic(auto)]
 
+mod decimal;
 mod error;
 pub mod names;
+pub mod operand;
 mod types;
-pub mod words;
+mod words;
 
+pub use decimal::{number, number_or_none};
 pub use error::LineError;
 pub use types::{index_ty, mutability, raw_reference, ref_type, reference, val_type};
-pub use words::{number, number_or_none, read_words};
+pub use words::read_words;

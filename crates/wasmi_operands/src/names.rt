@@ -2,14 +2,7 @@
 //! those of loads and stores in `access`.
 ghost use Rattle.std.specs.Prelude.{map};
 ghost use Rattle.wasmi_operands.specs.Acceptance.{Accepts};
-ghost use Rattle.wasmi_operands.specs.BinaryNames.{binary_name};
-ghost use Rattle.wasmi_operands.specs.MakeNames.{make_name};
-ghost use Rattle.wasmi_operands.specs.Names.{IsName, IsNamed};
-ghost use Rattle.wasmi_operands.specs.ShiftNames.{shift_name};
-ghost use Rattle.wasmi_operands.specs.TernaryNames.{ternary_name};
-ghost use Rattle.wasmi_operands.specs.TestNames.{test_name};
-ghost use Rattle.wasmi_operands.specs.UnaryNames.{unary_name};
-ghost use Rattle.wasmi_operands.specs.VectorLoadNames.{vector_load_name};
+ghost use Rattle.wasmi_operands.specs.Names.{IsNamed};
 
 pub mod access;
 pub mod lane;
@@ -249,57 +242,8 @@ pub const LOADS: [(&str, VectorLoadOp); 13] = [
     ("v128_load64_zero", VectorLoadOp::V128Load64Zero),
 ];
 
-/// What makes a vector of an item, by its name.
-pub fn make_op(name: &str) -> Result<MakeOp, LineError>
-    ensures { Accepts result (IsName make_name name.now) }
-{
-    op_named(&MAKES, name)
-}
-
-/// The instruction of one vector, by its name.
-pub fn unary_op(name: &str) -> Result<UnaryOp, LineError>
-    ensures { Accepts result (IsName unary_name name.now) }
-{
-    op_named(&UNARIES, name)
-}
-
-/// The instruction of two vectors, by its name.
-pub fn binary_op(name: &str) -> Result<BinaryOp, LineError>
-    ensures { Accepts result (IsName binary_name name.now) }
-{
-    op_named(&BINARIES, name)
-}
-
-/// The instruction of three vectors, by its name.
-pub fn ternary_op(name: &str) -> Result<TernaryOp, LineError>
-    ensures { Accepts result (IsName ternary_name name.now) }
-{
-    op_named(&TERNARIES, name)
-}
-
-/// The shift of lanes, by its name.
-pub fn shift_op(name: &str) -> Result<ShiftOp, LineError>
-    ensures { Accepts result (IsName shift_name name.now) }
-{
-    op_named(&SHIFTS, name)
-}
-
-/// The test or mask of a vector, by its name.
-pub fn test_op(name: &str) -> Result<TestOp, LineError>
-    ensures { Accepts result (IsName test_name name.now) }
-{
-    op_named(&TESTS, name)
-}
-
-/// The load of a vector, by its name.
-pub fn load_op(name: &str) -> Result<VectorLoadOp, LineError>
-    ensures { Accepts result (IsName vector_load_name name.now) }
-{
-    op_named(&LOADS, name)
-}
-
 /// The op of a name in a list of names.
-fn op_named<T: Copy>(names: &[(&str, T)], name: &str) -> Result<T, LineError>
+pub(crate) fn op_named<T: Copy>(names: &[(&str, T)], name: &str) -> Result<T, LineError>
     ensures { Accepts result (IsNamed (map (λ entry. (entry.0.now, entry.1)) names.now) name.now) }
 {
     let entry = names.iter().find(|(known, _)| *known == name);

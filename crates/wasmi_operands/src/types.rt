@@ -1,11 +1,11 @@
 //! Types and references as words.
 ghost use Rattle.std.specs.Prelude.{◌≡◌};
 ghost use Rattle.wasmi_operands.specs.Acceptance.{Accepts};
-ghost use Rattle.wasmi_operands.specs.Numbers.{WritesNumber};
+ghost use Rattle.wasmi_operands.specs.Decimal.{WritesNumber};
 ghost use Rattle.wasmi_operands.specs.TypeWords.{width_word, reference_word, value_word, mutability_word, WritesReference};
 
+use crate::decimal::number;
 use crate::error::LineError;
-use crate::words::number;
 use wasmi_raw::RawRef;
 use wasmi_typed::{Mutability, TypedRawRef};
 use wasmi_types::{IndexType, RefType, ValType};

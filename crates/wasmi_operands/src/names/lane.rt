@@ -4,10 +4,10 @@
 ghost use Rattle.std.specs.Prelude.{◌<◌, ◌^◌, IfErr, IfOk, Err, Ok, ◌≡◌};
 ghost use Rattle.wasmi_operands.specs.Acceptance.{Accepts};
 ghost use Rattle.wasmi_operands.specs.LaneNames.{NamesExtract, NamesReplace, NamesLoadLane, NamesStoreLane};
-ghost use Rattle.wasmi_operands.specs.Numbers.{IsDecimal, decimal_value};
+ghost use Rattle.wasmi_operands.specs.Decimal.{IsDecimal, decimal_value};
 
+use crate::decimal::number;
 use crate::error::LineError;
-use crate::words::number;
 use wasmi_vector_ops::{ExtractOp, LoadLaneOp, ReplaceOp, StoreLaneOp};
 
 /// The extraction of a name and a lane.

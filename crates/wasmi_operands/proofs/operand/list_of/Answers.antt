@@ -1,0 +1,19 @@
+use Rattle.std.proofs.Common.{◌≡◌, Err, rules, sym, subst}
+use Rattle.wasmi_operands.specs.Acceptance.{AcceptsWithMemory}
+use Rattle.wasmi_operands.specs.Words.{WritesEach}
+use Rattle.wasmi_operands.proofs.WordsLemmas.{one_word_more, refused_list}
+use Rattle.wasmi_operands.proofs.operand.list_of.Goals as goal
+
+pub loop-word-preserved : goal.loop-word-preserved
+loop-word-preserved g c =
+    subst (WritesEach g.T.Operand.writes _) (sym c.in_ok-push.ensures.items)
+    (one_word_more g.T.Operand.writes c.args.words.now c.loop-word.word-index _ _ _ c.loop-word-test.true
+    c.loop-word.invariant c.in_ok-from_word.ensures)
+
+pub returns-in_err-from_word : goal.returns-in_err-from_word
+returns-in_err-from_word g c =
+    let words = c.args.words.now in
+    let same : c.from_residual.result ≡ Err c.in_err-from_word.field-0.0 = search rules in
+    subst (λ result. AcceptsWithMemory result (λ list. WritesEach g.T.Operand.writes words list.items)) (sym same)
+    (refused_list g.T.Operand.writes (λ list. list.items) words c.loop-word.word-index _ c.in_err-from_word.field-0.0
+    c.loop-word-test.true c.in_err-from_word.ensures)

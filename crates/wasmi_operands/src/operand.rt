@@ -1,0 +1,237 @@
+//! What words write as the operands of a command: one word, two to five words, or a list.
+ghost use Rattle.std.specs.Prelude.{◌≡◌, ℕ, List, length};
+ghost use Rattle.wasmi_operands.specs.Acceptance.{Accepts, AcceptsWithMemory};
+ghost use Rattle.wasmi_operands.specs.AccessNames.{load_name, store_name};
+ghost use Rattle.wasmi_operands.specs.BinaryNames.{binary_name};
+ghost use Rattle.wasmi_operands.specs.Decimal.{WritesNumber};
+ghost use Rattle.wasmi_operands.specs.MakeNames.{make_name};
+ghost use Rattle.wasmi_operands.specs.Names.{IsName};
+ghost use Rattle.wasmi_operands.specs.ShiftNames.{shift_name};
+ghost use Rattle.wasmi_operands.specs.TernaryNames.{ternary_name};
+ghost use Rattle.wasmi_operands.specs.TestNames.{test_name};
+ghost use Rattle.wasmi_operands.specs.TypeWords.{reference_word, value_word, mutability_word};
+ghost use Rattle.wasmi_operands.specs.UnaryNames.{unary_name};
+ghost use Rattle.wasmi_operands.specs.VectorLoadNames.{vector_load_name};
+ghost use Rattle.wasmi_operands.specs.Words.{WritesEach, word_at};
+
+use crate::decimal::number;
+use crate::error::LineError;
+use crate::names::access::{load_op, store_op};
+use crate::names::{BINARIES, LOADS, MAKES, SHIFTS, TERNARIES, TESTS, UNARIES, op_named};
+use crate::types::{mutability, raw_reference, ref_type, val_type};
+use std::alloc::Global;
+use wasmi_raw::RawRef;
+use wasmi_scalar_ops::{LoadOp, StoreOp};
+use wasmi_typed::Mutability;
+use wasmi_types::{RefType, ValType};
+use wasmi_vector_ops::{BinaryOp, MakeOp, ShiftOp, TernaryOp, TestOp, UnaryOp, VectorLoadOp};
+
+/// What one word of a command can write.
+pub trait Operand: Copy {
+    /// The word writes this value.
+    ghost writes: { List ℕ → Self → Type 0 };
+
+    /// What the word writes.
+    fn from_word(word: &str) -> Result<Self, LineError>
+        ensures { Accepts result (writes word.now) };
+}
+
+impl Operand for u64 {
+    ghost writes = { WritesNumber 64 };
+
+    fn from_word(word: &str) -> Result<Self, LineError> {
+        number(word)
+    }
+}
+
+impl Operand for usize {
+    ghost writes = { WritesNumber 64 };
+
+    fn from_word(word: &str) -> Result<Self, LineError> {
+        number(word)
+    }
+}
+
+impl Operand for u32 {
+    ghost writes = { WritesNumber 32 };
+
+    fn from_word(word: &str) -> Result<Self, LineError> {
+        number(word)
+    }
+}
+
+impl Operand for u8 {
+    ghost writes = { WritesNumber 8 };
+
+    fn from_word(word: &str) -> Result<Self, LineError> {
+        number(word)
+    }
+}
+
+impl Operand for RawRef {
+    ghost writes = { WritesNumber 32 };
+
+    fn from_word(word: &str) -> Result<Self, LineError> {
+        raw_reference(word)
+    }
+}
+
+impl Operand for RefType {
+    ghost writes = { λ word ty. word ≡ reference_word ty };
+
+    fn from_word(word: &str) -> Result<Self, LineError> {
+        ref_type(word)
+    }
+}
+
+impl Operand for ValType {
+    ghost writes = { λ word ty. word ≡ value_word ty };
+
+    fn from_word(word: &str) -> Result<Self, LineError> {
+        val_type(word)
+    }
+}
+
+impl Operand for Mutability {
+    ghost writes = { λ word mutability. word ≡ mutability_word mutability };
+
+    fn from_word(word: &str) -> Result<Self, LineError> {
+        mutability(word)
+    }
+}
+
+impl Operand for LoadOp {
+    ghost writes = { λ word op. word ≡ load_name op };
+
+    fn from_word(word: &str) -> Result<Self, LineError> {
+        load_op(word)
+    }
+}
+
+impl Operand for StoreOp {
+    ghost writes = { λ word op. word ≡ store_name op };
+
+    fn from_word(word: &str) -> Result<Self, LineError> {
+        store_op(word)
+    }
+}
+
+impl Operand for MakeOp {
+    ghost writes = { IsName make_name };
+
+    fn from_word(word: &str) -> Result<Self, LineError> {
+        op_named(&MAKES, word)
+    }
+}
+
+impl Operand for UnaryOp {
+    ghost writes = { IsName unary_name };
+
+    fn from_word(word: &str) -> Result<Self, LineError> {
+        op_named(&UNARIES, word)
+    }
+}
+
+impl Operand for BinaryOp {
+    ghost writes = { IsName binary_name };
+
+    fn from_word(word: &str) -> Result<Self, LineError> {
+        op_named(&BINARIES, word)
+    }
+}
+
+impl Operand for TernaryOp {
+    ghost writes = { IsName ternary_name };
+
+    fn from_word(word: &str) -> Result<Self, LineError> {
+        op_named(&TERNARIES, word)
+    }
+}
+
+impl Operand for ShiftOp {
+    ghost writes = { IsName shift_name };
+
+    fn from_word(word: &str) -> Result<Self, LineError> {
+        op_named(&SHIFTS, word)
+    }
+}
+
+impl Operand for TestOp {
+    ghost writes = { IsName test_name };
+
+    fn from_word(word: &str) -> Result<Self, LineError> {
+        op_named(&TESTS, word)
+    }
+}
+
+impl Operand for VectorLoadOp {
+    ghost writes = { IsName vector_load_name };
+
+    fn from_word(word: &str) -> Result<Self, LineError> {
+        op_named(&LOADS, word)
+    }
+}
+
+/// What two words write.
+pub fn two<A: Operand, B: Operand>(words: &[&str]) -> Result<(A, B), LineError>
+    ensures { Accepts result (λ all. (length words.now ≡ 2) × A.writes (word_at words.now 0) all.0
+        × B.writes (word_at words.now 1) all.1) }
+{
+    let [a, b] = words else {
+        return Err(LineError::BadCommand);
+    };
+    Ok((A::from_word(a)?, B::from_word(b)?))
+}
+
+/// What three words write.
+pub fn three<A: Operand, B: Operand, C: Operand>(words: &[&str]) -> Result<(A, B, C), LineError>
+    ensures { Accepts result (λ all. (length words.now ≡ 3) × A.writes (word_at words.now 0) all.0
+        × B.writes (word_at words.now 1) all.1 × C.writes (word_at words.now 2) all.2) }
+{
+    let [front @ .., last] = words else {
+        return Err(LineError::BadCommand);
+    };
+    let (a, b) = two(front)?;
+    Ok((a, b, C::from_word(last)?))
+}
+
+/// What four words write.
+pub fn four<A: Operand, B: Operand, C: Operand, D: Operand>(
+    words: &[&str],
+) -> Result<(A, B, C, D), LineError>
+    ensures { Accepts result (λ all. (length words.now ≡ 4) × A.writes (word_at words.now 0) all.0
+        × B.writes (word_at words.now 1) all.1 × C.writes (word_at words.now 2) all.2
+        × D.writes (word_at words.now 3) all.3) }
+{
+    let [front @ .., last] = words else {
+        return Err(LineError::BadCommand);
+    };
+    let (a, b, c) = three(front)?;
+    Ok((a, b, c, D::from_word(last)?))
+}
+
+/// What five words write.
+pub fn five<A: Operand, B: Operand, C: Operand, D: Operand, E: Operand>(
+    words: &[&str],
+) -> Result<(A, B, C, D, E), LineError>
+    ensures { Accepts result (λ all. (length words.now ≡ 5) × A.writes (word_at words.now 0) all.0
+        × B.writes (word_at words.now 1) all.1 × C.writes (word_at words.now 2) all.2
+        × D.writes (word_at words.now 3) all.3 × E.writes (word_at words.now 4) all.4) }
+{
+    let [front @ .., last] = words else {
+        return Err(LineError::BadCommand);
+    };
+    let (a, b, c, d) = four(front)?;
+    Ok((a, b, c, d, E::from_word(last)?))
+}
+
+/// What the words write, one each.
+pub fn list_of<T: Operand>(alloc: Global, words: &[&str]) -> Result<Vec<T>, LineError>
+    ensures { AcceptsWithMemory result (λ list. WritesEach T.writes words.now list.items) }
+{
+    let mut list = Vec::new(alloc);
+    for word in words {
+        list.push(T::from_word(word)?)?;
+    }
+    Ok(list)
+}
