@@ -21,7 +21,7 @@ use Rattle.wasmi_core.specs.declared.calls.Call.{Call}
 use Rattle.wasmi_core.specs.declared.calls.Call.TheVariants.{SetFuel, GetFuel, NewMemory, NewLentMemory, GrowMemory, DropMemory, Read, Write, Load, Store, NewTable, GrowTable, DropTable, GetElement, SetElement, InitTable, CopyTable, FillTable, NewSegment, DropItems, NewGlobal, SetGlobal, GetGlobal, SetRegister, GetRegister, Make, Unary, Binary, Ternary, Shift, Test, Extract, Replace, Shuffle, VectorLoad, LoadLane, VectorStore, StoreLane}
 use Rattle.wasmi_operands.specs.declared.error.LineError.{LineError}
 use Rattle.wasmi_operands.specs.Acceptance.{Accepts}
-use Rattle.wasmi_operands.specs.Numbers.{WritesNumber}
+use Rattle.wasmi_operands.specs.Decimal.{WritesNumber}
 use Rattle.wasmi_operands.specs.Words.{Words, word_at}
 use Rattle.wasmi_grammar.specs.Commands.{command_word, WritesOperands, NamesAfter}
 use Rattle.wasmi_operands.proofs.AcceptanceLemmas.{refused_through}

@@ -3,10 +3,10 @@ use Rattle.std.proofs.Common.{◌≡◌, ◌∙◌, ℕ, List, Option, Some, ref
 use Rattle.std.specs.Option.{option_map}
 use Rattle.wasmi_types.specs.declared.index_ty.IndexType.{IndexType}
 use Rattle.wasmi_types.specs.contracts.index_ty.IndexType as index
-use Rattle.wasmi_operands.specs.Numbers.{decimal_value, WritesNumber, WritesLimit}
+use Rattle.wasmi_operands.specs.Decimal.{decimal_value, WritesNumber, WritesLimit}
 use Rattle.wasmi_operands.specs.TypeWords.{width_word}
 use Rattle.wasmi_operands.proofs.NamesLemmas.{named, named_is}
-use Rattle.wasmi_operands.proofs.NumbersLemmas.{limit_named, limit_is}
+use Rattle.wasmi_operands.proofs.DecimalLemmas.{limit_named, limit_is}
 use Rattle.wasmi_grammar.specs.LimitWords.{Limits, WritesLimits}
 
 -- limits that three words write

@@ -4,7 +4,7 @@ use Rattle.std.specs.Option.{option_map, option_and_then}
 use Rattle.wasmi_store.specs.declared.memory.ty.PageSize.{PageSize}
 use Rattle.wasmi_store.specs.declared.memory.ty.PageSize.TheVariants.{Byte, Wasm}
 use Rattle.wasmi_store.specs.MemoryType.{MemoryTypeValue, page_log2, page_of_log2}
-use Rattle.wasmi_operands.specs.Numbers.{decimal_value, WritesNumber}
+use Rattle.wasmi_operands.specs.Decimal.{decimal_value, WritesNumber}
 use Rattle.wasmi_grammar.specs.LimitWords.{Limits}
 use Rattle.wasmi_grammar.specs.MemoryWords.{HasSettings, NamesType, memory_limits}
 use Rattle.wasmi_grammar.proofs.LimitWordsLemmas.{WrittenLimits, limits_named, limits_are, written_too, written_alone}

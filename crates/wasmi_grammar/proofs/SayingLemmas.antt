@@ -37,8 +37,8 @@ use Rattle.wasmi_grammar.specs.declared.header.MeterLine.TheVariants.{Off, On}
 use Rattle.wasmi_grammar.specs.declared.header.LimiterLine.{LimiterLine}
 use Rattle.wasmi_grammar.specs.declared.header.LimiterLine.TheVariants.{Quota, Answers, Tenants}
 use Rattle.wasmi_grammar.specs.declared.header.RegionLine.{RegionLine}
-use Rattle.wasmi_operands.specs.Words.{Words, word_at}
-use Rattle.wasmi_operands.specs.Numbers.{decimal_value}
+use Rattle.wasmi_operands.specs.Words.{Words, WritesEach, word_at}
+use Rattle.wasmi_operands.specs.Decimal.{WritesNumber, decimal_value}
 use Rattle.wasmi_operands.specs.Names.{IsName}
 use Rattle.wasmi_operands.specs.TypeWords.{reference_word, value_word, mutability_word}
 use Rattle.wasmi_operands.specs.AccessNames.{load_name, store_name}
@@ -56,6 +56,7 @@ use Rattle.wasmi_grammar.specs.Sayings.{CallSaid, WriteSaid, SegmentSaid, OtherC
 use Rattle.wasmi_grammar.specs.Sayings.{AnswersSaid}
 use Rattle.wasmi_grammar.specs.Sayings.{OtherLimiter, limiter_said, PartSaid, part_said}
 use Rattle.wasmi_operands.proofs.NamesLemmas.{named, named_is}
+use Rattle.wasmi_operands.proofs.WordsLemmas.{each_named}
 use Rattle.wasmi_operands.proofs.TypeWordsLemmas.{reference_named, reference_is}
 use Rattle.wasmi_operands.specs.LaneNames.{extractions, replacements, lane_loads, lane_stores}
 use Rattle.wasmi_operands.proofs.LaneNamesLemmas.{lane_named, lane_is}
@@ -89,7 +90,12 @@ line_said (As tenant) = TenantSaid tenant
 line_said (Command call) = CallTold (call_said call)
 
 abbrev numbers_in : Words → List ℕ
-numbers_in words = map (λ word. decimal_value word.now) words
+numbers_in words = map decimal_value (map (λ word. word.now) words)
+
+-- words that write numbers give those numbers
+numbers_is : (bits : ℕ) (words : Words) (numbers : List ℕ) → WritesEach (WritesNumber bits) words numbers
+    → numbers_in words ≡ numbers
+numbers_is bits = each_named (WritesNumber bits) decimal_value (λ word number writes. sym writes.1)
 
 -- what words write
 module _ (words : Words) where
@@ -215,7 +221,8 @@ module _ (words : Words) where
       option_map (λ ty. Other (NewLentMemory ty)) (memory_is (word 0) (word 1) (word 2) (word 3) ty w.1 i)
   call_is (GrowMemory memory pages) w = λ i. Some (Other (GrowMemory (sym w.1.1 i) (sym w.2.1 i)))
   call_is (Read memory offset len) w = λ i. Some (Other (Read (sym w.1.1 i) (sym w.2.1 i) (sym w.3.1 i)))
-  call_is (Write memory offset bytes) w = λ i. Some (WriteSaid (sym w.0.1.1 i) (sym w.0.2.1 i) (sym w.1.1 i))
+  call_is (Write memory offset bytes) w = λ i.
+      Some (WriteSaid (sym w.0.1.1 i) (sym w.0.2.1 i) (numbers_is 8 (drop 2 words) bytes.items w.1 i))
   call_is (Load op memory ptr offset) w = λ i.
       option_map (λ op. Other (Load op (sym w.2.1 i) (sym w.3.1 i) (sym w.4.1 i)))
       (named_is load.enum tt load_name refl (word 0) op w.1 i)
@@ -241,7 +248,7 @@ module _ (words : Words) where
       option_map (λ value. Other (FillTable (sym w.1.1 i) (sym w.2.1 i) value (sym w.4.1 i)))
       (reference_is (word 2) (word 3) value w.3 i)
   call_is (NewSegment ty items) w =
-      λ i. option_map (λ ty. SegmentSaid ty (sym w.1.1 i))
+      λ i. option_map (λ ty. SegmentSaid ty (numbers_is 32 (drop 1 words) items.items w.1 i))
       (named_is reference_type.enum tt reference_word refl (word 0) ty w.0.1 i)
   call_is (DropItems segment) w = λ i. Some (Other (DropItems (sym w.1.1 i)))
   call_is (NewGlobal value ty) w =
@@ -284,7 +291,8 @@ module _ (words : Words) where
       option_map (λ op. Other (Replace op (sym w.2.1 i) (sym w.3.1 i) (sym w.4.1 i)))
       (lane_is replacements (word 0) (word 3) op w.1 i)
   call_is (Shuffle dst a b lanes) w = λ i.
-      Some (Other (Shuffle (sym w.0.1.1 i) (sym w.0.2.1 i) (sym w.0.3.1 i) (sym w.1.written.1 i)))
+      Some (Other (Shuffle (sym w.0.1.1 i) (sym w.0.2.1 i) (sym w.0.3.1 i)
+      (numbers_is 5 (drop 3 words) lanes w.1.written i)))
   call_is (VectorLoad op dst memory ptr offset) w = λ i.
       option_map (λ op. Other (VectorLoad op (sym w.2.1 i) (sym w.3.1 i) (sym w.4.1 i) (sym w.5.1 i)))
       (named_is vector_load.enum tt vector_load_name refl (word 0) op w.1 i)

@@ -1,7 +1,7 @@
 -- What a line adds is told by the texts of its words alone.
-use Rattle.std.proofs.Common.{ℕ, ◌<◌, ◌^◌, ◌≡◌, ◌∙◌, List, [], ◌∷◌, Bor, length, map, drop, slice_index_or, inl, inr, refl, sym, ap, subst}
+use Rattle.std.proofs.Common.{ℕ, ◌≡◌, ◌∙◌, List, [], ◌∷◌, length, map, drop, slice_index_or, inl, inr, refl, sym, ap, subst}
 use Rattle.std.proofs.lemmas.List.{length-map, drop-map}
-use Rattle.std.proofs.lemmas.List.Elements.{All-cons, All-nil, All-head, All-tail}
+use Rattle.std.specs.List.{AllZip}
 use Rattle.wasmi_core.specs.declared.calls.Call.{Call}
 use Rattle.wasmi_core.specs.declared.calls.Call.TheVariants.{Write, NewSegment, Shuffle}
 use Rattle.wasmi_grammar.specs.declared.script.Line.{Line}
@@ -12,9 +12,10 @@ use Rattle.wasmi_grammar.specs.declared.header.MeterLine.TheVariants.{Off, On}
 use Rattle.wasmi_grammar.specs.declared.header.LimiterLine.{LimiterLine}
 use Rattle.wasmi_grammar.specs.declared.header.LimiterLine.TheVariants.{Quota, Answers, Tenants}
 use Rattle.wasmi_grammar.specs.declared.header.RegionLine.{RegionLine}
-use Rattle.wasmi_operands.specs.Words.{Words, word_at}
-use Rattle.wasmi_operands.specs.Numbers.{IsDecimal, decimal_value, AreNumbers, WritesNumbers}
+use Rattle.wasmi_operands.specs.Words.{Words, WritesEach, word_at}
+use Rattle.wasmi_operands.specs.Decimal.{IsDecimal, WritesNumber, decimal_value}
 use Rattle.wasmi_operands.specs.LaneNames.{WritesLanes}
+use Rattle.wasmi_grammar.specs.Answers.{WritesAnswer}
 use Rattle.wasmi_grammar.specs.Commands.{OperandsWrite, WritesOperands}
 use Rattle.wasmi_grammar.specs.Headers.{WritesMeter, WritesLimiter, WritesRegion, WritesTenant}
 use Rattle.wasmi_grammar.specs.Lines.{NamesLine, AddsWords}
@@ -23,36 +24,10 @@ use Rattle.wasmi_grammar.specs.Lines.{NamesLine, AddsWords}
 abbrev texts : Words → List (List ℕ)
 texts words = map (λ word. word.now) words
 
--- write the same numbers
-abbrev IsNumber : ℕ → Bor (List ℕ) → Type 0
-IsNumber bits word = IsDecimal word.now × (decimal_value word.now < 2 ^ bits)
-
--- words with the same texts write the same numbers
-retell_numbers : (bits : ℕ) (words words' : Words) (numbers : List ℕ) → texts words ≡ texts words'
-    → WritesNumbers bits words numbers → WritesNumbers bits words' numbers
-retell_numbers bits words words' numbers same (all, is) =
-    (numbered words words' same all, is ∙ valued words words' same)
-  where
-    numbered : (ws vs : Words) → texts ws ≡ texts vs → AreNumbers bits ws → AreNumbers bits vs
-    numbered [] [] same all = All-nil (IsNumber bits)
-    numbered [] (v ∷ vs) same all = absurd cc
-    numbered (w ∷ ws) [] same all = absurd cc
-    numbered (w ∷ ws) (v ∷ vs) same all =
-        let here : w.now ≡ v.now = cc in
-        let rest : texts ws ≡ texts vs = cc in
-        let number : (t : List ℕ) → Type 0 = λ t. IsDecimal t × (decimal_value t < 2 ^ bits) in
-        All-cons (IsNumber bits) v vs (subst number here (All-head (IsNumber bits) w ws all))
-        (numbered ws vs rest (All-tail (IsNumber bits) w ws all))
-
-    valued : (ws vs : Words) → texts ws ≡ texts vs
-        → map (λ word. decimal_value word.now) ws ≡ map (λ word. decimal_value word.now) vs
-    valued [] [] same = refl
-    valued [] (v ∷ vs) same = absurd cc
-    valued (w ∷ ws) [] same = absurd cc
-    valued (w ∷ ws) (v ∷ vs) same =
-        let here : w.now ≡ v.now = cc in
-        let rest : texts ws ≡ texts vs = cc in
-        (λ i. decimal_value (here i) ∷ valued ws vs rest i)
+-- words with the same texts write the same list
+retell_each : {A : Type 0} (Writes : List ℕ → A → Type 0) (words words' : Words) (items : List A)
+    → texts words ≡ texts words' → WritesEach Writes words items → WritesEach Writes words' items
+retell_each Writes words words' items same = subst (λ ts. AllZip Writes ts items) same
 
 -- words with the same texts write the same lanes of a shuffle
 retell_lanes : (words words' : Words) (lanes : List ℕ) → texts words ≡ texts words' → WritesLanes words lanes
@@ -60,7 +35,7 @@ retell_lanes : (words words' : Words) (lanes : List ℕ) → texts words ≡ tex
 retell_lanes words words' lanes same writes = record {
   sixteen = sym (length-map words' (λ word. word.now)) ∙ ap length (sym same) ∙ length-map words (λ word. word.now)
       ∙ writes.sixteen;
-  written = retell_numbers 5 words words' lanes same writes.written;
+  written = retell_each (WritesNumber 5) words words' lanes same writes.written;
 }
 
 -- and so do the operands of a line
@@ -94,11 +69,11 @@ module _ (words words' : Words) (same : texts words ≡ texts words') where
   retell_operands : (call : Call) → WritesOperands words call → WritesOperands words' call
   retell_operands (Write memory offset bytes) w = (
     retell_first (Write memory offset bytes) w.0,
-    retell_numbers 8 (drop 2 words) (drop 2 words') bytes.items (later 2) w.1,
+    retell_each (WritesNumber 8) (drop 2 words) (drop 2 words') bytes.items (later 2) w.1,
   )
   retell_operands (NewSegment ty items) w = (
     retell_first (NewSegment ty items) w.0,
-    retell_numbers 32 (drop 1 words) (drop 1 words') items.items (later 1) w.1,
+    retell_each (WritesNumber 32) (drop 1 words) (drop 1 words') items.items (later 1) w.1,
   )
   retell_operands (Shuffle dst a b lanes) w = (
     retell_first (Shuffle dst a b lanes) w.0,
@@ -109,7 +84,7 @@ module _ (words words' : Words) (same : texts words ≡ texts words') where
   -- operands with the same texts write the same limiter line
   retell_limiter : (line : LimiterLine) → WritesLimiter words line → WritesLimiter words' line
   retell_limiter (Quota line) w = (as_many ∙ w.0, number 0 w.1, number 1 w.2)
-  retell_limiter (Answers answers) w = sym same ∙ w
+  retell_limiter (Answers answers) w = retell_each WritesAnswer words words' answers.items same w
   retell_limiter (Tenants line) w = (as_many ∙ w.0, number 0 w.1, w.2, w.3, number 1 w.4, number 2 w.5)
 
   -- operands with the same texts write the same meter line

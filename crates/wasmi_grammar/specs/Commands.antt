@@ -3,8 +3,8 @@ use Rattle.std.specs.Prelude.{◌≡◌, ℕ, ◌≤◌, List, length, codes, dr
 use Rattle.wasmi_raw.specs.RawVal.{raw_of}
 use Rattle.wasmi_core.specs.declared.calls.Call.{Call}
 use Rattle.wasmi_core.specs.declared.calls.Call.TheVariants.{SetFuel, GetFuel, NewMemory, NewLentMemory, GrowMemory, DropMemory, Read, Write, Load, Store, NewTable, GrowTable, DropTable, GetElement, SetElement, InitTable, CopyTable, FillTable, NewSegment, DropItems, NewGlobal, SetGlobal, GetGlobal, SetRegister, GetRegister, Make, Unary, Binary, Ternary, Shift, Test, Extract, Replace, Shuffle, VectorLoad, LoadLane, VectorStore, StoreLane}
-use Rattle.wasmi_operands.specs.Words.{Words, word_at}
-use Rattle.wasmi_operands.specs.Numbers.{WritesNumber, WritesNumbers}
+use Rattle.wasmi_operands.specs.Words.{Words, WritesEach, word_at}
+use Rattle.wasmi_operands.specs.Decimal.{WritesNumber}
 use Rattle.wasmi_grammar.specs.MemoryWords.{NamesType}
 use Rattle.wasmi_grammar.specs.TableWords.{NamesTableType}
 use Rattle.wasmi_operands.specs.TypeWords.{reference_word, value_word, mutability_word, WritesReference}
@@ -137,9 +137,10 @@ OperandsWrite count word (StoreLane op a memory ptr offset) = (count ≡ 6) × N
 abbrev pub WritesOperands : Words → Call → Type 0
 WritesOperands words (Write memory offset bytes) =
     OperandsWrite (length words) (word_at words) (Write memory offset bytes)
-    × WritesNumbers 8 (drop 2 words) bytes.items
+    × WritesEach (WritesNumber 8) (drop 2 words) bytes.items
 WritesOperands words (NewSegment ty items) =
-    OperandsWrite (length words) (word_at words) (NewSegment ty items) × WritesNumbers 32 (drop 1 words) items.items
+    OperandsWrite (length words) (word_at words) (NewSegment ty items)
+    × WritesEach (WritesNumber 32) (drop 1 words) items.items
 WritesOperands words (Shuffle dst a b lanes) =
     OperandsWrite (length words) (word_at words) (Shuffle dst a b lanes) × WritesLanes (drop 3 words) lanes
 WritesOperands words call = OperandsWrite (length words) (word_at words) call

@@ -10,9 +10,9 @@ use Rattle.wasmi_grammar.specs.declared.header.MeterLine.TheVariants.{Off, On}
 use Rattle.wasmi_grammar.specs.declared.header.LimiterLine.{LimiterLine}
 use Rattle.wasmi_grammar.specs.declared.header.LimiterLine.TheVariants.{Quota, Answers, Tenants}
 use Rattle.wasmi_grammar.specs.declared.header.RegionLine.{RegionLine}
-use Rattle.wasmi_operands.specs.Words.{Words, word_at}
-use Rattle.wasmi_operands.specs.Numbers.{WritesNumber}
-use Rattle.wasmi_grammar.specs.Answers.{WritesAnswers}
+use Rattle.wasmi_operands.specs.Words.{Words, WritesEach, word_at}
+use Rattle.wasmi_operands.specs.Decimal.{WritesNumber}
+use Rattle.wasmi_grammar.specs.Answers.{WritesAnswer}
 
 -- the words after the first write what the meter line says
 abbrev pub WritesMeter : Words → MeterLine → Type 0
@@ -30,7 +30,7 @@ limiter_word (Tenants line) = codes "tenants"
 abbrev pub WritesLimiter : Words → LimiterLine → Type 0
 WritesLimiter words (Quota caps) =
     (length words ≡ 2) × WritesNumber 64 (word_at words 0) caps.bytes × WritesNumber 64 (word_at words 1) caps.elements
-WritesLimiter words (Answers answers) = WritesAnswers words answers.items
+WritesLimiter words (Answers answers) = WritesEach WritesAnswer words answers.items
 WritesLimiter words (Tenants line) =
     (length words ≡ 3) × WritesNumber 64 (word_at words 0) line.count × (1 ≤ line.count) × (line.count ≤ 1024)
     × WritesNumber 64 (word_at words 1) line.caps.bytes × WritesNumber 64 (word_at words 2) line.caps.elements

@@ -1,7 +1,7 @@
 -- What the words of the limits of a memory or of a table mean.
 use Rattle.std.specs.Prelude.{◌≡◌, ℕ, List, Option}
 use Rattle.wasmi_types.specs.declared.index_ty.IndexType.{IndexType}
-use Rattle.wasmi_operands.specs.Numbers.{WritesNumber, WritesLimit}
+use Rattle.wasmi_operands.specs.Decimal.{WritesNumber, WritesLimit}
 use Rattle.wasmi_operands.specs.TypeWords.{width_word}
 
 -- the limits of a memory or of a table: the type of its indices, its minimum and its maximum, if it has one

@@ -1,7 +1,7 @@
 -- What the words of a memory type mean.
 use Rattle.std.specs.Prelude.{◌≡◌, ℕ, List}
 use Rattle.wasmi_store.specs.MemoryType.{MemoryTypeValue, IsValid, page_log2}
-use Rattle.wasmi_operands.specs.Numbers.{WritesNumber}
+use Rattle.wasmi_operands.specs.Decimal.{WritesNumber}
 use Rattle.wasmi_grammar.specs.LimitWords.{Limits, WritesLimits}
 
 -- the limits of a memory type

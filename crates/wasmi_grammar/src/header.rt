@@ -6,10 +6,10 @@ ghost use Rattle.wasmi_grammar.specs.Headers.{WritesMeter, NamesLimiterAfter, Wr
 mod answers;
 
 pub use answers::AnswerWord;
-use answers::answers_of;
 use std::alloc::Global;
 use wasmi_meter::Amounts;
-use wasmi_operands::{LineError, number, words};
+use wasmi_operands::operand::{self, list_of};
+use wasmi_operands::{LineError, number};
 
 /// The most tenants that a script may have.
 const MOST_TENANTS: usize = 1024;
@@ -143,7 +143,7 @@ pub(crate) fn meter_line(operands: &[&str]) -> Result<MeterLine, LineError>
 pub(crate) fn region_line(operands: &[&str]) -> Result<RegionLine, LineError>
     ensures { Accepts result (WritesRegion operands.now) }
 {
-    let (len, byte) = words::two(operands)?;
+    let (len, byte) = operand::two(operands)?;
     Ok(RegionLine { len, byte })
 }
 
@@ -151,7 +151,7 @@ pub(crate) fn region_line(operands: &[&str]) -> Result<RegionLine, LineError>
 pub(crate) fn quota(operands: &[&str]) -> Result<LimiterLine, LineError>
     ensures { Accepts result (NamesLimiterAfter (codes "quota") operands.now) }
 {
-    let (bytes, elements) = words::two(operands)?;
+    let (bytes, elements) = operand::two(operands)?;
     Ok(LimiterLine::Quota(Amounts { bytes, elements }))
 }
 
@@ -159,7 +159,7 @@ pub(crate) fn quota(operands: &[&str]) -> Result<LimiterLine, LineError>
 pub(crate) fn tenants(operands: &[&str]) -> Result<LimiterLine, LineError>
     ensures { Accepts result (NamesLimiterAfter (codes "tenants") operands.now) }
 {
-    let (count, bytes, elements) = words::three(operands)?;
+    let (count, bytes, elements) = operand::three(operands)?;
     if !(1..=MOST_TENANTS).contains(&count) {
         return Err(LineError::BadCommand);
     }
@@ -173,5 +173,5 @@ pub(crate) fn tenants(operands: &[&str]) -> Result<LimiterLine, LineError>
 pub(crate) fn listed(alloc: Global, operands: &[&str]) -> Result<LimiterLine, LineError>
     ensures { AcceptsWithMemory result (NamesLimiterAfter (codes "answers") operands.now) }
 {
-    Ok(LimiterLine::Answers(answers_of(alloc, operands)?))
+    Ok(LimiterLine::Answers(list_of(alloc, operands)?))
 }

@@ -4,13 +4,13 @@ ghost use Rattle.wasmi_operands.specs.Acceptance.{Accepts};
 ghost use Rattle.wasmi_grammar.specs.Commands.{NamesAfter};
 
 use wasmi_core::{Call, RawVal};
-use wasmi_operands::{LineError, words};
+use wasmi_operands::{LineError, operand};
 
 /// `load NAME K PTR OFFSET`.
 pub fn load(operands: &[&str]) -> Result<Call, LineError>
     ensures { Accepts result (NamesAfter (codes "load") operands.now) }
 {
-    let (op, memory, ptr, offset) = words::four(operands)?;
+    let (op, memory, ptr, offset) = operand::four(operands)?;
     Ok(Call::Load {
         op,
         memory,
@@ -23,7 +23,7 @@ pub fn load(operands: &[&str]) -> Result<Call, LineError>
 pub fn store(operands: &[&str]) -> Result<Call, LineError>
     ensures { Accepts result (NamesAfter (codes "store") operands.now) }
 {
-    let (op, memory, ptr, offset, lo) = words::five(operands)?;
+    let (op, memory, ptr, offset, lo) = operand::five(operands)?;
     Ok(Call::Store {
         op,
         memory,

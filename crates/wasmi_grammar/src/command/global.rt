@@ -4,13 +4,13 @@ ghost use Rattle.wasmi_operands.specs.Acceptance.{Accepts};
 ghost use Rattle.wasmi_grammar.specs.Commands.{NamesAfter};
 
 use wasmi_core::{Call, GlobalType, RawVal, TypedRawVal};
-use wasmi_operands::{LineError, number, words};
+use wasmi_operands::{LineError, number, operand};
 
 /// `global V const|var LO HI`.
 pub fn new_global(operands: &[&str]) -> Result<Call, LineError>
     ensures { Accepts result (NamesAfter (codes "global") operands.now) }
 {
-    let (content, mutability, lo, hi) = words::four(operands)?;
+    let (content, mutability, lo, hi) = operand::four(operands)?;
     Ok(Call::NewGlobal {
         value: RawVal { lo, hi },
         ty: GlobalType::new(content, mutability),
@@ -21,7 +21,7 @@ pub fn new_global(operands: &[&str]) -> Result<Call, LineError>
 pub fn set(operands: &[&str]) -> Result<Call, LineError>
     ensures { Accepts result (NamesAfter (codes "gset") operands.now) }
 {
-    let (global, ty, lo, hi) = words::four(operands)?;
+    let (global, ty, lo, hi) = operand::four(operands)?;
     Ok(Call::SetGlobal {
         global,
         value: TypedRawVal::new(ty, RawVal { lo, hi }),

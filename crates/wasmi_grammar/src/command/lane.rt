@@ -8,7 +8,7 @@ use wasmi_core::Call;
 use wasmi_core::simd::ImmLaneIdx32;
 use wasmi_operands::LineError;
 use wasmi_operands::names::lane::{extract_op, index, replace_op};
-use wasmi_operands::words::Operand;
+use wasmi_operands::operand::Operand;
 
 /// `extract NAME A LANE`.
 pub fn extract(operands: &[&str]) -> Result<Call, LineError>

@@ -1,13 +1,13 @@
 //! Commands of memories.
-ghost use Rattle.std.specs.Prelude.{◌≡◌, codes, IfErr, IfOk};
+ghost use Rattle.std.specs.Prelude.{codes};
 ghost use Rattle.wasmi_operands.specs.Acceptance.{Accepts, AcceptsWithMemory};
 ghost use Rattle.wasmi_grammar.specs.Commands.{NamesAfter};
 ghost use Rattle.wasmi_grammar.specs.MemoryWords.{HasSettings, NamesType};
-ghost use Rattle.wasmi_operands.specs.Numbers.{AreNumbers, WritesNumbers};
 
 use std::alloc::Global;
 use wasmi_core::{Call, IndexType, MemoryType};
-use wasmi_operands::{LineError, index_ty, number, number_or_none, words};
+use wasmi_operands::operand::{self, list_of};
+use wasmi_operands::{LineError, index_ty, number, number_or_none};
 
 /// `memory MIN MAX LOG2 WIDTH`.
 pub fn new_memory(operands: &[&str]) -> Result<Call, LineError>
@@ -33,7 +33,7 @@ pub fn new_lent_memory(operands: &[&str]) -> Result<Call, LineError>
 pub fn grow(operands: &[&str]) -> Result<Call, LineError>
     ensures { Accepts result (NamesAfter (codes "grow") operands.now) }
 {
-    let (memory, pages) = words::two(operands)?;
+    let (memory, pages) = operand::two(operands)?;
     Ok(Call::GrowMemory { memory, pages })
 }
 
@@ -41,7 +41,7 @@ pub fn grow(operands: &[&str]) -> Result<Call, LineError>
 pub fn read(operands: &[&str]) -> Result<Call, LineError>
     ensures { Accepts result (NamesAfter (codes "read") operands.now) }
 {
-    let (memory, offset, len) = words::three(operands)?;
+    let (memory, offset, len) = operand::three(operands)?;
     Ok(Call::Read {
         memory,
         offset,
@@ -60,21 +60,8 @@ pub fn write(alloc: Global, operands: &[&str]) -> Result<Call, LineError>
     Ok(Call::Write {
         memory: number(memory)?,
         offset: number(offset)?,
-        bytes: bytes_of(alloc, bytes)?,
+        bytes: list_of(alloc, bytes)?,
     })
-}
-
-/// The bytes that the words write, one each.
-fn bytes_of(alloc: Global, words: &[&str]) -> Result<Vec<u8>, LineError>
-    ensures bytes { IfOk result (λ bytes. WritesNumbers 8 words.now bytes.items) }
-    ensures refused { IfErr result
-        (λ error. error ≡ LineError.BadCommand → ¬ (AreNumbers 8 words.now)) }
-{
-    let mut bytes = Vec::new(alloc);
-    for word in words {
-        bytes.push(number(word)?)?;
-    }
-    Ok(bytes)
 }
 
 /// The memory type of these words, if there is such a type.

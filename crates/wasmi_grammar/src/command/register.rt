@@ -4,13 +4,13 @@ ghost use Rattle.wasmi_operands.specs.Acceptance.{Accepts};
 ghost use Rattle.wasmi_grammar.specs.Commands.{NamesAfter};
 
 use wasmi_core::{Call, RawVal};
-use wasmi_operands::{LineError, number, words};
+use wasmi_operands::{LineError, number, operand};
 
 /// `set D LO HI`.
 pub fn set(operands: &[&str]) -> Result<Call, LineError>
     ensures { Accepts result (NamesAfter (codes "set") operands.now) }
 {
-    let (dst, lo, hi) = words::three(operands)?;
+    let (dst, lo, hi) = operand::three(operands)?;
     Ok(Call::SetRegister {
         dst,
         value: RawVal { lo, hi },

@@ -6,7 +6,7 @@ ghost use Rattle.wasmi_grammar.specs.Commands.{NamesAfter};
 ghost use Rattle.wasmi_grammar.specs.TableWords.{HasLimits, NamesTableType};
 
 use wasmi_core::{Call, IndexType, RefType, TableType, TypedRawRef};
-use wasmi_operands::{LineError, index_ty, number, number_or_none, ref_type, reference, words};
+use wasmi_operands::{LineError, index_ty, number, number_or_none, operand, ref_type, reference};
 
 /// `table T MIN X WIDTH T N`.
 pub fn new_table(operands: &[&str]) -> Result<Call, LineError>
@@ -25,7 +25,7 @@ pub fn new_table(operands: &[&str]) -> Result<Call, LineError>
 pub fn grow(operands: &[&str]) -> Result<Call, LineError>
     ensures { Accepts result (NamesAfter (codes "tgrow") operands.now) }
 {
-    let (table, delta, ty, raw) = words::four(operands)?;
+    let (table, delta, ty, raw) = operand::four(operands)?;
     Ok(Call::GrowTable {
         table,
         delta,
@@ -37,7 +37,7 @@ pub fn grow(operands: &[&str]) -> Result<Call, LineError>
 pub fn get(operands: &[&str]) -> Result<Call, LineError>
     ensures { Accepts result (NamesAfter (codes "get") operands.now) }
 {
-    let (table, index) = words::two(operands)?;
+    let (table, index) = operand::two(operands)?;
     Ok(Call::GetElement { table, index })
 }
 
@@ -45,7 +45,7 @@ pub fn get(operands: &[&str]) -> Result<Call, LineError>
 pub fn set(operands: &[&str]) -> Result<Call, LineError>
     ensures { Accepts result (NamesAfter (codes "tset") operands.now) }
 {
-    let (table, index, ty, raw) = words::four(operands)?;
+    let (table, index, ty, raw) = operand::four(operands)?;
     Ok(Call::SetElement {
         table,
         index,
@@ -57,7 +57,7 @@ pub fn set(operands: &[&str]) -> Result<Call, LineError>
 pub fn init(operands: &[&str]) -> Result<Call, LineError>
     ensures { Accepts result (NamesAfter (codes "init") operands.now) }
 {
-    let (table, segment, dst, src, len) = words::five(operands)?;
+    let (table, segment, dst, src, len) = operand::five(operands)?;
     Ok(Call::InitTable {
         table,
         segment,
@@ -71,7 +71,7 @@ pub fn init(operands: &[&str]) -> Result<Call, LineError>
 pub fn copy(operands: &[&str]) -> Result<Call, LineError>
     ensures { Accepts result (NamesAfter (codes "copy") operands.now) }
 {
-    let (dst_table, dst, src_table, src, len) = words::five(operands)?;
+    let (dst_table, dst, src_table, src, len) = operand::five(operands)?;
     Ok(Call::CopyTable {
         dst_table,
         dst,
@@ -85,7 +85,7 @@ pub fn copy(operands: &[&str]) -> Result<Call, LineError>
 pub fn fill(operands: &[&str]) -> Result<Call, LineError>
     ensures { Accepts result (NamesAfter (codes "fill") operands.now) }
 {
-    let (table, dst, ty, raw, len) = words::five(operands)?;
+    let (table, dst, ty, raw, len) = operand::five(operands)?;
     Ok(Call::FillTable {
         table,
         dst,

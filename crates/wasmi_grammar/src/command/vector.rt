@@ -4,13 +4,13 @@ ghost use Rattle.wasmi_operands.specs.Acceptance.{Accepts};
 ghost use Rattle.wasmi_grammar.specs.Commands.{NamesAfter};
 
 use wasmi_core::Call;
-use wasmi_operands::{LineError, words};
+use wasmi_operands::{LineError, operand};
 
 /// `make NAME D A`.
 pub fn make(operands: &[&str]) -> Result<Call, LineError>
     ensures { Accepts result (NamesAfter (codes "make") operands.now) }
 {
-    let (op, dst, a) = words::three(operands)?;
+    let (op, dst, a) = operand::three(operands)?;
     Ok(Call::Make { op, dst, a })
 }
 
@@ -18,7 +18,7 @@ pub fn make(operands: &[&str]) -> Result<Call, LineError>
 pub fn unary(operands: &[&str]) -> Result<Call, LineError>
     ensures { Accepts result (NamesAfter (codes "unary") operands.now) }
 {
-    let (op, dst, a) = words::three(operands)?;
+    let (op, dst, a) = operand::three(operands)?;
     Ok(Call::Unary { op, dst, a })
 }
 
@@ -26,7 +26,7 @@ pub fn unary(operands: &[&str]) -> Result<Call, LineError>
 pub fn binary(operands: &[&str]) -> Result<Call, LineError>
     ensures { Accepts result (NamesAfter (codes "binary") operands.now) }
 {
-    let (op, dst, a, b) = words::four(operands)?;
+    let (op, dst, a, b) = operand::four(operands)?;
     Ok(Call::Binary { op, dst, a, b })
 }
 
@@ -34,7 +34,7 @@ pub fn binary(operands: &[&str]) -> Result<Call, LineError>
 pub fn ternary(operands: &[&str]) -> Result<Call, LineError>
     ensures { Accepts result (NamesAfter (codes "ternary") operands.now) }
 {
-    let (op, dst, a, b, c) = words::five(operands)?;
+    let (op, dst, a, b, c) = operand::five(operands)?;
     Ok(Call::Ternary { op, dst, a, b, c })
 }
 
@@ -42,7 +42,7 @@ pub fn ternary(operands: &[&str]) -> Result<Call, LineError>
 pub fn shift(operands: &[&str]) -> Result<Call, LineError>
     ensures { Accepts result (NamesAfter (codes "shift") operands.now) }
 {
-    let (op, dst, a, amount) = words::four(operands)?;
+    let (op, dst, a, amount) = operand::four(operands)?;
     Ok(Call::Shift { op, dst, a, amount })
 }
 
@@ -50,6 +50,6 @@ pub fn shift(operands: &[&str]) -> Result<Call, LineError>
 pub fn test(operands: &[&str]) -> Result<Call, LineError>
     ensures { Accepts result (NamesAfter (codes "test") operands.now) }
 {
-    let (op, a) = words::two(operands)?;
+    let (op, a) = operand::two(operands)?;
     Ok(Call::Test { op, a })
 }

@@ -6,13 +6,13 @@ ghost use Rattle.wasmi_grammar.specs.Commands.{NamesAfter};
 use wasmi_core::Call;
 use wasmi_operands::LineError;
 use wasmi_operands::names::lane::{load_lane_op, store_lane_op};
-use wasmi_operands::words::{self, Operand};
+use wasmi_operands::operand::{self, Operand};
 
 /// `vload NAME D K PTR OFFSET`.
 pub fn load(operands: &[&str]) -> Result<Call, LineError>
     ensures { Accepts result (NamesAfter (codes "vload") operands.now) }
 {
-    let (op, dst, memory, ptr, offset) = words::five(operands)?;
+    let (op, dst, memory, ptr, offset) = operand::five(operands)?;
     Ok(Call::VectorLoad {
         op,
         dst,
@@ -29,7 +29,7 @@ pub fn load_lane(operands: &[&str]) -> Result<Call, LineError>
     let [name, dst, a, lane, place @ ..] = operands else {
         return Err(LineError::BadCommand);
     };
-    let (memory, ptr, offset) = words::three(place)?;
+    let (memory, ptr, offset) = operand::three(place)?;
     Ok(Call::LoadLane {
         op: load_lane_op(name, lane)?,
         dst: Operand::from_word(dst)?,
@@ -44,7 +44,7 @@ pub fn load_lane(operands: &[&str]) -> Result<Call, LineError>
 pub fn store(operands: &[&str]) -> Result<Call, LineError>
     ensures { Accepts result (NamesAfter (codes "vstore") operands.now) }
 {
-    let (a, memory, ptr, offset) = words::four(operands)?;
+    let (a, memory, ptr, offset) = operand::four(operands)?;
     Ok(Call::VectorStore {
         a,
         memory,
@@ -60,7 +60,7 @@ pub fn store_lane(operands: &[&str]) -> Result<Call, LineError>
     let [name, a, lane, place @ ..] = operands else {
         return Err(LineError::BadCommand);
     };
-    let (memory, ptr, offset) = words::three(place)?;
+    let (memory, ptr, offset) = operand::three(place)?;
     Ok(Call::StoreLane {
         op: store_lane_op(name, lane)?,
         a: Operand::from_word(a)?,

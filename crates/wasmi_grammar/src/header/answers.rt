@@ -1,10 +1,8 @@
 //! The words of an `answers` line.
-ghost use Rattle.std.specs.Prelude.{◌≡◌};
-ghost use Rattle.wasmi_operands.specs.Acceptance.{Accepts, AcceptsWithMemory};
-ghost use Rattle.wasmi_grammar.specs.Answers.{WritesAnswers, answer_text};
+ghost use Rattle.wasmi_grammar.specs.Answers.{WritesAnswer};
 
-use std::alloc::Global;
 use wasmi_operands::LineError;
+use wasmi_operands::operand::Operand;
 
 /// What an `answers` line says of one question to the limiter.
 #[derive(Clone, Copy)]
@@ -19,26 +17,16 @@ pub enum AnswerWord {
     Complain,
 }
 
-/// The answers that the words stand for, one each.
-pub fn answers_of(alloc: Global, words: &[&str]) -> Result<Vec<AnswerWord>, LineError>
-    ensures { AcceptsWithMemory result (λ answers. WritesAnswers words.now answers.items) }
-{
-    let mut answers = Vec::new(alloc);
-    for word in words {
-        answers.push(answer_of(word)?)?;
-    }
-    Ok(answers)
-}
+impl Operand for AnswerWord {
+    ghost writes = { WritesAnswer };
 
-/// The answer that a word stands for.
-fn answer_of(word: &str) -> Result<AnswerWord, LineError>
-    ensures { Accepts result (λ answer. word.now ≡ answer_text answer) }
-{
-    match word {
-        "permit" => Ok(AnswerWord::Permit),
-        "deny" => Ok(AnswerWord::Deny),
-        "error" => Ok(AnswerWord::Error),
-        "complain" => Ok(AnswerWord::Complain),
-        _ => Err(LineError::BadCommand),
+    fn from_word(word: &str) -> Result<Self, LineError> {
+        match word {
+            "permit" => Ok(AnswerWord::Permit),
+            "deny" => Ok(AnswerWord::Deny),
+            "error" => Ok(AnswerWord::Error),
+            "complain" => Ok(AnswerWord::Complain),
+            _ => Err(LineError::BadCommand),
+        }
     }
 }

@@ -4,22 +4,22 @@ use Rattle.wasmi_grammar.specs.declared.header.answers.AnswerWord.{AnswerWord}
 use Rattle.wasmi_grammar.specs.declared.header.LimiterLine.{LimiterLine}
 use Rattle.wasmi_grammar.specs.declared.header.LimiterLine.TheVariants.{Quota, Answers, Tenants}
 use Rattle.wasmi_operands.specs.Acceptance.{AcceptsWithMemory}
-use Rattle.wasmi_grammar.specs.Answers.{WritesAnswers}
+use Rattle.wasmi_grammar.specs.Answers.{WritesAnswer}
 use Rattle.wasmi_grammar.specs.Headers.{NamesLimiterAfter}
-use Rattle.wasmi_operands.specs.Words.{Words}
+use Rattle.wasmi_operands.specs.Words.{Words, WritesEach}
 use Rattle.wasmi_operands.proofs.AcceptanceLemmas.{refused_with_memory}
 use Rattle.wasmi_grammar.proofs.header.listed.Goals as goal
 
 -- a line of answers has the words of answers
 answers_of_line : (words : Words) (line : LimiterLine) → NamesLimiterAfter (codes "answers") words line
-    → (answers : Vec AnswerWord) × WritesAnswers words answers.items
+    → (answers : Vec AnswerWord) × WritesEach WritesAnswer words answers.items
 answers_of_line words (Answers answers) names = (answers, names.1)
 answers_of_line words (Quota line) names = absurd (search (rules, tests, names))
 answers_of_line words (Tenants line) names = absurd (search (rules, tests, names))
 
-pub returns-in_err-answers_of : goal.returns-in_err-answers_of
-returns-in_err-answers_of c =
-    let same : c.from_residual.result ≡ Err c.in_err-answers_of.field-0.0 = search rules in
+pub returns-in_err-list_of : goal.returns-in_err-list_of
+returns-in_err-list_of c =
+    let same : c.from_residual.result ≡ Err c.in_err-list_of.field-0.0 = search rules in
     subst (λ result. AcceptsWithMemory result (NamesLimiterAfter (codes "answers") c.args.operands.now)) (sym same)
-    (refused_with_memory c.in_err-answers_of.field-0.0 _ _
-    (answers_of_line c.args.operands.now) c.in_err-answers_of.ensures)
+    (refused_with_memory c.in_err-list_of.field-0.0 _ _
+    (answers_of_line c.args.operands.now) c.in_err-list_of.ensures)

@@ -5,5 +5,5 @@ use Rattle.wasmi_grammar.proofs.command.segment.new_segment.Goals as goal
 pub returns-in_err-ref_type : goal.returns-in_err-ref_type
 returns-in_err-ref_type c = grind (arith, common_steps)
 
-pub returns-in_err-references_of : goal.returns-in_err-references_of
-returns-in_err-references_of c = grind (arith, common_steps)
+pub returns-in_err-list_of : goal.returns-in_err-list_of
+returns-in_err-list_of c = grind (arith, common_steps)

@@ -1,5 +1,5 @@
 use Rattle.std.proofs.Common.{codes, rules, arith}
-use Rattle.wasmi_operands.specs.Numbers.{WritesNumber}
+use Rattle.wasmi_operands.specs.Decimal.{WritesNumber}
 use Rattle.wasmi_operands.proofs.WordsLemmas.{in_rest, length_of_rest}
 use Rattle.wasmi_grammar.proofs.CommandsLemmas.{refused_after, refused_number}
 use Rattle.wasmi_grammar.proofs.command.vector_access.load_lane.Goals as goal
