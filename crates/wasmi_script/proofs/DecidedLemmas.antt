@@ -1,11 +1,9 @@
 -- Where memory isn't wanting the bytes decide what is printed.
 use Rattle.std.proofs.Common.{ℕ, ◌≡◌, ◌∙◌, ◌++◌, List, [], ◌∷◌, Vec, All, Option, Some, None, Ok, Err, map}
-use Rattle.std.proofs.Common.{flat_map}
 use Rattle.std.specs.Fmt.{decimal}
 use Rattle.std.proofs.Common.{codes, slice_set, refl, sym, ap, subst, arith}
 use Rattle.std.specs.Option.{option_map, option_map_or}
-use Rattle.std.proofs.lemmas.List.{map-append}
-use Rattle.std.proofs.lemmas.List.Elements.{All-head, All-tail, All-cons, All-nil}
+use Rattle.std.proofs.lemmas.List.Elements.{All-head, All-tail}
 use Rattle.wasmi_meter.specs.declared.quota.Quota as quotas
 use Rattle.wasmi_meter.specs.Attempt.{MeteredValue}
 use Rattle.wasmi_meter.specs.Limiter.{Rules, unlimited_rules, optional_rules}
@@ -27,7 +25,9 @@ use Rattle.wasmi_core.proofs.DeterminismLemmas.{unlimited_once, quota_once}
 use Rattle.wasmi_core.proofs.ToldLemmas.{SeenRun, replies_are_one, unlimited_accepts, quota_accepts}
 use Rattle.wasmi_budget.specs.Pool.{PoolValue, RunsTenant, tenant_at}
 use Rattle.wasmi_budget.specs.Tenant.{tenant_rules}
-use Rattle.wasmi_script.specs.declared.error.ReplayError.TheVariants.{BadCommand, TooLong, OutOfMemory, ReadFault}
+use Rattle.wasmi_grammar.specs.declared.error.ParseError.TheVariants.{BadCommand, OutOfMemory}
+use Rattle.wasmi_script.specs.declared.error.ReplayError.TheVariants.{Parse, TooLong, ReadFault}
+use Rattle.wasmi_script.specs.declared.running.Held.{Held}
 use Rattle.wasmi_script.specs.declared.running.Ran.{Ran}
 use Rattle.wasmi_script.specs.declared.running.Held.TheVariants as holding
 use Rattle.wasmi_grammar.specs.declared.script.TenantRun.{TenantRun}
@@ -41,10 +41,10 @@ use Rattle.wasmi_script.specs.Printing.{line}
 use Rattle.wasmi_script.specs.Texts.{kind_text, reply_text, error_text}
 use Rattle.wasmi_script.specs.declared.listed_limiter.AnswerList.{AnswerList}
 use Rattle.wasmi_grammar.specs.declared.header.answers.AnswerWord.{AnswerWord}
-use Rattle.wasmi_script.specs.Replays.{IsNewQuota, IsListedReplay, IsReplayUnder, IsReplayBy, IsReplayOf}
-use Rattle.wasmi_script.specs.Replays.{AnswersParts, new_pool}
-use Rattle.wasmi_grammar.specs.Lines.{calls_in, calls_of, first_calls}
-use Rattle.wasmi_script.specs.Outcomes.{replies_text, held_text}
+use Rattle.wasmi_script.specs.Replays.{IsNewQuota, IsListedReplay, IsReplayUnder, IsReplayOnOne, IsOfOnePart}
+use Rattle.wasmi_script.specs.Replays.{IsReplayBy, IsReplayOf, AnswersParts, new_pool, replies_of}
+use Rattle.wasmi_grammar.specs.Lines.{first_calls}
+use Rattle.wasmi_script.specs.Outcomes.{replies_text, parts_text, held_text}
 use Rattle.wasmi_grammar.specs.Sayings.{CallSaid, WriteSaid, SegmentSaid, OtherCall, call_said, limiter_said, PartSaid}
 use Rattle.wasmi_grammar.specs.Sayings.{part_said}
 use Rattle.wasmi_grammar.specs.Sayings.{ScriptSaid, SayTheSame}
@@ -79,20 +79,6 @@ same_kind (Write memory offset bytes) call' (v, is, items) = ap kind_text is
 same_kind (NewSegment ty items) call' (v, is, same) = ap kind_text is
 same_kind call call' is = ap kind_text is
 
--- so scripts that say the same have calls that do, all in all
-calls_said : (parts : List TenantRun) → map call_said (calls_in parts) ≡ flat_map PartSaid.calls (map part_said parts)
-calls_said [] = refl
-calls_said (part ∷ parts) =
-    map-append call_said part.calls.items (calls_in parts)
-    ∙ ap (λ later. map call_said part.calls.items ++ later) (calls_said parts)
-
--- scripts that say the same have calls that say the same, part after part
-all_said : (script script' : Script) → SayTheSame script script'
-    → map call_said (calls_of script) ≡ map call_said (calls_of script')
-all_said script script' same =
-    calls_said script.parts.items ∙ ap (λ s. flat_map PartSaid.calls s.parts) same
-    ∙ sym (calls_said script'.parts.items)
-
 -- what the calls of the first part say
 first_said : List PartSaid → List CallSaid
 first_said [] = []
@@ -113,7 +99,8 @@ first_same script script' same =
 -- and the same replies to them the same text
 reply_same : (call call' : Call) (reply : Reply) → kind_text call' ≡ kind_text call
     → reply_text call' reply ≡ reply_text call reply
-reply_same call call' (Made index) same = ap (λ kind. kind ++ (codes " " ++ decimal index)) same
+reply_same call call' (Made index) same =
+    ap (λ kind. (kind ++ (codes " " ++ decimal index)) ++ []) same
 reply_same call call' reply same = refl
 
 -- the same replies to calls that say the same have the same text
@@ -128,6 +115,19 @@ replies_same (call ∷ calls) (call' ∷ calls') (reply ∷ replies) same =
     let later : map call_said calls ≡ map call_said calls' = cc in
     let kind = same_kind call call' (subst (λ said. Says said call') (sym here) (says call')) in
     λ i. line (sym (reply_same call call' reply kind) i) ++ replies_same calls calls' replies later i
+
+-- the same lists of replies to parts that say the same have the same text
+parts_same : (parts parts' : List TenantRun) (lists : List (List Reply)) → map part_said parts ≡ map part_said parts'
+    → parts_text parts lists ≡ parts_text parts' lists
+parts_same [] [] lists same = refl
+parts_same [] (part' ∷ parts') lists same = absurd cc
+parts_same (part ∷ parts) [] lists same = absurd cc
+parts_same (part ∷ parts) (part' ∷ parts') [] same = refl
+parts_same (part ∷ parts) (part' ∷ parts') (replies ∷ lists) same =
+    let here : part_said part ≡ part_said part' = cc in
+    let later : map part_said parts ≡ map part_said parts' = cc in
+    let now = replies_same part.calls.items part'.calls.items replies (ap PartSaid.calls here) in
+    λ i. now i ++ parts_same parts parts' lists later i
 
 -- a turn by a call that says the same
 module _ {S : Type 0} (rules : Rules S) where
@@ -242,9 +242,14 @@ new_quotas asked quota quota' new new' =
       holdings = held i;
     }
 
--- two runs have the same replies, and what is held then has the same text
+-- two runs of calls have the same replies, and what is held then has the same text
+record SameReplies (replies replies' : List Reply) (held held' : Held) : Type 0 where
+  pub answers : replies ≡ replies'
+  pub text : held_text held ≡ held_text held'
+
+-- two runs have the same replies to each part, and what is held then has the same text
 record SameRan (ran ran' : Ran) : Type 0 where
-  pub replies : ran.replies.items ≡ ran'.replies.items
+  pub lists : replies_of ran ≡ replies_of ran'
   pub held : held_text ran.held ≡ held_text ran'.held
 
 -- there is no `answers` line
@@ -253,76 +258,73 @@ HasNoAnswers (Some (Answers words)) = ⊥
 HasNoAnswers limiter = Unit {0}
 
 -- so it is under limiters of the same words, of which none is `complain`
-listed_once : (words : List AnswerWord) (start : State) (calls calls' : List Call) (ran ran' : Ran)
-    → All (λ word. notice_answer_by word ≡ Ok tt) words → map call_said calls ≡ map call_said calls'
-    → IsListedReplay words start calls ran → IsListedReplay words start calls' ran'
-    → HaveBoth ran.replies.items ran'.replies.items → SameRan ran ran'
-listed_once words start calls calls' ran ran' quiet same (held, list, new, after, run)
-    (held', list', new', after', run') has =
-    let here = placed_run calls _ after ran.replies.items run in
-    let there = placed_run calls _ after' ran'.replies.items
-    (retold (optional_rules answer_rules) calls calls' _ after' ran'.replies.items same run') in
+listed_once : (words : List AnswerWord) (start : State) (calls calls' : List Call) (replies replies' : List Reply)
+    (held held' : Held) → All (λ word. notice_answer_by word ≡ Ok tt) words → map call_said calls ≡ map call_said calls'
+    → IsListedReplay words start calls replies held × IsListedReplay words start calls' replies' held'
+    → HaveBoth replies replies' → SameReplies replies replies' held held'
+listed_once words start calls calls' replies replies' held held' quiet same
+    ((none, list, new, after, run), (none', list', new', after', run')) has =
+    let here = placed_run calls _ after replies run in
+    let there = placed_run calls _ after' replies'
+    (retold (optional_rules answer_rules) calls calls' _ after' replies' same run') in
     let again = subst (λ (l : AnswerList). IsRunOf (optional_rules answer_rules) calls
-    (record { state = start; limiter = Some l }) ran'.replies.items (carried (option_map placed) after'))
+    (record { state = start; limiter = Some l }) replies' (carried (option_map placed) after'))
     (new_lists words list' list new' new) there in
     record {
-      replies = (quiet_lists_decide calls start (placed list) (quiet_new words list quiet new) ran.replies.items
-          ran'.replies.items _ _ has.0 has.1 here again).0;
-      held = ap held_text (held ∙ sym held');
+      answers = (quiet_lists_decide calls start (placed list) (quiet_new words list quiet new) replies replies' _ _
+          has.0 has.1 here again).0;
+      text = ap held_text (none ∙ sym none');
     }
 
 -- so it is without a limiter and under a quota
-under_once : (limiter : Option LimiterLine) (start : State) (calls calls' : List Call) (ran ran' : Ran)
-    → HasNoAnswers limiter
-    → map call_said calls ≡ map call_said calls' → IsReplayUnder limiter start calls ran
-    → IsReplayUnder limiter start calls' ran'
-    → HaveBoth ran.replies.items ran'.replies.items → SameRan ran ran'
-under_once None start calls calls' ran ran' none same (held, after, run) (held', after', run') has = record {
-  replies = (run_once unlimited_rules unlimited_once unlimited_accepts calls calls' _ same
-      (record { replies = ran.replies.items; after = after; has = has.0; ran = run })
-      (record { replies = ran'.replies.items; after = after'; has = has.1; ran = run' })).0;
-  held = ap held_text (held ∙ sym held');
-}
-under_once (Some (Quota asked)) start calls calls' ran ran' none same (quota, new, end, after, run, totals, held)
-    (quota', new', end', after', run', totals', held') has =
+under_once : (limiter : Option LimiterLine) (start : State) (calls calls' : List Call) (replies replies' : List Reply)
+    (held held' : Held) → HasNoAnswers limiter → map call_said calls ≡ map call_said calls'
+    → IsReplayUnder limiter start calls replies held × IsReplayUnder limiter start calls' replies' held'
+    → HaveBoth replies replies' → SameReplies replies replies' held held'
+under_once None start calls calls' replies replies' held held' none same ((is, after, run), (is', after', run')) has =
+    record {
+      answers = (run_once unlimited_rules unlimited_once unlimited_accepts calls calls' _ same
+          (record { replies = replies; after = after; has = has.0; ran = run })
+          (record { replies = replies'; after = after'; has = has.1; ran = run' })).0;
+      text = ap held_text (is ∙ sym is');
+    }
+under_once (Some (Quota asked)) start calls calls' replies replies' held held' none same
+    ((quota, new, end, after, run, totals, is), (quota', new', end', after', run', totals', is')) has =
     let again = subst (λ (q : quotas.Quota). IsRunOf (optional_rules quota_rules) calls'
-    (record { state = start; limiter = Some q })
-    ran'.replies.items (record { state = end'; limiter = Some after' }))
+    (record { state = start; limiter = Some q }) replies' (record { state = end'; limiter = Some after' }))
     (sym (new_quotas asked quota quota' new new')) run' in
     let one = run_once quota_rules quota_once quota_accepts calls calls' _ same
-    (record { replies = ran.replies.items; after = _; has = has.0; ran = run })
-    (record { replies = ran'.replies.items; after = _; has = has.1; ran = again }) in
+    (record { replies = replies; after = _; has = has.0; ran = run })
+    (record { replies = replies'; after = _; has = has.1; ran = again }) in
     let limiters : Some after ≡ Some after' = ap (λ (w : World (Option quotas.Quota)). w.limiter) one.1 in
     let afters : after ≡ after' = cc in
     record {
-      replies = one.0;
-      held =
-          ap held_text (held ∙ ap (λ q. holding.Quota (holdings q).held) afters ∙ sym held');
+      answers = one.0;
+      text = ap held_text (is ∙ ap (λ q. holding.Quota (holdings q).held) afters ∙ sym is');
     }
-under_once (Some (Answers words)) start calls calls' ran ran' none same replay replay' has = absurd none
-under_once (Some (Tenants asked)) start calls calls' ran ran' none same replay replay' has = absurd replay
+under_once (Some (Answers words)) start calls calls' replies replies' held held' none same replays has = absurd none
+under_once (Some (Tenants asked)) start calls calls' replies replies' held held' none same replays has =
+    absurd replays.0
 
--- what all items have, the earlier ones have and the later ones
-module _ {X : Type 0} (P : X → Type 0) where
-  -- what holds of all items of two lists together holds of all of the first
-  earlier_have : (xs ys : List X) → All P (xs ++ ys) → All P xs
-  earlier_have [] ys all = All-nil P
-  earlier_have (x ∷ xs) ys all =
-      All-cons P x xs (All-head P x (xs ++ ys) all) (earlier_have xs ys (All-tail P x (xs ++ ys) all))
+-- the replies to each part tell of no want of memory, in two runs
+abbrev HaveBothLists : Ran → Ran → Type 0
+HaveBothLists ran ran' = All (All HasMemory) (replies_of ran) × All (All HasMemory) (replies_of ran')
 
-  -- what holds of all items of two lists together holds of all of the second
-  later_have : (xs ys : List X) → All P (xs ++ ys) → All P ys
-  later_have [] ys all = all
-  later_have (x ∷ xs) ys all = later_have xs ys (All-tail P x (xs ++ ys) all)
+-- the replies to one part have memory where those to each part do
+one_has : (lists : List (List Reply)) (replies : List Reply) → lists ≡ replies ∷ [] → All (All HasMemory) lists
+    → All HasMemory replies
+one_has lists replies is has = All-head (All HasMemory) replies [] (subst (All (All HasMemory)) is has)
 
--- the replies before some parts stand before those after them
-before_parts : (parts : List TenantRun) (pool pool' : PoolValue) (replies replies' : List Reply)
-    → AnswersParts pool parts replies replies' pool'
-    → All HasMemory replies' → All HasMemory replies
-before_parts [] pool pool' replies replies' is has = subst (All HasMemory) is.0 has
-before_parts (part ∷ parts) pool pool' replies replies' (between, middle, (answered, is, ran), later) has =
-    earlier_have HasMemory replies answered
-    (subst (All HasMemory) is (before_parts parts middle pool' between replies' later has))
+-- two relations of replies and of what is held, which leave no choice where memory isn't wanting, leave none to runs of
+-- one part
+one_once : (Replied Replied' : List Reply → Held → Type 0) (ran ran' : Ran)
+    → ((replies replies' : List Reply) → Replied replies ran.held → Replied' replies' ran'.held
+    → HaveBoth replies replies' → SameReplies replies replies' ran.held ran'.held)
+    → IsOfOnePart Replied ran → IsOfOnePart Replied' ran' → HaveBothLists ran ran' → SameRan ran ran'
+one_once Replied Replied' ran ran' once (replies, is, replay) (replies', is', replay') has =
+    let same = once replies replies' replay replay'
+    (one_has (replies_of ran) replies is has.0, one_has (replies_of ran') replies' is' has.1) in
+    record { lists = is ∙ ap (λ rs. rs ∷ []) same.answers ∙ sym is'; held = same.text }
 
 -- a run of a tenant whose replies tell of no want of memory
 record TenantRan (pool : PoolValue) (tenant : ℕ) (calls : List Call) : Type 0 where
@@ -330,13 +332,6 @@ record TenantRan (pool : PoolValue) (tenant : ℕ) (calls : List Call) : Type 0 
   pub after : PoolValue
   pub has : All HasMemory replies
   pub ran : RunsTenant pool tenant calls replies after
-
--- runs of parts, whose replies come after some and tell of no want of memory
-record PartsRan (pool : PoolValue) (parts : List TenantRun) (before : List Reply) : Type 0 where
-  pub replies : List Reply
-  pub after : PoolValue
-  pub has : All HasMemory replies
-  pub ran : AnswersParts pool parts before replies after
 
 -- the runs of tenants, one after the other
 module _ (once : IsDeterministic tenant_rules) where
@@ -362,52 +357,56 @@ module _ (once : IsDeterministic tenant_rules) where
       )
 
   -- two runs of parts that say the same have the same replies and leave the same pool
-  parts_once : (parts parts' : List TenantRun) (pool : PoolValue) (before : List Reply)
-      → map part_said parts ≡ map part_said parts'
-      → (a : PartsRan pool parts before) (b : PartsRan pool parts' before)
-      → (a.replies ≡ b.replies) × (a.after ≡ b.after)
-  parts_once [] [] pool before same a b = (a.ran.0 ∙ sym b.ran.0, a.ran.1 ∙ sym b.ran.1)
-  parts_once [] (part' ∷ parts') pool before same a b = absurd cc
-  parts_once (part ∷ parts) [] pool before same a b = absurd cc
-  parts_once (part ∷ parts) (part' ∷ parts') pool before same a b =
-      let (between, middle, (answered, is, ran), later) = a.ran in
-      let (between', middle', (answered', is', ran'), later') = b.ran in
+  parts_once : (parts parts' : List TenantRun) (pool : PoolValue) → map part_said parts ≡ map part_said parts'
+      → (lists lists' : List (List Reply)) (after after' : PoolValue)
+      → All (All HasMemory) lists × All (All HasMemory) lists'
+      → AnswersParts pool parts lists after → AnswersParts pool parts' lists' after'
+      → (lists ≡ lists') × (after ≡ after')
+  parts_once [] [] pool same [] [] after after' has is is' = (refl, is ∙ sym is')
+  parts_once [] [] pool same [] (replies' ∷ lists') after after' has is none = absurd none
+  parts_once [] [] pool same (replies ∷ lists) lists' after after' has none is' = absurd none
+  parts_once [] (part' ∷ parts') pool same lists lists' after after' has ran ran' = absurd cc
+  parts_once (part ∷ parts) [] pool same lists lists' after after' has ran ran' = absurd cc
+  parts_once (part ∷ parts) (part' ∷ parts') pool same [] lists' after after' has none ran' = absurd none
+  parts_once (part ∷ parts) (part' ∷ parts') pool same (replies ∷ lists) [] after after' has ran none = absurd none
+  parts_once (part ∷ parts) (part' ∷ parts') pool same (replies ∷ lists) (replies' ∷ lists') after after' has
+      (middle, ran, later) (middle', ran', later') =
       let here : part_said part ≡ part_said part' = cc in
       let rest : map part_said parts ≡ map part_said parts' = cc in
-      let tenant = ap PartSaid.tenant here in
-      let now = subst (All HasMemory) is (before_parts parts middle a.after between a.replies later a.has) in
-      let now' = subst (All HasMemory) is' (before_parts parts' middle' b.after between' b.replies later' b.has) in
       let one = tenant_once pool part.tenant part.calls.items part'.calls.items (ap PartSaid.calls here)
-      (record { replies = answered; after = middle; has = later_have HasMemory before answered now; ran = ran })
+      (record { replies = replies; after = middle; has = All-head (All HasMemory) replies lists has.0; ran = ran })
       (record {
-        replies = answered';
+        replies = replies';
         after = middle';
-        has = later_have HasMemory before answered' now';
-        ran = subst (λ k. RunsTenant pool k part'.calls.items answered' middle') (sym tenant) ran';
+        has = All-head (All HasMemory) replies' lists' has.1;
+        ran = subst (λ k. RunsTenant pool k part'.calls.items replies' middle') (sym (ap PartSaid.tenant here)) ran';
       }) in
-      let joined : between' ≡ between = is' ∙ ap (λ a. before ++ a) (sym one.0) ∙ sym is in
-      let again = subst (λ between. AnswersParts middle parts' between b.replies b.after) joined
-      (subst (λ (p : PoolValue). AnswersParts p parts' between' b.replies b.after) (sym one.1) later') in
-      parts_once parts parts' middle between rest
-      (record { replies = a.replies; after = a.after; has = a.has; ran = later })
-      (record { replies = b.replies; after = b.after; has = b.has; ran = again })
+      let more = parts_once parts parts' middle rest lists lists' after after'
+      (All-tail (All HasMemory) replies lists has.0, All-tail (All HasMemory) replies' lists' has.1) later
+      (subst (λ (p : PoolValue). AnswersParts p parts' lists' after') (sym one.1) later') in
+      ((λ i. one.0 i ∷ more.0 i), more.1)
 
   -- replays of scripts that say the same, by the limiter line
   by_once : (limiter : Option LimiterLine) (script script' : Script) (ran ran' : Ran) → HasNoAnswers limiter
       → SayTheSame script script'
-      → IsReplayBy limiter script ran → IsReplayBy limiter script' ran' → HaveBoth ran.replies.items ran'.replies.items
+      → IsReplayBy limiter script ran → IsReplayBy limiter script' ran' → HaveBothLists ran ran'
       → SameRan ran ran'
   by_once limiter script script' ran ran' none same replay replay' has = by limiter none replay replay' where
     start : start_of script.header ≡ start_of script'.header
     start = starts_same script.header script'.header (ap ScriptSaid.meter same) (ap ScriptSaid.region same)
 
     alone : (l : Option LimiterLine) → HasNoAnswers l
-        → IsReplayUnder l (start_of script.header) (first_calls script.parts.items) ran
-        → IsReplayUnder l (start_of script'.header) (first_calls script'.parts.items) ran' → SameRan ran ran'
+        → IsReplayOnOne l script.header (first_calls script.parts.items) ran
+        → IsReplayOnOne l script'.header (first_calls script'.parts.items) ran' → SameRan ran ran'
     alone l none replay replay' =
-        under_once l (start_of script.header) (first_calls script.parts.items) (first_calls script'.parts.items)
-        ran ran' none (first_same script script' same) replay
-        (subst (λ (s : State). IsReplayUnder l s (first_calls script'.parts.items) ran') (sym start) replay') has
+        one_once (IsReplayUnder l (start_of script.header) (first_calls script.parts.items))
+        (IsReplayUnder l (start_of script'.header) (first_calls script'.parts.items)) ran ran'
+        (λ replies replies' under under'. under_once l (start_of script.header) (first_calls script.parts.items)
+        (first_calls script'.parts.items) replies replies' ran.held ran'.held none (first_same script script' same) (
+          under,
+          subst (λ (s : State). IsReplayUnder l s (first_calls script'.parts.items) replies' ran'.held)
+              (sym start) under',
+        )) replay replay' has
 
     by : (l : Option LimiterLine) → HasNoAnswers l → IsReplayBy l script ran → IsReplayBy l script' ran'
         → SameRan ran ran'
@@ -418,11 +417,10 @@ module _ (once : IsDeterministic tenant_rules) where
         let meters : meter_of script'.header ≡ meter_of script.header =
         ap (λ (m : Option MeterLine). option_map_or meter_said m meter_off) (ap ScriptSaid.meter (sym same)) in
         let again = subst (λ m. AnswersParts (new_pool asked (new_state m))
-        script'.parts.items [] ran'.replies.items pool') meters answers' in
-        let one = parts_once script.parts.items script'.parts.items _ [] (ap ScriptSaid.parts same)
-        (record { replies = ran.replies.items; after = pool; has = has.0; ran = answers })
-        (record { replies = ran'.replies.items; after = pool'; has = has.1; ran = again }) in
-        record { replies = one.0; held = ap held_text (held ∙ ap holding.Tenants one.1 ∙ sym held') }
+        script'.parts.items (replies_of ran') pool') meters answers' in
+        let one = parts_once script.parts.items script'.parts.items _ (ap ScriptSaid.parts same) (replies_of ran)
+        (replies_of ran') pool pool' has answers again in
+        record { lists = one.0; held = ap held_text (held ∙ ap holding.Tenants one.1 ∙ sym held') }
 
   -- limiter lines but `answers` say all that they are
   same_line : (limiter limiter' : Option LimiterLine) → HasNoAnswers limiter
@@ -442,7 +440,7 @@ module _ (once : IsDeterministic tenant_rules) where
   -- replays of scripts that say the same, where no word is `complain`
   replays_once : (script script' : Script) (ran ran' : Ran) → HasNoComplain script.header.limiter
       → SayTheSame script script'
-      → IsReplayOf script ran → IsReplayOf script' ran' → HaveBoth ran.replies.items ran'.replies.items
+      → IsReplayOf script ran → IsReplayOf script' ran' → HaveBothLists ran ran'
       → SameRan ran ran'
   replays_once script script' ran ran' quiet same replay replay' has =
       by script.header.limiter script'.header.limiter quiet (ap ScriptSaid.limiter same) replay replay'
@@ -458,12 +456,18 @@ module _ (once : IsDeterministic tenant_rules) where
       by (Some (Answers words)) (Some (Answers words')) quiet said replay replay' =
           let given : words.items ≡ words'.items = cc in
           let start = starts_same script.header script'.header (ap ScriptSaid.meter same) (ap ScriptSaid.region same) in
-          listed_once words.items (start_of script.header) (first_calls script.parts.items)
-          (first_calls script'.parts.items) ran ran' quiet (first_same script script' same) replay
-          (subst (λ (g : List AnswerWord).
-          IsListedReplay g (start_of script.header) (first_calls script'.parts.items) ran') (sym given)
-          (subst (λ (s : State). IsListedReplay words'.items s (first_calls script'.parts.items) ran') (sym start)
-          replay')) has
+          let calls' = first_calls script'.parts.items in
+          one_once (IsListedReplay words.items (start_of script.header) (first_calls script.parts.items))
+          (IsListedReplay words'.items (start_of script'.header) calls') ran ran'
+          (λ replies replies' under under'. listed_once words.items (start_of script.header)
+          (first_calls script.parts.items) calls' replies replies' ran.held ran'.held quiet
+          (first_same script script' same) (
+            under,
+            subst (λ (g : List AnswerWord). IsListedReplay g (start_of script.header) calls' replies' ran'.held)
+                (sym given)
+                (subst (λ (s : State). IsListedReplay words'.items s calls' replies' ran'.held) (sym start) under'),
+          ))
+          replay replay' has
       by (Some (Answers words)) None quiet said replay replay' = absurd cc
       by (Some (Answers words)) (Some (Quota asked)) quiet said replay replay' = absurd cc
       by (Some (Answers words)) (Some (Tenants asked)) quiet said replay replay' = absurd cc
@@ -478,25 +482,25 @@ module _ (once : IsDeterministic tenant_rules) where
       let ran = replays_once a.script b.script a.ran b.ran none same replay replay' (has, has') in
       record {
         text = ap (λ t. t ++ held_text a.ran.held)
-            (replies_same (calls_of a.script) (calls_of b.script) a.ran.replies.items (all_said a.script b.script same))
-            ∙ (λ i. replies_text (calls_of b.script) (ran.replies i) ++ ran.held i);
+            (parts_same a.script.parts.items b.script.parts.items (replies_of a.ran) (ap ScriptSaid.parts same))
+            ∙ (λ i. parts_text b.script.parts.items (ran.lists i) ++ ran.held i);
         status = refl;
       }
-  outcomes_once bytes (Ok a) (Err (BadCommand number)) is is' decided decided' =
+  outcomes_once bytes (Ok a) (Err (Parse (BadCommand number))) is is' decided decided' =
       absurd (no_bad_line bytes a.script number is.1 is'.1)
   outcomes_once bytes (Ok a) (Err TooLong) is is' decided decided' = absurd (omega (arith, is.0, is'))
-  outcomes_once bytes (Err (BadCommand number)) (Ok b) is is' decided decided' =
+  outcomes_once bytes (Err (Parse (BadCommand number))) (Ok b) is is' decided decided' =
       absurd (no_bad_line bytes b.script number is'.1 is.1)
-  outcomes_once bytes (Err (BadCommand number)) (Err (BadCommand number')) is is' decided decided' =
+  outcomes_once bytes (Err (Parse (BadCommand number))) (Err (Parse (BadCommand number'))) is is' decided decided' =
       let same = bad_lines_once bytes number number' is.1 is'.1 in
-      record { text = ap (λ n. line (error_text (BadCommand n))) same; status = refl }
-  outcomes_once bytes (Err (BadCommand number)) (Err TooLong) is is' decided decided' =
+      record { text = ap (λ n. line (error_text (Parse (BadCommand n)))) same; status = refl }
+  outcomes_once bytes (Err (Parse (BadCommand number))) (Err TooLong) is is' decided decided' =
       absurd (omega (arith, is.0, is'))
   outcomes_once bytes (Err TooLong) (Ok b) is is' decided decided' = absurd (omega (arith, is'.0, is))
-  outcomes_once bytes (Err TooLong) (Err (BadCommand number)) is is' decided decided' =
+  outcomes_once bytes (Err TooLong) (Err (Parse (BadCommand number))) is is' decided decided' =
       absurd (omega (arith, is'.0, is))
   outcomes_once bytes (Err TooLong) (Err TooLong) is is' decided decided' = record { text = refl; status = refl }
-  outcomes_once bytes (Err OutOfMemory) outcome' is is' decided decided' = absurd decided
+  outcomes_once bytes (Err (Parse OutOfMemory)) outcome' is is' decided decided' = absurd decided
   outcomes_once bytes (Err ReadFault) outcome' is is' decided decided' = absurd decided
-  outcomes_once bytes outcome (Err OutOfMemory) is is' decided decided' = absurd decided'
+  outcomes_once bytes outcome (Err (Parse OutOfMemory)) is is' decided decided' = absurd decided'
   outcomes_once bytes outcome (Err ReadFault) is is' decided decided' = absurd decided'

@@ -1,5 +1,5 @@
 -- No text that is printed at once is long.
-use Rattle.std.proofs.Common.{ℕ, zero, suc, ◌+◌, ◌<◌, ◌≤◌, ◌/◌, ◌%◌, ◌==◌, ◌≡◌, ◌++◌, ◌∷◌, List, [], Bool, true, false, length, length-append, codes, None, Some, if◌then◌else◌, lit≤, lit<, arith, refl}
+use Rattle.std.proofs.Common.{ℕ, zero, suc, ◌+◌, ◌<◌, ◌≤◌, ◌/◌, ◌%◌, ◌==◌, ◌++◌, ◌∷◌, List, [], Bool, true, false, length, length-append, codes, None, Some, if◌then◌else◌, lit≤, lit<, arith}
 use Rattle.std.specs.Fmt.{decimal, digits, digits_onto, digit_glyph}
 use Rattle.wasmi_types.specs.declared.trap.TrapCode.TheVariants as trap
 use Rattle.wasmi_types.specs.declared.value.RefType.{RefType}
@@ -14,10 +14,10 @@ use Rattle.wasmi_core.specs.declared.calls.Call.TheVariants.{GetFuel}
 use Rattle.wasmi_core.specs.declared.calls.Reply.{Reply}
 use Rattle.wasmi_core.specs.declared.calls.Reply.TheVariants.{Done, Made, Value, Number, Bytes, Reference, Memory, Table, Fuel, Global, Segment, Trap, NoSuch, NoRegion, NoRoom}
 use Rattle.wasmi_script.specs.declared.error.ReplayError.{ReplayError}
-use Rattle.wasmi_script.specs.declared.error.ReplayError.TheVariants.{BadCommand, TooLong, ReadFault}
-use Rattle.wasmi_script.specs.declared.error.ReplayError.TheVariants as Errors
+use Rattle.wasmi_script.specs.declared.error.ReplayError.TheVariants.{Parse, TooLong, ReadFault}
+use Rattle.wasmi_grammar.specs.declared.error.ParseError.TheVariants.{BadCommand, OutOfMemory}
 use Rattle.wasmi_operands.specs.TypeWords.{reference_word}
-use Rattle.wasmi_script.specs.Texts.{kind_text, reply_text, error_text}
+use Rattle.wasmi_script.specs.Texts.{kind_text, head_text, error_text}
 
 -- the digits of a number are at most 64
 digits_short : (k base : ℕ) (upper : Bool) (n : ℕ) (acc : List ℕ)
@@ -102,44 +102,43 @@ held_short bytes elements = omega (arith, two_numbers (codes "held ") bytes elem
 pub byte_short : (byte : ℕ) → length (codes " " ++ decimal byte) < 256
 byte_short byte = omega (arith, numbered (codes " ") byte (lit≤ tt))
 
--- a reply that isn't one of bytes
-pub reply_short : (call : Call) (reply : Reply) → ((bytes : _) → ¬ (reply ≡ Bytes bytes))
-    → length (reply_text call reply) < 256
-reply_short call Done other = lit< tt
-reply_short call (Made index) other = omega (arith, one_number (kind_text call) index (omega (arith, kind_short call)))
-reply_short call (Value value) other = omega (arith, two_numbers (codes "raw ") value.lo value.hi (lit≤ tt))
-reply_short call (Number number) other = omega (arith, numbered (codes "value ") number (lit≤ tt))
-reply_short call (Bytes bytes) other = absurd (other bytes refl)
-reply_short call (Reference None) other = lit< tt
-reply_short call (Reference (Some reference)) other =
+-- a reply without the numbers of its bytes
+pub head_short : (call : Call) (reply : Reply) → length (head_text call reply) < 256
+head_short call Done = lit< tt
+head_short call (Made index) = omega (arith, one_number (kind_text call) index (omega (arith, kind_short call)))
+head_short call (Value value) = omega (arith, two_numbers (codes "raw ") value.lo value.hi (lit≤ tt))
+head_short call (Number number) = omega (arith, numbered (codes "value ") number (lit≤ tt))
+head_short call (Bytes bytes) = lit< tt
+head_short call (Reference None) = lit< tt
+head_short call (Reference (Some reference)) =
     omega (arith, one_number (reference_word reference.ty) reference.raw (omega (arith, reference_short reference.ty)))
-reply_short call (Memory (memory.OutOfFuel required)) other =
+head_short call (Memory (memory.OutOfFuel required)) =
     failed (codes "not enough fuel. required=") required (lit≤ tt)
-reply_short call (Memory error) other = lit< tt
-reply_short call (Table (table.OutOfFuel required)) other =
+head_short call (Memory error) = lit< tt
+head_short call (Table (table.OutOfFuel required)) =
     failed (codes "not enough fuel: required=") required (lit≤ tt)
-reply_short call (Table error) other = lit< tt
-reply_short call (Fuel fuel.FuelMeteringDisabled) other = lit< tt
-reply_short call (Fuel (fuel.OutOfFuel required)) other = failed (codes "ouf of fuel. required=") required (lit≤ tt)
-reply_short call (Global ImmutableWrite) other = lit< tt
-reply_short call (Global TypeMismatch) other = lit< tt
-reply_short call (Segment segment.TooManyItems) other = lit< tt
-reply_short call (Segment segment.OutOfSystemMemory) other = lit< tt
-reply_short call (Trap trap.OutOfFuel) other = lit< tt
-reply_short call (Trap code) other = lit< tt
-reply_short call NoSuch other = lit< tt
-reply_short call NoRegion other = lit< tt
-reply_short call NoRoom other = lit< tt
+head_short call (Table error) = lit< tt
+head_short call (Fuel fuel.FuelMeteringDisabled) = lit< tt
+head_short call (Fuel (fuel.OutOfFuel required)) = failed (codes "ouf of fuel. required=") required (lit≤ tt)
+head_short call (Global ImmutableWrite) = lit< tt
+head_short call (Global TypeMismatch) = lit< tt
+head_short call (Segment segment.TooManyItems) = lit< tt
+head_short call (Segment segment.OutOfSystemMemory) = lit< tt
+head_short call (Trap trap.OutOfFuel) = lit< tt
+head_short call (Trap code) = lit< tt
+head_short call NoSuch = lit< tt
+head_short call NoRegion = lit< tt
+head_short call NoRoom = lit< tt
 
 -- why a script isn't run
 pub error_short : (error : ReplayError) → length (error_text error) < 256
-error_short (BadCommand number) =
+error_short (Parse (BadCommand number)) =
     omega (
       arith,
       length-append (codes "line ") (decimal number ++ codes ": bad command"),
       length-append (decimal number) (codes ": bad command"),
       decimal_short number,
     )
+error_short (Parse OutOfMemory) = lit< tt
 error_short TooLong = lit< tt
-error_short Errors.OutOfMemory = lit< tt
 error_short ReadFault = lit< tt

@@ -1,6 +1,7 @@
 pub mod PrintingLemmas
 pub mod OutcomesLemmas
-pub mod RepliesLemmas
+pub mod ReadersLemmas
+pub mod RunningLemmas
 pub mod PoolLemmas
 pub mod ListedLimiterLemmas
 pub mod ListedRunsLemmas

@@ -1,9 +1,9 @@
 -- Lines that are printed one after the other.
-use Rattle.std.proofs.Common.{ℕ, ◌+◌, ◌<◌, ◌≡◌, ◌∙◌, ◌++◌, ◌∷◌, List, [], length, take, drop, get_or, length-append, ◌≤◌, refl, sym, ap, arith, append_assoc, append-nil, subst, take-append-drop, length-take-le, codes}
-use Rattle.std.specs.List.{flat_map, enumerate_from, slice_get}
+use Rattle.std.proofs.Common.{ℕ, ◌+◌, ◌<◌, ◌≡◌, ◌∙◌, ◌++◌, ◌∷◌, List, [], length, take, drop, get_or, ◌≤◌, refl, sym, ap, arith, append_assoc, append-nil, take-append-drop, length-take-le, codes}
+use Rattle.std.specs.List.{flat_map, zip, enumerate_from, slice_get}
 use Rattle.std.specs.Option.{option_map}
 use Rattle.std.specs.Fmt.{decimal}
-use Rattle.std.proofs.Common.{Option, None, Some, Ok}
+use Rattle.std.proofs.Common.{Option, None, Some, Vec}
 use Rattle.std.proofs.lemmas.List.{take_more, take_all}
 use Rattle.std.proofs.lemmas.List.Concat.{flat_map-append}
 use Rattle.std.proofs.lemmas.Option.{slice_get_within, get_or_from_slice_get}
@@ -13,22 +13,11 @@ use Rattle.wasmi_core.specs.declared.calls.Reply.{Reply}
 use Rattle.wasmi_core.specs.State.{State}
 use Rattle.wasmi_core.specs.Totals.{total}
 use Rattle.wasmi_grammar.specs.declared.script.TenantRun.{TenantRun}
-use Rattle.wasmi_script.specs.declared.outcome.Replayed.{Replayed}
 use Rattle.wasmi_script.proofs.PrintingLemmas.{texts_more, texts_at}
 use Rattle.wasmi_script.specs.Printing.{line}
-use Rattle.wasmi_script.specs.Texts.{bytes_text, reply_text}
-use Rattle.wasmi_grammar.specs.Lines.{calls_in, calls_of}
-use Rattle.wasmi_script.specs.Outcomes.{replies_text, tenant_text, tenants_text, held_text, outcome_text}
-
--- the replies to some calls, and those to later ones
-pub replies_joined : (xs ys : List Call) (rs ss : List Reply) → length xs ≡ length rs
-    → replies_text (xs ++ ys) (rs ++ ss) ≡ replies_text xs rs ++ replies_text ys ss
-replies_joined [] ys [] ss same = refl
-replies_joined [] ys (r ∷ rs) ss same = absurd (omega (arith, same))
-replies_joined (x ∷ xs) ys [] ss same = absurd (omega (arith, same))
-replies_joined (x ∷ xs) ys (r ∷ rs) ss same =
-    ap (λ t. line (reply_text x r) ++ t) (replies_joined xs ys rs ss (omega (arith, same)))
-    ∙ sym (append_assoc (line (reply_text x r)) (replies_text xs rs) (replies_text ys ss))
+use Rattle.wasmi_script.specs.Texts.{bytes_in, bytes_text, head_text, reply_text}
+use Rattle.wasmi_script.specs.Replays.{lists_of}
+use Rattle.wasmi_script.specs.Outcomes.{replies_text, parts_text, tenant_text, tenants_text}
 
 -- numbered items, and later ones
 enumerate_append : {X : Type 0} (n : ℕ) (xs ys : List X)
@@ -115,126 +104,49 @@ tenants_whole machines index bytes elements held =
     ∙ ap (λ t. t ++ later_tenants machines (index + 1)) (one_tenant machines index bytes elements held)
     ∙ append_assoc (tenants_text (take index machines)) _ (later_tenants machines (index + 1))
 
--- the line of bytes that were read is the text of all of them, and a line feed
-pub bytes_whole : (bytes : List ℕ) (i : ℕ) → length bytes ≤ i
-    → line (codes "bytes" ++ bytes_text bytes) ≡ (codes "bytes" ++ bytes_text (take i bytes)) ++ codes "\n"
-bytes_whole bytes i all = ap (λ bs. line (codes "bytes" ++ bytes_text bs)) (sym (take_all i bytes all))
+-- a space and the number of a byte
+abbrev pub byte_text : ℕ → List ℕ
+byte_text byte = codes " " ++ decimal byte
 
--- what is printed of a script, by its replies in whatever list they are seen
-pub outcome_split : (replayed : Replayed) (replies : List Reply) → replies ≡ replayed.ran.replies.items
-    → outcome_text (Ok replayed) ≡ replies_text (calls_of replayed.script) replies ++ held_text replayed.ran.held
-outcome_split replayed replies same =
-    ap (λ rs. replies_text (calls_of replayed.script) rs ++ held_text replayed.ran.held) (sym same)
+-- the head of a reply and the numbers of its bytes up to a place
+abbrev pub reply_front : Call → Reply → List ℕ → ℕ → List ℕ
+reply_front call reply bytes i = head_text call reply ++ bytes_text (take i bytes)
 
--- the replies to the parts up to a place, and those that are left: together a reply for each call
-pub record RepliesLeft (parts : List TenantRun) (replies : List Reply) (i : ℕ) (rest : List Reply) : Type 0 where
-  pub before : List Reply
-  pub each : length (calls_in parts) ≡ length replies
-  pub split : replies ≡ before ++ rest
-  pub count : length (calls_in (take i parts)) ≡ length before
+-- the numbers up to the next place are those up to a place and the one there
+pub reply_more : (call : Call) (reply : Reply) (bytes : List ℕ) (i : ℕ) → i < length bytes
+    → reply_front call reply bytes (i + 1) ≡ reply_front call reply bytes i ++ byte_text (get_or bytes i 0)
+reply_more call reply bytes i within =
+    ap (λ t. head_text call reply ++ t) (texts_more byte_text bytes i 0 within)
+    ∙ sym (append_assoc (head_text call reply) (bytes_text (take i bytes)) (byte_text (get_or bytes i 0)))
 
--- the part of a place
-pub record IsPartAt (parts : List TenantRun) (i : ℕ) (part : TenantRun) : Type 0 where
-  pub within : i < length parts
-  pub here : part ≡ get_or parts i part
+-- the line of a reply is its head with the numbers up to a place, the one there, and the later ones with a line feed
+pub reply_at : (call : Call) (reply : Reply) (bytes : List ℕ) (i : ℕ) → bytes ≡ bytes_in reply → i < length bytes
+    → line (reply_text call reply)
+    ≡ reply_front call reply bytes i ++
+    (byte_text (get_or bytes i 0) ++ (bytes_text (drop (i + 1) bytes) ++ codes "\n"))
+reply_at call reply bytes i same within =
+    let head = head_text call reply in
+    let before = bytes_text (take i bytes) in
+    let here = byte_text (get_or bytes i 0) in
+    let later = bytes_text (drop (i + 1) bytes) in
+    ap (λ bs. line (head ++ bytes_text bs)) (sym same)
+    ∙ ap (λ t. line (head ++ t)) (texts_at byte_text bytes i 0 within)
+    ∙ append_assoc head (before ++ (here ++ later)) (codes "\n")
+    ∙ ap (λ t. head ++ t) (append_assoc before (here ++ later) (codes "\n"))
+    ∙ ap (λ t. head ++ (before ++ t)) (append_assoc here later (codes "\n"))
+    ∙ sym (append_assoc head before (here ++ (later ++ codes "\n")))
 
--- a part of the place of a list is one of these parts, if the list is theirs
-pub part_at : (parts seen : List TenantRun) (i : ℕ) (part : TenantRun) → seen ≡ parts → i < length seen
-    → part ≡ get_or seen i part → IsPartAt parts i part
-part_at parts seen i part same within here = record {
-  within = subst (λ ps. i < length ps) same within;
-  here = subst (λ ps. part ≡ get_or ps i part) same here;
-}
+-- the line of a reply is its head, the numbers of all its bytes, and a line feed
+pub reply_whole : (call : Call) (reply : Reply) (bytes : List ℕ) (i : ℕ) → bytes ≡ bytes_in reply → length bytes ≤ i
+    → line (reply_text call reply) ≡ reply_front call reply bytes i ++ codes "\n"
+reply_whole call reply bytes i same all =
+    ap (λ bs. line (head_text call reply ++ bytes_text bs)) (sym same ∙ sym (take_all i bytes all))
 
--- the replies that are left, cut behind those to some calls
-pub record IsCut (calls : List Call) (rest answered later : List Reply) : Type 0 where
-  pub count : ℕ
-  pub counted : count ≡ length calls
-  pub front : answered ≡ take count rest
-  pub back : later ≡ drop count rest
-
--- What is left of the replies has those to the part of a place: with them those to the parts so far are one part more,
--- and the text is that of the parts so far, of this part, and of what comes later.
-module _ (parts : List TenantRun) (replies rest : List Reply) (i : ℕ) (part : TenantRun)
-    (left : RepliesLeft parts replies i rest) (at : IsPartAt parts i part) where
-  abbrev calls : List Call
-  calls = part.calls.items
-
-  abbrev so_far : List Call
-  so_far = calls_in (take i parts)
-
-  abbrev later_calls : List Call
-  later_calls = calls_in (drop (i + 1) parts)
-
-  -- all calls are those before this part, its own, and those later
-  all_calls : calls_in parts ≡ so_far ++ (calls ++ later_calls)
-  all_calls =
-      texts_at (λ p. p.calls.items) parts i part at.within
-      ∙ ap (λ p. so_far ++ (p.calls.items ++ later_calls)) (sym at.here)
-
-  -- the calls of one part more are those before it and its own
-  pub calls_more : calls_in (take (i + 1) parts) ≡ so_far ++ calls
-  calls_more = texts_more (λ p. p.calls.items) parts i part at.within ∙ ap (λ p. so_far ++ p.calls.items) (sym at.here)
-
-  -- there is a reply for each call of the part
-  pub part_fits : length calls ≤ length rest
-  part_fits = omega (
-    arith,
-    left.each,
-    left.count,
-    ap length left.split,
-    length-append left.before rest,
-    ap length all_calls,
-    length-append so_far (calls ++ later_calls),
-    length-append calls later_calls,
-  )
-
-  -- and where the part's replies are cut off
-  module _ (answered later : List Reply) (cut : IsCut calls rest answered later) where
-    -- there are as many as calls
-    answers : length answered ≡ length calls
-    answers = ap length cut.front ∙ length-take-le cut.count rest (omega (arith, cut.counted, part_fits)) ∙ cut.counted
-
-    -- what is left is the part's replies and those later
-    parted : rest ≡ answered ++ later
-    parted = sym (take-append-drop cut.count rest) ∙ (λ i. sym cut.front i ++ sym cut.back i)
-
-    -- all replies are those so far, those to the part, and those later
-    pub replies_more : replies ≡ (left.before ++ answered) ++ later
-    replies_more = left.split ∙ ap (λ rs. left.before ++ rs) parted ∙ sym (append_assoc left.before answered later)
-
-    -- there are as many replies so far as calls of one part more
-    pub count_more : length (calls_in (take (i + 1) parts)) ≡ length (left.before ++ answered)
-    count_more =
-        ap length calls_more ∙ length-append so_far calls ∙ (λ j. left.count j + sym answers j)
-        ∙ sym (length-append left.before answered)
-
-    -- the text of one part more is that so far and that of the part
-    pub text_more : replies_text (calls_in (take (i + 1) parts)) (left.before ++ answered)
-        ≡ replies_text so_far left.before ++ replies_text calls answered
-    text_more = ap (λ cs. replies_text cs (left.before ++ answered)) calls_more
-        ∙ replies_joined so_far calls left.before answered left.count
-
-    -- the whole text is that so far, that of the part, and what comes later
-    pub text_whole : replies_text (calls_in parts) replies
-        ≡ replies_text so_far left.before ++ (replies_text calls answered ++ replies_text later_calls later)
-    text_whole =
-        ap (λ cs. replies_text cs replies) all_calls
-        ∙ ap (λ rs. replies_text (so_far ++ (calls ++ later_calls)) rs)
-        (left.split ∙ ap (λ rs. left.before ++ rs) parted)
-        ∙ replies_joined so_far (calls ++ later_calls) left.before (answered ++ later) left.count
-        ∙ ap (λ t. replies_text so_far left.before ++ t)
-        (replies_joined calls later_calls answered later (sym answers))
-
--- after all parts the text is that of all replies
-pub text_last : (parts : List TenantRun) (replies rest : List Reply) (i : ℕ) (left : RepliesLeft parts replies i rest)
-    → length parts ≤ i
-    → replies_text (calls_in (take i parts)) left.before ≡ replies_text (calls_in parts) replies
-text_last parts replies rest i left all =
-    let whole = take_all i parts all in
-    let count = subst (λ ps. length (calls_in ps) ≡ length left.before) whole left.count in
-    let text = replies_text (calls_in parts) left.before in
-    ap (λ ps. replies_text (calls_in ps) left.before) whole ∙ sym (append-nil text)
-    ∙ sym (replies_joined (calls_in parts) [] left.before rest count)
-    ∙ ap (λ calls. replies_text calls (left.before ++ rest)) (append-nil (calls_in parts))
-    ∙ ap (replies_text (calls_in parts)) (sym left.split)
+-- the lines of the parts are those of each part with the list of its replies
+pub parts_lines : {A : Type 0} (parts : List TenantRun) (lists : List (Vec Reply A))
+    → flat_map (λ turn. replies_text turn.0.calls.items turn.1.items) (zip parts lists)
+    ≡ parts_text parts (lists_of lists)
+parts_lines [] lists = refl
+parts_lines (part ∷ parts) [] = refl
+parts_lines (part ∷ parts) (replies ∷ lists) =
+    ap (λ t. replies_text part.calls.items replies.items ++ t) (parts_lines parts lists)

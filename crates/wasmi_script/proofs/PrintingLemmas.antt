@@ -1,10 +1,11 @@
 -- Texts that are printed one after the other.
-use Rattle.std.proofs.Common.{◌≡◌, ◌∙◌, ◌+◌, ◌<◌, ℕ, List, [], ◌∷◌, ◌++◌, length, take, drop, get_or, add-one, take-append-drop, drop-cons, None, Some, Result, Ok, Err, IfSome, OnOk, OnErr, refl, sym, ap, append_assoc, append-nil, subst}
+use Rattle.std.proofs.Common.{◌≡◌, ◌∙◌, ◌+◌, ◌<◌, ℕ, List, [], ◌∷◌, ◌++◌, length, take, drop, get_or, map, add-one, take-append-drop, drop-cons, None, Some, Result, Ok, Err, IfSome, OnOk, OnErr, refl, sym, ap, append_assoc, append-nil, subst}
 use Rattle.std.specs.Fmt.{WritesInCalls, WritesText}
 use Rattle.std.proofs.lemmas.Fmt.{contents_after_writes}
 use Rattle.std.specs.List.{flat_map}
 use Rattle.std.proofs.lemmas.List.{take_more}
 use Rattle.std.proofs.lemmas.List.Concat.{flat_map-append}
+use Rattle.std.proofs.lemmas.List.Folds.{flat_map-map}
 use Rattle.arrayvec.specs.ArrayString.{ArrayString}
 use Rattle.std.specs.declared.option.Option.{Option}
 use Rattle.std.specs.Io.KnownBytes.{Appends}
@@ -233,3 +234,38 @@ module _ {X : Type 0} {A : Type 0} (text : X → List A) where
       drop-cons xs i d within ∙ ap (λ n. get_or xs i d ∷ drop n xs) (sym (add-one i)) in
       ap (flat_map text) (sym (take-append-drop i xs)) ∙ flat_map-append text (take i xs) (drop i xs)
       ∙ ap (λ ys. flat_map text (take i xs) ++ flat_map text ys) later
+
+-- texts of what an iterator yields, printed one after the other: v is what is seen of an item, and all are to be seen
+module _ {W A B : Type 0} (contents : W → Option (List ℕ)) (text : B → List ℕ) (v : A → B) (all : List B) where
+  abbrev yielded_text : List A → List ℕ
+  yielded_text yielded = flat_map (λ x. text (v x)) yielded
+
+  -- one more is printed
+  pub yields_more : (p q r : Printer W) (yielded : List A) (x : A) → Prints contents p q (yielded_text yielded)
+      → Prints contents q r (text (v x)) → Prints contents p r (yielded_text (yielded ++ x ∷ []))
+  yields_more p q r yielded x =
+      prints_then contents p q r (yielded_text yielded) (text (v x)) (yielded_text (yielded ++ x ∷ []))
+      (flat_map-append (λ y. text (v y)) yielded (x ∷ [])
+      ∙ ap (λ t. yielded_text yielded ++ t) (append-nil (text (v x))))
+
+  -- one more is printed in part
+  pub yields_front : (p q r : Printer W) (yielded : List A) (x : A)
+      → (map v yielded ≡ take (length yielded) all) × (length yielded < length all)
+      × (v x ≡ get_or all (length yielded) (v x))
+      → Prints contents p q (yielded_text yielded) → PrintsFront contents q r (text (v x))
+      → PrintsFront contents p r (flat_map text all)
+  yields_front p q r yielded x (before, within, here) =
+      let i = length yielded in
+      let later = flat_map text (drop (i + 1) all) in
+      prints_front contents p q r (yielded_text yielded) (text (v x)) later (flat_map text all)
+      (texts_at text all i (v x) within
+      ∙ ap (λ t. t ++ (text (get_or all i (v x)) ++ later))
+      (ap (flat_map text) (sym before) ∙ flat_map-map text v yielded)
+      ∙ ap (λ y. yielded_text yielded ++ (text y ++ later)) (sym here))
+
+  -- all are printed
+  pub yields_all : (p q : Printer W) (yielded : List A) → map v yielded ≡ all
+      → Prints contents p q (yielded_text yielded)
+      → Prints contents p q (flat_map text all)
+  yields_all p q yielded whole =
+      subst (Prints contents p q) (sym (flat_map-map text v yielded) ∙ ap (flat_map text) whole)

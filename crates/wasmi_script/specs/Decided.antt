@@ -1,10 +1,12 @@
 -- Outcomes that the bytes of a reader decide.
 use Rattle.std.specs.Prelude.{◌≡◌, ⊤, ℕ, List, All, Option, Some, Ok, Err}
 use Rattle.wasmi_core.specs.Determinism.{HasMemory}
-use Rattle.wasmi_script.specs.declared.error.ReplayError.TheVariants.{OutOfMemory, ReadFault}
+use Rattle.wasmi_script.specs.declared.error.ReplayError.TheVariants.{Parse, ReadFault}
+use Rattle.wasmi_grammar.specs.declared.error.ParseError.TheVariants.{OutOfMemory}
 use Rattle.wasmi_grammar.specs.declared.header.LimiterLine.{LimiterLine}
 use Rattle.wasmi_grammar.specs.declared.header.LimiterLine.TheVariants.{Answers}
 use Rattle.wasmi_script.specs.ListedLimiter.{notice_answer_by}
+use Rattle.wasmi_script.specs.Replays.{replies_of}
 use Rattle.wasmi_script.specs.Outcomes.{Outcome, IsOutcomeOf, outcome_text}
 use Rattle.wasmi_script.specs.Status.{status_after}
 
@@ -16,8 +18,8 @@ HasNoComplain limiter = ⊤
 -- Memory isn't wanting and the reader doesn't fail: no reply tells of want of memory, and where no word is `complain`,
 -- no notice of it is answered by another error.
 abbrev pub IsDecided : Outcome → Type 0
-IsDecided (Ok replayed) = All HasMemory replayed.ran.replies.items × HasNoComplain replayed.script.header.limiter
-IsDecided (Err OutOfMemory) = ⊥
+IsDecided (Ok replayed) = All (All HasMemory) (replies_of replayed.ran) × HasNoComplain replayed.script.header.limiter
+IsDecided (Err (Parse OutOfMemory)) = ⊥
 IsDecided (Err ReadFault) = ⊥
 IsDecided (Err error) = ⊤
 

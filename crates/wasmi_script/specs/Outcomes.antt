@@ -1,5 +1,5 @@
 -- What a replay prints, and how it ends.
-use Rattle.std.specs.Prelude.{◌≡◌, ◌≤◌, ◌<◌, ◌⊎◌, ⊤, ℕ, List, [], ◌++◌, codes, flat_map, length, Option, Result, Ok, Err, IfOk, IfSome}
+use Rattle.std.specs.Prelude.{◌≡◌, ◌≤◌, ◌<◌, ◌⊎◌, ⊤, ℕ, List, [], ◌++◌, codes, flat_map, length, Option, Result, Ok, Err, IfSome}
 use Rattle.std.specs.Io.KnownBytes.{Appends}
 use Rattle.std.specs.Fmt.{decimal}
 use Rattle.std.specs.List.{zip, enumerate_from}
@@ -12,20 +12,26 @@ use Rattle.wasmi_script.specs.declared.running.Held.{Held}
 use Rattle.wasmi_script.specs.declared.running.Held.TheVariants.{Nothing, Quota, Tenants}
 use Rattle.wasmi_script.specs.declared.outcome.Replayed.{Replayed}
 use Rattle.wasmi_script.specs.declared.error.ReplayError.{ReplayError}
-use Rattle.wasmi_script.specs.declared.error.ReplayError.TheVariants.{BadCommand, TooLong, OutOfMemory, ReadFault}
+use Rattle.wasmi_script.specs.declared.error.ReplayError.TheVariants.{Parse, TooLong, ReadFault}
 use Rattle.wasmi_script.specs.declared.reading.TheConstants.{LIMIT}
 use Rattle.wasmi_script.specs.declared.replaying.Status.{Status}
 use Rattle.wasmi_script.specs.declared.replaying.Status.TheVariants.{Fault}
-use Rattle.wasmi_grammar.specs.Lines.{WritesScript, calls_of}
+use Rattle.wasmi_grammar.specs.declared.script.TenantRun.{TenantRun}
+use Rattle.wasmi_grammar.specs.Lines.{WritesScript}
 use Rattle.wasmi_grammar.specs.Refusals.{IsFirstBadLine}
+use Rattle.wasmi_grammar.specs.declared.error.ParseError.TheVariants.{BadCommand, OutOfMemory}
 use Rattle.wasmi_script.specs.Printing.{AppendsFront, line}
-use Rattle.wasmi_script.specs.Replays.{IsReplayOf}
+use Rattle.wasmi_script.specs.Replays.{IsReplayOf, replies_of}
 use Rattle.wasmi_script.specs.Status.{status_after}
 use Rattle.wasmi_script.specs.Texts.{reply_text, error_text}
 
 -- a line for each call, with its reply
 abbrev pub replies_text : List Call → List Reply → List ℕ
 replies_text calls replies = flat_map (λ turn. line (reply_text turn.0 turn.1)) (zip calls replies)
+
+-- the lines of each part, with the list of its replies
+abbrev pub parts_text : List TenantRun → List (List Reply) → List ℕ
+parts_text parts lists = flat_map (λ turn. replies_text turn.0.calls.items turn.1) (zip parts lists)
 
 -- what a quota holds
 abbrev pub amounts_text : ℕ → ℕ → List ℕ
@@ -51,14 +57,10 @@ held_text (Tenants pool) = tenants_text pool.machines
 abbrev pub Outcome : Type 0
 Outcome = Result Replayed ReplayError
 
--- there is a reply for each call
-abbrev pub HasReplies : Outcome → Type 0
-HasReplies outcome = IfOk outcome (λ replayed. length (calls_of replayed.script) ≡ length replayed.ran.replies.items)
-
 -- what is printed: the replies and what is held then, or why the script isn't run
 abbrev pub outcome_text : Outcome → List ℕ
 outcome_text (Ok replayed) =
-    replies_text (calls_of replayed.script) replayed.ran.replies.items ++ held_text replayed.ran.held
+    parts_text replayed.script.parts.items (replies_of replayed.ran) ++ held_text replayed.ran.held
 outcome_text (Err error) = line (error_text error)
 
 -- The outcome of the bytes of a reader: a run of the script that they write, a line that is no command, or that they
@@ -66,9 +68,9 @@ outcome_text (Err error) = line (error_text error)
 abbrev pub IsOutcomeOf : List ℕ → Outcome → Type 0
 IsOutcomeOf bytes (Ok replayed) =
     (length bytes ≤ LIMIT) × WritesScript bytes replayed.script × IsReplayOf replayed.script replayed.ran
-IsOutcomeOf bytes (Err (BadCommand number)) = (length bytes ≤ LIMIT) × IsFirstBadLine bytes number
+IsOutcomeOf bytes (Err (Parse (BadCommand number))) = (length bytes ≤ LIMIT) × IsFirstBadLine bytes number
+IsOutcomeOf bytes (Err (Parse OutOfMemory)) = ⊤
 IsOutcomeOf bytes (Err TooLong) = LIMIT < length bytes
-IsOutcomeOf bytes (Err OutOfMemory) = ⊤
 IsOutcomeOf bytes (Err ReadFault) = ⊤
 
 -- the writer has got the whole text and the status is the outcome's, or it has got a front of the text and failed
@@ -77,9 +79,13 @@ PrintsOutcome old new outcome status =
     (Appends old new (outcome_text outcome) × (status ≡ status_after outcome))
     ⊎ (AppendsFront old new (outcome_text outcome) × (status ≡ Fault))
 
+-- an outcome of some bytes, which are those of a reader where it tells them
+abbrev pub IsOutcomeOfReader : Option (List ℕ) → Outcome → Type 0
+IsOutcomeOfReader given outcome =
+    (bytes : List ℕ) × IfSome given (λ told. told ≡ bytes) × IsOutcomeOf bytes outcome
+
 -- the bytes of a reader have an outcome, and a writer has got it
 pub record Replays (given old new : Option (List ℕ)) (status : Status) : Type 0 where
   pub outcome : Outcome
-  pub of_bytes : IfSome given (λ bytes. IsOutcomeOf bytes outcome)
-  pub replies : HasReplies outcome
+  pub of_bytes : IsOutcomeOfReader given outcome
   pub printed : PrintsOutcome old new outcome status

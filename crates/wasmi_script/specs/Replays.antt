@@ -1,5 +1,5 @@
 -- What a replay answers.
-use Rattle.std.specs.Prelude.{◌≡◌, ◌++◌, ℕ, List, [], ◌∷◌, Option, None, Some, replicate}
+use Rattle.std.specs.Prelude.{◌≡◌, List, [], ◌∷◌, Option, None, Some, Vec, map, replicate}
 use Rattle.wasmi_meter.specs.Limiter.{optional_rules, unlimited_rules}
 use Rattle.wasmi_meter.specs.declared.limiter.NoLimits.{NoLimits}
 use Rattle.wasmi_meter.specs.declared.quota.Quota.{Quota}
@@ -15,6 +15,7 @@ use Rattle.wasmi_core.specs.Runs.{IsRunOf}
 use Rattle.wasmi_core.specs.Totals.{HoldsTotals}
 use Rattle.wasmi_core.specs.declared.calls.Reply.{Reply}
 use Rattle.wasmi_budget.specs.Pool.{PoolValue, RunsTenant}
+use Rattle.wasmi_grammar.specs.declared.header.Header.{Header}
 use Rattle.wasmi_grammar.specs.declared.script.Script.{Script}
 use Rattle.wasmi_grammar.specs.declared.header.LimiterLine.{LimiterLine}
 use Rattle.wasmi_grammar.specs.declared.header.LimiterLine.TheVariants as Lines
@@ -22,7 +23,8 @@ use Rattle.wasmi_grammar.specs.declared.header.TenantsLine.{TenantsLine}
 use Rattle.wasmi_grammar.specs.declared.script.TenantRun.{TenantRun}
 use Rattle.wasmi_grammar.specs.Lines.{first_calls}
 use Rattle.wasmi_script.specs.declared.running.Held.TheVariants.{Nothing}
-use Rattle.wasmi_script.specs.declared.running.Held.TheVariants as held
+use Rattle.wasmi_script.specs.declared.running.Held.TheVariants as Holding
+use Rattle.wasmi_script.specs.declared.running.Held.{Held}
 use Rattle.wasmi_script.specs.declared.running.Ran.{Ran}
 use Rattle.wasmi_script.specs.declared.listed_limiter.AnswerList.{AnswerList}
 use Rattle.wasmi_grammar.specs.declared.header.answers.AnswerWord.{AnswerWord}
@@ -39,54 +41,66 @@ pub record IsNewQuota (caps : Amounts) (quota : Quota) : Type 0 where
   pub elements : cap_of quota Elements ≡ caps.elements
   pub nothing : holdings quota ≡ nothing_held
 
--- the replies are those of a run of the calls from a machine, under a limiter that answers by these words
-abbrev pub IsListedReplay : List AnswerWord → State → List Call → Ran → Type 0
-IsListedReplay words start calls ran =
-    (ran.held ≡ Nothing) × (list : AnswerList) × IsNewList words list × (after : World (Option AnswerList))
-    × IsRunOf (optional_rules answer_rules) calls
-    (record { state = start; limiter = Some list }) ran.replies.items after
+-- the lists of replies, one for each part
+abbrev pub lists_of : {A : Type 0} → List (Vec Reply A) → List (List Reply)
+lists_of lists = map (λ replies. replies.items) lists
+
+-- the replies to the calls of each part, in order
+abbrev pub replies_of : Ran → List (List Reply)
+replies_of ran = lists_of ran.replies.items
+
+-- The replies, with what is held, are those of a run of the calls from a machine, under a limiter that answers by these
+-- words.
+abbrev pub IsListedReplay : List AnswerWord → State → List Call → List Reply → Held → Type 0
+IsListedReplay words start calls replies held =
+    (held ≡ Nothing) × (list : AnswerList) × IsNewList words list × (after : World (Option AnswerList))
+    × IsRunOf (optional_rules answer_rules) calls (record { state = start; limiter = Some list }) replies after
 
 -- The replies are those of a run of the calls from a machine, without a limiter or under the one that a line asks for.
 -- What is held is what a quota then holds, which is all that the machine has.
-abbrev pub IsReplayUnder : Option LimiterLine → State → List Call → Ran → Type 0
-IsReplayUnder None start calls ran = (ran.held ≡ Nothing) × (after : World (Option NoLimits))
-    × IsRunOf (optional_rules unlimited_rules) calls (record { state = start; limiter = None }) ran.replies.items after
-IsReplayUnder (Some (Lines.Quota caps)) start calls ran =
+abbrev pub IsReplayUnder : Option LimiterLine → State → List Call → List Reply → Held → Type 0
+IsReplayUnder None start calls replies held = (held ≡ Nothing) × (after : World (Option NoLimits))
+    × IsRunOf (optional_rules unlimited_rules) calls (record { state = start; limiter = None }) replies after
+IsReplayUnder (Some (Lines.Quota caps)) start calls replies held =
     (quota : Quota) × IsNewQuota caps quota × (end : State) × (after : Quota)
-    × IsRunOf (optional_rules quota_rules) calls (record { state = start; limiter = Some quota }) ran.replies.items
+    × IsRunOf (optional_rules quota_rules) calls (record { state = start; limiter = Some quota }) replies
     (record { state = end; limiter = Some after })
-    × HoldsTotals (holdings after) end × (ran.held ≡ held.Quota (holdings after).held)
-IsReplayUnder (Some (Lines.Answers words)) start calls ran = IsListedReplay words.items start calls ran
-IsReplayUnder (Some (Lines.Tenants line)) start calls ran = ⊥
+    × HoldsTotals (holdings after) end × (held ≡ Holding.Quota (holdings after).held)
+IsReplayUnder (Some (Lines.Answers words)) start calls replies held =
+    IsListedReplay words.items start calls replies held
+IsReplayUnder (Some (Lines.Tenants line)) start calls replies held = ⊥
+
+-- there are the replies to one part alone, with what is held, as a relation has them
+abbrev pub IsOfOnePart : (List Reply → Held → Type 0) → Ran → Type 0
+IsOfOnePart Replied ran = (replies : List Reply) × (replies_of ran ≡ replies ∷ []) × Replied replies ran.held
+
+-- the replies are those of a run of the calls on a new machine with the meter and the region of these header lines
+abbrev pub IsReplayOnOne : Option LimiterLine → Header → List Call → Ran → Type 0
+IsReplayOnOne limiter header calls ran = IsOfOnePart (IsReplayUnder limiter (start_of header) calls) ran
 
 -- a pool of new machines, as many as a line says, under its caps
 abbrev pub new_pool : TenantsLine → State → PoolValue
 new_pool line start = record { caps = line.caps; machines = replicate line.count start }
 
--- a tenant has run these calls, and its replies come after those that there were
-abbrev pub AnswersPart : PoolValue → ℕ → List Call → List Reply → List Reply → PoolValue → Type 0
-AnswersPart pool tenant calls replies replies' pool' =
-    (answered : List Reply) × (replies' ≡ replies ++ answered) × RunsTenant pool tenant calls answered pool'
-
--- the parts are run one after another, each in one run of its tenant
-abbrev pub AnswersParts : PoolValue → List TenantRun → List Reply → List Reply → PoolValue → Type 0
-AnswersParts pool [] replies replies' pool' = (replies' ≡ replies) × (pool' ≡ pool)
-AnswersParts pool (part ∷ parts) replies replies' pool' = (between : List Reply) × (middle : PoolValue)
-    × AnswersPart pool part.tenant part.calls.items replies between middle
-    × AnswersParts middle parts between replies' pool'
+-- the parts are run one after another, each in one run of its tenant, with these replies
+abbrev pub AnswersParts : PoolValue → List TenantRun → List (List Reply) → PoolValue → Type 0
+AnswersParts pool [] [] pool' = pool' ≡ pool
+AnswersParts pool [] (replies ∷ later) pool' = ⊥
+AnswersParts pool (part ∷ parts) [] pool' = ⊥
+AnswersParts pool (part ∷ parts) (replies ∷ later) pool' = (middle : PoolValue)
+    × RunsTenant pool part.tenant part.calls.items replies middle × AnswersParts middle parts later pool'
 
 -- The replies are those of the parts, one after another, on a pool of new machines with the script's meter.
 -- What is held is what the pool's machines have then.
 abbrev pub IsPoolReplay : TenantsLine → Script → Ran → Type 0
-IsPoolReplay line script ran = (pool : PoolValue) × (ran.held ≡ held.Tenants pool)
-    × AnswersParts (new_pool line (new_state (meter_of script.header)))
-    script.parts.items [] ran.replies.items pool
+IsPoolReplay line script ran = (pool : PoolValue) × (ran.held ≡ Holding.Tenants pool)
+    × AnswersParts (new_pool line (new_state (meter_of script.header))) script.parts.items (replies_of ran) pool
 
 -- the replies are those of the parts on a pool, or those of a run on a new machine with the script's meter and its
 -- region
 abbrev pub IsReplayBy : Option LimiterLine → Script → Ran → Type 0
 IsReplayBy (Some (Lines.Tenants line)) script ran = IsPoolReplay line script ran
-IsReplayBy limiter script ran = IsReplayUnder limiter (start_of script.header) (first_calls script.parts.items) ran
+IsReplayBy limiter script ran = IsReplayOnOne limiter script.header (first_calls script.parts.items) ran
 
 -- the replies are those of a run as the script's header lines ask for it
 abbrev pub IsReplayOf : Script → Ran → Type 0

@@ -1,8 +1,8 @@
 -- How the program ends.
 use Rattle.std.specs.Prelude.{ℕ, Result, Ok, Err}
 use Rattle.wasmi_script.specs.declared.error.ReplayError.{ReplayError}
-use Rattle.wasmi_script.specs.declared.error.ReplayError.TheVariants.{BadCommand, TooLong, ReadFault}
-use Rattle.wasmi_script.specs.declared.error.ReplayError.TheVariants as Errors
+use Rattle.wasmi_script.specs.declared.error.ReplayError.TheVariants.{Parse, TooLong, ReadFault}
+use Rattle.wasmi_grammar.specs.declared.error.ParseError.TheVariants as Errors
 use Rattle.wasmi_script.specs.declared.replaying.Status.{Status}
 use Rattle.wasmi_script.specs.declared.replaying.Status.TheVariants.{Answered, BadScript, OutOfMemory, Fault}
 
@@ -16,7 +16,7 @@ status_number Fault = 4
 -- how a replay ends whose lines could be printed
 abbrev pub status_after : {A : Type 0} → Result A ReplayError → Status
 status_after (Ok replayed) = Answered
-status_after (Err (BadCommand line)) = BadScript
+status_after (Err (Parse (Errors.BadCommand line))) = BadScript
+status_after (Err (Parse Errors.OutOfMemory)) = OutOfMemory
 status_after (Err TooLong) = BadScript
-status_after (Err Errors.OutOfMemory) = OutOfMemory
 status_after (Err ReadFault) = Fault

@@ -1,5 +1,5 @@
 -- What the program prints of a reply, and why it runs no script.
-use Rattle.std.specs.Prelude.{ℕ, List, ◌++◌, codes, flat_map, Option, None, Some}
+use Rattle.std.specs.Prelude.{ℕ, List, [], ◌++◌, codes, flat_map, Option, None, Some}
 use Rattle.std.specs.Fmt.{decimal}
 use Rattle.wasmi_types.specs.Trap.{code_message}
 use Rattle.wasmi_meter.specs.Texts.{fuel_error_text, memory_error_text, table_error_text}
@@ -11,8 +11,8 @@ use Rattle.wasmi_core.specs.declared.calls.Call.TheVariants.{NewMemory, NewLentM
 use Rattle.wasmi_core.specs.declared.calls.Reply.{Reply}
 use Rattle.wasmi_core.specs.declared.calls.Reply.TheVariants.{Done, Made, Value, Number, Bytes, Reference, Memory, Table, Fuel, Global, Segment, Trap, NoSuch, NoRegion, NoRoom}
 use Rattle.wasmi_script.specs.declared.error.ReplayError.{ReplayError}
-use Rattle.wasmi_script.specs.declared.error.ReplayError.TheVariants.{BadCommand, TooLong, ReadFault}
-use Rattle.wasmi_script.specs.declared.error.ReplayError.TheVariants as Errors
+use Rattle.wasmi_script.specs.declared.error.ReplayError.TheVariants.{Parse, TooLong, ReadFault}
+use Rattle.wasmi_grammar.specs.declared.error.ParseError.TheVariants.{BadCommand, OutOfMemory}
 use Rattle.wasmi_operands.specs.TypeWords.{reference_word}
 
 -- the word for what a call makes; only creations make anything
@@ -33,27 +33,36 @@ abbrev pub element_text : Option TypedRawRef → List ℕ
 element_text None = codes "none"
 element_text (Some reference) = reference_word reference.ty ++ (codes " " ++ decimal reference.raw)
 
--- the reply to a call
+-- the reply to a call, but for the numbers of its bytes
+abbrev pub head_text : Call → Reply → List ℕ
+head_text call Done = codes "done"
+head_text call (Made index) = kind_text call ++ (codes " " ++ decimal index)
+head_text call (Value value) = codes "raw " ++ (decimal value.lo ++ (codes " " ++ decimal value.hi))
+head_text call (Number number) = codes "value " ++ decimal number
+head_text call (Bytes bytes) = codes "bytes"
+head_text call (Reference element) = element_text element
+head_text call (Memory error) = codes "error " ++ memory_error_text error
+head_text call (Table error) = codes "error " ++ table_error_text error
+head_text call (Fuel error) = codes "error " ++ fuel_error_text error
+head_text call (Global error) = codes "error " ++ global_error_text error
+head_text call (Segment error) = codes "error " ++ segment_error_text error
+head_text call (Trap code) = codes "error " ++ code_message code
+head_text call NoSuch = codes "no such"
+head_text call NoRegion = codes "no region"
+head_text call NoRoom = codes "no room"
+
+-- the bytes that a reply tells
+abbrev pub bytes_in : Reply → List ℕ
+bytes_in (Bytes bytes) = bytes
+bytes_in reply = []
+
+-- the reply to a call: its head, and a number for each byte that it tells
 abbrev pub reply_text : Call → Reply → List ℕ
-reply_text call Done = codes "done"
-reply_text call (Made index) = kind_text call ++ (codes " " ++ decimal index)
-reply_text call (Value value) = codes "raw " ++ (decimal value.lo ++ (codes " " ++ decimal value.hi))
-reply_text call (Number number) = codes "value " ++ decimal number
-reply_text call (Bytes bytes) = codes "bytes" ++ bytes_text bytes
-reply_text call (Reference element) = element_text element
-reply_text call (Memory error) = codes "error " ++ memory_error_text error
-reply_text call (Table error) = codes "error " ++ table_error_text error
-reply_text call (Fuel error) = codes "error " ++ fuel_error_text error
-reply_text call (Global error) = codes "error " ++ global_error_text error
-reply_text call (Segment error) = codes "error " ++ segment_error_text error
-reply_text call (Trap code) = codes "error " ++ code_message code
-reply_text call NoSuch = codes "no such"
-reply_text call NoRegion = codes "no region"
-reply_text call NoRoom = codes "no room"
+reply_text call reply = head_text call reply ++ bytes_text (bytes_in reply)
 
 -- why a script isn't run
 abbrev pub error_text : ReplayError → List ℕ
-error_text (BadCommand line) = codes "line " ++ (decimal line ++ codes ": bad command")
+error_text (Parse (BadCommand line)) = codes "line " ++ (decimal line ++ codes ": bad command")
+error_text (Parse OutOfMemory) = codes "out of memory"
 error_text TooLong = codes "script too long"
-error_text Errors.OutOfMemory = codes "out of memory"
 error_text ReadFault = codes "read fault"

@@ -1,6 +1,7 @@
 //! Why a script isn't run to its end.
 ghost use Rattle.std.specs.Prelude.{◌≡◌};
-ghost use Rattle.wasmi_script.specs.declared.error.ReplayError.TheVariants.{OutOfMemory};
+ghost use Rattle.wasmi_grammar.specs.declared.error.ParseError.TheVariants.{OutOfMemory};
+ghost use Rattle.wasmi_script.specs.declared.error.ReplayError.TheVariants.{Parse};
 
 use std::alloc::{AllocError, AllocFailed};
 use std::fmt;
@@ -9,12 +10,10 @@ use wasmi_grammar::ParseError;
 /// Why a script isn't run. The text is what the program prints.
 #[derive(Clone, Copy, Debug, PartialEq, Eq)]
 pub enum ReplayError {
-    /// The first line that is no command, counted from 1.
-    BadCommand { line: usize },
+    /// A line is no command, or there wasn't enough memory: to read, to parse or for the replies.
+    Parse(ParseError),
     /// More bytes than a script may have.
     TooLong,
-    /// There wasn't enough memory to read, to parse or for the replies.
-    OutOfMemory,
     /// The reader answered an error.
     ReadFault,
 }
@@ -27,9 +26,9 @@ impl fmt::Display for ReplayError {
 
     fn fmt<W: fmt::Write>(&self, f: &mut fmt::Formatter<W>) -> fmt::Result {
         match self {
-            Self::BadCommand { line } => write!(f, "line {line}: bad command"),
+            Self::Parse(ParseError::BadCommand { line }) => write!(f, "line {line}: bad command"),
+            Self::Parse(ParseError::OutOfMemory) => f.write_str("out of memory"),
             Self::TooLong => f.write_str("script too long"),
-            Self::OutOfMemory => f.write_str("out of memory"),
             Self::ReadFault => f.write_str("read fault"),
         }
     }
@@ -38,30 +37,25 @@ impl fmt::Display for ReplayError {
 impl std::error::Error for ReplayError {}
 
 impl From<AllocError> for ReplayError {
-    ghost from_gives = { λ _ error. error ≡ OutOfMemory };
+    ghost from_gives = { λ _ error. error ≡ Parse OutOfMemory };
 
     fn from(_: AllocError) -> Self {
-        ReplayError::OutOfMemory
+        ReplayError::Parse(ParseError::OutOfMemory)
     }
 }
 
 impl<T: Drop> From<AllocFailed<T>> for ReplayError {
-    ghost from_gives = { λ _ error. error ≡ OutOfMemory };
+    ghost from_gives = { λ _ error. error ≡ Parse OutOfMemory };
 
     fn from(_: AllocFailed<T>) -> Self {
-        ReplayError::OutOfMemory
+        ReplayError::Parse(ParseError::OutOfMemory)
     }
 }
 
 impl From<ParseError> for ReplayError {
-    ghost use Rattle.wasmi_script.specs.Refusals.{replay_error};
-
-    ghost from_gives = { λ error replayed. replayed ≡ replay_error error };
+    ghost from_gives = { λ error replayed. replayed ≡ Parse error };
 
     fn from(error: ParseError) -> Self {
-        match error {
-            ParseError::BadCommand { line } => ReplayError::BadCommand { line },
-            ParseError::OutOfMemory => ReplayError::OutOfMemory,
-        }
+        ReplayError::Parse(error)
     }
 }

@@ -11,6 +11,7 @@ mod replaying;
 mod running;
 
 pub use error::ReplayError;
-pub use outcome::ReplyLine;
+pub use outcome::ReplyHead;
 pub use reading::LIMIT;
 pub use replaying::{Status, replay};
+pub use wasmi_grammar::ParseError;

@@ -1,11 +1,11 @@
 //! The lines that a replay prints, by its outcome.
-ghost use Rattle.std.specs.Prelude.{◌≡◌, ◌++◌, length, codes, Ok, OnOk, OnErr};
+ghost use Rattle.std.specs.Prelude.{◌≡◌, Ok, OnOk, OnErr};
 ghost use Rattle.std.specs.Io.KnownBytes.{Appends};
 ghost use Rattle.wasmi_script.specs.Printing.{AppendsFront, Prints, PrintsFront, PrintsOut, line};
-ghost use Rattle.wasmi_script.specs.Texts.{reply_text, bytes_text, kind_text};
+ghost use Rattle.wasmi_script.specs.Texts.{reply_text, bytes_in, kind_text};
 ghost use Rattle.wasmi_operands.specs.TypeWords.{reference_word};
-ghost use Rattle.wasmi_grammar.specs.Lines.{calls_of};
-ghost use Rattle.wasmi_script.specs.Outcomes.{replies_text, tenants_text, held_text, outcome_text, HasReplies};
+ghost use Rattle.wasmi_script.specs.Replays.{lists_of};
+ghost use Rattle.wasmi_script.specs.Outcomes.{replies_text, parts_text, tenants_text, held_text, outcome_text};
 
 use crate::error::ReplayError;
 use crate::printer::Printer;
@@ -27,7 +27,6 @@ pub struct Replayed {
 
 /// Prints the outcome to its last byte.
 pub fn print<W: io::Write>(writer: &mut W, outcome: &Result<Replayed, ReplayError>) -> fmt::Result
-    requires { HasReplies outcome.now }
     ensures ok { OnOk result
         (Appends (W.contents writer.old) (W.contents writer.new) (outcome_text outcome.now)) }
     ensures front { OnErr result
@@ -45,7 +44,6 @@ fn print_all<W: io::Write>(
     printer: &mut Printer<'_, W>,
     outcome: &Result<Replayed, ReplayError>,
 ) -> fmt::Result
-    requires { HasReplies outcome.now }
     ensures ok { OnOk result
         (PrintsOut W.contents printer.old printer.new (outcome_text outcome.now)) }
     ensures front { OnErr result
@@ -60,7 +58,6 @@ fn print_outcome<W: io::Write>(
     printer: &mut Printer<'_, W>,
     outcome: &Result<Replayed, ReplayError>,
 ) -> fmt::Result
-    requires { HasReplies outcome.now }
     ensures ok { OnOk result
         (Prints W.contents printer.old printer.new (outcome_text outcome.now)) }
     ensures front { OnErr result
@@ -74,13 +71,12 @@ fn print_outcome<W: io::Write>(
 
 /// Prints a line for each call of a script, and what is held.
 fn print_replayed<W: io::Write>(printer: &mut Printer<'_, W>, replayed: &Replayed) -> fmt::Result
-    requires { length (calls_of replayed.now.script) ≡ length replayed.now.ran.replies.items }
     ensures ok { OnOk result
         (Prints W.contents printer.old printer.new (outcome_text (Ok replayed.now))) }
     ensures front { OnErr result
         (PrintsFront W.contents printer.old printer.new (outcome_text (Ok replayed.now))) }
 {
-    print_script(printer, &replayed.script, replayed.ran.replies.as_slice())?;
+    print_script(printer, &replayed.script, &replayed.ran.replies)?;
     print_held(printer, &replayed.ran.held)
 }
 
@@ -88,21 +84,17 @@ fn print_replayed<W: io::Write>(printer: &mut Printer<'_, W>, replayed: &Replaye
 fn print_script<W: io::Write>(
     printer: &mut Printer<'_, W>,
     script: &Script,
-    replies: &[Reply],
+    replies: &[Vec<Reply>],
 ) -> fmt::Result
-    requires { length (calls_of script.now) ≡ length replies.now }
     ensures ok { OnOk result
         (Prints W.contents printer.old printer.new
-        (replies_text (calls_of script.now) replies.now)) }
+        (parts_text script.now.parts.items (lists_of replies.now))) }
     ensures front { OnErr result
         (PrintsFront W.contents printer.old printer.new
-        (replies_text (calls_of script.now) replies.now)) }
+        (parts_text script.now.parts.items (lists_of replies.now))) }
 {
-    let mut rest = replies;
-    for part in &script.parts {
-        let (answered, later) = rest.split_at(part.calls.len());
+    for (part, answered) in script.parts.iter().zip(replies) {
         print_replies(printer, &part.calls, answered)?;
-        rest = later;
     }
     Ok(())
 }
@@ -124,7 +116,7 @@ fn print_replies<W: io::Write>(
     Ok(())
 }
 
-/// A call's reply. Bytes are printed one after the other, since they may be many.
+/// A call's reply. The numbers of bytes are printed one after the other, since they may be many.
 fn print_reply<W: io::Write>(
     printer: &mut Printer<'_, W>,
     call: &Call,
@@ -135,25 +127,21 @@ fn print_reply<W: io::Write>(
     ensures front { OnErr result
         (PrintsFront W.contents printer.old printer.new (line (reply_text call.now reply.now))) }
 {
-    match reply {
-        Reply::Bytes(bytes) => print_bytes(printer, bytes.as_slice()),
-        _ => printer.print_line(ReplyLine { call, reply }),
-    }
-}
-
-/// The line of bytes that were read.
-fn print_bytes<W: io::Write>(printer: &mut Printer<'_, W>, bytes: &[u8]) -> fmt::Result
-    ensures ok { OnOk result
-        (Prints W.contents printer.old printer.new (line (codes "bytes" ++ bytes_text bytes.now))) }
-    ensures front { OnErr result
-        (PrintsFront W.contents printer.old printer.new
-        (line (codes "bytes" ++ bytes_text bytes.now))) }
-{
-    printer.print("bytes")?;
-    for byte in bytes {
+    printer.print(ReplyHead { call, reply })?;
+    for byte in bytes_of(reply) {
         printer.print(format_args!(" {byte}"))?;
     }
     printer.print("\n")
+}
+
+/// The bytes that a reply tells: none unless some were read.
+fn bytes_of(reply: &Reply) -> &[u8]
+    ensures { result.now ≡ bytes_in reply.now }
+{
+    match reply {
+        Reply::Bytes(bytes) => bytes.as_slice(),
+        _ => &[],
+    }
 }
 
 /// What a quota holds, or what each tenant of a pool holds.
@@ -186,20 +174,20 @@ fn print_tenants<W: io::Write>(printer: &mut Printer<'_, W>, pool: &Pool) -> fmt
     Ok(())
 }
 
-/// A call's reply, as the program prints it.
+/// A call's reply, as the program prints it, but for the numbers that follow `bytes`.
 #[derive(Clone, Copy)]
-pub struct ReplyLine<'a> {
+pub struct ReplyHead<'a> {
     /// The call, which tells what a creation has made.
     pub call: &'a Call,
     /// Its reply.
     pub reply: &'a Reply,
 }
 
-impl fmt::Display for ReplyLine<'_> {
+impl fmt::Display for ReplyHead<'_> {
     ghost use Rattle.std.specs.Prelude.{Some};
-    ghost use Rattle.wasmi_script.specs.Texts.{reply_text};
+    ghost use Rattle.wasmi_script.specs.Texts.{head_text};
 
-    ghost output = { λ line. Some (reply_text line.call.now line.reply.now) };
+    ghost output = { λ head. Some (head_text head.call.now head.reply.now) };
 
     fn fmt<W: fmt::Write>(&self, f: &mut fmt::Formatter<W>) -> fmt::Result {
         match self.reply {
@@ -210,10 +198,7 @@ impl fmt::Display for ReplyLine<'_> {
             }
             Reply::Value(value) => write!(f, "raw {} {}", value.lo, value.hi),
             Reply::Number(number) => write!(f, "value {number}"),
-            Reply::Bytes(bytes) => {
-                let numbers = ByteNumbers(bytes.as_slice());
-                write!(f, "bytes{numbers}")
-            }
+            Reply::Bytes(_) => write!(f, "bytes"),
             Reply::Reference(Some(reference)) => {
                 let ty = reference_word_of(reference.ty);
                 let raw = u32::from(reference.raw);
@@ -230,24 +215,6 @@ impl fmt::Display for ReplyLine<'_> {
             Reply::NoRegion => write!(f, "no region"),
             Reply::NoRoom => write!(f, "no room"),
         }
-    }
-}
-
-/// Bytes as the program prints them: a space and a number for each.
-#[derive(Clone, Copy)]
-struct ByteNumbers<'a>(&'a [u8]);
-
-impl fmt::Display for ByteNumbers<'_> {
-    ghost use Rattle.std.specs.Prelude.{Some};
-    ghost use Rattle.wasmi_script.specs.Texts.{bytes_text};
-
-    ghost output = { λ numbers. Some (bytes_text numbers.0.now) };
-
-    fn fmt<W: fmt::Write>(&self, f: &mut fmt::Formatter<W>) -> fmt::Result {
-        for byte in self.0 {
-            write!(f, " {byte}")?;
-        }
-        Ok(())
     }
 }
 

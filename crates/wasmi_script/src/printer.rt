@@ -35,7 +35,7 @@ impl<'w, W: io::Write> Printer<'w, W> {
 
     /// Prints a text of less than `LONGEST` bytes.
     pub fn print<D: Display + Drop>(&mut self, text: D) -> fmt::Result
-        requires { IsShort (D.output text) }
+        requires short { IsShort (D.output text) }
         ensures ok { OnOk result
             (IfSome (D.output text) (λ bytes. Prints W.contents self.old self.new bytes)) }
         ensures front { OnErr result
@@ -47,7 +47,7 @@ impl<'w, W: io::Write> Printer<'w, W> {
 
     /// Prints a line of at most `LONGEST` bytes with its feed.
     pub fn print_line<D: Display + Drop>(&mut self, text: D) -> fmt::Result
-        requires { IsShort (D.output text) }
+        requires short { IsShort (D.output text) }
         ensures ok { OnOk result
             (IfSome (D.output text) (λ bytes. Prints W.contents self.old self.new (line bytes))) }
         ensures front { OnErr result

@@ -31,7 +31,7 @@ impl<'r, R: Read> Turns<'r, R> {
 
     /// One turn more.
     fn turn(&mut self, buffer: &mut [u8]) -> io::Result<usize>
-        requires { self.old.taken ≤ LIMIT }
+        requires turns { self.old.taken ≤ LIMIT }
         ensures taken { self.new.taken ≡ self.old.taken + 1 }
         ensures bound { ReadsAtMost result buffer.new }
         ensures bytes { ReadConsumes (R.remaining self.old.reader.now)
@@ -45,7 +45,7 @@ impl<'r, R: Read> Turns<'r, R> {
 /// The bytes of the reader up to its end, in at most `LIMIT + 1` turns: a turn that gives nothing
 /// is the end.
 pub fn read<R: Read>(alloc: Global, reader: &mut Turns<'_, R>) -> Result<Vec<u8>, ReplayError>
-    requires { reader.old.taken ≡ 0 }
+    requires fresh { reader.old.taken ≡ 0 }
     ensures bounded { IfOk result (λ script. vec_len script ≤ LIMIT) }
     ensures whole { IfOk result
         (λ script. IfSome (R.remaining reader.old.reader.now) (λ bytes. script.items ≡ bytes)) }

@@ -1,15 +1,15 @@
 //! A script from its reader to the printed lines.
-ghost use Rattle.std.specs.Prelude.{◌≡◌, ◌≤◌, length, IfSome};
+ghost use Rattle.std.specs.Prelude.{◌≡◌};
 ghost use Rattle.wasmi_script.specs.Status.{status_number, status_after};
-ghost use Rattle.wasmi_script.specs.Outcomes.{HasReplies, IsOutcomeOf, Replays};
+ghost use Rattle.wasmi_script.specs.Outcomes.{IsOutcomeOfReader, Replays};
 
 use crate::error::ReplayError;
 use crate::outcome::{Replayed, print};
-use crate::reading::{LIMIT, Turns, read};
+use crate::reading::{Turns, read};
 use crate::running::run_script;
 use std::alloc::Global;
 use std::io;
-use wasmi_grammar::parse;
+use wasmi_grammar::{ParseError, parse};
 
 /// How a replay ended.
 #[derive(Clone, Copy, Debug, PartialEq, Eq)]
@@ -41,8 +41,6 @@ impl Status {
 /// Reads the script, runs it and prints its replies, or prints why it isn't run. A line that can't
 /// be printed makes the status `Fault`; what went out before it stays.
 pub fn replay<R: io::Read, W: io::Write>(alloc: Global, reader: &mut R, writer: &mut W) -> Status
-    ensures limited { result ≡ Status.Answered
-        → IfSome (R.remaining reader.old) (λ bytes. length bytes ≤ LIMIT) }
     ensures ends { Replays (R.remaining reader.old) (W.contents writer.old)
         (W.contents writer.new) result }
 {
@@ -55,8 +53,7 @@ pub fn replay<R: io::Read, W: io::Write>(alloc: Global, reader: &mut R, writer: 
 
 /// Reads the script and runs it.
 fn outcome_of<R: io::Read>(alloc: Global, reader: &mut R) -> Result<Replayed, ReplayError>
-    ensures outcome { IfSome (R.remaining reader.old) (λ bytes. IsOutcomeOf bytes result) }
-    ensures replies { HasReplies result }
+    ensures outcome { IsOutcomeOfReader (R.remaining reader.old) result }
 {
     let bytes = read(alloc, &mut Turns::new(reader))?;
     let script = parse(alloc, bytes.as_slice())?;
@@ -70,8 +67,10 @@ fn status_of(outcome: &Result<Replayed, ReplayError>) -> Status
 {
     match outcome {
         Ok(_) => Status::Answered,
-        Err(ReplayError::BadCommand { .. } | ReplayError::TooLong) => Status::BadScript,
-        Err(ReplayError::OutOfMemory) => Status::OutOfMemory,
+        Err(ReplayError::Parse(ParseError::BadCommand { .. }) | ReplayError::TooLong) => {
+            Status::BadScript
+        }
+        Err(ReplayError::Parse(ParseError::OutOfMemory)) => Status::OutOfMemory,
         Err(ReplayError::ReadFault) => Status::Fault,
     }
 }

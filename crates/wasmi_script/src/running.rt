@@ -1,9 +1,10 @@
 //! The run of a script's calls.
-ghost use Rattle.std.specs.Prelude.{◌≡◌, None, Some, IfOk, OnOk};
-ghost use Rattle.wasmi_grammar.specs.Headers.{meter_of, start_of};
+ghost use Rattle.std.specs.Prelude.{◌≡◌, [], ◌∷◌, None, Some, IfOk};
+ghost use Rattle.std.specs.Option.{option_map, option_copied_mut};
+ghost use Rattle.wasmi_grammar.specs.Headers.{meter_of, region_bytes, start_of};
 ghost use Rattle.wasmi_core.specs.State.{new_state};
-ghost use Rattle.wasmi_core.specs.Totals.{HoldsTotals};
-ghost use Rattle.wasmi_script.specs.Replays.{IsReplayOf, IsReplayUnder, IsListedReplay, IsPoolReplay, AnswersPart, new_pool, nothing_held};
+ghost use Rattle.wasmi_budget.specs.Pool.{RunsTenant};
+ghost use Rattle.wasmi_script.specs.Replays.{IsReplayOf, IsReplayOnOne, IsOfOnePart, IsListedReplay, IsPoolReplay, new_pool, replies_of};
 
 use crate::listed_limiter::AnswerList;
 use std::alloc::{AllocError, Global};
@@ -12,16 +13,33 @@ use wasmi_core::{
     Call, CustomFuelCosts, Fuel, FuelCostsProvider, Machine, NoLimits, Quota, Reply,
     ResourceLimiterRef, run, run_lending, run_reserving,
 };
-use wasmi_grammar::{AnswerWord, Header, LimiterLine, MeterLine, RegionLine, Script, TenantsLine};
+use wasmi_grammar::{
+    AnswerWord, Header, LimiterLine, MeterLine, RegionLine, Script, TenantRun, TenantsLine,
+};
 use wasmi_meter::Amounts;
 
 /// What the run of a script's calls answered.
 #[derive(Drop)]
 pub struct Ran {
-    /// A reply to each call, in order.
-    pub replies: Vec<Reply>,
+    /// The replies to the calls of each part, in order.
+    pub replies: Vec<Vec<Reply>>,
     /// What is held afterwards.
     pub held: Held,
+}
+
+impl Ran {
+    /// What the run of one part answered.
+    fn of_one(alloc: Global, replies: Vec<Reply>, held: Held) -> Result<Self, AllocError>
+        ensures replies { IfOk result (λ ran. replies_of ran ≡ replies.items ∷ []) }
+        ensures held { IfOk result (λ ran. ran.held ≡ held) }
+    {
+        let mut parts = Vec::new(alloc);
+        parts.push(replies)?;
+        Ok(Ran {
+            replies: parts,
+            held,
+        })
+    }
 }
 
 /// What is held after a run, as far as it is printed.
@@ -40,14 +58,13 @@ pub enum Held {
 pub fn run_script(alloc: Global, script: &Script) -> Result<Ran, AllocError>
     ensures { IfOk result (IsReplayOf script.now) }
 {
-    let fuel = fuel_of(&script.header);
-    match script.header.region {
-        None => run_on(alloc, &mut Machine::new(alloc, fuel), script),
-        Some(RegionLine { len, byte }) => {
-            let mut region = vec![in alloc; byte; len]?;
-            let mut machine = Machine::with_region(alloc, fuel, region.as_mut_slice());
-            run_on(alloc, &mut machine, script)
-        }
+    let header = &script.header;
+    let calls = script.first_calls();
+    match &header.limiter {
+        None => run_freely(alloc, header, calls),
+        Some(LimiterLine::Quota(caps)) => run_under_quota(alloc, header, calls, *caps),
+        Some(LimiterLine::Answers(words)) => run_answered(alloc, header, calls, words),
+        Some(LimiterLine::Tenants(line)) => run_pool(alloc, script, *line),
     }
 }
 
@@ -68,64 +85,75 @@ fn fuel_of(header: &Header) -> Fuel
     }
 }
 
-/// Runs the script's calls on this machine, under its limiter line or without a limiter. Where the
-/// line asks for a pool, the pool's machines run them, and this one, which has nothing, runs none.
-fn run_on(alloc: Global, machine: &mut Machine, script: &Script) -> Result<Ran, AllocError>
-    requires held { HoldsTotals nothing_held machine.old }
-    requires start { machine.old ≡ start_of script.now.header }
-    ensures { IfOk result (IsReplayOf script.now) }
+/// The bytes of the region that the header lines ask for, if there is one.
+fn region_of(alloc: Global, header: &Header) -> Result<Option<Vec<u8>>, AllocError>
+    ensures { IfOk result (λ region. option_map (λ bytes. bytes.items) region
+        ≡ option_map region_bytes header.now.region) }
 {
-    match &script.header.limiter {
-        None => run_freely(machine, script.first_calls()),
-        Some(LimiterLine::Quota(caps)) => run_under_quota(machine, script.first_calls(), *caps),
-        Some(LimiterLine::Answers(words)) => run_answered(machine, script.first_calls(), words),
-        Some(LimiterLine::Tenants(line)) => run_pool(alloc, script, *line),
+    match header.region {
+        None => Ok(None),
+        Some(RegionLine { len, byte }) => Ok(Some(vec![in alloc; byte; len]?)),
     }
 }
 
-/// Runs the calls without a limiter.
-fn run_freely(machine: &mut Machine, calls: &[Call]) -> Result<Ran, AllocError>
-    ensures { IfOk result (IsReplayUnder None machine.old calls.now) }
+/// A new machine with the meter of the header, which is lent this region if there is one.
+fn machine_of<'r>(alloc: Global, header: &Header, region: Option<&'r mut Vec<u8>>) -> Machine<'r>
+    ensures { result ≡ record (new_state (meter_of header.now))
+        { spare = option_map (λ bytes. bytes.items) (option_copied_mut region.entry) } }
 {
-    let mut limiter = ResourceLimiterRef::<NoLimits>::default();
-    let replies = run(machine, calls, &mut limiter)?;
-    Ok(Ran {
-        replies,
-        held: Held::Nothing,
-    })
+    let fuel = fuel_of(header);
+    match region {
+        None => Machine::new(alloc, fuel),
+        Some(bytes) => Machine::with_region(alloc, fuel, bytes.as_mut_slice()),
+    }
 }
 
-/// Runs the calls under a quota of these caps.
-fn run_under_quota(machine: &mut Machine, calls: &[Call], caps: Amounts) -> Result<Ran, AllocError>
-    requires { HoldsTotals nothing_held machine.old }
-    ensures { IfOk result (IsReplayUnder (Some (LimiterLine.Quota caps)) machine.old calls.now) }
+/// Runs the calls on a new machine without a limiter.
+fn run_freely(alloc: Global, header: &Header, calls: &[Call]) -> Result<Ran, AllocError>
+    ensures { IfOk result (IsReplayOnOne None header.now calls.now) }
 {
+    let mut region = region_of(alloc, header)?;
+    let mut machine = machine_of(alloc, header, region.as_mut());
+    let mut limiter = ResourceLimiterRef::<NoLimits>::default();
+    let replies = run(&mut machine, calls, &mut limiter)?;
+    Ran::of_one(alloc, replies, Held::Nothing)
+}
+
+/// Runs the calls on a new machine under a quota of these caps.
+fn run_under_quota(
+    alloc: Global,
+    header: &Header,
+    calls: &[Call],
+    caps: Amounts,
+) -> Result<Ran, AllocError>
+    ensures { IfOk result (IsReplayOnOne (Some (LimiterLine.Quota caps)) header.now calls.now) }
+{
+    let mut region = region_of(alloc, header)?;
+    let mut machine = machine_of(alloc, header, region.as_mut());
     let mut quota = Quota::new(caps.bytes, caps.elements);
-    let replies = run_reserving(machine, calls, &mut quota)?;
+    let replies = run_reserving(&mut machine, calls, &mut quota)?;
     let held = Amounts {
         bytes: quota.held_bytes(),
         elements: quota.held_elements(),
     };
-    Ok(Ran {
-        replies,
-        held: Held::Quota(held),
-    })
+    Ran::of_one(alloc, replies, Held::Quota(held))
 }
 
-/// Runs the calls under a limiter that answers from a list of words.
+/// Runs the calls on a new machine under a limiter that answers from a list of words.
 fn run_answered(
-    machine: &mut Machine,
+    alloc: Global,
+    header: &Header,
     calls: &[Call],
     words: &[AnswerWord],
 ) -> Result<Ran, AllocError>
-    ensures { IfOk result (IsListedReplay words.now machine.old calls.now) }
+    ensures { IfOk result (IsOfOnePart
+        (IsListedReplay words.now (start_of header.now) calls.now)) }
 {
+    let mut region = region_of(alloc, header)?;
+    let mut machine = machine_of(alloc, header, region.as_mut());
     let mut limiter = AnswerList::new(words);
-    let replies = run_lending(machine, calls, &mut limiter)?;
-    Ok(Ran {
-        replies,
-        held: Held::Nothing,
-    })
+    let replies = run_lending(&mut machine, calls, &mut limiter)?;
+    Ran::of_one(alloc, replies, Held::Nothing)
 }
 
 /// Runs the script's parts, each by its tenant, on a pool of new machines with the script's meter.
@@ -135,7 +163,8 @@ fn run_pool(alloc: Global, script: &Script, line: TenantsLine) -> Result<Ran, Al
     let mut pool = pool_of(alloc, &script.header, line)?;
     let mut replies = Vec::new(alloc);
     for part in &script.parts {
-        run_part(&mut pool, part.tenant, &part.calls, &mut replies)?;
+        let answered = run_part(&mut pool, part)?;
+        replies.push(answered)?;
     }
     Ok(Ran {
         replies,
@@ -157,18 +186,13 @@ fn pool_of(alloc: Global, header: &Header, line: TenantsLine) -> Result<Pool<'st
     Ok(pool)
 }
 
-/// Runs the calls of one part, and puts the replies after those that there are.
-fn run_part(
-    pool: &mut Pool,
-    tenant: usize,
-    calls: &[Call],
-    replies: &mut Vec<Reply>,
-) -> Result<(), AllocError>
-    ensures { OnOk result
-        (AnswersPart pool.old tenant calls.now replies.old.items replies.new.items pool.new) }
+/// Runs the calls of one part.
+fn run_part(pool: &mut Pool, part: &TenantRun) -> Result<Vec<Reply>, AllocError>
+    ensures { IfOk result (λ replies.
+        RunsTenant pool.old part.now.tenant part.now.calls.items replies.items pool.new) }
 {
-    match pool.run(tenant, calls) {
-        Ok(mut answered) => replies.append(&mut answered),
+    match pool.run(part.tenant, &part.calls) {
+        Ok(replies) => Ok(replies),
         // No script names a tenant that its pool lacks, so memory was wanting.
         Err(_) => Err(AllocError),
     }

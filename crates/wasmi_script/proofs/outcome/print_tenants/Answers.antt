@@ -20,4 +20,4 @@ loop-index-preserved g c =
     c.in_ok-print_line.ensures.ok
 
 pub print_line-requires : goal.print_line-requires
-print_line-requires g c = three_numbers (codes "held ") _ _ _ (lit≤ tt)
+print_line-requires g c = record { short = three_numbers (codes "held ") _ _ _ (lit≤ tt) }

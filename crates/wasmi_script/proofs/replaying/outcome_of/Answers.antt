@@ -1,7 +1,55 @@
-use Rattle.wasmi_script.proofs.RepliesLemmas.{replay_count}
+use Rattle.std.proofs.Common.{◌≡◌, ◌≤◌, Err, IfSome, length, arith, rules, sym, ap, subst}
+use Rattle.wasmi_grammar.specs.declared.error.ParseError.TheVariants.{OutOfMemory}
+use Rattle.wasmi_script.specs.declared.error.ReplayError.TheVariants.{Parse}
+use Rattle.wasmi_script.specs.declared.reading.TheConstants.{LIMIT}
+use Rattle.wasmi_script.specs.Refusals.{IsReadError}
+use Rattle.wasmi_script.specs.Outcomes.{IsOutcomeOfReader}
+use Rattle.wasmi_script.proofs.ReadersLemmas.{told_by, wanting, unread, unparsed}
 use Rattle.wasmi_script.proofs.replaying.outcome_of.Goals as goal
 
-pub returns-clause-replies : goal.returns-clause-replies
-returns-clause-replies g c =
-    replay_count c.as_slice.result.now c.in_ok-script.script c.in_ok-ran.ran c.in_ok-script.ensures.script
-    c.in_ok-ran.ensures
+pub returns-in_err-bytes : goal.returns-in_err-bytes
+returns-in_err-bytes g c =
+    let given = g.R.Read.remaining c.args.reader.now in
+    let same : c.from_residual.result ≡ Err c.in_err-bytes.field-0.0 = search rules in
+    let refused : IsReadError given c.in_err-bytes.field-0.0 =
+    subst (λ r. IsReadError (g.R.Read.remaining r.now) c.in_err-bytes.field-0.0) c.new.ensures.reader
+    c.in_err-bytes.ensures.refused in
+    record { outcome = subst (IsOutcomeOfReader given) (sym same) (unread given _ refused) }
+
+pub returns-in_err-script : goal.returns-in_err-script
+returns-in_err-script g c =
+    let given = g.R.Read.remaining c.args.reader.now in
+    let bytes = c.as_slice.result.now in
+    let same : c.from_residual-in_err-script.result ≡ Err (Parse c.in_err-script.field-0.0) = search rules in
+    let whole : IfSome given (λ told. c.in_ok-bytes.bytes.items ≡ told) =
+    subst (λ r. IfSome (g.R.Read.remaining r.now) (λ told. c.in_ok-bytes.bytes.items ≡ told)) c.new.ensures.reader
+    c.in_ok-bytes.ensures.whole in
+    let known : IfSome given (λ told. bytes ≡ told) =
+    subst (λ bs. IfSome given (λ told. bs ≡ told)) (sym c.as_slice.ensures.value) whole in
+    let short : length bytes ≤ LIMIT =
+    omega (arith, c.in_ok-bytes.ensures.bounded, ap length c.as_slice.ensures.value, c.in_ok-bytes.bytes.ok.0) in
+    record {
+      outcome = subst (IsOutcomeOfReader given) (sym same)
+          (unparsed given bytes c.in_err-script.field-0.0 known short c.in_err-script.ensures.refused);
+    }
+
+pub returns-in_err-ran : goal.returns-in_err-ran
+returns-in_err-ran g c =
+    let given = g.R.Read.remaining c.args.reader.now in
+    let same : c.from_residual-in_err-ran.result ≡ Err (Parse OutOfMemory) = search rules in
+    record { outcome = subst (IsOutcomeOfReader given) (sym same) (wanting given) }
+
+pub returns : goal.returns
+returns g c =
+    let given = g.R.Read.remaining c.args.reader.now in
+    let bytes = c.as_slice.result.now in
+    let whole : IfSome given (λ told. c.in_ok-bytes.bytes.items ≡ told) =
+    subst (λ r. IfSome (g.R.Read.remaining r.now) (λ told. c.in_ok-bytes.bytes.items ≡ told)) c.new.ensures.reader
+    c.in_ok-bytes.ensures.whole in
+    let known : IfSome given (λ told. bytes ≡ told) =
+    subst (λ bs. IfSome given (λ told. bs ≡ told)) (sym c.as_slice.ensures.value) whole in
+    let short : length bytes ≤ LIMIT =
+    omega (arith, c.in_ok-bytes.ensures.bounded, ap length c.as_slice.ensures.value, c.in_ok-bytes.bytes.ok.0) in
+    record {
+      outcome = (bytes, told_by given bytes known, (short, c.in_ok-script.ensures.script, c.in_ok-ran.ensures));
+    }
