@@ -1,22 +1,45 @@
-/* The calls of wasmi_core for C, in libwasmi_ffi.a. A slice is a pointer and a number of elements; (NULL, 0) is one. Out
-   parameters and arrays that are written don't overlap with anything else that a call takes. There is no handle: what
-   a machine does between calls, growth, limiters and tables are for scripts. */
+/* The calls of wasmi_core for C and C++, in libwasmi_ffi.a (x86-64 Linux).
+
+   State: there is none. No machine, memory, meter or limiter lives across calls: instructions work on values and bytes
+   of the caller's, and growth, fuel, limits and tables can be had only inside one script (wasmi_script_run).
+
+   Pointers: value and needed must not be NULL. An array is a pointer and a number of elements, of at most PTRDIFF_MAX
+   bytes; the pointer may be NULL only where that number is 0. What a call writes must not overlap with anything else
+   that the call takes. No pointer is kept.
+
+   Threads: calls may be made from several threads at once, where none writes what another one reads or writes.
+
+   Numbers: an instruction keeps its number in every later version, and so does a status; new instructions have the
+   numbers after the last one of their kind. */
 #ifndef WASMI_CORE_H
 #define WASMI_CORE_H
 
 #include <stddef.h>
 #include <stdint.h>
 
+#ifdef __cplusplus
+extern "C" {
+#endif
+
+/* The last version in CHANGELOG.md. */
+#define WASMI_CORE_VERSION "1.0.0"
+#define WASMI_CORE_VERSION_MAJOR 1
+#define WASMI_CORE_VERSION_MINOR 0
+#define WASMI_CORE_VERSION_PATCH 0
+
 /* A value: an item of up to 64 bits in lo, or bits 0 to 63 and bits 64 to 127 of a vector. An instruction on 32 bits
-   leaves the higher bits of its operands out, and those of its value are 0. A Boolean is 0 or 1. */
+   ignores the higher bits of its operands, one on an item of 64 bits ignores hi, and the unused bits of a value are 0.
+   A Boolean is 0 or 1. */
 typedef struct { uint64_t lo, hi; } wasmi_words;
 
 /* What an instruction gives for one element of an array: the value, or 0 where it traps, and the status. */
 typedef struct { wasmi_words value; uint8_t status; } wasmi_result;
 
-/* What a call but wasmi_script_run returns, besides the numbers of other traps. After any but WASMI_DONE nothing is written. */
+/* What each call except wasmi_script_run returns. The statuses below 253 are the numbers of traps, and an instruction
+   has no other traps than these three. After any status except WASMI_DONE nothing is written. */
 enum {
     WASMI_DONE = 0,
+    /* a load or a store past the end of the bytes */
     WASMI_MEMORY_OUT_OF_BOUNDS = 2,
     WASMI_INTEGER_DIVISION_BY_ZERO = 5,
     WASMI_INTEGER_OVERFLOW = 6,
@@ -32,35 +55,37 @@ enum {
    the length of that in bytes. The status is that of the program:
    0: every call was answered, refusals included;
    2: a line is no command, or the script is too long; the text says which;
-   3: want of memory to read, to parse or for the replies; the text says so;
-   4: want of memory to write: the text is a front of what the script prints;
+   3: out of memory while reading, parsing, or for the replies; the text says so;
+   4: out of memory while writing: the text is a front of what the script prints;
    or 5: text_len is below *needed, and text is as it was: call again with *needed bytes. */
 enum {
     WASMI_TEXT_TOO_SHORT = 5
 };
 uint8_t wasmi_script_run(const uint8_t *script, size_t script_len, uint8_t *text, size_t text_len, size_t *needed);
 
-/* An instruction by its number, which is one of the table below: on values, and on each element of arrays that have one
-   length. Only instructions of two operands trap. A shift of a vector takes its amount from b. */
+/* An instruction by its number, which is one of the table below: on values, and on each element of arrays, which all
+   have one length. Of these instructions only those of two operands trap. A shift of a vector takes its amount from
+   the low 32 bits of b. */
 uint8_t wasmi_unary(uint16_t number, wasmi_words a, wasmi_words *value);
 uint8_t wasmi_unary_each(uint16_t number, const wasmi_words *a, size_t a_len, wasmi_words *values, size_t values_len);
 uint8_t wasmi_binary(uint16_t number, wasmi_words a, wasmi_words b, wasmi_words *value);
 uint8_t wasmi_binary_each(uint16_t number, const wasmi_words *a, size_t a_len, const wasmi_words *b, size_t b_len,
-                          wasmi_result *answers, size_t answers_len);
+                          wasmi_result *results, size_t results_len);
 uint8_t wasmi_ternary(uint16_t number, wasmi_words a, wasmi_words b, wasmi_words c, wasmi_words *value);
 uint8_t wasmi_ternary_each(uint16_t number, const wasmi_words *a, size_t a_len, const wasmi_words *b, size_t b_len,
                            const wasmi_words *c, size_t c_len, wasmi_words *values, size_t values_len);
 
-/* A load or a store at ptr + offset, an unbounded sum, on bytes of the caller's. */
+/* A load or a store at ptr + offset, a sum that does not wrap, on bytes of the caller's: of one value, and of one for
+   each element of ptrs, with as many results. */
 uint8_t wasmi_load(uint16_t number, const uint8_t *memory, size_t memory_len, uint64_t ptr, uint64_t offset,
                    wasmi_words *value);
 uint8_t wasmi_load_each(uint16_t number, const uint8_t *memory, size_t memory_len, const uint64_t *ptrs,
-                        size_t ptrs_len, uint64_t offset, wasmi_result *answers, size_t answers_len);
+                        size_t ptrs_len, uint64_t offset, wasmi_result *results, size_t results_len);
 uint8_t wasmi_store(uint16_t number, uint8_t *memory, size_t memory_len, uint64_t ptr, uint64_t offset,
                     wasmi_words value);
 
-/* An instruction on one lane, of which the index is below the number of lanes: on values, and on each element of arrays
-   that have one length. A replacement takes its item from the second operand. */
+/* An instruction on one lane, of which the index is below the number of lanes: on values, and on each element of
+   arrays, which all have one length. A replacement takes its item from the second operand. */
 uint8_t wasmi_extract_lane(uint16_t number, uint8_t lane, wasmi_words a, wasmi_words *value);
 uint8_t wasmi_extract_lane_each(uint16_t number, uint8_t lane, const wasmi_words *a, size_t a_len, wasmi_words *values,
                                 size_t values_len);
@@ -692,4 +717,8 @@ enum {
 };
 
 /* The table of tools/header ends. */
+
+#ifdef __cplusplus
+}
+#endif
 #endif

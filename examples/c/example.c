@@ -1,4 +1,4 @@
-/* Runs the first script of README, and instructions on values and on an array. */
+/* Runs the first script of README, and instructions on values and on an array. It is C and C++. */
 #include "wasmi_core.h"
 #include <inttypes.h>
 #include <stdio.h>
@@ -19,10 +19,11 @@ static int run_script(const char *script) {
 int main(void) {
     int failed = run_script("meter on 64\nfuel 2000\nmemory 1 2 16 32\ngrow 0 1\ngrow 0 1\nleft\n");
 
-    wasmi_words value = {0, 0};
-    uint8_t status = wasmi_binary(WASMI_BINARY_I32_ROTL, (wasmi_words){0x80000001, 0}, (wasmi_words){4, 0}, &value);
+    const wasmi_words zero = {0, 0}, one = {1, 0}, four = {4, 0}, ends = {0x80000001, 0};
+    wasmi_words value = zero;
+    uint8_t status = wasmi_binary(WASMI_BINARY_I32_ROTL, ends, four, &value);
     printf("i32_rotl: status %d, %" PRIu64 "\n", status, value.lo);
-    status = wasmi_binary(WASMI_BINARY_I32_DIV_S, (wasmi_words){1, 0}, (wasmi_words){0, 0}, &value);
+    status = wasmi_binary(WASMI_BINARY_I32_DIV_S, one, zero, &value);
     printf("i32_div_s: status %d\n", status);
 
     const wasmi_words a[2] = {{0x7f7f7f7f7f7f7f7f, 0}, {1, 2}};

@@ -1,164 +1,84 @@
-/* Compares the table of names and numbers of wasmi_core.h with what the names mean elsewhere: those of vectors, loads
-   and stores in scripts, the scalar ones in a list of answers, which is the argument. */
+/* Compares the instruction of each number of wasmi_core.h with what its name means elsewhere: the scalar ones with a
+   list of answers, which is the argument, the others with what scripts print. Then it tries each number for each other
+   name of its kind: none passes, except those of one meaning. At the end it sees each status. */
 #include "wasmi_core.h"
 #include <inttypes.h>
 #include <stdio.h>
 #include <stdlib.h>
 #include <string.h>
 
-static const wasmi_words a = {0x80ff7f01c0a05f33, 0x8000fffe12345678};
-static const wasmi_words b = {0x0f81ff0203fe7fe1, 0x000000137fffffff};
-static const wasmi_words c = {0x00ff00fff0f0cccc, 0x123456789abcdef0};
-static int differing = 0, compared = 0;
+/* Operands, and what an instruction gives for them: the value and 0, or the number of its trap. */
+struct trial {
+    wasmi_words a, b, c;
+    wasmi_result expected;
+};
 
-static void compare(const char *name, int agrees) {
+enum { MOST_TRIALS = 32 };
+
+/* Operands on which no two instructions of one kind and of different meaning agree. */
+static const wasmi_words OPERANDS[][3] = {
+    {{0x26a391d7fe968f77, 0x8074514c7cb73161}, {0xdf80c7f57be56be3, 0xc6ef0106b80e0c01}, {0, 0}},
+    {{0x126c7bc33ba7526d, 0x51e692737a521a7d}, {0x126c7bc33ba7526d, 0x51e69273641927c5}, {0, 1}},
+    {{0xeaec48d956a79a47, 0x7f4738f79dd8810d}, {0xeaec78d956a71b98, 0xd48f38d8fad8810d}, {1, 0}},
+    {{0x1818e811892f902b, 0x9531985d5d9dc9f8}, {0xe8e25d940ed90475, 0x36f675cc81e74ef5},
+     {0x1600a35a099950d8, 0x6b0d549b6f03675a}},
+    {{0xa82e478c09381efa, 0xd534c087ed7c5da0}, {77, 0}, {0, 0}},
+    {{0xcda5d9c3e487efd5, 0x91fdf8b68ae9c8d5}, {0xa4845a65b215d19c, 0x10f250393f26b8d1}, {0, 0}},
+    {{0x8101010101018100, 0x8101810180018101}, {0x93e9d0bcb8f69dc7, 0x9e6014efef1919e4}, {0, 0}},
+    {{0x8101010181010000, 0x8101810180018101}, {0x0c5c7fd0a6a3a450, 0xd23f0824128b2f33}, {0, 0}},
+    {{0x8101010100000000, 0x8101810180018101}, {0, 0}, {0, 0}},
+    {{0, 0x8101810180018101}, {0, 0}, {0, 0}},
+    {{0, 0}, {0, 0}, {0, 0}},
+};
+enum { OPERAND_COUNT = sizeof OPERANDS / sizeof OPERANDS[0] };
+
+/* The names of one meaning, with a space before and after each. */
+static const char *const ONE_MEANING[] = {
+    " i32_wrap_i64 i64_extend_i32_u v128_low32_zero ",
+    " i64_extend_i32_s i64_extend32_s ",
+    " v128_widen8x8_s i16x8_extend_low_i8x16_s ",
+    " v128_widen8x8_u i16x8_extend_low_i8x16_u ",
+    " v128_widen16x4_s i32x4_extend_low_i16x8_s ",
+    " v128_widen16x4_u i32x4_extend_low_i16x8_u ",
+    " v128_widen32x2_s i64x2_extend_low_i32x4_s ",
+    " v128_widen32x2_u i64x2_extend_low_i32x4_u ",
+    " i8x16_swizzle i8x16_relaxed_swizzle ",
+    " i16x8_q15mulr_sat_s i16x8_relaxed_q15mulr_s ",
+    " v128_bitselect i8x16_relaxed_laneselect i16x8_relaxed_laneselect i32x4_relaxed_laneselect "
+    "i64x2_relaxed_laneselect ",
+    " i32_load8_u i64_load8_u ",
+    " i32_load16_u i64_load16_u ",
+    " i64_load32_u load_u32 v128_load32_zero ",
+    " load_u64 v128_load64_zero ",
+    " i32_store8 i64_store8 ",
+    " i32_store16 i64_store16 ",
+    " i64_store32 store32 ",
+};
+enum { MEANING_COUNT = sizeof ONE_MEANING / sizeof ONE_MEANING[0] };
+
+static int compared = 0, differing = 0;
+
+static void compare(const char *what, int agrees) {
     compared++;
     if (!agrees) {
         differing++;
-        printf("%s differs\n", name);
+        printf("%s differs\n", what);
     }
 }
 
-/* Whether a script of two lines is run, and the raw value that its second line prints. The registers 0 to 2 hold a, b
-   and c, and memory 0 has the bytes of a, then those of b. */
-static int run(const char *first, const char *second, wasmi_words *value) {
-    char script[1024], text[1024];
-    size_t needed = 0;
-    int length = snprintf(script, sizeof script,
-                          "set 0 %" PRIu64 " %" PRIu64 "\nset 1 %" PRIu64 " %" PRIu64 "\nset 2 %" PRIu64 " %" PRIu64
-                          "\nmemory 1 1 16 32\nvstore 0 0 0 0\nvstore 1 0 16 0\n%s\n%s\n",
-                          a.lo, a.hi, b.lo, b.hi, c.lo, c.hi, first, second);
-    uint8_t status = wasmi_script_run((const uint8_t *)script, (size_t)length, (uint8_t *)text, sizeof text - 1, &needed);
-    if (status != 0) {
-        return 0;
-    }
-    text[needed] = 0;
-    text[needed - 1] = 0;
-    const char *last = strrchr(text, '\n');
-    return last != NULL && sscanf(last + 1, "raw %" SCNu64 " %" SCNu64, &value->lo, &value->hi) == 2;
+static int is_same(wasmi_words one, wasmi_words other) {
+    return one.lo == other.lo && one.hi == other.hi;
 }
 
-/* Whether one of the commands of a shape, with the name in them, gives the value. */
-static int gives(wasmi_words value, const char *name, int count, const char *const commands[][2]) {
-    for (int i = 0; i < count; i++) {
-        char first[256], second[256];
-        wasmi_words other;
-        snprintf(first, sizeof first, commands[i][0], name);
-        snprintf(second, sizeof second, commands[i][1], name);
-        if (run(first, second, &other)) {
-            return other.lo == value.lo && other.hi == value.hi;
-        }
-    }
-    return 0;
-}
-
-/* The scalar instructions are those that the list has. */
-static char list[1 << 20];
-
-static int is_listed(const char *name) {
-    char line[64];
-    snprintf(line, sizeof line, "\n%s ", name);
-    return strstr(list, line) != NULL;
-}
-
-static uint64_t number_of(const char *word) {
-    return word[0] == '-' ? (uint64_t)strtoll(word, NULL, 10) : strtoull(word, NULL, 10);
-}
-
-/* Whether an instruction answers what each line of its name says. */
-static int answers_lines(const char *name, uint16_t number, int is_unary) {
-    char front[64], line[256];
-    int lines = 0;
-    snprintf(front, sizeof front, "\n%s ", name);
-    uint64_t narrow = strncmp(name, "i32", 3) == 0 ? UINT32_MAX : UINT64_MAX;
-    for (const char *at = strstr(list, front); at != NULL; at = strstr(at + 1, front)) {
-        snprintf(line, sizeof line, "%.*s", (int)strcspn(at + 1, "\n"), at + 1);
-        uint64_t words[8] = {0};
-        int count = 0, before = 0;
-        const char *trap = NULL;
-        strtok(line, " ");
-        for (char *word = strtok(NULL, " "); word != NULL && count < 8; word = strtok(NULL, " ")) {
-            if (strcmp(word, "->") == 0) {
-                before = count;
-            } else if (strcmp(word, "trap") == 0) {
-                trap = strtok(NULL, " ");
-            } else {
-                words[count++] = number_of(word);
-            }
-        }
-        wasmi_words value = {0, 0}, left = {words[0], 0}, right = {words[1], 0};
-        if (before == 4) {
-            left.hi = words[1];
-            right = (wasmi_words){words[2], words[3]};
-        }
-        uint8_t status = is_unary ? wasmi_unary(number, left, &value) : wasmi_binary(number, left, right, &value);
-        if (trap != NULL) {
-            int expected = strcmp(trap, "IntegerOverflow") == 0 ? WASMI_INTEGER_OVERFLOW : WASMI_INTEGER_DIVISION_BY_ZERO;
-            if (status != expected) {
-                return 0;
-            }
-        } else if (status != 0 || value.lo != (words[before] & narrow) || value.hi != words[before + 1]) {
-            return 0;
-        }
-        lines++;
-    }
-    return lines > 0;
-}
-
-static void compare_unary(uint16_t number, const char *name) {
-    static const char *const commands[][2] = {
-        {"make %s 3 0", "show 3"}, {"unary %s 3 0", "show 3"}, {"show 0", "test %s 0"}};
-    if (is_listed(name)) {
-        compare(name, answers_lines(name, number, 1));
-        return;
-    }
-    wasmi_words value = {0, 0};
-    uint8_t status = wasmi_unary(number, a, &value);
-    compare(name, status == 0 && gives(value, name, 3, commands));
-}
-
-static void compare_binary(uint16_t number, const char *name) {
-    static const char *const commands[][2] = {{"binary %s 3 0 1", "show 3"}, {"shift %s 3 0 66748385", "show 3"}};
-    if (is_listed(name)) {
-        compare(name, answers_lines(name, number, 0));
-        return;
-    }
-    /* a shift takes the low 32 bits of b, here of another amount */
-    int is_shift = strstr(name, "_sh") != NULL;
-    wasmi_words value = {0, 0};
-    uint8_t status = wasmi_binary(number, a, is_shift ? (wasmi_words){0xf03fa7fe1, 0} : b, &value);
-    compare(name, status == 0 && gives(value, name, 2, commands));
-}
-
-static void compare_ternary(uint16_t number, const char *name) {
-    static const char *const commands[][2] = {{"ternary %s 3 0 1 2", "show 3"}};
-    wasmi_words value = {0, 0};
-    uint8_t status = wasmi_ternary(number, a, b, c, &value);
-    compare(name, status == 0 && gives(value, name, 1, commands));
-}
-
-static void compare_extract(uint16_t number, const char *name) {
-    static const char *const commands[][2] = {{"show 0", "extract %s 0 1"}};
-    wasmi_words value = {0, 0};
-    uint8_t status = wasmi_extract_lane(number, 1, a, &value);
-    compare(name, status == 0 && gives(value, name, 1, commands));
-}
-
-static void compare_replace(uint16_t number, const char *name) {
-    static const char *const commands[][2] = {{"replace %s 3 0 1 1", "show 3"}};
-    wasmi_words value = {0, 0};
-    uint8_t status = wasmi_replace_lane(number, 1, a, b, &value);
-    compare(name, status == 0 && gives(value, name, 1, commands));
-}
-
-/* The bytes of a and b, in which loads and stores are tried. */
-static void set_memory(uint8_t memory[32]) {
-    const uint64_t words[4] = {a.lo, a.hi, b.lo, b.hi};
+/* The bytes of a and b, in which loads and stores are tried, at 2 + 1. */
+static void set_memory(uint8_t memory[32], const struct trial *on) {
+    const uint64_t words[4] = {on->a.lo, on->a.hi, on->b.lo, on->b.hi};
     for (int i = 0; i < 32; i++) {
         memory[i] = (uint8_t)(words[i / 8] >> i % 8 * 8);
     }
 }
 
+/* The first 16 bytes. */
 static wasmi_words front_of(const uint8_t memory[32]) {
     wasmi_words front = {0, 0};
     for (int i = 0; i < 8; i++) {
@@ -168,58 +88,355 @@ static wasmi_words front_of(const uint8_t memory[32]) {
     return front;
 }
 
-static void compare_load(uint16_t number, const char *name) {
-    static const char *const commands[][2] = {{"show 0", "load %s 0 2 1"}, {"vload %s 3 0 2 1", "show 3"}};
-    uint8_t memory[32];
-    set_memory(memory);
-    wasmi_words value = {0, 0};
-    uint8_t status = wasmi_load(number, memory, 32, 2, 1, &value);
-    compare(name, status == 0 && gives(value, name, 2, commands));
+/* What the instruction of a number gives on the operands of a trial; a store, the bytes that it leaves. */
+
+static wasmi_result unary(uint16_t number, const struct trial *on) {
+    wasmi_result given = {{0, 0}, 0};
+    given.status = wasmi_unary(number, on->a, &given.value);
+    return given;
 }
 
-static void compare_store(uint16_t number, const char *name) {
-    char scalar[128];
-    snprintf(scalar, sizeof scalar, "store %%s 0 2 1 %" PRIu64, c.lo);
-    const char *const commands[][2] = {{scalar, "vload v128_load 3 0 0 0\nshow 3"},
-                                       {"vstore 2 0 2 1", "vload v128_load 3 0 0 0\nshow 3"}};
-    uint8_t memory[32];
-    set_memory(memory);
-    uint8_t status = wasmi_store(number, memory, 32, 2, 1, c);
-    compare(name, status == 0 && gives(front_of(memory), name, 2, commands));
+static wasmi_result binary(uint16_t number, const struct trial *on) {
+    wasmi_result given = {{0, 0}, 0};
+    given.status = wasmi_binary(number, on->a, on->b, &given.value);
+    return given;
 }
 
-static void compare_load_lane(uint16_t number, const char *name) {
-    static const char *const commands[][2] = {{"vloadlane %s 3 2 1 0 2 1", "show 3"}};
-    uint8_t memory[32];
-    set_memory(memory);
-    wasmi_words value = {0, 0};
-    uint8_t status = wasmi_load_lane(number, 1, memory, 32, 2, 1, c, &value);
-    compare(name, status == 0 && gives(value, name, 1, commands));
+static wasmi_result ternary(uint16_t number, const struct trial *on) {
+    wasmi_result given = {{0, 0}, 0};
+    given.status = wasmi_ternary(number, on->a, on->b, on->c, &given.value);
+    return given;
 }
 
-static void compare_store_lane(uint16_t number, const char *name) {
-    static const char *const commands[][2] = {{"vstorelane %s 2 1 0 2 1", "vload v128_load 3 0 0 0\nshow 3"}};
-    uint8_t memory[32];
-    set_memory(memory);
-    uint8_t status = wasmi_store_lane(number, 1, memory, 32, 2, 1, c);
-    compare(name, status == 0 && gives(front_of(memory), name, 1, commands));
+static wasmi_result extract(uint16_t number, const struct trial *on) {
+    wasmi_result given = {{0, 0}, 0};
+    given.status = wasmi_extract_lane(number, 1, on->a, &given.value);
+    return given;
 }
 
-/* The status of the number after the last one. */
-static void compare_ends(void) {
-    uint8_t memory[32] = {0};
-    wasmi_words value = {0, 0};
-    compare("the end of unary", wasmi_unary(WASMI_UNARY_COUNT, a, &value) == WASMI_UNKNOWN);
-    compare("the end of binary", wasmi_binary(WASMI_BINARY_COUNT, a, b, &value) == WASMI_UNKNOWN);
-    compare("the end of ternary", wasmi_ternary(WASMI_TERNARY_COUNT, a, b, c, &value) == WASMI_UNKNOWN);
-    compare("the end of extract", wasmi_extract_lane(WASMI_EXTRACT_LANE_COUNT, 0, a, &value) == WASMI_UNKNOWN);
-    compare("the end of replace", wasmi_replace_lane(WASMI_REPLACE_LANE_COUNT, 0, a, b, &value) == WASMI_UNKNOWN);
-    compare("the end of load", wasmi_load(WASMI_LOAD_COUNT, memory, 32, 0, 0, &value) == WASMI_UNKNOWN);
-    compare("the end of store", wasmi_store(WASMI_STORE_COUNT, memory, 32, 0, 0, a) == WASMI_UNKNOWN);
-    compare("the end of load lane",
-            wasmi_load_lane(WASMI_LOAD_LANE_COUNT, 0, memory, 32, 0, 0, a, &value) == WASMI_UNKNOWN);
-    compare("the end of store lane",
-            wasmi_store_lane(WASMI_STORE_LANE_COUNT, 0, memory, 32, 0, 0, a) == WASMI_UNKNOWN);
+static wasmi_result replace(uint16_t number, const struct trial *on) {
+    wasmi_result given = {{0, 0}, 0};
+    given.status = wasmi_replace_lane(number, 1, on->a, on->b, &given.value);
+    return given;
+}
+
+static wasmi_result load(uint16_t number, const struct trial *on) {
+    uint8_t memory[32];
+    set_memory(memory, on);
+    wasmi_result given = {{0, 0}, 0};
+    given.status = wasmi_load(number, memory, 32, 2, 1, &given.value);
+    return given;
+}
+
+static wasmi_result store(uint16_t number, const struct trial *on) {
+    uint8_t memory[32];
+    set_memory(memory, on);
+    uint8_t status = wasmi_store(number, memory, 32, 2, 1, on->b);
+    return (wasmi_result){front_of(memory), status};
+}
+
+static wasmi_result load_lane(uint16_t number, const struct trial *on) {
+    uint8_t memory[32];
+    set_memory(memory, on);
+    wasmi_result given = {{0, 0}, 0};
+    given.status = wasmi_load_lane(number, 1, memory, 32, 2, 1, on->b, &given.value);
+    return given;
+}
+
+static wasmi_result store_lane(uint16_t number, const struct trial *on) {
+    uint8_t memory[32];
+    set_memory(memory, on);
+    uint8_t status = wasmi_store_lane(number, 1, memory, 32, 2, 1, on->b);
+    return (wasmi_result){front_of(memory), status};
+}
+
+/* A kind of instructions: what runs one by its number, the pairs of commands of which one prints what it gives, and the
+   names in the order of their numbers. In a command %s is the name; the number after it is the low word of b, or its
+   low 32 bits in a shift. */
+struct kind {
+    wasmi_result (*run)(uint16_t number, const struct trial *on);
+    const char *commands[3][2];
+    int count;
+    const char *const *names;
+};
+
+#define NAME(number, name) [number] = #name,
+static const char *const UNARIES[] = {WASMI_UNARY_NAMES(NAME)};
+static const char *const BINARIES[] = {WASMI_BINARY_NAMES(NAME)};
+static const char *const TERNARIES[] = {WASMI_TERNARY_NAMES(NAME)};
+static const char *const EXTRACTS[] = {WASMI_EXTRACT_LANE_NAMES(NAME)};
+static const char *const REPLACES[] = {WASMI_REPLACE_LANE_NAMES(NAME)};
+static const char *const LOADS[] = {WASMI_LOAD_NAMES(NAME)};
+static const char *const STORES[] = {WASMI_STORE_NAMES(NAME)};
+static const char *const LOAD_LANES[] = {WASMI_LOAD_LANE_NAMES(NAME)};
+static const char *const STORE_LANES[] = {WASMI_STORE_LANE_NAMES(NAME)};
+
+#define SHOW_FRONT "vload v128_load 3 0 0 0\nshow 3"
+static const struct kind KINDS[] = {
+    {unary,
+     {{"make %s 3 0", "show 3"}, {"unary %s 3 0", "show 3"}, {"show 0", "test %s 0"}},
+     WASMI_UNARY_COUNT,
+     UNARIES},
+    {binary, {{"binary %s 3 0 1", "show 3"}, {"shift %s 3 0 %" PRIu64, "show 3"}}, WASMI_BINARY_COUNT, BINARIES},
+    {ternary, {{"ternary %s 3 0 1 2", "show 3"}}, WASMI_TERNARY_COUNT, TERNARIES},
+    {extract, {{"show 0", "extract %s 0 1"}}, WASMI_EXTRACT_LANE_COUNT, EXTRACTS},
+    {replace, {{"replace %s 3 0 1 1", "show 3"}}, WASMI_REPLACE_LANE_COUNT, REPLACES},
+    {load, {{"show 0", "load %s 0 2 1"}, {"vload %s 3 0 2 1", "show 3"}}, WASMI_LOAD_COUNT, LOADS},
+    {store,
+     {{"store %s 0 2 1 %" PRIu64, SHOW_FRONT}, {"vstore 1 0 2 1", SHOW_FRONT}},
+     WASMI_STORE_COUNT,
+     STORES},
+    {load_lane, {{"vloadlane %s 3 1 1 0 2 1", "show 3"}}, WASMI_LOAD_LANE_COUNT, LOAD_LANES},
+    {store_lane, {{"vstorelane %s 1 1 0 2 1", SHOW_FRONT}}, WASMI_STORE_LANE_COUNT, STORE_LANES},
+};
+enum { KIND_COUNT = sizeof KINDS / sizeof KINDS[0] };
+
+/* Whether a script ends with 0, and the raw value that its last line prints. The registers 0 to 2 hold a, b and c, and
+   memory 0 has the bytes of a, then those of b. */
+static int prints(const struct trial *on, const char *commands, wasmi_words *value) {
+    char script[1024], text[1024];
+    size_t needed = 0;
+    int length = snprintf(script, sizeof script,
+                          "set 0 %" PRIu64 " %" PRIu64 "\nset 1 %" PRIu64 " %" PRIu64 "\nset 2 %" PRIu64 " %" PRIu64
+                          "\nmemory 1 1 16 32\nvstore 0 0 0 0\nvstore 1 0 16 0\n%s\n",
+                          on->a.lo, on->a.hi, on->b.lo, on->b.hi, on->c.lo, on->c.hi, commands);
+    const uint8_t *bytes = (const uint8_t *)script;
+    uint8_t status = wasmi_script_run(bytes, (size_t)length, (uint8_t *)text, sizeof text - 1, &needed);
+    if (status != 0) {
+        return 0;
+    }
+    text[needed - 1] = 0;
+    const char *last = strrchr(text, '\n');
+    return last != NULL && sscanf(last + 1, "raw %" SCNu64 " %" SCNu64, &value->lo, &value->hi) == 2;
+}
+
+/* Whether one of the pairs of commands, with the name in it, gives a value. */
+static int in_scripts(const struct kind *kind, const char *name, struct trial *on) {
+    on->expected.status = WASMI_DONE;
+    for (int i = 0; i < 3 && kind->commands[i][0] != NULL; i++) {
+        char commands[256];
+        int is_shift = strncmp(kind->commands[i][0], "shift", 5) == 0;
+        uint64_t number = is_shift ? on->b.lo & UINT32_MAX : on->b.lo;
+        int length = snprintf(commands, 128, kind->commands[i][0], name, number);
+        commands[length] = '\n';
+        snprintf(commands + length + 1, 100, kind->commands[i][1], name);
+        if (prints(on, commands, &on->expected.value)) {
+            return 1;
+        }
+    }
+    return 0;
+}
+
+/* The list of answers, of which each line is a name, its operands, an arrow and the answer. */
+static char list[1 << 20];
+
+static uint64_t number_of(const char *word) {
+    return word[0] == '-' ? (uint64_t)strtoll(word, NULL, 10) : strtoull(word, NULL, 10);
+}
+
+/* The operands and the answer of a line. The bits that an instruction on 32 or 64 bits ignores are such that they would
+   be seen. */
+static struct trial trial_of(char *line) {
+    uint64_t words[8] = {0};
+    int count = 0, before = 0;
+    struct trial on = {{0, 0xd534c087ed7c5da0}, {0, 0xa4845a65b215d19c}, {0, 0}, {{0, 0}, WASMI_DONE}};
+    int gives_32 = strncmp(line, "i32_", 4) == 0;
+    int takes_32 = (gives_32 && strncmp(line, "i32_wrap_", 9) != 0) || strncmp(line, "i64_extend_", 11) == 0;
+    strtok(line, " ");
+    for (char *word = strtok(NULL, " "); word != NULL && count < 6; word = strtok(NULL, " ")) {
+        if (strcmp(word, "->") == 0) {
+            before = count;
+        } else if (strcmp(word, "IntegerOverflow") == 0) {
+            on.expected.status = WASMI_INTEGER_OVERFLOW;
+        } else if (strcmp(word, "IntegerDivisionByZero") == 0) {
+            on.expected.status = WASMI_INTEGER_DIVISION_BY_ZERO;
+        } else if (strcmp(word, "trap") != 0) {
+            words[count++] = number_of(word);
+        }
+    }
+    on.a.lo = takes_32 ? (words[0] & UINT32_MAX) | 0x9101010200000000 : words[0];
+    on.b.lo = takes_32 ? (words[1] & UINT32_MAX) | 0xa82e478c00000000 : words[1];
+    if (before == 4) {
+        on.a = (wasmi_words){words[0], words[1]};
+        on.b = (wasmi_words){words[2], words[3]};
+    }
+    on.expected.value.lo = gives_32 ? words[before] & UINT32_MAX : words[before];
+    on.expected.value.hi = words[before + 1];
+    return on;
+}
+
+/* How many lines of the list have a name, and their trials. */
+static int listed(const char *name, struct trial trials[MOST_TRIALS]) {
+    char front[64], line[256];
+    int count = 0;
+    snprintf(front, sizeof front, "\n%s ", name);
+    for (const char *at = strstr(list, front); at != NULL && count < MOST_TRIALS; at = strstr(at + 1, front)) {
+        snprintf(line, sizeof line, "%.*s", (int)strcspn(at + 1, "\n"), at + 1);
+        trials[count++] = trial_of(line);
+    }
+    return count;
+}
+
+/* What a name means: its lines in the list, or what scripts print on each of the operands. Returns how many trials. */
+static int trials_of(const struct kind *kind, const char *name, struct trial trials[MOST_TRIALS]) {
+    int count = listed(name, trials);
+    if (count > 0) {
+        return count;
+    }
+    for (int i = 0; i < OPERAND_COUNT; i++) {
+        struct trial on = {OPERANDS[i][0], OPERANDS[i][1], OPERANDS[i][2], {{0, 0}, 0}};
+        if (!in_scripts(kind, name, &on)) {
+            return 0;
+        }
+        trials[i] = on;
+    }
+    return OPERAND_COUNT;
+}
+
+/* Whether the instruction of a number gives what is expected in each trial. */
+static int passes(const struct kind *kind, int number, const struct trial *trials, int count) {
+    for (int i = 0; i < count; i++) {
+        wasmi_result given = kind->run((uint16_t)number, &trials[i]);
+        if (given.status != trials[i].expected.status) {
+            return 0;
+        }
+        if (given.status == WASMI_DONE && !is_same(given.value, trials[i].expected.value)) {
+            return 0;
+        }
+    }
+    return count > 0;
+}
+
+static int has_name(const char *names, const char *name) {
+    char word[64];
+    snprintf(word, sizeof word, " %s ", name);
+    return strstr(names, word) != NULL;
+}
+
+static int is_one_meaning(const char *one, const char *other) {
+    for (int i = 0; i < MEANING_COUNT; i++) {
+        if (has_name(ONE_MEANING[i], one) && has_name(ONE_MEANING[i], other)) {
+            return 1;
+        }
+    }
+    return 0;
+}
+
+/* Each number passes for its own name, and for another one exactly where the two mean the same. */
+static void compare_kind(const struct kind *kind) {
+    for (int i = 0; i < kind->count; i++) {
+        struct trial trials[MOST_TRIALS];
+        int count = trials_of(kind, kind->names[i], trials);
+        compare(kind->names[i], passes(kind, i, trials, count));
+        for (int other = 0; other < kind->count; other++) {
+            int is_same_meaning = is_one_meaning(kind->names[i], kind->names[other]);
+            if (other != i && passes(kind, other, trials, count) != is_same_meaning) {
+                differing++;
+                printf("%s %s %s\n", kind->names[other], is_same_meaning ? "doesn't pass for" : "passes for",
+                       kind->names[i]);
+            }
+        }
+    }
+}
+
+/* The number after the last one of each kind. */
+static void compare_unknown(void) {
+    for (int i = 0; i < KIND_COUNT; i++) {
+        struct trial on = {OPERANDS[0][0], OPERANDS[0][1], OPERANDS[0][2], {{0, 0}, 0}};
+        compare("an unknown number", KINDS[i].run((uint16_t)KINDS[i].count, &on).status == WASMI_UNKNOWN);
+    }
+}
+
+/* Arrays that differ in length: nothing is written. */
+static void compare_lengths(void) {
+    const wasmi_words a[2] = {{1, 2}, {3, 4}};
+    const uint64_t ptrs[2] = {0, 1};
+    const uint8_t memory[32] = {9};
+    wasmi_words values[2] = {{5, 6}, {7, 8}};
+    wasmi_result results[2] = {{{5, 6}, 7}, {{8, 9}, 10}};
+    uint8_t statuses[] = {
+        wasmi_unary_each(0, a, 2, values, 1),
+        wasmi_binary_each(0, a, 2, a, 1, results, 2),
+        wasmi_binary_each(0, a, 2, a, 2, results, 1),
+        wasmi_ternary_each(0, a, 2, a, 1, a, 2, values, 2),
+        wasmi_ternary_each(0, a, 2, a, 2, a, 1, values, 2),
+        wasmi_ternary_each(0, a, 2, a, 2, a, 2, values, 1),
+        wasmi_load_each(0, memory, 32, ptrs, 2, 0, results, 1),
+        wasmi_extract_lane_each(0, 0, a, 2, values, 1),
+        wasmi_replace_lane_each(0, 0, a, 2, a, 1, values, 2),
+        wasmi_replace_lane_each(0, 0, a, 2, a, 2, values, 1),
+    };
+    for (size_t i = 0; i < sizeof statuses; i++) {
+        compare("the status of lengths that differ", statuses[i] == WASMI_LENGTHS_DIFFER);
+    }
+    compare("what lengths that differ leave", values[0].lo == 5 && values[1].hi == 8 && results[0].status == 7);
+}
+
+/* An index that no lane has: nothing is written. */
+static void compare_lanes(void) {
+    const wasmi_words a = {1, 2};
+    uint8_t memory[32] = {9};
+    wasmi_words value = {5, 6};
+    uint8_t statuses[] = {
+        wasmi_extract_lane(0, 16, a, &value),
+        wasmi_extract_lane_each(0, 16, &a, 1, &value, 1),
+        wasmi_replace_lane(0, 16, a, a, &value),
+        wasmi_replace_lane_each(0, 16, &a, 1, &a, 1, &value, 1),
+        wasmi_load_lane(0, 16, memory, 32, 0, 0, a, &value),
+        wasmi_store_lane(0, 16, memory, 32, 0, 0, a),
+    };
+    for (size_t i = 0; i < sizeof statuses; i++) {
+        compare("the status of no lane", statuses[i] == WASMI_NO_LANE);
+    }
+    compare("what no lane leaves", value.lo == 5 && value.hi == 6 && memory[0] == 9);
+}
+
+/* A load and a store past the end, also at a sum above 2^64, and the two traps of a division: nothing is written. */
+static void compare_traps(void) {
+    const wasmi_words zero = {0, 0}, least = {0x80000000, 0}, minus_one = {UINT32_MAX, 0};
+    const uint64_t ptr = 29;
+    uint8_t memory[32] = {9};
+    wasmi_words value = {5, 6};
+    wasmi_result result = {{5, 6}, 7};
+    uint8_t past[] = {
+        wasmi_load(WASMI_LOAD_LOAD_U32, memory, 32, 29, 0, &value),
+        wasmi_load(WASMI_LOAD_LOAD_U32, memory, 32, UINT64_MAX, 2, &value),
+        wasmi_store(WASMI_STORE_STORE32, memory, 32, 29, 0, least),
+        wasmi_load_lane(WASMI_LOAD_LANE_V128_LOAD32_LANE, 0, memory, 32, 29, 0, zero, &value),
+        wasmi_store_lane(WASMI_STORE_LANE_V128_STORE32_LANE, 0, memory, 32, 29, 0, least),
+    };
+    for (size_t i = 0; i < sizeof past; i++) {
+        compare("the status past the end", past[i] == WASMI_MEMORY_OUT_OF_BOUNDS);
+    }
+    uint8_t status = wasmi_load_each(WASMI_LOAD_LOAD_U32, memory, 32, &ptr, 1, 0, &result, 1);
+    compare("the result past the end",
+            status == WASMI_DONE && result.status == WASMI_MEMORY_OUT_OF_BOUNDS && is_same(result.value, zero));
+    status = wasmi_binary(WASMI_BINARY_I32_DIV_S, least, zero, &value);
+    compare("the status of a division by zero", status == WASMI_INTEGER_DIVISION_BY_ZERO);
+    status = wasmi_binary(WASMI_BINARY_I32_DIV_S, least, minus_one, &value);
+    compare("the status of an overflow", status == WASMI_INTEGER_OVERFLOW);
+    compare("what a trap leaves", value.lo == 5 && value.hi == 6 && memory[29] == 0 && memory[0] == 9);
+}
+
+/* The status of a script that is printed to bytes of a length, and whether what it prints is the text. */
+static int script_ends(const char *script, size_t length, size_t text_len, uint8_t status, const char *printed) {
+    uint8_t text[64] = {0};
+    size_t needed = 0;
+    uint8_t given = wasmi_script_run((const uint8_t *)script, length, text_len == 0 ? NULL : text, text_len, &needed);
+    int has_text = strcmp((const char *)text, given == WASMI_TEXT_TOO_SHORT ? "" : printed) == 0;
+    return given == status && needed == strlen(printed) && has_text;
+}
+
+static void compare_scripts(void) {
+    static char long_script[1048577];
+    const char *show = "set 0 1 2\nshow 0\n";
+    size_t length = strlen(show);
+    compare("a script", script_ends(show, length, 63, 0, "done\nraw 1 2\n"));
+    compare("a script without a text", script_ends(show, length, 0, WASMI_TEXT_TOO_SHORT, "done\nraw 1 2\n"));
+    compare("a text of one byte too few", script_ends(show, length, 12, WASMI_TEXT_TOO_SHORT, "done\nraw 1 2\n"));
+    compare("a text of as many bytes", script_ends(show, length, 13, 0, "done\nraw 1 2\n"));
+    compare("a bad line", script_ends("show 0\nshow x\n", 14, 63, 2, "line 2: bad command\n"));
+    compare("a script that is too long", script_ends(long_script, sizeof long_script, 63, 2, "script too long\n"));
 }
 
 int main(int count, char **words) {
@@ -231,25 +448,14 @@ int main(int count, char **words) {
     list[0] = '\n';
     list[1 + fread(list + 1, 1, sizeof list - 2, file)] = 0;
     fclose(file);
-#define UNARY(number, name) compare_unary(number, #name);
-#define BINARY(number, name) compare_binary(number, #name);
-#define TERNARY(number, name) compare_ternary(number, #name);
-#define EXTRACT(number, name) compare_extract(number, #name);
-#define REPLACE(number, name) compare_replace(number, #name);
-#define LOAD(number, name) compare_load(number, #name);
-#define STORE(number, name) compare_store(number, #name);
-#define LOAD_LANE(number, name) compare_load_lane(number, #name);
-#define STORE_LANE(number, name) compare_store_lane(number, #name);
-    WASMI_UNARY_NAMES(UNARY)
-    WASMI_BINARY_NAMES(BINARY)
-    WASMI_TERNARY_NAMES(TERNARY)
-    WASMI_EXTRACT_LANE_NAMES(EXTRACT)
-    WASMI_REPLACE_LANE_NAMES(REPLACE)
-    WASMI_LOAD_NAMES(LOAD)
-    WASMI_STORE_NAMES(STORE)
-    WASMI_LOAD_LANE_NAMES(LOAD_LANE)
-    WASMI_STORE_LANE_NAMES(STORE_LANE)
-    compare_ends();
+    for (int i = 0; i < KIND_COUNT; i++) {
+        compare_kind(&KINDS[i]);
+    }
+    compare_unknown();
+    compare_lengths();
+    compare_lanes();
+    compare_traps();
+    compare_scripts();
     printf("%d compared, %d differ\n", compared, differing);
     return differing != 0;
 }

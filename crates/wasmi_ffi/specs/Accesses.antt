@@ -11,7 +11,7 @@ use Rattle.wasmi_access.specs.LoadStore.{accessed}
 use Rattle.wasmi_scalar_ops.specs.AccessOps.{loaded_raw, stored_bytes}
 use Rattle.wasmi_vector_ops.specs.AccessOps.{loaded_vector}
 use Rattle.wasmi_ffi.specs.Words.{as_words, raw_in, vector_words, raw_words}
-use Rattle.wasmi_ffi.specs.declared.status.TheConstants.{DONE}
+use Rattle.wasmi_ffi.specs.Status.{done_status}
 use Rattle.wasmi_ffi.specs.declared.words.Words.{Words}
 use Rattle.wasmi_ffi.specs.declared.store.TheConstants.{STORES}
 use Rattle.wasmi_ffi.specs.declared.load.TheConstants.{LOADS}
@@ -34,7 +34,7 @@ stored_words store.V128Store value = le_bytes 16 (vector_of value.lo value.hi)
 abbrev pub IsStored : List ℕ → ℕ → List ℕ → List ℕ → ℕ → Type 0
 IsStored old a bytes new status = MatchOption (accessed a (overwrite old a bytes))
     ((status ≡ code_number MemoryOutOfBounds) × (new ≡ old))
-    (λ written. (status ≡ DONE) × (new ≡ written))
+    (λ written. (status ≡ done_status) × (new ≡ written))
 
 -- the load that has a number, if there is one
 unfoldable pub load_of : ℕ → Option Load

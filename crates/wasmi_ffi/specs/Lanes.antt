@@ -5,7 +5,7 @@ use Rattle.wasmi_raw.specs.Vector.{vector_of}
 use Rattle.wasmi_vector_ops.specs.LaneOps.{extracted_raw, replaced_vector}
 use Rattle.wasmi_vector_ops.specs.AccessOps.{loaded_lane, stored_lane}
 use Rattle.wasmi_ffi.specs.Words.{as_words, raw_in, vector_words, raw_words}
-use Rattle.wasmi_ffi.specs.declared.status.TheConstants.{NO_LANE}
+use Rattle.wasmi_ffi.specs.Status.{no_lane_status}
 use Rattle.wasmi_ffi.specs.declared.words.Words.{Words}
 use Rattle.wasmi_vector_ops.specs.declared.lane.ExtractOp.{ExtractOp}
 use Rattle.wasmi_vector_ops.specs.declared.lane.ExtractOp.TheVariants as extract
@@ -76,4 +76,4 @@ stored_lane_of op a = stored_lane op (vector_of a.lo a.hi)
 
 -- what is written is that of the instruction on a lane; where there is no such lane, nothing is
 abbrev pub OnLane : {Op V : Type 0} → Option Op → V → V → ℕ → (Op → Type 0) → Type 0
-OnLane found old new status IsDone = MatchOption found ((status ≡ NO_LANE) × (new ≡ old)) IsDone
+OnLane found old new status IsDone = MatchOption found ((status ≡ no_lane_status) × (new ≡ old)) IsDone

@@ -3,7 +3,7 @@ use Rattle.std.specs.Prelude.{◌≡◌, ◌≤◌, ◌<◌, ◌⊎◌, ◌++◌
 use Rattle.wasmi_script.specs.declared.replaying.Status.{Status}
 use Rattle.wasmi_script.specs.Status.{status_number}
 use Rattle.wasmi_script.specs.Outcomes.{Replays}
-use Rattle.wasmi_ffi.specs.declared.status.TheConstants.{TOO_SMALL}
+use Rattle.wasmi_ffi.specs.Status.{text_too_short_status}
 
 -- a text stands at the front of bytes that it fits, and the bytes after it stay
 abbrev pub StandsIn : List ℕ → List ℕ → List ℕ → Type 0
@@ -21,4 +21,4 @@ pub record AnswersScript (script old new : List ℕ) (needed status : ℕ) : Typ
   pub replays : Replays (Some script) (Some []) (Some printed) ended
   pub length_needed : needed ≡ length printed
   pub answered : (StandsIn printed old new × (status ≡ status_number ended))
-      ⊎ (IsTooLongFor printed old new × (status ≡ TOO_SMALL))
+      ⊎ (IsTooLongFor printed old new × (status ≡ text_too_short_status))

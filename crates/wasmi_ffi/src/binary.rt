@@ -233,29 +233,29 @@ pub extern "C" fn wasmi_binary_each(
     number: u16,
     a: &[Words],
     b: &[Words],
-    answers: &mut [InstructionResult],
+    results: &mut [InstructionResult],
 ) -> u8
-    ensures { OfInstruction (binary_of number) answers.old answers.new result
-        (λ op. WhereLengths ((length b.now ≡ length a.now) × (length answers.old ≡ length a.now))
-        answers.old answers.new result
-        (IsEachOfTwo (λ x y. result_of (binary_words op x y)) a.now b.now answers.new)) }
+    ensures { OfInstruction (binary_of number) results.old results.new result
+        (λ op. WhereLengths ((length b.now ≡ length a.now) × (length results.old ≡ length a.now))
+        results.old results.new result
+        (IsEachOfTwo (λ x y. result_of (binary_words op x y)) a.now b.now results.new)) }
 {
     match instruction(number) {
-        Some(op) => each(op, a, b, answers),
+        Some(op) => each(op, a, b, results),
         None => UNKNOWN,
     }
 }
 
-fn each(op: Binary, a: &[Words], b: &[Words], answers: &mut [InstructionResult]) -> u8
-    ensures { WhereLengths ((length b.now ≡ length a.now) × (length answers.old ≡ length a.now))
-        answers.old answers.new result
-        (IsEachOfTwo (λ x y. result_of (binary_words op x y)) a.now b.now answers.new) }
+fn each(op: Binary, a: &[Words], b: &[Words], results: &mut [InstructionResult]) -> u8
+    ensures { WhereLengths ((length b.now ≡ length a.now) × (length results.old ≡ length a.now))
+        results.old results.new result
+        (IsEachOfTwo (λ x y. result_of (binary_words op x y)) a.now b.now results.new) }
 {
-    if b.len() != a.len() || answers.len() != a.len() {
+    if b.len() != a.len() || results.len() != a.len() {
         return LENGTHS_DIFFER;
     }
     for i in 0..a.len() {
-        answers[i] = InstructionResult::of(op.apply(a[i], b[i]));
+        results[i] = InstructionResult::of(op.apply(a[i], b[i]));
     }
     DONE
 }

@@ -5,7 +5,7 @@ ghost use Rattle.wasmi_ffi.specs.Words.{IsEach, IsEachOfTwo, OfInstruction, Wher
 ghost use Rattle.wasmi_ffi.specs.Accesses.{IsStored};
 ghost use Rattle.wasmi_ffi.specs.Lanes.{extract_op, replace_op, load_lane_op, store_lane_op, OnLane, extracted_words, loaded_lane_words, replaced_words, stored_lane_of};
 ghost use Rattle.wasmi_ffi.specs.declared.lanes.TheConstants.{EXTRACTS, LOAD_LANES, REPLACES, STORE_LANES};
-ghost use Rattle.wasmi_ffi.specs.declared.status.TheConstants.{DONE};
+ghost use Rattle.wasmi_ffi.specs.Status.{done_status};
 
 use crate::lane::{Extract, LoadLane, Replace, StoreLane};
 use crate::status::{DONE, LENGTHS_DIFFER, NO_LANE, UNKNOWN};
@@ -64,7 +64,7 @@ fn replaced(op: &ReplaceOp, a: Words, item: Words) -> Words
 pub extern "C" fn wasmi_extract_lane(number: u16, lane: u8, a: Words, value: &mut Words) -> u8
     ensures { OfInstruction (slice_get EXTRACTS number) value.old value.new result
         (λ kind. OnLane (extract_op kind lane) value.old value.new result
-        (λ op. (result ≡ DONE) × (value.new ≡ extracted_words op a))) }
+        (λ op. (result ≡ done_status) × (value.new ≡ extracted_words op a))) }
 {
     let Some(kind) = EXTRACTS.get(usize::from(number)) else {
         return UNKNOWN;
@@ -122,7 +122,7 @@ pub extern "C" fn wasmi_replace_lane(
 ) -> u8
     ensures { OfInstruction (slice_get REPLACES number) value.old value.new result
         (λ kind. OnLane (replace_op kind lane) value.old value.new result
-        (λ op. (result ≡ DONE) × (value.new ≡ replaced_words op a item))) }
+        (λ op. (result ≡ done_status) × (value.new ≡ replaced_words op a item))) }
 {
     let Some(kind) = REPLACES.get(usize::from(number)) else {
         return UNKNOWN;

@@ -99,29 +99,29 @@ pub extern "C" fn wasmi_load_each(
     memory: &[u8],
     ptrs: &[u64],
     offset: u64,
-    answers: &mut [InstructionResult],
+    results: &mut [InstructionResult],
 ) -> u8
-    ensures { OfInstruction (load_of number) answers.old answers.new result
-        (λ op. WhereLengths (length answers.old ≡ length ptrs.now) answers.old answers.new result
+    ensures { OfInstruction (load_of number) results.old results.new result
+        (λ op. WhereLengths (length results.old ≡ length ptrs.now) results.old results.new result
         (IsEach (λ ptr. result_of (loaded_words op memory.now (ptr + offset))) ptrs.now
-        answers.new)) }
+        results.new)) }
 {
     match instruction(number) {
-        Some(op) => each(op, memory, ptrs, offset, answers),
+        Some(op) => each(op, memory, ptrs, offset, results),
         None => UNKNOWN,
     }
 }
 
-fn each(op: Load, memory: &[u8], ptrs: &[u64], offset: u64, answers: &mut [InstructionResult]) -> u8
-    ensures { WhereLengths (length answers.old ≡ length ptrs.now) answers.old answers.new result
+fn each(op: Load, memory: &[u8], ptrs: &[u64], offset: u64, results: &mut [InstructionResult]) -> u8
+    ensures { WhereLengths (length results.old ≡ length ptrs.now) results.old results.new result
         (IsEach (λ ptr. result_of (loaded_words op memory.now (ptr + offset))) ptrs.now
-        answers.new) }
+        results.new) }
 {
-    if answers.len() != ptrs.len() {
+    if results.len() != ptrs.len() {
         return LENGTHS_DIFFER;
     }
     for i in 0..ptrs.len() {
-        answers[i] = InstructionResult::of(op.load(memory, ptrs[i], offset));
+        results[i] = InstructionResult::of(op.load(memory, ptrs[i], offset));
     }
     DONE
 }

@@ -3,7 +3,7 @@ ghost use Rattle.std.specs.Prelude.{◌≡◌, [], Some};
 ghost use Rattle.wasmi_script.specs.Outcomes.{Replays};
 ghost use Rattle.wasmi_ffi.specs.Scripts.{AnswersScript};
 
-use crate::status::TOO_SMALL;
+use crate::status::TEXT_TOO_SHORT;
 use std::alloc::Global;
 use wasmi_script::{Status, replay};
 
@@ -27,7 +27,7 @@ pub extern "C" fn wasmi_script_run(
     let status = print(alloc, script, &mut printed);
     *needed = printed.len();
     if text.len() < printed.len() {
-        return TOO_SMALL;
+        return TEXT_TOO_SHORT;
     }
     let front = &mut text[..printed.len()];
     front.copy_from_slice(printed.as_slice());

@@ -1,4 +1,5 @@
-//! What a call answers besides the number of a trap code.
+//! What a call returns besides the number of a trap code. The contracts have the numbers of
+//! `specs/Status.antt`, C those of `include/wasmi_core.h`.
 
 /// The call was answered.
 pub const DONE: u8 = 0;
@@ -10,4 +11,4 @@ pub const LENGTHS_DIFFER: u8 = 254;
 pub const NO_LANE: u8 = 253;
 /// The text of a script is longer than the caller's bytes: then nothing is written to them. Below
 /// it are the statuses of the program.
-pub const TOO_SMALL: u8 = 5;
+pub const TEXT_TOO_SHORT: u8 = 5;

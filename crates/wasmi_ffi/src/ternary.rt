@@ -2,7 +2,7 @@
 ghost use Rattle.std.specs.Prelude.{◌≡◌, length};
 ghost use Rattle.wasmi_ffi.specs.Words.{IsEachOfThree, OfInstruction, WhereLengths};
 ghost use Rattle.wasmi_ffi.specs.Ternary.{ternary_of, ternary_words};
-ghost use Rattle.wasmi_ffi.specs.declared.status.TheConstants.{DONE};
+ghost use Rattle.wasmi_ffi.specs.Status.{done_status};
 
 use crate::status::{DONE, LENGTHS_DIFFER, UNKNOWN};
 use crate::table::at;
@@ -37,7 +37,7 @@ fn instruction(number: u16) -> Option<TernaryOp>
 #[unsafe(no_mangle)]
 pub extern "C" fn wasmi_ternary(number: u16, a: Words, b: Words, c: Words, value: &mut Words) -> u8
     ensures { OfInstruction (ternary_of number) value.old value.new result
-        (λ op. (result ≡ DONE) × (value.new ≡ ternary_words op a b c)) }
+        (λ op. (result ≡ done_status) × (value.new ≡ ternary_words op a b c)) }
 {
     match instruction(number) {
         Some(op) => {

@@ -2,7 +2,7 @@
 ghost use Rattle.std.specs.Prelude.{◌≡◌, length};
 ghost use Rattle.wasmi_ffi.specs.Words.{IsEach, OfInstruction, WhereLengths};
 ghost use Rattle.wasmi_ffi.specs.Unary.{unary_of, unary_words};
-ghost use Rattle.wasmi_ffi.specs.declared.status.TheConstants.{DONE};
+ghost use Rattle.wasmi_ffi.specs.Status.{done_status};
 
 use crate::status::{DONE, LENGTHS_DIFFER, UNKNOWN};
 use crate::table::at;
@@ -115,7 +115,7 @@ fn instruction(number: u16) -> Option<Unary>
 #[unsafe(no_mangle)]
 pub extern "C" fn wasmi_unary(number: u16, a: Words, value: &mut Words) -> u8
     ensures { OfInstruction (unary_of number) value.old value.new result
-        (λ op. (result ≡ DONE) × (value.new ≡ unary_words op a)) }
+        (λ op. (result ≡ done_status) × (value.new ≡ unary_words op a)) }
 {
     match instruction(number) {
         Some(op) => {

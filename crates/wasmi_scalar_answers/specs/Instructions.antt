@@ -20,7 +20,7 @@ Is this answer = answer ≡ this
 abbrev pub UnsignedPair : ℕ → ScalarAnswer → Type 0
 UnsignedPair number answer = (lo : ℤ) × (hi : ℤ) × (answer ≡ Pair lo hi) × (unsigned_of lo hi ≡ number)
 
--- the same of a number that is read signed
+-- the answer is the two words of a number of 128 bits that is read signed
 abbrev pub SignedPair : ℤ → ScalarAnswer → Type 0
 SignedPair number answer = (lo : ℤ) × (hi : ℤ) × (answer ≡ Pair lo hi) × (signed_of lo hi ≡ number)
 
@@ -33,7 +33,7 @@ abbrev pub outcome : Result ℤ TrapCode → ScalarAnswer
 outcome (Ok number) = Number number
 outcome (Err trap) = Trap trap
 
--- the same of a number that is read unsigned
+-- a number that is read unsigned, or the trap in its place
 abbrev pub natural_outcome : Result ℕ TrapCode → ScalarAnswer
 natural_outcome (Ok number) = Number (pos number)
 natural_outcome (Err trap) = Trap trap

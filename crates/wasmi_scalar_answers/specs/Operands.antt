@@ -15,7 +15,7 @@ line_word words i = (slice_index_or words i (record { ref_ptr = (0, 0); now = []
 abbrev pub WritesInteger : List ℕ → ℤ → Type 0
 WritesInteger text number = IsNumeral 10 (without_leading_sign text) × (number ≡ signed_digits_value 10 text)
 
--- the same of a number that is read unsigned, which no minus precedes
+-- the text writes the whole number in decimal digits, which a plus may precede and no minus
 abbrev pub WritesNatural : List ℕ → ℕ → Type 0
 WritesNatural text number =
     IsNumeral 10 (without_leading_plus text) × (number ≡ digits_value 10 (without_leading_plus text))

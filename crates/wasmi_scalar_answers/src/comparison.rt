@@ -52,8 +52,8 @@ impl Tally {
 
     /// Counts a line.
     fn count(&mut self, verdict: Verdict)
-        requires { self.old.agreeing + self.old.differing + 1 < 2 ^ 64 }
-        ensures { self.new ≡ tally_after self.old verdict }
+        requires room { self.old.agreeing + self.old.differing + 1 < 2 ^ 64 }
+        ensures counted { self.new ≡ tally_after self.old verdict }
     {
         match verdict {
             Verdict::Agrees => self.agreeing += 1,

@@ -109,4 +109,10 @@ fn store_lane<L: TryFrom<u8>>(
     })
 }
 
+/// A shuffle by indices that are below 32.
+pub fn shuffle(a: Words, b: Words, lanes: [u8; 16]) -> InstructionResult {
+    let lanes = lanes.map(|lane| simd::ImmLaneIdx32::try_from(lane).ok().unwrap());
+    simd::i8x16_shuffle(vector(a), vector(b), lanes).answer()
+}
+
 include!(concat!(env!("OUT_DIR"), "/tables.rs"));

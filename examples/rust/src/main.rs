@@ -39,8 +39,8 @@ mod ffi {
             a_len: usize,
             b: *const Words,
             b_len: usize,
-            answers: *mut InstructionResult,
-            answers_len: usize,
+            results: *mut InstructionResult,
+            results_len: usize,
         ) -> u8;
     }
 }
@@ -70,9 +70,9 @@ fn run_script(script: &str) -> (u8, Vec<u8>) {
     }
 }
 
-/// The status of an instruction on arrays, and what it answers for each two elements.
+/// The status of an instruction on arrays, and what it gives for each two elements.
 fn binary_each(number: u16, a: &[Words], b: &[Words]) -> (u8, Vec<InstructionResult>) {
-    let mut answers = vec![InstructionResult::default(); a.len()];
+    let mut results = vec![InstructionResult::default(); a.len()];
     // SAFETY: each slice is passed with its length, and they don't overlap.
     let status = unsafe {
         ffi::wasmi_binary_each(
@@ -81,11 +81,11 @@ fn binary_each(number: u16, a: &[Words], b: &[Words]) -> (u8, Vec<InstructionRes
             a.len(),
             b.as_ptr(),
             b.len(),
-            answers.as_mut_ptr(),
-            answers.len(),
+            results.as_mut_ptr(),
+            results.len(),
         )
     };
-    (status, answers)
+    (status, results)
 }
 
 fn item(lo: u64) -> Words {

@@ -13,8 +13,8 @@ where
     T::Err: Drop,
     R: Into<ScalarAnswer>,
     F: FnOnce(T) -> R + Drop,
-    requires { F.IsAlwaysCallable function }
-    ensures { IfSome result
+    requires callable { F.IsAlwaysCallable function }
+    ensures answer { IfSome result
         (OfOne (λ word value. T.from_str_gives word (Ok value))
         (λ value answer. (output : R) × F.post function value output × R.converts output answer)
         operands.now) }
@@ -33,8 +33,8 @@ where
     T::Err: Drop,
     R: Into<ScalarAnswer>,
     F: FnOnce(T, T) -> R + Drop,
-    requires { F.IsAlwaysCallable function }
-    ensures { IfSome result
+    requires callable { F.IsAlwaysCallable function }
+    ensures answer { IfSome result
         (OfTwo (λ word value. T.from_str_gives word (Ok value))
         (λ lhs rhs answer. (output : R) × F.post function lhs rhs output × R.converts output answer)
         operands.now) }
@@ -54,8 +54,8 @@ where
     T::Err: Drop,
     R: Into<ScalarAnswer>,
     F: FnOnce(T, T, T, T) -> R + Drop,
-    requires { F.IsAlwaysCallable function }
-    ensures { IfSome result
+    requires callable { F.IsAlwaysCallable function }
+    ensures answer { IfSome result
         (OfFour (λ word value. T.from_str_gives word (Ok value))
         (λ lhs_lo lhs_hi rhs_lo rhs_hi answer. (output : R)
         × F.post function lhs_lo lhs_hi rhs_lo rhs_hi output × R.converts output answer)

@@ -8,4 +8,4 @@ use Rattle.wasmi_ffi.proofs.binary.each.Given as goal
 abbrev pub invariant-loop-i : goal.invariant-loop-i
 invariant-loop-i l =
     (k : ℕ) (x y : Words) (z : InstructionResult) → k < l.i
-    → get_or l.answers k z ≡ result_of (binary_words l.op (get_or l.a k x) (get_or l.b k y))
+    → get_or l.results k z ≡ result_of (binary_words l.op (get_or l.a k x) (get_or l.b k y))

@@ -7,4 +7,4 @@ use Rattle.wasmi_ffi.proofs.load.each.Given as goal
 abbrev pub invariant-loop-i : goal.invariant-loop-i
 invariant-loop-i l =
     (k : ℕ) (x : ℕ) (y : InstructionResult) → k < l.i
-    → get_or l.answers k y ≡ result_of (loaded_words l.op l.memory (get_or l.ptrs k x + l.offset))
+    → get_or l.results k y ≡ result_of (loaded_words l.op l.memory (get_or l.ptrs k x + l.offset))

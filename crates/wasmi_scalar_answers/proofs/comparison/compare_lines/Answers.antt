@@ -20,7 +20,7 @@ loop-index-preserved g c =
     (c.without_break.ensures ∙ ap (strip_last 10) c.as_slice.ensures.value) c.in_ok-verdict.ensures in
     record {
       once = search rules;
-      counted = subst (HasCounted _ _) (sym c.count.ensures)
+      counted = subst (HasCounted _ _) (sym c.count.ensures.counted)
           (one_more _ _ _ c.loop-index.tally c.in_ok-verdict.verdict line c.loop-index.invariant.counted read some
           judged c.in_ok-read_until.ensures.rest);
     }
