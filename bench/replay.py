@@ -35,9 +35,9 @@ KINDS = {
 }
 
 
-def script(head, line, most):
-    """Returns the head and the line as often as a script holds it."""
-    count = (LIMIT - len(head)) // (len(line) + 1)
+def script(head, line, most, size=LIMIT):
+    """Returns the head and the line as often as a script of a size holds it."""
+    count = (size - len(head)) // (len(line) + 1)
     return (head + f"{line}\n" * min(count, most or count)).encode()
 
 
@@ -83,4 +83,5 @@ def main():
     print(f"| geometric mean | | | | {product ** (1 / len(KINDS)):.2f} |")
 
 
-main()
+if __name__ == "__main__":
+    main()

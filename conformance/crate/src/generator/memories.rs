@@ -1,0 +1,133 @@
+//! Lines on memories.
+use super::Generator;
+use crate::machine::LiveMemory;
+use crate::names;
+
+impl Generator {
+    /// A live memory, mostly.
+    pub(super) fn memory(&mut self) -> LiveMemory {
+        let live = self.machine().live_memories();
+        if live.is_empty() || self.random.chance(2) {
+            let index = self.random.pick(&[0, 1, 2, 9, u64::MAX]);
+            return LiveMemory { index, len: 0, page_size: 65536, is_lent: false };
+        }
+        self.random.pick(&live)
+    }
+
+    pub(super) fn new_memory(&mut self, word: &str) {
+        let log2 = self.random.pick(&[0_u32, 16]);
+        let is_64 = self.random.chance(40);
+        let most: u128 = (if is_64 { 1 << 64 } else { 1 << 32 }) >> log2;
+        let small = if log2 == 0 { 70 } else { 3 };
+        let min = if self.random.chance(80) { self.random.below(small) } else { self.random.edge() };
+        let min = u64::try_from(u128::from(min).min(most)).unwrap_or(u64::MAX);
+        if word == "memory" && !self.allowed(u128::from(min) << log2) {
+            return;
+        }
+        let greatest = u64::try_from(most).unwrap_or(u64::MAX);
+        let max = self.max_word(min, &[0, 1, 2, 3, 60, 100, 1000, greatest, greatest - 1, greatest / 2]);
+        if max.parse::<u128>().is_ok_and(|max| max > most) {
+            return;
+        }
+        let width = if is_64 { 64 } else { 32 };
+        self.command(format!("{word} {min} {max} {log2} {width}"));
+    }
+
+    pub(super) fn grow_memory(&mut self) {
+        let LiveMemory { index, len, page_size, is_lent } = self.memory();
+        let size = len / page_size;
+        let near = self.random.below(3).wrapping_sub(1).wrapping_sub(size);
+        let pages = match self.random.below(10) {
+            0 => 0,
+            1..=5 => self.random.below(if page_size == 1 { 200 } else { 3 }),
+            6 => near.wrapping_add(1 << 16),
+            7 => near.wrapping_add(1 << 32),
+            8 => near,
+            _ => self.random.edge(),
+        };
+        if is_lent || self.allowed((u128::from(size) + u128::from(pages)) * u128::from(page_size)) {
+            self.aim(pages, page_size);
+            self.command(format!("grow {index} {pages}"));
+            if self.random.chance(25) {
+                self.command("left".into());
+            }
+        }
+    }
+
+    /// Two words whose sum is an address, mostly near the end, and now and then beyond 2^64.
+    pub(super) fn address(&mut self, len: u64) -> (u64, u64) {
+        let address = match self.random.below(10) {
+            0 => self.random.edge(),
+            1 | 2 => self.random.below(20),
+            3..=7 => len.wrapping_sub(self.random.below(18)).wrapping_add(self.random.below(3)),
+            _ => self.random.below(len + 2),
+        };
+        match self.random.below(8) {
+            0..=3 => (address, 0),
+            4 => (0, address),
+            5 => {
+                let offset = self.random.below(address.min(1 << 40) + 1);
+                (address - offset, offset)
+            }
+            6 => (address, self.random.edge()),
+            _ => {
+                let offset = 1 + self.random.below(40);
+                let other = if self.random.chance(50) { offset } else { u64::MAX - self.random.below(3) };
+                (address.wrapping_sub(offset), other)
+            }
+        }
+    }
+
+    /// Reads what stands around an address that was written.
+    pub(super) fn read_around(&mut self, memory: u64, address: u64, len: u64) {
+        self.command(format!("read {memory} {} {len}", address.saturating_sub(3)));
+    }
+
+    pub(super) fn access(&mut self) {
+        let LiveMemory { index, len, .. } = self.memory();
+        let (ptr, offset) = self.address(len);
+        match self.random.below(10) {
+            0..=2 => {
+                let count = if self.random.chance(85) { self.random.below(24) } else { self.random.edge() };
+                // What the memory can serve is kept short, so that replies stay short.
+                if count <= 4096 || u128::from(ptr) + u128::from(count) > u128::from(len) {
+                    self.command(format!("read {index} {ptr} {count}"));
+                }
+            }
+            3 | 4 => {
+                let count = self.random.below(20);
+                let bytes = self.list(count, |own| own.random.lane(8));
+                self.command(format!("write {index} {ptr}{bytes}"));
+            }
+            5..=7 => {
+                let name = self.random.pick(names::LOAD).0;
+                self.command(format!("load {name} {index} {ptr} {offset}"));
+            }
+            _ => {
+                let (name, width) = (self.random.pick(names::STORE).0, self.random.pick(&[8, 16, 32, 64]));
+                let value = self.random.lane(width);
+                self.command(format!("store {name} {index} {ptr} {offset} {value}"));
+                if self.random.chance(60) {
+                    self.read_around(index, ptr.wrapping_add(offset), 14);
+                }
+            }
+        }
+    }
+
+    pub(super) fn memory_step(&mut self) {
+        if self.random.chance(2) {
+            let grow = |index: &str, pages| format!("grow {index} {pages}");
+            self.hopeless("memory", "memory 0 none 0 64", 1, grow);
+        }
+        match self.random.below(20) {
+            0 => self.new_memory("memory"),
+            1..=3 => self.grow_memory(),
+            4 | 5 => self.fuel(),
+            6 if self.random.chance(25) => {
+                let index = self.memory().index;
+                self.command(format!("drop memory {index}"));
+            }
+            _ => self.access(),
+        }
+    }
+}

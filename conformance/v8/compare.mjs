@@ -1,0 +1,56 @@
+// Compares the proved library with V8. usage: node compare.mjs LIBRARY HEADER [COUNT [SEED]]
+//
+// LIBRARY is library.c, built; HEADER is include/wasmi_core.h. Each instruction of the header gets COUNT (1000) operands, edges first, and
+// COUNT / 5 random runs go over tables, memories, segments and globals. The last line counts; the exit status is 1 where one differs.
+import { spawnSync } from "node:child_process";
+import { numbers } from "./numbers.mjs";
+import { Random } from "./random.mjs";
+import { scripts } from "./scripts.mjs";
+import { shuffles } from "./shuffles.mjs";
+
+const [library, header, count = "1000", seed = "1"] = process.argv.slice(2);
+if (!header) {
+  console.error("usage: node compare.mjs LIBRARY HEADER [COUNT [SEED]]");
+  process.exit(2);
+}
+// A module with a relaxed swizzle.
+const RELAXED = [0, 97, 115, 109, 1, 0, 0, 0, 1, 7, 1, 96, 2, 123, 123, 1, 123, 3, 2, 1, 0, 10, 11, 1, 9, 0, 32, 0, 32, 1, 253, 128, 2, 11];
+const hasRelaxed = WebAssembly.validate(new Uint8Array(RELAXED));
+const random = new Random(seed);
+const found = numbers(header, Number(count), random, hasRelaxed);
+const runs = [shuffles(Math.min(Number(count), 1000), random), ...scripts(Math.ceil(Number(count) / 5), random)];
+
+/** A script as a request, with the answer to it. */
+const trialOf = ({ lines, replies }, index) => {
+  const text = `${lines.join("\n")}\n`;
+  return [`script ${text.length}\n${text}`, [`0 ${replies.length}`, ...replies].join("\n"), `script ${index}`];
+};
+const trials = [...found.trials, ...runs.map(trialOf)];
+const asked = spawnSync(library, { input: trials.map(([request]) => `${request}\n`).join(""), maxBuffer: 2 ** 31 });
+if (asked.status !== 0) throw asked.error ?? new Error(`${library} ended with ${asked.status ?? asked.signal}: ${asked.stderr}`);
+const printed = asked.stdout.toString("latin1").split("\n");
+
+let place = 0;
+const differing = new Set();
+for (const [request, answer, name] of trials) {
+  const wanted = answer.split("\n");
+  // A script that ends otherwise has another number of lines.
+  const size = request.startsWith("script") ? 1 + Number(printed[place].split(" ")[1]) : 1;
+  const got = printed.slice(place, place + size);
+  place += size;
+  const at = wanted.findIndex((line, index) => line !== got[index]);
+  if (at < 0) continue;
+  if (differing.size < 20 && !differing.has(name)) {
+    console.log(`DIFFERS ${name}: ${request.split("\n")[at]}\n  V8: ${wanted[at]}\n  the library: ${got[at]}`);
+  }
+  differing.add(name);
+}
+if (found.byNumbers.length) console.log(`by V8's BigInt, since it has no instruction: ${found.byNumbers.join(" ")}`);
+if (found.skipped.length) console.log(`not compared, since V8 has no instruction: ${found.skipped.join(" ")}`);
+if (hasRelaxed) console.log("relaxed instructions: on operands that leave no choice");
+const replies = runs.reduce((sum, run) => sum + run.replies.length, 0);
+console.log(
+  `V8 ${process.versions.v8}, seed ${seed}: ${found.instructions} instructions, ${found.trials.length} trials, ` +
+    `${runs.length} scripts with ${replies} replies, ${differing.size} differ`,
+);
+process.exitCode = differing.size > 0 ? 1 : 0;

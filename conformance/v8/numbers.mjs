@@ -1,0 +1,161 @@
+// Instructions by number: what V8 answers, and the requests that ask the library the same.
+import fs from "node:fs";
+import { BY_NUMBERS, instruction, lanesOf } from "./instructions.mjs";
+import { instance, leb } from "./module.mjs";
+import { eachLane, edgeLanes, splat } from "./random.mjs";
+
+const PAGE = 65536;
+const OFFSETS = [0, 1, 7, 65528, 4294967295];
+const TRAPS = { "divide by zero": 5, "remainder by zero": 5, "divide result unrepresentable": 6, "memory access out of bounds": 2 };
+
+/** Each instruction of the header: [shape, name, number]. */
+export function instructionsOf(header) {
+  const rows = [];
+  let shape;
+  for (const line of fs.readFileSync(header, "utf8").split("\n")) {
+    shape = /^#define WASMI_(\w+)_NAMES\(X\)/.exec(line)?.[1].toLowerCase() ?? shape;
+    const row = /^ +X\((\d+), (\w+)\)/.exec(line);
+    if (row) rows.push([shape, row[2], Number(row[1])]);
+  }
+  return rows;
+}
+
+// Operands come in by the globals 0 to 5, two words each, and results go out by 6 and 7; the parameter is an address.
+const GLOBALS = Array.from({ length: 8 }, (_, index) => ({ name: `word${index}`, type: "i64", zero: [0x42, 0] }));
+const operand = (type, index) => {
+  const [low, high] = [[0x23, 2 * index], [0x23, 2 * index + 1]];
+  return { i64: low, i32: [low, 0xa7], v128: [low, 0xfd, 18, high, 0xfd, 30, 1] }[type];
+};
+const ZERO = [0x42, 0];
+const result = (type) =>
+  ({
+    i64: [0x24, 6, ZERO, 0x24, 7],
+    i32: [0xad, 0x24, 6, ZERO, 0x24, 7],
+    v128: [0x22, 1, 0xfd, 29, 0, 0x24, 6, 0x20, 1, 0xfd, 29, 1, 0x24, 7],
+  })[type] ?? [];
+
+function functionsOf(shape, name, found) {
+  const isAccess = /^(load|store)/.test(shape);
+  const lanes = shape.endsWith("lane") ? Array.from({ length: lanesOf(name) }, (_, lane) => lane) : [undefined];
+  const made = [];
+  for (const offset of isAccess ? OFFSETS : [undefined])
+    for (const lane of lanes) {
+      // Through locals: V8 11.3 drops the third operand of a relaxed dot product that stands on the stack from a global.
+      const kept = found.operands.map((type, index) => [operand(type, index), 0x21, 2 + index]);
+      const operands = found.isLoad ? [0x41, 0, 0x41, 0, 0x20, 2, 0x37, 0, 0] : found.operands.map((_, index) => [0x20, 2 + index]);
+      const at = isAccess ? [0x20, 0] : [];
+      const place = isAccess || found.isLoad ? [0, ...leb(offset ?? 0)] : [];
+      const body = [kept, at, operands, found.code, place, lane ?? [], result(found.result)];
+      made.push({ name: [name, offset, lane].join(" "), params: ["i32"], locals: ["v128", ...found.operands], body });
+    }
+  return made;
+}
+
+/** What V8's functions do with words and an address. */
+class Engine {
+  constructor(functions) {
+    this.exports = instance({ functions, pages: 1, globals: GLOBALS });
+    this.bytes = new Uint8Array(this.exports.memory.buffer);
+  }
+
+  fill() {
+    for (let i = 0; i < PAGE; i++) this.bytes[i] = i * 37 + (i >> 8) * 11 + 5;
+  }
+
+  sum() {
+    let total = 0;
+    for (const byte of this.bytes) total = (Math.imul(total, 31) + byte) >>> 0;
+    return total;
+  }
+
+  around(at) {
+    const start = at < 8 ? 0 : Math.min(at - 8, PAGE - 32);
+    return this.bytes.subarray(start, start + 32).join(" ");
+  }
+
+  /** `STATUS LOW HIGH`, as the library's program prints it. */
+  answer(name, words, ptr) {
+    const { exports } = this;
+    words.forEach((word, index) => (exports[`word${index}`].value = BigInt.asIntN(64, word)));
+    exports.word6.value = exports.word7.value = 0n;
+    try {
+      exports[name](ptr | 0);
+    } catch (error) {
+      const trap = Object.keys(TRAPS).find((text) => error.message.includes(text));
+      if (!trap) throw error;
+      return `${TRAPS[trap]} 0 0`;
+    }
+    return `0 ${BigInt.asUintN(64, exports.word6.value)} ${BigInt.asUintN(64, exports.word7.value)}`;
+  }
+}
+
+const widthOf = (name) => Number([...name.matchAll(/i(8|16|32|64)(?=x|_)/g)].at(-1)?.[1] ?? 64);
+
+/** Relaxed instructions are compared where they leave no choice: the second operand, or the third, is cut to that. */
+function withoutChoice(name, [a, b, c], random) {
+  const width = widthOf(name);
+  if (name.endsWith("relaxed_swizzle")) return [a, eachLane(b, 8, (lane) => (lane < 16n || lane > 127n ? lane : lane & 15n)), c];
+  if (name.endsWith("relaxed_q15mulr_s")) return [a, eachLane(b, 16, (lane) => (lane === 32768n ? 32767n : lane)), c];
+  if (name.includes("relaxed_dot")) return [a, eachLane(b, 8, (lane) => lane & 127n), c];
+  if (name.includes("relaxed_laneselect")) return [a, b, eachLane(c, width, (lane) => (lane & 1n ? (1n << BigInt(width)) - 1n : 0n))];
+  return [a, b, c];
+}
+
+function* operandsOf(name, count, random) {
+  const width = widthOf(name);
+  const edges = edgeLanes(width);
+  const any = () => random.vector([width, width, 8, 16, 32, 64]);
+  for (let turn = 0; turn < count; turn++) {
+    const [first, second] = [edges[Math.floor(turn / 6)], edges[turn % 6]];
+    const words = first === undefined ? [any(), any(), any()] : [splat(width, first), splat(width, second), any()];
+    // Amounts, items and operands that are likely small.
+    if (turn % 3 === 2) words[1] = [BigInt(random.below(140)), words[1][1]];
+    yield withoutChoice(name, words, random).flat();
+  }
+}
+
+function* addressesOf(name, count, random) {
+  const bits = Number(/(?:load_u|load|store)(\d+)/.exec(name)?.[1] ?? 128);
+  const size = /\dx\d/.test(name) ? 8 : bits / 8;
+  for (const offset of OFFSETS) {
+    for (let over = -3; over <= 3; over++) if (PAGE - size - offset + over >= 0) yield [PAGE - size - offset + over, offset];
+    for (const ptr of [0, 1, 7, 8, PAGE - 1, PAGE, 2 ** 31, 2 ** 32 - 1, 2 ** 32 - size]) yield [ptr, offset];
+  }
+  for (;;) yield [random.below(PAGE + 8), random.pick([0, 0, 1, 7])];
+}
+
+/** Requests with V8's answers: [request, answer, name]; and which names V8 answers by its instructions, by numbers, or not at all. */
+export function numbers(header, count, random, hasRelaxed) {
+  const rows = instructionsOf(header).map(([shape, name, number]) => ({ shape, name, number, found: instruction(shape, name) }));
+  const known = rows.filter(({ name, found }) => found && (hasRelaxed || !name.includes("relaxed")));
+  const engine = new Engine(known.flatMap(({ shape, name, found }) => functionsOf(shape, name, found)));
+  const trials = [];
+  for (const { shape, name, number, found } of rows.filter((row) => known.includes(row) || row.name in BY_NUMBERS)) {
+    const isAccess = /^(load|store)/.test(shape);
+    const addresses = addressesOf(name, count, random);
+    engine.fill();
+    if (isAccess) trials.push(["fill", "filled", name]);
+    let turn = 0;
+    for (const words of operandsOf(name, count, random)) {
+      const lane = shape.endsWith("lane") ? turn % lanesOf(name) : undefined;
+      const [ptr, offset] = isAccess ? addresses.next().value : [];
+      const place = isAccess ? [ptr, offset, words[0], words[1]] : words;
+      const request = [shape, number, ...(lane === undefined ? [] : [lane]), ...place].join(" ");
+      let answer = found
+        ? engine.answer([name, offset, lane].join(" "), words, ptr ?? 0)
+        : `0 ${BY_NUMBERS[name](words.slice(0, 2), words.slice(2, 4)).join(" ")}`;
+      if (shape.startsWith("store")) answer += ` ${engine.around(Math.min(ptr + offset, PAGE))}`;
+      trials.push([request, answer, name]);
+      turn++;
+    }
+    if (isAccess) trials.push(["sum", String(engine.sum()), name]);
+  }
+  const names = (rows) => rows.map(({ name }) => name);
+  const others = rows.filter((row) => !known.includes(row));
+  return {
+    trials,
+    instructions: known.length,
+    byNumbers: names(others.filter(({ name }) => name in BY_NUMBERS)),
+    skipped: names(others.filter(({ name }) => !(name in BY_NUMBERS))),
+  };
+}
