@@ -1,5 +1,6 @@
 mod LanesLemmas
 mod LendingLemmas
+mod LentGrowthLemmas
 mod PoolsLemmas
 mod RecorderLemmas
 mod RunsLemmas

@@ -1,18 +1,21 @@
 -- What a caller says of runs.
-use Rattle.std.specs.Prelude.{◌≡◌, ◌<◌, ◌≤◌, ℕ, true, Option, Some, List, [], ◌∷◌, ◌++◌, length, map}
+use Rattle.std.specs.Prelude.{◌≡◌, ◌⊎◌, ◌<◌, ◌≤◌, ◌+◌, ◌*◌, ℕ, true, Option, Some, List, [], ◌∷◌, ◌++◌, length, map, slice_set}
 use Rattle.wasmi_meter.specs.Attempt.{Request, optional_due, covers}
 use Rattle.wasmi_meter.specs.Limiter.{Rules, Question, Answer, IsDenial}
 use Rattle.wasmi_meter.specs.Meter.{Meter}
-use Rattle.wasmi_store.specs.Buffer.{Lent}
-use Rattle.wasmi_store.specs.Memory.{MemoryValue}
-use Rattle.wasmi_store.specs.MemoryType.{MemoryTypeValue, minimum_bytes}
+use Rattle.wasmi_store.specs.Buffer.{Lent, fits_room}
+use Rattle.wasmi_store.specs.Memory.{MemoryValue, pages_of, growth_of}
+use Rattle.wasmi_store.specs.MemoryType.{MemoryTypeValue, minimum_bytes, page_bytes, in_bounds}
 use Rattle.wasmi_core.specs.declared.calls.Call.{Call}
+use Rattle.wasmi_core.specs.declared.calls.Call.TheVariants.{GrowMemory}
 use Rattle.wasmi_core.specs.declared.calls.Reply.{Reply}
+use Rattle.wasmi_core.specs.declared.calls.Reply.TheVariants.{Number}
 use Rattle.wasmi_core.specs.World.{World, Turn}
 use Rattle.wasmi_core.specs.Exchange.{Exchanges}
 use Rattle.wasmi_core.specs.Steps.{Step}
 use Rattle.wasmi_core.specs.Runs.{Sequence, Run}
-use Rattle.wasmi_core.specs.State.{State}
+use Rattle.wasmi_core.specs.declared.slots.Slot.TheVariants.{Live}
+use Rattle.wasmi_core.specs.State.{State, live_at}
 use Rattle.wasmi_core.specs.Account.{opened, account_after, Balances}
 use Rattle.wasmi_core.specs.Laws.{IsRefusal, Keeps, KeepsMeter}
 use Rattle.wasmi_core.specs.LentMemory.{FitsRegions}
@@ -73,6 +76,40 @@ CanPay m request = covers m (optional_due m request.price) ≡ true
 -- a limiter was asked a question, and denied it
 abbrev pub IsDenied : {S : Type 0} → Rules S → Question → S → S → Type 0
 IsDenied rules question l l' = (answer : Answer) × IsDenial answer × rules.asked l question answer l'
+
+-- a memory can grow by so many pages in the lent region that it lies in: its type and its region have place for them,
+-- and a meter can pay them
+pub record CanGrowInRegion (m : Option Meter) (pages : ℕ) (x : MemoryValue) : Type 0 where
+  pub lent : IsLent x
+  pub inside : in_bounds x.ty (pages_of x + pages) ≡ true
+  pub place : fits_room x.room (pages * page_bytes x.ty.page) ≡ true
+  pub paid : CanPay m (growth_of x pages)
+
+-- in the place of a memory is one that is so many pages longer, and each other memory is the same
+abbrev pub HasMorePages : ℕ → ℕ → MemoryValue → State → State → Type 0
+HasMorePages k pages x s s' = (x' : MemoryValue) × (s'.memories ≡ slice_set s.memories k (Live x'))
+    × (length x'.bytes ≡ length x.bytes + pages * page_bytes x.ty.page)
+
+-- a memory has grown by so many pages, and the reply tells how many it had; or the reply is a refusal, and the limiter
+-- has denied the growth
+abbrev pub IsGrownOrDenied : {S : Type 0} → Rules S → ℕ → ℕ → MemoryValue → World S → Reply → World S → Type 0
+IsGrownOrDenied rules k pages x w reply w' =
+    ((reply ≡ Number (pages_of x)) × HasMorePages k pages x w.state w'.state)
+    ⊎ (IsRefusal reply × IsDenied rules (growth_of x pages).question w.limiter w'.limiter)
+
+-- where a turn grows a memory in a lent region that has place for it, the memory has grown, or the limiter has denied
+-- the growth
+abbrev pub GrowsInRegion : {S : Type 0} → Rules S → World S → Turn → World S → Type 0
+GrowsInRegion rules w turn w' = (k pages : ℕ) (x : MemoryValue) → turn.call ≡ GrowMemory k pages
+    → live_at w.state.memories k ≡ Some x → CanGrowInRegion (Some w.state.meter) pages x
+    → IsGrownOrDenied rules k pages x w turn.reply w'
+
+-- in each turn that grows a memory in a lent region that has place for it, the memory has grown, or the limiter has
+-- denied the growth
+abbrev pub GrowsInRegions : {S : Type 0} → Rules S → List Call → World S → List Reply → World S → Type 0
+GrowsInRegions rules calls w replies w' =
+    (turns : List Turn) × AreTurns calls replies turns
+    × Sequence (λ v turn v'. Step rules v turn v' × GrowsInRegion rules v turn v') w turns w'
 
 -- the spare region is there, and no shorter than the minimum of a type
 abbrev pub HasRegionFor : MemoryTypeValue → State → Type 0

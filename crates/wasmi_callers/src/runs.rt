@@ -1,12 +1,8 @@
 //! Callers of the laws over turns and runs.
-ghost use Rattle.std.specs.Prelude.{◌≡◌, ◌+◌, ◌*◌, ◌++◌, ◌≤◌, ◌⊎◌, [], ◌∷◌, Some, Ok, true, length, IfOk, All};
-ghost use Rattle.std.specs.Option.{option_copied_mut};
+ghost use Rattle.std.specs.Prelude.{◌≡◌, ◌++◌, ◌≤◌, [], ◌∷◌, Some, IfOk, All};
 ghost use Rattle.wasmi_meter.specs.Limiter.{optional_rules};
 ghost use Rattle.wasmi_meter.specs.declared.limiter.Kind.TheVariants.{Bytes, Elements};
 ghost use Rattle.wasmi_meter.specs.Quota.{holdings, cap_of, IsWithinCaps, quota_rules};
-ghost use Rattle.wasmi_store.specs.Buffer.{fits_room};
-ghost use Rattle.wasmi_store.specs.MemoryType.{page_bytes, in_bounds};
-ghost use Rattle.wasmi_store.specs.Memory.{pages_of, growth_of};
 ghost use Rattle.wasmi_core.specs.Account.{SetsNoFuel};
 ghost use Rattle.wasmi_core.specs.Determinism.{HasMemory};
 ghost use Rattle.wasmi_core.specs.LentMemory.{owned_world, unlent_world};
@@ -16,12 +12,12 @@ ghost use Rattle.wasmi_core.specs.Runs.{IsRunOf};
 ghost use Rattle.wasmi_core.specs.Totals.{total, HoldsTotals};
 ghost use Rattle.wasmi_core.specs.Validity.{IsValid, IsValidCall};
 ghost use Rattle.wasmi_core.specs.World.{world};
-ghost use Rattle.wasmi_callers.specs.Runs.{IsBilled, IsBoundedBy, IsSpentBy, IsExchanged, KeepsWhereRefused, IsMeterKept, StaysValid, IsRunOfBoth, FitsAnyRegions, AreSameTurns, HasRegionFor, IsLent, CanPay, IsDenied};
+ghost use Rattle.wasmi_callers.specs.Runs.{IsBilled, IsBoundedBy, IsSpentBy, IsExchanged, KeepsWhereRefused, IsMeterKept, StaysValid, IsRunOfBoth, FitsAnyRegions, AreSameTurns, HasRegionFor, GrowsInRegions};
 
 use std::alloc::AllocError;
 use wasmi_core::{
-    Call, Fuel, Machine, Memory, MemoryError, MemoryType, NoLimits, Quota, Reply, ResourceLimiter,
-    laws, run_lending, run_reserving,
+    Call, Machine, MemoryType, NoLimits, Quota, Reply, ResourceLimiter, laws, run_lending,
+    run_reserving,
 };
 
 /// Makes one call. Where it is refused, the machine has the contents that it had; the spare region,
@@ -309,23 +305,17 @@ pub fn make_in_region<L: ResourceLimiter>(
     run_lending(machine, calls, limiter)
 }
 
-/// Grows a lent memory that its type and its region have place for, where so much can be paid: it
-/// grows, or the limiter denies it.
-pub fn grow_in_region<L: ResourceLimiter>(
-    memory: &mut Memory,
-    pages: u64,
-    fuel: Option<&mut Fuel>,
+/// Makes calls, and knows of each growth of a memory in a lent region, where its type and the
+/// region have place for it and it can be paid: it grows, or the limiter denies it.
+pub fn grow_in_regions<L: ResourceLimiter>(
+    machine: &mut Machine,
+    calls: &[Call],
     limiter: &mut L,
-) -> Result<u64, MemoryError>
-    requires lent { IsLent memory.old }
-    requires inside { in_bounds memory.old.ty (pages_of memory.old + pages) ≡ true }
-    requires place { fits_room memory.old.room (pages * page_bytes memory.old.ty.page) ≡ true }
-    requires paid { CanPay (option_copied_mut fuel) (growth_of memory.old pages) }
-    ensures result { (result ≡ Ok (pages_of memory.old))
-        ⊎ IsDenied L.rules (growth_of memory.old pages).question limiter.old limiter.new }
-    ensures size { IfOk result (λ _. length memory.new.bytes
-        ≡ length memory.old.bytes + pages * page_bytes memory.old.ty.page) }
+) -> Result<Vec<Reply>, AllocError>
+    ensures { IfOk result (λ replies. GrowsInRegions (optional_rules L.rules) calls.now
+        (world machine.old (Some limiter.old)) replies.items
+        (world machine.new (Some limiter.new))) }
 {
     laws::lent_growths_succeed::<L>();
-    memory.grow_lending(pages, fuel, limiter)
+    run_lending(machine, calls, limiter)
 }
