@@ -5,7 +5,8 @@ ghost use Rattle.std.specs.Prelude.{◌≡◌};
 /// A raw value: two words of 64 bits, without a type.
 ///
 /// A value of up to 64 bits stands in `lo`, and a vector in both words. The order is that of `lo`,
-/// then of `hi`. Upstream: `wasmi_core::RawVal`.
+/// then of `hi`. C has it as a struct of the two. Upstream: `wasmi_core::RawVal`.
+#[repr(C)]
 #[derive(Clone, Copy, Debug, Default, PartialEq, Eq, PartialOrd, Ord)]
 pub struct RawVal {
     /// Bits 0 to 63.
