@@ -8,6 +8,7 @@ ghost use Rattle.std.specs.Prelude.{◌≡◌, ℕ, ◌+◌, ◌-◌, ◌%◌, �
 ghost use Rattle.wasmi_lanes.specs.Words.{field, IsLane, IsLastLane};
 
 /// The sums of the lanes of `a` and `b`, each modulo 2 to the power of its width.
+#[tactic(auto, using(crate::proofs::WordLemmas::add_lane, crate::proofs::WordLemmas::add_last))]
 #[inline]
 pub fn word_add(a: u64, b: u64, tops: u64) -> u64
     ensures lanes { (start width : ℕ) → IsLane tops start width
@@ -20,6 +21,7 @@ pub fn word_add(a: u64, b: u64, tops: u64) -> u64
 }
 
 /// The differences of the lanes of `a` and `b`, each modulo 2 to the power of its width.
+#[tactic(auto, using(crate::proofs::WordLemmas::sub_lane, crate::proofs::WordLemmas::sub_last))]
 #[inline]
 pub fn word_sub(a: u64, b: u64, tops: u64) -> u64
     ensures lanes { (start width : ℕ) → IsLane tops start width

@@ -1,0 +1,161 @@
+-- One lane of a vector: by its bytes, and among lanes that are chosen by their numbers.
+use Rattle.std.proofs.Common.{ℕ, ◌+◌, ◌-◌, ◌*◌, ◌/◌, ◌%◌, ◌^◌, ◌<◌, ◌≡◌, List, [], ◌∷◌, length, get_or, replicate, map, refl, sym, ap, ap₂, ◌∙◌, arith, if◌then◌else◌, Bool, true, false, cond, eqb, ltb, bit_and, zero-add, mul_comm, mul-add, mul-one, add-mul}
+use Rattle.std.proofs.lemmas.Nat.{shr-shr, mod-pow-add, and_mask}
+use Rattle.std.specs.Simd.Lanes.{zip2, sel_l, number_l, digits_l}
+use Rattle.std.proofs.lemmas.Bool.{ltb-true}
+use Rattle.std.proofs.lemmas.List.{get_or-map}
+use Rattle.std.proofs.lemmas.Simd.{swz_l, SwzOk, SwzOk-from_below, Each1-from_get_or, length-zip2, get_or-zip2, get_or-replicate, length-replicate, get_or-swz_l_below, get_or-sel_l, tops_compared}
+use Rattle.std.proofs.lemmas.List.FromFn.{get_or-range_with_len, length-range_with_len, get_or-map-range_with_len}
+use Rattle.std.specs.List.{range_with_len}
+use Rattle.wasmi_types.specs.Wrapping.{Width, w8, bits}
+use Rattle.wasmi_lanes.specs.Lane.{lane}
+use Rattle.wasmi_lanes.specs.Vector.{with_lane}
+use Rattle.wasmi_lanes.proofs.LaneVectorLemmas.{lanes_make_vector, lane_below}
+use mir.Val.{hbits}
+use lib.Lanes.{top}
+
+-- of n lanes, an item where the number of the lane is k, else the lane as it was
+item_at : (w : Width) (n k item : ℕ) (numbers lanes : List ℕ) (i : ℕ) → numbers ≡ range_with_len 0 n → length lanes ≡ n
+    → i < n
+    → get_or (sel_l (map (top (hbits w)) (zip2 (λ a b. cond (eqb a b) (2 ^ bits w - 1) 0) numbers (replicate n k)))
+    (replicate n item) lanes) i 0
+    ≡ (if eqb i k then item else get_or lanes i 0)
+item_at w n k item numbers lanes i counted long inside =
+    let tests : List Bool = zip2 eqb numbers (replicate n k) in
+    let many : length numbers ≡ n = ap length counted ∙ length-range_with_len 0 n in
+    let tested : length tests ≡ n =
+    length-zip2 eqb numbers (replicate n k) (many ∙ sym (length-replicate n k)) ∙ many in
+    let number : get_or numbers i 0 ≡ i =
+    ap (λ xs. get_or xs i 0) counted ∙ get_or-range_with_len 0 n i 0 inside ∙ zero-add i in
+    let test : get_or tests i false ≡ eqb i k =
+    get_or-zip2 eqb numbers (replicate n k) i 0 0 false (omega arith) (omega (arith, length-replicate n k))
+    ∙ ap₂ eqb number (get_or-replicate n i k 0 inside) in
+    ap (λ ms. get_or (sel_l ms (replicate n item) lanes) i 0) (tops_compared w eqb numbers (replicate n k))
+    ∙ get_or-sel_l tests (replicate n item) lanes i 0 (omega arith) (omega (arith, length-replicate n item))
+    (omega arith)
+    ∙ ap₂ (λ t x. cond t x (get_or lanes i 0)) test (get_or-replicate n i item 0 inside)
+
+-- xs is the n lanes of v of this width
+pub record AreLanes (w : Width) (n v : ℕ) (xs : List ℕ) : Type 0 where
+  pub long : length xs ≡ n
+  pub are : (i : ℕ) → i < n → get_or xs i 0 ≡ lane w v i
+
+-- an item where the number of the lane is `at`, and the lanes of v elsewhere: v with the item in the lane at that place
+pub lane_written : (w : Width) (n v at item : ℕ) {r : ℕ} {numbers places : List ℕ} (lanes : List ℕ)
+    → n * bits w ≡ 128 → numbers ≡ range_with_len 0 n → places ≡ replicate n at → AreLanes w n v lanes
+    → ((i : ℕ) → i < n → lane w r i
+    ≡ get_or (sel_l (map (top (hbits w)) (zip2 (λ a b. cond (eqb a b) (2 ^ bits w - 1) 0) numbers places))
+    (replicate n item) lanes) i 0)
+    → r < 2 ^ 128 → r ≡ with_lane w v at item
+unfolding with_lane
+lane_written w n v at item {r} {numbers} {places} lanes filled counted placed of_v written below =
+    lanes_make_vector w n r _ filled below
+    (λ i inside.
+    written i inside
+    ∙ ap (λ ks. get_or
+    (sel_l (map (top (hbits w)) (zip2 (λ a b. cond (eqb a b) (2 ^ bits w - 1) 0) numbers ks))
+    (replicate n item) lanes) i 0) placed
+    ∙ item_at w n at item numbers lanes i counted of_v.long inside
+    ∙ ap (λ x. if eqb i at then item else x) (of_v.are i inside))
+
+-- ---- a lane of 16 or 32 bits, by its bytes
+
+-- a byte that stands at this place of a list
+pub record IsByteAt (bytes : List ℕ) (i x : ℕ) : Type 0 where
+  pub is : get_or bytes i 0 ≡ x
+  pub fits : x < 256
+
+-- a byte of a vector, picked by its index
+pub byte_picked : (v : ℕ) (bytes indices : ℕ → ℕ) (xs : List ℕ) (i k : ℕ)
+    → ((j : ℕ) → j < 16 → get_or xs j 0 ≡ bytes (indices j)) → ((j : ℕ) → j < 16 → bytes j ≡ lane w8 v j)
+    → i < 16 → k < 16 → indices i ≡ k → IsByteAt xs i (lane w8 v k)
+byte_picked v bytes indices xs i k is_picked are inside_i inside_k place = record {
+  is = is_picked i inside_i ∙ ap bytes place ∙ are k inside_k;
+  fits = lane_below w8 v k;
+}
+
+-- the lowest 8 bits of the number of bytes are the first byte
+pub first_byte : (bytes : List ℕ) (x : ℕ) → IsByteAt bytes 0 x → bit_and (number_l 256 bytes % 2 ^ 32) 255 ≡ x
+first_byte bytes x first = and_mask (number_l 256 bytes % 2 ^ 32) 8 ∙ low bytes first
+  where
+    low : (bytes : List ℕ) → IsByteAt bytes 0 x → number_l 256 bytes % 2 ^ 32 % 2 ^ 8 ≡ x
+    low [] first = omega (arith, first.is)
+    low (a ∷ rest) first = omega (arith, first.is, first.fits)
+
+-- the lowest 16 bits of the number of bytes are the first two bytes
+pub first_two_bytes : (bytes : List ℕ) (x y : ℕ) → IsByteAt bytes 0 x → IsByteAt bytes 1 y
+    → number_l 256 bytes % 65536 ≡ x + 256 * y
+first_two_bytes [] x y first second = omega (arith, first.is, second.is)
+first_two_bytes (a ∷ []) x y first second = omega (arith, first.is, first.fits, second.is)
+first_two_bytes (a ∷ b ∷ rest) x y first second = omega (arith, first.is, first.fits, second.is, second.fits)
+
+-- the lowest 32 bits of the number of bytes are the first four bytes
+pub first_four_bytes : (bytes : List ℕ) (x y z t : ℕ) → IsByteAt bytes 0 x → IsByteAt bytes 1 y → IsByteAt bytes 2 z
+    → IsByteAt bytes 3 t
+    → number_l 256 bytes % 2 ^ 32 ≡ (x + 256 * y) + 65536 * (z + 256 * t)
+first_four_bytes [] x y z t first second third fourth =
+    omega (arith, first.is, second.is, third.is, fourth.is)
+first_four_bytes (a ∷ []) x y z t first second third fourth =
+    omega (arith, first.is, first.fits, second.is, third.is, fourth.is)
+first_four_bytes (a ∷ b ∷ rest) x y z t first second third fourth =
+    let upper : number_l 256 rest % 65536 ≡ z + 256 * t =
+    first_two_bytes rest z t (record { is = third.is; fits = third.fits })
+    (record { is = fourth.is; fits = fourth.fits }) in
+    omega (arith, first.is, first.fits, second.is, second.fits, upper)
+
+-- a lane is made of its two halves
+pub joined_halves : (b v k : ℕ)
+    → v / 2 ^ (b * (2 * k)) % 2 ^ b + 2 ^ b * (v / 2 ^ (b * (2 * k + 1)) % 2 ^ b) ≡ v / 2 ^ ((b + b) * k) % 2 ^ (b + b)
+joined_halves b v k =
+    let n = v / 2 ^ ((b + b) * k) in
+    let twice : 2 * k ≡ k + k = omega arith in
+    let first : b * (2 * k) ≡ (b + b) * k = ap (λ m. b * m) twice ∙ mul-add b k k ∙ sym (add-mul b b k) in
+    let second : b * (2 * k + 1) ≡ (b + b) * k + b = omega (arith, mul-add b (2 * k) 1, mul-one b, first) in
+    let low : v / 2 ^ (b * (2 * k)) % 2 ^ b ≡ n % 2 ^ b = ap (λ m. v / 2 ^ m % 2 ^ b) first in
+    let high : v / 2 ^ (b * (2 * k + 1)) % 2 ^ b ≡ n / 2 ^ b % 2 ^ b =
+    ap (λ m. v / 2 ^ m % 2 ^ b) second ∙ ap (λ m. m % 2 ^ b) (sym (shr-shr v ((b + b) * k) b)) in
+    omega (arith, low, ap (λ m. 2 ^ b * m) high, mul_comm (2 ^ b) (n / 2 ^ b % 2 ^ b), mod-pow-add n b b)
+
+-- ---- bytes by indices below 16
+
+-- what holds of the numbers below n, as it was computed
+pub computed : {X : Type 0} (f g : ℕ → X) (n k : ℕ) (d : X) → map f (range_with_len 0 n) ≡ map g (range_with_len 0 n)
+    → k < n → f k ≡ g k
+computed f g n k d same below =
+    let place : 0 + k ≡ k = omega arith in
+    sym (get_or-map-range_with_len f 0 n k k d below place) ∙ ap (λ l. get_or l k d) same
+    ∙ get_or-map-range_with_len g 0 n k k d below place
+
+-- the bytes of a word of 32 bits and of zeros, as indices
+abbrev indices_of : ℕ → List ℕ
+indices_of x = digits_l 256 16 (number_l (2 ^ 32) (x ∷ 0 ∷ 0 ∷ 0 ∷ []))
+
+-- where each word of a table has bytes below 16
+pub indices_inside : (f : ℕ → ℕ) (n k i : ℕ)
+    → map (λ m. map (λ j. ltb j 16) (indices_of (f m))) (range_with_len 0 n)
+    ≡ map (λ _. replicate 16 true) (range_with_len 0 n) → k < n → i < 16
+    → get_or (indices_of (f k)) i 0 < 16
+indices_inside f n k i same below inside =
+    let all : map (λ j. ltb j 16) (indices_of (f k)) ≡ replicate 16 true =
+    computed (λ m. map (λ j. ltb j 16) (indices_of (f m))) (λ _. replicate 16 true) n k [] same below in
+    let long : length (indices_of (f k)) ≡ 16 = refl in
+    ltb-true (get_or (indices_of (f k)) i 0) 16
+    (sym (get_or-map (λ j. ltb j 16) (indices_of (f k)) i 0 false (omega arith)) ∙ ap (λ l. get_or l i false) all
+    ∙ get_or-replicate 16 i true false inside)
+
+module _ (js : List ℕ) (long : length js ≡ 16) (below : (i : ℕ) → i < 16 → get_or js i 0 < 16) where
+  -- a choice of std::simd among 16 bytes may be by indices below 16
+  pub indices_may_index : SwzOk w8 16 16 0 js
+  indices_may_index =
+      SwzOk-from_below w8 16 1 16 0 js refl (omega arith)
+      (Each1-from_get_or (λ j. j < 16) js 0 (λ i inside. below i (omega arith)))
+
+  -- by indices below 16, the byte of a table at the index is chosen
+  pub picked_inside_at : (table : List ℕ) (i : ℕ) → i < 16
+      → get_or (swz_l w8 16 table 0 js) i 0 ≡ get_or table (get_or js i 0) 0
+  picked_inside_at table i inside =
+      let place : 16 * ((0 + i) / 16) + get_or js i 0 ≡ get_or js i 0 = omega arith in
+      get_or-swz_l_below w8 16 table 0 js i (omega arith) (below i inside) ∙ ap (λ j. get_or table j 0) place
+
+-- a choice among 16 bytes by indices below 16: that it may be made, and what it gives
+pub ruleset choice_inside = (indices_may_index, picked_inside_at)
