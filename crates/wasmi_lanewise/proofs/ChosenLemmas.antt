@@ -4,9 +4,8 @@ use Rattle.std.specs.Simd.Lanes.{zip2, sel_l, Each1}
 use Rattle.std.proofs.lemmas.Bool.{cases_lt, lt-ltb, le-ltb}
 use Rattle.std.proofs.lemmas.Nat.{and_mask}
 use Rattle.std.proofs.lemmas.Simd.{swz_l, SwzOk, SwzOk-from_below, SwzOk-from_Each1, Each1-from_get_or, Each1-get_or, below_from_Fits, length-zip2, get_or-zip2, get_or-replicate, get_or-swz_l, get_or-swz_l_below, get_or-sel_l, length-sel_l, tops_compared}
-use Rattle.std.proofs.lemmas.List.FromFn.{get_or-map-range_with_len}
-use Rattle.std.specs.List.{range_with_len}
 use Rattle.std.proofs.Math.Nat.{mod-eq_of_lt}
+use Rattle.wasmi_lanes.proofs.VariableLaneLemmas.{computed}
 use lib.Dec.{T}
 use lib.Lanes.{top}
 
@@ -58,15 +57,10 @@ module _ (js : List ℕ) (long : length js ≡ 16) where
       ∙ get_or-sel_l tests low high i 0 (omega arith) (omega arith) (omega arith)
       ∙ ap (λ t. cond t (get_or low i 0) (get_or high i 0)) test
 
--- ---- the table at the indices below 16, else 0
+-- a choice among 16 bytes by the nibbles: that it may be made, and what it gives
+pub ruleset choice_by_nibbles = (nibbles_may_index, picked_at)
 
--- what holds of the numbers below n, as it was computed
-pub computed : {X : Type 0} (f g : ℕ → X) (n k : ℕ) (d : X) → map f (range_with_len 0 n) ≡ map g (range_with_len 0 n)
-    → k < n → f k ≡ g k
-computed f g n k d same below =
-    let place : 0 + k ≡ k = omega arith in
-    sym (get_or-map-range_with_len f 0 n k k d below place) ∙ ap (λ l. get_or l k d) same
-    ∙ get_or-map-range_with_len g 0 n k k d below place
+-- ---- the table at the indices below 16, else 0
 
 -- an index below 16 is the position, and one above becomes 128
 abbrev position : ℕ → ℕ
@@ -183,21 +177,10 @@ module _ (js : List ℕ) (long : length js ≡ 16) (fits : Each1 (Fits w8) js) w
           ap (λ t. cond (not t) 0 (get_or table (position j) 0)) (le-ltb j 16 above)
           ∙ sym (ap (λ t. if t then get_or table j 0 else 0) (le-ltb j 16 above))
 
--- ---- the table at indices below 16
+-- a choice among 16 bytes by the positions: that it may be made, and what it gives
+pub ruleset choice_or_zero = (positions_may_index, picked_or_zero_at)
 
-module _ (js : List ℕ) (long : length js ≡ 16) (below : (i : ℕ) → i < 16 → get_or js i 0 < 16) where
-  -- a choice of std::simd among 16 bytes may be by indices below 16
-  pub indices_may_index : SwzOk w8 16 16 0 js
-  indices_may_index =
-      SwzOk-from_below w8 16 1 16 0 js refl (omega arith)
-      (Each1-from_get_or (λ j. j < 16) js 0 (λ i inside. below i (omega arith)))
-
-  -- by indices below 16, the byte of a table at the index is chosen
-  pub picked_inside_at : (table : List ℕ) (i : ℕ) → i < 16
-      → get_or (swz_l w8 16 table 0 js) i 0 ≡ get_or table (get_or js i 0) 0
-  picked_inside_at table i inside =
-      let place : 16 * ((0 + i) / 16) + get_or js i 0 ≡ get_or js i 0 = omega arith in
-      get_or-swz_l_below w8 16 table 0 js i (omega arith) (below i inside) ∙ ap (λ j. get_or table j 0) place
+-- ---- choices by an index
 
 -- of the numbers f of the first 16 indices, the one at k, and another where k is above 15
 pub first_or_other : (k low high other : ℕ) (f : ℕ → ℕ) → low ≡ f (k % 16) → (16 ≤ k → high ≡ other)

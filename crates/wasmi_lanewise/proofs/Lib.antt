@@ -2,7 +2,6 @@ pub mod ChosenLemmas
 pub mod CountLemmas
 pub mod MarkLemmas
 pub mod MeanLemmas
-pub mod VariableLaneLemmas
 pub mod OrderLemmas
 pub mod RoundingLemmas
 pub mod WordLemmas

@@ -12,7 +12,6 @@ mod order;
 mod q15;
 mod shuffle;
 mod unary;
-mod variable_lane;
 mod words;
 
 pub use binary::i8x16_add;

@@ -1,11 +1,11 @@
 //! Binary instructions.
 
 ghost use Rattle.std.specs.Prelude.{◌≡◌, ◌*◌, ◌%◌, ◌^◌, ◌+ℤ◌, ◌-ℤ◌};
-ghost use Rattle.wasmi_types.specs.Wrapping.{w8, w16, w32, w64, clamp_signed};
+ghost use Rattle.wasmi_types.specs.Wrapping.{w8, w16, w32, w64};
 ghost use Rattle.wasmi_lanewise.specs.VectorTable as vector;
 
 use crate::simd::{order, q15, words};
-use wasmi_lanes::{I8x16, I16x8, I32x4, U8x16, U16x8, U32x4, on_vectors};
+use wasmi_lanes::{I8x16, I16x8, U8x16, U16x8, U32x4, clamped_i8, clamped_i16, on_vectors};
 use wasmi_raw::V128;
 
 /// The sums of the lanes, modulo 2 to the power 8.
@@ -316,15 +316,6 @@ fn difference_i8(x: i8, y: i8) -> i16
     i16::from(x) - i16::from(y)
 }
 
-// A number clamped to the signed range of 8 bits: of a sum or a difference LLVM makes a saturating
-// one, which it doesn't of `saturating_add` and `saturating_sub`.
-#[inline]
-fn clamped_i8(x: i16) -> i8
-    ensures { result ≡ clamp_signed w8 x }
-{
-    x.clamp(-128, 127) as i8
-}
-
 #[inline]
 fn sum_i16(x: i16, y: i16) -> i32
     ensures { result ≡ x +ℤ y }
@@ -337,12 +328,4 @@ fn difference_i16(x: i16, y: i16) -> i32
     ensures { result ≡ x -ℤ y }
 {
     i32::from(x) - i32::from(y)
-}
-
-// A number clamped to the signed range of 16 bits, as `clamped_i8` does at 8.
-#[inline]
-fn clamped_i16(x: i32) -> i16
-    ensures { result ≡ clamp_signed w16 x }
-{
-    x.clamp(-32768, 32767) as i16
 }

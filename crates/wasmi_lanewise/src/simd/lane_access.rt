@@ -6,14 +6,10 @@ ghost use Rattle.wasmi_lanes.specs.Lane.{lane};
 ghost use Rattle.wasmi_lanes.specs.Vector.{splat_of};
 ghost use Rattle.wasmi_lanewise.specs.VectorTable as vector;
 
-use super::variable_lane::{
-    lane_of_8, lane_of_16, lane_of_32, lane_of_64, with_lane_of_8, with_lane_of_16,
-    with_lane_of_32, with_lane_of_64,
-};
 use std::simd::prelude::*;
 use wasmi_lanes::{
-    I8x16, I16x8, I32x4, ImmLaneIdx2, ImmLaneIdx4, ImmLaneIdx8, ImmLaneIdx16, SimdLane, from_bytes,
-    on_vectors,
+    I8x16, I16x8, I32x4, ImmLaneIdx2, ImmLaneIdx4, ImmLaneIdx8, ImmLaneIdx16, SimdLane,
+    VariableLane, from_bytes, on_vectors,
 };
 use wasmi_raw::V128;
 
@@ -71,7 +67,7 @@ fn lower_half_twice(v: V128) -> u32x4
 pub fn i8x16_extract_lane_s(v: V128, lane: ImmLaneIdx16) -> i32
     ensures { result ≡ vector.extract_lane_s w8 v lane }
 {
-    i32::from(lane_of_8(v, lane).cast_signed())
+    i32::from(u8::lane_at(v, lane).cast_signed())
 }
 
 /// One lane, read unsigned.
@@ -79,7 +75,7 @@ pub fn i8x16_extract_lane_s(v: V128, lane: ImmLaneIdx16) -> i32
 pub fn i8x16_extract_lane_u(v: V128, lane: ImmLaneIdx16) -> u32
     ensures { result ≡ vector.extract_lane_u w8 v lane }
 {
-    u32::from(lane_of_8(v, lane))
+    u32::from(u8::lane_at(v, lane))
 }
 
 /// One lane, read signed.
@@ -87,7 +83,7 @@ pub fn i8x16_extract_lane_u(v: V128, lane: ImmLaneIdx16) -> u32
 pub fn i16x8_extract_lane_s(v: V128, lane: ImmLaneIdx8) -> i32
     ensures { result ≡ vector.extract_lane_s w16 v lane }
 {
-    i32::from(lane_of_16(v, lane).cast_signed())
+    i32::from(u16::lane_at(v, lane).cast_signed())
 }
 
 /// One lane, read unsigned.
@@ -95,7 +91,7 @@ pub fn i16x8_extract_lane_s(v: V128, lane: ImmLaneIdx8) -> i32
 pub fn i16x8_extract_lane_u(v: V128, lane: ImmLaneIdx8) -> u32
     ensures { result ≡ vector.extract_lane_u w16 v lane }
 {
-    u32::from(lane_of_16(v, lane))
+    u32::from(u16::lane_at(v, lane))
 }
 
 /// One lane, read signed.
@@ -103,7 +99,7 @@ pub fn i16x8_extract_lane_u(v: V128, lane: ImmLaneIdx8) -> u32
 pub fn i32x4_extract_lane(v: V128, lane: ImmLaneIdx4) -> i32
     ensures { result ≡ vector.extract_lane_s w32 v lane }
 {
-    lane_of_32(v, lane).cast_signed()
+    u32::lane_at(v, lane).cast_signed()
 }
 
 /// One lane, read signed.
@@ -111,7 +107,7 @@ pub fn i32x4_extract_lane(v: V128, lane: ImmLaneIdx4) -> i32
 pub fn i64x2_extract_lane(v: V128, lane: ImmLaneIdx2) -> i64
     ensures { result ≡ vector.extract_lane_s w64 v lane }
 {
-    lane_of_64(v, lane).cast_signed()
+    u64::lane_at(v, lane).cast_signed()
 }
 
 /// `v` with the item in one lane.
@@ -119,7 +115,7 @@ pub fn i64x2_extract_lane(v: V128, lane: ImmLaneIdx2) -> i64
 pub fn i8x16_replace_lane(v: V128, lane: ImmLaneIdx16, item: i8) -> V128
     ensures { result ≡ vector.replace_lane w8 v lane item }
 {
-    with_lane_of_8(v, lane, item.cast_unsigned())
+    u8::with_lane(v, lane, item.cast_unsigned())
 }
 
 /// `v` with the item in one lane.
@@ -127,7 +123,7 @@ pub fn i8x16_replace_lane(v: V128, lane: ImmLaneIdx16, item: i8) -> V128
 pub fn i16x8_replace_lane(v: V128, lane: ImmLaneIdx8, item: i16) -> V128
     ensures { result ≡ vector.replace_lane w16 v lane item }
 {
-    with_lane_of_16(v, lane, item.cast_unsigned())
+    u16::with_lane(v, lane, item.cast_unsigned())
 }
 
 /// `v` with the item in one lane.
@@ -135,7 +131,7 @@ pub fn i16x8_replace_lane(v: V128, lane: ImmLaneIdx8, item: i16) -> V128
 pub fn i32x4_replace_lane(v: V128, lane: ImmLaneIdx4, item: i32) -> V128
     ensures { result ≡ vector.replace_lane w32 v lane item }
 {
-    with_lane_of_32(v, lane, item.cast_unsigned())
+    u32::with_lane(v, lane, item.cast_unsigned())
 }
 
 /// `v` with the item in one lane.
@@ -143,5 +139,5 @@ pub fn i32x4_replace_lane(v: V128, lane: ImmLaneIdx4, item: i32) -> V128
 pub fn i64x2_replace_lane(v: V128, lane: ImmLaneIdx2, item: i64) -> V128
     ensures { result ≡ vector.replace_lane w64 v lane item }
 {
-    with_lane_of_64(v, lane, item.cast_unsigned())
+    u64::with_lane(v, lane, item.cast_unsigned())
 }

@@ -24,6 +24,7 @@ pub(super) fn rounded_products(a: V128, b: V128) -> V128
 }
 
 // The lanes, read signed, at twice their width.
+#[tactic(auto, using(crate::proofs::RoundingLemmas::extended_at))]
 #[inline(always)]
 fn sign_copied(items: u16x8) -> u32x8
     ensures lanes { (i : ℕ) → i < 8

@@ -29,6 +29,7 @@ pub fn i8x16_swizzle(a: V128, s: V128) -> V128
 // The lanes of `table` at the indices, and 0 where an index is above 15: such an index becomes 128,
 // at which the processor's instruction gives 0. LLVM leaves the last mask out, since that
 // instruction reads no other bits.
+#[tactic(auto, using(crate::proofs::ChosenLemmas::choice_or_zero))]
 #[inline(always)]
 fn picked_or_zero(table: u8x16, indices: u8x16) -> u8x16
     ensures lanes { (i : ℕ) → i < 16 → slice_index result i
@@ -39,9 +40,10 @@ fn picked_or_zero(table: u8x16, indices: u8x16) -> u8x16
     table.swizzle_dyn_within::<16>(biased & u8x16::splat(0x8f))
 }
 
-/// The lanes of `table` at the low four bits of the indices.
+// The lanes of `table` at the low four bits of the indices.
+#[tactic(auto, using(crate::proofs::ChosenLemmas::choice_by_nibbles))]
 #[inline(always)]
-pub(super) fn picked(table: u8x16, indices: u8x16) -> u8x16
+fn picked(table: u8x16, indices: u8x16) -> u8x16
     ensures lanes { (i : ℕ) → i < 16
         → slice_index result i ≡ slice_index table (slice_index indices i % 16) }
 {
@@ -49,6 +51,7 @@ pub(super) fn picked(table: u8x16, indices: u8x16) -> u8x16
 }
 
 // The lanes of `low` where the index is below 16, else those of `high`.
+#[tactic(auto, using(crate::proofs::ChosenLemmas::chosen_at))]
 #[inline(always)]
 fn low_or_high(indices: u8x16, low: u8x16, high: u8x16) -> u8x16
     ensures lanes { (i : ℕ) → i < 16 → slice_index result i
