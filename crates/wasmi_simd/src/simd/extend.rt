@@ -6,11 +6,11 @@ ghost use Rattle.wasmi_lanes.specs.Lane.{lane};
 ghost use Rattle.wasmi_simd.specs.WideningTable as vector;
 
 use super::halves::{
-    high_bytes, high_bytes_signed, high_i16x8, high_i32x4, high_u16x8, high_u32x4, low_bytes,
-    low_bytes_signed, low_i16x8, low_i32x4, low_u16x8, low_u32x4,
+    high_i8x16, high_i16x8, high_i32x4, high_u8x16, high_u16x8, high_u32x4, low_i8x16, low_i16x8,
+    low_i32x4, low_u8x16, low_u16x8, low_u32x4,
 };
-use super::vectors::{from_halves, from_u16x8, from_u32x4, u32x4_of};
 use std::simd::prelude::*;
+use wasmi_lanes::SimdLane;
 use wasmi_raw::V128;
 
 /// The lanes of the lower half, read signed.
@@ -18,7 +18,7 @@ use wasmi_raw::V128;
 pub fn i16x8_extend_low_i8x16_s(v: V128) -> V128
     ensures { result ≡ vector.extend_low_s w8 w16 v }
 {
-    from_u16x8(low_bytes_signed(v))
+    u16::vector_of(low_i8x16(v))
 }
 
 /// The lanes of the lower half, read unsigned.
@@ -26,7 +26,7 @@ pub fn i16x8_extend_low_i8x16_s(v: V128) -> V128
 pub fn i16x8_extend_low_i8x16_u(v: V128) -> V128
     ensures { result ≡ vector.extend_low_u w8 w16 v }
 {
-    from_u16x8(low_bytes(v))
+    u16::vector_of(low_u8x16(v))
 }
 
 /// The lanes of the upper half, read signed.
@@ -34,7 +34,7 @@ pub fn i16x8_extend_low_i8x16_u(v: V128) -> V128
 pub fn i16x8_extend_high_i8x16_s(v: V128) -> V128
     ensures { result ≡ vector.extend_high_s w8 w16 v }
 {
-    from_u16x8(high_bytes_signed(v))
+    u16::vector_of(high_i8x16(v))
 }
 
 /// The lanes of the upper half, read unsigned.
@@ -42,7 +42,7 @@ pub fn i16x8_extend_high_i8x16_s(v: V128) -> V128
 pub fn i16x8_extend_high_i8x16_u(v: V128) -> V128
     ensures { result ≡ vector.extend_high_u w8 w16 v }
 {
-    from_u16x8(high_bytes(v))
+    u16::vector_of(high_u8x16(v))
 }
 
 /// The lanes of the lower half, read signed.
@@ -50,7 +50,7 @@ pub fn i16x8_extend_high_i8x16_u(v: V128) -> V128
 pub fn i32x4_extend_low_i16x8_s(v: V128) -> V128
     ensures { result ≡ vector.extend_low_s w16 w32 v }
 {
-    from_u32x4(low_i16x8(v))
+    u32::vector_of(low_i16x8(v))
 }
 
 /// The lanes of the lower half, read unsigned.
@@ -58,7 +58,7 @@ pub fn i32x4_extend_low_i16x8_s(v: V128) -> V128
 pub fn i32x4_extend_low_i16x8_u(v: V128) -> V128
     ensures { result ≡ vector.extend_low_u w16 w32 v }
 {
-    from_u32x4(low_u16x8(v))
+    u32::vector_of(low_u16x8(v))
 }
 
 /// The lanes of the upper half, read signed.
@@ -66,7 +66,7 @@ pub fn i32x4_extend_low_i16x8_u(v: V128) -> V128
 pub fn i32x4_extend_high_i16x8_s(v: V128) -> V128
     ensures { result ≡ vector.extend_high_s w16 w32 v }
 {
-    from_u32x4(high_i16x8(v))
+    u32::vector_of(high_i16x8(v))
 }
 
 /// The lanes of the upper half, read unsigned.
@@ -74,7 +74,7 @@ pub fn i32x4_extend_high_i16x8_s(v: V128) -> V128
 pub fn i32x4_extend_high_i16x8_u(v: V128) -> V128
     ensures { result ≡ vector.extend_high_u w16 w32 v }
 {
-    from_u32x4(high_u16x8(v))
+    u32::vector_of(high_u16x8(v))
 }
 
 /// The lanes of the lower half, read signed.
@@ -82,7 +82,7 @@ pub fn i32x4_extend_high_i16x8_u(v: V128) -> V128
 pub fn i64x2_extend_low_i32x4_s(v: V128) -> V128
     ensures { result ≡ vector.extend_low_s w32 w64 v }
 {
-    from_halves(low_i32x4(v))
+    u64::vector_of(low_i32x4(v))
 }
 
 /// The lanes of the lower half, read unsigned.
@@ -90,7 +90,7 @@ pub fn i64x2_extend_low_i32x4_s(v: V128) -> V128
 pub fn i64x2_extend_low_i32x4_u(v: V128) -> V128
     ensures { result ≡ vector.extend_low_u w32 w64 v }
 {
-    from_halves(low_u32x4(v))
+    u64::vector_of(low_u32x4(v))
 }
 
 /// The lanes of the upper half, read signed.
@@ -98,7 +98,7 @@ pub fn i64x2_extend_low_i32x4_u(v: V128) -> V128
 pub fn i64x2_extend_high_i32x4_s(v: V128) -> V128
     ensures { result ≡ vector.extend_high_s w32 w64 v }
 {
-    from_halves(high_i32x4(v))
+    u64::vector_of(high_i32x4(v))
 }
 
 /// The lanes of the upper half, read unsigned.
@@ -106,7 +106,7 @@ pub fn i64x2_extend_high_i32x4_s(v: V128) -> V128
 pub fn i64x2_extend_high_i32x4_u(v: V128) -> V128
     ensures { result ≡ vector.extend_high_u w32 w64 v }
 {
-    from_halves(high_u32x4(v))
+    u64::vector_of(high_u32x4(v))
 }
 
 /// The 8 lanes of 8 bits of a number, read signed, lane 0 the lowest.
@@ -186,7 +186,7 @@ pub fn v128_low32_zero(number: u32) -> V128
 pub fn v128_low64_zero(number: u64) -> V128
     ensures { result ≡ vector.low_zero w64 number }
 {
-    from_u32x4(lower_half_alone(V128::from_word_pair(number, 0)))
+    u32::vector_of(lower_half_alone(V128::from_word_pair(number, 0)))
 }
 
 // The lanes of 32 bits of the lower half, and zeros behind them: of two words LLVM makes two
@@ -195,5 +195,5 @@ pub fn v128_low64_zero(number: u64) -> V128
 fn lower_half_alone(v: V128) -> u32x4
     ensures { result ≡ lane w32 v 0 ∷ lane w32 v 1 ∷ 0 ∷ 0 ∷ [] }
 {
-    u32x4_of(v).shuffle(u32x4::splat(0), [0, 1, 4, 5])
+    u32::lanes_of(v).shuffle(u32x4::splat(0), [0, 1, 4, 5])
 }

@@ -5,12 +5,11 @@ ghost use Rattle.wasmi_types.specs.Wrapping.{w8, w16, w32, w64};
 ghost use Rattle.wasmi_simd.specs.WideningTable as vector;
 
 use super::halves::{
-    high_bytes, high_bytes_signed, high_i16x8, high_i32x4, high_u16x8, high_u32x4, low_bytes,
-    low_bytes_signed, low_i16x8, low_i32x4, low_u16x8, low_u32x4,
+    high_i8x16, high_i16x8, high_i32x4, high_u8x16, high_u16x8, high_u32x4, low_i8x16, low_i16x8,
+    low_i32x4, low_u8x16, low_u16x8, low_u32x4,
 };
-use super::vectors::{
-    from_halves, from_u16x8, from_u32x4, product_of_halves, product_of_u16x8, product_of_u32x4,
-};
+use super::vectors::{product_of_u16x8, product_of_u32x4, product_of_u64x2};
+use wasmi_lanes::SimdLane;
 use wasmi_raw::V128;
 
 /// The products of the lanes of the lower halves, read signed.
@@ -18,7 +17,7 @@ use wasmi_raw::V128;
 pub fn i16x8_extmul_low_i8x16_s(lhs: V128, rhs: V128) -> V128
     ensures { result ≡ vector.extmul_low_s w8 w16 lhs rhs }
 {
-    from_u16x8(product_of_u16x8(low_bytes_signed(lhs), low_bytes_signed(rhs)))
+    u16::vector_of(product_of_u16x8(low_i8x16(lhs), low_i8x16(rhs)))
 }
 
 /// The products of the lanes of the lower halves, read unsigned.
@@ -26,7 +25,7 @@ pub fn i16x8_extmul_low_i8x16_s(lhs: V128, rhs: V128) -> V128
 pub fn i16x8_extmul_low_i8x16_u(lhs: V128, rhs: V128) -> V128
     ensures { result ≡ vector.extmul_low_u w8 w16 lhs rhs }
 {
-    from_u16x8(product_of_u16x8(low_bytes(lhs), low_bytes(rhs)))
+    u16::vector_of(product_of_u16x8(low_u8x16(lhs), low_u8x16(rhs)))
 }
 
 /// The products of the lanes of the upper halves, read signed.
@@ -34,7 +33,7 @@ pub fn i16x8_extmul_low_i8x16_u(lhs: V128, rhs: V128) -> V128
 pub fn i16x8_extmul_high_i8x16_s(lhs: V128, rhs: V128) -> V128
     ensures { result ≡ vector.extmul_high_s w8 w16 lhs rhs }
 {
-    from_u16x8(product_of_u16x8(high_bytes_signed(lhs), high_bytes_signed(rhs)))
+    u16::vector_of(product_of_u16x8(high_i8x16(lhs), high_i8x16(rhs)))
 }
 
 /// The products of the lanes of the upper halves, read unsigned.
@@ -42,7 +41,7 @@ pub fn i16x8_extmul_high_i8x16_s(lhs: V128, rhs: V128) -> V128
 pub fn i16x8_extmul_high_i8x16_u(lhs: V128, rhs: V128) -> V128
     ensures { result ≡ vector.extmul_high_u w8 w16 lhs rhs }
 {
-    from_u16x8(product_of_u16x8(high_bytes(lhs), high_bytes(rhs)))
+    u16::vector_of(product_of_u16x8(high_u8x16(lhs), high_u8x16(rhs)))
 }
 
 /// The products of the lanes of the lower halves, read signed.
@@ -50,7 +49,7 @@ pub fn i16x8_extmul_high_i8x16_u(lhs: V128, rhs: V128) -> V128
 pub fn i32x4_extmul_low_i16x8_s(lhs: V128, rhs: V128) -> V128
     ensures { result ≡ vector.extmul_low_s w16 w32 lhs rhs }
 {
-    from_u32x4(product_of_u32x4(low_i16x8(lhs), low_i16x8(rhs)))
+    u32::vector_of(product_of_u32x4(low_i16x8(lhs), low_i16x8(rhs)))
 }
 
 /// The products of the lanes of the lower halves, read unsigned.
@@ -58,7 +57,7 @@ pub fn i32x4_extmul_low_i16x8_s(lhs: V128, rhs: V128) -> V128
 pub fn i32x4_extmul_low_i16x8_u(lhs: V128, rhs: V128) -> V128
     ensures { result ≡ vector.extmul_low_u w16 w32 lhs rhs }
 {
-    from_u32x4(product_of_u32x4(low_u16x8(lhs), low_u16x8(rhs)))
+    u32::vector_of(product_of_u32x4(low_u16x8(lhs), low_u16x8(rhs)))
 }
 
 /// The products of the lanes of the upper halves, read signed.
@@ -66,7 +65,7 @@ pub fn i32x4_extmul_low_i16x8_u(lhs: V128, rhs: V128) -> V128
 pub fn i32x4_extmul_high_i16x8_s(lhs: V128, rhs: V128) -> V128
     ensures { result ≡ vector.extmul_high_s w16 w32 lhs rhs }
 {
-    from_u32x4(product_of_u32x4(high_i16x8(lhs), high_i16x8(rhs)))
+    u32::vector_of(product_of_u32x4(high_i16x8(lhs), high_i16x8(rhs)))
 }
 
 /// The products of the lanes of the upper halves, read unsigned.
@@ -74,7 +73,7 @@ pub fn i32x4_extmul_high_i16x8_s(lhs: V128, rhs: V128) -> V128
 pub fn i32x4_extmul_high_i16x8_u(lhs: V128, rhs: V128) -> V128
     ensures { result ≡ vector.extmul_high_u w16 w32 lhs rhs }
 {
-    from_u32x4(product_of_u32x4(high_u16x8(lhs), high_u16x8(rhs)))
+    u32::vector_of(product_of_u32x4(high_u16x8(lhs), high_u16x8(rhs)))
 }
 
 /// The products of the lanes of the lower halves, read signed.
@@ -82,7 +81,7 @@ pub fn i32x4_extmul_high_i16x8_u(lhs: V128, rhs: V128) -> V128
 pub fn i64x2_extmul_low_i32x4_s(lhs: V128, rhs: V128) -> V128
     ensures { result ≡ vector.extmul_low_s w32 w64 lhs rhs }
 {
-    from_halves(product_of_halves(low_i32x4(lhs), low_i32x4(rhs)))
+    u64::vector_of(product_of_u64x2(low_i32x4(lhs), low_i32x4(rhs)))
 }
 
 /// The products of the lanes of the lower halves, read unsigned.
@@ -90,7 +89,7 @@ pub fn i64x2_extmul_low_i32x4_s(lhs: V128, rhs: V128) -> V128
 pub fn i64x2_extmul_low_i32x4_u(lhs: V128, rhs: V128) -> V128
     ensures { result ≡ vector.extmul_low_u w32 w64 lhs rhs }
 {
-    from_halves(product_of_halves(low_u32x4(lhs), low_u32x4(rhs)))
+    u64::vector_of(product_of_u64x2(low_u32x4(lhs), low_u32x4(rhs)))
 }
 
 /// The products of the lanes of the upper halves, read signed.
@@ -98,7 +97,7 @@ pub fn i64x2_extmul_low_i32x4_u(lhs: V128, rhs: V128) -> V128
 pub fn i64x2_extmul_high_i32x4_s(lhs: V128, rhs: V128) -> V128
     ensures { result ≡ vector.extmul_high_s w32 w64 lhs rhs }
 {
-    from_halves(product_of_halves(high_i32x4(lhs), high_i32x4(rhs)))
+    u64::vector_of(product_of_u64x2(high_i32x4(lhs), high_i32x4(rhs)))
 }
 
 /// The products of the lanes of the upper halves, read unsigned.
@@ -106,5 +105,5 @@ pub fn i64x2_extmul_high_i32x4_s(lhs: V128, rhs: V128) -> V128
 pub fn i64x2_extmul_high_i32x4_u(lhs: V128, rhs: V128) -> V128
     ensures { result ≡ vector.extmul_high_u w32 w64 lhs rhs }
 {
-    from_halves(product_of_halves(high_u32x4(lhs), high_u32x4(rhs)))
+    u64::vector_of(product_of_u64x2(high_u32x4(lhs), high_u32x4(rhs)))
 }

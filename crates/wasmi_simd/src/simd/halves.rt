@@ -6,14 +6,14 @@ ghost use Rattle.std.specs.Int.{cast_unsigned};
 ghost use Rattle.wasmi_types.specs.Wrapping.{w8, w16, w32, w64, signed};
 ghost use Rattle.wasmi_lanes.specs.Lane.{lane};
 
-use super::vectors::{i16x8_of, i32x4_of, u16x8_of, u32x4_of};
+use super::vectors::{i16x8_of, i32x4_of};
 use std::simd::prelude::*;
-use wasmi_lanes::bytes_of;
+use wasmi_lanes::{SimdLane, bytes_of};
 use wasmi_raw::V128;
 
 /// The lower 8 lanes of 8 bits.
 #[inline(always)]
-pub(super) fn low_bytes(v: V128) -> u16x8
+pub(super) fn low_u8x16(v: V128) -> u16x8
     ensures lanes { (i : ℕ) → i < 8 → slice_index result i ≡ lane w8 v i }
 {
     bytes_of(v).extract::<0, 8>().cast::<u16>()
@@ -21,7 +21,7 @@ pub(super) fn low_bytes(v: V128) -> u16x8
 
 /// The upper 8 lanes of 8 bits.
 #[inline(always)]
-pub(super) fn high_bytes(v: V128) -> u16x8
+pub(super) fn high_u8x16(v: V128) -> u16x8
     ensures lanes { (i : ℕ) → i < 8 → slice_index result i ≡ lane w8 v (8 + i) }
 {
     bytes_of(v).extract::<8, 8>().cast::<u16>()
@@ -29,23 +29,24 @@ pub(super) fn high_bytes(v: V128) -> u16x8
 
 /// The lower 8 lanes of 8 bits, the sign copied.
 #[inline(always)]
-pub(super) fn low_bytes_signed(v: V128) -> u16x8
+pub(super) fn low_i8x16(v: V128) -> u16x8
     ensures lanes { (i : ℕ) → i < 8
         → slice_index result i ≡ cast_unsigned w16 (signed w8 (lane w8 v i)) }
 {
-    sign_copied(low_bytes(v))
+    sign_copied(low_u8x16(v))
 }
 
 /// The upper 8 lanes of 8 bits, the sign copied.
 #[inline(always)]
-pub(super) fn high_bytes_signed(v: V128) -> u16x8
+pub(super) fn high_i8x16(v: V128) -> u16x8
     ensures lanes { (i : ℕ) → i < 8
         → slice_index result i ≡ cast_unsigned w16 (signed w8 (lane w8 v (8 + i))) }
 {
-    sign_copied(high_bytes(v))
+    sign_copied(high_u8x16(v))
 }
 
 // Numbers of 8 bits, the sign copied to 16: their highest bit is flipped, and taken off again.
+#[tactic(auto, using(crate::proofs::HalfLemmas::sign_copied_at))]
 #[inline(always)]
 fn sign_copied(bytes: u16x8) -> u16x8
     ensures lanes { (i x : ℕ) → i < 8 → slice_index bytes i ≡ x → x < 2 ^ 8
@@ -60,7 +61,7 @@ fn sign_copied(bytes: u16x8) -> u16x8
 pub(super) fn low_u16x8(v: V128) -> u32x4
     ensures lanes { (i : ℕ) → i < 4 → slice_index result i ≡ lane w16 v i }
 {
-    u16x8_of(v).extract::<0, 4>().cast::<u32>()
+    u16::lanes_of(v).extract::<0, 4>().cast::<u32>()
 }
 
 /// The upper 4 lanes of 16 bits.
@@ -68,7 +69,7 @@ pub(super) fn low_u16x8(v: V128) -> u32x4
 pub(super) fn high_u16x8(v: V128) -> u32x4
     ensures lanes { (i : ℕ) → i < 4 → slice_index result i ≡ lane w16 v (4 + i) }
 {
-    u16x8_of(v).extract::<4, 4>().cast::<u32>()
+    u16::lanes_of(v).extract::<4, 4>().cast::<u32>()
 }
 
 /// The lower 4 lanes of 16 bits, the sign copied.
@@ -98,7 +99,7 @@ pub(super) fn high_i16x8(v: V128) -> u32x4
 pub(super) fn low_u32x4(v: V128) -> u64x2
     ensures lanes { (i : ℕ) → i < 2 → slice_index result i ≡ lane w32 v i }
 {
-    let items = u32x4_of(v).shuffle(u32x4::splat(0), [0, 4, 1, 5]);
+    let items = u32::lanes_of(v).shuffle(u32x4::splat(0), [0, 4, 1, 5]);
     u64x2::from_le_bytes(items.to_le_bytes())
 }
 
@@ -107,7 +108,7 @@ pub(super) fn low_u32x4(v: V128) -> u64x2
 pub(super) fn high_u32x4(v: V128) -> u64x2
     ensures lanes { (i : ℕ) → i < 2 → slice_index result i ≡ lane w32 v (2 + i) }
 {
-    let items = u32x4_of(v).shuffle(u32x4::splat(0), [2, 4, 3, 5]);
+    let items = u32::lanes_of(v).shuffle(u32x4::splat(0), [2, 4, 3, 5]);
     u64x2::from_le_bytes(items.to_le_bytes())
 }
 

@@ -2,11 +2,11 @@
 
 ghost use Rattle.std.specs.Prelude.{◌≡◌};
 ghost use Rattle.std.specs.Int.{cast_unsigned};
-ghost use Rattle.wasmi_types.specs.Wrapping.{w8, w16, w32, clamp_signed, clamp_unsigned};
+ghost use Rattle.wasmi_types.specs.Wrapping.{w8, w16, w32, clamp_unsigned};
 ghost use Rattle.wasmi_simd.specs.WideningTable as vector;
 
 use crate::widening::from_low_high;
-use wasmi_lanes::{I8x16, I16x8, I32x4};
+use wasmi_lanes::{I8x16, I16x8, I32x4, clamped_i8, clamped_i16};
 use wasmi_raw::V128;
 
 /// The lanes of `low`, then those of `high`, read signed and clamped to the signed range of 8 bits.
@@ -14,7 +14,7 @@ use wasmi_raw::V128;
 pub fn i8x16_narrow_i16x8_s(low: V128, high: V128) -> V128
     ensures { result ≡ vector.narrow_s w16 w8 low high }
 {
-    from_low_high::<I16x8, I8x16, _>(low, high, clamped_i8)
+    from_low_high::<I16x8, I8x16, _>(low, high, |x| clamped_i8(x))
 }
 
 /// The lanes of `low`, then those of `high`, read signed and clamped to the unsigned range of 8
@@ -32,7 +32,7 @@ pub fn i8x16_narrow_i16x8_u(low: V128, high: V128) -> V128
 pub fn i16x8_narrow_i32x4_s(low: V128, high: V128) -> V128
     ensures { result ≡ vector.narrow_s w32 w16 low high }
 {
-    from_low_high::<I32x4, I16x8, _>(low, high, clamped_i16)
+    from_low_high::<I32x4, I16x8, _>(low, high, |x| clamped_i16(x))
 }
 
 /// The lanes of `low`, then those of `high`, read signed and clamped to the unsigned range of 16
@@ -44,25 +44,11 @@ pub fn i16x8_narrow_i32x4_u(low: V128, high: V128) -> V128
     from_low_high::<I32x4, I16x8, _>(low, high, clamped_u16)
 }
 
-// The number clamped to the signed range of 8 bits.
-fn clamped_i8(x: i16) -> i8
-    ensures { result ≡ clamp_signed w8 x }
-{
-    x.clamp(-128, 127) as i8
-}
-
 // The item of a lane that holds the number, clamped to the unsigned range of 8 bits.
 fn clamped_u8(x: i16) -> i8
     ensures { cast_unsigned w8 result ≡ clamp_unsigned w8 x }
 {
     (x.clamp(0, 255) as u8).cast_signed()
-}
-
-// The number clamped to the signed range of 16 bits.
-fn clamped_i16(x: i32) -> i16
-    ensures { result ≡ clamp_signed w16 x }
-{
-    x.clamp(-32768, 32767) as i16
 }
 
 // The item of a lane that holds the number, clamped to the unsigned range of 16 bits.

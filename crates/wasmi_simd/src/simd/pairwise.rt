@@ -5,8 +5,7 @@ ghost use Rattle.wasmi_types.specs.Wrapping.{w8, w16, w32};
 ghost use Rattle.wasmi_simd.specs.WideningTable as vector;
 
 use super::even_odd::{
-    even_bytes, even_bytes_signed, even_i16x8, even_u16x8, odd_bytes, odd_bytes_signed, odd_i16x8,
-    odd_u16x8,
+    even_i8x16, even_i16x8, even_u8x16, even_u16x8, odd_i8x16, odd_i16x8, odd_u8x16, odd_u16x8,
 };
 use super::vectors::{product_of_u16x8, product_of_u32x4, sums_of_u16x8, sums_of_u32x4};
 use wasmi_raw::V128;
@@ -16,7 +15,7 @@ use wasmi_raw::V128;
 pub fn i16x8_extadd_pairwise_i8x16_s(v: V128) -> V128
     ensures { result ≡ vector.extadd_pairwise_s w8 w16 v }
 {
-    sums_of_u16x8(even_bytes_signed(v), odd_bytes_signed(v))
+    sums_of_u16x8(even_i8x16(v), odd_i8x16(v))
 }
 
 /// The sums of neighbouring lanes, read unsigned.
@@ -24,7 +23,7 @@ pub fn i16x8_extadd_pairwise_i8x16_s(v: V128) -> V128
 pub fn i16x8_extadd_pairwise_i8x16_u(v: V128) -> V128
     ensures { result ≡ vector.extadd_pairwise_u w8 w16 v }
 {
-    sums_of_u16x8(even_bytes(v), odd_bytes(v))
+    sums_of_u16x8(even_u8x16(v), odd_u8x16(v))
 }
 
 /// The sums of neighbouring lanes, read signed.
@@ -58,7 +57,7 @@ pub fn i32x4_dot_i16x8_s(lhs: V128, rhs: V128) -> V128
 pub fn i16x8_relaxed_dot_i8x16_i7x16_s(lhs: V128, rhs: V128) -> V128
     ensures { result ≡ vector.relaxed_dot_s lhs rhs }
 {
-    let evens = product_of_u16x8(even_bytes_signed(lhs), even_bytes_signed(rhs));
-    let odds = product_of_u16x8(odd_bytes_signed(lhs), odd_bytes_signed(rhs));
+    let evens = product_of_u16x8(even_i8x16(lhs), even_i8x16(rhs));
+    let odds = product_of_u16x8(odd_i8x16(lhs), odd_i8x16(rhs));
     sums_of_u16x8(evens, odds)
 }

@@ -65,7 +65,7 @@ pub fn i16x8_bitmask(v: V128) -> u32
 {
     let (low, high) = v.words();
     // The product brings each bit to its place in the highest byte.
-    let both = ((low & TOPS_OF_16) >> 4) + (high & TOPS_OF_16);
+    let both = ((low & u16::TOPS) >> 4) + (high & u16::TOPS);
     (both.wrapping_mul(0x0000_2000_4000_8001) >> 56) as u32
 }
 
@@ -76,7 +76,7 @@ pub fn i32x4_bitmask(v: V128) -> u32
 {
     let (low, high) = v.words();
     // Bits 0 and 2 have the lanes 0 and 2, bits 32 and 34 the lanes 1 and 3.
-    let both = ((low & TOPS_OF_32) >> 31) + ((high & TOPS_OF_32) >> 29);
+    let both = ((low & u32::TOPS) >> 31) + ((high & u32::TOPS) >> 29);
     ((both + (both >> 31)) & 0xf) as u32
 }
 
@@ -114,18 +114,13 @@ fn no_zero_in_word<T: WordLane>(word: u64) -> bool
 fn tops_of_8(word: u64) -> u32
     ensures { result ≡ first_bits 8 (λ i. nat_le (2 ^ 7) (field (8 * i) 8 word)) }
 {
-    ((word & TOPS_OF_8).wrapping_mul(0x0002_0408_1020_4081) >> 56) as u32
+    ((word & u8::TOPS).wrapping_mul(0x0002_0408_1020_4081) >> 56) as u32
 }
 
+#[tactic(auto, using(crate::proofs::GatherLemmas::one_top))]
 #[inline(always)]
 fn tops_of_64(word: u64) -> u32
     ensures { result ≡ first_bits 1 (λ i. nat_le (2 ^ 63) (field (64 * i) 64 word)) }
 {
     (word >> 63) as u32
 }
-
-const TOPS_OF_8: u64 = 0x8080_8080_8080_8080;
-
-const TOPS_OF_16: u64 = 0x8000_8000_8000_8000;
-
-const TOPS_OF_32: u64 = 0x8000_0000_8000_0000;

@@ -32,7 +32,7 @@ pub fn i8x16_shr_s(v: V128, amount: u32) -> V128
     // What the lanes were moved by is a multiple of what they are divided by.
     let biased = u8::vector_of(u8::biased(u8::lanes_of(v)));
     let shifted = i8x16_shr_u(biased, amount);
-    from_bytes(difference_of_bytes(
+    from_bytes(difference_of_u8x16(
         bytes_of(shifted),
         bytes_of(half_shifted(u64::from(amount % 8))),
     ))
@@ -138,7 +138,7 @@ fn shifted_right<T: NarrowLane>(v: V128, amount: u32) -> V128
 
 /// The differences of lanes of 8 bits, modulo 2 to the power 8.
 #[inline(always)]
-fn difference_of_bytes(a: u8x16, b: u8x16) -> u8x16
+fn difference_of_u8x16(a: u8x16, b: u8x16) -> u8x16
     ensures lanes { (i : ℕ) → i < 16
         → slice_index result i ≡ (slice_index a i + (2 ^ 8 - slice_index b i)) % 2 ^ 8 }
 {
@@ -146,6 +146,7 @@ fn difference_of_bytes(a: u8x16, b: u8x16) -> u8x16
 }
 
 /// Half of the range of 8 bits in each lane, shifted to the right.
+#[tactic(auto, using(crate::proofs::ShiftLemmas::half_at))]
 #[inline(always)]
 fn half_shifted(amount: u64) -> V128
     requires amount { amount < 8 }

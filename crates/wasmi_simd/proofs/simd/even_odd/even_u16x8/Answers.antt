@@ -5,4 +5,4 @@ use Rattle.wasmi_simd.proofs.simd.even_odd.even_u16x8.Goals as goal
 
 pub returns : goal.returns
 returns c = record
-    { lanes = even_at u16x8_widened c.args.v c.u32x4_of.result (search rules) c.u32x4_of.ensures.lanes }
+    { lanes = even_at u16x8_widened c.args.v c.lanes_of.result (search rules) c.lanes_of.ensures.lanes }

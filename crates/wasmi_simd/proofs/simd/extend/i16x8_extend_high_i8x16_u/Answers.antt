@@ -5,5 +5,5 @@ use Rattle.wasmi_simd.proofs.simd.extend.i16x8_extend_high_i8x16_u.Goals as goal
 
 pub returns : goal.returns
 returns c =
-    half_makes_vector bytes_widened (upper 8) c.from_u16x8.ensures.in_range c.args.v
-    (λ i inside. c.from_u16x8.ensures.lanes i inside ∙ c.high_bytes.ensures.lanes i inside)
+    half_makes_vector bytes_widened (upper 8) c.vector_of.ensures.in_range c.args.v
+    (λ i inside. c.vector_of.ensures.lanes i inside ∙ c.high_u8x16.ensures.lanes i inside)

@@ -5,5 +5,5 @@ use Rattle.wasmi_simd.proofs.simd.extend.i16x8_extend_low_i8x16_s.Goals as goal
 
 pub returns : goal.returns
 returns c =
-    extended_make_vector bytes_widened lower c.from_u16x8.ensures.in_range c.args.v
-    (λ i inside. c.from_u16x8.ensures.lanes i inside ∙ c.low_bytes_signed.ensures.lanes i inside)
+    extended_make_vector bytes_widened lower c.vector_of.ensures.in_range c.args.v
+    (λ i inside. c.vector_of.ensures.lanes i inside ∙ c.low_i8x16.ensures.lanes i inside)

@@ -5,5 +5,5 @@ use Rattle.wasmi_simd.proofs.simd.extend.i64x2_extend_high_i32x4_u.Goals as goal
 
 pub returns : goal.returns
 returns c =
-    half_makes_vector u32x4_widened (upper 2) c.from_halves.ensures.in_range c.args.v
-    (λ i inside. c.from_halves.ensures.lanes i inside ∙ c.high_u32x4.ensures.lanes i inside)
+    half_makes_vector u32x4_widened (upper 2) c.vector_of.ensures.in_range c.args.v
+    (λ i inside. c.vector_of.ensures.lanes i inside ∙ c.high_u32x4.ensures.lanes i inside)

@@ -22,8 +22,8 @@ returns c =
     let n = c.args.number in
     let is : c.from_word_pair.result ≡ n = omega arith in
     let small : n < 2 ^ 128 = omega arith in
-    lanes_make_vector w32 4 _ (lane w32 n) refl c.from_u32x4.ensures.in_range
-    (λ i inside. c.from_u32x4.ensures.lanes i inside ∙ ap (λ l. get_or l i 0) c.lower_half_alone.ensures
+    lanes_make_vector w32 4 _ (lane w32 n) refl c.vector_of.ensures.in_range
+    (λ i inside. c.vector_of.ensures.lanes i inside ∙ ap (λ l. get_or l i 0) c.lower_half_alone.ensures
     ∙ lanes_of_half c.from_word_pair.result n i is (omega arith) inside)
     ∙ sym (lanes_make_vector w32 4 n (lane w32 n) refl small (λ i _. refl))
     ∙ low_zero_is w64 2 n refl (omega arith) small

@@ -5,6 +5,6 @@ use Rattle.wasmi_simd.proofs.simd.extmul.i16x8_extmul_high_i8x16_s.Goals as goal
 
 pub returns : goal.returns
 returns c =
-    signed_products_make_vector bytes_widened (upper 8) c.from_u16x8.ensures.in_range c.args.lhs c.args.rhs
-    (λ i inside. c.from_u16x8.ensures.lanes i inside ∙ c.product_of_u16x8.ensures.lanes i inside)
-    c.high_bytes_signed.ensures.lanes c.high_bytes_signed-2.ensures.lanes
+    signed_products_make_vector bytes_widened (upper 8) c.vector_of.ensures.in_range c.args.lhs c.args.rhs
+    (λ i inside. c.vector_of.ensures.lanes i inside ∙ c.product_of_u16x8.ensures.lanes i inside)
+    c.high_i8x16.ensures.lanes c.high_i8x16-2.ensures.lanes

@@ -5,6 +5,6 @@ use Rattle.wasmi_simd.proofs.simd.extmul.i32x4_extmul_low_i16x8_u.Goals as goal
 
 pub returns : goal.returns
 returns c =
-    products_make_vector u16x8_widened lower c.from_u32x4.ensures.in_range c.args.lhs c.args.rhs
-    (λ i inside. c.from_u32x4.ensures.lanes i inside ∙ c.product_of_u32x4.ensures.lanes i inside)
+    products_make_vector u16x8_widened lower c.vector_of.ensures.in_range c.args.lhs c.args.rhs
+    (λ i inside. c.vector_of.ensures.lanes i inside ∙ c.product_of_u32x4.ensures.lanes i inside)
     c.low_u16x8.ensures.lanes c.low_u16x8-2.ensures.lanes

@@ -5,6 +5,6 @@ use Rattle.wasmi_simd.proofs.simd.extmul.i64x2_extmul_low_i32x4_u.Goals as goal
 
 pub returns : goal.returns
 returns c =
-    products_make_vector u32x4_widened lower c.from_halves.ensures.in_range c.args.lhs c.args.rhs
-    (λ i inside. c.from_halves.ensures.lanes i inside ∙ c.product_of_halves.ensures.lanes i inside)
+    products_make_vector u32x4_widened lower c.vector_of.ensures.in_range c.args.lhs c.args.rhs
+    (λ i inside. c.vector_of.ensures.lanes i inside ∙ c.product_of_u64x2.ensures.lanes i inside)
     c.low_u32x4.ensures.lanes c.low_u32x4-2.ensures.lanes

@@ -5,4 +5,4 @@ use Rattle.wasmi_simd.proofs.simd.pairwise.i16x8_extadd_pairwise_i8x16_u.Goals a
 pub returns : goal.returns
 returns c =
     sums_make_vector bytes_widened c.sums_of_u16x8.ensures.in_range c.args.v c.sums_of_u16x8.ensures.lanes
-    c.even_bytes.ensures.lanes c.odd_bytes.ensures.lanes
+    c.even_u8x16.ensures.lanes c.odd_u8x16.ensures.lanes

@@ -13,7 +13,7 @@ returns c =
     let s : ℕ = c.args.amount % 8 in
     lanes_make_vector w8 16 c.from_bytes.result _ refl c.from_bytes.ensures.in_range
     (λ i inside.
-    c.from_bytes.ensures.lanes i inside ∙ c.difference_of_bytes.ensures.lanes i inside
+    c.from_bytes.ensures.lanes i inside ∙ c.difference_of_u8x16.ensures.lanes i inside
     ∙ ap₂ (λ x y. (x + (2 ^ 8 - y)) % 2 ^ 8)
     (c.bytes_of.ensures.lanes i inside ∙ ap (λ n. lane w8 n i) c.i8x16_shr_u-shifted.ensures
     ∙ lane_of_lanes w8 (λ k. lane w8 c.vector_of-biased.result k / 2 ^ s) 16 i refl inside

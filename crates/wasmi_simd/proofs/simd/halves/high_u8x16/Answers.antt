@@ -1,6 +1,6 @@
 use Rattle.std.proofs.Common.{◌≡◌, ◌+◌, ◌∙◌, length, arith, rules}
 use Rattle.wasmi_simd.proofs.HalfLemmas.{extracted_at}
-use Rattle.wasmi_simd.proofs.simd.halves.high_bytes.Goals as goal
+use Rattle.wasmi_simd.proofs.simd.halves.high_u8x16.Goals as goal
 
 pub returns : goal.returns
 returns c =

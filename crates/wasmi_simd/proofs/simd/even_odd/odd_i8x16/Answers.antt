@@ -1,10 +1,10 @@
 use Rattle.std.proofs.Common.{rules}
 use Rattle.wasmi_simd.proofs.WideningLemmas.{bytes_widened}
-use Rattle.wasmi_simd.proofs.EvenOddLemmas.{even_signed_at}
-use Rattle.wasmi_simd.proofs.simd.even_odd.even_bytes_signed.Goals as goal
+use Rattle.wasmi_simd.proofs.EvenOddLemmas.{odd_signed_at}
+use Rattle.wasmi_simd.proofs.simd.even_odd.odd_i8x16.Goals as goal
 
 pub returns : goal.returns
 returns c = record {
-  lanes = even_signed_at bytes_widened c.args.v c.i16x8_of.result
+  lanes = odd_signed_at bytes_widened c.args.v c.i16x8_of.result
       (record { long = search rules; lanes = c.i16x8_of.ensures.lanes });
 }

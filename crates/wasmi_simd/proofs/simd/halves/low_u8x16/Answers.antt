@@ -2,7 +2,7 @@ use Rattle.std.proofs.Common.{◌≡◌, ◌+◌, ◌∙◌, length, ap, arith, 
 use Rattle.wasmi_types.specs.Wrapping.{w8}
 use Rattle.wasmi_lanes.specs.Lane.{lane}
 use Rattle.wasmi_simd.proofs.HalfLemmas.{extracted_at}
-use Rattle.wasmi_simd.proofs.simd.halves.low_bytes.Goals as goal
+use Rattle.wasmi_simd.proofs.simd.halves.low_u8x16.Goals as goal
 
 pub returns : goal.returns
 returns c =

@@ -1,5 +1,0 @@
-use Rattle.wasmi_lanes.proofs.DigitLemmas.{read_at}
-use Rattle.wasmi_simd.proofs.simd.vectors.u32x4_of.Goals as goal
-
-pub returns : goal.returns
-returns c = record { lanes = λ i inside. read_at 32 4 c.args.v c.bytes_of.result i 0 inside c.bytes_of.ensures.number }
