@@ -5,7 +5,6 @@
 //! specification: memory instructions. Upstream: `wasmi_core::simd`.
 
 mod extending;
-mod lane;
 mod memory_lane;
 mod splat;
 mod whole;

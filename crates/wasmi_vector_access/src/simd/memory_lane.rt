@@ -7,12 +7,8 @@ ghost use Rattle.wasmi_access.specs.LoadStore.{loaded, IsStore};
 ghost use Rattle.wasmi_lanes.specs.Lane as lanes;
 ghost use Rattle.wasmi_lanes.specs.Vector.{with_lane};
 
-use super::lane::{
-    lane_of_8, lane_of_16, lane_of_32, lane_of_64, with_lane_of_8, with_lane_of_16,
-    with_lane_of_32, with_lane_of_64,
-};
 use wasmi_access::access::{load, load_at, store, store_at};
-use wasmi_lanes::{ImmLaneIdx2, ImmLaneIdx4, ImmLaneIdx8, ImmLaneIdx16};
+use wasmi_lanes::{ImmLaneIdx2, ImmLaneIdx4, ImmLaneIdx8, ImmLaneIdx16, VariableLane};
 use wasmi_raw::V128;
 use wasmi_types::TrapCode;
 
@@ -27,7 +23,7 @@ pub fn v128_load8_lane(
 ) -> Result<V128, TrapCode>
     ensures { result ≡ loaded 1 (with_lane w8 v lane) memory.now (ptr + offset) }
 {
-    Ok(with_lane_of_8(v, lane, load::<u8>(memory, ptr, offset)?))
+    Ok(u8::with_lane(v, lane, load::<u8>(memory, ptr, offset)?))
 }
 
 /// `v128.load8_lane` at an address.
@@ -40,7 +36,7 @@ pub fn v128_load8_lane_at(
 ) -> Result<V128, TrapCode>
     ensures { result ≡ loaded 1 (with_lane w8 v lane) memory.now address }
 {
-    Ok(with_lane_of_8(v, lane, load_at::<u8>(memory, address)?))
+    Ok(u8::with_lane(v, lane, load_at::<u8>(memory, address)?))
 }
 
 /// `v128.load16_lane`: `v` with 16 bits in one lane.
@@ -54,7 +50,7 @@ pub fn v128_load16_lane(
 ) -> Result<V128, TrapCode>
     ensures { result ≡ loaded 2 (with_lane w16 v lane) memory.now (ptr + offset) }
 {
-    Ok(with_lane_of_16(v, lane, load::<u16>(memory, ptr, offset)?))
+    Ok(u16::with_lane(v, lane, load::<u16>(memory, ptr, offset)?))
 }
 
 /// `v128.load16_lane` at an address.
@@ -67,7 +63,7 @@ pub fn v128_load16_lane_at(
 ) -> Result<V128, TrapCode>
     ensures { result ≡ loaded 2 (with_lane w16 v lane) memory.now address }
 {
-    Ok(with_lane_of_16(v, lane, load_at::<u16>(memory, address)?))
+    Ok(u16::with_lane(v, lane, load_at::<u16>(memory, address)?))
 }
 
 /// `v128.load32_lane`: `v` with 32 bits in one lane.
@@ -81,7 +77,7 @@ pub fn v128_load32_lane(
 ) -> Result<V128, TrapCode>
     ensures { result ≡ loaded 4 (with_lane w32 v lane) memory.now (ptr + offset) }
 {
-    Ok(with_lane_of_32(v, lane, load::<u32>(memory, ptr, offset)?))
+    Ok(u32::with_lane(v, lane, load::<u32>(memory, ptr, offset)?))
 }
 
 /// `v128.load32_lane` at an address.
@@ -94,7 +90,7 @@ pub fn v128_load32_lane_at(
 ) -> Result<V128, TrapCode>
     ensures { result ≡ loaded 4 (with_lane w32 v lane) memory.now address }
 {
-    Ok(with_lane_of_32(v, lane, load_at::<u32>(memory, address)?))
+    Ok(u32::with_lane(v, lane, load_at::<u32>(memory, address)?))
 }
 
 /// `v128.load64_lane`: `v` with 64 bits in one lane.
@@ -108,7 +104,7 @@ pub fn v128_load64_lane(
 ) -> Result<V128, TrapCode>
     ensures { result ≡ loaded 8 (with_lane w64 v lane) memory.now (ptr + offset) }
 {
-    Ok(with_lane_of_64(v, lane, load::<u64>(memory, ptr, offset)?))
+    Ok(u64::with_lane(v, lane, load::<u64>(memory, ptr, offset)?))
 }
 
 /// `v128.load64_lane` at an address.
@@ -121,7 +117,7 @@ pub fn v128_load64_lane_at(
 ) -> Result<V128, TrapCode>
     ensures { result ≡ loaded 8 (with_lane w64 v lane) memory.now address }
 {
-    Ok(with_lane_of_64(v, lane, load_at::<u64>(memory, address)?))
+    Ok(u64::with_lane(v, lane, load_at::<u64>(memory, address)?))
 }
 
 /// `v128.store8_lane`: the 8 bits of one lane of `v`.
@@ -136,7 +132,7 @@ pub fn v128_store8_lane(
     ensures { IsStore memory.old (ptr + offset)
         (le_bytes 1 (lanes.lane w8 v lane)) memory.new result }
 {
-    store::<u8>(memory, ptr, offset, lane_of_8(v, lane))
+    store::<u8>(memory, ptr, offset, u8::lane_at(v, lane))
 }
 
 /// `v128.store8_lane` at an address.
@@ -149,7 +145,7 @@ pub fn v128_store8_lane_at(
 ) -> Result<(), TrapCode>
     ensures { IsStore memory.old address (le_bytes 1 (lanes.lane w8 v lane)) memory.new result }
 {
-    store_at::<u8>(memory, address, lane_of_8(v, lane))
+    store_at::<u8>(memory, address, u8::lane_at(v, lane))
 }
 
 /// `v128.store16_lane`: the 16 bits of one lane of `v`.
@@ -164,7 +160,7 @@ pub fn v128_store16_lane(
     ensures { IsStore memory.old (ptr + offset)
         (le_bytes 2 (lanes.lane w16 v lane)) memory.new result }
 {
-    store::<u16>(memory, ptr, offset, lane_of_16(v, lane))
+    store::<u16>(memory, ptr, offset, u16::lane_at(v, lane))
 }
 
 /// `v128.store16_lane` at an address.
@@ -177,7 +173,7 @@ pub fn v128_store16_lane_at(
 ) -> Result<(), TrapCode>
     ensures { IsStore memory.old address (le_bytes 2 (lanes.lane w16 v lane)) memory.new result }
 {
-    store_at::<u16>(memory, address, lane_of_16(v, lane))
+    store_at::<u16>(memory, address, u16::lane_at(v, lane))
 }
 
 /// `v128.store32_lane`: the 32 bits of one lane of `v`.
@@ -192,7 +188,7 @@ pub fn v128_store32_lane(
     ensures { IsStore memory.old (ptr + offset)
         (le_bytes 4 (lanes.lane w32 v lane)) memory.new result }
 {
-    store::<u32>(memory, ptr, offset, lane_of_32(v, lane))
+    store::<u32>(memory, ptr, offset, u32::lane_at(v, lane))
 }
 
 /// `v128.store32_lane` at an address.
@@ -205,7 +201,7 @@ pub fn v128_store32_lane_at(
 ) -> Result<(), TrapCode>
     ensures { IsStore memory.old address (le_bytes 4 (lanes.lane w32 v lane)) memory.new result }
 {
-    store_at::<u32>(memory, address, lane_of_32(v, lane))
+    store_at::<u32>(memory, address, u32::lane_at(v, lane))
 }
 
 /// `v128.store64_lane`: the 64 bits of one lane of `v`.
@@ -220,7 +216,7 @@ pub fn v128_store64_lane(
     ensures { IsStore memory.old (ptr + offset)
         (le_bytes 8 (lanes.lane w64 v lane)) memory.new result }
 {
-    store::<u64>(memory, ptr, offset, lane_of_64(v, lane))
+    store::<u64>(memory, ptr, offset, u64::lane_at(v, lane))
 }
 
 /// `v128.store64_lane` at an address.
@@ -233,5 +229,5 @@ pub fn v128_store64_lane_at(
 ) -> Result<(), TrapCode>
     ensures { IsStore memory.old address (le_bytes 8 (lanes.lane w64 v lane)) memory.new result }
 {
-    store_at::<u64>(memory, address, lane_of_64(v, lane))
+    store_at::<u64>(memory, address, u64::lane_at(v, lane))
 }
