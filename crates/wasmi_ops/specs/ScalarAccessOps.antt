@@ -1,0 +1,80 @@
+-- The scalar loads and stores on raw values (core specification, memory instructions).
+use Rattle.std.specs.Prelude.{ℕ, ◌/◌, ◌%◌, ◌^◌, pos, List, Result, codes}
+use Rattle.std.specs.Int.{Width, w8, w16, w32, w64, cast_signed}
+use mir.Val.{bits}
+use Rattle.wasmi_types.specs.Bytes.{le_bytes}
+use Rattle.wasmi_types.specs.declared.trap.TrapCode.{TrapCode}
+use Rattle.wasmi_raw.specs.declared.raw.RawVal.{RawVal}
+use Rattle.wasmi_raw.specs.RawVal.{raw_of}
+use Rattle.wasmi_access.specs.LoadStore.{loaded}
+use Rattle.wasmi_ops.specs.RawResults.{as_raw, signed_raw}
+use Rattle.wasmi_ops.specs.declared.scalar.access.LoadOp.{LoadOp}
+use Rattle.wasmi_ops.specs.declared.scalar.access.LoadOp.TheVariants as load
+use Rattle.wasmi_ops.specs.declared.scalar.access.StoreOp.{StoreOp}
+use Rattle.wasmi_ops.specs.declared.scalar.access.StoreOp.TheVariants as store
+
+-- what a load from an address in a memory of these bytes gives, or its trap
+abbrev pub RawLoad : Type 0
+RawLoad = List ℕ → ℕ → Result RawVal TrapCode
+
+-- the load of a number of a narrow width, sign-extended to a width
+abbrev pub sign_extended : Width → Width → RawLoad
+sign_extended w narrow bytes a = as_raw (signed_raw w) (loaded (bits narrow / 8) (cast_signed narrow) bytes a)
+
+-- the load of a number of a narrow width, zero-extended to a width
+abbrev pub zero_extended : Width → Width → RawLoad
+zero_extended w narrow bytes a = as_raw (signed_raw w) (loaded (bits narrow / 8) pos bytes a)
+
+-- the load of a value of a width
+abbrev pub unextended : Width → RawLoad
+unextended w bytes a = as_raw raw_of (loaded (bits w / 8) (λ number. number) bytes a)
+
+-- the load of each instruction
+abbrev pub loaded_raw : LoadOp → RawLoad
+loaded_raw load.I32Load8S = sign_extended w32 w8
+loaded_raw load.I32Load8U = zero_extended w32 w8
+loaded_raw load.I32Load16S = sign_extended w32 w16
+loaded_raw load.I32Load16U = zero_extended w32 w16
+loaded_raw load.I64Load8S = sign_extended w64 w8
+loaded_raw load.I64Load8U = zero_extended w64 w8
+loaded_raw load.I64Load16S = sign_extended w64 w16
+loaded_raw load.I64Load16U = zero_extended w64 w16
+loaded_raw load.I64Load32S = sign_extended w64 w32
+loaded_raw load.I64Load32U = zero_extended w64 w32
+loaded_raw load.LoadU32 = unextended w32
+loaded_raw load.LoadU64 = unextended w64
+
+-- the bytes that a store writes: the low ones of the value
+abbrev pub stored_bytes : StoreOp → RawVal → List ℕ
+stored_bytes store.I32Store8 value = le_bytes 1 (value.lo % 2 ^ 8)
+stored_bytes store.I32Store16 value = le_bytes 2 (value.lo % 2 ^ 16)
+stored_bytes store.I64Store8 value = le_bytes 1 (value.lo % 2 ^ 8)
+stored_bytes store.I64Store16 value = le_bytes 2 (value.lo % 2 ^ 16)
+stored_bytes store.I64Store32 value = le_bytes 4 (value.lo % 2 ^ 32)
+stored_bytes store.Store32 value = le_bytes 4 (value.lo % 2 ^ 32)
+stored_bytes store.Store64 value = le_bytes 8 value.lo
+
+-- the name of a scalar load
+abbrev pub load_name : LoadOp → List ℕ
+load_name load.I32Load8S = codes "i32_load8_s"
+load_name load.I32Load8U = codes "i32_load8_u"
+load_name load.I32Load16S = codes "i32_load16_s"
+load_name load.I32Load16U = codes "i32_load16_u"
+load_name load.I64Load8S = codes "i64_load8_s"
+load_name load.I64Load8U = codes "i64_load8_u"
+load_name load.I64Load16S = codes "i64_load16_s"
+load_name load.I64Load16U = codes "i64_load16_u"
+load_name load.I64Load32S = codes "i64_load32_s"
+load_name load.I64Load32U = codes "i64_load32_u"
+load_name load.LoadU32 = codes "load_u32"
+load_name load.LoadU64 = codes "load_u64"
+
+-- the name of a scalar store
+abbrev pub store_name : StoreOp → List ℕ
+store_name store.I32Store8 = codes "i32_store8"
+store_name store.I32Store16 = codes "i32_store16"
+store_name store.I64Store8 = codes "i64_store8"
+store_name store.I64Store16 = codes "i64_store16"
+store_name store.I64Store32 = codes "i64_store32"
+store_name store.Store32 = codes "store32"
+store_name store.Store64 = codes "store64"

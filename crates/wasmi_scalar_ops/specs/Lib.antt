@@ -1,4 +1,0 @@
-pub mod AccessOps
-pub mod BinaryOps
-pub mod Raw
-pub mod UnaryOps
