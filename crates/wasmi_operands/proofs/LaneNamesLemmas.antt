@@ -1,44 +1,58 @@
--- A name and a lane's index name one instruction at most: what they name is a function of them.
-use Rattle.std.proofs.Common.{ℕ, ◌≡◌, List, [], ◌∷◌, Option, Some, None, true, false, bytes_eq, cond, refl, ap, sym, subst}
-use Rattle.std.specs.Bool.{⊤}
-use Rattle.std.specs.Option.{option_map}
-use Rattle.wasmi_operands.specs.Decimal.{decimal_value}
-use Rattle.wasmi_operands.specs.Names.{NameEntry, entry_of}
-use Rattle.wasmi_operands.specs.LaneNames.{LaneEntry, NamesBeside, NamesLane}
-use Rattle.wasmi_operands.proofs.NamesLemmas.{same_text}
+-- A name and a lane's index name one instruction at most, and none where a part of it isn't there.
+use Rattle.std.proofs.Common.{ℕ, ◌≡◌, ◌∙◌, List, Option, Some, None, Result, Err, ok_or, true, refl, ap, subst, sym}
+use Rattle.std.specs.Option.{option_and_then}
+use denote.Enum.Bare.{Bare}
+use denote.Enum.Declared.{Record}
+use Rattle.wasmi_operands.specs.declared.error.LineError.{LineError}
+use Rattle.wasmi_operands.specs.declared.error.LineError.TheVariants.{BadCommand}
+use Rattle.wasmi_operands.specs.Acceptance.{Accepts}
+use Rattle.wasmi_operands.specs.Decimal.{WritesNumber, decimal_value}
+use Rattle.wasmi_operands.specs.Names.{IsName}
+use Rattle.wasmi_operands.specs.LaneNames.{NamesLane}
+use Rattle.wasmi_operands.proofs.AcceptanceLemmas.{refused_through}
+use Rattle.wasmi_operands.proofs.NamesLemmas.{entries, has_each, named, named_is, one_named}
 
--- no entry of a list has this name
-abbrev pub LacksName : {A : Type 0} → List (NameEntry A) → List ℕ → Type 0
-LacksName [] name = ⊤
-LacksName (entry ∷ entries) name = ¬ (name ≡ entry.0) × LacksName entries name
-
--- a list has nothing beside a name that none of its entries has
-no_entry : {A : Type 0} (entries : List (NameEntry A)) (name : List ℕ) → LacksName entries name
-    → entry_of entries name ≡ None
-no_entry [] name other = refl
-no_entry (entry ∷ entries) name other =
-    elim (bytes_eq entry.0 name) as
-    (λ b. bytes_eq entry.0 name ≡ b → cond b (Some entry.1) (entry_of entries name) ≡ None) [
-      | true ↦ λ here. absurd (other.0 (sym (same_text entry.0 name here)))
-      | false ↦ λ here. no_entry entries name other.1
-    ] refl
-
-module _ {Op : Type 0} (entries : List (LaneEntry Op)) (name lane : List ℕ) where
-  -- the instruction that two words name by a list, the second of which is a lane's index
+-- the instructions on a lane: kinds with their names, and the instruction of a kind on the lane of an index
+module _ (N : Record) (bare : Bare N.parts) (name_of : N.D → List ℕ) {Op : Type 0} (op_on : N.D → ℕ → Option Op)
+    (name lane : List ℕ) where
+  -- the instruction that two words name, the second of which is a lane's index
   pub lane_named : Option Op
-  lane_named = option_map (λ entry. entry.1 (decimal_value lane)) (entry_of entries name)
+  lane_named = option_and_then (λ kind. op_on kind (decimal_value lane)) (named N bare name_of name)
 
-  -- two words that name an instruction by a list give that instruction
-  pub lane_is : (op : Op) → NamesLane entries name lane op → lane_named ≡ Some op
-  unfolding NamesLane lane_named
-  lane_is op =
-      elim (entry_of entries name) as (λ found. NamesBeside found lane op
-      → option_map (λ entry. entry.1 (decimal_value lane)) found ≡ Some op) [
-        | None ↦ λ w. absurd w
-        | Some entry ↦ λ w. ap (λ it. Some it) (sym w.2)
-      ]
+  -- two words that name an instruction on a lane give that instruction
+  pub lane_is : has_each N bare name_of (entries N bare name_of) ≡ true → (op : Op)
+      → NamesLane name_of op_on name lane op → lane_named ≡ Some op
+  unfolding NamesLane lane_named IsName
+  lane_is whole op w =
+      ap (option_and_then (λ kind. op_on kind (decimal_value lane))) (named_is N bare name_of whole name w.0 w.2)
+      ∙ ap (op_on w.0) (sym w.3.1) ∙ w.4
 
-  -- a name that none of the entries has names no instruction
-  pub names_none : LacksName entries name → (op : Op) → ¬ (NamesLane entries name lane op)
+  -- a word that is no name names no instruction
+  pub no_name : (error : LineError) (result : Result Op LineError) → result ≡ Err error
+      → Accepts {A = N.D} (Err error) (IsName name_of name) → Accepts result (NamesLane name_of op_on name lane)
   unfolding NamesLane
-  names_none other op w = subst (λ found. NamesBeside found lane op) (no_entry entries name other) w
+  no_name error result is = refused_through error result is (λ op w. (w.0, w.2))
+
+  -- a word that is no index names no instruction
+  pub no_index : (error : LineError) (result : Result Op LineError) → result ≡ Err error
+      → Accepts {A = ℕ} (Err error) (WritesNumber 8 lane) → Accepts result (NamesLane name_of op_on name lane)
+  unfolding NamesLane
+  no_index error result is = refused_through error result is (λ op w. (w.1, w.3))
+
+  -- a name and an index name what is on the lane of the index, if there is such a lane
+  pub names_on : has_each N bare name_of (entries N bare name_of) ≡ true → (kind : N.D) (index : ℕ)
+      → IsName name_of name kind × WritesNumber 8 lane index → (result : Result Op LineError)
+      → result ≡ ok_or (op_on kind index) BadCommand → Accepts result (NamesLane name_of op_on name lane)
+  unfolding NamesLane IsName
+  names_on whole kind index written result given =
+      subst (λ r. Accepts r (NamesLane name_of op_on name lane)) (sym given) (
+      elim (op_on kind index) as (λ found. op_on kind index ≡ found
+      → Accepts (ok_or found BadCommand) (NamesLane name_of op_on name lane)) [
+        | None ↦ λ none. λ op w.
+            let same = one_named N bare name_of whole w.0 kind (sym w.2 ∙ written.0) in
+            let at : w.1 ≡ index = w.3.1 ∙ sym written.1.1 in
+            let absent : None ≡ Some op = sym none ∙ sym (λ i. op_on (same i) (at i)) ∙ w.4 in
+            absurd cc
+        | Some op ↦ λ found. (kind, index, written.0, written.1, found)
+      ] refl
+      )

@@ -3,12 +3,4 @@ pub mod Decimal
 pub mod Acceptance
 pub mod TypeWords
 pub mod Names
-pub mod AccessNames
-pub mod MakeNames
-pub mod UnaryNames
-pub mod BinaryNames
-pub mod TernaryNames
-pub mod ShiftNames
-pub mod TestNames
-pub mod VectorLoadNames
 pub mod LaneNames

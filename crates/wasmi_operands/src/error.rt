@@ -2,7 +2,7 @@
 ghost use Rattle.std.specs.Prelude.{◌≡◌};
 ghost use Rattle.wasmi_operands.specs.declared.error.LineError.TheVariants.{OutOfMemory};
 
-use std::alloc::AllocFailed;
+use std::alloc::{AllocError, AllocFailed};
 
 /// Why a line isn't taken.
 #[derive(Clone, Copy)]
@@ -11,6 +11,14 @@ pub enum LineError {
     BadCommand,
     /// There isn't enough memory for its words or its call.
     OutOfMemory,
+}
+
+impl From<AllocError> for LineError {
+    ghost from_gives = { λ _ error. error ≡ OutOfMemory };
+
+    fn from(_: AllocError) -> Self {
+        LineError::OutOfMemory
+    }
 }
 
 impl<T: Drop> From<AllocFailed<T>> for LineError {

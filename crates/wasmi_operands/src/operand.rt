@@ -1,30 +1,36 @@
 //! What words write as the operands of a command: one word, two to five words, or a list.
 ghost use Rattle.std.specs.Prelude.{◌≡◌, ℕ, List, length};
 ghost use Rattle.wasmi_operands.specs.Acceptance.{Accepts, AcceptsWithMemory};
-ghost use Rattle.wasmi_operands.specs.AccessNames.{load_name, store_name};
-ghost use Rattle.wasmi_operands.specs.BinaryNames.{binary_name};
 ghost use Rattle.wasmi_operands.specs.Decimal.{WritesNumber};
-ghost use Rattle.wasmi_operands.specs.MakeNames.{make_name};
 ghost use Rattle.wasmi_operands.specs.Names.{IsName};
-ghost use Rattle.wasmi_operands.specs.ShiftNames.{shift_name};
-ghost use Rattle.wasmi_operands.specs.TernaryNames.{ternary_name};
-ghost use Rattle.wasmi_operands.specs.TestNames.{test_name};
 ghost use Rattle.wasmi_operands.specs.TypeWords.{reference_word, value_word, mutability_word};
-ghost use Rattle.wasmi_operands.specs.UnaryNames.{unary_name};
-ghost use Rattle.wasmi_operands.specs.VectorLoadNames.{vector_load_name};
 ghost use Rattle.wasmi_operands.specs.Words.{WritesEach, word_at};
+ghost use Rattle.wasmi_ops.specs.ScalarAccessOps.{load_name, store_name};
+ghost use Rattle.wasmi_ops.specs.ScalarBinaryOps.{scalar_binary_name};
+ghost use Rattle.wasmi_ops.specs.ScalarUnaryOps.{scalar_unary_name};
+ghost use Rattle.wasmi_ops.specs.VectorAccessOps.{vector_load_name};
+ghost use Rattle.wasmi_ops.specs.BinaryOps.{binary_name};
+ghost use Rattle.wasmi_ops.specs.LaneKinds.{extract_name, load_lane_name, replace_name, store_lane_name};
+ghost use Rattle.wasmi_ops.specs.MakeOps.{make_name};
+ghost use Rattle.wasmi_ops.specs.ShiftOps.{shift_name};
+ghost use Rattle.wasmi_ops.specs.TernaryOps.{ternary_name};
+ghost use Rattle.wasmi_ops.specs.TestOps.{test_name};
+ghost use Rattle.wasmi_ops.specs.UnaryOps.{unary_name};
 
 use crate::decimal::number;
 use crate::error::LineError;
-use crate::names::access::{load_op, store_op};
-use crate::names::{BINARIES, LOADS, MAKES, SHIFTS, TERNARIES, TESTS, UNARIES, op_named};
+use crate::names::op_named;
 use crate::types::{mutability, raw_reference, ref_type, val_type};
 use std::alloc::Global;
+use wasmi_ops::{
+    BINARIES, BinaryOp, EXTRACTIONS, ExtractKind, LANE_LOADS, LANE_STORES, LOADS, LoadLaneKind,
+    LoadOp, MAKES, MakeOp, REPLACEMENTS, ReplaceKind, SCALAR_BINARIES, SCALAR_UNARIES, SHIFTS,
+    STORES, ScalarBinaryOp, ScalarUnaryOp, ShiftOp, StoreLaneKind, StoreOp, TERNARIES, TESTS,
+    TernaryOp, TestOp, UNARIES, UnaryOp, VECTOR_LOADS, VectorLoadOp,
+};
 use wasmi_raw::RawRef;
-use wasmi_scalar_ops::{LoadOp, StoreOp};
 use wasmi_typed::Mutability;
 use wasmi_types::{RefType, ValType};
-use wasmi_vector_ops::{BinaryOp, MakeOp, ShiftOp, TernaryOp, TestOp, UnaryOp, VectorLoadOp};
 
 /// What one word of a command can write.
 pub trait Operand: Copy {
@@ -100,19 +106,35 @@ impl Operand for Mutability {
     }
 }
 
-impl Operand for LoadOp {
-    ghost writes = { λ word op. word ≡ load_name op };
+impl Operand for ScalarUnaryOp {
+    ghost writes = { IsName scalar_unary_name };
 
     fn from_word(word: &str) -> Result<Self, LineError> {
-        load_op(word)
+        op_named(&SCALAR_UNARIES, word)
+    }
+}
+
+impl Operand for ScalarBinaryOp {
+    ghost writes = { IsName scalar_binary_name };
+
+    fn from_word(word: &str) -> Result<Self, LineError> {
+        op_named(&SCALAR_BINARIES, word)
+    }
+}
+
+impl Operand for LoadOp {
+    ghost writes = { IsName load_name };
+
+    fn from_word(word: &str) -> Result<Self, LineError> {
+        op_named(&LOADS, word)
     }
 }
 
 impl Operand for StoreOp {
-    ghost writes = { λ word op. word ≡ store_name op };
+    ghost writes = { IsName store_name };
 
     fn from_word(word: &str) -> Result<Self, LineError> {
-        store_op(word)
+        op_named(&STORES, word)
     }
 }
 
@@ -164,11 +186,43 @@ impl Operand for TestOp {
     }
 }
 
+impl Operand for ExtractKind {
+    ghost writes = { IsName extract_name };
+
+    fn from_word(word: &str) -> Result<Self, LineError> {
+        op_named(&EXTRACTIONS, word)
+    }
+}
+
+impl Operand for ReplaceKind {
+    ghost writes = { IsName replace_name };
+
+    fn from_word(word: &str) -> Result<Self, LineError> {
+        op_named(&REPLACEMENTS, word)
+    }
+}
+
 impl Operand for VectorLoadOp {
     ghost writes = { IsName vector_load_name };
 
     fn from_word(word: &str) -> Result<Self, LineError> {
-        op_named(&LOADS, word)
+        op_named(&VECTOR_LOADS, word)
+    }
+}
+
+impl Operand for LoadLaneKind {
+    ghost writes = { IsName load_lane_name };
+
+    fn from_word(word: &str) -> Result<Self, LineError> {
+        op_named(&LANE_LOADS, word)
+    }
+}
+
+impl Operand for StoreLaneKind {
+    ghost writes = { IsName store_lane_name };
+
+    fn from_word(word: &str) -> Result<Self, LineError> {
+        op_named(&LANE_STORES, word)
     }
 }
 
@@ -229,7 +283,7 @@ pub fn five<A: Operand, B: Operand, C: Operand, D: Operand, E: Operand>(
 pub fn list_of<T: Operand>(alloc: Global, words: &[&str]) -> Result<Vec<T>, LineError>
     ensures { AcceptsWithMemory result (λ list. WritesEach T.writes words.now list.items) }
 {
-    let mut list = Vec::new(alloc);
+    let mut list = Vec::with_capacity(alloc, words.len())?;
     for word in words {
         list.push(T::from_word(word)?)?;
     }

@@ -13,7 +13,7 @@ loop-word-preserved g c =
 pub returns-in_err-from_word : goal.returns-in_err-from_word
 returns-in_err-from_word g c =
     let words = c.args.words.now in
-    let same : c.from_residual.result ≡ Err c.in_err-from_word.field-0.0 = search rules in
+    let same : c.from_residual-in_err-from_word.result ≡ Err c.in_err-from_word.field-0.0 = search rules in
     subst (λ result. AcceptsWithMemory result (λ list. WritesEach g.T.Operand.writes words list.items)) (sym same)
     (refused_list g.T.Operand.writes (λ list. list.items) words c.loop-word.word-index _ c.in_err-from_word.field-0.0
     c.loop-word-test.true c.in_err-from_word.ensures)

@@ -1,7 +1,22 @@
-use Rattle.std.proofs.Common.{rules}
-use Rattle.wasmi_operands.specs.LaneNames.{lane_stores}
-use Rattle.wasmi_operands.proofs.LaneNamesLemmas.{names_none}
+use Rattle.std.proofs.Common.{◌∙◌, ok_or, refl, ap, rules}
+use Rattle.wasmi_ops.specs.contracts.vector.lane_kind.StoreLaneKind.{enum}
+use Rattle.wasmi_ops.specs.LaneKinds.{store_lane_name, store_lane_op}
+use Rattle.wasmi_operands.specs.declared.error.LineError.TheVariants.{BadCommand}
+use Rattle.wasmi_operands.proofs.LaneNamesLemmas.{names_on, no_index, no_name}
 use Rattle.wasmi_operands.proofs.names.lane.store_lane_op.Goals as goal
 
-pub returns-in_default : goal.returns-in_default
-returns-in_default c = names_none lane_stores c.args.name.now c.args.lane.now (search rules)
+pub returns-in_err-kind : goal.returns-in_err-kind
+returns-in_err-kind c =
+    no_name enum tt store_lane_name store_lane_op c.args.name.now c.args.lane.now c.in_err-kind.field-0.0
+    c.from_residual.result (search rules) c.in_err-kind.ensures
+
+pub returns-in_err-index : goal.returns-in_err-index
+returns-in_err-index c =
+    no_index enum tt store_lane_name store_lane_op c.args.name.now c.args.lane.now c.in_err-index.field-0.0
+    c.from_residual-in_err-index.result (search rules) c.in_err-index.ensures
+
+pub returns : goal.returns
+returns c =
+    names_on enum tt store_lane_name store_lane_op c.args.name.now c.args.lane.now refl c.in_ok-kind.kind
+    c.in_ok-index.index (c.in_ok-kind.ensures, c.in_ok-index.ensures) c.ok_or.result
+    (c.ok_or.ensures.value ∙ ap (λ found. ok_or found BadCommand) c.on.ensures)

@@ -1,8 +1,8 @@
 use Rattle.std.proofs.Common.{map, refl}
-use Rattle.wasmi_vector_ops.specs.contracts.binary.BinaryOp.{enum}
+use Rattle.wasmi_ops.specs.contracts.vector.binary.BinaryOp.{enum}
+use Rattle.wasmi_ops.specs.declared.vector.binary.TheConstants.{BINARIES}
+use Rattle.wasmi_ops.specs.BinaryOps.{binary_name}
 use Rattle.wasmi_operands.specs.Names.{IsName}
-use Rattle.wasmi_operands.specs.BinaryNames.{binary_name}
-use Rattle.wasmi_operands.specs.declared.names.TheConstants.{BINARIES}
 use Rattle.wasmi_operands.proofs.NamesLemmas.{accepts_named}
 use Rattle.wasmi_operands.proofs.operand.BinaryOpOperand.from_word.Goals as goal
 

@@ -1,8 +1,8 @@
 use Rattle.std.proofs.Common.{map, refl}
-use Rattle.wasmi_vector_ops.specs.contracts.make.MakeOp.{enum}
+use Rattle.wasmi_ops.specs.contracts.vector.make.MakeOp.{enum}
+use Rattle.wasmi_ops.specs.declared.vector.make.TheConstants.{MAKES}
+use Rattle.wasmi_ops.specs.MakeOps.{make_name}
 use Rattle.wasmi_operands.specs.Names.{IsName}
-use Rattle.wasmi_operands.specs.MakeNames.{make_name}
-use Rattle.wasmi_operands.specs.declared.names.TheConstants.{MAKES}
 use Rattle.wasmi_operands.proofs.NamesLemmas.{accepts_named}
 use Rattle.wasmi_operands.proofs.operand.MakeOpOperand.from_word.Goals as goal
 

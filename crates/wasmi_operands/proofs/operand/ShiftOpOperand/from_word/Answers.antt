@@ -1,8 +1,8 @@
 use Rattle.std.proofs.Common.{map, refl}
-use Rattle.wasmi_vector_ops.specs.contracts.shift.ShiftOp.{enum}
+use Rattle.wasmi_ops.specs.contracts.vector.shift.ShiftOp.{enum}
+use Rattle.wasmi_ops.specs.declared.vector.shift.TheConstants.{SHIFTS}
+use Rattle.wasmi_ops.specs.ShiftOps.{shift_name}
 use Rattle.wasmi_operands.specs.Names.{IsName}
-use Rattle.wasmi_operands.specs.ShiftNames.{shift_name}
-use Rattle.wasmi_operands.specs.declared.names.TheConstants.{SHIFTS}
 use Rattle.wasmi_operands.proofs.NamesLemmas.{accepts_named}
 use Rattle.wasmi_operands.proofs.operand.ShiftOpOperand.from_word.Goals as goal
 

@@ -1,8 +1,8 @@
 use Rattle.std.proofs.Common.{map, refl}
-use Rattle.wasmi_vector_ops.specs.contracts.ternary.TernaryOp.{enum}
+use Rattle.wasmi_ops.specs.contracts.vector.ternary.TernaryOp.{enum}
+use Rattle.wasmi_ops.specs.declared.vector.ternary.TheConstants.{TERNARIES}
+use Rattle.wasmi_ops.specs.TernaryOps.{ternary_name}
 use Rattle.wasmi_operands.specs.Names.{IsName}
-use Rattle.wasmi_operands.specs.TernaryNames.{ternary_name}
-use Rattle.wasmi_operands.specs.declared.names.TheConstants.{TERNARIES}
 use Rattle.wasmi_operands.proofs.NamesLemmas.{accepts_named}
 use Rattle.wasmi_operands.proofs.operand.TernaryOpOperand.from_word.Goals as goal
 

@@ -1,8 +1,8 @@
 use Rattle.std.proofs.Common.{map, refl}
-use Rattle.wasmi_vector_ops.specs.contracts.test.TestOp.{enum}
+use Rattle.wasmi_ops.specs.contracts.vector.test.TestOp.{enum}
+use Rattle.wasmi_ops.specs.declared.vector.test.TheConstants.{TESTS}
+use Rattle.wasmi_ops.specs.TestOps.{test_name}
 use Rattle.wasmi_operands.specs.Names.{IsName}
-use Rattle.wasmi_operands.specs.TestNames.{test_name}
-use Rattle.wasmi_operands.specs.declared.names.TheConstants.{TESTS}
 use Rattle.wasmi_operands.proofs.NamesLemmas.{accepts_named}
 use Rattle.wasmi_operands.proofs.operand.TestOpOperand.from_word.Goals as goal
 

@@ -1,8 +1,8 @@
 use Rattle.std.proofs.Common.{map, refl}
-use Rattle.wasmi_vector_ops.specs.contracts.unary.UnaryOp.{enum}
+use Rattle.wasmi_ops.specs.contracts.vector.unary.UnaryOp.{enum}
+use Rattle.wasmi_ops.specs.declared.vector.unary.TheConstants.{UNARIES}
+use Rattle.wasmi_ops.specs.UnaryOps.{unary_name}
 use Rattle.wasmi_operands.specs.Names.{IsName}
-use Rattle.wasmi_operands.specs.UnaryNames.{unary_name}
-use Rattle.wasmi_operands.specs.declared.names.TheConstants.{UNARIES}
 use Rattle.wasmi_operands.proofs.NamesLemmas.{accepts_named}
 use Rattle.wasmi_operands.proofs.operand.UnaryOpOperand.from_word.Goals as goal
 

@@ -1,0 +1,12 @@
+use Rattle.std.proofs.Common.{map, refl}
+use Rattle.wasmi_ops.specs.contracts.vector.lane_kind.ExtractKind.{enum}
+use Rattle.wasmi_ops.specs.declared.vector.lane_kind.TheConstants.{EXTRACTIONS}
+use Rattle.wasmi_ops.specs.LaneKinds.{extract_name}
+use Rattle.wasmi_operands.specs.Names.{IsName}
+use Rattle.wasmi_operands.proofs.NamesLemmas.{accepts_named}
+use Rattle.wasmi_operands.proofs.operand.ExtractKindOperand.from_word.Goals as goal
+
+pub returns : goal.returns
+unfolding IsName
+returns c = accepts_named enum tt extract_name (map (λ entry. (entry.0.now, entry.1)) EXTRACTIONS) refl refl
+    c.args.word.now c.op_named.result c.op_named.ensures

@@ -1,0 +1,12 @@
+use Rattle.std.proofs.Common.{map, refl}
+use Rattle.wasmi_ops.specs.contracts.scalar.access.StoreOp.{enum}
+use Rattle.wasmi_ops.specs.declared.scalar.access.TheConstants.{STORES}
+use Rattle.wasmi_ops.specs.ScalarAccessOps.{store_name}
+use Rattle.wasmi_operands.specs.Names.{IsName}
+use Rattle.wasmi_operands.proofs.NamesLemmas.{accepts_named}
+use Rattle.wasmi_operands.proofs.operand.StoreOpOperand.from_word.Goals as goal
+
+pub returns : goal.returns
+unfolding IsName
+returns c = accepts_named enum tt store_name (map (λ entry. (entry.0.now, entry.1)) STORES) refl refl
+    c.args.word.now c.op_named.result c.op_named.ensures
