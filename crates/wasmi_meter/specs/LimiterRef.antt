@@ -1,6 +1,5 @@
 -- What a reference to a limiter leads to.
-use Rattle.std.specs.Prelude.{◌≡◌, ◌⊎◌, Option, Some, None}
-use Rattle.std.proofs.Common.{inl, inr}
+use Rattle.std.specs.Prelude.{◌≡◌, Option, Some, None}
 use Rattle.std.specs.Option.{option_copied_mut}
 use Rattle.std.specs.Borrow.{MutBor}
 use Rattle.wasmi_meter.specs.declared.limiter_ref.LimiterRef.{LimiterRef}
@@ -28,9 +27,3 @@ KeepsLoan r r' = SameLoan r.limiter r'.limiter
 abbrev pub shown_of : {R L : Type 0} → (R → L) → Option R → Option L
 shown_of shown None = None
 shown_of shown (Some r) = Some (shown r)
-
--- the value that an optional reference leaves behind it, in the terms of a clause's `.exit`
-abbrev pub left_behind : {A B C T : Type 0} → (B → T) → A ⊎ (B ⊎ C) → Option T
-left_behind value (inl none) = None
-left_behind value (inr (inl some)) = Some (value some)
-left_behind value (inr (inr other)) = None

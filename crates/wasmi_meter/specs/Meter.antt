@@ -1,6 +1,8 @@
 -- Fuel: what is left, and what is taken of it.
-use Rattle.std.specs.Prelude.{◌≡◌, ℕ, ◌-◌, ◌≤◌, ◌<◌, is_some, if◌then◌else◌, Option, Result, Ok, Err}
-use Rattle.std.specs.Option.{option_map, unwrap_or}
+use Rattle.std.specs.Prelude.{◌≡◌, ◌⊎◌, ℕ, ◌-◌, ◌≤◌, ◌<◌, is_some, if◌then◌else◌, Option, Some, None, Result, Ok, Err}
+use Rattle.std.proofs.Common.{inl, inr}
+use Rattle.std.specs.Borrow.{MutBor}
+use Rattle.std.specs.Option.{option_copied_mut, option_map, unwrap_or}
 use Rattle.wasmi_meter.specs.declared.fuel.FuelError.{FuelError}
 use Rattle.wasmi_meter.specs.declared.fuel.FuelError.TheVariants.{OutOfFuel}
 use Rattle.wasmi_meter.specs.declared.fuel.CustomFuelCosts.{CustomFuelCosts}
@@ -21,6 +23,17 @@ meter_after m amount = record m { left = option_map (λ left. left - amount) m.l
 -- the meter set to an amount; one that is off stays
 abbrev pub meter_set : Meter → ℕ → Meter
 meter_set m amount = record m { left = option_map (λ left. amount) m.left }
+
+-- the meter that an optional reference leads to when a call begins, if there is one
+abbrev pub meter_at_entry : Option (MutBor Meter) → Option Meter
+meter_at_entry lent = option_copied_mut lent
+
+-- the meter that an optional reference leaves behind it when a call ends, if there is one, in the terms of a clause's
+-- `.exit`
+abbrev pub meter_at_exit : {A B C : Type 0} → A ⊎ ((MutBor Meter × B) ⊎ C) → Option Meter
+meter_at_exit (inl none) = None
+meter_at_exit (inr (inl lent)) = Some lent.0.now
+meter_at_exit (inr (inr other)) = None
 
 -- an amount is taken where that much is left, and is refused else
 pub record ConsumesFuel {T : Type 0} (m : Meter) (amount : ℕ) (value : T) (result : Result T FuelError)

@@ -1,6 +1,5 @@
 //! Fuel that work takes, at costs that a host may choose.
 ghost use Rattle.std.specs.Prelude.{◌≡◌, ℕ, ◌-◌, ◌≤◌, ◌<◌, Option, Some, None, Result, Ok, Err, IsSome, if◌then◌else◌};
-ghost use Rattle.std.specs.Fn.{FnOnceReturnsAt};
 ghost use Rattle.wasmi_meter.specs.declared.fuel.CustomFuelCosts.{CustomFuelCosts};
 
 use std::fmt;
@@ -245,7 +244,7 @@ impl Model for Fuel {
 
 impl Fuel {
     ghost use Rattle.wasmi_meter.specs.Meter.{Meter, amount_left, meter_set, ConsumesFuel};
-    ghost use Rattle.wasmi_meter.specs.Costs.{costs_of, default_costs};
+    ghost use Rattle.wasmi_meter.specs.Costs.{costs_of, default_costs, Computes};
 
     /// A meter with no fuel left yet.
     pub fn new(enabled: bool, costs: FuelCostsProvider) -> Self
@@ -321,8 +320,7 @@ impl Fuel {
     ) -> Result<u64, FuelError>
         requires callable { IsSome self.old.left → C.IsAlwaysCallable f }
         ensures on { IsSome self.old.left
-            → (amount : ℕ) × (costs : _) × (costs_of costs ≡ self.old.costs)
-            × FnOnceReturnsAt C.FnOnce f costs amount
+            → (amount : ℕ) × Computes C.FnOnce f self.old.costs amount
             × ConsumesFuel self.old amount (amount_left self.old - amount) result self.new }
         ensures off { self.old.left ≡ None
             → (result ≡ Err FuelError.FuelMeteringDisabled) × (self.new ≡ self.old) }
@@ -340,8 +338,7 @@ impl Fuel {
     ) -> Result<(), FuelError>
         requires callable { IsSome self.old.left → C.IsAlwaysCallable f }
         ensures on { IsSome self.old.left
-            → (amount : ℕ) × (costs : _) × (costs_of costs ≡ self.old.costs)
-            × FnOnceReturnsAt C.FnOnce f costs amount
+            → (amount : ℕ) × Computes C.FnOnce f self.old.costs amount
             × ConsumesFuel self.old amount tt result self.new }
         ensures off { self.old.left ≡ None → (result ≡ Ok tt) × (self.new ≡ self.old) }
     {
