@@ -6,7 +6,7 @@ use Rattle.wasmi_meter.specs.Limiter.{Question, Answer, NoticeAnswer, Rules}
 use Rattle.wasmi_meter.specs.Meter.{Meter, amount_left, Charges}
 use Rattle.wasmi_meter.specs.Attempt.{MeteredValue, alone, Request, AttemptOutcome, Unasked, Denied, Met, Failed, Attempt, Permits, answer_of, error_of_failure, optional_due, covers}
 use Rattle.wasmi_meter.proofs.AttemptLemmas.{IsPermitted, ReachesCharge, attempt_unasked, attempt_denied, attempt_late, attempt_unpaid, attempt_refused, attempt_met}
-use Rattle.wasmi_store.specs.Growth.{Makes, Growth, Grows}
+use Rattle.wasmi_store.specs.Growth.{IsAsked, Makes, Growth, Grows}
 
 -- of a cause that is there only where a test fails: where it holds, there is none
 pub no_cause : {E : Type 0} (b : Bool) (cause : E) → b ≡ true
@@ -36,11 +36,6 @@ payable m n h = grind (arith, nat_tests)
 -- more than what is left can't be paid
 pub unpayable : (m : Meter) (n : ℕ) → amount_left m < n → covers (Some m) n ≡ false
 unpayable m n h = grind (arith, nat_tests)
-
--- no early cause stands against what is asked, and this is the question
-pub record IsAsked {V E : Type 0} (e : Request V E) (question : Question) : Type 0 where
-  pub early : e.early ≡ None
-  pub question_is : question ≡ e.question
 
 -- the limiter gets a notice of a cause, and the error is by its answer
 abbrev pub TellsOf : {V E S : Type 0} → Rules S → Request V E → E → S → E → S → Type 0

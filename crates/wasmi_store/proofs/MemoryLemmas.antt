@@ -1,5 +1,5 @@
 -- The making and the growth of a memory, by what was tested on the way.
-use Rattle.std.proofs.Common.{◌≡◌, ℕ, ◌+◌, ◌-◌, ◌*◌, ◌^◌, Bool, true, false, Option, Some, None, length, Ok, Err, refl, arith}
+use Rattle.std.proofs.Common.{◌≡◌, ℕ, ◌+◌, ◌-◌, ◌*◌, ◌^◌, Bool, true, false, Option, Some, None, length, Ok, Err, refl, sym, ◌∙◌, arith}
 use Rattle.std.specs.Prelude.{if◌then◌else◌, nat_lt}
 use Rattle.wasmi_meter.specs.declared.error.MemoryError.{MemoryError}
 use Rattle.wasmi_meter.specs.declared.error.MemoryError.TheVariants.{OutOfBoundsGrowth, ResourceLimiterDeniedAllocation, MinimumSizeOverflow, InvalidStaticBufferSize, OutOfFuel}
@@ -10,10 +10,11 @@ use Rattle.wasmi_meter.specs.Costs.{copy_cost}
 use Rattle.wasmi_meter.specs.Attempt.{Permits}
 use Rattle.wasmi_store.specs.Buffer.{Room, with_zeros, fits_room, CanFail}
 use Rattle.wasmi_store.specs.MemoryType.{MemoryTypeValue, page_bytes, minimum_bytes, maximum_bytes, in_bounds}
-use Rattle.wasmi_store.specs.Memory.{MemoryValue, memory_of, buffer_of, pages_of, new_memory, creation_of, growth_of, MakesMemory, PermitsMinimum}
+use Rattle.wasmi_store.specs.Memory.{MemoryValue, memory_of, buffer_of, pages_of, new_memory, size_question, creation_of, growth_of, MakesMemory, PermitsMinimum}
 use Rattle.wasmi_store.proofs.GrowthLemmas as any
 use Rattle.wasmi_meter.proofs.AttemptLemmas.{IsPermitted, ReachesCharge}
-use Rattle.wasmi_store.proofs.GrowthLemmas.{no_cause, a_cause, IsAsked, permitted_by, TellsOf, GrowthAttempt, EndsIn}
+use Rattle.wasmi_store.specs.Growth.{IsAsked}
+use Rattle.wasmi_store.proofs.GrowthLemmas.{no_cause, a_cause, permitted_by, TellsOf, GrowthAttempt, EndsIn}
 
 -- a number that is there only where a test holds
 tested : (b : Bool) (n size : ℕ) → Some size ≡ (if b then Some n else None) → (b ≡ true) × (size ≡ n)
@@ -104,8 +105,7 @@ grows_unasked rules x m l pages some outside =
 pub growth_asked : (x : MemoryValue) (pages : ℕ) {size desired : ℕ} {maximum : Option ℕ}
     → (in_bounds x.ty (pages_of x + pages) ≡ true) × (desired ≡ length x.bytes + pages * page_bytes x.ty.page)
     → size ≡ length x.bytes → maximum ≡ maximum_bytes x.ty
-    → IsAsked (growth_of x pages)
-    (record { kind = Bytes; current = size; desired = desired; maximum = maximum })
+    → IsAsked (growth_of x pages) (size_question size desired maximum)
 growth_asked x pages found sized cut =
     record { early = no_cause _ _ found.0; question_is = rw (sized, found.1, cut) refl }
 
@@ -149,15 +149,15 @@ module _ {S : Type 0} {rules : Rules S} {x : MemoryValue} {m : Meter} {l : S} {p
   asked_added = rw permits.is.question_is (omega arith)
 
   -- where the room is too short, the limiter gets a notice, and nothing is charged
-  pub grows_short : fits_room x.room more ≡ false → (error : MemoryError) (l' : S)
+  pub grows_short : fits_room x.room asked_more ≡ false → (error : MemoryError) (l' : S)
       → TellsOf rules (growth_of x pages) InvalidStaticBufferSize p error l' → EndsIn t (Err error) x m l'
   grows_short short error l' tells =
-      any.grows_late t p permitted InvalidStaticBufferSize (a_cause _ _ (rw added at short)) error l' tells
+      any.grows_late t p permitted InvalidStaticBufferSize (a_cause _ _ (rw asked_added at short)) error l' tells
 
-  module _ (holds : fits_room x.room more ≡ true) (m' : Meter) where
+  module _ (holds : fits_room x.room asked_more ≡ true) (m' : Meter) where
     -- nothing stands before the charge
     reaches : ReachesCharge rules (growth_of x pages) l p
-    reaches = record { permits = permitted; late = no_cause _ _ (rw added at holds) }
+    reaches = record { permits = permitted; late = no_cause _ _ (rw asked_added at holds) }
 
     -- where the price can't be paid, the limiter gets a notice, and nothing is charged
     pub grows_unpaid : (required : ℕ) → Charges m (due m (λ costs. copy_cost costs asked_more 1)) (Err required) m'
@@ -170,7 +170,8 @@ module _ {S : Type 0} {rules : Rules S} {x : MemoryValue} {m : Meter} {l : S} {p
       pub grows_refused : (cause : MemoryError) → CanFail x.room more cause → (x' : MemoryValue) → x' ≡ x
           → (error : MemoryError) (l' : S) → TellsOf rules (growth_of x pages) cause p error l'
           → EndsIn t (Err error) x' m' l'
-      grows_refused cause fails = any.grows_refused t p reaches m' (rw asked_added at enough) cause (rw holds at fails)
+      grows_refused cause fails = any.grows_refused t p reaches m' (rw asked_added at enough) cause
+          (rw (rw (asked_added ∙ sym added) at holds) at fails)
 
       -- where the price is paid and the room takes more, the memory has grown, and the old size is answered
       pub grows_met : (x' : MemoryValue) → x' ≡ memory_of x.ty (with_zeros (buffer_of x) more) → (old : ℕ)

@@ -11,10 +11,11 @@ use Rattle.wasmi_meter.specs.Limiter.{Question, Answer, Rules}
 use Rattle.wasmi_meter.specs.Meter.{Meter, due, Charges}
 use Rattle.wasmi_meter.specs.Attempt.{MeteredValue}
 use Rattle.wasmi_store.specs.TableType.{TableTypeValue, is_indexable, is_within_maximum, same_type}
-use Rattle.wasmi_store.specs.Table.{TableValue, size_of, new_table, with_more, element_price, creation_of, growth_of, MakesTable, GrowsTableRaw, GrowsTable}
+use Rattle.wasmi_store.specs.Table.{TableValue, size_of, new_table, with_more, element_price, creation_of, growth_of, MakesTable, GrowsTableRawCharging, GrowsTableCharging}
 use Rattle.wasmi_store.proofs.GrowthLemmas as any
 use Rattle.wasmi_meter.proofs.AttemptLemmas.{IsPermitted, ReachesCharge}
-use Rattle.wasmi_store.proofs.GrowthLemmas.{no_cause, a_cause, IsAsked, permitted_by, TellsOf, GrowthAttempt, EndsIn}
+use Rattle.wasmi_store.specs.Growth.{IsAsked}
+use Rattle.wasmi_store.proofs.GrowthLemmas.{no_cause, a_cause, permitted_by, TellsOf, GrowthAttempt, EndsIn}
 
 -- a list that is resized upwards
 pub resized : (xs : List ℕ) (size n desired reference : ℕ) → size ≡ length xs → desired ≡ length xs + n
@@ -134,8 +135,8 @@ module _ {S : Type 0} (rules : Rules S) (n reference : ℕ) (x : TableValue) (l 
   unmetered s = record s { meter = None }
 
   -- so once the type was tested
-  raw_unmetered : GrowsTableRaw rules n reference off result charge s'
-      → GrowsTableRaw rules n reference (unmetered off) result charge (unmetered s')
+  raw_unmetered : GrowsTableRawCharging rules n reference off result charge s'
+      → GrowsTableRawCharging rules n reference (unmetered off) result charge (unmetered s')
   raw_unmetered (inl e) =
       inl (record { none = e.none; answered = e.answered; uncharged = e.uncharged; same = ap unmetered e.same })
   raw_unmetered (inr e) = inr (record {
@@ -153,9 +154,9 @@ module _ {S : Type 0} (rules : Rules S) (n reference : ℕ) (x : TableValue) (l 
 
   -- so whether the type is the same or not
   by_type : (same : Bool)
-      → MatchBool same (GrowsTableRaw rules n reference off result charge s')
+      → MatchBool same (GrowsTableRawCharging rules n reference off result charge s')
       ((result ≡ Err ElementTypeMismatch) × (charge ≡ 0) × (s' ≡ off))
-      → MatchBool same (GrowsTableRaw rules n reference (unmetered off) result charge (unmetered s'))
+      → MatchBool same (GrowsTableRawCharging rules n reference (unmetered off) result charge (unmetered s'))
       ((result ≡ Err ElementTypeMismatch) × (charge ≡ 0) × (unmetered s' ≡ unmetered off))
   by_type true grows = raw_unmetered grows
   by_type false refused = (refused.0, refused.1, ap unmetered refused.2)
@@ -163,10 +164,10 @@ module _ {S : Type 0} (rules : Rules S) (n reference : ℕ) (x : TableValue) (l 
 -- so for a growth whose reference is typed
 pub grows_unmetered : {S : Type 0} (rules : Rules S) (n : ℕ) (init : TypedRawRef) (x x' : TableValue) (l l' : S)
     (costs : CustomFuelCosts) (m' : Option Meter) (result : Result ℕ TableError) (charge : ℕ)
-    → GrowsTable rules n init
+    → GrowsTableCharging rules n init
     (record { value = x; meter = let m : Meter = record { left = None; costs = costs } in Some m; limiter = l })
     result charge (record { value = x'; meter = m'; limiter = l' })
-    → GrowsTable rules n init (record { value = x; meter = None; limiter = l }) result charge
+    → GrowsTableCharging rules n init (record { value = x; meter = None; limiter = l }) result charge
     (record { value = x'; meter = None; limiter = l' })
 grows_unmetered rules n init x x' l l' costs m' result charge grows =
     by_type rules n init.raw x l costs (record { value = x'; meter = m'; limiter = l' }) result charge

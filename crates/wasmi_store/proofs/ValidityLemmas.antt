@@ -16,11 +16,11 @@ use Rattle.wasmi_store.specs.declared.memory.ty.PageSize.{PageSize}
 use Rattle.wasmi_store.specs.declared.memory.ty.PageSize.TheVariants.{Byte, Wasm}
 use Rattle.wasmi_store.specs.MemoryType.{MemoryTypeValue, page_bytes, minimum_bytes, greatest_pages, in_bounds}
 use Rattle.wasmi_store.specs.MemoryType as memory_type
-use Rattle.wasmi_store.specs.Memory.{MemoryValue, buffer_of, pages_of, new_memory, IsValidMemory, MakesMemory, GrowsMemory}
+use Rattle.wasmi_store.specs.Memory.{MemoryValue, buffer_of, pages_of, new_memory, IsValidMemory, MakesMemory, GrowsMemoryCharging}
 use Rattle.wasmi_store.specs.Memory as memory
 use Rattle.wasmi_store.specs.TableType.{TableTypeValue, is_indexable, is_within_maximum, same_type}
 use Rattle.wasmi_store.specs.TableType as table_type
-use Rattle.wasmi_store.specs.Table.{TableValue, size_of, new_table, with_more, IsValidTable, MakesTable, GrowsTable}
+use Rattle.wasmi_store.specs.Table.{TableValue, size_of, new_table, with_more, IsValidTable, MakesTable, GrowsTableCharging}
 use Rattle.wasmi_store.specs.Table as table
 use Rattle.wasmi_store.proofs.GrowthLemmas.{on_test}
 
@@ -105,7 +105,7 @@ made_memory_is_valid rules room ty l x l' valid makes =
 -- a growth of a valid memory
 pub grown_memory_is_valid : {S : Type 0} (rules : Rules S) (pages : ℕ) (s : MeteredValue MemoryValue S)
     (result : Result ℕ MemoryError) (charge : ℕ) (s' : MeteredValue MemoryValue S) → IsValidMemory s.value
-    → GrowsMemory rules pages s result charge s' → IsValidMemory s'.value
+    → GrowsMemoryCharging rules pages s result charge s' → IsValidMemory s'.value
 grown_memory_is_valid rules pages s result charge s' valid grows =
     let x = s.value in
     let added = pages_added x.ty.page (length x.bytes) pages valid.sized.whole in
@@ -141,7 +141,7 @@ made_table_is_valid rules ty init l x l' valid makes =
 -- a growth of a valid table
 pub grown_table_is_valid : {S : Type 0} (rules : Rules S) (n : ℕ) (init : TypedRawRef) (s : MeteredValue TableValue S)
     (result : Result ℕ TableError) (charge : ℕ) (s' : MeteredValue TableValue S) → IsValidTable s.value
-    → GrowsTable rules n init s result charge s' → IsValidTable s'.value
+    → GrowsTableCharging rules n init s result charge s' → IsValidTable s'.value
 grown_table_is_valid rules n init s result charge s' valid grows =
     let x = s.value in
     let size : length (with_more x n init.raw).elements ≡ size_of x + n =

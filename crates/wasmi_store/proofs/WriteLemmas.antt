@@ -4,62 +4,75 @@ use Rattle.std.proofs.lemmas.Bool.Decides.{nat_tests}
 use borrow.Table.Elements.{length-take-le}
 use lib.ListN.{set}
 use lib.Seq.{paste-zero, set_split}
-use Rattle.std.specs.Prelude.{nat_le, nat_eq}
+use Rattle.std.specs.Option.{option_map}
+use Rattle.std.specs.Prelude.{nat_le, nat_eq, if◌then◌else◌, Result}
 use Rattle.wasmi_types.specs.Access.{overwrite}
 use Rattle.wasmi_meter.specs.declared.error.TableError.TheVariants.{ElementTypeMismatch, OutOfFuel}
-use Rattle.wasmi_meter.specs.Meter.{Meter, Charges}
+use Rattle.wasmi_meter.specs.Attempt.{optional_due}
+use Rattle.wasmi_meter.specs.Meter.{Meter, Charges, due}
 use Rattle.wasmi_meter.proofs.AttemptLemmas.{meter_after_nothing}
-use Rattle.wasmi_store.specs.Table.{TableValue, TableWrite, copied, write_due, WritesTable}
+use Rattle.wasmi_types.specs.declared.value.RefType.{RefType}
+use Rattle.wasmi_types.specs.declared.value.RefType.TheVariants.{Func, Extern}
+use Rattle.wasmi_store.specs.Growth.{metered}
+use Rattle.wasmi_store.specs.Table.{TableValue, TableWrite, MeteredTable, copied, element_price, write_due, WritesTable}
+use Rattle.wasmi_store.specs.TableType.{same_type}
 use Rattle.wasmi_store.proofs.GrowthLemmas.{payable, unpayable}
 
-module _ (w : TableWrite) (x : TableValue) (m : Meter) where
+module _ (write : TableValue → TableWrite) (x : TableValue) (m : Meter) where
+  -- how the table is written over, and the table with its meter
+  abbrev w : TableWrite
+  w = write x
+
+  abbrev s : MeteredTable
+  s = metered x (Some m)
+
   -- a write of another type is refused, without a charge
-  pub writes_mismatched : w.typed ≡ false
-      → (charge : ℕ) × WritesTable w x (Some m) (Err ElementTypeMismatch) charge x (Some m)
+  pub writes_mismatched : w.typed ≡ false → WritesTable write s (Err ElementTypeMismatch) s
   writes_mismatched other = (0, record { ends = rw other (refl, refl, refl); meter = meter_after_nothing (Some m) })
 
   module _ (same : w.typed ≡ true) where
     -- a write of a part that isn't there is refused, without a charge
-    pub writes_outside : w.written ≡ None → (charge : ℕ) × WritesTable w x (Some m) (Err w.outside) charge x (Some m)
+    pub writes_outside : w.written ≡ None → WritesTable write s (Err w.outside) s
     writes_outside none =
         (0, record { ends = rw (same, none) (refl, refl, refl); meter = meter_after_nothing (Some m) })
 
     module _ (elements : List ℕ) (within : w.written ≡ Some elements) (m' : Meter) where
       -- a write that can't be paid is refused, without a charge
-      pub writes_unpaid : (required : ℕ) → Charges m (write_due w x (Some m)) (Err required) m'
-          → (charge : ℕ) × WritesTable w x (Some m) (Err (OutOfFuel required)) charge x (Some m')
+      pub writes_unpaid : (required : ℕ) → Charges m (write_due w s) (Err required) m'
+          → WritesTable write s (Err (OutOfFuel required)) (metered x (Some m'))
       writes_unpaid required short =
           rw (short.1, short.2) (
             0,
             record {
-              ends = rw (same, within, unpayable m (write_due w x (Some m)) short.0) (refl, refl, refl);
+              ends = rw (same, within, unpayable m (write_due w s) short.0) (refl, refl, refl);
               meter = meter_after_nothing (Some m);
             },
           )
 
-      -- a write of no price is done, without a charge
-      pub writes_free : w.paid ≡ None → m' ≡ m → (x' : TableValue) → x' ≡ record x { elements = elements }
-          → (charge : ℕ) × WritesTable w x (Some m) (Ok tt) charge x' (Some m')
-      writes_free free kept x' written =
-          rw (kept, written) (
-            0,
-            record {
-              ends = rw (same, within, free, payable m 0 (omega arith)) (refl, refl, refl);
-              meter = meter_after_nothing (Some m);
-            },
-          )
+      module _ (x' : TableValue) (written : x' ≡ record x { elements = elements }) where
+        -- a write of no price is done, without a charge
+        pub writes_free : w.paid ≡ None → m' ≡ m → WritesTable write s (Ok tt) (metered x' (Some m'))
+        writes_free free kept =
+            rw (kept, written) (
+              0,
+              record {
+                ends = rw (same, within, free, payable m 0 (omega arith)) (refl, refl, refl);
+                meter = meter_after_nothing (Some m);
+              },
+            )
 
-      -- a write that can be paid is done, and what is due is charged
-      pub writes_met : Charges m (write_due w x (Some m)) (Ok tt) m' → (x' : TableValue)
-          → x' ≡ record x { elements = elements } → (charge : ℕ) × WritesTable w x (Some m) (Ok tt) charge x' (Some m')
-      writes_met enough x' written =
-          rw (enough.1, written) (
-            write_due w x (Some m),
-            record {
-              ends = rw (same, within, payable m (write_due w x (Some m)) enough.0) (refl, refl, refl);
-              meter = refl;
-            },
-          )
+        -- a write that can be paid is done, and what is due is charged
+        pub writes_met : Charges m (write_due w s) (Ok tt) m' → WritesTable write s (Ok tt) (metered x' (Some m'))
+        writes_met enough =
+            rw (enough.1, written) (
+              write_due w s,
+              record { ends = rw (same, within, payable m (write_due w s) enough.0) (refl, refl, refl); meter = refl },
+            )
+
+-- a reference type is the same as itself
+pub same_as_itself : (ty : RefType) → same_type ty ty ≡ true
+same_as_itself Func = refl
+same_as_itself Extern = refl
 
 -- one item of a list, written over
 pub overwritten_item : (xs : List ℕ) (i x : ℕ) → i < length xs → overwrite xs i (x ∷ []) ≡ Some (set xs i x)
@@ -73,6 +86,12 @@ overwritten_item xs i x within =
 -- a number that isn't 0
 pub nonzero : (n k : ℕ) → n ≡ k → (n ≡ 0 → ⊥) → nat_eq k 0 ≡ false
 nonzero n k e some = grind (arith, nat_tests)
+
+-- a charge for some items is one for a part of a segment that isn't empty
+pub charged_for_some : (m m' : Meter) (len : ℕ) (result : Result (Unit {0}) ℕ) → nat_eq len 0 ≡ false
+    → Charges m (due m (element_price len)) result m'
+    → Charges m (optional_due (Some m) (option_map element_price (if nat_eq len 0 then None else Some len))) result m'
+charged_for_some m m' len result some charges = rw some charges
 
 -- a part of a list has as many items as it was asked for
 part_length : (source : List ℕ) (src len : ℕ) → nat_le (src + len) (length source) ≡ true

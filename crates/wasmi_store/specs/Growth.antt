@@ -1,12 +1,25 @@
 -- Making and growing a memory or a table, as an attempt with its answer.
-use Rattle.std.specs.Prelude.{◌≡◌, ◌<◌, ◌⊎◌, ℕ, Option, Result, Ok}
-use Rattle.wasmi_meter.specs.Limiter.{Rules}
+use Rattle.std.specs.Prelude.{◌≡◌, ◌<◌, ◌⊎◌, ℕ, Option, None, Result, Ok}
+use Rattle.wasmi_meter.specs.Limiter.{Question, Rules}
 use Rattle.wasmi_meter.specs.Meter.{Meter}
 use Rattle.wasmi_meter.specs.Attempt.{MeteredValue, alone, Request, AttemptOutcome, Attempt, answer_of}
 
 -- a value with its meter, if there is one, and its limiter
 abbrev pub metered_value : {V S : Type 0} → V → Option Meter → S → MeteredValue V S
 metered_value value meter limiter = record { value = value; meter = meter; limiter = limiter }
+
+-- a value with its meter, if there is one, and no limiter to ask
+abbrev pub metered : {V : Type 0} → V → Option Meter → MeteredValue V (Unit {0})
+metered value meter = metered_value value meter tt
+
+-- a call on a value takes place, with some charge
+abbrev pub WithCharge : {A R : Type 0} → (A → R → ℕ → A → Type 0) → A → R → A → Type 0
+WithCharge Acts s result s' = (charge : ℕ) × Acts s result charge s'
+
+-- no early cause stands against what is asked, and this is the question
+pub record IsAsked {V E : Type 0} (e : Request V E) (question : Question) : Type 0 where
+  pub early : e.early ≡ None
+  pub question_is : question ≡ e.question
 
 -- an attempt to make a value, which is answered where the attempt is met; no fuel is charged
 abbrev pub Makes : {T E S : Type 0} → Rules S → Request (Unit {0}) E → T → S → Result T E → S → Type 0

@@ -1,14 +1,14 @@
 -- Linear memories: making one, growing it, reading and writing (core specification, memory instances).
-use Rattle.std.specs.Prelude.{◌≡◌, ◌+◌, ◌*◌, ◌/◌, ◌%◌, ◌≤◌, ◌^◌, ℕ, List, length, nat_lt, true, if◌then◌else◌, Some, None, Result, Ok, Err}
+use Rattle.std.specs.Prelude.{◌≡◌, ◌+◌, ◌*◌, ◌/◌, ◌%◌, ◌≤◌, ◌^◌, ℕ, List, length, nat_lt, true, if◌then◌else◌, Option, Some, None, Result, Ok, Err}
 use Rattle.wasmi_types.specs.Access.{overwrite}
 use Rattle.wasmi_meter.specs.declared.error.MemoryError.{MemoryError}
 use Rattle.wasmi_meter.specs.declared.error.MemoryError.TheVariants.{OutOfBoundsGrowth, OutOfBoundsAccess, ResourceLimiterDeniedAllocation, MinimumSizeOverflow, InvalidStaticBufferSize, OutOfFuel}
 use Rattle.wasmi_meter.specs.declared.limiter.Kind.TheVariants.{Bytes}
-use Rattle.wasmi_meter.specs.Limiter.{MemoryFailure, Rules}
+use Rattle.wasmi_meter.specs.Limiter.{MemoryFailure, Question, Rules}
 use Rattle.wasmi_meter.specs.Costs.{copy_cost}
 use Rattle.wasmi_meter.specs.Attempt.{MeteredValue, Request}
 use Rattle.wasmi_store.specs.Buffer.{BufferValue, Room, Owned, fits_room, LacksMemory, zeros_in, with_zeros}
-use Rattle.wasmi_store.specs.Growth.{Makes, Grows}
+use Rattle.wasmi_store.specs.Growth.{WithCharge, Makes, Grows}
 use Rattle.wasmi_store.specs.MemoryType.{MemoryTypeValue, IsValid, page_bytes, minimum_bytes, maximum_bytes, in_bounds}
 
 -- a memory: its type, its bytes, and the room that these may grow into
@@ -48,11 +48,16 @@ pub record IsValidMemory (x : MemoryValue) : Type 0 where
 abbrev pub dynamic_type : MemoryValue → MemoryTypeValue
 dynamic_type x = record x.ty { minimum = pages_of x }
 
+-- may a memory get from so many bytes to so many, where its type allows at most so many?
+abbrev pub size_question : ℕ → ℕ → Option ℕ → Question
+size_question current desired maximum =
+    record { kind = Bytes; current = current; desired = desired; maximum = maximum }
+
 -- what is asked where a memory of a type is made in a room, and the causes of a refusal; it costs no fuel
 abbrev pub creation_of : Room → MemoryTypeValue → Request (Unit {0}) MemoryError
 creation_of room ty = record {
   early = if nat_lt (minimum_bytes ty) (2 ^ 64) then None else Some MinimumSizeOverflow;
-  question = record { kind = Bytes; current = 0; desired = minimum_bytes ty; maximum = maximum_bytes ty };
+  question = size_question 0 (minimum_bytes ty) (maximum_bytes ty);
   denial = ResourceLimiterDeniedAllocation;
   refusal = ResourceLimiterDeniedAllocation;
   notice = MemoryFailure;
@@ -68,8 +73,7 @@ creation_of room ty = record {
 abbrev pub growth_of : MemoryValue → ℕ → Request MemoryValue MemoryError
 growth_of x pages = let added = pages * page_bytes x.ty.page in record {
   early = if in_bounds x.ty (pages_of x + pages) then None else Some OutOfBoundsGrowth;
-  question = record
-      { kind = Bytes; current = length x.bytes; desired = length x.bytes + added; maximum = maximum_bytes x.ty };
+  question = size_question (length x.bytes) (length x.bytes + added) (maximum_bytes x.ty);
   denial = OutOfBoundsGrowth;
   refusal = ResourceLimiterDeniedAllocation;
   notice = MemoryFailure;
@@ -92,12 +96,17 @@ PermitsMinimum rules ty l (Ok size) l' =
     × rules.asked l (creation_of Owned ty).question (Ok true) l'
 PermitsMinimum rules ty l (Err error) l' = (room : Room) → MakesMemory rules room ty l (Err error) l'
 
--- a memory grows by so many pages, with its charge; it answers the old size in pages
-abbrev pub GrowsMemory : {S : Type 0} → Rules S → ℕ → MeteredValue MemoryValue S → Result ℕ MemoryError → ℕ
+-- a memory grows by so many pages, with this charge; it returns the old size in pages
+abbrev pub GrowsMemoryCharging : {S : Type 0} → Rules S → ℕ → MeteredValue MemoryValue S → Result ℕ MemoryError → ℕ
     → MeteredValue MemoryValue S → Type 0
-GrowsMemory rules pages s result charge s' =
+GrowsMemoryCharging rules pages s result charge s' =
     Grows rules (record { amount = pages; size = pages_of s.value; request = growth_of s.value pages }) s result charge
     s'
+
+-- a memory grows by so many pages; it returns the old size in pages
+abbrev pub GrowsMemory : {S : Type 0} → Rules S → ℕ → MeteredValue MemoryValue S → Result ℕ MemoryError
+    → MeteredValue MemoryValue S → Type 0
+GrowsMemory rules pages = WithCharge (GrowsMemoryCharging rules pages)
 
 -- bytes are written over those from an offset on where they end within the memory, and nothing is written else
 abbrev pub WritesMemory : MemoryValue → ℕ → List ℕ → Result (Unit {0}) MemoryError → MemoryValue → Type 0

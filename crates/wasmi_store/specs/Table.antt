@@ -1,5 +1,5 @@
 -- Tables: making one, growing it, reading and writing its elements (core specification, table instances).
-use Rattle.std.specs.Prelude.{◌≡◌, ◌+◌, ◌≤◌, ℕ, Bool, true, false, List, [], ◌∷◌, ◌++◌, length, replicate, nat_eq, if◌then◌else◌, MatchBool, Option, Some, None, Result, Ok, Err, slice_get}
+use Rattle.std.specs.Prelude.{◌≡◌, ◌+◌, ◌≤◌, ℕ, Bool, true, false, List, [], ◌∷◌, ◌++◌, length, replicate, nat_eq, if◌then◌else◌, MatchBool, MatchOption, Option, Some, None, Result, Ok, Err, slice_get}
 use Rattle.std.specs.Option.{option_map, option_and_then}
 use Rattle.wasmi_types.specs.Access.{at, overwrite}
 use Rattle.wasmi_types.specs.declared.value.RefType.{RefType}
@@ -10,9 +10,10 @@ use Rattle.wasmi_meter.specs.declared.error.TableError.TheVariants.{OutOfSystemM
 use Rattle.wasmi_meter.specs.declared.limiter.Kind.TheVariants.{Elements}
 use Rattle.wasmi_meter.specs.Limiter.{TableFailure, Rules}
 use Rattle.wasmi_meter.specs.Costs.{copy_cost}
-use Rattle.wasmi_meter.specs.Meter.{Meter, meter_after}
+use Rattle.wasmi_meter.specs.Meter.{meter_after}
 use Rattle.wasmi_meter.specs.Attempt.{MeteredValue, Request, optional_due, covers}
-use Rattle.wasmi_store.specs.Growth.{Makes, Grows}
+use Rattle.wasmi_store.specs.Growth.{WithCharge, Makes, Grows}
+use Rattle.wasmi_store.specs.Segment.{SegmentValue}
 use Rattle.wasmi_store.specs.TableType.{TableTypeValue, IsValid, is_indexable, is_within_maximum, same_type}
 
 -- a table: its type, and its elements, each a reference or 0 for null
@@ -87,25 +88,47 @@ abbrev pub MakesTable : {S : Type 0} → Rules S → TableTypeValue → TypedRaw
     → Type 0
 MakesTable rules ty init l result l' = Makes rules (creation_of ty init.ty) (new_table ty init.raw) l result l'
 
--- a table grows by n elements, with its charge
-abbrev pub GrowsTableRaw : {S : Type 0} → Rules S → ℕ → ℕ → MeteredValue TableValue S → Result ℕ TableError → ℕ
+-- a table grows by n elements, with this charge; it returns the old size
+abbrev pub GrowsTableRawCharging : {S : Type 0} → Rules S → ℕ → ℕ → MeteredValue TableValue S → Result ℕ TableError → ℕ
     → MeteredValue TableValue S → Type 0
-GrowsTableRaw rules n reference s result charge s' =
+GrowsTableRawCharging rules n reference s result charge s' =
     Grows rules (record { amount = n; size = size_of s.value; request = growth_of s.value n reference }) s result charge
     s'
 
--- a growth by a reference that has a type, which is tested first, also for no element: where it is another, nothing
--- is touched
-abbrev pub GrowsTable : {S : Type 0} → Rules S → ℕ → TypedRawRef → MeteredValue TableValue S → Result ℕ TableError → ℕ
-    → MeteredValue TableValue S → Type 0
-GrowsTable rules n init s result charge s' = MatchBool (same_type s.value.ty.element init.ty)
-    (GrowsTableRaw rules n init.raw s result charge s')
+-- a growth by a reference that has a type, with this charge: the type is tested first, also for no element, and where
+-- it is another, nothing is touched
+abbrev pub GrowsTableCharging : {S : Type 0} → Rules S → ℕ → TypedRawRef → MeteredValue TableValue S
+    → Result ℕ TableError → ℕ → MeteredValue TableValue S → Type 0
+GrowsTableCharging rules n init s result charge s' = MatchBool (same_type s.value.ty.element init.ty)
+    (GrowsTableRawCharging rules n init.raw s result charge s')
     ((result ≡ Err ElementTypeMismatch) × (charge ≡ 0) × (s' ≡ s))
+
+-- a table grows by n elements; it returns the old size
+abbrev pub GrowsTableRaw : {S : Type 0} → Rules S → ℕ → ℕ → MeteredValue TableValue S → Result ℕ TableError
+    → MeteredValue TableValue S → Type 0
+GrowsTableRaw rules n reference = WithCharge (GrowsTableRawCharging rules n reference)
+
+-- a table grows by n elements, each a reference that has a type, which is tested first
+abbrev pub GrowsTable : {S : Type 0} → Rules S → ℕ → TypedRawRef → MeteredValue TableValue S → Result ℕ TableError
+    → MeteredValue TableValue S → Type 0
+GrowsTable rules n init = WithCharge (GrowsTableCharging rules n init)
 
 -- the element at an index with its type, or none past the end
 abbrev pub element_at : TableValue → ℕ → Option TypedRawRef
 element_at x index =
     option_map (λ reference. record { raw = reference; ty = x.ty.element }) (slice_get x.elements index)
+
+-- the element at an index is set to a reference; past the end it is refused, and the table stays
+abbrev pub SetsTableRaw : ℕ → ℕ → TableValue → Result (Unit {0}) TableError → TableValue → Type 0
+SetsTableRaw index reference x result x' = MatchOption (overwrite x.elements index (reference ∷ []))
+    ((result ≡ Err SetOutOfBounds) × (x' ≡ x))
+    (λ elements. (result ≡ Ok tt) × (x' ≡ record x { elements = elements }))
+
+-- the element at an index is set to a reference that has a type, which is tested first
+abbrev pub SetsTable : ℕ → TypedRawRef → TableValue → Result (Unit {0}) TableError → TableValue → Type 0
+SetsTable index value x result x' = MatchBool (same_type x.ty.element value.ty)
+    (SetsTableRaw index value.raw x result x')
+    ((result ≡ Err ElementTypeMismatch) × (x' ≡ x))
 
 -- A call that writes over a part of a table: whether the types are the same; the elements afterwards, or none where a
 -- range ends past its list; the error there; and how many elements are paid for, if any.
@@ -115,19 +138,9 @@ pub record TableWrite : Type 0 where
   pub outside : TableError
   pub paid : Option ℕ
 
--- one element is set to a reference
-abbrev pub setting_of : TableValue → ℕ → ℕ → TableWrite
-setting_of x index reference =
-    record {
-      typed = true;
-      written = overwrite x.elements index (reference ∷ []);
-      outside = SetOutOfBounds;
-      paid = None;
-    }
-
--- so many elements from dst on are filled with a reference
-abbrev pub filling_of : TableValue → ℕ → ℕ → ℕ → TableWrite
-filling_of x dst reference len =
+-- so many elements from dst on are filled with a reference, whose type isn't tested
+abbrev pub raw_filling_of : ℕ → ℕ → ℕ → TableValue → TableWrite
+raw_filling_of dst reference len x =
     record {
       typed = true;
       written = overwrite x.elements dst (replicate len reference);
@@ -135,28 +148,38 @@ filling_of x dst reference len =
       paid = Some len;
     }
 
+-- so many elements from dst on are filled with a reference, whose type is tested
+abbrev pub filling_of : ℕ → TypedRawRef → ℕ → TableValue → TableWrite
+filling_of dst value len x =
+    record (raw_filling_of dst value.raw len x) { typed = same_type x.ty.element value.ty }
+
 -- elements whose part from dst on is written over by so many items of a list from src on
 abbrev pub copied : List ℕ → ℕ → List ℕ → ℕ → ℕ → Option (List ℕ)
 copied elements dst source src len = option_and_then (λ part. overwrite elements dst part) (at source src len)
 
--- a part is copied from a table's elements, perhaps from its own
-abbrev pub copy_of : TableValue → ℕ → List ℕ → ℕ → ℕ → TableWrite
-copy_of x dst source src len =
-    record { typed = true; written = copied x.elements dst source src len; outside = CopyOutOfBounds; paid = Some len }
-
--- a part is initialized from an element segment's items; no item is free
-abbrev pub initialization_of : TableValue → ℕ → List ℕ → ℕ → ℕ → TableWrite
-initialization_of x dst items src len =
+-- so many elements from src on of a table, perhaps the same one, are copied over those from dst on
+abbrev pub copy_of : ℕ → ℕ → ℕ → TableValue → TableValue → TableWrite
+copy_of dst src len source x =
     record {
-      typed = true;
-      written = copied x.elements dst items src len;
+      typed = same_type x.ty.element source.ty.element;
+      written = copied x.elements dst source.elements src len;
+      outside = CopyOutOfBounds;
+      paid = Some len;
+    }
+
+-- so many items from src on of an element segment are copied over the elements from dst on; no item is free
+abbrev pub initialization_of : ℕ → ℕ → ℕ → SegmentValue → TableValue → TableWrite
+initialization_of dst src len segment x =
+    record {
+      typed = same_type x.ty.element segment.ty;
+      written = copied x.elements dst segment.items src len;
       outside = InitOutOfBounds;
       paid = if nat_eq len 0 then None else Some len;
     }
 
--- a call that is given references of a type, which is tested first
-abbrev pub typed_by : TableValue → RefType → TableWrite → TableWrite
-typed_by x ty w = record w { typed = same_type x.ty.element ty }
+-- a table with its meter, if there is one; a write asks no limiter
+abbrev pub MeteredTable : Type 0
+MeteredTable = MeteredValue TableValue (Unit {0})
 
 -- what a write over a part of a table ends with
 pub record Ending : Type 0 where
@@ -164,14 +187,14 @@ pub record Ending : Type 0 where
   pub charge : ℕ
   pub value : TableValue
 
-module _ (w : TableWrite) (x : TableValue) (m : Option Meter) where
+module _ (w : TableWrite) (s : MeteredTable) where
   -- what is due for it
   abbrev pub write_due : ℕ
-  write_due = optional_due m (option_map element_price w.paid)
+  write_due = optional_due s.meter (option_map element_price w.paid)
 
   -- refused for a cause: nothing is taken, and the table stays
   abbrev pub Refuses : TableError → Ending → Type 0
-  Refuses cause end = (end.result ≡ Err cause) × (end.charge ≡ 0) × (end.value ≡ x)
+  Refuses cause end = (end.result ≡ Err cause) × (end.charge ≡ 0) × (end.value ≡ s.value)
 
   -- how it ends, by whether the types are the same, whether the ranges lie within, and whether so much can be paid
   abbrev pub EndsBy : Bool → Option (List ℕ) → Bool → Ending → Type 0
@@ -179,10 +202,18 @@ module _ (w : TableWrite) (x : TableValue) (m : Option Meter) where
   EndsBy true None payable end = Refuses w.outside end
   EndsBy true (Some elements) false end = Refuses (OutOfFuel write_due) end
   EndsBy true (Some elements) true end =
-      (end.result ≡ Ok tt) × (end.charge ≡ write_due) × (end.value ≡ record x { elements = elements })
+      (end.result ≡ Ok tt) × (end.charge ≡ write_due) × (end.value ≡ record s.value { elements = elements })
 
-  -- a part of a table is written over, with its charge
-  pub record WritesTable (result : Result (Unit {0}) TableError) (charge : ℕ) (x' : TableValue)
-      (m' : Option Meter) : Type 0 where
-    pub ends : EndsBy w.typed w.written (covers m write_due) (record { result = result; charge = charge; value = x' })
-    pub meter : m' ≡ option_map (λ m. meter_after m charge) m
+  -- how it ends
+  abbrev pub Ends : Ending → Type 0
+  Ends = EndsBy w.typed w.written (covers s.meter write_due)
+
+-- a part of a table is written over, with this charge
+pub record WritesTableCharging (write : TableValue → TableWrite) (s : MeteredTable)
+    (result : Result (Unit {0}) TableError) (charge : ℕ) (s' : MeteredTable) : Type 0 where
+  pub ends : Ends (write s.value) s (record { result = result; charge = charge; value = s'.value })
+  pub meter : s'.meter ≡ option_map (λ m. meter_after m charge) s.meter
+
+-- a part of a table is written over
+abbrev pub WritesTable : (TableValue → TableWrite) → MeteredTable → Result (Unit {0}) TableError → MeteredTable → Type 0
+WritesTable write = WithCharge (WritesTableCharging write)

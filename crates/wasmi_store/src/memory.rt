@@ -1,12 +1,14 @@
 //! Linear memories.
 ghost use Rattle.std.specs.Prelude.{◌≡◌, ◌+◌, ◌-◌, ◌*◌, ◌/◌, ◌%◌, ◌<◌, ◌≤◌, ◌^◌, ◌++◌, ◌↔◌, replicate, length, ℕ, Option, Some, None, Result, Ok, Err, MatchOption, OnOk, OnErr, IfOk, IfErr, true, false, nat_lt, if◌then◌else◌};
-ghost use Rattle.std.specs.Option.{option_copied_mut};
 ghost use Rattle.std.specs.Borrow.{sem, Lends, Array, u8};
 ghost use Rattle.wasmi_types.specs.Access.{at};
 ghost use Rattle.wasmi_meter.specs.Limiter.{optional_rules};
-ghost use Rattle.wasmi_meter.specs.LimiterRef.{lent_limiter, KeepsLoan, left_behind};
-ghost use Rattle.wasmi_store.specs.Growth.{metered_value};
-ghost use Rattle.wasmi_store.specs.Memory.{PermitsMinimum, IsSized, IsValidMemory};
+ghost use Rattle.wasmi_meter.specs.LimiterRef.{lent_limiter, KeepsLoan};
+ghost use Rattle.wasmi_meter.specs.Costs.{copy_cost};
+ghost use Rattle.wasmi_meter.specs.Meter.{Charges, due, meter_at_entry, meter_at_exit};
+ghost use Rattle.wasmi_store.specs.Buffer.{fits_room};
+ghost use Rattle.wasmi_store.specs.Growth.{metered_value, IsAsked};
+ghost use Rattle.wasmi_store.specs.Memory.{MemoryValue, PermitsMinimum, GrowsMemory, IsSized, IsValidMemory, size_question, growth_of};
 ghost use Rattle.wasmi_store.specs.MemoryType.{page_bytes, in_bounds};
 
 mod buffer;
@@ -41,6 +43,45 @@ fn permitted_minimum<L: ResourceLimiter>(
     let answer = limiter.memory_growing(0, size, ty.maximum_size());
     permission(answer, DENIED, DENIED)?;
     Ok(size)
+}
+
+/// Decides whether so many bytes may become so many: the limiter permits it, there is room for
+/// them, and the added ones are paid, in this order. No byte is had for it yet, so it is the same
+/// wherever the bytes lie.
+///
+/// The errors of a growth are those of [`LinearMemory::grow`].
+fn decide_growth<L: ResourceLimiter>(
+    old_size: usize,
+    size: usize,
+    maximum: Option<usize>,
+    has_room: bool,
+    fuel: &mut Fuel,
+    limiter: &mut ResourceLimiterRef<L>,
+) -> Result<(), MemoryError>
+    requires grows { old_size ≤ size }
+    ensures loan { KeepsLoan limiter.old limiter.new }
+    ensures permitted { OnOk result ((optional_rules L.rules).asked (lent_limiter limiter.old)
+        (size_question old_size size maximum) (Ok true) (lent_limiter limiter.new)) }
+    ensures room { OnOk result (has_room ≡ true) }
+    ensures paid { OnOk result (Charges fuel.old
+        (due fuel.old (λ costs. copy_cost costs (size - old_size) 1)) (Ok tt) fuel.new) }
+    ensures refused { IfErr result (λ error. (x : MemoryValue) (pages : ℕ) → 0 < pages
+        → IsAsked (growth_of x pages) (size_question old_size size maximum)
+        → fits_room x.room (size - old_size) ≡ has_room
+        → GrowsMemory (optional_rules L.rules) pages
+        (metered_value x (Some fuel.old) (lent_limiter limiter.old)) (Err error)
+        (metered_value x (Some fuel.new) (lent_limiter limiter.new))) }
+{
+    let answer = limiter.memory_growing(old_size, size, maximum);
+    permission(answer, MemoryError::OutOfBoundsGrowth, DENIED)?;
+    if !has_room {
+        return Err(tell(limiter, MemoryError::InvalidStaticBufferSize, DENIED));
+    }
+    let paid = charge::<u8>(fuel, (size - old_size) as u64);
+    if let Err(required_fuel) = paid {
+        return Err(tell(limiter, MemoryError::OutOfFuel { required_fuel }, DENIED));
+    }
+    Ok(())
 }
 
 /// A linear memory. Its name in signatures is [`Memory`].
@@ -152,7 +193,7 @@ impl<'r> LinearMemory<&'r mut [u8]> {
 }
 
 impl<R: Region> LinearMemory<R> {
-    ghost use Rattle.wasmi_store.specs.Memory.{memory_of, buffer_of, pages_of, dynamic_type, GrowsMemory, WritesMemory};
+    ghost use Rattle.wasmi_store.specs.Memory.{memory_of, buffer_of, pages_of, dynamic_type, WritesMemory};
     ghost use Rattle.wasmi_store.specs.Buffer.{with_bytes};
     ghost use Rattle.wasmi_store.specs.MemoryType.{IsSubtype};
     ghost use Rattle.wasmi_store.specs.contracts.memory.LinearMemory.{the_row};
@@ -232,24 +273,25 @@ impl<R: Region> LinearMemory<R> {
         limiter: &mut ResourceLimiterRef<L>,
     ) -> Result<u64, MemoryError>
         ensures loan { KeepsLoan limiter.old limiter.new }
-        ensures grown { (charge : ℕ) × GrowsMemory (optional_rules L.rules) additional
-            (metered_value self.old (option_copied_mut fuel.entry) (lent_limiter limiter.old))
-            result charge
-            (metered_value self.new (left_behind (λ lent. lent.0.now) fuel.exit)
-            (lent_limiter limiter.new)) }
+        ensures grown { GrowsMemory (optional_rules L.rules) additional
+            (metered_value self.old (meter_at_entry fuel.entry) (lent_limiter limiter.old)) result
+            (metered_value self.new (meter_at_exit fuel.exit) (lent_limiter limiter.new)) }
     {
         with_meter!(fuel => self.grow_metered(additional, fuel, limiter))
     }
 
-    fn grow_metered<L: ResourceLimiter>(
+    /// As `grow`, with a meter that is there.
+    ///
+    /// Own: upstream's `grow` takes an optional meter.
+    pub fn grow_metered<L: ResourceLimiter>(
         &mut self,
         additional: u64,
         fuel: &mut Fuel,
         limiter: &mut ResourceLimiterRef<L>,
     ) -> Result<u64, MemoryError>
         ensures loan { KeepsLoan limiter.old limiter.new }
-        ensures grown { (charge : ℕ) × GrowsMemory (optional_rules L.rules) additional
-            (metered_value self.old (Some fuel.old) (lent_limiter limiter.old)) result charge
+        ensures grown { GrowsMemory (optional_rules L.rules) additional
+            (metered_value self.old (Some fuel.old) (lent_limiter limiter.old)) result
             (metered_value self.new (Some fuel.new) (lent_limiter limiter.new)) }
     {
         let old_pages = self.size();
@@ -260,44 +302,27 @@ impl<R: Region> LinearMemory<R> {
             return Err(MemoryError::OutOfBoundsGrowth);
         };
         let old_size = self.buffer.len();
-        let answer = limiter.memory_growing(old_size, size, self.ty.maximum_size());
-        permission(answer, MemoryError::OutOfBoundsGrowth, DENIED)?;
-        if !self.buffer.has_room(size) {
-            return Err(tell(limiter, MemoryError::InvalidStaticBufferSize, DENIED));
-        }
-        let paid = charge::<u8>(fuel, (size - old_size) as u64);
-        if let Err(required_fuel) = paid {
-            return Err(tell(limiter, MemoryError::OutOfFuel { required_fuel }, DENIED));
-        }
+        let maximum = self.ty.maximum_size();
+        let has_room = self.buffer.has_room(size);
+        decide_growth(old_size, size, maximum, has_room, fuel, limiter)?;
         if let Err(cause) = self.buffer.grow(size) {
             return Err(tell(limiter, cause, DENIED));
         }
         Ok(old_pages)
     }
 
-    /// As `grow`, under a limiter that is lent for this call alone: what it becomes is known.
+    /// As `grow_metered`, under a limiter that is lent for this call alone: what it becomes is
+    /// known.
+    ///
+    /// Own.
     pub fn grow_lending<L: ResourceLimiter>(
-        &mut self,
-        additional: u64,
-        fuel: Option<&mut Fuel>,
-        limiter: &mut L,
-    ) -> Result<u64, MemoryError>
-        ensures { (charge : ℕ) × GrowsMemory (optional_rules L.rules) additional
-            (metered_value self.old (option_copied_mut fuel.entry) (Some limiter.old)) result charge
-            (metered_value self.new (left_behind (λ lent. lent.0.now) fuel.exit)
-            (Some limiter.new)) }
-    {
-        with_meter!(fuel => self.grow_metered_lending(additional, fuel, limiter))
-    }
-
-    fn grow_metered_lending<L: ResourceLimiter>(
         &mut self,
         additional: u64,
         fuel: &mut Fuel,
         limiter: &mut L,
     ) -> Result<u64, MemoryError>
-        ensures { (charge : ℕ) × GrowsMemory (optional_rules L.rules) additional
-            (metered_value self.old (Some fuel.old) (Some limiter.old)) result charge
+        ensures { GrowsMemory (optional_rules L.rules) additional
+            (metered_value self.old (Some fuel.old) (Some limiter.old)) result
             (metered_value self.new (Some fuel.new) (Some limiter.new)) }
     {
         let mut lent = ResourceLimiterRef::from(limiter);

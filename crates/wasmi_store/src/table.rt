@@ -1,10 +1,10 @@
 //! Tables.
 ghost use Rattle.std.specs.Prelude.{◌≡◌, ◌+◌, ◌<◌, ◌≤◌, ◌∷◌, [], length, take, drop, replicate, ℕ, Some, None, nat_le};
-ghost use Rattle.std.specs.Option.{option_copied_mut};
 ghost use Rattle.wasmi_types.specs.Access.{overwrite};
 ghost use Rattle.wasmi_meter.specs.Limiter.{optional_rules};
-ghost use Rattle.wasmi_meter.specs.LimiterRef.{lent_limiter, KeepsLoan, left_behind};
-ghost use Rattle.wasmi_store.specs.Growth.{metered_value};
+ghost use Rattle.wasmi_meter.specs.LimiterRef.{lent_limiter, KeepsLoan};
+ghost use Rattle.wasmi_meter.specs.Meter.{meter_at_entry, meter_at_exit};
+ghost use Rattle.wasmi_store.specs.Growth.{metered_value, metered};
 ghost use Rattle.wasmi_store.specs.Segment.{segment_of};
 
 mod copy;
@@ -27,8 +27,9 @@ const DENIED: TableError = TableError::ResourceLimiterDeniedAllocation;
 
 /// A table: references of one type, null ones among them.
 ///
-/// The calls that are paid take a meter, or none; one that is absent or off is charged nothing. 64
-/// bytes are copied for a fuel where a host chooses no other costs, and an element has 4 bytes.
+/// The calls that are paid take a meter, or none; one that is absent or off is charged nothing. The
+/// forms in `_metered` take one that is there. 64 bytes are copied for a fuel where a host chooses
+/// no other costs, and an element has 4 bytes.
 ///
 /// It is valid at any time: see [`crate::laws::tables_are_valid`].
 ///
@@ -52,7 +53,7 @@ impl Model for Table {
 
 impl Table {
     ghost use Rattle.wasmi_store.specs.TableType.{IsSubtype};
-    ghost use Rattle.wasmi_store.specs.Table.{TableValue, IsSized, IsValidTable, size_of, dynamic_type, element_at, element_price, MakesTable, GrowsTableRaw, GrowsTable, WritesTable, setting_of, filling_of, copy_of, initialization_of, typed_by};
+    ghost use Rattle.wasmi_store.specs.Table.{TableValue, IsSized, IsValidTable, size_of, dynamic_type, element_at, element_price, MakesTable, GrowsTableRaw, GrowsTable, SetsTable, SetsTableRaw, WritesTable, filling_of, raw_filling_of, copy_of, initialization_of};
 
     /// A table with one reference in each place, at the minimum of its type. It takes no fuel.
     ///
@@ -140,16 +141,17 @@ impl Table {
         limiter: &mut ResourceLimiterRef<L>,
     ) -> Result<u64, TableError>
         ensures loan { KeepsLoan limiter.old limiter.new }
-        ensures grown { (charge : ℕ) × GrowsTable (optional_rules L.rules) delta init
-            (metered_value self.old (option_copied_mut fuel.entry) (lent_limiter limiter.old))
-            result charge
-            (metered_value self.new (left_behind (λ lent. lent.0.now) fuel.exit)
-            (lent_limiter limiter.new)) }
+        ensures grown { GrowsTable (optional_rules L.rules) delta init
+            (metered_value self.old (meter_at_entry fuel.entry) (lent_limiter limiter.old)) result
+            (metered_value self.new (meter_at_exit fuel.exit) (lent_limiter limiter.new)) }
     {
         with_meter!(fuel => self.grow_metered(delta, init, fuel, limiter))
     }
 
-    fn grow_metered<L: ResourceLimiter>(
+    /// As `grow`, with a meter that is there.
+    ///
+    /// Own: upstream's `grow` takes an optional meter.
+    pub fn grow_metered<L: ResourceLimiter>(
         &mut self,
         delta: u64,
         init: TypedRawRef,
@@ -157,39 +159,27 @@ impl Table {
         limiter: &mut ResourceLimiterRef<L>,
     ) -> Result<u64, TableError>
         ensures loan { KeepsLoan limiter.old limiter.new }
-        ensures grown { (charge : ℕ) × GrowsTable (optional_rules L.rules) delta init
-            (metered_value self.old (Some fuel.old) (lent_limiter limiter.old)) result charge
+        ensures grown { GrowsTable (optional_rules L.rules) delta init
+            (metered_value self.old (Some fuel.old) (lent_limiter limiter.old)) result
             (metered_value self.new (Some fuel.new) (lent_limiter limiter.new)) }
     {
         self.ty.ensure_element_type_matches(init.ty)?;
         self.grow_raw_metered(delta, init.raw, fuel, limiter)
     }
 
-    /// As `grow`, under a limiter that is lent for this call alone: what it becomes is known.
+    /// As `grow_metered`, under a limiter that is lent for this call alone: what it becomes is
+    /// known.
+    ///
+    /// Own.
     pub fn grow_lending<L: ResourceLimiter>(
-        &mut self,
-        delta: u64,
-        init: TypedRawRef,
-        fuel: Option<&mut Fuel>,
-        limiter: &mut L,
-    ) -> Result<u64, TableError>
-        ensures { (charge : ℕ) × GrowsTable (optional_rules L.rules) delta init
-            (metered_value self.old (option_copied_mut fuel.entry) (Some limiter.old)) result charge
-            (metered_value self.new (left_behind (λ lent. lent.0.now) fuel.exit)
-            (Some limiter.new)) }
-    {
-        with_meter!(fuel => self.grow_metered_lending(delta, init, fuel, limiter))
-    }
-
-    fn grow_metered_lending<L: ResourceLimiter>(
         &mut self,
         delta: u64,
         init: TypedRawRef,
         fuel: &mut Fuel,
         limiter: &mut L,
     ) -> Result<u64, TableError>
-        ensures { (charge : ℕ) × GrowsTable (optional_rules L.rules) delta init
-            (metered_value self.old (Some fuel.old) (Some limiter.old)) result charge
+        ensures { GrowsTable (optional_rules L.rules) delta init
+            (metered_value self.old (Some fuel.old) (Some limiter.old)) result
             (metered_value self.new (Some fuel.new) (Some limiter.new)) }
     {
         let mut lent = ResourceLimiterRef::from(limiter);
@@ -217,11 +207,9 @@ impl Table {
         limiter: &mut ResourceLimiterRef<L>,
     ) -> Result<u64, TableError>
         ensures loan { KeepsLoan limiter.old limiter.new }
-        ensures grown { (charge : ℕ) × GrowsTableRaw (optional_rules L.rules) delta init
-            (metered_value self.old (option_copied_mut fuel.entry) (lent_limiter limiter.old))
-            result charge
-            (metered_value self.new (left_behind (λ lent. lent.0.now) fuel.exit)
-            (lent_limiter limiter.new)) }
+        ensures grown { GrowsTableRaw (optional_rules L.rules) delta init
+            (metered_value self.old (meter_at_entry fuel.entry) (lent_limiter limiter.old)) result
+            (metered_value self.new (meter_at_exit fuel.exit) (lent_limiter limiter.new)) }
     {
         with_meter!(fuel => self.grow_raw_metered(delta, init, fuel, limiter))
     }
@@ -234,8 +222,8 @@ impl Table {
         limiter: &mut ResourceLimiterRef<L>,
     ) -> Result<u64, TableError>
         ensures loan { KeepsLoan limiter.old limiter.new }
-        ensures grown { (charge : ℕ) × GrowsTableRaw (optional_rules L.rules) delta init
-            (metered_value self.old (Some fuel.old) (lent_limiter limiter.old)) result charge
+        ensures grown { GrowsTableRaw (optional_rules L.rules) delta init
+            (metered_value self.old (Some fuel.old) (lent_limiter limiter.old)) result
             (metered_value self.new (Some fuel.new) (lent_limiter limiter.new)) }
     {
         let size = self.size();
@@ -259,31 +247,19 @@ impl Table {
         Ok(size)
     }
 
-    /// As `grow_raw`, under a limiter that is lent for this call alone: what it becomes is known.
+    /// As `grow_raw` with a meter that is there, under a limiter that is lent for this call alone:
+    /// what it becomes is known.
+    ///
+    /// Own.
     pub fn grow_raw_lending<L: ResourceLimiter>(
-        &mut self,
-        delta: u64,
-        init: RawRef,
-        fuel: Option<&mut Fuel>,
-        limiter: &mut L,
-    ) -> Result<u64, TableError>
-        ensures { (charge : ℕ) × GrowsTableRaw (optional_rules L.rules) delta init
-            (metered_value self.old (option_copied_mut fuel.entry) (Some limiter.old)) result charge
-            (metered_value self.new (left_behind (λ lent. lent.0.now) fuel.exit)
-            (Some limiter.new)) }
-    {
-        with_meter!(fuel => self.grow_raw_metered_lending(delta, init, fuel, limiter))
-    }
-
-    fn grow_raw_metered_lending<L: ResourceLimiter>(
         &mut self,
         delta: u64,
         init: RawRef,
         fuel: &mut Fuel,
         limiter: &mut L,
     ) -> Result<u64, TableError>
-        ensures { (charge : ℕ) × GrowsTableRaw (optional_rules L.rules) delta init
-            (metered_value self.old (Some fuel.old) (Some limiter.old)) result charge
+        ensures { GrowsTableRaw (optional_rules L.rules) delta init
+            (metered_value self.old (Some fuel.old) (Some limiter.old)) result
             (metered_value self.new (Some fuel.new) (Some limiter.new)) }
     {
         let mut lent = ResourceLimiterRef::from(limiter);
@@ -305,9 +281,7 @@ impl Table {
     /// Sets the element at an index. Refusals in their order: `ElementTypeMismatch`,
     /// `SetOutOfBounds`.
     pub fn set(&mut self, index: u64, value: TypedRawRef) -> Result<(), TableError>
-        ensures { WritesTable
-            (typed_by self.old value.ty (setting_of self.old index value.raw)) self.old None result
-            0 self.new None }
+        ensures { SetsTable index value self.old result self.new }
     {
         self.ty.ensure_element_type_matches(value.ty)?;
         self.set_raw(index, value.raw)
@@ -316,8 +290,7 @@ impl Table {
     /// Sets the element at an index; it is `SetOutOfBounds` past the end. The type is the caller's
     /// matter.
     pub fn set_raw(&mut self, index: u64, value: RawRef) -> Result<(), TableError>
-        ensures { WritesTable
-            (setting_of self.old index value) self.old None result 0 self.new None }
+        ensures { SetsTableRaw index value self.old result self.new }
     {
         let index = index as usize;
         if index >= self.elements.len() {
@@ -339,16 +312,17 @@ impl Table {
         len: u32,
         fuel: Option<&mut Fuel>,
     ) -> Result<(), TableError>
-        ensures { (charge : ℕ) × WritesTable
-            (typed_by self.old (segment_of element.entry).ty
-            (initialization_of self.old dst (segment_of element.entry).items src len))
-            self.old (option_copied_mut fuel.entry) result charge self.new
-            (left_behind (λ lent. lent.0.now) fuel.exit) }
+        ensures { WritesTable (initialization_of dst src len (segment_of element.entry))
+            (metered self.old (meter_at_entry fuel.entry)) result
+            (metered self.new (meter_at_exit fuel.exit)) }
     {
         with_meter!(fuel => self.init_metered(element, dst, src, len, fuel))
     }
 
-    fn init_metered(
+    /// As `init`, with a meter that is there.
+    ///
+    /// Own: upstream's `init` takes an optional meter.
+    pub fn init_metered(
         &mut self,
         element: ElementSegmentRef,
         dst: u64,
@@ -356,10 +330,8 @@ impl Table {
         len: u32,
         fuel: &mut Fuel,
     ) -> Result<(), TableError>
-        ensures { (charge : ℕ) × WritesTable
-            (typed_by self.old (segment_of element.entry).ty
-            (initialization_of self.old dst (segment_of element.entry).items src len))
-            self.old (Some fuel.old) result charge self.new (Some fuel.new) }
+        ensures { WritesTable (initialization_of dst src len (segment_of element.entry))
+            (metered self.old (Some fuel.old)) result (metered self.new (Some fuel.new)) }
     {
         self.ty.ensure_element_type_matches(element.ty())?;
         let (items, src, len) = (element.items(), u64::from(src), u64::from(len));
@@ -390,16 +362,17 @@ impl Table {
         len: u64,
         fuel: Option<&mut Fuel>,
     ) -> Result<(), TableError>
-        ensures { (charge : ℕ) × WritesTable
-            (typed_by dst_table.old src_table.now.ty.element
-            (copy_of dst_table.old dst src_table.now.elements src len))
-            dst_table.old (option_copied_mut fuel.entry) result charge dst_table.new
-            (left_behind (λ lent. lent.0.now) fuel.exit) }
+        ensures { WritesTable (copy_of dst src len src_table.now)
+            (metered dst_table.old (meter_at_entry fuel.entry)) result
+            (metered dst_table.new (meter_at_exit fuel.exit)) }
     {
         with_meter!(fuel => dst_table.copy_metered(dst, src_table, src, len, fuel))
     }
 
-    fn copy_metered(
+    /// As `copy`, with a meter that is there.
+    ///
+    /// Own: upstream's `copy` takes an optional meter.
+    pub fn copy_metered(
         &mut self,
         dst: u64,
         src_table: &Table,
@@ -407,10 +380,8 @@ impl Table {
         len: u64,
         fuel: &mut Fuel,
     ) -> Result<(), TableError>
-        ensures { (charge : ℕ) × WritesTable
-            (typed_by self.old src_table.now.ty.element
-            (copy_of self.old dst src_table.now.elements src len))
-            self.old (Some fuel.old) result charge self.new (Some fuel.new) }
+        ensures { WritesTable (copy_of dst src len src_table.now)
+            (metered self.old (Some fuel.old)) result (metered self.new (Some fuel.new)) }
     {
         self.ty.ensure_element_type_matches(src_table.ty.element())?;
         let items = src_table.elements.as_slice();
@@ -437,22 +408,25 @@ impl Table {
         len: u64,
         fuel: Option<&mut Fuel>,
     ) -> Result<(), TableError>
-        ensures { (charge : ℕ) × WritesTable (copy_of self.old dst self.old.elements src len)
-            self.old (option_copied_mut fuel.entry) result charge self.new
-            (left_behind (λ lent. lent.0.now) fuel.exit) }
+        ensures { WritesTable (copy_of dst src len self.old)
+            (metered self.old (meter_at_entry fuel.entry)) result
+            (metered self.new (meter_at_exit fuel.exit)) }
     {
         with_meter!(fuel => self.copy_within_metered(dst, src, len, fuel))
     }
 
-    fn copy_within_metered(
+    /// As `copy_within`, with a meter that is there.
+    ///
+    /// Own: upstream's `copy_within` takes an optional meter.
+    pub fn copy_within_metered(
         &mut self,
         dst: u64,
         src: u64,
         len: u64,
         fuel: &mut Fuel,
     ) -> Result<(), TableError>
-        ensures { (charge : ℕ) × WritesTable (copy_of self.old dst self.old.elements src len)
-            self.old (Some fuel.old) result charge self.new (Some fuel.new) }
+        ensures { WritesTable (copy_of dst src len self.old)
+            (metered self.old (Some fuel.old)) result (metered self.new (Some fuel.new)) }
     {
         let items = self.elements.as_slice();
         if !lies_within(items, src, len) || !lies_within(items, dst, len) {
@@ -475,24 +449,25 @@ impl Table {
         len: u64,
         fuel: Option<&mut Fuel>,
     ) -> Result<(), TableError>
-        ensures { (charge : ℕ)
-            × WritesTable (typed_by self.old val.ty (filling_of self.old dst val.raw len))
-            self.old (option_copied_mut fuel.entry) result charge self.new
-            (left_behind (λ lent. lent.0.now) fuel.exit) }
+        ensures { WritesTable (filling_of dst val len)
+            (metered self.old (meter_at_entry fuel.entry)) result
+            (metered self.new (meter_at_exit fuel.exit)) }
     {
         with_meter!(fuel => self.fill_metered(dst, val, len, fuel))
     }
 
-    fn fill_metered(
+    /// As `fill`, with a meter that is there.
+    ///
+    /// Own: upstream's `fill` takes an optional meter.
+    pub fn fill_metered(
         &mut self,
         dst: u64,
         val: TypedRawRef,
         len: u64,
         fuel: &mut Fuel,
     ) -> Result<(), TableError>
-        ensures { (charge : ℕ)
-            × WritesTable (typed_by self.old val.ty (filling_of self.old dst val.raw len))
-            self.old (Some fuel.old) result charge self.new (Some fuel.new) }
+        ensures { WritesTable (filling_of dst val len)
+            (metered self.old (Some fuel.old)) result (metered self.new (Some fuel.new)) }
     {
         self.ty.ensure_element_type_matches(val.ty)?;
         self.fill_raw_metered(dst, val.raw, len, fuel)
@@ -507,9 +482,9 @@ impl Table {
         len: u64,
         fuel: Option<&mut Fuel>,
     ) -> Result<(), TableError>
-        ensures { (charge : ℕ) × WritesTable (filling_of self.old dst val len)
-            self.old (option_copied_mut fuel.entry) result charge self.new
-            (left_behind (λ lent. lent.0.now) fuel.exit) }
+        ensures { WritesTable (raw_filling_of dst val len)
+            (metered self.old (meter_at_entry fuel.entry)) result
+            (metered self.new (meter_at_exit fuel.exit)) }
     {
         with_meter!(fuel => self.fill_raw_metered(dst, val, len, fuel))
     }
@@ -521,8 +496,8 @@ impl Table {
         len: u64,
         fuel: &mut Fuel,
     ) -> Result<(), TableError>
-        ensures { (charge : ℕ) × WritesTable (filling_of self.old dst val len)
-            self.old (Some fuel.old) result charge self.new (Some fuel.new) }
+        ensures { WritesTable (raw_filling_of dst val len)
+            (metered self.old (Some fuel.old)) result (metered self.new (Some fuel.new)) }
     {
         if !lies_within(self.elements.as_slice(), dst, len) {
             return Err(TableError::FillOutOfBounds);

@@ -1,11 +1,11 @@
-use Rattle.std.proofs.Common.{refl, sym}
-use Rattle.wasmi_store.proofs.WriteLemmas.{writes_unpaid, copied_part}
+use Rattle.std.proofs.Common.{sym}
+use Rattle.wasmi_store.proofs.WriteLemmas.{writes_unpaid, same_as_itself, copied_part}
 use Rattle.wasmi_store.proofs.table.Table.copy_within_metered.Goals as goal
 
 pub returns-in-Err : goal.returns-in-Err
 returns-in-Err c =
     rw (← c.self.view_is) (
-    writes_unpaid _ _ _ refl
+    writes_unpaid _ _ _ (same_as_itself _)
     _ (copied_part _ _ _ _ _ (sym (rw c.as_slice-items.ensures.value at c.if-not-lies_within.ensures))
     (sym (rw c.as_slice-items.ensures.value at c.if-not-lies_within-2.ensures)))
     _ _ c.in-Err.ensures
