@@ -12,7 +12,8 @@ use Rattle.wasmi_core.specs.Effects.{ActsAt, reply_of}
 use Rattle.wasmi_core.specs.Runs.{Run}
 use Rattle.wasmi_core.specs.State.{State, live_at}
 use Rattle.wasmi_core.specs.Steps.{Changed, Effect, FuelSet, MemoryGrown, RangeWritten, Step, TableGrown, TakesEffect, effect_of}
-use Rattle.wasmi_core.specs.TableEffects.{Metered, WritesRangeAt, WritesTableAt, metered, write_of}
+use Rattle.wasmi_core.specs.TableEffects.{Metered, WritesRangeAt, WritesTableAt, write_of}
+use Rattle.wasmi_store.specs.Growth.{metered}
 use Rattle.wasmi_core.specs.World.{Turn, World}
 use Rattle.wasmi_core.specs.declared.calls.Call.{Call}
 use Rattle.wasmi_core.specs.declared.calls.Call.TheVariants.{SetFuel}
@@ -25,8 +26,8 @@ use Rattle.wasmi_meter.specs.Meter.{Meter, amount_left, due, meter_after, meter_
 use Rattle.wasmi_meter.specs.declared.error.TableError.{TableError}
 use Rattle.wasmi_store.proofs.GrowthLemmas.{on_test}
 use Rattle.wasmi_store.specs.Growth.{Grows, Growth, metered_value}
-use Rattle.wasmi_store.specs.Memory.{GrowsMemory, MemoryValue, pages_of}
-use Rattle.wasmi_store.specs.Table.{EndsBy, GrowsTable, TableValue, TableWrite, WritesTable, write_due, size_of}
+use Rattle.wasmi_store.specs.Memory.{GrowsMemoryCharging, MemoryValue, pages_of}
+use Rattle.wasmi_store.specs.Table.{EndsBy, GrowsTableCharging, TableValue, TableWrite, WritesTableCharging, write_due, size_of}
 use Rattle.wasmi_store.specs.TableType.{same_type}
 use Rattle.wasmi_typed.specs.declared.typed_ref.TypedRawRef.{TypedRawRef}
 use Rattle.wasmi_store.specs.Memory as memory
@@ -98,7 +99,7 @@ grows_takes rules g x m l result charge x' m' l' (inr some) =
 -- a growth of a table, whose type is tested first
 table_grows_takes : {S : Type 0} (rules : Rules S) (n : ℕ) (init : TypedRawRef) (x : TableValue) (m : Meter) (l : S)
     (result : Result ℕ TableError) (charge : ℕ) (x' : TableValue) (m' : Meter) (l' : S)
-    → GrowsTable rules n init (record { value = x; meter = Some m; limiter = l }) result charge
+    → GrowsTableCharging rules n init (record { value = x; meter = Some m; limiter = l }) result charge
     (record { value = x'; meter = Some m'; limiter = l' }) → TakesCharge m charge m'
 table_grows_takes {S} rules n init x m l result charge x' m' l' grows =
     on_test (same_type x.ty.element init.ty) _ _ grows
@@ -106,12 +107,16 @@ table_grows_takes {S} rules n init x m l result charge x' m' l' grows =
     result charge x' m' l' h)
     (λ h. takes_nothing m m' charge h.1 (same_Some m' m (ap (λ (s : MeteredValue TableValue S). s.meter) h.2)))
 
-module _ (w : TableWrite) (x : TableValue) (m : Meter) (result : Result (Unit {0}) TableError) (charge : ℕ)
-    (x' : TableValue) where
+module _ (write : TableValue → TableWrite) (x : TableValue) (m : Meter) (result : Result (Unit {0}) TableError)
+    (charge : ℕ) (x' : TableValue) where
+  -- how it is written over
+  abbrev w : TableWrite
+  w = write x
+
   -- a write over a part of a table is charged no more than is left
   ends_paid : (typed : Bool) (written : Option (List ℕ)) (payable : Bool)
-      → covers (Some m) (write_due w x (Some m)) ≡ payable
-      → EndsBy w x (Some m) typed written payable (record { result = result; charge = charge; value = x' })
+      → covers (Some m) (write_due w (metered x (Some m))) ≡ payable
+      → EndsBy w (metered x (Some m)) typed written payable (record { result = result; charge = charge; value = x' })
       → charge ≤ amount_left m
   ends_paid false written payable enough ends = paid_free m charge ends.1
   ends_paid true None payable enough ends = paid_free m charge ends.1
@@ -119,7 +124,8 @@ module _ (w : TableWrite) (x : TableValue) (m : Meter) (result : Result (Unit {0
   ends_paid true (Some elements) true enough ends = paid_due m _ charge enough ends.1
 
   -- so it takes its charge
-  pub write_takes : (m' : Meter) → WritesTable w x (Some m) result charge x' (Some m') → TakesCharge m charge m'
+  pub write_takes : (m' : Meter)
+      → WritesTableCharging write (metered x (Some m)) result charge (metered x' (Some m')) → TakesCharge m charge m'
   write_takes m' writes = takes_paid m m' charge (ends_paid w.typed w.written _ refl writes.ends) writes.meter
 
 -- a value, the meter that is charged for it, and the limiter that is asked
@@ -168,10 +174,11 @@ acts_takes {X = X} {S = S} Acts k reply_to t reply takes acts =
 -- a growth of the memory of an index
 memory_growth_takes : {S : Type 0} (rules : Rules S) (k pages : ℕ) (t : Growing (List (Slot MemoryValue)) S)
     (reply : Reply)
-    → ActsAt k (reply_of replied.Number replied.Memory) (GrowsMemory rules pages) (before t) reply t.charge (after t)
+    → ActsAt k (reply_of replied.Number replied.Memory) (GrowsMemoryCharging rules pages) (before t) reply t.charge
+    (after t)
     → TakesCharge t.first.meter t.charge t.last.meter
 memory_growth_takes rules k pages t reply acts =
-    acts_takes (GrowsMemory rules pages) k (reply_of replied.Number replied.Memory) t reply
+    acts_takes (GrowsMemoryCharging rules pages) k (reply_of replied.Number replied.Memory) t reply
     (λ x result x'. grows_takes rules
     (record { amount = pages; size = pages_of x; request = memory.growth_of x pages }) x t.first.meter t.first.limiter
     result
@@ -181,32 +188,32 @@ memory_growth_takes rules k pages t reply acts =
 -- a growth of the table of an index
 table_growth_takes : {S : Type 0} (rules : Rules S) (k n : ℕ) (init : TypedRawRef)
     (t : Growing (List (Slot TableValue)) S) (reply : Reply)
-    → ActsAt k (reply_of replied.Number replied.Table) (GrowsTable rules n init) (before t) reply t.charge (after t)
+    → ActsAt k (reply_of replied.Number replied.Table) (GrowsTableCharging rules n init) (before t) reply t.charge
+    (after t)
     → TakesCharge t.first.meter t.charge t.last.meter
 table_growth_takes rules k n init t reply acts =
-    acts_takes (GrowsTable rules n init) k (reply_of replied.Number replied.Table) t reply
+    acts_takes (GrowsTableCharging rules n init) k (reply_of replied.Number replied.Table) t reply
     (λ x result x'. table_grows_takes rules n init x t.first.meter t.first.limiter result t.charge x' t.last.meter
     t.last.limiter) acts
 
 -- a write over a part of the table of an index
 table_write_takes : (k : ℕ) (write : TableValue → TableWrite) (slots : List (Slot TableValue)) (m : Meter)
     (reply : Reply) (charge : ℕ) (slots' : List (Slot TableValue)) (m' : Meter)
-    → WritesTableAt k write (metered slots m) reply charge (metered slots' m') → TakesCharge m charge m'
+    → WritesTableAt k write (metered slots (Some m)) reply charge (metered slots' (Some m')) → TakesCharge m charge m'
 table_write_takes k write slots m reply charge slots' m' writes =
     acts_takes {X = TableValue} {S = Unit {0}}
-    (λ s result charge s'. WritesTable (write s.value) s.value s.meter result charge s'.value s'.meter) k
-    (reply_of (λ _. replied.Done) replied.Table)
+    (WritesTableCharging write) k (reply_of (λ _. replied.Done) replied.Table)
     (record {
       first = record { value = slots; meter = m; limiter = tt };
       charge = charge;
       last = record { value = slots'; meter = m'; limiter = tt };
     })
-    reply (λ x result x'. write_takes (write x) x m result charge x' m') writes
+    reply (λ x result x'. write_takes write x m result charge x' m') writes
 
 -- so where the write may be missing
 part_takes : (k : ℕ) (part : Option (TableValue → TableWrite)) (slots : List (Slot TableValue)) (m : Meter)
     (reply : Reply) (charge : ℕ) (slots' : List (Slot TableValue)) (m' : Meter)
-    → WritesRangeAt k part (metered slots m) reply charge (metered slots' m') → TakesCharge m charge m'
+    → WritesRangeAt k part (metered slots (Some m)) reply charge (metered slots' (Some m')) → TakesCharge m charge m'
 part_takes k part slots m reply charge slots' m' writes =
     on_live part _ _ writes
     (λ missing. takes_nothing m m' charge missing.1

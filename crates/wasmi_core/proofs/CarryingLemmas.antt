@@ -12,8 +12,8 @@ use Rattle.wasmi_meter.specs.Attempt.{Attempt, Denied, Request, Failed, AttemptO
 use Rattle.wasmi_meter.specs.Limiter.{Answer, Failure, NoticeAnswer, Question, Rules}
 use Rattle.wasmi_store.specs.Buffer.{Lent, Owned}
 use Rattle.wasmi_store.specs.Growth.{Grows, Growth, Makes}
-use Rattle.wasmi_store.specs.Memory.{GrowsMemory, new_memory, pages_of}
-use Rattle.wasmi_store.specs.Table.{GrowsTable, TableValue, new_table, size_of}
+use Rattle.wasmi_store.specs.Memory.{GrowsMemoryCharging, new_memory, pages_of}
+use Rattle.wasmi_store.specs.Table.{GrowsTableCharging, TableValue, new_table, size_of}
 use Rattle.wasmi_store.specs.TableType.{same_type}
 use Rattle.wasmi_typed.specs.declared.typed_ref.TypedRawRef.{TypedRawRef}
 use Rattle.wasmi_store.specs.Memory as memory
@@ -115,7 +115,8 @@ module _ {S T : Type 0} (image : S → T) where
     -- a growth of a table, whose type is tested first
     table_growth_too : (n : ℕ) (init : TypedRawRef) (s s' : MeteredValue TableValue S) (result : Result ℕ _)
         (charge : ℕ)
-        → GrowsTable rules n init s result charge s' → GrowsTable rules' n init (moved s) result charge (moved s')
+        → GrowsTableCharging rules n init s result charge s'
+        → GrowsTableCharging rules' n init (moved s) result charge (moved s')
     table_growth_too n init s s' result charge grows =
         on_test_too (same_type s.value.ty.element init.ty) _ _ _ _
         (grows_too (record { amount = n; size = size_of s.value; request = table.growth_of s.value n init.raw }) s s'
@@ -168,8 +169,8 @@ module _ {S T : Type 0} (image : S → T) where
             h.1,
           )) step.effect)
       effect_carried (MemoryGrown k pages) step =
-          pays_too step (acts_too k (reply_of replied.Number replied.Memory) (GrowsMemory rules pages)
-          (GrowsMemory rules' pages)
+          pays_too step (acts_too k (reply_of replied.Number replied.Memory) (GrowsMemoryCharging rules pages)
+          (GrowsMemoryCharging rules' pages)
           (λ s. grows_too (record { amount = pages; size = pages_of s.value; request = memory.growth_of s.value pages })
           s)
           _ _ turn.reply turn.charge step.effect)
@@ -177,8 +178,8 @@ module _ {S T : Type 0} (image : S → T) where
           asks_too step (creates_too replied.Table (table.creation_of ty init.ty) (new_table ty init.raw) w.state.tables
           step.part turn.reply w.limiter step.limiter step.effect)
       effect_carried (TableGrown k n init) step =
-          pays_too step (acts_too k (reply_of replied.Number replied.Table) (GrowsTable rules n init)
-          (GrowsTable rules' n init) (table_growth_too n init) _ _ turn.reply turn.charge step.effect)
+          pays_too step (acts_too k (reply_of replied.Number replied.Table) (GrowsTableCharging rules n init)
+          (GrowsTableCharging rules' n init) (table_growth_too n init) _ _ turn.reply turn.charge step.effect)
       effect_carried (RangeWritten k source dst len) step =
           record {
             part = step.part;

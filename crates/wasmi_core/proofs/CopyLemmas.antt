@@ -11,7 +11,8 @@ use Rattle.wasmi_core.specs.declared.calls.Reply.{Reply}
 use Rattle.wasmi_core.specs.declared.slots.Slot.{Slot}
 use Rattle.wasmi_core.specs.declared.slots.Slot.TheVariants.{Live, Gone}
 use Rattle.wasmi_core.specs.State.{live_at}
-use Rattle.wasmi_core.specs.TableEffects.{Metered, metered, CopiesSlot, WritesTableFrom}
+use Rattle.wasmi_core.specs.TableEffects.{Metered, CopiesSlot, WritesTableFrom}
+use Rattle.wasmi_store.specs.Growth.{metered}
 
 -- what was read, written back
 pub set_read : {X : Type 0} (xs : List X) (k : ℕ) (y : X) → slice_get xs k ≡ Some y → set xs k y ≡ xs
@@ -50,7 +51,7 @@ module _ (copy : Copying) (reply : Reply) (charge : ℕ) (s' : MeteredValue (Slo
       → s' ≡ record { value = slot; meter = Some copy.meter; limiter = tt }
       → (slots' : List (Slot TableValue)) → slots' ≡ set copy.slots copy.into s'.value
       → (let after : Metered = record { value = slots'; meter = s'.meter; limiter = tt } in after)
-      ≡ metered copy.slots copy.meter
+      ≡ metered copy.slots (Some copy.meter)
   nothing_put slot at_i same slots' put =
       λ k. record {
         value = (put ∙ ap (λ s. set copy.slots copy.into s.value) same ∙ set_read copy.slots copy.into slot at_i) k;
@@ -64,7 +65,8 @@ module _ (copy : Copying) (reply : Reply) (charge : ℕ) (s' : MeteredValue (Slo
       → slice_get copy.slots copy.from ≡ Some source
       → CopiesSlot copy.write source (record { value = slot; meter = Some copy.meter; limiter = tt }) reply charge s'
       → (slots' : List (Slot TableValue)) → slots' ≡ set copy.slots copy.into s'.value
-      → WritesTableFrom (live_at copy.slots copy.from) copy.into copy.write (metered copy.slots copy.meter) reply charge
+      → WritesTableFrom (live_at copy.slots copy.from) copy.into copy.write
+      (metered copy.slots (Some copy.meter)) reply charge
       (record { value = slots'; meter = s'.meter; limiter = tt })
   copies_at slot (Gone size) at_i at_j (replied, charged, same) slots' put =
       rw at_j (replied, charged, nothing_put slot at_i same slots' put)
@@ -78,7 +80,8 @@ module _ (copy : Copying) (reply : Reply) (charge : ℕ) (s' : MeteredValue (Slo
       → (slot source : Slot TableValue) → copy.into < copy.from → copy.from < length copy.slots
       → CopiesSlot copy.write (get_or back 0 source)
       (record { value = get_or front copy.into slot; meter = Some copy.meter; limiter = tt }) reply charge s'
-      → WritesTableFrom (live_at copy.slots copy.from) copy.into copy.write (metered copy.slots copy.meter) reply charge
+      → WritesTableFrom (live_at copy.slots copy.from) copy.into copy.write
+      (metered copy.slots (Some copy.meter)) reply charge
       (record { value = set front copy.into s'.value ++ back; meter = s'.meter; limiter = tt })
   copies_forward front back split slot source before within copied =
       copies_at _ _ (in_front copy.slots front back _ split copy.into slot before (omega (arith, before, within)))
@@ -91,7 +94,8 @@ module _ (copy : Copying) (reply : Reply) (charge : ℕ) (s' : MeteredValue (Slo
       → (slot source : Slot TableValue) → copy.from < copy.into → copy.into < length copy.slots
       → CopiesSlot copy.write (get_or front copy.from source)
       (record { value = get_or back 0 slot; meter = Some copy.meter; limiter = tt }) reply charge s'
-      → WritesTableFrom (live_at copy.slots copy.from) copy.into copy.write (metered copy.slots copy.meter) reply charge
+      → WritesTableFrom (live_at copy.slots copy.from) copy.into copy.write
+      (metered copy.slots (Some copy.meter)) reply charge
       (record { value = front ++ set back 0 s'.value; meter = s'.meter; limiter = tt })
   copies_backward front back split slot source after within copied =
       copies_at _ _ (in_back copy.slots front back _ split slot within)

@@ -29,9 +29,9 @@ use Rattle.wasmi_meter.specs.declared.error.TableError.{TableError}
 use Rattle.wasmi_store.proofs.GrowthLemmas.{on_test}
 use Rattle.wasmi_store.specs.Buffer.{LacksMemory, Lent, Owned, Room}
 use Rattle.wasmi_store.specs.Growth.{Grows, Growth, Makes}
-use Rattle.wasmi_store.specs.Memory.{GrowsMemory, MakesMemory, MemoryValue, new_memory, pages_of}
+use Rattle.wasmi_store.specs.Memory.{GrowsMemoryCharging, MakesMemory, MemoryValue, new_memory, pages_of}
 use Rattle.wasmi_store.specs.MemoryType.{MemoryTypeValue}
-use Rattle.wasmi_store.specs.Table.{GrowsTable, MakesTable, TableValue, new_table, size_of}
+use Rattle.wasmi_store.specs.Table.{GrowsTableCharging, MakesTable, TableValue, new_table, size_of}
 use Rattle.wasmi_store.specs.TableType.{same_type}
 use Rattle.wasmi_typed.specs.declared.typed_ref.TypedRawRef.{TypedRawRef}
 use Rattle.wasmi_store.specs.Memory as memory
@@ -263,15 +263,16 @@ module _ {S : Type 0} (w : World S) (t t' : Turn) (v v' : World S) where
 -- two growths of a table
 table_growth_same : {S : Type 0} {rules : Rules S} → IsDeterministic rules
     → (n : ℕ) (init : TypedRawRef) (s : MeteredValue TableValue S) (result result' : Result ℕ TableError)
-    (charge charge' : ℕ) (s' s'' : MeteredValue TableValue S) → GrowsTable (with_memory rules) n init s result charge s'
-    → GrowsTable (with_memory rules) n init s result' charge' s''
+    (charge charge' : ℕ) (s' s'' : MeteredValue TableValue S)
+    → GrowsTableCharging (with_memory rules) n init s result charge s'
+    → GrowsTableCharging (with_memory rules) n init s result' charge' s''
     → (result ≡ result') × (charge ≡ charge') × (s' ≡ s'')
 table_growth_same {rules = rules} once n init s result result' charge charge' s' s'' a b =
     by_type (same_type s.value.ty.element init.ty) a b
   where
-    by_type : (same : Bool) → MatchBool same (table.GrowsTableRaw (with_memory rules) n init.raw s result charge
+    by_type : (same : Bool) → MatchBool same (table.GrowsTableRawCharging (with_memory rules) n init.raw s result charge
         s') ((result ≡ Err TableError.ElementTypeMismatch) × (charge ≡ 0) × (s' ≡ s))
-        → MatchBool same (table.GrowsTableRaw (with_memory rules) n init.raw s result' charge' s'')
+        → MatchBool same (table.GrowsTableRawCharging (with_memory rules) n init.raw s result' charge' s'')
         ((result' ≡ Err TableError.ElementTypeMismatch) × (charge' ≡ 0) × (s'' ≡ s))
         → (result ≡ result') × (charge ≡ charge') × (s' ≡ s'')
     by_type true h h' =
@@ -299,7 +300,7 @@ module _ {S : Type 0} (rules : Rules S) (once : IsDeterministic rules) (w : Worl
   effect_same (LentMemoryMade ty) step step' =
       made_once w t t' v v' step step' room room' (lent_same once ty (memory_part w.state) w.limiter)
   effect_same (MemoryGrown k pages) step step' =
-      paid_once w t t' v v' step step' (acts_same (GrowsMemory (with_memory rules) pages)
+      paid_once w t t' v v' step step' (acts_same (GrowsMemoryCharging (with_memory rules) pages)
       (λ s. grows_same once
       (record { amount = pages; size = pages_of s.value; request = memory.growth_of s.value pages })
       (record { wants = memory_wants s.value.room }) s) k (reply_of replied.Number replied.Memory) _)
@@ -308,7 +309,7 @@ module _ {S : Type 0} (rules : Rules S) (once : IsDeterministic rules) (w : Worl
       (makes_same once (table.creation_of ty init.ty) (record { wants = table_wants }) (new_table ty init.raw))
       w.state.tables w.limiter)
   effect_same (TableGrown k n init) step step' =
-      paid_once w t t' v v' step step' (acts_same (GrowsTable (with_memory rules) n init)
+      paid_once w t t' v v' step step' (acts_same (GrowsTableCharging (with_memory rules) n init)
       (table_growth_same once n init) k (reply_of replied.Number replied.Table) _)
   effect_same (RangeWritten k source dst len) step step' =
       unasked_once w t t' v v' step step' (parts_same k (write_of source dst len) _)

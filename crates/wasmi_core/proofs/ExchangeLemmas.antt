@@ -18,7 +18,8 @@ use Rattle.wasmi_core.specs.MemoryEffects.{CreatesLent}
 use Rattle.wasmi_core.specs.Effects.{ActsAt, AddsEntry, Creates, IsNoSuch, OnLive, reply_of}
 use Rattle.wasmi_core.specs.State.{MemoryPart, State, live_at, memory_part, with_tables}
 use Rattle.wasmi_core.specs.Steps.{Changed, Effect, FuelSet, LentMemoryMade, MemoryGrown, MemoryMade, RangeWritten, Step, TableGrown, TableMade, TakesEffect, effect_of}
-use Rattle.wasmi_core.specs.TableEffects.{OfReference, OfSegment, OfTable, Source, WritesRangeAt, WritesTableAt, metered, write_of}
+use Rattle.wasmi_core.specs.TableEffects.{OfReference, OfSegment, OfTable, Source, WritesRangeAt, WritesTableAt, write_of}
+use Rattle.wasmi_store.specs.Growth.{metered}
 use Rattle.wasmi_core.specs.Totals.{byte_count, sizes, slot_count}
 use Rattle.wasmi_core.specs.World.{IsRefusal, Turn, World}
 use Rattle.wasmi_core.specs.declared.calls.Call.{Call}
@@ -36,9 +37,9 @@ use Rattle.wasmi_meter.specs.declared.limiter.Kind.{Kind}
 use Rattle.wasmi_meter.specs.declared.limiter.Kind.TheVariants.{Bytes, Elements}
 use Rattle.wasmi_store.specs.Buffer.{LacksMemory, Lent, Owned, Room, fits_room}
 use Rattle.wasmi_store.specs.Growth.{Grows, Growth, Makes}
-use Rattle.wasmi_store.specs.Memory.{GrowsMemory, MakesMemory, MemoryValue, new_memory, pages_of}
+use Rattle.wasmi_store.specs.Memory.{GrowsMemoryCharging, MakesMemory, MemoryValue, new_memory, pages_of}
 use Rattle.wasmi_store.specs.MemoryType.{MemoryTypeValue, minimum_bytes, page_bytes}
-use Rattle.wasmi_store.specs.Table.{EndsBy, GrowsTable, MakesTable, TableValue, TableWrite, new_table, size_of}
+use Rattle.wasmi_store.specs.Table.{EndsBy, GrowsTableCharging, MakesTable, TableValue, TableWrite, new_table, size_of}
 use Rattle.wasmi_store.specs.TableType.{TableTypeValue, is_within_maximum, same_type}
 use Rattle.wasmi_typed.specs.declared.typed_ref.TypedRawRef.{TypedRawRef}
 use Rattle.wasmi_store.specs.Memory as memory
@@ -619,7 +620,7 @@ module _ {S : Type 0} (rules : Rules S) (w : World S) (turn : Turn) (w' : World 
 
   -- a memory grows
   memory_grows : w'.state.tables ≡ w.state.tables → (k pages : ℕ) (m' : Meter)
-      → ActsAt k (reply_of replied.Number replied.Memory) (GrowsMemory rules pages)
+      → ActsAt k (reply_of replied.Number replied.Memory) (GrowsMemoryCharging rules pages)
       (record { value = w.state.memories; meter = Some w.state.meter; limiter = w.limiter }) turn.reply turn.charge
       (record { value = w'.state.memories; meter = Some m'; limiter = w'.limiter })
       → Passed rules (meeting_of w turn (question_of w.state (GrowMemory k pages)) w') (At k)
@@ -628,14 +629,14 @@ module _ {S : Type 0} (rules : Rules S) (w : World S) (turn : Turn) (w' : World 
       let question = question_of w.state (GrowMemory k pages) in
       acts_pass rules (memories_watch question) Bytes (memories_watched question same) k
       (λ x. growth_question pages (memory.growth_of x pages)) refl (reply_of replied.Number replied.Memory)
-      (GrowsMemory rules pages) m'
+      (GrowsMemoryCharging rules pages) m'
       (λ x x' result replaced asks replies grows. grows_passes rules (memories_watch question)
       (memory_growth pages x) (memories_watched question same) k x x' (memory_growth_is pages x w.state.meter) replaced
       m' result (record { asks = asks; replies = replies }) grows) acts
 
   -- a table grows, if what it is filled with has its type
   table_grows : w'.state.memories ≡ w.state.memories → (k n : ℕ) (init : TypedRawRef) (m' : Meter)
-      → ActsAt k (reply_of replied.Number replied.Table) (GrowsTable rules n init)
+      → ActsAt k (reply_of replied.Number replied.Table) (GrowsTableCharging rules n init)
       (record { value = w.state.tables; meter = Some w.state.meter; limiter = w.limiter }) turn.reply turn.charge
       (record { value = w'.state.tables; meter = Some m'; limiter = w'.limiter })
       → Passed rules (meeting_of w turn (question_of w.state (GrowTable k n init)) w') (At k)
@@ -645,7 +646,7 @@ module _ {S : Type 0} (rules : Rules S) (w : World S) (turn : Turn) (w' : World 
       let watch = tables_watch question in
       let watched = tables_watched question same in
       acts_pass rules watch Elements watched k (table_growth_question n init) refl
-      (reply_of replied.Number replied.Table) (GrowsTable rules n init) m'
+      (reply_of replied.Number replied.Table) (GrowsTableCharging rules n init) m'
       (λ x x' result replaced asks replies grows.
       let by_type : Bool → Option Question =
       λ b. if b then growth_question n (table.growth_of x n init.raw) else None
@@ -720,7 +721,7 @@ module _ (w : TableWrite) (x : TableValue) (m : Meter) (charge : ℕ) (x' : Tabl
 
   -- by how it ends
   ends_charge : (typed : Bool) (written : Option (List ℕ)) (payable : Bool) (result : Result (Unit {0}) TableError)
-      → EndsBy w x (Some m) typed written payable (record { result = result; charge = charge; value = x' })
+      → EndsBy w (metered x (Some m)) typed written payable (record { result = result; charge = charge; value = x' })
       → charge ≡ writing_charge m elements (reply_of (λ _. replied.Done) replied.Table result)
   ends_charge false written payable result ends = refused_charge _ result ends.0 ends.1
   ends_charge true None payable result ends = refused_charge _ result ends.0 ends.1
@@ -732,13 +733,13 @@ module _ (w : TableWrite) (x : TableValue) (m : Meter) (charge : ℕ) (x' : Tabl
 module _ (k : ℕ) (slots : List (Slot TableValue)) (m : Meter) (reply : Reply) (charge : ℕ)
     (slots' : List (Slot TableValue)) (m' : Meter) (elements : Option ℕ) where
   -- an index names nothing
-  missing_charge : IsNoSuch (metered slots m) reply charge (metered slots' m')
+  missing_charge : IsNoSuch (metered slots (Some m)) reply charge (metered slots' (Some m'))
       → charge ≡ writing_charge m elements reply
   missing_charge missing = missing.1 ∙ sym (ap (writing_charge m elements) missing.0)
 
   -- a write over a part of the table of an index
   write_charge : (write : TableValue → TableWrite) → IsChargedFor elements write
-      → WritesTableAt k write (metered slots m) reply charge (metered slots' m')
+      → WritesTableAt k write (metered slots (Some m)) reply charge (metered slots' (Some m'))
       → charge ≡ writing_charge m elements reply
   write_charge write pays writes =
       on_live (live_at slots k) _ _ writes missing_charge
@@ -748,7 +749,7 @@ module _ (k : ℕ) (slots : List (Slot TableValue)) (m : Meter) (reply : Reply) 
   -- so where the write may be missing
   range_charge : (part : Option (TableValue → TableWrite))
       → OnLive part (Unit {0}) (IsChargedFor elements)
-      → WritesRangeAt k part (metered slots m) reply charge (metered slots' m')
+      → WritesRangeAt k part (metered slots (Some m)) reply charge (metered slots' (Some m'))
       → charge ≡ writing_charge m elements reply
   range_charge part pays writes =
       on_live part _ _ (both_live part _ _ _ _ pays writes) (λ missing. missing_charge missing.1)
@@ -804,7 +805,8 @@ module _ {S : Type 0} (rules : Rules S) (w : World S) (turn : Turn) (w' : World 
   effect_passes (RangeWritten k source dst len) step =
       idle rules w turn w' step.after refl
       (each_kind (λ kind. sizes (with_tables w.state step.part) kind ≡ sizes w.state kind) refl
-      (part_kept k (metered w.state.tables w.state.meter) (metered step.part step.meter) turn.reply turn.charge len
+      (part_kept k (metered w.state.tables (Some w.state.meter))
+      (metered step.part (Some step.meter)) turn.reply turn.charge len
       (write_of source dst len) (source_writes source dst len) step.effect))
   effect_passes effect step = idle rules w turn w' step.after refl (λ kind. refl)
 

@@ -121,11 +121,11 @@ module _ {L : Type 0} (rules : Rules L) (holdings : L → Holdings) (keeps : Kee
 
   -- a run keeps them held
   pub totals_are_held : (s : State) (l : L) → HoldsTotals (holdings l) s → (turns : List Turn) (w' : World (Option L))
-      → Run (optional_rules rules) (record { state = s; limiter = Some l }) turns w' → Holds w'.limiter w'.state
+      → Run (optional_rules rules) (world s (Some l)) turns w' → Holds w'.limiter w'.state
   totals_are_held s l held [] w' ran =
       rw ran (l, refl, held)
   totals_are_held s l held (turn ∷ turns) w' (v, step, ran) =
-      let passed = growths_are_permitted (optional_rules rules) (record { state = s; limiter = Some l }) turn v step in
+      let passed = growths_are_permitted (optional_rules rules) (world s (Some l)) turn v step in
       let next =
       exchange_holds s v.state l v.limiter (place_of turn.call) passed.exchange held passed.passes passed.grows
       in

@@ -27,7 +27,7 @@ use Rattle.wasmi_meter.specs.Limiter.{Answer, IsDenial, Rules}
 use Rattle.wasmi_meter.specs.Meter.{Meter}
 use Rattle.wasmi_meter.specs.declared.error.MemoryError.{MemoryError}
 use Rattle.wasmi_store.specs.Buffer.{LacksMemory, Lent, Owned, Room, fits_room}
-use Rattle.wasmi_store.specs.Memory.{GrowsMemory, MakesMemory, MemoryValue, WritesMemory, new_memory, pages_of}
+use Rattle.wasmi_store.specs.Memory.{GrowsMemory, GrowsMemoryCharging, MakesMemory, MemoryValue, WritesMemory, new_memory, pages_of}
 use Rattle.wasmi_store.specs.MemoryType.{MemoryTypeValue, in_bounds, minimum_bytes, page_bytes}
 use Rattle.wasmi_store.specs.Memory as memory
 use Rattle.wasmi_core.specs.declared.calls.Reply.TheVariants as replied
@@ -158,8 +158,8 @@ fits_easy pages x (inr outside) =
 grows_owned : {S : Type 0} (rules : Rules S) (pages : ℕ) (s : MeteredValue MemoryValue S)
     (result : Result ℕ MemoryError)
     (charge : ℕ) (s' : MeteredValue MemoryValue S) → FitsRoom pages s.value
-    → GrowsMemory rules pages s result charge s'
-    → GrowsMemory rules pages (with_value s (owned_memory s.value)) result charge
+    → GrowsMemoryCharging rules pages s result charge s'
+    → GrowsMemoryCharging rules pages (with_value s (owned_memory s.value)) result charge
     (with_value s' (owned_memory s'.value))
 grows_owned {S} rules pages s result charge s' fits (inl none) = inl (record {
   none = none.none;
@@ -273,8 +273,8 @@ module _ (slots : List (Slot MemoryValue)) (k : ℕ) where
 -- a growth
 growth_owned : {S : Type 0} (rules : Rules S) (k pages : ℕ) (s s' : MeteredValue (List (Slot MemoryValue)) S)
     (reply : Reply) (charge : ℕ) → OnLive (live_at s.value k) (Unit {0}) (FitsRoom pages)
-    → ActsAt k (reply_of replied.Number replied.Memory) (GrowsMemory rules pages) s reply charge s'
-    → ActsAt k (reply_of replied.Number replied.Memory) (GrowsMemory rules pages)
+    → ActsAt k (reply_of replied.Number replied.Memory) (GrowsMemoryCharging rules pages) s reply charge s'
+    → ActsAt k (reply_of replied.Number replied.Memory) (GrowsMemoryCharging rules pages)
     (with_value s (map owned_slot s.value)) reply charge (with_value s' (map owned_slot s'.value))
 growth_owned {S} rules k pages s s' reply charge fits acts =
     on_owned s.value k _ _ _ _ (both_live (live_at s.value k) _ _ _ _ fits acts)
@@ -487,7 +487,7 @@ module _ {S : Type 0} (rules : Rules S) (pages : ℕ) (s : MeteredValue MemoryVa
   by_outcome (Failed cause notice_answer) may follows answered = absurd (no_cause cause may.1)
 
   -- so the growth
-  growth_succeeds : GrowsMemory rules pages s result charge s' → Succeeds
+  growth_succeeds : GrowsMemoryCharging rules pages s result charge s' → Succeeds
   growth_succeeds (inl none) = inl none.answered
   growth_succeeds (inr some) = by_outcome some.outcome some.attempt.may_end some.attempt.follows some.answered
 
@@ -496,10 +496,9 @@ pub lent_growth_succeeds : {S : Type 0} (rules : Rules S) (pages : ℕ) (s : Met
     → s.value.room ≡ Lent rest → in_bounds s.value.ty (pages_of s.value + pages) ≡ true
     → fits_room s.value.room (pages * page_bytes s.value.ty.page) ≡ true
     → covers s.meter (optional_due s.meter (memory.growth_of s.value pages).price) ≡ true
-    → (result : Result ℕ MemoryError) (charge : ℕ) (s' : MeteredValue MemoryValue S)
-    → GrowsMemory rules pages s result charge s'
+    → (result : Result ℕ MemoryError) (s' : MeteredValue MemoryValue S) → GrowsMemory rules pages s result s'
     → (result ≡ Ok (pages_of s.value)) ⊎ ((answer : Answer) × IsDenial answer
     × rules.asked s.limiter (memory.growth_of s.value pages).question answer s'.limiter)
-lent_growth_succeeds rules pages s rest lent inside fits payable result charge s' =
+lent_growth_succeeds rules pages s rest lent inside fits payable result s' (charge, grows) =
     growth_succeeds rules pages s rest (record { lent = lent; inside = inside; fits = fits; payable = payable })
-    result charge s'
+    result charge s' grows

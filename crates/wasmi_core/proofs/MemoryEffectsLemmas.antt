@@ -18,7 +18,7 @@ use Rattle.wasmi_meter.specs.Attempt.{MeteredValue, with_value}
 use Rattle.wasmi_meter.specs.Limiter.{Rules}
 use Rattle.wasmi_meter.specs.declared.error.MemoryError.{MemoryError}
 use Rattle.wasmi_store.specs.Buffer.{Lent}
-use Rattle.wasmi_store.specs.Memory.{GrowsMemory, IsValidMemory, MakesMemory, MemoryValue, WritesMemory, pages_of}
+use Rattle.wasmi_store.specs.Memory.{GrowsMemoryCharging, IsValidMemory, MakesMemory, MemoryValue, WritesMemory, pages_of}
 use Rattle.wasmi_store.specs.MemoryType.{MemoryTypeValue}
 use Rattle.wasmi_types.specs.Access.{at, overwrite}
 use Rattle.wasmi_types.specs.declared.trap.TrapCode.{TrapCode}
@@ -83,7 +83,8 @@ lent_spare rules ty part l reply part' l' creates = spare_by rules ty part l rep
 -- a refused growth leaves the slots
 pub memory_growth_back : {S : Type 0} (rules : Rules S) (k pages : ℕ) (s s' : MeteredValue (List (Slot MemoryValue)) S)
     (reply : Reply) (charge : ℕ) → IsRefusal reply
-    → ActsAt k (reply_of replied.Number replied.Memory) (GrowsMemory rules pages) s reply charge s' → s'.value ≡ s.value
+    → ActsAt k (reply_of replied.Number replied.Memory) (GrowsMemoryCharging rules pages) s reply charge s'
+    → s'.value ≡ s.value
 memory_growth_back {S} rules k pages s s' reply charge refused acts =
     on_live (live_at s.value k) _ _ acts
     (λ missing. ap (λ (s : MeteredValue (List (Slot MemoryValue)) S). s.value) missing.2)

@@ -16,7 +16,8 @@ use Rattle.wasmi_core.specs.MemoryEffects.{spare_after}
 use Rattle.wasmi_core.specs.Runs.{Run}
 use Rattle.wasmi_core.specs.State.{State, memory_part, with_memories, with_tables}
 use Rattle.wasmi_core.specs.Steps.{Changed, Effect, FuelSet, LentMemoryMade, MemoryGrown, MemoryMade, RangeWritten, Step, TableGrown, TableMade, TakesEffect, effect_of}
-use Rattle.wasmi_core.specs.TableEffects.{metered, write_of}
+use Rattle.wasmi_core.specs.TableEffects.{write_of}
+use Rattle.wasmi_store.specs.Growth.{metered}
 use Rattle.wasmi_core.specs.World.{IsRefusal, Turn, World}
 use Rattle.wasmi_core.specs.declared.calls.Call.{Call}
 use Rattle.wasmi_core.specs.declared.calls.Call.TheVariants.{NewLentMemory, SetFuel}
@@ -107,7 +108,8 @@ module _ {S : Type 0} (rules : Rules S) (w : World S) (turn : Turn) (w' : World 
   effect_back (RangeWritten k source dst len) step =
       paid w w' step.meter step.after
       (ap (λ part. let s : State = record (with_tables w.state part) { meter = step.meter } in s)
-      (part_back k (metered w.state.tables w.state.meter) (metered step.part step.meter) turn.reply turn.charge refused
+      (part_back k (metered w.state.tables (Some w.state.meter))
+      (metered step.part (Some step.meter)) turn.reply turn.charge refused
       (write_of source dst len) step.effect))
   effect_back effect step = kept w w' step.after refl
 

@@ -18,9 +18,9 @@ use Rattle.wasmi_meter.specs.Limiter.{Rules}
 use Rattle.wasmi_meter.specs.declared.error.TableError.{TableError}
 use Rattle.wasmi_store.specs.Buffer.{Lent, Owned, Room}
 use Rattle.wasmi_store.specs.Growth.{Grows, Growth, Makes}
-use Rattle.wasmi_store.specs.Memory.{GrowsMemory, MemoryValue, new_memory, pages_of}
+use Rattle.wasmi_store.specs.Memory.{GrowsMemoryCharging, MemoryValue, new_memory, pages_of}
 use Rattle.wasmi_store.specs.MemoryType.{MemoryTypeValue}
-use Rattle.wasmi_store.specs.Table.{GrowsTable, TableValue, new_table, size_of}
+use Rattle.wasmi_store.specs.Table.{GrowsTableCharging, TableValue, new_table, size_of}
 use Rattle.wasmi_store.specs.TableType.{TableTypeValue, same_type}
 use Rattle.wasmi_typed.specs.declared.typed_ref.TypedRawRef.{TypedRawRef}
 use Rattle.wasmi_types.specs.declared.value.RefType.{RefType}
@@ -135,7 +135,8 @@ module _ {S : Type 0} (n : Narrowing S) where
     table_growth_revealed : (delta : ℕ) (init : TypedRawRef) (s s' : MeteredValue TableValue S)
         (result : Result ℕ TableError)
         (charge : ℕ) → n.within s.limiter → n.shown (reply_of replied.Number replied.Table result)
-        → GrowsTable n.rules delta init s result charge s' → GrowsTable n.narrower delta init s result charge s'
+        → GrowsTableCharging n.rules delta init s result charge s'
+        → GrowsTableCharging n.narrower delta init s result charge s'
     table_growth_revealed delta init s s' result charge within shows grows =
         on_test_too (same_type s.value.ty.element init.ty) _ _ _ _
         (grows_revealed
@@ -176,8 +177,9 @@ module _ {S : Type 0} (n : Narrowing S) where
             h.1,
           )) step.effect)
       effect_revealed (MemoryGrown k pages) step =
-          pays_revealed step (acts_revealed k (reply_of replied.Number replied.Memory) (GrowsMemory n.rules pages)
-          (GrowsMemory n.narrower pages) _ _ turn.reply turn.charge
+          pays_revealed step
+          (acts_revealed k (reply_of replied.Number replied.Memory) (GrowsMemoryCharging n.rules pages)
+          (GrowsMemoryCharging n.narrower pages) _ _ turn.reply turn.charge
           (λ x x' result is. grows_revealed
           (record { amount = pages; size = pages_of x; request = memory.growth_of x pages }) replied.Memory
           (each.memory_grown x pages) (record { value = x; meter = Some w.state.meter; limiter = w.limiter })
@@ -188,8 +190,9 @@ module _ {S : Type 0} (n : Narrowing S) where
           (new_table ty init.raw) w.state.tables w.limiter
           (record { reply = turn.reply; part = step.part; limiter = step.limiter }) within shows step.effect)
       effect_revealed (TableGrown k delta init) step =
-          pays_revealed step (acts_revealed k (reply_of replied.Number replied.Table) (GrowsTable n.rules delta init)
-          (GrowsTable n.narrower delta init) _ _ turn.reply turn.charge
+          pays_revealed step
+          (acts_revealed k (reply_of replied.Number replied.Table) (GrowsTableCharging n.rules delta init)
+          (GrowsTableCharging n.narrower delta init) _ _ turn.reply turn.charge
           (λ x x' result is. table_growth_revealed delta init
           (record { value = x; meter = Some w.state.meter; limiter = w.limiter })
           (record { value = x'; meter = Some step.meter; limiter = step.limiter }) result turn.charge within

@@ -2,7 +2,8 @@
 use Rattle.std.proofs.Common.{Some, refl, ℕ, ◌∙◌, ◌≡◌}
 use Rattle.wasmi_core.specs.Effects.{ActsMetered, ActsMeteredUnasked, Asks, Changes, ChangesPart, OnlyReplies}
 use Rattle.wasmi_core.specs.State.{State}
-use Rattle.wasmi_core.specs.World.{Turn, World}
+use Rattle.wasmi_core.specs.World.{Turn, World, world}
+use Rattle.wasmi_store.specs.Growth.{metered, metered_value, WithCharge}
 use Rattle.wasmi_core.specs.declared.calls.Call.{Call}
 use Rattle.wasmi_core.specs.declared.calls.Reply.{Reply}
 use Rattle.wasmi_meter.specs.Attempt.{MeteredValue}
@@ -49,17 +50,17 @@ module _ {S : Type 0} {w : World S} {call : Call} {reply : Reply} where
     -- it makes something under the limiter
     pub asks : {Relation : S → Reply → A → S → Type 0} {l : S} → Relation w.limiter reply part l
         → IsAnswered call reply
-        (λ turn. Asks w turn (record { state = with_part part; limiter = l }) with_part Relation)
+        (λ turn. Asks w turn (world (with_part part) l) with_part Relation)
     asks effect = (0, 0, record { free = (refl, refl); part = part; limiter = _; effect = effect; after = refl })
 
   -- it acts on one part of the state, with some charge
   module _ {A : Type 0} {old : A} {with_part : A → State} {bytes : Reply → ℕ} (part : A) {meter : Meter} where
     -- so it is answered
     pub acts : {Relation : MeteredValue A S → Reply → ℕ → MeteredValue A S → Type 0} {l : S}
-        → (charge : ℕ) × Relation (record { value = old; meter = Some w.state.meter; limiter = w.limiter }) reply charge
-        (record { value = part; meter = Some meter; limiter = l })
+        → WithCharge Relation (metered_value old (Some w.state.meter) w.limiter) reply
+        (metered_value part (Some meter) l)
         → IsAnswered call reply (λ turn. ActsMetered w turn
-        (record { state = record (with_part part) { meter = meter }; limiter = l }) old with_part Relation bytes)
+        (world (record (with_part part) { meter = meter }) l) old with_part Relation bytes)
     acts (charge, effect) = (
       charge,
       bytes reply,
@@ -68,8 +69,7 @@ module _ {S : Type 0} {w : World S} {call : Call} {reply : Reply} where
 
     -- so where the limiter is not reached
     pub acts_unasked : {Relation : MeteredValue A (Unit {0}) → Reply → ℕ → MeteredValue A (Unit {0}) → Type 0}
-        → (charge : ℕ) × Relation (record { value = old; meter = Some w.state.meter; limiter = tt }) reply charge
-        (record { value = part; meter = Some meter; limiter = tt })
+        → WithCharge Relation (metered old (Some w.state.meter)) reply (metered part (Some meter))
         → IsAnswered call reply (λ turn. ActsMeteredUnasked w turn
         (record w { state = record (with_part part) { meter = meter } }) old with_part Relation bytes)
     acts_unasked (charge, effect) =
@@ -87,17 +87,17 @@ module _ {S : Type 0} {v v' w w' : World S} {turn : Turn} where
     pub asks_too : {Relation Relation' : S → Reply → A → S → Type 0} (step : Asks v turn v' with_part Relation)
         (part : A)
         → Relation' w.limiter turn.reply part step.limiter
-        → w' ≡ record { state = with_part' part; limiter = step.limiter } → Asks w turn w' with_part' Relation'
+        → w' ≡ world (with_part' part) step.limiter → Asks w turn w' with_part' Relation'
     asks_too step part effect after =
         record { free = step.free; part = part; limiter = step.limiter; effect = effect; after = after }
 
     -- it acts on one part of the state, with a charge
     pub acts_too : {old old' : A} {Relation Relation' : MeteredValue A S → Reply → ℕ → MeteredValue A S → Type 0}
         {bytes bytes' : Reply → ℕ} (step : ActsMetered v turn v' old with_part Relation bytes) (part : A)
-        → Relation' (record { value = old'; meter = Some w.state.meter; limiter = w.limiter }) turn.reply turn.charge
-        (record { value = part; meter = Some step.meter; limiter = step.limiter })
+        → Relation' (metered_value old' (Some w.state.meter) w.limiter) turn.reply turn.charge
+        (metered_value part (Some step.meter) step.limiter)
         → bytes turn.reply ≡ bytes' turn.reply
-        → w' ≡ record { state = record (with_part' part) { meter = step.meter }; limiter = step.limiter }
+        → w' ≡ world (record (with_part' part) { meter = step.meter }) step.limiter
         → ActsMetered w turn w' old' with_part' Relation' bytes'
     acts_too step part effect same after = record {
       part = part;

@@ -16,9 +16,12 @@ use Rattle.wasmi_core.specs.declared.slots.Slot.TheVariants.{Live}
 use Rattle.wasmi_meter.specs.Attempt.{MeteredValue, with_value}
 use Rattle.wasmi_meter.specs.Limiter.{Rules}
 use Rattle.wasmi_meter.specs.Meter.{Meter, meter_after}
+use Rattle.std.specs.Prelude.{Err, MatchBool}
 use Rattle.wasmi_meter.specs.declared.error.TableError.{TableError}
+use Rattle.wasmi_meter.specs.declared.error.TableError.TheVariants.{ElementTypeMismatch}
 use Rattle.wasmi_store.proofs.GrowthLemmas.{on_test}
-use Rattle.wasmi_store.specs.Table.{Ending, EndsBy, GrowsTable, IsValidTable, TableValue, TableWrite, WritesTable, setting_of, size_of, typed_by}
+use Rattle.wasmi_store.specs.Table.{Ending, EndsBy, GrowsTableCharging, IsValidTable, MeteredTable, SetsTable, SetsTableRaw, TableValue, TableWrite, WritesTableCharging, size_of}
+use Rattle.wasmi_store.specs.Growth.{metered}
 use Rattle.wasmi_store.specs.TableType.{same_type}
 use Rattle.wasmi_typed.specs.declared.typed_ref.TypedRawRef.{TypedRawRef}
 use Rattle.wasmi_types.specs.Access.{overwrite}
@@ -26,20 +29,23 @@ use Rattle.wasmi_core.specs.declared.calls.Reply.TheVariants as replied
 use Rattle.wasmi_store.specs.Table as table
 use Rattle.wasmi_store.specs.TableType as table_type
 
-module _ (w : TableWrite) (x : TableValue) (m : Option Meter) (charge : ℕ) (x' : TableValue) where
+module _ (s : MeteredTable) (charge : ℕ) where
   -- a refused write over a part leaves the table
-  ends_back : (typed : Bool) (written : Option (List ℕ)) (payable : Bool) (result : Result (Unit {0}) TableError)
+  ends_back : (w : TableWrite) (x' : TableValue) (typed : Bool) (written : Option (List ℕ)) (payable : Bool)
+      (result : Result (Unit {0}) TableError)
       → IsRefusal (reply_of (λ _. replied.Done) replied.Table result)
-      → EndsBy w x m typed written payable (record { result = result; charge = charge; value = x' }) → x' ≡ x
-  ends_back false written payable result refused ends = ends.2
-  ends_back true None payable result refused ends = ends.2
-  ends_back true (Some elements) false result refused ends = ends.2
-  ends_back true (Some elements) true result refused ends = absurd (rw ends.0 at refused)
+      → EndsBy w s typed written payable (record { result = result; charge = charge; value = x' }) → x' ≡ s.value
+  ends_back w x' false written payable result refused ends = ends.2
+  ends_back w x' true None payable result refused ends = ends.2
+  ends_back w x' true (Some elements) false result refused ends = ends.2
+  ends_back w x' true (Some elements) true result refused ends = absurd (rw ends.0 at refused)
 
   -- so by its ranges
-  write_back : (m' : Option Meter) (result : Result (Unit {0}) TableError)
-      → IsRefusal (reply_of (λ _. replied.Done) replied.Table result) → WritesTable w x m result charge x' m' → x' ≡ x
-  write_back m' result refused writes = ends_back w.typed w.written _ result refused writes.ends
+  write_back : (write : TableValue → TableWrite) (s' : MeteredTable) (result : Result (Unit {0}) TableError)
+      → IsRefusal (reply_of (λ _. replied.Done) replied.Table result) → WritesTableCharging write s result charge s'
+      → s'.value ≡ s.value
+  write_back write s' result refused writes =
+      let w = write s.value in ends_back w s'.value w.typed w.written _ result refused writes.ends
 
 module _ (k : ℕ) (s s' : Metered) (reply : Reply) (charge : ℕ) (refused : IsRefusal reply) where
   -- so in its slot
@@ -47,8 +53,8 @@ module _ (k : ℕ) (s s' : Metered) (reply : Reply) (charge : ℕ) (refused : Is
   table_write_back write writes =
       on_live (live_at s.value k) _ _ writes
       (λ missing. ap (λ (s : Metered). s.value) missing.2)
-      (λ x found h. h.4 ∙ put_back s.value k x h.1 found (write_back (write x) x s.meter charge h.1 s'.meter h.0
-      (rw h.3 at refused) h.2))
+      (λ x found h. h.4 ∙ put_back s.value k x h.1 found (write_back (with_value s x) charge write (with_value s' h.1)
+      h.0 (rw h.3 at refused) h.2))
 
   -- so where the write may be missing
   pub part_back : (part : Option (TableValue → TableWrite)) → WritesRangeAt k part s reply charge s'
@@ -60,7 +66,8 @@ module _ (k : ℕ) (s s' : Metered) (reply : Reply) (charge : ℕ) (refused : Is
 -- a refused growth leaves the slots
 pub table_growth_back : {S : Type 0} (rules : Rules S) (k n : ℕ) (init : TypedRawRef)
     (s s' : MeteredValue (List (Slot TableValue)) S) (reply : Reply) (charge : ℕ) → IsRefusal reply
-    → ActsAt k (reply_of replied.Number replied.Table) (GrowsTable rules n init) s reply charge s' → s'.value ≡ s.value
+    → ActsAt k (reply_of replied.Number replied.Table) (GrowsTableCharging rules n init) s reply charge s'
+    → s'.value ≡ s.value
 table_growth_back {S} rules k n init s s' reply charge refused acts =
     on_live (live_at s.value k) _ _ acts
     (λ missing. ap (λ (s : MeteredValue (List (Slot TableValue)) S). s.value) missing.2)
@@ -71,18 +78,27 @@ table_growth_back {S} rules k n init s s' reply charge refused acts =
     (with_value s x) (with_value s' a.1) charge a.0 (rw a.3 at refused) g)
     (λ g. ap (λ (s : MeteredValue TableValue S). s.value) g.2)))
 
--- so does an element that is not set
+-- an element that is not set leaves the table
+set_back : (index : ℕ) (value : TypedRawRef) (x : TableValue) (result : Result (Unit {0}) TableError) (x' : TableValue)
+    → IsRefusal (reply_of (λ _. replied.Done) replied.Table result) → SetsTable index value x result x' → x' ≡ x
+set_back index value x result x' refused sets =
+    on_test (same_type x.ty.element value.ty) _ _ sets
+    (λ raw. on_live (overwrite x.elements index (value.raw ∷ [])) _ _ raw (λ outside. outside.1)
+    (λ elements is set. absurd (rw set.0 at refused)))
+    (λ other. other.1)
+
+-- so in its slot
 pub set_refused : (k index : ℕ) (value : TypedRawRef) (slots : List (Slot TableValue)) (reply : Reply)
     (slots' : List (Slot TableValue)) → IsRefusal reply → SetsElementAt k index value slots reply slots'
     → slots' ≡ slots
 set_refused k index value slots reply slots' refused sets =
-    changes_back k slots reply slots' _ (λ x x' c. write_back _ x None 0 x' None c.0 (rw c.2 at refused) c.1) sets
+    changes_back k slots reply slots' _ (λ x x' c. set_back index value x c.0 x' (rw c.2 at refused) c.1) sets
 
 -- tables
-module _ (w : TableWrite) (x : TableValue) (m : Option Meter) (end end' : Ending) where
+module _ (write : TableValue → TableWrite) (s : MeteredTable) (end end' : Ending) where
   -- two writes over a part end in one way
   ends_same : (typed : Bool) (written : Option (List ℕ)) (payable : Bool)
-      → EndsBy w x m typed written payable end → EndsBy w x m typed written payable end'
+      → EndsBy (write s.value) s typed written payable end → EndsBy (write s.value) s typed written payable end'
       → (end.result ≡ end'.result) × (end.charge ≡ end'.charge) × (end.value ≡ end'.value)
   ends_same false written payable a b = (a.0 ∙ sym b.0, a.1 ∙ sym b.1, a.2 ∙ sym b.2)
   ends_same true None payable a b = (a.0 ∙ sym b.0, a.1 ∙ sym b.1, a.2 ∙ sym b.2)
@@ -90,31 +106,48 @@ module _ (w : TableWrite) (x : TableValue) (m : Option Meter) (end end' : Ending
   ends_same true (Some elements) true a b = (a.0 ∙ sym b.0, a.1 ∙ sym b.1, a.2 ∙ sym b.2)
 
   -- so they are one
-  table_write_same : (m' m'' : Option Meter) → WritesTable w x m end.result end.charge end.value m'
-      → WritesTable w x m end'.result end'.charge end'.value m''
+  table_write_same : (m' m'' : Option Meter)
+      → WritesTableCharging write s end.result end.charge (metered end.value m')
+      → WritesTableCharging write s end'.result end'.charge (metered end'.value m'')
       → (end.result ≡ end'.result) × (end.charge ≡ end'.charge) × (end.value ≡ end'.value) × (m' ≡ m'')
   table_write_same m' m'' a b =
+      let w = write s.value in
       let ends = ends_same w.typed w.written _ a.ends b.ends in
-      (ends.0, ends.1, ends.2, a.meter ∙ ap (λ c. option_map (λ m. meter_after m c) m) ends.1 ∙ sym b.meter)
+      (ends.0, ends.1, ends.2, a.meter ∙ ap (λ c. option_map (λ m. meter_after m c) s.meter) ends.1 ∙ sym b.meter)
 
--- two calls that set an element
+-- two calls that set an element of one table
+module _ (index : ℕ) (value : TypedRawRef) (x : TableValue) (result result' : Result (Unit {0}) TableError)
+    (x' x'' : TableValue) where
+  -- whether the types are the same or not
+  set_by_type : (same : Bool)
+      → MatchBool same (SetsTableRaw index value.raw x result x') ((result ≡ Err ElementTypeMismatch) × (x' ≡ x))
+      → MatchBool same (SetsTableRaw index value.raw x result' x'') ((result' ≡ Err ElementTypeMismatch) × (x'' ≡ x))
+      → (result ≡ result') × (x' ≡ x'')
+  set_by_type true a b =
+      on_both (overwrite x.elements index (value.raw ∷ [])) _ _ _ _ a b (λ h h'. (h.0 ∙ sym h'.0, h.1 ∙ sym h'.1))
+      (λ elements h h'. (h.0 ∙ sym h'.0, h.1 ∙ sym h'.1))
+  set_by_type false a b = (a.0 ∙ sym b.0, a.1 ∙ sym b.1)
+
+  -- so they end in one way
+  set_same : SetsTable index value x result x' → SetsTable index value x result' x''
+      → (result ≡ result') × (x' ≡ x'')
+  set_same = set_by_type (same_type x.ty.element value.ty)
+
+-- so of the table of an index
 pub sets_same : (k index : ℕ) (value : TypedRawRef) (slots : List (Slot TableValue))
     → IsDecided (SetsElementAt k index value slots)
 sets_same k index value slots =
     slot_same k slots _ (λ x reply reply' x' x'' h h'.
-    let both =
-    table_write_same _ x None (record { result = h.0; charge = 0; value = x' })
-    (record { result = h'.0; charge = 0; value = x'' }) None None h.1 h'.1 in
-    (h.2 ∙ ap (reply_of (λ _. replied.Done) replied.Table) both.0 ∙ sym h'.2, both.2))
+    let both = set_same index value x h.0 h'.0 x' x'' h.1 h'.1 in
+    (h.2 ∙ ap (reply_of (λ _. replied.Done) replied.Table) both.0 ∙ sym h'.2, both.1))
 
 -- two writes over a part of the table of an index
 table_writes_same : (k : ℕ) (write : TableValue → TableWrite) (s : Metered) → HasOneEnding (WritesTableAt k write s)
 table_writes_same k write s =
-    acts_same {S = Unit {0}} (λ s result charge s'. WritesTable (write s.value) s.value s.meter result charge s'.value
-    s'.meter)
+    acts_same {S = Unit {0}} (WritesTableCharging write)
     (λ s result result' charge charge' s' s'' h h'.
     let both =
-    table_write_same (write s.value) s.value s.meter (record { result = result; charge = charge; value = s'.value })
+    table_write_same write s (record { result = result; charge = charge; value = s'.value })
     (record { result = result'; charge = charge'; value = s''.value }) s'.meter s''.meter h h' in
     (both.0, both.1, λ i. record { value = both.2 i; meter = both.3 i; limiter = tt }))
     k (reply_of (λ _. replied.Done) replied.Table) s
@@ -140,20 +173,24 @@ pub copied_length : (elements written : List ℕ) (dst : ℕ) (part : Option (Li
 copied_length elements written dst (Some part) is = overwrite_length elements part written dst is
 copied_length elements written dst None is = absurd (none-some written is)
 
-module _ (w : TableWrite) (x : TableValue) (m : Option Meter) (result : Result (Unit {0}) TableError) (charge : ℕ)
-    (x' : TableValue) (keeps : KeepsLength w x) where
+module _ (write : TableValue → TableWrite) (s : MeteredTable) (result : Result (Unit {0}) TableError) (charge : ℕ)
+    (s' : MeteredTable) (keeps : KeepsLength (write s.value) s.value) where
+  -- how it is written over
+  abbrev w : TableWrite
+  w = write s.value
+
   -- a write over a part keeps the number of elements
   ends_count : (typed : Bool) (written : Option (List ℕ)) (payable : Bool) → w.written ≡ written
-      → EndsBy w x m typed written payable (record { result = result; charge = charge; value = x' })
-      → size_of x' ≡ size_of x
+      → EndsBy w s typed written payable (record { result = result; charge = charge; value = s'.value })
+      → size_of s'.value ≡ size_of s.value
   ends_count false written payable is ends = ap size_of ends.2
   ends_count true None payable is ends = ap size_of ends.2
   ends_count true (Some elements) false is ends = ap size_of ends.2
   ends_count true (Some elements) true is ends = ap size_of ends.2 ∙ keeps elements is
 
   -- so by its ranges
-  pub write_count : (m' : Option Meter) → WritesTable w x m result charge x' m' → size_of x' ≡ size_of x
-  write_count m' writes = ends_count w.typed w.written _ refl writes.ends
+  pub write_count : WritesTableCharging write s result charge s' → size_of s'.value ≡ size_of s.value
+  write_count writes = ends_count w.typed w.written _ refl writes.ends
 
 -- the writes over a table at an index
 module _ (k : ℕ) (s s' : Metered) (reply : Reply) (charge : ℕ) (len : ℕ) where
@@ -165,7 +202,7 @@ module _ (k : ℕ) (s s' : Metered) (reply : Reply) (charge : ℕ) (len : ℕ) w
       (λ missing. ap (λ (s : Metered). map (slot_count size_of) s.value) missing.2)
       (λ x found h. ap (map (slot_count size_of)) h.4
       ∙ counts_kept size_of s.value k x (Live h.1) found
-      (write_count (write x) x s.meter h.0 charge h.1 (is x).0 s'.meter h.2))
+      (write_count write (with_value s x) h.0 charge (with_value s' h.1) (is x).0 h.2))
 
   -- so where the write may be missing
   pub part_kept : (part : Option (TableValue → TableWrite)) → OnLive part (Unit {0}) (IsWrite len)
@@ -175,14 +212,26 @@ module _ (k : ℕ) (s s' : Metered) (reply : Reply) (charge : ℕ) (len : ℕ) w
       (λ missing. ap (λ (s : Metered). map (slot_count size_of) s.value) missing.1.2)
       (λ write found h. write_kept write h.0 h.1)
 
+-- what is true of a table and of the one with other elements, where an element is set, is true of what it becomes
+set_holds : (Holds : TableValue → Type 0) (index : ℕ) (value : TypedRawRef) (x : TableValue)
+    (result : Result (Unit {0}) TableError) (x' : TableValue) → SetsTable index value x result x' → Holds x
+    → ((elements : List ℕ) → overwrite x.elements index (value.raw ∷ []) ≡ Some elements
+    → Holds (record x { elements = elements })) → Holds x'
+set_holds Holds index value x result x' sets before after =
+    on_test (same_type x.ty.element value.ty) _ _ sets
+    (λ raw. on_live (overwrite x.elements index (value.raw ∷ [])) _ _ raw
+    (λ outside. subst Holds (sym outside.1) before)
+    (λ elements is set. subst Holds (sym set.1) (after elements is)))
+    (λ other. subst Holds (sym other.1) before)
+
 -- an element that is set keeps the sizes
 pub set_kept : (k : ℕ) (slots : List (Slot TableValue)) (reply : Reply) (slots' : List (Slot TableValue)) (index : ℕ)
     (value : TypedRawRef) → SetsElementAt k index value slots reply slots'
     → map (slot_count size_of) slots' ≡ map (slot_count size_of) slots
 set_kept k slots reply slots' index value sets =
     changes_kept size_of k slots reply slots'
-    _ (λ x x' c. write_count (typed_by x value.ty (setting_of x index value.raw)) x None c.0 0 x'
-    (λ elements is. overwrite_length x.elements (value.raw ∷ []) elements index is) None c.1) sets
+    _ (λ x x' c. set_holds (λ t. size_of t ≡ size_of x) index value x c.0 x' c.1 refl
+    (λ elements is. overwrite_length x.elements (value.raw ∷ []) elements index is)) sets
 
 -- a table of another one's type with as many elements is valid
 table_as_long : (x x' : TableValue) → x'.ty ≡ x.ty → size_of x' ≡ size_of x → IsValidTable x → IsValidTable x'
@@ -193,22 +242,24 @@ table_as_long x x' same long valid = record {
 }
 
 -- a part of a table that is written over
-module _ (w : TableWrite) (x : TableValue) (m : Option Meter) (result : Result (Unit {0}) TableError) (charge : ℕ)
-    (x' : TableValue) where
+module _ (write : TableValue → TableWrite) (s : MeteredTable) (result : Result (Unit {0}) TableError) (charge : ℕ)
+    (s' : MeteredTable) where
   -- a write over a part keeps the type
   ends_typed : (typed : Bool) (written : Option (List ℕ)) (payable : Bool)
-      → EndsBy w x m typed written payable (record { result = result; charge = charge; value = x' }) → x'.ty ≡ x.ty
+      → EndsBy (write s.value) s typed written payable (record { result = result; charge = charge; value = s'.value })
+      → s'.value.ty ≡ s.value.ty
   ends_typed false written payable ends = ap (λ (t : TableValue). t.ty) ends.2
   ends_typed true None payable ends = ap (λ (t : TableValue). t.ty) ends.2
   ends_typed true (Some elements) false ends = ap (λ (t : TableValue). t.ty) ends.2
   ends_typed true (Some elements) true ends = ap (λ (t : TableValue). t.ty) ends.2
 
   -- so it keeps validity
-  written_valid : KeepsLength w x → (m' : Option Meter) → IsValidTable x → WritesTable w x m result charge x' m'
-      → IsValidTable x'
-  written_valid keeps m' valid writes =
-      table_as_long x x' (ends_typed w.typed w.written _ writes.ends)
-      (write_count w x m result charge x' keeps m' writes) valid
+  written_valid : KeepsLength (write s.value) s.value → IsValidTable s.value
+      → WritesTableCharging write s result charge s' → IsValidTable s'.value
+  written_valid keeps valid writes =
+      let w = write s.value in
+      table_as_long s.value s'.value (ends_typed w.typed w.written _ writes.ends)
+      (write_count write s result charge s' keeps writes) valid
 
 -- a table that is written over
 module _ (k : ℕ) (s s' : Metered) (reply : Reply) (charge : ℕ) (len : ℕ) where
@@ -216,8 +267,8 @@ module _ (k : ℕ) (s s' : Metered) (reply : Reply) (charge : ℕ) (len : ℕ) w
   write_valid : (write : TableValue → TableWrite) → IsWrite len write → WritesTableAt k write s reply charge s'
       → AllValid IsValidTable s.value → AllValid IsValidTable s'.value
   write_valid write is writes valid =
-      acts_valid IsValidTable k _ _ (λ t t' result c h w. written_valid (write t.value) t.value t.meter result c
-      t'.value (is t.value).0 t'.meter h w) s s' reply charge writes valid
+      acts_valid IsValidTable k _ _ (λ t t' result c h w. written_valid write t result c t' (is t.value).0 h w) s s'
+      reply charge writes valid
 
   -- so where the write may be missing
   pub part_valid : (part : Option (TableValue → TableWrite)) → OnLive part (Unit {0}) (IsWrite len)
@@ -233,8 +284,9 @@ pub set_valid : (k index : ℕ) (value : TypedRawRef) (slots : List (Slot TableV
     → SetsElementAt k index value slots reply slots' → AllValid IsValidTable slots → AllValid IsValidTable slots'
 set_valid k index value slots reply slots' sets valid =
     changes_valid IsValidTable k slots reply slots' _
-    (λ x x' h change. written_valid (typed_by x value.ty (setting_of x index value.raw)) x None change.0 0 x'
-    (λ elements is. overwrite_length x.elements (value.raw ∷ []) elements index is) None h change.1) sets valid
+    (λ x x' h change. set_holds IsValidTable index value x change.0 x' change.1 h
+    (λ elements is. table_as_long x (record x { elements = elements }) refl
+    (overwrite_length x.elements (value.raw ∷ []) elements index is) h)) sets valid
 
 -- what is written with a live value, as a write that is there if the value is
 pub part_from : {X : Type 0} (source : Option X) (k : ℕ) (write : X → TableValue → TableWrite) (s : Metered)

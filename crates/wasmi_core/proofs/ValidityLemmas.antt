@@ -1,5 +1,5 @@
 -- What each turn does to a valid state: it stays valid.
-use Rattle.std.proofs.Common.{List, Option, [], ap, map, subst, sym, ℕ, ◌∷◌, ◌≡◌}
+use Rattle.std.proofs.Common.{Some, List, Option, [], ap, map, subst, sym, ℕ, ◌∷◌, ◌≡◌}
 use Rattle.std.proofs.lemmas.List.Elements.{All-head, All-tail}
 use Rattle.std.specs.Prelude.{All}
 use Rattle.wasmi_core.proofs.EffectLemmas.{AllValid, acts_valid, creates_valid, on_live}
@@ -9,7 +9,8 @@ use Rattle.wasmi_core.specs.Effects.{reply_of}
 use Rattle.wasmi_core.specs.Runs.{Run}
 use Rattle.wasmi_core.specs.State.{MemoryPart, State}
 use Rattle.wasmi_core.specs.Steps.{Answers, Changed, Effect, FuelSet, LentMemoryMade, MemoryGrown, MemoryMade, RangeWritten, TableGrown, TableMade, TakesEffect, effect_of}
-use Rattle.wasmi_core.specs.TableEffects.{metered, write_of}
+use Rattle.wasmi_core.specs.TableEffects.{write_of}
+use Rattle.wasmi_store.specs.Growth.{metered}
 use Rattle.wasmi_core.specs.Validity.{IsValid, IsValidCall}
 use Rattle.wasmi_core.specs.World.{Turn, World}
 use Rattle.wasmi_core.specs.declared.calls.Call.{Call}
@@ -19,8 +20,8 @@ use Rattle.wasmi_core.specs.declared.slots.Slot.{Slot}
 use Rattle.wasmi_meter.specs.Limiter.{Rules}
 use Rattle.wasmi_meter.specs.Meter.{Meter}
 use Rattle.wasmi_store.specs.Buffer.{Lent, Owned}
-use Rattle.wasmi_store.specs.Memory.{GrowsMemory, IsValidMemory, MakesMemory, MemoryValue}
-use Rattle.wasmi_store.specs.Table.{GrowsTable, IsValidTable, MakesTable, TableValue}
+use Rattle.wasmi_store.specs.Memory.{GrowsMemoryCharging, IsValidMemory, MakesMemory, MemoryValue}
+use Rattle.wasmi_store.specs.Table.{GrowsTableCharging, IsValidTable, MakesTable, TableValue}
 use Rattle.wasmi_store.specs.MemoryType as memory_type
 use Rattle.wasmi_core.specs.declared.calls.Reply.TheVariants as replied
 use Rattle.wasmi_store.proofs.ValidityLemmas as store
@@ -92,7 +93,7 @@ module _ {S : Type 0} (rules : Rules S) (w : World S) (turn : Turn) (w' : World 
       w'.state (ap now step.after)
   effect_valid (MemoryGrown k pages) typed step =
       memories_valid w.state valid step.meter step.part w.state.spare
-      (acts_valid IsValidMemory k (reply_of replied.Number replied.Memory) (GrowsMemory rules pages)
+      (acts_valid IsValidMemory k (reply_of replied.Number replied.Memory) (GrowsMemoryCharging rules pages)
       (λ s s' result charge h grows. store.grown_memory_is_valid rules pages s result charge s' h grows)
       _ _ turn.reply turn.charge step.effect valid.memories)
       w'.state (ap now step.after)
@@ -104,13 +105,13 @@ module _ {S : Type 0} (rules : Rules S) (w : World S) (turn : Turn) (w' : World 
       w'.state (ap now step.after)
   effect_valid (TableGrown k n init) typed step =
       tables_valid w.state valid step.meter step.part
-      (acts_valid IsValidTable k (reply_of replied.Number replied.Table) (GrowsTable rules n init)
+      (acts_valid IsValidTable k (reply_of replied.Number replied.Table) (GrowsTableCharging rules n init)
       (λ s s' result charge h grows. store.grown_table_is_valid rules n init s result charge s' h grows)
       _ _ turn.reply turn.charge step.effect valid.tables)
       w'.state (ap now step.after)
   effect_valid (RangeWritten k source dst len) typed step =
       tables_valid w.state valid step.meter step.part
-      (part_valid k (metered w.state.tables m) (metered step.part step.meter) turn.reply turn.charge len
+      (part_valid k (metered w.state.tables (Some m)) (metered step.part (Some step.meter)) turn.reply turn.charge len
       (write_of source dst len) (source_writes source dst len) step.effect valid.tables)
       w'.state (ap now step.after)
   effect_valid effect typed step = rw (ap now step.after) valid

@@ -17,7 +17,8 @@ use Rattle.wasmi_core.specs.Effects.{ActsAt, OnLive, reply_of}
 use Rattle.wasmi_core.specs.Runs.{Run}
 use Rattle.wasmi_core.specs.State.{State, live_at}
 use Rattle.wasmi_core.specs.Steps.{Changed, Effect, FuelSet, MemoryGrown, RangeWritten, TableGrown, TakesEffect, effect_of, is_charged}
-use Rattle.wasmi_core.specs.TableEffects.{Metered, WritesRangeAt, WritesTableAt, element_bytes, metered, write_of}
+use Rattle.wasmi_core.specs.TableEffects.{Metered, WritesRangeAt, WritesTableAt, element_bytes, write_of}
+use Rattle.wasmi_store.specs.Growth.{metered}
 use Rattle.wasmi_core.specs.World.{Turn, World}
 use Rattle.wasmi_core.specs.Writing.{IsBounded, amount_set, amounts_set, bytes_written, charges_for_writing, has_written, is_accepted, writing_turns}
 use Rattle.wasmi_core.specs.declared.calls.Call.{Call}
@@ -33,9 +34,9 @@ use Rattle.wasmi_meter.specs.declared.error.TableError.{TableError}
 use Rattle.wasmi_meter.specs.declared.fuel.CustomFuelCosts.{CustomFuelCosts}
 use Rattle.wasmi_store.proofs.GrowthLemmas.{on_test}
 use Rattle.wasmi_store.specs.Growth.{Grows, Growth}
-use Rattle.wasmi_store.specs.Memory.{GrowsMemory, MemoryValue, pages_of}
+use Rattle.wasmi_store.specs.Memory.{GrowsMemoryCharging, MemoryValue, pages_of}
 use Rattle.wasmi_store.specs.MemoryType.{greatest_pages, in_bounds, page_bytes}
-use Rattle.wasmi_store.specs.Table.{EndsBy, GrowsTable, TableValue, TableWrite, WritesTable, write_due, element_price, size_of}
+use Rattle.wasmi_store.specs.Table.{EndsBy, GrowsTableCharging, TableValue, TableWrite, WritesTableCharging, write_due, element_price, size_of}
 use Rattle.wasmi_store.specs.TableType.{same_type}
 use Rattle.wasmi_typed.specs.declared.typed_ref.TypedRawRef.{TypedRawRef}
 use Rattle.wasmi_store.specs.Memory as memory
@@ -227,7 +228,8 @@ nothing_appended (Some x) pages = refl
 -- a growth of the memory of an index
 memory_growth_writes : {S : Type 0} (rules : Rules S) (k pages : ℕ) (t : Growing (List (Slot MemoryValue)) S)
     (reply : Reply)
-    → ActsAt k (reply_of replied.Number replied.Memory) (GrowsMemory rules pages) (before t) reply t.charge (after t)
+    → ActsAt k (reply_of replied.Number replied.Memory) (GrowsMemoryCharging rules pages) (before t) reply t.charge
+    (after t)
     → Wrote t.first.meter t.charge (bytes_appended (live_at t.first.value k) pages reply)
     (is_accepted reply) 0 t.last.meter
 memory_growth_writes {S} rules k pages t reply acts =
@@ -256,7 +258,8 @@ module _ {S : Type 0} (rules : Rules S) (n reference : ℕ) (t : Growing TableVa
 -- a growth of the table of an index
 table_growth_writes : {S : Type 0} (rules : Rules S) (k n : ℕ) (init : TypedRawRef)
     (t : Growing (List (Slot TableValue)) S) (reply : Reply)
-    → ActsAt k (reply_of replied.Number replied.Table) (GrowsTable rules n init) (before t) reply t.charge (after t)
+    → ActsAt k (reply_of replied.Number replied.Table) (GrowsTableCharging rules n init) (before t) reply t.charge
+    (after t)
     → Wrote t.first.meter t.charge (element_bytes n reply) (is_accepted reply) 0 t.last.meter
 table_growth_writes {S} rules k n init t reply acts =
     on_live (live_at t.first.value k) _ _ acts
@@ -268,9 +271,13 @@ table_growth_writes {S} rules k n init t reply acts =
     (same_Some t.last.meter t.first.meter (ap (λ (s : MeteredValue TableValue S). s.meter) h.2))))))
 
 -- a call that writes over a part of a table
-module _ (w : TableWrite) (x : TableValue) (len : ℕ) (m : Meter) (charge : ℕ) where
+module _ (write : TableValue → TableWrite) (x : TableValue) (len : ℕ) (m : Meter) (charge : ℕ) where
+  -- how it is written over
+  abbrev w : TableWrite
+  w = write x
+
   -- the charge pays for the elements, where there are some
-  len_bound : (paid : (w.paid ≡ Some len) ⊎ (len ≡ 0)) → charge ≡ write_due w x (Some m) → (left : ℕ)
+  len_bound : (paid : (w.paid ≡ Some len) ⊎ (len ≡ 0)) → charge ≡ write_due w (metered x (Some m)) → (left : ℕ)
       → m.left ≡ Some left → 0 < rate m → cut_product len 4 ≤ rate m * charge + (rate m - 1)
   len_bound (inl paid) charged left on rated =
       due_pays m left len 4 charge on rated
@@ -281,7 +288,7 @@ module _ (w : TableWrite) (x : TableValue) (len : ℕ) (m : Meter) (charge : ℕ
   -- so where it has ended well
   ends_bound : (w.paid ≡ Some len) ⊎ (len ≡ 0) → (x' : TableValue) (typed : Bool) (written : Option (List ℕ))
       (payable : Bool)
-      → EndsBy w x (Some m) typed written payable (record { result = (Ok tt); charge = charge; value = x' })
+      → EndsBy w (metered x (Some m)) typed written payable (record { result = (Ok tt); charge = charge; value = x' })
       → ((left : ℕ) → m.left ≡ Some left → 0 < rate m → cut_product len 4 ≤ rate m * charge + (rate m - 1))
   ends_bound paid x' false written payable ends = absurd cc
   ends_bound paid x' true None payable ends = absurd cc
@@ -291,31 +298,31 @@ module _ (w : TableWrite) (x : TableValue) (len : ℕ) (m : Meter) (charge : ℕ
   -- what it has written, by its result
   write_result : (w.paid ≡ Some len) ⊎ (len ≡ 0)
       → (x' : TableValue) (m' : Meter) (result : Result (Unit {0}) TableError)
-      → WritesTable w x (Some m) result charge x' (Some m')
+      → WritesTableCharging write (metered x (Some m)) result charge (metered x' (Some m'))
       → Wrote m charge (element_bytes len (reply_of (λ _. replied.Done) replied.Table result))
       (is_accepted (reply_of (λ _. replied.Done) replied.Table result)) 0 m'
   write_result paid x' m' (Ok tt) writes =
       pays m m' charge (cut_product len 4) (same_costs m m' charge writes.meter)
-      (write_takes w x m (Ok tt) charge x' m' writes) (ends_bound paid x' w.typed w.written _ writes.ends)
+      (write_takes write x m (Ok tt) charge x' m' writes) (ends_bound paid x' w.typed w.written _ writes.ends)
   write_result paid x' m' (Err error) writes =
-      refuses m m' charge (same_costs m m' charge writes.meter) (write_takes w x m (Err error) charge x' m' writes)
+      refuses m m' charge (same_costs m m' charge writes.meter) (write_takes write x m (Err error) charge x' m' writes)
 
 -- the writes over a part of the table of an index
 module _ (k len : ℕ) (slots : List (Slot TableValue)) (m : Meter) (reply : Reply) (charge : ℕ)
     (slots' : List (Slot TableValue)) (m' : Meter) where
   -- what a write has written
   table_write_writes : (write : TableValue → TableWrite) → IsWrite len write
-      → WritesTableAt k write (metered slots m) reply charge (metered slots' m')
+      → WritesTableAt k write (metered slots (Some m)) reply charge (metered slots' (Some m'))
       → Wrote m charge (element_bytes len reply) (is_accepted reply) 0 m'
   table_write_writes write is writes =
       on_live (live_at slots k) _ _ writes
       (λ missing. rw missing.0
       (idles m m' charge _ refl (same_Some m' m (ap (λ (s : Metered). s.meter) missing.2))))
-      (λ x found a. rw a.3 (write_result (write x) x len m charge (is x).1 a.1 m' a.0 a.2))
+      (λ x found a. rw a.3 (write_result write x len m charge (is x).1 a.1 m' a.0 a.2))
 
   -- so where the write may be missing
   part_writes : (part : Option (TableValue → TableWrite)) → OnLive part (Unit {0}) (IsWrite len)
-      → WritesRangeAt k part (metered slots m) reply charge (metered slots' m')
+      → WritesRangeAt k part (metered slots (Some m)) reply charge (metered slots' (Some m'))
       → Wrote m charge (element_bytes len reply) (is_accepted reply) 0 m'
   part_writes part is writes =
       on_live part _ _ (both_live part _ _ _ _ is writes)

@@ -2,12 +2,13 @@
 use Rattle.std.specs.Prelude.{◌≡◌, ◌⊎◌, ◌++◌, ℕ, Option, Some, Result, Ok, Err, List, [], ◌∷◌, length, slice_get, slice_set, MatchOption}
 use Rattle.wasmi_meter.specs.Attempt.{MeteredValue, with_value}
 use Rattle.wasmi_meter.specs.Meter.{Meter}
+use Rattle.wasmi_store.specs.Growth.{metered, metered_value}
 use Rattle.wasmi_core.specs.declared.calls.Reply.{Reply}
 use Rattle.wasmi_core.specs.declared.calls.Reply.TheVariants.{Done, Made, NoSuch, NoRoom}
 use Rattle.wasmi_core.specs.declared.slots.Slot.{Slot}
 use Rattle.wasmi_core.specs.declared.slots.Slot.TheVariants.{Live, Gone}
 use Rattle.wasmi_core.specs.State.{State, live_at}
-use Rattle.wasmi_core.specs.World.{World, Turn, IsFree}
+use Rattle.wasmi_core.specs.World.{World, world, Turn, IsFree}
 
 -- the reply to a call that answers or is refused
 abbrev pub reply_of : {T E : Type 0} → (T → Reply) → (E → Reply) → Result T E → Reply
@@ -88,7 +89,7 @@ module _ {S : Type 0} (w : World S) (turn : Turn) (w' : World S) where
     pub part : A
     pub limiter : S
     pub effect : Effect w.limiter turn.reply part limiter
-    pub after : w' ≡ record { state = with_part part; limiter = limiter }
+    pub after : w' ≡ world (with_part part) limiter
 
   -- a turn that acts on one part of the state, with a charge, and with the bytes that it has written by its reply
   pub record ActsMetered {A : Type 0} (old : A) (with_part : A → State)
@@ -96,10 +97,10 @@ module _ {S : Type 0} (w : World S) (turn : Turn) (w' : World S) where
     pub part : A
     pub meter : Meter
     pub limiter : S
-    pub effect : Effect (record { value = old; meter = Some w.state.meter; limiter = w.limiter }) turn.reply turn.charge
-        (record { value = part; meter = Some meter; limiter = limiter })
+    pub effect : Effect (metered_value old (Some w.state.meter) w.limiter) turn.reply turn.charge
+        (metered_value part (Some meter) limiter)
     pub wrote : turn.written ≡ bytes turn.reply
-    pub after : w' ≡ record { state = record (with_part part) { meter = meter }; limiter = limiter }
+    pub after : w' ≡ world (record (with_part part) { meter = meter }) limiter
 
   -- a turn that acts on one part of the state, with a charge, and with the bytes that it has written by its reply, and
   -- does not reach the limiter
@@ -108,7 +109,6 @@ module _ {S : Type 0} (w : World S) (turn : Turn) (w' : World S) where
       (bytes : Reply → ℕ) : Type 0 where
     pub part : A
     pub meter : Meter
-    pub effect : Effect (record { value = old; meter = Some w.state.meter; limiter = tt }) turn.reply turn.charge
-        (record { value = part; meter = Some meter; limiter = tt })
+    pub effect : Effect (metered old (Some w.state.meter)) turn.reply turn.charge (metered part (Some meter))
     pub wrote : turn.written ≡ bytes turn.reply
     pub after : w' ≡ record w { state = record (with_part part) { meter = meter } }

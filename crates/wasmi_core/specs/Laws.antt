@@ -165,8 +165,7 @@ module _ {S : Type 0} (rules : Rules S) where
       → in_bounds s.value.ty (pages_of s.value + pages) ≡ true
       → fits_room s.value.room (pages * page_bytes s.value.ty.page) ≡ true
       → covers s.meter (optional_due s.meter (growth_of s.value pages).price) ≡ true
-      → (result : Result ℕ MemoryError) (charge : ℕ) (s' : MeteredValue MemoryValue S)
-      → GrowsMemory rules pages s result charge s'
+      → (result : Result ℕ MemoryError) (s' : MeteredValue MemoryValue S) → GrowsMemory rules pages s result s'
       → (result ≡ Ok (pages_of s.value))
       ⊎ ((answer : Answer) × IsDenial answer
       × rules.asked s.limiter (growth_of s.value pages).question answer s'.limiter)
@@ -201,7 +200,7 @@ RepliesAreOne {L} rules =
 abbrev pub HoldsTotalsAlways : {L : Type 0} → Rules L → (L → Holdings) → Type 0
 HoldsTotalsAlways {L} rules holdings = (s : State) (l : L) → HoldsTotals (holdings l) s
     → (turns : List Turn) (w' : World (Option L))
-    → Run (optional_rules rules) (record { state = s; limiter = Some l }) turns w'
+    → Run (optional_rules rules) (world s (Some l)) turns w'
     → (l' : L) × (w'.limiter ≡ Some l') × HoldsTotals (holdings l') w'.state
 
 -- a quota that holds at most its caps before a run does so after it, and has the same caps

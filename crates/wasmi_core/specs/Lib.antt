@@ -39,24 +39,24 @@ pub use Rattle.wasmi_typed.specs.NotAReference
 pub use Rattle.wasmi_access.specs.LoadStore
 pub use Rattle.wasmi_scalar.specs.Numerics
 pub use Rattle.wasmi_scalar.specs.Wide
-pub use Rattle.wasmi_scalar_ops.specs.AccessOps
-pub use Rattle.wasmi_scalar_ops.specs.BinaryOps as ScalarBinaryOps
-pub use Rattle.wasmi_scalar_ops.specs.UnaryOps as ScalarUnaryOps
-pub use Rattle.wasmi_scalar_ops.specs.Raw as RawResults
+pub use Rattle.wasmi_ops.specs.ScalarAccessOps
+pub use Rattle.wasmi_ops.specs.ScalarBinaryOps
+pub use Rattle.wasmi_ops.specs.ScalarUnaryOps
+pub use Rattle.wasmi_ops.specs.RawResults
 pub use Rattle.wasmi_lanes.specs.Lane
 pub use Rattle.wasmi_lanes.specs.Vector
 pub use Rattle.wasmi_lanes.specs.Words
 pub use Rattle.wasmi_lanewise.specs.VectorTable
 pub use Rattle.wasmi_simd.specs.Widening
 pub use Rattle.wasmi_simd.specs.WideningTable
-pub use Rattle.wasmi_vector_ops.specs.AccessOps as VectorAccessOps
-pub use Rattle.wasmi_vector_ops.specs.BinaryOps
-pub use Rattle.wasmi_vector_ops.specs.LaneOps
-pub use Rattle.wasmi_vector_ops.specs.MakeOps
-pub use Rattle.wasmi_vector_ops.specs.ShiftOps
-pub use Rattle.wasmi_vector_ops.specs.TernaryOps
-pub use Rattle.wasmi_vector_ops.specs.TestOps
-pub use Rattle.wasmi_vector_ops.specs.UnaryOps
+pub use Rattle.wasmi_ops.specs.VectorAccessOps
+pub use Rattle.wasmi_ops.specs.BinaryOps
+pub use Rattle.wasmi_ops.specs.LaneOps
+pub use Rattle.wasmi_ops.specs.MakeOps
+pub use Rattle.wasmi_ops.specs.ShiftOps
+pub use Rattle.wasmi_ops.specs.TernaryOps
+pub use Rattle.wasmi_ops.specs.TestOps
+pub use Rattle.wasmi_ops.specs.UnaryOps
 pub use Rattle.wasmi_meter.specs.Limiter
 pub use Rattle.wasmi_meter.specs.LimiterRef
 pub use Rattle.wasmi_meter.specs.Costs
@@ -79,5 +79,5 @@ pub use Rattle.wasmi_meter.specs.declared.limiter.Kind.TheVariants as Kinds
 pub use Rattle.wasmi_meter.specs.declared.error.MemoryError.TheVariants as MemoryErrors
 pub use Rattle.wasmi_meter.specs.declared.error.TableError.TheVariants as TableErrors
 pub use Rattle.wasmi_types.specs.declared.trap.TrapCode.TheVariants as TrapCodes
-pub use Rattle.wasmi_vector_ops.specs.declared.access.VectorLoadOp.TheVariants as VectorLoads
-pub use Rattle.wasmi_vector_ops.specs.declared.binary.BinaryOp.TheVariants as Binaries
+pub use Rattle.wasmi_ops.specs.declared.vector.access.VectorLoadOp.TheVariants as VectorLoads
+pub use Rattle.wasmi_ops.specs.declared.vector.binary.BinaryOp.TheVariants as Binaries

@@ -13,8 +13,8 @@ use Rattle.wasmi_store.specs.Memory.{MemoryValue, MakesMemory, WritesMemory}
 use Rattle.wasmi_core.specs.declared.calls.Reply.{Reply}
 use Rattle.wasmi_core.specs.declared.calls.Reply.TheVariants.{Done, Value, Number, Bytes, Memory, Trap, NoSuch, NoRegion, NoRoom}
 use Rattle.wasmi_core.specs.declared.slots.Slot.{Slot}
-use Rattle.wasmi_scalar_ops.specs.declared.access.LoadOp.{LoadOp}
-use Rattle.wasmi_scalar_ops.specs.AccessOps.{loaded_raw}
+use Rattle.wasmi_ops.specs.declared.scalar.access.LoadOp.{LoadOp}
+use Rattle.wasmi_ops.specs.ScalarAccessOps.{loaded_raw}
 use Rattle.wasmi_core.specs.State.{MemoryPart, live_at}
 use Rattle.wasmi_core.specs.Effects.{reply_of, OnLive, Creates, ChangesAt}
 

@@ -9,20 +9,20 @@ use Rattle.wasmi_typed.specs.declared.typed.TypedRawVal.{TypedRawVal}
 use Rattle.wasmi_typed.specs.declared.typed_ref.TypedRawRef.{TypedRawRef}
 use Rattle.wasmi_typed.specs.Global.{GlobalInstance}
 use Rattle.wasmi_lanewise.specs.VectorTable.{shuffle}
-use Rattle.wasmi_vector_ops.specs.AccessOps.{stored_lane}
-use Rattle.wasmi_vector_ops.specs.BinaryOps.{binary_vector}
-use Rattle.wasmi_vector_ops.specs.LaneOps.{extracted_raw, replaced_vector}
-use Rattle.wasmi_vector_ops.specs.MakeOps.{made_vector}
-use Rattle.wasmi_vector_ops.specs.ShiftOps.{shifted_vector}
-use Rattle.wasmi_vector_ops.specs.TernaryOps.{ternary_vector}
-use Rattle.wasmi_vector_ops.specs.TestOps.{tested_raw}
-use Rattle.wasmi_vector_ops.specs.UnaryOps.{unary_vector}
+use Rattle.wasmi_ops.specs.VectorAccessOps.{stored_lane}
+use Rattle.wasmi_ops.specs.BinaryOps.{binary_vector}
+use Rattle.wasmi_ops.specs.LaneOps.{extracted_raw, replaced_vector}
+use Rattle.wasmi_ops.specs.MakeOps.{made_vector}
+use Rattle.wasmi_ops.specs.ShiftOps.{shifted_vector}
+use Rattle.wasmi_ops.specs.TernaryOps.{ternary_vector}
+use Rattle.wasmi_ops.specs.TestOps.{tested_raw}
+use Rattle.wasmi_ops.specs.UnaryOps.{unary_vector}
 use Rattle.wasmi_meter.specs.Limiter.{Rules}
 use Rattle.wasmi_store.specs.Buffer.{Owned}
 use Rattle.wasmi_store.specs.MemoryType.{MemoryTypeValue}
-use Rattle.wasmi_store.specs.Memory.{MakesMemory, GrowsMemory}
+use Rattle.wasmi_store.specs.Memory.{MakesMemory, GrowsMemoryCharging}
 use Rattle.wasmi_store.specs.TableType.{TableTypeValue}
-use Rattle.wasmi_store.specs.Table.{size_of, MakesTable, GrowsTable}
+use Rattle.wasmi_store.specs.Table.{size_of, MakesTable, GrowsTableCharging}
 use Rattle.wasmi_core.specs.declared.calls.Call.{Call}
 use Rattle.wasmi_core.specs.declared.calls.Call.TheVariants.{SetFuel, GetFuel, NewMemory, NewLentMemory, GrowMemory, DropMemory, Read, Write, Load, Store, NewTable, GrowTable, DropTable, GetElement, SetElement, InitTable, CopyTable, FillTable, NewSegment, DropItems, NewGlobal, SetGlobal, GetGlobal, SetRegister, GetRegister, Make, Unary, Binary, Ternary, Shift, Test, Extract, Replace, Shuffle, VectorLoad, LoadLane, VectorStore, StoreLane}
 use Rattle.wasmi_core.specs.declared.calls.Reply.{Reply}
@@ -31,7 +31,7 @@ use Rattle.wasmi_core.specs.World.{World, Turn, world}
 use Rattle.wasmi_core.specs.State.{State, live_at, with_memories, memory_part, with_memory_part, with_tables, with_segments, with_globals, with_registers}
 use Rattle.wasmi_core.specs.Effects.{reply_of, Creates, DropsAt, ActsAt, ChangesPart, OnlyReplies, Changes, Asks, ActsMetered, ActsMeteredUnasked}
 use Rattle.wasmi_core.specs.Totals.{byte_count}
-use Rattle.wasmi_scalar_ops.specs.AccessOps.{stored_bytes}
+use Rattle.wasmi_ops.specs.ScalarAccessOps.{stored_bytes}
 use Rattle.wasmi_core.specs.FuelEffects.{SetsFuel, get_fuel_reply}
 use Rattle.wasmi_core.specs.MemoryEffects.{bytes_appended, CreatesLent, ReadsMemoryAt, WritesMemoryAt, load_reply}
 use Rattle.wasmi_core.specs.TableEffects.{Source, OfReference, OfTable, OfSegment, element_reply, SetsElementAt, write_of, WritesRangeAt, element_bytes}
@@ -204,13 +204,13 @@ TakesEffect rules (LentMemoryMade ty) w turn w' =
     Asks w turn w' (with_memory_part w.state) (CreatesLent rules ty (memory_part w.state))
 TakesEffect rules (MemoryGrown k pages) w turn w' =
     ActsMetered w turn w' w.state.memories (with_memories w.state)
-    (ActsAt k (reply_of reply.Number reply.Memory) (GrowsMemory rules pages))
+    (ActsAt k (reply_of reply.Number reply.Memory) (GrowsMemoryCharging rules pages))
     (bytes_appended (live_at w.state.memories k) pages)
 TakesEffect rules (TableMade ty init) w turn w' =
     Asks w turn w' (with_tables w.state) (Creates reply.Table (MakesTable rules ty init) w.state.tables)
 TakesEffect rules (TableGrown k n init) w turn w' =
     ActsMetered w turn w' w.state.tables (with_tables w.state)
-    (ActsAt k (reply_of reply.Number reply.Table) (GrowsTable rules n init)) (element_bytes n)
+    (ActsAt k (reply_of reply.Number reply.Table) (GrowsTableCharging rules n init)) (element_bytes n)
 TakesEffect rules (RangeWritten k source dst len) w turn w' =
     ActsMeteredUnasked w turn w' w.state.tables (with_tables w.state) (WritesRangeAt k (write_of source dst len))
     (element_bytes len)

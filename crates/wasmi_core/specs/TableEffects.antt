@@ -1,13 +1,12 @@
 -- The calls on tables: what each does to the list of slots.
-use Rattle.std.specs.Prelude.{◌≡◌, ℕ, Option, Some, None, Result, List}
+use Rattle.std.specs.Prelude.{◌≡◌, ℕ, Option, Some, Result, List}
 use Rattle.std.specs.Option.{option_map, option_map_or}
 use Rattle.wasmi_typed.specs.declared.typed_ref.TypedRawRef.{TypedRawRef}
 use Rattle.wasmi_meter.specs.declared.error.TableError.{TableError}
 use Rattle.wasmi_meter.specs.Costs.{cut_product}
-use Rattle.wasmi_meter.specs.Meter.{Meter}
-use Rattle.wasmi_meter.specs.Attempt.{MeteredValue}
+use Rattle.wasmi_meter.specs.Attempt.{MeteredValue, with_value}
 use Rattle.wasmi_store.specs.Segment.{SegmentValue}
-use Rattle.wasmi_store.specs.Table.{TableValue, TableWrite, WritesTable, element_at, setting_of, filling_of, copy_of, initialization_of, typed_by}
+use Rattle.wasmi_store.specs.Table.{TableValue, TableWrite, SetsTable, WritesTableCharging, element_at, filling_of, copy_of, initialization_of}
 use Rattle.wasmi_core.specs.declared.calls.Reply.{Reply}
 use Rattle.wasmi_core.specs.declared.calls.Reply.TheVariants.{Done, Number, Reference, Table, NoSuch}
 use Rattle.wasmi_core.specs.declared.slots.Slot.{Slot}
@@ -27,21 +26,16 @@ GetsElementAt k index slots reply = reply ≡ element_reply index (live_at slots
 abbrev pub SetsElementAt : ℕ → ℕ → TypedRawRef → List (Slot TableValue) → Reply → List (Slot TableValue) → Type 0
 SetsElementAt k index value slots reply slots' = ChangesAt k slots reply slots'
     (λ x x'. (result : Result (Unit {0}) TableError)
-    × WritesTable (typed_by x value.ty (setting_of x index value.raw)) x None result 0 x' None
+    × SetsTable index value x result x'
     × (reply ≡ reply_of (λ _. Done) Table result))
 
 -- tables, and the meter that is charged
 abbrev pub Metered : Type 0
 Metered = MeteredValue (List (Slot TableValue)) (Unit {0})
 
--- tables and a meter, with no limiter to ask
-abbrev pub metered : List (Slot TableValue) → Meter → Metered
-metered slots m = record { value = slots; meter = Some m; limiter = tt }
-
 -- a part of the table of an index is written over, with its charge
 abbrev pub WritesTableAt : ℕ → (TableValue → TableWrite) → Metered → Reply → ℕ → Metered → Type 0
-WritesTableAt k write = ActsAt k (reply_of (λ _. Done) Table)
-    (λ s result charge s'. WritesTable (write s.value) s.value s.meter result charge s'.value s'.meter)
+WritesTableAt k write = ActsAt k (reply_of (λ _. Done) Table) (WritesTableCharging write)
 
 -- a part of the table of an index is written over with what a source has, with its charge; without a source the reply
 -- is `NoSuch`, and nothing has changed
@@ -57,20 +51,8 @@ CopiesSlot write source s reply charge s' =
     OnLive (live_value source) (IsNoSuch s reply charge s')
     (λ y. OnLive (live_value s.value) (IsNoSuch s reply charge s')
     (λ x. (result : Result (Unit {0}) TableError) × (x' : TableValue)
-    × WritesTable (write y x) x s.meter result charge x' s'.meter
+    × WritesTableCharging (write y) (with_value s x) result charge (with_value s' x')
     × (reply ≡ reply_of (λ _. Done) Table result) × (s'.value ≡ Live x')))
-
--- the write of one reference over so many elements from a place on
-abbrev pub filling : ℕ → TypedRawRef → ℕ → TableValue → TableWrite
-filling dst value len x = typed_by x value.ty (filling_of x dst value.raw len)
-
--- the write over so many elements from a place on, with those of a table from another place on
-abbrev pub copy_from : ℕ → ℕ → ℕ → TableValue → TableValue → TableWrite
-copy_from dst src len source x = typed_by x source.ty.element (copy_of x dst source.elements src len)
-
--- the write over so many elements from a place on, with the items of an element segment from another place on
-abbrev pub initialization_from : ℕ → ℕ → ℕ → SegmentValue → TableValue → TableWrite
-initialization_from dst src len segment x = typed_by x segment.ty (initialization_of x dst segment.items src len)
 
 -- what a part of a table is written over with: a reference, elements of a table, or items of an element segment, from a
 -- place on, if it is there
@@ -81,9 +63,9 @@ pub data Source : Type 0 where
 
 -- the write over so many elements from a place on, with what a source has, if the source is there
 abbrev pub write_of : Source → ℕ → ℕ → Option (TableValue → TableWrite)
-write_of (OfReference value) dst len = Some (filling dst value len)
-write_of (OfTable source src) dst len = option_map (copy_from dst src len) source
-write_of (OfSegment segment src) dst len = option_map (initialization_from dst src len) segment
+write_of (OfReference value) dst len = Some (filling_of dst value len)
+write_of (OfTable source src) dst len = option_map (copy_of dst src len) source
+write_of (OfSegment segment src) dst len = option_map (initialization_of dst src len) segment
 
 -- a range of a table is written over by such a write, if there is one
 abbrev pub WritesRangeAt : ℕ → Option (TableValue → TableWrite) → Metered → Reply → ℕ → Metered → Type 0

@@ -6,23 +6,22 @@ use std::fmt::{Debug, Formatter, Write};
 use std::marker::Model;
 use wasmi_lanes::ImmLaneIdx32;
 use wasmi_meter::{FuelError, MemoryError, TableError};
+use wasmi_ops::{
+    BinaryOp, ExtractOp, LoadLaneOp, LoadOp, MakeOp, ReplaceOp, ShiftOp, StoreLaneOp, StoreOp,
+    TernaryOp, TestOp, UnaryOp, VectorLoadOp,
+};
 use wasmi_raw::{RawRef, RawVal};
-use wasmi_scalar_ops::{LoadOp, StoreOp};
 use wasmi_store::{MemoryType, SegmentError, TableType};
 use wasmi_typed::{GlobalError, GlobalType, TypedRawRef, TypedRawVal};
 use wasmi_types::{RefType, TrapCode};
-use wasmi_vector_ops::{
-    BinaryOp, ExtractOp, LoadLaneOp, MakeOp, ReplaceOp, ShiftOp, StoreLaneOp, TernaryOp, TestOp,
-    UnaryOp, VectorLoadOp,
-};
 
 /// One call on a machine. Memories, tables, element segments and globals go by their indices, which
 /// count from 0 for each kind and aren't used again: there is no such memory or table once it is
 /// dropped. Registers go by their numbers from 0 to 15; `dst` is the one that takes the result, and
 /// a refused call keeps it.
 ///
-/// Replies stand in the order of the tests: the first that applies is the reply. `Memory` and
-/// `Table` carry what the method of `Memory` or `Table` answers.
+/// Replies are listed in the order of the tests: the first that applies is the reply. `Memory` and
+/// `Table` carry the error that the method of `Memory` or `Table` returns.
 ///
 /// Own: upstream leaves running to the interpreter.
 #[derive(Drop)]
@@ -31,12 +30,12 @@ pub enum Call {
     SetFuel(u64),
     /// The fuel that is left: `Number`, or `Fuel` where metering is off.
     GetFuel,
-    /// Makes a memory of zeros: `Made` with its index, `NoRoom` where its slot can't be had, or
-    /// `Memory`.
+    /// Makes a memory of zeros: `Made` with its index, `NoRoom` if there is no memory for its slot,
+    /// or `Memory`.
     NewMemory(MemoryType),
     /// Makes a memory of zeros at the front of the machine's spare region: `Made` with its index,
-    /// `NoRegion` where there is no spare region, `NoRoom` where its slot can't be had, or
-    /// `Memory`. But for `NoRegion` and `NoRoom` the region is spent.
+    /// `NoRegion` where there is no spare region, `NoRoom` if there is no memory for its slot,
+    /// or `Memory`. Any reply except `NoRegion` and `NoRoom` uses up the region.
     NewLentMemory(MemoryType),
     /// Grows a memory by so many pages: `Number` of the old size in pages, `NoSuch` where there is
     /// no such memory, or `Memory`.
@@ -48,7 +47,7 @@ pub enum Call {
     /// `Done`, or `NoSuch` where there is no such memory.
     DropMemory(usize),
     /// So many bytes of a memory: `Bytes`, `NoSuch` where there is no such memory, `Memory` where
-    /// they end past it, or then `NoRoom` where the reply's buffer can't be had.
+    /// they end past it, or then `NoRoom` if there is no memory for the reply.
     Read {
         memory: usize,
         offset: usize,
@@ -78,7 +77,7 @@ pub enum Call {
         offset: u64,
         value: RawVal,
     },
-    /// Makes a table of one reference: `Made` with its index, `NoRoom` where its slot can't be had,
+    /// Makes a table of one reference: `Made` with its index, `NoRoom` without memory for its slot,
     /// or `Table`.
     NewTable {
         ty: TableType,
@@ -141,7 +140,7 @@ pub enum Call {
         value: TypedRawRef,
         len: u64,
     },
-    /// Makes an element segment: `Made` with its index, `NoRoom` where its slot can't be had, or
+    /// Makes an element segment: `Made` with its index, `NoRoom` without memory for its slot, or
     /// `Segment`.
     NewSegment {
         ty: RefType,
@@ -150,7 +149,7 @@ pub enum Call {
     /// Drops the items of an element segment, which stays: `Done`, or `NoSuch` where there is no
     /// such segment.
     DropItems(usize),
-    /// Makes a global: `Made` with its index, or `NoRoom` where its slot can't be had.
+    /// Makes a global: `Made` with its index, or `NoRoom` without memory for its slot.
     NewGlobal {
         value: RawVal,
         ty: GlobalType,
@@ -335,7 +334,7 @@ impl Call {
         matches!(self, Call::SetFuel(_))
     }
 
-    /// Does nothing that shows: its contract tells that the type which a call names is valid.
+    /// Does nothing: its contract says that the type which a call names is valid.
     #[inline(always)]
     pub(crate) fn tell_valid(&self)
         ensures { IsValidCall self.now }
@@ -357,7 +356,7 @@ impl Call {
 /// Own: upstream leaves running to the interpreter.
 #[derive(Debug, Drop, PartialEq, Eq)]
 pub enum Reply {
-    /// The call is done, and answers nothing else.
+    /// The call is done, and has no other result.
     Done,
     /// The index of the memory, table, element segment or global that was made.
     Made(usize),

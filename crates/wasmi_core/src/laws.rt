@@ -19,31 +19,33 @@ pub fn runs_join<L: ResourceLimiter>()
     ensures calls { RunsOfCallsJoin (optional_rules L.rules) }
 {}
 
-/// In each turn that is refused the contents stay; the meter, unless it is a growth that fails
-/// after its charge; and the spare region, unless a memory was to be made in it and a slot was
-/// there for it.
+/// A turn that is refused keeps the contents. It keeps the meter, unless it is a growth that fails
+/// after its charge, and the spare region, unless a memory was to be made in it and there was a
+/// slot for it.
 ///
-/// A growth fails after its charge where its question was permitted, its price was left and taken,
-/// and then memory was wanting. The limiter was told so, the reply tells it too, unless the limiter
-/// answers the notice by an error, and the meter has exactly that price less (`FailsAfterCharge`).
+/// A growth fails after its charge if its question was permitted, its price was left and taken, and
+/// then the allocation failed. The limiter was notified of that, the reply says so too, unless the
+/// limiter answers the notice with an error, and the meter has exactly that price less
+/// (`FailsAfterCharge`).
 ///
-/// So it is in each turn of a run, and a run in which each turn is refused keeps the contents.
+/// This holds of each turn of a run, and a run in which each turn is refused keeps the contents.
 pub fn refusals_keep_contents<L: ResourceLimiter>()
     ensures turn { RefusalsKeepContents (optional_rules L.rules) }
     ensures run { RefusalsInRunsKeepContents (optional_rules L.rules) }
     ensures all_refused { RefusedRunsKeepContents (optional_rules L.rules) }
 {}
 
-/// In each turn the limiter is asked the question of the call (`question_of`) where it has one,
-/// unless there is no room for the slot of what it makes, and nothing else. A permission is
-/// followed by exactly the growth that was asked for, or by just one notice, which the reply tells,
-/// and a denial by neither.
+/// In each turn the limiter is asked the question of the call (`question_of`) if it has one, unless
+/// there is no room for the slot of what it makes, and nothing else. A permission is followed by
+/// exactly the growth that was asked for, or by exactly one notice, which the reply reports, and a
+/// denial by neither.
 ///
-/// A growth that stands is charged its price, one for which memory was wanting too, and no other
-/// growth and no creation anything; a call that lets nothing grow is charged for the elements that
-/// it writes over a part of a table, and else nothing. So much was left, and is taken of the meter.
+/// A growth that succeeds is charged its price, and so is one that fails for lack of memory. No
+/// other growth and no creation is charged anything. A call that lets nothing grow is charged for
+/// the elements that it writes over a part of a table, and else nothing. The charge was left in the
+/// meter, and is taken from it.
 ///
-/// A machine that is lent no limiter has each question permitted. So it is in each turn of a run.
+/// Without a limiter each question is permitted. This holds of each turn of a run.
 pub fn growths_are_permitted<L: ResourceLimiter>()
     ensures turn { GrowsAsPermitted (optional_rules L.rules) }
     ensures run { RunsGrowAsPermitted (optional_rules L.rules) }
@@ -78,8 +80,8 @@ pub fn runs_keep_validity<L: ResourceLimiter>()
     ensures { RunsKeepValidity (optional_rules L.rules) }
 {}
 
-/// A run of which no reply tells of a denial is one in which the limiter permitted each question. A
-/// growth out of bounds counts as one that tells of it, since both are told by one error.
+/// If no reply of a run tells of a denial, the limiter permitted each question. A growth out of
+/// bounds counts as a denial here, since both have the same error.
 pub fn replies_permit<L: ResourceLimiter>()
     ensures { RepliesPermit (optional_rules L.rules) }
 {}
@@ -114,33 +116,33 @@ pub fn lent_runs_are_owned<L: ResourceLimiter>()
     ensures { LentRunsAreOwned (optional_rules L.rules) }
 {}
 
-/// A memory that is made in a spare region of at least its minimum is made as one of its own, but
-/// for the room that it has and the spare region.
+/// A memory that is made in a spare region of at least its minimum is made as one with memory of
+/// its own, except for its room and the spare region.
 pub fn lent_creations_are_owned<L: ResourceLimiter>()
     ensures { LentCreationsAreOwned (optional_rules L.rules) }
 {}
 
-/// A growth of a lent memory that its type and its region have place for, and that can be paid,
-/// takes no memory: the limiter alone can refuse it.
+/// A growth of a lent memory for which its type and its region have room, and which can be paid
+/// for, takes no memory: the limiter alone can refuse it.
 pub fn lent_growths_succeed<L: ResourceLimiter>()
     ensures { LentGrowthsSucceed (optional_rules L.rules) }
 {}
 
 /// Where the limiter leaves no choice, two runs of one list of calls from one machine and one
-/// limiter are one, if in neither of them memory is wanting: no reply and no notice tells of it.
+/// limiter are equal, if neither is out of memory: no reply and no notice tells of it.
 pub fn runs_are_one<L: ResourceLimiter>()
     ensures { RunsAreOne L.rules }
 {}
 
-/// Where the limiter accepts each notice, a run whose replies tell of no want of memory is one in
-/// which nobody is told of it, as `runs_are_one` wants.
+/// If the limiter accepts each notice, a run whose replies don't tell of a lack of memory is one in
+/// which no notice does either, as `runs_are_one` requires.
 pub fn replies_tell<L: ResourceLimiter>()
     ensures { RepliesTell L.rules }
 {}
 
 /// Where the limiter leaves no choice and accepts each notice, two runs of one list of calls from
 /// one machine and one limiter have the same replies and lead to the same machine and limiter, if
-/// no reply tells of want of memory. Its premises are what `run` promises and what a caller sees.
+/// no reply tells of a lack of memory. Its premises are what `run` promises and what a caller sees.
 pub fn replies_are_one<L: ResourceLimiter>()
     ensures { RepliesAreOne L.rules }
 {}

@@ -25,11 +25,14 @@ pub use wasmi_meter::{
     Lender, LimiterByKind, LimiterError, LimiterRef, MemoryError, NoLimits, Quota, Reserving,
     ResourceLimiter, ResourceLimiterRef, TableError, ValueSize, growth,
 };
+pub use wasmi_ops::{
+    BinaryOp, ExtractOp, LoadLaneOp, LoadOp, MakeOp, ReplaceOp, ScalarBinaryOp, ScalarUnaryOp,
+    ShiftOp, StoreLaneOp, StoreOp, TernaryOp, TestOp, UnaryOp, VectorLoadOp,
+};
 pub use wasmi_raw::{
     F32, F64, Number, RawRef, RawVal, ReadAs, ReadBack, V128, WriteAs, laws as raw_laws,
 };
 pub use wasmi_scalar::value::{Integer, SignExtendFrom, Unsigned};
-pub use wasmi_scalar_ops::{LoadOp, ScalarBinaryOp, ScalarUnaryOp, StoreOp};
 pub use wasmi_simd::laws as widening_laws;
 pub use wasmi_store::{
     Buffer, ByteBuffer, ElementSegment, ElementSegmentRef, LinearMemory, Memory, MemoryType,
@@ -42,8 +45,4 @@ pub use wasmi_typed::{
 pub use wasmi_types::{
     FuncType, FuncTypeError, HostError, IndexType, InvalidTrapCode, RefType, Trap, TrapCode,
     ValType, hint,
-};
-pub use wasmi_vector_ops::{
-    BinaryOp, ExtractOp, LoadLaneOp, MakeOp, ReplaceOp, ShiftOp, StoreLaneOp, TernaryOp, TestOp,
-    UnaryOp, VectorLoadOp,
 };

@@ -82,7 +82,7 @@ impl<'r> Machine<'r> {
         &self.store.fuel
     }
 
-    /// Takes an amount of fuel, and answers what is left. It is `FuelMeteringDisabled` where the
+    /// Takes an amount of fuel, and returns what is left. It is `FuelMeteringDisabled` where the
     /// meter is off; `OutOfFuel` with the amount where less is left, and then nothing is taken.
     ///
     /// It isn't a call, so a run has no turn for it: an interpreter pays by it for the instructions
@@ -159,7 +159,7 @@ impl<'r> Machine<'r> {
         self.store.tables.total()
     }
 
-    /// Does nothing: its contract tells what each machine keeps.
+    /// Does nothing: its contract says what holds of each machine.
     #[inline(always)]
     pub(crate) fn tell_valid(&self)
         ensures { IsValid self.now }

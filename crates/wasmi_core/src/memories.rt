@@ -1,13 +1,13 @@
 //! The memories of a machine, by their indices.
-ghost use Rattle.std.specs.Prelude.{◌≡◌, ◌+◌, ℕ, Some};
+ghost use Rattle.std.specs.Prelude.{◌≡◌, ◌+◌, Some};
 ghost use Rattle.wasmi_types.specs.Bytes.{le_bytes};
 ghost use Rattle.wasmi_meter.specs.Limiter.{optional_rules};
 ghost use Rattle.wasmi_meter.specs.LimiterRef.{lent_limiter, KeepsLoan};
 ghost use Rattle.wasmi_store.specs.Buffer.{Owned};
-ghost use Rattle.wasmi_store.specs.Growth.{metered_value};
-ghost use Rattle.wasmi_store.specs.Memory.{MakesMemory, GrowsMemory};
-ghost use Rattle.wasmi_vector_ops.specs.AccessOps.{stored_lane};
-ghost use Rattle.wasmi_scalar_ops.specs.AccessOps.{stored_bytes};
+ghost use Rattle.wasmi_store.specs.Growth.{metered_value, WithCharge};
+ghost use Rattle.wasmi_store.specs.Memory.{MakesMemory, GrowsMemoryCharging};
+ghost use Rattle.wasmi_ops.specs.VectorAccessOps.{stored_lane};
+ghost use Rattle.wasmi_ops.specs.ScalarAccessOps.{stored_bytes};
 ghost use Rattle.wasmi_core.specs.Effects.{reply_of, ActsAt, Creates};
 ghost use Rattle.std.specs.Option.{option_copied_mut, option_map};
 ghost use Rattle.wasmi_core.specs.RegisterEffects.{StoresVectorAt};
@@ -18,12 +18,11 @@ use crate::calls::{ByteList, Reply};
 use crate::slots::Slots;
 use std::alloc::Global;
 use wasmi_meter::{Fuel, MemoryError, ResourceLimiter, ResourceLimiterRef};
+use wasmi_ops::{LoadOp, StoreLaneOp, StoreOp};
 use wasmi_raw::{RawVal, V128};
-use wasmi_scalar_ops::{LoadOp, StoreOp};
 use wasmi_store::{Memory, MemoryType};
 use wasmi_types::TrapCode;
 use wasmi_vector_access::simd::v128_store;
-use wasmi_vector_ops::StoreLaneOp;
 
 impl<'r> Slots<Memory<'r>> {
     /// Makes a memory in a new slot, which is reserved before the limiter is asked.
@@ -85,17 +84,16 @@ impl<'r> Slots<Memory<'r>> {
         limiter: &mut ResourceLimiterRef<L>,
     ) -> Reply
         ensures loan { KeepsLoan limiter.old limiter.new }
-        ensures grown { (charge : ℕ)
-            × ActsAt index (reply_of Reply.Number Reply.Memory)
-            (GrowsMemory (optional_rules L.rules) pages)
-            (metered_value self.old.slots.items (Some fuel.old) (lent_limiter limiter.old))
-            result charge
+        ensures grown { WithCharge
+            (ActsAt index (reply_of Reply.Number Reply.Memory)
+            (GrowsMemoryCharging (optional_rules L.rules) pages))
+            (metered_value self.old.slots.items (Some fuel.old) (lent_limiter limiter.old)) result
             (metered_value self.new.slots.items (Some fuel.new) (lent_limiter limiter.new)) }
     {
         let Some(memory) = self.live_mut(index) else {
             return Reply::NoSuch;
         };
-        match memory.grow(pages, Some(fuel), limiter) {
+        match memory.grow_metered(pages, fuel, limiter) {
             Ok(size) => Reply::Number(size),
             Err(error) => Reply::Memory(error),
         }
@@ -211,7 +209,7 @@ fn stored(answer: Result<(), TrapCode>) -> Reply
     }
 }
 
-/// A part of a list of bytes: its bounds are tested before the reply's buffer is had.
+/// A part of a list of bytes: its bounds are tested before the reply's buffer is allocated.
 fn read_bytes(alloc: Global, memory: &[u8], offset: usize, len: usize) -> Reply
     ensures { ReadsBytes (at memory.now offset len) result }
 {

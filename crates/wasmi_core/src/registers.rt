@@ -3,26 +3,26 @@ ghost use Rattle.std.specs.Prelude.{◌≡◌, ◌+◌, Some, Ok, slice_get, len
 ghost use Rattle.std.specs.Option.{option_map, option_and_then};
 ghost use Rattle.wasmi_raw.specs.RawVal.{raw_of_vector};
 ghost use Rattle.wasmi_lanewise.specs.VectorTable.{shuffle};
-ghost use Rattle.wasmi_vector_ops.specs.AccessOps.{loaded_vector, loaded_lane};
-ghost use Rattle.wasmi_vector_ops.specs.BinaryOps.{binary_vector};
-ghost use Rattle.wasmi_vector_ops.specs.LaneOps.{extracted_raw, replaced_vector};
-ghost use Rattle.wasmi_vector_ops.specs.MakeOps.{made_vector};
-ghost use Rattle.wasmi_vector_ops.specs.ShiftOps.{shifted_vector};
-ghost use Rattle.wasmi_vector_ops.specs.TernaryOps.{ternary_vector};
-ghost use Rattle.wasmi_vector_ops.specs.TestOps.{tested_raw};
-ghost use Rattle.wasmi_vector_ops.specs.UnaryOps.{unary_vector};
-ghost use Rattle.wasmi_scalar_ops.specs.Raw.{as_raw};
+ghost use Rattle.wasmi_ops.specs.VectorAccessOps.{loaded_vector, loaded_lane};
+ghost use Rattle.wasmi_ops.specs.BinaryOps.{binary_vector};
+ghost use Rattle.wasmi_ops.specs.LaneOps.{extracted_raw, replaced_vector};
+ghost use Rattle.wasmi_ops.specs.MakeOps.{made_vector};
+ghost use Rattle.wasmi_ops.specs.ShiftOps.{shifted_vector};
+ghost use Rattle.wasmi_ops.specs.TernaryOps.{ternary_vector};
+ghost use Rattle.wasmi_ops.specs.TestOps.{tested_raw};
+ghost use Rattle.wasmi_ops.specs.UnaryOps.{unary_vector};
+ghost use Rattle.wasmi_ops.specs.RawResults.{as_raw};
 ghost use Rattle.wasmi_core.specs.RegisterEffects.{TakesRegister, given_vector, of_one, of_two, of_three, raw_reply, vector_at};
 
 use crate::calls::Reply;
 use wasmi_lanes::ImmLaneIdx32;
 use wasmi_lanewise::simd::i8x16_shuffle;
-use wasmi_raw::{RawVal, ReadAs, V128};
-use wasmi_types::TrapCode;
-use wasmi_vector_ops::{
+use wasmi_ops::{
     BinaryOp, ExtractOp, LoadLaneOp, MakeOp, ReplaceOp, ShiftOp, TernaryOp, TestOp, UnaryOp,
     VectorLoadOp,
 };
+use wasmi_raw::{RawVal, ReadAs, V128};
+use wasmi_types::TrapCode;
 
 /// The 16 registers of raw values, by their numbers from 0. At first they are zeros.
 #[derive(Debug, Default, Drop)]

@@ -14,7 +14,7 @@ use std::alloc::AllocError;
 use wasmi_meter::{Reserving, ResourceLimiter, ResourceLimiterRef};
 
 impl<'r> Machine<'r> {
-    /// Answers one call, as `run` answers each of a list.
+    /// Executes one call, as `run` executes each of a list.
     ///
     /// Own: upstream leaves running to the interpreter.
     #[inline(always)]
@@ -33,7 +33,7 @@ impl<'r> Machine<'r> {
         self.store.step(call, limiter)
     }
 
-    /// Answers one call, as `step`, under a limiter that is lent for this call alone.
+    /// Executes one call, as `step`, under a limiter that is lent for this call alone.
     ///
     /// Own: upstream leaves running to the interpreter.
     #[inline(always)]
@@ -51,7 +51,8 @@ impl<'r> Machine<'r> {
     }
 }
 
-/// Answers calls in turn. Room for the replies is had first; where it is refused, nothing happened.
+/// Executes calls one after another. Memory for the replies is allocated first; if that fails,
+/// nothing has happened.
 ///
 /// Own: upstream leaves running to the interpreter.
 pub fn run<L: ResourceLimiter>(
@@ -75,7 +76,7 @@ pub fn run<L: ResourceLimiter>(
     Ok(replies)
 }
 
-/// Answers calls in turn, as `run`, under a limiter that is lent for this run alone.
+/// Executes calls, as `run`, under a limiter that is lent for this run alone.
 ///
 /// Own: upstream leaves running to the interpreter.
 pub fn run_lending<L: ResourceLimiter>(
@@ -97,8 +98,8 @@ pub fn run_lending<L: ResourceLimiter>(
     replies
 }
 
-/// Answers calls in turn, as `run`, under a limiter that holds exactly what the machine has: it
-/// does so again afterwards.
+/// Executes calls, as `run`, under a limiter that holds exactly what the machine has, and does so
+/// again afterwards.
 ///
 /// Own: upstream leaves running to the interpreter.
 pub fn run_reserving<L: Reserving>(

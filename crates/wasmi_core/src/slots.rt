@@ -41,7 +41,7 @@ impl Counted for Table {
     }
 }
 
-/// A live value, or the size that it had when it was dropped.
+/// A live value, or the size of one when it was dropped.
 #[derive(Debug, Drop)]
 pub(crate) enum Slot<T> {
     Live(T),
@@ -62,7 +62,7 @@ impl<T> Slot<T> {
         }
     }
 
-    /// How many it has, or had when it was dropped.
+    /// How many bytes or elements it has, or had when it was dropped.
     fn count(&self) -> usize
     where
         T: Counted,
@@ -133,7 +133,7 @@ impl<T> Slots<T> {
         self.slots.try_reserve(1).is_ok()
     }
 
-    /// Puts a value into a new slot, and answers its index.
+    /// Puts a value into a new slot, and returns its index.
     pub(crate) fn push(&mut self, value: T) -> usize
     where
         T: Drop,
@@ -162,7 +162,7 @@ impl<T: Counted> Slots<T> {
         Reply::Done
     }
 
-    /// How many all of them have, dropped ones as many as they had.
+    /// How many bytes or elements all of them have; dropped ones count with their last size.
     pub(crate) fn total(&self) -> u128
         ensures { result ≡ sum (map (slot_count T.Counted.count) self.now.slots.items) }
     {

@@ -70,7 +70,7 @@ impl<'r> Store<'r> {
         }
     }
 
-    /// Answers one call.
+    /// Executes one call.
     #[inline(always)]
     pub(crate) fn step<L: ResourceLimiter>(
         &mut self,
@@ -116,7 +116,7 @@ impl<'r> Store<'r> {
         }
     }
 
-    /// Answers one call on memories.
+    /// Executes one call on memories.
     fn step_memory<L: ResourceLimiter>(
         &mut self,
         call: &Call,
@@ -162,7 +162,7 @@ impl<'r> Store<'r> {
         }
     }
 
-    /// Answers one call on tables.
+    /// Executes one call on tables.
     fn step_table<L: ResourceLimiter>(
         &mut self,
         call: &Call,
@@ -225,7 +225,7 @@ impl<'r> Store<'r> {
         }
     }
 
-    /// Answers one call on registers, which doesn't reach the limiter: only the contract names `L`.
+    /// Executes one call on registers, which doesn't reach the limiter: only the contract has `L`.
     #[tactic(auto, using(crate::proofs::StoreLemmas::changes_part))]
     fn step_register<L: ResourceLimiter>(&mut self, call: &Call) -> Reply
         requires subject { subject_of call.now ≡ RegisterFile }
@@ -247,7 +247,7 @@ impl<'r> Store<'r> {
         }
     }
 
-    /// Answers one load or store of a vector, which doesn't reach the limiter: only the contract
+    /// Executes one load or store of a vector, which doesn't reach the limiter: only the contract
     /// names `L`.
     fn step_vector_access<L: ResourceLimiter>(&mut self, call: &Call) -> Reply
         requires subject { subject_of call.now ≡ Vectors }

@@ -1,12 +1,12 @@
 //! The tables of a machine, by their indices.
-ghost use Rattle.std.specs.Prelude.{◌≡◌, ◌≢◌, ◌<◌, length, ℕ, Some};
+ghost use Rattle.std.specs.Prelude.{◌≡◌, ◌≢◌, ◌<◌, length, Some};
 ghost use Rattle.wasmi_meter.specs.Limiter.{optional_rules};
 ghost use Rattle.wasmi_meter.specs.LimiterRef.{lent_limiter, KeepsLoan};
-ghost use Rattle.wasmi_store.specs.Growth.{metered_value};
+ghost use Rattle.wasmi_store.specs.Growth.{metered_value, metered, WithCharge};
 ghost use Rattle.wasmi_store.specs.Segment.{segment_of};
-ghost use Rattle.wasmi_store.specs.Table.{MakesTable, GrowsTable};
+ghost use Rattle.wasmi_store.specs.Table.{MakesTable, GrowsTableCharging, filling_of, copy_of, initialization_of};
 ghost use Rattle.wasmi_core.specs.Effects.{reply_of, ActsAt, Creates};
-ghost use Rattle.wasmi_core.specs.TableEffects.{GetsElementAt, SetsElementAt, WritesTableAt, WritesTableFrom, filling, copy_from, initialization_from, metered, CopiesSlot};
+ghost use Rattle.wasmi_core.specs.TableEffects.{GetsElementAt, SetsElementAt, WritesTableAt, WritesTableFrom, CopiesSlot};
 ghost use Rattle.wasmi_core.specs.State.{live_at};
 
 use crate::calls::Reply;
@@ -49,17 +49,16 @@ impl Slots<Table> {
         limiter: &mut ResourceLimiterRef<L>,
     ) -> Reply
         ensures loan { KeepsLoan limiter.old limiter.new }
-        ensures grown { (charge : ℕ)
-            × ActsAt index (reply_of Reply.Number Reply.Table)
-            (GrowsTable (optional_rules L.rules) delta init)
-            (metered_value self.old.slots.items (Some fuel.old) (lent_limiter limiter.old))
-            result charge
+        ensures grown { WithCharge
+            (ActsAt index (reply_of Reply.Number Reply.Table)
+            (GrowsTableCharging (optional_rules L.rules) delta init))
+            (metered_value self.old.slots.items (Some fuel.old) (lent_limiter limiter.old)) result
             (metered_value self.new.slots.items (Some fuel.new) (lent_limiter limiter.new)) }
     {
         let Some(table) = self.live_mut(index) else {
             return Reply::NoSuch;
         };
-        match table.grow(delta, init, Some(fuel), limiter) {
+        match table.grow_metered(delta, init, fuel, limiter) {
             Ok(size) => Reply::Number(size),
             Err(error) => Reply::Table(error),
         }
@@ -95,14 +94,14 @@ impl Slots<Table> {
         len: u64,
         fuel: &mut Fuel,
     ) -> Reply
-        ensures { (charge : ℕ) × WritesTableAt index (filling dst value len)
-            (metered self.old.slots.items fuel.old) result charge
-            (metered self.new.slots.items fuel.new) }
+        ensures { WithCharge (WritesTableAt index (filling_of dst value len))
+            (metered self.old.slots.items (Some fuel.old)) result
+            (metered self.new.slots.items (Some fuel.new)) }
     {
         let Some(table) = self.live_mut(index) else {
             return Reply::NoSuch;
         };
-        done(table.fill(dst, value, len, Some(fuel)))
+        done(table.fill_metered(dst, value, len, fuel))
     }
 
     /// Initializes a part of a table from an element segment, if there is one.
@@ -115,15 +114,15 @@ impl Slots<Table> {
         len: u32,
         fuel: &mut Fuel,
     ) -> Reply
-        ensures { (charge : ℕ)
-            × WritesTableAt index (initialization_from dst src len (segment_of segment.entry))
-            (metered self.old.slots.items fuel.old) result charge
-            (metered self.new.slots.items fuel.new) }
+        ensures { WithCharge
+            (WritesTableAt index (initialization_of dst src len (segment_of segment.entry)))
+            (metered self.old.slots.items (Some fuel.old)) result
+            (metered self.new.slots.items (Some fuel.new)) }
     {
         let Some(table) = self.live_mut(index) else {
             return Reply::NoSuch;
         };
-        done(table.init(segment, dst, src, len, Some(fuel)))
+        done(table.init_metered(segment, dst, src, len, fuel))
     }
 
     /// Copies a range of a table to another one, or within it.
@@ -136,11 +135,11 @@ impl Slots<Table> {
         len: u64,
         fuel: &mut Fuel,
     ) -> Reply
-        ensures { (charge : ℕ)
-            × WritesTableFrom (live_at self.old.slots.items src_index) dst_index
-            (copy_from dst src len)
-            (metered self.old.slots.items fuel.old) result charge
-            (metered self.new.slots.items fuel.new) }
+        ensures { WithCharge
+            (WritesTableFrom (live_at self.old.slots.items src_index) dst_index
+            (copy_of dst src len))
+            (metered self.old.slots.items (Some fuel.old)) result
+            (metered self.new.slots.items (Some fuel.new)) }
     {
         if dst_index == src_index {
             return self.copy_in_one(dst_index, dst, src, len, fuel);
@@ -154,15 +153,15 @@ impl Slots<Table> {
 
     /// Copies a range of a table within it.
     fn copy_in_one(&mut self, index: usize, dst: u64, src: u64, len: u64, fuel: &mut Fuel) -> Reply
-        ensures { (charge : ℕ)
-            × WritesTableFrom (live_at self.old.slots.items index) index (copy_from dst src len)
-            (metered self.old.slots.items fuel.old) result charge
-            (metered self.new.slots.items fuel.new) }
+        ensures { WithCharge
+            (WritesTableFrom (live_at self.old.slots.items index) index (copy_of dst src len))
+            (metered self.old.slots.items (Some fuel.old)) result
+            (metered self.new.slots.items (Some fuel.new)) }
     {
         let Some(table) = self.live_mut(index) else {
             return Reply::NoSuch;
         };
-        done(table.copy_within(dst, src, len, Some(fuel)))
+        done(table.copy_within_metered(dst, src, len, fuel))
     }
 }
 
@@ -185,10 +184,10 @@ fn copy_to_other(
     requires dst { dst_index < length slots.old }
     requires src { src_index < length slots.old }
     requires other { dst_index ≢ src_index }
-    ensures copied { (charge : ℕ)
-        × WritesTableFrom (live_at slots.old src_index) dst_index
-        (copy_from range.dst range.src range.len)
-        (metered slots.old fuel.old) result charge (metered slots.new fuel.new) }
+    ensures copied { WithCharge
+        (WritesTableFrom (live_at slots.old src_index) dst_index
+        (copy_of range.dst range.src range.len))
+        (metered slots.old (Some fuel.old)) result (metered slots.new (Some fuel.new)) }
 {
     if dst_index < src_index {
         let (front, back) = slots.split_at_mut(src_index);
@@ -206,20 +205,19 @@ fn copy_from_slot(
     range: CopyRange,
     fuel: &mut Fuel,
 ) -> Reply
-    ensures { (charge : ℕ) × CopiesSlot (copy_from range.dst range.src range.len) source.now
-        (metered_value slot.old (Some fuel.old) tt) result charge
-        (metered_value slot.new (Some fuel.new) tt) }
+    ensures { WithCharge (CopiesSlot (copy_of range.dst range.src range.len) source.now)
+        (metered slot.old (Some fuel.old)) result (metered slot.new (Some fuel.new)) }
 {
     match (slot, source) {
         (Slot::Live(table), Slot::Live(source)) => {
             let CopyRange { dst, src, len } = range;
-            done(Table::copy(table, dst, source, src, len, Some(fuel)))
+            done(table.copy_metered(dst, source, src, len, fuel))
         }
         _ => Reply::NoSuch,
     }
 }
 
-/// The reply to a call on a table that answers nothing.
+/// The reply to a call on a table that returns nothing.
 fn done(answer: Result<(), TableError>) -> Reply
     ensures { result ≡ reply_of (λ _. Reply.Done) Reply.Table answer }
 {

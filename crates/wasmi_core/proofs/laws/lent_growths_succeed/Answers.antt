@@ -4,5 +4,5 @@ use Rattle.wasmi_core.proofs.laws.lent_growths_succeed.Goals as goal
 
 pub returns : goal.returns
 returns g c =
-    λ pages s rest is inside fits payable result charge s' grows. lent.lent_growth_succeeds
-    (optional_rules g.L.ResourceLimiter.rules) pages s rest is inside fits payable result charge s' grows
+    λ pages s rest is inside fits payable result s' grows. lent.lent_growth_succeeds
+    (optional_rules g.L.ResourceLimiter.rules) pages s rest is inside fits payable result s' grows

@@ -3,7 +3,7 @@ use Rattle.std.specs.Vec.{vec_capacity}
 use Rattle.wasmi_meter.specs.Limiter.{optional_rules}
 use Rattle.wasmi_meter.specs.LimiterRef.{lent_limiter, KeepsLoan}
 use Rattle.wasmi_core.specs.Validity.{IsValid}
-use Rattle.wasmi_core.specs.World.{Turn}
+use Rattle.wasmi_core.specs.World.{Turn, world}
 use Rattle.wasmi_core.specs.Runs.{Run}
 use Rattle.wasmi_core.proofs.running.run.Given as goal
 
@@ -13,8 +13,8 @@ invariant-loop-call g l = record {
   ran : (turns : List Turn) × (map Turn.call turns ≡ take l.call-index l.calls) × (map Turn.reply
       turns ≡ l.replies.items)
       × Run (optional_rules g.L.ResourceLimiter.rules)
-      (record { state = l.fn.machine; limiter = lent_limiter l.fn.limiter })
-      turns (record { state = l.machine; limiter = lent_limiter l.limiter });
+      (world l.fn.machine (lent_limiter l.fn.limiter))
+      turns (world l.machine (lent_limiter l.limiter));
   loan : KeepsLoan l.fn.limiter l.limiter;
   valid : IsValid l.machine;
   count : vec_len l.replies ≡ l.call-index;

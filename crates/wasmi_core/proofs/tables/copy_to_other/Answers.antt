@@ -1,16 +1,15 @@
 use Rattle.std.proofs.Common.{List, arith, ℕ}
 use Rattle.wasmi_meter.specs.Meter.{Meter}
-use Rattle.wasmi_store.specs.Table.{TableValue}
+use Rattle.wasmi_store.specs.Table.{TableValue, copy_of}
 use Rattle.wasmi_core.specs.declared.slots.Slot.{Slot}
 use Rattle.wasmi_core.specs.declared.tables.CopyRange.{CopyRange}
-use Rattle.wasmi_core.specs.TableEffects.{copy_from}
 use Rattle.wasmi_core.proofs.CopyLemmas.{Copying, copies_backward, copies_forward}
 use Rattle.wasmi_core.proofs.tables.copy_to_other.Goals as goal
 
 -- the copy of a range
 abbrev copying : CopyRange → List (Slot TableValue) → ℕ → ℕ → Meter → Copying
 copying range slots into from meter = record {
-  write = copy_from range.dst range.src range.len;
+  write = copy_of range.dst range.src range.len;
   slots = slots;
   into = into;
   from = from;

@@ -1,6 +1,8 @@
-use Rattle.std.proofs.Common.{refl, subst}
+use Rattle.std.proofs.Common.{Some, refl, subst}
 use Rattle.wasmi_core.proofs.StoreLemmas.{acts, acts_unasked, asks, alters, replies}
-use Rattle.wasmi_core.specs.TableEffects.{WritesTableAt, initialization_from, metered}
+use Rattle.wasmi_core.specs.TableEffects.{WritesTableAt}
+use Rattle.wasmi_store.specs.Table.{initialization_of}
+use Rattle.wasmi_store.specs.Growth.{metered}
 use Rattle.wasmi_core.specs.State.{live_at}
 use Rattle.wasmi_core.proofs.TableEffectsLemmas.{part_from}
 use Rattle.wasmi_core.proofs.store.Store.step_table.Goals as goal
@@ -32,9 +34,9 @@ returns-in-Some-clause-step g c =
     (acts_unasked _ (
       c.init.ensures.0,
       subst (λ segment. WritesTableAt c.in-InitTable.table
-          (initialization_from c.in-InitTable.dst c.in-InitTable.src c.in-InitTable.len segment)
-          (metered c.self.inside.tables.slots.items c.self.inside.fuel) c.init.result c.init.ensures.0
-          (metered c.init.new.self.slots.items c.init.new.fuel)) c.from.ensures c.init.ensures.1,
+          (initialization_of c.in-InitTable.dst c.in-InitTable.src c.in-InitTable.len segment)
+          (metered c.self.inside.tables.slots.items (Some c.self.inside.fuel)) c.init.result c.init.ensures.0
+          (metered c.init.new.self.slots.items (Some c.init.new.fuel))) c.from.ensures c.init.ensures.1,
     ))
 
 pub returns-in-CopyTable-clause-step : goal.returns-in-CopyTable-clause-step

@@ -1,24 +1,27 @@
-use Rattle.std.proofs.Common.{◌≡◌, ◌++◌, length, ap, sym, subst, ◌∙◌, arith}
+use Rattle.std.proofs.Common.{Some, ◌≡◌, ◌++◌, length, ap, sym, subst, ◌∙◌, arith}
 use Rattle.std.specs.Prelude.{take, drop}
 use Rattle.std.proofs.Math.Seq.{take-append_seam}
 use Rattle.wasmi_core.specs.State.{live_at}
-use Rattle.wasmi_core.specs.TableEffects.{WritesTableFrom, copy_from, metered}
+use Rattle.wasmi_core.specs.TableEffects.{WritesTableFrom}
+use Rattle.wasmi_store.specs.Table.{copy_of}
+use Rattle.wasmi_store.specs.Growth.{metered}
 use Rattle.wasmi_core.proofs.tables.Slots+Table.copy.Goals as goal
 
 pub returns : goal.returns
 returns c =
     let counted : c.args.self.now.slots.len ≡ length c.copy_to_other.new.slots = omega
     (arith, c.copy_to_other.auto.slots, c.as_mut_slice.ensures.len) in
-    let write = copy_from c.args.dst c.args.src c.args.len in
+    let write = copy_of c.args.dst c.args.src c.args.len in
     let charge = c.copy_to_other.ensures.copied.0 in
     let copied =
-    subst (λ xs. WritesTableFrom (live_at xs c.args.src_index) c.args.dst_index write (metered xs c.args.fuel.now)
-    c.copy_to_other.result charge (metered c.copy_to_other.new.slots c.copy_to_other.new.fuel))
+    subst (λ xs. WritesTableFrom (live_at xs c.args.src_index) c.args.dst_index write
+    (metered xs (Some c.args.fuel.now))
+    c.copy_to_other.result charge (metered c.copy_to_other.new.slots (Some c.copy_to_other.new.fuel)))
     c.as_mut_slice.ensures.value c.copy_to_other.ensures.copied.1 in (
       charge,
       subst (λ ys. WritesTableFrom (live_at c.args.self.now.slots.items c.args.src_index) c.args.dst_index write
-          (metered c.args.self.now.slots.items c.args.fuel.now) c.copy_to_other.result charge
-          (metered ys c.copy_to_other.new.fuel))
+          (metered c.args.self.now.slots.items (Some c.args.fuel.now)) c.copy_to_other.result charge
+          (metered ys (Some c.copy_to_other.new.fuel)))
           (sym (ap (λ n. take n (c.copy_to_other.new.slots ++ drop (length c.copy_to_other.new.slots)
           c.args.self.now.slots.items)) counted ∙ take-append_seam c.copy_to_other.new.slots _)) copied,
     )
