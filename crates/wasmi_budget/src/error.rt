@@ -39,7 +39,7 @@ impl std::error::Error for AddError {}
 pub enum PoolError {
     /// No tenant has the index.
     NoTenant,
-    /// Memory for the replies, one for each call, was refused. No call was answered.
+    /// Memory for the replies, one for each call, was refused. No call was executed.
     OutOfMemory,
 }
 

@@ -21,7 +21,7 @@ pub fn permitted_runs_as_alone()
     ensures { RunsAsAlone }
 {}
 
-/// A run of a tenant of which no reply tells of a denial is one in which each question was
+/// If no reply of a run of a tenant tells of a denial, each question was
 /// permitted: so what `Pool::run` promises leads to `permitted_runs_as_alone`.
 pub fn replies_permit()
     ensures { RepliesPermit }

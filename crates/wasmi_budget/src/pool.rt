@@ -70,7 +70,7 @@ impl<'r> Pool<'r> {
         self.machines.is_empty()
     }
 
-    /// Adds a machine that has nothing yet, and answers its index. A machine that is refused is
+    /// Adds a machine that has nothing yet, and returns its index. A machine that is refused is
     /// handed back.
     ///
     /// It costs what `Machine::total_bytes` and `total_elements` cost on the added machine, which
@@ -96,7 +96,7 @@ impl<'r> Pool<'r> {
         Ok(index)
     }
 
-    /// Answers calls on the machine of a tenant, in turn, under a limiter that permits what keeps
+    /// Executes calls on the machine of a tenant, under a limiter that permits what keeps
     /// all tenants together within the caps.
     ///
     /// It costs room for the replies, and what the calls cost: nothing that depends on how many

@@ -160,7 +160,7 @@ impl<'r> CountedMachine<'r> {
         self.held
     }
 
-    /// Answers calls in turn under a tenant that holds what the machine has: it does so again
+    /// Executes calls under a tenant that holds what the machine has: it does so again
     /// afterwards, and what it holds is taken over from it.
     pub(crate) fn run(
         &mut self,
