@@ -21,10 +21,10 @@ use Rattle.wasmi_meter.proofs.QuotaLemmas.{quota_keeps}
 use Rattle.wasmi_store.specs.Buffer.{Room}
 use Rattle.wasmi_store.specs.Growth.{Makes, Growth, Grows}
 use Rattle.wasmi_store.specs.Memory as memory
-use Rattle.wasmi_store.specs.Memory.{MemoryValue, MakesMemory, GrowsMemory, new_memory, pages_of}
+use Rattle.wasmi_store.specs.Memory.{MemoryValue, MakesMemory, GrowsMemoryCharging, new_memory, pages_of}
 use Rattle.wasmi_store.specs.MemoryType.{MemoryTypeValue, minimum_bytes, page_bytes}
 use Rattle.wasmi_store.specs.Table as table
-use Rattle.wasmi_store.specs.Table.{TableValue, MakesTable, GrowsTable, GrowsTableRaw, new_table, size_of}
+use Rattle.wasmi_store.specs.Table.{TableValue, MakesTable, GrowsTableCharging, GrowsTableRawCharging, new_table, size_of}
 use Rattle.wasmi_store.specs.TableType.{TableTypeValue, same_type}
 use Rattle.wasmi_store.proofs.GrowthLemmas.{on_test}
 use Rattle.wasmi_callers.specs.Lending.{Counts, bytes_made, elements_made}
@@ -210,7 +210,7 @@ module _ (quota quota' : Quota) where
   -- a memory that grows
   pub memory_grown_counts : (pages : ℕ) (x x' : MemoryValue) (m m' : Option Meter) (result : Result ℕ MemoryError)
       (charge : ℕ)
-      → GrowsMemory (optional_rules quota_rules) pages (lent (under quota x m)) result charge
+      → GrowsMemoryCharging (optional_rules quota_rules) pages (lent (under quota x m)) result charge
       (lent (under quota' x' m'))
       → Counts Bytes quota (length x.bytes) quota' (length x'.bytes)
   memory_grown_counts pages x x' m m' result charge =
@@ -222,7 +222,7 @@ module _ (quota quota' : Quota) where
   module _ (n : ℕ) (x x' : TableValue) (m m' : Option Meter) (result : Result ℕ TableError) (charge : ℕ) where
     -- a table that grows
     pub table_grown_counts : (reference : ℕ)
-        → GrowsTableRaw (optional_rules quota_rules) n reference (lent (under quota x m)) result charge
+        → GrowsTableRawCharging (optional_rules quota_rules) n reference (lent (under quota x m)) result charge
         (lent (under quota' x' m'))
         → Counts Elements quota (size_of x) quota' (size_of x')
     table_grown_counts reference =
@@ -232,7 +232,7 @@ module _ (quota quota' : Quota) where
 
     -- a table that grows by a reference with a type
     pub typed_table_grown_counts : (init : _)
-        → GrowsTable (optional_rules quota_rules) n init (lent (under quota x m)) result charge
+        → GrowsTableCharging (optional_rules quota_rules) n init (lent (under quota x m)) result charge
         (lent (under quota' x' m'))
         → Counts Elements quota (size_of x) quota' (size_of x')
     typed_table_grown_counts init grows =
@@ -258,7 +258,7 @@ module _ {S : Type 0} (pages : ℕ) (s s' : MeteredValue MemoryValue S) (result 
   attempt_sized (Failed cause notice_answer) value answered = rw answered tt
 
   -- so it has where it grows
-  pub grown_sized : (rules : Rules S) (charge : ℕ) → GrowsMemory rules pages s result charge s' → HasMore
+  pub grown_sized : (rules : Rules S) (charge : ℕ) → GrowsMemoryCharging rules pages s result charge s' → HasMore
   grown_sized rules charge (inl none) =
       let same = ap (λ (t : MeteredValue MemoryValue S). length t.value.bytes) none.same in
       rw (none.answered, none.none, same) (omega arith)

@@ -4,7 +4,7 @@ use Rattle.wasmi_meter.specs.Attempt.{MeteredValue, AttemptOutcome, Unasked, Den
 use Rattle.wasmi_meter.specs.Limiter.{Rules}
 use Rattle.wasmi_meter.specs.Meter.{Meter}
 use Rattle.wasmi_meter.specs.declared.error.MemoryError.{MemoryError}
-use Rattle.wasmi_store.specs.Memory.{MemoryValue, GrowsMemory, pages_of, growth_of}
+use Rattle.wasmi_store.specs.Memory.{MemoryValue, GrowsMemoryCharging, pages_of, growth_of}
 use Rattle.wasmi_store.specs.MemoryType.{page_bytes}
 use Rattle.wasmi_core.specs.declared.calls.Reply.{Reply}
 use Rattle.wasmi_core.specs.declared.calls.Reply.TheVariants.{Number, Memory}
@@ -28,20 +28,20 @@ module _ {S : Type 0} (rules : Rules S) (pages : ℕ) (s s' : MeteredValue Memor
   answered_size (Failed cause notice_answer) n is = cc
 
   -- so it is where a memory grows
-  grown_size : (n : ℕ) → GrowsMemory rules pages s (Ok n) charge s' → n ≡ pages_of s.value
+  grown_size : (n : ℕ) → GrowsMemoryCharging rules pages s (Ok n) charge s' → n ≡ pages_of s.value
   grown_size n (inl none) = let is = none.answered in cc
   grown_size n (inr some) = answered_size some.outcome n some.answered
 
   -- a memory in a region that has place has grown, or the limiter has denied it
   told : LentGrowthsSucceed rules → CanGrowInRegion s.meter pages s.value → (result : Result ℕ MemoryError)
-      → GrowsMemory rules pages s result charge s'
+      → GrowsMemoryCharging rules pages s result charge s'
       → ((reply_of Number Memory result ≡ Number (pages_of s.value))
       × (length s'.value.bytes ≡ length s.value.bytes + pages * page_bytes s.value.ty.page))
       ⊎ (IsRefusal (reply_of Number Memory result)
       × IsDenied rules (growth_of s.value pages).question s.limiter s'.limiter)
   told succeed can (Ok n) grows = inl (ap Number (grown_size n grows), grown_sized pages s s' (Ok n) rules charge grows)
   told succeed can (Err error) grows =
-      by_law (succeed pages s can.lent.0 can.lent.1 can.inside can.place can.paid (Err error) charge s' grows)
+      by_law (succeed pages s can.lent.0 can.lent.1 can.inside can.place can.paid (Err error) s' (charge, grows))
     where
       by_law : {Grown : Type 0} → (Err error ≡ Ok (pages_of s.value))
           ⊎ IsDenied rules (growth_of s.value pages).question s.limiter s'.limiter
@@ -59,7 +59,7 @@ module _ {S : Type 0} (rules : Rules S) (succeed : LentGrowthsSucceed rules) whe
       (can : CanGrowInRegion (Some w.state.meter) pages x) where
     -- so it is where the memory of an index grows
     acted : (w' : World S) (m' : Option Meter) (reply : Reply) (charge : ℕ)
-        → ActsAt k (reply_of Number Memory) (GrowsMemory rules pages)
+        → ActsAt k (reply_of Number Memory) (GrowsMemoryCharging rules pages)
         (record { value = w.state.memories; meter = Some w.state.meter; limiter = w.limiter }) reply charge
         (record { value = w'.state.memories; meter = m'; limiter = w'.limiter })
         → IsGrownOrDenied rules k pages x w reply w'

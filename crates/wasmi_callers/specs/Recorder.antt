@@ -8,14 +8,14 @@ use Rattle.wasmi_callers.specs.declared.recorder.Event.TheVariants.{Permitted, F
 use Rattle.wasmi_callers.specs.declared.recorder.Recorder.{Recorder}
 
 -- a permission is kept in the trace, which then has room for one failure; without room nothing is permitted
-abbrev pub Permits : Recorder → Event → Bool → Recorder → Type 0
-Permits l event true l' =
+abbrev pub KeepsPermission : Recorder → Event → Bool → Recorder → Type 0
+KeepsPermission l event true l' =
     (l'.events.items ≡ l.events.items ++ event ∷ []) × (length l'.events.items < vec_capacity l'.events)
-Permits l event false l' = l'.events.items ≡ l.events.items
+KeepsPermission l event false l' = l'.events.items ≡ l.events.items
 
 -- a failure is kept where there is room for it
-abbrev pub Hears : Recorder → Kind → NoticeAnswer → Recorder → Type 0
-Hears l kind notice_answer l' =
+abbrev pub KeepsFailure : Recorder → Kind → NoticeAnswer → Recorder → Type 0
+KeepsFailure l kind notice_answer l' =
     length l.events.items < vec_capacity l.events
     → (notice_answer ≡ Ok tt) × (l'.events.items ≡ l.events.items ++ Failed kind ∷ [])
 
@@ -24,14 +24,17 @@ abbrev pub event_of : Question → Event
 event_of q = Permitted q.kind q.current q.desired
 
 -- a recorder answers a question: it permits where it can keep the trace, and gives no error
-abbrev pub Answers : Recorder → Question → Answer → Recorder → Type 0
-Answers l q (Ok permitted) l' = Permits l (event_of q) permitted l'
-Answers l q (Err error) l' = ⊥
+abbrev pub AnswersQuestion : Recorder → Question → Answer → Recorder → Type 0
+AnswersQuestion l q (Ok permitted) l' = KeepsPermission l (event_of q) permitted l'
+AnswersQuestion l q (Err error) l' = ⊥
 
 -- the rules of a recorder
 abbrev pub recorder_rules : Rules Recorder
 recorder_rules =
-    record { asked = Answers; noticed = λ l failure notice_answer l'. Hears l (kind_of failure) notice_answer l' }
+    record {
+      asked = AnswersQuestion;
+      noticed = λ l failure notice_answer l'. KeepsFailure l (kind_of failure) notice_answer l';
+    }
 
 -- nothing has grown
 abbrev pub SameSizes : (Kind → List ℕ) → (Kind → List ℕ) → Type 0

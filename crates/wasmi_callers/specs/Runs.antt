@@ -1,5 +1,5 @@
 -- What a caller says of runs.
-use Rattle.std.specs.Prelude.{◌≡◌, ◌⊎◌, ◌<◌, ◌≤◌, ◌+◌, ◌*◌, ℕ, true, Option, Some, List, [], ◌∷◌, ◌++◌, length, map, slice_set}
+use Rattle.std.specs.Prelude.{◌≡◌, ◌⊎◌, ◌<◌, ◌≤◌, ◌+◌, ◌*◌, ℕ, true, Option, Some, List, [], ◌∷◌, ◌++◌, length, map, slice_set, All}
 use Rattle.wasmi_meter.specs.Attempt.{Request, optional_due, covers}
 use Rattle.wasmi_meter.specs.Limiter.{Rules, Question, Answer, IsDenial}
 use Rattle.wasmi_meter.specs.Meter.{Meter}
@@ -17,6 +17,7 @@ use Rattle.wasmi_core.specs.Runs.{Sequence, Run}
 use Rattle.wasmi_core.specs.declared.slots.Slot.TheVariants.{Live}
 use Rattle.wasmi_core.specs.State.{State, live_at}
 use Rattle.wasmi_core.specs.Account.{opened, account_after, Balances}
+use Rattle.wasmi_core.specs.Determinism.{HasMemory}
 use Rattle.wasmi_core.specs.Laws.{IsRefusal, Keeps, KeepsMeter}
 use Rattle.wasmi_core.specs.LentMemory.{FitsRegions}
 use Rattle.wasmi_core.specs.Validity.{IsValid}
@@ -27,17 +28,31 @@ pub record AreTurns (calls : List Call) (replies : List Reply) (turns : List Tur
   pub calls_of : map Turn.call turns ≡ calls
   pub replies_of : map Turn.reply turns ≡ replies
 
+-- calls are run with these replies, by turns of which a fact holds
+abbrev pub RunsBy : {S : Type 0} → Rules S → (List Turn → Type 0) → List Call → World S → List Reply → World S → Type 0
+RunsBy rules Holds calls w replies w' =
+    (turns : List Turn) × AreTurns calls replies turns × Run rules w turns w' × Holds turns
+
+-- calls are run with these replies, and of each of their turns a fact holds, with the world before it and after it
+abbrev pub RunsByTurns : {S : Type 0} → Rules S → (World S → Turn → World S → Type 0) → List Call → World S → List Reply
+    → World S → Type 0
+RunsByTurns rules Holds calls w replies w' =
+    (turns : List Turn) × AreTurns calls replies turns
+    × Sequence (λ v turn v'. Step rules v turn v' × Holds v turn v') w turns w'
+
 -- Where metering was on, what is left and what a run was charged are what was left before, or was set since.
 abbrev pub IsBilled : {S : Type 0} → Rules S → List Call → World S → List Reply → World S → Type 0
-IsBilled rules calls w replies w' = (turns : List Turn) × AreTurns calls replies turns × Run rules w turns w'
-    × ((left : ℕ) → w.state.meter.left ≡ Some left → Balances (account_after (opened left) turns) w'.state.meter)
+IsBilled rules calls w replies w' =
+    RunsBy rules (λ turns. (left : ℕ) → w.state.meter.left ≡ Some left
+    → Balances (account_after (opened left) turns) w'.state.meter) calls w replies w'
 
 -- Where metering was on at a rate above 0, what a run was charged and what was left before bound the bytes that it has
 -- written.
 abbrev pub IsBoundedBy : {S : Type 0} → Rules S → List Call → World S → List Reply → World S → Type 0
-IsBoundedBy rules calls w replies w' = (turns : List Turn) × AreTurns calls replies turns × Run rules w turns w'
-    × ((left : ℕ) → w.state.meter.left ≡ Some left → 0 < w.state.meter.costs.bytes_copied_per_fuel
-    → IsBounded w.state.meter.costs.bytes_copied_per_fuel left turns)
+IsBoundedBy rules calls w replies w' =
+    RunsBy rules (λ turns. (left : ℕ) → w.state.meter.left ≡ Some left
+    → 0 < w.state.meter.costs.bytes_copied_per_fuel
+    → IsBounded w.state.meter.costs.bytes_copied_per_fuel left turns) calls w replies w'
 
 -- a call that fits the regions of any machine
 abbrev pub FitsAnyRegions : Call → Type 0
@@ -58,8 +73,11 @@ IsMeterKept rules call w reply w' = (turn : Turn) × AreTurns (call ∷ []) (rep
 -- each turn that is refused keeps what a refused turn keeps
 abbrev pub KeepsWhereRefused : {S : Type 0} → Rules S → List Call → World S → List Reply → World S → Type 0
 KeepsWhereRefused rules calls w replies w' =
-    (turns : List Turn) × AreTurns calls replies turns
-    × Sequence (λ v turn v'. Step rules v turn v' × (IsRefusal turn.reply → Keeps rules v turn v')) w turns w'
+    RunsByTurns rules (λ v turn v'. IsRefusal turn.reply → Keeps rules v turn v') calls w replies w'
+
+-- no reply of two lists is that memory ran out
+abbrev pub NeitherIsOutOfMemory : List Reply → List Reply → Type 0
+NeitherIsOutOfMemory replies replies' = All HasMemory replies × All HasMemory replies'
 
 -- two runs of the same turns
 abbrev pub AreSameTurns : {S : Type 0} → Rules S → World S → World S → World S → Type 0
@@ -107,9 +125,7 @@ GrowsInRegion rules w turn w' = (k pages : ℕ) (x : MemoryValue) → turn.call 
 -- in each turn that grows a memory in a lent region that has place for it, the memory has grown, or the limiter has
 -- denied the growth
 abbrev pub GrowsInRegions : {S : Type 0} → Rules S → List Call → World S → List Reply → World S → Type 0
-GrowsInRegions rules calls w replies w' =
-    (turns : List Turn) × AreTurns calls replies turns
-    × Sequence (λ v turn v'. Step rules v turn v' × GrowsInRegion rules v turn v') w turns w'
+GrowsInRegions rules calls w replies w' = RunsByTurns rules (GrowsInRegion rules) calls w replies w'
 
 -- the spare region is there, and no shorter than the minimum of a type
 abbrev pub HasRegionFor : MemoryTypeValue → State → Type 0
@@ -117,19 +133,16 @@ HasRegionFor ty s = (region : List ℕ) × (s.spare ≡ Some region) × (minimum
 
 -- Where metering was on, what was left is what is left and what a run was charged, and that bounds what it has written.
 abbrev pub IsSpentBy : {S : Type 0} → Rules S → List Call → World S → List Reply → World S → Type 0
-IsSpentBy rules calls w replies w' = (turns : List Turn) × AreTurns calls replies turns × Run rules w turns w'
-    × ((left : ℕ) → w.state.meter.left ≡ Some left → (left' : ℕ) × (w'.state.meter.left ≡ Some left')
-    × IsSpent w.state.meter.costs.bytes_copied_per_fuel left left' turns)
+IsSpentBy rules calls w replies w' =
+    RunsBy rules (λ turns. (left : ℕ) → w.state.meter.left ≡ Some left
+    → (left' : ℕ) × (w'.state.meter.left ≡ Some left')
+    × IsSpent w.state.meter.costs.bytes_copied_per_fuel left left' turns) calls w replies w'
 
 -- each turn of a run leads to a valid state
 abbrev pub StaysValid : {S : Type 0} → Rules S → List Call → World S → List Reply → World S → Type 0
-StaysValid rules calls w replies w' =
-    (turns : List Turn) × AreTurns calls replies turns
-    × Sequence (λ v turn v'. Step rules v turn v' × IsValid v'.state) w turns w'
+StaysValid rules calls w replies w' = RunsByTurns rules (λ v turn v'. IsValid v'.state) calls w replies w'
 
 -- in each turn a permission is followed by exactly the growth that was asked for, or by just one notice, and a denial
 -- by neither
 abbrev pub IsExchanged : {S : Type 0} → Rules S → List Call → World S → List Reply → World S → Type 0
-IsExchanged rules calls w replies w' =
-    (turns : List Turn) × AreTurns calls replies turns
-    × Sequence (λ v turn v'. Step rules v turn v' × Exchanges rules v turn v') w turns w'
+IsExchanged rules calls w replies w' = RunsByTurns rules (Exchanges rules) calls w replies w'

@@ -108,7 +108,7 @@ pub fn extended_bytes(v: V128) -> (V128, V128)
     (i16x8_extend_low_i8x16_s(v), i16x8_extend_high_i8x16_s(v))
 }
 
-/// The same without signs.
+/// The bytes of the lower half and those of the upper half as numbers of 16 bits, without signs.
 pub fn widened_bytes(v: V128) -> (V128, V128)
     ensures lower { (i : ℕ) → i < 8 → lane w16 result.0 i ≡ lane w8 v i }
     ensures upper { (i : ℕ) → i < 8 → lane w16 result.1 i ≡ lane w8 v (8 + i) }

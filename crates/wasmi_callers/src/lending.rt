@@ -44,7 +44,7 @@ pub fn make_static_memory<'r>(
 pub fn grow_memory(
     memory: &mut Memory,
     pages: u64,
-    fuel: Option<&mut Fuel>,
+    fuel: &mut Fuel,
     quota: &mut Quota,
 ) -> Result<u64, MemoryError>
     ensures { Counts Bytes quota.old (length memory.old.bytes) quota.new (length memory.new.bytes) }
@@ -65,7 +65,8 @@ pub fn make_grown_memory<'r>(
 {
     let mut quota = Quota::new(cap, 0);
     let mut memory = make_memory(alloc, ty, &mut quota)?;
-    let _old_pages = grow_memory(&mut memory, pages, None, &mut quota)?;
+    let mut unmetered = Fuel::unmetered();
+    let _old_pages = grow_memory(&mut memory, pages, &mut unmetered, &mut quota)?;
     Ok((memory, quota))
 }
 
@@ -86,7 +87,7 @@ pub fn grow_table(
     table: &mut Table,
     delta: u64,
     init: TypedRawRef,
-    fuel: Option<&mut Fuel>,
+    fuel: &mut Fuel,
     quota: &mut Quota,
 ) -> Result<u64, TableError>
     ensures { Counts Elements quota.old (size_of table.old) quota.new (size_of table.new) }
@@ -94,12 +95,13 @@ pub fn grow_table(
     table.grow_lending(delta, init, fuel, quota)
 }
 
-/// The same with a reference that has no type.
+/// Lets a table grow with a reference that has no type: the quota holds the elements that were
+/// added.
 pub fn grow_table_raw(
     table: &mut Table,
     delta: u64,
     init: RawRef,
-    fuel: Option<&mut Fuel>,
+    fuel: &mut Fuel,
     quota: &mut Quota,
 ) -> Result<u64, TableError>
     ensures { Counts Elements quota.old (size_of table.old) quota.new (size_of table.new) }

@@ -1,8 +1,8 @@
 //! Callers of the laws over pools.
 ghost use Rattle.std.specs.Prelude.{◌≡◌, IfOk, All};
-ghost use Rattle.wasmi_core.specs.Determinism.{HasMemory};
 ghost use Rattle.wasmi_core.specs.Permission.{TellsNoDenial};
 ghost use Rattle.wasmi_budget.specs.Pool.{IsWithinCaps};
+ghost use Rattle.wasmi_callers.specs.Runs.{NeitherIsOutOfMemory};
 ghost use Rattle.wasmi_callers.specs.Pools.{RunsAlone, RunsBeside, StaysWithin};
 
 use wasmi_budget::{Pool, PoolError, Tenant, laws};
@@ -31,7 +31,8 @@ pub fn run_alone(pool: &mut Pool, index: usize, calls: &[Call]) -> Result<Vec<Re
     pool.run(index, calls)
 }
 
-/// The same of the machine alone: what the others hold doesn't show.
+/// Makes calls on the machine of a tenant: where no reply tells of a denial, the machine has run
+/// them as if the other tenants held nothing.
 pub fn run_beside(pool: &mut Pool, index: usize, calls: &[Call]) -> Result<Vec<Reply>, PoolError>
     ensures { IfOk result
         (λ replies. All TellsNoDenial replies.items
@@ -42,8 +43,8 @@ pub fn run_beside(pool: &mut Pool, index: usize, calls: &[Call]) -> Result<Vec<R
     pool.run(index, calls)
 }
 
-/// Makes the same calls on a tenant's machine in two equal pools: if no reply tells of want of
-/// memory, the replies are the same, and the pools are equal again.
+/// Makes the same calls on a tenant's machine in two equal pools: if no reply is that memory ran
+/// out, the replies are the same, and the pools are equal again.
 pub fn run_on_both(
     pool: &mut Pool,
     other: &mut Pool,
@@ -52,7 +53,7 @@ pub fn run_on_both(
 ) -> Result<(Vec<Reply>, Vec<Reply>), PoolError>
     requires pools { other.old ≡ pool.old }
     ensures same { IfOk result
-        (λ replies. All HasMemory replies.0.items → All HasMemory replies.1.items
+        (λ replies. NeitherIsOutOfMemory replies.0.items replies.1.items
         → (replies.0.items ≡ replies.1.items) × (pool.new ≡ other.new)) }
 {
     laws::tenants_leave_no_choice();

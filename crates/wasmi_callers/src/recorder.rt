@@ -1,7 +1,7 @@
 //! A limiter that keeps a trace of what it is asked and told.
 ghost use Rattle.std.specs.Prelude.{◌≡◌, IfOk, length};
 ghost use Rattle.wasmi_core.specs.Totals.{sizes};
-ghost use Rattle.wasmi_callers.specs.Recorder.{recorder_rules, Permits, Hears, LeavesTrace};
+ghost use Rattle.wasmi_callers.specs.Recorder.{recorder_rules, KeepsPermission, KeepsFailure, LeavesTrace};
 
 use std::alloc::{AllocError, Global};
 use wasmi_core::{Call, Kind, LimiterByKind, LimiterError, Machine, Reply, laws, run_lending};
@@ -37,7 +37,7 @@ impl Recorder {
     }
 
     fn permit(&mut self, event: Event) -> bool
-        ensures { Permits self.old event result self.new }
+        ensures { KeepsPermission self.old event result self.new }
     {
         if self.events.try_reserve(2).is_err() {
             return false;
@@ -47,7 +47,7 @@ impl Recorder {
     }
 
     fn hear(&mut self, kind: Kind) -> Result<(), LimiterError>
-        ensures { Hears self.old kind result self.new }
+        ensures { KeepsFailure self.old kind result self.new }
     {
         if self.events.len() == self.events.capacity() {
             return Err(LimiterError::ResourceLimiterDeniedAllocation);

@@ -4,7 +4,6 @@ ghost use Rattle.wasmi_meter.specs.Limiter.{optional_rules};
 ghost use Rattle.wasmi_meter.specs.declared.limiter.Kind.TheVariants.{Bytes, Elements};
 ghost use Rattle.wasmi_meter.specs.Quota.{holdings, cap_of, IsWithinCaps, quota_rules};
 ghost use Rattle.wasmi_core.specs.Account.{SetsNoFuel};
-ghost use Rattle.wasmi_core.specs.Determinism.{HasMemory};
 ghost use Rattle.wasmi_core.specs.LentMemory.{owned_world, unlent_world};
 ghost use Rattle.wasmi_core.specs.Laws.{IsRefusal, SameContents, KeepsSpare};
 ghost use Rattle.wasmi_core.specs.Permission.{permitting, TellsNoDenial};
@@ -12,7 +11,7 @@ ghost use Rattle.wasmi_core.specs.Runs.{IsRunOf};
 ghost use Rattle.wasmi_core.specs.Totals.{total, HoldsTotals};
 ghost use Rattle.wasmi_core.specs.Validity.{IsValid, IsValidCall};
 ghost use Rattle.wasmi_core.specs.World.{world};
-ghost use Rattle.wasmi_callers.specs.Runs.{IsBilled, IsBoundedBy, IsSpentBy, IsExchanged, KeepsWhereRefused, IsMeterKept, StaysValid, IsRunOfBoth, FitsAnyRegions, AreSameTurns, HasRegionFor, GrowsInRegions};
+ghost use Rattle.wasmi_callers.specs.Runs.{IsBilled, IsBoundedBy, IsSpentBy, IsExchanged, KeepsWhereRefused, IsMeterKept, StaysValid, IsRunOfBoth, FitsAnyRegions, NeitherIsOutOfMemory, AreSameTurns, HasRegionFor, GrowsInRegions};
 
 use std::alloc::AllocError;
 use wasmi_core::{
@@ -22,7 +21,7 @@ use wasmi_core::{
 
 /// Makes one call. Where it is refused, the machine has the contents that it had; the spare region,
 /// unless a memory was to be made in it; and the meter, unless it is a growth that was paid before
-/// memory was wanting: then the meter has its price less.
+/// it ran out of memory: then the meter has its price less.
 pub fn call_refused<L: ResourceLimiter>(
     machine: &mut Machine,
     call: &Call,
@@ -199,8 +198,8 @@ pub fn run_both<L: ResourceLimiter>(
     Ok((first, second))
 }
 
-/// Makes the same calls on two equal machines under equal quotas: if no reply tells of want of
-/// memory, the replies are the same, and the machines and the quotas are equal again.
+/// Makes the same calls on two equal machines under equal quotas: if no reply is that memory ran
+/// out, the replies are the same, and the machines and the quotas are equal again.
 pub fn run_twice(
     machine: &mut Machine,
     other: &mut Machine,
@@ -211,7 +210,7 @@ pub fn run_twice(
     requires machines { other.old ≡ machine.old }
     requires quotas { other_quota.old ≡ quota.old }
     ensures same { IfOk result
-        (λ replies. All HasMemory replies.0.items → All HasMemory replies.1.items
+        (λ replies. NeitherIsOutOfMemory replies.0.items replies.1.items
         → (replies.0.items ≡ replies.1.items) × (machine.new ≡ other.new)
         × (quota.new ≡ other_quota.new)) }
 {
@@ -223,7 +222,8 @@ pub fn run_twice(
     Ok((first, second))
 }
 
-/// The same without limits.
+/// Makes the same calls on two equal machines without limits: if no reply is that memory ran out,
+/// the replies are the same, and the machines are equal again.
 pub fn run_twice_unlimited(
     machine: &mut Machine,
     other: &mut Machine,
@@ -231,7 +231,7 @@ pub fn run_twice_unlimited(
 ) -> Result<(Vec<Reply>, Vec<Reply>), AllocError>
     requires machines { other.old ≡ machine.old }
     ensures same { IfOk result
-        (λ replies. All HasMemory replies.0.items → All HasMemory replies.1.items
+        (λ replies. NeitherIsOutOfMemory replies.0.items replies.1.items
         → (replies.0.items ≡ replies.1.items) × (machine.new ≡ other.new)) }
 {
     laws::no_limits_leave_no_choice();
@@ -244,7 +244,8 @@ pub fn run_twice_unlimited(
     Ok((first, second))
 }
 
-/// The same, down to what each call was charged and has written: both are runs of the same turns.
+/// Makes the same calls on two equal machines under equal quotas: if no reply is that memory ran
+/// out, both are runs of the same turns, so each call was charged and has written the same in both.
 pub fn run_twice_charged(
     machine: &mut Machine,
     other: &mut Machine,
@@ -255,11 +256,10 @@ pub fn run_twice_charged(
     requires machines { other.old ≡ machine.old }
     requires quotas { other_quota.old ≡ quota.old }
     ensures same { IfOk result
-        (λ replies. All HasMemory replies.0.items → All HasMemory replies.1.items
+        (λ replies. NeitherIsOutOfMemory replies.0.items replies.1.items
         → AreSameTurns (optional_rules quota_rules)
-        (record { state = machine.old; limiter = Some quota.old })
-        (record { state = machine.new; limiter = Some quota.new })
-        (record { state = other.new; limiter = Some other_quota.new })) }
+        (world machine.old (Some quota.old)) (world machine.new (Some quota.new))
+        (world other.new (Some other_quota.new))) }
 {
     laws::quota_leaves_no_choice();
     laws::quota_accepts_notices();
@@ -279,8 +279,8 @@ pub fn run_in_regions<L: ResourceLimiter>(
 ) -> Result<Vec<Reply>, AllocError>
     requires fits { All FitsAnyRegions calls.now }
     ensures owned { IfOk result (λ replies. IsRunOf (optional_rules L.rules) calls.now
-        (owned_world (record { state = machine.old; limiter = Some limiter.old })) replies.items
-        (owned_world (record { state = machine.new; limiter = Some limiter.new }))) }
+        (owned_world (world machine.old (Some limiter.old))) replies.items
+        (owned_world (world machine.new (Some limiter.new)))) }
 {
     laws::lent_runs_are_owned::<L>();
     run_lending(machine, calls, limiter)
@@ -298,8 +298,8 @@ pub fn make_in_region<L: ResourceLimiter>(
     requires region { HasRegionFor ty machine.old }
     ensures owned { IfOk result
         (λ replies. IsRunOf (optional_rules L.rules) (Call.NewMemory ty ∷ [])
-        (unlent_world (record { state = machine.old; limiter = Some limiter.old })) replies.items
-        (unlent_world (record { state = machine.new; limiter = Some limiter.new }))) }
+        (unlent_world (world machine.old (Some limiter.old))) replies.items
+        (unlent_world (world machine.new (Some limiter.new)))) }
 {
     laws::lent_creations_are_owned::<L>();
     run_lending(machine, calls, limiter)

@@ -6,8 +6,8 @@ ghost use Rattle.wasmi_callers.specs.Types.{RelatesForward};
 
 use wasmi_store::{MemoryType, TableType, laws};
 
-/// Whether each type of a list may stand for the next one: it is so exactly where each may stand
-/// for itself and for each that follows.
+/// Whether each memory type of a list may stand for the next one: it is so exactly where each may
+/// stand for itself and for each that follows.
 pub fn is_memory_subtype_chain(types: &[MemoryType]) -> bool
     ensures { IsTrue result ↔ RelatesForward IsSubtype types.now (length types.now) }
 {
@@ -21,7 +21,8 @@ pub fn is_memory_subtype_chain(types: &[MemoryType]) -> bool
     true
 }
 
-/// The same of table types.
+/// Whether each table type of a list may stand for the next one: it is so exactly where each may
+/// stand for itself and for each that follows.
 pub fn is_table_subtype_chain(types: &[TableType]) -> bool
     ensures { IsTrue result ↔ RelatesForward table.IsSubtype types.now (length types.now) }
 {

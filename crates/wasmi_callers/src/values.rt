@@ -26,7 +26,8 @@ pub fn stored_and_loaded(memory: &mut [u8], address: usize, value: u32) -> Resul
     load_at(memory, address)
 }
 
-/// The same of a signed number, which is loaded with its sign.
+/// A signed number that is stored at an address is the number that is then loaded from there, with
+/// its sign.
 pub fn signed_stored_and_loaded(
     memory: &mut [u8],
     address: usize,

@@ -8,10 +8,10 @@ pub returns : goal.returns
 returns c =
     record {
       same =
-          λ has has'.
+          λ has.
           let second = rw (c.requires.machines, c.requires.quotas) at c.in_ok-second.ensures.run in
           let one = c.replies_are_one.ensures c.quota_leaves_no_choice.ensures c.quota_accepts_notices.ensures
-          c.args.calls.now _ c.in_ok-first.first.items c.in_ok-second.second.items _ _ has has'
+          c.args.calls.now _ c.in_ok-first.first.items c.in_ok-second.second.items _ _ has.0 has.1
           c.in_ok-first.ensures.run
           second in (
             one.0,

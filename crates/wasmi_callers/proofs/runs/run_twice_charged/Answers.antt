@@ -1,6 +1,7 @@
 use Rattle.std.proofs.Common.{Some, sym, ◌∙◌, subst}
 use Rattle.wasmi_meter.specs.Limiter.{optional_rules}
 use Rattle.wasmi_meter.specs.Quota.{quota_rules}
+use Rattle.wasmi_core.specs.World.{world}
 use Rattle.wasmi_core.specs.Runs.{Run}
 use Rattle.wasmi_callers.proofs.RunsLemmas.{replies_have}
 use Rattle.wasmi_callers.proofs.runs.run_twice_charged.Goals as goal
@@ -9,19 +10,19 @@ pub returns : goal.returns
 returns c =
     record {
       same =
-          λ has has'.
+          λ has.
           let first = c.in_ok-first.ensures.run in
           let second = rw (c.requires.machines, c.requires.quotas) at c.in_ok-second.ensures.run in
-          let have = replies_have first.0 c.in_ok-first.first.items first.2 has in
-          let have' = replies_have second.0 c.in_ok-second.second.items second.2 has' in
+          let have = replies_have first.0 c.in_ok-first.first.items first.2 has.0 in
+          let have' = replies_have second.0 c.in_ok-second.second.items second.2 has.1 in
           let tells = c.replies_tell.ensures c.quota_accepts_notices.ensures in
           let one = c.runs_are_one.ensures c.quota_leaves_no_choice.ensures _ first.0 second.0 _ _
           (first.1 ∙ sym second.1) have have' (tells _ first.0 _ have first.3) (tells _ second.0 _ have' second.3) in (
             first.0,
             first.3,
             subst (λ turns. Run (optional_rules quota_rules)
-                (record { state = c.args.machine.now; limiter = Some c.args.quota.now }) turns
-                (record { state = c.run_lending-2.new.machine; limiter = Some c.run_lending-2.new.limiter }))
+                (world c.args.machine.now (Some c.args.quota.now)) turns
+                (world c.run_lending-2.new.machine (Some c.run_lending-2.new.limiter)))
                 (sym one.0) second.3,
           );
     }
