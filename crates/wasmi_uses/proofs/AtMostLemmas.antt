@@ -8,7 +8,7 @@ use Rattle.wasmi_meter.specs.declared.error.MemoryError.{MemoryError}
 use Rattle.wasmi_meter.specs.Attempt.{MeteredValue, Request, AttemptOutcome, Unasked, Denied, Met, Failed, Follows, value_after}
 use Rattle.wasmi_meter.specs.Limiter.{optional_rules}
 use Rattle.wasmi_meter.specs.Meter.{Meter}
-use Rattle.wasmi_store.specs.Memory.{MemoryValue, GrowsMemory, growth_of}
+use Rattle.wasmi_store.specs.Memory.{MemoryValue, GrowsMemoryCharging, growth_of}
 use Rattle.wasmi_store.specs.MemoryType.{page_bytes}
 use Rattle.wasmi_uses.specs.declared.limiter.AtMost.{AtMost}
 use Rattle.wasmi_uses.specs.AtMost.{at_most_rules}
@@ -42,7 +42,7 @@ module _ (l l' : AtMost) where
 
   module _ (x x' : MemoryValue) (m m' : Option Meter) where
     abbrev Grown : ℕ → Result ℕ MemoryError → ℕ → Type 0
-    Grown pages result charge = GrowsMemory (optional_rules at_most_rules) pages (record {
+    Grown pages result charge = GrowsMemoryCharging (optional_rules at_most_rules) pages (record {
       value = x;
       meter = m;
       limiter = Some l;

@@ -15,8 +15,8 @@ use Rattle.wasmi_meter.specs.Meter.{Meter, amount_left, meter_after, ConsumesFue
 use Rattle.wasmi_raw.specs.declared.raw.RawVal.{RawVal}
 use Rattle.wasmi_raw.specs.RawVal.{raw_of, signed_in}
 use Rattle.wasmi_scalar.specs.Numerics.{iadd, imul}
-use Rattle.wasmi_scalar_ops.specs.declared.access.StoreOp.TheVariants.{Store64}
-use Rattle.wasmi_vector_ops.specs.declared.access.VectorLoadOp.TheVariants.{V128Load64Zero}
+use Rattle.wasmi_ops.specs.declared.scalar.access.StoreOp.TheVariants.{Store64}
+use Rattle.wasmi_ops.specs.declared.vector.access.VectorLoadOp.TheVariants.{V128Load64Zero}
 use Rattle.wasmi_store.specs.Memory.{MemoryValue, pages_of}
 use Rattle.wasmi_core.specs.declared.calls.Call.{Call}
 use Rattle.wasmi_core.specs.declared.calls.Call.TheVariants.{SetFuel, GrowMemory, SetRegister, VectorLoad}
@@ -37,7 +37,7 @@ use Rattle.wasmi_uses.specs.declared.interpreter.Action.TheVariants.{Calls, Grow
 use Rattle.wasmi_uses.specs.declared.interpreter.Ending.{Ending}
 use Rattle.wasmi_uses.specs.declared.interpreter.Ending.TheVariants as ending
 use Rattle.wasmi_uses.specs.declared.interpreter.Outcome.{Outcome}
-use Rattle.wasmi_uses.specs.Interpreter.{sets, action_of, action_at, grow_result, AreTurnsOf, place_after, IsGrowth, Follows, is_out_of_fuel, fuel_taken, Stops, StepsAt, Reaches, Executes, HasRun, last_instruction, instructions_of, TakesFuel}
+use Rattle.wasmi_uses.specs.Interpreter.{sets, action_of, action_at, grow_result, AreTurnsOf, place_after, IsGrowth, CarriesOut, is_out_of_fuel, fuel_taken, Stops, StepsAt, Reaches, ExecutesProgram, HasRun, last_instruction, instructions_of, TakesFuel}
 
 -- the state with so much left
 abbrev with_left : State → Option ℕ → State
@@ -212,7 +212,7 @@ none_without_fuel turns none = subst (λ ts. All SetsNoFuel (map Turn.call ts)) 
 
 -- so those of an action
 action_without_fuel : (action : Action) (next : ℕ) (turns : List Turn) (result : Result ℕ Ending)
-    → ActsWithoutFuel (Some action) → Follows action next turns result → All SetsNoFuel (map Turn.call turns)
+    → ActsWithoutFuel (Some action) → CarriesOut action next turns result → All SetsNoFuel (map Turn.call turns)
 action_without_fuel (Calls c) next turns result free (reply, are, is) =
     turns_without_fuel (c ∷ []) (reply ∷ []) turns (All-cons SetsNoFuel c [] free (All-nil SetsNoFuel)) are
 action_without_fuel (Grows dst pages) next turns result free (last, (reply, are), is) =
@@ -233,7 +233,7 @@ reply_instruction reply next = refl
 
 -- so does each action
 action_instruction : (action : Action) (next : ℕ) (turns : List Turn) (result : Result ℕ Ending)
-    → Follows action next turns result → instruction_of result ≡ 1
+    → CarriesOut action next turns result → instruction_of result ≡ 1
 action_instruction (Calls c) next turns result (reply, are, is) = ap instruction_of is ∙ reply_instruction reply next
 action_instruction (Grows dst pages) next turns result (reply, are, is) =
     ap instruction_of is ∙ reply_instruction reply next
@@ -323,7 +323,7 @@ module _ {S : Type 0} (rules : Rules S) where
   action_needs : (action : Action) (next : ℕ) (w : World S) (turns : List Turn) (result : Result ℕ Ending)
       (w' : World S) (out : Bool) → ActsWithoutFuel (Some action) → is_out_of_fuel w.state.meter ≡ out
       → MatchBool out (Stops ending.OutOfFuel w turns result w')
-      (Run rules (next_world w) turns w' × Follows action next turns result)
+      (Run rules (next_world w) turns w' × CarriesOut action next turns result)
       → Needs w turns (instruction_of result) w'
   action_needs action next w turns result w' true free is stops =
       stops_needs ending.OutOfFuel w turns result w' refl stops
@@ -339,7 +339,7 @@ module _ {S : Type 0} (rules : Rules S) where
       (w' : World S) → ActsWithoutFuel o
       → MatchOption o (Stops ending.Undefined w turns result w')
       (λ action. MatchBool (is_out_of_fuel w.state.meter) (Stops ending.OutOfFuel w turns result w')
-      (Run rules (next_world w) turns w' × Follows action next turns result))
+      (Run rules (next_world w) turns w' × CarriesOut action next turns result))
       → Needs w turns (instruction_of result) w'
   place_needs None next w turns result w' free stops = stops_needs ending.Undefined w turns result w' refl stops
   place_needs (Some action) next w turns result w' free h =
@@ -415,7 +415,7 @@ module _ {S : Type 0} (rules : Rules S) (joins : RunsJoin rules) (spends : Charg
 
     -- by a whole program
     program_taken : (w : World S) (turns : List Turn) (outcome : Outcome) (w' : World S)
-        → Executes rules program w turns outcome w' → Taken rules w turns (instructions_of outcome) w'
+        → ExecutesProgram rules program w turns outcome w' → Taken rules w turns (instructions_of outcome) w'
     program_taken w turns outcome w' (before, v, path, ends) = by outcome.ending ends
       where
         by : (o : Option Ending) → MatchOption o ((turns ≡ before) × (w' ≡ v))
@@ -459,9 +459,9 @@ taken_spent rules bounds w turns outcome w' taken left on =
 
 module _ {S : Type 0} (rules : Rules S) (joins : RunsJoin rules) (spends : ChargesAreSpent rules)
     (bounds : FuelBoundsWriting rules) (program : List Instruction) (w : World S) (turns : List Turn)
-    (outcome : Outcome) (w' : World S) (executes : Executes rules program w turns outcome w') where
+    (outcome : Outcome) (w' : World S) (executes : ExecutesProgram rules program w turns outcome w') where
   -- a program has turns, and takes fuel
-  pub execution : (turns : List Turn) × Executes rules program w turns outcome w'
+  pub execution : (turns : List Turn) × ExecutesProgram rules program w turns outcome w'
       × TakesFuel w.state.meter turns outcome w'.state.meter
   execution = (
     turns,

@@ -5,8 +5,8 @@ use Rattle.std.specs.Option.{option_map, option_map_or, option_and_then}
 use Rattle.wasmi_raw.specs.declared.raw.RawVal.{RawVal}
 use Rattle.wasmi_raw.specs.RawVal.{raw_of, signed_in}
 use Rattle.wasmi_scalar.specs.Numerics.{iadd, imul}
-use Rattle.wasmi_vector_ops.specs.declared.binary.BinaryOp.TheVariants.{I8x16Add}
-use Rattle.wasmi_vector_ops.specs.declared.access.VectorLoadOp.TheVariants.{V128Load64Zero}
+use Rattle.wasmi_ops.specs.declared.vector.binary.BinaryOp.TheVariants.{I8x16Add}
+use Rattle.wasmi_ops.specs.declared.vector.access.VectorLoadOp.TheVariants.{V128Load64Zero}
 use Rattle.wasmi_meter.specs.Limiter.{Rules}
 use Rattle.wasmi_meter.specs.Meter.{Meter, meter_after}
 use Rattle.wasmi_store.specs.Memory.{pages_of}
@@ -14,7 +14,7 @@ use Rattle.wasmi_core.specs.declared.calls.Call.{Call}
 use Rattle.wasmi_core.specs.declared.calls.Call.TheVariants as call
 use Rattle.wasmi_core.specs.declared.calls.Reply.{Reply}
 use Rattle.wasmi_core.specs.declared.calls.Reply.TheVariants.{Done, Number, Memory}
-use Rattle.wasmi_scalar_ops.specs.declared.access.StoreOp.TheVariants.{Store64}
+use Rattle.wasmi_ops.specs.declared.scalar.access.StoreOp.TheVariants.{Store64}
 use Rattle.wasmi_core.specs.State.{State, live_at}
 use Rattle.wasmi_core.specs.World.{World, Turn, world}
 use Rattle.wasmi_core.specs.Runs.{Run, IsRunOf}
@@ -86,14 +86,14 @@ IsGrowth dst pages turns last = (reply : Reply) × MatchOption (grow_result repl
 
 -- an action is answered in these turns, and what follows is a place, or the end of the program; `next` is the place
 -- after that of the instruction
-abbrev pub Follows : Action → ℕ → List Turn → Result ℕ Ending → Type 0
-Follows (Calls c) next turns result =
+abbrev pub CarriesOut : Action → ℕ → List Turn → Result ℕ Ending → Type 0
+CarriesOut (Calls c) next turns result =
     (reply : Reply) × AreTurnsOf (c ∷ []) (reply ∷ []) turns × (result ≡ place_after reply next)
-Follows (Grows dst pages) next turns result =
+CarriesOut (Grows dst pages) next turns result =
     (reply : Reply) × IsGrowth dst pages turns reply × (result ≡ place_after reply next)
-Follows Continues next turns result = (turns ≡ []) × (result ≡ Ok next)
-Follows (Branches target) next turns result = (turns ≡ []) × (result ≡ Ok target)
-Follows (Returns value) next turns result = (turns ≡ []) × (result ≡ Err (Returned value))
+CarriesOut Continues next turns result = (turns ≡ []) × (result ≡ Ok next)
+CarriesOut (Branches target) next turns result = (turns ≡ []) × (result ≡ Ok target)
+CarriesOut (Returns value) next turns result = (turns ≡ []) × (result ≡ Err (Returned value))
 
 -- metering is on, and nothing is left
 abbrev pub is_out_of_fuel : Meter → Bool
@@ -115,7 +115,7 @@ module _ {S : Type 0} (rules : Rules S) where
     StepsAt place w turns result w' = MatchOption (action_at program place w.state)
         (Stops Undefined w turns result w')
         (λ action. MatchBool (is_out_of_fuel w.state.meter) (Stops OutOfFuel w turns result w')
-        (Run rules (world (fuel_taken w.state) w.limiter) turns w' × Follows action (place + 1) turns result))
+        (Run rules (world (fuel_taken w.state) w.limiter) turns w' × CarriesOut action (place + 1) turns result))
 
     -- so many instructions, from the first on, reach a place and a world by turns
     abbrev pub Reaches : World S → ℕ → ℕ → List Turn → World S → Type 0
@@ -125,8 +125,8 @@ module _ {S : Type 0} (rules : Rules S) where
 
     -- so many instructions are executed, and then the program ends, unless it may execute no more; the turns are those
     -- of all these instructions
-    abbrev pub Executes : World S → List Turn → Outcome → World S → Type 0
-    Executes w turns outcome w' = (before : List Turn) × (v : World S)
+    abbrev pub ExecutesProgram : World S → List Turn → Outcome → World S → Type 0
+    ExecutesProgram w turns outcome w' = (before : List Turn) × (v : World S)
         × Reaches w outcome.executed outcome.place before v
         × MatchOption outcome.ending ((turns ≡ before) × (w' ≡ v))
         (λ ending. (more : List Turn) × StepsAt outcome.place v more (Err ending) w' × (turns ≡ before ++ more))

@@ -29,7 +29,7 @@ pub enum BillError {
 
 /// Runs calls, and makes out a bill: with what is left it is what was left before, and it is what
 /// the calls were charged, one by one. A call that sets the fuel has no place in it.
-pub fn run_billed<L: ResourceLimiter>(
+pub fn run_and_bill<L: ResourceLimiter>(
     machine: &mut Machine,
     calls: &[Call],
     limiter: &mut L,
@@ -48,7 +48,7 @@ pub fn run_billed<L: ResourceLimiter>(
     Ok(Bill { replies, charged })
 }
 
-/// As `run_billed`, for calls of unknown origin: where one of them sets the fuel, none is made.
+/// As `run_and_bill`, for calls of unknown origin: where one of them sets the fuel, none is made.
 pub fn run_if_billable<L: ResourceLimiter>(
     machine: &mut Machine,
     calls: &[Call],
@@ -64,7 +64,7 @@ pub fn run_if_billable<L: ResourceLimiter>(
     if !is_billable(calls) {
         return Err(BillError::SetsFuel);
     }
-    match run_billed(machine, calls, limiter) {
+    match run_and_bill(machine, calls, limiter) {
         Ok(bill) => Ok(bill),
         Err(_) => Err(BillError::OutOfMemory),
     }

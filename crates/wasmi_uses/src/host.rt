@@ -44,7 +44,7 @@ pub fn run_plugin<'r>(
 /// Runs the calls of the first tenant of a pool, and then those of the second. Whatever they ask
 /// for, all tenants together stay within the pool's caps, which stay. After an error the first may
 /// have run.
-pub fn run_both(
+pub fn run_two_tenants(
     pool: &mut Pool,
     first: &[Call],
     second: &[Call],

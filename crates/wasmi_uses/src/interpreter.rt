@@ -4,7 +4,7 @@ ghost use Rattle.std.specs.Prelude.{◌≡◌, ◌<◌, Some, List, length, true
 ghost use Rattle.wasmi_meter.specs.Limiter.{optional_rules};
 ghost use Rattle.wasmi_core.specs.World.{Turn, world};
 ghost use Rattle.wasmi_core.specs.Runs.{Run};
-ghost use Rattle.wasmi_uses.specs.Interpreter.{action_of, action_at, place_after, IsGrowth, Follows, is_out_of_fuel, fuel_taken, StepsAt, Executes, TakesFuel, IsWithinSteps, HasRun};
+ghost use Rattle.wasmi_uses.specs.Interpreter.{action_of, action_at, place_after, IsGrowth, CarriesOut, is_out_of_fuel, fuel_taken, StepsAt, ExecutesProgram, TakesFuel, IsWithinSteps, HasRun};
 
 use wasmi_core::{
     BinaryOp, Call, FuelError, Machine, RawVal, ReadAs, Reply, ResourceLimiter, StoreOp,
@@ -210,7 +210,7 @@ fn act<L: ResourceLimiter>(
 ) -> Result<usize, Ending>
     ensures { (turns : List Turn) × Run (optional_rules L.rules)
         (world machine.old (Some limiter.old)) turns (world machine.new (Some limiter.new))
-        × Follows action next turns result }
+        × CarriesOut action next turns result }
 {
     match action {
         Action::Calls(call) => place_after(machine.step_lending(&call, limiter), next),
@@ -257,7 +257,7 @@ pub fn execute<L: ResourceLimiter>(
     limiter: &mut L,
     steps: u64,
 ) -> Outcome
-    ensures executed { (turns : List Turn) × Executes (optional_rules L.rules) program.now
+    ensures executed { (turns : List Turn) × ExecutesProgram (optional_rules L.rules) program.now
         (world machine.old (Some limiter.old)) turns result (world machine.new (Some limiter.new))
         × TakesFuel machine.old.meter turns result machine.new.meter }
     ensures steps { IsWithinSteps steps result }

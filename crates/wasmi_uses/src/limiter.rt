@@ -1,6 +1,7 @@
 //! A limiter of one's own, and what grows under it.
 ghost use Rattle.std.specs.Prelude.{◌≡◌, ◌≤◌, Some, Ok, nat_le, length};
 ghost use Rattle.wasmi_meter.specs.Limiter.{optional_rules};
+ghost use Rattle.wasmi_store.specs.Growth.{metered_value};
 ghost use Rattle.wasmi_store.specs.Memory.{GrowsMemory};
 ghost use Rattle.wasmi_uses.specs.AtMost.{at_most_rules};
 
@@ -65,13 +66,12 @@ pub fn grow(
     fuel: &mut Fuel,
     limiter: &mut AtMost,
 ) -> Result<u64, MemoryError>
-    ensures grown { (charge : _) × GrowsMemory (optional_rules at_most_rules) pages
-        (record { value = memory.old; meter = Some fuel.old; limiter = Some limiter.old }) result
-        charge
-        (record { value = memory.new; meter = Some fuel.new; limiter = Some limiter.new }) }
+    ensures grown { GrowsMemory (optional_rules at_most_rules) pages
+        (metered_value memory.old (Some fuel.old) (Some limiter.old)) result
+        (metered_value memory.new (Some fuel.new) (Some limiter.new)) }
     ensures within { length memory.old.bytes ≤ limiter.old.bytes
         → length memory.new.bytes ≤ limiter.old.bytes }
     ensures limiter { limiter.new ≡ limiter.old }
 {
-    memory.grow_lending(pages, Some(fuel), limiter)
+    memory.grow_lending(pages, fuel, limiter)
 }

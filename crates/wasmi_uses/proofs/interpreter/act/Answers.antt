@@ -1,7 +1,7 @@
 use Rattle.std.proofs.Common.{Some, sym, subst}
 use Rattle.wasmi_meter.specs.Limiter.{optional_rules}
 use Rattle.wasmi_core.specs.World.{world}
-use Rattle.wasmi_uses.specs.Interpreter.{Follows}
+use Rattle.wasmi_uses.specs.Interpreter.{CarriesOut}
 use Rattle.wasmi_uses.proofs.InterpreterLemmas.{answered}
 use Rattle.wasmi_uses.proofs.interpreter.act.Goals as goal
 
@@ -13,6 +13,6 @@ returns-in-Calls g c =
     (world c.step_lending.new.self (Some c.step_lending.new.limiter)) c.step_lending.ensures.step in (
       ran.0,
       ran.1,
-      subst (λ action. Follows action c.args.next ran.0 c.place_after.result) (sym c.in-Calls.is)
+      subst (λ action. CarriesOut action c.args.next ran.0 c.place_after.result) (sym c.in-Calls.is)
           (c.step_lending.result, ran.2, c.place_after.ensures),
     )

@@ -23,22 +23,16 @@ returns-in-Err-clause-executed g c =
     )
 
 pub returns-in-Err-clause-run : goal.returns-in-Err-clause-run
+unfolding returns-in-Err-clause-executed
 returns-in-Err-clause-run g c =
     execution_run (optional_rules g.L.ResourceLimiter.rules) c.runs_join.ensures.turns c.charges_are_spent.ensures
-    c.fuel_bounds_writing.ensures
-    c.args.program.now (world c.args.machine.now (Some c.args.limiter.now))
-    (c.loop-executed.invariant.0 ++ c.in-Err.ensures.0)
+    c.fuel_bounds_writing.ensures c.args.program.now (world c.args.machine.now (Some c.args.limiter.now)) _
     (record {
       ending = Some c.in-Err.ending;
       place = c.loop-executed.place;
       executed = c.loop-executed.executed;
     })
-    (world c.step.new.machine (Some c.step.new.limiter)) (
-      c.loop-executed.invariant.0,
-      world c.loop-executed.machine (Some c.loop-executed.limiter),
-      c.loop-executed.invariant.1,
-      (c.in-Err.ensures.0, c.in-Err.ensures.1, refl),
-    )
+    _ (returns-in-Err-clause-executed g c).1
 
 pub returns-clause-executed : goal.returns-clause-executed
 returns-clause-executed g c =
@@ -56,17 +50,12 @@ returns-clause-executed g c =
     )
 
 pub returns-clause-run : goal.returns-clause-run
+unfolding returns-clause-executed
 returns-clause-run g c =
     execution_run (optional_rules g.L.ResourceLimiter.rules) c.runs_join.ensures.turns c.charges_are_spent.ensures
-    c.fuel_bounds_writing.ensures
-    c.args.program.now (world c.args.machine.now (Some c.args.limiter.now)) c.loop-executed.invariant.0
-    (record { ending = None; place = c.loop-executed.place; executed = c.loop-executed.executed })
-    (world c.loop-executed.machine (Some c.loop-executed.limiter)) (
-      c.loop-executed.invariant.0,
-      world c.loop-executed.machine (Some c.loop-executed.limiter),
-      c.loop-executed.invariant.1,
-      (refl, refl),
-    )
+    c.fuel_bounds_writing.ensures c.args.program.now (world c.args.machine.now (Some c.args.limiter.now)) _
+    (record { ending = None; place = c.loop-executed.place; executed = c.args.steps }) _
+    (returns-clause-executed g c).1
 
 pub loop-executed-preserved : goal.loop-executed-preserved
 loop-executed-preserved g c = (

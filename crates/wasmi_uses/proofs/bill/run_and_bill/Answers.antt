@@ -2,7 +2,7 @@ use Rattle.std.proofs.Common.{◌≡◌, ◌-◌, arith}
 use Rattle.wasmi_meter.specs.Limiter.{optional_rules}
 use Rattle.wasmi_meter.specs.Meter.{amount_left}
 use Rattle.wasmi_uses.proofs.BillLemmas.{ran_billed}
-use Rattle.wasmi_uses.proofs.bill.run_billed.Goals as goal
+use Rattle.wasmi_uses.proofs.bill.run_and_bill.Goals as goal
 
 pub returns-clause-bill : goal.returns-clause-bill
 returns-clause-bill g c =
