@@ -1,22 +1,22 @@
 -- What the operands of a command write, by the word that it begins with.
 use Rattle.std.proofs.Common.{ℕ, ◌≡◌, List, [], ◌∷◌, Result, Err, bytes_eq, cond, codes, get_or, refl, subst}
-use Rattle.wasmi_scalar_ops.specs.declared.access.LoadOp.{LoadOp}
-use Rattle.wasmi_scalar_ops.specs.declared.access.StoreOp.{StoreOp}
+use Rattle.wasmi_ops.specs.declared.scalar.access.LoadOp.{LoadOp}
+use Rattle.wasmi_ops.specs.declared.scalar.access.StoreOp.{StoreOp}
 use Rattle.wasmi_raw.specs.declared.raw.RawVal.{RawVal}
 use Rattle.wasmi_typed.specs.declared.global.GlobalType.{GlobalType}
 use Rattle.wasmi_typed.specs.declared.typed.TypedRawVal.{TypedRawVal}
 use Rattle.wasmi_typed.specs.declared.typed_ref.TypedRawRef.{TypedRawRef}
-use Rattle.wasmi_vector_ops.specs.declared.access.LoadLaneOp.{LoadLaneOp}
-use Rattle.wasmi_vector_ops.specs.declared.access.StoreLaneOp.{StoreLaneOp}
-use Rattle.wasmi_vector_ops.specs.declared.access.VectorLoadOp.{VectorLoadOp}
-use Rattle.wasmi_vector_ops.specs.declared.binary.BinaryOp.{BinaryOp}
-use Rattle.wasmi_vector_ops.specs.declared.lane.ExtractOp.{ExtractOp}
-use Rattle.wasmi_vector_ops.specs.declared.lane.ReplaceOp.{ReplaceOp}
-use Rattle.wasmi_vector_ops.specs.declared.make.MakeOp.{MakeOp}
-use Rattle.wasmi_vector_ops.specs.declared.shift.ShiftOp.{ShiftOp}
-use Rattle.wasmi_vector_ops.specs.declared.ternary.TernaryOp.{TernaryOp}
-use Rattle.wasmi_vector_ops.specs.declared.test.TestOp.{TestOp}
-use Rattle.wasmi_vector_ops.specs.declared.unary.UnaryOp.{UnaryOp}
+use Rattle.wasmi_ops.specs.declared.vector.access.LoadLaneOp.{LoadLaneOp}
+use Rattle.wasmi_ops.specs.declared.vector.access.StoreLaneOp.{StoreLaneOp}
+use Rattle.wasmi_ops.specs.declared.vector.access.VectorLoadOp.{VectorLoadOp}
+use Rattle.wasmi_ops.specs.declared.vector.binary.BinaryOp.{BinaryOp}
+use Rattle.wasmi_ops.specs.declared.vector.lane.ExtractOp.{ExtractOp}
+use Rattle.wasmi_ops.specs.declared.vector.lane.ReplaceOp.{ReplaceOp}
+use Rattle.wasmi_ops.specs.declared.vector.make.MakeOp.{MakeOp}
+use Rattle.wasmi_ops.specs.declared.vector.shift.ShiftOp.{ShiftOp}
+use Rattle.wasmi_ops.specs.declared.vector.ternary.TernaryOp.{TernaryOp}
+use Rattle.wasmi_ops.specs.declared.vector.test.TestOp.{TestOp}
+use Rattle.wasmi_ops.specs.declared.vector.unary.UnaryOp.{UnaryOp}
 use Rattle.wasmi_core.specs.declared.calls.Call.{Call}
 use Rattle.wasmi_core.specs.declared.calls.Call.TheVariants.{SetFuel, GetFuel, NewMemory, NewLentMemory, GrowMemory, DropMemory, Read, Write, Load, Store, NewTable, GrowTable, DropTable, GetElement, SetElement, InitTable, CopyTable, FillTable, NewSegment, DropItems, NewGlobal, SetGlobal, GetGlobal, SetRegister, GetRegister, Make, Unary, Binary, Ternary, Shift, Test, Extract, Replace, Shuffle, VectorLoad, LoadLane, VectorStore, StoreLane}
 use Rattle.wasmi_operands.specs.declared.error.LineError.{LineError}

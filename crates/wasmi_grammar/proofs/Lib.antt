@@ -1,3 +1,4 @@
+pub mod PartsLemmas
 pub mod ScriptLemmas
 pub mod LinesLemmas
 pub mod AnswersLemmas

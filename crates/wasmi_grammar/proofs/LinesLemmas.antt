@@ -4,7 +4,7 @@ use Rattle.std.proofs.lemmas.List.{take_rest}
 use Rattle.wasmi_grammar.specs.declared.script.Line.{Line}
 use Rattle.wasmi_grammar.specs.declared.script.Line.TheVariants.{Meter, Limiter, Region, As, Call as Command}
 use Rattle.wasmi_grammar.specs.declared.header.RegionLine.{RegionLine}
-use Rattle.wasmi_grammar.specs.declared.script.ScriptBuilder.{ScriptBuilder}
+use Rattle.wasmi_grammar.specs.declared.script.Script.{Script}
 use Rattle.wasmi_operands.specs.declared.error.LineError.{LineError}
 use Rattle.wasmi_operands.specs.declared.error.LineError.TheVariants.{BadCommand}
 use Rattle.wasmi_operands.specs.Words.{Words, word_at}
@@ -35,8 +35,8 @@ region_only name operands is (As tenant) w = absurd (search (rules, tests, sym w
 region_only name operands is (Command call) w = absurd (search (rules, tests, w.0 ∙ is))
 
 -- a refused line of one kind adds nothing
-pub refused_as : {A : Type 0} (old : ScriptBuilder) (line kind : Line) (result : Result A LineError) → line ≡ kind
-    → OnErr result ((new : ScriptBuilder) → ¬ (AddsLine old kind new))
-    → IfErr result (λ error. error ≡ BadCommand → (new : ScriptBuilder) → ¬ (AddsLine old line new))
+pub refused_as : {A : Type 0} (old : Script) (line kind : Line) (result : Result A LineError) → line ≡ kind
+    → OnErr result ((new : Script) → ¬ (AddsLine old kind new))
+    → IfErr result (λ error. error ≡ BadCommand → (new : Script) → ¬ (AddsLine old line new))
 refused_as old line kind result is =
     on_refusal result (λ error refused bad new adds. refused new (subst (λ line. AddsLine old line new) is adds))

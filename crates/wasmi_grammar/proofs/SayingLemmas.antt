@@ -8,15 +8,28 @@ use Rattle.wasmi_raw.specs.RawVal.{raw_of}
 use Rattle.wasmi_types.specs.contracts.value.RefType as reference_type
 use Rattle.wasmi_types.specs.contracts.value.ValType as value_type
 use Rattle.wasmi_typed.specs.contracts.global.Mutability as mutability
-use Rattle.wasmi_scalar_ops.specs.contracts.access.LoadOp as load
-use Rattle.wasmi_scalar_ops.specs.contracts.access.StoreOp as store
-use Rattle.wasmi_vector_ops.specs.contracts.make.MakeOp as make
-use Rattle.wasmi_vector_ops.specs.contracts.unary.UnaryOp as unary
-use Rattle.wasmi_vector_ops.specs.contracts.binary.BinaryOp as binary
-use Rattle.wasmi_vector_ops.specs.contracts.ternary.TernaryOp as ternary
-use Rattle.wasmi_vector_ops.specs.contracts.shift.ShiftOp as shift
-use Rattle.wasmi_vector_ops.specs.contracts.test.TestOp as test
-use Rattle.wasmi_vector_ops.specs.contracts.access.VectorLoadOp as vector_load
+use Rattle.wasmi_ops.specs.contracts.scalar.access.LoadOp as load
+use Rattle.wasmi_ops.specs.contracts.scalar.access.StoreOp as store
+use Rattle.wasmi_ops.specs.contracts.vector.make.MakeOp as make
+use Rattle.wasmi_ops.specs.contracts.vector.unary.UnaryOp as unary
+use Rattle.wasmi_ops.specs.contracts.vector.binary.BinaryOp as binary
+use Rattle.wasmi_ops.specs.contracts.vector.ternary.TernaryOp as ternary
+use Rattle.wasmi_ops.specs.contracts.vector.shift.ShiftOp as shift
+use Rattle.wasmi_ops.specs.contracts.vector.test.TestOp as test
+use Rattle.wasmi_ops.specs.contracts.vector.access.VectorLoadOp as vector_load
+use Rattle.wasmi_ops.specs.contracts.vector.lane_kind.ExtractKind as extract
+use Rattle.wasmi_ops.specs.contracts.vector.lane_kind.ReplaceKind as replace
+use Rattle.wasmi_ops.specs.contracts.vector.lane_kind.LoadLaneKind as load_lane
+use Rattle.wasmi_ops.specs.contracts.vector.lane_kind.StoreLaneKind as store_lane
+use Rattle.wasmi_ops.specs.ScalarAccessOps.{load_name, store_name}
+use Rattle.wasmi_ops.specs.MakeOps.{make_name}
+use Rattle.wasmi_ops.specs.UnaryOps.{unary_name}
+use Rattle.wasmi_ops.specs.BinaryOps.{binary_name}
+use Rattle.wasmi_ops.specs.TernaryOps.{ternary_name}
+use Rattle.wasmi_ops.specs.ShiftOps.{shift_name}
+use Rattle.wasmi_ops.specs.TestOps.{test_name}
+use Rattle.wasmi_ops.specs.VectorAccessOps.{vector_load_name}
+use Rattle.wasmi_ops.specs.LaneKinds.{extract_name, extract_op, replace_name, replace_op, load_lane_name, load_lane_op, store_lane_name, store_lane_op}
 use Rattle.wasmi_core.specs.declared.calls.Call.{Call}
 use Rattle.wasmi_core.specs.declared.calls.Call.TheVariants.{SetFuel, GetFuel, NewMemory, NewLentMemory, GrowMemory}
 use Rattle.wasmi_core.specs.declared.calls.Call.TheVariants.{DropMemory}
@@ -29,8 +42,8 @@ use Rattle.wasmi_core.specs.declared.calls.Call.TheVariants.{Test, Extract, Repl
 use Rattle.wasmi_core.specs.declared.calls.Call.TheVariants.{VectorStore, StoreLane}
 use Rattle.wasmi_grammar.specs.declared.script.Line.{Line}
 use Rattle.wasmi_grammar.specs.declared.script.Line.TheVariants.{Meter, Limiter, Region, As, Call as Command}
-use Rattle.wasmi_grammar.specs.declared.script.TenantRun.{TenantRun}
-use Rattle.wasmi_grammar.specs.declared.script.ScriptBuilder.{ScriptBuilder}
+use Rattle.wasmi_grammar.specs.Parts.{TenantRun, PartsValue}
+use Rattle.wasmi_grammar.specs.declared.script.Script.{Script}
 use Rattle.wasmi_grammar.specs.declared.header.Header.{Header}
 use Rattle.wasmi_grammar.specs.declared.header.MeterLine.{MeterLine}
 use Rattle.wasmi_grammar.specs.declared.header.MeterLine.TheVariants.{Off, On}
@@ -41,14 +54,6 @@ use Rattle.wasmi_operands.specs.Words.{Words, WritesEach, word_at}
 use Rattle.wasmi_operands.specs.Decimal.{WritesNumber, decimal_value}
 use Rattle.wasmi_operands.specs.Names.{IsName}
 use Rattle.wasmi_operands.specs.TypeWords.{reference_word, value_word, mutability_word}
-use Rattle.wasmi_operands.specs.AccessNames.{load_name, store_name}
-use Rattle.wasmi_operands.specs.MakeNames.{make_name}
-use Rattle.wasmi_operands.specs.UnaryNames.{unary_name}
-use Rattle.wasmi_operands.specs.BinaryNames.{binary_name}
-use Rattle.wasmi_operands.specs.TernaryNames.{ternary_name}
-use Rattle.wasmi_operands.specs.ShiftNames.{shift_name}
-use Rattle.wasmi_operands.specs.TestNames.{test_name}
-use Rattle.wasmi_operands.specs.VectorLoadNames.{vector_load_name}
 use Rattle.wasmi_grammar.specs.Commands.{command_word, WritesOperands}
 use Rattle.wasmi_grammar.specs.Headers.{WritesMeter, WritesLimiter, WritesRegion, limiter_word}
 use Rattle.wasmi_grammar.specs.Lines.{NamesLine, AddsLine, AddsWords}
@@ -58,7 +63,6 @@ use Rattle.wasmi_grammar.specs.Sayings.{OtherLimiter, limiter_said, PartSaid, pa
 use Rattle.wasmi_operands.proofs.NamesLemmas.{named, named_is}
 use Rattle.wasmi_operands.proofs.WordsLemmas.{each_named}
 use Rattle.wasmi_operands.proofs.TypeWordsLemmas.{reference_named, reference_is}
-use Rattle.wasmi_operands.specs.LaneNames.{extractions, replacements, lane_loads, lane_stores}
 use Rattle.wasmi_operands.proofs.LaneNamesLemmas.{lane_named, lane_is}
 use Rattle.wasmi_grammar.proofs.MemoryWordsLemmas.{memory_named, memory_is}
 use Rattle.wasmi_grammar.proofs.TableWordsLemmas.{table_named, table_is}
@@ -186,11 +190,14 @@ module _ (words : Words) where
         option_map (λ op. Other (Shift op (number 1) (number 2) (number 3)))
             (named shift.enum tt shift_name (word 0)),
       ) ∷
-      (codes "test", option_map (λ op. Other (Test op (number 1))) (named test.enum tt test_name (word 0))) ∷
-      (codes "extract", option_map (λ op. Other (Extract op (number 1))) (lane_named extractions (word 0) (word 2))) ∷ (
+      (codes "test", option_map (λ op. Other (Test op (number 1))) (named test.enum tt test_name (word 0))) ∷ (
+        codes "extract",
+        option_map (λ op. Other (Extract op (number 1)))
+            (lane_named extract.enum tt extract_name extract_op (word 0) (word 2)),
+      ) ∷ (
         codes "replace",
         option_map (λ op. Other (Replace op (number 1) (number 2) (number 4)))
-            (lane_named replacements (word 0) (word 3)),
+            (lane_named replace.enum tt replace_name replace_op (word 0) (word 3)),
       ) ∷
       (codes "shuffle", Some (Other (Shuffle (number 0) (number 1) (number 2) (numbers_in (drop 3 words))))) ∷ (
         codes "vload",
@@ -200,12 +207,12 @@ module _ (words : Words) where
         codes "vloadlane",
         option_map
             (λ op. Other (LoadLane op (number 1) (number 2) (number 4) (number 5) (number 6)))
-            (lane_named lane_loads (word 0) (word 3)),
+            (lane_named load_lane.enum tt load_lane_name load_lane_op (word 0) (word 3)),
       ) ∷
       (codes "vstore", Some (Other (VectorStore (number 0) (number 1) (number 2) (number 3)))) ∷ (
         codes "vstorelane",
         option_map (λ op. Other (StoreLane op (number 1) (number 3) (number 4) (number 5)))
-            (lane_named lane_stores (word 0) (word 2)),
+            (lane_named store_lane.enum tt store_lane_name store_lane_op (word 0) (word 2)),
       ) ∷
       (codes "drop", beside drops_named (word 0)) ∷
       []
@@ -286,10 +293,11 @@ module _ (words : Words) where
   call_is (Test op a) w =
       λ i. option_map (λ op. Other (Test op (sym w.2.1 i))) (named_is test.enum tt test_name refl (word 0) op w.1 i)
   call_is (Extract op a) w = λ i.
-      option_map (λ op. Other (Extract op (sym w.2.1 i))) (lane_is extractions (word 0) (word 2) op w.1 i)
+      option_map (λ op. Other (Extract op (sym w.2.1 i)))
+      (lane_is extract.enum tt extract_name extract_op (word 0) (word 2) refl op w.1 i)
   call_is (Replace op dst a item) w = λ i.
       option_map (λ op. Other (Replace op (sym w.2.1 i) (sym w.3.1 i) (sym w.4.1 i)))
-      (lane_is replacements (word 0) (word 3) op w.1 i)
+      (lane_is replace.enum tt replace_name replace_op (word 0) (word 3) refl op w.1 i)
   call_is (Shuffle dst a b lanes) w = λ i.
       Some (Other (Shuffle (sym w.0.1.1 i) (sym w.0.2.1 i) (sym w.0.3.1 i)
       (numbers_is 5 (drop 3 words) lanes w.1.written i)))
@@ -298,12 +306,12 @@ module _ (words : Words) where
       (named_is vector_load.enum tt vector_load_name refl (word 0) op w.1 i)
   call_is (LoadLane op dst a memory ptr offset) w = λ i.
       option_map (λ op. Other (LoadLane op (sym w.2.1 i) (sym w.3.1 i) (sym w.4.1 i) (sym w.5.1 i) (sym w.6.1 i)))
-      (lane_is lane_loads (word 0) (word 3) op w.1 i)
+      (lane_is load_lane.enum tt load_lane_name load_lane_op (word 0) (word 3) refl op w.1 i)
   call_is (VectorStore a memory ptr offset) w = λ i.
       Some (Other (VectorStore (sym w.1.1 i) (sym w.2.1 i) (sym w.3.1 i) (sym w.4.1 i)))
   call_is (StoreLane op a memory ptr offset) w = λ i.
       option_map (λ op. Other (StoreLane op (sym w.2.1 i) (sym w.3.1 i) (sym w.4.1 i) (sym w.5.1 i)))
-      (lane_is lane_stores (word 0) (word 2) op w.1 i)
+      (lane_is store_lane.enum tt store_lane_name store_lane_op (word 0) (word 2) refl op w.1 i)
   call_is (DropMemory memory) w = ap (beside drops_named) w.1 ∙ (λ i. Some (Other (DropMemory (sym w.2.1 i))))
   call_is (DropTable table) w = ap (beside drops_named) w.1 ∙ (λ i. Some (Other (DropTable (sym w.2.1 i))))
 
@@ -382,24 +390,24 @@ pub record LinesSaid : Type 0 where
   pub tenant : ℕ
   pub calls : List CallSaid
 
--- what a header, parts, and a last part of this tenant and these calls say
-abbrev pub said_of : Header → List TenantRun → ℕ → List Call → LinesSaid
-said_of header earlier tenant calls = record {
+-- what a header and parts say
+abbrev pub said_of : Header → PartsValue → LinesSaid
+said_of header parts = record {
   meter = header.meter;
   limiter = option_map limiter_said header.limiter;
   region = header.region;
-  earlier = map part_said earlier;
-  tenant = tenant;
-  calls = map call_said calls;
+  earlier = map part_said parts.earlier;
+  tenant = parts.tenant;
+  calls = map call_said parts.calls;
 }
 
--- what the lines of a builder say
-abbrev pub lines_said : ScriptBuilder → LinesSaid
-lines_said builder = said_of builder.header builder.earlier.items builder.tenant builder.calls.items
+-- what the lines of a script say
+abbrev pub lines_said : Script → LinesSaid
+lines_said script = said_of script.header script.parts
 
--- the lines of two builders say the same
-abbrev pub BuildTheSame : ScriptBuilder → ScriptBuilder → Type 0
-BuildTheSame builder builder' = lines_said builder ≡ lines_said builder'
+-- the lines of two scripts say the same
+abbrev pub LinesSayTheSame : Script → Script → Type 0
+LinesSayTheSame script script' = lines_said script ≡ lines_said script'
 
 -- what is said after a line
 abbrev said_with : LinesSaid → LineSaid → LinesSaid
@@ -418,25 +426,22 @@ pub said_after : Words → LinesSaid → LinesSaid
 said_after words said = option_map_or (said_with said) (line_named (drop 1 words) (word_at words 0)) said
 
 -- a line leads from what is said before it to what is said after it
-line_added : (old : ScriptBuilder) (line : Line) (new : ScriptBuilder) → AddsLine old line new
+line_added : (old : Script) (line : Line) (new : Script) → AddsLine old line new
     → lines_said new ≡ said_with (lines_said old) (line_said line)
-line_added old (Meter line) new a =
-    λ i. said_of (a.header i) (a.commands.earlier i) (a.commands.tenant i) (a.commands.calls i)
-line_added old (Limiter line) new a =
-    λ i. said_of (a.header i) (a.commands.earlier i) (a.commands.tenant i) (a.commands.calls i)
-line_added old (Region line) new a =
-    λ i. said_of (a.header i) (a.commands.earlier i) (a.commands.tenant i) (a.commands.calls i)
+line_added old (Meter line) new a = λ i. said_of (a.header i) (a.parts i)
+line_added old (Limiter line) new a = λ i. said_of (a.header i) (a.parts i)
+line_added old (Region line) new a = λ i. said_of (a.header i) (a.parts i)
 line_added old (As tenant) new a =
-    let part : TenantRun = record { tenant = old.tenant; calls = old.calls } in
-    let said = said_of old.header old.earlier.items tenant [] in
-    (λ i. said_of (a.header i) (a.earlier i) (a.tenant i) (a.calls i))
-    ∙ ap (λ parts. record said { earlier = parts }) (map-append part_said old.earlier.items (part ∷ []))
+    let part : TenantRun = record { tenant = old.parts.tenant; calls = old.parts.calls } in
+    let said = said_of old.header (record { earlier = []; tenant = tenant; calls = [] }) in
+    (λ i. said_of (a.header i) (a.parts i))
+    ∙ ap (λ parts. record said { earlier = parts }) (map-append part_said old.parts.earlier (part ∷ []))
 line_added old (Command call) new a =
-    (λ i. said_of (a.header i) (a.earlier i) (a.tenant i) (a.calls i))
-    ∙ ap (λ calls. record (lines_said old) { calls = calls }) (map-append call_said old.calls.items (call ∷ []))
+    (λ i. said_of (a.header i) (a.parts i))
+    ∙ ap (λ calls. record (lines_said old) { calls = calls }) (map-append call_said old.parts.calls (call ∷ []))
 
 -- and so do words
-pub added : (old : ScriptBuilder) (words : Words) (new : ScriptBuilder) → AddsWords old words new
+pub added : (old : Script) (words : Words) (new : Script) → AddsWords old words new
     → lines_said new ≡ said_after words (lines_said old)
 unfolding said_after
 added old words new (inl a) = ap lines_said a.1 ∙ ap (λ ws. said_after ws (lines_said old)) (sym a.0)

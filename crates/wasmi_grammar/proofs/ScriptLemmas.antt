@@ -2,23 +2,19 @@
 use Rattle.std.proofs.Common.{List, [], ◌∷◌, ◌++◌, ◌∙◌, ℕ, suc, ◌+◌, ◌<◌, ◌≤◌, ◌≡◌, length, take, drop, get_or, map, add-one, take-append-drop, drop-cons, arith, refl, sym, ap, subst}
 use Rattle.std.proofs.Common.{append-nil, length-append, inl, inr}
 use Rattle.std.proofs.lemmas.List.{take-map, length-map}
-use Rattle.std.proofs.lemmas.List.Concat.{flat_map-append}
 use Rattle.std.proofs.lemmas.List.FromFn.{length-enumerate_from, get_or-enumerate_from}
 use Rattle.std.specs.List.{enumerate_from}
-use Rattle.wasmi_core.specs.declared.calls.Call.{Call}
 use Rattle.wasmi_operands.specs.Words.{Words}
 use Rattle.wasmi_grammar.specs.declared.script.Line.{Line}
 use Rattle.wasmi_grammar.specs.declared.script.Line.TheVariants.{Meter, Limiter, Region, As, Call as Command}
 use Rattle.wasmi_grammar.specs.declared.script.Script.{Script}
-use Rattle.wasmi_grammar.specs.declared.script.ScriptBuilder.{ScriptBuilder}
-use Rattle.wasmi_grammar.specs.declared.script.TenantRun.{TenantRun}
-use Rattle.wasmi_grammar.specs.Headers.{tenants_of}
-use Rattle.wasmi_grammar.specs.Lines.{SameCommands, AddsLine, AddsWords, TakesLine, TakesLines, AreTaken, Builds, WritesScript}
-use Rattle.wasmi_grammar.specs.Lines.{calls_in, calls_of, first_calls, lines_in}
+use Rattle.wasmi_grammar.specs.Parts.{parts_in, calls_in}
+use Rattle.wasmi_grammar.specs.Lines.{AddsLine, AddsWords, TakesLine, TakesLines, AreTaken, calls_of, lines_in}
 use Rattle.wasmi_grammar.specs.Refusals.{IsBadLine, IsFirstBadLine}
+use Rattle.wasmi_grammar.proofs.PartsLemmas.{with_last}
 
 -- one line more
-pub one_more : (lines : List (List ℕ)) (line : List ℕ) (first middle last : ScriptBuilder)
+pub one_more : (lines : List (List ℕ)) (line : List ℕ) (first middle last : Script)
     → TakesLines lines first middle → TakesLine middle line last → TakesLines (lines ++ line ∷ []) first last
 one_more [] line first middle last same taken = (last, subst (λ s. TakesLine s line last) same taken, refl)
 one_more (l ∷ lines) line first middle last before taken =
@@ -50,114 +46,55 @@ lines_at lines n before here so_far (below, is) =
     )
 
 -- a line that isn't taken after those before it is the first bad one
-pub stops_at : (text : List ℕ) (n : ℕ) (before : List (ℕ × List ℕ)) (here : ℕ × List ℕ) (builder : ScriptBuilder)
-    → AreTaken (map (λ p. p.1) before) builder → length before ≡ n
+pub stops_at : (text : List ℕ) (n : ℕ) (before : List (ℕ × List ℕ)) (here : ℕ × List ℕ) (script : Script)
+    → AreTaken (map (λ p. p.1) before) script → length before ≡ n
     → before ≡ take n (enumerate_from 0 (lines_in text))
     → (n < length (enumerate_from 0 (lines_in text))) × (here ≡ get_or (enumerate_from 0 (lines_in text)) n here)
-    → IsBadLine builder here.1 → IsFirstBadLine text (here.0 + 1)
-stops_at text n before here builder taken count so_far there bad =
+    → IsBadLine script here.1 → IsFirstBadLine text (here.0 + 1)
+stops_at text n before here script taken count so_far there bad =
     let place = lines_at (lines_in text) n before here so_far there in record {
       before = map (λ p. p.1) before;
       bad = here.1;
       after = drop (n + 1) (lines_in text);
       lines = place.0;
       counted = omega (arith, place.1, count, length-map before (λ p. p.1));
-      builder = builder;
+      script = script;
       taken = taken;
       is_bad = bad;
     }
 
--- the calls of parts with a last one
-with_last : (parts : List TenantRun) (last : TenantRun)
-    → calls_in (parts ++ last ∷ []) ≡ calls_in parts ++ last.calls.items
-with_last parts last = flat_map-append (λ part. part.calls.items) parts (last ∷ [])
-    ∙ ap (λ calls. calls_in parts ++ calls) (append-nil last.calls.items)
-
--- the calls of a builder, in order
-abbrev pub built_calls : ScriptBuilder → List Call
-built_calls builder = calls_in builder.earlier.items ++ builder.calls.items
-
--- the calls of a builder are those of its script
-pub built_is : (builder : ScriptBuilder) (script : Script) → Builds builder script
-    → calls_of script ≡ built_calls builder
-built_is builder script built =
-    let last : TenantRun = record { tenant = builder.tenant; calls = builder.calls } in
-    ap calls_in built.parts ∙ with_last builder.earlier.items last
-
--- the calls are the same where the commands are
-same_calls : (old new : ScriptBuilder) → SameCommands old new → built_calls new ≡ built_calls old
-same_calls old new same = λ i. calls_in (same.earlier i) ++ same.calls i
+-- the calls are as many where the parts are the same
+same_count : (old new : Script) → new.parts ≡ old.parts → length (calls_of new) ≤ length (calls_of old) + 1
+same_count old new same = omega (arith, ap (λ parts. length (calls_in (parts_in parts))) same)
 
 -- a line adds one call at most
-line_count : (old : ScriptBuilder) (line : Line) (new : ScriptBuilder) → AddsLine old line new
-    → length (built_calls new) ≤ length (built_calls old) + 1
-line_count old (Meter line) new a = omega (arith, ap length (same_calls old new a.commands))
-line_count old (Limiter line) new a = omega (arith, ap length (same_calls old new a.commands))
-line_count old (Region line) new a = omega (arith, ap length (same_calls old new a.commands))
+line_count : (old : Script) (line : Line) (new : Script) → AddsLine old line new
+    → length (calls_of new) ≤ length (calls_of old) + 1
+line_count old (Meter line) new a = same_count old new a.parts
+line_count old (Limiter line) new a = same_count old new a.parts
+line_count old (Region line) new a = same_count old new a.parts
 line_count old (As tenant) new a =
-    let last : TenantRun = record { tenant = old.tenant; calls = old.calls } in
-    let same : built_calls new ≡ calls_in (old.earlier.items ++ last ∷ []) ++ [] =
-    λ i. calls_in (a.earlier i) ++ a.calls i in
+    let parts = parts_in old.parts in
     omega (
       arith,
-      ap length (same ∙ append-nil (calls_in (old.earlier.items ++ last ∷ []))
-          ∙ with_last old.earlier.items last),
+      ap (λ parts. length (calls_in (parts_in parts))) a.parts,
+      ap length (with_last parts (record { tenant = tenant; calls = [] }) ∙ append-nil (calls_in parts)),
     )
 line_count old (Command call) new a =
-    let earlier = old.earlier.items in
-    let same : built_calls new ≡ calls_in earlier ++ (old.calls.items ++ call ∷ []) =
-    λ i. calls_in (a.earlier i) ++ a.calls i in
+    let earlier = old.parts.earlier in
+    let calls = old.parts.calls in
     omega (
       arith,
-      ap length same,
-      length-append (calls_in earlier) (old.calls.items ++ call ∷ []),
-      length-append old.calls.items (call ∷ []),
-      length-append (calls_in earlier) old.calls.items,
+      ap (λ parts. length (calls_in (parts_in parts))) a.parts,
+      ap length (with_last earlier (record { tenant = old.parts.tenant; calls = calls ++ call ∷ [] })),
+      ap length (with_last earlier (record { tenant = old.parts.tenant; calls = calls })),
+      length-append (calls_in earlier) (calls ++ call ∷ []),
+      length-append calls (call ∷ []),
+      length-append (calls_in earlier) calls,
     )
 
 -- and so do words
-pub added_count : (old : ScriptBuilder) (words : Words) (new : ScriptBuilder) → AddsWords old words new
-    → length (built_calls new) ≤ length (built_calls old) + 1
-added_count old words new (inl a) = omega (arith, ap (λ b. length (built_calls b)) a.1)
+pub added_count : (old : Script) (words : Words) (new : Script) → AddsWords old words new
+    → length (calls_of new) ≤ length (calls_of old) + 1
+added_count old words new (inl a) = omega (arith, ap (λ s. length (calls_of s)) a.1)
 added_count old words new (inr (line, names, adds)) = line_count old line new adds
-
--- without tenants no part stands before the last one
-abbrev IsSingle : ScriptBuilder → Type 0
-IsSingle builder = tenants_of builder.header.limiter ≡ 0 → builder.earlier.items ≡ []
-
--- one line more leaves one part
-single_line : (old : ScriptBuilder) (line : Line) (new : ScriptBuilder) → IsSingle old → AddsLine old line new
-    → IsSingle new
-single_line old (Meter line) new single a = λ none. a.commands.earlier ∙ a.before_commands.no_parts
-single_line old (Limiter line) new single a = λ none. a.commands.earlier ∙ a.before_commands.no_parts
-single_line old (Region line) new single a = λ none. a.commands.earlier ∙ a.before_commands.no_parts
-single_line old (As tenant) new single a =
-    λ none. absurd (omega (arith, a.there, ap (λ h. tenants_of h.limiter) (sym a.header) ∙ none))
-single_line old (Command call) new single a =
-    λ none. a.earlier ∙ single (ap (λ h. tenants_of h.limiter) (sym a.header) ∙ none)
-
--- and so do the words of a line
-single_more : (old : ScriptBuilder) (words : Words) (new : ScriptBuilder) → IsSingle old → AddsWords old words new
-    → IsSingle new
-single_more old words new single (inl a) = subst IsSingle (sym a.1) single
-single_more old words new single (inr (line, names, adds)) = single_line old line new single adds
-
--- and so do lines
-single_all : (lines : List (List ℕ)) (old new : ScriptBuilder) → IsSingle old → TakesLines lines old new → IsSingle new
-single_all [] old new single same = subst IsSingle (sym same) single
-single_all (line ∷ lines) old new single (middle, taken, later) =
-    single_all lines middle new (single_more old taken.1 middle single taken.3) later
-
--- a script without tenants has its calls in one part
-pub one_part_calls : (text : List ℕ) (script : Script) → WritesScript text script
-    → tenants_of script.header.limiter ≡ 0
-    → calls_of script ≡ first_calls script.parts.items
-one_part_calls text script writes none =
-    let builder = writes.builder in
-    let last : TenantRun = record { tenant = builder.tenant; calls = builder.calls } in
-    let new = writes.taken.is_new in
-    let single : IsSingle builder =
-    single_all (lines_in text) writes.taken.empty builder (λ _. new.no_commands.no_parts) writes.taken.lines in
-    let without = ap (λ h. tenants_of h.limiter) (sym writes.built.header) ∙ none in
-    let parts : script.parts.items ≡ last ∷ [] = writes.built.parts ∙ ap (λ ps. ps ++ last ∷ []) (single without) in
-    ap calls_in parts ∙ append-nil builder.calls.items ∙ sym (ap first_calls parts)

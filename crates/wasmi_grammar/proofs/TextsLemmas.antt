@@ -6,7 +6,7 @@ use Rattle.wasmi_core.specs.declared.calls.Call.{Call}
 use Rattle.wasmi_core.specs.declared.calls.Call.TheVariants.{Write, NewSegment, Shuffle}
 use Rattle.wasmi_grammar.specs.declared.script.Line.{Line}
 use Rattle.wasmi_grammar.specs.declared.script.Line.TheVariants.{Meter, Limiter, Region, As, Call as Command}
-use Rattle.wasmi_grammar.specs.declared.script.ScriptBuilder.{ScriptBuilder}
+use Rattle.wasmi_grammar.specs.declared.script.Script.{Script}
 use Rattle.wasmi_grammar.specs.declared.header.MeterLine.{MeterLine}
 use Rattle.wasmi_grammar.specs.declared.header.MeterLine.TheVariants.{Off, On}
 use Rattle.wasmi_grammar.specs.declared.header.LimiterLine.{LimiterLine}
@@ -115,7 +115,7 @@ none_left words (word ∷ words') same empty =
     let none : texts (word ∷ words') ≡ [] = sym same ∙ ap texts empty in absurd cc
 
 -- words add what all words with the same texts add
-pub retell : (words words' : Words) → texts words ≡ texts words' → (old new : ScriptBuilder) → AddsWords old words new
+pub retell : (words words' : Words) → texts words ≡ texts words' → (old new : Script) → AddsWords old words new
     → AddsWords old words' new
 retell words words' same old new (inl a) = inl (none_left words words' same a.0, a.1)
 retell words words' same old new (inr (line, names, adds)) =

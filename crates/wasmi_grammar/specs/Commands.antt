@@ -1,6 +1,14 @@
 -- What the words of a command mean.
 use Rattle.std.specs.Prelude.{◌≡◌, ℕ, ◌≤◌, List, length, codes, drop}
 use Rattle.wasmi_raw.specs.RawVal.{raw_of}
+use Rattle.wasmi_ops.specs.ScalarAccessOps.{load_name, store_name}
+use Rattle.wasmi_ops.specs.MakeOps.{make_name}
+use Rattle.wasmi_ops.specs.UnaryOps.{unary_name}
+use Rattle.wasmi_ops.specs.BinaryOps.{binary_name}
+use Rattle.wasmi_ops.specs.TernaryOps.{ternary_name}
+use Rattle.wasmi_ops.specs.ShiftOps.{shift_name}
+use Rattle.wasmi_ops.specs.TestOps.{test_name}
+use Rattle.wasmi_ops.specs.VectorAccessOps.{vector_load_name}
 use Rattle.wasmi_core.specs.declared.calls.Call.{Call}
 use Rattle.wasmi_core.specs.declared.calls.Call.TheVariants.{SetFuel, GetFuel, NewMemory, NewLentMemory, GrowMemory, DropMemory, Read, Write, Load, Store, NewTable, GrowTable, DropTable, GetElement, SetElement, InitTable, CopyTable, FillTable, NewSegment, DropItems, NewGlobal, SetGlobal, GetGlobal, SetRegister, GetRegister, Make, Unary, Binary, Ternary, Shift, Test, Extract, Replace, Shuffle, VectorLoad, LoadLane, VectorStore, StoreLane}
 use Rattle.wasmi_operands.specs.Words.{Words, WritesEach, word_at}
@@ -8,15 +16,7 @@ use Rattle.wasmi_operands.specs.Decimal.{WritesNumber}
 use Rattle.wasmi_grammar.specs.MemoryWords.{NamesType}
 use Rattle.wasmi_grammar.specs.TableWords.{NamesTableType}
 use Rattle.wasmi_operands.specs.TypeWords.{reference_word, value_word, mutability_word, WritesReference}
-use Rattle.wasmi_operands.specs.AccessNames.{load_name, store_name}
 use Rattle.wasmi_operands.specs.Names.{IsName}
-use Rattle.wasmi_operands.specs.MakeNames.{make_name}
-use Rattle.wasmi_operands.specs.UnaryNames.{unary_name}
-use Rattle.wasmi_operands.specs.BinaryNames.{binary_name}
-use Rattle.wasmi_operands.specs.TernaryNames.{ternary_name}
-use Rattle.wasmi_operands.specs.ShiftNames.{shift_name}
-use Rattle.wasmi_operands.specs.TestNames.{test_name}
-use Rattle.wasmi_operands.specs.VectorLoadNames.{vector_load_name}
 use Rattle.wasmi_operands.specs.LaneNames.{NamesExtract, NamesReplace, NamesLoadLane, NamesStoreLane, WritesLanes}
 
 -- the word that a command begins with
@@ -73,9 +73,9 @@ OperandsWrite count word (Read memory offset len) =
     (count ≡ 3) × WritesNumber 64 (word 0) memory × WritesNumber 64 (word 1) offset × WritesNumber 64 (word 2) len
 OperandsWrite count word (Write memory offset bytes) =
     (2 ≤ count) × WritesNumber 64 (word 0) memory × WritesNumber 64 (word 1) offset
-OperandsWrite count word (Load op memory ptr offset) = (count ≡ 4) × (word 0 ≡ load_name op)
+OperandsWrite count word (Load op memory ptr offset) = (count ≡ 4) × IsName load_name (word 0) op
     × WritesNumber 64 (word 1) memory × WritesNumber 64 (word 2) ptr × WritesNumber 64 (word 3) offset
-OperandsWrite count word (Store op memory ptr offset value) = (count ≡ 5) × (word 0 ≡ store_name op)
+OperandsWrite count word (Store op memory ptr offset value) = (count ≡ 5) × IsName store_name (word 0) op
     × WritesNumber 64 (word 1) memory × WritesNumber 64 (word 2) ptr × WritesNumber 64 (word 3) offset × (lo : ℕ)
     × WritesNumber 64 (word 4) lo × (value ≡ raw_of lo)
 OperandsWrite count word (NewTable ty init) =

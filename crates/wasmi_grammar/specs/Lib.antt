@@ -4,6 +4,7 @@ pub mod TableWords
 pub mod Commands
 pub mod Answers
 pub mod Headers
+pub mod Parts
 pub mod Lines
 pub mod Refusals
 pub mod Sayings

@@ -4,13 +4,13 @@ use Rattle.std.specs.Option.{option_map}
 use Rattle.wasmi_types.specs.declared.value.RefType.{RefType}
 use Rattle.wasmi_core.specs.declared.calls.Call.{Call}
 use Rattle.wasmi_core.specs.declared.calls.Call.TheVariants.{Write, NewSegment}
-use Rattle.wasmi_grammar.specs.declared.script.TenantRun.{TenantRun}
 use Rattle.wasmi_grammar.specs.declared.script.Script.{Script}
 use Rattle.wasmi_grammar.specs.declared.header.MeterLine.{MeterLine}
 use Rattle.wasmi_grammar.specs.declared.header.RegionLine.{RegionLine}
 use Rattle.wasmi_grammar.specs.declared.header.LimiterLine.{LimiterLine}
 use Rattle.wasmi_grammar.specs.declared.header.LimiterLine.TheVariants.{Answers}
 use Rattle.wasmi_grammar.specs.declared.header.answers.AnswerWord.{AnswerWord}
+use Rattle.wasmi_grammar.specs.Parts.{TenantRun, parts_in}
 use Rattle.wasmi_grammar.specs.Lines.{WritesScript}
 use Rattle.wasmi_grammar.specs.Refusals.{IsFirstBadLine}
 
@@ -43,7 +43,7 @@ pub record PartSaid : Type 0 where
 
 -- what a part says
 abbrev pub part_said : TenantRun → PartSaid
-part_said part = record { tenant = part.tenant; calls = map call_said part.calls.items }
+part_said part = record { tenant = part.tenant; calls = map call_said part.calls }
 
 -- a script: its header lines and its parts
 pub record ScriptSaid : Type 0 where
@@ -58,7 +58,7 @@ script_said script = record {
   meter = script.header.meter;
   limiter = option_map limiter_said script.header.limiter;
   region = script.header.region;
-  parts = map part_said script.parts.items;
+  parts = map part_said (parts_in script.parts);
 }
 
 -- two scripts say the same

@@ -9,4 +9,4 @@ mod script;
 
 pub use error::ParseError;
 pub use header::{AnswerWord, Header, LimiterLine, MeterLine, RegionLine, TenantsLine};
-pub use script::{Script, TenantRun, parse};
+pub use script::{Parts, Script, parse};

@@ -1,5 +1,5 @@
 //! The script's lines: header lines, and then commands.
-ghost use Rattle.std.specs.Prelude.{◌≡◌, [], ℕ, ◌+◌, ◌<◌, ◌≤◌, length, vec_len, IfOk, IfErr, OnOk, OnErr, ◌≢◌};
+ghost use Rattle.std.specs.Prelude.{◌≡◌, [], ℕ, ◌+◌, ◌-◌, ◌<◌, ◌≤◌, length, take, drop, vec_len, IfOk, IfErr, OnOk, OnErr, ◌≢◌};
 ghost use Rattle.wasmi_operands.specs.Acceptance.{Accepts, AcceptsWithMemory};
 ghost use Rattle.wasmi_grammar.specs.Commands.{NamesAfter};
 ghost use Rattle.wasmi_grammar.specs.Headers.{WritesTenant};
@@ -14,82 +14,160 @@ use crate::header::{
     Header, LimiterLine, MeterLine, RegionLine, listed, meter_line, quota, region_line, tenants,
 };
 use std::alloc::{AllocError, Global};
-use std::{mem, str};
+use std::marker::Model;
+use std::str;
 use wasmi_core::Call;
 use wasmi_operands::{LineError, number, read_words};
 
-/// What a script asks for.
+/// What a script asks for: what its lines say that were taken in.
 #[derive(Drop)]
 pub struct Script {
     /// What its header lines say.
     pub header: Header,
-    /// Its calls by parts, which `as` lines separate: without one there is one part, tenant 0's.
-    pub parts: Vec<TenantRun>,
+    /// Its calls by parts.
+    pub parts: Parts,
 }
 
-/// The calls between two `as` lines.
+/// Calls by parts, which `as` lines separate: without one there is one part, tenant 0's. All calls
+/// stand in one list, so that a part takes no list of its own.
 #[derive(Drop)]
-pub struct TenantRun {
-    /// Whose calls they are, from 0.
-    pub tenant: usize,
+pub struct Parts {
     /// The call of each command, in order.
-    pub calls: Vec<Call>,
+    calls: Vec<Call>,
+    /// The parts before the last `as` line.
+    earlier: Vec<Span>,
+    /// Whose calls the last part has, from 0.
+    tenant: usize,
+    /// Where the last part begins.
+    start: usize,
+}
+
+/// Whose calls a part has, and the places where they stand.
+#[derive(Clone, Copy)]
+struct Span {
+    tenant: usize,
+    start: usize,
+    end: usize,
+}
+
+impl Model for Parts {
+    ghost use Rattle.std.specs.Prelude.{map, drop};
+    ghost use Rattle.wasmi_grammar.specs.Parts.{PartsValue, part_at, AreCut};
+
+    ghost Value = { PartsValue };
+
+    ghost view = { λ p. record {
+      earlier = map (part_at p.calls.items) p.earlier.items;
+      tenant = p.tenant;
+      calls = drop p.start p.calls.items;
+    } };
+
+    ghost invariant = { λ p. AreCut p.earlier.items p.start p.calls.items };
+}
+
+impl Parts {
+    ghost use Rattle.std.specs.Prelude.{[], ◌++◌, ◌∷◌, ◌↔◌, IsTrue, slice_get};
+    ghost use Rattle.std.specs.Option.{option_map};
+    ghost use Rattle.wasmi_grammar.specs.Parts.{calls_in, parts_in};
+
+    /// One part without calls.
+    fn new(alloc: Global) -> Self
+        ensures { result ≡ record { earlier = []; tenant = 0; calls = [] } }
+    {
+        Parts {
+            calls: Vec::new(alloc),
+            earlier: Vec::new(alloc),
+            tenant: 0,
+            start: 0,
+        }
+    }
+
+    /// Whether there is no call, and no part but the first.
+    fn is_empty(&self) -> bool
+        ensures { IsTrue result ↔ ((self.now.calls ≡ []) × (self.now.earlier ≡ [])) }
+    {
+        self.calls.is_empty() && self.earlier.is_empty()
+    }
+
+    /// Adds a call to the last part.
+    fn push(&mut self, call: Call) -> Result<(), AllocError>
+        ensures { OnOk result
+            (self.new ≡ record self.old { calls = self.old.calls ++ call ∷ [] }) }
+    {
+        self.calls.push(call)?;
+        Ok(())
+    }
+
+    /// Adds a part of a tenant, which has no call yet.
+    fn begin(&mut self, tenant: usize) -> Result<(), AllocError>
+        ensures { OnOk result
+            (self.new ≡ record { earlier = parts_in self.old; tenant = tenant; calls = [] }) }
+    {
+        let end = self.calls.len();
+        let span = Span {
+            tenant: self.tenant,
+            start: self.start,
+            end,
+        };
+        self.earlier.push(span)?;
+        self.tenant = tenant;
+        self.start = end;
+        Ok(())
+    }
+
+    /// How many parts there are, one at least.
+    pub fn len(&self) -> usize
+        ensures { result ≡ length (parts_in self.now) }
+    {
+        self.earlier.len() + 1
+    }
+
+    /// The tenant and the calls of a part, by its index from 0.
+    pub fn get(&self, index: usize) -> Option<(usize, &[Call])>
+        ensures { option_map (λ part. record { tenant = part.0; calls = part.1.now }) result
+            ≡ slice_get (parts_in self.now) index }
+    {
+        if index < self.earlier.len() {
+            let span = self.earlier[index];
+            Some((span.tenant, calls_at(&self.calls, span.start, span.end)))
+        } else if index == self.earlier.len() {
+            Some((
+                self.tenant,
+                calls_at(&self.calls, self.start, self.calls.len()),
+            ))
+        } else {
+            None
+        }
+    }
+
+    /// The calls of all parts, in order.
+    pub fn calls(&self) -> &[Call]
+        ensures { result.now ≡ calls_in (parts_in self.now) }
+    {
+        &self.calls
+    }
+}
+
+/// The calls from one place to another.
+fn calls_at(calls: &[Call], start: usize, end: usize) -> &[Call]
+    requires order { start ≤ end }
+    requires within { end ≤ length calls.now }
+    ensures calls { result.now ≡ take (end - start) (drop start calls.now) }
+{
+    &calls[start..end]
 }
 
 impl Script {
-    ghost use Rattle.wasmi_grammar.specs.Lines.{first_calls};
-
-    /// The calls of the first part: all of them without an `as` line.
-    pub fn first_calls(&self) -> &[Call]
-        ensures { result.now ≡ first_calls self.now.parts.items }
-    {
-        match self.parts.first() {
-            Some(part) => &part.calls,
-            None => &[],
-        }
-    }
-}
-
-/// A script whose lines are taken in one after the other.
-#[derive(Drop)]
-struct ScriptBuilder {
-    /// What the header lines say.
-    header: Header,
-    /// The parts before the last `as` line.
-    earlier: Vec<TenantRun>,
-    /// The tenant of the last part: 0 without an `as` line.
-    tenant: usize,
-    /// The calls of the last part.
-    calls: Vec<Call>,
-}
-
-impl ScriptBuilder {
-    ghost use Rattle.wasmi_grammar.specs.Lines.{AddsWords, AddsLine, AddsMeter, AddsLimiter, AddsRegion, AddsCall, AddsPart, HasNoCommands, IsNewBuilder, Builds};
+    ghost use Rattle.wasmi_grammar.specs.Lines.{AddsWords, AddsLine, AddsMeter, AddsLimiter, AddsRegion, AddsCall, AddsPart, HasNoCommands, IsNewScript};
 
     /// A script without lines.
     fn new(alloc: Global) -> Self
-        ensures { IsNewBuilder result }
+        ensures { IsNewScript result }
     {
-        ScriptBuilder {
+        Script {
             header: Header::default(),
-            earlier: Vec::new(alloc),
-            tenant: 0,
-            calls: Vec::new(alloc),
+            parts: Parts::new(alloc),
         }
-    }
-
-    /// The script of the lines, with its last part.
-    fn build(self) -> Result<Script, AllocError>
-        ensures { IfOk result (Builds self) }
-    {
-        let ScriptBuilder {
-            header,
-            earlier: mut parts,
-            tenant,
-            calls,
-        } = self;
-        parts.push(TenantRun { tenant, calls })?;
-        Ok(Script { header, parts })
     }
 
     /// Takes in one line's words. Header lines stand before all commands, at most one `meter` line,
@@ -97,26 +175,26 @@ impl ScriptBuilder {
     fn take_line(&mut self, alloc: Global, words: &[&str]) -> Result<(), LineError>
         ensures ok { OnOk result (AddsWords self.old words.now self.new) }
         ensures refused { IfErr result (λ error. error ≡ LineError.BadCommand
-            → (new : ScriptBuilder) → ¬ (AddsWords self.old words.now new)) }
+            → (new : Script) → ¬ (AddsWords self.old words.now new)) }
     {
         let [name, operands @ ..] = words else {
             return Ok(());
         };
         let line = line_of(alloc, name, operands)?;
-        self.take(alloc, line)
+        self.take(line)
     }
 
     /// Takes in what a line says.
-    fn take(&mut self, alloc: Global, line: Line) -> Result<(), LineError>
+    fn take(&mut self, line: Line) -> Result<(), LineError>
         ensures ok { OnOk result (AddsLine self.old line self.new) }
         ensures refused { IfErr result (λ error. error ≡ LineError.BadCommand
-            → (new : ScriptBuilder) → ¬ (AddsLine self.old line new)) }
+            → (new : Script) → ¬ (AddsLine self.old line new)) }
     {
         match line {
             Line::Meter(line) => self.take_meter(line),
             Line::Limiter(line) => self.take_limiter(line),
             Line::Region(line) => self.take_region(line),
-            Line::As(tenant) => self.take_part(alloc, tenant),
+            Line::As(tenant) => self.take_part(tenant),
             Line::Call(call) => self.take_call(call),
         }
     }
@@ -125,7 +203,7 @@ impl ScriptBuilder {
     fn take_meter(&mut self, line: MeterLine) -> Result<(), LineError>
         ensures ok { OnOk result (AddsMeter self.old line self.new) }
         ensures bad { IfErr result (λ error. error ≡ LineError.BadCommand) }
-        ensures refused { OnErr result ((new : ScriptBuilder) → ¬ (AddsMeter self.old line new)) }
+        ensures refused { OnErr result ((new : Script) → ¬ (AddsMeter self.old line new)) }
     {
         self.expect_no_commands()?;
         self.header.take_meter(line)
@@ -135,7 +213,7 @@ impl ScriptBuilder {
     fn take_limiter(&mut self, line: LimiterLine) -> Result<(), LineError>
         ensures ok { OnOk result (AddsLimiter self.old line self.new) }
         ensures bad { IfErr result (λ error. error ≡ LineError.BadCommand) }
-        ensures refused { OnErr result ((new : ScriptBuilder) → ¬ (AddsLimiter self.old line new)) }
+        ensures refused { OnErr result ((new : Script) → ¬ (AddsLimiter self.old line new)) }
     {
         self.expect_no_commands()?;
         self.header.take_limiter(line)
@@ -145,7 +223,7 @@ impl ScriptBuilder {
     fn take_region(&mut self, line: RegionLine) -> Result<(), LineError>
         ensures ok { OnOk result (AddsRegion self.old line self.new) }
         ensures bad { IfErr result (λ error. error ≡ LineError.BadCommand) }
-        ensures refused { OnErr result ((new : ScriptBuilder) → ¬ (AddsRegion self.old line new)) }
+        ensures refused { OnErr result ((new : Script) → ¬ (AddsRegion self.old line new)) }
     {
         self.expect_no_commands()?;
         self.header.take_region(line)
@@ -157,7 +235,7 @@ impl ScriptBuilder {
         ensures err { IfErr result
             (λ error. (error ≡ LineError.BadCommand) × ¬ (HasNoCommands self.now)) }
     {
-        if self.calls.is_empty() && self.earlier.is_empty() {
+        if self.parts.is_empty() {
             Ok(())
         } else {
             Err(LineError::BadCommand)
@@ -169,26 +247,20 @@ impl ScriptBuilder {
         ensures ok { OnOk result (AddsCall self.old call self.new) }
         ensures memory { IfErr result (λ error. error ≡ LineError.OutOfMemory) }
     {
-        self.calls.push(call)?;
+        self.parts.push(call)?;
         Ok(())
     }
 
     /// Takes in an `as` line: what follows are the calls of another tenant, of whom there is one.
-    fn take_part(&mut self, alloc: Global, tenant: usize) -> Result<(), LineError>
+    fn take_part(&mut self, tenant: usize) -> Result<(), LineError>
         ensures ok { OnOk result (AddsPart self.old tenant self.new) }
         ensures refused { IfErr result (λ error. error ≡ LineError.BadCommand
-            → (new : ScriptBuilder) → ¬ (AddsPart self.old tenant new)) }
+            → (new : Script) → ¬ (AddsPart self.old tenant new)) }
     {
         if tenant >= self.header.tenants() {
             return Err(LineError::BadCommand);
         }
-        let calls = mem::replace(&mut self.calls, Vec::new(alloc));
-        let part = TenantRun {
-            tenant: self.tenant,
-            calls,
-        };
-        self.earlier.push(part)?;
-        self.tenant = tenant;
+        self.parts.begin(tenant)?;
         Ok(())
     }
 }
@@ -289,7 +361,7 @@ pub fn parse(alloc: Global, bytes: &[u8]) -> Result<Script, ParseError>
         (λ error. (line : ℕ) → error ≡ ParseError.BadCommand line
         → (0 < line) × (line ≤ length bytes.now + 1)) }
 {
-    let mut builder = ScriptBuilder::new(alloc);
+    let mut script = Script::new(alloc);
     let mut words = Vec::new(alloc);
     for (index, bytes) in bytes.split(|byte| *byte == b'\n').enumerate() {
         let line = index + 1;
@@ -297,11 +369,11 @@ pub fn parse(alloc: Global, bytes: &[u8]) -> Result<Script, ParseError>
             return Err(ParseError::BadCommand { line });
         };
         read_words(text, &mut words)?;
-        match builder.take_line(alloc, words.as_slice()) {
+        match script.take_line(alloc, words.as_slice()) {
             Ok(()) => {}
             Err(LineError::BadCommand) => return Err(ParseError::BadCommand { line }),
             Err(LineError::OutOfMemory) => return Err(ParseError::OutOfMemory),
         }
     }
-    Ok(builder.build()?)
+    Ok(script)
 }

@@ -1,6 +1,5 @@
 use Rattle.std.proofs.Common.{ℕ, rules, tests, arith, refl, sym, ap, subst, ◌∙◌, ◌≡◌, ◌+◌, ◌∷◌, [], map, List, ◌==◌, Bor, Bool, false, Option, Some, length}
 use denote.Param.Members.{Mut}
-use Rattle.std.proofs.lemmas.Grind.{common_steps}
 use Rattle.std.proofs.lemmas.Iterator.{YieldsList}
 use Rattle.std.proofs.lemmas.List.{map-append, length-map, length-append}
 use Rattle.std.proofs.lemmas.Simd.{map-map}
@@ -12,7 +11,8 @@ use Rattle.std.specs.Iterator.Adapters.{enumerate_source, enumerate_count, enume
 use Rattle.std.specs.List.{enumerate_from}
 use Rattle.std.specs.Slice.Iter.{split_rest, split_done, split_callee, split_steps}
 use Rattle.wasmi_operands.specs.Words.{words_in}
-use Rattle.wasmi_grammar.specs.declared.script.ScriptBuilder.{ScriptBuilder}
+use Rattle.wasmi_grammar.specs.declared.script.Script.{Script}
+use Rattle.wasmi_grammar.specs.Parts.{parts_in, calls_in}
 use Rattle.wasmi_grammar.specs.Lines.{TakesLine, TakesLines, AreTaken, lines_in}
 use Rattle.wasmi_grammar.specs.Refusals.{IsBadLine, IsFirstBadLine}
 use Rattle.wasmi_grammar.proofs.TextsLemmas.{retell}
@@ -41,20 +41,20 @@ lines_yielded {g = g} text gives source count rest done closure tests =
 -- the line that is yielded next is the first bad one, where those before it are taken and it adds nothing to them
 next_is_bad : {S : Type 0} {steps : S → Option (ℕ × Bor (List ℕ)) → S → Type 0} {start here after : S}
     (text : List ℕ) (yielded : List (ℕ × Bor (List ℕ))) (next : Option (ℕ × Bor (List ℕ))) (item : ℕ × Bor (List ℕ))
-    (builder : ScriptBuilder)
+    (script : Script)
     → YieldsList steps numbered start (enumerate_from 0 (lines_in text)) → Yields steps start yielded here
-    → next ≡ Some item → steps here next after → AreTaken (map line_of yielded) builder
-    → IsBadLine builder (line_of item) → IsFirstBadLine text (item.0 + 1)
-next_is_bad text yielded next item builder lines yields is step taken bad =
+    → next ≡ Some item → steps here next after → AreTaken (map line_of yielded) script
+    → IsBadLine script (line_of item) → IsFirstBadLine text (item.0 + 1)
+next_is_bad text yielded next item script lines yields is step taken bad =
     let texts = sym (map-map (λ p. p.1) numbered yielded) in
-    stops_at text (length yielded) (map numbered yielded) (numbered item) builder
-    (subst (λ lines. AreTaken lines builder) texts taken) (length-map yielded numbered)
+    stops_at text (length yielded) (map numbered yielded) (numbered item) script
+    (subst (λ lines. AreTaken lines script) texts taken) (length-map yielded numbered)
     (YieldsList-so_far lines yielded _ yields) (YieldsList-turn lines yielded _ yields next _ item is step) bad
 
 pub loop-index-init : goal.loop-index-init
 loop-index-init c = (
-  grind (arith, common_steps),
-  record { empty = c.new-builder.result; is_new = c.new-builder.ensures; lines = refl },
+  omega (arith, ap (λ parts. length (calls_in (parts_in parts))) c.new-script.ensures.no_commands),
+  record { empty = c.new-script.result; is_new = c.new-script.ensures; lines = refl },
 )
 
 pub loop-index-preserved : goal.loop-index-preserved
@@ -66,12 +66,12 @@ loop-index-preserved c =
     ap (map (λ word. word.now)) c.as_slice.ensures.value ∙ c.in_ok-read_words.ensures
     ∙ ap words_in c.in-Ok.ensures.cases.0 in
     let words = c.as_slice.result.now in
-    let line_taken : TakesLine c.loop-index.builder c.in-Some.bytes.now new =
+    let line_taken : TakesLine c.loop-index.script c.in-Some.bytes.now new =
     (c.in-Ok.ensures.cases.1, words, same, c.in-Ok-take_line.ensures.ok) in (
       omega (
         arith,
         count,
-        added_count c.loop-index.builder words new c.in-Ok-take_line.ensures.ok,
+        added_count c.loop-index.script words new c.in-Ok-take_line.ensures.ok,
         length-append yielded ((c.in-Some.index, c.in-Some.bytes) ∷ []),
       ),
       record {
@@ -79,7 +79,7 @@ loop-index-preserved c =
         is_new = taken.is_new;
         lines = subst (λ lines. TakesLines lines taken.empty new)
             (sym (map-append line_of yielded ((c.in-Some.index, c.in-Some.bytes) ∷ [])))
-            (one_more (map line_of yielded) c.in-Some.bytes.now taken.empty c.loop-index.builder new taken.lines
+            (one_more (map line_of yielded) c.in-Some.bytes.now taken.empty c.loop-index.script new taken.lines
             line_taken);
       },
     )
@@ -95,16 +95,12 @@ returns-clause-script c =
     let line : ℕ × List ℕ → List ℕ = λ p. p.1 in
     let whole = sym (map-map line numbered c.loop-index.yielded) ∙ ap (map line) all.0
     ∙ without_numbers 0 (lines_in c.args.bytes.now) in
-    record {
-      builder = c.loop-index.builder;
-      taken = subst (λ lines. AreTaken lines c.loop-index.builder) whole taken;
-      built = c.in_ok-build.ensures;
-    }
+    subst (λ lines. AreTaken lines c.loop-index.script) whole taken
 
 pub returns-in_default-clause-refused : goal.returns-in_default-clause-refused
 returns-in_default-clause-refused c =
     let split = c.split.ensures in
-    next_is_bad c.args.bytes.now c.loop-index.yielded _ (c.in-Some.index, c.in-Some.bytes) c.loop-index.builder
+    next_is_bad c.args.bytes.now c.loop-index.yielded _ (c.in-Some.index, c.in-Some.bytes) c.loop-index.script
     (lines_yielded c.args.bytes.now c.into_iter-index-iterator.ensures.into_iter_gives
     c.enumerate-index-items.ensures.source c.enumerate-index-items.ensures.count split.rest split.done split.closure
     (λ x b q k. search (rules, tests))) c.loop-index.yielded_by c.in-Some.is c.next.ensures.steps
@@ -117,10 +113,10 @@ returns-in-Err-BadCommand-clause-refused c =
     let same : map (λ word. word.now) words ≡ words_in c.in-Some.bytes.now =
     ap (map (λ word. word.now)) c.as_slice.ensures.value ∙ c.in_ok-read_words.ensures
     ∙ ap words_in c.in-Ok.ensures.cases.0 in
-    next_is_bad c.args.bytes.now c.loop-index.yielded _ (c.in-Some.index, c.in-Some.bytes) c.loop-index.builder
+    next_is_bad c.args.bytes.now c.loop-index.yielded _ (c.in-Some.index, c.in-Some.bytes) c.loop-index.script
     (lines_yielded c.args.bytes.now c.into_iter-index-iterator.ensures.into_iter_gives
     c.enumerate-index-items.ensures.source c.enumerate-index-items.ensures.count split.rest split.done split.closure
     (λ x b q k. search (rules, tests))) c.loop-index.yielded_by c.in-Some.is c.next.ensures.steps
     c.loop-index.invariant.1
     (λ new takes. c.in-Err-BadCommand.ensures.refused c.in-Err-BadCommand.field-0-is new
-    (retell takes.1 words (takes.2 ∙ sym same) c.loop-index.builder new takes.3))
+    (retell takes.1 words (takes.2 ∙ sym same) c.loop-index.script new takes.3))

@@ -2,7 +2,7 @@ use Rattle.std.proofs.Common.{subst}
 use Rattle.std.proofs.lemmas.Result.{IfErr-weaker}
 use Rattle.wasmi_grammar.specs.Lines.{AddsLine}
 use Rattle.wasmi_grammar.proofs.LinesLemmas.{refused_as}
-use Rattle.wasmi_grammar.proofs.script.ScriptBuilder.take.Goals as goal
+use Rattle.wasmi_grammar.proofs.script.Script.take.Goals as goal
 
 pub returns-in-Meter-clause-refused : goal.returns-in-Meter-clause-refused
 returns-in-Meter-clause-refused c = refused_as _ _ _ _ c.in-Meter.is c.take_meter.ensures.refused

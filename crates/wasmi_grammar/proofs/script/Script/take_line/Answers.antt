@@ -2,7 +2,7 @@ use Rattle.std.proofs.Common.{refl}
 use Rattle.std.proofs.lemmas.Result.{IfErr-weaker}
 use Rattle.wasmi_grammar.proofs.LinesLemmas.{at_places}
 use Rattle.wasmi_grammar.proofs.OneScriptLemmas.{no_words}
-use Rattle.wasmi_grammar.proofs.script.ScriptBuilder.take_line.Goals as goal
+use Rattle.wasmi_grammar.proofs.script.Script.take_line.Goals as goal
 
 pub returns-clause-refused : goal.returns-clause-refused
 returns-clause-refused c =
