@@ -3,7 +3,9 @@ use Rattle.std.proofs.Common.{ℕ, ◌≡◌, ◌∙◌, ◌++◌, List, [], ◌
 use Rattle.std.specs.Fmt.{decimal}
 use Rattle.std.proofs.Common.{codes, slice_set, refl, sym, ap, subst, arith}
 use Rattle.std.specs.Option.{option_map, option_map_or}
-use Rattle.std.proofs.lemmas.List.Elements.{All-head, All-tail}
+use Rattle.std.specs.List.{flat_map}
+use Rattle.std.proofs.lemmas.List.{map-append}
+use Rattle.std.proofs.lemmas.List.Elements.{All-nil, All-cons, All-head, All-tail}
 use Rattle.wasmi_meter.specs.declared.quota.Quota as quotas
 use Rattle.wasmi_meter.specs.Attempt.{MeteredValue}
 use Rattle.wasmi_meter.specs.Limiter.{Rules, unlimited_rules, optional_rules}
@@ -30,7 +32,6 @@ use Rattle.wasmi_script.specs.declared.error.ReplayError.TheVariants.{Parse, Too
 use Rattle.wasmi_script.specs.declared.running.Held.{Held}
 use Rattle.wasmi_script.specs.declared.running.Ran.{Ran}
 use Rattle.wasmi_script.specs.declared.running.Held.TheVariants as holding
-use Rattle.wasmi_grammar.specs.declared.script.TenantRun.{TenantRun}
 use Rattle.wasmi_grammar.specs.declared.script.Script.{Script}
 use Rattle.wasmi_grammar.specs.declared.header.Header.{Header}
 use Rattle.wasmi_grammar.specs.declared.header.LimiterLine.{LimiterLine}
@@ -41,10 +42,11 @@ use Rattle.wasmi_script.specs.Printing.{line}
 use Rattle.wasmi_script.specs.Texts.{kind_text, reply_text, error_text}
 use Rattle.wasmi_script.specs.declared.listed_limiter.AnswerList.{AnswerList}
 use Rattle.wasmi_grammar.specs.declared.header.answers.AnswerWord.{AnswerWord}
-use Rattle.wasmi_script.specs.Replays.{IsNewQuota, IsListedReplay, IsReplayUnder, IsReplayOnOne, IsOfOnePart}
-use Rattle.wasmi_script.specs.Replays.{IsReplayBy, IsReplayOf, AnswersParts, new_pool, replies_of}
-use Rattle.wasmi_grammar.specs.Lines.{first_calls}
-use Rattle.wasmi_script.specs.Outcomes.{replies_text, parts_text, held_text}
+use Rattle.wasmi_script.specs.Replays.{IsNewQuota, IsListedReplay, IsReplayUnder, IsReplayOnOne}
+use Rattle.wasmi_script.specs.Replays.{IsReplayBy, IsReplayOf, AnswersParts, new_pool}
+use Rattle.wasmi_grammar.specs.Parts.{TenantRun, parts_in, calls_in}
+use Rattle.wasmi_grammar.specs.Lines.{calls_of}
+use Rattle.wasmi_script.specs.Outcomes.{replies_text, held_text}
 use Rattle.wasmi_grammar.specs.Sayings.{CallSaid, WriteSaid, SegmentSaid, OtherCall, call_said, limiter_said, PartSaid}
 use Rattle.wasmi_grammar.specs.Sayings.{part_said}
 use Rattle.wasmi_grammar.specs.Sayings.{ScriptSaid, SayTheSame}
@@ -79,22 +81,18 @@ same_kind (Write memory offset bytes) call' (v, is, items) = ap kind_text is
 same_kind (NewSegment ty items) call' (v, is, same) = ap kind_text is
 same_kind call call' is = ap kind_text is
 
--- what the calls of the first part say
-first_said : List PartSaid → List CallSaid
-first_said [] = []
-first_said (part ∷ later) = part.calls
+-- what the calls of parts say
+calls_said : (parts : List TenantRun) → map call_said (calls_in parts) ≡ flat_map PartSaid.calls (map part_said parts)
+calls_said [] = refl
+calls_said (part ∷ parts) =
+    map-append call_said part.calls (calls_in parts) ∙ ap (λ said. map call_said part.calls ++ said) (calls_said parts)
 
--- the calls of the first part say that
-first_is : (parts : List TenantRun) → map call_said (first_calls parts) ≡ first_said (map part_said parts)
-unfolding first_said
-first_is [] = refl
-first_is (part ∷ later) = refl
-
--- scripts that say the same have first parts whose calls say the same
-first_same : (script script' : Script) → SayTheSame script script'
-    → map call_said (first_calls script.parts.items) ≡ map call_said (first_calls script'.parts.items)
-first_same script script' same =
-    first_is script.parts.items ∙ ap (λ s. first_said s.parts) same ∙ sym (first_is script'.parts.items)
+-- scripts that say the same have calls that say the same
+calls_same : (script script' : Script) → SayTheSame script script'
+    → map call_said (calls_of script) ≡ map call_said (calls_of script')
+calls_same script script' same =
+    calls_said (parts_in script.parts) ∙ ap (λ s. flat_map PartSaid.calls s.parts) same
+    ∙ sym (calls_said (parts_in script'.parts))
 
 -- and the same replies to them the same text
 reply_same : (call call' : Call) (reply : Reply) → kind_text call' ≡ kind_text call
@@ -115,19 +113,6 @@ replies_same (call ∷ calls) (call' ∷ calls') (reply ∷ replies) same =
     let later : map call_said calls ≡ map call_said calls' = cc in
     let kind = same_kind call call' (subst (λ said. Says said call') (sym here) (says call')) in
     λ i. line (sym (reply_same call call' reply kind) i) ++ replies_same calls calls' replies later i
-
--- the same lists of replies to parts that say the same have the same text
-parts_same : (parts parts' : List TenantRun) (lists : List (List Reply)) → map part_said parts ≡ map part_said parts'
-    → parts_text parts lists ≡ parts_text parts' lists
-parts_same [] [] lists same = refl
-parts_same [] (part' ∷ parts') lists same = absurd cc
-parts_same (part ∷ parts) [] lists same = absurd cc
-parts_same (part ∷ parts) (part' ∷ parts') [] same = refl
-parts_same (part ∷ parts) (part' ∷ parts') (replies ∷ lists) same =
-    let here : part_said part ≡ part_said part' = cc in
-    let later : map part_said parts ≡ map part_said parts' = cc in
-    let now = replies_same part.calls.items part'.calls.items replies (ap PartSaid.calls here) in
-    λ i. now i ++ parts_same parts parts' lists later i
 
 -- a turn by a call that says the same
 module _ {S : Type 0} (rules : Rules S) where
@@ -247,11 +232,6 @@ record SameReplies (replies replies' : List Reply) (held held' : Held) : Type 0 
   pub answers : replies ≡ replies'
   pub text : held_text held ≡ held_text held'
 
--- two runs have the same replies to each part, and what is held then has the same text
-record SameRan (ran ran' : Ran) : Type 0 where
-  pub lists : replies_of ran ≡ replies_of ran'
-  pub held : held_text ran.held ≡ held_text ran'.held
-
 -- there is no `answers` line
 abbrev HasNoAnswers : Option LimiterLine → Type 0
 HasNoAnswers (Some (Answers words)) = ⊥
@@ -306,25 +286,12 @@ under_once (Some (Answers words)) start calls calls' replies replies' held held'
 under_once (Some (Tenants asked)) start calls calls' replies replies' held held' none same replays has =
     absurd replays.0
 
--- the replies to each part tell of no want of memory, in two runs
-abbrev HaveBothLists : Ran → Ran → Type 0
-HaveBothLists ran ran' = All (All HasMemory) (replies_of ran) × All (All HasMemory) (replies_of ran')
-
--- the replies to one part have memory where those to each part do
-one_has : (lists : List (List Reply)) (replies : List Reply) → lists ≡ replies ∷ [] → All (All HasMemory) lists
-    → All HasMemory replies
-one_has lists replies is has = All-head (All HasMemory) replies [] (subst (All (All HasMemory)) is has)
-
--- two relations of replies and of what is held, which leave no choice where memory isn't wanting, leave none to runs of
--- one part
-one_once : (Replied Replied' : List Reply → Held → Type 0) (ran ran' : Ran)
-    → ((replies replies' : List Reply) → Replied replies ran.held → Replied' replies' ran'.held
-    → HaveBoth replies replies' → SameReplies replies replies' ran.held ran'.held)
-    → IsOfOnePart Replied ran → IsOfOnePart Replied' ran' → HaveBothLists ran ran' → SameRan ran ran'
-one_once Replied Replied' ran ran' once (replies, is, replay) (replies', is', replay') has =
-    let same = once replies replies' replay replay'
-    (one_has (replies_of ran) replies is has.0, one_has (replies_of ran') replies' is' has.1) in
-    record { lists = is ∙ ap (λ rs. rs ∷ []) same.answers ∙ sym is'; held = same.text }
+-- what holds of all items of two lists, one after the other, holds of those of each
+all_parted : {X : Type 0} (P : X → Type 0) (xs ys : List X) → All P (xs ++ ys) → All P xs × All P ys
+all_parted P [] ys all = (All-nil P, all)
+all_parted P (x ∷ xs) ys all =
+    let rest = all_parted P xs ys (All-tail P x (xs ++ ys) all) in
+    (All-cons P x xs (All-head P x (xs ++ ys) all) rest.0, rest.1)
 
 -- a run of a tenant whose replies tell of no want of memory
 record TenantRan (pool : PoolValue) (tenant : ℕ) (calls : List Call) : Type 0 where
@@ -358,58 +325,52 @@ module _ (once : IsDeterministic tenant_rules) where
 
   -- two runs of parts that say the same have the same replies and leave the same pool
   parts_once : (parts parts' : List TenantRun) (pool : PoolValue) → map part_said parts ≡ map part_said parts'
-      → (lists lists' : List (List Reply)) (after after' : PoolValue)
-      → All (All HasMemory) lists × All (All HasMemory) lists'
-      → AnswersParts pool parts lists after → AnswersParts pool parts' lists' after'
-      → (lists ≡ lists') × (after ≡ after')
-  parts_once [] [] pool same [] [] after after' has is is' = (refl, is ∙ sym is')
-  parts_once [] [] pool same [] (replies' ∷ lists') after after' has is none = absurd none
-  parts_once [] [] pool same (replies ∷ lists) lists' after after' has none is' = absurd none
-  parts_once [] (part' ∷ parts') pool same lists lists' after after' has ran ran' = absurd cc
-  parts_once (part ∷ parts) [] pool same lists lists' after after' has ran ran' = absurd cc
-  parts_once (part ∷ parts) (part' ∷ parts') pool same [] lists' after after' has none ran' = absurd none
-  parts_once (part ∷ parts) (part' ∷ parts') pool same (replies ∷ lists) [] after after' has ran none = absurd none
-  parts_once (part ∷ parts) (part' ∷ parts') pool same (replies ∷ lists) (replies' ∷ lists') after after' has
-      (middle, ran, later) (middle', ran', later') =
+      → (replies replies' : List Reply) (after after' : PoolValue) → HaveBoth replies replies'
+      → AnswersParts pool parts replies after → AnswersParts pool parts' replies' after'
+      → (replies ≡ replies') × (after ≡ after')
+  parts_once [] [] pool same replies replies' after after' has (none, is) (none', is') =
+      (none ∙ sym none', is ∙ sym is')
+  parts_once [] (part' ∷ parts') pool same replies replies' after after' has ran ran' = absurd cc
+  parts_once (part ∷ parts) [] pool same replies replies' after after' has ran ran' = absurd cc
+  parts_once (part ∷ parts) (part' ∷ parts') pool same replies replies' after after' has
+      (answered, later, middle, split, ran, rest) (answered', later', middle', split', ran', rest') =
       let here : part_said part ≡ part_said part' = cc in
-      let rest : map part_said parts ≡ map part_said parts' = cc in
-      let one = tenant_once pool part.tenant part.calls.items part'.calls.items (ap PartSaid.calls here)
-      (record { replies = replies; after = middle; has = All-head (All HasMemory) replies lists has.0; ran = ran })
+      let more : map part_said parts ≡ map part_said parts' = cc in
+      let parted = all_parted HasMemory answered later (subst (All HasMemory) split has.0) in
+      let parted' = all_parted HasMemory answered' later' (subst (All HasMemory) split' has.1) in
+      let one = tenant_once pool part.tenant part.calls part'.calls (ap PartSaid.calls here)
+      (record { replies = answered; after = middle; has = parted.0; ran = ran })
       (record {
-        replies = replies';
+        replies = answered';
         after = middle';
-        has = All-head (All HasMemory) replies' lists' has.1;
-        ran = subst (λ k. RunsTenant pool k part'.calls.items replies' middle') (sym (ap PartSaid.tenant here)) ran';
+        has = parted'.0;
+        ran = subst (λ k. RunsTenant pool k part'.calls answered' middle') (sym (ap PartSaid.tenant here)) ran';
       }) in
-      let more = parts_once parts parts' middle rest lists lists' after after'
-      (All-tail (All HasMemory) replies lists has.0, All-tail (All HasMemory) replies' lists' has.1) later
-      (subst (λ (p : PoolValue). AnswersParts p parts' lists' after') (sym one.1) later') in
-      ((λ i. one.0 i ∷ more.0 i), more.1)
+      let others = parts_once parts parts' middle more later later' after after' (parted.1, parted'.1) rest
+      (subst (λ (p : PoolValue). AnswersParts p parts' later' after') (sym one.1) rest') in
+      (split ∙ (λ i. one.0 i ++ others.0 i) ∙ sym split', others.1)
 
   -- replays of scripts that say the same, by the limiter line
   by_once : (limiter : Option LimiterLine) (script script' : Script) (ran ran' : Ran) → HasNoAnswers limiter
       → SayTheSame script script'
-      → IsReplayBy limiter script ran → IsReplayBy limiter script' ran' → HaveBothLists ran ran'
-      → SameRan ran ran'
+      → IsReplayBy limiter script ran → IsReplayBy limiter script' ran' → HaveBoth ran.replies.items ran'.replies.items
+      → SameReplies ran.replies.items ran'.replies.items ran.held ran'.held
   by_once limiter script script' ran ran' none same replay replay' has = by limiter none replay replay' where
     start : start_of script.header ≡ start_of script'.header
     start = starts_same script.header script'.header (ap ScriptSaid.meter same) (ap ScriptSaid.region same)
 
-    alone : (l : Option LimiterLine) → HasNoAnswers l
-        → IsReplayOnOne l script.header (first_calls script.parts.items) ran
-        → IsReplayOnOne l script'.header (first_calls script'.parts.items) ran' → SameRan ran ran'
+    alone : (l : Option LimiterLine) → HasNoAnswers l → IsReplayOnOne l script.header (calls_of script) ran
+        → IsReplayOnOne l script'.header (calls_of script') ran'
+        → SameReplies ran.replies.items ran'.replies.items ran.held ran'.held
     alone l none replay replay' =
-        one_once (IsReplayUnder l (start_of script.header) (first_calls script.parts.items))
-        (IsReplayUnder l (start_of script'.header) (first_calls script'.parts.items)) ran ran'
-        (λ replies replies' under under'. under_once l (start_of script.header) (first_calls script.parts.items)
-        (first_calls script'.parts.items) replies replies' ran.held ran'.held none (first_same script script' same) (
-          under,
-          subst (λ (s : State). IsReplayUnder l s (first_calls script'.parts.items) replies' ran'.held)
-              (sym start) under',
-        )) replay replay' has
+        under_once l (start_of script.header) (calls_of script) (calls_of script') ran.replies.items
+        ran'.replies.items ran.held ran'.held none (calls_same script script' same) (
+          replay,
+          subst (λ (s : State). IsReplayUnder l s (calls_of script') ran'.replies.items ran'.held) (sym start) replay',
+        ) has
 
     by : (l : Option LimiterLine) → HasNoAnswers l → IsReplayBy l script ran → IsReplayBy l script' ran'
-        → SameRan ran ran'
+        → SameReplies ran.replies.items ran'.replies.items ran.held ran'.held
     by None none replay replay' = alone None none replay replay'
     by (Some (Quota asked)) none replay replay' = alone (Some (Quota asked)) none replay replay'
     by (Some (Answers words)) none replay replay' = absurd none
@@ -417,10 +378,10 @@ module _ (once : IsDeterministic tenant_rules) where
         let meters : meter_of script'.header ≡ meter_of script.header =
         ap (λ (m : Option MeterLine). option_map_or meter_said m meter_off) (ap ScriptSaid.meter (sym same)) in
         let again = subst (λ m. AnswersParts (new_pool asked (new_state m))
-        script'.parts.items (replies_of ran') pool') meters answers' in
-        let one = parts_once script.parts.items script'.parts.items _ (ap ScriptSaid.parts same) (replies_of ran)
-        (replies_of ran') pool pool' has answers again in
-        record { lists = one.0; held = ap held_text (held ∙ ap holding.Tenants one.1 ∙ sym held') }
+        (parts_in script'.parts) ran'.replies.items pool') meters answers' in
+        let one = parts_once (parts_in script.parts) (parts_in script'.parts) _ (ap ScriptSaid.parts same)
+        ran.replies.items ran'.replies.items pool pool' has answers again in
+        record { answers = one.0; text = ap held_text (held ∙ ap holding.Tenants one.1 ∙ sym held') }
 
   -- limiter lines but `answers` say all that they are
   same_line : (limiter limiter' : Option LimiterLine) → HasNoAnswers limiter
@@ -440,34 +401,33 @@ module _ (once : IsDeterministic tenant_rules) where
   -- replays of scripts that say the same, where no word is `complain`
   replays_once : (script script' : Script) (ran ran' : Ran) → HasNoComplain script.header.limiter
       → SayTheSame script script'
-      → IsReplayOf script ran → IsReplayOf script' ran' → HaveBothLists ran ran'
-      → SameRan ran ran'
+      → IsReplayOf script ran → IsReplayOf script' ran' → HaveBoth ran.replies.items ran'.replies.items
+      → SameReplies ran.replies.items ran'.replies.items ran.held ran'.held
   replays_once script script' ran ran' quiet same replay replay' has =
       by script.header.limiter script'.header.limiter quiet (ap ScriptSaid.limiter same) replay replay'
     where
       other : (l l' : Option LimiterLine) → HasNoAnswers l → option_map limiter_said l ≡ option_map limiter_said l'
-          → IsReplayBy l script ran → IsReplayBy l' script' ran' → SameRan ran ran'
+          → IsReplayBy l script ran → IsReplayBy l' script' ran'
+          → SameReplies ran.replies.items ran'.replies.items ran.held ran'.held
       other l l' none said replay replay' =
           by_once l script script' ran ran' none same replay
           (subst (λ line. IsReplayBy line script' ran') (sym (same_line l l' none said)) replay') has
 
       by : (l l' : Option LimiterLine) → HasNoComplain l → option_map limiter_said l ≡ option_map limiter_said l'
-          → IsReplayBy l script ran → IsReplayBy l' script' ran' → SameRan ran ran'
+          → IsReplayBy l script ran → IsReplayBy l' script' ran'
+          → SameReplies ran.replies.items ran'.replies.items ran.held ran'.held
       by (Some (Answers words)) (Some (Answers words')) quiet said replay replay' =
           let given : words.items ≡ words'.items = cc in
           let start = starts_same script.header script'.header (ap ScriptSaid.meter same) (ap ScriptSaid.region same) in
-          let calls' = first_calls script'.parts.items in
-          one_once (IsListedReplay words.items (start_of script.header) (first_calls script.parts.items))
-          (IsListedReplay words'.items (start_of script'.header) calls') ran ran'
-          (λ replies replies' under under'. listed_once words.items (start_of script.header)
-          (first_calls script.parts.items) calls' replies replies' ran.held ran'.held quiet
-          (first_same script script' same) (
-            under,
-            subst (λ (g : List AnswerWord). IsListedReplay g (start_of script.header) calls' replies' ran'.held)
-                (sym given)
-                (subst (λ (s : State). IsListedReplay words'.items s calls' replies' ran'.held) (sym start) under'),
-          ))
-          replay replay' has
+          let calls' = calls_of script' in
+          listed_once words.items (start_of script.header) (calls_of script) calls' ran.replies.items
+          ran'.replies.items ran.held ran'.held quiet (calls_same script script' same) (
+            replay,
+            subst (λ (g : List AnswerWord).
+                IsListedReplay g (start_of script.header) calls' ran'.replies.items ran'.held) (sym given)
+                (subst (λ (s : State). IsListedReplay words'.items s calls' ran'.replies.items ran'.held) (sym start)
+                replay'),
+          ) has
       by (Some (Answers words)) None quiet said replay replay' = absurd cc
       by (Some (Answers words)) (Some (Quota asked)) quiet said replay replay' = absurd cc
       by (Some (Answers words)) (Some (Tenants asked)) quiet said replay replay' = absurd cc
@@ -482,8 +442,9 @@ module _ (once : IsDeterministic tenant_rules) where
       let ran = replays_once a.script b.script a.ran b.ran none same replay replay' (has, has') in
       record {
         text = ap (λ t. t ++ held_text a.ran.held)
-            (parts_same a.script.parts.items b.script.parts.items (replies_of a.ran) (ap ScriptSaid.parts same))
-            ∙ (λ i. parts_text b.script.parts.items (ran.lists i) ++ ran.held i);
+            (replies_same (calls_of a.script) (calls_of b.script) a.ran.replies.items
+            (calls_same a.script b.script same))
+            ∙ (λ i. replies_text (calls_of b.script) (ran.answers i) ++ ran.text i);
         status = refl;
       }
   outcomes_once bytes (Ok a) (Err (Parse (BadCommand number))) is is' decided decided' =

@@ -1,9 +1,9 @@
 -- Lines that are printed one after the other.
 use Rattle.std.proofs.Common.{ℕ, ◌+◌, ◌<◌, ◌≡◌, ◌∙◌, ◌++◌, ◌∷◌, List, [], length, take, drop, get_or, ◌≤◌, refl, sym, ap, arith, append_assoc, append-nil, take-append-drop, length-take-le, codes}
-use Rattle.std.specs.List.{flat_map, zip, enumerate_from, slice_get}
+use Rattle.std.specs.List.{flat_map, enumerate_from, slice_get}
 use Rattle.std.specs.Option.{option_map}
 use Rattle.std.specs.Fmt.{decimal}
-use Rattle.std.proofs.Common.{Option, None, Some, Vec}
+use Rattle.std.proofs.Common.{Option, None, Some}
 use Rattle.std.proofs.lemmas.List.{take_more, take_all}
 use Rattle.std.proofs.lemmas.List.Concat.{flat_map-append}
 use Rattle.std.proofs.lemmas.Option.{slice_get_within, get_or_from_slice_get}
@@ -12,12 +12,10 @@ use Rattle.wasmi_core.specs.declared.calls.Call.{Call}
 use Rattle.wasmi_core.specs.declared.calls.Reply.{Reply}
 use Rattle.wasmi_core.specs.State.{State}
 use Rattle.wasmi_core.specs.Totals.{total}
-use Rattle.wasmi_grammar.specs.declared.script.TenantRun.{TenantRun}
 use Rattle.wasmi_script.proofs.PrintingLemmas.{texts_more, texts_at}
 use Rattle.wasmi_script.specs.Printing.{line}
 use Rattle.wasmi_script.specs.Texts.{bytes_in, bytes_text, head_text, reply_text}
-use Rattle.wasmi_script.specs.Replays.{lists_of}
-use Rattle.wasmi_script.specs.Outcomes.{replies_text, parts_text, tenant_text, tenants_text}
+use Rattle.wasmi_script.specs.Outcomes.{tenant_text, tenants_text}
 
 -- numbered items, and later ones
 enumerate_append : {X : Type 0} (n : ℕ) (xs ys : List X)
@@ -141,12 +139,3 @@ pub reply_whole : (call : Call) (reply : Reply) (bytes : List ℕ) (i : ℕ) →
     → line (reply_text call reply) ≡ reply_front call reply bytes i ++ codes "\n"
 reply_whole call reply bytes i same all =
     ap (λ bs. line (head_text call reply ++ bytes_text bs)) (sym same ∙ sym (take_all i bytes all))
-
--- the lines of the parts are those of each part with the list of its replies
-pub parts_lines : {A : Type 0} (parts : List TenantRun) (lists : List (Vec Reply A))
-    → flat_map (λ turn. replies_text turn.0.calls.items turn.1.items) (zip parts lists)
-    ≡ parts_text parts (lists_of lists)
-parts_lines [] lists = refl
-parts_lines (part ∷ parts) [] = refl
-parts_lines (part ∷ parts) (replies ∷ lists) =
-    ap (λ t. replies_text part.calls.items replies.items ++ t) (parts_lines parts lists)

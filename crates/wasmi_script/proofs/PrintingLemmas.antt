@@ -10,7 +10,7 @@ use Rattle.arrayvec.specs.ArrayString.{ArrayString}
 use Rattle.std.specs.declared.option.Option.{Option}
 use Rattle.std.specs.Io.KnownBytes.{Appends}
 use Rattle.std.proofs.KnownBytes.{Appends-nil, Appends-trans}
-use Rattle.wasmi_script.specs.declared.printer.Printer.{Printer}
+use Rattle.wasmi_script.specs.declared.printing.Printer.{Printer}
 use Rattle.wasmi_script.specs.Printing.{AppendsFront, Passes, Prints, PrintsFront, PrintsOut, Sends, SendsFront}
 
 -- no text

@@ -6,7 +6,7 @@ use Rattle.wasmi_grammar.specs.declared.error.ParseError.TheVariants.{BadCommand
 use Rattle.wasmi_grammar.specs.Refusals.{IsParseError}
 use Rattle.wasmi_script.specs.declared.error.ReplayError.{ReplayError}
 use Rattle.wasmi_script.specs.declared.error.ReplayError.TheVariants.{Parse, TooLong, ReadFault}
-use Rattle.wasmi_script.specs.declared.reading.TheConstants.{LIMIT}
+use Rattle.wasmi_script.specs.declared.replaying.TheConstants.{LIMIT}
 use Rattle.wasmi_script.specs.Refusals.{IsReadError}
 use Rattle.wasmi_script.specs.Outcomes.{IsOutcomeOfReader}
 

@@ -1,5 +1,5 @@
--- Runs of one part on a new machine.
-use Rattle.std.proofs.Common.{◌≡◌, ◌∙◌, ◌∷◌, [], ℕ, List, Option, None, Result, Ok, Err, IfOk, Vec, refl, sym, ap, subst}
+-- Runs on a new machine.
+use Rattle.std.proofs.Common.{◌≡◌, ◌∙◌, ℕ, List, Option, None, Vec, refl, sym, ap, subst}
 use Rattle.std.specs.Option.{option_map}
 use Rattle.wasmi_meter.specs.declared.limiter.NoLimits.{NoLimits}
 use Rattle.wasmi_meter.specs.Limiter.{optional_rules, unlimited_rules}
@@ -11,16 +11,7 @@ use Rattle.wasmi_core.specs.World.{World}
 use Rattle.wasmi_core.specs.Runs.{IsRunOf}
 use Rattle.wasmi_grammar.specs.declared.header.Header.{Header}
 use Rattle.wasmi_grammar.specs.Headers.{meter_of, region_bytes, start_of}
-use Rattle.wasmi_script.specs.declared.running.Held.{Held}
-use Rattle.wasmi_script.specs.declared.running.Ran.{Ran}
-use Rattle.wasmi_script.specs.Replays.{IsOfOnePart, nothing_held, replies_of}
-
--- what was answered to one part
-pub of_one_part : {E : Type 0} (result : Result Ran E) (replies : List Reply) (held : Held)
-    (Replied : List Reply → Held → Type 0) → IfOk result (λ ran. replies_of ran ≡ replies ∷ [])
-    → IfOk result (λ ran. ran.held ≡ held) → Replied replies held → IfOk result (IsOfOnePart Replied)
-of_one_part (Ok ran) replies held Replied is kept replied = (replies, is, subst (Replied replies) (sym kept) replied)
-of_one_part (Err error) replies held Replied is kept replied = tt
+use Rattle.wasmi_script.specs.Replays.{nothing_held}
 
 -- a machine with the meter of these header lines and with their region is the one that a script starts with
 pub starts : {A : Type 0} (header : Header) (machine : State) (seen region : Option (Vec ℕ A))

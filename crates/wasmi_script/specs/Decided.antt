@@ -6,7 +6,6 @@ use Rattle.wasmi_grammar.specs.declared.error.ParseError.TheVariants.{OutOfMemor
 use Rattle.wasmi_grammar.specs.declared.header.LimiterLine.{LimiterLine}
 use Rattle.wasmi_grammar.specs.declared.header.LimiterLine.TheVariants.{Answers}
 use Rattle.wasmi_script.specs.ListedLimiter.{notice_answer_by}
-use Rattle.wasmi_script.specs.Replays.{replies_of}
 use Rattle.wasmi_script.specs.Outcomes.{Outcome, IsOutcomeOf, outcome_text}
 use Rattle.wasmi_script.specs.Status.{status_after}
 
@@ -18,7 +17,7 @@ HasNoComplain limiter = ⊤
 -- Memory isn't wanting and the reader doesn't fail: no reply tells of want of memory, and where no word is `complain`,
 -- no notice of it is answered by another error.
 abbrev pub IsDecided : Outcome → Type 0
-IsDecided (Ok replayed) = All (All HasMemory) (replies_of replayed.ran) × HasNoComplain replayed.script.header.limiter
+IsDecided (Ok replayed) = All HasMemory replayed.ran.replies.items × HasNoComplain replayed.script.header.limiter
 IsDecided (Err (Parse OutOfMemory)) = ⊥
 IsDecided (Err ReadFault) = ⊥
 IsDecided (Err error) = ⊤

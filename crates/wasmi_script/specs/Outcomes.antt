@@ -10,28 +10,23 @@ use Rattle.wasmi_core.specs.State.{State}
 use Rattle.wasmi_core.specs.Totals.{total}
 use Rattle.wasmi_script.specs.declared.running.Held.{Held}
 use Rattle.wasmi_script.specs.declared.running.Held.TheVariants.{Nothing, Quota, Tenants}
-use Rattle.wasmi_script.specs.declared.outcome.Replayed.{Replayed}
+use Rattle.wasmi_script.specs.declared.printing.Replayed.{Replayed}
 use Rattle.wasmi_script.specs.declared.error.ReplayError.{ReplayError}
 use Rattle.wasmi_script.specs.declared.error.ReplayError.TheVariants.{Parse, TooLong, ReadFault}
-use Rattle.wasmi_script.specs.declared.reading.TheConstants.{LIMIT}
+use Rattle.wasmi_script.specs.declared.replaying.TheConstants.{LIMIT}
 use Rattle.wasmi_script.specs.declared.replaying.Status.{Status}
 use Rattle.wasmi_script.specs.declared.replaying.Status.TheVariants.{Fault}
-use Rattle.wasmi_grammar.specs.declared.script.TenantRun.{TenantRun}
-use Rattle.wasmi_grammar.specs.Lines.{WritesScript}
+use Rattle.wasmi_grammar.specs.Lines.{WritesScript, calls_of}
 use Rattle.wasmi_grammar.specs.Refusals.{IsFirstBadLine}
 use Rattle.wasmi_grammar.specs.declared.error.ParseError.TheVariants.{BadCommand, OutOfMemory}
 use Rattle.wasmi_script.specs.Printing.{AppendsFront, line}
-use Rattle.wasmi_script.specs.Replays.{IsReplayOf, replies_of}
+use Rattle.wasmi_script.specs.Replays.{IsReplayOf}
 use Rattle.wasmi_script.specs.Status.{status_after}
 use Rattle.wasmi_script.specs.Texts.{reply_text, error_text}
 
 -- a line for each call, with its reply
 abbrev pub replies_text : List Call → List Reply → List ℕ
 replies_text calls replies = flat_map (λ turn. line (reply_text turn.0 turn.1)) (zip calls replies)
-
--- the lines of each part, with the list of its replies
-abbrev pub parts_text : List TenantRun → List (List Reply) → List ℕ
-parts_text parts lists = flat_map (λ turn. replies_text turn.0.calls.items turn.1) (zip parts lists)
 
 -- what a quota holds
 abbrev pub amounts_text : ℕ → ℕ → List ℕ
@@ -60,7 +55,7 @@ Outcome = Result Replayed ReplayError
 -- what is printed: the replies and what is held then, or why the script isn't run
 abbrev pub outcome_text : Outcome → List ℕ
 outcome_text (Ok replayed) =
-    parts_text replayed.script.parts.items (replies_of replayed.ran) ++ held_text replayed.ran.held
+    replies_text (calls_of replayed.script) replayed.ran.replies.items ++ held_text replayed.ran.held
 outcome_text (Err error) = line (error_text error)
 
 -- The outcome of the bytes of a reader: a run of the script that they write, a line that is no command, or that they

@@ -2,8 +2,8 @@
 use Rattle.std.specs.Prelude.{◌≡◌, ◌<◌, ℕ, List, ◌++◌, codes, length, IfSome}
 use Rattle.std.specs.Io.KnownBytes.{Appends}
 use Rattle.std.specs.declared.option.Option.{Option}
-use Rattle.wasmi_script.specs.declared.printer.Printer.{Printer}
-use Rattle.wasmi_script.specs.declared.printer.TheConstants.{LONGEST}
+use Rattle.wasmi_script.specs.declared.printing.Printer.{Printer}
+use Rattle.wasmi_script.specs.declared.printing.TheConstants.{LONGEST}
 
 -- a text as a line
 abbrev pub line : List ℕ → List ℕ

@@ -1,5 +1,5 @@
 -- What a replay answers.
-use Rattle.std.specs.Prelude.{◌≡◌, List, [], ◌∷◌, Option, None, Some, Vec, map, replicate}
+use Rattle.std.specs.Prelude.{◌≡◌, List, [], ◌∷◌, ◌++◌, Option, None, Some, replicate}
 use Rattle.wasmi_meter.specs.Limiter.{optional_rules, unlimited_rules}
 use Rattle.wasmi_meter.specs.declared.limiter.NoLimits.{NoLimits}
 use Rattle.wasmi_meter.specs.declared.quota.Quota.{Quota}
@@ -20,8 +20,8 @@ use Rattle.wasmi_grammar.specs.declared.script.Script.{Script}
 use Rattle.wasmi_grammar.specs.declared.header.LimiterLine.{LimiterLine}
 use Rattle.wasmi_grammar.specs.declared.header.LimiterLine.TheVariants as Lines
 use Rattle.wasmi_grammar.specs.declared.header.TenantsLine.{TenantsLine}
-use Rattle.wasmi_grammar.specs.declared.script.TenantRun.{TenantRun}
-use Rattle.wasmi_grammar.specs.Lines.{first_calls}
+use Rattle.wasmi_grammar.specs.Parts.{TenantRun, parts_in}
+use Rattle.wasmi_grammar.specs.Lines.{calls_of}
 use Rattle.wasmi_script.specs.declared.running.Held.TheVariants.{Nothing}
 use Rattle.wasmi_script.specs.declared.running.Held.TheVariants as Holding
 use Rattle.wasmi_script.specs.declared.running.Held.{Held}
@@ -40,14 +40,6 @@ pub record IsNewQuota (caps : Amounts) (quota : Quota) : Type 0 where
   pub bytes : cap_of quota Bytes ≡ caps.bytes
   pub elements : cap_of quota Elements ≡ caps.elements
   pub nothing : holdings quota ≡ nothing_held
-
--- the lists of replies, one for each part
-abbrev pub lists_of : {A : Type 0} → List (Vec Reply A) → List (List Reply)
-lists_of lists = map (λ replies. replies.items) lists
-
--- the replies to the calls of each part, in order
-abbrev pub replies_of : Ran → List (List Reply)
-replies_of ran = lists_of ran.replies.items
 
 -- The replies, with what is held, are those of a run of the calls from a machine, under a limiter that answers by these
 -- words.
@@ -70,37 +62,33 @@ IsReplayUnder (Some (Lines.Answers words)) start calls replies held =
     IsListedReplay words.items start calls replies held
 IsReplayUnder (Some (Lines.Tenants line)) start calls replies held = ⊥
 
--- there are the replies to one part alone, with what is held, as a relation has them
-abbrev pub IsOfOnePart : (List Reply → Held → Type 0) → Ran → Type 0
-IsOfOnePart Replied ran = (replies : List Reply) × (replies_of ran ≡ replies ∷ []) × Replied replies ran.held
-
 -- the replies are those of a run of the calls on a new machine with the meter and the region of these header lines
 abbrev pub IsReplayOnOne : Option LimiterLine → Header → List Call → Ran → Type 0
-IsReplayOnOne limiter header calls ran = IsOfOnePart (IsReplayUnder limiter (start_of header) calls) ran
+IsReplayOnOne limiter header calls ran = IsReplayUnder limiter (start_of header) calls ran.replies.items ran.held
 
 -- a pool of new machines, as many as a line says, under its caps
 abbrev pub new_pool : TenantsLine → State → PoolValue
 new_pool line start = record { caps = line.caps; machines = replicate line.count start }
 
--- the parts are run one after another, each in one run of its tenant, with these replies
-abbrev pub AnswersParts : PoolValue → List TenantRun → List (List Reply) → PoolValue → Type 0
-AnswersParts pool [] [] pool' = pool' ≡ pool
-AnswersParts pool [] (replies ∷ later) pool' = ⊥
-AnswersParts pool (part ∷ parts) [] pool' = ⊥
-AnswersParts pool (part ∷ parts) (replies ∷ later) pool' = (middle : PoolValue)
-    × RunsTenant pool part.tenant part.calls.items replies middle × AnswersParts middle parts later pool'
+-- The parts are run one after another, each in one run of its tenant. The replies are those to the first part, and then
+-- those to the later ones.
+abbrev pub AnswersParts : PoolValue → List TenantRun → List Reply → PoolValue → Type 0
+AnswersParts pool [] replies pool' = (replies ≡ []) × (pool' ≡ pool)
+AnswersParts pool (part ∷ parts) replies pool' =
+    (answered : List Reply) × (later : List Reply) × (middle : PoolValue) × (replies ≡ answered ++ later)
+    × RunsTenant pool part.tenant part.calls answered middle × AnswersParts middle parts later pool'
 
 -- The replies are those of the parts, one after another, on a pool of new machines with the script's meter.
 -- What is held is what the pool's machines have then.
 abbrev pub IsPoolReplay : TenantsLine → Script → Ran → Type 0
 IsPoolReplay line script ran = (pool : PoolValue) × (ran.held ≡ Holding.Tenants pool)
-    × AnswersParts (new_pool line (new_state (meter_of script.header))) script.parts.items (replies_of ran) pool
+    × AnswersParts (new_pool line (new_state (meter_of script.header))) (parts_in script.parts) ran.replies.items pool
 
 -- the replies are those of the parts on a pool, or those of a run on a new machine with the script's meter and its
 -- region
 abbrev pub IsReplayBy : Option LimiterLine → Script → Ran → Type 0
 IsReplayBy (Some (Lines.Tenants line)) script ran = IsPoolReplay line script ran
-IsReplayBy limiter script ran = IsReplayOnOne limiter script.header (first_calls script.parts.items) ran
+IsReplayBy limiter script ran = IsReplayOnOne limiter script.header (calls_of script) ran
 
 -- the replies are those of a run as the script's header lines ask for it
 abbrev pub IsReplayOf : Script → Ran → Type 0

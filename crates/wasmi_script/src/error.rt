@@ -14,7 +14,7 @@ pub enum ReplayError {
     Parse(ParseError),
     /// More bytes than a script may have.
     TooLong,
-    /// The reader answered an error.
+    /// The reader returned an error.
     ReadFault,
 }
 

@@ -23,15 +23,15 @@ pub fn quiet_lists_accept_notices()
     ensures { QuietListsAcceptNotices }
 {}
 
-/// Where memory isn't wanting, such a limiter leaves the replies no choice: two runs of one list of
+/// If no memory is refused, such a limiter leaves the replies no choice: two runs of one list of
 /// calls from one machine under it have the same replies and end alike.
 pub fn quiet_lists_decide_replies()
     ensures { QuietListsDecideReplies }
 {}
 
-/// Where memory isn't wanting and the reader doesn't fail, the bytes of the reader decide what is
+/// If no memory is refused and the reader doesn't fail, the bytes of the reader decide what is
 /// printed and how the replay ends: two outcomes of them have the same text and the same status. A
-/// word `complain` is left out: the answer to a notice hides whether memory was wanting.
+/// word `complain` is left out: the answer to a notice hides whether memory was refused.
 pub fn outcomes_are_one()
     ensures { OutcomesAreOne }
 {

@@ -4,14 +4,11 @@
 mod error;
 pub mod laws;
 mod listed_limiter;
-mod outcome;
-mod printer;
-mod reading;
+mod printing;
 mod replaying;
 mod running;
 
 pub use error::ReplayError;
-pub use outcome::ReplyHead;
-pub use reading::LIMIT;
-pub use replaying::{Status, replay};
+pub use printing::ReplyHead;
+pub use replaying::{LIMIT, Status, replay};
 pub use wasmi_grammar::ParseError;

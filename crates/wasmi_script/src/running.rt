@@ -1,10 +1,10 @@
 //! The run of a script's calls.
-ghost use Rattle.std.specs.Prelude.{◌≡◌, [], ◌∷◌, None, Some, IfOk};
+ghost use Rattle.std.specs.Prelude.{◌≡◌, None, Some, IfOk};
 ghost use Rattle.std.specs.Option.{option_map, option_copied_mut};
 ghost use Rattle.wasmi_grammar.specs.Headers.{meter_of, region_bytes, start_of};
 ghost use Rattle.wasmi_core.specs.State.{new_state};
 ghost use Rattle.wasmi_budget.specs.Pool.{RunsTenant};
-ghost use Rattle.wasmi_script.specs.Replays.{IsReplayOf, IsReplayOnOne, IsOfOnePart, IsListedReplay, IsPoolReplay, new_pool, replies_of};
+ghost use Rattle.wasmi_script.specs.Replays.{IsReplayOf, IsReplayOnOne, IsListedReplay, IsPoolReplay, new_pool};
 
 use crate::listed_limiter::AnswerList;
 use std::alloc::{AllocError, Global};
@@ -13,33 +13,16 @@ use wasmi_core::{
     Call, CustomFuelCosts, Fuel, FuelCostsProvider, Machine, NoLimits, Quota, Reply,
     ResourceLimiterRef, run, run_lending, run_reserving,
 };
-use wasmi_grammar::{
-    AnswerWord, Header, LimiterLine, MeterLine, RegionLine, Script, TenantRun, TenantsLine,
-};
+use wasmi_grammar::{AnswerWord, Header, LimiterLine, MeterLine, RegionLine, Script, TenantsLine};
 use wasmi_meter::Amounts;
 
-/// What the run of a script's calls answered.
+/// The replies of a script's run, and what is held afterwards.
 #[derive(Drop)]
 pub struct Ran {
-    /// The replies to the calls of each part, in order.
-    pub replies: Vec<Vec<Reply>>,
+    /// A reply to each call, in order.
+    pub replies: Vec<Reply>,
     /// What is held afterwards.
     pub held: Held,
-}
-
-impl Ran {
-    /// What the run of one part answered.
-    fn of_one(alloc: Global, replies: Vec<Reply>, held: Held) -> Result<Self, AllocError>
-        ensures replies { IfOk result (λ ran. replies_of ran ≡ replies.items ∷ []) }
-        ensures held { IfOk result (λ ran. ran.held ≡ held) }
-    {
-        let mut parts = Vec::new(alloc);
-        parts.push(replies)?;
-        Ok(Ran {
-            replies: parts,
-            held,
-        })
-    }
 }
 
 /// What is held after a run, as far as it is printed.
@@ -59,7 +42,7 @@ pub fn run_script(alloc: Global, script: &Script) -> Result<Ran, AllocError>
     ensures { IfOk result (IsReplayOf script.now) }
 {
     let header = &script.header;
-    let calls = script.first_calls();
+    let calls = script.parts.calls();
     match &header.limiter {
         None => run_freely(alloc, header, calls),
         Some(LimiterLine::Quota(caps)) => run_under_quota(alloc, header, calls, *caps),
@@ -116,7 +99,10 @@ fn run_freely(alloc: Global, header: &Header, calls: &[Call]) -> Result<Ran, All
     let mut machine = machine_of(alloc, header, region.as_mut());
     let mut limiter = ResourceLimiterRef::<NoLimits>::default();
     let replies = run(&mut machine, calls, &mut limiter)?;
-    Ran::of_one(alloc, replies, Held::Nothing)
+    Ok(Ran {
+        replies,
+        held: Held::Nothing,
+    })
 }
 
 /// Runs the calls on a new machine under a quota of these caps.
@@ -136,7 +122,10 @@ fn run_under_quota(
         bytes: quota.held_bytes(),
         elements: quota.held_elements(),
     };
-    Ran::of_one(alloc, replies, Held::Quota(held))
+    Ok(Ran {
+        replies,
+        held: Held::Quota(held),
+    })
 }
 
 /// Runs the calls on a new machine under a limiter that answers from a list of words.
@@ -146,14 +135,17 @@ fn run_answered(
     calls: &[Call],
     words: &[AnswerWord],
 ) -> Result<Ran, AllocError>
-    ensures { IfOk result (IsOfOnePart
-        (IsListedReplay words.now (start_of header.now) calls.now)) }
+    ensures { IfOk result (λ ran.
+        IsListedReplay words.now (start_of header.now) calls.now ran.replies.items ran.held) }
 {
     let mut region = region_of(alloc, header)?;
     let mut machine = machine_of(alloc, header, region.as_mut());
     let mut limiter = AnswerList::new(words);
     let replies = run_lending(&mut machine, calls, &mut limiter)?;
-    Ran::of_one(alloc, replies, Held::Nothing)
+    Ok(Ran {
+        replies,
+        held: Held::Nothing,
+    })
 }
 
 /// Runs the script's parts, each by its tenant, on a pool of new machines with the script's meter.
@@ -161,10 +153,12 @@ fn run_pool(alloc: Global, script: &Script, line: TenantsLine) -> Result<Ran, Al
     ensures { IfOk result (IsPoolReplay line script.now) }
 {
     let mut pool = pool_of(alloc, &script.header, line)?;
-    let mut replies = Vec::new(alloc);
-    for part in &script.parts {
-        let answered = run_part(&mut pool, part)?;
-        replies.push(answered)?;
+    let parts = &script.parts;
+    let mut replies = Vec::with_capacity(alloc, parts.calls().len())?;
+    for index in 0..parts.len() {
+        let (tenant, calls) = parts.get(index).unwrap();
+        let mut answered = run_part(&mut pool, tenant, calls)?;
+        replies.append(&mut answered)?;
     }
     Ok(Ran {
         replies,
@@ -187,11 +181,11 @@ fn pool_of(alloc: Global, header: &Header, line: TenantsLine) -> Result<Pool<'st
 }
 
 /// Runs the calls of one part.
-fn run_part(pool: &mut Pool, part: &TenantRun) -> Result<Vec<Reply>, AllocError>
+fn run_part(pool: &mut Pool, tenant: usize, calls: &[Call]) -> Result<Vec<Reply>, AllocError>
     ensures { IfOk result (λ replies.
-        RunsTenant pool.old part.now.tenant part.now.calls.items replies.items pool.new) }
+        RunsTenant pool.old tenant calls.now replies.items pool.new) }
 {
-    match pool.run(part.tenant, &part.calls) {
+    match pool.run(tenant, calls) {
         Ok(replies) => Ok(replies),
         // No script names a tenant that its pool lacks, so memory was wanting.
         Err(_) => Err(AllocError),

@@ -1,7 +1,7 @@
 use Rattle.std.proofs.Common.{◌≡◌, ◌≤◌, Err, IfSome, length, arith, rules, sym, ap, subst}
 use Rattle.wasmi_grammar.specs.declared.error.ParseError.TheVariants.{OutOfMemory}
 use Rattle.wasmi_script.specs.declared.error.ReplayError.TheVariants.{Parse}
-use Rattle.wasmi_script.specs.declared.reading.TheConstants.{LIMIT}
+use Rattle.wasmi_script.specs.declared.replaying.TheConstants.{LIMIT}
 use Rattle.wasmi_script.specs.Refusals.{IsReadError}
 use Rattle.wasmi_script.specs.Outcomes.{IsOutcomeOfReader}
 use Rattle.wasmi_script.proofs.ReadersLemmas.{told_by, wanting, unread, unparsed}

@@ -2,10 +2,8 @@ use Rattle.std.proofs.Common.{Some, refl, subst}
 use Rattle.wasmi_core.specs.World.{world}
 use Rattle.wasmi_core.specs.Runs.{IsRunOf}
 use Rattle.wasmi_meter.specs.Limiter.{optional_rules}
-use Rattle.wasmi_grammar.specs.Headers.{start_of}
 use Rattle.wasmi_script.specs.ListedLimiter.{answer_rules}
-use Rattle.wasmi_script.specs.Replays.{IsListedReplay}
-use Rattle.wasmi_script.proofs.RunningLemmas.{of_one_part, starts}
+use Rattle.wasmi_script.proofs.RunningLemmas.{starts}
 use Rattle.wasmi_script.proofs.running.run_answered.Goals as goal
 
 pub returns : goal.returns
@@ -15,7 +13,4 @@ returns c =
     let ran = subst (λ s. IsRunOf (optional_rules answer_rules) c.args.calls.now (world s (Some c.new-limiter.result))
     c.in_ok-replies.replies.items
     (world c.run_lending.new.machine (Some c.run_lending.new.limiter))) start c.in_ok-replies.ensures.run in
-    of_one_part c.of_one.result _ _
-    (IsListedReplay c.args.words.now (start_of c.args.header.now) c.args.calls.now)
-    c.of_one.ensures.replies c.of_one.ensures.held
     (refl, c.new-limiter.result, c.new-limiter.ensures, _, ran)

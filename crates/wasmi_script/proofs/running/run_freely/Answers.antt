@@ -1,18 +1,13 @@
-use Rattle.std.proofs.Common.{None, refl, ap}
+use Rattle.std.proofs.Common.{refl, ap}
 use Rattle.std.specs.Option.{option_copied_mut}
-use Rattle.wasmi_grammar.specs.Headers.{start_of}
-use Rattle.wasmi_script.specs.Replays.{IsReplayUnder}
-use Rattle.wasmi_script.proofs.RunningLemmas.{of_one_part, run_of_none, starts}
+use Rattle.wasmi_script.proofs.RunningLemmas.{run_of_none, starts}
 use Rattle.wasmi_script.proofs.running.run_freely.Goals as goal
 
 pub returns : goal.returns
 returns c =
     let start = starts c.args.header.now c.machine_of-machine.result _ _ c.machine_of-machine.ensures
-    c.as_mut.ensures.value c.in_ok-region.ensures in
-    of_one_part c.of_one.result _ _ (IsReplayUnder None (start_of c.args.header.now) c.args.calls.now)
-    c.of_one.ensures.replies c.of_one.ensures.held (
+    c.as_mut.ensures.value c.in_ok-region.ensures in (
       refl,
       _,
-      run_of_none _ _ _ _ _ _ start (ap option_copied_mut c.default-limiter.ensures)
-          c.in_ok-replies.ensures.run,
+      run_of_none _ _ _ _ _ _ start (ap option_copied_mut c.default-limiter.ensures) c.in_ok-replies.ensures.run,
     )

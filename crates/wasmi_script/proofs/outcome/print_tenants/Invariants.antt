@@ -1,8 +1,0 @@
-use Rattle.std.proofs.Common.{take}
-use Rattle.wasmi_script.specs.Outcomes.{tenants_text}
-use Rattle.wasmi_script.specs.Printing.{Prints}
-use Rattle.wasmi_script.proofs.outcome.print_tenants.Given as goal
-
-abbrev pub invariant-loop-index : goal.invariant-loop-index
-invariant-loop-index g l =
-    Prints g.W.Write.contents l.fn.printer l.printer (tenants_text (take l.index-counter l.pool.machines))

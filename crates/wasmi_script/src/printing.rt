@@ -1,0 +1,332 @@
+//! The lines that a replay prints, by its outcome, and the printer that they go through.
+ghost use Rattle.std.specs.Prelude.{◌≡◌, ◌+◌, ◌≤◌, [], length, Ok, IsOk, OnOk, OnErr, IfSome};
+ghost use Rattle.std.specs.Io.KnownBytes.{Appends};
+ghost use Rattle.wasmi_script.specs.Printing.{AppendsFront, IsShort, Prints, PrintsFront, PrintsOut, Sends, SendsFront, line};
+ghost use Rattle.wasmi_script.specs.Texts.{reply_text, bytes_in, kind_text};
+ghost use Rattle.wasmi_operands.specs.TypeWords.{reference_word};
+ghost use Rattle.wasmi_script.specs.Outcomes.{replies_text, tenants_text, held_text, outcome_text};
+
+use crate::error::ReplayError;
+use crate::running::{Held, Ran};
+use arrayvec::ArrayString;
+use std::fmt::{Display, Write};
+use std::{fmt, io};
+use wasmi_budget::Pool;
+use wasmi_core::{Call, RefType, Reply};
+use wasmi_grammar::Script;
+use wasmi_meter::Amounts;
+
+/// How many bytes wait at most before they go to the writer.
+const CHUNK: usize = 4096;
+
+/// How long a text may be that is printed at once, with a line feed.
+const LONGEST: usize = 256;
+
+/// A script and the outcome of its run.
+#[derive(Drop)]
+pub struct Replayed {
+    /// What was run.
+    pub script: Script,
+    /// The outcome.
+    pub ran: Ran,
+}
+
+/// Prints the outcome to its last byte.
+pub fn print<W: io::Write>(writer: &mut W, outcome: &Result<Replayed, ReplayError>) -> fmt::Result
+    ensures ok { OnOk result
+        (Appends (W.contents writer.old) (W.contents writer.new) (outcome_text outcome.now)) }
+    ensures front { OnErr result
+        (AppendsFront (W.contents writer.old) (W.contents writer.new) (outcome_text outcome.now)) }
+{
+    let mut printer = Printer::new(writer);
+    let printed = print_all(&mut printer, outcome);
+    // No effect at run time: the proof reads what the writer has from this use.
+    let _ = &*printer.into_writer();
+    printed
+}
+
+/// Prints the outcome and flushes the writer.
+fn print_all<W: io::Write>(
+    printer: &mut Printer<'_, W>,
+    outcome: &Result<Replayed, ReplayError>,
+) -> fmt::Result
+    ensures ok { OnOk result
+        (PrintsOut W.contents printer.old printer.new (outcome_text outcome.now)) }
+    ensures front { OnErr result
+        (PrintsFront W.contents printer.old printer.new (outcome_text outcome.now)) }
+{
+    print_outcome(printer, outcome)?;
+    printer.flush()
+}
+
+/// Prints a line for each call and what is held, or why the script isn't run.
+fn print_outcome<W: io::Write>(
+    printer: &mut Printer<'_, W>,
+    outcome: &Result<Replayed, ReplayError>,
+) -> fmt::Result
+    ensures ok { OnOk result
+        (Prints W.contents printer.old printer.new (outcome_text outcome.now)) }
+    ensures front { OnErr result
+        (PrintsFront W.contents printer.old printer.new (outcome_text outcome.now)) }
+{
+    match outcome {
+        Ok(replayed) => print_replayed(printer, replayed),
+        Err(error) => printer.print_line(format_args!("{error}")),
+    }
+}
+
+/// Prints a line for each call of a script, and what is held.
+fn print_replayed<W: io::Write>(printer: &mut Printer<'_, W>, replayed: &Replayed) -> fmt::Result
+    ensures ok { OnOk result
+        (Prints W.contents printer.old printer.new (outcome_text (Ok replayed.now))) }
+    ensures front { OnErr result
+        (PrintsFront W.contents printer.old printer.new (outcome_text (Ok replayed.now))) }
+{
+    let calls = replayed.script.parts.calls();
+    print_replies(printer, calls, &replayed.ran.replies)?;
+    print_held(printer, &replayed.ran.held)
+}
+
+/// A line for each call, with its reply.
+fn print_replies<W: io::Write>(
+    printer: &mut Printer<'_, W>,
+    calls: &[Call],
+    replies: &[Reply],
+) -> fmt::Result
+    ensures ok { OnOk result
+        (Prints W.contents printer.old printer.new (replies_text calls.now replies.now)) }
+    ensures front { OnErr result
+        (PrintsFront W.contents printer.old printer.new (replies_text calls.now replies.now)) }
+{
+    for (call, reply) in calls.iter().zip(replies) {
+        print_reply(printer, call, reply)?;
+    }
+    Ok(())
+}
+
+/// A call's reply. The numbers of bytes are printed one after the other, since they may be many.
+fn print_reply<W: io::Write>(
+    printer: &mut Printer<'_, W>,
+    call: &Call,
+    reply: &Reply,
+) -> fmt::Result
+    ensures ok { OnOk result
+        (Prints W.contents printer.old printer.new (line (reply_text call.now reply.now))) }
+    ensures front { OnErr result
+        (PrintsFront W.contents printer.old printer.new (line (reply_text call.now reply.now))) }
+{
+    printer.print(ReplyHead { call, reply })?;
+    for byte in bytes_of(reply) {
+        printer.print(format_args!(" {byte}"))?;
+    }
+    printer.print("\n")
+}
+
+/// The bytes of a reply: none unless some were read.
+fn bytes_of(reply: &Reply) -> &[u8]
+    ensures { result.now ≡ bytes_in reply.now }
+{
+    match reply {
+        Reply::Bytes(bytes) => bytes.as_slice(),
+        _ => &[],
+    }
+}
+
+/// What a quota holds, or what each tenant of a pool holds.
+fn print_held<W: io::Write>(printer: &mut Printer<'_, W>, held: &Held) -> fmt::Result
+    ensures ok { OnOk result (Prints W.contents printer.old printer.new (held_text held.now)) }
+    ensures front { OnErr result
+        (PrintsFront W.contents printer.old printer.new (held_text held.now)) }
+{
+    match held {
+        Held::Nothing => Ok(()),
+        Held::Quota(Amounts { bytes, elements }) => {
+            printer.print_line(format_args!("held {bytes} {elements}"))
+        }
+        Held::Tenants(pool) => print_tenants(printer, pool),
+    }
+}
+
+/// What each tenant of a pool holds.
+fn print_tenants<W: io::Write>(printer: &mut Printer<'_, W>, pool: &Pool) -> fmt::Result
+    ensures ok { OnOk result
+        (Prints W.contents printer.old printer.new (tenants_text pool.now.machines)) }
+    ensures front { OnErr result
+        (PrintsFront W.contents printer.old printer.new (tenants_text pool.now.machines)) }
+{
+    for index in 0..pool.len() {
+        let bytes = pool.held_bytes(index).unwrap();
+        let elements = pool.held_elements(index).unwrap();
+        printer.print_line(format_args!("held {index} {bytes} {elements}"))?;
+    }
+    Ok(())
+}
+
+/// A call's reply, as the program prints it, without the numbers that follow `bytes`.
+#[derive(Clone, Copy)]
+pub struct ReplyHead<'a> {
+    /// The call, which says what a creation has made.
+    pub call: &'a Call,
+    /// Its reply.
+    pub reply: &'a Reply,
+}
+
+impl fmt::Display for ReplyHead<'_> {
+    ghost use Rattle.std.specs.Prelude.{Some};
+    ghost use Rattle.wasmi_script.specs.Texts.{head_text};
+
+    ghost output = { λ head. Some (head_text head.call.now head.reply.now) };
+
+    fn fmt<W: fmt::Write>(&self, f: &mut fmt::Formatter<W>) -> fmt::Result {
+        match self.reply {
+            Reply::Done => write!(f, "done"),
+            Reply::Made(index) => {
+                let kind = made_word(self.call);
+                write!(f, "{kind} {index}")
+            }
+            Reply::Value(value) => write!(f, "raw {} {}", value.lo, value.hi),
+            Reply::Number(number) => write!(f, "value {number}"),
+            Reply::Bytes(_) => write!(f, "bytes"),
+            Reply::Reference(Some(reference)) => {
+                let ty = reference_word_of(reference.ty);
+                let raw = u32::from(reference.raw);
+                write!(f, "{ty} {raw}")
+            }
+            Reply::Reference(None) => write!(f, "none"),
+            Reply::Memory(error) => write!(f, "error {error}"),
+            Reply::Table(error) => write!(f, "error {error}"),
+            Reply::Fuel(error) => write!(f, "error {error}"),
+            Reply::Global(error) => write!(f, "error {error}"),
+            Reply::Segment(error) => write!(f, "error {error}"),
+            Reply::Trap(code) => write!(f, "error {code}"),
+            Reply::NoSuch => write!(f, "no such"),
+            Reply::NoRegion => write!(f, "no region"),
+            Reply::NoRoom => write!(f, "no room"),
+        }
+    }
+}
+
+/// The word for what the call makes. Only creations make anything, and `Made` answers no other
+/// call.
+fn made_word(call: &Call) -> &'static str
+    ensures { result.now ≡ kind_text call.now }
+{
+    match call {
+        Call::NewMemory(_) | Call::NewLentMemory(_) => "memory",
+        Call::NewTable { .. } => "table",
+        Call::NewSegment { .. } => "segment",
+        Call::NewGlobal { .. } => "global",
+        _ => "nothing",
+    }
+}
+
+/// The word of a reference type.
+fn reference_word_of(ty: RefType) -> &'static str
+    ensures { result.now ≡ reference_word ty }
+{
+    match ty {
+        RefType::Func => "func",
+        RefType::Extern => "extern",
+    }
+}
+
+/// Text that goes to a writer in chunks, without memory. Any error of the writer ends the printing,
+/// and so does a write that takes no byte.
+#[derive(Drop)]
+pub struct Printer<'w, W> {
+    writer: &'w mut W,
+    chunk: ArrayString<CHUNK>,
+}
+
+impl<'w, W: io::Write> Printer<'w, W> {
+    /// Text that goes to this writer.
+    pub fn new(writer: &'w mut W) -> Self
+        ensures writer { result.writer ≡ writer.entry }
+        ensures chunk { result.chunk.bytes ≡ [] }
+    {
+        Printer {
+            writer,
+            chunk: ArrayString::new(),
+        }
+    }
+
+    /// Prints a text of less than `LONGEST` bytes.
+    pub fn print<D: Display + Drop>(&mut self, text: D) -> fmt::Result
+        requires short { IsShort (D.output text) }
+        ensures ok { OnOk result
+            (IfSome (D.output text) (λ bytes. Prints W.contents self.old self.new bytes)) }
+        ensures front { OnErr result
+            (IfSome (D.output text) (λ bytes. PrintsFront W.contents self.old self.new bytes)) }
+    {
+        self.make_room()?;
+        self.chunk.write(text)
+    }
+
+    /// Prints a line of at most `LONGEST` bytes with its feed.
+    pub fn print_line<D: Display + Drop>(&mut self, text: D) -> fmt::Result
+        requires short { IsShort (D.output text) }
+        ensures ok { OnOk result
+            (IfSome (D.output text) (λ bytes. Prints W.contents self.old self.new (line bytes))) }
+        ensures front { OnErr result
+            (IfSome (D.output text)
+            (λ bytes. PrintsFront W.contents self.old self.new (line bytes))) }
+    {
+        self.make_room()?;
+        self.chunk.writeln(text)
+    }
+
+    /// Makes room for the longest text.
+    fn make_room(&mut self) -> fmt::Result
+        ensures ok { OnOk result (Prints W.contents self.old self.new []) }
+        ensures front { OnErr result (SendsFront W.contents self.old self.new) }
+        ensures room { OnOk result (length self.new.chunk.bytes + LONGEST ≤ CHUNK) }
+    {
+        if self.chunk.remaining_capacity() < LONGEST {
+            self.send()?;
+        }
+        Ok(())
+    }
+
+    /// Sends what waits to the writer, and flushes it.
+    pub fn flush(&mut self) -> fmt::Result
+        ensures ok { OnOk result (Sends W.contents self.old self.new) }
+        ensures front { OnErr result (SendsFront W.contents self.old self.new) }
+    {
+        self.send()?;
+        self.writer.flush().map_err(|_| fmt::Error)
+    }
+
+    /// The writer.
+    pub fn into_writer(self) -> &'w mut W
+        ensures { result ≡ self.entry.writer }
+    {
+        self.writer
+    }
+
+    /// Sends what waits to the writer.
+    fn send(&mut self) -> fmt::Result
+        ensures ok { OnOk result (Sends W.contents self.old self.new) }
+        ensures empty { OnOk result (self.new.chunk.bytes ≡ []) }
+        ensures front { OnErr result (SendsFront W.contents self.old self.new) }
+    {
+        send_all(self.writer, self.chunk.as_str())?;
+        self.chunk.clear();
+        Ok(())
+    }
+}
+
+/// Writes a whole text.
+fn send_all<W: io::Write>(writer: &mut W, text: &str) -> fmt::Result
+    ensures ok { IsOk result → Appends (W.contents writer.old) (W.contents writer.new) text.now }
+    ensures front { AppendsFront (W.contents writer.old) (W.contents writer.new) text.now }
+{
+    let mut rest = text.as_bytes();
+    while !rest.is_empty() {
+        match writer.write(rest) {
+            Ok(0) => return Err(fmt::Error),
+            Ok(count) => rest = &rest[count..],
+            Err(_) => return Err(fmt::Error),
+        }
+    }
+    Ok(())
+}
