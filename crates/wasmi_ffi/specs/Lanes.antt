@@ -1,79 +1,85 @@
 -- The instructions on one lane, of which the index is a number.
-use Rattle.std.specs.Prelude.{◌≡◌, ℕ, nat_lt, if◌then◌else◌, List, Option, Some, None, Result, MatchOption}
-use Rattle.wasmi_types.specs.declared.trap.TrapCode.{TrapCode}
-use Rattle.wasmi_raw.specs.Vector.{vector_of}
-use Rattle.wasmi_vector_ops.specs.LaneOps.{extracted_raw, replaced_vector}
-use Rattle.wasmi_vector_ops.specs.AccessOps.{loaded_lane, stored_lane}
-use Rattle.wasmi_ffi.specs.Words.{as_words, raw_in, vector_words, raw_words}
-use Rattle.wasmi_ffi.specs.Status.{no_lane_status}
-use Rattle.wasmi_ffi.specs.declared.words.Words.{Words}
-use Rattle.wasmi_vector_ops.specs.declared.lane.ExtractOp.{ExtractOp}
-use Rattle.wasmi_vector_ops.specs.declared.lane.ExtractOp.TheVariants as extract
-use Rattle.wasmi_ffi.specs.declared.lane.Extract.{Extract}
-use Rattle.wasmi_ffi.specs.declared.lane.Extract.TheVariants as extract_kind
-use Rattle.wasmi_vector_ops.specs.declared.lane.ReplaceOp.{ReplaceOp}
-use Rattle.wasmi_vector_ops.specs.declared.lane.ReplaceOp.TheVariants as replace
-use Rattle.wasmi_ffi.specs.declared.lane.Replace.{Replace}
-use Rattle.wasmi_ffi.specs.declared.lane.Replace.TheVariants as replace_kind
-use Rattle.wasmi_vector_ops.specs.declared.access.LoadLaneOp.{LoadLaneOp}
-use Rattle.wasmi_vector_ops.specs.declared.access.LoadLaneOp.TheVariants as load_lane
-use Rattle.wasmi_ffi.specs.declared.lane.LoadLane.{LoadLane}
-use Rattle.wasmi_ffi.specs.declared.lane.LoadLane.TheVariants as load_lane_kind
-use Rattle.wasmi_vector_ops.specs.declared.access.StoreLaneOp.{StoreLaneOp}
-use Rattle.wasmi_vector_ops.specs.declared.access.StoreLaneOp.TheVariants as store_lane
-use Rattle.wasmi_ffi.specs.declared.lane.StoreLane.{StoreLane}
-use Rattle.wasmi_ffi.specs.declared.lane.StoreLane.TheVariants as store_lane_kind
+use Rattle.std.specs.Prelude.{ℕ, List, Option, Result, Ok}
+use Rattle.std.specs.Option.{ok_or}
+use Rattle.wasmi_raw.specs.declared.raw.RawVal.{RawVal}
+use Rattle.wasmi_raw.specs.RawVal.{raw_of_vector, vector_in}
+use Rattle.wasmi_ops.specs.RawResults.{as_raw}
+use Rattle.wasmi_ops.specs.LaneKinds.{extract_op, load_lane_op, replace_op, store_lane_op}
+use Rattle.wasmi_ops.specs.LaneOps.{extracted_raw, replaced_vector}
+use Rattle.wasmi_ops.specs.VectorAccessOps.{loaded_lane, stored_lane}
+use Rattle.wasmi_ops.specs.declared.vector.access.LoadLaneOp.{LoadLaneOp}
+use Rattle.wasmi_ops.specs.declared.vector.access.StoreLaneOp.{StoreLaneOp}
+use Rattle.wasmi_ops.specs.declared.vector.lane.ExtractOp.{ExtractOp}
+use Rattle.wasmi_ops.specs.declared.vector.lane.ReplaceOp.{ReplaceOp}
+use Rattle.wasmi_ops.specs.declared.vector.lane_kind.TheConstants.{EXTRACTIONS, LANE_LOADS, LANE_STORES, REPLACEMENTS}
+use Rattle.wasmi_ffi.specs.Accesses.{memory_after}
+use Rattle.wasmi_ffi.specs.Calls.{◌>>=◌, each_of, each_of_two, op_at, or_trap}
+use Rattle.wasmi_ffi.specs.declared.refusal.Refusal.{Refusal}
+use Rattle.wasmi_ffi.specs.declared.refusal.Refusal.TheVariants.{NoLane}
 
--- the instruction on the lane of an index, where there are so many lanes
-abbrev pub on_lane : {Op : Type 0} → ℕ → ℕ → (ℕ → Op) → Option Op
-on_lane count lane op = if nat_lt lane count then Some (op lane) else None
+-- the instruction that has a number in a list of kinds, on the lane of an index
+abbrev pub op_on_lane
+    : {Name Kind Op : Type 0} → (Kind → ℕ → Option Op) → List (Name × Kind) → ℕ → ℕ → Result Op Refusal
+op_on_lane on kinds number lane = do
+  kind ← op_at kinds number
+  ok_or (on kind lane) NoLane
 
--- an extraction of the lane of an index
-abbrev pub extract_op : Extract → ℕ → Option ExtractOp
-extract_op extract_kind.I8x16ExtractLaneS lane = on_lane 16 lane (λ index. extract.I8x16ExtractLaneS index)
-extract_op extract_kind.I8x16ExtractLaneU lane = on_lane 16 lane (λ index. extract.I8x16ExtractLaneU index)
-extract_op extract_kind.I16x8ExtractLaneS lane = on_lane 8 lane (λ index. extract.I16x8ExtractLaneS index)
-extract_op extract_kind.I16x8ExtractLaneU lane = on_lane 8 lane (λ index. extract.I16x8ExtractLaneU index)
-extract_op extract_kind.I32x4ExtractLane lane = on_lane 4 lane (λ index. extract.I32x4ExtractLane index)
-extract_op extract_kind.I64x2ExtractLane lane = on_lane 2 lane (λ index. extract.I64x2ExtractLane index)
+-- the extraction that has a number, on the lane of an index
+unfoldable pub extraction_of : ℕ → ℕ → Result ExtractOp Refusal
+extraction_of number lane = op_on_lane extract_op EXTRACTIONS number lane
 
--- a replacement of the lane of an index
-abbrev pub replace_op : Replace → ℕ → Option ReplaceOp
-replace_op replace_kind.I8x16ReplaceLane lane = on_lane 16 lane (λ index. replace.I8x16ReplaceLane index)
-replace_op replace_kind.I16x8ReplaceLane lane = on_lane 8 lane (λ index. replace.I16x8ReplaceLane index)
-replace_op replace_kind.I32x4ReplaceLane lane = on_lane 4 lane (λ index. replace.I32x4ReplaceLane index)
-replace_op replace_kind.I64x2ReplaceLane lane = on_lane 2 lane (λ index. replace.I64x2ReplaceLane index)
+-- the replacement that has a number, on the lane of an index
+unfoldable pub replacement_of : ℕ → ℕ → Result ReplaceOp Refusal
+replacement_of number lane = op_on_lane replace_op REPLACEMENTS number lane
 
--- a load of the lane of an index
-abbrev pub load_lane_op : LoadLane → ℕ → Option LoadLaneOp
-load_lane_op load_lane_kind.V128Load8Lane lane = on_lane 16 lane (λ index. load_lane.V128Load8Lane index)
-load_lane_op load_lane_kind.V128Load16Lane lane = on_lane 8 lane (λ index. load_lane.V128Load16Lane index)
-load_lane_op load_lane_kind.V128Load32Lane lane = on_lane 4 lane (λ index. load_lane.V128Load32Lane index)
-load_lane_op load_lane_kind.V128Load64Lane lane = on_lane 2 lane (λ index. load_lane.V128Load64Lane index)
+-- the load of a lane that has a number, on the lane of an index
+unfoldable pub lane_load_of : ℕ → ℕ → Result LoadLaneOp Refusal
+lane_load_of number lane = op_on_lane load_lane_op LANE_LOADS number lane
 
--- a store of the lane of an index
-abbrev pub store_lane_op : StoreLane → ℕ → Option StoreLaneOp
-store_lane_op store_lane_kind.V128Store8Lane lane = on_lane 16 lane (λ index. store_lane.V128Store8Lane index)
-store_lane_op store_lane_kind.V128Store16Lane lane = on_lane 8 lane (λ index. store_lane.V128Store16Lane index)
-store_lane_op store_lane_kind.V128Store32Lane lane = on_lane 4 lane (λ index. store_lane.V128Store32Lane index)
-store_lane_op store_lane_kind.V128Store64Lane lane = on_lane 2 lane (λ index. store_lane.V128Store64Lane index)
+-- the store of a lane that has a number, on the lane of an index
+unfoldable pub lane_store_of : ℕ → ℕ → Result StoreLaneOp Refusal
+lane_store_of number lane = op_on_lane store_lane_op LANE_STORES number lane
 
--- what an extraction gives
-abbrev pub extracted_words : ExtractOp → Words → Words
-extracted_words op a = raw_words (extracted_raw op (vector_of a.lo a.hi))
+-- the value that an extraction gives
+abbrev pub extracted_value : ExtractOp → RawVal → RawVal
+extracted_value op a = extracted_raw op (vector_in a)
 
--- what a replacement gives
-unfoldable pub replaced_words : ReplaceOp → Words → Words → Words
-replaced_words op a item = vector_words (replaced_vector op (vector_of a.lo a.hi) (raw_in item))
+-- the value that a replacement gives
+unfoldable pub replaced_value : ReplaceOp → RawVal → RawVal → RawVal
+replaced_value op a item = raw_of_vector (replaced_vector op (vector_in a) item)
 
--- what a load of a lane gives, or the trap
-abbrev pub loaded_lane_words : LoadLaneOp → Words → List ℕ → ℕ → Result Words TrapCode
-loaded_lane_words op a bytes address = as_words vector_words (loaded_lane op (vector_of a.lo a.hi) bytes address)
+-- what an extraction gives by its number and its lane
+abbrev pub extract_result : ℕ → ℕ → RawVal → Result RawVal Refusal
+extract_result number lane a = do
+  op ← extraction_of number lane
+  Ok (extracted_value op a)
 
--- the bytes that a store of a lane writes
-abbrev pub stored_lane_of : StoreLaneOp → Words → List ℕ
-stored_lane_of op a = stored_lane op (vector_of a.lo a.hi)
+-- what an extraction gives by its number and its lane for each vector of an array
+abbrev pub extract_results : ℕ → ℕ → List RawVal → ℕ → Result (List RawVal) Refusal
+extract_results number lane a count = do
+  op ← extraction_of number lane
+  each_of (extracted_value op) a count
 
--- what is written is that of the instruction on a lane; where there is no such lane, nothing is
-abbrev pub OnLane : {Op V : Type 0} → Option Op → V → V → ℕ → (Op → Type 0) → Type 0
-OnLane found old new status IsDone = MatchOption found ((status ≡ no_lane_status) × (new ≡ old)) IsDone
+-- what a replacement gives by its number and its lane
+abbrev pub replace_result : ℕ → ℕ → RawVal → RawVal → Result RawVal Refusal
+replace_result number lane a item = do
+  op ← replacement_of number lane
+  Ok (replaced_value op a item)
+
+-- what a replacement gives by its number and its lane for each vector of an array and the item at its index
+abbrev pub replace_results : ℕ → ℕ → List RawVal → List RawVal → ℕ → Result (List RawVal) Refusal
+replace_results number lane a items count = do
+  op ← replacement_of number lane
+  each_of_two (replaced_value op) a items count
+
+-- what a load of a lane gives by its number and its lane
+abbrev pub load_lane_result : ℕ → ℕ → List ℕ → ℕ → RawVal → Result RawVal Refusal
+load_lane_result number lane memory address a = do
+  op ← lane_load_of number lane
+  or_trap (as_raw raw_of_vector (loaded_lane op (vector_in a) memory address))
+
+-- the memory after a store of a lane by its number and its lane
+abbrev pub store_lane_result : ℕ → ℕ → List ℕ → ℕ → RawVal → Result (List ℕ) Refusal
+store_lane_result number lane memory address a = do
+  op ← lane_store_of number lane
+  memory_after memory address (stored_lane op (vector_in a))

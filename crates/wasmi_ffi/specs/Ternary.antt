@@ -1,18 +1,30 @@
--- The instructions of three vectors, on their words.
-use Rattle.std.specs.Prelude.{ℕ, Option}
-use Rattle.std.specs.List.{slice_get}
-use Rattle.wasmi_raw.specs.Vector.{vector_of}
-use Rattle.wasmi_vector_ops.specs.TernaryOps.{ternary_vector}
-use Rattle.wasmi_vector_ops.specs.declared.ternary.TernaryOp.{TernaryOp}
-use Rattle.wasmi_ffi.specs.Words.{vector_words}
-use Rattle.wasmi_ffi.specs.declared.words.Words.{Words}
-use Rattle.wasmi_ffi.specs.declared.ternary.TheConstants.{TERNARIES}
+-- The instructions of three vectors.
+use Rattle.std.specs.Prelude.{ℕ, List, Result, Ok}
+use Rattle.wasmi_raw.specs.declared.raw.RawVal.{RawVal}
+use Rattle.wasmi_raw.specs.RawVal.{raw_of_vector, vector_in}
+use Rattle.wasmi_ops.specs.TernaryOps.{ternary_vector}
+use Rattle.wasmi_ops.specs.declared.vector.ternary.TernaryOp.{TernaryOp}
+use Rattle.wasmi_ffi.specs.Calls.{◌>>=◌, each_of_three, op_at}
+use Rattle.wasmi_ffi.specs.declared.refusal.Refusal.{Refusal}
+use Rattle.wasmi_ops.specs.declared.vector.ternary.TheConstants.{TERNARIES}
 
--- what an instruction of three vectors gives
-abbrev pub ternary_words : TernaryOp → Words → Words → Words → Words
-ternary_words op a b c =
-    vector_words (ternary_vector op (vector_of a.lo a.hi) (vector_of b.lo b.hi) (vector_of c.lo c.hi))
+-- the value that an instruction of three vectors gives
+abbrev pub ternary_value : TernaryOp → RawVal → RawVal → RawVal → RawVal
+ternary_value op a b c = raw_of_vector (ternary_vector op (vector_in a) (vector_in b) (vector_in c))
 
--- the instruction of three vectors that has a number, if there is one
-unfoldable pub ternary_of : ℕ → Option TernaryOp
-ternary_of number = slice_get TERNARIES number
+-- the instruction of three vectors that has a number: its place in their list
+unfoldable pub ternary_of : ℕ → Result TernaryOp Refusal
+ternary_of number = op_at TERNARIES number
+
+-- what an instruction of three vectors gives by its number
+abbrev pub ternary_result : ℕ → RawVal → RawVal → RawVal → Result RawVal Refusal
+ternary_result number a b c = do
+  op ← ternary_of number
+  Ok (ternary_value op a b c)
+
+-- what an instruction of three vectors gives by its number for the elements of three arrays at each index
+abbrev pub ternary_results
+    : ℕ → List RawVal → List RawVal → List RawVal → ℕ → Result (List RawVal) Refusal
+ternary_results number a b c count = do
+  op ← ternary_of number
+  each_of_three (ternary_value op) a b c count

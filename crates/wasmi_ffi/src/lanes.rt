@@ -1,79 +1,76 @@
 //! Calls of the instructions on one lane.
 ghost use Rattle.std.specs.Prelude.{◌≡◌, ◌+◌, length};
-ghost use Rattle.std.specs.List.{slice_get};
-ghost use Rattle.wasmi_ffi.specs.Words.{IsEach, IsEachOfTwo, OfInstruction, WhereLengths, Writes};
-ghost use Rattle.wasmi_ffi.specs.Accesses.{IsStored};
-ghost use Rattle.wasmi_ffi.specs.Lanes.{extract_op, replace_op, load_lane_op, store_lane_op, OnLane, extracted_words, loaded_lane_words, replaced_words, stored_lane_of};
-ghost use Rattle.wasmi_ffi.specs.declared.lanes.TheConstants.{EXTRACTS, LOAD_LANES, REPLACES, STORE_LANES};
-ghost use Rattle.wasmi_ffi.specs.Status.{done_status};
+ghost use Rattle.wasmi_ffi.specs.Calls.{Leaves, each_of, each_of_two};
+ghost use Rattle.wasmi_ffi.specs.Lanes.{extract_result, extract_results, extracted_value, extraction_of, lane_load_of, lane_store_of, load_lane_result, replace_result, replace_results, replaced_value, replacement_of, store_lane_result};
 
-use crate::lane::{Extract, LoadLane, Replace, StoreLane};
-use crate::status::{DONE, LENGTHS_DIFFER, NO_LANE, UNKNOWN};
-use crate::words::Words;
-use wasmi_vector_ops::{ExtractOp, ReplaceOp};
+use crate::list::op_at;
+use crate::refusal::{DONE, Refusal};
+use crate::result::leave;
+use wasmi_ops::{
+    EXTRACTIONS, ExtractOp, LANE_LOADS, LANE_STORES, LoadLaneOp, REPLACEMENTS, ReplaceOp,
+    StoreLaneOp,
+};
+use wasmi_raw::RawVal;
 
-/// The extractions of a lane, by number.
-pub const EXTRACTS: [Extract; 6] = [
-    Extract::I8x16ExtractLaneS,
-    Extract::I8x16ExtractLaneU,
-    Extract::I16x8ExtractLaneS,
-    Extract::I16x8ExtractLaneU,
-    Extract::I32x4ExtractLane,
-    Extract::I64x2ExtractLane,
-];
-
-/// The replacements of a lane, by number.
-pub const REPLACES: [Replace; 4] = [
-    Replace::I8x16ReplaceLane,
-    Replace::I16x8ReplaceLane,
-    Replace::I32x4ReplaceLane,
-    Replace::I64x2ReplaceLane,
-];
-
-/// The loads of a lane, by number.
-pub const LOAD_LANES: [LoadLane; 4] = [
-    LoadLane::V128Load8Lane,
-    LoadLane::V128Load16Lane,
-    LoadLane::V128Load32Lane,
-    LoadLane::V128Load64Lane,
-];
-
-/// The stores of a lane, by number.
-pub const STORE_LANES: [StoreLane; 4] = [
-    StoreLane::V128Store8Lane,
-    StoreLane::V128Store16Lane,
-    StoreLane::V128Store32Lane,
-    StoreLane::V128Store64Lane,
-];
-
-fn extracted(op: &ExtractOp, a: Words) -> Words
-    ensures { result ≡ extracted_words op.now a }
+/// The extraction of a number, on the lane of an index.
+#[tactic(auto, unfolding(crate::specs::Lanes::extraction_of, crate::specs::Calls::op_at))]
+fn extraction(number: u16, lane: u8) -> Result<ExtractOp, Refusal>
+    ensures { result ≡ extraction_of number lane }
 {
-    Words::of_raw(op.apply(a.vector()))
+    op_at(&EXTRACTIONS, number)?.on(lane).ok_or(Refusal::NoLane)
 }
 
-#[tactic(auto, unfolding(crate::specs::Lanes::replaced_words))]
-fn replaced(op: &ReplaceOp, a: Words, item: Words) -> Words
-    ensures { result ≡ replaced_words op.now a item }
+/// The replacement of a number, on the lane of an index.
+#[tactic(auto, unfolding(crate::specs::Lanes::replacement_of, crate::specs::Calls::op_at))]
+fn replacement(number: u16, lane: u8) -> Result<ReplaceOp, Refusal>
+    ensures { result ≡ replacement_of number lane }
 {
-    Words::of_vector(op.apply(a.vector(), item.raw()))
+    op_at(&REPLACEMENTS, number)?
+        .on(lane)
+        .ok_or(Refusal::NoLane)
+}
+
+/// The load of a lane that has a number, on the lane of an index.
+#[tactic(auto, unfolding(crate::specs::Lanes::lane_load_of, crate::specs::Calls::op_at))]
+fn lane_load(number: u16, lane: u8) -> Result<LoadLaneOp, Refusal>
+    ensures { result ≡ lane_load_of number lane }
+{
+    op_at(&LANE_LOADS, number)?.on(lane).ok_or(Refusal::NoLane)
+}
+
+/// The store of a lane that has a number, on the lane of an index.
+#[tactic(auto, unfolding(crate::specs::Lanes::lane_store_of, crate::specs::Calls::op_at))]
+fn lane_store(number: u16, lane: u8) -> Result<StoreLaneOp, Refusal>
+    ensures { result ≡ lane_store_of number lane }
+{
+    op_at(&LANE_STORES, number)?.on(lane).ok_or(Refusal::NoLane)
+}
+
+fn extracted(op: &ExtractOp, a: RawVal) -> RawVal
+    ensures { result ≡ extracted_value op.now a }
+{
+    op.apply(a.into())
+}
+
+#[tactic(auto, unfolding(crate::specs::Lanes::replaced_value))]
+fn replaced(op: &ReplaceOp, a: RawVal, item: RawVal) -> RawVal
+    ensures { result ≡ replaced_value op.now a item }
+{
+    op.apply(a.into(), item).into()
+}
+
+fn extract_result(number: u16, lane: u8, a: RawVal) -> Result<RawVal, Refusal>
+    ensures { result ≡ extract_result number lane a }
+{
+    Ok(extracted(&extraction(number, lane)?, a))
 }
 
 /// A lane that is taken from a vector.
 #[unsafe(no_mangle)]
-pub extern "C" fn wasmi_extract_lane(number: u16, lane: u8, a: Words, value: &mut Words) -> u8
-    ensures { OfInstruction (slice_get EXTRACTS number) value.old value.new result
-        (λ kind. OnLane (extract_op kind lane) value.old value.new result
-        (λ op. (result ≡ done_status) × (value.new ≡ extracted_words op a))) }
+pub extern "C" fn wasmi_extract_lane(number: u16, lane: u8, a: RawVal, value: &mut RawVal) -> u8
+    ensures { Leaves (extract_result number lane a) value.old value.new result }
 {
-    let Some(kind) = EXTRACTS.get(usize::from(number)) else {
-        return UNKNOWN;
-    };
-    let Some(op) = kind.on(lane) else {
-        return NO_LANE;
-    };
-    *value = extracted(&op, a);
-    DONE
+    leave(extract_result(number, lane, a), value)
 }
 
 /// A lane that is taken from each vector of an array.
@@ -81,29 +78,25 @@ pub extern "C" fn wasmi_extract_lane(number: u16, lane: u8, a: Words, value: &mu
 pub extern "C" fn wasmi_extract_lane_each(
     number: u16,
     lane: u8,
-    a: &[Words],
-    values: &mut [Words],
+    a: &[RawVal],
+    values: &mut [RawVal],
 ) -> u8
-    ensures { OfInstruction (slice_get EXTRACTS number) values.old values.new result
-        (λ kind. OnLane (extract_op kind lane) values.old values.new result
-        (λ op. WhereLengths (length values.old ≡ length a.now) values.old values.new result
-        (IsEach (extracted_words op) a.now values.new))) }
+    ensures { Leaves (extract_results number lane a.now (length values.old))
+        values.old values.new result }
 {
-    let Some(kind) = EXTRACTS.get(usize::from(number)) else {
-        return UNKNOWN;
-    };
-    let Some(op) = kind.on(lane) else {
-        return NO_LANE;
-    };
-    extract_each(&op, a, values)
+    match extraction(number, lane) {
+        Ok(op) => extract_each(&op, a, values),
+        Err(refusal) => refusal.into(),
+    }
 }
 
-fn extract_each(op: &ExtractOp, a: &[Words], values: &mut [Words]) -> u8
-    ensures { WhereLengths (length values.old ≡ length a.now) values.old values.new result
-        (IsEach (extracted_words op.now) a.now values.new) }
+#[tactic(auto, using(crate::proofs::CallsLemmas::arrays))]
+fn extract_each(op: &ExtractOp, a: &[RawVal], values: &mut [RawVal]) -> u8
+    ensures { Leaves (each_of (extracted_value op.now) a.now (length values.old))
+        values.old values.new result }
 {
     if values.len() != a.len() {
-        return LENGTHS_DIFFER;
+        return Refusal::LengthsDiffer.into();
     }
     for i in 0..a.len() {
         values[i] = extracted(op, a[i]);
@@ -111,27 +104,24 @@ fn extract_each(op: &ExtractOp, a: &[Words], values: &mut [Words]) -> u8
     DONE
 }
 
+fn replace_result(number: u16, lane: u8, a: RawVal, item: RawVal) -> Result<RawVal, Refusal>
+    ensures { result ≡ replace_result number lane a item }
+{
+    Ok(replaced(&replacement(number, lane)?, a, item))
+}
+
 /// A vector with an item in a lane.
 #[unsafe(no_mangle)]
 pub extern "C" fn wasmi_replace_lane(
     number: u16,
     lane: u8,
-    a: Words,
-    item: Words,
-    value: &mut Words,
+    a: RawVal,
+    item: RawVal,
+    value: &mut RawVal,
 ) -> u8
-    ensures { OfInstruction (slice_get REPLACES number) value.old value.new result
-        (λ kind. OnLane (replace_op kind lane) value.old value.new result
-        (λ op. (result ≡ done_status) × (value.new ≡ replaced_words op a item))) }
+    ensures { Leaves (replace_result number lane a item) value.old value.new result }
 {
-    let Some(kind) = REPLACES.get(usize::from(number)) else {
-        return UNKNOWN;
-    };
-    let Some(op) = kind.on(lane) else {
-        return NO_LANE;
-    };
-    *value = replaced(&op, a, item);
-    DONE
+    leave(replace_result(number, lane, a, item), value)
 }
 
 /// Each vector of an array with the item of another array in a lane.
@@ -139,37 +129,45 @@ pub extern "C" fn wasmi_replace_lane(
 pub extern "C" fn wasmi_replace_lane_each(
     number: u16,
     lane: u8,
-    a: &[Words],
-    items: &[Words],
-    values: &mut [Words],
+    a: &[RawVal],
+    items: &[RawVal],
+    values: &mut [RawVal],
 ) -> u8
-    ensures { OfInstruction (slice_get REPLACES number) values.old values.new result
-        (λ kind. OnLane (replace_op kind lane) values.old values.new result
-        (λ op. WhereLengths ((length items.now ≡ length a.now) × (length values.old ≡ length a.now))
-        values.old values.new result
-        (IsEachOfTwo (replaced_words op) a.now items.now values.new))) }
+    ensures { Leaves (replace_results number lane a.now items.now (length values.old))
+        values.old values.new result }
 {
-    let Some(kind) = REPLACES.get(usize::from(number)) else {
-        return UNKNOWN;
-    };
-    let Some(op) = kind.on(lane) else {
-        return NO_LANE;
-    };
-    replace_each(&op, a, items, values)
+    match replacement(number, lane) {
+        Ok(op) => replace_each(&op, a, items, values),
+        Err(refusal) => refusal.into(),
+    }
 }
 
-fn replace_each(op: &ReplaceOp, a: &[Words], items: &[Words], values: &mut [Words]) -> u8
-    ensures { WhereLengths ((length items.now ≡ length a.now) × (length values.old ≡ length a.now))
-        values.old values.new result
-        (IsEachOfTwo (replaced_words op.now) a.now items.now values.new) }
+#[tactic(auto, using(crate::proofs::CallsLemmas::arrays))]
+fn replace_each(op: &ReplaceOp, a: &[RawVal], items: &[RawVal], values: &mut [RawVal]) -> u8
+    ensures { Leaves (each_of_two (replaced_value op.now) a.now items.now (length values.old))
+        values.old values.new result }
 {
     if items.len() != a.len() || values.len() != a.len() {
-        return LENGTHS_DIFFER;
+        return Refusal::LengthsDiffer.into();
     }
     for i in 0..a.len() {
         values[i] = replaced(op, a[i], items[i]);
     }
     DONE
+}
+
+fn load_lane_result(
+    number: u16,
+    lane: u8,
+    memory: &[u8],
+    ptr: u64,
+    offset: u64,
+    a: RawVal,
+) -> Result<RawVal, Refusal>
+    ensures { result ≡ load_lane_result number lane memory.now (ptr + offset) a }
+{
+    let op = lane_load(number, lane)?;
+    Ok(op.load(memory, ptr, offset, a.into())?.into())
 }
 
 /// A vector with a lane that is loaded from `ptr + offset`.
@@ -180,27 +178,16 @@ pub extern "C" fn wasmi_load_lane(
     memory: &[u8],
     ptr: u64,
     offset: u64,
-    a: Words,
-    value: &mut Words,
+    a: RawVal,
+    value: &mut RawVal,
 ) -> u8
-    ensures { OfInstruction (slice_get LOAD_LANES number) value.old value.new result
-        (λ kind. OnLane (load_lane_op kind lane) value.old value.new result
-        (λ op. Writes
-        (loaded_lane_words op a memory.now (ptr + offset)) value.old value.new result)) }
+    ensures { Leaves (load_lane_result number lane memory.now (ptr + offset) a)
+        value.old value.new result }
 {
-    let Some(kind) = LOAD_LANES.get(usize::from(number)) else {
-        return UNKNOWN;
-    };
-    let Some(op) = kind.on(lane) else {
-        return NO_LANE;
-    };
-    match op.load(memory, ptr, offset, a.vector()) {
-        Ok(vector) => {
-            *value = Words::of_vector(vector);
-            DONE
-        }
-        Err(trap) => u8::from(trap),
-    }
+    leave(
+        load_lane_result(number, lane, memory, ptr, offset, a),
+        value,
+    )
 }
 
 /// A store of a lane at `ptr + offset`.
@@ -211,20 +198,16 @@ pub extern "C" fn wasmi_store_lane(
     memory: &mut [u8],
     ptr: u64,
     offset: u64,
-    a: Words,
+    a: RawVal,
 ) -> u8
-    ensures { OfInstruction (slice_get STORE_LANES number) memory.old memory.new result
-        (λ kind. OnLane (store_lane_op kind lane) memory.old memory.new result
-        (λ op. IsStored memory.old (ptr + offset) (stored_lane_of op a) memory.new result)) }
+    ensures { Leaves (store_lane_result number lane memory.old (ptr + offset) a)
+        memory.old memory.new result }
 {
-    let Some(kind) = STORE_LANES.get(usize::from(number)) else {
-        return UNKNOWN;
-    };
-    let Some(op) = kind.on(lane) else {
-        return NO_LANE;
-    };
-    match op.store(memory, ptr, offset, a.vector()) {
-        Ok(()) => DONE,
-        Err(trap) => u8::from(trap),
+    match lane_store(number, lane) {
+        Ok(op) => match op.store(memory, ptr, offset, a.into()) {
+            Ok(()) => DONE,
+            Err(trap) => u8::from(trap),
+        },
+        Err(refusal) => refusal.into(),
     }
 }

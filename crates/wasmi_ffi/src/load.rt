@@ -1,14 +1,15 @@
 //! The loads.
 ghost use Rattle.std.specs.Prelude.{◌≡◌, ◌+◌, length};
-ghost use Rattle.wasmi_ffi.specs.Words.{result_of, IsEach, OfInstruction, WhereLengths, Writes};
-ghost use Rattle.wasmi_ffi.specs.Accesses.{load_of, loaded_words};
+ghost use Rattle.wasmi_ffi.specs.Accesses.{load_of, load_result, load_results, loaded_value};
+ghost use Rattle.wasmi_ffi.specs.Calls.{Leaves, each_of};
+ghost use Rattle.wasmi_ffi.specs.Results.{result_of};
 
-use crate::status::{DONE, LENGTHS_DIFFER, UNKNOWN};
-use crate::table::at;
-use crate::words::{InstructionResult, Words};
-use wasmi_scalar_ops::LoadOp;
+use crate::list::op_at;
+use crate::refusal::{DONE, Refusal};
+use crate::result::{InstructionResult, leave};
+use wasmi_ops::{LOADS, LoadOp, VECTOR_LOADS, VectorLoadOp};
+use wasmi_raw::RawVal;
 use wasmi_types::TrapCode;
-use wasmi_vector_ops::VectorLoadOp;
 
 /// A load.
 #[derive(Clone, Copy)]
@@ -20,79 +21,48 @@ pub enum Load {
 }
 
 impl Load {
-    fn load(self, memory: &[u8], ptr: u64, offset: u64) -> Result<Words, TrapCode>
-        ensures { result ≡ loaded_words self memory.now (ptr + offset) }
+    fn load(self, memory: &[u8], ptr: u64, offset: u64) -> Result<RawVal, TrapCode>
+        ensures { result ≡ loaded_value self memory.now (ptr + offset) }
     {
-        Ok(match self {
-            Load::Scalar(op) => Words::of_raw(op.load(memory, ptr, offset)?),
-            Load::Vector(op) => Words::of_vector(op.load(memory, ptr, offset)?),
-        })
+        match self {
+            Load::Scalar(op) => op.load(memory, ptr, offset),
+            Load::Vector(op) => Ok(op.load(memory, ptr, offset)?.into()),
+        }
     }
 }
 
-/// The loads, by number.
-pub const LOADS: [Load; 25] = [
-    Load::Scalar(LoadOp::I32Load8S),
-    Load::Scalar(LoadOp::I32Load8U),
-    Load::Scalar(LoadOp::I32Load16S),
-    Load::Scalar(LoadOp::I32Load16U),
-    Load::Scalar(LoadOp::I64Load8S),
-    Load::Scalar(LoadOp::I64Load8U),
-    Load::Scalar(LoadOp::I64Load16S),
-    Load::Scalar(LoadOp::I64Load16U),
-    Load::Scalar(LoadOp::I64Load32S),
-    Load::Scalar(LoadOp::I64Load32U),
-    Load::Scalar(LoadOp::LoadU32),
-    Load::Scalar(LoadOp::LoadU64),
-    Load::Vector(VectorLoadOp::V128Load),
-    Load::Vector(VectorLoadOp::V128Load8x8S),
-    Load::Vector(VectorLoadOp::V128Load8x8U),
-    Load::Vector(VectorLoadOp::V128Load16x4S),
-    Load::Vector(VectorLoadOp::V128Load16x4U),
-    Load::Vector(VectorLoadOp::V128Load32x2S),
-    Load::Vector(VectorLoadOp::V128Load32x2U),
-    Load::Vector(VectorLoadOp::V128Load8Splat),
-    Load::Vector(VectorLoadOp::V128Load16Splat),
-    Load::Vector(VectorLoadOp::V128Load32Splat),
-    Load::Vector(VectorLoadOp::V128Load64Splat),
-    Load::Vector(VectorLoadOp::V128Load32Zero),
-    Load::Vector(VectorLoadOp::V128Load64Zero),
-];
-
 /// The instruction of a number.
-fn instruction(number: u16) -> Option<Load>
+#[tactic(auto, unfolding(crate::specs::Accesses::load_of, crate::specs::Calls::op_at))]
+fn instruction(number: u16) -> Result<Load, Refusal>
     ensures { result ≡ load_of number }
 {
-    at(&LOADS, number)
+    Ok(match number {
+        0..=11 => Load::Scalar(op_at(&LOADS, number)?),
+        _ => Load::Vector(op_at(&VECTOR_LOADS, number - 12)?),
+    })
+}
+
+fn load_result(number: u16, memory: &[u8], ptr: u64, offset: u64) -> Result<RawVal, Refusal>
+    ensures { result ≡ load_result number memory.now (ptr + offset) }
+{
+    Ok(instruction(number)?.load(memory, ptr, offset)?)
 }
 
 /// A load from `ptr + offset` by its number.
-#[tactic(auto, using(crate::proofs::CallsLemmas::of_found))]
 #[unsafe(no_mangle)]
 pub extern "C" fn wasmi_load(
     number: u16,
     memory: &[u8],
     ptr: u64,
     offset: u64,
-    value: &mut Words,
+    value: &mut RawVal,
 ) -> u8
-    ensures { OfInstruction (load_of number) value.old value.new result
-        (λ op. Writes (loaded_words op memory.now (ptr + offset)) value.old value.new result) }
+    ensures { Leaves (load_result number memory.now (ptr + offset)) value.old value.new result }
 {
-    match instruction(number) {
-        Some(op) => match op.load(memory, ptr, offset) {
-            Ok(given) => {
-                *value = given;
-                DONE
-            }
-            Err(trap) => u8::from(trap),
-        },
-        None => UNKNOWN,
-    }
+    leave(load_result(number, memory, ptr, offset), value)
 }
 
 /// A load from each pointer of an array and the offset.
-#[tactic(auto, using(crate::proofs::CallsLemmas::of_found))]
 #[unsafe(no_mangle)]
 pub extern "C" fn wasmi_load_each(
     number: u16,
@@ -101,24 +71,23 @@ pub extern "C" fn wasmi_load_each(
     offset: u64,
     results: &mut [InstructionResult],
 ) -> u8
-    ensures { OfInstruction (load_of number) results.old results.new result
-        (λ op. WhereLengths (length results.old ≡ length ptrs.now) results.old results.new result
-        (IsEach (λ ptr. result_of (loaded_words op memory.now (ptr + offset))) ptrs.now
-        results.new)) }
+    ensures { Leaves (load_results number memory.now ptrs.now offset (length results.old))
+        results.old results.new result }
 {
     match instruction(number) {
-        Some(op) => each(op, memory, ptrs, offset, results),
-        None => UNKNOWN,
+        Ok(op) => each(op, memory, ptrs, offset, results),
+        Err(refusal) => refusal.into(),
     }
 }
 
+#[tactic(auto, using(crate::proofs::CallsLemmas::arrays))]
 fn each(op: Load, memory: &[u8], ptrs: &[u64], offset: u64, results: &mut [InstructionResult]) -> u8
-    ensures { WhereLengths (length results.old ≡ length ptrs.now) results.old results.new result
-        (IsEach (λ ptr. result_of (loaded_words op memory.now (ptr + offset))) ptrs.now
-        results.new) }
+    ensures { Leaves
+        (each_of (λ ptr. result_of (loaded_value op memory.now (ptr + offset))) ptrs.now
+        (length results.old)) results.old results.new result }
 {
     if results.len() != ptrs.len() {
-        return LENGTHS_DIFFER;
+        return Refusal::LengthsDiffer.into();
     }
     for i in 0..ptrs.len() {
         results[i] = InstructionResult::of(op.load(memory, ptrs[i], offset));

@@ -3,9 +3,12 @@ ghost use Rattle.std.specs.Prelude.{◌≡◌, [], Some};
 ghost use Rattle.wasmi_script.specs.Outcomes.{Replays};
 ghost use Rattle.wasmi_ffi.specs.Scripts.{AnswersScript};
 
-use crate::status::TEXT_TOO_SHORT;
 use std::alloc::Global;
 use wasmi_script::{Status, replay};
+
+/// The text is longer than the caller's bytes: then nothing is written to them. Below it are the
+/// statuses of the program.
+const TEXT_TOO_SHORT: u8 = 5;
 
 /// Runs a script, and writes what it prints to the front of `text`. `needed` is set to the length
 /// of that, in bytes.

@@ -1,81 +1,73 @@
 //! The instructions of three vectors.
 ghost use Rattle.std.specs.Prelude.{◌≡◌, length};
-ghost use Rattle.wasmi_ffi.specs.Words.{IsEachOfThree, OfInstruction, WhereLengths};
-ghost use Rattle.wasmi_ffi.specs.Ternary.{ternary_of, ternary_words};
-ghost use Rattle.wasmi_ffi.specs.Status.{done_status};
+ghost use Rattle.wasmi_ffi.specs.Calls.{Leaves, each_of_three};
+ghost use Rattle.wasmi_ffi.specs.Ternary.{ternary_of, ternary_result, ternary_results, ternary_value};
 
-use crate::status::{DONE, LENGTHS_DIFFER, UNKNOWN};
-use crate::table::at;
-use crate::words::Words;
-use wasmi_vector_ops::TernaryOp;
+use crate::list::op_at;
+use crate::refusal::{DONE, Refusal};
+use crate::result::leave;
+use wasmi_ops::{TERNARIES, TernaryOp};
+use wasmi_raw::RawVal;
 
-/// The instructions of three vectors, by number.
-pub const TERNARIES: [TernaryOp; 6] = [
-    TernaryOp::V128Bitselect,
-    TernaryOp::I8x16RelaxedLaneselect,
-    TernaryOp::I16x8RelaxedLaneselect,
-    TernaryOp::I32x4RelaxedLaneselect,
-    TernaryOp::I64x2RelaxedLaneselect,
-    TernaryOp::I32x4RelaxedDotI8x16I7x16AddS,
-];
-
-fn apply(op: TernaryOp, a: Words, b: Words, c: Words) -> Words
-    ensures { result ≡ ternary_words op a b c }
+fn apply(op: TernaryOp, a: RawVal, b: RawVal, c: RawVal) -> RawVal
+    ensures { result ≡ ternary_value op a b c }
 {
-    Words::of_vector(op.apply(a.vector(), b.vector(), c.vector()))
+    op.apply(a.into(), b.into(), c.into()).into()
 }
 
 /// The instruction of a number.
-fn instruction(number: u16) -> Option<TernaryOp>
+#[tactic(auto, unfolding(crate::specs::Ternary::ternary_of, crate::specs::Calls::op_at))]
+fn instruction(number: u16) -> Result<TernaryOp, Refusal>
     ensures { result ≡ ternary_of number }
 {
-    at(&TERNARIES, number)
+    op_at(&TERNARIES, number)
+}
+
+fn ternary_result(number: u16, a: RawVal, b: RawVal, c: RawVal) -> Result<RawVal, Refusal>
+    ensures { result ≡ ternary_result number a b c }
+{
+    Ok(apply(instruction(number)?, a, b, c))
 }
 
 /// An instruction of three vectors by its number.
-#[tactic(auto, using(crate::proofs::CallsLemmas::of_found))]
 #[unsafe(no_mangle)]
-pub extern "C" fn wasmi_ternary(number: u16, a: Words, b: Words, c: Words, value: &mut Words) -> u8
-    ensures { OfInstruction (ternary_of number) value.old value.new result
-        (λ op. (result ≡ done_status) × (value.new ≡ ternary_words op a b c)) }
+pub extern "C" fn wasmi_ternary(
+    number: u16,
+    a: RawVal,
+    b: RawVal,
+    c: RawVal,
+    value: &mut RawVal,
+) -> u8
+    ensures { Leaves (ternary_result number a b c) value.old value.new result }
 {
-    match instruction(number) {
-        Some(op) => {
-            *value = apply(op, a, b, c);
-            DONE
-        }
-        None => UNKNOWN,
-    }
+    leave(ternary_result(number, a, b, c), value)
 }
 
 /// An instruction of three vectors on each three elements of three arrays.
-#[tactic(auto, using(crate::proofs::CallsLemmas::of_found))]
 #[unsafe(no_mangle)]
 pub extern "C" fn wasmi_ternary_each(
     number: u16,
-    a: &[Words],
-    b: &[Words],
-    c: &[Words],
-    values: &mut [Words],
+    a: &[RawVal],
+    b: &[RawVal],
+    c: &[RawVal],
+    values: &mut [RawVal],
 ) -> u8
-    ensures { OfInstruction (ternary_of number) values.old values.new result
-        (λ op. WhereLengths ((length b.now ≡ length a.now) × (length c.now ≡ length a.now)
-        × (length values.old ≡ length a.now)) values.old values.new result
-        (IsEachOfThree (ternary_words op) a.now b.now c.now values.new)) }
+    ensures { Leaves (ternary_results number a.now b.now c.now (length values.old))
+        values.old values.new result }
 {
     match instruction(number) {
-        Some(op) => each(op, a, b, c, values),
-        None => UNKNOWN,
+        Ok(op) => each(op, a, b, c, values),
+        Err(refusal) => refusal.into(),
     }
 }
 
-fn each(op: TernaryOp, a: &[Words], b: &[Words], c: &[Words], values: &mut [Words]) -> u8
-    ensures { WhereLengths ((length b.now ≡ length a.now) × (length c.now ≡ length a.now)
-        × (length values.old ≡ length a.now)) values.old values.new result
-        (IsEachOfThree (ternary_words op) a.now b.now c.now values.new) }
+#[tactic(auto, using(crate::proofs::CallsLemmas::arrays))]
+fn each(op: TernaryOp, a: &[RawVal], b: &[RawVal], c: &[RawVal], values: &mut [RawVal]) -> u8
+    ensures { Leaves (each_of_three (ternary_value op) a.now b.now c.now (length values.old))
+        values.old values.new result }
 {
     if b.len() != a.len() || c.len() != a.len() || values.len() != a.len() {
-        return LENGTHS_DIFFER;
+        return Refusal::LengthsDiffer.into();
     }
     for i in 0..a.len() {
         values[i] = apply(op, a[i], b[i], c[i]);

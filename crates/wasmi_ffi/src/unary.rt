@@ -1,14 +1,13 @@
 //! The instructions of one operand.
 ghost use Rattle.std.specs.Prelude.{◌≡◌, length};
-ghost use Rattle.wasmi_ffi.specs.Words.{IsEach, OfInstruction, WhereLengths};
-ghost use Rattle.wasmi_ffi.specs.Unary.{unary_of, unary_words};
-ghost use Rattle.wasmi_ffi.specs.Status.{done_status};
+ghost use Rattle.wasmi_ffi.specs.Calls.{Leaves, each_of};
+ghost use Rattle.wasmi_ffi.specs.Unary.{unary_of, unary_result, unary_results, unary_value};
 
-use crate::status::{DONE, LENGTHS_DIFFER, UNKNOWN};
-use crate::table::at;
-use crate::words::Words;
-use wasmi_scalar_ops::ScalarUnaryOp;
-use wasmi_vector_ops::{MakeOp, TestOp, UnaryOp};
+use crate::list::op_at;
+use crate::refusal::{DONE, Refusal};
+use crate::result::leave;
+use wasmi_ops::{MAKES, MakeOp, SCALAR_UNARIES, ScalarUnaryOp, TESTS, TestOp, UNARIES, UnaryOp};
+use wasmi_raw::RawVal;
 
 /// An instruction of one operand.
 #[derive(Clone, Copy)]
@@ -24,128 +23,64 @@ pub enum Unary {
 }
 
 impl Unary {
-    fn apply(self, a: Words) -> Words
-        ensures { result ≡ unary_words self a }
+    fn apply(self, a: RawVal) -> RawVal
+        ensures { result ≡ unary_value self a }
     {
         match self {
-            Unary::Scalar(op) => Words::of_raw(op.apply(a.raw())),
-            Unary::Make(op) => Words::of_vector(op.apply(a.raw())),
-            Unary::Vector(op) => Words::of_vector(op.apply(a.vector())),
-            Unary::Test(op) => Words::of_raw(op.apply(a.vector())),
+            Unary::Scalar(op) => op.apply(a),
+            Unary::Make(op) => op.apply(a).into(),
+            Unary::Vector(op) => op.apply(a.into()).into(),
+            Unary::Test(op) => op.apply(a.into()),
         }
     }
 }
 
-/// The instructions of one operand, by number.
-pub const UNARIES: [Unary; 63] = [
-    Unary::Scalar(ScalarUnaryOp::I32Clz),
-    Unary::Scalar(ScalarUnaryOp::I32Ctz),
-    Unary::Scalar(ScalarUnaryOp::I32Popcnt),
-    Unary::Scalar(ScalarUnaryOp::I32Eqz),
-    Unary::Scalar(ScalarUnaryOp::I64Clz),
-    Unary::Scalar(ScalarUnaryOp::I64Ctz),
-    Unary::Scalar(ScalarUnaryOp::I64Popcnt),
-    Unary::Scalar(ScalarUnaryOp::I64Eqz),
-    Unary::Scalar(ScalarUnaryOp::I32WrapI64),
-    Unary::Scalar(ScalarUnaryOp::I64ExtendI32S),
-    Unary::Scalar(ScalarUnaryOp::I64ExtendI32U),
-    Unary::Scalar(ScalarUnaryOp::I32Extend8S),
-    Unary::Scalar(ScalarUnaryOp::I32Extend16S),
-    Unary::Scalar(ScalarUnaryOp::I64Extend8S),
-    Unary::Scalar(ScalarUnaryOp::I64Extend16S),
-    Unary::Scalar(ScalarUnaryOp::I64Extend32S),
-    Unary::Make(MakeOp::I8x16Splat),
-    Unary::Make(MakeOp::I16x8Splat),
-    Unary::Make(MakeOp::I32x4Splat),
-    Unary::Make(MakeOp::I64x2Splat),
-    Unary::Make(MakeOp::V128Widen8x8S),
-    Unary::Make(MakeOp::V128Widen8x8U),
-    Unary::Make(MakeOp::V128Widen16x4S),
-    Unary::Make(MakeOp::V128Widen16x4U),
-    Unary::Make(MakeOp::V128Widen32x2S),
-    Unary::Make(MakeOp::V128Widen32x2U),
-    Unary::Make(MakeOp::V128Low32Zero),
-    Unary::Make(MakeOp::V128Low64Zero),
-    Unary::Vector(UnaryOp::V128Not),
-    Unary::Vector(UnaryOp::I8x16Neg),
-    Unary::Vector(UnaryOp::I16x8Neg),
-    Unary::Vector(UnaryOp::I32x4Neg),
-    Unary::Vector(UnaryOp::I64x2Neg),
-    Unary::Vector(UnaryOp::I8x16Abs),
-    Unary::Vector(UnaryOp::I16x8Abs),
-    Unary::Vector(UnaryOp::I32x4Abs),
-    Unary::Vector(UnaryOp::I64x2Abs),
-    Unary::Vector(UnaryOp::I8x16Popcnt),
-    Unary::Vector(UnaryOp::I16x8ExtendLowI8x16S),
-    Unary::Vector(UnaryOp::I16x8ExtendLowI8x16U),
-    Unary::Vector(UnaryOp::I16x8ExtendHighI8x16S),
-    Unary::Vector(UnaryOp::I16x8ExtendHighI8x16U),
-    Unary::Vector(UnaryOp::I32x4ExtendLowI16x8S),
-    Unary::Vector(UnaryOp::I32x4ExtendLowI16x8U),
-    Unary::Vector(UnaryOp::I32x4ExtendHighI16x8S),
-    Unary::Vector(UnaryOp::I32x4ExtendHighI16x8U),
-    Unary::Vector(UnaryOp::I64x2ExtendLowI32x4S),
-    Unary::Vector(UnaryOp::I64x2ExtendLowI32x4U),
-    Unary::Vector(UnaryOp::I64x2ExtendHighI32x4S),
-    Unary::Vector(UnaryOp::I64x2ExtendHighI32x4U),
-    Unary::Vector(UnaryOp::I16x8ExtaddPairwiseI8x16S),
-    Unary::Vector(UnaryOp::I16x8ExtaddPairwiseI8x16U),
-    Unary::Vector(UnaryOp::I32x4ExtaddPairwiseI16x8S),
-    Unary::Vector(UnaryOp::I32x4ExtaddPairwiseI16x8U),
-    Unary::Test(TestOp::I8x16AllTrue),
-    Unary::Test(TestOp::I16x8AllTrue),
-    Unary::Test(TestOp::I32x4AllTrue),
-    Unary::Test(TestOp::I64x2AllTrue),
-    Unary::Test(TestOp::V128AnyTrue),
-    Unary::Test(TestOp::I8x16Bitmask),
-    Unary::Test(TestOp::I16x8Bitmask),
-    Unary::Test(TestOp::I32x4Bitmask),
-    Unary::Test(TestOp::I64x2Bitmask),
-];
-
 /// The instruction of a number.
-fn instruction(number: u16) -> Option<Unary>
+#[tactic(auto, unfolding(crate::specs::Unary::unary_of, crate::specs::Calls::op_at))]
+fn instruction(number: u16) -> Result<Unary, Refusal>
     ensures { result ≡ unary_of number }
 {
-    at(&UNARIES, number)
+    Ok(match number {
+        0..=15 => Unary::Scalar(op_at(&SCALAR_UNARIES, number)?),
+        16..=27 => Unary::Make(op_at(&MAKES, number - 16)?),
+        28..=53 => Unary::Vector(op_at(&UNARIES, number - 28)?),
+        54..=62 => Unary::Test(op_at(&TESTS, number - 54)?),
+        _ => Unary::Vector(op_at(&UNARIES, number - 37)?),
+    })
+}
+
+fn unary_result(number: u16, a: RawVal) -> Result<RawVal, Refusal>
+    ensures { result ≡ unary_result number a }
+{
+    Ok(instruction(number)?.apply(a))
 }
 
 /// An instruction of one operand by its number.
-#[tactic(auto, using(crate::proofs::CallsLemmas::of_found))]
 #[unsafe(no_mangle)]
-pub extern "C" fn wasmi_unary(number: u16, a: Words, value: &mut Words) -> u8
-    ensures { OfInstruction (unary_of number) value.old value.new result
-        (λ op. (result ≡ done_status) × (value.new ≡ unary_words op a)) }
+pub extern "C" fn wasmi_unary(number: u16, a: RawVal, value: &mut RawVal) -> u8
+    ensures { Leaves (unary_result number a) value.old value.new result }
 {
-    match instruction(number) {
-        Some(op) => {
-            *value = op.apply(a);
-            DONE
-        }
-        None => UNKNOWN,
-    }
+    leave(unary_result(number, a), value)
 }
 
 /// An instruction of one operand on each element of an array.
-#[tactic(auto, using(crate::proofs::CallsLemmas::of_found))]
 #[unsafe(no_mangle)]
-pub extern "C" fn wasmi_unary_each(number: u16, a: &[Words], values: &mut [Words]) -> u8
-    ensures { OfInstruction (unary_of number) values.old values.new result
-        (λ op. WhereLengths (length values.old ≡ length a.now) values.old values.new result
-        (IsEach (unary_words op) a.now values.new)) }
+pub extern "C" fn wasmi_unary_each(number: u16, a: &[RawVal], values: &mut [RawVal]) -> u8
+    ensures { Leaves (unary_results number a.now (length values.old)) values.old values.new result }
 {
     match instruction(number) {
-        Some(op) => each(op, a, values),
-        None => UNKNOWN,
+        Ok(op) => each(op, a, values),
+        Err(refusal) => refusal.into(),
     }
 }
 
-fn each(op: Unary, a: &[Words], values: &mut [Words]) -> u8
-    ensures { WhereLengths (length values.old ≡ length a.now) values.old values.new result
-        (IsEach (unary_words op) a.now values.new) }
+#[tactic(auto, using(crate::proofs::CallsLemmas::arrays))]
+fn each(op: Unary, a: &[RawVal], values: &mut [RawVal]) -> u8
+    ensures { Leaves (each_of (unary_value op) a.now (length values.old))
+        values.old values.new result }
 {
     if values.len() != a.len() {
-        return LENGTHS_DIFFER;
+        return Refusal::LengthsDiffer.into();
     }
     for i in 0..a.len() {
         values[i] = op.apply(a[i]);

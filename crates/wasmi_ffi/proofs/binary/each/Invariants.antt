@@ -1,11 +1,11 @@
 use Rattle.std.proofs.Common.{◌≡◌, ℕ, ◌<◌, get_or}
-use Rattle.wasmi_ffi.specs.Binary.{binary_words}
-use Rattle.wasmi_ffi.specs.Words.{result_of}
-use Rattle.wasmi_ffi.specs.declared.words.InstructionResult.{InstructionResult}
-use Rattle.wasmi_ffi.specs.declared.words.Words.{Words}
+use Rattle.wasmi_ffi.specs.Binary.{binary_value}
+use Rattle.wasmi_ffi.specs.Results.{result_of}
+use Rattle.wasmi_ffi.specs.declared.result.InstructionResult.{InstructionResult}
+use Rattle.wasmi_raw.specs.declared.raw.RawVal.{RawVal}
 use Rattle.wasmi_ffi.proofs.binary.each.Given as goal
 
 abbrev pub invariant-loop-i : goal.invariant-loop-i
 invariant-loop-i l =
-    (k : ℕ) (x y : Words) (z : InstructionResult) → k < l.i
-    → get_or l.results k z ≡ result_of (binary_words l.op (get_or l.a k x) (get_or l.b k y))
+    (k : ℕ) (x y : RawVal) (z : InstructionResult) → k < l.i
+    → get_or l.results k z ≡ result_of (binary_value l.op (get_or l.a k x) (get_or l.b k y))

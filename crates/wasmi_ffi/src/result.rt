@@ -1,0 +1,49 @@
+//! What an instruction gives, where C reads it.
+ghost use Rattle.std.specs.Prelude.{◌≡◌};
+ghost use Rattle.wasmi_ffi.specs.Calls.{Leaves};
+ghost use Rattle.wasmi_ffi.specs.Results.{result_of};
+
+use crate::refusal::{DONE, Refusal};
+use wasmi_raw::RawVal;
+use wasmi_types::TrapCode;
+
+/// What an instruction gives for one element of an array.
+#[repr(C)]
+#[derive(Clone, Copy)]
+pub struct InstructionResult {
+    /// The value, or 0 where the instruction traps.
+    pub value: RawVal,
+    /// 0, or the number of the trap code.
+    pub status: u8,
+}
+
+impl InstructionResult {
+    /// The value, or the trap.
+    pub fn of(given: Result<RawVal, TrapCode>) -> InstructionResult
+        ensures { result ≡ result_of given }
+    {
+        match given {
+            Ok(value) => InstructionResult {
+                value,
+                status: DONE,
+            },
+            Err(trap) => InstructionResult {
+                value: RawVal::from_bits64(0),
+                status: u8::from(trap),
+            },
+        }
+    }
+}
+
+/// Writes the value that a call gives, and is the status.
+pub fn leave(given: Result<RawVal, Refusal>, value: &mut RawVal) -> u8
+    ensures { Leaves given value.old value.new result }
+{
+    match given {
+        Ok(new) => {
+            *value = new;
+            DONE
+        }
+        Err(refusal) => refusal.into(),
+    }
+}
