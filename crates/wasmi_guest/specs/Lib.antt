@@ -1,0 +1,7 @@
+pub mod GuestBox
+pub mod Guests
+pub mod Ops
+pub mod Plain
+pub mod PlainCalls
+pub mod Replies
+pub mod Types

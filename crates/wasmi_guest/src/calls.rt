@@ -1,0 +1,172 @@
+//! The calls for C. Each takes the machine out of its handle and puts it back, which takes no
+//! memory.
+ghost use Rattle.std.specs.Prelude.{◌≡◌, ℕ, List, None, MatchOption};
+ghost use Rattle.wasmi_core.specs.declared.calls.Call.TheVariants.{NewSegment, Write};
+ghost use Rattle.wasmi_guest.specs.Types.{reference_type_of};
+ghost use Rattle.wasmi_guest.specs.declared.plain.PlainReply.{PlainReply};
+ghost use Rattle.wasmi_guest.specs.Guests.{InPlace, MakesMachine, ReadsOut, RepliesPlainly, RepliesToCopy, TakesFuel, no_totals, totals_of};
+ghost use Rattle.wasmi_guest.specs.Replies.{only, no_call_status, no_machine_status};
+
+use crate::guest::Guest;
+use crate::handle::Handle;
+use crate::plain::{Limits, PlainCall, PlainReply, Totals, Words};
+use crate::status::{DONE, HAS_MACHINE, NO_CALL, NO_MACHINE, NO_ROOM};
+use crate::types::reference_type;
+use std::alloc::Global;
+
+/// Makes a machine in a handle that has none: `DONE`; `HAS_MACHINE` where it has one, then
+/// `NO_ROOM` where the system refuses memory. After a refusal the handle is as it was.
+#[unsafe(no_mangle)]
+pub extern "C" fn wasmi_machine_new(alloc: Global, handle: &mut Handle, limits: &Limits) -> u8
+    ensures { MakesMachine limits.now handle.old.guest.held result handle.new.guest.held }
+{
+    if handle.is_made() {
+        return HAS_MACHINE;
+    }
+    let Ok(guest) = Box::new(alloc, Guest::new(alloc, limits)) else {
+        return NO_ROOM;
+    };
+    handle.put(guest);
+    DONE
+}
+
+/// Ends the machine of a handle, if there is one.
+#[unsafe(no_mangle)]
+pub extern "C" fn wasmi_machine_drop(alloc: Global, handle: &mut Handle)
+    ensures { handle.new.guest.held ≡ None }
+{
+    let _guest = handle.take(alloc);
+}
+
+/// Replies to a call. Where the handle has no machine, the status is `NO_MACHINE`; then, where the
+/// numbers stand for no call, it is `NO_CALL`, and nothing has changed.
+#[unsafe(no_mangle)]
+pub extern "C" fn wasmi_machine_call(
+    alloc: Global,
+    handle: &mut Handle,
+    call: &PlainCall,
+) -> PlainReply
+    ensures { InPlace (only no_machine_status) handle.old.guest.held result handle.new.guest.held
+        (λ guest guest'. RepliesPlainly call.now guest result guest') }
+{
+    let Some(mut guest) = handle.take(alloc) else {
+        return PlainReply::only(NO_MACHINE);
+    };
+    let reply = guest.reply_plainly(call);
+    handle.put(guest);
+    reply
+}
+
+/// Copies as many bytes of a memory as the caller's array has, from an offset on, to that array.
+/// Where the handle has no machine the status is `NO_MACHINE`, then `NO_SUCH` where there is no
+/// such memory, then that of `MemoryError::OutOfBoundsAccess` where they end past it; then the
+/// caller's bytes stay.
+#[unsafe(no_mangle)]
+pub extern "C" fn wasmi_machine_read(
+    alloc: Global,
+    handle: &mut Handle,
+    memory: usize,
+    offset: usize,
+    bytes: &mut [u8],
+) -> PlainReply
+    ensures { InPlace {R = PlainReply × List ℕ} (only no_machine_status, bytes.old)
+        handle.old.guest.held (result, bytes.new) handle.new.guest.held
+        (λ guest guest'. (guest' ≡ guest)
+        × ReadsOut memory offset guest bytes.old result bytes.new) }
+{
+    let Some(guest) = handle.take(alloc) else {
+        return PlainReply::only(NO_MACHINE);
+    };
+    let reply = guest.read(memory, offset, bytes);
+    handle.put(guest);
+    reply
+}
+
+/// Writes the caller's bytes over those of a memory from an offset on. Where the handle has no
+/// machine the status is `NO_MACHINE`, then `NO_ROOM` where memory for a copy of the bytes is
+/// refused, then as `Call::Write` says.
+#[unsafe(no_mangle)]
+pub extern "C" fn wasmi_machine_write(
+    alloc: Global,
+    handle: &mut Handle,
+    memory: usize,
+    offset: usize,
+    bytes: &[u8],
+) -> PlainReply
+    ensures { InPlace (only no_machine_status) handle.old.guest.held result handle.new.guest.held
+        (λ guest guest'. RepliesToCopy (Write memory offset) bytes.now guest result guest') }
+{
+    let Some(mut guest) = handle.take(alloc) else {
+        return PlainReply::only(NO_MACHINE);
+    };
+    let reply = guest.write(alloc, memory, offset, bytes);
+    handle.put(guest);
+    reply
+}
+
+/// Makes an element segment of the caller's references. Where the number is none of a reference
+/// type the status is `NO_CALL`; where the handle has no machine it is `NO_MACHINE`, then `NO_ROOM`
+/// where memory for a copy of the references is refused, then as `Call::NewSegment` says.
+#[unsafe(no_mangle)]
+pub extern "C" fn wasmi_machine_new_segment(
+    alloc: Global,
+    handle: &mut Handle,
+    ty: u8,
+    items: &[u32],
+) -> PlainReply
+    ensures { MatchOption (reference_type_of ty)
+        ((result ≡ only no_call_status) × (handle.new ≡ handle.old))
+        (λ ty. InPlace (only no_machine_status) handle.old.guest.held result handle.new.guest.held
+        (λ guest guest'. RepliesToCopy (NewSegment ty) items.now guest result guest')) }
+{
+    let Some(ty) = reference_type(ty) else {
+        return PlainReply::only(NO_CALL);
+    };
+    let Some(mut guest) = handle.take(alloc) else {
+        return PlainReply::only(NO_MACHINE);
+    };
+    let reply = guest.new_segment(alloc, ty, items);
+    handle.put(guest);
+    reply
+}
+
+/// How many bytes and elements the machine has. Its cost grows with the number of memories and
+/// tables that were ever made. Where the handle has no machine the status is `NO_MACHINE`, and the
+/// totals are 0.
+#[unsafe(no_mangle)]
+pub extern "C" fn wasmi_machine_totals(alloc: Global, handle: &mut Handle) -> Totals
+    ensures { InPlace no_totals handle.old.guest.held result handle.new.guest.held
+        (λ guest guest'. (guest' ≡ guest) × (result ≡ totals_of guest)) }
+{
+    let Some(guest) = handle.take(alloc) else {
+        return Totals {
+            bytes: Words::of_wide(0),
+            elements: Words::of_wide(0),
+            status: NO_MACHINE,
+        };
+    };
+    let totals = guest.totals();
+    handle.put(guest);
+    totals
+}
+
+/// Takes fuel, as an interpreter does for the instructions that it executes between calls; the
+/// number is what is left. Where the handle has no machine it is `NO_MACHINE`, then
+/// `FUEL_METERING_DISABLED` where the meter is off, then `OUT_OF_FUEL` with the amount where less
+/// is left; then nothing is taken.
+#[unsafe(no_mangle)]
+pub extern "C" fn wasmi_machine_consume_fuel(
+    alloc: Global,
+    handle: &mut Handle,
+    amount: u64,
+) -> PlainReply
+    ensures { InPlace (only no_machine_status) handle.old.guest.held result handle.new.guest.held
+        (λ guest guest'. TakesFuel amount guest result guest') }
+{
+    let Some(mut guest) = handle.take(alloc) else {
+        return PlainReply::only(NO_MACHINE);
+    };
+    let reply = guest.consume_fuel(amount);
+    handle.put(guest);
+    reply
+}

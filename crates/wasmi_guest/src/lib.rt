@@ -1,0 +1,22 @@
+//! A machine that C holds by a handle, from call to call, under a quota.
+//!
+//! What the calls take and give stands in `include/wasmi_machine.h`.
+#![tactic(auto)]
+
+mod box_fields;
+mod calls;
+mod decode;
+mod guest;
+mod guest_box;
+mod handle;
+mod instructions;
+mod kind;
+mod plain;
+mod replies;
+mod replying;
+mod status;
+mod types;
+
+pub use guest::Guest;
+pub use handle::Handle;
+pub use plain::{Limits, PlainCall, PlainReply, Totals, Words};
