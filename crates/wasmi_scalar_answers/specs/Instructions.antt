@@ -1,15 +1,18 @@
 -- What the scalar instructions answer for the numbers that words write.
-use Rattle.std.specs.Prelude.{◌≡◌, ℕ, ◌*◌, ℤ, pos, ◌*ℤ◌, Bool, if◌then◌else◌, List, length, Result, Ok, Err}
-use Rattle.std.specs.Int.{Width, w8, w16, w32, w64, cast_unsigned, int_wrap}
+use Rattle.std.specs.Prelude.{◌≡◌, ◌⊎◌, ℕ, ◌*◌, ℤ, pos, ◌*ℤ◌, Bool, if◌then◌else◌, List, length, Result, Ok, Err}
+use Rattle.std.specs.Int.{w8, w16, w32, w64, cast_unsigned, int_wrap}
 use Rattle.wasmi_types.specs.declared.trap.TrapCode.{TrapCode}
 use Rattle.wasmi_scalar.specs.Numerics.{iadd, isub, imul, idiv_s, idiv_u, irem_s, irem_u, iand, ior, ixor, ishl, ishr_s, ishr_u, irotl, irotr, iclz, ictz, ipopcnt, ieqz, ieq, ine, ilt_s, ilt_u, igt_s, igt_u, ile_s, ile_u, ige_s, ige_u}
 use Rattle.wasmi_scalar.specs.Wide.{unsigned_of, signed_of, add128, sub128}
+use Rattle.wasmi_ops.specs.declared.scalar.unary.ScalarUnaryOp.{ScalarUnaryOp}
+use Rattle.wasmi_ops.specs.declared.scalar.unary.ScalarUnaryOp.TheVariants as unary
+use Rattle.wasmi_ops.specs.declared.scalar.binary.ScalarBinaryOp.{ScalarBinaryOp}
+use Rattle.wasmi_ops.specs.declared.scalar.binary.ScalarBinaryOp.TheVariants as binary
+use Rattle.wasmi_ops.specs.ScalarUnaryOps.{scalar_unary_name}
+use Rattle.wasmi_ops.specs.ScalarBinaryOps.{scalar_binary_name}
+use Rattle.wasmi_operands.specs.Names.{IsName}
 use Rattle.wasmi_scalar_answers.specs.declared.scalar_answer.ScalarAnswer.{ScalarAnswer}
 use Rattle.wasmi_scalar_answers.specs.declared.scalar_answer.ScalarAnswer.TheVariants.{Number, Pair, Trap}
-use Rattle.wasmi_scalar_answers.specs.declared.instruction.integer.IntegerInstruction.{IntegerInstruction}
-use Rattle.wasmi_scalar_answers.specs.declared.instruction.integer.IntegerInstruction.TheVariants.{Add, Sub, Mul, Bitand, Bitor, Bitxor, Shl, ShrS, ShrU, Rotl, Rotr, DivS, DivU, RemS, RemU, Clz, Ctz, Popcnt, Eqz, Eq, Ne, LtS, LtU, LeS, LeU, GtS, GtU, GeS, GeU, Extend8S, Extend16S}
-use Rattle.wasmi_scalar_answers.specs.declared.instruction.scalar.Instruction.{Instruction}
-use Rattle.wasmi_scalar_answers.specs.declared.instruction.scalar.Instruction.TheVariants.{I32, I64, I32WrapI64, I64ExtendI32S, I64ExtendI32U, I64Extend32S, I64Add128, I64Sub128, I64MulWideS, I64MulWideU}
 use Rattle.wasmi_scalar_answers.specs.Operands.{LineWords, line_word, WritesInteger, WritesNatural}
 
 -- the answer is this one
@@ -57,49 +60,117 @@ OfFour {A} Writes Answers words answer = (length words ≡ 4) × (a : A) × (b :
     × Writes (line_word words 0) a × Writes (line_word words 1) b × Writes (line_word words 2) c
     × Writes (line_word words 3) d × Answers a b c d answer
 
--- what an instruction that both widths have answers for the words of its operands
-abbrev pub ExecutesInteger : Width → IntegerInstruction → LineWords → ScalarAnswer → Type 0
-ExecutesInteger w Add = OfTwo WritesInteger (λ x y. Is (Number (iadd w x y)))
-ExecutesInteger w Sub = OfTwo WritesInteger (λ x y. Is (Number (isub w x y)))
-ExecutesInteger w Mul = OfTwo WritesInteger (λ x y. Is (Number (imul w x y)))
-ExecutesInteger w Bitand = OfTwo WritesInteger (λ x y. Is (Number (iand w x y)))
-ExecutesInteger w Bitor = OfTwo WritesInteger (λ x y. Is (Number (ior w x y)))
-ExecutesInteger w Bitxor = OfTwo WritesInteger (λ x y. Is (Number (ixor w x y)))
-ExecutesInteger w Shl = OfTwo WritesInteger (λ x y. Is (Number (ishl w x y)))
-ExecutesInteger w ShrS = OfTwo WritesInteger (λ x y. Is (Number (ishr_s w x y)))
-ExecutesInteger w ShrU = OfTwo WritesNatural (λ m n. Is (Number (pos (ishr_u w m n))))
-ExecutesInteger w Rotl = OfTwo WritesInteger (λ x y. Is (Number (irotl w x y)))
-ExecutesInteger w Rotr = OfTwo WritesInteger (λ x y. Is (Number (irotr w x y)))
-ExecutesInteger w DivS = OfTwo WritesInteger (λ x y. Is (outcome (idiv_s w x y)))
-ExecutesInteger w DivU = OfTwo WritesNatural (λ m n. Is (natural_outcome (idiv_u m n)))
-ExecutesInteger w RemS = OfTwo WritesInteger (λ x y. Is (outcome (irem_s x y)))
-ExecutesInteger w RemU = OfTwo WritesNatural (λ m n. Is (natural_outcome (irem_u m n)))
-ExecutesInteger w Clz = OfOne WritesInteger (λ x. Is (Number (iclz w x)))
-ExecutesInteger w Ctz = OfOne WritesInteger (λ x. Is (Number (ictz w x)))
-ExecutesInteger w Popcnt = OfOne WritesInteger (λ x. Is (Number (ipopcnt w x)))
-ExecutesInteger w Eqz = OfOne WritesInteger (λ x. Is (boolean (ieqz x)))
-ExecutesInteger w Eq = OfTwo WritesInteger (λ x y. Is (boolean (ieq x y)))
-ExecutesInteger w Ne = OfTwo WritesInteger (λ x y. Is (boolean (ine x y)))
-ExecutesInteger w LtS = OfTwo WritesInteger (λ x y. Is (boolean (ilt_s x y)))
-ExecutesInteger w LtU = OfTwo WritesNatural (λ m n. Is (boolean (ilt_u m n)))
-ExecutesInteger w LeS = OfTwo WritesInteger (λ x y. Is (boolean (ile_s x y)))
-ExecutesInteger w LeU = OfTwo WritesNatural (λ m n. Is (boolean (ile_u m n)))
-ExecutesInteger w GtS = OfTwo WritesInteger (λ x y. Is (boolean (igt_s x y)))
-ExecutesInteger w GtU = OfTwo WritesNatural (λ m n. Is (boolean (igt_u m n)))
-ExecutesInteger w GeS = OfTwo WritesInteger (λ x y. Is (boolean (ige_s x y)))
-ExecutesInteger w GeU = OfTwo WritesNatural (λ m n. Is (boolean (ige_u m n)))
-ExecutesInteger w Extend8S = OfOne WritesInteger (λ x. Is (Number (int_wrap w8 x)))
-ExecutesInteger w Extend16S = OfOne WritesInteger (λ x. Is (Number (int_wrap w16 x)))
+-- what instructions answer for the words of their operands
+abbrev pub Executing : Type 1
+Executing = LineWords → ScalarAnswer → Type 0
 
--- what an instruction answers for the words of its operands
-abbrev pub Executes : Instruction → LineWords → ScalarAnswer → Type 0
-Executes (I32 instruction) = ExecutesInteger w32 instruction
-Executes (I64 instruction) = ExecutesInteger w64 instruction
-Executes I32WrapI64 = OfOne WritesInteger (λ x. Is (Number (int_wrap w32 x)))
-Executes I64ExtendI32S = OfOne WritesInteger (λ x. Is (Number x))
-Executes I64ExtendI32U = OfOne WritesNatural (λ n. Is (Number (pos n)))
-Executes I64Extend32S = OfOne WritesInteger (λ x. Is (Number (int_wrap w32 x)))
-Executes I64Add128 = OfFour WritesInteger (λ a b c d. UnsignedPair (add128 (unsigned_of a b) (unsigned_of c d)))
-Executes I64Sub128 = OfFour WritesInteger (λ a b c d. UnsignedPair (sub128 (unsigned_of a b) (unsigned_of c d)))
-Executes I64MulWideS = OfTwo WritesInteger (λ x y. SignedPair (x *ℤ y))
-Executes I64MulWideU = OfTwo WritesInteger (λ x y. UnsignedPair (cast_unsigned w64 x * cast_unsigned w64 y))
+-- a function of a number that is read signed
+abbrev pub OfOneSigned : (ℤ → ℤ) → Executing
+OfOneSigned operator = OfOne WritesInteger (λ x. Is (Number (operator x)))
+
+-- an operation on two numbers that are read signed
+abbrev pub OfTwoSigned : (ℤ → ℤ → ℤ) → Executing
+OfTwoSigned operator = OfTwo WritesInteger (λ x y. Is (Number (operator x y)))
+
+-- an operation on two numbers that are read signed, which may trap
+abbrev pub OfSignedOrTrap : (ℤ → ℤ → Result ℤ TrapCode) → Executing
+OfSignedOrTrap operator = OfTwo WritesInteger (λ x y. Is (outcome (operator x y)))
+
+-- an operation on two numbers that are read unsigned, which may trap
+abbrev pub OfUnsignedOrTrap : (ℕ → ℕ → Result ℕ TrapCode) → Executing
+OfUnsignedOrTrap operator = OfTwo WritesNatural (λ m n. Is (natural_outcome (operator m n)))
+
+-- a comparison of two numbers that are read signed
+abbrev pub OfSignedComparison : (ℤ → ℤ → Bool) → Executing
+OfSignedComparison relation = OfTwo WritesInteger (λ x y. Is (boolean (relation x y)))
+
+-- a comparison of two numbers that are read unsigned
+abbrev pub OfUnsignedComparison : (ℕ → ℕ → Bool) → Executing
+OfUnsignedComparison relation = OfTwo WritesNatural (λ m n. Is (boolean (relation m n)))
+
+-- an operation on two numbers of 128 bits, each of two words
+abbrev pub OfTwoWide : (ℕ → ℕ → ℕ) → Executing
+OfTwoWide operator = OfFour WritesInteger (λ a b c d. UnsignedPair (operator (unsigned_of a b) (unsigned_of c d)))
+
+-- what an instruction of one operand answers for its words
+abbrev pub ExecutesUnary : ScalarUnaryOp → Executing
+ExecutesUnary unary.I32Clz = OfOneSigned (iclz w32)
+ExecutesUnary unary.I32Ctz = OfOneSigned (ictz w32)
+ExecutesUnary unary.I32Popcnt = OfOneSigned (ipopcnt w32)
+ExecutesUnary unary.I32Eqz = OfOne WritesInteger (λ x. Is (boolean (ieqz x)))
+ExecutesUnary unary.I64Clz = OfOneSigned (iclz w64)
+ExecutesUnary unary.I64Ctz = OfOneSigned (ictz w64)
+ExecutesUnary unary.I64Popcnt = OfOneSigned (ipopcnt w64)
+ExecutesUnary unary.I64Eqz = OfOne WritesInteger (λ x. Is (boolean (ieqz x)))
+ExecutesUnary unary.I32WrapI64 = OfOneSigned (int_wrap w32)
+ExecutesUnary unary.I64ExtendI32S = OfOneSigned (λ x. x)
+ExecutesUnary unary.I64ExtendI32U = OfOne WritesNatural (λ n. Is (Number (pos n)))
+ExecutesUnary unary.I32Extend8S = OfOneSigned (int_wrap w8)
+ExecutesUnary unary.I32Extend16S = OfOneSigned (int_wrap w16)
+ExecutesUnary unary.I64Extend8S = OfOneSigned (int_wrap w8)
+ExecutesUnary unary.I64Extend16S = OfOneSigned (int_wrap w16)
+ExecutesUnary unary.I64Extend32S = OfOneSigned (int_wrap w32)
+
+-- what an instruction of two operands answers for their words
+abbrev pub ExecutesBinary : ScalarBinaryOp → Executing
+ExecutesBinary binary.I32Add = OfTwoSigned (iadd w32)
+ExecutesBinary binary.I32Sub = OfTwoSigned (isub w32)
+ExecutesBinary binary.I32Mul = OfTwoSigned (imul w32)
+ExecutesBinary binary.I32Bitand = OfTwoSigned (iand w32)
+ExecutesBinary binary.I32Bitor = OfTwoSigned (ior w32)
+ExecutesBinary binary.I32Bitxor = OfTwoSigned (ixor w32)
+ExecutesBinary binary.I32Shl = OfTwoSigned (ishl w32)
+ExecutesBinary binary.I32ShrS = OfTwoSigned (ishr_s w32)
+ExecutesBinary binary.I32ShrU = OfTwo WritesNatural (λ m n. Is (Number (pos (ishr_u w32 m n))))
+ExecutesBinary binary.I32Rotl = OfTwoSigned (irotl w32)
+ExecutesBinary binary.I32Rotr = OfTwoSigned (irotr w32)
+ExecutesBinary binary.I32DivS = OfSignedOrTrap (idiv_s w32)
+ExecutesBinary binary.I32DivU = OfUnsignedOrTrap idiv_u
+ExecutesBinary binary.I32RemS = OfSignedOrTrap irem_s
+ExecutesBinary binary.I32RemU = OfUnsignedOrTrap irem_u
+ExecutesBinary binary.I32Eq = OfSignedComparison ieq
+ExecutesBinary binary.I32Ne = OfSignedComparison ine
+ExecutesBinary binary.I32LtS = OfSignedComparison ilt_s
+ExecutesBinary binary.I32LtU = OfUnsignedComparison ilt_u
+ExecutesBinary binary.I32LeS = OfSignedComparison ile_s
+ExecutesBinary binary.I32LeU = OfUnsignedComparison ile_u
+ExecutesBinary binary.I32GtS = OfSignedComparison igt_s
+ExecutesBinary binary.I32GtU = OfUnsignedComparison igt_u
+ExecutesBinary binary.I32GeS = OfSignedComparison ige_s
+ExecutesBinary binary.I32GeU = OfUnsignedComparison ige_u
+ExecutesBinary binary.I64Add = OfTwoSigned (iadd w64)
+ExecutesBinary binary.I64Sub = OfTwoSigned (isub w64)
+ExecutesBinary binary.I64Mul = OfTwoSigned (imul w64)
+ExecutesBinary binary.I64Bitand = OfTwoSigned (iand w64)
+ExecutesBinary binary.I64Bitor = OfTwoSigned (ior w64)
+ExecutesBinary binary.I64Bitxor = OfTwoSigned (ixor w64)
+ExecutesBinary binary.I64Shl = OfTwoSigned (ishl w64)
+ExecutesBinary binary.I64ShrS = OfTwoSigned (ishr_s w64)
+ExecutesBinary binary.I64ShrU = OfTwo WritesNatural (λ m n. Is (Number (pos (ishr_u w64 m n))))
+ExecutesBinary binary.I64Rotl = OfTwoSigned (irotl w64)
+ExecutesBinary binary.I64Rotr = OfTwoSigned (irotr w64)
+ExecutesBinary binary.I64DivS = OfSignedOrTrap (idiv_s w64)
+ExecutesBinary binary.I64DivU = OfUnsignedOrTrap idiv_u
+ExecutesBinary binary.I64RemS = OfSignedOrTrap irem_s
+ExecutesBinary binary.I64RemU = OfUnsignedOrTrap irem_u
+ExecutesBinary binary.I64Eq = OfSignedComparison ieq
+ExecutesBinary binary.I64Ne = OfSignedComparison ine
+ExecutesBinary binary.I64LtS = OfSignedComparison ilt_s
+ExecutesBinary binary.I64LtU = OfUnsignedComparison ilt_u
+ExecutesBinary binary.I64LeS = OfSignedComparison ile_s
+ExecutesBinary binary.I64LeU = OfUnsignedComparison ile_u
+ExecutesBinary binary.I64GtS = OfSignedComparison igt_s
+ExecutesBinary binary.I64GtU = OfUnsignedComparison igt_u
+ExecutesBinary binary.I64GeS = OfSignedComparison ige_s
+ExecutesBinary binary.I64GeU = OfUnsignedComparison ige_u
+ExecutesBinary binary.I64Add128 = OfTwoWide add128
+ExecutesBinary binary.I64Sub128 = OfTwoWide sub128
+ExecutesBinary binary.I64MulWideS = OfTwo WritesInteger (λ x y. SignedPair (x *ℤ y))
+ExecutesBinary binary.I64MulWideU =
+    OfTwo WritesInteger (λ x y. UnsignedPair (cast_unsigned w64 x * cast_unsigned w64 y))
+
+-- what the instruction of a name answers for the words of its operands
+abbrev pub ExecutesNamed : List ℕ → Executing
+ExecutesNamed name words answer =
+    ((op : ScalarUnaryOp) × IsName scalar_unary_name name op × ExecutesUnary op words answer)
+    ⊎ ((op : ScalarBinaryOp) × IsName scalar_binary_name name op × ExecutesBinary op words answer)

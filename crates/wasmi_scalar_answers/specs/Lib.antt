@@ -1,6 +1,5 @@
 pub mod ScalarAnswers
 pub mod Instructions
-pub mod Names
 pub mod Operands
 pub mod Lines
 pub mod CheckStatus

@@ -1,11 +1,10 @@
 -- The lines of a list of answers.
-use Rattle.std.specs.Prelude.{◌≡◌, ℕ, ◌+◌, ◌==◌, Bool, List, Some, bytes_eq, codes, drop, take, map, IsSomeAnd}
+use Rattle.std.specs.Prelude.{◌≡◌, ℕ, ◌+◌, ◌==◌, Bool, List, Some, bytes_eq, codes, drop, take, map}
 use Rattle.std.specs.Borrow.{Bor}
 use Rattle.std.specs.List.{position, slice_split}
 use Rattle.wasmi_scalar_answers.specs.declared.scalar_answer.ScalarAnswer.{ScalarAnswer}
 use Rattle.wasmi_scalar_answers.specs.ScalarAnswers.{WritesScalarAnswer}
-use Rattle.wasmi_scalar_answers.specs.Instructions.{Executes}
-use Rattle.wasmi_scalar_answers.specs.Names.{instruction_named}
+use Rattle.wasmi_scalar_answers.specs.Instructions.{ExecutesNamed}
 use Rattle.wasmi_scalar_answers.specs.Operands.{LineWords, line_word}
 
 -- whether a word is the arrow before an answer
@@ -14,8 +13,7 @@ is_arrow word = bytes_eq word.now (codes "->")
 
 -- the words are the name of an instruction and its operands, for which it gives the answer
 abbrev pub AnswersTo : LineWords → ScalarAnswer → Type 0
-AnswersTo words answer =
-    IsSomeAnd (instruction_named (line_word words 0)) (λ instruction. Executes instruction (drop 1 words) answer)
+AnswersTo words answer = ExecutesNamed (line_word words 0) (drop 1 words) answer
 
 -- the words of a line: the name of an instruction, its operands, an arrow and the answer that is stated
 pub record IsLine (words : LineWords) (stated answer : ScalarAnswer) : Type 0 where

@@ -1,12 +1,11 @@
-use Rattle.std.proofs.Common.{rules, tests, ◌≡◌, ◌∙◌, ◌+◌, IsSomeAnd, take, ap, sym, subst}
+use Rattle.std.proofs.Common.{rules, tests, ◌≡◌, ◌∙◌, ◌+◌, take, ap, sym, subst}
 use Rattle.std.proofs.lemmas.Iterator.{YieldsList-from_slice}
 use Rattle.std.proofs.lemmas.Iterator.Search.{position_from_yields_List}
 use Rattle.std.proofs.lemmas.List.{take_rest}
 use Rattle.std.specs.ControlFlow.{continue_value}
 use Rattle.std.specs.List.{position}
 use Rattle.wasmi_scalar_answers.specs.ScalarAnswers.{WritesScalarAnswer}
-use Rattle.wasmi_scalar_answers.specs.Instructions.{Executes}
-use Rattle.wasmi_scalar_answers.specs.Names.{instruction_named}
+use Rattle.wasmi_scalar_answers.specs.Instructions.{ExecutesNamed}
 use Rattle.wasmi_scalar_answers.specs.Operands.{line_word}
 use Rattle.wasmi_scalar_answers.specs.Lines.{is_arrow}
 use Rattle.wasmi_scalar_answers.proofs.line.answers.Goals as goal
@@ -22,8 +21,7 @@ returns c =
       arrow = arrow;
       first_arrow = sym found ∙ c.branch-arrow.ensures ∙ ap continue_value c.in_ok-arrow.is;
       answered = subst
-          (λ operands. IsSomeAnd (instruction_named (line_word (take arrow words) 0))
-          (λ instruction. Executes instruction operands c.in_ok-answer.answer))
+          (λ operands. ExecutesNamed (line_word (take arrow words) 0) operands c.in_ok-answer.answer)
           (take_rest (take arrow words) 1) c.in_ok-answer.ensures;
       written = subst (λ answer. WritesScalarAnswer answer c.in_ok-expected.expected)
           (take_rest words (arrow + 1)) c.in_ok-expected.ensures;
