@@ -2,7 +2,7 @@
 use super::{func, memory_type, metered, same};
 use std::alloc::Global;
 use std::process::Abort;
-use wasmi_meter::{MemoryError, Quota, TableError};
+use wasmi_meter::{Fuel, MemoryError, Quota, TableError};
 use wasmi_raw::RawRef;
 use wasmi_store::{Memory, Table, TableType};
 use wasmi_types::RefType;
@@ -58,7 +58,7 @@ fn compare_memory(
     let (size, grown) = match made {
         Ok(mut memory) => {
             let size = memory.size();
-            let grown = memory.grow_lending(64, Some(&mut fuel), quota);
+            let grown = memory.grow_lending(64, &mut fuel, quota);
             (Ok(size), Some(grown))
         }
         Err(error) => (Err(error), None),
@@ -137,8 +137,9 @@ fn compare_table(rt: &impl Abort, alloc: Global, row: &TableLoan) {
     let (size, grown, grown_raw) = match Table::new_lending(alloc, ty, func(1), &mut quota) {
         Ok(mut table) => {
             let size = table.size();
-            let grown = table.grow_lending(1, func(2), None, &mut quota);
-            let grown_raw = table.grow_raw_lending(1, RawRef::from(3), None, &mut quota);
+            let mut off = Fuel::unmetered();
+            let grown = table.grow_lending(1, func(2), &mut off, &mut quota);
+            let grown_raw = table.grow_raw_lending(1, RawRef::from(3), &mut off, &mut quota);
             (Ok(size), Some(grown), Some(grown_raw))
         }
         Err(error) => (Err(error), None, None),
