@@ -1,7 +1,7 @@
 /* The calls of wasmi_core for C and C++, in libwasmi_ffi.a (x86-64 Linux).
 
-   State: there is none. No machine, memory, meter or limiter lives across calls: instructions work on values and bytes
-   of the caller's, and growth, fuel, limits and tables can be had only inside one script (wasmi_script_run).
+   State: there is none. Instructions work on values and bytes of the caller's, and a script is run as a whole
+   (wasmi_script_run). A machine with memories, fuel and limits that lives across calls is in wasmi_machine.h.
 
    Pointers: value and needed must not be NULL. An array is a pointer and a number of elements, of at most PTRDIFF_MAX
    bytes; the pointer may be NULL only where that number is 0. What a call writes must not overlap with anything else

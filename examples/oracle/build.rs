@@ -30,11 +30,23 @@ fn rows(header: &str, shape: &str, of: &str) -> String {
     made
 }
 
+/// Ends the build with a message.
+fn stop(message: &str) -> ! {
+    eprintln!("{message}");
+    std::process::exit(1)
+}
+
 fn main() {
     let here = env::var("CARGO_MANIFEST_DIR").unwrap();
     let top = Path::new(&here).join("../..");
-    let kit = env::var("RATTLE_C").expect("RATTLE_C: the folder c of the kit");
-    println!("cargo:rustc-link-search=native={}", top.join("crates/wasmi_ffi/out").display());
+    let Ok(kit) = env::var("RATTLE_C") else {
+        stop("RATTLE_C isn't set: it names the folder c of the kit, beside the page that `rt doc` prints");
+    };
+    let library = top.join("crates/wasmi_ffi/out");
+    if !library.join("libwasmi_ffi.a").exists() {
+        stop("crates/wasmi_ffi/out/libwasmi_ffi.a isn't there: run `rt lib` in crates/wasmi_ffi first");
+    }
+    println!("cargo:rustc-link-search=native={}", library.display());
     println!("cargo:rustc-link-search=native={kit}");
     println!("cargo:rustc-link-lib=static=wasmi_ffi");
     println!("cargo:rustc-link-lib=static=libc_c");

@@ -1,0 +1,90 @@
+/* A guest memory that is grown under fuel and a limit, a table, and what is refused. It is C and C++. */
+#include "wasmi_machine.h"
+#include <inttypes.h>
+#include <stdio.h>
+#include <string.h>
+
+static wasmi_machine machine; /* zeros: a handle without a machine */
+
+static wasmi_call of_kind(uint16_t kind, uint64_t count) {
+    wasmi_call call;
+    memset(&call, 0, sizeof call);
+    call.kind = kind;
+    call.count = count;
+    call.page_size_log2 = 16;
+    return call;
+}
+
+static void reply(const char *name, wasmi_reply reply) {
+    printf("%-22s status %d, number %" PRIu64 ", value %" PRIx64 "\n", name, reply.status, reply.number,
+           reply.value.lo);
+}
+
+static void made(const char *name, wasmi_call call) {
+    reply(name, wasmi_machine_call(&machine, &call));
+}
+
+static void memories(void) {
+    wasmi_call memory = of_kind(WASMI_CALL_NEW_MEMORY, 1);
+    memory.has_maximum = 1;
+    memory.maximum = 8;
+    made("memory of a page", memory);
+    made("grow without fuel", of_kind(WASMI_CALL_GROW_MEMORY, 2));
+    made("set fuel", of_kind(WASMI_CALL_SET_FUEL, 8000));
+    made("grow by two", of_kind(WASMI_CALL_GROW_MEMORY, 2));
+    made("grow beyond the cap", of_kind(WASMI_CALL_GROW_MEMORY, 2));
+    made("fuel left", of_kind(WASMI_CALL_GET_FUEL, 0));
+    reply("take fuel", wasmi_machine_consume_fuel(&machine, 1000));
+    reply("take too much", wasmi_machine_consume_fuel(&machine, 10000));
+}
+
+static void accesses(void) {
+    const uint8_t greeting[5] = {'h', 'e', 'l', 'l', 'o'};
+    uint8_t bytes[5] = {0};
+    reply("write", wasmi_machine_write(&machine, 0, 65534, greeting, sizeof greeting));
+    reply("read", wasmi_machine_read(&machine, 0, 65534, bytes, sizeof bytes));
+    printf("%-22s %.5s\n", "what was read", (const char *)bytes);
+    reply("read past the end", wasmi_machine_read(&machine, 0, 3 * 65536 - 4, bytes, sizeof bytes));
+    wasmi_call load = of_kind(WASMI_CALL_LOAD, 0);
+    load.op = WASMI_LOAD_LOAD_U32;
+    load.ptr = 65530;
+    load.offset = 4;
+    made("load", load);
+    load.ptr = UINT64_MAX;
+    made("load past the end", load);
+}
+
+static void tables(void) {
+    const uint32_t items[3] = {7, 8, 9};
+    wasmi_call table = of_kind(WASMI_CALL_NEW_TABLE, 4);
+    table.type = WASMI_TYPE_FUNCREF;
+    made("table of four", table);
+    reply("segment", wasmi_machine_new_segment(&machine, WASMI_TYPE_FUNCREF, items, 3));
+    wasmi_call init = of_kind(WASMI_CALL_INIT_TABLE, 3);
+    init.to = 1;
+    made("init from 1 on", init);
+    init.to = 2;
+    made("init past the end", init);
+    wasmi_call get = of_kind(WASMI_CALL_GET_ELEMENT, 0);
+    get.to = 2;
+    wasmi_reply element = wasmi_machine_call(&machine, &get);
+    printf("%-22s status %d, type %d, reference %" PRIu32 "\n", "element 2", element.status, element.type,
+           element.reference);
+}
+
+int main(void) {
+    const wasmi_limits limits = {4 * 65536, 16, 64, 7, 2, 1};
+    made("call without machine", of_kind(WASMI_CALL_GET_FUEL, 0));
+    printf("%-22s status %d\n", "new", wasmi_machine_new(&machine, &limits));
+    printf("%-22s status %d\n", "new again", wasmi_machine_new(&machine, &limits));
+    memories();
+    accesses();
+    tables();
+    made("no such kind", of_kind(1000, 0));
+    wasmi_totals totals = wasmi_machine_totals(&machine);
+    printf("%-22s %" PRIu64 " bytes, %" PRIu64 " elements\n", "totals", totals.bytes.lo, totals.elements.lo);
+    wasmi_machine_drop(&machine);
+    wasmi_machine_drop(&machine);
+    made("call after drop", of_kind(WASMI_CALL_GET_FUEL, 0));
+    return 0;
+}

@@ -1,0 +1,199 @@
+/* A machine that lives from call to call, with memories, tables, element segments, globals, registers, fuel and limits,
+   for C and C++, in libwasmi_guest.a (x86-64 Linux). wasmi_core.h has the numbers of instructions, and calls on values
+   and bytes of the caller's, which are in libwasmi_ffi.a.
+
+   A machine makes its memories and tables in memory of its own, within two caps; it grows them, and writes over ranges
+   of tables, for fuel where its meter is on. Memories, tables, element segments and globals go by their indices, which
+   count from 0 for each kind and aren't used again.
+
+   What the caller owes, which no call tests:
+   - A handle is all zeros before its first call, and is written by these calls alone from then on.
+   - It isn't used in two copies: whoever copies or moves it uses the new one alone from then on.
+   - It is in one call at a time, and stays on its thread. Several threads may use a handle each.
+   - A pointer leads to what its type says, and isn't NULL, except for an array of length 0; an array has at most
+     PTRDIFF_MAX bytes. What a call writes doesn't overlap with anything else that it takes. No pointer is kept.
+   Everything else is tested: a handle without a machine, and any numbers in the structs that are passed.
+
+   What is promised, by proof: a call leaves a machine as one step of the library's machine does (docs/SCRIPT.md has the
+   same calls as lines), a refused call changes nothing except where it is said below, and the memories and the tables
+   of a machine are within its caps after each call. */
+#ifndef WASMI_MACHINE_H
+#define WASMI_MACHINE_H
+
+#include "wasmi_core.h"
+#include <stdbool.h>
+
+#ifdef __cplusplus
+extern "C" {
+#endif
+
+/* A handle: zeros, or what wasmi_machine_new has made of it. */
+typedef struct { uint8_t *at; bool is_made; } wasmi_machine;
+
+/* What a machine is made with. */
+typedef struct {
+    uint64_t bytes;                     /* the most bytes that its memories may have together .. */
+    uint64_t elements;                  /* .. and the most elements of its tables; dropped ones count */
+    uint32_t bytes_copied_per_fuel;     /* 64 upstream; 0 makes each copy cost UINT64_MAX */
+    uint32_t fuel_per_bytes_translated; /* 7 upstream; no call here takes it */
+    uint32_t fuel_per_bytes_validated;  /* 2 upstream; no call here takes it */
+    uint8_t is_metered;                 /* 0: the meter is off; else it is on, with no fuel at first */
+} wasmi_limits;
+
+/* Makes a machine. DONE; HAS_MACHINE where the handle has one; then NO_ROOM where the system refuses memory. After a
+   refusal the handle is as it was. */
+uint8_t wasmi_machine_new(wasmi_machine *machine, const wasmi_limits *limits);
+
+/* Ends the machine, if there is one, and gives all of its memory back. The handle may be used for a new one. */
+void wasmi_machine_drop(wasmi_machine *machine);
+
+/* The kinds of calls. Behind each stands what it reads of a wasmi_call, then what its reply has, and then its refusals
+   in the order in which they are tested. The first is always WASMI_NO_SUCH, where there is no memory, table, element
+   segment, global or register of an index or a number. */
+enum {
+    WASMI_CALL_SET_FUEL = 0, /* count; METERING_DISABLED */
+    WASMI_CALL_GET_FUEL = 1, /* -> number; METERING_DISABLED */
+    /* Makes a memory of zeros: count and maximum in pages, page_size_log2 (0 or 16), is_64 -> number: its index;
+       NO_ROOM, MEMORY_SIZE_OVERFLOW, MEMORY_DENIED (by the caps), MEMORY_OUT_OF_MEMORY. */
+    WASMI_CALL_NEW_MEMORY = 2,
+    /* Grows a memory by pages of zeros: index, count -> number: its old size in pages; MEMORY_GROWTH (beyond its type
+       or the caps), MEMORY_OUT_OF_FUEL (number: what is needed), MEMORY_OUT_OF_MEMORY, after which the fuel is spent.
+       By 0 it is its size, for nothing. */
+    WASMI_CALL_GROW_MEMORY = 3,
+    WASMI_CALL_DROP_MEMORY = 4, /* index; its size still counts */
+    /* Accesses at ptr + offset, a sum that does not wrap; op is a number of wasmi_load, wasmi_store, wasmi_load_lane or
+       wasmi_store_lane in wasmi_core.h; MEMORY_OUT_OF_BOUNDS. A load of an item is in the reply, one of a vector in
+       register dst; a store of an item takes value, one of a vector register a; a lane goes into or comes from a. */
+    WASMI_CALL_LOAD = 5,        /* op, index, ptr, offset, dst -> value */
+    WASMI_CALL_STORE = 6,       /* op, index, ptr, offset, value, a */
+    WASMI_CALL_LOAD_LANE = 7,   /* op, lane, index, ptr, offset, a, dst */
+    WASMI_CALL_STORE_LANE = 8,  /* op, lane, index, ptr, offset, a */
+    /* Makes a table of one reference: count and maximum in elements, is_64, type, reference -> number: its index;
+       NO_ROOM, TABLE_DENIED (by the caps), TABLE_OUT_OF_MEMORY. */
+    WASMI_CALL_NEW_TABLE = 9,
+    /* Grows a table by elements of one reference: index, count, type, reference -> number: its old size;
+       TABLE_TYPE, TABLE_GROWTH (beyond its type or the caps), TABLE_OUT_OF_FUEL, TABLE_OUT_OF_MEMORY, after which the
+       fuel is spent. */
+    WASMI_CALL_GROW_TABLE = 10,
+    WASMI_CALL_DROP_TABLE = 11,  /* index; its size still counts */
+    WASMI_CALL_GET_ELEMENT = 12, /* index, to -> type, reference; NO_ELEMENT */
+    WASMI_CALL_SET_ELEMENT = 13, /* index, to, type, reference; TABLE_TYPE, TABLE_SET */
+    /* Writes over count elements of a table from to on, for fuel: TABLE_TYPE, then out of bounds, then
+       TABLE_OUT_OF_FUEL. */
+    WASMI_CALL_INIT_TABLE = 14,  /* index, to, source (an element segment), from, count; .. TABLE_INIT .. */
+    WASMI_CALL_COPY_TABLE = 15,  /* index, to, source (a table, this one too), from, count; .. TABLE_COPY .. */
+    WASMI_CALL_FILL_TABLE = 16,  /* index, to, count, type, reference; .. TABLE_FILL .. */
+    WASMI_CALL_DROP_ITEMS = 17,  /* index: the items of an element segment, which stays */
+    WASMI_CALL_NEW_GLOBAL = 18,  /* type, is_mutable, value -> number: its index; NO_ROOM */
+    WASMI_CALL_SET_GLOBAL = 19,  /* index, type, value; GLOBAL_IMMUTABLE, GLOBAL_TYPE */
+    WASMI_CALL_GET_GLOBAL = 20,  /* index -> value */
+    WASMI_CALL_SET_REGISTER = 21, /* dst, value */
+    WASMI_CALL_GET_REGISTER = 22, /* a -> value */
+    /* Instructions on registers; op is a number of wasmi_unary, wasmi_binary, wasmi_ternary, wasmi_extract_lane or
+       wasmi_replace_lane in wasmi_core.h, of one that has a vector: one on items alone is NO_CALL. The result is in
+       register dst, or in the reply where it is an item. */
+    WASMI_CALL_UNARY = 23,        /* op, a, dst -> value, of a test */
+    WASMI_CALL_BINARY = 24,       /* op, a, b, dst; a shift: op, a, count (below 2^32), dst */
+    WASMI_CALL_TERNARY = 25,      /* op, a, b, c, dst */
+    WASMI_CALL_EXTRACT_LANE = 26, /* op, lane, a -> value */
+    WASMI_CALL_REPLACE_LANE = 27  /* op, lane, a, b (the item), dst */
+};
+
+/* Value types. */
+enum {
+    WASMI_TYPE_I32 = 0,
+    WASMI_TYPE_I64 = 1,
+    WASMI_TYPE_F32 = 2,
+    WASMI_TYPE_F64 = 3,
+    WASMI_TYPE_V128 = 4,
+    WASMI_TYPE_FUNCREF = 5,
+    WASMI_TYPE_EXTERNREF = 6
+};
+
+/* A call: its kind, and its operands. What its kind doesn't read isn't looked at, so begin with zeros. */
+typedef struct {
+    uint16_t kind;
+    uint16_t op;
+    uint8_t lane;
+    uint8_t dst, a, b, c;        /* registers: 0 to 15 */
+    uint8_t type;
+    uint8_t is_mutable;          /* 0: a constant */
+    uint8_t is_64;               /* 0: addresses or indices of 32 bits; else of 64 */
+    uint8_t has_maximum;         /* 0: maximum isn't read */
+    uint8_t page_size_log2;
+    uint32_t reference;
+    size_t index, source;
+    uint64_t count, maximum;
+    uint64_t ptr, offset;
+    uint64_t to, from;
+    wasmi_words value;
+} wasmi_call;
+
+/* The statuses of replies, besides WASMI_DONE, and WASMI_MEMORY_OUT_OF_BOUNDS for a load or a store. */
+enum {
+    WASMI_NO_MACHINE = 16,  /* the handle has none */
+    WASMI_NO_CALL = 17,     /* no such kind, type, instruction or lane, or a number of 32 bits that is greater */
+    WASMI_NO_SUCH = 18,
+    WASMI_NO_ROOM = 20,     /* out of memory for a slot, a copy or a machine: nothing was asked or changed */
+    WASMI_NO_ELEMENT = 21,
+    WASMI_HAS_MACHINE = 22, /* the handle has one */
+    WASMI_MEMORY_OUT_OF_MEMORY = 32,
+    WASMI_MEMORY_GROWTH = 33,        /* beyond the type or the caps */
+    WASMI_MEMORY_ACCESS = 34,        /* of wasmi_machine_read and wasmi_machine_write */
+    WASMI_MEMORY_DENIED = 37,        /* a new memory beyond the caps */
+    WASMI_MEMORY_SIZE_OVERFLOW = 38,
+    WASMI_MEMORY_OUT_OF_FUEL = 40,
+    WASMI_TABLE_OUT_OF_MEMORY = 48,
+    WASMI_TABLE_DENIED = 51,         /* a new table beyond the caps */
+    WASMI_TABLE_GROWTH = 52,         /* beyond the type or the caps */
+    WASMI_TABLE_INIT = 53,
+    WASMI_TABLE_FILL = 54,
+    WASMI_TABLE_SET = 55,
+    WASMI_TABLE_COPY = 56,
+    WASMI_TABLE_TYPE = 57,
+    WASMI_TABLE_OUT_OF_FUEL = 58,
+    WASMI_METERING_DISABLED = 64,
+    WASMI_OUT_OF_FUEL = 65,
+    WASMI_GLOBAL_IMMUTABLE = 72,
+    WASMI_GLOBAL_TYPE = 73,
+    WASMI_SEGMENT_TOO_MANY_ITEMS = 80,
+    WASMI_SEGMENT_OUT_OF_MEMORY = 81
+};
+
+/* A reply. What it doesn't have is 0: after a refusal all except the status, and the number where fuel is short. */
+typedef struct {
+    wasmi_words value;
+    uint64_t number;
+    uint32_t reference;
+    uint8_t type;
+    uint8_t status;
+} wasmi_reply;
+
+/* The bytes of all memories and the elements of all tables, dropped ones at their last size, each below 2^128. */
+typedef struct { wasmi_words bytes, elements; uint8_t status; } wasmi_totals;
+
+/* Replies to a call. Before all else: NO_MACHINE, NO_CALL. */
+wasmi_reply wasmi_machine_call(wasmi_machine *machine, const wasmi_call *call);
+
+/* Copies len bytes of a memory from offset on to bytes: NO_MACHINE, NO_SUCH, or MEMORY_ACCESS where they end past it;
+   then bytes stays. It takes no memory of its own. */
+wasmi_reply wasmi_machine_read(wasmi_machine *machine, size_t memory, size_t offset, uint8_t *bytes, size_t len);
+
+/* Writes len bytes over those of a memory from offset on: NO_MACHINE, NO_ROOM, NO_SUCH, MEMORY_ACCESS. */
+wasmi_reply wasmi_machine_write(wasmi_machine *machine, size_t memory, size_t offset, const uint8_t *bytes, size_t len);
+
+/* Makes an element segment of references of a type -> number: its index; NO_CALL where type is of no references, then
+   NO_MACHINE, NO_ROOM, SEGMENT_TOO_MANY_ITEMS, SEGMENT_OUT_OF_MEMORY. */
+wasmi_reply wasmi_machine_new_segment(wasmi_machine *machine, uint8_t type, const uint32_t *items, size_t len);
+
+/* Takes fuel for what the caller does itself, as an interpreter's instructions -> number: what is left then;
+   NO_MACHINE, METERING_DISABLED, or OUT_OF_FUEL where less is left (number: the amount): then none is taken. */
+wasmi_reply wasmi_machine_consume_fuel(wasmi_machine *machine, uint64_t amount);
+
+/* The totals; NO_MACHINE. Its time grows with the number of memories and tables that were ever made. */
+wasmi_totals wasmi_machine_totals(wasmi_machine *machine);
+
+#ifdef __cplusplus
+}
+#endif
+#endif
