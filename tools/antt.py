@@ -100,9 +100,12 @@ def declarations(text):
         words = head.group(2).split() if head else []
         rest = (head.group(4) or "") if head else ""
         name = head.group(3) if head else ""
+        after = at + 1
+        if words and not rest and after < len(lines) and lines[after].strip().startswith(": "):
+            rest, after = f" {lines[after].strip()}", after + 1
         is_type = "record" in words or "data" in words
         if head and name not in NO_NAMES and (is_type or re.match(r"^(?: (?:\([^=]*\)|\{[^=]*\}))* : ", rest) or rest.rstrip() == " :"):
-            whole, after = rest, at + 1
+            whole = rest
             while after < len(lines) and indent_of(lines[after]) > column and lines[after].strip():
                 if is_type or re.search(r"(^| )(=|where)( |$)", whole):
                     break
