@@ -30,6 +30,10 @@ pub fn main(rt: HostRuntime) -> anyhow::Result<()> {
     let mut memory = Memory::new_lending(rt.alloc(), builder.build()?, &mut quota)?;
     println!(rt; "{:?}", grow(&mut memory, 41, &mut fuel, &mut quota))?;
     println!(rt; "{:?}", grow(&mut memory, 40, &mut fuel, &mut quota))?;
-    println!(rt; "{} bytes, held {}", memory.data().len(), quota.held_bytes())?;
+    println!(rt;
+        "{} bytes, held {}",
+        memory.data().len(),
+        quota.held_bytes()
+    )?;
     Ok(())
 }
