@@ -15,8 +15,9 @@
    Everything else is tested: a handle without a machine, and any numbers in the structs that are passed.
 
    What is promised, by proof: a call leaves a machine as one step of the library's machine does (docs/SCRIPT.md has the
-   same calls as lines), a refused call changes nothing except where it is said below, and the memories and the tables
-   of a machine are within its caps after each call. */
+   same calls as lines). So the library's laws over such steps hold: a refused call changes nothing except where it is
+   said below, and the memories and the tables of a machine stay within its caps. No contract of these calls says the
+   last two by itself. */
 #ifndef WASMI_MACHINE_H
 #define WASMI_MACHINE_H
 
