@@ -2,6 +2,10 @@
 use Rattle.std.specs.Prelude.{◌≡◌, ℕ, ◌≤◌, List, length, Option, Some, None}
 use Rattle.std.specs.Iterator.{YieldsThen}
 
+-- each iterator that a value becomes has a fact
+abbrev pub EachBecomes : {X I : Type 0} → (X → I → Type 0) → X → (I → Type 0) → Type 0
+EachBecomes {X} {I} becomes x Fact = (it : I) → becomes x it → Fact it
+
 module _ {I A : Type 0} (most : ℕ) (steps : I → Option A → I → Type 0) where
   -- calls from s to t gave the items xs, at most so many, and then the end
   pub record ReadsAll (s : I) (xs : List A) (t : I) : Type 0 where

@@ -85,20 +85,24 @@ impl Model for FuncType {
 }
 
 impl FuncType {
+    ghost use Rattle.wasmi_types.specs.Iteration.{EachBecomes};
     ghost use Rattle.wasmi_types.specs.Reading.{IsReading, IsReadingOf, AfterAll};
 
-    /// Makes the type of a function with these parameters and results, which `read` reads.
+    /// Makes the type of a function with these parameters and results, which `read` reads: its
+    /// contract says what each answer means.
+    ///
+    /// The iterator that `params` becomes can be read, and after its end the one that `results`
+    /// becomes.
     ///
     /// Upstream: `FuncType::new`, there of iterators that know their lengths.
     pub fn new<P, R>(alloc: Global, params: P, results: R) -> Result<Self, FuncTypeError>
     where
         P: IntoIterator<Item = ValType>,
         R: IntoIterator<Item = ValType>,
-        requires params { (it : P.IntoIter) → P.into_iter_gives params it → P.IntoIter.can_next it }
-        requires results { (first : P.IntoIter) (second : R.IntoIter)
-            → P.into_iter_gives params first
-            → R.into_iter_gives results second
-            → AfterAll P.IntoIter.next_gives first (R.IntoIter.can_next second) }
+        requires params { EachBecomes P.into_iter_gives params P.IntoIter.can_next }
+        requires results { EachBecomes P.into_iter_gives params
+            (λ first. EachBecomes R.into_iter_gives results
+            (λ second. AfterAll P.IntoIter.next_gives first (R.IntoIter.can_next second))) }
         ensures reading { IsReadingOf P.into_iter_gives P.IntoIter.next_gives R.into_iter_gives
             R.IntoIter.next_gives params results result }
     {
