@@ -15,24 +15,24 @@ abbrev pub value_of_bytes : {V : Type 0} → (ℕ → V) → Option (List ℕ) �
 value_of_bytes value (Some bytes) = Ok (value (number_of bytes))
 value_of_bytes value None = Err MemoryOutOfBounds
 
--- what a load of n bytes at a answers
+-- what a load of n bytes at a gives
 abbrev pub loaded : {V : Type 0} → ℕ → (ℕ → V) → List ℕ → ℕ → Result V TrapCode
 loaded n value memory a = value_of_bytes value (accessed a (at memory a n))
 
--- an instruction answers this, where `number` reads its value
-abbrev pub Answers : {V N : Type 0} → (V → N) → Result V TrapCode → Result N TrapCode → Type 0
-Answers number answer expected =
-    MatchResult answer (λ value. expected ≡ Ok (number value)) (λ trap. expected ≡ Err trap)
+-- an instruction gives this, where `number` reads its value
+abbrev pub GivesNumber : {V N : Type 0} → (V → N) → Result V TrapCode → Result N TrapCode → Type 0
+GivesNumber number result expected =
+    MatchResult result (λ value. expected ≡ Ok (number value)) (λ trap. expected ≡ Err trap)
 
 -- a store of ys at a: the memory has them there, or the store traps and the memory is the same
 abbrev pub IsStore : {V : Type 0} → List ℕ → ℕ → List ℕ → List ℕ → Result V TrapCode → Type 0
-IsStore old a ys new answer = MatchResult answer
+IsStore old a ys new result = MatchResult result
     (λ _. accessed a (overwrite old a ys) ≡ Some new)
     (λ trap. (trap ≡ MemoryOutOfBounds) × (accessed a (overwrite old a ys) ≡ None) × (new ≡ old))
 
 -- the n bytes into which a load copies the memory at a: they are those, or the load traps and they are the same
 abbrev pub IsCopy : List ℕ → ℕ → ℕ → List ℕ → List ℕ → Result (Unit {0}) TrapCode → Type 0
-IsCopy memory a n old new answer = MatchResult answer
+IsCopy memory a n old new result = MatchResult result
     (λ _. accessed a (at memory a n) ≡ Some new)
     (λ trap. (trap ≡ MemoryOutOfBounds) × (accessed a (at memory a n) ≡ None) × (new ≡ old))
 

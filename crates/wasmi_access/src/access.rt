@@ -11,7 +11,7 @@ ghost use Rattle.wasmi_types.specs.Bytes.{number_of, le_bytes};
 ghost use Rattle.wasmi_types.specs.Access.{overwrite};
 ghost use Rattle.wasmi_types.specs.Wrapping.{wrap};
 ghost use Rattle.wasmi_raw.specs.Number.{number_of_bits};
-ghost use Rattle.wasmi_access.specs.LoadStore.{loaded, Answers, IsStore, IsCopy};
+ghost use Rattle.wasmi_access.specs.LoadStore.{loaded, GivesNumber, IsStore, IsCopy};
 
 use wasmi_raw::Number;
 use wasmi_types::TrapCode;
@@ -175,7 +175,7 @@ where
     T: LittleEndianConvert,
     ensures value { result ≡ loaded T.Bytes.LEN
         (λ n. T.of_number (number_of_bits T.is_signed T.width n)) memory.now (ptr + offset) }
-    ensures number { Answers T.number result
+    ensures number { GivesNumber T.number result
         (loaded T.Bytes.LEN (number_of_bits T.is_signed T.width) memory.now (ptr + offset)) }
 {
     let address = effective_address(ptr, offset)?;
@@ -190,7 +190,7 @@ where
     T: LittleEndianConvert,
     ensures value { result ≡ loaded T.Bytes.LEN
         (λ n. T.of_number (number_of_bits T.is_signed T.width n)) memory.now address }
-    ensures number { Answers T.number result
+    ensures number { GivesNumber T.number result
         (loaded T.Bytes.LEN (number_of_bits T.is_signed T.width) memory.now address) }
 {
     let mut buffer = T::Bytes::default();

@@ -1,3 +1,3 @@
-pub mod AnswerLemmas
+pub mod NumericsLemmas
 pub mod ShiftLemmas
 pub mod WideLemmas

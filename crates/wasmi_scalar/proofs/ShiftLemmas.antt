@@ -6,7 +6,7 @@ use Rattle.std.specs.Int.RustNames.{unsigned_abs}
 use Rattle.std.proofs.lemmas.Int.{to_z-of_z, int_rem_euclid_is, ints}
 use Rattle.std.proofs.lemmas.Nat.{mod_below, or_shifted, or_comm, mod-pow-add, shl-shr, shr_below, pow_pos}
 use Rattle.std.proofs.Math.Nat.{mul-mod_left, sub-zero, mod_self, div-eq_of_lt}
-use Rattle.wasmi_scalar.specs.Numerics.{amount_of, ishl, rotated_left, irotl, irotr}
+use Rattle.wasmi_scalar.specs.Numerics.{amount_modulo, ishl, rotated_left, irotl, irotr}
 use mir.Val.{SFits, bits, hbits}
 use lib.Bits.{or_self}
 
@@ -93,37 +93,38 @@ image_below w (negsuc n) le f = let p : 0 < 2 ^ bits w = pow_pos (bits w) in ome
 
 -- the amount modulo the width is the one of the table
 pub amount_is : (w : Width) (y : ℤ) (k : ℕ) → SFits w y → k ≡ cast_unsigned w (cast_signed w (cast_unsigned w y))
-    → k % bits w ≡ amount_of w y
+    → k % bits w ≡ amount_modulo w y
 amount_is w y k f e = ap (λ m. m % bits w) (e ∙ ap (cast_unsigned w) (to_z-of_z w y f))
 
 -- so is the amount itself, which is below the width
 pub cut_amount_is : (w : Width) (y : ℤ) (k : ℕ) → 0 < bits w → SFits w y
-    → k ≡ amount_of w (cast_signed w (cast_unsigned w y)) → k % bits w ≡ amount_of w y
+    → k ≡ amount_modulo w (cast_signed w (cast_unsigned w y)) → k % bits w ≡ amount_modulo w y
 cut_amount_is w y k p f e =
-    ap (λ j. j % bits w) (e ∙ ap (amount_of w) (to_z-of_z w y f))
+    ap (λ j. j % bits w) (e ∙ ap (amount_modulo w) (to_z-of_z w y f))
     ∙ mod-eq_of_lt (mod_below (cast_unsigned w y) (bits w) p)
 
 -- a shift to the left by the amount is the one of the table
 pub shifted : (w : Width) (z y r : ℤ) (k : ℕ) → 2 ^ hbits w ≤ 2 ^ bits w → SFits w z → SFits w r
-    → k % bits w ≡ amount_of w y
+    → k % bits w ≡ amount_modulo w y
     → r ≡ int_shl w (cast_signed w (cast_unsigned w z)) (k % bits w) → cast_signed w (cast_unsigned w r) ≡ ishl w z y
 shifted w z y r k le fz fr amount e =
     to_z-of_z w r fr ∙ e ∙ ap (λ v. int_shl w v (k % bits w)) (to_z-of_z w z fz) ∙ shl_is w z (2 ^ (k % bits w)) le fz
     ∙ ap (λ j. int_wrap w (z *ℤ pos (2 ^ j))) amount
 
 -- std's rotation by k, where it is one to the left by `places` of k modulo the width, is that of the amount
-rotated : (w : Width) (z y r : ℤ) (k : ℕ) → SFits w z → SFits w r → k % bits w ≡ amount_of w y → (rotate : ℕ → ℕ → ℕ)
+rotated : (w : Width) (z y r : ℤ) (k : ℕ) → SFits w z → SFits w r → k % bits w ≡ amount_modulo w y
+    → (rotate : ℕ → ℕ → ℕ)
     (places : ℕ → ℕ) → r ≡ cast_signed w (rotate (cast_unsigned w (cast_signed w (cast_unsigned w z))) k)
     → rotate (cast_unsigned w z) k ≡ rotated_left (bits w) (cast_unsigned w z) (places (k % bits w))
     → cast_signed w (cast_unsigned w r)
-    ≡ cast_signed w (rotated_left (bits w) (cast_unsigned w z) (places (amount_of w y)))
+    ≡ cast_signed w (rotated_left (bits w) (cast_unsigned w z) (places (amount_modulo w y)))
 rotated w z y r k fz fr amount rotate places e same =
     to_z-of_z w r fr ∙ e ∙ ap (λ v. cast_signed w (rotate (cast_unsigned w v) k)) (to_z-of_z w z fz)
     ∙ ap (cast_signed w) same
     ∙ ap (λ j. cast_signed w (rotated_left (bits w) (cast_unsigned w z) (places j))) amount
 
 module _ (w : Width) (z y r : ℤ) (k : ℕ) (p : 0 < bits w) (le : 2 ^ hbits w ≤ 2 ^ bits w) (fz : SFits w z)
-    (fr : SFits w r) (amount : k % bits w ≡ amount_of w y) where
+    (fr : SFits w r) (amount : k % bits w ≡ amount_modulo w y) where
   -- a rotation to the left by the amount is the one of the table
   pub rotated_to_left : r ≡ cast_signed w (rotate_left w (cast_unsigned w (cast_signed w (cast_unsigned w z))) k)
       → cast_signed w (cast_unsigned w r) ≡ irotl w z y

@@ -9,8 +9,8 @@ use Rattle.std.specs.Ordering.{int_eq}
 use mir.Val.{bits}
 use Rattle.wasmi_types.specs.declared.trap.TrapCode.{TrapCode}
 use Rattle.wasmi_types.specs.declared.trap.TrapCode.TheVariants.{IntegerDivisionByZero, IntegerOverflow}
--- a call answers what the table says, where a function reads the number of its value
-pub use Rattle.wasmi_access.specs.LoadStore.{Answers}
+-- an instruction gives this, where a function reads the number of its value
+pub use Rattle.wasmi_access.specs.LoadStore.{GivesNumber}
 
 -- ---- sums and products
 
@@ -63,16 +63,16 @@ abbrev pub ixor : Width → ℤ → ℤ → ℤ
 ixor w x y = cast_signed w (bit_xor (cast_unsigned w x) (cast_unsigned w y))
 
 -- the amount of a shift or a rotation, modulo the width
-abbrev pub amount_of : Width → ℤ → ℕ
-amount_of w y = cast_unsigned w y % bits w
+abbrev pub amount_modulo : Width → ℤ → ℕ
+amount_modulo w y = cast_unsigned w y % bits w
 
 -- the number shifted to the left by an amount modulo the width, wrapped
 abbrev pub ishl : Width → ℤ → ℤ → ℤ
-ishl w x y = int_wrap w (x *ℤ pos (2 ^ amount_of w y))
+ishl w x y = int_wrap w (x *ℤ pos (2 ^ amount_modulo w y))
 
 -- the quotient by 2 to the power of the amount, rounded down
 abbrev pub ishr_s : Width → ℤ → ℤ → ℤ
-ishr_s w x y = int_shr x (amount_of w y)
+ishr_s w x y = int_shr x (amount_modulo w y)
 
 -- the number shifted to the right by an amount modulo the width, with zeros from above
 abbrev pub ishr_u : Width → ℕ → ℕ → ℕ
@@ -84,11 +84,11 @@ rotated_left b n k = n * 2 ^ k % 2 ^ b + n / 2 ^ (b - k)
 
 -- the bits rotated to the left by an amount modulo the width
 abbrev pub irotl : Width → ℤ → ℤ → ℤ
-irotl w x y = cast_signed w (rotated_left (bits w) (cast_unsigned w x) (amount_of w y))
+irotl w x y = cast_signed w (rotated_left (bits w) (cast_unsigned w x) (amount_modulo w y))
 
 -- to the right by k is to the left by the rest of the bits
 abbrev pub irotr : Width → ℤ → ℤ → ℤ
-irotr w x y = cast_signed w (rotated_left (bits w) (cast_unsigned w x) (bits w - amount_of w y))
+irotr w x y = cast_signed w (rotated_left (bits w) (cast_unsigned w x) (bits w - amount_modulo w y))
 
 -- ---- counts
 

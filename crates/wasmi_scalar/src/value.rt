@@ -5,7 +5,7 @@
 
 ghost use Rattle.std.specs.Prelude.{◌≡◌, false, refl, unsigned_abs};
 ghost use Rattle.std.specs.Int.{int_wrap, w64};
-ghost use Rattle.wasmi_scalar.specs.Numerics.{Answers, amount_of, idiv_s, idiv_u, irem_s, irem_u, ishl, ishr_s, ishr_u, irotl, irotr, iclz, ictz, ipopcnt, ieqz};
+ghost use Rattle.wasmi_scalar.specs.Numerics.{GivesNumber, amount_modulo, idiv_s, idiv_u, irem_s, irem_u, ishl, ishr_s, ishr_u, irotl, irotr, iclz, ictz, ipopcnt, ieqz};
 
 use wasmi_access::access::WrapInto;
 use wasmi_raw::Number;
@@ -87,27 +87,27 @@ pub trait Integer: Unsigned + Number {
     /// `IntegerDivisionByZero` for a divisor of 0, then `IntegerOverflow` for the least number by
     /// -1.
     fn div_s(lhs: Self, rhs: Self) -> Result<Self, TrapCode>
-        ensures { Answers Self.number result
+        ensures { GivesNumber Self.number result
             (idiv_s Self.width (Self.number lhs) (Self.number rhs)) };
 
     /// The quotient.
     ///
     /// `IntegerDivisionByZero` for a divisor of 0.
     fn div_u(lhs: Self::Uint, rhs: Self::Uint) -> Result<Self::Uint, TrapCode>
-        ensures { Answers (λ n. unsigned_abs (Self.Uint.number n)) result
+        ensures { GivesNumber (λ n. unsigned_abs (Self.Uint.number n)) result
             (idiv_u (unsigned_abs (Self.Uint.number lhs)) (unsigned_abs (Self.Uint.number rhs))) };
 
     /// The remainder, with the sign of the dividend; 0 for the least number by -1.
     ///
     /// `IntegerDivisionByZero` for a divisor of 0.
     fn rem_s(lhs: Self, rhs: Self) -> Result<Self, TrapCode>
-        ensures { Answers Self.number result (irem_s (Self.number lhs) (Self.number rhs)) };
+        ensures { GivesNumber Self.number result (irem_s (Self.number lhs) (Self.number rhs)) };
 
     /// The remainder.
     ///
     /// `IntegerDivisionByZero` for a divisor of 0.
     fn rem_u(lhs: Self::Uint, rhs: Self::Uint) -> Result<Self::Uint, TrapCode>
-        ensures { Answers (λ n. unsigned_abs (Self.Uint.number n)) result
+        ensures { GivesNumber (λ n. unsigned_abs (Self.Uint.number n)) result
             (irem_u (unsigned_abs (Self.Uint.number lhs)) (unsigned_abs (Self.Uint.number rhs))) };
 
     /// The unsigned type has the width.
@@ -274,7 +274,7 @@ impl Integer for i64 {
 // The amount of a shift or a rotation, modulo the width.
 #[inline(always)]
 fn amount(rhs: i64) -> u32
-    ensures { result ≡ amount_of w64 rhs }
+    ensures { result ≡ amount_modulo w64 rhs }
 {
     (rhs.cast_unsigned() % 64) as u32
 }

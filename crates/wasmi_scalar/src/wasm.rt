@@ -106,7 +106,7 @@ pub fn i32_rotr(lhs: i32, rhs: i32) -> i32
 ///
 /// `IntegerDivisionByZero` for a divisor of 0, then `IntegerOverflow` for the least number by -1.
 #[inline]
-#[tactic(auto, using(crate::proofs::AnswerLemmas::answered))]
+#[tactic(auto, using(crate::proofs::NumericsLemmas::given))]
 pub fn i32_div_s(lhs: i32, rhs: i32) -> Result<i32, TrapCode>
     ensures { result ≡ idiv_s w32 lhs rhs }
 {
@@ -117,7 +117,7 @@ pub fn i32_div_s(lhs: i32, rhs: i32) -> Result<i32, TrapCode>
 ///
 /// `IntegerDivisionByZero` for a divisor of 0.
 #[inline]
-#[tactic(auto, using(crate::proofs::AnswerLemmas::answered))]
+#[tactic(auto, using(crate::proofs::NumericsLemmas::given))]
 pub fn i32_div_u(lhs: u32, rhs: u32) -> Result<u32, TrapCode>
     ensures { result ≡ idiv_u lhs rhs }
 {
@@ -128,7 +128,7 @@ pub fn i32_div_u(lhs: u32, rhs: u32) -> Result<u32, TrapCode>
 ///
 /// `IntegerDivisionByZero` for a divisor of 0.
 #[inline]
-#[tactic(auto, using(crate::proofs::AnswerLemmas::answered))]
+#[tactic(auto, using(crate::proofs::NumericsLemmas::given))]
 pub fn i32_rem_s(lhs: i32, rhs: i32) -> Result<i32, TrapCode>
     ensures { result ≡ irem_s lhs rhs }
 {
@@ -139,7 +139,7 @@ pub fn i32_rem_s(lhs: i32, rhs: i32) -> Result<i32, TrapCode>
 ///
 /// `IntegerDivisionByZero` for a divisor of 0.
 #[inline]
-#[tactic(auto, using(crate::proofs::AnswerLemmas::answered))]
+#[tactic(auto, using(crate::proofs::NumericsLemmas::given))]
 pub fn i32_rem_u(lhs: u32, rhs: u32) -> Result<u32, TrapCode>
     ensures { result ≡ irem_u lhs rhs }
 {
@@ -350,7 +350,7 @@ pub fn i64_rotr(lhs: i64, rhs: i64) -> i64
 ///
 /// `IntegerDivisionByZero` for a divisor of 0, then `IntegerOverflow` for the least number by -1.
 #[inline]
-#[tactic(auto, using(crate::proofs::AnswerLemmas::answered))]
+#[tactic(auto, using(crate::proofs::NumericsLemmas::given))]
 pub fn i64_div_s(lhs: i64, rhs: i64) -> Result<i64, TrapCode>
     ensures { result ≡ idiv_s w64 lhs rhs }
 {
@@ -361,7 +361,7 @@ pub fn i64_div_s(lhs: i64, rhs: i64) -> Result<i64, TrapCode>
 ///
 /// `IntegerDivisionByZero` for a divisor of 0.
 #[inline]
-#[tactic(auto, using(crate::proofs::AnswerLemmas::answered))]
+#[tactic(auto, using(crate::proofs::NumericsLemmas::given))]
 pub fn i64_div_u(lhs: u64, rhs: u64) -> Result<u64, TrapCode>
     ensures { result ≡ idiv_u lhs rhs }
 {
@@ -372,7 +372,7 @@ pub fn i64_div_u(lhs: u64, rhs: u64) -> Result<u64, TrapCode>
 ///
 /// `IntegerDivisionByZero` for a divisor of 0.
 #[inline]
-#[tactic(auto, using(crate::proofs::AnswerLemmas::answered))]
+#[tactic(auto, using(crate::proofs::NumericsLemmas::given))]
 pub fn i64_rem_s(lhs: i64, rhs: i64) -> Result<i64, TrapCode>
     ensures { result ≡ irem_s lhs rhs }
 {
@@ -383,7 +383,7 @@ pub fn i64_rem_s(lhs: i64, rhs: i64) -> Result<i64, TrapCode>
 ///
 /// `IntegerDivisionByZero` for a divisor of 0.
 #[inline]
-#[tactic(auto, using(crate::proofs::AnswerLemmas::answered))]
+#[tactic(auto, using(crate::proofs::NumericsLemmas::given))]
 pub fn i64_rem_u(lhs: u64, rhs: u64) -> Result<u64, TrapCode>
     ensures { result ≡ irem_u lhs rhs }
 {
