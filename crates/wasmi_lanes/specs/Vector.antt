@@ -1,6 +1,6 @@
 -- Vectors by their lanes, in the terms of the WebAssembly core specification (section "Numerics", "Vector Operations").
 -- Everywhere `read` is how a lane's number is read, as it is or signed, and `row` is the number of the resulting lane.
-use Rattle.std.specs.Prelude.{ℕ, zero, suc, ◌+◌, ◌-◌, ◌*◌, ◌/◌, ◌%◌, ◌^◌, Bool, if◌then◌else◌, ◌==◌}
+use Rattle.std.specs.Prelude.{◌≡◌, ℕ, zero, suc, ◌+◌, ◌-◌, ◌*◌, ◌/◌, ◌%◌, ◌^◌, Bool, if◌then◌else◌, ◌==◌}
 use Rattle.wasmi_types.specs.Wrapping.{Width, bits}
 use Rattle.wasmi_lanes.specs.Lane.{lane}
 
@@ -33,3 +33,16 @@ splat_of w n = from_lanes w (λ _. n)
 -- v with n in lane k
 unfoldable pub with_lane : Width → ℕ → ℕ → ℕ → ℕ
 with_lane w v k n = from_lanes w (λ i. if i == k then n else lane w v i)
+
+-- what is made of an item in range has the number that the row names; `Makes` relates the item to what is made of it
+abbrev pub ComputesLane : {A : Type 0} → (A → Type 0) → (A → ℕ) → (A → A → Type 0) → (A → ℕ) → Type 0
+ComputesLane {A} Fits image Makes row = (x z : A) → Fits x → Fits z → Makes x z → image z ≡ row x
+
+-- what is made of two items in range has the number that the row names for them
+abbrev pub ComputesLaneOfTwo : {A : Type 0} → (A → Type 0) → (A → ℕ) → (A → A → A → Type 0) → (A → A → ℕ) → Type 0
+ComputesLaneOfTwo {A} Fits image Makes row =
+    (x y z : A) → Fits x → Fits y → Fits z → Makes x y z → image z ≡ row x y
+
+-- the Boolean that is made of two items in range is that of the test
+abbrev pub DecidesTest : {A : Type 0} → (A → Type 0) → (A → A → Bool → Type 0) → (A → A → Bool) → Type 0
+DecidesTest {A} Fits Makes test = (x y : A) (holds : Bool) → Fits x → Fits y → Makes x y holds → holds ≡ test x y

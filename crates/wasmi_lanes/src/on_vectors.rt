@@ -4,7 +4,7 @@
 ghost use Rattle.std.specs.Prelude.{◌≡◌, ℕ, ◌<◌, ◌-◌, ◌^◌, Bool, if◌then◌else◌};
 ghost use Rattle.wasmi_types.specs.Wrapping.{bits};
 ghost use Rattle.wasmi_lanes.specs.Lane.{lane};
-ghost use Rattle.wasmi_lanes.specs.Vector.{unary_of_lanes, binary_of_lanes, comparison_of_lanes, splat_of};
+ghost use Rattle.wasmi_lanes.specs.Vector.{unary_of_lanes, binary_of_lanes, comparison_of_lanes, splat_of, ComputesLane, ComputesLaneOfTwo, DecidesTest};
 
 use crate::lanes::Lanes;
 use wasmi_raw::V128;
@@ -13,12 +13,12 @@ use wasmi_raw::V128;
 #[inline(always)]
 pub fn unary<L: Lanes, F: Fn(L::Item) -> L::Item>(a: V128, f: F) -> V128
     requires callable { F.IsAlwaysCallable f }
-    ensures lanes { (row : L.Item → ℕ)
-        → ((x z : L.Item) → L.Item.Fits x → L.Item.Fits z → F.post f x z → L.Item.image z ≡ row x)
-        → result ≡ unary_of_lanes L.Item.width L.Item.read row a }
     ensures each { (i : ℕ) → i < L.LANES
         → F.post f (L.Item.read (lane L.Item.width a i))
         (L.Item.read (lane L.Item.width result i)) }
+    ensures lanes { (row : L.Item → ℕ)
+        → ComputesLane L.Item.Fits L.Item.image (λ x z. F.post f x z) row
+        → result ≡ unary_of_lanes L.Item.width L.Item.read row a }
 {
     L::from_v128(a).lanewise_unary(f).into_v128()
 }
@@ -27,13 +27,12 @@ pub fn unary<L: Lanes, F: Fn(L::Item) -> L::Item>(a: V128, f: F) -> V128
 #[inline(always)]
 pub fn binary<L: Lanes, F: Fn(L::Item, L::Item) -> L::Item>(a: V128, b: V128, f: F) -> V128
     requires callable { F.IsAlwaysCallable f }
-    ensures lanes { (row : L.Item → L.Item → ℕ)
-        → ((x y z : L.Item) → L.Item.Fits x → L.Item.Fits y → L.Item.Fits z → F.post f x y z
-        → L.Item.image z ≡ row x y)
-        → result ≡ binary_of_lanes L.Item.width L.Item.read row a b }
     ensures each { (i : ℕ) → i < L.LANES
         → F.post f (L.Item.read (lane L.Item.width a i)) (L.Item.read (lane L.Item.width b i))
         (L.Item.read (lane L.Item.width result i)) }
+    ensures lanes { (row : L.Item → L.Item → ℕ)
+        → ComputesLaneOfTwo L.Item.Fits L.Item.image (λ x y z. F.post f x y z) row
+        → result ≡ binary_of_lanes L.Item.width L.Item.read row a b }
 {
     L::from_v128(a)
         .lanewise_binary(L::from_v128(b), f)
@@ -44,15 +43,14 @@ pub fn binary<L: Lanes, F: Fn(L::Item, L::Item) -> L::Item>(a: V128, b: V128, f:
 #[inline(always)]
 pub fn comparison<L: Lanes, F: Fn(L::Item, L::Item) -> bool>(a: V128, b: V128, f: F) -> V128
     requires callable { F.IsAlwaysCallable f }
-    ensures lanes { (test : L.Item → L.Item → Bool)
-        → ((x y : L.Item) (holds : Bool) → L.Item.Fits x → L.Item.Fits y → F.post f x y holds
-        → holds ≡ test x y)
-        → result ≡ comparison_of_lanes L.Item.width L.Item.read test a b }
     ensures each { (i : ℕ) → i < L.LANES
         → (holds : Bool)
         × F.post f (L.Item.read (lane L.Item.width a i))
         (L.Item.read (lane L.Item.width b i)) holds
         × (lane L.Item.width result i ≡ (if holds then 2 ^ bits L.Item.width - 1 else 0)) }
+    ensures lanes { (test : L.Item → L.Item → Bool)
+        → DecidesTest L.Item.Fits (λ x y holds. F.post f x y holds) test
+        → result ≡ comparison_of_lanes L.Item.width L.Item.read test a b }
 {
     L::from_v128(a)
         .lanewise_comparison(L::from_v128(b), f)
