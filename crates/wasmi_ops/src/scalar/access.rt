@@ -9,10 +9,6 @@ use wasmi_raw::{RawVal, ReadAs};
 use wasmi_types::TrapCode;
 
 /// A scalar load.
-///
-/// Its variants stand in the order of `LOADS`, which has their names.
-///
-/// Own: instructions as values.
 #[derive(Clone, Copy, Debug, PartialEq, Eq)]
 pub enum LoadOp {
     I32Load8S,
@@ -69,10 +65,6 @@ impl LoadOp {
 }
 
 /// A scalar store.
-///
-/// Its variants stand in the order of `STORES`, which has their names.
-///
-/// Own: instructions as values.
 #[derive(Clone, Copy, Debug, PartialEq, Eq)]
 pub enum StoreOp {
     I32Store8,

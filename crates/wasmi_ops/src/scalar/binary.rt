@@ -8,10 +8,6 @@ use wasmi_scalar::wasm;
 use wasmi_types::TrapCode;
 
 /// A scalar instruction of two operands.
-///
-/// Its variants stand in the order of `SCALAR_BINARIES`, which has their names.
-///
-/// Own: instructions as values.
 #[derive(Clone, Copy, Debug, PartialEq, Eq)]
 pub enum ScalarBinaryOp {
     I32Add,

@@ -6,10 +6,6 @@ use wasmi_raw::{RawVal, ReadAs};
 use wasmi_scalar::wasm;
 
 /// A scalar instruction of one operand.
-///
-/// Its variants stand in the order of `SCALAR_UNARIES`, which has their names.
-///
-/// Own: instructions as values.
 #[derive(Clone, Copy, Debug, PartialEq, Eq)]
 pub enum ScalarUnaryOp {
     I32Clz,

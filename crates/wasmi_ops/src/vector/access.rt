@@ -9,8 +9,6 @@ use wasmi_types::TrapCode;
 use wasmi_vector_access::simd as access;
 
 /// A load of a vector.
-///
-/// Its variants stand in the order of `VECTOR_LOADS`, which has their names.
 #[derive(Clone, Copy, Debug, PartialEq, Eq)]
 pub enum VectorLoadOp {
     V128Load,
@@ -70,8 +68,6 @@ impl VectorLoadOp {
 }
 
 /// A load of one lane of a vector, with its index.
-///
-/// Its variants stand in the order of `LANE_LOADS`, which has their names.
 #[derive(Clone, Copy, Debug, PartialEq, Eq)]
 pub enum LoadLaneOp {
     V128Load8Lane(ImmLaneIdx16),
@@ -104,8 +100,6 @@ impl LoadLaneOp {
 }
 
 /// A store of one lane of a vector, with its index.
-///
-/// Its variants stand in the order of `LANE_STORES`, which has their names.
 #[derive(Clone, Copy, Debug, PartialEq, Eq)]
 pub enum StoreLaneOp {
     V128Store8Lane(ImmLaneIdx16),

@@ -7,8 +7,6 @@ use wasmi_raw::V128;
 use wasmi_simd::simd;
 
 /// A vector instruction of two operands.
-///
-/// Its variants stand in the order of `BINARIES`, which has their names.
 #[derive(Clone, Copy, Debug, PartialEq, Eq)]
 pub enum BinaryOp {
     I8x16Add,

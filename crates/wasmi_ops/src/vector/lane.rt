@@ -7,8 +7,6 @@ use wasmi_lanewise::simd as lanewise;
 use wasmi_raw::{RawVal, ReadAs, V128};
 
 /// A lane that is taken from a vector, with its index.
-///
-/// Its variants stand in the order of `EXTRACTIONS`, which has their names.
 #[derive(Clone, Copy, Debug, PartialEq, Eq)]
 pub enum ExtractOp {
     I8x16ExtractLaneS(ImmLaneIdx16),
@@ -38,8 +36,6 @@ impl ExtractOp {
 }
 
 /// A lane of a vector that takes an item, with its index.
-///
-/// Its variants stand in the order of `REPLACEMENTS`, which has their names.
 #[derive(Clone, Copy, Debug, PartialEq, Eq)]
 pub enum ReplaceOp {
     I8x16ReplaceLane(ImmLaneIdx16),

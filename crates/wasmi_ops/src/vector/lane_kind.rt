@@ -7,8 +7,6 @@ use crate::vector::lane::{ExtractOp, ReplaceOp};
 use wasmi_lanes::{ImmLaneIdx2, ImmLaneIdx4, ImmLaneIdx8, ImmLaneIdx16};
 
 /// A lane that is taken from a vector, whatever the lane.
-///
-/// Its variants stand in the order of `EXTRACTIONS`, which has their names.
 #[derive(Clone, Copy, Debug, PartialEq, Eq)]
 pub enum ExtractKind {
     I8x16ExtractLaneS,
@@ -47,8 +45,6 @@ impl ExtractKind {
 }
 
 /// A lane of a vector that takes an item, whatever the lane.
-///
-/// Its variants stand in the order of `REPLACEMENTS`, which has their names.
 #[derive(Clone, Copy, Debug, PartialEq, Eq)]
 pub enum ReplaceKind {
     I8x16ReplaceLane,
@@ -81,8 +77,6 @@ impl ReplaceKind {
 }
 
 /// A load of one lane of a vector, whatever the lane.
-///
-/// Its variants stand in the order of `LANE_LOADS`, which has their names.
 #[derive(Clone, Copy, Debug, PartialEq, Eq)]
 pub enum LoadLaneKind {
     V128Load8Lane,
@@ -115,8 +109,6 @@ impl LoadLaneKind {
 }
 
 /// A store of one lane of a vector, whatever the lane.
-///
-/// Its variants stand in the order of `LANE_STORES`, which has their names.
 #[derive(Clone, Copy, Debug, PartialEq, Eq)]
 pub enum StoreLaneKind {
     V128Store8Lane,

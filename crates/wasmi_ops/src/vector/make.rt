@@ -7,8 +7,6 @@ use wasmi_raw::{RawVal, ReadAs, V128};
 use wasmi_simd::simd;
 
 /// A vector instruction whose operand is an item.
-///
-/// Its variants stand in the order of `MAKES`, which has their names.
 #[derive(Clone, Copy, Debug, PartialEq, Eq)]
 pub enum MakeOp {
     I8x16Splat,

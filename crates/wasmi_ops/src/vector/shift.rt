@@ -6,8 +6,6 @@ use wasmi_raw::V128;
 use wasmi_simd::simd;
 
 /// A shift of the lanes of a vector, by an amount modulo their width.
-///
-/// Its variants stand in the order of `SHIFTS`, which has their names.
 #[derive(Clone, Copy, Debug, PartialEq, Eq)]
 pub enum ShiftOp {
     I8x16Shl,

@@ -6,8 +6,6 @@ use wasmi_raw::{RawVal, V128};
 use wasmi_simd::simd;
 
 /// A test of a vector, or its mask.
-///
-/// Its variants stand in the order of `TESTS`, which has their names.
 #[derive(Clone, Copy, Debug, PartialEq, Eq)]
 pub enum TestOp {
     I8x16AllTrue,

@@ -7,8 +7,6 @@ use wasmi_raw::V128;
 use wasmi_simd::simd;
 
 /// A vector instruction of one operand.
-///
-/// Its variants stand in the order of `UNARIES`, which has their names.
 #[derive(Clone, Copy, Debug, PartialEq, Eq)]
 pub enum UnaryOp {
     V128Not,
