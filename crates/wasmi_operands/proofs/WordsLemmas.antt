@@ -8,18 +8,18 @@ use Rattle.std.proofs.lemmas.List.Splits.{slice_split_at, slice_split_none}
 use Rattle.wasmi_operands.specs.declared.error.LineError.{LineError}
 use Rattle.wasmi_operands.specs.declared.error.LineError.TheVariants.{BadCommand, OutOfMemory}
 use Rattle.wasmi_operands.specs.Acceptance.{Accepts, AcceptsWithMemory}
-use Rattle.wasmi_operands.specs.Words.{Words, WritesEach, word_at, words_in}
+use Rattle.wasmi_operands.specs.LineWords.{LineWords, WritesEach, word_at, words_in}
 
 -- a word without a text
 abbrev no_word : Bor (List ℕ)
 no_word = record { ref_ptr = (0, 0); now = [] }
 
 -- how many words stand before the last one
-pub length_of_front : (words : Words) (n : ℕ) → length words ≡ n + 1 → length (take (length words - 1) words) ≡ n
+pub length_of_front : (words : LineWords) (n : ℕ) → length words ≡ n + 1 → length (take (length words - 1) words) ≡ n
 length_of_front words n is = omega (arith, length-take (length words - 1) words, is)
 
 -- what holds of a word's text holds of it in the front that has the word
-pub in_front : (P : List ℕ → Type 0) (words : Words) (n k : ℕ) → k < n → P (word_at words k)
+pub in_front : (P : List ℕ → Type 0) (words : LineWords) (n k : ℕ) → k < n → P (word_at words k)
     → P (word_at (take n words) k)
 in_front P words n k less p =
     subst P (sym (get_or-map (λ word. word.now) (take n words) k no_word
@@ -27,19 +27,19 @@ in_front P words n k less p =
     ∙ sym (get_or-map (λ word. word.now) words k no_word))) p
 
 -- what holds of a word's text holds of the word
-pub at_place : (P : List ℕ → Type 0) (words : Words) (n k : ℕ) → n ≡ k → P (word_at words k)
+pub at_place : (P : List ℕ → Type 0) (words : LineWords) (n k : ℕ) → n ≡ k → P (word_at words k)
     → P (get_or words n no_word).now
 at_place P words n k same p =
     subst (λ i. P (get_or words i no_word).now) (sym same) (subst P (get_or-map (λ word. word.now) words k no_word) p)
 
 -- how many words stand after the first ones
-pub length_of_rest : (words : Words) (n k : ℕ) → length words ≡ n + k
+pub length_of_rest : (words : LineWords) (n k : ℕ) → length words ≡ n + k
     → length (take (length words - n) (drop n words)) ≡ k
 length_of_rest words n k is =
     omega (arith, length-take (length words - n) (drop n words), length-drop n words, is)
 
 -- what holds of a word's text holds of it among the words after the first ones
-pub in_rest : (P : List ℕ → Type 0) (words : Words) (n k : ℕ) → n + k < length words → P (word_at words (n + k))
+pub in_rest : (P : List ℕ → Type 0) (words : LineWords) (n k : ℕ) → n + k < length words → P (word_at words (n + k))
     → P (word_at (take (length words - n) (drop n words)) k)
 in_rest P words n k less p =
     in_front P (drop n words) (length words - n) k (omega (arith, less)) (subst P (
@@ -102,7 +102,7 @@ word_before_end line n some end word =
 
 module _ {A : Type 0} (Writes : List ℕ → A → Type 0) where
   -- one word more, and what it writes
-  one_more : (words : Words) (i : ℕ) (none : Bor (List ℕ)) (items : List A) (item : A) → i < length words
+  one_more : (words : LineWords) (i : ℕ) (none : Bor (List ℕ)) (items : List A) (item : A) → i < length words
       → WritesEach Writes (take i words) items → Writes (get_or words i none).now item
       → WritesEach Writes (take (suc i) words) (items ++ item ∷ [])
   one_more [] i none items item below before last = absurd (omega (arith, below))
@@ -113,7 +113,7 @@ module _ {A : Type 0} (Writes : List ℕ → A → Type 0) where
       (before.0, one_more words i none items item (omega (arith, below)) before.1 last)
 
   -- the same, by the place of the next word
-  pub one_word_more : (words : Words) (i : ℕ) (none : Bor (List ℕ)) (items : List A) (item : A) → i < length words
+  pub one_word_more : (words : LineWords) (i : ℕ) (none : Bor (List ℕ)) (items : List A) (item : A) → i < length words
       → WritesEach Writes (take i words) items → Writes (get_or words i none).now item
       → WritesEach Writes (take (i + 1) words) (items ++ item ∷ [])
   one_word_more words i none items item below before last =
@@ -121,7 +121,7 @@ module _ {A : Type 0} (Writes : List ℕ → A → Type 0) where
       (one_more words i none items item below before last)
 
   -- words of which one writes nothing write no list
-  pub not_each : (words : Words) (i : ℕ) (none : Bor (List ℕ)) → i < length words
+  pub not_each : (words : LineWords) (i : ℕ) (none : Bor (List ℕ)) → i < length words
       → ((item : A) → ¬ (Writes (get_or words i none).now item)) → (items : List A) → ¬ (WritesEach Writes words items)
   not_each [] i none below unfit items each = omega (arith, below)
   not_each (word ∷ words) i none below unfit [] each = each
@@ -130,7 +130,8 @@ module _ {A : Type 0} (Writes : List ℕ → A → Type 0) where
       not_each words i none (omega (arith, below)) unfit items each.1
 
   -- what takes memory refuses words of which one is refused
-  pub refused_list : {V : Type 0} (items : V → List A) (words : Words) (i : ℕ) (none : Bor (List ℕ)) (error : LineError)
+  pub refused_list : {V : Type 0} (items : V → List A) (words : LineWords) (i : ℕ) (none : Bor (List ℕ))
+      (error : LineError)
       → i < length words → Accepts {A = A} (Err error) (Writes (get_or words i none).now)
       → AcceptsWithMemory {A = V} (Err error) (λ list. WritesEach Writes words (items list))
   refused_list items words i none BadCommand below unfit = λ list. not_each words i none below unfit (items list)
@@ -138,7 +139,7 @@ module _ {A : Type 0} (Writes : List ℕ → A → Type 0) where
 
   -- where a word names what it writes, words write one list at most
   pub each_named : (name : List ℕ → A) → ((word : List ℕ) (item : A) → Writes word item → name word ≡ item)
-      → (words : Words) (items : List A) → WritesEach Writes words items
+      → (words : LineWords) (items : List A) → WritesEach Writes words items
       → map name (map (λ word. word.now) words) ≡ items
   each_named name is [] [] each = refl
   each_named name is [] (item ∷ items) each = absurd each
@@ -149,7 +150,7 @@ module _ {A : Type 0} (Writes : List ℕ → A → Type 0) where
   -- words write what something says of each of them
   pub each_said : (Says : Bor (List ℕ) → A → Type 0)
       → ((word : Bor (List ℕ)) (item : A) → Says word item → Writes word.now item)
-      → (words : Words) (items : List A) → AllZip Says words items → WritesEach Writes words items
+      → (words : LineWords) (items : List A) → AllZip Says words items → WritesEach Writes words items
   each_said Says writes [] [] said = tt
   each_said Says writes [] (item ∷ items) said = absurd said
   each_said Says writes (word ∷ words) [] said = absurd said

@@ -6,7 +6,7 @@ use Rattle.wasmi_ops.specs.declared.vector.lane.ReplaceOp.{ReplaceOp}
 use Rattle.wasmi_ops.specs.declared.vector.access.LoadLaneOp.{LoadLaneOp}
 use Rattle.wasmi_ops.specs.declared.vector.access.StoreLaneOp.{StoreLaneOp}
 use Rattle.wasmi_operands.specs.Names.{IsName}
-use Rattle.wasmi_operands.specs.Words.{Words, WritesEach}
+use Rattle.wasmi_operands.specs.LineWords.{LineWords, WritesEach}
 use Rattle.wasmi_operands.specs.Decimal.{WritesNumber}
 
 -- two words are a name and an index, and the instruction is the one of this name on the lane of this index
@@ -32,6 +32,6 @@ abbrev pub NamesStoreLane : List ℕ → List ℕ → StoreLaneOp → Type 0
 NamesStoreLane = NamesLane store_lane_name store_lane_op
 
 -- sixteen words write the lanes of a shuffle, of which there are 32 to choose from
-pub record WritesLanes (words : Words) (lanes : List ℕ) : Type 0 where
+pub record WritesLanes (words : LineWords) (lanes : List ℕ) : Type 0 where
   pub sixteen : length words ≡ 16
   pub written : WritesEach (WritesNumber 5) words lanes

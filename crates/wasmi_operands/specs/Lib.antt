@@ -1,4 +1,4 @@
-pub mod Words
+pub mod LineWords
 pub mod Decimal
 pub mod Acceptance
 pub mod TypeWords

@@ -4,7 +4,7 @@ ghost use Rattle.wasmi_operands.specs.Acceptance.{Accepts, AcceptsWithMemory};
 ghost use Rattle.wasmi_operands.specs.Decimal.{WritesNumber};
 ghost use Rattle.wasmi_operands.specs.Names.{IsName};
 ghost use Rattle.wasmi_operands.specs.TypeWords.{reference_word, value_word, mutability_word};
-ghost use Rattle.wasmi_operands.specs.Words.{WritesEach, word_at};
+ghost use Rattle.wasmi_operands.specs.LineWords.{WritesEach, word_at};
 ghost use Rattle.wasmi_ops.specs.ScalarAccessOps.{load_name, store_name};
 ghost use Rattle.wasmi_ops.specs.ScalarBinaryOps.{scalar_binary_name};
 ghost use Rattle.wasmi_ops.specs.ScalarUnaryOps.{scalar_unary_name};

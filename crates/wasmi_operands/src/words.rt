@@ -1,6 +1,6 @@
 //! The words of a line, which spaces alone separate.
 ghost use Rattle.std.specs.Prelude.{◌≡◌, ◌<◌, ◌∷◌, ◌≤◌, ◌≢◌, [], length, map, IfSome, MatchOption, OnOk, take, drop, slice_index, IsCharBoundary};
-ghost use Rattle.wasmi_operands.specs.Words.{words_in};
+ghost use Rattle.wasmi_operands.specs.LineWords.{words_in};
 
 use std::alloc::AllocError;
 

@@ -1,5 +1,5 @@
 use Rattle.std.proofs.Common.{take}
-use Rattle.wasmi_operands.specs.Words.{WritesEach}
+use Rattle.wasmi_operands.specs.LineWords.{WritesEach}
 use Rattle.wasmi_operands.proofs.operand.list_of.Given as goal
 
 abbrev pub invariant-loop-word : goal.invariant-loop-word

@@ -1,7 +1,7 @@
 use Rattle.std.proofs.Common.{◌≡◌, ◌++◌, length, map}
 use denote.Text.{Utf8}
 use denote.Shadow.{shadow}
-use Rattle.wasmi_operands.specs.Words.{words_in}
+use Rattle.wasmi_operands.specs.LineWords.{words_in}
 use Rattle.wasmi_operands.proofs.words.read_words.Given as goal
 
 abbrev pub invariant-loop-word : goal.invariant-loop-word

@@ -1,5 +1,5 @@
 use Rattle.std.proofs.Common.{length, ◌-◌, ◌≡◌, ◌<◌, ◌≤◌, drop, slice_index}
-use Rattle.wasmi_operands.specs.Words.{words_in}
+use Rattle.wasmi_operands.specs.LineWords.{words_in}
 use Rattle.wasmi_operands.proofs.words.without_spaces.Given as goal
 
 abbrev pub invariant-loop-start : goal.invariant-loop-start

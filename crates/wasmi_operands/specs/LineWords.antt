@@ -4,11 +4,11 @@ use Rattle.std.specs.List.{AllZip, slice_split}
 use Rattle.std.specs.Borrow.{Bor}
 
 -- words, each with its text
-abbrev pub Words : Type 0
-Words = List (Bor (List ℕ))
+abbrev pub LineWords : Type 0
+LineWords = List (Bor (List ℕ))
 
 -- the text of the word at this place
-abbrev pub word_at : Words → ℕ → List ℕ
+abbrev pub word_at : LineWords → ℕ → List ℕ
 word_at words k = slice_index_or (map (λ word. word.now) words) k []
 
 -- the words of a line: what stands between its spaces
@@ -16,5 +16,5 @@ unfoldable pub words_in : List ℕ → List (List ℕ)
 words_in line = filter (λ word. nat_lt 0 (length word)) (slice_split (λ byte. byte == 32) line)
 
 -- each word writes one of these, in order
-abbrev pub WritesEach : {A : Type 0} → (List ℕ → A → Type 0) → Words → List A → Type 0
+abbrev pub WritesEach : {A : Type 0} → (List ℕ → A → Type 0) → LineWords → List A → Type 0
 WritesEach Writes words items = AllZip Writes (map (λ word. word.now) words) items
