@@ -24,14 +24,14 @@ pub record Request (V E : Type 0) : Type 1 where
   -- the first cause before the question
   pub early : Option E
   pub question : Question
-  -- the error where the limiter says no, and where it answers an error, to the question or to the notice
+  -- the error if the limiter says no, and the error if it returns one to the question or to the notice
   pub denial : E
   pub refusal : E
-  -- how the limiter is told of a cause
+  -- the notice that the limiter gets of a cause
   pub notice : E → Failure
   -- the first cause after the permission that stands before the charge
   pub late : Option E
-  -- the price by a meter's costs, if there is one, and the cause where so much can't be paid
+  -- the price by a meter's costs, if there is one, and the cause if so much can't be paid
   pub price : Option (CustomFuelCosts → ℕ)
   pub unpaid : ℕ → E
   -- the causes by which what is grown into may refuse after the charge
@@ -47,7 +47,7 @@ pub data AttemptOutcome (E : Type 0) : Type 0 where
   Met : AttemptOutcome E
   Failed : E → NoticeAnswer → AttemptOutcome E
 
--- what is due for a price: nothing where there is no price or no meter, or where the meter is off
+-- what is due for a price: nothing if there is no price or no meter, or if the meter is off
 abbrev pub optional_due : Option Meter → Option (CustomFuelCosts → ℕ) → ℕ
 optional_due (Some m) (Some price) = due m price
 optional_due (Some m) None = 0
@@ -68,20 +68,20 @@ abbrev pub error_of_failure : {E : Type 0} → E → E → NoticeAnswer → E
 error_of_failure refusal cause (Ok _) = cause
 error_of_failure refusal cause (Err _) = refusal
 
--- what a limiter's answer comes to: nothing where it permits, else the error
+-- the result of a limiter's answer: no error if it permits, else the error
 abbrev pub Permits : {E : Type 0} → E → E → Answer → Result (Unit {0}) E → Type 0
 Permits denial refusal answer (Ok _) = answer ≡ Ok true
 Permits denial refusal answer (Err error) = IsDenial answer × (error ≡ error_of_answer denial refusal answer)
 
 module _ {V E : Type 0} (e : Request V E) where
-  -- what is answered, where success answers this value
+  -- the result of an attempt that ends so: this value if it is met, else the error
   abbrev pub answer_of : {T : Type 0} → T → AttemptOutcome E → Result T E
   answer_of value (Unasked cause) = Err cause
   answer_of value (Denied answer) = Err (error_of_answer e.denial e.refusal answer)
   answer_of value Met = Ok value
   answer_of value (Failed cause notice_answer) = Err (error_of_failure e.refusal cause notice_answer)
 
-  -- the value afterwards: the grown one where the attempt was met, else the same
+  -- the value afterwards: the grown one if the attempt was met, else the same
   abbrev pub value_after : V → AttemptOutcome E → V
   value_after value (Unasked cause) = value
   value_after value (Denied answer) = value

@@ -13,11 +13,11 @@ pub record Question : Type 0 where
   pub desired : ℕ
   pub maximum : Option ℕ
 
--- what a limiter answers to a question, and to a notice
+-- what a limiter answers to a question: it permits, says no, or returns an error
 abbrev pub Answer : Type 0
 Answer = Result Bool LimiterError
 
--- what a limiter answers to a notice: it accepts it, or an error
+-- what a limiter answers to a notice: it accepts it, or returns an error
 abbrev pub NoticeAnswer : Type 0
 NoticeAnswer = Result (Unit {0}) LimiterError
 

@@ -3,7 +3,7 @@ ghost use Rattle.std.specs.Prelude.{◌≡◌};
 
 use crate::limiter::Kind;
 
-/// So many bytes of linear memories, and so many elements of tables.
+/// An amount of bytes of linear memories, and one of elements of tables.
 ///
 /// Own: upstream implements no limiter.
 #[derive(Clone, Copy, Debug)]

@@ -1,13 +1,13 @@
-//! Why memories and tables refuse, and what a resource limiter answers in place of a permission.
+//! Why calls on memories and tables are refused, and the error of a resource limiter.
 use crate::fuel::FuelError;
 use std::fmt;
 
-/// What a resource limiter answers in place of a permission, or to a notice.
+/// The error that a resource limiter returns to a question or to a notice.
 ///
 /// Upstream: `wasmi_core::LimiterError`.
 #[derive(Clone, Copy, Debug, PartialEq, Eq)]
 pub enum LimiterError {
-    /// The limiter refuses, or complains of what it is told.
+    /// The limiter refuses what it was asked, or rejects the notice that it got.
     ResourceLimiterDeniedAllocation,
 }
 
@@ -35,21 +35,20 @@ impl std::error::Error for LimiterError {}
 pub enum MemoryError {
     /// The system refused memory for an owned memory.
     OutOfSystemMemory,
-    /// A growth above the greatest number of pages or the maximum, or one that the limiter says no
-    /// to.
+    /// A growth above the greatest number of pages or the maximum, or one that the limiter denies.
     OutOfBoundsGrowth,
     /// A read or a write that ends past the memory.
     OutOfBoundsAccess,
     /// A page size other than 1 byte and 64 KiB, or limits above the greatest number of pages or
     /// out of order.
     InvalidMemoryType,
-    /// A lent region that is too short.
+    /// A borrowed buffer that is too short.
     InvalidStaticBufferSize,
-    /// The limiter said no to a creation, or answered an error to a question or a notice.
+    /// The limiter denied a creation, or returned an error to a question or a notice.
     ResourceLimiterDeniedAllocation,
     /// A creation whose minimum has 2^64 bytes or more.
     MinimumSizeOverflow,
-    /// Never answered where `usize` has 64 bits.
+    /// Never returned on a platform where `usize` has 64 bits.
     MaximumSizeOverflow,
     /// A growth costs more fuel than is left.
     OutOfFuel { required_fuel: u64 },
@@ -96,14 +95,14 @@ impl std::error::Error for MemoryError {}
 pub enum TableError {
     /// The system refused memory.
     OutOfSystemMemory,
-    /// Never answered where `usize` has 64 bits.
+    /// Never returned on a platform where `usize` has 64 bits.
     MinimumSizeOverflow,
-    /// Never answered where `usize` has 64 bits.
+    /// Never returned on a platform where `usize` has 64 bits.
     MaximumSizeOverflow,
-    /// The limiter said no to a creation, or answered an error to a question or a notice.
+    /// The limiter denied a creation, or returned an error to a question or a notice.
     ResourceLimiterDeniedAllocation,
-    /// A growth above the greatest number of elements or the maximum, or one that the limiter says
-    /// no to.
+    /// A growth above the greatest number of elements or the maximum, or one that the limiter
+    /// denies.
     GrowOutOfBounds,
     /// An initialization that ends past the table or the element segment.
     InitOutOfBounds,

@@ -36,7 +36,7 @@ pub trait FuelCosts {
     /// The three costs as one value.
     ghost costs: { Self → CustomFuelCosts };
 
-    /// How many bytes are copied for one fuel; 0 makes each copy cost the greatest `u64`.
+    /// How many bytes are copied for one unit of fuel; at 0 each copy costs `u64::MAX`.
     fn bytes_copied_per_fuel(&self) -> u32
         ensures { result ≡ (costs self.now).bytes_copied_per_fuel };
 
@@ -49,34 +49,12 @@ pub trait FuelCosts {
         ensures { result ≡ (costs self.now).fuel_per_bytes_validated };
 }
 
-/// The costs that stand where a host chooses none: 64 bytes copied a fuel, 7 fuel a translated byte
-/// and 2 a validated byte.
-struct DefaultFuelCosts;
-
-impl FuelCosts for DefaultFuelCosts {
-    ghost use Rattle.wasmi_meter.specs.Costs.{default_costs};
-
-    ghost costs = { λ _. default_costs };
-
-    fn bytes_copied_per_fuel(&self) -> u32 {
-        64
-    }
-
-    fn fuel_per_bytes_translated(&self) -> u32 {
-        7
-    }
-
-    fn fuel_per_bytes_validated(&self) -> u32 {
-        2
-    }
-}
-
 /// Costs that a host chooses.
 ///
 /// Upstream: `wasmi_core::CustomFuelCosts`.
 #[derive(Clone, Copy, Debug)]
 pub struct CustomFuelCosts {
-    /// How many bytes are copied for one fuel; 0 makes each copy cost the greatest `u64`.
+    /// How many bytes are copied for one unit of fuel; at 0 each copy costs `u64::MAX`.
     pub bytes_copied_per_fuel: u32,
     /// The fuel for translating one byte.
     pub fuel_per_bytes_translated: u32,
@@ -100,6 +78,14 @@ impl FuelCosts for CustomFuelCosts {
     }
 }
 
+/// The costs if a host chooses none: one unit of fuel for 64 copied bytes, 7 for a translated byte
+/// and 2 for a validated byte.
+const DEFAULT_COSTS: CustomFuelCosts = CustomFuelCosts {
+    bytes_copied_per_fuel: 64,
+    fuel_per_bytes_translated: 7,
+    fuel_per_bytes_validated: 2,
+};
+
 /// The costs of a meter: those that a host chose, or the default ones.
 ///
 /// Upstream: `wasmi_core::FuelCostsProvider`.
@@ -120,54 +106,34 @@ impl FuelCostsProvider {
         }
     }
 
-    fn bytes_copied_per_fuel(&self) -> u32
-        ensures { result ≡ (costs_of self.now).bytes_copied_per_fuel }
+    /// The costs.
+    fn costs(&self) -> CustomFuelCosts
+        ensures { result ≡ costs_of self.now }
     {
-        match &self.custom {
-            Some(costs) => costs.bytes_copied_per_fuel(),
-            None => DefaultFuelCosts.bytes_copied_per_fuel(),
-        }
+        self.custom.unwrap_or(DEFAULT_COSTS)
     }
 
-    fn fuel_per_bytes_translated(&self) -> u32
-        ensures { result ≡ (costs_of self.now).fuel_per_bytes_translated }
-    {
-        match &self.custom {
-            Some(costs) => costs.fuel_per_bytes_translated(),
-            None => DefaultFuelCosts.fuel_per_bytes_translated(),
-        }
-    }
-
-    fn fuel_per_bytes_validated(&self) -> u32
-        ensures { result ≡ (costs_of self.now).fuel_per_bytes_validated }
-    {
-        match &self.custom {
-            Some(costs) => costs.fuel_per_bytes_validated(),
-            None => DefaultFuelCosts.fuel_per_bytes_validated(),
-        }
-    }
-
-    /// The fuel for translating so many bytes, at most the greatest `u64`.
+    /// The fuel for translating `len_bytes` bytes, at most `u64::MAX`.
     pub fn fuel_for_translating_bytes(&self, len_bytes: u64) -> u64
         ensures { result ≡ cut_product len_bytes (costs_of self.now).fuel_per_bytes_translated }
     {
-        len_bytes.saturating_mul(u64::from(self.fuel_per_bytes_translated()))
+        len_bytes.saturating_mul(u64::from(self.costs().fuel_per_bytes_translated))
     }
 
-    /// The fuel for validating so many bytes, at most the greatest `u64`.
+    /// The fuel for validating `len_bytes` bytes, at most `u64::MAX`.
     pub fn fuel_for_validating_bytes(&self, len_bytes: u64) -> u64
         ensures { result ≡ cut_product len_bytes (costs_of self.now).fuel_per_bytes_validated }
     {
-        len_bytes.saturating_mul(u64::from(self.fuel_per_bytes_validated()))
+        len_bytes.saturating_mul(u64::from(self.costs().fuel_per_bytes_validated))
     }
 
-    /// The fuel for copying so many values of a type, also for none of them: at 0 bytes a fuel the
-    /// greatest `u64`.
+    /// The fuel for copying `len_values` values of a type. If no bytes are copied for a unit of
+    /// fuel, it is `u64::MAX`, also for no values.
     pub fn fuel_for_copying_values<T: ValueSize>(&self, len_values: u64) -> u64
         ensures { result ≡ copy_cost (costs_of self.now) len_values T.SIZE }
     {
         let len_bytes = len_values.saturating_mul(T::SIZE);
-        match self.bytes_copied_per_fuel() {
+        match self.costs().bytes_copied_per_fuel {
             0 => u64::MAX,
             bytes_per_fuel => len_bytes / u64::from(bytes_per_fuel),
         }
@@ -179,9 +145,9 @@ impl FuelCostsProvider {
 /// Upstream: `wasmi_core::FuelError`.
 #[derive(Clone, Debug, PartialEq, Eq, Drop)]
 pub enum FuelError {
-    /// The meter is off: it has no fuel to set, to tell or to take.
+    /// The meter is off, so there is no fuel to set, read or consume.
     FuelMeteringDisabled,
-    /// So much was asked for, and less is left. The text is upstream's.
+    /// Less fuel is left than the `required_fuel` that was asked for. The text is upstream's.
     OutOfFuel { required_fuel: u64 },
 }
 
@@ -194,7 +160,7 @@ impl FuelError {
         FuelError::FuelMeteringDisabled
     }
 
-    /// The error where so much was asked for and less is left.
+    /// The error if less fuel is left than was asked for.
     #[cold]
     pub fn out_of_fuel(required_fuel: u64) -> Self
         ensures { result ≡ FuelError.OutOfFuel required_fuel }
@@ -219,7 +185,7 @@ impl fmt::Display for FuelError {
 
 impl std::error::Error for FuelError {}
 
-/// A fuel meter, on or off for good.
+/// A fuel meter. It is on or off, and stays so.
 ///
 /// Upstream: `wasmi_core::Fuel`.
 #[derive(Drop, Debug)]
@@ -246,7 +212,7 @@ impl Fuel {
     ghost use Rattle.wasmi_meter.specs.Meter.{Meter, amount_left, meter_set, ConsumesFuel};
     ghost use Rattle.wasmi_meter.specs.Costs.{costs_of, default_costs, Computes};
 
-    /// A meter with no fuel left yet.
+    /// A meter that has no fuel yet.
     pub fn new(enabled: bool, costs: FuelCostsProvider) -> Self
         ensures { result
             ≡ record { left = (if enabled then Some 0 else None); costs = costs_of costs } }
@@ -277,7 +243,7 @@ impl Fuel {
         Ok(())
     }
 
-    /// Sets the fuel that is left. It is `FuelMeteringDisabled` where the meter is off.
+    /// Sets the fuel that is left. The error is `FuelMeteringDisabled` if the meter is off.
     pub fn set_fuel(&mut self, fuel: u64) -> Result<(), FuelError>
         ensures on { IsSome self.old.left
             → (result ≡ Ok tt) × (self.new ≡ meter_set self.old fuel) }
@@ -289,7 +255,7 @@ impl Fuel {
         Ok(())
     }
 
-    /// The fuel that is left. It is `FuelMeteringDisabled` where the meter is off.
+    /// Returns the fuel that is left. The error is `FuelMeteringDisabled` if the meter is off.
     pub fn get_fuel(&self) -> Result<u64, FuelError>
         ensures on { IsSome self.now.left → result ≡ Ok (amount_left self.now) }
         ensures off { self.now.left ≡ None → result ≡ Err FuelError.FuelMeteringDisabled }
@@ -298,9 +264,9 @@ impl Fuel {
         Ok(self.remaining)
     }
 
-    /// Takes an amount, and answers what is left. It is `OutOfFuel` with the amount where less is
-    /// left, and then nothing is taken. It doesn't look at whether the meter is on: one that is off
-    /// has nothing left.
+    /// Consumes `delta` fuel, and returns what is left. If less is left, the error is `OutOfFuel`
+    /// with `delta`, and nothing is consumed. It doesn't test whether the meter is on: one that is
+    /// off has no fuel left.
     pub fn consume_fuel_unchecked(&mut self, delta: u64) -> Result<u64, FuelError>
         ensures { ConsumesFuel self.old delta (amount_left self.old - delta) result self.new }
     {
@@ -311,9 +277,9 @@ impl Fuel {
         Ok(left)
     }
 
-    /// Takes what `f` computes from the costs, and answers what is left. Where the meter is off it
-    /// is `FuelMeteringDisabled`, and `f` isn't called; where less is left, `OutOfFuel`, and
-    /// nothing is taken.
+    /// Consumes the fuel that `f` computes from the costs, and returns what is left. If the meter
+    /// is off, the error is `FuelMeteringDisabled`, and `f` isn't called. If less is left, the
+    /// error is `OutOfFuel`, and nothing is consumed.
     pub fn consume_fuel<C: FnOnce(&FuelCostsProvider) -> u64>(
         &mut self,
         f: C,
@@ -330,8 +296,8 @@ impl Fuel {
         self.consume_fuel_unchecked(delta)
     }
 
-    /// Takes what `f` computes from the costs if the meter is on. Where it is off, `f` isn't
-    /// called. It is `OutOfFuel` where less is left, and then nothing is taken.
+    /// Consumes the fuel that `f` computes from the costs if the meter is on. If it is off, `f`
+    /// isn't called. If less is left, the error is `OutOfFuel`, and nothing is consumed.
     pub fn consume_fuel_if<C: FnOnce(&FuelCostsProvider) -> u64>(
         &mut self,
         f: C,

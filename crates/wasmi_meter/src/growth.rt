@@ -14,8 +14,8 @@ use crate::fuel::{Fuel, FuelError, ValueSize};
 use crate::limiter::ResourceLimiter;
 use crate::limiter_ref::ResourceLimiterRef;
 
-/// Goes on where a limiter permits: else it is `denial` where the limiter says no, and `refusal`
-/// for an error.
+/// Returns `Ok` if the limiter permits, `denial` if it says no, and `refusal` if it returns an
+/// error.
 pub fn permission<E: Drop>(
     answer: Result<bool, LimiterError>,
     denial: E,
@@ -30,14 +30,15 @@ pub fn permission<E: Drop>(
     }
 }
 
-/// An error of what grows, of which a limiter can be told.
+/// An error of a growth, of which a limiter can be notified.
 ///
 /// Own.
 pub trait GrowthError: Drop {
-    /// How a limiter is told of it.
+    /// The notice that a limiter gets of it.
     ghost notice: { Self → Failure };
 
-    /// Tells the limiter, if there is one, that a growth which it permitted failed for this error.
+    /// Notifies the limiter, if there is one, that a growth which it permitted failed with this
+    /// error.
     fn notify<L: ResourceLimiter>(
         &self,
         limiter: &mut ResourceLimiterRef<L>,
@@ -70,8 +71,8 @@ impl GrowthError for TableError {
     }
 }
 
-/// Tells the limiter why a growth failed that it permitted, and answers the error that its answer
-/// makes of it: the cause, or `refusal` where it answers an error.
+/// Notifies the limiter why a growth that it permitted failed. Returns the cause, or `refusal` if
+/// the limiter answers the notice with an error.
 pub fn tell<L: ResourceLimiter, E: GrowthError>(
     limiter: &mut ResourceLimiterRef<L>,
     cause: E,
@@ -90,8 +91,8 @@ pub fn tell<L: ResourceLimiter, E: GrowthError>(
     }
 }
 
-/// Takes the fuel for copying so many values of a type. Where less is left, nothing is taken and it
-/// answers what is needed. A meter that is off takes nothing.
+/// Takes the fuel for copying `values` values of a type. If less is left, nothing is taken, and the
+/// error is the amount that is needed. A meter that is off takes nothing.
 pub fn charge<T: ValueSize>(fuel: &mut Fuel, values: u64) -> Result<(), u64>
     ensures { Charges fuel.old
         (due fuel.old (λ costs. copy_cost costs values T.SIZE)) result fuel.new }

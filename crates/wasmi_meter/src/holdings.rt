@@ -17,11 +17,26 @@ pub struct Holdings {
 impl Holdings {
     ghost use Rattle.wasmi_meter.specs.Holdings.{Takes, without_last};
 
-    /// So much is held, and nothing can be given back.
+    /// Holdings of these amounts, of which nothing can be given back.
     pub fn new(held: Amounts) -> Self
         ensures { result ≡ record { held = held; last = None } }
     {
         Holdings { held, last: None }
+    }
+
+    /// The holdings of which `held` and `last` returned these values: so much is held, and this
+    /// difference can be given back.
+    pub fn resume(held: Amounts, last: Option<(Kind, u64)>) -> Self
+        ensures { result ≡ record { held = held; last = last } }
+    {
+        Holdings { held, last }
+    }
+
+    /// The last difference that was taken and not given back, with its kind.
+    pub fn last(&self) -> Option<(Kind, u64)>
+        ensures { result ≡ self.now.last }
+    {
+        self.last
     }
 
     /// What is held.
@@ -31,8 +46,8 @@ impl Holdings {
         self.held
     }
 
-    /// Takes so many more of a kind, if they stay within the cap with what is held and what others
-    /// hold.
+    /// Takes `difference` more of a kind, if it stays within the cap together with what is held and
+    /// what others hold. Returns whether it was taken.
     pub fn take(&mut self, kind: Kind, difference: u64, others: u64, cap: u64) -> bool
         ensures { Takes others cap self.old kind difference result self.new }
     {
@@ -48,7 +63,7 @@ impl Holdings {
         true
     }
 
-    /// Gives back what was taken last, if it is of this kind.
+    /// Gives back what was taken last, if that is of this kind.
     pub fn give_back(&mut self, kind: Kind)
         ensures { self.new ≡ without_last kind self.old }
     {

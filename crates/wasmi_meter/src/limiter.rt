@@ -1,5 +1,5 @@
-//! Who may grow: a limiter is asked before each growth, and told of one that it permitted and that
-//! then failed.
+//! Who may grow: a limiter is asked before each growth, and notified if a growth that it permitted
+//! fails.
 ghost use Rattle.std.specs.Prelude.{◌≡◌, ◌≤◌, ℕ, Option};
 ghost use Rattle.wasmi_meter.specs.Limiter.{Failure, MemoryFailure, TableFailure, Rules, kind_of, unlimited_rules};
 ghost use Rattle.wasmi_meter.specs.declared.limiter.Kind.TheVariants.{Bytes, Elements};
@@ -19,8 +19,8 @@ pub enum Kind {
 
 /// Decides which memories and tables may be made and may grow.
 ///
-/// Its `rules` relate the limiter before and after a call to the question or the notice and to what
-/// was answered; each implementation names its own. A creation asks with a current size of 0.
+/// Its `rules` say which answers it may give to a question or a notice, and which state it has
+/// afterwards; each implementation has its own. A creation asks with a current size of 0.
 ///
 /// # What the answers mean
 ///
@@ -29,14 +29,14 @@ pub enum Kind {
 /// `GrowOutOfBounds` for a table. After `Err` both return `ResourceLimiterDeniedAllocation`. In
 /// these cases nothing has changed and no notice follows.
 ///
-/// A notice follows a permission whose creation or growth failed. After `Ok(())` the call returns
-/// the error that the limiter was told of. After `Err` it returns
-/// `ResourceLimiterDeniedAllocation` in its place.
+/// A notice follows a permission if the creation or growth then fails. After `Ok(())` the call
+/// returns the error that the notice named. After `Err` it returns
+/// `ResourceLimiterDeniedAllocation` instead.
 ///
 /// Upstream: `wasmi_core::ResourceLimiter`, whose notices have default bodies; here each
 /// implementation writes them.
 pub trait ResourceLimiter {
-    /// What it may answer to a question and to a notice, and what it is afterwards.
+    /// The answers that it may give to a question and to a notice, and its state afterwards.
     ghost rules: { Rules Self };
 
     /// May a memory grow from `current` to `desired` bytes? `maximum`, in bytes, is the most that
@@ -65,13 +65,13 @@ pub trait ResourceLimiter {
             (record { kind = Elements; current = current; desired = desired; maximum = maximum })
             result self.new };
 
-    /// A memory was permitted to grow and did not, for this error. With `Ok(())` the call returns
-    /// this error; with `Err` it returns `ResourceLimiterDeniedAllocation`.
+    /// A memory was permitted to grow and did not, because of this error. After `Ok(())` the call
+    /// returns this error; after `Err` it returns `ResourceLimiterDeniedAllocation`.
     fn memory_grow_failed(&mut self, error: &MemoryError) -> Result<(), LimiterError>
         ensures { rules.noticed self.old (MemoryFailure error.now) result self.new };
 
-    /// A table was permitted to grow and did not, for this error. With `Ok(())` the call returns
-    /// this error; with `Err` it returns `ResourceLimiterDeniedAllocation`.
+    /// A table was permitted to grow and did not, because of this error. After `Ok(())` the call
+    /// returns this error; after `Err` it returns `ResourceLimiterDeniedAllocation`.
     fn table_grow_failed(&mut self, error: &TableError) -> Result<(), LimiterError>
         ensures { rules.noticed self.old (TableFailure error.now) result self.new };
 
@@ -85,24 +85,25 @@ pub trait ResourceLimiter {
     fn memories(&self) -> usize;
 }
 
-/// Decides by the kind of what grows, whatever its type allows and whatever the error of a notice
-/// is. Each is a [`ResourceLimiter`] that allows any number of instances, tables and memories.
+/// Decides by the kind of what grows, and ignores the maximum of its type and the error of a
+/// notice. Each is a [`ResourceLimiter`] that allows any number of instances, tables and memories.
 ///
 /// Own: upstream has no such trait.
 pub trait LimiterByKind {
-    /// What it may answer to a question and to a notice, and what it is afterwards.
+    /// The answers that it may give to a question and to a notice, and its state afterwards.
     ghost kind_rules: { Rules Self };
 
-    /// May what is of this kind grow from `current` to `desired`, in bytes or elements? The answers
-    /// mean what they mean for a [`ResourceLimiter`]: `Ok(true)` permits, and nothing else does.
+    /// May something of this kind grow from `current` to `desired`, in bytes or elements? The
+    /// answers have the meaning that they have for a [`ResourceLimiter`]: `Ok(true)` permits, and
+    /// nothing else does.
     fn growing(&mut self, kind: Kind, current: usize, desired: usize) -> Result<bool, LimiterError>
         requires grows { current ≤ desired }
         ensures asked { (maximum : Option ℕ) → kind_rules.asked self.old
             (record { kind = kind; current = current; desired = desired; maximum = maximum })
             result self.new };
 
-    /// What is of this kind was permitted to grow and did not. `Err` replaces the error that the
-    /// call returns by `ResourceLimiterDeniedAllocation`.
+    /// Something of this kind was permitted to grow and did not. After `Err` the call returns
+    /// `ResourceLimiterDeniedAllocation` instead of its error.
     fn grow_failed(&mut self, kind: Kind) -> Result<(), LimiterError>
         ensures { (failure : Failure) → kind_of failure ≡ kind
             → kind_rules.noticed self.old failure result self.new };

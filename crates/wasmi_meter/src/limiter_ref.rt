@@ -1,4 +1,4 @@
-//! A limiter that is lent, or none.
+//! A borrowed limiter, or none.
 ghost use Rattle.std.specs.Prelude.{◌≡◌, ◌≤◌, ℕ, Option, Some, None, Result, Ok, Bool, true};
 ghost use Rattle.std.specs.Option.{option_copied_mut};
 ghost use Rattle.std.specs.Borrow.{sem, Lends};
@@ -18,9 +18,9 @@ mod sealed {
     impl<'a, L> Sealed for &'a mut L {}
 }
 
-/// What leads to a value that it can lend: a `&mut` reference, and nothing else.
+/// What lends a value: a `&mut` reference, and nothing else.
 ///
-/// Own: it gives contracts a name for what a reference becomes.
+/// Own: it gives contracts a name for the reference after the loan.
 pub trait Lender: sealed::Sealed {
     /// The type of what is lent.
     type Lent;
@@ -28,7 +28,7 @@ pub trait Lender: sealed::Sealed {
     /// The present value of what is lent.
     ghost shown: { Self → Self.Lent };
 
-    /// The lender, once this value was the last one of what it lent.
+    /// The lender after a loan that left this value.
     ghost last: { Self → Self.Lent → Self };
 
     /// Lends it.
@@ -50,7 +50,7 @@ impl<'a, L> Lender for &'a mut L {
     }
 }
 
-/// What leads to a limiter, or nothing. Its name in signatures is [`ResourceLimiterRef`].
+/// A reference to a limiter, or none. Its name in signatures is [`ResourceLimiterRef`].
 #[derive(Drop)]
 pub struct LimiterRef<R> {
     limiter: Option<R>,
@@ -62,14 +62,13 @@ impl<R> fmt::Debug for LimiterRef<R> {
     }
 }
 
-/// A limiter that is lent, or none. Without a limiter every growth is permitted, and every notice
-/// is accepted.
+/// A borrowed limiter, or none. Without a limiter every growth is permitted, and every notice is
+/// accepted.
 ///
-/// Where this reference goes out of scope or is dropped, nothing is known of the limiter
-/// afterwards. A caller that wants to know what it has become ends the loan by
-/// [`LimiterRef::into_resource_limiter`], or makes a call that lends the limiter for that call
-/// alone: `new_lending`, `new_static_lending`, `grow_lending` and `grow_raw_lending` of memories
-/// and tables, `step_lending` and `run_lending` of machines.
+/// If this reference goes out of scope or is dropped, nothing is known of the limiter afterwards.
+/// To know its state, end the loan by [`LimiterRef::into_resource_limiter`], or use a function that
+/// borrows the limiter for one call: `new_lending`, `new_static_lending`, `grow_lending` and
+/// `grow_raw_lending` of memories and tables, `step_lending` and `run_lending` of machines.
 ///
 /// Upstream: `wasmi_core::ResourceLimiterRef`.
 pub type ResourceLimiterRef<'a, L> = LimiterRef<&'a mut L>;
@@ -93,8 +92,8 @@ impl<'a, L> From<&'a mut L> for LimiterRef<&'a mut L> {
 }
 
 impl<R> LimiterRef<R> {
-    /// The reference that leads to the limiter. A caller that ends its loan with this call knows
-    /// what its limiter has become.
+    /// Ends the loan, and returns the reference to the limiter, if there is one. From then on the
+    /// state of the limiter is known.
     pub fn into_resource_limiter(self) -> Option<R>
         ensures { result ≡ loan self }
     {
@@ -158,7 +157,7 @@ impl<'a, L: ResourceLimiter> LimiterRef<&'a mut L> {
         }
     }
 
-    /// Tells the limiter, if there is one, that a memory which it permitted to grow did not, and
+    /// Notifies the limiter, if there is one, that a memory which it permitted to grow did not, and
     /// returns its answer. Without a limiter it returns `Ok(())`.
     pub fn memory_grow_failed(&mut self, error: &MemoryError) -> Result<(), LimiterError>
         ensures loan { KeepsLoan self.old self.new }
@@ -171,7 +170,7 @@ impl<'a, L: ResourceLimiter> LimiterRef<&'a mut L> {
         }
     }
 
-    /// Tells the limiter, if there is one, that a table which it permitted to grow did not, and
+    /// Notifies the limiter, if there is one, that a table which it permitted to grow did not, and
     /// returns its answer. Without a limiter it returns `Ok(())`.
     pub fn table_grow_failed(&mut self, error: &TableError) -> Result<(), LimiterError>
         ensures loan { KeepsLoan self.old self.new }

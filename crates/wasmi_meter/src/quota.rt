@@ -8,9 +8,9 @@ use crate::holdings::Holdings;
 use crate::limiter::{Kind, LimiterByKind};
 use crate::reserving::Reserving;
 
-/// A limiter that permits what stays within two caps, and says no to the rest. It counts each
-/// difference that it permitted, and takes the last one back at a notice of its kind, once. It
-/// can't be copied, since a copy would count alone.
+/// A limiter that permits what stays within two caps, and denies the rest. It counts each
+/// difference that it permitted. At a notice it takes back the last one if that is of the same
+/// kind, once. It can't be copied, since a copy would count on its own.
 ///
 /// Own: upstream implements no limiter.
 #[derive(Debug, Drop)]
@@ -24,7 +24,7 @@ impl Quota {
     ghost use Rattle.wasmi_meter.specs.Capped.{TakesMore};
     ghost use Rattle.wasmi_meter.specs.Quota.{holdings, cap_of, capped_quota, IsWithinCaps};
 
-    /// A quota of so many bytes and elements, of which nothing is held yet.
+    /// A quota with these caps, in bytes and in elements, which holds nothing yet.
     pub fn new(bytes: u64, elements: u64) -> Self
         ensures bytes { cap_of result Bytes ≡ bytes }
         ensures elements { cap_of result Elements ≡ elements }
@@ -38,6 +38,28 @@ impl Quota {
                 elements: 0,
             }),
         }
+    }
+
+    /// The quota whose caps and holdings were read before by `caps` and `holdings`. Two quotas that
+    /// were resumed from the same holdings count apart, so only one of them should be used.
+    pub fn resume(caps: Amounts, holdings: Holdings) -> Self
+        ensures { result ≡ record { caps = caps; holdings = holdings } }
+    {
+        Quota { caps, holdings }
+    }
+
+    /// The most that it may hold of each kind.
+    pub fn caps(&self) -> Amounts
+        ensures { result ≡ self.now.caps }
+    {
+        self.caps
+    }
+
+    /// What it holds of each kind, with the last difference that it permitted.
+    pub fn holdings(&self) -> Holdings
+        ensures { result ≡ holdings self.now }
+    {
+        self.holdings
     }
 
     /// The bytes that it permitted and that weren't given back.
@@ -54,7 +76,7 @@ impl Quota {
         self.holdings.held().elements
     }
 
-    /// Takes so many more of a kind, if what is held of it stays within the cap.
+    /// Takes `difference` more of a kind, if what is held of it stays within the cap.
     fn take(&mut self, kind: Kind, difference: u64) -> bool
         ensures { TakesMore capped_quota self.old kind difference result self.new }
     {

@@ -6,8 +6,8 @@ ghost use Rattle.wasmi_meter.specs.Limiter.{Question, Answer, Failure, NoticeAns
 
 use crate::limiter::ResourceLimiter;
 
-/// A limiter that holds what it permitted, in bytes and in elements, until it is told that what it
-/// permitted failed. It isn't told of what is dropped.
+/// A limiter that holds what it permitted, in bytes and in elements, until it is notified that what
+/// it permitted failed. It isn't notified of what is dropped.
 ///
 /// Own: upstream implements no limiter.
 pub trait Reserving: ResourceLimiter {
@@ -23,13 +23,13 @@ pub trait Reserving: ResourceLimiter {
     fn held_elements(&self) -> u64
         ensures { result ≡ (holdings self.now).held.elements };
 
-    /// A permission adds the difference that was asked for, and another answer keeps what is held.
+    /// A permission adds the difference that was asked for; any other answer leaves what is held.
     ghost reserves: { (l l' : Self) (question : Question) (answer : Answer)
         → Self.rules.asked l question answer l'
         → Reserves question answer (holdings l) (holdings l') };
 
-    /// A notice takes back the last permitted difference of its kind, once, whatever the notice is
-    /// answered; with nothing of its kind to take back it changes nothing that is held.
+    /// A notice takes back the last permitted difference of its kind, once, whatever the answer to
+    /// it is. If there is none of its kind, what is held stays.
     ghost gives_back: { (l l' : Self) (failure : Failure) (notice_answer : NoticeAnswer)
         → Self.rules.noticed l failure notice_answer l'
         → GivesBack (kind_of failure) (holdings l) (holdings l') };
