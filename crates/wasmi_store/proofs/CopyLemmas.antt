@@ -4,12 +4,12 @@ use Rattle.std.proofs.lemmas.List.{length-take-le, take-take, take_at, drop_at, 
 use lib.Seq.{paste, take-add, take-paste, drop-paste}
 
 -- a part copied behind what was copied downwards
-pub copied_down : (xs ys : List ℕ) (dst src done n : ℕ) → dst ≤ src → src + done + n ≤ length xs
+pub copied_down : {A : Type 0} (xs ys : List A) (dst src done n : ℕ) → dst ≤ src → src + done + n ≤ length xs
     → ys ≡ paste xs dst (drop src xs) done
     → paste ys (dst + done) (drop (src + done) ys) n ≡ paste xs dst (drop src xs) (done + n)
-copied_down xs ys dst src done n down fits is =
+copied_down {A = A} xs ys dst src done n down fits is =
     let long = length-drop src xs in
-    let s : List ℕ = drop src xs in
+    let s : List A = drop src xs in
     let head : take (dst + done) ys ≡ take dst xs ++ take done s =
     ap (take (dst + done)) is ∙ take-paste xs dst s done (omega arith) (omega arith) in
     let rest : drop (dst + done) ys ≡ drop (dst + done) xs =
@@ -29,18 +29,18 @@ copied_down xs ys dst src done n down fits is =
     ∙ ap (λ l. take dst xs ++ l) (sym (take-add done n s)))
 
 -- a part copied before what was copied upwards
-pub copied_up : (xs ys : List ℕ) (dst src len left n : ℕ) → src ≤ dst → n ≤ left → left ≤ len → dst + len ≤ length xs
-    → ys ≡ paste xs (dst + left) (drop (src + left) xs) (len - left)
+pub copied_up : {A : Type 0} (xs ys : List A) (dst src len left n : ℕ) → src ≤ dst → n ≤ left → left ≤ len
+    → dst + len ≤ length xs → ys ≡ paste xs (dst + left) (drop (src + left) xs) (len - left)
     → paste ys (dst + (left - n)) (drop (src + (left - n)) ys) n
     ≡ paste xs (dst + (left - n)) (drop (src + (left - n)) xs) (len - (left - n))
-copied_up xs ys dst src len left n up some within fits is =
+copied_up {A = A} xs ys dst src len left n up some within fits is =
     let less : ℕ = left - n in
     let rest : ℕ = len - left in
     let a : ℕ = dst + left in
-    let s : List ℕ = drop (src + left) xs in
-    let t : List ℕ = drop (src + less) xs in
-    let b : List ℕ = take (dst + less) xs in
-    let z : List ℕ = drop (a + rest) xs in
+    let s : List A = drop (src + left) xs in
+    let t : List A = drop (src + less) xs in
+    let b : List A = take (dst + less) xs in
+    let z : List A = drop (a + rest) xs in
     let fitting = length-take-le a xs (omega arith) in
     let parts : ys ≡ take a xs ++ (take rest s ++ z) = is ∙ append_assoc (take a xs) (take rest s) z in
     let same : take a ys ≡ take a xs = ap (take a) parts ∙ take_at (take a xs) (take rest s ++ z) a fitting in

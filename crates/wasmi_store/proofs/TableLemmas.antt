@@ -11,7 +11,7 @@ use Rattle.wasmi_meter.specs.Limiter.{Question, Answer, Rules}
 use Rattle.wasmi_meter.specs.Meter.{Meter, due, Charges}
 use Rattle.wasmi_meter.specs.Attempt.{MeteredValue}
 use Rattle.wasmi_store.specs.TableType.{TableTypeValue, is_indexable, is_within_maximum, same_type}
-use Rattle.wasmi_store.specs.Table.{TableValue, size_of, new_table, with_more, element_price, creation_of, growth_of, MakesTable, GrowsTableRawCharging, GrowsTableCharging}
+use Rattle.wasmi_store.specs.Table.{TableValue, size_of, new_table, with_added, element_price, creation_of, growth_of, MakesTable, GrowsTableRawCharging, GrowsTableCharging}
 use Rattle.wasmi_store.proofs.GrowthLemmas as any
 use Rattle.wasmi_meter.proofs.AttemptLemmas.{IsPermitted, ReachesCharge}
 use Rattle.wasmi_store.specs.Growth.{IsAsked}
@@ -121,7 +121,7 @@ module _ {S : Type 0} {rules : Rules S} {x : TableValue} {m : Meter} {l : S} {n 
       grows_refused = any.grows_refused t p reaches m' enough OutOfSystemMemory refl
 
       -- where the price is paid and memory isn't wanting, the table has grown, and the old size is answered
-      pub grows_met : (x' : TableValue) → x' ≡ with_more x n reference → (old : ℕ) → old ≡ size_of x
+      pub grows_met : (x' : TableValue) → x' ≡ with_added x n reference → (old : ℕ) → old ≡ size_of x
           → EndsIn t (Ok old) x' m' p
       grows_met = any.grows_met t p reaches m' enough
 

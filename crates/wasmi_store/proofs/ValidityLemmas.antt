@@ -20,7 +20,7 @@ use Rattle.wasmi_store.specs.Memory.{MemoryValue, buffer_of, pages_of, new_memor
 use Rattle.wasmi_store.specs.Memory as memory
 use Rattle.wasmi_store.specs.TableType.{TableTypeValue, is_indexable, is_within_maximum, same_type}
 use Rattle.wasmi_store.specs.TableType as table_type
-use Rattle.wasmi_store.specs.Table.{TableValue, size_of, new_table, with_more, IsValidTable, MakesTable, GrowsTableCharging}
+use Rattle.wasmi_store.specs.Table.{TableValue, size_of, new_table, with_added, IsValidTable, MakesTable, GrowsTableCharging}
 use Rattle.wasmi_store.specs.Table as table
 use Rattle.wasmi_store.proofs.GrowthLemmas.{on_test}
 
@@ -144,7 +144,7 @@ pub grown_table_is_valid : {S : Type 0} (rules : Rules S) (n : ℕ) (init : Type
     → GrowsTableCharging rules n init s result charge s' → IsValidTable s'.value
 grown_table_is_valid rules n init s result charge s' valid grows =
     let x = s.value in
-    let size : length (with_more x n init.raw).elements ≡ size_of x + n =
+    let size : length (with_added x n init.raw).elements ≡ size_of x + n =
     length-append x.elements (replicate n init.raw) ∙ ap (λ k. size_of x + k) (length-replicate n init.raw) in
     on_test (same_type x.ty.element init.ty) _ _ grows
     (λ raw. grown_valid rules

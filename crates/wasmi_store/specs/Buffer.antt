@@ -23,12 +23,12 @@ abbrev pub fits_room : Room → ℕ → Bool
 fits_room Owned n = true
 fits_room (Lent rest) n = nat_le n (length rest)
 
--- why bytes that a room has place for could not be had: memory of one's own may be wanting, a lent region takes none
+-- why bytes that fit a room could not be had: owned memory may be refused, a lent region allocates none
 abbrev pub LacksMemory : Room → MemoryError → Type 0
 LacksMemory Owned error = error ≡ OutOfSystemMemory
 LacksMemory (Lent rest) error = ⊥
 
--- why n more bytes could not be had: a lent region is too short, or memory is wanting
+-- why n more bytes could not be had: a lent region is too short, or memory is refused
 abbrev pub CanFail : Room → ℕ → MemoryError → Type 0
 CanFail room n error = MatchBool (fits_room room n) (LacksMemory room error) (error ≡ InvalidStaticBufferSize)
 

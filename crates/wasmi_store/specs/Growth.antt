@@ -21,7 +21,7 @@ pub record IsAsked {V E : Type 0} (e : Request V E) (question : Question) : Type
   pub early : e.early ≡ None
   pub question_is : question ≡ e.question
 
--- an attempt to make a value, which is answered where the attempt is met; no fuel is charged
+-- an attempt to make a value, which is returned if the attempt is met; no fuel is charged
 abbrev pub Makes : {T E S : Type 0} → Rules S → Request (Unit {0}) E → T → S → Result T E → S → Type 0
 Makes {E = E} rules e made l result l' =
     (outcome : AttemptOutcome E) × Attempt rules e (alone l) outcome 0 (alone l') × (result ≡ answer_of e made outcome)
@@ -32,7 +32,7 @@ pub record Growth (V E : Type 0) : Type 1 where
   pub size : ℕ
   pub request : Request V E
 
--- a growth by 0 answers the size, and nothing is touched
+-- a growth by 0 returns the size, and changes nothing
 pub record GrowsByNone {V E S : Type 0} (g : Growth V E) (s : MeteredValue V S) (result : Result ℕ E) (charge : ℕ)
     (s' : MeteredValue V S) : Type 0 where
   pub none : g.amount ≡ 0
@@ -40,7 +40,7 @@ pub record GrowsByNone {V E S : Type 0} (g : Growth V E) (s : MeteredValue V S) 
   pub uncharged : charge ≡ 0
   pub same : s' ≡ s
 
--- a growth by 1 or more is an attempt, and answers the old size where it is met
+-- a growth by 1 or more is an attempt, and returns the old size if it is met
 pub record GrowsBySome {V E S : Type 0} (rules : Rules S) (g : Growth V E) (s : MeteredValue V S) (result : Result ℕ E)
     (charge : ℕ) (s' : MeteredValue V S) : Type 0 where
   pub some : 0 < g.amount
@@ -48,7 +48,7 @@ pub record GrowsBySome {V E S : Type 0} (rules : Rules S) (g : Growth V E) (s : 
   pub attempt : Attempt rules g.request s outcome charge s'
   pub answered : result ≡ answer_of g.request g.size outcome
 
--- a growth with its answer and its charge
+-- a growth with its result and its charge
 abbrev pub Grows : {V E S : Type 0} → Rules S → Growth V E → MeteredValue V S → Result ℕ E → ℕ → MeteredValue V S
     → Type 0
 Grows rules g s result charge s' = GrowsByNone g s result charge s' ⊎ GrowsBySome rules g s result charge s'

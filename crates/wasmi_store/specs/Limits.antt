@@ -2,7 +2,7 @@
 use Rattle.std.specs.Prelude.{◌≤◌, ℕ, Option, Some, None}
 
 -- an optional maximum is no looser than another
-abbrev pub IsWithin : Option ℕ → Option ℕ → Type 0
-IsWithin own None = Unit {0}
-IsWithin None (Some most) = ⊥
-IsWithin (Some maximum) (Some most) = maximum ≤ most
+abbrev pub IsNoLooser : Option ℕ → Option ℕ → Type 0
+IsNoLooser own None = Unit {0}
+IsNoLooser None (Some most) = ⊥
+IsNoLooser (Some maximum) (Some most) = maximum ≤ most

@@ -4,7 +4,7 @@ use Rattle.std.specs.Option.{option_map, option_map_or, ForSome}
 use Rattle.wasmi_types.specs.declared.index_ty.IndexType.{IndexType}
 use Rattle.wasmi_types.specs.declared.index_ty.IndexType.TheVariants.{I32}
 use Rattle.wasmi_types.specs.IndexType.{address_bits}
-use Rattle.wasmi_store.specs.Limits.{IsWithin}
+use Rattle.wasmi_store.specs.Limits.{IsNoLooser}
 use Rattle.wasmi_store.specs.declared.memory.ty.PageSize.{PageSize}
 use Rattle.wasmi_store.specs.declared.memory.ty.PageSize.TheVariants.{Byte, Wasm}
 
@@ -57,7 +57,7 @@ pub record IsSubtype (a b : MemoryTypeValue) : Type 0 where
   pub index : a.index ≡ b.index
   pub page : a.page ≡ b.page
   pub minimum : b.minimum ≤ a.minimum
-  pub maximum : IsWithin a.maximum b.maximum
+  pub maximum : IsNoLooser a.maximum b.maximum
 
 -- what a builder was told: as a memory type, with the page size as a power of two
 pub record Settings : Type 0 where

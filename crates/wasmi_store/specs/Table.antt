@@ -45,8 +45,8 @@ abbrev pub new_table : TableTypeValue → ℕ → TableValue
 new_table ty reference = record { ty = ty; elements = replicate ty.minimum reference }
 
 -- the table with n more elements
-abbrev pub with_more : TableValue → ℕ → ℕ → TableValue
-with_more x n reference = record { ty = x.ty; elements = x.elements ++ replicate n reference }
+abbrev pub with_added : TableValue → ℕ → ℕ → TableValue
+with_added x n reference = record { ty = x.ty; elements = x.elements ++ replicate n reference }
 
 -- the fuel for so many elements, of 4 bytes each
 abbrev pub element_price : ℕ → CustomFuelCosts → ℕ
@@ -80,7 +80,7 @@ growth_of x n reference = record {
   price = Some (element_price n);
   unpaid = OutOfFuel;
   refuses = λ cause. cause ≡ OutOfSystemMemory;
-  grown = with_more x n reference;
+  grown = with_added x n reference;
 }
 
 -- a table of a type is made of a reference
@@ -182,7 +182,7 @@ abbrev pub MeteredTable : Type 0
 MeteredTable = MeteredValue TableValue (Unit {0})
 
 -- what a write over a part of a table ends with
-pub record Ending : Type 0 where
+pub record WriteEnding : Type 0 where
   pub result : Result (Unit {0}) TableError
   pub charge : ℕ
   pub value : TableValue
@@ -193,11 +193,11 @@ module _ (w : TableWrite) (s : MeteredTable) where
   write_due = optional_due s.meter (option_map element_price w.paid)
 
   -- refused for a cause: nothing is taken, and the table stays
-  abbrev pub Refuses : TableError → Ending → Type 0
+  abbrev pub Refuses : TableError → WriteEnding → Type 0
   Refuses cause end = (end.result ≡ Err cause) × (end.charge ≡ 0) × (end.value ≡ s.value)
 
   -- how it ends, by whether the types are the same, whether the ranges lie within, and whether so much can be paid
-  abbrev pub EndsBy : Bool → Option (List ℕ) → Bool → Ending → Type 0
+  abbrev pub EndsBy : Bool → Option (List ℕ) → Bool → WriteEnding → Type 0
   EndsBy false written payable end = Refuses ElementTypeMismatch end
   EndsBy true None payable end = Refuses w.outside end
   EndsBy true (Some elements) false end = Refuses (OutOfFuel write_due) end
@@ -205,7 +205,7 @@ module _ (w : TableWrite) (s : MeteredTable) where
       (end.result ≡ Ok tt) × (end.charge ≡ write_due) × (end.value ≡ record s.value { elements = elements })
 
   -- how it ends
-  abbrev pub Ends : Ending → Type 0
+  abbrev pub Ends : WriteEnding → Type 0
   Ends = EndsBy w.typed w.written (covers s.meter write_due)
 
 -- a part of a table is written over, with this charge

@@ -5,7 +5,7 @@ use Rattle.wasmi_types.specs.declared.value.RefType.{RefType}
 use Rattle.wasmi_types.specs.declared.value.RefType.TheVariants.{Func, Extern}
 use Rattle.wasmi_types.specs.declared.index_ty.IndexType.{IndexType}
 use Rattle.wasmi_types.specs.IndexType.{address_bits}
-use Rattle.wasmi_store.specs.Limits.{IsWithin}
+use Rattle.wasmi_store.specs.Limits.{IsNoLooser}
 
 -- a table type: its index type, the type of its elements, and its limits in elements
 pub record TableTypeValue : Type 0 where
@@ -39,4 +39,4 @@ pub record IsSubtype (a b : TableTypeValue) : Type 0 where
   pub index : a.index ≡ b.index
   pub element : a.element ≡ b.element
   pub minimum : b.minimum ≤ a.minimum
-  pub maximum : IsWithin a.maximum b.maximum
+  pub maximum : IsNoLooser a.maximum b.maximum

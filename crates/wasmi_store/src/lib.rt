@@ -1,10 +1,12 @@
-//! Linear memories and tables: their types, what they hold, and how they are made and grow.
+//! Linear memories and tables: their types, what they contain, and how they are made and grow.
 #![tactic(auto)]
 
 pub mod laws;
 mod limits;
 mod memory;
 mod optional_meter;
+pub mod region_memory;
+pub mod region_table;
 mod table;
 
 pub use memory::{Buffer, ByteBuffer, LinearMemory, Memory, MemoryType, MemoryTypeBuilder, Region};

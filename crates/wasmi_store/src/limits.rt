@@ -1,10 +1,10 @@
 //! The limits of memory and table types.
 ghost use Rattle.std.specs.Prelude.{◌↔◌, IsTrue};
-ghost use Rattle.wasmi_store.specs.Limits.{IsWithin};
+ghost use Rattle.wasmi_store.specs.Limits.{IsNoLooser};
 
 /// Whether an optional maximum is no looser than another.
-pub(crate) fn is_within(own: Option<u64>, other: Option<u64>) -> bool
-    ensures { IsTrue result ↔ IsWithin own other }
+pub(crate) fn is_no_looser(own: Option<u64>, other: Option<u64>) -> bool
+    ensures { IsTrue result ↔ IsNoLooser own other }
 {
     match (own, other) {
         (_, None) => true,

@@ -24,11 +24,11 @@ pub use ty::{MemoryType, MemoryTypeBuilder};
 use wasmi_meter::growth::{charge, permission, tell};
 use wasmi_meter::{Fuel, MemoryError, ResourceLimiter, ResourceLimiterRef};
 
-/// What a memory answers where the limiter answers an error.
-const DENIED: MemoryError = MemoryError::ResourceLimiterDeniedAllocation;
+/// The error of a memory if the limiter returns an error.
+pub(crate) const DENIED: MemoryError = MemoryError::ResourceLimiterDeniedAllocation;
 
-/// Asks whether a memory of a type may be made, and answers its minimum in bytes.
-fn permitted_minimum<L: ResourceLimiter>(
+/// Asks whether a memory of this type may be made, and returns its minimum in bytes.
+pub(crate) fn permitted_minimum<L: ResourceLimiter>(
     ty: MemoryType,
     limiter: &mut ResourceLimiterRef<L>,
 ) -> Result<usize, MemoryError>
@@ -50,7 +50,7 @@ fn permitted_minimum<L: ResourceLimiter>(
 /// wherever the bytes lie.
 ///
 /// The errors of a growth are those of [`LinearMemory::grow`].
-fn decide_growth<L: ResourceLimiter>(
+pub(crate) fn decide_growth<L: ResourceLimiter>(
     old_size: usize,
     size: usize,
     maximum: Option<usize>,
@@ -84,6 +84,22 @@ fn decide_growth<L: ResourceLimiter>(
     Ok(())
 }
 
+/// Copies bytes from an offset on into a buffer, which is filled; it is `OutOfBoundsAccess` where
+/// they end past the bytes, and then nothing is copied.
+pub fn read_bytes(bytes: &[u8], offset: usize, buffer: &mut [u8]) -> Result<(), MemoryError>
+    ensures ok { OnOk result (at bytes.now offset (length buffer.old) ≡ Some buffer.new) }
+    ensures err { IfErr result
+        (λ error. (error ≡ MemoryError.OutOfBoundsAccess)
+        × (at bytes.now offset (length buffer.old) ≡ None) × (buffer.new ≡ buffer.old)) }
+{
+    if bytes.len() < offset || bytes.len() - offset < buffer.len() {
+        return Err(MemoryError::OutOfBoundsAccess);
+    }
+    let end = offset + buffer.len();
+    buffer.copy_from_slice(&bytes[offset..end]);
+    Ok(())
+}
+
 /// A linear memory. Its name in signatures is [`Memory`].
 #[derive(Debug, Drop)]
 pub struct LinearMemory<R: Region> {
@@ -102,7 +118,7 @@ impl<R: Region> Model for LinearMemory<R> {
     ghost invariant = { λ m. IsSized m.ty (length m.buffer.bytes) };
 }
 
-/// A linear memory of whole pages; `'r` is the loan of a region that its bytes may lie in.
+/// A linear memory of whole pages; `'r` is the lifetime of a buffer that its bytes may lie in.
 ///
 /// It is valid at any time: see [`crate::laws::memories_are_valid`].
 ///
@@ -115,9 +131,9 @@ impl<'r> LinearMemory<&'r mut [u8]> {
 
     /// A memory of zeros, at the minimum of its type. It takes no fuel.
     ///
-    /// Refusals in their order: `MinimumSizeOverflow` where the minimum has 2^64 bytes or more;
-    /// `ResourceLimiterDeniedAllocation` where the limiter doesn't permit; `OutOfSystemMemory`, of
-    /// which the limiter is told.
+    /// Errors, in the order of the tests: `MinimumSizeOverflow` if the minimum has 2^64 bytes or
+    /// more; `ResourceLimiterDeniedAllocation` if the limiter doesn't permit it;
+    /// `OutOfSystemMemory`, of which the limiter is notified.
     pub fn new<L: ResourceLimiter>(
         alloc: Global,
         ty: MemoryType,
@@ -134,13 +150,13 @@ impl<'r> LinearMemory<&'r mut [u8]> {
         }
     }
 
-    /// A memory of zeros at the front of a region, at the minimum of its type. It takes no fuel and
-    /// no memory, and leaves the bytes past the minimum alone.
+    /// A memory of zeros at the front of a borrowed buffer, at the minimum of its type. It takes no
+    /// fuel and allocates nothing, and the bytes past the minimum stay as they are.
     ///
-    /// Refusals in their order: `MinimumSizeOverflow` where the minimum has 2^64 bytes or more;
-    /// `ResourceLimiterDeniedAllocation` where the limiter doesn't permit;
-    /// `InvalidStaticBufferSize` where the region is shorter than the minimum, of which the limiter
-    /// is told. After a refusal the loan has ended, and the bytes of the region are unchanged.
+    /// Errors, in the order of the tests: `MinimumSizeOverflow` if the minimum has 2^64 bytes or
+    /// more; `ResourceLimiterDeniedAllocation` if the limiter doesn't permit it;
+    /// `InvalidStaticBufferSize` if the buffer is shorter than the minimum, of which the limiter is
+    /// notified. After an error the loan has ended, and the bytes of the buffer are unchanged.
     pub fn new_static<L: ResourceLimiter>(
         ty: MemoryType,
         limiter: &mut ResourceLimiterRef<L>,
@@ -157,7 +173,8 @@ impl<'r> LinearMemory<&'r mut [u8]> {
         }
     }
 
-    /// As `new`, under a limiter that is lent for this call alone: what it becomes is known.
+    /// As `new`, but borrows the limiter for this call alone, so that its state afterwards is
+    /// known.
     pub fn new_lending<L: ResourceLimiter>(
         alloc: Global,
         ty: MemoryType,
@@ -174,7 +191,8 @@ impl<'r> LinearMemory<&'r mut [u8]> {
         made
     }
 
-    /// As `new_static`, under a limiter that is lent for this call alone: what it becomes is known.
+    /// As `new_static`, but borrows the limiter for this call alone, so that its state afterwards
+    /// is known.
     pub fn new_static_lending<L: ResourceLimiter>(
         ty: MemoryType,
         limiter: &mut L,
@@ -205,7 +223,7 @@ impl<R: Region> LinearMemory<R> {
         self.ty
     }
 
-    /// Does nothing: its contract tells what each memory keeps.
+    /// Does nothing: its contract says what holds of each memory.
     #[inline(always)]
     pub(crate) fn tell_valid(&self)
         ensures { IsValidMemory self.now }
@@ -246,7 +264,7 @@ impl<R: Region> LinearMemory<R> {
         self.buffer.data()
     }
 
-    /// The bytes, to be written over.
+    /// The bytes, which may be overwritten.
     pub fn data_mut(&mut self) -> &mut [u8]
         ensures* writes_back { sem 𝓛 (Lends (the_row R.row R.Region) (Array u8 0) self.entry result
             (λ ws. memory_of self.old.ty (with_bytes (buffer_of self.old) ws))) }
@@ -255,16 +273,17 @@ impl<R: Region> LinearMemory<R> {
         self.buffer.data_mut()
     }
 
-    /// Grows by so many pages of zeros, and answers the old size in pages. A growth by 0 touches
-    /// nothing.
+    /// Grows by `additional` pages of zeros, and returns the old size in pages. A growth by 0 pages
+    /// changes nothing and asks no limiter.
     ///
-    /// Refusals in their order: `OutOfBoundsGrowth` above the greatest number of pages or the
-    /// maximum, or at 2^64 bytes or more; what the limiter answers (`OutOfBoundsGrowth` where it
-    /// says no, `ResourceLimiterDeniedAllocation` for an error); `InvalidStaticBufferSize` where a
-    /// lent region is shorter than the new size, which charges nothing; `OutOfFuel` where the meter
-    /// is on and the added bytes cost more than is left; `OutOfSystemMemory`, never of a lent
-    /// memory, which leaves the charge taken. Of the last three the limiter is told, and if it
-    /// answers an error they become `ResourceLimiterDeniedAllocation`. Bytes of a region past the
+    /// Errors, in the order of the tests: `OutOfBoundsGrowth` above the greatest number of pages or
+    /// the maximum, or at 2^64 bytes or more; the limiter's denial (`OutOfBoundsGrowth` if it says
+    /// no, `ResourceLimiterDeniedAllocation` if it returns an error); `InvalidStaticBufferSize` if
+    /// a borrowed buffer is shorter than the new size, which charges nothing; `OutOfFuel` if the
+    /// meter is on and the added bytes cost more than is left; `OutOfSystemMemory`, after which the
+    /// fuel stays spent, and which doesn't occur on a borrowed buffer. The limiter is notified of
+    /// the last three, and if it returns an error, the error is `ResourceLimiterDeniedAllocation`
+    /// instead. Bytes of a borrowed buffer past the new size stay as they are.
     /// new size are left alone.
     pub fn grow<L: ResourceLimiter>(
         &mut self,
@@ -280,7 +299,7 @@ impl<R: Region> LinearMemory<R> {
         with_meter!(fuel => self.grow_metered(additional, fuel, limiter))
     }
 
-    /// As `grow`, with a meter that is there.
+    /// As `grow`, with a meter that isn't optional.
     ///
     /// Own: upstream's `grow` takes an optional meter.
     pub fn grow_metered<L: ResourceLimiter>(
@@ -311,8 +330,8 @@ impl<R: Region> LinearMemory<R> {
         Ok(old_pages)
     }
 
-    /// As `grow_metered`, under a limiter that is lent for this call alone: what it becomes is
-    /// known.
+    /// As `grow_metered`, but borrows the limiter for this call alone, so that its state afterwards
+    /// is known.
     ///
     /// Own.
     pub fn grow_lending<L: ResourceLimiter>(
@@ -340,29 +359,22 @@ impl<R: Region> LinearMemory<R> {
             (λ size. (in_bounds self.now.ty (pages_of self.now + additional) ≡ true)
             × (size ≡ length self.now.bytes + additional * page_bytes self.now.ty.page)) }
     {
-        let pages = self.size().checked_add(additional)?;
-        self.ty.size_of_pages(pages)
+        self.ty.grown_size(self.buffer.len(), additional)
     }
 
-    /// Copies the bytes from an offset on into a buffer, which is filled; it is `OutOfBoundsAccess`
-    /// where they end past the memory, and then nothing is copied.
+    /// Fills a buffer with the bytes from an offset on. The error is `OutOfBoundsAccess` if they
+    /// end past the memory; then nothing is copied.
     pub fn read(&self, offset: usize, buffer: &mut [u8]) -> Result<(), MemoryError>
         ensures ok { OnOk result (at self.now.bytes offset (length buffer.old) ≡ Some buffer.new) }
         ensures err { IfErr result
             (λ error. (error ≡ MemoryError.OutOfBoundsAccess)
             × (at self.now.bytes offset (length buffer.old) ≡ None) × (buffer.new ≡ buffer.old)) }
     {
-        let bytes = self.buffer.data();
-        if bytes.len() < offset || bytes.len() - offset < buffer.len() {
-            return Err(MemoryError::OutOfBoundsAccess);
-        }
-        let end = offset + buffer.len();
-        buffer.copy_from_slice(&bytes[offset..end]);
-        Ok(())
+        read_bytes(self.buffer.data(), offset, buffer)
     }
 
-    /// Writes bytes over those from an offset on; it is `OutOfBoundsAccess` where they would end
-    /// past the memory, and then nothing is written.
+    /// Writes bytes over those from an offset on. The error is `OutOfBoundsAccess` if they would
+    /// end past the memory; then nothing is written.
     pub fn write(&mut self, offset: usize, buffer: &[u8]) -> Result<(), MemoryError>
         ensures { WritesMemory self.old offset buffer.now result self.new }
     {

@@ -1,10 +1,10 @@
-//! Calls that take a meter, or none.
+//! Calls that take an optional meter.
 
-/// Makes a call with the meter that an optional one leads to, or else with one that is off. The
-/// call is of a function `.._metered`, which is the one that makes it with a meter that is there.
+/// Makes a call with the meter of an option, or, if there is none, with one that is off. The call
+/// is of a function whose name ends in `_metered`, which takes a meter that isn't optional.
 ///
-/// It is a macro, since what is left in the meter is known where the option is matched, and isn't
-/// where it is handed on.
+/// This is a macro because the prover knows what is left in the meter where the option is matched,
+/// and not where the option is passed on.
 macro_rules! with_meter {
     ($fuel:ident => $call:expr) => {
         match $fuel {

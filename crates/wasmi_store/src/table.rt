@@ -12,7 +12,7 @@ mod element;
 mod ty;
 
 use crate::optional_meter::with_meter;
-use copy::copy_overlapping;
+pub(crate) use copy::{CHUNK, Chunk, copy_overlapping};
 pub use element::{ElementSegment, ElementSegmentRef, SegmentError};
 use std::alloc::Global;
 use std::marker::Model;
@@ -22,14 +22,14 @@ use wasmi_meter::{Fuel, ResourceLimiter, ResourceLimiterRef, TableError};
 use wasmi_raw::RawRef;
 use wasmi_typed::TypedRawRef;
 
-/// What a table answers where the limiter answers an error.
-const DENIED: TableError = TableError::ResourceLimiterDeniedAllocation;
+/// The error of a table if the limiter returns an error.
+pub(crate) const DENIED: TableError = TableError::ResourceLimiterDeniedAllocation;
 
-/// A table: references of one type, null ones among them.
+/// A table: references of one type, of which some may be null.
 ///
-/// The calls that are paid take a meter, or none; one that is absent or off is charged nothing. The
-/// forms in `_metered` take one that is there. 64 bytes are copied for a fuel where a host chooses
-/// no other costs, and an element has 4 bytes.
+/// The functions that charge fuel take an optional meter; without one, or with one that is off,
+/// nothing is charged. The forms whose name ends in `_metered` take one that isn't optional. If a
+/// host chooses no other costs, a unit of fuel pays for 64 bytes, and an element has 4 bytes.
 ///
 /// It is valid at any time: see [`crate::laws::tables_are_valid`].
 ///
@@ -55,10 +55,11 @@ impl Table {
     ghost use Rattle.wasmi_store.specs.TableType.{IsSubtype};
     ghost use Rattle.wasmi_store.specs.Table.{TableValue, IsSized, IsValidTable, size_of, dynamic_type, element_at, element_price, MakesTable, GrowsTableRaw, GrowsTable, SetsTable, SetsTableRaw, WritesTable, filling_of, raw_filling_of, copy_of, initialization_of};
 
-    /// A table with one reference in each place, at the minimum of its type. It takes no fuel.
+    /// A table at the minimum of its type, each element of which is the given reference. It takes
+    /// no fuel.
     ///
-    /// Refusals in their order: `ElementTypeMismatch`; `ResourceLimiterDeniedAllocation` where the
-    /// limiter doesn't permit; `OutOfSystemMemory`, of which the limiter is told.
+    /// Errors, in the order of the tests: `ElementTypeMismatch`; `ResourceLimiterDeniedAllocation`
+    /// if the limiter doesn't permit it; `OutOfSystemMemory`, of which the limiter is notified.
     pub fn new<L: ResourceLimiter>(
         alloc: Global,
         ty: TableType,
@@ -79,7 +80,8 @@ impl Table {
         }
     }
 
-    /// As `new`, under a limiter that is lent for this call alone: what it becomes is known.
+    /// As `new`, but borrows the limiter for this call alone, so that its state afterwards is
+    /// known.
     pub fn new_lending<L: ResourceLimiter>(
         alloc: Global,
         ty: TableType,
@@ -104,7 +106,7 @@ impl Table {
         self.ty
     }
 
-    /// Does nothing: its contract tells what each table keeps.
+    /// Does nothing: its contract says what holds of each table.
     #[inline(always)]
     pub(crate) fn tell_valid(&self)
         ensures { IsValidTable self.now }
@@ -130,9 +132,9 @@ impl Table {
         self.elements.len() as u64
     }
 
-    /// Grows by so many elements, each the given reference, and answers the old size. The type of
-    /// the reference is tested first, also in a growth by 0 (`ElementTypeMismatch`); then as
-    /// `grow_raw`.
+    /// Grows by `delta` elements, each the given reference, and returns the old size. The type of
+    /// the reference is tested first, also in a growth by 0 (`ElementTypeMismatch`); the rest is as
+    /// in `grow_raw`.
     pub fn grow<L: ResourceLimiter>(
         &mut self,
         delta: u64,
@@ -148,7 +150,7 @@ impl Table {
         with_meter!(fuel => self.grow_metered(delta, init, fuel, limiter))
     }
 
-    /// As `grow`, with a meter that is there.
+    /// As `grow`, with a meter that isn't optional.
     ///
     /// Own: upstream's `grow` takes an optional meter.
     pub fn grow_metered<L: ResourceLimiter>(
@@ -167,8 +169,8 @@ impl Table {
         self.grow_raw_metered(delta, init.raw, fuel, limiter)
     }
 
-    /// As `grow_metered`, under a limiter that is lent for this call alone: what it becomes is
-    /// known.
+    /// As `grow_metered`, but borrows the limiter for this call alone, so that its state afterwards
+    /// is known.
     ///
     /// Own.
     pub fn grow_lending<L: ResourceLimiter>(
@@ -190,15 +192,15 @@ impl Table {
         grown
     }
 
-    /// Grows by so many elements, each the given reference, and answers the old size. A growth by 0
-    /// touches nothing.
+    /// Grows by `delta` elements, each the given reference, and returns the old size. A growth by 0
+    /// changes nothing and asks no limiter.
     ///
-    /// Refusals in their order: `GrowOutOfBounds` where there would be as many elements as indices,
-    /// 2^32 or 2^64; what the limiter answers (`GrowOutOfBounds` where it says no,
-    /// `ResourceLimiterDeniedAllocation` for an error); `GrowOutOfBounds` above the maximum;
-    /// `OutOfFuel` where the meter is on and the new elements cost more than is left;
-    /// `OutOfSystemMemory`, which leaves the charge taken. Of the last three the limiter is told,
-    /// and if it answers an error they become `ResourceLimiterDeniedAllocation`.
+    /// Errors, in the order of the tests: `GrowOutOfBounds` if there would be as many elements as
+    /// indices, 2^32 or 2^64; the limiter's denial (`GrowOutOfBounds` if it says no,
+    /// `ResourceLimiterDeniedAllocation` if it returns an error); `GrowOutOfBounds` above the
+    /// maximum; `OutOfFuel` if the meter is on and the new elements cost more than is left;
+    /// `OutOfSystemMemory`, after which the fuel stays spent. The limiter is notified of the last
+    /// three, and if it returns an error, the error is `ResourceLimiterDeniedAllocation` instead.
     pub fn grow_raw<L: ResourceLimiter>(
         &mut self,
         delta: u64,
@@ -247,8 +249,8 @@ impl Table {
         Ok(size)
     }
 
-    /// As `grow_raw` with a meter that is there, under a limiter that is lent for this call alone:
-    /// what it becomes is known.
+    /// As `grow_raw` with a meter that isn't optional, but borrows the limiter for this call alone,
+    /// so that its state afterwards is known.
     ///
     /// Own.
     pub fn grow_raw_lending<L: ResourceLimiter>(
@@ -278,7 +280,7 @@ impl Table {
         Some(TypedRawRef::new(raw, self.ty.element()))
     }
 
-    /// Sets the element at an index. Refusals in their order: `ElementTypeMismatch`,
+    /// Sets the element at an index. Errors, in the order of the tests: `ElementTypeMismatch`,
     /// `SetOutOfBounds`.
     pub fn set(&mut self, index: u64, value: TypedRawRef) -> Result<(), TableError>
         ensures { SetsTable index value self.old result self.new }
@@ -287,8 +289,8 @@ impl Table {
         self.set_raw(index, value.raw)
     }
 
-    /// Sets the element at an index; it is `SetOutOfBounds` past the end. The type is the caller's
-    /// matter.
+    /// Sets the element at an index. The error is `SetOutOfBounds` past the end. The type of the
+    /// reference isn't tested: that is up to the caller.
     pub fn set_raw(&mut self, index: u64, value: RawRef) -> Result<(), TableError>
         ensures { SetsTableRaw index value self.old result self.new }
     {
@@ -300,10 +302,10 @@ impl Table {
         Ok(())
     }
 
-    /// Copies so many items of an element segment, from `src` on, over the elements from `dst` on.
+    /// Copies `len` items of an element segment, from `src` on, over the elements from `dst` on.
     ///
-    /// Refusals in their order: `ElementTypeMismatch`; `InitOutOfBounds` where a range ends past
-    /// the segment or the table; `OutOfFuel`. No item is free.
+    /// Errors, in the order of the tests: `ElementTypeMismatch`; `InitOutOfBounds` if a range ends
+    /// past the segment or the table; `OutOfFuel`. Copying no items costs no fuel.
     pub fn init(
         &mut self,
         element: ElementSegmentRef,
@@ -319,7 +321,7 @@ impl Table {
         with_meter!(fuel => self.init_metered(element, dst, src, len, fuel))
     }
 
-    /// As `init`, with a meter that is there.
+    /// As `init`, with a meter that isn't optional.
     ///
     /// Own: upstream's `init` takes an optional meter.
     pub fn init_metered(
@@ -349,11 +351,11 @@ impl Table {
         Ok(())
     }
 
-    /// Copies so many elements of another table, from `src` on, over the elements of a table from
+    /// Copies `len` elements of another table, from `src` on, over the elements of a table from
     /// `dst` on.
     ///
-    /// Refusals in their order: `ElementTypeMismatch`; `CopyOutOfBounds` where a range ends past
-    /// its table; `OutOfFuel`, also for no element.
+    /// Errors, in the order of the tests: `ElementTypeMismatch`; `CopyOutOfBounds` if a range ends
+    /// past its table; `OutOfFuel`, which is tested also if no element is copied.
     pub fn copy(
         dst_table: &mut Table,
         dst: u64,
@@ -369,7 +371,7 @@ impl Table {
         with_meter!(fuel => dst_table.copy_metered(dst, src_table, src, len, fuel))
     }
 
-    /// As `copy`, with a meter that is there.
+    /// As `copy`, with a meter that isn't optional.
     ///
     /// Own: upstream's `copy` takes an optional meter.
     pub fn copy_metered(
@@ -396,11 +398,11 @@ impl Table {
         Ok(())
     }
 
-    /// Copies so many elements from `src` on over those from `dst` on. Where the ranges overlap,
-    /// the old elements are copied.
+    /// Copies `len` elements from `src` on over those from `dst` on. If the ranges overlap, the old
+    /// elements are copied.
     ///
-    /// Refusals in their order: `CopyOutOfBounds` where a range ends past the table; `OutOfFuel`,
-    /// also for no element.
+    /// Errors, in the order of the tests: `CopyOutOfBounds` if a range ends past the table;
+    /// `OutOfFuel`, which is tested also if no element is copied.
     pub fn copy_within(
         &mut self,
         dst: u64,
@@ -415,7 +417,7 @@ impl Table {
         with_meter!(fuel => self.copy_within_metered(dst, src, len, fuel))
     }
 
-    /// As `copy_within`, with a meter that is there.
+    /// As `copy_within`, with a meter that isn't optional.
     ///
     /// Own: upstream's `copy_within` takes an optional meter.
     pub fn copy_within_metered(
@@ -440,8 +442,8 @@ impl Table {
         Ok(())
     }
 
-    /// Fills so many elements from `dst` on with a reference. The type of the reference is tested
-    /// first (`ElementTypeMismatch`); then as `fill_raw`.
+    /// Fills `len` elements from `dst` on with a reference. The type of the reference is tested
+    /// first (`ElementTypeMismatch`); the rest is as in `fill_raw`.
     pub fn fill(
         &mut self,
         dst: u64,
@@ -456,7 +458,7 @@ impl Table {
         with_meter!(fuel => self.fill_metered(dst, val, len, fuel))
     }
 
-    /// As `fill`, with a meter that is there.
+    /// As `fill`, with a meter that isn't optional.
     ///
     /// Own: upstream's `fill` takes an optional meter.
     pub fn fill_metered(
@@ -473,8 +475,9 @@ impl Table {
         self.fill_raw_metered(dst, val.raw, len, fuel)
     }
 
-    /// Fills so many elements from `dst` on with a reference. Refusals in their order:
-    /// `FillOutOfBounds` where they end past the table; `OutOfFuel`, also for no element.
+    /// Fills `len` elements from `dst` on with a reference. Errors, in the order of the tests:
+    /// `FillOutOfBounds` if they end past the table; `OutOfFuel`, which is tested also if no
+    /// element is filled.
     pub fn fill_raw(
         &mut self,
         dst: u64,
@@ -516,7 +519,7 @@ impl Table {
 }
 
 /// Whether so many items from an index on lie within a list.
-fn lies_within(items: &[RawRef], index: u64, len: u64) -> bool
+pub(crate) fn lies_within<T>(items: &[T], index: u64, len: u64) -> bool
     ensures { result ≡ nat_le (index + len) (length items.now) }
 {
     let size = items.len() as u64;
@@ -532,7 +535,7 @@ fn set_item(elements: &mut [RawRef], index: usize, value: RawRef)
 }
 
 /// Copies items over those from an index on.
-fn write_range(elements: &mut [RawRef], index: usize, items: &[RawRef])
+pub(crate) fn write_range<T: Copy>(elements: &mut [T], index: usize, items: &[T])
     requires inside { index + length items.now ≤ length elements.old }
     ensures written { overwrite elements.old index items.now ≡ Some elements.new }
 {

@@ -8,7 +8,7 @@ use std::alloc::Global;
 use std::marker::Model;
 use wasmi_meter::MemoryError;
 
-/// A block of bytes, of which a buffer's are the first. Both forms begin with their pointer, so
+/// A block of bytes; a buffer's bytes are the first of it. Both forms begin with their pointer, so
 /// that an access to a buffer doesn't depend on the form.
 #[derive(Debug, Drop)]
 enum Storage<R: Region> {
@@ -44,7 +44,7 @@ impl<R: Region> Storage<R> {
     }
 }
 
-/// Bytes that lie in memory of their own, or at the front of a region. Its name in signatures is
+/// Bytes in memory of their own, or at the front of a borrowed buffer. Its name in signatures is
 /// [`ByteBuffer`].
 #[derive(Debug)]
 pub struct Buffer<R: Region> {
@@ -81,7 +81,7 @@ fn zero_from(bytes: &mut [u8], start: usize)
     added.fill(0);
 }
 
-/// A growable buffer of bytes; `'r` is the loan of a region that they may lie in.
+/// A growable buffer of bytes; `'r` is the lifetime of a borrowed buffer that they may lie in.
 ///
 /// Upstream: `ByteBuffer` of `wasmi_core`'s module `memory`.
 pub type ByteBuffer<'r> = Buffer<&'r mut [u8]>;
@@ -97,7 +97,7 @@ impl<R: Region> Buffer<R> {
         self.storage.front(self.len)
     }
 
-    /// The bytes, to be written over.
+    /// The bytes, which may be overwritten.
     pub fn data_mut(&mut self) -> &mut [u8]
         ensures* writes_back { sem 𝓛 (Lends (the_row R.row R.Region) (Array u8 0) self.entry result
             (with_bytes self.old)) }
@@ -113,8 +113,8 @@ impl<R: Region> Buffer<R> {
         self.len
     }
 
-    /// Whether there is room for a new number of bytes. It is false exactly for a lent region that
-    /// is shorter.
+    /// Whether there is room for `new_size` bytes. It is false only for a borrowed buffer that is
+    /// shorter.
     pub fn has_room(&self, new_size: usize) -> bool
         ensures { result ≡ fits_room self.now.room (new_size - length self.now.bytes) }
     {
@@ -134,11 +134,11 @@ impl<R: Region> Buffer<R> {
         part.copy_from_slice(source);
     }
 
-    /// Appends zeros, up to a new number of bytes that isn't below the present one.
+    /// Appends zeros up to `new_size` bytes, which isn't below the present number.
     ///
-    /// An owned buffer is refused only for want of memory (`OutOfSystemMemory`), a lent one only
-    /// where its region is shorter (`InvalidStaticBufferSize`). A lent one takes no memory, and
-    /// leaves the bytes past the new size alone.
+    /// If the bytes are owned, the only error is `OutOfSystemMemory`. If they are borrowed, the
+    /// only error is `InvalidStaticBufferSize`, if the borrowed buffer is shorter; nothing is
+    /// allocated, and the bytes past the new size stay as they are.
     pub fn grow(&mut self, new_size: usize) -> Result<(), MemoryError>
         requires grows { length self.old.bytes ≤ new_size }
         ensures ok { OnOk result
@@ -166,7 +166,7 @@ impl<R: Region> Buffer<R> {
 impl<'r> Buffer<&'r mut [u8]> {
     ghost use Rattle.wasmi_store.specs.Buffer.{Owned, Lent, zeros_in, fits_room};
 
-    /// So many zeros in memory of their own. It is refused only for want of memory.
+    /// A buffer of `size` zeros in memory of its own. The only error is `OutOfSystemMemory`.
     pub fn new(alloc: Global, size: usize) -> Result<ByteBuffer<'r>, MemoryError>
         ensures ok { IfOk result (λ b. b ≡ zeros_in Owned size) }
         ensures err { IfErr result (λ e. e ≡ MemoryError.OutOfSystemMemory) }
@@ -180,11 +180,11 @@ impl<'r> Buffer<&'r mut [u8]> {
         }
     }
 
-    /// So many zeros at the front of a region. It takes no memory, and leaves the bytes past them
-    /// alone.
+    /// A buffer of `size` zeros at the front of a borrowed one. It allocates nothing, and the bytes
+    /// past them stay as they are.
     ///
-    /// It is refused only where the region is shorter (`InvalidStaticBufferSize`): then the loan
-    /// has ended, and the region's bytes are unchanged.
+    /// The only error is `InvalidStaticBufferSize`, if the borrowed buffer is shorter. Then the
+    /// loan has ended, and its bytes are unchanged.
     pub fn new_static(region: &'r mut [u8], size: usize) -> Result<ByteBuffer<'r>, MemoryError>
         ensures ok { IfOk result
             (λ b. (fits_room (Lent region.entry.now) size ≡ true)

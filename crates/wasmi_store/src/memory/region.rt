@@ -1,4 +1,4 @@
-//! A region of bytes that lies elsewhere, and whose front can be lent.
+//! A borrowed buffer of bytes, whose front can be lent.
 ghost use Rattle.std.specs.Prelude.{◌≡◌, ◌≤◌, ℕ, List, length, take};
 ghost use Rattle.std.proofs.Common.{refl};
 ghost use Rattle.std.specs.Borrow.{sem, Lends, Array, u8};
@@ -11,12 +11,12 @@ mod sealed {
     impl<'r> Sealed for &'r mut [u8] {}
 }
 
-/// What leads to a region of bytes: a `&mut [u8]`, and nothing else.
+/// A borrowed buffer of bytes: a `&mut [u8]`, and nothing else.
 pub trait Region: sealed::Sealed {
-    /// The region's bytes.
+    /// The buffer's bytes.
     ghost bytes: { Self → List ℕ };
 
-    /// The region once its front, up to an end, was written over.
+    /// The buffer after its front, up to an end, was overwritten.
     ghost refilled: { Self → ℕ → List ℕ → Self };
 
     /// All of its bytes.
@@ -30,7 +30,7 @@ pub trait Region: sealed::Sealed {
             (Lends Self.row (Array u8 0) self.entry result (refilled self.old end)) }
         ensures value { result.now ≡ take end (bytes self.old) };
 
-    /// The bytes of a region whose front was written over.
+    /// The bytes of a buffer whose front was overwritten.
     ghost refills: { (r : Self) (end : ℕ) (ws : List ℕ)
         → bytes (refilled r end ws) ≡ refilled_front (bytes r) end ws };
 }

@@ -1,7 +1,7 @@
 //! The types of linear memories.
-ghost use Rattle.std.specs.Prelude.{◌≡◌, ◌*◌, ◌^◌, ◌≤◌, ◌<◌, ◌↔◌, ℕ, Option, Some, None, IsTrue, true, false, MatchOption, MatchResult, IsSomeAnd, nat_lt, if◌then◌else◌};
+ghost use Rattle.std.specs.Prelude.{◌≡◌, ◌+◌, ◌*◌, ◌/◌, ◌%◌, ◌^◌, ◌≤◌, ◌<◌, ◌↔◌, ℕ, Option, Some, None, IsTrue, true, false, MatchOption, MatchResult, IsSomeAnd, nat_lt, if◌then◌else◌};
 
-use crate::limits::is_within;
+use crate::limits::is_no_looser;
 use std::marker::Model;
 use wasmi_meter::MemoryError;
 use wasmi_types::IndexType;
@@ -76,7 +76,7 @@ impl MemoryType {
     ghost use Rattle.wasmi_store.specs.MemoryType.{page_bytes, page_log2, minimum_bytes, maximum_bytes, in_bounds, IsSubtype, IsValid, default_settings};
     ghost use Rattle.wasmi_types.specs.declared.index_ty.IndexType.TheVariants.{I64};
 
-    /// A builder at the defaults: no page at first, no maximum, pages of 64 KiB, 32-bit addresses.
+    /// A builder with the defaults: a minimum of 0, no maximum, pages of 64 KiB, 32-bit addresses.
     pub fn builder() -> MemoryTypeBuilder
         ensures { result ≡ default_settings }
     {
@@ -126,16 +126,16 @@ impl MemoryType {
         self.page.log2()
     }
 
-    /// Whether a memory of this type may be given where one of the other type is asked for: with
-    /// the same address type and page size, a minimum that isn't smaller, and a maximum that isn't
-    /// above the other's, if that has one.
+    /// Whether a memory of this type may be used where one of the other type is required: both have
+    /// the same address type and page size, the minimum isn't below the other's, and the maximum
+    /// isn't above the other's, if that has one.
     pub fn is_subtype_of(&self, other: &Self) -> bool
         ensures { IsTrue result ↔ IsSubtype self.now other.now }
     {
         self.index == other.index
             && self.page == other.page
             && self.minimum >= other.minimum
-            && is_within(self.maximum, other.maximum)
+            && is_no_looser(self.maximum, other.maximum)
     }
 
     /// The type with another minimum.
@@ -156,8 +156,8 @@ impl MemoryType {
         Some(size as usize)
     }
 
-    /// The maximum in bytes, cut at the greatest `usize`.
-    pub(super) fn maximum_size(self) -> Option<usize>
+    /// The maximum in bytes, at most the greatest `usize`.
+    pub(crate) fn maximum_size(self) -> Option<usize>
         ensures { result ≡ maximum_bytes self }
     {
         match self.maximum {
@@ -166,8 +166,27 @@ impl MemoryType {
         }
     }
 
-    /// The bytes of so many pages, if a memory of this type may have them.
-    pub(super) fn size_of_pages(self, pages: u64) -> Option<usize>
+    /// The number of whole pages in `size` bytes.
+    pub(crate) fn pages_in(self, size: usize) -> u64
+        ensures { result ≡ size / page_bytes self.page }
+    {
+        size as u64 / u64::from(self.page.bytes())
+    }
+
+    /// The number of bytes after a growth by `additional` pages, if the type allows it.
+    pub(crate) fn grown_size(self, size: usize, additional: u64) -> Option<usize>
+        requires whole { size % page_bytes self.page ≡ 0 }
+        ensures size { MatchOption result
+            (in_bounds self (size / page_bytes self.page + additional) ≡ false)
+            (λ grown. (in_bounds self (size / page_bytes self.page + additional) ≡ true)
+            × (grown ≡ size + additional * page_bytes self.page)) }
+    {
+        let pages = self.pages_in(size).checked_add(additional)?;
+        self.size_of_pages(pages)
+    }
+
+    /// The bytes of `pages` pages, if a memory of this type may have that many.
+    pub(crate) fn size_of_pages(self, pages: u64) -> Option<usize>
         ensures { MatchOption result
             (in_bounds self pages ≡ false)
             (λ size. (in_bounds self pages ≡ true) × (size ≡ pages * page_bytes self.page)) }
@@ -228,7 +247,7 @@ impl MemoryTypeBuilder {
     ghost use Rattle.wasmi_store.specs.MemoryType.{IsValid, named_type};
     ghost use Rattle.wasmi_types.specs.declared.index_ty.IndexType.TheVariants.{I32, I64};
 
-    /// Sets whether addresses have 64 bits. At first they have 32.
+    /// Sets whether addresses have 64 bits. The default is 32 bits.
     pub fn memory64(&mut self, memory64: bool) -> &mut Self
         ensures same_reference { result.ghost_name ≡ self.entry.ghost_name }
         ensures value { result.now ≡ record self.old { index = (if memory64 then I64 else I32) } }
@@ -241,7 +260,7 @@ impl MemoryTypeBuilder {
         self
     }
 
-    /// Sets the minimum in pages. At first it is 0.
+    /// Sets the minimum in pages. The default is 0.
     pub fn min(&mut self, minimum: u64) -> &mut Self
         ensures same_reference { result.ghost_name ≡ self.entry.ghost_name }
         ensures value { result.now ≡ record self.old { minimum = minimum } }
@@ -250,7 +269,7 @@ impl MemoryTypeBuilder {
         self
     }
 
-    /// Sets the maximum in pages, or that there is none, as at first.
+    /// Sets the maximum in pages, or none. The default is none.
     pub fn max(&mut self, maximum: Option<u64>) -> &mut Self
         ensures same_reference { result.ghost_name ≡ self.entry.ghost_name }
         ensures value { result.now ≡ record self.old { maximum = maximum } }
@@ -259,7 +278,7 @@ impl MemoryTypeBuilder {
         self
     }
 
-    /// Sets the base-2 logarithm of a page's bytes. At first it is 16.
+    /// Sets the base-2 logarithm of a page's bytes. The default is 16.
     pub fn page_size_log2(&mut self, page_size_log2: u8) -> &mut Self
         ensures same_reference { result.ghost_name ≡ self.entry.ghost_name }
         ensures value { result.now ≡ record self.old { page_size_log2 = page_size_log2 } }
@@ -268,8 +287,8 @@ impl MemoryTypeBuilder {
         self
     }
 
-    /// The type. It is `InvalidMemoryType` for a page size other than 1 byte and 64 KiB, for limits
-    /// above what the address type reaches, and for a minimum above the maximum.
+    /// Builds the type. The error is `InvalidMemoryType` for a page size other than 1 byte and 64
+    /// KiB, for limits above what the address type reaches, and for a minimum above the maximum.
     pub fn build(self) -> Result<MemoryType, MemoryError>
         ensures { MatchResult result
             (λ ty. (named_type self ≡ Some ty) × IsValid ty)

@@ -5,11 +5,32 @@ ghost use Rattle.wasmi_types.specs.Access.{overwrite};
 use wasmi_raw::RawRef;
 
 /// How many items are copied at once.
-const CHUNK: usize = 4096;
+pub(crate) const CHUNK: usize = 4096;
+
+/// An item of a list of which a part can be copied over another part.
+pub(crate) trait Chunk: Copy {
+    /// Copies at most `CHUNK` items over others of the same list. Each implementation has a buffer
+    /// of its own type. LLVM drops it: the two copies become one `memmove`.
+    fn copy_chunk(elements: &mut [Self], dst: usize, src: usize, len: usize)
+        requires few { len ≤ 4096 }
+        requires dst { dst + len ≤ length elements.old }
+        requires src { src + len ≤ length elements.old }
+        ensures copied { elements.new
+            ≡ take dst elements.old ++ take len (drop src elements.old) ++ drop
+            (dst + len) elements.old };
+}
+
+impl Chunk for RawRef {
+    fn copy_chunk(elements: &mut [RawRef], dst: usize, src: usize, len: usize) {
+        let mut few = [RawRef::null(); CHUNK];
+        few[..len].copy_from_slice(&elements[src..src + len]);
+        elements[dst..dst + len].copy_from_slice(&few[..len]);
+    }
+}
 
 /// Copies so many items over others of the same list: those that move up from the last part on, so
 /// that each is read before it is written over.
-pub(super) fn copy_overlapping(elements: &mut [RawRef], dst: usize, src: usize, len: usize)
+pub(crate) fn copy_overlapping<T: Chunk>(elements: &mut [T], dst: usize, src: usize, len: usize)
     requires dst { dst + len ≤ length elements.old }
     requires src { src + len ≤ length elements.old }
     ensures copied { overwrite elements.old dst (take len (drop src elements.old))
@@ -19,7 +40,7 @@ pub(super) fn copy_overlapping(elements: &mut [RawRef], dst: usize, src: usize, 
         let mut done = 0;
         while done < len {
             let count = CHUNK.min(len - done);
-            copy_chunk(elements, dst + done, src + done, count);
+            T::copy_chunk(elements, dst + done, src + done, count);
             done += count;
         }
     } else {
@@ -27,22 +48,7 @@ pub(super) fn copy_overlapping(elements: &mut [RawRef], dst: usize, src: usize, 
         while 0 < left {
             let count = CHUNK.min(left);
             left -= count;
-            copy_chunk(elements, dst + left, src + left, count);
+            T::copy_chunk(elements, dst + left, src + left, count);
         }
     }
-}
-
-/// Copies at most `CHUNK` items over others of the same list. LLVM drops the buffer: the two copies
-/// become one `memmove`.
-fn copy_chunk(elements: &mut [RawRef], dst: usize, src: usize, len: usize)
-    requires few { len ≤ 4096 }
-    requires dst { dst + len ≤ length elements.old }
-    requires src { src + len ≤ length elements.old }
-    ensures copied { elements.new
-        ≡ take dst elements.old ++ take len (drop src elements.old) ++ drop
-        (dst + len) elements.old }
-{
-    let mut few = [RawRef::null(); CHUNK];
-    few[..len].copy_from_slice(&elements[src..src + len]);
-    elements[dst..dst + len].copy_from_slice(&few[..len]);
 }

@@ -9,7 +9,7 @@ use wasmi_types::RefType;
 
 /// Why an element segment cannot be made.
 ///
-/// Own: upstream panics above 2^32 - 1 items, and ends the process for want of memory.
+/// Own: upstream panics above 2^32 - 1 items, and ends the process if it is out of memory.
 #[derive(Debug, PartialEq, Eq, Drop)]
 pub enum SegmentError {
     /// There are 2^32 items or more.
@@ -54,7 +54,7 @@ impl Model for ElementSegment {
     ghost invariant = { λ segment. IsKept segment.items.items (vec_capacity segment.items) };
 }
 
-/// The items of an element segment with their type, shared.
+/// A shared reference to the items of an element segment, with their type.
 ///
 /// Upstream: `wasmi_core::ElementSegmentRef`.
 #[derive(Clone, Copy, Debug)]
@@ -68,28 +68,28 @@ pub struct ElementSegmentRef<'a> {
 const MAX_ITEMS: usize = 4_294_967_295;
 
 impl ElementSegment {
+    ghost use Rattle.wasmi_types.specs.Iteration.{EachBecomes};
     ghost use Rattle.wasmi_store.specs.Segment.{IsReading, IsReadingOf, segment_of, dropped};
 
-    /// A segment of references of a type, which `read` reads.
+    /// A segment of references of a type, read from an iterator as `read` does.
     ///
     /// Upstream: `ElementSegment::new`, which panics above 2^32 - 1 items.
     pub fn new<I>(alloc: Global, ty: RefType, items: I) -> Result<Self, SegmentError>
     where
         I: IntoIterator<Item = RawRef>,
-        requires readable { (it : I.IntoIter) → I.into_iter_gives items it
-            → I.IntoIter.can_next it }
+        requires readable { EachBecomes I.into_iter_gives items I.IntoIter.can_next }
         ensures reading { IsReadingOf I.into_iter_gives I.IntoIter.next_gives ty items result }
     {
         let mut items = items.into_iter();
         Self::read(alloc, ty, &mut items)
     }
 
-    /// Reads references of a type up to the first `None`, which is taken as the end.
+    /// Reads references of a type up to the first `None`, which counts as the end.
     ///
-    /// It reads at most 2^32 items, and nothing after the end or after a refusal: `TooManyItems` at
-    /// the last of those items, `OutOfSystemMemory` at the item for which memory was refused.
+    /// It reads at most 2^32 items, and none after the end or after an error: `TooManyItems` at the
+    /// last of those items, `OutOfSystemMemory` at the item for which memory was refused.
     ///
-    /// Own: `new` takes its iterator by value, so that its contract can't say what is left of it.
+    /// Own: `new` takes its iterator by value, so its contract can't say what is left of it.
     pub fn read<I>(alloc: Global, ty: RefType, items: &mut I) -> Result<Self, SegmentError>
     where
         I: Iterator<Item = RawRef>,
@@ -111,7 +111,7 @@ impl ElementSegment {
         }
     }
 
-    /// The segment, shared.
+    /// A shared reference to the segment.
     pub fn as_ref(&self) -> ElementSegmentRef
         ensures { segment_of result ≡ self.now }
     {

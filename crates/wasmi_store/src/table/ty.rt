@@ -1,7 +1,7 @@
 //! The types of tables.
 ghost use Rattle.std.specs.Prelude.{◌≡◌, ◌≤◌, ◌+◌, ◌↔◌, IfSome, IsTrue, true, false, MatchOption, MatchResult};
 
-use crate::limits::is_within;
+use crate::limits::is_no_looser;
 use std::marker::Model;
 use wasmi_meter::TableError;
 use wasmi_types::{IndexType, RefType};
@@ -109,20 +109,20 @@ impl TableType {
         self.maximum
     }
 
-    /// Whether a table of this type may be given where one of the other type is asked for: with the
-    /// same index type and type of elements, a minimum that isn't smaller, and a maximum that isn't
-    /// above the other's, if that has one.
+    /// Whether a table of this type may be used where one of the other type is required: both have
+    /// the same index type and type of elements, the minimum isn't below the other's, and the
+    /// maximum isn't above the other's, if that has one.
     pub fn is_subtype_of(&self, other: &Self) -> bool
         ensures { IsTrue result ↔ IsSubtype self.now other.now }
     {
         self.index == other.index
             && self.element == other.element
             && self.minimum >= other.minimum
-            && is_within(self.maximum, other.maximum)
+            && is_no_looser(self.maximum, other.maximum)
     }
 
-    /// Goes on where references of a type are elements of this type.
-    pub(super) fn ensure_element_type_matches(self, ty: RefType) -> Result<(), TableError>
+    /// Returns `Ok` if references of a type are elements of this type.
+    pub(crate) fn ensure_element_type_matches(self, ty: RefType) -> Result<(), TableError>
         ensures { MatchResult result
             (λ _. same_type self.element ty ≡ true)
             (λ error. (error ≡ TableError.ElementTypeMismatch)
@@ -143,8 +143,8 @@ impl TableType {
         TableType { minimum, ..self }
     }
 
-    /// The number of elements after a growth, if there are more indices than that.
-    pub(super) fn grown_size(self, size: u64, delta: u64) -> Option<usize>
+    /// The number of elements after a growth, if there are more indices than elements.
+    pub(crate) fn grown_size(self, size: u64, delta: u64) -> Option<usize>
         ensures { MatchOption result
             (is_indexable self (size + delta) ≡ false)
             (λ grown. (is_indexable self (size + delta) ≡ true) × (grown ≡ size + delta)) }
@@ -156,8 +156,15 @@ impl TableType {
         Some(grown as usize)
     }
 
+    /// Whether there are more indices than so many elements.
+    pub(crate) fn indexes_size(self, size: usize) -> bool
+        ensures { result ≡ is_indexable self size }
+    {
+        (size as u128) < self.index.max_size()
+    }
+
     /// The maximum as a size.
-    pub(super) fn maximum_size(self) -> Option<usize>
+    pub(crate) fn maximum_size(self) -> Option<usize>
         ensures { result ≡ self.maximum }
     {
         match self.maximum {
@@ -166,8 +173,8 @@ impl TableType {
         }
     }
 
-    /// Whether so many elements are no more than the maximum, if there is one.
-    pub(super) fn allows_size(self, size: usize) -> bool
+    /// Whether `size` elements are no more than the maximum, if there is one.
+    pub(crate) fn allows_size(self, size: usize) -> bool
         ensures { result ≡ is_within_maximum self size }
     {
         match self.maximum {

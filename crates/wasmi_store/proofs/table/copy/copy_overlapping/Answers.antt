@@ -3,7 +3,7 @@ use Rattle.wasmi_store.proofs.CopyLemmas.{copied_down, copied_up}
 use Rattle.wasmi_store.proofs.table.copy.copy_overlapping.Goals as goal
 
 pub loop-done-preserved : goal.loop-done-preserved
-loop-done-preserved c =
+loop-done-preserved g c =
     let part = c.min-count.ensures in
     let within : c.loop-done.done + c.min-count.result ≤ c.args.len = omega (arith, c.loop-done-test.true) in
     record {
@@ -14,7 +14,7 @@ loop-done-preserved c =
     }
 
 pub loop-left-preserved : goal.loop-left-preserved
-loop-left-preserved c =
+loop-left-preserved g c =
     let part = c.min-count-in-loop-left.ensures in
     let some : c.min-count-in-loop-left.result ≤ c.loop-left.left = omega arith in
     record {

@@ -1,0 +1,57 @@
+-- Tables whose elements are the first of a region.
+use Rattle.std.proofs.Common.{rules, Option, ◌≡◌, ℕ, ◌+◌, ◌-◌, ◌≤◌, List, ◌++◌, Bool, true, Some, length, take, drop, replicate, sym, ap, ◌∙◌, arith}
+use Rattle.std.specs.Prelude.{nat_le}
+use Rattle.wasmi_types.specs.Access.{overwrite}
+use Rattle.std.proofs.lemmas.List.{take_at, length-append, length-replicate, length-take-le}
+use Rattle.wasmi_meter.specs.declared.limiter.Kind.TheVariants.{Elements}
+use Rattle.wasmi_store.specs.Growth.{IsAsked}
+use Rattle.wasmi_store.specs.RegionTable.{table_of, table_in}
+use Rattle.wasmi_store.specs.Table.{TableValue, size_of, growth_of, with_added}
+use Rattle.wasmi_store.specs.TableType.{TableTypeValue, is_indexable}
+use Rattle.wasmi_store.proofs.TableLemmas.{growth_asked}
+
+module _ (ty : TableTypeValue) (region : List ℕ) (size : ℕ) (within : size ≤ length region) where
+  abbrev x : TableValue
+  x = table_in ty region size
+
+  -- it has so many elements
+  pub sized : size ≡ size_of x
+  sized = sym (length-take-le size region within)
+
+  -- what can be indexed after a growth
+  pub indexed : (delta : ℕ) (b : Bool) → is_indexable ty (size + delta) ≡ b → is_indexable ty (size_of x + delta) ≡ b
+  indexed delta b h = rw sized at h
+
+  -- a growth up to what can be indexed asks for its sizes
+  pub asked_in : (delta reference : ℕ) {desired : ℕ} {maximum : Option ℕ}
+      → (is_indexable ty (size + delta) ≡ true) × (desired ≡ size + delta) → maximum ≡ ty.maximum
+      → IsAsked (growth_of x delta reference)
+      (record { kind = Elements; current = size; desired = desired; maximum = maximum })
+  asked_in delta reference found most = growth_asked x delta reference sized found most
+
+  -- with references from the old size to the new one, the region has the table that has grown
+  pub grown : (delta reference desired : ℕ) → desired ≡ size + delta → (region' : List ℕ)
+      → region' ≡ take size region ++ replicate (desired - size) reference ++ drop desired region
+      → table_in ty region' desired ≡ with_added x delta reference
+  grown delta reference desired reaches region' filled =
+      let front : List ℕ = take size region ++ replicate (desired - size) reference in
+      let more : length (replicate {A = ℕ} (desired - size) reference) ≡ desired - size =
+      length-replicate (desired - size) reference in
+      let both : length front ≡ length (take size region) + length (replicate {A = ℕ} (desired - size) reference) =
+      length-append (take size region) (replicate (desired - size) reference) in
+      let long : length front ≡ desired = let s = sized in omega arith in
+      let split : region' ≡ front ++ drop desired region = filled ∙ search rules in
+      let added : desired - size ≡ delta = omega arith in
+      ap (λ (l : List ℕ). table_of ty l)
+      (ap (take desired) split ∙ take_at front (drop desired region) desired long
+      ∙ ap (λ (k : ℕ). take size region ++ replicate k reference) added)
+
+-- references from one place to another are a part that is written over
+pub filled_part : (xs : List ℕ) (dst len reference : ℕ) → nat_le (dst + len) (length xs) ≡ true → (xs' : List ℕ)
+    → xs' ≡ take dst xs ++ replicate (dst + len - dst) reference ++ drop (dst + len) xs
+    → overwrite xs dst (replicate len reference) ≡ Some xs'
+filled_part xs dst len reference fits xs' filled =
+    let many : length (replicate {A = ℕ} len reference) ≡ len = length-replicate len reference in
+    let added : dst + len - dst ≡ len = omega arith in
+    rw (many, fits) (ap Some (sym (filled
+    ∙ ap (λ (k : ℕ). take dst xs ++ replicate k reference ++ drop (dst + len) xs) added)))

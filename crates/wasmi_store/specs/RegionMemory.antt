@@ -1,0 +1,15 @@
+-- Memories whose bytes are the first of a region that lies with their caller.
+use Rattle.std.specs.Prelude.{ℕ, List, take, drop, Result, Ok, Err}
+use Rattle.wasmi_meter.specs.declared.error.MemoryError.{MemoryError}
+use Rattle.wasmi_store.specs.Buffer.{Lent}
+use Rattle.wasmi_store.specs.Memory.{MemoryValue}
+use Rattle.wasmi_store.specs.MemoryType.{MemoryTypeValue}
+
+-- the memory of a type that has so many bytes at the front of a region, and the rest of it as room
+abbrev pub memory_in : MemoryTypeValue → List ℕ → ℕ → MemoryValue
+memory_in ty region size = record { ty = ty; bytes = take size region; room = Lent (drop size region) }
+
+-- what a call makes in a region, by the size that it returns
+abbrev pub made_in : MemoryTypeValue → List ℕ → Result ℕ MemoryError → Result MemoryValue MemoryError
+made_in ty region (Ok size) = Ok (memory_in ty region size)
+made_in ty region (Err error) = Err error
