@@ -122,7 +122,7 @@ appends_same entry refusal (Ok x) list reply reply' list' list'' a b = (a.0 ∙ 
 appends_same entry refusal (Err error) list reply reply' list' list'' a b = (a.0 ∙ sym b.0, a.1 ∙ sym b.1)
 
 -- what a creation ends in
-pub record Outcome (A S : Type 0) : Type 0 where
+pub record Creation (A S : Type 0) : Type 0 where
   pub reply : Reply
   pub part : A
   pub limiter : S
@@ -130,7 +130,7 @@ pub record Outcome (A S : Type 0) : Type 0 where
 -- a creation ends in one way, where memory isn't wanting
 abbrev pub HasOneOutcome : {A S : Type 0} → (Reply → A → S → Type 0) → Type 0
 HasOneOutcome {A} {S} Relation =
-    (o o' : Outcome A S) → HasMemory o.reply → HasMemory o'.reply → Relation o.reply o.part o.limiter
+    (o o' : Creation A S) → HasMemory o.reply → HasMemory o'.reply → Relation o.reply o.part o.limiter
     → Relation o'.reply o'.part o'.limiter → (o.reply ≡ o'.reply) × (o.part ≡ o'.part) × (o.limiter ≡ o'.limiter)
 
 -- two creations in a new slot

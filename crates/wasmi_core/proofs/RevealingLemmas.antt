@@ -3,7 +3,7 @@
 use Rattle.std.proofs.Common.{Err, List, Result, Some, [], ap, inl, inr, map, refl, subst, sym, ℕ, ◌∙◌, ◌∷◌, ◌≡◌}
 use Rattle.std.proofs.lemmas.List.Elements.{All-head, All-tail}
 use Rattle.std.specs.Prelude.{All}
-use Rattle.wasmi_core.proofs.EffectLemmas.{Outcome, on_live_too, on_test_too}
+use Rattle.wasmi_core.proofs.EffectLemmas.{Creation, on_live_too, on_test_too}
 use Rattle.wasmi_core.proofs.StoreLemmas.{acts_too, asks_too}
 use Rattle.wasmi_core.specs.Effects.{ActsAt, ActsMetered, AddsEntry, Asks, Creates, reply_of}
 use Rattle.wasmi_core.specs.Runs.{Run}
@@ -86,7 +86,7 @@ module _ {S : Type 0} (n : Narrowing S) where
 
   -- a creation
   creates_revealed : {X E : Type 0} (refusal : E → Reply) (e : Request (Unit {0}) E) → Reveals refusal e
-      → (made : X) (slots : List (Slot X)) (l : S) (o : Outcome (List (Slot X)) S) → n.within l → n.shown o.reply
+      → (made : X) (slots : List (Slot X)) (l : S) (o : Creation (List (Slot X)) S) → n.within l → n.shown o.reply
       → Creates refusal (Makes n.rules e made) slots l o.reply o.part o.limiter
       → Creates refusal (Makes n.narrower e made) slots l o.reply o.part o.limiter
   creates_revealed refusal e reveals made slots l o within shows (inl none) = inl none

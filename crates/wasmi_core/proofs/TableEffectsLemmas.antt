@@ -20,7 +20,7 @@ use Rattle.std.specs.Prelude.{Err, MatchBool}
 use Rattle.wasmi_meter.specs.declared.error.TableError.{TableError}
 use Rattle.wasmi_meter.specs.declared.error.TableError.TheVariants.{ElementTypeMismatch}
 use Rattle.wasmi_store.proofs.GrowthLemmas.{on_test}
-use Rattle.wasmi_store.specs.Table.{Ending, EndsBy, GrowsTableCharging, IsValidTable, MeteredTable, SetsTable, SetsTableRaw, TableValue, TableWrite, WritesTableCharging, size_of}
+use Rattle.wasmi_store.specs.Table.{WriteEnding, EndsBy, GrowsTableCharging, IsValidTable, MeteredTable, SetsTable, SetsTableRaw, TableValue, TableWrite, WritesTableCharging, size_of}
 use Rattle.wasmi_store.specs.Growth.{metered}
 use Rattle.wasmi_store.specs.TableType.{same_type}
 use Rattle.wasmi_typed.specs.declared.typed_ref.TypedRawRef.{TypedRawRef}
@@ -95,7 +95,7 @@ set_refused k index value slots reply slots' refused sets =
     changes_back k slots reply slots' _ (λ x x' c. set_back index value x c.0 x' (rw c.2 at refused) c.1) sets
 
 -- tables
-module _ (write : TableValue → TableWrite) (s : MeteredTable) (end end' : Ending) where
+module _ (write : TableValue → TableWrite) (s : MeteredTable) (end end' : WriteEnding) where
   -- two writes over a part end in one way
   ends_same : (typed : Bool) (written : Option (List ℕ)) (payable : Bool)
       → EndsBy (write s.value) s typed written payable end → EndsBy (write s.value) s typed written payable end'

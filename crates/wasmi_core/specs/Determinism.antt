@@ -1,4 +1,4 @@
--- Limiters that leave no choice, and runs in which memory isn't wanting.
+-- Deterministic limiters, and runs in which nothing says out of memory.
 use Rattle.std.specs.Prelude.{◌≡◌, List, [], ◌∷◌, Ok, Option, Some, None}
 use Rattle.wasmi_meter.specs.declared.error.MemoryError.TheVariants as memory
 use Rattle.wasmi_meter.specs.declared.error.TableError.TheVariants as table
@@ -29,18 +29,18 @@ pub record StaysAccepting {S : Type 0} (rules : Rules S) (IsAccepting : S → Ty
   pub noticed : (l : S) (failure : Failure) (notice_answer : NoticeAnswer) (l' : S) → IsAccepting l
       → rules.noticed l failure notice_answer l' → (notice_answer ≡ Ok tt) × IsAccepting l'
 
--- a limiter that may be absent is in one of these states, where it is there
+-- an optional limiter is in one of these states, if there is one
 abbrev pub IsIn : {S : Type 0} → (S → Type 0) → Option S → Type 0
 IsIn IsAccepting (Some l) = IsAccepting l
 IsIn IsAccepting None = Unit {0}
 
--- the failure isn't want of memory
+-- the failure isn't out of memory
 abbrev pub IsNoWant : Failure → Type 0
 IsNoWant (MemoryFailure memory.OutOfSystemMemory) = ⊥
 IsNoWant (TableFailure table.OutOfSystemMemory) = ⊥
 IsNoWant failure = Unit {0}
 
--- the rules by which no limiter is told of want of memory
+-- the rules by which no limiter is notified that memory was refused
 abbrev pub with_memory : {S : Type 0} → Rules S → Rules S
 with_memory rules =
     record {
@@ -49,7 +49,7 @@ with_memory rules =
           × IsNoWant failure;
     }
 
--- the reply doesn't tell of want of memory
+-- the reply doesn't say out of memory
 abbrev pub HasMemory : Reply → Type 0
 HasMemory NoRoom = ⊥
 HasMemory (Memory memory.OutOfSystemMemory) = ⊥
@@ -57,7 +57,7 @@ HasMemory (Table table.OutOfSystemMemory) = ⊥
 HasMemory (Segment segment.OutOfSystemMemory) = ⊥
 HasMemory reply = Unit {0}
 
--- none of the turns does
+-- no reply of the turns says out of memory
 abbrev pub HaveMemory : List Turn → Type 0
 HaveMemory [] = Unit {0}
 HaveMemory (turn ∷ turns) = HasMemory turn.reply × HaveMemory turns

@@ -10,7 +10,7 @@ use Rattle.wasmi_core.specs.declared.slots.Slot.TheVariants.{Live, Gone}
 use Rattle.wasmi_core.specs.State.{State, live_at}
 use Rattle.wasmi_core.specs.World.{World, world, Turn, IsFree}
 
--- the reply to a call that answers or is refused
+-- the reply to a call that returns a value or is refused
 abbrev pub reply_of : {T E : Type 0} → (T → Reply) → (E → Reply) → Result T E → Reply
 reply_of answer refusal (Ok value) = answer value
 reply_of answer refusal (Err error) = refusal error

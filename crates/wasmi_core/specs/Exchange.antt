@@ -129,7 +129,7 @@ bytes_of_one Elements = 4
 abbrev pub growth_due : Meter → Question → ℕ
 growth_due m q = due m (λ costs. copy_cost costs (q.desired - q.current) (bytes_of_one q.kind))
 
--- what is charged of a price for a growth that failed: memory is wanting after it was paid, and each other cause is
+-- what is charged of a price for a growth that failed: memory is refused after it was paid, and each other cause is
 -- found before
 abbrev pub failed_charge : Failure → ℕ → ℕ
 failed_charge (MemoryFailure memory_error.OutOfSystemMemory) price = price

@@ -35,13 +35,13 @@ pub record SameContents (s s' : State) : Type 0 where
   pub globals : s'.globals ≡ s.globals
   pub registers : s'.registers ≡ s.registers
 
--- the spare region stays, unless a memory was to be made in it, and then it is spent where a slot could be had
+-- the spare region stays, unless a memory was to be made in it: then it is used up if there was room for a slot
 abbrev pub KeepsSpare : Call → Reply → State → State → Type 0
 KeepsSpare (NewLentMemory ty) reply s s' = s'.spare ≡ spare_after reply s.spare
 KeepsSpare call reply s s' = s'.spare ≡ s.spare
 
--- a growth fails after its charge: it was permitted and charged, and then memory was wanting, of which the limiter was
--- told; the meter has its price less
+-- a growth fails after its charge: it was permitted and charged, and then memory was refused, of which the limiter was
+-- notified; the meter has its price less
 pub record FailsAfterCharge {S : Type 0} (rules : Rules S) (w : World S) (turn : Turn) (w' : World S) : Type 0 where
   pub index : ℕ
   pub grows : place_of turn.call ≡ At index
@@ -82,9 +82,9 @@ module _ {S : Type 0} (rules : Rules S) where
       (w : World S) (turns : List Turn) (w' : World S) → Run rules w turns w' → All IsRefusal (map Turn.reply turns)
       → SameContents w.state w'.state
 
-  -- in each turn the limiter is asked what the call asks, or nothing where it asks nothing; a permission is followed by
+  -- in each turn the limiter is asked what the call asks, or nothing if it asks nothing; a permission is followed by
   -- exactly the growth that was asked for, or by just one notice, and a denial by neither; a growth is charged only
-  -- after a permission, and then its price; what is charged is taken of the meter
+  -- after a permission, and then its price; what is charged is taken from the meter
   abbrev pub GrowsAsPermitted : Type 0
   GrowsAsPermitted = (w : World S) (turn : Turn) (w' : World S) → Step rules w turn w' → Exchanges rules w turn w'
 
@@ -94,7 +94,7 @@ module _ {S : Type 0} (rules : Rules S) where
       (w : World S) (turns : List Turn) (w' : World S) → Run rules w turns w'
       → Sequence (λ v turn v'. Step rules v turn v' × Exchanges rules v turn v') w turns w'
 
-  -- a run of which no reply tells of a denial is one in which each question was permitted
+  -- a run in which no reply reports a denial is one in which each question was permitted
   abbrev pub RepliesPermit : Type 0
   RepliesPermit =
       (w : World S) (turns : List Turn) (w' : World S) → All TellsNoDenial (map Turn.reply turns) → Run rules w turns w'
@@ -170,8 +170,8 @@ module _ {S : Type 0} (rules : Rules S) where
       ⊎ ((answer : Answer) × IsDenial answer
       × rules.asked s.limiter (growth_of s.value pages).question answer s'.limiter)
 
--- where the limiter leaves no choice, two runs of one list of calls from one world, in which memory isn't wanting, are
--- one
+-- if the limiter is deterministic, two runs of one list of calls from one world, in which neither a reply nor a notice
+-- says out of memory, are one
 abbrev pub RunsAreOne : {L : Type 0} → Rules L → Type 0
 RunsAreOne {L} rules =
     IsDeterministic rules → (w : World (Option L)) (turns turns' : List Turn) (v v' : World (Option L))
@@ -179,15 +179,14 @@ RunsAreOne {L} rules =
     → HaveMemory turns → HaveMemory turns' → Run (with_memory (optional_rules rules)) w turns v
     → Run (with_memory (optional_rules rules)) w turns' v' → (turns ≡ turns') × (v ≡ v')
 
--- where the limiter accepts each notice, a run whose replies tell of no want of memory is one in which nobody is told
--- of it
+-- if the limiter accepts each notice, a run in which no reply says out of memory is one in which no notice does
 abbrev pub RepliesTell : {L : Type 0} → Rules L → Type 0
 RepliesTell {L} rules =
     AcceptsNotices rules → (w : World (Option L)) (turns : List Turn) (w' : World (Option L)) → HaveMemory turns
     → Run (optional_rules rules) w turns w' → Run (with_memory (optional_rules rules)) w turns w'
 
--- where the limiter leaves no choice and accepts each notice, two runs of one list of calls from one world, whose
--- replies tell of no want of memory, have the same replies and end in one world
+-- if the limiter is deterministic and accepts each notice, two runs of one list of calls from one world, in which no
+-- reply says out of memory, have the same replies and end in one world
 abbrev pub RepliesAreOne : {L : Type 0} → Rules L → Type 0
 RepliesAreOne {L} rules =
     IsDeterministic rules → AcceptsNotices rules

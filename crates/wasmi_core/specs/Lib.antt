@@ -26,6 +26,7 @@ pub use Rattle.wasmi_types.specs.IndexType
 pub use Rattle.wasmi_types.specs.Trap
 pub use Rattle.wasmi_types.specs.TrapReason
 pub use Rattle.wasmi_types.specs.FunctionType
+pub use Rattle.wasmi_types.specs.Iteration
 pub use Rattle.wasmi_types.specs.Reading
 pub use Rattle.wasmi_types.specs.FuncTypeError
 pub use Rattle.wasmi_raw.specs.Number

@@ -35,7 +35,7 @@ CreatesLent rules ty part l reply part' l' = MatchOption part.spare ((reply ≡ 
     (λ region. Creates Memory (MakesMemory rules (Lent region) ty) part.slots l reply part'.slots l'
     × (part'.spare ≡ spare_after reply part.spare))
 
--- a read: its bounds come before the want of memory for the reply
+-- a read: its bounds are tested before memory for the reply is asked for
 abbrev pub ReadsBytes : Option (List ℕ) → Reply → Type 0
 ReadsBytes None reply = reply ≡ Memory OutOfBoundsAccess
 ReadsBytes (Some bytes) reply = (reply ≡ NoRoom) ⊎ (reply ≡ Bytes bytes)

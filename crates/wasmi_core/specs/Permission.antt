@@ -15,7 +15,7 @@ permitting rules =
       noticed = rules.noticed;
     }
 
--- the reply doesn't tell of a denial, nor of what a denial is told by
+-- the reply reports no denial, and is no error by which a denial is reported
 abbrev pub TellsNoDenial : Reply → Type 0
 TellsNoDenial (Memory memory.OutOfBoundsGrowth) = ⊥
 TellsNoDenial (Memory memory.ResourceLimiterDeniedAllocation) = ⊥

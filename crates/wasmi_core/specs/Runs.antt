@@ -15,6 +15,11 @@ Sequence Relates w (turn ∷ turns) w' = (v : World _) × Relates w turn v × Se
 abbrev pub Run : {S : Type 0} → Rules S → World S → List Turn → World S → Type 0
 Run rules = Sequence (Step rules)
 
+-- turns of these calls with these replies
+pub record AreTurns (calls : List Call) (replies : List Reply) (turns : List Turn) : Type 0 where
+  pub calls_of : map Turn.call turns ≡ calls
+  pub replies_of : map Turn.reply turns ≡ replies
+
 -- the replies are those of a run of the calls, from one world to another
 abbrev pub IsRunOf : {S : Type 0} → Rules S → List Call → World S → List Reply → World S → Type 0
 IsRunOf rules calls w replies w' =

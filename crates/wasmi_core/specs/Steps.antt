@@ -24,7 +24,7 @@ use Rattle.wasmi_store.specs.Memory.{MakesMemory, GrowsMemoryCharging}
 use Rattle.wasmi_store.specs.TableType.{TableTypeValue}
 use Rattle.wasmi_store.specs.Table.{size_of, MakesTable, GrowsTableCharging}
 use Rattle.wasmi_core.specs.declared.calls.Call.{Call}
-use Rattle.wasmi_core.specs.declared.calls.Call.TheVariants.{SetFuel, GetFuel, NewMemory, NewLentMemory, GrowMemory, DropMemory, Read, Write, Load, Store, NewTable, GrowTable, DropTable, GetElement, SetElement, InitTable, CopyTable, FillTable, NewSegment, DropItems, NewGlobal, SetGlobal, GetGlobal, SetRegister, GetRegister, Make, Unary, Binary, Ternary, Shift, Test, Extract, Replace, Shuffle, VectorLoad, LoadLane, VectorStore, StoreLane}
+use Rattle.wasmi_core.specs.declared.calls.Call.TheVariants as call
 use Rattle.wasmi_core.specs.declared.calls.Reply.{Reply}
 use Rattle.wasmi_core.specs.declared.calls.Reply.TheVariants as reply
 use Rattle.wasmi_core.specs.World.{World, Turn, world}
@@ -49,52 +49,52 @@ pub data Subject : Type 0 where
 
 -- what each call is about: a line for each
 abbrev pub subject_of : Call → Subject
-subject_of (SetFuel fuel) = TheMeter
-subject_of GetFuel = TheMeter
-subject_of (NewMemory ty) = Memories
-subject_of (NewLentMemory ty) = Memories
-subject_of (GrowMemory k pages) = Memories
-subject_of (DropMemory k) = Memories
-subject_of (Read k offset len) = Memories
-subject_of (Write k offset bytes) = Memories
-subject_of (Load op k ptr offset) = Memories
-subject_of (Store op k ptr offset value) = Memories
-subject_of (NewTable ty init) = Tables
-subject_of (GrowTable k n init) = Tables
-subject_of (DropTable k) = Tables
-subject_of (GetElement k index) = Tables
-subject_of (SetElement k index value) = Tables
-subject_of (InitTable k j dst src len) = Tables
-subject_of (CopyTable k dst j src len) = Tables
-subject_of (FillTable k dst value len) = Tables
-subject_of (NewSegment ty items) = Values
-subject_of (DropItems k) = Values
-subject_of (NewGlobal value ty) = Values
-subject_of (SetGlobal k value) = Values
-subject_of (GetGlobal k) = Values
-subject_of (SetRegister dst value) = RegisterFile
-subject_of (GetRegister a) = RegisterFile
-subject_of (Make op dst a) = RegisterFile
-subject_of (Unary op dst a) = RegisterFile
-subject_of (Binary op dst a b) = RegisterFile
-subject_of (Ternary op dst a b c) = RegisterFile
-subject_of (Shift op dst a amount) = RegisterFile
-subject_of (Test op a) = RegisterFile
-subject_of (Extract op a) = RegisterFile
-subject_of (Replace op dst a item) = RegisterFile
-subject_of (Shuffle dst a b lanes) = RegisterFile
-subject_of (VectorLoad op dst k ptr offset) = Vectors
-subject_of (LoadLane op dst a k ptr offset) = Vectors
-subject_of (VectorStore a k ptr offset) = Vectors
-subject_of (StoreLane op a k ptr offset) = Vectors
+subject_of (call.SetFuel fuel) = TheMeter
+subject_of call.GetFuel = TheMeter
+subject_of (call.NewMemory ty) = Memories
+subject_of (call.NewLentMemory ty) = Memories
+subject_of (call.GrowMemory k pages) = Memories
+subject_of (call.DropMemory k) = Memories
+subject_of (call.Read k offset len) = Memories
+subject_of (call.Write k offset bytes) = Memories
+subject_of (call.Load op k ptr offset) = Memories
+subject_of (call.Store op k ptr offset value) = Memories
+subject_of (call.NewTable ty init) = Tables
+subject_of (call.GrowTable k n init) = Tables
+subject_of (call.DropTable k) = Tables
+subject_of (call.GetElement k index) = Tables
+subject_of (call.SetElement k index value) = Tables
+subject_of (call.InitTable k j dst src len) = Tables
+subject_of (call.CopyTable k dst j src len) = Tables
+subject_of (call.FillTable k dst value len) = Tables
+subject_of (call.NewSegment ty items) = Values
+subject_of (call.DropItems k) = Values
+subject_of (call.NewGlobal value ty) = Values
+subject_of (call.SetGlobal k value) = Values
+subject_of (call.GetGlobal k) = Values
+subject_of (call.SetRegister dst value) = RegisterFile
+subject_of (call.GetRegister a) = RegisterFile
+subject_of (call.Make op dst a) = RegisterFile
+subject_of (call.Unary op dst a) = RegisterFile
+subject_of (call.Binary op dst a b) = RegisterFile
+subject_of (call.Ternary op dst a b c) = RegisterFile
+subject_of (call.Shift op dst a amount) = RegisterFile
+subject_of (call.Test op a) = RegisterFile
+subject_of (call.Extract op a) = RegisterFile
+subject_of (call.Replace op dst a item) = RegisterFile
+subject_of (call.Shuffle dst a b lanes) = RegisterFile
+subject_of (call.VectorLoad op dst k ptr offset) = Vectors
+subject_of (call.LoadLane op dst a k ptr offset) = Vectors
+subject_of (call.VectorStore a k ptr offset) = Vectors
+subject_of (call.StoreLane op a k ptr offset) = Vectors
 
 -- the calls that are charged for what they write: growths, and those that write over a part of a table
 abbrev pub is_charged : Call → Bool
-is_charged (GrowMemory k pages) = true
-is_charged (GrowTable k n init) = true
-is_charged (InitTable k j dst src len) = true
-is_charged (CopyTable k dst j src len) = true
-is_charged (FillTable k dst value len) = true
+is_charged (call.GrowMemory k pages) = true
+is_charged (call.GrowTable k n init) = true
+is_charged (call.InitTable k j dst src len) = true
+is_charged (call.CopyTable k dst j src len) = true
+is_charged (call.FillTable k dst value len) = true
 is_charged call = false
 
 -- what changes one part of the state, but for the meter: nothing is charged, and the limiter isn't reached
@@ -126,56 +126,56 @@ pub data Effect : Type 0 where
 
 -- the effect of a call on a machine in this state: a line for each call
 abbrev pub effect_of : State → Call → Effect
-effect_of s (SetFuel fuel) = FuelSet fuel
-effect_of s GetFuel = Told (get_fuel_reply s.meter)
-effect_of s (NewMemory ty) = MemoryMade ty
-effect_of s (NewLentMemory ty) = LentMemoryMade ty
-effect_of s (GrowMemory k pages) = MemoryGrown k pages
-effect_of s (DropMemory k) = Changed (MemoryDropped k)
-effect_of s (Read k offset len) = BytesRead k offset len
-effect_of s (Write k offset bytes) = Changed (BytesWritten k offset bytes.items)
-effect_of s (Load op k ptr offset) = Told (load_reply op (ptr + offset) (live_at s.memories k))
-effect_of s (Store op k ptr offset value) = Changed (BytesStored k (ptr + offset) (Some (stored_bytes op value)))
-effect_of s (NewTable ty init) = TableMade ty init
-effect_of s (GrowTable k n init) = TableGrown k n init
-effect_of s (DropTable k) = Changed (TableDropped k)
-effect_of s (GetElement k index) = Told (element_reply index (live_at s.tables k))
-effect_of s (SetElement k index value) = Changed (ElementSet k index value)
-effect_of s (InitTable k j dst src len) = RangeWritten k (OfSegment (slice_get s.segments j) src) dst len
-effect_of s (CopyTable k dst j src len) = RangeWritten k (OfTable (live_at s.tables j) src) dst len
-effect_of s (FillTable k dst value len) = RangeWritten k (OfReference value) dst len
-effect_of s (NewSegment ty items) = Changed (SegmentMade ty items.items)
-effect_of s (DropItems k) = Changed (ItemsDropped k)
-effect_of s (NewGlobal value ty) = Changed (GlobalMade (record { value = value; ty = ty }))
-effect_of s (SetGlobal k value) = Changed (GlobalSet k value)
-effect_of s (GetGlobal k) = Told (global_reply (slice_get s.globals k))
-effect_of s (SetRegister dst value) = Changed (RegisterSet dst (Some (Ok value)))
-effect_of s (GetRegister a) = Told (raw_reply (slice_get s.registers a))
-effect_of s (Make op dst a) =
+effect_of s (call.SetFuel fuel) = FuelSet fuel
+effect_of s call.GetFuel = Told (get_fuel_reply s.meter)
+effect_of s (call.NewMemory ty) = MemoryMade ty
+effect_of s (call.NewLentMemory ty) = LentMemoryMade ty
+effect_of s (call.GrowMemory k pages) = MemoryGrown k pages
+effect_of s (call.DropMemory k) = Changed (MemoryDropped k)
+effect_of s (call.Read k offset len) = BytesRead k offset len
+effect_of s (call.Write k offset bytes) = Changed (BytesWritten k offset bytes.items)
+effect_of s (call.Load op k ptr offset) = Told (load_reply op (ptr + offset) (live_at s.memories k))
+effect_of s (call.Store op k ptr offset value) = Changed (BytesStored k (ptr + offset) (Some (stored_bytes op value)))
+effect_of s (call.NewTable ty init) = TableMade ty init
+effect_of s (call.GrowTable k n init) = TableGrown k n init
+effect_of s (call.DropTable k) = Changed (TableDropped k)
+effect_of s (call.GetElement k index) = Told (element_reply index (live_at s.tables k))
+effect_of s (call.SetElement k index value) = Changed (ElementSet k index value)
+effect_of s (call.InitTable k j dst src len) = RangeWritten k (OfSegment (slice_get s.segments j) src) dst len
+effect_of s (call.CopyTable k dst j src len) = RangeWritten k (OfTable (live_at s.tables j) src) dst len
+effect_of s (call.FillTable k dst value len) = RangeWritten k (OfReference value) dst len
+effect_of s (call.NewSegment ty items) = Changed (SegmentMade ty items.items)
+effect_of s (call.DropItems k) = Changed (ItemsDropped k)
+effect_of s (call.NewGlobal value ty) = Changed (GlobalMade (record { value = value; ty = ty }))
+effect_of s (call.SetGlobal k value) = Changed (GlobalSet k value)
+effect_of s (call.GetGlobal k) = Told (global_reply (slice_get s.globals k))
+effect_of s (call.SetRegister dst value) = Changed (RegisterSet dst (Some (Ok value)))
+effect_of s (call.GetRegister a) = Told (raw_reply (slice_get s.registers a))
+effect_of s (call.Make op dst a) =
     Changed (RegisterSet dst (option_map (λ raw. given_vector (made_vector op raw)) (slice_get s.registers a)))
-effect_of s (Unary op dst a) = Changed (RegisterSet dst (of_one (unary_vector op) (vector_at s.registers a)))
-effect_of s (Binary op dst a b) =
+effect_of s (call.Unary op dst a) = Changed (RegisterSet dst (of_one (unary_vector op) (vector_at s.registers a)))
+effect_of s (call.Binary op dst a b) =
     Changed (RegisterSet dst (of_two (binary_vector op) (vector_at s.registers a) (vector_at s.registers b)))
-effect_of s (Ternary op dst a b c) =
+effect_of s (call.Ternary op dst a b c) =
     Changed (RegisterSet dst
     (of_three (ternary_vector op) (vector_at s.registers a) (vector_at s.registers b) (vector_at s.registers c)))
-effect_of s (Shift op dst a amount) =
+effect_of s (call.Shift op dst a amount) =
     Changed (RegisterSet dst (of_one (λ v. shifted_vector op v amount) (vector_at s.registers a)))
-effect_of s (Test op a) = Told (raw_reply (option_map (tested_raw op) (vector_at s.registers a)))
-effect_of s (Extract op a) = Told (raw_reply (option_map (extracted_raw op) (vector_at s.registers a)))
-effect_of s (Replace op dst a item) =
+effect_of s (call.Test op a) = Told (raw_reply (option_map (tested_raw op) (vector_at s.registers a)))
+effect_of s (call.Extract op a) = Told (raw_reply (option_map (extracted_raw op) (vector_at s.registers a)))
+effect_of s (call.Replace op dst a item) =
     Changed (RegisterSet dst
     (option_and_then (λ raw. of_one (λ v. replaced_vector op v raw) (vector_at s.registers a))
     (slice_get s.registers item)))
-effect_of s (Shuffle dst a b lanes) =
+effect_of s (call.Shuffle dst a b lanes) =
     Changed (RegisterSet dst (of_two (λ x y. shuffle x y lanes) (vector_at s.registers a) (vector_at s.registers b)))
-effect_of s (VectorLoad op dst k ptr offset) =
+effect_of s (call.VectorLoad op dst k ptr offset) =
     Changed (RegisterSet dst (vector_loaded op (ptr + offset) (live_at s.memories k)))
-effect_of s (LoadLane op dst a k ptr offset) =
+effect_of s (call.LoadLane op dst a k ptr offset) =
     Changed (RegisterSet dst (lane_loaded op (ptr + offset) (vector_at s.registers a) (live_at s.memories k)))
-effect_of s (VectorStore a k ptr offset) =
+effect_of s (call.VectorStore a k ptr offset) =
     Changed (BytesStored k (ptr + offset) (option_map (le_bytes 16) (vector_at s.registers a)))
-effect_of s (StoreLane op a k ptr offset) =
+effect_of s (call.StoreLane op a k ptr offset) =
     Changed (BytesStored k (ptr + offset) (option_map (stored_lane op) (vector_at s.registers a)))
 
 -- one part of the state changes: a line for each kind

@@ -2,7 +2,7 @@
 use Rattle.std.specs.Prelude.{◌≡◌, ℕ}
 use Rattle.wasmi_core.specs.declared.calls.Call.{Call}
 use Rattle.wasmi_core.specs.declared.calls.Reply.{Reply}
-use Rattle.wasmi_core.specs.declared.calls.Reply.TheVariants.{Done, Made, Value, Number, Bytes, Reference, Memory, Table, Fuel, Global, Segment, Trap, NoSuch, NoRegion, NoRoom}
+use Rattle.wasmi_core.specs.declared.calls.Reply.TheVariants as reply
 use Rattle.wasmi_core.specs.State.{State}
 
 -- what a call can reach: the machine's state and the limiter
@@ -27,18 +27,18 @@ IsFree turn = (turn.charge ≡ 0) × (turn.written ≡ 0)
 
 -- a reply that tells why nothing was done
 abbrev pub IsRefusal : Reply → Type 0
-IsRefusal Done = ⊥
-IsRefusal (Made index) = ⊥
-IsRefusal (Value value) = ⊥
-IsRefusal (Number number) = ⊥
-IsRefusal (Bytes bytes) = ⊥
-IsRefusal (Reference element) = ⊥
-IsRefusal (Memory error) = Unit {0}
-IsRefusal (Table error) = Unit {0}
-IsRefusal (Fuel error) = Unit {0}
-IsRefusal (Global error) = Unit {0}
-IsRefusal (Segment error) = Unit {0}
-IsRefusal (Trap code) = Unit {0}
-IsRefusal NoSuch = Unit {0}
-IsRefusal NoRegion = Unit {0}
-IsRefusal NoRoom = Unit {0}
+IsRefusal reply.Done = ⊥
+IsRefusal (reply.Made index) = ⊥
+IsRefusal (reply.Value value) = ⊥
+IsRefusal (reply.Number number) = ⊥
+IsRefusal (reply.Bytes bytes) = ⊥
+IsRefusal (reply.Reference element) = ⊥
+IsRefusal (reply.Memory error) = Unit {0}
+IsRefusal (reply.Table error) = Unit {0}
+IsRefusal (reply.Fuel error) = Unit {0}
+IsRefusal (reply.Global error) = Unit {0}
+IsRefusal (reply.Segment error) = Unit {0}
+IsRefusal (reply.Trap code) = Unit {0}
+IsRefusal reply.NoSuch = Unit {0}
+IsRefusal reply.NoRegion = Unit {0}
+IsRefusal reply.NoRoom = Unit {0}

@@ -1,4 +1,5 @@
-//! What a machine can be asked, and what it replies.
+//! What a machine can be asked, and what it replies. Both are our own: upstream leaves running to
+//! the interpreter.
 ghost use Rattle.std.specs.Prelude.{◌≡◌, MatchBool};
 
 use std::fmt;
@@ -22,54 +23,52 @@ use wasmi_types::{RefType, TrapCode};
 ///
 /// Replies are listed in the order of the tests: the first that applies is the reply. `Memory` and
 /// `Table` carry the error that the method of `Memory` or `Table` returns.
-///
-/// Own: upstream leaves running to the interpreter.
 #[derive(Drop)]
 pub enum Call {
-    /// Sets the fuel that is left: `Done`, or `Fuel` where metering is off.
+    /// Sets the fuel that is left: `Done`, or `Fuel` if metering is off.
     SetFuel(u64),
-    /// The fuel that is left: `Number`, or `Fuel` where metering is off.
+    /// Returns the fuel that is left: `Number`, or `Fuel` if metering is off.
     GetFuel,
     /// Makes a memory of zeros: `Made` with its index, `NoRoom` if there is no memory for its slot,
     /// or `Memory`.
     NewMemory(MemoryType),
     /// Makes a memory of zeros at the front of the machine's spare region: `Made` with its index,
-    /// `NoRegion` where there is no spare region, `NoRoom` if there is no memory for its slot,
-    /// or `Memory`. Any reply except `NoRegion` and `NoRoom` uses up the region.
+    /// `NoRegion` if there is no spare region, `NoRoom` if there is no memory for its slot, or
+    /// `Memory`. Any reply except `NoRegion` and `NoRoom` uses up the region.
     NewLentMemory(MemoryType),
-    /// Grows a memory by so many pages: `Number` of the old size in pages, `NoSuch` where there is
-    /// no such memory, or `Memory`.
+    /// Grows a memory by `pages` pages: `Number` of the old size in pages, `NoSuch` if there is no
+    /// such memory, or `Memory`.
     GrowMemory {
         memory: usize,
         pages: u64,
     },
     /// Drops a memory, whose bytes are given back; its size still counts in the machine's total:
-    /// `Done`, or `NoSuch` where there is no such memory.
+    /// `Done`, or `NoSuch` if there is no such memory.
     DropMemory(usize),
-    /// So many bytes of a memory: `Bytes`, `NoSuch` where there is no such memory, `Memory` where
+    /// Reads `len` bytes of a memory: `Bytes`, `NoSuch` if there is no such memory, `Memory` if
     /// they end past it, or then `NoRoom` if there is no memory for the reply.
     Read {
         memory: usize,
         offset: usize,
         len: usize,
     },
-    /// Writes bytes over those of a memory from an offset on: `Done`, `NoSuch` where there is no
-    /// such memory, or `Memory` where they would end past it.
+    /// Writes bytes over those of a memory from an offset on: `Done`, `NoSuch` if there is no such
+    /// memory, or `Memory` if they would end past it.
     Write {
         memory: usize,
         offset: usize,
         bytes: Vec<u8>,
     },
-    /// Loads a number from a memory at `ptr + offset`: `Value`, `NoSuch` where there is no such
-    /// memory, or `Trap` where it ends past it.
+    /// Loads a number from a memory at `ptr + offset`: `Value`, `NoSuch` if there is no such
+    /// memory, or `Trap` if it ends past it.
     Load {
         op: LoadOp,
         memory: usize,
         ptr: u64,
         offset: u64,
     },
-    /// Stores a number to a memory at `ptr + offset`: `Done`, `NoSuch` where there is no such
-    /// memory, or `Trap` where it would end past it.
+    /// Stores a number to a memory at `ptr + offset`: `Done`, `NoSuch` if there is no such memory,
+    /// or `Trap` if it would end past it.
     Store {
         op: StoreOp,
         memory: usize,
@@ -77,40 +76,40 @@ pub enum Call {
         offset: u64,
         value: RawVal,
     },
-    /// Makes a table of one reference: `Made` with its index, `NoRoom` without memory for its slot,
-    /// or `Table`.
+    /// Makes a table of one reference: `Made` with its index, `NoRoom` if there is no memory for
+    /// its slot, or `Table`.
     NewTable {
         ty: TableType,
         init: TypedRawRef,
     },
-    /// Grows a table by so many elements: `Number` of the old size in elements, `NoSuch` where
-    /// there is no such table, or `Table`.
+    /// Grows a table by `delta` elements: `Number` of the old size in elements, `NoSuch` if there
+    /// is no such table, or `Table`.
     GrowTable {
         table: usize,
         delta: u64,
         init: TypedRawRef,
     },
     /// Drops a table, whose elements are given back; its size still counts in the machine's total:
-    /// `Done`, or `NoSuch` where there is no such table.
+    /// `Done`, or `NoSuch` if there is no such table.
     DropTable(usize),
-    /// The element of a table, if there is one: `Reference`, or `NoSuch` where there is no such
-    /// table.
+    /// Returns the element of a table, if there is one: `Reference`, or `NoSuch` if there is no
+    /// such table.
     GetElement {
         table: usize,
         index: u64,
     },
-    /// Sets an element of a table: `Done`, `NoSuch` where there is no such table, or `Table` with
-    /// `ElementTypeMismatch` where the reference isn't of the type of the elements, then
-    /// `SetOutOfBounds` where the index is past the end.
+    /// Sets an element of a table: `Done`, `NoSuch` if there is no such table, or `Table` with
+    /// `ElementTypeMismatch` if the reference isn't of the type of the elements, then
+    /// `SetOutOfBounds` if the index is past the end.
     SetElement {
         table: usize,
         index: u64,
         value: TypedRawRef,
     },
-    /// Copies so many items of an element segment, from `src` on, over the elements of a table from
-    /// `dst` on: `Done`, `NoSuch` where there is no such segment or table, or `Table` with
-    /// `ElementTypeMismatch` where their types differ, then `InitOutOfBounds` where a range ends
-    /// past the segment or the table, then `OutOfFuel`; no item costs no fuel.
+    /// Copies `len` items of an element segment, from `src` on, over the elements of a table from
+    /// `dst` on: `Done`, `NoSuch` if there is no such segment or table, or `Table` with
+    /// `ElementTypeMismatch` if their types differ, then `InitOutOfBounds` if a range ends past the
+    /// segment or the table, then `OutOfFuel`; copying no items costs no fuel.
     InitTable {
         table: usize,
         segment: usize,
@@ -118,11 +117,11 @@ pub enum Call {
         src: u32,
         len: u32,
     },
-    /// Copies so many elements of a table, from `src` on, over those of another or of itself from
-    /// `dst` on: `Done`, `NoSuch` where there is no such table, or `Table` with
-    /// `ElementTypeMismatch` where their types differ, then `CopyOutOfBounds` where a range ends
-    /// past its table, then `OutOfFuel`, also for no element. Where ranges of one table overlap,
-    /// the old elements are copied.
+    /// Copies `len` elements of a table, from `src` on, over those of another or of itself from
+    /// `dst` on: `Done`, `NoSuch` if there is no such table, or `Table` with `ElementTypeMismatch`
+    /// if their types differ, then `CopyOutOfBounds` if a range ends past its table, then
+    /// `OutOfFuel`, which is tested also for no element. If ranges of one table overlap, the old
+    /// elements are copied.
     CopyTable {
         dst_table: usize,
         dst: u64,
@@ -130,67 +129,66 @@ pub enum Call {
         src: u64,
         len: u64,
     },
-    /// Fills so many elements of a table with a reference, from `dst` on: `Done`, `NoSuch` where
-    /// there is no such table, or `Table` with `ElementTypeMismatch` where the reference isn't of
-    /// the type of the elements, then `FillOutOfBounds` where they end past the table, then
-    /// `OutOfFuel`, also for no element.
+    /// Fills `len` elements of a table with a reference, from `dst` on: `Done`, `NoSuch` if there
+    /// is no such table, or `Table` with `ElementTypeMismatch` if the reference isn't of the type
+    /// of the elements, then `FillOutOfBounds` if they end past the table, then `OutOfFuel`, which
+    /// is tested also for no element.
     FillTable {
         table: usize,
         dst: u64,
         value: TypedRawRef,
         len: u64,
     },
-    /// Makes an element segment: `Made` with its index, `NoRoom` without memory for its slot, or
-    /// `Segment`.
+    /// Makes an element segment: `Made` with its index, `NoRoom` if there is no memory for its
+    /// slot, or `Segment`.
     NewSegment {
         ty: RefType,
         items: Vec<RawRef>,
     },
-    /// Drops the items of an element segment, which stays: `Done`, or `NoSuch` where there is no
-    /// such segment.
+    /// Drops the items of an element segment, which stays: `Done`, or `NoSuch` if there is no such
+    /// segment.
     DropItems(usize),
-    /// Makes a global: `Made` with its index, or `NoRoom` without memory for its slot.
+    /// Makes a global: `Made` with its index, or `NoRoom` if there is no memory for its slot.
     NewGlobal {
         value: RawVal,
         ty: GlobalType,
     },
-    /// Sets a global: `Done`, `NoSuch` where there is no such global, or `Global` with
-    /// `ImmutableWrite` where it is a constant, then `TypeMismatch` where the value isn't of its
-    /// type.
+    /// Sets a global: `Done`, `NoSuch` if there is no such global, or `Global` with
+    /// `ImmutableWrite` if it is a constant, then `TypeMismatch` if the value isn't of its type.
     SetGlobal {
         global: usize,
         value: TypedRawVal,
     },
-    /// The value of a global: `Value`, or `NoSuch` where there is no such global.
+    /// Returns the value of a global: `Value`, or `NoSuch` if there is no such global.
     GetGlobal(usize),
-    /// Sets a register: `Done`, or `NoSuch` where there is no such register.
+    /// Sets a register: `Done`, or `NoSuch` if there is no such register.
     SetRegister {
         dst: u8,
         value: RawVal,
     },
-    /// The value of a register: `Value`, or `NoSuch` where there is no such register.
+    /// Returns the value of a register: `Value`, or `NoSuch` if there is no such register.
     GetRegister(u8),
-    /// Makes a vector of the item in register `a`: `Done`, or `NoSuch` where there is no such
+    /// Makes a vector of the item in register `a`: `Done`, or `NoSuch` if there is no such
     /// register.
     Make {
         op: MakeOp,
         dst: u8,
         a: u8,
     },
-    /// An instruction of one vector: `Done`, or `NoSuch` where there is no such register.
+    /// Executes an instruction of one vector: `Done`, or `NoSuch` if there is no such register.
     Unary {
         op: UnaryOp,
         dst: u8,
         a: u8,
     },
-    /// An instruction of two vectors: `Done`, or `NoSuch` where there is no such register.
+    /// Executes an instruction of two vectors: `Done`, or `NoSuch` if there is no such register.
     Binary {
         op: BinaryOp,
         dst: u8,
         a: u8,
         b: u8,
     },
-    /// An instruction of three vectors: `Done`, or `NoSuch` where there is no such register.
+    /// Executes an instruction of three vectors: `Done`, or `NoSuch` if there is no such register.
     Ternary {
         op: TernaryOp,
         dst: u8,
@@ -198,41 +196,41 @@ pub enum Call {
         b: u8,
         c: u8,
     },
-    /// Shifts the lanes of a vector by `amount` modulo their width: `Done`, or `NoSuch` where there
-    /// is no such register.
+    /// Shifts the lanes of a vector by `amount` modulo their width: `Done`, or `NoSuch` if there is
+    /// no such register.
     Shift {
         op: ShiftOp,
         dst: u8,
         a: u8,
         amount: u32,
     },
-    /// Tests a vector, or takes its mask: `Value`, or `NoSuch` where there is no such register.
+    /// Tests a vector, or takes its mask: `Value`, or `NoSuch` if there is no such register.
     Test {
         op: TestOp,
         a: u8,
     },
-    /// Takes a lane from a vector: `Value`, or `NoSuch` where there is no such register.
+    /// Takes a lane from a vector: `Value`, or `NoSuch` if there is no such register.
     Extract {
         op: ExtractOp,
         a: u8,
     },
-    /// Puts the item in register `item` into a lane of a vector: `Done`, or `NoSuch` where there is
-    /// no such register.
+    /// Puts the item in register `item` into a lane of a vector: `Done`, or `NoSuch` if there is no
+    /// such register.
     Replace {
         op: ReplaceOp,
         dst: u8,
         a: u8,
         item: u8,
     },
-    /// Picks bytes of two vectors: `Done`, or `NoSuch` where there is no such register.
+    /// Picks bytes of two vectors: `Done`, or `NoSuch` if there is no such register.
     Shuffle {
         dst: u8,
         a: u8,
         b: u8,
         lanes: [ImmLaneIdx32; 16],
     },
-    /// Loads a vector from a memory at `ptr + offset`: `Done`, `NoSuch` where there is no such
-    /// memory or register, or `Trap` where it ends past it.
+    /// Loads a vector from a memory at `ptr + offset`: `Done`, `NoSuch` if there is no such memory
+    /// or register, or `Trap` if it ends past it.
     VectorLoad {
         op: VectorLoadOp,
         dst: u8,
@@ -240,8 +238,8 @@ pub enum Call {
         ptr: u64,
         offset: u64,
     },
-    /// Loads a lane of a vector from a memory at `ptr + offset`: `Done`, `NoSuch` where there is no
-    /// such memory or register, or `Trap` where it ends past it.
+    /// Loads a lane of a vector from a memory at `ptr + offset`: `Done`, `NoSuch` if there is no
+    /// such memory or register, or `Trap` if it ends past it.
     LoadLane {
         op: LoadLaneOp,
         dst: u8,
@@ -250,16 +248,16 @@ pub enum Call {
         ptr: u64,
         offset: u64,
     },
-    /// Stores a vector to a memory at `ptr + offset`: `Done`, `NoSuch` where there is no such
-    /// memory or register, or `Trap` where it would end past it.
+    /// Stores a vector to a memory at `ptr + offset`: `Done`, `NoSuch` if there is no such memory
+    /// or register, or `Trap` if it would end past it.
     VectorStore {
         a: u8,
         memory: usize,
         ptr: u64,
         offset: u64,
     },
-    /// Stores a lane of a vector to a memory at `ptr + offset`: `Done`, `NoSuch` where there is no
-    /// such memory or register, or `Trap` where it would end past it.
+    /// Stores a lane of a vector to a memory at `ptr + offset`: `Done`, `NoSuch` if there is no
+    /// such memory or register, or `Trap` if it would end past it.
     StoreLane {
         op: StoreLaneOp,
         a: u8,
@@ -352,8 +350,6 @@ impl Call {
 }
 
 /// The reply to one call.
-///
-/// Own: upstream leaves running to the interpreter.
 #[derive(Debug, Drop, PartialEq, Eq)]
 pub enum Reply {
     /// The call is done, and has no other result.
@@ -392,7 +388,7 @@ pub enum Reply {
 }
 
 /// The bytes of a reply, with a memory of their own: what is read stays as it was when the memory
-/// is written, grown or dropped. Two lists are equal where their bytes are.
+/// is written, grown or dropped. Two lists are equal if their bytes are.
 #[derive(Debug, Drop)]
 pub struct ByteList {
     bytes: Vec<u8>,

@@ -80,7 +80,7 @@ pub fn runs_keep_validity<L: ResourceLimiter>()
     ensures { RunsKeepValidity (optional_rules L.rules) }
 {}
 
-/// If no reply of a run tells of a denial, the limiter permitted each question. A growth out of
+/// If no reply of a run reports a denial, the limiter permitted each question. A growth out of
 /// bounds counts as a denial here, since both have the same error.
 pub fn replies_permit<L: ResourceLimiter>()
     ensures { RepliesPermit (optional_rules L.rules) }
@@ -128,21 +128,21 @@ pub fn lent_growths_succeed<L: ResourceLimiter>()
     ensures { LentGrowthsSucceed (optional_rules L.rules) }
 {}
 
-/// Where the limiter leaves no choice, two runs of one list of calls from one machine and one
-/// limiter are equal, if neither is out of memory: no reply and no notice tells of it.
+/// If the limiter is deterministic, two runs of one list of calls from one machine and one limiter
+/// are equal, as long as neither is out of memory: no reply and no notice says so.
 pub fn runs_are_one<L: ResourceLimiter>()
     ensures { RunsAreOne L.rules }
 {}
 
-/// If the limiter accepts each notice, a run whose replies don't tell of a lack of memory is one in
-/// which no notice does either, as `runs_are_one` requires.
+/// If the limiter accepts each notice, a run in which no reply says out of memory is one in which
+/// no notice does either, as `runs_are_one` requires.
 pub fn replies_tell<L: ResourceLimiter>()
     ensures { RepliesTell L.rules }
 {}
 
-/// Where the limiter leaves no choice and accepts each notice, two runs of one list of calls from
-/// one machine and one limiter have the same replies and lead to the same machine and limiter, if
-/// no reply tells of a lack of memory. Its premises are what `run` promises and what a caller sees.
+/// If the limiter is deterministic and accepts each notice, two runs of one list of calls from one
+/// machine and one limiter have the same replies and lead to the same machine and limiter, as long
+/// as no reply says out of memory. Its premises are what `run` promises and what a caller sees.
 pub fn replies_are_one<L: ResourceLimiter>()
     ensures { RepliesAreOne L.rules }
 {}
@@ -157,12 +157,12 @@ pub fn quota_accepts_notices()
     ensures { AcceptsNotices quota_rules }
 {}
 
-/// The limiter that permits everything leaves no choice.
+/// The limiter that permits everything is deterministic.
 pub fn no_limits_leave_no_choice()
     ensures { IsDeterministic (unlimited_rules {S = NoLimits}) }
 {}
 
-/// A quota leaves no choice.
+/// A quota is deterministic.
 pub fn quota_leaves_no_choice()
     ensures { IsDeterministic quota_rules }
 {}

@@ -14,8 +14,8 @@ use wasmi_store::{ElementSegment, Memory, Table};
 use wasmi_typed::Global;
 
 /// Memories, tables, element segments and globals by their indices, 16 registers of raw values, one
-/// fuel meter, and at most one spare region of bytes, in which a memory can be made; `'r` is the
-/// loan of that region.
+/// fuel meter, and at most one spare region: a borrowed buffer in which a memory can be made; `'r`
+/// is its lifetime.
 ///
 /// Its state is valid at any time: see [`crate::laws::states_are_valid`].
 ///
@@ -82,8 +82,8 @@ impl<'r> Machine<'r> {
         &self.store.fuel
     }
 
-    /// Takes an amount of fuel, and returns what is left. It is `FuelMeteringDisabled` where the
-    /// meter is off; `OutOfFuel` with the amount where less is left, and then nothing is taken.
+    /// Takes an amount of fuel, and returns what is left. The error is `FuelMeteringDisabled` if
+    /// the meter is off, and `OutOfFuel` with the amount if less is left; then nothing is taken.
     ///
     /// It isn't a call, so a run has no turn for it: an interpreter pays by it for the instructions
     /// that it executes between calls.
@@ -143,16 +143,16 @@ impl<'r> Machine<'r> {
         self.store.registers.get(register)
     }
 
-    /// The bytes of all memories, dropped ones at their last size. It walks all slots: its cost
-    /// grows with the number of memories that were ever made, also of those that were dropped.
+    /// The bytes of all memories, dropped ones at their last size. The cost grows with the number
+    /// of memories that were ever made, including those that were dropped.
     pub fn total_bytes(&self) -> u128
         ensures { result ≡ total self.now Bytes }
     {
         self.store.memories.total()
     }
 
-    /// The elements of all tables, dropped ones at their last size. It walks all slots: its cost
-    /// grows with the number of tables that were ever made, also of those that were dropped.
+    /// The elements of all tables, dropped ones at their last size. The cost grows with the number
+    /// of tables that were ever made, including those that were dropped.
     pub fn total_elements(&self) -> u128
         ensures { result ≡ total self.now Elements }
     {

@@ -1,4 +1,4 @@
-//! One call, and runs of calls.
+//! One call, and runs of calls. They are our own: upstream leaves running to the interpreter.
 ghost use Rattle.std.specs.Prelude.{◌≡◌, Some, IfOk, OnErr};
 ghost use Rattle.wasmi_meter.specs.Limiter.{optional_rules};
 ghost use Rattle.wasmi_meter.specs.LimiterRef.{lent_limiter, KeepsLoan};
@@ -15,8 +15,6 @@ use wasmi_meter::{Reserving, ResourceLimiter, ResourceLimiterRef};
 
 impl<'r> Machine<'r> {
     /// Executes one call, as `run` executes each of a list.
-    ///
-    /// Own: upstream leaves running to the interpreter.
     #[inline(always)]
     pub fn step<L: ResourceLimiter>(
         &mut self,
@@ -33,7 +31,8 @@ impl<'r> Machine<'r> {
         self.store.step(call, limiter)
     }
 
-    /// Executes one call, as `step`, under a limiter that is lent for this call alone.
+    /// Executes one call, as `step`, but borrows the limiter for this call alone, so that its state
+    /// afterwards is known.
     ///
     /// Own: upstream leaves running to the interpreter.
     #[inline(always)]
@@ -53,8 +52,6 @@ impl<'r> Machine<'r> {
 
 /// Executes calls one after another. Memory for the replies is allocated first; if that fails,
 /// nothing has happened.
-///
-/// Own: upstream leaves running to the interpreter.
 pub fn run<L: ResourceLimiter>(
     machine: &mut Machine,
     calls: &[Call],
@@ -76,7 +73,8 @@ pub fn run<L: ResourceLimiter>(
     Ok(replies)
 }
 
-/// Executes calls, as `run`, under a limiter that is lent for this run alone.
+/// Executes calls, as `run`, but borrows the limiter for this run alone, so that its state
+/// afterwards is known.
 ///
 /// Own: upstream leaves running to the interpreter.
 pub fn run_lending<L: ResourceLimiter>(
@@ -100,8 +98,6 @@ pub fn run_lending<L: ResourceLimiter>(
 
 /// Executes calls, as `run`, under a limiter that holds exactly what the machine has, and does so
 /// again afterwards.
-///
-/// Own: upstream leaves running to the interpreter.
 pub fn run_reserving<L: Reserving>(
     machine: &mut Machine,
     calls: &[Call],

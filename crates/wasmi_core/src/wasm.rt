@@ -1,8 +1,8 @@
 //! The scalar integer instructions, and the loads and stores of the integer types.
 //!
 //! A load or store without `_at` accesses the address `ptr + offset`, one with `_at` the given
-//! address; addresses count bytes. The only error of all 38 is `TrapCode::MemoryOutOfBounds`, where
-//! the access ends past the end of the memory, and then nothing is written.
+//! address; addresses count bytes. The only error of all 38 is `TrapCode::MemoryOutOfBounds`, if
+//! the access ends past the end of the memory; then nothing is written.
 //!
 //! Upstream: `wasmi_core::wasm`.
 
