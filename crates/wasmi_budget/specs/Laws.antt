@@ -36,7 +36,7 @@ RunsAsAlone = (pool : PoolValue) (index : ℕ) (s : State) → slice_get pool.ma
     × PoolRun (record { caps = pool.caps; machines = s ∷ [] }) (own_turns index turns)
     (record { caps = pool.caps; machines = s' ∷ [] })
 
--- an accepted run of a tenant of which no reply tells of a denial is one in which each question was permitted
+-- an accepted run of a tenant in which no reply reports a denial is one in which each question was permitted
 abbrev pub RepliesPermit : Type 0
 RepliesPermit =
     (pool : PoolValue) (index : ℕ) (calls : List Call) (replies : List Reply) (pool' : PoolValue)

@@ -6,8 +6,6 @@ use std::alloc::AllocError;
 use std::fmt;
 
 /// Why a machine isn't added to a pool, in the order of the tests.
-///
-/// Own: upstream has no pool.
 #[derive(Debug, PartialEq, Eq, Drop)]
 pub enum AddError {
     /// The machine has bytes or elements, or had some that it dropped.
@@ -32,7 +30,7 @@ impl fmt::Display for AddError {
 
 impl std::error::Error for AddError {}
 
-/// Why a pool makes no run, in the order of the tests.
+/// Why a pool doesn't run a tenant's calls, in the order of the tests.
 ///
 /// Own: upstream has no pool.
 #[derive(Debug, PartialEq, Eq, Drop)]

@@ -9,8 +9,8 @@ pub fn caps_hold()
     ensures { CapsHold }
 {}
 
-/// What the other tenants hold doesn't show in a run that is never denied: it is one, with the same
-/// turns and the same machine, where they hold nothing.
+/// What the other tenants hold doesn't matter to a run that is never denied: beside tenants that
+/// hold nothing there is a run with the same turns and the same machine.
 pub fn others_do_not_show()
     ensures { OthersDontShow }
 {}
@@ -21,13 +21,13 @@ pub fn permitted_runs_as_alone()
     ensures { RunsAsAlone }
 {}
 
-/// If no reply of a run of a tenant tells of a denial, each question was
-/// permitted: so what `Pool::run` promises leads to `permitted_runs_as_alone`.
+/// If no reply of a run of a tenant reports a denial, each question was permitted: so what
+/// `Pool::run` promises leads to `permitted_runs_as_alone`.
 pub fn replies_permit()
     ensures { RepliesPermit }
 {}
 
-/// A tenant's limiter leaves no choice.
+/// A tenant's limiter is deterministic.
 pub fn tenants_leave_no_choice()
     ensures { IsDeterministic tenant_rules }
 {}

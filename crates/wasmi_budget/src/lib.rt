@@ -1,4 +1,5 @@
 //! Pools of machines whose memories and tables stay, all together, within one cap of each kind.
+//! Own: upstream has no pool.
 #![tactic(auto)]
 
 mod error;

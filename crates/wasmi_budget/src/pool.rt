@@ -14,8 +14,8 @@ use wasmi_meter::Amounts;
 
 /// Machines that share a cap on the bytes of their memories, and one on the elements of their
 /// tables: what all of them have, with what they dropped, stays within both. Each machine is a
-/// tenant; their indices count from 0. No tenant is ever removed, and what it dropped counts for
-/// ever.
+/// tenant; the indices of tenants count from 0. No tenant is ever removed, and what it dropped
+/// counts for ever.
 ///
 /// Own: upstream has no pool.
 #[derive(Debug, Drop)]
@@ -70,12 +70,12 @@ impl<'r> Pool<'r> {
         self.machines.is_empty()
     }
 
-    /// Adds a machine that has nothing yet, and returns its index. A machine that is refused is
-    /// handed back.
+    /// Adds a machine that has nothing yet, and returns its index. If it is refused, the machine is
+    /// handed back with the error.
     ///
     /// It costs what `Machine::total_bytes` and `total_elements` cost on the added machine, which
-    /// for one that was just made is nothing, and a place in a vector: what the other tenants have
-    /// isn't looked at.
+    /// is nothing for a new one, and a place in a vector. What the other tenants have isn't looked
+    /// at.
     pub fn add(&mut self, machine: Machine<'r>) -> Result<usize, (AddError, Machine<'r>)>
         ensures added { IfOk result
             (λ index. (index ≡ length self.old.machines)
@@ -99,8 +99,8 @@ impl<'r> Pool<'r> {
     /// Executes calls on the machine of a tenant, under a limiter that permits what keeps
     /// all tenants together within the caps.
     ///
-    /// It costs room for the replies, and what the calls cost: nothing that depends on how many
-    /// tenants there are, or on how much they made or dropped before.
+    /// It costs memory for the replies, and what the calls cost. That depends neither on how many
+    /// tenants there are, nor on how much they made or dropped before.
     pub fn run(&mut self, index: usize, calls: &[Call]) -> Result<Vec<Reply>, PoolError>
         ensures ran { IfOk result
             (λ replies. RunsTenant self.old index calls.now replies.items self.new) }
@@ -126,18 +126,20 @@ impl<'r> Pool<'r> {
         Some(machine.machine())
     }
 
-    /// The bytes of a tenant's memories, with those that it dropped. They fit, since the cap does.
+    /// The bytes of a tenant's memories, including those that it dropped. They fit a `u64`, since
+    /// the cap does.
     ///
-    /// It costs the same for each pool: the numbers are kept.
+    /// The cost is constant: the numbers are kept.
     pub fn held_bytes(&self, index: usize) -> Option<u64>
         ensures { result ≡ option_map (λ s. total s Bytes) (slice_get self.now.machines index) }
     {
         Some(self.held(index)?.bytes)
     }
 
-    /// The elements of a tenant's tables, with those that it dropped. They fit, since the cap does.
+    /// The elements of a tenant's tables, including those that it dropped. They fit a `u64`, since
+    /// the cap does.
     ///
-    /// It costs the same for each pool, as `held_bytes`.
+    /// The cost is constant, as that of `held_bytes`.
     pub fn held_elements(&self, index: usize) -> Option<u64>
         ensures { result ≡ option_map (λ s. total s Elements) (slice_get self.now.machines index) }
     {

@@ -8,8 +8,9 @@ use wasmi_core::{Call, Machine, Reply, run_reserving};
 use wasmi_meter::{Amounts, Holdings, Kind, LimiterByKind, LimiterError, Reserving};
 
 /// The limiter of one machine of a pool: it permits what keeps all tenants together within the
-/// caps, and says no to the rest. It counts each difference that it permitted, and takes the last
-/// one back at a notice of its kind, once. What the others hold stays while its machine runs.
+/// caps, and denies the rest. It counts each difference that it permitted. At a notice it takes
+/// back the last one if that is of the same kind, once. What the others hold stays the same while
+/// its machine runs.
 ///
 /// Own: upstream has no pool.
 #[derive(Clone, Copy, Debug)]
@@ -24,7 +25,7 @@ impl Tenant {
     ghost use Rattle.wasmi_meter.specs.Capped.{TakesMore, held_together};
     ghost use Rattle.wasmi_budget.specs.Tenant.{capped_tenant};
 
-    /// A tenant that holds this beside the others, under the caps.
+    /// A tenant that has these holdings, beside the others', under the caps.
     pub(crate) fn new(caps: Amounts, others: Amounts, held: Amounts) -> Self
         ensures { result ≡ record
             { caps = caps; others = others; holdings = record { held = held; last = None } } }
@@ -55,7 +56,7 @@ impl Tenant {
         }
     }
 
-    /// Takes so many more of a kind, if all together stay within the cap.
+    /// Takes `difference` more of a kind, if all tenants together stay within the cap.
     fn take(&mut self, kind: Kind, difference: u64) -> bool
         ensures { TakesMore capped_tenant self.old kind difference result self.new }
     {
