@@ -1,9 +1,17 @@
--- Words divided into lanes of unequal widths, and a byte made of tests.
-use Rattle.std.proofs.Common.{◌≡◌, ℕ, ◌<◌, ◌^◌, Bool, true, false, if◌then◌else◌, refl, sym, ap, ◌∙◌, arith, inl, inr, lit<, lit≤, ◌∷◌, []}
+-- Lists of numbers, words divided into lanes of unequal widths, and a byte made of tests.
+use Rattle.std.proofs.Common.{◌≡◌, ℕ, ℤ, ◌<◌, ◌^◌, Bool, true, false, if◌then◌else◌, refl, sym, ap, ap₂, ◌∙◌, arith, inl, inr, lit<, lit≤, List, ◌∷◌, []}
+use Rattle.std.proofs.lemmas.List.Elements.{All-head, All-tail}
 use Rattle.std.proofs.lemmas.Nat.Bits.{bit_at_ones, same_from_bits_below}
-use Rattle.std.specs.Prelude.{◌↔◌, IsTrue}
+use Rattle.std.specs.Prelude.{◌↔◌, IsTrue, All, map}
 use Rattle.std.specs.Int.{bit_at}
 use Rattle.wasmi_lanes.specs.Words.{field, AreLanes}
+
+-- where each number that fits is read as itself, so is a list of such numbers
+pub same_list : {Fits : ℤ → Type 0} (read : ℤ → ℤ) → ((z : ℤ) → Fits z → read z ≡ z) → (zs : List ℤ) → All Fits zs
+    → map read zs ≡ zs
+same_list read same [] fit = refl
+same_list {Fits} read same (z ∷ zs) fit =
+    ap₂ (λ x xs. x ∷ xs) (same z (All-head Fits z zs fit)) (same_list read same zs (All-tail Fits z zs fit))
 
 -- the lanes of 8, 8, 16 and 32 bits of a word
 pub mixed_lanes : AreLanes 0x8000_0000_8000_8080 0 (8 ∷ 8 ∷ 16 ∷ 32 ∷ [])

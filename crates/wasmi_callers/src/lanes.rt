@@ -1,8 +1,8 @@
 //! Callers of the laws on lanes: what one lane of a vector is, one bit of a number that is made of
 //! lanes, and the lanes of words.
-ghost use Rattle.std.specs.Prelude.{◌≡◌, ◌↔◌, ℕ, ◌+◌, ◌-◌, ◌*◌, ◌%◌, ◌^◌, ◌<◌, ◌≤◌, ◌*ℤ◌, ◌+ℤ◌, ◌==◌, nat_lt, nat_le, nat_eq, not, Bool, IsTrue, slice_index, if◌then◌else◌, ◌∷◌, []};
+ghost use Rattle.std.specs.Prelude.{◌≡◌, ◌↔◌, ℕ, ℤ, FitsSigned, All, List, map, ◌+◌, ◌-◌, ◌*◌, ◌%◌, ◌^◌, ◌<◌, ◌≤◌, ◌*ℤ◌, ◌+ℤ◌, ◌==◌, nat_lt, nat_le, nat_eq, not, Bool, IsTrue, slice_index, if◌then◌else◌, ◌∷◌, []};
 ghost use Rattle.std.specs.Int.{bit_at};
-ghost use Rattle.wasmi_types.specs.Wrapping.{w8, w16, w32, signed, wrap, clamp_unsigned};
+ghost use Rattle.wasmi_types.specs.Wrapping.{Width, w8, w16, w32, signed, wrap, clamp_unsigned};
 ghost use Rattle.wasmi_lanes.specs.Lane.{lane};
 ghost use Rattle.wasmi_lanes.specs.Words.{field, word_of_lanes};
 ghost use Rattle.wasmi_simd.specs.Widening.{first_bits, holds_below};
@@ -31,8 +31,16 @@ pub fn signed_byte_in_each_lane(number: i8) -> V128
     ensures read { (i : ℕ) → i < 16 → signed w8 (lane w8 result i) ≡ number }
 {
     lane_laws::lanes_of_made_vector();
-    widening_laws::wrapped_numbers();
     i8x16_splat(number)
+}
+
+/// Signed numbers in the range of a width are read as themselves once each is wrapped to it,
+/// whatever the width and however many they are.
+pub fn wrapped_numbers_are_read()
+    ensures { (w : Width) (numbers : List ℤ) → All (FitsSigned w) numbers
+        → map (λ z. signed w (wrap w z)) numbers ≡ numbers }
+{
+    widening_laws::wrapped_numbers();
 }
 
 /// A number in one lane, the other lanes as they were.
@@ -150,7 +158,6 @@ pub fn sums_of_products(a: V128, b: V128) -> V128
         (signed w16 (lane w16 a (2 * i + 1)) *ℤ signed w16 (lane w16 b (2 * i + 1)))) }
 {
     widening_laws::pairwise_lanes::<i16>();
-    widening_laws::wrapped_numbers();
     i32x4_dot_i16x8_s(a, b)
 }
 
