@@ -9,12 +9,12 @@ ghost use Rattle.wasmi_uses.specs.Bill.{IsBill};
 use std::alloc::AllocError;
 use wasmi_core::{Call, Machine, Reply, ResourceLimiter, laws, run_lending};
 
-/// What calls were answered, and the fuel that they were charged.
+/// The replies to calls, and the fuel that they were charged.
 #[derive(Debug, Drop)]
 pub struct Bill {
     /// A reply for each call.
     pub replies: Vec<Reply>,
-    /// The fuel, which is 0 where metering is off.
+    /// The fuel, which is 0 if metering is off.
     pub charged: u64,
 }
 
@@ -27,8 +27,8 @@ pub enum BillError {
     OutOfMemory,
 }
 
-/// Runs calls, and makes out a bill: with what is left it is what was left before, and it is what
-/// the calls were charged, one by one. A call that sets the fuel has no place in it.
+/// Runs calls, and returns their bill: the fuel that the calls were charged, one by one. The bill
+/// and what is left add up to what was left before. No call may set the fuel.
 pub fn run_and_bill<L: ResourceLimiter>(
     machine: &mut Machine,
     calls: &[Call],
@@ -48,7 +48,7 @@ pub fn run_and_bill<L: ResourceLimiter>(
     Ok(Bill { replies, charged })
 }
 
-/// As `run_and_bill`, for calls of unknown origin: where one of them sets the fuel, none is made.
+/// As `run_and_bill`, for calls of unknown origin: if one of them sets the fuel, none is executed.
 pub fn run_if_billable<L: ResourceLimiter>(
     machine: &mut Machine,
     calls: &[Call],
@@ -82,7 +82,7 @@ fn is_billable(calls: &[Call]) -> bool
     true
 }
 
-/// What is left, and 0 where metering is off.
+/// What is left, or 0 if metering is off.
 fn left(machine: &Machine) -> u64
     ensures { result ≡ amount_left machine.now.meter }
 {

@@ -15,13 +15,13 @@ use wasmi_core::{Call, Fuel, Machine, Quota, Reply, laws, run_reserving};
 pub struct Plugin<'r> {
     /// Its machine.
     pub machine: Machine<'r>,
-    /// What its calls were answered.
+    /// The replies to its calls.
     pub replies: Vec<Reply>,
 }
 
-/// Runs the calls of a plug-in on a machine of its own with this meter, under a quota of so many
-/// bytes of memories and elements of tables. Whatever the calls, the machine has no more of either
-/// afterwards.
+/// Runs the calls of a plug-in on a machine of its own with this meter, under a quota with these
+/// caps on the bytes of memories and the elements of tables. Whatever the calls are, the machine
+/// doesn't exceed the caps afterwards.
 pub fn run_plugin<'r>(
     alloc: Global,
     fuel: Fuel,
@@ -42,8 +42,8 @@ pub fn run_plugin<'r>(
 }
 
 /// Runs the calls of the first tenant of a pool, and then those of the second. Whatever they ask
-/// for, all tenants together stay within the pool's caps, which stay. After an error the first may
-/// have run.
+/// for, all tenants together stay within the pool's caps, which don't change. After an error the
+/// first may have run.
 pub fn run_two_tenants(
     pool: &mut Pool,
     first: &[Call],

@@ -29,26 +29,26 @@ pub enum Instruction {
     Load { dst: u8, ptr: u8, offset: u64 },
     /// `i64.store`
     Store { ptr: u8, offset: u64, value: u8 },
-    /// `memory.grow` by as many pages as a local says. The result is the old size in pages, or -1,
-    /// which is 2^64 - 1, where the growth is refused: out of bounds, denied by the limiter, out of
-    /// memory, or more than the fuel that is left pays for.
+    /// `memory.grow` by as many pages as a local says. The result is the old size in pages. It is
+    /// -1, which is 2^64 - 1, if the growth is refused: out of bounds, denied by the limiter, out
+    /// of memory, or more than the fuel that is left pays for.
     Grow { dst: u8, pages: u8 },
     /// `memory.size`
     Size { dst: u8 },
     /// `br` to an index of the program
     Branch(usize),
-    /// `br_if` to an index of the program, where the low word of a local isn't 0
+    /// `br_if` to an index of the program, if the low word of a local isn't 0
     BranchIf { condition: u8, target: usize },
     /// `return`
     Return(u8),
 }
 
-/// What an instruction comes to, once its locals are read.
+/// What an instruction does, once its locals are read.
 #[derive(Debug, Drop)]
 pub enum Action {
-    /// The machine answers a call, and the next instruction follows.
+    /// The machine executes a call, and the next instruction follows.
     Calls(Call),
-    /// The memory grows by so many pages, a register takes the result, and the next instruction
+    /// The memory grows by a number of pages, a register takes the result, and the next instruction
     /// follows.
     Grows { dst: u8, pages: u64 },
     /// The next instruction follows.
@@ -73,10 +73,10 @@ pub enum Ending {
     OutOfFuel,
 }
 
-/// How a program ended and where, and how many instructions were executed before.
+/// How a program ended and at which instruction, and how many instructions were executed before.
 #[derive(Debug, PartialEq, Eq, Drop)]
 pub struct Outcome {
-    /// How it ended: `None` where it has executed as many instructions as it may.
+    /// How it ended, or `None` if it has executed as many instructions as it may.
     pub ending: Option<Ending>,
     /// The index of the instruction at which it ended.
     pub place: usize,
@@ -85,7 +85,7 @@ pub struct Outcome {
 }
 
 impl Instruction {
-    /// What it comes to on a machine, if the registers and the memory that it reads are there.
+    /// What it does on a machine, if the registers and the memory that it reads are there.
     pub fn action(self, machine: &Machine) -> Option<Action>
         ensures { result ≡ action_of self machine.now }
     {
@@ -152,7 +152,7 @@ fn set(dst: u8, value: RawVal) -> Action
     Action::Calls(Call::SetRegister { dst, value })
 }
 
-/// What the instruction of a place comes to, if there is one.
+/// What the instruction of a place does, if there is one.
 fn action_at(program: &[Instruction], place: usize, machine: &Machine) -> Option<Action>
     ensures action { result ≡ action_at program.now place machine.now }
     ensures there { IsSome result → place < length program.now }
@@ -160,7 +160,7 @@ fn action_at(program: &[Instruction], place: usize, machine: &Machine) -> Option
     program.get(place)?.action(machine)
 }
 
-/// Takes one fuel, where the machine is metered; whether there was one to take.
+/// Takes one unit of fuel, if the machine is metered. Returns whether there was one to take.
 fn take_fuel(machine: &mut Machine) -> bool
     ensures { MatchBool result
         ((is_out_of_fuel machine.old.meter ≡ false) × (machine.new ≡ fuel_taken machine.old))
@@ -185,8 +185,8 @@ fn place_after(reply: Reply, next: usize) -> Result<usize, Ending>
     }
 }
 
-/// Grows the memory, and sets a register to the result of `memory.grow`: the reply to the last of
-/// these calls.
+/// Grows the memory, and sets a register to the result of `memory.grow`. Returns the reply to the
+/// last of these calls.
 fn grow<L: ResourceLimiter>(dst: u8, pages: u64, machine: &mut Machine, limiter: &mut L) -> Reply
     ensures { (turns : List Turn) × Run (optional_rules L.rules)
         (world machine.old (Some limiter.old)) turns (world machine.new (Some limiter.new))
@@ -201,7 +201,7 @@ fn grow<L: ResourceLimiter>(dst: u8, pages: u64, machine: &mut Machine, limiter:
     machine.step_lending(&Call::SetRegister { dst, value }, limiter)
 }
 
-/// Carries out an action: the place that follows, or how the program ends.
+/// Carries out an action. Returns the place that follows, or how the program ends.
 fn act<L: ResourceLimiter>(
     action: Action,
     next: usize,
@@ -221,9 +221,9 @@ fn act<L: ResourceLimiter>(
     }
 }
 
-/// Executes the instruction of a place, for one fuel where the machine is metered: the next place,
-/// or how the program ends. The fuel is taken before the instruction does anything, and stays taken
-/// where its call is refused.
+/// Executes the instruction of a place, for one unit of fuel if the machine is metered. Returns the
+/// next place, or how the program ends. The fuel is taken before the instruction does anything, and
+/// stays taken if its call is refused.
 pub fn step<L: ResourceLimiter>(
     program: &[Instruction],
     place: usize,
@@ -243,14 +243,15 @@ pub fn step<L: ResourceLimiter>(
     act(action, place + 1, machine, limiter)
 }
 
-/// Executes a program from its first instruction on, at most so many instructions, each for one
-/// fuel where the machine is metered: so it returns, whatever the program. While metering is on,
-/// the fuel that was left is what is left afterwards, one for each instruction, also for the one at
-/// which the program returned or was refused, and what growths were charged.
+/// Executes a program from its first instruction on. It executes at most `steps` instructions, so
+/// it returns, whatever the program is. If the machine is metered, each instruction takes one unit
+/// of fuel, also the one at which the program returned or was refused. While metering is on, the
+/// fuel that was left before is the fuel that is left afterwards, these units, and what growths
+/// were charged.
 ///
-/// What it leaves of the machine and the limiter is what a run leaves, of which each law over runs
-/// speaks. That run has a call that sets what is left wherever one fuel is taken, so the laws on
-/// fuel say little of it: `executed` says the same of the program itself.
+/// What it does to the machine and the limiter is what a run does, so each law over runs applies.
+/// That run has a call that sets what is left wherever a unit of fuel is taken, so the laws on fuel
+/// say little of it: `executed` says the same of the program itself.
 pub fn execute<L: ResourceLimiter>(
     program: &[Instruction],
     machine: &mut Machine,

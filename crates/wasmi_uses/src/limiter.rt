@@ -7,7 +7,7 @@ ghost use Rattle.wasmi_uses.specs.AtMost.{at_most_rules};
 
 use wasmi_core::{Fuel, LimiterError, Memory, MemoryError, ResourceLimiter, TableError};
 
-/// Permits each memory up to so many bytes, and no table.
+/// Permits each memory up to a number of bytes, and no table.
 #[derive(Clone, Copy, Debug)]
 pub struct AtMost {
     /// The most bytes that a memory may have.
@@ -56,8 +56,8 @@ impl ResourceLimiter for AtMost {
     }
 }
 
-/// Grows a memory by so many pages of its type, and answers its old size in pages. Where it had no
-/// more bytes than the limiter permits it has no more afterwards, and the limiter stays as it was.
+/// Grows a memory by `pages` pages of its type, and returns its old size in pages. If the memory
+/// had no more bytes than the limiter permits, it has no more afterwards. The limiter is unchanged.
 ///
 /// The errors are those of `Memory::grow`, in its order.
 pub fn grow(
