@@ -4,7 +4,7 @@ use Rattle.wasmi_grammar.specs.declared.header.answers.AnswerWord.{AnswerWord}
 use Rattle.wasmi_grammar.specs.declared.header.answers.AnswerWord.TheVariants.{Permit}
 use Rattle.wasmi_grammar.specs.contracts.header.answers.AnswerWord.{enum}
 use Rattle.wasmi_grammar.specs.Answers.{WritesAnswer, answer_text}
-use Rattle.wasmi_operands.specs.Words.{Words, WritesEach}
+use Rattle.wasmi_operands.specs.LineWords.{LineWords, WritesEach}
 use Rattle.wasmi_operands.proofs.NamesLemmas.{named, named_is}
 use Rattle.wasmi_operands.proofs.WordsLemmas.{each_named}
 
@@ -23,11 +23,11 @@ unfolding answer_named
 answer_is answer = ap option_or (named_is enum tt answer_text refl (answer_text answer) answer refl)
 
 -- the answers that words stand for
-pub answers_named : Words → List AnswerWord
+pub answers_named : LineWords → List AnswerWord
 answers_named words = map answer_named (map (λ word. word.now) words)
 
 -- words that stand for answers give those answers
-pub answers_is : (words : Words) (answers : List AnswerWord) → WritesEach WritesAnswer words answers
+pub answers_is : (words : LineWords) (answers : List AnswerWord) → WritesEach WritesAnswer words answers
     → answers_named words ≡ answers
 unfolding answers_named
 answers_is = each_named WritesAnswer answer_named (λ word answer is. ap answer_named is ∙ answer_is answer)

@@ -7,18 +7,18 @@ use Rattle.wasmi_grammar.specs.declared.header.RegionLine.{RegionLine}
 use Rattle.wasmi_grammar.specs.declared.script.Script.{Script}
 use Rattle.wasmi_operands.specs.declared.error.LineError.{LineError}
 use Rattle.wasmi_operands.specs.declared.error.LineError.TheVariants.{BadCommand}
-use Rattle.wasmi_operands.specs.Words.{Words, word_at}
+use Rattle.wasmi_operands.specs.LineWords.{LineWords, word_at}
 use Rattle.wasmi_grammar.specs.Headers.{WritesRegion}
 use Rattle.wasmi_grammar.specs.Lines.{NamesLine, AddsLine}
 use Rattle.wasmi_operands.proofs.AcceptanceLemmas.{on_refusal}
 
 -- the first word of a line, or no text at all
-first_word : (words : Words) (none : Bor (List ℕ)) → none.now ≡ [] → (get_or words 0 none).now ≡ word_at words 0
+first_word : (words : LineWords) (none : Bor (List ℕ)) → none.now ≡ [] → (get_or words 0 none).now ≡ word_at words 0
 first_word [] none empty = empty
 first_word (word ∷ words) none empty = refl
 
 -- what a line's first word and the words after it say, as the code takes them from the line
-pub at_places : (words : Words) (none : Bor (List ℕ)) (line : Line) → none.now ≡ []
+pub at_places : (words : LineWords) (none : Bor (List ℕ)) (line : Line) → none.now ≡ []
     → NamesLine (get_or words 0 none).now (take (length words - 1) (drop 1 words)) line
     → NamesLine (word_at words 0) (drop 1 words) line
 at_places words none line empty names =
@@ -26,7 +26,7 @@ at_places words none line empty names =
     (subst (λ operands. NamesLine (get_or words 0 none).now operands line) (take_rest words 1) names)
 
 -- the words after `region` write a region, if they say anything
-pub region_only : (name : List ℕ) (operands : Words) → name ≡ codes "region" → (line : Line)
+pub region_only : (name : List ℕ) (operands : LineWords) → name ≡ codes "region" → (line : Line)
     → NamesLine name operands line → (region : RegionLine) × WritesRegion operands region
 region_only name operands is (Region line) w = (line, w.1)
 region_only name operands is (Meter line) w = absurd (search (rules, tests, sym w.0 ∙ is))

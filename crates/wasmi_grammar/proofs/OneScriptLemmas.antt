@@ -9,7 +9,7 @@ use Rattle.wasmi_grammar.specs.declared.script.Script.{Script}
 use Rattle.wasmi_grammar.specs.declared.header.LimiterLine.{LimiterLine}
 use Rattle.wasmi_grammar.specs.declared.header.LimiterLine.TheVariants.{Quota, Answers, Tenants}
 use Rattle.wasmi_grammar.specs.declared.header.RegionLine.{RegionLine}
-use Rattle.wasmi_operands.specs.Words.{Words, word_at}
+use Rattle.wasmi_operands.specs.LineWords.{LineWords, word_at}
 use Rattle.wasmi_grammar.specs.Headers.{AreApart, tenants_of}
 use Rattle.wasmi_grammar.specs.Lines.{HasNoCommands, NamesLine, AddsLine, AddsWords, TakesLine, TakesLines}
 use Rattle.wasmi_grammar.specs.Lines.{IsNewScript, lines_in}
@@ -176,7 +176,7 @@ module _ (old old' : Script) (same : LinesSayTheSame old old') where
   takes_too line line' says new a = absurd cc
 
   -- words that add something to the one add something to the other
-  words_too : (words : Words) (new : Script) → AddsWords old words new
+  words_too : (words : LineWords) (new : Script) → AddsWords old words new
       → (new' : Script) × AddsWords old' words new'
   words_too words new (inl a) = (old', inl (a.0, refl))
   words_too words new (inr (line, names, adds)) =
@@ -193,7 +193,7 @@ refused : (old old' new' : Script) (line : List ℕ) → LinesSayTheSame old old
 refused old old' new' line same bad taken = let t = line_too old' old (sym same) line new' taken in bad t.0 t.1
 
 -- words add nothing if a line that they say can't be added
-pub no_words : (old : Script) (words : Words) (line : Line) → 1 ≤ length words
+pub no_words : (old : Script) (words : LineWords) (line : Line) → 1 ≤ length words
     → NamesLine (word_at words 0) (drop 1 words) line → ((new : Script) → ¬ (AddsLine old line new))
     → (new : Script) → ¬ (AddsWords old words new)
 no_words old words line some names refused new (inl a) = absurd (omega (arith, some, ap length a.0))

@@ -50,7 +50,7 @@ use Rattle.wasmi_grammar.specs.declared.header.MeterLine.TheVariants.{Off, On}
 use Rattle.wasmi_grammar.specs.declared.header.LimiterLine.{LimiterLine}
 use Rattle.wasmi_grammar.specs.declared.header.LimiterLine.TheVariants.{Quota, Answers, Tenants}
 use Rattle.wasmi_grammar.specs.declared.header.RegionLine.{RegionLine}
-use Rattle.wasmi_operands.specs.Words.{Words, WritesEach, word_at}
+use Rattle.wasmi_operands.specs.LineWords.{LineWords, WritesEach, word_at}
 use Rattle.wasmi_operands.specs.Decimal.{WritesNumber, decimal_value}
 use Rattle.wasmi_operands.specs.Names.{IsName}
 use Rattle.wasmi_operands.specs.TypeWords.{reference_word, value_word, mutability_word}
@@ -93,16 +93,16 @@ line_said (Region line) = RegionSaid line
 line_said (As tenant) = TenantSaid tenant
 line_said (Command call) = CallTold (call_said call)
 
-abbrev numbers_in : Words → List ℕ
+abbrev numbers_in : LineWords → List ℕ
 numbers_in words = map decimal_value (map (λ word. word.now) words)
 
 -- words that write numbers give those numbers
-numbers_is : (bits : ℕ) (words : Words) (numbers : List ℕ) → WritesEach (WritesNumber bits) words numbers
+numbers_is : (bits : ℕ) (words : LineWords) (numbers : List ℕ) → WritesEach (WritesNumber bits) words numbers
     → numbers_in words ≡ numbers
 numbers_is bits = each_named (WritesNumber bits) decimal_value (λ word number writes. sym writes.1)
 
 -- what words write
-module _ (words : Words) where
+module _ (words : LineWords) where
   abbrev word : ℕ → List ℕ
   word k = word_at words k
 
@@ -422,7 +422,7 @@ said_with said (TenantSaid tenant) = record said {
 said_with said (CallTold call) = record said { calls = said.calls ++ call ∷ [] }
 
 -- what is said after words
-pub said_after : Words → LinesSaid → LinesSaid
+pub said_after : LineWords → LinesSaid → LinesSaid
 said_after words said = option_map_or (said_with said) (line_named (drop 1 words) (word_at words 0)) said
 
 -- a line leads from what is said before it to what is said after it
@@ -441,7 +441,7 @@ line_added old (Command call) new a =
     ∙ ap (λ calls. record (lines_said old) { calls = calls }) (map-append call_said old.parts.calls (call ∷ []))
 
 -- and so do words
-pub added : (old : Script) (words : Words) (new : Script) → AddsWords old words new
+pub added : (old : Script) (words : LineWords) (new : Script) → AddsWords old words new
     → lines_said new ≡ said_after words (lines_said old)
 unfolding said_after
 added old words new (inl a) = ap lines_said a.1 ∙ ap (λ ws. said_after ws (lines_said old)) (sym a.0)

@@ -4,7 +4,7 @@ use Rattle.std.proofs.Common.{append-nil, length-append, inl, inr}
 use Rattle.std.proofs.lemmas.List.{take-map, length-map}
 use Rattle.std.proofs.lemmas.List.FromFn.{length-enumerate_from, get_or-enumerate_from}
 use Rattle.std.specs.List.{enumerate_from}
-use Rattle.wasmi_operands.specs.Words.{Words}
+use Rattle.wasmi_operands.specs.LineWords.{LineWords}
 use Rattle.wasmi_grammar.specs.declared.script.Line.{Line}
 use Rattle.wasmi_grammar.specs.declared.script.Line.TheVariants.{Meter, Limiter, Region, As, Call as Command}
 use Rattle.wasmi_grammar.specs.declared.script.Script.{Script}
@@ -94,7 +94,7 @@ line_count old (Command call) new a =
     )
 
 -- and so do words
-pub added_count : (old : Script) (words : Words) (new : Script) → AddsWords old words new
+pub added_count : (old : Script) (words : LineWords) (new : Script) → AddsWords old words new
     → length (calls_of new) ≤ length (calls_of old) + 1
 added_count old words new (inl a) = omega (arith, ap (λ s. length (calls_of s)) a.1)
 added_count old words new (inr (line, names, adds)) = line_count old line new adds

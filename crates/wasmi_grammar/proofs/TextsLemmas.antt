@@ -12,7 +12,7 @@ use Rattle.wasmi_grammar.specs.declared.header.MeterLine.TheVariants.{Off, On}
 use Rattle.wasmi_grammar.specs.declared.header.LimiterLine.{LimiterLine}
 use Rattle.wasmi_grammar.specs.declared.header.LimiterLine.TheVariants.{Quota, Answers, Tenants}
 use Rattle.wasmi_grammar.specs.declared.header.RegionLine.{RegionLine}
-use Rattle.wasmi_operands.specs.Words.{Words, WritesEach, word_at}
+use Rattle.wasmi_operands.specs.LineWords.{LineWords, WritesEach, word_at}
 use Rattle.wasmi_operands.specs.Decimal.{IsDecimal, WritesNumber, decimal_value}
 use Rattle.wasmi_operands.specs.LaneNames.{WritesLanes}
 use Rattle.wasmi_grammar.specs.Answers.{WritesAnswer}
@@ -21,16 +21,16 @@ use Rattle.wasmi_grammar.specs.Headers.{WritesMeter, WritesLimiter, WritesRegion
 use Rattle.wasmi_grammar.specs.Lines.{NamesLine, AddsWords}
 
 -- words with the same texts
-abbrev texts : Words → List (List ℕ)
+abbrev texts : LineWords → List (List ℕ)
 texts words = map (λ word. word.now) words
 
 -- words with the same texts write the same list
-retell_each : {A : Type 0} (Writes : List ℕ → A → Type 0) (words words' : Words) (items : List A)
+retell_each : {A : Type 0} (Writes : List ℕ → A → Type 0) (words words' : LineWords) (items : List A)
     → texts words ≡ texts words' → WritesEach Writes words items → WritesEach Writes words' items
 retell_each Writes words words' items same = subst (λ ts. AllZip Writes ts items) same
 
 -- words with the same texts write the same lanes of a shuffle
-retell_lanes : (words words' : Words) (lanes : List ℕ) → texts words ≡ texts words' → WritesLanes words lanes
+retell_lanes : (words words' : LineWords) (lanes : List ℕ) → texts words ≡ texts words' → WritesLanes words lanes
     → WritesLanes words' lanes
 retell_lanes words words' lanes same writes = record {
   sixteen = sym (length-map words' (λ word. word.now)) ∙ ap length (sym same) ∙ length-map words (λ word. word.now)
@@ -39,7 +39,7 @@ retell_lanes words words' lanes same writes = record {
 }
 
 -- and so do the operands of a line
-module _ (words words' : Words) (same : texts words ≡ texts words') where
+module _ (words words' : LineWords) (same : texts words ≡ texts words') where
   -- words with the same texts are as many
   as_many : length words' ≡ length words
   as_many = sym (length-map words' (λ word. word.now)) ∙ ap length (sym same) ∙ length-map words (λ word. word.now)
@@ -109,13 +109,13 @@ module _ (words words' : Words) (same : texts words ≡ texts words') where
   retell_line name (Command call) w = (w.0, retell_operands call w.1)
 
 -- where the one are no words, the other are none
-none_left : (words words' : Words) → texts words ≡ texts words' → words ≡ [] → words' ≡ []
+none_left : (words words' : LineWords) → texts words ≡ texts words' → words ≡ [] → words' ≡ []
 none_left words [] same empty = refl
 none_left words (word ∷ words') same empty =
     let none : texts (word ∷ words') ≡ [] = sym same ∙ ap texts empty in absurd cc
 
 -- words add what all words with the same texts add
-pub retell : (words words' : Words) → texts words ≡ texts words' → (old new : Script) → AddsWords old words new
+pub retell : (words words' : LineWords) → texts words ≡ texts words' → (old new : Script) → AddsWords old words new
     → AddsWords old words' new
 retell words words' same old new (inl a) = inl (none_left words words' same a.0, a.1)
 retell words words' same old new (inr (line, names, adds)) =

@@ -10,12 +10,12 @@ use Rattle.wasmi_grammar.specs.declared.header.MeterLine.TheVariants.{Off, On}
 use Rattle.wasmi_grammar.specs.declared.header.LimiterLine.{LimiterLine}
 use Rattle.wasmi_grammar.specs.declared.header.LimiterLine.TheVariants.{Quota, Answers, Tenants}
 use Rattle.wasmi_grammar.specs.declared.header.RegionLine.{RegionLine}
-use Rattle.wasmi_operands.specs.Words.{Words, WritesEach, word_at}
+use Rattle.wasmi_operands.specs.LineWords.{LineWords, WritesEach, word_at}
 use Rattle.wasmi_operands.specs.Decimal.{WritesNumber}
 use Rattle.wasmi_grammar.specs.Answers.{WritesAnswer}
 
 -- the words after the first write what the meter line says
-abbrev pub WritesMeter : Words → MeterLine → Type 0
+abbrev pub WritesMeter : LineWords → MeterLine → Type 0
 WritesMeter words Off = (length words ≡ 1) × (word_at words 0 ≡ codes "off")
 WritesMeter words (On bytes_per_fuel) =
     (length words ≡ 2) × (word_at words 0 ≡ codes "on") × WritesNumber 32 (word_at words 1) bytes_per_fuel
@@ -27,7 +27,7 @@ limiter_word (Answers answers) = codes "answers"
 limiter_word (Tenants line) = codes "tenants"
 
 -- the words after the first write what the line says
-abbrev pub WritesLimiter : Words → LimiterLine → Type 0
+abbrev pub WritesLimiter : LineWords → LimiterLine → Type 0
 WritesLimiter words (Quota caps) =
     (length words ≡ 2) × WritesNumber 64 (word_at words 0) caps.bytes × WritesNumber 64 (word_at words 1) caps.elements
 WritesLimiter words (Answers answers) = WritesEach WritesAnswer words answers.items
@@ -36,16 +36,16 @@ WritesLimiter words (Tenants line) =
     × WritesNumber 64 (word_at words 1) line.caps.bytes × WritesNumber 64 (word_at words 2) line.caps.elements
 
 -- the word that a limiter line begins with, and the words after it, name this line
-abbrev pub NamesLimiterAfter : List ℕ → Words → LimiterLine → Type 0
+abbrev pub NamesLimiterAfter : List ℕ → LineWords → LimiterLine → Type 0
 NamesLimiterAfter name operands line = (limiter_word line ≡ name) × WritesLimiter operands line
 
 -- the words after the first write what the region line says
-abbrev pub WritesRegion : Words → RegionLine → Type 0
+abbrev pub WritesRegion : LineWords → RegionLine → Type 0
 WritesRegion words line =
     (length words ≡ 2) × WritesNumber 64 (word_at words 0) line.len × WritesNumber 8 (word_at words 1) line.byte
 
 -- the words after the first write which tenant the `as` line means
-abbrev pub WritesTenant : Words → ℕ → Type 0
+abbrev pub WritesTenant : LineWords → ℕ → Type 0
 WritesTenant words tenant = (length words ≡ 1) × WritesNumber 64 (word_at words 0) tenant
 
 -- how many tenants a limiter line asks for

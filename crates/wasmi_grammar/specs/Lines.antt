@@ -9,13 +9,13 @@ use Rattle.wasmi_grammar.specs.declared.header.RegionLine.{RegionLine}
 use Rattle.wasmi_grammar.specs.declared.script.Line.{Line}
 use Rattle.wasmi_grammar.specs.declared.script.Line.TheVariants.{Meter, Limiter, Region, As, Call as Command}
 use Rattle.wasmi_grammar.specs.declared.script.Script.{Script}
-use Rattle.wasmi_operands.specs.Words.{Words, word_at, words_in}
+use Rattle.wasmi_operands.specs.LineWords.{LineWords, word_at, words_in}
 use Rattle.wasmi_grammar.specs.Parts.{parts_in, calls_in}
 use Rattle.wasmi_grammar.specs.Commands.{NamesAfter}
 use Rattle.wasmi_grammar.specs.Headers.{WritesMeter, NamesLimiterAfter, WritesRegion, WritesTenant, AreApart, tenants_of}
 
 -- the first word of a line and the words after it say this
-abbrev pub NamesLine : List ℕ → Words → Line → Type 0
+abbrev pub NamesLine : List ℕ → LineWords → Line → Type 0
 NamesLine name operands (Meter line) = (name ≡ codes "meter") × WritesMeter operands line
 NamesLine name operands (Limiter line) = NamesLimiterAfter name operands line
 NamesLine name operands (Region line) = (name ≡ codes "region") × WritesRegion operands line
@@ -70,7 +70,7 @@ AddsLine old (As tenant) new = AddsPart old tenant new
 AddsLine old (Command call) new = AddsCall old call new
 
 -- the words of a line add what they say, and no words add nothing
-abbrev pub AddsWords : Script → Words → Script → Type 0
+abbrev pub AddsWords : Script → LineWords → Script → Type 0
 AddsWords old words new =
     ((words ≡ []) × (new ≡ old))
     ⊎ ((line : Line) × NamesLine (word_at words 0) (drop 1 words) line × AddsLine old line new)
@@ -78,7 +78,7 @@ AddsWords old words new =
 -- a line of a script: a text, by its words
 abbrev pub TakesLine : Script → List ℕ → Script → Type 0
 TakesLine old line new =
-    IsUtf8 line × (words : Words) × (map (λ word. word.now) words ≡ words_in line) × AddsWords old words new
+    IsUtf8 line × (words : LineWords) × (map (λ word. word.now) words ≡ words_in line) × AddsWords old words new
 
 -- lines taken one after the other
 abbrev pub TakesLines : List (List ℕ) → Script → Script → Type 0

@@ -6,12 +6,12 @@ use Rattle.wasmi_grammar.specs.declared.header.LimiterLine.TheVariants.{Quota, A
 use Rattle.wasmi_operands.specs.Acceptance.{AcceptsWithMemory}
 use Rattle.wasmi_grammar.specs.Answers.{WritesAnswer}
 use Rattle.wasmi_grammar.specs.Headers.{NamesLimiterAfter}
-use Rattle.wasmi_operands.specs.Words.{Words, WritesEach}
+use Rattle.wasmi_operands.specs.LineWords.{LineWords, WritesEach}
 use Rattle.wasmi_operands.proofs.AcceptanceLemmas.{refused_with_memory}
 use Rattle.wasmi_grammar.proofs.header.listed.Goals as goal
 
 -- a line of answers has the words of answers
-answers_of_line : (words : Words) (line : LimiterLine) → NamesLimiterAfter (codes "answers") words line
+answers_of_line : (words : LineWords) (line : LimiterLine) → NamesLimiterAfter (codes "answers") words line
     → (answers : Vec AnswerWord) × WritesEach WritesAnswer words answers.items
 answers_of_line words (Answers answers) names = (answers, names.1)
 answers_of_line words (Quota line) names = absurd (search (rules, tests, names))

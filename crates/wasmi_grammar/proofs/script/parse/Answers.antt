@@ -10,7 +10,7 @@ use Rattle.std.specs.Iterator.{Yields}
 use Rattle.std.specs.Iterator.Adapters.{enumerate_source, enumerate_count, enumerate_steps}
 use Rattle.std.specs.List.{enumerate_from}
 use Rattle.std.specs.Slice.Iter.{split_rest, split_done, split_callee, split_steps}
-use Rattle.wasmi_operands.specs.Words.{words_in}
+use Rattle.wasmi_operands.specs.LineWords.{words_in}
 use Rattle.wasmi_grammar.specs.declared.script.Script.{Script}
 use Rattle.wasmi_grammar.specs.Parts.{parts_in, calls_in}
 use Rattle.wasmi_grammar.specs.Lines.{TakesLine, TakesLines, AreTaken, lines_in}

@@ -6,16 +6,16 @@ use Rattle.wasmi_operands.specs.declared.error.LineError.TheVariants.{BadCommand
 use Rattle.wasmi_operands.specs.Acceptance.{Accepts}
 use Rattle.wasmi_operands.specs.LaneNames.{WritesLanes}
 use Rattle.wasmi_operands.specs.Decimal.{WritesNumber}
-use Rattle.wasmi_operands.specs.Words.{Words, WritesEach}
+use Rattle.wasmi_operands.specs.LineWords.{LineWords, WritesEach}
 use Rattle.wasmi_operands.proofs.WordsLemmas.{each_said, not_each}
 use Rattle.wasmi_grammar.proofs.command.lane.lanes_of.Goals as goal
 
 -- no lanes are written
-abbrev WriteNoLanes : Words → Type 0
+abbrev WriteNoLanes : LineWords → Type 0
 WriteNoLanes words = (lanes : List ℕ) → ¬ (WritesEach (WritesNumber 5) words lanes)
 
 -- sixteen words are accepted where each of them writes a lane
-accepted : (words : Words) (result : Result (List ℕ) LineError) → length words ≡ 16
+accepted : (words : LineWords) (result : Result (List ℕ) LineError) → length words ≡ 16
     → IfOk result (WritesEach (WritesNumber 5) words)
     → IfErr result (λ error. (error ≡ BadCommand) × WriteNoLanes words) → Accepts result (WritesLanes words)
 accepted words (Ok lanes) count taken refused = record { sixteen = count; written = taken }
@@ -25,7 +25,7 @@ accepted words (Err OutOfMemory) count taken refused = absurd (variant refused.0
   variant is = cc
 
 -- one word that writes no lane is a bad command
-refused_at : (words : Words) (word : Bor (List ℕ)) (error : LineError) → IsAmong words word → error ≡ BadCommand
+refused_at : (words : LineWords) (word : Bor (List ℕ)) (error : LineError) → IsAmong words word → error ≡ BadCommand
     → ((lane : ℕ) → ¬ (WritesNumber 5 word.now lane)) → (error ≡ BadCommand) × WriteNoLanes words
 refused_at words word error among bad unfit = (
   bad,
