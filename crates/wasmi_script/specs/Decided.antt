@@ -14,8 +14,8 @@ abbrev pub HasNoComplain : Option LimiterLine → Type 0
 HasNoComplain (Some (Answers words)) = All (λ word. notice_answer_by word ≡ Ok tt) words.items
 HasNoComplain limiter = ⊤
 
--- Memory isn't wanting and the reader doesn't fail: no reply tells of want of memory, and where no word is `complain`,
--- no notice of it is answered by another error.
+-- Memory isn't refused and the reader doesn't fail: no reply says out of memory, and no word is `complain`, so that no
+-- notice of it is answered by another error.
 abbrev pub IsDecided : Outcome → Type 0
 IsDecided (Ok replayed) = All HasMemory replayed.ran.replies.items × HasNoComplain replayed.script.header.limiter
 IsDecided (Err (Parse OutOfMemory)) = ⊥

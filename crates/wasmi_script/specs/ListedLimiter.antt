@@ -57,8 +57,8 @@ pub record NeverComplains (list : AnswerList) : Type 0 where
 abbrev pub QuietListsAcceptNotices : Type 0
 QuietListsAcceptNotices = StaysAccepting answer_rules NeverComplains
 
--- two runs of one list of calls from one machine under such a limiter, whose replies tell of no want of memory, have
--- the same replies and end in one world
+-- two runs of one list of calls from one machine under such a limiter, in which no reply says out of memory, have the
+-- same replies and end in one world
 abbrev pub QuietListsDecideReplies : Type 0
 QuietListsDecideReplies = (calls : List Call) (s : State) (list : AnswerList) → NeverComplains list
     → (replies replies' : List Reply) (v v' : World (Option AnswerList))

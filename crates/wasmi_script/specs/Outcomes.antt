@@ -59,7 +59,7 @@ outcome_text (Ok replayed) =
 outcome_text (Err error) = line (error_text error)
 
 -- The outcome of the bytes of a reader: a run of the script that they write, a line that is no command, or that they
--- are too many. Memory may always be wanting, and the reader may fail.
+-- are too many. Memory may be refused at any script, and the reader may fail.
 abbrev pub IsOutcomeOf : List ℕ → Outcome → Type 0
 IsOutcomeOf bytes (Ok replayed) =
     (length bytes ≤ LIMIT) × WritesScript bytes replayed.script × IsReplayOf replayed.script replayed.ran

@@ -13,7 +13,7 @@ pub use wasmi_grammar::laws::{
     first_bad_lines_are_one, texts_write_one_script, written_texts_have_no_bad_line,
 };
 
-/// A limiter that answers from a list of words leaves no choice.
+/// A limiter that answers from a list of words is deterministic.
 pub fn answers_leave_no_choice()
     ensures { IsDeterministic answer_rules }
 {}
@@ -23,8 +23,8 @@ pub fn quiet_lists_accept_notices()
     ensures { QuietListsAcceptNotices }
 {}
 
-/// If no memory is refused, such a limiter leaves the replies no choice: two runs of one list of
-/// calls from one machine under it have the same replies and end alike.
+/// If no memory is refused, such a limiter makes runs deterministic: two runs of one list of calls
+/// from one machine under it have the same replies and end alike.
 pub fn quiet_lists_decide_replies()
     ensures { QuietListsDecideReplies }
 {}

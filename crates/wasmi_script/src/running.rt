@@ -28,7 +28,7 @@ pub struct Ran {
 /// What is held after a run, as far as it is printed.
 #[derive(Drop)]
 pub enum Held {
-    /// Without a limiter that counts nothing is.
+    /// Nothing is counted without a limiter that counts.
     Nothing,
     /// What a quota holds.
     Quota(Amounts),
