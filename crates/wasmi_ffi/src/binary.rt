@@ -14,11 +14,11 @@ use wasmi_types::TrapCode;
 /// An instruction of two operands.
 #[derive(Clone, Copy)]
 pub enum Binary {
-    /// Of two items, an item. The operands of 128 bits and results of them are both words.
+    /// It takes two items and gives an item. Operands and results of 128 bits take both words.
     Scalar(ScalarBinaryOp),
-    /// Of two vectors, a vector.
+    /// It takes two vectors and gives a vector.
     Vector(BinaryOp),
-    /// Of a vector and an amount of 32 bits, a vector.
+    /// It takes a vector and an amount of 32 bits, and gives a vector.
     Shift(ShiftOp),
 }
 
@@ -34,7 +34,7 @@ impl Binary {
     }
 }
 
-/// The instruction of a number.
+/// The instruction that has a number.
 #[tactic(auto, unfolding(crate::specs::Binary::binary_of, crate::specs::Calls::op_at))]
 fn instruction(number: u16) -> Result<Binary, Refusal>
     ensures { result ≡ binary_of number }
@@ -53,7 +53,8 @@ fn binary_result(number: u16, a: RawVal, b: RawVal) -> Result<RawVal, Refusal>
     Ok(instruction(number)?.apply(a, b)?)
 }
 
-/// An instruction of two operands by its number.
+/// Gives the result of the instruction of two operands that has the number. Returns 0; 255 if there
+/// is none; or the number of its trap. After any status except 0 nothing is written.
 #[unsafe(no_mangle)]
 pub extern "C" fn wasmi_binary(number: u16, a: RawVal, b: RawVal, value: &mut RawVal) -> u8
     ensures { Leaves (binary_result number a b) value.old value.new result }
@@ -61,7 +62,9 @@ pub extern "C" fn wasmi_binary(number: u16, a: RawVal, b: RawVal, value: &mut Ra
     leave(binary_result(number, a, b), value)
 }
 
-/// An instruction of two operands on each two elements of two arrays.
+/// As `wasmi_binary` on each two elements of two arrays; each result has its own trap. Returns 0;
+/// 255 if no instruction has the number; or 254 if the arrays differ in length. After 254 and 255
+/// nothing is written.
 #[unsafe(no_mangle)]
 pub extern "C" fn wasmi_binary_each(
     number: u16,

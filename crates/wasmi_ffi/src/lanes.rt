@@ -1,4 +1,4 @@
-//! Calls of the instructions on one lane.
+//! The calls of instructions on one lane.
 ghost use Rattle.std.specs.Prelude.{◌≡◌, ◌+◌, length};
 ghost use Rattle.wasmi_ffi.specs.Calls.{Leaves, each_of, each_of_two};
 ghost use Rattle.wasmi_ffi.specs.Lanes.{extract_result, extract_results, extracted_value, extraction_of, lane_load_of, lane_store_of, load_lane_result, replace_result, replace_results, replaced_value, replacement_of, store_lane_result};
@@ -12,7 +12,7 @@ use wasmi_ops::{
 };
 use wasmi_raw::RawVal;
 
-/// The extraction of a number, on the lane of an index.
+/// The extraction that has a number, at the lane of an index.
 #[tactic(auto, unfolding(crate::specs::Lanes::extraction_of, crate::specs::Calls::op_at))]
 fn extraction(number: u16, lane: u8) -> Result<ExtractOp, Refusal>
     ensures { result ≡ extraction_of number lane }
@@ -20,7 +20,7 @@ fn extraction(number: u16, lane: u8) -> Result<ExtractOp, Refusal>
     op_at(&EXTRACTIONS, number)?.on(lane).ok_or(Refusal::NoLane)
 }
 
-/// The replacement of a number, on the lane of an index.
+/// The replacement that has a number, at the lane of an index.
 #[tactic(auto, unfolding(crate::specs::Lanes::replacement_of, crate::specs::Calls::op_at))]
 fn replacement(number: u16, lane: u8) -> Result<ReplaceOp, Refusal>
     ensures { result ≡ replacement_of number lane }
@@ -30,7 +30,7 @@ fn replacement(number: u16, lane: u8) -> Result<ReplaceOp, Refusal>
         .ok_or(Refusal::NoLane)
 }
 
-/// The load of a lane that has a number, on the lane of an index.
+/// The load of a lane that has a number, at the lane of an index.
 #[tactic(auto, unfolding(crate::specs::Lanes::lane_load_of, crate::specs::Calls::op_at))]
 fn lane_load(number: u16, lane: u8) -> Result<LoadLaneOp, Refusal>
     ensures { result ≡ lane_load_of number lane }
@@ -38,7 +38,7 @@ fn lane_load(number: u16, lane: u8) -> Result<LoadLaneOp, Refusal>
     op_at(&LANE_LOADS, number)?.on(lane).ok_or(Refusal::NoLane)
 }
 
-/// The store of a lane that has a number, on the lane of an index.
+/// The store of a lane that has a number, at the lane of an index.
 #[tactic(auto, unfolding(crate::specs::Lanes::lane_store_of, crate::specs::Calls::op_at))]
 fn lane_store(number: u16, lane: u8) -> Result<StoreLaneOp, Refusal>
     ensures { result ≡ lane_store_of number lane }
@@ -65,7 +65,8 @@ fn extract_result(number: u16, lane: u8, a: RawVal) -> Result<RawVal, Refusal>
     Ok(extracted(&extraction(number, lane)?, a))
 }
 
-/// A lane that is taken from a vector.
+/// Extracts a lane of a vector. Returns 0; 255 if no extraction has the number; or 253 if no lane
+/// has the index. After 253 and 255 nothing is written.
 #[unsafe(no_mangle)]
 pub extern "C" fn wasmi_extract_lane(number: u16, lane: u8, a: RawVal, value: &mut RawVal) -> u8
     ensures { Leaves (extract_result number lane a) value.old value.new result }
@@ -73,7 +74,8 @@ pub extern "C" fn wasmi_extract_lane(number: u16, lane: u8, a: RawVal, value: &m
     leave(extract_result(number, lane, a), value)
 }
 
-/// A lane that is taken from each vector of an array.
+/// As `wasmi_extract_lane` on each vector of an array. Returns 254 if the arrays differ in length,
+/// which is tested last; then nothing is written.
 #[unsafe(no_mangle)]
 pub extern "C" fn wasmi_extract_lane_each(
     number: u16,
@@ -110,7 +112,8 @@ fn replace_result(number: u16, lane: u8, a: RawVal, item: RawVal) -> Result<RawV
     Ok(replaced(&replacement(number, lane)?, a, item))
 }
 
-/// A vector with an item in a lane.
+/// Replaces a lane of a vector by an item. Returns 0; 255 if no replacement has the number; or 253
+/// if no lane has the index. After 253 and 255 nothing is written.
 #[unsafe(no_mangle)]
 pub extern "C" fn wasmi_replace_lane(
     number: u16,
@@ -124,7 +127,8 @@ pub extern "C" fn wasmi_replace_lane(
     leave(replace_result(number, lane, a, item), value)
 }
 
-/// Each vector of an array with the item of another array in a lane.
+/// As `wasmi_replace_lane` on each two elements of two arrays. Returns 254 if the arrays differ in
+/// length, which is tested last; then nothing is written.
 #[unsafe(no_mangle)]
 pub extern "C" fn wasmi_replace_lane_each(
     number: u16,
@@ -170,7 +174,9 @@ fn load_lane_result(
     Ok(op.load(memory, ptr, offset, a.into())?.into())
 }
 
-/// A vector with a lane that is loaded from `ptr + offset`.
+/// Loads a lane of a vector from `ptr + offset`. Returns 0; 255 if no load of a lane has the
+/// number; 253 if no lane has the index; or the number of the trap past the end. After any status
+/// except 0 nothing is written.
 #[unsafe(no_mangle)]
 pub extern "C" fn wasmi_load_lane(
     number: u16,
@@ -190,7 +196,9 @@ pub extern "C" fn wasmi_load_lane(
     )
 }
 
-/// A store of a lane at `ptr + offset`.
+/// Stores a lane of a vector at `ptr + offset`. Returns 0; 255 if no store of a lane has the
+/// number; 253 if no lane has the index; or the number of the trap past the end. After any status
+/// except 0 nothing is written.
 #[unsafe(no_mangle)]
 pub extern "C" fn wasmi_store_lane(
     number: u16,

@@ -1,8 +1,8 @@
 //! The calls for C: a script, and each instruction by its number, on values and on arrays.
 //!
-//! What they take and give stands in `include/wasmi_core.h`, with the table of numbers. The number
-//! of an instruction is its place in the lists of its shape, one after another as they were in
-//! version 1.0.0; what a list got later comes after all of these.
+//! `include/wasmi_core.h` declares them, and has the table of numbers. The number of an instruction
+//! is its place in the lists of its shape, one list after another as they were in version 1.0.0.
+//! What a list gets later has the numbers after all of these.
 #![tactic(auto)]
 
 mod binary;

@@ -11,12 +11,12 @@ use wasmi_ops::{LOADS, LoadOp, VECTOR_LOADS, VectorLoadOp};
 use wasmi_raw::RawVal;
 use wasmi_types::TrapCode;
 
-/// A load.
+/// A load instruction.
 #[derive(Clone, Copy)]
 pub enum Load {
-    /// Of an item.
+    /// A load of an item.
     Scalar(LoadOp),
-    /// Of a vector.
+    /// A load of a vector.
     Vector(VectorLoadOp),
 }
 
@@ -31,7 +31,7 @@ impl Load {
     }
 }
 
-/// The instruction of a number.
+/// The load that has a number.
 #[tactic(auto, unfolding(crate::specs::Accesses::load_of, crate::specs::Calls::op_at))]
 fn instruction(number: u16) -> Result<Load, Refusal>
     ensures { result ≡ load_of number }
@@ -48,7 +48,8 @@ fn load_result(number: u16, memory: &[u8], ptr: u64, offset: u64) -> Result<RawV
     Ok(instruction(number)?.load(memory, ptr, offset)?)
 }
 
-/// A load from `ptr + offset` by its number.
+/// Loads a value from `ptr + offset`, by the load that has the number. Returns 0; 255 if there is
+/// none; or the number of the trap past the end. After any status except 0 nothing is written.
 #[unsafe(no_mangle)]
 pub extern "C" fn wasmi_load(
     number: u16,
@@ -62,7 +63,9 @@ pub extern "C" fn wasmi_load(
     leave(load_result(number, memory, ptr, offset), value)
 }
 
-/// A load from each pointer of an array and the offset.
+/// As `wasmi_load` from each pointer of an array, plus the offset; each result has its own trap.
+/// Returns 0; 255 if no load has the number; or 254 if the arrays differ in length. After 254 and
+/// 255 nothing is written.
 #[unsafe(no_mangle)]
 pub extern "C" fn wasmi_load_each(
     number: u16,

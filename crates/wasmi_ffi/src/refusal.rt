@@ -5,7 +5,7 @@ ghost use Rattle.wasmi_ffi.specs.declared.refusal.Refusal.TheVariants as refused
 
 use wasmi_types::TrapCode;
 
-/// The status of a call that has written its value.
+/// The status of a call that has written its result.
 pub const DONE: u8 = 0;
 
 /// Why a call writes nothing.

@@ -1,4 +1,4 @@
-//! What an instruction gives, where C reads it.
+//! What an instruction gives, as C reads it.
 ghost use Rattle.std.specs.Prelude.{◌≡◌};
 ghost use Rattle.wasmi_ffi.specs.Calls.{Leaves};
 ghost use Rattle.wasmi_ffi.specs.Results.{result_of};
@@ -11,14 +11,14 @@ use wasmi_types::TrapCode;
 #[repr(C)]
 #[derive(Clone, Copy)]
 pub struct InstructionResult {
-    /// The value, or 0 where the instruction traps.
+    /// The value, or 0 if the instruction traps.
     pub value: RawVal,
-    /// 0, or the number of the trap code.
+    /// 0, or the number of the trap.
     pub status: u8,
 }
 
 impl InstructionResult {
-    /// The value, or the trap.
+    /// The result with this value, or with the number of this trap.
     pub fn of(given: Result<RawVal, TrapCode>) -> InstructionResult
         ensures { result ≡ result_of given }
     {
@@ -35,7 +35,7 @@ impl InstructionResult {
     }
 }
 
-/// Writes the value that a call gives, and is the status.
+/// Writes the value of a call, or nothing if it was refused, and returns the status.
 pub fn leave(given: Result<RawVal, Refusal>, value: &mut RawVal) -> u8
     ensures { Leaves given value.old value.new result }
 {

@@ -6,16 +6,17 @@ ghost use Rattle.wasmi_ffi.specs.Scripts.{AnswersScript};
 use std::alloc::Global;
 use wasmi_script::{Status, replay};
 
-/// The text is longer than the caller's bytes: then nothing is written to them. Below it are the
-/// statuses of the program.
+/// The text is longer than the caller's bytes; nothing is written to them. The smaller statuses are
+/// those of the program.
 const TEXT_TOO_SHORT: u8 = 5;
 
 /// Runs a script, and writes what it prints to the front of `text`. `needed` is set to the length
 /// of that, in bytes.
 ///
-/// The status is that of the program: 0 where every call was answered, 2 for a bad line or a script
-/// above 1,048,576 bytes, 3 for want of memory, 4 for want of memory to write: the text is a front
-/// then; 5 where `text` is shorter than what is printed: then nothing is written to it.
+/// The status is that of the program: 0 if every call has a reply; 2 for a bad line or a script
+/// above 1,048,576 bytes; 3 if it is out of memory while reading, parsing, or for the replies; 4 if
+/// it is out of memory while writing: then the text is only the beginning. It is 5 if `text` is
+/// shorter than what is printed: then nothing is written to it.
 #[tactic(auto, using(crate::proofs::ScriptsLemmas::stands, crate::proofs::ScriptsLemmas::too_long))]
 #[unsafe(no_mangle)]
 pub extern "C" fn wasmi_script_run(

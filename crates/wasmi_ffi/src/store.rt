@@ -11,10 +11,10 @@ use wasmi_raw::RawVal;
 use wasmi_types::TrapCode;
 use wasmi_vector_access::simd;
 
-/// A store.
+/// A store instruction.
 #[derive(Clone, Copy)]
 pub enum Store {
-    /// Of an item.
+    /// A store of an item.
     Scalar(StoreOp),
     /// `v128_store`
     V128Store,
@@ -31,7 +31,7 @@ impl Store {
     }
 }
 
-/// The instruction of a number.
+/// The store that has a number.
 #[tactic(auto, unfolding(crate::specs::Accesses::store_of, crate::specs::Calls::op_at))]
 fn instruction(number: u16) -> Result<Store, Refusal>
     ensures { result ≡ store_of number }
@@ -43,7 +43,8 @@ fn instruction(number: u16) -> Result<Store, Refusal>
     })
 }
 
-/// A store to `ptr + offset` by its number.
+/// Stores a value at `ptr + offset`, by the store that has the number. Returns 0; 255 if there is
+/// none; or the number of the trap past the end. After any status except 0 nothing is written.
 #[unsafe(no_mangle)]
 pub extern "C" fn wasmi_store(
     number: u16,

@@ -15,7 +15,7 @@ fn apply(op: TernaryOp, a: RawVal, b: RawVal, c: RawVal) -> RawVal
     op.apply(a.into(), b.into(), c.into()).into()
 }
 
-/// The instruction of a number.
+/// The instruction that has a number.
 #[tactic(auto, unfolding(crate::specs::Ternary::ternary_of, crate::specs::Calls::op_at))]
 fn instruction(number: u16) -> Result<TernaryOp, Refusal>
     ensures { result ≡ ternary_of number }
@@ -29,7 +29,8 @@ fn ternary_result(number: u16, a: RawVal, b: RawVal, c: RawVal) -> Result<RawVal
     Ok(apply(instruction(number)?, a, b, c))
 }
 
-/// An instruction of three vectors by its number.
+/// Gives the result of the instruction of three vectors that has the number. Returns 0, or 255 if
+/// there is none; then nothing is written.
 #[unsafe(no_mangle)]
 pub extern "C" fn wasmi_ternary(
     number: u16,
@@ -43,7 +44,8 @@ pub extern "C" fn wasmi_ternary(
     leave(ternary_result(number, a, b, c), value)
 }
 
-/// An instruction of three vectors on each three elements of three arrays.
+/// As `wasmi_ternary` on each three elements of three arrays. Returns 254 if the arrays differ in
+/// length, which is tested last; then nothing is written.
 #[unsafe(no_mangle)]
 pub extern "C" fn wasmi_ternary_each(
     number: u16,

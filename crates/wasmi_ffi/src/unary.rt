@@ -12,13 +12,13 @@ use wasmi_raw::RawVal;
 /// An instruction of one operand.
 #[derive(Clone, Copy)]
 pub enum Unary {
-    /// Of an item, an item.
+    /// It takes an item and gives an item.
     Scalar(ScalarUnaryOp),
-    /// Of an item, a vector.
+    /// It takes an item and gives a vector.
     Make(MakeOp),
-    /// Of a vector, a vector.
+    /// It takes a vector and gives a vector.
     Vector(UnaryOp),
-    /// Of a vector, a Boolean or a mask.
+    /// It takes a vector and gives a Boolean or a mask.
     Test(TestOp),
 }
 
@@ -35,7 +35,7 @@ impl Unary {
     }
 }
 
-/// The instruction of a number.
+/// The instruction that has a number.
 #[tactic(auto, unfolding(crate::specs::Unary::unary_of, crate::specs::Calls::op_at))]
 fn instruction(number: u16) -> Result<Unary, Refusal>
     ensures { result ≡ unary_of number }
@@ -55,7 +55,8 @@ fn unary_result(number: u16, a: RawVal) -> Result<RawVal, Refusal>
     Ok(instruction(number)?.apply(a))
 }
 
-/// An instruction of one operand by its number.
+/// Gives the result of the instruction of one operand that has the number. Returns 0, or 255 if
+/// there is none; then nothing is written.
 #[unsafe(no_mangle)]
 pub extern "C" fn wasmi_unary(number: u16, a: RawVal, value: &mut RawVal) -> u8
     ensures { Leaves (unary_result number a) value.old value.new result }
@@ -63,7 +64,8 @@ pub extern "C" fn wasmi_unary(number: u16, a: RawVal, value: &mut RawVal) -> u8
     leave(unary_result(number, a), value)
 }
 
-/// An instruction of one operand on each element of an array.
+/// As `wasmi_unary` on each element of an array. Returns 254 if the arrays differ in length, which
+/// is tested last; then nothing is written.
 #[unsafe(no_mangle)]
 pub extern "C" fn wasmi_unary_each(number: u16, a: &[RawVal], values: &mut [RawVal]) -> u8
     ensures { Leaves (unary_results number a.now (length values.old)) values.old values.new result }
