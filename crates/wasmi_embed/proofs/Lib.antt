@@ -1,0 +1,3 @@
+pub mod LawsLemmas
+pub mod LimiterLemmas
+pub mod MeterLemmas

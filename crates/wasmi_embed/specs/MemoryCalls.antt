@@ -1,0 +1,168 @@
+-- What the calls on a memory do to what lies with C.
+use Rattle.std.specs.Prelude.{◌≡◌, ◌+◌, ◌/◌, true, false, ◌<◌, ◌⊎◌, ℕ, List, take, drop, length, nat_eq, MatchBool, Option, Some, None, Result, Ok, Err}
+use Rattle.wasmi_types.specs.Access.{at, overwrite}
+use Rattle.wasmi_meter.specs.declared.error.MemoryError.{MemoryError}
+use Rattle.wasmi_meter.specs.declared.error.MemoryError.TheVariants as error
+use Rattle.wasmi_meter.specs.declared.limiter.Kind.TheVariants.{Bytes}
+use Rattle.wasmi_meter.specs.declared.quota.Quota.{Quota}
+use Rattle.wasmi_meter.specs.Limiter.{optional_rules, Rules}
+use Rattle.wasmi_meter.specs.Limiter as limiter
+use Rattle.wasmi_meter.specs.Quota.{quota_rules}
+use Rattle.wasmi_store.specs.Buffer.{Lent}
+use Rattle.wasmi_store.specs.Growth.{metered_value}
+use Rattle.wasmi_store.specs.Memory.{MemoryValue, MakesMemory, GrowsMemory, growth_of, pages_of}
+use Rattle.wasmi_store.specs.MemoryType.{MemoryTypeValue, IsValid, named_type, page_bytes, in_bounds}
+use Rattle.wasmi_store.specs.RegionMemory.{memory_in, made_in}
+use Rattle.wasmi_embed.specs.Headers.{settings_of, IsState, meter_of, if_flag}
+use Rattle.wasmi_embed.specs.Host.{fresh, host_rules}
+use Rattle.wasmi_embed.specs.State.{Embedded, Placed}
+use Rattle.wasmi_embed.specs.declared.host.HostAnswers.{HostAnswers}
+use Rattle.wasmi_embed.specs.declared.host.Question.{Question}
+use Rattle.wasmi_embed.specs.declared.headers.MemoryHeader.{MemoryHeader}
+use Rattle.wasmi_embed.specs.declared.status.TheConstants.{DONE, MEMORY_OUT_OF_MEMORY, MEMORY_GROWTH, MEMORY_ACCESS, MEMORY_TYPE, MEMORY_REGION_TOO_SHORT, MEMORY_DENIED, MEMORY_SIZE_OVERFLOW, MEMORY_MAXIMUM_OVERFLOW, MEMORY_OUT_OF_FUEL, INVALID_STATE, ASKS, OTHER_SIZE}
+
+-- the status of an error
+abbrev pub error_status : MemoryError → ℕ
+error_status error.OutOfSystemMemory = MEMORY_OUT_OF_MEMORY
+error_status error.OutOfBoundsGrowth = MEMORY_GROWTH
+error_status error.OutOfBoundsAccess = MEMORY_ACCESS
+error_status error.InvalidMemoryType = MEMORY_TYPE
+error_status error.InvalidStaticBufferSize = MEMORY_REGION_TOO_SHORT
+error_status error.ResourceLimiterDeniedAllocation = MEMORY_DENIED
+error_status error.MinimumSizeOverflow = MEMORY_SIZE_OVERFLOW
+error_status error.MaximumSizeOverflow = MEMORY_MAXIMUM_OVERFLOW
+error_status (error.OutOfFuel required) = MEMORY_OUT_OF_FUEL
+
+-- the status of a result
+abbrev pub status_of : {T : Type 0} → Result T MemoryError → ℕ
+status_of (Ok _) = DONE
+status_of (Err e) = error_status e
+
+-- the number after a growth: the old size in pages, or the fuel that is needed; else it stays
+abbrev pub number_of : Result ℕ MemoryError → ℕ → ℕ
+number_of (Ok n) before = n
+number_of (Err (error.OutOfFuel required)) before = required
+number_of (Err error.OutOfSystemMemory) before = before
+number_of (Err error.OutOfBoundsGrowth) before = before
+number_of (Err error.OutOfBoundsAccess) before = before
+number_of (Err error.InvalidMemoryType) before = before
+number_of (Err error.InvalidStaticBufferSize) before = before
+number_of (Err error.ResourceLimiterDeniedAllocation) before = before
+number_of (Err error.MinimumSizeOverflow) before = before
+number_of (Err error.MaximumSizeOverflow) before = before
+
+-- a header stands for no memory on a region
+abbrev pub IsNoState : MemoryHeader → List ℕ → Type 0
+IsNoState h region = (ty : MemoryTypeValue) → IsState h region ty → ⊥
+
+-- a memory grows by so many pages, as a memory of the library on the region does, with its charge; its header stays
+-- except for the size, and stands for the memory again
+pub record GrowsAs {S : Type 0} (rules : Rules S) (ty : MemoryTypeValue) (pages : ℕ) (s : Embedded MemoryHeader S)
+    (status : ℕ) (s' : Embedded MemoryHeader S) : Type 0 where
+  pub result : Result ℕ MemoryError
+  pub grows : GrowsMemory (optional_rules rules) pages
+      (metered_value (memory_in ty s.region s.header.size) (Some (meter_of s.meter)) s.limiter) result
+      (metered_value (memory_in ty s'.region s'.header.size) (Some (meter_of s'.meter)) s'.limiter)
+  pub state : IsState s'.header s'.region ty
+  pub header : s'.header ≡ record s.header { size = s'.header.size }
+  pub status_is : status ≡ status_of result
+  pub number_is : s'.number ≡ number_of result s.number
+
+-- a header that stands for no memory: nothing is written
+pub record IsRefused {S : Type 0} (s : Embedded MemoryHeader S) (status : ℕ) (s' : Embedded MemoryHeader S) : Type 0
+  where
+    pub none : IsNoState s.header s.region
+    pub status_is : status ≡ INVALID_STATE
+    pub same : s' ≡ s
+
+-- a growth by a call
+abbrev pub GrowsEmbedded : {S : Type 0} → Rules S → ℕ → Embedded MemoryHeader S → ℕ → Embedded MemoryHeader S → Type 0
+GrowsEmbedded rules pages s status s' =
+    IsRefused s status s' ⊎ ((ty : MemoryTypeValue) × IsState s.header s.region ty × GrowsAs rules ty pages s status s')
+
+-- a growth by the host's answers, where the limiter was asked about the memory's size; else nothing is written
+abbrev pub SettlesAs : MemoryTypeValue → ℕ → HostAnswers → Embedded MemoryHeader HostAnswers → ℕ
+    → Embedded MemoryHeader HostAnswers → Type 0
+SettlesAs ty pages answers s status s' = MatchBool (nat_eq s.header.size answers.current)
+    (GrowsAs host_rules ty pages (record s { limiter = Some (fresh answers) }) status s')
+    ((status ≡ OTHER_SIZE) × (s' ≡ s))
+
+-- a growth by the host's answers by a call; where the header stands for no memory, nothing is written
+abbrev pub SettlesEmbedded : ℕ → HostAnswers → Embedded MemoryHeader HostAnswers → ℕ → Embedded MemoryHeader HostAnswers
+    → Type 0
+SettlesEmbedded pages answers s status s' =
+    IsRefused s status s'
+    ⊎ ((ty : MemoryTypeValue) × IsState s.header s.region ty × SettlesAs ty pages answers s status s')
+
+-- a question as C reads it
+abbrev pub question_of : Question → limiter.Question
+question_of q =
+    record { kind = Bytes; current = q.current; desired = q.desired; maximum = if_flag q.has_maximum q.maximum }
+
+-- what a growth of a memory asks: nothing where it is by 0 and where the type refuses it, and then the question stays
+abbrev pub AsksAs : MemoryValue → ℕ → ℕ → Question → Question → Type 0
+AsksAs x pages status q q' =
+    ((pages ≡ 0) × (status ≡ DONE) × (q' ≡ q))
+    ⊎ ((0 < pages) × (in_bounds x.ty (pages_of x + pages) ≡ false) × (status ≡ MEMORY_GROWTH) × (q' ≡ q))
+    ⊎ ((0 < pages) × (in_bounds x.ty (pages_of x + pages) ≡ true) × (status ≡ ASKS)
+    × ((growth_of x pages).question ≡ question_of q'))
+
+-- what a growth asks, by a call; where the header stands for no memory, it asks nothing
+abbrev pub AsksEmbedded : MemoryHeader → List ℕ → ℕ → ℕ → Question → Question → Type 0
+AsksEmbedded h region pages status q q' =
+    (IsNoState h region × (status ≡ INVALID_STATE) × (q' ≡ q))
+    ⊎ ((ty : MemoryTypeValue) × IsState h region ty × AsksAs (memory_in ty region h.size) pages status q q')
+
+-- what a creation leaves: a header that stands for the new memory, or all as it was
+abbrev pub LeavesAs : MemoryTypeValue → Placed MemoryHeader → Result ℕ MemoryError → Placed MemoryHeader → Type 0
+LeavesAs ty p (Ok size) p' = (p'.header ≡ record p.header { size = size }) × IsState p'.header p'.region ty
+LeavesAs ty p (Err e) p' = p' ≡ p
+
+-- a memory is made at the front of a region, as a memory of the library is
+pub record MakesAs (ty : MemoryTypeValue) (p : Placed MemoryHeader) (l : Option Quota) (status : ℕ)
+    (p' : Placed MemoryHeader) (l' : Option Quota) : Type 0 where
+  pub result : Result ℕ MemoryError
+  pub makes : MakesMemory (optional_rules quota_rules) (Lent p.region) ty l (made_in ty p'.region result) l'
+  pub status_is : status ≡ status_of result
+  pub left : LeavesAs ty p result p'
+
+-- a memory is made by a call, or the header has no type, and then nothing is written
+abbrev pub MakesEmbedded : Placed MemoryHeader → Option Quota → ℕ → Placed MemoryHeader → Option Quota → Type 0
+MakesEmbedded p l status p' l' =
+    (((ty : MemoryTypeValue) → named_type (settings_of p.header) ≡ Some ty → IsValid ty → ⊥)
+    × (status ≡ INVALID_STATE) × (p' ≡ p) × (l' ≡ l))
+    ⊎ ((ty : MemoryTypeValue) × (named_type (settings_of p.header) ≡ Some ty) × MakesAs ty p l status p' l')
+
+-- the size of a memory in pages, by a call
+abbrev pub CountsEmbedded : MemoryHeader → List ℕ → ℕ → ℕ → ℕ → Type 0
+CountsEmbedded h region number status number' =
+    (IsNoState h region × (status ≡ INVALID_STATE) × (number' ≡ number))
+    ⊎ ((ty : MemoryTypeValue) × IsState h region ty × (status ≡ DONE) × (number' ≡ h.size / page_bytes ty.page))
+
+-- bytes of a memory from an offset on are copied out where they end within it, and nothing is copied else
+abbrev pub ReadsAs : List ℕ → ℕ → List ℕ → ℕ → List ℕ → Type 0
+ReadsAs bytes offset old status new =
+    ((at bytes offset (length old) ≡ Some new) × (status ≡ DONE))
+    ⊎ ((at bytes offset (length old) ≡ None) × (status ≡ MEMORY_ACCESS) × (new ≡ old))
+
+-- bytes of a memory are read by a call; where the header stands for no memory, none are
+abbrev pub ReadsEmbedded : Placed MemoryHeader → ℕ → List ℕ → ℕ → List ℕ → Type 0
+ReadsEmbedded p offset old status new =
+    (IsNoState p.header p.region × (status ≡ INVALID_STATE) × (new ≡ old))
+    ⊎ ((ty : MemoryTypeValue) × IsState p.header p.region ty
+    × ReadsAs (take p.header.size p.region) offset old status new)
+
+-- bytes are written over those of a memory from an offset on where they end within it, and nothing is written else; the
+-- rest of the region stays
+abbrev pub WritesAs : ℕ → List ℕ → ℕ → List ℕ → ℕ → List ℕ → Type 0
+WritesAs size region offset source status region' =
+    ((overwrite (take size region) offset source ≡ Some (take size region'))
+    × (drop size region' ≡ drop size region) × (status ≡ DONE))
+    ⊎ ((overwrite (take size region) offset source ≡ None) × (status ≡ MEMORY_ACCESS) × (region' ≡ region))
+
+-- bytes of a memory are written by a call; where the header stands for no memory, none are
+abbrev pub WritesEmbedded : Placed MemoryHeader → ℕ → List ℕ → ℕ → List ℕ → Type 0
+WritesEmbedded p offset source status region' =
+    (IsNoState p.header p.region × (status ≡ INVALID_STATE) × (region' ≡ p.region))
+    ⊎ ((ty : MemoryTypeValue) × IsState p.header p.region ty
+    × WritesAs p.header.size p.region offset source status region')

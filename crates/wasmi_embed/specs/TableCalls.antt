@@ -1,0 +1,213 @@
+-- What the calls on a table do to what lies with C.
+use Rattle.std.specs.Prelude.{◌≡◌, ◌+◌, ◌<◌, ◌⊎◌, ℕ, true, false, List, take, drop, nat_eq, MatchBool, MatchOption, Option, Some, Result, Ok, Err, slice_get}
+use Rattle.wasmi_typed.specs.declared.typed_ref.TypedRawRef.{TypedRawRef}
+use Rattle.wasmi_meter.specs.declared.error.TableError.{TableError}
+use Rattle.wasmi_meter.specs.declared.error.TableError.TheVariants as error
+use Rattle.wasmi_meter.specs.declared.limiter.Kind.TheVariants.{Elements}
+use Rattle.wasmi_meter.specs.declared.quota.Quota.{Quota}
+use Rattle.wasmi_meter.specs.Limiter.{optional_rules, Rules}
+use Rattle.wasmi_meter.specs.Limiter as limiter
+use Rattle.wasmi_meter.specs.Quota.{quota_rules}
+use Rattle.wasmi_store.specs.Growth.{metered_value, metered}
+use Rattle.wasmi_store.specs.Table.{TableValue, TableWrite, MakesTable, GrowsTableRaw, SetsTableRaw, WritesTable, growth_of, size_of, copy_of}
+use Rattle.wasmi_store.specs.TableType.{TableTypeValue, is_indexable}
+use Rattle.wasmi_store.specs.RegionTable.{table_in, made_in, typed_as}
+use Rattle.wasmi_embed.specs.Headers.{meter_of, if_flag}
+use Rattle.wasmi_embed.specs.Host.{fresh, host_rules}
+use Rattle.wasmi_embed.specs.State.{Embedded, Placed}
+use Rattle.wasmi_embed.specs.TableHeaders.{table_type_of, IsTable}
+use Rattle.wasmi_embed.specs.declared.host.HostAnswers.{HostAnswers}
+use Rattle.wasmi_embed.specs.declared.host.Question.{Question}
+use Rattle.wasmi_embed.specs.declared.headers.MeterHeader.{MeterHeader}
+use Rattle.wasmi_embed.specs.declared.table_header.TableHeader.{TableHeader}
+use Rattle.wasmi_embed.specs.declared.table_header.Range.{Range}
+use Rattle.wasmi_embed.specs.declared.status.TheConstants.{DONE, NO_ELEMENT, TABLE_OUT_OF_MEMORY, TABLE_MINIMUM_OVERFLOW, TABLE_MAXIMUM_OVERFLOW, TABLE_DENIED, TABLE_GROWTH, TABLE_INIT, TABLE_FILL, TABLE_SET, TABLE_COPY, TABLE_TYPE, TABLE_OUT_OF_FUEL, INVALID_STATE, ASKS, OTHER_SIZE}
+
+-- the status of an error
+abbrev pub table_status : TableError → ℕ
+table_status error.OutOfSystemMemory = TABLE_OUT_OF_MEMORY
+table_status error.MinimumSizeOverflow = TABLE_MINIMUM_OVERFLOW
+table_status error.MaximumSizeOverflow = TABLE_MAXIMUM_OVERFLOW
+table_status error.ResourceLimiterDeniedAllocation = TABLE_DENIED
+table_status error.GrowOutOfBounds = TABLE_GROWTH
+table_status error.InitOutOfBounds = TABLE_INIT
+table_status error.FillOutOfBounds = TABLE_FILL
+table_status error.SetOutOfBounds = TABLE_SET
+table_status error.CopyOutOfBounds = TABLE_COPY
+table_status error.ElementTypeMismatch = TABLE_TYPE
+table_status (error.OutOfFuel required) = TABLE_OUT_OF_FUEL
+
+-- the status of a result
+abbrev pub table_status_of : {T : Type 0} → Result T TableError → ℕ
+table_status_of (Ok _) = DONE
+table_status_of (Err e) = table_status e
+
+-- the fuel that is needed, after an error; else the number stays
+abbrev pub needed_of : TableError → ℕ → ℕ
+needed_of (error.OutOfFuel required) before = required
+needed_of error.OutOfSystemMemory before = before
+needed_of error.MinimumSizeOverflow before = before
+needed_of error.MaximumSizeOverflow before = before
+needed_of error.ResourceLimiterDeniedAllocation before = before
+needed_of error.GrowOutOfBounds before = before
+needed_of error.InitOutOfBounds before = before
+needed_of error.FillOutOfBounds before = before
+needed_of error.SetOutOfBounds before = before
+needed_of error.CopyOutOfBounds before = before
+needed_of error.ElementTypeMismatch before = before
+
+-- the number after a growth: the old size, or the fuel that is needed; else it stays
+abbrev pub grown_number : Result ℕ TableError → ℕ → ℕ
+grown_number (Ok n) before = n
+grown_number (Err e) before = needed_of e before
+
+-- the number after a write: the fuel that is needed; else it stays
+abbrev pub written_number : Result (Unit {0}) TableError → ℕ → ℕ
+written_number (Ok _) before = before
+written_number (Err e) before = needed_of e before
+
+-- a header stands for no table on a region
+abbrev pub IsNoTable : TableHeader → List ℕ → Type 0
+IsNoTable h region = (ty : TableTypeValue) → IsTable h region ty → ⊥
+
+-- a growth of a table: by how many elements, and of which reference
+pub record TableGrowth : Type 0 where
+  pub ty : TableTypeValue
+  pub delta : ℕ
+  pub reference : ℕ
+
+-- a table grows, as a table of the library does, with its charge; its header stays except for the size, and stands for
+-- the table again
+pub record GrowsTableAs {S : Type 0} (rules : Rules S) (g : TableGrowth) (s : Embedded TableHeader S) (status : ℕ)
+    (s' : Embedded TableHeader S) : Type 0 where
+  pub result : Result ℕ TableError
+  pub grows : GrowsTableRaw (optional_rules rules) g.delta g.reference
+      (metered_value (table_in g.ty s.region s.header.size) (Some (meter_of s.meter)) s.limiter) result
+      (metered_value (table_in g.ty s'.region s'.header.size) (Some (meter_of s'.meter)) s'.limiter)
+  pub state : IsTable s'.header s'.region g.ty
+  pub header : s'.header ≡ record s.header { size = s'.header.size }
+  pub status_is : status ≡ table_status_of result
+  pub number_is : s'.number ≡ grown_number result s.number
+
+-- a header that stands for no table: nothing is written
+pub record IsTableRefused {S : Type 0} (s : Embedded TableHeader S) (status : ℕ) (s' : Embedded TableHeader S) : Type 0
+  where
+    pub none : IsNoTable s.header s.region
+    pub status_is : status ≡ INVALID_STATE
+    pub same : s' ≡ s
+
+-- a growth by a call, by so many elements of one reference
+abbrev pub GrowsTableEmbedded : {S : Type 0} → Rules S → ℕ → ℕ → Embedded TableHeader S → ℕ → Embedded TableHeader S
+    → Type 0
+GrowsTableEmbedded rules delta reference s status s' =
+    IsTableRefused s status s'
+    ⊎ ((ty : TableTypeValue) × IsTable s.header s.region ty
+    × GrowsTableAs rules (record { ty = ty; delta = delta; reference = reference }) s status s')
+
+-- a growth by the host's answers, where the limiter was asked about the table's size; else nothing is written
+abbrev pub SettlesTableAs : TableGrowth → HostAnswers → Embedded TableHeader HostAnswers → ℕ
+    → Embedded TableHeader HostAnswers → Type 0
+SettlesTableAs g answers s status s' = MatchBool (nat_eq s.header.size answers.current)
+    (GrowsTableAs host_rules g (record s { limiter = Some (fresh answers) }) status s')
+    ((status ≡ OTHER_SIZE) × (s' ≡ s))
+
+-- a growth by the host's answers by a call; where the header stands for no table, nothing is written
+abbrev pub SettlesTableEmbedded : ℕ → ℕ → HostAnswers → Embedded TableHeader HostAnswers → ℕ
+    → Embedded TableHeader HostAnswers → Type 0
+SettlesTableEmbedded delta reference answers s status s' =
+    IsTableRefused s status s'
+    ⊎ ((ty : TableTypeValue) × IsTable s.header s.region ty
+    × SettlesTableAs (record { ty = ty; delta = delta; reference = reference }) answers s status s')
+
+-- a question of a table as C reads it
+abbrev pub table_question_of : Question → limiter.Question
+table_question_of q =
+    record { kind = Elements; current = q.current; desired = q.desired; maximum = if_flag q.has_maximum q.maximum }
+
+-- what a growth of a table asks: nothing where it is by 0, and where there would be as many elements as indices
+abbrev pub AsksTableAs : TableValue → ℕ → ℕ → Question → Question → Type 0
+AsksTableAs x delta status q q' =
+    ((delta ≡ 0) × (status ≡ DONE) × (q' ≡ q))
+    ⊎ ((0 < delta) × (is_indexable x.ty (size_of x + delta) ≡ false) × (status ≡ TABLE_GROWTH) × (q' ≡ q))
+    ⊎ ((0 < delta) × (is_indexable x.ty (size_of x + delta) ≡ true) × (status ≡ ASKS)
+    × ((growth_of x delta 0).question ≡ table_question_of q'))
+
+-- what a growth of a table asks, by a call; where the header stands for no table, it asks nothing
+abbrev pub AsksTableEmbedded : TableHeader → List ℕ → ℕ → ℕ → Question → Question → Type 0
+AsksTableEmbedded h region delta status q q' =
+    (IsNoTable h region × (status ≡ INVALID_STATE) × (q' ≡ q))
+    ⊎ ((ty : TableTypeValue) × IsTable h region ty × AsksTableAs (table_in ty region h.size) delta status q q')
+
+-- what a creation leaves: a header that stands for the new table, or all as it was
+abbrev pub LeavesTableAs : TableTypeValue → Placed TableHeader → Result ℕ TableError → Placed TableHeader → Type 0
+LeavesTableAs ty p (Ok size) p' = (p'.header ≡ record p.header { size = size }) × IsTable p'.header p'.region ty
+LeavesTableAs ty p (Err e) p' = p' ≡ p
+
+-- a table is made at the front of a region, as a table of the library is
+pub record MakesTableAs (made : TypedRawRef) (ty : TableTypeValue) (p : Placed TableHeader) (l : Option Quota)
+    (status : ℕ) (p' : Placed TableHeader) (l' : Option Quota) : Type 0 where
+  pub result : Result ℕ TableError
+  pub makes : MakesTable (optional_rules quota_rules) ty made l (made_in ty p'.region result) l'
+  pub status_is : status ≡ table_status_of result
+  pub left : LeavesTableAs ty p result p'
+
+-- an element by a call
+abbrev pub GetsElement : Placed TableHeader → ℕ → ℕ → ℕ → ℕ → Type 0
+GetsElement p index old status new =
+    (IsNoTable p.header p.region × (status ≡ INVALID_STATE) × (new ≡ old))
+    ⊎ ((ty : TableTypeValue) × IsTable p.header p.region ty
+    × MatchOption (slice_get (take p.header.size p.region) index)
+    ((status ≡ NO_ELEMENT) × (new ≡ old))
+    (λ reference. (status ≡ DONE) × (new ≡ reference)))
+
+-- a table is made by a call of one reference, or the header has no type, and then nothing is written
+abbrev pub MakesTableEmbedded : ℕ → Placed TableHeader → Option Quota → ℕ → Placed TableHeader → Option Quota → Type 0
+MakesTableEmbedded reference p l status p' l' = MatchOption (table_type_of p.header)
+    ((status ≡ INVALID_STATE) × (p' ≡ p) × (l' ≡ l))
+    (λ ty. MakesTableAs (typed_as ty reference) ty p l status p' l')
+
+-- a region whose first elements are others, and the rest the same
+abbrev pub SameRest : ℕ → List ℕ → List ℕ → Type 0
+SameRest size region region' = drop size region' ≡ drop size region
+
+-- an element is set by a call
+abbrev pub SetsElement : Placed TableHeader → ℕ → ℕ → ℕ → List ℕ → Type 0
+SetsElement p index reference status region' =
+    (IsNoTable p.header p.region × (status ≡ INVALID_STATE) × (region' ≡ p.region))
+    ⊎ ((ty : TableTypeValue) × IsTable p.header p.region ty × SameRest p.header.size p.region region'
+    × ((result : Result (Unit {0}) TableError) × SetsTableRaw index reference
+    (table_in ty p.region p.header.size) result (table_in ty region' p.header.size)
+    × (status ≡ table_status_of result)))
+
+-- all that lies with C for a write over a part of a table
+pub record TableRegion : Type 0 where
+  pub region : List ℕ
+  pub meter : MeterHeader
+  pub number : ℕ
+
+-- a part of a table is written over, as of a table of the library; the rest of the region stays
+pub record WritesTableAs (write : TableValue → TableWrite) (ty : TableTypeValue) (size : ℕ) (s : TableRegion)
+    (status : ℕ) (s' : TableRegion) : Type 0 where
+  pub result : Result (Unit {0}) TableError
+  pub writes : WritesTable write
+      (metered (table_in ty s.region size) (Some (meter_of s.meter))) result
+      (metered (table_in ty s'.region size) (Some (meter_of s'.meter)))
+  pub rest : SameRest size s.region s'.region
+  pub status_is : status ≡ table_status_of result
+  pub number_is : s'.number ≡ written_number result s.number
+
+-- a part of a table is written over by a call; where the header stands for no table, nothing is written
+abbrev pub WritesTableEmbedded : (TableTypeValue → TableValue → TableWrite) → TableHeader → TableRegion → ℕ
+    → TableRegion → Type 0
+WritesTableEmbedded write h s status s' =
+    (IsNoTable h s.region × (status ≡ INVALID_STATE) × (s' ≡ s))
+    ⊎ ((ty : TableTypeValue) × IsTable h s.region ty × WritesTableAs (write ty) ty h.size s status s')
+
+-- a copy from another table by a call: where either header stands for no table, nothing is written
+abbrev pub CopiesEmbedded : Placed TableHeader → Range → TableHeader → TableRegion → ℕ → TableRegion → Type 0
+CopiesEmbedded source range h s status s' =
+    ((IsNoTable h s.region ⊎ IsNoTable source.header source.region) × (status ≡ INVALID_STATE) × (s' ≡ s))
+    ⊎ ((ty source_ty : TableTypeValue) × IsTable h s.region ty × IsTable source.header source.region source_ty
+    × WritesTableAs
+    (copy_of range.to range.from range.count (table_in source_ty source.region source.header.size))
+    ty h.size s status s')

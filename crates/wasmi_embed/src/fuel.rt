@@ -1,0 +1,59 @@
+//! The calls on a fuel meter.
+ghost use Rattle.std.specs.Prelude.{◌≡◌};
+ghost use Rattle.wasmi_meter.specs.Costs.{copy_cost};
+ghost use Rattle.wasmi_embed.specs.FuelCalls.{SetsFuel, TellsFuel, TakesFuel};
+ghost use Rattle.wasmi_embed.specs.Headers.{meter_of};
+
+use crate::headers::MeterHeader;
+use crate::status::{DONE, METERING_DISABLED, OUT_OF_FUEL};
+use wasmi_meter::FuelCostsProvider;
+
+/// Sets the fuel that is left: `METERING_DISABLED` where the meter is off.
+#[unsafe(no_mangle)]
+pub extern "C" fn wasmi_fuel_set(meter: &mut MeterHeader, amount: u64) -> u8
+    ensures { SetsFuel amount meter.old result meter.new }
+{
+    if meter.is_on == 0 {
+        return METERING_DISABLED;
+    }
+    meter.left = amount;
+    DONE
+}
+
+/// The fuel that is left: `METERING_DISABLED` where the meter is off.
+#[unsafe(no_mangle)]
+pub extern "C" fn wasmi_fuel_left(meter: &MeterHeader, left: &mut u64) -> u8
+    ensures { TellsFuel meter.now left.old result left.new }
+{
+    if meter.is_on == 0 {
+        return METERING_DISABLED;
+    }
+    *left = meter.left;
+    DONE
+}
+
+/// Takes an amount, and `number` becomes what is left. It is `METERING_DISABLED` where the meter is
+/// off, and `OUT_OF_FUEL` with the amount as number where less is left; then nothing is taken.
+#[unsafe(no_mangle)]
+pub extern "C" fn wasmi_fuel_consume(meter: &mut MeterHeader, amount: u64, number: &mut u64) -> u8
+    ensures { TakesFuel amount meter.old number.old result meter.new number.new }
+{
+    if meter.is_on == 0 {
+        return METERING_DISABLED;
+    }
+    if meter.left < amount {
+        *number = amount;
+        return OUT_OF_FUEL;
+    }
+    meter.left -= amount;
+    *number = meter.left;
+    DONE
+}
+
+/// The price of a copy of so many bytes, also by a meter that is off.
+#[unsafe(no_mangle)]
+pub extern "C" fn wasmi_fuel_copy_cost(meter: &MeterHeader, bytes: u64) -> u64
+    ensures { result ≡ copy_cost (meter_of meter.now).costs bytes 1 }
+{
+    FuelCostsProvider::custom(meter.costs()).fuel_for_copying_values::<u8>(bytes)
+}

@@ -1,0 +1,228 @@
+/* Memories, fuel and tables whose state lies with the caller, for C and C++, in libwasmi_embed.a (x86-64 Linux).
+
+   State: all of it is in structs of plain numbers and in arrays of the caller's; the library keeps nothing between
+   calls. A memory is a wasmi_memory and a region of bytes: its first `size` bytes are the memory's, and the rest is
+   room to grow in place. A table is a wasmi_table and a region of references. So a region may be reserved address space
+   with guard pages, and a struct with its bytes may be copied, stored and sent: a snapshot, a fork, a shared mapping.
+   The loads and stores of wasmi_core.h work on (region, memory.size).
+
+   Meters and quotas: a wasmi_meter with is_on == 0 is no meter, and then nothing is charged. A wasmi_quota with
+   is_on == 0 is no quota, and then every growth is permitted. Structs of zeros are both. One meter and one quota may
+   serve any number of memories and tables, in one call at a time.
+   A copy of a quota counts apart: each of the two permits up to the caps, and neither knows what the other holds. Copy
+   it only where both copies are meant, as in a snapshot that replaces the original.
+
+   Trust: the structs may have any contents. Where a struct stands for no memory or table on its region, the status is
+   WASMI_INVALID_STATE, and nothing is written. A wasmi_memory stands for a memory on a region where it has a type
+   (wasmi_memory_new), size is whole pages, from minimum to maximum, and the region has as many bytes. A wasmi_table
+   likewise. Each meter and each quota is valid.
+
+   What the caller owes, which no call tests:
+   - A pointer leads to what its type says, and isn't NULL, except for an array of length 0; an array has at most
+     PTRDIFF_MAX bytes. What a call writes doesn't overlap with anything else that it takes. No pointer is kept.
+   - No other thread writes what a call takes, or reads what it writes, while the call runs.
+   - Between calls, a struct stays with its region: that the bytes and references are those of before is the caller's
+     matter.
+
+   Statuses are those of wasmi_core.h and wasmi_machine.h and the four below. After a status other than WASMI_DONE the
+   structs, the regions and the numbers are as they were, except where a call says otherwise, and except that a quota
+   may have another `last`, and 1 for an is_on that isn't 0, where the state was valid.
+
+   What is promised, by proof: a growth is a growth of the library's memory or table, between the states that the
+   structs stand for before and after the call, with the same charge, the same question to the quota and the same
+   refusals in the same order; and a struct that a call has written stands for a memory or table on the region. */
+#ifndef WASMI_MEMORY_H
+#define WASMI_MEMORY_H
+
+#include "wasmi_machine.h"
+
+#ifdef __cplusplus
+extern "C" {
+#endif
+
+enum {
+    WASMI_MEMORY_REGION_TOO_SHORT = 36, /* the region is shorter than the new size */
+    WASMI_INVALID_STATE = 96,           /* a struct stands for no memory or table on its region */
+    WASMI_ASKS = 97,                    /* of a question: a limiter is asked */
+    WASMI_OTHER_SIZE = 98               /* of a settlement: the limiter was asked about another size */
+};
+
+/* A linear memory, except its bytes. The caller sets all except size before wasmi_memory_new. Zeros are a memory of pages
+   of one byte without a maximum. */
+typedef struct {
+    uint64_t minimum;       /* in pages */
+    uint64_t maximum;       /* in pages; not read where has_maximum is 0 */
+    size_t size;            /* in bytes; the library's */
+    uint8_t has_maximum;
+    uint8_t is_64;          /* 0: addresses of 32 bits; else of 64 */
+    uint8_t page_size_log2; /* 16: pages of 64 KiB; 0: pages of one byte */
+} wasmi_memory;
+
+/* A table, except its elements. The caller sets all except size before wasmi_table_new. */
+typedef struct {
+    uint64_t minimum;    /* in elements */
+    uint64_t maximum;    /* in elements; not read where has_maximum is 0 */
+    size_t size;         /* in elements; the library's */
+    uint8_t has_maximum;
+    uint8_t is_64;       /* 0: indices of 32 bits; else of 64 */
+    uint8_t type;        /* WASMI_TYPE_FUNCREF or WASMI_TYPE_EXTERNREF */
+} wasmi_table;
+
+/* A fuel meter. */
+typedef struct {
+    uint64_t left;                      /* not read where is_on is 0 */
+    uint32_t bytes_copied_per_fuel;     /* 64 upstream; 0 makes each copy cost UINT64_MAX */
+    uint32_t fuel_per_bytes_translated; /* 7 upstream; no call here takes it */
+    uint32_t fuel_per_bytes_validated;  /* 2 upstream; no call here takes it */
+    uint8_t is_on;
+} wasmi_meter;
+
+/* A limiter with a cap on the bytes of memories and one on the elements of tables. */
+typedef struct {
+    uint64_t cap_bytes, cap_elements;   /* UINT64_MAX: in effect none */
+    uint64_t held_bytes, held_elements; /* permitted so far; 0 at first */
+    uint64_t last;                      /* the library's: what it permitted last */
+    uint8_t last_kind;                  /* the library's; 0 at first */
+    uint8_t is_on;
+} wasmi_quota;
+
+/* Makes a memory of zeros at the front of a region, at its minimum, and sets its size. It takes no fuel, and leaves the
+   bytes past the minimum alone.
+   Refusals in their order: INVALID_STATE where page_size_log2 is neither 0 nor 16, or the limits are out of order or
+   above what addresses reach; MEMORY_SIZE_OVERFLOW where the minimum has 2^64 bytes or more; MEMORY_DENIED where the
+   quota doesn't permit; MEMORY_REGION_TOO_SHORT, after which the quota has taken its permission back. */
+uint8_t wasmi_memory_new(wasmi_memory *memory, uint8_t *region, size_t region_len, wasmi_quota *quota);
+
+/* Grows a memory by pages of zeros. *number is its old size in pages. A growth by 0 changes nothing else. It costs as
+   much fuel as a copy of the added bytes (wasmi_fuel_copy_cost): 1,024 for a page of 64 KiB at 64 bytes for a unit.
+   Refusals in their order: INVALID_STATE; MEMORY_GROWTH above the maximum or what addresses reach, or where the quota
+   doesn't permit; MEMORY_REGION_TOO_SHORT; MEMORY_OUT_OF_FUEL with what is needed in *number. At the last two the quota
+   has taken its permission back, and no fuel is taken. */
+uint8_t wasmi_memory_grow(wasmi_memory *memory, uint8_t *region, size_t region_len, uint64_t pages, wasmi_meter *meter,
+                          wasmi_quota *quota, uint64_t *number);
+
+/* What a growth asks a limiter: may a memory get from current to desired bytes, or a table to so many elements, where
+   its type allows at most maximum (which is 0 where has_maximum is)? A maximum of 2^64 bytes or more is cut at
+   UINT64_MAX. */
+typedef struct {
+    size_t current, desired, maximum;
+    uint8_t has_maximum;
+} wasmi_question;
+
+/* What a limiter of the caller's own answered. */
+typedef struct {
+    size_t current;        /* the size that it was asked about */
+    uint8_t answer;        /* to the question: 1 permits, 0 is no, another number is an error */
+    uint8_t notice_answer; /* to the notice, if there is one: 0 accepts it, another number is an error */
+    uint8_t asked;         /* out: 1 where the growth asked the limiter, else 0 */
+    uint8_t told;          /* out: 1 where it was permitted and failed, so that the limiter is told; else 0 */
+} wasmi_answers;
+
+/* A growth under a limiter of the caller's own takes two calls. This one gives the question, and changes nothing else:
+   WASMI_ASKS. Where no limiter is asked the question stays: INVALID_STATE; DONE for a growth by 0; MEMORY_GROWTH where
+   the type refuses, which no other refusal of this call has. */
+uint8_t wasmi_memory_question(const wasmi_memory *memory, const uint8_t *region, size_t region_len, uint64_t pages,
+                              wasmi_question *question);
+
+/* This one grows as wasmi_memory_grow does, under a limiter that answers so. Refusals in their order: INVALID_STATE;
+   OTHER_SIZE where the memory's size isn't answers->current (any more); then those of wasmi_memory_grow, where
+   MEMORY_GROWTH is also an answer of 0, and MEMORY_DENIED is an error, to the question or to the notice. At the first
+   two nothing is written; else asked and told are set, and the other answers stay.
+   Where told is 1 the growth has failed, by REGION_TOO_SHORT or OUT_OF_FUEL (or MEMORY_DENIED, where notice_answer was
+   an error; *number stays then); the limiter is told then. Where its answer depends on the cause, settle with a
+   notice_answer of 0, tell it, and take its error for MEMORY_DENIED. */
+uint8_t wasmi_memory_settle(wasmi_memory *memory, uint8_t *region, size_t region_len, uint64_t pages,
+                            wasmi_meter *meter, wasmi_answers *answers, uint64_t *number);
+
+/* The size in pages; INVALID_STATE. */
+uint8_t wasmi_memory_size(const wasmi_memory *memory, const uint8_t *region, size_t region_len, uint64_t *pages);
+
+/* Copies len bytes of a memory from offset on to bytes; INVALID_STATE, then MEMORY_ACCESS where they end past it. */
+uint8_t wasmi_memory_read(const wasmi_memory *memory, const uint8_t *region, size_t region_len, size_t offset,
+                          uint8_t *bytes, size_t len);
+
+/* Writes len bytes over those of a memory from offset on; INVALID_STATE, then MEMORY_ACCESS where they end past it. */
+uint8_t wasmi_memory_write(const wasmi_memory *memory, uint8_t *region, size_t region_len, size_t offset,
+                           const uint8_t *bytes, size_t len);
+
+/* Sets the fuel that is left; METERING_DISABLED where the meter is off. */
+uint8_t wasmi_fuel_set(wasmi_meter *meter, uint64_t amount);
+
+/* The fuel that is left; METERING_DISABLED where the meter is off. */
+uint8_t wasmi_fuel_left(const wasmi_meter *meter, uint64_t *left);
+
+/* Takes fuel, as for the caller's own instructions; *number is what is left then. METERING_DISABLED; OUT_OF_FUEL where
+   less is left, with the amount in *number, and none is taken. */
+uint8_t wasmi_fuel_consume(wasmi_meter *meter, uint64_t amount, uint64_t *number);
+
+/* The price of a copy of so many bytes, also by a meter that is off: UINT64_MAX where bytes_copied_per_fuel is 0. */
+uint64_t wasmi_fuel_copy_cost(const wasmi_meter *meter, uint64_t bytes);
+
+/* Tables. A reference is a number, 0 for null; its type is the caller's matter. elements_len is the length of the
+   region in elements. The calls that write over a range or grow take fuel for 4 bytes an element. */
+
+/* Makes a table with one reference in each place, at its minimum, and sets its size. It takes no fuel, and leaves the
+   elements past the minimum alone.
+   Refusals in their order: INVALID_STATE where type is of no references, or the limits are out of order or not below
+   the number of indices; TABLE_DENIED where the quota doesn't permit; TABLE_OUT_OF_MEMORY where the region is too
+   short, after which the quota has taken its permission back. */
+uint8_t wasmi_table_new(wasmi_table *table, uint32_t *elements, size_t elements_len, uint32_t reference,
+                        wasmi_quota *quota);
+
+/* Grows a table by elements of one reference. *number is its old size. A growth by 0 changes nothing else.
+   Refusals in their order: INVALID_STATE; TABLE_GROWTH where there would be as many elements as indices, where the
+   quota doesn't permit, or above the maximum; TABLE_OUT_OF_FUEL with what is needed in *number; TABLE_OUT_OF_MEMORY
+   where the region is too short, which leaves the fuel taken. At a refusal after its permission the quota has taken it
+   back. */
+uint8_t wasmi_table_grow(wasmi_table *table, uint32_t *elements, size_t elements_len, uint64_t delta,
+                         uint32_t reference, wasmi_meter *meter, wasmi_quota *quota, uint64_t *number);
+
+/* A growth of a table under a limiter of the caller's own: as wasmi_memory_question and wasmi_memory_settle, but in
+   elements. TABLE_GROWTH is where there would be as many elements as indices, unasked, or an answer of 0; it is also
+   above the maximum, after the permission, and then told is 1. TABLE_DENIED is an error. */
+uint8_t wasmi_table_question(const wasmi_table *table, const uint32_t *elements, size_t elements_len, uint64_t delta,
+                             wasmi_question *question);
+uint8_t wasmi_table_settle(wasmi_table *table, uint32_t *elements, size_t elements_len, uint64_t delta,
+                           uint32_t reference, wasmi_meter *meter, wasmi_answers *answers, uint64_t *number);
+
+/* The element at an index; INVALID_STATE, then NO_ELEMENT past the end. */
+uint8_t wasmi_table_get(const wasmi_table *table, const uint32_t *elements, size_t elements_len, uint64_t index,
+                        uint32_t *reference);
+
+/* Sets the element at an index; INVALID_STATE, then TABLE_SET past the end. */
+uint8_t wasmi_table_set(const wasmi_table *table, uint32_t *elements, size_t elements_len, uint64_t index,
+                        uint32_t reference);
+
+/* What is written over: count elements from `to` on, in a copy by those from `from` on. */
+typedef struct {
+    uint64_t to, from, count;
+} wasmi_range;
+
+/* Fills the elements of a range with a reference; range->from isn't read. Refusals in their order: INVALID_STATE;
+   TABLE_FILL where they end past the table; TABLE_OUT_OF_FUEL with what is needed in *number. */
+uint8_t wasmi_table_fill(const wasmi_table *table, uint32_t *elements, size_t elements_len, const wasmi_range *range,
+                         uint32_t reference, wasmi_meter *meter, uint64_t *number);
+
+/* Copies elements of a table over others of it. Where the ranges overlap, the old elements are copied. Refusals in
+   their order: INVALID_STATE; TABLE_COPY where a range ends past the table; TABLE_OUT_OF_FUEL with what is needed in
+   *number. */
+uint8_t wasmi_table_copy(const wasmi_table *table, uint32_t *elements, size_t elements_len, const wasmi_range *range,
+                         wasmi_meter *meter, uint64_t *number);
+
+/* Copies elements of another table, in another region, over those of a table. Refusals in their order: INVALID_STATE,
+   for either; TABLE_TYPE where their types differ; TABLE_COPY where a range ends past its table; TABLE_OUT_OF_FUEL with
+   what is needed in *number. */
+uint8_t wasmi_table_copy_from(const wasmi_table *table, uint32_t *elements, size_t elements_len,
+                              const wasmi_table *source, const uint32_t *source_elements, size_t source_len,
+                              const wasmi_range *range, wasmi_meter *meter, uint64_t *number);
+
+/* Copies items, such as an element segment's, over the elements of a table; to copy no item costs nothing. Refusals in
+   their order: INVALID_STATE; TABLE_INIT where a range ends past the items or the table; TABLE_OUT_OF_FUEL with what is
+   needed in *number. */
+uint8_t wasmi_table_init(const wasmi_table *table, uint32_t *elements, size_t elements_len, const uint32_t *items,
+                         size_t items_len, const wasmi_range *range, wasmi_meter *meter, uint64_t *number);
+
+#ifdef __cplusplus
+}
+#endif
+#endif
