@@ -2,22 +2,29 @@
    for C and C++, in libwasmi_guest.a (x86-64 Linux). wasmi_core.h has the numbers of instructions, and calls on values
    and bytes of the caller's, which are in libwasmi_ffi.a.
 
-   A machine makes its memories and tables in memory of its own, within two caps; it grows them, and writes over ranges
-   of tables, for fuel where its meter is on. Memories, tables, element segments and globals go by their indices, which
-   count from 0 for each kind and aren't used again.
+   A machine makes its memories and tables in memory of its own, within two caps if it is made with caps; it grows
+   them, and writes over ranges of tables, for fuel if its meter is on. Memories, tables, element segments and globals go
+   by their indices, which count from 0 for each kind and aren't used again.
 
    What the caller owes, which no call tests:
    - A handle is all zeros before its first call, and is written by these calls alone from then on.
    - It isn't used in two copies: whoever copies or moves it uses the new one alone from then on.
-   - It is in one call at a time, and stays on its thread. Several threads may use a handle each.
+   - It is in one call at a time. Several threads may use a handle each, and a handle may go to another thread: the
+     caller orders the calls on both threads by a lock, by the start or the end of a thread, or by a sequentially
+     consistent atomic.
    - A pointer leads to what its type says, and isn't NULL, except for an array of length 0; an array has at most
      PTRDIFF_MAX bytes. What a call writes doesn't overlap with anything else that it takes. No pointer is kept.
    Everything else is tested: a handle without a machine, and any numbers in the structs that are passed.
 
-   What is promised, by proof: a call leaves a machine as one step of the library's machine does (docs/SCRIPT.md has the
-   same calls as lines). So the library's laws over such steps hold: a refused call changes nothing except where it is
-   said below, and the memories and the tables of a machine stay within its caps. No contract of these calls says the
-   last two by itself. */
+   What is promised, by proof:
+   - A call leaves a machine as one step of the library's machine does (docs/SCRIPT.md has the same calls as lines). So
+     the library's laws over such steps hold: a refused call changes nothing except where it is said below.
+   - After each call the memories and the tables of a machine are within its caps, and these are the caps that it was
+     made with.
+   - A handle may go to another thread.
+
+   All calls of the library's machine are here except the one that makes a memory in a region of the caller's: no
+   contract of a C function can say that the caller lends the region until the machine ends. */
 #ifndef WASMI_MACHINE_H
 #define WASMI_MACHINE_H
 
@@ -33,23 +40,24 @@ typedef struct { uint8_t *at; bool is_made; } wasmi_machine;
 
 /* What a machine is made with. */
 typedef struct {
-    uint64_t bytes;                     /* the most bytes that its memories may have together .. */
+    uint64_t bytes;                     /* the caps: the most bytes that its memories may have together .. */
     uint64_t elements;                  /* .. and the most elements of its tables; dropped ones count */
     uint32_t bytes_copied_per_fuel;     /* 64 upstream; 0 makes each copy cost UINT64_MAX */
     uint32_t fuel_per_bytes_translated; /* 7 upstream; no call here takes it */
     uint32_t fuel_per_bytes_validated;  /* 2 upstream; no call here takes it */
     uint8_t is_metered;                 /* 0: the meter is off; else it is on, with no fuel at first */
+    uint8_t is_unlimited;               /* 0: the caps hold; else there are none, and bytes and elements aren't read */
 } wasmi_limits;
 
-/* Makes a machine. DONE; HAS_MACHINE where the handle has one; then NO_ROOM where the system refuses memory. After a
-   refusal the handle is as it was. */
+/* Makes a machine. DONE; HAS_MACHINE if the handle has one; then NO_ROOM if the system refuses memory. After a refusal
+   the handle is unchanged. */
 uint8_t wasmi_machine_new(wasmi_machine *machine, const wasmi_limits *limits);
 
 /* Ends the machine, if there is one, and gives all of its memory back. The handle may be used for a new one. */
 void wasmi_machine_drop(wasmi_machine *machine);
 
 /* The kinds of calls. Behind each stands what it reads of a wasmi_call, then what its reply has, and then its refusals
-   in the order in which they are tested. The first is always WASMI_NO_SUCH, where there is no memory, table, element
+   in the order in which they are tested. The first is always WASMI_NO_SUCH, if there is no memory, table, element
    segment, global or register of an index or a number. */
 enum {
     WASMI_CALL_SET_FUEL = 0, /* count; METERING_DISABLED */
@@ -59,12 +67,14 @@ enum {
     WASMI_CALL_NEW_MEMORY = 2,
     /* Grows a memory by pages of zeros: index, count -> number: its old size in pages; MEMORY_GROWTH (beyond its type
        or the caps), MEMORY_OUT_OF_FUEL (number: what is needed), MEMORY_OUT_OF_MEMORY, after which the fuel is spent.
-       By 0 it is its size, for nothing. */
+       A growth by 0 returns the size, and takes no fuel. Each other growth costs as much as a copy of the added
+       bytes: 1,024 for a page of 64 KiB at 64 bytes for a unit. */
     WASMI_CALL_GROW_MEMORY = 3,
     WASMI_CALL_DROP_MEMORY = 4, /* index; its size still counts */
     /* Accesses at ptr + offset, a sum that does not wrap; op is a number of wasmi_load, wasmi_store, wasmi_load_lane or
-       wasmi_store_lane in wasmi_core.h; MEMORY_OUT_OF_BOUNDS. A load of an item is in the reply, one of a vector in
-       register dst; a store of an item takes value, one of a vector register a; a lane goes into or comes from a. */
+       wasmi_store_lane in wasmi_core.h, as WASMI_LOAD_I32_LOAD8_S; MEMORY_OUT_OF_BOUNDS. A load of an item is in the
+       reply, one of a vector in register dst; a store of an item takes value, one of a vector register a; a lane goes
+       into or comes from a. */
     WASMI_CALL_LOAD = 5,        /* op, index, ptr, offset, dst -> value */
     WASMI_CALL_STORE = 6,       /* op, index, ptr, offset, value, a */
     WASMI_CALL_LOAD_LANE = 7,   /* op, lane, index, ptr, offset, a, dst */
@@ -92,12 +102,13 @@ enum {
     WASMI_CALL_GET_REGISTER = 22, /* a -> value */
     /* Instructions on registers; op is a number of wasmi_unary, wasmi_binary, wasmi_ternary, wasmi_extract_lane or
        wasmi_replace_lane in wasmi_core.h, of one that has a vector: one on items alone is NO_CALL. The result is in
-       register dst, or in the reply where it is an item. */
+       register dst, or in the reply if it is an item. */
     WASMI_CALL_UNARY = 23,        /* op, a, dst -> value, of a test */
     WASMI_CALL_BINARY = 24,       /* op, a, b, dst; a shift: op, a, count (below 2^32), dst */
     WASMI_CALL_TERNARY = 25,      /* op, a, b, c, dst */
     WASMI_CALL_EXTRACT_LANE = 26, /* op, lane, a -> value */
-    WASMI_CALL_REPLACE_LANE = 27  /* op, lane, a, b (the item), dst */
+    WASMI_CALL_REPLACE_LANE = 27, /* op, lane, a, b (the item), dst */
+    WASMI_CALL_SHUFFLE = 28       /* lanes, a, b, dst: byte i of the result is the byte of lane lanes[i] */
 };
 
 /* Value types. */
@@ -128,6 +139,7 @@ typedef struct {
     uint64_t ptr, offset;
     uint64_t to, from;
     wasmi_words value;
+    uint8_t lanes[16];           /* 0 to 15: a byte of register a; 16 to 31: one of register b */
 } wasmi_call;
 
 /* The statuses of replies, besides WASMI_DONE, and WASMI_MEMORY_OUT_OF_BOUNDS for a load or a store. */
@@ -161,7 +173,7 @@ enum {
     WASMI_SEGMENT_OUT_OF_MEMORY = 81
 };
 
-/* A reply. What it doesn't have is 0: after a refusal all except the status, and the number where fuel is short. */
+/* A reply. What it doesn't have is 0: after a refusal all except the status, and the number if fuel is short. */
 typedef struct {
     wasmi_words value;
     uint64_t number;
@@ -176,22 +188,22 @@ typedef struct { wasmi_words bytes, elements; uint8_t status; } wasmi_totals;
 /* Replies to a call. Before all else: NO_MACHINE, NO_CALL. */
 wasmi_reply wasmi_machine_call(wasmi_machine *machine, const wasmi_call *call);
 
-/* Copies len bytes of a memory from offset on to bytes: NO_MACHINE, NO_SUCH, or MEMORY_ACCESS where they end past it;
-   then bytes stays. It takes no memory of its own. */
+/* Copies len bytes of a memory from offset on to bytes: NO_MACHINE, NO_SUCH, or MEMORY_ACCESS if they end past it;
+   then bytes is unchanged. It takes no memory of its own. */
 wasmi_reply wasmi_machine_read(wasmi_machine *machine, size_t memory, size_t offset, uint8_t *bytes, size_t len);
 
 /* Writes len bytes over those of a memory from offset on: NO_MACHINE, NO_ROOM, NO_SUCH, MEMORY_ACCESS. */
 wasmi_reply wasmi_machine_write(wasmi_machine *machine, size_t memory, size_t offset, const uint8_t *bytes, size_t len);
 
-/* Makes an element segment of references of a type -> number: its index; NO_CALL where type is of no references, then
-   NO_MACHINE, NO_ROOM, SEGMENT_TOO_MANY_ITEMS, SEGMENT_OUT_OF_MEMORY. */
+/* Makes an element segment of references of a type -> number: its index; NO_MACHINE, NO_CALL if type is of no
+   references, NO_ROOM, SEGMENT_TOO_MANY_ITEMS, SEGMENT_OUT_OF_MEMORY. */
 wasmi_reply wasmi_machine_new_segment(wasmi_machine *machine, uint8_t type, const uint32_t *items, size_t len);
 
 /* Takes fuel for what the caller does itself, as an interpreter's instructions -> number: what is left then;
-   NO_MACHINE, METERING_DISABLED, or OUT_OF_FUEL where less is left (number: the amount): then none is taken. */
+   NO_MACHINE, METERING_DISABLED, or OUT_OF_FUEL if less is left (number: the amount): then none is taken. */
 wasmi_reply wasmi_machine_consume_fuel(wasmi_machine *machine, uint64_t amount);
 
-/* The totals; NO_MACHINE. Its time grows with the number of memories and tables that were ever made. */
+/* The totals; NO_MACHINE. Without caps its time grows with the number of memories and tables that were ever made. */
 wasmi_totals wasmi_machine_totals(wasmi_machine *machine);
 
 #ifdef __cplusplus

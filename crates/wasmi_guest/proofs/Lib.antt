@@ -1,1 +1,4 @@
+mod CapsLemmas
 mod GuestBoxLemmas
+mod LanesLemmas
+mod SegmentLemmas

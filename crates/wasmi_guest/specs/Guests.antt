@@ -1,5 +1,5 @@
 -- A machine with its quota, and what a call does to it.
-use Rattle.std.specs.Prelude.{◌≡◌, ◌⊎◌, ◌≤◌, ◌<◌, ◌-◌, ℕ, nat_eq, if◌then◌else◌, List, length, Option, Some, None, MatchOption, Vec}
+use Rattle.std.specs.Prelude.{◌≡◌, ◌≢◌, ◌⊎◌, ◌≤◌, ◌<◌, ◌-◌, ℕ, nat_eq, if◌then◌else◌, List, length, Option, Some, None, MatchOption, Vec}
 use Rattle.wasmi_meter.specs.Amounts.{nothing}
 use Rattle.wasmi_meter.specs.Limiter.{optional_rules}
 use Rattle.wasmi_meter.specs.Meter.{Meter, meter_after}
@@ -15,19 +15,21 @@ use Rattle.wasmi_core.specs.Totals.{total}
 use Rattle.wasmi_core.specs.Steps.{Answers}
 use Rattle.wasmi_core.specs.World.{World, world}
 use Rattle.wasmi_core.specs.declared.calls.Call.{Call}
+use Rattle.wasmi_core.specs.declared.calls.Call.TheVariants.{NewSegment}
 use Rattle.wasmi_core.specs.declared.calls.Reply.{Reply}
-use Rattle.wasmi_guest.specs.declared.guest.Guest.{Guest}
+use Rattle.wasmi_guest.specs.Caps.{GuestValue}
 use Rattle.wasmi_guest.specs.declared.plain.Limits.{Limits}
 use Rattle.wasmi_guest.specs.declared.plain.PlainCall.{PlainCall}
 use Rattle.wasmi_guest.specs.declared.plain.PlainReply.{PlainReply}
 use Rattle.wasmi_guest.specs.declared.plain.Totals.{Totals}
 use Rattle.wasmi_guest.specs.PlainCalls.{call_of}
 use Rattle.wasmi_guest.specs.Plain.{wide_words}
+use Rattle.wasmi_guest.specs.Types.{reference_type_of}
 use Rattle.wasmi_guest.specs.Replies.{only, no_words, with_number, done_status, no_machine_status, no_call_status, no_such_status, no_room_status, has_machine_status, memory_refusal, fuel_refusal, plain_reply}
 
--- the world of a guest: the machine with the quota
-abbrev pub guest_world : Guest → World (Option Quota)
-guest_world guest = world guest.machine (Some guest.quota)
+-- the world of a guest: the machine with the quota, or with no limiter
+abbrev pub guest_world : GuestValue → World (Option Quota)
+guest_world guest = world guest.machine guest.quota
 
 -- the meter that a machine is made with
 abbrev pub meter_of : Limits → Meter
@@ -40,38 +42,48 @@ meter_of limits = record {
   };
 }
 
--- a machine with nothing on it, and a quota that holds nothing
-pub record IsNewGuest (limits : Limits) (guest : Guest) : Type 0 where
+-- a quota of these caps that holds nothing
+pub record IsNewQuota (limits : Limits) (quota : Quota) : Type 0 where
+  pub limited : limits.is_unlimited ≡ 0
+  pub bytes : cap_of quota Bytes ≡ limits.bytes
+  pub elements : cap_of quota Elements ≡ limits.elements
+  pub nothing_held : holdings quota ≡ record { held = nothing; last = None }
+
+-- there is a quota of these caps that holds nothing, or none if there are no caps
+abbrev pub IsNewLimiter : Limits → Option Quota → Type 0
+IsNewLimiter limits quota = MatchOption quota (limits.is_unlimited ≢ 0) (IsNewQuota limits)
+
+-- a machine with nothing on it, and its quota
+pub record IsNewGuest (limits : Limits) (guest : GuestValue) : Type 0 where
   pub machine : guest.machine ≡ new_state (meter_of limits)
-  pub bytes : cap_of guest.quota Bytes ≡ limits.bytes
-  pub elements : cap_of guest.quota Elements ≡ limits.elements
-  pub nothing_held : holdings guest.quota ≡ record { held = nothing; last = None }
+  pub quota : IsNewLimiter limits guest.quota
 
 -- a guest replies to a call: a step of its world
-abbrev pub GuestReplies : Call → Guest → Reply → Guest → Type 0
+abbrev pub GuestReplies : Call → GuestValue → Reply → GuestValue → Type 0
 GuestReplies call guest reply guest' =
     Answers (optional_rules quota_rules) call (guest_world guest) reply (guest_world guest')
 
 -- a guest replies to the call that numbers stand for; where they stand for none, it is the same
-abbrev pub RepliesPlainly : PlainCall → Guest → PlainReply → Guest → Type 0
+abbrev pub RepliesPlainly : PlainCall → GuestValue → PlainReply → GuestValue → Type 0
 RepliesPlainly plain guest reply guest' = MatchOption (call_of plain)
     ((reply ≡ only no_call_status) × (guest' ≡ guest))
     (λ call. (full : Reply) × GuestReplies call guest full guest' × (reply ≡ plain_reply full))
 
 -- the guest of a handle has become another; where there is none, the status says so, and there is none afterwards
-abbrev pub InPlace : {R : Type 0} → R → Option Guest → R → Option Guest → (Guest → Guest → Type 0) → Type 0
+abbrev pub InPlace : {R : Type 0} → R → Option GuestValue → R → Option GuestValue
+    → (GuestValue → GuestValue → Type 0) → Type 0
 InPlace refusal None result held' Acts = (result ≡ refusal) × (held' ≡ None)
-InPlace refusal (Some guest) result held' Acts = (guest' : Guest) × Acts guest guest' × (held' ≡ Some guest')
+InPlace refusal (Some guest) result held' Acts = (guest' : GuestValue) × Acts guest guest' × (held' ≡ Some guest')
 
 -- a machine is made where there is none; where there is one, or memory is refused, nothing has changed
-abbrev pub MakesMachine : Limits → Option Guest → ℕ → Option Guest → Type 0
+abbrev pub MakesMachine : Limits → Option GuestValue → ℕ → Option GuestValue → Type 0
 MakesMachine limits (Some guest) status held' = (status ≡ has_machine_status) × (held' ≡ Some guest)
 MakesMachine limits None status held' = ((status ≡ no_room_status) × (held' ≡ None))
-    ⊎ ((guest : Guest) × IsNewGuest limits guest × (status ≡ done_status) × (held' ≡ Some guest))
+    ⊎ ((guest : GuestValue) × IsNewGuest limits guest × (status ≡ done_status) × (held' ≡ Some guest))
 
 -- the bytes of a memory from an offset on are copied to the caller's; where there is no such memory, or they end past
 -- it, the caller's stay
-abbrev pub ReadsOut : ℕ → ℕ → Guest → List ℕ → PlainReply → List ℕ → Type 0
+abbrev pub ReadsOut : ℕ → ℕ → GuestValue → List ℕ → PlainReply → List ℕ → Type 0
 ReadsOut memory offset guest old reply new = MatchOption (live_at guest.machine.memories memory)
     ((reply ≡ only no_such_status) × (new ≡ old))
     (λ found. MatchOption (at found.bytes offset (length old))
@@ -79,21 +91,28 @@ ReadsOut memory offset guest old reply new = MatchOption (live_at guest.machine.
     (λ bytes. (reply ≡ only done_status) × (new ≡ bytes)))
 
 -- a guest replies to a call that takes a copy of the caller's list; or memory for that is refused, and it is the same
-unfoldable pub RepliesToCopy : (Vec ℕ Global → Call) → List ℕ → Guest → PlainReply → Guest → Type 0
+unfoldable pub RepliesToCopy : (Vec ℕ Global → Call) → List ℕ → GuestValue → PlainReply → GuestValue → Type 0
 RepliesToCopy call items guest reply guest' = ((reply ≡ only no_room_status) × (guest' ≡ guest))
     ⊎ ((copy : Vec ℕ Global) × (copy.items ≡ items) × (full : Reply) × GuestReplies (call copy) guest full guest'
     × (reply ≡ plain_reply full))
 
--- the machine's totals, as numbers of 128 bits
-abbrev pub totals_of : Guest → Totals
-totals_of guest = record {
-  bytes = wide_words (total guest.machine Bytes);
-  elements = wide_words (total guest.machine Elements);
-  status = done_status;
-}
+-- a guest replies to the making of an element segment; where the number is none of a reference type, it is the same
+abbrev pub RepliesToSegment : ℕ → List ℕ → GuestValue → PlainReply → GuestValue → Type 0
+RepliesToSegment ty items guest reply guest' = MatchOption (reference_type_of ty)
+    ((reply ≡ only no_call_status) × (guest' ≡ guest))
+    (λ ref. RepliesToCopy (NewSegment ref) items guest reply guest')
+
+-- so many bytes and elements, as numbers of 128 bits
+abbrev pub totals_in : ℕ → ℕ → Totals
+totals_in bytes elements =
+    record { bytes = wide_words bytes; elements = wide_words elements; status = done_status }
+
+-- the machine's totals
+abbrev pub totals_of : GuestValue → Totals
+totals_of guest = totals_in (total guest.machine Bytes) (total guest.machine Elements)
 
 -- an amount of fuel is taken where the meter is on and so much is left, and the reply has what is left then
-abbrev pub TakesFuel : ℕ → Guest → PlainReply → Guest → Type 0
+abbrev pub TakesFuel : ℕ → GuestValue → PlainReply → GuestValue → Type 0
 TakesFuel amount guest reply guest' = MatchOption guest.machine.meter.left
     ((reply ≡ fuel_refusal FuelMeteringDisabled) × (guest' ≡ guest))
     (λ left. (amount ≤ left → (reply ≡ with_number done_status (left - amount))

@@ -1,3 +1,4 @@
+pub mod Caps
 pub mod GuestBox
 pub mod Guests
 pub mod Ops

@@ -29,7 +29,7 @@ use Rattle.wasmi_core.specs.declared.calls.Call.{Call}
 use Rattle.wasmi_core.specs.declared.calls.Call.TheVariants as call
 use Rattle.wasmi_guest.specs.declared.plain.PlainCall.{PlainCall}
 use Rattle.wasmi_guest.specs.Plain.{raw_in}
-use Rattle.wasmi_guest.specs.Types.{narrow}
+use Rattle.wasmi_guest.specs.Types.{lanes_of, narrow}
 
 -- the instruction of a number in a list, whose first one has the number `first`
 unfoldable pub op_at : {Name Op : Type 0} → List (Name × Op) → ℕ → ℕ → Option Op
@@ -137,3 +137,7 @@ module _ (plain : PlainCall) where
   abbrev pub replace_lane_call : Option Call
   replace_lane_call = option_map (λ op. call.Replace op plain.dst plain.a plain.b)
       (option_and_then (λ kind. replace_op kind plain.lane) (replacement_at plain.op))
+
+  -- a shuffle of the bytes of two registers
+  abbrev pub shuffle_call : Option Call
+  shuffle_call = option_map (call.Shuffle plain.dst plain.a plain.b) (lanes_of plain.lanes)

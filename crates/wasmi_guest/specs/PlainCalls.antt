@@ -18,7 +18,7 @@ use Rattle.wasmi_guest.specs.declared.kind.RegisterCall.{RegisterCall}
 use Rattle.wasmi_guest.specs.declared.kind.RegisterCall.TheVariants as register
 use Rattle.wasmi_guest.specs.declared.kind.TheConstants.{KINDS}
 use Rattle.wasmi_guest.specs.declared.plain.PlainCall.{PlainCall}
-use Rattle.wasmi_guest.specs.Ops.{load_call, store_call, load_lane_call, store_lane_call, unary_call, binary_call, ternary_call, extract_lane_call, replace_lane_call}
+use Rattle.wasmi_guest.specs.Ops.{load_call, store_call, load_lane_call, store_lane_call, unary_call, binary_call, ternary_call, extract_lane_call, replace_lane_call, shuffle_call}
 use Rattle.wasmi_guest.specs.Plain.{raw_in}
 use Rattle.wasmi_guest.specs.Types.{narrow, val_type_of, typed_reference_of, mutability_of, memory_type_of, table_type_of}
 
@@ -75,6 +75,7 @@ register_call register.Binary plain = binary_call plain
 register_call register.Ternary plain = ternary_call plain
 register_call register.ExtractLane plain = extract_lane_call plain
 register_call register.ReplaceLane plain = replace_lane_call plain
+register_call register.Shuffle plain = shuffle_call plain
 
 -- the call of a kind, if its operands are ones that there are
 abbrev pub call_as : Kind → PlainCall → Option Call

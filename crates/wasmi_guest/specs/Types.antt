@@ -1,6 +1,6 @@
 -- The types and references that a call's numbers stand for.
-use Rattle.std.specs.Prelude.{ℕ, ◌^◌, Bool, true, ◌&&◌, nat_eq, nat_le, nat_lt, if◌then◌else◌, Option, Some, None}
-use Rattle.std.specs.List.{slice_get}
+use Rattle.std.specs.Prelude.{ℕ, ◌^◌, Bool, true, ◌&&◌, nat_eq, nat_le, nat_lt, if◌then◌else◌, Option, Some, None, List}
+use Rattle.std.specs.List.{slice_get, list_all}
 use Rattle.std.specs.Option.{option_map, option_map_or, option_and_then}
 use Rattle.wasmi_types.specs.declared.index_ty.IndexType.{IndexType}
 use Rattle.wasmi_types.specs.declared.index_ty.IndexType.TheVariants.{I32, I64}
@@ -23,6 +23,10 @@ where_true test x = if test x then Some x else None
 -- a number that 32 bits hold
 abbrev pub narrow : ℕ → Option ℕ
 narrow number = where_true (λ n. nat_lt n (2 ^ 32)) number
+
+-- the lanes of two vectors of bytes that have these indices, if there are such lanes
+abbrev pub lanes_of : List ℕ → Option (List ℕ)
+lanes_of indices = where_true (list_all (λ index. nat_lt index 32)) indices
 
 -- the value type of a number, if there is one
 abbrev pub val_type_of : ℕ → Option ValType

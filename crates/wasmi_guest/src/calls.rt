@@ -1,17 +1,16 @@
 //! The calls for C. Each takes the machine out of its handle and puts it back, which takes no
 //! memory.
-ghost use Rattle.std.specs.Prelude.{◌≡◌, ℕ, List, None, MatchOption};
-ghost use Rattle.wasmi_core.specs.declared.calls.Call.TheVariants.{NewSegment, Write};
-ghost use Rattle.wasmi_guest.specs.Types.{reference_type_of};
+ghost use Rattle.std.specs.Prelude.{◌≡◌, ℕ, List, None};
+ghost use Rattle.wasmi_core.specs.declared.calls.Call.TheVariants.{Write};
+ghost use Rattle.wasmi_guest.specs.Caps.{StaysWithinCaps};
 ghost use Rattle.wasmi_guest.specs.declared.plain.PlainReply.{PlainReply};
-ghost use Rattle.wasmi_guest.specs.Guests.{InPlace, MakesMachine, ReadsOut, RepliesPlainly, RepliesToCopy, TakesFuel, no_totals, totals_of};
-ghost use Rattle.wasmi_guest.specs.Replies.{only, no_call_status, no_machine_status};
+ghost use Rattle.wasmi_guest.specs.Guests.{InPlace, MakesMachine, ReadsOut, RepliesPlainly, RepliesToCopy, RepliesToSegment, TakesFuel, no_totals, totals_of};
+ghost use Rattle.wasmi_guest.specs.Replies.{only, no_machine_status};
 
 use crate::guest::Guest;
 use crate::handle::Handle;
 use crate::plain::{Limits, PlainCall, PlainReply, Totals, Words};
-use crate::status::{DONE, HAS_MACHINE, NO_CALL, NO_MACHINE, NO_ROOM};
-use crate::types::reference_type;
+use crate::status::{DONE, HAS_MACHINE, NO_MACHINE, NO_ROOM};
 use std::alloc::Global;
 
 /// Makes a machine in a handle that has none: `DONE`; `HAS_MACHINE` where it has one, then
@@ -46,8 +45,10 @@ pub extern "C" fn wasmi_machine_call(
     handle: &mut Handle,
     call: &PlainCall,
 ) -> PlainReply
-    ensures { InPlace (only no_machine_status) handle.old.guest.held result handle.new.guest.held
+    ensures step { InPlace (only no_machine_status) handle.old.guest.held
+        result handle.new.guest.held
         (λ guest guest'. RepliesPlainly call.now guest result guest') }
+    ensures caps { StaysWithinCaps handle.old.guest.held handle.new.guest.held }
 {
     let Some(mut guest) = handle.take(alloc) else {
         return PlainReply::only(NO_MACHINE);
@@ -69,10 +70,11 @@ pub extern "C" fn wasmi_machine_read(
     offset: usize,
     bytes: &mut [u8],
 ) -> PlainReply
-    ensures { InPlace {R = PlainReply × List ℕ} (only no_machine_status, bytes.old)
+    ensures step { InPlace {R = PlainReply × List ℕ} (only no_machine_status, bytes.old)
         handle.old.guest.held (result, bytes.new) handle.new.guest.held
         (λ guest guest'. (guest' ≡ guest)
         × ReadsOut memory offset guest bytes.old result bytes.new) }
+    ensures caps { StaysWithinCaps handle.old.guest.held handle.new.guest.held }
 {
     let Some(guest) = handle.take(alloc) else {
         return PlainReply::only(NO_MACHINE);
@@ -93,8 +95,10 @@ pub extern "C" fn wasmi_machine_write(
     offset: usize,
     bytes: &[u8],
 ) -> PlainReply
-    ensures { InPlace (only no_machine_status) handle.old.guest.held result handle.new.guest.held
+    ensures step { InPlace (only no_machine_status) handle.old.guest.held
+        result handle.new.guest.held
         (λ guest guest'. RepliesToCopy (Write memory offset) bytes.now guest result guest') }
+    ensures caps { StaysWithinCaps handle.old.guest.held handle.new.guest.held }
 {
     let Some(mut guest) = handle.take(alloc) else {
         return PlainReply::only(NO_MACHINE);
@@ -104,9 +108,9 @@ pub extern "C" fn wasmi_machine_write(
     reply
 }
 
-/// Makes an element segment of the caller's references. Where the number is none of a reference
-/// type the status is `NO_CALL`; where the handle has no machine it is `NO_MACHINE`, then `NO_ROOM`
-/// where memory for a copy of the references is refused, then as `Call::NewSegment` says.
+/// Makes an element segment of the caller's references. The status is `NO_MACHINE` if the handle
+/// has no machine, then `NO_CALL` if the number is none of a reference type, then `NO_ROOM` if
+/// memory for a copy of the references is refused, then as `Call::NewSegment` says.
 #[unsafe(no_mangle)]
 pub extern "C" fn wasmi_machine_new_segment(
     alloc: Global,
@@ -114,14 +118,11 @@ pub extern "C" fn wasmi_machine_new_segment(
     ty: u8,
     items: &[u32],
 ) -> PlainReply
-    ensures { MatchOption (reference_type_of ty)
-        ((result ≡ only no_call_status) × (handle.new ≡ handle.old))
-        (λ ty. InPlace (only no_machine_status) handle.old.guest.held result handle.new.guest.held
-        (λ guest guest'. RepliesToCopy (NewSegment ty) items.now guest result guest')) }
+    ensures step { InPlace (only no_machine_status) handle.old.guest.held
+        result handle.new.guest.held
+        (λ guest guest'. RepliesToSegment ty items.now guest result guest') }
+    ensures caps { StaysWithinCaps handle.old.guest.held handle.new.guest.held }
 {
-    let Some(ty) = reference_type(ty) else {
-        return PlainReply::only(NO_CALL);
-    };
     let Some(mut guest) = handle.take(alloc) else {
         return PlainReply::only(NO_MACHINE);
     };
@@ -130,13 +131,14 @@ pub extern "C" fn wasmi_machine_new_segment(
     reply
 }
 
-/// How many bytes and elements the machine has. Its cost grows with the number of memories and
-/// tables that were ever made. Where the handle has no machine the status is `NO_MACHINE`, and the
-/// totals are 0.
+/// How many bytes and elements the machine has. Without caps its cost grows with the number of
+/// memories and tables that were ever made. Where the handle has no machine the status is
+/// `NO_MACHINE`, and the totals are 0.
 #[unsafe(no_mangle)]
 pub extern "C" fn wasmi_machine_totals(alloc: Global, handle: &mut Handle) -> Totals
-    ensures { InPlace no_totals handle.old.guest.held result handle.new.guest.held
+    ensures step { InPlace no_totals handle.old.guest.held result handle.new.guest.held
         (λ guest guest'. (guest' ≡ guest) × (result ≡ totals_of guest)) }
+    ensures caps { StaysWithinCaps handle.old.guest.held handle.new.guest.held }
 {
     let Some(guest) = handle.take(alloc) else {
         return Totals {
@@ -160,8 +162,10 @@ pub extern "C" fn wasmi_machine_consume_fuel(
     handle: &mut Handle,
     amount: u64,
 ) -> PlainReply
-    ensures { InPlace (only no_machine_status) handle.old.guest.held result handle.new.guest.held
+    ensures step { InPlace (only no_machine_status) handle.old.guest.held
+        result handle.new.guest.held
         (λ guest guest'. TakesFuel amount guest result guest') }
+    ensures caps { StaysWithinCaps handle.old.guest.held handle.new.guest.held }
 {
     let Some(mut guest) = handle.take(alloc) else {
         return PlainReply::only(NO_MACHINE);

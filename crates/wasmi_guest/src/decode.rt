@@ -128,6 +128,7 @@ impl PlainCall {
             RegisterCall::Ternary => self.ternary_call(),
             RegisterCall::ExtractLane => self.extract_lane_call(),
             RegisterCall::ReplaceLane => self.replace_lane_call(),
+            RegisterCall::Shuffle => self.shuffle_call(),
         }
     }
 }

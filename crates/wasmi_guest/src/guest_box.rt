@@ -1,7 +1,7 @@
 //! A guest on the heap, or none.
 ghost use Rattle.std.specs.Prelude.{◌≡◌, Option, Some, None, IsSome};
 ghost use Rattle.wasmi_guest.specs.GuestBox.{box_or_none_owns, held_coded};
-ghost use Rattle.wasmi_guest.specs.declared.guest.Guest.{Guest};
+ghost use Rattle.wasmi_guest.specs.Caps.{GuestValue};
 
 use crate::box_fields::BoxFields;
 use crate::guest::Guest;
@@ -17,12 +17,15 @@ pub struct GuestBox {
     at: *mut u8,
     alloc: Global,
     /// The guest, if there is one.
-    pub ghost held: { Option Guest } by { held_coded },
+    pub ghost held: { Option GuestValue } by { held_coded },
 }
 
 impl Model for GuestBox {
     ghost also_owns = { λ s. box_or_none_owns s.alloc s.at s.held };
 }
+
+// A proof in `proofs/guest_box/GuestBox/TheSendSync` shows it.
+unsafe impl Send for GuestBox {}
 
 impl GuestBox {
     /// No guest. It takes no memory.

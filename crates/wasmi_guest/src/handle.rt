@@ -16,6 +16,8 @@ pub struct Handle {
 }
 
 impl Handle {
+    ghost use Rattle.wasmi_guest.specs.Caps.{IsCapped};
+
     fn empty(alloc: Global) -> Handle
         ensures { result.guest.held ≡ None }
     {
@@ -60,8 +62,18 @@ impl Handle {
     pub fn put(&mut self, guest: Box<Guest>)
         requires empty { self.old.guest.held ≡ None }
         ensures held { self.new.guest.held ≡ Some guest.entry.value }
+        ensures within { IsCapped guest.entry.value }
     {
+        guest.tell_within();
         let Handle { guest, is_made: _ } = mem::replace(self, Handle::of(guest));
         guest.end();
     }
 }
+
+/// Does nothing: that it is proved says that a handle may go to another thread.
+pub fn handles_may_move() {
+    may_move::<Handle>();
+}
+
+/// Does nothing: it can be called at a type that may go to another thread, and at no other.
+fn may_move<T: Send>() {}

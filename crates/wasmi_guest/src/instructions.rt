@@ -2,11 +2,13 @@
 //!
 //! A number is one of `include/wasmi_core.h`: the place in the lists of a shape, one after another.
 ghost use Rattle.std.specs.Prelude.{◌≡◌};
-ghost use Rattle.wasmi_guest.specs.Ops.{binary_at, binary_call, extract_lane_call, extraction_at, lane_load_at, lane_store_at, load_at, load_call, load_lane_call, make_at, op_at, replace_lane_call, replacement_at, shift_at, store_at, store_call, store_lane_call, ternary_at, ternary_call, test_at, unary_at, unary_call, vector_load_at};
+ghost use Rattle.wasmi_guest.specs.Ops.{binary_at, binary_call, extract_lane_call, extraction_at, lane_load_at, lane_store_at, load_at, load_call, load_lane_call, make_at, op_at, replace_lane_call, replacement_at, shift_at, shuffle_call, store_at, store_call, store_lane_call, ternary_at, ternary_call, test_at, unary_at, unary_call, vector_load_at};
+ghost use Rattle.wasmi_guest.specs.Types.{lanes_of};
 
 use crate::plain::PlainCall;
 use crate::types::narrow;
 use wasmi_core::Call;
+use wasmi_lanes::ImmLaneIdx32;
 use wasmi_ops::{
     BINARIES, BinaryOp, EXTRACTIONS, ExtractKind, LANE_LOADS, LANE_STORES, LOADS, LoadLaneKind,
     LoadOp, MAKES, MakeOp, REPLACEMENTS, ReplaceKind, SHIFTS, STORES, ShiftOp, StoreLaneKind,
@@ -267,4 +269,23 @@ impl PlainCall {
             item: self.b,
         })
     }
+
+    /// A shuffle of the bytes of two registers.
+    pub fn shuffle_call(&self) -> Option<Call>
+        ensures { result ≡ shuffle_call self.now }
+    {
+        Some(Call::Shuffle {
+            dst: self.dst,
+            a: self.a,
+            b: self.b,
+            lanes: lanes_of(self.lanes)?,
+        })
+    }
+}
+
+/// The lanes of these indices, if there are such lanes.
+fn lanes_of(indices: [u8; 16]) -> Option<[ImmLaneIdx32; 16]>
+    ensures { result ≡ lanes_of indices }
+{
+    indices.try_map(|index| ImmLaneIdx32::try_from(index)).ok()
 }

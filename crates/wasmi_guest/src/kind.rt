@@ -70,10 +70,11 @@ pub enum RegisterCall {
     Ternary,
     ExtractLane,
     ReplaceLane,
+    Shuffle,
 }
 
 /// The kinds of calls, by number.
-pub const KINDS: [Kind; 28] = [
+pub const KINDS: [Kind; 29] = [
     Kind::Meter(MeterCall::SetFuel),
     Kind::Meter(MeterCall::GetFuel),
     Kind::Memory(MemoryCall::NewMemory),
@@ -102,6 +103,7 @@ pub const KINDS: [Kind; 28] = [
     Kind::Register(RegisterCall::Ternary),
     Kind::Register(RegisterCall::ExtractLane),
     Kind::Register(RegisterCall::ReplaceLane),
+    Kind::Register(RegisterCall::Shuffle),
 ];
 
 impl Kind {

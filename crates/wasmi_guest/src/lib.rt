@@ -15,8 +15,9 @@ mod plain;
 mod replies;
 mod replying;
 mod status;
+mod stepping;
 mod types;
 
 pub use guest::Guest;
-pub use handle::Handle;
+pub use handle::{Handle, handles_may_move};
 pub use plain::{Limits, PlainCall, PlainReply, Totals, Words};

@@ -51,7 +51,7 @@ impl Words {
     }
 }
 
-/// What a machine is made with: its caps, and its meter with what work costs.
+/// What a machine is made with: its caps, if it has any, and its meter with what work costs.
 #[repr(C)]
 #[derive(Clone, Copy)]
 pub struct Limits {
@@ -67,6 +67,8 @@ pub struct Limits {
     pub fuel_per_bytes_validated: u32,
     /// Whether the meter is on: 0 is no. One that is on has no fuel at first.
     pub is_metered: u8,
+    /// Whether there are no caps: 0 is no. Where there are none, nothing is asked before a growth.
+    pub is_unlimited: u8,
 }
 
 /// A call as numbers: its kind, and its operands, of which each kind reads its own.
@@ -117,6 +119,8 @@ pub struct PlainCall {
     pub from: u64,
     /// A value.
     pub value: Words,
+    /// The sixteen lanes of a shuffle, each below 32: those of the second vector count from 16.
+    pub lanes: [u8; 16],
 }
 
 /// A reply as numbers. What a reply doesn't have is 0.

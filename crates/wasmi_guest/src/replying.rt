@@ -1,45 +1,68 @@
 //! What a machine with its quota does.
 ghost use Rattle.std.specs.Prelude.{◌≡◌, IfOk};
 ghost use Rattle.wasmi_core.specs.declared.calls.Call.TheVariants.{NewSegment, Write};
-ghost use Rattle.wasmi_guest.specs.Guests.{GuestReplies, IsNewGuest, ReadsOut, RepliesPlainly, RepliesToCopy, TakesFuel, totals_of};
+ghost use Rattle.wasmi_guest.specs.Caps.{caps_of};
+ghost use Rattle.wasmi_guest.specs.Guests.{GuestReplies, IsNewGuest, IsNewLimiter, ReadsOut, RepliesPlainly, RepliesToCopy, RepliesToSegment, TakesFuel, meter_of, totals_in, totals_of};
 
 use crate::guest::Guest;
 use crate::plain::{Limits, PlainCall, PlainReply, Totals, Words};
 use crate::replies::{fuel_refusal, memory_refusal};
 use crate::status::{DONE, NO_CALL, NO_ROOM, NO_SUCH};
+use crate::stepping::step;
+use crate::types::reference_type;
 use std::alloc::{AllocError, Global};
 use wasmi_core::{Call, Machine, Reply};
 use wasmi_meter::{CustomFuelCosts, Fuel, FuelCostsProvider, Quota};
 use wasmi_raw::RawRef;
-use wasmi_types::RefType;
+
+impl Limits {
+    /// The meter.
+    fn fuel(&self) -> Fuel
+        ensures { result ≡ meter_of self.now }
+    {
+        let costs = CustomFuelCosts {
+            bytes_copied_per_fuel: self.bytes_copied_per_fuel,
+            fuel_per_bytes_translated: self.fuel_per_bytes_translated,
+            fuel_per_bytes_validated: self.fuel_per_bytes_validated,
+        };
+        Fuel::new(self.is_metered != 0, FuelCostsProvider::custom(costs))
+    }
+
+    /// The quota of the caps, if there are caps.
+    fn quota(&self) -> Option<Quota>
+        ensures { IsNewLimiter self.now result }
+    {
+        if self.is_unlimited == 0 {
+            Some(Quota::new(self.bytes, self.elements))
+        } else {
+            None
+        }
+    }
+}
 
 impl Guest {
-    /// A machine with nothing on it, and a quota that holds nothing. It takes no memory.
+    /// A machine with nothing on it, and its quota. It takes no memory.
     pub fn new(alloc: Global, limits: &Limits) -> Guest
         ensures { IsNewGuest limits.now result }
     {
-        let costs = CustomFuelCosts {
-            bytes_copied_per_fuel: limits.bytes_copied_per_fuel,
-            fuel_per_bytes_translated: limits.fuel_per_bytes_translated,
-            fuel_per_bytes_validated: limits.fuel_per_bytes_validated,
-        };
-        let fuel = Fuel::new(limits.is_metered != 0, FuelCostsProvider::custom(costs));
         Guest {
-            machine: Machine::new(alloc, fuel),
-            quota: Quota::new(limits.bytes, limits.elements),
+            machine: Machine::new(alloc, limits.fuel()),
+            quota: limits.quota(),
         }
     }
 
     /// Replies to one call.
-    pub fn reply(&mut self, call: &Call) -> Reply
-        ensures { GuestReplies call.now self.old result self.new }
+    fn reply(&mut self, call: &Call) -> Reply
+        ensures step { GuestReplies call.now self.old result self.new }
+        ensures caps { caps_of self.new.quota ≡ caps_of self.old.quota }
     {
-        self.machine.step_lending(call, &mut self.quota)
+        step(&mut self.machine, call, &mut self.quota)
     }
 
     /// Replies to the call that numbers stand for, if there is one.
     pub fn reply_plainly(&mut self, plain: &PlainCall) -> PlainReply
-        ensures { RepliesPlainly plain.now self.old result self.new }
+        ensures step { RepliesPlainly plain.now self.old result self.new }
+        ensures caps { caps_of self.new.quota ≡ caps_of self.old.quota }
     {
         match plain.call() {
             Some(call) => PlainReply::of(&self.reply(&call)),
@@ -62,7 +85,8 @@ impl Guest {
 
     /// Writes a copy of the caller's bytes over those of a memory from an offset on.
     pub fn write(&mut self, alloc: Global, memory: usize, offset: usize, bytes: &[u8]) -> PlainReply
-        ensures { RepliesToCopy (Write memory offset) bytes.now self.old result self.new }
+        ensures step { RepliesToCopy (Write memory offset) bytes.now self.old result self.new }
+        ensures caps { caps_of self.new.quota ≡ caps_of self.old.quota }
     {
         let Ok(bytes) = Vec::from_slice(alloc, bytes) else {
             return PlainReply::only(NO_ROOM);
@@ -74,34 +98,57 @@ impl Guest {
         }))
     }
 
-    /// Makes an element segment of a copy of the caller's references.
-    pub fn new_segment(&mut self, alloc: Global, ty: RefType, items: &[u32]) -> PlainReply
-        ensures { RepliesToCopy (NewSegment ty) items.now self.old result self.new }
+    /// Makes an element segment of a copy of the caller's references, if the number is one of a
+    /// reference type.
+    pub fn new_segment(&mut self, alloc: Global, ty: u8, items: &[u32]) -> PlainReply
+        ensures step { RepliesToSegment ty items.now self.old result self.new }
+        ensures caps { caps_of self.new.quota ≡ caps_of self.old.quota }
     {
+        let Some(ty) = reference_type(ty) else {
+            return PlainReply::only(NO_CALL);
+        };
         let Ok(items) = references(alloc, items) else {
             return PlainReply::only(NO_ROOM);
         };
         PlainReply::of(&self.reply(&Call::NewSegment { ty, items }))
     }
 
-    /// How many bytes and elements the machine has.
+    /// How many bytes and elements the machine has. A quota holds these numbers; without one they
+    /// are added up.
     pub fn totals(&self) -> Totals
         ensures { result ≡ totals_of self.now }
     {
-        Totals {
-            bytes: Words::of_wide(self.machine.total_bytes()),
-            elements: Words::of_wide(self.machine.total_elements()),
-            status: DONE,
+        match &self.quota {
+            Some(quota) => {
+                Totals::of(
+                    u128::from(quota.held_bytes()),
+                    u128::from(quota.held_elements()),
+                )
+            }
+            None => Totals::of(self.machine.total_bytes(), self.machine.total_elements()),
         }
     }
 
     /// Takes fuel that isn't a call's.
     pub fn consume_fuel(&mut self, amount: u64) -> PlainReply
-        ensures { TakesFuel amount self.old result self.new }
+        ensures step { TakesFuel amount self.old result self.new }
+        ensures caps { caps_of self.new.quota ≡ caps_of self.old.quota }
     {
         match self.machine.consume_fuel(amount) {
             Ok(left) => PlainReply::with_number(DONE, left),
             Err(error) => fuel_refusal(&error),
+        }
+    }
+}
+
+impl Totals {
+    fn of(bytes: u128, elements: u128) -> Totals
+        ensures { result ≡ totals_in bytes elements }
+    {
+        Totals {
+            bytes: Words::of_wide(bytes),
+            elements: Words::of_wide(elements),
+            status: DONE,
         }
     }
 }

@@ -2,10 +2,11 @@ use Rattle.std.proofs.Common.{inl, inr, refl}
 use Rattle.wasmi_guest.specs.Guests.{RepliesToCopy}
 use Rattle.wasmi_guest.proofs.guest.Guest.write.Goals as goal
 
-pub returns-in_default : goal.returns-in_default
+pub returns-in_default-clause-step : goal.returns-in_default-clause-step
 unfolding RepliesToCopy
-returns-in_default c = inl (c.only.ensures, refl)
+returns-in_default-clause-step c = inl (c.only.ensures, refl)
 
-pub returns : goal.returns
+pub returns-clause-step : goal.returns-clause-step
 unfolding RepliesToCopy
-returns c = inr (c.in-Ok.bytes, c.in-Ok.ensures.items, c.reply.result, c.reply.ensures, c.of.ensures)
+returns-clause-step c =
+    inr (c.in-Ok.bytes, c.in-Ok.ensures.items, c.reply.result, c.reply.ensures.step, c.of.ensures)

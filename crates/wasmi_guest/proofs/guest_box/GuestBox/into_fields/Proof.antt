@@ -27,7 +27,7 @@ use Rattle.std_alloc.proofs.BoxSteps.Form.{D, word, box_typed}
 use Rattle.std_alloc.proofs.BoxSteps.Steps.{box_out, box_in}
 use Rattle.wasmi_guest.proofs.GuestBoxLemmas.{E, FromGuestBox as From}
 use Rattle.wasmi_guest.proofs.GuestBoxLemmas.{found}
-use Rattle.wasmi_guest.specs.declared.guest.Guest.{Guest}
+use Rattle.wasmi_guest.specs.Caps.{GuestValue}
 use Rattle.wasmi_guest.specs.contracts.guest_box.GuestBox.{the_row as S}
 use Rattle.wasmi_guest.specs.contracts.guest_box.GuestBox.into_fields as F
 use Rattle.wasmi_guest.specs.contracts.guest_box.GuestBox.into_fields.Key.{name as #self}
@@ -54,7 +54,7 @@ module _ {M : Type 1} {𝓤 : Ura M} (𝓛 : Logic 𝓤) (at_mem : Memory → SP
       let v : D E = record { ptr = s.at; alloc = s.alloc; value = guest.0 } in
       let made : To.Denot = record { ptr = v.ptr; alloc = v.alloc; value = v.value } in
       split ! $ drop ! $ fsplit ! $ rewrite ! 0
-      (λ (held : Option Guest). ‵ (S.own_val (record { at = s.at; alloc = s.alloc; held = held }) z.0.4.0)) guest.1
+      (λ (held : Option GuestValue). ‵ (S.own_val (record { at = s.at; alloc = s.alloc; held = held }) z.0.4.0)) guest.1
       refl $
       box_out E ! v z.0.4.0
       (λ b o hv e ws fa. box_in E ! v b o v.value e refl $ use1 𝓛 (‵ (To.own_val made (word E hv b o ∷ [])))

@@ -1,0 +1,65 @@
+-- A quota holds what its machine has, whatever is called.
+use Rattle.std.proofs.Common.{◌≡◌, Option, Some, None, [], ◌∷◌, refl, sym, subst, ap, arith}
+use Rattle.std.proofs.lemmas.Option.{same_Some}
+use Rattle.std.specs.Prelude.{IfSome}
+use Rattle.std.specs.Borrow.{MutBor}
+use Rattle.std.specs.Option.{option_copied_mut}
+use Rattle.wasmi_meter.specs.Limiter.{optional_rules}
+use Rattle.wasmi_meter.specs.LimiterRef.{loan, lent_limiter, KeepsLoan, SameLoan}
+use Rattle.wasmi_meter.specs.declared.limiter_ref.LimiterRef.{LimiterRef}
+use Rattle.wasmi_meter.specs.Quota.{holdings, quota_rules, IsWithinCaps, SameCaps}
+use Rattle.wasmi_meter.specs.declared.limiter.Kind.TheVariants.{Bytes, Elements}
+use Rattle.wasmi_meter.specs.declared.quota.Quota.{Quota}
+use Rattle.wasmi_core.specs.Laws.{HoldsTotalsAlways, QuotasStayWithin}
+use Rattle.wasmi_core.specs.State.{State}
+use Rattle.wasmi_core.specs.Steps.{Answers}
+use Rattle.wasmi_core.specs.Totals.{HoldsTotals}
+use Rattle.wasmi_core.specs.World.{world}
+use Rattle.wasmi_core.specs.declared.calls.Call.{Call}
+use Rattle.wasmi_core.specs.declared.calls.Reply.{Reply}
+use Rattle.wasmi_guest.specs.Caps.{IsKept, IsCapped, caps_of}
+
+-- the same caps, kind by kind, are the same caps
+equal_caps : (quota quota' : Quota) → SameCaps quota quota' → caps_of (Some quota') ≡ caps_of (Some quota)
+equal_caps quota quota' same = λ i. Some (record { bytes = same Bytes i; elements = same Elements i })
+
+-- a quota that holds what a machine has does so after a call, within the same caps
+pub kept_by_call : HoldsTotalsAlways quota_rules holdings → QuotasStayWithin
+    → (call : Call) (s : State) (quota : Quota) (reply : Reply) (s' : State) (quota' : Quota) → IsKept s quota
+    → Answers (optional_rules quota_rules) call (world s (Some quota)) reply (world s' (Some quota'))
+    → IsKept s' quota' × (caps_of (Some quota') ≡ caps_of (Some quota))
+kept_by_call holds stays call s quota reply s' quota' kept (charge, written, step) =
+    let turns = record { call = call; reply = reply; charge = charge; written = written } ∷ [] in
+    let held = holds s quota kept.totals turns (world s' (Some quota')) (world s' (Some quota'), step, refl) in
+    let within = stays s quota kept.within turns (world s' (Some quota')) (world s' (Some quota'), step, refl) in
+    let same = sym (same_Some quota' within.0 within.1) in (
+      record {
+        totals = subst (λ q. HoldsTotals (holdings q) s') (sym (same_Some quota' held.0 held.1)) held.2;
+        within = subst IsWithinCaps same within.2;
+      },
+      equal_caps quota quota' (subst (SameCaps quota) same within.3),
+    )
+
+-- a machine whose quota holds what it has is within the caps
+pub kept_within : (s : State) (quota : Option Quota) → IfSome quota (IsKept s)
+    → IsCapped (record { machine = s; quota = quota })
+kept_within s None kept kind = tt
+kept_within s (Some quota) kept Bytes = omega (arith, kept.totals.bytes, kept.within Bytes)
+kept_within s (Some quota) kept Elements = omega (arith, kept.totals.elements, kept.within Elements)
+
+-- a limiter that isn't lent before a call isn't lent after it
+absent_after : (lent lent' : Option (MutBor Quota)) → lent ≡ None → SameLoan lent lent' → option_copied_mut lent' ≡ None
+absent_after None None absent same = refl
+absent_after None (Some l') absent same = absurd same
+absent_after (Some l) lent' absent same = absurd cc
+
+-- a call without a limiter is one before and after which there is none
+pub answers_freely : (call : Call) (s s' : State) (reply : Reply) (r r' : LimiterRef (MutBor Quota)) → loan r ≡ None
+    → KeepsLoan r r'
+    → Answers (optional_rules quota_rules) call (world s (lent_limiter r)) reply (world s' (lent_limiter r'))
+    → Answers (optional_rules quota_rules) call (world s None) reply (world s' None)
+answers_freely call s s' reply r r' absent same answers =
+    subst (λ l. Answers (optional_rules quota_rules) call (world s l) reply (world s' None))
+    (ap option_copied_mut absent)
+    (subst (λ l. Answers (optional_rules quota_rules) call (world s (lent_limiter r)) reply (world s' l))
+    (absent_after r.limiter r'.limiter absent same) answers)
