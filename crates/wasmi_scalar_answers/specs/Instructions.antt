@@ -42,21 +42,22 @@ natural_outcome (Ok number) = Number (pos number)
 natural_outcome (Err trap) = Trap trap
 
 -- one word, which writes an operand of this answer
-abbrev pub OfOne : {A : Type 0} → (List ℕ → A → Type 0) → (A → ScalarAnswer → Type 0) → LineWords → ScalarAnswer
+abbrev pub TakesOne : {A : Type 0} → (List ℕ → A → Type 0) → (A → ScalarAnswer → Type 0) → LineWords → ScalarAnswer
     → Type 0
-OfOne {A} Writes Answers words answer = (length words ≡ 1) × (x : A) × Writes (line_word words 0) x × Answers x answer
+TakesOne {A} Writes Answers words answer =
+    (length words ≡ 1) × (x : A) × Writes (line_word words 0) x × Answers x answer
 
 -- two words, which write the operands of this answer in their order
-abbrev pub OfTwo : {A : Type 0} → (List ℕ → A → Type 0) → (A → A → ScalarAnswer → Type 0) → LineWords → ScalarAnswer
+abbrev pub TakesTwo : {A : Type 0} → (List ℕ → A → Type 0) → (A → A → ScalarAnswer → Type 0) → LineWords → ScalarAnswer
     → Type 0
-OfTwo {A} Writes Answers words answer =
+TakesTwo {A} Writes Answers words answer =
     (length words ≡ 2) × (x : A) × (y : A) × Writes (line_word words 0) x × Writes (line_word words 1) y
     × Answers x y answer
 
 -- four words, which write the operands of this answer in their order
-abbrev pub OfFour : {A : Type 0} → (List ℕ → A → Type 0) → (A → A → A → A → ScalarAnswer → Type 0) → LineWords
+abbrev pub TakesFour : {A : Type 0} → (List ℕ → A → Type 0) → (A → A → A → A → ScalarAnswer → Type 0) → LineWords
     → ScalarAnswer → Type 0
-OfFour {A} Writes Answers words answer = (length words ≡ 4) × (a : A) × (b : A) × (c : A) × (d : A)
+TakesFour {A} Writes Answers words answer = (length words ≡ 4) × (a : A) × (b : A) × (c : A) × (d : A)
     × Writes (line_word words 0) a × Writes (line_word words 1) b × Writes (line_word words 2) c
     × Writes (line_word words 3) d × Answers a b c d answer
 
@@ -65,109 +66,109 @@ abbrev pub Executing : Type 1
 Executing = LineWords → ScalarAnswer → Type 0
 
 -- a function of a number that is read signed
-abbrev pub OfOneSigned : (ℤ → ℤ) → Executing
-OfOneSigned operator = OfOne WritesInteger (λ x. Is (Number (operator x)))
+abbrev pub TakesOneSigned : (ℤ → ℤ) → Executing
+TakesOneSigned operator = TakesOne WritesInteger (λ x. Is (Number (operator x)))
 
 -- an operation on two numbers that are read signed
-abbrev pub OfTwoSigned : (ℤ → ℤ → ℤ) → Executing
-OfTwoSigned operator = OfTwo WritesInteger (λ x y. Is (Number (operator x y)))
+abbrev pub TakesTwoSigned : (ℤ → ℤ → ℤ) → Executing
+TakesTwoSigned operator = TakesTwo WritesInteger (λ x y. Is (Number (operator x y)))
 
 -- an operation on two numbers that are read signed, which may trap
-abbrev pub OfSignedOrTrap : (ℤ → ℤ → Result ℤ TrapCode) → Executing
-OfSignedOrTrap operator = OfTwo WritesInteger (λ x y. Is (outcome (operator x y)))
+abbrev pub TakesSignedOrTrap : (ℤ → ℤ → Result ℤ TrapCode) → Executing
+TakesSignedOrTrap operator = TakesTwo WritesInteger (λ x y. Is (outcome (operator x y)))
 
 -- an operation on two numbers that are read unsigned, which may trap
-abbrev pub OfUnsignedOrTrap : (ℕ → ℕ → Result ℕ TrapCode) → Executing
-OfUnsignedOrTrap operator = OfTwo WritesNatural (λ m n. Is (natural_outcome (operator m n)))
+abbrev pub TakesUnsignedOrTrap : (ℕ → ℕ → Result ℕ TrapCode) → Executing
+TakesUnsignedOrTrap operator = TakesTwo WritesNatural (λ m n. Is (natural_outcome (operator m n)))
 
 -- a comparison of two numbers that are read signed
-abbrev pub OfSignedComparison : (ℤ → ℤ → Bool) → Executing
-OfSignedComparison relation = OfTwo WritesInteger (λ x y. Is (boolean (relation x y)))
+abbrev pub TakesSignedComparison : (ℤ → ℤ → Bool) → Executing
+TakesSignedComparison relation = TakesTwo WritesInteger (λ x y. Is (boolean (relation x y)))
 
 -- a comparison of two numbers that are read unsigned
-abbrev pub OfUnsignedComparison : (ℕ → ℕ → Bool) → Executing
-OfUnsignedComparison relation = OfTwo WritesNatural (λ m n. Is (boolean (relation m n)))
+abbrev pub TakesUnsignedComparison : (ℕ → ℕ → Bool) → Executing
+TakesUnsignedComparison relation = TakesTwo WritesNatural (λ m n. Is (boolean (relation m n)))
 
 -- an operation on two numbers of 128 bits, each of two words
-abbrev pub OfTwoWide : (ℕ → ℕ → ℕ) → Executing
-OfTwoWide operator = OfFour WritesInteger (λ a b c d. UnsignedPair (operator (unsigned_of a b) (unsigned_of c d)))
+abbrev pub TakesTwoWide : (ℕ → ℕ → ℕ) → Executing
+TakesTwoWide operator = TakesFour WritesInteger (λ a b c d. UnsignedPair (operator (unsigned_of a b) (unsigned_of c d)))
 
 -- what an instruction of one operand answers for its words
 abbrev pub ExecutesUnary : ScalarUnaryOp → Executing
-ExecutesUnary unary.I32Clz = OfOneSigned (iclz w32)
-ExecutesUnary unary.I32Ctz = OfOneSigned (ictz w32)
-ExecutesUnary unary.I32Popcnt = OfOneSigned (ipopcnt w32)
-ExecutesUnary unary.I32Eqz = OfOne WritesInteger (λ x. Is (boolean (ieqz x)))
-ExecutesUnary unary.I64Clz = OfOneSigned (iclz w64)
-ExecutesUnary unary.I64Ctz = OfOneSigned (ictz w64)
-ExecutesUnary unary.I64Popcnt = OfOneSigned (ipopcnt w64)
-ExecutesUnary unary.I64Eqz = OfOne WritesInteger (λ x. Is (boolean (ieqz x)))
-ExecutesUnary unary.I32WrapI64 = OfOneSigned (int_wrap w32)
-ExecutesUnary unary.I64ExtendI32S = OfOneSigned (λ x. x)
-ExecutesUnary unary.I64ExtendI32U = OfOne WritesNatural (λ n. Is (Number (pos n)))
-ExecutesUnary unary.I32Extend8S = OfOneSigned (int_wrap w8)
-ExecutesUnary unary.I32Extend16S = OfOneSigned (int_wrap w16)
-ExecutesUnary unary.I64Extend8S = OfOneSigned (int_wrap w8)
-ExecutesUnary unary.I64Extend16S = OfOneSigned (int_wrap w16)
-ExecutesUnary unary.I64Extend32S = OfOneSigned (int_wrap w32)
+ExecutesUnary unary.I32Clz = TakesOneSigned (iclz w32)
+ExecutesUnary unary.I32Ctz = TakesOneSigned (ictz w32)
+ExecutesUnary unary.I32Popcnt = TakesOneSigned (ipopcnt w32)
+ExecutesUnary unary.I32Eqz = TakesOne WritesInteger (λ x. Is (boolean (ieqz x)))
+ExecutesUnary unary.I64Clz = TakesOneSigned (iclz w64)
+ExecutesUnary unary.I64Ctz = TakesOneSigned (ictz w64)
+ExecutesUnary unary.I64Popcnt = TakesOneSigned (ipopcnt w64)
+ExecutesUnary unary.I64Eqz = TakesOne WritesInteger (λ x. Is (boolean (ieqz x)))
+ExecutesUnary unary.I32WrapI64 = TakesOneSigned (int_wrap w32)
+ExecutesUnary unary.I64ExtendI32S = TakesOneSigned (λ x. x)
+ExecutesUnary unary.I64ExtendI32U = TakesOne WritesNatural (λ n. Is (Number (pos n)))
+ExecutesUnary unary.I32Extend8S = TakesOneSigned (int_wrap w8)
+ExecutesUnary unary.I32Extend16S = TakesOneSigned (int_wrap w16)
+ExecutesUnary unary.I64Extend8S = TakesOneSigned (int_wrap w8)
+ExecutesUnary unary.I64Extend16S = TakesOneSigned (int_wrap w16)
+ExecutesUnary unary.I64Extend32S = TakesOneSigned (int_wrap w32)
 
 -- what an instruction of two operands answers for their words
 abbrev pub ExecutesBinary : ScalarBinaryOp → Executing
-ExecutesBinary binary.I32Add = OfTwoSigned (iadd w32)
-ExecutesBinary binary.I32Sub = OfTwoSigned (isub w32)
-ExecutesBinary binary.I32Mul = OfTwoSigned (imul w32)
-ExecutesBinary binary.I32Bitand = OfTwoSigned (iand w32)
-ExecutesBinary binary.I32Bitor = OfTwoSigned (ior w32)
-ExecutesBinary binary.I32Bitxor = OfTwoSigned (ixor w32)
-ExecutesBinary binary.I32Shl = OfTwoSigned (ishl w32)
-ExecutesBinary binary.I32ShrS = OfTwoSigned (ishr_s w32)
-ExecutesBinary binary.I32ShrU = OfTwo WritesNatural (λ m n. Is (Number (pos (ishr_u w32 m n))))
-ExecutesBinary binary.I32Rotl = OfTwoSigned (irotl w32)
-ExecutesBinary binary.I32Rotr = OfTwoSigned (irotr w32)
-ExecutesBinary binary.I32DivS = OfSignedOrTrap (idiv_s w32)
-ExecutesBinary binary.I32DivU = OfUnsignedOrTrap idiv_u
-ExecutesBinary binary.I32RemS = OfSignedOrTrap irem_s
-ExecutesBinary binary.I32RemU = OfUnsignedOrTrap irem_u
-ExecutesBinary binary.I32Eq = OfSignedComparison ieq
-ExecutesBinary binary.I32Ne = OfSignedComparison ine
-ExecutesBinary binary.I32LtS = OfSignedComparison ilt_s
-ExecutesBinary binary.I32LtU = OfUnsignedComparison ilt_u
-ExecutesBinary binary.I32LeS = OfSignedComparison ile_s
-ExecutesBinary binary.I32LeU = OfUnsignedComparison ile_u
-ExecutesBinary binary.I32GtS = OfSignedComparison igt_s
-ExecutesBinary binary.I32GtU = OfUnsignedComparison igt_u
-ExecutesBinary binary.I32GeS = OfSignedComparison ige_s
-ExecutesBinary binary.I32GeU = OfUnsignedComparison ige_u
-ExecutesBinary binary.I64Add = OfTwoSigned (iadd w64)
-ExecutesBinary binary.I64Sub = OfTwoSigned (isub w64)
-ExecutesBinary binary.I64Mul = OfTwoSigned (imul w64)
-ExecutesBinary binary.I64Bitand = OfTwoSigned (iand w64)
-ExecutesBinary binary.I64Bitor = OfTwoSigned (ior w64)
-ExecutesBinary binary.I64Bitxor = OfTwoSigned (ixor w64)
-ExecutesBinary binary.I64Shl = OfTwoSigned (ishl w64)
-ExecutesBinary binary.I64ShrS = OfTwoSigned (ishr_s w64)
-ExecutesBinary binary.I64ShrU = OfTwo WritesNatural (λ m n. Is (Number (pos (ishr_u w64 m n))))
-ExecutesBinary binary.I64Rotl = OfTwoSigned (irotl w64)
-ExecutesBinary binary.I64Rotr = OfTwoSigned (irotr w64)
-ExecutesBinary binary.I64DivS = OfSignedOrTrap (idiv_s w64)
-ExecutesBinary binary.I64DivU = OfUnsignedOrTrap idiv_u
-ExecutesBinary binary.I64RemS = OfSignedOrTrap irem_s
-ExecutesBinary binary.I64RemU = OfUnsignedOrTrap irem_u
-ExecutesBinary binary.I64Eq = OfSignedComparison ieq
-ExecutesBinary binary.I64Ne = OfSignedComparison ine
-ExecutesBinary binary.I64LtS = OfSignedComparison ilt_s
-ExecutesBinary binary.I64LtU = OfUnsignedComparison ilt_u
-ExecutesBinary binary.I64LeS = OfSignedComparison ile_s
-ExecutesBinary binary.I64LeU = OfUnsignedComparison ile_u
-ExecutesBinary binary.I64GtS = OfSignedComparison igt_s
-ExecutesBinary binary.I64GtU = OfUnsignedComparison igt_u
-ExecutesBinary binary.I64GeS = OfSignedComparison ige_s
-ExecutesBinary binary.I64GeU = OfUnsignedComparison ige_u
-ExecutesBinary binary.I64Add128 = OfTwoWide add128
-ExecutesBinary binary.I64Sub128 = OfTwoWide sub128
-ExecutesBinary binary.I64MulWideS = OfTwo WritesInteger (λ x y. SignedPair (x *ℤ y))
+ExecutesBinary binary.I32Add = TakesTwoSigned (iadd w32)
+ExecutesBinary binary.I32Sub = TakesTwoSigned (isub w32)
+ExecutesBinary binary.I32Mul = TakesTwoSigned (imul w32)
+ExecutesBinary binary.I32Bitand = TakesTwoSigned (iand w32)
+ExecutesBinary binary.I32Bitor = TakesTwoSigned (ior w32)
+ExecutesBinary binary.I32Bitxor = TakesTwoSigned (ixor w32)
+ExecutesBinary binary.I32Shl = TakesTwoSigned (ishl w32)
+ExecutesBinary binary.I32ShrS = TakesTwoSigned (ishr_s w32)
+ExecutesBinary binary.I32ShrU = TakesTwo WritesNatural (λ m n. Is (Number (pos (ishr_u w32 m n))))
+ExecutesBinary binary.I32Rotl = TakesTwoSigned (irotl w32)
+ExecutesBinary binary.I32Rotr = TakesTwoSigned (irotr w32)
+ExecutesBinary binary.I32DivS = TakesSignedOrTrap (idiv_s w32)
+ExecutesBinary binary.I32DivU = TakesUnsignedOrTrap idiv_u
+ExecutesBinary binary.I32RemS = TakesSignedOrTrap irem_s
+ExecutesBinary binary.I32RemU = TakesUnsignedOrTrap irem_u
+ExecutesBinary binary.I32Eq = TakesSignedComparison ieq
+ExecutesBinary binary.I32Ne = TakesSignedComparison ine
+ExecutesBinary binary.I32LtS = TakesSignedComparison ilt_s
+ExecutesBinary binary.I32LtU = TakesUnsignedComparison ilt_u
+ExecutesBinary binary.I32LeS = TakesSignedComparison ile_s
+ExecutesBinary binary.I32LeU = TakesUnsignedComparison ile_u
+ExecutesBinary binary.I32GtS = TakesSignedComparison igt_s
+ExecutesBinary binary.I32GtU = TakesUnsignedComparison igt_u
+ExecutesBinary binary.I32GeS = TakesSignedComparison ige_s
+ExecutesBinary binary.I32GeU = TakesUnsignedComparison ige_u
+ExecutesBinary binary.I64Add = TakesTwoSigned (iadd w64)
+ExecutesBinary binary.I64Sub = TakesTwoSigned (isub w64)
+ExecutesBinary binary.I64Mul = TakesTwoSigned (imul w64)
+ExecutesBinary binary.I64Bitand = TakesTwoSigned (iand w64)
+ExecutesBinary binary.I64Bitor = TakesTwoSigned (ior w64)
+ExecutesBinary binary.I64Bitxor = TakesTwoSigned (ixor w64)
+ExecutesBinary binary.I64Shl = TakesTwoSigned (ishl w64)
+ExecutesBinary binary.I64ShrS = TakesTwoSigned (ishr_s w64)
+ExecutesBinary binary.I64ShrU = TakesTwo WritesNatural (λ m n. Is (Number (pos (ishr_u w64 m n))))
+ExecutesBinary binary.I64Rotl = TakesTwoSigned (irotl w64)
+ExecutesBinary binary.I64Rotr = TakesTwoSigned (irotr w64)
+ExecutesBinary binary.I64DivS = TakesSignedOrTrap (idiv_s w64)
+ExecutesBinary binary.I64DivU = TakesUnsignedOrTrap idiv_u
+ExecutesBinary binary.I64RemS = TakesSignedOrTrap irem_s
+ExecutesBinary binary.I64RemU = TakesUnsignedOrTrap irem_u
+ExecutesBinary binary.I64Eq = TakesSignedComparison ieq
+ExecutesBinary binary.I64Ne = TakesSignedComparison ine
+ExecutesBinary binary.I64LtS = TakesSignedComparison ilt_s
+ExecutesBinary binary.I64LtU = TakesUnsignedComparison ilt_u
+ExecutesBinary binary.I64LeS = TakesSignedComparison ile_s
+ExecutesBinary binary.I64LeU = TakesUnsignedComparison ile_u
+ExecutesBinary binary.I64GtS = TakesSignedComparison igt_s
+ExecutesBinary binary.I64GtU = TakesUnsignedComparison igt_u
+ExecutesBinary binary.I64GeS = TakesSignedComparison ige_s
+ExecutesBinary binary.I64GeU = TakesUnsignedComparison ige_u
+ExecutesBinary binary.I64Add128 = TakesTwoWide add128
+ExecutesBinary binary.I64Sub128 = TakesTwoWide sub128
+ExecutesBinary binary.I64MulWideS = TakesTwo WritesInteger (λ x y. SignedPair (x *ℤ y))
 ExecutesBinary binary.I64MulWideU =
-    OfTwo WritesInteger (λ x y. UnsignedPair (cast_unsigned w64 x * cast_unsigned w64 y))
+    TakesTwo WritesInteger (λ x y. UnsignedPair (cast_unsigned w64 x * cast_unsigned w64 y))
 
 -- what the instruction of a name answers for the words of its operands
 abbrev pub ExecutesNamed : List ℕ → Executing

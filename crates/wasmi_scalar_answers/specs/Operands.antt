@@ -1,11 +1,8 @@
 -- What the words of a line write.
 use Rattle.std.specs.Prelude.{◌≡◌, ℕ, ℤ, List, [], slice_index_or}
-use Rattle.std.specs.Borrow.{Bor}
 use Rattle.std.specs.Str.Parse.{IsNumeral, digits_value, signed_digits_value, without_leading_plus, without_leading_sign}
-
 -- the words of a line
-abbrev pub LineWords : Type 0
-LineWords = List (Bor (List ℕ))
+pub use Rattle.wasmi_operands.specs.LineWords.{LineWords}
 
 -- the text of the word at this place, which is empty past the end
 abbrev pub line_word : LineWords → ℕ → List ℕ

@@ -1,6 +1,6 @@
 //! Calls of a function of numbers with the numbers that words write.
 ghost use Rattle.std.specs.Prelude.{IfSome, Ok};
-ghost use Rattle.wasmi_scalar_answers.specs.Instructions.{OfOne, OfTwo, OfFour};
+ghost use Rattle.wasmi_scalar_answers.specs.Instructions.{TakesOne, TakesTwo, TakesFour};
 
 use crate::number::number;
 use crate::scalar_answer::ScalarAnswer;
@@ -15,7 +15,7 @@ where
     F: FnOnce(T) -> R + Drop,
     requires callable { F.IsAlwaysCallable function }
     ensures answer { IfSome result
-        (OfOne (λ word value. T.from_str_gives word (Ok value))
+        (TakesOne (λ word value. T.from_str_gives word (Ok value))
         (λ value answer. (output : R) × F.post function value output × R.converts output answer)
         operands.now) }
 {
@@ -35,7 +35,7 @@ where
     F: FnOnce(T, T) -> R + Drop,
     requires callable { F.IsAlwaysCallable function }
     ensures answer { IfSome result
-        (OfTwo (λ word value. T.from_str_gives word (Ok value))
+        (TakesTwo (λ word value. T.from_str_gives word (Ok value))
         (λ lhs rhs answer. (output : R) × F.post function lhs rhs output × R.converts output answer)
         operands.now) }
 {
@@ -56,7 +56,7 @@ where
     F: FnOnce(T, T, T, T) -> R + Drop,
     requires callable { F.IsAlwaysCallable function }
     ensures answer { IfSome result
-        (OfFour (λ word value. T.from_str_gives word (Ok value))
+        (TakesFour (λ word value. T.from_str_gives word (Ok value))
         (λ lhs_lo lhs_hi rhs_lo rhs_hi answer. (output : R)
         × F.post function lhs_lo lhs_hi rhs_lo rhs_hi output × R.converts output answer)
         operands.now) }
