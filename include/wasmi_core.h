@@ -4,13 +4,14 @@
    (wasmi_script_run). A machine with memories, fuel and limits that lives across calls is in wasmi_machine.h.
 
    Pointers: value and needed must not be NULL. An array is a pointer and a number of elements, of at most PTRDIFF_MAX
-   bytes; the pointer may be NULL only where that number is 0. What a call writes must not overlap with anything else
+   bytes; the pointer may be NULL only if that number is 0. What a call writes must not overlap with anything else
    that the call takes. No pointer is kept.
 
-   Threads: calls may be made from several threads at once, where none writes what another one reads or writes.
+   Threads: calls may be made from several threads at once, as long as none writes what another one reads or writes.
 
    Numbers: an instruction keeps its number in every later version, and so does a status; new instructions have the
-   numbers after the last one of their kind. */
+   numbers after the last one of their kind. The name of a number has the kind before the instruction, as in
+   WASMI_UNARY_I32_CLZ and WASMI_LOAD_I32_LOAD8_S. */
 #ifndef WASMI_CORE_H
 #define WASMI_CORE_H
 
@@ -32,7 +33,7 @@ extern "C" {
    A Boolean is 0 or 1. */
 typedef struct { uint64_t lo, hi; } wasmi_words;
 
-/* What an instruction gives for one element of an array: the value, or 0 where it traps, and the status. */
+/* What an instruction gives for one element of an array: the value, or 0 if it traps, and the status. */
 typedef struct { wasmi_words value; uint8_t status; } wasmi_result;
 
 /* What each call except wasmi_script_run returns. The statuses below 253 are the numbers of traps, and an instruction
@@ -53,19 +54,19 @@ enum {
 
 /* Runs a script of at most 1,048,576 bytes (docs/SCRIPT.md) and writes what it prints to the front of text; *needed is
    the length of that in bytes. The status is that of the program:
-   0: every call was answered, refusals included;
+   0: every call has a reply, refusals included;
    2: a line is no command, or the script is too long; the text says which;
    3: out of memory while reading, parsing, or for the replies; the text says so;
-   4: out of memory while writing: the text is a front of what the script prints;
-   or 5: text_len is below *needed, and text is as it was: call again with *needed bytes. */
+   4: out of memory while writing: the text is only the beginning of what the script prints;
+   5: text_len is below *needed, and text is unchanged: call again with *needed bytes. */
 enum {
     WASMI_TEXT_TOO_SHORT = 5
 };
 uint8_t wasmi_script_run(const uint8_t *script, size_t script_len, uint8_t *text, size_t text_len, size_t *needed);
 
-/* An instruction by its number, which is one of the table below: on values, and on each element of arrays, which all
-   have one length. Of these instructions only those of two operands trap. A shift of a vector takes its amount from
-   the low 32 bits of b. */
+/* Executes the instruction that has a number in the table below, on values or on each element of arrays, which all
+   have the same length. Of these instructions only those of two operands trap. A shift of a vector takes its amount
+   from the low 32 bits of b. */
 uint8_t wasmi_unary(uint16_t number, wasmi_words a, wasmi_words *value);
 uint8_t wasmi_unary_each(uint16_t number, const wasmi_words *a, size_t a_len, wasmi_words *values, size_t values_len);
 uint8_t wasmi_binary(uint16_t number, wasmi_words a, wasmi_words b, wasmi_words *value);
@@ -75,8 +76,9 @@ uint8_t wasmi_ternary(uint16_t number, wasmi_words a, wasmi_words b, wasmi_words
 uint8_t wasmi_ternary_each(uint16_t number, const wasmi_words *a, size_t a_len, const wasmi_words *b, size_t b_len,
                            const wasmi_words *c, size_t c_len, wasmi_words *values, size_t values_len);
 
-/* A load or a store at ptr + offset, a sum that does not wrap, on bytes of the caller's: of one value, and of one for
-   each element of ptrs, with as many results. */
+/* Loads and stores at ptr + offset, a sum that does not wrap, on bytes of the caller's. wasmi_load_each loads a value
+   for each element of ptrs; there are as many results. The loads and stores of whole integers (i32.load, i64.load,
+   i32.store, i64.store) are load_u32, load_u64, store32 and store64. */
 uint8_t wasmi_load(uint16_t number, const uint8_t *memory, size_t memory_len, uint64_t ptr, uint64_t offset,
                    wasmi_words *value);
 uint8_t wasmi_load_each(uint16_t number, const uint8_t *memory, size_t memory_len, const uint64_t *ptrs,
@@ -84,8 +86,8 @@ uint8_t wasmi_load_each(uint16_t number, const uint8_t *memory, size_t memory_le
 uint8_t wasmi_store(uint16_t number, uint8_t *memory, size_t memory_len, uint64_t ptr, uint64_t offset,
                     wasmi_words value);
 
-/* An instruction on one lane, of which the index is below the number of lanes: on values, and on each element of
-   arrays, which all have one length. A replacement takes its item from the second operand. */
+/* Executes an instruction on one lane, whose index is below the number of lanes, on values or on each element of
+   arrays, which all have the same length. A replacement takes its item from the second operand. */
 uint8_t wasmi_extract_lane(uint16_t number, uint8_t lane, wasmi_words a, wasmi_words *value);
 uint8_t wasmi_extract_lane_each(uint16_t number, uint8_t lane, const wasmi_words *a, size_t a_len, wasmi_words *values,
                                 size_t values_len);

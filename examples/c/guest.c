@@ -1,4 +1,4 @@
-/* A guest memory that is grown under fuel and a limit, a table, and what is refused. It is C and C++. */
+/* A guest memory that is grown under fuel and a limit, a table, a shuffle, and what is refused. It is C and C++. */
 #include "wasmi_machine.h"
 #include <inttypes.h>
 #include <stdio.h>
@@ -72,14 +72,38 @@ static void tables(void) {
            element.reference);
 }
 
+static void vectors(void) {
+    wasmi_call set = of_kind(WASMI_CALL_SET_REGISTER, 0);
+    set.value.lo = UINT64_C(0x0706050403020100);
+    set.value.hi = UINT64_C(0x0f0e0d0c0b0a0908);
+    made("set register 0", set);
+    set.dst = 1;
+    set.value.lo |= UINT64_C(0x1010101010101010);
+    set.value.hi |= UINT64_C(0x1010101010101010);
+    made("set register 1", set);
+    wasmi_call shuffle = of_kind(WASMI_CALL_SHUFFLE, 0);
+    for (int i = 0; i < 16; i++) {
+        shuffle.lanes[i] = (uint8_t)(31 - 2 * i);
+    }
+    shuffle.b = 1;
+    shuffle.dst = 2;
+    made("every second byte", shuffle);
+    wasmi_call get = of_kind(WASMI_CALL_GET_REGISTER, 0);
+    get.a = 2;
+    made("register 2", get);
+    shuffle.lanes[15] = 32;
+    made("no such lane", shuffle);
+}
+
 int main(void) {
-    const wasmi_limits limits = {4 * 65536, 16, 64, 7, 2, 1};
+    const wasmi_limits limits = {4 * 65536, 16, 64, 7, 2, 1, 0};
     made("call without machine", of_kind(WASMI_CALL_GET_FUEL, 0));
     printf("%-22s status %d\n", "new", wasmi_machine_new(&machine, &limits));
     printf("%-22s status %d\n", "new again", wasmi_machine_new(&machine, &limits));
     memories();
     accesses();
     tables();
+    vectors();
     made("no such kind", of_kind(1000, 0));
     wasmi_totals totals = wasmi_machine_totals(&machine);
     printf("%-22s %" PRIu64 " bytes, %" PRIu64 " elements\n", "totals", totals.bytes.lo, totals.elements.lo);
