@@ -1,0 +1,796 @@
+/* Calls the machines of include/wasmi_machine.h as a hostile host would, and compares each random sequence of calls
+   with the same calls as a script (docs/SCRIPT.md). usage: machine CALLS [SEED]. It prints a line for each part, and
+   last `N calls, M differ`; the exit status is 0 if M is 0. Link it with --wrap for malloc, realloc and free. */
+#define _DEFAULT_SOURCE
+#include "wasmi_machine.h"
+#include <inttypes.h>
+#include <pthread.h>
+#include <stdarg.h>
+#include <stddef.h>
+#include <stdio.h>
+#include <stdlib.h>
+#include <string.h>
+#include <sys/mman.h>
+
+enum { PAGE = 65536, TEXT = 1 << 16, SEQUENCE = 60, THREADS = 4, KINDS = 29, REGISTERS = 5, MOST_LINE = 512 };
+
+static _Thread_local long calls, differing;
+
+/* Requests for memory: one of them can be refused, by its number, and each of more than 4 MiB is. */
+
+enum { MOST_BYTES = 1 << 22 };
+
+extern void *__real_malloc(size_t size);
+extern void *__real_realloc(void *old, size_t size);
+extern void __real_free(void *old);
+void *__wrap_malloc(size_t size);
+void *__wrap_realloc(void *old, size_t size);
+void __wrap_free(void *old);
+
+static _Thread_local long requests, refused, blocks;
+
+static int is_refused(size_t size) {
+    requests++;
+    return requests == refused || size > MOST_BYTES;
+}
+
+void *__wrap_malloc(size_t size) {
+    void *block = is_refused(size) ? NULL : __real_malloc(size);
+    blocks += block != NULL;
+    return block;
+}
+
+void *__wrap_realloc(void *old, size_t size) {
+    void *block = is_refused(size) ? NULL : __real_realloc(old, size);
+    blocks += block != NULL && old == NULL;
+    return block;
+}
+
+void __wrap_free(void *old) {
+    blocks -= old != NULL;
+    __real_free(old);
+}
+
+/* A copy that ends where a page begins which can't be touched; there is one copy of each use at a time. */
+
+enum use { OF_CALL, OF_ARRAY, USES };
+
+static void *at_edge(enum use use, const void *from, size_t len) {
+    static _Thread_local uint8_t *regions[USES];
+    if (regions[use] == NULL) {
+        void *region = mmap(NULL, 2 * PAGE, PROT_READ | PROT_WRITE, MAP_PRIVATE | MAP_ANONYMOUS, -1, 0);
+        if (region == MAP_FAILED || mprotect((uint8_t *)region + PAGE, PAGE, PROT_NONE) != 0) {
+            fprintf(stderr, "no page at whose end an array could lie\n");
+            exit(2);
+        }
+        regions[use] = region;
+    }
+    void *copy = regions[use] + PAGE - len;
+    if (len > 0) {
+        memcpy(copy, from, len);
+    }
+    return copy;
+}
+
+static wasmi_reply called(wasmi_machine *machine, wasmi_call call) {
+    /* The struct lies at a multiple of 8, and its size is one. */
+    calls++;
+    return wasmi_machine_call(machine, at_edge(OF_CALL, &call, sizeof call));
+}
+
+static void differs(const char *what, const char *more) {
+    differing++;
+    if (differing < 5) {
+        printf("%s\n%s\n", what, more);
+    }
+}
+
+/* Random numbers. */
+
+static _Thread_local uint64_t state;
+
+static uint64_t next(void) {
+    state += UINT64_C(0x9e3779b97f4a7c15);
+    uint64_t z = state;
+    z = (z ^ (z >> 30)) * UINT64_C(0xbf58476d1ce4e5b9);
+    z = (z ^ (z >> 27)) * UINT64_C(0x94d049bb133111eb);
+    return z ^ (z >> 31);
+}
+
+static uint64_t below(uint64_t most) {
+    return next() % most;
+}
+
+/* A number that is small, within some pages, or next to a border. */
+static uint64_t number(void) {
+    static const uint64_t borders[] = {1 << 8, PAGE, UINT64_C(1) << 32, UINT64_C(1) << 48, UINT64_C(1) << 63, 0};
+    uint64_t form = below(8);
+    return form < 5 ? below(5) : form < 7 ? below(3 * PAGE) : borders[below(6)] + below(5) - 2;
+}
+
+/* Calls as lines of a script. */
+
+#define NAME(number, name) #name,
+static const char *const UNARIES[] = {WASMI_UNARY_NAMES(NAME)};
+static const char *const BINARIES[] = {WASMI_BINARY_NAMES(NAME)};
+static const char *const TERNARIES[] = {WASMI_TERNARY_NAMES(NAME)};
+static const char *const EXTRACTIONS[] = {WASMI_EXTRACT_LANE_NAMES(NAME)};
+static const char *const REPLACEMENTS[] = {WASMI_REPLACE_LANE_NAMES(NAME)};
+static const char *const LOADS[] = {WASMI_LOAD_NAMES(NAME)};
+static const char *const STORES[] = {WASMI_STORE_NAMES(NAME)};
+static const char *const LANE_LOADS[] = {WASMI_LOAD_LANE_NAMES(NAME)};
+static const char *const LANE_STORES[] = {WASMI_STORE_LANE_NAMES(NAME)};
+
+/* The first number of each command in a list of several commands. */
+enum { FIRST_MAKE = 16, FIRST_UNARY = 28, FIRST_TEST = 54, FIRST_SHIFT = 150 };
+enum { FIRST_VECTOR_LOAD = 12, VECTOR_STORE = 7 };
+
+static const char *name_of(const char *const *names, size_t count, uint16_t op) {
+    return op < count ? names[op] : "unknown";
+}
+#define NAME_OF(names, op) name_of(names, sizeof names / sizeof names[0], op)
+
+static const char *reference_word(uint8_t type) {
+    return type == WASMI_TYPE_FUNCREF ? "func" : type == WASMI_TYPE_EXTERNREF ? "extern" : "unknown";
+}
+
+static const char *type_word(uint8_t type) {
+    static const char *const words[] = {"i32", "i64", "f32", "f64", "v128", "funcref", "externref"};
+    return type < 7 ? words[type] : "unknown";
+}
+
+static char *put(char *at, const char *format, ...) {
+    va_list words;
+    va_start(words, format);
+    at += vsnprintf(at, MOST_LINE, format, words);
+    va_end(words);
+    return at;
+}
+
+#define U " %" PRIu64
+
+static char *maximum_word(char *at, const wasmi_call *c) {
+    return c->has_maximum ? put(at, U, c->maximum) : put(at, " none");
+}
+
+static char *memory_line(char *at, const wasmi_call *c) {
+    switch (c->kind) {
+        case WASMI_CALL_NEW_MEMORY:
+            at = maximum_word(put(at, "memory" U, c->count), c);
+            return put(at, " %d %d", c->page_size_log2, c->is_64 ? 64 : 32);
+        case WASMI_CALL_GROW_MEMORY: return put(at, "grow %zu" U, c->index, c->count);
+        case WASMI_CALL_DROP_MEMORY: return put(at, "drop memory %zu", c->index);
+        case WASMI_CALL_LOAD:
+            return c->op < FIRST_VECTOR_LOAD
+                ? put(at, "load %s %zu" U U, NAME_OF(LOADS, c->op), c->index, c->ptr, c->offset)
+                : put(at, "vload %s %d %zu" U U, NAME_OF(LOADS, c->op), c->dst, c->index, c->ptr, c->offset);
+        case WASMI_CALL_STORE:
+            return c->op == VECTOR_STORE
+                ? put(at, "vstore %d %zu" U U, c->a, c->index, c->ptr, c->offset)
+                : put(at, "store %s %zu" U U U, NAME_OF(STORES, c->op), c->index, c->ptr, c->offset, c->value.lo);
+        case WASMI_CALL_LOAD_LANE:
+            at = put(at, "vloadlane %s %d %d %d", NAME_OF(LANE_LOADS, c->op), c->dst, c->a, c->lane);
+            return put(at, " %zu" U U, c->index, c->ptr, c->offset);
+        default:
+            at = put(at, "vstorelane %s %d %d", NAME_OF(LANE_STORES, c->op), c->a, c->lane);
+            return put(at, " %zu" U U, c->index, c->ptr, c->offset);
+    }
+}
+
+static char *table_line(char *at, const wasmi_call *c) {
+    const char *type = reference_word(c->type);
+    switch (c->kind) {
+        case WASMI_CALL_NEW_TABLE:
+            at = maximum_word(put(at, "table %s" U, type, c->count), c);
+            return put(at, " %d %s %" PRIu32, c->is_64 ? 64 : 32, type, c->reference);
+        case WASMI_CALL_GROW_TABLE:
+            return put(at, "tgrow %zu" U " %s %" PRIu32, c->index, c->count, type, c->reference);
+        case WASMI_CALL_DROP_TABLE: return put(at, "drop table %zu", c->index);
+        case WASMI_CALL_GET_ELEMENT: return put(at, "get %zu" U, c->index, c->to);
+        case WASMI_CALL_SET_ELEMENT:
+            return put(at, "tset %zu" U " %s %" PRIu32, c->index, c->to, type, c->reference);
+        case WASMI_CALL_INIT_TABLE:
+            return put(at, "init %zu %zu" U U U, c->index, c->source, c->to, c->from, c->count);
+        case WASMI_CALL_COPY_TABLE:
+            return put(at, "copy %zu" U " %zu" U U, c->index, c->to, c->source, c->from, c->count);
+        case WASMI_CALL_FILL_TABLE:
+            return put(at, "fill %zu" U " %s %" PRIu32 U, c->index, c->to, type, c->reference, c->count);
+        default: return put(at, "empty %zu", c->index);
+    }
+}
+
+static char *vector_line(char *at, const wasmi_call *c) {
+    switch (c->kind) {
+        case WASMI_CALL_UNARY:
+            if (c->op >= FIRST_TEST) {
+                return put(at, "test %s %d", NAME_OF(UNARIES, c->op), c->a);
+            }
+            at = put(at, c->op < FIRST_MAKE || c->op >= FIRST_UNARY ? "unary" : "make");
+            return put(at, " %s %d %d", NAME_OF(UNARIES, c->op), c->dst, c->a);
+        case WASMI_CALL_BINARY:
+            at = put(at, c->op < FIRST_SHIFT ? "binary" : "shift");
+            at = put(at, " %s %d %d", NAME_OF(BINARIES, c->op), c->dst, c->a);
+            return put(at, U, c->op < FIRST_SHIFT ? c->b : c->count);
+        case WASMI_CALL_TERNARY:
+            return put(at, "ternary %s %d %d %d %d", NAME_OF(TERNARIES, c->op), c->dst, c->a, c->b, c->c);
+        case WASMI_CALL_EXTRACT_LANE: return put(at, "extract %s %d %d", NAME_OF(EXTRACTIONS, c->op), c->a, c->lane);
+        case WASMI_CALL_REPLACE_LANE:
+            return put(at, "replace %s %d %d %d %d", NAME_OF(REPLACEMENTS, c->op), c->dst, c->a, c->lane, c->b);
+        default:
+            at = put(at, "shuffle %d %d %d", c->dst, c->a, c->b);
+            for (int i = 0; i < 16; i++) {
+                at = put(at, " %d", c->lanes[i]);
+            }
+            return at;
+    }
+}
+
+static char *line_of(char *at, const wasmi_call *c) {
+    switch (c->kind) {
+        case WASMI_CALL_SET_FUEL: return put(at, "fuel" U, c->count);
+        case WASMI_CALL_GET_FUEL: return put(at, "left");
+        case WASMI_CALL_NEW_GLOBAL:
+            at = put(at, "global %s %s", type_word(c->type), c->is_mutable ? "var" : "const");
+            return put(at, U U, c->value.lo, c->value.hi);
+        case WASMI_CALL_SET_GLOBAL:
+            return put(at, "gset %zu %s" U U, c->index, type_word(c->type), c->value.lo, c->value.hi);
+        case WASMI_CALL_GET_GLOBAL: return put(at, "gget %zu", c->index);
+        case WASMI_CALL_SET_REGISTER: return put(at, "set %d" U U, c->dst, c->value.lo, c->value.hi);
+        case WASMI_CALL_GET_REGISTER: return put(at, "show %d", c->a);
+        default:
+            return c->kind <= WASMI_CALL_STORE_LANE  ? memory_line(at, c)
+                 : c->kind <= WASMI_CALL_DROP_ITEMS  ? table_line(at, c)
+                 : c->kind <= WASMI_CALL_SHUFFLE     ? vector_line(at, c)
+                                                     : put(at, "unknown");
+    }
+}
+
+/* Replies as the lines that a script prints. */
+
+static const char *refusal_of(uint8_t status) {
+    switch (status) {
+        case WASMI_MEMORY_OUT_OF_BOUNDS:
+        case WASMI_MEMORY_ACCESS: return "out of bounds memory access";
+        case WASMI_MEMORY_OUT_OF_MEMORY:
+        case WASMI_TABLE_OUT_OF_MEMORY: return "tried to allocate more virtual memory than available on the system";
+        case WASMI_MEMORY_GROWTH: return "out of bounds memory growth";
+        case WASMI_MEMORY_DENIED: return "a resource limiter denied to allocate or grow the linear memory";
+        case WASMI_MEMORY_SIZE_OVERFLOW: return "the minimum size of the memory type overflows the system index type";
+        case WASMI_TABLE_DENIED: return "a resource limiter denied to allocate or grow the table";
+        case WASMI_TABLE_GROWTH: return "out of bounds table access: `table.growth`";
+        case WASMI_TABLE_INIT: return "out of bounds table access: `table.init`";
+        case WASMI_TABLE_FILL: return "out of bounds table access: `table.fill`";
+        case WASMI_TABLE_SET: return "out of bounds table access: `table.set`";
+        case WASMI_TABLE_COPY: return "out of bounds table access: `table.copy`";
+        case WASMI_TABLE_TYPE: return "encountered mismatching table element type";
+        case WASMI_METERING_DISABLED: return "fuel metering is disabled";
+        case WASMI_GLOBAL_IMMUTABLE: return "tried to write to immutable global variable";
+        case WASMI_GLOBAL_TYPE: return "tried to write value of non-matching type to global variable";
+        case WASMI_SEGMENT_OUT_OF_MEMORY: return "out of memory";
+        default: return "unknown status";
+    }
+}
+
+static char *refusal_text(char *at, wasmi_reply reply) {
+    switch (reply.status) {
+        case WASMI_NO_SUCH: return put(at, "no such\n");
+        case WASMI_NO_ROOM: return put(at, "no room\n");
+        case WASMI_NO_ELEMENT: return put(at, "none\n");
+        case WASMI_MEMORY_OUT_OF_FUEL: return put(at, "error not enough fuel. required=%" PRIu64 "\n", reply.number);
+        case WASMI_TABLE_OUT_OF_FUEL: return put(at, "error not enough fuel: required=%" PRIu64 "\n", reply.number);
+        default: return put(at, "error %s\n", refusal_of(reply.status));
+    }
+}
+
+static int gives_value(const wasmi_call *c) {
+    switch (c->kind) {
+        case WASMI_CALL_GET_GLOBAL:
+        case WASMI_CALL_GET_REGISTER:
+        case WASMI_CALL_EXTRACT_LANE: return 1;
+        case WASMI_CALL_LOAD: return c->op < FIRST_VECTOR_LOAD;
+        case WASMI_CALL_UNARY: return c->op >= FIRST_TEST;
+        default: return 0;
+    }
+}
+
+static char *text_of(char *at, const wasmi_call *c, wasmi_reply reply) {
+    if (reply.status != WASMI_DONE) {
+        return refusal_text(at, reply);
+    }
+    if (gives_value(c)) {
+        return put(at, "raw" U U "\n", reply.value.lo, reply.value.hi);
+    }
+    switch (c->kind) {
+        case WASMI_CALL_NEW_MEMORY: return put(at, "memory" U "\n", reply.number);
+        case WASMI_CALL_NEW_TABLE: return put(at, "table" U "\n", reply.number);
+        case WASMI_CALL_NEW_GLOBAL: return put(at, "global" U "\n", reply.number);
+        case WASMI_CALL_GET_ELEMENT: return put(at, "%s %" PRIu32 "\n", reference_word(reply.type), reply.reference);
+        case WASMI_CALL_GET_FUEL:
+        case WASMI_CALL_GROW_MEMORY:
+        case WASMI_CALL_GROW_TABLE: return put(at, "value" U "\n", reply.number);
+        default: return put(at, "done\n");
+    }
+}
+
+/* Random calls: most have a meaning. */
+
+static uint16_t random_op(uint16_t kind) {
+    switch (kind) {
+        case WASMI_CALL_LOAD: return (uint16_t)below(26);
+        case WASMI_CALL_STORE: return (uint16_t)below(9);
+        case WASMI_CALL_UNARY: return (uint16_t)(FIRST_MAKE - 1 + below(49));
+        case WASMI_CALL_BINARY: return (uint16_t)(FIRST_TEST - 1 + below(110));
+        case WASMI_CALL_TERNARY:
+        case WASMI_CALL_EXTRACT_LANE: return (uint16_t)below(7);
+        default: return (uint16_t)below(5);
+    }
+}
+
+static uint8_t random_register(void) {
+    return (uint8_t)(below(40) == 0 ? below(256) : below(REGISTERS));
+}
+
+static wasmi_call random_call(void) {
+    wasmi_call c;
+    memset(&c, 0, sizeof c);
+    c.kind = (uint16_t)(below(60) == 0 ? next() : below(KINDS));
+    c.op = random_op(c.kind);
+    c.lane = (uint8_t)(below(20) == 0 ? below(256) : below(2));
+    c.dst = random_register(), c.a = random_register(), c.b = random_register(), c.c = random_register();
+    c.type = (uint8_t)(below(40) == 0 ? next() : c.kind <= WASMI_CALL_DROP_ITEMS ? 5 + below(2) : below(7));
+    c.is_mutable = (uint8_t)below(3), c.is_64 = (uint8_t)below(3), c.has_maximum = (uint8_t)below(3);
+    c.page_size_log2 = (uint8_t)(below(30) == 0 ? next() : below(2) * 16);
+    c.reference = (uint32_t)number();
+    c.index = (size_t)(below(30) == 0 ? number() : below(3)), c.source = (size_t)(below(30) == 0 ? number() : below(3));
+    c.count = below(3) ? below(6) : number(), c.maximum = below(2) ? 1 + below(40) : number();
+    c.ptr = below(3) ? below(below(2) ? 16 : PAGE) : number(), c.offset = below(3) ? 0 : number();
+    c.to = below(3) ? below(6) : number(), c.from = below(3) ? below(6) : number();
+    c.value = (wasmi_words){next(), next()};
+    for (int i = 0; i < 16; i++) {
+        c.lanes[i] = (uint8_t)(below(200) == 0 ? next() : below(32));
+    }
+    return c;
+}
+
+/* Sequences: what the machine replies, beside what the script prints. */
+
+struct sequence {
+    wasmi_machine machine;
+    wasmi_limits limits;
+    char script[TEXT], expected[TEXT], printed[TEXT];
+    char *script_end, *expected_end;
+};
+
+/* Runs a script, and says how it ended; what it printed is in `printed`, and `needed` bytes long. */
+static uint8_t replay(struct sequence *s, const char *script, size_t len, size_t *needed) {
+    const uint8_t *bytes = at_edge(OF_ARRAY, script, len);
+    return wasmi_script_run(bytes, len, (uint8_t *)s->printed, sizeof s->printed, needed);
+}
+
+/* A call that stands for none has a bad line; another one goes into the script with its reply. */
+static void take(struct sequence *s, const char *line, size_t len, wasmi_reply reply, char *expected_end) {
+    if (reply.status == WASMI_NO_CALL) {
+        size_t needed = 0;
+        if (replay(s, line, len, &needed) != 2) {
+            differs("NO_CALL, but a good line", line);
+        }
+        return;
+    }
+    memcpy(s->script_end, line, len);
+    s->script_end += len;
+    s->expected_end = expected_end;
+}
+
+static void one_call(struct sequence *s, wasmi_call call) {
+    char line[2 * MOST_LINE];
+    wasmi_reply reply = called(&s->machine, call);
+    char *end = put(line_of(line, &call), "\n");
+    take(s, line, (size_t)(end - line), reply, text_of(s->expected_end, &call, reply));
+}
+
+static void some_write(struct sequence *s) {
+    char line[2 * MOST_LINE];
+    uint8_t bytes[32];
+    size_t len = (size_t)below(sizeof bytes), memory = (size_t)below(3), offset = (size_t)number();
+    char *end = put(line, "write %zu %zu", memory, offset);
+    for (size_t i = 0; i < len; i++) {
+        bytes[i] = (uint8_t)next();
+        end = put(end, " %d", bytes[i]);
+    }
+    end = put(end, "\n");
+    calls++;
+    wasmi_reply reply = wasmi_machine_write(&s->machine, memory, offset, at_edge(OF_ARRAY, bytes, len), len);
+    char *at = s->expected_end;
+    take(s, line, (size_t)(end - line), reply, reply.status ? refusal_text(at, reply) : put(at, "done\n"));
+}
+
+static void one_read(struct sequence *s, size_t memory, size_t offset, size_t len) {
+    char line[MOST_LINE];
+    uint8_t bytes[32];
+    memset(bytes, 0xa5, sizeof bytes);
+    uint8_t *copy = at_edge(OF_ARRAY, bytes, len);
+    char *end = put(line, "read %zu %zu %zu\n", memory, offset, len);
+    calls++;
+    wasmi_reply reply = wasmi_machine_read(&s->machine, memory, offset, copy, len);
+    char *at = s->expected_end;
+    if (reply.status != WASMI_DONE) {
+        if (memcmp(copy, bytes, len) != 0) {
+            differs("a refused read wrote", line);
+        }
+        at = refusal_text(at, reply);
+    } else {
+        at = put(at, "bytes");
+        for (size_t i = 0; i < len; i++) {
+            at = put(at, " %d", copy[i]);
+        }
+        at = put(at, "\n");
+    }
+    take(s, line, (size_t)(end - line), reply, at);
+}
+
+static void some_segment(struct sequence *s) {
+    char line[2 * MOST_LINE];
+    uint32_t items[16];
+    size_t len = (size_t)below(16);
+    uint8_t type = (uint8_t)(below(20) == 0 ? next() : 5 + below(2));
+    char *end = put(line, "segment %s", reference_word(type));
+    for (size_t i = 0; i < len; i++) {
+        items[i] = (uint32_t)number();
+        end = put(end, " %" PRIu32, items[i]);
+    }
+    end = put(end, "\n");
+    calls++;
+    const uint32_t *copy = at_edge(OF_ARRAY, items, len * sizeof items[0]);
+    wasmi_reply reply = wasmi_machine_new_segment(&s->machine, type, copy, len);
+    char *at = s->expected_end;
+    at = reply.status ? refusal_text(at, reply) : put(at, "segment" U "\n", reply.number);
+    take(s, line, (size_t)(end - line), reply, at);
+}
+
+/* Fuel that is taken is, in the script, the fuel that is set to what is left. */
+static void some_fuel(struct sequence *s) {
+    char line[MOST_LINE];
+    uint64_t amount = number();
+    calls++;
+    wasmi_reply reply = wasmi_machine_consume_fuel(&s->machine, amount);
+    if (reply.status == WASMI_DONE) {
+        char *end = put(line, "fuel" U "\n", reply.number);
+        take(s, line, (size_t)(end - line), reply, put(s->expected_end, "done\n"));
+    } else if (reply.status != WASMI_METERING_DISABLED && reply.number != amount) {
+        differs("fuel", "a refused amount isn't the amount");
+    }
+}
+
+static wasmi_call of_kind(uint16_t kind) {
+    wasmi_call call;
+    memset(&call, 0, sizeof call);
+    call.kind = kind, call.count = 1, call.type = WASMI_TYPE_FUNCREF, call.page_size_log2 = 16;
+    return call;
+}
+
+/* A memory, a table and an element segment to begin with, and numbers in the registers. */
+static void fill(struct sequence *s) {
+    wasmi_call table = of_kind(WASMI_CALL_NEW_TABLE), set = of_kind(WASMI_CALL_SET_REGISTER);
+    table.count = 6;
+    one_call(s, of_kind(WASMI_CALL_NEW_MEMORY));
+    one_call(s, table);
+    some_segment(s);
+    for (set.dst = 0; set.dst < REGISTERS; set.dst++) {
+        set.value = (wasmi_words){next(), next()};
+        one_call(s, set);
+    }
+}
+
+/* What the registers, the first globals, and the first elements and bytes of the first tables and memories are. */
+static void look_around(struct sequence *s) {
+    wasmi_call show = of_kind(WASMI_CALL_GET_REGISTER), element = of_kind(WASMI_CALL_GET_ELEMENT);
+    wasmi_call global = of_kind(WASMI_CALL_GET_GLOBAL);
+    for (show.a = 0; show.a < REGISTERS; show.a++) {
+        one_call(s, show);
+    }
+    for (size_t index = 0; index < 3; index++) {
+        global.index = element.index = index;
+        one_call(s, global);
+        one_read(s, index, 0, 16);
+        for (element.to = 0; element.to < 8; element.to++) {
+            one_call(s, element);
+        }
+    }
+}
+
+/* A machine with random limits, and the header lines of the same. */
+static void begin(struct sequence *s) {
+    wasmi_limits *limits = &s->limits;
+    memset(&s->machine, 0, sizeof s->machine);
+    memset(limits, 0, sizeof *limits);
+    limits->bytes = below(20) * PAGE + below(4), limits->elements = below(40);
+    limits->bytes_copied_per_fuel = (uint32_t)(below(6) ? 64 : number());
+    limits->is_metered = (uint8_t)below(3), limits->is_unlimited = (uint8_t)(below(3) == 0);
+    s->script_end = put(s->script, "meter off\n");
+    if (limits->is_metered) {
+        s->script_end = put(s->script, "meter on %" PRIu32 "\n", limits->bytes_copied_per_fuel);
+    }
+    if (!limits->is_unlimited) {
+        s->script_end = put(s->script_end, "quota" U U "\n", limits->bytes, limits->elements);
+    }
+    s->expected_end = s->expected;
+    calls++;
+    if (wasmi_machine_new(&s->machine, limits) != WASMI_DONE) {
+        differs("new", "no machine was made");
+    }
+}
+
+static void end(struct sequence *s) {
+    wasmi_totals totals = wasmi_machine_totals(&s->machine);
+    if (!s->limits.is_unlimited) {
+        s->expected_end = put(s->expected_end, "held" U U "\n", totals.bytes.lo, totals.elements.lo);
+    }
+    wasmi_machine_drop(&s->machine);
+    calls += 2;
+    size_t len = (size_t)(s->script_end - s->script), text_len = (size_t)(s->expected_end - s->expected);
+    size_t needed = 0;
+    uint8_t status = replay(s, s->script, len, &needed);
+    if (status != 0 || needed != text_len || memcmp(s->printed, s->expected, text_len) != 0) {
+        *s->script_end = *s->expected_end = 0;
+        differs(s->script, s->expected);
+    }
+}
+
+static uint64_t run_sequence(struct sequence *s, uint64_t seed) {
+    state = seed;
+    begin(s);
+    fill(s);
+    for (int i = 0; i < SEQUENCE; i++) {
+        switch (below(12)) {
+            case 0: some_write(s); break;
+            case 1: one_read(s, (size_t)below(3), (size_t)number(), (size_t)below(32)); break;
+            case 2: some_segment(s); break;
+            case 3: some_fuel(s); break;
+            default: one_call(s, random_call());
+        }
+    }
+    look_around(s);
+    end(s);
+    uint64_t sum = seed;
+    for (const char *at = s->expected; at < s->expected_end; at++) {
+        sum = sum * 31 + (uint8_t)*at;
+    }
+    return sum;
+}
+
+static uint64_t run_sequences(uint64_t seed, long count) {
+    struct sequence *s = __real_malloc(sizeof *s);
+    uint64_t sum = 0;
+    for (long i = 0; s != NULL && i < count; i++) {
+        sum = sum * 31 + run_sequence(s, seed + (uint64_t)i);
+    }
+    __real_free(s);
+    return sum;
+}
+
+/* Forged structs: each field at its extremes, for each kind, and structs of random bytes. */
+
+static const wasmi_limits LIMITS = {4 * PAGE, 32, 64, 7, 2, 1, 0};
+
+static void small_machine(wasmi_machine *machine) {
+    const uint32_t items[3] = {1, 2, 3};
+    memset(machine, 0, sizeof *machine);
+    wasmi_machine_new(machine, &LIMITS);
+    for (uint16_t kind = 0; kind < KINDS; kind++) {
+        if (kind != WASMI_CALL_DROP_MEMORY && kind != WASMI_CALL_DROP_TABLE) {
+            called(machine, of_kind(kind));
+        }
+    }
+    wasmi_machine_new_segment(machine, WASMI_TYPE_FUNCREF, items, 3);
+}
+
+/* What a reply to any struct has: nothing beside a refusal except fuel that is short, and totals within the caps. */
+static void look(wasmi_machine *machine, const wasmi_call *call, wasmi_reply reply) {
+    wasmi_totals totals = wasmi_machine_totals(machine);
+    int has_number = reply.status == WASMI_MEMORY_OUT_OF_FUEL || reply.status == WASMI_TABLE_OUT_OF_FUEL;
+    uint64_t number = has_number ? 0 : reply.number;
+    int is_bare = (reply.value.lo | reply.value.hi | reply.reference | reply.type | number) == 0;
+    int is_within = totals.bytes.lo <= LIMITS.bytes && totals.elements.lo <= LIMITS.elements && totals.bytes.hi == 0;
+    calls++;
+    if ((reply.status != WASMI_DONE && !is_bare) || !is_within || totals.status != WASMI_DONE) {
+        char line[2 * MOST_LINE] = "";
+        *line_of(line, call) = 0;
+        differs("a forged struct", line);
+    }
+}
+
+#define FIELD(name) {offsetof(wasmi_call, name), sizeof((wasmi_call *)0)->name}
+static const struct { size_t at, size; } FIELDS[] = {
+    FIELD(op), FIELD(lane), FIELD(dst), FIELD(a), FIELD(b), FIELD(c), FIELD(type), FIELD(is_mutable), FIELD(is_64),
+    FIELD(has_maximum), FIELD(page_size_log2), FIELD(reference), FIELD(index), FIELD(source), FIELD(count),
+    FIELD(maximum), FIELD(ptr), FIELD(offset), FIELD(to), FIELD(from), FIELD(value.lo), FIELD(value.hi),
+    FIELD(lanes[0]), FIELD(lanes[15]),
+};
+enum { FIELD_COUNT = sizeof FIELDS / sizeof FIELDS[0], EXTREMES = 8 };
+
+static uint64_t extreme(int which, size_t size) {
+    uint64_t most = size == 8 ? UINT64_MAX : (UINT64_C(1) << (8 * size)) - 1;
+    const uint64_t values[EXTREMES] = {0, 1, 2, most / 2, most / 2 + 1, most - 2, most - 1, most};
+    return values[which];
+}
+
+static void forge_fields(wasmi_machine *machine, uint16_t kind) {
+    for (int f = 0; f < FIELD_COUNT * FIELD_COUNT; f++) {
+        for (int which = 0; which < EXTREMES * EXTREMES; which += 1 + f % 7) {
+            uint64_t first = extreme(which % EXTREMES, FIELDS[f % FIELD_COUNT].size);
+            uint64_t second = extreme(which / EXTREMES, FIELDS[f / FIELD_COUNT].size);
+            wasmi_call call = of_kind(kind);
+            memcpy((uint8_t *)&call + FIELDS[f / FIELD_COUNT].at, &second, FIELDS[f / FIELD_COUNT].size);
+            memcpy((uint8_t *)&call + FIELDS[f % FIELD_COUNT].at, &first, FIELDS[f % FIELD_COUNT].size);
+            look(machine, &call, called(machine, call));
+        }
+    }
+}
+
+static void forge(long count) {
+    wasmi_machine machine;
+    for (uint16_t kind = 0; kind <= KINDS; kind++) {
+        small_machine(&machine);
+        forge_fields(&machine, kind == KINDS ? UINT16_MAX : kind);
+        wasmi_machine_drop(&machine);
+    }
+    small_machine(&machine);
+    for (long i = 0; i < count; i++) {
+        wasmi_call call;
+        for (size_t at = 0; at < sizeof call; at += sizeof(uint64_t)) {
+            uint64_t word = below(3) ? number() : next();
+            memcpy((uint8_t *)&call + at, &word, sizeof word);
+        }
+        call.kind = (uint16_t)below(KINDS);
+        look(&machine, &call, called(&machine, call));
+    }
+    wasmi_machine_drop(&machine);
+    printf("forged: %ld calls\n", calls);
+}
+
+/* Threads: a handle each, and one handle that goes from thread to thread. */
+
+struct work {
+    uint64_t seed, sum;
+    long count, calls, differing;
+    wasmi_machine *machine;
+};
+
+static void *in_thread(void *given) {
+    struct work *work = given;
+    work->sum = run_sequences(work->seed, work->count);
+    work->calls = calls, work->differing = differing;
+    return NULL;
+}
+
+static void *grow_in_thread(void *given) {
+    struct work *work = given;
+    work->sum = called(work->machine, of_kind(WASMI_CALL_GROW_MEMORY)).number;
+    return NULL;
+}
+
+static void run_threads(uint64_t seed, long count) {
+    pthread_t threads[THREADS];
+    struct work works[THREADS];
+    for (int i = 0; i < THREADS; i++) {
+        works[i] = (struct work){.seed = seed + 1000000 * (uint64_t)i, .count = count};
+        if (pthread_create(&threads[i], NULL, in_thread, &works[i]) != 0) {
+            fprintf(stderr, "no thread\n");
+            exit(2);
+        }
+    }
+    for (int i = 0; i < THREADS; i++) {
+        pthread_join(threads[i], NULL);
+        calls += works[i].calls, differing += works[i].differing;
+        if (works[i].sum != run_sequences(works[i].seed, works[i].count)) {
+            differs("threads", "a thread had other replies");
+        }
+    }
+}
+
+static void pass_on(void) {
+    wasmi_machine machine;
+    memset(&machine, 0, sizeof machine);
+    const wasmi_limits limits = {.is_unlimited = 1};
+    wasmi_machine_new(&machine, &limits);
+    called(&machine, of_kind(WASMI_CALL_NEW_MEMORY));
+    for (uint64_t i = 1; i <= THREADS; i++) {
+        pthread_t thread;
+        struct work work = {.machine = &machine};
+        if (pthread_create(&thread, NULL, grow_in_thread, &work) != 0 || pthread_join(thread, NULL) != 0) {
+            fprintf(stderr, "no thread\n");
+            exit(2);
+        }
+        if (work.sum != i) {
+            differs("threads", "a handle that was passed on has another memory");
+        }
+    }
+    if (wasmi_machine_totals(&machine).bytes.lo != (1 + THREADS) * PAGE) {
+        differs("threads", "a handle that came back has another memory");
+    }
+    wasmi_machine_drop(&machine);
+}
+
+/* Each request for memory refused in turn: the reply says so, and the same call goes well after that. */
+
+static int lacks_memory(uint8_t status) {
+    return status == WASMI_NO_ROOM || status == WASMI_MEMORY_OUT_OF_MEMORY || status == WASMI_TABLE_OUT_OF_MEMORY
+        || status == WASMI_SEGMENT_OUT_OF_MEMORY;
+}
+
+static wasmi_reply step_of(wasmi_machine *machine, int step) {
+    static const uint16_t kinds[] = {
+        WASMI_CALL_NEW_MEMORY, WASMI_CALL_NEW_TABLE, WASMI_CALL_NEW_GLOBAL, WASMI_CALL_SET_FUEL, WASMI_CALL_GROW_MEMORY,
+        WASMI_CALL_GROW_TABLE, WASMI_CALL_NEW_MEMORY, WASMI_CALL_STORE, WASMI_CALL_FILL_TABLE, WASMI_CALL_INIT_TABLE,
+    };
+    static const uint32_t items[3] = {4, 5, 6};
+    wasmi_call call = of_kind(kinds[step % 10]);
+    if (step == 0) {
+        wasmi_reply reply = {.status = wasmi_machine_new(machine, &LIMITS)};
+        return reply;
+    }
+    if (step == 1) {
+        return wasmi_machine_new_segment(machine, WASMI_TYPE_FUNCREF, items, 3);
+    }
+    if (step % 3 == 0) {
+        return wasmi_machine_write(machine, 0, 0, (const uint8_t *)"written", 7);
+    }
+    call.count = call.kind == WASMI_CALL_SET_FUEL ? 100000 : 1;
+    return called(machine, call);
+}
+
+enum { STEPS = 32 };
+
+/* The replies with one request refused, if any: whether it was reached. */
+static int run_refused(long request, wasmi_reply replies[STEPS]) {
+    wasmi_machine machine;
+    memset(&machine, 0, sizeof machine);
+    requests = 0, refused = request;
+    for (int step = 0; step < STEPS; step++) {
+        replies[step] = step_of(&machine, step);
+        if (lacks_memory(replies[step].status)) {
+            if (requests < request) {
+                differs("refused", "out of memory before the request was refused");
+            }
+            replies[step] = step_of(&machine, step);
+        }
+        calls++;
+    }
+    refused = 0;
+    wasmi_machine_drop(&machine);
+    return requests >= request;
+}
+
+static void refuse(void) {
+    wasmi_reply plain[STEPS], replies[STEPS];
+    long blocks_before = blocks, request = 1;
+    run_refused(0, plain);
+    while (run_refused(request, replies)) {
+        for (int step = 0; step < STEPS; step++) {
+            if (replies[step].status != plain[step].status || replies[step].number != plain[step].number) {
+                differs("refused", "another reply after memory was refused");
+            }
+        }
+        request++;
+    }
+    if (blocks != blocks_before) {
+        differs("refused", "memory wasn't given back");
+    }
+    printf("refused: %ld requests, each in turn\n", request - 1);
+}
+
+int main(int count, char **words) {
+    long wanted = count > 1 ? atol(words[1]) : 10000;
+    uint64_t seed = count > 2 ? strtoull(words[2], NULL, 10) : 1;
+    state = seed;
+    forge(wanted / 10);
+    long before = calls, sequences = wanted / 100 + 1;
+    run_sequences(seed, sequences);
+    printf("random: %ld calls beside %ld scripts\n", calls - before, sequences);
+    run_threads(seed, sequences / 40 + 1);
+    pass_on();
+    printf("threads: %d with a handle each, and a handle that goes from one to another\n", THREADS);
+    refuse();
+    printf("%ld calls, %ld differ\n", calls, differing);
+    return differing == 0 ? 0 : 1;
+}

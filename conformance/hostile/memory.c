@@ -1,0 +1,312 @@
+/* Hostile use of include/wasmi_memory.h's memories and fuel, beside a plain model of them: structs with each field at its
+   extremes, regions and arrays of any length that end at an inaccessible page, two memories under one meter and one
+   quota, and calls in random order. usage: memory SEQUENCES [SEED]; its last line is `N sequences, M calls, 0 differ`.
+   It is built with -fsanitize=address,undefined. */
+#include "hostile.h"
+
+enum { MEMORIES = 2, SMALL = 96, PAGE = 65536, MOST = 3 * PAGE };
+
+/* All that lies with the caller. */
+typedef struct {
+    wasmi_memory memory[MEMORIES];
+    uint8_t *region[MEMORIES];
+    size_t length[MEMORIES];
+    wasmi_meter meter;
+    wasmi_quota quota;
+    wasmi_answers answers;
+    wasmi_question question;
+    uint64_t number;
+} state;
+
+/* ---- the model */
+
+static size_t page_of(const wasmi_memory *m) {
+    return (size_t)1 << m->page_size_log2;
+}
+
+static wide greatest_of(const wasmi_memory *m) {
+    return ((wide)1 << (m->is_64 ? 64 : 32)) / page_of(m);
+}
+
+static bool has_type(const wasmi_memory *m) {
+    if (m->page_size_log2 != 0 && m->page_size_log2 != 16)
+        return false;
+    if (m->minimum > greatest_of(m))
+        return false;
+    return !m->has_maximum || (m->maximum <= greatest_of(m) && m->minimum <= m->maximum);
+}
+
+static bool in_bounds(const wasmi_memory *m, wide pages) {
+    return pages <= greatest_of(m) && (!m->has_maximum || pages <= m->maximum) && pages * page_of(m) <= UINT64_MAX;
+}
+
+static bool is_state(const wasmi_memory *m, size_t length) {
+    return has_type(m) && m->size <= length && m->size % page_of(m) == 0 && m->minimum <= m->size / page_of(m) &&
+           in_bounds(m, m->size / page_of(m));
+}
+
+static uint8_t new_by_model(state *s, int i) {
+    wasmi_memory *m = &s->memory[i];
+    if (!has_type(m))
+        return WASMI_INVALID_STATE;
+    written_back(&s->quota);
+    wide size = (wide)m->minimum * page_of(m);
+    if (size > UINT64_MAX)
+        return WASMI_MEMORY_SIZE_OVERFLOW;
+    if (!permits(&s->quota, (size_t)size, 1))
+        return WASMI_MEMORY_DENIED;
+    if (s->length[i] < size) {
+        gives_back(&s->quota, 1);
+        return WASMI_MEMORY_REGION_TOO_SHORT;
+    }
+    if (size > 0)
+        memset(s->region[i], 0, (size_t)size);
+    m->size = (size_t)size;
+    return WASMI_DONE;
+}
+
+/* A growth under the quota, or under the answers. */
+static uint8_t grow_by_model(state *s, int i, uint64_t pages, bool by_answers) {
+    wasmi_memory *m = &s->memory[i];
+    if (!is_state(m, s->length[i]))
+        return WASMI_INVALID_STATE;
+    if (by_answers && m->size != s->answers.current)
+        return WASMI_OTHER_SIZE;
+    if (by_answers)
+        s->answers.asked = s->answers.told = 0;
+    if (!by_answers)
+        written_back(&s->quota);
+    uint64_t old = m->size / page_of(m);
+    if (pages == 0) {
+        s->number = old;
+        return WASMI_DONE;
+    }
+    if (!in_bounds(m, (wide)old + pages))
+        return WASMI_MEMORY_GROWTH;
+    size_t more = (size_t)pages * page_of(m);
+    if (by_answers) {
+        s->answers.asked = 1;
+        if (s->answers.answer != 1)
+            return s->answers.answer ? WASMI_MEMORY_DENIED : WASMI_MEMORY_GROWTH;
+    } else if (!permits(&s->quota, more, 1)) {
+        return WASMI_MEMORY_GROWTH;
+    }
+    uint64_t price = price_of(&s->meter, more);
+    uint8_t status = s->length[i] - m->size < more                      ? WASMI_MEMORY_REGION_TOO_SHORT
+                     : s->meter.is_on && s->meter.left < price ? WASMI_MEMORY_OUT_OF_FUEL
+                                                                        : WASMI_DONE;
+    if (status == WASMI_DONE) {
+        if (s->meter.is_on)
+            s->meter.left -= price;
+        if (more > 0)
+            memset(s->region[i] + m->size, 0, more);
+        m->size += more;
+        s->number = old;
+        return status;
+    }
+    if (by_answers) {
+        s->answers.told = 1;
+        if (s->answers.notice_answer)
+            return WASMI_MEMORY_DENIED;
+    } else {
+        gives_back(&s->quota, 1);
+    }
+    if (status == WASMI_MEMORY_OUT_OF_FUEL)
+        s->number = price;
+    return status;
+}
+
+static uint8_t question_by_model(state *s, int i, uint64_t pages) {
+    const wasmi_memory *m = &s->memory[i];
+    if (!is_state(m, s->length[i]))
+        return WASMI_INVALID_STATE;
+    if (pages == 0)
+        return WASMI_DONE;
+    if (!in_bounds(m, (wide)(m->size / page_of(m)) + pages))
+        return WASMI_MEMORY_GROWTH;
+    wide most = (wide)m->maximum * page_of(m);
+    s->question.current = m->size;
+    s->question.desired = m->size + (size_t)pages * page_of(m);
+    s->question.maximum = !m->has_maximum ? 0 : most > UINT64_MAX ? SIZE_MAX : (size_t)most;
+    s->question.has_maximum = m->has_maximum != 0;
+    return WASMI_ASKS;
+}
+
+static uint8_t consume_by_model(state *s, uint64_t amount) {
+    if (!s->meter.is_on)
+        return WASMI_METERING_DISABLED;
+    if (s->meter.left < amount) {
+        s->number = amount;
+        return WASMI_OUT_OF_FUEL;
+    }
+    s->meter.left -= amount;
+    s->number = s->meter.left;
+    return WASMI_DONE;
+}
+
+/* Copies between a memory and other bytes, in either direction. */
+static uint8_t access_by_model(state *s, int i, size_t offset, uint8_t *bytes, size_t length, bool is_write) {
+    const wasmi_memory *m = &s->memory[i];
+    if (!is_state(m, s->length[i]))
+        return WASMI_INVALID_STATE;
+    if (m->size < offset || m->size - offset < length)
+        return WASMI_MEMORY_ACCESS;
+    if (length > 0)
+        memcpy(is_write ? s->region[i] + offset : bytes, is_write ? bytes : s->region[i] + offset, length);
+    return WASMI_DONE;
+}
+
+/* ---- the comparison */
+
+static uint8_t *end[MEMORIES], *model_end[MEMORIES], *bytes_end;
+
+static wasmi_memory any_memory(size_t length) {
+    wasmi_memory m;
+    memset(&m, 0, sizeof m);
+    m.page_size_log2 = below(8) == 0 ? (uint8_t)any() : below(3) == 0 ? 16 : 0;
+    m.minimum = below(2) ? below(4) : number();
+    m.has_maximum = flag();
+    m.maximum = below(2) ? m.minimum + below(SMALL) : number();
+    m.is_64 = flag();
+    size_t page = m.page_size_log2 == 16 ? PAGE : 1;
+    m.size = below(4) ? below(length / page + 1) * page : (size_t)number();
+    return m;
+}
+
+static void begin(state *s, state *model) {
+    for (int i = 0; i < MEMORIES; i++) {
+        size_t length = below(4) ? below(SMALL) : below(MOST + 1);
+        s->length[i] = length;
+        s->region[i] = length > 0 ? end[i] - length : NULL;
+        for (size_t k = 0; k < length; k += 1 + k / SMALL)
+            s->region[i][k] = (uint8_t)any();
+        s->memory[i] = any_memory(length);
+    }
+    const wasmi_meter meter = {number(), below(2) ? 64 : (uint32_t)number(), 7, 2, flag()};
+    const wasmi_quota quota = {number(), number(), below(2) ? 0 : number(), number(), number(), (uint8_t)below(4), flag()};
+    const wasmi_answers answers = {(size_t)number(), flag(), flag(), flag(), flag()};
+    memset(&s->question, 0, sizeof s->question);
+    s->meter = meter;
+    s->quota = quota;
+    s->answers = answers;
+    s->number = number();
+    *model = *s;
+    for (int i = 0; i < MEMORIES; i++) {
+        model->region[i] = s->length[i] > 0 ? model_end[i] - s->length[i] : NULL;
+        if (s->length[i] > 0)
+            memcpy(model->region[i], s->region[i], s->length[i]);
+    }
+}
+
+static bool same_memory(const wasmi_memory *a, const wasmi_memory *b) {
+    return a->minimum == b->minimum && a->maximum == b->maximum && a->size == b->size && a->has_maximum == b->has_maximum &&
+           a->is_64 == b->is_64 && a->page_size_log2 == b->page_size_log2;
+}
+
+static bool same(const state *a, const state *b) {
+    for (int i = 0; i < MEMORIES; i++)
+        if (!same_memory(&a->memory[i], &b->memory[i]) ||
+            (a->length[i] > 0 && memcmp(a->region[i], b->region[i], a->length[i])))
+            return false;
+    return a->meter.left == b->meter.left && a->meter.is_on == b->meter.is_on && same_quota(&a->quota, &b->quota) &&
+           a->answers.current == b->answers.current && a->answers.answer == b->answers.answer &&
+           a->answers.notice_answer == b->answers.notice_answer && a->answers.asked == b->answers.asked &&
+           a->answers.told == b->answers.told && a->question.current == b->question.current &&
+           a->question.desired == b->question.desired && a->question.maximum == b->question.maximum &&
+           a->question.has_maximum == b->question.has_maximum && a->number == b->number;
+}
+
+/* A number of pages that is often one that fits. */
+static uint64_t some_pages(const state *s, int i) {
+    size_t page = s->memory[i].page_size_log2 == 16 ? PAGE : 1;
+    size_t left = s->memory[i].size <= s->length[i] ? (s->length[i] - s->memory[i].size) / page : 0;
+    return below(3) ? below(left / 2 + 3) : number();
+}
+
+/* Bytes that are read or written, with those of the model. */
+static bool access_agrees(state *s, state *model, int i, bool is_write) {
+    uint8_t expected[SMALL];
+    size_t length = below(SMALL), offset = below(4) ? below(s->memory[i].size % MOST + 2) : (size_t)number();
+    uint8_t *bytes = length > 0 ? bytes_end - length : NULL;
+    for (size_t k = 0; k < length; k++)
+        bytes[k] = expected[k] = (uint8_t)any();
+    uint8_t status = is_write ? wasmi_memory_write(&s->memory[i], s->region[i], s->length[i], offset, bytes, length)
+                              : wasmi_memory_read(&s->memory[i], s->region[i], s->length[i], offset, bytes, length);
+    return status == access_by_model(model, i, offset, expected, length, is_write) &&
+           (length == 0 || memcmp(bytes, expected, length) == 0);
+}
+
+/* A call that reads a number alone. */
+static bool number_agrees(state *s, state *model, int i) {
+    const wasmi_memory *m = &s->memory[i];
+    uint64_t found = 7, amount = number();
+    switch (below(4)) {
+    case 0: {
+        bool is = is_state(m, s->length[i]);
+        uint8_t status = wasmi_memory_size(m, s->region[i], s->length[i], &found);
+        return status == (is ? WASMI_DONE : WASMI_INVALID_STATE) && found == (is ? m->size / page_of(m) : 7);
+    }
+    case 1: {
+        uint8_t status = wasmi_fuel_left(&s->meter, &found);
+        return status == (s->meter.is_on ? WASMI_DONE : WASMI_METERING_DISABLED) &&
+               found == (s->meter.is_on ? model->meter.left : 7);
+    }
+    case 2: return wasmi_fuel_copy_cost(&s->meter, amount) == price_of(&model->meter, amount);
+    default:
+        if (model->meter.is_on)
+            model->meter.left = amount;
+        return wasmi_fuel_set(&s->meter, amount) == (model->meter.is_on ? WASMI_DONE : WASMI_METERING_DISABLED);
+    }
+}
+
+static bool call_agrees(state *s, state *model) {
+    int i = (int)below(MEMORIES);
+    wasmi_memory *m = &s->memory[i];
+    uint64_t pages = some_pages(s, i);
+    switch (below(9)) {
+    case 0: return wasmi_memory_new(m, s->region[i], s->length[i], &s->quota) == new_by_model(model, i);
+    case 1:
+    case 2:
+    case 3:
+        return wasmi_memory_grow(m, s->region[i], s->length[i], pages, &s->meter, &s->quota, &s->number) ==
+               grow_by_model(model, i, pages, false);
+    case 4:
+        return wasmi_memory_question(m, s->region[i], s->length[i], pages, &s->question) ==
+               question_by_model(model, i, pages);
+    case 5:
+        s->answers.current = model->answers.current = below(8) ? m->size : (size_t)number();
+        s->answers.answer = model->answers.answer = flag();
+        s->answers.notice_answer = model->answers.notice_answer = flag();
+        return wasmi_memory_settle(m, s->region[i], s->length[i], pages, &s->meter, &s->answers, &s->number) ==
+               grow_by_model(model, i, pages, true);
+    case 6: return access_agrees(s, model, i, below(2) != 0);
+    case 7: {
+        uint64_t amount = number();
+        return wasmi_fuel_consume(&s->meter, amount, &s->number) == consume_by_model(model, amount);
+    }
+    default: return number_agrees(s, model, i);
+    }
+}
+
+int main(int count, char **words) {
+    uint64_t sequences = count > 1 ? strtoull(words[1], NULL, 10) : 20000, calls = 0, differ = 0;
+    uint64_t first = count > 2 ? strtoull(words[2], NULL, 10) : 1;
+    for (int i = 0; i < MEMORIES; i++) {
+        end[i] = fenced(MOST);
+        model_end[i] = fenced(MOST);
+    }
+    bytes_end = fenced(SMALL);
+    for (uint64_t n = 0; n < sequences; n++) {
+        state s, model;
+        seed = (first + n) * 0x9e3779b97f4a7c15u | 1;
+        begin(&s, &model);
+        for (uint64_t k = below(24); k > 0; k--, calls++)
+            if (!call_agrees(&s, &model) || !same(&s, &model)) {
+                printf("seed %" PRIu64 ": a call differs, with %" PRIu64 " before its end\n", first + n, k);
+                differ++;
+                break;
+            }
+    }
+    printf("%" PRIu64 " sequences, %" PRIu64 " calls, %" PRIu64 " differ\n", sequences, calls, differ);
+    return differ != 0;
+}

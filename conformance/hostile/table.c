@@ -1,0 +1,340 @@
+/* Hostile use of include/wasmi_memory.h's tables, beside a plain model of them: structs with each field at its extremes,
+   regions and items of any length that end at an inaccessible page, two tables under one meter and one quota, and calls in
+   random order. usage: table SEQUENCES [SEED]; its last line is `N sequences, M calls, 0 differ`. It is built with
+   -fsanitize=address,undefined. */
+#include "hostile.h"
+
+enum { TABLES = 2, MOST = 96 };
+
+/* All that lies with the caller. */
+typedef struct {
+    wasmi_table table[TABLES];
+    uint32_t *region[TABLES];
+    size_t length[TABLES];
+    wasmi_meter meter;
+    wasmi_quota quota;
+    wasmi_answers answers;
+    wasmi_question question;
+    uint64_t number;
+} state;
+
+/* The items of an empty region. */
+static const uint32_t copy_of_none[1] = {0};
+
+/* ---- the model */
+
+static wide indices_of(const wasmi_table *t) {
+    return (wide)1 << (t->is_64 ? 64 : 32);
+}
+
+static bool has_type(const wasmi_table *t) {
+    if (t->type != WASMI_TYPE_FUNCREF && t->type != WASMI_TYPE_EXTERNREF)
+        return false;
+    if (t->minimum >= indices_of(t))
+        return false;
+    return !t->has_maximum || (t->maximum < indices_of(t) && t->minimum <= t->maximum);
+}
+
+static bool is_state(const wasmi_table *t, size_t length) {
+    return has_type(t) && t->size <= length && t->minimum <= t->size && t->size < indices_of(t) &&
+           (!t->has_maximum || t->size <= t->maximum);
+}
+
+/* The price of so many elements. */
+static uint64_t price_of_elements(const wasmi_meter *meter, uint64_t count) {
+    wide bytes = (wide)count * 4;
+    return price_of(meter, bytes > UINT64_MAX ? UINT64_MAX : (uint64_t)bytes);
+}
+
+static uint8_t new_by_model(state *s, int i, uint32_t reference) {
+    wasmi_table *t = &s->table[i];
+    if (!has_type(t))
+        return WASMI_INVALID_STATE;
+    written_back(&s->quota);
+    if (!permits(&s->quota, t->minimum, 2))
+        return WASMI_TABLE_DENIED;
+    if (s->length[i] < t->minimum) {
+        gives_back(&s->quota, 2);
+        return WASMI_TABLE_OUT_OF_MEMORY;
+    }
+    for (size_t k = 0; k < t->minimum; k++)
+        s->region[i][k] = reference;
+    t->size = t->minimum;
+    return WASMI_DONE;
+}
+
+/* What stands against a growth after its permission, the first first; the fuel is taken if it comes that far. */
+static uint8_t failure(state *s, int i, uint64_t desired, uint64_t price) {
+    const wasmi_table *t = &s->table[i];
+    if (t->has_maximum && desired > t->maximum)
+        return WASMI_TABLE_GROWTH;
+    if (s->meter.is_on && s->meter.left < price)
+        return WASMI_TABLE_OUT_OF_FUEL;
+    if (s->meter.is_on)
+        s->meter.left -= price;
+    return s->length[i] < desired ? WASMI_TABLE_OUT_OF_MEMORY : WASMI_DONE;
+}
+
+/* A growth under the quota, or under the answers. */
+static uint8_t grow_by_model(state *s, int i, uint64_t delta, uint32_t reference, bool by_answers) {
+    wasmi_table *t = &s->table[i];
+    if (!is_state(t, s->length[i]))
+        return WASMI_INVALID_STATE;
+    if (by_answers && t->size != s->answers.current)
+        return WASMI_OTHER_SIZE;
+    if (by_answers)
+        s->answers.asked = s->answers.told = 0;
+    else
+        written_back(&s->quota);
+    uint64_t old = t->size;
+    if (delta == 0) {
+        s->number = old;
+        return WASMI_DONE;
+    }
+    if ((wide)old + delta >= indices_of(t))
+        return WASMI_TABLE_GROWTH;
+    if (by_answers) {
+        s->answers.asked = 1;
+        if (s->answers.answer != 1)
+            return s->answers.answer ? WASMI_TABLE_DENIED : WASMI_TABLE_GROWTH;
+    } else if (!permits(&s->quota, delta, 2)) {
+        return WASMI_TABLE_GROWTH;
+    }
+    uint64_t price = price_of_elements(&s->meter, delta);
+    uint8_t status = failure(s, i, old + delta, price);
+    if (status == WASMI_DONE) {
+        for (uint64_t k = 0; k < delta; k++)
+            s->region[i][old + k] = reference;
+        t->size += delta;
+        s->number = old;
+        return status;
+    }
+    if (by_answers) {
+        s->answers.told = 1;
+        if (s->answers.notice_answer)
+            return WASMI_TABLE_DENIED;
+    } else {
+        gives_back(&s->quota, 2);
+    }
+    if (status == WASMI_TABLE_OUT_OF_FUEL)
+        s->number = price;
+    return status;
+}
+
+static uint8_t question_by_model(state *s, int i, uint64_t delta) {
+    const wasmi_table *t = &s->table[i];
+    if (!is_state(t, s->length[i]))
+        return WASMI_INVALID_STATE;
+    if (delta == 0)
+        return WASMI_DONE;
+    if ((wide)t->size + delta >= indices_of(t))
+        return WASMI_TABLE_GROWTH;
+    s->question.current = t->size;
+    s->question.desired = t->size + delta;
+    s->question.maximum = t->has_maximum ? t->maximum : 0;
+    s->question.has_maximum = t->has_maximum != 0;
+    return WASMI_ASKS;
+}
+
+/* Whether a range lies within so many elements. */
+static bool within(uint64_t from, uint64_t count, size_t length) {
+    return (wide)from + count <= length;
+}
+
+/* A write of some items, or of one reference where there are none, once the tables are known to be ones. */
+static uint8_t write_by_model(state *s, int i, const wasmi_range *range, const uint32_t *items, uint32_t reference) {
+    uint64_t price = price_of_elements(&s->meter, range->count);
+    uint32_t copy[MOST];
+    if (s->meter.is_on && s->meter.left < price) {
+        s->number = price;
+        return WASMI_TABLE_OUT_OF_FUEL;
+    }
+    if (s->meter.is_on)
+        s->meter.left -= price;
+    for (uint64_t k = 0; k < range->count; k++)
+        copy[k] = items ? items[range->from + k] : reference;
+    for (uint64_t k = 0; k < range->count; k++)
+        s->region[i][range->to + k] = copy[k];
+    return WASMI_DONE;
+}
+
+static uint8_t fill_by_model(state *s, int i, const wasmi_range *range, uint32_t reference) {
+    if (!is_state(&s->table[i], s->length[i]))
+        return WASMI_INVALID_STATE;
+    if (!within(range->to, range->count, s->table[i].size))
+        return WASMI_TABLE_FILL;
+    return write_by_model(s, i, range, NULL, reference);
+}
+
+static uint8_t copy_by_model(state *s, int i, int from, const wasmi_range *range) {
+    const wasmi_table *t = &s->table[i], *source = &s->table[from];
+    if (!is_state(t, s->length[i]) || !is_state(source, s->length[from]))
+        return WASMI_INVALID_STATE;
+    if (t->type != source->type)
+        return WASMI_TABLE_TYPE;
+    if (!within(range->from, range->count, source->size) || !within(range->to, range->count, t->size))
+        return WASMI_TABLE_COPY;
+    return write_by_model(s, i, range, s->region[from] ? s->region[from] : copy_of_none, 0);
+}
+
+static uint8_t init_by_model(state *s, int i, const uint32_t *items, size_t length, const wasmi_range *range) {
+    if (!is_state(&s->table[i], s->length[i]))
+        return WASMI_INVALID_STATE;
+    if (!within(range->from, range->count, length) || !within(range->to, range->count, s->table[i].size))
+        return WASMI_TABLE_INIT;
+    return range->count == 0 ? WASMI_DONE : write_by_model(s, i, range, items, 0);
+}
+
+/* ---- the comparison */
+
+static uint32_t *end[TABLES], *model_end[TABLES], *items_end;
+
+static void begin(state *s, state *model) {
+    for (int i = 0; i < TABLES; i++) {
+        size_t length = below(MOST);
+        wasmi_table *t = &s->table[i];
+        s->length[i] = length;
+        s->region[i] = length > 0 ? end[i] - length : NULL;
+        for (size_t k = 0; k < length; k++)
+            s->region[i][k] = (uint32_t)any();
+        memset(t, 0, sizeof *t);
+        t->minimum = below(4) ? below(4) : number();
+        t->has_maximum = flag();
+        t->maximum = below(4) ? t->minimum + below(MOST) : number();
+        t->is_64 = flag();
+        t->type = below(8) ? (uint8_t)(5 + below(4) / 3) : (uint8_t)any();
+        t->size = below(6) ? below(length + 1) : (size_t)number();
+    }
+    const wasmi_meter meter = {number(), below(2) ? 1 : (uint32_t)number(), 7, 2, flag()};
+    const wasmi_quota quota = {number(), number(), number(), below(2) ? 0 : number(), number(), (uint8_t)below(4), flag()};
+    const wasmi_answers answers = {(size_t)number(), flag(), flag(), flag(), flag()};
+    memset(&s->question, 0, sizeof s->question);
+    s->meter = meter;
+    s->quota = quota;
+    s->answers = answers;
+    s->number = number();
+    *model = *s;
+    for (int i = 0; i < TABLES; i++) {
+        model->region[i] = s->length[i] > 0 ? model_end[i] - s->length[i] : NULL;
+        if (s->length[i] > 0)
+            memcpy(model->region[i], s->region[i], s->length[i] * sizeof *s->region[i]);
+    }
+}
+
+static bool same_table(const wasmi_table *a, const wasmi_table *b) {
+    return a->minimum == b->minimum && a->maximum == b->maximum && a->size == b->size && a->has_maximum == b->has_maximum &&
+           a->is_64 == b->is_64 && a->type == b->type;
+}
+
+static bool same(const state *a, const state *b) {
+    for (int i = 0; i < TABLES; i++)
+        if (!same_table(&a->table[i], &b->table[i]) ||
+            (a->length[i] > 0 && memcmp(a->region[i], b->region[i], a->length[i] * sizeof *a->region[i])))
+            return false;
+    return a->meter.left == b->meter.left && a->meter.is_on == b->meter.is_on && same_quota(&a->quota, &b->quota) &&
+           a->answers.current == b->answers.current && a->answers.answer == b->answers.answer &&
+           a->answers.notice_answer == b->answers.notice_answer && a->answers.asked == b->answers.asked &&
+           a->answers.told == b->answers.told && a->question.current == b->question.current &&
+           a->question.desired == b->question.desired && a->question.maximum == b->question.maximum &&
+           a->question.has_maximum == b->question.has_maximum && a->number == b->number;
+}
+
+/* An index or a count that is often within a table. */
+static uint64_t place(const state *s, int i) {
+    return below(6) ? below(s->table[i].size % MOST + 2) : number();
+}
+
+static bool init_agrees(state *s, state *model, int i, const wasmi_range *range) {
+    size_t length = below(MOST);
+    uint32_t *items = length > 0 ? items_end - length : NULL;
+    for (size_t k = 0; k < length; k++)
+        items[k] = (uint32_t)any();
+    return wasmi_table_init(&s->table[i], s->region[i], s->length[i], items, length, range, &s->meter, &s->number) ==
+           init_by_model(model, i, items ? items : copy_of_none, length, range);
+}
+
+static bool get_agrees(state *s, int i) {
+    uint64_t index = place(s, i);
+    uint32_t found = 7;
+    bool is = is_state(&s->table[i], s->length[i]), has = is && index < s->table[i].size;
+    uint8_t status = wasmi_table_get(&s->table[i], s->region[i], s->length[i], index, &found);
+    return status == (has ? WASMI_DONE : is ? WASMI_NO_ELEMENT : WASMI_INVALID_STATE) &&
+           found == (has ? s->region[i][index] : 7);
+}
+
+static bool set_agrees(state *s, state *model, int i) {
+    uint64_t index = place(s, i);
+    uint32_t reference = (uint32_t)any();
+    bool is = is_state(&s->table[i], s->length[i]), has = is && index < s->table[i].size;
+    if (has)
+        model->region[i][index] = reference;
+    return wasmi_table_set(&s->table[i], s->region[i], s->length[i], index, reference) ==
+           (has ? WASMI_DONE : is ? WASMI_TABLE_SET : WASMI_INVALID_STATE);
+}
+
+static bool growth_agrees(state *s, state *model, int i) {
+    wasmi_table *t = &s->table[i];
+    uint64_t delta = below(3) ? below(6) : number();
+    uint32_t reference = (uint32_t)any();
+    switch (below(5)) {
+    case 0:
+        return wasmi_table_new(t, s->region[i], s->length[i], reference, &s->quota) == new_by_model(model, i, reference);
+    case 1:
+        return wasmi_table_question(t, s->region[i], s->length[i], delta, &s->question) ==
+               question_by_model(model, i, delta);
+    case 2:
+        s->answers.current = model->answers.current = below(8) ? t->size : (size_t)number();
+        s->answers.answer = model->answers.answer = flag();
+        s->answers.notice_answer = model->answers.notice_answer = flag();
+        return wasmi_table_settle(t, s->region[i], s->length[i], delta, reference, &s->meter, &s->answers, &s->number) ==
+               grow_by_model(model, i, delta, reference, true);
+    default:
+        return wasmi_table_grow(t, s->region[i], s->length[i], delta, reference, &s->meter, &s->quota, &s->number) ==
+               grow_by_model(model, i, delta, reference, false);
+    }
+}
+
+static bool call_agrees(state *s, state *model) {
+    int i = (int)below(TABLES), other = 1 - i;
+    wasmi_table *t = &s->table[i];
+    const wasmi_range range = {place(s, i), place(s, below(2) ? i : other), below(3) ? below(6) : number()};
+    uint32_t reference = (uint32_t)any();
+    switch (below(9)) {
+    case 0: return get_agrees(s, i);
+    case 1: return set_agrees(s, model, i);
+    case 2:
+        return wasmi_table_fill(t, s->region[i], s->length[i], &range, reference, &s->meter, &s->number) ==
+               fill_by_model(model, i, &range, reference);
+    case 3:
+        return wasmi_table_copy(t, s->region[i], s->length[i], &range, &s->meter, &s->number) ==
+               copy_by_model(model, i, i, &range);
+    case 4:
+        return wasmi_table_copy_from(t, s->region[i], s->length[i], &s->table[other], s->region[other], s->length[other],
+                                     &range, &s->meter, &s->number) == copy_by_model(model, i, other, &range);
+    case 5: return init_agrees(s, model, i, &range);
+    default: return growth_agrees(s, model, i);
+    }
+}
+
+int main(int count, char **words) {
+    uint64_t sequences = count > 1 ? strtoull(words[1], NULL, 10) : 20000, calls = 0, differ = 0;
+    uint64_t first = count > 2 ? strtoull(words[2], NULL, 10) : 1;
+    for (int i = 0; i < TABLES; i++) {
+        end[i] = (uint32_t *)(void *)fenced(MOST * sizeof(uint32_t));
+        model_end[i] = (uint32_t *)(void *)fenced(MOST * sizeof(uint32_t));
+    }
+    items_end = (uint32_t *)(void *)fenced(MOST * sizeof(uint32_t));
+    for (uint64_t n = 0; n < sequences; n++) {
+        state s, model;
+        seed = (first + n) * 0x9e3779b97f4a7c15u | 1;
+        begin(&s, &model);
+        for (uint64_t k = below(24); k > 0; k--, calls++)
+            if (!call_agrees(&s, &model) || !same(&s, &model)) {
+                printf("seed %" PRIu64 ": a call differs, with %" PRIu64 " before its end\n", first + n, k);
+                differ++;
+                break;
+            }
+    }
+    printf("%" PRIu64 " sequences, %" PRIu64 " calls, %" PRIu64 " differ\n", sequences, calls, differ);
+    return differ != 0;
+}
