@@ -1,6 +1,6 @@
 //! Floats, of which only the bits are known.
 
-ghost use Rattle.std.specs.Prelude.{◌≡◌};
+ghost use Rattle.std.specs.Prelude.{◌≡◌, ℕ};
 
 use std::marker::Model;
 
@@ -13,8 +13,6 @@ pub struct F32 {
 }
 
 impl Model for F32 {
-    ghost use Rattle.std.specs.Prelude.{ℕ};
-
     ghost Value = { ℕ };
 
     ghost view = { λ float. float.bits };
@@ -47,8 +45,6 @@ pub struct F64 {
 }
 
 impl Model for F64 {
-    ghost use Rattle.std.specs.Prelude.{ℕ};
-
     ghost Value = { ℕ };
 
     ghost view = { λ float. float.bits };

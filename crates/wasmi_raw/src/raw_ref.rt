@@ -1,6 +1,6 @@
 //! Raw references: what an element of a table holds, whatever its type.
 
-ghost use Rattle.std.specs.Prelude.{◌≡◌, ◌↔◌, IsTrue};
+ghost use Rattle.std.specs.Prelude.{◌≡◌, ◌↔◌, ℕ, IsTrue};
 ghost use Rattle.std.specs.Int.{w32};
 ghost use Rattle.wasmi_raw.specs.RawVal.{raw_of, with_low, unsigned_in};
 
@@ -16,8 +16,6 @@ pub struct RawRef {
 }
 
 impl Model for RawRef {
-    ghost use Rattle.std.specs.Prelude.{ℕ};
-
     ghost Value = { ℕ };
 
     ghost view = { λ reference. reference.bits };

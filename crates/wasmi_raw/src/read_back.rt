@@ -2,6 +2,7 @@
 
 ghost use Rattle.std.specs.Int.NonZero.{non_zero_i8_get, non_zero_i16_get, non_zero_i32_get, non_zero_i64_get, non_zero_u8_get, non_zero_u16_get, non_zero_u32_get, non_zero_u64_get};
 
+use crate::number::Number;
 use crate::raw::{RawVal, ReadBack};
 use crate::vector::V128;
 use std::num::NonZero;
@@ -12,50 +13,9 @@ impl ReadBack for RawVal {
     ghost read_back = { λ value. value };
 }
 
-impl ReadBack for i8 {
-    type Read = i8;
-
-    ghost read_back = { λ value. value };
-}
-
-impl ReadBack for i16 {
-    type Read = i16;
-
-    ghost read_back = { λ value. value };
-}
-
-impl ReadBack for i32 {
-    type Read = i32;
-
-    ghost read_back = { λ value. value };
-}
-
-impl ReadBack for i64 {
-    type Read = i64;
-
-    ghost read_back = { λ value. value };
-}
-
-impl ReadBack for u8 {
-    type Read = u8;
-
-    ghost read_back = { λ value. value };
-}
-
-impl ReadBack for u16 {
-    type Read = u16;
-
-    ghost read_back = { λ value. value };
-}
-
-impl ReadBack for u32 {
-    type Read = u32;
-
-    ghost read_back = { λ value. value };
-}
-
-impl ReadBack for u64 {
-    type Read = u64;
+// An integer is read back as it is.
+impl<T: Number> ReadBack for T {
+    type Read = T;
 
     ghost read_back = { λ value. value };
 }

@@ -1,6 +1,6 @@
 //! The 128-bit value that vector instructions work on.
 
-ghost use Rattle.std.specs.Prelude.{◌≡◌, ◌/◌, ◌%◌, ◌^◌, ◌<◌};
+ghost use Rattle.std.specs.Prelude.{◌≡◌, ℕ, ◌/◌, ◌%◌, ◌^◌, ◌<◌};
 ghost use Rattle.wasmi_raw.specs.Vector.{vector_of};
 
 use std::marker::Model;
@@ -15,9 +15,6 @@ pub struct V128 {
 }
 
 impl Model for V128 {
-    ghost use Rattle.std.specs.Prelude.{ℕ, ◌/◌, ◌%◌, ◌^◌, ◌<◌};
-    ghost use Rattle.wasmi_raw.specs.Vector.{vector_of};
-
     ghost Value = { ℕ };
 
     ghost view = { λ vector. vector_of vector.low vector.high };

@@ -1,6 +1,6 @@
 //! The amount of a shift: how many bits a number is shifted by.
 
-ghost use Rattle.std.specs.Prelude.{◌≡◌, ◌==◌, if◌then◌else◌};
+ghost use Rattle.std.specs.Prelude.{◌≡◌, ℕ, ◌==◌, if◌then◌else◌};
 ghost use mir.Val.{bits};
 ghost use Rattle.wasmi_typed.specs.ShiftAmount.{shift_amount};
 
@@ -48,8 +48,6 @@ pub struct ShiftAmount {
 }
 
 impl Model for ShiftAmount {
-    ghost use Rattle.std.specs.Prelude.{ℕ};
-
     ghost Value = { ℕ };
 
     ghost view = { λ amount. amount.bits };

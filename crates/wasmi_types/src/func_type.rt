@@ -1,7 +1,13 @@
 //! Function types, and the errors of making one.
 
 ghost use Rattle.std.specs.Prelude.{◌≡◌, not, nat_le, if◌then◌else◌, ◌↔◌, IsTrue, ◌+◌, ◌<◌, ◌≤◌, ◌++◌, ◌∷◌, [], length, take, drop, IfOk, IfErr, IsErr, OnOk, OnErr};
-ghost use Rattle.wasmi_types.specs.FunctionType.{entries, entry_count, same_lists, order_key, function_type_cmp};
+ghost use Rattle.std.specs.Cmp.{partial_equiv_from_equiv, partial_order_from_agreeing_total};
+ghost use Rattle.std.specs.Cmp.Lexicographic.{on_texts};
+ghost use Rattle.std.specs.Ordering.{as_partial_cmp};
+ghost use Rattle.std.proofs.Common.{refl};
+ghost use Rattle.wasmi_types.specs.FunctionType.{entries, entry_count, same_lists, order_key, function_type_cmp, lists_input};
+ghost use Rattle.wasmi_types.specs.FunctionTypeProofs.{same_lists_equiv, same_lists_by_cmp, same_lists_alike};
+ghost use Rattle.wasmi_types.specs.ValTypeProofs.{same_type_decides};
 
 use crate::ValType;
 use std::alloc::{AllocError, Global};
@@ -215,20 +221,7 @@ impl FuncType {
         ensures params { result.0.now ≡ self.now.params }
         ensures results { result.1.now ≡ self.now.results }
     {
-        match &self.inner {
-            FuncTypeInner::Inline {
-                len_params,
-                len_results,
-                params_results,
-            } => {
-                let end_params = usize::from(*len_params);
-                params_results[..end_params + usize::from(*len_results)].split_at(end_params)
-            }
-            FuncTypeInner::Big {
-                len_params,
-                params_results,
-            } => params_results.as_slice().split_at(usize::from(*len_params)),
-        }
+        self.entries().split_at(usize::from(self.len_params()))
     }
 
     /// What function types are ordered by, place by place.
@@ -239,15 +232,10 @@ impl FuncType {
             ≡ (if nat_le (entry_count self.now) 21 then length self.now.results else 0) }
         ensures entries { result.3.now ≡ entries self.now }
     {
-        match &self.inner {
-            FuncTypeInner::Inline { .. } => (
-                false,
-                self.len_params(),
-                self.len_results(),
-                self.entries(),
-            ),
-            FuncTypeInner::Big { .. } => (true, self.len_params(), 0, self.entries()),
-        }
+        let entries = self.entries();
+        let is_big = entries.len() > INLINE_SIZE;
+        let len_results = if is_big { 0 } else { self.len_results() };
+        (is_big, self.len_params(), len_results, entries)
     }
 
     /// The types of the parameters, then those of the results.
@@ -297,10 +285,6 @@ impl Clone for FuncType {
 }
 
 impl PartialEq for FuncType {
-    ghost use Rattle.std.specs.Cmp.{partial_equiv_from_equiv};
-    ghost use Rattle.wasmi_types.specs.FunctionTypeProofs.{same_lists_equiv};
-    ghost use Rattle.wasmi_types.specs.ValTypeProofs.{same_type_decides};
-
     ghost eq = { same_lists ⟦<ValType as PartialEq>⟧.eq };
 
     ghost laws = { partial_equiv_from_equiv (same_lists_equiv same_type_decides) };
@@ -314,19 +298,10 @@ impl PartialEq for FuncType {
 }
 
 impl Eq for FuncType {
-    ghost use Rattle.wasmi_types.specs.FunctionTypeProofs.{same_lists_equiv};
-    ghost use Rattle.wasmi_types.specs.ValTypeProofs.{same_type_decides};
-
     ghost laws = { same_lists_equiv same_type_decides };
 }
 
 impl Ord for FuncType {
-    ghost use Rattle.wasmi_types.specs.FunctionTypeProofs.{same_lists_by_cmp};
-    ghost use Rattle.wasmi_types.specs.ValTypeProofs.{same_type_decides};
-    ghost use Rattle.std.specs.Cmp.Lexicographic.{on_texts};
-    ghost use Rattle.std.specs.Ordering.{as_partial_cmp};
-    ghost use Rattle.std.proofs.Common.{refl};
-
     ghost cmp = { function_type_cmp };
 
     ghost total = { on_texts order_key };
@@ -344,13 +319,6 @@ impl Ord for FuncType {
 }
 
 impl PartialOrd for FuncType {
-    ghost use Rattle.wasmi_types.specs.FunctionTypeProofs.{same_lists_by_cmp};
-    ghost use Rattle.wasmi_types.specs.ValTypeProofs.{same_type_decides};
-    ghost use Rattle.std.specs.Cmp.Lexicographic.{on_texts};
-    ghost use Rattle.std.specs.Cmp.{partial_order_from_agreeing_total};
-    ghost use Rattle.std.specs.Ordering.{as_partial_cmp};
-    ghost use Rattle.std.proofs.Common.{refl};
-
     ghost partial_cmp = { as_partial_cmp function_type_cmp };
 
     ghost laws = { partial_order_from_agreeing_total function_type_cmp (on_texts order_key)
@@ -362,10 +330,6 @@ impl PartialOrd for FuncType {
 }
 
 impl Hash for FuncType {
-    ghost use Rattle.wasmi_types.specs.FunctionTypeProofs.{same_lists_alike};
-    ghost use Rattle.wasmi_types.specs.ValTypeProofs.{same_type_decides};
-    ghost use Rattle.wasmi_types.specs.FunctionType.{lists_input};
-
     ghost hash_input = { lists_input ⟦<ValType as Hash>⟧.hash_input };
 
     ghost respects_eq = { same_lists_alike same_type_decides

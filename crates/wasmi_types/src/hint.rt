@@ -5,13 +5,11 @@ ghost use Rattle.std.specs.Prelude.{◌≡◌};
 ///
 /// Upstream: `wasmi_core::hint::cold`.
 #[cold]
-#[inline]
 pub fn cold() {}
 
 /// The condition, which is likely true.
 ///
 /// Upstream: `wasmi_core::hint::likely`.
-#[inline]
 pub fn likely(condition: bool) -> bool
     ensures { result ≡ condition }
 {
@@ -24,7 +22,6 @@ pub fn likely(condition: bool) -> bool
 /// The condition, which is unlikely true.
 ///
 /// Upstream: `wasmi_core::hint::unlikely`.
-#[inline]
 pub fn unlikely(condition: bool) -> bool
     ensures { result ≡ condition }
 {

@@ -1,6 +1,9 @@
 use Rattle.std.proofs.Common.{arith}
-use Rattle.std.proofs.lemmas.List.{drop-take}
+use Rattle.std.proofs.Math.Seq.{take-append_seam, drop-append_seam}
 use Rattle.wasmi_types.proofs.func_type.FuncType.params_results.Goals as goal
 
-pub returns-in-Inline-clause-results : goal.returns-in-Inline-clause-results
-returns-in-Inline-clause-results c = grind (arith, drop-take)
+pub returns-clause-params : goal.returns-clause-params
+returns-clause-params c = grind (arith, take-append_seam)
+
+pub returns-clause-results : goal.returns-clause-results
+returns-clause-results c = grind (arith, drop-append_seam)
