@@ -216,3 +216,6 @@ number_of_bytes_8 n h = number_of-bytes 8 n h
 pub number_of_single : (b : ℕ) → number_of (b ∷ []) ≡ b
 unfolding number_of
 number_of_single b = omega arith
+
+-- for `into_le_bytes` and `from_le_bytes`
+pub ruleset byte_numbers = (number_of_whole, number_of_bytes_2, number_of_bytes_4, number_of_bytes_8, number_of_single)

@@ -84,3 +84,6 @@ image_low v w z le f =
 
 -- for `wrap_into`
 pub ruleset wraps_down = (wrap_of_32, wrap_of_64, to_z-of_z, wrap_wrapped)
+
+-- for the stores of a module
+pub ruleset low_bits = (image_low, wrap_unsigned)

@@ -73,7 +73,6 @@ pub trait LoadInto: ByteArray {
 }
 
 impl<const N: usize> LoadInto for [u8; N] {
-    #[inline]
     fn load_into(&mut self, memory: &[u8], address: usize) -> Result<(), TrapCode> {
         if memory.len() < N || address > memory.len() - N {
             return Err(TrapCode::MemoryOutOfBounds);
@@ -100,7 +99,6 @@ pub trait StoreFrom: ByteArray {
 }
 
 impl<const N: usize> StoreFrom for [u8; N] {
-    #[inline]
     fn store_from(&self, memory: &mut [u8], address: usize) -> Result<(), TrapCode> {
         if memory.len() < N || address > memory.len() - N {
             return Err(TrapCode::MemoryOutOfBounds);
@@ -111,7 +109,6 @@ impl<const N: usize> StoreFrom for [u8; N] {
 }
 
 /// Writes bytes over those at an address. In this form a number is stored from a register.
-#[inline]
 fn put<const N: usize>(memory: &mut [u8], address: usize, bytes: &[u8; N])
     requires room { address + N ≤ length memory.old }
     ensures written { overwrite memory.old address bytes.now ≡ Some memory.new }
@@ -155,7 +152,6 @@ pub trait LittleEndianConvert: Number {
 }
 
 // The address of an access, where it is below 2 to the power 64.
-#[inline]
 fn effective_address(ptr: u64, offset: u64) -> Result<usize, TrapCode>
     ensures { MatchResult result
         (λ address. address ≡ ptr + offset)

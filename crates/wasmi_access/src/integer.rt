@@ -1,4 +1,5 @@
 //! The integers of 8 to 128 bits in little-endian bytes.
+#![tactic(auto, using(crate::proofs::ByteLemmas::byte_numbers))]
 
 ghost use Rattle.std.specs.Prelude.{refl};
 
@@ -7,14 +8,10 @@ use crate::access::LittleEndianConvert;
 impl LittleEndianConvert for u8 {
     type Bytes = [u8; 1];
 
-    #[inline]
-    #[tactic(auto, using(crate::proofs::ByteLemmas::number_of_single))]
     fn into_le_bytes(self) -> [u8; 1] {
         self.to_le_bytes()
     }
 
-    #[inline]
-    #[tactic(auto, using(crate::proofs::ByteLemmas::number_of_whole))]
     fn from_le_bytes(bytes: [u8; 1]) -> u8 {
         u8::from_le_bytes(bytes)
     }
@@ -25,14 +22,10 @@ impl LittleEndianConvert for u8 {
 impl LittleEndianConvert for u16 {
     type Bytes = [u8; 2];
 
-    #[inline]
-    #[tactic(auto, using(crate::proofs::ByteLemmas::number_of_bytes_2))]
     fn into_le_bytes(self) -> [u8; 2] {
         self.to_le_bytes()
     }
 
-    #[inline]
-    #[tactic(auto, using(crate::proofs::ByteLemmas::number_of_whole))]
     fn from_le_bytes(bytes: [u8; 2]) -> u16 {
         u16::from_le_bytes(bytes)
     }
@@ -43,14 +36,10 @@ impl LittleEndianConvert for u16 {
 impl LittleEndianConvert for u32 {
     type Bytes = [u8; 4];
 
-    #[inline]
-    #[tactic(auto, using(crate::proofs::ByteLemmas::number_of_bytes_4))]
     fn into_le_bytes(self) -> [u8; 4] {
         self.to_le_bytes()
     }
 
-    #[inline]
-    #[tactic(auto, using(crate::proofs::ByteLemmas::number_of_whole))]
     fn from_le_bytes(bytes: [u8; 4]) -> u32 {
         u32::from_le_bytes(bytes)
     }
@@ -61,14 +50,10 @@ impl LittleEndianConvert for u32 {
 impl LittleEndianConvert for u64 {
     type Bytes = [u8; 8];
 
-    #[inline]
-    #[tactic(auto, using(crate::proofs::ByteLemmas::number_of_bytes_8))]
     fn into_le_bytes(self) -> [u8; 8] {
         self.to_le_bytes()
     }
 
-    #[inline]
-    #[tactic(auto, using(crate::proofs::ByteLemmas::number_of_whole))]
     fn from_le_bytes(bytes: [u8; 8]) -> u64 {
         u64::from_le_bytes(bytes)
     }
@@ -79,13 +64,10 @@ impl LittleEndianConvert for u64 {
 impl LittleEndianConvert for u128 {
     type Bytes = [u8; 16];
 
-    #[inline]
     fn into_le_bytes(self) -> [u8; 16] {
         self.to_le_bytes()
     }
 
-    #[inline]
-    #[tactic(auto, using(crate::proofs::ByteLemmas::number_of_whole))]
     fn from_le_bytes(bytes: [u8; 16]) -> u128 {
         u128::from_le_bytes(bytes)
     }
@@ -96,14 +78,10 @@ impl LittleEndianConvert for u128 {
 impl LittleEndianConvert for i8 {
     type Bytes = [u8; 1];
 
-    #[inline]
-    #[tactic(auto, using(crate::proofs::ByteLemmas::number_of_single))]
     fn into_le_bytes(self) -> [u8; 1] {
         self.to_le_bytes()
     }
 
-    #[inline]
-    #[tactic(auto, using(crate::proofs::ByteLemmas::number_of_whole))]
     fn from_le_bytes(bytes: [u8; 1]) -> i8 {
         i8::from_le_bytes(bytes)
     }
@@ -114,14 +92,10 @@ impl LittleEndianConvert for i8 {
 impl LittleEndianConvert for i16 {
     type Bytes = [u8; 2];
 
-    #[inline]
-    #[tactic(auto, using(crate::proofs::ByteLemmas::number_of_bytes_2))]
     fn into_le_bytes(self) -> [u8; 2] {
         self.to_le_bytes()
     }
 
-    #[inline]
-    #[tactic(auto, using(crate::proofs::ByteLemmas::number_of_whole))]
     fn from_le_bytes(bytes: [u8; 2]) -> i16 {
         i16::from_le_bytes(bytes)
     }
@@ -132,14 +106,10 @@ impl LittleEndianConvert for i16 {
 impl LittleEndianConvert for i32 {
     type Bytes = [u8; 4];
 
-    #[inline]
-    #[tactic(auto, using(crate::proofs::ByteLemmas::number_of_bytes_4))]
     fn into_le_bytes(self) -> [u8; 4] {
         self.to_le_bytes()
     }
 
-    #[inline]
-    #[tactic(auto, using(crate::proofs::ByteLemmas::number_of_whole))]
     fn from_le_bytes(bytes: [u8; 4]) -> i32 {
         i32::from_le_bytes(bytes)
     }
@@ -150,14 +120,11 @@ impl LittleEndianConvert for i32 {
 impl LittleEndianConvert for i64 {
     type Bytes = [u8; 8];
 
-    #[inline]
     #[tactic(auto, using(crate::proofs::ByteLemmas::number_of_bytes_8))]
     fn into_le_bytes(self) -> [u8; 8] {
         self.to_le_bytes()
     }
 
-    #[inline]
-    #[tactic(auto, using(crate::proofs::ByteLemmas::number_of_whole))]
     fn from_le_bytes(bytes: [u8; 8]) -> i64 {
         i64::from_le_bytes(bytes)
     }
@@ -168,13 +135,10 @@ impl LittleEndianConvert for i64 {
 impl LittleEndianConvert for i128 {
     type Bytes = [u8; 16];
 
-    #[inline]
     fn into_le_bytes(self) -> [u8; 16] {
         self.to_le_bytes()
     }
 
-    #[inline]
-    #[tactic(auto, using(crate::proofs::ByteLemmas::number_of_whole))]
     fn from_le_bytes(bytes: [u8; 16]) -> i128 {
         i128::from_le_bytes(bytes)
     }

@@ -3,6 +3,7 @@
 //! A form without `_at` accesses the address `ptr + offset`, a form with `_at` the given one;
 //! addresses count bytes. The only error is `MemoryOutOfBounds`, and then nothing is written. Core
 //! specification: memory instructions. Upstream: `wasmi_core::wasm`.
+#![tactic(auto, using(crate::proofs::WrapLemmas::low_bits))]
 
 ghost use Rattle.std.specs.Prelude.{◌≡◌, ◌+◌, ◌%◌, ◌^◌, pos};
 ghost use Rattle.std.specs.Int.{w8, w16, w32, w64, cast_signed, cast_unsigned};
@@ -15,7 +16,6 @@ use crate::access::{
 use wasmi_types::TrapCode;
 
 /// `i32.load8_s`: 8 bits, read signed.
-#[inline]
 pub fn i32_load8_s(memory: &[u8], ptr: u64, offset: u64) -> Result<i32, TrapCode>
     ensures { result ≡ loaded 1 (cast_signed w8) memory.now (ptr + offset) }
 {
@@ -23,7 +23,6 @@ pub fn i32_load8_s(memory: &[u8], ptr: u64, offset: u64) -> Result<i32, TrapCode
 }
 
 /// `i32.load8_s` at an address.
-#[inline]
 pub fn i32_load8_s_at(memory: &[u8], address: usize) -> Result<i32, TrapCode>
     ensures { result ≡ loaded 1 (cast_signed w8) memory.now address }
 {
@@ -31,7 +30,6 @@ pub fn i32_load8_s_at(memory: &[u8], address: usize) -> Result<i32, TrapCode>
 }
 
 /// `i32.load8_u`: 8 bits, read unsigned.
-#[inline]
 pub fn i32_load8_u(memory: &[u8], ptr: u64, offset: u64) -> Result<i32, TrapCode>
     ensures { result ≡ loaded 1 pos memory.now (ptr + offset) }
 {
@@ -39,7 +37,6 @@ pub fn i32_load8_u(memory: &[u8], ptr: u64, offset: u64) -> Result<i32, TrapCode
 }
 
 /// `i32.load8_u` at an address.
-#[inline]
 pub fn i32_load8_u_at(memory: &[u8], address: usize) -> Result<i32, TrapCode>
     ensures { result ≡ loaded 1 pos memory.now address }
 {
@@ -47,7 +44,6 @@ pub fn i32_load8_u_at(memory: &[u8], address: usize) -> Result<i32, TrapCode>
 }
 
 /// `i32.load16_s`: 16 bits, read signed.
-#[inline]
 pub fn i32_load16_s(memory: &[u8], ptr: u64, offset: u64) -> Result<i32, TrapCode>
     ensures { result ≡ loaded 2 (cast_signed w16) memory.now (ptr + offset) }
 {
@@ -55,7 +51,6 @@ pub fn i32_load16_s(memory: &[u8], ptr: u64, offset: u64) -> Result<i32, TrapCod
 }
 
 /// `i32.load16_s` at an address.
-#[inline]
 pub fn i32_load16_s_at(memory: &[u8], address: usize) -> Result<i32, TrapCode>
     ensures { result ≡ loaded 2 (cast_signed w16) memory.now address }
 {
@@ -63,7 +58,6 @@ pub fn i32_load16_s_at(memory: &[u8], address: usize) -> Result<i32, TrapCode>
 }
 
 /// `i32.load16_u`: 16 bits, read unsigned.
-#[inline]
 pub fn i32_load16_u(memory: &[u8], ptr: u64, offset: u64) -> Result<i32, TrapCode>
     ensures { result ≡ loaded 2 pos memory.now (ptr + offset) }
 {
@@ -71,7 +65,6 @@ pub fn i32_load16_u(memory: &[u8], ptr: u64, offset: u64) -> Result<i32, TrapCod
 }
 
 /// `i32.load16_u` at an address.
-#[inline]
 pub fn i32_load16_u_at(memory: &[u8], address: usize) -> Result<i32, TrapCode>
     ensures { result ≡ loaded 2 pos memory.now address }
 {
@@ -79,7 +72,6 @@ pub fn i32_load16_u_at(memory: &[u8], address: usize) -> Result<i32, TrapCode>
 }
 
 /// `i64.load8_s`: 8 bits, read signed.
-#[inline]
 pub fn i64_load8_s(memory: &[u8], ptr: u64, offset: u64) -> Result<i64, TrapCode>
     ensures { result ≡ loaded 1 (cast_signed w8) memory.now (ptr + offset) }
 {
@@ -87,7 +79,6 @@ pub fn i64_load8_s(memory: &[u8], ptr: u64, offset: u64) -> Result<i64, TrapCode
 }
 
 /// `i64.load8_s` at an address.
-#[inline]
 pub fn i64_load8_s_at(memory: &[u8], address: usize) -> Result<i64, TrapCode>
     ensures { result ≡ loaded 1 (cast_signed w8) memory.now address }
 {
@@ -95,7 +86,6 @@ pub fn i64_load8_s_at(memory: &[u8], address: usize) -> Result<i64, TrapCode>
 }
 
 /// `i64.load8_u`: 8 bits, read unsigned.
-#[inline]
 pub fn i64_load8_u(memory: &[u8], ptr: u64, offset: u64) -> Result<i64, TrapCode>
     ensures { result ≡ loaded 1 pos memory.now (ptr + offset) }
 {
@@ -103,7 +93,6 @@ pub fn i64_load8_u(memory: &[u8], ptr: u64, offset: u64) -> Result<i64, TrapCode
 }
 
 /// `i64.load8_u` at an address.
-#[inline]
 pub fn i64_load8_u_at(memory: &[u8], address: usize) -> Result<i64, TrapCode>
     ensures { result ≡ loaded 1 pos memory.now address }
 {
@@ -111,7 +100,6 @@ pub fn i64_load8_u_at(memory: &[u8], address: usize) -> Result<i64, TrapCode>
 }
 
 /// `i64.load16_s`: 16 bits, read signed.
-#[inline]
 pub fn i64_load16_s(memory: &[u8], ptr: u64, offset: u64) -> Result<i64, TrapCode>
     ensures { result ≡ loaded 2 (cast_signed w16) memory.now (ptr + offset) }
 {
@@ -119,7 +107,6 @@ pub fn i64_load16_s(memory: &[u8], ptr: u64, offset: u64) -> Result<i64, TrapCod
 }
 
 /// `i64.load16_s` at an address.
-#[inline]
 pub fn i64_load16_s_at(memory: &[u8], address: usize) -> Result<i64, TrapCode>
     ensures { result ≡ loaded 2 (cast_signed w16) memory.now address }
 {
@@ -127,7 +114,6 @@ pub fn i64_load16_s_at(memory: &[u8], address: usize) -> Result<i64, TrapCode>
 }
 
 /// `i64.load16_u`: 16 bits, read unsigned.
-#[inline]
 pub fn i64_load16_u(memory: &[u8], ptr: u64, offset: u64) -> Result<i64, TrapCode>
     ensures { result ≡ loaded 2 pos memory.now (ptr + offset) }
 {
@@ -135,7 +121,6 @@ pub fn i64_load16_u(memory: &[u8], ptr: u64, offset: u64) -> Result<i64, TrapCod
 }
 
 /// `i64.load16_u` at an address.
-#[inline]
 pub fn i64_load16_u_at(memory: &[u8], address: usize) -> Result<i64, TrapCode>
     ensures { result ≡ loaded 2 pos memory.now address }
 {
@@ -143,7 +128,6 @@ pub fn i64_load16_u_at(memory: &[u8], address: usize) -> Result<i64, TrapCode>
 }
 
 /// `i64.load32_s`: 32 bits, read signed.
-#[inline]
 pub fn i64_load32_s(memory: &[u8], ptr: u64, offset: u64) -> Result<i64, TrapCode>
     ensures { result ≡ loaded 4 (cast_signed w32) memory.now (ptr + offset) }
 {
@@ -151,7 +135,6 @@ pub fn i64_load32_s(memory: &[u8], ptr: u64, offset: u64) -> Result<i64, TrapCod
 }
 
 /// `i64.load32_s` at an address.
-#[inline]
 pub fn i64_load32_s_at(memory: &[u8], address: usize) -> Result<i64, TrapCode>
     ensures { result ≡ loaded 4 (cast_signed w32) memory.now address }
 {
@@ -159,7 +142,6 @@ pub fn i64_load32_s_at(memory: &[u8], address: usize) -> Result<i64, TrapCode>
 }
 
 /// `i64.load32_u`: 32 bits, read unsigned.
-#[inline]
 pub fn i64_load32_u(memory: &[u8], ptr: u64, offset: u64) -> Result<i64, TrapCode>
     ensures { result ≡ loaded 4 pos memory.now (ptr + offset) }
 {
@@ -167,7 +149,6 @@ pub fn i64_load32_u(memory: &[u8], ptr: u64, offset: u64) -> Result<i64, TrapCod
 }
 
 /// `i64.load32_u` at an address.
-#[inline]
 pub fn i64_load32_u_at(memory: &[u8], address: usize) -> Result<i64, TrapCode>
     ensures { result ≡ loaded 4 pos memory.now address }
 {
@@ -175,7 +156,6 @@ pub fn i64_load32_u_at(memory: &[u8], address: usize) -> Result<i64, TrapCode>
 }
 
 /// `i32.load`: 32 bits, read unsigned.
-#[inline]
 pub fn load_u32(memory: &[u8], ptr: u64, offset: u64) -> Result<u32, TrapCode>
     ensures { result ≡ loaded 4 (λ n. n) memory.now (ptr + offset) }
 {
@@ -183,7 +163,6 @@ pub fn load_u32(memory: &[u8], ptr: u64, offset: u64) -> Result<u32, TrapCode>
 }
 
 /// `i32.load` at an address.
-#[inline]
 pub fn load_u32_at(memory: &[u8], address: usize) -> Result<u32, TrapCode>
     ensures { result ≡ loaded 4 (λ n. n) memory.now address }
 {
@@ -191,7 +170,6 @@ pub fn load_u32_at(memory: &[u8], address: usize) -> Result<u32, TrapCode>
 }
 
 /// `i64.load`: 64 bits, read unsigned.
-#[inline]
 pub fn load_u64(memory: &[u8], ptr: u64, offset: u64) -> Result<u64, TrapCode>
     ensures { result ≡ loaded 8 (λ n. n) memory.now (ptr + offset) }
 {
@@ -199,7 +177,6 @@ pub fn load_u64(memory: &[u8], ptr: u64, offset: u64) -> Result<u64, TrapCode>
 }
 
 /// `i64.load` at an address.
-#[inline]
 pub fn load_u64_at(memory: &[u8], address: usize) -> Result<u64, TrapCode>
     ensures { result ≡ loaded 8 (λ n. n) memory.now address }
 {
@@ -207,8 +184,6 @@ pub fn load_u64_at(memory: &[u8], address: usize) -> Result<u64, TrapCode>
 }
 
 /// `i32.store8`: the value modulo 2 to the power 8.
-#[inline]
-#[tactic(auto, using(crate::proofs::WrapLemmas::image_low))]
 pub fn i32_store8(memory: &mut [u8], ptr: u64, offset: u64, value: i32) -> Result<(), TrapCode>
     ensures { IsStore memory.old (ptr + offset)
         (le_bytes 1 (cast_unsigned w32 value % 2 ^ 8)) memory.new result }
@@ -217,8 +192,6 @@ pub fn i32_store8(memory: &mut [u8], ptr: u64, offset: u64, value: i32) -> Resul
 }
 
 /// `i32.store8` at an address.
-#[inline]
-#[tactic(auto, using(crate::proofs::WrapLemmas::image_low))]
 pub fn i32_store8_at(memory: &mut [u8], address: usize, value: i32) -> Result<(), TrapCode>
     ensures { IsStore memory.old address
         (le_bytes 1 (cast_unsigned w32 value % 2 ^ 8)) memory.new result }
@@ -227,8 +200,6 @@ pub fn i32_store8_at(memory: &mut [u8], address: usize, value: i32) -> Result<()
 }
 
 /// `i32.store16`: the value modulo 2 to the power 16.
-#[inline]
-#[tactic(auto, using(crate::proofs::WrapLemmas::image_low))]
 pub fn i32_store16(memory: &mut [u8], ptr: u64, offset: u64, value: i32) -> Result<(), TrapCode>
     ensures { IsStore memory.old (ptr + offset)
         (le_bytes 2 (cast_unsigned w32 value % 2 ^ 16)) memory.new result }
@@ -237,8 +208,6 @@ pub fn i32_store16(memory: &mut [u8], ptr: u64, offset: u64, value: i32) -> Resu
 }
 
 /// `i32.store16` at an address.
-#[inline]
-#[tactic(auto, using(crate::proofs::WrapLemmas::image_low))]
 pub fn i32_store16_at(memory: &mut [u8], address: usize, value: i32) -> Result<(), TrapCode>
     ensures { IsStore memory.old address
         (le_bytes 2 (cast_unsigned w32 value % 2 ^ 16)) memory.new result }
@@ -247,8 +216,6 @@ pub fn i32_store16_at(memory: &mut [u8], address: usize, value: i32) -> Result<(
 }
 
 /// `i64.store8`: the value modulo 2 to the power 8.
-#[inline]
-#[tactic(auto, using(crate::proofs::WrapLemmas::image_low))]
 pub fn i64_store8(memory: &mut [u8], ptr: u64, offset: u64, value: i64) -> Result<(), TrapCode>
     ensures { IsStore memory.old (ptr + offset)
         (le_bytes 1 (cast_unsigned w64 value % 2 ^ 8)) memory.new result }
@@ -257,8 +224,6 @@ pub fn i64_store8(memory: &mut [u8], ptr: u64, offset: u64, value: i64) -> Resul
 }
 
 /// `i64.store8` at an address.
-#[inline]
-#[tactic(auto, using(crate::proofs::WrapLemmas::image_low))]
 pub fn i64_store8_at(memory: &mut [u8], address: usize, value: i64) -> Result<(), TrapCode>
     ensures { IsStore memory.old address
         (le_bytes 1 (cast_unsigned w64 value % 2 ^ 8)) memory.new result }
@@ -267,8 +232,6 @@ pub fn i64_store8_at(memory: &mut [u8], address: usize, value: i64) -> Result<()
 }
 
 /// `i64.store16`: the value modulo 2 to the power 16.
-#[inline]
-#[tactic(auto, using(crate::proofs::WrapLemmas::image_low))]
 pub fn i64_store16(memory: &mut [u8], ptr: u64, offset: u64, value: i64) -> Result<(), TrapCode>
     ensures { IsStore memory.old (ptr + offset)
         (le_bytes 2 (cast_unsigned w64 value % 2 ^ 16)) memory.new result }
@@ -277,8 +240,6 @@ pub fn i64_store16(memory: &mut [u8], ptr: u64, offset: u64, value: i64) -> Resu
 }
 
 /// `i64.store16` at an address.
-#[inline]
-#[tactic(auto, using(crate::proofs::WrapLemmas::image_low))]
 pub fn i64_store16_at(memory: &mut [u8], address: usize, value: i64) -> Result<(), TrapCode>
     ensures { IsStore memory.old address
         (le_bytes 2 (cast_unsigned w64 value % 2 ^ 16)) memory.new result }
@@ -287,8 +248,6 @@ pub fn i64_store16_at(memory: &mut [u8], address: usize, value: i64) -> Result<(
 }
 
 /// `i64.store32`: the value modulo 2 to the power 32.
-#[inline]
-#[tactic(auto, using(crate::proofs::WrapLemmas::image_low))]
 pub fn i64_store32(memory: &mut [u8], ptr: u64, offset: u64, value: i64) -> Result<(), TrapCode>
     ensures { IsStore memory.old (ptr + offset)
         (le_bytes 4 (cast_unsigned w64 value % 2 ^ 32)) memory.new result }
@@ -297,8 +256,6 @@ pub fn i64_store32(memory: &mut [u8], ptr: u64, offset: u64, value: i64) -> Resu
 }
 
 /// `i64.store32` at an address.
-#[inline]
-#[tactic(auto, using(crate::proofs::WrapLemmas::image_low))]
 pub fn i64_store32_at(memory: &mut [u8], address: usize, value: i64) -> Result<(), TrapCode>
     ensures { IsStore memory.old address
         (le_bytes 4 (cast_unsigned w64 value % 2 ^ 32)) memory.new result }
@@ -307,8 +264,6 @@ pub fn i64_store32_at(memory: &mut [u8], address: usize, value: i64) -> Result<(
 }
 
 /// `i32.store`: the 32 bits of the value.
-#[inline]
-#[tactic(auto, using(crate::proofs::WrapLemmas::wrap_unsigned))]
 pub fn store32(memory: &mut [u8], ptr: u64, offset: u64, value: u32) -> Result<(), TrapCode>
     ensures { IsStore memory.old (ptr + offset) (le_bytes 4 value) memory.new result }
 {
@@ -316,8 +271,6 @@ pub fn store32(memory: &mut [u8], ptr: u64, offset: u64, value: u32) -> Result<(
 }
 
 /// `i32.store` at an address.
-#[inline]
-#[tactic(auto, using(crate::proofs::WrapLemmas::wrap_unsigned))]
 pub fn store32_at(memory: &mut [u8], address: usize, value: u32) -> Result<(), TrapCode>
     ensures { IsStore memory.old address (le_bytes 4 value) memory.new result }
 {
@@ -325,8 +278,6 @@ pub fn store32_at(memory: &mut [u8], address: usize, value: u32) -> Result<(), T
 }
 
 /// `i64.store`: the 64 bits of the value.
-#[inline]
-#[tactic(auto, using(crate::proofs::WrapLemmas::wrap_unsigned))]
 pub fn store64(memory: &mut [u8], ptr: u64, offset: u64, value: u64) -> Result<(), TrapCode>
     ensures { IsStore memory.old (ptr + offset) (le_bytes 8 value) memory.new result }
 {
@@ -334,8 +285,6 @@ pub fn store64(memory: &mut [u8], ptr: u64, offset: u64, value: u64) -> Result<(
 }
 
 /// `i64.store` at an address.
-#[inline]
-#[tactic(auto, using(crate::proofs::WrapLemmas::wrap_unsigned))]
 pub fn store64_at(memory: &mut [u8], address: usize, value: u64) -> Result<(), TrapCode>
     ensures { IsStore memory.old address (le_bytes 8 value) memory.new result }
 {

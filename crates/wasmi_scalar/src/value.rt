@@ -118,52 +118,42 @@ pub trait Integer: Unsigned + Number {
 }
 
 impl Integer for i32 {
-    #[inline]
     fn is_zero(self) -> bool {
         self == 0
     }
 
-    #[inline]
     fn leading_zeros(self) -> i32 {
         self.leading_zeros() as i32
     }
 
-    #[inline]
     fn trailing_zeros(self) -> i32 {
         self.trailing_zeros() as i32
     }
 
-    #[inline]
     fn count_ones(self) -> i32 {
         self.count_ones() as i32
     }
 
-    #[inline]
     fn shl(lhs: i32, rhs: i32) -> i32 {
         lhs.wrapping_shl(rhs.cast_unsigned())
     }
 
-    #[inline]
     fn shr_s(lhs: i32, rhs: i32) -> i32 {
         lhs.wrapping_shr(rhs.cast_unsigned())
     }
 
-    #[inline]
     fn shr_u(lhs: u32, rhs: u32) -> u32 {
         lhs.wrapping_shr(rhs)
     }
 
-    #[inline]
     fn rotl(lhs: i32, rhs: i32) -> i32 {
         lhs.rotate_left(rhs.cast_unsigned())
     }
 
-    #[inline]
     fn rotr(lhs: i32, rhs: i32) -> i32 {
         lhs.rotate_right(rhs.cast_unsigned())
     }
 
-    #[inline]
     fn div_s(lhs: i32, rhs: i32) -> Result<i32, TrapCode> {
         if rhs == 0 {
             return Err(TrapCode::IntegerDivisionByZero);
@@ -171,12 +161,10 @@ impl Integer for i32 {
         lhs.checked_div(rhs).ok_or(TrapCode::IntegerOverflow)
     }
 
-    #[inline]
     fn div_u(lhs: u32, rhs: u32) -> Result<u32, TrapCode> {
         lhs.checked_div(rhs).ok_or(TrapCode::IntegerDivisionByZero)
     }
 
-    #[inline]
     fn rem_s(lhs: i32, rhs: i32) -> Result<i32, TrapCode> {
         if rhs == 0 {
             return Err(TrapCode::IntegerDivisionByZero);
@@ -184,7 +172,6 @@ impl Integer for i32 {
         Ok(lhs.wrapping_rem(rhs))
     }
 
-    #[inline]
     fn rem_u(lhs: u32, rhs: u32) -> Result<u32, TrapCode> {
         lhs.checked_rem(rhs).ok_or(TrapCode::IntegerDivisionByZero)
     }
@@ -195,52 +182,42 @@ impl Integer for i32 {
 }
 
 impl Integer for i64 {
-    #[inline]
     fn is_zero(self) -> bool {
         self == 0
     }
 
-    #[inline]
     fn leading_zeros(self) -> i64 {
         self.leading_zeros() as i64
     }
 
-    #[inline]
     fn trailing_zeros(self) -> i64 {
         self.trailing_zeros() as i64
     }
 
-    #[inline]
     fn count_ones(self) -> i64 {
         self.count_ones() as i64
     }
 
-    #[inline]
     fn shl(lhs: i64, rhs: i64) -> i64 {
         lhs.wrapping_shl(amount(rhs))
     }
 
-    #[inline]
     fn shr_s(lhs: i64, rhs: i64) -> i64 {
         lhs.wrapping_shr(amount(rhs))
     }
 
-    #[inline]
     fn shr_u(lhs: u64, rhs: u64) -> u64 {
         lhs.wrapping_shr((rhs % 64) as u32)
     }
 
-    #[inline]
     fn rotl(lhs: i64, rhs: i64) -> i64 {
         lhs.rotate_left(amount(rhs))
     }
 
-    #[inline]
     fn rotr(lhs: i64, rhs: i64) -> i64 {
         lhs.rotate_right(amount(rhs))
     }
 
-    #[inline]
     fn div_s(lhs: i64, rhs: i64) -> Result<i64, TrapCode> {
         if rhs == 0 {
             return Err(TrapCode::IntegerDivisionByZero);
@@ -248,12 +225,10 @@ impl Integer for i64 {
         lhs.checked_div(rhs).ok_or(TrapCode::IntegerOverflow)
     }
 
-    #[inline]
     fn div_u(lhs: u64, rhs: u64) -> Result<u64, TrapCode> {
         lhs.checked_div(rhs).ok_or(TrapCode::IntegerDivisionByZero)
     }
 
-    #[inline]
     fn rem_s(lhs: i64, rhs: i64) -> Result<i64, TrapCode> {
         if rhs == 0 {
             return Err(TrapCode::IntegerDivisionByZero);
@@ -261,7 +236,6 @@ impl Integer for i64 {
         Ok(lhs.wrapping_rem(rhs))
     }
 
-    #[inline]
     fn rem_u(lhs: u64, rhs: u64) -> Result<u64, TrapCode> {
         lhs.checked_rem(rhs).ok_or(TrapCode::IntegerDivisionByZero)
     }
@@ -280,7 +254,6 @@ fn amount(rhs: i64) -> u32
 }
 
 impl SignExtendFrom<i8> for i32 {
-    #[inline]
     fn sign_extend_from(self) -> i32 {
         let low: i8 = self.wrap_into();
         low as i32
@@ -288,7 +261,6 @@ impl SignExtendFrom<i8> for i32 {
 }
 
 impl SignExtendFrom<i16> for i32 {
-    #[inline]
     fn sign_extend_from(self) -> i32 {
         let low: i16 = self.wrap_into();
         low as i32
@@ -296,7 +268,6 @@ impl SignExtendFrom<i16> for i32 {
 }
 
 impl SignExtendFrom<i8> for i64 {
-    #[inline]
     fn sign_extend_from(self) -> i64 {
         let low: i8 = self.wrap_into();
         low as i64
@@ -304,7 +275,6 @@ impl SignExtendFrom<i8> for i64 {
 }
 
 impl SignExtendFrom<i16> for i64 {
-    #[inline]
     fn sign_extend_from(self) -> i64 {
         let low: i16 = self.wrap_into();
         low as i64
@@ -312,7 +282,6 @@ impl SignExtendFrom<i16> for i64 {
 }
 
 impl SignExtendFrom<i32> for i64 {
-    #[inline]
     fn sign_extend_from(self) -> i64 {
         let low: i32 = self.wrap_into();
         low as i64

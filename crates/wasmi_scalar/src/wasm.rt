@@ -4,6 +4,7 @@
 //! `bitxor` are `and`, `or` and `xor`. Core specification: numeric instructions; of `i64_add128`,
 //! `i64_sub128`, `i64_mul_wide_s` and `i64_mul_wide_u`: the wide-arithmetic proposal. Upstream:
 //! `wasmi_core::wasm`.
+#![tactic(auto, using(crate::proofs::NumericsLemmas::given))]
 
 ghost use Rattle.std.specs.Prelude.{◌≡◌, ◌*◌, ◌*ℤ◌};
 ghost use Rattle.std.specs.Int.{w8, w16, w32, w64, cast_unsigned, int_wrap};
@@ -15,7 +16,6 @@ use wasmi_access::access::{ExtendInto, WrapInto};
 use wasmi_types::TrapCode;
 
 /// The sum modulo 2 to the power 32.
-#[inline]
 pub fn i32_add(lhs: i32, rhs: i32) -> i32
     ensures { result ≡ iadd w32 lhs rhs }
 {
@@ -23,7 +23,6 @@ pub fn i32_add(lhs: i32, rhs: i32) -> i32
 }
 
 /// The difference modulo 2 to the power 32.
-#[inline]
 pub fn i32_sub(lhs: i32, rhs: i32) -> i32
     ensures { result ≡ isub w32 lhs rhs }
 {
@@ -31,7 +30,6 @@ pub fn i32_sub(lhs: i32, rhs: i32) -> i32
 }
 
 /// The product modulo 2 to the power 32.
-#[inline]
 pub fn i32_mul(lhs: i32, rhs: i32) -> i32
     ensures { result ≡ imul w32 lhs rhs }
 {
@@ -39,7 +37,6 @@ pub fn i32_mul(lhs: i32, rhs: i32) -> i32
 }
 
 /// Bitwise and.
-#[inline]
 pub fn i32_bitand(lhs: i32, rhs: i32) -> i32
     ensures { result ≡ iand w32 lhs rhs }
 {
@@ -47,7 +44,6 @@ pub fn i32_bitand(lhs: i32, rhs: i32) -> i32
 }
 
 /// Bitwise or.
-#[inline]
 pub fn i32_bitor(lhs: i32, rhs: i32) -> i32
     ensures { result ≡ ior w32 lhs rhs }
 {
@@ -55,7 +51,6 @@ pub fn i32_bitor(lhs: i32, rhs: i32) -> i32
 }
 
 /// Bitwise exclusive or.
-#[inline]
 pub fn i32_bitxor(lhs: i32, rhs: i32) -> i32
     ensures { result ≡ ixor w32 lhs rhs }
 {
@@ -63,7 +58,6 @@ pub fn i32_bitxor(lhs: i32, rhs: i32) -> i32
 }
 
 /// Shifts to the left; the amount is taken modulo 32.
-#[inline]
 pub fn i32_shl(lhs: i32, rhs: i32) -> i32
     ensures { result ≡ ishl w32 lhs rhs }
 {
@@ -71,7 +65,6 @@ pub fn i32_shl(lhs: i32, rhs: i32) -> i32
 }
 
 /// Shifts to the right and fills with the highest bit; the amount is taken modulo 32.
-#[inline]
 pub fn i32_shr_s(lhs: i32, rhs: i32) -> i32
     ensures { result ≡ ishr_s w32 lhs rhs }
 {
@@ -79,7 +72,6 @@ pub fn i32_shr_s(lhs: i32, rhs: i32) -> i32
 }
 
 /// Shifts to the right and fills with zeros; the amount is taken modulo 32.
-#[inline]
 pub fn i32_shr_u(lhs: u32, rhs: u32) -> u32
     ensures { result ≡ ishr_u w32 lhs rhs }
 {
@@ -87,7 +79,6 @@ pub fn i32_shr_u(lhs: u32, rhs: u32) -> u32
 }
 
 /// Rotates to the left; the amount is taken modulo 32.
-#[inline]
 pub fn i32_rotl(lhs: i32, rhs: i32) -> i32
     ensures { result ≡ irotl w32 lhs rhs }
 {
@@ -95,7 +86,6 @@ pub fn i32_rotl(lhs: i32, rhs: i32) -> i32
 }
 
 /// Rotates to the right; the amount is taken modulo 32.
-#[inline]
 pub fn i32_rotr(lhs: i32, rhs: i32) -> i32
     ensures { result ≡ irotr w32 lhs rhs }
 {
@@ -105,8 +95,6 @@ pub fn i32_rotr(lhs: i32, rhs: i32) -> i32
 /// The quotient towards zero.
 ///
 /// `IntegerDivisionByZero` for a divisor of 0, then `IntegerOverflow` for the least number by -1.
-#[inline]
-#[tactic(auto, using(crate::proofs::NumericsLemmas::given))]
 pub fn i32_div_s(lhs: i32, rhs: i32) -> Result<i32, TrapCode>
     ensures { result ≡ idiv_s w32 lhs rhs }
 {
@@ -116,8 +104,6 @@ pub fn i32_div_s(lhs: i32, rhs: i32) -> Result<i32, TrapCode>
 /// The quotient.
 ///
 /// `IntegerDivisionByZero` for a divisor of 0.
-#[inline]
-#[tactic(auto, using(crate::proofs::NumericsLemmas::given))]
 pub fn i32_div_u(lhs: u32, rhs: u32) -> Result<u32, TrapCode>
     ensures { result ≡ idiv_u lhs rhs }
 {
@@ -127,8 +113,6 @@ pub fn i32_div_u(lhs: u32, rhs: u32) -> Result<u32, TrapCode>
 /// The remainder, with the sign of `lhs`; 0 for the least number by -1.
 ///
 /// `IntegerDivisionByZero` for a divisor of 0.
-#[inline]
-#[tactic(auto, using(crate::proofs::NumericsLemmas::given))]
 pub fn i32_rem_s(lhs: i32, rhs: i32) -> Result<i32, TrapCode>
     ensures { result ≡ irem_s lhs rhs }
 {
@@ -138,8 +122,6 @@ pub fn i32_rem_s(lhs: i32, rhs: i32) -> Result<i32, TrapCode>
 /// The remainder.
 ///
 /// `IntegerDivisionByZero` for a divisor of 0.
-#[inline]
-#[tactic(auto, using(crate::proofs::NumericsLemmas::given))]
 pub fn i32_rem_u(lhs: u32, rhs: u32) -> Result<u32, TrapCode>
     ensures { result ≡ irem_u lhs rhs }
 {
@@ -147,7 +129,6 @@ pub fn i32_rem_u(lhs: u32, rhs: u32) -> Result<u32, TrapCode>
 }
 
 /// The zeros above the highest bit that is set, 32 for 0.
-#[inline]
 pub fn i32_clz(value: i32) -> i32
     ensures { result ≡ iclz w32 value }
 {
@@ -155,7 +136,6 @@ pub fn i32_clz(value: i32) -> i32
 }
 
 /// The zeros below the lowest bit that is set, 32 for 0.
-#[inline]
 pub fn i32_ctz(value: i32) -> i32
     ensures { result ≡ ictz w32 value }
 {
@@ -163,7 +143,6 @@ pub fn i32_ctz(value: i32) -> i32
 }
 
 /// The bits that are set.
-#[inline]
 pub fn i32_popcnt(value: i32) -> i32
     ensures { result ≡ ipopcnt w32 value }
 {
@@ -171,7 +150,6 @@ pub fn i32_popcnt(value: i32) -> i32
 }
 
 /// Whether the number is 0.
-#[inline]
 pub fn i32_eqz(value: i32) -> bool
     ensures { result ≡ ieqz value }
 {
@@ -179,7 +157,6 @@ pub fn i32_eqz(value: i32) -> bool
 }
 
 /// Whether `lhs` is `rhs`.
-#[inline]
 pub fn i32_eq(lhs: i32, rhs: i32) -> bool
     ensures { result ≡ ieq lhs rhs }
 {
@@ -187,7 +164,6 @@ pub fn i32_eq(lhs: i32, rhs: i32) -> bool
 }
 
 /// Whether `lhs` isn't `rhs`.
-#[inline]
 pub fn i32_ne(lhs: i32, rhs: i32) -> bool
     ensures { result ≡ ine lhs rhs }
 {
@@ -195,7 +171,6 @@ pub fn i32_ne(lhs: i32, rhs: i32) -> bool
 }
 
 /// Whether `lhs` is below `rhs`, read signed.
-#[inline]
 pub fn i32_lt_s(lhs: i32, rhs: i32) -> bool
     ensures { result ≡ ilt_s lhs rhs }
 {
@@ -203,7 +178,6 @@ pub fn i32_lt_s(lhs: i32, rhs: i32) -> bool
 }
 
 /// Whether `lhs` is below `rhs`, read unsigned.
-#[inline]
 pub fn i32_lt_u(lhs: u32, rhs: u32) -> bool
     ensures { result ≡ ilt_u lhs rhs }
 {
@@ -211,7 +185,6 @@ pub fn i32_lt_u(lhs: u32, rhs: u32) -> bool
 }
 
 /// Whether `lhs` is at most `rhs`, read signed.
-#[inline]
 pub fn i32_le_s(lhs: i32, rhs: i32) -> bool
     ensures { result ≡ ile_s lhs rhs }
 {
@@ -219,7 +192,6 @@ pub fn i32_le_s(lhs: i32, rhs: i32) -> bool
 }
 
 /// Whether `lhs` is at most `rhs`, read unsigned.
-#[inline]
 pub fn i32_le_u(lhs: u32, rhs: u32) -> bool
     ensures { result ≡ ile_u lhs rhs }
 {
@@ -227,7 +199,6 @@ pub fn i32_le_u(lhs: u32, rhs: u32) -> bool
 }
 
 /// Whether `lhs` is above `rhs`, read signed.
-#[inline]
 pub fn i32_gt_s(lhs: i32, rhs: i32) -> bool
     ensures { result ≡ igt_s lhs rhs }
 {
@@ -235,7 +206,6 @@ pub fn i32_gt_s(lhs: i32, rhs: i32) -> bool
 }
 
 /// Whether `lhs` is above `rhs`, read unsigned.
-#[inline]
 pub fn i32_gt_u(lhs: u32, rhs: u32) -> bool
     ensures { result ≡ igt_u lhs rhs }
 {
@@ -243,7 +213,6 @@ pub fn i32_gt_u(lhs: u32, rhs: u32) -> bool
 }
 
 /// Whether `lhs` is at least `rhs`, read signed.
-#[inline]
 pub fn i32_ge_s(lhs: i32, rhs: i32) -> bool
     ensures { result ≡ ige_s lhs rhs }
 {
@@ -251,7 +220,6 @@ pub fn i32_ge_s(lhs: i32, rhs: i32) -> bool
 }
 
 /// Whether `lhs` is at least `rhs`, read unsigned.
-#[inline]
 pub fn i32_ge_u(lhs: u32, rhs: u32) -> bool
     ensures { result ≡ ige_u lhs rhs }
 {
@@ -259,7 +227,6 @@ pub fn i32_ge_u(lhs: u32, rhs: u32) -> bool
 }
 
 /// The sum modulo 2 to the power 64.
-#[inline]
 pub fn i64_add(lhs: i64, rhs: i64) -> i64
     ensures { result ≡ iadd w64 lhs rhs }
 {
@@ -267,7 +234,6 @@ pub fn i64_add(lhs: i64, rhs: i64) -> i64
 }
 
 /// The difference modulo 2 to the power 64.
-#[inline]
 pub fn i64_sub(lhs: i64, rhs: i64) -> i64
     ensures { result ≡ isub w64 lhs rhs }
 {
@@ -275,7 +241,6 @@ pub fn i64_sub(lhs: i64, rhs: i64) -> i64
 }
 
 /// The product modulo 2 to the power 64.
-#[inline]
 pub fn i64_mul(lhs: i64, rhs: i64) -> i64
     ensures { result ≡ imul w64 lhs rhs }
 {
@@ -283,7 +248,6 @@ pub fn i64_mul(lhs: i64, rhs: i64) -> i64
 }
 
 /// Bitwise and.
-#[inline]
 pub fn i64_bitand(lhs: i64, rhs: i64) -> i64
     ensures { result ≡ iand w64 lhs rhs }
 {
@@ -291,7 +255,6 @@ pub fn i64_bitand(lhs: i64, rhs: i64) -> i64
 }
 
 /// Bitwise or.
-#[inline]
 pub fn i64_bitor(lhs: i64, rhs: i64) -> i64
     ensures { result ≡ ior w64 lhs rhs }
 {
@@ -299,7 +262,6 @@ pub fn i64_bitor(lhs: i64, rhs: i64) -> i64
 }
 
 /// Bitwise exclusive or.
-#[inline]
 pub fn i64_bitxor(lhs: i64, rhs: i64) -> i64
     ensures { result ≡ ixor w64 lhs rhs }
 {
@@ -307,7 +269,6 @@ pub fn i64_bitxor(lhs: i64, rhs: i64) -> i64
 }
 
 /// Shifts to the left; the amount is taken modulo 64.
-#[inline]
 pub fn i64_shl(lhs: i64, rhs: i64) -> i64
     ensures { result ≡ ishl w64 lhs rhs }
 {
@@ -315,7 +276,6 @@ pub fn i64_shl(lhs: i64, rhs: i64) -> i64
 }
 
 /// Shifts to the right and fills with the highest bit; the amount is taken modulo 64.
-#[inline]
 pub fn i64_shr_s(lhs: i64, rhs: i64) -> i64
     ensures { result ≡ ishr_s w64 lhs rhs }
 {
@@ -323,7 +283,6 @@ pub fn i64_shr_s(lhs: i64, rhs: i64) -> i64
 }
 
 /// Shifts to the right and fills with zeros; the amount is taken modulo 64.
-#[inline]
 pub fn i64_shr_u(lhs: u64, rhs: u64) -> u64
     ensures { result ≡ ishr_u w64 lhs rhs }
 {
@@ -331,7 +290,6 @@ pub fn i64_shr_u(lhs: u64, rhs: u64) -> u64
 }
 
 /// Rotates to the left; the amount is taken modulo 64.
-#[inline]
 pub fn i64_rotl(lhs: i64, rhs: i64) -> i64
     ensures { result ≡ irotl w64 lhs rhs }
 {
@@ -339,7 +297,6 @@ pub fn i64_rotl(lhs: i64, rhs: i64) -> i64
 }
 
 /// Rotates to the right; the amount is taken modulo 64.
-#[inline]
 pub fn i64_rotr(lhs: i64, rhs: i64) -> i64
     ensures { result ≡ irotr w64 lhs rhs }
 {
@@ -349,8 +306,6 @@ pub fn i64_rotr(lhs: i64, rhs: i64) -> i64
 /// The quotient towards zero.
 ///
 /// `IntegerDivisionByZero` for a divisor of 0, then `IntegerOverflow` for the least number by -1.
-#[inline]
-#[tactic(auto, using(crate::proofs::NumericsLemmas::given))]
 pub fn i64_div_s(lhs: i64, rhs: i64) -> Result<i64, TrapCode>
     ensures { result ≡ idiv_s w64 lhs rhs }
 {
@@ -360,8 +315,6 @@ pub fn i64_div_s(lhs: i64, rhs: i64) -> Result<i64, TrapCode>
 /// The quotient.
 ///
 /// `IntegerDivisionByZero` for a divisor of 0.
-#[inline]
-#[tactic(auto, using(crate::proofs::NumericsLemmas::given))]
 pub fn i64_div_u(lhs: u64, rhs: u64) -> Result<u64, TrapCode>
     ensures { result ≡ idiv_u lhs rhs }
 {
@@ -371,8 +324,6 @@ pub fn i64_div_u(lhs: u64, rhs: u64) -> Result<u64, TrapCode>
 /// The remainder, with the sign of `lhs`; 0 for the least number by -1.
 ///
 /// `IntegerDivisionByZero` for a divisor of 0.
-#[inline]
-#[tactic(auto, using(crate::proofs::NumericsLemmas::given))]
 pub fn i64_rem_s(lhs: i64, rhs: i64) -> Result<i64, TrapCode>
     ensures { result ≡ irem_s lhs rhs }
 {
@@ -382,8 +333,6 @@ pub fn i64_rem_s(lhs: i64, rhs: i64) -> Result<i64, TrapCode>
 /// The remainder.
 ///
 /// `IntegerDivisionByZero` for a divisor of 0.
-#[inline]
-#[tactic(auto, using(crate::proofs::NumericsLemmas::given))]
 pub fn i64_rem_u(lhs: u64, rhs: u64) -> Result<u64, TrapCode>
     ensures { result ≡ irem_u lhs rhs }
 {
@@ -391,7 +340,6 @@ pub fn i64_rem_u(lhs: u64, rhs: u64) -> Result<u64, TrapCode>
 }
 
 /// The zeros above the highest bit that is set, 64 for 0.
-#[inline]
 pub fn i64_clz(value: i64) -> i64
     ensures { result ≡ iclz w64 value }
 {
@@ -399,7 +347,6 @@ pub fn i64_clz(value: i64) -> i64
 }
 
 /// The zeros below the lowest bit that is set, 64 for 0.
-#[inline]
 pub fn i64_ctz(value: i64) -> i64
     ensures { result ≡ ictz w64 value }
 {
@@ -407,7 +354,6 @@ pub fn i64_ctz(value: i64) -> i64
 }
 
 /// The bits that are set.
-#[inline]
 pub fn i64_popcnt(value: i64) -> i64
     ensures { result ≡ ipopcnt w64 value }
 {
@@ -415,7 +361,6 @@ pub fn i64_popcnt(value: i64) -> i64
 }
 
 /// Whether the number is 0.
-#[inline]
 pub fn i64_eqz(value: i64) -> bool
     ensures { result ≡ ieqz value }
 {
@@ -423,7 +368,6 @@ pub fn i64_eqz(value: i64) -> bool
 }
 
 /// Whether `lhs` is `rhs`.
-#[inline]
 pub fn i64_eq(lhs: i64, rhs: i64) -> bool
     ensures { result ≡ ieq lhs rhs }
 {
@@ -431,7 +375,6 @@ pub fn i64_eq(lhs: i64, rhs: i64) -> bool
 }
 
 /// Whether `lhs` isn't `rhs`.
-#[inline]
 pub fn i64_ne(lhs: i64, rhs: i64) -> bool
     ensures { result ≡ ine lhs rhs }
 {
@@ -439,7 +382,6 @@ pub fn i64_ne(lhs: i64, rhs: i64) -> bool
 }
 
 /// Whether `lhs` is below `rhs`, read signed.
-#[inline]
 pub fn i64_lt_s(lhs: i64, rhs: i64) -> bool
     ensures { result ≡ ilt_s lhs rhs }
 {
@@ -447,7 +389,6 @@ pub fn i64_lt_s(lhs: i64, rhs: i64) -> bool
 }
 
 /// Whether `lhs` is below `rhs`, read unsigned.
-#[inline]
 pub fn i64_lt_u(lhs: u64, rhs: u64) -> bool
     ensures { result ≡ ilt_u lhs rhs }
 {
@@ -455,7 +396,6 @@ pub fn i64_lt_u(lhs: u64, rhs: u64) -> bool
 }
 
 /// Whether `lhs` is at most `rhs`, read signed.
-#[inline]
 pub fn i64_le_s(lhs: i64, rhs: i64) -> bool
     ensures { result ≡ ile_s lhs rhs }
 {
@@ -463,7 +403,6 @@ pub fn i64_le_s(lhs: i64, rhs: i64) -> bool
 }
 
 /// Whether `lhs` is at most `rhs`, read unsigned.
-#[inline]
 pub fn i64_le_u(lhs: u64, rhs: u64) -> bool
     ensures { result ≡ ile_u lhs rhs }
 {
@@ -471,7 +410,6 @@ pub fn i64_le_u(lhs: u64, rhs: u64) -> bool
 }
 
 /// Whether `lhs` is above `rhs`, read signed.
-#[inline]
 pub fn i64_gt_s(lhs: i64, rhs: i64) -> bool
     ensures { result ≡ igt_s lhs rhs }
 {
@@ -479,7 +417,6 @@ pub fn i64_gt_s(lhs: i64, rhs: i64) -> bool
 }
 
 /// Whether `lhs` is above `rhs`, read unsigned.
-#[inline]
 pub fn i64_gt_u(lhs: u64, rhs: u64) -> bool
     ensures { result ≡ igt_u lhs rhs }
 {
@@ -487,7 +424,6 @@ pub fn i64_gt_u(lhs: u64, rhs: u64) -> bool
 }
 
 /// Whether `lhs` is at least `rhs`, read signed.
-#[inline]
 pub fn i64_ge_s(lhs: i64, rhs: i64) -> bool
     ensures { result ≡ ige_s lhs rhs }
 {
@@ -495,7 +431,6 @@ pub fn i64_ge_s(lhs: i64, rhs: i64) -> bool
 }
 
 /// Whether `lhs` is at least `rhs`, read unsigned.
-#[inline]
 pub fn i64_ge_u(lhs: u64, rhs: u64) -> bool
     ensures { result ≡ ige_u lhs rhs }
 {
@@ -503,7 +438,6 @@ pub fn i64_ge_u(lhs: u64, rhs: u64) -> bool
 }
 
 /// The low 32 bits.
-#[inline]
 pub fn i32_wrap_i64(value: i64) -> i32
     ensures { result ≡ int_wrap w32 value }
 {
@@ -511,7 +445,6 @@ pub fn i32_wrap_i64(value: i64) -> i32
 }
 
 /// The same number.
-#[inline]
 pub fn i64_extend_i32_s(value: i32) -> i64
     ensures { result ≡ value }
 {
@@ -519,7 +452,6 @@ pub fn i64_extend_i32_s(value: i32) -> i64
 }
 
 /// The same number.
-#[inline]
 pub fn i64_extend_i32_u(value: u32) -> u64
     ensures { result ≡ value }
 {
@@ -527,7 +459,6 @@ pub fn i64_extend_i32_u(value: u32) -> u64
 }
 
 /// The low 8 bits, extended by their sign.
-#[inline]
 pub fn i32_extend8_s(value: i32) -> i32
     ensures { result ≡ int_wrap w8 value }
 {
@@ -535,7 +466,6 @@ pub fn i32_extend8_s(value: i32) -> i32
 }
 
 /// The low 16 bits, extended by their sign.
-#[inline]
 pub fn i32_extend16_s(value: i32) -> i32
     ensures { result ≡ int_wrap w16 value }
 {
@@ -543,7 +473,6 @@ pub fn i32_extend16_s(value: i32) -> i32
 }
 
 /// The low 8 bits, extended by their sign.
-#[inline]
 pub fn i64_extend8_s(value: i64) -> i64
     ensures { result ≡ int_wrap w8 value }
 {
@@ -551,7 +480,6 @@ pub fn i64_extend8_s(value: i64) -> i64
 }
 
 /// The low 16 bits, extended by their sign.
-#[inline]
 pub fn i64_extend16_s(value: i64) -> i64
     ensures { result ≡ int_wrap w16 value }
 {
@@ -559,7 +487,6 @@ pub fn i64_extend16_s(value: i64) -> i64
 }
 
 /// The low 32 bits, extended by their sign.
-#[inline]
 pub fn i64_extend32_s(value: i64) -> i64
     ensures { result ≡ int_wrap w32 value }
 {
@@ -582,7 +509,6 @@ fn split128(value: u128) -> (i64, i64)
 }
 
 /// The sum of two numbers modulo 2 to the power 128, as the words `(lo, hi)`.
-#[inline]
 pub fn i64_add128(lhs_lo: i64, lhs_hi: i64, rhs_lo: i64, rhs_hi: i64) -> (i64, i64)
     ensures { unsigned_of result.0 result.1
         ≡ add128 (unsigned_of lhs_lo lhs_hi) (unsigned_of rhs_lo rhs_hi) }
@@ -593,7 +519,6 @@ pub fn i64_add128(lhs_lo: i64, lhs_hi: i64, rhs_lo: i64, rhs_hi: i64) -> (i64, i
 }
 
 /// The difference of two numbers modulo 2 to the power 128, as the words `(lo, hi)`.
-#[inline]
 pub fn i64_sub128(lhs_lo: i64, lhs_hi: i64, rhs_lo: i64, rhs_hi: i64) -> (i64, i64)
     ensures { unsigned_of result.0 result.1
         ≡ sub128 (unsigned_of lhs_lo lhs_hi) (unsigned_of rhs_lo rhs_hi) }
@@ -604,7 +529,6 @@ pub fn i64_sub128(lhs_lo: i64, lhs_hi: i64, rhs_lo: i64, rhs_hi: i64) -> (i64, i
 }
 
 /// The whole product of two numbers read signed, as the words `(lo, hi)` of a signed number.
-#[inline]
 pub fn i64_mul_wide_s(lhs: i64, rhs: i64) -> (i64, i64)
     ensures { signed_of result.0 result.1 ≡ lhs *ℤ rhs }
 {
@@ -613,7 +537,6 @@ pub fn i64_mul_wide_s(lhs: i64, rhs: i64) -> (i64, i64)
 }
 
 /// The whole product of two numbers read unsigned, as the words `(lo, hi)` of an unsigned number.
-#[inline]
 pub fn i64_mul_wide_u(lhs: i64, rhs: i64) -> (i64, i64)
     ensures { unsigned_of result.0 result.1 ≡ cast_unsigned w64 lhs * cast_unsigned w64 rhs }
 {
