@@ -55,7 +55,7 @@ lanes_make_vector w n v f filled below each =
 module _ {A : Type 0} (item : Ghosts A) where
   -- what is read from a lane is in the range of its type
   pub item_fits : (v i : ℕ) (x : A) → x ≡ item.read (lane item.width v i) → item.Fits x
-  item_fits v i x is = subst item.Fits (sym is) (item.read_fits (lane item.width v i) (lane_below item.width v i))
+  item_fits v i x is = subst item.Fits (sym is) (item.laws.read_fits (lane item.width v i) (lane_below item.width v i))
 
   -- a vector whose lanes read as items has the numbers of these items as its lanes
   pub items_make_vector :
@@ -68,7 +68,7 @@ module _ {A : Type 0} (item : Ghosts A) where
   items_make_vector n items r f filled is below rows =
       lanes_make_vector item.width n r f filled below
       (λ i h.
-      sym (item.image_of_read (lane item.width r i) (lane_below item.width r i))
+      sym (item.laws.image_of_read (lane item.width r i) (lane_below item.width r i))
       ∙ ap item.image (sym (is i h))
       ∙ rows i h (item_fits r i (items i) (is i h)))
 
@@ -101,5 +101,5 @@ module _ {A : Type 0} (item : Ghosts A) where
   -- the number of an item that is all ones or all zeros
   pub image_of_choice : (t : Bool)
       → item.image (if t then item.ALL_ONES else item.ALL_ZEROS) ≡ (if t then 2 ^ bits item.width - 1 else 0)
-  image_of_choice true = item.image_of_ones
-  image_of_choice false = item.image_of_zeros
+  image_of_choice true = item.laws.image_of_ones
+  image_of_choice false = item.laws.image_of_zeros

@@ -1,6 +1,6 @@
 -- A vector is a number below 2 ^ 128. Its lanes of one width are its digits to the base 2 ^ width, lane 0 the lowest
 -- (the WebAssembly core specification, section "Numerics": storage in little-endian order).
-use Rattle.std.specs.Prelude.{ℕ, zero, suc, ◌*◌, ◌/◌, ◌%◌, ◌^◌, ◌<◌, ◌≡◌, ◌⊎◌, FitsSigned}
+use Rattle.std.specs.Prelude.{ℕ, zero, suc, ◌-◌, ◌*◌, ◌/◌, ◌%◌, ◌^◌, ◌<◌, ◌≡◌, ◌⊎◌, FitsSigned}
 use Rattle.std.proofs.Math.Facts.{sfits_to_z}
 use mir.Val.{Fits}
 use Rattle.wasmi_types.specs.Wrapping.{Width, bits, signed}
@@ -16,6 +16,16 @@ unsigned n = n
 -- a number of w bits, read signed, is in the range of the signed type
 pub signed_fits : (w : Width) (n : ℕ) → n < 2 ^ bits w → FitsSigned w (signed w n)
 signed_fits w n below = let fits : Fits w n = record { fits = below } in sfits_to_z fits
+
+-- the items of a type are those of lanes of a width: `read` gives the item of a lane's number, `image` the number of an
+-- item, and `Fits` says which items are in the type's range; `ones` is the item whose bits are all ones, `zeros` that
+-- whose bits are all zeros
+pub record ReadsLanes {Item : Type 0} (width : Width) (read : ℕ → Item) (image : Item → ℕ) (Fits : Item → Type 0)
+    (ones zeros : Item) : Type 0 where
+  pub image_of_ones : image ones ≡ 2 ^ bits width - 1
+  pub image_of_zeros : image zeros ≡ 0
+  pub image_of_read : (n : ℕ) → n < 2 ^ bits width → image (read n) ≡ n
+  pub read_fits : (n : ℕ) → n < 2 ^ bits width → Fits (read n)
 
 -- a number of lanes: of one vector, or of two vectors of bytes
 abbrev pub IsLaneCount : ℕ → Type 0

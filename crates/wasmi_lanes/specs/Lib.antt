@@ -1,3 +1,4 @@
 pub mod Lane
+pub mod LaneProofs
 pub mod Vector
 pub mod Words

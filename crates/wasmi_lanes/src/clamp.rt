@@ -7,7 +7,6 @@ ghost use Rattle.wasmi_types.specs.Wrapping.{w8, w16, clamp_signed};
 ///
 /// Of a clamped sum or difference LLVM makes a saturating one, which it doesn't of `saturating_add`
 /// and `saturating_sub`.
-#[inline]
 pub fn clamped_i8(number: i16) -> i8
     ensures { result ≡ clamp_signed w8 number }
 {
@@ -15,7 +14,6 @@ pub fn clamped_i8(number: i16) -> i8
 }
 
 /// The number clamped to the signed range of 16 bits, as `clamped_i8` does at 8.
-#[inline]
 pub fn clamped_i16(number: i32) -> i16
     ensures { result ≡ clamp_signed w16 number }
 {

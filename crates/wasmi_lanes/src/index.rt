@@ -72,7 +72,6 @@ impl CountsLanes<32> for ImmLaneIdx32 {
 impl<const N: usize> From<ImmLaneIdx<N>> for u8 {
     ghost from_gives = { λ lane number. (number ≡ lane) × (number < N) };
 
-    #[inline]
     fn from(lane: ImmLaneIdx<N>) -> u8 {
         lane.index
     }
@@ -86,7 +85,6 @@ where
 
     ghost try_from_gives = { λ number lane. OkIff lane (number < N) number };
 
-    #[inline]
     fn try_from(index: u8) -> Result<Self, OutOfBoundsLaneIdx> {
         if usize::from(index) < N {
             Ok(ImmLaneIdx { index })
@@ -140,52 +138,4 @@ pub trait IntoLaneIdx: LaneInteger {
 
     /// As many lanes as there are indices make 128 bits.
     ghost count: { Self.LaneIdx.COUNT * bits Self.width ≡ 128 };
-}
-
-impl IntoLaneIdx for i8 {
-    type LaneIdx = ImmLaneIdx16;
-
-    ghost count = { refl };
-}
-
-impl IntoLaneIdx for u8 {
-    type LaneIdx = ImmLaneIdx16;
-
-    ghost count = { refl };
-}
-
-impl IntoLaneIdx for i16 {
-    type LaneIdx = ImmLaneIdx8;
-
-    ghost count = { refl };
-}
-
-impl IntoLaneIdx for u16 {
-    type LaneIdx = ImmLaneIdx8;
-
-    ghost count = { refl };
-}
-
-impl IntoLaneIdx for i32 {
-    type LaneIdx = ImmLaneIdx4;
-
-    ghost count = { refl };
-}
-
-impl IntoLaneIdx for u32 {
-    type LaneIdx = ImmLaneIdx4;
-
-    ghost count = { refl };
-}
-
-impl IntoLaneIdx for i64 {
-    type LaneIdx = ImmLaneIdx2;
-
-    ghost count = { refl };
-}
-
-impl IntoLaneIdx for u64 {
-    type LaneIdx = ImmLaneIdx2;
-
-    ghost count = { refl };
 }

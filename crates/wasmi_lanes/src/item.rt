@@ -1,10 +1,10 @@
 //! The integers that are lanes.
 
-ghost use Rattle.std.specs.Prelude.{FitsSigned, refl, pos, negsuc, ◌≡◌, ℕ, ◌*◌, ◌-◌, ◌^◌, ◌<◌, slice_index_or};
-ghost use Rattle.std.proofs.lemmas.Int.{of_z-to_z};
+ghost use Rattle.std.specs.Prelude.{FitsSigned, refl, pos, negsuc, ◌≡◌, ℕ, ◌*◌, ◌^◌, ◌<◌, slice_index_or};
 ghost use Rattle.wasmi_types.specs.Wrapping.{Width, bits, w8, w16, w32, w64, signed};
 ghost use Rattle.std.specs.Int.{cast_unsigned};
-ghost use Rattle.wasmi_lanes.specs.Lane.{lane, unsigned, signed_fits};
+ghost use Rattle.wasmi_lanes.specs.Lane.{lane, unsigned, ReadsLanes};
+ghost use Rattle.wasmi_lanes.specs.LaneProofs.{unsigned_lanes, signed_lanes};
 
 use crate::vector_bytes::{bytes_to_take_out, from_bytes};
 use std::simd::prelude::*;
@@ -36,17 +36,8 @@ pub trait LaneInteger: Copy {
     /// The item whose bits are all zeros, in contracts.
     ghost ALL_ZEROS: { Self };
 
-    /// The number of all ones is the largest of the width.
-    ghost image_of_ones: { image ALL_ONES ≡ 2 ^ bits width - 1 };
-
-    /// The number of all zeros is 0.
-    ghost image_of_zeros: { image ALL_ZEROS ≡ 0 };
-
-    /// The number of the item as which a lane's number is read is that number.
-    ghost image_of_read: { (n : ℕ) → n < 2 ^ bits width → image (read n) ≡ n };
-
-    /// The item as which a lane's number is read is in its type's range.
-    ghost read_fits: { (n : ℕ) → n < 2 ^ bits width → Fits (read n) };
+    /// The items are those of the lanes of the width.
+    ghost laws: { ReadsLanes width read image Fits ALL_ONES ALL_ZEROS };
 }
 
 /// An integer of which `N` fill a vector.
@@ -83,13 +74,7 @@ impl LaneInteger for u8 {
 
     ghost Fits = { λ item. item < 2 ^ 8 };
 
-    ghost image_of_ones = { refl };
-
-    ghost image_of_zeros = { refl };
-
-    ghost image_of_read = { λ n below. refl };
-
-    ghost read_fits = { λ n below. below };
+    ghost laws = { unsigned_lanes w8 };
 }
 
 impl LaneItem<16> for u8 {
@@ -124,13 +109,7 @@ impl LaneInteger for i8 {
 
     ghost Fits = { FitsSigned w8 };
 
-    ghost image_of_ones = { refl };
-
-    ghost image_of_zeros = { refl };
-
-    ghost image_of_read = { of_z-to_z w8 };
-
-    ghost read_fits = { signed_fits w8 };
+    ghost laws = { signed_lanes w8 };
 }
 
 impl LaneItem<16> for i8 {
@@ -172,13 +151,7 @@ impl LaneInteger for u16 {
 
     ghost Fits = { λ item. item < 2 ^ 16 };
 
-    ghost image_of_ones = { refl };
-
-    ghost image_of_zeros = { refl };
-
-    ghost image_of_read = { λ n below. refl };
-
-    ghost read_fits = { λ n below. below };
+    ghost laws = { unsigned_lanes w16 };
 }
 
 impl LaneItem<8> for u16 {
@@ -213,13 +186,7 @@ impl LaneInteger for i16 {
 
     ghost Fits = { FitsSigned w16 };
 
-    ghost image_of_ones = { refl };
-
-    ghost image_of_zeros = { refl };
-
-    ghost image_of_read = { of_z-to_z w16 };
-
-    ghost read_fits = { signed_fits w16 };
+    ghost laws = { signed_lanes w16 };
 }
 
 impl LaneItem<8> for i16 {
@@ -261,13 +228,7 @@ impl LaneInteger for u32 {
 
     ghost Fits = { λ item. item < 2 ^ 32 };
 
-    ghost image_of_ones = { refl };
-
-    ghost image_of_zeros = { refl };
-
-    ghost image_of_read = { λ n below. refl };
-
-    ghost read_fits = { λ n below. below };
+    ghost laws = { unsigned_lanes w32 };
 }
 
 impl LaneItem<4> for u32 {
@@ -302,13 +263,7 @@ impl LaneInteger for i32 {
 
     ghost Fits = { FitsSigned w32 };
 
-    ghost image_of_ones = { refl };
-
-    ghost image_of_zeros = { refl };
-
-    ghost image_of_read = { of_z-to_z w32 };
-
-    ghost read_fits = { signed_fits w32 };
+    ghost laws = { signed_lanes w32 };
 }
 
 impl LaneItem<4> for i32 {
@@ -350,13 +305,7 @@ impl LaneInteger for u64 {
 
     ghost Fits = { λ item. item < 2 ^ 64 };
 
-    ghost image_of_ones = { refl };
-
-    ghost image_of_zeros = { refl };
-
-    ghost image_of_read = { λ n below. refl };
-
-    ghost read_fits = { λ n below. below };
+    ghost laws = { unsigned_lanes w64 };
 }
 
 impl LaneItem<2> for u64 {
@@ -391,13 +340,7 @@ impl LaneInteger for i64 {
 
     ghost Fits = { FitsSigned w64 };
 
-    ghost image_of_ones = { refl };
-
-    ghost image_of_zeros = { refl };
-
-    ghost image_of_read = { of_z-to_z w64 };
-
-    ghost read_fits = { signed_fits w64 };
+    ghost laws = { signed_lanes w64 };
 }
 
 impl LaneItem<2> for i64 {

@@ -1,6 +1,10 @@
 //! The lane types.
 
-use crate::index::{ImmLaneIdx2, ImmLaneIdx4, ImmLaneIdx8, ImmLaneIdx16, LaneIndex};
+ghost use Rattle.std.proofs.Common.{ap, ◌∙◌, ◌*◌};
+ghost use Rattle.wasmi_types.specs.Wrapping.{bits};
+
+use crate::index::{ImmLaneIdx2, ImmLaneIdx4, ImmLaneIdx8, ImmLaneIdx16, IntoLaneIdx, LaneIndex};
+use crate::item::LaneInteger;
 use crate::lanes::{LaneArray, Lanes};
 
 /// Two signed lanes of 64 bits.
@@ -27,6 +31,13 @@ pub trait IntoLanes: Sized {
 
     /// The index of one of these lanes.
     type LaneIdx: LaneIndex;
+}
+
+// The index of a lane of an integer is that of its lanes.
+impl<T: LaneInteger + IntoLanes> IntoLaneIdx for T {
+    type LaneIdx = <T as IntoLanes>::LaneIdx;
+
+    ghost count = { ap (λ n. n * bits T.width) T.Lanes.counted ∙ T.Lanes.filled };
 }
 
 impl IntoLanes for i64 {

@@ -6,7 +6,6 @@
 //! register.
 
 ghost use Rattle.std.specs.Prelude.{◌≡◌, ℕ, ◌+◌, ◌*◌, ◌<◌, slice_index, replicate};
-ghost use Rattle.std.specs.List.{range_with_len};
 ghost use Rattle.wasmi_lanes.specs.Lane.{lane};
 ghost use Rattle.wasmi_lanes.specs.Vector as vectors;
 
@@ -39,7 +38,8 @@ impl VariableLane for u8 {
 
     #[inline(always)]
     fn with_lane(vector: V128, at: ImmLaneIdx16, item: u8) -> V128 {
-        let here = numbers_of_u8().simd_eq(u8x16::splat(u8::from(at)));
+        let numbers = u8x16::from_array([0, 1, 2, 3, 4, 5, 6, 7, 8, 9, 10, 11, 12, 13, 14, 15]);
+        let here = numbers.simd_eq(u8x16::splat(u8::from(at)));
         u8::vector_of(here.select(u8x16::splat(item), u8::lanes_of(vector)))
     }
 }
@@ -54,7 +54,8 @@ impl VariableLane for u16 {
 
     #[inline(always)]
     fn with_lane(vector: V128, at: ImmLaneIdx8, item: u16) -> V128 {
-        let here = numbers_of_u16().simd_eq(in_each_u16(u8::from(at)));
+        let numbers = u16x8::from_array([0, 1, 2, 3, 4, 5, 6, 7]);
+        let here = numbers.simd_eq(in_each_u16(u8::from(at)));
         u16::vector_of(here.select(u16x8::splat(item), u16::lanes_of(vector)))
     }
 }
@@ -69,7 +70,8 @@ impl VariableLane for u32 {
 
     #[inline(always)]
     fn with_lane(vector: V128, at: ImmLaneIdx4, item: u32) -> V128 {
-        let here = numbers_of_u32().simd_eq(u32x4::splat(u32::from(u8::from(at))));
+        let numbers = u32x4::from_array([0, 1, 2, 3]);
+        let here = numbers.simd_eq(u32x4::splat(u32::from(u8::from(at))));
         u32::vector_of(here.select(u32x4::splat(item), u32::lanes_of(vector)))
     }
 }
@@ -83,7 +85,8 @@ impl VariableLane for u64 {
 
     #[inline(always)]
     fn with_lane(vector: V128, at: ImmLaneIdx2, item: u64) -> V128 {
-        let here = numbers_of_u64().simd_eq(u64x2::splat(u64::from(u8::from(at))));
+        let numbers = u64x2::from_array([0, 1]);
+        let here = numbers.simd_eq(u64x2::splat(u64::from(u8::from(at))));
         u64::vector_of(here.select(u64x2::splat(item), u64::lanes_of(vector)))
     }
 }
@@ -154,36 +157,4 @@ fn in_each_u16(lane: u8) -> u16x8
     ensures lanes { result ≡ replicate 8 lane }
 {
     u16x8::from_le_bytes(u64x2::splat(IN_EACH_U16[usize::from(lane)]).to_le_bytes())
-}
-
-// The numbers of the lanes of 8 bits.
-#[inline(always)]
-fn numbers_of_u8() -> u8x16
-    ensures { result ≡ range_with_len 0 16 }
-{
-    u8x16::from_array([0, 1, 2, 3, 4, 5, 6, 7, 8, 9, 10, 11, 12, 13, 14, 15])
-}
-
-// The numbers of the lanes of 16 bits.
-#[inline(always)]
-fn numbers_of_u16() -> u16x8
-    ensures { result ≡ range_with_len 0 8 }
-{
-    u16x8::from_array([0, 1, 2, 3, 4, 5, 6, 7])
-}
-
-// The numbers of the lanes of 32 bits.
-#[inline(always)]
-fn numbers_of_u32() -> u32x4
-    ensures { result ≡ range_with_len 0 4 }
-{
-    u32x4::from_array([0, 1, 2, 3])
-}
-
-// The numbers of the lanes of 64 bits.
-#[inline(always)]
-fn numbers_of_u64() -> u64x2
-    ensures { result ≡ range_with_len 0 2 }
-{
-    u64x2::from_array([0, 1])
 }

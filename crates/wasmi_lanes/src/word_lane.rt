@@ -1,8 +1,8 @@
 //! Words of 64 bits as lanes of one width.
 
-ghost use Rattle.std.specs.Prelude.{◌≡◌, refl, ℕ, ◌-◌, ◌*◌, ◌%◌, ◌^◌};
-ghost use Rattle.wasmi_types.specs.Wrapping.{bits};
-ghost use Rattle.wasmi_lanes.specs.Words.{lanes_in_word, in_each_lane};
+ghost use Rattle.std.specs.Prelude.{refl, ℕ};
+ghost use Rattle.wasmi_lanes.specs.Words.{IsWordLane};
+ghost use Rattle.wasmi_lanes.specs.LaneProofs.{word_lane};
 
 use crate::item::LaneInteger;
 
@@ -33,20 +33,8 @@ pub trait WordLane: LaneInteger {
     /// The lowest bit of each lane of a word, in contracts.
     ghost ONES: { ℕ };
 
-    /// `BITS` is the width.
-    ghost wide: { BITS ≡ bits Self.width };
-
-    /// The lanes of a word make 64 bits.
-    ghost whole: { lanes_in_word Self.width * bits Self.width ≡ 64 };
-
-    /// `TOPS` has the highest bit alone in each lane.
-    ghost highest: { TOPS ≡ in_each_lane Self.width (2 ^ (bits Self.width - 1)) };
-
-    /// `INNER_TOPS` is `TOPS` without the highest bit of the word.
-    ghost inner: { INNER_TOPS ≡ in_each_lane Self.width (2 ^ (bits Self.width - 1)) % 2 ^ 63 };
-
-    /// `ONES` has 1 in each lane.
-    ghost lowest: { ONES ≡ in_each_lane Self.width 1 };
+    /// These are the numbers of the lanes of the width.
+    ghost laws: { IsWordLane Self.width BITS TOPS INNER_TOPS ONES };
 }
 
 impl WordLane for u8 {
@@ -66,15 +54,7 @@ impl WordLane for u8 {
 
     ghost ONES = { 0x0101_0101_0101_0101 };
 
-    ghost wide = { refl };
-
-    ghost whole = { refl };
-
-    ghost highest = { refl };
-
-    ghost inner = { refl };
-
-    ghost lowest = { refl };
+    ghost laws = { word_lane refl refl refl refl refl };
 }
 
 impl WordLane for u16 {
@@ -94,15 +74,7 @@ impl WordLane for u16 {
 
     ghost ONES = { 0x0001_0001_0001_0001 };
 
-    ghost wide = { refl };
-
-    ghost whole = { refl };
-
-    ghost highest = { refl };
-
-    ghost inner = { refl };
-
-    ghost lowest = { refl };
+    ghost laws = { word_lane refl refl refl refl refl };
 }
 
 impl WordLane for u32 {
@@ -122,15 +94,7 @@ impl WordLane for u32 {
 
     ghost ONES = { 0x0000_0001_0000_0001 };
 
-    ghost wide = { refl };
-
-    ghost whole = { refl };
-
-    ghost highest = { refl };
-
-    ghost inner = { refl };
-
-    ghost lowest = { refl };
+    ghost laws = { word_lane refl refl refl refl refl };
 }
 
 impl WordLane for u64 {
@@ -150,13 +114,5 @@ impl WordLane for u64 {
 
     ghost ONES = { 1 };
 
-    ghost wide = { refl };
-
-    ghost whole = { refl };
-
-    ghost highest = { refl };
-
-    ghost inner = { refl };
-
-    ghost lowest = { refl };
+    ghost laws = { word_lane refl refl refl refl refl };
 }

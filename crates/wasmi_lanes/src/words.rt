@@ -9,7 +9,6 @@ ghost use Rattle.wasmi_lanes.specs.Words.{field, IsLane, IsLastLane};
 
 /// The sums of the lanes of `a` and `b`, each modulo 2 to the power of its width.
 #[tactic(auto, using(crate::proofs::WordLemmas::add_lane, crate::proofs::WordLemmas::add_last))]
-#[inline]
 pub fn word_add(a: u64, b: u64, tops: u64) -> u64
     ensures lanes { (start width : ℕ) → IsLane tops start width
         → field start width result ≡ (field start width a + field start width b) % 2 ^ width }
@@ -22,7 +21,6 @@ pub fn word_add(a: u64, b: u64, tops: u64) -> u64
 
 /// The differences of the lanes of `a` and `b`, each modulo 2 to the power of its width.
 #[tactic(auto, using(crate::proofs::WordLemmas::sub_lane, crate::proofs::WordLemmas::sub_last))]
-#[inline]
 pub fn word_sub(a: u64, b: u64, tops: u64) -> u64
     ensures lanes { (start width : ℕ) → IsLane tops start width
         → field start width result
@@ -35,7 +33,6 @@ pub fn word_sub(a: u64, b: u64, tops: u64) -> u64
 }
 
 /// The highest bits of the lanes in which `a` and `b` differ.
-#[inline]
 pub fn word_differ(a: u64, b: u64, tops: u64) -> u64
     ensures lanes { (start width : ℕ) → IsLane tops start width
         → field start width result

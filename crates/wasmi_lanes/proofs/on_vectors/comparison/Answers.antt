@@ -29,5 +29,5 @@ returns g c =
       each = λ i h.
           let gives = related.each i h in
           let v = c.into_v128.result in
-          (gives.0, gives.1, sym (item.image_of_read (lane item.width v i) (lane_below item.width v i)) ∙ gives.2);
+          (gives.0, gives.1, sym (item.laws.image_of_read (lane item.width v i) (lane_below item.width v i)) ∙ gives.2);
     }

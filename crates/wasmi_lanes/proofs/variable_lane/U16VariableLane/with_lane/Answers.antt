@@ -5,7 +5,7 @@ use Rattle.wasmi_lanes.proofs.variable_lane.U16VariableLane.with_lane.Goals as g
 
 pub returns : goal.returns
 returns c =
-    lane_written w16 8 c.args.vector c.args.at c.args.item c.lanes_of.result refl c.numbers_of_u16.ensures
+    lane_written w16 8 c.args.vector c.args.at c.args.item c.lanes_of.result refl refl
     (c.in_each_u16.ensures.lanes ∙ ap (replicate 8) c.from.ensures.0)
     (record { long = search rules; are = c.lanes_of.ensures.lanes }) c.vector_of.ensures.lanes
     c.vector_of.ensures.in_range

@@ -5,7 +5,7 @@ use Rattle.wasmi_lanes.proofs.variable_lane.U64VariableLane.with_lane.Goals as g
 
 pub returns : goal.returns
 returns c =
-    lane_written w64 2 c.args.vector c.args.at c.args.item c.lanes_of.result refl c.numbers_of_u64.ensures
+    lane_written w64 2 c.args.vector c.args.at c.args.item c.lanes_of.result refl refl
     (ap (replicate 2) (c.from-2.ensures ∙ c.from.ensures.0))
     (record { long = search rules; are = c.lanes_of.ensures.lanes }) c.vector_of.ensures.lanes
     c.vector_of.ensures.in_range

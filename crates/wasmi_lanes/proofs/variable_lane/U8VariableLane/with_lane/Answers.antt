@@ -5,7 +5,7 @@ use Rattle.wasmi_lanes.proofs.variable_lane.U8VariableLane.with_lane.Goals as go
 
 pub returns : goal.returns
 returns c =
-    lane_written w8 16 c.args.vector c.args.at c.args.item c.lanes_of.result refl c.numbers_of_u8.ensures
+    lane_written w8 16 c.args.vector c.args.at c.args.item c.lanes_of.result refl refl
     (ap (replicate 16) c.from.ensures.0)
     (record { long = search rules; are = c.lanes_of.ensures.lanes }) c.vector_of.ensures.lanes
     c.vector_of.ensures.in_range

@@ -1,0 +1,59 @@
+-- The integers of a width are the items of lanes of the width, and lanes of the words of 64 bits.
+use Rattle.std.specs.Prelude.{ℕ, pos, negsuc, ◌-◌, ◌*◌, ◌%◌, ◌^◌, ◌<◌, ◌≡◌, refl, FitsSigned}
+use Rattle.std.specs.Int.{cast_unsigned}
+use Rattle.std.proofs.lemmas.Int.{of_z-to_z}
+use mir.Syntax.{w128}
+use Rattle.wasmi_types.specs.Wrapping.{Width, w8, w16, w32, w64, bits, signed}
+use Rattle.wasmi_lanes.specs.Lane.{ReadsLanes, unsigned, signed_fits}
+use Rattle.wasmi_lanes.specs.Words.{IsWordLane, lanes_in_word, in_each_lane}
+
+-- the unsigned integers of a width
+pub unsigned_lanes : (w : Width)
+    → ReadsLanes w unsigned (λ item. item) (λ item. item < 2 ^ bits w) (2 ^ bits w - 1) 0
+unsigned_lanes w = record {
+  image_of_ones = refl;
+  image_of_zeros = refl;
+  image_of_read = λ n below. refl;
+  read_fits = λ n below. below;
+}
+
+-- the bits of -1 are all ones
+ones_of_minus_one : (w : Width) → cast_unsigned w (negsuc 0) ≡ 2 ^ bits w - 1
+ones_of_minus_one w8 = refl
+ones_of_minus_one w16 = refl
+ones_of_minus_one w32 = refl
+ones_of_minus_one w64 = refl
+ones_of_minus_one w128 = refl
+
+-- the bits of 0 are all zeros
+zeros_of_zero : (w : Width) → cast_unsigned w (pos 0) ≡ 0
+zeros_of_zero w8 = refl
+zeros_of_zero w16 = refl
+zeros_of_zero w32 = refl
+zeros_of_zero w64 = refl
+zeros_of_zero w128 = refl
+
+-- the signed integers of a width
+pub signed_lanes : (w : Width) → ReadsLanes w (signed w) (cast_unsigned w) (FitsSigned w) (negsuc 0) (pos 0)
+signed_lanes w = record {
+  image_of_ones = ones_of_minus_one w;
+  image_of_zeros = zeros_of_zero w;
+  image_of_read = of_z-to_z w;
+  read_fits = signed_fits w;
+}
+
+-- numbers that are each what a width asks for
+pub word_lane : {w : Width} {lane_bits tops inner_tops ones : ℕ}
+    → lane_bits ≡ bits w
+    → lanes_in_word w * bits w ≡ 64
+    → tops ≡ in_each_lane w (2 ^ (bits w - 1))
+    → inner_tops ≡ in_each_lane w (2 ^ (bits w - 1)) % 2 ^ 63
+    → ones ≡ in_each_lane w 1
+    → IsWordLane w lane_bits tops inner_tops ones
+word_lane wide whole highest inner lowest = record {
+  wide = wide;
+  whole = whole;
+  highest = highest;
+  inner = inner;
+  lowest = lowest;
+}
