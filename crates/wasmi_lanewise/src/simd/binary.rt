@@ -9,7 +9,6 @@ use wasmi_lanes::{I8x16, I16x8, U8x16, U16x8, U32x4, clamped_i8, clamped_i16, on
 use wasmi_raw::V128;
 
 /// The sums of the lanes, modulo 2 to the power 8.
-#[inline]
 pub fn i8x16_add(lhs: V128, rhs: V128) -> V128
     ensures { result ≡ vector.add w8 lhs rhs }
 {
@@ -17,7 +16,6 @@ pub fn i8x16_add(lhs: V128, rhs: V128) -> V128
 }
 
 /// The sums of the lanes, modulo 2 to the power 16.
-#[inline]
 pub fn i16x8_add(lhs: V128, rhs: V128) -> V128
     ensures { result ≡ vector.add w16 lhs rhs }
 {
@@ -25,7 +23,6 @@ pub fn i16x8_add(lhs: V128, rhs: V128) -> V128
 }
 
 /// The sums of the lanes, modulo 2 to the power 32.
-#[inline]
 pub fn i32x4_add(lhs: V128, rhs: V128) -> V128
     ensures { result ≡ vector.add w32 lhs rhs }
 {
@@ -33,7 +30,6 @@ pub fn i32x4_add(lhs: V128, rhs: V128) -> V128
 }
 
 /// The sums of the lanes, modulo 2 to the power 64.
-#[inline]
 pub fn i64x2_add(lhs: V128, rhs: V128) -> V128
     ensures { result ≡ vector.add w64 lhs rhs }
 {
@@ -41,7 +37,6 @@ pub fn i64x2_add(lhs: V128, rhs: V128) -> V128
 }
 
 /// The differences of the lanes, modulo 2 to the power 8.
-#[inline]
 pub fn i8x16_sub(lhs: V128, rhs: V128) -> V128
     ensures { result ≡ vector.sub w8 lhs rhs }
 {
@@ -49,7 +44,6 @@ pub fn i8x16_sub(lhs: V128, rhs: V128) -> V128
 }
 
 /// The differences of the lanes, modulo 2 to the power 16.
-#[inline]
 pub fn i16x8_sub(lhs: V128, rhs: V128) -> V128
     ensures { result ≡ vector.sub w16 lhs rhs }
 {
@@ -57,7 +51,6 @@ pub fn i16x8_sub(lhs: V128, rhs: V128) -> V128
 }
 
 /// The differences of the lanes, modulo 2 to the power 32.
-#[inline]
 pub fn i32x4_sub(lhs: V128, rhs: V128) -> V128
     ensures { result ≡ vector.sub w32 lhs rhs }
 {
@@ -65,7 +58,6 @@ pub fn i32x4_sub(lhs: V128, rhs: V128) -> V128
 }
 
 /// The differences of the lanes, modulo 2 to the power 64.
-#[inline]
 pub fn i64x2_sub(lhs: V128, rhs: V128) -> V128
     ensures { result ≡ vector.sub w64 lhs rhs }
 {
@@ -74,7 +66,6 @@ pub fn i64x2_sub(lhs: V128, rhs: V128) -> V128
 
 /// The products of the lanes, modulo 2 to the power 8: upstream's alone, no instruction of
 /// WebAssembly.
-#[inline]
 pub fn i8x16_mul(lhs: V128, rhs: V128) -> V128
     ensures { result ≡ vector.mul w8 lhs rhs }
 {
@@ -82,7 +73,6 @@ pub fn i8x16_mul(lhs: V128, rhs: V128) -> V128
 }
 
 /// The products of the lanes, modulo 2 to the power 16.
-#[inline]
 pub fn i16x8_mul(lhs: V128, rhs: V128) -> V128
     ensures { result ≡ vector.mul w16 lhs rhs }
 {
@@ -90,7 +80,6 @@ pub fn i16x8_mul(lhs: V128, rhs: V128) -> V128
 }
 
 /// The products of the lanes, modulo 2 to the power 32.
-#[inline]
 pub fn i32x4_mul(lhs: V128, rhs: V128) -> V128
     ensures { result ≡ vector.mul w32 lhs rhs }
 {
@@ -98,7 +87,6 @@ pub fn i32x4_mul(lhs: V128, rhs: V128) -> V128
 }
 
 /// The products of the lanes, modulo 2 to the power 64.
-#[inline]
 pub fn i64x2_mul(lhs: V128, rhs: V128) -> V128
     ensures { result ≡ vector.mul w64 lhs rhs }
 {
@@ -118,7 +106,6 @@ fn product_by_u128(x: u64, y: u64) -> u64
 }
 
 /// The sums of the lanes, read signed and clamped to the signed range of 8 bits.
-#[inline]
 pub fn i8x16_add_sat_s(lhs: V128, rhs: V128) -> V128
     ensures { result ≡ vector.add_sat_s w8 lhs rhs }
 {
@@ -126,7 +113,6 @@ pub fn i8x16_add_sat_s(lhs: V128, rhs: V128) -> V128
 }
 
 /// The sums of the lanes, read unsigned and clamped to the unsigned range of 8 bits.
-#[inline]
 pub fn i8x16_add_sat_u(lhs: V128, rhs: V128) -> V128
     ensures { result ≡ vector.add_sat_u w8 lhs rhs }
 {
@@ -134,7 +120,6 @@ pub fn i8x16_add_sat_u(lhs: V128, rhs: V128) -> V128
 }
 
 /// The sums of the lanes, read signed and clamped to the signed range of 16 bits.
-#[inline]
 pub fn i16x8_add_sat_s(lhs: V128, rhs: V128) -> V128
     ensures { result ≡ vector.add_sat_s w16 lhs rhs }
 {
@@ -142,7 +127,6 @@ pub fn i16x8_add_sat_s(lhs: V128, rhs: V128) -> V128
 }
 
 /// The sums of the lanes, read unsigned and clamped to the unsigned range of 16 bits.
-#[inline]
 pub fn i16x8_add_sat_u(lhs: V128, rhs: V128) -> V128
     ensures { result ≡ vector.add_sat_u w16 lhs rhs }
 {
@@ -150,7 +134,6 @@ pub fn i16x8_add_sat_u(lhs: V128, rhs: V128) -> V128
 }
 
 /// The differences of the lanes, read signed and clamped to the signed range of 8 bits.
-#[inline]
 pub fn i8x16_sub_sat_s(lhs: V128, rhs: V128) -> V128
     ensures { result ≡ vector.sub_sat_s w8 lhs rhs }
 {
@@ -158,7 +141,6 @@ pub fn i8x16_sub_sat_s(lhs: V128, rhs: V128) -> V128
 }
 
 /// The differences of the lanes, read unsigned and clamped to the unsigned range of 8 bits.
-#[inline]
 pub fn i8x16_sub_sat_u(lhs: V128, rhs: V128) -> V128
     ensures { result ≡ vector.sub_sat_u w8 lhs rhs }
 {
@@ -166,7 +148,6 @@ pub fn i8x16_sub_sat_u(lhs: V128, rhs: V128) -> V128
 }
 
 /// The differences of the lanes, read signed and clamped to the signed range of 16 bits.
-#[inline]
 pub fn i16x8_sub_sat_s(lhs: V128, rhs: V128) -> V128
     ensures { result ≡ vector.sub_sat_s w16 lhs rhs }
 {
@@ -174,7 +155,6 @@ pub fn i16x8_sub_sat_s(lhs: V128, rhs: V128) -> V128
 }
 
 /// The differences of the lanes, read unsigned and clamped to the unsigned range of 16 bits.
-#[inline]
 pub fn i16x8_sub_sat_u(lhs: V128, rhs: V128) -> V128
     ensures { result ≡ vector.sub_sat_u w16 lhs rhs }
 {
@@ -183,7 +163,6 @@ pub fn i16x8_sub_sat_u(lhs: V128, rhs: V128) -> V128
 
 /// The products of the lanes as q15 numbers (signed, over 2 to the power 15), rounded and clamped
 /// to the signed range.
-#[inline]
 pub fn i16x8_q15mulr_sat_s(lhs: V128, rhs: V128) -> V128
     ensures { result ≡ vector.q15mulr_sat_s lhs rhs }
 {
@@ -191,7 +170,6 @@ pub fn i16x8_q15mulr_sat_s(lhs: V128, rhs: V128) -> V128
 }
 
 /// The smaller ones of the lanes, read signed.
-#[inline]
 pub fn i8x16_min_s(lhs: V128, rhs: V128) -> V128
     ensures { result ≡ vector.min_s w8 lhs rhs }
 {
@@ -199,7 +177,6 @@ pub fn i8x16_min_s(lhs: V128, rhs: V128) -> V128
 }
 
 /// The smaller ones of the lanes, read unsigned.
-#[inline]
 pub fn i8x16_min_u(lhs: V128, rhs: V128) -> V128
     ensures { result ≡ vector.min_u w8 lhs rhs }
 {
@@ -207,7 +184,6 @@ pub fn i8x16_min_u(lhs: V128, rhs: V128) -> V128
 }
 
 /// The smaller ones of the lanes, read signed.
-#[inline]
 pub fn i16x8_min_s(lhs: V128, rhs: V128) -> V128
     ensures { result ≡ vector.min_s w16 lhs rhs }
 {
@@ -215,7 +191,6 @@ pub fn i16x8_min_s(lhs: V128, rhs: V128) -> V128
 }
 
 /// The smaller ones of the lanes, read unsigned.
-#[inline]
 pub fn i16x8_min_u(lhs: V128, rhs: V128) -> V128
     ensures { result ≡ vector.min_u w16 lhs rhs }
 {
@@ -223,7 +198,6 @@ pub fn i16x8_min_u(lhs: V128, rhs: V128) -> V128
 }
 
 /// The smaller ones of the lanes, read signed.
-#[inline]
 pub fn i32x4_min_s(lhs: V128, rhs: V128) -> V128
     ensures { result ≡ vector.min_s w32 lhs rhs }
 {
@@ -231,7 +205,6 @@ pub fn i32x4_min_s(lhs: V128, rhs: V128) -> V128
 }
 
 /// The smaller ones of the lanes, read unsigned.
-#[inline]
 pub fn i32x4_min_u(lhs: V128, rhs: V128) -> V128
     ensures { result ≡ vector.min_u w32 lhs rhs }
 {
@@ -239,7 +212,6 @@ pub fn i32x4_min_u(lhs: V128, rhs: V128) -> V128
 }
 
 /// The larger ones of the lanes, read signed.
-#[inline]
 pub fn i8x16_max_s(lhs: V128, rhs: V128) -> V128
     ensures { result ≡ vector.max_s w8 lhs rhs }
 {
@@ -247,7 +219,6 @@ pub fn i8x16_max_s(lhs: V128, rhs: V128) -> V128
 }
 
 /// The larger ones of the lanes, read unsigned.
-#[inline]
 pub fn i8x16_max_u(lhs: V128, rhs: V128) -> V128
     ensures { result ≡ vector.max_u w8 lhs rhs }
 {
@@ -255,7 +226,6 @@ pub fn i8x16_max_u(lhs: V128, rhs: V128) -> V128
 }
 
 /// The larger ones of the lanes, read signed.
-#[inline]
 pub fn i16x8_max_s(lhs: V128, rhs: V128) -> V128
     ensures { result ≡ vector.max_s w16 lhs rhs }
 {
@@ -263,7 +233,6 @@ pub fn i16x8_max_s(lhs: V128, rhs: V128) -> V128
 }
 
 /// The larger ones of the lanes, read unsigned.
-#[inline]
 pub fn i16x8_max_u(lhs: V128, rhs: V128) -> V128
     ensures { result ≡ vector.max_u w16 lhs rhs }
 {
@@ -271,7 +240,6 @@ pub fn i16x8_max_u(lhs: V128, rhs: V128) -> V128
 }
 
 /// The larger ones of the lanes, read signed.
-#[inline]
 pub fn i32x4_max_s(lhs: V128, rhs: V128) -> V128
     ensures { result ≡ vector.max_s w32 lhs rhs }
 {
@@ -279,7 +247,6 @@ pub fn i32x4_max_s(lhs: V128, rhs: V128) -> V128
 }
 
 /// The larger ones of the lanes, read unsigned.
-#[inline]
 pub fn i32x4_max_u(lhs: V128, rhs: V128) -> V128
     ensures { result ≡ vector.max_u w32 lhs rhs }
 {
@@ -287,7 +254,6 @@ pub fn i32x4_max_u(lhs: V128, rhs: V128) -> V128
 }
 
 /// The averages of the lanes, read unsigned, halves rounded up.
-#[inline]
 pub fn i8x16_avgr_u(lhs: V128, rhs: V128) -> V128
     ensures { result ≡ vector.avgr_u w8 lhs rhs }
 {
@@ -295,35 +261,30 @@ pub fn i8x16_avgr_u(lhs: V128, rhs: V128) -> V128
 }
 
 /// The averages of the lanes, read unsigned, halves rounded up.
-#[inline]
 pub fn i16x8_avgr_u(lhs: V128, rhs: V128) -> V128
     ensures { result ≡ vector.avgr_u w16 lhs rhs }
 {
     words::averages::<u16>(lhs, rhs)
 }
 
-#[inline]
 fn sum_i8(x: i8, y: i8) -> i16
     ensures { result ≡ x +ℤ y }
 {
     i16::from(x) + i16::from(y)
 }
 
-#[inline]
 fn difference_i8(x: i8, y: i8) -> i16
     ensures { result ≡ x -ℤ y }
 {
     i16::from(x) - i16::from(y)
 }
 
-#[inline]
 fn sum_i16(x: i16, y: i16) -> i32
     ensures { result ≡ x +ℤ y }
 {
     i32::from(x) + i32::from(y)
 }
 
-#[inline]
 fn difference_i16(x: i16, y: i16) -> i32
     ensures { result ≡ x -ℤ y }
 {

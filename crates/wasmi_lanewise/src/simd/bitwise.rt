@@ -7,7 +7,6 @@ use wasmi_lanes::{from_u64x2, u64x2_of};
 use wasmi_raw::V128;
 
 /// Bitwise and.
-#[inline]
 pub fn v128_and(lhs: V128, rhs: V128) -> V128
     ensures { result ≡ vector.v128_and lhs rhs }
 {
@@ -17,7 +16,6 @@ pub fn v128_and(lhs: V128, rhs: V128) -> V128
 }
 
 /// Bitwise or.
-#[inline]
 pub fn v128_or(lhs: V128, rhs: V128) -> V128
     ensures { result ≡ vector.v128_or lhs rhs }
 {
@@ -27,7 +25,6 @@ pub fn v128_or(lhs: V128, rhs: V128) -> V128
 }
 
 /// Bitwise exclusive or.
-#[inline]
 pub fn v128_xor(lhs: V128, rhs: V128) -> V128
     ensures { result ≡ vector.v128_xor lhs rhs }
 {
@@ -37,7 +34,6 @@ pub fn v128_xor(lhs: V128, rhs: V128) -> V128
 }
 
 /// The bits of `v` inverted.
-#[inline]
 pub fn v128_not(v: V128) -> V128
     ensures { result ≡ vector.v128_not v }
 {
@@ -46,7 +42,6 @@ pub fn v128_not(v: V128) -> V128
 }
 
 /// The bits of `lhs` where `rhs` has zeros.
-#[inline]
 pub fn v128_andnot(lhs: V128, rhs: V128) -> V128
     ensures { result ≡ vector.v128_andnot lhs rhs }
 {
@@ -54,7 +49,6 @@ pub fn v128_andnot(lhs: V128, rhs: V128) -> V128
 }
 
 /// The bits of `v1` where `c` has ones, those of `v2` where it has zeros.
-#[inline]
 pub fn v128_bitselect(v1: V128, v2: V128, c: V128) -> V128
     ensures { result ≡ vector.v128_bitselect v1 v2 c }
 {

@@ -8,7 +8,6 @@ use crate::simd::{order, words};
 use wasmi_raw::V128;
 
 /// All ones in the lanes that are equal, else all zeros.
-#[inline]
 pub fn i8x16_eq(lhs: V128, rhs: V128) -> V128
     ensures { result ≡ vector.eq w8 lhs rhs }
 {
@@ -16,7 +15,6 @@ pub fn i8x16_eq(lhs: V128, rhs: V128) -> V128
 }
 
 /// All ones in the lanes that are equal, else all zeros.
-#[inline]
 pub fn i16x8_eq(lhs: V128, rhs: V128) -> V128
     ensures { result ≡ vector.eq w16 lhs rhs }
 {
@@ -24,7 +22,6 @@ pub fn i16x8_eq(lhs: V128, rhs: V128) -> V128
 }
 
 /// All ones in the lanes that are equal, else all zeros.
-#[inline]
 pub fn i32x4_eq(lhs: V128, rhs: V128) -> V128
     ensures { result ≡ vector.eq w32 lhs rhs }
 {
@@ -32,7 +29,6 @@ pub fn i32x4_eq(lhs: V128, rhs: V128) -> V128
 }
 
 /// All ones in the lanes that are equal, else all zeros.
-#[inline]
 pub fn i64x2_eq(lhs: V128, rhs: V128) -> V128
     ensures { result ≡ vector.eq w64 lhs rhs }
 {
@@ -40,7 +36,6 @@ pub fn i64x2_eq(lhs: V128, rhs: V128) -> V128
 }
 
 /// All ones in the lanes that are different, else all zeros.
-#[inline]
 pub fn i8x16_ne(lhs: V128, rhs: V128) -> V128
     ensures { result ≡ vector.ne w8 lhs rhs }
 {
@@ -48,7 +43,6 @@ pub fn i8x16_ne(lhs: V128, rhs: V128) -> V128
 }
 
 /// All ones in the lanes that are different, else all zeros.
-#[inline]
 pub fn i16x8_ne(lhs: V128, rhs: V128) -> V128
     ensures { result ≡ vector.ne w16 lhs rhs }
 {
@@ -56,7 +50,6 @@ pub fn i16x8_ne(lhs: V128, rhs: V128) -> V128
 }
 
 /// All ones in the lanes that are different, else all zeros.
-#[inline]
 pub fn i32x4_ne(lhs: V128, rhs: V128) -> V128
     ensures { result ≡ vector.ne w32 lhs rhs }
 {
@@ -64,7 +57,6 @@ pub fn i32x4_ne(lhs: V128, rhs: V128) -> V128
 }
 
 /// All ones in the lanes that are different, else all zeros.
-#[inline]
 pub fn i64x2_ne(lhs: V128, rhs: V128) -> V128
     ensures { result ≡ vector.ne w64 lhs rhs }
 {
@@ -72,7 +64,6 @@ pub fn i64x2_ne(lhs: V128, rhs: V128) -> V128
 }
 
 /// All ones where the lane of `lhs` is less than that of `rhs`, both read signed, else all zeros.
-#[inline]
 pub fn i8x16_lt_s(lhs: V128, rhs: V128) -> V128
     ensures { result ≡ vector.lt_s w8 lhs rhs }
 {
@@ -80,7 +71,6 @@ pub fn i8x16_lt_s(lhs: V128, rhs: V128) -> V128
 }
 
 /// All ones where the lane of `lhs` is less than that of `rhs`, both read signed, else all zeros.
-#[inline]
 pub fn i16x8_lt_s(lhs: V128, rhs: V128) -> V128
     ensures { result ≡ vector.lt_s w16 lhs rhs }
 {
@@ -88,7 +78,6 @@ pub fn i16x8_lt_s(lhs: V128, rhs: V128) -> V128
 }
 
 /// All ones where the lane of `lhs` is less than that of `rhs`, both read signed, else all zeros.
-#[inline]
 pub fn i32x4_lt_s(lhs: V128, rhs: V128) -> V128
     ensures { result ≡ vector.lt_s w32 lhs rhs }
 {
@@ -96,7 +85,6 @@ pub fn i32x4_lt_s(lhs: V128, rhs: V128) -> V128
 }
 
 /// All ones where the lane of `lhs` is less than that of `rhs`, both read signed, else all zeros.
-#[inline]
 pub fn i64x2_lt_s(lhs: V128, rhs: V128) -> V128
     ensures { result ≡ vector.lt_s w64 lhs rhs }
 {
@@ -104,7 +92,6 @@ pub fn i64x2_lt_s(lhs: V128, rhs: V128) -> V128
 }
 
 /// All ones where the lane of `lhs` is less than that of `rhs`, both read unsigned, else all zeros.
-#[inline]
 pub fn i8x16_lt_u(lhs: V128, rhs: V128) -> V128
     ensures { result ≡ vector.lt_u w8 lhs rhs }
 {
@@ -112,7 +99,6 @@ pub fn i8x16_lt_u(lhs: V128, rhs: V128) -> V128
 }
 
 /// All ones where the lane of `lhs` is less than that of `rhs`, both read unsigned, else all zeros.
-#[inline]
 pub fn i16x8_lt_u(lhs: V128, rhs: V128) -> V128
     ensures { result ≡ vector.lt_u w16 lhs rhs }
 {
@@ -120,7 +106,6 @@ pub fn i16x8_lt_u(lhs: V128, rhs: V128) -> V128
 }
 
 /// All ones where the lane of `lhs` is less than that of `rhs`, both read unsigned, else all zeros.
-#[inline]
 pub fn i32x4_lt_u(lhs: V128, rhs: V128) -> V128
     ensures { result ≡ vector.lt_u w32 lhs rhs }
 {
@@ -128,7 +113,6 @@ pub fn i32x4_lt_u(lhs: V128, rhs: V128) -> V128
 }
 
 /// All ones where the lane of `lhs` is at most that of `rhs`, both read signed, else all zeros.
-#[inline]
 pub fn i8x16_le_s(lhs: V128, rhs: V128) -> V128
     ensures { result ≡ vector.le_s w8 lhs rhs }
 {
@@ -136,7 +120,6 @@ pub fn i8x16_le_s(lhs: V128, rhs: V128) -> V128
 }
 
 /// All ones where the lane of `lhs` is at most that of `rhs`, both read signed, else all zeros.
-#[inline]
 pub fn i16x8_le_s(lhs: V128, rhs: V128) -> V128
     ensures { result ≡ vector.le_s w16 lhs rhs }
 {
@@ -144,7 +127,6 @@ pub fn i16x8_le_s(lhs: V128, rhs: V128) -> V128
 }
 
 /// All ones where the lane of `lhs` is at most that of `rhs`, both read signed, else all zeros.
-#[inline]
 pub fn i32x4_le_s(lhs: V128, rhs: V128) -> V128
     ensures { result ≡ vector.le_s w32 lhs rhs }
 {
@@ -152,7 +134,6 @@ pub fn i32x4_le_s(lhs: V128, rhs: V128) -> V128
 }
 
 /// All ones where the lane of `lhs` is at most that of `rhs`, both read signed, else all zeros.
-#[inline]
 pub fn i64x2_le_s(lhs: V128, rhs: V128) -> V128
     ensures { result ≡ vector.le_s w64 lhs rhs }
 {
@@ -160,7 +141,6 @@ pub fn i64x2_le_s(lhs: V128, rhs: V128) -> V128
 }
 
 /// All ones where the lane of `lhs` is at most that of `rhs`, both read unsigned, else all zeros.
-#[inline]
 pub fn i8x16_le_u(lhs: V128, rhs: V128) -> V128
     ensures { result ≡ vector.le_u w8 lhs rhs }
 {
@@ -168,7 +148,6 @@ pub fn i8x16_le_u(lhs: V128, rhs: V128) -> V128
 }
 
 /// All ones where the lane of `lhs` is at most that of `rhs`, both read unsigned, else all zeros.
-#[inline]
 pub fn i16x8_le_u(lhs: V128, rhs: V128) -> V128
     ensures { result ≡ vector.le_u w16 lhs rhs }
 {
@@ -176,7 +155,6 @@ pub fn i16x8_le_u(lhs: V128, rhs: V128) -> V128
 }
 
 /// All ones where the lane of `lhs` is at most that of `rhs`, both read unsigned, else all zeros.
-#[inline]
 pub fn i32x4_le_u(lhs: V128, rhs: V128) -> V128
     ensures { result ≡ vector.le_u w32 lhs rhs }
 {
@@ -185,7 +163,6 @@ pub fn i32x4_le_u(lhs: V128, rhs: V128) -> V128
 
 /// All ones where the lane of `lhs` is greater than that of `rhs`, both read signed, else all
 /// zeros.
-#[inline]
 pub fn i8x16_gt_s(lhs: V128, rhs: V128) -> V128
     ensures { result ≡ vector.gt_s w8 lhs rhs }
 {
@@ -194,7 +171,6 @@ pub fn i8x16_gt_s(lhs: V128, rhs: V128) -> V128
 
 /// All ones where the lane of `lhs` is greater than that of `rhs`, both read signed, else all
 /// zeros.
-#[inline]
 pub fn i16x8_gt_s(lhs: V128, rhs: V128) -> V128
     ensures { result ≡ vector.gt_s w16 lhs rhs }
 {
@@ -203,7 +179,6 @@ pub fn i16x8_gt_s(lhs: V128, rhs: V128) -> V128
 
 /// All ones where the lane of `lhs` is greater than that of `rhs`, both read signed, else all
 /// zeros.
-#[inline]
 pub fn i32x4_gt_s(lhs: V128, rhs: V128) -> V128
     ensures { result ≡ vector.gt_s w32 lhs rhs }
 {
@@ -212,7 +187,6 @@ pub fn i32x4_gt_s(lhs: V128, rhs: V128) -> V128
 
 /// All ones where the lane of `lhs` is greater than that of `rhs`, both read signed, else all
 /// zeros.
-#[inline]
 pub fn i64x2_gt_s(lhs: V128, rhs: V128) -> V128
     ensures { result ≡ vector.gt_s w64 lhs rhs }
 {
@@ -221,7 +195,6 @@ pub fn i64x2_gt_s(lhs: V128, rhs: V128) -> V128
 
 /// All ones where the lane of `lhs` is greater than that of `rhs`, both read unsigned, else all
 /// zeros.
-#[inline]
 pub fn i8x16_gt_u(lhs: V128, rhs: V128) -> V128
     ensures { result ≡ vector.gt_u w8 lhs rhs }
 {
@@ -230,7 +203,6 @@ pub fn i8x16_gt_u(lhs: V128, rhs: V128) -> V128
 
 /// All ones where the lane of `lhs` is greater than that of `rhs`, both read unsigned, else all
 /// zeros.
-#[inline]
 pub fn i16x8_gt_u(lhs: V128, rhs: V128) -> V128
     ensures { result ≡ vector.gt_u w16 lhs rhs }
 {
@@ -239,7 +211,6 @@ pub fn i16x8_gt_u(lhs: V128, rhs: V128) -> V128
 
 /// All ones where the lane of `lhs` is greater than that of `rhs`, both read unsigned, else all
 /// zeros.
-#[inline]
 pub fn i32x4_gt_u(lhs: V128, rhs: V128) -> V128
     ensures { result ≡ vector.gt_u w32 lhs rhs }
 {
@@ -247,7 +218,6 @@ pub fn i32x4_gt_u(lhs: V128, rhs: V128) -> V128
 }
 
 /// All ones where the lane of `lhs` is at least that of `rhs`, both read signed, else all zeros.
-#[inline]
 pub fn i8x16_ge_s(lhs: V128, rhs: V128) -> V128
     ensures { result ≡ vector.ge_s w8 lhs rhs }
 {
@@ -255,7 +225,6 @@ pub fn i8x16_ge_s(lhs: V128, rhs: V128) -> V128
 }
 
 /// All ones where the lane of `lhs` is at least that of `rhs`, both read signed, else all zeros.
-#[inline]
 pub fn i16x8_ge_s(lhs: V128, rhs: V128) -> V128
     ensures { result ≡ vector.ge_s w16 lhs rhs }
 {
@@ -263,7 +232,6 @@ pub fn i16x8_ge_s(lhs: V128, rhs: V128) -> V128
 }
 
 /// All ones where the lane of `lhs` is at least that of `rhs`, both read signed, else all zeros.
-#[inline]
 pub fn i32x4_ge_s(lhs: V128, rhs: V128) -> V128
     ensures { result ≡ vector.ge_s w32 lhs rhs }
 {
@@ -271,7 +239,6 @@ pub fn i32x4_ge_s(lhs: V128, rhs: V128) -> V128
 }
 
 /// All ones where the lane of `lhs` is at least that of `rhs`, both read signed, else all zeros.
-#[inline]
 pub fn i64x2_ge_s(lhs: V128, rhs: V128) -> V128
     ensures { result ≡ vector.ge_s w64 lhs rhs }
 {
@@ -279,7 +246,6 @@ pub fn i64x2_ge_s(lhs: V128, rhs: V128) -> V128
 }
 
 /// All ones where the lane of `lhs` is at least that of `rhs`, both read unsigned, else all zeros.
-#[inline]
 pub fn i8x16_ge_u(lhs: V128, rhs: V128) -> V128
     ensures { result ≡ vector.ge_u w8 lhs rhs }
 {
@@ -287,7 +253,6 @@ pub fn i8x16_ge_u(lhs: V128, rhs: V128) -> V128
 }
 
 /// All ones where the lane of `lhs` is at least that of `rhs`, both read unsigned, else all zeros.
-#[inline]
 pub fn i16x8_ge_u(lhs: V128, rhs: V128) -> V128
     ensures { result ≡ vector.ge_u w16 lhs rhs }
 {
@@ -295,7 +260,6 @@ pub fn i16x8_ge_u(lhs: V128, rhs: V128) -> V128
 }
 
 /// All ones where the lane of `lhs` is at least that of `rhs`, both read unsigned, else all zeros.
-#[inline]
 pub fn i32x4_ge_u(lhs: V128, rhs: V128) -> V128
     ensures { result ≡ vector.ge_u w32 lhs rhs }
 {

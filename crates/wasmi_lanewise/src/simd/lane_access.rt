@@ -14,7 +14,6 @@ use wasmi_lanes::{
 use wasmi_raw::V128;
 
 /// The item in every lane.
-#[inline]
 pub fn i8x16_splat(item: i8) -> V128
     ensures { result ≡ vector.splat w8 item }
 {
@@ -22,7 +21,6 @@ pub fn i8x16_splat(item: i8) -> V128
 }
 
 /// The item in every lane.
-#[inline]
 pub fn i16x8_splat(item: i16) -> V128
     ensures { result ≡ vector.splat w16 item }
 {
@@ -30,7 +28,6 @@ pub fn i16x8_splat(item: i16) -> V128
 }
 
 /// The item in every lane.
-#[inline]
 pub fn i32x4_splat(item: i32) -> V128
     ensures { result ≡ vector.splat w32 item }
 {
@@ -38,7 +35,6 @@ pub fn i32x4_splat(item: i32) -> V128
 }
 
 /// The item in every lane.
-#[inline]
 pub fn i64x2_splat(item: i64) -> V128
     ensures { result ≡ vector.splat w64 item }
 {
@@ -63,7 +59,6 @@ fn lower_half_twice(v: V128) -> u32x4
 }
 
 /// One lane, read signed.
-#[inline]
 pub fn i8x16_extract_lane_s(v: V128, lane: ImmLaneIdx16) -> i32
     ensures { result ≡ vector.extract_lane_s w8 v lane }
 {
@@ -71,7 +66,6 @@ pub fn i8x16_extract_lane_s(v: V128, lane: ImmLaneIdx16) -> i32
 }
 
 /// One lane, read unsigned.
-#[inline]
 pub fn i8x16_extract_lane_u(v: V128, lane: ImmLaneIdx16) -> u32
     ensures { result ≡ vector.extract_lane_u w8 v lane }
 {
@@ -79,7 +73,6 @@ pub fn i8x16_extract_lane_u(v: V128, lane: ImmLaneIdx16) -> u32
 }
 
 /// One lane, read signed.
-#[inline]
 pub fn i16x8_extract_lane_s(v: V128, lane: ImmLaneIdx8) -> i32
     ensures { result ≡ vector.extract_lane_s w16 v lane }
 {
@@ -87,7 +80,6 @@ pub fn i16x8_extract_lane_s(v: V128, lane: ImmLaneIdx8) -> i32
 }
 
 /// One lane, read unsigned.
-#[inline]
 pub fn i16x8_extract_lane_u(v: V128, lane: ImmLaneIdx8) -> u32
     ensures { result ≡ vector.extract_lane_u w16 v lane }
 {
@@ -95,7 +87,6 @@ pub fn i16x8_extract_lane_u(v: V128, lane: ImmLaneIdx8) -> u32
 }
 
 /// One lane, read signed.
-#[inline]
 pub fn i32x4_extract_lane(v: V128, lane: ImmLaneIdx4) -> i32
     ensures { result ≡ vector.extract_lane_s w32 v lane }
 {
@@ -103,7 +94,6 @@ pub fn i32x4_extract_lane(v: V128, lane: ImmLaneIdx4) -> i32
 }
 
 /// One lane, read signed.
-#[inline]
 pub fn i64x2_extract_lane(v: V128, lane: ImmLaneIdx2) -> i64
     ensures { result ≡ vector.extract_lane_s w64 v lane }
 {
@@ -111,7 +101,6 @@ pub fn i64x2_extract_lane(v: V128, lane: ImmLaneIdx2) -> i64
 }
 
 /// `v` with the item in one lane.
-#[inline]
 pub fn i8x16_replace_lane(v: V128, lane: ImmLaneIdx16, item: i8) -> V128
     ensures { result ≡ vector.replace_lane w8 v lane item }
 {
@@ -119,7 +108,6 @@ pub fn i8x16_replace_lane(v: V128, lane: ImmLaneIdx16, item: i8) -> V128
 }
 
 /// `v` with the item in one lane.
-#[inline]
 pub fn i16x8_replace_lane(v: V128, lane: ImmLaneIdx8, item: i16) -> V128
     ensures { result ≡ vector.replace_lane w16 v lane item }
 {
@@ -127,7 +115,6 @@ pub fn i16x8_replace_lane(v: V128, lane: ImmLaneIdx8, item: i16) -> V128
 }
 
 /// `v` with the item in one lane.
-#[inline]
 pub fn i32x4_replace_lane(v: V128, lane: ImmLaneIdx4, item: i32) -> V128
     ensures { result ≡ vector.replace_lane w32 v lane item }
 {
@@ -135,7 +122,6 @@ pub fn i32x4_replace_lane(v: V128, lane: ImmLaneIdx4, item: i32) -> V128
 }
 
 /// `v` with the item in one lane.
-#[inline]
 pub fn i64x2_replace_lane(v: V128, lane: ImmLaneIdx2, item: i64) -> V128
     ensures { result ≡ vector.replace_lane w64 v lane item }
 {

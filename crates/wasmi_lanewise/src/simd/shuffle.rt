@@ -8,7 +8,6 @@ use wasmi_lanes::{ImmLaneIdx32, bytes_of, from_bytes};
 use wasmi_raw::V128;
 
 /// Lane i is lane `s[i]` of `a`, or lane `s[i] - 16` of `b` where `s[i]` is above 15.
-#[inline]
 pub fn i8x16_shuffle(a: V128, b: V128, s: [ImmLaneIdx32; 16]) -> V128
     ensures { result ≡ vector.shuffle a b s }
 {
@@ -19,7 +18,6 @@ pub fn i8x16_shuffle(a: V128, b: V128, s: [ImmLaneIdx32; 16]) -> V128
 }
 
 /// Lane i is the lane of `a` at the index that lane i of `s` is, and 0 where that is above 15.
-#[inline]
 pub fn i8x16_swizzle(a: V128, s: V128) -> V128
     ensures { result ≡ vector.swizzle a s }
 {

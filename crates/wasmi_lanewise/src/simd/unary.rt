@@ -9,7 +9,6 @@ use wasmi_lanes::{I8x16, I16x8, I32x4, I64x2, on_vectors};
 use wasmi_raw::V128;
 
 /// The lanes negated, modulo 2 to the power 8.
-#[inline]
 pub fn i8x16_neg(v: V128) -> V128
     ensures { result ≡ vector.neg w8 v }
 {
@@ -17,7 +16,6 @@ pub fn i8x16_neg(v: V128) -> V128
 }
 
 /// The lanes negated, modulo 2 to the power 16.
-#[inline]
 pub fn i16x8_neg(v: V128) -> V128
     ensures { result ≡ vector.neg w16 v }
 {
@@ -25,7 +23,6 @@ pub fn i16x8_neg(v: V128) -> V128
 }
 
 /// The lanes negated, modulo 2 to the power 32.
-#[inline]
 pub fn i32x4_neg(v: V128) -> V128
     ensures { result ≡ vector.neg w32 v }
 {
@@ -33,7 +30,6 @@ pub fn i32x4_neg(v: V128) -> V128
 }
 
 /// The lanes negated, modulo 2 to the power 64.
-#[inline]
 pub fn i64x2_neg(v: V128) -> V128
     ensures { result ≡ vector.neg w64 v }
 {
@@ -42,7 +38,6 @@ pub fn i64x2_neg(v: V128) -> V128
 
 /// The absolute values of the lanes, read signed; the least number is its own, modulo 2 to the
 /// power 8.
-#[inline]
 pub fn i8x16_abs(v: V128) -> V128
     ensures { result ≡ vector.abs w8 v }
 {
@@ -51,7 +46,6 @@ pub fn i8x16_abs(v: V128) -> V128
 
 /// The absolute values of the lanes, read signed; the least number is its own, modulo 2 to the
 /// power 16.
-#[inline]
 pub fn i16x8_abs(v: V128) -> V128
     ensures { result ≡ vector.abs w16 v }
 {
@@ -60,7 +54,6 @@ pub fn i16x8_abs(v: V128) -> V128
 
 /// The absolute values of the lanes, read signed; the least number is its own, modulo 2 to the
 /// power 32.
-#[inline]
 pub fn i32x4_abs(v: V128) -> V128
     ensures { result ≡ vector.abs w32 v }
 {
@@ -69,7 +62,6 @@ pub fn i32x4_abs(v: V128) -> V128
 
 /// The absolute values of the lanes, read signed; the least number is its own, modulo 2 to the
 /// power 64.
-#[inline]
 pub fn i64x2_abs(v: V128) -> V128
     ensures { result ≡ vector.abs w64 v }
 {
@@ -77,7 +69,6 @@ pub fn i64x2_abs(v: V128) -> V128
 }
 
 /// How many bits of each lane are one.
-#[inline]
 pub fn i8x16_popcnt(v: V128) -> V128
     ensures { result ≡ vector.popcnt w8 v }
 {

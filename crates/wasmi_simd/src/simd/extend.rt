@@ -14,7 +14,6 @@ use wasmi_lanes::SimdLane;
 use wasmi_raw::V128;
 
 /// The lanes of the lower half, read signed.
-#[inline]
 pub fn i16x8_extend_low_i8x16_s(v: V128) -> V128
     ensures { result ≡ vector.extend_low_s w8 w16 v }
 {
@@ -22,7 +21,6 @@ pub fn i16x8_extend_low_i8x16_s(v: V128) -> V128
 }
 
 /// The lanes of the lower half, read unsigned.
-#[inline]
 pub fn i16x8_extend_low_i8x16_u(v: V128) -> V128
     ensures { result ≡ vector.extend_low_u w8 w16 v }
 {
@@ -30,7 +28,6 @@ pub fn i16x8_extend_low_i8x16_u(v: V128) -> V128
 }
 
 /// The lanes of the upper half, read signed.
-#[inline]
 pub fn i16x8_extend_high_i8x16_s(v: V128) -> V128
     ensures { result ≡ vector.extend_high_s w8 w16 v }
 {
@@ -38,7 +35,6 @@ pub fn i16x8_extend_high_i8x16_s(v: V128) -> V128
 }
 
 /// The lanes of the upper half, read unsigned.
-#[inline]
 pub fn i16x8_extend_high_i8x16_u(v: V128) -> V128
     ensures { result ≡ vector.extend_high_u w8 w16 v }
 {
@@ -46,7 +42,6 @@ pub fn i16x8_extend_high_i8x16_u(v: V128) -> V128
 }
 
 /// The lanes of the lower half, read signed.
-#[inline]
 pub fn i32x4_extend_low_i16x8_s(v: V128) -> V128
     ensures { result ≡ vector.extend_low_s w16 w32 v }
 {
@@ -54,7 +49,6 @@ pub fn i32x4_extend_low_i16x8_s(v: V128) -> V128
 }
 
 /// The lanes of the lower half, read unsigned.
-#[inline]
 pub fn i32x4_extend_low_i16x8_u(v: V128) -> V128
     ensures { result ≡ vector.extend_low_u w16 w32 v }
 {
@@ -62,7 +56,6 @@ pub fn i32x4_extend_low_i16x8_u(v: V128) -> V128
 }
 
 /// The lanes of the upper half, read signed.
-#[inline]
 pub fn i32x4_extend_high_i16x8_s(v: V128) -> V128
     ensures { result ≡ vector.extend_high_s w16 w32 v }
 {
@@ -70,7 +63,6 @@ pub fn i32x4_extend_high_i16x8_s(v: V128) -> V128
 }
 
 /// The lanes of the upper half, read unsigned.
-#[inline]
 pub fn i32x4_extend_high_i16x8_u(v: V128) -> V128
     ensures { result ≡ vector.extend_high_u w16 w32 v }
 {
@@ -78,7 +70,6 @@ pub fn i32x4_extend_high_i16x8_u(v: V128) -> V128
 }
 
 /// The lanes of the lower half, read signed.
-#[inline]
 pub fn i64x2_extend_low_i32x4_s(v: V128) -> V128
     ensures { result ≡ vector.extend_low_s w32 w64 v }
 {
@@ -86,7 +77,6 @@ pub fn i64x2_extend_low_i32x4_s(v: V128) -> V128
 }
 
 /// The lanes of the lower half, read unsigned.
-#[inline]
 pub fn i64x2_extend_low_i32x4_u(v: V128) -> V128
     ensures { result ≡ vector.extend_low_u w32 w64 v }
 {
@@ -94,7 +84,6 @@ pub fn i64x2_extend_low_i32x4_u(v: V128) -> V128
 }
 
 /// The lanes of the upper half, read signed.
-#[inline]
 pub fn i64x2_extend_high_i32x4_s(v: V128) -> V128
     ensures { result ≡ vector.extend_high_s w32 w64 v }
 {
@@ -102,7 +91,6 @@ pub fn i64x2_extend_high_i32x4_s(v: V128) -> V128
 }
 
 /// The lanes of the upper half, read unsigned.
-#[inline]
 pub fn i64x2_extend_high_i32x4_u(v: V128) -> V128
     ensures { result ≡ vector.extend_high_u w32 w64 v }
 {
@@ -112,7 +100,6 @@ pub fn i64x2_extend_high_i32x4_u(v: V128) -> V128
 /// The 8 lanes of 8 bits of a number, read signed, lane 0 the lowest.
 ///
 /// What the extending load `v128.load8x8_s` makes of the number that it reads. Upstream's own.
-#[inline]
 pub fn v128_widen8x8_s(number: u64) -> V128
     ensures { result ≡ vector.widen_s w8 w16 number }
 {
@@ -122,7 +109,6 @@ pub fn v128_widen8x8_s(number: u64) -> V128
 /// The 8 lanes of 8 bits of a number, read unsigned, lane 0 the lowest.
 ///
 /// What the extending load `v128.load8x8_u` makes of the number that it reads. Upstream's own.
-#[inline]
 pub fn v128_widen8x8_u(number: u64) -> V128
     ensures { result ≡ vector.widen_u w8 w16 number }
 {
@@ -132,7 +118,6 @@ pub fn v128_widen8x8_u(number: u64) -> V128
 /// The 4 lanes of 16 bits of a number, read signed, lane 0 the lowest.
 ///
 /// What the extending load `v128.load16x4_s` makes of the number that it reads. Upstream's own.
-#[inline]
 pub fn v128_widen16x4_s(number: u64) -> V128
     ensures { result ≡ vector.widen_s w16 w32 number }
 {
@@ -142,7 +127,6 @@ pub fn v128_widen16x4_s(number: u64) -> V128
 /// The 4 lanes of 16 bits of a number, read unsigned, lane 0 the lowest.
 ///
 /// What the extending load `v128.load16x4_u` makes of the number that it reads. Upstream's own.
-#[inline]
 pub fn v128_widen16x4_u(number: u64) -> V128
     ensures { result ≡ vector.widen_u w16 w32 number }
 {
@@ -152,7 +136,6 @@ pub fn v128_widen16x4_u(number: u64) -> V128
 /// The 2 lanes of 32 bits of a number, read signed, lane 0 the lowest.
 ///
 /// What the extending load `v128.load32x2_s` makes of the number that it reads. Upstream's own.
-#[inline]
 pub fn v128_widen32x2_s(number: u64) -> V128
     ensures { result ≡ vector.widen_s w32 w64 number }
 {
@@ -162,7 +145,6 @@ pub fn v128_widen32x2_s(number: u64) -> V128
 /// The 2 lanes of 32 bits of a number, read unsigned, lane 0 the lowest.
 ///
 /// What the extending load `v128.load32x2_u` makes of the number that it reads. Upstream's own.
-#[inline]
 pub fn v128_widen32x2_u(number: u64) -> V128
     ensures { result ≡ vector.widen_u w32 w64 number }
 {
@@ -172,7 +154,6 @@ pub fn v128_widen32x2_u(number: u64) -> V128
 /// The number in lane 0, and 0 in the others.
 ///
 /// What `v128.load32_zero` makes of the number that it reads. Upstream's own.
-#[inline]
 pub fn v128_low32_zero(number: u32) -> V128
     ensures { result ≡ vector.low_zero w32 number }
 {
@@ -182,7 +163,6 @@ pub fn v128_low32_zero(number: u32) -> V128
 /// The number in lane 0, and 0 in the others.
 ///
 /// What `v128.load64_zero` makes of the number that it reads. Upstream's own.
-#[inline]
 pub fn v128_low64_zero(number: u64) -> V128
     ensures { result ≡ vector.low_zero w64 number }
 {

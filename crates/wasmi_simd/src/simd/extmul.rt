@@ -13,7 +13,6 @@ use wasmi_lanes::SimdLane;
 use wasmi_raw::V128;
 
 /// The products of the lanes of the lower halves, read signed.
-#[inline]
 pub fn i16x8_extmul_low_i8x16_s(lhs: V128, rhs: V128) -> V128
     ensures { result ≡ vector.extmul_low_s w8 w16 lhs rhs }
 {
@@ -21,7 +20,6 @@ pub fn i16x8_extmul_low_i8x16_s(lhs: V128, rhs: V128) -> V128
 }
 
 /// The products of the lanes of the lower halves, read unsigned.
-#[inline]
 pub fn i16x8_extmul_low_i8x16_u(lhs: V128, rhs: V128) -> V128
     ensures { result ≡ vector.extmul_low_u w8 w16 lhs rhs }
 {
@@ -29,7 +27,6 @@ pub fn i16x8_extmul_low_i8x16_u(lhs: V128, rhs: V128) -> V128
 }
 
 /// The products of the lanes of the upper halves, read signed.
-#[inline]
 pub fn i16x8_extmul_high_i8x16_s(lhs: V128, rhs: V128) -> V128
     ensures { result ≡ vector.extmul_high_s w8 w16 lhs rhs }
 {
@@ -37,7 +34,6 @@ pub fn i16x8_extmul_high_i8x16_s(lhs: V128, rhs: V128) -> V128
 }
 
 /// The products of the lanes of the upper halves, read unsigned.
-#[inline]
 pub fn i16x8_extmul_high_i8x16_u(lhs: V128, rhs: V128) -> V128
     ensures { result ≡ vector.extmul_high_u w8 w16 lhs rhs }
 {
@@ -45,7 +41,6 @@ pub fn i16x8_extmul_high_i8x16_u(lhs: V128, rhs: V128) -> V128
 }
 
 /// The products of the lanes of the lower halves, read signed.
-#[inline]
 pub fn i32x4_extmul_low_i16x8_s(lhs: V128, rhs: V128) -> V128
     ensures { result ≡ vector.extmul_low_s w16 w32 lhs rhs }
 {
@@ -53,7 +48,6 @@ pub fn i32x4_extmul_low_i16x8_s(lhs: V128, rhs: V128) -> V128
 }
 
 /// The products of the lanes of the lower halves, read unsigned.
-#[inline]
 pub fn i32x4_extmul_low_i16x8_u(lhs: V128, rhs: V128) -> V128
     ensures { result ≡ vector.extmul_low_u w16 w32 lhs rhs }
 {
@@ -61,7 +55,6 @@ pub fn i32x4_extmul_low_i16x8_u(lhs: V128, rhs: V128) -> V128
 }
 
 /// The products of the lanes of the upper halves, read signed.
-#[inline]
 pub fn i32x4_extmul_high_i16x8_s(lhs: V128, rhs: V128) -> V128
     ensures { result ≡ vector.extmul_high_s w16 w32 lhs rhs }
 {
@@ -69,7 +62,6 @@ pub fn i32x4_extmul_high_i16x8_s(lhs: V128, rhs: V128) -> V128
 }
 
 /// The products of the lanes of the upper halves, read unsigned.
-#[inline]
 pub fn i32x4_extmul_high_i16x8_u(lhs: V128, rhs: V128) -> V128
     ensures { result ≡ vector.extmul_high_u w16 w32 lhs rhs }
 {
@@ -77,7 +69,6 @@ pub fn i32x4_extmul_high_i16x8_u(lhs: V128, rhs: V128) -> V128
 }
 
 /// The products of the lanes of the lower halves, read signed.
-#[inline]
 pub fn i64x2_extmul_low_i32x4_s(lhs: V128, rhs: V128) -> V128
     ensures { result ≡ vector.extmul_low_s w32 w64 lhs rhs }
 {
@@ -85,7 +76,6 @@ pub fn i64x2_extmul_low_i32x4_s(lhs: V128, rhs: V128) -> V128
 }
 
 /// The products of the lanes of the lower halves, read unsigned.
-#[inline]
 pub fn i64x2_extmul_low_i32x4_u(lhs: V128, rhs: V128) -> V128
     ensures { result ≡ vector.extmul_low_u w32 w64 lhs rhs }
 {
@@ -93,7 +83,6 @@ pub fn i64x2_extmul_low_i32x4_u(lhs: V128, rhs: V128) -> V128
 }
 
 /// The products of the lanes of the upper halves, read signed.
-#[inline]
 pub fn i64x2_extmul_high_i32x4_s(lhs: V128, rhs: V128) -> V128
     ensures { result ≡ vector.extmul_high_s w32 w64 lhs rhs }
 {
@@ -101,7 +90,6 @@ pub fn i64x2_extmul_high_i32x4_s(lhs: V128, rhs: V128) -> V128
 }
 
 /// The products of the lanes of the upper halves, read unsigned.
-#[inline]
 pub fn i64x2_extmul_high_i32x4_u(lhs: V128, rhs: V128) -> V128
     ensures { result ≡ vector.extmul_high_u w32 w64 lhs rhs }
 {

@@ -10,7 +10,6 @@ use wasmi_lanes::{I8x16, I16x8, I32x4, clamped_i8, clamped_i16};
 use wasmi_raw::V128;
 
 /// The lanes of `low`, then those of `high`, read signed and clamped to the signed range of 8 bits.
-#[inline]
 pub fn i8x16_narrow_i16x8_s(low: V128, high: V128) -> V128
     ensures { result ≡ vector.narrow_s w16 w8 low high }
 {
@@ -19,7 +18,6 @@ pub fn i8x16_narrow_i16x8_s(low: V128, high: V128) -> V128
 
 /// The lanes of `low`, then those of `high`, read signed and clamped to the unsigned range of 8
 /// bits.
-#[inline]
 pub fn i8x16_narrow_i16x8_u(low: V128, high: V128) -> V128
     ensures { result ≡ vector.narrow_u w16 w8 low high }
 {
@@ -28,7 +26,6 @@ pub fn i8x16_narrow_i16x8_u(low: V128, high: V128) -> V128
 
 /// The lanes of `low`, then those of `high`, read signed and clamped to the signed range of 16
 /// bits.
-#[inline]
 pub fn i16x8_narrow_i32x4_s(low: V128, high: V128) -> V128
     ensures { result ≡ vector.narrow_s w32 w16 low high }
 {
@@ -37,7 +34,6 @@ pub fn i16x8_narrow_i32x4_s(low: V128, high: V128) -> V128
 
 /// The lanes of `low`, then those of `high`, read signed and clamped to the unsigned range of 16
 /// bits.
-#[inline]
 pub fn i16x8_narrow_i32x4_u(low: V128, high: V128) -> V128
     ensures { result ≡ vector.narrow_u w32 w16 low high }
 {

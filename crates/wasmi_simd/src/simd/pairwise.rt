@@ -11,7 +11,6 @@ use super::vectors::{product_of_u16x8, product_of_u32x4, sums_of_u16x8, sums_of_
 use wasmi_raw::V128;
 
 /// The sums of neighbouring lanes, read signed.
-#[inline]
 pub fn i16x8_extadd_pairwise_i8x16_s(v: V128) -> V128
     ensures { result ≡ vector.extadd_pairwise_s w8 w16 v }
 {
@@ -19,7 +18,6 @@ pub fn i16x8_extadd_pairwise_i8x16_s(v: V128) -> V128
 }
 
 /// The sums of neighbouring lanes, read unsigned.
-#[inline]
 pub fn i16x8_extadd_pairwise_i8x16_u(v: V128) -> V128
     ensures { result ≡ vector.extadd_pairwise_u w8 w16 v }
 {
@@ -27,7 +25,6 @@ pub fn i16x8_extadd_pairwise_i8x16_u(v: V128) -> V128
 }
 
 /// The sums of neighbouring lanes, read signed.
-#[inline]
 pub fn i32x4_extadd_pairwise_i16x8_s(v: V128) -> V128
     ensures { result ≡ vector.extadd_pairwise_s w16 w32 v }
 {
@@ -35,7 +32,6 @@ pub fn i32x4_extadd_pairwise_i16x8_s(v: V128) -> V128
 }
 
 /// The sums of neighbouring lanes, read unsigned.
-#[inline]
 pub fn i32x4_extadd_pairwise_i16x8_u(v: V128) -> V128
     ensures { result ≡ vector.extadd_pairwise_u w16 w32 v }
 {
@@ -43,7 +39,6 @@ pub fn i32x4_extadd_pairwise_i16x8_u(v: V128) -> V128
 }
 
 /// The sums of the products of neighbouring lanes, read signed, modulo 2 to the power 32.
-#[inline]
 pub fn i32x4_dot_i16x8_s(lhs: V128, rhs: V128) -> V128
     ensures { result ≡ vector.dot_s w16 w32 lhs rhs }
 {
@@ -53,7 +48,6 @@ pub fn i32x4_dot_i16x8_s(lhs: V128, rhs: V128) -> V128
 }
 
 /// The sums of the products of neighbouring lanes, both read signed, modulo 2 to the power 16.
-#[inline]
 pub fn i16x8_relaxed_dot_i8x16_i7x16_s(lhs: V128, rhs: V128) -> V128
     ensures { result ≡ vector.relaxed_dot_s lhs rhs }
 {

@@ -10,7 +10,6 @@ use wasmi_lanes::WordLane;
 use wasmi_raw::V128;
 
 /// Whether no lane is 0.
-#[inline]
 pub fn i8x16_all_true(v: V128) -> bool
     ensures { result ≡ vector.all_true w8 v }
 {
@@ -18,7 +17,6 @@ pub fn i8x16_all_true(v: V128) -> bool
 }
 
 /// Whether no lane is 0.
-#[inline]
 pub fn i16x8_all_true(v: V128) -> bool
     ensures { result ≡ vector.all_true w16 v }
 {
@@ -26,7 +24,6 @@ pub fn i16x8_all_true(v: V128) -> bool
 }
 
 /// Whether no lane is 0.
-#[inline]
 pub fn i32x4_all_true(v: V128) -> bool
     ensures { result ≡ vector.all_true w32 v }
 {
@@ -34,7 +31,6 @@ pub fn i32x4_all_true(v: V128) -> bool
 }
 
 /// Whether no lane is 0.
-#[inline]
 pub fn i64x2_all_true(v: V128) -> bool
     ensures { result ≡ vector.all_true w64 v }
 {
@@ -42,7 +38,6 @@ pub fn i64x2_all_true(v: V128) -> bool
 }
 
 /// Whether some bit is 1.
-#[inline]
 pub fn v128_any_true(v: V128) -> bool
     ensures { result ≡ vector.any_true v }
 {
@@ -50,7 +45,6 @@ pub fn v128_any_true(v: V128) -> bool
 }
 
 /// The highest bits of the lanes, that of lane i at bit i.
-#[inline]
 pub fn i8x16_bitmask(v: V128) -> u32
     ensures { result ≡ vector.bitmask w8 v }
 {
@@ -59,7 +53,6 @@ pub fn i8x16_bitmask(v: V128) -> u32
 }
 
 /// The highest bits of the lanes, that of lane i at bit i.
-#[inline]
 pub fn i16x8_bitmask(v: V128) -> u32
     ensures { result ≡ vector.bitmask w16 v }
 {
@@ -70,7 +63,6 @@ pub fn i16x8_bitmask(v: V128) -> u32
 }
 
 /// The highest bits of the lanes, that of lane i at bit i.
-#[inline]
 pub fn i32x4_bitmask(v: V128) -> u32
     ensures { result ≡ vector.bitmask w32 v }
 {
@@ -81,7 +73,6 @@ pub fn i32x4_bitmask(v: V128) -> u32
 }
 
 /// The highest bits of the lanes, that of lane i at bit i.
-#[inline]
 pub fn i64x2_bitmask(v: V128) -> u32
     ensures { result ≡ vector.bitmask w64 v }
 {

@@ -11,7 +11,6 @@ use wasmi_lanewise::simd::{i8x16_swizzle, i16x8_q15mulr_sat_s, v128_bitselect};
 use wasmi_raw::V128;
 
 /// As `i8x16_swizzle`: 0 where the index is above 15.
-#[inline]
 pub fn i8x16_relaxed_swizzle(a: V128, s: V128) -> V128
     ensures { result ≡ vector.relaxed_swizzle a s }
 {
@@ -19,7 +18,6 @@ pub fn i8x16_relaxed_swizzle(a: V128, s: V128) -> V128
 }
 
 /// As `v128_bitselect`: the bits of `a` where `c` has ones, those of `b` where it has zeros.
-#[inline]
 pub fn i8x16_relaxed_laneselect(a: V128, b: V128, c: V128) -> V128
     ensures { result ≡ vector.relaxed_laneselect a b c }
 {
@@ -27,7 +25,6 @@ pub fn i8x16_relaxed_laneselect(a: V128, b: V128, c: V128) -> V128
 }
 
 /// As `v128_bitselect`: the bits of `a` where `c` has ones, those of `b` where it has zeros.
-#[inline]
 pub fn i16x8_relaxed_laneselect(a: V128, b: V128, c: V128) -> V128
     ensures { result ≡ vector.relaxed_laneselect a b c }
 {
@@ -35,7 +32,6 @@ pub fn i16x8_relaxed_laneselect(a: V128, b: V128, c: V128) -> V128
 }
 
 /// As `v128_bitselect`: the bits of `a` where `c` has ones, those of `b` where it has zeros.
-#[inline]
 pub fn i32x4_relaxed_laneselect(a: V128, b: V128, c: V128) -> V128
     ensures { result ≡ vector.relaxed_laneselect a b c }
 {
@@ -43,7 +39,6 @@ pub fn i32x4_relaxed_laneselect(a: V128, b: V128, c: V128) -> V128
 }
 
 /// As `v128_bitselect`: the bits of `a` where `c` has ones, those of `b` where it has zeros.
-#[inline]
 pub fn i64x2_relaxed_laneselect(a: V128, b: V128, c: V128) -> V128
     ensures { result ≡ vector.relaxed_laneselect a b c }
 {
@@ -51,7 +46,6 @@ pub fn i64x2_relaxed_laneselect(a: V128, b: V128, c: V128) -> V128
 }
 
 /// As `i16x8_q15mulr_sat_s`: the one product that doesn't fit is clamped.
-#[inline]
 pub fn i16x8_relaxed_q15mulr_s(a: V128, b: V128) -> V128
     ensures { result ≡ vector.relaxed_q15mulr_s a b }
 {
@@ -60,7 +54,6 @@ pub fn i16x8_relaxed_q15mulr_s(a: V128, b: V128) -> V128
 
 /// The sums of neighbouring lanes of `i16x8_relaxed_dot_i8x16_i7x16_s`, read signed, and of `c`,
 /// modulo 2 to the power 32.
-#[inline]
 pub fn i32x4_relaxed_dot_i8x16_i7x16_add_s(lhs: V128, rhs: V128, c: V128) -> V128
     ensures { result ≡ vector.relaxed_dot_add_s lhs rhs c }
 {

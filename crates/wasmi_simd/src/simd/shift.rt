@@ -17,7 +17,6 @@ use wasmi_lanes::{
 use wasmi_raw::V128;
 
 /// The lanes shifted to the left, the bits above each lane dropped. `amount` is taken modulo 8.
-#[inline]
 pub fn i8x16_shl(v: V128, amount: u32) -> V128
     ensures { result ≡ vector.shl w8 v amount }
 {
@@ -25,7 +24,6 @@ pub fn i8x16_shl(v: V128, amount: u32) -> V128
 }
 
 /// The lanes shifted to the right, the sign copied. `amount` is taken modulo 8.
-#[inline]
 pub fn i8x16_shr_s(v: V128, amount: u32) -> V128
     ensures { result ≡ vector.shr_s w8 v amount }
 {
@@ -39,7 +37,6 @@ pub fn i8x16_shr_s(v: V128, amount: u32) -> V128
 }
 
 /// The lanes shifted to the right, with zeros. `amount` is taken modulo 8.
-#[inline]
 pub fn i8x16_shr_u(v: V128, amount: u32) -> V128
     ensures { result ≡ vector.shr_u w8 v amount }
 {
@@ -47,7 +44,6 @@ pub fn i8x16_shr_u(v: V128, amount: u32) -> V128
 }
 
 /// The lanes shifted to the left, the bits above each lane dropped. `amount` is taken modulo 16.
-#[inline]
 pub fn i16x8_shl(v: V128, amount: u32) -> V128
     ensures { result ≡ vector.shl w16 v amount }
 {
@@ -55,7 +51,6 @@ pub fn i16x8_shl(v: V128, amount: u32) -> V128
 }
 
 /// The lanes shifted to the right, the sign copied. `amount` is taken modulo 16.
-#[inline]
 pub fn i16x8_shr_s(v: V128, amount: u32) -> V128
     ensures { result ≡ vector.shr_s w16 v amount }
 {
@@ -63,7 +58,6 @@ pub fn i16x8_shr_s(v: V128, amount: u32) -> V128
 }
 
 /// The lanes shifted to the right, with zeros. `amount` is taken modulo 16.
-#[inline]
 pub fn i16x8_shr_u(v: V128, amount: u32) -> V128
     ensures { result ≡ vector.shr_u w16 v amount }
 {
@@ -71,7 +65,6 @@ pub fn i16x8_shr_u(v: V128, amount: u32) -> V128
 }
 
 /// The lanes shifted to the left, the bits above each lane dropped. `amount` is taken modulo 32.
-#[inline]
 pub fn i32x4_shl(v: V128, amount: u32) -> V128
     ensures { result ≡ vector.shl w32 v amount }
 {
@@ -79,7 +72,6 @@ pub fn i32x4_shl(v: V128, amount: u32) -> V128
 }
 
 /// The lanes shifted to the right, the sign copied. `amount` is taken modulo 32.
-#[inline]
 pub fn i32x4_shr_s(v: V128, amount: u32) -> V128
     ensures { result ≡ vector.shr_s w32 v amount }
 {
@@ -87,7 +79,6 @@ pub fn i32x4_shr_s(v: V128, amount: u32) -> V128
 }
 
 /// The lanes shifted to the right, with zeros. `amount` is taken modulo 32.
-#[inline]
 pub fn i32x4_shr_u(v: V128, amount: u32) -> V128
     ensures { result ≡ vector.shr_u w32 v amount }
 {
@@ -95,7 +86,6 @@ pub fn i32x4_shr_u(v: V128, amount: u32) -> V128
 }
 
 /// The lanes shifted to the left, the bits above each lane dropped. `amount` is taken modulo 64.
-#[inline]
 pub fn i64x2_shl(v: V128, amount: u32) -> V128
     ensures { result ≡ vector.shl w64 v amount }
 {
@@ -103,7 +93,6 @@ pub fn i64x2_shl(v: V128, amount: u32) -> V128
 }
 
 /// The lanes shifted to the right, the sign copied. `amount` is taken modulo 64.
-#[inline]
 pub fn i64x2_shr_s(v: V128, amount: u32) -> V128
     ensures { result ≡ vector.shr_s w64 v amount }
 {
@@ -111,7 +100,6 @@ pub fn i64x2_shr_s(v: V128, amount: u32) -> V128
 }
 
 /// The lanes shifted to the right, with zeros. `amount` is taken modulo 64.
-#[inline]
 pub fn i64x2_shr_u(v: V128, amount: u32) -> V128
     ensures { result ≡ vector.shr_u w64 v amount }
 {

@@ -14,7 +14,6 @@ use wasmi_simd::simd::{
 use wasmi_types::TrapCode;
 
 /// `v128.load8x8_s`: 8 lanes of 8 bits, read signed and extended to 16.
-#[inline]
 pub fn v128_load8x8_s(memory: &[u8], ptr: u64, offset: u64) -> Result<V128, TrapCode>
     ensures { result ≡ loaded 8 (vector.widen_s w8 w16) memory.now (ptr + offset) }
 {
@@ -22,7 +21,6 @@ pub fn v128_load8x8_s(memory: &[u8], ptr: u64, offset: u64) -> Result<V128, Trap
 }
 
 /// `v128.load8x8_s` at an address.
-#[inline]
 pub fn v128_load8x8_s_at(memory: &[u8], address: usize) -> Result<V128, TrapCode>
     ensures { result ≡ loaded 8 (vector.widen_s w8 w16) memory.now address }
 {
@@ -30,7 +28,6 @@ pub fn v128_load8x8_s_at(memory: &[u8], address: usize) -> Result<V128, TrapCode
 }
 
 /// `v128.load8x8_u`: 8 lanes of 8 bits, read unsigned and extended to 16.
-#[inline]
 pub fn v128_load8x8_u(memory: &[u8], ptr: u64, offset: u64) -> Result<V128, TrapCode>
     ensures { result ≡ loaded 8 (vector.widen_u w8 w16) memory.now (ptr + offset) }
 {
@@ -38,7 +35,6 @@ pub fn v128_load8x8_u(memory: &[u8], ptr: u64, offset: u64) -> Result<V128, Trap
 }
 
 /// `v128.load8x8_u` at an address.
-#[inline]
 pub fn v128_load8x8_u_at(memory: &[u8], address: usize) -> Result<V128, TrapCode>
     ensures { result ≡ loaded 8 (vector.widen_u w8 w16) memory.now address }
 {
@@ -46,7 +42,6 @@ pub fn v128_load8x8_u_at(memory: &[u8], address: usize) -> Result<V128, TrapCode
 }
 
 /// `v128.load16x4_s`: 4 lanes of 16 bits, read signed and extended to 32.
-#[inline]
 pub fn v128_load16x4_s(memory: &[u8], ptr: u64, offset: u64) -> Result<V128, TrapCode>
     ensures { result ≡ loaded 8 (vector.widen_s w16 w32) memory.now (ptr + offset) }
 {
@@ -54,7 +49,6 @@ pub fn v128_load16x4_s(memory: &[u8], ptr: u64, offset: u64) -> Result<V128, Tra
 }
 
 /// `v128.load16x4_s` at an address.
-#[inline]
 pub fn v128_load16x4_s_at(memory: &[u8], address: usize) -> Result<V128, TrapCode>
     ensures { result ≡ loaded 8 (vector.widen_s w16 w32) memory.now address }
 {
@@ -62,7 +56,6 @@ pub fn v128_load16x4_s_at(memory: &[u8], address: usize) -> Result<V128, TrapCod
 }
 
 /// `v128.load16x4_u`: 4 lanes of 16 bits, read unsigned and extended to 32.
-#[inline]
 pub fn v128_load16x4_u(memory: &[u8], ptr: u64, offset: u64) -> Result<V128, TrapCode>
     ensures { result ≡ loaded 8 (vector.widen_u w16 w32) memory.now (ptr + offset) }
 {
@@ -70,7 +63,6 @@ pub fn v128_load16x4_u(memory: &[u8], ptr: u64, offset: u64) -> Result<V128, Tra
 }
 
 /// `v128.load16x4_u` at an address.
-#[inline]
 pub fn v128_load16x4_u_at(memory: &[u8], address: usize) -> Result<V128, TrapCode>
     ensures { result ≡ loaded 8 (vector.widen_u w16 w32) memory.now address }
 {
@@ -78,7 +70,6 @@ pub fn v128_load16x4_u_at(memory: &[u8], address: usize) -> Result<V128, TrapCod
 }
 
 /// `v128.load32x2_s`: 2 lanes of 32 bits, read signed and extended to 64.
-#[inline]
 pub fn v128_load32x2_s(memory: &[u8], ptr: u64, offset: u64) -> Result<V128, TrapCode>
     ensures { result ≡ loaded 8 (vector.widen_s w32 w64) memory.now (ptr + offset) }
 {
@@ -86,7 +77,6 @@ pub fn v128_load32x2_s(memory: &[u8], ptr: u64, offset: u64) -> Result<V128, Tra
 }
 
 /// `v128.load32x2_s` at an address.
-#[inline]
 pub fn v128_load32x2_s_at(memory: &[u8], address: usize) -> Result<V128, TrapCode>
     ensures { result ≡ loaded 8 (vector.widen_s w32 w64) memory.now address }
 {
@@ -94,7 +84,6 @@ pub fn v128_load32x2_s_at(memory: &[u8], address: usize) -> Result<V128, TrapCod
 }
 
 /// `v128.load32x2_u`: 2 lanes of 32 bits, read unsigned and extended to 64.
-#[inline]
 pub fn v128_load32x2_u(memory: &[u8], ptr: u64, offset: u64) -> Result<V128, TrapCode>
     ensures { result ≡ loaded 8 (vector.widen_u w32 w64) memory.now (ptr + offset) }
 {
@@ -102,7 +91,6 @@ pub fn v128_load32x2_u(memory: &[u8], ptr: u64, offset: u64) -> Result<V128, Tra
 }
 
 /// `v128.load32x2_u` at an address.
-#[inline]
 pub fn v128_load32x2_u_at(memory: &[u8], address: usize) -> Result<V128, TrapCode>
     ensures { result ≡ loaded 8 (vector.widen_u w32 w64) memory.now address }
 {

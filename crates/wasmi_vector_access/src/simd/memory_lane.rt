@@ -13,7 +13,6 @@ use wasmi_raw::V128;
 use wasmi_types::TrapCode;
 
 /// `v128.load8_lane`: `v` with 8 bits in one lane.
-#[inline]
 pub fn v128_load8_lane(
     memory: &[u8],
     ptr: u64,
@@ -27,7 +26,6 @@ pub fn v128_load8_lane(
 }
 
 /// `v128.load8_lane` at an address.
-#[inline]
 pub fn v128_load8_lane_at(
     memory: &[u8],
     address: usize,
@@ -40,7 +38,6 @@ pub fn v128_load8_lane_at(
 }
 
 /// `v128.load16_lane`: `v` with 16 bits in one lane.
-#[inline]
 pub fn v128_load16_lane(
     memory: &[u8],
     ptr: u64,
@@ -54,7 +51,6 @@ pub fn v128_load16_lane(
 }
 
 /// `v128.load16_lane` at an address.
-#[inline]
 pub fn v128_load16_lane_at(
     memory: &[u8],
     address: usize,
@@ -67,7 +63,6 @@ pub fn v128_load16_lane_at(
 }
 
 /// `v128.load32_lane`: `v` with 32 bits in one lane.
-#[inline]
 pub fn v128_load32_lane(
     memory: &[u8],
     ptr: u64,
@@ -81,7 +76,6 @@ pub fn v128_load32_lane(
 }
 
 /// `v128.load32_lane` at an address.
-#[inline]
 pub fn v128_load32_lane_at(
     memory: &[u8],
     address: usize,
@@ -94,7 +88,6 @@ pub fn v128_load32_lane_at(
 }
 
 /// `v128.load64_lane`: `v` with 64 bits in one lane.
-#[inline]
 pub fn v128_load64_lane(
     memory: &[u8],
     ptr: u64,
@@ -108,7 +101,6 @@ pub fn v128_load64_lane(
 }
 
 /// `v128.load64_lane` at an address.
-#[inline]
 pub fn v128_load64_lane_at(
     memory: &[u8],
     address: usize,
@@ -121,7 +113,6 @@ pub fn v128_load64_lane_at(
 }
 
 /// `v128.store8_lane`: the 8 bits of one lane of `v`.
-#[inline]
 pub fn v128_store8_lane(
     memory: &mut [u8],
     ptr: u64,
@@ -136,7 +127,6 @@ pub fn v128_store8_lane(
 }
 
 /// `v128.store8_lane` at an address.
-#[inline]
 pub fn v128_store8_lane_at(
     memory: &mut [u8],
     address: usize,
@@ -149,7 +139,6 @@ pub fn v128_store8_lane_at(
 }
 
 /// `v128.store16_lane`: the 16 bits of one lane of `v`.
-#[inline]
 pub fn v128_store16_lane(
     memory: &mut [u8],
     ptr: u64,
@@ -164,7 +153,6 @@ pub fn v128_store16_lane(
 }
 
 /// `v128.store16_lane` at an address.
-#[inline]
 pub fn v128_store16_lane_at(
     memory: &mut [u8],
     address: usize,
@@ -177,7 +165,6 @@ pub fn v128_store16_lane_at(
 }
 
 /// `v128.store32_lane`: the 32 bits of one lane of `v`.
-#[inline]
 pub fn v128_store32_lane(
     memory: &mut [u8],
     ptr: u64,
@@ -192,7 +179,6 @@ pub fn v128_store32_lane(
 }
 
 /// `v128.store32_lane` at an address.
-#[inline]
 pub fn v128_store32_lane_at(
     memory: &mut [u8],
     address: usize,
@@ -205,7 +191,6 @@ pub fn v128_store32_lane_at(
 }
 
 /// `v128.store64_lane`: the 64 bits of one lane of `v`.
-#[inline]
 pub fn v128_store64_lane(
     memory: &mut [u8],
     ptr: u64,
@@ -220,7 +205,6 @@ pub fn v128_store64_lane(
 }
 
 /// `v128.store64_lane` at an address.
-#[inline]
 pub fn v128_store64_lane_at(
     memory: &mut [u8],
     address: usize,

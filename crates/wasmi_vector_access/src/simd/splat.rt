@@ -13,7 +13,6 @@ use wasmi_simd::simd::{v128_low32_zero, v128_low64_zero};
 use wasmi_types::TrapCode;
 
 /// `v128.load8_splat`: 8 bits, in each lane.
-#[inline]
 pub fn v128_load8_splat(memory: &[u8], ptr: u64, offset: u64) -> Result<V128, TrapCode>
     ensures { result ≡ loaded 1 (splat_of w8) memory.now (ptr + offset) }
 {
@@ -21,7 +20,6 @@ pub fn v128_load8_splat(memory: &[u8], ptr: u64, offset: u64) -> Result<V128, Tr
 }
 
 /// `v128.load8_splat` at an address.
-#[inline]
 pub fn v128_load8_splat_at(memory: &[u8], address: usize) -> Result<V128, TrapCode>
     ensures { result ≡ loaded 1 (splat_of w8) memory.now address }
 {
@@ -29,7 +27,6 @@ pub fn v128_load8_splat_at(memory: &[u8], address: usize) -> Result<V128, TrapCo
 }
 
 /// `v128.load16_splat`: 16 bits, in each lane.
-#[inline]
 pub fn v128_load16_splat(memory: &[u8], ptr: u64, offset: u64) -> Result<V128, TrapCode>
     ensures { result ≡ loaded 2 (splat_of w16) memory.now (ptr + offset) }
 {
@@ -37,7 +34,6 @@ pub fn v128_load16_splat(memory: &[u8], ptr: u64, offset: u64) -> Result<V128, T
 }
 
 /// `v128.load16_splat` at an address.
-#[inline]
 pub fn v128_load16_splat_at(memory: &[u8], address: usize) -> Result<V128, TrapCode>
     ensures { result ≡ loaded 2 (splat_of w16) memory.now address }
 {
@@ -45,7 +41,6 @@ pub fn v128_load16_splat_at(memory: &[u8], address: usize) -> Result<V128, TrapC
 }
 
 /// `v128.load32_splat`: 32 bits, in each lane.
-#[inline]
 pub fn v128_load32_splat(memory: &[u8], ptr: u64, offset: u64) -> Result<V128, TrapCode>
     ensures { result ≡ loaded 4 (splat_of w32) memory.now (ptr + offset) }
 {
@@ -53,7 +48,6 @@ pub fn v128_load32_splat(memory: &[u8], ptr: u64, offset: u64) -> Result<V128, T
 }
 
 /// `v128.load32_splat` at an address.
-#[inline]
 pub fn v128_load32_splat_at(memory: &[u8], address: usize) -> Result<V128, TrapCode>
     ensures { result ≡ loaded 4 (splat_of w32) memory.now address }
 {
@@ -61,7 +55,6 @@ pub fn v128_load32_splat_at(memory: &[u8], address: usize) -> Result<V128, TrapC
 }
 
 /// `v128.load64_splat`: 64 bits, in each lane.
-#[inline]
 pub fn v128_load64_splat(memory: &[u8], ptr: u64, offset: u64) -> Result<V128, TrapCode>
     ensures { result ≡ loaded 8 (splat_of w64) memory.now (ptr + offset) }
 {
@@ -69,7 +62,6 @@ pub fn v128_load64_splat(memory: &[u8], ptr: u64, offset: u64) -> Result<V128, T
 }
 
 /// `v128.load64_splat` at an address.
-#[inline]
 pub fn v128_load64_splat_at(memory: &[u8], address: usize) -> Result<V128, TrapCode>
     ensures { result ≡ loaded 8 (splat_of w64) memory.now address }
 {
@@ -77,7 +69,6 @@ pub fn v128_load64_splat_at(memory: &[u8], address: usize) -> Result<V128, TrapC
 }
 
 /// `v128.load32_zero`: 32 bits in lane 0, and 0 in the others.
-#[inline]
 pub fn v128_load32_zero(memory: &[u8], ptr: u64, offset: u64) -> Result<V128, TrapCode>
     ensures { result ≡ loaded 4 (vector.low_zero w32) memory.now (ptr + offset) }
 {
@@ -85,7 +76,6 @@ pub fn v128_load32_zero(memory: &[u8], ptr: u64, offset: u64) -> Result<V128, Tr
 }
 
 /// `v128.load32_zero` at an address.
-#[inline]
 pub fn v128_load32_zero_at(memory: &[u8], address: usize) -> Result<V128, TrapCode>
     ensures { result ≡ loaded 4 (vector.low_zero w32) memory.now address }
 {
@@ -93,7 +83,6 @@ pub fn v128_load32_zero_at(memory: &[u8], address: usize) -> Result<V128, TrapCo
 }
 
 /// `v128.load64_zero`: 64 bits in lane 0, and 0 in the others.
-#[inline]
 pub fn v128_load64_zero(memory: &[u8], ptr: u64, offset: u64) -> Result<V128, TrapCode>
     ensures { result ≡ loaded 8 (vector.low_zero w64) memory.now (ptr + offset) }
 {
@@ -101,7 +90,6 @@ pub fn v128_load64_zero(memory: &[u8], ptr: u64, offset: u64) -> Result<V128, Tr
 }
 
 /// `v128.load64_zero` at an address.
-#[inline]
 pub fn v128_load64_zero_at(memory: &[u8], address: usize) -> Result<V128, TrapCode>
     ensures { result ≡ loaded 8 (vector.low_zero w64) memory.now address }
 {

@@ -9,7 +9,6 @@ use wasmi_raw::V128;
 use wasmi_types::TrapCode;
 
 /// `v128.load`: 128 bits.
-#[inline]
 pub fn v128_load(memory: &[u8], ptr: u64, offset: u64) -> Result<V128, TrapCode>
     ensures { result ≡ loaded 16 (λ n. n) memory.now (ptr + offset) }
 {
@@ -17,7 +16,6 @@ pub fn v128_load(memory: &[u8], ptr: u64, offset: u64) -> Result<V128, TrapCode>
 }
 
 /// `v128.load` at an address.
-#[inline]
 pub fn v128_load_at(memory: &[u8], address: usize) -> Result<V128, TrapCode>
     ensures { result ≡ loaded 16 (λ n. n) memory.now address }
 {
@@ -25,7 +23,6 @@ pub fn v128_load_at(memory: &[u8], address: usize) -> Result<V128, TrapCode>
 }
 
 /// `v128.store`: the 128 bits of the vector.
-#[inline]
 pub fn v128_store(memory: &mut [u8], ptr: u64, offset: u64, value: V128) -> Result<(), TrapCode>
     ensures { IsStore memory.old (ptr + offset) (le_bytes 16 value) memory.new result }
 {
@@ -33,7 +30,6 @@ pub fn v128_store(memory: &mut [u8], ptr: u64, offset: u64, value: V128) -> Resu
 }
 
 /// `v128.store` at an address.
-#[inline]
 pub fn v128_store_at(memory: &mut [u8], address: usize, value: V128) -> Result<(), TrapCode>
     ensures { IsStore memory.old address (le_bytes 16 value) memory.new result }
 {

@@ -5,5 +5,5 @@ pub returns : goal.returns
 returns g c =
     let item = g.T.LaneInteger in
     record {
-      lanes = λ i inside. c.splat.ensures.lanes i inside ∙ ap item.image c.ALL_ZEROS.ensures ∙ item.image_of_zeros;
+      lanes = λ i inside. c.splat.ensures.lanes i inside ∙ ap item.image c.ALL_ZEROS.ensures ∙ item.laws.image_of_zeros;
     }

@@ -7,7 +7,7 @@ use Rattle.wasmi_lanewise.proofs.simd.words.averages.Goals as goal
 pub returns : goal.returns
 unfolding binary_of_lanes
 returns g c =
-    let law = g.met.T.WordLane in
+    let law = g.met.T.WordLane.laws in
     binary_by_words g.T.LaneInteger.width (IsLane c.TOPS-tops.result) law.whole
     (equal_lanes _ _ law.whole (c.TOPS-tops.ensures ∙ law.highest)) (λ w x y. (x + y + 1) / 2)
     (u64x2_of c.words-a_low.ensures.low c.words-a_low.ensures.high)

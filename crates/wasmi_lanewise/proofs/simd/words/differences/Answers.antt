@@ -7,7 +7,7 @@ use Rattle.wasmi_lanewise.proofs.simd.words.differences.Goals as goal
 pub returns : goal.returns
 unfolding binary_of_lanes
 returns g c =
-    let law = g.met.T.WordLane in
+    let law = g.met.T.WordLane.laws in
     binary_by_words g.T.LaneInteger.width (InnerLane c.INNER_TOPS-tops.result) law.whole
     (inner_lanes _ _ law.whole (c.INNER_TOPS-tops.ensures ∙ law.inner)) (λ w x y. (x + (2 ^ w - y)) % 2 ^ w)
     (inverted_word_pair (omega arith) c.inverted.ensures

@@ -7,20 +7,23 @@ use Rattle.wasmi_lanewise.proofs.simd.words.equal.Goals as goal
 
 pub filled-requires-clause-low : goal.filled-requires-clause-low
 filled-requires-clause-low g c =
-    let lanes = equal_lanes _ _ g.met.T.WordLane.whole (c.TOPS-tops.ensures ∙ g.met.T.WordLane.highest) in
+    let law = g.met.T.WordLane.laws in
+    let lanes = equal_lanes _ _ law.whole (c.TOPS-tops.ensures ∙ law.highest) in
     equal_marks _ _ _ _ _ lanes (differs_in_lanes _ _ _ _ _ lanes c.word_differ.ensures.lanes)
 
 pub filled-requires-clause-high : goal.filled-requires-clause-high
 filled-requires-clause-high g c =
-    let lanes = equal_lanes _ _ g.met.T.WordLane.whole (c.TOPS-tops.ensures ∙ g.met.T.WordLane.highest) in
+    let law = g.met.T.WordLane.laws in
+    let lanes = equal_lanes _ _ law.whole (c.TOPS-tops.ensures ∙ law.highest) in
     equal_marks _ _ _ _ _ lanes (differs_in_lanes _ _ _ _ _ lanes c.word_differ-2.ensures.lanes)
 
 pub returns : goal.returns
 unfolding comparison_of_lanes
 returns g c =
-    let lanes = equal_lanes _ _ g.met.T.WordLane.whole (c.TOPS-tops.ensures ∙ g.met.T.WordLane.highest) in
+    let law = g.met.T.WordLane.laws in
+    let lanes = equal_lanes _ _ law.whole (c.TOPS-tops.ensures ∙ law.highest) in
     let f = c.filled.ensures.words in
-    words_make_binary _ g.met.T.WordLane.whole (λ x y. if nat_eq x y then 2 ^ bits g.T.LaneInteger.width - 1 else 0)
+    words_make_binary _ law.whole (λ x y. if nat_eq x y then 2 ^ bits g.T.LaneInteger.width - 1 else 0)
     _ _ _ (u64x2_of c.words-a_low.ensures.low c.words-a_low.ensures.high)
     (u64x2_of c.words-b_low.ensures.low c.words-b_low.ensures.high)
     (record { low_fits = f.3; high_fits = f.4; is = f.2 })

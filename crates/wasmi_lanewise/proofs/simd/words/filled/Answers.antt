@@ -7,7 +7,7 @@ use Rattle.wasmi_lanewise.proofs.simd.words.filled.Goals as goal
 pub returns : goal.returns
 returns g c =
     let w = g.T.LaneInteger.width in
-    let law = g.met.T.WordLane in
+    let law = g.met.T.WordLane.laws in
     let low = c.ranges.low.fits in
     let high = c.ranges.high.fits in
     let top : c.from.result ≡ bits w - 1 = c.from.ensures ∙ ap (λ n. n - 1) (c.BITS.ensures ∙ law.wide) in

@@ -7,7 +7,7 @@ use Rattle.wasmi_lanewise.proofs.simd.words.negations.Goals as goal
 pub returns : goal.returns
 unfolding unary_of_lanes
 returns g c =
-    let law = g.met.T.WordLane in
+    let law = g.met.T.WordLane.laws in
     let tops = c.INNER_TOPS-tops.result in
     unary_by_words _ (InnerLane tops) law.whole (inner_lanes _ _ law.whole (c.INNER_TOPS-tops.ensures ∙ law.inner))
     (λ w x. (2 ^ w - x) % 2 ^ w) (u64x2_of c.words-low.ensures.low c.words-low.ensures.high) (omega arith)

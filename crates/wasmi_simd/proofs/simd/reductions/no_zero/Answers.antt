@@ -6,5 +6,5 @@ use Rattle.wasmi_simd.proofs.simd.reductions.no_zero.Goals as goal
 pub returns : goal.returns
 returns g c =
     ap₂ (λ a b. a && b) c.no_zero_in_word.ensures c.no_zero_in_word-2.ensures
-    ∙ every_lane_of_words g.T.LaneInteger.width g.met.T.WordLane.whole c.args.v _ _
+    ∙ every_lane_of_words g.T.LaneInteger.width g.met.T.WordLane.laws.whole c.args.v _ _
     (u64x2_of c.words-low.ensures.low c.words-low.ensures.high) (λ x. not (nat_eq x 0))
