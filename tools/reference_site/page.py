@@ -211,10 +211,10 @@ def in_one_line(words):
 
 
 def shortened(item):
-    """An item's signature; a constant's value where it stands on its line."""
+    """An item's signature; a constant's value where it stands on its line and no macro makes it."""
     if item.kind in ("const", "static"):
         first = item.text.split("\n")[0]
-        return first if first.endswith(";") else first.partition(" = ")[0] + ";"
+        return first if first.endswith(";") and "!(" not in first else first.partition(" = ")[0] + ";"
     return item.text if item.kind == "type" else item.signature
 
 

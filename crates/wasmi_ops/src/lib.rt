@@ -4,6 +4,7 @@
 //! no instructions as values.
 #![tactic(auto)]
 
+mod rows;
 mod scalar;
 mod vector;
 

@@ -2,6 +2,7 @@
 ghost use Rattle.std.specs.Prelude.{◌≡◌};
 ghost use Rattle.wasmi_ops.specs.ScalarBinaryOps.{binary_raw};
 
+use crate::rows::{calls, names};
 use crate::scalar::wide;
 use wasmi_raw::{RawVal, ReadAs};
 use wasmi_scalar::wasm;
@@ -66,63 +67,42 @@ pub enum ScalarBinaryOp {
     I64MulWideU,
 }
 
+/// The rows of `SCALAR_BINARIES`.
+macro_rules! scalar_binaries {
+    ($make:ident! $($with:tt)*) => { $make! { [$($with)*]
+        wasm [.into()] {
+            I32Add i32_add, I32Sub i32_sub, I32Mul i32_mul,
+            I32Bitand i32_bitand, I32Bitor i32_bitor, I32Bitxor i32_bitxor,
+            I32Shl i32_shl, I32ShrS i32_shr_s, I32ShrU i32_shr_u,
+            I32Rotl i32_rotl, I32Rotr i32_rotr,
+        }
+        wasm [?.into()] {
+            I32DivS i32_div_s, I32DivU i32_div_u, I32RemS i32_rem_s, I32RemU i32_rem_u,
+        }
+        wasm [.into()] {
+            I32Eq i32_eq, I32Ne i32_ne, I32LtS i32_lt_s, I32LtU i32_lt_u, I32LeS i32_le_s,
+            I32LeU i32_le_u, I32GtS i32_gt_s, I32GtU i32_gt_u, I32GeS i32_ge_s, I32GeU i32_ge_u,
+            I64Add i64_add, I64Sub i64_sub, I64Mul i64_mul,
+            I64Bitand i64_bitand, I64Bitor i64_bitor, I64Bitxor i64_bitxor,
+            I64Shl i64_shl, I64ShrS i64_shr_s, I64ShrU i64_shr_u,
+            I64Rotl i64_rotl, I64Rotr i64_rotr,
+        }
+        wasm [?.into()] {
+            I64DivS i64_div_s, I64DivU i64_div_u, I64RemS i64_rem_s, I64RemU i64_rem_u,
+        }
+        wasm [.into()] {
+            I64Eq i64_eq, I64Ne i64_ne, I64LtS i64_lt_s, I64LtU i64_lt_u, I64LeS i64_le_s,
+            I64LeU i64_le_u, I64GtS i64_gt_s, I64GtU i64_gt_u, I64GeS i64_ge_s, I64GeU i64_ge_u,
+        }
+        wide [] {
+            I64Add128 i64_add128, I64Sub128 i64_sub128,
+            I64MulWideS i64_mul_wide_s, I64MulWideU i64_mul_wide_u,
+        }
+    } };
+}
+
 /// The scalar instructions of two operands by name, in the order of the C library's numbers.
-pub const SCALAR_BINARIES: [(&str, ScalarBinaryOp); 54] = [
-    ("i32_add", ScalarBinaryOp::I32Add),
-    ("i32_sub", ScalarBinaryOp::I32Sub),
-    ("i32_mul", ScalarBinaryOp::I32Mul),
-    ("i32_bitand", ScalarBinaryOp::I32Bitand),
-    ("i32_bitor", ScalarBinaryOp::I32Bitor),
-    ("i32_bitxor", ScalarBinaryOp::I32Bitxor),
-    ("i32_shl", ScalarBinaryOp::I32Shl),
-    ("i32_shr_s", ScalarBinaryOp::I32ShrS),
-    ("i32_shr_u", ScalarBinaryOp::I32ShrU),
-    ("i32_rotl", ScalarBinaryOp::I32Rotl),
-    ("i32_rotr", ScalarBinaryOp::I32Rotr),
-    ("i32_div_s", ScalarBinaryOp::I32DivS),
-    ("i32_div_u", ScalarBinaryOp::I32DivU),
-    ("i32_rem_s", ScalarBinaryOp::I32RemS),
-    ("i32_rem_u", ScalarBinaryOp::I32RemU),
-    ("i32_eq", ScalarBinaryOp::I32Eq),
-    ("i32_ne", ScalarBinaryOp::I32Ne),
-    ("i32_lt_s", ScalarBinaryOp::I32LtS),
-    ("i32_lt_u", ScalarBinaryOp::I32LtU),
-    ("i32_le_s", ScalarBinaryOp::I32LeS),
-    ("i32_le_u", ScalarBinaryOp::I32LeU),
-    ("i32_gt_s", ScalarBinaryOp::I32GtS),
-    ("i32_gt_u", ScalarBinaryOp::I32GtU),
-    ("i32_ge_s", ScalarBinaryOp::I32GeS),
-    ("i32_ge_u", ScalarBinaryOp::I32GeU),
-    ("i64_add", ScalarBinaryOp::I64Add),
-    ("i64_sub", ScalarBinaryOp::I64Sub),
-    ("i64_mul", ScalarBinaryOp::I64Mul),
-    ("i64_bitand", ScalarBinaryOp::I64Bitand),
-    ("i64_bitor", ScalarBinaryOp::I64Bitor),
-    ("i64_bitxor", ScalarBinaryOp::I64Bitxor),
-    ("i64_shl", ScalarBinaryOp::I64Shl),
-    ("i64_shr_s", ScalarBinaryOp::I64ShrS),
-    ("i64_shr_u", ScalarBinaryOp::I64ShrU),
-    ("i64_rotl", ScalarBinaryOp::I64Rotl),
-    ("i64_rotr", ScalarBinaryOp::I64Rotr),
-    ("i64_div_s", ScalarBinaryOp::I64DivS),
-    ("i64_div_u", ScalarBinaryOp::I64DivU),
-    ("i64_rem_s", ScalarBinaryOp::I64RemS),
-    ("i64_rem_u", ScalarBinaryOp::I64RemU),
-    ("i64_eq", ScalarBinaryOp::I64Eq),
-    ("i64_ne", ScalarBinaryOp::I64Ne),
-    ("i64_lt_s", ScalarBinaryOp::I64LtS),
-    ("i64_lt_u", ScalarBinaryOp::I64LtU),
-    ("i64_le_s", ScalarBinaryOp::I64LeS),
-    ("i64_le_u", ScalarBinaryOp::I64LeU),
-    ("i64_gt_s", ScalarBinaryOp::I64GtS),
-    ("i64_gt_u", ScalarBinaryOp::I64GtU),
-    ("i64_ge_s", ScalarBinaryOp::I64GeS),
-    ("i64_ge_u", ScalarBinaryOp::I64GeU),
-    ("i64_add128", ScalarBinaryOp::I64Add128),
-    ("i64_sub128", ScalarBinaryOp::I64Sub128),
-    ("i64_mul_wide_s", ScalarBinaryOp::I64MulWideS),
-    ("i64_mul_wide_u", ScalarBinaryOp::I64MulWideU),
-];
+pub const SCALAR_BINARIES: [(&str, ScalarBinaryOp); 54] = scalar_binaries!(names! ScalarBinaryOp);
 
 impl ScalarBinaryOp {
     /// The result for two operands in raw values. A Boolean is 0 or 1; the operands of 128 bits,
@@ -130,65 +110,9 @@ impl ScalarBinaryOp {
     ///
     /// Divisions and remainders alone can trap: by zero with `IntegerDivisionByZero`, and a signed
     /// division of the least number by -1 with `IntegerOverflow`.
-    #[inline]
     pub fn apply(self, lhs: RawVal, rhs: RawVal) -> Result<RawVal, TrapCode>
         ensures { result ≡ binary_raw self lhs rhs }
     {
-        Ok(match self {
-            ScalarBinaryOp::I32Add => wasm::i32_add(lhs.read_as(), rhs.read_as()).into(),
-            ScalarBinaryOp::I32Sub => wasm::i32_sub(lhs.read_as(), rhs.read_as()).into(),
-            ScalarBinaryOp::I32Mul => wasm::i32_mul(lhs.read_as(), rhs.read_as()).into(),
-            ScalarBinaryOp::I32Bitand => wasm::i32_bitand(lhs.read_as(), rhs.read_as()).into(),
-            ScalarBinaryOp::I32Bitor => wasm::i32_bitor(lhs.read_as(), rhs.read_as()).into(),
-            ScalarBinaryOp::I32Bitxor => wasm::i32_bitxor(lhs.read_as(), rhs.read_as()).into(),
-            ScalarBinaryOp::I32Shl => wasm::i32_shl(lhs.read_as(), rhs.read_as()).into(),
-            ScalarBinaryOp::I32ShrS => wasm::i32_shr_s(lhs.read_as(), rhs.read_as()).into(),
-            ScalarBinaryOp::I32ShrU => wasm::i32_shr_u(lhs.read_as(), rhs.read_as()).into(),
-            ScalarBinaryOp::I32Rotl => wasm::i32_rotl(lhs.read_as(), rhs.read_as()).into(),
-            ScalarBinaryOp::I32Rotr => wasm::i32_rotr(lhs.read_as(), rhs.read_as()).into(),
-            ScalarBinaryOp::I32DivS => wasm::i32_div_s(lhs.read_as(), rhs.read_as())?.into(),
-            ScalarBinaryOp::I32DivU => wasm::i32_div_u(lhs.read_as(), rhs.read_as())?.into(),
-            ScalarBinaryOp::I32RemS => wasm::i32_rem_s(lhs.read_as(), rhs.read_as())?.into(),
-            ScalarBinaryOp::I32RemU => wasm::i32_rem_u(lhs.read_as(), rhs.read_as())?.into(),
-            ScalarBinaryOp::I32Eq => wasm::i32_eq(lhs.read_as(), rhs.read_as()).into(),
-            ScalarBinaryOp::I32Ne => wasm::i32_ne(lhs.read_as(), rhs.read_as()).into(),
-            ScalarBinaryOp::I32LtS => wasm::i32_lt_s(lhs.read_as(), rhs.read_as()).into(),
-            ScalarBinaryOp::I32LtU => wasm::i32_lt_u(lhs.read_as(), rhs.read_as()).into(),
-            ScalarBinaryOp::I32LeS => wasm::i32_le_s(lhs.read_as(), rhs.read_as()).into(),
-            ScalarBinaryOp::I32LeU => wasm::i32_le_u(lhs.read_as(), rhs.read_as()).into(),
-            ScalarBinaryOp::I32GtS => wasm::i32_gt_s(lhs.read_as(), rhs.read_as()).into(),
-            ScalarBinaryOp::I32GtU => wasm::i32_gt_u(lhs.read_as(), rhs.read_as()).into(),
-            ScalarBinaryOp::I32GeS => wasm::i32_ge_s(lhs.read_as(), rhs.read_as()).into(),
-            ScalarBinaryOp::I32GeU => wasm::i32_ge_u(lhs.read_as(), rhs.read_as()).into(),
-            ScalarBinaryOp::I64Add => wasm::i64_add(lhs.read_as(), rhs.read_as()).into(),
-            ScalarBinaryOp::I64Sub => wasm::i64_sub(lhs.read_as(), rhs.read_as()).into(),
-            ScalarBinaryOp::I64Mul => wasm::i64_mul(lhs.read_as(), rhs.read_as()).into(),
-            ScalarBinaryOp::I64Bitand => wasm::i64_bitand(lhs.read_as(), rhs.read_as()).into(),
-            ScalarBinaryOp::I64Bitor => wasm::i64_bitor(lhs.read_as(), rhs.read_as()).into(),
-            ScalarBinaryOp::I64Bitxor => wasm::i64_bitxor(lhs.read_as(), rhs.read_as()).into(),
-            ScalarBinaryOp::I64Shl => wasm::i64_shl(lhs.read_as(), rhs.read_as()).into(),
-            ScalarBinaryOp::I64ShrS => wasm::i64_shr_s(lhs.read_as(), rhs.read_as()).into(),
-            ScalarBinaryOp::I64ShrU => wasm::i64_shr_u(lhs.read_as(), rhs.read_as()).into(),
-            ScalarBinaryOp::I64Rotl => wasm::i64_rotl(lhs.read_as(), rhs.read_as()).into(),
-            ScalarBinaryOp::I64Rotr => wasm::i64_rotr(lhs.read_as(), rhs.read_as()).into(),
-            ScalarBinaryOp::I64DivS => wasm::i64_div_s(lhs.read_as(), rhs.read_as())?.into(),
-            ScalarBinaryOp::I64DivU => wasm::i64_div_u(lhs.read_as(), rhs.read_as())?.into(),
-            ScalarBinaryOp::I64RemS => wasm::i64_rem_s(lhs.read_as(), rhs.read_as())?.into(),
-            ScalarBinaryOp::I64RemU => wasm::i64_rem_u(lhs.read_as(), rhs.read_as())?.into(),
-            ScalarBinaryOp::I64Eq => wasm::i64_eq(lhs.read_as(), rhs.read_as()).into(),
-            ScalarBinaryOp::I64Ne => wasm::i64_ne(lhs.read_as(), rhs.read_as()).into(),
-            ScalarBinaryOp::I64LtS => wasm::i64_lt_s(lhs.read_as(), rhs.read_as()).into(),
-            ScalarBinaryOp::I64LtU => wasm::i64_lt_u(lhs.read_as(), rhs.read_as()).into(),
-            ScalarBinaryOp::I64LeS => wasm::i64_le_s(lhs.read_as(), rhs.read_as()).into(),
-            ScalarBinaryOp::I64LeU => wasm::i64_le_u(lhs.read_as(), rhs.read_as()).into(),
-            ScalarBinaryOp::I64GtS => wasm::i64_gt_s(lhs.read_as(), rhs.read_as()).into(),
-            ScalarBinaryOp::I64GtU => wasm::i64_gt_u(lhs.read_as(), rhs.read_as()).into(),
-            ScalarBinaryOp::I64GeS => wasm::i64_ge_s(lhs.read_as(), rhs.read_as()).into(),
-            ScalarBinaryOp::I64GeU => wasm::i64_ge_u(lhs.read_as(), rhs.read_as()).into(),
-            ScalarBinaryOp::I64Add128 => wide::add128(lhs, rhs),
-            ScalarBinaryOp::I64Sub128 => wide::sub128(lhs, rhs),
-            ScalarBinaryOp::I64MulWideS => wide::mul_wide_s(lhs.read_as(), rhs.read_as()),
-            ScalarBinaryOp::I64MulWideU => wide::mul_wide_u(lhs.read_as(), rhs.read_as()),
-        })
+        Ok(scalar_binaries!(calls! self(lhs.read_as(), rhs.read_as())))
     }
 }

@@ -8,7 +8,7 @@ use wasmi_raw::{RawVal, V128};
 use wasmi_scalar::wasm;
 
 /// The sum modulo 2 to the power 128.
-pub fn add128(lhs: RawVal, rhs: RawVal) -> RawVal
+pub fn i64_add128(lhs: RawVal, rhs: RawVal) -> RawVal
     ensures { result ≡ raw_of_vector (add128 (vector_in lhs) (vector_in rhs)) }
 {
     let (lhs_lo, lhs_hi) = words(lhs);
@@ -18,7 +18,7 @@ pub fn add128(lhs: RawVal, rhs: RawVal) -> RawVal
 }
 
 /// The difference modulo 2 to the power 128.
-pub fn sub128(lhs: RawVal, rhs: RawVal) -> RawVal
+pub fn i64_sub128(lhs: RawVal, rhs: RawVal) -> RawVal
     ensures { result ≡ raw_of_vector (sub128 (vector_in lhs) (vector_in rhs)) }
 {
     let (lhs_lo, lhs_hi) = words(lhs);
@@ -28,7 +28,7 @@ pub fn sub128(lhs: RawVal, rhs: RawVal) -> RawVal
 }
 
 /// The whole product of two numbers read signed.
-pub fn mul_wide_s(lhs: i64, rhs: i64) -> RawVal
+pub fn i64_mul_wide_s(lhs: i64, rhs: i64) -> RawVal
     ensures { result ≡ raw_of_vector (cast_unsigned w128 (lhs *ℤ rhs)) }
 {
     let (lo, hi) = wasm::i64_mul_wide_s(lhs, rhs);
@@ -36,7 +36,7 @@ pub fn mul_wide_s(lhs: i64, rhs: i64) -> RawVal
 }
 
 /// The whole product of two numbers read unsigned.
-pub fn mul_wide_u(lhs: i64, rhs: i64) -> RawVal
+pub fn i64_mul_wide_u(lhs: i64, rhs: i64) -> RawVal
     ensures { result ≡ raw_of_vector (cast_unsigned w64 lhs * cast_unsigned w64 rhs) }
 {
     let (lo, hi) = wasm::i64_mul_wide_u(lhs, rhs);

@@ -3,6 +3,7 @@ ghost use Rattle.std.specs.Prelude.{◌≡◌, ◌+◌};
 ghost use Rattle.wasmi_access.specs.LoadStore.{IsStore};
 ghost use Rattle.wasmi_ops.specs.VectorAccessOps.{loaded_vector, loaded_lane, stored_lane};
 
+use crate::rows::{calls, names};
 use wasmi_lanes::{ImmLaneIdx2, ImmLaneIdx4, ImmLaneIdx8, ImmLaneIdx16};
 use wasmi_raw::V128;
 use wasmi_types::TrapCode;
@@ -26,44 +27,27 @@ pub enum VectorLoadOp {
     V128Load64Zero,
 }
 
+/// The rows of `VECTOR_LOADS`.
+macro_rules! vector_loads {
+    ($make:ident! $($with:tt)*) => { $make! { [$($with)*] access [] {
+        V128Load v128_load, V128Load8x8S v128_load8x8_s, V128Load8x8U v128_load8x8_u,
+        V128Load16x4S v128_load16x4_s, V128Load16x4U v128_load16x4_u,
+        V128Load32x2S v128_load32x2_s, V128Load32x2U v128_load32x2_u,
+        V128Load8Splat v128_load8_splat, V128Load16Splat v128_load16_splat,
+        V128Load32Splat v128_load32_splat, V128Load64Splat v128_load64_splat,
+        V128Load32Zero v128_load32_zero, V128Load64Zero v128_load64_zero,
+    } } };
+}
+
 /// The loads of a vector by name, in the order of the C library's numbers.
-pub const VECTOR_LOADS: [(&str, VectorLoadOp); 13] = [
-    ("v128_load", VectorLoadOp::V128Load),
-    ("v128_load8x8_s", VectorLoadOp::V128Load8x8S),
-    ("v128_load8x8_u", VectorLoadOp::V128Load8x8U),
-    ("v128_load16x4_s", VectorLoadOp::V128Load16x4S),
-    ("v128_load16x4_u", VectorLoadOp::V128Load16x4U),
-    ("v128_load32x2_s", VectorLoadOp::V128Load32x2S),
-    ("v128_load32x2_u", VectorLoadOp::V128Load32x2U),
-    ("v128_load8_splat", VectorLoadOp::V128Load8Splat),
-    ("v128_load16_splat", VectorLoadOp::V128Load16Splat),
-    ("v128_load32_splat", VectorLoadOp::V128Load32Splat),
-    ("v128_load64_splat", VectorLoadOp::V128Load64Splat),
-    ("v128_load32_zero", VectorLoadOp::V128Load32Zero),
-    ("v128_load64_zero", VectorLoadOp::V128Load64Zero),
-];
+pub const VECTOR_LOADS: [(&str, VectorLoadOp); 13] = vector_loads!(names! VectorLoadOp);
 
 impl VectorLoadOp {
     /// Loads from `ptr + offset`. The only error is `MemoryOutOfBounds`.
-    #[inline]
     pub fn load(self, memory: &[u8], ptr: u64, offset: u64) -> Result<V128, TrapCode>
         ensures { result ≡ loaded_vector self memory.now (ptr + offset) }
     {
-        match self {
-            VectorLoadOp::V128Load => access::v128_load(memory, ptr, offset),
-            VectorLoadOp::V128Load8x8S => access::v128_load8x8_s(memory, ptr, offset),
-            VectorLoadOp::V128Load8x8U => access::v128_load8x8_u(memory, ptr, offset),
-            VectorLoadOp::V128Load16x4S => access::v128_load16x4_s(memory, ptr, offset),
-            VectorLoadOp::V128Load16x4U => access::v128_load16x4_u(memory, ptr, offset),
-            VectorLoadOp::V128Load32x2S => access::v128_load32x2_s(memory, ptr, offset),
-            VectorLoadOp::V128Load32x2U => access::v128_load32x2_u(memory, ptr, offset),
-            VectorLoadOp::V128Load8Splat => access::v128_load8_splat(memory, ptr, offset),
-            VectorLoadOp::V128Load16Splat => access::v128_load16_splat(memory, ptr, offset),
-            VectorLoadOp::V128Load32Splat => access::v128_load32_splat(memory, ptr, offset),
-            VectorLoadOp::V128Load64Splat => access::v128_load64_splat(memory, ptr, offset),
-            VectorLoadOp::V128Load32Zero => access::v128_load32_zero(memory, ptr, offset),
-            VectorLoadOp::V128Load64Zero => access::v128_load64_zero(memory, ptr, offset),
-        }
+        vector_loads!(calls! self(memory, ptr, offset))
     }
 }
 
@@ -76,26 +60,20 @@ pub enum LoadLaneOp {
     V128Load64Lane(ImmLaneIdx2),
 }
 
+/// The rows of `LANE_LOADS`.
+macro_rules! lane_loads {
+    ($make:ident! $($with:tt)*) => { $make! { [$($with)*] access [] {
+        V128Load8Lane v128_load8_lane, V128Load16Lane v128_load16_lane,
+        V128Load32Lane v128_load32_lane, V128Load64Lane v128_load64_lane,
+    } } };
+}
+
 impl LoadLaneOp {
     /// The vector with the lane loaded from `ptr + offset`. The only error is `MemoryOutOfBounds`.
-    #[inline]
     pub fn load(self, memory: &[u8], ptr: u64, offset: u64, vector: V128) -> Result<V128, TrapCode>
         ensures { result ≡ loaded_lane self vector memory.now (ptr + offset) }
     {
-        match self {
-            LoadLaneOp::V128Load8Lane(lane) => access::v128_load8_lane(
-                memory, ptr, offset, vector, lane,
-            ),
-            LoadLaneOp::V128Load16Lane(lane) => access::v128_load16_lane(
-                memory, ptr, offset, vector, lane,
-            ),
-            LoadLaneOp::V128Load32Lane(lane) => access::v128_load32_lane(
-                memory, ptr, offset, vector, lane,
-            ),
-            LoadLaneOp::V128Load64Lane(lane) => access::v128_load64_lane(
-                memory, ptr, offset, vector, lane,
-            ),
-        }
+        lane_loads!(calls! self(lane) (memory, ptr, offset, vector, lane))
     }
 }
 
@@ -108,10 +86,17 @@ pub enum StoreLaneOp {
     V128Store64Lane(ImmLaneIdx2),
 }
 
+/// The rows of `LANE_STORES`.
+macro_rules! lane_stores {
+    ($make:ident! $($with:tt)*) => { $make! { [$($with)*] access [] {
+        V128Store8Lane v128_store8_lane, V128Store16Lane v128_store16_lane,
+        V128Store32Lane v128_store32_lane, V128Store64Lane v128_store64_lane,
+    } } };
+}
+
 impl StoreLaneOp {
     /// Stores the lane at `ptr + offset`. The only error is `MemoryOutOfBounds`, and then nothing
     /// is written.
-    #[inline]
     pub fn store(
         self,
         memory: &mut [u8],
@@ -121,19 +106,9 @@ impl StoreLaneOp {
     ) -> Result<(), TrapCode>
         ensures { IsStore memory.old (ptr + offset) (stored_lane self vector) memory.new result }
     {
-        match self {
-            StoreLaneOp::V128Store8Lane(lane) => access::v128_store8_lane(
-                memory, ptr, offset, vector, lane,
-            ),
-            StoreLaneOp::V128Store16Lane(lane) => access::v128_store16_lane(
-                memory, ptr, offset, vector, lane,
-            ),
-            StoreLaneOp::V128Store32Lane(lane) => access::v128_store32_lane(
-                memory, ptr, offset, vector, lane,
-            ),
-            StoreLaneOp::V128Store64Lane(lane) => access::v128_store64_lane(
-                memory, ptr, offset, vector, lane,
-            ),
-        }
+        lane_stores!(calls! self(lane) (memory, ptr, offset, vector, lane))
     }
 }
+
+pub(crate) use lane_loads;
+pub(crate) use lane_stores;

@@ -2,6 +2,7 @@
 ghost use Rattle.std.specs.Prelude.{◌≡◌};
 ghost use Rattle.wasmi_ops.specs.LaneOps.{extracted_raw, replaced_vector};
 
+use crate::rows::calls;
 use wasmi_lanes::{ImmLaneIdx2, ImmLaneIdx4, ImmLaneIdx8, ImmLaneIdx16};
 use wasmi_lanewise::simd as lanewise;
 use wasmi_raw::{RawVal, ReadAs, V128};
@@ -17,21 +18,22 @@ pub enum ExtractOp {
     I64x2ExtractLane(ImmLaneIdx2),
 }
 
+/// The rows of `EXTRACTIONS`.
+macro_rules! extractions {
+    ($make:ident! $($with:tt)*) => { $make! { [$($with)*] lanewise [.into()] {
+        I8x16ExtractLaneS i8x16_extract_lane_s, I8x16ExtractLaneU i8x16_extract_lane_u,
+        I16x8ExtractLaneS i16x8_extract_lane_s, I16x8ExtractLaneU i16x8_extract_lane_u,
+        I32x4ExtractLane i32x4_extract_lane, I64x2ExtractLane i64x2_extract_lane,
+    } } };
+}
+
 impl ExtractOp {
     /// The lane in the low bits of a raw value: one of 8 or 16 bits extended to 32, by its sign
     /// (`_s`) or by zeros (`_u`), one of 32 or 64 bits as it is. All higher bits are 0.
-    #[inline]
     pub fn apply(self, a: V128) -> RawVal
         ensures { result ≡ extracted_raw self a }
     {
-        match self {
-            ExtractOp::I8x16ExtractLaneS(lane) => lanewise::i8x16_extract_lane_s(a, lane).into(),
-            ExtractOp::I8x16ExtractLaneU(lane) => lanewise::i8x16_extract_lane_u(a, lane).into(),
-            ExtractOp::I16x8ExtractLaneS(lane) => lanewise::i16x8_extract_lane_s(a, lane).into(),
-            ExtractOp::I16x8ExtractLaneU(lane) => lanewise::i16x8_extract_lane_u(a, lane).into(),
-            ExtractOp::I32x4ExtractLane(lane) => lanewise::i32x4_extract_lane(a, lane).into(),
-            ExtractOp::I64x2ExtractLane(lane) => lanewise::i64x2_extract_lane(a, lane).into(),
-        }
+        extractions!(calls! self(lane) (a, lane))
     }
 }
 
@@ -44,33 +46,22 @@ pub enum ReplaceOp {
     I64x2ReplaceLane(ImmLaneIdx2),
 }
 
+/// The rows of `REPLACEMENTS`.
+macro_rules! replacements {
+    ($make:ident! $($with:tt)*) => { $make! { [$($with)*] lanewise [] {
+        I8x16ReplaceLane i8x16_replace_lane, I16x8ReplaceLane i16x8_replace_lane,
+        I32x4ReplaceLane i32x4_replace_lane, I64x2ReplaceLane i64x2_replace_lane,
+    } } };
+}
+
 impl ReplaceOp {
     /// The vector with an item of a raw value in the lane.
-    #[inline]
     pub fn apply(self, a: V128, raw: RawVal) -> V128
         ensures { result ≡ replaced_vector self a raw }
     {
-        match self {
-            ReplaceOp::I8x16ReplaceLane(lane) => lanewise::i8x16_replace_lane(
-                a,
-                lane,
-                raw.read_as(),
-            ),
-            ReplaceOp::I16x8ReplaceLane(lane) => lanewise::i16x8_replace_lane(
-                a,
-                lane,
-                raw.read_as(),
-            ),
-            ReplaceOp::I32x4ReplaceLane(lane) => lanewise::i32x4_replace_lane(
-                a,
-                lane,
-                raw.read_as(),
-            ),
-            ReplaceOp::I64x2ReplaceLane(lane) => lanewise::i64x2_replace_lane(
-                a,
-                lane,
-                raw.read_as(),
-            ),
-        }
+        replacements!(calls! self(lane) (a, lane, raw.read_as()))
     }
 }
+
+pub(crate) use extractions;
+pub(crate) use replacements;

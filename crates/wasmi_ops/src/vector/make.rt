@@ -2,6 +2,7 @@
 ghost use Rattle.std.specs.Prelude.{◌≡◌};
 ghost use Rattle.wasmi_ops.specs.MakeOps.{made_vector};
 
+use crate::rows::{calls, names};
 use wasmi_lanewise::simd as lanewise;
 use wasmi_raw::{RawVal, ReadAs, V128};
 use wasmi_simd::simd;
@@ -23,41 +24,30 @@ pub enum MakeOp {
     V128Low64Zero,
 }
 
+/// The rows of `MAKES`.
+macro_rules! makes {
+    ($make:ident! $($with:tt)*) => { $make! { [$($with)*]
+        lanewise [] {
+            I8x16Splat i8x16_splat, I16x8Splat i16x8_splat,
+            I32x4Splat i32x4_splat, I64x2Splat i64x2_splat,
+        }
+        simd [] {
+            V128Widen8x8S v128_widen8x8_s, V128Widen8x8U v128_widen8x8_u,
+            V128Widen16x4S v128_widen16x4_s, V128Widen16x4U v128_widen16x4_u,
+            V128Widen32x2S v128_widen32x2_s, V128Widen32x2U v128_widen32x2_u,
+            V128Low32Zero v128_low32_zero, V128Low64Zero v128_low64_zero,
+        }
+    } };
+}
+
 /// What makes a vector of an item, by name, in the order of the C library's numbers.
-pub const MAKES: [(&str, MakeOp); 12] = [
-    ("i8x16_splat", MakeOp::I8x16Splat),
-    ("i16x8_splat", MakeOp::I16x8Splat),
-    ("i32x4_splat", MakeOp::I32x4Splat),
-    ("i64x2_splat", MakeOp::I64x2Splat),
-    ("v128_widen8x8_s", MakeOp::V128Widen8x8S),
-    ("v128_widen8x8_u", MakeOp::V128Widen8x8U),
-    ("v128_widen16x4_s", MakeOp::V128Widen16x4S),
-    ("v128_widen16x4_u", MakeOp::V128Widen16x4U),
-    ("v128_widen32x2_s", MakeOp::V128Widen32x2S),
-    ("v128_widen32x2_u", MakeOp::V128Widen32x2U),
-    ("v128_low32_zero", MakeOp::V128Low32Zero),
-    ("v128_low64_zero", MakeOp::V128Low64Zero),
-];
+pub const MAKES: [(&str, MakeOp); 12] = makes!(names! MakeOp);
 
 impl MakeOp {
     /// The vector that is made of an item in a raw value.
-    #[inline]
     pub fn apply(self, raw: RawVal) -> V128
         ensures { result ≡ made_vector self raw }
     {
-        match self {
-            MakeOp::I8x16Splat => lanewise::i8x16_splat(raw.read_as()),
-            MakeOp::I16x8Splat => lanewise::i16x8_splat(raw.read_as()),
-            MakeOp::I32x4Splat => lanewise::i32x4_splat(raw.read_as()),
-            MakeOp::I64x2Splat => lanewise::i64x2_splat(raw.read_as()),
-            MakeOp::V128Widen8x8S => simd::v128_widen8x8_s(raw.read_as()),
-            MakeOp::V128Widen8x8U => simd::v128_widen8x8_u(raw.read_as()),
-            MakeOp::V128Widen16x4S => simd::v128_widen16x4_s(raw.read_as()),
-            MakeOp::V128Widen16x4U => simd::v128_widen16x4_u(raw.read_as()),
-            MakeOp::V128Widen32x2S => simd::v128_widen32x2_s(raw.read_as()),
-            MakeOp::V128Widen32x2U => simd::v128_widen32x2_u(raw.read_as()),
-            MakeOp::V128Low32Zero => simd::v128_low32_zero(raw.read_as()),
-            MakeOp::V128Low64Zero => simd::v128_low64_zero(raw.read_as()),
-        }
+        makes!(calls! self(raw.read_as()))
     }
 }

@@ -2,6 +2,7 @@
 ghost use Rattle.std.specs.Prelude.{◌≡◌};
 ghost use Rattle.wasmi_ops.specs.ShiftOps.{shifted_vector};
 
+use crate::rows::{calls, names};
 use wasmi_raw::V128;
 use wasmi_simd::simd;
 
@@ -22,41 +23,24 @@ pub enum ShiftOp {
     I64x2ShrU,
 }
 
+/// The rows of `SHIFTS`.
+macro_rules! shifts {
+    ($make:ident! $($with:tt)*) => { $make! { [$($with)*] simd [] {
+        I8x16Shl i8x16_shl, I8x16ShrS i8x16_shr_s, I8x16ShrU i8x16_shr_u,
+        I16x8Shl i16x8_shl, I16x8ShrS i16x8_shr_s, I16x8ShrU i16x8_shr_u,
+        I32x4Shl i32x4_shl, I32x4ShrS i32x4_shr_s, I32x4ShrU i32x4_shr_u,
+        I64x2Shl i64x2_shl, I64x2ShrS i64x2_shr_s, I64x2ShrU i64x2_shr_u,
+    } } };
+}
+
 /// The shifts of lanes by name, in the order of the C library's numbers.
-pub const SHIFTS: [(&str, ShiftOp); 12] = [
-    ("i8x16_shl", ShiftOp::I8x16Shl),
-    ("i8x16_shr_s", ShiftOp::I8x16ShrS),
-    ("i8x16_shr_u", ShiftOp::I8x16ShrU),
-    ("i16x8_shl", ShiftOp::I16x8Shl),
-    ("i16x8_shr_s", ShiftOp::I16x8ShrS),
-    ("i16x8_shr_u", ShiftOp::I16x8ShrU),
-    ("i32x4_shl", ShiftOp::I32x4Shl),
-    ("i32x4_shr_s", ShiftOp::I32x4ShrS),
-    ("i32x4_shr_u", ShiftOp::I32x4ShrU),
-    ("i64x2_shl", ShiftOp::I64x2Shl),
-    ("i64x2_shr_s", ShiftOp::I64x2ShrS),
-    ("i64x2_shr_u", ShiftOp::I64x2ShrU),
-];
+pub const SHIFTS: [(&str, ShiftOp); 12] = shifts!(names! ShiftOp);
 
 impl ShiftOp {
     /// The result for an operand and an amount.
-    #[inline]
     pub fn apply(self, a: V128, amount: u32) -> V128
         ensures { result ≡ shifted_vector self a amount }
     {
-        match self {
-            ShiftOp::I8x16Shl => simd::i8x16_shl(a, amount),
-            ShiftOp::I8x16ShrS => simd::i8x16_shr_s(a, amount),
-            ShiftOp::I8x16ShrU => simd::i8x16_shr_u(a, amount),
-            ShiftOp::I16x8Shl => simd::i16x8_shl(a, amount),
-            ShiftOp::I16x8ShrS => simd::i16x8_shr_s(a, amount),
-            ShiftOp::I16x8ShrU => simd::i16x8_shr_u(a, amount),
-            ShiftOp::I32x4Shl => simd::i32x4_shl(a, amount),
-            ShiftOp::I32x4ShrS => simd::i32x4_shr_s(a, amount),
-            ShiftOp::I32x4ShrU => simd::i32x4_shr_u(a, amount),
-            ShiftOp::I64x2Shl => simd::i64x2_shl(a, amount),
-            ShiftOp::I64x2ShrS => simd::i64x2_shr_s(a, amount),
-            ShiftOp::I64x2ShrU => simd::i64x2_shr_u(a, amount),
-        }
+        shifts!(calls! self(a, amount))
     }
 }
