@@ -18,11 +18,7 @@ impl fmt::Display for LimiterError {
     ghost output = { λ error. Some (limiter_error_text error) };
 
     fn fmt<W: fmt::Write>(&self, f: &mut fmt::Formatter<W>) -> fmt::Result {
-        match self {
-            Self::ResourceLimiterDeniedAllocation => f.write_str(
-                "resource limiter denied allocation",
-            ),
-        }
+        f.write_str("resource limiter denied allocation")
     }
 }
 

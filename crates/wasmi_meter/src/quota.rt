@@ -33,10 +33,7 @@ impl Quota {
     {
         Quota {
             caps: Amounts { bytes, elements },
-            holdings: Holdings::new(Amounts {
-                bytes: 0,
-                elements: 0,
-            }),
+            holdings: Holdings::new(Amounts::default()),
         }
     }
 
