@@ -1,7 +1,7 @@
 -- A buffer that was grown, by where its bytes lie.
-use Rattle.std.proofs.Common.{◌≡◌, ℕ, ◌+◌, ◌-◌, ◌≤◌, List, ◌++◌, length, take, drop, replicate, refl, sym, ap, ◌∙◌, arith, Vec, Global, true}
+use Rattle.std.proofs.Common.{◌≡◌, ℕ, ◌+◌, ◌-◌, ◌≤◌, List, [], ◌++◌, length, take, drop, replicate, refl, sym, ap, ◌∙◌, arith, Vec, Global, true}
 use Rattle.std.proofs.lemmas.Bool.Decides.{nat_tests}
-use Rattle.std.proofs.lemmas.List.{take_all, take_at, drop_at, drop-drop, take-append-le, take-append-drop, length-append, length-replicate, length-take-le, length-drop}
+use Rattle.std.proofs.lemmas.List.{take_all, drop_all, append-nil, take_at, drop_at, drop-drop, take-append-le, take-append-drop, length-append, length-replicate, length-take-le, length-drop}
 use Rattle.wasmi_store.specs.Buffer as buffer
 use Rattle.wasmi_store.specs.Buffer.{BufferValue, with_zeros, fits_room}
 use Rattle.wasmi_store.specs.Front.{refilled_front}
@@ -43,7 +43,8 @@ module _ {Region : Type 0} (bytes : Region → List ℕ) (len n : ℕ) where
   -- a region whose first n bytes were written over, by the buffer's and zeros, holds the buffer with zeros
   pub lent_grows : (region region' : Region) → EndsWithin bytes (Lent region) len → length (take len (bytes region)) ≤ n
       → fits_room (view_of bytes (Lent region) len).room (n - length (take len (bytes region))) ≡ true
-      → (ws : List ℕ) → ws ≡ padded (take len (take n (bytes region))) (length (take n (bytes region)) - len)
+      → (ws : List ℕ)
+      → ws ≡ padded (take len (take n (bytes region))) (n - len) ++ drop n (take n (bytes region))
       → bytes region' ≡ refilled_front (bytes region) n ws
       → view_of bytes (Lent region') n
       ≡ with_zeros (view_of bytes (Lent region) len) (n - length (take len (bytes region)))
@@ -55,7 +56,9 @@ module _ {Region : Type 0} (bytes : Region → List ℕ) (len n : ℕ) where
       let front : length (take n xs) ≡ n = length-take-le n xs within in
       let kept : take len (take n xs) ≡ take len xs =
       sym (take-append-le len (take n xs) (drop n xs) (omega arith)) ∙ ap (take len) (take-append-drop n xs) in
-      let zeroed : ws ≡ padded (take len xs) (n - length (take len xs)) = rw (zeros, kept, front, used) refl in
+      let rest_of_front : drop n (take n xs) ≡ [] = drop_all n (take n xs) (omega arith) in
+      let zeroed : ws ≡ padded (take len xs) (n - length (take len xs)) =
+      rw (zeros, kept, rest_of_front, used) (append-nil (padded (take len xs) (n - len))) in
       let long : length ws ≡ n =
       ap length zeroed ∙ length-padded (take len xs) (n - length (take len xs)) ∙ omega arith in
       let written : bytes region' ≡ ws ++ drop n xs = after ∙ front_written xs ws n within long in

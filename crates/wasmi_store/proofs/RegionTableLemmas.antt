@@ -1,14 +1,16 @@
 -- Tables whose elements are the first of a region.
-use Rattle.std.proofs.Common.{rules, Option, ◌≡◌, ℕ, ◌+◌, ◌-◌, ◌≤◌, List, ◌++◌, Bool, true, Some, length, take, drop, replicate, sym, ap, ◌∙◌, arith}
+use Rattle.std.proofs.Common.{rules, Option, ◌≡◌, ℕ, ◌+◌, ◌-◌, ◌≤◌, List, ◌++◌, Bool, true, Some, Ok, length, take, drop, replicate, sym, ap, ◌∙◌, arith}
 use Rattle.std.specs.Prelude.{nat_le}
 use Rattle.wasmi_types.specs.Access.{overwrite}
 use Rattle.std.proofs.lemmas.List.{take_at, length-append, length-replicate, length-take-le}
+use Rattle.wasmi_meter.specs.Limiter.{Answer, Rules}
+use Rattle.wasmi_meter.specs.Meter.{Meter}
 use Rattle.wasmi_meter.specs.declared.limiter.Kind.TheVariants.{Elements}
 use Rattle.wasmi_store.specs.Growth.{IsAsked}
 use Rattle.wasmi_store.specs.RegionTable.{table_of, table_in}
 use Rattle.wasmi_store.specs.Table.{TableValue, size_of, growth_of, with_added}
 use Rattle.wasmi_store.specs.TableType.{TableTypeValue, is_indexable}
-use Rattle.wasmi_store.proofs.TableLemmas.{growth_asked}
+use Rattle.wasmi_store.proofs.TableLemmas.{PermitsGrowth, growth_asked, growth_permitted}
 
 module _ (ty : TableTypeValue) (region : List ℕ) (size : ℕ) (within : size ≤ length region) where
   abbrev x : TableValue
@@ -28,6 +30,16 @@ module _ (ty : TableTypeValue) (region : List ℕ) (size : ℕ) (within : size �
       → IsAsked (growth_of x delta reference)
       (record { kind = Elements; current = size; desired = desired; maximum = maximum })
   asked_in delta reference found most = growth_asked x delta reference sized found most
+
+  -- so where the limiter says yes, the growth is permitted
+  pub permitted_in : {S : Type 0} (rules : Rules S) (m : Meter) (delta reference : ℕ) → (delta ≡ 0 → ⊥)
+      → {desired : ℕ} {maximum : Option ℕ} → (is_indexable ty (size + delta) ≡ true) × (desired ≡ size + delta)
+      → maximum ≡ ty.maximum → {l p : S} {answer : Answer} → answer ≡ Ok true
+      → rules.asked l (record { kind = Elements; current = size; desired = desired; maximum = maximum }) answer p
+      → PermitsGrowth rules x m l delta reference
+      (record { kind = Elements; current = size; desired = desired; maximum = maximum }) p
+  permitted_in rules m delta reference some found most says asks =
+      growth_permitted rules x m delta reference some (asked_in delta reference found most) says asks
 
   -- with references from the old size to the new one, the region has the table that has grown
   pub grown : (delta reference desired : ℕ) → desired ≡ size + delta → (region' : List ℕ)

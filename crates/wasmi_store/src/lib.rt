@@ -5,6 +5,7 @@ pub mod laws;
 mod limits;
 mod memory;
 mod optional_meter;
+mod range;
 pub mod region_memory;
 pub mod region_table;
 mod table;

@@ -1,5 +1,5 @@
 //! Linear memories.
-ghost use Rattle.std.specs.Prelude.{◌≡◌, ◌+◌, ◌-◌, ◌*◌, ◌/◌, ◌%◌, ◌<◌, ◌≤◌, ◌^◌, ◌++◌, ◌↔◌, replicate, length, ℕ, Option, Some, None, Result, Ok, Err, MatchOption, OnOk, OnErr, IfOk, IfErr, true, false, nat_lt, if◌then◌else◌};
+ghost use Rattle.std.specs.Prelude.{◌≡◌, ◌+◌, ◌-◌, ◌*◌, ◌/◌, ◌%◌, ◌<◌, ◌≤◌, ◌^◌, ◌++◌, ◌↔◌, replicate, length, ℕ, Option, Some, None, Result, Ok, Err, OnOk, OnErr, IfOk, IfErr, true, nat_lt, if◌then◌else◌};
 ghost use Rattle.std.specs.Borrow.{sem, Lends, Array, u8};
 ghost use Rattle.wasmi_types.specs.Access.{at};
 ghost use Rattle.wasmi_meter.specs.Limiter.{optional_rules};
@@ -9,13 +9,14 @@ ghost use Rattle.wasmi_meter.specs.Meter.{Charges, due, meter_at_entry, meter_at
 ghost use Rattle.wasmi_store.specs.Buffer.{fits_room};
 ghost use Rattle.wasmi_store.specs.Growth.{metered_value, IsAsked};
 ghost use Rattle.wasmi_store.specs.Memory.{MemoryValue, PermitsMinimum, GrowsMemory, IsSized, IsValidMemory, size_question, growth_of};
-ghost use Rattle.wasmi_store.specs.MemoryType.{page_bytes, in_bounds};
+ghost use Rattle.wasmi_store.specs.MemoryType.{in_bounds};
 
 mod buffer;
 mod region;
 mod ty;
 
 use crate::optional_meter::with_meter;
+use crate::range::write_range;
 pub use buffer::{Buffer, ByteBuffer};
 pub use region::Region;
 use std::alloc::Global;
@@ -284,7 +285,6 @@ impl<R: Region> LinearMemory<R> {
     /// fuel stays spent, and which doesn't occur on a borrowed buffer. The limiter is notified of
     /// the last three, and if it returns an error, the error is `ResourceLimiterDeniedAllocation`
     /// instead. Bytes of a borrowed buffer past the new size stay as they are.
-    /// new size are left alone.
     pub fn grow<L: ResourceLimiter>(
         &mut self,
         additional: u64,
@@ -317,10 +317,10 @@ impl<R: Region> LinearMemory<R> {
         if additional == 0 {
             return Ok(old_pages);
         }
-        let Some(size) = self.grown_size(additional) else {
+        let old_size = self.buffer.len();
+        let Some(size) = self.ty.grown_size(old_size, additional) else {
             return Err(MemoryError::OutOfBoundsGrowth);
         };
-        let old_size = self.buffer.len();
         let maximum = self.ty.maximum_size();
         let has_room = self.buffer.has_room(size);
         decide_growth(old_size, size, maximum, has_room, fuel, limiter)?;
@@ -352,16 +352,6 @@ impl<R: Region> LinearMemory<R> {
         grown
     }
 
-    /// The number of bytes after a growth, if the type allows it.
-    fn grown_size(&self, additional: u64) -> Option<usize>
-        ensures { MatchOption result
-            (in_bounds self.now.ty (pages_of self.now + additional) ≡ false)
-            (λ size. (in_bounds self.now.ty (pages_of self.now + additional) ≡ true)
-            × (size ≡ length self.now.bytes + additional * page_bytes self.now.ty.page)) }
-    {
-        self.ty.grown_size(self.buffer.len(), additional)
-    }
-
     /// Fills a buffer with the bytes from an offset on. The error is `OutOfBoundsAccess` if they
     /// end past the memory; then nothing is copied.
     pub fn read(&self, offset: usize, buffer: &mut [u8]) -> Result<(), MemoryError>
@@ -382,7 +372,7 @@ impl<R: Region> LinearMemory<R> {
         if size < offset || size - offset < buffer.len() {
             return Err(MemoryError::OutOfBoundsAccess);
         }
-        self.buffer.write(offset, buffer);
+        write_range(self.buffer.data_mut(), offset, buffer);
         Ok(())
     }
 }

@@ -3,7 +3,7 @@
 //! together with the region; the rest of the region is room to grow in place.
 //!
 //! Own: upstream's memory borrows its static buffer for as long as it lives.
-ghost use Rattle.std.specs.Prelude.{◌≡◌, ◌≤◌, ◌+◌, ◌-◌, ◌*◌, ◌/◌, ◌++◌, replicate, ℕ, length, take, drop, nat_le, OnOk, OnErr, IfOk, IfErr, Some, None, MatchOption, true, false};
+ghost use Rattle.std.specs.Prelude.{◌≡◌, ◌≤◌, ◌+◌, ◌-◌, ◌*◌, ◌/◌, ℕ, length, take, drop, nat_le, OnOk, OnErr, IfOk, IfErr, Some, None, MatchOption, true, false};
 ghost use Rattle.wasmi_types.specs.Access.{overwrite};
 ghost use Rattle.wasmi_meter.specs.Limiter.{optional_rules};
 ghost use Rattle.wasmi_meter.specs.LimiterRef.{lent_limiter, KeepsLoan};
@@ -15,6 +15,7 @@ ghost use Rattle.wasmi_store.specs.RegionMemory.{memory_in, made_in};
 
 pub use crate::memory::read_bytes;
 use crate::memory::{DENIED, MemoryType, decide_growth, permitted_minimum};
+use crate::range::{fill_range, write_range};
 use wasmi_meter::growth::tell;
 use wasmi_meter::{Fuel, MemoryError, ResourceLimiter, ResourceLimiterRef};
 
@@ -98,7 +99,7 @@ pub fn grow<L: ResourceLimiter>(
     let maximum = ty.maximum_size();
     let has_room = has_place(region, new_size);
     decide_growth(old_size, new_size, maximum, has_room, fuel, limiter)?;
-    zero_between(region, old_size, new_size);
+    fill_range(region, old_size, new_size, 0);
     *size = new_size;
     Ok(old_pages)
 }
@@ -137,18 +138,8 @@ pub fn write(
     if size < offset || size - offset < source.len() {
         return Err(MemoryError::OutOfBoundsAccess);
     }
-    overwrite_part(&mut region[..size], offset, source);
+    write_range(&mut region[..size], offset, source);
     Ok(())
-}
-
-/// Writes bytes over those from an offset on.
-fn overwrite_part(bytes: &mut [u8], offset: usize, source: &[u8])
-    requires inside { offset + length source.now ≤ length bytes.old }
-    ensures written { overwrite bytes.old offset source.now ≡ Some bytes.new }
-    ensures len { length bytes.new ≡ length bytes.old }
-{
-    let part = &mut bytes[offset..offset + source.len()];
-    part.copy_from_slice(source);
 }
 
 /// Whether a region has so many bytes.
@@ -156,16 +147,4 @@ fn has_place(region: &[u8], size: usize) -> bool
     ensures { result ≡ nat_le size (length region.now) }
 {
     size <= region.len()
-}
-
-/// Zeros the bytes of a region from one place to another.
-fn zero_between(region: &mut [u8], start: usize, end: usize)
-    requires start { start ≤ end }
-    requires end { end ≤ length region.old }
-    ensures zeroed { region.new
-        ≡ take start region.old ++ replicate (end - start) 0 ++ drop end region.old }
-    ensures len { length region.new ≡ length region.old }
-{
-    let added = &mut region[start..end];
-    added.fill(0);
 }

@@ -4,7 +4,7 @@
 //! A reference is a number, whose type is the caller's matter.
 //!
 //! Own: upstream's table owns its elements.
-ghost use Rattle.std.specs.Prelude.{◌≡◌, ◌≤◌, ◌<◌, ◌+◌, ◌-◌, ◌++◌, ℕ, length, take, drop, replicate, OnErr, IfOk, Some, MatchOption, true, false};
+ghost use Rattle.std.specs.Prelude.{◌≡◌, ◌≤◌, ◌<◌, ◌+◌, ◌-◌, ℕ, length, OnErr, IfOk, Some, MatchOption, true, false};
 ghost use Rattle.wasmi_meter.specs.Limiter.{optional_rules};
 ghost use Rattle.wasmi_meter.specs.LimiterRef.{lent_limiter, KeepsLoan};
 ghost use Rattle.wasmi_store.specs.Growth.{metered_value, metered};
@@ -12,7 +12,8 @@ ghost use Rattle.wasmi_store.specs.RegionTable.{table_of, table_in, made_in, typ
 ghost use Rattle.wasmi_store.specs.Table.{IsSized, MakesTable, GrowsTableRaw, SetsTableRaw, WritesTable, raw_filling_of, copy_of, initialization_of};
 ghost use Rattle.wasmi_store.specs.TableType.{is_indexable};
 
-use crate::table::{CHUNK, Chunk, DENIED, TableType, copy_overlapping, lies_within, write_range};
+use crate::range::{fill_range, lies_within, write_range};
+use crate::table::{CHUNK, Chunk, DENIED, TableType, copy_overlapping};
 use wasmi_meter::growth::{charge, permission, tell};
 use wasmi_meter::{Fuel, ResourceLimiter, ResourceLimiterRef, TableError};
 use wasmi_raw::RawRef;
@@ -96,7 +97,7 @@ pub fn grow<L: ResourceLimiter>(
     if region.len() < desired {
         return Err(tell(limiter, TableError::OutOfSystemMemory, DENIED));
     }
-    fill_between(region, *size, desired, reference);
+    fill_range(region, *size, desired, reference);
     *size = desired;
     Ok(old_size)
 }
@@ -152,7 +153,7 @@ pub fn fill(
         return Err(TableError::OutOfFuel { required_fuel });
     }
     let (start, end) = (dst as usize, (dst + len) as usize);
-    fill_between(elements, start, end, reference);
+    fill_range(elements, start, end, reference);
     Ok(())
 }
 
@@ -243,16 +244,4 @@ impl Chunk for u32 {
         few[..len].copy_from_slice(&elements[src..src + len]);
         elements[dst..dst + len].copy_from_slice(&few[..len]);
     }
-}
-
-/// Fills the elements of a region from one place to another.
-fn fill_between(region: &mut [u32], start: usize, end: usize, reference: u32)
-    requires start { start ≤ end }
-    requires end { end ≤ length region.old }
-    ensures filled { region.new
-        ≡ take start region.old ++ replicate (end - start) reference ++ drop end region.old }
-    ensures len { length region.new ≡ length region.old }
-{
-    let added = &mut region[start..end];
-    added.fill(reference);
 }

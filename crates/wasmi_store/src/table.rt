@@ -1,5 +1,5 @@
 //! Tables.
-ghost use Rattle.std.specs.Prelude.{◌≡◌, ◌+◌, ◌<◌, ◌≤◌, ◌∷◌, [], length, take, drop, replicate, ℕ, Some, None, nat_le};
+ghost use Rattle.std.specs.Prelude.{◌≡◌, ◌+◌, ◌<◌, ◌∷◌, [], length, take, drop, ℕ, Some, None};
 ghost use Rattle.wasmi_types.specs.Access.{overwrite};
 ghost use Rattle.wasmi_meter.specs.Limiter.{optional_rules};
 ghost use Rattle.wasmi_meter.specs.LimiterRef.{lent_limiter, KeepsLoan};
@@ -12,6 +12,7 @@ mod element;
 mod ty;
 
 use crate::optional_meter::with_meter;
+use crate::range::{fill_range, lies_within, write_range};
 pub(crate) use copy::{CHUNK, Chunk, copy_overlapping};
 pub use element::{ElementSegment, ElementSegmentRef, SegmentError};
 use std::alloc::Global;
@@ -508,22 +509,10 @@ impl Table {
         if let Err(required_fuel) = charge::<RawRef>(fuel, len) {
             return Err(TableError::OutOfFuel { required_fuel });
         }
-        fill_range(
-            self.elements.as_mut_slice(),
-            dst as usize,
-            len as usize,
-            val,
-        );
+        let (start, end) = (dst as usize, (dst + len) as usize);
+        fill_range(self.elements.as_mut_slice(), start, end, val);
         Ok(())
     }
-}
-
-/// Whether so many items from an index on lie within a list.
-pub(crate) fn lies_within<T>(items: &[T], index: u64, len: u64) -> bool
-    ensures { result ≡ nat_le (index + len) (length items.now) }
-{
-    let size = items.len() as u64;
-    index <= size && len <= size - index
 }
 
 /// Sets one item.
@@ -532,22 +521,4 @@ fn set_item(elements: &mut [RawRef], index: usize, value: RawRef)
     ensures written { overwrite elements.old index (value ∷ []) ≡ Some elements.new }
 {
     elements[index] = value;
-}
-
-/// Copies items over those from an index on.
-pub(crate) fn write_range<T: Copy>(elements: &mut [T], index: usize, items: &[T])
-    requires inside { index + length items.now ≤ length elements.old }
-    ensures written { overwrite elements.old index items.now ≡ Some elements.new }
-{
-    let part = &mut elements[index..index + items.len()];
-    part.copy_from_slice(items);
-}
-
-/// Fills so many items from an index on.
-fn fill_range(elements: &mut [RawRef], index: usize, len: usize, value: RawRef)
-    requires inside { index + len ≤ length elements.old }
-    ensures written { overwrite elements.old index (replicate len value) ≡ Some elements.new }
-{
-    let part = &mut elements[index..index + len];
-    part.fill(value);
 }

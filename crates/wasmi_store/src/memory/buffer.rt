@@ -1,9 +1,9 @@
 //! The bytes of a linear memory.
-ghost use Rattle.std.specs.Prelude.{◌≡◌, ◌≤◌, ◌<◌, length, take, drop, replicate, IfOk, IfErr, IsOk, ◌↔◌, ◌+◌, ◌-◌, ◌++◌, OnOk, OnErr, Some, true, false};
+ghost use Rattle.std.specs.Prelude.{◌≡◌, ◌≤◌, ◌<◌, length, take, drop, IfOk, IfErr, IsOk, ◌↔◌, ◌-◌, OnOk, OnErr, true, false};
 ghost use Rattle.std.specs.Borrow.{sem, Lends, Array, u8};
-ghost use Rattle.wasmi_types.specs.Access.{overwrite};
 
 use super::region::Region;
+use crate::range::fill_range;
 use std::alloc::Global;
 use std::marker::Model;
 use wasmi_meter::MemoryError;
@@ -72,15 +72,6 @@ impl<R: Region + Drop> Drop for Buffer<R> {
     }
 }
 
-/// Zeros the bytes of a slice from a place on.
-fn zero_from(bytes: &mut [u8], start: usize)
-    requires inside { start ≤ length bytes.old }
-    ensures zeros { bytes.new ≡ take start bytes.old ++ replicate (length bytes.old - start) 0 }
-{
-    let added = &mut bytes[start..];
-    added.fill(0);
-}
-
 /// A growable buffer of bytes; `'r` is the lifetime of a borrowed buffer that they may lie in.
 ///
 /// Upstream: `ByteBuffer` of `wasmi_core`'s module `memory`.
@@ -124,16 +115,6 @@ impl<R: Region> Buffer<R> {
         }
     }
 
-    pub(super) fn write(&mut self, offset: usize, source: &[u8])
-        requires inside { offset + length source.now ≤ length self.old.bytes }
-        ensures bytes { overwrite self.old.bytes offset source.now ≡ Some self.new.bytes }
-        ensures room { self.new.room ≡ self.old.room }
-    {
-        let data = self.data_mut();
-        let part = &mut data[offset..offset + source.len()];
-        part.copy_from_slice(source);
-    }
-
     /// Appends zeros up to `new_size` bytes, which isn't below the present number.
     ///
     /// If the bytes are owned, the only error is `OutOfSystemMemory`. If they are borrowed, the
@@ -156,7 +137,7 @@ impl<R: Region> Buffer<R> {
                 Ok(()) => {}
                 Err(_) => return Err(MemoryError::OutOfSystemMemory),
             },
-            Storage::Lent(region) => zero_from(region.front_mut(new_size), self.len),
+            Storage::Lent(region) => fill_range(region.front_mut(new_size), self.len, new_size, 0),
         }
         self.len = new_size;
         Ok(())
@@ -196,7 +177,8 @@ impl<'r> Buffer<&'r mut [u8]> {
         if region.len() < size {
             return Err(MemoryError::InvalidStaticBufferSize);
         }
-        zero_from(&mut region[..size], 0);
+        let front = &mut region[..size];
+        front.fill(0);
         Ok(Buffer {
             storage: Storage::Lent(region),
             len: size,

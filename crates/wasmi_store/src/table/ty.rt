@@ -52,10 +52,7 @@ impl TableType {
             index: IndexType::I32,
             element,
             minimum: u64::from(minimum),
-            maximum: match maximum {
-                Some(maximum) => Some(u64::from(maximum)),
-                None => None,
-            },
+            maximum: maximum.map(u64::from),
         }
     }
 
@@ -167,19 +164,13 @@ impl TableType {
     pub(crate) fn maximum_size(self) -> Option<usize>
         ensures { result ≡ self.maximum }
     {
-        match self.maximum {
-            Some(maximum) => Some(maximum as usize),
-            None => None,
-        }
+        self.maximum.map(|maximum| maximum as usize)
     }
 
     /// Whether `size` elements are no more than the maximum, if there is one.
     pub(crate) fn allows_size(self, size: usize) -> bool
         ensures { result ≡ is_within_maximum self size }
     {
-        match self.maximum {
-            Some(maximum) => size as u64 <= maximum,
-            None => true,
-        }
+        self.maximum.is_none_or(|maximum| size as u64 <= maximum)
     }
 }

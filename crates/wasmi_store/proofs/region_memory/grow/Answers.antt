@@ -26,8 +26,8 @@ returns-in_err-decide_growth-clause-grown g c =
     c.has_place-has_room.ensures)
     )
 
-pub zero_between-requires-clause-end : goal.zero_between-requires-clause-end
-zero_between-requires-clause-end g c =
+pub fill_range-requires-clause-end : goal.fill_range-requires-clause-end
+fill_range-requires-clause-end g c =
     let more : c.args.size.now ≤ c.in-Some.new_size = let e = c.in-Some.ensures.size.1 in omega arith in
     place c.args.ty c.args.region.now c.args.size.now c.requires.within c.in-Some.new_size more _
     c.has_place-has_room.ensures c.in_ok-decide_growth.ensures.room
@@ -37,7 +37,7 @@ returns-clause-within g c =
     let more : c.args.size.now ≤ c.in-Some.new_size = let e = c.in-Some.ensures.size.1 in omega arith in
     let holds = place c.args.ty c.args.region.now c.args.size.now c.requires.within c.in-Some.new_size more _
     c.has_place-has_room.ensures c.in_ok-decide_growth.ensures.room in
-    rw c.zero_between.ensures.len holds
+    rw c.fill_range.ensures.len holds
 
 pub returns-clause-grown : goal.returns-clause-grown
 returns-clause-grown g c =
@@ -55,5 +55,5 @@ returns-clause-grown g c =
     grows_met permits (fits ∙ c.in_ok-decide_growth.ensures.room) c.decide_growth.new.fuel
     c.in_ok-decide_growth.ensures.paid _
     (grown c.args.ty c.args.region.now c.args.size.now c.requires.within c.in-Some.new_size more holds _
-    c.zero_between.ensures.zeroed) _
+    c.fill_range.ensures.filled) _
     (c.pages_in-old_pages.ensures ∙ sym (paged c.args.ty c.args.region.now c.args.size.now c.requires.within))

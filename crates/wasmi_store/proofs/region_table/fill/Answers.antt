@@ -7,5 +7,5 @@ pub returns : goal.returns
 returns c =
     writes_met _ _ _ refl _
     (filled_part c.args.elements.now c.args.dst c.args.len c.args.reference (sym c.if-not-lies_within.ensures) _
-    c.fill_between.ensures.filled)
+    c.fill_range.ensures.filled)
     _ _ refl c.in_default.ensures

@@ -7,9 +7,9 @@ use Rattle.wasmi_store.proofs.memory.LinearMemory.grow_metered.Goals as goal
 
 pub returns-in_default-clause-grown : goal.returns-in_default-clause-grown
 returns-in_default-clause-grown g c =
-    grows_unasked
-    (optional_rules g.L.ResourceLimiter.rules) c.args.self.now c.args.fuel.now _ c.args.additional
-    c.if-additional-eq0.false c.in_default.ensures
+    rw (← c.self.view_is)
+    (grows_unasked (optional_rules g.L.ResourceLimiter.rules) _ c.args.fuel.now _ c.args.additional
+    c.if-additional-eq0.false (rw c.len-old_size.ensures at c.in_default.ensures.size))
 
 pub returns-in_err-decide_growth-clause-grown : goal.returns-in_err-decide_growth-clause-grown
 returns-in_err-decide_growth-clause-grown g c =
@@ -17,7 +17,7 @@ returns-in_err-decide_growth-clause-grown g c =
     let fits = sym (rw (← c.len-old_size.ensures) at c.has_room-has_room.ensures) in
     rw (p.1, p.2, ← c.self.view_is) (
     c.in_err-decide_growth.ensures.refused _ c.args.additional (omega (arith, c.if-additional-eq0.false))
-    (growth_asked _ c.args.additional (rw (← c.self.view_is) at c.in-Some.ensures) c.len-old_size.ensures
+    (growth_asked _ c.args.additional (rw c.len-old_size.ensures at c.in-Some.ensures.size) c.len-old_size.ensures
     c.maximum_size-maximum.ensures)
     fits
     )
@@ -25,8 +25,8 @@ returns-in_err-decide_growth-clause-grown g c =
 pub returns-in-Err-clause-grown : goal.returns-in-Err-clause-grown
 returns-in-Err-clause-grown g c =
     let permits = growth_permitted (optional_rules g.L.ResourceLimiter.rules) _ c.args.fuel.now c.args.additional
-    c.if-additional-eq0.false (growth_asked _ _ (rw (← c.self.view_is) at c.in-Some.ensures) c.len-old_size.ensures
-    c.maximum_size-maximum.ensures) refl c.in_ok-decide_growth.ensures.permitted in
+    c.if-additional-eq0.false (growth_asked _ _ (rw c.len-old_size.ensures at c.in-Some.ensures.size)
+    c.len-old_size.ensures c.maximum_size-maximum.ensures) refl c.in_ok-decide_growth.ensures.permitted in
     let fits = sym (rw (← c.len-old_size.ensures) at c.has_room-has_room.ensures) in
     let same = ap (memory_of c.self.inside.ty) c.in-Err.ensures.err in
     rw (← c.self.view_is)
@@ -36,8 +36,8 @@ returns-in-Err-clause-grown g c =
 pub returns-clause-grown : goal.returns-clause-grown
 returns-clause-grown g c =
     let permits = growth_permitted (optional_rules g.L.ResourceLimiter.rules) _ c.args.fuel.now c.args.additional
-    c.if-additional-eq0.false (growth_asked _ _ (rw (← c.self.view_is) at c.in-Some.ensures) c.len-old_size.ensures
-    c.maximum_size-maximum.ensures) refl c.in_ok-decide_growth.ensures.permitted in
+    c.if-additional-eq0.false (growth_asked _ _ (rw c.len-old_size.ensures at c.in-Some.ensures.size)
+    c.len-old_size.ensures c.maximum_size-maximum.ensures) refl c.in_ok-decide_growth.ensures.permitted in
     let fits = sym (rw (← c.len-old_size.ensures) at c.has_room-has_room.ensures) in
     let grown = ap (memory_of c.self.inside.ty) c.in_default-grow.ensures.ok in
     let pages = rw (← c.self.view_is) at c.size-old_pages.ensures.value in
