@@ -203,10 +203,7 @@ impl<'r> Slots<Memory<'r>> {
 fn stored(answer: Result<(), TrapCode>) -> Reply
     ensures { result ≡ reply_of (λ _. Reply.Done) Reply.Trap answer }
 {
-    match answer {
-        Ok(()) => Reply::Done,
-        Err(trap) => Reply::Trap(trap),
-    }
+    answer.map_or_else(Reply::Trap, |()| Reply::Done)
 }
 
 /// A part of a list of bytes: its bounds are tested before the reply's buffer is allocated.

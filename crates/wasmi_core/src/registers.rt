@@ -43,10 +43,7 @@ impl Registers {
     pub(crate) fn vector(&self, register: u8) -> Option<V128>
         ensures { result ≡ vector_at self.now.values register }
     {
-        match self.get(register) {
-            Some(raw) => Some(raw.read_as()),
-            None => None,
-        }
+        self.get(register).map(|raw| raw.read_as())
     }
 
     /// Sets a register.
@@ -77,10 +74,7 @@ impl Registers {
     pub(crate) fn get_register(&self, register: u8) -> Reply
         ensures { result ≡ raw_reply (slice_get self.now.values register) }
     {
-        match self.get(register) {
-            Some(value) => Reply::Value(value),
-            None => Reply::NoSuch,
-        }
+        self.get(register).map_or(Reply::NoSuch, Reply::Value)
     }
 
     /// Makes a vector of an item.
@@ -148,20 +142,16 @@ impl Registers {
     pub(crate) fn test(&self, op: TestOp, a: u8) -> Reply
         ensures { result ≡ raw_reply (option_map (tested_raw op) (vector_at self.now.values a)) }
     {
-        match self.vector(a) {
-            Some(a) => Reply::Value(op.apply(a)),
-            None => Reply::NoSuch,
-        }
+        self.vector(a)
+            .map_or(Reply::NoSuch, |a| Reply::Value(op.apply(a)))
     }
 
     /// A lane of a vector.
     pub(crate) fn extract(&self, op: ExtractOp, a: u8) -> Reply
         ensures { result ≡ raw_reply (option_map (extracted_raw op) (vector_at self.now.values a)) }
     {
-        match self.vector(a) {
-            Some(a) => Reply::Value(op.apply(a)),
-            None => Reply::NoSuch,
-        }
+        self.vector(a)
+            .map_or(Reply::NoSuch, |a| Reply::Value(op.apply(a)))
     }
 
     /// A vector with an item in a lane.

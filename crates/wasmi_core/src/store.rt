@@ -64,10 +64,7 @@ impl<'r> Store<'r> {
     fn get_fuel(&self) -> Reply
         ensures { result ≡ get_fuel_reply self.now.meter }
     {
-        match self.fuel.get_fuel() {
-            Ok(left) => Reply::Number(left),
-            Err(error) => Reply::Fuel(error),
-        }
+        self.fuel.get_fuel().map_or_else(Reply::Fuel, Reply::Number)
     }
 
     /// Executes one call.

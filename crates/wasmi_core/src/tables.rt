@@ -68,10 +68,7 @@ impl Slots<Table> {
     pub(crate) fn get(&self, index: usize, element: u64) -> Reply
         ensures { GetsElementAt index element self.now.slots.items result }
     {
-        match self.live(index) {
-            Some(table) => Reply::Reference(table.get(element)),
-            None => Reply::NoSuch,
-        }
+        self.live(index).map_or(Reply::NoSuch, |table| Reply::Reference(table.get(element)))
     }
 
     /// Sets an element of a table.
@@ -221,8 +218,5 @@ fn copy_from_slot(
 fn done(answer: Result<(), TableError>) -> Reply
     ensures { result ≡ reply_of (λ _. Reply.Done) Reply.Table answer }
 {
-    match answer {
-        Ok(()) => Reply::Done,
-        Err(error) => Reply::Table(error),
-    }
+    answer.map_or_else(Reply::Table, |()| Reply::Done)
 }
