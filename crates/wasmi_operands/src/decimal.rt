@@ -17,10 +17,7 @@ where
     ensures unfit { IfErr result (λ _. IsDecimal word.now → decimal_value word.now < 2 ^ 64
         → (error : T.Error) × T.try_from_gives (decimal_value word.now) (Err error)) }
 {
-    match T::try_from(decimal(word)?) {
-        Ok(number) => Ok(number),
-        Err(_) => Err(LineError::BadCommand),
-    }
+    T::try_from(decimal(word)?).map_err(|_| LineError::BadCommand)
 }
 
 /// The number that a word writes, or `None` for the word `none`.

@@ -10,5 +10,5 @@ mod words;
 
 pub use decimal::{number, number_or_none};
 pub use error::LineError;
-pub use types::{index_ty, mutability, raw_reference, ref_type, reference, val_type};
+pub use types::{index_ty, ref_type, reference};
 pub use words::read_words;

@@ -20,7 +20,7 @@ ghost use Rattle.wasmi_ops.specs.UnaryOps.{unary_name};
 use crate::decimal::number;
 use crate::error::LineError;
 use crate::names::op_named;
-use crate::types::{mutability, raw_reference, ref_type, val_type};
+use crate::types::ref_type;
 use std::alloc::Global;
 use wasmi_ops::{
     BINARIES, BinaryOp, EXTRACTIONS, ExtractKind, LANE_LOADS, LANE_STORES, LOADS, LoadLaneKind,
@@ -78,7 +78,8 @@ impl Operand for RawRef {
     ghost writes = { WritesNumber 32 };
 
     fn from_word(word: &str) -> Result<Self, LineError> {
-        raw_reference(word)
+        let bits: u32 = number(word)?;
+        Ok(RawRef::from(bits))
     }
 }
 
@@ -94,7 +95,16 @@ impl Operand for ValType {
     ghost writes = { λ word ty. word ≡ value_word ty };
 
     fn from_word(word: &str) -> Result<Self, LineError> {
-        val_type(word)
+        match word {
+            "i32" => Ok(ValType::I32),
+            "i64" => Ok(ValType::I64),
+            "f32" => Ok(ValType::F32),
+            "f64" => Ok(ValType::F64),
+            "v128" => Ok(ValType::V128),
+            "funcref" => Ok(ValType::FuncRef),
+            "externref" => Ok(ValType::ExternRef),
+            _ => Err(LineError::BadCommand),
+        }
     }
 }
 
@@ -102,7 +112,11 @@ impl Operand for Mutability {
     ghost writes = { λ word mutability. word ≡ mutability_word mutability };
 
     fn from_word(word: &str) -> Result<Self, LineError> {
-        mutability(word)
+        match word {
+            "const" => Ok(Mutability::Const),
+            "var" => Ok(Mutability::Var),
+            _ => Err(LineError::BadCommand),
+        }
     }
 }
 

@@ -59,8 +59,5 @@ where
         → (error : L.Error) × L.try_from_gives (decimal_value word.now) (Err error)) }
 {
     let number: u8 = number(word)?;
-    match L::try_from(number) {
-        Ok(lane) => Ok(lane),
-        Err(_) => Err(LineError::BadCommand),
-    }
+    L::try_from(number).map_err(|_| LineError::BadCommand)
 }
