@@ -16,7 +16,7 @@ use Rattle.wasmi_core.specs.State.{State}
 use Rattle.wasmi_core.specs.LentMemory.{RunInRegions, owned_world, unlent_world}
 use Rattle.wasmi_core.specs.Determinism.{HasMemory, HaveMemory}
 use Rattle.wasmi_callers.specs.Runs.{FitsAnyRegions, HasRegionFor}
-use Rattle.wasmi_core.specs.Laws.{LentRunsAreOwned, LentCreationsAreOwned, QuotasStayWithin, RunsKeepValidity}
+use Rattle.wasmi_core.specs.Laws.{LentRunsAreOwned, LentCreationsAreOwned, HoldsTotalsAlways, QuotasStayWithin, RunsKeepValidity}
 use Rattle.wasmi_meter.specs.declared.limiter.Kind.{Kind}
 use Rattle.wasmi_meter.specs.declared.limiter.Kind.TheVariants.{Bytes, Elements}
 use Rattle.wasmi_meter.specs.declared.quota.Quota.{Quota}
@@ -113,6 +113,18 @@ held_within : (s : State) (first quota : Quota) → HoldsTotals (holdings quota)
     → SameCaps first quota → IsWithin s first
 held_within s first quota held within caps Bytes = omega (arith, held.bytes, within Bytes, caps Bytes)
 held_within s first quota held within caps Elements = omega (arith, held.elements, within Elements, caps Elements)
+
+-- a quota that held what a machine has does so after a run that was accepted or refused
+pub held_after : {R E : Type 0} (items : R → List Reply) → HoldsTotalsAlways quota_rules holdings → (s s' : State)
+    (quota quota' : Quota) (calls : List Call) (result : Result R E) → HoldsTotals (holdings quota) s
+    → IfOk result
+    (λ replies. IsRunOf (optional_rules quota_rules) calls (world s (Some quota)) (items replies)
+    (world s' (Some quota')))
+    → OnErr result ((s' ≡ s) × (quota' ≡ quota)) → HoldsTotals (holdings quota') s'
+held_after items always s s' quota quota' calls (Ok replies) held ran same =
+    let after = always s quota held ran.0 (world s' (Some quota')) ran.3 in
+    subst (λ q. HoldsTotals (holdings q) s') (sym (same_Some quota' after.0 after.1)) after.2
+held_after items always s s' quota quota' calls (Err error) held ran same = rw (same.0, same.1) held
 
 -- a machine whose quota was within its caps is within them after a run that was accepted or refused
 pub within_quota : {R E : Type 0} (items : R → List Reply) → QuotasStayWithin

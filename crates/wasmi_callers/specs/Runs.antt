@@ -1,5 +1,5 @@
 -- What a caller says of runs.
-use Rattle.std.specs.Prelude.{◌≡◌, ◌⊎◌, ◌<◌, ◌≤◌, ◌+◌, ◌*◌, ℕ, true, Option, Some, List, [], ◌∷◌, ◌++◌, length, map, slice_set, All}
+use Rattle.std.specs.Prelude.{◌≡◌, ◌⊎◌, ◌<◌, ◌≤◌, ◌+◌, ◌*◌, ℕ, true, Option, Some, List, [], ◌∷◌, ◌++◌, length, slice_set, All}
 use Rattle.wasmi_meter.specs.Attempt.{Request, optional_due, covers}
 use Rattle.wasmi_meter.specs.Limiter.{Rules, Question, Answer, IsDenial}
 use Rattle.wasmi_meter.specs.Meter.{Meter}
@@ -13,7 +13,7 @@ use Rattle.wasmi_core.specs.declared.calls.Reply.TheVariants.{Number}
 use Rattle.wasmi_core.specs.World.{World, Turn}
 use Rattle.wasmi_core.specs.Exchange.{Exchanges}
 use Rattle.wasmi_core.specs.Steps.{Step}
-use Rattle.wasmi_core.specs.Runs.{Sequence, Run}
+use Rattle.wasmi_core.specs.Runs.{Sequence, Run, AreTurns}
 use Rattle.wasmi_core.specs.declared.slots.Slot.TheVariants.{Live}
 use Rattle.wasmi_core.specs.State.{State, live_at}
 use Rattle.wasmi_core.specs.Account.{opened, account_after, Balances}
@@ -22,11 +22,6 @@ use Rattle.wasmi_core.specs.Laws.{IsRefusal, Keeps, KeepsMeter}
 use Rattle.wasmi_core.specs.LentMemory.{FitsRegions}
 use Rattle.wasmi_core.specs.Validity.{IsValid}
 use Rattle.wasmi_core.specs.Writing.{IsBounded, IsSpent}
-
--- turns of these calls with these replies
-pub record AreTurns (calls : List Call) (replies : List Reply) (turns : List Turn) : Type 0 where
-  pub calls_of : map Turn.call turns ≡ calls
-  pub replies_of : map Turn.reply turns ≡ replies
 
 -- calls are run with these replies, by turns of which a fact holds
 abbrev pub RunsBy : {S : Type 0} → Rules S → (List Turn → Type 0) → List Call → World S → List Reply → World S → Type 0

@@ -125,14 +125,6 @@ pub fn widened_bytes(v: V128) -> (V128, V128)
     (i16x8_extend_low_i8x16_u(v), i16x8_extend_high_i8x16_u(v))
 }
 
-/// The bytes of the upper half, at 16 bits.
-pub fn upper_bytes(v: V128) -> V128
-    ensures { (i : ℕ) → i < 8 → lane w16 result i ≡ lane w8 v (8 + i) % 2 ^ 16 }
-{
-    widening_laws::lanes_of_halves::<u8>();
-    i16x8_extend_high_i8x16_u(v)
-}
-
 /// The products of the bytes of the upper halves.
 pub fn products_of_upper_bytes(a: V128, b: V128) -> V128
     ensures { (i : ℕ) → i < 8 → lane w16 result i ≡ lane w8 a (8 + i) * lane w8 b (8 + i) % 2 ^ 16 }

@@ -4,7 +4,6 @@ ghost use Rattle.std.specs.Prelude.{◌≡◌, ◌<◌, ◌≤◌, ◌*◌, ◌^
 ghost use Rattle.wasmi_types.specs.declared.index_ty.IndexType.TheVariants.{I32};
 ghost use Rattle.wasmi_meter.specs.declared.limiter.Kind.TheVariants.{Bytes, Elements};
 ghost use Rattle.wasmi_meter.specs.Quota.{holdings, IsWithinCaps};
-ghost use Rattle.wasmi_store.specs.Memory.{pages_of};
 ghost use Rattle.wasmi_store.specs.MemoryType as memory_type;
 ghost use Rattle.wasmi_store.specs.MemoryType.{page_bytes, in_bounds};
 ghost use Rattle.wasmi_store.specs.Table.{IsSized, size_of};
@@ -109,45 +108,28 @@ pub fn grow_table_raw(
     table.grow_raw_lending(delta, init, fuel, quota)
 }
 
-/// The size of any memory in pages: that many pages are its bytes, and no fewer than its type's
-/// minimum.
+/// The size of any memory in pages, by a valid type: that many pages are its bytes, no fewer than
+/// its type's minimum, and as many as its type allows.
 pub fn pages_of_memory(memory: &Memory) -> u64
     ensures whole { result * page_bytes memory.now.ty.page ≡ length memory.now.bytes }
+    ensures valid { memory_type.IsValid memory.now.ty }
     ensures minimum { memory.now.ty.minimum ≤ result }
+    ensures within { in_bounds memory.now.ty result ≡ true }
 {
     laws::memories_are_valid(memory);
     memory.size()
 }
 
-/// The type of any memory: a valid one, which allows as many pages as the memory has.
-pub fn type_of_memory(memory: &Memory) -> MemoryType
-    ensures same { result ≡ memory.now.ty }
-    ensures valid { memory_type.IsValid result }
-    ensures within { in_bounds result (pages_of memory.now) ≡ true }
-{
-    laws::memories_are_valid(memory);
-    memory.ty()
-}
-
-/// The size of any table: no fewer elements than its type's minimum, and no more than its maximum,
-/// by a valid type; so fewer than 2^32 where its indices are 32 bits long.
+/// The size of any table, by a valid type: no fewer elements than its type's minimum, no more than
+/// its maximum, and as many as its type allows; so fewer than 2^32 if its indices are 32 bits long.
 pub fn elements_of_table(table: &Table) -> u64
     ensures value { result ≡ size_of table.now }
     ensures valid { table_type.IsValid table.now.ty }
     ensures minimum { table.now.ty.minimum ≤ result }
     ensures maximum { is_within_maximum table.now.ty result ≡ true }
     ensures indices { table.now.ty.index ≡ I32 → result < 2 ^ 32 }
+    ensures sized { IsSized table.now.ty (size_of table.now) }
 {
     laws::tables_are_valid(table);
     table.size()
-}
-
-/// The type of any table: a valid one, which allows as many elements as the table has.
-pub fn type_of_table(table: &Table) -> TableType
-    ensures same { result ≡ table.now.ty }
-    ensures valid { table_type.IsValid result }
-    ensures sized { IsSized result (size_of table.now) }
-{
-    laws::tables_are_valid(table);
-    table.ty()
 }

@@ -19,26 +19,18 @@ pub fn run_within(pool: &mut Pool, index: usize, calls: &[Call]) -> Result<Vec<R
     pool.run(index, calls)
 }
 
-/// Makes calls on the machine of a tenant: where no reply tells of a denial, it is as if the tenant
-/// had a pool of its own with the same caps.
+/// Makes calls on the machine of a tenant: if no reply tells of a denial, it is as if the tenant
+/// had a pool of its own with the same caps, and as if the other tenants held nothing.
 pub fn run_alone(pool: &mut Pool, index: usize, calls: &[Call]) -> Result<Vec<Reply>, PoolError>
-    ensures { IfOk result
+    ensures alone { IfOk result
         (λ replies. All TellsNoDenial replies.items
         → RunsAlone pool.old index calls.now replies.items pool.new) }
-{
-    laws::replies_permit();
-    laws::permitted_runs_as_alone();
-    pool.run(index, calls)
-}
-
-/// Makes calls on the machine of a tenant: where no reply tells of a denial, the machine has run
-/// them as if the other tenants held nothing.
-pub fn run_beside(pool: &mut Pool, index: usize, calls: &[Call]) -> Result<Vec<Reply>, PoolError>
-    ensures { IfOk result
+    ensures beside { IfOk result
         (λ replies. All TellsNoDenial replies.items
         → RunsBeside pool.old index calls.now replies.items) }
 {
     laws::replies_permit();
+    laws::permitted_runs_as_alone();
     laws::others_do_not_show();
     pool.run(index, calls)
 }

@@ -1,5 +1,6 @@
 //! Callers of the laws over turns and runs.
 ghost use Rattle.std.specs.Prelude.{◌≡◌, ◌++◌, ◌≤◌, [], ◌∷◌, Some, IfOk, All};
+ghost use Rattle.wasmi_store.specs.MemoryType.{MemoryTypeValue};
 ghost use Rattle.wasmi_meter.specs.Limiter.{optional_rules};
 ghost use Rattle.wasmi_meter.specs.declared.limiter.Kind.TheVariants.{Bytes, Elements};
 ghost use Rattle.wasmi_meter.specs.Quota.{holdings, cap_of, IsWithinCaps, quota_rules};
@@ -14,10 +15,7 @@ ghost use Rattle.wasmi_core.specs.World.{world};
 ghost use Rattle.wasmi_callers.specs.Runs.{IsBilled, IsBoundedBy, IsSpentBy, IsExchanged, KeepsWhereRefused, IsMeterKept, StaysValid, IsRunOfBoth, FitsAnyRegions, NeitherIsOutOfMemory, AreSameTurns, HasRegionFor, GrowsInRegions};
 
 use std::alloc::AllocError;
-use wasmi_core::{
-    Call, Machine, MemoryType, NoLimits, Quota, Reply, ResourceLimiter, laws, run_lending,
-    run_reserving,
-};
+use wasmi_core::{Call, Machine, NoLimits, Quota, Reply, ResourceLimiter, laws, run_lending};
 
 /// Makes one call. Where it is refused, the machine has the contents that it had; the spare region,
 /// unless a memory was to be made in it; and the meter, unless it is a growth that was paid before
@@ -55,77 +53,55 @@ pub fn run_refused<L: ResourceLimiter>(
     run_lending(machine, calls, limiter)
 }
 
-/// Makes calls, and knows what was paid for them.
+/// Makes calls, and knows what was paid for them, and how much they can have written. If none of
+/// them sets the fuel, what was left before is what is left after and what they were charged, which
+/// bounds what they have written.
 pub fn run_billed<L: ResourceLimiter>(
     machine: &mut Machine,
     calls: &[Call],
     limiter: &mut L,
 ) -> Result<Vec<Reply>, AllocError>
-    ensures { IfOk result (λ replies. IsBilled (optional_rules L.rules) calls.now
+    ensures billed { IfOk result (λ replies. IsBilled (optional_rules L.rules) calls.now
+        (world machine.old (Some limiter.old)) replies.items
+        (world machine.new (Some limiter.new))) }
+    ensures bounded { IfOk result (λ replies. IsBoundedBy (optional_rules L.rules) calls.now
+        (world machine.old (Some limiter.old)) replies.items
+        (world machine.new (Some limiter.new))) }
+    ensures spent { All SetsNoFuel calls.now → IfOk result
+        (λ replies. IsSpentBy (optional_rules L.rules) calls.now
         (world machine.old (Some limiter.old)) replies.items
         (world machine.new (Some limiter.new))) }
 {
     laws::fuel_balances::<L>();
-    run_lending(machine, calls, limiter)
-}
-
-/// Makes calls, and knows how much they can have written.
-pub fn run_bounded<L: ResourceLimiter>(
-    machine: &mut Machine,
-    calls: &[Call],
-    limiter: &mut L,
-) -> Result<Vec<Reply>, AllocError>
-    ensures { IfOk result (λ replies. IsBoundedBy (optional_rules L.rules) calls.now
-        (world machine.old (Some limiter.old)) replies.items
-        (world machine.new (Some limiter.new))) }
-{
     laws::fuel_bounds_writing::<L>();
-    run_lending(machine, calls, limiter)
-}
-
-/// Makes calls that don't set the fuel: what was left before is what is left after and what they
-/// were charged, which bounds what they have written.
-pub fn run_spent<L: ResourceLimiter>(
-    machine: &mut Machine,
-    calls: &[Call],
-    limiter: &mut L,
-) -> Result<Vec<Reply>, AllocError>
-    requires sets_no_fuel { All SetsNoFuel calls.now }
-    ensures spent { IfOk result (λ replies. IsSpentBy (optional_rules L.rules) calls.now
-        (world machine.old (Some limiter.old)) replies.items
-        (world machine.new (Some limiter.new))) }
-{
     laws::charges_are_spent::<L>();
     run_lending(machine, calls, limiter)
 }
 
-/// Makes calls, and knows of each turn what the limiter was asked and told, and what has grown.
+/// Makes calls, and knows of each turn what the limiter was asked and told, and what has grown. A
+/// memory in a lent region that is to grow does so, or the limiter denies it, if its type and the
+/// region have place for it and it can be paid. If no reply tells of a denial, the limiter has
+/// permitted all that it was asked.
 pub fn run_exchanged<L: ResourceLimiter>(
     machine: &mut Machine,
     calls: &[Call],
     limiter: &mut L,
 ) -> Result<Vec<Reply>, AllocError>
-    ensures { IfOk result
+    ensures exchanged { IfOk result
         (λ replies. IsExchanged (optional_rules L.rules) calls.now
         (world machine.old (Some limiter.old)) replies.items
         (world machine.new (Some limiter.new))) }
-{
-    laws::growths_are_permitted::<L>();
-    run_lending(machine, calls, limiter)
-}
-
-/// Makes calls: where no reply tells of a denial, the limiter has permitted all that it was asked.
-pub fn run_permitted<L: ResourceLimiter>(
-    machine: &mut Machine,
-    calls: &[Call],
-    limiter: &mut L,
-) -> Result<Vec<Reply>, AllocError>
-    ensures { IfOk result
+    ensures regions { IfOk result (λ replies. GrowsInRegions (optional_rules L.rules) calls.now
+        (world machine.old (Some limiter.old)) replies.items
+        (world machine.new (Some limiter.new))) }
+    ensures permitted { IfOk result
         (λ replies. All TellsNoDenial replies.items
         → IsRunOf (permitting (optional_rules L.rules)) calls.now
         (world machine.old (Some limiter.old)) replies.items
         (world machine.new (Some limiter.new))) }
 {
+    laws::growths_are_permitted::<L>();
+    laws::lent_growths_succeed::<L>();
     laws::replies_permit::<L>();
     run_lending(machine, calls, limiter)
 }
@@ -148,32 +124,21 @@ pub fn run_valid<L: ResourceLimiter>(
     run_lending(machine, calls, limiter)
 }
 
-/// Makes calls under a quota that holds what the machine has and is within its caps: so the machine
-/// is within them.
+/// Makes calls under a quota that holds what the machine has: it does so again afterwards, and if
+/// it was within its caps, the machine is within them.
 pub fn run_within_quota(
     machine: &mut Machine,
     calls: &[Call],
     quota: &mut Quota,
 ) -> Result<Vec<Reply>, AllocError>
     requires held { HoldsTotals (holdings quota.old) machine.old }
-    requires within { IsWithinCaps quota.old }
-    ensures bytes { total machine.new Bytes ≤ cap_of quota.old Bytes }
-    ensures elements { total machine.new Elements ≤ cap_of quota.old Elements }
-{
-    laws::quotas_stay_within();
-    run_reserving(machine, calls, quota)
-}
-
-/// Makes calls under a quota that holds what the machine has: it does so again afterwards.
-pub fn run_counted(
-    machine: &mut Machine,
-    calls: &[Call],
-    quota: &mut Quota,
-) -> Result<Vec<Reply>, AllocError>
-    requires holds { HoldsTotals (holdings quota.old) machine.old }
-    ensures counted { IfOk result (λ _. HoldsTotals (holdings quota.new) machine.new) }
+    ensures held { HoldsTotals (holdings quota.new) machine.new }
+    ensures bytes { IsWithinCaps quota.old → total machine.new Bytes ≤ cap_of quota.old Bytes }
+    ensures elements { IsWithinCaps quota.old
+        → total machine.new Elements ≤ cap_of quota.old Elements }
 {
     laws::totals_are_held::<Quota>();
+    laws::quotas_stay_within();
     run_lending(machine, calls, quota)
 }
 
@@ -198,8 +163,9 @@ pub fn run_both<L: ResourceLimiter>(
     Ok((first, second))
 }
 
-/// Makes the same calls on two equal machines under equal quotas: if no reply is that memory ran
-/// out, the replies are the same, and the machines and the quotas are equal again.
+/// Makes the same calls on two equal machines under equal quotas. If no reply is that memory ran
+/// out, the replies are the same, and the machines and the quotas are equal again. Both are then
+/// runs of the same turns, so each call was charged and has written the same in both.
 pub fn run_twice(
     machine: &mut Machine,
     other: &mut Machine,
@@ -213,10 +179,17 @@ pub fn run_twice(
         (λ replies. NeitherIsOutOfMemory replies.0.items replies.1.items
         → (replies.0.items ≡ replies.1.items) × (machine.new ≡ other.new)
         × (quota.new ≡ other_quota.new)) }
+    ensures turns { IfOk result
+        (λ replies. NeitherIsOutOfMemory replies.0.items replies.1.items
+        → AreSameTurns (optional_rules quota_rules)
+        (world machine.old (Some quota.old)) (world machine.new (Some quota.new))
+        (world other.new (Some other_quota.new))) }
 {
     laws::quota_leaves_no_choice();
     laws::quota_accepts_notices();
     laws::replies_are_one::<Quota>();
+    laws::replies_tell::<Quota>();
+    laws::runs_are_one::<Quota>();
     let first = run_lending(machine, calls, quota)?;
     let second = run_lending(other, calls, other_quota)?;
     Ok((first, second))
@@ -244,78 +217,26 @@ pub fn run_twice_unlimited(
     Ok((first, second))
 }
 
-/// Makes the same calls on two equal machines under equal quotas: if no reply is that memory ran
-/// out, both are runs of the same turns, so each call was charged and has written the same in both.
-pub fn run_twice_charged(
-    machine: &mut Machine,
-    other: &mut Machine,
-    calls: &[Call],
-    quota: &mut Quota,
-    other_quota: &mut Quota,
-) -> Result<(Vec<Reply>, Vec<Reply>), AllocError>
-    requires machines { other.old ≡ machine.old }
-    requires quotas { other_quota.old ≡ quota.old }
-    ensures same { IfOk result
-        (λ replies. NeitherIsOutOfMemory replies.0.items replies.1.items
-        → AreSameTurns (optional_rules quota_rules)
-        (world machine.old (Some quota.old)) (world machine.new (Some quota.new))
-        (world other.new (Some other_quota.new))) }
-{
-    laws::quota_leaves_no_choice();
-    laws::quota_accepts_notices();
-    laws::replies_tell::<Quota>();
-    laws::runs_are_one::<Quota>();
-    let first = run_lending(machine, calls, quota)?;
-    let second = run_lending(other, calls, other_quota)?;
-    Ok((first, second))
-}
-
-/// Makes calls that fit whatever regions there are, as all do that neither make a memory in the
-/// spare region nor grow one: the replies are those of a machine whose memories are all its own.
+/// Makes calls. If they fit whatever regions there are, as all do that neither make a memory in the
+/// spare region nor grow one, the replies are those of a machine whose memories are all its own. If
+/// they make one memory in the spare region, which is long enough for it, the reply is that of a
+/// machine that makes one of its own.
 pub fn run_in_regions<L: ResourceLimiter>(
     machine: &mut Machine,
     calls: &[Call],
     limiter: &mut L,
 ) -> Result<Vec<Reply>, AllocError>
-    requires fits { All FitsAnyRegions calls.now }
-    ensures owned { IfOk result (λ replies. IsRunOf (optional_rules L.rules) calls.now
+    ensures owned { All FitsAnyRegions calls.now → IfOk result
+        (λ replies. IsRunOf (optional_rules L.rules) calls.now
         (owned_world (world machine.old (Some limiter.old))) replies.items
         (owned_world (world machine.new (Some limiter.new)))) }
-{
-    laws::lent_runs_are_owned::<L>();
-    run_lending(machine, calls, limiter)
-}
-
-/// Makes one memory in the spare region, which is long enough for it: the reply is that of a
-/// machine that makes one of its own.
-pub fn make_in_region<L: ResourceLimiter>(
-    machine: &mut Machine,
-    ty: MemoryType,
-    calls: &[Call],
-    limiter: &mut L,
-) -> Result<Vec<Reply>, AllocError>
-    requires call { calls.now ≡ Call.NewLentMemory ty ∷ [] }
-    requires region { HasRegionFor ty machine.old }
-    ensures owned { IfOk result
+    ensures made { (ty : MemoryTypeValue) → calls.now ≡ Call.NewLentMemory ty ∷ []
+        → HasRegionFor ty machine.old → IfOk result
         (λ replies. IsRunOf (optional_rules L.rules) (Call.NewMemory ty ∷ [])
         (unlent_world (world machine.old (Some limiter.old))) replies.items
         (unlent_world (world machine.new (Some limiter.new)))) }
 {
+    laws::lent_runs_are_owned::<L>();
     laws::lent_creations_are_owned::<L>();
-    run_lending(machine, calls, limiter)
-}
-
-/// Makes calls, and knows of each growth of a memory in a lent region, where its type and the
-/// region have place for it and it can be paid: it grows, or the limiter denies it.
-pub fn grow_in_regions<L: ResourceLimiter>(
-    machine: &mut Machine,
-    calls: &[Call],
-    limiter: &mut L,
-) -> Result<Vec<Reply>, AllocError>
-    ensures { IfOk result (λ replies. GrowsInRegions (optional_rules L.rules) calls.now
-        (world machine.old (Some limiter.old)) replies.items
-        (world machine.new (Some limiter.new))) }
-{
-    laws::lent_growths_succeed::<L>();
     run_lending(machine, calls, limiter)
 }
