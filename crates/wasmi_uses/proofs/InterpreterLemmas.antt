@@ -27,8 +27,8 @@ use Rattle.wasmi_core.specs.Account.{SetsNoFuel, charges}
 use Rattle.wasmi_core.specs.State.{State, live_at}
 use Rattle.wasmi_core.specs.World.{World, Turn, world}
 use Rattle.wasmi_core.specs.Steps.{Step, Answers}
-use Rattle.wasmi_core.specs.Runs.{Run}
-use Rattle.wasmi_core.specs.Writing.{has_written, bytes_written, writing_turns, charges_for_writing, IsSpent}
+use Rattle.wasmi_core.specs.Runs.{Run, AreTurns}
+use Rattle.wasmi_core.specs.Writing.{has_written, bytes_written, writing_turns, charges_for_writing}
 use Rattle.wasmi_core.specs.Laws.{RunsJoin, ChargesAreSpent, FuelBoundsWriting}
 use Rattle.wasmi_uses.specs.declared.interpreter.Instruction.{Instruction}
 use Rattle.wasmi_uses.specs.declared.interpreter.Instruction.TheVariants.{Constant, Copy, Add, Multiply, AddBytes, Load, Store, Grow, Size, Branch, BranchIf, Return}
@@ -37,7 +37,7 @@ use Rattle.wasmi_uses.specs.declared.interpreter.Action.TheVariants.{Calls, Grow
 use Rattle.wasmi_uses.specs.declared.interpreter.Ending.{Ending}
 use Rattle.wasmi_uses.specs.declared.interpreter.Ending.TheVariants as ending
 use Rattle.wasmi_uses.specs.declared.interpreter.Outcome.{Outcome}
-use Rattle.wasmi_uses.specs.Interpreter.{sets, action_of, action_at, grow_result, AreTurnsOf, place_after, IsGrowth, CarriesOut, is_out_of_fuel, fuel_taken, Stops, StepsAt, Reaches, ExecutesProgram, HasRun, last_instruction, instructions_of, TakesFuel}
+use Rattle.wasmi_uses.specs.Interpreter.{sets, action_of, action_at, grow_result, place_after, IsGrowth, CarriesOut, is_out_of_fuel, fuel_taken, Stops, StepsAt, Reaches, ExecutesProgram, HasRun, last_instruction, instructions_of, TakesProgramFuel}
 
 -- the state with so much left
 abbrev with_left : State → Option ℕ → State
@@ -84,27 +84,27 @@ module _ (s s' : State) (result : Result ℕ FuelError)
 module _ {S : Type 0} (rules : Rules S) where
   -- a call that is answered is a run of one turn
   pub answered : (c : Call) (w : World S) (reply : Reply) (w' : World S) → Answers rules c w reply w'
-      → (turns : List Turn) × Run rules w turns w' × AreTurnsOf (c ∷ []) (reply ∷ []) turns
+      → (turns : List Turn) × Run rules w turns w' × AreTurns (c ∷ []) (reply ∷ []) turns
   answered c w reply w' (charge, written, step) = (
     record { call = c; reply = reply; charge = charge; written = written } ∷ [],
     (w', step, refl),
-    (refl, refl),
+    record { calls_of = refl; replies_of = refl },
   )
 
   -- two are a run of two
   pub answered_twice : (c c' : Call) (w : World S) (reply : Reply) (v : World S) (reply' : Reply) (w' : World S)
       → Answers rules c w reply v → Answers rules c' v reply' w'
-      → (turns : List Turn) × Run rules w turns w' × AreTurnsOf (c ∷ c' ∷ []) (reply ∷ reply' ∷ []) turns
+      → (turns : List Turn) × Run rules w turns w' × AreTurns (c ∷ c' ∷ []) (reply ∷ reply' ∷ []) turns
   answered_twice c c' w reply v reply' w' (charge, written, step) (charge', written', step') = (
     record { call = c; reply = reply; charge = charge; written = written }
         ∷ record { call = c'; reply = reply'; charge = charge'; written = written' } ∷ [],
     (v, step, (w', step', refl)),
-    (refl, refl),
+    record { calls_of = refl; replies_of = refl },
   )
 
 -- a growth with a result
 pub grown : (dst pages : ℕ) (turns : List Turn) (reply last : Reply) (size : ℕ) → grow_result reply ≡ Some size
-    → AreTurnsOf (GrowMemory 0 pages ∷ SetRegister dst (raw_of size) ∷ []) (reply ∷ last ∷ []) turns
+    → AreTurns (GrowMemory 0 pages ∷ SetRegister dst (raw_of size) ∷ []) (reply ∷ last ∷ []) turns
     → IsGrowth dst pages turns last
 grown dst pages turns reply last size is are = (reply, rw is are)
 
@@ -119,7 +119,7 @@ no_result reply number memory = refl
 -- so the growth ends there
 pub ungrown : (dst pages : ℕ) (turns : List Turn) (reply : Reply) → ((size : ℕ) → reply ≡ Number size → ⊥)
     → ((error : MemoryError) → reply ≡ Memory error → ⊥)
-    → AreTurnsOf (GrowMemory 0 pages ∷ []) (reply ∷ []) turns → IsGrowth dst pages turns reply
+    → AreTurns (GrowMemory 0 pages ∷ []) (reply ∷ []) turns → IsGrowth dst pages turns reply
 ungrown dst pages turns reply number memory are = (reply, rw (no_result reply number memory) (are, refl))
 
 -- one instruction more leads on from where those so far have led
@@ -191,13 +191,13 @@ place_without_fuel (Some i) s = acts_without_fuel i s
 
 -- turns of these calls don't set the fuel
 turns_without_fuel : (calls : List Call) (replies : List Reply) (turns : List Turn) → All SetsNoFuel calls
-    → AreTurnsOf calls replies turns → All SetsNoFuel (map Turn.call turns)
-turns_without_fuel calls replies turns none are = subst (All SetsNoFuel) (sym are.0) none
+    → AreTurns calls replies turns → All SetsNoFuel (map Turn.call turns)
+turns_without_fuel calls replies turns none are = subst (All SetsNoFuel) (sym are.calls_of) none
 
 -- so those of a growth, by its result
 growth_without_fuel : (o : Option ℕ) (dst pages : ℕ) (turns : List Turn) (reply last : Reply)
-    → MatchOption o (AreTurnsOf (GrowMemory 0 pages ∷ []) (reply ∷ []) turns × (last ≡ reply))
-    (λ size. AreTurnsOf (GrowMemory 0 pages ∷ SetRegister dst (raw_of size) ∷ []) (reply ∷ last ∷ []) turns)
+    → MatchOption o (AreTurns (GrowMemory 0 pages ∷ []) (reply ∷ []) turns × (last ≡ reply))
+    (λ size. AreTurns (GrowMemory 0 pages ∷ SetRegister dst (raw_of size) ∷ []) (reply ∷ last ∷ []) turns)
     → All SetsNoFuel (map Turn.call turns)
 growth_without_fuel None dst pages turns reply last are =
     turns_without_fuel _ _ turns (All-cons SetsNoFuel (GrowMemory 0 pages) [] tt (All-nil SetsNoFuel)) are.0
@@ -437,7 +437,7 @@ module _ {S : Type 0} (rules : Rules S) (joins : RunsJoin rules) (spends : Charg
 -- so what was left is spent
 taken_spent : {S : Type 0} (rules : Rules S) → FuelBoundsWriting rules → (w : World S) (turns : List Turn)
     (outcome : Outcome) (w' : World S) → Taken rules w turns (instructions_of outcome) w'
-    → TakesFuel w.state.meter turns outcome w'.state.meter
+    → TakesProgramFuel w.state.meter turns outcome w'.state.meter
 taken_spent rules bounds w turns outcome w' taken left on =
     let rate = w.state.meter.costs.bytes_copied_per_fuel in
     let s = taken.spent left on in (
@@ -462,7 +462,7 @@ module _ {S : Type 0} (rules : Rules S) (joins : RunsJoin rules) (spends : Charg
     (outcome : Outcome) (w' : World S) (executes : ExecutesProgram rules program w turns outcome w') where
   -- a program has turns, and takes fuel
   pub execution : (turns : List Turn) × ExecutesProgram rules program w turns outcome w'
-      × TakesFuel w.state.meter turns outcome w'.state.meter
+      × TakesProgramFuel w.state.meter turns outcome w'.state.meter
   execution = (
     turns,
     executes,

@@ -1,5 +1,5 @@
 -- What a program does on a machine.
-use Rattle.std.specs.Prelude.{◌≡◌, ◌+◌, ◌-◌, ◌^◌, ◌≤◌, ℕ, zero, suc, Bool, false, ◌==◌, if◌then◌else◌, Option, Some, None, MatchOption, MatchBool, Result, Ok, Err, List, [], ◌∷◌, ◌++◌, map, slice_get}
+use Rattle.std.specs.Prelude.{◌≡◌, ◌+◌, ◌-◌, ◌^◌, ◌≤◌, ℕ, zero, suc, Bool, false, ◌==◌, if◌then◌else◌, Option, Some, None, MatchOption, MatchBool, Result, Ok, Err, List, [], ◌∷◌, ◌++◌, slice_get}
 use Rattle.std.specs.Int.{w64, cast_unsigned}
 use Rattle.std.specs.Option.{option_map, option_map_or, option_and_then}
 use Rattle.wasmi_raw.specs.declared.raw.RawVal.{RawVal}
@@ -17,7 +17,7 @@ use Rattle.wasmi_core.specs.declared.calls.Reply.TheVariants.{Done, Number, Memo
 use Rattle.wasmi_ops.specs.declared.scalar.access.StoreOp.TheVariants.{Store64}
 use Rattle.wasmi_core.specs.State.{State, live_at}
 use Rattle.wasmi_core.specs.World.{World, Turn, world}
-use Rattle.wasmi_core.specs.Runs.{Run, IsRunOf}
+use Rattle.wasmi_core.specs.Runs.{Run, IsRunOf, AreTurns}
 use Rattle.wasmi_core.specs.Writing.{IsSpent}
 use Rattle.wasmi_uses.specs.declared.interpreter.Instruction.{Instruction}
 use Rattle.wasmi_uses.specs.declared.interpreter.Instruction.TheVariants.{Constant, Copy, Add, Multiply, AddBytes, Load, Store, Grow, Size, Branch, BranchIf, Return}
@@ -69,10 +69,6 @@ grow_result (Number size) = Some size
 grow_result (Memory error) = Some (2 ^ 64 - 1)
 grow_result reply = None
 
--- turns have these calls and replies
-abbrev pub AreTurnsOf : List Call → List Reply → List Turn → Type 0
-AreTurnsOf calls replies turns = (map Turn.call turns ≡ calls) × (map Turn.reply turns ≡ replies)
-
 -- what follows the reply to a call: the next place, or the end of the program
 abbrev pub place_after : Reply → ℕ → Result ℕ Ending
 place_after Done next = Ok next
@@ -81,14 +77,14 @@ place_after reply next = Err (Refused reply)
 -- a growth whose result a register takes is answered in these turns; `last` is the reply to the last of them
 abbrev pub IsGrowth : ℕ → ℕ → List Turn → Reply → Type 0
 IsGrowth dst pages turns last = (reply : Reply) × MatchOption (grow_result reply)
-    (AreTurnsOf (call.GrowMemory 0 pages ∷ []) (reply ∷ []) turns × (last ≡ reply))
-    (λ size. AreTurnsOf (call.GrowMemory 0 pages ∷ call.SetRegister dst (raw_of size) ∷ []) (reply ∷ last ∷ []) turns)
+    (AreTurns (call.GrowMemory 0 pages ∷ []) (reply ∷ []) turns × (last ≡ reply))
+    (λ size. AreTurns (call.GrowMemory 0 pages ∷ call.SetRegister dst (raw_of size) ∷ []) (reply ∷ last ∷ []) turns)
 
 -- an action is answered in these turns, and what follows is a place, or the end of the program; `next` is the place
 -- after that of the instruction
 abbrev pub CarriesOut : Action → ℕ → List Turn → Result ℕ Ending → Type 0
 CarriesOut (Calls c) next turns result =
-    (reply : Reply) × AreTurnsOf (c ∷ []) (reply ∷ []) turns × (result ≡ place_after reply next)
+    (reply : Reply) × AreTurns (c ∷ []) (reply ∷ []) turns × (result ≡ place_after reply next)
 CarriesOut (Grows dst pages) next turns result =
     (reply : Reply) × IsGrowth dst pages turns reply × (result ≡ place_after reply next)
 CarriesOut Continues next turns result = (turns ≡ []) × (result ≡ Ok next)
@@ -148,8 +144,8 @@ instructions_of outcome = outcome.executed + option_map_or last_instruction outc
 
 -- while metering is on, what was left before is what is left after a program, one for each instruction, and what its
 -- turns were charged, which bounds what they have written, as it does for a run of calls that don't set the fuel
-abbrev pub TakesFuel : Meter → List Turn → Outcome → Meter → Type 0
-TakesFuel m turns outcome m' = (left : ℕ) → m.left ≡ Some left → (left' : ℕ) × (m'.left ≡ Some left')
+abbrev pub TakesProgramFuel : Meter → List Turn → Outcome → Meter → Type 0
+TakesProgramFuel m turns outcome m' = (left : ℕ) → m.left ≡ Some left → (left' : ℕ) × (m'.left ≡ Some left')
     × IsSpent m.costs.bytes_copied_per_fuel left (left' + instructions_of outcome) turns
 
 -- no more instructions are executed than there are steps, and as many where nothing else ended the program

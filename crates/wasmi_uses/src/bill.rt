@@ -64,10 +64,7 @@ pub fn run_if_billable<L: ResourceLimiter>(
     if !is_billable(calls) {
         return Err(BillError::SetsFuel);
     }
-    match run_and_bill(machine, calls, limiter) {
-        Ok(bill) => Ok(bill),
-        Err(_) => Err(BillError::OutOfMemory),
-    }
+    run_and_bill(machine, calls, limiter).map_err(|_| BillError::OutOfMemory)
 }
 
 /// Whether no call sets the fuel.

@@ -4,7 +4,7 @@ ghost use Rattle.std.specs.Prelude.{◌≡◌, ◌<◌, Some, List, length, true
 ghost use Rattle.wasmi_meter.specs.Limiter.{optional_rules};
 ghost use Rattle.wasmi_core.specs.World.{Turn, world};
 ghost use Rattle.wasmi_core.specs.Runs.{Run};
-ghost use Rattle.wasmi_uses.specs.Interpreter.{action_of, action_at, place_after, IsGrowth, CarriesOut, is_out_of_fuel, fuel_taken, StepsAt, ExecutesProgram, TakesFuel, IsWithinSteps, HasRun};
+ghost use Rattle.wasmi_uses.specs.Interpreter.{action_of, action_at, place_after, IsGrowth, CarriesOut, is_out_of_fuel, fuel_taken, StepsAt, ExecutesProgram, TakesProgramFuel, IsWithinSteps, HasRun};
 
 use wasmi_core::{
     BinaryOp, Call, FuelError, Machine, RawVal, ReadAs, Reply, ResourceLimiter, StoreOp,
@@ -260,7 +260,7 @@ pub fn execute<L: ResourceLimiter>(
 ) -> Outcome
     ensures executed { (turns : List Turn) × ExecutesProgram (optional_rules L.rules) program.now
         (world machine.old (Some limiter.old)) turns result (world machine.new (Some limiter.new))
-        × TakesFuel machine.old.meter turns result machine.new.meter }
+        × TakesProgramFuel machine.old.meter turns result machine.new.meter }
     ensures steps { IsWithinSteps steps result }
     ensures run { HasRun (optional_rules L.rules) (world machine.old (Some limiter.old))
         (world machine.new (Some limiter.new)) }

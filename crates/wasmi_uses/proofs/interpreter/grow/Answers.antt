@@ -2,7 +2,8 @@ use Rattle.std.proofs.Common.{◌≡◌, ◌∙◌, Some, [], ◌∷◌, ap, sym
 use Rattle.wasmi_meter.specs.Limiter.{optional_rules}
 use Rattle.wasmi_core.specs.declared.calls.Call.TheVariants.{GrowMemory, SetRegister}
 use Rattle.wasmi_core.specs.World.{world}
-use Rattle.wasmi_uses.specs.Interpreter.{AreTurnsOf, grow_result}
+use Rattle.wasmi_core.specs.Runs.{AreTurns}
+use Rattle.wasmi_uses.specs.Interpreter.{grow_result}
 use Rattle.wasmi_uses.proofs.InterpreterLemmas.{answered, answered_twice, grown, ungrown}
 use Rattle.wasmi_uses.proofs.interpreter.grow.Goals.{in-Number, in-Memory}
 use Rattle.wasmi_uses.proofs.interpreter.grow.Goals as goal
@@ -34,6 +35,6 @@ returns g c =
       ran.0,
       ran.1,
       grown c.args.dst c.args.pages ran.0 c.step_lending.result c.step_lending-2.result size is
-          (subst (λ value. AreTurnsOf (GrowMemory 0 c.args.pages ∷ SetRegister c.args.dst value ∷ [])
+          (subst (λ value. AreTurns (GrowMemory 0 c.args.pages ∷ SetRegister c.args.dst value ∷ [])
           (c.step_lending.result ∷ c.step_lending-2.result ∷ []) ran.0) c.from-value.ensures ran.2),
     )
