@@ -1,7 +1,7 @@
 //! The header lines of a script.
-ghost use Rattle.std.specs.Prelude.{◌≡◌, codes, None, Some, IfErr, OnOk, OnErr};
+ghost use Rattle.std.specs.Prelude.{◌≡◌, codes};
 ghost use Rattle.wasmi_operands.specs.Acceptance.{Accepts, AcceptsWithMemory};
-ghost use Rattle.wasmi_grammar.specs.Headers.{WritesMeter, NamesLimiterAfter, WritesRegion, AreApart, tenants_of};
+ghost use Rattle.wasmi_grammar.specs.Headers.{WritesMeter, NamesLimiterAfter, WritesRegion, tenants_of};
 
 mod answers;
 
@@ -65,58 +65,6 @@ pub struct Header {
 }
 
 impl Header {
-    /// Takes in a `meter` line, of which a script has at most one.
-    pub(crate) fn take_meter(&mut self, line: MeterLine) -> Result<(), LineError>
-        ensures first { OnOk result (self.old.meter ≡ None) }
-        ensures meter { OnOk result (self.new ≡ record self.old { meter = Some line }) }
-        ensures err { OnErr result (self.new ≡ self.old) }
-        ensures bad { IfErr result (λ error. error ≡ LineError.BadCommand) }
-        ensures refused { OnErr result (¬ (self.old.meter ≡ None)) }
-    {
-        if self.meter.is_some() {
-            return Err(LineError::BadCommand);
-        }
-        self.meter = Some(line);
-        Ok(())
-    }
-
-    /// Takes in a limiter line, of which a script has at most one. A pool has no region.
-    pub(crate) fn take_limiter(&mut self, line: LimiterLine) -> Result<(), LineError>
-        ensures first { OnOk result (self.old.limiter ≡ None) }
-        ensures apart { OnOk result (AreApart (Some line) self.old.region) }
-        ensures limiter { OnOk result (self.new ≡ record self.old { limiter = Some line }) }
-        ensures err { OnErr result (self.new ≡ self.old) }
-        ensures bad { IfErr result (λ error. error ≡ LineError.BadCommand) }
-        ensures refused { OnErr result
-            (self.old.limiter ≡ None → ¬ (AreApart (Some line) self.old.region)) }
-    {
-        if self.limiter.is_some() {
-            return Err(LineError::BadCommand);
-        }
-        if self.region.is_some() && matches!(line, LimiterLine::Tenants(_)) {
-            return Err(LineError::BadCommand);
-        }
-        self.limiter = Some(line);
-        Ok(())
-    }
-
-    /// Takes in a `region` line, of which a script has at most one, and none where it has a pool.
-    pub(crate) fn take_region(&mut self, line: RegionLine) -> Result<(), LineError>
-        ensures first { OnOk result (self.old.region ≡ None) }
-        ensures apart { OnOk result (AreApart self.old.limiter (Some line)) }
-        ensures region { OnOk result (self.new ≡ record self.old { region = Some line }) }
-        ensures err { OnErr result (self.new ≡ self.old) }
-        ensures bad { IfErr result (λ error. error ≡ LineError.BadCommand) }
-        ensures refused { OnErr result
-            (self.old.region ≡ None → ¬ (AreApart self.old.limiter (Some line))) }
-    {
-        if self.region.is_some() || matches!(self.limiter, Some(LimiterLine::Tenants(_))) {
-            return Err(LineError::BadCommand);
-        }
-        self.region = Some(line);
-        Ok(())
-    }
-
     /// How many tenants the script has: none without a `tenants` line.
     pub fn tenants(&self) -> usize
         ensures { result ≡ tenants_of self.now.limiter }

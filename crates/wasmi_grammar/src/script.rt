@@ -6,9 +6,7 @@ ghost use Rattle.wasmi_grammar.specs.Headers.{WritesTenant};
 ghost use Rattle.wasmi_grammar.specs.Lines.{WritesScript, NamesLine, calls_of};
 ghost use Rattle.wasmi_grammar.specs.Refusals.{IsParseError};
 
-use crate::command::{
-    access, dropping, fuel, global, lane, memory, register, segment, table, vector, vector_access,
-};
+use crate::command::{access, memory, table, values, vector};
 use crate::error::ParseError;
 use crate::header::{
     Header, LimiterLine, MeterLine, RegionLine, listed, meter_line, quota, region_line, tenants,
@@ -199,34 +197,54 @@ impl Script {
         }
     }
 
-    /// Takes in a `meter` line.
+    /// Takes in a `meter` line, of which a script has at most one.
     fn take_meter(&mut self, line: MeterLine) -> Result<(), LineError>
         ensures ok { OnOk result (AddsMeter self.old line self.new) }
+        ensures err { OnErr result (self.new ≡ self.old) }
         ensures bad { IfErr result (λ error. error ≡ LineError.BadCommand) }
         ensures refused { OnErr result ((new : Script) → ¬ (AddsMeter self.old line new)) }
     {
         self.expect_no_commands()?;
-        self.header.take_meter(line)
+        if self.header.meter.is_some() {
+            return Err(LineError::BadCommand);
+        }
+        self.header.meter = Some(line);
+        Ok(())
     }
 
-    /// Takes in a limiter line.
+    /// Takes in a limiter line, of which a script has at most one. A pool has no region.
     fn take_limiter(&mut self, line: LimiterLine) -> Result<(), LineError>
         ensures ok { OnOk result (AddsLimiter self.old line self.new) }
+        ensures err { OnErr result (self.new ≡ self.old) }
         ensures bad { IfErr result (λ error. error ≡ LineError.BadCommand) }
         ensures refused { OnErr result ((new : Script) → ¬ (AddsLimiter self.old line new)) }
     {
         self.expect_no_commands()?;
-        self.header.take_limiter(line)
+        if self.header.limiter.is_some() {
+            return Err(LineError::BadCommand);
+        }
+        if self.header.region.is_some() && matches!(line, LimiterLine::Tenants(_)) {
+            return Err(LineError::BadCommand);
+        }
+        self.header.limiter = Some(line);
+        Ok(())
     }
 
-    /// Takes in a `region` line.
+    /// Takes in a `region` line, of which a script has at most one, and none beside a pool.
     fn take_region(&mut self, line: RegionLine) -> Result<(), LineError>
         ensures ok { OnOk result (AddsRegion self.old line self.new) }
+        ensures err { OnErr result (self.new ≡ self.old) }
         ensures bad { IfErr result (λ error. error ≡ LineError.BadCommand) }
         ensures refused { OnErr result ((new : Script) → ¬ (AddsRegion self.old line new)) }
     {
         self.expect_no_commands()?;
-        self.header.take_region(line)
+        if self.header.region.is_some()
+            || matches!(self.header.limiter, Some(LimiterLine::Tenants(_)))
+        {
+            return Err(LineError::BadCommand);
+        }
+        self.header.region = Some(line);
+        Ok(())
     }
 
     /// Header lines stand before all commands.
@@ -311,12 +329,12 @@ fn command(alloc: Global, name: &str, operands: &[&str]) -> Result<Call, LineErr
     ensures { AcceptsWithMemory result (NamesAfter name.now operands.now) }
 {
     match name {
-        "fuel" => fuel::set_fuel(operands),
-        "left" => fuel::get_fuel(operands),
+        "fuel" => values::set_fuel(operands),
+        "left" => values::get_fuel(operands),
         "memory" => memory::new_memory(operands),
         "lent" => memory::new_lent_memory(operands),
         "grow" => memory::grow(operands),
-        "drop" => dropping::drop_live(operands),
+        "drop" => memory::drop_live(operands),
         "read" => memory::read(operands),
         "write" => memory::write(alloc, operands),
         "load" => access::load(operands),
@@ -328,26 +346,26 @@ fn command(alloc: Global, name: &str, operands: &[&str]) -> Result<Call, LineErr
         "init" => table::init(operands),
         "copy" => table::copy(operands),
         "fill" => table::fill(operands),
-        "segment" => segment::new_segment(alloc, operands),
-        "empty" => segment::empty(operands),
-        "global" => global::new_global(operands),
-        "gset" => global::set(operands),
-        "gget" => global::get(operands),
-        "set" => register::set(operands),
-        "show" => register::show(operands),
+        "segment" => table::new_segment(alloc, operands),
+        "empty" => table::empty(operands),
+        "global" => values::new_global(operands),
+        "gset" => values::set_global(operands),
+        "gget" => values::get_global(operands),
+        "set" => values::set_register(operands),
+        "show" => values::get_register(operands),
         "make" => vector::make(operands),
         "unary" => vector::unary(operands),
         "binary" => vector::binary(operands),
         "ternary" => vector::ternary(operands),
         "shift" => vector::shift(operands),
         "test" => vector::test(operands),
-        "extract" => lane::extract(operands),
-        "replace" => lane::replace(operands),
-        "shuffle" => lane::shuffle(operands),
-        "vload" => vector_access::load(operands),
-        "vloadlane" => vector_access::load_lane(operands),
-        "vstore" => vector_access::store(operands),
-        "vstorelane" => vector_access::store_lane(operands),
+        "extract" => vector::extract(operands),
+        "replace" => vector::replace(operands),
+        "shuffle" => vector::shuffle(operands),
+        "vload" => access::vector_load(operands),
+        "vloadlane" => access::load_lane(operands),
+        "vstore" => access::vector_store(operands),
+        "vstorelane" => access::store_lane(operands),
         _ => Err(LineError::BadCommand),
     }
 }

@@ -1,4 +1,4 @@
-//! Commands of memories.
+//! Commands of memories, and those that drop a memory or a table.
 ghost use Rattle.std.specs.Prelude.{codes};
 ghost use Rattle.wasmi_operands.specs.Acceptance.{Accepts, AcceptsWithMemory};
 ghost use Rattle.wasmi_grammar.specs.Commands.{NamesAfter};
@@ -62,6 +62,21 @@ pub fn write(alloc: Global, operands: &[&str]) -> Result<Call, LineError>
         offset: number(offset)?,
         bytes: list_of(alloc, bytes)?,
     })
+}
+
+/// `drop memory K` and `drop table K`.
+pub fn drop_live(operands: &[&str]) -> Result<Call, LineError>
+    ensures { Accepts result (NamesAfter (codes "drop") operands.now) }
+{
+    let [kind, index] = operands else {
+        return Err(LineError::BadCommand);
+    };
+    let index = number(index)?;
+    match *kind {
+        "memory" => Ok(Call::DropMemory(index)),
+        "table" => Ok(Call::DropTable(index)),
+        _ => Err(LineError::BadCommand),
+    }
 }
 
 /// The memory type of these words, if there is such a type.

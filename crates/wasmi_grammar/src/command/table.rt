@@ -1,12 +1,14 @@
-//! Commands of tables.
+//! Commands of tables and element segments.
 ghost use Rattle.std.specs.Prelude.{◌≡◌, ◌<◌, ◌^◌, codes, IfErr};
 ghost use Rattle.std.specs.Result.{OkIff};
-ghost use Rattle.wasmi_operands.specs.Acceptance.{Accepts};
+ghost use Rattle.wasmi_operands.specs.Acceptance.{Accepts, AcceptsWithMemory};
 ghost use Rattle.wasmi_grammar.specs.Commands.{NamesAfter};
 ghost use Rattle.wasmi_grammar.specs.TableWords.{HasLimits, NamesTableType};
 
+use std::alloc::Global;
 use wasmi_core::{Call, IndexType, RefType, TableType, TypedRawRef};
-use wasmi_operands::{LineError, index_ty, number, number_or_none, operand, ref_type, reference};
+use wasmi_operands::operand::{self, list_of};
+use wasmi_operands::{LineError, index_ty, number, number_or_none, ref_type, reference};
 
 /// `table T MIN X WIDTH T N`.
 pub fn new_table(operands: &[&str]) -> Result<Call, LineError>
@@ -92,6 +94,29 @@ pub fn fill(operands: &[&str]) -> Result<Call, LineError>
         value: TypedRawRef::new(raw, ty),
         len,
     })
+}
+
+/// `segment T N ...`, which may have no reference.
+pub fn new_segment(alloc: Global, operands: &[&str]) -> Result<Call, LineError>
+    ensures { AcceptsWithMemory result (NamesAfter (codes "segment") operands.now) }
+{
+    let [ty, items @ ..] = operands else {
+        return Err(LineError::BadCommand);
+    };
+    Ok(Call::NewSegment {
+        ty: ref_type(ty)?,
+        items: list_of(alloc, items)?,
+    })
+}
+
+/// `empty K`.
+pub fn empty(operands: &[&str]) -> Result<Call, LineError>
+    ensures { Accepts result (NamesAfter (codes "empty") operands.now) }
+{
+    let [segment] = operands else {
+        return Err(LineError::BadCommand);
+    };
+    Ok(Call::DropItems(number(segment)?))
 }
 
 /// The table type of these words, if there is such a type.

@@ -1,10 +1,14 @@
-//! Commands of vector instructions whose operands are registers.
+//! Commands of vector instructions whose operands are registers and indices of lanes.
 ghost use Rattle.std.specs.Prelude.{codes};
 ghost use Rattle.wasmi_operands.specs.Acceptance.{Accepts};
 ghost use Rattle.wasmi_grammar.specs.Commands.{NamesAfter};
+ghost use Rattle.wasmi_operands.specs.LaneNames.{WritesLanes};
 
 use wasmi_core::Call;
-use wasmi_operands::{LineError, operand};
+use wasmi_core::simd::ImmLaneIdx32;
+use wasmi_operands::LineError;
+use wasmi_operands::names::lane::{extract_op, index, replace_op};
+use wasmi_operands::operand::{self, Operand};
 
 /// `make NAME D A`.
 pub fn make(operands: &[&str]) -> Result<Call, LineError>
@@ -52,4 +56,57 @@ pub fn test(operands: &[&str]) -> Result<Call, LineError>
 {
     let (op, a) = operand::two(operands)?;
     Ok(Call::Test { op, a })
+}
+
+/// `extract NAME A LANE`.
+pub fn extract(operands: &[&str]) -> Result<Call, LineError>
+    ensures { Accepts result (NamesAfter (codes "extract") operands.now) }
+{
+    let [name, a, lane] = operands else {
+        return Err(LineError::BadCommand);
+    };
+    Ok(Call::Extract {
+        op: extract_op(name, lane)?,
+        a: Operand::from_word(a)?,
+    })
+}
+
+/// `replace NAME D A LANE B`.
+pub fn replace(operands: &[&str]) -> Result<Call, LineError>
+    ensures { Accepts result (NamesAfter (codes "replace") operands.now) }
+{
+    let [name, dst, a, lane, item] = operands else {
+        return Err(LineError::BadCommand);
+    };
+    Ok(Call::Replace {
+        op: replace_op(name, lane)?,
+        dst: Operand::from_word(dst)?,
+        a: Operand::from_word(a)?,
+        item: Operand::from_word(item)?,
+    })
+}
+
+/// `shuffle D A B LANE ...`, with sixteen lanes.
+pub fn shuffle(operands: &[&str]) -> Result<Call, LineError>
+    ensures { Accepts result (NamesAfter (codes "shuffle") operands.now) }
+{
+    let [dst, a, b, lanes @ ..] = operands else {
+        return Err(LineError::BadCommand);
+    };
+    Ok(Call::Shuffle {
+        dst: Operand::from_word(dst)?,
+        a: Operand::from_word(a)?,
+        b: Operand::from_word(b)?,
+        lanes: lanes_of(lanes)?,
+    })
+}
+
+/// The indices of lanes that sixteen words write, one each.
+fn lanes_of(words: &[&str]) -> Result<[ImmLaneIdx32; 16], LineError>
+    ensures { Accepts result (WritesLanes words.now) }
+{
+    let Some(words) = words.as_array::<16>() else {
+        return Err(LineError::BadCommand);
+    };
+    words.try_map(|word| index(word))
 }
