@@ -42,8 +42,8 @@ use Rattle.wasmi_script.specs.Printing.{line}
 use Rattle.wasmi_script.specs.Texts.{kind_text, reply_text, error_text}
 use Rattle.wasmi_script.specs.declared.listed_limiter.AnswerList.{AnswerList}
 use Rattle.wasmi_grammar.specs.declared.header.answers.AnswerWord.{AnswerWord}
-use Rattle.wasmi_script.specs.Replays.{IsNewQuota, IsListedReplay, IsReplayUnder, IsReplayOnOne}
-use Rattle.wasmi_script.specs.Replays.{IsReplayBy, IsReplayOf, AnswersParts, new_pool}
+use Rattle.wasmi_script.specs.ScriptRuns.{IsNewQuota, IsListedReplay, IsReplayUnder, IsReplayOnOne}
+use Rattle.wasmi_script.specs.ScriptRuns.{IsReplayBy, IsReplayOf, AnswersParts, new_pool}
 use Rattle.wasmi_grammar.specs.Parts.{TenantRun, parts_in, calls_in}
 use Rattle.wasmi_grammar.specs.Lines.{calls_of}
 use Rattle.wasmi_script.specs.Outcomes.{replies_text, held_text}

@@ -12,7 +12,7 @@ use Rattle.wasmi_store.specs.declared.table.element.SegmentError.TheVariants as 
 use Rattle.wasmi_core.specs.declared.calls.Call.{Call}
 use Rattle.wasmi_core.specs.declared.calls.Call.TheVariants.{GetFuel}
 use Rattle.wasmi_core.specs.declared.calls.Reply.{Reply}
-use Rattle.wasmi_core.specs.declared.calls.Reply.TheVariants.{Done, Made, Value, Number, Bytes, Reference, Memory, Table, Fuel, Global, Segment, Trap, NoSuch, NoRegion, NoRoom}
+use Rattle.wasmi_core.specs.declared.calls.Reply.TheVariants as reply
 use Rattle.wasmi_script.specs.declared.error.ReplayError.{ReplayError}
 use Rattle.wasmi_script.specs.declared.error.ReplayError.TheVariants.{Parse, TooLong, ReadFault}
 use Rattle.wasmi_grammar.specs.declared.error.ParseError.TheVariants.{BadCommand, OutOfMemory}
@@ -104,31 +104,31 @@ byte_short byte = omega (arith, numbered (codes " ") byte (lit≤ tt))
 
 -- a reply without the numbers of its bytes
 pub head_short : (call : Call) (reply : Reply) → length (head_text call reply) < 256
-head_short call Done = lit< tt
-head_short call (Made index) = omega (arith, one_number (kind_text call) index (omega (arith, kind_short call)))
-head_short call (Value value) = omega (arith, two_numbers (codes "raw ") value.lo value.hi (lit≤ tt))
-head_short call (Number number) = omega (arith, numbered (codes "value ") number (lit≤ tt))
-head_short call (Bytes bytes) = lit< tt
-head_short call (Reference None) = lit< tt
-head_short call (Reference (Some reference)) =
+head_short call reply.Done = lit< tt
+head_short call (reply.Made index) = omega (arith, one_number (kind_text call) index (omega (arith, kind_short call)))
+head_short call (reply.Value value) = omega (arith, two_numbers (codes "raw ") value.lo value.hi (lit≤ tt))
+head_short call (reply.Number number) = omega (arith, numbered (codes "value ") number (lit≤ tt))
+head_short call (reply.Bytes bytes) = lit< tt
+head_short call (reply.Reference None) = lit< tt
+head_short call (reply.Reference (Some reference)) =
     omega (arith, one_number (reference_word reference.ty) reference.raw (omega (arith, reference_short reference.ty)))
-head_short call (Memory (memory.OutOfFuel required)) =
+head_short call (reply.Memory (memory.OutOfFuel required)) =
     failed (codes "not enough fuel. required=") required (lit≤ tt)
-head_short call (Memory error) = lit< tt
-head_short call (Table (table.OutOfFuel required)) =
+head_short call (reply.Memory error) = lit< tt
+head_short call (reply.Table (table.OutOfFuel required)) =
     failed (codes "not enough fuel: required=") required (lit≤ tt)
-head_short call (Table error) = lit< tt
-head_short call (Fuel fuel.FuelMeteringDisabled) = lit< tt
-head_short call (Fuel (fuel.OutOfFuel required)) = failed (codes "ouf of fuel. required=") required (lit≤ tt)
-head_short call (Global ImmutableWrite) = lit< tt
-head_short call (Global TypeMismatch) = lit< tt
-head_short call (Segment segment.TooManyItems) = lit< tt
-head_short call (Segment segment.OutOfSystemMemory) = lit< tt
-head_short call (Trap trap.OutOfFuel) = lit< tt
-head_short call (Trap code) = lit< tt
-head_short call NoSuch = lit< tt
-head_short call NoRegion = lit< tt
-head_short call NoRoom = lit< tt
+head_short call (reply.Table error) = lit< tt
+head_short call (reply.Fuel fuel.FuelMeteringDisabled) = lit< tt
+head_short call (reply.Fuel (fuel.OutOfFuel required)) = failed (codes "ouf of fuel. required=") required (lit≤ tt)
+head_short call (reply.Global ImmutableWrite) = lit< tt
+head_short call (reply.Global TypeMismatch) = lit< tt
+head_short call (reply.Segment segment.TooManyItems) = lit< tt
+head_short call (reply.Segment segment.OutOfSystemMemory) = lit< tt
+head_short call (reply.Trap trap.OutOfFuel) = lit< tt
+head_short call (reply.Trap code) = lit< tt
+head_short call reply.NoSuch = lit< tt
+head_short call reply.NoRegion = lit< tt
+head_short call reply.NoRoom = lit< tt
 
 -- why a script isn't run
 pub error_short : (error : ReplayError) → length (error_text error) < 256

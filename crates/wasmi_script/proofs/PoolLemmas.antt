@@ -6,7 +6,7 @@ use Rattle.std.proofs.lemmas.Option.{slice_get_within, get_or_from_slice_get}
 use Rattle.wasmi_core.specs.declared.calls.Reply.{Reply}
 use Rattle.wasmi_budget.specs.Pool.{PoolValue, RunsTenant}
 use Rattle.wasmi_grammar.specs.Parts.{TenantRun}
-use Rattle.wasmi_script.specs.Replays.{AnswersParts}
+use Rattle.wasmi_script.specs.ScriptRuns.{AnswersParts}
 
 -- one part more
 one_part : (parts : List TenantRun) (replies : List Reply) (part : TenantRun) (answered : List Reply)

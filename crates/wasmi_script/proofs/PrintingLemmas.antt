@@ -11,15 +11,15 @@ use Rattle.std.specs.declared.option.Option.{Option}
 use Rattle.std.specs.Io.KnownBytes.{Appends}
 use Rattle.std.proofs.KnownBytes.{Appends-nil, Appends-trans}
 use Rattle.wasmi_script.specs.declared.printing.Printer.{Printer}
-use Rattle.wasmi_script.specs.Printing.{AppendsFront, Passes, Prints, PrintsFront, PrintsOut, Sends, SendsFront}
+use Rattle.wasmi_script.specs.Printing.{AppendsFront, AddsText, Prints, PrintsFront, PrintsOut, Sends, SendsFront}
 
 -- no text
-passes_none : (known : Option (List ℕ)) (waiting : List ℕ) → Passes known known waiting waiting []
+passes_none : (known : Option (List ℕ)) (waiting : List ℕ) → AddsText known known waiting waiting []
 passes_none known waiting = ([], append-nil waiting, Appends-nil known)
 
 -- one text more
-passes_more : (a b c : Option (List ℕ)) (u v w s t : List ℕ) → Passes a b u v s → Passes b c v w t
-    → Passes a c u w (s ++ t)
+passes_more : (a b c : Option (List ℕ)) (u v w s t : List ℕ) → AddsText a b u v s → AddsText b c v w t
+    → AddsText a c u w (s ++ t)
 passes_more a b c u v w s t (front, split, sent) (front', split', sent') = (
   front ++ front',
   sym (append_assoc u s t) ∙ ap (λ l. l ++ t) split ∙ append_assoc front v t ∙ ap (λ l. front ++ l) split'
@@ -33,7 +33,7 @@ front_longer a b s t (front, rest, split, sent) =
     (front, rest ++ t, ap (λ l. l ++ t) split ∙ append_assoc front rest t, sent)
 
 -- what goes out after a text
-front_after : (a b c : Option (List ℕ)) (u v s t : List ℕ) → Passes a b u v s → AppendsFront b c (v ++ t)
+front_after : (a b c : Option (List ℕ)) (u v s t : List ℕ) → AddsText a b u v s → AppendsFront b c (v ++ t)
     → AppendsFront a c (u ++ (s ++ t))
 front_after a b c u v s t (front, split, sent) (front', rest, split', sent') = (
   front ++ front',
@@ -44,21 +44,21 @@ front_after a b c u v s t (front, split, sent) (front', rest, split', sent') = (
 )
 
 -- a text waits beside what waited
-passes_waits : (a : Option (List ℕ)) (u v s : List ℕ) → v ≡ u ++ s → Passes a a u v s
+passes_waits : (a : Option (List ℕ)) (u v s : List ℕ) → v ≡ u ++ s → AddsText a a u v s
 passes_waits a u v s same = ([], sym same, Appends-nil a)
 
 -- what went out of a text that was printed in part goes out of a longer one
-front_part : (a b : Option (List ℕ)) (u v s t : List ℕ) → Passes a b u v s → AppendsFront a b (u ++ (s ++ t))
+front_part : (a b : Option (List ℕ)) (u v s t : List ℕ) → AddsText a b u v s → AppendsFront a b (u ++ (s ++ t))
 front_part a b u v s t (front, split, sent) =
     (front, v ++ t, sym (append_assoc u s t) ∙ ap (λ l. l ++ t) split ∙ append_assoc front v t, sent)
 
 -- a text that is printed, and then what waits
-passes_flushed : (a b c : Option (List ℕ)) (u v s : List ℕ) → Passes a b u v s → Appends b c v → Appends a c (u ++ s)
+passes_flushed : (a b c : Option (List ℕ)) (u v s : List ℕ) → AddsText a b u v s → Appends b c v → Appends a c (u ++ s)
 passes_flushed a b c u v s (front, split, sent) flushed =
     subst (Appends a c) (sym split) (Appends-trans a b c front v sent flushed)
 
 -- a text that is printed, and then a front of what waits
-front_flushed : (a b c : Option (List ℕ)) (u v s : List ℕ) → Passes a b u v s → AppendsFront b c v
+front_flushed : (a b c : Option (List ℕ)) (u v s : List ℕ) → AddsText a b u v s → AppendsFront b c v
     → AppendsFront a c (u ++ s)
 front_flushed a b c u v s (front, split, sent) (front', rest, split', sent') = (
   front ++ front',
@@ -92,10 +92,11 @@ err_weaker (Ok x) weaker p = tt
 err_weaker (Err e) weaker p = weaker p
 
 -- a text in two parts
-passes_then : (a b c : Option (List ℕ)) (u v w s t text : List ℕ) → text ≡ s ++ t → Passes a b u v s → Passes b c v w t
-    → Passes a c u w text
+passes_then : (a b c : Option (List ℕ)) (u v w s t text : List ℕ) → text ≡ s ++ t → AddsText a b u v s
+    → AddsText b c v w t
+    → AddsText a c u w text
 passes_then a b c u v w s t text is first second =
-    subst (Passes a c u w) (sym is) (passes_more a b c u v w s t first second)
+    subst (AddsText a c u w) (sym is) (passes_more a b c u v w s t first second)
 
 -- the front of a text whose first part is printed in part
 front_first : (a b : Option (List ℕ)) (u s rest text : List ℕ) → text ≡ s ++ rest → AppendsFront a b (u ++ s)
@@ -104,7 +105,7 @@ front_first a b u s rest text is sent =
     subst (AppendsFront a b) (append_assoc u s rest ∙ ap (λ t. u ++ t) (sym is)) (front_longer a b (u ++ s) rest sent)
 
 -- the front of a text whose first part is printed, and a later one in part
-front_then : (a b c : Option (List ℕ)) (u v s t rest text : List ℕ) → text ≡ s ++ (t ++ rest) → Passes a b u v s
+front_then : (a b c : Option (List ℕ)) (u v s t rest text : List ℕ) → text ≡ s ++ (t ++ rest) → AddsText a b u v s
     → AppendsFront b c (v ++ t) → AppendsFront a c (u ++ text)
 front_then a b c u v s t rest text is first sent =
     subst (λ x. AppendsFront a c (u ++ x)) (sym is)
@@ -175,7 +176,7 @@ module _ {W : Type 0} (contents : W → Option (List ℕ)) where
   waits p q text same is =
       record {
         writer = ap (λ w. w.ghost_name) same;
-        passed = subst (λ w. Passes (contents p.writer.now) (contents w.now) p.chunk.bytes q.chunk.bytes text)
+        passed = subst (λ w. AddsText (contents p.writer.now) (contents w.now) p.chunk.bytes q.chunk.bytes text)
             (sym same) (passes_waits _ _ _ text is);
       }
 

@@ -11,7 +11,7 @@ use Rattle.wasmi_core.specs.World.{World}
 use Rattle.wasmi_core.specs.Runs.{IsRunOf}
 use Rattle.wasmi_grammar.specs.declared.header.Header.{Header}
 use Rattle.wasmi_grammar.specs.Headers.{meter_of, region_bytes, start_of}
-use Rattle.wasmi_script.specs.Replays.{nothing_held}
+use Rattle.wasmi_script.specs.ScriptRuns.{nothing_held}
 
 -- a machine with the meter of these header lines and with their region is the one that a script starts with
 pub starts : {A : Type 0} (header : Header) (machine : State) (seen region : Option (Vec ℕ A))

@@ -6,7 +6,7 @@ use Rattle.wasmi_grammar.specs.declared.error.ParseError.TheVariants.{OutOfMemor
 use Rattle.wasmi_grammar.specs.declared.header.LimiterLine.{LimiterLine}
 use Rattle.wasmi_grammar.specs.declared.header.LimiterLine.TheVariants.{Answers}
 use Rattle.wasmi_script.specs.ListedLimiter.{notice_answer_by}
-use Rattle.wasmi_script.specs.Outcomes.{Outcome, IsOutcomeOf, outcome_text}
+use Rattle.wasmi_script.specs.Outcomes.{ReplayOutcome, IsOutcomeOf, outcome_text}
 use Rattle.wasmi_script.specs.Status.{status_after}
 
 -- no word of an `answers` line is `complain`: each notice is accepted
@@ -16,18 +16,19 @@ HasNoComplain limiter = ⊤
 
 -- Memory isn't refused and the reader doesn't fail: no reply says out of memory, and no word is `complain`, so that no
 -- notice of it is answered by another error.
-abbrev pub IsDecided : Outcome → Type 0
+abbrev pub IsDecided : ReplayOutcome → Type 0
 IsDecided (Ok replayed) = All HasMemory replayed.ran.replies.items × HasNoComplain replayed.script.header.limiter
 IsDecided (Err (Parse OutOfMemory)) = ⊥
 IsDecided (Err ReadFault) = ⊥
 IsDecided (Err error) = ⊤
 
 -- two outcomes print the same text and end in the same way
-pub record EndAlike (outcome outcome' : Outcome) : Type 0 where
+pub record EndAlike (outcome outcome' : ReplayOutcome) : Type 0 where
   pub text : outcome_text outcome ≡ outcome_text outcome'
   pub status : status_after outcome ≡ status_after outcome'
 
 -- two outcomes of the same bytes that these decide end alike
 abbrev pub OutcomesAreOne : Type 0
-OutcomesAreOne = (bytes : List ℕ) (outcome outcome' : Outcome) → IsOutcomeOf bytes outcome → IsOutcomeOf bytes outcome'
+OutcomesAreOne =
+    (bytes : List ℕ) (outcome outcome' : ReplayOutcome) → IsOutcomeOf bytes outcome → IsOutcomeOf bytes outcome'
     → IsDecided outcome → IsDecided outcome' → EndAlike outcome outcome'

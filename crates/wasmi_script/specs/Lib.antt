@@ -1,7 +1,7 @@
 pub mod ListedLimiter
 pub mod Refusals
 pub mod Printing
-pub mod Replays
+pub mod ScriptRuns
 pub mod Status
 pub mod Texts
 pub mod Outcomes

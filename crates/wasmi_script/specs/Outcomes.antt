@@ -20,7 +20,7 @@ use Rattle.wasmi_grammar.specs.Lines.{WritesScript, calls_of}
 use Rattle.wasmi_grammar.specs.Refusals.{IsFirstBadLine}
 use Rattle.wasmi_grammar.specs.declared.error.ParseError.TheVariants.{BadCommand, OutOfMemory}
 use Rattle.wasmi_script.specs.Printing.{AppendsFront, line}
-use Rattle.wasmi_script.specs.Replays.{IsReplayOf}
+use Rattle.wasmi_script.specs.ScriptRuns.{IsReplayOf}
 use Rattle.wasmi_script.specs.Status.{status_after}
 use Rattle.wasmi_script.specs.Texts.{reply_text, error_text}
 
@@ -49,18 +49,18 @@ held_text (Quota held) = line (amounts_text held.bytes held.elements)
 held_text (Tenants pool) = tenants_text pool.machines
 
 -- a script with its replies, or why it isn't run
-abbrev pub Outcome : Type 0
-Outcome = Result Replayed ReplayError
+abbrev pub ReplayOutcome : Type 0
+ReplayOutcome = Result Replayed ReplayError
 
 -- what is printed: the replies and what is held then, or why the script isn't run
-abbrev pub outcome_text : Outcome → List ℕ
+abbrev pub outcome_text : ReplayOutcome → List ℕ
 outcome_text (Ok replayed) =
     replies_text (calls_of replayed.script) replayed.ran.replies.items ++ held_text replayed.ran.held
 outcome_text (Err error) = line (error_text error)
 
 -- The outcome of the bytes of a reader: a run of the script that they write, a line that is no command, or that they
 -- are too many. Memory may be refused at any script, and the reader may fail.
-abbrev pub IsOutcomeOf : List ℕ → Outcome → Type 0
+abbrev pub IsOutcomeOf : List ℕ → ReplayOutcome → Type 0
 IsOutcomeOf bytes (Ok replayed) =
     (length bytes ≤ LIMIT) × WritesScript bytes replayed.script × IsReplayOf replayed.script replayed.ran
 IsOutcomeOf bytes (Err (Parse (BadCommand number))) = (length bytes ≤ LIMIT) × IsFirstBadLine bytes number
@@ -69,18 +69,18 @@ IsOutcomeOf bytes (Err TooLong) = LIMIT < length bytes
 IsOutcomeOf bytes (Err ReadFault) = ⊤
 
 -- the writer has got the whole text and the status is the outcome's, or it has got a front of the text and failed
-abbrev pub PrintsOutcome : Option (List ℕ) → Option (List ℕ) → Outcome → Status → Type 0
+abbrev pub PrintsOutcome : Option (List ℕ) → Option (List ℕ) → ReplayOutcome → Status → Type 0
 PrintsOutcome old new outcome status =
     (Appends old new (outcome_text outcome) × (status ≡ status_after outcome))
     ⊎ (AppendsFront old new (outcome_text outcome) × (status ≡ Fault))
 
 -- an outcome of some bytes, which are those of a reader where it tells them
-abbrev pub IsOutcomeOfReader : Option (List ℕ) → Outcome → Type 0
+abbrev pub IsOutcomeOfReader : Option (List ℕ) → ReplayOutcome → Type 0
 IsOutcomeOfReader given outcome =
     (bytes : List ℕ) × IfSome given (λ told. told ≡ bytes) × IsOutcomeOf bytes outcome
 
 -- the bytes of a reader have an outcome, and a writer has got it
 pub record Replays (given old new : Option (List ℕ)) (status : Status) : Type 0 where
-  pub outcome : Outcome
+  pub outcome : ReplayOutcome
   pub of_bytes : IsOutcomeOfReader given outcome
   pub printed : PrintsOutcome old new outcome status

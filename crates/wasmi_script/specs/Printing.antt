@@ -18,14 +18,15 @@ abbrev pub AppendsFront : Option (List ℕ) → Option (List ℕ) → List ℕ �
 AppendsFront old new text = (front : List ℕ) × (rest : List ℕ) × (text ≡ front ++ rest) × Appends old new front
 
 -- a text comes after what waits: known bytes grow by the front of both, and the rest waits
-abbrev pub Passes : Option (List ℕ) → Option (List ℕ) → List ℕ → List ℕ → List ℕ → Type 0
-Passes old new waiting waiting' text = (front : List ℕ) × (waiting ++ text ≡ front ++ waiting') × Appends old new front
+abbrev pub AddsText : Option (List ℕ) → Option (List ℕ) → List ℕ → List ℕ → List ℕ → Type 0
+AddsText old new waiting waiting' text =
+    (front : List ℕ) × (waiting ++ text ≡ front ++ waiting') × Appends old new front
 
 -- A printer before and after a text is printed, by the bytes that its writer is known to have: it keeps its writer,
 -- and the text comes after what waits.
 pub record Prints {W : Type 0} (contents : W → Option (List ℕ)) (old new : Printer W) (text : List ℕ) : Type 0 where
   pub writer : new.writer.ghost_name ≡ old.writer.ghost_name
-  pub passed : Passes (contents old.writer.now) (contents new.writer.now) old.chunk.bytes new.chunk.bytes text
+  pub passed : AddsText (contents old.writer.now) (contents new.writer.now) old.chunk.bytes new.chunk.bytes text
 
 -- a text is printed in part: the writer gets the front of what waits and of the text
 pub record PrintsFront {W : Type 0} (contents : W → Option (List ℕ)) (old new : Printer W)

@@ -9,7 +9,7 @@ use Rattle.wasmi_store.specs.SegmentError.{segment_error_text}
 use Rattle.wasmi_core.specs.declared.calls.Call.{Call}
 use Rattle.wasmi_core.specs.declared.calls.Call.TheVariants.{NewMemory, NewLentMemory, NewTable, NewSegment, NewGlobal}
 use Rattle.wasmi_core.specs.declared.calls.Reply.{Reply}
-use Rattle.wasmi_core.specs.declared.calls.Reply.TheVariants.{Done, Made, Value, Number, Bytes, Reference, Memory, Table, Fuel, Global, Segment, Trap, NoSuch, NoRegion, NoRoom}
+use Rattle.wasmi_core.specs.declared.calls.Reply.TheVariants as reply
 use Rattle.wasmi_script.specs.declared.error.ReplayError.{ReplayError}
 use Rattle.wasmi_script.specs.declared.error.ReplayError.TheVariants.{Parse, TooLong, ReadFault}
 use Rattle.wasmi_grammar.specs.declared.error.ParseError.TheVariants.{BadCommand, OutOfMemory}
@@ -35,25 +35,25 @@ element_text (Some reference) = reference_word reference.ty ++ (codes " " ++ dec
 
 -- the reply to a call, but for the numbers of its bytes
 abbrev pub head_text : Call → Reply → List ℕ
-head_text call Done = codes "done"
-head_text call (Made index) = kind_text call ++ (codes " " ++ decimal index)
-head_text call (Value value) = codes "raw " ++ (decimal value.lo ++ (codes " " ++ decimal value.hi))
-head_text call (Number number) = codes "value " ++ decimal number
-head_text call (Bytes bytes) = codes "bytes"
-head_text call (Reference element) = element_text element
-head_text call (Memory error) = codes "error " ++ memory_error_text error
-head_text call (Table error) = codes "error " ++ table_error_text error
-head_text call (Fuel error) = codes "error " ++ fuel_error_text error
-head_text call (Global error) = codes "error " ++ global_error_text error
-head_text call (Segment error) = codes "error " ++ segment_error_text error
-head_text call (Trap code) = codes "error " ++ code_message code
-head_text call NoSuch = codes "no such"
-head_text call NoRegion = codes "no region"
-head_text call NoRoom = codes "no room"
+head_text call reply.Done = codes "done"
+head_text call (reply.Made index) = kind_text call ++ (codes " " ++ decimal index)
+head_text call (reply.Value value) = codes "raw " ++ (decimal value.lo ++ (codes " " ++ decimal value.hi))
+head_text call (reply.Number number) = codes "value " ++ decimal number
+head_text call (reply.Bytes bytes) = codes "bytes"
+head_text call (reply.Reference element) = element_text element
+head_text call (reply.Memory error) = codes "error " ++ memory_error_text error
+head_text call (reply.Table error) = codes "error " ++ table_error_text error
+head_text call (reply.Fuel error) = codes "error " ++ fuel_error_text error
+head_text call (reply.Global error) = codes "error " ++ global_error_text error
+head_text call (reply.Segment error) = codes "error " ++ segment_error_text error
+head_text call (reply.Trap code) = codes "error " ++ code_message code
+head_text call reply.NoSuch = codes "no such"
+head_text call reply.NoRegion = codes "no region"
+head_text call reply.NoRoom = codes "no room"
 
 -- the bytes that a reply tells
 abbrev pub bytes_in : Reply → List ℕ
-bytes_in (Bytes bytes) = bytes
+bytes_in (reply.Bytes bytes) = bytes
 bytes_in reply = []
 
 -- the reply to a call: its head, and a number for each byte that it tells

@@ -9,6 +9,6 @@ mod replaying;
 mod running;
 
 pub use error::ReplayError;
-pub use printing::ReplyHead;
+pub use printing::{ReplyHead, print_lines};
 pub use replaying::{LIMIT, Status, replay};
 pub use wasmi_grammar::ParseError;

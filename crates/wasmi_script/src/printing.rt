@@ -45,6 +45,35 @@ pub fn print<W: io::Write>(writer: &mut W, outcome: &Result<Replayed, ReplayErro
     printed
 }
 
+/// Prints a line for each call with its reply, to the last byte.
+pub fn print_lines<W: io::Write>(writer: &mut W, calls: &[Call], replies: &[Reply]) -> fmt::Result
+    ensures ok { OnOk result (Appends (W.contents writer.old) (W.contents writer.new)
+        (replies_text calls.now replies.now)) }
+    ensures front { OnErr result (AppendsFront (W.contents writer.old) (W.contents writer.new)
+        (replies_text calls.now replies.now)) }
+{
+    let mut printer = Printer::new(writer);
+    let printed = print_all_replies(&mut printer, calls, replies);
+    // No effect at run time: the proof reads what the writer has from this use.
+    let _ = &*printer.into_writer();
+    printed
+}
+
+/// Prints a line for each call with its reply, and flushes the writer.
+fn print_all_replies<W: io::Write>(
+    printer: &mut Printer<'_, W>,
+    calls: &[Call],
+    replies: &[Reply],
+) -> fmt::Result
+    ensures ok { OnOk result
+        (PrintsOut W.contents printer.old printer.new (replies_text calls.now replies.now)) }
+    ensures front { OnErr result
+        (PrintsFront W.contents printer.old printer.new (replies_text calls.now replies.now)) }
+{
+    print_replies(printer, calls, replies)?;
+    printer.flush()
+}
+
 /// Prints the outcome and flushes the writer.
 fn print_all<W: io::Write>(
     printer: &mut Printer<'_, W>,

@@ -4,7 +4,7 @@ ghost use Rattle.std.specs.Option.{option_map, option_copied_mut};
 ghost use Rattle.wasmi_grammar.specs.Headers.{meter_of, region_bytes, start_of};
 ghost use Rattle.wasmi_core.specs.State.{new_state};
 ghost use Rattle.wasmi_budget.specs.Pool.{RunsTenant};
-ghost use Rattle.wasmi_script.specs.Replays.{IsReplayOf, IsReplayOnOne, IsListedReplay, IsPoolReplay, new_pool};
+ghost use Rattle.wasmi_script.specs.ScriptRuns.{IsReplayOf, IsReplayOnOne, IsListedReplay, IsPoolReplay, new_pool};
 
 use crate::listed_limiter::AnswerList;
 use std::alloc::{AllocError, Global};

@@ -1,4 +1,4 @@
--- What a replay answers.
+-- What the run of a script returns, as its header lines ask for it.
 use Rattle.std.specs.Prelude.{◌≡◌, List, [], ◌∷◌, ◌++◌, Option, None, Some, replicate}
 use Rattle.wasmi_meter.specs.Limiter.{optional_rules, unlimited_rules}
 use Rattle.wasmi_meter.specs.declared.limiter.NoLimits.{NoLimits}
