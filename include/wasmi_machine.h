@@ -150,6 +150,9 @@ enum {
     WASMI_NO_ROOM = 20,     /* out of memory for a slot, a copy or a machine: nothing was asked or changed */
     WASMI_NO_ELEMENT = 21,
     WASMI_HAS_MACHINE = 22, /* the handle has one */
+    WASMI_BAD_LINE = 23,    /* of wasmi_machine_run_lines, as the next two: nothing was run */
+    WASMI_HEADER_LINE = 24, /* nothing was run */
+    WASMI_TEXT_CUT = 25,    /* the lines were run; out of memory for the text */
     WASMI_MEMORY_OUT_OF_MEMORY = 32,
     WASMI_MEMORY_GROWTH = 33,        /* beyond the type or the caps */
     WASMI_MEMORY_ACCESS = 34,        /* of wasmi_machine_read and wasmi_machine_write */
@@ -188,6 +191,29 @@ typedef struct { wasmi_words bytes, elements; uint8_t status; } wasmi_totals;
 /* Replies to a call. Before all else: NO_MACHINE, NO_CALL. */
 wasmi_reply wasmi_machine_call(wasmi_machine *machine, const wasmi_call *call);
 
+/* The calls that engines make most, with plain arguments; each does what wasmi_machine_call does with the same operands,
+   in less time, and returns the status. Before all else: NO_MACHINE, then NO_CALL if op is no number of such an
+   instruction. */
+
+/* WASMI_CALL_LOAD of an item, by a number of wasmi_load below 12; sets *value to the item: NO_SUCH,
+   MEMORY_OUT_OF_BOUNDS. After a refusal *value is unchanged. */
+uint8_t wasmi_machine_load(wasmi_machine *machine, uint16_t op, size_t memory, uint64_t ptr, uint64_t offset,
+                           uint64_t *value);
+
+/* WASMI_CALL_STORE of an item, by a number of wasmi_store below 7: NO_SUCH, MEMORY_OUT_OF_BOUNDS. */
+uint8_t wasmi_machine_store(wasmi_machine *machine, uint16_t op, size_t memory, uint64_t ptr, uint64_t offset,
+                            uint64_t value);
+
+/* WASMI_CALL_BINARY of two registers, by a number of wasmi_binary that is no shift's: NO_SUCH. */
+uint8_t wasmi_machine_binary(wasmi_machine *machine, uint16_t op, uint8_t dst, uint8_t a, uint8_t b);
+
+/* WASMI_CALL_GROW_MEMORY: sets *number to the old size in pages, or to the fuel that is needed at MEMORY_OUT_OF_FUEL;
+   else *number is unchanged. */
+uint8_t wasmi_machine_grow(wasmi_machine *machine, size_t memory, uint64_t pages, uint64_t *number);
+
+/* WASMI_CALL_GET_FUEL: sets *left to the fuel that is left; METERING_DISABLED, after which *left is unchanged. */
+uint8_t wasmi_machine_fuel_left(wasmi_machine *machine, uint64_t *left);
+
 /* Copies len bytes of a memory from offset on to bytes: NO_MACHINE, NO_SUCH, or MEMORY_ACCESS if they end past it;
    then bytes is unchanged. It takes no memory of its own. */
 wasmi_reply wasmi_machine_read(wasmi_machine *machine, size_t memory, size_t offset, uint8_t *bytes, size_t len);
@@ -205,6 +231,15 @@ wasmi_reply wasmi_machine_consume_fuel(wasmi_machine *machine, uint64_t amount);
 
 /* The totals; NO_MACHINE. Without caps its time grows with the number of memories and tables that were ever made. */
 wasmi_totals wasmi_machine_totals(wasmi_machine *machine);
+
+/* Runs lines of calls, as docs/SCRIPT.md has them, one after the other, and writes what a script prints for them to the
+   front of text, as much as text_len has room for -> number: the length of the whole text. First NO_MACHINE. Then, with
+   nothing run and text unchanged: BAD_LINE (number: the first line that is no command, from 1; an `as` line is one),
+   HEADER_LINE if there are header lines, since the machine has its meter and its caps already, or NO_ROOM if memory is
+   refused for the calls, for their replies or for text_len bytes. After the run TEXT_CUT, if memory is refused for a
+   text longer than text_len (number: the length of its beginning, for which there was memory). */
+wasmi_reply wasmi_machine_run_lines(wasmi_machine *machine, const uint8_t *lines, size_t lines_len, uint8_t *text,
+                                    size_t text_len);
 
 #ifdef __cplusplus
 }

@@ -54,6 +54,27 @@ static void accesses(void) {
     made("load past the end", load);
 }
 
+/* The calls that engines make most, with plain arguments. */
+static void plain(void) {
+    uint64_t word = 0;
+    uint8_t status = wasmi_machine_store(&machine, WASMI_STORE_STORE64, 0, 16, 8, UINT64_C(0x1122334455667788));
+    printf("%-22s status %d\n", "store", status);
+    status = wasmi_machine_load(&machine, WASMI_LOAD_I64_LOAD32_U, 0, 28, 0, &word);
+    printf("%-22s status %d, value %" PRIx64 "\n", "load of its half", status, word);
+    status = wasmi_machine_load(&machine, WASMI_LOAD_LOAD_U64, 0, 3 * 65536 - 7, 0, &word);
+    printf("%-22s status %d, value %" PRIx64 "\n", "load past the end", status, word);
+    status = wasmi_machine_load(&machine, WASMI_LOAD_V128_LOAD, 0, 0, 0, &word);
+    printf("%-22s status %d\n", "load of a vector", status);
+    status = wasmi_machine_grow(&machine, 0, 0, &word);
+    printf("%-22s status %d, number %" PRIu64 "\n", "grow by none", status, word);
+    status = wasmi_machine_grow(&machine, 0, 1, &word);
+    printf("%-22s status %d, number %" PRIu64 "\n", "grow by one", status, word);
+    status = wasmi_machine_grow(&machine, 1, 1, &word);
+    printf("%-22s status %d, number %" PRIu64 "\n", "grow another", status, word);
+    status = wasmi_machine_fuel_left(&machine, &word);
+    printf("%-22s status %d, number %" PRIu64 "\n", "fuel left after that", status, word);
+}
+
 static void tables(void) {
     const uint32_t items[3] = {7, 8, 9};
     wasmi_call table = of_kind(WASMI_CALL_NEW_TABLE, 4);
@@ -93,6 +114,9 @@ static void vectors(void) {
     made("register 2", get);
     shuffle.lanes[15] = 32;
     made("no such lane", shuffle);
+    printf("%-22s status %d\n", "sums of bytes", wasmi_machine_binary(&machine, WASMI_BINARY_I8X16_ADD, 2, 2, 2));
+    made("register 2", get);
+    printf("%-22s status %d\n", "no such register", wasmi_machine_binary(&machine, WASMI_BINARY_I8X16_ADD, 16, 2, 2));
 }
 
 int main(void) {
@@ -102,6 +126,7 @@ int main(void) {
     printf("%-22s status %d\n", "new again", wasmi_machine_new(&machine, &limits));
     memories();
     accesses();
+    plain();
     tables();
     vectors();
     made("no such kind", of_kind(1000, 0));

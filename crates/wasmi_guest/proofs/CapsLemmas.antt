@@ -20,7 +20,7 @@ use Rattle.wasmi_core.specs.declared.calls.Reply.{Reply}
 use Rattle.wasmi_guest.specs.Caps.{IsKept, IsCapped, caps_of}
 
 -- the same caps, kind by kind, are the same caps
-equal_caps : (quota quota' : Quota) → SameCaps quota quota' → caps_of (Some quota') ≡ caps_of (Some quota)
+pub equal_caps : (quota quota' : Quota) → SameCaps quota quota' → caps_of (Some quota') ≡ caps_of (Some quota)
 equal_caps quota quota' same = λ i. Some (record { bytes = same Bytes i; elements = same Elements i })
 
 -- a quota that holds what a machine has does so after a call, within the same caps

@@ -1,4 +1,6 @@
 mod CapsLemmas
+mod DirectLemmas
 mod GuestBoxLemmas
 mod LanesLemmas
+mod LinesLemmas
 mod SegmentLemmas

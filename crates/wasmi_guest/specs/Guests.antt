@@ -63,11 +63,16 @@ abbrev pub GuestReplies : Call → GuestValue → Reply → GuestValue → Type 
 GuestReplies call guest reply guest' =
     Answers (optional_rules quota_rules) call (guest_world guest) reply (guest_world guest')
 
+-- a guest replies to a call with numbers
+abbrev pub RepliesInNumbers : Call → GuestValue → PlainReply → GuestValue → Type 0
+RepliesInNumbers call guest reply guest' =
+    (full : Reply) × GuestReplies call guest full guest' × (reply ≡ plain_reply full)
+
 -- a guest replies to the call that numbers stand for; where they stand for none, it is the same
 abbrev pub RepliesPlainly : PlainCall → GuestValue → PlainReply → GuestValue → Type 0
 RepliesPlainly plain guest reply guest' = MatchOption (call_of plain)
     ((reply ≡ only no_call_status) × (guest' ≡ guest))
-    (λ call. (full : Reply) × GuestReplies call guest full guest' × (reply ≡ plain_reply full))
+    (λ call. RepliesInNumbers call guest reply guest')
 
 -- the guest of a handle has become another; where there is none, the status says so, and there is none afterwards
 abbrev pub InPlace : {R : Type 0} → R → Option GuestValue → R → Option GuestValue

@@ -1,6 +1,8 @@
 pub mod Caps
+pub mod DirectCalls
 pub mod GuestBox
 pub mod Guests
+pub mod Lines
 pub mod Ops
 pub mod Plain
 pub mod PlainCalls

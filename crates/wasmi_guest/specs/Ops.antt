@@ -1,5 +1,6 @@
--- The instructions that a call's numbers stand for: places in the lists of a shape, one after another.
-use Rattle.std.specs.Prelude.{ℕ, ◌-◌, nat_eq, nat_le, if◌then◌else◌, List, map, Option, Some, None}
+-- The instructions that a call's numbers stand for: places in the lists of a shape as version 1.0.0 has them, one after
+-- another; what is added to a list has the numbers after these.
+use Rattle.std.specs.Prelude.{ℕ, ◌-◌, nat_eq, nat_lt, if◌then◌else◌, List, map, Option, Some, None}
 use Rattle.std.specs.List.{slice_get}
 use Rattle.std.specs.Option.{option_map, option_and_then, option_or}
 use Rattle.wasmi_ops.specs.declared.scalar.access.TheConstants.{LOADS, STORES}
@@ -31,62 +32,81 @@ use Rattle.wasmi_guest.specs.declared.plain.PlainCall.{PlainCall}
 use Rattle.wasmi_guest.specs.Plain.{raw_in}
 use Rattle.wasmi_guest.specs.Types.{lanes_of, narrow}
 
--- the instruction of a number in a list, whose first one has the number `first`
-unfoldable pub op_at : {Name Op : Type 0} → List (Name × Op) → ℕ → ℕ → Option Op
-op_at list first number =
-    if nat_le first number then slice_get (map (λ entry. entry.1) list) (number - first) else None
+-- the instruction at a place of a list
+unfoldable pub op_at : {Name Op : Type 0} → List (Name × Op) → ℕ → Option Op
+op_at list place = slice_get (map (λ entry. entry.1) list) place
 
 -- a load of an item, by its number
 unfoldable pub load_at : ℕ → Option LoadOp
-load_at number = op_at LOADS 0 number
+load_at number = if nat_lt number 12 then op_at LOADS number else None
 
 -- a load of a vector, by its number
 unfoldable pub vector_load_at : ℕ → Option VectorLoadOp
-vector_load_at number = op_at VECTOR_LOADS 12 number
+vector_load_at number = if nat_lt number 12 then None else op_at VECTOR_LOADS (number - 12)
 
--- a store of an item, by its number
+-- a store of an item, by its number; 7 is the store of a vector
 unfoldable pub store_at : ℕ → Option StoreOp
-store_at number = op_at STORES 0 number
+store_at number =
+    if nat_lt number 7 then op_at STORES number
+    else if nat_lt number 8 then None
+    else op_at STORES (number - 1)
 
 -- a load of a lane, by its number
 unfoldable pub lane_load_at : ℕ → Option LoadLaneKind
-lane_load_at number = op_at LANE_LOADS 0 number
+lane_load_at number = op_at LANE_LOADS number
 
 -- a store of a lane, by its number
 unfoldable pub lane_store_at : ℕ → Option StoreLaneKind
-lane_store_at number = op_at LANE_STORES 0 number
+lane_store_at number = op_at LANE_STORES number
 
 -- what makes a vector of an item, by its number
 unfoldable pub make_at : ℕ → Option MakeOp
-make_at number = op_at MAKES 16 number
+make_at number =
+    if nat_lt number 16 then None
+    else if nat_lt number 28 then op_at MAKES (number - 16)
+    else None
 
 -- an instruction of one vector, by its number
 unfoldable pub unary_at : ℕ → Option UnaryOp
-unary_at number = op_at UNARIES 28 number
+unary_at number =
+    if nat_lt number 28 then None
+    else if nat_lt number 54 then op_at UNARIES (number - 28)
+    else if nat_lt number 63 then None
+    else op_at UNARIES (number - 37)
 
 -- a test of a vector, by its number
 unfoldable pub test_at : ℕ → Option TestOp
-test_at number = op_at TESTS 54 number
+test_at number =
+    if nat_lt number 54 then None
+    else if nat_lt number 63 then op_at TESTS (number - 54)
+    else None
 
 -- an instruction of two vectors, by its number
 unfoldable pub binary_at : ℕ → Option BinaryOp
-binary_at number = op_at BINARIES 54 number
+binary_at number =
+    if nat_lt number 54 then None
+    else if nat_lt number 150 then op_at BINARIES (number - 54)
+    else if nat_lt number 162 then None
+    else op_at BINARIES (number - 66)
 
 -- a shift of a vector, by its number
 unfoldable pub shift_at : ℕ → Option ShiftOp
-shift_at number = op_at SHIFTS 150 number
+shift_at number =
+    if nat_lt number 150 then None
+    else if nat_lt number 162 then op_at SHIFTS (number - 150)
+    else None
 
 -- an instruction of three vectors, by its number
 unfoldable pub ternary_at : ℕ → Option TernaryOp
-ternary_at number = op_at TERNARIES 0 number
+ternary_at number = op_at TERNARIES number
 
 -- an extraction of a lane, by its number
 unfoldable pub extraction_at : ℕ → Option ExtractKind
-extraction_at number = op_at EXTRACTIONS 0 number
+extraction_at number = op_at EXTRACTIONS number
 
 -- a replacement of a lane, by its number
 unfoldable pub replacement_at : ℕ → Option ReplaceKind
-replacement_at number = op_at REPLACEMENTS 0 number
+replacement_at number = op_at REPLACEMENTS number
 
 module _ (plain : PlainCall) where
   -- a load of an item or of a vector

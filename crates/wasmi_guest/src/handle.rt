@@ -44,6 +44,7 @@ impl Handle {
     }
 
     /// Takes the guest out, if there is one. It takes no memory.
+    #[inline(always)]
     pub fn take(&mut self, alloc: Global) -> Option<Box<Guest>>
         ensures taken { MatchOption result (self.old.guest.held ≡ None)
             (λ guest. self.old.guest.held ≡ Some guest.value) }
@@ -59,6 +60,7 @@ impl Handle {
     }
 
     /// Puts a guest in where there is none. It takes no memory.
+    #[inline(always)]
     pub fn put(&mut self, guest: Box<Guest>)
         requires empty { self.old.guest.held ≡ None }
         ensures held { self.new.guest.held ≡ Some guest.entry.value }

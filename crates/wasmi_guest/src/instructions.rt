@@ -1,6 +1,7 @@
 //! The instructions that a call's numbers stand for.
 //!
-//! A number is one of `include/wasmi_core.h`: the place in the lists of a shape, one after another.
+//! A number is one of `include/wasmi_core.h`: the place in the lists of a shape as version 1.0.0
+//! has them, one after another. What is added to the list of a shape has the numbers after these.
 ghost use Rattle.std.specs.Prelude.{◌≡◌};
 ghost use Rattle.wasmi_guest.specs.Ops.{binary_at, binary_call, extract_lane_call, extraction_at, lane_load_at, lane_store_at, load_at, load_call, load_lane_call, make_at, op_at, replace_lane_call, replacement_at, shift_at, shuffle_call, store_at, store_call, store_lane_call, ternary_at, ternary_call, test_at, unary_at, unary_call, vector_load_at};
 ghost use Rattle.wasmi_guest.specs.Types.{lanes_of};
@@ -15,12 +16,11 @@ use wasmi_ops::{
     StoreOp, TERNARIES, TESTS, TernaryOp, TestOp, UNARIES, UnaryOp, VECTOR_LOADS, VectorLoadOp,
 };
 
-/// The instruction of a number in a list, whose first one has the number `first`.
+/// The instruction at a place of a list.
 #[tactic(auto, unfolding(crate::specs::Ops::op_at))]
-fn op_at<Op: Copy>(list: &[(&str, Op)], first: u16, number: u16) -> Option<Op>
-    ensures { result ≡ op_at list.now first number }
+fn op_at<Op: Copy>(list: &[(&str, Op)], place: u16) -> Option<Op>
+    ensures { result ≡ op_at list.now place }
 {
-    let place = number.checked_sub(first)?;
     match list.get(usize::from(place)) {
         Some((_, op)) => Some(*op),
         None => None,
@@ -29,10 +29,13 @@ fn op_at<Op: Copy>(list: &[(&str, Op)], first: u16, number: u16) -> Option<Op>
 
 /// A load of an item, by its number.
 #[tactic(auto, unfolding(crate::specs::Ops::load_at, crate::specs::Ops::op_at))]
-fn load_at(number: u16) -> Option<LoadOp>
+pub fn load_at(number: u16) -> Option<LoadOp>
     ensures { result ≡ load_at number }
 {
-    op_at(&LOADS, 0, number)
+    match number {
+        0..=11 => op_at(&LOADS, number),
+        _ => None,
+    }
 }
 
 /// A load of a vector, by its number.
@@ -40,15 +43,22 @@ fn load_at(number: u16) -> Option<LoadOp>
 fn vector_load_at(number: u16) -> Option<VectorLoadOp>
     ensures { result ≡ vector_load_at number }
 {
-    op_at(&VECTOR_LOADS, 12, number)
+    match number {
+        0..=11 => None,
+        _ => op_at(&VECTOR_LOADS, number - 12),
+    }
 }
 
 /// A store of an item, by its number.
 #[tactic(auto, unfolding(crate::specs::Ops::store_at, crate::specs::Ops::op_at))]
-fn store_at(number: u16) -> Option<StoreOp>
+pub fn store_at(number: u16) -> Option<StoreOp>
     ensures { result ≡ store_at number }
 {
-    op_at(&STORES, 0, number)
+    match number {
+        0..=6 => op_at(&STORES, number),
+        7 => None,
+        _ => op_at(&STORES, number - 1),
+    }
 }
 
 /// A load of a lane, by its number.
@@ -56,7 +66,7 @@ fn store_at(number: u16) -> Option<StoreOp>
 fn lane_load_at(number: u16) -> Option<LoadLaneKind>
     ensures { result ≡ lane_load_at number }
 {
-    op_at(&LANE_LOADS, 0, number)
+    op_at(&LANE_LOADS, number)
 }
 
 /// A store of a lane, by its number.
@@ -64,7 +74,7 @@ fn lane_load_at(number: u16) -> Option<LoadLaneKind>
 fn lane_store_at(number: u16) -> Option<StoreLaneKind>
     ensures { result ≡ lane_store_at number }
 {
-    op_at(&LANE_STORES, 0, number)
+    op_at(&LANE_STORES, number)
 }
 
 /// What makes a vector of an item, by its number.
@@ -72,7 +82,10 @@ fn lane_store_at(number: u16) -> Option<StoreLaneKind>
 fn make_at(number: u16) -> Option<MakeOp>
     ensures { result ≡ make_at number }
 {
-    op_at(&MAKES, 16, number)
+    match number {
+        16..=27 => op_at(&MAKES, number - 16),
+        _ => None,
+    }
 }
 
 /// An instruction of one vector, by its number.
@@ -80,7 +93,11 @@ fn make_at(number: u16) -> Option<MakeOp>
 fn unary_at(number: u16) -> Option<UnaryOp>
     ensures { result ≡ unary_at number }
 {
-    op_at(&UNARIES, 28, number)
+    match number {
+        0..=27 | 54..=62 => None,
+        28..=53 => op_at(&UNARIES, number - 28),
+        _ => op_at(&UNARIES, number - 37),
+    }
 }
 
 /// A test of a vector, by its number.
@@ -88,15 +105,22 @@ fn unary_at(number: u16) -> Option<UnaryOp>
 fn test_at(number: u16) -> Option<TestOp>
     ensures { result ≡ test_at number }
 {
-    op_at(&TESTS, 54, number)
+    match number {
+        54..=62 => op_at(&TESTS, number - 54),
+        _ => None,
+    }
 }
 
 /// An instruction of two vectors, by its number.
 #[tactic(auto, unfolding(crate::specs::Ops::binary_at, crate::specs::Ops::op_at))]
-fn binary_at(number: u16) -> Option<BinaryOp>
+pub fn binary_at(number: u16) -> Option<BinaryOp>
     ensures { result ≡ binary_at number }
 {
-    op_at(&BINARIES, 54, number)
+    match number {
+        0..=53 | 150..=161 => None,
+        54..=149 => op_at(&BINARIES, number - 54),
+        _ => op_at(&BINARIES, number - 66),
+    }
 }
 
 /// A shift of a vector, by its number.
@@ -104,7 +128,10 @@ fn binary_at(number: u16) -> Option<BinaryOp>
 fn shift_at(number: u16) -> Option<ShiftOp>
     ensures { result ≡ shift_at number }
 {
-    op_at(&SHIFTS, 150, number)
+    match number {
+        150..=161 => op_at(&SHIFTS, number - 150),
+        _ => None,
+    }
 }
 
 /// An instruction of three vectors, by its number.
@@ -112,7 +139,7 @@ fn shift_at(number: u16) -> Option<ShiftOp>
 fn ternary_at(number: u16) -> Option<TernaryOp>
     ensures { result ≡ ternary_at number }
 {
-    op_at(&TERNARIES, 0, number)
+    op_at(&TERNARIES, number)
 }
 
 /// An extraction of a lane, by its number.
@@ -120,7 +147,7 @@ fn ternary_at(number: u16) -> Option<TernaryOp>
 fn extraction_at(number: u16) -> Option<ExtractKind>
     ensures { result ≡ extraction_at number }
 {
-    op_at(&EXTRACTIONS, 0, number)
+    op_at(&EXTRACTIONS, number)
 }
 
 /// A replacement of a lane, by its number.
@@ -128,7 +155,7 @@ fn extraction_at(number: u16) -> Option<ExtractKind>
 fn replacement_at(number: u16) -> Option<ReplaceKind>
     ensures { result ≡ replacement_at number }
 {
-    op_at(&REPLACEMENTS, 0, number)
+    op_at(&REPLACEMENTS, number)
 }
 
 impl PlainCall {

@@ -6,11 +6,14 @@
 mod box_fields;
 mod calls;
 mod decode;
+mod direct;
+mod direct_replies;
 mod guest;
 mod guest_box;
 mod handle;
 mod instructions;
 mod kind;
+mod lines;
 mod plain;
 mod replies;
 mod replying;

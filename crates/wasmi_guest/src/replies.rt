@@ -32,7 +32,8 @@ impl PlainReply {
         }
     }
 
-    fn with_value(value: RawVal) -> PlainReply
+    /// A reply with a value.
+    pub fn with_value(value: RawVal) -> PlainReply
         ensures { result ≡ with_value value }
     {
         PlainReply {

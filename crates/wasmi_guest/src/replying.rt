@@ -2,7 +2,7 @@
 ghost use Rattle.std.specs.Prelude.{◌≡◌, IfOk};
 ghost use Rattle.wasmi_core.specs.declared.calls.Call.TheVariants.{NewSegment, Write};
 ghost use Rattle.wasmi_guest.specs.Caps.{caps_of};
-ghost use Rattle.wasmi_guest.specs.Guests.{GuestReplies, IsNewGuest, IsNewLimiter, ReadsOut, RepliesPlainly, RepliesToCopy, RepliesToSegment, TakesFuel, meter_of, totals_in, totals_of};
+ghost use Rattle.wasmi_guest.specs.Guests.{GuestReplies, IsNewGuest, IsNewLimiter, ReadsOut, RepliesInNumbers, RepliesPlainly, RepliesToCopy, RepliesToSegment, TakesFuel, meter_of, totals_in, totals_of};
 
 use crate::guest::Guest;
 use crate::plain::{Limits, PlainCall, PlainReply, Totals, Words};
@@ -52,11 +52,27 @@ impl Guest {
     }
 
     /// Replies to one call.
-    fn reply(&mut self, call: &Call) -> Reply
+    #[inline(always)]
+    pub fn reply(&mut self, call: &Call) -> Reply
         ensures step { GuestReplies call.now self.old result self.new }
         ensures caps { caps_of self.new.quota ≡ caps_of self.old.quota }
     {
         step(&mut self.machine, call, &mut self.quota)
+    }
+
+    /// Replies to one call, with the reply as numbers.
+    fn reply_in_numbers(&mut self, call: &Call) -> PlainReply
+        ensures step { RepliesInNumbers call.now self.old result self.new }
+        ensures caps { caps_of self.new.quota ≡ caps_of self.old.quota }
+    {
+        // A reply that is kept in a variable is copied, which takes longer than what it tells.
+        match self.reply(call) {
+            Reply::Done => PlainReply::only(DONE),
+            Reply::Value(value) => PlainReply::with_value(value),
+            Reply::Number(number) => PlainReply::with_number(DONE, number),
+            Reply::Memory(error) => memory_refusal(error),
+            other => PlainReply::of(&other),
+        }
     }
 
     /// Replies to the call that numbers stand for, if there is one.
@@ -64,8 +80,8 @@ impl Guest {
         ensures step { RepliesPlainly plain.now self.old result self.new }
         ensures caps { caps_of self.new.quota ≡ caps_of self.old.quota }
     {
-        match plain.call() {
-            Some(call) => PlainReply::of(&self.reply(&call)),
+        match &plain.call() {
+            Some(call) => self.reply_in_numbers(call),
             None => PlainReply::only(NO_CALL),
         }
     }

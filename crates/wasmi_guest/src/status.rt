@@ -17,3 +17,9 @@ pub const NO_ROOM: u8 = 20;
 pub const NO_ELEMENT: u8 = 21;
 /// The handle has a machine already.
 pub const HAS_MACHINE: u8 = 22;
+/// A line is no command of a script.
+pub const BAD_LINE: u8 = 23;
+/// There is a header line, which only a whole script has.
+pub const HEADER_LINE: u8 = 24;
+/// The lines were run, and memory for the whole text was refused: there is its beginning.
+pub const TEXT_CUT: u8 = 25;

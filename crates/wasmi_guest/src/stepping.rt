@@ -10,6 +10,7 @@ use wasmi_core::{Call, Machine, Reply, laws};
 use wasmi_meter::{Quota, ResourceLimiterRef};
 
 /// Executes a call under the quota, if there is one.
+#[inline(always)]
 pub fn step(machine: &mut Machine, call: &Call, quota: &mut Option<Quota>) -> Reply
     requires kept { IfSome quota.old (IsKept machine.old) }
     ensures step { Answers (optional_rules quota_rules) call.now
@@ -25,6 +26,7 @@ pub fn step(machine: &mut Machine, call: &Call, quota: &mut Option<Quota>) -> Re
 
 /// Executes a call under a quota that holds what the machine has: so it does afterwards, within the
 /// same caps.
+#[inline(always)]
 fn step_within(machine: &mut Machine, call: &Call, quota: &mut Quota) -> Reply
     requires kept { IsKept machine.old quota.old }
     ensures step { Answers (optional_rules quota_rules) call.now
@@ -38,6 +40,7 @@ fn step_within(machine: &mut Machine, call: &Call, quota: &mut Quota) -> Reply
 }
 
 /// Executes a call without a limiter.
+#[inline(always)]
 fn step_freely(machine: &mut Machine, call: &Call) -> Reply
     ensures { Answers (optional_rules quota_rules) call.now
         (world machine.old None) result (world machine.new None) }

@@ -1,0 +1,173 @@
+//! Lines of a script on a machine that lives on.
+ghost use Rattle.std.specs.Prelude.{◌≡◌, ◌↔◌, IsTrue, ℕ, List, [], None, Some, IfOk, IfSome, OnErr};
+ghost use Rattle.wasmi_meter.specs.Limiter.{optional_rules};
+ghost use Rattle.wasmi_meter.specs.Quota.{quota_rules};
+ghost use Rattle.wasmi_core.specs.Runs.{IsRunOf};
+ghost use Rattle.wasmi_core.specs.World.{world};
+ghost use Rattle.wasmi_guest.specs.Caps.{IsKept, StaysWithinCaps, caps_of};
+ghost use Rattle.wasmi_guest.specs.Guests.{InPlace};
+ghost use Rattle.wasmi_guest.specs.Lines.{FillsFront, GuestRuns, RunsLines, WritesOut, no_header};
+ghost use Rattle.wasmi_guest.specs.Replies.{only, no_machine_status};
+ghost use Rattle.wasmi_guest.specs.declared.plain.PlainReply.{PlainReply};
+ghost use Rattle.wasmi_grammar.specs.Lines.{WritesScript};
+ghost use Rattle.wasmi_script.specs.Outcomes.{replies_text};
+
+use crate::guest::Guest;
+use crate::handle::Handle;
+use crate::plain::PlainReply;
+use crate::status::{BAD_LINE, DONE, HEADER_LINE, NO_MACHINE, NO_ROOM, TEXT_CUT};
+use std::alloc::{AllocError, Global};
+use wasmi_core::{Call, Machine, Reply, laws, run, run_reserving};
+use wasmi_grammar::{Header, ParseError, Script, parse};
+use wasmi_meter::{Quota, ResourceLimiterRef};
+use wasmi_script::print_lines;
+
+/// Runs lines of calls, one after the other, and writes what a script prints for them to `text`,
+/// as much of it as `text` holds. The number of the reply is the length of the whole text.
+///
+/// The status is `NO_MACHINE` if the handle has no machine; then, with nothing run and `text`
+/// unchanged, `BAD_LINE` with the number of the first line that is no command of a script,
+/// `HEADER_LINE` if the lines are a script with header lines, or `NO_ROOM` if memory is refused for
+/// the calls, for their replies or for as many bytes as `text` has.
+///
+/// Then the lines are run. The status is `TEXT_CUT` if memory is refused for a text that is longer
+/// than `text`: then the number is the length of the beginning that there is memory for.
+#[unsafe(no_mangle)]
+pub extern "C" fn wasmi_machine_run_lines(
+    alloc: Global,
+    handle: &mut Handle,
+    lines: &[u8],
+    text: &mut [u8],
+) -> PlainReply
+    ensures step { InPlace {R = PlainReply × List ℕ} (only no_machine_status, text.old)
+        handle.old.guest.held (result, text.new) handle.new.guest.held
+        (λ guest guest'. RunsLines lines.now guest text.old result text.new guest') }
+    ensures caps { StaysWithinCaps handle.old.guest.held handle.new.guest.held }
+{
+    let Some(mut guest) = handle.take(alloc) else {
+        return PlainReply::only(NO_MACHINE);
+    };
+    let reply = guest.run_lines(alloc, lines, text);
+    handle.put(guest);
+    reply
+}
+
+impl Guest {
+    /// Runs lines of calls, and writes their replies to the front of a text.
+    fn run_lines(&mut self, alloc: Global, lines: &[u8], text: &mut [u8]) -> PlainReply
+        ensures lines { RunsLines lines.now self.old text.old result text.new self.new }
+        ensures caps { caps_of self.new.quota ≡ caps_of self.old.quota }
+    {
+        match parse(alloc, lines) {
+            Ok(script) => self.run_script(alloc, &script, text),
+            Err(ParseError::BadCommand { line }) => PlainReply::with_number(BAD_LINE, line as u64),
+            Err(ParseError::OutOfMemory) => PlainReply::only(NO_ROOM),
+        }
+    }
+
+    /// Runs a script without header lines, whatever lines write it.
+    fn run_script(&mut self, alloc: Global, script: &Script, text: &mut [u8]) -> PlainReply
+        ensures lines { (lines : List ℕ) → WritesScript lines script.now
+            → RunsLines lines self.old text.old result text.new self.new }
+        ensures caps { caps_of self.new.quota ≡ caps_of self.old.quota }
+    {
+        if !is_empty(&script.header) {
+            return PlainReply::only(HEADER_LINE);
+        }
+        let Ok(printed) = Vec::with_capacity(alloc, text.len()) else {
+            return PlainReply::only(NO_ROOM);
+        };
+        let calls = script.parts.calls();
+        let Ok(replies) = self.run(calls) else {
+            return PlainReply::only(NO_ROOM);
+        };
+        write_out(calls, &replies, printed, text)
+    }
+
+    /// Runs calls. If memory for the replies is refused, nothing has happened.
+    fn run(&mut self, calls: &[Call]) -> Result<Vec<Reply>, AllocError>
+        ensures run { IfOk result
+            (λ replies. GuestRuns calls.now self.old replies.items self.new) }
+        ensures err { OnErr result (self.new ≡ self.old) }
+        ensures caps { caps_of self.new.quota ≡ caps_of self.old.quota }
+    {
+        run_calls(&mut self.machine, calls, &mut self.quota)
+    }
+}
+
+/// Whether there is no header line.
+fn is_empty(header: &Header) -> bool
+    ensures { IsTrue result ↔ (header.now ≡ no_header) }
+{
+    header.meter.is_none() && header.limiter.is_none() && header.region.is_none()
+}
+
+/// Runs calls under the quota, if there is one.
+fn run_calls(
+    machine: &mut Machine,
+    calls: &[Call],
+    quota: &mut Option<Quota>,
+) -> Result<Vec<Reply>, AllocError>
+    requires kept { IfSome quota.old (IsKept machine.old) }
+    ensures run { IfOk result (λ replies. IsRunOf (optional_rules quota_rules) calls.now
+        (world machine.old quota.old) replies.items (world machine.new quota.new)) }
+    ensures err { OnErr result ((machine.new ≡ machine.old) × (quota.new ≡ quota.old)) }
+    ensures kept { IfSome quota.new (IsKept machine.new) }
+    ensures caps { caps_of quota.new ≡ caps_of quota.old }
+{
+    match quota {
+        Some(quota) => run_within(machine, calls, quota),
+        None => run_freely(machine, calls),
+    }
+}
+
+/// Runs calls under a quota that holds what the machine has: so it does afterwards, within the same
+/// caps.
+fn run_within(
+    machine: &mut Machine,
+    calls: &[Call],
+    quota: &mut Quota,
+) -> Result<Vec<Reply>, AllocError>
+    requires kept { IsKept machine.old quota.old }
+    ensures run { IfOk result (λ replies. IsRunOf (optional_rules quota_rules) calls.now
+        (world machine.old (Some quota.old)) replies.items (world machine.new (Some quota.new))) }
+    ensures err { OnErr result ((machine.new ≡ machine.old) × (quota.new ≡ quota.old)) }
+    ensures kept { IsKept machine.new quota.new }
+    ensures caps { caps_of (Some quota.new) ≡ caps_of (Some quota.old) }
+{
+    laws::quotas_stay_within();
+    run_reserving(machine, calls, quota)
+}
+
+/// Runs calls without a limiter.
+fn run_freely(machine: &mut Machine, calls: &[Call]) -> Result<Vec<Reply>, AllocError>
+    ensures run { IfOk result (λ replies. IsRunOf (optional_rules quota_rules) calls.now
+        (world machine.old None) replies.items (world machine.new None)) }
+    ensures err { OnErr result (machine.new ≡ machine.old) }
+{
+    let mut limiter = ResourceLimiterRef::<Quota>::default();
+    run(machine, calls, &mut limiter)
+}
+
+/// Writes the replies to calls to the front of the bytes, as much of their text as fits. The text
+/// is made in a buffer without bytes.
+fn write_out(calls: &[Call], replies: &[Reply], mut buffer: Vec<u8>, bytes: &mut [u8]) -> PlainReply
+    requires empty { buffer.items ≡ [] }
+    ensures text { WritesOut (replies_text calls.now replies.now) bytes.old result bytes.new }
+{
+    let printed = print_lines(&mut buffer, calls, replies);
+    fill_front(bytes, buffer.as_slice());
+    let length = buffer.len() as u64;
+    match printed {
+        Ok(()) => PlainReply::with_number(DONE, length),
+        Err(_) => PlainReply::with_number(TEXT_CUT, length),
+    }
+}
+
+/// Copies as much of a text as fits to the front of the bytes.
+fn fill_front(bytes: &mut [u8], text: &[u8])
+    ensures { FillsFront text.now bytes.old bytes.new }
+{
+    let count = text.len().min(bytes.len());
+    bytes[..count].copy_from_slice(&text[..count]);
+}
