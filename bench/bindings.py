@@ -1,4 +1,4 @@
-"""Times the Rust bindings beside the Rust crate, and prints two tables. usage: bindings.py CRATE FOLDER
+"""Times the Rust bindings beside the Rust crate, and prints three tables. usage: bindings.py CRATE FOLDER
 
 CRATE is the folder of the source of the Rust crate wasmi_core 2.0.0. The program is built in FOLDER, over the bindings in
 bindings/rust, whose libraries have to be there."""

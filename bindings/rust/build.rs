@@ -3,7 +3,8 @@ use std::fmt::Write as _;
 use std::path::{Path, PathBuf};
 use std::{env, fs};
 
-/// A row of `include/numbers.tsv`: an instruction of a kind, with its number among them.
+/// A row of `include/numbers.tsv`: an instruction of a kind, with its number among them. Rows of statuses, of kinds of calls
+/// and of value types have no instruction.
 struct Row {
     kind: String,
     number: u16,
@@ -56,7 +57,7 @@ fn link(top: &Path) {
 fn row(line: &str) -> Option<Row> {
     let mut cells = line.split('\t');
     let (kind, number, name) = (cells.next()?, cells.next()?, cells.next()?);
-    if kind == "status" {
+    if ["status", "call", "type"].contains(&kind) {
         return None;
     }
     Some(Row { kind: kind.into(), number: number.parse().unwrap(), name: name.into() })

@@ -1,4 +1,5 @@
-//! A machine of the same calls over the Rust crate, behind a call with the same structs of plain numbers.
+//! A machine of the same calls over the Rust crate, behind a call with the same structs of plain numbers, and behind the
+//! same calls with plain arguments.
 use wasmi_core::{
     CustomFuelCosts, Fuel, FuelCostsProvider, FuelError, LimiterError, Memory, MemoryError, MemoryType, RawVal,
     ResourceLimiter, ResourceLimiterRef, TrapCode, V128, simd, wasm,
@@ -48,6 +49,11 @@ unsafe extern "C" {
     /// The proved machine's call, of `libwasmi_guest.a`.
     fn wasmi_machine_call(machine: &mut Handle, call: &Call) -> Reply;
     fn wasmi_machine_new(machine: &mut Handle, limits: &Limits) -> u8;
+    fn wasmi_machine_load(machine: &mut Handle, op: u16, memory: usize, ptr: u64, offset: u64, value: &mut u64) -> u8;
+    fn wasmi_machine_store(machine: &mut Handle, op: u16, memory: usize, ptr: u64, offset: u64, value: u64) -> u8;
+    fn wasmi_machine_binary(machine: &mut Handle, op: u16, dst: u8, a: u8, b: u8) -> u8;
+    fn wasmi_machine_grow(machine: &mut Handle, memory: usize, pages: u64, number: &mut u64) -> u8;
+    fn wasmi_machine_fuel_left(machine: &mut Handle, left: &mut u64) -> u8;
 }
 
 /// As `wasmi_machine` there.
@@ -66,21 +72,73 @@ struct Limits {
     is_unlimited: u8,
 }
 
-/// What takes a call with these structs.
+/// What takes a call with these structs, and five with plain arguments: each returns the status, and its number, if any.
 pub trait Called {
     fn call(&mut self, call: &Call) -> Reply;
+    fn load(&mut self, op: u16, memory: usize, ptr: u64, offset: u64) -> (u8, u64);
+    fn store(&mut self, op: u16, memory: usize, ptr: u64, offset: u64, value: u64) -> (u8, u64);
+    fn binary(&mut self, op: u16, dst: u8, a: u8, b: u8) -> (u8, u64);
+    fn grow(&mut self, memory: usize, pages: u64) -> (u8, u64);
+    fn fuel_left(&mut self) -> (u8, u64);
 }
 
 impl Called for Machine {
     fn call(&mut self, it: &Call) -> Reply {
         call(self, it)
     }
+
+    fn load(&mut self, op: u16, memory: usize, ptr: u64, offset: u64) -> (u8, u64) {
+        let mut value = 0;
+        (machine_load(self, op, memory, ptr, offset, &mut value), value)
+    }
+
+    fn store(&mut self, op: u16, memory: usize, ptr: u64, offset: u64, value: u64) -> (u8, u64) {
+        (machine_store(self, op, memory, ptr, offset, value), 0)
+    }
+
+    fn binary(&mut self, op: u16, dst: u8, a: u8, b: u8) -> (u8, u64) {
+        (machine_binary(self, op, dst, a, b), 0)
+    }
+
+    fn grow(&mut self, memory: usize, pages: u64) -> (u8, u64) {
+        let mut number = 0;
+        (machine_grow(self, memory, pages, &mut number), number)
+    }
+
+    fn fuel_left(&mut self) -> (u8, u64) {
+        let mut left = 0;
+        (machine_fuel_left(self, &mut left), left)
+    }
 }
+
+// SAFETY of each unsafe call below: `Handle::new` has made the handle, and there is one copy of it.
 
 impl Called for Handle {
     fn call(&mut self, call: &Call) -> Reply {
-        // SAFETY: `Handle::new` has made the handle, and there is one copy of it.
         unsafe { wasmi_machine_call(self, call) }
+    }
+
+    fn load(&mut self, op: u16, memory: usize, ptr: u64, offset: u64) -> (u8, u64) {
+        let mut value = 0;
+        (unsafe { wasmi_machine_load(self, op, memory, ptr, offset, &mut value) }, value)
+    }
+
+    fn store(&mut self, op: u16, memory: usize, ptr: u64, offset: u64, value: u64) -> (u8, u64) {
+        (unsafe { wasmi_machine_store(self, op, memory, ptr, offset, value) }, 0)
+    }
+
+    fn binary(&mut self, op: u16, dst: u8, a: u8, b: u8) -> (u8, u64) {
+        (unsafe { wasmi_machine_binary(self, op, dst, a, b) }, 0)
+    }
+
+    fn grow(&mut self, memory: usize, pages: u64) -> (u8, u64) {
+        let mut number = 0;
+        (unsafe { wasmi_machine_grow(self, memory, pages, &mut number) }, number)
+    }
+
+    fn fuel_left(&mut self) -> (u8, u64) {
+        let mut left = 0;
+        (unsafe { wasmi_machine_fuel_left(self, &mut left) }, left)
     }
 }
 
@@ -183,11 +241,7 @@ pub extern "C" fn call(machine: &mut Machine, call: &Call) -> Reply {
         0 => machine.fuel.set_fuel(call.count).map_or_else(of_fuel, |()| Reply::default()),
         1 => machine.fuel.get_fuel().map_or_else(of_fuel, number),
         2 => new_memory(machine, call),
-        3 => {
-            let Some(Some(memory)) = machine.memories.get_mut(call.index) else { return refused(18) };
-            let mut limiter = ResourceLimiterRef::from(&mut machine.caps as &mut dyn ResourceLimiter);
-            memory.grow(call.count, Some(&mut machine.fuel), &mut limiter).map_or_else(of_memory, number)
-        }
+        3 => grow(machine, call.index, call.count),
         4 => match machine.memories.get_mut(call.index) {
             Some(memory @ Some(_)) => {
                 *memory = None;
@@ -201,7 +255,7 @@ pub extern "C" fn call(machine: &mut Machine, call: &Call) -> Reply {
         }
         6 => {
             let Some(Some(memory)) = machine.memories.get_mut(call.index) else { return refused(18) };
-            store(call, memory.data_mut())
+            store(call.op, memory.data_mut(), call.ptr, call.offset, call.value[0])
         }
         21 => match machine.registers.get_mut(usize::from(call.dst)) {
             Some(register) => {
@@ -210,9 +264,73 @@ pub extern "C" fn call(machine: &mut Machine, call: &Call) -> Reply {
             }
             None => refused(18),
         },
-        24 => binary(machine, call),
+        24 => binary(machine, call.op, call.dst, call.a, call.b),
         _ => refused(17),
     }
+}
+
+/// As `wasmi_machine_load`.
+#[inline(never)]
+pub extern "C" fn machine_load(
+    machine: &mut Machine,
+    op: u16,
+    memory: usize,
+    ptr: u64,
+    offset: u64,
+    value: &mut u64,
+) -> u8 {
+    let Some(Some(memory)) = machine.memories.get(memory) else { return 18 };
+    let reply = load(op, memory.data(), ptr, offset);
+    if reply.status == 0 {
+        *value = reply.value[0];
+    }
+    reply.status
+}
+
+/// As `wasmi_machine_store`.
+#[inline(never)]
+pub extern "C" fn machine_store(
+    machine: &mut Machine,
+    op: u16,
+    memory: usize,
+    ptr: u64,
+    offset: u64,
+    value: u64,
+) -> u8 {
+    let Some(Some(memory)) = machine.memories.get_mut(memory) else { return 18 };
+    store(op, memory.data_mut(), ptr, offset, value).status
+}
+
+/// As `wasmi_machine_binary`.
+#[inline(never)]
+pub extern "C" fn machine_binary(machine: &mut Machine, op: u16, dst: u8, a: u8, b: u8) -> u8 {
+    binary(machine, op, dst, a, b).status
+}
+
+/// As `wasmi_machine_grow`.
+#[inline(never)]
+pub extern "C" fn machine_grow(machine: &mut Machine, memory: usize, pages: u64, number: &mut u64) -> u8 {
+    let reply = grow(machine, memory, pages);
+    if reply.status == 0 || reply.status == 40 {
+        *number = reply.number;
+    }
+    reply.status
+}
+
+/// As `wasmi_machine_fuel_left`.
+#[inline(never)]
+pub extern "C" fn machine_fuel_left(machine: &mut Machine, left: &mut u64) -> u8 {
+    let reply = machine.fuel.get_fuel().map_or_else(of_fuel, number);
+    if reply.status == 0 {
+        *left = reply.number;
+    }
+    reply.status
+}
+
+fn grow(machine: &mut Machine, memory: usize, pages: u64) -> Reply {
+    let Some(Some(memory)) = machine.memories.get_mut(memory) else { return refused(18) };
+    let mut limiter = ResourceLimiterRef::from(&mut machine.caps as &mut dyn ResourceLimiter);
+    memory.grow(pages, Some(&mut machine.fuel), &mut limiter).map_or_else(of_memory, number)
 }
 
 fn new_memory(machine: &mut Machine, call: &Call) -> Reply {
@@ -254,9 +372,8 @@ fn load(op: u16, memory: &[u8], ptr: u64, offset: u64) -> Reply {
     }
 }
 
-fn store(call: &Call, memory: &mut [u8]) -> Reply {
-    let (ptr, offset, value) = (call.ptr, call.offset, call.value[0]);
-    let stored = match call.op {
+fn store(op: u16, memory: &mut [u8], ptr: u64, offset: u64, value: u64) -> Reply {
+    let stored = match op {
         0 => wasm::i32_store8(memory, ptr, offset, value as i32),
         1 => wasm::i32_store16(memory, ptr, offset, value as i32),
         2 => wasm::i64_store8(memory, ptr, offset, value as i64),
@@ -270,10 +387,10 @@ fn store(call: &Call, memory: &mut [u8]) -> Reply {
 }
 
 /// The instructions on lanes from 54 on, in the order of their numbers, of which some are enough for a table of jumps.
-fn binary(machine: &mut Machine, call: &Call) -> Reply {
+fn binary(machine: &mut Machine, op: u16, dst: u8, a: u8, b: u8) -> Reply {
     let register = |number: u8| machine.registers.get(usize::from(number)).map(|value| V128::from(*value));
-    let (Some(a), Some(b)) = (register(call.a), register(call.b)) else { return refused(18) };
-    let value = match call.op {
+    let (Some(a), Some(b)) = (register(a), register(b)) else { return refused(18) };
+    let value = match op {
         54 => simd::i8x16_add(a, b),
         55 => simd::i16x8_add(a, b),
         56 => simd::i32x4_add(a, b),
@@ -292,7 +409,7 @@ fn binary(machine: &mut Machine, call: &Call) -> Reply {
         69 => simd::i16x8_add_sat_u(a, b),
         _ => return refused(17),
     };
-    match machine.registers.get_mut(usize::from(call.dst)) {
+    match machine.registers.get_mut(usize::from(dst)) {
         Some(register) => {
             *register = value.into();
             Reply::default()

@@ -1,5 +1,6 @@
 //! Times of the Rust bindings, beside the Rust crate: of machines by handle, beside a machine over the crate behind the
-//! same call; and of memories on a region, beside the bare calls of the crate. It prints two tables.
+//! same calls, with plain arguments and with a struct; and of memories on a region, beside the bare calls of the crate. It
+//! prints three tables.
 mod machine;
 #[path = "../../program/src/timing.rs"]
 mod timing;
@@ -87,7 +88,25 @@ impl Machines {
         Row { name, times: least(CALLS, runs) }
     }
 
-    fn growths(&mut self, name: &'static str, page_size_log2: u8) -> Row<3> {
+    /// As `row`, of calls with plain arguments.
+    fn plain_row<R>(
+        &mut self,
+        name: &'static str,
+        plain: Plain,
+        mut bound: impl FnMut(&mut here::Machine, usize) -> R,
+    ) -> Row<3> {
+        let Machines { theirs, same, here } = self;
+        let mut by_bindings = || {
+            for i in 0..CALLS {
+                black_box(bound(here, black_box(i)));
+            }
+        };
+        let runs: [&mut dyn FnMut(); 3] =
+            [&mut || run_plain(theirs, plain), &mut || run_plain(same, plain), &mut by_bindings];
+        Row { name, times: least(CALLS, runs) }
+    }
+
+    fn growths(&mut self, name: &'static str, page_size_log2: u8, is_plain: bool) -> Row<3> {
         let Machines { theirs, same, here } = self;
         let mut by_bindings = || {
             let index = here.new_memory(type_here(0, page_size_log2)).unwrap();
@@ -96,7 +115,8 @@ impl Machines {
             }
             here.drop_memory(index).unwrap();
         };
-        let (mut first, mut second) = (|| grow(theirs, page_size_log2), || grow(same, page_size_log2));
+        let mut first = || grow(theirs, page_size_log2, is_plain);
+        let mut second = || grow(same, page_size_log2, is_plain);
         Row { name, times: least(GROWTHS, [&mut first, &mut second, &mut by_bindings]) }
     }
 }
@@ -115,12 +135,50 @@ fn run(machine: &mut impl Called, of: &impl Fn(usize) -> Call) {
     }
 }
 
-fn grow(machine: &mut impl Called, page_size_log2: u8) {
+fn grow(machine: &mut impl Called, page_size_log2: u8, is_plain: bool) {
     let index = machine.call(&new_memory(0, page_size_log2)).number as usize;
     for _ in 0..GROWTHS {
-        assert_eq!(machine.call(black_box(&Call { index, ..of_kind(3, 1) })).status, 0);
+        let status = if is_plain {
+            machine.grow(index, black_box(1)).0
+        } else {
+            machine.call(black_box(&Call { index, ..of_kind(3, 1) })).status
+        };
+        assert_eq!(status, 0);
     }
     machine.call(&Call { index, ..of_kind(4, 0) });
+}
+
+/// A call with plain arguments.
+#[derive(Clone, Copy)]
+enum Plain {
+    Load,
+    Store,
+    Add,
+    Grow(u64),
+    /// As `mixed`.
+    Mixed,
+}
+
+fn plain_call(machine: &mut impl Called, plain: Plain, i: usize) -> (u8, u64) {
+    match plain {
+        Plain::Load => machine.load(11, 0, pointer(i), 0),
+        Plain::Store => machine.store(6, 0, pointer(i), 0, i as u64),
+        Plain::Add => machine.binary(ADD, 1, 1, 2),
+        Plain::Grow(pages) => machine.grow(0, pages),
+        Plain::Mixed => match i % 5 {
+            0 => machine.load(11, 0, pointer(i), 0),
+            1 => machine.store(6, 0, pointer(i), 0, i as u64),
+            2 => machine.grow(0, 0),
+            3 => machine.fuel_left(),
+            _ => machine.binary(ADD, 1, 1, 2),
+        },
+    }
+}
+
+fn run_plain(machine: &mut impl Called, plain: Plain) {
+    for i in 0..CALLS {
+        black_box(plain_call(machine, black_box(plain), black_box(i)));
+    }
 }
 
 fn load(i: usize) -> Call {
@@ -156,19 +214,36 @@ fn mixed_here(machine: &mut here::Machine, i: usize) -> Result<u64, here::Machin
     }
 }
 
-fn rows_by_handle() -> Vec<Row<3>> {
+/// The rows of calls with plain arguments, and of the same calls with a struct.
+fn rows_by_handle() -> [Vec<Row<3>>; 2] {
     let mut machines = Machines::new(1 << 40);
     let number = |i: usize| here::RawVal::from(i as u64);
-    let load = machines.row("load_u64", load, |here, i| here.load(LoadOp::LoadU64, 0, pointer(i), 0));
-    let store = machines.row("store64", store, |here, i| here.store(StoreOp::Store64, 0, pointer(i), 0, number(i)));
-    let add = machines.row("i8x16_add", |_| add(), |here, _| here.binary(BinaryOp::I8x16Add, 1, 2, 1));
-    let beyond = machines.row("growth beyond the type", |_| of_kind(3, 16), |here, _| here.grow_memory(0, 16));
-    let byte = machines.growths("growth by a page of a byte", 0);
-    let page = machines.growths("growth by 64 KiB", 16);
-    let mixed = machines.row("a run of 1,000 calls, a call", mixed, mixed_here);
+    let load_here = |here: &mut here::Machine, i| here.load(LoadOp::LoadU64, 0, pointer(i), 0);
+    let store_here = |here: &mut here::Machine, i| here.store(StoreOp::Store64, 0, pointer(i), 0, number(i));
+    let add_here = |here: &mut here::Machine, _| here.binary(BinaryOp::I8x16Add, 1, 2, 1);
+    let grow_here = |pages| move |here: &mut here::Machine, _| here.grow_memory(0, pages);
     let mut poor = Machines::new(9);
-    let short = poor.row("growth without fuel", |_| of_kind(3, 1), |here, _| here.grow_memory(0, 1));
-    vec![load, store, add, beyond, short, byte, page, mixed]
+    let plain = vec![
+        machines.plain_row("load_u64", Plain::Load, load_here),
+        machines.plain_row("store64", Plain::Store, store_here),
+        machines.plain_row("i8x16_add", Plain::Add, add_here),
+        machines.plain_row("growth beyond the type", Plain::Grow(16), grow_here(16)),
+        poor.plain_row("growth without fuel", Plain::Grow(1), grow_here(1)),
+        machines.growths("growth by a page of a byte", 0, true),
+        machines.growths("growth by 64 KiB", 16, true),
+        machines.plain_row("a run of 1,000 calls, a call", Plain::Mixed, mixed_here),
+    ];
+    let by_struct = vec![
+        machines.row("load_u64", load, load_here),
+        machines.row("store64", store, store_here),
+        machines.row("i8x16_add", |_| add(), add_here),
+        machines.row("growth beyond the type", |_| of_kind(3, 16), grow_here(16)),
+        poor.row("growth without fuel", |_| of_kind(3, 1), grow_here(1)),
+        machines.growths("growth by a page of a byte", 0, false),
+        machines.growths("growth by 64 KiB", 16, false),
+        machines.row("a run of 1,000 calls, a call", mixed, mixed_here),
+    ];
+    [plain, by_struct]
 }
 
 /// A region for the rest of the program, and the same one again for a new memory once the last one is dropped.
@@ -337,13 +412,15 @@ fn run_on_region() -> Row<2> {
 }
 
 fn main() {
-    println!(
-        "| by handle, ns a call | crate's machine | **here** | here / crate | by the bindings |\n|---|---|---|---|---|"
-    );
-    for Row { name, times: [theirs, here, bound] } in rows_by_handle() {
-        println!("| {name} | {theirs:.1} | **{here:.1}** | {:.2} | {bound:.1} |", here / theirs);
+    let names = ["by handle, plain arguments, ns a call", "by handle, a struct, ns a call"];
+    for (name, rows) in names.iter().zip(rows_by_handle()) {
+        println!("| {name} | crate's machine | **here** | here / crate | by the bindings |\n|---|---|---|---|---|");
+        for Row { name, times: [theirs, here, bound] } in rows {
+            println!("| {name} | {theirs:.1} | **{here:.1}** | {:.2} | {bound:.1} |", here / theirs);
+        }
+        println!();
     }
-    println!("\n| on a region, ns a call | crate, bare | **here** | here - crate |\n|---|---|---|---|");
+    println!("| on a region, ns a call | crate, bare | **here** | here - crate |\n|---|---|---|---|");
     let growths = [growths_on_region("growth by a page of a byte", 0), growths_on_region("growth by 64 KiB", 16)];
     let refusals =
         [refusal_on_region("growth beyond the type", 16, 1 << 20), refusal_on_region("growth without fuel", 1, 9)];

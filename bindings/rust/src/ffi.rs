@@ -188,6 +188,9 @@ pub mod machine {
     pub const NO_CALL: u8 = 17;
     pub const NO_SUCH: u8 = 18;
     pub const NO_ROOM: u8 = 20;
+    pub const BAD_LINE: u8 = 23;
+    pub const HEADER_LINE: u8 = 24;
+    pub const TEXT_CUT: u8 = 25;
     pub const GLOBAL_IMMUTABLE: u8 = 72;
     pub const GLOBAL_TYPE: u8 = 73;
     pub const SEGMENT_TOO_MANY_ITEMS: u8 = 80;
@@ -263,10 +266,16 @@ pub mod machine {
         pub fn wasmi_machine_new(machine: &mut Handle, limits: &Limits) -> u8;
         pub fn wasmi_machine_drop(machine: &mut Handle);
         pub fn wasmi_machine_call(machine: &mut Handle, call: &Call) -> Reply;
+        pub fn wasmi_machine_load(machine: &mut Handle, op: u16, memory: usize, ptr: u64, offset: u64, value: &mut u64) -> u8;
+        pub fn wasmi_machine_store(machine: &mut Handle, op: u16, memory: usize, ptr: u64, offset: u64, value: u64) -> u8;
+        pub fn wasmi_machine_binary(machine: &mut Handle, op: u16, dst: u8, a: u8, b: u8) -> u8;
+        pub fn wasmi_machine_grow(machine: &mut Handle, memory: usize, pages: u64, number: &mut u64) -> u8;
+        pub fn wasmi_machine_fuel_left(machine: &mut Handle, left: &mut u64) -> u8;
         pub fn wasmi_machine_read(machine: &mut Handle, memory: usize, offset: usize, bytes: *mut u8, len: usize) -> Reply;
         pub fn wasmi_machine_write(machine: &mut Handle, memory: usize, offset: usize, bytes: *const u8, len: usize) -> Reply;
         pub fn wasmi_machine_new_segment(machine: &mut Handle, ty: u8, items: *const u32, len: usize) -> Reply;
         pub fn wasmi_machine_consume_fuel(machine: &mut Handle, amount: u64) -> Reply;
         pub fn wasmi_machine_totals(machine: &mut Handle) -> Totals;
+        pub fn wasmi_machine_run_lines(machine: &mut Handle, lines: *const u8, len: usize, text: *mut u8, room: usize) -> Reply;
     }
 }

@@ -14,9 +14,7 @@ use std::fmt::{self, Display};
 /// The kinds of calls, by their numbers in `include/wasmi_machine.h`.
 mod kind {
     pub const SET_FUEL: u16 = 0;
-    pub const GET_FUEL: u16 = 1;
     pub const NEW_MEMORY: u16 = 2;
-    pub const GROW_MEMORY: u16 = 3;
     pub const DROP_MEMORY: u16 = 4;
     pub const LOAD: u16 = 5;
     pub const STORE: u16 = 6;
@@ -137,6 +135,33 @@ impl Display for MachineError {
 
 impl Error for MachineError {}
 
+/// Why a machine doesn't run lines of a script, or doesn't print them whole.
+#[derive(Debug, Copy, Clone, PartialEq, Eq)]
+pub enum LinesError {
+    /// The line of this number is no command of a script. Nothing was run.
+    BadLine(u64),
+    /// There are header lines. The machine has its meter and its caps already. Nothing was run.
+    HeaderLine,
+    /// Out of memory for the calls, for their replies or for the text. Nothing was run.
+    NoRoom,
+    /// The lines were run. Out of memory for a text that is longer than the buffer: the number is the length of its
+    /// beginning, for which there was memory.
+    TextCut(u64),
+}
+
+impl Display for LinesError {
+    fn fmt(&self, f: &mut fmt::Formatter) -> fmt::Result {
+        match self {
+            Self::BadLine(line) => write!(f, "line {line}: bad command"),
+            Self::HeaderLine => f.write_str("a machine takes no header lines"),
+            Self::NoRoom => f.write_str("out of memory"),
+            Self::TextCut(_) => f.write_str("out of memory for the text"),
+        }
+    }
+}
+
+impl Error for LinesError {}
+
 /// A machine: memories, tables, element segments, globals, sixteen vector registers, a meter, and a quota on all
 /// memories and tables.
 ///
@@ -209,7 +234,9 @@ impl Machine {
     ///
     /// [`FuelError::FuelMeteringDisabled`].
     pub fn get_fuel(&mut self) -> Result<u64, MachineError> {
-        self.call(&Call { kind: kind::GET_FUEL, ..Call::default() }).map(|reply| reply.number)
+        let mut left = 0;
+        let status = unsafe { calls::wasmi_machine_fuel_left(&mut self.handle, &mut left) };
+        done(status, 0).map(|()| left)
     }
 
     /// Takes fuel for what the host does itself, as an interpreter's instructions, and returns what is left.
@@ -256,8 +283,9 @@ impl Machine {
     /// [`MemoryError::OutOfSystemMemory`], after which the fuel is taken.
     #[inline]
     pub fn grow_memory(&mut self, memory: usize, pages: u64) -> Result<u64, MachineError> {
-        let call = Call { kind: kind::GROW_MEMORY, index: memory, count: pages, ..Call::default() };
-        self.call(&call).map(|reply| reply.number)
+        let mut number = 0;
+        let status = unsafe { calls::wasmi_machine_grow(&mut self.handle, memory, pages, &mut number) };
+        done(status, number).map(|()| number)
     }
 
     /// Drops a memory. Its size still counts in the quota.
@@ -290,6 +318,26 @@ impl Machine {
         met(unsafe { calls::wasmi_machine_write(&mut self.handle, memory, offset, from, len) }).map(drop)
     }
 
+    /// Runs lines of the language of `docs/SCRIPT.md`, one after the other, and writes what a script prints for them to
+    /// the front of `text`, as much of it as fits. Returns the length of the whole text.
+    ///
+    /// # Errors
+    ///
+    /// In this order: [`LinesError::BadLine`] with the first line that is no command, [`LinesError::HeaderLine`],
+    /// [`LinesError::NoRoom`]; then nothing is run, and `text` stays. After the run [`LinesError::TextCut`].
+    pub fn run_lines(&mut self, lines: &str, text: &mut [u8]) -> Result<u64, LinesError> {
+        let (from, to) = (lines.as_ptr(), text.as_mut_ptr());
+        let reply = unsafe { calls::wasmi_machine_run_lines(&mut self.handle, from, lines.len(), to, text.len()) };
+        match reply.status {
+            ffi::DONE => Ok(reply.number),
+            calls::NO_ROOM => Err(LinesError::NoRoom),
+            calls::BAD_LINE => Err(LinesError::BadLine(reply.number)),
+            calls::HEADER_LINE => Err(LinesError::HeaderLine),
+            calls::TEXT_CUT => Err(LinesError::TextCut(reply.number)),
+            other => unexpected(other),
+        }
+    }
+
     /// A load of an item at `ptr + offset`, a sum that doesn't wrap.
     ///
     /// # Errors
@@ -297,12 +345,9 @@ impl Machine {
     /// [`MachineError::NoCall`] for a load of a vector; [`TrapCode::MemoryOutOfBounds`].
     #[inline]
     pub fn load(&mut self, op: LoadOp, memory: usize, ptr: u64, offset: u64) -> Result<RawVal, MachineError> {
-        if op.is_vector() {
-            return Err(MachineError::NoCall);
-        }
-        let op = op.number();
-        let call = Call { kind: kind::LOAD, op, index: memory, ptr, offset, ..Call::default() };
-        self.call(&call).map(|reply| reply.value)
+        let (op, mut value) = (op.number(), 0);
+        let status = unsafe { calls::wasmi_machine_load(&mut self.handle, op, memory, ptr, offset, &mut value) };
+        done(status, 0).map(|()| RawVal::from(value))
     }
 
     /// A load of a vector at `ptr + offset`, a sum that doesn't wrap, to the register `dst`.
@@ -340,11 +385,8 @@ impl Machine {
         offset: u64,
         value: RawVal,
     ) -> Result<(), MachineError> {
-        if op.is_vector() {
-            return Err(MachineError::NoCall);
-        }
-        let op = op.number();
-        self.call(&Call { kind: kind::STORE, op, index: memory, ptr, offset, value, ..Call::default() }).map(drop)
+        let (op, value) = (op.number(), value.to_bits64());
+        done(unsafe { calls::wasmi_machine_store(&mut self.handle, op, memory, ptr, offset, value) }, 0)
     }
 
     /// A store of the register `a` at `ptr + offset`, a sum that doesn't wrap.
@@ -566,8 +608,11 @@ impl Machine {
     /// [`MachineError::NoCall`] for an instruction on items alone.
     #[inline]
     pub fn binary(&mut self, op: BinaryOp, a: u8, b: u8, dst: u8) -> Result<(), MachineError> {
-        let op = op.number();
-        self.call(&Call { kind: kind::BINARY, op, a, b, dst, ..Call::default() }).map(drop)
+        match unsafe { calls::wasmi_machine_binary(&mut self.handle, op.number(), dst, a, b) } {
+            // A shift has a call of its own; what isn't on vectors is refused there as well.
+            calls::NO_CALL => self.shift(op, a, 0, dst),
+            status => done(status, 0),
+        }
     }
 
     /// A shift of the lanes of the register `a`, to the register `dst`.
@@ -653,13 +698,18 @@ fn type_number(ty: ValType) -> u8 {
 /// A reply, or the error of its status.
 #[inline]
 fn met(reply: Reply) -> Result<Reply, MachineError> {
-    if reply.status == ffi::DONE { Ok(reply) } else { Err(error(reply)) }
+    if reply.status == ffi::DONE { Ok(reply) } else { Err(error(reply.status, reply.number)) }
+}
+
+/// Nothing, or the error of a status, with the fuel that is needed if there is too little.
+#[inline]
+fn done(status: u8, required_fuel: u64) -> Result<(), MachineError> {
+    if status == ffi::DONE { Ok(()) } else { Err(error(status, required_fuel)) }
 }
 
 #[cold]
-fn error(reply: Reply) -> MachineError {
-    let required_fuel = reply.number;
-    match reply.status {
+fn error(status: u8, required_fuel: u64) -> MachineError {
+    match status {
         calls::MEMORY_OUT_OF_BOUNDS => MachineError::Trap(TrapCode::MemoryOutOfBounds),
         calls::NO_CALL => MachineError::NoCall,
         calls::NO_SUCH => MachineError::NoSuch,
@@ -672,7 +722,7 @@ fn error(reply: Reply) -> MachineError {
         calls::SEGMENT_TOO_MANY_ITEMS => MachineError::Segment(SegmentError::TooManyItems),
         calls::SEGMENT_OUT_OF_MEMORY => MachineError::Segment(SegmentError::OutOfSystemMemory),
         status::MEMORY_OUT_OF_MEMORY..=status::MEMORY_OUT_OF_FUEL => {
-            MachineError::Memory(MemoryError::of(reply.status, required_fuel))
+            MachineError::Memory(MemoryError::of(status, required_fuel))
         }
         other => MachineError::Table(TableError::of(other, required_fuel)),
     }

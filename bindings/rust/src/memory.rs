@@ -263,6 +263,7 @@ impl<'r> RegionMemory<'r> {
         Ok(())
     }
 
+    #[cold]
     fn error(&self, status: u8, required_fuel: u64) -> MemoryError {
         match MemoryError::of(status, required_fuel) {
             MemoryError::InvalidStaticBufferSize => self.no_room(),

@@ -328,7 +328,7 @@ pub enum MemoryError {
 #[cfg(any(feature = "memory", feature = "machine"))]
 impl MemoryError {
     /// The error of a status of the libraries, which says that a memory refuses.
-    #[cold]
+    #[inline]
     pub(crate) fn of(status: u8, required_fuel: u64) -> Self {
         match status {
             status::MEMORY_OUT_OF_MEMORY => Self::OutOfSystemMemory,

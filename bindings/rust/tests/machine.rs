@@ -1,9 +1,9 @@
 //! Machines: a guest's memory under fuel and a cap, tables, globals and registers.
 #![cfg(feature = "machine")]
 use wasmi_core_proved::{
-    BinaryOp, Caps, CustomFuelCosts, ExtractLaneOp, FuelError, GlobalError, GlobalType, Limits, LoadOp, Machine,
-    MachineError, MemoryError, MemoryType, Mutability, Place, RawRef, RawVal, RefType, StoreOp, TableError, TableType,
-    Totals, TrapCode, TypedRawRef, TypedRawVal, UnaryOp, V128, ValType, simd,
+    BinaryOp, Caps, CustomFuelCosts, ExtractLaneOp, FuelError, GlobalError, GlobalType, Limits, LinesError, LoadOp,
+    Machine, MachineError, MemoryError, MemoryType, Mutability, Place, RawRef, RawVal, RefType, StoreOp, TableError,
+    TableType, Totals, TrapCode, TypedRawRef, TypedRawVal, UnaryOp, V128, ValType, simd,
 };
 
 const PAGE: u64 = 65_536;
@@ -191,4 +191,19 @@ fn two_machines_on_two_threads() {
         .collect();
     let totals: Vec<_> = threads.into_iter().map(|thread| thread.join().unwrap()).collect();
     assert_eq!(totals, [1, 2].map(|pages| u128::from(pages * PAGE)));
+}
+
+#[test]
+fn lines_of_a_script_go_on_where_the_machine_stands() {
+    let mut machine = machine(true);
+    let mut text = [b'.'; 40];
+    assert_eq!(machine.run_lines("fuel 5000\nmemory 1 8 16 32\ngrow 0 1\nleft\n", &mut text), Ok(33));
+    assert_eq!(&text[..33], b"done\nmemory 0\nvalue 1\nvalue 3976\n");
+    assert_eq!(machine.consume_fuel(1000), Ok(2976));
+    assert_eq!(machine.run_lines("left\n", &mut text[..5]), Ok(11));
+    assert_eq!(&text[..11], b"valuememory");
+    assert_eq!(machine.run_lines("left\nshow x\n", &mut text), Err(LinesError::BadLine(2)));
+    assert_eq!(machine.run_lines("quota 1 1\nleft\n", &mut text), Err(LinesError::HeaderLine));
+    assert_eq!(machine.run_lines("", &mut text), Ok(0));
+    assert_eq!(machine.totals().bytes, u128::from(2 * PAGE));
 }
