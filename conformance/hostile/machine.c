@@ -53,7 +53,7 @@ void __wrap_free(void *old) {
 
 /* A copy that ends where a page begins which can't be touched; there is one copy of each use at a time. */
 
-enum use { OF_CALL, OF_ARRAY, USES };
+enum use { OF_CALL, OF_ARRAY, OF_WORD, USES };
 
 static void *at_edge(enum use use, const void *from, size_t len) {
     static _Thread_local uint8_t *regions[USES];
@@ -72,9 +72,17 @@ static void *at_edge(enum use use, const void *from, size_t len) {
     return copy;
 }
 
+static int is_direct(const wasmi_call *c);
+static wasmi_reply called_directly(wasmi_machine *machine, const wasmi_call *c);
+static uint64_t below(uint64_t most);
+
+/* A call by its struct, or, where it has a function of its own, by that one in half of the cases. */
 static wasmi_reply called(wasmi_machine *machine, wasmi_call call) {
-    /* The struct lies at a multiple of 8, and its size is one. */
     calls++;
+    if (is_direct(&call) && below(2)) {
+        return called_directly(machine, &call);
+    }
+    /* The struct lies at a multiple of 8, and its size is one. */
     return wasmi_machine_call(machine, at_edge(OF_CALL, &call, sizeof call));
 }
 
@@ -124,6 +132,47 @@ static const char *const LANE_STORES[] = {WASMI_STORE_LANE_NAMES(NAME)};
 /* The first number of each command in a list of several commands. */
 enum { FIRST_MAKE = 16, FIRST_UNARY = 28, FIRST_TEST = 54, FIRST_SHIFT = 150 };
 enum { FIRST_VECTOR_LOAD = 12, VECTOR_STORE = 7 };
+
+/* Whether a call has a function of its own, which takes this number or finds none of it. */
+static int is_direct(const wasmi_call *c) {
+    switch (c->kind) {
+        case WASMI_CALL_GET_FUEL:
+        case WASMI_CALL_GROW_MEMORY: return 1;
+        case WASMI_CALL_LOAD: return c->op < FIRST_VECTOR_LOAD || c->op >= sizeof LOADS / sizeof LOADS[0];
+        case WASMI_CALL_STORE: return c->op != VECTOR_STORE;
+        case WASMI_CALL_BINARY: return c->op < FIRST_SHIFT || c->op >= sizeof BINARIES / sizeof BINARIES[0];
+        default: return 0;
+    }
+}
+
+/* The reply that a call's own function leaves; its word lies at the end of a page, and stays after a refusal. */
+static wasmi_reply called_directly(wasmi_machine *machine, const wasmi_call *c) {
+    const uint64_t before = UINT64_C(0x5ac3965ac3965ac3);
+    uint64_t *word = at_edge(OF_WORD, &before, sizeof before);
+    wasmi_reply reply;
+    memset(&reply, 0, sizeof reply);
+    switch (c->kind) {
+        case WASMI_CALL_LOAD:
+            reply.status = wasmi_machine_load(machine, c->op, c->index, c->ptr, c->offset, word);
+            reply.value.lo = reply.status == WASMI_DONE ? *word : 0;
+            break;
+        case WASMI_CALL_STORE:
+            reply.status = wasmi_machine_store(machine, c->op, c->index, c->ptr, c->offset, c->value.lo);
+            break;
+        case WASMI_CALL_BINARY: reply.status = wasmi_machine_binary(machine, c->op, c->dst, c->a, c->b); break;
+        case WASMI_CALL_GET_FUEL:
+            reply.status = wasmi_machine_fuel_left(machine, word);
+            reply.number = reply.status == WASMI_DONE ? *word : 0;
+            break;
+        default:
+            reply.status = wasmi_machine_grow(machine, c->index, c->count, word);
+            reply.number = reply.status == WASMI_DONE || reply.status == WASMI_MEMORY_OUT_OF_FUEL ? *word : 0;
+    }
+    if (reply.status != WASMI_DONE && reply.status != WASMI_MEMORY_OUT_OF_FUEL && *word != before) {
+        differs("a refusal", "a word was written");
+    }
+    return reply;
+}
 
 static const char *name_of(const char *const *names, size_t count, uint16_t op) {
     return op < count ? names[op] : "unknown";
@@ -648,6 +697,32 @@ static void forge(long count) {
     printf("forged: %ld calls\n", calls);
 }
 
+/* A handle of zeros: each call says that there is no machine, and leaves the handle and the caller's arrays. */
+static void without_machine(void) {
+    static const wasmi_machine zeros;
+    wasmi_machine machine = zeros;
+    uint8_t bytes[3] = {1, 2, 3};
+    const uint32_t items[1] = {1};
+    int count = 0;
+    for (uint16_t kind = 0; kind < KINDS; kind++) {
+        for (int times = 0; times < 8; times++) {
+            wasmi_call call = of_kind(kind);
+            call.op = (uint16_t)(times % 2 ? UINT16_MAX : kind == WASMI_CALL_BINARY ? FIRST_TEST : 0);
+            count += called(&machine, call).status == WASMI_NO_MACHINE;
+        }
+    }
+    count += wasmi_machine_read(&machine, 0, 0, bytes, 3).status == WASMI_NO_MACHINE;
+    count += wasmi_machine_write(&machine, 0, 0, bytes, 3).status == WASMI_NO_MACHINE;
+    count += wasmi_machine_new_segment(&machine, UINT8_MAX, items, 1).status == WASMI_NO_MACHINE;
+    count += wasmi_machine_consume_fuel(&machine, 1).status == WASMI_NO_MACHINE;
+    count += wasmi_machine_totals(&machine).status == WASMI_NO_MACHINE;
+    wasmi_machine_drop(&machine);
+    calls += 5;
+    if (count != 8 * KINDS + 5 || machine.at != zeros.at || machine.is_made || bytes[0] != 1 || bytes[2] != 3) {
+        differs("a handle of zeros", "a call found a machine");
+    }
+}
+
 /* Threads: a handle each, and one handle that goes from thread to thread. */
 
 struct work {
@@ -783,6 +858,7 @@ int main(int count, char **words) {
     long wanted = count > 1 ? atol(words[1]) : 10000;
     uint64_t seed = count > 2 ? strtoull(words[2], NULL, 10) : 1;
     state = seed;
+    without_machine();
     forge(wanted / 10);
     long before = calls, sequences = wanted / 100 + 1;
     run_sequences(seed, sequences);

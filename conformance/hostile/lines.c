@@ -1,0 +1,210 @@
+/* Runs random scripts twice: whole by wasmi_script_run, and in parts by wasmi_machine_run_lines on a machine that lives
+   from part to part; both have to print the same. A second machine gets each part with less room than its text needs.
+   Each array ends where a page begins which can't be touched. usage: lines SCRIPTS [SEED]. The last line is
+   `N scripts, M differ`; the exit status is 0 if M is 0. */
+#define _DEFAULT_SOURCE
+#include "wasmi_machine.h"
+#include <inttypes.h>
+#include <stdio.h>
+#include <stdlib.h>
+#include <string.h>
+#include <sys/mman.h>
+
+enum { PAGE = 65536, TEXT = 1 << 16, LINES = 40, PARTS = 6, MOST_LINE = 512 };
+
+static long differing;
+
+static void differs(const char *what, const char *more) {
+    differing++;
+    if (differing < 5) {
+        printf("%s\n%s\n", what, more);
+    }
+}
+
+/* Random numbers. */
+
+static uint64_t state;
+
+static uint64_t below(uint64_t most) {
+    state += UINT64_C(0x9e3779b97f4a7c15);
+    uint64_t z = state;
+    z = (z ^ (z >> 30)) * UINT64_C(0xbf58476d1ce4e5b9);
+    z = (z ^ (z >> 27)) * UINT64_C(0x94d049bb133111eb);
+    return (z ^ (z >> 31)) % most;
+}
+
+/* The sanitizer gives no memory where there is none, in place of ending the program. */
+const char *__asan_default_options(void);
+const char *__asan_default_options(void) {
+    return "allocator_may_return_null=1";
+}
+
+static uint64_t number(void) {
+    static const uint64_t borders[] = {0, 255, PAGE, UINT32_MAX, UINT64_C(1) << 48, INT64_MAX, UINT64_MAX};
+    uint64_t form = below(12);
+    return form < 8 ? below(6) : form < 11 ? below(2 * PAGE) : borders[below(7)];
+}
+
+/* Lines: a capital letter stands for a random word. K is a small index, D a register, N a number, B a byte, L a lane,
+   T a type of references, V a type of values, M a maximum, X more than there is. */
+
+static const char *const FORMS[] = {
+    "fuel N", "left", "memory K M 16 32", "memory B M 0 64", "memory X none 0 64", "lent 1 M 16 32", "grow K K", "grow K X", "drop memory K",
+    "read K N B", "write K N B B B", "write K N", "load i64_load32_s K N K", "store i64_store K N K N",
+    "table T K M 32 T N", "table T B M 64 T N", "tgrow K K T N", "tgrow K X T N", "drop table K", "get K K", "tset K K T N",
+    "init K K K K K", "copy K K K K K", "fill K K T N K", "segment T N N N", "segment T", "empty K", "global V var N N",
+    "global V const N N", "gset K V N N", "gget K", "set D N N", "show D", "make i32x4_splat D D", "unary f32x4_sqrt D D",
+    "binary i16x8_mul D D D", "ternary v128_bitselect D D D D", "shift i64x2_shl D D K", "test i8x16_bitmask D",
+    "extract i64x2_extract_lane D L", "replace i64x2_replace_lane D D L D", "vload v128_load D K N K",
+    "vloadlane v128_load64_lane D D L K N K", "vstore D K N K", "vstorelane v128_store64_lane D L K N K",
+    "shuffle D D D K K K K K K K K K K K K K K K K", "",
+};
+static const char *const BAD_FORMS[] = {"as 0", "meter off", "quota N N", "show", "\xff", "left N", "unknown"};
+
+static char *word(char *at, char letter) {
+    static const char *const types[] = {"i32", "i64", "f32", "f64", "v128", "funcref", "externref"};
+    switch (letter) {
+        case 'K': return at + sprintf(at, "%" PRIu64, below(3));
+        case 'D': return at + sprintf(at, "%" PRIu64, below(40) ? below(5) : below(256));
+        case 'N': return at + sprintf(at, "%" PRIu64, number());
+        case 'B': return at + sprintf(at, "%" PRIu64, below(256));
+        case 'L': return at + sprintf(at, "%" PRIu64, below(2));
+        case 'T': return at + sprintf(at, "%s", below(4) ? "func" : "extern");
+        case 'V': return at + sprintf(at, "%s", types[below(7)]);
+        case 'M': return at + sprintf(at, "%s", below(2) ? "none" : "300");
+        case 'X': return at + sprintf(at, "%" PRIu64, (UINT64_C(1) << 47) + below(6));
+        default: *at = letter; return at + 1;
+    }
+}
+
+static char *line(char *at, const char *form) {
+    for (; *form; form++) {
+        at = word(at, *form);
+    }
+    *at = '\n';
+    return at + 1;
+}
+
+/* A copy that ends where a page begins which can't be touched; there is one copy of each use at a time. */
+static uint8_t *at_edge(int use, const void *from, size_t len) {
+    static uint8_t *regions[2];
+    if (regions[use] == NULL) {
+        void *region = mmap(NULL, TEXT + PAGE, PROT_READ | PROT_WRITE, MAP_PRIVATE | MAP_ANONYMOUS, -1, 0);
+        if (region == MAP_FAILED || mprotect((uint8_t *)region + TEXT, PAGE, PROT_NONE) != 0) {
+            fprintf(stderr, "no page at whose end an array could lie\n");
+            exit(2);
+        }
+        regions[use] = (uint8_t *)region;
+    }
+    uint8_t *copy = regions[use] + TEXT - len;
+    if (len > 0) {
+        memcpy(copy, from, len);
+    }
+    return copy;
+}
+
+static char script[TEXT], printed[TEXT], whole[TEXT], dots[TEXT];
+static wasmi_machine machine, narrow;
+
+/* Runs a part on a machine, with so much room, and leaves in `text` what the room has then. */
+static wasmi_reply run(wasmi_machine *on, const char *part, size_t len, char *text, size_t room) {
+    uint8_t *copy = at_edge(1, dots, room);
+    wasmi_reply reply = wasmi_machine_run_lines(on, at_edge(0, part, len), len, copy, room);
+    memcpy(text, copy, room);
+    return reply;
+}
+
+/* The number of the first bad line of a part, if there is one: the script with it is refused, and is as it was without. */
+static void bad_part(const char *part, size_t len, uint8_t status, uint64_t number) {
+    char expected[64] = "";
+    size_t needed = 0;
+    uint8_t ended = wasmi_script_run((const uint8_t *)part, len, (uint8_t *)whole, TEXT, &needed);
+    if (status == WASMI_BAD_LINE) {
+        sprintf(expected, "line %" PRIu64 ": bad command\n", number);
+    }
+    if (status == WASMI_BAD_LINE ? ended != 2 || strncmp(whole, expected, strlen(expected)) != 0
+                                 : status != WASMI_HEADER_LINE || ended != 0) {
+        differs("a part that isn't run", part);
+    }
+}
+
+/* One part on both machines: where it stands if it is run, else it is taken back. */
+static char *one_part(char *at, size_t *printed_len) {
+    static char text[TEXT], front[TEXT];
+    char *from = at;
+    for (uint64_t i = below(2 * LINES / PARTS); i > 0; i--) {
+        at = below(100) ? line(at, FORMS[below(sizeof FORMS / sizeof *FORMS)]) : line(at, BAD_FORMS[below(7)]);
+    }
+    size_t len = (size_t)(at - from);
+    wasmi_reply reply = run(&machine, from, len, text, TEXT);
+    size_t room = (size_t)below(reply.number + 2);
+    wasmi_reply same = run(&narrow, from, len, front, room);
+    size_t fits = reply.status != WASMI_DONE ? 0 : room < reply.number ? room : (size_t)reply.number;
+    if (same.status != reply.status || same.number != reply.number || memcmp(front, text, fits) != 0
+        || memcmp(front + fits, dots, room - fits) != 0) {
+        *at = 0;
+        differs("less room", from);
+    }
+    if (reply.status != WASMI_DONE) {
+        if (memcmp(text, dots, TEXT) != 0) {
+            differs("a refused part wrote", from);
+        }
+        bad_part(from, len, reply.status, reply.number);
+        return from;
+    }
+    memcpy(printed + *printed_len, text, (size_t)reply.number);
+    *printed_len += (size_t)reply.number;
+    return at;
+}
+
+/* Machines with random limits, and the header lines of the same. */
+static char *begin(wasmi_limits *limits) {
+    memset(limits, 0, sizeof *limits);
+    limits->bytes = below(20) * PAGE + below(4), limits->elements = below(40);
+    limits->bytes_copied_per_fuel = (uint32_t)(below(6) ? 64 : below(3));
+    limits->fuel_per_bytes_translated = 7, limits->fuel_per_bytes_validated = 2;
+    limits->is_metered = (uint8_t)below(2), limits->is_unlimited = (uint8_t)(below(3) == 0);
+    char *at = script + sprintf(script, "meter off\n");
+    if (limits->is_metered) {
+        at = script + sprintf(script, "meter on %" PRIu32 "\n", limits->bytes_copied_per_fuel);
+    }
+    if (!limits->is_unlimited) {
+        at += sprintf(at, "quota %" PRIu64 " %" PRIu64 "\n", limits->bytes, limits->elements);
+    }
+    if (wasmi_machine_new(&machine, limits) != WASMI_DONE || wasmi_machine_new(&narrow, limits) != WASMI_DONE) {
+        differs("new", "no machine was made");
+    }
+    return at;
+}
+
+static void one_script(uint64_t seed) {
+    wasmi_limits limits;
+    size_t len = 0, needed = 0;
+    state = seed;
+    char *at = begin(&limits);
+    for (int part = 0; part < PARTS; part++) {
+        at = one_part(at, &len);
+    }
+    wasmi_totals totals = wasmi_machine_totals(&machine);
+    if (!limits.is_unlimited) {
+        len += (size_t)sprintf(printed + len, "held %" PRIu64 " %" PRIu64 "\n", totals.bytes.lo, totals.elements.lo);
+    }
+    wasmi_machine_drop(&machine);
+    wasmi_machine_drop(&narrow);
+    *at = 0;
+    uint8_t ended = wasmi_script_run((uint8_t *)script, (size_t)(at - script), (uint8_t *)whole, TEXT, &needed);
+    if (ended != 0 || needed != len || memcmp(whole, printed, len) != 0) {
+        differs("a whole script", script);
+    }
+}
+
+int main(int count, char **arguments) {
+    long scripts = count > 1 ? atol(arguments[1]) : 2000;
+    uint64_t seed = count > 2 ? strtoull(arguments[2], NULL, 10) : 1;
+    memset(dots, '.', sizeof dots);
+    for (long i = 0; i < scripts; i++) {
+        one_script(seed + (uint64_t)i * 1000003);
+    }
+    printf("%ld scripts, %ld differ\n", scripts, differing);
+    return differing != 0;
+}
