@@ -1,5 +1,7 @@
 //! The types of linear memories.
-ghost use Rattle.std.specs.Prelude.{◌≡◌, ◌+◌, ◌*◌, ◌/◌, ◌%◌, ◌^◌, ◌≤◌, ◌<◌, ◌↔◌, ℕ, Option, Some, None, IsTrue, true, false, MatchOption, MatchResult, IsSomeAnd, nat_lt, if◌then◌else◌};
+ghost use Rattle.std.specs.Prelude.{◌≡◌, ◌+◌, ◌-◌, ◌*◌, ◌/◌, ◌%◌, ◌^◌, ◌≤◌, ◌<◌, ◌↔◌, ℕ, Option, Some, None, IsTrue, true, false, MatchOption, MatchResult, IsSomeAnd, nat_lt, if◌then◌else◌, min};
+ghost use Rattle.wasmi_types.specs.IndexType.{address_bits};
+ghost use Rattle.wasmi_store.specs.MemoryType.{page_bytes};
 
 use crate::limits::is_no_looser;
 use std::marker::Model;
@@ -191,7 +193,7 @@ impl MemoryType {
             (in_bounds self pages ≡ false)
             (λ size. (in_bounds self pages ≡ true) × (size ≡ pages * page_bytes self.page)) }
     {
-        if u128::from(pages) > self.index.max_size() / u128::from(self.page.bytes()) {
+        if pages > most_pages(self.index, self.page) {
             return None;
         }
         if let Some(maximum) = self.maximum {
@@ -201,6 +203,18 @@ impl MemoryType {
         }
         let size = pages.checked_mul(u64::from(self.page.bytes()))?;
         Some(size as usize)
+    }
+}
+
+/// The most pages that an address type reaches, at most the greatest `u64`.
+fn most_pages(index: IndexType, page: PageSize) -> u64
+    ensures { result ≡ min (2 ^ address_bits index / page_bytes page) (2 ^ 64 - 1) }
+{
+    match (index, page) {
+        (IndexType::I32, PageSize::Byte) => 1 << 32,
+        (IndexType::I32, PageSize::Wasm) => 1 << 16,
+        (IndexType::I64, PageSize::Byte) => u64::MAX,
+        (IndexType::I64, PageSize::Wasm) => 1 << 48,
     }
 }
 
@@ -298,12 +312,12 @@ impl MemoryTypeBuilder {
         let Some(page) = PageSize::from_log2(self.page_size_log2) else {
             return Err(MemoryError::InvalidMemoryType);
         };
-        let greatest = self.index.max_size() / u128::from(page.bytes());
-        if u128::from(self.minimum) > greatest {
+        let most = most_pages(self.index, page);
+        if self.minimum > most {
             return Err(MemoryError::InvalidMemoryType);
         }
         if let Some(maximum) = self.maximum {
-            if u128::from(maximum) > greatest || self.minimum > maximum {
+            if maximum > most || self.minimum > maximum {
                 return Err(MemoryError::InvalidMemoryType);
             }
         }
