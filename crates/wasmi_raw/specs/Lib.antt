@@ -1,3 +1,4 @@
 pub mod Number
+pub mod NumberProofs
 pub mod RawVal
 pub mod Vector

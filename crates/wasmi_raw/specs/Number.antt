@@ -1,5 +1,5 @@
 -- The numbers of an integer type of w bits, which is signed or not.
-use Rattle.std.specs.Prelude.{◌≡◌, ℕ, ℤ, pos, negsuc, Bool, true, false, unsigned_abs, FitsSigned, refl}
+use Rattle.std.specs.Prelude.{◌≡◌, ℕ, ℤ, pos, Bool, true, false, FitsSigned}
 use Rattle.std.specs.Int.{Width, cast_signed, FitsUnsignedBits}
 use mir.Val.{bits}
 
@@ -13,7 +13,9 @@ abbrev pub number_of_bits : Bool → Width → ℕ → ℤ
 number_of_bits true w n = cast_signed w n
 number_of_bits false w n = pos n
 
--- a number of an unsigned type is not negative
-pub unsigned_abs-is : (w : Width) (z : ℤ) → IsInRange false w z → pos (unsigned_abs z) ≡ z
-unsigned_abs-is w (pos n) h = refl
-unsigned_abs-is w (negsuc n) h = absurd h
+-- a type's values and their numbers: `number` gives the number of a value, `of_number` the value of a number of the
+-- type
+pub record AreNumbers {Value : Type 0} (is_signed : Bool) (width : Width) (number : Value → ℤ)
+    (of_number : ℤ → Value) : Type 0 where
+  pub of_its_number : (value : Value) → of_number (number value) ≡ value
+  pub of_its_value : (z : ℤ) → IsInRange is_signed width z → number (of_number z) ≡ z

@@ -1,14 +1,12 @@
 //! Conversions into and from raw values.
 
 ghost use Rattle.std.specs.Prelude.{◌≡◌};
-ghost use Rattle.std.specs.Int.{w8, w16, w32, w64, cast_unsigned, from_bool};
-ghost use Rattle.std.specs.Int.NonZero.{non_zero_i8_get, non_zero_i16_get, non_zero_i32_get, non_zero_i64_get, non_zero_u8_get, non_zero_u16_get, non_zero_u32_get, non_zero_u64_get};
+ghost use Rattle.std.specs.Int.{w8, w16, w32, w64};
 ghost use Rattle.wasmi_raw.specs.RawVal.{raw_of, raw_of_vector, unsigned_in, signed_in, bool_in, vector_in};
 
 use crate::float::{F32, F64};
-use crate::raw::{RawVal, ReadAs};
+use crate::raw::{OneWord, RawVal, ReadAs, WriteAs};
 use crate::vector::V128;
-use std::num::NonZero;
 
 impl From<RawVal> for i8 {
     ghost from_gives = { λ raw value. value ≡ signed_in w8 raw };
@@ -116,139 +114,17 @@ impl From<V128> for RawVal {
     }
 }
 
-impl From<u8> for RawVal {
-    ghost from_gives = { λ value raw. raw ≡ raw_of value };
+// A value in one word is written over the raw value 0.
+impl<T: OneWord> From<T> for RawVal
+where
+    RawVal: WriteAs<T>,
+{
+    ghost from_gives = { λ value raw. raw ≡ ⟦<RawVal as WriteAs<T>>⟧.written (raw_of 0) value };
 
-    fn from(value: u8) -> RawVal {
-        RawVal::from_bits64(u64::from(value))
-    }
-}
-
-impl From<NonZero<u8>> for RawVal {
-    ghost from_gives = { λ value raw. raw ≡ raw_of (non_zero_u8_get value) };
-
-    fn from(value: NonZero<u8>) -> RawVal {
-        RawVal::from(value.get())
-    }
-}
-
-impl From<u16> for RawVal {
-    ghost from_gives = { λ value raw. raw ≡ raw_of value };
-
-    fn from(value: u16) -> RawVal {
-        RawVal::from_bits64(u64::from(value))
-    }
-}
-
-impl From<NonZero<u16>> for RawVal {
-    ghost from_gives = { λ value raw. raw ≡ raw_of (non_zero_u16_get value) };
-
-    fn from(value: NonZero<u16>) -> RawVal {
-        RawVal::from(value.get())
-    }
-}
-
-impl From<u32> for RawVal {
-    ghost from_gives = { λ value raw. raw ≡ raw_of value };
-
-    fn from(value: u32) -> RawVal {
-        RawVal::from_bits64(u64::from(value))
-    }
-}
-
-impl From<NonZero<u32>> for RawVal {
-    ghost from_gives = { λ value raw. raw ≡ raw_of (non_zero_u32_get value) };
-
-    fn from(value: NonZero<u32>) -> RawVal {
-        RawVal::from(value.get())
-    }
-}
-
-impl From<u64> for RawVal {
-    ghost from_gives = { λ value raw. raw ≡ raw_of value };
-
-    fn from(value: u64) -> RawVal {
-        RawVal::from_bits64(value)
-    }
-}
-
-impl From<NonZero<u64>> for RawVal {
-    ghost from_gives = { λ value raw. raw ≡ raw_of (non_zero_u64_get value) };
-
-    fn from(value: NonZero<u64>) -> RawVal {
-        RawVal::from(value.get())
-    }
-}
-
-impl From<bool> for RawVal {
-    ghost from_gives = { λ value raw. raw ≡ raw_of (from_bool value) };
-
-    fn from(value: bool) -> RawVal {
-        RawVal::from_bits64(u64::from(value))
-    }
-}
-
-impl From<i8> for RawVal {
-    ghost from_gives = { λ value raw. raw ≡ raw_of (cast_unsigned w8 value) };
-
-    fn from(value: i8) -> RawVal {
-        RawVal::from(value.cast_unsigned())
-    }
-}
-
-impl From<NonZero<i8>> for RawVal {
-    ghost from_gives = { λ value raw. raw ≡ raw_of (cast_unsigned w8 (non_zero_i8_get value)) };
-
-    fn from(value: NonZero<i8>) -> RawVal {
-        RawVal::from(value.get())
-    }
-}
-
-impl From<i16> for RawVal {
-    ghost from_gives = { λ value raw. raw ≡ raw_of (cast_unsigned w16 value) };
-
-    fn from(value: i16) -> RawVal {
-        RawVal::from(value.cast_unsigned())
-    }
-}
-
-impl From<NonZero<i16>> for RawVal {
-    ghost from_gives = { λ value raw. raw ≡ raw_of (cast_unsigned w16 (non_zero_i16_get value)) };
-
-    fn from(value: NonZero<i16>) -> RawVal {
-        RawVal::from(value.get())
-    }
-}
-
-impl From<i32> for RawVal {
-    ghost from_gives = { λ value raw. raw ≡ raw_of (cast_unsigned w32 value) };
-
-    fn from(value: i32) -> RawVal {
-        RawVal::from(value.cast_unsigned())
-    }
-}
-
-impl From<NonZero<i32>> for RawVal {
-    ghost from_gives = { λ value raw. raw ≡ raw_of (cast_unsigned w32 (non_zero_i32_get value)) };
-
-    fn from(value: NonZero<i32>) -> RawVal {
-        RawVal::from(value.get())
-    }
-}
-
-impl From<i64> for RawVal {
-    ghost from_gives = { λ value raw. raw ≡ raw_of (cast_unsigned w64 value) };
-
-    fn from(value: i64) -> RawVal {
-        RawVal::from(value.cast_unsigned())
-    }
-}
-
-impl From<NonZero<i64>> for RawVal {
-    ghost from_gives = { λ value raw. raw ≡ raw_of (cast_unsigned w64 (non_zero_i64_get value)) };
-
-    fn from(value: NonZero<i64>) -> RawVal {
-        RawVal::from(value.get())
+    fn from(value: T) -> RawVal {
+        let mut raw = RawVal::from_bits64(0);
+        raw.write_as(value);
+        raw
     }
 }
 

@@ -1,8 +1,9 @@
 //! The integer types, as contracts see them.
 
-ghost use Rattle.std.specs.Prelude.{◌≡◌, ℤ, Bool, true, false, pos, unsigned_abs, refl};
+ghost use Rattle.std.specs.Prelude.{ℤ, Bool, true, false, pos, unsigned_abs};
 ghost use Rattle.std.specs.Int.{Width, w8, w16, w32, w64, w128};
-ghost use Rattle.wasmi_raw.specs.Number.{IsInRange, unsigned_abs-is};
+ghost use Rattle.wasmi_raw.specs.Number.{AreNumbers};
+ghost use Rattle.wasmi_raw.specs.NumberProofs.{signed_numbers, unsigned_numbers};
 
 mod sealed {
     pub trait Sealed {}
@@ -46,12 +47,8 @@ pub trait Number: sealed::Sealed {
     /// The value of a number of the type.
     ghost of_number: { ℤ → Self };
 
-    /// A value is that of its number.
-    ghost is_of_its_number: { (value : Self) → of_number (number value) ≡ value };
-
-    /// A number of the type is that of its value.
-    ghost is_number_of_its_value: { (z : ℤ) → IsInRange is_signed width z
-        → number (of_number z) ≡ z };
+    /// A value is that of its number, and a number of the type is that of its value.
+    ghost laws: { AreNumbers is_signed width number of_number };
 }
 
 impl Number for i8 {
@@ -63,9 +60,7 @@ impl Number for i8 {
 
     ghost of_number = { λ number. number };
 
-    ghost is_of_its_number = { λ _. refl };
-
-    ghost is_number_of_its_value = { λ _ _. refl };
+    ghost laws = { signed_numbers w8 };
 }
 
 impl Number for i16 {
@@ -77,9 +72,7 @@ impl Number for i16 {
 
     ghost of_number = { λ number. number };
 
-    ghost is_of_its_number = { λ _. refl };
-
-    ghost is_number_of_its_value = { λ _ _. refl };
+    ghost laws = { signed_numbers w16 };
 }
 
 impl Number for i32 {
@@ -91,9 +84,7 @@ impl Number for i32 {
 
     ghost of_number = { λ number. number };
 
-    ghost is_of_its_number = { λ _. refl };
-
-    ghost is_number_of_its_value = { λ _ _. refl };
+    ghost laws = { signed_numbers w32 };
 }
 
 impl Number for i64 {
@@ -105,9 +96,7 @@ impl Number for i64 {
 
     ghost of_number = { λ number. number };
 
-    ghost is_of_its_number = { λ _. refl };
-
-    ghost is_number_of_its_value = { λ _ _. refl };
+    ghost laws = { signed_numbers w64 };
 }
 
 impl Number for i128 {
@@ -119,9 +108,7 @@ impl Number for i128 {
 
     ghost of_number = { λ number. number };
 
-    ghost is_of_its_number = { λ _. refl };
-
-    ghost is_number_of_its_value = { λ _ _. refl };
+    ghost laws = { signed_numbers w128 };
 }
 
 impl Number for u8 {
@@ -133,9 +120,7 @@ impl Number for u8 {
 
     ghost of_number = { unsigned_abs };
 
-    ghost is_of_its_number = { λ _. refl };
-
-    ghost is_number_of_its_value = { unsigned_abs-is w8 };
+    ghost laws = { unsigned_numbers w8 };
 }
 
 impl Number for u16 {
@@ -147,9 +132,7 @@ impl Number for u16 {
 
     ghost of_number = { unsigned_abs };
 
-    ghost is_of_its_number = { λ _. refl };
-
-    ghost is_number_of_its_value = { unsigned_abs-is w16 };
+    ghost laws = { unsigned_numbers w16 };
 }
 
 impl Number for u32 {
@@ -161,9 +144,7 @@ impl Number for u32 {
 
     ghost of_number = { unsigned_abs };
 
-    ghost is_of_its_number = { λ _. refl };
-
-    ghost is_number_of_its_value = { unsigned_abs-is w32 };
+    ghost laws = { unsigned_numbers w32 };
 }
 
 impl Number for u64 {
@@ -175,9 +156,7 @@ impl Number for u64 {
 
     ghost of_number = { unsigned_abs };
 
-    ghost is_of_its_number = { λ _. refl };
-
-    ghost is_number_of_its_value = { unsigned_abs-is w64 };
+    ghost laws = { unsigned_numbers w64 };
 }
 
 impl Number for u128 {
@@ -189,7 +168,5 @@ impl Number for u128 {
 
     ghost of_number = { unsigned_abs };
 
-    ghost is_of_its_number = { λ _. refl };
-
-    ghost is_number_of_its_value = { unsigned_abs-is w128 };
+    ghost laws = { unsigned_numbers w128 };
 }

@@ -72,3 +72,6 @@ pub trait WriteAs<T: ReadBack>: ReadAs<T::Read> {
         ensures written { self.new ≡ written self.old value }
         ensures read_back { Self.read self.new ≡ T.read_back value };
 }
+
+/// A type whose values stand in the low word of a raw value. Only this crate's `From` names it.
+pub trait OneWord: ReadBack {}

@@ -2,9 +2,9 @@
 
 ghost use Rattle.std.specs.Prelude.{◌≡◌, ◌↔◌, ℕ, IsTrue};
 ghost use Rattle.std.specs.Int.{w32};
-ghost use Rattle.wasmi_raw.specs.RawVal.{raw_of, with_low, unsigned_in};
+ghost use Rattle.wasmi_raw.specs.RawVal.{with_low, unsigned_in};
 
-use crate::raw::{RawVal, ReadAs, ReadBack, WriteAs};
+use crate::raw::{OneWord, RawVal, ReadAs, ReadBack, WriteAs};
 use std::marker::Model;
 
 /// A reference of 32 bits without a type, which contracts see as a number. The null reference is 0.
@@ -55,14 +55,6 @@ impl From<RawRef> for u32 {
     }
 }
 
-impl From<RawRef> for RawVal {
-    ghost from_gives = { λ reference raw. raw ≡ raw_of reference };
-
-    fn from(reference: RawRef) -> RawVal {
-        RawVal::from(reference.bits)
-    }
-}
-
 impl From<RawVal> for RawRef {
     ghost from_gives = { λ raw reference. reference ≡ unsigned_in w32 raw };
 
@@ -85,6 +77,8 @@ impl ReadBack for RawRef {
 
     ghost read_back = { λ value. value };
 }
+
+impl OneWord for RawRef {}
 
 impl WriteAs<RawRef> for RawVal {
     ghost written = { with_low };

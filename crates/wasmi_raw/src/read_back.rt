@@ -3,7 +3,7 @@
 ghost use Rattle.std.specs.Int.NonZero.{non_zero_i8_get, non_zero_i16_get, non_zero_i32_get, non_zero_i64_get, non_zero_u8_get, non_zero_u16_get, non_zero_u32_get, non_zero_u64_get};
 
 use crate::number::Number;
-use crate::raw::{RawVal, ReadBack};
+use crate::raw::{OneWord, RawVal, ReadBack};
 use crate::vector::V128;
 use std::num::NonZero;
 
@@ -79,3 +79,37 @@ impl ReadBack for NonZero<u64> {
 
     ghost read_back = { non_zero_u64_get };
 }
+
+impl OneWord for i8 {}
+
+impl OneWord for i16 {}
+
+impl OneWord for i32 {}
+
+impl OneWord for i64 {}
+
+impl OneWord for u8 {}
+
+impl OneWord for u16 {}
+
+impl OneWord for u32 {}
+
+impl OneWord for u64 {}
+
+impl OneWord for bool {}
+
+impl OneWord for NonZero<i8> {}
+
+impl OneWord for NonZero<i16> {}
+
+impl OneWord for NonZero<i32> {}
+
+impl OneWord for NonZero<i64> {}
+
+impl OneWord for NonZero<u8> {}
+
+impl OneWord for NonZero<u16> {}
+
+impl OneWord for NonZero<u32> {}
+
+impl OneWord for NonZero<u64> {}

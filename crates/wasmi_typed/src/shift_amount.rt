@@ -8,35 +8,13 @@ use std::marker::Model;
 use wasmi_raw::Number;
 
 mod sealed {
-    pub trait Sealed {}
+    use wasmi_raw::Number;
 
-    impl Sealed for i8 {}
+    pub trait Sealed<Lane> {}
 
-    impl Sealed for u8 {}
+    impl<T: Number> Sealed<T> for T {}
 
-    impl Sealed for i16 {}
-
-    impl Sealed for u16 {}
-
-    impl Sealed for i32 {}
-
-    impl Sealed for u32 {}
-
-    impl Sealed for i64 {}
-
-    impl Sealed for u64 {}
-
-    impl Sealed for i128 {}
-
-    impl Sealed for u128 {}
-
-    impl Sealed for [u8; 16] {}
-
-    impl Sealed for [u16; 8] {}
-
-    impl Sealed for [u32; 4] {}
-
-    impl Sealed for [u64; 2] {}
+    impl<T: Number, const N: usize> Sealed<T> for [T; N] {}
 }
 
 /// By how many bits a number is shifted. Contracts see it as that number.
@@ -75,7 +53,7 @@ impl From<ShiftAmount> for u8 {
 ///
 /// The ten integer types have it and the arrays of the unsigned lanes of a vector, and no other
 /// type can. Upstream: `wasmi_core::IntoShiftAmount`, which other types can have.
-pub trait IntoShiftAmount: sealed::Sealed {
+pub trait IntoShiftAmount: sealed::Sealed<<Self as IntoShiftAmount>::Lane> {
     /// The type in which the amount is given.
     type ShiftSource: Copy + Number;
 

@@ -22,47 +22,34 @@ pub trait Typed {
     const TY: ValType;
 }
 
-impl Typed for bool {
+/// A type whose values are of the value type `I32`. Only this crate's `Typed` names it.
+pub trait TypedI32 {}
+
+impl<T: TypedI32> Typed for T {
     ghost TY = { types.I32 };
 
     const TY: ValType = ValType::I32;
 }
 
-impl Typed for i8 {
-    ghost TY = { types.I32 };
+impl TypedI32 for bool {}
 
-    const TY: ValType = ValType::I32;
-}
+impl TypedI32 for i8 {}
 
-impl Typed for u8 {
-    ghost TY = { types.I32 };
+impl TypedI32 for u8 {}
 
-    const TY: ValType = ValType::I32;
-}
+impl TypedI32 for i16 {}
 
-impl Typed for i16 {
-    ghost TY = { types.I32 };
+impl TypedI32 for u16 {}
 
-    const TY: ValType = ValType::I32;
-}
+impl TypedI32 for i32 {}
 
-impl Typed for u16 {
-    ghost TY = { types.I32 };
+impl TypedI32 for u32 {}
 
-    const TY: ValType = ValType::I32;
-}
+impl TypedI32 for ShiftAmount {}
 
-impl Typed for i32 {
-    ghost TY = { types.I32 };
+impl TypedI32 for NonZero<i32> {}
 
-    const TY: ValType = ValType::I32;
-}
-
-impl Typed for u32 {
-    ghost TY = { types.I32 };
-
-    const TY: ValType = ValType::I32;
-}
+impl TypedI32 for NonZero<u32> {}
 
 impl Typed for i64 {
     ghost TY = { types.I64 };
@@ -71,6 +58,18 @@ impl Typed for i64 {
 }
 
 impl Typed for u64 {
+    ghost TY = { types.I64 };
+
+    const TY: ValType = ValType::I64;
+}
+
+impl Typed for NonZero<i64> {
+    ghost TY = { types.I64 };
+
+    const TY: ValType = ValType::I64;
+}
+
+impl Typed for NonZero<u64> {
     ghost TY = { types.I64 };
 
     const TY: ValType = ValType::I64;
@@ -92,36 +91,6 @@ impl Typed for V128 {
     ghost TY = { types.V128 };
 
     const TY: ValType = ValType::V128;
-}
-
-impl Typed for ShiftAmount {
-    ghost TY = { types.I32 };
-
-    const TY: ValType = ValType::I32;
-}
-
-impl Typed for NonZero<i32> {
-    ghost TY = { types.I32 };
-
-    const TY: ValType = ValType::I32;
-}
-
-impl Typed for NonZero<u32> {
-    ghost TY = { types.I32 };
-
-    const TY: ValType = ValType::I32;
-}
-
-impl Typed for NonZero<i64> {
-    ghost TY = { types.I64 };
-
-    const TY: ValType = ValType::I64;
-}
-
-impl Typed for NonZero<u64> {
-    ghost TY = { types.I64 };
-
-    const TY: ValType = ValType::I64;
 }
 
 /// A raw value with its type.

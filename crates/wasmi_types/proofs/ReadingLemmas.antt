@@ -1,11 +1,13 @@
 -- The readings of parameters and of results, put together.
-use Rattle.std.proofs.Common.{◌≡◌, ℕ, ◌+◌, ◌<◌, List, [], ◌++◌, length, inl, inr, subst, sym, ap, ◌∙◌, arith, length-append}
+use Rattle.std.proofs.Common.{◌≡◌, ℕ, ◌+◌, ◌<◌, List, [], ◌++◌, length, inl, inr, subst, sym, ap, ap₂, ◌∙◌, arith, length-append, take, drop, Ok}
 use Rattle.std.specs.Prelude.{Option}
+use lib.Seq.{take-append_seam, drop-append_seam}
 use Rattle.wasmi_types.specs.declared.value.ValType.{ValType}
 use Rattle.wasmi_types.specs.declared.func_type.FuncTypeError.{FuncTypeError}
 use Rattle.wasmi_types.specs.declared.func_type.FuncTypeError.TheVariants.{TooManyFunctionResults}
+use Rattle.wasmi_types.specs.FunctionType.{FunctionType}
 use Rattle.wasmi_types.specs.Iteration.{ReadsAll}
-use Rattle.wasmi_types.specs.Reading.{ReadsSome, IsOutOfMemory, IsRefusal, ReadsTypes, IsReadingRefusal}
+use Rattle.wasmi_types.specs.Reading.{IsReading, ReadsSome, IsOutOfMemory, IsRefusal, ReadsTypes, IsReadingRefusal}
 
 -- what was read to its end was read
 some_from_all : {I : Type 0} {steps : I → Option ValType → I → Type 0} {s t : I} {xs : List ValType}
@@ -43,3 +45,16 @@ module _ {P R : Type 0} {of_params : P → Option ValType → P → Type 0} {of_
   refused_end none first second many =
       refused_memory none first second.types (some_from_all second.read)
       (omega (arith, many, ap length second.kept, length-append entries second.types))
+
+  -- the function type of all entries is what both gave
+  pub read_end : {m : ℕ} {all : List ValType} {ty : FunctionType} → before ≡ []
+      → ReadsTypes of_params p before n p' entries → ReadsTypes of_results r entries m r' all
+      → ty.params ≡ take n all → ty.results ≡ drop n all → IsReading of_params of_results p r (Ok ty) p' r'
+  read_end {all = all} none first second params results =
+      let front : entries ≡ first.types = first.kept ∙ ap (λ xs. xs ++ first.types) none in
+      let whole : all ≡ first.types ++ second.types = second.kept ∙ ap (λ xs. xs ++ second.types) front in (
+        subst (λ xs. ReadsAll 1000 of_params p xs p')
+            (sym (params ∙ ap₂ take first.counted whole ∙ take-append_seam first.types second.types)) first.read,
+        subst (λ xs. ReadsAll 1000 of_results r xs r')
+            (sym (results ∙ ap₂ drop first.counted whole ∙ drop-append_seam first.types second.types)) second.read,
+      )

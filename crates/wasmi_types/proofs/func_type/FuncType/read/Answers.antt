@@ -1,6 +1,6 @@
 use Rattle.std.proofs.Common.{refl}
 use Rattle.std.proofs.lemmas.Result.{err_from_is_err_and}
-use Rattle.wasmi_types.proofs.ReadingLemmas.{refused_results, refused_end}
+use Rattle.wasmi_types.proofs.ReadingLemmas.{refused_results, refused_end, read_end}
 use Rattle.wasmi_types.proofs.func_type.FuncType.read.Goals as goal
 
 pub returns-in_err-len_results : goal.returns-in_err-len_results
@@ -11,6 +11,12 @@ returns-in_err-len_results g c =
       reading = rw (p.1, p.2)
           (refused_results c.new-entries.ensures c.in_ok-len_params.ensures.ok c.in_err-len_results.ensures.err);
     }
+
+pub returns-in-Ok : goal.returns-in-Ok
+returns-in-Ok g c = record {
+  reading = read_end c.new-entries.ensures c.in_ok-len_params.ensures.ok c.in_ok-len_results.ensures.ok
+      c.in-Ok.ensures.params c.in-Ok.ensures.results;
+}
 
 pub returns : goal.returns
 returns g c =
