@@ -1,9 +1,9 @@
 -- A vector is made of its lanes.
-use Rattle.std.proofs.Common.{ℕ, zero, suc, ◌+◌, ◌-◌, ◌*◌, ◌/◌, ◌%◌, ◌^◌, ◌<◌, ◌≡◌, sym, ◌∙◌, ap, ap₂, subst, arith, add_comm, Bool, true, false, if◌then◌else◌}
+use Rattle.std.proofs.Common.{ℕ, zero, suc, ◌+◌, ◌-◌, ◌*◌, ◌/◌, ◌%◌, ◌^◌, ◌<◌, ◌≡◌, refl, sym, ◌∙◌, ap, ap₂, subst, arith, add_comm, Bool, true, false, if◌then◌else◌}
 use Rattle.std.proofs.lemmas.Nat.{pow_pos, mod-pow-add}
 use Rattle.std.proofs.Math.Nat.{mod-eq_of_lt, mod-lt, mod-one, mul-suc}
 use Rattle.wasmi_lanes.specs.declared.item.LaneInteger.{Ghosts}
-use Rattle.wasmi_lanes.specs.Lane.{lane}
+use Rattle.wasmi_lanes.specs.Lane.{lane, lane_count}
 use Rattle.wasmi_lanes.specs.Vector.{first_lanes, from_lanes}
 use Rattle.wasmi_types.specs.Wrapping.{Width, w8, w16, w32, w64, bits}
 use mir.Syntax.{w128}
@@ -42,6 +42,14 @@ first_lanes_are w v f (suc n) each =
     ap (λ k. v % 2 ^ k) e ∙ mod-pow-add v b (b * n) in
     joined (first_lanes w n f) (v % 2 ^ (b * n)) (f n % 2 ^ b) (v / 2 ^ (b * n) % 2 ^ b) (2 ^ (b * n))
     (v % 2 ^ (b * suc n)) low same split
+
+-- the lanes of a width make 128 bits
+pub lane_count_fills : (w : Width) → lane_count w * bits w ≡ 128
+lane_count_fills w8 = refl
+lane_count_fills w16 = refl
+lane_count_fills w32 = refl
+lane_count_fills w64 = refl
+lane_count_fills w128 = refl
 
 -- a number below 2 ^ 128 is the vector of its lanes
 pub lanes_make_vector : (w : Width) (n v : ℕ) (f : ℕ → ℕ) → n * bits w ≡ 128 → v < 2 ^ 128

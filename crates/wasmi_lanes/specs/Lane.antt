@@ -9,6 +9,10 @@ use Rattle.wasmi_types.specs.Wrapping.{Width, bits, signed}
 abbrev pub lane : Width → ℕ → ℕ → ℕ
 lane w v i = v / 2 ^ (bits w * i) % 2 ^ bits w
 
+-- how many lanes of a width a vector has
+abbrev pub lane_count : Width → ℕ
+lane_count w = 128 / bits w
+
 -- a lane's number as it is; `signed` reads it as a signed number
 abbrev pub unsigned : ℕ → ℕ
 unsigned n = n
@@ -26,6 +30,14 @@ pub record ReadsLanes {Item : Type 0} (width : Width) (read : ℕ → Item) (ima
   pub image_of_zeros : image zeros ≡ 0
   pub image_of_read : (n : ℕ) → n < 2 ^ bits width → image (read n) ≡ n
   pub read_fits : (n : ℕ) → n < 2 ^ bits width → Fits (read n)
+
+-- the lanes of a type fill a vector, have as many indices, and have the ones and zeros of its items
+pub record AreWholeLanes {Item : Type 0} (width : Width) (lanes indices : ℕ)
+    (ones zeros item_ones item_zeros : Item) : Type 0 where
+  pub filled : lanes * bits width ≡ 128
+  pub counted : indices ≡ lanes
+  pub ones_eq : ones ≡ item_ones
+  pub zeros_eq : zeros ≡ item_zeros
 
 -- a number of lanes: of one vector, or of two vectors of bytes
 abbrev pub IsLaneCount : ℕ → Type 0

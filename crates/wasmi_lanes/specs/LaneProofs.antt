@@ -43,17 +43,15 @@ signed_lanes w = record {
 }
 
 -- numbers that are each what a width asks for
-pub word_lane : {w : Width} {lane_bits tops inner_tops ones : ℕ}
+pub word_lane : {w : Width} {lane_bits tops ones : ℕ}
     → lane_bits ≡ bits w
     → lanes_in_word w * bits w ≡ 64
     → tops ≡ in_each_lane w (2 ^ (bits w - 1))
-    → inner_tops ≡ in_each_lane w (2 ^ (bits w - 1)) % 2 ^ 63
     → ones ≡ in_each_lane w 1
-    → IsWordLane w lane_bits tops inner_tops ones
-word_lane wide whole highest inner lowest = record {
+    → IsWordLane w lane_bits tops ones
+word_lane wide whole highest lowest = record {
   wide = wide;
   whole = whole;
   highest = highest;
-  inner = inner;
   lowest = lowest;
 }

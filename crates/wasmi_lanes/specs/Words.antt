@@ -40,13 +40,12 @@ lanes_in_word w = 64 / bits w
 abbrev pub in_each_lane : Width → ℕ → ℕ
 in_each_lane w n = number_l (2 ^ bits w) (replicate (lanes_in_word w) n)
 
--- the numbers of the lanes of one width in a word: how many bits a lane has, the highest bits of the lanes, those
--- without the highest bit of the word, and the lowest bits of the lanes
-pub record IsWordLane (width : Width) (lane_bits tops inner_tops ones : ℕ) : Type 0 where
+-- the numbers of the lanes of one width in a word: how many bits a lane has, the highest bits of the lanes, and the
+-- lowest bits of the lanes
+pub record IsWordLane (width : Width) (lane_bits tops ones : ℕ) : Type 0 where
   pub wide : lane_bits ≡ bits width
   pub whole : lanes_in_word width * bits width ≡ 64
   pub highest : tops ≡ in_each_lane width (2 ^ (bits width - 1))
-  pub inner : inner_tops ≡ in_each_lane width (2 ^ (bits width - 1)) % 2 ^ 63
   pub lowest : ones ≡ in_each_lane width 1
 
 -- each lane of w bits of a word is 0 or its highest bit alone

@@ -2,7 +2,7 @@
 
 ghost use Rattle.std.specs.Prelude.{◌≡◌, refl, ℕ, ◌*◌, ◌^◌, ◌<◌, slice_index_or, if◌then◌else◌, ◌==◌, Bool};
 ghost use Rattle.wasmi_types.specs.Wrapping.{bits};
-ghost use Rattle.wasmi_lanes.specs.Lane.{lane, ReducesTo};
+ghost use Rattle.wasmi_lanes.specs.Lane.{lane, AreWholeLanes, ReducesTo};
 
 use crate::index::{CountsLanes, ImmLaneIdx, LaneIndex};
 use crate::item::{LaneInteger, LaneItem};
@@ -98,17 +98,10 @@ pub trait Lanes: Copy {
             (λ i before after. F.post f i (item self i) before after) LANES acc
             result };
 
-    /// The lanes make 128 bits.
-    ghost filled: { LANES * bits Self.Item.width ≡ 128 };
-
-    /// There are as many indices as lanes.
-    ghost counted: { Self.LaneIdx.COUNT ≡ LANES };
-
-    /// All ones are those of the item's type.
-    ghost ones: { ALL_ONES ≡ Self.Item.ALL_ONES };
-
-    /// All zeros are those of the item's type.
-    ghost zeros: { ALL_ZEROS ≡ Self.Item.ALL_ZEROS };
+    /// The lanes make 128 bits, there are as many indices, and all ones and all zeros are those of
+    /// the item's type.
+    ghost laws: { AreWholeLanes Self.Item.width LANES Self.LaneIdx.COUNT ALL_ONES ALL_ZEROS
+        Self.Item.ALL_ONES Self.Item.ALL_ZEROS };
 }
 
 /// The `N` lanes of a vector, which each lane type names for its item.
@@ -141,13 +134,7 @@ where
 
     ghost ALL_ZEROS = { T.ALL_ZEROS };
 
-    ghost filled = { T.filled };
-
-    ghost counted = { refl };
-
-    ghost ones = { refl };
-
-    ghost zeros = { refl };
+    ghost laws = { record { filled = T.filled; counted = refl; ones_eq = refl; zeros_eq = refl } };
 
     const LANES: usize = N;
 

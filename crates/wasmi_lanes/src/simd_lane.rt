@@ -1,8 +1,8 @@
 //! The lanes of a vector as a vector of `std::simd`.
 
-ghost use Rattle.std.specs.Prelude.{◌≡◌, refl, ℕ, ◌+◌, ◌-◌, ◌*◌, ◌%◌, ◌^◌, ◌<◌, nat_lt, slice_index, if◌then◌else◌};
+ghost use Rattle.std.specs.Prelude.{◌≡◌, ℕ, ◌+◌, ◌-◌, ◌%◌, ◌^◌, ◌<◌, nat_lt, slice_index, if◌then◌else◌};
 ghost use Rattle.wasmi_types.specs.Wrapping.{bits};
-ghost use Rattle.wasmi_lanes.specs.Lane.{lane};
+ghost use Rattle.wasmi_lanes.specs.Lane.{lane, lane_count};
 
 use crate::item::{LaneInteger, LaneItem};
 use crate::vector_bytes::{bytes_of, from_bytes};
@@ -14,29 +14,28 @@ pub trait SimdLane: LaneInteger {
     /// The lanes that fill a vector.
     type Vector: Copy;
 
-    /// How many lanes there are.
-    ghost COUNT: { ℕ };
-
     /// The number of the lane at an index.
     ghost at: { Self.Vector → ℕ → ℕ };
 
     /// The lanes of a vector.
     fn lanes_of(vector: V128) -> Self::Vector
-        ensures lanes { (i : ℕ) → i < COUNT → at result i ≡ lane Self.width vector i };
+        ensures lanes { (i : ℕ) → i < lane_count Self.width
+            → at result i ≡ lane Self.width vector i };
 
     /// The vector with these lanes.
     fn vector_of(items: Self::Vector) -> V128
-        ensures lanes { (i : ℕ) → i < COUNT → lane Self.width result i ≡ at items i }
+        ensures lanes { (i : ℕ) → i < lane_count Self.width
+            → lane Self.width result i ≡ at items i }
         ensures in_range { result < 2 ^ 128 };
 
     /// The same number in all lanes.
     fn splat(number: Self) -> Self::Vector
-        ensures lanes { (i : ℕ) → i < COUNT → at result i ≡ Self.image number };
+        ensures lanes { (i : ℕ) → i < lane_count Self.width → at result i ≡ Self.image number };
 
     /// The lanes moved by half of their range, so that as unsigned numbers they stand in the order
     /// of the signed ones.
     fn biased(items: Self::Vector) -> Self::Vector
-        ensures lanes { (i : ℕ) → i < COUNT
+        ensures lanes { (i : ℕ) → i < lane_count Self.width
             → at result i ≡ (at items i + 2 ^ (bits Self.width - 1)) % 2 ^ bits Self.width };
 
     /// The lanes of `chosen` where that of `a` is less than that of `b`, else those of `other`.
@@ -46,21 +45,14 @@ pub trait SimdLane: LaneInteger {
         chosen: Self::Vector,
         other: Self::Vector,
     ) -> Self::Vector
-        ensures lanes { (i : ℕ) → i < COUNT
+        ensures lanes { (i : ℕ) → i < lane_count Self.width
             → at result i ≡ (if nat_lt (at a i) (at b i) then at chosen i else at other i) };
-
-    /// The lanes make 128 bits.
-    ghost filled: { COUNT * bits Self.width ≡ 128 };
 }
 
 impl SimdLane for u8 {
     type Vector = u8x16;
 
-    ghost COUNT = { 16 };
-
     ghost at = { λ items i. slice_index items i };
-
-    ghost filled = { refl };
 
     #[inline(always)]
     fn lanes_of(vector: V128) -> u8x16 {
@@ -91,11 +83,7 @@ impl SimdLane for u8 {
 impl SimdLane for u16 {
     type Vector = u16x8;
 
-    ghost COUNT = { 8 };
-
     ghost at = { λ items i. slice_index items i };
-
-    ghost filled = { refl };
 
     #[inline(always)]
     fn lanes_of(vector: V128) -> u16x8 {
@@ -126,11 +114,7 @@ impl SimdLane for u16 {
 impl SimdLane for u32 {
     type Vector = u32x4;
 
-    ghost COUNT = { 4 };
-
     ghost at = { λ items i. slice_index items i };
-
-    ghost filled = { refl };
 
     #[inline(always)]
     fn lanes_of(vector: V128) -> u32x4 {
@@ -161,11 +145,7 @@ impl SimdLane for u32 {
 impl SimdLane for u64 {
     type Vector = u64x2;
 
-    ghost COUNT = { 2 };
-
     ghost at = { λ items i. slice_index items i };
-
-    ghost filled = { refl };
 
     #[inline(always)]
     fn lanes_of(vector: V128) -> u64x2 {

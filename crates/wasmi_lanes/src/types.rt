@@ -37,7 +37,7 @@ pub trait IntoLanes: Sized {
 impl<T: LaneInteger + IntoLanes> IntoLaneIdx for T {
     type LaneIdx = <T as IntoLanes>::LaneIdx;
 
-    ghost count = { ap (λ n. n * bits T.width) T.Lanes.counted ∙ T.Lanes.filled };
+    ghost count = { ap (λ n. n * bits T.width) T.Lanes.laws.counted ∙ T.Lanes.laws.filled };
 }
 
 impl IntoLanes for i64 {

@@ -20,13 +20,6 @@ pub trait WordLane: LaneInteger {
     /// The highest bit of each lane of a word, in contracts.
     ghost TOPS: { ℕ };
 
-    /// The highest bit of each lane of a word but the last: a sum or a difference needs no top at
-    /// the end of the word, and without it LLVM makes one step of it where a word is one lane.
-    const INNER_TOPS: u64;
-
-    /// The highest bit of each lane of a word but the last, in contracts.
-    ghost INNER_TOPS: { ℕ };
-
     /// The lowest bit of each lane of a word.
     const ONES: u64;
 
@@ -34,7 +27,7 @@ pub trait WordLane: LaneInteger {
     ghost ONES: { ℕ };
 
     /// These are the numbers of the lanes of the width.
-    ghost laws: { IsWordLane Self.width BITS TOPS INNER_TOPS ONES };
+    ghost laws: { IsWordLane Self.width BITS TOPS ONES };
 }
 
 impl WordLane for u8 {
@@ -46,15 +39,11 @@ impl WordLane for u8 {
 
     ghost TOPS = { 0x8080_8080_8080_8080 };
 
-    const INNER_TOPS: u64 = 0x0080_8080_8080_8080;
-
-    ghost INNER_TOPS = { 0x0080_8080_8080_8080 };
-
     const ONES: u64 = 0x0101_0101_0101_0101;
 
     ghost ONES = { 0x0101_0101_0101_0101 };
 
-    ghost laws = { word_lane refl refl refl refl refl };
+    ghost laws = { word_lane refl refl refl refl };
 }
 
 impl WordLane for u16 {
@@ -66,15 +55,11 @@ impl WordLane for u16 {
 
     ghost TOPS = { 0x8000_8000_8000_8000 };
 
-    const INNER_TOPS: u64 = 0x0000_8000_8000_8000;
-
-    ghost INNER_TOPS = { 0x0000_8000_8000_8000 };
-
     const ONES: u64 = 0x0001_0001_0001_0001;
 
     ghost ONES = { 0x0001_0001_0001_0001 };
 
-    ghost laws = { word_lane refl refl refl refl refl };
+    ghost laws = { word_lane refl refl refl refl };
 }
 
 impl WordLane for u32 {
@@ -86,15 +71,11 @@ impl WordLane for u32 {
 
     ghost TOPS = { 0x8000_0000_8000_0000 };
 
-    const INNER_TOPS: u64 = 0x0000_0000_8000_0000;
-
-    ghost INNER_TOPS = { 0x0000_0000_8000_0000 };
-
     const ONES: u64 = 0x0000_0001_0000_0001;
 
     ghost ONES = { 0x0000_0001_0000_0001 };
 
-    ghost laws = { word_lane refl refl refl refl refl };
+    ghost laws = { word_lane refl refl refl refl };
 }
 
 impl WordLane for u64 {
@@ -106,13 +87,9 @@ impl WordLane for u64 {
 
     ghost TOPS = { 0x8000_0000_0000_0000 };
 
-    const INNER_TOPS: u64 = 0;
-
-    ghost INNER_TOPS = { 0 };
-
     const ONES: u64 = 1;
 
     ghost ONES = { 1 };
 
-    ghost laws = { word_lane refl refl refl refl refl };
+    ghost laws = { word_lane refl refl refl refl };
 }

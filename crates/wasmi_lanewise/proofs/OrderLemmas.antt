@@ -6,9 +6,9 @@ use Rattle.std.specs.Int.RustNames.{int_lt, int_le}
 use Rattle.std.proofs.Math.Nat.{mod-eq_of_lt, add-mod_right}
 use Rattle.std.proofs.lemmas.Bool.{cases_lt, lt-ltb, le-ltb, le-leb, lt-leb, ltb-true, ltb-false}
 use Rattle.wasmi_types.specs.Wrapping.{Width, w8, w16, w32, w64, bits, signed, wrap}
-use Rattle.wasmi_lanes.specs.Lane.{lane}
+use Rattle.wasmi_lanes.specs.Lane.{lane, lane_count}
 use Rattle.wasmi_lanes.specs.Vector.{from_lanes, binary_of_lanes, comparison_of_lanes}
-use Rattle.wasmi_lanes.proofs.LaneVectorLemmas.{lanes_make_vector, lane_below}
+use Rattle.wasmi_lanes.proofs.LaneVectorLemmas.{lanes_make_vector, lane_below, lane_count_fills}
 use Rattle.wasmi_lanewise.specs.VectorTable.{lt_u, le_u, lt_s, le_s, min_u, max_u, min_s, max_s}
 use mir.Syntax.{w128}
 use mir.Val.{sel, hbits}
@@ -183,25 +183,25 @@ chosen_numbers chosen other test is is_chosen is_other i inside =
 
 -- ---- vectors whose lanes are chosen by an order of the operands' lanes x and y, as they are or moved
 
-module _ (w : Width) (n : ℕ) (filled : n * bits w ≡ 128) (a b : ℕ) {r : ℕ} (below : r < 2 ^ 128) {x y : ℕ → ℕ}
-    (is_x : (i : ℕ) → i < n → x i ≡ lane w a i) (is_y : (i : ℕ) → i < n → y i ≡ lane w b i) where
+module _ (w : Width) (a b : ℕ) {r : ℕ} (below : r < 2 ^ 128) {x y : ℕ → ℕ}
+    (is_x : (i : ℕ) → i < lane_count w → x i ≡ lane w a i) (is_y : (i : ℕ) → i < lane_count w → y i ≡ lane w b i) where
   -- lanes that are f of the operands' lanes, which is a row of them, make the vector of this row
-  pub rows_make_vector : (f row : ℕ → ℕ → ℕ) → ((i : ℕ) → i < n → lane w r i ≡ f (x i) (y i))
+  pub rows_make_vector : (f row : ℕ → ℕ → ℕ) → ((i : ℕ) → i < lane_count w → lane w r i ≡ f (x i) (y i))
       → ((p : ℕ) → (q : ℕ) → p < 2 ^ bits w → q < 2 ^ bits w → f p q ≡ row p q)
       → r ≡ from_lanes w (λ i. row (lane w a i) (lane w b i))
   rows_make_vector f row is same =
-      lanes_make_vector w n r _ filled below
+      lanes_make_vector w (lane_count w) r _ (lane_count_fills w) below
       (λ i inside. is i inside ∙ ap₂ f (is_x i inside) (is_y i inside)
       ∙ same (lane w a i) (lane w b i) (lane_below w a i) (lane_below w b i))
 
   -- all ones where x is less
-  pub less_make_vector : ((i : ℕ) → i < n → lane w r i ≡ (if ltb (x i) (y i) then 2 ^ bits w - 1 else 0))
+  pub less_make_vector : ((i : ℕ) → i < lane_count w → lane w r i ≡ (if ltb (x i) (y i) then 2 ^ bits w - 1 else 0))
       → r ≡ lt_u w a b
   unfolding comparison_of_lanes
   less_make_vector is = rows_make_vector (λ p q. if ltb p q then 2 ^ bits w - 1 else 0) _ is (λ p q _ _. refl)
 
   -- all zeros where y is less
-  pub at_most_make_vector : ((i : ℕ) → i < n → lane w r i ≡ (if ltb (y i) (x i) then 0 else 2 ^ bits w - 1))
+  pub at_most_make_vector : ((i : ℕ) → i < lane_count w → lane w r i ≡ (if ltb (y i) (x i) then 0 else 2 ^ bits w - 1))
       → r ≡ le_u w a b
   unfolding comparison_of_lanes
   at_most_make_vector is =
@@ -209,20 +209,23 @@ module _ (w : Width) (n : ℕ) (filled : n * bits w ≡ 128) (a b : ℕ) {r : �
       (λ p q. if leb p q then 2 ^ bits w - 1 else 0) is (λ p q _ _. zeros_where_less p q (2 ^ bits w - 1))
 
   -- y where it is less
-  pub smaller_make_vector : ((i : ℕ) → i < n → lane w r i ≡ (if ltb (y i) (x i) then y i else x i)) → r ≡ min_u w a b
+  pub smaller_make_vector : ((i : ℕ) → i < lane_count w → lane w r i ≡ (if ltb (y i) (x i) then y i else x i))
+      → r ≡ min_u w a b
   unfolding binary_of_lanes
   smaller_make_vector is = rows_make_vector (λ p q. if ltb q p then q else p) min is (λ p q _ _. smaller_is p q)
 
   -- x where y is less
-  pub larger_make_vector : ((i : ℕ) → i < n → lane w r i ≡ (if ltb (y i) (x i) then x i else y i)) → r ≡ max_u w a b
+  pub larger_make_vector : ((i : ℕ) → i < lane_count w → lane w r i ≡ (if ltb (y i) (x i) then x i else y i))
+      → r ≡ max_u w a b
   unfolding binary_of_lanes
   larger_make_vector is = rows_make_vector (λ p q. if ltb q p then p else q) max is (λ p q _ _. larger_is p q)
 
   module _ {x' y' : ℕ → ℕ}
-      (moved : ((i : ℕ) → i < n → x' i ≡ biased w (x i)) × ((i : ℕ) → i < n → y' i ≡ biased w (y i))) where
+      (moved : ((i : ℕ) → i < lane_count w → x' i ≡ biased w (x i))
+      × ((i : ℕ) → i < lane_count w → y' i ≡ biased w (y i))) where
     -- lanes that are f of the operands' lanes, and of these lanes moved, make the vector of the row that this is
     moved_make_vector : (f : ℕ → ℕ → ℕ → ℕ → ℕ) {row : ℕ → ℕ → ℕ}
-        → ((i : ℕ) → i < n → lane w r i ≡ f (x i) (y i) (x' i) (y' i))
+        → ((i : ℕ) → i < lane_count w → lane w r i ≡ f (x i) (y i) (x' i) (y' i))
         → ((p : ℕ) → (q : ℕ) → p < 2 ^ bits w → q < 2 ^ bits w → f p q (biased w p) (biased w q) ≡ row p q)
         → r ≡ from_lanes w (λ i. row (lane w a i) (lane w b i))
     moved_make_vector f is =
@@ -230,7 +233,8 @@ module _ (w : Width) (n : ℕ) (filled : n * bits w ≡ 128) (a b : ℕ) {r : �
         (λ i inside. is i inside ∙ ap₂ (f (x i) (y i)) (moved.0 i inside) (moved.1 i inside))
 
     -- all ones where x, moved, is less
-    pub signed_less_make_vector : ((i : ℕ) → i < n → lane w r i ≡ (if ltb (x' i) (y' i) then 2 ^ bits w - 1 else 0))
+    pub signed_less_make_vector :
+        ((i : ℕ) → i < lane_count w → lane w r i ≡ (if ltb (x' i) (y' i) then 2 ^ bits w - 1 else 0))
         → r ≡ lt_s w a b
     unfolding comparison_of_lanes
     signed_less_make_vector is =
@@ -238,21 +242,22 @@ module _ (w : Width) (n : ℕ) (filled : n * bits w ≡ 128) (a b : ℕ) {r : �
 
     -- all zeros where y, moved, is less
     pub signed_at_most_make_vector :
-        ((i : ℕ) → i < n → lane w r i ≡ (if ltb (y' i) (x' i) then 0 else 2 ^ bits w - 1)) → r ≡ le_s w a b
+        ((i : ℕ) → i < lane_count w → lane w r i ≡ (if ltb (y' i) (x' i) then 0 else 2 ^ bits w - 1)) → r ≡ le_s w a b
     unfolding comparison_of_lanes
     signed_at_most_make_vector is =
         moved_make_vector (λ _ _ p q. if ltb q p then 0 else 2 ^ bits w - 1) is
         (ones_where_at_most w (2 ^ bits w - 1))
 
     -- y where it is less, moved
-    pub signed_smaller_make_vector : ((i : ℕ) → i < n → lane w r i ≡ (if ltb (y' i) (x' i) then y i else x i))
+    pub signed_smaller_make_vector :
+        ((i : ℕ) → i < lane_count w → lane w r i ≡ (if ltb (y' i) (x' i) then y i else x i))
         → r ≡ min_s w a b
     unfolding binary_of_lanes
     signed_smaller_make_vector is =
         moved_make_vector (λ p q p' q'. if ltb q' p' then q else p) is (signed_smaller_is w)
 
     -- x where y is less, moved
-    pub signed_larger_make_vector : ((i : ℕ) → i < n → lane w r i ≡ (if ltb (y' i) (x' i) then x i else y i))
+    pub signed_larger_make_vector : ((i : ℕ) → i < lane_count w → lane w r i ≡ (if ltb (y' i) (x' i) then x i else y i))
         → r ≡ max_s w a b
     unfolding binary_of_lanes
     signed_larger_make_vector is =

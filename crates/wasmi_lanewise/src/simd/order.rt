@@ -4,7 +4,7 @@
 
 ghost use Rattle.std.specs.Prelude.{◌≡◌, ℕ, ◌-◌, ◌^◌, ◌<◌, nat_lt, if◌then◌else◌};
 ghost use Rattle.wasmi_types.specs.Wrapping.{bits};
-ghost use Rattle.wasmi_lanes.specs.Lane.{lane};
+ghost use Rattle.wasmi_lanes.specs.Lane.{lane, lane_count};
 ghost use Rattle.wasmi_lanewise.specs.VectorTable as vector;
 
 use wasmi_lanes::SimdLane;
@@ -112,7 +112,7 @@ pub(super) fn larger_s<T: SimdLane>(lhs: V128, rhs: V128) -> V128
 
 #[inline(always)]
 fn ones_if_less<T: SimdLane>(a: T::Vector, b: T::Vector) -> V128
-    ensures lanes { (i : ℕ) → i < T.COUNT
+    ensures lanes { (i : ℕ) → i < lane_count T.width
         → lane T.width result i
         ≡ (if nat_lt (T.at a i) (T.at b i) then 2 ^ bits T.width - 1 else 0) }
     ensures in_range { result < 2 ^ 128 }
@@ -122,7 +122,7 @@ fn ones_if_less<T: SimdLane>(a: T::Vector, b: T::Vector) -> V128
 
 #[inline(always)]
 fn zeros_if_less<T: SimdLane>(a: T::Vector, b: T::Vector) -> V128
-    ensures lanes { (i : ℕ) → i < T.COUNT
+    ensures lanes { (i : ℕ) → i < lane_count T.width
         → lane T.width result i
         ≡ (if nat_lt (T.at a i) (T.at b i) then 0 else 2 ^ bits T.width - 1) }
     ensures in_range { result < 2 ^ 128 }
@@ -133,7 +133,7 @@ fn zeros_if_less<T: SimdLane>(a: T::Vector, b: T::Vector) -> V128
 // All ones in each lane.
 #[inline(always)]
 fn ones<T: SimdLane>() -> T::Vector
-    ensures lanes { (i : ℕ) → i < T.COUNT → T.at result i ≡ 2 ^ bits T.width - 1 }
+    ensures lanes { (i : ℕ) → i < lane_count T.width → T.at result i ≡ 2 ^ bits T.width - 1 }
 {
     T::splat(T::ALL_ONES)
 }
@@ -141,7 +141,7 @@ fn ones<T: SimdLane>() -> T::Vector
 // All zeros in each lane.
 #[inline(always)]
 fn zeros<T: SimdLane>() -> T::Vector
-    ensures lanes { (i : ℕ) → i < T.COUNT → T.at result i ≡ 0 }
+    ensures lanes { (i : ℕ) → i < lane_count T.width → T.at result i ≡ 0 }
 {
     T::splat(T::ALL_ZEROS)
 }

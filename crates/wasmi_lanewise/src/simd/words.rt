@@ -3,10 +3,10 @@
 //!
 //! What is generic in a lane type takes the highest bits of a word's lanes from it.
 
-ghost use Rattle.std.specs.Prelude.{◌≡◌, ℕ, ◌-◌, ◌^◌, ◌<◌, ◌==◌, if◌then◌else◌};
+ghost use Rattle.std.specs.Prelude.{◌≡◌, ℕ, ◌-◌, ◌%◌, ◌^◌, ◌<◌, ◌==◌, if◌then◌else◌};
 ghost use Rattle.wasmi_raw.specs.Vector.{vector_of};
-ghost use Rattle.wasmi_types.specs.Wrapping.{w8, w64};
-ghost use Rattle.wasmi_lanes.specs.Words.{field, IsLane, AreMarks, AreFilled};
+ghost use Rattle.wasmi_types.specs.Wrapping.{bits, w8, w64};
+ghost use Rattle.wasmi_lanes.specs.Words.{field, IsLane, AreMarks, AreFilled, in_each_lane};
 ghost use Rattle.wasmi_lanewise.specs.VectorTable as vector;
 
 use std::simd::prelude::*;
@@ -14,12 +14,21 @@ use wasmi_lanes::words::{word_add, word_differ, word_sub};
 use wasmi_lanes::{WordLane, from_u64x2, u64x2_of};
 use wasmi_raw::V128;
 
+// The highest bit of each lane of a word but the last: a sum or a difference needs no top at the
+// end of the word, and without it LLVM makes one step of it where a word is one lane.
+#[inline(always)]
+fn inner_tops<T: WordLane>() -> u64
+    ensures { result ≡ in_each_lane T.width (2 ^ (bits T.width - 1)) % 2 ^ 63 }
+{
+    T::TOPS % (1 << 63)
+}
+
 /// The sums of the lanes, modulo 2 to the power of their width.
 #[inline(always)]
 pub(super) fn sums<T: WordLane>(lhs: V128, rhs: V128) -> V128
     ensures { result ≡ vector.add T.width lhs rhs }
 {
-    let tops = T::INNER_TOPS;
+    let tops = inner_tops::<T>();
     let (a_low, a_high) = lhs.words();
     let (b_low, b_high) = rhs.words();
     V128::from_word_pair(word_add(a_low, b_low, tops), word_add(a_high, b_high, tops))
@@ -33,7 +42,7 @@ pub(super) fn sums<T: WordLane>(lhs: V128, rhs: V128) -> V128
 pub(super) fn differences<T: WordLane>(lhs: V128, rhs: V128) -> V128
     ensures { result ≡ vector.sub T.width lhs rhs }
 {
-    let tops = T::INNER_TOPS;
+    let tops = inner_tops::<T>();
     let (a_low, a_high) = inverted(lhs).words();
     let (b_low, b_high) = rhs.words();
     inverted(V128::from_word_pair(
@@ -57,7 +66,7 @@ fn inverted(v: V128) -> V128
 pub(super) fn negations<T: WordLane>(v: V128) -> V128
     ensures { result ≡ vector.neg T.width v }
 {
-    let tops = T::INNER_TOPS;
+    let tops = inner_tops::<T>();
     let (low, high) = v.words();
     V128::from_word_pair(
         !word_add(low, u64::MAX, tops),

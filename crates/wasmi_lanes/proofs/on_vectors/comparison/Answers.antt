@@ -12,14 +12,15 @@ returns g c =
     let chosen = λ (t : Bool). if t then 2 ^ bits item.width - 1 else 0 in
     let related = related_lanes item
     (λ x y z. (holds : Bool) × g.F.Fn.post c.args.f (x, (y, tt)) holds × (item.image z ≡ chosen holds))
-    g.met.L.Lanes.filled c.into_v128.ensures.in_range c.from_v128.ensures.lanes c.from_v128-2.ensures.lanes
+    g.met.L.Lanes.laws.filled c.into_v128.ensures.in_range c.from_v128.ensures.lanes c.from_v128-2.ensures.lanes
     c.into_v128.ensures.lanes
     (λ i h.
     let gives = c.lanewise_comparison.ensures.lanes i h in (
       gives.0,
       gives.1,
       ap item.image
-          (gives.2 ∙ ap₂ (λ ones zeros. if gives.0 then ones else zeros) g.met.L.Lanes.ones g.met.L.Lanes.zeros)
+          (gives.2 ∙ ap₂
+          (λ ones zeros. if gives.0 then ones else zeros) g.met.L.Lanes.laws.ones_eq g.met.L.Lanes.laws.zeros_eq)
           ∙ image_of_choice item gives.0,
     )) in
     record {

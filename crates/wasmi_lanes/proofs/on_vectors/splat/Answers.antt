@@ -11,13 +11,13 @@ returns g c =
     record {
       lanes = λ number is_number.
           items_make_vector item l.LANES
-          (l.item c.splat.result) c.into_v128.result _ g.met.L.Lanes.filled c.into_v128.ensures.lanes
+          (l.item c.splat.result) c.into_v128.result _ g.met.L.Lanes.laws.filled c.into_v128.ensures.lanes
           c.into_v128.ensures.in_range
           (λ i h fits.
           ap item.image (c.splat.ensures.lanes i h) ∙ is_number (subst item.Fits (c.splat.ensures.lanes i h) fits));
       image =
           items_make_vector item l.LANES
-          (l.item c.splat.result) c.into_v128.result _ g.met.L.Lanes.filled c.into_v128.ensures.lanes
+          (l.item c.splat.result) c.into_v128.result _ g.met.L.Lanes.laws.filled c.into_v128.ensures.lanes
           c.into_v128.ensures.in_range
           (λ i h fits. ap item.image (c.splat.ensures.lanes i h));
     }

@@ -6,7 +6,7 @@ pub returns : goal.returns
 unfolding unary_of_lanes
 returns g c =
     let items = c.from_v128.ensures.lanes in
-    let related = related_lanes g.L.Item.LaneInteger (λ x _ z. g.F.Fn.post c.args.f (x, tt) z) g.met.L.Lanes.filled
+    let related = related_lanes g.L.Item.LaneInteger (λ x _ z. g.F.Fn.post c.args.f (x, tt) z) g.met.L.Lanes.laws.filled
     c.into_v128.ensures.in_range items items c.into_v128.ensures.lanes c.lanewise_unary.ensures.lanes in
     record {
       lanes = λ row rows. related.make_vector (λ x _. row x) (λ x y z fits_x fits_y fits_z. rows x z fits_x fits_z);

@@ -4,7 +4,7 @@ use Rattle.wasmi_lanewise.proofs.simd.order.larger_s.Goals as goal
 
 pub returns : goal.returns
 returns g c =
-    signed_larger_make_vector g.T.LaneInteger.width g.T.SimdLane.COUNT g.met.T.SimdLane.filled c.args.lhs c.args.rhs
+    signed_larger_make_vector g.T.LaneInteger.width c.args.lhs c.args.rhs
     c.vector_of.ensures.in_range c.lanes_of-a.ensures.lanes c.lanes_of-b.ensures.lanes
     (c.biased-2.ensures.lanes, c.biased.ensures.lanes)
     (λ i inside. c.vector_of.ensures.lanes i inside ∙ c.choose_if_less.ensures.lanes i inside)

@@ -1,4 +1,4 @@
-use Rattle.std.proofs.Common.{◌+◌, ◌*◌, ◌/◌, ◌%◌, ◌^◌, ◌∙◌, refl, ap, ap₂}
+use Rattle.std.proofs.Common.{◌+◌, ◌*◌, ◌/◌, ◌%◌, ◌^◌, ◌∙◌, ap, ap₂}
 use Rattle.wasmi_types.specs.Wrapping.{w16}
 use Rattle.wasmi_lanes.specs.Vector.{binary_of_lanes}
 use Rattle.wasmi_lanewise.proofs.OrderLemmas.{rows_make_vector}
@@ -8,7 +8,7 @@ use Rattle.wasmi_lanewise.proofs.simd.q15.rounded_products.Goals as goal
 pub returns : goal.returns
 unfolding binary_of_lanes
 returns c =
-    rows_make_vector w16 8 refl c.args.a c.args.b c.vector_of.ensures.in_range c.lanes_of-x.ensures.lanes
+    rows_make_vector w16 c.args.a c.args.b c.vector_of.ensures.in_range c.lanes_of-x.ensures.lanes
     c.lanes_of-y.ensures.lanes
     (λ x y. (doubled (extended x * extended y % 2 ^ 32 / 65536) + rounded (x * y % 65536)) % 65536) _
     (λ i inside.

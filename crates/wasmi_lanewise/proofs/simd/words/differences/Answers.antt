@@ -1,4 +1,4 @@
-use Rattle.std.proofs.Common.{◌+◌, ◌-◌, ◌%◌, ◌^◌, ◌∙◌, arith}
+use Rattle.std.proofs.Common.{◌+◌, ◌-◌, ◌%◌, ◌^◌, arith}
 use Rattle.wasmi_lanes.specs.Vector.{binary_of_lanes}
 use Rattle.wasmi_lanes.proofs.WordVectorLemmas.{u64x2_of, InnerLane, inner_lanes, of_either, binary_by_words}
 use Rattle.wasmi_lanewise.proofs.WordLemmas.{inverted_word_pair, inverted_words}
@@ -8,8 +8,8 @@ pub returns : goal.returns
 unfolding binary_of_lanes
 returns g c =
     let law = g.met.T.WordLane.laws in
-    binary_by_words g.T.LaneInteger.width (InnerLane c.INNER_TOPS-tops.result) law.whole
-    (inner_lanes _ _ law.whole (c.INNER_TOPS-tops.ensures ∙ law.inner)) (λ w x y. (x + (2 ^ w - y)) % 2 ^ w)
+    binary_by_words g.T.LaneInteger.width (InnerLane c.inner_tops-tops.result) law.whole
+    (inner_lanes _ _ law.whole c.inner_tops-tops.ensures) (λ w x y. (x + (2 ^ w - y)) % 2 ^ w)
     (inverted_word_pair (omega arith) c.inverted.ensures
     (u64x2_of c.words-a_low.ensures.low c.words-a_low.ensures.high))
     (u64x2_of c.words-b_low.ensures.low c.words-b_low.ensures.high)

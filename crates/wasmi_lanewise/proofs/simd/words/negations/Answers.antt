@@ -1,4 +1,4 @@
-use Rattle.std.proofs.Common.{◌-◌, ◌%◌, ◌^◌, ◌∙◌, arith}
+use Rattle.std.proofs.Common.{◌-◌, ◌%◌, ◌^◌, arith}
 use Rattle.wasmi_lanes.specs.Vector.{unary_of_lanes}
 use Rattle.wasmi_lanes.proofs.WordVectorLemmas.{u64x2_of, InnerLane, inner_lanes, of_either, unary_by_words}
 use Rattle.wasmi_lanewise.proofs.WordLemmas.{negated_lane}
@@ -8,8 +8,8 @@ pub returns : goal.returns
 unfolding unary_of_lanes
 returns g c =
     let law = g.met.T.WordLane.laws in
-    let tops = c.INNER_TOPS-tops.result in
-    unary_by_words _ (InnerLane tops) law.whole (inner_lanes _ _ law.whole (c.INNER_TOPS-tops.ensures ∙ law.inner))
+    let tops = c.inner_tops-tops.result in
+    unary_by_words _ (InnerLane tops) law.whole (inner_lanes _ _ law.whole c.inner_tops-tops.ensures)
     (λ w x. (2 ^ w - x) % 2 ^ w) (u64x2_of c.words-low.ensures.low c.words-low.ensures.high) (omega arith)
     (omega arith)
     (λ start width lane. negated_lane tops start width _ _ c.word_add.type_inv lane
