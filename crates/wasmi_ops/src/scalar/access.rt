@@ -43,6 +43,7 @@ pub const LOADS: [(&str, LoadOp); 12] = loads!(names! LoadOp);
 
 impl LoadOp {
     /// Loads from `ptr + offset`. The only error is `MemoryOutOfBounds`.
+    #[inline(always)]
     pub fn load(self, memory: &[u8], ptr: u64, offset: u64) -> Result<RawVal, TrapCode>
         ensures { result ≡ loaded_raw self memory.now (ptr + offset) }
     {
@@ -77,6 +78,7 @@ pub const STORES: [(&str, StoreOp); 7] = stores!(names! StoreOp);
 impl StoreOp {
     /// Stores a value at `ptr + offset`. The only error is `MemoryOutOfBounds`, and then nothing is
     /// written.
+    #[inline(always)]
     pub fn store(
         self,
         memory: &mut [u8],
