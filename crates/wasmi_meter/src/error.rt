@@ -1,4 +1,10 @@
 //! Why calls on memories and tables are refused, and the error of a resource limiter.
+ghost use Rattle.std.specs.Prelude.{◌≡◌, Some};
+ghost use Rattle.wasmi_meter.specs.Errors.{IsOfFuel};
+ghost use Rattle.wasmi_meter.specs.Texts.{limiter_error_text, memory_error_text, table_error_text};
+ghost use Rattle.wasmi_meter.specs.declared.error.MemoryError.TheVariants as memory;
+ghost use Rattle.wasmi_meter.specs.declared.error.TableError.TheVariants as table;
+
 use crate::fuel::FuelError;
 use std::fmt;
 
@@ -12,9 +18,6 @@ pub enum LimiterError {
 }
 
 impl fmt::Display for LimiterError {
-    ghost use Rattle.std.specs.Prelude.{Some};
-    ghost use Rattle.wasmi_meter.specs.Texts.{limiter_error_text};
-
     ghost output = { λ error. Some (limiter_error_text error) };
 
     fn fmt<W: fmt::Write>(&self, f: &mut fmt::Formatter<W>) -> fmt::Result {
@@ -51,34 +54,31 @@ pub enum MemoryError {
 }
 
 impl fmt::Display for MemoryError {
-    ghost use Rattle.std.specs.Prelude.{Some};
-    ghost use Rattle.wasmi_meter.specs.Texts.{memory_error_text};
-
     ghost output = { λ error. Some (memory_error_text error) };
 
     fn fmt<W: fmt::Write>(&self, f: &mut fmt::Formatter<W>) -> fmt::Result {
-        match self {
-            Self::OutOfSystemMemory => f.write_str(
-                "tried to allocate more virtual memory than available on the system",
-            ),
-            Self::OutOfBoundsGrowth => f.write_str("out of bounds memory growth"),
-            Self::OutOfBoundsAccess => f.write_str("out of bounds memory access"),
-            Self::InvalidMemoryType => f.write_str("tried to create an invalid linear memory type"),
-            Self::InvalidStaticBufferSize => f.write_str("tried to use too small static buffer"),
-            Self::ResourceLimiterDeniedAllocation => f.write_str(
-                "a resource limiter denied to allocate or grow the linear memory",
-            ),
-            Self::MinimumSizeOverflow => f.write_str(
-                "the minimum size of the memory type overflows the system index type",
-            ),
-            Self::MaximumSizeOverflow => f.write_str(
-                "the maximum size of the memory type overflows the system index type",
-            ),
-            Self::OutOfFuel { required_fuel } => write!(
-                f,
-                "not enough fuel. required={required_fuel}"
-            ),
-        }
+        let text = match self {
+            Self::OutOfSystemMemory => {
+                "tried to allocate more virtual memory than available on the system"
+            }
+            Self::OutOfBoundsGrowth => "out of bounds memory growth",
+            Self::OutOfBoundsAccess => "out of bounds memory access",
+            Self::InvalidMemoryType => "tried to create an invalid linear memory type",
+            Self::InvalidStaticBufferSize => "tried to use too small static buffer",
+            Self::ResourceLimiterDeniedAllocation => {
+                "a resource limiter denied to allocate or grow the linear memory"
+            }
+            Self::MinimumSizeOverflow => {
+                "the minimum size of the memory type overflows the system index type"
+            }
+            Self::MaximumSizeOverflow => {
+                "the maximum size of the memory type overflows the system index type"
+            }
+            Self::OutOfFuel { required_fuel } => {
+                return write!(f, "not enough fuel. required={required_fuel}");
+            }
+        };
+        f.write_str(text)
     }
 }
 
@@ -115,46 +115,36 @@ pub enum TableError {
 }
 
 impl fmt::Display for TableError {
-    ghost use Rattle.std.specs.Prelude.{Some};
-    ghost use Rattle.wasmi_meter.specs.Texts.{table_error_text};
-
     ghost output = { λ error. Some (table_error_text error) };
 
     fn fmt<W: fmt::Write>(&self, f: &mut fmt::Formatter<W>) -> fmt::Result {
-        match self {
-            Self::OutOfSystemMemory => f.write_str(
-                "tried to allocate more virtual memory than available on the system",
-            ),
-            Self::MinimumSizeOverflow => f.write_str(
-                "the minimum table size overflows the system bounds",
-            ),
-            Self::MaximumSizeOverflow => f.write_str(
-                "the maximum table size overflows the system bounds",
-            ),
-            Self::ResourceLimiterDeniedAllocation => f.write_str(
-                "a resource limiter denied to allocate or grow the table",
-            ),
-            Self::GrowOutOfBounds => f.write_str("out of bounds table access: `table.growth`"),
-            Self::InitOutOfBounds => f.write_str("out of bounds table access: `table.init`"),
-            Self::FillOutOfBounds => f.write_str("out of bounds table access: `table.fill`"),
-            Self::SetOutOfBounds => f.write_str("out of bounds table access: `table.set`"),
-            Self::CopyOutOfBounds => f.write_str("out of bounds table access: `table.copy`"),
-            Self::ElementTypeMismatch => f.write_str("encountered mismatching table element type"),
-            Self::OutOfFuel { required_fuel } => write!(
-                f,
-                "not enough fuel: required={required_fuel}"
-            ),
-        }
+        let text = match self {
+            Self::OutOfSystemMemory => {
+                "tried to allocate more virtual memory than available on the system"
+            }
+            Self::MinimumSizeOverflow => "the minimum table size overflows the system bounds",
+            Self::MaximumSizeOverflow => "the maximum table size overflows the system bounds",
+            Self::ResourceLimiterDeniedAllocation => {
+                "a resource limiter denied to allocate or grow the table"
+            }
+            Self::GrowOutOfBounds => "out of bounds table access: `table.growth`",
+            Self::InitOutOfBounds => "out of bounds table access: `table.init`",
+            Self::FillOutOfBounds => "out of bounds table access: `table.fill`",
+            Self::SetOutOfBounds => "out of bounds table access: `table.set`",
+            Self::CopyOutOfBounds => "out of bounds table access: `table.copy`",
+            Self::ElementTypeMismatch => "encountered mismatching table element type",
+            Self::OutOfFuel { required_fuel } => {
+                return write!(f, "not enough fuel: required={required_fuel}");
+            }
+        };
+        f.write_str(text)
     }
 }
 
 impl std::error::Error for TableError {}
 
 impl From<LimiterError> for MemoryError {
-    ghost use Rattle.std.specs.Prelude.{◌≡◌};
-    ghost use Rattle.wasmi_meter.specs.declared.error.MemoryError.TheVariants.{ResourceLimiterDeniedAllocation};
-
-    ghost from_gives = { λ _ error. error ≡ ResourceLimiterDeniedAllocation };
+    ghost from_gives = { λ _ error. error ≡ memory.ResourceLimiterDeniedAllocation };
 
     fn from(_: LimiterError) -> Self {
         MemoryError::ResourceLimiterDeniedAllocation
@@ -162,10 +152,7 @@ impl From<LimiterError> for MemoryError {
 }
 
 impl From<LimiterError> for TableError {
-    ghost use Rattle.std.specs.Prelude.{◌≡◌};
-    ghost use Rattle.wasmi_meter.specs.declared.error.TableError.TheVariants.{ResourceLimiterDeniedAllocation};
-
-    ghost from_gives = { λ _ error. error ≡ ResourceLimiterDeniedAllocation };
+    ghost from_gives = { λ _ error. error ≡ table.ResourceLimiterDeniedAllocation };
 
     fn from(_: LimiterError) -> Self {
         TableError::ResourceLimiterDeniedAllocation
@@ -173,8 +160,6 @@ impl From<LimiterError> for TableError {
 }
 
 impl TryFrom<FuelError> for TableError {
-    ghost use Rattle.wasmi_meter.specs.Errors.{IsOfFuel};
-
     type Error = FuelError;
 
     ghost try_from_gives = { IsOfFuel };

@@ -170,7 +170,6 @@ impl FuelError {
 }
 
 impl fmt::Display for FuelError {
-    ghost use Rattle.std.specs.Prelude.{Some};
     ghost use Rattle.wasmi_meter.specs.Texts.{fuel_error_text};
 
     ghost output = { λ error. Some (fuel_error_text error) };

@@ -1,5 +1,9 @@
 //! A limiter with a cap on the bytes of memories and one on the elements of tables.
 ghost use Rattle.std.specs.Prelude.{◌≡◌, None};
+ghost use Rattle.wasmi_meter.specs.Amounts.{nothing};
+ghost use Rattle.wasmi_meter.specs.Capped.{TakesMore};
+ghost use Rattle.wasmi_meter.specs.CappedProofs.{asked_reserves, noticed_gives_back};
+ghost use Rattle.wasmi_meter.specs.Quota.{holdings, cap_of, capped_quota, quota_rules, IsWithinCaps};
 ghost use Rattle.wasmi_meter.specs.declared.limiter.Kind.TheVariants.{Bytes, Elements};
 
 use crate::amounts::Amounts;
@@ -20,10 +24,6 @@ pub struct Quota {
 }
 
 impl Quota {
-    ghost use Rattle.wasmi_meter.specs.Amounts.{nothing};
-    ghost use Rattle.wasmi_meter.specs.Capped.{TakesMore};
-    ghost use Rattle.wasmi_meter.specs.Quota.{holdings, cap_of, capped_quota, IsWithinCaps};
-
     /// A quota with these caps, in bytes and in elements, which holds nothing yet.
     pub fn new(bytes: u64, elements: u64) -> Self
         ensures bytes { cap_of result Bytes ≡ bytes }
@@ -82,8 +82,6 @@ impl Quota {
 }
 
 impl LimiterByKind for Quota {
-    ghost use Rattle.wasmi_meter.specs.Quota.{quota_rules};
-
     ghost kind_rules = { quota_rules };
 
     fn growing(
@@ -102,9 +100,6 @@ impl LimiterByKind for Quota {
 }
 
 impl Reserving for Quota {
-    ghost use Rattle.wasmi_meter.specs.CappedProofs.{asked_reserves, noticed_gives_back};
-    ghost use Rattle.wasmi_meter.specs.Quota.{holdings, capped_quota};
-
     ghost holdings = { holdings };
 
     fn held_bytes(&self) -> u64 {
