@@ -1,12 +1,13 @@
 -- The making and the growth of a memory or a table, by what was tested on the way.
-use Rattle.std.proofs.Common.{◌≡◌, ℕ, ◌<◌, ◌≤◌, Bool, true, false, Option, Some, None, Result, Ok, Err, inr, refl, ap, ◌∙◌, arith}
+use Rattle.std.proofs.Common.{◌≡◌, ℕ, ◌<◌, ◌≤◌, Bool, true, false, Option, Some, None, Result, Ok, Err, inl, inr, refl, ap, ◌∙◌, arith}
 use Rattle.std.specs.Prelude.{if◌then◌else◌, MatchBool}
 use Rattle.std.proofs.lemmas.Bool.Decides.{nat_tests}
+use Rattle.wasmi_meter.specs.declared.fuel.CustomFuelCosts.{CustomFuelCosts}
 use Rattle.wasmi_meter.specs.Limiter.{Question, Answer, NoticeAnswer, Rules}
 use Rattle.wasmi_meter.specs.Meter.{Meter, amount_left, Charges}
 use Rattle.wasmi_meter.specs.Attempt.{MeteredValue, alone, Request, AttemptOutcome, Unasked, Denied, Met, Failed, Attempt, Permits, answer_of, error_of_failure, optional_due, covers}
 use Rattle.wasmi_meter.proofs.AttemptLemmas.{IsPermitted, ReachesCharge, attempt_unasked, attempt_denied, attempt_late, attempt_unpaid, attempt_refused, attempt_met}
-use Rattle.wasmi_store.specs.Growth.{IsAsked, Makes, Growth, Grows}
+use Rattle.wasmi_store.specs.Growth.{IsAsked, Makes, Growth, Grows, metered_value}
 
 -- of a cause that is there only where a test fails: where it holds, there is none
 pub no_cause : {E : Type 0} (b : Bool) (cause : E) → b ≡ true
@@ -171,3 +172,33 @@ module _ {V E S : Type 0} (t : GrowthAttempt V E S) where
             (attempt_met t.rules request before permitted reaches (payable t.meter price enough.0)) _
             (ap Ok answers)
             )
+
+module _ {V E S : Type 0} (rules : Rules S) (amount size : ℕ) (e : Request V E) (price : CustomFuelCosts → ℕ) (x : V)
+    (l : S) (costs : CustomFuelCosts) (s' : MeteredValue V S) where
+  abbrev priced : Growth V E
+  priced = record { amount = amount; size = size; request = record e { price = Some price } }
+
+  abbrev off : MeteredValue V S
+  off = metered_value x (let m : Meter = record { left = None; costs = costs } in Some m) l
+
+  -- a growth that has a price, with a meter that is off, is one without a meter
+  pub grows_unmetered : {result : Result ℕ E} {charge : ℕ} → Grows rules priced off result charge s'
+      → Grows rules priced (metered_value x None l) result charge (metered_value s'.value None s'.limiter)
+  grows_unmetered (inl g) = inl (record {
+    none = g.none;
+    answered = g.answered;
+    uncharged = g.uncharged;
+    same = ap (λ (s : MeteredValue V S). metered_value s.value None s.limiter) g.same;
+  })
+  grows_unmetered (inr g) = inr (record {
+    some = g.some;
+    outcome = g.outcome;
+    attempt = record {
+      may_end = g.attempt.may_end;
+      follows = g.attempt.follows;
+      charged = g.attempt.charged;
+      meter = refl;
+      value = g.attempt.value;
+    };
+    answered = g.answered;
+  })

@@ -2,9 +2,7 @@ mod BufferLemmas
 pub mod FrontLemmas
 pub mod GrowthLemmas
 pub mod MemoryLemmas
-pub mod RegionMemoryLemmas
 pub mod TableLemmas
-pub mod RegionTableLemmas
 pub mod WriteLemmas
 pub mod CopyLemmas
 pub mod SegmentLemmas

@@ -1,5 +1,5 @@
 -- The making and the growth of a table, by what was tested on the way.
-use Rattle.std.proofs.Common.{◌≡◌, ℕ, ◌+◌, ◌-◌, Bool, true, false, Option, Some, None, Result, Ok, Err, List, ◌++◌, length, take, replicate, inl, inr, refl, ap, ◌∙◌, arith}
+use Rattle.std.proofs.Common.{◌≡◌, ℕ, ◌+◌, ◌-◌, Bool, true, false, Option, Some, None, Result, Ok, Err, List, ◌++◌, length, take, replicate, refl, ap, ◌∙◌, arith}
 use Rattle.std.proofs.lemmas.List.{take_all}
 use Rattle.std.specs.Prelude.{MatchBool}
 use Rattle.wasmi_typed.specs.declared.typed_ref.TypedRawRef.{TypedRawRef}
@@ -134,31 +134,13 @@ module _ {S : Type 0} (rules : Rules S) (n reference : ℕ) (x : TableValue) (l 
   abbrev unmetered : MeteredValue TableValue S → MeteredValue TableValue S
   unmetered s = record s { meter = None }
 
-  -- so once the type was tested
-  raw_unmetered : GrowsTableRawCharging rules n reference off result charge s'
-      → GrowsTableRawCharging rules n reference (unmetered off) result charge (unmetered s')
-  raw_unmetered (inl e) =
-      inl (record { none = e.none; answered = e.answered; uncharged = e.uncharged; same = ap unmetered e.same })
-  raw_unmetered (inr e) = inr (record {
-    some = e.some;
-    outcome = e.outcome;
-    attempt = record {
-      may_end = e.attempt.may_end;
-      follows = e.attempt.follows;
-      charged = e.attempt.charged;
-      meter = refl;
-      value = e.attempt.value;
-    };
-    answered = e.answered;
-  })
-
-  -- so whether the type is the same or not
+  -- it is so whether the type is the same or not
   by_type : (same : Bool)
       → MatchBool same (GrowsTableRawCharging rules n reference off result charge s')
       ((result ≡ Err ElementTypeMismatch) × (charge ≡ 0) × (s' ≡ off))
       → MatchBool same (GrowsTableRawCharging rules n reference (unmetered off) result charge (unmetered s'))
       ((result ≡ Err ElementTypeMismatch) × (charge ≡ 0) × (unmetered s' ≡ unmetered off))
-  by_type true grows = raw_unmetered grows
+  by_type true grows = any.grows_unmetered rules n (size_of x) (growth_of x n reference) _ x l costs s' grows
   by_type false refused = (refused.0, refused.1, ap unmetered refused.2)
 
 -- so for a growth whose reference is typed

@@ -1,6 +1,7 @@
 -- The calls that write over a part of a table, by what was tested on the way.
-use Rattle.std.proofs.Common.{◌≡◌, ℕ, suc, ◌+◌, ◌<◌, ◌≤◌, true, false, Some, None, Ok, Err, List, [], ◌∷◌, ◌++◌, length, take, drop, refl, sym, ap, ◌∙◌, arith, length-drop, append_assoc}
+use Rattle.std.proofs.Common.{◌≡◌, ℕ, suc, ◌+◌, ◌-◌, ◌<◌, ◌≤◌, true, false, Some, None, Ok, Err, List, [], ◌∷◌, ◌++◌, length, take, drop, replicate, refl, sym, ap, ◌∙◌, arith, length-drop, append_assoc}
 use Rattle.std.proofs.lemmas.Bool.Decides.{nat_tests}
+use Rattle.std.proofs.lemmas.List.{length-replicate}
 use borrow.Table.Elements.{length-take-le}
 use lib.ListN.{set}
 use lib.Seq.{paste-zero, set_split}
@@ -122,3 +123,13 @@ pub copied_nothing : (xs : List ℕ) (dst : ℕ) (source : List ℕ) (src : ℕ)
     → nat_le (dst + 0) (length xs) ≡ true → copied xs dst source src 0 ≡ Some xs
 copied_nothing xs dst source src within fits =
     copied_part xs dst source src 0 within fits ∙ ap Some (sym (paste-zero xs dst (drop src source)))
+
+-- references from one place to another are a part that is written over
+pub filled_part : (xs : List ℕ) (dst len reference : ℕ) → nat_le (dst + len) (length xs) ≡ true → (xs' : List ℕ)
+    → xs' ≡ take dst xs ++ replicate (dst + len - dst) reference ++ drop (dst + len) xs
+    → overwrite xs dst (replicate len reference) ≡ Some xs'
+filled_part xs dst len reference fits xs' filled =
+    let many : length (replicate {A = ℕ} len reference) ≡ len = length-replicate len reference in
+    let added : dst + len - dst ≡ len = omega arith in
+    rw (many, fits) (ap Some (sym (filled
+    ∙ ap (λ (k : ℕ). take dst xs ++ replicate k reference ++ drop (dst + len) xs) added)))

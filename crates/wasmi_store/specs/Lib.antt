@@ -6,9 +6,7 @@ pub mod Lending
 pub mod Storage
 pub mod MemoryType
 pub mod Memory
-pub mod RegionMemory
 pub mod TableType
 pub mod Segment
 pub mod Table
-pub mod RegionTable
 pub mod SegmentError

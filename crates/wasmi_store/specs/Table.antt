@@ -21,6 +21,10 @@ pub record TableValue : Type 0 where
   pub ty : TableTypeValue
   pub elements : List ℕ
 
+-- the table of a type with these elements
+abbrev pub table_of : TableTypeValue → List ℕ → TableValue
+table_of ty elements = record { ty = ty; elements = elements }
+
 -- how many elements a table has
 abbrev pub size_of : TableValue → ℕ
 size_of x = length x.elements

@@ -1,13 +1,12 @@
 //! Linear memories and tables: their types, what they contain, and how they are made and grow.
 #![tactic(auto)]
 
+pub mod growth;
 pub mod laws;
 mod limits;
 mod memory;
 mod optional_meter;
-mod range;
-pub mod region_memory;
-pub mod region_table;
+pub mod range;
 mod table;
 
 pub use memory::{Buffer, ByteBuffer, LinearMemory, Memory, MemoryType, MemoryTypeBuilder, Region};

@@ -15,91 +15,16 @@ mod buffer;
 mod region;
 mod ty;
 
+use crate::growth::{MEMORY_DENIED as DENIED, decide_growth, permitted_minimum};
 use crate::optional_meter::with_meter;
-use crate::range::write_range;
+use crate::range::{read_bytes, write_range};
 pub use buffer::{Buffer, ByteBuffer};
 pub use region::Region;
 use std::alloc::Global;
 use std::marker::Model;
 pub use ty::{MemoryType, MemoryTypeBuilder};
-use wasmi_meter::growth::{charge, permission, tell};
+use wasmi_meter::growth::tell;
 use wasmi_meter::{Fuel, MemoryError, ResourceLimiter, ResourceLimiterRef};
-
-/// The error of a memory if the limiter returns an error.
-pub(crate) const DENIED: MemoryError = MemoryError::ResourceLimiterDeniedAllocation;
-
-/// Asks whether a memory of this type may be made, and returns its minimum in bytes.
-pub(crate) fn permitted_minimum<L: ResourceLimiter>(
-    ty: MemoryType,
-    limiter: &mut ResourceLimiterRef<L>,
-) -> Result<usize, MemoryError>
-    ensures loan { KeepsLoan limiter.old limiter.new }
-    ensures permitted { PermitsMinimum (optional_rules L.rules) ty (lent_limiter limiter.old) result
-        (lent_limiter limiter.new) }
-    ensures sized { IfOk result (λ size. IsSized ty size) }
-{
-    let Some(size) = ty.minimum_size() else {
-        return Err(MemoryError::MinimumSizeOverflow);
-    };
-    let answer = limiter.memory_growing(0, size, ty.maximum_size());
-    permission(answer, DENIED, DENIED)?;
-    Ok(size)
-}
-
-/// Decides whether so many bytes may become so many: the limiter permits it, there is room for
-/// them, and the added ones are paid, in this order. No byte is had for it yet, so it is the same
-/// wherever the bytes lie.
-///
-/// The errors of a growth are those of [`LinearMemory::grow`].
-pub(crate) fn decide_growth<L: ResourceLimiter>(
-    old_size: usize,
-    size: usize,
-    maximum: Option<usize>,
-    has_room: bool,
-    fuel: &mut Fuel,
-    limiter: &mut ResourceLimiterRef<L>,
-) -> Result<(), MemoryError>
-    requires grows { old_size ≤ size }
-    ensures loan { KeepsLoan limiter.old limiter.new }
-    ensures permitted { OnOk result ((optional_rules L.rules).asked (lent_limiter limiter.old)
-        (size_question old_size size maximum) (Ok true) (lent_limiter limiter.new)) }
-    ensures room { OnOk result (has_room ≡ true) }
-    ensures paid { OnOk result (Charges fuel.old
-        (due fuel.old (λ costs. copy_cost costs (size - old_size) 1)) (Ok tt) fuel.new) }
-    ensures refused { IfErr result (λ error. (x : MemoryValue) (pages : ℕ) → 0 < pages
-        → IsAsked (growth_of x pages) (size_question old_size size maximum)
-        → fits_room x.room (size - old_size) ≡ has_room
-        → GrowsMemory (optional_rules L.rules) pages
-        (metered_value x (Some fuel.old) (lent_limiter limiter.old)) (Err error)
-        (metered_value x (Some fuel.new) (lent_limiter limiter.new))) }
-{
-    let answer = limiter.memory_growing(old_size, size, maximum);
-    permission(answer, MemoryError::OutOfBoundsGrowth, DENIED)?;
-    if !has_room {
-        return Err(tell(limiter, MemoryError::InvalidStaticBufferSize, DENIED));
-    }
-    let paid = charge::<u8>(fuel, (size - old_size) as u64);
-    if let Err(required_fuel) = paid {
-        return Err(tell(limiter, MemoryError::OutOfFuel { required_fuel }, DENIED));
-    }
-    Ok(())
-}
-
-/// Copies bytes from an offset on into a buffer, which is filled; it is `OutOfBoundsAccess` where
-/// they end past the bytes, and then nothing is copied.
-pub fn read_bytes(bytes: &[u8], offset: usize, buffer: &mut [u8]) -> Result<(), MemoryError>
-    ensures ok { OnOk result (at bytes.now offset (length buffer.old) ≡ Some buffer.new) }
-    ensures err { IfErr result
-        (λ error. (error ≡ MemoryError.OutOfBoundsAccess)
-        × (at bytes.now offset (length buffer.old) ≡ None) × (buffer.new ≡ buffer.old)) }
-{
-    if bytes.len() < offset || bytes.len() - offset < buffer.len() {
-        return Err(MemoryError::OutOfBoundsAccess);
-    }
-    let end = offset + buffer.len();
-    buffer.copy_from_slice(&bytes[offset..end]);
-    Ok(())
-}
 
 /// A linear memory. Its name in signatures is [`Memory`].
 #[derive(Debug, Drop)]

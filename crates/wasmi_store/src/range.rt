@@ -1,17 +1,38 @@
-//! Ranges of lists: whether one lies within its list, and how one is written over.
-ghost use Rattle.std.specs.Prelude.{◌≡◌, ◌+◌, ◌-◌, ◌≤◌, ◌++◌, length, take, drop, replicate, Some, nat_le};
-ghost use Rattle.wasmi_types.specs.Access.{overwrite};
+//! Ranges of lists: whether one lies within its list, and how one is read and written over.
+ghost use Rattle.std.specs.Prelude.{◌≡◌, ◌+◌, ◌-◌, ◌≤◌, ◌++◌, length, take, drop, replicate, Some, None, OnOk, IfErr, nat_le};
+ghost use Rattle.wasmi_types.specs.Access.{at, overwrite};
 
-/// Whether so many items from an index on lie within a list.
-pub(crate) fn lies_within<T>(items: &[T], index: u64, len: u64) -> bool
+mod copy;
+
+pub use copy::{CHUNK, Chunk, copy_overlapping};
+use wasmi_meter::MemoryError;
+
+/// Whether `len` items from an index on lie within a list.
+pub fn lies_within<T>(items: &[T], index: u64, len: u64) -> bool
     ensures { result ≡ nat_le (index + len) (length items.now) }
 {
     let size = items.len() as u64;
     index <= size && len <= size - index
 }
 
+/// Fills a buffer with the bytes from an offset on. The error is `OutOfBoundsAccess` if they end
+/// past the bytes; then nothing is copied.
+pub fn read_bytes(bytes: &[u8], offset: usize, buffer: &mut [u8]) -> Result<(), MemoryError>
+    ensures ok { OnOk result (at bytes.now offset (length buffer.old) ≡ Some buffer.new) }
+    ensures err { IfErr result
+        (λ error. (error ≡ MemoryError.OutOfBoundsAccess)
+        × (at bytes.now offset (length buffer.old) ≡ None) × (buffer.new ≡ buffer.old)) }
+{
+    if bytes.len() < offset || bytes.len() - offset < buffer.len() {
+        return Err(MemoryError::OutOfBoundsAccess);
+    }
+    let end = offset + buffer.len();
+    buffer.copy_from_slice(&bytes[offset..end]);
+    Ok(())
+}
+
 /// Copies items over those from an index on.
-pub(crate) fn write_range<T: Copy>(elements: &mut [T], index: usize, items: &[T])
+pub fn write_range<T: Copy>(elements: &mut [T], index: usize, items: &[T])
     requires inside { index + length items.now ≤ length elements.old }
     ensures written { overwrite elements.old index items.now ≡ Some elements.new }
     ensures len { length elements.new ≡ length elements.old }
@@ -22,7 +43,7 @@ pub(crate) fn write_range<T: Copy>(elements: &mut [T], index: usize, items: &[T]
 
 /// Fills the items from `start` up to `end`, which is left out, with a value. A clone of the value
 /// is the value itself, as for numbers and references.
-pub(crate) fn fill_range<T: Copy>(elements: &mut [T], start: usize, end: usize, value: T)
+pub fn fill_range<T: Copy>(elements: &mut [T], start: usize, end: usize, value: T)
     requires infallible { T.is_infallible value }
     requires same { (clone : T) → T.is_clone value clone → clone ≡ value }
     requires start { start ≤ end }

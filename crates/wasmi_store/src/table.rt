@@ -7,13 +7,12 @@ ghost use Rattle.wasmi_meter.specs.Meter.{meter_at_entry, meter_at_exit};
 ghost use Rattle.wasmi_store.specs.Growth.{metered_value, metered};
 ghost use Rattle.wasmi_store.specs.Segment.{segment_of};
 
-mod copy;
 mod element;
 mod ty;
 
+use crate::growth::TABLE_DENIED as DENIED;
 use crate::optional_meter::with_meter;
-use crate::range::{fill_range, lies_within, write_range};
-pub(crate) use copy::{CHUNK, Chunk, copy_overlapping};
+use crate::range::{copy_overlapping, fill_range, lies_within, write_range};
 pub use element::{ElementSegment, ElementSegmentRef, SegmentError};
 use std::alloc::Global;
 use std::marker::Model;
@@ -22,9 +21,6 @@ use wasmi_meter::growth::{charge, permission, tell};
 use wasmi_meter::{Fuel, ResourceLimiter, ResourceLimiterRef, TableError};
 use wasmi_raw::RawRef;
 use wasmi_typed::TypedRawRef;
-
-/// The error of a table if the limiter returns an error.
-pub(crate) const DENIED: TableError = TableError::ResourceLimiterDeniedAllocation;
 
 /// A table: references of one type, of which some may be null.
 ///

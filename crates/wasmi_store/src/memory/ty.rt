@@ -149,7 +149,7 @@ impl MemoryType {
     }
 
     /// The minimum in bytes, if it is below 2^64.
-    pub(super) fn minimum_size(self) -> Option<usize>
+    pub(crate) fn minimum_size(self) -> Option<usize>
         ensures size { result
             ≡ (if nat_lt (minimum_bytes self) (2 ^ 64) then Some (minimum_bytes self) else None) }
         ensures valid { IsValid self }
@@ -159,7 +159,7 @@ impl MemoryType {
     }
 
     /// The maximum in bytes, at most the greatest `usize`.
-    pub(crate) fn maximum_size(self) -> Option<usize>
+    pub fn maximum_size(self) -> Option<usize>
         ensures { result ≡ maximum_bytes self }
     {
         match self.maximum {
@@ -169,14 +169,14 @@ impl MemoryType {
     }
 
     /// The number of whole pages in `size` bytes.
-    pub(crate) fn pages_in(self, size: usize) -> u64
+    pub fn pages_in(self, size: usize) -> u64
         ensures { result ≡ size / page_bytes self.page }
     {
         size as u64 / u64::from(self.page.bytes())
     }
 
     /// The number of bytes after a growth by `additional` pages, if the type allows it.
-    pub(crate) fn grown_size(self, size: usize, additional: u64) -> Option<usize>
+    pub fn grown_size(self, size: usize, additional: u64) -> Option<usize>
         requires whole { size % page_bytes self.page ≡ 0 }
         ensures size { MatchOption result
             (in_bounds self (size / page_bytes self.page + additional) ≡ false)
@@ -188,18 +188,13 @@ impl MemoryType {
     }
 
     /// The bytes of `pages` pages, if a memory of this type may have that many.
-    pub(crate) fn size_of_pages(self, pages: u64) -> Option<usize>
+    pub fn size_of_pages(self, pages: u64) -> Option<usize>
         ensures { MatchOption result
             (in_bounds self pages ≡ false)
             (λ size. (in_bounds self pages ≡ true) × (size ≡ pages * page_bytes self.page)) }
     {
-        if pages > most_pages(self.index, self.page) {
+        if pages > self.maximum.unwrap_or(most_pages(self.index, self.page)) {
             return None;
-        }
-        if let Some(maximum) = self.maximum {
-            if pages > maximum {
-                return None;
-            }
         }
         let size = pages.checked_mul(u64::from(self.page.bytes()))?;
         Some(size as usize)
@@ -313,13 +308,9 @@ impl MemoryTypeBuilder {
             return Err(MemoryError::InvalidMemoryType);
         };
         let most = most_pages(self.index, page);
-        if self.minimum > most {
+        let maximum = self.maximum.unwrap_or(most);
+        if maximum > most || self.minimum > maximum {
             return Err(MemoryError::InvalidMemoryType);
-        }
-        if let Some(maximum) = self.maximum {
-            if maximum > most || self.minimum > maximum {
-                return Err(MemoryError::InvalidMemoryType);
-            }
         }
         Ok(MemoryType {
             index: self.index,

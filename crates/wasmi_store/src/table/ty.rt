@@ -1,5 +1,6 @@
 //! The types of tables.
-ghost use Rattle.std.specs.Prelude.{◌≡◌, ◌≤◌, ◌+◌, ◌↔◌, IfSome, IsTrue, true, false, MatchOption, MatchResult};
+ghost use Rattle.std.specs.Prelude.{◌≡◌, ◌≤◌, ◌+◌, ◌-◌, ◌^◌, ◌↔◌, IfSome, IsTrue, true, false, MatchOption, MatchResult};
+ghost use Rattle.wasmi_types.specs.IndexType.{address_bits};
 
 use crate::limits::is_no_looser;
 use std::marker::Model;
@@ -119,7 +120,7 @@ impl TableType {
     }
 
     /// Returns `Ok` if references of a type are elements of this type.
-    pub(crate) fn ensure_element_type_matches(self, ty: RefType) -> Result<(), TableError>
+    pub fn ensure_element_type_matches(self, ty: RefType) -> Result<(), TableError>
         ensures { MatchResult result
             (λ _. same_type self.element ty ≡ true)
             (λ error. (error ≡ TableError.ElementTypeMismatch)
@@ -141,36 +142,46 @@ impl TableType {
     }
 
     /// The number of elements after a growth, if there are more indices than elements.
-    pub(crate) fn grown_size(self, size: u64, delta: u64) -> Option<usize>
+    pub fn grown_size(self, size: u64, delta: u64) -> Option<usize>
         ensures { MatchOption result
             (is_indexable self (size + delta) ≡ false)
             (λ grown. (is_indexable self (size + delta) ≡ true) × (grown ≡ size + delta)) }
     {
         let grown = size.checked_add(delta)?;
-        if u128::from(grown) >= self.index.max_size() {
+        if grown > most_elements(self.index) {
             return None;
         }
         Some(grown as usize)
     }
 
     /// Whether there are more indices than so many elements.
-    pub(crate) fn indexes_size(self, size: usize) -> bool
+    pub fn indexes_size(self, size: usize) -> bool
         ensures { result ≡ is_indexable self size }
     {
-        (size as u128) < self.index.max_size()
+        size as u64 <= most_elements(self.index)
     }
 
     /// The maximum as a size.
-    pub(crate) fn maximum_size(self) -> Option<usize>
+    pub fn maximum_size(self) -> Option<usize>
         ensures { result ≡ self.maximum }
     {
         self.maximum.map(|maximum| maximum as usize)
     }
 
     /// Whether `size` elements are no more than the maximum, if there is one.
-    pub(crate) fn allows_size(self, size: usize) -> bool
+    pub fn allows_size(self, size: usize) -> bool
         ensures { result ≡ is_within_maximum self size }
     {
         self.maximum.is_none_or(|maximum| size as u64 <= maximum)
+    }
+}
+
+/// The most elements that leave an index over.
+fn most_elements(index: IndexType) -> u64
+    ensures { result ≡ 2 ^ address_bits index - 1 }
+{
+    match index {
+        IndexType::I32 => u64::from(u32::MAX),
+        IndexType::I64 => u64::MAX,
     }
 }

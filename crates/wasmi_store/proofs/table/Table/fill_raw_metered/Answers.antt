@@ -1,8 +1,7 @@
 use Rattle.std.proofs.Common.{◌∙◌, ap, length, refl, sym}
 use Rattle.std.proofs.lemmas.List.{with_items_is}
-use Rattle.wasmi_store.specs.RegionTable.{table_of}
-use Rattle.wasmi_store.proofs.RegionTableLemmas.{filled_part}
-use Rattle.wasmi_store.proofs.WriteLemmas.{writes_met}
+use Rattle.wasmi_store.specs.Table.{table_of}
+use Rattle.wasmi_store.proofs.WriteLemmas.{writes_met, filled_part}
 use Rattle.wasmi_store.proofs.table.Table.fill_raw_metered.Goals as goal
 
 pub returns : goal.returns

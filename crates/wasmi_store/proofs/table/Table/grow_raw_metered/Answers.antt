@@ -1,15 +1,10 @@
-use Rattle.std.proofs.Common.{ℕ, List, sym, ap, ◌∙◌}
+use Rattle.std.proofs.Common.{sym, ap, ◌∙◌}
 use Rattle.std.proofs.lemmas.Result.{err_from_is_err_and}
 use Rattle.wasmi_meter.specs.Limiter.{optional_rules}
-use Rattle.wasmi_store.specs.TableType.{TableTypeValue}
-use Rattle.wasmi_store.specs.Table.{TableValue}
+use Rattle.wasmi_store.specs.Table.{table_of}
 use Rattle.wasmi_store.proofs.GrowthLemmas.{grows_denied}
 use Rattle.wasmi_store.proofs.TableLemmas.{resized, growing, grows_unasked, growth_asked, growth_permitted, grows_above, grows_unpaid, grows_refused, grows_met}
 use Rattle.wasmi_store.proofs.table.Table.grow_raw_metered.Goals as goal
-
--- the table of a type with these elements
-abbrev table_of : TableTypeValue → List ℕ → TableValue
-table_of ty elements = record { ty = ty; elements = elements }
 
 pub returns-in_default-clause-grown : goal.returns-in_default-clause-grown
 returns-in_default-clause-grown g c =

@@ -1,0 +1,2 @@
+mod MemoryLemmas
+mod TableLemmas

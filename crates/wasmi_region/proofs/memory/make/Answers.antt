@@ -1,0 +1,17 @@
+use Rattle.std.proofs.Common.{arith}
+use Rattle.std.proofs.lemmas.Result.{err_from_is_err_and}
+use Rattle.std.proofs.lemmas.Bool.Decides.{nat_tests}
+use Rattle.wasmi_meter.specs.Limiter.{optional_rules}
+use Rattle.wasmi_store.specs.Buffer.{Lent}
+use Rattle.wasmi_store.proofs.MemoryLemmas.{makes_short}
+use Rattle.wasmi_region.proofs.memory.make.Goals as goal
+
+pub returns-in_err-size-clause-made : goal.returns-in_err-size-clause-made
+returns-in_err-size-clause-made g c =
+    let p = err_from_is_err_and c.from_residual.result c.from_residual.ensures.1 in
+    rw (p.1, p.2) (c.in_err-size.ensures.permitted (Lent c.args.region.now))
+
+pub returns-then-region-size-clause-made : goal.returns-then-region-size-clause-made
+returns-then-region-size-clause-made g c =
+    makes_short (optional_rules g.L.ResourceLimiter.rules) (Lent c.args.region.now) c.args.ty _ _ c.in_ok-size.size
+    c.in_ok-size.ensures.permitted (grind (arith, nat_tests)) _ _ c.tell.ensures.told

@@ -1,0 +1,5 @@
+//! Linear memories and tables that are the first of a region, which lies with the caller.
+#![tactic(auto)]
+
+pub mod memory;
+pub mod table;

@@ -1,0 +1,152 @@
+//! Linear memories whose bytes are the first of a region. The caller keeps a memory's type and its
+//! size in bytes, and passes them to each call with the region; the rest of the region is room to
+//! grow in place.
+//!
+//! Own: upstream's memory borrows its static buffer for as long as it lives.
+ghost use Rattle.std.specs.Prelude.{◌≡◌, ◌≤◌, ◌+◌, ◌-◌, ◌*◌, ◌/◌, ℕ, length, take, drop, nat_le, OnOk, OnErr, IfOk, IfErr, Some, None, MatchOption, true, false};
+ghost use Rattle.wasmi_types.specs.Access.{overwrite};
+ghost use Rattle.wasmi_meter.specs.Limiter.{optional_rules};
+ghost use Rattle.wasmi_meter.specs.LimiterRef.{lent_limiter, KeepsLoan};
+ghost use Rattle.wasmi_store.specs.Buffer.{Lent};
+ghost use Rattle.wasmi_store.specs.Growth.{metered_value};
+ghost use Rattle.wasmi_store.specs.Memory.{IsSized, MakesMemory, GrowsMemory};
+ghost use Rattle.wasmi_store.specs.MemoryType.{page_bytes, in_bounds, maximum_bytes};
+ghost use Rattle.wasmi_region.specs.Memory.{memory_in, made_in};
+
+use wasmi_meter::growth::tell;
+use wasmi_meter::{Fuel, MemoryError, ResourceLimiter, ResourceLimiterRef};
+use wasmi_store::MemoryType;
+use wasmi_store::growth::{MEMORY_DENIED as DENIED, decide_growth, permitted_minimum};
+pub use wasmi_store::range::read_bytes;
+use wasmi_store::range::{fill_range, write_range};
+
+/// Whether a memory of a type may have `size` bytes: whole pages, as many as the type allows.
+pub fn is_sized(ty: MemoryType, size: usize) -> bool
+    ensures { (result ≡ true → IsSized ty size) × (IsSized ty size → result ≡ true) }
+{
+    let page = u64::from(ty.page_size());
+    let pages = size as u64 / page;
+    size as u64 % page == 0 && ty.minimum() <= pages && ty.size_of_pages(pages).is_some()
+}
+
+/// The number of whole pages in `size` bytes.
+pub fn pages(ty: MemoryType, size: usize) -> u64
+    ensures { result ≡ size / page_bytes ty.page }
+{
+    ty.pages_in(size)
+}
+
+/// Makes a memory of zeros at the front of a region, at the minimum of its type, and returns its
+/// size in bytes. It takes no fuel, and leaves the bytes past the minimum alone.
+///
+/// Errors, in the order of the tests: `MinimumSizeOverflow` if the minimum has 2^64 bytes or more;
+/// `ResourceLimiterDeniedAllocation` if the limiter doesn't permit it; `InvalidStaticBufferSize` if
+/// the region is shorter than the minimum, of which the limiter is notified. After an error the
+/// bytes of the region are unchanged.
+pub fn make<L: ResourceLimiter>(
+    ty: MemoryType,
+    region: &mut [u8],
+    limiter: &mut ResourceLimiterRef<L>,
+) -> Result<usize, MemoryError>
+    ensures loan { KeepsLoan limiter.old limiter.new }
+    ensures made { MakesMemory (optional_rules L.rules) (Lent region.old) ty
+        (lent_limiter limiter.old) (made_in ty region.new result) (lent_limiter limiter.new) }
+    ensures sized { IfOk result (λ size. IsSized ty size × (size ≤ length region.new)) }
+    ensures refused { OnErr result (region.new ≡ region.old) }
+    ensures len { length region.new ≡ length region.old }
+{
+    let size = permitted_minimum(ty, limiter)?;
+    if region.len() < size {
+        return Err(tell(limiter, MemoryError::InvalidStaticBufferSize, DENIED));
+    }
+    let front = &mut region[..size];
+    front.fill(0);
+    Ok(size)
+}
+
+/// Grows a memory of `size` bytes at the front of a region by `additional` pages of zeros, and
+/// returns the old size in pages; `size` becomes the new size in bytes. A growth by 0 pages changes
+/// nothing and asks no limiter.
+///
+/// The errors are those of [`wasmi_store::LinearMemory::grow`] on a lent region.
+pub fn grow<L: ResourceLimiter>(
+    ty: MemoryType,
+    size: &mut usize,
+    region: &mut [u8],
+    additional: u64,
+    fuel: &mut Fuel,
+    limiter: &mut ResourceLimiterRef<L>,
+) -> Result<u64, MemoryError>
+    requires sized { IsSized ty size.old }
+    requires within { size.old ≤ length region.old }
+    ensures loan { KeepsLoan limiter.old limiter.new }
+    ensures grown { GrowsMemory (optional_rules L.rules) additional
+        (metered_value (memory_in ty region.old size.old) (Some fuel.old)
+        (lent_limiter limiter.old)) result
+        (metered_value (memory_in ty region.new size.new) (Some fuel.new)
+        (lent_limiter limiter.new)) }
+    ensures sized { IsSized ty size.new }
+    ensures within { size.new ≤ length region.new }
+    ensures len { length region.new ≡ length region.old }
+    ensures refused { OnErr result ((region.new ≡ region.old) × (size.new ≡ size.old)) }
+{
+    let old_size = *size;
+    let old_pages = ty.pages_in(old_size);
+    if additional == 0 {
+        return Ok(old_pages);
+    }
+    let Some(new_size) = ty.grown_size(old_size, additional) else {
+        return Err(MemoryError::OutOfBoundsGrowth);
+    };
+    let maximum = ty.maximum_size();
+    let has_room = has_place(region, new_size);
+    decide_growth(old_size, new_size, maximum, has_room, fuel, limiter)?;
+    fill_range(region, old_size, new_size, 0);
+    *size = new_size;
+    Ok(old_pages)
+}
+
+/// What a growth by `additional` pages asks a limiter: the new size in bytes, and the most that the
+/// type allows. It is `None` if the type refuses the growth; then no limiter is asked.
+pub fn question(ty: MemoryType, size: usize, additional: u64) -> Option<(usize, Option<usize>)>
+    requires sized { IsSized ty size }
+    ensures asked { MatchOption result
+        (in_bounds ty (size / page_bytes ty.page + additional) ≡ false)
+        (λ asked. (in_bounds ty (size / page_bytes ty.page + additional) ≡ true)
+        × (asked.0 ≡ size + additional * page_bytes ty.page) × (asked.1 ≡ maximum_bytes ty)) }
+{
+    let desired = ty.grown_size(size, additional)?;
+    Some((desired, ty.maximum_size()))
+}
+
+/// Writes bytes over those from an offset on, of a memory of `size` bytes at the front of a region.
+/// The error is `OutOfBoundsAccess` if they would end past the memory; then nothing is written.
+pub fn write(
+    region: &mut [u8],
+    size: usize,
+    offset: usize,
+    source: &[u8],
+) -> Result<(), MemoryError>
+    requires within { size ≤ length region.old }
+    ensures ok { OnOk result
+        ((overwrite (take size region.old) offset source.now ≡ Some (take size region.new))
+        × (drop size region.new ≡ drop size region.old)) }
+    ensures err { IfErr result
+        (λ error. (error ≡ MemoryError.OutOfBoundsAccess)
+        × (overwrite (take size region.old) offset source.now ≡ None)
+        × (region.new ≡ region.old)) }
+    ensures len { length region.new ≡ length region.old }
+{
+    if size < offset || size - offset < source.len() {
+        return Err(MemoryError::OutOfBoundsAccess);
+    }
+    write_range(&mut region[..size], offset, source);
+    Ok(())
+}
+
+/// Whether a region has `size` bytes.
+fn has_place(region: &[u8], size: usize) -> bool
+    ensures { result ≡ nat_le size (length region.now) }
+{
+    size <= region.len()
+}
