@@ -21,9 +21,14 @@ IsAnswered call reply Takes =
 
 module _ {S : Type 0} {w : World S} {call : Call} {reply : Reply} where
   -- it only replies
+  pub only_replies : {Relation : Reply → Type 0} → Relation reply
+      → OnlyReplies w (free_turn call reply) w Relation
+  only_replies effect = record { free = (refl, refl); effect = effect; after = refl }
+
+  -- so it is answered
   pub replies : {Relation : Reply → Type 0} → Relation reply
       → IsAnswered call reply (λ turn. OnlyReplies w turn w Relation)
-  replies effect = (0, 0, record { free = (refl, refl); effect = effect; after = refl })
+  replies effect = (0, 0, only_replies effect)
 
   -- it changes the state
   pub changes : {Relation : Reply → State → Type 0} {s : State} → Relation reply s

@@ -1,5 +1,6 @@
 -- A run goes on by one turn, or by another run.
-use Rattle.std.proofs.Common.{◌≡◌, List, [], ◌∷◌, ◌++◌, map, refl, ap, subst, ◌∙◌}
+use Rattle.std.proofs.Common.{◌≡◌, ℕ, ◌+◌, ◌<◌, List, [], ◌∷◌, ◌++◌, length, take, get_or, map, refl, sym, ap, subst, ◌∙◌}
+use Rattle.std.proofs.lemmas.List.{take_more, map_push}
 use Rattle.wasmi_meter.specs.Limiter.{Rules}
 use Rattle.wasmi_core.specs.declared.calls.Call.{Call}
 use Rattle.wasmi_core.specs.declared.calls.Reply.{Reply}
@@ -12,6 +13,13 @@ use Rattle.wasmi_core.specs.Runs.{Sequence, Run, IsRunOf}
 map-append : {X Y : Type 0} (f : X → Y) (xs ys : List X) → map f (xs ++ ys) ≡ map f xs ++ map f ys
 map-append f [] ys = refl
 map-append f (x ∷ xs) ys = ap (λ zs. f x ∷ zs) (map-append f xs ys)
+
+-- one call more: the turns so far are by the calls up to a place, and the next turn is by the one there
+pub calls_more : (turns : List Turn) (calls : List Call) (i : ℕ) (turn : Turn) → map Turn.call turns ≡ take i calls
+    → i < length calls → turn.call ≡ get_or calls i turn.call → map Turn.call (turns ++ turn ∷ []) ≡ take (i + 1) calls
+calls_more turns calls i turn so_far within here =
+    map_push Turn.call turns turn ∙ ap (λ cs. cs ++ turn.call ∷ []) so_far
+    ∙ ap (λ c. take i calls ++ c ∷ []) here ∙ sym (take_more calls i turn.call within)
 
 module _ {S : Type 0} (rules : Rules S) where
   -- a run and one more turn

@@ -1,6 +1,9 @@
 //! What a machine can be asked, and what it replies. Both are our own: upstream leaves running to
 //! the interpreter.
-ghost use Rattle.std.specs.Prelude.{◌≡◌, MatchBool};
+ghost use Rattle.std.specs.Prelude.{◌≡◌, MatchBool, nat_eq};
+ghost use Rattle.std.specs.Cmp.Lexicographic.{pointwise};
+ghost use Rattle.std.specs.Cmp.{partial_equiv_from_equiv};
+ghost use Rattle.std.proofs.lemmas.Cmp.{nat_list_eq_equiv};
 
 use std::fmt;
 use std::fmt::{Debug, Formatter, Write};
@@ -275,6 +278,9 @@ impl Debug for Call {
 }
 
 impl Call {
+    ghost use Rattle.wasmi_core.specs.Account.{SetsNoFuel};
+    ghost use Rattle.wasmi_core.specs.Validity.{IsValidCall};
+
     // The name of the variant.
     fn name(&self) -> &'static str {
         match self {
@@ -318,11 +324,6 @@ impl Call {
             Call::StoreLane { .. } => "StoreLane",
         }
     }
-}
-
-impl Call {
-    ghost use Rattle.wasmi_core.specs.Account.{SetsNoFuel};
-    ghost use Rattle.wasmi_core.specs.Validity.{IsValidCall};
 
     /// Whether it is `SetFuel`. A list without one can be billed: see
     /// [`crate::laws::charges_are_spent`].
@@ -420,11 +421,6 @@ impl ByteList {
 }
 
 impl PartialEq for ByteList {
-    ghost use Rattle.std.specs.Prelude.{nat_eq};
-    ghost use Rattle.std.specs.Cmp.Lexicographic.{pointwise};
-    ghost use Rattle.std.specs.Cmp.{partial_equiv_from_equiv};
-    ghost use Rattle.std.proofs.lemmas.Cmp.{nat_list_eq_equiv};
-
     ghost eq = { pointwise nat_eq };
 
     ghost laws = { partial_equiv_from_equiv nat_list_eq_equiv };
@@ -435,7 +431,5 @@ impl PartialEq for ByteList {
 }
 
 impl Eq for ByteList {
-    ghost use Rattle.std.proofs.lemmas.Cmp.{nat_list_eq_equiv};
-
     ghost laws = { nat_list_eq_equiv };
 }

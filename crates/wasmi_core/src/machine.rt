@@ -2,6 +2,7 @@
 ghost use Rattle.std.specs.Prelude.{◌≡◌, ◌+◌, ◌-◌, ◌<◌, ◌↔◌, ℕ, Option, IsSome, Some, None, Result, Err, length, slice_get, IfSome, MatchResult};
 ghost use Rattle.std.specs.Option.{option_copied, option_copied_mut};
 
+use crate::calls::Reply;
 use crate::registers::Registers;
 use crate::slots::Slots;
 use crate::store::Store;
@@ -9,6 +10,7 @@ use crate::values::value_at;
 use std::alloc::Global as Allocator;
 use std::marker::Model;
 use wasmi_meter::{Fuel, FuelError};
+use wasmi_ops::StoreOp;
 use wasmi_raw::RawVal;
 use wasmi_store::{ElementSegment, Memory, Table};
 use wasmi_typed::Global;
@@ -37,11 +39,13 @@ impl<'r> Model for Machine<'r> {
 }
 
 impl<'r> Machine<'r> {
-    ghost use Rattle.wasmi_core.specs.State.{new_state, with_spare, live_at};
+    ghost use Rattle.wasmi_core.specs.MemoryEffects.{StoresMemoryAt};
+    ghost use Rattle.wasmi_core.specs.State.{new_state, with_memories, with_spare, live_at};
     ghost use Rattle.wasmi_core.specs.Validity.{IsValid};
     ghost use Rattle.wasmi_core.specs.Totals.{total};
     ghost use Rattle.wasmi_meter.specs.declared.limiter.Kind.TheVariants.{Bytes, Elements};
     ghost use Rattle.wasmi_meter.specs.Meter.{ConsumesFuel, amount_left, meter_after};
+    ghost use Rattle.wasmi_ops.specs.ScalarAccessOps.{stored_bytes};
 
     /// A machine with this meter, on which nothing was made yet. It takes no memory.
     pub fn new(alloc: Allocator, fuel: Fuel) -> Machine<'r>
@@ -111,6 +115,27 @@ impl<'r> Machine<'r> {
         ensures { option_copied result ≡ live_at self.now.memories index }
     {
         self.store.memories.live(index)
+    }
+
+    /// Stores an item to a memory at `ptr + offset`, as `Call::Store` does, which reaches no
+    /// limiter. The reply is `Done`, `NoSuch` if there is no such memory, or `Trap` with
+    /// `MemoryOutOfBounds`; after the last two nothing has changed.
+    ///
+    /// Own: upstream's interpreter has the memory itself.
+    #[inline(always)]
+    pub fn store_item(
+        &mut self,
+        op: StoreOp,
+        memory: usize,
+        ptr: u64,
+        offset: u64,
+        value: RawVal,
+    ) -> Reply
+        ensures memories { StoresMemoryAt memory (ptr + offset) (stored_bytes op value)
+            self.old.memories result self.new.memories }
+        ensures rest { self.new ≡ with_memories self.old self.new.memories }
+    {
+        self.store.store_item(op, memory, ptr, offset, value)
     }
 
     /// The table of an index, if there is one that wasn't dropped.

@@ -137,6 +137,7 @@ impl<'r> Slots<Memory<'r>> {
     }
 
     /// Stores a number to a memory.
+    #[inline(always)]
     pub(crate) fn store(
         &mut self,
         op: StoreOp,
@@ -200,6 +201,7 @@ impl<'r> Slots<Memory<'r>> {
 }
 
 /// The reply to a store.
+#[inline(always)]
 fn stored(answer: Result<(), TrapCode>) -> Reply
     ensures { result ≡ reply_of (λ _. Reply.Done) Reply.Trap answer }
 {
@@ -221,6 +223,7 @@ fn read_bytes(alloc: Global, memory: &[u8], offset: usize, len: usize) -> Reply
 
 /// Stores a number to a memory. A function of the memory alone, as the two below: its clause says
 /// what the memory becomes, apart from the slot that lends it.
+#[inline(always)]
 fn store(
     memory: &mut Memory,
     op: StoreOp,

@@ -1,9 +1,8 @@
 //! The registers of a machine.
 ghost use Rattle.std.specs.Prelude.{◌≡◌, ◌+◌, Some, Ok, slice_get, length};
-ghost use Rattle.std.specs.Option.{option_map, option_and_then};
+ghost use Rattle.std.specs.Option.{option_copied, option_map, option_and_then};
 ghost use Rattle.wasmi_raw.specs.RawVal.{raw_of_vector};
 ghost use Rattle.wasmi_lanewise.specs.VectorTable.{shuffle};
-ghost use Rattle.wasmi_ops.specs.VectorAccessOps.{loaded_vector, loaded_lane};
 ghost use Rattle.wasmi_ops.specs.BinaryOps.{binary_vector};
 ghost use Rattle.wasmi_ops.specs.LaneOps.{extracted_raw, replaced_vector};
 ghost use Rattle.wasmi_ops.specs.MakeOps.{made_vector};
@@ -12,7 +11,7 @@ ghost use Rattle.wasmi_ops.specs.TernaryOps.{ternary_vector};
 ghost use Rattle.wasmi_ops.specs.TestOps.{tested_raw};
 ghost use Rattle.wasmi_ops.specs.UnaryOps.{unary_vector};
 ghost use Rattle.wasmi_ops.specs.RawResults.{as_raw};
-ghost use Rattle.wasmi_core.specs.RegisterEffects.{TakesRegister, given_vector, of_one, of_two, of_three, raw_reply, vector_at};
+ghost use Rattle.wasmi_core.specs.RegisterEffects.{TakesRegister, given_vector, of_one, of_two, of_three, raw_reply, vector_at, vector_loaded, lane_loaded};
 
 use crate::calls::Reply;
 use wasmi_lanes::ImmLaneIdx32;
@@ -22,6 +21,7 @@ use wasmi_ops::{
     VectorLoadOp,
 };
 use wasmi_raw::{RawVal, ReadAs, V128};
+use wasmi_store::Memory;
 use wasmi_types::TrapCode;
 
 /// The 16 registers of raw values, by their numbers from 0. At first they are zeros.
@@ -179,36 +179,41 @@ impl Registers {
         self.set(dst, i8x16_shuffle(a, b, lanes).into())
     }
 
-    /// Loads a vector from a memory.
+    /// Loads a vector from a memory, if it is there.
     pub(crate) fn load(
         &mut self,
         op: VectorLoadOp,
         dst: u8,
-        memory: &[u8],
+        memory: Option<&Memory>,
         ptr: u64,
         offset: u64,
     ) -> Reply
-        ensures { TakesRegister dst
-            (Some (as_raw raw_of_vector (loaded_vector op memory.now (ptr + offset))))
+        ensures { TakesRegister dst (vector_loaded op (ptr + offset) (option_copied memory.entry))
             self.old.values result self.new.values }
     {
-        self.set_loaded(dst, op.load(memory, ptr, offset))
+        let Some(memory) = memory else {
+            return Reply::NoSuch;
+        };
+        self.set_loaded(dst, op.load(memory.data(), ptr, offset))
     }
 
-    /// Loads a lane of a vector from a memory.
+    /// Loads a lane of a vector from a memory, if it is there.
     pub(crate) fn load_lane(
         &mut self,
         op: LoadLaneOp,
         dst: u8,
-        vector: V128,
-        memory: &[u8],
+        a: u8,
+        memory: Option<&Memory>,
         ptr: u64,
         offset: u64,
     ) -> Reply
         ensures { TakesRegister dst
-            (Some (as_raw raw_of_vector (loaded_lane op vector memory.now (ptr + offset))))
-            self.old.values result self.new.values }
+            (lane_loaded op (ptr + offset) (vector_at self.old.values a)
+            (option_copied memory.entry)) self.old.values result self.new.values }
     {
-        self.set_loaded(dst, op.load(memory, ptr, offset, vector))
+        let (Some(a), Some(memory)) = (self.vector(a), memory) else {
+            return Reply::NoSuch;
+        };
+        self.set_loaded(dst, op.load(memory.data(), ptr, offset, a))
     }
 }

@@ -3,6 +3,7 @@ ghost use Rattle.std.specs.Prelude.{◌≡◌, ◌<◌, ◌++◌, ℕ, [], ◌�
 ghost use Rattle.std.specs.Borrow.{sem, Lends, LendsIf};
 ghost use Rattle.std.specs.Option.{option_copied, option_copied_mut};
 ghost use Rattle.std.specs.Vec.{vec_capacity};
+ghost use Rattle.wasmi_store.specs.Table.{size_of};
 ghost use Rattle.wasmi_core.specs.Effects.{DropsAt};
 ghost use Rattle.wasmi_core.specs.State.{live_value, live_at, with_live};
 ghost use Rattle.wasmi_core.specs.Totals.{slot_count};
@@ -32,8 +33,6 @@ impl<'r> Counted for Memory<'r> {
 }
 
 impl Counted for Table {
-    ghost use Rattle.wasmi_store.specs.Table.{size_of};
-
     ghost count = { size_of };
 
     fn count(&self) -> usize {

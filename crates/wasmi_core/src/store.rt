@@ -1,6 +1,6 @@
 //! The store of a machine: what was made, the registers and the meter, and what each call does to
 //! them.
-ghost use Rattle.std.specs.Prelude.{◌≡◌};
+ghost use Rattle.std.specs.Prelude.{◌≡◌, ◌+◌};
 ghost use Rattle.wasmi_meter.specs.Limiter.{optional_rules};
 ghost use Rattle.wasmi_meter.specs.LimiterRef.{lent_limiter, KeepsLoan};
 
@@ -11,6 +11,8 @@ use crate::values::{create_global, create_segment, drop_items, get_global, set_g
 use std::alloc::Global as Allocator;
 use std::marker::Model;
 use wasmi_meter::{Fuel, ResourceLimiter, ResourceLimiterRef};
+use wasmi_ops::StoreOp;
+use wasmi_raw::RawVal;
 use wasmi_store::{ElementSegment, ElementSegmentRef, Memory, Table};
 use wasmi_typed::Global;
 
@@ -49,8 +51,11 @@ impl<'r> Model for Store<'r> {
 
 impl<'r> Store<'r> {
     ghost use Rattle.wasmi_core.specs.FuelEffects.{SetsFuel, get_fuel_reply};
+    ghost use Rattle.wasmi_core.specs.MemoryEffects.{StoresMemoryAt};
+    ghost use Rattle.wasmi_core.specs.State.{with_memories};
     ghost use Rattle.wasmi_core.specs.Steps.{Answers, AnswersAlone, subject_of, Memories, Tables, RegisterFile, Vectors};
     ghost use Rattle.wasmi_core.specs.World.{world};
+    ghost use Rattle.wasmi_ops.specs.ScalarAccessOps.{stored_bytes};
 
     fn set_fuel(&mut self, fuel: u64) -> Reply
         ensures { SetsFuel fuel self.old result self.new }
@@ -65,6 +70,23 @@ impl<'r> Store<'r> {
         ensures { result ≡ get_fuel_reply self.now.meter }
     {
         self.fuel.get_fuel().map_or_else(Reply::Fuel, Reply::Number)
+    }
+
+    /// Stores an item to a memory.
+    #[inline(always)]
+    pub(crate) fn store_item(
+        &mut self,
+        op: StoreOp,
+        memory: usize,
+        ptr: u64,
+        offset: u64,
+        value: RawVal,
+    ) -> Reply
+        ensures memories { StoresMemoryAt memory (ptr + offset) (stored_bytes op value)
+            self.old.memories result self.new.memories }
+        ensures rest { self.new ≡ with_memories self.old self.new.memories }
+    {
+        self.memories.store(op, memory, ptr, offset, value)
     }
 
     /// Executes one call.
@@ -223,7 +245,6 @@ impl<'r> Store<'r> {
     }
 
     /// Executes one call on registers, which doesn't reach the limiter: only the contract has `L`.
-    #[tactic(auto, using(crate::proofs::StoreLemmas::changes_part))]
     fn step_register<L: ResourceLimiter>(&mut self, call: &Call) -> Reply
         requires subject { subject_of call.now ≡ RegisterFile }
         ensures step { AnswersAlone (optional_rules L.rules) call.now self.old result self.new }
@@ -258,10 +279,8 @@ impl<'r> Store<'r> {
                 ptr,
                 offset,
             } => {
-                let Some(memory) = self.memories.live(*memory) else {
-                    return Reply::NoSuch;
-                };
-                self.registers.load(*op, *dst, memory.data(), *ptr, *offset)
+                let memory = self.memories.live(*memory);
+                self.registers.load(*op, *dst, memory, *ptr, *offset)
             }
             Call::LoadLane {
                 op,
@@ -271,14 +290,9 @@ impl<'r> Store<'r> {
                 ptr,
                 offset,
             } => {
-                let Some(a) = self.registers.vector(*a) else {
-                    return Reply::NoSuch;
-                };
-                let Some(memory) = self.memories.live(*memory) else {
-                    return Reply::NoSuch;
-                };
+                let memory = self.memories.live(*memory);
                 self.registers
-                    .load_lane(*op, *dst, a, memory.data(), *ptr, *offset)
+                    .load_lane(*op, *dst, *a, memory, *ptr, *offset)
             }
             Call::VectorStore {
                 a,

@@ -1,8 +1,8 @@
 use Rattle.std.proofs.Common.{◌+◌, [], ◌∷◌, ◌++◌, ◌∙◌, refl, ap, arith, rules}
-use Rattle.std.proofs.lemmas.List.{take_more, map_push}
+use Rattle.std.proofs.lemmas.List.{map_push}
 use Rattle.wasmi_meter.specs.Limiter.{optional_rules}
 use Rattle.wasmi_core.specs.World.{Turn}
-use Rattle.wasmi_core.proofs.TurnLemmas.{Run-push}
+use Rattle.wasmi_core.proofs.TurnLemmas.{Run-push, calls_more}
 use Rattle.wasmi_core.proofs.running.run.Goals as goal
 
 -- the turn of this call stands after the turns so far
@@ -13,7 +13,7 @@ loop-call-preserved g c =
     record {
       ran = (
         ran.0 ++ record { call = _; reply = _; charge = step.0; written = step.1 } ∷ [],
-        search (rules, map_push Turn.call ran.0, ran.1, take_more),
+        calls_more ran.0 _ _ _ ran.1 c.loop-call-test.true c.call-item.is,
         rw (
           map_push Turn.reply ran.0 (record { call = _; reply = _; charge = step.0; written = step.1 }),
           ran.2,
