@@ -20,7 +20,7 @@ use Rattle.wasmi_core.specs.Totals.{total, HoldsTotals}
 use Rattle.wasmi_core.proofs.HoldingLemmas.{totals_are_held}
 use Rattle.wasmi_budget.specs.declared.tenant.Tenant.{Tenant}
 use Rattle.wasmi_budget.specs.Tenant.{holdings, capped_tenant, tenant_rules}
-use Rattle.wasmi_budget.specs.Pool.{PoolValue, total_of, IsWithinCaps, IsKept, tenant_at, AddsTenant, RunsTenant}
+use Rattle.wasmi_budget.specs.Pool.{PoolValue, total_of, IsWithinCaps, IsKept, HasNothing, tenant_at, AddsTenant, RunsTenant}
 use Rattle.wasmi_budget.specs.Runs.{PoolTurn, Added, Ran, Refused, PoolStep, PoolRun}
 use Rattle.wasmi_budget.proofs.TenantLemmas.{StaysWithin, run_stays_within}
 
@@ -272,6 +272,26 @@ adds_within pool s pool' within adds kind = rw adds.added (pushed kind)
     pushed Elements = let bound =
         within Elements in omega
         (arith, bound, adds.empty.elements, sum_by_push (λ t. total t Elements) pool.machines s)
+
+-- a machine that was found to have no bytes and no elements
+pub has_nothing : (s : State) (bytes elements : ℕ) → bytes ≡ total s Bytes → bytes ≤ 0 → elements ≡ total s Elements
+    → elements ≤ 0 → HasNothing s
+has_nothing s bytes elements is_bytes no_bytes is_elements no_elements =
+    record { bytes = omega (arith, is_bytes, no_bytes); elements = omega (arith, is_elements, no_elements) }
+
+-- a pool is kept with the same amounts where a machine that has nothing is added
+pub kept_added : (pool : PoolValue) (held : Amounts) (s : State) → IsKept pool held → HasNothing s
+    → (machines : List State) → machines ≡ pool.machines ++ s ∷ [] → IsKept (record pool { machines = machines }) held
+kept_added pool held s kept empty machines is = record {
+  within = adds_within pool s (record pool { machines = machines }) kept.within
+      (record { empty = empty; added = ap (λ (m : List State). record pool { machines = m }) is });
+  fits = kept.fits;
+  counted = kept.counted ∙ amounts_same (total_of pool.machines) (total_of machines) same;
+}
+  where
+    same : (kind : Kind) → total_of pool.machines kind ≡ total_of machines kind
+    same Bytes = rw is (omega (arith, empty.bytes, sum_by_push (λ t. total t Bytes) pool.machines s))
+    same Elements = rw is (omega (arith, empty.elements, sum_by_push (λ t. total t Elements) pool.machines s))
 
 -- one call keeps the caps
 caps_kept : (pool : PoolValue) (turn : PoolTurn) (pool' : PoolValue) → PoolStep pool turn pool' → pool'.caps ≡ pool.caps

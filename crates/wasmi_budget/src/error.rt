@@ -1,5 +1,6 @@
 //! Why a pool refuses.
-ghost use Rattle.std.specs.Prelude.{◌≡◌};
+ghost use Rattle.std.specs.Prelude.{◌≡◌, Some};
+ghost use Rattle.wasmi_budget.specs.Texts.{add_error_text, pool_error_text};
 ghost use Rattle.wasmi_budget.specs.declared.error.PoolError.TheVariants.{OutOfMemory};
 
 use std::alloc::AllocError;
@@ -15,9 +16,6 @@ pub enum AddError {
 }
 
 impl fmt::Display for AddError {
-    ghost use Rattle.std.specs.Prelude.{Some};
-    ghost use Rattle.wasmi_budget.specs.Texts.{add_error_text};
-
     ghost output = { λ error. Some (add_error_text error) };
 
     fn fmt<W: fmt::Write>(&self, f: &mut fmt::Formatter<W>) -> fmt::Result {
@@ -42,9 +40,6 @@ pub enum PoolError {
 }
 
 impl fmt::Display for PoolError {
-    ghost use Rattle.std.specs.Prelude.{Some};
-    ghost use Rattle.wasmi_budget.specs.Texts.{pool_error_text};
-
     ghost output = { λ error. Some (pool_error_text error) };
 
     fn fmt<W: fmt::Write>(&self, f: &mut fmt::Formatter<W>) -> fmt::Result {

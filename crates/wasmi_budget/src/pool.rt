@@ -47,10 +47,7 @@ impl<'r> Pool<'r> {
     {
         Pool {
             caps: Amounts { bytes, elements },
-            held_by_all: Amounts {
-                bytes: 0,
-                elements: 0,
-            },
+            held_by_all: Amounts::default(),
             machines: Vec::new(alloc),
         }
     }

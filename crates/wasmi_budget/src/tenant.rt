@@ -1,6 +1,15 @@
 //! One machine of a pool, with what it has, and its limiter.
-ghost use Rattle.std.specs.Prelude.{◌≡◌, ◌<◌, ◌^◌, None};
+ghost use Rattle.std.specs.Prelude.{◌≡◌, ◌<◌, ◌^◌, None, Some, IfOk, OnErr};
 ghost use Rattle.wasmi_meter.specs.declared.limiter.Kind.{Kind};
+ghost use Rattle.wasmi_meter.specs.Amounts.{amounts_of};
+ghost use Rattle.wasmi_meter.specs.Capped.{TakesMore, held_together};
+ghost use Rattle.wasmi_meter.specs.CappedProofs.{asked_reserves, noticed_gives_back};
+ghost use Rattle.wasmi_meter.specs.Limiter.{optional_rules};
+ghost use Rattle.wasmi_core.specs.Runs.{IsRunOf};
+ghost use Rattle.wasmi_core.specs.Totals.{total, HoldsTotals};
+ghost use Rattle.wasmi_core.specs.World.{world};
+ghost use Rattle.wasmi_budget.specs.Pool.{HasNothing};
+ghost use Rattle.wasmi_budget.specs.Tenant.{holdings, capped_tenant, tenant_rules};
 
 use std::alloc::AllocError;
 use std::marker::Model;
@@ -21,10 +30,6 @@ pub struct Tenant {
 }
 
 impl Tenant {
-    ghost use Rattle.wasmi_meter.specs.Amounts.{amounts_of};
-    ghost use Rattle.wasmi_meter.specs.Capped.{TakesMore, held_together};
-    ghost use Rattle.wasmi_budget.specs.Tenant.{capped_tenant};
-
     /// A tenant that has these holdings, beside the others', under the caps.
     pub(crate) fn new(caps: Amounts, others: Amounts, held: Amounts) -> Self
         ensures { result ≡ record
@@ -66,8 +71,6 @@ impl Tenant {
 }
 
 impl LimiterByKind for Tenant {
-    ghost use Rattle.wasmi_budget.specs.Tenant.{tenant_rules};
-
     ghost kind_rules = { tenant_rules };
 
     fn growing(
@@ -86,9 +89,6 @@ impl LimiterByKind for Tenant {
 }
 
 impl Reserving for Tenant {
-    ghost use Rattle.wasmi_meter.specs.CappedProofs.{asked_reserves, noticed_gives_back};
-    ghost use Rattle.wasmi_budget.specs.Tenant.{holdings, capped_tenant};
-
     ghost holdings = { holdings };
 
     fn held_bytes(&self) -> u64 {
@@ -126,25 +126,15 @@ impl<'r> Model for CountedMachine<'r> {
 }
 
 impl<'r> CountedMachine<'r> {
-    ghost use Rattle.std.specs.Prelude.{Some, IfOk, OnErr};
-    ghost use Rattle.wasmi_meter.specs.Amounts.{amounts_of};
-    ghost use Rattle.wasmi_meter.specs.Limiter.{optional_rules};
-    ghost use Rattle.wasmi_core.specs.Runs.{IsRunOf};
-    ghost use Rattle.wasmi_core.specs.Totals.{total, HoldsTotals};
-    ghost use Rattle.wasmi_core.specs.World.{world};
-    ghost use Rattle.wasmi_budget.specs.Pool.{HasNothing};
-    ghost use Rattle.wasmi_budget.specs.Tenant.{holdings, tenant_rules};
-
     /// The machine, which has nothing yet.
     pub(crate) fn empty(machine: Machine<'r>) -> Self
         requires nothing { HasNothing machine }
         ensures value { result ≡ machine.entry }
     {
-        let held = Amounts {
-            bytes: 0,
-            elements: 0,
-        };
-        CountedMachine { machine, held }
+        CountedMachine {
+            machine,
+            held: Amounts::default(),
+        }
     }
 
     /// The machine.

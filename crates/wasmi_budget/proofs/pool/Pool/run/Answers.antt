@@ -1,4 +1,5 @@
-use Rattle.std.proofs.Common.{◌∙◌, ap, arith, length, sym}
+use Rattle.std.proofs.Common.{◌≡◌, ◌∙◌, ap, arith, length, set, sym}
+use Rattle.std.proofs.lemmas.List.{set-get_or}
 use Rattle.wasmi_core.specs.World.{world}
 use Rattle.wasmi_budget.specs.Pool.{PoolValue}
 use Rattle.wasmi_budget.proofs.PoolLemmas.{given_inside, read_given, given_holds, given_runs, given_stays, given_fits, given_kept}
@@ -54,3 +55,18 @@ returns-clause-no_tenant c =
 
 pub returns-clause-within : goal.returns-clause-within
 returns-clause-within c = (invariant_of-self-2 c).within
+
+pub returns-in_default-clause-within : goal.returns-in_default-clause-within
+returns-in_default-clause-within c = rw (← c.self.view_is) c.self.invariant.within
+
+-- without memory for the replies the machine is written back as it was
+pub invariant_of-self : goal.invariant_of-self
+invariant_of-self c =
+    let machines = c.self.inside.machines.items in
+    let same : set machines c.args.index c.run.new.self ≡ machines =
+    ap (set machines c.args.index) (c.in_err-replies.ensures.err.0 ∙ c.index_mut-machine.ensures.value)
+    ∙ set-get_or machines c.args.index c.index_mut-machine.result.now in
+    rw same c.self.invariant
+
+pub returns-in_err-replies-clause-within : goal.returns-in_err-replies-clause-within
+returns-in_err-replies-clause-within c = (invariant_of-self c).within
