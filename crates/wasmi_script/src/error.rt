@@ -1,6 +1,7 @@
 //! Why a script isn't run to its end.
-ghost use Rattle.std.specs.Prelude.{◌≡◌};
+ghost use Rattle.std.specs.Prelude.{◌≡◌, Some};
 ghost use Rattle.wasmi_grammar.specs.declared.error.ParseError.TheVariants.{OutOfMemory};
+ghost use Rattle.wasmi_script.specs.Texts.{error_text};
 ghost use Rattle.wasmi_script.specs.declared.error.ReplayError.TheVariants.{Parse};
 
 use std::alloc::{AllocError, AllocFailed};
@@ -19,9 +20,6 @@ pub enum ReplayError {
 }
 
 impl fmt::Display for ReplayError {
-    ghost use Rattle.std.specs.Prelude.{Some};
-    ghost use Rattle.wasmi_script.specs.Texts.{error_text};
-
     ghost output = { λ error. Some (error_text error) };
 
     fn fmt<W: fmt::Write>(&self, f: &mut fmt::Formatter<W>) -> fmt::Result {

@@ -9,6 +9,7 @@ mod replaying;
 mod running;
 
 pub use error::ReplayError;
+pub use listed_limiter::{answer_by, notice_answer_by};
 pub use printing::{ReplyHead, print_lines};
 pub use replaying::{LIMIT, Status, replay};
 pub use wasmi_grammar::ParseError;

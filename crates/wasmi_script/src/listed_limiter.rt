@@ -1,8 +1,30 @@
 //! A limiter that answers from a list of words.
 ghost use Rattle.std.specs.Prelude.{◌≡◌};
+ghost use Rattle.wasmi_script.specs.ListedLimiter.{answer_by, notice_answer_by};
 
 use wasmi_grammar::AnswerWord;
 use wasmi_meter::{Kind, LimiterByKind, LimiterError};
+
+/// What a question is answered by a word.
+pub fn answer_by(word: AnswerWord) -> Result<bool, LimiterError>
+    ensures { result ≡ answer_by word }
+{
+    match word {
+        AnswerWord::Permit | AnswerWord::Complain => Ok(true),
+        AnswerWord::Deny => Ok(false),
+        AnswerWord::Error => Err(LimiterError::ResourceLimiterDeniedAllocation),
+    }
+}
+
+/// What a notice is answered after a question that this word answered.
+pub fn notice_answer_by(word: AnswerWord) -> Result<(), LimiterError>
+    ensures { result ≡ notice_answer_by word }
+{
+    match word {
+        AnswerWord::Complain => Err(LimiterError::ResourceLimiterDeniedAllocation),
+        _ => Ok(()),
+    }
+}
 
 /// A limiter that answers each question by the next of its words, and permits once there is none
 /// left.
@@ -17,7 +39,7 @@ pub struct AnswerList<'w> {
 }
 
 impl<'w> AnswerList<'w> {
-    ghost use Rattle.wasmi_script.specs.ListedLimiter.{IsNewList, TakesWord, notice_answer_by};
+    ghost use Rattle.wasmi_script.specs.ListedLimiter.{IsNewList, TakesWord};
 
     /// A limiter that was asked nothing yet.
     pub fn new(words: &'w [AnswerWord]) -> Self
@@ -34,26 +56,10 @@ impl<'w> AnswerList<'w> {
     fn answer(&mut self) -> Result<bool, LimiterError>
         ensures { TakesWord self.old result self.new }
     {
-        self.last = match self.words.get(self.asked) {
-            Some(word) => *word,
-            None => AnswerWord::Permit,
-        };
+        let word = self.words.get(self.asked).copied();
+        self.last = word.unwrap_or(AnswerWord::Permit);
         self.asked = self.asked.saturating_add(1);
-        match self.last {
-            AnswerWord::Permit | AnswerWord::Complain => Ok(true),
-            AnswerWord::Deny => Ok(false),
-            AnswerWord::Error => Err(LimiterError::ResourceLimiterDeniedAllocation),
-        }
-    }
-
-    /// Answers a notice of either kind by the word of the last question.
-    fn notice_answer(&self) -> Result<(), LimiterError>
-        ensures { result ≡ notice_answer_by self.now.last }
-    {
-        match self.last {
-            AnswerWord::Complain => Err(LimiterError::ResourceLimiterDeniedAllocation),
-            _ => Ok(()),
-        }
+        answer_by(self.last)
     }
 }
 
@@ -67,6 +73,6 @@ impl LimiterByKind for AnswerList<'_> {
     }
 
     fn grow_failed(&mut self, _kind: Kind) -> Result<(), LimiterError> {
-        self.notice_answer()
+        notice_answer_by(self.last)
     }
 }

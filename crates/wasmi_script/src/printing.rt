@@ -1,8 +1,8 @@
 //! The lines that a replay prints, by its outcome, and the printer that they go through.
-ghost use Rattle.std.specs.Prelude.{◌≡◌, ◌+◌, ◌≤◌, [], length, Ok, IsOk, OnOk, OnErr, IfSome};
+ghost use Rattle.std.specs.Prelude.{◌≡◌, ◌+◌, ◌≤◌, [], length, Some, IsOk, OnOk, OnErr, IfSome};
 ghost use Rattle.std.specs.Io.KnownBytes.{Appends};
 ghost use Rattle.wasmi_script.specs.Printing.{AppendsFront, IsShort, Prints, PrintsFront, PrintsOut, Sends, SendsFront, line};
-ghost use Rattle.wasmi_script.specs.Texts.{reply_text, bytes_in, kind_text};
+ghost use Rattle.wasmi_script.specs.Texts.{reply_text, head_text, bytes_in, kind_text};
 ghost use Rattle.wasmi_operands.specs.TypeWords.{reference_word};
 ghost use Rattle.wasmi_script.specs.Outcomes.{replies_text, tenants_text, held_text, outcome_text};
 
@@ -99,21 +99,13 @@ fn print_outcome<W: io::Write>(
         (PrintsFront W.contents printer.old printer.new (outcome_text outcome.now)) }
 {
     match outcome {
-        Ok(replayed) => print_replayed(printer, replayed),
+        Ok(replayed) => {
+            let calls = replayed.script.parts.calls();
+            print_replies(printer, calls, &replayed.ran.replies)?;
+            print_held(printer, &replayed.ran.held)
+        }
         Err(error) => printer.print_line(format_args!("{error}")),
     }
-}
-
-/// Prints a line for each call of a script, and what is held.
-fn print_replayed<W: io::Write>(printer: &mut Printer<'_, W>, replayed: &Replayed) -> fmt::Result
-    ensures ok { OnOk result
-        (Prints W.contents printer.old printer.new (outcome_text (Ok replayed.now))) }
-    ensures front { OnErr result
-        (PrintsFront W.contents printer.old printer.new (outcome_text (Ok replayed.now))) }
-{
-    let calls = replayed.script.parts.calls();
-    print_replies(printer, calls, &replayed.ran.replies)?;
-    print_held(printer, &replayed.ran.held)
 }
 
 /// A line for each call, with its reply.
@@ -201,37 +193,35 @@ pub struct ReplyHead<'a> {
 }
 
 impl fmt::Display for ReplyHead<'_> {
-    ghost use Rattle.std.specs.Prelude.{Some};
-    ghost use Rattle.wasmi_script.specs.Texts.{head_text};
-
     ghost output = { λ head. Some (head_text head.call.now head.reply.now) };
 
     fn fmt<W: fmt::Write>(&self, f: &mut fmt::Formatter<W>) -> fmt::Result {
-        match self.reply {
-            Reply::Done => write!(f, "done"),
+        let text = match self.reply {
+            Reply::Done => "done",
+            Reply::Bytes(_) => "bytes",
+            Reply::Reference(None) => "none",
+            Reply::NoSuch => "no such",
+            Reply::NoRegion => "no region",
+            Reply::NoRoom => "no room",
             Reply::Made(index) => {
                 let kind = made_word(self.call);
-                write!(f, "{kind} {index}")
+                return write!(f, "{kind} {index}");
             }
-            Reply::Value(value) => write!(f, "raw {} {}", value.lo, value.hi),
-            Reply::Number(number) => write!(f, "value {number}"),
-            Reply::Bytes(_) => write!(f, "bytes"),
+            Reply::Value(value) => return write!(f, "raw {} {}", value.lo, value.hi),
+            Reply::Number(number) => return write!(f, "value {number}"),
             Reply::Reference(Some(reference)) => {
                 let ty = reference_word_of(reference.ty);
                 let raw = u32::from(reference.raw);
-                write!(f, "{ty} {raw}")
+                return write!(f, "{ty} {raw}");
             }
-            Reply::Reference(None) => write!(f, "none"),
-            Reply::Memory(error) => write!(f, "error {error}"),
-            Reply::Table(error) => write!(f, "error {error}"),
-            Reply::Fuel(error) => write!(f, "error {error}"),
-            Reply::Global(error) => write!(f, "error {error}"),
-            Reply::Segment(error) => write!(f, "error {error}"),
-            Reply::Trap(code) => write!(f, "error {code}"),
-            Reply::NoSuch => write!(f, "no such"),
-            Reply::NoRegion => write!(f, "no region"),
-            Reply::NoRoom => write!(f, "no room"),
-        }
+            Reply::Memory(error) => return write!(f, "error {error}"),
+            Reply::Table(error) => return write!(f, "error {error}"),
+            Reply::Fuel(error) => return write!(f, "error {error}"),
+            Reply::Global(error) => return write!(f, "error {error}"),
+            Reply::Segment(error) => return write!(f, "error {error}"),
+            Reply::Trap(code) => return write!(f, "error {code}"),
+        };
+        f.write_str(text)
     }
 }
 

@@ -123,9 +123,8 @@ fn read<R: io::Read>(alloc: Global, reader: &mut Turns<'_, R>) -> Result<Vec<u8>
     let mut script = Vec::new(alloc);
     let mut chunk = [0u8; 4096];
     for _turn in 0..LIMIT + 1 {
-        let count = match reader.turn(&mut chunk) {
-            Ok(count) => count,
-            Err(_) => return Err(ReplayError::ReadFault),
+        let Ok(count) = reader.turn(&mut chunk) else {
+            return Err(ReplayError::ReadFault);
         };
         if count == 0 {
             return Ok(script);

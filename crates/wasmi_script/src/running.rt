@@ -99,10 +99,8 @@ fn run_freely(alloc: Global, header: &Header, calls: &[Call]) -> Result<Ran, All
     let mut machine = machine_of(alloc, header, region.as_mut());
     let mut limiter = ResourceLimiterRef::<NoLimits>::default();
     let replies = run(&mut machine, calls, &mut limiter)?;
-    Ok(Ran {
-        replies,
-        held: Held::Nothing,
-    })
+    let held = Held::Nothing;
+    Ok(Ran { replies, held })
 }
 
 /// Runs the calls on a new machine under a quota of these caps.
@@ -118,14 +116,11 @@ fn run_under_quota(
     let mut machine = machine_of(alloc, header, region.as_mut());
     let mut quota = Quota::new(caps.bytes, caps.elements);
     let replies = run_reserving(&mut machine, calls, &mut quota)?;
-    let held = Amounts {
+    let held = Held::Quota(Amounts {
         bytes: quota.held_bytes(),
         elements: quota.held_elements(),
-    };
-    Ok(Ran {
-        replies,
-        held: Held::Quota(held),
-    })
+    });
+    Ok(Ran { replies, held })
 }
 
 /// Runs the calls on a new machine under a limiter that answers from a list of words.
@@ -142,10 +137,8 @@ fn run_answered(
     let mut machine = machine_of(alloc, header, region.as_mut());
     let mut limiter = AnswerList::new(words);
     let replies = run_lending(&mut machine, calls, &mut limiter)?;
-    Ok(Ran {
-        replies,
-        held: Held::Nothing,
-    })
+    let held = Held::Nothing;
+    Ok(Ran { replies, held })
 }
 
 /// Runs the script's parts, each by its tenant, on a pool of new machines with the script's meter.
@@ -160,10 +153,8 @@ fn run_pool(alloc: Global, script: &Script, line: TenantsLine) -> Result<Ran, Al
         let mut answered = run_part(&mut pool, tenant, calls)?;
         replies.append(&mut answered)?;
     }
-    Ok(Ran {
-        replies,
-        held: Held::Tenants(pool),
-    })
+    let held = Held::Tenants(pool);
+    Ok(Ran { replies, held })
 }
 
 /// A pool of new machines with the meter of the header, under the caps of the line.
@@ -185,9 +176,6 @@ fn run_part(pool: &mut Pool, tenant: usize, calls: &[Call]) -> Result<Vec<Reply>
     ensures { IfOk result (λ replies.
         RunsTenant pool.old tenant calls.now replies.items pool.new) }
 {
-    match pool.run(tenant, calls) {
-        Ok(replies) => Ok(replies),
-        // No script names a tenant that its pool lacks, so memory was wanting.
-        Err(_) => Err(AllocError),
-    }
+    // No script names a tenant that its pool lacks, so memory is wanting after an error.
+    pool.run(tenant, calls).map_err(|_| AllocError)
 }
