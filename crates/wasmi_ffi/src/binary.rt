@@ -23,6 +23,7 @@ pub enum Binary {
 }
 
 impl Binary {
+    #[inline(always)]
     fn apply(self, a: RawVal, b: RawVal) -> Result<RawVal, TrapCode>
         ensures { result ≡ binary_value self a b }
     {
@@ -47,19 +48,16 @@ fn instruction(number: u16) -> Result<Binary, Refusal>
     })
 }
 
-fn binary_result(number: u16, a: RawVal, b: RawVal) -> Result<RawVal, Refusal>
-    ensures { result ≡ binary_result number a b }
-{
-    Ok(instruction(number)?.apply(a, b)?)
-}
-
 /// Gives the result of the instruction of two operands that has the number. Returns 0; 255 if there
 /// is none; or the number of its trap. After any status except 0 nothing is written.
 #[unsafe(no_mangle)]
 pub extern "C" fn wasmi_binary(number: u16, a: RawVal, b: RawVal, value: &mut RawVal) -> u8
     ensures { Leaves (binary_result number a b) value.old value.new result }
 {
-    leave(binary_result(number, a, b), value)
+    match instruction(number) {
+        Ok(op) => leave(op.apply(a, b), value),
+        Err(refusal) => refusal.into(),
+    }
 }
 
 /// As `wasmi_binary` on each two elements of two arrays; each result has its own trap. Returns 0;

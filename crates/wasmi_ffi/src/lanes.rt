@@ -5,7 +5,6 @@ ghost use Rattle.wasmi_ffi.specs.Lanes.{extract_result, extract_results, extract
 
 use crate::list::op_at;
 use crate::refusal::{DONE, Refusal};
-use crate::result::leave;
 use wasmi_ops::{
     EXTRACTIONS, ExtractOp, LANE_LOADS, LANE_STORES, LoadLaneOp, REPLACEMENTS, ReplaceOp,
     StoreLaneOp,
@@ -59,19 +58,19 @@ fn replaced(op: &ReplaceOp, a: RawVal, item: RawVal) -> RawVal
     op.apply(a.into(), item).into()
 }
 
-fn extract_result(number: u16, lane: u8, a: RawVal) -> Result<RawVal, Refusal>
-    ensures { result ≡ extract_result number lane a }
-{
-    Ok(extracted(&extraction(number, lane)?, a))
-}
-
 /// Extracts a lane of a vector. Returns 0; 255 if no extraction has the number; or 253 if no lane
 /// has the index. After 253 and 255 nothing is written.
 #[unsafe(no_mangle)]
 pub extern "C" fn wasmi_extract_lane(number: u16, lane: u8, a: RawVal, value: &mut RawVal) -> u8
     ensures { Leaves (extract_result number lane a) value.old value.new result }
 {
-    leave(extract_result(number, lane, a), value)
+    match extraction(number, lane) {
+        Ok(op) => {
+            *value = extracted(&op, a);
+            DONE
+        }
+        Err(refusal) => refusal.into(),
+    }
 }
 
 /// As `wasmi_extract_lane` on each vector of an array. Returns 254 if the arrays differ in length,
@@ -106,12 +105,6 @@ fn extract_each(op: &ExtractOp, a: &[RawVal], values: &mut [RawVal]) -> u8
     DONE
 }
 
-fn replace_result(number: u16, lane: u8, a: RawVal, item: RawVal) -> Result<RawVal, Refusal>
-    ensures { result ≡ replace_result number lane a item }
-{
-    Ok(replaced(&replacement(number, lane)?, a, item))
-}
-
 /// Replaces a lane of a vector by an item. Returns 0; 255 if no replacement has the number; or 253
 /// if no lane has the index. After 253 and 255 nothing is written.
 #[unsafe(no_mangle)]
@@ -124,7 +117,13 @@ pub extern "C" fn wasmi_replace_lane(
 ) -> u8
     ensures { Leaves (replace_result number lane a item) value.old value.new result }
 {
-    leave(replace_result(number, lane, a, item), value)
+    match replacement(number, lane) {
+        Ok(op) => {
+            *value = replaced(&op, a, item);
+            DONE
+        }
+        Err(refusal) => refusal.into(),
+    }
 }
 
 /// As `wasmi_replace_lane` on each two elements of two arrays. Returns 254 if the arrays differ in
@@ -160,20 +159,6 @@ fn replace_each(op: &ReplaceOp, a: &[RawVal], items: &[RawVal], values: &mut [Ra
     DONE
 }
 
-fn load_lane_result(
-    number: u16,
-    lane: u8,
-    memory: &[u8],
-    ptr: u64,
-    offset: u64,
-    a: RawVal,
-) -> Result<RawVal, Refusal>
-    ensures { result ≡ load_lane_result number lane memory.now (ptr + offset) a }
-{
-    let op = lane_load(number, lane)?;
-    Ok(op.load(memory, ptr, offset, a.into())?.into())
-}
-
 /// Loads a lane of a vector from `ptr + offset`. Returns 0; 255 if no load of a lane has the
 /// number; 253 if no lane has the index; or the number of the trap past the end. After any status
 /// except 0 nothing is written.
@@ -190,10 +175,16 @@ pub extern "C" fn wasmi_load_lane(
     ensures { Leaves (load_lane_result number lane memory.now (ptr + offset) a)
         value.old value.new result }
 {
-    leave(
-        load_lane_result(number, lane, memory, ptr, offset, a),
-        value,
-    )
+    match lane_load(number, lane) {
+        Ok(op) => match op.load(memory, ptr, offset, a.into()) {
+            Ok(vector) => {
+                *value = vector.into();
+                DONE
+            }
+            Err(trap) => u8::from(trap),
+        },
+        Err(refusal) => refusal.into(),
+    }
 }
 
 /// Stores a lane of a vector at `ptr + offset`. Returns 0; 255 if no store of a lane has the

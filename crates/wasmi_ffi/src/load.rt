@@ -21,6 +21,7 @@ pub enum Load {
 }
 
 impl Load {
+    #[inline(always)]
     fn load(self, memory: &[u8], ptr: u64, offset: u64) -> Result<RawVal, TrapCode>
         ensures { result ≡ loaded_value self memory.now (ptr + offset) }
     {
@@ -42,12 +43,6 @@ fn instruction(number: u16) -> Result<Load, Refusal>
     })
 }
 
-fn load_result(number: u16, memory: &[u8], ptr: u64, offset: u64) -> Result<RawVal, Refusal>
-    ensures { result ≡ load_result number memory.now (ptr + offset) }
-{
-    Ok(instruction(number)?.load(memory, ptr, offset)?)
-}
-
 /// Loads a value from `ptr + offset`, by the load that has the number. Returns 0; 255 if there is
 /// none; or the number of the trap past the end. After any status except 0 nothing is written.
 #[unsafe(no_mangle)]
@@ -60,7 +55,10 @@ pub extern "C" fn wasmi_load(
 ) -> u8
     ensures { Leaves (load_result number memory.now (ptr + offset)) value.old value.new result }
 {
-    leave(load_result(number, memory, ptr, offset), value)
+    match instruction(number) {
+        Ok(op) => leave(op.load(memory, ptr, offset), value),
+        Err(refusal) => refusal.into(),
+    }
 }
 
 /// As `wasmi_load` from each pointer of an array, plus the offset; each result has its own trap.

@@ -1,7 +1,6 @@
 //! Why a call of an instruction writes nothing, and the status that says so.
 ghost use Rattle.std.specs.Prelude.{◌≡◌};
 ghost use Rattle.wasmi_ffi.specs.Status.{refusal_status};
-ghost use Rattle.wasmi_ffi.specs.declared.refusal.Refusal.TheVariants as refused;
 
 use wasmi_types::TrapCode;
 
@@ -19,14 +18,6 @@ pub enum Refusal {
     LengthsDiffer,
     /// No instruction has the number.
     Unknown,
-}
-
-impl From<TrapCode> for Refusal {
-    ghost from_gives = { λ code refusal. refusal ≡ refused.Trap code };
-
-    fn from(code: TrapCode) -> Refusal {
-        Refusal::Trap(code)
-    }
 }
 
 // The contract has the numbers of `specs/Status.antt`, C those of `include/wasmi_core.h`.

@@ -1,6 +1,6 @@
 //! What an instruction gives, as C reads it.
 ghost use Rattle.std.specs.Prelude.{◌≡◌};
-ghost use Rattle.wasmi_ffi.specs.Calls.{Leaves};
+ghost use Rattle.wasmi_ffi.specs.Calls.{Leaves, or_trap};
 ghost use Rattle.wasmi_ffi.specs.Results.{result_of};
 
 use crate::refusal::{DONE, Refusal};
@@ -35,15 +35,17 @@ impl InstructionResult {
     }
 }
 
-/// Writes the value of a call, or nothing if it was refused, and returns the status.
-pub fn leave(given: Result<RawVal, Refusal>, value: &mut RawVal) -> u8
-    ensures { Leaves given value.old value.new result }
+/// Writes the value that an instruction gives, or nothing if it traps, and returns the status.
+pub fn leave(given: Result<RawVal, TrapCode>, value: &mut RawVal) -> u8
+    ensures { Leaves (or_trap given) value.old value.new result }
 {
     match given {
         Ok(new) => {
-            *value = new;
+            // By its words, since LLVM would copy it as a whole through memory.
+            value.lo = new.lo;
+            value.hi = new.hi;
             DONE
         }
-        Err(refusal) => refusal.into(),
+        Err(trap) => Refusal::Trap(trap).into(),
     }
 }

@@ -5,7 +5,6 @@ ghost use Rattle.wasmi_ffi.specs.Ternary.{ternary_of, ternary_result, ternary_re
 
 use crate::list::op_at;
 use crate::refusal::{DONE, Refusal};
-use crate::result::leave;
 use wasmi_ops::{TERNARIES, TernaryOp};
 use wasmi_raw::RawVal;
 
@@ -23,12 +22,6 @@ fn instruction(number: u16) -> Result<TernaryOp, Refusal>
     op_at(&TERNARIES, number)
 }
 
-fn ternary_result(number: u16, a: RawVal, b: RawVal, c: RawVal) -> Result<RawVal, Refusal>
-    ensures { result ≡ ternary_result number a b c }
-{
-    Ok(apply(instruction(number)?, a, b, c))
-}
-
 /// Gives the result of the instruction of three vectors that has the number. Returns 0, or 255 if
 /// there is none; then nothing is written.
 #[unsafe(no_mangle)]
@@ -41,7 +34,13 @@ pub extern "C" fn wasmi_ternary(
 ) -> u8
     ensures { Leaves (ternary_result number a b c) value.old value.new result }
 {
-    leave(ternary_result(number, a, b, c), value)
+    match instruction(number) {
+        Ok(op) => {
+            *value = apply(op, a, b, c);
+            DONE
+        }
+        Err(refusal) => refusal.into(),
+    }
 }
 
 /// As `wasmi_ternary` on each three elements of three arrays. Returns 254 if the arrays differ in

@@ -5,7 +5,6 @@ ghost use Rattle.wasmi_ffi.specs.Unary.{unary_of, unary_result, unary_results, u
 
 use crate::list::op_at;
 use crate::refusal::{DONE, Refusal};
-use crate::result::leave;
 use wasmi_ops::{MAKES, MakeOp, SCALAR_UNARIES, ScalarUnaryOp, TESTS, TestOp, UNARIES, UnaryOp};
 use wasmi_raw::RawVal;
 
@@ -23,6 +22,7 @@ pub enum Unary {
 }
 
 impl Unary {
+    #[inline(always)]
     fn apply(self, a: RawVal) -> RawVal
         ensures { result ≡ unary_value self a }
     {
@@ -49,19 +49,19 @@ fn instruction(number: u16) -> Result<Unary, Refusal>
     })
 }
 
-fn unary_result(number: u16, a: RawVal) -> Result<RawVal, Refusal>
-    ensures { result ≡ unary_result number a }
-{
-    Ok(instruction(number)?.apply(a))
-}
-
 /// Gives the result of the instruction of one operand that has the number. Returns 0, or 255 if
 /// there is none; then nothing is written.
 #[unsafe(no_mangle)]
 pub extern "C" fn wasmi_unary(number: u16, a: RawVal, value: &mut RawVal) -> u8
     ensures { Leaves (unary_result number a) value.old value.new result }
 {
-    leave(unary_result(number, a), value)
+    match instruction(number) {
+        Ok(op) => {
+            *value = op.apply(a);
+            DONE
+        }
+        Err(refusal) => refusal.into(),
+    }
 }
 
 /// As `wasmi_unary` on each element of an array. Returns 254 if the arrays differ in length, which
