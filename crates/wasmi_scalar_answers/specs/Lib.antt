@@ -1,4 +1,5 @@
 pub mod ScalarAnswers
+pub mod Numbers
 pub mod Instructions
 pub mod Operands
 pub mod Lines

@@ -1,14 +1,55 @@
 //! The instructions by name.
-ghost use Rattle.std.specs.Prelude.{IfSome};
-ghost use Rattle.wasmi_scalar_answers.specs.Instructions.{ExecutesUnary, ExecutesBinary, ExecutesNamed};
+ghost use Rattle.std.specs.Prelude.{◌≡◌, IfSome};
+ghost use Rattle.wasmi_scalar_answers.specs.Instructions.{ExecutesUnary, ExecutesBinary, ExecutesNamed, WritesOperands, WritesPair, answer_in, binary_form, unary_operand, unary_result};
 
-mod call;
-
+use crate::number_type::NumberType;
 use crate::scalar_answer::ScalarAnswer;
-use call::{binary, quaternary, unary};
 use wasmi_operands::operand::Operand;
 use wasmi_ops::{ScalarBinaryOp, ScalarUnaryOp};
-use wasmi_scalar::wasm;
+use wasmi_raw::RawVal;
+
+/// What an instruction of two operands takes and gives.
+#[derive(Clone, Copy)]
+pub enum BinaryForm {
+    /// It takes two numbers of a type, and gives one of it. A Boolean is 0 or 1.
+    Numbers(NumberType),
+    /// It takes two numbers of 64 bits, read signed, and gives one of two words.
+    Product,
+    /// It takes two numbers of two words each, and gives one of two words.
+    Pairs,
+}
+
+impl BinaryForm {
+    /// The two operands that words write, if they are as many as the form has, and numbers of it.
+    fn operands(self, words: &[&str]) -> Option<(RawVal, RawVal)>
+        ensures { IfSome result (λ both. WritesOperands self words.now both.0 both.1) }
+    {
+        match (self, words) {
+            (BinaryForm::Numbers(ty), [lhs, rhs]) => Some((ty.raw(lhs)?, ty.raw(rhs)?)),
+            (BinaryForm::Product, [lhs, rhs]) => {
+                Some((NumberType::I64.raw(lhs)?, NumberType::I64.raw(rhs)?))
+            }
+            (BinaryForm::Pairs, [lhs_lo, lhs_hi, rhs_lo, rhs_hi]) => {
+                Some((pair(lhs_lo, lhs_hi)?, pair(rhs_lo, rhs_hi)?))
+            }
+            _ => None,
+        }
+    }
+
+    /// The answer that a raw result is.
+    fn answer(self, raw: RawVal) -> ScalarAnswer
+        ensures { result ≡ answer_in self raw }
+    {
+        match self {
+            BinaryForm::Numbers(ty) => ScalarAnswer::Number(ty.number(raw)),
+            BinaryForm::Product | BinaryForm::Pairs => {
+                let lo = NumberType::I64.number(RawVal::from_bits64(raw.lo));
+                let hi = NumberType::I64.number(RawVal::from_bits64(raw.hi));
+                ScalarAnswer::Pair(lo, hi)
+            }
+        }
+    }
+}
 
 /// What the instruction of this name answers for these operands, if there is one and they are what
 /// it takes.
@@ -28,23 +69,39 @@ pub fn scalar_answer(name: &str, operands: &[&str]) -> Option<ScalarAnswer>
 fn unary_answer(op: ScalarUnaryOp, operands: &[&str]) -> Option<ScalarAnswer>
     ensures { IfSome result (ExecutesUnary op operands.now) }
 {
+    let [operand] = operands else {
+        return None;
+    };
+    let raw = operand_type(op).raw(operand)?;
+    Some(ScalarAnswer::Number(result_type(op).number(op.apply(raw))))
+}
+
+/// The type of the operand of an instruction.
+fn operand_type(op: ScalarUnaryOp) -> NumberType
+    ensures { result ≡ unary_operand op }
+{
     match op {
-        ScalarUnaryOp::I32Clz => unary(operands, wasm::i32_clz),
-        ScalarUnaryOp::I32Ctz => unary(operands, wasm::i32_ctz),
-        ScalarUnaryOp::I32Popcnt => unary(operands, wasm::i32_popcnt),
-        ScalarUnaryOp::I32Eqz => unary(operands, wasm::i32_eqz),
-        ScalarUnaryOp::I64Clz => unary(operands, wasm::i64_clz),
-        ScalarUnaryOp::I64Ctz => unary(operands, wasm::i64_ctz),
-        ScalarUnaryOp::I64Popcnt => unary(operands, wasm::i64_popcnt),
-        ScalarUnaryOp::I64Eqz => unary(operands, wasm::i64_eqz),
-        ScalarUnaryOp::I32WrapI64 => unary(operands, wasm::i32_wrap_i64),
-        ScalarUnaryOp::I64ExtendI32S => unary(operands, wasm::i64_extend_i32_s),
-        ScalarUnaryOp::I64ExtendI32U => unary(operands, wasm::i64_extend_i32_u),
-        ScalarUnaryOp::I32Extend8S => unary(operands, wasm::i32_extend8_s),
-        ScalarUnaryOp::I32Extend16S => unary(operands, wasm::i32_extend16_s),
-        ScalarUnaryOp::I64Extend8S => unary(operands, wasm::i64_extend8_s),
-        ScalarUnaryOp::I64Extend16S => unary(operands, wasm::i64_extend16_s),
-        ScalarUnaryOp::I64Extend32S => unary(operands, wasm::i64_extend32_s),
+        ScalarUnaryOp::I32Clz
+        | ScalarUnaryOp::I32Ctz
+        | ScalarUnaryOp::I32Popcnt
+        | ScalarUnaryOp::I32Eqz
+        | ScalarUnaryOp::I32Extend8S
+        | ScalarUnaryOp::I32Extend16S
+        | ScalarUnaryOp::I64ExtendI32S => NumberType::I32,
+        ScalarUnaryOp::I64ExtendI32U => NumberType::U32,
+        _ => NumberType::I64,
+    }
+}
+
+/// The type of the result of an instruction of one operand. A Boolean is 0 or 1.
+fn result_type(op: ScalarUnaryOp) -> NumberType
+    ensures { result ≡ unary_result op }
+{
+    match op {
+        ScalarUnaryOp::I32WrapI64 => NumberType::I32,
+        ScalarUnaryOp::I64ExtendI32S => NumberType::I64,
+        ScalarUnaryOp::I64ExtendI32U => NumberType::U64,
+        _ => operand_type(op),
     }
 }
 
@@ -52,60 +109,63 @@ fn unary_answer(op: ScalarUnaryOp, operands: &[&str]) -> Option<ScalarAnswer>
 fn binary_answer(op: ScalarBinaryOp, operands: &[&str]) -> Option<ScalarAnswer>
     ensures { IfSome result (ExecutesBinary op operands.now) }
 {
-    match op {
-        ScalarBinaryOp::I32Add => binary(operands, wasm::i32_add),
-        ScalarBinaryOp::I32Sub => binary(operands, wasm::i32_sub),
-        ScalarBinaryOp::I32Mul => binary(operands, wasm::i32_mul),
-        ScalarBinaryOp::I32Bitand => binary(operands, wasm::i32_bitand),
-        ScalarBinaryOp::I32Bitor => binary(operands, wasm::i32_bitor),
-        ScalarBinaryOp::I32Bitxor => binary(operands, wasm::i32_bitxor),
-        ScalarBinaryOp::I32Shl => binary(operands, wasm::i32_shl),
-        ScalarBinaryOp::I32ShrS => binary(operands, wasm::i32_shr_s),
-        ScalarBinaryOp::I32ShrU => binary(operands, wasm::i32_shr_u),
-        ScalarBinaryOp::I32Rotl => binary(operands, wasm::i32_rotl),
-        ScalarBinaryOp::I32Rotr => binary(operands, wasm::i32_rotr),
-        ScalarBinaryOp::I32DivS => binary(operands, wasm::i32_div_s),
-        ScalarBinaryOp::I32DivU => binary(operands, wasm::i32_div_u),
-        ScalarBinaryOp::I32RemS => binary(operands, wasm::i32_rem_s),
-        ScalarBinaryOp::I32RemU => binary(operands, wasm::i32_rem_u),
-        ScalarBinaryOp::I32Eq => binary(operands, wasm::i32_eq),
-        ScalarBinaryOp::I32Ne => binary(operands, wasm::i32_ne),
-        ScalarBinaryOp::I32LtS => binary(operands, wasm::i32_lt_s),
-        ScalarBinaryOp::I32LtU => binary(operands, wasm::i32_lt_u),
-        ScalarBinaryOp::I32LeS => binary(operands, wasm::i32_le_s),
-        ScalarBinaryOp::I32LeU => binary(operands, wasm::i32_le_u),
-        ScalarBinaryOp::I32GtS => binary(operands, wasm::i32_gt_s),
-        ScalarBinaryOp::I32GtU => binary(operands, wasm::i32_gt_u),
-        ScalarBinaryOp::I32GeS => binary(operands, wasm::i32_ge_s),
-        ScalarBinaryOp::I32GeU => binary(operands, wasm::i32_ge_u),
-        ScalarBinaryOp::I64Add => binary(operands, wasm::i64_add),
-        ScalarBinaryOp::I64Sub => binary(operands, wasm::i64_sub),
-        ScalarBinaryOp::I64Mul => binary(operands, wasm::i64_mul),
-        ScalarBinaryOp::I64Bitand => binary(operands, wasm::i64_bitand),
-        ScalarBinaryOp::I64Bitor => binary(operands, wasm::i64_bitor),
-        ScalarBinaryOp::I64Bitxor => binary(operands, wasm::i64_bitxor),
-        ScalarBinaryOp::I64Shl => binary(operands, wasm::i64_shl),
-        ScalarBinaryOp::I64ShrS => binary(operands, wasm::i64_shr_s),
-        ScalarBinaryOp::I64ShrU => binary(operands, wasm::i64_shr_u),
-        ScalarBinaryOp::I64Rotl => binary(operands, wasm::i64_rotl),
-        ScalarBinaryOp::I64Rotr => binary(operands, wasm::i64_rotr),
-        ScalarBinaryOp::I64DivS => binary(operands, wasm::i64_div_s),
-        ScalarBinaryOp::I64DivU => binary(operands, wasm::i64_div_u),
-        ScalarBinaryOp::I64RemS => binary(operands, wasm::i64_rem_s),
-        ScalarBinaryOp::I64RemU => binary(operands, wasm::i64_rem_u),
-        ScalarBinaryOp::I64Eq => binary(operands, wasm::i64_eq),
-        ScalarBinaryOp::I64Ne => binary(operands, wasm::i64_ne),
-        ScalarBinaryOp::I64LtS => binary(operands, wasm::i64_lt_s),
-        ScalarBinaryOp::I64LtU => binary(operands, wasm::i64_lt_u),
-        ScalarBinaryOp::I64LeS => binary(operands, wasm::i64_le_s),
-        ScalarBinaryOp::I64LeU => binary(operands, wasm::i64_le_u),
-        ScalarBinaryOp::I64GtS => binary(operands, wasm::i64_gt_s),
-        ScalarBinaryOp::I64GtU => binary(operands, wasm::i64_gt_u),
-        ScalarBinaryOp::I64GeS => binary(operands, wasm::i64_ge_s),
-        ScalarBinaryOp::I64GeU => binary(operands, wasm::i64_ge_u),
-        ScalarBinaryOp::I64Add128 => quaternary(operands, wasm::i64_add128),
-        ScalarBinaryOp::I64Sub128 => quaternary(operands, wasm::i64_sub128),
-        ScalarBinaryOp::I64MulWideS => binary(operands, wasm::i64_mul_wide_s),
-        ScalarBinaryOp::I64MulWideU => binary(operands, wasm::i64_mul_wide_u),
+    let form = form(op);
+    let (lhs, rhs) = form.operands(operands)?;
+    match op.apply(lhs, rhs) {
+        Ok(raw) => Some(form.answer(raw)),
+        Err(trap) => Some(ScalarAnswer::Trap(trap)),
     }
+}
+
+/// What an instruction of two operands takes and gives.
+fn form(op: ScalarBinaryOp) -> BinaryForm
+    ensures { result ≡ binary_form op }
+{
+    match op {
+        ScalarBinaryOp::I32ShrU
+        | ScalarBinaryOp::I32DivU
+        | ScalarBinaryOp::I32RemU
+        | ScalarBinaryOp::I32LtU
+        | ScalarBinaryOp::I32LeU
+        | ScalarBinaryOp::I32GtU
+        | ScalarBinaryOp::I32GeU => BinaryForm::Numbers(NumberType::U32),
+        ScalarBinaryOp::I64ShrU
+        | ScalarBinaryOp::I64DivU
+        | ScalarBinaryOp::I64RemU
+        | ScalarBinaryOp::I64LtU
+        | ScalarBinaryOp::I64LeU
+        | ScalarBinaryOp::I64GtU
+        | ScalarBinaryOp::I64GeU => BinaryForm::Numbers(NumberType::U64),
+        ScalarBinaryOp::I64Add128 | ScalarBinaryOp::I64Sub128 => BinaryForm::Pairs,
+        ScalarBinaryOp::I64MulWideS | ScalarBinaryOp::I64MulWideU => BinaryForm::Product,
+        ScalarBinaryOp::I32Add
+        | ScalarBinaryOp::I32Sub
+        | ScalarBinaryOp::I32Mul
+        | ScalarBinaryOp::I32Bitand
+        | ScalarBinaryOp::I32Bitor
+        | ScalarBinaryOp::I32Bitxor
+        | ScalarBinaryOp::I32Shl
+        | ScalarBinaryOp::I32ShrS
+        | ScalarBinaryOp::I32Rotl
+        | ScalarBinaryOp::I32Rotr
+        | ScalarBinaryOp::I32DivS
+        | ScalarBinaryOp::I32RemS
+        | ScalarBinaryOp::I32Eq
+        | ScalarBinaryOp::I32Ne
+        | ScalarBinaryOp::I32LtS
+        | ScalarBinaryOp::I32LeS
+        | ScalarBinaryOp::I32GtS
+        | ScalarBinaryOp::I32GeS => BinaryForm::Numbers(NumberType::I32),
+        _ => BinaryForm::Numbers(NumberType::I64),
+    }
+}
+
+/// The raw value of a number of two words, which words write read signed, the low one first.
+fn pair(lo: &str, hi: &str) -> Option<RawVal>
+    ensures { IfSome result (WritesPair lo.now hi.now) }
+{
+    Some(RawVal {
+        lo: NumberType::I64.raw(lo)?.lo,
+        hi: NumberType::I64.raw(hi)?.lo,
+    })
 }

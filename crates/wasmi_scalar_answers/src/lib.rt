@@ -10,6 +10,7 @@ mod comparison;
 mod instruction;
 mod line;
 mod number;
+mod number_type;
 mod scalar_answer;
 
 pub use comparison::{CheckStatus, compare};
