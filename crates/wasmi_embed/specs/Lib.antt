@@ -5,5 +5,6 @@ pub mod Host
 pub mod Laws
 pub mod MemoryCalls
 pub mod State
+pub mod Status
 pub mod TableCalls
 pub mod TableHeaders

@@ -12,30 +12,30 @@ use Rattle.wasmi_store.specs.Buffer.{Lent}
 use Rattle.wasmi_store.specs.Growth.{metered_value}
 use Rattle.wasmi_store.specs.Memory.{MemoryValue, MakesMemory, GrowsMemory, growth_of, pages_of}
 use Rattle.wasmi_store.specs.MemoryType.{MemoryTypeValue, IsValid, named_type, page_bytes, in_bounds}
-use Rattle.wasmi_store.specs.RegionMemory.{memory_in, made_in}
+use Rattle.wasmi_region.specs.Memory.{memory_in, made_in}
 use Rattle.wasmi_embed.specs.Headers.{settings_of, IsState, meter_of, if_flag}
 use Rattle.wasmi_embed.specs.Host.{fresh, host_rules}
 use Rattle.wasmi_embed.specs.State.{Embedded, Placed}
+use Rattle.wasmi_embed.specs.Status.{done_status, memory_growth_status, memory_access_status, invalid_state_status, asks_status, other_size_status}
 use Rattle.wasmi_embed.specs.declared.host.HostAnswers.{HostAnswers}
 use Rattle.wasmi_embed.specs.declared.host.Question.{Question}
 use Rattle.wasmi_embed.specs.declared.headers.MemoryHeader.{MemoryHeader}
-use Rattle.wasmi_embed.specs.declared.status.TheConstants.{DONE, MEMORY_OUT_OF_MEMORY, MEMORY_GROWTH, MEMORY_ACCESS, MEMORY_TYPE, MEMORY_REGION_TOO_SHORT, MEMORY_DENIED, MEMORY_SIZE_OVERFLOW, MEMORY_MAXIMUM_OVERFLOW, MEMORY_OUT_OF_FUEL, INVALID_STATE, ASKS, OTHER_SIZE}
 
 -- the status of an error
 abbrev pub error_status : MemoryError → ℕ
-error_status error.OutOfSystemMemory = MEMORY_OUT_OF_MEMORY
-error_status error.OutOfBoundsGrowth = MEMORY_GROWTH
-error_status error.OutOfBoundsAccess = MEMORY_ACCESS
-error_status error.InvalidMemoryType = MEMORY_TYPE
-error_status error.InvalidStaticBufferSize = MEMORY_REGION_TOO_SHORT
-error_status error.ResourceLimiterDeniedAllocation = MEMORY_DENIED
-error_status error.MinimumSizeOverflow = MEMORY_SIZE_OVERFLOW
-error_status error.MaximumSizeOverflow = MEMORY_MAXIMUM_OVERFLOW
-error_status (error.OutOfFuel required) = MEMORY_OUT_OF_FUEL
+error_status error.OutOfSystemMemory = 32
+error_status error.OutOfBoundsGrowth = 33
+error_status error.OutOfBoundsAccess = 34
+error_status error.InvalidMemoryType = 35
+error_status error.InvalidStaticBufferSize = 36
+error_status error.ResourceLimiterDeniedAllocation = 37
+error_status error.MinimumSizeOverflow = 38
+error_status error.MaximumSizeOverflow = 39
+error_status (error.OutOfFuel required) = 40
 
 -- the status of a result
 abbrev pub status_of : {T : Type 0} → Result T MemoryError → ℕ
-status_of (Ok _) = DONE
+status_of (Ok _) = done_status
 status_of (Err e) = error_status e
 
 -- the number after a growth: the old size in pages, or the fuel that is needed; else it stays
@@ -72,7 +72,7 @@ pub record GrowsAs {S : Type 0} (rules : Rules S) (ty : MemoryTypeValue) (pages 
 pub record IsRefused {S : Type 0} (s : Embedded MemoryHeader S) (status : ℕ) (s' : Embedded MemoryHeader S) : Type 0
   where
     pub none : IsNoState s.header s.region
-    pub status_is : status ≡ INVALID_STATE
+    pub status_is : status ≡ invalid_state_status
     pub same : s' ≡ s
 
 -- a growth by a call
@@ -85,7 +85,7 @@ abbrev pub SettlesAs : MemoryTypeValue → ℕ → HostAnswers → Embedded Memo
     → Embedded MemoryHeader HostAnswers → Type 0
 SettlesAs ty pages answers s status s' = MatchBool (nat_eq s.header.size answers.current)
     (GrowsAs host_rules ty pages (record s { limiter = Some (fresh answers) }) status s')
-    ((status ≡ OTHER_SIZE) × (s' ≡ s))
+    ((status ≡ other_size_status) × (s' ≡ s))
 
 -- a growth by the host's answers by a call; where the header stands for no memory, nothing is written
 abbrev pub SettlesEmbedded : ℕ → HostAnswers → Embedded MemoryHeader HostAnswers → ℕ → Embedded MemoryHeader HostAnswers
@@ -102,15 +102,15 @@ question_of q =
 -- what a growth of a memory asks: nothing where it is by 0 and where the type refuses it, and then the question stays
 abbrev pub AsksAs : MemoryValue → ℕ → ℕ → Question → Question → Type 0
 AsksAs x pages status q q' =
-    ((pages ≡ 0) × (status ≡ DONE) × (q' ≡ q))
-    ⊎ ((0 < pages) × (in_bounds x.ty (pages_of x + pages) ≡ false) × (status ≡ MEMORY_GROWTH) × (q' ≡ q))
-    ⊎ ((0 < pages) × (in_bounds x.ty (pages_of x + pages) ≡ true) × (status ≡ ASKS)
+    ((pages ≡ 0) × (status ≡ done_status) × (q' ≡ q))
+    ⊎ ((0 < pages) × (in_bounds x.ty (pages_of x + pages) ≡ false) × (status ≡ memory_growth_status) × (q' ≡ q))
+    ⊎ ((0 < pages) × (in_bounds x.ty (pages_of x + pages) ≡ true) × (status ≡ asks_status)
     × ((growth_of x pages).question ≡ question_of q'))
 
 -- what a growth asks, by a call; where the header stands for no memory, it asks nothing
 abbrev pub AsksEmbedded : MemoryHeader → List ℕ → ℕ → ℕ → Question → Question → Type 0
 AsksEmbedded h region pages status q q' =
-    (IsNoState h region × (status ≡ INVALID_STATE) × (q' ≡ q))
+    (IsNoState h region × (status ≡ invalid_state_status) × (q' ≡ q))
     ⊎ ((ty : MemoryTypeValue) × IsState h region ty × AsksAs (memory_in ty region h.size) pages status q q')
 
 -- what a creation leaves: a header that stands for the new memory, or all as it was
@@ -130,25 +130,25 @@ pub record MakesAs (ty : MemoryTypeValue) (p : Placed MemoryHeader) (l : Option 
 abbrev pub MakesEmbedded : Placed MemoryHeader → Option Quota → ℕ → Placed MemoryHeader → Option Quota → Type 0
 MakesEmbedded p l status p' l' =
     (((ty : MemoryTypeValue) → named_type (settings_of p.header) ≡ Some ty → IsValid ty → ⊥)
-    × (status ≡ INVALID_STATE) × (p' ≡ p) × (l' ≡ l))
+    × (status ≡ invalid_state_status) × (p' ≡ p) × (l' ≡ l))
     ⊎ ((ty : MemoryTypeValue) × (named_type (settings_of p.header) ≡ Some ty) × MakesAs ty p l status p' l')
 
 -- the size of a memory in pages, by a call
 abbrev pub CountsEmbedded : MemoryHeader → List ℕ → ℕ → ℕ → ℕ → Type 0
 CountsEmbedded h region number status number' =
-    (IsNoState h region × (status ≡ INVALID_STATE) × (number' ≡ number))
-    ⊎ ((ty : MemoryTypeValue) × IsState h region ty × (status ≡ DONE) × (number' ≡ h.size / page_bytes ty.page))
+    (IsNoState h region × (status ≡ invalid_state_status) × (number' ≡ number))
+    ⊎ ((ty : MemoryTypeValue) × IsState h region ty × (status ≡ done_status) × (number' ≡ h.size / page_bytes ty.page))
 
 -- bytes of a memory from an offset on are copied out where they end within it, and nothing is copied else
 abbrev pub ReadsAs : List ℕ → ℕ → List ℕ → ℕ → List ℕ → Type 0
 ReadsAs bytes offset old status new =
-    ((at bytes offset (length old) ≡ Some new) × (status ≡ DONE))
-    ⊎ ((at bytes offset (length old) ≡ None) × (status ≡ MEMORY_ACCESS) × (new ≡ old))
+    ((at bytes offset (length old) ≡ Some new) × (status ≡ done_status))
+    ⊎ ((at bytes offset (length old) ≡ None) × (status ≡ memory_access_status) × (new ≡ old))
 
 -- bytes of a memory are read by a call; where the header stands for no memory, none are
 abbrev pub ReadsEmbedded : Placed MemoryHeader → ℕ → List ℕ → ℕ → List ℕ → Type 0
 ReadsEmbedded p offset old status new =
-    (IsNoState p.header p.region × (status ≡ INVALID_STATE) × (new ≡ old))
+    (IsNoState p.header p.region × (status ≡ invalid_state_status) × (new ≡ old))
     ⊎ ((ty : MemoryTypeValue) × IsState p.header p.region ty
     × ReadsAs (take p.header.size p.region) offset old status new)
 
@@ -157,12 +157,12 @@ ReadsEmbedded p offset old status new =
 abbrev pub WritesAs : ℕ → List ℕ → ℕ → List ℕ → ℕ → List ℕ → Type 0
 WritesAs size region offset source status region' =
     ((overwrite (take size region) offset source ≡ Some (take size region'))
-    × (drop size region' ≡ drop size region) × (status ≡ DONE))
-    ⊎ ((overwrite (take size region) offset source ≡ None) × (status ≡ MEMORY_ACCESS) × (region' ≡ region))
+    × (drop size region' ≡ drop size region) × (status ≡ done_status))
+    ⊎ ((overwrite (take size region) offset source ≡ None) × (status ≡ memory_access_status) × (region' ≡ region))
 
 -- bytes of a memory are written by a call; where the header stands for no memory, none are
 abbrev pub WritesEmbedded : Placed MemoryHeader → ℕ → List ℕ → ℕ → List ℕ → Type 0
 WritesEmbedded p offset source status region' =
-    (IsNoState p.header p.region × (status ≡ INVALID_STATE) × (region' ≡ p.region))
+    (IsNoState p.header p.region × (status ≡ invalid_state_status) × (region' ≡ p.region))
     ⊎ ((ty : MemoryTypeValue) × IsState p.header p.region ty
     × WritesAs p.header.size p.region offset source status region')

@@ -11,35 +11,35 @@ use Rattle.wasmi_meter.specs.Quota.{quota_rules}
 use Rattle.wasmi_store.specs.Growth.{metered_value, metered}
 use Rattle.wasmi_store.specs.Table.{TableValue, TableWrite, MakesTable, GrowsTableRaw, SetsTableRaw, WritesTable, growth_of, size_of, copy_of}
 use Rattle.wasmi_store.specs.TableType.{TableTypeValue, is_indexable}
-use Rattle.wasmi_store.specs.RegionTable.{table_in, made_in, typed_as}
+use Rattle.wasmi_region.specs.Table.{table_in, made_in, typed_as}
 use Rattle.wasmi_embed.specs.Headers.{meter_of, if_flag}
 use Rattle.wasmi_embed.specs.Host.{fresh, host_rules}
 use Rattle.wasmi_embed.specs.State.{Embedded, Placed}
 use Rattle.wasmi_embed.specs.TableHeaders.{table_type_of, IsTable}
+use Rattle.wasmi_embed.specs.Status.{done_status, no_element_status, table_growth_status, invalid_state_status, asks_status, other_size_status}
 use Rattle.wasmi_embed.specs.declared.host.HostAnswers.{HostAnswers}
 use Rattle.wasmi_embed.specs.declared.host.Question.{Question}
 use Rattle.wasmi_embed.specs.declared.headers.MeterHeader.{MeterHeader}
 use Rattle.wasmi_embed.specs.declared.table_header.TableHeader.{TableHeader}
 use Rattle.wasmi_embed.specs.declared.table_header.Range.{Range}
-use Rattle.wasmi_embed.specs.declared.status.TheConstants.{DONE, NO_ELEMENT, TABLE_OUT_OF_MEMORY, TABLE_MINIMUM_OVERFLOW, TABLE_MAXIMUM_OVERFLOW, TABLE_DENIED, TABLE_GROWTH, TABLE_INIT, TABLE_FILL, TABLE_SET, TABLE_COPY, TABLE_TYPE, TABLE_OUT_OF_FUEL, INVALID_STATE, ASKS, OTHER_SIZE}
 
 -- the status of an error
 abbrev pub table_status : TableError → ℕ
-table_status error.OutOfSystemMemory = TABLE_OUT_OF_MEMORY
-table_status error.MinimumSizeOverflow = TABLE_MINIMUM_OVERFLOW
-table_status error.MaximumSizeOverflow = TABLE_MAXIMUM_OVERFLOW
-table_status error.ResourceLimiterDeniedAllocation = TABLE_DENIED
-table_status error.GrowOutOfBounds = TABLE_GROWTH
-table_status error.InitOutOfBounds = TABLE_INIT
-table_status error.FillOutOfBounds = TABLE_FILL
-table_status error.SetOutOfBounds = TABLE_SET
-table_status error.CopyOutOfBounds = TABLE_COPY
-table_status error.ElementTypeMismatch = TABLE_TYPE
-table_status (error.OutOfFuel required) = TABLE_OUT_OF_FUEL
+table_status error.OutOfSystemMemory = 48
+table_status error.MinimumSizeOverflow = 49
+table_status error.MaximumSizeOverflow = 50
+table_status error.ResourceLimiterDeniedAllocation = 51
+table_status error.GrowOutOfBounds = 52
+table_status error.InitOutOfBounds = 53
+table_status error.FillOutOfBounds = 54
+table_status error.SetOutOfBounds = 55
+table_status error.CopyOutOfBounds = 56
+table_status error.ElementTypeMismatch = 57
+table_status (error.OutOfFuel required) = 58
 
 -- the status of a result
 abbrev pub table_status_of : {T : Type 0} → Result T TableError → ℕ
-table_status_of (Ok _) = DONE
+table_status_of (Ok _) = done_status
 table_status_of (Err e) = table_status e
 
 -- the fuel that is needed, after an error; else the number stays
@@ -93,7 +93,7 @@ pub record GrowsTableAs {S : Type 0} (rules : Rules S) (g : TableGrowth) (s : Em
 pub record IsTableRefused {S : Type 0} (s : Embedded TableHeader S) (status : ℕ) (s' : Embedded TableHeader S) : Type 0
   where
     pub none : IsNoTable s.header s.region
-    pub status_is : status ≡ INVALID_STATE
+    pub status_is : status ≡ invalid_state_status
     pub same : s' ≡ s
 
 -- a growth by a call, by so many elements of one reference
@@ -109,7 +109,7 @@ abbrev pub SettlesTableAs : TableGrowth → HostAnswers → Embedded TableHeader
     → Embedded TableHeader HostAnswers → Type 0
 SettlesTableAs g answers s status s' = MatchBool (nat_eq s.header.size answers.current)
     (GrowsTableAs host_rules g (record s { limiter = Some (fresh answers) }) status s')
-    ((status ≡ OTHER_SIZE) × (s' ≡ s))
+    ((status ≡ other_size_status) × (s' ≡ s))
 
 -- a growth by the host's answers by a call; where the header stands for no table, nothing is written
 abbrev pub SettlesTableEmbedded : ℕ → ℕ → HostAnswers → Embedded TableHeader HostAnswers → ℕ
@@ -127,15 +127,15 @@ table_question_of q =
 -- what a growth of a table asks: nothing where it is by 0, and where there would be as many elements as indices
 abbrev pub AsksTableAs : TableValue → ℕ → ℕ → Question → Question → Type 0
 AsksTableAs x delta status q q' =
-    ((delta ≡ 0) × (status ≡ DONE) × (q' ≡ q))
-    ⊎ ((0 < delta) × (is_indexable x.ty (size_of x + delta) ≡ false) × (status ≡ TABLE_GROWTH) × (q' ≡ q))
-    ⊎ ((0 < delta) × (is_indexable x.ty (size_of x + delta) ≡ true) × (status ≡ ASKS)
+    ((delta ≡ 0) × (status ≡ done_status) × (q' ≡ q))
+    ⊎ ((0 < delta) × (is_indexable x.ty (size_of x + delta) ≡ false) × (status ≡ table_growth_status) × (q' ≡ q))
+    ⊎ ((0 < delta) × (is_indexable x.ty (size_of x + delta) ≡ true) × (status ≡ asks_status)
     × ((growth_of x delta 0).question ≡ table_question_of q'))
 
 -- what a growth of a table asks, by a call; where the header stands for no table, it asks nothing
 abbrev pub AsksTableEmbedded : TableHeader → List ℕ → ℕ → ℕ → Question → Question → Type 0
 AsksTableEmbedded h region delta status q q' =
-    (IsNoTable h region × (status ≡ INVALID_STATE) × (q' ≡ q))
+    (IsNoTable h region × (status ≡ invalid_state_status) × (q' ≡ q))
     ⊎ ((ty : TableTypeValue) × IsTable h region ty × AsksTableAs (table_in ty region h.size) delta status q q')
 
 -- what a creation leaves: a header that stands for the new table, or all as it was
@@ -154,16 +154,16 @@ pub record MakesTableAs (made : TypedRawRef) (ty : TableTypeValue) (p : Placed T
 -- an element by a call
 abbrev pub GetsElement : Placed TableHeader → ℕ → ℕ → ℕ → ℕ → Type 0
 GetsElement p index old status new =
-    (IsNoTable p.header p.region × (status ≡ INVALID_STATE) × (new ≡ old))
+    (IsNoTable p.header p.region × (status ≡ invalid_state_status) × (new ≡ old))
     ⊎ ((ty : TableTypeValue) × IsTable p.header p.region ty
     × MatchOption (slice_get (take p.header.size p.region) index)
-    ((status ≡ NO_ELEMENT) × (new ≡ old))
-    (λ reference. (status ≡ DONE) × (new ≡ reference)))
+    ((status ≡ no_element_status) × (new ≡ old))
+    (λ reference. (status ≡ done_status) × (new ≡ reference)))
 
 -- a table is made by a call of one reference, or the header has no type, and then nothing is written
 abbrev pub MakesTableEmbedded : ℕ → Placed TableHeader → Option Quota → ℕ → Placed TableHeader → Option Quota → Type 0
 MakesTableEmbedded reference p l status p' l' = MatchOption (table_type_of p.header)
-    ((status ≡ INVALID_STATE) × (p' ≡ p) × (l' ≡ l))
+    ((status ≡ invalid_state_status) × (p' ≡ p) × (l' ≡ l))
     (λ ty. MakesTableAs (typed_as ty reference) ty p l status p' l')
 
 -- a region whose first elements are others, and the rest the same
@@ -173,7 +173,7 @@ SameRest size region region' = drop size region' ≡ drop size region
 -- an element is set by a call
 abbrev pub SetsElement : Placed TableHeader → ℕ → ℕ → ℕ → List ℕ → Type 0
 SetsElement p index reference status region' =
-    (IsNoTable p.header p.region × (status ≡ INVALID_STATE) × (region' ≡ p.region))
+    (IsNoTable p.header p.region × (status ≡ invalid_state_status) × (region' ≡ p.region))
     ⊎ ((ty : TableTypeValue) × IsTable p.header p.region ty × SameRest p.header.size p.region region'
     × ((result : Result (Unit {0}) TableError) × SetsTableRaw index reference
     (table_in ty p.region p.header.size) result (table_in ty region' p.header.size)
@@ -200,13 +200,13 @@ pub record WritesTableAs (write : TableValue → TableWrite) (ty : TableTypeValu
 abbrev pub WritesTableEmbedded : (TableTypeValue → TableValue → TableWrite) → TableHeader → TableRegion → ℕ
     → TableRegion → Type 0
 WritesTableEmbedded write h s status s' =
-    (IsNoTable h s.region × (status ≡ INVALID_STATE) × (s' ≡ s))
+    (IsNoTable h s.region × (status ≡ invalid_state_status) × (s' ≡ s))
     ⊎ ((ty : TableTypeValue) × IsTable h s.region ty × WritesTableAs (write ty) ty h.size s status s')
 
 -- a copy from another table by a call: where either header stands for no table, nothing is written
 abbrev pub CopiesEmbedded : Placed TableHeader → Range → TableHeader → TableRegion → ℕ → TableRegion → Type 0
 CopiesEmbedded source range h s status s' =
-    ((IsNoTable h s.region ⊎ IsNoTable source.header source.region) × (status ≡ INVALID_STATE) × (s' ≡ s))
+    ((IsNoTable h s.region ⊎ IsNoTable source.header source.region) × (status ≡ invalid_state_status) × (s' ≡ s))
     ⊎ ((ty source_ty : TableTypeValue) × IsTable h s.region ty × IsTable source.header source.region source_ty
     × WritesTableAs
     (copy_of range.to range.from range.count (table_in source_ty source.region source.header.size))

@@ -4,8 +4,8 @@ ghost use Rattle.wasmi_store.specs.MemoryType.{MemoryTypeValue, IsValid, named_t
 ghost use Rattle.wasmi_embed.specs.Headers.{settings_of, IsState, meter_of, quota_of, limiter_of, with_left};
 
 use wasmi_meter::{Amounts, CustomFuelCosts, Fuel, FuelCostsProvider, Holdings, Kind, Quota};
+use wasmi_region::memory::is_sized;
 use wasmi_store::MemoryType;
-use wasmi_store::region_memory::is_sized;
 
 /// A linear memory, except its bytes: `size` bytes at the front of a region.
 #[repr(C)]

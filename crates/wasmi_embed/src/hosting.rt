@@ -2,7 +2,7 @@
 ghost use Rattle.std.specs.Prelude.{Option};
 ghost use Rattle.wasmi_meter.specs.Limiter.{optional_rules};
 ghost use Rattle.wasmi_store.specs.Memory.{growth_of};
-ghost use Rattle.wasmi_store.specs.RegionMemory.{memory_in};
+ghost use Rattle.wasmi_region.specs.Memory.{memory_in};
 ghost use Rattle.wasmi_embed.specs.Headers.{IsState};
 ghost use Rattle.wasmi_embed.specs.Laws.{Limited, Allows, limiter_after};
 ghost use Rattle.wasmi_embed.specs.MemoryCalls.{GrowsAs};

@@ -5,7 +5,7 @@ ghost use Rattle.wasmi_meter.specs.LimiterRef.{lent_limiter, KeepsLoan};
 ghost use Rattle.wasmi_meter.specs.Quota.{quota_rules};
 ghost use Rattle.wasmi_store.specs.Buffer.{Lent};
 ghost use Rattle.wasmi_store.specs.Memory.{IsSized, MakesMemory};
-ghost use Rattle.wasmi_store.specs.RegionMemory.{made_in};
+ghost use Rattle.wasmi_region.specs.Memory.{made_in};
 ghost use Rattle.wasmi_embed.specs.Headers.{IsState, limiter_of};
 ghost use Rattle.wasmi_embed.specs.State.{embedded};
 ghost use Rattle.wasmi_embed.specs.MemoryCalls.{status_of, number_of, error_status, GrowsAs, GrowsEmbedded, SettlesEmbedded, AsksEmbedded, MakesEmbedded, CountsEmbedded, ReadsEmbedded, WritesEmbedded};
@@ -18,7 +18,8 @@ use crate::status::{
     MEMORY_SIZE_OVERFLOW, MEMORY_TYPE, OTHER_SIZE,
 };
 use wasmi_meter::{MemoryError, Quota, ResourceLimiter, ResourceLimiterRef};
-use wasmi_store::{MemoryType, region_memory};
+use wasmi_region::memory as region_memory;
+use wasmi_store::MemoryType;
 
 /// The status of an error.
 fn error_status(error: MemoryError) -> u8
@@ -139,6 +140,12 @@ pub extern "C" fn wasmi_memory_grow(
     let Some(ty) = header.state(region) else {
         return INVALID_STATE;
     };
+    // What the type refuses asks and costs nothing, so the meter and the quota aren't read for it.
+    if pages != 0 {
+        let Some(_question) = region_memory::question(ty, header.size, pages) else {
+            return MEMORY_GROWTH;
+        };
+    }
     match quota.limiter() {
         None => grow_unlimited(header, ty, region, pages, meter, number),
         Some(mut limiter) => {

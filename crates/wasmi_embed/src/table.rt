@@ -3,7 +3,7 @@ ghost use Rattle.std.specs.Prelude.{◌≡◌, ◌≤◌, None, Some, OnErr, IfO
 ghost use Rattle.wasmi_meter.specs.Limiter.{optional_rules};
 ghost use Rattle.wasmi_meter.specs.LimiterRef.{lent_limiter, KeepsLoan};
 ghost use Rattle.wasmi_meter.specs.Quota.{quota_rules};
-ghost use Rattle.wasmi_store.specs.RegionTable.{made_in, typed_as, table_in, items_of};
+ghost use Rattle.wasmi_region.specs.Table.{made_in, typed_as, table_in, items_of};
 ghost use Rattle.wasmi_store.specs.Table.{IsSized, MakesTable, raw_filling_of, copy_of, initialization_of};
 ghost use Rattle.wasmi_embed.specs.Headers.{limiter_of};
 ghost use Rattle.wasmi_embed.specs.State.{embedded};
@@ -19,7 +19,8 @@ use crate::status::{
 };
 use crate::table_header::{Range, TableHeader};
 use wasmi_meter::{Quota, ResourceLimiter, ResourceLimiterRef, TableError};
-use wasmi_store::{TableType, region_table};
+use wasmi_region::table as region_table;
+use wasmi_store::TableType;
 
 /// The status of an error.
 fn table_status(error: TableError) -> u8

@@ -3,8 +3,8 @@ ghost use Rattle.std.specs.Prelude.{◌≡◌, ◌≤◌, MatchOption, IfSome, S
 ghost use Rattle.wasmi_store.specs.TableType.{TableTypeValue, IsValid};
 ghost use Rattle.wasmi_embed.specs.TableHeaders.{table_type_of, narrow_type_of, IsTable};
 
+use wasmi_region::table::is_sized;
 use wasmi_store::TableType;
-use wasmi_store::region_table::is_sized;
 use wasmi_types::RefType;
 
 /// A table, except its elements: `size` references at the front of a region.

@@ -2,7 +2,7 @@ use Rattle.wasmi_meter.specs.Limiter.{optional_rules}
 use Rattle.wasmi_meter.specs.Quota.{quota_rules}
 use Rattle.wasmi_store.specs.Buffer.{Lent}
 use Rattle.wasmi_store.specs.Memory.{MakesMemory}
-use Rattle.wasmi_store.specs.RegionMemory.{made_in}
+use Rattle.wasmi_region.specs.Memory.{made_in}
 use Rattle.wasmi_embed.proofs.LimiterLemmas.{of_absent}
 use Rattle.wasmi_embed.proofs.memory.make_unlimited.Goals as goal
 

@@ -1,6 +1,6 @@
 use Rattle.wasmi_meter.specs.Limiter.{optional_rules}
 use Rattle.wasmi_meter.specs.Quota.{quota_rules}
-use Rattle.wasmi_store.specs.RegionTable.{made_in, typed_as}
+use Rattle.wasmi_region.specs.Table.{made_in, typed_as}
 use Rattle.wasmi_store.specs.Table.{MakesTable}
 use Rattle.wasmi_embed.proofs.LimiterLemmas.{of_absent}
 use Rattle.wasmi_embed.proofs.table.make_unlimited.Goals as goal
