@@ -2,9 +2,9 @@
    for C and C++, in libwasmi_guest.a (x86-64 Linux). wasmi_core.h has the numbers of instructions, and calls on values
    and bytes of the caller's, which are in libwasmi_ffi.a.
 
-   A machine makes its memories and tables in memory of its own, within two caps if it is made with caps; it grows
-   them, and writes over ranges of tables, for fuel if its meter is on. Memories, tables, element segments and globals go
-   by their indices, which count from 0 for each kind and aren't used again.
+   A machine makes its memories and tables in memory of its own, within two caps or as a list of answers permits, if it
+   is made with either; it grows them, and writes over ranges of tables, for fuel if its meter is on. Memories, tables,
+   element segments and globals go by their indices, which count from 0 for each kind and aren't used again.
 
    What the caller owes, which no call tests:
    - A handle is all zeros before its first call, and is written by these calls alone from then on.
@@ -19,8 +19,10 @@
    What is promised, by proof:
    - A call leaves a machine as one step of the library's machine does (docs/SCRIPT.md has the same calls as lines). So
      the library's laws over such steps hold: a refused call changes nothing except where it is said below.
-   - After each call the memories and the tables of a machine are within its caps, and these are the caps that it was
-     made with.
+   - After each call the memories and the tables of a machine are within its caps, if it has caps, and these are the
+     caps that it was made with.
+   - A machine keeps the kind of limiter that it was made with. Of answers each question takes the next one, and nothing
+     else takes any.
    - A handle may go to another thread.
 
    All calls of the library's machine are here except the one that makes a memory in a region of the caller's: no
@@ -35,7 +37,7 @@
 extern "C" {
 #endif
 
-/* A handle: zeros, or what wasmi_machine_new has made of it. */
+/* A handle: zeros, or what wasmi_machine_new or wasmi_machine_new_with_answers has made of it. */
 typedef struct { uint8_t *at; bool is_made; } wasmi_machine;
 
 /* What a machine is made with. */
@@ -53,6 +55,27 @@ typedef struct {
    the handle is unchanged. */
 uint8_t wasmi_machine_new(wasmi_machine *machine, const wasmi_limits *limits);
 
+/* The answers of a limiter. */
+enum {
+    WASMI_ANSWER_PERMIT = 0,
+    WASMI_ANSWER_DENY = 1,
+    WASMI_ANSWER_ERROR = 2,   /* it denies by an error */
+    WASMI_ANSWER_COMPLAIN = 3 /* it permits; if that then fails, the answer to the notice of it is an error */
+};
+
+/* Makes a machine whose limiter answers from a list, as that of a script with an `answers` line (docs/SCRIPT.md). Each
+   question takes the next answer, and after the last one everything is permitted. A question is asked before a memory
+   or a table is made, and before one grows by more than 0; not if a memory would grow beyond its type, or a table
+   beyond what its indices reach. If the answer is DENY, a new one is refused by MEMORY_DENIED or TABLE_DENIED, and a
+   growth by MEMORY_GROWTH or TABLE_GROWTH; if it is ERROR, both by MEMORY_DENIED or TABLE_DENIED. If it was COMPLAIN,
+   and what it permitted fails, for want of fuel or memory or beyond a table's maximum, the status is MEMORY_DENIED or
+   TABLE_DENIED, and not that of the failure.
+   Of limits, bytes, elements and is_unlimited aren't read: there are no caps. The answers are copied.
+   DONE; HAS_MACHINE if the handle has one; then NO_ANSWER if a byte is no number of an answer; then NO_ROOM if the
+   system refuses memory. After a refusal the handle is unchanged. */
+uint8_t wasmi_machine_new_with_answers(wasmi_machine *machine, const wasmi_limits *limits, const uint8_t *answers,
+                                       size_t len);
+
 /* Ends the machine, if there is one, and gives all of its memory back. The handle may be used for a new one. */
 void wasmi_machine_drop(wasmi_machine *machine);
 
@@ -63,10 +86,10 @@ enum {
     WASMI_CALL_SET_FUEL = 0, /* count; METERING_DISABLED */
     WASMI_CALL_GET_FUEL = 1, /* -> number; METERING_DISABLED */
     /* Makes a memory of zeros: count and maximum in pages, page_size_log2 (0 or 16), is_64 -> number: its index;
-       NO_ROOM, MEMORY_SIZE_OVERFLOW, MEMORY_DENIED (by the caps), MEMORY_OUT_OF_MEMORY. */
+       NO_ROOM, MEMORY_SIZE_OVERFLOW, MEMORY_DENIED (by the limiter), MEMORY_OUT_OF_MEMORY. */
     WASMI_CALL_NEW_MEMORY = 2,
-    /* Grows a memory by pages of zeros: index, count -> number: its old size in pages; MEMORY_GROWTH (beyond its type
-       or the caps), MEMORY_OUT_OF_FUEL (number: what is needed), MEMORY_OUT_OF_MEMORY, after which the fuel is spent.
+    /* Grows a memory by pages of zeros: index, count -> number: its old size in pages; MEMORY_GROWTH (beyond its type,
+       or denied), MEMORY_OUT_OF_FUEL (number: what is needed), MEMORY_OUT_OF_MEMORY, after which the fuel is spent.
        A growth by 0 returns the size, and takes no fuel. Each other growth costs as much as a copy of the added
        bytes: 1,024 for a page of 64 KiB at 64 bytes for a unit. */
     WASMI_CALL_GROW_MEMORY = 3,
@@ -80,10 +103,10 @@ enum {
     WASMI_CALL_LOAD_LANE = 7,   /* op, lane, index, ptr, offset, a, dst */
     WASMI_CALL_STORE_LANE = 8,  /* op, lane, index, ptr, offset, a */
     /* Makes a table of one reference: count and maximum in elements, is_64, type, reference -> number: its index;
-       NO_ROOM, TABLE_DENIED (by the caps), TABLE_OUT_OF_MEMORY. */
+       NO_ROOM, TABLE_DENIED (by the limiter), TABLE_OUT_OF_MEMORY. */
     WASMI_CALL_NEW_TABLE = 9,
     /* Grows a table by elements of one reference: index, count, type, reference -> number: its old size;
-       TABLE_TYPE, TABLE_GROWTH (beyond its type or the caps), TABLE_OUT_OF_FUEL, TABLE_OUT_OF_MEMORY, after which the
+       TABLE_TYPE, TABLE_GROWTH (beyond its type, or denied), TABLE_OUT_OF_FUEL, TABLE_OUT_OF_MEMORY, after which the
        fuel is spent. */
     WASMI_CALL_GROW_TABLE = 10,
     WASMI_CALL_DROP_TABLE = 11,  /* index; its size still counts */
@@ -153,15 +176,16 @@ enum {
     WASMI_BAD_LINE = 23,    /* of wasmi_machine_run_lines, as the next two: nothing was run */
     WASMI_HEADER_LINE = 24, /* nothing was run */
     WASMI_TEXT_CUT = 25,    /* the lines were run; out of memory for the text */
+    WASMI_NO_ANSWER = 26,   /* of wasmi_machine_new_with_answers: a byte is no number of an answer */
     WASMI_MEMORY_OUT_OF_MEMORY = 32,
-    WASMI_MEMORY_GROWTH = 33,        /* beyond the type or the caps */
+    WASMI_MEMORY_GROWTH = 33,        /* beyond the type, or denied, as beyond the caps */
     WASMI_MEMORY_ACCESS = 34,        /* of wasmi_machine_read and wasmi_machine_write */
-    WASMI_MEMORY_DENIED = 37,        /* a new memory beyond the caps */
+    WASMI_MEMORY_DENIED = 37,        /* a new memory is denied, or an answer is an error */
     WASMI_MEMORY_SIZE_OVERFLOW = 38,
     WASMI_MEMORY_OUT_OF_FUEL = 40,
     WASMI_TABLE_OUT_OF_MEMORY = 48,
-    WASMI_TABLE_DENIED = 51,         /* a new table beyond the caps */
-    WASMI_TABLE_GROWTH = 52,         /* beyond the type or the caps */
+    WASMI_TABLE_DENIED = 51,         /* a new table is denied, or an answer is an error */
+    WASMI_TABLE_GROWTH = 52,         /* beyond the type, or denied, as beyond the caps */
     WASMI_TABLE_INIT = 53,
     WASMI_TABLE_FILL = 54,
     WASMI_TABLE_SET = 55,
@@ -235,8 +259,8 @@ wasmi_totals wasmi_machine_totals(wasmi_machine *machine);
 /* Runs lines of calls, as docs/SCRIPT.md has them, one after the other, and writes what a script prints for them to the
    front of text, as much as text_len has room for -> number: the length of the whole text. First NO_MACHINE. Then, with
    nothing run and text unchanged: BAD_LINE (number: the first line that is no command, from 1; an `as` line is one),
-   HEADER_LINE if there are header lines, since the machine has its meter and its caps already, or NO_ROOM if memory is
-   refused for the calls, for their replies or for text_len bytes. After the run TEXT_CUT, if memory is refused for a
+   HEADER_LINE if there are header lines, since the machine has its meter and its limiter already, or NO_ROOM if memory
+   is refused for the calls, for their replies or for text_len bytes. After the run TEXT_CUT, if memory is refused for a
    text longer than text_len (number: the length of its beginning, for which there was memory). */
 wasmi_reply wasmi_machine_run_lines(wasmi_machine *machine, const uint8_t *lines, size_t lines_len, uint8_t *text,
                                     size_t text_len);

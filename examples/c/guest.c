@@ -1,4 +1,5 @@
-/* A guest memory that is grown under fuel and a limit, a table, a shuffle, and what is refused. It is C and C++. */
+/* A guest memory that is grown under fuel and a limit, a table, a shuffle, what is refused, and a limiter that answers
+   from a list. It is C and C++. */
 #include "wasmi_machine.h"
 #include <inttypes.h>
 #include <stdio.h>
@@ -119,6 +120,32 @@ static void vectors(void) {
     printf("%-22s status %d\n", "no such register", wasmi_machine_binary(&machine, WASMI_BINARY_I8X16_ADD, 16, 2, 2));
 }
 
+/* A table whose growths a list of answers decides, as the lines of docs/SCRIPT.md's "A table under listed answers". */
+static void answered(void) {
+    const wasmi_limits limits = {0, 0, 64, 7, 2, 0, 0};
+    uint8_t answers[5] = {WASMI_ANSWER_PERMIT, WASMI_ANSWER_DENY, WASMI_ANSWER_PERMIT, WASMI_ANSWER_COMPLAIN, 4};
+    printf("%-22s status %d\n", "no such answer", wasmi_machine_new_with_answers(&machine, &limits, answers, 5));
+    answers[4] = WASMI_ANSWER_ERROR;
+    printf("%-22s status %d\n", "new with answers", wasmi_machine_new_with_answers(&machine, &limits, answers, 5));
+    wasmi_call table = of_kind(WASMI_CALL_NEW_TABLE, 1), grow = of_kind(WASMI_CALL_GROW_TABLE, 1);
+    table.has_maximum = 1;
+    table.maximum = 3;
+    table.type = WASMI_TYPE_FUNCREF;
+    made("permit: a table", table);
+    grow.type = WASMI_TYPE_FUNCREF;
+    made("deny: grow by one", grow);
+    grow.type = WASMI_TYPE_EXTERNREF;
+    made("unasked: another type", grow);
+    grow.type = WASMI_TYPE_FUNCREF;
+    made("permit: grow by one", grow);
+    grow.count = 2;
+    made("complain: beyond 3", grow);
+    grow.count = 1;
+    made("error: grow by one", grow);
+    made("no answer left", grow);
+    wasmi_machine_drop(&machine);
+}
+
 int main(void) {
     const wasmi_limits limits = {4 * 65536, 16, 64, 7, 2, 1, 0};
     made("call without machine", of_kind(WASMI_CALL_GET_FUEL, 0));
@@ -135,5 +162,6 @@ int main(void) {
     wasmi_machine_drop(&machine);
     wasmi_machine_drop(&machine);
     made("call after drop", of_kind(WASMI_CALL_GET_FUEL, 0));
+    answered();
     return 0;
 }

@@ -17,17 +17,21 @@ use Rattle.wasmi_core.specs.Totals.{HoldsTotals}
 use Rattle.wasmi_core.specs.World.{world}
 use Rattle.wasmi_core.specs.declared.calls.Call.{Call}
 use Rattle.wasmi_core.specs.declared.calls.Reply.{Reply}
-use Rattle.wasmi_guest.specs.Caps.{IsKept, IsCapped, caps_of}
+use Rattle.wasmi_guest.specs.Caps.{IsKept, IsCapped, caps_of, quota_of}
+use Rattle.wasmi_guest.specs.Guests.{guest_of}
+use Rattle.wasmi_guest.specs.declared.guest_limiter.GuestLimiter.{GuestLimiter}
+use Rattle.wasmi_guest.specs.declared.guest_limiter.GuestLimiter.TheVariants as limiter
 
 -- the same caps, kind by kind, are the same caps
-pub equal_caps : (quota quota' : Quota) → SameCaps quota quota' → caps_of (Some quota') ≡ caps_of (Some quota)
+pub equal_caps : (quota quota' : Quota) → SameCaps quota quota'
+    → caps_of (limiter.Quota quota') ≡ caps_of (limiter.Quota quota)
 equal_caps quota quota' same = λ i. Some (record { bytes = same Bytes i; elements = same Elements i })
 
 -- a quota that holds what a machine has does so after a call, within the same caps
 pub kept_by_call : HoldsTotalsAlways quota_rules holdings → QuotasStayWithin
     → (call : Call) (s : State) (quota : Quota) (reply : Reply) (s' : State) (quota' : Quota) → IsKept s quota
     → Answers (optional_rules quota_rules) call (world s (Some quota)) reply (world s' (Some quota'))
-    → IsKept s' quota' × (caps_of (Some quota') ≡ caps_of (Some quota))
+    → IsKept s' quota' × (caps_of (limiter.Quota quota') ≡ caps_of (limiter.Quota quota))
 kept_by_call holds stays call s quota reply s' quota' kept (charge, written, step) =
     let turns = record { call = call; reply = reply; charge = charge; written = written } ∷ [] in
     let held = holds s quota kept.totals turns (world s' (Some quota')) (world s' (Some quota'), step, refl) in
@@ -41,11 +45,11 @@ kept_by_call holds stays call s quota reply s' quota' kept (charge, written, ste
     )
 
 -- a machine whose quota holds what it has is within the caps
-pub kept_within : (s : State) (quota : Option Quota) → IfSome quota (IsKept s)
-    → IsCapped (record { machine = s; quota = quota })
-kept_within s None kept kind = tt
-kept_within s (Some quota) kept Bytes = omega (arith, kept.totals.bytes, kept.within Bytes)
-kept_within s (Some quota) kept Elements = omega (arith, kept.totals.elements, kept.within Elements)
+pub kept_within : (s : State) (l : GuestLimiter) → IfSome (quota_of l) (IsKept s) → IsCapped (guest_of s l)
+kept_within s limiter.Unlimited kept kind = tt
+kept_within s (limiter.Quota quota) kept Bytes = omega (arith, kept.totals.bytes, kept.within Bytes)
+kept_within s (limiter.Quota quota) kept Elements = omega (arith, kept.totals.elements, kept.within Elements)
+kept_within s (limiter.Answers answers) kept kind = tt
 
 -- a limiter that isn't lent before a call isn't lent after it
 absent_after : (lent lent' : Option (MutBor Quota)) → lent ≡ None → SameLoan lent lent' → option_copied_mut lent' ≡ None

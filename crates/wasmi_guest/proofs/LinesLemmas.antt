@@ -17,6 +17,7 @@ use Rattle.wasmi_core.specs.declared.calls.Reply.{Reply}
 use Rattle.wasmi_grammar.specs.Lines.{WritesScript}
 use Rattle.wasmi_grammar.specs.declared.script.Script.{Script}
 use Rattle.wasmi_guest.specs.Caps.{GuestValue, IsKept, caps_of}
+use Rattle.wasmi_guest.specs.declared.guest_limiter.GuestLimiter.TheVariants as limiter
 use Rattle.wasmi_guest.specs.declared.plain.PlainReply.{PlainReply}
 use Rattle.wasmi_guest.specs.Lines.{RefusesLines, RunsLines, RunsScript}
 use Rattle.wasmi_guest.proofs.CapsLemmas.{equal_caps}
@@ -27,7 +28,7 @@ pub kept_by_run : QuotasStayWithin → (calls : List Call) (s : State) (quota : 
     → IfOk result (λ replies. IsRunOf (optional_rules quota_rules) calls (world s (Some quota)) replies.items
     (world s' (Some quota')))
     → OnErr result ((s' ≡ s) × (quota' ≡ quota)) → HoldsTotals (holdings quota') s'
-    → IsKept s' quota' × (caps_of (Some quota') ≡ caps_of (Some quota))
+    → IsKept s' quota' × (caps_of (limiter.Quota quota') ≡ caps_of (limiter.Quota quota))
 kept_by_run stays calls s quota s' quota' (Ok replies) kept (turns, called, replied, run) unchanged held =
     let within = stays s quota kept.within turns (world s' (Some quota')) run in
     let same = sym (same_Some quota' within.0 within.1) in (
@@ -36,7 +37,7 @@ kept_by_run stays calls s quota s' quota' (Ok replies) kept (turns, called, repl
     )
 kept_by_run stays calls s quota s' quota' (Err error) kept run unchanged held = (
   record { totals = held; within = subst IsWithinCaps (sym unchanged.1) kept.within },
-  ap (λ q. caps_of (Some q)) unchanged.1,
+  ap (λ q. caps_of (limiter.Quota q)) unchanged.1,
 )
 
 -- lines that are refused leave the machine and the bytes

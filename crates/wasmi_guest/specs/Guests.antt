@@ -1,7 +1,7 @@
--- A machine with its quota, and what a call does to it.
-use Rattle.std.specs.Prelude.{◌≡◌, ◌≢◌, ◌⊎◌, ◌≤◌, ◌<◌, ◌-◌, ℕ, nat_eq, if◌then◌else◌, List, length, Option, Some, None, MatchOption, Vec}
+-- A machine with its limiter, and what a call does to it.
+use Rattle.std.specs.Prelude.{◌≡◌, ◌≢◌, ◌⊎◌, ◌≤◌, ◌<◌, ◌-◌, ℕ, nat_eq, if◌then◌else◌, All, List, length, map, Option, Some, None, MatchOption, Vec}
 use Rattle.wasmi_meter.specs.Amounts.{nothing}
-use Rattle.wasmi_meter.specs.Limiter.{optional_rules}
+use Rattle.wasmi_meter.specs.Limiter.{Rules, optional_rules}
 use Rattle.wasmi_meter.specs.Meter.{Meter, meter_after}
 use Rattle.wasmi_meter.specs.declared.error.MemoryError.TheVariants.{OutOfBoundsAccess}
 use Rattle.wasmi_meter.specs.declared.fuel.FuelError.TheVariants.{FuelMeteringDisabled, OutOfFuel}
@@ -10,14 +10,19 @@ use Rattle.std.specs.Global.{Global}
 use Rattle.wasmi_meter.specs.Quota.{quota_rules, holdings, cap_of}
 use Rattle.wasmi_meter.specs.declared.limiter.Kind.TheVariants.{Bytes, Elements}
 use Rattle.wasmi_meter.specs.declared.quota.Quota.{Quota}
-use Rattle.wasmi_core.specs.State.{new_state, live_at}
+use Rattle.wasmi_core.specs.State.{State, new_state, live_at}
 use Rattle.wasmi_core.specs.Totals.{total}
 use Rattle.wasmi_core.specs.Steps.{Answers}
 use Rattle.wasmi_core.specs.World.{World, world}
 use Rattle.wasmi_core.specs.declared.calls.Call.{Call}
 use Rattle.wasmi_core.specs.declared.calls.Call.TheVariants.{NewSegment}
 use Rattle.wasmi_core.specs.declared.calls.Reply.{Reply}
+use Rattle.wasmi_grammar.specs.declared.header.answers.AnswerWord.{AnswerWord}
+use Rattle.wasmi_guest.specs.AnswerNumbers.{IsAnswer, answer_of}
+use Rattle.wasmi_guest.specs.AnswerQueue.{AnswersAhead, queue_rules, new_answers}
 use Rattle.wasmi_guest.specs.Caps.{GuestValue}
+use Rattle.wasmi_guest.specs.declared.guest_limiter.GuestLimiter.{GuestLimiter}
+use Rattle.wasmi_guest.specs.declared.guest_limiter.GuestLimiter.TheVariants as limiter
 use Rattle.wasmi_guest.specs.declared.plain.Limits.{Limits}
 use Rattle.wasmi_guest.specs.declared.plain.PlainCall.{PlainCall}
 use Rattle.wasmi_guest.specs.declared.plain.PlainReply.{PlainReply}
@@ -25,11 +30,25 @@ use Rattle.wasmi_guest.specs.declared.plain.Totals.{Totals}
 use Rattle.wasmi_guest.specs.PlainCalls.{call_of}
 use Rattle.wasmi_guest.specs.Plain.{wide_words}
 use Rattle.wasmi_guest.specs.Types.{reference_type_of}
-use Rattle.wasmi_guest.specs.Replies.{only, no_words, with_number, done_status, no_machine_status, no_call_status, no_such_status, no_room_status, has_machine_status, memory_refusal, fuel_refusal, plain_reply}
+use Rattle.wasmi_guest.specs.Replies.{only, no_words, with_number, done_status, no_machine_status, no_call_status, no_such_status, no_room_status, has_machine_status, no_answer_status, memory_refusal, fuel_refusal, plain_reply}
 
--- the world of a guest: the machine with the quota, or with no limiter
-abbrev pub guest_world : GuestValue → World (Option Quota)
-guest_world guest = world guest.machine guest.quota
+-- a machine with a limiter
+abbrev pub guest_of : State → GuestLimiter → GuestValue
+guest_of machine limiter = record { machine = machine; limiter = limiter }
+
+module _ (Relates : (L : Type 0) → Rules L → World L → World L → Type 0) where
+  -- A machine with its limiter and a guest are related by the limiter's rules: without a limiter, under its quota or
+  -- under its answers. The guest's limiter is of the same kind.
+  abbrev pub RelatesUnder : State → GuestLimiter → GuestValue → Type 0
+  RelatesUnder machine limiter.Unlimited guest' = (guest'.limiter ≡ limiter.Unlimited)
+      × Relates (Option Quota) (optional_rules quota_rules) (world machine None) (world guest'.machine None)
+  RelatesUnder machine (limiter.Quota quota) guest' = (quota' : Quota) × (guest'.limiter ≡ limiter.Quota quota')
+      × Relates (Option Quota) (optional_rules quota_rules) (world machine (Some quota))
+      (world guest'.machine (Some quota'))
+  RelatesUnder machine (limiter.Answers answers) guest' =
+      (answers' : AnswersAhead) × (guest'.limiter ≡ limiter.Answers answers')
+      × Relates (Option AnswersAhead) (optional_rules queue_rules) (world machine (Some answers))
+      (world guest'.machine (Some answers'))
 
 -- the meter that a machine is made with
 abbrev pub meter_of : Limits → Meter
@@ -49,19 +68,26 @@ pub record IsNewQuota (limits : Limits) (quota : Quota) : Type 0 where
   pub elements : cap_of quota Elements ≡ limits.elements
   pub nothing_held : holdings quota ≡ record { held = nothing; last = None }
 
--- there is a quota of these caps that holds nothing, or none if there are no caps
-abbrev pub IsNewLimiter : Limits → Option Quota → Type 0
-IsNewLimiter limits quota = MatchOption quota (limits.is_unlimited ≢ 0) (IsNewQuota limits)
+-- there is a quota of these caps that holds nothing, or no limiter if there are no caps
+abbrev pub IsNewLimiter : Limits → GuestLimiter → Type 0
+IsNewLimiter limits limiter.Unlimited = limits.is_unlimited ≢ 0
+IsNewLimiter limits (limiter.Quota quota) = IsNewQuota limits quota
+IsNewLimiter limits (limiter.Answers answers) = ⊥
 
--- a machine with nothing on it, and its quota
+-- a machine with nothing on it, and with its quota if there are caps
 pub record IsNewGuest (limits : Limits) (guest : GuestValue) : Type 0 where
   pub machine : guest.machine ≡ new_state (meter_of limits)
-  pub quota : IsNewLimiter limits guest.quota
+  pub limiter : IsNewLimiter limits guest.limiter
 
--- a guest replies to a call: a step of its world
+-- a machine with nothing on it, and with these answers, of which none was taken
+pub record IsNewWithAnswers (limits : Limits) (words : List AnswerWord) (guest : GuestValue) : Type 0 where
+  pub machine : guest.machine ≡ new_state (meter_of limits)
+  pub limiter : guest.limiter ≡ limiter.Answers (new_answers words)
+
+-- a guest replies to a call: a step of its machine under its limiter
 abbrev pub GuestReplies : Call → GuestValue → Reply → GuestValue → Type 0
 GuestReplies call guest reply guest' =
-    Answers (optional_rules quota_rules) call (guest_world guest) reply (guest_world guest')
+    RelatesUnder (λ L rules w w'. Answers rules call w reply w') guest.machine guest.limiter guest'
 
 -- a guest replies to a call with numbers
 abbrev pub RepliesInNumbers : Call → GuestValue → PlainReply → GuestValue → Type 0
@@ -80,11 +106,19 @@ abbrev pub InPlace : {R : Type 0} → R → Option GuestValue → R → Option G
 InPlace refusal None result held' Acts = (result ≡ refusal) × (held' ≡ None)
 InPlace refusal (Some guest) result held' Acts = (guest' : GuestValue) × Acts guest guest' × (held' ≡ Some guest')
 
--- a machine is made where there is none; where there is one, or memory is refused, nothing has changed
-abbrev pub MakesMachine : Limits → Option GuestValue → ℕ → Option GuestValue → Type 0
-MakesMachine limits (Some guest) status held' = (status ≡ has_machine_status) × (held' ≡ Some guest)
-MakesMachine limits None status held' = ((status ≡ no_room_status) × (held' ≡ None))
-    ⊎ ((guest : GuestValue) × IsNewGuest limits guest × (status ≡ done_status) × (held' ≡ Some guest))
+-- a machine that is so is made where there is none; where there is one, or memory is refused, nothing has changed
+abbrev pub MakesMachine : (GuestValue → Type 0) → Option GuestValue → ℕ → Option GuestValue → Type 0
+MakesMachine IsSo (Some guest) status held' = (status ≡ has_machine_status) × (held' ≡ Some guest)
+MakesMachine IsSo None status held' = ((status ≡ no_room_status) × (held' ≡ None))
+    ⊎ ((guest : GuestValue) × IsSo guest × (status ≡ done_status) × (held' ≡ Some guest))
+
+-- a machine with a list of answers is made where there is none; where there is one, a number stands for no answer, or
+-- memory is refused, nothing has changed
+abbrev pub MakesWithAnswers : Limits → List ℕ → Option GuestValue → ℕ → Option GuestValue → Type 0
+MakesWithAnswers limits numbers (Some guest) status held' = (status ≡ has_machine_status) × (held' ≡ Some guest)
+MakesWithAnswers limits numbers None status held' =
+    (¬ All IsAnswer numbers × (status ≡ no_answer_status) × (held' ≡ None))
+    ⊎ (All IsAnswer numbers × MakesMachine (IsNewWithAnswers limits (map answer_of numbers)) None status held')
 
 -- the bytes of a memory from an offset on are copied to the caller's; where there is no such memory, or they end past
 -- it, the caller's stay

@@ -1,6 +1,9 @@
+pub mod AnswerNumbers
+pub mod AnswerQueue
 pub mod Caps
 pub mod DirectCalls
 pub mod GuestBox
+pub mod GuestLending
 pub mod Guests
 pub mod Lines
 pub mod Ops

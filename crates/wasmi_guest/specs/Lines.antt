@@ -1,7 +1,5 @@
 -- Lines of calls on a machine, and the text that is made of their replies.
 use Rattle.std.specs.Prelude.{◌≡◌, ◌≢◌, ◌⊎◌, ℕ, List, ◌++◌, None, length, take, drop}
-use Rattle.wasmi_meter.specs.Limiter.{optional_rules}
-use Rattle.wasmi_meter.specs.Quota.{quota_rules}
 use Rattle.wasmi_core.specs.Runs.{IsRunOf}
 use Rattle.wasmi_core.specs.declared.calls.Call.{Call}
 use Rattle.wasmi_core.specs.declared.calls.Reply.{Reply}
@@ -11,7 +9,7 @@ use Rattle.wasmi_grammar.specs.Refusals.{IsFirstBadLine}
 use Rattle.wasmi_grammar.specs.declared.script.Script.{Script}
 use Rattle.wasmi_script.specs.Outcomes.{replies_text}
 use Rattle.wasmi_guest.specs.Caps.{GuestValue}
-use Rattle.wasmi_guest.specs.Guests.{guest_world}
+use Rattle.wasmi_guest.specs.Guests.{RelatesUnder}
 use Rattle.wasmi_guest.specs.Replies.{only, with_number, done_status, no_room_status}
 use Rattle.wasmi_guest.specs.declared.plain.PlainReply.{PlainReply}
 
@@ -37,10 +35,10 @@ WritesOut text old reply new = (FillsFront text old new × (reply ≡ with_numbe
     ⊎ ((front : List ℕ) × (rest : List ℕ) × (text ≡ front ++ rest) × FillsFront front old new
     × (reply ≡ with_number text_cut_status (length front)))
 
--- a guest replies to calls: a run from its world
+-- a guest replies to calls: a run of its machine under its limiter
 abbrev pub GuestRuns : List Call → GuestValue → List Reply → GuestValue → Type 0
 GuestRuns calls guest replies guest' =
-    IsRunOf (optional_rules quota_rules) calls (guest_world guest) replies (guest_world guest')
+    RelatesUnder (λ L rules w w'. IsRunOf rules calls w replies w') guest.machine guest.limiter guest'
 
 -- no header line
 abbrev pub no_header : Header

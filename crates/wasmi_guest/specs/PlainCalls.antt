@@ -1,5 +1,5 @@
 -- The call that numbers stand for: a line for each kind.
-use Rattle.std.specs.Prelude.{ℕ, Option, Some}
+use Rattle.std.specs.Prelude.{ℕ, List, [], ◌∷◌, Option, Some}
 use Rattle.std.specs.List.{slice_get}
 use Rattle.std.specs.Option.{option_map, option_and_then}
 use Rattle.wasmi_core.specs.declared.calls.Call.{Call}
@@ -16,15 +16,26 @@ use Rattle.wasmi_guest.specs.declared.kind.GlobalCall.{GlobalCall}
 use Rattle.wasmi_guest.specs.declared.kind.GlobalCall.TheVariants as global
 use Rattle.wasmi_guest.specs.declared.kind.RegisterCall.{RegisterCall}
 use Rattle.wasmi_guest.specs.declared.kind.RegisterCall.TheVariants as register
-use Rattle.wasmi_guest.specs.declared.kind.TheConstants.{KINDS}
 use Rattle.wasmi_guest.specs.declared.plain.PlainCall.{PlainCall}
 use Rattle.wasmi_guest.specs.Ops.{load_call, store_call, load_lane_call, store_lane_call, unary_call, binary_call, ternary_call, extract_lane_call, replace_lane_call, shuffle_call}
 use Rattle.wasmi_guest.specs.Plain.{raw_in}
 use Rattle.wasmi_guest.specs.Types.{narrow, val_type_of, typed_reference_of, mutability_of, memory_type_of, table_type_of}
 
+-- the kinds of calls, by number
+abbrev pub kinds : List Kind
+kinds =
+    Meter meter.SetFuel ∷ Meter meter.GetFuel ∷ Memory memory.NewMemory ∷ Memory memory.GrowMemory
+    ∷ Memory memory.DropMemory ∷ Memory memory.Load ∷ Memory memory.Store ∷ Memory memory.LoadLane
+    ∷ Memory memory.StoreLane ∷ Table table.NewTable ∷ Table table.GrowTable ∷ Table table.DropTable
+    ∷ Table table.GetElement ∷ Table table.SetElement ∷ Table table.InitTable ∷ Table table.CopyTable
+    ∷ Table table.FillTable ∷ Table table.DropItems ∷ Global global.NewGlobal ∷ Global global.SetGlobal
+    ∷ Global global.GetGlobal ∷ Register register.SetRegister ∷ Register register.GetRegister
+    ∷ Register register.Unary ∷ Register register.Binary ∷ Register register.Ternary ∷ Register register.ExtractLane
+    ∷ Register register.ReplaceLane ∷ Register register.Shuffle ∷ []
+
 -- the kind of a number, if there is one
 unfoldable pub kind_of : ℕ → Option Kind
-kind_of number = slice_get KINDS number
+kind_of number = slice_get kinds number
 
 -- a call on the meter
 abbrev pub meter_call : MeterCall → PlainCall → Call

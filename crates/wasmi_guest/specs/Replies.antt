@@ -53,6 +53,10 @@ no_element_status = 21
 abbrev pub has_machine_status : ℕ
 has_machine_status = 22
 
+-- a number stands for no answer of a limiter
+abbrev pub no_answer_status : ℕ
+no_answer_status = 26
+
 -- the words of no value
 abbrev pub no_words : Words
 no_words = record { lo = 0; hi = 0 }

@@ -1,10 +1,11 @@
 -- The types and references that a call's numbers stand for.
-use Rattle.std.specs.Prelude.{ℕ, ◌^◌, Bool, true, ◌&&◌, nat_eq, nat_le, nat_lt, if◌then◌else◌, Option, Some, None, List}
+use Rattle.std.specs.Prelude.{ℕ, ◌^◌, Bool, true, ◌&&◌, nat_eq, nat_le, nat_lt, if◌then◌else◌, Option, Some, None, List, [], ◌∷◌}
 use Rattle.std.specs.List.{slice_get, list_all}
 use Rattle.std.specs.Option.{option_map, option_map_or, option_and_then}
 use Rattle.wasmi_types.specs.declared.index_ty.IndexType.{IndexType}
 use Rattle.wasmi_types.specs.declared.index_ty.IndexType.TheVariants.{I32, I64}
 use Rattle.wasmi_types.specs.declared.value.ValType.{ValType}
+use Rattle.wasmi_types.specs.declared.value.ValType.TheVariants as types
 use Rattle.wasmi_types.specs.declared.value.RefType.{RefType}
 use Rattle.wasmi_types.specs.Value.{reference_of}
 use Rattle.wasmi_typed.specs.declared.global.Mutability.{Mutability}
@@ -14,7 +15,6 @@ use Rattle.wasmi_types.specs.IndexType.{address_bits}
 use Rattle.wasmi_store.specs.MemoryType.{MemoryTypeValue, Settings, named_type, greatest_pages}
 use Rattle.wasmi_store.specs.TableType.{TableTypeValue}
 use Rattle.wasmi_guest.specs.declared.plain.PlainCall.{PlainCall}
-use Rattle.wasmi_guest.specs.declared.types.TheConstants.{VAL_TYPES}
 
 -- the value, if a test is true of it
 abbrev pub where_true : {T : Type 0} → (T → Bool) → T → Option T
@@ -28,9 +28,14 @@ narrow number = where_true (λ n. nat_lt n (2 ^ 32)) number
 abbrev pub lanes_of : List ℕ → Option (List ℕ)
 lanes_of indices = where_true (list_all (λ index. nat_lt index 32)) indices
 
+-- the value types, by number
+abbrev pub val_types : List ValType
+val_types =
+    types.I32 ∷ types.I64 ∷ types.F32 ∷ types.F64 ∷ types.V128 ∷ types.FuncRef ∷ types.ExternRef ∷ []
+
 -- the value type of a number, if there is one
 abbrev pub val_type_of : ℕ → Option ValType
-val_type_of number = slice_get VAL_TYPES number
+val_type_of number = slice_get val_types number
 
 -- the reference type of a number, if there is one
 abbrev pub reference_type_of : ℕ → Option RefType

@@ -1,5 +1,5 @@
-//! The calls that engines make most, with plain arguments. Each is one call of the machine's list;
-//! it leaves a status, and some a word in the caller's place.
+//! The calls that engines make most, with plain arguments. Each is one call of the machine's list,
+//! on the machine in its place; it leaves a status, and some a word in the caller's place.
 ghost use Rattle.std.specs.Prelude.{◌≡◌, ℕ, Some};
 ghost use Rattle.wasmi_core.specs.declared.calls.Call.TheVariants.{GetFuel, GrowMemory};
 ghost use Rattle.wasmi_guest.specs.Caps.{StaysWithinCaps};
@@ -9,7 +9,6 @@ ghost use Rattle.wasmi_guest.specs.Replies.{no_machine_status};
 
 use crate::handle::Handle;
 use crate::status::NO_MACHINE;
-use std::alloc::Global;
 use wasmi_core::Call;
 
 /// Loads an item of a memory from `ptr + offset`, by the load that has the number, and sets `value`
@@ -17,7 +16,6 @@ use wasmi_core::Call;
 /// item has the number, then as `Call::Load` says. After any status but `DONE` the value stays.
 #[unsafe(no_mangle)]
 pub extern "C" fn wasmi_machine_load(
-    alloc: Global,
     handle: &mut Handle,
     op: u16,
     memory: usize,
@@ -31,11 +29,12 @@ pub extern "C" fn wasmi_machine_load(
         (result, value.new) guest') }
     ensures caps { StaysWithinCaps handle.old.guest.held handle.new.guest.held }
 {
-    let Some(guest) = handle.take(alloc) else {
+    if !handle.is_made() {
         return NO_MACHINE;
-    };
+    }
+    let guest = handle.guest.guest_mut();
     let status = guest.load(op, memory, ptr, offset, value);
-    handle.put(guest);
+    guest.tell_within();
     status
 }
 
@@ -44,7 +43,6 @@ pub extern "C" fn wasmi_machine_load(
 /// then as `Call::Store` says.
 #[unsafe(no_mangle)]
 pub extern "C" fn wasmi_machine_store(
-    alloc: Global,
     handle: &mut Handle,
     op: u16,
     memory: usize,
@@ -57,11 +55,12 @@ pub extern "C" fn wasmi_machine_store(
         guest') }
     ensures caps { StaysWithinCaps handle.old.guest.held handle.new.guest.held }
 {
-    let Some(mut guest) = handle.take(alloc) else {
+    if !handle.is_made() {
         return NO_MACHINE;
-    };
+    }
+    let guest = handle.guest.guest_mut();
     let status = guest.store(op, memory, ptr, offset, value);
-    handle.put(guest);
+    guest.tell_within();
     status
 }
 
@@ -69,23 +68,17 @@ pub extern "C" fn wasmi_machine_store(
 /// status is `NO_MACHINE` if the handle has no machine, then `NO_CALL` if no instruction on two
 /// vectors has the number, then as `Call::Binary` says.
 #[unsafe(no_mangle)]
-pub extern "C" fn wasmi_machine_binary(
-    alloc: Global,
-    handle: &mut Handle,
-    op: u16,
-    dst: u8,
-    a: u8,
-    b: u8,
-) -> u8
+pub extern "C" fn wasmi_machine_binary(handle: &mut Handle, op: u16, dst: u8, a: u8, b: u8) -> u8
     ensures step { InPlace no_machine_status handle.old.guest.held result handle.new.guest.held
         (λ guest guest'. RepliesInStatus (vector_binary op dst a b) guest result guest') }
     ensures caps { StaysWithinCaps handle.old.guest.held handle.new.guest.held }
 {
-    let Some(mut guest) = handle.take(alloc) else {
+    if !handle.is_made() {
         return NO_MACHINE;
-    };
+    }
+    let guest = handle.guest.guest_mut();
     let status = guest.binary(op, dst, a, b);
-    handle.put(guest);
+    guest.tell_within();
     status
 }
 
@@ -94,7 +87,6 @@ pub extern "C" fn wasmi_machine_binary(
 /// `Call::GrowMemory` says. After other refusals the number stays.
 #[unsafe(no_mangle)]
 pub extern "C" fn wasmi_machine_grow(
-    alloc: Global,
     handle: &mut Handle,
     memory: usize,
     pages: u64,
@@ -106,27 +98,29 @@ pub extern "C" fn wasmi_machine_grow(
         (result, number.new) guest') }
     ensures caps { StaysWithinCaps handle.old.guest.held handle.new.guest.held }
 {
-    let Some(mut guest) = handle.take(alloc) else {
+    if !handle.is_made() {
         return NO_MACHINE;
-    };
+    }
+    let guest = handle.guest.guest_mut();
     let status = guest.reply_in_word(&Call::GrowMemory { memory, pages }, number);
-    handle.put(guest);
+    guest.tell_within();
     status
 }
 
 /// Sets `left` to the fuel that is left. The status is `NO_MACHINE` if the handle has no machine,
 /// then as `Call::GetFuel` says. After any status but `DONE` the number stays.
 #[unsafe(no_mangle)]
-pub extern "C" fn wasmi_machine_fuel_left(alloc: Global, handle: &mut Handle, left: &mut u64) -> u8
+pub extern "C" fn wasmi_machine_fuel_left(handle: &mut Handle, left: &mut u64) -> u8
     ensures step { InPlace {R = ℕ × ℕ} (no_machine_status, left.old) handle.old.guest.held
         (result, left.new) handle.new.guest.held
         (λ guest guest'. RepliesInWord (Some GetFuel) left.old guest (result, left.new) guest') }
     ensures caps { StaysWithinCaps handle.old.guest.held handle.new.guest.held }
 {
-    let Some(guest) = handle.take(alloc) else {
+    if !handle.is_made() {
         return NO_MACHINE;
-    };
+    }
+    let guest = handle.guest.guest_mut();
     let status = guest.fuel_left(left);
-    handle.put(guest);
+    guest.tell_within();
     status
 }

@@ -3,19 +3,21 @@ ghost use Rattle.std.specs.Prelude.{◌≡◌, ◌+◌, Some};
 ghost use Rattle.wasmi_core.specs.FuelEffects.{get_fuel_reply};
 ghost use Rattle.wasmi_core.specs.MemoryEffects.{load_reply};
 ghost use Rattle.wasmi_core.specs.State.{live_at};
-ghost use Rattle.wasmi_core.specs.declared.calls.Call.TheVariants.{GetFuel};
+ghost use Rattle.wasmi_core.specs.declared.calls.Call.TheVariants.{GetFuel, Store};
 ghost use Rattle.wasmi_core.specs.declared.calls.Reply.TheVariants.{Memory};
 ghost use Rattle.wasmi_guest.specs.Caps.{caps_of};
 ghost use Rattle.wasmi_guest.specs.DirectCalls.{RepliesInStatus, RepliesInWord, item_load, item_store, status_of, vector_binary, word_after};
+ghost use Rattle.wasmi_guest.specs.Guests.{GuestReplies};
 
 use crate::guest::Guest;
+use crate::guest_limiter::GuestLimiter;
 use crate::instructions::{binary_at, load_at, store_at};
 use crate::plain::PlainReply;
 use crate::replies::{fuel_refusal, memory_refusal};
 use crate::status::{DONE, NO_CALL, NO_SUCH};
 use wasmi_core::{Call, Reply};
 use wasmi_meter::MemoryError;
-use wasmi_ops::LoadOp;
+use wasmi_ops::{LoadOp, StoreOp};
 use wasmi_raw::RawVal;
 
 impl Guest {
@@ -79,26 +81,36 @@ impl Guest {
     pub fn store(&mut self, op: u16, memory: usize, ptr: u64, offset: u64, value: u64) -> u8
         ensures step { RepliesInStatus (item_store op memory ptr offset value) self.old result
             self.new }
-        ensures caps { caps_of self.new.quota ≡ caps_of self.old.quota }
+        ensures caps { caps_of self.new.limiter ≡ caps_of self.old.limiter }
     {
         let Some(op) = store_at(op) else {
             return NO_CALL;
         };
-        let call = Call::Store {
-            op,
-            memory,
-            ptr,
-            offset,
-            value: RawVal { lo: value, hi: 0 },
-        };
-        self.reply_in_word(&call, &mut 0)
+        let value = RawVal { lo: value, hi: 0 };
+        status_of(self.store_item(op, memory, ptr, offset, value))
+    }
+
+    /// Stores an item, which asks no limiter.
+    #[inline(always)]
+    fn store_item(
+        &mut self,
+        op: StoreOp,
+        memory: usize,
+        ptr: u64,
+        offset: u64,
+        value: RawVal,
+    ) -> Reply
+        ensures step { GuestReplies (Store op memory ptr offset value) self.old result self.new }
+        ensures caps { caps_of self.new.limiter ≡ caps_of self.old.limiter }
+    {
+        self.machine.store_item(op, memory, ptr, offset, value)
     }
 
     /// Executes the instruction on two vectors that has the number, if there is one.
     #[inline(always)]
     pub fn binary(&mut self, op: u16, dst: u8, a: u8, b: u8) -> u8
         ensures step { RepliesInStatus (vector_binary op dst a b) self.old result self.new }
-        ensures caps { caps_of self.new.quota ≡ caps_of self.old.quota }
+        ensures caps { caps_of self.new.limiter ≡ caps_of self.old.limiter }
     {
         let Some(op) = binary_at(op) else {
             return NO_CALL;
@@ -110,7 +122,30 @@ impl Guest {
     #[inline(always)]
     pub fn reply_in_word(&mut self, call: &Call, word: &mut u64) -> u8
         ensures step { RepliesInWord (Some call.now) word.old self.old (result, word.new) self.new }
-        ensures caps { caps_of self.new.quota ≡ caps_of self.old.quota }
+        ensures caps { caps_of self.new.limiter ≡ caps_of self.old.limiter }
+    {
+        // Under answers by a call of its own: if each kind of limiter had its step here, the reply
+        // would be copied.
+        if let GuestLimiter::Answers(_) = &self.limiter {
+            return self.reply_under_answers(call, word);
+        }
+        self.step_in_word(call, word)
+    }
+
+    /// Replies to a call with a status and a word, which isn't inlined.
+    #[inline(never)]
+    fn reply_under_answers(&mut self, call: &Call, word: &mut u64) -> u8
+        ensures step { RepliesInWord (Some call.now) word.old self.old (result, word.new) self.new }
+        ensures caps { caps_of self.new.limiter ≡ caps_of self.old.limiter }
+    {
+        self.step_in_word(call, word)
+    }
+
+    /// Executes a call, and leaves a status and a word of its reply.
+    #[inline(always)]
+    fn step_in_word(&mut self, call: &Call, word: &mut u64) -> u8
+        ensures step { RepliesInWord (Some call.now) word.old self.old (result, word.new) self.new }
+        ensures caps { caps_of self.new.limiter ≡ caps_of self.old.limiter }
     {
         // A reply that is kept in a variable is copied, which takes longer than what it tells.
         match self.reply(call) {
@@ -122,6 +157,19 @@ impl Guest {
             Reply::Memory(error) => leave_refusal(error, word),
             other => leave(&other, word),
         }
+    }
+}
+
+/// The status of the reply to a store.
+#[inline(always)]
+fn status_of(reply: Reply) -> u8
+    ensures { result ≡ status_of reply }
+{
+    match reply {
+        Reply::Done => DONE,
+        Reply::NoSuch => NO_SUCH,
+        Reply::Trap(trap) => u8::from(trap),
+        other => PlainReply::of(&other).status,
     }
 }
 

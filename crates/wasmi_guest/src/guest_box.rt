@@ -28,6 +28,9 @@ impl Model for GuestBox {
 unsafe impl Send for GuestBox {}
 
 impl GuestBox {
+    ghost use Rattle.std.specs.Borrow.{sem};
+    ghost use Rattle.wasmi_guest.specs.GuestLending.{LendsGuest};
+
     /// No guest. It takes no memory.
     pub fn empty(alloc: Global) -> GuestBox
         ensures { result.held ≡ None }
@@ -79,5 +82,14 @@ impl GuestBox {
         ensures value { Some result.value ≡ self.held }
     {
         self.into_fields().into_box()
+    }
+
+    /// The guest, in its place.
+    pub fn guest_mut(&mut self) -> &mut Guest
+        requires there { IsSome self.old.held }
+        ensures* writes_back { sem 𝓛 (LendsGuest self.entry result) }
+        ensures value { Some result.now ≡ self.old.held }
+    {
+        unsafe { &mut *(self.at as *mut Guest) }
     }
 }

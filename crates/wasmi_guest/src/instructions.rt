@@ -11,9 +11,9 @@ use crate::types::narrow;
 use wasmi_core::Call;
 use wasmi_lanes::ImmLaneIdx32;
 use wasmi_ops::{
-    BINARIES, BinaryOp, EXTRACTIONS, ExtractKind, LANE_LOADS, LANE_STORES, LOADS, LoadLaneKind,
-    LoadOp, MAKES, MakeOp, REPLACEMENTS, ReplaceKind, SHIFTS, STORES, ShiftOp, StoreLaneKind,
-    StoreOp, TERNARIES, TESTS, TernaryOp, TestOp, UNARIES, UnaryOp, VECTOR_LOADS, VectorLoadOp,
+    BINARIES, BinaryOp, EXTRACTIONS, ExtractKind, LANE_LOADS, LANE_STORES, LoadLaneKind, LoadOp,
+    MAKES, MakeOp, REPLACEMENTS, ReplaceKind, SHIFTS, STORES, ShiftOp, StoreLaneKind, StoreOp,
+    TERNARIES, TESTS, TernaryOp, TestOp, UNARIES, UnaryOp, VECTOR_LOADS, VectorLoadOp,
 };
 
 /// The instruction at a place of a list.
@@ -33,7 +33,19 @@ pub fn load_at(number: u16) -> Option<LoadOp>
     ensures { result ≡ load_at number }
 {
     match number {
-        0..=11 => op_at(&LOADS, number),
+        // Each number by itself, so that a load's code is reached by one jump.
+        0 => Some(LoadOp::I32Load8S),
+        1 => Some(LoadOp::I32Load8U),
+        2 => Some(LoadOp::I32Load16S),
+        3 => Some(LoadOp::I32Load16U),
+        4 => Some(LoadOp::I64Load8S),
+        5 => Some(LoadOp::I64Load8U),
+        6 => Some(LoadOp::I64Load16S),
+        7 => Some(LoadOp::I64Load16U),
+        8 => Some(LoadOp::I64Load32S),
+        9 => Some(LoadOp::I64Load32U),
+        10 => Some(LoadOp::LoadU32),
+        11 => Some(LoadOp::LoadU64),
         _ => None,
     }
 }
@@ -55,7 +67,14 @@ pub fn store_at(number: u16) -> Option<StoreOp>
     ensures { result ≡ store_at number }
 {
     match number {
-        0..=6 => op_at(&STORES, number),
+        // As for the loads.
+        0 => Some(StoreOp::I32Store8),
+        1 => Some(StoreOp::I32Store16),
+        2 => Some(StoreOp::I64Store8),
+        3 => Some(StoreOp::I64Store16),
+        4 => Some(StoreOp::I64Store32),
+        5 => Some(StoreOp::Store32),
+        6 => Some(StoreOp::Store64),
         7 => None,
         _ => op_at(&STORES, number - 1),
     }

@@ -1,8 +1,10 @@
-//! A machine that C holds by a handle, from call to call, under a quota.
+//! A machine that C holds by a handle, from call to call, under a quota or a list of answers.
 //!
 //! What the calls take and give stands in `include/wasmi_machine.h`.
 #![tactic(auto)]
 
+mod answer_numbers;
+mod answer_queue;
 mod box_fields;
 mod calls;
 mod decode;
@@ -10,6 +12,7 @@ mod direct;
 mod direct_replies;
 mod guest;
 mod guest_box;
+mod guest_limiter;
 mod handle;
 mod instructions;
 mod kind;

@@ -4,20 +4,23 @@ ghost use Rattle.wasmi_meter.specs.Limiter.{optional_rules};
 ghost use Rattle.wasmi_meter.specs.Quota.{quota_rules};
 ghost use Rattle.wasmi_core.specs.Runs.{IsRunOf};
 ghost use Rattle.wasmi_core.specs.World.{world};
-ghost use Rattle.wasmi_guest.specs.Caps.{IsKept, StaysWithinCaps, caps_of};
-ghost use Rattle.wasmi_guest.specs.Guests.{InPlace};
+ghost use Rattle.wasmi_guest.specs.AnswerQueue.{queue_rules};
+ghost use Rattle.wasmi_guest.specs.Caps.{IsKept, StaysWithinCaps, caps_of, quota_of};
+ghost use Rattle.wasmi_guest.specs.Guests.{InPlace, guest_of};
 ghost use Rattle.wasmi_guest.specs.Lines.{FillsFront, GuestRuns, RunsLines, WritesOut, no_header};
 ghost use Rattle.wasmi_guest.specs.Replies.{only, no_machine_status};
 ghost use Rattle.wasmi_guest.specs.declared.plain.PlainReply.{PlainReply};
 ghost use Rattle.wasmi_grammar.specs.Lines.{WritesScript};
 ghost use Rattle.wasmi_script.specs.Outcomes.{replies_text};
 
+use crate::answer_queue::AnswerQueue;
 use crate::guest::Guest;
+use crate::guest_limiter::GuestLimiter;
 use crate::handle::Handle;
 use crate::plain::PlainReply;
 use crate::status::{BAD_LINE, DONE, HEADER_LINE, NO_MACHINE, NO_ROOM, TEXT_CUT};
 use std::alloc::{AllocError, Global};
-use wasmi_core::{Call, Machine, Reply, laws, run, run_reserving};
+use wasmi_core::{Call, Machine, Reply, laws, run, run_lending, run_reserving};
 use wasmi_grammar::{Header, ParseError, Script, parse};
 use wasmi_meter::{Quota, ResourceLimiterRef};
 use wasmi_script::print_lines;
@@ -44,11 +47,12 @@ pub extern "C" fn wasmi_machine_run_lines(
         (λ guest guest'. RunsLines lines.now guest text.old result text.new guest') }
     ensures caps { StaysWithinCaps handle.old.guest.held handle.new.guest.held }
 {
-    let Some(mut guest) = handle.take(alloc) else {
+    if !handle.is_made() {
         return PlainReply::only(NO_MACHINE);
-    };
+    }
+    let guest = handle.guest.guest_mut();
     let reply = guest.run_lines(alloc, lines, text);
-    handle.put(guest);
+    guest.tell_within();
     reply
 }
 
@@ -56,7 +60,7 @@ impl Guest {
     /// Runs lines of calls, and writes their replies to the front of a text.
     fn run_lines(&mut self, alloc: Global, lines: &[u8], text: &mut [u8]) -> PlainReply
         ensures lines { RunsLines lines.now self.old text.old result text.new self.new }
-        ensures caps { caps_of self.new.quota ≡ caps_of self.old.quota }
+        ensures caps { caps_of self.new.limiter ≡ caps_of self.old.limiter }
     {
         match parse(alloc, lines) {
             Ok(script) => self.run_script(alloc, &script, text),
@@ -69,7 +73,7 @@ impl Guest {
     fn run_script(&mut self, alloc: Global, script: &Script, text: &mut [u8]) -> PlainReply
         ensures lines { (lines : List ℕ) → WritesScript lines script.now
             → RunsLines lines self.old text.old result text.new self.new }
-        ensures caps { caps_of self.new.quota ≡ caps_of self.old.quota }
+        ensures caps { caps_of self.new.limiter ≡ caps_of self.old.limiter }
     {
         if !is_empty(&script.header) {
             return PlainReply::only(HEADER_LINE);
@@ -89,9 +93,9 @@ impl Guest {
         ensures run { IfOk result
             (λ replies. GuestRuns calls.now self.old replies.items self.new) }
         ensures err { OnErr result (self.new ≡ self.old) }
-        ensures caps { caps_of self.new.quota ≡ caps_of self.old.quota }
+        ensures caps { caps_of self.new.limiter ≡ caps_of self.old.limiter }
     {
-        run_calls(&mut self.machine, calls, &mut self.quota)
+        run_calls(&mut self.machine, calls, &mut self.limiter)
     }
 }
 
@@ -102,22 +106,23 @@ fn is_empty(header: &Header) -> bool
     header.meter.is_none() && header.limiter.is_none() && header.region.is_none()
 }
 
-/// Runs calls under the quota, if there is one.
+/// Runs calls under the limiter.
 fn run_calls(
     machine: &mut Machine,
     calls: &[Call],
-    quota: &mut Option<Quota>,
+    limiter: &mut GuestLimiter,
 ) -> Result<Vec<Reply>, AllocError>
-    requires kept { IfSome quota.old (IsKept machine.old) }
-    ensures run { IfOk result (λ replies. IsRunOf (optional_rules quota_rules) calls.now
-        (world machine.old quota.old) replies.items (world machine.new quota.new)) }
-    ensures err { OnErr result ((machine.new ≡ machine.old) × (quota.new ≡ quota.old)) }
-    ensures kept { IfSome quota.new (IsKept machine.new) }
-    ensures caps { caps_of quota.new ≡ caps_of quota.old }
+    requires kept { IfSome (quota_of limiter.old) (IsKept machine.old) }
+    ensures run { IfOk result (λ replies. GuestRuns calls.now (guest_of machine.old limiter.old)
+        replies.items (guest_of machine.new limiter.new)) }
+    ensures err { OnErr result ((machine.new ≡ machine.old) × (limiter.new ≡ limiter.old)) }
+    ensures kept { IfSome (quota_of limiter.new) (IsKept machine.new) }
+    ensures caps { caps_of limiter.new ≡ caps_of limiter.old }
 {
-    match quota {
-        Some(quota) => run_within(machine, calls, quota),
-        None => run_freely(machine, calls),
+    match limiter {
+        GuestLimiter::Unlimited => run_freely(machine, calls),
+        GuestLimiter::Quota(quota) => run_within(machine, calls, quota),
+        GuestLimiter::Answers(answers) => run_answered(machine, calls, answers),
     }
 }
 
@@ -133,10 +138,24 @@ fn run_within(
         (world machine.old (Some quota.old)) replies.items (world machine.new (Some quota.new))) }
     ensures err { OnErr result ((machine.new ≡ machine.old) × (quota.new ≡ quota.old)) }
     ensures kept { IsKept machine.new quota.new }
-    ensures caps { caps_of (Some quota.new) ≡ caps_of (Some quota.old) }
+    ensures caps { caps_of (GuestLimiter.Quota quota.new) ≡ caps_of (GuestLimiter.Quota quota.old) }
 {
     laws::quotas_stay_within();
     run_reserving(machine, calls, quota)
+}
+
+/// Runs calls under a list of answers.
+fn run_answered(
+    machine: &mut Machine,
+    calls: &[Call],
+    answers: &mut AnswerQueue,
+) -> Result<Vec<Reply>, AllocError>
+    ensures run { IfOk result (λ replies. IsRunOf (optional_rules queue_rules) calls.now
+        (world machine.old (Some answers.old)) replies.items
+        (world machine.new (Some answers.new))) }
+    ensures err { OnErr result ((machine.new ≡ machine.old) × (answers.new ≡ answers.old)) }
+{
+    run_lending(machine, calls, answers)
 }
 
 /// Runs calls without a limiter.

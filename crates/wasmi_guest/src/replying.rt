@@ -1,10 +1,12 @@
-//! What a machine with its quota does.
+//! What a machine with its limiter does.
 ghost use Rattle.std.specs.Prelude.{◌≡◌, IfOk};
 ghost use Rattle.wasmi_core.specs.declared.calls.Call.TheVariants.{NewSegment, Write};
 ghost use Rattle.wasmi_guest.specs.Caps.{caps_of};
-ghost use Rattle.wasmi_guest.specs.Guests.{GuestReplies, IsNewGuest, IsNewLimiter, ReadsOut, RepliesInNumbers, RepliesPlainly, RepliesToCopy, RepliesToSegment, TakesFuel, meter_of, totals_in, totals_of};
+ghost use Rattle.wasmi_guest.specs.Guests.{GuestReplies, IsNewWithAnswers, IsNewGuest, IsNewLimiter, ReadsOut, RepliesInNumbers, RepliesPlainly, RepliesToCopy, RepliesToSegment, TakesFuel, meter_of, totals_in, totals_of};
 
+use crate::answer_queue::AnswerQueue;
 use crate::guest::Guest;
+use crate::guest_limiter::GuestLimiter;
 use crate::plain::{Limits, PlainCall, PlainReply, Totals, Words};
 use crate::replies::{fuel_refusal, memory_refusal};
 use crate::status::{DONE, NO_CALL, NO_ROOM, NO_SUCH};
@@ -12,6 +14,7 @@ use crate::stepping::step;
 use crate::types::reference_type;
 use std::alloc::{AllocError, Global};
 use wasmi_core::{Call, Machine, Reply};
+use wasmi_grammar::AnswerWord;
 use wasmi_meter::{CustomFuelCosts, Fuel, FuelCostsProvider, Quota};
 use wasmi_raw::RawRef;
 
@@ -29,25 +32,36 @@ impl Limits {
     }
 
     /// The quota of the caps, if there are caps.
-    fn quota(&self) -> Option<Quota>
+    fn limiter(&self) -> GuestLimiter
         ensures { IsNewLimiter self.now result }
     {
         if self.is_unlimited == 0 {
-            Some(Quota::new(self.bytes, self.elements))
+            GuestLimiter::Quota(Quota::new(self.bytes, self.elements))
         } else {
-            None
+            GuestLimiter::Unlimited
         }
     }
 }
 
 impl Guest {
-    /// A machine with nothing on it, and its quota. It takes no memory.
+    /// A machine with nothing on it, and with its quota if there are caps. It takes no memory.
     pub fn new(alloc: Global, limits: &Limits) -> Guest
         ensures { IsNewGuest limits.now result }
     {
         Guest {
             machine: Machine::new(alloc, limits.fuel()),
-            quota: limits.quota(),
+            limiter: limits.limiter(),
+        }
+    }
+
+    /// A machine with nothing on it, and with a list of answers, of which none was taken. Its
+    /// limits have the meter, and their caps aren't read. It takes no memory.
+    pub fn with_answers(alloc: Global, limits: &Limits, answers: Vec<AnswerWord>) -> Guest
+        ensures { IsNewWithAnswers limits.now answers.items result }
+    {
+        Guest {
+            machine: Machine::new(alloc, limits.fuel()),
+            limiter: GuestLimiter::Answers(AnswerQueue::new(answers)),
         }
     }
 
@@ -55,15 +69,15 @@ impl Guest {
     #[inline(always)]
     pub fn reply(&mut self, call: &Call) -> Reply
         ensures step { GuestReplies call.now self.old result self.new }
-        ensures caps { caps_of self.new.quota ≡ caps_of self.old.quota }
+        ensures caps { caps_of self.new.limiter ≡ caps_of self.old.limiter }
     {
-        step(&mut self.machine, call, &mut self.quota)
+        step(&mut self.machine, call, &mut self.limiter)
     }
 
     /// Replies to one call, with the reply as numbers.
     fn reply_in_numbers(&mut self, call: &Call) -> PlainReply
         ensures step { RepliesInNumbers call.now self.old result self.new }
-        ensures caps { caps_of self.new.quota ≡ caps_of self.old.quota }
+        ensures caps { caps_of self.new.limiter ≡ caps_of self.old.limiter }
     {
         // A reply that is kept in a variable is copied, which takes longer than what it tells.
         match self.reply(call) {
@@ -78,7 +92,7 @@ impl Guest {
     /// Replies to the call that numbers stand for, if there is one.
     pub fn reply_plainly(&mut self, plain: &PlainCall) -> PlainReply
         ensures step { RepliesPlainly plain.now self.old result self.new }
-        ensures caps { caps_of self.new.quota ≡ caps_of self.old.quota }
+        ensures caps { caps_of self.new.limiter ≡ caps_of self.old.limiter }
     {
         match &plain.call() {
             Some(call) => self.reply_in_numbers(call),
@@ -102,7 +116,7 @@ impl Guest {
     /// Writes a copy of the caller's bytes over those of a memory from an offset on.
     pub fn write(&mut self, alloc: Global, memory: usize, offset: usize, bytes: &[u8]) -> PlainReply
         ensures step { RepliesToCopy (Write memory offset) bytes.now self.old result self.new }
-        ensures caps { caps_of self.new.quota ≡ caps_of self.old.quota }
+        ensures caps { caps_of self.new.limiter ≡ caps_of self.old.limiter }
     {
         let Ok(bytes) = Vec::from_slice(alloc, bytes) else {
             return PlainReply::only(NO_ROOM);
@@ -118,7 +132,7 @@ impl Guest {
     /// reference type.
     pub fn new_segment(&mut self, alloc: Global, ty: u8, items: &[u32]) -> PlainReply
         ensures step { RepliesToSegment ty items.now self.old result self.new }
-        ensures caps { caps_of self.new.quota ≡ caps_of self.old.quota }
+        ensures caps { caps_of self.new.limiter ≡ caps_of self.old.limiter }
     {
         let Some(ty) = reference_type(ty) else {
             return PlainReply::only(NO_CALL);
@@ -134,21 +148,21 @@ impl Guest {
     pub fn totals(&self) -> Totals
         ensures { result ≡ totals_of self.now }
     {
-        match &self.quota {
-            Some(quota) => {
+        match &self.limiter {
+            GuestLimiter::Quota(quota) => {
                 Totals::of(
                     u128::from(quota.held_bytes()),
                     u128::from(quota.held_elements()),
                 )
             }
-            None => Totals::of(self.machine.total_bytes(), self.machine.total_elements()),
+            _ => Totals::of(self.machine.total_bytes(), self.machine.total_elements()),
         }
     }
 
     /// Takes fuel that isn't a call's.
     pub fn consume_fuel(&mut self, amount: u64) -> PlainReply
         ensures step { TakesFuel amount self.old result self.new }
-        ensures caps { caps_of self.new.quota ≡ caps_of self.old.quota }
+        ensures caps { caps_of self.new.limiter ≡ caps_of self.old.limiter }
     {
         match self.machine.consume_fuel(amount) {
             Ok(left) => PlainReply::with_number(DONE, left),

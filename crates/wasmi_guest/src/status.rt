@@ -23,3 +23,5 @@ pub const BAD_LINE: u8 = 23;
 pub const HEADER_LINE: u8 = 24;
 /// The lines were run, and memory for the whole text was refused: there is its beginning.
 pub const TEXT_CUT: u8 = 25;
+/// A number stands for no answer of a limiter.
+pub const NO_ANSWER: u8 = 26;

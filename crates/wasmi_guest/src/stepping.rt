@@ -1,26 +1,32 @@
-//! One call on a machine, under the quota that holds what the machine has, or under no limiter.
+//! One call on a machine under its limiter: a quota that holds what the machine has, a list of
+//! answers, or none.
 ghost use Rattle.std.specs.Prelude.{◌≡◌, IfSome, None, Some};
 ghost use Rattle.wasmi_meter.specs.Limiter.{optional_rules};
 ghost use Rattle.wasmi_meter.specs.Quota.{quota_rules};
 ghost use Rattle.wasmi_core.specs.Steps.{Answers};
 ghost use Rattle.wasmi_core.specs.World.{world};
-ghost use Rattle.wasmi_guest.specs.Caps.{IsKept, caps_of};
+ghost use Rattle.wasmi_guest.specs.AnswerQueue.{queue_rules};
+ghost use Rattle.wasmi_guest.specs.Caps.{IsKept, caps_of, quota_of};
+ghost use Rattle.wasmi_guest.specs.Guests.{GuestReplies, guest_of};
 
+use crate::answer_queue::AnswerQueue;
+use crate::guest_limiter::GuestLimiter;
 use wasmi_core::{Call, Machine, Reply, laws};
 use wasmi_meter::{Quota, ResourceLimiterRef};
 
-/// Executes a call under the quota, if there is one.
+/// Executes a call under the limiter.
 #[inline(always)]
-pub fn step(machine: &mut Machine, call: &Call, quota: &mut Option<Quota>) -> Reply
-    requires kept { IfSome quota.old (IsKept machine.old) }
-    ensures step { Answers (optional_rules quota_rules) call.now
-        (world machine.old quota.old) result (world machine.new quota.new) }
-    ensures kept { IfSome quota.new (IsKept machine.new) }
-    ensures caps { caps_of quota.new ≡ caps_of quota.old }
+pub fn step(machine: &mut Machine, call: &Call, limiter: &mut GuestLimiter) -> Reply
+    requires kept { IfSome (quota_of limiter.old) (IsKept machine.old) }
+    ensures step { GuestReplies call.now (guest_of machine.old limiter.old) result
+        (guest_of machine.new limiter.new) }
+    ensures kept { IfSome (quota_of limiter.new) (IsKept machine.new) }
+    ensures caps { caps_of limiter.new ≡ caps_of limiter.old }
 {
-    match quota {
-        Some(quota) => step_within(machine, call, quota),
-        None => step_freely(machine, call),
+    match limiter {
+        GuestLimiter::Unlimited => step_freely(machine, call),
+        GuestLimiter::Quota(quota) => step_within(machine, call, quota),
+        GuestLimiter::Answers(answers) => step_answered(machine, call, answers),
     }
 }
 
@@ -32,11 +38,19 @@ fn step_within(machine: &mut Machine, call: &Call, quota: &mut Quota) -> Reply
     ensures step { Answers (optional_rules quota_rules) call.now
         (world machine.old (Some quota.old)) result (world machine.new (Some quota.new)) }
     ensures kept { IsKept machine.new quota.new }
-    ensures caps { caps_of (Some quota.new) ≡ caps_of (Some quota.old) }
+    ensures caps { caps_of (GuestLimiter.Quota quota.new) ≡ caps_of (GuestLimiter.Quota quota.old) }
 {
     laws::totals_are_held::<Quota>();
     laws::quotas_stay_within();
     machine.step_lending(call, quota)
+}
+
+/// Executes a call under a list of answers.
+fn step_answered(machine: &mut Machine, call: &Call, answers: &mut AnswerQueue) -> Reply
+    ensures { Answers (optional_rules queue_rules) call.now
+        (world machine.old (Some answers.old)) result (world machine.new (Some answers.new)) }
+{
+    machine.step_lending(call, answers)
 }
 
 /// Executes a call without a limiter.

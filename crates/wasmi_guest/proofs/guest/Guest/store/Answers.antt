@@ -1,7 +1,7 @@
 use Rattle.std.proofs.Common.{◌∙◌, ap, sym}
 use Rattle.std.specs.Option.{option_map}
 use Rattle.wasmi_core.specs.declared.calls.Call.TheVariants.{Store}
-use Rattle.wasmi_guest.proofs.DirectLemmas.{no_call_left, status_left}
+use Rattle.wasmi_guest.proofs.DirectLemmas.{no_call_left, status_of_call}
 use Rattle.wasmi_guest.proofs.guest.Guest.store.Goals as goal
 
 pub returns-in_default-clause-step : goal.returns-in_default-clause-step
@@ -11,6 +11,6 @@ returns-in_default-clause-step c =
 
 pub returns-clause-step : goal.returns-clause-step
 returns-clause-step c =
-    status_left _ _ _ _ _ _ _ (ap (option_map (λ store. Store store c.args.memory c.args.ptr c.args.offset
-    (record { lo = c.args.value; hi = 0 }))) (sym c.store_at.ensures ∙ c.in-Some.is))
-    c.reply_in_word.ensures.step
+    status_of_call _ _ _ _ _ _ (ap (option_map (λ store. Store store c.args.memory c.args.ptr c.args.offset
+    (record { lo = c.args.value; hi = 0 }))) (sym c.store_at.ensures ∙ c.in-Some.is)) c.store_item.ensures.step
+    c.status_of.ensures

@@ -1,6 +1,6 @@
 use Rattle.std.proofs.Common.{rules}
 use Rattle.wasmi_guest.proofs.DirectLemmas.{word_left}
-use Rattle.wasmi_guest.proofs.guest.Guest.reply_in_word.Goals as goal
+use Rattle.wasmi_guest.proofs.guest.Guest.step_in_word.Goals as goal
 
 pub returns-in-Done-clause-step : goal.returns-in-Done-clause-step
 returns-in-Done-clause-step c = word_left _ _ _ _ _ _ _ c.reply.ensures.step (search rules) (search rules)
