@@ -37,10 +37,7 @@ const BYTES: [u8; 20] = [
 const SEVENS: [u8; 16] = [7; 16];
 
 /// The index of a lane, and the number that an access to it gives.
-struct LaneAccess {
-    lane: u8,
-    number: u128,
-}
+type LaneAccess = (u8, u128);
 
 /// Compares vectors with their numbers.
 macro_rules! vectors {
@@ -71,11 +68,11 @@ macro_rules! loads {
 macro_rules! lane_loads {
     ($rt:expr; $plain:ident, $at:ident, $last:expr, $table:expr) => {{
         let a = V128::from(A);
-        for row in &$table {
-            let answer = $plain(&BYTES, $last, 0, a, lane($rt, row.lane));
-            loaded($rt, answer, row.number);
-            let answer = $at(&BYTES, $last, a, lane($rt, row.lane));
-            loaded($rt, answer, row.number);
+        for &(index, number) in &$table {
+            let answer = $plain(&BYTES, $last, 0, a, lane($rt, index));
+            loaded($rt, answer, number);
+            let answer = $at(&BYTES, $last, a, lane($rt, index));
+            loaded($rt, answer, number);
         }
     }};
 }
@@ -128,13 +125,13 @@ macro_rules! stores {
 macro_rules! lane_stores {
     ($rt:expr; $plain:ident, $at:ident, $last:expr, $table:expr) => {{
         let a = V128::from(A);
-        for row in &$table {
+        for &(index, number) in &$table {
             let mut memory = SEVENS;
-            let answer = $plain(&mut memory, $last, 0, a, lane($rt, row.lane));
-            stored($rt, answer, memory, row.number);
+            let answer = $plain(&mut memory, $last, 0, a, lane($rt, index));
+            stored($rt, answer, memory, number);
             let mut memory = SEVENS;
-            let answer = $at(&mut memory, $last, a, lane($rt, row.lane));
-            stored($rt, answer, memory, row.number);
+            let answer = $at(&mut memory, $last, a, lane($rt, index));
+            stored($rt, answer, memory, number);
         }
     }};
 }
@@ -481,70 +478,22 @@ fn a_vector_is_stored_whole_or_not_at_all(rt: HostRuntime) {
 
 /// `A` with the last 8 bits of `BYTES` in each lane.
 static LOADED_8: [LaneAccess; 16] = [
-    LaneAccess {
-        lane: 0,
-        number: 0xf0e1d2c3_b4a59687_78695a4b_3c2d1ed0,
-    },
-    LaneAccess {
-        lane: 1,
-        number: 0xf0e1d2c3_b4a59687_78695a4b_3c2dd00f,
-    },
-    LaneAccess {
-        lane: 2,
-        number: 0xf0e1d2c3_b4a59687_78695a4b_3cd01e0f,
-    },
-    LaneAccess {
-        lane: 3,
-        number: 0xf0e1d2c3_b4a59687_78695a4b_d02d1e0f,
-    },
-    LaneAccess {
-        lane: 4,
-        number: 0xf0e1d2c3_b4a59687_78695ad0_3c2d1e0f,
-    },
-    LaneAccess {
-        lane: 5,
-        number: 0xf0e1d2c3_b4a59687_7869d04b_3c2d1e0f,
-    },
-    LaneAccess {
-        lane: 6,
-        number: 0xf0e1d2c3_b4a59687_78d05a4b_3c2d1e0f,
-    },
-    LaneAccess {
-        lane: 7,
-        number: 0xf0e1d2c3_b4a59687_d0695a4b_3c2d1e0f,
-    },
-    LaneAccess {
-        lane: 8,
-        number: 0xf0e1d2c3_b4a596d0_78695a4b_3c2d1e0f,
-    },
-    LaneAccess {
-        lane: 9,
-        number: 0xf0e1d2c3_b4a5d087_78695a4b_3c2d1e0f,
-    },
-    LaneAccess {
-        lane: 10,
-        number: 0xf0e1d2c3_b4d09687_78695a4b_3c2d1e0f,
-    },
-    LaneAccess {
-        lane: 11,
-        number: 0xf0e1d2c3_d0a59687_78695a4b_3c2d1e0f,
-    },
-    LaneAccess {
-        lane: 12,
-        number: 0xf0e1d2d0_b4a59687_78695a4b_3c2d1e0f,
-    },
-    LaneAccess {
-        lane: 13,
-        number: 0xf0e1d0c3_b4a59687_78695a4b_3c2d1e0f,
-    },
-    LaneAccess {
-        lane: 14,
-        number: 0xf0d0d2c3_b4a59687_78695a4b_3c2d1e0f,
-    },
-    LaneAccess {
-        lane: 15,
-        number: 0xd0e1d2c3_b4a59687_78695a4b_3c2d1e0f,
-    },
+    (0, 0xf0e1d2c3_b4a59687_78695a4b_3c2d1ed0),
+    (1, 0xf0e1d2c3_b4a59687_78695a4b_3c2dd00f),
+    (2, 0xf0e1d2c3_b4a59687_78695a4b_3cd01e0f),
+    (3, 0xf0e1d2c3_b4a59687_78695a4b_d02d1e0f),
+    (4, 0xf0e1d2c3_b4a59687_78695ad0_3c2d1e0f),
+    (5, 0xf0e1d2c3_b4a59687_7869d04b_3c2d1e0f),
+    (6, 0xf0e1d2c3_b4a59687_78d05a4b_3c2d1e0f),
+    (7, 0xf0e1d2c3_b4a59687_d0695a4b_3c2d1e0f),
+    (8, 0xf0e1d2c3_b4a596d0_78695a4b_3c2d1e0f),
+    (9, 0xf0e1d2c3_b4a5d087_78695a4b_3c2d1e0f),
+    (10, 0xf0e1d2c3_b4d09687_78695a4b_3c2d1e0f),
+    (11, 0xf0e1d2c3_d0a59687_78695a4b_3c2d1e0f),
+    (12, 0xf0e1d2d0_b4a59687_78695a4b_3c2d1e0f),
+    (13, 0xf0e1d0c3_b4a59687_78695a4b_3c2d1e0f),
+    (14, 0xf0d0d2c3_b4a59687_78695a4b_3c2d1e0f),
+    (15, 0xd0e1d2c3_b4a59687_78695a4b_3c2d1e0f),
 ];
 
 #[test]
@@ -555,38 +504,14 @@ fn numbers_of_8_bits_are_loaded_into_each_lane(rt: HostRuntime) {
 
 /// `A` with the last 16 bits of `BYTES` in each lane.
 static LOADED_16: [LaneAccess; 8] = [
-    LaneAccess {
-        lane: 0,
-        number: 0xf0e1d2c3_b4a59687_78695a4b_3c2dd0ab,
-    },
-    LaneAccess {
-        lane: 1,
-        number: 0xf0e1d2c3_b4a59687_78695a4b_d0ab1e0f,
-    },
-    LaneAccess {
-        lane: 2,
-        number: 0xf0e1d2c3_b4a59687_7869d0ab_3c2d1e0f,
-    },
-    LaneAccess {
-        lane: 3,
-        number: 0xf0e1d2c3_b4a59687_d0ab5a4b_3c2d1e0f,
-    },
-    LaneAccess {
-        lane: 4,
-        number: 0xf0e1d2c3_b4a5d0ab_78695a4b_3c2d1e0f,
-    },
-    LaneAccess {
-        lane: 5,
-        number: 0xf0e1d2c3_d0ab9687_78695a4b_3c2d1e0f,
-    },
-    LaneAccess {
-        lane: 6,
-        number: 0xf0e1d0ab_b4a59687_78695a4b_3c2d1e0f,
-    },
-    LaneAccess {
-        lane: 7,
-        number: 0xd0abd2c3_b4a59687_78695a4b_3c2d1e0f,
-    },
+    (0, 0xf0e1d2c3_b4a59687_78695a4b_3c2dd0ab),
+    (1, 0xf0e1d2c3_b4a59687_78695a4b_d0ab1e0f),
+    (2, 0xf0e1d2c3_b4a59687_7869d0ab_3c2d1e0f),
+    (3, 0xf0e1d2c3_b4a59687_d0ab5a4b_3c2d1e0f),
+    (4, 0xf0e1d2c3_b4a5d0ab_78695a4b_3c2d1e0f),
+    (5, 0xf0e1d2c3_d0ab9687_78695a4b_3c2d1e0f),
+    (6, 0xf0e1d0ab_b4a59687_78695a4b_3c2d1e0f),
+    (7, 0xd0abd2c3_b4a59687_78695a4b_3c2d1e0f),
 ];
 
 #[test]
@@ -597,22 +522,10 @@ fn numbers_of_16_bits_are_loaded_into_each_lane(rt: HostRuntime) {
 
 /// `A` with the last 32 bits of `BYTES` in each lane.
 static LOADED_32: [LaneAccess; 4] = [
-    LaneAccess {
-        lane: 0,
-        number: 0xf0e1d2c3_b4a59687_78695a4b_d0ab8661,
-    },
-    LaneAccess {
-        lane: 1,
-        number: 0xf0e1d2c3_b4a59687_d0ab8661_3c2d1e0f,
-    },
-    LaneAccess {
-        lane: 2,
-        number: 0xf0e1d2c3_d0ab8661_78695a4b_3c2d1e0f,
-    },
-    LaneAccess {
-        lane: 3,
-        number: 0xd0ab8661_b4a59687_78695a4b_3c2d1e0f,
-    },
+    (0, 0xf0e1d2c3_b4a59687_78695a4b_d0ab8661),
+    (1, 0xf0e1d2c3_b4a59687_d0ab8661_3c2d1e0f),
+    (2, 0xf0e1d2c3_d0ab8661_78695a4b_3c2d1e0f),
+    (3, 0xd0ab8661_b4a59687_78695a4b_3c2d1e0f),
 ];
 
 #[test]
@@ -623,14 +536,8 @@ fn numbers_of_32_bits_are_loaded_into_each_lane(rt: HostRuntime) {
 
 /// `A` with the last 64 bits of `BYTES` in each lane.
 static LOADED_64: [LaneAccess; 2] = [
-    LaneAccess {
-        lane: 0,
-        number: 0xf0e1d2c3_b4a59687_d0ab8661_3c17f2cd,
-    },
-    LaneAccess {
-        lane: 1,
-        number: 0xd0ab8661_3c17f2cd_78695a4b_3c2d1e0f,
-    },
+    (0, 0xf0e1d2c3_b4a59687_d0ab8661_3c17f2cd),
+    (1, 0xd0ab8661_3c17f2cd_78695a4b_3c2d1e0f),
 ];
 
 #[test]
@@ -641,70 +548,22 @@ fn numbers_of_64_bits_are_loaded_into_each_lane(rt: HostRuntime) {
 
 /// The bytes 7 with each lane of 8 bits of `A` at their end.
 static STORED_8: [LaneAccess; 16] = [
-    LaneAccess {
-        lane: 0,
-        number: 0x0f070707_07070707_07070707_07070707,
-    },
-    LaneAccess {
-        lane: 1,
-        number: 0x1e070707_07070707_07070707_07070707,
-    },
-    LaneAccess {
-        lane: 2,
-        number: 0x2d070707_07070707_07070707_07070707,
-    },
-    LaneAccess {
-        lane: 3,
-        number: 0x3c070707_07070707_07070707_07070707,
-    },
-    LaneAccess {
-        lane: 4,
-        number: 0x4b070707_07070707_07070707_07070707,
-    },
-    LaneAccess {
-        lane: 5,
-        number: 0x5a070707_07070707_07070707_07070707,
-    },
-    LaneAccess {
-        lane: 6,
-        number: 0x69070707_07070707_07070707_07070707,
-    },
-    LaneAccess {
-        lane: 7,
-        number: 0x78070707_07070707_07070707_07070707,
-    },
-    LaneAccess {
-        lane: 8,
-        number: 0x87070707_07070707_07070707_07070707,
-    },
-    LaneAccess {
-        lane: 9,
-        number: 0x96070707_07070707_07070707_07070707,
-    },
-    LaneAccess {
-        lane: 10,
-        number: 0xa5070707_07070707_07070707_07070707,
-    },
-    LaneAccess {
-        lane: 11,
-        number: 0xb4070707_07070707_07070707_07070707,
-    },
-    LaneAccess {
-        lane: 12,
-        number: 0xc3070707_07070707_07070707_07070707,
-    },
-    LaneAccess {
-        lane: 13,
-        number: 0xd2070707_07070707_07070707_07070707,
-    },
-    LaneAccess {
-        lane: 14,
-        number: 0xe1070707_07070707_07070707_07070707,
-    },
-    LaneAccess {
-        lane: 15,
-        number: 0xf0070707_07070707_07070707_07070707,
-    },
+    (0, 0x0f070707_07070707_07070707_07070707),
+    (1, 0x1e070707_07070707_07070707_07070707),
+    (2, 0x2d070707_07070707_07070707_07070707),
+    (3, 0x3c070707_07070707_07070707_07070707),
+    (4, 0x4b070707_07070707_07070707_07070707),
+    (5, 0x5a070707_07070707_07070707_07070707),
+    (6, 0x69070707_07070707_07070707_07070707),
+    (7, 0x78070707_07070707_07070707_07070707),
+    (8, 0x87070707_07070707_07070707_07070707),
+    (9, 0x96070707_07070707_07070707_07070707),
+    (10, 0xa5070707_07070707_07070707_07070707),
+    (11, 0xb4070707_07070707_07070707_07070707),
+    (12, 0xc3070707_07070707_07070707_07070707),
+    (13, 0xd2070707_07070707_07070707_07070707),
+    (14, 0xe1070707_07070707_07070707_07070707),
+    (15, 0xf0070707_07070707_07070707_07070707),
 ];
 
 #[test]
@@ -714,38 +573,14 @@ fn each_lane_of_8_bits_is_stored_alone(rt: HostRuntime) {
 
 /// The bytes 7 with each lane of 16 bits of `A` at their end.
 static STORED_16: [LaneAccess; 8] = [
-    LaneAccess {
-        lane: 0,
-        number: 0x1e0f0707_07070707_07070707_07070707,
-    },
-    LaneAccess {
-        lane: 1,
-        number: 0x3c2d0707_07070707_07070707_07070707,
-    },
-    LaneAccess {
-        lane: 2,
-        number: 0x5a4b0707_07070707_07070707_07070707,
-    },
-    LaneAccess {
-        lane: 3,
-        number: 0x78690707_07070707_07070707_07070707,
-    },
-    LaneAccess {
-        lane: 4,
-        number: 0x96870707_07070707_07070707_07070707,
-    },
-    LaneAccess {
-        lane: 5,
-        number: 0xb4a50707_07070707_07070707_07070707,
-    },
-    LaneAccess {
-        lane: 6,
-        number: 0xd2c30707_07070707_07070707_07070707,
-    },
-    LaneAccess {
-        lane: 7,
-        number: 0xf0e10707_07070707_07070707_07070707,
-    },
+    (0, 0x1e0f0707_07070707_07070707_07070707),
+    (1, 0x3c2d0707_07070707_07070707_07070707),
+    (2, 0x5a4b0707_07070707_07070707_07070707),
+    (3, 0x78690707_07070707_07070707_07070707),
+    (4, 0x96870707_07070707_07070707_07070707),
+    (5, 0xb4a50707_07070707_07070707_07070707),
+    (6, 0xd2c30707_07070707_07070707_07070707),
+    (7, 0xf0e10707_07070707_07070707_07070707),
 ];
 
 #[test]
@@ -755,22 +590,10 @@ fn each_lane_of_16_bits_is_stored_alone(rt: HostRuntime) {
 
 /// The bytes 7 with each lane of 32 bits of `A` at their end.
 static STORED_32: [LaneAccess; 4] = [
-    LaneAccess {
-        lane: 0,
-        number: 0x3c2d1e0f_07070707_07070707_07070707,
-    },
-    LaneAccess {
-        lane: 1,
-        number: 0x78695a4b_07070707_07070707_07070707,
-    },
-    LaneAccess {
-        lane: 2,
-        number: 0xb4a59687_07070707_07070707_07070707,
-    },
-    LaneAccess {
-        lane: 3,
-        number: 0xf0e1d2c3_07070707_07070707_07070707,
-    },
+    (0, 0x3c2d1e0f_07070707_07070707_07070707),
+    (1, 0x78695a4b_07070707_07070707_07070707),
+    (2, 0xb4a59687_07070707_07070707_07070707),
+    (3, 0xf0e1d2c3_07070707_07070707_07070707),
 ];
 
 #[test]
@@ -780,14 +603,8 @@ fn each_lane_of_32_bits_is_stored_alone(rt: HostRuntime) {
 
 /// The bytes 7 with each lane of 64 bits of `A` at their end.
 static STORED_64: [LaneAccess; 2] = [
-    LaneAccess {
-        lane: 0,
-        number: 0x78695a4b_3c2d1e0f_07070707_07070707,
-    },
-    LaneAccess {
-        lane: 1,
-        number: 0xf0e1d2c3_b4a59687_07070707_07070707,
-    },
+    (0, 0x78695a4b_3c2d1e0f_07070707_07070707),
+    (1, 0xf0e1d2c3_b4a59687_07070707_07070707),
 ];
 
 #[test]

@@ -63,10 +63,9 @@ fn compare_memory(
         }
         Err(error) => (Err(error), None),
     };
-    same(rt, row.what, size, row.made);
-    same(rt, row.what, grown, row.grown);
-    same(rt, row.what, quota.held_bytes(), row.held);
-    same(rt, row.what, fuel.get_fuel(), Ok(row.left));
+    let answer = (size, grown, quota.held_bytes(), fuel.get_fuel());
+    let expected = (row.made, row.grown, row.held, Ok(row.left));
+    same(rt, row.what, answer, expected);
 }
 
 #[test]
@@ -144,10 +143,9 @@ fn compare_table(rt: &impl Abort, alloc: Global, row: &TableLoan) {
         }
         Err(error) => (Err(error), None, None),
     };
-    same(rt, row.what, size, row.made);
-    same(rt, row.what, grown, row.grown);
-    same(rt, row.what, grown_raw, row.grown_raw);
-    same(rt, row.what, quota.held_elements(), row.held);
+    let answer = (size, grown, grown_raw, quota.held_elements());
+    let expected = (row.made, row.grown, row.grown_raw, row.held);
+    same(rt, row.what, answer, expected);
 }
 
 #[test]

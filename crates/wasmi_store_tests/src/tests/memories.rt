@@ -16,10 +16,10 @@ fn ample_memory_grows(rt: HostRuntime) {
     let mut memory = ample_memory(&rt, rt.alloc(), page_type(&rt, 1, Some(2)));
     let mut meter = metered(1024);
     let grown = grow(&mut memory, 1, Some(&mut meter), &mut NoLimits);
-    same(&rt, "the old size", grown, Ok(1));
-    same(&rt, "fuel", meter.get_fuel(), Ok(0));
-    same(&rt, "pages", memory.size(), 2);
-    same(&rt, "bytes", memory.data_size(), 131072);
+    let answer = (grown, meter.get_fuel());
+    same(&rt, "the old size, and fuel", answer, (Ok(1), Ok(0)));
+    let sizes = (memory.size(), memory.data_size());
+    same(&rt, "pages and bytes", sizes, (2, 131072));
     let types = (memory.ty(), memory.dynamic_ty());
     let expected = (page_type(&rt, 1, Some(2)), page_type(&rt, 2, Some(2)));
     same(&rt, "the first type and the present one", types, expected);
@@ -74,9 +74,9 @@ fn grow_under_quota(rt: &impl Abort, alloc: Global, row: &MeteredGrowth) {
     let mut memory = new_memory(alloc, ty, &mut quota).expect(rt, "a memory");
     let mut meter = metered(row.fuel);
     let grown = grow(&mut memory, 1, Some(&mut meter), &mut quota);
-    same(rt, "a page more", grown, row.outcome);
-    same(rt, "fuel", meter.get_fuel(), Ok(row.left));
-    same(rt, "held", quota.held_bytes(), row.held);
+    let answer = (grown, meter.get_fuel(), quota.held_bytes());
+    let expected = (row.outcome, Ok(row.left), row.held);
+    same(rt, "a page more: its outcome, fuel, held", answer, expected);
 }
 
 #[test]

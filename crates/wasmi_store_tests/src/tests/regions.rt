@@ -250,12 +250,11 @@ fn compare_growth(rt: &impl Abort, row: &Growth) {
     let mut recorder = Recorder::new(row.answer, row.notice_answer);
     let grown = grow(&mut memory, row.pages, Some(&mut meter), &mut recorder);
     drop(memory);
-    same(rt, row.what, memory_outcome(grown), row.outcome);
+    let answer = (memory_outcome(grown), meter.get_fuel(), region);
+    same(rt, row.what, answer, (row.outcome, Ok(row.left), row.found));
     let desired = 3usize.saturating_add(row.pages as usize);
     let question = memory_question(3, desired, Some(8));
     same_record(rt, row.what, &recorder, question, row.notice);
-    same(rt, row.what, meter.get_fuel(), Ok(row.left));
-    same(rt, row.what, region, row.found);
 }
 
 #[test]

@@ -148,15 +148,13 @@ fn tests_the_type_also_for_no_element(rt: HostRuntime) {
     let mut recorder = Recorder::new(Ok(true), Ok(()));
     let mut limiter = ResourceLimiterRef::from(&mut recorder);
     let mismatch = Err(TableError::ElementTypeMismatch);
-    let rows = [
-        ("another type", external(0), mismatch),
-        ("the same type", func(0), Ok(1)),
+    let answers = [
+        table.grow(0, external(0), None, &mut limiter),
+        table.grow(0, func(0), None, &mut limiter),
+        table.grow_raw(0, external(0).raw(), None, &mut limiter),
     ];
-    for (what, init, expected) in rows {
-        same(&rt, what, table.grow(0, init, None, &mut limiter), expected);
-    }
-    let size = table.grow_raw(0, external(0).raw(), None, &mut limiter);
-    same(&rt, "no type", size, Ok(1));
+    let expected = [mismatch, Ok(1), Ok(1)];
+    same(&rt, "another, the same, no type", answers, expected);
     same_record(&rt, "nobody is asked", &recorder, None, None);
 }
 
@@ -165,16 +163,13 @@ fn grows_without_a_limiter_and_a_meter(rt: HostRuntime) {
     let ty = TableType::new(RefType::Func, 1, Some(2));
     let mut table = table_of(&rt, rt.alloc(), ty, func(1));
     let mut nobody = ResourceLimiterRef::<NoLimits>::default();
+    let answers = [
+        (table.grow(1, func(4), None, &mut nobody), table.get(1)),
+        (table.grow(1, func(4), None, &mut nobody), table.get(1)),
+    ];
     let refused = Err(TableError::GrowOutOfBounds);
-    for (what, expected) in [("by 1", Ok(1)), ("above the maximum", refused)] {
-        same(
-            &rt,
-            what,
-            table.grow(1, func(4), None, &mut nobody),
-            expected,
-        );
-        same(&rt, "the new one", table.get(1), Some(func(4)));
-    }
+    let expected = [(Ok(1), Some(func(4))), (refused, Some(func(4)))];
+    same(&rt, "by 1, above the maximum", answers, expected);
     let limits = (table.dynamic_ty().minimum(), table.ty().minimum());
     same(&rt, "the minimums", limits, (2, 1));
 }

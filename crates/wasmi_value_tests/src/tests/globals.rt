@@ -26,27 +26,18 @@ fn constants_are_not_written(rt: HostRuntime) {
 fn variables_are_written_with_their_type(rt: HostRuntime) {
     let variable = GlobalType::new(ValType::I32, Mutability::Var);
     let mut global = Global::new(RawVal::from(7u32), variable);
-    let set = global.set(TypedRawVal::from(1i64));
-    same(
-        &rt,
-        "set to another type",
-        set,
+    let mismatch = global.set(TypedRawVal::from(1i64));
+    let kept = *global.get_raw();
+    let set = global.set(TypedRawVal::from(8u32));
+    let answer = (mismatch, kept, set, global.get(), global.ty());
+    let expected = (
         Err(GlobalError::TypeMismatch),
-    );
-    same(
-        &rt,
-        "value that is kept",
-        *global.get_raw(),
         RawVal::from(7u32),
-    );
-    same(&rt, "set", global.set(TypedRawVal::from(8u32)), Ok(()));
-    same(
-        &rt,
-        "value that is set",
-        global.get(),
+        Ok(()),
         TypedRawVal::from(8u32),
+        variable,
     );
-    same(&rt, "type", global.ty(), variable);
+    same(&rt, "a variable", answer, expected);
 }
 
 #[test]

@@ -64,34 +64,49 @@ fn typed_values_are_read_by_their_bits(rt: HostRuntime) {
     same(&rt, "V128", V128::from(ones).as_u128(), u128::MAX);
 }
 
-/// Compares the remainder of an amount, which is `None` where nothing is shifted.
-fn check_shift<T: IntoShiftAmount>(
-    rt: &impl Abort,
-    what: &str,
-    amount: T::ShiftSource,
-    bits: Option<u8>,
-) {
-    let answer = T::into_shift_amount(amount).map(u8::from);
-    same(rt, what, answer, bits);
+/// The remainder of an amount, which is `None` where nothing is shifted.
+fn remainder<T: IntoShiftAmount>(amount: T::ShiftSource) -> Option<u8> {
+    T::into_shift_amount(amount).map(u8::from)
 }
 
 #[test]
 fn shift_amounts_are_remainders(rt: HostRuntime) {
-    check_shift::<i32>(&rt, "i32", 32, None);
-    check_shift::<i32>(&rt, "i32", 33, Some(1));
-    check_shift::<i32>(&rt, "i32", -1, Some(31));
-    check_shift::<i8>(&rt, "i8", -9, Some(7));
-    check_shift::<i16>(&rt, "i16", i16::MIN, None);
-    check_shift::<i64>(&rt, "i64", -1, Some(63));
-    check_shift::<i128>(&rt, "i128", -1, Some(127));
-    check_shift::<u8>(&rt, "u8", 255, Some(7));
-    check_shift::<u16>(&rt, "u16", 17, Some(1));
-    check_shift::<u32>(&rt, "u32", u32::MAX, Some(31));
-    check_shift::<u64>(&rt, "u64", 128, None);
-    check_shift::<u128>(&rt, "u128", 129, Some(1));
-    check_shift::<[u8; 16]>(&rt, "[u8; 16]", 17, Some(1));
-    check_shift::<[u16; 8]>(&rt, "[u16; 8]", 17, Some(1));
-    check_shift::<[u32; 4]>(&rt, "[u32; 4]", 64, None);
-    check_shift::<[u64; 2]>(&rt, "[u64; 2]", 65, Some(1));
+    let answers = [
+        remainder::<i32>(32),
+        remainder::<i32>(33),
+        remainder::<i32>(-1),
+        remainder::<i8>(-9),
+        remainder::<i16>(i16::MIN),
+        remainder::<i64>(-1),
+        remainder::<i128>(-1),
+        remainder::<u8>(255),
+        remainder::<u16>(17),
+        remainder::<u32>(u32::MAX),
+        remainder::<u64>(128),
+        remainder::<u128>(129),
+        remainder::<[u8; 16]>(17),
+        remainder::<[u16; 8]>(17),
+        remainder::<[u32; 4]>(64),
+        remainder::<[u64; 2]>(65),
+    ];
+    let expected = [
+        None,
+        Some(1),
+        Some(31),
+        Some(7),
+        None,
+        Some(63),
+        Some(127),
+        Some(7),
+        Some(1),
+        Some(31),
+        None,
+        Some(1),
+        Some(1),
+        Some(1),
+        None,
+        Some(1),
+    ];
+    same(&rt, "remainders", answers, expected);
     same(&rt, "amount", u8::from(ShiftAmount::from(200)), 200);
 }

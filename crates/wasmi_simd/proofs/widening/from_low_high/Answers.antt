@@ -22,7 +22,7 @@ returns g c =
       lanes = λ row rows.
           let low = λ (k : ℕ). row (wide.read (lane wide.width c.args.low k)) in
           let high = λ (k : ℕ). row (wide.read (lane wide.width c.args.high k)) in
-          items_make_vector narrow l.LANES z c.into_v128.result _ g.met.L.Lanes.filled c.into_v128.ensures.lanes
+          items_make_vector narrow l.LANES z c.into_v128.result _ g.met.L.Lanes.laws.filled c.into_v128.ensures.lanes
           c.into_v128.ensures.in_range
           (λ i h fits.
           by_halves s.LANES i (λ k. narrow.image (z k)) low high
@@ -36,5 +36,5 @@ returns g c =
           (c.from_low_high.ensures.high k below) ∙ ap row is)
           (omega arith)
           ∙ ap (λ n. if nat_lt i n then low i else high (i - n))
-          (sym (lanes_of_width wide.width s.LANES g.met.W.Lanes.filled)));
+          (sym (lanes_of_width wide.width s.LANES g.met.W.Lanes.laws.filled)));
     }
