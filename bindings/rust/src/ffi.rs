@@ -182,7 +182,7 @@ pub mod memory {
 /// The structs and calls of `include/wasmi_machine.h`.
 #[cfg(feature = "machine")]
 pub mod machine {
-    use crate::RawVal;
+    use crate::{Answer, RawVal};
 
     pub const MEMORY_OUT_OF_BOUNDS: u8 = 2;
     pub const NO_CALL: u8 = 17;
@@ -264,6 +264,7 @@ pub mod machine {
     #[rustfmt::skip]
     unsafe extern "C" {
         pub fn wasmi_machine_new(machine: &mut Handle, limits: &Limits) -> u8;
+        pub fn wasmi_machine_new_with_answers(machine: &mut Handle, limits: &Limits, answers: *const Answer, len: usize) -> u8;
         pub fn wasmi_machine_drop(machine: &mut Handle);
         pub fn wasmi_machine_call(machine: &mut Handle, call: &Call) -> Reply;
         pub fn wasmi_machine_load(machine: &mut Handle, op: u16, memory: usize, ptr: u64, offset: u64, value: &mut u64) -> u8;

@@ -70,7 +70,7 @@ pub use crate::global::{GlobalError, GlobalType, Mutability, Typed, TypedRawVal}
 pub use crate::limiter::Quota;
 pub use crate::limiter::{LimiterError, ResourceLimiter, ResourceLimiterRef};
 #[cfg(feature = "machine")]
-pub use crate::machine::{Caps, Limits, LinesError, Machine, MachineError, Place, SegmentError, Totals};
+pub use crate::machine::{Answer, Caps, Limits, LinesError, Machine, MachineError, Place, SegmentError, Totals};
 #[cfg(feature = "memory")]
 pub use crate::memory::{Memory, RegionMemory};
 #[cfg(feature = "memory")]

@@ -53,6 +53,21 @@ pub struct Limits {
     pub is_metered: bool,
 }
 
+impl Limits {
+    fn plain(&self) -> calls::Limits {
+        let caps = self.caps.unwrap_or(Caps { bytes: u64::MAX, elements: u64::MAX });
+        calls::Limits {
+            bytes: caps.bytes,
+            elements: caps.elements,
+            is_unlimited: self.caps.is_none().into(),
+            bytes_copied_per_fuel: self.costs.bytes_copied_per_fuel,
+            fuel_per_bytes_translated: self.costs.fuel_per_bytes_translated,
+            fuel_per_bytes_validated: self.costs.fuel_per_bytes_validated,
+            is_metered: self.is_metered.into(),
+        }
+    }
+}
+
 /// How much a machine may have. What was dropped counts.
 #[derive(Debug, Copy, Clone, PartialEq, Eq)]
 pub struct Caps {
@@ -60,6 +75,21 @@ pub struct Caps {
     pub bytes: u64,
     /// The most elements that its tables may have together.
     pub elements: u64,
+}
+
+/// What a machine's limiter answers to a question: may this memory or this table be made, or grow?
+#[derive(Debug, Copy, Clone, PartialEq, Eq)]
+#[repr(u8)]
+pub enum Answer {
+    /// It may.
+    Permit = 0,
+    /// It may not.
+    Deny = 1,
+    /// It may not: the answer is an error.
+    Error = 2,
+    /// It may. If it then fails, the answer to the notice of that is an error, which the call returns instead of the
+    /// failure.
+    Complain = 3,
 }
 
 /// The bytes of all memories and the elements of all tables of a machine. Dropped ones count at their last size.
@@ -140,7 +170,7 @@ impl Error for MachineError {}
 pub enum LinesError {
     /// The line of this number is no command of a script. Nothing was run.
     BadLine(u64),
-    /// There are header lines. The machine has its meter and its caps already. Nothing was run.
+    /// There are header lines. The machine has its meter and its limiter already. Nothing was run.
     HeaderLine,
     /// Out of memory for the calls, for their replies or for the text. Nothing was run.
     NoRoom,
@@ -162,8 +192,8 @@ impl Display for LinesError {
 
 impl Error for LinesError {}
 
-/// A machine: memories, tables, element segments, globals, sixteen vector registers, a meter, and a quota on all
-/// memories and tables.
+/// A machine: memories, tables, element segments, globals, sixteen vector registers, a meter, and a limiter of all
+/// memories and tables: a quota, a list of answers, or none.
 ///
 /// What it has goes by indices, which count from 0 for each kind and aren't used again. Registers go by numbers from 0
 /// to 15. A call that is refused changes nothing, except where its text says otherwise. Each call may be refused with
@@ -196,18 +226,28 @@ impl Machine {
     ///
     /// [`MachineError::NoRoom`].
     pub fn new(limits: &Limits) -> Result<Self, MachineError> {
-        let caps = limits.caps.unwrap_or(Caps { bytes: u64::MAX, elements: u64::MAX });
-        let limits = calls::Limits {
-            bytes: caps.bytes,
-            elements: caps.elements,
-            is_unlimited: limits.caps.is_none().into(),
-            bytes_copied_per_fuel: limits.costs.bytes_copied_per_fuel,
-            fuel_per_bytes_translated: limits.costs.fuel_per_bytes_translated,
-            fuel_per_bytes_validated: limits.costs.fuel_per_bytes_validated,
-            is_metered: limits.is_metered.into(),
-        };
+        let limits = limits.plain();
+        Self::made(|handle| unsafe { calls::wasmi_machine_new(handle, &limits) })
+    }
+
+    /// Makes a machine that has nothing, and whose limiter answers from a list. Each question takes the next answer,
+    /// and after the last one everything is permitted. A question is asked before a memory or a table is made, and
+    /// before one grows by more than 0; not if a memory would grow beyond its type, or a table beyond what its indices
+    /// reach.
+    ///
+    /// The caps of the limits aren't read: there are none. The answers are copied.
+    ///
+    /// # Errors
+    ///
+    /// [`MachineError::NoRoom`].
+    pub fn with_answers(limits: &Limits, answers: &[Answer]) -> Result<Self, MachineError> {
+        let (limits, from, len) = (limits.plain(), answers.as_ptr(), answers.len());
+        Self::made(|handle| unsafe { calls::wasmi_machine_new_with_answers(handle, &limits, from, len) })
+    }
+
+    fn made(make: impl FnOnce(&mut Handle) -> u8) -> Result<Self, MachineError> {
         let mut machine = Self { handle: Handle { at: std::ptr::null_mut(), is_made: false } };
-        match unsafe { calls::wasmi_machine_new(&mut machine.handle, &limits) } {
+        match make(&mut machine.handle) {
             ffi::DONE => Ok(machine),
             calls::NO_ROOM => Err(MachineError::NoRoom),
             other => unexpected(other),
@@ -260,7 +300,7 @@ impl Machine {
     /// # Errors
     ///
     /// In this order: [`MachineError::NoRoom`]; [`MemoryError::MinimumSizeOverflow`];
-    /// [`MemoryError::ResourceLimiterDeniedAllocation`] beyond the quota; [`MemoryError::OutOfSystemMemory`].
+    /// [`MemoryError::ResourceLimiterDeniedAllocation`] if the limiter denies; [`MemoryError::OutOfSystemMemory`].
     pub fn new_memory(&mut self, ty: MemoryType) -> Result<usize, MachineError> {
         let call = Call {
             kind: kind::NEW_MEMORY,
@@ -279,8 +319,9 @@ impl Machine {
     ///
     /// # Errors
     ///
-    /// In this order: [`MemoryError::OutOfBoundsGrowth`] beyond the type or the quota; [`MemoryError::OutOfFuel`];
-    /// [`MemoryError::OutOfSystemMemory`], after which the fuel is taken.
+    /// In this order: [`MemoryError::OutOfBoundsGrowth`] beyond the type, or if the limiter denies;
+    /// [`MemoryError::OutOfFuel`]; [`MemoryError::OutOfSystemMemory`], after which the fuel is taken.
+    /// [`MemoryError::ResourceLimiterDeniedAllocation`] if an answer of the limiter is an error.
     #[inline]
     pub fn grow_memory(&mut self, memory: usize, pages: u64) -> Result<u64, MachineError> {
         let mut number = 0;
@@ -433,7 +474,7 @@ impl Machine {
     /// # Errors
     ///
     /// In this order: [`MachineError::NoRoom`]; [`TableError::ElementTypeMismatch`];
-    /// [`TableError::ResourceLimiterDeniedAllocation`] beyond the quota; [`TableError::OutOfSystemMemory`].
+    /// [`TableError::ResourceLimiterDeniedAllocation`] if the limiter denies; [`TableError::OutOfSystemMemory`].
     pub fn new_table(&mut self, ty: TableType, init: TypedRawRef) -> Result<usize, MachineError> {
         if ty.element() != init.ty() {
             return Err(MachineError::Table(TableError::ElementTypeMismatch));
@@ -453,8 +494,9 @@ impl Machine {
     ///
     /// # Errors
     ///
-    /// In this order: [`TableError::ElementTypeMismatch`]; [`TableError::GrowOutOfBounds`] beyond the type or the
-    /// quota; [`TableError::OutOfFuel`]; [`TableError::OutOfSystemMemory`], after which the fuel is taken.
+    /// In this order: [`TableError::ElementTypeMismatch`]; [`TableError::GrowOutOfBounds`] beyond the type, or if the
+    /// limiter denies; [`TableError::OutOfFuel`]; [`TableError::OutOfSystemMemory`], after which the fuel is taken.
+    /// [`TableError::ResourceLimiterDeniedAllocation`] if an answer of the limiter is an error.
     pub fn grow_table(&mut self, table: usize, delta: u64, init: TypedRawRef) -> Result<u64, MachineError> {
         let call = Call { kind: kind::GROW_TABLE, index: table, count: delta, ..with_reference(init) };
         self.call(&call).map(|reply| reply.number)

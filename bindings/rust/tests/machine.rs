@@ -1,9 +1,9 @@
 //! Machines: a guest's memory under fuel and a cap, tables, globals and registers.
 #![cfg(feature = "machine")]
 use wasmi_core_proved::{
-    BinaryOp, Caps, CustomFuelCosts, ExtractLaneOp, FuelError, GlobalError, GlobalType, Limits, LinesError, LoadOp,
-    Machine, MachineError, MemoryError, MemoryType, Mutability, Place, RawRef, RawVal, RefType, StoreOp, TableError,
-    TableType, Totals, TrapCode, TypedRawRef, TypedRawVal, UnaryOp, V128, ValType, simd,
+    Answer, BinaryOp, Caps, CustomFuelCosts, ExtractLaneOp, FuelError, GlobalError, GlobalType, Limits, LinesError,
+    LoadOp, Machine, MachineError, MemoryError, MemoryType, Mutability, Place, RawRef, RawVal, RefType, StoreOp,
+    TableError, TableType, Totals, TrapCode, TypedRawRef, TypedRawVal, UnaryOp, V128, ValType, simd,
 };
 
 const PAGE: u64 = 65_536;
@@ -114,6 +114,29 @@ fn without_caps() {
     let mut machine = Machine::new(&Limits { caps: None, costs, is_metered: false }).unwrap();
     let memory = machine.new_memory(pages(0, None)).unwrap();
     assert_eq!(machine.grow_memory(memory, 5), Ok(0));
+}
+
+#[test]
+fn a_limiter_answers_from_a_list() {
+    let costs =
+        CustomFuelCosts { bytes_copied_per_fuel: 64, fuel_per_bytes_translated: 7, fuel_per_bytes_validated: 2 };
+    // The caps aren't read.
+    let limits = Limits { caps: Some(Caps { bytes: 0, elements: 0 }), costs, is_metered: true };
+    let answers = [Answer::Permit, Answer::Deny, Answer::Permit, Answer::Complain, Answer::Error, Answer::Deny];
+    let mut machine = Machine::with_answers(&limits, &answers).unwrap();
+    let memory = machine.new_memory(pages(1, Some(8))).unwrap();
+    let denied = MachineError::Memory(MemoryError::ResourceLimiterDeniedAllocation);
+    assert_eq!(machine.grow_memory(memory, 1), Err(MachineError::Memory(MemoryError::OutOfBoundsGrowth)));
+    assert_eq!(machine.grow_memory(memory, 9), Err(MachineError::Memory(MemoryError::OutOfBoundsGrowth)));
+    assert_eq!(machine.grow_memory(memory, 0), Ok(1));
+    let out_of_fuel = MachineError::Memory(MemoryError::OutOfFuel { required_fuel: 1_024 });
+    assert_eq!(machine.grow_memory(memory, 1), Err(out_of_fuel));
+    assert_eq!(machine.grow_memory(memory, 1), Err(denied.clone()));
+    assert_eq!(machine.set_fuel(8_000), Ok(()));
+    assert_eq!(machine.grow_memory(memory, 1), Err(denied.clone()));
+    assert_eq!(machine.new_memory(pages(1, None)), Err(denied));
+    assert_eq!(machine.grow_memory(memory, 7), Ok(1));
+    assert_eq!(machine.totals(), Totals { bytes: 8 * u128::from(PAGE), elements: 0 });
 }
 
 #[test]
