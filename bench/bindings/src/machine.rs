@@ -5,6 +5,9 @@ use wasmi_core::{
     ResourceLimiter, ResourceLimiterRef, TrapCode, V128, simd, wasm,
 };
 
+/// The status of a handle without a machine.
+const NO_MACHINE: u8 = 16;
+
 /// As `wasmi_call` of `include/wasmi_machine.h`.
 #[derive(Clone, Copy, Default)]
 #[repr(C)]
@@ -63,6 +66,25 @@ pub struct Handle {
     is_made: bool,
 }
 
+/// A machine of the crate's types behind such a handle, which each call tests.
+#[repr(C)]
+pub struct CrateHandle {
+    at: *mut Machine,
+    is_made: bool,
+}
+
+impl CrateHandle {
+    /// A machine that lives as long as the program.
+    pub fn new(bytes: u64) -> CrateHandle {
+        CrateHandle { at: Box::into_raw(Box::new(Machine::new(bytes))), is_made: true }
+    }
+
+    fn machine(&mut self) -> Option<&mut Machine> {
+        // SAFETY: a handle that is made has a machine, to which no other leads.
+        self.is_made.then(|| unsafe { &mut *self.at })
+    }
+}
+
 /// As `wasmi_limits` there.
 #[repr(C)]
 struct Limits {
@@ -82,7 +104,7 @@ pub trait Called {
     fn fuel_left(&mut self) -> (u8, u64);
 }
 
-impl Called for Machine {
+impl Called for CrateHandle {
     fn call(&mut self, it: &Call) -> Reply {
         call(self, it)
     }
@@ -236,7 +258,8 @@ fn of_fuel(error: FuelError) -> Reply {
 
 /// Replies to a call, as `wasmi_machine_call` does.
 #[inline(never)]
-pub extern "C" fn call(machine: &mut Machine, call: &Call) -> Reply {
+pub extern "C" fn call(handle: &mut CrateHandle, call: &Call) -> Reply {
+    let Some(machine) = handle.machine() else { return refused(NO_MACHINE) };
     match call.kind {
         0 => machine.fuel.set_fuel(call.count).map_or_else(of_fuel, |()| Reply::default()),
         1 => machine.fuel.get_fuel().map_or_else(of_fuel, number),
@@ -269,16 +292,21 @@ pub extern "C" fn call(machine: &mut Machine, call: &Call) -> Reply {
     }
 }
 
+// The five below are exported, so that the compiler makes no copies of them for the numbers that the rows have: a machine
+// in a library is told them at each call. What they call is inlined, as it is there.
+
 /// As `wasmi_machine_load`.
+#[unsafe(no_mangle)]
 #[inline(never)]
 pub extern "C" fn machine_load(
-    machine: &mut Machine,
+    handle: &mut CrateHandle,
     op: u16,
     memory: usize,
     ptr: u64,
     offset: u64,
     value: &mut u64,
 ) -> u8 {
+    let Some(machine) = handle.machine() else { return NO_MACHINE };
     let Some(Some(memory)) = machine.memories.get(memory) else { return 18 };
     let reply = load(op, memory.data(), ptr, offset);
     if reply.status == 0 {
@@ -288,28 +316,34 @@ pub extern "C" fn machine_load(
 }
 
 /// As `wasmi_machine_store`.
+#[unsafe(no_mangle)]
 #[inline(never)]
 pub extern "C" fn machine_store(
-    machine: &mut Machine,
+    handle: &mut CrateHandle,
     op: u16,
     memory: usize,
     ptr: u64,
     offset: u64,
     value: u64,
 ) -> u8 {
+    let Some(machine) = handle.machine() else { return NO_MACHINE };
     let Some(Some(memory)) = machine.memories.get_mut(memory) else { return 18 };
     store(op, memory.data_mut(), ptr, offset, value).status
 }
 
 /// As `wasmi_machine_binary`.
+#[unsafe(no_mangle)]
 #[inline(never)]
-pub extern "C" fn machine_binary(machine: &mut Machine, op: u16, dst: u8, a: u8, b: u8) -> u8 {
+pub extern "C" fn machine_binary(handle: &mut CrateHandle, op: u16, dst: u8, a: u8, b: u8) -> u8 {
+    let Some(machine) = handle.machine() else { return NO_MACHINE };
     binary(machine, op, dst, a, b).status
 }
 
 /// As `wasmi_machine_grow`.
+#[unsafe(no_mangle)]
 #[inline(never)]
-pub extern "C" fn machine_grow(machine: &mut Machine, memory: usize, pages: u64, number: &mut u64) -> u8 {
+pub extern "C" fn machine_grow(handle: &mut CrateHandle, memory: usize, pages: u64, number: &mut u64) -> u8 {
+    let Some(machine) = handle.machine() else { return NO_MACHINE };
     let reply = grow(machine, memory, pages);
     if reply.status == 0 || reply.status == 40 {
         *number = reply.number;
@@ -318,8 +352,10 @@ pub extern "C" fn machine_grow(machine: &mut Machine, memory: usize, pages: u64,
 }
 
 /// As `wasmi_machine_fuel_left`.
+#[unsafe(no_mangle)]
 #[inline(never)]
-pub extern "C" fn machine_fuel_left(machine: &mut Machine, left: &mut u64) -> u8 {
+pub extern "C" fn machine_fuel_left(handle: &mut CrateHandle, left: &mut u64) -> u8 {
+    let Some(machine) = handle.machine() else { return NO_MACHINE };
     let reply = machine.fuel.get_fuel().map_or_else(of_fuel, number);
     if reply.status == 0 {
         *left = reply.number;
@@ -327,6 +363,7 @@ pub extern "C" fn machine_fuel_left(machine: &mut Machine, left: &mut u64) -> u8
     reply.status
 }
 
+#[inline(always)]
 fn grow(machine: &mut Machine, memory: usize, pages: u64) -> Reply {
     let Some(Some(memory)) = machine.memories.get_mut(memory) else { return refused(18) };
     let mut limiter = ResourceLimiterRef::from(&mut machine.caps as &mut dyn ResourceLimiter);
@@ -347,6 +384,7 @@ fn new_memory(machine: &mut Machine, call: &Call) -> Reply {
     }
 }
 
+#[inline(always)]
 fn loaded(value: Result<impl Into<RawVal>, TrapCode>) -> Reply {
     match value {
         Ok(value) => Reply { value: [value.into().to_bits64(), 0], ..Reply::default() },
@@ -354,6 +392,7 @@ fn loaded(value: Result<impl Into<RawVal>, TrapCode>) -> Reply {
     }
 }
 
+#[inline(always)]
 fn load(op: u16, memory: &[u8], ptr: u64, offset: u64) -> Reply {
     match op {
         0 => loaded(wasm::i32_load8_s(memory, ptr, offset)),
@@ -372,6 +411,7 @@ fn load(op: u16, memory: &[u8], ptr: u64, offset: u64) -> Reply {
     }
 }
 
+#[inline(always)]
 fn store(op: u16, memory: &mut [u8], ptr: u64, offset: u64, value: u64) -> Reply {
     let stored = match op {
         0 => wasm::i32_store8(memory, ptr, offset, value as i32),
@@ -387,6 +427,7 @@ fn store(op: u16, memory: &mut [u8], ptr: u64, offset: u64, value: u64) -> Reply
 }
 
 /// The instructions on lanes from 54 on, in the order of their numbers, of which some are enough for a table of jumps.
+#[inline(always)]
 fn binary(machine: &mut Machine, op: u16, dst: u8, a: u8, b: u8) -> Reply {
     let register = |number: u8| machine.registers.get(usize::from(number)).map(|value| V128::from(*value));
     let (Some(a), Some(b)) = (register(a), register(b)) else { return refused(18) };

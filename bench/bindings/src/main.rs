@@ -1,6 +1,6 @@
 //! Times of the Rust bindings, beside the Rust crate: of machines by handle, beside a machine over the crate behind the
 //! same calls, with plain arguments and with a struct; and of memories on a region, beside the bare calls of the crate. It
-//! prints three tables.
+//! prints a line for each row, and `bench/bindings.py` makes tables of them.
 mod machine;
 #[path = "../../program/src/timing.rs"]
 mod timing;
@@ -15,6 +15,9 @@ use wasmi_core_proved as here;
 const CALLS: usize = 1000;
 const GROWTHS: usize = 16;
 const REGION: usize = GROWTHS << 16;
+// So many bytes stand in front of the functions, so that they begin at other places of a line of 32 bytes.
+std::arch::global_asm!(".section .text.bench_skip, \"axR\", @progbits", concat!(".skip ", env!("BENCH_SKIP"), ", 0x90"));
+
 /// The number of `i8x16_add`.
 const ADD: u16 = 54;
 
@@ -46,7 +49,7 @@ fn type_theirs(minimum: u64, page_size_log2: u8) -> theirs::MemoryType {
 
 /// A machine over the crate, a proved one behind the same call, and one of the bindings, each with a memory of a page.
 struct Machines {
-    theirs: machine::Machine,
+    theirs: machine::CrateHandle,
     same: machine::Handle,
     here: here::Machine,
 }
@@ -60,7 +63,7 @@ impl Machines {
         };
         let caps = Some(here::Caps { bytes: u64::MAX, elements: 0 });
         let here = here::Machine::new(&here::Limits { caps, costs, is_metered: true }).unwrap();
-        let (theirs, same) = (machine::Machine::new(u64::MAX), machine::Handle::new(u64::MAX));
+        let (theirs, same) = (machine::CrateHandle::new(u64::MAX), machine::Handle::new(u64::MAX));
         let mut machines = Machines { theirs, same, here };
         for call in [of_kind(0, fuel), new_memory(1, 16)] {
             assert_eq!(machines.theirs.call(&call).status, 0);
@@ -412,20 +415,15 @@ fn run_on_region() -> Row<2> {
 }
 
 fn main() {
-    let names = ["by handle, plain arguments, ns a call", "by handle, a struct, ns a call"];
-    for (name, rows) in names.iter().zip(rows_by_handle()) {
-        println!("| {name} | crate's machine | **here** | here / crate | by the bindings |\n|---|---|---|---|---|");
-        for Row { name, times: [theirs, here, bound] } in rows {
-            println!("| {name} | {theirs:.1} | **{here:.1}** | {:.2} | {bound:.1} |", here / theirs);
+    for (name, rows) in ["plain", "struct"].iter().zip(rows_by_handle()) {
+        for Row { name: row, times } in rows {
+            println!("{name}\t{row}\t{}", times.map(|it| it.to_string()).join("\t"));
         }
-        println!();
     }
-    println!("| on a region, ns a call | crate, bare | **here** | here - crate |\n|---|---|---|---|");
     let growths = [growths_on_region("growth by a page of a byte", 0), growths_on_region("growth by 64 KiB", 16)];
     let refusals =
         [refusal_on_region("growth beyond the type", 16, 1 << 20), refusal_on_region("growth without fuel", 1, 9)];
-    let rows = accesses_on_region().into_iter().chain(refusals).chain(growths).chain([run_on_region()]);
-    for Row { name, times: [theirs, here] } in rows {
-        println!("| {name} | {theirs:.1} | **{here:.1}** | {:.1} |", here - theirs);
+    for Row { name, times } in accesses_on_region().into_iter().chain(refusals).chain(growths).chain([run_on_region()]) {
+        println!("region\t{name}\t{}", times.map(|it| it.to_string()).join("\t"));
     }
 }
