@@ -157,6 +157,23 @@ static char *one_part(char *at, size_t *printed_len) {
     return at;
 }
 
+/* Two machines with random answers, and their header line. */
+static char *begin_with_answers(char *at, const wasmi_limits *limits) {
+    static const char *const words[] = {"permit", "deny", "error", "complain"};
+    uint8_t answers[16];
+    size_t len = (size_t)below(sizeof answers);
+    at += sprintf(at, "answers");
+    for (size_t i = 0; i < len; i++) {
+        answers[i] = (uint8_t)(below(2) ? below(4) : WASMI_ANSWER_PERMIT);
+        at += sprintf(at, " %s", words[answers[i]]);
+    }
+    if (wasmi_machine_new_with_answers(&machine, limits, answers, len) != WASMI_DONE
+        || wasmi_machine_new_with_answers(&narrow, limits, answers, len) != WASMI_DONE) {
+        differs("new", "no machine was made with answers");
+    }
+    return at + sprintf(at, "\n");
+}
+
 /* Machines with random limits, and the header lines of the same. */
 static char *begin(wasmi_limits *limits) {
     memset(limits, 0, sizeof *limits);
@@ -167,6 +184,9 @@ static char *begin(wasmi_limits *limits) {
     char *at = script + sprintf(script, "meter off\n");
     if (limits->is_metered) {
         at = script + sprintf(script, "meter on %" PRIu32 "\n", limits->bytes_copied_per_fuel);
+    }
+    if (limits->is_unlimited && below(2)) {
+        return begin_with_answers(at, limits);
     }
     if (!limits->is_unlimited) {
         at += sprintf(at, "quota %" PRIu64 " %" PRIu64 "\n", limits->bytes, limits->elements);

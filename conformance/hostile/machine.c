@@ -13,6 +13,7 @@
 #include <sys/mman.h>
 
 enum { PAGE = 65536, TEXT = 1 << 16, SEQUENCE = 60, THREADS = 4, KINDS = 29, REGISTERS = 5, MOST_LINE = 512 };
+enum { MOST_ANSWERS = 24 };
 
 static _Thread_local long calls, differing;
 
@@ -406,6 +407,7 @@ static wasmi_call random_call(void) {
 struct sequence {
     wasmi_machine machine;
     wasmi_limits limits;
+    int has_quota;
     char script[TEXT], expected[TEXT], printed[TEXT];
     char *script_end, *expected_end;
 };
@@ -547,6 +549,32 @@ static void look_around(struct sequence *s) {
     }
 }
 
+/* A machine with random answers, and their header line. With a number of no answer among them none is made. */
+static uint8_t begin_with_answers(struct sequence *s) {
+    static const char *const words[] = {"permit", "deny", "error", "complain"};
+    uint8_t answers[MOST_ANSWERS];
+    size_t len = (size_t)below(MOST_ANSWERS);
+    s->script_end = put(s->script_end, "answers");
+    for (size_t i = 0; i < len; i++) {
+        answers[i] = (uint8_t)(below(2) ? below(4) : WASMI_ANSWER_PERMIT);
+        s->script_end = put(s->script_end, " %s", words[answers[i]]);
+    }
+    s->script_end = put(s->script_end, "\n");
+    if (len > 0) {
+        size_t forged = (size_t)below(len);
+        uint8_t answer = answers[forged];
+        answers[forged] = (uint8_t)(4 + below(252));
+        const uint8_t *copy = at_edge(OF_ARRAY, answers, len);
+        uint8_t status = wasmi_machine_new_with_answers(&s->machine, &s->limits, copy, len);
+        calls++;
+        if (status != WASMI_NO_ANSWER || s->machine.is_made) {
+            differs("new", "a machine was made with a number of no answer");
+        }
+        answers[forged] = answer;
+    }
+    return wasmi_machine_new_with_answers(&s->machine, &s->limits, at_edge(OF_ARRAY, answers, len), len);
+}
+
 /* A machine with random limits, and the header lines of the same. */
 static void begin(struct sequence *s) {
     wasmi_limits *limits = &s->limits;
@@ -559,19 +587,24 @@ static void begin(struct sequence *s) {
     if (limits->is_metered) {
         s->script_end = put(s->script, "meter on %" PRIu32 "\n", limits->bytes_copied_per_fuel);
     }
-    if (!limits->is_unlimited) {
+    int has_answers = below(3) == 0;
+    s->has_quota = !has_answers && !limits->is_unlimited;
+    if (s->has_quota) {
         s->script_end = put(s->script_end, "quota" U U "\n", limits->bytes, limits->elements);
     }
     s->expected_end = s->expected;
-    calls++;
-    if (wasmi_machine_new(&s->machine, limits) != WASMI_DONE) {
+    calls += 2;
+    if ((has_answers ? begin_with_answers(s) : wasmi_machine_new(&s->machine, limits)) != WASMI_DONE) {
         differs("new", "no machine was made");
+    }
+    if (wasmi_machine_new_with_answers(&s->machine, limits, (const uint8_t *)"\4", 1) != WASMI_HAS_MACHINE) {
+        differs("new", "a machine was made where there is one");
     }
 }
 
 static void end(struct sequence *s) {
     wasmi_totals totals = wasmi_machine_totals(&s->machine);
-    if (!s->limits.is_unlimited) {
+    if (s->has_quota) {
         s->expected_end = put(s->expected_end, "held" U U "\n", totals.bytes.lo, totals.elements.lo);
     }
     wasmi_machine_drop(&s->machine);
@@ -788,12 +821,14 @@ static void pass_on(void) {
 
 /* Each request for memory refused in turn: the reply says so, and the same call goes well after that. */
 
+enum { STEPS = 32 };
+
 static int lacks_memory(uint8_t status) {
     return status == WASMI_NO_ROOM || status == WASMI_MEMORY_OUT_OF_MEMORY || status == WASMI_TABLE_OUT_OF_MEMORY
         || status == WASMI_SEGMENT_OUT_OF_MEMORY;
 }
 
-static wasmi_reply step_of(wasmi_machine *machine, int step) {
+static wasmi_reply step_of(wasmi_machine *machine, int step, size_t answers) {
     static const uint16_t kinds[] = {
         WASMI_CALL_NEW_MEMORY, WASMI_CALL_NEW_TABLE, WASMI_CALL_NEW_GLOBAL, WASMI_CALL_SET_FUEL, WASMI_CALL_GROW_MEMORY,
         WASMI_CALL_GROW_TABLE, WASMI_CALL_NEW_MEMORY, WASMI_CALL_STORE, WASMI_CALL_FILL_TABLE, WASMI_CALL_INIT_TABLE,
@@ -801,7 +836,9 @@ static wasmi_reply step_of(wasmi_machine *machine, int step) {
     static const uint32_t items[3] = {4, 5, 6};
     wasmi_call call = of_kind(kinds[step % 10]);
     if (step == 0) {
-        wasmi_reply reply = {.status = wasmi_machine_new(machine, &LIMITS)};
+        static const uint8_t permits[STEPS];
+        wasmi_reply reply = {.status = answers == 0 ? wasmi_machine_new(machine, &LIMITS)
+            : wasmi_machine_new_with_answers(machine, &LIMITS, permits, answers)};
         return reply;
     }
     if (step == 1) {
@@ -814,20 +851,18 @@ static wasmi_reply step_of(wasmi_machine *machine, int step) {
     return called(machine, call);
 }
 
-enum { STEPS = 32 };
-
-/* The replies with one request refused, if any: whether it was reached. */
-static int run_refused(long request, wasmi_reply replies[STEPS]) {
+/* The replies with one request refused, if any: whether it was reached. The machine has so many answers, or caps. */
+static int run_refused(long request, wasmi_reply replies[STEPS], size_t answers) {
     wasmi_machine machine;
     memset(&machine, 0, sizeof machine);
     requests = 0, refused = request;
     for (int step = 0; step < STEPS; step++) {
-        replies[step] = step_of(&machine, step);
+        replies[step] = step_of(&machine, step, answers);
         if (lacks_memory(replies[step].status)) {
             if (requests < request) {
                 differs("refused", "out of memory before the request was refused");
             }
-            replies[step] = step_of(&machine, step);
+            replies[step] = step_of(&machine, step, answers);
         }
         calls++;
     }
@@ -836,11 +871,11 @@ static int run_refused(long request, wasmi_reply replies[STEPS]) {
     return requests >= request;
 }
 
-static void refuse(void) {
+static void refuse(size_t answers) {
     wasmi_reply plain[STEPS], replies[STEPS];
     long blocks_before = blocks, request = 1;
-    run_refused(0, plain);
-    while (run_refused(request, replies)) {
+    run_refused(0, plain, answers);
+    while (run_refused(request, replies, answers)) {
         for (int step = 0; step < STEPS; step++) {
             if (replies[step].status != plain[step].status || replies[step].number != plain[step].number) {
                 differs("refused", "another reply after memory was refused");
@@ -866,7 +901,8 @@ int main(int count, char **words) {
     run_threads(seed, sequences / 40 + 1);
     pass_on();
     printf("threads: %d with a handle each, and a handle that goes from one to another\n", THREADS);
-    refuse();
+    refuse(0);
+    refuse(STEPS);
     printf("%ld calls, %ld differ\n", calls, differing);
     return differing == 0 ? 0 : 1;
 }

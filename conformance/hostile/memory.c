@@ -74,15 +74,15 @@ static uint8_t grow_by_model(state *s, int i, uint64_t pages, bool by_answers) {
         return WASMI_OTHER_SIZE;
     if (by_answers)
         s->answers.asked = s->answers.told = 0;
+    uint64_t old = m->size / page_of(m);
+    if (pages != 0 && !in_bounds(m, (wide)old + pages))
+        return WASMI_MEMORY_GROWTH;
     if (!by_answers)
         written_back(&s->quota);
-    uint64_t old = m->size / page_of(m);
     if (pages == 0) {
         s->number = old;
         return WASMI_DONE;
     }
-    if (!in_bounds(m, (wide)old + pages))
-        return WASMI_MEMORY_GROWTH;
     size_t more = (size_t)pages * page_of(m);
     if (by_answers) {
         s->answers.asked = 1;
