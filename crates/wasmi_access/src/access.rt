@@ -151,16 +151,22 @@ pub trait LittleEndianConvert: Number {
     ghost is_as_wide: { Self.Bytes.LEN * 8 ≡ bits Self.width };
 }
 
-// The address of an access, where it is below 2 to the power 64.
-fn effective_address(ptr: u64, offset: u64) -> Result<usize, TrapCode>
+/// The address of an access, `ptr + offset`, if it is below 2 to the power 64.
+///
+/// The only error is `MemoryOutOfBounds`. Core specification, effective addresses under memory
+/// instructions.
+#[inline(always)]
+pub fn effective_address(ptr: u64, offset: u64) -> Result<usize, TrapCode>
     ensures { MatchResult result
         (λ address. address ≡ ptr + offset)
         (λ trap. (trap ≡ TrapCode.MemoryOutOfBounds) × (2 ^ 64 ≤ ptr + offset)) }
 {
-    match ptr.checked_add(offset) {
-        Some(address) => Ok(address as usize),
-        None => Err(TrapCode::MemoryOutOfBounds),
+    let address = ptr.wrapping_add(offset);
+    // A sum that wraps is below both numbers. In this form the compiler tests the carry.
+    if address < ptr {
+        return Err(TrapCode::MemoryOutOfBounds);
     }
+    Ok(address as usize)
 }
 
 /// The number at `ptr + offset`.

@@ -5,6 +5,7 @@ ghost use Rattle.wasmi_access.specs.LoadStore.{IsStore};
 ghost use Rattle.wasmi_ops.specs.ScalarAccessOps.{loaded_raw, stored_bytes};
 
 use crate::rows::{calls, names};
+use wasmi_access::access::effective_address;
 use wasmi_access::wasm;
 use wasmi_raw::{RawVal, ReadAs};
 use wasmi_types::TrapCode;
@@ -47,7 +48,13 @@ impl LoadOp {
     pub fn load(self, memory: &[u8], ptr: u64, offset: u64) -> Result<RawVal, TrapCode>
         ensures { result ≡ loaded_raw self memory.now (ptr + offset) }
     {
-        Ok(loads!(calls! self(memory, ptr, offset)))
+        // The address is tested once, and not in the arm of each load.
+        let address = effective_address(ptr, offset)?;
+        if address > memory.len() {
+            return Err(TrapCode::MemoryOutOfBounds);
+        }
+        let rest = &memory[address..];
+        Ok(loads!(calls! self(rest, 0, 0)))
     }
 }
 
@@ -88,6 +95,7 @@ impl StoreOp {
     ) -> Result<(), TrapCode>
         ensures { IsStore memory.old (ptr + offset) (stored_bytes self value) memory.new result }
     {
-        stores!(calls! self(memory, ptr, offset, value.read_as()))
+        let address = effective_address(ptr, offset)?;
+        stores!(calls! self(memory, address as u64, 0, value.read_as()))
     }
 }
