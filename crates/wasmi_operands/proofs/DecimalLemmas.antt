@@ -1,5 +1,7 @@
--- A word writes one limit at most.
-use Rattle.std.proofs.Common.{ℕ, ◌≡◌, ◌∙◌, List, Option, Some, None, true, false, bytes_eq, codes, cond, refl, sym, ap, rules, tests}
+-- The digits of a word, one by one, and that a word writes one limit at most.
+use Rattle.std.proofs.Common.{ℕ, zero, suc, ◌+◌, ◌<◌, ◌≡◌, ◌∙◌, List, [], ◌∷◌, Option, Some, None, true, false, arith, bytes_eq, codes, cond, get_or, length, refl, subst, sym, take, ap, rules, tests}
+use Rattle.std.specs.Char.{digit_value}
+use Rattle.std.specs.Str.Parse.{AllDigits}
 use Rattle.wasmi_operands.specs.Decimal.{IsDecimal, decimal_value, WritesLimit}
 
 -- the limit that a word writes
@@ -19,3 +21,17 @@ limit_is word (Some n) w = elim (bytes_eq word (codes "none")) as
 -- a limit is written by one word at most
 pub same_limit : (word : List ℕ) (a b : Option ℕ) → WritesLimit word a → WritesLimit word b → a ≡ b
 same_limit word a b v w = sym (limit_is word a v) ∙ limit_is word b w
+
+-- digits and the one behind them are digits
+digits_to : (word : List ℕ) (i : ℕ) → i < length word → AllDigits 10 (take i word)
+    → digit_value (get_or word i 0) < 10 → AllDigits 10 (take (suc i) word)
+digits_to [] i inside digits digit = absurd (omega arith)
+digits_to (c ∷ cs) zero inside digits digit = (digit, tt)
+digits_to (c ∷ cs) (suc i) inside digits digit = (digits.0, digits_to cs i (omega arith) digits.1 digit)
+
+-- the same, with the end as a loop over the word has it
+pub digits_more : (word : List ℕ) (i : ℕ) → i < length word → AllDigits 10 (take i word)
+    → digit_value (get_or word i 0) < 10 → AllDigits 10 (take (i + 1) word)
+digits_more word i inside digits digit =
+    let next : suc i ≡ i + 1 = omega arith in
+    subst (λ end. AllDigits 10 (take end word)) next (digits_to word i inside digits digit)

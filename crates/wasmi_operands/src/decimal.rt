@@ -1,5 +1,8 @@
 //! Words as numbers in decimal digits.
-ghost use Rattle.std.specs.Prelude.{◌≡◌, ◌<◌, ◌^◌, IfErr, IfOk, Err, Ok};
+ghost use Rattle.std.specs.Char.{digit_value};
+ghost use Rattle.std.specs.Int.{IsInRange};
+ghost use Rattle.std.specs.Prelude.{◌≡◌, ◌+◌, ◌*◌, ◌<◌, ◌^◌, IfErr, IfOk, Err, Ok};
+ghost use Rattle.std.specs.Option.{SomeIff};
 ghost use Rattle.std.specs.Result.{OkIff};
 ghost use Rattle.wasmi_operands.specs.Acceptance.{Accepts};
 ghost use Rattle.wasmi_operands.specs.Decimal.{IsDecimal, WritesLimit, decimal_value};
@@ -36,11 +39,29 @@ fn decimal(word: &str) -> Result<u64, LineError>
         (decimal_value word.now) }
     ensures refused { IfErr result (λ error. error ≡ LineError.BadCommand) }
 {
-    if word.starts_with('+') {
+    if word.is_empty() {
         return Err(LineError::BadCommand);
     }
-    match word.parse::<u64>() {
-        Ok(number) => Ok(number),
-        Err(_) => Err(LineError::BadCommand),
+    let mut number = 0;
+    for digit in word.as_bytes() {
+        let Some(longer) = appended(number, *digit) else {
+            return Err(LineError::BadCommand);
+        };
+        number = longer;
     }
+    Ok(number)
+}
+
+/// The number with one more digit, if the byte is a digit and the result is below 2^64.
+#[inline(always)]
+fn appended(number: u64, byte: u8) -> Option<u64>
+    ensures { SomeIff result
+        (IsInRange 48 57 byte × (number * 10 + digit_value byte < 2 ^ 64))
+        (number * 10 + digit_value byte) }
+{
+    let digit = byte.wrapping_sub(b'0');
+    if digit > 9 {
+        return None;
+    }
+    number.checked_mul(10)?.checked_add(digit as u64)
 }

@@ -1,31 +1,59 @@
-use Rattle.std.proofs.Common.{◌≡◌, ◌≢◌, get_or, arith, rules, tests, Ok, Err}
+use Rattle.std.proofs.Common.{◌≡◌, ◌∙◌, ◌+◌, ◌<◌, ◌≤◌, ap, arith, get_or, length, rules, subst, tests}
 use Rattle.std.specs.Str.Parse.{AllDigits, digits_value}
-use Rattle.std.proofs.lemmas.Str.Parse.{IsNumeralModel, numerals_by_value, tells_digits, parse_plain, digit_at}
+use Rattle.std.proofs.lemmas.Int.Digits.{digits_value_more}
+use Rattle.std.proofs.lemmas.List.{take_all}
+use Rattle.std.proofs.lemmas.Str.{digit_value_digit}
+use Rattle.std.proofs.lemmas.Str.Parse.{digit_at, digits_value-take-le}
 use Rattle.wasmi_operands.specs.Decimal.{IsDecimal, decimal_value}
+use Rattle.wasmi_operands.proofs.DecimalLemmas.{digits_more}
 use Rattle.wasmi_operands.proofs.decimal.decimal.Goals as goal
 
-by_digits : IsNumeralModel (AllDigits 10) (digits_value 10)
-by_digits = numerals_by_value _ tells_digits
-
-pub returns-then-starts_with-clause-value : goal.returns-then-starts_with-clause-value
+pub returns-then-is_empty-clause-value : goal.returns-then-is_empty-clause-value
 unfolding IsDecimal
-returns-then-starts_with-clause-value c h =
-    let starts = c.starts_with.ensures.byte (omega arith) (omega arith) (λ w o m. m) in
-    let sign : get_or c.args.word.now 0 0 ≡ 43 = search (rules, tests, starts, c.if-starts_with.true) in
-    omega (arith, digit_at c.args.word.now 0 h.0.1 h.0.0)
+returns-then-is_empty-clause-value c h =
+    let none : length c.args.word.now ≡ 0 = search (rules, tests, c.is_empty.ensures, c.if-is_empty.true) in
+    omega (arith, h.0.0)
 
-pub returns-in-Ok-clause-value : goal.returns-in-Ok-clause-value
+pub returns-in_default-clause-value : goal.returns-in_default-clause-value
 unfolding IsDecimal decimal_value
-returns-in-Ok-clause-value c =
-    let starts = c.starts_with.ensures.byte (omega arith) (omega arith) (λ w o m. m) in
-    let plain : get_or c.args.word.now 0 0 ≢ 43 = λ p. search (rules, tests, starts, c.if-starts_with.false) in
-    let (taken, same) =
-    parse_plain by_digits {E = Unit {0}} 64 c.args.word.now (Ok c.in-Ok.number) c.in-Ok.ensures.value.0 plain in
-    (((taken.1, taken.0), taken.2), same)
+returns-in_default-clause-value c h =
+    let word = c.args.word.now in
+    let i = c.loop-digit.digit-index in
+    let inside = subst (λ bytes. i < length bytes) c.as_bytes-digit-items.ensures.value c.loop-digit-test.true in
+    let none = rw c.as_bytes-digit-items.ensures.value at c.in_default.ensures in
+    let digit = digit_at word i h.0.1 inside in
+    none (
+      digit,
+      omega (
+        arith,
+        digits_value_more 10 word i inside,
+        c.loop-digit.invariant.1,
+        h.1,
+        digits_value-take-le 10 word (i + 1) (omega arith),
+      ),
+    )
 
-pub returns-in-Err-clause-value : goal.returns-in-Err-clause-value
+pub loop-digit-preserved : goal.loop-digit-preserved
+loop-digit-preserved c =
+    let word = c.args.word.now in
+    let inside = subst (λ bytes. c.loop-digit.digit-index < length bytes) c.as_bytes-digit-items.ensures.value
+    c.loop-digit-test.true in
+    let longer = rw c.as_bytes-digit-items.ensures.value at c.in-Some.ensures in
+    let worth = digit_value_digit (get_or word c.loop-digit.digit-index 0) longer.0.0 in (
+      digits_more word c.loop-digit.digit-index inside c.loop-digit.invariant.0 (omega (arith, worth, longer.0.0)),
+      omega (arith, digits_value_more 10 word c.loop-digit.digit-index inside, c.loop-digit.invariant.1, longer.1),
+      omega (arith, longer.0.1, longer.1),
+    )
+
+pub returns-clause-value : goal.returns-clause-value
 unfolding IsDecimal decimal_value
-returns-in-Err-clause-value c h =
-    let starts = c.starts_with.ensures.byte (omega arith) (omega arith) (λ w o m. m) in
-    let plain : get_or c.args.word.now 0 0 ≢ 43 = λ p. search (rules, tests, starts, c.if-starts_with.false) in
-    parse_plain by_digits 64 c.args.word.now (Err c.in-Err.field-0) c.in-Err.ensures.value.0 plain (h.0.1, h.0.0, h.1)
+returns-clause-value c =
+    let word = c.args.word.now in
+    let i = c.loop-digit.digit-index in
+    let ended = subst (λ bytes. length bytes ≤ i) c.as_bytes-digit-items.ensures.value c.loop-digit-test.false in
+    let whole = take_all i word ended in
+    let digits = subst (AllDigits 10) whole c.loop-digit.invariant.0 in
+    let value : c.loop-digit.number ≡ digits_value 10 word =
+    c.loop-digit.invariant.1 ∙ ap (digits_value 10) whole in
+    let some : 0 < length word = search (rules, tests, c.is_empty.ensures, c.if-is_empty.false) in
+    (((some, digits), omega (arith, value, c.loop-digit.invariant.2)), value)
