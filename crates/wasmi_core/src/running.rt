@@ -7,6 +7,7 @@ ghost use Rattle.wasmi_core.specs.World.{world};
 ghost use Rattle.wasmi_core.specs.Runs.{IsRunOf};
 ghost use Rattle.wasmi_core.specs.Steps.{Answers};
 ghost use Rattle.wasmi_core.specs.Totals.{HoldsTotals};
+ghost use Rattle.wasmi_core.specs.declared.calls.Call.TheVariants.{GrowMemory};
 
 use crate::calls::{Call, Reply};
 use crate::machine::Machine;
@@ -29,6 +30,48 @@ impl<'r> Machine<'r> {
     {
         call.tell_valid();
         self.store.step(call, limiter)
+    }
+
+    /// Grows a memory by so many pages, as `step` does for `Call::GrowMemory`. The reply is
+    /// `Number` with the old size in pages, `NoSuch` if there is no such memory, or `Memory` with
+    /// an error of [`wasmi_store::LinearMemory::grow`].
+    ///
+    /// Own: upstream's interpreter has the memory itself.
+    #[inline(always)]
+    pub fn grow_memory<L: ResourceLimiter>(
+        &mut self,
+        memory: usize,
+        pages: u64,
+        limiter: &mut ResourceLimiterRef<L>,
+    ) -> Reply
+        ensures loan { KeepsLoan limiter.old limiter.new }
+        ensures step { Answers (optional_rules L.rules) (GrowMemory memory pages)
+            (world self.old (lent_limiter limiter.old)) result
+            (world self.new (lent_limiter limiter.new)) }
+        ensures valid { IsValid self.new }
+    {
+        self.store.grow_memory(memory, pages, limiter)
+    }
+
+    /// Grows a memory, as `grow_memory`, but borrows the limiter for this call alone, so that its
+    /// state afterwards is known.
+    #[inline(always)]
+    pub fn grow_memory_lending<L: ResourceLimiter>(
+        &mut self,
+        memory: usize,
+        pages: u64,
+        limiter: &mut L,
+    ) -> Reply
+        ensures step { Answers (optional_rules L.rules) (GrowMemory memory pages)
+            (world self.old (Some limiter.old)) result (world self.new (Some limiter.new)) }
+        ensures valid { IsValid self.new }
+    {
+        let mut lent = ResourceLimiterRef::from(limiter);
+        let reply = self.grow_memory(memory, pages, &mut lent);
+        let Some(_limiter) = lent.into_resource_limiter() else {
+            unreachable!()
+        };
+        reply
     }
 
     /// Executes one call, as `step`, but borrows the limiter for this call alone, so that its state

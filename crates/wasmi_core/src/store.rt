@@ -55,6 +55,7 @@ impl<'r> Store<'r> {
     ghost use Rattle.wasmi_core.specs.State.{with_memories};
     ghost use Rattle.wasmi_core.specs.Steps.{Answers, AnswersAlone, subject_of, Memories, Tables, RegisterFile, Vectors};
     ghost use Rattle.wasmi_core.specs.World.{world};
+    ghost use Rattle.wasmi_core.specs.declared.calls.Call.TheVariants.{GrowMemory};
     ghost use Rattle.wasmi_ops.specs.ScalarAccessOps.{stored_bytes};
 
     fn set_fuel(&mut self, fuel: u64) -> Reply
@@ -87,6 +88,22 @@ impl<'r> Store<'r> {
         ensures rest { self.new ≡ with_memories self.old self.new.memories }
     {
         self.memories.store(op, memory, ptr, offset, value)
+    }
+
+    /// Grows a memory by so many pages.
+    #[inline(always)]
+    pub(crate) fn grow_memory<L: ResourceLimiter>(
+        &mut self,
+        memory: usize,
+        pages: u64,
+        limiter: &mut ResourceLimiterRef<L>,
+    ) -> Reply
+        ensures loan { KeepsLoan limiter.old limiter.new }
+        ensures step { Answers (optional_rules L.rules) (GrowMemory memory pages)
+            (world self.old (lent_limiter limiter.old)) result
+            (world self.new (lent_limiter limiter.new)) }
+    {
+        self.memories.grow(memory, pages, &mut self.fuel, limiter)
     }
 
     /// Executes one call.
@@ -150,9 +167,7 @@ impl<'r> Store<'r> {
         match call {
             Call::NewMemory(ty) => self.memories.create(self.alloc, *ty, limiter),
             Call::NewLentMemory(ty) => self.memories.create_lent(*ty, &mut self.spare, limiter),
-            Call::GrowMemory { memory, pages } => {
-                self.memories.grow(*memory, *pages, &mut self.fuel, limiter)
-            }
+            Call::GrowMemory { memory, pages } => self.grow_memory(*memory, *pages, limiter),
             Call::DropMemory(memory) => self.memories.drop_live(*memory),
             Call::Read {
                 memory,
