@@ -9,7 +9,6 @@ ghost use Rattle.wasmi_guest.specs.Replies.{no_machine_status};
 
 use crate::handle::Handle;
 use crate::status::NO_MACHINE;
-use wasmi_core::Call;
 
 /// Loads an item of a memory from `ptr + offset`, by the load that has the number, and sets `value`
 /// to it. The status is `NO_MACHINE` if the handle has no machine, then `NO_CALL` if no load of an
@@ -102,7 +101,7 @@ pub extern "C" fn wasmi_machine_grow(
         return NO_MACHINE;
     }
     let guest = handle.guest.guest_mut();
-    let status = guest.reply_in_word(&Call::GrowMemory { memory, pages }, number);
+    let status = guest.grow(memory, pages, number);
     guest.tell_within();
     status
 }

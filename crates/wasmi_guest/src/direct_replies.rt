@@ -3,7 +3,7 @@ ghost use Rattle.std.specs.Prelude.{◌≡◌, ◌+◌, Some};
 ghost use Rattle.wasmi_core.specs.FuelEffects.{get_fuel_reply};
 ghost use Rattle.wasmi_core.specs.MemoryEffects.{load_reply};
 ghost use Rattle.wasmi_core.specs.State.{live_at};
-ghost use Rattle.wasmi_core.specs.declared.calls.Call.TheVariants.{GetFuel, Store};
+ghost use Rattle.wasmi_core.specs.declared.calls.Call.TheVariants.{GetFuel, GrowMemory, Store};
 ghost use Rattle.wasmi_core.specs.declared.calls.Reply.TheVariants.{Memory};
 ghost use Rattle.wasmi_guest.specs.Caps.{caps_of};
 ghost use Rattle.wasmi_guest.specs.DirectCalls.{RepliesInStatus, RepliesInWord, item_load, item_store, status_of, vector_binary, word_after};
@@ -15,6 +15,7 @@ use crate::instructions::{binary_at, load_at, store_at};
 use crate::plain::PlainReply;
 use crate::replies::{fuel_refusal, memory_refusal};
 use crate::status::{DONE, NO_CALL, NO_SUCH};
+use crate::stepping::grow_memory;
 use wasmi_core::{Call, Reply};
 use wasmi_meter::MemoryError;
 use wasmi_ops::{LoadOp, StoreOp};
@@ -118,9 +119,38 @@ impl Guest {
         self.reply_in_word(&Call::Binary { op, dst, a, b }, &mut 0)
     }
 
+    /// Grows a memory by so many pages, and leaves a status and a word of the reply.
+    #[inline(always)]
+    pub fn grow(&mut self, memory: usize, pages: u64, number: &mut u64) -> u8
+        ensures step { RepliesInWord (Some (GrowMemory memory pages)) number.old self.old
+            (result, number.new) self.new }
+        ensures caps { caps_of self.new.limiter ≡ caps_of self.old.limiter }
+    {
+        if let GuestLimiter::Answers(_) = &self.limiter {
+            return self.reply_under_answers(&Call::GrowMemory { memory, pages }, number);
+        }
+        match self.grow_memory(memory, pages) {
+            Reply::Number(size) => {
+                *number = size;
+                DONE
+            }
+            Reply::Memory(error) => leave_refusal(error, number),
+            other => leave(&other, number),
+        }
+    }
+
+    /// Grows a memory by so many pages.
+    #[inline(always)]
+    fn grow_memory(&mut self, memory: usize, pages: u64) -> Reply
+        ensures step { GuestReplies (GrowMemory memory pages) self.old result self.new }
+        ensures caps { caps_of self.new.limiter ≡ caps_of self.old.limiter }
+    {
+        grow_memory(&mut self.machine, memory, pages, &mut self.limiter)
+    }
+
     /// Replies to a call with a status and a word.
     #[inline(always)]
-    pub fn reply_in_word(&mut self, call: &Call, word: &mut u64) -> u8
+    fn reply_in_word(&mut self, call: &Call, word: &mut u64) -> u8
         ensures step { RepliesInWord (Some call.now) word.old self.old (result, word.new) self.new }
         ensures caps { caps_of self.new.limiter ≡ caps_of self.old.limiter }
     {
