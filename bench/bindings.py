@@ -1,14 +1,15 @@
 """Times the Rust bindings beside the Rust crate, and prints three tables. usage: bindings.py CRATE FOLDER
 
 CRATE is the folder of the source of the Rust crate wasmi_core 2.0.0. The program is built in FOLDER, over the bindings in
-bindings/rust, whose libraries have to be there. It is linked several times, with the functions at other places, and a cell
-is the least time of these links: a call of 5 ns takes up to half as long again where a jump ends at a multiple of 32 bytes."""
+bindings/rust, whose libraries have to be there. It is linked several times, with the functions in other orders, and a cell is
+the least time of these links: a call of 5 ns takes up to half as long again where a jump of it, or of the loop that makes it,
+ends at a multiple of 32 bytes."""
 import os
 import subprocess
 import sys
 
 TOP = os.path.dirname(os.path.dirname(os.path.realpath(__file__)))
-SKIPS = (0, 16, 32, 48) * 2
+LINKS = 32
 TABLES = {
     "plain": "by handle, plain arguments, ns a call | crate's machine | **here** | here / crate | by the bindings",
     "struct": "by handle, a struct, ns a call | crate's machine | **here** | here / crate | by the bindings",
@@ -46,8 +47,9 @@ def main(crate, folder):
     doc = subprocess.run(["rt", "doc"], capture_output=True, text=True, check=True).stdout.strip()
     words = ["cargo", "run", "--quiet", "--release", "--offline"]
     runs = []
-    for skip in SKIPS:
-        environment = dict(os.environ, RATTLE_C=f"{os.path.dirname(doc)}/c", BENCH_SKIP=str(skip))
+    for link in range(LINKS):
+        order = f"-Clink-arg=-Wl,--shuffle-sections=.text*={link + 1}"
+        environment = dict(os.environ, RATTLE_C=f"{os.path.dirname(doc)}/c", CARGO_ENCODED_RUSTFLAGS=order)
         run = subprocess.run(words, cwd=folder, env=environment, stdout=subprocess.PIPE, text=True)
         if run.returncode:
             return run.returncode

@@ -15,9 +15,6 @@ use wasmi_core_proved as here;
 const CALLS: usize = 1000;
 const GROWTHS: usize = 16;
 const REGION: usize = GROWTHS << 16;
-// So many bytes stand in front of the functions, so that they begin at other places of a line of 32 bytes.
-std::arch::global_asm!(".section .text.bench_skip, \"axR\", @progbits", concat!(".skip ", env!("BENCH_SKIP"), ", 0x90"));
-
 /// The number of `i8x16_add`.
 const ADD: u16 = 54;
 
