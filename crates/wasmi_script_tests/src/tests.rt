@@ -51,7 +51,6 @@ mod streams;
 mod tables;
 mod tenants;
 mod values;
-mod vector_names;
 mod vectors;
 mod writing;
 

@@ -194,7 +194,9 @@ fn segment_of(rt: &impl Abort, alloc: Global, ty: RefType, items: [RawRef; 3]) -
 
 /// Compares the first five elements of a table of functions.
 fn same_elements(rt: &impl Abort, what: &str, table: &Table, expected: [u32; 5]) {
-    for (index, bits) in (0u64..5).zip(expected) {
-        same(rt, what, table.get(index), Some(func(bits)));
+    for index in 0..5u32 {
+        let bits = expected[index as usize];
+        let element = table.get(u64::from(index));
+        same(rt, what, element, Some(func(bits)));
     }
 }

@@ -1,6 +1,6 @@
 //! Loads and stores of numbers, up to the last byte and past it.
 
-use super::{same, same_rows};
+use super::{REFUSED, SEVENS, check_loads, check_stores, same, same_rows};
 use std::fmt::Debug;
 use std::process::Abort;
 use wasmi_access::access::{
@@ -9,53 +9,51 @@ use wasmi_access::access::{
 };
 use wasmi_access::laws::*;
 use wasmi_access::wasm::*;
-use wasmi_types::TrapCode;
-
-const REFUSED: TrapCode = TrapCode::MemoryOutOfBounds;
 
 const ONES: [u8; 16] = [255; 16];
-
-const SEVENS: [u8; 16] = [7; 16];
 
 /// A load of 16 bytes 255, plainly and at an address, gives `$value` at `$last`, the last address
 /// that fits. It is refused one past it, and at sums of 2 to the power 64 or more.
 macro_rules! loads {
-    ($rt:expr; $plain:ident, $at:ident, $last:expr, $value:expr) => {
-        let answers = [$plain(&ONES, $last, 0), $at(&ONES, $last)];
-        same($rt, stringify!($plain), answers, [Ok($value); 2]);
-        let past_the_end = [
-            $plain(&ONES, $last, 1),
-            $plain(&ONES, u64::MAX, 1),
-            $plain(&ONES, u64::MAX, u64::MAX),
-            $at(&ONES, $last + 1),
-            $at(&ONES, usize::MAX),
+    ($rt:expr, $ones:expr; $plain:ident, $at:ident, $last:expr, $value:expr) => {
+        let answers = [
+            $plain($ones, $last, 0),
+            $at($ones, $last),
+            $plain($ones, $last, 1),
+            $plain($ones, u64::MAX, 1),
+            $plain($ones, u64::MAX, u64::MAX),
+            $at($ones, $last + 1),
+            $at($ones, usize::MAX),
         ];
-        same($rt, stringify!($plain), past_the_end, [Err(REFUSED); 5]);
+        check_loads($rt, stringify!($plain), answers, $value);
     };
 }
 
 #[test]
 fn i32_loads_reach_the_last_byte_and_no_further(rt: HostRuntime) {
-    loads!(&rt; i32_load8_s, i32_load8_s_at, 15, -1);
-    loads!(&rt; i32_load8_u, i32_load8_u_at, 15, 255);
-    loads!(&rt; i32_load16_s, i32_load16_s_at, 14, -1);
-    loads!(&rt; i32_load16_u, i32_load16_u_at, 14, 65535);
-    loads!(&rt; load_u32, load_u32_at, 12, u32::MAX);
+    let ones = ONES.as_slice();
+    loads!(&rt, ones; i32_load8_s, i32_load8_s_at, 15, -1);
+    loads!(&rt, ones; i32_load8_u, i32_load8_u_at, 15, 255);
+    loads!(&rt, ones; i32_load16_s, i32_load16_s_at, 14, -1);
+    loads!(&rt, ones; i32_load16_u, i32_load16_u_at, 14, 65535);
+    loads!(&rt, ones; load_u32, load_u32_at, 12, u32::MAX);
 }
 
 #[test]
 fn short_i64_loads_reach_the_last_byte_and_no_further(rt: HostRuntime) {
-    loads!(&rt; i64_load8_s, i64_load8_s_at, 15, -1);
-    loads!(&rt; i64_load8_u, i64_load8_u_at, 15, 255);
-    loads!(&rt; i64_load16_s, i64_load16_s_at, 14, -1);
-    loads!(&rt; i64_load16_u, i64_load16_u_at, 14, 65535);
+    let ones = ONES.as_slice();
+    loads!(&rt, ones; i64_load8_s, i64_load8_s_at, 15, -1);
+    loads!(&rt, ones; i64_load8_u, i64_load8_u_at, 15, 255);
+    loads!(&rt, ones; i64_load16_s, i64_load16_s_at, 14, -1);
+    loads!(&rt, ones; i64_load16_u, i64_load16_u_at, 14, 65535);
 }
 
 #[test]
 fn long_i64_loads_reach_the_last_byte_and_no_further(rt: HostRuntime) {
-    loads!(&rt; i64_load32_s, i64_load32_s_at, 12, -1);
-    loads!(&rt; i64_load32_u, i64_load32_u_at, 12, 4294967295);
-    loads!(&rt; load_u64, load_u64_at, 8, u64::MAX);
+    let ones = ONES.as_slice();
+    loads!(&rt, ones; i64_load32_s, i64_load32_s_at, 12, -1);
+    loads!(&rt, ones; i64_load32_u, i64_load32_u_at, 12, 4294967295);
+    loads!(&rt, ones; load_u64, load_u64_at, 8, u64::MAX);
 }
 
 const STORED_8: [u8; 16] = [7, 7, 7, 7, 7, 7, 7, 7, 7, 7, 7, 7, 7, 7, 7, 1];
@@ -72,18 +70,19 @@ const STORED_64: [u8; 16] = [7, 7, 7, 7, 7, 7, 7, 7, 1, 2, 3, 4, 5, 6, 7, 8];
 macro_rules! stores {
     ($rt:expr; $plain:ident, $at:ident, $last:expr, $value:expr, $stored:expr) => {{
         let mut untouched = SEVENS;
-        let mut stored = SEVENS;
-        let mut stored_at = SEVENS;
-        answers!($rt;
-            $plain(&mut untouched, $last, 1, $value) => Err(REFUSED),
-            $plain(&mut untouched, u64::MAX, 1, $value) => Err(REFUSED),
-            $plain(&mut untouched, u64::MAX, u64::MAX, $value) => Err(REFUSED),
-            $at(&mut untouched, $last + 1, $value) => Err(REFUSED),
-            $at(&mut untouched, usize::MAX, $value) => Err(REFUSED),
-            $plain(&mut stored, $last, 0, $value) => Ok(()),
-            $at(&mut stored_at, $last, $value) => Ok(()),
-        );
-        answers!($rt; untouched => SEVENS, stored => $stored, stored_at => $stored);
+        let mut stored = untouched;
+        let mut stored_at = untouched;
+        let answers = [
+            $plain(&mut untouched, $last, 1, $value),
+            $plain(&mut untouched, u64::MAX, 1, $value),
+            $plain(&mut untouched, u64::MAX, u64::MAX, $value),
+            $at(&mut untouched, $last + 1, $value),
+            $at(&mut untouched, usize::MAX, $value),
+            $plain(&mut stored, $last, 0, $value),
+            $at(&mut stored_at, $last, $value),
+        ];
+        let left = [untouched, stored, stored_at];
+        check_stores($rt, stringify!($plain), answers, left, $stored);
     }};
 }
 
@@ -134,8 +133,9 @@ fn one_page(rt: HostRuntime) {
         i32_store8(&mut page, 0, 0, 300) => Ok(()),
         store32(&mut page, 4, 0, 0x1234_5678) => Ok(()),
     );
-    answers!(&rt; i32_load8_u(&page, 0, 0) => Ok(44));
-    answers!(&rt; page.get(4..8) => Some([0x78, 0x56, 0x34, 0x12].as_slice()));
+    same(&rt, "load", i32_load8_u(&page, 0, 0), Ok(44));
+    let bytes = [0x78, 0x56, 0x34, 0x12];
+    same(&rt, "bytes", page.get(4..8), Some(bytes.as_slice()));
 }
 
 /// A value stored and loaded through the bound, plainly and at an address.
@@ -182,17 +182,13 @@ where
     U: LittleEndianConvert + ExtendInto<T>,
 {
     let mut memory = [0u8; 8];
+    let stored = store_wrap::<T, U>(&mut memory, 1, 0, value);
+    let loaded = load_extend::<T, U>(&memory, 0, 1);
     same(
         rt,
-        "store_wrap",
-        store_wrap::<T, U>(&mut memory, 1, 0, value),
-        Ok(()),
-    );
-    same(
-        rt,
-        "load_extend",
-        load_extend::<T, U>(&memory, 0, 1),
-        Ok(read),
+        "store_wrap, load_extend",
+        (stored, loaded),
+        (Ok(()), Ok(read)),
     );
 }
 
@@ -205,32 +201,52 @@ fn wrapped_and_extended(rt: HostRuntime) {
     wrapped_and_read::<i64, i32>(&rt, 0x1_8000_0000, -2147483648);
 }
 
-/// A store to 16 bytes 7, then each load of the same width at the same address.
-macro_rules! store_then_loads {
-    ($rt:expr; $store:ident, $value:expr; $($load:ident => $read:expr),+) => {{
-        let mut memory = SEVENS;
-        answers!($rt; $store(&mut memory, 3, 1, $value) => Ok(()));
-        answers!($rt; $($load(&memory, 4, 0) => Ok($read),)+);
-    }};
-}
+// A store to 16 bytes 7, then each load of the same width at the same address.
 
 #[test]
 fn i32_stores_then_loads(rt: HostRuntime) {
-    store_then_loads!(&rt; i32_store8, 384; i32_load8_s => -128, i32_load8_u => 128);
-    store_then_loads!(&rt; i32_store16, -1; i32_load16_s => -1, i32_load16_u => 65535);
-    store_then_loads!(&rt; store32, u32::MAX - 5; load_u32 => u32::MAX - 5);
+    let sevens = SEVENS;
+    let mut memory = sevens;
+    let store_8 = i32_store8(&mut memory, 3, 1, 384);
+    let loads_8 = [i32_load8_s(&memory, 4, 0), i32_load8_u(&memory, 4, 0)];
+    memory = sevens;
+    let store_16 = i32_store16(&mut memory, 3, 1, -1);
+    let loads_16 = [i32_load16_s(&memory, 4, 0), i32_load16_u(&memory, 4, 0)];
+    memory = sevens;
+    let store_32 = store32(&mut memory, 3, 1, u32::MAX - 5);
+    let load_32 = load_u32(&memory, 4, 0);
+    same(&rt, "stores", [store_8, store_16, store_32], [Ok(()); 3]);
+    same(&rt, "loads of 8 bits", loads_8, [Ok(-128), Ok(128)]);
+    same(&rt, "loads of 16 bits", loads_16, [Ok(-1), Ok(65535)]);
+    same(&rt, "load_u32", load_32, Ok(u32::MAX - 5));
 }
 
 #[test]
 fn short_i64_stores_then_loads(rt: HostRuntime) {
-    store_then_loads!(&rt; i64_store8, 255; i64_load8_s => -1, i64_load8_u => 255);
-    store_then_loads!(&rt; i64_store16, 65536; i64_load16_s => 0, i64_load16_u => 0);
+    let sevens = SEVENS;
+    let mut memory = sevens;
+    let store_8 = i64_store8(&mut memory, 3, 1, 255);
+    let loads_8 = [i64_load8_s(&memory, 4, 0), i64_load8_u(&memory, 4, 0)];
+    memory = sevens;
+    let store_16 = i64_store16(&mut memory, 3, 1, 65536);
+    let loads_16 = [i64_load16_s(&memory, 4, 0), i64_load16_u(&memory, 4, 0)];
+    same(&rt, "stores", [store_8, store_16], [Ok(()); 2]);
+    same(&rt, "loads of 8 bits", loads_8, [Ok(-1), Ok(255)]);
+    same(&rt, "loads of 16 bits", loads_16, [Ok(0), Ok(0)]);
 }
 
 #[test]
 fn long_i64_stores_then_loads(rt: HostRuntime) {
-    store_then_loads!(&rt; i64_store32, -2; i64_load32_s => -2, i64_load32_u => 4294967294);
-    store_then_loads!(&rt; store64, u64::MAX - 5; load_u64 => u64::MAX - 5);
+    let sevens = SEVENS;
+    let mut memory = sevens;
+    let store_32 = i64_store32(&mut memory, 3, 1, -2);
+    let loads_32 = [i64_load32_s(&memory, 4, 0), i64_load32_u(&memory, 4, 0)];
+    memory = sevens;
+    let store_64 = store64(&mut memory, 3, 1, u64::MAX - 5);
+    let load_64 = load_u64(&memory, 4, 0);
+    same(&rt, "stores", [store_32, store_64], [Ok(()); 2]);
+    same(&rt, "loads of 32 bits", loads_32, [Ok(-2), Ok(4294967294)]);
+    same(&rt, "load_u64", load_64, Ok(u64::MAX - 5));
 }
 
 #[test]

@@ -88,13 +88,14 @@ fn integers_have_lanes(rt: HostRuntime) {
 }
 
 /// The lane of `VECTOR` at an index.
-fn read<L>(index: u8) -> Result<L::Item, OutOfBoundsLaneIdx>
+fn read<L>(index: u8) -> Result<i128, OutOfBoundsLaneIdx>
 where
     L: Lanes,
+    L::Item: Into<i128>,
     L::LaneIdx: TryFrom<u8, Error = OutOfBoundsLaneIdx>,
 {
     let lane = L::LaneIdx::try_from(index)?;
-    Ok(lanes::<L>(VECTOR).extract_lane(lane))
+    Ok(lanes::<L>(VECTOR).extract_lane(lane).into())
 }
 
 #[test]
@@ -117,8 +118,6 @@ fn lanes_are_read_at_their_index(rt: HostRuntime) {
         read::<I8x16>(14) => Ok(-31),
         read::<I8x16>(15) => Ok(-16),
         read::<I8x16>(16) => Err(OutOfBoundsLaneIdx),
-    );
-    answers!(&rt;
         read::<U16x8>(0) => Ok(0x1e0f),
         read::<U16x8>(1) => Ok(0x3c2d),
         read::<U16x8>(2) => Ok(0x5a4b),
@@ -127,14 +126,10 @@ fn lanes_are_read_at_their_index(rt: HostRuntime) {
         read::<U16x8>(5) => Ok(0xb4a5),
         read::<U16x8>(6) => Ok(0xd2c3),
         read::<U16x8>(7) => Ok(0xf0e1),
-    );
-    answers!(&rt;
         read::<I32x4>(0) => Ok(1009589775),
         read::<I32x4>(1) => Ok(2020170315),
         read::<I32x4>(2) => Ok(-1264216441),
         read::<I32x4>(3) => Ok(-253635901),
-    );
-    answers!(&rt;
         read::<U64x2>(0) => Ok(0x78695a4b_3c2d1e0f),
         read::<U64x2>(1) => Ok(0xf0e1d2c3_b4a59687),
     );

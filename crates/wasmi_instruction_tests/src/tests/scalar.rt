@@ -274,6 +274,7 @@ where
 fn integers(rt: HostRuntime) {
     through_the_bound(&rt, 6i32, 2, 3);
     through_the_bound(&rt, 6i64, 2, 3);
-    answers!(&rt; extended_through_the_bound::<i32, i8>(0x1ff) => -1);
-    answers!(&rt; extended_through_the_bound::<i64, i32>(0x1_7fff_ffff) => 0x7fff_ffff);
+    let short = extended_through_the_bound::<i32, i8>(0x1ff);
+    let long = extended_through_the_bound::<i64, i32>(0x1_7fff_ffff);
+    same(&rt, "extended", (short, long), (-1, 0x7fff_ffff));
 }

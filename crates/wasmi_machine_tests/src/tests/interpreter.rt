@@ -3,7 +3,6 @@ use super::{
     StaticCall, StaticReply, Step, memory_size, metered, runs_to, runs_under, same, unmetered,
 };
 use std::process::Abort;
-use std::test::Fail;
 use wasmi_core::{Machine, NoLimits, Quota, RawVal, Reply, ResourceLimiter, TrapCode};
 use wasmi_uses::interpreter::{Ending, Instruction, Outcome, execute};
 
@@ -45,7 +44,7 @@ static FACTORIAL: [Instruction; 7] = [
 ];
 
 #[test]
-fn a_factorial(rt: HostRuntime) -> Result<(), Fail> {
+fn a_factorial(rt: HostRuntime) {
     let mut machine = unmetered(rt.alloc());
     let expected = Outcome {
         ending: Some(Ending::Returned(RawVal::from(2432902008176640000u64))),
@@ -53,7 +52,7 @@ fn a_factorial(rt: HostRuntime) -> Result<(), Fail> {
         executed: 63,
     };
     ends(&rt, &FACTORIAL, &mut machine, &mut NoLimits, expected);
-    Ok(())
+    drop(machine);
 }
 
 static FUEL: [Step; 1] = [(StaticCall::SetFuel(100), StaticReply::Done)];
@@ -63,24 +62,24 @@ static LEFT: [Step; 1] = [(StaticCall::GetFuel, StaticReply::Number(36))];
 static SPENT: [Step; 1] = [(StaticCall::GetFuel, StaticReply::Number(0))];
 
 #[test]
-fn each_instruction_is_charged(rt: HostRuntime) -> Result<(), Fail> {
+fn each_instruction_is_charged(rt: HostRuntime) {
     let mut machine = metered(rt.alloc());
-    runs_to(&rt, &mut machine, &FUEL)?;
+    runs_to(&rt, &mut machine, &FUEL);
     let returned = Outcome {
         ending: Some(Ending::Returned(RawVal::from(2432902008176640000u64))),
         place: 6,
         executed: 63,
     };
     ends(&rt, &FACTORIAL, &mut machine, &mut NoLimits, returned);
-    runs_to(&rt, &mut machine, &LEFT)?;
+    runs_to(&rt, &mut machine, &LEFT);
     let out_of_fuel = Outcome {
         ending: Some(Ending::OutOfFuel),
         place: 3,
         executed: 36,
     };
     ends(&rt, &FACTORIAL, &mut machine, &mut NoLimits, out_of_fuel);
-    runs_to(&rt, &mut machine, &SPENT)?;
-    Ok(())
+    runs_to(&rt, &mut machine, &SPENT);
+    drop(machine);
 }
 
 /// Moves the address of `CHECKSUM` to the next word.
@@ -151,9 +150,9 @@ static CHECKSUM: [Instruction; 17] = [
 static WORDS: [Step; 1] = [(StaticCall::NewBytes(256), StaticReply::Made(0))];
 
 #[test]
-fn a_checksum_over_a_memory(rt: HostRuntime) -> Result<(), Fail> {
+fn a_checksum_over_a_memory(rt: HostRuntime) {
     let mut machine = unmetered(rt.alloc());
-    runs_to(&rt, &mut machine, &WORDS)?;
+    runs_to(&rt, &mut machine, &WORDS);
     // The sum of the numbers from 0 to 31 is 496, and 240 modulo 256.
     let expected = Outcome {
         ending: Some(Ending::Returned(RawVal::from(0xF0F0_F0F0_F0F0_F0F0u64))),
@@ -161,7 +160,7 @@ fn a_checksum_over_a_memory(rt: HostRuntime) -> Result<(), Fail> {
         executed: 326,
     };
     ends(&rt, &CHECKSUM, &mut machine, &mut NoLimits, expected);
-    Ok(())
+    drop(machine);
 }
 
 /// Grows a memory by two pages, and returns a copy of the result. Local 0 is how many pages, local
@@ -216,11 +215,11 @@ static UNDER_QUOTAS: [UnderQuota; 3] = [
 ];
 
 #[test]
-fn a_growth_under_a_quota(rt: HostRuntime) -> Result<(), Fail> {
+fn a_growth_under_a_quota(rt: HostRuntime) {
     for row in &UNDER_QUOTAS {
         let mut machine = unmetered(rt.alloc());
         let mut quota = Quota::new(row.cap, 0);
-        runs_under(&rt, &mut machine, &PAGE, &mut quota)?;
+        runs_under(&rt, &mut machine, &PAGE, &mut quota);
         let result = RawVal::from(row.result);
         let expected = growth_ends(Ending::Returned(result));
         ends(&rt, &GROWTH, &mut machine, &mut quota, expected);
@@ -232,8 +231,8 @@ fn a_growth_under_a_quota(rt: HostRuntime) -> Result<(), Fail> {
         {
             same(&rt, "a local", machine.register(local as u8), Some(*value));
         }
+        drop(machine);
     }
-    Ok(())
 }
 
 /// What `GROWTH` returns for a memory of one page on a meter with so much fuel, unless it is out of
@@ -269,14 +268,14 @@ static ON_METERS: [OnMeter; 3] = [
 ];
 
 #[test]
-fn a_growth_on_a_meter(rt: HostRuntime) -> Result<(), Fail> {
+fn a_growth_on_a_meter(rt: HostRuntime) {
     for row in &ON_METERS {
         let mut machine = metered(rt.alloc());
         let start = [
             (StaticCall::SetFuel(row.fuel), StaticReply::Done),
             (StaticCall::NewPages(1, None), StaticReply::Made(0)),
         ];
-        runs_to(&rt, &mut machine, &start)?;
+        runs_to(&rt, &mut machine, &start);
         let ending = match row.returned {
             Some(number) => Ending::Returned(RawVal::from(number)),
             None => Ending::OutOfFuel,
@@ -285,14 +284,14 @@ fn a_growth_on_a_meter(rt: HostRuntime) -> Result<(), Fail> {
         ends(&rt, &GROWTH, &mut machine, &mut NoLimits, expected);
         same(&rt, "the fuel", machine.fuel().get_fuel(), Ok(row.left));
         same(&rt, "the size", memory_size(&machine, 0), Some(row.pages));
+        drop(machine);
     }
-    Ok(())
 }
 
 /// One instruction takes its fuel before it does anything, and only where it is one. There is no
 /// memory.
 #[test]
-fn fuel_is_taken_for_an_instruction(rt: HostRuntime) -> Result<(), Fail> {
+fn fuel_is_taken_for_an_instruction(rt: HostRuntime) {
     let constant = Instruction::Constant { dst: 0, number: 7 };
     let grow = Instruction::Grow { dst: 0, pages: 1 };
     for (instruction, fuel, ending, executed, left) in [
@@ -304,7 +303,7 @@ fn fuel_is_taken_for_an_instruction(rt: HostRuntime) -> Result<(), Fail> {
     ] {
         let mut machine = metered(rt.alloc());
         let start = [(StaticCall::SetFuel(fuel), StaticReply::Done)];
-        runs_to(&rt, &mut machine, &start)?;
+        runs_to(&rt, &mut machine, &start);
         let expected = Outcome {
             ending: Some(ending),
             place: executed as usize,
@@ -319,12 +318,12 @@ fn fuel_is_taken_for_an_instruction(rt: HostRuntime) -> Result<(), Fail> {
             machine.register(0),
             Some(RawVal::from(number)),
         );
+        drop(machine);
     }
-    Ok(())
 }
 
 #[test]
-fn programs_that_end_otherwise(rt: HostRuntime) -> Result<(), Fail> {
+fn programs_that_end_otherwise(rt: HostRuntime) {
     let past_the_end = Instruction::Load {
         dst: 0,
         ptr: 0,
@@ -350,13 +349,13 @@ fn programs_that_end_otherwise(rt: HostRuntime) -> Result<(), Fail> {
         ),
     ] {
         let mut machine = unmetered(rt.alloc());
-        runs_to(&rt, &mut machine, &WORDS)?;
+        runs_to(&rt, &mut machine, &WORDS);
         let expected = Outcome {
             ending,
             place,
             executed,
         };
         ends(&rt, &[instruction], &mut machine, &mut NoLimits, expected);
+        drop(machine);
     }
-    Ok(())
 }

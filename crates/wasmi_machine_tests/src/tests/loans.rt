@@ -2,7 +2,6 @@
 ghost use Rattle.std.specs.Prelude.{◌≡◌, ◌<◌, length, slice_set};
 
 use super::{memory_type, same};
-use std::test::Fail;
 use wasmi_core::{Memory, NoLimits, ResourceLimiterRef};
 
 /// A caller that writes through what a memory lends, and knows the memory afterwards.
@@ -19,10 +18,11 @@ fn put_first(memory: &mut Memory)
 }
 
 #[test]
-fn writes_through_a_loan(rt: HostRuntime) -> Result<(), Fail> {
+fn writes_through_a_loan(rt: HostRuntime) {
     let mut limiter = ResourceLimiterRef::<NoLimits>::default();
-    let mut memory = Memory::new(rt.alloc(), memory_type(3, None, 0)?, &mut limiter)?;
+    let ty = memory_type(&rt, 3, None, 0);
+    let mut memory = Memory::new(rt.alloc(), ty, &mut limiter).expect(&rt, "three bytes");
     put_first(&mut memory);
     same(&rt, "the bytes", memory.data(), [7, 0, 0].as_slice());
-    Ok(())
+    drop(memory);
 }

@@ -1,25 +1,23 @@
 //! Pools of tenants, by their calls; `wasmi_script_tests` has scripts of tenants.
 use super::{MemoryCall, StaticCall, StaticReply, Step, runs_to, same, split, unmetered};
-use std::test::Fail;
 use wasmi_budget::{AddError, Pool};
 
 static PAGE: [Step; 1] = [(StaticCall::NewPages(1, None), StaticReply::Made(0))];
 
 #[test]
-fn ample_memory_pool_runs(rt: HostRuntime) -> Result<(), Fail> {
-    let (calls, expected) = split(rt.alloc(), &PAGE)?;
+fn ample_memory_pool_runs(rt: HostRuntime) {
+    let (calls, expected) = split(&rt, &PAGE).expect(&rt, "there is room");
     let mut pool = Pool::new(rt.alloc(), 65536, 0);
     let tenant = pool.add(unmetered(rt.alloc())).ok();
     same(&rt, "the tenant", tenant, Some(0));
     let replies = pool.run(0, &calls);
     same(&rt, "the replies", replies, Ok(expected));
     same(&rt, "the bytes", pool.held_bytes(0), Some(65536));
-    Ok(())
 }
 
 #[test]
-fn a_pool_takes_many_machines(rt: HostRuntime) -> Result<(), Fail> {
-    let (calls, expected) = split(rt.alloc(), &PAGE)?;
+fn a_pool_takes_many_machines(rt: HostRuntime) {
+    let (calls, expected) = split(&rt, &PAGE).expect(&rt, "there is room");
     let mut pool = Pool::new(rt.alloc(), 65536, 0);
     for index in 0..1024 {
         let tenant = pool.add(unmetered(rt.alloc())).ok();
@@ -35,7 +33,6 @@ fn a_pool_takes_many_machines(rt: HostRuntime) -> Result<(), Fail> {
         Some(65536),
     );
     same(&rt, "no bytes more", pool.held_bytes(1024), None);
-    Ok(())
 }
 
 static DROPPED: [Step; 2] = [
@@ -44,9 +41,9 @@ static DROPPED: [Step; 2] = [
 ];
 
 #[test]
-fn a_machine_that_dropped_a_memory_comes_back(rt: HostRuntime) -> Result<(), Fail> {
+fn a_machine_that_dropped_a_memory_comes_back(rt: HostRuntime) {
     let mut used = unmetered(rt.alloc());
-    runs_to(&rt, &mut used, &DROPPED)?;
+    runs_to(&rt, &mut used, &DROPPED);
     let mut pool = Pool::new(rt.alloc(), 131072, 0);
     let refusal = pool
         .add(used)
@@ -58,5 +55,4 @@ fn a_machine_that_dropped_a_memory_comes_back(rt: HostRuntime) -> Result<(), Fai
         refusal,
         Some((AddError::NotEmpty, 65536)),
     );
-    Ok(())
 }

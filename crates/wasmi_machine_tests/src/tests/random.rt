@@ -4,9 +4,8 @@ use super::refusing::{RANDOM_NUMBERS, RandomAnswers, Replies};
 use super::{
     MemoryCall, StaticCall, StaticReply, Step, memory_size, meter, runs_under, same, table_size,
 };
-use std::alloc::{AllocError, AllocGlobal, Global};
+use std::alloc::AllocGlobal;
 use std::process::Abort;
-use std::test::Fail;
 use wasmi_core::{Machine, MemoryError, TableError};
 
 /// The bytes of the spare region.
@@ -108,11 +107,12 @@ struct Foretold {
 
 /// The reply to the creation of one instance more.
 fn create(
+    rt: &impl Abort,
     instances: &mut Vec<Instance>,
     instance: Instance,
     random: &mut RandomAnswers,
     is_metered: bool,
-) -> Result<StaticReply, AllocError> {
+) -> StaticReply {
     let reply = random.reply(Replies {
         permitted: StaticReply::Made(instances.len()),
         denied: instance.refused,
@@ -120,9 +120,9 @@ fn create(
         failed: instance.failed(instance.size, is_metered),
     });
     if let StaticReply::Made(_) = reply {
-        instances.push(instance)?;
+        instances.push(instance).ok().expect(rt, "there is room");
     }
-    Ok(reply)
+    reply
 }
 
 /// The reply to the growth of the instance at an index.
@@ -140,8 +140,9 @@ fn grow(
 
 impl Foretold {
     /// The reply to the creation of a memory.
-    fn new_memory(&mut self, memory: Instance) -> Result<StaticReply, AllocError> {
+    fn new_memory(&mut self, rt: &impl Abort, memory: Instance) -> StaticReply {
         create(
+            rt,
             &mut self.memories,
             memory,
             &mut self.random,
@@ -150,25 +151,31 @@ impl Foretold {
     }
 
     /// The reply to the creation of a memory in the spare region, which it spends.
-    fn new_lent_memory(&mut self, size: u64) -> Result<StaticReply, AllocError> {
+    fn new_lent_memory(&mut self, rt: &impl Abort, size: u64) -> StaticReply {
         if !self.has_region {
-            return Ok(StaticReply::NoRegion);
+            return StaticReply::NoRegion;
         }
         self.has_region = false;
-        self.new_memory(Instance { size, ..LENT })
+        self.new_memory(rt, Instance { size, ..LENT })
     }
 
     /// The call that three random bits choose, and its reply.
-    fn step(&mut self, bits: u64) -> Result<Step, AllocError> {
+    fn step(&mut self, rt: &impl Abort, bits: u64) -> Step {
         let index = (bits & 1) as usize;
-        Ok(match bits {
-            0 => (StaticCall::NewPages(1, None), self.new_memory(OWNED)?),
-            1 => (StaticCall::NewLentBytes(2), self.new_lent_memory(2)?),
-            2 => (StaticCall::NewLentBytes(4), self.new_lent_memory(4)?),
-            3 => {
-                let reply = create(&mut self.tables, TABLE, &mut self.random, self.is_metered)?;
-                (StaticCall::NewTable(2), reply)
-            }
+        match bits {
+            0 => (StaticCall::NewPages(1, None), self.new_memory(rt, OWNED)),
+            1 => (StaticCall::NewLentBytes(2), self.new_lent_memory(rt, 2)),
+            2 => (StaticCall::NewLentBytes(4), self.new_lent_memory(rt, 4)),
+            3 => (
+                StaticCall::NewTable(2),
+                create(
+                    rt,
+                    &mut self.tables,
+                    TABLE,
+                    &mut self.random,
+                    self.is_metered,
+                ),
+            ),
             4 | 5 => (
                 StaticCall::Memory(index, MemoryCall::Grow(1)),
                 grow(&mut self.memories, index, &mut self.random, self.is_metered),
@@ -177,19 +184,20 @@ impl Foretold {
                 StaticCall::GrowTable(index, 16),
                 grow(&mut self.tables, index, &mut self.random, self.is_metered),
             ),
-        })
+        }
     }
 }
 
 /// 64 calls by three bits each of a random number, with the replies that are foretold.
-fn steps_of(alloc: Global, foretold: &mut Foretold, calls: u64) -> Result<Vec<Step>, AllocError> {
+fn steps_of(rt: &(impl Abort + AllocGlobal), foretold: &mut Foretold, calls: u64) -> Vec<Step> {
     let mut calls = calls;
-    let mut steps = Vec::new(alloc);
+    let mut steps = Vec::new(rt.alloc());
     for _call in 0..64 {
-        steps.push(foretold.step(calls & 7)?)?;
+        let step = foretold.step(rt, calls & 7);
+        steps.push(step).ok().expect(rt, "there is room");
         calls = calls.rotate_right(3);
     }
-    Ok(steps)
+    steps
 }
 
 /// Compares what the machine has with what is foretold.
@@ -212,7 +220,7 @@ fn runs_as_foretold(
     is_metered: bool,
     random: RandomAnswers,
     calls: u64,
-) -> Result<(), Fail> {
+) {
     let mut foretold = Foretold {
         random,
         is_metered,
@@ -220,15 +228,15 @@ fn runs_as_foretold(
         memories: Vec::new(rt.alloc()),
         tables: Vec::new(rt.alloc()),
     };
-    let steps = steps_of(rt.alloc(), &mut foretold, calls)?;
+    let steps = steps_of(rt, &mut foretold, calls);
     let fuel = meter(is_metered);
     let mut region = [7; REGION as usize];
     let mut machine = Machine::with_region(rt.alloc(), fuel, &mut region);
     let mut limiter = random;
-    runs_under(rt, &mut machine, &steps, &mut limiter)?;
+    runs_under(rt, &mut machine, &steps, &mut limiter);
     same(rt, "the limiter", limiter, foretold.random);
     has_what_is_foretold(rt, &machine, &foretold);
-    Ok(())
+    drop(machine);
 }
 
 /// Random numbers that choose the calls.
@@ -240,13 +248,12 @@ const RANDOM_CALLS: [u64; 4] = [
 ];
 
 #[test]
-fn random_answers_leave_creations_as_they_are_told(rt: HostRuntime) -> Result<(), Fail> {
+fn random_answers_leave_creations_as_they_are_told(rt: HostRuntime) {
     for (answers, accepts, _permitted) in RANDOM_NUMBERS {
         for calls in RANDOM_CALLS {
             let random = RandomAnswers::new(answers, accepts);
-            runs_as_foretold(&rt, false, random, calls)?;
-            runs_as_foretold(&rt, true, random, calls)?;
+            runs_as_foretold(&rt, false, random, calls);
+            runs_as_foretold(&rt, true, random, calls);
         }
     }
-    Ok(())
 }

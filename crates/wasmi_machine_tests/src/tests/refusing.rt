@@ -1,8 +1,8 @@
 //! Runs under a limiter that refuses and complains by random numbers, and runs that find no memory.
 use super::random::EMPTY;
 use super::{
-    MemoryCall, StaticCall, StaticReply, Step, memory_size, metered, runs_to, runs_under, same,
-    split, unmetered,
+    MemoryCall, StaticCall, StaticReply, Step, memory_size, meter, metered, runs_to, runs_under,
+    same, split,
 };
 use std::alloc::AllocGlobal;
 use std::process::Abort;
@@ -100,39 +100,40 @@ pub(super) const RANDOM_NUMBERS: [(u64, u64, u64); 4] = [
 static NO_PAGES: [Step; 1] = [(StaticCall::NewPages(0, None), StaticReply::Made(0))];
 
 /// Grows a memory 32 times by one page under these answers, and compares the replies and how many
-/// pages it then has.
+/// pages it then has. A meter that is on has no fuel.
 fn grows_by_random_answers(
     rt: &(impl Abort + AllocGlobal),
-    machine: &mut Machine,
     is_metered: bool,
     random: RandomAnswers,
-) -> Result<u64, Fail> {
-    runs_to(rt, machine, &NO_PAGES)?;
+) -> u64 {
+    let mut machine = Machine::new(rt.alloc(), meter(is_metered));
+    runs_to(rt, &mut machine, &NO_PAGES);
     let mut same_answers = random;
     let mut memory = EMPTY;
     let mut steps: Vec<Step> = Vec::new(rt.alloc());
     for _growth in 0..32 {
         let reply = memory.grow(&mut same_answers, is_metered);
-        steps.push((StaticCall::Memory(0, MemoryCall::Grow(1)), reply))?;
+        let step = (StaticCall::Memory(0, MemoryCall::Grow(1)), reply);
+        steps.push(step).ok().expect(rt, "there is room");
     }
     let mut limiter = random;
-    runs_under(rt, machine, &steps, &mut limiter)?;
+    runs_under(rt, &mut machine, &steps, &mut limiter);
     same(rt, "the questions", limiter.questions, 32);
     same(rt, "the limiter", limiter, same_answers);
-    same(rt, "the pages", memory_size(machine, 0), Some(memory.size));
-    Ok(memory.size)
+    same(rt, "the pages", memory_size(&machine, 0), Some(memory.size));
+    drop(machine);
+    memory.size
 }
 
 #[test]
-fn random_answers_leave_a_run_as_it_is_told(rt: HostRuntime) -> Result<(), Fail> {
+fn random_answers_leave_a_run_as_it_is_told(rt: HostRuntime) {
     for (answers, accepts, permitted) in RANDOM_NUMBERS {
         let random = RandomAnswers::new(answers, accepts);
-        let pages = grows_by_random_answers(&rt, &mut unmetered(rt.alloc()), false, random)?;
-        same(&rt, "the growths permitted", pages, permitted);
-        let pages = grows_by_random_answers(&rt, &mut metered(rt.alloc()), true, random)?;
-        same(&rt, "none is paid for", pages, 0);
+        let permitted_pages = grows_by_random_answers(&rt, false, random);
+        same(&rt, "the growths permitted", permitted_pages, permitted);
+        let paid_pages = grows_by_random_answers(&rt, true, random);
+        same(&rt, "none is paid for", paid_pages, 0);
     }
-    Ok(())
 }
 
 static TWO_CALLS: [Step; 2] = [
@@ -144,9 +145,9 @@ static TWO_CALLS: [Step; 2] = [
 /// its replies, and has then done nothing.
 #[test]
 fn a_run_without_room_does_nothing(rt: HostRuntime) -> Result<(), Fail> {
+    let (calls, _replies) = split(&rt, &TWO_CALLS)?;
     let mut random = RandomAnswers::new(u64::MAX, 0);
     let mut machine = metered(rt.alloc());
-    let (calls, _replies) = split(rt.alloc(), &TWO_CALLS)?;
     let (questions, fuel, bytes) = match run_lending(&mut machine, &calls, &mut random) {
         Ok(_replies) => (1, 7, 3),
         Err(_) => (0, 0, 0),
@@ -154,5 +155,6 @@ fn a_run_without_room_does_nothing(rt: HostRuntime) -> Result<(), Fail> {
     same(&rt, "the questions", random.questions, questions);
     same(&rt, "the fuel", machine.fuel().get_fuel(), Ok(fuel));
     same(&rt, "the bytes", machine.total_bytes(), bytes);
+    drop(machine);
     Ok(())
 }

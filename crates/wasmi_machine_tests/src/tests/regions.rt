@@ -2,19 +2,17 @@
 //! scripts on regions.
 use super::{MemoryCall, StaticCall, StaticReply, Step, runs_to, same};
 use std::process::Abort;
-use std::test::Fail;
 use wasmi_core::{Fuel, FuelCostsProvider, Machine, MemoryError};
 
 /// Runs calls on a machine with a region of ten bytes of 7, and compares the replies, and what the
 /// lender finds then.
-fn finds(rt: &(impl Abort + AllocGlobal), steps: &[Step], expected: [u8; 10]) -> Result<(), Fail> {
+fn finds(rt: &(impl Abort + AllocGlobal), steps: &[Step], expected: [u8; 10]) {
     let mut region = [7; 10];
     let fuel = Fuel::new(false, FuelCostsProvider::default());
     let mut machine = Machine::with_region(rt.alloc(), fuel, &mut region);
-    runs_to(rt, &mut machine, steps)?;
+    runs_to(rt, &mut machine, steps);
     drop(machine);
     same(rt, "the lender's bytes", region, expected);
-    Ok(())
 }
 
 static LENT: [Step; 3] = [
@@ -30,8 +28,8 @@ static LENT: [Step; 3] = [
 ];
 
 #[test]
-fn the_lender_finds_the_memory(rt: HostRuntime) -> Result<(), Fail> {
-    finds(&rt, &LENT, [0, 1, 2, 0, 0, 0, 0, 7, 7, 7])
+fn the_lender_finds_the_memory(rt: HostRuntime) {
+    finds(&rt, &LENT, [0, 1, 2, 0, 0, 0, 0, 7, 7, 7]);
 }
 
 static TOO_SHORT: [Step; 2] = [
@@ -43,8 +41,8 @@ static TOO_SHORT: [Step; 2] = [
 ];
 
 #[test]
-fn a_refused_creation_spends_the_region(rt: HostRuntime) -> Result<(), Fail> {
-    finds(&rt, &TOO_SHORT, [7; 10])
+fn a_refused_creation_spends_the_region(rt: HostRuntime) {
+    finds(&rt, &TOO_SHORT, [7; 10]);
 }
 
 static DROPPED: [Step; 3] = [
@@ -57,6 +55,6 @@ static DROPPED: [Step; 3] = [
 ];
 
 #[test]
-fn a_dropped_memory_leaves_its_bytes(rt: HostRuntime) -> Result<(), Fail> {
-    finds(&rt, &DROPPED, [1, 2, 7, 7, 7, 7, 7, 7, 7, 7])
+fn a_dropped_memory_leaves_its_bytes(rt: HostRuntime) {
+    finds(&rt, &DROPPED, [1, 2, 7, 7, 7, 7, 7, 7, 7, 7]);
 }

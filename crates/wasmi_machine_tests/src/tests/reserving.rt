@@ -7,7 +7,6 @@ ghost use Rattle.wasmi_core.specs.Totals.{HoldsTotals};
 use super::{MemoryCall, StaticCall, StaticReply, Step, metered, same, split, unmetered};
 use std::alloc::AllocGlobal;
 use std::process::Abort;
-use std::test::Fail;
 use wasmi_core::{
     Kind, LimiterByKind, LimiterError, Machine, MemoryError, Quota, Reserving, TableError,
     run_reserving,
@@ -21,20 +20,19 @@ fn reserves<L: Reserving>(
     machine: &mut Machine,
     steps: &[Step],
     limiter: &mut L,
-) -> Result<(), Fail>
+)
     requires { HoldsTotals (L.Reserving.holdings limiter.old) machine.old }
     ensures { HoldsTotals (L.Reserving.holdings limiter.new) machine.new }
 {
-    let (calls, expected) = split(rt.alloc(), steps)?;
-    let replies = run_reserving(machine, &calls, limiter)?;
-    same(rt, "replies", replies, expected);
+    let (calls, expected) = split(rt, steps).expect(rt, "there is room");
+    let replies = run_reserving(machine, &calls, limiter).ok();
+    same(rt, "replies", replies, Some(expected));
     let held = (
         limiter.held_bytes() as u128,
         limiter.held_elements() as u128,
     );
     let totals = (machine.total_bytes(), machine.total_elements());
     same(rt, "what is held", held, totals);
-    Ok(())
 }
 
 const MEMORY_DENIED: StaticReply = StaticReply::Memory(
@@ -59,13 +57,13 @@ static MEMORIES: [Step; 8] = [
 ];
 
 #[test]
-fn dropped_memories_are_held(rt: HostRuntime) -> Result<(), Fail> {
+fn dropped_memories_are_held(rt: HostRuntime) {
     let mut quota = Quota::new(131072, 0);
     let mut machine = unmetered(rt.alloc());
-    reserves(&rt, &mut machine, &MEMORIES, &mut quota)?;
+    reserves(&rt, &mut machine, &MEMORIES, &mut quota);
     same(&rt, "the bytes", machine.total_bytes(), 131072);
     same(&rt, "one is gone", machine.memory(0).is_none(), true);
-    Ok(())
+    drop(machine);
 }
 
 static TABLES: [Step; 6] = [
@@ -81,12 +79,12 @@ static TABLES: [Step; 6] = [
 ];
 
 #[test]
-fn dropped_tables_are_held(rt: HostRuntime) -> Result<(), Fail> {
+fn dropped_tables_are_held(rt: HostRuntime) {
     let mut quota = Quota::new(65536, 3);
     let mut machine = unmetered(rt.alloc());
-    reserves(&rt, &mut machine, &TABLES, &mut quota)?;
+    reserves(&rt, &mut machine, &TABLES, &mut quota);
     same(&rt, "the elements", machine.total_elements(), 3);
-    Ok(())
+    drop(machine);
 }
 
 /// Permits so many growths of any size, denies by an error, and complains of each notice.
@@ -155,7 +153,7 @@ static FOUR_GROWTHS: [Step; 6] = [
 ];
 
 #[test]
-fn another_limiter_reserves(rt: HostRuntime) -> Result<(), Fail> {
+fn another_limiter_reserves(rt: HostRuntime) {
     let mut allowance = Allowance {
         growths: 4,
         holdings: Holdings::new(Amounts {
@@ -164,9 +162,9 @@ fn another_limiter_reserves(rt: HostRuntime) -> Result<(), Fail> {
         }),
     };
     let mut machine = metered(rt.alloc());
-    reserves(&rt, &mut machine, &FOUR_GROWTHS, &mut allowance)?;
+    reserves(&rt, &mut machine, &FOUR_GROWTHS, &mut allowance);
     same(&rt, "the growths that are left", allowance.growths, 0);
     let totals = (machine.total_bytes(), machine.total_elements());
     same(&rt, "the totals", totals, (196608, 3));
-    Ok(())
+    drop(machine);
 }

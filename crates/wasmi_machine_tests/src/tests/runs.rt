@@ -3,7 +3,6 @@ use super::{
     MemoryCall, StaticCall, StaticReply, Step, memory_size, metered, runs_to, runs_under, same,
     unmetered,
 };
-use std::test::Fail;
 use wasmi_core::{MemoryError, Quota};
 
 const REFUSED: StaticReply = StaticReply::Memory(MemoryError::OutOfBoundsGrowth);
@@ -32,13 +31,13 @@ static METERED: [Step; 8] = [
 ];
 
 #[test]
-fn ample_memory_runs(rt: HostRuntime) -> Result<(), Fail> {
+fn ample_memory_runs(rt: HostRuntime) {
     let mut machine = metered(rt.alloc());
-    runs_to(&rt, &mut machine, &METERED)?;
+    runs_to(&rt, &mut machine, &METERED);
     same(&rt, "the fuel", machine.fuel().get_fuel(), Ok(976));
     same(&rt, "the size", memory_size(&machine, 0), Some(2));
     same(&rt, "one memory", memory_size(&machine, 1), None);
-    Ok(())
+    drop(machine);
 }
 
 static UNMETERED: [Step; 6] = [
@@ -63,8 +62,10 @@ static UNMETERED: [Step; 6] = [
 ];
 
 #[test]
-fn ample_memory_reads(rt: HostRuntime) -> Result<(), Fail> {
-    runs_to(&rt, &mut unmetered(rt.alloc()), &UNMETERED)
+fn ample_memory_reads(rt: HostRuntime) {
+    let mut machine = unmetered(rt.alloc());
+    runs_to(&rt, &mut machine, &UNMETERED);
+    drop(machine);
 }
 
 static WATCHED: [Step; 3] = [
@@ -77,10 +78,11 @@ static WATCHED: [Step; 3] = [
 ];
 
 #[test]
-fn quota_watches_a_run(rt: HostRuntime) -> Result<(), Fail> {
+fn quota_watches_a_run(rt: HostRuntime) {
     let mut quota = Quota::new(131071, 0);
-    runs_under(&rt, &mut unmetered(rt.alloc()), &WATCHED, &mut quota)?;
+    let mut machine = unmetered(rt.alloc());
+    runs_under(&rt, &mut machine, &WATCHED, &mut quota);
+    drop(machine);
     let held = (quota.held_bytes(), quota.held_elements());
     same(&rt, "what is held", held, (65536, 0));
-    Ok(())
 }

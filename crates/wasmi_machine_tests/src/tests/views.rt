@@ -1,6 +1,5 @@
 //! What a host sees of a machine after a run.
 use super::{StaticCall, StaticReply, Step, func, runs_to, same, unmetered};
-use std::test::Fail;
 use wasmi_core::RawVal;
 
 static MADE: [Step; 4] = [
@@ -11,9 +10,9 @@ static MADE: [Step; 4] = [
 ];
 
 #[test]
-fn shows_what_calls_made(rt: HostRuntime) -> Result<(), Fail> {
+fn shows_what_calls_made(rt: HostRuntime) {
     let mut machine = unmetered(rt.alloc());
-    runs_to(&rt, &mut machine, &MADE)?;
+    runs_to(&rt, &mut machine, &MADE);
     let first = machine.table(0).and_then(|table| table.get(4));
     same(&rt, "an element", first, Some(func(0)));
     let items = machine.segment(0).map(|segment| segment.size());
@@ -23,5 +22,5 @@ fn shows_what_calls_made(rt: HostRuntime) -> Result<(), Fail> {
     let last = machine.register(15);
     same(&rt, "a register", last, Some(RawVal::from(8u32)));
     same(&rt, "16 registers", machine.register(16), None);
-    Ok(())
+    drop(machine);
 }

@@ -3,7 +3,6 @@ use super::prints;
 use super::streams::Source;
 use std::alloc::Global;
 use std::process::Abort;
-use std::test::Fail;
 use wasmi_script::Status;
 
 // No line but the script's only one, which is no command.
@@ -288,7 +287,7 @@ fn names_a_later_bad_line(rt: HostRuntime) {
 }
 
 #[test]
-fn names_a_line_far_down(rt: HostRuntime) -> Result<(), Fail> {
+fn names_a_line_far_down(rt: HostRuntime) {
     let rows: [(usize, &str); 4] = [
         (9, "line 10: bad command\n"),
         (98, "line 99: bad command\n"),
@@ -296,11 +295,12 @@ fn names_a_line_far_down(rt: HostRuntime) -> Result<(), Fail> {
         (12344, "line 12345: bad command\n"),
     ];
     for (before, printed) in rows {
-        let mut script = "left\n".repeat(rt.alloc(), before)?;
-        script.push_str("left 1\nleft")?;
+        let mut script = "left\n"
+            .repeat(rt.alloc(), before)
+            .expect(&rt, "there is room");
+        script.push_str("left 1\nleft").expect(&rt, "there is room");
         is_bad(&rt, rt.alloc(), script.as_bytes(), printed);
     }
-    Ok(())
 }
 
 static OF_TENANTS: [(&str, &str); 14] = [

@@ -3,14 +3,12 @@ use super::same;
 use std::alloc::Global;
 use std::fmt::Display;
 use std::process::Abort;
-use std::test::Fail;
 use wasmi_core::{Call, Reply};
 use wasmi_script::{ParseError, ReplayError, ReplyHead, Status};
 
-fn has_text<T: Display>(rt: &impl Abort, alloc: Global, value: &T, text: &str) -> Result<(), Fail> {
-    let printed = format!(in alloc; "{value}")?;
+fn has_text<T: Display>(rt: &impl Abort, alloc: Global, value: &T, text: &str) {
+    let printed = format!(in alloc; "{value}").expect(rt, "there is room");
     same(rt, text, printed.as_str(), text);
-    Ok(())
 }
 
 #[test]
@@ -27,25 +25,26 @@ fn each_status_has_its_number(rt: HostRuntime) {
 }
 
 #[test]
-fn each_reason_has_its_text(rt: HostRuntime) -> Result<(), Fail> {
-    let alloc = rt.alloc();
-    let bad = ReplayError::Parse(ParseError::BadCommand { line: 123 });
-    has_text(&rt, alloc, &bad, "line 123: bad command")?;
-    has_text(&rt, alloc, &ReplayError::TooLong, "script too long")?;
-    has_text(
-        &rt,
-        alloc,
-        &ReplayError::Parse(ParseError::OutOfMemory),
-        "out of memory",
-    )?;
-    has_text(&rt, alloc, &ReplayError::ReadFault, "read fault")
+fn each_reason_has_its_text(rt: HostRuntime) {
+    let rows = [
+        (
+            ReplayError::Parse(ParseError::BadCommand { line: 123 }),
+            "line 123: bad command",
+        ),
+        (ReplayError::TooLong, "script too long"),
+        (ReplayError::Parse(ParseError::OutOfMemory), "out of memory"),
+        (ReplayError::ReadFault, "read fault"),
+    ];
+    for (error, text) in &rows {
+        has_text(&rt, rt.alloc(), error, text);
+    }
 }
 
 #[test]
-fn want_of_memory_in_a_call_is_no_room(rt: HostRuntime) -> Result<(), Fail> {
+fn want_of_memory_in_a_call_is_no_room(rt: HostRuntime) {
     let head = ReplyHead {
         call: &Call::GetFuel,
         reply: &Reply::NoRoom,
     };
-    has_text(&rt, rt.alloc(), &head, "no room")
+    has_text(&rt, rt.alloc(), &head, "no room");
 }

@@ -1,6 +1,5 @@
 //! Scripts whose calls are answered, and what they print.
 use super::{METERED, Script, answers, answers_each};
-use std::test::Fail;
 
 static ANSWERED: [Script; 17] = [
     METERED,
@@ -224,11 +223,14 @@ fn lines_may_be_empty_and_words_far_apart(rt: HostRuntime) {
 }
 
 #[test]
-fn answers_each_of_many_lines(rt: HostRuntime) -> Result<(), Fail> {
-    for (times, length) in [(100, 700), (2000, 14000)] {
-        let script = "fuel 1\n".repeat(rt.alloc(), times)?;
-        let printed = "error fuel metering is disabled\n".repeat(rt.alloc(), times)?;
+fn answers_each_of_many_lines(rt: HostRuntime) {
+    for times in [100, 2000] {
+        let script = "fuel 1\n"
+            .repeat(rt.alloc(), times)
+            .expect(&rt, "there is room");
+        let printed = "error fuel metering is disabled\n"
+            .repeat(rt.alloc(), times)
+            .expect(&rt, "there is room");
         answers(&rt, rt.alloc(), script.as_str(), printed.as_str());
     }
-    Ok(())
 }

@@ -2,11 +2,10 @@
 use super::streams::Source;
 use super::{METERED, prints, same};
 use std::io::ErrorKind;
-use std::test::Fail;
 use wasmi_script::{LIMIT, Status};
 
 #[test]
-fn reads_a_limited_script(rt: HostRuntime) -> Result<(), Fail> {
+fn reads_a_limited_script(rt: HostRuntime) {
     let rows: [(&str, usize, &str, Status); 4] = [
         (" ", LIMIT, "", Status::Answered),
         ("x", LIMIT, "line 1: bad command\n", Status::BadScript),
@@ -14,7 +13,7 @@ fn reads_a_limited_script(rt: HostRuntime) -> Result<(), Fail> {
         ("x", LIMIT + 1, "script too long\n", Status::BadScript),
     ];
     for (text, times, printed, status) in rows {
-        let script = text.repeat(rt.alloc(), times)?;
+        let script = text.repeat(rt.alloc(), times).expect(&rt, "there is room");
         prints(
             &rt,
             rt.alloc(),
@@ -24,7 +23,6 @@ fn reads_a_limited_script(rt: HostRuntime) -> Result<(), Fail> {
         );
     }
     same(&rt, "the most bytes of a script", LIMIT, 1_048_576);
-    Ok(())
 }
 
 #[test]
@@ -95,9 +93,11 @@ const LONG_SCRIPTS: [LongScript; 5] = [
 ];
 
 #[test]
-fn takes_at_most_one_turn_more_than_bytes(rt: HostRuntime) -> Result<(), Fail> {
+fn takes_at_most_one_turn_more_than_bytes(rt: HostRuntime) {
     for row in LONG_SCRIPTS {
-        let script = " ".repeat(rt.alloc(), row.length)?;
+        let script = " "
+            .repeat(rt.alloc(), row.length)
+            .expect(&rt, "there is room");
         let mut reader = Source::of(script.as_bytes());
         reader.at_once = row.at_once;
         let printed = match row.status {
@@ -107,7 +107,6 @@ fn takes_at_most_one_turn_more_than_bytes(rt: HostRuntime) -> Result<(), Fail> {
         prints(&rt, rt.alloc(), &mut reader, printed, row.status);
         same(&rt, "the turns of a reader", reader.turns, row.turns);
     }
-    Ok(())
 }
 
 // The metered script, forty bytes a turn.

@@ -1,6 +1,5 @@
 //! Scripts of a pool of tenants, and what they print.
 use super::{Script, answers, answers_each};
-use std::test::Fail;
 
 static TENANTS: [Script; 3] = [
     script! {
@@ -74,17 +73,19 @@ const MANY: Script = script! {
 };
 
 #[test]
-fn prints_what_many_tenants_hold(rt: HostRuntime) -> Result<(), Fail> {
-    let mut printed = String::from_str(rt.alloc(), MANY.printed)?;
+fn prints_what_many_tenants_hold(rt: HostRuntime) {
+    let mut printed = String::from_str(rt.alloc(), MANY.printed).expect(&rt, "there is room");
     for tenant in 0..1024 {
         let (bytes, elements) = match tenant {
             0 => (0, 2),
             1023 => (131072, 0),
             _ => (0, 0),
         };
-        let line = format!(in rt.alloc(); "held {tenant} {bytes} {elements}\n")?;
-        printed.push_str(line.as_str())?;
+        let line = format!(in rt.alloc(); "held {tenant} {bytes} {elements}\n").expect(
+            &rt,
+            "there is room",
+        );
+        printed.push_str(line.as_str()).expect(&rt, "there is room");
     }
     answers(&rt, rt.alloc(), MANY.text, printed.as_str());
-    Ok(())
 }

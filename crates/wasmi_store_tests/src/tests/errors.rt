@@ -120,20 +120,22 @@ fn fuel_and_limiter_errors_have_their_texts(rt: HostRuntime) {
     );
     same_text(&rt, rt.alloc(), &disabled, "fuel metering is disabled");
     same_text(&rt, rt.alloc(), &out, "ouf of fuel. required=7");
-    let expected = FuelError::OutOfFuel { required_fuel: 7 };
     let copy: Result<FuelError, _> = out.clone();
-    same(&rt, "a clone", copy, Ok(expected));
-    let expected = FuelError::FuelMeteringDisabled;
-    same(&rt, "metering is off", disabled, expected);
+    let answers = [copy, Ok(disabled)];
+    let expected = [
+        Ok(FuelError::OutOfFuel { required_fuel: 7 }),
+        Ok(FuelError::FuelMeteringDisabled),
+    ];
+    same(&rt, "a clone, metering is off", answers, expected);
 }
 
 #[test]
 fn a_limiter_error_becomes_a_denial(rt: HostRuntime) {
     let error = LimiterError::ResourceLimiterDeniedAllocation;
+    let denials = (error.into(), error.into());
     let of_memory = MemoryError::ResourceLimiterDeniedAllocation;
-    same(&rt, "of a memory", error.into(), of_memory);
     let of_table = TableError::ResourceLimiterDeniedAllocation;
-    same(&rt, "of a table", error.into(), of_table);
+    same(&rt, "of a memory, a table", denials, (of_memory, of_table));
 }
 
 #[test]
@@ -147,10 +149,13 @@ fn segment_errors_have_their_texts(rt: HostRuntime) {
 
 #[test]
 fn a_fuel_error_becomes_one_of_a_table(rt: HostRuntime) {
-    let out = TableError::try_from(FuelError::out_of_fuel(7));
-    let expected = Ok(TableError::OutOfFuel { required_fuel: 7 });
-    same(&rt, "too little fuel", out, expected);
-    let off = TableError::try_from(FuelError::fuel_metering_disabled());
-    let expected = Err(FuelError::FuelMeteringDisabled);
-    same(&rt, "metering is off", off, expected);
+    let answers = [
+        TableError::try_from(FuelError::out_of_fuel(7)),
+        TableError::try_from(FuelError::fuel_metering_disabled()),
+    ];
+    let expected = [
+        Ok(TableError::OutOfFuel { required_fuel: 7 }),
+        Err(FuelError::FuelMeteringDisabled),
+    ];
+    same(&rt, "too little fuel, metering is off", answers, expected);
 }

@@ -75,59 +75,79 @@ fn costs_are_cut_at_the_greatest_number(rt: HostRuntime) {
         (MAX, [288230376151711743, MAX, MAX], [MAX, MAX, MAX]),
     ];
     for (number, by_default, by_custom) in rows {
-        let default_row = (number, costs(&default, number));
-        same(&rt, "default costs", default_row, (number, by_default));
-        let custom_row = (number, costs(&custom, number));
-        same(&rt, "custom costs", custom_row, (number, by_custom));
+        let row = (number, costs(&default, number), costs(&custom, number));
+        let expected = (number, by_default, by_custom);
+        same(&rt, "default and custom costs", row, expected);
     }
 }
 
 #[test]
 fn custom_costs_are_what_was_chosen(rt: HostRuntime) {
-    same(&rt, "copying", CUSTOM.bytes_copied_per_fuel(), 0);
-    same(&rt, "translating", CUSTOM.fuel_per_bytes_translated(), 2);
-    same(&rt, "validating", CUSTOM.fuel_per_bytes_validated(), 5);
+    let costs = [
+        CUSTOM.bytes_copied_per_fuel(),
+        CUSTOM.fuel_per_bytes_translated(),
+        CUSTOM.fuel_per_bytes_validated(),
+    ];
+    same(&rt, "copying, translating, validating", costs, [0, 2, 5]);
+}
+
+/// Takes so much fuel; the closure sets `called` to `mark` when it is called.
+fn take(fuel: &mut Fuel, units: u64, mark: u8, called: &mut u8) -> Result<u64, FuelError> {
+    fuel.consume_fuel(|_| {
+        *called = mark;
+        units
+    })
+}
+
+/// The same, if the meter is on.
+fn take_if_on(fuel: &mut Fuel, units: u64, mark: u8, called: &mut u8) -> Result<(), FuelError> {
+    fuel.consume_fuel_if(|_| {
+        *called = mark;
+        units
+    })
 }
 
 #[test]
 fn a_meter_that_is_on_counts_down(rt: HostRuntime) {
     let mut fuel = Fuel::new(true, FuelCostsProvider::custom(CUSTOM));
-    same(&rt, "a new meter", fuel.get_fuel(), Ok(0));
-    same(&rt, "setting 10", fuel.set_fuel(10), Ok(()));
-    same(&rt, "3 of 10", fuel.consume_fuel_unchecked(3), Ok(7));
-    let translated = fuel.consume_fuel(|costs| costs.fuel_for_translating_bytes(2));
-    same(&rt, "4 of 7", translated, Ok(3));
-    same(&rt, "4 of 3", fuel.consume_fuel(|_| 4), out_of_fuel(4));
-    let refused = fuel.consume_fuel_if(|_| 4);
-    same(&rt, "4 of 3 if on", refused, out_of_fuel(4));
-    same(&rt, "3 of 3 if on", fuel.consume_fuel_if(|_| 3), Ok(()));
+    let mut called = 0;
+    let at_first = fuel.get_fuel();
+    let set = fuel.set_fuel(10);
+    let answers = [
+        at_first,
+        fuel.consume_fuel_unchecked(3),
+        fuel.consume_fuel(|costs| costs.fuel_for_translating_bytes(2)),
+        take(&mut fuel, 4, 1, &mut called),
+    ];
+    let expected = [Ok(0), Ok(7), Ok(3), out_of_fuel(4)];
+    same(&rt, "a new meter, 3, 4, 4 of 3", answers, expected);
+    let answers = [
+        set,
+        take_if_on(&mut fuel, 4, 2, &mut called),
+        take_if_on(&mut fuel, 3, 3, &mut called),
+    ];
+    let expected = [Ok(()), out_of_fuel(4), Ok(())];
+    same(&rt, "setting 10, 4 and 3 of 3 if on", answers, expected);
     same(&rt, "all is taken", fuel.get_fuel(), Ok(0));
 }
 
 #[test]
 fn a_meter_that_is_off_calls_no_closure(rt: HostRuntime) {
     let mut fuel = default_meter(false);
-    let mut calls = 0u8;
-    same(&rt, "setting 5", fuel.set_fuel(5), off());
-    same(&rt, "what is left", fuel.get_fuel(), off());
-    same(&rt, "0 unchecked", fuel.consume_fuel_unchecked(0), Ok(0));
-    let unchecked = fuel.consume_fuel_unchecked(1);
-    same(&rt, "1 unchecked", unchecked, out_of_fuel(1));
-    let skipped = fuel.consume_fuel_if(|_| {
-        calls = 1;
-        1
-    });
-    same(&rt, "1 if on", skipped, Ok(()));
-    let refused = fuel.consume_fuel(|_| {
-        calls = 2;
-        1
-    });
-    same(&rt, "1", refused, off());
-    same(&rt, "no closure was called", calls, 0);
+    let mut called = 0;
+    let set = fuel.set_fuel(5);
+    let answers = [
+        fuel.get_fuel(),
+        fuel.consume_fuel_unchecked(0),
+        fuel.consume_fuel_unchecked(1),
+    ];
+    let skipped = take_if_on(&mut fuel, 1, 1, &mut called);
+    let refused = take(&mut fuel, 1, 2, &mut called);
+    let expected = [off(), Ok(0), out_of_fuel(1)];
+    same(&rt, "what is left, 0 and 1 unchecked", answers, expected);
+    same(&rt, "setting 5, 1 if on", [set, skipped], [off(), Ok(())]);
+    same(&rt, "1, and no call", (refused, called), (off(), 0));
     let mut metered = default_meter(true);
-    let taken = metered.consume_fuel_if(|_| {
-        calls = 3;
-        0
-    });
-    same(&rt, "a meter that is on", (taken, calls), (Ok(()), 3));
+    let taken = take_if_on(&mut metered, 0, 3, &mut called);
+    same(&rt, "a meter that is on", (taken, called), (Ok(()), 3));
 }

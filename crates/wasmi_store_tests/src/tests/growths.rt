@@ -98,11 +98,11 @@ fn compare_growth(rt: &impl Abort, alloc: Global, row: &Growth) {
         Subject::Memory64 => grow_memory(rt, alloc, row, true, &mut meter, &mut recorder),
         Subject::Table(_) => grow_table(rt, alloc, row, &mut meter, &mut recorder),
     };
-    same(rt, row.what, outcome, row.outcome);
-    same_record(rt, row.what, &recorder, row.question, row.notice);
-    same(rt, row.what, meter.get_fuel(), Ok(row.left));
     let added = if row.outcome.is_ok() { row.delta } else { 0 };
-    same(rt, row.what, Some(size), 1u64.checked_add(added));
+    let answer = (outcome, meter.get_fuel(), Some(size));
+    let expected = (row.outcome, Ok(row.left), 1u64.checked_add(added));
+    same(rt, row.what, answer, expected);
+    same_record(rt, row.what, &recorder, row.question, row.notice);
 }
 
 /// Makes and grows what each row says, and compares.

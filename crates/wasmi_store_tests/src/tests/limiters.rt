@@ -41,52 +41,49 @@ fn ask_through<L: ResourceLimiter>(lent: &mut ResourceLimiterRef<L>) -> Result<b
 fn a_lender_finds_what_became_of_its_limiter(rt: HostRuntime) {
     let mut recorder = Recorder::new(Ok(true), Err(COMPLAINT));
     let mut lent = ResourceLimiterRef::from(&mut recorder);
-    same(&rt, "5 bytes", lent.memory_growing(1, 5, None), Ok(true));
+    let memory_answer = lent.memory_growing(1, 5, None);
     if let Some(limiter) = lent.as_resource_limiter() {
         limiter.answer = Ok(false);
     }
     let table_answer = lent.table_growing(3, 10, Some(9));
-    same(&rt, "10 elements", table_answer, Ok(false));
     let memory_notice_answer = lent.memory_grow_failed(&MemoryError::OutOfSystemMemory);
-    same(
-        &rt,
-        "a memory's notice",
-        memory_notice_answer,
-        Err(COMPLAINT),
-    );
     if let Some(limiter) = lent.as_resource_limiter() {
-        let asked = table_question(3, 10, Some(9));
-        same(&rt, "the last question", limiter.question, asked);
+        let last = (limiter.question, limiter.notice);
         let notice = Some(Failure::Memory(MemoryError::OutOfSystemMemory));
-        same(&rt, "a memory's notice", limiter.notice, notice);
+        let expected = (table_question(3, 10, Some(9)), notice);
+        same(&rt, "the last question and notice", last, expected);
         limiter.question = None;
     }
     let table_notice_answer = lent.table_grow_failed(&TableError::GrowOutOfBounds);
-    same(&rt, "a table's notice", table_notice_answer, Err(COMPLAINT));
     let Some(limiter) = lent.into_resource_limiter() else {
         unreachable!()
     };
     limiter.answer = Ok(true);
-    same(&rt, "it was taken out", recorder.question, None);
+    let last = (recorder.question, recorder.notice);
     let notice = Some(Failure::Table(TableError::GrowOutOfBounds));
-    same(&rt, "a table's notice", recorder.notice, notice);
-    same(&rt, "once more", ask_once(&mut recorder), Ok(true));
-    let asked = memory_question(0, 5, None);
-    same(&rt, "the new question", recorder.question, asked);
-    let numbers = (recorder.questions, recorder.notices);
-    same(&rt, "questions and notices", numbers, (3, 2));
+    same(&rt, "no question, and the notice", last, (None, notice));
+    let answers = [memory_answer, table_answer, ask_once(&mut recorder)];
+    let expected = [Ok(true), Ok(false), Ok(true)];
+    same(&rt, "5 bytes, 10 elements, once more", answers, expected);
+    let answers = [memory_notice_answer, table_notice_answer];
+    same(&rt, "the notices", answers, [Err(COMPLAINT); 2]);
+    let last = (recorder.question, recorder.questions, recorder.notices);
+    let expected = (memory_question(0, 5, None), 3, 2);
+    same(&rt, "a question, and the numbers", last, expected);
 }
 
 /// Asks the four questions of a reference that leads to no limiter, or to one without limits.
 fn permits_all(rt: &impl Abort, lent: &mut ResourceLimiterRef<NoLimits>) {
-    let memory_answer = lent.memory_growing(0, usize::MAX, None);
-    same(rt, "bytes", memory_answer, Ok(true));
-    let table_answer = lent.table_growing(0, usize::MAX, None);
-    same(rt, "elements", table_answer, Ok(true));
-    let memory_notice_answer = lent.memory_grow_failed(&MemoryError::OutOfSystemMemory);
-    same(rt, "a memory's notice", memory_notice_answer, Ok(()));
-    let table_notice_answer = lent.table_grow_failed(&TableError::OutOfSystemMemory);
-    same(rt, "a table's notice", table_notice_answer, Ok(()));
+    let answers = [
+        lent.memory_growing(0, usize::MAX, None),
+        lent.table_growing(0, usize::MAX, None),
+    ];
+    same(rt, "bytes, elements", answers, [Ok(true); 2]);
+    let answers = [
+        lent.memory_grow_failed(&MemoryError::OutOfSystemMemory),
+        lent.table_grow_failed(&TableError::OutOfSystemMemory),
+    ];
+    same(rt, "notices of a memory, a table", answers, [Ok(()); 2]);
 }
 
 #[test]
@@ -95,9 +92,9 @@ fn without_limits_all_is_permitted(rt: HostRuntime) {
     let mut limits = NoLimits;
     let numbers = [limits.instances(), limits.tables(), limits.memories()];
     same(&rt, "numbers", numbers, [usize::MAX; 3]);
-    same(&rt, "asking none", ask_through(&mut none), Ok(true));
+    let asked = ask_through(&mut none);
     let is_none = none.as_resource_limiter().is_none();
-    same(&rt, "there is none", is_none, true);
+    same(&rt, "asking none", (asked, is_none), (Ok(true), true));
     permits_all(&rt, &mut none);
     permits_all(&rt, &mut ResourceLimiterRef::from(&mut limits));
 }

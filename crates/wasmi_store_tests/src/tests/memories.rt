@@ -16,20 +16,20 @@ fn ample_memory_grows(rt: HostRuntime) {
     let mut memory = ample_memory(&rt, rt.alloc(), page_type(&rt, 1, Some(2)));
     let mut meter = metered(1024);
     let grown = grow(&mut memory, 1, Some(&mut meter), &mut NoLimits);
-    let answer = (grown, meter.get_fuel());
-    same(&rt, "the old size, and fuel", answer, (Ok(1), Ok(0)));
-    let sizes = (memory.size(), memory.data_size());
-    same(&rt, "pages and bytes", sizes, (2, 131072));
+    let sizes = (grown, meter.get_fuel(), memory.size(), memory.data_size());
+    let expected = (Ok(1), Ok(0), 2, 131072);
+    same(&rt, "the old size, fuel, pages, bytes", sizes, expected);
     let types = (memory.ty(), memory.dynamic_ty());
     let expected = (page_type(&rt, 1, Some(2)), page_type(&rt, 2, Some(2)));
     same(&rt, "the first type and the present one", types, expected);
-    same(&rt, "a write", memory.write(131070, &[1, 2]), Ok(()));
     let mut read = [0; 3];
-    let refused = memory.read(131070, &mut read);
-    let past_the_end = Err(MemoryError::OutOfBoundsAccess);
-    same(&rt, "past the end", refused, past_the_end);
-    let whole = memory.read(131069, &mut read);
-    same(&rt, "to the end", whole, Ok(()));
+    let answers = [
+        memory.write(131070, &[1, 2]),
+        memory.read(131070, &mut read),
+        memory.read(131069, &mut read),
+    ];
+    let expected = [Ok(()), Err(MemoryError::OutOfBoundsAccess), Ok(())];
+    same(&rt, "a write, past the end, to it", answers, expected);
     same(&rt, "the last bytes", read, [0, 1, 2]);
 }
 
@@ -92,11 +92,10 @@ fn grow_above_the_maximum<L: ResourceLimiter>(rt: &impl Abort, alloc: Global, li
     let mut memory = new_memory(alloc, ty, limiter).expect(rt, "a memory");
     let mut meter = metered(1024);
     let first = grow(&mut memory, 1, Some(&mut meter), limiter);
-    same(rt, "to the maximum", first, Ok(1));
     let second = grow(&mut memory, 1, Some(&mut meter), limiter);
-    same(rt, "above it", second, Err(OUT_OF_BOUNDS));
-    same(rt, "size", memory.size(), 2);
-    same(rt, "fuel", meter.get_fuel(), Ok(0));
+    let answer = (first, second, memory.size(), meter.get_fuel());
+    let expected = (Ok(1), Err(OUT_OF_BOUNDS), 2, Ok(0));
+    same(rt, "to the maximum, above it, size, fuel", answer, expected);
 }
 
 #[test]
@@ -104,9 +103,8 @@ fn growth_above_the_maximum_asks_no_limiter(rt: HostRuntime) {
     let mut recorder = Recorder::new(Ok(true), Ok(()));
     grow_above_the_maximum(&rt, rt.alloc(), &mut recorder);
     let last = memory_question(65536, 131072, Some(131072));
-    same(&rt, "the last question", recorder.question, last);
-    let numbers = (recorder.questions, recorder.notices);
-    same(&rt, "questions and notices", numbers, (2, 0));
+    let record = (recorder.question, recorder.questions, recorder.notices);
+    same(&rt, "the last question, and numbers", record, (last, 2, 0));
     let mut quota = Quota::new(131072, 0);
     grow_above_the_maximum(&rt, rt.alloc(), &mut quota);
     same(&rt, "held", quota.held_bytes(), 131072);

@@ -22,33 +22,31 @@ fn subtyping_works(rt: HostRuntime) {
         compare_subtype(&rt, row);
     }
     let narrow = page_type(&rt, 0, None);
-    let of_wide = narrow.is_subtype_of(&wide_type(&rt, 0, None));
-    same(&rt, "another address type", of_wide, false);
-    let of_bytes = narrow.is_subtype_of(&memory_type(&rt, 0, None, 0, false));
-    same(&rt, "another page size", of_bytes, false);
+    let answers = [
+        narrow.is_subtype_of(&wide_type(&rt, 0, None)),
+        narrow.is_subtype_of(&memory_type(&rt, 0, None, 0, false)),
+    ];
+    same(&rt, "another address type, page size", answers, [false; 2]);
 }
 
 #[test]
 fn builds_what_is_valid(rt: HostRuntime) {
     let all_pages = build_type(65536, Some(65536), 16, false);
-    same(&rt, "all pages", all_pages.is_ok(), true);
-    let refused = [
-        ("a great minimum", build_type(65537, None, 16, false)),
-        ("a great maximum", build_type(0, Some(65537), 16, false)),
-        (
-            "a maximum below the minimum",
-            build_type(2, Some(1), 16, false),
-        ),
-        ("pages of two bytes", build_type(0, None, 1, false)),
+    let invalid = [
+        build_type(65537, None, 16, false),
+        build_type(0, Some(65537), 16, false),
+        build_type(2, Some(1), 16, false),
+        build_type(0, None, 1, false),
     ];
-    for (what, answer) in refused {
-        same(&rt, what, answer, Err(MemoryError::InvalidMemoryType));
-    }
+    let refused = [Err(MemoryError::InvalidMemoryType); 4];
+    let what = "great minimum, maximum; maximum below minimum; pages of two";
+    same(&rt, what, invalid, refused);
     let ty = wide_type(&rt, 1 << 48, None);
-    same(&rt, "limits", (ty.minimum(), ty.maximum()), (1 << 48, None));
+    let limits = (all_pages.is_ok(), ty.is_64(), ty.minimum(), ty.maximum());
+    let expected = (true, true, 1 << 48, None);
+    same(&rt, "all pages, wide addresses, limits", limits, expected);
     let page = (ty.page_size(), ty.page_size_log2());
     same(&rt, "a page", page, (65536, 16));
-    same(&rt, "wide addresses", ty.is_64(), true);
     let default = MemoryType::builder().build();
     same(&rt, "the default", default, Ok(page_type(&rt, 0, None)));
 }

@@ -145,6 +145,6 @@ pub(super) fn same_record(
 ) {
     let numbers = (u32::from(question.is_some()), u32::from(notice.is_some()));
     same(rt, what, (recorder.questions, recorder.notices), numbers);
-    same(rt, what, recorder.question, question);
-    same(rt, what, recorder.notice, notice);
+    let last = (recorder.question, recorder.notice);
+    same(rt, what, last, (question, notice));
 }

@@ -139,10 +139,9 @@ fn compare_creation(rt: &impl Abort, row: &Creation) {
     let mut recorder = Recorder::new(row.answer, row.notice_answer);
     let mut region = [7; 4];
     let outcome = memory_size(lent_memory(ty, &mut recorder, &mut region));
-    same(rt, row.what, outcome, row.outcome);
+    same(rt, row.what, (outcome, region), (row.outcome, row.found));
     let question = memory_question(0, row.minimum as usize, Some(9));
     same_record(rt, row.what, &recorder, question, row.notice);
-    same(rt, row.what, region, row.found);
 }
 
 #[test]
@@ -245,13 +244,14 @@ fn compare_growth(rt: &impl Abort, row: &Growth) {
     let ty = memory_type(rt, 3, Some(8), 0, false);
     let mut region = [7; 6];
     let mut memory = ample_region(rt, ty, &mut region);
-    same(rt, row.what, memory.write(0, &[1, 2, 3]), Ok(()));
+    let written = memory.write(0, &[1, 2, 3]);
     let mut meter = metered_at(1, row.fuel);
     let mut recorder = Recorder::new(row.answer, row.notice_answer);
     let grown = grow(&mut memory, row.pages, Some(&mut meter), &mut recorder);
     drop(memory);
-    let answer = (memory_outcome(grown), meter.get_fuel(), region);
-    same(rt, row.what, answer, (row.outcome, Ok(row.left), row.found));
+    let answer = (written, memory_outcome(grown), meter.get_fuel(), region);
+    let expected = (Ok(()), row.outcome, Ok(row.left), row.found);
+    same(rt, row.what, answer, expected);
     let desired = 3usize.saturating_add(row.pages as usize);
     let question = memory_question(3, desired, Some(8));
     same_record(rt, row.what, &recorder, question, row.notice);
@@ -266,22 +266,24 @@ fn records_growths(rt: HostRuntime) {
 
 #[test]
 fn a_region_of_one_page_holds_one(rt: HostRuntime) {
-    let zeros = vec![in rt.alloc(); 0u8; 65536].expect(&rt, "a page");
-    let mut region = vec![in rt.alloc(); 7u8; 65536].expect(&rt, "a page");
+    let mut region = [7; 65536];
     let ty = page_type(&rt, 0, Some(2));
-    let mut memory = ample_region(&rt, ty, region.as_mut_slice());
+    let mut memory = ample_region(&rt, ty, &mut region);
     let mut meter = metered(2048);
     let first = grow(&mut memory, 1, Some(&mut meter), &mut NoLimits);
-    same(&rt, "a page", first, Ok(0));
-    same(&rt, "fuel", meter.get_fuel(), Ok(1024));
-    same(&rt, "size", memory.data_size(), 65536);
-    same(&rt, "bytes", memory.data(), zeros.as_slice());
+    let size = memory.data_size();
+    same(&rt, "bytes", memory.data(), [0; 65536].as_slice());
+    let fuel = meter.get_fuel();
     let mut recorder = Recorder::new(Ok(true), Ok(()));
     let second = grow(&mut memory, 1, Some(&mut meter), &mut recorder);
-    same(&rt, "one more", memory_outcome(second), Err(TOO_SHORT));
+    let answers = [
+        (memory_outcome(first), fuel, size),
+        (memory_outcome(second), meter.get_fuel(), memory.data_size()),
+    ];
+    let expected = [(Ok(0), Ok(1024), 65536), (Err(TOO_SHORT), Ok(1024), 65536)];
+    same(&rt, "a page, one more: fuel, size", answers, expected);
     let question = memory_question(65536, 131072, Some(131072));
     same_record(&rt, "one more", &recorder, question, Some(TOO_SHORT));
-    same(&rt, "the same fuel", meter.get_fuel(), Ok(1024));
 }
 
 #[test]
@@ -291,10 +293,9 @@ fn a_lender_finds_what_was_written(rt: HostRuntime) {
     let mut memory = ample_region(&rt, ty, &mut region);
     memory.data_mut().fill(1);
     let grown = grow(&mut memory, 2, None, &mut NoLimits);
-    same(&rt, "two more", grown, Ok(2));
-    same(&rt, "a byte", memory.write(3, &[2]), Ok(()));
-    let past = Err(MemoryError::OutOfBoundsAccess);
-    same(&rt, "past the end", memory.write(4, &[3]), past);
+    let answers = (grown, memory.write(3, &[2]), memory.write(4, &[3]));
+    let expected = (Ok(2), Ok(()), Err(MemoryError::OutOfBoundsAccess));
+    same(&rt, "two more, a byte, past the end", answers, expected);
     drop(memory);
     same(&rt, "the lender's bytes", region, [1, 1, 0, 2, 7, 7]);
 }

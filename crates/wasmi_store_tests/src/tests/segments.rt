@@ -29,16 +29,17 @@ fn ends_at_the_first_none(rt: HostRuntime) {
     let mut items = Wavering { calls: 0 };
     let read = ElementSegment::read(rt.alloc(), RefType::Func, &mut items);
     let segment = read.expect(&rt, "a segment");
-    same(&rt, "the calls", items.calls, 3);
     let expected = [RawRef::from(0), RawRef::from(1)];
     same(&rt, "the items", segment.items(), expected.as_slice());
-    let items = Wavering { calls: 1 };
-    let again = ElementSegment::new(rt.alloc(), RefType::Extern, items).expect(&rt, "a segment");
+    let rest = Wavering { calls: 1 };
+    let again = ElementSegment::new(rt.alloc(), RefType::Extern, rest).expect(&rt, "a segment");
+    let answer = (items.calls, again.size(), again.ty());
+    let expected = (3, 1, RefType::Extern);
     same(
         &rt,
-        "the size",
-        (again.size(), again.ty()),
-        (1, RefType::Extern),
+        "the calls, the second's size and type",
+        answer,
+        expected,
     );
 }
 
@@ -47,16 +48,12 @@ fn drops_its_items_and_keeps_its_type(rt: HostRuntime) {
     let items = [func(1).raw(), func(2).raw(), func(3).raw()];
     let mut segment = segment_of(&rt, rt.alloc(), RefType::Func, items);
     let shared = segment.as_ref();
-    same(&rt, "the type", shared.ty(), RefType::Func);
-    same(&rt, "the size", shared.size(), 3);
+    let kept = (shared.ty(), shared.size());
     same(&rt, "the items", shared.items(), items.as_slice());
     segment.drop_items();
-    same(
-        &rt,
-        "dropped",
-        (segment.ty(), segment.size()),
-        (RefType::Func, 0),
-    );
+    let kinds = [kept, (segment.ty(), segment.size())];
+    let expected = [(RefType::Func, 3), (RefType::Func, 0)];
+    same(&rt, "the type and size, before and after", kinds, expected);
     let empty: [RawRef; 0] = [];
     same(&rt, "no items", segment.items(), empty.as_slice());
 }

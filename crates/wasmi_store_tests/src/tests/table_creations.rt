@@ -76,10 +76,11 @@ fn records_creations(rt: HostRuntime) {
 fn holds_the_first_reference_everywhere(rt: HostRuntime) {
     let ty = TableType::new(RefType::Extern, 2, Some(4));
     let table = table_of(&rt, rt.alloc(), ty, external(7));
-    let elements = (table.get(0), table.get(1), table.get(2));
-    let expected = (Some(external(7)), Some(external(7)), None);
+    let first = table.get(0);
+    let elements = [first, table.get(1), table.get(2)];
+    let expected = [Some(external(7)), Some(external(7)), None];
     same(&rt, "the elements", elements, expected);
-    same(&rt, "the type", (table.ty(), table.dynamic_ty()), (ty, ty));
     let null = TypedRawRef::null(RefType::Extern);
-    same(&rt, "no null", table.get(0) == Some(null), false);
+    let answers = (table.ty(), table.dynamic_ty(), first == Some(null));
+    same(&rt, "the types, and no null", answers, (ty, ty, false));
 }

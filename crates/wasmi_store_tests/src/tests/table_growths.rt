@@ -180,13 +180,11 @@ fn stays_below_the_number_of_indices(rt: HostRuntime) {
     let mut table = table_of(&rt, rt.alloc(), ty, func(1));
     let refused = Err(Failure::Table(TableError::GrowOutOfBounds));
     let mut recorder = Recorder::new(Ok(false), Ok(()));
-    let rows = [
-        ("as many as indices", 4294967295, None),
-        ("one less", 4294967294, table_question(1, 4294967295, None)),
-    ];
-    for (what, delta, question) in rows {
-        let grown = grow_raw(&mut table, delta, None, &mut recorder);
-        same(&rt, what, grown, refused);
-        same_record(&rt, what, &recorder, question, None);
-    }
+    let first = grow_raw(&mut table, 4294967295, None, &mut recorder);
+    same_record(&rt, "as many as indices", &recorder, None, None);
+    let second = grow_raw(&mut table, 4294967294, None, &mut recorder);
+    let question = table_question(1, 4294967295, None);
+    same_record(&rt, "one less", &recorder, question, None);
+    let answers = [first, second];
+    same(&rt, "as many as indices, one less", answers, [refused; 2]);
 }

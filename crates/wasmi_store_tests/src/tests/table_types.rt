@@ -23,31 +23,31 @@ fn subtyping_works(rt: HostRuntime) {
     }
     let functions = TableType::new(RefType::Func, 0, Some(1));
     let externals = TableType::new(RefType::Extern, 0, Some(1));
-    same(
-        &rt,
-        "another type",
-        functions.is_subtype_of(&externals),
-        false,
-    );
     let wide = TableType::new64(RefType::Func, 0, Some(1));
-    same(&rt, "wide indices", functions.is_subtype_of(&wide), false);
+    let answers = [
+        functions.is_subtype_of(&externals),
+        functions.is_subtype_of(&wide),
+    ];
+    same(&rt, "another type, wide indices", answers, [false; 2]);
 }
 
 #[test]
 fn tells_its_limits(rt: HostRuntime) {
     let narrow = TableType::new(RefType::Extern, 1, Some(u32::MAX));
-    let limits = (narrow.minimum(), narrow.maximum());
-    same(&rt, "narrow limits", limits, (1, Some(4294967295)));
-    let kind = (narrow.index_ty(), narrow.is_64(), narrow.element());
-    same(
-        &rt,
-        "narrow",
-        kind,
-        (IndexType::I32, false, RefType::Extern),
-    );
     let wide = TableType::new64(RefType::Func, u64::MAX, None);
-    let limits = (wide.minimum(), wide.maximum());
-    same(&rt, "wide limits", limits, (u64::MAX, None));
-    let kind = (wide.index_ty(), wide.is_64(), wide.element());
-    same(&rt, "wide", kind, (IndexType::I64, true, RefType::Func));
+    let limits = [
+        (narrow.minimum(), narrow.maximum()),
+        (wide.minimum(), wide.maximum()),
+    ];
+    let expected = [(1, Some(4294967295)), (u64::MAX, None)];
+    same(&rt, "narrow and wide limits", limits, expected);
+    let kinds = [
+        (narrow.index_ty(), narrow.is_64(), narrow.element()),
+        (wide.index_ty(), wide.is_64(), wide.element()),
+    ];
+    let expected = [
+        (IndexType::I32, false, RefType::Extern),
+        (IndexType::I64, true, RefType::Func),
+    ];
+    same(&rt, "narrow and wide", kinds, expected);
 }

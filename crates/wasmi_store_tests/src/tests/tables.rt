@@ -114,13 +114,10 @@ fn perform(
 fn compare_steps(rt: &impl Abort, alloc: Global, mut meter: Fuel, steps: &[Step]) {
     let mut table = five_functions(rt, alloc);
     for step in steps {
-        let outcome = if step.metered {
-            perform(rt, alloc, &mut table, step.write, Some(&mut meter))
-        } else {
-            perform(rt, alloc, &mut table, step.write, None)
-        };
-        same(rt, step.what, outcome, step.outcome);
-        same(rt, step.what, meter.get_fuel(), Ok(step.left));
+        let fuel = if step.metered { Some(&mut meter) } else { None };
+        let outcome = perform(rt, alloc, &mut table, step.write, fuel);
+        let answer = (outcome, meter.get_fuel());
+        same(rt, step.what, answer, (step.outcome, Ok(step.left)));
         same_elements(rt, step.what, &table, step.elements);
     }
 }
@@ -179,9 +176,8 @@ static SETS: [Step; 5] = [
 #[test]
 fn gets_and_sets(rt: HostRuntime) {
     let table = five_functions(&rt, rt.alloc());
-    for index in [5, u64::MAX] {
-        same(&rt, "past the end", table.get(index), None);
-    }
+    let past_the_end = [table.get(5), table.get(u64::MAX)];
+    same(&rt, "past the end", past_the_end, [None; 2]);
     compare_steps(&rt, rt.alloc(), metered_at(1, 0), &SETS);
 }
 

@@ -43,18 +43,9 @@ fn check_order(rt: &impl Abort, alloc: Global, pair: (Lists, Lists)) {
     let lower = function_type(rt, alloc, pair.0);
     let higher = function_type(rt, alloc, pair.1);
     let orders = (lower.cmp(&higher), higher.cmp(&lower));
-    same(
-        rt,
-        "order",
-        (pair, orders),
-        (pair, (Ordering::Less, Ordering::Greater)),
-    );
-    same(
-        rt,
-        "comparisons",
-        (pair, lower < higher, lower != higher),
-        (pair, true, true),
-    );
+    let answer = (pair, orders, lower < higher, lower != higher);
+    let orders = (Ordering::Less, Ordering::Greater);
+    same(rt, "order", answer, (pair, orders, true, true));
 }
 
 #[test]
@@ -176,14 +167,20 @@ static READS: [((usize, usize), (usize, usize), Option<FuncTypeError>); 7] = [
 fn reads_until_the_first_none(rt: HostRuntime) {
     for &(ends, expected, refusal) in &READS {
         let (made, reads) = read(rt.alloc(), ends);
-        same(&rt, "reads", (ends, reads), (ends, expected));
-        match made {
-            Ok(ty) => {
-                let counts = (usize::from(ty.len_params()), usize::from(ty.len_results()));
-                same(&rt, "counts", (counts, None), (ends, refusal));
-            }
-            Err(error) => same(&rt, "refusal", (ends, Some(error)), (ends, refusal)),
-        }
+        let (counts, error) = match made {
+            Ok(ty) => (
+                (usize::from(ty.len_params()), usize::from(ty.len_results())),
+                None,
+            ),
+            Err(error) => (ends, Some(error)),
+        };
+        let answer = (reads, counts, error);
+        same(
+            &rt,
+            "reads, counts, refusal",
+            answer,
+            (expected, ends, refusal),
+        );
     }
 }
 

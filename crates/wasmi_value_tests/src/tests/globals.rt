@@ -44,18 +44,10 @@ fn variables_are_written_with_their_type(rt: HostRuntime) {
 fn global_types_are_constant_or_variable(rt: HostRuntime) {
     for (mutability, is_mut) in [(Mutability::Const, false), (Mutability::Var, true)] {
         let ty = GlobalType::new(ValType::I32, mutability);
-        same(
-            &rt,
-            "content and mutability",
-            (ty.content(), ty.mutability()),
-            (ValType::I32, mutability),
-        );
-        same(
-            &rt,
-            "constant or variable",
-            (mutability.is_const(), mutability.is_mut()),
-            (!is_mut, is_mut),
-        );
+        let kind = (mutability.is_const(), mutability.is_mut());
+        let answer = (ty.content(), ty.mutability(), kind);
+        let expected = (ValType::I32, mutability, (!is_mut, is_mut));
+        same(&rt, "content and mutability", answer, expected);
     }
 }
 

@@ -94,31 +94,37 @@ fn non_zero_integers_set_the_low_word_alone(rt: HostRuntime) {
 fn equality_looks_at_both_words(rt: HostRuntime) {
     let mut raw = RawVal::from(V128::from(u128::MAX));
     raw.write_as(0u32);
-    same(&rt, "words", (raw.lo, raw.hi), (0, 18446744073709551615));
-    same(&rt, "equality", raw == RawVal::from(0u32), false);
+    let answer = (raw.lo, raw.hi, raw == RawVal::from(0u32));
+    let expected = (0, 18446744073709551615, false);
+    same(&rt, "words and equality", answer, expected);
 }
 
 #[test]
 fn floats_and_bits_are_the_low_word(rt: HostRuntime) {
     let floats = (F32::from_bits(9), F64::from_bits(9));
-    let raws = [RawVal::from(floats.0), RawVal::from(floats.1)];
-    same(&rt, "floats", raws, [RawVal { lo: 9, hi: 0 }; 2]);
-    same(&rt, "bits", RawVal::from_bits64(3), RawVal { lo: 3, hi: 0 });
-    same(&rt, "default", RawVal::default(), RawVal { lo: 0, hi: 0 });
+    let answers = [
+        RawVal::from(floats.0),
+        RawVal::from(floats.1),
+        RawVal::from_bits64(3),
+        RawVal::default(),
+    ];
+    let nine = RawVal { lo: 9, hi: 0 };
+    let (three, zero) = (RawVal { lo: 3, hi: 0 }, RawVal { lo: 0, hi: 0 });
+    let expected = [nine, nine, three, zero];
+    same(&rt, "two floats, bits, default", answers, expected);
 }
 
 #[test]
 fn a_vector_is_both_words(rt: HostRuntime) {
     let vector = V128::from((2 << 64) + 1);
-    same(
-        &rt,
-        "raw value of a vector",
+    let answer = (
         RawVal::from(vector),
-        RawVal { lo: 1, hi: 2 },
+        vector.words(),
+        V128::from_word_pair(1, 2),
+        V128::from(ONES).as_u128(),
     );
-    same(&rt, "words of a vector", vector.words(), (1, 2));
-    same(&rt, "vector of words", V128::from_word_pair(1, 2), vector);
-    same(&rt, "vector of ones", V128::from(ONES).as_u128(), u128::MAX);
+    let expected = (RawVal { lo: 1, hi: 2 }, (1, 2), vector, u128::MAX);
+    same(&rt, "a vector, words, ones", answer, expected);
 }
 
 #[test]
@@ -149,12 +155,19 @@ fn a_raw_value_becomes_a_bool_or_a_float(rt: HostRuntime) {
     let raw = RawVal::from_bits64(256);
     let boolean: bool = raw.read_as();
     let byte: u8 = raw.read_as();
-    same(&rt, "bool and byte", (boolean, byte), (true, 0));
-    let booleans = (bool::from(raw), bool::from(RawVal::default()));
-    same(&rt, "bools", booleans, (true, false));
-    same(&rt, "bits", raw.to_bits64(), 256);
-    same(&rt, "F32", F32::from(ONES).to_bits(), u32::MAX);
-    same(&rt, "F64", F64::from(ONES).to_bits(), u64::MAX);
+    let booleans = (
+        boolean,
+        byte,
+        bool::from(raw),
+        bool::from(RawVal::default()),
+    );
+    let bits = (
+        raw.to_bits64(),
+        F32::from(ONES).to_bits(),
+        F64::from(ONES).to_bits(),
+    );
+    let expected = ((true, 0, true, false), (256, u32::MAX, u64::MAX));
+    same(&rt, "bools and bits", (booleans, bits), expected);
 }
 
 static ASCENDING: [(RawVal, RawVal); 3] = [

@@ -7,17 +7,15 @@ use wasmi_types::{RefType, ValType};
 
 #[test]
 fn references_are_their_bits(rt: HostRuntime) {
-    same(&rt, "bits of null", u32::from(RawRef::null()), 0);
-    same(&rt, "null", RawRef::null().is_null(), true);
+    let null = (u32::from(RawRef::null()), RawRef::null().is_null());
     let seven = RawRef::from(7);
-    same(
-        &rt,
-        "seven",
+    let answer = (
+        null,
         (seven.is_null(), u32::from(seven)),
-        (false, 7),
+        (seven == RawRef::from(7), seven < RawRef::from(u32::MAX)),
     );
-    same(&rt, "equality", seven == RawRef::from(7), true);
-    same(&rt, "order", seven < RawRef::from(u32::MAX), true);
+    let expected = ((0, true), (false, 7), (true, true));
+    same(&rt, "null, seven, equality and order", answer, expected);
 }
 
 #[test]
@@ -27,24 +25,21 @@ fn references_are_read_and_written(rt: HostRuntime) {
         hi: u64::MAX,
     };
     let read: RawRef = raw.read_as();
-    same(&rt, "read", read, RawRef::from(u32::MAX));
     raw.write_as(RawRef::from(7));
     let expected = RawVal {
         lo: 7,
         hi: u64::MAX,
     };
-    same(&rt, "written", raw, expected);
-    same(
-        &rt,
-        "raw value",
-        RawVal::from(RawRef::from(7)),
-        RawVal { lo: 7, hi: 0 },
-    );
+    let raws = [raw, RawVal::from(RawRef::from(7))];
+    let expected = [expected, RawVal { lo: 7, hi: 0 }];
+    same(&rt, "written, raw value", raws, expected);
     let cut = RawVal {
         lo: (1 << 32) + 5,
         hi: 1,
     };
-    same(&rt, "low bits", RawRef::from(cut), RawRef::from(5));
+    let references = [read, RawRef::from(cut)];
+    let expected = [RawRef::from(u32::MAX), RawRef::from(5)];
+    same(&rt, "read, low bits", references, expected);
 }
 
 #[test]

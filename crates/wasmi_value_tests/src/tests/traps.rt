@@ -45,15 +45,18 @@ static TRAP_CODES: [(u8, TrapCode, &str); 12] = [
 #[test]
 fn trap_code_conversion(rt: HostRuntime) {
     for (number, code, text) in &TRAP_CODES {
-        same(&rt, text, u8::from(*code), *number);
-        same(&rt, text, TrapCode::try_from(*number), Ok(*code));
-        same(&rt, text, code.trap_message(), *text);
+        let codes = (u8::from(*code), TrapCode::try_from(*number));
+        let answer = (codes, code.trap_message());
+        same(&rt, text, answer, ((*number, Ok(*code)), *text));
         same_text(&rt, rt.alloc(), code, text);
     }
-    for number in [0, 13, 255] {
-        let answer = (number, TrapCode::try_from(number));
-        same(&rt, "no trap code", answer, (number, Err(InvalidTrapCode)));
-    }
+    let answers = [
+        TrapCode::try_from(0),
+        TrapCode::try_from(13),
+        TrapCode::try_from(255),
+    ];
+    let expected = [Err(InvalidTrapCode); 3];
+    same(&rt, "no trap codes, 0, 13 and 255", answers, expected);
 }
 
 /// An error of the host.

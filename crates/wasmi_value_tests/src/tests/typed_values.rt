@@ -52,16 +52,20 @@ fn typed_values_are_read_by_their_bits(rt: HostRuntime) {
         i32::from(ones),
         i64::from(ones),
     );
-    same(&rt, "signed", signed, (-1, -1, -1, -1));
     let unsigned = (
         u8::from(ones),
         u16::from(ones),
         u32::from(ones),
         u64::from(ones),
     );
-    same(&rt, "unsigned", unsigned, (255, 65535, u32::MAX, u64::MAX));
-    same(&rt, "bool", bool::from(ones), true);
-    same(&rt, "V128", V128::from(ones).as_u128(), u128::MAX);
+    let others = (bool::from(ones), V128::from(ones).as_u128());
+    let expected = (
+        (-1, -1, -1, -1),
+        (255, 65535, u32::MAX, u64::MAX),
+        (true, u128::MAX),
+    );
+    let answer = (signed, unsigned, others);
+    same(&rt, "signed, unsigned, bool and V128", answer, expected);
 }
 
 /// The remainder of an amount, which is `None` where nothing is shifted.

@@ -18,9 +18,9 @@ static VALUE_TYPES: [(ValType, bool, Option<RefType>); 7] = [
 #[test]
 fn value_types_are_numbers_vectors_or_references(rt: HostRuntime) {
     for &(ty, is_num, reference) in &VALUE_TYPES {
-        same(&rt, "is_num", (ty, ty.is_num()), (ty, is_num));
-        same(&rt, "is_ref", (ty, ty.is_ref()), (ty, reference.is_some()));
-        same(&rt, "as_ref", (ty, ty.as_ref()), (ty, reference));
+        let answer = (ty, ty.is_num(), ty.is_ref(), ty.as_ref());
+        let expected = (ty, is_num, reference.is_some(), reference);
+        same(&rt, "is_num, is_ref, as_ref", answer, expected);
         if let Some(reference) = reference {
             same(&rt, "type of a reference", ValType::from(reference), ty);
         }
@@ -36,29 +36,20 @@ fn value_types_ascend(rt: HostRuntime) {
         F64 < V128,
         V128 < FuncRef,
         FuncRef < ExternRef,
-    ];
-    same(&rt, "value types", ascending, [true; 6]);
-    same(&rt, "none and some", None < Some(I32), true);
-    same(
-        &rt,
-        "reference types",
+        None < Some(I32),
         RefType::Func < RefType::Extern,
-        true,
-    );
+    ];
+    same(&rt, "value types", ascending, [true; 8]);
 }
 
 #[test]
 fn index_types_are_32_or_64_bits_wide(rt: HostRuntime) {
     let (narrow, wide) = (IndexType::I32, IndexType::I64);
-    same(&rt, "narrow", (narrow.ty(), narrow.is_64()), (I32, false));
-    same(&rt, "wide", (wide.ty(), wide.is_64()), (I64, true));
-    same(&rt, "narrow size", narrow.max_size(), 4_294_967_296);
-    same(
-        &rt,
-        "wide size",
-        wide.max_size(),
-        18_446_744_073_709_551_616,
-    );
+    let answers = [(narrow.ty(), narrow.is_64()), (wide.ty(), wide.is_64())];
+    same(&rt, "narrow, wide", answers, [(I32, false), (I64, true)]);
+    let sizes = [narrow.max_size(), wide.max_size()];
+    let expected = [4_294_967_296, 18_446_744_073_709_551_616];
+    same(&rt, "sizes", sizes, expected);
 }
 
 #[test]
