@@ -142,16 +142,20 @@ impl Registers {
     pub(crate) fn test(&self, op: TestOp, a: u8) -> Reply
         ensures { result ≡ raw_reply (option_map (tested_raw op) (vector_at self.now.values a)) }
     {
-        self.vector(a)
-            .map_or(Reply::NoSuch, |a| Reply::Value(op.apply(a)))
+        let Some(a) = self.vector(a) else {
+            return Reply::NoSuch;
+        };
+        Reply::Value(op.apply(a))
     }
 
     /// A lane of a vector.
     pub(crate) fn extract(&self, op: ExtractOp, a: u8) -> Reply
         ensures { result ≡ raw_reply (option_map (extracted_raw op) (vector_at self.now.values a)) }
     {
-        self.vector(a)
-            .map_or(Reply::NoSuch, |a| Reply::Value(op.apply(a)))
+        let Some(a) = self.vector(a) else {
+            return Reply::NoSuch;
+        };
+        Reply::Value(op.apply(a))
     }
 
     /// A vector with an item in a lane.
