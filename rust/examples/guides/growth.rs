@@ -1,0 +1,48 @@
+//! A growth under a quota, with the contract that its caller wants.
+
+use std::io::Write as _;
+use wasmi_core_proved::machine::{Fuel, FuelCostsProvider, Memory, MemoryError, MemoryType, Quota};
+
+/// Grows by so many pages, pays for them, and counts them in the quota.
+///
+/// # Contract
+///
+/// <span></span><pre><code>ensures: GrowsMemory (optional_rules quota_rules) pages
+/// &#32;&#32;&#32;&#32;(metered_value memory.old ([Some] fuel.old) ([Some] quota.old)) result
+/// &#32;&#32;&#32;&#32;(metered_value memory.new ([Some] fuel.new) ([Some] quota.new))</code></pre>
+///
+/// [Some]: crate::specs::library#Some "the value x, of an \`Option\`"
+pub fn grow(
+    memory: &mut Memory,
+    pages: u64,
+    fuel: &mut Fuel,
+    quota: &mut Quota,
+) -> Result<u64, MemoryError> {
+    memory.grow_lending(pages, fuel, quota)
+}
+
+/// Grows a memory of bytes by more than the quota has left, then by less.
+pub fn main() -> Result<(), Box<dyn std::error::Error>> {
+    let mut quota = Quota::new(100, 0);
+    let mut fuel = Fuel::new(false, FuelCostsProvider::default());
+    let mut builder = MemoryType::builder();
+    builder.min(60).page_size_log2(0);
+    let mut memory = Memory::new_lending(builder.build()?, &mut quota)?;
+    writeln!(
+        std::io::stdout(),
+        "{:?}",
+        grow(&mut memory, 41, &mut fuel, &mut quota)
+    )?;
+    writeln!(
+        std::io::stdout(),
+        "{:?}",
+        grow(&mut memory, 40, &mut fuel, &mut quota)
+    )?;
+    writeln!(
+        std::io::stdout(),
+        "{} bytes, held {}",
+        memory.data().len(),
+        quota.held_bytes()
+    )?;
+    Ok(())
+}

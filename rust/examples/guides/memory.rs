@@ -1,0 +1,38 @@
+//! Instructions on a memory of one's own: stores, loads, a sum, a vector sum, and a trap.
+
+use std::io;
+use std::io::Write as _;
+use wasmi_core_proved::machine::{TrapCode, simd, wasm};
+
+/// Adds two numbers of a memory, and loads past its end.
+pub fn main() -> io::Result<()> {
+    let mut memory = [0u8; 64];
+    match sum(&mut memory) {
+        Ok(number) => writeln!(std::io::stdout(), "sum: {number}")?,
+        Err(trap) => writeln!(std::io::stdout(), "sum: {trap}")?,
+    }
+    match lanes(&memory) {
+        Ok(bits) => writeln!(std::io::stdout(), "each byte plus one: {bits:032x}")?,
+        Err(trap) => writeln!(std::io::stdout(), "each byte plus one: {trap}")?,
+    }
+    match wasm::load_u32(&memory, 60, 1) {
+        Ok(number) => writeln!(std::io::stdout(), "past the end: {number}"),
+        Err(trap) => writeln!(std::io::stdout(), "past the end: {trap}"),
+    }
+}
+
+/// Stores two numbers side by side, loads them and adds them.
+fn sum(memory: &mut [u8]) -> Result<i32, TrapCode> {
+    wasm::store32(memory, 8, 0, 40)?;
+    wasm::store32(memory, 8, 4, 2)?;
+    let first = wasm::load_u32(memory, 8, 0)?;
+    let second = wasm::load_u32(memory, 8, 4)?;
+    Ok(wasm::i32_add(first.cast_signed(), second.cast_signed()))
+}
+
+/// Loads 16 bytes as a vector, and adds one to each of them.
+fn lanes(memory: &[u8]) -> Result<u128, TrapCode> {
+    let bytes = simd::v128_load(memory, 8, 0)?;
+    let sums = simd::i8x16_add(bytes, simd::i8x16_splat(1));
+    Ok(sums.as_u128())
+}

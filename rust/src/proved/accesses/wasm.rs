@@ -1,0 +1,540 @@
+//! The loads and stores of the integer types.
+//!
+//! A form without `_at` accesses the address `ptr + offset`, a form with `_at` the given one;
+//! addresses count bytes. The only error is `MemoryOutOfBounds`, and then nothing is written. Core
+//! specification: memory instructions. Upstream: `wasmi_core::wasm`.
+
+use crate::proved::accesses::access::{
+    load, load_at, load_extend, load_extend_at, store, store_at, store_wrap, store_wrap_at,
+};
+use crate::proved::types::TrapCode;
+
+/// `i32.load8_s`: 8 bits, read signed.
+///
+/// # Contract
+///
+/// <span></span><pre><code>ensures: result ≡ [loaded] 1 ([cast_signed] [w8]) memory.now (ptr + offset)</code></pre>
+///
+/// [loaded]: crate::specs::accesses::LoadStore#loaded "what a load of n bytes at a gives"
+/// [cast_signed]: crate::specs::library#cast_signed "the number from 0 up to 2 ^ w read as signed, in two\'s complement"
+/// [w8]: crate::specs::library#w8 "the widths of integers in bits"
+#[inline]
+pub fn i32_load8_s(memory: &[u8], ptr: u64, offset: u64) -> Result<i32, TrapCode> {
+    load_extend::<i32, i8>(memory, ptr, offset)
+}
+
+/// `i32.load8_s` at an address.
+///
+/// # Contract
+///
+/// <span></span><pre><code>ensures: result ≡ [loaded] 1 ([cast_signed] [w8]) memory.now address</code></pre>
+///
+/// [loaded]: crate::specs::accesses::LoadStore#loaded "what a load of n bytes at a gives"
+/// [cast_signed]: crate::specs::library#cast_signed "the number from 0 up to 2 ^ w read as signed, in two\'s complement"
+/// [w8]: crate::specs::library#w8 "the widths of integers in bits"
+#[inline]
+pub fn i32_load8_s_at(memory: &[u8], address: usize) -> Result<i32, TrapCode> {
+    load_extend_at::<i32, i8>(memory, address)
+}
+
+/// `i32.load8_u`: 8 bits, read unsigned.
+///
+/// # Contract
+///
+/// <span></span><pre><code>ensures: result ≡ [loaded] 1 [pos] memory.now (ptr + offset)</code></pre>
+///
+/// [loaded]: crate::specs::accesses::LoadStore#loaded "what a load of n bytes at a gives"
+/// [pos]: crate::specs::library#pos "the number n, as one with a sign"
+#[inline]
+pub fn i32_load8_u(memory: &[u8], ptr: u64, offset: u64) -> Result<i32, TrapCode> {
+    load_extend::<i32, u8>(memory, ptr, offset)
+}
+
+/// `i32.load8_u` at an address.
+///
+/// # Contract
+///
+/// <span></span><pre><code>ensures: result ≡ [loaded] 1 [pos] memory.now address</code></pre>
+///
+/// [loaded]: crate::specs::accesses::LoadStore#loaded "what a load of n bytes at a gives"
+/// [pos]: crate::specs::library#pos "the number n, as one with a sign"
+#[inline]
+pub fn i32_load8_u_at(memory: &[u8], address: usize) -> Result<i32, TrapCode> {
+    load_extend_at::<i32, u8>(memory, address)
+}
+
+/// `i32.load16_s`: 16 bits, read signed.
+///
+/// # Contract
+///
+/// <span></span><pre><code>ensures: result ≡ [loaded] 2 ([cast_signed] [w16]) memory.now (ptr + offset)</code></pre>
+///
+/// [loaded]: crate::specs::accesses::LoadStore#loaded "what a load of n bytes at a gives"
+/// [cast_signed]: crate::specs::library#cast_signed "the number from 0 up to 2 ^ w read as signed, in two\'s complement"
+/// [w16]: crate::specs::library#w16 "the widths of integers in bits"
+#[inline]
+pub fn i32_load16_s(memory: &[u8], ptr: u64, offset: u64) -> Result<i32, TrapCode> {
+    load_extend::<i32, i16>(memory, ptr, offset)
+}
+
+/// `i32.load16_s` at an address.
+///
+/// # Contract
+///
+/// <span></span><pre><code>ensures: result ≡ [loaded] 2 ([cast_signed] [w16]) memory.now address</code></pre>
+///
+/// [loaded]: crate::specs::accesses::LoadStore#loaded "what a load of n bytes at a gives"
+/// [cast_signed]: crate::specs::library#cast_signed "the number from 0 up to 2 ^ w read as signed, in two\'s complement"
+/// [w16]: crate::specs::library#w16 "the widths of integers in bits"
+#[inline]
+pub fn i32_load16_s_at(memory: &[u8], address: usize) -> Result<i32, TrapCode> {
+    load_extend_at::<i32, i16>(memory, address)
+}
+
+/// `i32.load16_u`: 16 bits, read unsigned.
+///
+/// # Contract
+///
+/// <span></span><pre><code>ensures: result ≡ [loaded] 2 [pos] memory.now (ptr + offset)</code></pre>
+///
+/// [loaded]: crate::specs::accesses::LoadStore#loaded "what a load of n bytes at a gives"
+/// [pos]: crate::specs::library#pos "the number n, as one with a sign"
+#[inline]
+pub fn i32_load16_u(memory: &[u8], ptr: u64, offset: u64) -> Result<i32, TrapCode> {
+    load_extend::<i32, u16>(memory, ptr, offset)
+}
+
+/// `i32.load16_u` at an address.
+///
+/// # Contract
+///
+/// <span></span><pre><code>ensures: result ≡ [loaded] 2 [pos] memory.now address</code></pre>
+///
+/// [loaded]: crate::specs::accesses::LoadStore#loaded "what a load of n bytes at a gives"
+/// [pos]: crate::specs::library#pos "the number n, as one with a sign"
+#[inline]
+pub fn i32_load16_u_at(memory: &[u8], address: usize) -> Result<i32, TrapCode> {
+    load_extend_at::<i32, u16>(memory, address)
+}
+
+/// `i64.load8_s`: 8 bits, read signed.
+///
+/// # Contract
+///
+/// <span></span><pre><code>ensures: result ≡ [loaded] 1 ([cast_signed] [w8]) memory.now (ptr + offset)</code></pre>
+///
+/// [loaded]: crate::specs::accesses::LoadStore#loaded "what a load of n bytes at a gives"
+/// [cast_signed]: crate::specs::library#cast_signed "the number from 0 up to 2 ^ w read as signed, in two\'s complement"
+/// [w8]: crate::specs::library#w8 "the widths of integers in bits"
+#[inline]
+pub fn i64_load8_s(memory: &[u8], ptr: u64, offset: u64) -> Result<i64, TrapCode> {
+    load_extend::<i64, i8>(memory, ptr, offset)
+}
+
+/// `i64.load8_s` at an address.
+///
+/// # Contract
+///
+/// <span></span><pre><code>ensures: result ≡ [loaded] 1 ([cast_signed] [w8]) memory.now address</code></pre>
+///
+/// [loaded]: crate::specs::accesses::LoadStore#loaded "what a load of n bytes at a gives"
+/// [cast_signed]: crate::specs::library#cast_signed "the number from 0 up to 2 ^ w read as signed, in two\'s complement"
+/// [w8]: crate::specs::library#w8 "the widths of integers in bits"
+#[inline]
+pub fn i64_load8_s_at(memory: &[u8], address: usize) -> Result<i64, TrapCode> {
+    load_extend_at::<i64, i8>(memory, address)
+}
+
+/// `i64.load8_u`: 8 bits, read unsigned.
+///
+/// # Contract
+///
+/// <span></span><pre><code>ensures: result ≡ [loaded] 1 [pos] memory.now (ptr + offset)</code></pre>
+///
+/// [loaded]: crate::specs::accesses::LoadStore#loaded "what a load of n bytes at a gives"
+/// [pos]: crate::specs::library#pos "the number n, as one with a sign"
+#[inline]
+pub fn i64_load8_u(memory: &[u8], ptr: u64, offset: u64) -> Result<i64, TrapCode> {
+    load_extend::<i64, u8>(memory, ptr, offset)
+}
+
+/// `i64.load8_u` at an address.
+///
+/// # Contract
+///
+/// <span></span><pre><code>ensures: result ≡ [loaded] 1 [pos] memory.now address</code></pre>
+///
+/// [loaded]: crate::specs::accesses::LoadStore#loaded "what a load of n bytes at a gives"
+/// [pos]: crate::specs::library#pos "the number n, as one with a sign"
+#[inline]
+pub fn i64_load8_u_at(memory: &[u8], address: usize) -> Result<i64, TrapCode> {
+    load_extend_at::<i64, u8>(memory, address)
+}
+
+/// `i64.load16_s`: 16 bits, read signed.
+///
+/// # Contract
+///
+/// <span></span><pre><code>ensures: result ≡ [loaded] 2 ([cast_signed] [w16]) memory.now (ptr + offset)</code></pre>
+///
+/// [loaded]: crate::specs::accesses::LoadStore#loaded "what a load of n bytes at a gives"
+/// [cast_signed]: crate::specs::library#cast_signed "the number from 0 up to 2 ^ w read as signed, in two\'s complement"
+/// [w16]: crate::specs::library#w16 "the widths of integers in bits"
+#[inline]
+pub fn i64_load16_s(memory: &[u8], ptr: u64, offset: u64) -> Result<i64, TrapCode> {
+    load_extend::<i64, i16>(memory, ptr, offset)
+}
+
+/// `i64.load16_s` at an address.
+///
+/// # Contract
+///
+/// <span></span><pre><code>ensures: result ≡ [loaded] 2 ([cast_signed] [w16]) memory.now address</code></pre>
+///
+/// [loaded]: crate::specs::accesses::LoadStore#loaded "what a load of n bytes at a gives"
+/// [cast_signed]: crate::specs::library#cast_signed "the number from 0 up to 2 ^ w read as signed, in two\'s complement"
+/// [w16]: crate::specs::library#w16 "the widths of integers in bits"
+#[inline]
+pub fn i64_load16_s_at(memory: &[u8], address: usize) -> Result<i64, TrapCode> {
+    load_extend_at::<i64, i16>(memory, address)
+}
+
+/// `i64.load16_u`: 16 bits, read unsigned.
+///
+/// # Contract
+///
+/// <span></span><pre><code>ensures: result ≡ [loaded] 2 [pos] memory.now (ptr + offset)</code></pre>
+///
+/// [loaded]: crate::specs::accesses::LoadStore#loaded "what a load of n bytes at a gives"
+/// [pos]: crate::specs::library#pos "the number n, as one with a sign"
+#[inline]
+pub fn i64_load16_u(memory: &[u8], ptr: u64, offset: u64) -> Result<i64, TrapCode> {
+    load_extend::<i64, u16>(memory, ptr, offset)
+}
+
+/// `i64.load16_u` at an address.
+///
+/// # Contract
+///
+/// <span></span><pre><code>ensures: result ≡ [loaded] 2 [pos] memory.now address</code></pre>
+///
+/// [loaded]: crate::specs::accesses::LoadStore#loaded "what a load of n bytes at a gives"
+/// [pos]: crate::specs::library#pos "the number n, as one with a sign"
+#[inline]
+pub fn i64_load16_u_at(memory: &[u8], address: usize) -> Result<i64, TrapCode> {
+    load_extend_at::<i64, u16>(memory, address)
+}
+
+/// `i64.load32_s`: 32 bits, read signed.
+///
+/// # Contract
+///
+/// <span></span><pre><code>ensures: result ≡ [loaded] 4 ([cast_signed] [w32]) memory.now (ptr + offset)</code></pre>
+///
+/// [loaded]: crate::specs::accesses::LoadStore#loaded "what a load of n bytes at a gives"
+/// [cast_signed]: crate::specs::library#cast_signed "the number from 0 up to 2 ^ w read as signed, in two\'s complement"
+/// [w32]: crate::specs::library#w32 "the widths of integers in bits"
+#[inline]
+pub fn i64_load32_s(memory: &[u8], ptr: u64, offset: u64) -> Result<i64, TrapCode> {
+    load_extend::<i64, i32>(memory, ptr, offset)
+}
+
+/// `i64.load32_s` at an address.
+///
+/// # Contract
+///
+/// <span></span><pre><code>ensures: result ≡ [loaded] 4 ([cast_signed] [w32]) memory.now address</code></pre>
+///
+/// [loaded]: crate::specs::accesses::LoadStore#loaded "what a load of n bytes at a gives"
+/// [cast_signed]: crate::specs::library#cast_signed "the number from 0 up to 2 ^ w read as signed, in two\'s complement"
+/// [w32]: crate::specs::library#w32 "the widths of integers in bits"
+#[inline]
+pub fn i64_load32_s_at(memory: &[u8], address: usize) -> Result<i64, TrapCode> {
+    load_extend_at::<i64, i32>(memory, address)
+}
+
+/// `i64.load32_u`: 32 bits, read unsigned.
+///
+/// # Contract
+///
+/// <span></span><pre><code>ensures: result ≡ [loaded] 4 [pos] memory.now (ptr + offset)</code></pre>
+///
+/// [loaded]: crate::specs::accesses::LoadStore#loaded "what a load of n bytes at a gives"
+/// [pos]: crate::specs::library#pos "the number n, as one with a sign"
+#[inline]
+pub fn i64_load32_u(memory: &[u8], ptr: u64, offset: u64) -> Result<i64, TrapCode> {
+    load_extend::<i64, u32>(memory, ptr, offset)
+}
+
+/// `i64.load32_u` at an address.
+///
+/// # Contract
+///
+/// <span></span><pre><code>ensures: result ≡ [loaded] 4 [pos] memory.now address</code></pre>
+///
+/// [loaded]: crate::specs::accesses::LoadStore#loaded "what a load of n bytes at a gives"
+/// [pos]: crate::specs::library#pos "the number n, as one with a sign"
+#[inline]
+pub fn i64_load32_u_at(memory: &[u8], address: usize) -> Result<i64, TrapCode> {
+    load_extend_at::<i64, u32>(memory, address)
+}
+
+/// `i32.load`: 32 bits, read unsigned.
+///
+/// # Contract
+///
+/// <span></span><pre><code>ensures: result ≡ [loaded] 4 (λ n. n) memory.now (ptr + offset)</code></pre>
+///
+/// [loaded]: crate::specs::accesses::LoadStore#loaded "what a load of n bytes at a gives"
+#[inline]
+pub fn load_u32(memory: &[u8], ptr: u64, offset: u64) -> Result<u32, TrapCode> {
+    load::<u32>(memory, ptr, offset)
+}
+
+/// `i32.load` at an address.
+///
+/// # Contract
+///
+/// <span></span><pre><code>ensures: result ≡ [loaded] 4 (λ n. n) memory.now address</code></pre>
+///
+/// [loaded]: crate::specs::accesses::LoadStore#loaded "what a load of n bytes at a gives"
+#[inline]
+pub fn load_u32_at(memory: &[u8], address: usize) -> Result<u32, TrapCode> {
+    load_at::<u32>(memory, address)
+}
+
+/// `i64.load`: 64 bits, read unsigned.
+///
+/// # Contract
+///
+/// <span></span><pre><code>ensures: result ≡ [loaded] 8 (λ n. n) memory.now (ptr + offset)</code></pre>
+///
+/// [loaded]: crate::specs::accesses::LoadStore#loaded "what a load of n bytes at a gives"
+#[inline]
+pub fn load_u64(memory: &[u8], ptr: u64, offset: u64) -> Result<u64, TrapCode> {
+    load::<u64>(memory, ptr, offset)
+}
+
+/// `i64.load` at an address.
+///
+/// # Contract
+///
+/// <span></span><pre><code>ensures: result ≡ [loaded] 8 (λ n. n) memory.now address</code></pre>
+///
+/// [loaded]: crate::specs::accesses::LoadStore#loaded "what a load of n bytes at a gives"
+#[inline]
+pub fn load_u64_at(memory: &[u8], address: usize) -> Result<u64, TrapCode> {
+    load_at::<u64>(memory, address)
+}
+
+/// `i32.store8`: the value modulo 2 to the power 8.
+///
+/// # Contract
+///
+/// <span></span><pre><code>ensures: [IsStore] memory.old (ptr + offset)
+/// &#32;&#32;&#32;&#32;([le_bytes] 1 ([cast_unsigned] [w32] value % 2 ^ 8)) memory.new result</code></pre>
+///
+/// [IsStore]: crate::specs::accesses::LoadStore#IsStore "a store of ys at a: the memory has them there, or the store traps and the memory is the same"
+/// [le_bytes]: crate::specs::types::Bytes#le_bytes "the k bytes of a number below 256 to the power k"
+/// [cast_unsigned]: crate::specs::library#cast_unsigned "the signed number as one from 0 up to 2 ^ w, in two\'s complement"
+/// [w32]: crate::specs::library#w32 "the widths of integers in bits"
+#[inline]
+pub fn i32_store8(memory: &mut [u8], ptr: u64, offset: u64, value: i32) -> Result<(), TrapCode> {
+    store_wrap::<i32, i8>(memory, ptr, offset, value)
+}
+
+/// `i32.store8` at an address.
+///
+/// # Contract
+///
+/// <span></span><pre><code>ensures: [IsStore] memory.old address
+/// &#32;&#32;&#32;&#32;([le_bytes] 1 ([cast_unsigned] [w32] value % 2 ^ 8)) memory.new result</code></pre>
+///
+/// [IsStore]: crate::specs::accesses::LoadStore#IsStore "a store of ys at a: the memory has them there, or the store traps and the memory is the same"
+/// [le_bytes]: crate::specs::types::Bytes#le_bytes "the k bytes of a number below 256 to the power k"
+/// [cast_unsigned]: crate::specs::library#cast_unsigned "the signed number as one from 0 up to 2 ^ w, in two\'s complement"
+/// [w32]: crate::specs::library#w32 "the widths of integers in bits"
+#[inline]
+pub fn i32_store8_at(memory: &mut [u8], address: usize, value: i32) -> Result<(), TrapCode> {
+    store_wrap_at::<i32, i8>(memory, address, value)
+}
+
+/// `i32.store16`: the value modulo 2 to the power 16.
+///
+/// # Contract
+///
+/// <span></span><pre><code>ensures: [IsStore] memory.old (ptr + offset)
+/// &#32;&#32;&#32;&#32;([le_bytes] 2 ([cast_unsigned] [w32] value % 2 ^ 16)) memory.new result</code></pre>
+///
+/// [IsStore]: crate::specs::accesses::LoadStore#IsStore "a store of ys at a: the memory has them there, or the store traps and the memory is the same"
+/// [le_bytes]: crate::specs::types::Bytes#le_bytes "the k bytes of a number below 256 to the power k"
+/// [cast_unsigned]: crate::specs::library#cast_unsigned "the signed number as one from 0 up to 2 ^ w, in two\'s complement"
+/// [w32]: crate::specs::library#w32 "the widths of integers in bits"
+#[inline]
+pub fn i32_store16(memory: &mut [u8], ptr: u64, offset: u64, value: i32) -> Result<(), TrapCode> {
+    store_wrap::<i32, i16>(memory, ptr, offset, value)
+}
+
+/// `i32.store16` at an address.
+///
+/// # Contract
+///
+/// <span></span><pre><code>ensures: [IsStore] memory.old address
+/// &#32;&#32;&#32;&#32;([le_bytes] 2 ([cast_unsigned] [w32] value % 2 ^ 16)) memory.new result</code></pre>
+///
+/// [IsStore]: crate::specs::accesses::LoadStore#IsStore "a store of ys at a: the memory has them there, or the store traps and the memory is the same"
+/// [le_bytes]: crate::specs::types::Bytes#le_bytes "the k bytes of a number below 256 to the power k"
+/// [cast_unsigned]: crate::specs::library#cast_unsigned "the signed number as one from 0 up to 2 ^ w, in two\'s complement"
+/// [w32]: crate::specs::library#w32 "the widths of integers in bits"
+#[inline]
+pub fn i32_store16_at(memory: &mut [u8], address: usize, value: i32) -> Result<(), TrapCode> {
+    store_wrap_at::<i32, i16>(memory, address, value)
+}
+
+/// `i64.store8`: the value modulo 2 to the power 8.
+///
+/// # Contract
+///
+/// <span></span><pre><code>ensures: [IsStore] memory.old (ptr + offset)
+/// &#32;&#32;&#32;&#32;([le_bytes] 1 ([cast_unsigned] [w64] value % 2 ^ 8)) memory.new result</code></pre>
+///
+/// [IsStore]: crate::specs::accesses::LoadStore#IsStore "a store of ys at a: the memory has them there, or the store traps and the memory is the same"
+/// [le_bytes]: crate::specs::types::Bytes#le_bytes "the k bytes of a number below 256 to the power k"
+/// [cast_unsigned]: crate::specs::library#cast_unsigned "the signed number as one from 0 up to 2 ^ w, in two\'s complement"
+/// [w64]: crate::specs::library#w64 "the widths of integers in bits"
+#[inline]
+pub fn i64_store8(memory: &mut [u8], ptr: u64, offset: u64, value: i64) -> Result<(), TrapCode> {
+    store_wrap::<i64, i8>(memory, ptr, offset, value)
+}
+
+/// `i64.store8` at an address.
+///
+/// # Contract
+///
+/// <span></span><pre><code>ensures: [IsStore] memory.old address
+/// &#32;&#32;&#32;&#32;([le_bytes] 1 ([cast_unsigned] [w64] value % 2 ^ 8)) memory.new result</code></pre>
+///
+/// [IsStore]: crate::specs::accesses::LoadStore#IsStore "a store of ys at a: the memory has them there, or the store traps and the memory is the same"
+/// [le_bytes]: crate::specs::types::Bytes#le_bytes "the k bytes of a number below 256 to the power k"
+/// [cast_unsigned]: crate::specs::library#cast_unsigned "the signed number as one from 0 up to 2 ^ w, in two\'s complement"
+/// [w64]: crate::specs::library#w64 "the widths of integers in bits"
+#[inline]
+pub fn i64_store8_at(memory: &mut [u8], address: usize, value: i64) -> Result<(), TrapCode> {
+    store_wrap_at::<i64, i8>(memory, address, value)
+}
+
+/// `i64.store16`: the value modulo 2 to the power 16.
+///
+/// # Contract
+///
+/// <span></span><pre><code>ensures: [IsStore] memory.old (ptr + offset)
+/// &#32;&#32;&#32;&#32;([le_bytes] 2 ([cast_unsigned] [w64] value % 2 ^ 16)) memory.new result</code></pre>
+///
+/// [IsStore]: crate::specs::accesses::LoadStore#IsStore "a store of ys at a: the memory has them there, or the store traps and the memory is the same"
+/// [le_bytes]: crate::specs::types::Bytes#le_bytes "the k bytes of a number below 256 to the power k"
+/// [cast_unsigned]: crate::specs::library#cast_unsigned "the signed number as one from 0 up to 2 ^ w, in two\'s complement"
+/// [w64]: crate::specs::library#w64 "the widths of integers in bits"
+#[inline]
+pub fn i64_store16(memory: &mut [u8], ptr: u64, offset: u64, value: i64) -> Result<(), TrapCode> {
+    store_wrap::<i64, i16>(memory, ptr, offset, value)
+}
+
+/// `i64.store16` at an address.
+///
+/// # Contract
+///
+/// <span></span><pre><code>ensures: [IsStore] memory.old address
+/// &#32;&#32;&#32;&#32;([le_bytes] 2 ([cast_unsigned] [w64] value % 2 ^ 16)) memory.new result</code></pre>
+///
+/// [IsStore]: crate::specs::accesses::LoadStore#IsStore "a store of ys at a: the memory has them there, or the store traps and the memory is the same"
+/// [le_bytes]: crate::specs::types::Bytes#le_bytes "the k bytes of a number below 256 to the power k"
+/// [cast_unsigned]: crate::specs::library#cast_unsigned "the signed number as one from 0 up to 2 ^ w, in two\'s complement"
+/// [w64]: crate::specs::library#w64 "the widths of integers in bits"
+#[inline]
+pub fn i64_store16_at(memory: &mut [u8], address: usize, value: i64) -> Result<(), TrapCode> {
+    store_wrap_at::<i64, i16>(memory, address, value)
+}
+
+/// `i64.store32`: the value modulo 2 to the power 32.
+///
+/// # Contract
+///
+/// <span></span><pre><code>ensures: [IsStore] memory.old (ptr + offset)
+/// &#32;&#32;&#32;&#32;([le_bytes] 4 ([cast_unsigned] [w64] value % 2 ^ 32)) memory.new result</code></pre>
+///
+/// [IsStore]: crate::specs::accesses::LoadStore#IsStore "a store of ys at a: the memory has them there, or the store traps and the memory is the same"
+/// [le_bytes]: crate::specs::types::Bytes#le_bytes "the k bytes of a number below 256 to the power k"
+/// [cast_unsigned]: crate::specs::library#cast_unsigned "the signed number as one from 0 up to 2 ^ w, in two\'s complement"
+/// [w64]: crate::specs::library#w64 "the widths of integers in bits"
+#[inline]
+pub fn i64_store32(memory: &mut [u8], ptr: u64, offset: u64, value: i64) -> Result<(), TrapCode> {
+    store_wrap::<i64, i32>(memory, ptr, offset, value)
+}
+
+/// `i64.store32` at an address.
+///
+/// # Contract
+///
+/// <span></span><pre><code>ensures: [IsStore] memory.old address
+/// &#32;&#32;&#32;&#32;([le_bytes] 4 ([cast_unsigned] [w64] value % 2 ^ 32)) memory.new result</code></pre>
+///
+/// [IsStore]: crate::specs::accesses::LoadStore#IsStore "a store of ys at a: the memory has them there, or the store traps and the memory is the same"
+/// [le_bytes]: crate::specs::types::Bytes#le_bytes "the k bytes of a number below 256 to the power k"
+/// [cast_unsigned]: crate::specs::library#cast_unsigned "the signed number as one from 0 up to 2 ^ w, in two\'s complement"
+/// [w64]: crate::specs::library#w64 "the widths of integers in bits"
+#[inline]
+pub fn i64_store32_at(memory: &mut [u8], address: usize, value: i64) -> Result<(), TrapCode> {
+    store_wrap_at::<i64, i32>(memory, address, value)
+}
+
+/// `i32.store`: the 32 bits of the value.
+///
+/// # Contract
+///
+/// <span></span><pre><code>ensures: [IsStore] memory.old (ptr + offset) ([le_bytes] 4 value) memory.new result</code></pre>
+///
+/// [IsStore]: crate::specs::accesses::LoadStore#IsStore "a store of ys at a: the memory has them there, or the store traps and the memory is the same"
+/// [le_bytes]: crate::specs::types::Bytes#le_bytes "the k bytes of a number below 256 to the power k"
+#[inline]
+pub fn store32(memory: &mut [u8], ptr: u64, offset: u64, value: u32) -> Result<(), TrapCode> {
+    store::<u32>(memory, ptr, offset, value)
+}
+
+/// `i32.store` at an address.
+///
+/// # Contract
+///
+/// <span></span><pre><code>ensures: [IsStore] memory.old address ([le_bytes] 4 value) memory.new result</code></pre>
+///
+/// [IsStore]: crate::specs::accesses::LoadStore#IsStore "a store of ys at a: the memory has them there, or the store traps and the memory is the same"
+/// [le_bytes]: crate::specs::types::Bytes#le_bytes "the k bytes of a number below 256 to the power k"
+#[inline]
+pub fn store32_at(memory: &mut [u8], address: usize, value: u32) -> Result<(), TrapCode> {
+    store_at::<u32>(memory, address, value)
+}
+
+/// `i64.store`: the 64 bits of the value.
+///
+/// # Contract
+///
+/// <span></span><pre><code>ensures: [IsStore] memory.old (ptr + offset) ([le_bytes] 8 value) memory.new result</code></pre>
+///
+/// [IsStore]: crate::specs::accesses::LoadStore#IsStore "a store of ys at a: the memory has them there, or the store traps and the memory is the same"
+/// [le_bytes]: crate::specs::types::Bytes#le_bytes "the k bytes of a number below 256 to the power k"
+#[inline]
+pub fn store64(memory: &mut [u8], ptr: u64, offset: u64, value: u64) -> Result<(), TrapCode> {
+    store::<u64>(memory, ptr, offset, value)
+}
+
+/// `i64.store` at an address.
+///
+/// # Contract
+///
+/// <span></span><pre><code>ensures: [IsStore] memory.old address ([le_bytes] 8 value) memory.new result</code></pre>
+///
+/// [IsStore]: crate::specs::accesses::LoadStore#IsStore "a store of ys at a: the memory has them there, or the store traps and the memory is the same"
+/// [le_bytes]: crate::specs::types::Bytes#le_bytes "the k bytes of a number below 256 to the power k"
+#[inline]
+pub fn store64_at(memory: &mut [u8], address: usize, value: u64) -> Result<(), TrapCode> {
+    store_at::<u64>(memory, address, value)
+}

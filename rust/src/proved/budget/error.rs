@@ -1,0 +1,55 @@
+//! Why a pool refuses.
+
+use crate::rattle::alloc::AllocError;
+use core::fmt;
+
+/// Why a machine isn't added to a pool, in the order of the tests.
+#[derive(Debug, PartialEq, Eq)]
+pub enum AddError {
+    /// The machine has bytes or elements, or had some that it dropped.
+    NotEmpty,
+    /// Memory for one more tenant was refused.
+    NoRoom,
+}
+
+impl fmt::Display for AddError {
+    #[inline]
+    fn fmt(&self, f: &mut fmt::Formatter<'_>) -> fmt::Result {
+        f.write_str(match self {
+            Self::NotEmpty => "tried to add a machine that has or had bytes or elements",
+            Self::NoRoom => "out of memory for one more tenant",
+        })
+    }
+}
+
+impl core::error::Error for AddError {}
+
+/// Why a pool doesn't run a tenant's calls, in the order of the tests.
+///
+/// Own: upstream has no pool.
+#[derive(Debug, PartialEq, Eq)]
+pub enum PoolError {
+    /// No tenant has the index.
+    NoTenant,
+    /// Memory for the replies, one for each call, was refused. No call was executed.
+    OutOfMemory,
+}
+
+impl fmt::Display for PoolError {
+    #[inline]
+    fn fmt(&self, f: &mut fmt::Formatter<'_>) -> fmt::Result {
+        f.write_str(match self {
+            Self::NoTenant => "tried to run a tenant that is not in the pool",
+            Self::OutOfMemory => "out of memory for the replies",
+        })
+    }
+}
+
+impl core::error::Error for PoolError {}
+
+impl From<AllocError> for PoolError {
+    #[inline]
+    fn from(_: AllocError) -> Self {
+        PoolError::OutOfMemory
+    }
+}

@@ -1,0 +1,19 @@
+//! Why a text isn't parsed.
+
+use crate::rattle::alloc::AllocError;
+
+/// Why a text isn't parsed.
+#[derive(Clone, Copy, Debug, PartialEq, Eq)]
+pub enum ParseError {
+    /// The first line that is no command, counted from 1.
+    BadCommand { line: usize },
+    /// There wasn't enough memory for the script.
+    OutOfMemory,
+}
+
+impl From<AllocError> for ParseError {
+    #[inline]
+    fn from(_: AllocError) -> Self {
+        ParseError::OutOfMemory
+    }
+}

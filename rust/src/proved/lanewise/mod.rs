@@ -1,0 +1,2 @@
+//! The vector instructions of WebAssembly that work lane by lane.
+pub mod simd;

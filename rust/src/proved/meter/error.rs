@@ -1,0 +1,162 @@
+//! Why calls on memories and tables are refused, and the error of a resource limiter.
+
+use crate::proved::meter::fuel::FuelError;
+use core::fmt;
+
+/// The error that a resource limiter returns to a question or to a notice.
+///
+/// Upstream: `wasmi_core::LimiterError`.
+#[derive(Clone, Copy, Debug, PartialEq, Eq)]
+pub enum LimiterError {
+    /// The limiter refuses what it was asked, or rejects the notice that it got.
+    ResourceLimiterDeniedAllocation,
+}
+
+impl fmt::Display for LimiterError {
+    #[inline]
+    fn fmt(&self, f: &mut fmt::Formatter<'_>) -> fmt::Result {
+        f.write_str("resource limiter denied allocation")
+    }
+}
+
+impl core::error::Error for LimiterError {}
+
+/// Why a call on a linear memory or a memory type is refused.
+///
+/// Upstream: `wasmi_core::MemoryError`.
+#[derive(Clone, Copy, Debug, PartialEq, Eq)]
+pub enum MemoryError {
+    /// The system refused memory for an owned memory.
+    OutOfSystemMemory,
+    /// A growth above the greatest number of pages or the maximum, or one that the limiter denies.
+    OutOfBoundsGrowth,
+    /// A read or a write that ends past the memory.
+    OutOfBoundsAccess,
+    /// A page size other than 1 byte and 64 KiB, or limits above the greatest number of pages or
+    /// out of order.
+    InvalidMemoryType,
+    /// A borrowed buffer that is too short.
+    InvalidStaticBufferSize,
+    /// The limiter denied a creation, or returned an error to a question or a notice.
+    ResourceLimiterDeniedAllocation,
+    /// A creation whose minimum has 2^64 bytes or more.
+    MinimumSizeOverflow,
+    /// Never returned on a platform where `usize` has 64 bits.
+    MaximumSizeOverflow,
+    /// A growth costs more fuel than is left.
+    OutOfFuel { required_fuel: u64 },
+}
+
+impl fmt::Display for MemoryError {
+    #[inline]
+    fn fmt(&self, f: &mut fmt::Formatter<'_>) -> fmt::Result {
+        let text = match self {
+            Self::OutOfSystemMemory => {
+                "tried to allocate more virtual memory than available on the system"
+            }
+            Self::OutOfBoundsGrowth => "out of bounds memory growth",
+            Self::OutOfBoundsAccess => "out of bounds memory access",
+            Self::InvalidMemoryType => "tried to create an invalid linear memory type",
+            Self::InvalidStaticBufferSize => "tried to use too small static buffer",
+            Self::ResourceLimiterDeniedAllocation => {
+                "a resource limiter denied to allocate or grow the linear memory"
+            }
+            Self::MinimumSizeOverflow => {
+                "the minimum size of the memory type overflows the system index type"
+            }
+            Self::MaximumSizeOverflow => {
+                "the maximum size of the memory type overflows the system index type"
+            }
+            Self::OutOfFuel { required_fuel } => {
+                return write!(f, "not enough fuel. required={required_fuel}");
+            }
+        };
+        f.write_str(text)
+    }
+}
+
+impl core::error::Error for MemoryError {}
+
+/// Why a call on a table is refused.
+///
+/// Upstream: `wasmi_core::TableError`.
+#[derive(Clone, Copy, Debug, PartialEq, Eq)]
+#[non_exhaustive]
+pub enum TableError {
+    /// The system refused memory.
+    OutOfSystemMemory,
+    /// Never returned on a platform where `usize` has 64 bits.
+    MinimumSizeOverflow,
+    /// Never returned on a platform where `usize` has 64 bits.
+    MaximumSizeOverflow,
+    /// The limiter denied a creation, or returned an error to a question or a notice.
+    ResourceLimiterDeniedAllocation,
+    /// A growth above the greatest number of elements or the maximum, or one that the limiter
+    /// denies.
+    GrowOutOfBounds,
+    /// An initialization that ends past the table or the element segment.
+    InitOutOfBounds,
+    /// A fill that ends past the table.
+    FillOutOfBounds,
+    /// A write past the table.
+    SetOutOfBounds,
+    /// A copy that ends past one of its tables.
+    CopyOutOfBounds,
+    /// A reference or an element segment of another type than the table's elements.
+    ElementTypeMismatch,
+    /// A call costs more fuel than is left.
+    OutOfFuel { required_fuel: u64 },
+}
+
+impl fmt::Display for TableError {
+    #[inline]
+    fn fmt(&self, f: &mut fmt::Formatter<'_>) -> fmt::Result {
+        let text = match self {
+            Self::OutOfSystemMemory => {
+                "tried to allocate more virtual memory than available on the system"
+            }
+            Self::MinimumSizeOverflow => "the minimum table size overflows the system bounds",
+            Self::MaximumSizeOverflow => "the maximum table size overflows the system bounds",
+            Self::ResourceLimiterDeniedAllocation => {
+                "a resource limiter denied to allocate or grow the table"
+            }
+            Self::GrowOutOfBounds => "out of bounds table access: `table.growth`",
+            Self::InitOutOfBounds => "out of bounds table access: `table.init`",
+            Self::FillOutOfBounds => "out of bounds table access: `table.fill`",
+            Self::SetOutOfBounds => "out of bounds table access: `table.set`",
+            Self::CopyOutOfBounds => "out of bounds table access: `table.copy`",
+            Self::ElementTypeMismatch => "encountered mismatching table element type",
+            Self::OutOfFuel { required_fuel } => {
+                return write!(f, "not enough fuel: required={required_fuel}");
+            }
+        };
+        f.write_str(text)
+    }
+}
+
+impl core::error::Error for TableError {}
+
+impl From<LimiterError> for MemoryError {
+    #[inline]
+    fn from(_: LimiterError) -> Self {
+        MemoryError::ResourceLimiterDeniedAllocation
+    }
+}
+
+impl From<LimiterError> for TableError {
+    #[inline]
+    fn from(_: LimiterError) -> Self {
+        TableError::ResourceLimiterDeniedAllocation
+    }
+}
+
+impl TableError {
+    // The error of a meter that is off is handed back. Upstream panics there.
+    #[inline]
+    pub(crate) fn of_fuel(error: FuelError) -> Result<TableError, FuelError> {
+        match error {
+            FuelError::OutOfFuel { required_fuel } => Ok(TableError::OutOfFuel { required_fuel }),
+            FuelError::FuelMeteringDisabled => Err(error),
+        }
+    }
+}

@@ -1,0 +1,26 @@
+//! Why a line isn't taken.
+
+use crate::rattle::alloc::{AllocError, AllocFailed};
+
+/// Why a line isn't taken.
+#[derive(Clone, Copy)]
+pub enum LineError {
+    /// It is no command, or no header line that may stand there.
+    BadCommand,
+    /// There isn't enough memory for its words or its call.
+    OutOfMemory,
+}
+
+impl From<AllocError> for LineError {
+    #[inline]
+    fn from(_: AllocError) -> Self {
+        LineError::OutOfMemory
+    }
+}
+
+impl<T> From<AllocFailed<T>> for LineError {
+    #[inline]
+    fn from(_: AllocFailed<T>) -> Self {
+        LineError::OutOfMemory
+    }
+}

@@ -1,0 +1,54 @@
+//! The scalar instructions of one operand.
+
+use crate::proved::ops::rows::{calls, names};
+use crate::proved::raw::{RawVal, ReadAs};
+use crate::proved::scalar::wasm;
+
+/// A scalar instruction of one operand.
+#[derive(Clone, Copy, Debug, PartialEq, Eq)]
+pub enum ScalarUnaryOp {
+    I32Clz,
+    I32Ctz,
+    I32Popcnt,
+    I32Eqz,
+    I64Clz,
+    I64Ctz,
+    I64Popcnt,
+    I64Eqz,
+    I32WrapI64,
+    I64ExtendI32S,
+    I64ExtendI32U,
+    I32Extend8S,
+    I32Extend16S,
+    I64Extend8S,
+    I64Extend16S,
+    I64Extend32S,
+}
+
+/// The rows of `SCALAR_UNARIES`.
+macro_rules! scalar_unaries {
+    ($make:ident! $($with:tt)*) => { $make! { [$($with)*] wasm [.into()] {
+        I32Clz i32_clz, I32Ctz i32_ctz, I32Popcnt i32_popcnt, I32Eqz i32_eqz,
+        I64Clz i64_clz, I64Ctz i64_ctz, I64Popcnt i64_popcnt, I64Eqz i64_eqz,
+        I32WrapI64 i32_wrap_i64, I64ExtendI32S i64_extend_i32_s, I64ExtendI32U i64_extend_i32_u,
+        I32Extend8S i32_extend8_s, I32Extend16S i32_extend16_s,
+        I64Extend8S i64_extend8_s, I64Extend16S i64_extend16_s, I64Extend32S i64_extend32_s,
+    } } };
+}
+
+/// The scalar instructions of one operand by name, in the order of the C library's numbers.
+pub const SCALAR_UNARIES: [(&str, ScalarUnaryOp); 16] = scalar_unaries!(names! ScalarUnaryOp);
+
+impl ScalarUnaryOp {
+    /// The result for an operand in a raw value. A Boolean is 0 or 1.
+    ///
+    /// # Contract
+    ///
+    /// <span></span><pre><code>ensures: result ≡ [unary_raw] self raw</code></pre>
+    ///
+    /// [unary_raw]: crate::specs::ops::ScalarUnaryOps#unary_raw "what an instruction of one raw value gives"
+    #[inline]
+    pub fn apply(self, raw: RawVal) -> RawVal {
+        scalar_unaries!(calls! self(raw.read_as()))
+    }
+}

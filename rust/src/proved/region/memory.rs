@@ -1,0 +1,217 @@
+//! Linear memories whose bytes are the first of a region. The caller keeps a memory's type and its
+//! size in bytes, and passes them to each call with the region; the rest of the region is room to
+//! grow in place.
+//!
+//! Own: upstream's memory borrows its static buffer for as long as it lives.
+
+use crate::proved::meter::growth::tell;
+use crate::proved::meter::{Fuel, MemoryError, ResourceLimiter, ResourceLimiterRef};
+use crate::proved::store::MemoryType;
+use crate::proved::store::growth::{MEMORY_DENIED as DENIED, decide_growth, permitted_minimum};
+pub use crate::proved::store::range::read_bytes;
+use crate::proved::store::range::{fill_range, write_range};
+
+/// Whether a memory of a type may have `size` bytes: whole pages, as many as the type allows.
+///
+/// # Contract
+///
+/// <span></span><pre><code>ensures: (result ≡ [true] → [IsSized] ty size) × ([IsSized] ty size → result ≡ [true])</code></pre>
+///
+/// [true]: crate::specs::library#true "the Boolean"
+/// [IsSized]: crate::specs::store::Memory#IsSized "so many bytes are whole pages, as many as the type allows"
+#[inline]
+pub fn is_sized(ty: MemoryType, size: usize) -> bool {
+    let page = u64::from(ty.page_size());
+    let pages = size as u64 / page;
+    size as u64 % page == 0 && ty.minimum() <= pages && ty.size_of_pages(pages).is_some()
+}
+
+/// The number of whole pages in `size` bytes.
+///
+/// # Contract
+///
+/// <span></span><pre><code>ensures: result ≡ size / [page_bytes] ty.page</code></pre>
+///
+/// [page_bytes]: crate::specs::store::MemoryType#page_bytes "the bytes of a page, and the power of two that they are"
+#[inline]
+pub fn pages(ty: MemoryType, size: usize) -> u64 {
+    ty.pages_in(size)
+}
+
+/// Makes a memory of zeros at the front of a region, at the minimum of its type, and returns its
+/// size in bytes. It takes no fuel, and leaves the bytes past the minimum alone.
+///
+/// Errors, in the order of the tests: `MinimumSizeOverflow` if the minimum has 2^64 bytes or more;
+/// `ResourceLimiterDeniedAllocation` if the limiter doesn't permit it; `InvalidStaticBufferSize` if
+/// the region is shorter than the minimum, of which the limiter is notified. After an error the
+/// bytes of the region are unchanged.
+///
+/// # Contract
+///
+/// <span></span><pre><code>ensures loan: [KeepsLoan] limiter.old limiter.new
+/// ensures made: [MakesMemory] ([optional_rules] [L.rules]) ([Lent] region.old) ty
+/// &#32;&#32;&#32;&#32;([lent_limiter] limiter.old) ([made_in] ty region.new result) ([lent_limiter] limiter.new)
+/// ensures sized: [IfOk] result (λ size. [IsSized] ty size × (size ≤ [length] region.new))
+/// ensures refused: [OnErr] result (region.new ≡ region.old)
+/// ensures len: [length] region.new ≡ [length] region.old</code></pre>
+///
+/// [KeepsLoan]: crate::specs::meter::LimiterRef#KeepsLoan "r\' leads to what r leads to"
+/// [MakesMemory]: crate::specs::store::Memory#MakesMemory "a memory of a type is made in a room"
+/// [optional_rules]: crate::specs::meter::Limiter#optional_rules "the rules of a limiter that may be absent"
+/// [L.rules]: trait@ResourceLimiter#contract
+/// [Lent]: crate::specs::store::Buffer#Lent
+/// [lent_limiter]: crate::specs::meter::LimiterRef#lent_limiter "the present value of the limiter that is lent, or none"
+/// [made_in]: crate::specs::region::Memory#made_in "what a call makes in a region, by the size that it returns"
+/// [IfOk]: crate::specs::library#IfOk "P of the value, if r is a value"
+/// [IsSized]: crate::specs::store::Memory#IsSized "so many bytes are whole pages, as many as the type allows"
+/// [length]: crate::specs::library#length "the number of elements of a list"
+/// [OnErr]: crate::specs::library#OnErr "P, if r is an error"
+#[inline]
+pub fn make<L: ResourceLimiter>(
+    ty: MemoryType,
+    region: &mut [u8],
+    limiter: &mut ResourceLimiterRef<L>,
+) -> Result<usize, MemoryError> {
+    let size = permitted_minimum(ty, limiter)?;
+    if region.len() < size {
+        return Err(tell(limiter, MemoryError::InvalidStaticBufferSize, DENIED));
+    }
+    let front = &mut region[..size];
+    front.fill(0);
+    Ok(size)
+}
+
+/// Grows a memory of `size` bytes at the front of a region by `additional` pages of zeros, and
+/// returns the old size in pages; `size` becomes the new size in bytes. A growth by 0 pages changes
+/// nothing and asks no limiter.
+///
+/// The errors are those of [`crate::proved::store::LinearMemory::grow`] on a lent region.
+///
+/// # Contract
+///
+/// <span></span><pre><code>requires sized: [IsSized] ty size.old
+/// requires within: size.old ≤ [length] region.old
+/// ensures loan: [KeepsLoan] limiter.old limiter.new
+/// ensures grown: [GrowsMemory] ([optional_rules] [L.rules]) additional
+/// &#32;&#32;&#32;&#32;([metered_value] ([memory_in] ty region.old size.old) ([Some] fuel.old)
+/// &#32;&#32;&#32;&#32;([lent_limiter] limiter.old)) result
+/// &#32;&#32;&#32;&#32;([metered_value] ([memory_in] ty region.new size.new) ([Some] fuel.new)
+/// &#32;&#32;&#32;&#32;([lent_limiter] limiter.new))
+/// ensures sized: [IsSized] ty size.new
+/// ensures within: size.new ≤ [length] region.new
+/// ensures len: [length] region.new ≡ [length] region.old
+/// ensures refused: [OnErr] result ((region.new ≡ region.old) × (size.new ≡ size.old))</code></pre>
+///
+/// [IsSized]: crate::specs::store::Memory#IsSized "so many bytes are whole pages, as many as the type allows"
+/// [length]: crate::specs::library#length "the number of elements of a list"
+/// [KeepsLoan]: crate::specs::meter::LimiterRef#KeepsLoan "r\' leads to what r leads to"
+/// [GrowsMemory]: crate::specs::store::Memory#GrowsMemory "a memory grows by so many pages; it returns the old size in pages"
+/// [optional_rules]: crate::specs::meter::Limiter#optional_rules "the rules of a limiter that may be absent"
+/// [L.rules]: trait@ResourceLimiter#contract
+/// [metered_value]: crate::specs::store::Growth#metered_value "a value with its meter, if there is one, and its limiter"
+/// [memory_in]: crate::specs::region::Memory#memory_in "the memory of a type that has so many bytes at the front of a region, and the rest of it as room"
+/// [Some]: crate::specs::library#Some "the value x, of an \`Option\`"
+/// [lent_limiter]: crate::specs::meter::LimiterRef#lent_limiter "the present value of the limiter that is lent, or none"
+/// [OnErr]: crate::specs::library#OnErr "P, if r is an error"
+#[inline]
+pub fn grow<L: ResourceLimiter>(
+    ty: MemoryType,
+    size: &mut usize,
+    region: &mut [u8],
+    additional: u64,
+    fuel: &mut Fuel,
+    limiter: &mut ResourceLimiterRef<L>,
+) -> Result<u64, MemoryError> {
+    assert!(is_sized(ty, *size), "sized");
+    assert!(*size <= region.len(), "within");
+    let old_size = *size;
+    let old_pages = ty.pages_in(old_size);
+    if additional == 0 {
+        return Ok(old_pages);
+    }
+    let Some(new_size) = ty.grown_size(old_size, additional) else {
+        return Err(MemoryError::OutOfBoundsGrowth);
+    };
+    let maximum = ty.maximum_size();
+    let has_room = has_place(region, new_size);
+    decide_growth(old_size, new_size, maximum, has_room, fuel, limiter)?;
+    fill_range(region, old_size, new_size, 0);
+    *size = new_size;
+    Ok(old_pages)
+}
+
+/// What a growth by `additional` pages asks a limiter: the new size in bytes, and the most that the
+/// type allows. It is `None` if the type refuses the growth; then no limiter is asked.
+///
+/// # Contract
+///
+/// <span></span><pre><code>requires sized: [IsSized] ty size
+/// ensures asked: [MatchOption] result
+/// &#32;&#32;&#32;&#32;([in_bounds] ty (size / [page_bytes] ty.page + additional) ≡ [false])
+/// &#32;&#32;&#32;&#32;(λ asked. ([in_bounds] ty (size / [page_bytes] ty.page + additional) ≡ [true])
+/// &#32;&#32;&#32;&#32;× (asked.0 ≡ size + additional \* [page_bytes] ty.page) × (asked.1 ≡ [maximum_bytes] ty))</code></pre>
+///
+/// [IsSized]: crate::specs::store::Memory#IsSized "so many bytes are whole pages, as many as the type allows"
+/// [MatchOption]: crate::specs::library#MatchOption "P where there is no value, else Q of the value"
+/// [in_bounds]: crate::specs::store::MemoryType#in_bounds "whether a memory of the type may have so many pages: as many as it can address, and no more than its maximum"
+/// [page_bytes]: crate::specs::store::MemoryType#page_bytes "the bytes of a page, and the power of two that they are"
+/// [false]: crate::specs::library#false "the Boolean"
+/// [true]: crate::specs::library#true "the Boolean"
+/// [maximum_bytes]: crate::specs::store::MemoryType#maximum_bytes "the maximum in bytes, at most 2^64 - 1"
+#[inline]
+pub fn question(ty: MemoryType, size: usize, additional: u64) -> Option<(usize, Option<usize>)> {
+    assert!(is_sized(ty, size), "sized");
+    let desired = ty.grown_size(size, additional)?;
+    Some((desired, ty.maximum_size()))
+}
+
+/// Writes bytes over those from an offset on, of a memory of `size` bytes at the front of a region.
+/// The error is `OutOfBoundsAccess` if they would end past the memory; then nothing is written.
+///
+/// # Contract
+///
+/// <span></span><pre><code>requires within: size ≤ [length] region.old
+/// ensures ok: [OnOk] result
+/// &#32;&#32;&#32;&#32;(([overwrite] ([take] size region.old) offset source.now ≡ [Some] ([take] size region.new))
+/// &#32;&#32;&#32;&#32;× ([drop] size region.new ≡ [drop] size region.old))
+/// ensures err: [IfErr] result
+/// &#32;&#32;&#32;&#32;(λ error. (error ≡ MemoryError.OutOfBoundsAccess)
+/// &#32;&#32;&#32;&#32;× ([overwrite] ([take] size region.old) offset source.now ≡ [None])
+/// &#32;&#32;&#32;&#32;× (region.new ≡ region.old))
+/// ensures len: [length] region.new ≡ [length] region.old</code></pre>
+///
+/// [length]: crate::specs::library#length "the number of elements of a list"
+/// [OnOk]: crate::specs::library#OnOk "P, if r is a value"
+/// [overwrite]: crate::specs::types::Access#overwrite "xs with ys at a, or none where the list ends before them"
+/// [take]: crate::specs::library#take "the first n elements"
+/// [Some]: crate::specs::library#Some "the value x, of an \`Option\`"
+/// [drop]: crate::specs::library#drop "all but the first n elements"
+/// [IfErr]: crate::specs::library#IfErr "P of the error, if r is an error"
+/// [None]: crate::specs::library#None "no value, of an \`Option\`"
+#[inline]
+pub fn write(
+    region: &mut [u8],
+    size: usize,
+    offset: usize,
+    source: &[u8],
+) -> Result<(), MemoryError> {
+    assert!(size <= region.len(), "within");
+    if size < offset || size - offset < source.len() {
+        return Err(MemoryError::OutOfBoundsAccess);
+    }
+    write_range(&mut region[..size], offset, source);
+    Ok(())
+}
+
+/// Whether a region has `size` bytes.
+///
+/// # Contract
+///
+/// <span></span><pre><code>ensures: result ≡ [nat_le] size ([length] region.now)</code></pre>
+///
+/// [nat_le]: crate::specs::library#nat_le "whether m is at most n, as a Boolean"
+/// [length]: crate::specs::library#length "the number of elements of a list"
+#[inline]
+fn has_place(region: &[u8], size: usize) -> bool {
+    size <= region.len()
+}

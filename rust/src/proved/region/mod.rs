@@ -1,0 +1,3 @@
+//! Linear memories and tables that are the first of a region, which lies with the caller.
+pub mod memory;
+pub mod table;

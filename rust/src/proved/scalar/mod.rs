@@ -1,0 +1,3 @@
+//! The scalar integer instructions of WebAssembly.
+pub mod value;
+pub mod wasm;

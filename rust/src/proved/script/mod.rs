@@ -1,0 +1,14 @@
+//! Scripts of calls on a metered machine: reading, running, printing.
+mod error;
+#[cfg(any(doc, test))]
+pub mod laws;
+mod listed_limiter;
+mod printing;
+mod replaying;
+mod running;
+
+pub use crate::proved::grammar::ParseError;
+pub use error::ReplayError;
+pub use listed_limiter::{answer_by, notice_answer_by};
+pub use printing::{ReplyHead, print_lines};
+pub use replaying::{LIMIT, Status, replay};

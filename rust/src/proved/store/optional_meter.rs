@@ -1,0 +1,21 @@
+//! Calls that take an optional meter.
+
+/// Makes a call with the meter of an option, or, if there is none, with one that is off. The call
+/// is of a function whose name ends in `_metered`, which takes a meter that isn't optional.
+///
+/// This is a macro because the prover knows what is left in the meter where the option is matched,
+/// and not where the option is passed on.
+macro_rules! with_meter {
+    ($fuel:ident => $call:expr) => {
+        match $fuel {
+            Some($fuel) => $call,
+            None => {
+                let mut off = Fuel::unmetered();
+                let $fuel = &mut off;
+                $call
+            }
+        }
+    };
+}
+
+pub(crate) use with_meter;

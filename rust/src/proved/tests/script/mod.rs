@@ -1,0 +1,102 @@
+//! What the tests share: scripts that are run, and comparisons with what they have to print.
+
+// Lines, and beside each what is printed for it; after a `;` stands what is printed at the end. An
+// empty last line is a line feed at the end.
+macro_rules! script {
+    (
+        $first:expr $(=> $first_printed:expr)?
+        $(, $line:expr $(=> $printed:expr)?)* $(,)?
+        $(; $($last:expr),+ $(,)?)?
+    ) => {
+        $crate::proved::tests::script::Script {
+            text: concat!($first $(, "\n", $line)*),
+            printed: concat!(
+                $($first_printed, "\n",)?
+                $($($printed, "\n",)?)*
+                $($($last, "\n",)+)?
+            ),
+        }
+    };
+}
+
+// A script whose calls are answered, with one more header line or none, and what is held then.
+macro_rules! metered {
+    ($($header:literal; $held:literal)?) => {
+        script! {
+            "meter on 64",
+            $($header,)?
+            "fuel 2000" => "done",
+            "memory 1 2 16 32" => "memory 0",
+            "write 0 65535 44" => "done",
+            "grow 0 1" => "value 1",
+            "grow 0 1" => "error out of bounds memory growth",
+            "read 0 65535 2" => "bytes 44 0",
+            "left" => "value 976",
+            ""
+            $(; $held)?
+        }
+    };
+}
+
+mod accesses;
+mod bad_lines;
+mod counts;
+mod outcomes;
+mod printing;
+mod reading;
+mod refusing;
+mod regions;
+mod streams;
+mod tables;
+mod tenants;
+mod values;
+mod vectors;
+mod writing;
+
+use crate::proved::script::{Status, replay};
+use std::fmt::Debug;
+use std::str;
+use streams::{Source, Target};
+
+// A text, and all that is printed for it.
+#[derive(Clone, Copy)]
+struct Script {
+    text: &'static str,
+    printed: &'static str,
+}
+
+// A script whose calls are answered.
+const METERED: Script = metered! {};
+
+fn same<T: PartialEq + Debug>(what: &str, answer: T, expected: T) {
+    assert!(
+        answer == expected,
+        "{what}: {answer:?} in place of {expected:?}"
+    );
+}
+
+fn same_text(printed: &[u8], expected: &[u8]) {
+    let (text, wanted) = (str::from_utf8(printed), str::from_utf8(expected));
+    assert!(printed == expected, "{text:?} in place of {wanted:?}");
+}
+
+// Runs what the reader gives, and compares what is printed and how it ends.
+fn prints(reader: &mut Source<'_>, printed: &str, status: Status) {
+    let mut writer = Target::new();
+    let ended = replay(reader, &mut writer);
+    same(printed, ended, status);
+    same_text(writer.text(), printed.as_bytes());
+}
+
+// A script whose calls are answered.
+fn answers(script: &str, printed: &str) {
+    let mut reader = Source::of(script.as_bytes());
+    prints(&mut reader, printed, Status::Answered);
+}
+
+// Scripts whose calls are answered.
+fn answers_each(scripts: &[Script]) {
+    for script in scripts {
+        answers(script.text, script.printed);
+    }
+}

@@ -1,0 +1,52 @@
+//! Element segments, and the iterators that they are read of.
+use super::{func, same, segment_of};
+use crate::proved::raw::RawRef;
+use crate::proved::store::ElementSegment;
+use crate::proved::types::RefType;
+
+/// Gives two references, then `None` once, then references without end.
+struct Wavering {
+    calls: u32,
+}
+
+impl Iterator for Wavering {
+    type Item = RawRef;
+
+    fn next(&mut self) -> Option<RawRef> {
+        let call = self.calls;
+        self.calls = call.saturating_add(1);
+        if call == 2 {
+            return None;
+        }
+        Some(RawRef::from(call))
+    }
+}
+
+#[test]
+fn ends_at_the_first_none() {
+    let mut items = Wavering { calls: 0 };
+    let read = ElementSegment::read(RefType::Func, &mut items);
+    let segment = read.expect("a segment");
+    let expected = [RawRef::from(0), RawRef::from(1)];
+    same("the items", segment.items(), expected.as_slice());
+    let rest = Wavering { calls: 1 };
+    let again = ElementSegment::new(RefType::Extern, rest).expect("a segment");
+    let answer = (items.calls, again.size(), again.ty());
+    let expected = (3, 1, RefType::Extern);
+    same("the calls, the second's size and type", answer, expected);
+}
+
+#[test]
+fn drops_its_items_and_keeps_its_type() {
+    let items = [func(1).raw(), func(2).raw(), func(3).raw()];
+    let mut segment = segment_of(RefType::Func, items);
+    let shared = segment.as_ref();
+    let kept = (shared.ty(), shared.size());
+    same("the items", shared.items(), items.as_slice());
+    segment.drop_items();
+    let kinds = [kept, (segment.ty(), segment.size())];
+    let expected = [(RefType::Func, 3), (RefType::Func, 0)];
+    same("the type and size, before and after", kinds, expected);
+    let empty: [RawRef; 0] = [];
+    same("no items", segment.items(), empty.as_slice());
+}

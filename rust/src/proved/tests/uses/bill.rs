@@ -1,0 +1,117 @@
+//! A bill: what a run was charged.
+
+use crate::proved::machine::{Call, Machine, Reply, ResourceLimiter, laws, run_lending};
+use crate::rattle::Vec;
+use crate::rattle::alloc::AllocError;
+
+/// The replies to calls, and the fuel that they were charged.
+#[derive(Debug)]
+pub struct Bill {
+    /// A reply for each call.
+    pub replies: Vec<Reply>,
+    /// The fuel, which is 0 if metering is off.
+    pub charged: u64,
+}
+
+/// Why no call was made, in the order of the tests.
+#[derive(Debug, PartialEq, Eq)]
+pub enum BillError {
+    /// A call sets the fuel.
+    SetsFuel,
+    /// Memory for the replies was refused.
+    OutOfMemory,
+}
+
+/// Runs calls, and returns their bill: the fuel that the calls were charged, one by one. The bill
+/// and what is left add up to what was left before. No call may set the fuel.
+///
+/// # Contract
+///
+/// <span></span><pre><code>requires sets_no_fuel: [All] [SetsNoFuel] calls.now
+/// ensures bill: [IfOk] result (λ bill. IsBill ([optional_rules] [L.rules]) calls.now
+/// &#32;&#32;&#32;&#32;([world] machine.old ([Some] limiter.old)) bill.replies.items bill.charged
+/// &#32;&#32;&#32;&#32;([world] machine.new ([Some] limiter.new)))
+/// ensures off: machine.old.meter.left ≡ [None] → [IfOk] result (λ bill. bill.charged ≡ 0)
+/// ensures err: [OnErr] result ((machine.new ≡ machine.old) × (limiter.new ≡ limiter.old))</code></pre>
+///
+/// [All]: crate::specs::library#All "P of each element"
+/// [SetsNoFuel]: crate::specs::machine::Account#SetsNoFuel "the call doesn\'t set the fuel"
+/// [IfOk]: crate::specs::library#IfOk "P of the value, if r is a value"
+/// [optional_rules]: crate::specs::meter::Limiter#optional_rules "the rules of a limiter that may be absent"
+/// [L.rules]: trait@ResourceLimiter#contract
+/// [world]: crate::specs::machine::World#world "a machine in this state with this limiter"
+/// [Some]: crate::specs::library#Some "the value x, of an \`Option\`"
+/// [None]: crate::specs::library#None "no value, of an \`Option\`"
+/// [OnErr]: crate::specs::library#OnErr "P, if r is an error"
+pub fn run_and_bill<L: ResourceLimiter>(
+    machine: &mut Machine,
+    calls: &[Call],
+    limiter: &mut L,
+) -> Result<Bill, AllocError> {
+    laws::charges_are_spent::<L>();
+    let before = left(machine);
+    let replies = run_lending(machine, calls, limiter)?;
+    let charged = before.saturating_sub(left(machine));
+    Ok(Bill { replies, charged })
+}
+
+/// As `run_and_bill`, for calls of unknown origin: if one of them sets the fuel, none is executed.
+///
+/// # Contract
+///
+/// <span></span><pre><code>ensures bill: [IfOk] result (λ bill. IsBill ([optional_rules] [L.rules]) calls.now
+/// &#32;&#32;&#32;&#32;([world] machine.old ([Some] limiter.old)) bill.replies.items bill.charged
+/// &#32;&#32;&#32;&#32;([world] machine.new ([Some] limiter.new)))
+/// ensures off: machine.old.meter.left ≡ [None] → [IfOk] result (λ bill. bill.charged ≡ 0)
+/// ensures sets_fuel: [IsErrOf] result BillError.SetsFuel ↔ ¬ ([All] [SetsNoFuel] calls.now)
+/// ensures err: [OnErr] result ((machine.new ≡ machine.old) × (limiter.new ≡ limiter.old))</code></pre>
+///
+/// [IfOk]: crate::specs::library#IfOk "P of the value, if r is a value"
+/// [optional_rules]: crate::specs::meter::Limiter#optional_rules "the rules of a limiter that may be absent"
+/// [L.rules]: trait@ResourceLimiter#contract
+/// [world]: crate::specs::machine::World#world "a machine in this state with this limiter"
+/// [Some]: crate::specs::library#Some "the value x, of an \`Option\`"
+/// [None]: crate::specs::library#None "no value, of an \`Option\`"
+/// [IsErrOf]: crate::specs::library#IsErrOf "r is the error e"
+/// [All]: crate::specs::library#All "P of each element"
+/// [SetsNoFuel]: crate::specs::machine::Account#SetsNoFuel "the call doesn\'t set the fuel"
+/// [OnErr]: crate::specs::library#OnErr "P, if r is an error"
+pub fn run_if_billable<L: ResourceLimiter>(
+    machine: &mut Machine,
+    calls: &[Call],
+    limiter: &mut L,
+) -> Result<Bill, BillError> {
+    if !is_billable(calls) {
+        return Err(BillError::SetsFuel);
+    }
+    run_and_bill(machine, calls, limiter).map_err(|_| BillError::OutOfMemory)
+}
+
+/// Whether no call sets the fuel.
+///
+/// # Contract
+///
+/// <span></span><pre><code>ensures: [IsTrue] result ↔ [All] [SetsNoFuel] calls.now</code></pre>
+///
+/// [IsTrue]: crate::specs::library#IsTrue "b is true"
+/// [All]: crate::specs::library#All "P of each element"
+/// [SetsNoFuel]: crate::specs::machine::Account#SetsNoFuel "the call doesn\'t set the fuel"
+fn is_billable(calls: &[Call]) -> bool {
+    for call in calls {
+        if call.sets_fuel() {
+            return false;
+        }
+    }
+    true
+}
+
+/// What is left, or 0 if metering is off.
+///
+/// # Contract
+///
+/// <span></span><pre><code>ensures: result ≡ [amount_left] machine.now.meter</code></pre>
+///
+/// [amount_left]: crate::specs::meter::Meter#amount_left "what is left; nothing where the meter is off"
+fn left(machine: &Machine) -> u64 {
+    machine.fuel().get_fuel().unwrap_or(0)
+}

@@ -1,0 +1,73 @@
+//! A host of plug-ins: a run of a new machine under a quota, and two tenants of a pool.
+
+use crate::proved::budget::{Pool, PoolError};
+use crate::proved::machine::{Call, Fuel, Machine, Quota, Reply, laws, run_reserving};
+use crate::rattle::Vec;
+use crate::rattle::alloc::AllocError;
+
+/// A plug-in that has run.
+#[derive(Debug)]
+pub struct Plugin<'r> {
+    /// Its machine.
+    pub machine: Machine<'r>,
+    /// The replies to its calls.
+    pub replies: Vec<Reply>,
+}
+
+/// Runs the calls of a plug-in on a machine of its own with this meter, under a quota with these
+/// caps on the bytes of memories and the elements of tables. Whatever the calls are, the machine
+/// doesn't exceed the caps afterwards.
+///
+/// # Contract
+///
+/// <span></span><pre><code>ensures run: [IfOk] result
+/// &#32;&#32;&#32;&#32;(λ ran. RunsUnderQuota bytes elements fuel calls.now ran.replies.items ran.machine)
+/// ensures bytes: [IfOk] result (λ ran. [total] ran.machine [Bytes] ≤ bytes)
+/// ensures elements: [IfOk] result (λ ran. [total] ran.machine [Elements] ≤ elements)</code></pre>
+///
+/// [IfOk]: crate::specs::library#IfOk "P of the value, if r is a value"
+/// [total]: crate::specs::machine::Totals#total "their sum"
+/// [Bytes]: crate::proved::meter::Kind::Bytes
+/// [Elements]: crate::proved::meter::Kind::Elements
+pub fn run_plugin<'r>(
+    fuel: Fuel,
+    calls: &[Call],
+    bytes: u64,
+    elements: u64,
+) -> Result<Plugin<'r>, AllocError> {
+    laws::quotas_stay_within();
+    let mut machine = Machine::new(fuel);
+    let mut quota = Quota::new(bytes, elements);
+    let replies = run_reserving(&mut machine, calls, &mut quota)?;
+    Ok(Plugin { machine, replies })
+}
+
+/// Runs the calls of the first tenant of a pool, and then those of the second. Whatever they ask
+/// for, all tenants together stay within the pool's caps, which don't change. After an error the
+/// first may have run.
+///
+/// # Contract
+///
+/// <span></span><pre><code>ensures run: [IfOk] result (λ replies. [PoolRun] pool.old
+/// &#32;&#32;&#32;&#32;([Ran] 0 first.now replies.0.items ∷ [Ran] 1 second.now replies.1.items ∷ \[\]) pool.new)
+/// ensures no_tenant: [IsErrOf] result PoolError.NoTenant → [length] pool.old.machines < 2
+/// ensures few: [length] pool.old.machines < 2 → [IsErr] result
+/// ensures within: [IsWithinCaps] pool.new
+/// ensures caps: pool.new.caps ≡ pool.old.caps</code></pre>
+///
+/// [IfOk]: crate::specs::library#IfOk "P of the value, if r is a value"
+/// [PoolRun]: crate::specs::budget::Runs#PoolRun "calls one after another lead a pool to another"
+/// [Ran]: crate::specs::budget::Runs#Ran
+/// [IsErrOf]: crate::specs::library#IsErrOf "r is the error e"
+/// [length]: crate::specs::library#length "the number of elements of a list"
+/// [IsErr]: crate::specs::library#IsErr "r is an error"
+/// [IsWithinCaps]: crate::specs::budget::Pool#IsWithinCaps "all machines together are within the caps"
+pub fn run_two_tenants(
+    pool: &mut Pool,
+    first: &[Call],
+    second: &[Call],
+) -> Result<(Vec<Reply>, Vec<Reply>), PoolError> {
+    let first_replies = pool.run(0, first)?;
+    let second_replies = pool.run(1, second)?;
+    Ok((first_replies, second_replies))
+}

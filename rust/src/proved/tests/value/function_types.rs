@@ -1,0 +1,214 @@
+//! Function types: how they are made, copied, compared and hashed, and what is refused.
+
+use super::{same, same_text};
+use crate::proved::types::{FuncType, FuncTypeError, ValType};
+use crate::rattle::TryClone;
+use FuncTypeError::{TooManyFunctionParams, TooManyFunctionResults};
+use ValType::{ExternRef, F32, F64, I32, I64, V128};
+use std::cmp::Ordering;
+use std::hash::{DefaultHasher, Hash, Hasher};
+
+/// The types of the parameters, and those of the results.
+type Lists<'a> = (&'a [ValType], &'a [ValType]);
+
+/// The function type of two lists, after a look at each way to read it.
+fn function_type(lists: Lists) -> FuncType {
+    let (params, results) = lists;
+    let made = FuncType::new(params.iter().copied(), results.iter().copied());
+    let ty = made.expect("a function type");
+    same("both lists", ty.params_results(), lists);
+    same("each list", (ty.params(), ty.results()), lists);
+    let counts = (usize::from(ty.len_params()), usize::from(ty.len_results()));
+    same("counts", counts, (params.len(), results.len()));
+    ty
+}
+
+fn hash_of(ty: &FuncType) -> u64 {
+    let mut hasher = DefaultHasher::new();
+    ty.hash(&mut hasher);
+    hasher.finish()
+}
+
+/// Compares a copy of a function type with another one of the same lists.
+fn check_copy(lists: Lists) {
+    let ty = function_type(lists);
+    let copy = ty.try_clone().expect("memory");
+    same("hash of a copy", hash_of(&copy), hash_of(&ty));
+    same("copy", copy, function_type(lists));
+}
+
+/// Compares two function types, of which the first is below the second.
+fn check_order(pair: (Lists, Lists)) {
+    let lower = function_type(pair.0);
+    let higher = function_type(pair.1);
+    let orders = (lower.cmp(&higher), higher.cmp(&lower));
+    let answer = (pair, orders, lower < higher, lower != higher);
+    let orders = (Ordering::Less, Ordering::Greater);
+    same("order", answer, (pair, orders, true, true));
+}
+
+#[test]
+fn new_empty_works() {
+    check_copy((&[], &[]));
+}
+
+static INLINE: [&[ValType]; 9] = [
+    &[I32],
+    &[I64],
+    &[F32],
+    &[F64],
+    &[I32, I32],
+    &[I32, I32, I32],
+    &[I32, I32, I32, I32],
+    &[I32, I32, I32, I32, I32, I32, I32, I32],
+    &[I32, I64, F32, F64],
+];
+
+#[test]
+fn new_inline_works() {
+    for list in &INLINE {
+        check_order(((&[], list), (list, &[])));
+        check_copy((list, list));
+    }
+}
+
+#[test]
+fn new_big_works() {
+    let big: Lists = (&[I32; 100], &[I64; 100]);
+    check_copy(big);
+    let shorter: Lists = (&[I32; 100], &[I64; 99]);
+    check_order((shorter, big));
+}
+
+/// Pairs of function types, the lower one first.
+static ASCENDING: [(Lists, Lists); 8] = [
+    // at most 21 entries come first
+    ((&[V128; 21], &[]), (&[I32; 22], &[])),
+    ((&[I32; 11], &[I32; 10]), (&[I32; 10], &[I32; 12])),
+    // then fewer parameters
+    ((&[], &[I64, I64]), (&[I32], &[])),
+    ((&[ExternRef; 22], &[]), (&[I32; 23], &[])),
+    // then, among small ones, fewer results
+    ((&[I32], &[ExternRef]), (&[I32], &[I32, I32])),
+    // then the entries
+    ((&[I32, F32], &[V128]), (&[I32, F64], &[I32])),
+    ((&[I32; 22], &[I32, I32]), (&[I32; 22], &[ExternRef])),
+    // a list comes before its extensions
+    ((&[I32; 22], &[I64]), (&[I32; 22], &[I64, I32])),
+];
+
+#[test]
+fn function_types_are_ordered() {
+    for pair in &ASCENDING {
+        check_order(*pair);
+    }
+}
+
+/// Gives `I32` until the read that gives `None`, then `I64` for ever, and counts the reads.
+struct Source<'a> {
+    reads: &'a mut usize,
+    end: usize,
+}
+
+impl Iterator for Source<'_> {
+    type Item = ValType;
+
+    fn next(&mut self) -> Option<ValType> {
+        let read = *self.reads;
+        *self.reads = read.wrapping_add(1);
+        if read == self.end {
+            return None;
+        }
+        Some(if read < self.end { I32 } else { I64 })
+    }
+
+    // More than there is memory for: nobody may trust it.
+    fn size_hint(&self) -> (usize, Option<usize>) {
+        (usize::MAX, None)
+    }
+}
+
+/// The function type of two sources that end at these reads, and how often each was read.
+fn read(ends: (usize, usize)) -> (Result<FuncType, FuncTypeError>, (usize, usize)) {
+    let mut reads = (0, 0);
+    let params = Source {
+        reads: &mut reads.0,
+        end: ends.0,
+    };
+    let results = Source {
+        reads: &mut reads.1,
+        end: ends.1,
+    };
+    let made = FuncType::new(params, results);
+    (made, reads)
+}
+
+const ENDLESS: usize = usize::MAX;
+
+/// For the parameters and the results, the read that gives `None` and the number of reads.
+/// Then the refusal.
+static READS: [((usize, usize), (usize, usize), Option<FuncTypeError>); 7] = [
+    ((0, 0), (1, 1), None),
+    ((2, 3), (3, 4), None),
+    ((1_000, 1_000), (1_001, 1_001), None),
+    ((ENDLESS, 0), (1_001, 0), Some(TooManyFunctionParams)),
+    ((1_001, 1_001), (1_001, 0), Some(TooManyFunctionParams)),
+    (
+        (1_000, ENDLESS),
+        (1_001, 1_001),
+        Some(TooManyFunctionResults),
+    ),
+    ((0, 1_001), (1, 1_001), Some(TooManyFunctionResults)),
+];
+
+#[test]
+fn reads_until_the_first_none() {
+    for &(ends, expected, refusal) in &READS {
+        let (made, reads) = read(ends);
+        let (counts, error) = match made {
+            Ok(ty) => (
+                (usize::from(ty.len_params()), usize::from(ty.len_results())),
+                None,
+            ),
+            Err(error) => (ends, Some(error)),
+        };
+        let answer = (reads, counts, error);
+        same("reads, counts, refusal", answer, (expected, ends, refusal));
+    }
+}
+
+/// The reads that give `None`, and the types that are taken.
+static TAKEN: [((usize, usize), Lists); 4] = [
+    ((0, 1), (&[], &[I32])),
+    ((2, 0), (&[I32, I32], &[])),
+    ((2, 3), (&[I32, I32], &[I32, I32, I32])),
+    ((12, 11), (&[I32; 12], &[I32; 11])),
+];
+
+#[test]
+fn types_after_the_first_none_are_not_taken() {
+    for &(ends, taken) in &TAKEN {
+        let (made, _) = read(ends);
+        let ty = made.expect("a function type");
+        same("types that are taken", ty.params_results(), taken);
+    }
+}
+
+static REFUSALS: [(FuncTypeError, &str); 3] = [
+    (
+        FuncTypeError::TooManyFunctionParams,
+        "encountered a function with too many parameters",
+    ),
+    (
+        FuncTypeError::TooManyFunctionResults,
+        "encountered a function with too many results",
+    ),
+    (FuncTypeError::OutOfMemory, "out of memory"),
+];
+
+#[test]
+fn refusals_have_their_texts() {
+    for (error, text) in &REFUSALS {
+        same_text(error, text);
+    }
+}

@@ -1,0 +1,105 @@
+//! Traps and trap codes: their numbers, their texts, and what a trap carries.
+
+use super::{same, same_text};
+use crate::proved::types::{HostError, InvalidTrapCode, Trap, TrapCode};
+use crate::rattle::TextExt;
+use std::fmt;
+use std::string::String;
+
+/// Each trap code with its number and its text.
+static TRAP_CODES: [(u8, TrapCode, &str); 12] = [
+    (
+        1,
+        TrapCode::UnreachableCodeReached,
+        "wasm `unreachable` instruction executed",
+    ),
+    (
+        2,
+        TrapCode::MemoryOutOfBounds,
+        "out of bounds memory access",
+    ),
+    (
+        3,
+        TrapCode::TableOutOfBounds,
+        "undefined element: out of bounds table access",
+    ),
+    (4, TrapCode::IndirectCallToNull, "uninitialized element 2"),
+    (5, TrapCode::IntegerDivisionByZero, "integer divide by zero"),
+    (6, TrapCode::IntegerOverflow, "integer overflow"),
+    (
+        7,
+        TrapCode::BadConversionToInteger,
+        "invalid conversion to integer",
+    ),
+    (8, TrapCode::StackOverflow, "call stack exhausted"),
+    (9, TrapCode::BadSignature, "indirect call type mismatch"),
+    (10, TrapCode::OutOfFuel, "all fuel consumed by WebAssembly"),
+    (
+        11,
+        TrapCode::GrowthOperationLimited,
+        "growth operation limited",
+    ),
+    (12, TrapCode::OutOfSystemMemory, "out of system memory"),
+];
+
+#[test]
+fn trap_code_conversion() {
+    for (number, code, text) in &TRAP_CODES {
+        let codes = (u8::from(*code), TrapCode::try_from(*number));
+        let answer = (codes, code.trap_message());
+        same(text, answer, ((*number, Ok(*code)), *text));
+        same_text(code, text);
+    }
+    let answers = [
+        TrapCode::try_from(0),
+        TrapCode::try_from(13),
+        TrapCode::try_from(255),
+    ];
+    let expected = [Err(InvalidTrapCode); 3];
+    same("no trap codes, 0, 13 and 255", answers, expected);
+}
+
+/// An error of the host.
+#[derive(Clone, Copy, Debug, PartialEq, Eq)]
+struct Refused(u8);
+
+impl fmt::Display for Refused {
+    fn fmt(&self, f: &mut fmt::Formatter<'_>) -> fmt::Result {
+        write!(f, "refused {}", self.0)
+    }
+}
+
+impl HostError for Refused {}
+
+/// What a trap answers: its code, its exit status and its error of the host.
+type Reason = (Option<TrapCode>, Option<i32>, Option<Refused>);
+
+fn check_trap(mut trap: Trap<Refused>, text: &str, reason: Reason) {
+    same_text(&trap, text);
+    let error = trap.downcast_ref().copied();
+    same(
+        text,
+        (trap.trap_code(), trap.i32_exit_status(), error),
+        reason,
+    );
+    if let Some(error) = trap.downcast_mut() {
+        error.0 = 8;
+    }
+    same(text, trap.downcast(), error.and(Some(Refused(8))));
+}
+
+#[test]
+fn a_trap_is_its_reason() {
+    let code = TrapCode::StackOverflow;
+    let reason = (Some(code), None, None);
+    check_trap(code.into(), "call stack exhausted", reason);
+    let exit = Trap::i32_exit(-1);
+    let reason = (None, Some(-1), None);
+    check_trap(exit, "Exited with i32 exit status -1", reason);
+    let message = String::try_of("the message").expect("memory");
+    let reason = (None, None, None);
+    check_trap(Trap::new(message), "the message", reason);
+    let error = Refused(7);
+    let reason = (None, None, Some(error));
+    check_trap(error.into(), "refused 7", reason);
+}

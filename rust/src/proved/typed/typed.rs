@@ -1,0 +1,206 @@
+//! Raw values with their types.
+
+use crate::proved::raw::{F32, F64, RawVal, ReadAs, V128};
+use crate::proved::typed::shift_amount::ShiftAmount;
+use crate::proved::types::ValType;
+use core::num::NonZero;
+
+/// A type whose values are all of one value type.
+///
+/// Upstream: `wasmi_core::Typed`.
+///
+/// # Contract
+///
+/// <span></span><pre><code><i>\-\- The value type, in contracts.</i>
+/// TY: [ValType]</code></pre>
+///
+/// [ValType]: crate::proved::types::ValType
+pub trait Typed {
+    /// The value type.
+    const TY: ValType;
+}
+
+/// A type whose values are of the value type `I32`. Only this crate's `Typed` names it.
+pub trait TypedI32 {}
+
+impl<T: TypedI32> Typed for T {
+    const TY: ValType = ValType::I32;
+}
+
+impl TypedI32 for bool {}
+
+impl TypedI32 for i8 {}
+
+impl TypedI32 for u8 {}
+
+impl TypedI32 for i16 {}
+
+impl TypedI32 for u16 {}
+
+impl TypedI32 for i32 {}
+
+impl TypedI32 for u32 {}
+
+impl TypedI32 for ShiftAmount {}
+
+impl TypedI32 for NonZero<i32> {}
+
+impl TypedI32 for NonZero<u32> {}
+
+impl Typed for i64 {
+    const TY: ValType = ValType::I64;
+}
+
+impl Typed for u64 {
+    const TY: ValType = ValType::I64;
+}
+
+impl Typed for NonZero<i64> {
+    const TY: ValType = ValType::I64;
+}
+
+impl Typed for NonZero<u64> {
+    const TY: ValType = ValType::I64;
+}
+
+impl Typed for F32 {
+    const TY: ValType = ValType::F32;
+}
+
+impl Typed for F64 {
+    const TY: ValType = ValType::F64;
+}
+
+impl Typed for V128 {
+    const TY: ValType = ValType::V128;
+}
+
+/// A raw value with its type.
+///
+/// Upstream: `wasmi_core::TypedRawVal`.
+#[derive(Clone, Copy, PartialEq, Eq)]
+pub struct TypedRawVal {
+    /// The type.
+    pub(crate) ty: ValType,
+    /// The value.
+    pub(crate) raw: RawVal,
+}
+
+impl TypedRawVal {
+    /// The raw value with a type. None is refused: every raw value has a reading at every type.
+    ///
+    /// # Contract
+    ///
+    /// <span></span><pre><code>ensures: result ≡ record { ty = ty; raw = raw }</code></pre>
+    #[inline]
+    pub fn new(ty: ValType, raw: RawVal) -> TypedRawVal {
+        TypedRawVal { ty, raw }
+    }
+
+    /// The type.
+    ///
+    /// # Contract
+    ///
+    /// <span></span><pre><code>ensures: result ≡ self.now.ty</code></pre>
+    #[inline]
+    pub fn ty(&self) -> ValType {
+        self.ty
+    }
+
+    /// The value.
+    ///
+    /// # Contract
+    ///
+    /// <span></span><pre><code>ensures: result ≡ self.now.raw</code></pre>
+    #[inline]
+    pub fn raw(&self) -> RawVal {
+        self.raw
+    }
+}
+
+impl<T: Typed + Into<RawVal>> From<T> for TypedRawVal {
+    #[inline]
+    fn from(value: T) -> TypedRawVal {
+        TypedRawVal {
+            ty: T::TY,
+            raw: value.into(),
+        }
+    }
+}
+
+impl From<TypedRawVal> for RawVal {
+    #[inline]
+    fn from(typed: TypedRawVal) -> RawVal {
+        typed.raw
+    }
+}
+
+impl From<TypedRawVal> for bool {
+    #[inline]
+    fn from(typed: TypedRawVal) -> bool {
+        typed.raw.read_as()
+    }
+}
+
+impl From<TypedRawVal> for i8 {
+    #[inline]
+    fn from(typed: TypedRawVal) -> i8 {
+        typed.raw.read_as()
+    }
+}
+
+impl From<TypedRawVal> for i16 {
+    #[inline]
+    fn from(typed: TypedRawVal) -> i16 {
+        typed.raw.read_as()
+    }
+}
+
+impl From<TypedRawVal> for i32 {
+    #[inline]
+    fn from(typed: TypedRawVal) -> i32 {
+        typed.raw.read_as()
+    }
+}
+
+impl From<TypedRawVal> for i64 {
+    #[inline]
+    fn from(typed: TypedRawVal) -> i64 {
+        typed.raw.read_as()
+    }
+}
+
+impl From<TypedRawVal> for u8 {
+    #[inline]
+    fn from(typed: TypedRawVal) -> u8 {
+        typed.raw.read_as()
+    }
+}
+
+impl From<TypedRawVal> for u16 {
+    #[inline]
+    fn from(typed: TypedRawVal) -> u16 {
+        typed.raw.read_as()
+    }
+}
+
+impl From<TypedRawVal> for u32 {
+    #[inline]
+    fn from(typed: TypedRawVal) -> u32 {
+        typed.raw.read_as()
+    }
+}
+
+impl From<TypedRawVal> for u64 {
+    #[inline]
+    fn from(typed: TypedRawVal) -> u64 {
+        typed.raw.read_as()
+    }
+}
+
+impl From<TypedRawVal> for V128 {
+    #[inline]
+    fn from(typed: TypedRawVal) -> V128 {
+        typed.raw.read_as()
+    }
+}

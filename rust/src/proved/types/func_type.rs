@@ -1,0 +1,495 @@
+//! Function types, and the errors of making one.
+
+use crate::proved::types::ValType;
+use crate::rattle::Vec;
+use crate::rattle::alloc::AllocError;
+use crate::rattle::rc::RcSlice;
+use core::cmp::Ordering;
+use core::error::Error;
+use core::fmt;
+use core::hash::{Hash, Hasher};
+
+/// Why a function type cannot be made.
+///
+/// Upstream: `wasmi_core::FuncTypeError`.
+#[derive(Clone, Copy, Debug, PartialEq, Eq)]
+pub enum FuncTypeError {
+    /// There are more than 1,000 parameters.
+    TooManyFunctionParams,
+    /// There are more than 1,000 results.
+    TooManyFunctionResults,
+    /// The system refused memory.
+    OutOfMemory,
+}
+
+impl fmt::Display for FuncTypeError {
+    #[inline]
+    fn fmt(&self, f: &mut fmt::Formatter<'_>) -> fmt::Result {
+        f.write_str(match self {
+            Self::TooManyFunctionParams => "encountered a function with too many parameters",
+            Self::TooManyFunctionResults => "encountered a function with too many results",
+            Self::OutOfMemory => "out of memory",
+        })
+    }
+}
+
+impl Error for FuncTypeError {}
+
+/// The type of a function: the types of its parameters and those of its results, at most 1,000
+/// each.
+///
+/// Up to 21 of them together stand in the value; more are shared by all clones of it.
+/// Core specification 2.3, function types. Upstream: `wasmi_core::FuncType`.
+///
+/// # Model
+///
+/// <span></span><pre><code>Value = [FunctionType]
+/// view = λ ty. [function_type_of] ty.inner
+/// invariant = λ ty. [IsKept] ty.inner</code></pre>
+///
+/// [FunctionType]: crate::specs::types::FunctionType#FunctionType "the parameters and the results of a function"
+/// [function_type_of]: crate::specs::types::FuncTypeInner#function_type_of "the function type that is kept"
+/// [IsKept]: crate::specs::types::FuncTypeInner#IsKept "at most 21 entries stand inline, and more on the heap, of at most 1,000 parameters and 1,000 results"
+pub struct FuncType {
+    inner: FuncTypeInner,
+}
+
+enum FuncTypeInner {
+    /// The parameters, then the results, then entries that mean nothing.
+    Inline {
+        len_params: u8,
+        len_results: u8,
+        params_results: [ValType; INLINE_SIZE],
+    },
+    /// The parameters, then the results.
+    Big {
+        len_params: u16,
+        params_results: RcSlice<ValType>,
+    },
+}
+
+/// How many parameters there are at most, and how many results.
+const MAX_LEN: u16 = 1_000;
+
+/// How many entries stand inline at most.
+const INLINE_SIZE: usize = 21;
+
+impl FuncType {
+    /// Makes the type of a function with these parameters and results, which `read` reads: its
+    /// contract says what each answer means.
+    ///
+    /// The iterator that `params` becomes can be read, and after its end the one that `results`
+    /// becomes.
+    ///
+    /// Upstream: `FuncType::new`, there of iterators that know their lengths.
+    ///
+    /// # Contract
+    ///
+    /// <span></span><pre><code>requires params: [EachBecomes] P.into_iter_gives params P.IntoIter.can_next
+    /// requires results: [EachBecomes] P.into_iter_gives params
+    /// &#32;&#32;&#32;&#32;(λ first. [EachBecomes] R.into_iter_gives results
+    /// &#32;&#32;&#32;&#32;(λ second. [AfterAll] P.IntoIter.next_gives first (R.IntoIter.can_next second)))
+    /// ensures reading: [IsReadingOf] P.into_iter_gives P.IntoIter.next_gives R.into_iter_gives
+    /// &#32;&#32;&#32;&#32;R.IntoIter.next_gives params results result</code></pre>
+    ///
+    /// [EachBecomes]: crate::specs::types::Iteration#EachBecomes "each iterator that a value becomes has a fact"
+    /// [AfterAll]: crate::specs::types::Reading#AfterAll "a fact that holds once calls from s gave all types, and then the end"
+    /// [IsReadingOf]: crate::specs::types::Reading#IsReadingOf "the answer after reading the iterators that x and y become"
+    #[inline]
+    pub fn new<P, R>(params: P, results: R) -> Result<Self, FuncTypeError>
+    where
+        P: IntoIterator<Item = ValType>,
+        R: IntoIterator<Item = ValType>,
+    {
+        let mut params = params.into_iter();
+        let mut results = results.into_iter();
+        Self::read(&mut params, &mut results)
+    }
+
+    /// Reads the parameters, then the results, each up to the first `None`, which is taken as the
+    /// end.
+    ///
+    /// Of each it reads at most 1,001 items: more than 1,000 parameters are refused before any
+    /// result is read, then more than 1,000 results. Memory is taken, and can be refused, only
+    /// where there are more than 21 items. Of an iterator nothing is read after its end or after
+    /// its item number 1,001, and the results are read only once the parameters have ended.
+    ///
+    /// Own: `new` takes its iterators by value, so that its contract can't say what is left of
+    /// them.
+    ///
+    /// # Contract
+    ///
+    /// <span></span><pre><code>requires params: P.can_next params.old
+    /// requires results: [AfterAll] P.next_gives params.old (R.can_next results.old)
+    /// ensures reading: [IsReading] P.next_gives R.next_gives params.old results.old result
+    /// &#32;&#32;&#32;&#32;params.new
+    /// &#32;&#32;&#32;&#32;results.new</code></pre>
+    ///
+    /// [AfterAll]: crate::specs::types::Reading#AfterAll "a fact that holds once calls from s gave all types, and then the end"
+    /// [IsReading]: crate::specs::types::Reading#IsReading "the answer after calls from p to p\' and from r to r\': the function type of all that came, or the refusal"
+    #[inline]
+    pub fn read<P, R>(params: &mut P, results: &mut R) -> Result<Self, FuncTypeError>
+    where
+        P: Iterator<Item = ValType>,
+        R: Iterator<Item = ValType>,
+    {
+        let mut entries = Entries::new();
+        let len_params = entries.read(params, FuncTypeError::TooManyFunctionParams)?;
+        let len_results = entries.read(results, FuncTypeError::TooManyFunctionResults)?;
+        match Self::from_entries(&entries, len_params, len_results) {
+            Ok(ty) => Ok(ty),
+            Err(_) => Err(FuncTypeError::OutOfMemory),
+        }
+    }
+
+    /// The function type of entries of which so many are parameters.
+    ///
+    /// # Contract
+    ///
+    /// <span></span><pre><code>requires count: [length] [entries].now ≡ len_params + len_results
+    /// requires params: len_params ≤ 1000
+    /// requires results: len_results ≤ 1000
+    /// ensures params: [IfOk] result (λ ty. ty.params ≡ [take] len_params [entries].now)
+    /// ensures results: [IfOk] result (λ ty. ty.results ≡ [drop] len_params [entries].now)
+    /// ensures refused: [IsErr] result → 21 < [length] [entries].now</code></pre>
+    ///
+    /// [length]: crate::specs::library#length "the number of elements of a list"
+    /// [entries]: crate::specs::types::FunctionType#entries "the parameters, then the results"
+    /// [IfOk]: crate::specs::library#IfOk "P of the value, if r is a value"
+    /// [take]: crate::specs::library#take "the first n elements"
+    /// [drop]: crate::specs::library#drop "all but the first n elements"
+    /// [IsErr]: crate::specs::library#IsErr "r is an error"
+    #[inline]
+    fn from_entries(
+        entries: &Entries,
+        len_params: u16,
+        len_results: u16,
+    ) -> Result<Self, AllocError> {
+        if entries.rest.is_empty() {
+            return Ok(FuncType {
+                inner: FuncTypeInner::Inline {
+                    len_params: len_params as u8,
+                    len_results: len_results as u8,
+                    params_results: entries.inline,
+                },
+            });
+        }
+        let mut params_results = Vec::from_slice(&entries.inline)?;
+        params_results.extend_from_slice(entries.rest.as_slice())?;
+        Ok(FuncType {
+            inner: FuncTypeInner::Big {
+                len_params,
+                params_results: RcSlice::from_vec(params_results)?,
+            },
+        })
+    }
+
+    /// The types of the parameters.
+    ///
+    /// # Contract
+    ///
+    /// <span></span><pre><code>ensures: result.now ≡ self.now.params</code></pre>
+    #[inline]
+    pub fn params(&self) -> &[ValType] {
+        self.params_results().0
+    }
+
+    /// The types of the results.
+    ///
+    /// # Contract
+    ///
+    /// <span></span><pre><code>ensures: result.now ≡ self.now.results</code></pre>
+    #[inline]
+    pub fn results(&self) -> &[ValType] {
+        self.params_results().1
+    }
+
+    /// How many parameters there are.
+    ///
+    /// # Contract
+    ///
+    /// <span></span><pre><code>ensures: result ≡ [length] self.now.params</code></pre>
+    ///
+    /// [length]: crate::specs::library#length "the number of elements of a list"
+    #[inline]
+    pub fn len_params(&self) -> u16 {
+        match &self.inner {
+            FuncTypeInner::Inline { len_params, .. } => u16::from(*len_params),
+            FuncTypeInner::Big { len_params, .. } => *len_params,
+        }
+    }
+
+    /// How many results there are.
+    ///
+    /// # Contract
+    ///
+    /// <span></span><pre><code>ensures: result ≡ [length] self.now.results</code></pre>
+    ///
+    /// [length]: crate::specs::library#length "the number of elements of a list"
+    #[inline]
+    pub fn len_results(&self) -> u16 {
+        match &self.inner {
+            FuncTypeInner::Inline { len_results, .. } => u16::from(*len_results),
+            FuncTypeInner::Big {
+                len_params,
+                params_results,
+            } => params_results.len() as u16 - *len_params,
+        }
+    }
+
+    /// The types of the parameters, and those of the results.
+    ///
+    /// # Contract
+    ///
+    /// <span></span><pre><code>ensures params: result.0.now ≡ self.now.params
+    /// ensures results: result.1.now ≡ self.now.results</code></pre>
+    #[inline]
+    pub fn params_results(&self) -> (&[ValType], &[ValType]) {
+        self.entries().split_at(usize::from(self.len_params()))
+    }
+
+    /// What function types are ordered by, place by place.
+    ///
+    /// # Contract
+    ///
+    /// <span></span><pre><code>ensures big: result.0 ≡ [not] ([nat_le] ([entry_count] self.now) 21)
+    /// ensures params: result.1 ≡ [length] self.now.params
+    /// ensures results: result.2
+    /// &#32;&#32;&#32;&#32;≡ (if [nat_le] ([entry_count] self.now) 21 then [length] self.now.results else 0)
+    /// ensures [entries]\: result.3.now ≡ [entries] self.now</code></pre>
+    ///
+    /// [not]: crate::specs::library#not "the other Boolean"
+    /// [nat_le]: crate::specs::library#nat_le "whether m is at most n, as a Boolean"
+    /// [entry_count]: crate::specs::types::FunctionType#entry_count "how many parameters and results there are together"
+    /// [length]: crate::specs::library#length "the number of elements of a list"
+    /// [entries]: crate::specs::types::FunctionType#entries "the parameters, then the results"
+    #[inline]
+    fn order_key(&self) -> (bool, u16, u16, &[ValType]) {
+        let entries = self.entries();
+        let is_big = entries.len() > INLINE_SIZE;
+        let len_results = if is_big { 0 } else { self.len_results() };
+        (is_big, self.len_params(), len_results, entries)
+    }
+
+    /// The types of the parameters, then those of the results.
+    ///
+    /// # Contract
+    ///
+    /// <span></span><pre><code>ensures: result.now ≡ [entries] self.now</code></pre>
+    ///
+    /// [entries]: crate::specs::types::FunctionType#entries "the parameters, then the results"
+    #[inline]
+    fn entries(&self) -> &[ValType] {
+        match &self.inner {
+            FuncTypeInner::Inline {
+                len_params,
+                len_results,
+                params_results,
+            } => &params_results[..usize::from(*len_params) + usize::from(*len_results)],
+            FuncTypeInner::Big { params_results, .. } => params_results.as_slice(),
+        }
+    }
+}
+
+impl crate::rattle::TryClone for FuncType {
+    /// The same function type. Memory can be refused only where it has more than 21 entries.
+    ///
+    /// # Contract
+    ///
+    /// <span></span><pre><code>ensures is_clone: [IfOk] result (λ copy. copy ≡ self.now)
+    /// ensures refused: [IsErr] result → 21 < [entry_count] self.now</code></pre>
+    ///
+    /// [IfOk]: crate::specs::library#IfOk "P of the value, if r is a value"
+    /// [IsErr]: crate::specs::library#IsErr "r is an error"
+    /// [entry_count]: crate::specs::types::FunctionType#entry_count "how many parameters and results there are together"
+    #[inline]
+    fn try_clone(&self) -> Result<Self, AllocError> {
+        Ok(FuncType {
+            inner: match &self.inner {
+                FuncTypeInner::Inline {
+                    len_params,
+                    len_results,
+                    params_results,
+                } => FuncTypeInner::Inline {
+                    len_params: *len_params,
+                    len_results: *len_results,
+                    params_results: *params_results,
+                },
+                FuncTypeInner::Big {
+                    len_params,
+                    params_results,
+                } => FuncTypeInner::Big {
+                    len_params: *len_params,
+                    params_results: params_results.try_clone()?,
+                },
+            },
+        })
+    }
+}
+
+impl PartialEq for FuncType {
+    /// # Contract
+    ///
+    /// <span></span><pre><code>ensures eq: result ≡ [same_lists] ⟦\<ValType as PartialEq>⟧.eq self.now other.now
+    /// ensures same: [IsTrue] result ↔ (self.now ≡ other.now)</code></pre>
+    ///
+    /// [same_lists]: crate::specs::types::FunctionType#same_lists "whether both lists are the same, by a test of value types"
+    /// [IsTrue]: crate::specs::library#IsTrue "b is true"
+    #[inline]
+    fn eq(&self, other: &Self) -> bool {
+        self.params_results() == other.params_results()
+    }
+}
+
+impl Eq for FuncType {}
+
+impl Ord for FuncType {
+    /// # Contract
+    ///
+    /// <span></span><pre><code>ensures cmp: result ≡ [function_type_cmp] self.now other.now
+    /// ensures equal: (result ≡ Ordering.Equal) ↔ (self.now ≡ other.now)</code></pre>
+    ///
+    /// [function_type_cmp]: crate::specs::types::FunctionType#function_type_cmp "the order of two function types"
+    #[inline]
+    fn cmp(&self, other: &Self) -> Ordering {
+        self.order_key().cmp(&other.order_key())
+    }
+}
+
+impl PartialOrd for FuncType {
+    #[inline]
+    fn partial_cmp(&self, other: &Self) -> Option<Ordering> {
+        Some(self.cmp(other))
+    }
+}
+
+impl Hash for FuncType {
+    #[inline]
+    fn hash<H: Hasher>(&self, state: &mut H) {
+        self.params().hash(state);
+        self.results().hash(state);
+    }
+}
+
+impl fmt::Debug for FuncType {
+    #[inline]
+    fn fmt(&self, f: &mut fmt::Formatter<'_>) -> fmt::Result {
+        f.debug_struct("FuncType")
+            .field("params", &self.params())
+            .field("results", &self.results())
+            .finish()
+    }
+}
+
+/// The entries of a function type while they are read.
+///
+/// # Model
+///
+/// <span></span><pre><code>Value = [List] [ValType]
+/// view = λ [entries]. [take] [entries].len [entries].inline ++ [entries].rest.items
+/// invariant = λ [entries]. ([length] [entries].inline ≡ 21) × ([entries].len ≤ 21)
+/// &#32;&#32;&#32;&#32;× ([entries].len < 21 → [entries].rest.items ≡ \[\])</code></pre>
+///
+/// [List]: crate::specs::library#List "the finite lists"
+/// [ValType]: crate::proved::types::ValType
+/// [entries]: crate::specs::types::FunctionType#entries "the parameters, then the results"
+/// [take]: crate::specs::library#take "the first n elements"
+/// [length]: crate::specs::library#length "the number of elements of a list"
+struct Entries {
+    /// The first 21 entries, then types that mean nothing.
+    inline: [ValType; INLINE_SIZE],
+    /// How many entries stand inline.
+    len: usize,
+    /// The entries after the first 21.
+    rest: Vec<ValType>,
+}
+
+impl Entries {
+    /// # Contract
+    ///
+    /// <span></span><pre><code>ensures: result ≡ \[\]</code></pre>
+    #[inline]
+    fn new() -> Self {
+        Entries {
+            inline: [ValType::I32; INLINE_SIZE],
+            len: 0,
+            rest: Vec::new(),
+        }
+    }
+
+    /// Appends a type. Memory is taken only after the first 21.
+    ///
+    /// # Contract
+    ///
+    /// <span></span><pre><code>ensures ok: [OnOk] result (self.new ≡ self.old ++ ty ∷ \[\])
+    /// ensures refused: [OnErr] result (21 ≤ [length] self.old)</code></pre>
+    ///
+    /// [OnOk]: crate::specs::library#OnOk "P, if r is a value"
+    /// [OnErr]: crate::specs::library#OnErr "P, if r is an error"
+    /// [length]: crate::specs::library#length "the number of elements of a list"
+    #[inline]
+    fn push(&mut self, ty: ValType) -> Result<(), AllocError> {
+        if self.len < INLINE_SIZE {
+            self.inline[self.len] = ty;
+            self.len += 1;
+        } else {
+            self.rest.push(ty)?;
+        }
+        Ok(())
+    }
+
+    /// Appends the next type, and answers whether there was one.
+    ///
+    /// # Contract
+    ///
+    /// <span></span><pre><code>requires readable: I.can_next types.old
+    /// ensures read: [ReadsNextType] I.next_gives I.can_next types.old self.old result types.new
+    /// &#32;&#32;&#32;&#32;self.new</code></pre>
+    ///
+    /// [ReadsNextType]: crate::specs::types::Reading#ReadsNextType "a call from s to t gave a type that was appended, or was refused memory after 21, or gave the end"
+    #[inline]
+    fn push_next<I>(&mut self, types: &mut I) -> Result<bool, AllocError>
+    where
+        I: Iterator<Item = ValType>,
+    {
+        match types.next() {
+            Some(ty) => {
+                self.push(ty)?;
+                Ok(true)
+            }
+            None => Ok(false),
+        }
+    }
+
+    /// Appends what an iterator gives until its first `None`, and answers how many came.
+    ///
+    /// # Contract
+    ///
+    /// <span></span><pre><code>requires readable: I.can_next types.old
+    /// ensures ok: [IfOk] result
+    /// &#32;&#32;&#32;&#32;(λ count. [ReadsTypes] I.next_gives types.old self.old count types.new self.new)
+    /// ensures err: [IfErr] result
+    /// &#32;&#32;&#32;&#32;(λ error. [IsReadingRefusal] I.next_gives too_many types.old self.old error types.new)</code></pre>
+    ///
+    /// [IfOk]: crate::specs::library#IfOk "P of the value, if r is a value"
+    /// [ReadsTypes]: crate::specs::types::Reading#ReadsTypes "calls from s to t gave so many types, at most 1,000, and then the end; they follow those before"
+    /// [IfErr]: crate::specs::library#IfErr "P of the error, if r is an error"
+    /// [IsReadingRefusal]: crate::specs::types::Reading#IsReadingRefusal "why a part was not read"
+    #[inline]
+    fn read<I>(&mut self, types: &mut I, too_many: FuncTypeError) -> Result<u16, FuncTypeError>
+    where
+        I: Iterator<Item = ValType>,
+    {
+        for count in 0..MAX_LEN {
+            match self.push_next(types) {
+                Ok(true) => {}
+                Ok(false) => return Ok(count),
+                Err(_) => return Err(FuncTypeError::OutOfMemory),
+            }
+        }
+        match types.next() {
+            Some(_) => Err(too_many),
+            None => Ok(MAX_LEN),
+        }
+    }
+}

@@ -1,0 +1,108 @@
+//! The part of Rattle's standard library that Rust's lacks: lists whose memory can be refused, shared slices, lanes of vectors.
+
+pub mod alloc;
+#[cfg(feature = "std")]
+pub mod arrayvec;
+mod list;
+pub mod rc;
+/// Lanes of a vector, in registers of x86-64.
+#[cfg(all(feature = "sse2", target_arch = "x86_64"))]
+#[path = "rattle/simd_x86.rs"]
+pub mod simd;
+/// Lanes of a vector, as arrays of them.
+#[cfg(any(test, not(all(feature = "sse2", target_arch = "x86_64"))))]
+pub mod simd_arrays;
+#[cfg(all(test, feature = "sse2", target_arch = "x86_64"))]
+mod simd_same;
+
+#[cfg(not(all(feature = "sse2", target_arch = "x86_64")))]
+pub use simd_arrays as simd;
+
+use alloc::AllocError;
+pub use list::Vec;
+
+/// A copy for which memory can be refused.
+pub trait TryClone: Sized {
+    /// The copy.
+    fn try_clone(&self) -> Result<Self, AllocError>;
+}
+
+impl<T: Clone> TryClone for T {
+    fn try_clone(&self) -> Result<Self, AllocError> {
+        Ok(self.clone())
+    }
+}
+
+/// Copies of slices for which memory can be refused.
+pub trait SliceExt<T> {
+    /// A list of the same items.
+    fn try_to_vec(&self) -> Result<Vec<T>, AllocError>;
+}
+
+impl<T: Copy> SliceExt<T> for [T] {
+    #[inline(always)]
+    fn try_to_vec(&self) -> Result<Vec<T>, AllocError> {
+        Vec::from_slice(self)
+    }
+}
+
+/// Arrays whose items are made of those of others.
+pub trait ArrayExt<T, const N: usize> {
+    /// What `f` gives for each item, or the first error.
+    fn try_map_all<U: Copy, E>(self, f: impl FnMut(T) -> Result<U, E>) -> Result<[U; N], E>;
+}
+
+impl<T: Copy, const N: usize> ArrayExt<T, N> for [T; N] {
+    fn try_map_all<U: Copy, E>(self, mut f: impl FnMut(T) -> Result<U, E>) -> Result<[U; N], E> {
+        let mut items = [None; N];
+        for i in 0..N {
+            items[i] = Some(f(self[i])?);
+        }
+        Ok(items.map(|item| item.expect("each was set")))
+    }
+}
+
+/// What only tests use: texts whose memory can be refused.
+#[cfg(test)]
+mod texts {
+    use super::alloc::AllocError;
+    use std::string::String;
+
+    pub trait TextExt {
+        fn try_push_str(&mut self, text: &str) -> Result<(), AllocError>;
+        fn try_of(text: &str) -> Result<String, AllocError>;
+    }
+
+    impl TextExt for String {
+        fn try_push_str(&mut self, text: &str) -> Result<(), AllocError> {
+            self.push_str(text);
+            Ok(())
+        }
+        fn try_of(text: &str) -> Result<String, AllocError> {
+            Ok(String::from(text))
+        }
+    }
+
+    pub trait StrExt {
+        fn try_repeat(&self, times: usize) -> Result<String, AllocError>;
+    }
+
+    impl StrExt for str {
+        fn try_repeat(&self, times: usize) -> Result<String, AllocError> {
+            Ok(self.repeat(times))
+        }
+    }
+
+    /// The text of some arguments.
+    pub fn text(arguments: core::fmt::Arguments<'_>) -> Result<String, AllocError> {
+        Ok(std::fmt::format(arguments))
+    }
+}
+#[cfg(test)]
+pub(crate) use texts::{StrExt, TextExt, text};
+
+/// What a test ends with.
+#[cfg(test)]
+pub(crate) mod test {
+    pub type Fail = std::boxed::Box<dyn core::error::Error>;
+}

@@ -1,0 +1,189 @@
+//! Lists whose memory can be refused.
+
+use super::alloc::{AllocError, AllocFailed};
+
+/// A list whose memory can be refused. It is a `std::vec::Vec`, from which and into which it converts for nothing.
+#[derive(PartialEq, Eq)]
+pub struct Vec<T>(::alloc::vec::Vec<T>);
+
+impl<T: core::fmt::Debug> core::fmt::Debug for Vec<T> {
+    fn fmt(&self, f: &mut core::fmt::Formatter<'_>) -> core::fmt::Result {
+        self.0.fmt(f)
+    }
+}
+
+impl<T> Vec<T> {
+    /// An empty list. It takes no memory.
+    #[inline]
+    pub const fn new() -> Self {
+        Vec(::alloc::vec::Vec::new())
+    }
+
+    /// An empty list with room for so many items.
+    #[inline(always)]
+    pub fn with_capacity(count: usize) -> Result<Self, AllocError> {
+        let mut list = ::alloc::vec::Vec::new();
+        list.try_reserve_exact(count).map_err(|_| AllocError)?;
+        Ok(Vec(list))
+    }
+
+    /// A list of `count` copies of an item.
+    pub fn filled(item: T, count: usize) -> Result<Self, AllocError>
+    where
+        T: Copy,
+    {
+        let mut list = Vec::with_capacity(count)?;
+        list.0.resize(count, item);
+        Ok(list)
+    }
+
+    /// A list of the items of a slice.
+    #[inline(always)]
+    pub fn from_slice(items: &[T]) -> Result<Self, AllocError>
+    where
+        T: Copy,
+    {
+        let mut list = Vec::with_capacity(items.len())?;
+        list.0.extend_from_slice(items);
+        Ok(list)
+    }
+
+    /// A list of the items of an array.
+    pub fn of<const N: usize>(items: [T; N]) -> Result<Self, AllocError> {
+        let mut list = Vec::with_capacity(N)?;
+        list.0.extend(items);
+        Ok(list)
+    }
+
+    /// Appends an item, or gives it back.
+    #[inline]
+    pub fn push(&mut self, item: T) -> Result<(), AllocFailed<T>> {
+        if self.0.try_reserve(1).is_err() {
+            return Err(AllocFailed { value: item });
+        }
+        self.0.push(item);
+        Ok(())
+    }
+
+    /// Appends an item for which there is room.
+    #[inline]
+    pub fn push_reserved(&mut self, item: T) {
+        assert!(self.0.len() < self.0.capacity(), "room");
+        self.0.push(item);
+    }
+
+    /// Appends the items of a slice.
+    pub fn extend_from_slice(&mut self, items: &[T]) -> Result<(), AllocError>
+    where
+        T: Copy,
+    {
+        self.try_reserve(items.len())?;
+        self.0.extend_from_slice(items);
+        Ok(())
+    }
+
+    /// Makes room for so many more items.
+    #[inline]
+    pub fn try_reserve(&mut self, more: usize) -> Result<(), AllocError> {
+        self.0.try_reserve(more).map_err(|_| AllocError)
+    }
+
+    /// Appends copies of an item, or drops items, up to a count.
+    pub fn resize(&mut self, count: usize, item: T) -> Result<(), AllocError>
+    where
+        T: Copy,
+    {
+        self.try_reserve(count.saturating_sub(self.0.len()))?;
+        self.0.resize(count, item);
+        Ok(())
+    }
+
+    /// Appends the items of another list, which keeps none.
+    pub fn append(&mut self, other: &mut Self) -> Result<(), AllocError> {
+        self.try_reserve(other.0.len())?;
+        self.0.append(&mut other.0);
+        Ok(())
+    }
+
+    /// How many items it has room for.
+    #[inline]
+    pub fn capacity(&self) -> usize {
+        self.0.capacity()
+    }
+
+    /// Drops all items.
+    #[inline]
+    pub fn clear(&mut self) {
+        self.0.clear();
+    }
+
+    /// The items.
+    #[inline]
+    pub fn as_slice(&self) -> &[T] {
+        &self.0
+    }
+
+    /// The items, which may be overwritten.
+    #[inline]
+    pub fn as_mut_slice(&mut self) -> &mut [T] {
+        &mut self.0
+    }
+
+    /// A range of the items, which may be overwritten.
+    #[inline]
+    pub fn slice_mut(&mut self, range: core::ops::RangeTo<usize>) -> &mut [T] {
+        &mut self.0[range]
+    }
+
+    /// The list as Rust has it.
+    #[inline]
+    pub fn into_inner(self) -> ::alloc::vec::Vec<T> {
+        self.0
+    }
+}
+
+impl<T> From<::alloc::vec::Vec<T>> for Vec<T> {
+    fn from(list: ::alloc::vec::Vec<T>) -> Self {
+        Vec(list)
+    }
+}
+
+impl<T> From<Vec<T>> for ::alloc::vec::Vec<T> {
+    fn from(list: Vec<T>) -> Self {
+        list.0
+    }
+}
+
+impl<T> core::ops::Deref for Vec<T> {
+    type Target = [T];
+
+    #[inline]
+    fn deref(&self) -> &[T] {
+        &self.0
+    }
+}
+
+impl<T> core::ops::DerefMut for Vec<T> {
+    #[inline]
+    fn deref_mut(&mut self) -> &mut [T] {
+        &mut self.0
+    }
+}
+
+impl<T> IntoIterator for Vec<T> {
+    type Item = T;
+    type IntoIter = ::alloc::vec::IntoIter<T>;
+
+    fn into_iter(self) -> Self::IntoIter {
+        self.0.into_iter()
+    }
+}
+
+impl<'a, T> IntoIterator for &'a Vec<T> {
+    type Item = &'a T;
+    type IntoIter = core::slice::Iter<'a, T>;
+
+    fn into_iter(self) -> Self::IntoIter {
+        self.0.iter()
+    }
+}

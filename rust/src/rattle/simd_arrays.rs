@@ -1,0 +1,279 @@
+//! Lanes of a vector as arrays, of which LLVM makes vectors where it can.
+use core::ops::{Add, BitAnd, BitOr, BitXor, Mul, Not, Shl, Shr, Sub};
+
+/// The types by their names.
+pub mod prelude {
+    #![allow(non_camel_case_types)]
+    use super::Simd;
+    pub type u8x16 = Simd<u8, 16>;
+    pub type u16x8 = Simd<u16, 8>;
+    pub type u32x4 = Simd<u32, 4>;
+    pub type u64x2 = Simd<u64, 2>;
+    pub type u32x8 = Simd<u32, 8>;
+    pub type i16x8 = Simd<i16, 8>;
+    pub type i32x4 = Simd<i32, 4>;
+}
+
+/// `N` lanes of an integer.
+#[derive(Clone, Copy, Debug, PartialEq, Eq)]
+pub struct Simd<T, const N: usize>([T; N]);
+
+/// For each lane, whether it is chosen.
+#[derive(Clone, Copy, Debug, PartialEq, Eq)]
+pub struct Mask<const N: usize>([bool; N]);
+
+/// An integer that is a lane, with sums, differences and products that wrap.
+pub trait Lane:
+    Copy
+    + Default
+    + Ord
+    + BitAnd<Output = Self>
+    + BitOr<Output = Self>
+    + BitXor<Output = Self>
+    + Not<Output = Self>
+{
+    fn add(self, other: Self) -> Self;
+    fn sub(self, other: Self) -> Self;
+    fn mul(self, other: Self) -> Self;
+    fn shl(self, amount: Self) -> Self;
+    fn shr(self, amount: Self) -> Self;
+    fn wide(self) -> i128;
+    fn of_wide(number: i128) -> Self;
+}
+
+macro_rules! lanes {
+    ($($lane:ident)*) => { $(impl Lane for $lane {
+        #[inline(always)]
+        fn add(self, other: Self) -> Self { self.wrapping_add(other) }
+        #[inline(always)]
+        fn sub(self, other: Self) -> Self { self.wrapping_sub(other) }
+        #[inline(always)]
+        fn mul(self, other: Self) -> Self { self.wrapping_mul(other) }
+        #[inline(always)]
+        fn shl(self, amount: Self) -> Self { self.wrapping_shl(amount as u32) }
+        #[inline(always)]
+        fn shr(self, amount: Self) -> Self { self.wrapping_shr(amount as u32) }
+        #[inline(always)]
+        fn wide(self) -> i128 { self as i128 }
+        #[inline(always)]
+        fn of_wide(number: i128) -> Self { number as Self }
+    })* };
+}
+
+lanes!(u8 u16 u32 u64 i16 i32 i64);
+
+impl<T: Lane, const N: usize> Simd<T, N> {
+    /// The lanes of an array.
+    #[inline(always)]
+    pub const fn from_array(lanes: [T; N]) -> Self {
+        Simd(lanes)
+    }
+
+    /// The lanes as an array.
+    #[inline(always)]
+    pub const fn to_array(self) -> [T; N] {
+        self.0
+    }
+
+    /// The same number in each lane.
+    #[inline(always)]
+    pub const fn splat(lane: T) -> Self {
+        Simd([lane; N])
+    }
+
+    #[inline(always)]
+    fn zip<U: Copy + Default>(self, other: Self, f: impl Fn(T, T) -> U) -> [U; N] {
+        let mut lanes = [U::default(); N];
+        for i in 0..N {
+            lanes[i] = f(self.0[i], other.0[i]);
+        }
+        lanes
+    }
+
+    #[inline(always)]
+    fn each<U: Lane>(self, f: impl Fn(T) -> U) -> Simd<U, N> {
+        let mut lanes = [U::default(); N];
+        for i in 0..N {
+            lanes[i] = f(self.0[i]);
+        }
+        Simd(lanes)
+    }
+
+    /// Which lanes are equal.
+    #[inline(always)]
+    pub fn simd_eq(self, other: Self) -> Mask<N> {
+        Mask(self.zip(other, |x, y| x == y))
+    }
+
+    /// Which lanes are less.
+    #[inline(always)]
+    pub fn simd_lt(self, other: Self) -> Mask<N> {
+        Mask(self.zip(other, |x, y| x < y))
+    }
+
+    /// The smaller ones of the lanes.
+    #[inline(always)]
+    pub fn simd_min(self, other: Self) -> Self {
+        Simd(self.zip(other, |x, y| if x < y { x } else { y }))
+    }
+
+    /// The lanes as another integer: a wider one has the number, a narrower one its low bits.
+    #[inline(always)]
+    pub fn cast<U: Lane>(self) -> Simd<U, N> {
+        self.each(|x| U::of_wide(x.wide()))
+    }
+
+    /// `M` lanes from `START` on.
+    #[inline(always)]
+    pub fn extract<const START: usize, const M: usize>(self) -> Simd<T, M> {
+        const { assert!(START + M <= N) };
+        let mut lanes = [T::default(); M];
+        for i in 0..M {
+            lanes[i] = self.0[START + i];
+        }
+        Simd(lanes)
+    }
+
+    /// Lanes of both vectors by their indices, those of the other counted on.
+    #[inline(always)]
+    pub fn shuffle<const M: usize>(self, other: Self, indices: [usize; M]) -> Simd<T, M> {
+        let mut lanes = [T::default(); M];
+        for i in 0..M {
+            let index = indices[i];
+            lanes[i] = if index < N {
+                self.0[index]
+            } else {
+                other.0[index - N]
+            };
+        }
+        Simd(lanes)
+    }
+}
+
+impl<const N: usize> Mask<N> {
+    /// The chosen lanes of one vector, and the others of another.
+    #[inline(always)]
+    pub fn select<T: Lane>(self, chosen: Simd<T, N>, other: Simd<T, N>) -> Simd<T, N> {
+        let mut lanes = other.0;
+        for i in 0..N {
+            if self.0[i] {
+                lanes[i] = chosen.0[i];
+            }
+        }
+        Simd(lanes)
+    }
+}
+
+impl Simd<u8, 16> {
+    /// The lanes at the indices, 0 where an index is past the end.
+    #[inline(always)]
+    pub fn swizzle_dyn_within<const K: usize>(self, indices: Self) -> Self {
+        #[cfg(all(target_arch = "x86_64", target_feature = "ssse3"))]
+        {
+            use core::arch::x86_64::*;
+            // The processor's instruction reads four bits of an index whose highest bit is 0. An index of 16 to 127 doesn't occur with K = 16,
+            // by the contracts of the callers: there it is below 16, or 128 and more.
+            let words = |v: Simd<u8, 16>| {
+                let n = u128::from_le_bytes(v.0);
+                _mm_set_epi64x((n >> 64) as i64, n as i64)
+            };
+            let picked = _mm_shuffle_epi8(words(self), words(indices));
+            let low = _mm_cvtsi128_si64(picked) as u64;
+            let high = _mm_cvtsi128_si64(_mm_unpackhi_epi64(picked, picked)) as u64;
+            Simd((u128::from(low) | (u128::from(high) << 64)).to_le_bytes())
+        }
+        #[cfg(not(all(target_arch = "x86_64", target_feature = "ssse3")))]
+        {
+            indices.each(|i| if i < 16 { self.0[usize::from(i)] } else { 0 })
+        }
+    }
+
+    /// The bytes of bytes.
+    #[inline(always)]
+    pub const fn to_le_bytes(self) -> Self {
+        self
+    }
+}
+
+macro_rules! bytes {
+    ($($lane:ident $n:literal $size:literal)*) => { $(impl Simd<$lane, $n> {
+        /// The bytes of the lanes, the lowest first.
+        #[inline(always)]
+        pub fn to_le_bytes(self) -> Simd<u8, 16> {
+            let mut bytes = [0; 16];
+            for i in 0..$n {
+                let lane = self.0[i].to_le_bytes();
+                for j in 0..$size {
+                    bytes[$size * i + j] = lane[j];
+                }
+            }
+            Simd(bytes)
+        }
+
+        /// The lanes of these bytes, the lowest first.
+        #[inline(always)]
+        pub fn from_le_bytes(bytes: Simd<u8, 16>) -> Self {
+            let mut lanes = [0; $n];
+            for i in 0..$n {
+                let mut lane = [0; $size];
+                for j in 0..$size {
+                    lane[j] = bytes.0[$size * i + j];
+                }
+                lanes[i] = $lane::from_le_bytes(lane);
+            }
+            Simd(lanes)
+        }
+    })* };
+}
+
+bytes!(u16 8 2 u32 4 4 u64 2 8 i16 8 2 i32 4 4 i64 2 8);
+
+macro_rules! operators {
+    ($($op:ident $function:ident $f:expr;)*) => { $(impl<T: Lane, const N: usize> $op for Simd<T, N> {
+        type Output = Self;
+
+        #[inline(always)]
+        fn $function(self, other: Self) -> Self {
+            Simd(self.zip(other, $f))
+        }
+    })* };
+}
+
+operators! {
+    Add add Lane::add;
+    Sub sub Lane::sub;
+    Mul mul Lane::mul;
+    Shl shl Lane::shl;
+    Shr shr Lane::shr;
+    BitAnd bitand |x, y| x & y;
+    BitOr bitor |x, y| x | y;
+    BitXor bitxor |x, y| x ^ y;
+}
+
+impl<T: Lane, const N: usize> Not for Simd<T, N> {
+    type Output = Self;
+
+    #[inline(always)]
+    fn not(self) -> Self {
+        self.each(|x| !x)
+    }
+}
+
+// All lanes are shifted by one amount.
+impl<T: Lane, const N: usize> Shl<i32> for Simd<T, N> {
+    type Output = Self;
+
+    #[inline(always)]
+    fn shl(self, amount: i32) -> Self {
+        self.each(|x| Lane::shl(x, T::of_wide(i128::from(amount))))
+    }
+}
+
+impl<T: Lane, const N: usize> Shr<i32> for Simd<T, N> {
+    type Output = Self;
+
+    #[inline(always)]
+    fn shr(self, amount: i32) -> Self {
+        self.each(|x| Lane::shr(x, T::of_wide(i128::from(amount))))
+    }
+}

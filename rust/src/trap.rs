@@ -1,0 +1,162 @@
+//! Traps with an error of the host of any type.
+
+use crate::TrapCode;
+use crate::proved::types::{HostError as Plain, Trap as Proved};
+use alloc::boxed::Box;
+use alloc::string::String;
+use core::any::Any;
+use core::fmt::{self, Debug, Display};
+
+/// An error of the host, which a [`Trap`] can carry.
+pub trait HostError: 'static + Display + Debug + Any + Send + Sync {}
+
+impl dyn HostError {
+    /// Whether it is a `T`.
+    pub fn is<T: HostError>(&self) -> bool {
+        (self as &dyn Any).is::<T>()
+    }
+
+    /// The `T`, if it is one.
+    #[inline]
+    pub fn downcast_ref<T: HostError>(&self) -> Option<&T> {
+        (self as &dyn Any).downcast_ref()
+    }
+
+    /// The `T`, if it is one, to be changed.
+    #[inline]
+    pub fn downcast_mut<T: HostError>(&mut self) -> Option<&mut T> {
+        (self as &mut dyn Any).downcast_mut()
+    }
+
+    /// The `T`, if it is one, or else the error itself.
+    #[inline]
+    pub fn downcast<T: HostError>(self: Box<Self>) -> Result<Box<T>, Box<Self>> {
+        if !self.is::<T>() {
+            return Err(self);
+        }
+        match (self as Box<dyn Any>).downcast() {
+            Ok(error) => Ok(error),
+            Err(_) => unreachable!(),
+        }
+    }
+}
+
+/// The error in a trap.
+struct Host(Box<dyn HostError>);
+
+impl Debug for Host {
+    fn fmt(&self, f: &mut fmt::Formatter<'_>) -> fmt::Result {
+        Debug::fmt(&self.0, f)
+    }
+}
+
+impl Display for Host {
+    fn fmt(&self, f: &mut fmt::Formatter<'_>) -> fmt::Result {
+        Display::fmt(&self.0, f)
+    }
+}
+
+impl Plain for Host {}
+
+/// Why a call of WebAssembly code or of the host ended early.
+pub struct Trap(Box<Proved<Host>>);
+
+impl Trap {
+    /// A trap that a message describes.
+    #[cold]
+    pub fn new<T>(message: T) -> Self
+    where
+        T: Into<String>,
+    {
+        Self(Box::new(Proved::new(message.into())))
+    }
+
+    /// The error of the host, if it is a `T`.
+    #[inline]
+    pub fn downcast_ref<T>(&self) -> Option<&T>
+    where
+        T: HostError,
+    {
+        self.0
+            .downcast_ref()
+            .and_then(|error| error.0.downcast_ref())
+    }
+
+    /// The error of the host, if it is a `T`, to be changed.
+    #[inline]
+    pub fn downcast_mut<T>(&mut self) -> Option<&mut T>
+    where
+        T: HostError,
+    {
+        self.0
+            .downcast_mut()
+            .and_then(|error| error.0.downcast_mut())
+    }
+
+    /// The error of the host, if it is a `T`.
+    #[inline]
+    pub fn downcast<T>(self) -> Option<T>
+    where
+        T: HostError,
+    {
+        self.0
+            .downcast()
+            .and_then(|error| error.0.downcast().ok())
+            .map(|error| *error)
+    }
+
+    /// An exit of the program with a status.
+    #[cold]
+    pub fn i32_exit(status: i32) -> Self {
+        Self(Box::new(Proved::i32_exit(status)))
+    }
+
+    /// The status of an exit.
+    #[inline]
+    pub fn i32_exit_status(&self) -> Option<i32> {
+        self.0.i32_exit_status()
+    }
+
+    /// The code of a trap of an instruction.
+    #[inline]
+    pub fn trap_code(&self) -> Option<TrapCode> {
+        self.0.trap_code()
+    }
+}
+
+impl From<TrapCode> for Trap {
+    #[cold]
+    fn from(code: TrapCode) -> Self {
+        Self(Box::new(code.into()))
+    }
+}
+
+impl<E> From<E> for Trap
+where
+    E: HostError,
+{
+    #[inline]
+    #[cold]
+    fn from(error: E) -> Self {
+        Self(Box::new(Host(Box::new(error)).into()))
+    }
+}
+
+impl Debug for Trap {
+    fn fmt(&self, f: &mut fmt::Formatter<'_>) -> fmt::Result {
+        Debug::fmt(&self.0, f)
+    }
+}
+
+impl Display for Trap {
+    fn fmt(&self, f: &mut fmt::Formatter<'_>) -> fmt::Result {
+        Display::fmt(&self.0, f)
+    }
+}
+
+#[cfg(feature = "std")]
+impl core::error::Error for Trap {
+    fn description(&self) -> &str {
+        self.trap_code().map_or("", |code| code.trap_message())
+    }
+}
