@@ -1,226 +1,18 @@
-#!/usr/bin/env python3
-"""Erases contracts, ghost items and proofs from .rt sources; what is left is Rust. It works on tokens and balanced brackets, and ends with a
-message at whatever it doesn't know. usage: erase.py CRATES_DIR OUT_SRC NAME ROOT --parts CRATE.. --public CRATE.. --tests CRATE.. --examples CRATE.. --words TSV   (ROOT's lib.rt becomes lib.rs)"""
-import collections, html, pathlib, re, sys, urllib.parse
+"""Leaves contracts, ghost items and proofs out of .rt sources; what is left is Rust. It works on tokens and balanced brackets, and
+stops at whatever it doesn't know."""
 
-STD_KEPT = {'fmt', 'cmp', 'error', 'hash', 'num', 'str', 'io'}          # the same in Rust's std
-STD_SHIM = {'alloc', 'rc', 'simd', 'test'}                          # other in Rust's std: the shim has them
-ATTRIBUTES = {'inline', 'cold', 'derive', 'repr'}                 # kept; `tactic` is erased
-DERIVES = {'Clone', 'Copy', 'Debug', 'Default', 'PartialEq', 'Eq', 'PartialOrd', 'Ord', 'Hash'}
-MACROS = {'matches', 'unreachable', 'write', 'writeln', 'stringify', 'macro_rules', 'format_args', 'vec'}
-OF_TESTS = {'test', 'assert', 'concat', 'println', 'format'}            # attributes and macros of tests and programs alone
-SHIM_NAMES = {'Vec'}                                              # Rattle's prelude, where it isn't Rust's
+import collections
+import pathlib
+import re
 
-# What callers in Rust have to meet: a test of it, or '' where Rust itself tests it (an index), or where no test can (a closure, an iterator).
-REQUIRES = {
-    'ordered: IfSome maximum (λ most. minimum ≤ most)': 'maximum.is_none_or(|most| minimum <= most)',
-    'variable: self.old.ty.mutability ≡ Mutability.Var': '!self.ty.mutability.is_const()',
-    'grows: length self.old.bytes ≤ new_size': 'self.len() <= new_size',
-    'grows: current ≤ desired': 'current <= desired',
-    'grows: old_size ≤ size': 'old_size <= size',
-    'whole: size % page_bytes self.page ≡ 0': 'size as u64 % u64::from(self.page_size()) == 0',
-    'sized: IsSized ty size.old': 'is_sized(ty, *size)', 'sized: IsSized ty size': 'is_sized(ty, size)',
-    'within: size.old ≤ length region.old': '*size <= region.len()', 'within: size ≤ length region.old': 'size <= region.len()',
-    'totals: HoldsTotals (L.Reserving.holdings limiter.old) machine.old':
-        'u128::from(limiter.held_bytes()) == machine.total_bytes() && u128::from(limiter.held_elements()) == machine.total_elements()',
-    'dst: dst + len ≤ length elements.old': '', 'src: src + len ≤ length elements.old': '', 'few: len ≤ 4096': '',
-    'inside: index + length items.now ≤ length elements.old': '', 'start: start ≤ end': '', 'end: end ≤ length elements.old': '',
-    'infallible: T.is_infallible value': '', 'same: (clone : T) → T.is_clone value clone → clone ≡ value': '',
-    'short: IsShort (D.output text)': '', 'callable: F.IsAlwaysCallable f': '', 'callable: IsSome self.old.left → C.IsAlwaysCallable f': '',
-    'readable: EachBecomes I.into_iter_gives items I.IntoIter.can_next': '', 'readable: I.can_next items.old': '',
-    'params: EachBecomes P.into_iter_gives params P.IntoIter.can_next': '', 'params: P.can_next params.old': '',
-    'results: AfterAll P.next_gives params.old (R.can_next results.old)': '',
-    'results: EachBecomes P.into_iter_gives params (λ first. EachBecomes R.into_iter_gives results (λ second. AfterAll P.IntoIter.next_gives first (R.IntoIter.can_next second)))': '',
-}
+from .contracts import LINKS, Contracts
+from .definitions import Specs, write
+from .tables import *
+from .tokens import PAIRS, Unknown, lex
 
-# The module of each crate is its name without the prefix, except these.
-MODULES = {'wasmi_core': 'machine', 'wasmi_simd': 'widening', 'wasmi_access': 'accesses'}
-# The modules of the Rust crate's root that have another name than a crate's own.
-PUBLIC = {'wasmi_budget': 'pool'}
-def module_of(crate): return MODULES.get(crate, crate.removeprefix('wasmi_'))
-
-# Texts that rustc's LLVM compiles badly, and what stands for them in Rust. Each has to be found.
-TEXTS = {
-    'for i in 0..N { memory[address + i] = bytes[i]; }': 'memory[address..address + N].copy_from_slice(bytes);',
-}
 FOUND = set()
-
-SHOW, SINK = 'crate::rattle::arrayvec::Show', 'crate::rattle::arrayvec::Sink'
-
-# Functions that give one of these are inlined always: a value that comes out of a call by memory is stored by words and read as a
-# whole, which stalls the run of calls.
-WHOLE = {'Reply'}
-
-class Unknown(Exception): pass
-
-class Specs:
-    """The definitions of specs/, as pages of the module `specs`: each is an anchor, and each word that a definition brings in a link."""
-    USE = re.compile(r'^(?:pub )?use Rattle\.(\w+)\.specs\.(\w+)(?:\.\{(.*?)\}|\s+as\s+(\w+))?\s*$', re.M | re.S)
-    HEAD = re.compile(r'^( *)((?:(?:abbrev|unfoldable|opaque|pub|record|data) )*)([^\s:(){}=]+)(?= |$)')
-    NAME = re.compile(r"[^\s(){}\[\].,;:=λ→\"|]+")
-
-    def __init__(self, source, crates, kit):
-        self.pages, self.anchors, self.passed, self.kit, self.known = {}, {}, {}, kit, {v: said for w, _, said in kit for v in w.split()}
-        for crate in crates:
-            for path in sorted((source / crate / 'specs').glob('*.antt')):
-                if path.stem == 'Lib': continue
-                text = path.read_text()
-                self.pages[crate, path.stem] = text
-                self.anchors[crate, path.stem] = self.declared(text)
-                self.passed[crate, path.stem] = self.brought_in(re.sub('^pub use', 'use', text, flags=re.M))
-        self.links = 0
-
-    def declared(self, text):
-        """The line of each declaration, and of each constructor of a `data`."""
-        found, data = {}, None
-        for n, line in enumerate(text.split('\n')):
-            m = self.HEAD.match(line)
-            if not m or line.lstrip().startswith(('--', 'use ', 'module ', 'let ', 'in ')): continue
-            if m[2].strip() and m[2].strip() != 'pub' or ' : ' in line and not m[1]: found.setdefault(m[3], n); data = (len(m[1]) if 'data ' in m[2] else None)
-            elif data is not None and len(m[1]) > data and line[m.end():].startswith(' : '): found.setdefault(m[3], n)
-        return found
-
-    def brought_in(self, text):
-        words = {}
-        for m in self.USE.finditer(text):
-            for it in (m[3] or '').split(','):
-                word, _, alias = it.strip().partition(' as ')
-                words[(alias or word).strip()] = (m[1], m[2], word.strip())
-            if m[3] is None: words[(m[4] or m[2]) + '.'] = (m[1], m[2], None)
-        return words
-
-    def said(self, found):
-        """The comment above a definition."""
-        rows, n, said = self.pages[found[:2]].split('\n'), self.anchors[found[:2]][found[2]] - 1, []
-        while n >= 0 and rows[n].lstrip().startswith('-- ') and not rows[n].lstrip().startswith('-- --'): said.insert(0, rows[n].lstrip(' -').strip()); n -= 1
-        return ' '.join(said) if n >= 0 else ''
-
-    def place(self, found):
-        """The page and the anchor of a word: a definition's, or the line of a word of Rattle's library."""
-        if found[:2] in self.anchors and found[2] not in self.anchors[found[:2]]:                   # passed on by a `pub use`
-            found = self.passed[found[:2]].get(found[2], found)
-        if found[:2] in self.anchors: return (f'{module_of(found[0])}::{found[1]}', found[2], self.said(found)) if found[2] in self.anchors[found[:2]] else None
-        return ('library', found[2], self.known[found[2]]) if found[0] == 'std' and found[2] in self.known else None
-
-    def library(self):
-        said_of = lambda said: re.sub('`([^`]*)`', lambda m: f'<code>{m[1]}</code>', html.escape(said))
-        anchor = '<span id="{}"></span>'.format
-        rows = '\n'.join(f'<tr><td>{"".join(map(anchor, map(html.escape, w.split())))}<code>{html.escape(form)}</code></td><td>{said_of(said)}</td></tr>' for w, form, said in self.kit)
-        return f'The words and signs of Rattle\'s library that contracts use.\n\n<table>\n{rows}\n</table>\n'
-
-    def write(self, out):
-        lines = ['//! The definitions that the contracts cite, in antt, the language of the proofs.\n#![allow(non_snake_case)]\n']
-        for crate in dict.fromkeys(c for c, _ in self.pages):
-            lines.append(f'/// Definitions of `{crate}`.\npub mod {module_of(crate)} {{')
-            for (c, name), text in self.pages.items():
-                if c != crate: continue
-                write(out / 'specs' / module_of(crate) / f'{name}.md', self.page(crate, name, text))
-                lines.append(f'    #[doc = include_str!("specs/{module_of(crate)}/{name}.md")]\n    pub mod {name} {{}}')
-            lines.append('}\n')
-        write(out / 'specs' / 'library.md', self.library())
-        lines.append('#[doc = include_str!("specs/library.md")]\npub mod library {}\n')
-        write(out / 'specs.rs', '\n'.join(lines))
-
-    def page(self, crate, name, text):
-        about = []
-        rows = text.split('\n')
-        while rows and rows[0].startswith('--'): about.append(rows.pop(0).lstrip('- ').strip())
-        skipped = len(text.split('\n')) - len(rows)
-        anchors, brought = self.anchors[crate, name], self.brought_in(text)
-        at = {n: word for word, n in anchors.items()}
-        made = []
-        for n, row in enumerate(rows, skipped):
-            if row.lstrip().startswith('--'): made.append(f'<span style="opacity:.7">{html.escape(row)}</span>'); continue
-            out, last = [], 0
-            for m in self.NAME.finditer(row):
-                word, rest = m[0], None
-                out.append(html.escape(row[last:m.start()])); last = m.end()
-                if word + '.' in brought and row[last:last + 1] == '.':
-                    rest = self.NAME.match(row, last + 1)
-                    c, module, _ = brought[word + '.']
-                    found = (c, module, rest[0]) if rest else None
-                    if rest: word, last = word + '.' + rest[0], rest.end()
-                elif row[m.start() - 1:m.start()] == '.' and not row.startswith('use '): found = None
-                elif word in brought: found = brought[word]
-                elif word in anchors: found = (crate, name, word)
-                else: found = None
-                if at.get(n) == word: out.append(f'<b id="{html.escape(word)}">{html.escape(word)}</b>')
-                elif found and self.place(found):
-                    page, anchor, said = self.place(found)
-                    page = '' if found[:2] == (crate, name) else f'../../{page.replace("::", "/")}/index.html'
-                    out.append(f'<a href="{page}#{urllib.parse.quote(anchor)}" title="{html.escape(said)}">{html.escape(word)}</a>')
-                    self.links += 1
-                else: out.append(html.escape(word))
-            made.append(''.join(out) + html.escape(row[last:]))
-        said = ' '.join(about)
-        while made and not made[-1]: made.pop()
-        while made and not made[0]: made.pop(0)
-        return re.sub(r'([\[\]<>*_`\\])', r'\\\1', said) + '\n\n<pre><code>' + '\n'.join(made) + '\n</code></pre>\n'
-
-class Token:
-    __slots__ = ('kind', 'text', 'start', 'end')
-    def __init__(self, kind, text, start): self.kind, self.text, self.start, self.end = kind, text, start, start + len(text)
-    def __repr__(self): return f'{self.kind}:{self.text!r}'
-
-LEX = [(k, re.compile(p, re.S)) for k, p in [
-    ('space', r'\s+'), ('doc', r'//[/!][^\n]*'), ('comment', r'//[^\n]*'), ('str', r'b?"(?:[^"\\]|\\.)*"'),
-    ('char', r"b?'(?:[^'\\\n]|\\(?:x..|u\{[^}]*\}|.))'"), ('life', r"'[A-Za-z_]\w*"), ('num', r'\d(?:[\w]|\.\d)*'),
-    ('word', r'[A-Za-z_]\w*'), ('mark', r'[-+*/%^!&|=<>@.,;:#$?~()\[\]{}]')]]
-
-def antt_braces(text, at, what):
-    """The end of the balanced braces that begin at `at`. In antt a quote is part of a name."""
-    if text[at] != '{': raise Unknown(f'{what}: no brace at {text[at:at+40]!r}')
-    depth, i = 0, at
-    while i < len(text):
-        c = text[i]
-        if c == '"':
-            m = re.compile(r'"[^"\\\n]*"').match(text, i)
-            if not m: raise Unknown(f'{what}: a text that goes on')
-            i = m.end()
-            continue
-        depth += (c == '{') - (c == '}')
-        i += 1
-        if depth == 0: return i
-    raise Unknown(f'{what}: no end')
-
-GHOST_USE, GHOST_ITEM = re.compile(r'ghost\s+use\b'), re.compile(r'ghost\s+(\w+)\s*([=:])\s*')
-CLAUSE = re.compile(r'(requires|ensures)(\*?)(?:\s+(\w+))?\s*(?=\{)')
-
-def lex(text):
-    tokens, at = [], 0
-    while at < len(text):
-        for kind, pattern in LEX:
-            m = pattern.match(text, at)
-            if m: break
-        else: raise Unknown(f'no token at {text[at:at+40]!r}')
-        word = m.group()
-        if kind == 'word' and word == 'ghost':
-            if GHOST_USE.match(text, at):
-                kind, end = 'ghost_use', at
-                while text[end] != ';': end = antt_braces(text, end, 'ghost use') if text[end] == '{' else end + 1
-                end += 1
-            else:
-                g = GHOST_ITEM.match(text, at)
-                if not g: raise Unknown(f'ghost at {text[at:at+60]!r}')
-                kind, end = 'ghost_item', antt_braces(text, g.end(), 'ghost item')
-                if text[end] not in ';,': raise Unknown(f'after a ghost item: {text[end:end+20]!r}')
-                end += 1
-        elif kind == 'word' and word in ('requires', 'ensures'):
-            c = CLAUSE.match(text, at)
-            if not c: raise Unknown(f'clause at {text[at:at+60]!r}')
-            kind, end = 'clause', antt_braces(text, c.end(), 'clause')
-        else: end = m.end()
-        tokens.append(Token(kind, text[at:end], at))
-        at = end
-    return tokens
-
-PAIRS = {'(': ')', '[': ']', '{': '}'}
-
 LAWS = '#[cfg(any(doc, test))]\n'          # functions that do nothing: pages of the reference, and tests call some
-LINKS = collections.Counter()
-def quoted(text): return re.sub(r"""[\\*\[\]`"']|<(?=[A-Za-z/!?])|&(?=#?\w+;)|~(?=~)|(?<=~)~|(?<!\w)_|_(?!\w)|-(?=-)|(?<=-)-|\.(?=\.)""", r'\\\g<0>', text)
-
-class File:
+class File(Contracts):
     roots = {'wasmi_core'}
     def __init__(self, text, crate, crates, macros, seen, path, prefix, specs, is_test=False):
         self.text, self.crate, self.crates, self.macros, self.prefix, self.is_test = text, crate, crates, macros, prefix, is_test
@@ -280,95 +72,6 @@ class File:
         self.replace(start, end)
         self.dead.append((start, end))
 
-    def contract(self, before, lines, bounds, title='Contract'):
-        """Puts lines into the doc comment of the item whose first token begins at `before`."""
-        indent = re.search(r'[ \t]*\Z', self.text[:before]).group()
-        block = ['', f'# {title}', ''] + self.clauses(lines, bounds)
-        has_doc = re.search(r'///[^\n]*\n\s*\Z', self.text[:before])
-        if not has_doc: block = block[1:]
-        self.replace(before, before, ''.join(f'/// {line}'.rstrip() + '\n' + indent for line in block))
-
-    def bounds(self, i):
-        """The traits with ghost members that bound the type parameters of an item, and of what it stands in."""
-        heads, found = [i], {}
-        while True:
-            around = [o for o, c in self.close.items() if self.at(o) == '{' and o < heads[-1] < c]
-            if not around: break
-            o = k = max(around)
-            opens = {c: a for a, c in self.close.items()}
-            while k > 0 and self.at(k - 1) not in (';', '}', '{'): k = opens.get(k - 1, k - 1)
-            h = next((j for j in range(k, o) if self.at(j) in ('impl', 'trait')), None)
-            if h is None: break
-            heads.append(h)
-        for h in heads:
-            k = h
-            if self.at(h) == 'trait' and self.at(h + 1) in self.ghostly: found.setdefault('Self', self.at(h + 1))
-            while k < len(self.t) and self.at(k) not in ('{', ';'):
-                if self.t[k].kind == 'word' and self.at(k + 1) == ':' and self.at(k + 2) != ':' and self.at(k - 1) in ('<', ',', 'where'):
-                    j = k + 2
-                    while self.t[j].kind == 'word' or self.at(j) in ('+', ':'):
-                        if self.at(j) in self.ghostly and self.at(j + 1) != ':': found.setdefault(self.at(k), self.at(j)); break
-                        j += 1
-                k += 1
-        return found
-
-    def brought_in(self):
-        """The words of specs/ that this file imports: each name, and its page and anchor."""
-        found = {}
-        for x in self.all:
-            m = x.kind == 'ghost_use' and re.fullmatch(r'ghost\s+use\s+Rattle\.(\w+)\.specs\.(\w+)(?:\.\{(.*)\}|\s+as\s+(\w+))?;', x.text, re.S)
-            d = x.kind == 'ghost_use' and re.fullmatch(r'ghost\s+use\s+Rattle\.(\w+)\.specs\.declared\.([\w.]+?)(\.TheVariants)?\.\{(.*)\};', x.text, re.S)
-            if d and d[1] in self.prefix:                                    # a type of Rust, or its variants
-                for it in d[4].split(','):
-                    word, _, alias = it.strip().partition(' as ')
-                    found[(alias or word).strip()] = ('declared', f'{self.prefix[d[1]]}::{d[2].split(".")[-1]}', d[3] and word.strip())
-            if not m: continue
-            for it in (m[3] or '').split(','):
-                word, _, alias = it.strip().partition(' as ')
-                found[(alias or word).strip()] = (m[1], m[2], word.strip())
-            if m[3] is None: found[(m[4] or m[2]) + '.'] = (m[1], m[2], None)
-        return found
-
-    def clauses(self, lines, bounds):
-        """Lines of antt as one `pre` of inline HTML, in which rustdoc still resolves links: so it isn't the first tag of its line."""
-        brought, made, places = self.brought_in(), [], {}
-        def link(word, to, said=''):
-            label = places.setdefault(word.lower(), (word, to, said))
-            return f'[{quoted(word)}]' if label == (word, to, said) else f'[{quoted(word)}]({to})'         # labels are the same in both cases
-        for line in lines:
-            out, last = [], 0
-            if line.startswith('-- '): made.append(f'<i>{quoted(line)}</i>'); continue
-            for m in Specs.NAME.finditer(line):
-                word = m[0]
-                if m.start() < last: continue
-                out.append(quoted(line[last:m.start()])); last = m.end()
-                found = None
-                if word + '.' in brought and line[last:last + 1] == '.':
-                    rest = Specs.NAME.match(line, last + 1)
-                    if rest: found, word, last = brought[word + '.'][:2] + (rest[0],), word + '.' + rest[0], rest.end()
-                elif line[m.start() - 1:m.start()] != '.': found = brought.get(word)
-                place = found and self.specs.place(found)
-                is_public = found and found[0] == 'declared' and any(re.search(rf'\bpub (?:struct|enum) {found[1].split("::")[-1]}\b', p.read_text()) for p in self.mentions[found[1].split("::")[-1]])
-                member = word in bounds and re.compile(r'\.[A-Za-z_]\w*').match(line, last)
-                if place:
-                    out.append(link(word, f'crate::specs::{place[0]}#{urllib.parse.quote(place[1])}', place[2]))
-                    LINKS['of the library' if place[0] == 'library' else 'defined'] += 1
-                elif is_public:
-                    out.append(link(word, f'{found[1]}{"::" + found[2] if found[2] else ""}'))
-                    LINKS['types of Rust'] += 1
-                elif member:
-                    last = member.end()
-                    out.append(link(word + member[0], f'trait@{bounds[word]}#contract'))
-                    LINKS['members of traits'] += 1
-                else: out.append(quoted(word)); LINKS['without a page' if found else 'bound, Rust\'s or numbers'] += 1
-                if out[-1][-1:] in '])' and line[last:last + 1] in ('(', '[', ':'): out.append('\\'); 
-            made.append(''.join(out) + quoted(line[last:]))
-        made = [re.sub(r'^ +', lambda m: '&#32;' * len(m[0]), line) for line in made]
-        made[0] = '<span></span><pre><code>' + made[0]
-        made[-1] += '</code></pre>'
-        title = lambda said: f' "{quoted(said)}"' if said else ''
-        return made + [''] * bool(places) + [f'[{quoted(word)}]: {to}{title(said)}' for word, to, said in places.values()]
-
     # The rules.
 
     def erase_ghost(self):
@@ -417,12 +120,6 @@ class File:
         if REQUIRES[text] and self.at(body) == '{':
             end = self.t[body].end
             self.replace(end, end, f'\nassert!({REQUIRES[text]}, "{text.split(":")[0]}");')
-
-    def tidy(self, text):
-        """A clause or ghost item without its braces."""
-        m = re.match(r'(.*?)\{(.*)\}[;,]?\Z', text, re.S)
-        head, body = m.group(1).strip(), re.sub(r'\s*\n\s*', '\n    ', m.group(2).strip())
-        return f'{head} {body}' if head[-1] in ':=' else f'{head}: {body}'
 
     def remove_line(self, x):
         end = x.end
@@ -812,10 +509,6 @@ class File:
             if x.kind in ('ghost_use', 'ghost_item', 'clause'): raise Unknown(f'left: {x.text[:40]}')
             if x.kind == 'word' and x.text in ('ghost', 'requires', 'ensures', 'Model', 'HostRuntime', 'prove', 'Drop', 'unsafe', 'rt', 'Abort', 'AllocGlobal'): raise Unknown(f'left: {x.text}')
             if x.kind not in ('doc', 'comment', 'str', 'space') and not x.text.isascii(): raise Unknown(f'left: {x.text}')
-
-def write(target, text):
-    target.parent.mkdir(parents=True, exist_ok=True)
-    target.write_text(text)
 
 STD = re.compile(r'(?<![\w:])std::(?!io\b)')
 

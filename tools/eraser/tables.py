@@ -1,0 +1,48 @@
+"""What the eraser knows of the sources by name: attributes, macros, modules, what callers have to meet."""
+
+STD_KEPT = {'fmt', 'cmp', 'error', 'hash', 'num', 'str', 'io'}          # the same in Rust's std
+STD_SHIM = {'alloc', 'rc', 'simd', 'test'}                          # other in Rust's std: the shim has them
+ATTRIBUTES = {'inline', 'cold', 'derive', 'repr'}                 # kept; `tactic` is erased
+DERIVES = {'Clone', 'Copy', 'Debug', 'Default', 'PartialEq', 'Eq', 'PartialOrd', 'Ord', 'Hash'}
+MACROS = {'matches', 'unreachable', 'write', 'writeln', 'stringify', 'macro_rules', 'format_args', 'vec'}
+OF_TESTS = {'test', 'assert', 'concat', 'println', 'format'}            # attributes and macros of tests and programs alone
+SHIM_NAMES = {'Vec'}                                              # Rattle's prelude, where it isn't Rust's
+
+# What callers in Rust have to meet: a test of it, or '' where Rust itself tests it (an index), or where no test can (a closure, an iterator).
+REQUIRES = {
+    'ordered: IfSome maximum (λ most. minimum ≤ most)': 'maximum.is_none_or(|most| minimum <= most)',
+    'variable: self.old.ty.mutability ≡ Mutability.Var': '!self.ty.mutability.is_const()',
+    'grows: length self.old.bytes ≤ new_size': 'self.len() <= new_size',
+    'grows: current ≤ desired': 'current <= desired',
+    'grows: old_size ≤ size': 'old_size <= size',
+    'whole: size % page_bytes self.page ≡ 0': 'size as u64 % u64::from(self.page_size()) == 0',
+    'sized: IsSized ty size.old': 'is_sized(ty, *size)', 'sized: IsSized ty size': 'is_sized(ty, size)',
+    'within: size.old ≤ length region.old': '*size <= region.len()', 'within: size ≤ length region.old': 'size <= region.len()',
+    'totals: HoldsTotals (L.Reserving.holdings limiter.old) machine.old':
+        'u128::from(limiter.held_bytes()) == machine.total_bytes() && u128::from(limiter.held_elements()) == machine.total_elements()',
+    'dst: dst + len ≤ length elements.old': '', 'src: src + len ≤ length elements.old': '', 'few: len ≤ 4096': '',
+    'inside: index + length items.now ≤ length elements.old': '', 'start: start ≤ end': '', 'end: end ≤ length elements.old': '',
+    'infallible: T.is_infallible value': '', 'same: (clone : T) → T.is_clone value clone → clone ≡ value': '',
+    'short: IsShort (D.output text)': '', 'callable: F.IsAlwaysCallable f': '', 'callable: IsSome self.old.left → C.IsAlwaysCallable f': '',
+    'readable: EachBecomes I.into_iter_gives items I.IntoIter.can_next': '', 'readable: I.can_next items.old': '',
+    'params: EachBecomes P.into_iter_gives params P.IntoIter.can_next': '', 'params: P.can_next params.old': '',
+    'results: AfterAll P.next_gives params.old (R.can_next results.old)': '',
+    'results: EachBecomes P.into_iter_gives params (λ first. EachBecomes R.into_iter_gives results (λ second. AfterAll P.IntoIter.next_gives first (R.IntoIter.can_next second)))': '',
+}
+
+# The module of each crate is its name without the prefix, except these.
+MODULES = {'wasmi_core': 'machine', 'wasmi_simd': 'widening', 'wasmi_access': 'accesses'}
+# The modules of the Rust crate's root that have another name than a crate's own.
+PUBLIC = {'wasmi_budget': 'pool'}
+def module_of(crate): return MODULES.get(crate, crate.removeprefix('wasmi_'))
+
+# Texts that rustc's LLVM compiles badly, and what stands for them in Rust. Each has to be found.
+TEXTS = {
+    'for i in 0..N { memory[address + i] = bytes[i]; }': 'memory[address..address + N].copy_from_slice(bytes);',
+}
+
+SHOW, SINK = 'crate::rattle::arrayvec::Show', 'crate::rattle::arrayvec::Sink'
+
+# Functions that give one of these are inlined always: a value that comes out of a call by memory is stored by words and read as a
+# whole, which stalls the run of calls.
+WHOLE = {'Reply'}
