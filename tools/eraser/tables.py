@@ -14,7 +14,7 @@ REQUIRES = {
     'variable: self.old.ty.mutability ≡ Mutability.Var': '!self.ty.mutability.is_const()',
     'grows: length self.old.bytes ≤ new_size': 'self.len() <= new_size',
     'grows: current ≤ desired': 'current <= desired',
-    'grows: old_size ≤ size': 'old_size <= size',
+    'grows: old_size < size': 'old_size < size',
     'whole: size % page_bytes self.page ≡ 0': 'size as u64 % u64::from(self.page_size()) == 0',
     'sized: IsSized ty size.old': 'is_sized(ty, *size)', 'sized: IsSized ty size': 'is_sized(ty, size)',
     'within: size.old ≤ length region.old': '*size <= region.len()', 'within: size ≤ length region.old': 'size <= region.len()',

@@ -42,7 +42,7 @@ pub fn permitted_minimum<L: ResourceLimiter>(
     Ok(size)
 }
 
-/// Decides whether `old_size` bytes may become `size`: the limiter permits it, there is room for
+/// Decides whether `old_size` bytes may become `size`, which is more: the limiter permits it, there is room for
 /// them, and the added ones are paid, in this order. The fuel is taken if they may; no byte is
 /// written yet, so it is the same wherever the bytes lie.
 ///
@@ -50,7 +50,7 @@ pub fn permitted_minimum<L: ResourceLimiter>(
 ///
 /// # Contract
 ///
-/// <span></span><pre><code>requires grows: old_size ≤ size
+/// <span></span><pre><code>requires grows: old_size < size
 /// ensures loan: [KeepsLoan] limiter.old limiter.new
 /// ensures permitted: [OnOk] result (([optional_rules] [L.rules]).asked ([lent_limiter] limiter.old)
 /// &#32;&#32;&#32;&#32;([size_question] old_size size maximum) ([Ok] [true]) ([lent_limiter] limiter.new))
@@ -93,7 +93,7 @@ pub fn decide_growth<L: ResourceLimiter>(
     fuel: &mut Fuel,
     limiter: &mut ResourceLimiterRef<L>,
 ) -> Result<(), MemoryError> {
-    assert!(old_size <= size, "grows");
+    assert!(old_size < size, "grows");
     let answer = limiter.memory_growing(old_size, size, maximum);
     permission(answer, MemoryError::OutOfBoundsGrowth, MEMORY_DENIED)?;
     if !has_room {
