@@ -1,14 +1,16 @@
-"""What the eraser knows of the sources by name: attributes, macros, modules, what callers have to meet."""
+"""What the eraser knows by name: attributes, macros, modules, what callers have to meet, texts that Rust has otherwise."""
 
-STD_KEPT = {'fmt', 'cmp', 'error', 'hash', 'num', 'str', 'io'}          # the same in Rust's std
-STD_SHIM = {'alloc', 'rc', 'simd', 'test'}                          # other in Rust's std: the shim has them
-ATTRIBUTES = {'inline', 'cold', 'derive', 'repr'}                 # kept; `tactic` is erased
-DERIVES = {'Clone', 'Copy', 'Debug', 'Default', 'PartialEq', 'Eq', 'PartialOrd', 'Ord', 'Hash'}
-MACROS = {'matches', 'unreachable', 'write', 'writeln', 'stringify', 'macro_rules', 'format_args', 'vec'}
-OF_TESTS = {'test', 'assert', 'concat', 'println', 'format'}            # attributes and macros of tests and programs alone
-SHIM_NAMES = {'Vec'}                                              # Rattle's prelude, where it isn't Rust's
+STD_KEPT = {"fmt", "cmp", "error", "hash", "num", "str", "io"}  # as in Rust's std
+STD_SHIM = {"alloc", "rc", "simd", "test"}  # other than in Rust's std: the shim has them
+SHIM_NAMES = {"Vec"}  # of Rattle's prelude, and other than Rust's
+ATTRIBUTES = {"inline", "cold", "derive", "repr"}  # kept; `tactic` is left out
+DERIVES = {"Clone", "Copy", "Debug", "Default", "PartialEq", "Eq", "PartialOrd", "Ord", "Hash"}
+MACROS = {"matches", "unreachable", "write", "writeln", "stringify", "macro_rules", "format_args", "vec"}
+OF_TESTS = {"test", "assert", "concat", "println", "format"}  # attributes and macros of tests and programs alone
+LEFT_BY_MISTAKE = {"ghost", "requires", "ensures", "Model", "HostRuntime", "prove", "Drop", "unsafe", "rt", "Abort", "AllocGlobal"}
 
-# What callers in Rust have to meet: a test of it, or '' where Rust itself tests it (an index), or where no test can (a closure, an iterator).
+# What a public function requires, and the test of it. It is empty if Rust itself tests it (an index) or if no test can (a closure, an
+# iterator).
 REQUIRES = {
     'ordered: IfSome maximum (λ most. minimum ≤ most)': 'maximum.is_none_or(|most| minimum <= most)',
     'variable: self.old.ty.mutability ≡ Mutability.Var': '!self.ty.mutability.is_const()',
@@ -30,19 +32,28 @@ REQUIRES = {
     'results: EachBecomes P.into_iter_gives params (λ first. EachBecomes R.into_iter_gives results (λ second. AfterAll P.IntoIter.next_gives first (R.IntoIter.can_next second)))': '',
 }
 
-# The module of each crate is its name without the prefix, except these.
-MODULES = {'wasmi_core': 'machine', 'wasmi_simd': 'widening', 'wasmi_access': 'accesses'}
-# The modules of the Rust crate's root that have another name than a crate's own.
-PUBLIC = {'wasmi_budget': 'pool'}
-def module_of(crate): return MODULES.get(crate, crate.removeprefix('wasmi_'))
+# The module of each crate under `proved` is its name without the prefix, except these.
+MODULES = {"wasmi_core": "machine", "wasmi_simd": "widening", "wasmi_access": "accesses"}
+# The modules of the Rust crate's root that have another name than under `proved`.
+PUBLIC = {"wasmi_budget": "pool"}
+# The crates that pass on names of others for their users.
+PASSING_ON = {"wasmi_core"}
 
 # Texts that rustc's LLVM compiles badly, and what stands for them in Rust. Each has to be found.
 TEXTS = {
-    'for i in 0..N { memory[address + i] = bytes[i]; }': 'memory[address..address + N].copy_from_slice(bytes);',
+    "for i in 0..N { memory[address + i] = bytes[i]; }": "memory[address..address + N].copy_from_slice(bytes);",
 }
 
-SHOW, SINK = 'crate::rattle::arrayvec::Show', 'crate::rattle::arrayvec::Sink'
+# Functions that return one of these are inlined always: a value that a call returns through memory is stored by words and read as a
+# whole, which stalls a run of calls.
+INLINED_ALWAYS = {"Reply"}
 
-# Functions that give one of these are inlined always: a value that comes out of a call by memory is stored by words and read as a
-# whole, which stalls the run of calls.
-WHOLE = {'Reply'}
+# The shim's traits of texts.
+SHOW, SINK = "crate::rattle::arrayvec::Show", "crate::rattle::arrayvec::Sink"
+
+# Laws do nothing: they are there for the reference, and for tests.
+LAWS = "#[cfg(any(doc, test))]\n"
+
+
+def module_of(crate):
+    return MODULES.get(crate, crate.removeprefix("wasmi_"))
