@@ -39,8 +39,9 @@ PUBLIC = {"wasmi_budget": "pool"}
 # The crates that pass on names of others for their users.
 PASSING_ON = {"wasmi_core"}
 
-# Texts that rustc's LLVM compiles badly, and what stands for them in Rust. Each has to be found.
+# Texts that rustc's LLVM compiles badly, or that older compilers lack, and what stands for them in Rust. Each has to be found.
 TEXTS = {
+    "let Some(words) = words.as_array::<16>() else {": "let Ok(words) = <&[&str; 16]>::try_from(words) else {",
     "for i in 0..N { memory[address + i] = bytes[i]; }": "memory[address..address + N].copy_from_slice(bytes);",
 }
 

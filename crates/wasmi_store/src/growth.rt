@@ -39,9 +39,9 @@ pub fn permitted_minimum<L: ResourceLimiter>(
     Ok(size)
 }
 
-/// Decides whether `old_size` bytes may become `size`, which is more: the limiter permits it, there is room for
-/// them, and the added ones are paid, in this order. The fuel is taken if they may; no byte is
-/// written yet, so it is the same wherever the bytes lie.
+/// Decides whether `old_size` bytes may become `size`, which is more: the limiter permits it, there
+/// is room for them, and the added ones are paid, in this order. The fuel is taken if they may; no
+/// byte is written yet, so it is the same wherever the bytes lie.
 ///
 /// The errors are those of [`crate::LinearMemory::grow`] from the limiter's denial to `OutOfFuel`.
 pub fn decide_growth<L: ResourceLimiter>(

@@ -171,7 +171,7 @@ pub fn shuffle(operands: &[&str]) -> Result<Call, LineError> {
 /// [WritesLanes]: crate::specs::operands::LaneNames#WritesLanes "sixteen words write the lanes of a shuffle, of which there are 32 to choose from"
 #[inline]
 fn lanes_of(words: &[&str]) -> Result<[ImmLaneIdx32; 16], LineError> {
-    let Some(words) = words.as_array::<16>() else {
+    let Ok(words) = <&[&str; 16]>::try_from(words) else {
         return Err(LineError::BadCommand);
     };
     words.try_map_all(|word| index(word))
