@@ -5,7 +5,8 @@ What it changes beside leaving things out:
 
 | In Rattle | In Rust |
 |---|---|
-| `requires` of a `pub fn` | an `assert!` of the table `REQUIRES`, or nothing if Rust tests it or no test can |
+| `requires` of a `pub fn` | an `assert!` of the table `REQUIRES` and a section `Panics` of its docs, or nothing if Rust tests it or no test can |
+| `requires` of a function of a public trait | an `assert!` of the table `OF_TRAITS` in the implementations |
 | a clause, `impl Model`, a ghost member | a section `Contract` or `Model` of the item's docs |
 | `derive(Drop)`, `T: Drop`, an `impl Drop` that only takes apart | nothing: Rust drops every value |
 | a parameter, field or argument `alloc`, `rt.alloc()` | nothing: Rust has one allocator |
@@ -84,12 +85,14 @@ class File(Items, Bodies, Contracts, Source):
         self.inside = set(path.with_suffix("").rglob("*.rt")) if path.name != "lib.rt" else set()
         self.ghost_text = "\n".join(token.text for token in self.all if token.kind in ("clause", "ghost_item"))
         self.needs, self.needs_write, self.of_clone = set(), False, (0, 0)
+        self.panics = {}  # by the first token of a function, what its panics say
         self.shows = not self.is_test and any(self.is_(i, "arrayvec", ":", ":") for i in range(len(self.t)))
 
     def rust(self):
         """The file's text in Rust."""
         self.erase_impls()
         self.erase_ghost()
+        self.assert_in_impls()
         self.erase_attributes()
         self.erase_allocators()
         self.erase_unused()

@@ -2,7 +2,7 @@
 
 import re
 
-from .tables import ATTRIBUTES, DERIVES, INLINED_ALWAYS, OF_TESTS, REQUIRES, SHOW, SINK
+from .tables import ATTRIBUTES, DERIVES, INLINED_ALWAYS, OF_TESTS, OF_TRAITS, REQUIRES, SHOW, SINK, UNTESTED
 from .tokens import Unknown
 
 # The one drop that is left out: it takes the fields apart and drops one, as Rust's own drop does.
@@ -28,6 +28,7 @@ class Items:
             elif token.kind == "clause":
                 function = self.erase_clause(token)
                 shown.setdefault(self.t[function].start, []).append(("", self.tidy(token.text)))
+        self.tell_panics()
         for owner, items in shown.items():
             self.show_ghost(next(i for i, token in enumerate(self.t) if token.start == owner), items)
 
@@ -37,19 +38,42 @@ class Items:
         function = next(j for j in range(i, -1, -1) if self.at(j) == "fn" and self.t[j + 1].kind == "word")
         if any(self.words[o] == "{" and function < o < i for o in self.close):
             raise Unknown("a clause inside a body")
-        if clause.text.startswith("requires") and self.at(function - 1) == "pub" and not self.is_test:
-            self.assert_required(function, self.tidy(clause.text))
+        if clause.text.startswith("requires") and not self.is_test:
+            text = re.sub(r"\s+", " ", self.tidy(clause.text).removeprefix("requires").strip())
+            if text not in UNTESTED:
+                self.assert_required(function, text)
         self.leave_out_line(clause)
         return function
 
     def assert_required(self, function, text):
         """A public function tests what it requires: no proof covers its callers in Rust."""
-        text = re.sub(r"\s+", " ", text.removeprefix("requires").strip())
-        if text not in REQUIRES:
-            raise Unknown(f"{self.at(function + 1)} requires {text}")
-        body = self.body(function)
-        if REQUIRES[text] and self.at(body) == "{":
-            self.insert_after(body, f'\nassert!({REQUIRES[text]}, "{text.split(":")[0]}");')
+        name, body = self.at(function + 1), self.body(function)
+        if self.at(body) == ";":
+            trait = next(i for i, token in enumerate(self.t) if token.start == self.owner(self.t[function].start))
+            if self.at(trait - 1) == "pub" and name not in OF_TRAITS:
+                raise Unknown(f"{name} of a trait requires {text}")
+        elif self.at(function - 1) == "pub":
+            if text not in REQUIRES:
+                raise Unknown(f"{name} requires {text}")
+            test, panic = REQUIRES[text]
+            self.insert_after(body, f'\nassert!({test}, "{panic}");')
+            self.panics.setdefault(self.item_start(function), []).append(panic)
+
+    def assert_in_impls(self):
+        """The functions of the table `OF_TRAITS` test what they require, if they use the parameters."""
+        for i, word in enumerate(self.words):
+            if self.is_test or word != "fn" or not OF_TRAITS.get(self.at(i + 1)):
+                continue
+            body, (test, panic) = self.body(i), OF_TRAITS[self.at(i + 1)]
+            if self.at(body) == "{" and set(self.words[i:body]).issuperset(re.findall(r"\w+", test)):
+                self.insert_after(body, f'\nassert!({test}, "{panic}");')
+
+    def tell_panics(self):
+        """Puts a section `Panics` into the docs of the functions that have tests."""
+        for first, panics in self.panics.items():
+            indent = re.search(r"[ \t]*\Z", self.text[:self.t[first].start])[0]
+            lines = ["", "# Panics", "", f"Panics if {', or if '.join(panics)}."]
+            self.insert_before(first, "".join(f"/// {line}".rstrip() + f"\n{indent}" for line in lines))
 
     def docs_before(self, k):
         """The text of the doc comment before a token of `all`."""

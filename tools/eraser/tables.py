@@ -9,27 +9,56 @@ MACROS = {"matches", "unreachable", "write", "writeln", "stringify", "macro_rule
 OF_TESTS = {"test", "assert", "concat", "println", "format"}  # attributes and macros of tests and programs alone
 LEFT_BY_MISTAKE = {"ghost", "requires", "ensures", "Model", "HostRuntime", "prove", "Drop", "unsafe", "rt", "Abort", "AllocGlobal"}
 
-# What a public function requires, and the test of it. It is empty if Rust itself tests it (an index) or if no test can (a closure, an
-# iterator).
+GROWS = ("current <= desired", "the desired size is below the current one")
+ORDERED = ("maximum.is_none_or(|most| minimum <= most)", "the minimum is above the maximum")
+NO_SUCH_SIZE = "the type allows no such size"
+IN_REGION = "the size is above the length of the region"
+# What a public function requires: the test of it, and what its panic says, as the section `Panics` of the function's docs does.
 REQUIRES = {
-    'ordered: IfSome maximum (λ most. minimum ≤ most)': 'maximum.is_none_or(|most| minimum <= most)',
-    'variable: self.old.ty.mutability ≡ Mutability.Var': '!self.ty.mutability.is_const()',
-    'grows: length self.old.bytes ≤ new_size': 'self.len() <= new_size',
-    'grows: current ≤ desired': 'current <= desired',
-    'grows: old_size < size': 'old_size < size',
-    'whole: size % page_bytes self.page ≡ 0': 'size as u64 % u64::from(self.page_size()) == 0',
-    'sized: IsSized ty size.old': 'is_sized(ty, *size)', 'sized: IsSized ty size': 'is_sized(ty, size)',
-    'within: size.old ≤ length region.old': '*size <= region.len()', 'within: size ≤ length region.old': 'size <= region.len()',
-    'totals: HoldsTotals (L.Reserving.holdings limiter.old) machine.old':
-        'u128::from(limiter.held_bytes()) == machine.total_bytes() && u128::from(limiter.held_elements()) == machine.total_elements()',
-    'dst: dst + len ≤ length elements.old': '', 'src: src + len ≤ length elements.old': '', 'few: len ≤ 4096': '',
-    'inside: index + length items.now ≤ length elements.old': '', 'start: start ≤ end': '', 'end: end ≤ length elements.old': '',
-    'infallible: T.is_infallible value': '', 'same: (clone : T) → T.is_clone value clone → clone ≡ value': '',
-    'short: IsShort (D.output text)': '', 'callable: F.IsAlwaysCallable f': '', 'callable: IsSome self.old.left → C.IsAlwaysCallable f': '',
-    'readable: EachBecomes I.into_iter_gives items I.IntoIter.can_next': '', 'readable: I.can_next items.old': '',
-    'params: EachBecomes P.into_iter_gives params P.IntoIter.can_next': '', 'params: P.can_next params.old': '',
-    'results: AfterAll P.next_gives params.old (R.can_next results.old)': '',
-    'results: EachBecomes P.into_iter_gives params (λ first. EachBecomes R.into_iter_gives results (λ second. AfterAll P.IntoIter.next_gives first (R.IntoIter.can_next second)))': '',
+    "ordered: IfSome maximum (λ most. minimum ≤ most)": ORDERED,
+    "variable: self.old.ty.mutability ≡ Mutability.Var": ("!self.ty.mutability.is_const()", "the variable is a constant"),
+    "grows: length self.old.bytes ≤ new_size": ("self.len() <= new_size", "the new size is below the present one"),
+    "grows: current ≤ desired": GROWS,
+    "grows: old_size < size": ("old_size < size", "the size isn't above the old one"),
+    "whole: size % page_bytes self.page ≡ 0":
+        ("size as u64 % u64::from(self.page_size()) == 0", "the size is no number of whole pages"),
+    "sized: IsSized ty size.old": ("is_sized(ty, *size)", NO_SUCH_SIZE),
+    "sized: IsSized ty size": ("is_sized(ty, size)", NO_SUCH_SIZE),
+    "within: size.old ≤ length region.old": ("*size <= region.len()", IN_REGION),
+    "within: size ≤ length region.old": ("size <= region.len()", IN_REGION),
+    "totals: HoldsTotals (L.Reserving.holdings limiter.old) machine.old":
+        ("u128::from(limiter.held_bytes()) == machine.total_bytes()"
+         " && u128::from(limiter.held_elements()) == machine.total_elements()",
+         "what the limiter holds isn't the machine's totals"),
+}
+
+# The same of functions of public traits: an implementation here that uses the parameters has the test, or hands them on to one that has it.
+OF_TRAITS = {"growing": GROWS, "memory_growing": None, "table_growing": None}
+
+# What has no test, and why. The callers of a function that Rust doesn't export are proved.
+NO_TEST_CAN = "a closure or an iterator that panics"
+NOT_EXPORTED = "its functions aren't exported"
+INDEX = "Rust tests the index"
+UNTESTED = {
+    "callable: F.IsAlwaysCallable f": NO_TEST_CAN,
+    "callable: IsSome self.old.left → C.IsAlwaysCallable f": NO_TEST_CAN,
+    "readable: EachBecomes I.into_iter_gives items I.IntoIter.can_next": NO_TEST_CAN,
+    "readable: I.can_next items.old": NO_TEST_CAN,
+    "params: EachBecomes P.into_iter_gives params P.IntoIter.can_next": NO_TEST_CAN,
+    "params: P.can_next params.old": NO_TEST_CAN,
+    "results: AfterAll P.next_gives params.old (R.can_next results.old)": NO_TEST_CAN,
+    "results: EachBecomes P.into_iter_gives params (λ first. EachBecomes R.into_iter_gives results (λ second."
+    " AfterAll P.IntoIter.next_gives first (R.IntoIter.can_next second)))": NO_TEST_CAN,
+    "dst: dst + len ≤ length elements.old": NOT_EXPORTED,
+    "src: src + len ≤ length elements.old": NOT_EXPORTED,
+    "few: len ≤ 4096": NOT_EXPORTED,
+    "inside: index + length items.now ≤ length elements.old": NOT_EXPORTED,
+    "start: start ≤ end": NOT_EXPORTED,
+    "end: end ≤ length elements.old": NOT_EXPORTED,
+    "infallible: T.is_infallible value": NOT_EXPORTED,
+    "same: (clone : T) → T.is_clone value clone → clone ≡ value": NOT_EXPORTED,
+    "short: IsShort (D.output text)": NOT_EXPORTED,
+    ": end ≤ length (bytes self.old)": INDEX,
 }
 
 # The module of each crate under `proved` is its name without the prefix, except these.

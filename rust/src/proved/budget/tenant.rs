@@ -90,6 +90,10 @@ impl LimiterByKind for Tenant {
         current: usize,
         desired: usize,
     ) -> Result<bool, LimiterError> {
+        assert!(
+            current <= desired,
+            "the desired size is below the current one"
+        );
         Ok(self.take(kind, (desired - current) as u64))
     }
 

@@ -199,6 +199,10 @@ pub fn run_lending<L: ResourceLimiter>(
 /// Executes calls, as `run`, under a limiter that holds exactly what the machine has, and does so
 /// again afterwards.
 ///
+/// # Panics
+///
+/// Panics if what the limiter holds isn't the machine's totals.
+///
 /// # Contract
 ///
 /// <span></span><pre><code>requires totals: [HoldsTotals] ([L.Reserving].holdings limiter.old) machine.old
@@ -228,7 +232,7 @@ pub fn run_reserving<L: Reserving>(
     assert!(
         u128::from(limiter.held_bytes()) == machine.total_bytes()
             && u128::from(limiter.held_elements()) == machine.total_elements(),
-        "totals"
+        "what the limiter holds isn't the machine's totals"
     );
     run_lending(machine, calls, limiter)
 }

@@ -136,6 +136,10 @@ impl<'a, L: ResourceLimiter> LimiterRef<&'a mut L> {
     /// Asks the limiter, if there is one, whether a memory may grow from `current` to `desired`
     /// bytes, and returns its answer. Without a limiter it returns `Ok(true)`.
     ///
+    /// # Panics
+    ///
+    /// Panics if the desired size is below the current one.
+    ///
     /// # Contract
     ///
     /// <span></span><pre><code>requires grows: current ≤ desired
@@ -157,7 +161,10 @@ impl<'a, L: ResourceLimiter> LimiterRef<&'a mut L> {
         desired: usize,
         maximum: Option<usize>,
     ) -> Result<bool, LimiterError> {
-        assert!(current <= desired, "grows");
+        assert!(
+            current <= desired,
+            "the desired size is below the current one"
+        );
         match &mut self.limiter {
             Some(limiter) => limiter.memory_growing(current, desired, maximum),
             None => Ok(true),
@@ -166,6 +173,10 @@ impl<'a, L: ResourceLimiter> LimiterRef<&'a mut L> {
 
     /// Asks the limiter, if there is one, whether a table may grow from `current` to `desired`
     /// elements, and returns its answer. Without a limiter it returns `Ok(true)`.
+    ///
+    /// # Panics
+    ///
+    /// Panics if the desired size is below the current one.
     ///
     /// # Contract
     ///
@@ -188,7 +199,10 @@ impl<'a, L: ResourceLimiter> LimiterRef<&'a mut L> {
         desired: usize,
         maximum: Option<usize>,
     ) -> Result<bool, LimiterError> {
-        assert!(current <= desired, "grows");
+        assert!(
+            current <= desired,
+            "the desired size is below the current one"
+        );
         match &mut self.limiter {
             Some(limiter) => limiter.table_growing(current, desired, maximum),
             None => Ok(true),

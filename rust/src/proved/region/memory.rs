@@ -87,6 +87,10 @@ pub fn make<L: ResourceLimiter>(
 ///
 /// The errors are those of [`crate::proved::store::LinearMemory::grow`] on a lent region.
 ///
+/// # Panics
+///
+/// Panics if the type allows no such size, or if the size is above the length of the region.
+///
 /// # Contract
 ///
 /// <span></span><pre><code>requires sized: [IsSized] ty size.old
@@ -122,8 +126,11 @@ pub fn grow<L: ResourceLimiter>(
     fuel: &mut Fuel,
     limiter: &mut ResourceLimiterRef<L>,
 ) -> Result<u64, MemoryError> {
-    assert!(is_sized(ty, *size), "sized");
-    assert!(*size <= region.len(), "within");
+    assert!(is_sized(ty, *size), "the type allows no such size");
+    assert!(
+        *size <= region.len(),
+        "the size is above the length of the region"
+    );
     let old_size = *size;
     let old_pages = ty.pages_in(old_size);
     if additional == 0 {
@@ -143,6 +150,10 @@ pub fn grow<L: ResourceLimiter>(
 /// What a growth by `additional` pages asks a limiter: the new size in bytes, and the most that the
 /// type allows. It is `None` if the type refuses the growth; then no limiter is asked.
 ///
+/// # Panics
+///
+/// Panics if the type allows no such size.
+///
 /// # Contract
 ///
 /// <span></span><pre><code>requires sized: [IsSized] ty size
@@ -160,13 +171,17 @@ pub fn grow<L: ResourceLimiter>(
 /// [maximum_bytes]: crate::specs::store::MemoryType#maximum_bytes "the maximum in bytes, at most 2^64 - 1"
 #[inline]
 pub fn question(ty: MemoryType, size: usize, additional: u64) -> Option<(usize, Option<usize>)> {
-    assert!(is_sized(ty, size), "sized");
+    assert!(is_sized(ty, size), "the type allows no such size");
     let desired = ty.grown_size(size, additional)?;
     Some((desired, ty.maximum_size()))
 }
 
 /// Writes bytes over those from an offset on, of a memory of `size` bytes at the front of a region.
 /// The error is `OutOfBoundsAccess` if they would end past the memory; then nothing is written.
+///
+/// # Panics
+///
+/// Panics if the size is above the length of the region.
 ///
 /// # Contract
 ///
@@ -195,7 +210,10 @@ pub fn write(
     offset: usize,
     source: &[u8],
 ) -> Result<(), MemoryError> {
-    assert!(size <= region.len(), "within");
+    assert!(
+        size <= region.len(),
+        "the size is above the length of the region"
+    );
     if size < offset || size - offset < source.len() {
         return Err(MemoryError::OutOfBoundsAccess);
     }

@@ -75,6 +75,10 @@ pub fn make<L: ResourceLimiter>(
 /// The errors are those of [`crate::proved::store::Table::grow_raw`], of which `OutOfSystemMemory` means
 /// that the region is shorter than the new size.
 ///
+/// # Panics
+///
+/// Panics if the type allows no such size, or if the size is above the length of the region.
+///
 /// # Contract
 ///
 /// <span></span><pre><code>requires sized: [IsSized] ty size.old
@@ -108,8 +112,11 @@ pub fn grow<L: ResourceLimiter>(
     fuel: &mut Fuel,
     limiter: &mut ResourceLimiterRef<L>,
 ) -> Result<u64, TableError> {
-    assert!(is_sized(ty, *size), "sized");
-    assert!(*size <= region.len(), "within");
+    assert!(is_sized(ty, *size), "the type allows no such size");
+    assert!(
+        *size <= region.len(),
+        "the size is above the length of the region"
+    );
     let old_size = *size as u64;
     if delta == 0 {
         return Ok(old_size);

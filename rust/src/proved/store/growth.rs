@@ -48,6 +48,10 @@ pub fn permitted_minimum<L: ResourceLimiter>(
 ///
 /// The errors are those of [`crate::proved::store::LinearMemory::grow`] from the limiter's denial to `OutOfFuel`.
 ///
+/// # Panics
+///
+/// Panics if the size isn't above the old one.
+///
 /// # Contract
 ///
 /// <span></span><pre><code>requires grows: old_size < size
@@ -93,7 +97,7 @@ pub fn decide_growth<L: ResourceLimiter>(
     fuel: &mut Fuel,
     limiter: &mut ResourceLimiterRef<L>,
 ) -> Result<(), MemoryError> {
-    assert!(old_size < size, "grows");
+    assert!(old_size < size, "the size isn't above the old one");
     let answer = limiter.memory_growing(old_size, size, maximum);
     permission(answer, MemoryError::OutOfBoundsGrowth, MEMORY_DENIED)?;
     if !has_room {

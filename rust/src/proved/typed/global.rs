@@ -194,6 +194,10 @@ impl Global {
     ///
     /// What is written has no type, so it is read as a value of the variable's type.
     ///
+    /// # Panics
+    ///
+    /// Panics if the variable is a constant.
+    ///
     /// # Contract
     ///
     /// <span></span><pre><code>requires variable: self.old.ty.mutability ≡ Mutability.Var
@@ -204,7 +208,7 @@ impl Global {
     /// [LendsValue]: crate::specs::typed::Lending#LendsValue "the global variable ends with the last value behind r"
     #[inline]
     pub(crate) fn get_raw_mut(&mut self) -> &mut RawVal {
-        assert!(!self.ty.mutability.is_const(), "variable");
+        assert!(!self.ty.mutability.is_const(), "the variable is a constant");
         &mut self.value
     }
 }

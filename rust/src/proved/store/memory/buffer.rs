@@ -149,6 +149,10 @@ impl<R: Region> Buffer<R> {
     /// only error is `InvalidStaticBufferSize`, if the borrowed buffer is shorter; nothing is
     /// allocated, and the bytes past the new size stay as they are.
     ///
+    /// # Panics
+    ///
+    /// Panics if the new size is below the present one.
+    ///
     /// # Contract
     ///
     /// <span></span><pre><code>requires grows: [length] self.old.bytes ≤ new_size
@@ -169,7 +173,10 @@ impl<R: Region> Buffer<R> {
     /// [CanFail]: crate::specs::store::Buffer#CanFail "why n more bytes could not be had: a lent region is too short, or memory is refused"
     #[inline]
     pub fn grow(&mut self, new_size: usize) -> Result<(), MemoryError> {
-        assert!(self.len() <= new_size, "grows");
+        assert!(
+            self.len() <= new_size,
+            "the new size is below the present one"
+        );
         if !self.has_room(new_size) {
             return Err(MemoryError::InvalidStaticBufferSize);
         }

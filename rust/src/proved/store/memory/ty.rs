@@ -241,6 +241,10 @@ impl MemoryType {
 
     /// The number of bytes after a growth by `additional` pages, if the type allows it.
     ///
+    /// # Panics
+    ///
+    /// Panics if the size is no number of whole pages.
+    ///
     /// # Contract
     ///
     /// <span></span><pre><code>requires whole: size % [page_bytes] self.page ≡ 0
@@ -256,7 +260,10 @@ impl MemoryType {
     /// [true]: crate::specs::library#true "the Boolean"
     #[inline]
     pub(crate) fn grown_size(self, size: usize, additional: u64) -> Option<usize> {
-        assert!(size as u64 % u64::from(self.page_size()) == 0, "whole");
+        assert!(
+            size as u64 % u64::from(self.page_size()) == 0,
+            "the size is no number of whole pages"
+        );
         let pages = self.pages_in(size).checked_add(additional)?;
         self.size_of_pages(pages)
     }

@@ -37,6 +37,10 @@ pub struct TableType {
 impl TableType {
     /// A type with 32-bit indices. The minimum isn't above the maximum.
     ///
+    /// # Panics
+    ///
+    /// Panics if the minimum is above the maximum.
+    ///
     /// # Contract
     ///
     /// <span></span><pre><code>requires ordered: [IfSome] maximum (λ most. minimum ≤ most)
@@ -47,7 +51,10 @@ impl TableType {
     /// [I32]: crate::proved::types::IndexType::I32
     #[inline]
     pub fn new(element: RefType, minimum: u32, maximum: Option<u32>) -> Self {
-        assert!(maximum.is_none_or(|most| minimum <= most), "ordered");
+        assert!(
+            maximum.is_none_or(|most| minimum <= most),
+            "the minimum is above the maximum"
+        );
         TableType {
             index: IndexType::I32,
             element,
@@ -57,6 +64,10 @@ impl TableType {
     }
 
     /// A type with 64-bit indices. The minimum isn't above the maximum.
+    ///
+    /// # Panics
+    ///
+    /// Panics if the minimum is above the maximum.
     ///
     /// # Contract
     ///
@@ -68,7 +79,10 @@ impl TableType {
     /// [I64]: crate::proved::types::IndexType::I64
     #[inline]
     pub fn new64(element: RefType, minimum: u64, maximum: Option<u64>) -> Self {
-        assert!(maximum.is_none_or(|most| minimum <= most), "ordered");
+        assert!(
+            maximum.is_none_or(|most| minimum <= most),
+            "the minimum is above the maximum"
+        );
         TableType {
             index: IndexType::I64,
             element,
