@@ -1,0 +1,177 @@
+//! Machines: a guest's memory under fuel and a cap, calls one by one and in lists, other threads, pools.
+use wasmi_core_proved::machine::{
+    ByteList, Call, Machine, NoLimits, Quota, Reply, run, run_reserving,
+};
+use wasmi_core_proved::machine::{
+    Fuel, FuelCostsProvider, FuelError, MemoryError, MemoryType, ResourceLimiterRef,
+};
+use wasmi_core_proved::pool::{Pool, PoolError};
+
+const PAGE: u64 = 65_536;
+
+fn machine(is_metered: bool) -> Machine<'static> {
+    Machine::new(Fuel::new(is_metered, FuelCostsProvider::default()))
+}
+
+fn pages(minimum: u64, maximum: Option<u64>) -> MemoryType {
+    let mut builder = MemoryType::builder();
+    builder.min(minimum).max(maximum);
+    builder.build().unwrap()
+}
+
+fn grow(pages: u64) -> Call {
+    Call::GrowMemory { memory: 0, pages }
+}
+
+fn refused(error: MemoryError) -> Reply {
+    Reply::Memory(error)
+}
+
+#[test]
+fn a_memory_grows_under_fuel_and_a_cap() {
+    let (mut machine, mut quota) = (machine(true), Quota::new(4 * PAGE, 0));
+    let calls = [
+        Call::NewMemory(pages(1, Some(8))),
+        grow(2),
+        Call::SetFuel(8_000),
+        grow(2),
+        grow(2),
+        Call::GetFuel,
+        Call::NewMemory(pages(2, None)),
+        Call::DropMemory(0),
+        grow(0),
+    ];
+    let replies = run_reserving(&mut machine, &calls, &mut quota).unwrap();
+    let expected = [
+        Reply::Made(0),
+        refused(MemoryError::OutOfFuel {
+            required_fuel: 2_048,
+        }),
+        Reply::Done,
+        Reply::Number(1),
+        refused(MemoryError::OutOfBoundsGrowth),
+        Reply::Number(5_952),
+        refused(MemoryError::ResourceLimiterDeniedAllocation),
+        Reply::Done,
+        Reply::NoSuch,
+    ];
+    assert_eq!(replies.as_slice(), expected);
+    assert_eq!(
+        (quota.held_bytes(), machine.total_bytes()),
+        (3 * PAGE, 3 * u128::from(PAGE))
+    );
+}
+
+#[test]
+fn calls_one_by_one_are_a_run() {
+    let calls = || {
+        [
+            Call::NewMemory(pages(1, None)),
+            Call::Write {
+                memory: 0,
+                offset: 65_533,
+                bytes: vec![1, 2, 3].into(),
+            },
+            Call::Read {
+                memory: 0,
+                offset: 65_532,
+                len: 4,
+            },
+            Call::Read {
+                memory: 0,
+                offset: 65_533,
+                len: 4,
+            },
+            grow(1),
+            Call::SetFuel(1),
+        ]
+    };
+    let mut first = machine(false);
+    let replies = run(
+        &mut first,
+        &calls(),
+        &mut ResourceLimiterRef::<NoLimits>::default(),
+    )
+    .unwrap();
+    let mut second = machine(false);
+    let one_by_one: Vec<_> = calls()
+        .iter()
+        .map(|call| second.step(call, &mut ResourceLimiterRef::<NoLimits>::default()))
+        .collect();
+    let read = ByteList::from(wasmi_core_proved::rattle::Vec::from(vec![0, 1, 2, 3]));
+    let expected = [
+        Reply::Made(0),
+        Reply::Done,
+        Reply::Bytes(read),
+        refused(MemoryError::OutOfBoundsAccess),
+        Reply::Number(1),
+        Reply::Fuel(FuelError::FuelMeteringDisabled),
+    ];
+    assert_eq!(
+        (replies.as_slice(), one_by_one.as_slice()),
+        (expected.as_slice(), expected.as_slice())
+    );
+}
+
+#[test]
+fn a_machine_goes_to_another_thread() {
+    let mut machine = machine(false);
+    let limiter = || ResourceLimiterRef::<NoLimits>::default();
+    machine.step(&Call::NewMemory(pages(1, None)), &mut limiter());
+    let machine = std::thread::spawn(move || {
+        let bytes = b"there".to_vec().into();
+        machine.step(
+            &Call::Write {
+                memory: 0,
+                offset: 0,
+                bytes,
+            },
+            &mut limiter(),
+        );
+        machine
+    })
+    .join()
+    .unwrap();
+    assert_eq!(&machine.memory(0).unwrap().data()[..5], b"there");
+}
+
+#[test]
+fn machines_on_two_threads() {
+    let threads = [1, 2].map(|count| {
+        std::thread::spawn(move || {
+            let (mut machine, mut quota) = (machine(false), Quota::new(2 * PAGE, 0));
+            let mut calls = vec![Call::NewMemory(pages(0, None))];
+            calls.extend((0..count).map(|_| grow(1)));
+            run_reserving(&mut machine, &calls, &mut quota).unwrap();
+            machine.total_bytes()
+        })
+    });
+    let totals = threads.map(|thread| thread.join().unwrap());
+    assert_eq!(totals, [1, 2].map(|pages| u128::from(pages * PAGE)));
+}
+
+#[test]
+fn machines_in_a_pool() {
+    let mut pool = Pool::new(2 * PAGE, 0);
+    for _ in 0..2 {
+        pool.add(machine(false))
+            .map_err(|(error, _)| error)
+            .unwrap();
+    }
+    let run =
+        |pool: &mut Pool<'_>, tenant| pool.run(tenant, &[Call::NewMemory(pages(1, None)), grow(1)]);
+    assert_eq!(
+        run(&mut pool, 0).unwrap().as_slice(),
+        [Reply::Made(0), Reply::Number(1)]
+    );
+    let denied = refused(MemoryError::ResourceLimiterDeniedAllocation);
+    assert_eq!(
+        run(&mut pool, 1).unwrap().as_slice(),
+        [denied, Reply::NoSuch]
+    );
+    assert_eq!(
+        (pool.held_bytes(0), pool.held_bytes(1)),
+        (Some(2 * PAGE), Some(0))
+    );
+    assert_eq!(run(&mut pool, 2).map(|_| ()), Err(PoolError::NoTenant));
+}
