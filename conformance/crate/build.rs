@@ -1,5 +1,6 @@
-//! Tells the programs the version of the crate. With the feature `library` it links libwasmi_ffi.a, of which WASMI_FFI names the folder, and the C part of the kit, of which
-//! RATTLE_C does.
+//! Tells the programs the version of the crate. With the feature `library` it links libwasmi_ffi.a, of which WASMI_FFI names
+//! the folder, and the C part of the kit, of which RATTLE_C does. It links anew if that library has a later date, or the
+//! variable WASMI_LIBRARY another text.
 use std::env::var;
 
 fn main() {
@@ -15,6 +16,8 @@ fn main() {
         println!("cargo:rustc-link-search=native={folder}");
         println!("cargo:rerun-if-env-changed={name}");
     }
+    println!("cargo:rerun-if-changed={}/libwasmi_ffi.a", var("WASMI_FFI").expect("a folder"));
+    println!("cargo:rerun-if-env-changed=WASMI_LIBRARY");
     println!("cargo:rustc-link-lib=static=wasmi_ffi");
     println!("cargo:rustc-link-lib=static=libc_c");
 }

@@ -1,13 +1,15 @@
 #!/usr/bin/env python3
-"""Runs WebAssembly's own test suite on the proved library. usage: compare.py LIBRARY HEADER FOLDER.. [--files]
+"""Runs WebAssembly's own test suite on the proved library. usage: compare.py LIBRARY HEADER FOLDER.. [--files] [--least N]
 
 LIBRARY is library.c, built; HEADER is include/wasmi_core.h. Of each FOLDER all .wast files with assertions are run, and the tests of
-wabt's interpreter (interp/*.txt). An assertion passes or fails where the library's replies decide it; else it is skipped, with a
-reason. With --files it prints a line for each file. The last line counts; the exit status is 1 where an assertion fails."""
+wabt's interpreter (interp/*.txt). An assertion passes or fails if the library's replies decide it; else it is skipped, with a
+reason. With --files it prints a line for each file. The last line counts, and says how many of the assertions that passed run an
+instruction on vectors. The exit status is 1 if an assertion fails, and 2 if fewer than N pass (1 if --least isn't given)."""
 import collections
 import glob
 import os
 import re
+import shutil
 import subprocess
 import sys
 import tempfile
@@ -22,6 +24,7 @@ from library import Library, Machine, TooLong
 sys.setrecursionlimit(10000)
 FEATURES = [f"--enable-{it}" for it in ("memory64", "multi-memory", "extended-const", "relaxed-simd", "tail-call")]
 STATIC = ("assert_invalid", "assert_malformed")
+REFUSED = "a module that wat2wasm refuses"
 # What a trap may be called by an assertion; the first words decide.
 TRAPS = {
     "out of bounds memory access": ("out of bounds memory access", "out of bounds", "oob"),
@@ -44,7 +47,7 @@ def wat2wasm(text):
             if done.returncode == 0:
                 with open(target, "rb") as file:
                     return file.read()
-    raise operations.Skip("a module that wat2wasm refuses")
+    raise operations.Skip(REFUSED)
 
 
 def is_trap(found, wanted):
@@ -158,7 +161,7 @@ class Group:
 
 class Suite:
     def __init__(self, library):
-        self.library, self.passed, self.failed, self.static = library, 0, 0, 0
+        self.library, self.passed, self.on_vectors, self.failed, self.static, self.refused = library, 0, 0, 0, 0, 0
         self.skipped, self.lacking, self.found = collections.Counter(), collections.Counter(), []
 
     def file(self, path, text):
@@ -179,10 +182,11 @@ class Suite:
 
     def command(self, group, node, place):
         is_assertion = node[0].startswith("assert")
-        self.library.asked = 0
+        self.library.asked = self.library.asked_on_vectors = 0
         try:
             wrong = group.run(node)
         except (operations.Skip, wasm.Unknown, wast.Unreadable, TooLong, RecursionError) as why:
+            self.refused += str(why) == REFUSED
             if is_assertion:
                 self.skip(str(why) or type(why).__name__)
             return
@@ -195,6 +199,7 @@ class Suite:
             self.found.append(f"{place}: {group.text[node.start:node.end][:200]}: {wrong}")
         elif is_assertion:
             self.passed += 1
+            self.on_vectors += self.library.asked_on_vectors > 0
 
     def skip(self, why):
         reason, _, name = why.partition("no operation: ")
@@ -231,25 +236,59 @@ def files(folder):
             yield os.path.relpath(path, folder), text
 
 
-def main():
-    words = [it for it in sys.argv[1:] if it != "--files"]
+def stop(text):
+    """Ends the program, since nothing is compared."""
+    print(f"compare.py: {text}", file=sys.stderr)
+    sys.exit(2)
+
+
+def arguments(words):
+    """The library, the header, the folders, whether each file has a line, and how many assertions have to pass."""
+    is_for_each = "--files" in words
+    words = [it for it in words if it != "--files"]
+    least = "1"
+    if "--least" in words:
+        place = words.index("--least")
+        least = (words[place + 1:] or [""])[0]
+        del words[place:place + 2]
     if len(words) < 3:
-        sys.exit(__doc__)
-    suite = Suite(Library(*words[:2]))
+        stop("usage: compare.py LIBRARY HEADER FOLDER.. [--files] [--least N]")
+    if not re.fullmatch(r"[1-9]\d*", least):
+        stop(f'--least takes a number above 0, and not "{least}"')
     for folder in words[2:]:
-        for path, text in files(folder):
-            before = suite.passed, suite.failed, sum(suite.skipped.values())
-            suite.file(path, text)
-            if "--files" in sys.argv:
-                passed, failed, skipped = (a - b for a, b in zip((suite.passed, suite.failed, sum(suite.skipped.values())), before))
-                print(f"{path}: {passed} passed, {failed} failed, {skipped} skipped", flush=True)
+        if not os.path.isdir(folder):
+            stop(f"{folder} is no folder")
+    if not shutil.which("wat2wasm"):
+        stop("there is no wat2wasm, which makes the modules of the suite")
+    return words[0], words[1], words[2:], is_for_each, int(least)
+
+
+def report(suite):
+    """Prints what differs, why assertions were skipped, and last the counts."""
     print("\n".join(suite.found))
     for why, count in suite.skipped.most_common():
         print(f"skipped: {count} {why}")
     print("no operation for:", ", ".join(sorted(filter(None, suite.lacking))))
     print(f"{suite.static} assertions of what is invalid or malformed are wat2wasm's to decide")
-    print(f"{suite.passed} passed, {suite.failed} failed, {sum(suite.skipped.values())} skipped")
-    sys.exit(suite.failed > 0)
+    skipped = sum(suite.skipped.values())
+    print(f"{suite.passed} passed ({suite.on_vectors} on vectors), {suite.failed} failed, {skipped} skipped", flush=True)
+
+
+def main():
+    library, header, folders, is_for_each, least = arguments(sys.argv[1:])
+    suite = Suite(Library(library, header))
+    for folder in folders:
+        for path, text in files(folder):
+            before = suite.passed, suite.failed, sum(suite.skipped.values())
+            suite.file(path, text)
+            if is_for_each:
+                passed, failed, skipped = (a - b for a, b in zip((suite.passed, suite.failed, sum(suite.skipped.values())), before))
+                print(f"{path}: {passed} passed, {failed} failed, {skipped} skipped", flush=True)
+    report(suite)
+    if suite.failed:
+        sys.exit(1)
+    if suite.passed < least:
+        stop(f"{suite.passed} assertions passed, and at least {least} have to; wat2wasm refused {suite.refused} modules")
 
 
 if __name__ == "__main__":

@@ -13,7 +13,7 @@ class TooLong(Exception):
 class Library:
     def __init__(self, program, header):
         self.process = subprocess.Popen([program], stdin=subprocess.PIPE, stdout=subprocess.PIPE)
-        self.asked, self.numbers, self.answers = 0, {}, {}
+        self.asked, self.asked_on_vectors, self.numbers, self.answers = 0, 0, {}, {}
         with open(header, encoding="utf-8") as lines:
             for line in lines:
                 if found := re.match(r"#define WASMI_(\w+)_NAMES", line):

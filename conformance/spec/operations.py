@@ -102,6 +102,7 @@ class Operations:
 
     def vector(self, stack, name, lane):
         kind, own = shape_of(name), name.replace(".", "_")
+        self.machine.library.asked_on_vectors += 1
         if name[0] == "f" or any(it in name for it in NO_OPERATION):
             raise Skip(f"no operation: {name}")
         put = lambda register: f"set {register} {words(stack.pop())}"
@@ -120,6 +121,7 @@ class Operations:
 
     def access(self, instance, stack, name, memory, offset, *lane):
         memory, own = instance.memories[memory][0], WHOLE.get(name, name.replace(".", "_"))
+        self.machine.library.asked_on_vectors += name.startswith("v128.")
         value = stack.pop() if "store" in name or lane else 0
         at = f"{memory} {stack.pop()} {offset}"
         if lane and "store" in name:

@@ -51,6 +51,8 @@ fn main() {
     println!("cargo:rustc-link-lib=static=wasmi_ffi");
     println!("cargo:rustc-link-lib=static=libc_c");
     println!("cargo:rerun-if-env-changed=RATTLE_C");
+    println!("cargo:rerun-if-env-changed=WASMI_LIBRARY");
+    println!("cargo:rerun-if-changed={}", library.join("libwasmi_ffi.a").display());
 
     let path = top.join("include/wasmi_core.h");
     println!("cargo:rerun-if-changed={}", path.display());

@@ -12,6 +12,9 @@ use report::{Stored, Tally};
 use std::env;
 use std::process::ExitCode;
 
+/// The most lanes that a vector has.
+const LANES: usize = 16;
+
 /// The functions of the engine by the names of the header, in the order of their numbers.
 struct Engine {
     unaries: Vec<(&'static str, engine::Unary)>,
@@ -50,8 +53,9 @@ impl Engine {
 }
 
 fn main() -> ExitCode {
-    let Ok(count) = env::args().nth(1).map_or(Ok(1_000_000), |word| word.parse::<usize>()) else {
-        eprintln!("The argument is how many operands each instruction gets, a number.");
+    let count = env::args().nth(1).map_or(Ok(1_000_000), |word| word.parse::<usize>());
+    let Some(count) = count.ok().filter(|count| *count > 0) else {
+        eprintln!("The argument is how many operands each instruction gets, a number above 0.");
         return ExitCode::from(2);
     };
     let engine = Engine::new();
@@ -59,12 +63,15 @@ fn main() -> ExitCode {
     let mut tally = Tally::default();
     for _ in 0..count.div_ceil(BATCH) {
         let (a, b, c) = (operands.batch(), operands.batch(), operands.batch());
-        let lane = (operands.bits() % 16) as u8;
         compare_values(&mut tally, &engine, &a, &b, &c);
-        compare_lanes(&mut tally, &engine, lane, &a, &b);
         compare_shuffles(&mut operands, &mut tally, &a, &b);
         compare_accesses(&mut operands, &mut tally, &engine, &a);
-        compare_lane_accesses(&mut operands, &mut tally, &engine, lane, &a);
+        // Each batch has operands for each lane.
+        for (index, (a, b)) in a.chunks(BATCH / LANES).zip(b.chunks(BATCH / LANES)).enumerate() {
+            let lane = (index % LANES) as u8;
+            compare_lanes(&mut tally, &engine, lane, a, b);
+            compare_lane_accesses(&mut operands, &mut tally, &engine, lane, a);
+        }
     }
     println!(
         "{} instructions, {} answers compared, {} instructions differ",
@@ -102,10 +109,10 @@ fn compare_values(tally: &mut Tally, engine: &Engine, a: &[Words], b: &[Words], 
 }
 
 fn compare_lanes(tally: &mut Tally, engine: &Engine, lane: u8, a: &[Words], b: &[Words]) {
-    let mut values = vec![Words::default(); BATCH];
+    let mut values = vec![Words::default(); a.len()];
     for (number, (name, f)) in engine.extracts.iter().enumerate() {
         let has_lane = ffi::extract(number as u16, lane, a, &mut values) != ffi::NO_LANE;
-        for i in 0..BATCH {
+        for i in 0..a.len() {
             let proved = lane_result(has_lane, values[i]);
             let theirs = f(lane, a[i]).unwrap_or(InstructionResult::OF_NO_LANE);
             tally.count(name, format_args!("lane {lane} of {}", a[i]), proved, theirs);
@@ -113,7 +120,7 @@ fn compare_lanes(tally: &mut Tally, engine: &Engine, lane: u8, a: &[Words], b: &
     }
     for (number, (name, f)) in engine.replaces.iter().enumerate() {
         let has_lane = ffi::replace(number as u16, lane, a, b, &mut values) != ffi::NO_LANE;
-        for i in 0..BATCH {
+        for i in 0..a.len() {
             let proved = lane_result(has_lane, values[i]);
             let theirs = f(lane, a[i], b[i]).unwrap_or(InstructionResult::OF_NO_LANE);
             let on = format_args!("lane {lane} of {}, {}", a[i], b[i]);

@@ -3,7 +3,8 @@
 //! usage: compare PROFILE|all SEED COUNT MUTANTS FOLDER
 //!
 //! COUNT scripts of the profile, or of each, and MUTANTS mutants of each. A script on which the status or what is printed differs is
-//! shortened and written to FOLDER, at most 20 of them. The last line counts; the exit status is 1 where one differs.
+//! shortened and written to FOLDER, at most 20 of them. The last line counts; the exit status is 1 if one differs, and 2 if
+//! nothing is compared.
 use conformance::generator::{Generator, PROFILES};
 use conformance::mutants::mutant;
 use conformance::replay;
@@ -103,13 +104,29 @@ impl Comparison {
     }
 }
 
+/// Ends the program, since nothing is compared.
+fn stop(text: &str) -> ! {
+    eprintln!("compare: {text}");
+    exit(2)
+}
+
+/// The number that a word stands for.
+fn number(name: &str, word: &str) -> u64 {
+    word.parse().unwrap_or_else(|_| stop(&format!("{name} is a number, and not {word:?}")))
+}
+
 fn main() {
     let words: Vec<String> = std::env::args().skip(1).collect();
     let [profile, seed, count, mutants, folder] = &words[..] else {
-        eprintln!("usage: compare PROFILE|all SEED COUNT MUTANTS FOLDER");
-        exit(2);
+        stop("usage: compare PROFILE|all SEED COUNT MUTANTS FOLDER");
     };
-    let [seed, count, mutants] = [seed, count, mutants].map(|word| word.parse::<u64>().expect("a number"));
+    let (seed, count, mutants) = (number("SEED", seed), number("COUNT", count), number("MUTANTS", mutants));
+    if profile != "all" && !PROFILES.contains(&profile.as_str()) {
+        stop(&format!("there is no profile {profile:?}: all, {}", PROFILES.join(", ")));
+    }
+    if count == 0 {
+        stop("COUNT is a number above 0");
+    }
     unsafe { setrlimit(ADDRESS_SPACE.0, &[ADDRESS_SPACE.1; 2]) };
     std::fs::create_dir_all(folder).expect("a folder");
     let mut scripts = Comparison::default();

@@ -194,7 +194,12 @@ impl<T: Display> Answer for Result<T, TrapCode> {
 }
 
 fn main() {
-    let seed = std::env::args().nth(1).map(|word| word.parse().expect("a seed"));
+    let seed = std::env::args().nth(1).map(|word| {
+        word.parse().unwrap_or_else(|_| {
+            eprintln!("scalar_answers: SEED is a number, and not {word:?}");
+            std::process::exit(2)
+        })
+    });
     let (mut operands, mut lines) = (Operands(seed.map(Random::new)), Vec::new());
     macro_rules! binary {
         ($width:literal $type:ident [$kind:expr]: $($name:ident)*) => { $(

@@ -1,8 +1,8 @@
 //! Compares the Rust crate and the Rust bindings: the types of the functions of instructions, and what random sequences of
 //! calls on memories, tables and meters give under a limiter of random answers.
 //!
-//! It prints what differs. The exit status is 0 where nothing does. The argument is how many sequences are tried, 2,000 if
-//! there is none.
+//! It prints what differs. The exit status is 0 if nothing does, 1 if something does, and 2 if nothing was compared. The
+//! argument is how many sequences are tried, 2,000 if there is none.
 use std::any::type_name;
 use std::env;
 use std::process::ExitCode;
@@ -104,7 +104,11 @@ fn differing_sequences(count: u64) -> u64 {
 }
 
 fn main() -> ExitCode {
-    let count = env::args().nth(1).map_or(2000, |word| word.parse().expect("the argument is a number"));
+    let count = env::args().nth(1).map_or(Ok(2000), |word| word.parse::<u64>());
+    let Some(count) = count.ok().filter(|count| *count > 0) else {
+        eprintln!("The argument is how many sequences are tried, a number above 0.");
+        return ExitCode::from(2);
+    };
     let rows = rows();
     let mut differing = 0;
     for (name, theirs, here) in rows.iter().filter(|(_, theirs, here)| theirs != here) {
