@@ -40,13 +40,12 @@ function functionsOf(shape, name, found) {
   const made = [];
   for (const offset of isAccess ? OFFSETS : [undefined])
     for (const lane of lanes) {
-      // Through locals: V8 11.3 drops the third operand of a relaxed dot product that stands on the stack from a global.
-      const kept = found.operands.map((type, index) => [operand(type, index), 0x21, 2 + index]);
-      const operands = found.isLoad ? [0x41, 0, 0x41, 0, 0x20, 2, 0x37, 0, 0] : found.operands.map((_, index) => [0x20, 2 + index]);
+      const given = found.operands.map(operand);
+      const operands = found.isLoad ? [0x41, 0, 0x41, 0, given, 0x37, 0, 0] : given;
       const at = isAccess ? [0x20, 0] : [];
       const place = isAccess || found.isLoad ? [0, ...leb(offset ?? 0)] : [];
-      const body = [kept, at, operands, found.code, place, lane ?? [], result(found.result)];
-      made.push({ name: [name, offset, lane].join(" "), params: ["i32"], locals: ["v128", ...found.operands], body });
+      const body = [at, operands, found.code, place, lane ?? [], result(found.result)];
+      made.push({ name: [name, offset, lane].join(" "), params: ["i32"], locals: ["v128"], body });
     }
   return made;
 }
@@ -101,6 +100,7 @@ function withoutChoice(name, [a, b, c], random) {
   return [a, b, c];
 }
 
+/** Operands: each edge as the first one beside each edge as the second one, in 36 turns, and then random ones. */
 function* operandsOf(name, count, random) {
   const width = widthOf(name);
   const edges = edgeLanes(width);
@@ -108,8 +108,8 @@ function* operandsOf(name, count, random) {
   for (let turn = 0; turn < count; turn++) {
     const [first, second] = [edges[Math.floor(turn / 6)], edges[turn % 6]];
     const words = first === undefined ? [any(), any(), any()] : [splat(width, first), splat(width, second), any()];
-    // Amounts, items and operands that are likely small.
-    if (turn % 3 === 2) words[1] = [BigInt(random.below(140)), words[1][1]];
+    // Amounts, items and operands that are likely small, after the pairs of edges.
+    if (first === undefined && turn % 3 === 2) words[1] = [BigInt(random.below(140)), words[1][1]];
     yield withoutChoice(name, words, random).flat();
   }
 }
