@@ -1,6 +1,7 @@
 /* Compares the instruction of each number of wasmi_core.h with what its name means elsewhere: the scalar ones with a
    list of answers, which is the argument, the others with what scripts print. Then it tries each number for each other
-   name of its kind: none passes, except those of one meaning. At the end it sees each status. */
+   name of its kind: none passes, except those of one meaning. It compares each call on arrays with the call on values,
+   for each element. At the end it sees each status. */
 #include "wasmi_core.h"
 #include <inttypes.h>
 #include <stdio.h>
@@ -190,6 +191,7 @@ static const struct kind KINDS[] = {
     {store_lane, {{"vstorelane %s 1 1 0 2 1", SHOW_FRONT}}, WASMI_STORE_LANE_COUNT, STORE_LANES},
 };
 enum { KIND_COUNT = sizeof KINDS / sizeof KINDS[0] };
+enum { OF_UNARY = 0, OF_TERNARY = 2, OF_EXTRACT = 3, OF_REPLACE = 4 };
 
 /* Whether a script ends with 0, and the raw value that its last line prints. The registers 0 to 2 hold a, b and c, and
    memory 0 has the bytes of a, then those of b. */
@@ -347,6 +349,92 @@ static void compare_unknown(void) {
     }
 }
 
+/* Calls on arrays: no two of their parameters are alike, and each element has to be what the call on values gives. */
+
+static wasmi_words all_a[OPERAND_COUNT], all_b[OPERAND_COUNT], all_c[OPERAND_COUNT];
+
+static void set_arrays(void) {
+    for (int i = 0; i < OPERAND_COUNT; i++) {
+        all_a[i] = OPERANDS[i][0];
+        all_b[i] = OPERANDS[i][1];
+        all_c[i] = OPERANDS[(i + 3) % OPERAND_COUNT][0];
+    }
+}
+
+/* The operands of element i. */
+static struct trial element(int i) {
+    return (struct trial){all_a[i], all_b[i], all_c[i], {{0, 0}, 0}};
+}
+
+/* Whether an element is what a call on values gives: the value, or 0 beside the status of a trap. */
+static int is_result(wasmi_result found, wasmi_result single) {
+    const wasmi_words zero = {0, 0};
+    return found.status == single.status && is_same(found.value, single.status == WASMI_DONE ? single.value : zero);
+}
+
+/* Compares what a call on arrays wrote, and its status, with what an instruction of a kind gives for each element. */
+static void compare_values(const struct kind *kind, uint16_t number, uint8_t status, const wasmi_words *values) {
+    int agrees = status == WASMI_DONE;
+    for (int i = 0; i < OPERAND_COUNT; i++) {
+        struct trial on = element(i);
+        agrees &= is_result((wasmi_result){values[i], WASMI_DONE}, kind->run(number, &on));
+    }
+    compare(kind->names[number], agrees);
+}
+
+static void compare_on_values(void) {
+    wasmi_words values[OPERAND_COUNT];
+    const size_t len = OPERAND_COUNT;
+    for (uint16_t i = 0; i < WASMI_UNARY_COUNT; i++) {
+        uint8_t status = wasmi_unary_each(i, all_a, len, values, len);
+        compare_values(&KINDS[OF_UNARY], i, status, values);
+    }
+    for (uint16_t i = 0; i < WASMI_TERNARY_COUNT; i++) {
+        uint8_t status = wasmi_ternary_each(i, all_a, len, all_b, len, all_c, len, values, len);
+        compare_values(&KINDS[OF_TERNARY], i, status, values);
+    }
+    for (uint16_t i = 0; i < WASMI_EXTRACT_LANE_COUNT; i++) {
+        uint8_t status = wasmi_extract_lane_each(i, 1, all_a, len, values, len);
+        compare_values(&KINDS[OF_EXTRACT], i, status, values);
+    }
+    for (uint16_t i = 0; i < WASMI_REPLACE_LANE_COUNT; i++) {
+        uint8_t status = wasmi_replace_lane_each(i, 1, all_a, len, all_b, len, values, len);
+        compare_values(&KINDS[OF_REPLACE], i, status, values);
+    }
+}
+
+static void compare_binary_each(void) {
+    for (uint16_t number = 0; number < WASMI_BINARY_COUNT; number++) {
+        wasmi_result results[OPERAND_COUNT];
+        const size_t len = OPERAND_COUNT;
+        int agrees = wasmi_binary_each(number, all_a, len, all_b, len, results, len) == WASMI_DONE;
+        for (int i = 0; i < OPERAND_COUNT; i++) {
+            struct trial on = element(i);
+            agrees &= is_result(results[i], binary(number, &on));
+        }
+        compare(BINARIES[number], agrees);
+    }
+}
+
+/* Loads from each of some pointers, inside the memory, at its end, past it, and at a sum above 2^64. */
+static void compare_load_each(void) {
+    const uint64_t ptrs[] = {0, 2, 5, 13, 21, 25, 27, 28, 29, UINT64_MAX};
+    enum { COUNT = sizeof ptrs / sizeof ptrs[0], OFFSET = 3 };
+    uint8_t memory[32];
+    struct trial on = element(0);
+    set_memory(memory, &on);
+    for (uint16_t number = 0; number < WASMI_LOAD_COUNT; number++) {
+        wasmi_result results[COUNT];
+        int agrees = wasmi_load_each(number, memory, sizeof memory, ptrs, COUNT, OFFSET, results, COUNT) == WASMI_DONE;
+        for (size_t i = 0; i < COUNT; i++) {
+            wasmi_result single = {{0, 0}, 0};
+            single.status = wasmi_load(number, memory, sizeof memory, ptrs[i], OFFSET, &single.value);
+            agrees &= is_result(results[i], single);
+        }
+        compare(LOADS[number], agrees);
+    }
+}
+
 /* Arrays that differ in length: nothing is written. */
 static void compare_lengths(void) {
     const wasmi_words a[2] = {{1, 2}, {3, 4}};
@@ -451,6 +539,10 @@ int main(int count, char **words) {
     for (int i = 0; i < KIND_COUNT; i++) {
         compare_kind(&KINDS[i]);
     }
+    set_arrays();
+    compare_on_values();
+    compare_binary_each();
+    compare_load_each();
     compare_unknown();
     compare_lengths();
     compare_lanes();
