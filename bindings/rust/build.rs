@@ -57,7 +57,7 @@ fn link(top: &Path) {
 fn row(line: &str) -> Option<Row> {
     let mut cells = line.split('\t');
     let (kind, number, name) = (cells.next()?, cells.next()?, cells.next()?);
-    if ["status", "machine_status", "memory_status", "call", "type", "answer"].contains(&kind) {
+    if ["status", "machine_status", "memory_status", "call", "type", "answer", "function"].contains(&kind) {
         return None;
     }
     Some(Row { kind: kind.into(), number: number.parse().unwrap(), name: name.into() })

@@ -13,7 +13,7 @@ fn main() {
     for line in fs::read_to_string(numbers).unwrap().lines() {
         let cells: Vec<&str> = line.split('\t').collect();
         let [kind, _, name] = cells[..] else { continue };
-        if ["status", "machine_status", "memory_status", "call", "type", "answer"].contains(&kind) || LACKING.contains(&name) {
+        if ["status", "machine_status", "memory_status", "call", "type", "answer", "function"].contains(&kind) || LACKING.contains(&name) {
             continue;
         }
         let kind = if name.ends_with("128") { "wide" } else { kind };
