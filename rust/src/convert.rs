@@ -6,7 +6,11 @@ use crate::{
 use core::ptr::NonNull;
 
 impl From<FuelError> for TableError {
-    /// Panics if the meter is off.
+    /// [`TableError::OutOfFuel`] with the same amount.
+    ///
+    /// # Panics
+    ///
+    /// If the error is [`FuelError::FuelMeteringDisabled`], of which there is none for tables.
     fn from(error: FuelError) -> Self {
         match Self::of_fuel(error) {
             Ok(error) => error,
@@ -16,7 +20,11 @@ impl From<FuelError> for TableError {
 }
 
 impl From<TypedRawVal> for TypedRawRef {
-    /// Panics if the value isn't a reference.
+    /// The reference of a value.
+    ///
+    /// # Panics
+    ///
+    /// If the type of the value isn't one of references.
     fn from(value: TypedRawVal) -> Self {
         match Self::of_value(value) {
             Ok(reference) => reference,
@@ -26,7 +34,13 @@ impl From<TypedRawVal> for TypedRawRef {
 }
 
 impl Global {
-    /// A pointer to the value. Panics if the variable is a constant.
+    /// A pointer to the value, to be used while nothing else borrows the global.
+    ///
+    /// No contract speaks of it: see [`Global::set`] for what is proved.
+    ///
+    /// # Panics
+    ///
+    /// If the global is a constant.
     pub fn get_raw_ptr(&mut self) -> NonNull<RawVal> {
         NonNull::from(self.get_raw_mut())
     }

@@ -1,4 +1,4 @@
-//! Function types that are cloned without a refusal of memory.
+//! Function types whose clones aren't refused memory.
 
 use crate::ValType;
 use crate::proved::types::{FuncType as Proved, FuncTypeError as Refusal};
@@ -7,6 +7,8 @@ use core::error::Error;
 use core::fmt::{self, Debug, Display};
 
 /// Why there is no such function type.
+///
+/// The proved function's third reason, that memory was refused, is a panic of [`FuncType::new`].
 #[derive(Debug, Copy, Clone)]
 pub enum FuncTypeError {
     /// There are more than 1,000 parameters.
@@ -26,14 +28,48 @@ impl Display for FuncTypeError {
 
 impl Error for FuncTypeError {}
 
-/// The types of a function's parameters and results.
+/// The type of a function: the types of its parameters and of its results, of each at most 1,000.
+///
+/// Up to 21 types stand in the value itself; more are shared by its clones, so a clone takes no
+/// memory.
+///
+/// # Examples
+///
+/// ```
+/// use wasmi_core_proved::{FuncType, FuncTypeError, ValType};
+///
+/// let ty = FuncType::new([ValType::I32, ValType::I64], [ValType::V128])?;
+/// assert_eq!(ty.params(), [ValType::I32, ValType::I64]);
+/// assert_eq!(ty.len_results(), 1);
+/// assert_eq!(ty.clone(), ty);
+///
+/// let long = FuncType::new([ValType::I32; 1001], []);
+/// assert!(matches!(long, Err(FuncTypeError::TooManyFunctionParams)));
+/// # Ok::<(), FuncTypeError>(())
+/// ```
+#[doc = include_str!("proved/docs/types/FuncType.contract.md")]
 #[derive(PartialOrd, Ord, PartialEq, Eq, Hash)]
 pub struct FuncType {
     inner: Proved,
 }
 
 impl FuncType {
-    /// Panics if memory is refused for more than 21 entries.
+    /// The type of a function with these parameters and results.
+    ///
+    /// Of each iterator at most 1,001 items are read, up to its first `None`; its length isn't asked.
+    ///
+    /// # Errors
+    ///
+    /// [`TooManyFunctionParams`](FuncTypeError::TooManyFunctionParams) above 1,000 parameters, of
+    /// which no result is read then; [`TooManyFunctionResults`](FuncTypeError::TooManyFunctionResults)
+    /// above 1,000 results.
+    ///
+    /// # Panics
+    ///
+    /// If there are more than 21 types and the system refuses memory for them. The clauses below are
+    /// of the function that this one calls, which returns an error in place of this panic.
+    ///
+    #[doc = include_str!("proved/docs/types/FuncType.new.contract.md")]
     #[inline]
     pub fn new<P, R>(params: P, results: R) -> Result<Self, FuncTypeError>
     where
@@ -51,31 +87,31 @@ impl FuncType {
         }
     }
 
-    /// The types of the parameters.
+    #[doc = include_str!("proved/docs/types/FuncType.params.md")]
     #[inline]
     pub fn params(&self) -> &[ValType] {
         self.inner.params()
     }
 
-    /// The types of the results.
+    #[doc = include_str!("proved/docs/types/FuncType.results.md")]
     #[inline]
     pub fn results(&self) -> &[ValType] {
         self.inner.results()
     }
 
-    /// How many parameters there are.
+    #[doc = include_str!("proved/docs/types/FuncType.len_params.md")]
     #[inline]
     pub fn len_params(&self) -> u16 {
         self.inner.len_params()
     }
 
-    /// How many results there are.
+    #[doc = include_str!("proved/docs/types/FuncType.len_results.md")]
     #[inline]
     pub fn len_results(&self) -> u16 {
         self.inner.len_results()
     }
 
-    /// The types of the parameters, and those of the results.
+    #[doc = include_str!("proved/docs/types/FuncType.params_results.md")]
     #[inline]
     pub fn params_results(&self) -> (&[ValType], &[ValType]) {
         self.inner.params_results()

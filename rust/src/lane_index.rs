@@ -4,7 +4,20 @@
 use crate::proved::lanes::ImmLaneIdx as Proved;
 use crate::simd::OutOfBoundsLaneIdx;
 
-/// An index below `N`, which is a power of 2.
+/// The index of one of `N` lanes, from 0 to `N - 1`, lane 0 the lowest.
+///
+/// `N` is 2, 4, 8, 16 or 32 in the instructions of [`simd`](crate::simd). Another `N` above 0 is cut
+/// to a power of two, as in the crate `wasmi_core`. Contracts see the number.
+///
+/// # Examples
+///
+/// ```
+/// use wasmi_core_proved::simd::{ImmLaneIdx4, i32x4_extract_lane, i32x4_splat};
+///
+/// let lane = ImmLaneIdx4::try_from(3).ok().expect("it is below 4");
+/// assert_eq!(i32x4_extract_lane(i32x4_splat(7), lane), 7);
+/// assert!(ImmLaneIdx4::try_from(4).is_err());
+/// ```
 #[derive(Debug, Copy, Clone, PartialEq, Eq)]
 pub struct ImmLaneIdx<const N: u8>(u8);
 
@@ -32,15 +45,16 @@ impl<const N: u8> TryFrom<u8> for ImmLaneIdx<N> {
     }
 }
 
-/// What is an item of a lane.
+/// A number with the index of one of its lanes in a vector, of which there are 128 divided by its
+/// width.
 pub trait IntoLaneIdx {
-    /// The type of the lane's index.
+    /// The index of a lane of these numbers.
     type LaneIdx: Sized + Copy + TryFrom<u8, Error = OutOfBoundsLaneIdx> + Into<u8>;
 }
 
 macro_rules! lanes {
     ($($name:ident, $count:literal: $($ty:ty),*;)*) => { $(
-        #[doc = concat!("An index below ", stringify!($count), ".")]
+        #[doc = concat!("The index of one of ", stringify!($count), " lanes.")]
         pub type $name = ImmLaneIdx<$count>;
 
         impl $name {

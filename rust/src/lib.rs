@@ -1,5 +1,108 @@
-//! The API of the Rust crate `wasmi_core` 2.0.0 over a library that is proved.
+//! The core of a WebAssembly interpreter, proved: values, instructions on numbers and vectors, fuel,
+//! limits, linear memories and tables.
+//!
+//! This crate has the API of [`wasmi_core`](https://docs.rs/wasmi_core/2.0.0) 2.0.0, so an engine
+//! over that crate compiles over this one. Its source is a library in Rattle, which is Rust with
+//! contracts: each function of the library has clauses that say what it returns and changes, and a
+//! proof that it does. Here the contracts and proofs are left out of the source, and the clauses
+//! stand in these pages.
+//!
+//! # Examples
+//!
+//! A memory that pays for its growth:
+//!
+//! ```
+//! use wasmi_core_proved::{Fuel, FuelCostsProvider, Memory, MemoryType, ResourceLimiterRef, wasm};
+//!
+//! let mut fuel = Fuel::new(true, FuelCostsProvider::default());
+//! fuel.set_fuel(5000)?;
+//!
+//! let mut builder = MemoryType::builder();
+//! builder.min(1).max(Some(4));
+//! let mut limiter = ResourceLimiterRef::default();
+//! let mut memory = Memory::new(builder.build()?, &mut limiter)?;
+//!
+//! // Pages of 65,536 bytes, of which each costs 1,024 units of fuel.
+//! assert_eq!(memory.grow(2, Some(&mut fuel), &mut limiter)?, 1);
+//! assert_eq!(fuel.get_fuel()?, 2952);
+//!
+//! assert_eq!(wasm::store32(memory.data_mut(), 65_536, 4, 7), Ok(()));
+//! assert_eq!(wasm::load_u32(memory.data(), 65_540, 0), Ok(7));
+//! assert!(wasm::load_u32(memory.data(), u64::MAX, 0).is_err());
+//! # Ok::<(), Box<dyn std::error::Error>>(())
+//! ```
+//!
+//! # What is here
+//!
+//! | Where | What |
+//! |---|---|
+//! | this page | the types and traits of `wasmi_core`: [`Memory`], [`Table`], [`Fuel`], [`ResourceLimiter`], [`Global`], [`FuncType`], [`Trap`], [`RawVal`], [`TypedRawVal`], [`V128`], .. |
+//! | [`wasm`], [`simd`] | the instructions, as functions |
+//! | [`machine`] | a machine that executes lists of calls, and generic memories, tables and limiters |
+//! | [`pool`] | machines that share a cap |
+//! | [`region`] | memories and tables that lie in a region of the caller |
+//! | [`ops`] | the instructions as values, with their names |
+#![cfg_attr(
+    feature = "std",
+    doc = "| [`script`], [`grammar`] | scripts of calls: parsed, run and printed |"
+)]
+//! | [`rattle`] | the part of Rattle's standard library that Rust's lacks |
+#![cfg_attr(
+    doc,
+    doc = "| [`specs`], [`laws`] | the definitions that the contracts cite, and what holds of all runs |"
+)]
+//!
+//! # How to read a contract
+//!
+//! A section *Contract* has the clauses of a function as they stand in its source. `requires` is what
+//! a caller has to meet, and `ensures` is what the function then keeps; a name before the colon says
+//! what the clause is about. In a clause
+//!
+//! - `result` is what is returned;
+//! - of a parameter behind `&mut`, `x.old` is its value before the call and `x.new` its value after
+//!   it; `x.now` is the value behind a shared reference; `.entry` and `.exit` are the references
+//!   themselves, before and after the call;
+//! - a function is applied by writing its arguments after it, without parentheses: `f x y`;
+//! - `≡` is "is", `×` is "and", `→` is "if .. then", and `λ x. e` is a function.
+//!
+//! Each word leads to its definition, whose sentence shows when the pointer rests on it. Here is the
+//! contract of [`Fuel::get_fuel`]:
+//!
+#![doc = include_str!("proved/docs/meter/Fuel.get_fuel.contract.md")]
+//!
+//! A section *Model* says what a contract sees of a type: `Value` is the type of its values there,
+//! `view` how one is read off the fields, `invariant` what holds at any time.
+//!
+//! # What is proved, tested and trusted
+//!
+//! - **Proved**, of the Rattle source: each clause that is shown; no function panics, overflows or
+//!   reads past an end if its `requires` are met; each function ends.
+//! - **Tested**, of this crate: that it does what the proved library does, by each instruction on
+//!   edges and random operands, by lists of calls and scripts, and by refusing each allocation.
+//! - **Trusted**: the program that leaves the contracts out, the module [`rattle`], the files of this
+//!   crate that have no contract (they turn the proved library's API into that of `wasmi_core`), and
+//!   rustc.
+//!
+//! Where a proof requires something of a caller, the function here asserts it, which its section
+//! *Panics* says. What no test can see is left to the caller: a limiter or a closure of yours that
+//! panics ends what was proved.
+//!
+//! # What differs from `wasmi_core`
+//!
+//! - Floats have no arithmetic: what moves their bits is there, and the other 120 functions aren't.
+//! - If the system refuses memory, a memory or table isn't made or doesn't grow, and an error says so.
+//! - [`Memory::data_ptr`] may be read through, and not written.
+//! - A target has a `usize` of 64 bits.
+//!
+//! # Features
+//!
+//! - `std` (default): scripts, and errors of `std::io`. Without it the crate needs `alloc` alone.
+//! - `simd` (default): the vector instructions.
+//! - `memory64` (default): 64-bit memories.
+//! - `sse2` (default): lanes of vectors in registers of x86-64, by the unsafe blocks of one file.
+//!   Without it, and on other processors, the crate has no unsafe code.
 #![no_std]
+#![warn(missing_docs)]
 #![cfg_attr(all(feature = "sse2", target_arch = "x86_64"), deny(unsafe_code))]
 #![cfg_attr(
     not(all(feature = "sse2", target_arch = "x86_64")),
@@ -18,6 +121,8 @@ mod debug;
 mod float;
 mod func_type;
 mod lane_index;
+#[cfg(doc)]
+pub mod laws;
 mod limiter;
 pub mod machine;
 mod memory;

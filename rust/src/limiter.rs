@@ -4,9 +4,79 @@ use crate::proved::meter::ResourceLimiter as Limits;
 use crate::{LimiterError, MemoryError, TableError};
 use core::fmt;
 
-/// Permits or refuses the growth of memories and tables.
+/// Decides which memories and tables may be made and may grow. A creation asks with a current size of
+/// 0.
+///
+/// # What the answers mean
+///
+/// To a question `Ok(true)` permits, and nothing else does. After `Ok(false)` a creation returns
+/// `ResourceLimiterDeniedAllocation`, and a growth returns [`MemoryError::OutOfBoundsGrowth`] or
+/// [`TableError::GrowOutOfBounds`]. After `Err` both return `ResourceLimiterDeniedAllocation`. In
+/// these cases nothing has changed and no notice follows.
+///
+/// A notice follows a permission if the creation or growth then fails. After `Ok(())` the call
+/// returns the error that the notice named. After `Err` it returns
+/// `ResourceLimiterDeniedAllocation` instead.
+///
+/// # In contracts
+///
+/// A clause speaks of a limiter by its [`rules`](crate::machine::ResourceLimiter#contract): which
+/// answers it may give in each of its states, and which state it has afterwards. Nothing was proved
+/// of a limiter that is written in Rust, so read them as "whatever it does". What a call does with
+/// the answers holds of each limiter that returns; after a panic of one, nothing is promised.
+///
+/// # Examples
+///
+/// ```
+/// use wasmi_core_proved::{
+///     LimiterError, Memory, MemoryError, MemoryType, ResourceLimiter, ResourceLimiterRef,
+/// };
+///
+/// /// Permits memories of so many bytes, and no tables.
+/// struct AtMost(usize);
+///
+/// impl ResourceLimiter for AtMost {
+///     fn memory_growing(
+///         &mut self,
+///         _current: usize,
+///         desired: usize,
+///         _maximum: Option<usize>,
+///     ) -> Result<bool, LimiterError> {
+///         Ok(desired <= self.0)
+///     }
+///     fn table_growing(
+///         &mut self,
+///         _current: usize,
+///         _desired: usize,
+///         _maximum: Option<usize>,
+///     ) -> Result<bool, LimiterError> {
+///         Ok(false)
+///     }
+///     fn instances(&self) -> usize {
+///         1
+///     }
+///     fn tables(&self) -> usize {
+///         0
+///     }
+///     fn memories(&self) -> usize {
+///         1
+///     }
+/// }
+///
+/// let mut most = AtMost(100_000);
+/// let mut limiter = ResourceLimiterRef::from(&mut most as &mut dyn ResourceLimiter);
+/// let mut builder = MemoryType::builder();
+/// builder.min(1);
+/// let mut memory = Memory::new(builder.build()?, &mut limiter)?;
+/// let refused = memory.grow(1, None, &mut limiter);
+/// assert!(matches!(refused, Err(MemoryError::OutOfBoundsGrowth)));
+/// # Ok::<(), MemoryError>(())
+/// ```
 pub trait ResourceLimiter {
-    /// Whether a memory may grow; sizes are in bytes.
+    /// May a memory grow from `current` to `desired` bytes? `maximum`, in bytes, is the most that
+    /// its type allows. `Ok(true)` permits; `Ok(false)` and `Err` deny.
+    ///
+    /// `current` isn't above `desired`.
     fn memory_growing(
         &mut self,
         current: usize,
@@ -14,7 +84,10 @@ pub trait ResourceLimiter {
         maximum: Option<usize>,
     ) -> Result<bool, LimiterError>;
 
-    /// Whether a table may grow; sizes are in elements.
+    /// May a table grow from `current` to `desired` elements? `maximum` is the most that its type
+    /// allows. `Ok(true)` permits; `Ok(false)` and `Err` deny.
+    ///
+    /// `current` isn't above `desired`.
     fn table_growing(
         &mut self,
         current: usize,
@@ -22,27 +95,33 @@ pub trait ResourceLimiter {
         maximum: Option<usize>,
     ) -> Result<bool, LimiterError>;
 
-    /// A permitted growth of a memory has failed.
+    /// A memory was permitted to grow and did not, because of this error. After `Ok(())`, which it
+    /// returns unless an implementation has another body, the call returns this error; after `Err`
+    /// it returns `ResourceLimiterDeniedAllocation`.
     fn memory_grow_failed(&mut self, _error: &MemoryError) -> Result<(), LimiterError> {
         Ok(())
     }
 
-    /// A permitted growth of a table has failed.
+    /// A table was permitted to grow and did not, because of this error. After `Ok(())`, which it
+    /// returns unless an implementation has another body, the call returns this error; after `Err`
+    /// it returns `ResourceLimiterDeniedAllocation`.
     fn table_grow_failed(&mut self, _error: &TableError) -> Result<(), LimiterError> {
         Ok(())
     }
 
-    /// How many instances there may be.
+    /// The greatest number of instances of a store. Nothing in this library calls it.
     fn instances(&self) -> usize;
 
-    /// How many tables there may be.
+    /// The greatest number of tables of a store. Nothing in this library calls it.
     fn tables(&self) -> usize;
 
-    /// How many memories there may be.
+    /// The greatest number of linear memories of a store. Nothing in this library calls it.
     fn memories(&self) -> usize;
 }
 
-/// A borrowed limiter, or none.
+/// A borrowed limiter, or none, which permits all that the types allow.
+///
+/// Each function that makes or grows a memory or table takes one. [`Default`] has no limiter.
 #[derive(Default)]
 pub struct ResourceLimiterRef<'a>(Option<&'a mut dyn ResourceLimiter>);
 
@@ -59,7 +138,7 @@ impl<'a> From<&'a mut dyn ResourceLimiter> for ResourceLimiterRef<'a> {
 }
 
 impl ResourceLimiterRef<'_> {
-    /// The limiter, if there is one.
+    /// The limiter, borrowed on, if there is one.
     pub fn as_resource_limiter(&mut self) -> Option<&mut dyn ResourceLimiter> {
         match &mut self.0 {
             Some(limiter) => Some(&mut **limiter),

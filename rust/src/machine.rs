@@ -1,5 +1,43 @@
 //! A machine that executes lists of calls on memories, tables, globals and registers, and what it stands on: memories,
 //! tables and limiters that are generic where those of the root are `dyn`.
+//!
+//! A [`Machine`] owns memories, tables, element segments, globals, 16 registers and one [`Fuel`] meter. A [`Call`] asks one
+//! thing of it, by indices, and a [`Reply`] says what came of it; [`run`], [`run_lending`] and [`run_reserving`] execute a list
+//! of calls. What holds of all runs is proved of all lists of calls, whoever wrote them: [`laws`](crate::laws) has the laws.
+//!
+//! Names are those of the Rattle library. What the root has too is the same type, except [`Memory`], [`Table`],
+//! [`ElementSegment`], [`ResourceLimiter`], [`ResourceLimiterRef`], [`ReadAs`] and [`WriteAs`], which are generic here.
+//!
+//! # Examples
+//!
+//! ```
+//! use wasmi_core_proved::machine::{
+//!     Call, Fuel, FuelCostsProvider, Machine, MemoryType, Quota, Reply, run_lending,
+//! };
+//!
+//! // A machine with 2,000 units of fuel, whose memories and tables share a quota.
+//! let mut fuel = Fuel::new(true, FuelCostsProvider::default());
+//! fuel.set_fuel(2000)?;
+//! let mut machine = Machine::new(fuel);
+//! let mut quota = Quota::new(131_072, 100);
+//!
+//! let mut builder = MemoryType::builder();
+//! builder.min(1);
+//! let calls = [
+//!     Call::NewMemory(builder.build()?),
+//!     Call::GrowMemory { memory: 0, pages: 1 },
+//!     Call::GrowMemory { memory: 0, pages: 1 },
+//!     Call::GetFuel,
+//! ];
+//! let replies = run_lending(&mut machine, &calls, &mut quota)?;
+//! assert!(matches!(replies[0], Reply::Made(0)));
+//! assert!(matches!(replies[1], Reply::Number(1)));
+//! // Two pages are all that the quota permits, and a refused growth costs nothing.
+//! assert!(matches!(replies[2], Reply::Memory(_)));
+//! assert!(matches!(replies[3], Reply::Number(976)));
+//! assert_eq!(quota.held_bytes(), 131_072);
+//! # Ok::<(), Box<dyn std::error::Error>>(())
+//! ```
 
 #[doc(no_inline)]
 pub use crate::{
@@ -12,8 +50,9 @@ pub use crate::{
 pub use crate::proved::machine::{ByteList, Call, Machine, Reply, run, run_lending, run_reserving};
 pub use crate::proved::meter::{
     Amounts, Holdings, Kind, Lender, LimiterByKind, LimiterRef, NoLimits, Quota, Reserving,
-    ResourceLimiter, ResourceLimiterRef, growth,
+    ResourceLimiter, ResourceLimiterRef, ValueSize, growth,
 };
+pub use crate::proved::raw::{Number, ReadAs, ReadBack, WriteAs};
 pub use crate::proved::store::{
     Buffer, ByteBuffer, ElementSegment, LinearMemory, Memory, Region, SegmentError, Table,
 };

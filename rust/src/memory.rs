@@ -5,7 +5,39 @@ use crate::proved::store::Memory as Proved;
 use crate::{Fuel, MemoryError, MemoryType, ResourceLimiterRef};
 use core::panic::UnwindSafe;
 
-/// A linear memory.
+/// A linear memory: whole pages of bytes, which grow up to the maximum of their [`MemoryType`].
+///
+/// Growth is charged to a [`Fuel`] meter, if one is passed, and is permitted by a limiter, if the
+/// [`ResourceLimiterRef`] has one. Its methods are those of [`machine::Memory`](crate::machine::Memory)
+/// behind a `dyn` limiter, and have their contracts.
+///
+/// # Examples
+///
+/// ```
+/// use wasmi_core_proved::{Fuel, FuelCostsProvider, Memory, MemoryError, MemoryType, ResourceLimiterRef};
+///
+/// let mut builder = MemoryType::builder();
+/// builder.min(1).max(Some(3));
+/// let mut limiter = ResourceLimiterRef::default();
+/// let mut memory = Memory::new(builder.build()?, &mut limiter)?;
+///
+/// memory.write(65_532, &[1, 2, 3, 4])?;
+/// let mut bytes = [0; 2];
+/// memory.read(65_534, &mut bytes)?;
+/// assert_eq!(bytes, [3, 4]);
+/// assert!(memory.write(65_533, &bytes[..]).is_ok());
+/// assert!(matches!(memory.write(65_535, &bytes[..]), Err(MemoryError::OutOfBoundsAccess)));
+///
+/// // A page costs 1,024 units of fuel at the default prices.
+/// let mut fuel = Fuel::new(true, FuelCostsProvider::default());
+/// fuel.set_fuel(1500).expect("the meter is on");
+/// assert_eq!(memory.grow(1, Some(&mut fuel), &mut limiter)?, 1);
+/// let refused = memory.grow(1, Some(&mut fuel), &mut limiter);
+/// assert!(matches!(refused, Err(MemoryError::OutOfFuel { required_fuel: 1024 })));
+/// assert_eq!(memory.size(), 2);
+/// # Ok::<(), MemoryError>(())
+/// ```
+#[doc = include_str!("proved/docs/store/LinearMemory.contract.md")]
 #[derive(Debug)]
 pub struct Memory(Proved<'static>);
 
@@ -13,44 +45,41 @@ pub struct Memory(Proved<'static>);
 impl UnwindSafe for Memory {}
 
 impl Memory {
-    /// A memory of its type's least size.
+    #[doc = include_str!("proved/docs/store/LinearMemory.new.md")]
     #[inline]
-    pub fn new(
-        memory_type: MemoryType,
-        limiter: &mut ResourceLimiterRef<'_>,
-    ) -> Result<Self, MemoryError> {
-        with!(limiter => Proved::new(memory_type, limiter)).map(Self)
+    pub fn new(ty: MemoryType, limiter: &mut ResourceLimiterRef<'_>) -> Result<Self, MemoryError> {
+        with!(limiter => Proved::new(ty, limiter)).map(Self)
     }
 
-    /// A memory on a buffer, out of which it can't grow.
+    #[doc = include_str!("proved/docs/store/LinearMemory.new_static.md")]
     #[inline]
     pub fn new_static(
-        memory_type: MemoryType,
+        ty: MemoryType,
         limiter: &mut ResourceLimiterRef<'_>,
-        buffer: &'static mut [u8],
+        region: &'static mut [u8],
     ) -> Result<Self, MemoryError> {
-        with!(limiter => Proved::new_static(memory_type, limiter, buffer)).map(Self)
+        with!(limiter => Proved::new_static(ty, limiter, region)).map(Self)
     }
 
-    /// The type it was made with.
+    #[doc = include_str!("proved/docs/store/LinearMemory.ty.md")]
     #[inline]
     pub fn ty(&self) -> MemoryType {
         self.0.ty()
     }
 
-    /// The type with the current size as its least.
+    #[doc = include_str!("proved/docs/store/LinearMemory.dynamic_ty.md")]
     #[inline]
     pub fn dynamic_ty(&self) -> MemoryType {
         self.0.dynamic_ty()
     }
 
-    /// The size in pages.
+    #[doc = include_str!("proved/docs/store/LinearMemory.size.md")]
     #[inline]
     pub fn size(&self) -> u64 {
         self.0.size()
     }
 
-    /// Grows by pages and returns how many there were.
+    #[doc = include_str!("proved/docs/store/LinearMemory.grow.md")]
     #[inline]
     pub fn grow(
         &mut self,
@@ -61,37 +90,40 @@ impl Memory {
         with!(limiter => self.0.grow(additional, fuel, limiter))
     }
 
-    /// The bytes.
+    #[doc = include_str!("proved/docs/store/LinearMemory.data.md")]
     #[inline]
     pub fn data(&self) -> &[u8] {
         self.0.data()
     }
 
-    /// The bytes, to be changed.
+    #[doc = include_str!("proved/docs/store/LinearMemory.data_mut.md")]
     #[inline]
     pub fn data_mut(&mut self) -> &mut [u8] {
         self.0.data_mut()
     }
 
-    /// A pointer to the first byte, to be read through until the memory grows or is changed: a shared borrow gives no other.
+    /// A pointer to the first byte, to be read through until the memory grows or is changed.
+    ///
+    /// It comes of a shared borrow, so nothing may be written through it: see [`Memory::data_mut`].
+    /// No contract speaks of it.
     #[inline]
     pub fn data_ptr(&self) -> *mut u8 {
         self.0.data().as_ptr().cast_mut()
     }
 
-    /// The size in bytes.
+    #[doc = include_str!("proved/docs/store/LinearMemory.data_size.md")]
     #[inline]
     pub fn data_size(&self) -> usize {
         self.0.data_size()
     }
 
-    /// Reads bytes into a buffer.
+    #[doc = include_str!("proved/docs/store/LinearMemory.read.md")]
     #[inline]
     pub fn read(&self, offset: usize, buffer: &mut [u8]) -> Result<(), MemoryError> {
         self.0.read(offset, buffer)
     }
 
-    /// Writes the bytes of a buffer.
+    #[doc = include_str!("proved/docs/store/LinearMemory.write.md")]
     #[inline]
     pub fn write(&mut self, offset: usize, buffer: &[u8]) -> Result<(), MemoryError> {
         self.0.write(offset, buffer)

@@ -7,14 +7,27 @@ use crate::{RawRef, RawVal};
 use core::num::NonZero;
 
 /// What can be read as a `T`.
+///
+/// Of a raw value, an integer is the low word cut to the width of the integer, and a `bool` is
+/// whether the low word is not 0. A vector is both words. A float is read by its bits.
 pub trait ReadAs<T> {
-    /// Reads `self` as a value of type `T`.
+    /// Reads `self` as a `T`.
+    ///
+    /// Of integers, `bool`, references and vectors it keeps the contract of the proved trait,
+    /// [`machine::ReadAs`](crate::machine::ReadAs).
     fn read_as(&self) -> T;
 }
 
 /// What a `T` can be written to.
+///
+/// An integer or a `bool` sets the low word of a raw value and keeps the high word. The low word is
+/// then the integer's unsigned image at its own width, so `-1i32` gives 4294967295. A `NonZero` is
+/// written as its integer, and a float by its bits. A vector or a raw value sets both words.
 pub trait WriteAs<T> {
-    /// Writes a value of type `T` to `self`.
+    /// Writes `value` to `self`.
+    ///
+    /// Of integers, `bool`, references and vectors it keeps the contract of the proved trait,
+    /// [`machine::WriteAs`](crate::machine::WriteAs).
     fn write_as(&mut self, value: T);
 }
 

@@ -3,12 +3,18 @@
 use crate::ShiftAmount;
 use crate::proved::typed::IntoShiftAmount as Into;
 
-/// What is shifted by a [`ShiftAmount`].
+/// A number whose bits are shifted, or a vector the bits of whose lanes are, by a [`ShiftAmount`].
 pub trait IntoShiftAmount {
-    /// The type of the amount in the WebAssembly specification.
+    /// The type in which the amount is given.
     type ShiftSource: Copy;
 
-    /// The amount modulo the bits of a lane, unless it is 0.
+    /// The remainder of `source` by the number of bits of the number, or of a lane of the vector;
+    /// `None` if that is 0 and nothing is shifted.
+    ///
+    /// The fourteen types below keep the contract of the proved function. Of another type it says
+    /// nothing.
+    ///
+    #[doc = include_str!("proved/docs/typed/IntoShiftAmount.into_shift_amount.contract.md")]
     fn into_shift_amount(source: Self::ShiftSource) -> Option<ShiftAmount>;
 }
 

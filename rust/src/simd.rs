@@ -1,4 +1,26 @@
-//! Instructions of vectors. Of floats only what moves bits.
+//! The vector instructions of WebAssembly on a [`V128`]. Of floats only what moves bits.
+//!
+//! Lane 0 is the lowest. A function has the name of its instruction, with `_` for a dot. Loads and
+//! stores access the address `ptr + offset` of the bytes of a memory, the forms with `_at` the given
+//! one; they return [`TrapCode::MemoryOutOfBounds`] if the access ends past the bytes, and write
+//! nothing then.
+//!
+//! # Examples
+//!
+//! ```
+//! use wasmi_core_proved::{V128, simd};
+//!
+//! let a = simd::i32x4_splat(i32::MAX);
+//! let b = simd::i32x4_splat(1);
+//! assert_eq!(simd::i32x4_add(a, b), simd::i32x4_splat(i32::MIN));
+//! assert_eq!(simd::i32x4_bitmask(simd::i32x4_gt_s(a, b)), 0b1111);
+//!
+//! let mut memory = [0; 24];
+//! simd::v128_store(&mut memory, 4, 4, V128::from(1 << 64))?;
+//! assert_eq!(memory[16], 1);
+//! assert!(simd::v128_load(&memory, 9, 0).is_err());
+//! # Ok::<(), wasmi_core_proved::TrapCode>(())
+//! ```
 
 use crate::{TrapCode, V128};
 
@@ -66,8 +88,8 @@ mod proved {
 }
 
 macro_rules! lanes {
-    ($($name:ident($($arg:ident: $ty:ty),*; $lane:ident: $index:ty $(, $item:ident: $item_ty:ty)?) -> $result:ty;)*) => { $(
-        #[doc = concat!("The instruction `", stringify!($name), "`.")]
+    ($docs:literal; $($name:ident($($arg:ident: $ty:ty),*; $lane:ident: $index:ty $(, $item:ident: $item_ty:ty)?) -> $result:ty;)*) => { $(
+        #[doc = include_str!(concat!("proved/docs/", $docs, "/", stringify!($name), ".md"))]
         #[inline]
         pub fn $name($($arg: $ty,)* $lane: $index $(, $item: $item_ty)?) -> $result {
             proved::$name($($arg,)* $lane.proved() $(, $item)?)
@@ -75,6 +97,7 @@ macro_rules! lanes {
     )* };
 }
 lanes! {
+    "lanewise";
     i8x16_extract_lane_s(v128: V128; lane: ImmLaneIdx16) -> i32;
     i8x16_extract_lane_u(v128: V128; lane: ImmLaneIdx16) -> u32;
     i8x16_replace_lane(v128: V128; lane: ImmLaneIdx16, item: i8) -> V128;
@@ -85,6 +108,9 @@ lanes! {
     i32x4_replace_lane(v128: V128; lane: ImmLaneIdx4, item: i32) -> V128;
     i64x2_extract_lane(v128: V128; lane: ImmLaneIdx2) -> i64;
     i64x2_replace_lane(v128: V128; lane: ImmLaneIdx2, item: i64) -> V128;
+}
+lanes! {
+    "vector_access";
     v128_load8_lane(memory: &[u8], ptr: u64, offset: u64, x: V128; lane: ImmLaneIdx16) -> Result<V128, TrapCode>;
     v128_load8_lane_at(memory: &[u8], address: usize, x: V128; lane: ImmLaneIdx16) -> Result<V128, TrapCode>;
     v128_store8_lane(memory: &mut [u8], ptr: u64, offset: u64, value: V128; imm: ImmLaneIdx16) -> Result<(), TrapCode>;
@@ -103,7 +129,7 @@ lanes! {
     v128_store64_lane_at(memory: &mut [u8], address: usize, value: V128; imm: ImmLaneIdx2) -> Result<(), TrapCode>;
 }
 
-/// The instruction `i8x16_shuffle`.
+#[doc = include_str!("proved/docs/lanewise/i8x16_shuffle.md")]
 #[inline]
 pub fn i8x16_shuffle(a: V128, b: V128, s: [ImmLaneIdx32; 16]) -> V128 {
     proved::i8x16_shuffle(a, b, s.map(ImmLaneIdx32::proved))
@@ -114,30 +140,40 @@ macro_rules! floats {
     ($($float:ty, $index:ty: $splat:ident $extract:ident $replace:ident $abs:ident $neg:ident
         by $splat_bits:ident $extract_bits:ident $replace_bits:ident $signed:ty;)*) => { $(
         /// The float in each lane.
+        ///
+        #[doc = concat!("Its bits are as in [`", stringify!($splat_bits), "`], which is proved; that floats become bits and back isn't.")]
         #[inline]
         pub fn $splat(value: $float) -> V128 {
             $splat_bits(value.to_bits().cast_signed())
         }
 
         /// The float of a lane.
+        ///
+        #[doc = concat!("Its bits are as in [`", stringify!($extract_bits), "`], which is proved; that floats become bits and back isn't.")]
         #[inline]
         pub fn $extract(v128: V128, lane: $index) -> $float {
             <$float>::from_bits($extract_bits(v128, lane).cast_unsigned())
         }
 
         /// The vector with a float in a lane.
+        ///
+        #[doc = concat!("Its bits are as in [`", stringify!($replace_bits), "`], which is proved; that floats become bits and back isn't.")]
         #[inline]
         pub fn $replace(v128: V128, lane: $index, item: $float) -> V128 {
             $replace_bits(v128, lane, item.to_bits().cast_signed())
         }
 
         /// The lanes without their signs.
+        ///
+        /// It is [`v128_and`] with a mask of the signs, and no contract speaks of floats.
         #[inline]
         pub fn $abs(v128: V128) -> V128 {
             v128_and(v128, $splat_bits(<$signed>::MAX))
         }
 
         /// The lanes with the other signs.
+        ///
+        /// It is [`v128_xor`] with a mask of the signs, and no contract speaks of floats.
         #[inline]
         pub fn $neg(v128: V128) -> V128 {
             v128_xor(v128, $splat_bits(<$signed>::MIN))

@@ -7,12 +7,39 @@ use crate::{
     TypedRawRef,
 };
 
-/// A table.
+/// A table: references of one type, whose number grows up to the maximum of its [`TableType`].
+///
+/// Growth is charged to a [`Fuel`] meter, if one is passed, and is permitted by a limiter, if the
+/// [`ResourceLimiterRef`] has one. Its methods are those of [`machine::Table`](crate::machine::Table)
+/// behind a `dyn` limiter, and have their contracts.
+///
+/// # Examples
+///
+/// ```
+/// use wasmi_core_proved::{RawRef, RefType, ResourceLimiterRef, Table, TableError, TableType, TypedRawRef};
+///
+/// let mut limiter = ResourceLimiterRef::default();
+/// let null = TypedRawRef::null(RefType::Func);
+/// let mut table = Table::new(TableType::new(RefType::Func, 2, Some(4)), null, &mut limiter)?;
+///
+/// let third = TypedRawRef::new(RawRef::from(3), RefType::Func);
+/// assert_eq!(table.grow(1, third, None, &mut limiter)?, 2);
+/// table.copy_within(0, 1, 2, None)?;
+/// assert_eq!(table.get(1).map(|element| u32::from(element.raw())), Some(3));
+/// assert!(table.get(3).is_none());
+///
+/// let other = TypedRawRef::null(RefType::Extern);
+/// assert!(matches!(table.set(0, other), Err(TableError::ElementTypeMismatch)));
+/// let refused = table.grow(2, null, None, &mut limiter);
+/// assert!(matches!(refused, Err(TableError::GrowOutOfBounds)));
+/// # Ok::<(), TableError>(())
+/// ```
+#[doc = include_str!("proved/docs/store/Table.contract.md")]
 #[derive(Debug)]
 pub struct Table(Proved);
 
 impl Table {
-    /// A table of its type's least size.
+    #[doc = include_str!("proved/docs/store/Table.new.md")]
     #[inline]
     pub fn new(
         ty: TableType,
@@ -22,25 +49,25 @@ impl Table {
         with!(limiter => Proved::new(ty, init, limiter)).map(Self)
     }
 
-    /// The type it was made with.
+    #[doc = include_str!("proved/docs/store/Table.ty.md")]
     #[inline]
     pub fn ty(&self) -> TableType {
         self.0.ty()
     }
 
-    /// The type with the current size as its least.
+    #[doc = include_str!("proved/docs/store/Table.dynamic_ty.md")]
     #[inline]
     pub fn dynamic_ty(&self) -> TableType {
         self.0.dynamic_ty()
     }
 
-    /// How many elements there are.
+    #[doc = include_str!("proved/docs/store/Table.size.md")]
     #[inline]
     pub fn size(&self) -> u64 {
         self.0.size()
     }
 
-    /// Grows by elements and returns how many there were.
+    #[doc = include_str!("proved/docs/store/Table.grow.md")]
     #[inline]
     pub fn grow(
         &mut self,
@@ -52,7 +79,7 @@ impl Table {
         with!(limiter => self.0.grow(delta, init, fuel, limiter))
     }
 
-    /// [`Table::grow`] by elements of the table's type.
+    #[doc = include_str!("proved/docs/store/Table.grow_raw.md")]
     #[inline]
     pub fn grow_raw(
         &mut self,
@@ -64,70 +91,63 @@ impl Table {
         with!(limiter => self.0.grow_raw(delta, init, fuel, limiter))
     }
 
-    /// An element, if there is one.
+    #[doc = include_str!("proved/docs/store/Table.get.md")]
     #[inline]
     pub fn get(&self, index: u64) -> Option<TypedRawRef> {
         self.0.get(index)
     }
 
-    /// Sets an element.
+    #[doc = include_str!("proved/docs/store/Table.set.md")]
     #[inline]
     pub fn set(&mut self, index: u64, value: TypedRawRef) -> Result<(), TableError> {
         self.0.set(index, value)
     }
 
-    /// [`Table::set`] to a reference of the table's type.
+    #[doc = include_str!("proved/docs/store/Table.set_raw.md")]
     #[inline]
     pub fn set_raw(&mut self, index: u64, value: RawRef) -> Result<(), TableError> {
         self.0.set_raw(index, value)
     }
 
-    /// Copies items of a segment.
+    #[doc = include_str!("proved/docs/store/Table.init.md")]
     #[inline]
     pub fn init(
         &mut self,
         element: ElementSegmentRef<'_>,
-        dst_index: u64,
-        src_index: u32,
+        dst: u64,
+        src: u32,
         len: u32,
         fuel: Option<&mut Fuel>,
     ) -> Result<(), TableError> {
-        self.0.init(element, dst_index, src_index, len, fuel)
+        self.0.init(element, dst, src, len, fuel)
     }
 
-    /// Copies elements of another table.
+    #[doc = include_str!("proved/docs/store/Table.copy.md")]
     #[inline]
     pub fn copy(
         dst_table: &mut Self,
-        dst_index: u64,
+        dst: u64,
         src_table: &Self,
-        src_index: u64,
+        src: u64,
         len: u64,
         fuel: Option<&mut Fuel>,
     ) -> Result<(), TableError> {
-        Proved::copy(
-            &mut dst_table.0,
-            dst_index,
-            &src_table.0,
-            src_index,
-            len,
-            fuel,
-        )
+        Proved::copy(&mut dst_table.0, dst, &src_table.0, src, len, fuel)
     }
 
-    /// Copies elements of this table.
+    #[doc = include_str!("proved/docs/store/Table.copy_within.md")]
     #[inline]
     pub fn copy_within(
         &mut self,
-        dst_index: u64,
-        src_index: u64,
+        dst: u64,
+        src: u64,
         len: u64,
         fuel: Option<&mut Fuel>,
     ) -> Result<(), TableError> {
-        self.0.copy_within(dst_index, src_index, len, fuel)
+        self.0.copy_within(dst, src, len, fuel)
     }
 
-    /// Sets elements to one value.
+    #[doc = include_str!("proved/docs/store/Table.fill.md")]
     #[inline]
     pub fn fill(
         &mut self,
@@ -139,7 +159,7 @@ impl Table {
         self.0.fill(dst, val, len, fuel)
     }
 
-    /// [`Table::fill`] with a reference of the table's type.
+    #[doc = include_str!("proved/docs/store/Table.fill_raw.md")]
     #[inline]
     pub fn fill_raw(
         &mut self,
@@ -152,12 +172,24 @@ impl Table {
     }
 }
 
-/// References of one type.
+/// An element segment: references of one type, from which tables are initialized.
+///
+/// Its methods are those of [`machine::ElementSegment`](crate::machine::ElementSegment), and have
+/// their contracts.
+#[doc = include_str!("proved/docs/store/ElementSegment.contract.md")]
 #[derive(Debug)]
 pub struct ElementSegment(ProvedSegment);
 
 impl ElementSegment {
-    /// Panics above 2^32 - 1 items, or if memory is refused.
+    /// An element segment of this type with the items of an iterator, which is read up to its first
+    /// `None`.
+    ///
+    /// The contract is that of [`machine::ElementSegment::new`](crate::machine::ElementSegment::new),
+    /// which returns an error where this panics.
+    ///
+    /// # Panics
+    ///
+    /// If there are more than 2^32 - 1 items, or if the system refuses memory for them.
     #[inline]
     pub fn new<I>(ty: RefType, items: I) -> Self
     where
@@ -170,32 +202,32 @@ impl ElementSegment {
         }
     }
 
-    /// A shared reference.
+    #[doc = include_str!("proved/docs/store/ElementSegment.as_ref.md")]
     #[allow(clippy::should_implement_trait)]
     #[inline]
     pub fn as_ref(&self) -> ElementSegmentRef<'_> {
         self.0.as_ref()
     }
 
-    /// The type of the items.
+    #[doc = include_str!("proved/docs/store/ElementSegment.ty.md")]
     #[inline]
     pub fn ty(&self) -> RefType {
         self.0.ty()
     }
 
-    /// The items.
+    #[doc = include_str!("proved/docs/store/ElementSegment.items.md")]
     #[inline]
     pub fn items(&self) -> &[RawRef] {
         self.0.items()
     }
 
-    /// How many items there are.
+    #[doc = include_str!("proved/docs/store/ElementSegment.size.md")]
     #[inline]
     pub fn size(&self) -> u32 {
         self.0.size()
     }
 
-    /// Drops the items.
+    #[doc = include_str!("proved/docs/store/ElementSegment.drop_items.md")]
     #[inline]
     pub fn drop_items(&mut self) {
         self.0.drop_items();

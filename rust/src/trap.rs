@@ -7,7 +7,9 @@ use alloc::string::String;
 use core::any::Any;
 use core::fmt::{self, Debug, Display};
 
-/// An error of the host, which a [`Trap`] can carry.
+/// An error of the host, which a [`Trap`] can carry and give back by its type.
+///
+/// Each of the methods of `dyn HostError` compares types as Rust's [`Any`] does.
 pub trait HostError: 'static + Display + Debug + Any + Send + Sync {}
 
 impl dyn HostError {
@@ -58,11 +60,39 @@ impl Display for Host {
 
 impl Plain for Host {}
 
-/// Why a call of WebAssembly code or of the host ended early.
+/// Why a call of WebAssembly code or of the host ended early: a [`TrapCode`], an exit with a status, a
+/// message, or a [`HostError`].
+///
+/// # Examples
+///
+/// ```
+/// use std::fmt;
+/// use wasmi_core_proved::{HostError, Trap, TrapCode};
+///
+/// #[derive(Debug)]
+/// struct NoSuchFile(String);
+///
+/// impl fmt::Display for NoSuchFile {
+///     fn fmt(&self, f: &mut fmt::Formatter<'_>) -> fmt::Result {
+///         write!(f, "no file {}", self.0)
+///     }
+/// }
+/// impl HostError for NoSuchFile {}
+///
+/// let trap = Trap::from(NoSuchFile("a.txt".into()));
+/// assert_eq!(trap.to_string(), "no file a.txt");
+/// assert!(trap.downcast_ref::<NoSuchFile>().is_some());
+/// assert_eq!(trap.trap_code(), None);
+///
+/// let trap = Trap::from(TrapCode::IntegerDivisionByZero);
+/// assert_eq!(trap.trap_code(), Some(TrapCode::IntegerDivisionByZero));
+/// assert_eq!(Trap::i32_exit(3).i32_exit_status(), Some(3));
+/// ```
+#[doc = include_str!("proved/docs/types/Trap.contract.md")]
 pub struct Trap(Box<Proved<Host>>);
 
 impl Trap {
-    /// A trap that a message describes.
+    #[doc = include_str!("proved/docs/types/Trap.new.md")]
     #[cold]
     pub fn new<T>(message: T) -> Self
     where
@@ -71,7 +101,11 @@ impl Trap {
         Self(Box::new(Proved::new(message.into())))
     }
 
-    /// The error of the host, if it is a `T`.
+    /// The error of the host, if this carries one and it is a `T`.
+    ///
+    /// The contract is of an error of any type; the comparison of types is Rust's [`Any`].
+    ///
+    #[doc = include_str!("proved/docs/types/Trap.downcast_ref.contract.md")]
     #[inline]
     pub fn downcast_ref<T>(&self) -> Option<&T>
     where
@@ -82,7 +116,11 @@ impl Trap {
             .and_then(|error| error.0.downcast_ref())
     }
 
-    /// The error of the host, if it is a `T`, to be changed.
+    /// The error of the host to be changed, if this carries one and it is a `T`.
+    ///
+    /// The contract is of an error of any type; the comparison of types is Rust's [`Any`].
+    ///
+    #[doc = include_str!("proved/docs/types/Trap.downcast_mut.contract.md")]
     #[inline]
     pub fn downcast_mut<T>(&mut self) -> Option<&mut T>
     where
@@ -93,7 +131,11 @@ impl Trap {
             .and_then(|error| error.0.downcast_mut())
     }
 
-    /// The error of the host, if it is a `T`.
+    /// The error of the host, if this carries one and it is a `T`. Else the trap is dropped.
+    ///
+    /// The contract is of an error of any type; the comparison of types is Rust's [`Any`].
+    ///
+    #[doc = include_str!("proved/docs/types/Trap.downcast.contract.md")]
     #[inline]
     pub fn downcast<T>(self) -> Option<T>
     where
@@ -105,19 +147,19 @@ impl Trap {
             .map(|error| *error)
     }
 
-    /// An exit of the program with a status.
+    #[doc = include_str!("proved/docs/types/Trap.i32_exit.md")]
     #[cold]
     pub fn i32_exit(status: i32) -> Self {
         Self(Box::new(Proved::i32_exit(status)))
     }
 
-    /// The status of an exit.
+    #[doc = include_str!("proved/docs/types/Trap.i32_exit_status.md")]
     #[inline]
     pub fn i32_exit_status(&self) -> Option<i32> {
         self.0.i32_exit_status()
     }
 
-    /// The code of a trap of an instruction.
+    #[doc = include_str!("proved/docs/types/Trap.trap_code.md")]
     #[inline]
     pub fn trap_code(&self) -> Option<TrapCode> {
         self.0.trap_code()

@@ -1,4 +1,24 @@
-//! Instructions of numbers, loads and stores. Of floats only what moves bits.
+//! The scalar instructions of WebAssembly, and its loads and stores. Of floats only what moves bits.
+//!
+//! A function has the name of its instruction, with `_` for a dot, and its operands in the order of
+//! the specification. Loads and stores access the address `ptr + offset` of the bytes of a memory,
+//! the forms with `_at` the given one; they return [`TrapCode::MemoryOutOfBounds`] if the access ends
+//! past the bytes, and write nothing then.
+//!
+//! # Examples
+//!
+//! ```
+//! use wasmi_core_proved::{TrapCode, wasm};
+//!
+//! assert_eq!(wasm::i32_add(i32::MAX, 1), i32::MIN);
+//! assert_eq!(wasm::i64_div_s(7, 0), Err(TrapCode::IntegerDivisionByZero));
+//!
+//! let mut memory = [0; 8];
+//! wasm::i64_store32(&mut memory, 2, 1, -2)?;
+//! assert_eq!(wasm::i64_load32_s(&memory, 3, 0)?, -2);
+//! assert_eq!(wasm::load_u32(&memory, 5, 0), Err(TrapCode::MemoryOutOfBounds));
+//! # Ok::<(), TrapCode>(())
+//! ```
 
 use crate::TrapCode;
 
@@ -29,55 +49,55 @@ pub use crate::proved::scalar::wasm::{
 macro_rules! floats {
     ($($float:ty, $signed:ty: $load:ident $load_at:ident $store:ident $store_at:ident by $load_bits:ident $load_bits_at:ident $store_bits:ident $store_bits_at:ident,
         $abs:ident $neg:ident $copysign:ident $to:ident $from:ident by $and:ident $or:ident $xor:ident;)*) => { $(
-        /// Loads a float.
+        #[doc = concat!("Loads a float: the bits are those of [`", stringify!($load_bits), "`], which is proved.")]
         #[inline]
         pub fn $load(memory: &[u8], ptr: u64, offset: u64) -> Result<$float, TrapCode> {
             $load_bits(memory, ptr, offset).map(<$float>::from_bits)
         }
 
-        /// Loads a float at an address.
+        #[doc = concat!("Loads a float at an address: the bits are those of [`", stringify!($load_bits_at), "`], which is proved.")]
         #[inline]
         pub fn $load_at(memory: &[u8], address: usize) -> Result<$float, TrapCode> {
             $load_bits_at(memory, address).map(<$float>::from_bits)
         }
 
-        /// Stores a float.
+        #[doc = concat!("Stores a float: the bits are stored by [`", stringify!($store_bits), "`], which is proved.")]
         #[inline]
         pub fn $store(memory: &mut [u8], ptr: u64, offset: u64, value: $float) -> Result<(), TrapCode> {
             $store_bits(memory, ptr, offset, value.to_bits())
         }
 
-        /// Stores a float at an address.
+        #[doc = concat!("Stores a float at an address: the bits are stored by [`", stringify!($store_bits_at), "`], which is proved.")]
         #[inline]
         pub fn $store_at(memory: &mut [u8], address: usize, value: $float) -> Result<(), TrapCode> {
             $store_bits_at(memory, address, value.to_bits())
         }
 
-        /// The float without its sign.
+        /// The float without its sign, by its bits; no contract speaks of floats.
         #[inline]
         pub fn $abs(value: $float) -> $float {
             $from($and($to(value), <$signed>::MAX))
         }
 
-        /// The float with the other sign.
+        /// The float with the other sign, by its bits; no contract speaks of floats.
         #[inline]
         pub fn $neg(value: $float) -> $float {
             $from($xor($to(value), <$signed>::MIN))
         }
 
-        /// The first float with the sign of the second.
+        /// The first float with the sign of the second, by their bits; no contract speaks of floats.
         #[inline]
         pub fn $copysign(lhs: $float, rhs: $float) -> $float {
             $from($or($and($to(lhs), <$signed>::MAX), $and($to(rhs), <$signed>::MIN)))
         }
 
-        /// The bits of a float.
+        /// The bits of a float, as a signed number.
         #[inline]
         pub fn $to(value: $float) -> $signed {
             value.to_bits().cast_signed()
         }
 
-        /// The float of bits.
+        /// The float of bits that are given as a signed number.
         #[inline]
         pub fn $from(value: $signed) -> $float {
             <$float>::from_bits(value.cast_unsigned())

@@ -5,12 +5,19 @@ use core::ops::{Add, BitAnd, BitOr, BitXor, Mul, Not, Shl, Shr, Sub};
 pub mod prelude {
     #![allow(non_camel_case_types)]
     use super::Simd;
+    /// 16 unsigned lanes of 8 bits.
     pub type u8x16 = Simd<u8, 16>;
+    /// 8 unsigned lanes of 16 bits.
     pub type u16x8 = Simd<u16, 8>;
+    /// 4 unsigned lanes of 32 bits.
     pub type u32x4 = Simd<u32, 4>;
+    /// 2 unsigned lanes of 64 bits.
     pub type u64x2 = Simd<u64, 2>;
+    /// 8 unsigned lanes of 32 bits.
     pub type u32x8 = Simd<u32, 8>;
+    /// 8 signed lanes of 16 bits.
     pub type i16x8 = Simd<i16, 8>;
+    /// 4 signed lanes of 32 bits.
     pub type i32x4 = Simd<i32, 4>;
 }
 
@@ -32,12 +39,19 @@ pub trait Lane:
     + BitXor<Output = Self>
     + Not<Output = Self>
 {
+    /// The sum, wrapped to the width.
     fn add(self, other: Self) -> Self;
+    /// The difference, wrapped to the width.
     fn sub(self, other: Self) -> Self;
+    /// The product, wrapped to the width.
     fn mul(self, other: Self) -> Self;
+    /// The bits moved up, by an amount modulo the width.
     fn shl(self, amount: Self) -> Self;
+    /// The bits moved down, by an amount modulo the width; a signed number keeps its sign.
     fn shr(self, amount: Self) -> Self;
+    /// The number.
     fn wide(self) -> i128;
+    /// The number, wrapped to the width.
     fn of_wide(number: i128) -> Self;
 }
 

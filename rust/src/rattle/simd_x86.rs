@@ -53,7 +53,9 @@ pub struct Half<V, const START: usize>(V);
 
 /// What lanes can be cast to.
 pub trait Cast<T> {
+    /// The lanes at twice their width.
     type To;
+    /// Casts them.
     fn to(self) -> Self::To;
 }
 

@@ -13,6 +13,29 @@ use crate::rattle::Vec;
 ///
 /// Own: upstream has no pool.
 ///
+/// # Examples
+///
+/// ```
+/// use wasmi_core_proved::machine::{Call, Fuel, FuelCostsProvider, Machine, MemoryType, Reply};
+/// use wasmi_core_proved::pool::Pool;
+///
+/// // A page for both tenants together, and no tables.
+/// let mut pool = Pool::new(65_536, 0);
+/// for _ in 0..2 {
+///     let machine = Machine::new(Fuel::new(false, FuelCostsProvider::default()));
+///     assert!(pool.add(machine).is_ok());
+/// }
+/// let mut builder = MemoryType::builder();
+/// builder.min(1);
+/// let ty = builder.build()?;
+/// let replies = pool.run(0, &[Call::NewMemory(ty)])?;
+/// assert!(matches!(replies[0], Reply::Made(0)));
+/// let replies = pool.run(1, &[Call::NewMemory(ty)])?;
+/// assert!(matches!(replies[0], Reply::Memory(_)));
+/// assert_eq!((pool.held_bytes(0), pool.held_bytes(1)), (Some(65_536), Some(0)));
+/// # Ok::<(), Box<dyn std::error::Error>>(())
+/// ```
+///
 /// # Model
 ///
 /// <span></span><pre><code>Value = [PoolValue]

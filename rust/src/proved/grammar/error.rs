@@ -6,7 +6,10 @@ use crate::rattle::alloc::AllocError;
 #[derive(Clone, Copy, Debug, PartialEq, Eq)]
 pub enum ParseError {
     /// The first line that is no command, counted from 1.
-    BadCommand { line: usize },
+    BadCommand {
+        /// The number of the line, from 1 on.
+        line: usize,
+    },
     /// There wasn't enough memory for the script.
     OutOfMemory,
 }

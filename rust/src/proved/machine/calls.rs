@@ -36,49 +36,77 @@ pub enum Call {
     NewLentMemory(MemoryType),
     /// Grows a memory by `pages` pages: `Number` of the old size in pages, `NoSuch` if there is no
     /// such memory, or `Memory`.
-    GrowMemory { memory: usize, pages: u64 },
+    GrowMemory {
+        /// The index of the memory.
+        memory: usize,
+        /// How many pages it grows by.
+        pages: u64,
+    },
     /// Drops a memory, whose bytes are given back; its size still counts in the machine's total:
     /// `Done`, or `NoSuch` if there is no such memory.
     DropMemory(usize),
     /// Reads `len` bytes of a memory: `Bytes`, `NoSuch` if there is no such memory, `Memory` if
     /// they end past it, or then `NoRoom` if there is no memory for the reply.
     Read {
+        /// The index of the memory.
         memory: usize,
+        /// The offset in bytes.
         offset: usize,
+        /// How many there are.
         len: usize,
     },
     /// Writes bytes over those of a memory from an offset on: `Done`, `NoSuch` if there is no such
     /// memory, or `Memory` if they would end past it.
     Write {
+        /// The index of the memory.
         memory: usize,
+        /// The offset in bytes.
         offset: usize,
+        /// The bytes to be written.
         bytes: Vec<u8>,
     },
     /// Loads a number from a memory at `ptr + offset`: `Value`, `NoSuch` if there is no such
     /// memory, or `Trap` if it ends past it.
     Load {
+        /// The instruction.
         op: LoadOp,
+        /// The index of the memory.
         memory: usize,
+        /// The address, to which the offset is added.
         ptr: u64,
+        /// The offset in bytes.
         offset: u64,
     },
     /// Stores a number to a memory at `ptr + offset`: `Done`, `NoSuch` if there is no such memory,
     /// or `Trap` if it would end past it.
     Store {
+        /// The instruction.
         op: StoreOp,
+        /// The index of the memory.
         memory: usize,
+        /// The address, to which the offset is added.
         ptr: u64,
+        /// The offset in bytes.
         offset: u64,
+        /// The value that is written or set.
         value: RawVal,
     },
     /// Makes a table of one reference: `Made` with its index, `NoRoom` if there is no memory for
     /// its slot, or `Table`.
-    NewTable { ty: TableType, init: TypedRawRef },
+    NewTable {
+        /// The type.
+        ty: TableType,
+        /// The reference in each new element.
+        init: TypedRawRef,
+    },
     /// Grows a table by `delta` elements: `Number` of the old size in elements, `NoSuch` if there
     /// is no such table, or `Table`.
     GrowTable {
+        /// The index of the table.
         table: usize,
+        /// How many elements it grows by.
         delta: u64,
+        /// The reference in each new element.
         init: TypedRawRef,
     },
     /// Drops a table, whose elements are given back; its size still counts in the machine's total:
@@ -86,13 +114,21 @@ pub enum Call {
     DropTable(usize),
     /// Returns the element of a table, if there is one: `Reference`, or `NoSuch` if there is no
     /// such table.
-    GetElement { table: usize, index: u64 },
+    GetElement {
+        /// The index of the table.
+        table: usize,
+        /// The index of the element.
+        index: u64,
+    },
     /// Sets an element of a table: `Done`, `NoSuch` if there is no such table, or `Table` with
     /// `ElementTypeMismatch` if the reference isn't of the type of the elements, then
     /// `SetOutOfBounds` if the index is past the end.
     SetElement {
+        /// The index of the table.
         table: usize,
+        /// The index of the element.
         index: u64,
+        /// The value that is written or set.
         value: TypedRawRef,
     },
     /// Copies `len` items of an element segment, from `src` on, over the elements of a table from
@@ -100,10 +136,15 @@ pub enum Call {
     /// `ElementTypeMismatch` if their types differ, then `InitOutOfBounds` if a range ends past the
     /// segment or the table, then `OutOfFuel`; copying no items costs no fuel.
     InitTable {
+        /// The index of the table.
         table: usize,
+        /// The index of the element segment.
         segment: usize,
+        /// Where the result goes.
         dst: u64,
+        /// Where the first of them stands.
         src: u32,
+        /// How many there are.
         len: u32,
     },
     /// Copies `len` elements of a table, from `src` on, over those of another or of itself from
@@ -112,10 +153,15 @@ pub enum Call {
     /// `OutOfFuel`, which is tested also for no element. If ranges of one table overlap, the old
     /// elements are copied.
     CopyTable {
+        /// The index of the table that is written.
         dst_table: usize,
+        /// Where the result goes.
         dst: u64,
+        /// The index of the table that is read.
         src_table: usize,
+        /// Where the first of them stands.
         src: u64,
+        /// How many there are.
         len: u64,
     },
     /// Fills `len` elements of a table with a reference, from `dst` on: `Done`, `NoSuch` if there
@@ -123,104 +169,198 @@ pub enum Call {
     /// of the elements, then `FillOutOfBounds` if they end past the table, then `OutOfFuel`, which
     /// is tested also for no element.
     FillTable {
+        /// The index of the table.
         table: usize,
+        /// Where the result goes.
         dst: u64,
+        /// The value that is written or set.
         value: TypedRawRef,
+        /// How many there are.
         len: u64,
     },
     /// Makes an element segment: `Made` with its index, `NoRoom` if there is no memory for its
     /// slot, or `Segment`.
-    NewSegment { ty: RefType, items: Vec<RawRef> },
+    NewSegment {
+        /// The type.
+        ty: RefType,
+        /// The references.
+        items: Vec<RawRef>,
+    },
     /// Drops the items of an element segment, which stays: `Done`, or `NoSuch` if there is no such
     /// segment.
     DropItems(usize),
     /// Makes a global: `Made` with its index, or `NoRoom` if there is no memory for its slot.
-    NewGlobal { value: RawVal, ty: GlobalType },
+    NewGlobal {
+        /// The value that is written or set.
+        value: RawVal,
+        /// The type.
+        ty: GlobalType,
+    },
     /// Sets a global: `Done`, `NoSuch` if there is no such global, or `Global` with
     /// `ImmutableWrite` if it is a constant, then `TypeMismatch` if the value isn't of its type.
-    SetGlobal { global: usize, value: TypedRawVal },
+    SetGlobal {
+        /// The index of the global.
+        global: usize,
+        /// The value that is written or set.
+        value: TypedRawVal,
+    },
     /// Returns the value of a global: `Value`, or `NoSuch` if there is no such global.
     GetGlobal(usize),
     /// Sets a register: `Done`, or `NoSuch` if there is no such register.
-    SetRegister { dst: u8, value: RawVal },
+    SetRegister {
+        /// Where the result goes.
+        dst: u8,
+        /// The value that is written or set.
+        value: RawVal,
+    },
     /// Returns the value of a register: `Value`, or `NoSuch` if there is no such register.
     GetRegister(u8),
     /// Makes a vector of the item in register `a`: `Done`, or `NoSuch` if there is no such
     /// register.
-    Make { op: MakeOp, dst: u8, a: u8 },
+    Make {
+        /// The instruction.
+        op: MakeOp,
+        /// Where the result goes.
+        dst: u8,
+        /// The register of the first operand.
+        a: u8,
+    },
     /// Executes an instruction of one vector: `Done`, or `NoSuch` if there is no such register.
-    Unary { op: UnaryOp, dst: u8, a: u8 },
+    Unary {
+        /// The instruction.
+        op: UnaryOp,
+        /// Where the result goes.
+        dst: u8,
+        /// The register of the first operand.
+        a: u8,
+    },
     /// Executes an instruction of two vectors: `Done`, or `NoSuch` if there is no such register.
-    Binary { op: BinaryOp, dst: u8, a: u8, b: u8 },
+    Binary {
+        /// The instruction.
+        op: BinaryOp,
+        /// Where the result goes.
+        dst: u8,
+        /// The register of the first operand.
+        a: u8,
+        /// The register of the second operand.
+        b: u8,
+    },
     /// Executes an instruction of three vectors: `Done`, or `NoSuch` if there is no such register.
     Ternary {
+        /// The instruction.
         op: TernaryOp,
+        /// Where the result goes.
         dst: u8,
+        /// The register of the first operand.
         a: u8,
+        /// The register of the second operand.
         b: u8,
+        /// The register of the third operand.
         c: u8,
     },
     /// Shifts the lanes of a vector by `amount` modulo their width: `Done`, or `NoSuch` if there is
     /// no such register.
     Shift {
+        /// The instruction.
         op: ShiftOp,
+        /// Where the result goes.
         dst: u8,
+        /// The register of the first operand.
         a: u8,
+        /// By how many bits.
         amount: u32,
     },
     /// Tests a vector, or takes its mask: `Value`, or `NoSuch` if there is no such register.
-    Test { op: TestOp, a: u8 },
+    Test {
+        /// The instruction.
+        op: TestOp,
+        /// The register of the first operand.
+        a: u8,
+    },
     /// Takes a lane from a vector: `Value`, or `NoSuch` if there is no such register.
-    Extract { op: ExtractOp, a: u8 },
+    Extract {
+        /// The instruction.
+        op: ExtractOp,
+        /// The register of the first operand.
+        a: u8,
+    },
     /// Puts the item in register `item` into a lane of a vector: `Done`, or `NoSuch` if there is no
     /// such register.
     Replace {
+        /// The instruction.
         op: ReplaceOp,
+        /// Where the result goes.
         dst: u8,
+        /// The register of the first operand.
         a: u8,
+        /// The register of the item.
         item: u8,
     },
     /// Picks bytes of two vectors: `Done`, or `NoSuch` if there is no such register.
     Shuffle {
+        /// Where the result goes.
         dst: u8,
+        /// The register of the first operand.
         a: u8,
+        /// The register of the second operand.
         b: u8,
+        /// The index of the byte for each lane.
         lanes: [ImmLaneIdx32; 16],
     },
     /// Loads a vector from a memory at `ptr + offset`: `Done`, `NoSuch` if there is no such memory
     /// or register, or `Trap` if it ends past it.
     VectorLoad {
+        /// The instruction.
         op: VectorLoadOp,
+        /// Where the result goes.
         dst: u8,
+        /// The index of the memory.
         memory: usize,
+        /// The address, to which the offset is added.
         ptr: u64,
+        /// The offset in bytes.
         offset: u64,
     },
     /// Loads a lane of a vector from a memory at `ptr + offset`: `Done`, `NoSuch` if there is no
     /// such memory or register, or `Trap` if it ends past it.
     LoadLane {
+        /// The instruction.
         op: LoadLaneOp,
+        /// Where the result goes.
         dst: u8,
+        /// The register of the first operand.
         a: u8,
+        /// The index of the memory.
         memory: usize,
+        /// The address, to which the offset is added.
         ptr: u64,
+        /// The offset in bytes.
         offset: u64,
     },
     /// Stores a vector to a memory at `ptr + offset`: `Done`, `NoSuch` if there is no such memory
     /// or register, or `Trap` if it would end past it.
     VectorStore {
+        /// The register of the first operand.
         a: u8,
+        /// The index of the memory.
         memory: usize,
+        /// The address, to which the offset is added.
         ptr: u64,
+        /// The offset in bytes.
         offset: u64,
     },
     /// Stores a lane of a vector to a memory at `ptr + offset`: `Done`, `NoSuch` if there is no
     /// such memory or register, or `Trap` if it would end past it.
     StoreLane {
+        /// The instruction.
         op: StoreLaneOp,
+        /// The register of the first operand.
         a: u8,
+        /// The index of the memory.
         memory: usize,
+        /// The address, to which the offset is added.
         ptr: u64,
+        /// The offset in bytes.
         offset: u64,
     },
 }
@@ -280,7 +420,7 @@ impl Call {
     }
 
     /// Whether it is `SetFuel`. A list without one can be billed: see
-    /// [`crate::proved::machine::laws::charges_are_spent`].
+    /// [`laws::charges_are_spent`](crate::proved::machine::laws::charges_are_spent).
     ///
     /// # Contract
     ///

@@ -16,9 +16,35 @@ use crate::rattle::Vec;
 /// fuel meter, and at most one spare region: a borrowed buffer in which a memory can be made; `'r`
 /// is its lifetime.
 ///
-/// Its state is valid at any time: see [`crate::proved::machine::laws::states_are_valid`].
+/// Its state is valid at any time: see [`laws::states_are_valid`](crate::proved::machine::laws::states_are_valid).
 ///
 /// Own: upstream's interpreter has a store of its own.
+///
+/// # Examples
+///
+/// ```
+/// use wasmi_core_proved::RawVal;
+/// use wasmi_core_proved::machine::{
+///     Call, Fuel, FuelCostsProvider, Machine, MemoryType, NoLimits, Reply, run_lending,
+/// };
+/// use wasmi_core_proved::ops::{LoadOp, StoreOp};
+///
+/// let mut machine = Machine::new(Fuel::new(false, FuelCostsProvider::default()));
+/// let mut builder = MemoryType::builder();
+/// builder.min(1);
+/// let value = RawVal::from(7_i32);
+/// let calls = [
+///     Call::NewMemory(builder.build()?),
+///     Call::Store { op: StoreOp::Store32, memory: 0, ptr: 8, offset: 0, value },
+///     Call::Load { op: LoadOp::LoadU32, memory: 0, ptr: 4, offset: 4 },
+///     Call::DropMemory(0),
+///     Call::Load { op: LoadOp::LoadU32, memory: 0, ptr: 4, offset: 4 },
+/// ];
+/// let replies = run_lending(&mut machine, &calls, &mut NoLimits)?;
+/// assert!(matches!(&replies[2], Reply::Value(raw) if raw.to_bits64() == 7));
+/// assert!(matches!(replies[4], Reply::NoSuch));
+/// # Ok::<(), Box<dyn std::error::Error>>(())
+/// ```
 ///
 /// # Model
 ///

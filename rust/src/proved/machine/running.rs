@@ -36,7 +36,7 @@ impl<'r> Machine<'r> {
 
     /// Grows a memory by so many pages, as `step` does for `Call::GrowMemory`. The reply is
     /// `Number` with the old size in pages, `NoSuch` if there is no such memory, or `Memory` with
-    /// an error of [`crate::proved::store::LinearMemory::grow`].
+    /// an error of [`LinearMemory::grow`](crate::proved::store::LinearMemory::grow).
     ///
     /// Own: upstream's interpreter has the memory itself.
     ///

@@ -44,7 +44,10 @@ pub enum MemoryError {
     /// Never returned on a platform where `usize` has 64 bits.
     MaximumSizeOverflow,
     /// A growth costs more fuel than is left.
-    OutOfFuel { required_fuel: u64 },
+    OutOfFuel {
+        /// How much fuel the call takes.
+        required_fuel: u64,
+    },
 }
 
 impl fmt::Display for MemoryError {
@@ -105,7 +108,10 @@ pub enum TableError {
     /// A reference or an element segment of another type than the table's elements.
     ElementTypeMismatch,
     /// A call costs more fuel than is left.
-    OutOfFuel { required_fuel: u64 },
+    OutOfFuel {
+        /// How much fuel the call takes.
+        required_fuel: u64,
+    },
 }
 
 impl fmt::Display for TableError {

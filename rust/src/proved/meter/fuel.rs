@@ -182,7 +182,10 @@ pub enum FuelError {
     /// The meter is off, so there is no fuel to set, read or consume.
     FuelMeteringDisabled,
     /// Less fuel is left than the `required_fuel` that was asked for. The text is upstream's.
-    OutOfFuel { required_fuel: u64 },
+    OutOfFuel {
+        /// How much fuel the call takes.
+        required_fuel: u64,
+    },
 }
 
 impl FuelError {
@@ -222,6 +225,24 @@ impl core::error::Error for FuelError {}
 /// A fuel meter. It is on or off, and stays so.
 ///
 /// Upstream: `wasmi_core::Fuel`.
+///
+/// # Examples
+///
+/// ```
+/// use wasmi_core_proved::{Fuel, FuelCostsProvider, FuelError};
+///
+/// let mut fuel = Fuel::new(true, FuelCostsProvider::default());
+/// fuel.set_fuel(10)?;
+/// assert_eq!(fuel.consume_fuel(|costs| costs.fuel_for_copying_values::<u8>(256))?, 6);
+/// let refused = fuel.consume_fuel(|_| 7);
+/// assert!(matches!(refused, Err(FuelError::OutOfFuel { required_fuel: 7 })));
+/// assert_eq!(fuel.get_fuel()?, 6);
+///
+/// // A meter that is off: nothing is charged.
+/// let mut off = Fuel::new(false, FuelCostsProvider::default());
+/// assert!(matches!(off.get_fuel(), Err(FuelError::FuelMeteringDisabled)));
+/// # Ok::<(), FuelError>(())
+/// ```
 ///
 /// # Model
 ///

@@ -111,6 +111,31 @@ pub trait ResourceLimiter {
 ///
 /// Own: upstream has no such trait.
 ///
+/// # Examples
+///
+/// ```
+/// use wasmi_core_proved::machine::{Kind, LimiterByKind, LimiterError, Memory, MemoryType};
+///
+/// /// Permits each memory up to so many bytes, and no table.
+/// struct AtMost(usize);
+///
+/// impl LimiterByKind for AtMost {
+///     fn growing(&mut self, kind: Kind, _from: usize, to: usize) -> Result<bool, LimiterError> {
+///         Ok(kind == Kind::Bytes && to <= self.0)
+///     }
+///     fn grow_failed(&mut self, _kind: Kind) -> Result<(), LimiterError> {
+///         Ok(())
+///     }
+/// }
+///
+/// let mut builder = MemoryType::builder();
+/// builder.min(2);
+/// let ty = builder.build()?;
+/// assert!(Memory::new_lending(ty, &mut AtMost(131_072)).is_ok());
+/// assert!(Memory::new_lending(ty, &mut AtMost(131_071)).is_err());
+/// # Ok::<(), wasmi_core_proved::MemoryError>(())
+/// ```
+///
 /// # Contract
 ///
 /// <span></span><pre><code><i>\-\- The answers that it may give to a question and to a notice, and its state afterwards.</i>

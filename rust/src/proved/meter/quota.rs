@@ -11,6 +11,26 @@ use crate::proved::meter::reserving::Reserving;
 /// kind, once. It can't be copied, since a copy would count on its own.
 ///
 /// Own: upstream implements no limiter.
+///
+/// # Examples
+///
+/// ```
+/// use wasmi_core_proved::machine::{Memory, MemoryType, Quota};
+///
+/// // A page for all memories together, and no tables.
+/// let mut quota = Quota::new(65_536, 0);
+/// let mut builder = MemoryType::builder();
+/// builder.min(1);
+/// let ty = builder.build()?;
+/// let memory = Memory::new_lending(ty, &mut quota)?;
+/// assert_eq!(quota.held_bytes(), 65_536);
+/// assert!(Memory::new_lending(ty, &mut quota).is_err());
+///
+/// // What was dropped still counts.
+/// drop(memory);
+/// assert!(Memory::new_lending(ty, &mut quota).is_err());
+/// # Ok::<(), wasmi_core_proved::MemoryError>(())
+/// ```
 #[derive(Debug)]
 pub struct Quota {
     caps: Amounts,

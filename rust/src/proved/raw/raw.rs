@@ -4,6 +4,25 @@
 ///
 /// A value of up to 64 bits stands in `lo`, and a vector in both words. The order is that of `lo`,
 /// then of `hi`. C has it as a struct of the two. Upstream: `wasmi_core::RawVal`.
+///
+/// # Examples
+///
+/// ```
+/// use wasmi_core_proved::{RawVal, ReadAs, V128, WriteAs};
+///
+/// let raw = RawVal::from(-1_i32);
+/// assert_eq!(raw.to_bits64(), 0xffff_ffff);
+/// assert_eq!(i32::from(raw), -1);
+///
+/// let mut register = RawVal::default();
+/// register.write_as(V128::from(7_u128 << 64));
+/// let vector: V128 = register.read_as();
+/// assert_eq!(vector.as_u128(), 7 << 64);
+/// // An integer is written over the low word alone.
+/// register.write_as(3_u64);
+/// let vector: V128 = register.read_as();
+/// assert_eq!(vector.as_u128(), (7 << 64) + 3);
+/// ```
 #[repr(C)]
 #[derive(Clone, Copy, Default, PartialEq, Eq, PartialOrd, Ord)]
 pub struct RawVal {

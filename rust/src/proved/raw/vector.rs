@@ -4,6 +4,17 @@
 ///
 /// It is kept as two words of 64 bits. Upstream: `wasmi_core::V128`.
 ///
+/// # Examples
+///
+/// ```
+/// use wasmi_core_proved::{V128, simd};
+///
+/// // Lane 0 is the lowest.
+/// let vector = V128::from(0x0004_0003_0002_0001_u128);
+/// assert_eq!(simd::i16x8_add(vector, vector).as_u128(), 0x0008_0006_0004_0002);
+/// assert_eq!(simd::v128_xor(vector, vector).as_u128(), 0);
+/// ```
+///
 /// # Model
 ///
 /// <span></span><pre><code>Value = [ℕ]

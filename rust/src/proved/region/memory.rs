@@ -46,6 +46,28 @@ pub fn pages(ty: MemoryType, size: usize) -> u64 {
 /// the region is shorter than the minimum, of which the limiter is notified. After an error the
 /// bytes of the region are unchanged.
 ///
+/// # Examples
+///
+/// ```
+/// use wasmi_core_proved::machine::{Fuel, FuelCostsProvider, MemoryType, NoLimits, ResourceLimiterRef};
+/// use wasmi_core_proved::region::memory;
+///
+/// let mut builder = MemoryType::builder();
+/// builder.min(2).max(Some(8)).page_size_log2(0);
+/// let ty = builder.build()?;
+/// let mut fuel = Fuel::new(false, FuelCostsProvider::default());
+/// let mut limiter = ResourceLimiterRef::<NoLimits>::default();
+///
+/// // The memory is the first `size` bytes of the region; the rest is room to grow.
+/// let mut region = [9; 5];
+/// let mut size = memory::make(ty, &mut region, &mut limiter)?;
+/// assert_eq!((size, region), (2, [0, 0, 9, 9, 9]));
+/// assert_eq!(memory::grow(ty, &mut size, &mut region, 2, &mut fuel, &mut limiter)?, 2);
+/// assert_eq!((size, region), (4, [0, 0, 0, 0, 9]));
+/// assert!(memory::grow(ty, &mut size, &mut region, 2, &mut fuel, &mut limiter).is_err());
+/// # Ok::<(), wasmi_core_proved::MemoryError>(())
+/// ```
+///
 /// # Contract
 ///
 /// <span></span><pre><code>ensures loan: [KeepsLoan] limiter.old limiter.new
@@ -85,7 +107,7 @@ pub fn make<L: ResourceLimiter>(
 /// returns the old size in pages; `size` becomes the new size in bytes. A growth by 0 pages changes
 /// nothing and asks no limiter.
 ///
-/// The errors are those of [`crate::proved::store::LinearMemory::grow`] on a lent region.
+/// The errors are those of [`LinearMemory::grow`](crate::proved::store::LinearMemory::grow) on a lent region.
 ///
 /// # Panics
 ///

@@ -72,7 +72,7 @@ pub fn make<L: ResourceLimiter>(
 /// and returns the old size; `size` becomes the new one. A growth by 0 changes nothing and asks no
 /// limiter.
 ///
-/// The errors are those of [`crate::proved::store::Table::grow_raw`], of which `OutOfSystemMemory` means
+/// The errors are those of [`Table::grow_raw`](crate::proved::store::Table::grow_raw), of which `OutOfSystemMemory` means
 /// that the region is shorter than the new size.
 ///
 /// # Panics
@@ -190,7 +190,7 @@ pub fn set(
 }
 
 /// Fills `len` elements from `dst` on with a reference. The errors are those of
-/// [`crate::proved::store::Table::fill_raw`].
+/// [`Table::fill_raw`](crate::proved::store::Table::fill_raw).
 ///
 /// # Contract
 ///
@@ -225,7 +225,7 @@ pub fn fill(
 }
 
 /// Copies `len` elements from `src` on over those from `dst` on. The errors are those of
-/// [`crate::proved::store::Table::copy_within`].
+/// [`Table::copy_within`](crate::proved::store::Table::copy_within).
 ///
 /// # Contract
 ///
@@ -259,7 +259,7 @@ pub fn copy_within(
 }
 
 /// Copies `len` items of a table, from `src` on, over the elements of another table from `dst` on.
-/// The errors are those of [`crate::proved::store::Table::copy`].
+/// The errors are those of [`Table::copy`](crate::proved::store::Table::copy).
 ///
 /// # Contract
 ///
@@ -296,7 +296,7 @@ pub fn copy(
 }
 
 /// Copies `len` items of the type of a table's elements, from `src` on, over the elements from
-/// `dst` on. The errors are those of [`crate::proved::store::Table::init`].
+/// `dst` on. The errors are those of [`Table::init`](crate::proved::store::Table::init).
 ///
 /// # Contract
 ///

@@ -45,6 +45,20 @@ impl Status {
 /// Reads the script, runs it and prints its replies, or prints why it isn't run. A line that can't
 /// be printed makes the status `Fault`; what went out before it stays.
 ///
+/// # Examples
+///
+/// ```
+/// use wasmi_core_proved::script::{Status, replay};
+///
+/// let script = "memory 1 2 16 32\ngrow 0 1\ngrow 0 1\n";
+/// let mut printed = Vec::new();
+/// let status = replay(&mut script.as_bytes(), &mut printed);
+/// assert_eq!(status, Status::Answered);
+/// let printed = String::from_utf8(printed)?;
+/// assert!(printed.starts_with("memory 0\nvalue 1\n"));
+/// # Ok::<(), Box<dyn std::error::Error>>(())
+/// ```
+///
 /// # Contract
 ///
 /// <span></span><pre><code>ensures ends: [Replays] (R.remaining reader.old) (W.contents writer.old)

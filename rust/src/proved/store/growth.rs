@@ -46,7 +46,7 @@ pub fn permitted_minimum<L: ResourceLimiter>(
 /// is room for them, and the added ones are paid, in this order. The fuel is taken if they may; no
 /// byte is written yet, so it is the same wherever the bytes lie.
 ///
-/// The errors are those of [`crate::proved::store::LinearMemory::grow`] from the limiter's denial to `OutOfFuel`.
+/// The errors are those of [`LinearMemory::grow`](crate::proved::store::LinearMemory::grow) from the limiter's denial to `OutOfFuel`.
 ///
 /// # Panics
 ///

@@ -33,7 +33,7 @@ pub struct LinearMemory<R: Region> {
 
 /// A linear memory of whole pages; `'r` is the lifetime of a buffer that its bytes may lie in.
 ///
-/// It is valid at any time: see [`crate::proved::store::laws::memories_are_valid`].
+/// It is valid at any time: see [`laws::memories_are_valid`](crate::proved::store::laws::memories_are_valid).
 ///
 /// Core specification, memory instances. Upstream: `wasmi_core::Memory`.
 pub type Memory<'r> = LinearMemory<&'r mut [u8]>;

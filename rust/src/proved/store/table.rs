@@ -20,7 +20,7 @@ pub use ty::TableType;
 /// nothing is charged. The forms whose name ends in `_metered` take one that isn't optional. If a
 /// host chooses no other costs, a unit of fuel pays for 64 bytes, and an element has 4 bytes.
 ///
-/// It is valid at any time: see [`crate::proved::store::laws::tables_are_valid`].
+/// It is valid at any time: see [`laws::tables_are_valid`](crate::proved::store::laws::tables_are_valid).
 ///
 /// Core specification, table instances. Upstream: `wasmi_core::Table`.
 ///

@@ -116,6 +116,22 @@ impl GlobalType {
 ///
 /// Core specification 4.2, global instances. Upstream: `wasmi_core::Global`.
 ///
+/// # Examples
+///
+/// ```
+/// use wasmi_core_proved::{Global, GlobalError, GlobalType, Mutability, TypedRawVal, ValType};
+///
+/// let ty = GlobalType::new(ValType::I32, Mutability::Var);
+/// let mut global = Global::new(7_i32.into(), ty);
+/// global.set(TypedRawVal::from(-8_i32))?;
+/// assert_eq!(i32::from(global.get()), -8);
+/// assert!(matches!(global.set(TypedRawVal::from(1_u64)), Err(GlobalError::TypeMismatch)));
+///
+/// let mut constant = Global::new(7_i32.into(), GlobalType::new(ValType::I32, Mutability::Const));
+/// assert!(matches!(constant.set(TypedRawVal::from(8_i32)), Err(GlobalError::ImmutableWrite)));
+/// # Ok::<(), GlobalError>(())
+/// ```
+///
 /// # Model
 ///
 /// <span></span><pre><code>Value = [GlobalInstance]

@@ -78,6 +78,17 @@ impl Typed for V128 {
 /// A raw value with its type.
 ///
 /// Upstream: `wasmi_core::TypedRawVal`.
+///
+/// # Examples
+///
+/// ```
+/// use wasmi_core_proved::{RawVal, TypedRawVal, ValType};
+///
+/// let value = TypedRawVal::from(-3_i64);
+/// assert_eq!((value.ty(), i64::from(value)), (ValType::I64, -3));
+/// let same = TypedRawVal::new(ValType::I64, RawVal::from(-3_i64));
+/// assert_eq!(value, same);
+/// ```
 #[derive(Clone, Copy, PartialEq, Eq)]
 pub struct TypedRawVal {
     /// The type.

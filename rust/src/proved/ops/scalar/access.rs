@@ -10,17 +10,29 @@ use crate::proved::types::TrapCode;
 /// A scalar load.
 #[derive(Clone, Copy, Debug, PartialEq, Eq)]
 pub enum LoadOp {
+    /// [`i32_load8_s`](crate::wasm::i32_load8_s): `i32.load8_s`: 8 bits, read signed.
     I32Load8S,
+    /// [`i32_load8_u`](crate::wasm::i32_load8_u): `i32.load8_u`: 8 bits, read unsigned.
     I32Load8U,
+    /// [`i32_load16_s`](crate::wasm::i32_load16_s): `i32.load16_s`: 16 bits, read signed.
     I32Load16S,
+    /// [`i32_load16_u`](crate::wasm::i32_load16_u): `i32.load16_u`: 16 bits, read unsigned.
     I32Load16U,
+    /// [`i64_load8_s`](crate::wasm::i64_load8_s): `i64.load8_s`: 8 bits, read signed.
     I64Load8S,
+    /// [`i64_load8_u`](crate::wasm::i64_load8_u): `i64.load8_u`: 8 bits, read unsigned.
     I64Load8U,
+    /// [`i64_load16_s`](crate::wasm::i64_load16_s): `i64.load16_s`: 16 bits, read signed.
     I64Load16S,
+    /// [`i64_load16_u`](crate::wasm::i64_load16_u): `i64.load16_u`: 16 bits, read unsigned.
     I64Load16U,
+    /// [`i64_load32_s`](crate::wasm::i64_load32_s): `i64.load32_s`: 32 bits, read signed.
     I64Load32S,
+    /// [`i64_load32_u`](crate::wasm::i64_load32_u): `i64.load32_u`: 32 bits, read unsigned.
     I64Load32U,
+    /// [`load_u32`](crate::wasm::load_u32): `i32.load`: 32 bits, read unsigned.
     LoadU32,
+    /// [`load_u64`](crate::wasm::load_u64): `i64.load`: 64 bits, read unsigned.
     LoadU64,
 }
 
@@ -62,12 +74,19 @@ impl LoadOp {
 /// A scalar store.
 #[derive(Clone, Copy, Debug, PartialEq, Eq)]
 pub enum StoreOp {
+    /// [`i32_store8`](crate::wasm::i32_store8): `i32.store8`: the value modulo 2 to the power 8.
     I32Store8,
+    /// [`i32_store16`](crate::wasm::i32_store16): `i32.store16`: the value modulo 2 to the power 16.
     I32Store16,
+    /// [`i64_store8`](crate::wasm::i64_store8): `i64.store8`: the value modulo 2 to the power 8.
     I64Store8,
+    /// [`i64_store16`](crate::wasm::i64_store16): `i64.store16`: the value modulo 2 to the power 16.
     I64Store16,
+    /// [`i64_store32`](crate::wasm::i64_store32): `i64.store32`: the value modulo 2 to the power 32.
     I64Store32,
+    /// [`store32`](crate::wasm::store32): `i32.store`: the 32 bits of the value.
     Store32,
+    /// [`store64`](crate::wasm::store64): `i64.store`: the 64 bits of the value.
     Store64,
 }
 

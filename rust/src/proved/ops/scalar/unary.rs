@@ -7,21 +7,37 @@ use crate::proved::scalar::wasm;
 /// A scalar instruction of one operand.
 #[derive(Clone, Copy, Debug, PartialEq, Eq)]
 pub enum ScalarUnaryOp {
+    /// [`i32_clz`](crate::wasm::i32_clz): The zeros above the highest bit that is set, 32 for 0.
     I32Clz,
+    /// [`i32_ctz`](crate::wasm::i32_ctz): The zeros below the lowest bit that is set, 32 for 0.
     I32Ctz,
+    /// [`i32_popcnt`](crate::wasm::i32_popcnt): The bits that are set.
     I32Popcnt,
+    /// [`i32_eqz`](crate::wasm::i32_eqz): Whether the number is 0.
     I32Eqz,
+    /// [`i64_clz`](crate::wasm::i64_clz): The zeros above the highest bit that is set, 64 for 0.
     I64Clz,
+    /// [`i64_ctz`](crate::wasm::i64_ctz): The zeros below the lowest bit that is set, 64 for 0.
     I64Ctz,
+    /// [`i64_popcnt`](crate::wasm::i64_popcnt): The bits that are set.
     I64Popcnt,
+    /// [`i64_eqz`](crate::wasm::i64_eqz): Whether the number is 0.
     I64Eqz,
+    /// [`i32_wrap_i64`](crate::wasm::i32_wrap_i64): The low 32 bits.
     I32WrapI64,
+    /// [`i64_extend_i32_s`](crate::wasm::i64_extend_i32_s): The same number.
     I64ExtendI32S,
+    /// [`i64_extend_i32_u`](crate::wasm::i64_extend_i32_u): The same number.
     I64ExtendI32U,
+    /// [`i32_extend8_s`](crate::wasm::i32_extend8_s): The low 8 bits, extended by their sign.
     I32Extend8S,
+    /// [`i32_extend16_s`](crate::wasm::i32_extend16_s): The low 16 bits, extended by their sign.
     I32Extend16S,
+    /// [`i64_extend8_s`](crate::wasm::i64_extend8_s): The low 8 bits, extended by their sign.
     I64Extend8S,
+    /// [`i64_extend16_s`](crate::wasm::i64_extend16_s): The low 16 bits, extended by their sign.
     I64Extend16S,
+    /// [`i64_extend32_s`](crate::wasm::i64_extend32_s): The low 32 bits, extended by their sign.
     I64Extend32S,
 }
 

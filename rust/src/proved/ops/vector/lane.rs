@@ -8,11 +8,17 @@ use crate::proved::raw::{RawVal, ReadAs, V128};
 /// A lane that is taken from a vector, with its index.
 #[derive(Clone, Copy, Debug, PartialEq, Eq)]
 pub enum ExtractOp {
+    /// [`i8x16_extract_lane_s`](crate::simd::i8x16_extract_lane_s): One lane, read signed.
     I8x16ExtractLaneS(ImmLaneIdx16),
+    /// [`i8x16_extract_lane_u`](crate::simd::i8x16_extract_lane_u): One lane, read unsigned.
     I8x16ExtractLaneU(ImmLaneIdx16),
+    /// [`i16x8_extract_lane_s`](crate::simd::i16x8_extract_lane_s): One lane, read signed.
     I16x8ExtractLaneS(ImmLaneIdx8),
+    /// [`i16x8_extract_lane_u`](crate::simd::i16x8_extract_lane_u): One lane, read unsigned.
     I16x8ExtractLaneU(ImmLaneIdx8),
+    /// [`i32x4_extract_lane`](crate::simd::i32x4_extract_lane): One lane, read signed.
     I32x4ExtractLane(ImmLaneIdx4),
+    /// [`i64x2_extract_lane`](crate::simd::i64x2_extract_lane): One lane, read signed.
     I64x2ExtractLane(ImmLaneIdx2),
 }
 
@@ -43,9 +49,13 @@ impl ExtractOp {
 /// A lane of a vector that takes an item, with its index.
 #[derive(Clone, Copy, Debug, PartialEq, Eq)]
 pub enum ReplaceOp {
+    /// [`i8x16_replace_lane`](crate::simd::i8x16_replace_lane): `v` with the item in one lane.
     I8x16ReplaceLane(ImmLaneIdx16),
+    /// [`i16x8_replace_lane`](crate::simd::i16x8_replace_lane): `v` with the item in one lane.
     I16x8ReplaceLane(ImmLaneIdx8),
+    /// [`i32x4_replace_lane`](crate::simd::i32x4_replace_lane): `v` with the item in one lane.
     I32x4ReplaceLane(ImmLaneIdx4),
+    /// [`i64x2_replace_lane`](crate::simd::i64x2_replace_lane): `v` with the item in one lane.
     I64x2ReplaceLane(ImmLaneIdx2),
 }
 

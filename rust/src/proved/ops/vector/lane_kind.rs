@@ -7,11 +7,17 @@ use crate::proved::ops::vector::lane::{ExtractOp, ReplaceOp, extractions, replac
 /// A lane that is taken from a vector, whatever the lane.
 #[derive(Clone, Copy, Debug, PartialEq, Eq)]
 pub enum ExtractKind {
+    /// [`i8x16_extract_lane_s`](crate::simd::i8x16_extract_lane_s): One lane, read signed.
     I8x16ExtractLaneS,
+    /// [`i8x16_extract_lane_u`](crate::simd::i8x16_extract_lane_u): One lane, read unsigned.
     I8x16ExtractLaneU,
+    /// [`i16x8_extract_lane_s`](crate::simd::i16x8_extract_lane_s): One lane, read signed.
     I16x8ExtractLaneS,
+    /// [`i16x8_extract_lane_u`](crate::simd::i16x8_extract_lane_u): One lane, read unsigned.
     I16x8ExtractLaneU,
+    /// [`i32x4_extract_lane`](crate::simd::i32x4_extract_lane): One lane, read signed.
     I32x4ExtractLane,
+    /// [`i64x2_extract_lane`](crate::simd::i64x2_extract_lane): One lane, read signed.
     I64x2ExtractLane,
 }
 
@@ -35,9 +41,13 @@ impl ExtractKind {
 /// A lane of a vector that takes an item, whatever the lane.
 #[derive(Clone, Copy, Debug, PartialEq, Eq)]
 pub enum ReplaceKind {
+    /// [`i8x16_replace_lane`](crate::simd::i8x16_replace_lane): `v` with the item in one lane.
     I8x16ReplaceLane,
+    /// [`i16x8_replace_lane`](crate::simd::i16x8_replace_lane): `v` with the item in one lane.
     I16x8ReplaceLane,
+    /// [`i32x4_replace_lane`](crate::simd::i32x4_replace_lane): `v` with the item in one lane.
     I32x4ReplaceLane,
+    /// [`i64x2_replace_lane`](crate::simd::i64x2_replace_lane): `v` with the item in one lane.
     I64x2ReplaceLane,
 }
 
@@ -61,9 +71,13 @@ impl ReplaceKind {
 /// A load of one lane of a vector, whatever the lane.
 #[derive(Clone, Copy, Debug, PartialEq, Eq)]
 pub enum LoadLaneKind {
+    /// [`v128_load8_lane`](crate::simd::v128_load8_lane): `v128.load8_lane`: `v` with 8 bits in one lane.
     V128Load8Lane,
+    /// [`v128_load16_lane`](crate::simd::v128_load16_lane): `v128.load16_lane`: `v` with 16 bits in one lane.
     V128Load16Lane,
+    /// [`v128_load32_lane`](crate::simd::v128_load32_lane): `v128.load32_lane`: `v` with 32 bits in one lane.
     V128Load32Lane,
+    /// [`v128_load64_lane`](crate::simd::v128_load64_lane): `v128.load64_lane`: `v` with 64 bits in one lane.
     V128Load64Lane,
 }
 
@@ -87,9 +101,13 @@ impl LoadLaneKind {
 /// A store of one lane of a vector, whatever the lane.
 #[derive(Clone, Copy, Debug, PartialEq, Eq)]
 pub enum StoreLaneKind {
+    /// [`v128_store8_lane`](crate::simd::v128_store8_lane): `v128.store8_lane`: the 8 bits of one lane of `v`.
     V128Store8Lane,
+    /// [`v128_store16_lane`](crate::simd::v128_store16_lane): `v128.store16_lane`: the 16 bits of one lane of `v`.
     V128Store16Lane,
+    /// [`v128_store32_lane`](crate::simd::v128_store32_lane): `v128.store32_lane`: the 32 bits of one lane of `v`.
     V128Store32Lane,
+    /// [`v128_store64_lane`](crate::simd::v128_store64_lane): `v128.store64_lane`: the 64 bits of one lane of `v`.
     V128Store64Lane,
 }
 

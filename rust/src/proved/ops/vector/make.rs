@@ -8,17 +8,29 @@ use crate::proved::widening::simd;
 /// A vector instruction whose operand is an item.
 #[derive(Clone, Copy, Debug, PartialEq, Eq)]
 pub enum MakeOp {
+    /// [`i8x16_splat`](crate::simd::i8x16_splat): The item in every lane.
     I8x16Splat,
+    /// [`i16x8_splat`](crate::simd::i16x8_splat): The item in every lane.
     I16x8Splat,
+    /// [`i32x4_splat`](crate::simd::i32x4_splat): The item in every lane.
     I32x4Splat,
+    /// [`i64x2_splat`](crate::simd::i64x2_splat): The item in every lane.
     I64x2Splat,
+    /// [`v128_widen8x8_s`](crate::simd::v128_widen8x8_s): The 8 lanes of 8 bits of a number, read signed, lane 0 the lowest.
     V128Widen8x8S,
+    /// [`v128_widen8x8_u`](crate::simd::v128_widen8x8_u): The 8 lanes of 8 bits of a number, read unsigned, lane 0 the lowest.
     V128Widen8x8U,
+    /// [`v128_widen16x4_s`](crate::simd::v128_widen16x4_s): The 4 lanes of 16 bits of a number, read signed, lane 0 the lowest.
     V128Widen16x4S,
+    /// [`v128_widen16x4_u`](crate::simd::v128_widen16x4_u): The 4 lanes of 16 bits of a number, read unsigned, lane 0 the lowest.
     V128Widen16x4U,
+    /// [`v128_widen32x2_s`](crate::simd::v128_widen32x2_s): The 2 lanes of 32 bits of a number, read signed, lane 0 the lowest.
     V128Widen32x2S,
+    /// [`v128_widen32x2_u`](crate::simd::v128_widen32x2_u): The 2 lanes of 32 bits of a number, read unsigned, lane 0 the lowest.
     V128Widen32x2U,
+    /// [`v128_low32_zero`](crate::simd::v128_low32_zero): The number in lane 0, and 0 in the others.
     V128Low32Zero,
+    /// [`v128_low64_zero`](crate::simd::v128_low64_zero): The number in lane 0, and 0 in the others.
     V128Low64Zero,
 }
 

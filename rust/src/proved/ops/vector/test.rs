@@ -7,14 +7,23 @@ use crate::proved::widening::simd;
 /// A test of a vector, or its mask.
 #[derive(Clone, Copy, Debug, PartialEq, Eq)]
 pub enum TestOp {
+    /// [`i8x16_all_true`](crate::simd::i8x16_all_true): Whether no lane is 0.
     I8x16AllTrue,
+    /// [`i16x8_all_true`](crate::simd::i16x8_all_true): Whether no lane is 0.
     I16x8AllTrue,
+    /// [`i32x4_all_true`](crate::simd::i32x4_all_true): Whether no lane is 0.
     I32x4AllTrue,
+    /// [`i64x2_all_true`](crate::simd::i64x2_all_true): Whether no lane is 0.
     I64x2AllTrue,
+    /// [`v128_any_true`](crate::simd::v128_any_true): Whether some bit is 1.
     V128AnyTrue,
+    /// [`i8x16_bitmask`](crate::simd::i8x16_bitmask): The highest bits of the lanes, that of lane i at bit i.
     I8x16Bitmask,
+    /// [`i16x8_bitmask`](crate::simd::i16x8_bitmask): The highest bits of the lanes, that of lane i at bit i.
     I16x8Bitmask,
+    /// [`i32x4_bitmask`](crate::simd::i32x4_bitmask): The highest bits of the lanes, that of lane i at bit i.
     I32x4Bitmask,
+    /// [`i64x2_bitmask`](crate::simd::i64x2_bitmask): The highest bits of the lanes, that of lane i at bit i.
     I64x2Bitmask,
 }
 

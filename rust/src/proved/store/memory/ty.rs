@@ -58,6 +58,22 @@ impl PageSize {
 ///
 /// Core specification, memory types. Upstream: `wasmi_core::MemoryType`.
 ///
+/// # Examples
+///
+/// ```
+/// use wasmi_core_proved::MemoryType;
+///
+/// let mut builder = MemoryType::builder();
+/// builder.min(1).max(Some(4));
+/// let ty = builder.build()?;
+/// assert_eq!((ty.minimum(), ty.maximum(), ty.page_size()), (1, Some(4), 65_536));
+///
+/// let mut builder = MemoryType::builder();
+/// builder.min(5).max(Some(4));
+/// assert!(builder.build().is_err());
+/// # Ok::<(), wasmi_core_proved::MemoryError>(())
+/// ```
+///
 /// # Model
 ///
 /// <span></span><pre><code>Value = [MemoryTypeValue]
