@@ -1,0 +1,3 @@
+pub mod Runs
+pub mod Meters
+pub mod Places

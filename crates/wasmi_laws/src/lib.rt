@@ -1,0 +1,7 @@
+//! Laws of the machine over turns and runs: each function does nothing, and states a law as its
+//! contract.
+#![tactic(auto)]
+
+mod meters;
+mod places;
+mod runs;

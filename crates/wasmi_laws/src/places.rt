@@ -1,0 +1,1 @@
+//! Laws of the memories, tables, globals and registers that calls name.
