@@ -1,0 +1,2 @@
+pub mod RunsLemmas
+pub mod RefusalLemmas

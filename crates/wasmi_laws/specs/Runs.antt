@@ -1,1 +1,82 @@
 -- Laws of whole runs.
+use Rattle.std.specs.Prelude.{◌≡◌, ◌≤◌, ◌++◌, ℕ, List, length, take, drop, map, Some, slice_get, All}
+use Rattle.wasmi_meter.specs.declared.limiter.Kind.{Kind}
+use Rattle.wasmi_meter.specs.declared.error.MemoryError.TheVariants as memory
+use Rattle.wasmi_meter.specs.declared.error.TableError.TheVariants as table
+use Rattle.wasmi_meter.specs.Limiter.{Rules}
+use Rattle.wasmi_core.specs.declared.calls.Call.{Call}
+use Rattle.wasmi_core.specs.declared.calls.Reply.{Reply}
+use Rattle.wasmi_core.specs.declared.calls.Reply.TheVariants as reply
+use Rattle.wasmi_core.specs.World.{World, Turn, IsRefusal}
+use Rattle.wasmi_core.specs.Steps.{Step}
+use Rattle.wasmi_core.specs.Exchange.{Nowhere, place_of}
+use Rattle.wasmi_core.specs.Runs.{Run, IsRunOf}
+use Rattle.wasmi_core.specs.Totals.{sizes, total}
+
+-- the replies are those of two runs in a row: of the first calls, and of the others from where these end
+pub record IsRunInTwo {S : Type 0} (rules : Rules S) (first rest : List Call) (u : World S) (replies : List Reply)
+    (w : World S) : Type 0 where
+  pub between : World S
+  pub first_run : IsRunOf rules first u (take (length first) replies) between
+  pub rest_run : IsRunOf rules rest between (drop (length first) replies) w
+
+-- The reply is a refusal that is found before the limiter is asked and before anything is charged: a trap, an index that
+-- names nothing, an access past the end, another type, metering that is off, and no place for a new slot.
+abbrev pub IsPlainRefusal : Reply → Type 0
+IsPlainRefusal (reply.Memory memory.OutOfBoundsAccess) = Unit {0}
+IsPlainRefusal (reply.Table table.InitOutOfBounds) = Unit {0}
+IsPlainRefusal (reply.Table table.FillOutOfBounds) = Unit {0}
+IsPlainRefusal (reply.Table table.SetOutOfBounds) = Unit {0}
+IsPlainRefusal (reply.Table table.CopyOutOfBounds) = Unit {0}
+IsPlainRefusal (reply.Table table.ElementTypeMismatch) = Unit {0}
+IsPlainRefusal (reply.Fuel error) = Unit {0}
+IsPlainRefusal (reply.Global error) = Unit {0}
+IsPlainRefusal (reply.Segment error) = Unit {0}
+IsPlainRefusal (reply.Trap code) = Unit {0}
+IsPlainRefusal reply.NoSuch = Unit {0}
+IsPlainRefusal reply.NoRegion = Unit {0}
+IsPlainRefusal reply.NoRoom = Unit {0}
+IsPlainRefusal other = ⊥
+
+module _ {S : Type 0} (rules : Rules S) where
+  -- a run of turns is, at each place, a run of those before it, and a run of the others from where these end
+  abbrev pub RunsAreCut : Type 0
+  RunsAreCut =
+      (u : World S) (turns turns' : List Turn) (w : World S) → Run rules u (turns ++ turns') w
+      → (v : World S) × Run rules u turns v × Run rules v turns' w
+
+  -- a run of calls is, at each place, two runs in a row
+  abbrev pub RunsOfCallsAreCut : Type 0
+  RunsOfCallsAreCut =
+      (calls calls' : List Call) (u : World S) (replies : List Reply) (w : World S)
+      → IsRunOf rules (calls ++ calls') u replies w → IsRunInTwo rules calls calls' u replies w
+
+  -- each size, of a memory in bytes or of a table in elements, stays at its index in a run and doesn't shrink
+  abbrev pub SizesNeverShrink : Type 0
+  SizesNeverShrink =
+      (w : World S) (turns : List Turn) (w' : World S) → Run rules w turns w'
+      → (kind : Kind) (k n : ℕ) → slice_get (sizes w.state kind) k ≡ Some n
+      → (n' : ℕ) × (slice_get (sizes w'.state kind) k ≡ Some n') × (n ≤ n')
+
+  -- the totals of a machine don't shrink in a run
+  abbrev pub TotalsNeverShrink : Type 0
+  TotalsNeverShrink =
+      (w : World S) (turns : List Turn) (w' : World S) → Run rules w turns w'
+      → (kind : Kind) → total w.state kind ≤ total w'.state kind
+
+  -- a turn with a plain refusal leaves the machine, its meter and the limiter as they were
+  abbrev pub PlainRefusalsChangeNothing : Type 0
+  PlainRefusalsChangeNothing =
+      (w : World S) (turn : Turn) (w' : World S) → Step rules w turn w' → IsPlainRefusal turn.reply → w' ≡ w
+
+  -- so does each turn that is refused of a call that makes nothing and lets nothing grow
+  abbrev pub OtherRefusalsChangeNothing : Type 0
+  OtherRefusalsChangeNothing =
+      (w : World S) (turn : Turn) (w' : World S) → Step rules w turn w' → place_of turn.call ≡ Nowhere
+      → IsRefusal turn.reply → w' ≡ w
+
+  -- so does a run in which each reply is a plain refusal
+  abbrev pub PlainlyRefusedRunsChangeNothing : Type 0
+  PlainlyRefusedRunsChangeNothing =
+      (w : World S) (turns : List Turn) (w' : World S) → Run rules w turns w'
+      → All IsPlainRefusal (map Turn.reply turns) → w' ≡ w

@@ -5,3 +5,5 @@
 mod meters;
 mod places;
 mod runs;
+
+pub use runs::{plain_refusals_change_nothing, runs_are_cut, sizes_never_shrink};

@@ -1,0 +1,367 @@
+-- Refusals that leave the whole world.
+use Rattle.std.proofs.Common.{◌≡◌, ◌∙◌, ℕ, Bool, true, false, Option, Some, None, Result, Ok, Err, List, [], ◌∷◌, length, map, inl, inr, refl, sym, ap, subst}
+use Rattle.std.proofs.lemmas.List.Elements.{All-head, All-tail}
+use Rattle.std.proofs.lemmas.Option.{none-some, same_Some}
+use Rattle.std.specs.Prelude.{All, if◌then◌else◌}
+use Rattle.wasmi_types.specs.declared.value.RefType.{RefType}
+use Rattle.wasmi_typed.specs.declared.typed_ref.TypedRawRef.{TypedRawRef}
+use Rattle.wasmi_meter.specs.declared.error.MemoryError.{MemoryError}
+use Rattle.wasmi_meter.specs.declared.error.MemoryError.TheVariants as memory_error
+use Rattle.wasmi_meter.specs.declared.error.TableError.{TableError}
+use Rattle.wasmi_meter.specs.declared.error.TableError.TheVariants as table_error
+use Rattle.wasmi_meter.specs.Attempt.{Attempt, AttemptOutcome, Unasked, Denied, Met, Failed, IsFirstCause, MeteredValue, Request, alone, answer_of, covers, optional_due, with_value}
+use Rattle.wasmi_meter.specs.Limiter.{Failure, MemoryFailure, TableFailure, NoticeAnswer, Rules}
+use Rattle.wasmi_meter.specs.Meter.{Meter}
+use Rattle.wasmi_store.specs.Buffer.{LacksMemory, Lent, Owned, Room, fits_room}
+use Rattle.wasmi_store.specs.Growth.{Grows, Growth, Makes}
+use Rattle.wasmi_store.specs.Memory as memory
+use Rattle.wasmi_store.specs.Memory.{GrowsMemoryCharging, MemoryValue, new_memory, pages_of}
+use Rattle.wasmi_store.specs.MemoryType.{MemoryTypeValue}
+use Rattle.wasmi_store.specs.Table as table
+use Rattle.wasmi_store.specs.Table.{GrowsTableCharging, TableValue, new_table, size_of}
+use Rattle.wasmi_store.specs.TableType.{TableTypeValue, same_type}
+use Rattle.wasmi_store.proofs.GrowthLemmas.{on_test}
+use Rattle.wasmi_core.specs.declared.calls.Call.{Call}
+use Rattle.wasmi_core.specs.declared.calls.Call.TheVariants.{NewMemory, NewLentMemory, GrowMemory, NewTable, GrowTable}
+use Rattle.wasmi_core.specs.declared.calls.Reply.{Reply}
+use Rattle.wasmi_core.specs.declared.calls.Reply.TheVariants as replied
+use Rattle.wasmi_core.specs.declared.slots.Slot.{Slot}
+use Rattle.wasmi_core.specs.declared.slots.Slot.TheVariants.{Live}
+use Rattle.wasmi_core.specs.Determinism.{IsNoWant}
+use Rattle.wasmi_core.specs.Effects.{ActsAt, AddsEntry, Creates, reply_of}
+use Rattle.wasmi_core.specs.Exchange.{AsksFor, At, Denial, Exchange, New, Nothing, Notice, Nowhere, Passes, Permission, failed_reply, place_of, question_of}
+use Rattle.wasmi_core.specs.Laws.{Keeps, KeepsMeter, KeepsSpare}
+use Rattle.wasmi_core.specs.MemoryEffects.{CreatesLent, spare_after}
+use Rattle.wasmi_core.specs.Runs.{Run}
+use Rattle.wasmi_core.specs.State.{MemoryPart, State, live_at, memory_part}
+use Rattle.wasmi_core.specs.Steps.{Effect, LentMemoryMade, MemoryGrown, MemoryMade, Step, TableGrown, TableMade, TakesEffect, effect_of}
+use Rattle.wasmi_core.specs.World.{IsRefusal, Turn, World}
+use Rattle.wasmi_core.proofs.EffectLemmas.{on_live}
+use Rattle.wasmi_core.proofs.ExchangeLemmas.{growths_are_permitted}
+use Rattle.wasmi_core.proofs.RefusalLemmas.{refusals_keep_contents}
+use Rattle.wasmi_laws.specs.Runs.{IsPlainRefusal, OtherRefusalsChangeNothing, PlainRefusalsChangeNothing, PlainlyRefusedRunsChangeNothing}
+
+-- a plain refusal is one
+plain_refusal : (reply : Reply) → IsPlainRefusal reply → IsRefusal reply
+plain_refusal (replied.Memory error) plain = tt
+plain_refusal (replied.Table error) plain = tt
+plain_refusal (replied.Fuel error) plain = tt
+plain_refusal (replied.Global error) plain = tt
+plain_refusal (replied.Segment error) plain = tt
+plain_refusal (replied.Trap code) plain = tt
+plain_refusal replied.NoSuch plain = tt
+plain_refusal replied.NoRegion plain = tt
+plain_refusal replied.NoRoom plain = tt
+plain_refusal reply plain = absurd plain
+
+-- a reply is no plain refusal
+abbrev IsLoud : Reply → Type 0
+IsLoud reply = IsPlainRefusal reply → ⊥
+
+-- the causes of a refusal that are found after the question have replies that are no plain refusals
+record AllLoud {V E : Type 0} (refusal : E → Reply) (e : Request V E) : Type 0 where
+  denied : IsLoud (refusal e.denial)
+  refused : IsLoud (refusal e.refusal)
+  late : (c : E) → e.late ≡ Some c → IsLoud (refusal c)
+  unpaid : (n : ℕ) → IsLoud (refusal (e.unpaid n))
+  refuses : (c : E) → e.refuses c → IsLoud (refusal c)
+
+-- a plain refusal of an attempt is its early cause, and the limiter is the same
+record IsUnasked {V E S : Type 0} (refusal : E → Reply) (e : Request V E) (l l' : S) : Type 0 where
+  cause : E
+  early : e.early ≡ Some cause
+  plain : IsPlainRefusal (refusal cause)
+  same : l' ≡ l
+
+module _ {V E : Type 0} (refusal : E → Reply) (e : Request V E) (loud : AllLoud refusal e) where
+  -- the first cause after the permission
+  first_loud : (m : Option Meter) (late : Option E) → e.late ≡ late → (cause : E) → IsFirstCause e m late cause
+      → IsLoud (refusal cause)
+  first_loud m (Some c) is cause first = loud.late cause (is ∙ ap Some (sym first))
+  first_loud m None is cause first =
+      on_test (covers m (optional_due m e.price)) _ _ first (loud.refuses cause)
+      (λ unpaid. subst (λ c. IsLoud (refusal c)) (sym unpaid) (loud.unpaid (optional_due m e.price)))
+
+  -- an attempt
+  attempt_unasked : {S T : Type 0} (rules : Rules S) (answer : T → Reply) → ((x : T) → IsLoud (answer x)) → (value : T)
+      → (s s' : MeteredValue V S) (charge : ℕ) (outcome : AttemptOutcome E) → Attempt rules e s outcome charge s'
+      → IsPlainRefusal (reply_of answer refusal (answer_of e value outcome))
+      → IsUnasked refusal e s.limiter s'.limiter
+  attempt_unasked rules answer met value s s' charge (Unasked cause) a plain =
+      record { cause = cause; early = a.may_end; plain = plain; same = a.follows }
+  attempt_unasked rules answer met value s s' charge (Denied (Ok permitted)) a plain = absurd (loud.denied plain)
+  attempt_unasked rules answer met value s s' charge (Denied (Err error)) a plain = absurd (loud.refused plain)
+  attempt_unasked rules answer met value s s' charge Met a plain = absurd (met value plain)
+  attempt_unasked rules answer met value s s' charge (Failed cause (Ok _)) a plain =
+      absurd (first_loud s.meter e.late refl cause a.may_end.1 plain)
+  attempt_unasked rules answer met value s s' charge (Failed cause (Err _)) a plain = absurd (loud.refused plain)
+
+-- the reply to a creation
+adds_reply : {X A E : Type 0} (entry : X → A) (refusal : E → Reply) (result : Result X E) (list : List A)
+    (reply : Reply) (list' : List A) → AddsEntry entry refusal result list reply list'
+    → reply ≡ reply_of (λ _. replied.Made (length list)) refusal result
+adds_reply entry refusal (Ok x) list reply list' adds = adds.0
+adds_reply entry refusal (Err error) list reply list' adds = adds.0
+
+module _ {S : Type 0} (rules : Rules S) where
+  -- a creation whose slot there is place for
+  makes_unasked : {X E : Type 0} (refusal : E → Reply) (e : Request (Unit {0}) E) → AllLoud refusal e → (made : X)
+      → (slots : List (Slot X)) (l : S) (reply : Reply) (slots' : List (Slot X)) (l' : S) (result : Result X E)
+      → Makes rules e made l result l' → AddsEntry Live refusal result slots reply slots' → IsPlainRefusal reply
+      → IsUnasked refusal e l l'
+  makes_unasked refusal e loud made slots l reply slots' l' result (outcome, attempt, answered) adds plain =
+      let answer = λ _. replied.Made (length slots) in
+      let told = adds_reply Live refusal result slots reply slots' adds ∙ ap (reply_of answer refusal) answered in
+      attempt_unasked refusal e loud rules answer (λ x p. p) made (alone l) (alone l') 0 outcome attempt
+      (subst IsPlainRefusal told plain)
+
+  -- any creation
+  creates_unasked : {X E : Type 0} (refusal : E → Reply) (e : Request (Unit {0}) E) → AllLoud refusal e → (made : X)
+      → (slots : List (Slot X)) (l : S) (reply : Reply) (slots' : List (Slot X)) (l' : S)
+      → Creates refusal (Makes rules e made) slots l reply slots' l' → IsPlainRefusal reply → l' ≡ l
+  creates_unasked refusal e loud made slots l reply slots' l' (inl none) plain = none.2
+  creates_unasked refusal e loud made slots l reply slots' l' (inr (result, makes, adds)) plain =
+      (makes_unasked refusal e loud made slots l reply slots' l' result makes adds plain).same
+
+  -- a growth
+  grows_unasked : {V E : Type 0} (refusal : E → Reply) (g : Growth V E) → AllLoud refusal g.request
+      → (s s' : MeteredValue V S) (result : Result ℕ E) (charge : ℕ) → Grows rules g s result charge s'
+      → IsPlainRefusal (reply_of replied.Number refusal result) → s'.limiter ≡ s.limiter
+  grows_unasked {V} refusal g loud s s' result charge (inl none) plain =
+      ap (λ (t : MeteredValue V S). t.limiter) none.same
+  grows_unasked refusal g loud s s' result charge (inr some) plain =
+      (attempt_unasked refusal g.request loud rules replied.Number (λ n p. p) g.size s s' charge some.outcome
+      some.attempt
+      (subst (λ r. IsPlainRefusal (reply_of replied.Number refusal r)) some.answered plain)).same
+
+  -- a growth of what an index names
+  acts_unasked : {X E : Type 0} (k : ℕ) (refusal : E → Reply)
+      (Acts : MeteredValue X S → Result ℕ E → ℕ → MeteredValue X S → Type 0)
+      (s s' : MeteredValue (List (Slot X)) S) (reply : Reply) (charge : ℕ)
+      → ((x x' : X) (result : Result ℕ E) → Acts (with_value s x) result charge (with_value s' x')
+      → IsPlainRefusal (reply_of replied.Number refusal result) → s'.limiter ≡ s.limiter)
+      → ActsAt k (reply_of replied.Number refusal) Acts s reply charge s' → IsPlainRefusal reply
+      → s'.limiter ≡ s.limiter
+  acts_unasked {X} k refusal Acts s s' reply charge grows acts plain =
+      on_live (live_at s.value k) _ _ acts (λ missing. ap (λ (t : MeteredValue (List (Slot X)) S). t.limiter) missing.2)
+      (λ x found h. grows x h.1 h.0 h.2 (subst IsPlainRefusal h.3 plain))
+
+-- a cause by a test
+tested_loud : {E : Type 0} (refusal : E → Reply) (test : Bool) (cause : E) → IsLoud (refusal cause) → (c : E)
+    → (if test then None else Some cause) ≡ Some c → IsLoud (refusal c)
+tested_loud refusal true cause loud c is = absurd (none-some c is)
+tested_loud refusal false cause loud c is = subst (λ x. IsLoud (refusal x)) (same_Some cause c is) loud
+
+-- memory is refused
+lacks_loud : (room : Room) (c : MemoryError) → LacksMemory room c → IsLoud (replied.Memory c)
+lacks_loud Owned c lacks plain = subst (λ x. IsPlainRefusal (replied.Memory x)) lacks plain
+lacks_loud (Lent rest) c lacks plain = lacks
+
+-- so for tables
+table_lacks_loud : (c : TableError) → c ≡ table_error.OutOfSystemMemory → IsLoud (replied.Table c)
+table_lacks_loud c lacks plain = subst (λ x. IsPlainRefusal (replied.Table x)) lacks plain
+
+-- a memory is made
+memory_made_loud : (room : Room) (ty : MemoryTypeValue) → AllLoud replied.Memory (memory.creation_of room ty)
+memory_made_loud room ty = record {
+  denied = λ p. p;
+  refused = λ p. p;
+  late = tested_loud replied.Memory _ memory_error.InvalidStaticBufferSize (λ p. p);
+  unpaid = λ n p. p;
+  refuses = lacks_loud room;
+}
+
+-- a memory grows
+memory_grown_loud : (x : MemoryValue) (pages : ℕ) → AllLoud replied.Memory (memory.growth_of x pages)
+memory_grown_loud x pages = record {
+  denied = λ p. p;
+  refused = λ p. p;
+  late = tested_loud replied.Memory _ memory_error.InvalidStaticBufferSize (λ p. p);
+  unpaid = λ n p. p;
+  refuses = lacks_loud x.room;
+}
+
+-- a table is made
+table_made_loud : (ty : TableTypeValue) (init : RefType) → AllLoud replied.Table (table.creation_of ty init)
+table_made_loud ty init = record {
+  denied = λ p. p;
+  refused = λ p. p;
+  late = λ c is. absurd (none-some c is);
+  unpaid = λ n p. p;
+  refuses = table_lacks_loud;
+}
+
+-- a table grows
+table_grown_loud : (x : TableValue) (n reference : ℕ) → AllLoud replied.Table (table.growth_of x n reference)
+table_grown_loud x n reference = record {
+  denied = λ p. p;
+  refused = λ p. p;
+  late = tested_loud replied.Table _ table_error.GrowOutOfBounds (λ p. p);
+  unpaid = λ n p. p;
+  refuses = table_lacks_loud;
+}
+
+module _ {S : Type 0} (rules : Rules S) where
+  -- a memory in the spare region leaves the limiter, and the region too: its early cause is no plain refusal
+  lent_unasked : (ty : MemoryTypeValue) (part : MemoryPart) (l : S) (reply : Reply) (part' : MemoryPart) (l' : S)
+      → CreatesLent rules ty part l reply part' l' → IsPlainRefusal reply
+      → (l' ≡ l) × (part'.spare ≡ part.spare)
+  lent_unasked ty part l reply part' l' creates plain =
+      on_live part.spare _ _ creates (λ h. (h.2, ap (λ (p : MemoryPart). p.spare) h.1))
+      (λ region found h. elim (h.0) as (λ _. (l' ≡ l) × (part'.spare ≡ part.spare)) [
+        inl none ↦ (none.2, h.1 ∙ ap (λ r. spare_after r part.spare) none.0)
+      | inr made ↦ (
+        let unasked = makes_unasked rules replied.Memory (memory.creation_of (Lent region) ty)
+        (memory_made_loud (Lent region) ty) (new_memory (Lent region) ty) part.slots l reply part'.slots l' made.0 made.1
+        made.2 plain in
+        absurd (tested_loud replied.Memory _ memory_error.MinimumSizeOverflow (λ p. p) unasked.cause unasked.early
+        unasked.plain))
+      ])
+
+  -- a growth of a table, whose type is tested first
+  table_grows_unasked : (n : ℕ) (init : TypedRawRef) (s s' : MeteredValue TableValue S) (result : Result ℕ TableError)
+      (charge : ℕ) → GrowsTableCharging rules n init s result charge s'
+      → IsPlainRefusal (reply_of replied.Number replied.Table result) → s'.limiter ≡ s.limiter
+  table_grows_unasked n init s s' result charge grows plain =
+      on_test (same_type s.value.ty.element init.ty) _ _ grows
+      (λ h. grows_unasked rules replied.Table
+      (record { amount = n; size = size_of s.value; request = table.growth_of s.value n init.raw })
+      (table_grown_loud s.value n init.raw) s s' result charge h plain)
+      (λ h. ap (λ (t : MeteredValue TableValue S). t.limiter) h.2)
+
+  module _ (w : World S) (turn : Turn) (w' : World S) (plain : IsPlainRefusal turn.reply) where
+    -- the limiter stays, by each effect
+    limiter_stays : (effect : Effect) → TakesEffect rules effect w turn w' → w'.limiter ≡ w.limiter
+    limiter_stays (MemoryMade ty) step =
+        ap (λ (v : World S). v.limiter) step.after
+        ∙ creates_unasked rules replied.Memory (memory.creation_of Owned ty) (memory_made_loud Owned ty)
+        (new_memory Owned ty) w.state.memories w.limiter turn.reply step.part step.limiter step.effect plain
+    limiter_stays (LentMemoryMade ty) step =
+        ap (λ (v : World S). v.limiter) step.after
+        ∙ (lent_unasked ty (memory_part w.state) w.limiter turn.reply step.part step.limiter step.effect plain).0
+    limiter_stays (MemoryGrown k pages) step =
+        ap (λ (v : World S). v.limiter) step.after
+        ∙ acts_unasked rules k replied.Memory (GrowsMemoryCharging rules pages) _ _ turn.reply turn.charge
+        (λ x x' result. grows_unasked rules replied.Memory
+        (record { amount = pages; size = pages_of x; request = memory.growth_of x pages }) (memory_grown_loud x pages)
+        (record { value = x; meter = Some w.state.meter; limiter = w.limiter })
+        (record { value = x'; meter = Some step.meter; limiter = step.limiter }) result turn.charge) step.effect plain
+    limiter_stays (TableMade ty init) step =
+        ap (λ (v : World S). v.limiter) step.after
+        ∙ creates_unasked rules replied.Table (table.creation_of ty init.ty) (table_made_loud ty init.ty)
+        (new_table ty init.raw) w.state.tables w.limiter turn.reply step.part step.limiter step.effect plain
+    limiter_stays (TableGrown k n init) step =
+        ap (λ (v : World S). v.limiter) step.after
+        ∙ acts_unasked rules k replied.Table (GrowsTableCharging rules n init) _ _ turn.reply turn.charge
+        (λ x x' result. table_grows_unasked n init
+        (record { value = x; meter = Some w.state.meter; limiter = w.limiter })
+        (record { value = x'; meter = Some step.meter; limiter = step.limiter }) result turn.charge) step.effect plain
+    limiter_stays effect step = ap (λ (v : World S). v.limiter) step.after
+
+    -- the spare region stays
+    spare_stays : (call : Call) → turn.call ≡ call → Step rules w turn w'
+        → KeepsSpare call turn.reply w.state w'.state → w'.state.spare ≡ w.state.spare
+    spare_stays (NewLentMemory ty) is step keeps =
+        let made : TakesEffect rules (LentMemoryMade ty) w turn w' =
+        subst (λ call. TakesEffect rules (effect_of w.state call) w turn w') is step
+        in
+        ap (λ (v : World S). v.state.spare) made.after
+        ∙ (lent_unasked ty (memory_part w.state) w.limiter turn.reply made.part made.limiter made.effect plain).1
+    spare_stays call is step keeps = keeps
+
+-- a growth that fails after its charge has no plain refusal
+want_loud : (failure : Failure) (notice_answer : NoticeAnswer) → (IsNoWant failure → ⊥)
+    → IsLoud (failed_reply failure notice_answer)
+want_loud (MemoryFailure error) (Err _) wants plain = plain
+want_loud (TableFailure error) (Err _) wants plain = plain
+want_loud (MemoryFailure memory_error.OutOfSystemMemory) (Ok _) wants plain = plain
+want_loud (TableFailure table_error.OutOfSystemMemory) (Ok _) wants plain = plain
+want_loud failure (Ok _) wants plain = wants tt
+
+-- a world whose parts are all the same
+same_world : {S : Type 0} (rules : Rules S) (w : World S) (turn : Turn) (w' : World S) → Keeps rules w turn w'
+    → w'.state.meter ≡ w.state.meter → w'.state.spare ≡ w.state.spare → w'.limiter ≡ w.limiter → w' ≡ w
+same_world rules w turn w' keeps meter spare limiter =
+    λ i. record {
+      state = record {
+        memories = keeps.contents.memories i;
+        tables = keeps.contents.tables i;
+        segments = keeps.contents.segments i;
+        globals = keeps.contents.globals i;
+        registers = keeps.contents.registers i;
+        meter = meter i;
+        spare = spare i;
+      };
+      limiter = limiter i;
+    }
+
+-- a new index and an index that is there are places
+new_place : New ≡ Nowhere → ⊥
+new_place is = cc
+
+old_place : (k : ℕ) → At k ≡ Nowhere → ⊥
+old_place k is = cc
+
+-- a call that lets nothing grow asks nothing
+no_question : (s : State) (call : Call) → place_of call ≡ Nowhere → question_of s call ≡ None
+no_question s (NewMemory ty) is = absurd (new_place is)
+no_question s (NewLentMemory ty) is = absurd (new_place is)
+no_question s (GrowMemory k pages) is = absurd (old_place k is)
+no_question s (NewTable ty init) is = absurd (new_place is)
+no_question s (GrowTable k n init) is = absurd (old_place k is)
+no_question s call is = refl
+
+-- and keeps the spare region where it is refused
+other_spare : (s s' : State) (call : Call) (reply : Reply) → place_of call ≡ Nowhere → KeepsSpare call reply s s'
+    → s'.spare ≡ s.spare
+other_spare s s' (NewLentMemory ty) reply is keeps = absurd (new_place is)
+other_spare s s' call reply is keeps = keeps
+
+-- where nothing is asked, the limiter stays
+unasked_limiter : {S : Type 0} (rules : Rules S) (question : Option _) (l : S) (reply : Reply) (l' : S) → question ≡ None
+    → (exchange : Exchange) → AsksFor question exchange reply → Passes rules l exchange l' → l' ≡ l
+unasked_limiter rules question l reply l' none Nothing asks passes = passes
+unasked_limiter rules question l reply l' none (Denial q answer) asks passes = absurd (none-some q (sym none ∙ asks))
+unasked_limiter rules question l reply l' none (Permission q) asks passes = absurd (none-some q (sym none ∙ asks))
+unasked_limiter rules question l reply l' none (Notice q failure notice_answer) asks passes =
+    absurd (none-some q (sym none ∙ asks))
+
+module _ {S : Type 0} (rules : Rules S) (w : World S) (turn : Turn) (w' : World S) where
+  -- the meter stays where a growth would have to fail after its charge
+  plain_meter : IsPlainRefusal turn.reply → KeepsMeter rules w turn w' → w'.state.meter ≡ w.state.meter
+  plain_meter plain (inl same) = same
+  plain_meter plain (inr fails) =
+      absurd (want_loud fails.failure fails.notice_answer fails.wants (subst IsPlainRefusal fails.replies plain))
+
+  -- so of a call that lets nothing grow
+  other_meter : place_of turn.call ≡ Nowhere → KeepsMeter rules w turn w' → w'.state.meter ≡ w.state.meter
+  other_meter is (inl same) = same
+  other_meter is (inr fails) = absurd (old_place fails.index (sym fails.grows ∙ is))
+
+module _ {S : Type 0} (rules : Rules S) where
+  -- each turn with a plain refusal
+  pub plain_refusals_change_nothing : PlainRefusalsChangeNothing rules
+  plain_refusals_change_nothing w turn w' step plain =
+      let keeps = refusals_keep_contents rules w turn w' step (plain_refusal turn.reply plain) in
+      same_world rules w turn w' keeps (plain_meter rules w turn w' plain keeps.meter)
+      (spare_stays rules w turn w' plain turn.call refl step keeps.spare)
+      (limiter_stays rules w turn w' plain (effect_of w.state turn.call) step)
+
+  -- each refusal of a call that lets nothing grow
+  pub other_refusals_change_nothing : OtherRefusalsChangeNothing rules
+  other_refusals_change_nothing w turn w' step nowhere refused =
+      let keeps = refusals_keep_contents rules w turn w' step refused in
+      let x = growths_are_permitted rules w turn w' step in
+      same_world rules w turn w' keeps (other_meter rules w turn w' nowhere keeps.meter)
+      (other_spare w.state w'.state turn.call turn.reply nowhere keeps.spare)
+      (unasked_limiter rules (question_of w.state turn.call) w.limiter turn.reply w'.limiter
+      (no_question w.state turn.call nowhere) x.exchange x.asks x.passes)
+
+  -- a run of plain refusals
+  pub plainly_refused_runs_change_nothing : PlainlyRefusedRunsChangeNothing rules
+  plainly_refused_runs_change_nothing w [] w' ran plain = ran
+  plainly_refused_runs_change_nothing w (turn ∷ turns) w' (v, step, ran) plain =
+      plainly_refused_runs_change_nothing v turns w' ran
+      (All-tail IsPlainRefusal turn.reply (map Turn.reply turns) plain)
+      ∙ plain_refusals_change_nothing w turn v step
+      (All-head IsPlainRefusal turn.reply (map Turn.reply turns) plain)

@@ -1,0 +1,142 @@
+-- Runs that are cut, and sizes in runs.
+use Rattle.std.proofs.Common.{◌≡◌, ◌∙◌, ◌≤◌, ◌<◌, ◌++◌, ◌+◌, ℕ, zero, suc, Some, None, List, [], ◌∷◌, length, map, take, drop, sum, refl, sym, ap, subst, arith}
+use Rattle.std.proofs.lemmas.Option.{none-some, same_Some}
+use Rattle.std.proofs.lemmas.List.{take-map, drop-map, take_at, drop_at, take-append-drop}
+use Rattle.std.proofs.lemmas.List.Sums.{sum_by-cons}
+use Rattle.std.specs.Prelude.{◌≢◌, slice_get, slice_set}
+use Rattle.wasmi_meter.specs.declared.limiter.Kind.{Kind}
+use Rattle.wasmi_meter.specs.declared.limiter.Kind.TheVariants.{Bytes, Elements}
+use Rattle.wasmi_meter.specs.Limiter.{Question, Rules}
+use Rattle.wasmi_core.specs.declared.calls.Call.{Call}
+use Rattle.wasmi_core.specs.declared.calls.Reply.{Reply}
+use Rattle.wasmi_core.specs.State.{State}
+use Rattle.wasmi_core.specs.World.{World, Turn}
+use Rattle.wasmi_core.specs.Steps.{Step}
+use Rattle.wasmi_core.specs.Runs.{Run, IsRunOf}
+use Rattle.wasmi_core.specs.Totals.{sizes, total}
+use Rattle.wasmi_core.specs.Exchange.{Exchange, Nothing, Denial, Permission, Notice, Place, Nowhere, New, At, place_of, GrowsAsAsked, GrowsBy}
+use Rattle.wasmi_core.proofs.ExchangeLemmas.{growths_are_permitted}
+use Rattle.wasmi_laws.specs.Runs.{IsRunInTwo, RunsAreCut, RunsOfCallsAreCut, SizesNeverShrink, TotalsNeverShrink}
+
+-- a list is made of as many as another: so many at first, and the others
+made_first : {X Y : Type 0} (f : X → Y) (xs : List X) (ys zs : List Y) → map f xs ≡ ys ++ zs
+    → map f (take (length ys) xs) ≡ ys
+made_first f xs ys zs made =
+    sym (take-map f (length ys) xs) ∙ ap (take (length ys)) made ∙ take_at ys zs (length ys) refl
+
+made_rest : {X Y : Type 0} (f : X → Y) (xs : List X) (ys zs : List Y) → map f xs ≡ ys ++ zs
+    → map f (drop (length ys) xs) ≡ zs
+made_rest f xs ys zs made =
+    sym (drop-map f (length ys) xs) ∙ ap (drop (length ys)) made ∙ drop_at ys zs (length ys) refl
+
+module _ {S : Type 0} (rules : Rules S) where
+  -- a run of turns
+  pub run_is_cut : (u : World S) (turns turns' : List Turn) (w : World S) → Run rules u (turns ++ turns') w
+      → (v : World S) × Run rules u turns v × Run rules v turns' w
+  run_is_cut u [] turns' w ran = (u, refl, ran)
+  run_is_cut u (turn ∷ turns) turns' w (t, step, ran) =
+      let rest = run_is_cut t turns turns' w ran in (rest.0, (t, step, rest.1), rest.2)
+
+  -- a run of calls
+  pub run_of_calls_is_cut : RunsOfCallsAreCut rules
+  run_of_calls_is_cut calls calls' u replies w (turns, made, told, ran) =
+      let n = length calls in
+      let cut = run_is_cut u (take n turns) (drop n turns) w
+      (subst (λ ts. Run rules u ts w) (sym (take-append-drop n turns)) ran) in
+      record {
+        between = cut.0;
+        first_run = (
+          take n turns,
+          made_first Turn.call turns calls calls' made,
+          sym (take-map Turn.reply n turns) ∙ ap (take n) told,
+          cut.1,
+        );
+        rest_run = (
+          drop n turns,
+          made_rest Turn.call turns calls calls' made,
+          sym (drop-map Turn.reply n turns) ∙ ap (drop n) told,
+          cut.2,
+        );
+      }
+
+-- each number of a list is at its place in another, or a larger one
+abbrev NoneShrinks : List ℕ → List ℕ → Type 0
+NoneShrinks xs ys = (k n : ℕ) → slice_get xs k ≡ Some n → (m : ℕ) × (slice_get ys k ≡ Some m) × (n ≤ m)
+
+-- so in the same list
+same_shrinks : (xs ys : List ℕ) → ys ≡ xs → NoneShrinks xs ys
+same_shrinks xs ys same k n found = (n, ap (λ zs. slice_get zs k) same ∙ found, omega arith)
+
+-- with a number more
+push_shrinks : (xs : List ℕ) (y : ℕ) → NoneShrinks xs (xs ++ y ∷ [])
+push_shrinks [] y k n found = absurd (none-some n found)
+push_shrinks (x ∷ xs) y zero n found = (n, found, omega arith)
+push_shrinks (x ∷ xs) y (suc k) n found = push_shrinks xs y k n found
+
+-- where one number has grown
+set_shrinks : (xs : List ℕ) (j small large : ℕ) → small ≤ large → slice_get xs j ≡ Some small
+    → NoneShrinks xs (slice_set xs j large)
+set_shrinks [] j small large grows at_j k n found = absurd (none-some n found)
+set_shrinks (x ∷ xs) zero small large grows at_j zero n found =
+    (large, refl, omega (arith, grows, same_Some n small (sym found ∙ at_j)))
+set_shrinks (x ∷ xs) zero small large grows at_j (suc k) n found = (n, found, omega arith)
+set_shrinks (x ∷ xs) (suc j) small large grows at_j zero n found = (n, found, omega arith)
+set_shrinks (x ∷ xs) (suc j) small large grows at_j (suc k) n found =
+    set_shrinks xs j small large grows at_j k n found
+
+-- where something grew as was asked
+asked_shrinks : (place : Place) (q : Question) (xs ys : List ℕ) → GrowsAsAsked place q xs ys → NoneShrinks xs ys
+asked_shrinks Nowhere q xs ys grows = absurd grows
+asked_shrinks New q xs ys (fresh, added) = rw added (push_shrinks xs q.desired)
+asked_shrinks (At k) q xs ys (up, found, put) = rw put (set_shrinks xs k q.current q.desired up found)
+
+module _ (before after : Kind → List ℕ) where
+  -- where the sizes of one kind grow, and the others are the same
+  kind_shrinks : (grown : Kind) → NoneShrinks (before grown) (after grown)
+      → ((kind : Kind) → kind ≢ grown → after kind ≡ before kind)
+      → (kind : Kind) → NoneShrinks (before kind) (after kind)
+  kind_shrinks Bytes grows others Bytes = grows
+  kind_shrinks Bytes grows others Elements = same_shrinks (before Elements) (after Elements) (others Elements (λ e. cc))
+  kind_shrinks Elements grows others Bytes = same_shrinks (before Bytes) (after Bytes) (others Bytes (λ e. cc))
+  kind_shrinks Elements grows others Elements = grows
+
+  -- by an exchange
+  exchange_shrinks : (place : Place) (exchange : Exchange) → GrowsBy place exchange before after
+      → (kind : Kind) → NoneShrinks (before kind) (after kind)
+  exchange_shrinks place Nothing still kind = same_shrinks (before kind) (after kind) (still kind)
+  exchange_shrinks place (Denial q answer) still kind = same_shrinks (before kind) (after kind) (still kind)
+  exchange_shrinks place (Permission q) (grows, others) kind =
+      kind_shrinks q.kind (asked_shrinks place q (before q.kind) (after q.kind) grows) others kind
+  exchange_shrinks place (Notice q failure notice_answer) still kind =
+      same_shrinks (before kind) (after kind) (still kind)
+
+-- the sum doesn't shrink
+sum_shrinks : (xs ys : List ℕ) → NoneShrinks xs ys → sum xs ≤ sum ys
+sum_shrinks [] ys none = omega arith
+sum_shrinks (x ∷ xs) [] none = absurd (none-some _ (none 0 x refl).1)
+sum_shrinks (x ∷ xs) (y ∷ ys) none =
+    let first = none 0 x refl in
+    omega (
+      arith,
+      sum_by-cons (λ z. z) x xs,
+      sum_by-cons (λ z. z) y ys,
+      sum_shrinks xs ys (λ k n found. none (suc k) n found),
+      first.2,
+      same_Some y first.0 first.1,
+    )
+
+module _ {S : Type 0} (rules : Rules S) where
+  -- each size of a run
+  pub sizes_never_shrink : SizesNeverShrink rules
+  sizes_never_shrink w [] w' ran kind k n found =
+      (n, ap (λ (v : World S). slice_get (sizes v.state kind) k) ran ∙ found, omega arith)
+  sizes_never_shrink w (turn ∷ turns) w' (v, step, ran) kind k n found =
+      let x = growths_are_permitted rules w turn v step in
+      let next = exchange_shrinks (sizes w.state) (sizes v.state) (place_of turn.call) x.exchange x.grows kind k n found in
+      let last = sizes_never_shrink v turns w' ran kind k next.0 next.1 in
+      (last.0, last.1, omega (arith, next.2, last.2))
+
+  -- so the totals
+  pub totals_never_shrink : TotalsNeverShrink rules
+  totals_never_shrink w turns w' ran kind =
+      sum_shrinks (sizes w.state kind) (sizes w'.state kind) (sizes_never_shrink w turns w' ran kind)
