@@ -109,8 +109,8 @@ module _ {S : Type 0} (rules : Rules S) where
       → (slots : List (Slot X)) (l : S) (reply : Reply) (slots' : List (Slot X)) (l' : S) (result : Result X E)
       → Makes rules e made l result l' → AddsEntry Live refusal result slots reply slots' → IsPlainRefusal reply
       → IsUnasked refusal e l l'
-  makes_unasked refusal e loud made slots l reply slots' l' result (outcome, attempt, answered) adds plain =
-      let answer = λ _. replied.Made (length slots) in
+  makes_unasked {X} refusal e loud made slots l reply slots' l' result (outcome, attempt, answered) adds plain =
+      let answer : X → Reply = λ x. replied.Made (length slots) in
       let told = adds_reply Live refusal result slots reply slots' adds ∙ ap (reply_of answer refusal) answered in
       attempt_unasked refusal e loud rules answer (λ x p. p) made (alone l) (alone l') 0 outcome attempt
       (subst IsPlainRefusal told plain)
