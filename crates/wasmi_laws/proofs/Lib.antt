@@ -1,2 +1,4 @@
 pub mod RunsLemmas
 pub mod RefusalLemmas
+pub mod MeterLemmas
+pub mod MoreFuelLemmas

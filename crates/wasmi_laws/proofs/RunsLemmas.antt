@@ -6,17 +6,21 @@ use Rattle.std.proofs.lemmas.List.Sums.{sum_by-cons}
 use Rattle.std.specs.Prelude.{◌≢◌, slice_get, slice_set}
 use Rattle.wasmi_meter.specs.declared.limiter.Kind.{Kind}
 use Rattle.wasmi_meter.specs.declared.limiter.Kind.TheVariants.{Bytes, Elements}
-use Rattle.wasmi_meter.specs.Limiter.{Question, Rules}
+use Rattle.wasmi_meter.specs.Limiter.{Question, Rules, optional_rules}
+use Rattle.wasmi_meter.specs.declared.quota.Quota.{Quota}
+use Rattle.wasmi_meter.specs.Quota.{IsWithinCaps, SameCaps, holdings, quota_rules}
 use Rattle.wasmi_core.specs.declared.calls.Call.{Call}
 use Rattle.wasmi_core.specs.declared.calls.Reply.{Reply}
 use Rattle.wasmi_core.specs.State.{State}
-use Rattle.wasmi_core.specs.World.{World, Turn}
+use Rattle.wasmi_core.specs.World.{World, Turn, world}
 use Rattle.wasmi_core.specs.Steps.{Step}
-use Rattle.wasmi_core.specs.Runs.{Run, IsRunOf}
-use Rattle.wasmi_core.specs.Totals.{sizes, total}
+use Rattle.wasmi_core.specs.Runs.{Sequence, Run, IsRunOf}
+use Rattle.wasmi_core.specs.Totals.{sizes, total, HoldsTotals}
+use Rattle.wasmi_core.specs.Laws.{HoldsTotalsAlways, QuotasStayWithin}
 use Rattle.wasmi_core.specs.Exchange.{Exchange, Nothing, Denial, Permission, Notice, Place, Nowhere, New, At, place_of, GrowsAsAsked, GrowsBy}
 use Rattle.wasmi_core.proofs.ExchangeLemmas.{growths_are_permitted}
-use Rattle.wasmi_laws.specs.Runs.{IsRunInTwo, RunsAreCut, RunsOfCallsAreCut, SizesNeverShrink, TotalsNeverShrink}
+use Rattle.wasmi_core.proofs.TurnLemmas.{Run-push}
+use Rattle.wasmi_laws.specs.Runs.{CapsHoldInRuns, IsWithinCapsOf, RunsOfCallsAreCut, SizesNeverShrink, TotalsNeverShrink}
 
 -- a list is made of as many as another: so many at first, and the others
 made_first : {X Y : Type 0} (f : X → Y) (xs : List X) (ys zs : List Y) → map f xs ≡ ys ++ zs
@@ -140,3 +144,34 @@ module _ {S : Type 0} (rules : Rules S) where
   pub totals_never_shrink : TotalsNeverShrink rules
   totals_never_shrink w turns w' ran kind =
       sum_shrinks (sizes w.state kind) (sizes w'.state kind) (sizes_never_shrink w turns w' ran kind)
+
+module _ {S : Type 0} (rules : Rules S) (u : World S) (Holds : World S → Type 0)
+    (ends : (turns : List Turn) (w : World S) → Run rules u turns w → Holds w) where
+  -- what each run from a world ends in, holds after each turn of the rest of one
+  holds_on : (before : List Turn) (v : World S) → Run rules u before v → (turns : List Turn) (w : World S)
+      → Run rules v turns w → Sequence (λ v turn v'. Step rules v turn v' × Holds v') v turns w
+  holds_on before v ran [] w rest = rest
+  holds_on before v ran (turn ∷ turns) w (v', step, rest) =
+      let so_far = Run-push rules u before v ran turn v' step in
+      (v', (step, ends (before ++ turn ∷ []) v' so_far), holds_on (before ++ turn ∷ []) v' so_far turns w rest)
+
+  -- so of a whole run
+  pub holds_throughout : (turns : List Turn) (w : World S) → Run rules u turns w
+      → Sequence (λ v turn v'. Step rules v turn v' × Holds v') u turns w
+  holds_throughout = holds_on [] u refl
+
+-- a machine is within caps where a quota holds what it has, is within its caps, and has the same caps
+pub held_within : (s : State) (first quota : Quota) → HoldsTotals (holdings quota) s → IsWithinCaps quota
+    → SameCaps first quota → IsWithinCapsOf first s
+held_within s first quota held within caps Bytes = omega (arith, held.bytes, within Bytes, caps Bytes)
+held_within s first quota held within caps Elements = omega (arith, held.elements, within Elements, caps Elements)
+
+-- under a quota, at each turn of a run
+pub caps_hold_in_runs : HoldsTotalsAlways quota_rules holdings → QuotasStayWithin → CapsHoldInRuns
+caps_hold_in_runs held stays s quota holds within =
+    holds_throughout (optional_rules quota_rules) (world s (Some quota)) (λ v. IsWithinCapsOf quota v.state)
+    (λ turns v ran.
+    let total = held s quota holds turns v ran in
+    let later = stays s quota within turns v ran in
+    let same : later.0 ≡ total.0 = same_Some later.0 total.0 (sym later.1 ∙ total.1) in
+    held_within v.state quota total.0 total.2 (subst IsWithinCaps same later.2) (subst (SameCaps quota) same later.3))

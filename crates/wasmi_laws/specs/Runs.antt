@@ -1,17 +1,20 @@
 -- Laws of whole runs.
-use Rattle.std.specs.Prelude.{◌≡◌, ◌≤◌, ◌++◌, ℕ, List, length, take, drop, map, Some, slice_get, All}
+use Rattle.std.specs.Prelude.{◌≡◌, ◌≤◌, ◌++◌, ℕ, List, length, take, drop, map, Option, Some, slice_get, All}
 use Rattle.wasmi_meter.specs.declared.limiter.Kind.{Kind}
 use Rattle.wasmi_meter.specs.declared.error.MemoryError.TheVariants as memory
 use Rattle.wasmi_meter.specs.declared.error.TableError.TheVariants as table
-use Rattle.wasmi_meter.specs.Limiter.{Rules}
+use Rattle.wasmi_meter.specs.Limiter.{Rules, optional_rules}
+use Rattle.wasmi_meter.specs.declared.quota.Quota.{Quota}
+use Rattle.wasmi_meter.specs.Quota.{IsWithinCaps, cap_of, holdings, quota_rules}
 use Rattle.wasmi_core.specs.declared.calls.Call.{Call}
 use Rattle.wasmi_core.specs.declared.calls.Reply.{Reply}
 use Rattle.wasmi_core.specs.declared.calls.Reply.TheVariants as reply
-use Rattle.wasmi_core.specs.World.{World, Turn, IsRefusal}
+use Rattle.wasmi_core.specs.State.{State}
+use Rattle.wasmi_core.specs.World.{World, Turn, world, IsRefusal}
 use Rattle.wasmi_core.specs.Steps.{Step}
 use Rattle.wasmi_core.specs.Exchange.{Nowhere, place_of}
-use Rattle.wasmi_core.specs.Runs.{Run, IsRunOf}
-use Rattle.wasmi_core.specs.Totals.{sizes, total}
+use Rattle.wasmi_core.specs.Runs.{Sequence, Run, IsRunOf}
+use Rattle.wasmi_core.specs.Totals.{sizes, total, HoldsTotals}
 
 -- the replies are those of two runs in a row: of the first calls, and of the others from where these end
 pub record IsRunInTwo {S : Type 0} (rules : Rules S) (first rest : List Call) (u : World S) (replies : List Reply)
@@ -80,3 +83,17 @@ module _ {S : Type 0} (rules : Rules S) where
   PlainlyRefusedRunsChangeNothing =
       (w : World S) (turns : List Turn) (w' : World S) → Run rules w turns w'
       → All IsPlainRefusal (map Turn.reply turns) → w' ≡ w
+
+-- a machine has no more of each kind than the caps of a quota
+abbrev pub IsWithinCapsOf : Quota → State → Type 0
+IsWithinCapsOf quota s = (kind : Kind) → total s kind ≤ cap_of quota kind
+
+-- under a quota that holds what a machine has, and no more than its caps, the machine is within these caps after each
+-- turn of a run
+abbrev pub CapsHoldInRuns : Type 0
+CapsHoldInRuns =
+    (s : State) (quota : Quota) → HoldsTotals (holdings quota) s → IsWithinCaps quota
+    → (turns : List Turn) (w' : World (Option Quota))
+    → Run (optional_rules quota_rules) (world s (Some quota)) turns w'
+    → Sequence (λ v turn v'. Step (optional_rules quota_rules) v turn v' × IsWithinCapsOf quota v'.state)
+    (world s (Some quota)) turns w'

@@ -6,4 +6,7 @@ mod meters;
 mod places;
 mod runs;
 
-pub use runs::{plain_refusals_change_nothing, runs_are_cut, sizes_never_shrink};
+pub use meters::{meters_are_kept, more_fuel_changes_nothing};
+pub use runs::{
+    caps_hold_in_runs, plain_refusals_change_nothing, runs_are_cut, sizes_never_shrink,
+};

@@ -1,8 +1,8 @@
 //! Laws of whole runs.
 ghost use Rattle.wasmi_meter.specs.Limiter.{optional_rules};
-ghost use Rattle.wasmi_laws.specs.Runs.{RunsAreCut, RunsOfCallsAreCut, SizesNeverShrink, TotalsNeverShrink, PlainRefusalsChangeNothing, OtherRefusalsChangeNothing, PlainlyRefusedRunsChangeNothing};
+ghost use Rattle.wasmi_laws.specs.Runs.{RunsAreCut, RunsOfCallsAreCut, SizesNeverShrink, TotalsNeverShrink, PlainRefusalsChangeNothing, OtherRefusalsChangeNothing, PlainlyRefusedRunsChangeNothing, CapsHoldInRuns};
 
-use wasmi_core::ResourceLimiter;
+use wasmi_core::{Quota, ResourceLimiter, laws};
 
 /// A run can be cut at each place: the turns, or the calls, before it are a run, and the others are
 /// a run from where these end. So what holds of each run holds at each place of one. Of calls, the
@@ -33,3 +33,12 @@ pub fn plain_refusals_change_nothing<L: ResourceLimiter>()
     ensures others { OtherRefusalsChangeNothing (optional_rules L.rules) }
     ensures run { PlainlyRefusedRunsChangeNothing (optional_rules L.rules) }
 {}
+
+/// Under a quota that holds what a machine has, and no more than its caps, the machine is within
+/// these caps after each turn of a run, and not only at its end.
+pub fn caps_hold_in_runs()
+    ensures { CapsHoldInRuns }
+{
+    laws::totals_are_held::<Quota>();
+    laws::quotas_stay_within();
+}

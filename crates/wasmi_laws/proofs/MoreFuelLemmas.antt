@@ -1,0 +1,379 @@
+-- A run that never ran short of fuel, with more of it.
+use Rattle.std.proofs.Common.{◌≡◌, ◌∙◌, ◌≤◌, ◌+◌, ◌-◌, ℕ, Bool, true, false, Option, Some, None, Result, Ok, Err, List, [], ◌∷◌, map, inl, inr, refl, sym, ap, subst, arith}
+use Rattle.std.proofs.lemmas.Bool.Decides.{nat_tests}
+use Rattle.std.proofs.lemmas.List.Elements.{All-head, All-tail}
+use Rattle.std.proofs.lemmas.Option.{none-some, same_Some}
+use Rattle.std.specs.Option.{option_map}
+use Rattle.std.specs.Prelude.{All, MatchBool, is_none, nat_le, ◌&&◌, if◌then◌else◌}
+use Rattle.wasmi_typed.specs.declared.typed_ref.TypedRawRef.{TypedRawRef}
+use Rattle.wasmi_meter.specs.declared.error.TableError.{TableError}
+use Rattle.wasmi_meter.specs.declared.fuel.CustomFuelCosts.{CustomFuelCosts}
+use Rattle.wasmi_meter.specs.Attempt.{Attempt, AttemptOutcome, Unasked, Denied, Met, Failed, Follows, IsFirstCause, MayEnd, MeteredValue, Request, answer_of, covers, error_of_failure, optional_due, outcome_charge, with_value}
+use Rattle.wasmi_meter.specs.Limiter.{AskedIf, Failure, NoticeAnswer, NoticedIf, Rules, optional_rules}
+use Rattle.wasmi_meter.specs.Meter.{Meter, amount_left, meter_after}
+use Rattle.wasmi_store.specs.Growth.{Grows, Growth, metered, metered_value}
+use Rattle.wasmi_store.specs.Memory as memory
+use Rattle.wasmi_store.specs.Memory.{GrowsMemoryCharging, pages_of}
+use Rattle.wasmi_store.specs.Table as table
+use Rattle.wasmi_store.specs.Table.{EndsBy, GrowsTableCharging, TableValue, TableWrite, WriteEnding, WritesTableCharging, element_price, size_of, write_due}
+use Rattle.wasmi_store.specs.TableType.{same_type}
+use Rattle.wasmi_core.specs.declared.calls.Call.{Call}
+use Rattle.wasmi_core.specs.declared.calls.Call.TheVariants.{SetFuel, GetFuel}
+use Rattle.wasmi_core.specs.declared.calls.Reply.{Reply}
+use Rattle.wasmi_core.specs.declared.calls.Reply.TheVariants as replied
+use Rattle.wasmi_core.specs.declared.slots.Slot.{Slot}
+use Rattle.wasmi_core.specs.Determinism.{AcceptsNotices}
+use Rattle.wasmi_core.specs.Effects.{ActsAt, reply_of}
+use Rattle.wasmi_core.specs.Runs.{Run}
+use Rattle.wasmi_core.specs.State.{State, live_at}
+use Rattle.wasmi_core.specs.Steps.{BytesRead, BytesWritten, Change, Changed, Effect, FuelSet, LentMemoryMade, MemoryGrown, MemoryMade, RangeWritten, Step, TableGrown, TableMade, TakesChange, TakesEffect, Told, effect_of}
+use Rattle.wasmi_core.specs.TableEffects.{WritesRangeAt, WritesTableAt, write_of}
+use Rattle.wasmi_core.specs.World.{Turn, World}
+use Rattle.wasmi_core.proofs.AccountLemmas.{grows_takes, write_takes}
+use Rattle.wasmi_core.proofs.EffectLemmas.{on_live_too, on_test_too}
+use Rattle.wasmi_laws.specs.Meters.{HasFuel, MoreFuelChangesNothing, NamesNoFuel, meter_with_more, world_with_more}
+
+module _ (more : ℕ) where
+  -- the meter with more fuel
+  abbrev richer : Meter → Meter
+  richer m = meter_with_more more m
+
+  -- what is metered, with more fuel
+  abbrev enriched : {V S : Type 0} → MeteredValue V S → MeteredValue V S
+  enriched s = record { value = s.value; meter = option_map richer s.meter; limiter = s.limiter }
+
+  -- a meter of which so much is left
+  abbrev meter_of : Option ℕ → CustomFuelCosts → Meter
+  meter_of left costs = record { left = left; costs = costs }
+
+  -- the same is due
+  same_due : (left : Option ℕ) (costs : CustomFuelCosts) (price : Option (CustomFuelCosts → ℕ))
+      → optional_due (Some (richer (meter_of left costs))) price ≡ optional_due (Some (meter_of left costs)) price
+  same_due None costs None = refl
+  same_due None costs (Some price) = refl
+  same_due (Some n) costs None = refl
+  same_due (Some n) costs (Some price) = refl
+
+  -- what could be paid still can
+  still_covers : (left : Option ℕ) (costs : CustomFuelCosts) (amount : ℕ)
+      → covers (Some (meter_of left costs)) amount ≡ true
+      → covers (Some (richer (meter_of left costs))) amount ≡ true
+  still_covers None costs amount enough = enough
+  still_covers (Some n) costs amount enough =
+      let within : nat_le amount n ≡ true = enough in grind (arith, nat_tests, within)
+
+  -- a charge leaves as much more
+  same_after : (left : Option ℕ) (costs : CustomFuelCosts) (charge : ℕ) → charge ≤ amount_left (meter_of left costs)
+      → richer (meter_after (meter_of left costs) charge) ≡ meter_after (richer (meter_of left costs)) charge
+  same_after None costs charge within = refl
+  same_after (Some n) costs charge within =
+      let left : charge ≤ n = within in ap (λ k. meter_of (Some k) costs) (omega (arith, left))
+
+  module _ (m : Meter) where
+    -- what is due for a price, before and after
+    module _ (price : Option (CustomFuelCosts → ℕ)) where
+      abbrev due : ℕ
+      due = optional_due (Some m) price
+
+      abbrev richer_due : ℕ
+      richer_due = optional_due (Some (richer m)) price
+
+      due_is : richer_due ≡ due
+      due_is = same_due m.left m.costs price
+
+      payable : covers (Some m) due ≡ true → covers (Some (richer m)) richer_due ≡ true
+      payable enough =
+          subst (λ d. covers (Some (richer m)) d ≡ true) (sym due_is) (still_covers m.left m.costs due enough)
+
+    -- the meter after a charge
+    after_is : (charge : ℕ) (m' : Meter) → charge ≤ amount_left m → Some m' ≡ Some (meter_after m charge)
+        → Some (richer m') ≡ Some (meter_after (richer m) charge)
+    after_is charge m' within same =
+        ap Some (ap richer (same_Some m' (meter_after m charge) same) ∙ same_after m.left m.costs charge within)
+
+  -- an attempt of which no reply says that fuel was wanting
+  module _ {V E S : Type 0} (rules : Rules S) (accepts : AcceptsNotices rules) (refusal : E → Reply) (e : Request V E)
+      (unpaid : (n : ℕ) → HasFuel (refusal (e.unpaid n)) → ⊥) where
+    -- a first cause that isn't want of fuel
+    module _ (m : Meter) (cause : E) (has : HasFuel (refusal cause)) where
+      tested_cause : (tested : Bool) → covers (Some m) (due m e.price) ≡ tested
+          → MatchBool tested (e.refuses cause) (cause ≡ e.unpaid (due m e.price))
+          → (covers (Some m) (due m e.price) ≡ true) × e.refuses cause
+      tested_cause true enough first = (enough, first)
+      tested_cause false short first =
+          absurd (unpaid (due m e.price) (subst (λ c. HasFuel (refusal c)) first has))
+
+      -- is the first with more
+      first_cause : (late : Option E) → IsFirstCause e (Some m) late cause → IsFirstCause e (Some (richer m)) late cause
+      first_cause (Some c) first = first
+      first_cause None first =
+          let tested = tested_cause _ refl first in
+          subst (λ b. MatchBool b (e.refuses cause) (cause ≡ e.unpaid (richer_due m e.price)))
+          (sym (payable m e.price tested.0)) tested.1
+
+      -- and is charged the same
+      failed_charge : (late : Option E) → IsFirstCause e (Some m) late cause
+          → (if is_none late && covers (Some m) (due m e.price) then due m e.price else 0)
+          ≡ (if is_none late && covers (Some (richer m)) (richer_due m e.price) then richer_due m e.price else 0)
+      failed_charge (Some c) first = refl
+      failed_charge None first =
+          let tested = tested_cause _ refl first in rw (tested.0, payable m e.price tested.0) (sym (due_is m e.price))
+
+    -- the reply to a failure tells its cause
+    told_cause : (cause : E) (notice_answer : NoticeAnswer) (l l' : S) → Follows e rules l (Failed cause notice_answer) l'
+        → HasFuel (refusal (error_of_failure e.refusal cause notice_answer)) → HasFuel (refusal cause)
+    told_cause cause notice_answer l l' (permitted, asks, notices) has =
+        subst (λ h. HasFuel (refusal (error_of_failure e.refusal cause h)))
+        (accepts permitted (e.notice cause) notice_answer l' notices) has
+
+    module _ {T : Type 0} (answer : T → Reply) (value : T) (m : Meter) (l l' : S) where
+      -- the attempt may end so
+      may_end : (outcome : AttemptOutcome E) → HasFuel (reply_of answer refusal (answer_of e value outcome))
+          → Follows e rules l outcome l' → MayEnd e (Some m) outcome → MayEnd e (Some (richer m)) outcome
+      may_end (Unasked cause) has follows may = may
+      may_end (Denied given) has follows may = may
+      may_end Met has follows may = (may.0, may.1, payable m e.price may.2)
+      may_end (Failed cause notice_answer) has follows may = (
+        may.0,
+        first_cause m cause (told_cause cause notice_answer l l' follows has) e.late may.1,
+      )
+
+      -- and is charged the same
+      charged : (outcome : AttemptOutcome E) → HasFuel (reply_of answer refusal (answer_of e value outcome))
+          → Follows e rules l outcome l' → MayEnd e (Some m) outcome
+          → outcome_charge e (Some m) outcome ≡ outcome_charge e (Some (richer m)) outcome
+      charged (Unasked cause) has follows may = refl
+      charged (Denied given) has follows may = refl
+      charged Met has follows may = sym (due_is m e.price)
+      charged (Failed cause notice_answer) has follows may =
+          failed_charge m cause (told_cause cause notice_answer l l' follows has) e.late may.1
+
+  module _ {S : Type 0} (rules : Rules S) (accepts : AcceptsNotices rules) where
+    -- a growth
+    grows_richer : {V E : Type 0} (refusal : E → Reply) (g : Growth V E)
+        → ((n : ℕ) → HasFuel (refusal (g.request.unpaid n)) → ⊥)
+        → (x : V) (m : Meter) (l : S) (result : Result ℕ E) (charge : ℕ) (x' : V) (m' : Meter) (l' : S)
+        → HasFuel (reply_of replied.Number refusal result)
+        → Grows rules g (metered_value x (Some m) l) result charge (metered_value x' (Some m') l')
+        → Grows rules g (metered_value x (Some (richer m)) l) result charge (metered_value x' (Some (richer m')) l')
+    grows_richer {V} refusal g unpaid x m l result charge x' m' l' has (inl none) = inl (record {
+      none = none.none;
+      answered = none.answered;
+      uncharged = none.uncharged;
+      same = ap (λ (s : MeteredValue V S). enriched s) none.same;
+    })
+    grows_richer refusal g unpaid x m l result charge x' m' l' has (inr some) =
+        let a = some.attempt in
+        let told = subst (λ r. HasFuel (reply_of replied.Number refusal r)) some.answered has in
+        let takes = grows_takes rules g x m l result charge x' m' l' (inr some) in
+        inr (record {
+          some = some.some;
+          outcome = some.outcome;
+          attempt = record {
+            may_end = may_end rules accepts refusal g.request unpaid replied.Number g.size m l l' some.outcome told
+                a.follows a.may_end;
+            follows = a.follows;
+            charged = a.charged
+                ∙ charged rules accepts refusal g.request unpaid replied.Number g.size m l l' some.outcome told
+                a.follows a.may_end;
+            meter = after_is m charge m' takes.0 a.meter;
+            value = a.value;
+          };
+          answered = some.answered;
+        })
+
+    -- a growth of a table, whose type is tested first
+    table_grows_richer : (n : ℕ) (init : TypedRawRef) (x : TableValue) (m : Meter) (l : S) (result : Result ℕ TableError)
+        (charge : ℕ) (x' : TableValue) (m' : Meter) (l' : S) → HasFuel (reply_of replied.Number replied.Table result)
+        → GrowsTableCharging rules n init (metered_value x (Some m) l) result charge (metered_value x' (Some m') l')
+        → GrowsTableCharging rules n init (metered_value x (Some (richer m)) l) result charge
+        (metered_value x' (Some (richer m')) l')
+    table_grows_richer n init x m l result charge x' m' l' has =
+        on_test_too (same_type x.ty.element init.ty) _ _ _ _
+        (grows_richer replied.Table (record { amount = n; size = size_of x; request = table.growth_of x n init.raw })
+        (λ n none. none) x m l result charge x' m' l' has)
+        (λ h. (h.0, h.1, ap (λ (s : MeteredValue TableValue S). enriched s) h.2))
+
+  -- a call with a charge on what an index names
+  acts_richer : {X R S : Type 0} (k : ℕ) (reply_to : R → Reply)
+      (Acts : MeteredValue X S → R → ℕ → MeteredValue X S → Type 0) (s s' : MeteredValue (List (Slot X)) S)
+      (reply : Reply) (charge : ℕ) → HasFuel reply
+      → ((x x' : X) (result : R) → HasFuel (reply_to result) → Acts (with_value s x) result charge (with_value s' x')
+      → Acts (with_value (enriched s) x) result charge (with_value (enriched s') x'))
+      → ActsAt k reply_to Acts s reply charge s' → ActsAt k reply_to Acts (enriched s) reply charge (enriched s')
+  acts_richer k reply_to Acts s s' reply charge has richer_acts acts =
+      on_live_too (live_at s.value k) _ _ _ _ (λ missing. (missing.0, missing.1, ap enriched missing.2))
+      (λ x h. (h.0, h.1, richer_acts x h.1 h.0 (subst HasFuel h.3 has) h.2, h.3, h.4)) acts
+
+  -- a write over a part of a table, by how it ends
+  module _ (w : TableWrite) (x : TableValue) (m : Meter) (end : WriteEnding)
+      (has : HasFuel (reply_of (λ _. replied.Done) replied.Table end.result)) where
+    abbrev price : Option (CustomFuelCosts → ℕ)
+    price = option_map element_price w.paid
+
+    ends_richer : (typed : Bool) (written : Option (List ℕ)) (paid : Bool) → covers (Some m) (due m price) ≡ paid
+        → EndsBy w (metered x (Some m)) typed written paid end
+        → EndsBy w (metered x (Some (richer m))) typed written (covers (Some (richer m)) (richer_due m price)) end
+    ends_richer false written paid enough ends = ends
+    ends_richer true None paid enough ends = ends
+    ends_richer true (Some elements) false enough ends =
+        absurd (subst (λ r. HasFuel (reply_of (λ _. replied.Done) replied.Table r)) ends.0 has)
+    ends_richer true (Some elements) true enough ends =
+        subst (λ b. EndsBy w (metered x (Some (richer m))) true (Some elements) b end)
+        (sym (payable m price enough)) (ends.0, ends.1 ∙ sym (due_is m price), ends.2)
+
+  -- so a write
+  write_richer : (write : TableValue → TableWrite) (x : TableValue) (m : Meter) (result : Result (Unit {0}) TableError)
+      (charge : ℕ) (x' : TableValue) (m' : Meter) → HasFuel (reply_of (λ _. replied.Done) replied.Table result)
+      → WritesTableCharging write (metered x (Some m)) result charge (metered x' (Some m'))
+      → WritesTableCharging write (metered x (Some (richer m))) result charge (metered x' (Some (richer m')))
+  write_richer write x m result charge x' m' has writes = record {
+    ends = ends_richer (write x) x m (record { result = result; charge = charge; value = x' }) has (write x).typed
+        (write x).written _ refl writes.ends;
+    meter = after_is m charge m' (write_takes write x m result charge x' m' writes).0 writes.meter;
+  }
+
+  -- so where the write may be missing
+  range_richer : (k : ℕ) (part : Option (TableValue → TableWrite)) (slots : List (Slot TableValue)) (m : Meter)
+      (reply : Reply) (charge : ℕ) (slots' : List (Slot TableValue)) (m' : Meter) → HasFuel reply
+      → WritesRangeAt k part (metered slots (Some m)) reply charge (metered slots' (Some m'))
+      → WritesRangeAt k part (metered slots (Some (richer m))) reply charge (metered slots' (Some (richer m')))
+  range_richer k part slots m reply charge slots' m' has writes =
+      on_live_too part _ _ _ _ (λ missing. (missing.0, missing.1, ap enriched missing.2))
+      (λ write h. acts_richer {X = TableValue} {S = Unit {0}} k (reply_of (λ _. replied.Done) replied.Table)
+      (WritesTableCharging write) (metered slots (Some m)) (metered slots' (Some m')) reply charge has
+      (λ x x' result told. write_richer write x m result charge x' m' told) h) writes
+
+  -- the state with more fuel
+  abbrev richer_state : State → State
+  richer_state s = record s { meter = richer s.meter }
+
+  -- a change of one part
+  change_richer : (change : Change) (s : State) (reply : Reply) (s' : State) → TakesChange change s reply s'
+      → TakesChange change (richer_state s) reply (richer_state s')
+  change_richer (BytesWritten k offset bytes) s reply s' changes =
+      record { part = changes.part; effect = changes.effect; after = ap richer_state changes.after }
+  change_richer change s reply s' changes =
+      record { part = changes.part; effect = changes.effect; after = ap richer_state changes.after }
+
+-- the effect doesn't set the fuel
+abbrev KeepsFuel : Effect → Type 0
+KeepsFuel (FuelSet fuel) = ⊥
+KeepsFuel effect = Unit {0}
+
+-- so where the call doesn't
+keeps_fuel : (s : State) (call : Call) → NamesNoFuel call → KeepsFuel (effect_of s call)
+keeps_fuel s (SetFuel fuel) other = absurd other
+keeps_fuel s call other = tt
+
+-- the effect of a call that doesn't ask for the fuel is the same, whatever the meter
+same_effect : (s : State) (m : Meter) (call : Call) → NamesNoFuel call
+    → effect_of (record s { meter = m }) call ≡ effect_of s call
+same_effect s m GetFuel other = absurd other
+same_effect s m call other = refl
+
+module _ (more : ℕ) {S : Type 0} (rules : Rules S) (accepts : AcceptsNotices rules) where
+  abbrev richer_world : World S → World S
+  richer_world w = world_with_more more w
+
+  module _ (w : World S) (turn : Turn) (w' : World S) (has : HasFuel turn.reply) where
+    -- each effect
+    effect_richer : (effect : Effect) → KeepsFuel effect → TakesEffect rules effect w turn w'
+        → TakesEffect rules effect (richer_world w) turn (richer_world w')
+    effect_richer (Told told) keeps step =
+        record { free = step.free; effect = step.effect; after = ap richer_world step.after }
+    effect_richer (BytesRead k offset len) keeps step =
+        record { free = step.free; effect = step.effect; after = ap richer_world step.after }
+    effect_richer (FuelSet fuel) keeps step = absurd keeps
+    effect_richer (Changed change) keeps step = record {
+      free = step.free;
+      machine = richer_state more step.machine;
+      effect = change_richer more change w.state turn.reply step.machine step.effect;
+      after = ap richer_world step.after;
+    }
+    effect_richer (MemoryMade ty) keeps step = record {
+      free = step.free;
+      part = step.part;
+      limiter = step.limiter;
+      effect = step.effect;
+      after = ap richer_world step.after;
+    }
+    effect_richer (LentMemoryMade ty) keeps step = record {
+      free = step.free;
+      part = step.part;
+      limiter = step.limiter;
+      effect = step.effect;
+      after = ap richer_world step.after;
+    }
+    effect_richer (TableMade ty init) keeps step = record {
+      free = step.free;
+      part = step.part;
+      limiter = step.limiter;
+      effect = step.effect;
+      after = ap richer_world step.after;
+    }
+    effect_richer (MemoryGrown k pages) keeps step = record {
+      part = step.part;
+      meter = richer more step.meter;
+      limiter = step.limiter;
+      effect = acts_richer more k (reply_of replied.Number replied.Memory) (GrowsMemoryCharging rules pages)
+          (metered_value w.state.memories (Some w.state.meter) w.limiter)
+          (metered_value step.part (Some step.meter) step.limiter) turn.reply turn.charge has
+          (λ x x' result told. grows_richer more rules accepts replied.Memory
+          (record { amount = pages; size = pages_of x; request = memory.growth_of x pages }) (λ n none. none) x
+          w.state.meter w.limiter result turn.charge x' step.meter step.limiter told) step.effect;
+      wrote = step.wrote;
+      after = ap richer_world step.after;
+    }
+    effect_richer (TableGrown k n init) keeps step = record {
+      part = step.part;
+      meter = richer more step.meter;
+      limiter = step.limiter;
+      effect = acts_richer more k (reply_of replied.Number replied.Table) (GrowsTableCharging rules n init)
+          (metered_value w.state.tables (Some w.state.meter) w.limiter)
+          (metered_value step.part (Some step.meter) step.limiter) turn.reply turn.charge has
+          (λ x x' result told. table_grows_richer more rules accepts n init x w.state.meter w.limiter result turn.charge x'
+          step.meter step.limiter told) step.effect;
+      wrote = step.wrote;
+      after = ap richer_world step.after;
+    }
+    effect_richer (RangeWritten k source dst len) keeps step = record {
+      part = step.part;
+      meter = richer more step.meter;
+      effect = range_richer more k (write_of source dst len) w.state.tables w.state.meter turn.reply turn.charge step.part
+          step.meter has step.effect;
+      wrote = step.wrote;
+      after = ap richer_world step.after;
+    }
+
+    -- so each step
+    step_richer : NamesNoFuel turn.call → Step rules w turn w' → Step rules (richer_world w) turn (richer_world w')
+    step_richer other step =
+        subst (λ effect. TakesEffect rules effect (richer_world w) turn (richer_world w'))
+        (sym (same_effect w.state (richer more w.state.meter) turn.call other))
+        (effect_richer (effect_of w.state turn.call) (keeps_fuel w.state turn.call other) step)
+
+  -- so a run
+  run_richer : (w : World S) (turns : List Turn) (w' : World S) → All NamesNoFuel (map Turn.call turns)
+      → All HasFuel (map Turn.reply turns) → Run rules w turns w' → Run rules (richer_world w) turns (richer_world w')
+  run_richer w [] w' others has ran = ap richer_world ran
+  run_richer w (turn ∷ turns) w' others has (v, step, ran) = (
+    richer_world v,
+    step_richer w turn v (All-head HasFuel turn.reply (map Turn.reply turns) has)
+        (All-head NamesNoFuel turn.call (map Turn.call turns) others) step,
+    run_richer v turns w' (All-tail NamesNoFuel turn.call (map Turn.call turns) others)
+        (All-tail HasFuel turn.reply (map Turn.reply turns) has) ran,
+  )
+
+-- a limiter that may be absent accepts each notice if the limiter does
+optional_accepts : {L : Type 0} (rules : Rules L) → AcceptsNotices rules → AcceptsNotices (optional_rules rules)
+optional_accepts rules accepts (Some l) failure notice_answer (Some l') notices =
+    accepts l failure notice_answer l' notices
+optional_accepts rules accepts (Some l) failure notice_answer None notices = absurd notices
+optional_accepts rules accepts None failure notice_answer (Some l') notices = absurd notices
+optional_accepts rules accepts None failure notice_answer None notices = notices
+
+-- a run under a limiter that accepts each notice
+pub more_fuel_changes_nothing : {L : Type 0} (rules : Rules L) → MoreFuelChangesNothing rules
+more_fuel_changes_nothing rules accepts more =
+    run_richer more (optional_rules rules) (optional_accepts rules accepts)
