@@ -15,6 +15,8 @@ use Rattle.wasmi_core.specs.Validity.{IsValid, IsValidCall}
 use Rattle.wasmi_core.specs.State.{State}
 use Rattle.wasmi_core.specs.LentMemory.{RunInRegions, owned_world, unlent_world}
 use Rattle.wasmi_core.specs.Determinism.{HasMemory, HaveMemory}
+use Rattle.wasmi_laws.specs.Runs.{IsWithinCapsOf}
+use Rattle.wasmi_laws.proofs.RunsLemmas.{held_within}
 use Rattle.wasmi_callers.specs.Runs.{FitsAnyRegions, HasRegionFor}
 use Rattle.wasmi_core.specs.Laws.{LentRunsAreOwned, LentCreationsAreOwned, HoldsTotalsAlways, QuotasStayWithin, RunsKeepValidity}
 use Rattle.wasmi_meter.specs.declared.limiter.Kind.{Kind}
@@ -29,6 +31,22 @@ use Rattle.wasmi_core.specs.Totals.{total, HoldsTotals}
 pub if_ok_too : {T E : Type 0} {P Q : T → Type 0} (r : Result T E) → IfOk r P → ((x : T) → P x → Q x) → IfOk r Q
 if_ok_too (Ok x) h too = too x h
 if_ok_too (Err e) h too = tt
+
+-- what holds of a state, and after each run from it, holds after a run that was accepted or refused
+pub holds_after : {S R E Other : Type 0} (rules : Rules S) (items : R → List Reply) (calls : List Call) (w w' : World S)
+    (Holds : State → Type 0) (result : Result R E) → ((turns : List Turn) → Run rules w turns w' → Holds w'.state)
+    → Holds w.state → IfOk result (λ replies. IsRunOf rules calls w (items replies) w')
+    → OnErr result ((w'.state ≡ w.state) × Other) → Holds w'.state
+holds_after rules items calls w w' Holds (Ok replies) runs first ran same = runs ran.0 ran.3
+holds_after rules items calls w w' Holds (Err error) runs first ran same = subst Holds (sym same.0) first
+
+-- the parts of a world that is the same
+pub same_parts : {L : Type 0} (s s' : State) (l l' : L) → world s' (Some l') ≡ world s (Some l)
+    → (s' ≡ s) × (l' ≡ l)
+same_parts {L} s s' l l' same = (
+  ap (λ (w : World (Option L)). w.state) same,
+  same_Some l' l (ap (λ (w : World (Option L)). w.limiter) same),
+)
 
 -- a fact of whatever value
 pub if_ok_always : {T E : Type 0} {P : Type 0} (r : Result T E) → P → IfOk r (λ _. P)
@@ -104,16 +122,6 @@ pub replies_have : (turns : List Turn) (replies : List Reply) → map Turn.reply
     → HaveMemory turns
 replies_have turns replies is has = all_have turns (subst (All HasMemory) (sym is) has)
 
--- a machine has no more than the caps of a quota
-abbrev IsWithin : State → Quota → Type 0
-IsWithin s quota = (kind : Kind) → total s kind ≤ cap_of quota kind
-
--- a machine is within caps where a quota holds what it has, is within its caps, and has the same caps
-held_within : (s : State) (first quota : Quota) → HoldsTotals (holdings quota) s → IsWithinCaps quota
-    → SameCaps first quota → IsWithin s first
-held_within s first quota held within caps Bytes = omega (arith, held.bytes, within Bytes, caps Bytes)
-held_within s first quota held within caps Elements = omega (arith, held.elements, within Elements, caps Elements)
-
 -- a quota that held what a machine has does so after a run that was accepted or refused
 pub held_after : {R E : Type 0} (items : R → List Reply) → HoldsTotalsAlways quota_rules holdings → (s s' : State)
     (quota quota' : Quota) (calls : List Call) (result : Result R E) → HoldsTotals (holdings quota) s
@@ -133,7 +141,7 @@ pub within_quota : {R E : Type 0} (items : R → List Reply) → QuotasStayWithi
     → IfOk result
     (λ replies. IsRunOf (optional_rules quota_rules) calls (world s (Some quota)) (items replies)
     (world s' (Some quota')))
-    → OnErr result ((s' ≡ s) × (quota' ≡ quota)) → IsWithin s' quota
+    → OnErr result ((s' ≡ s) × (quota' ≡ quota)) → IsWithinCapsOf quota s'
 within_quota items stays s s' quota quota' calls (Ok replies) within held ran same =
     let after = stays s quota within ran.0 (world s' (Some quota')) ran.3 in
     let is : quota' ≡ after.0 = same_Some quota' after.0 after.1 in

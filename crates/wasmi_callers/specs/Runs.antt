@@ -13,7 +13,7 @@ use Rattle.wasmi_core.specs.declared.calls.Reply.TheVariants.{Number}
 use Rattle.wasmi_core.specs.World.{World, Turn}
 use Rattle.wasmi_core.specs.Exchange.{Exchanges}
 use Rattle.wasmi_core.specs.Steps.{Step}
-use Rattle.wasmi_core.specs.Runs.{Sequence, Run, AreTurns}
+use Rattle.wasmi_core.specs.Runs.{Sequence, Run, AreTurns, IsRunOf}
 use Rattle.wasmi_core.specs.declared.slots.Slot.TheVariants.{Live}
 use Rattle.wasmi_core.specs.State.{State, live_at}
 use Rattle.wasmi_core.specs.Account.{opened, account_after, Balances}
@@ -22,6 +22,9 @@ use Rattle.wasmi_core.specs.Laws.{IsRefusal, Keeps, KeepsMeter}
 use Rattle.wasmi_core.specs.LentMemory.{FitsRegions}
 use Rattle.wasmi_core.specs.Validity.{IsValid}
 use Rattle.wasmi_core.specs.Writing.{IsBounded, IsSpent}
+use Rattle.wasmi_meter.specs.declared.quota.Quota.{Quota}
+use Rattle.wasmi_laws.specs.Runs.{IsRunInTwo, IsWithinCapsOf}
+use Rattle.wasmi_laws.specs.Meters.{world_with_more}
 
 -- calls are run with these replies, by turns of which a fact holds
 abbrev pub RunsBy : {S : Type 0} → Rules S → (List Turn → Type 0) → List Call → World S → List Reply → World S → Type 0
@@ -141,3 +144,18 @@ StaysValid rules calls w replies w' = RunsByTurns rules (λ v turn v'. IsValid v
 -- by neither
 abbrev pub IsExchanged : {S : Type 0} → Rules S → List Call → World S → List Reply → World S → Type 0
 IsExchanged rules calls w replies w' = RunsByTurns rules (Exchanges rules) calls w replies w'
+
+-- wherever calls are cut, they are two runs in a row
+abbrev pub IsRunInParts : {S : Type 0} → Rules S → List Call → World S → List Reply → World S → Type 0
+IsRunInParts rules calls w replies w' =
+    (first : List Call) (rest : List Call) → calls ≡ first ++ rest → IsRunInTwo rules first rest w replies w'
+
+-- after each turn of a run the machine is within the caps of a quota
+abbrev pub StaysWithin : {S : Type 0} → Rules S → Quota → List Call → World S → List Reply → World S → Type 0
+StaysWithin rules quota calls w replies w' =
+    RunsByTurns rules (λ v turn v'. IsWithinCapsOf quota v'.state) calls w replies w'
+
+-- the replies are those of a run of the calls with any more fuel, all of which is left at its end
+abbrev pub RunsWithMore : {S : Type 0} → Rules S → List Call → World S → List Reply → World S → Type 0
+RunsWithMore rules calls w replies w' =
+    (more : ℕ) → IsRunOf rules calls (world_with_more more w) replies (world_with_more more w')

@@ -4,6 +4,7 @@
 
 pub mod lanes;
 pub mod lending;
+pub mod meters;
 pub mod pools;
 pub mod recorder;
 pub mod runs;

@@ -1,18 +1,21 @@
 //! Callers of the laws over turns and runs.
-ghost use Rattle.std.specs.Prelude.{◌≡◌, ◌++◌, ◌≤◌, [], ◌∷◌, Some, IfOk, All};
+ghost use Rattle.std.specs.Prelude.{◌≡◌, ◌++◌, ◌≤◌, [], ◌∷◌, ℕ, Some, IfOk, All, slice_get};
 ghost use Rattle.wasmi_store.specs.MemoryType.{MemoryTypeValue};
 ghost use Rattle.wasmi_meter.specs.Limiter.{optional_rules};
+ghost use Rattle.wasmi_meter.specs.declared.limiter.Kind.{Kind};
 ghost use Rattle.wasmi_meter.specs.declared.limiter.Kind.TheVariants.{Bytes, Elements};
 ghost use Rattle.wasmi_meter.specs.Quota.{holdings, cap_of, IsWithinCaps, quota_rules};
 ghost use Rattle.wasmi_core.specs.Account.{SetsNoFuel};
+ghost use Rattle.wasmi_core.specs.Exchange.{Nowhere, place_of};
 ghost use Rattle.wasmi_core.specs.LentMemory.{owned_world, unlent_world};
 ghost use Rattle.wasmi_core.specs.Laws.{IsRefusal, SameContents, KeepsSpare};
 ghost use Rattle.wasmi_core.specs.Permission.{permitting, TellsNoDenial};
 ghost use Rattle.wasmi_core.specs.Runs.{IsRunOf};
-ghost use Rattle.wasmi_core.specs.Totals.{total, HoldsTotals};
+ghost use Rattle.wasmi_core.specs.Totals.{sizes, total, HoldsTotals};
 ghost use Rattle.wasmi_core.specs.Validity.{IsValid, IsValidCall};
 ghost use Rattle.wasmi_core.specs.World.{world};
-ghost use Rattle.wasmi_callers.specs.Runs.{IsBilled, IsBoundedBy, IsSpentBy, IsExchanged, KeepsWhereRefused, IsMeterKept, StaysValid, IsRunOfBoth, FitsAnyRegions, NeitherIsOutOfMemory, AreSameTurns, HasRegionFor, GrowsInRegions};
+ghost use Rattle.wasmi_laws.specs.Runs.{IsPlainRefusal};
+ghost use Rattle.wasmi_callers.specs.Runs.{IsBilled, IsBoundedBy, IsSpentBy, IsExchanged, KeepsWhereRefused, IsMeterKept, StaysValid, IsRunOfBoth, FitsAnyRegions, NeitherIsOutOfMemory, AreSameTurns, HasRegionFor, GrowsInRegions, IsRunInParts, StaysWithin};
 
 use std::alloc::AllocError;
 use wasmi_core::{Call, Machine, NoLimits, Quota, Reply, ResourceLimiter, laws, run_lending};
@@ -239,4 +242,82 @@ pub fn run_in_regions<L: ResourceLimiter>(
     laws::lent_runs_are_owned::<L>();
     laws::lent_creations_are_owned::<L>();
     run_lending(machine, calls, limiter)
+}
+
+/// Makes one call. If it is refused plainly, or is refused and makes nothing and lets nothing grow,
+/// then neither the machine nor the limiter has changed, nor the meter.
+pub fn call_plainly_refused<L: ResourceLimiter>(
+    machine: &mut Machine,
+    call: &Call,
+    limiter: &mut L,
+) -> Reply
+    ensures machine { IsPlainRefusal result → machine.new ≡ machine.old }
+    ensures limiter { IsPlainRefusal result → limiter.new ≡ limiter.old }
+    ensures others { place_of call.now ≡ Nowhere → IsRefusal result
+        → (machine.new ≡ machine.old) × (limiter.new ≡ limiter.old) }
+{
+    wasmi_laws::plain_refusals_change_nothing::<L>();
+    machine.step_lending(call, limiter)
+}
+
+/// Makes calls that may each be refused plainly. If all are, neither the machine nor the limiter has
+/// changed.
+pub fn run_plainly_refused<L: ResourceLimiter>(
+    machine: &mut Machine,
+    calls: &[Call],
+    limiter: &mut L,
+) -> Result<Vec<Reply>, AllocError>
+    ensures { IfOk result (λ replies. All IsPlainRefusal replies.items
+        → (machine.new ≡ machine.old) × (limiter.new ≡ limiter.old)) }
+{
+    wasmi_laws::plain_refusals_change_nothing::<L>();
+    run_lending(machine, calls, limiter)
+}
+
+/// Makes calls. Wherever they are cut, the first ones with as many replies are a run, and the others
+/// are a run from where that ends: so what holds of each run holds up to each place of this one.
+pub fn run_in_parts<L: ResourceLimiter>(
+    machine: &mut Machine,
+    calls: &[Call],
+    limiter: &mut L,
+) -> Result<Vec<Reply>, AllocError>
+    ensures { IfOk result (λ replies. IsRunInParts (optional_rules L.rules) calls.now
+        (world machine.old (Some limiter.old)) replies.items
+        (world machine.new (Some limiter.new))) }
+{
+    wasmi_laws::runs_are_cut::<L>();
+    run_lending(machine, calls, limiter)
+}
+
+/// Makes calls, whether there is memory for the replies or not. Each memory and each table that was
+/// there, dropped or not, is at its index and has at least the size that it had, and the machine has
+/// no less in all.
+pub fn run_growing<L: ResourceLimiter>(
+    machine: &mut Machine,
+    calls: &[Call],
+    limiter: &mut L,
+) -> Result<Vec<Reply>, AllocError>
+    ensures sizes { (kind : Kind) (k n : ℕ) → slice_get (sizes machine.old kind) k ≡ Some n
+        → (m : ℕ) × (slice_get (sizes machine.new kind) k ≡ Some m) × (n ≤ m) }
+    ensures totals { (kind : Kind) → total machine.old kind ≤ total machine.new kind }
+{
+    wasmi_laws::sizes_never_shrink::<L>();
+    run_lending(machine, calls, limiter)
+}
+
+/// Makes calls under a quota that holds what the machine has, and no more than its caps: after each
+/// turn the machine is within these caps.
+pub fn run_within_caps(
+    machine: &mut Machine,
+    calls: &[Call],
+    quota: &mut Quota,
+) -> Result<Vec<Reply>, AllocError>
+    requires held { HoldsTotals (holdings quota.old) machine.old }
+    requires within { IsWithinCaps quota.old }
+    ensures { IfOk result (λ replies. StaysWithin (optional_rules quota_rules) quota.old calls.now
+        (world machine.old (Some quota.old)) replies.items
+        (world machine.new (Some quota.new))) }
+{
+    wasmi_laws::caps_hold_in_runs();
+    run_lending(machine, calls, quota)
 }

@@ -44,19 +44,21 @@ fuel_falls call other m charge m' changes =
     subst (λ (x : Meter). amount_left x ≤ amount_left m) (sym changes.1) (left_falls charge m.left)
 
 module _ {S : Type 0} (rules : Rules S) where
-  -- so each turn of a run
+  -- a run keeps the costs
   pub costs_are_kept : CostsAreKept rules
   costs_are_kept w [] w' ran = ap (λ (v : World S). v.state.meter.costs) ran
   costs_are_kept w (turn ∷ turns) w' (v, step, ran) =
       costs_are_kept v turns w' ran
       ∙ costs_kept turn.call w.state.meter turn.charge v.state.meter (step_meter rules w turn v step)
 
+  -- a run keeps the switch
   pub switch_is_kept : SwitchIsKept rules
   switch_is_kept w [] w' ran = ap (λ (v : World S). is_some v.state.meter.left) ran
   switch_is_kept w (turn ∷ turns) w' (v, step, ran) =
       switch_is_kept v turns w' ran
       ∙ switch_kept turn.call w.state.meter turn.charge v.state.meter (step_meter rules w turn v step)
 
+  -- a run of calls that don't set the fuel leaves no more
   pub fuel_never_rises : FuelNeverRises rules
   fuel_never_rises w [] w' ran others = omega (arith, ap (λ (v : World S). amount_left v.state.meter) ran)
   fuel_never_rises w (turn ∷ turns) w' (v, step, ran) others =

@@ -1,15 +1,15 @@
 -- A run that never ran short of fuel, with more of it.
-use Rattle.std.proofs.Common.{◌≡◌, ◌∙◌, ◌≤◌, ◌+◌, ◌-◌, ℕ, Bool, true, false, Option, Some, None, Result, Ok, Err, List, [], ◌∷◌, map, inl, inr, refl, sym, ap, subst, arith}
+use Rattle.std.proofs.Common.{◌≡◌, ◌∙◌, ◌≤◌, ℕ, Bool, true, false, Option, Some, None, Result, List, [], ◌∷◌, map, inl, inr, refl, sym, ap, subst, arith}
 use Rattle.std.proofs.lemmas.Bool.Decides.{nat_tests}
 use Rattle.std.proofs.lemmas.List.Elements.{All-head, All-tail}
-use Rattle.std.proofs.lemmas.Option.{none-some, same_Some}
+use Rattle.std.proofs.lemmas.Option.{same_Some}
 use Rattle.std.specs.Option.{option_map}
 use Rattle.std.specs.Prelude.{All, MatchBool, is_none, nat_le, ◌&&◌, if◌then◌else◌}
 use Rattle.wasmi_typed.specs.declared.typed_ref.TypedRawRef.{TypedRawRef}
 use Rattle.wasmi_meter.specs.declared.error.TableError.{TableError}
 use Rattle.wasmi_meter.specs.declared.fuel.CustomFuelCosts.{CustomFuelCosts}
-use Rattle.wasmi_meter.specs.Attempt.{Attempt, AttemptOutcome, Unasked, Denied, Met, Failed, Follows, IsFirstCause, MayEnd, MeteredValue, Request, answer_of, covers, error_of_failure, optional_due, outcome_charge, with_value}
-use Rattle.wasmi_meter.specs.Limiter.{AskedIf, Failure, NoticeAnswer, NoticedIf, Rules, optional_rules}
+use Rattle.wasmi_meter.specs.Attempt.{AttemptOutcome, Unasked, Denied, Met, Failed, Follows, IsFirstCause, MayEnd, MeteredValue, Request, answer_of, covers, error_of_failure, optional_due, outcome_charge, with_value}
+use Rattle.wasmi_meter.specs.Limiter.{Rules, optional_rules}
 use Rattle.wasmi_meter.specs.Meter.{Meter, amount_left, meter_after}
 use Rattle.wasmi_store.specs.Growth.{Grows, Growth, metered, metered_value}
 use Rattle.wasmi_store.specs.Memory as memory
@@ -27,11 +27,26 @@ use Rattle.wasmi_core.specs.Effects.{ActsAt, reply_of}
 use Rattle.wasmi_core.specs.Runs.{Run}
 use Rattle.wasmi_core.specs.State.{State, live_at}
 use Rattle.wasmi_core.specs.Steps.{BytesRead, BytesWritten, Change, Changed, Effect, FuelSet, LentMemoryMade, MemoryGrown, MemoryMade, RangeWritten, Step, TableGrown, TableMade, TakesChange, TakesEffect, Told, effect_of}
-use Rattle.wasmi_core.specs.TableEffects.{WritesRangeAt, WritesTableAt, write_of}
+use Rattle.wasmi_core.specs.TableEffects.{WritesRangeAt, write_of}
 use Rattle.wasmi_core.specs.World.{Turn, World}
-use Rattle.wasmi_core.proofs.AccountLemmas.{grows_takes, write_takes}
+use Rattle.wasmi_core.proofs.AccountLemmas.{Growing, after, before, growing, grows_takes, write_takes}
 use Rattle.wasmi_core.proofs.EffectLemmas.{on_live_too, on_test_too}
 use Rattle.wasmi_laws.specs.Meters.{HasFuel, MoreFuelChangesNothing, NamesNoFuel, meter_with_more, world_with_more}
+
+module _ {V E : Type 0} (refusal : E → Reply) (e : Request V E) where
+  -- the reply to the cause of a failure doesn't say that fuel was wanting
+  abbrev Tells : AttemptOutcome E → Type 0
+  Tells (Failed cause notice_answer) = HasFuel (refusal cause)
+  Tells outcome = Unit {0}
+
+  -- so where the limiter accepts each notice, and the reply to the attempt doesn't say it
+  tells : {S T : Type 0} (rules : Rules S) → AcceptsNotices rules → (answer : T → Reply) (value : T) (l l' : S)
+      (outcome : AttemptOutcome E) → HasFuel (reply_of answer refusal (answer_of e value outcome))
+      → Follows e rules l outcome l' → Tells outcome
+  tells rules accepts answer value l l' (Failed cause notice_answer) has (permitted, asks, notices) =
+      subst (λ h. HasFuel (refusal (error_of_failure e.refusal cause h)))
+      (accepts permitted (e.notice cause) notice_answer l' notices) has
+  tells rules accepts answer value l l' outcome has follows = tt
 
 module _ (more : ℕ) where
   -- the meter with more fuel
@@ -70,17 +85,21 @@ module _ (more : ℕ) where
       let left : charge ≤ n = within in ap (λ k. meter_of (Some k) costs) (omega (arith, left))
 
   module _ (m : Meter) where
-    -- what is due for a price, before and after
+    -- what is due for a price
     module _ (price : Option (CustomFuelCosts → ℕ)) where
+      -- before
       abbrev due : ℕ
       due = optional_due (Some m) price
 
+      -- with more fuel
       abbrev richer_due : ℕ
       richer_due = optional_due (Some (richer m)) price
 
+      -- both are the same
       due_is : richer_due ≡ due
       due_is = same_due m.left m.costs price
 
+      -- and can still be paid
       payable : covers (Some m) due ≡ true → covers (Some (richer m)) richer_due ≡ true
       payable enough =
           subst (λ d. covers (Some (richer m)) d ≡ true) (sym due_is) (still_covers m.left m.costs due enough)
@@ -91,108 +110,97 @@ module _ (more : ℕ) where
     after_is charge m' within same =
         ap Some (ap richer (same_Some m' (meter_after m charge) same) ∙ same_after m.left m.costs charge within)
 
-  -- an attempt of which no reply says that fuel was wanting
-  module _ {V E S : Type 0} (rules : Rules S) (accepts : AcceptsNotices rules) (refusal : E → Reply) (e : Request V E)
+  -- an attempt whose error for want of fuel has a reply that says so
+  module _ {V E : Type 0} (refusal : E → Reply) (e : Request V E)
       (unpaid : (n : ℕ) → HasFuel (refusal (e.unpaid n)) → ⊥) where
-    -- a first cause that isn't want of fuel
-    module _ (m : Meter) (cause : E) (has : HasFuel (refusal cause)) where
-      tested_cause : (tested : Bool) → covers (Some m) (due m e.price) ≡ tested
+    module _ (m : Meter) where
+      -- a first cause that isn't want of fuel: so much could be paid
+      tested_cause : (cause : E) → HasFuel (refusal cause) → (tested : Bool)
+          → covers (Some m) (due m e.price) ≡ tested
           → MatchBool tested (e.refuses cause) (cause ≡ e.unpaid (due m e.price))
           → (covers (Some m) (due m e.price) ≡ true) × e.refuses cause
-      tested_cause true enough first = (enough, first)
-      tested_cause false short first =
+      tested_cause cause has true enough first = (enough, first)
+      tested_cause cause has false short first =
           absurd (unpaid (due m e.price) (subst (λ c. HasFuel (refusal c)) first has))
 
-      -- is the first with more
-      first_cause : (late : Option E) → IsFirstCause e (Some m) late cause → IsFirstCause e (Some (richer m)) late cause
-      first_cause (Some c) first = first
-      first_cause None first =
-          let tested = tested_cause _ refl first in
+      -- it is the first with more fuel
+      first_cause : (cause : E) → HasFuel (refusal cause) → (late : Option E) → IsFirstCause e (Some m) late cause
+          → IsFirstCause e (Some (richer m)) late cause
+      first_cause cause has (Some c) first = first
+      first_cause cause has None first =
+          let tested = tested_cause cause has _ refl first in
           subst (λ b. MatchBool b (e.refuses cause) (cause ≡ e.unpaid (richer_due m e.price)))
           (sym (payable m e.price tested.0)) tested.1
 
-      -- and is charged the same
-      failed_charge : (late : Option E) → IsFirstCause e (Some m) late cause
+      -- it is charged the same
+      failed_charge : (cause : E) → HasFuel (refusal cause) → (late : Option E) → IsFirstCause e (Some m) late cause
           → (if is_none late && covers (Some m) (due m e.price) then due m e.price else 0)
           ≡ (if is_none late && covers (Some (richer m)) (richer_due m e.price) then richer_due m e.price else 0)
-      failed_charge (Some c) first = refl
-      failed_charge None first =
-          let tested = tested_cause _ refl first in rw (tested.0, payable m e.price tested.0) (sym (due_is m e.price))
+      failed_charge cause has (Some c) first = refl
+      failed_charge cause has None first =
+          let tested = tested_cause cause has _ refl first in
+          rw (tested.0, payable m e.price tested.0) (sym (due_is m e.price))
 
-    -- the reply to a failure tells its cause
-    told_cause : (cause : E) (notice_answer : NoticeAnswer) (l l' : S) → Follows e rules l (Failed cause notice_answer) l'
-        → HasFuel (refusal (error_of_failure e.refusal cause notice_answer)) → HasFuel (refusal cause)
-    told_cause cause notice_answer l l' (permitted, asks, notices) has =
-        subst (λ h. HasFuel (refusal (error_of_failure e.refusal cause h)))
-        (accepts permitted (e.notice cause) notice_answer l' notices) has
-
-    module _ {T : Type 0} (answer : T → Reply) (value : T) (m : Meter) (l l' : S) where
       -- the attempt may end so
-      may_end : (outcome : AttemptOutcome E) → HasFuel (reply_of answer refusal (answer_of e value outcome))
-          → Follows e rules l outcome l' → MayEnd e (Some m) outcome → MayEnd e (Some (richer m)) outcome
-      may_end (Unasked cause) has follows may = may
-      may_end (Denied given) has follows may = may
-      may_end Met has follows may = (may.0, may.1, payable m e.price may.2)
-      may_end (Failed cause notice_answer) has follows may = (
-        may.0,
-        first_cause m cause (told_cause cause notice_answer l l' follows has) e.late may.1,
-      )
+      may_end : (outcome : AttemptOutcome E) → Tells refusal e outcome → MayEnd e (Some m) outcome
+          → MayEnd e (Some (richer m)) outcome
+      may_end (Unasked cause) told may = may
+      may_end (Denied given) told may = may
+      may_end Met told may = (may.0, may.1, payable m e.price may.2)
+      may_end (Failed cause notice_answer) told may = (may.0, first_cause cause told e.late may.1)
 
-      -- and is charged the same
-      charged : (outcome : AttemptOutcome E) → HasFuel (reply_of answer refusal (answer_of e value outcome))
-          → Follows e rules l outcome l' → MayEnd e (Some m) outcome
+      -- the attempt is charged the same
+      same_charge : (outcome : AttemptOutcome E) → Tells refusal e outcome → MayEnd e (Some m) outcome
           → outcome_charge e (Some m) outcome ≡ outcome_charge e (Some (richer m)) outcome
-      charged (Unasked cause) has follows may = refl
-      charged (Denied given) has follows may = refl
-      charged Met has follows may = sym (due_is m e.price)
-      charged (Failed cause notice_answer) has follows may =
-          failed_charge m cause (told_cause cause notice_answer l l' follows has) e.late may.1
+      same_charge (Unasked cause) told may = refl
+      same_charge (Denied given) told may = refl
+      same_charge Met told may = sym (due_is m e.price)
+      same_charge (Failed cause notice_answer) told may = failed_charge cause told e.late may.1
 
   module _ {S : Type 0} (rules : Rules S) (accepts : AcceptsNotices rules) where
     -- a growth
     grows_richer : {V E : Type 0} (refusal : E → Reply) (g : Growth V E)
         → ((n : ℕ) → HasFuel (refusal (g.request.unpaid n)) → ⊥)
-        → (x : V) (m : Meter) (l : S) (result : Result ℕ E) (charge : ℕ) (x' : V) (m' : Meter) (l' : S)
-        → HasFuel (reply_of replied.Number refusal result)
-        → Grows rules g (metered_value x (Some m) l) result charge (metered_value x' (Some m') l')
-        → Grows rules g (metered_value x (Some (richer m)) l) result charge (metered_value x' (Some (richer m')) l')
-    grows_richer {V} refusal g unpaid x m l result charge x' m' l' has (inl none) = inl (record {
+        → (t : Growing V S) (result : Result ℕ E) → HasFuel (reply_of replied.Number refusal result)
+        → Grows rules g (before t) result t.charge (after t)
+        → Grows rules g (enriched (before t)) result t.charge (enriched (after t))
+    grows_richer refusal g unpaid t result has (inl none) = inl (record {
       none = none.none;
       answered = none.answered;
       uncharged = none.uncharged;
-      same = ap (λ (s : MeteredValue V S). enriched s) none.same;
+      same = ap enriched none.same;
     })
-    grows_richer refusal g unpaid x m l result charge x' m' l' has (inr some) =
+    grows_richer refusal g unpaid t result has (inr some) =
         let a = some.attempt in
-        let told = subst (λ r. HasFuel (reply_of replied.Number refusal r)) some.answered has in
-        let takes = grows_takes rules g x m l result charge x' m' l' (inr some) in
+        let m = t.first.meter in
+        let told = tells refusal g.request rules accepts replied.Number g.size t.first.limiter t.last.limiter
+        some.outcome (subst (λ r. HasFuel (reply_of replied.Number refusal r)) some.answered has) a.follows in
+        let takes = grows_takes rules g t.first.value m t.first.limiter result t.charge t.last.value t.last.meter
+        t.last.limiter (inr some) in
         inr (record {
           some = some.some;
           outcome = some.outcome;
           attempt = record {
-            may_end = may_end rules accepts refusal g.request unpaid replied.Number g.size m l l' some.outcome told
-                a.follows a.may_end;
+            may_end = may_end refusal g.request unpaid m some.outcome told a.may_end;
             follows = a.follows;
-            charged = a.charged
-                ∙ charged rules accepts refusal g.request unpaid replied.Number g.size m l l' some.outcome told
-                a.follows a.may_end;
-            meter = after_is m charge m' takes.0 a.meter;
+            charged = a.charged ∙ same_charge refusal g.request unpaid m some.outcome told a.may_end;
+            meter = after_is m t.charge t.last.meter takes.0 a.meter;
             value = a.value;
           };
           answered = some.answered;
         })
 
     -- a growth of a table, whose type is tested first
-    table_grows_richer : (n : ℕ) (init : TypedRawRef) (x : TableValue) (m : Meter) (l : S) (result : Result ℕ TableError)
-        (charge : ℕ) (x' : TableValue) (m' : Meter) (l' : S) → HasFuel (reply_of replied.Number replied.Table result)
-        → GrowsTableCharging rules n init (metered_value x (Some m) l) result charge (metered_value x' (Some m') l')
-        → GrowsTableCharging rules n init (metered_value x (Some (richer m)) l) result charge
-        (metered_value x' (Some (richer m')) l')
-    table_grows_richer n init x m l result charge x' m' l' has =
+    table_grows_richer : (n : ℕ) (init : TypedRawRef) (t : Growing TableValue S) (result : Result ℕ TableError)
+        → HasFuel (reply_of replied.Number replied.Table result)
+        → GrowsTableCharging rules n init (before t) result t.charge (after t)
+        → GrowsTableCharging rules n init (enriched (before t)) result t.charge (enriched (after t))
+    table_grows_richer n init t result has =
+        let x = t.first.value in
         on_test_too (same_type x.ty.element init.ty) _ _ _ _
         (grows_richer replied.Table (record { amount = n; size = size_of x; request = table.growth_of x n init.raw })
-        (λ n none. none) x m l result charge x' m' l' has)
-        (λ h. (h.0, h.1, ap (λ (s : MeteredValue TableValue S). enriched s) h.2))
+        (λ n none. none) t result has)
+        (λ h. (h.0, h.1, ap enriched h.2))
 
   -- a call with a charge on what an index names
   acts_richer : {X R S : Type 0} (k : ℕ) (reply_to : R → Reply)
@@ -208,9 +216,11 @@ module _ (more : ℕ) where
   -- a write over a part of a table, by how it ends
   module _ (w : TableWrite) (x : TableValue) (m : Meter) (end : WriteEnding)
       (has : HasFuel (reply_of (λ _. replied.Done) replied.Table end.result)) where
+    -- its price
     abbrev price : Option (CustomFuelCosts → ℕ)
     price = option_map element_price w.paid
 
+    -- it ends so with more fuel
     ends_richer : (typed : Bool) (written : Option (List ℕ)) (paid : Bool) → covers (Some m) (due m price) ≡ paid
         → EndsBy w (metered x (Some m)) typed written paid end
         → EndsBy w (metered x (Some (richer m))) typed written (covers (Some (richer m)) (richer_due m price)) end
@@ -273,6 +283,7 @@ same_effect s m GetFuel other = absurd other
 same_effect s m call other = refl
 
 module _ (more : ℕ) {S : Type 0} (rules : Rules S) (accepts : AcceptsNotices rules) where
+  -- the world with more fuel
   abbrev richer_world : World S → World S
   richer_world w = world_with_more more w
 
@@ -319,9 +330,9 @@ module _ (more : ℕ) {S : Type 0} (rules : Rules S) (accepts : AcceptsNotices r
       effect = acts_richer more k (reply_of replied.Number replied.Memory) (GrowsMemoryCharging rules pages)
           (metered_value w.state.memories (Some w.state.meter) w.limiter)
           (metered_value step.part (Some step.meter) step.limiter) turn.reply turn.charge has
-          (λ x x' result told. grows_richer more rules accepts replied.Memory
-          (record { amount = pages; size = pages_of x; request = memory.growth_of x pages }) (λ n none. none) x
-          w.state.meter w.limiter result turn.charge x' step.meter step.limiter told) step.effect;
+          (λ x x' result. grows_richer more rules accepts replied.Memory
+          (record { amount = pages; size = pages_of x; request = memory.growth_of x pages }) (λ n none. none)
+          (growing w x turn.charge x' step.meter step.limiter) result) step.effect;
       wrote = step.wrote;
       after = ap richer_world step.after;
     }
@@ -332,16 +343,16 @@ module _ (more : ℕ) {S : Type 0} (rules : Rules S) (accepts : AcceptsNotices r
       effect = acts_richer more k (reply_of replied.Number replied.Table) (GrowsTableCharging rules n init)
           (metered_value w.state.tables (Some w.state.meter) w.limiter)
           (metered_value step.part (Some step.meter) step.limiter) turn.reply turn.charge has
-          (λ x x' result told. table_grows_richer more rules accepts n init x w.state.meter w.limiter result turn.charge x'
-          step.meter step.limiter told) step.effect;
+          (λ x x' result. table_grows_richer more rules accepts n init
+          (growing w x turn.charge x' step.meter step.limiter) result) step.effect;
       wrote = step.wrote;
       after = ap richer_world step.after;
     }
     effect_richer (RangeWritten k source dst len) keeps step = record {
       part = step.part;
       meter = richer more step.meter;
-      effect = range_richer more k (write_of source dst len) w.state.tables w.state.meter turn.reply turn.charge step.part
-          step.meter has step.effect;
+      effect = range_richer more k (write_of source dst len) w.state.tables w.state.meter turn.reply turn.charge
+          step.part step.meter has step.effect;
       wrote = step.wrote;
       after = ap richer_world step.after;
     }

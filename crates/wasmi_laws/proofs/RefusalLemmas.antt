@@ -2,7 +2,7 @@
 use Rattle.std.proofs.Common.{◌≡◌, ◌∙◌, ℕ, Bool, true, false, Option, Some, None, Result, Ok, Err, List, [], ◌∷◌, length, map, inl, inr, refl, sym, ap, subst}
 use Rattle.std.proofs.lemmas.List.Elements.{All-head, All-tail}
 use Rattle.std.proofs.lemmas.Option.{none-some, same_Some}
-use Rattle.std.specs.Prelude.{All, if◌then◌else◌}
+use Rattle.std.specs.Prelude.{if◌then◌else◌}
 use Rattle.wasmi_types.specs.declared.value.RefType.{RefType}
 use Rattle.wasmi_typed.specs.declared.typed_ref.TypedRawRef.{TypedRawRef}
 use Rattle.wasmi_meter.specs.declared.error.MemoryError.{MemoryError}
@@ -12,10 +12,10 @@ use Rattle.wasmi_meter.specs.declared.error.TableError.TheVariants as table_erro
 use Rattle.wasmi_meter.specs.Attempt.{Attempt, AttemptOutcome, Unasked, Denied, Met, Failed, IsFirstCause, MeteredValue, Request, alone, answer_of, covers, optional_due, with_value}
 use Rattle.wasmi_meter.specs.Limiter.{Failure, MemoryFailure, TableFailure, NoticeAnswer, Rules}
 use Rattle.wasmi_meter.specs.Meter.{Meter}
-use Rattle.wasmi_store.specs.Buffer.{LacksMemory, Lent, Owned, Room, fits_room}
+use Rattle.wasmi_store.specs.Buffer.{LacksMemory, Lent, Owned, Room}
 use Rattle.wasmi_store.specs.Growth.{Grows, Growth, Makes}
 use Rattle.wasmi_store.specs.Memory as memory
-use Rattle.wasmi_store.specs.Memory.{GrowsMemoryCharging, MemoryValue, new_memory, pages_of}
+use Rattle.wasmi_store.specs.Memory.{GrowsMemoryCharging, MakesMemory, MemoryValue, new_memory, pages_of}
 use Rattle.wasmi_store.specs.MemoryType.{MemoryTypeValue}
 use Rattle.wasmi_store.specs.Table as table
 use Rattle.wasmi_store.specs.Table.{GrowsTableCharging, TableValue, new_table, size_of}
@@ -32,11 +32,10 @@ use Rattle.wasmi_core.specs.Effects.{ActsAt, AddsEntry, Creates, reply_of}
 use Rattle.wasmi_core.specs.Exchange.{AsksFor, At, Denial, Exchange, New, Nothing, Notice, Nowhere, Passes, Permission, failed_reply, place_of, question_of}
 use Rattle.wasmi_core.specs.Laws.{Keeps, KeepsMeter, KeepsSpare}
 use Rattle.wasmi_core.specs.MemoryEffects.{CreatesLent, spare_after}
-use Rattle.wasmi_core.specs.Runs.{Run}
 use Rattle.wasmi_core.specs.State.{MemoryPart, State, live_at, memory_part}
 use Rattle.wasmi_core.specs.Steps.{Effect, LentMemoryMade, MemoryGrown, MemoryMade, Step, TableGrown, TableMade, TakesEffect, effect_of}
 use Rattle.wasmi_core.specs.World.{IsRefusal, Turn, World}
-use Rattle.wasmi_core.proofs.EffectLemmas.{on_live}
+use Rattle.wasmi_core.proofs.EffectLemmas.{Creation, on_live}
 use Rattle.wasmi_core.proofs.ExchangeLemmas.{growths_are_permitted}
 use Rattle.wasmi_core.proofs.RefusalLemmas.{refusals_keep_contents}
 use Rattle.wasmi_laws.specs.Runs.{IsPlainRefusal, OtherRefusalsChangeNothing, PlainRefusalsChangeNothing, PlainlyRefusedRunsChangeNothing}
@@ -66,6 +65,12 @@ record AllLoud {V E : Type 0} (refusal : E → Reply) (e : Request V E) : Type 0
   unpaid : (n : ℕ) → IsLoud (refusal (e.unpaid n))
   refuses : (c : E) → e.refuses c → IsLoud (refusal c)
 
+-- what an attempt returns where it is met, with the reply to it, which is no plain refusal
+record Success (T : Type 0) : Type 0 where
+  answer : T → Reply
+  value : T
+  loud : IsLoud (answer value)
+
 -- a plain refusal of an attempt is its early cause, and the limiter is the same
 record IsUnasked {V E S : Type 0} (refusal : E → Reply) (e : Request V E) (l l' : S) : Type 0 where
   cause : E
@@ -83,18 +88,18 @@ module _ {V E : Type 0} (refusal : E → Reply) (e : Request V E) (loud : AllLou
       (λ unpaid. subst (λ c. IsLoud (refusal c)) (sym unpaid) (loud.unpaid (optional_due m e.price)))
 
   -- an attempt
-  attempt_unasked : {S T : Type 0} (rules : Rules S) (answer : T → Reply) → ((x : T) → IsLoud (answer x)) → (value : T)
-      → (s s' : MeteredValue V S) (charge : ℕ) (outcome : AttemptOutcome E) → Attempt rules e s outcome charge s'
-      → IsPlainRefusal (reply_of answer refusal (answer_of e value outcome))
+  attempt_unasked : {S T : Type 0} (rules : Rules S) (met : Success T) (s s' : MeteredValue V S) (charge : ℕ)
+      (outcome : AttemptOutcome E) → Attempt rules e s outcome charge s'
+      → IsPlainRefusal (reply_of met.answer refusal (answer_of e met.value outcome))
       → IsUnasked refusal e s.limiter s'.limiter
-  attempt_unasked rules answer met value s s' charge (Unasked cause) a plain =
+  attempt_unasked rules met s s' charge (Unasked cause) a plain =
       record { cause = cause; early = a.may_end; plain = plain; same = a.follows }
-  attempt_unasked rules answer met value s s' charge (Denied (Ok permitted)) a plain = absurd (loud.denied plain)
-  attempt_unasked rules answer met value s s' charge (Denied (Err error)) a plain = absurd (loud.refused plain)
-  attempt_unasked rules answer met value s s' charge Met a plain = absurd (met value plain)
-  attempt_unasked rules answer met value s s' charge (Failed cause (Ok _)) a plain =
+  attempt_unasked rules met s s' charge (Denied (Ok permitted)) a plain = absurd (loud.denied plain)
+  attempt_unasked rules met s s' charge (Denied (Err error)) a plain = absurd (loud.refused plain)
+  attempt_unasked rules met s s' charge Met a plain = absurd (met.loud plain)
+  attempt_unasked rules met s s' charge (Failed cause (Ok _)) a plain =
       absurd (first_loud s.meter e.late refl cause a.may_end.1 plain)
-  attempt_unasked rules answer met value s s' charge (Failed cause (Err _)) a plain = absurd (loud.refused plain)
+  attempt_unasked rules met s s' charge (Failed cause (Err _)) a plain = absurd (loud.refused plain)
 
 -- the reply to a creation
 adds_reply : {X A E : Type 0} (entry : X → A) (refusal : E → Reply) (result : Result X E) (list : List A)
@@ -106,22 +111,23 @@ adds_reply entry refusal (Err error) list reply list' adds = adds.0
 module _ {S : Type 0} (rules : Rules S) where
   -- a creation whose slot there is place for
   makes_unasked : {X E : Type 0} (refusal : E → Reply) (e : Request (Unit {0}) E) → AllLoud refusal e → (made : X)
-      → (slots : List (Slot X)) (l : S) (reply : Reply) (slots' : List (Slot X)) (l' : S) (result : Result X E)
-      → Makes rules e made l result l' → AddsEntry Live refusal result slots reply slots' → IsPlainRefusal reply
-      → IsUnasked refusal e l l'
-  makes_unasked {X} refusal e loud made slots l reply slots' l' result (outcome, attempt, answered) adds plain =
+      → (slots : List (Slot X)) (l : S) (o : Creation (List (Slot X)) S) (result : Result X E)
+      → Makes rules e made l result o.limiter → AddsEntry Live refusal result slots o.reply o.part
+      → IsPlainRefusal o.reply → IsUnasked refusal e l o.limiter
+  makes_unasked {X} refusal e loud made slots l o result (outcome, attempt, answered) adds plain =
       let answer : X → Reply = λ x. replied.Made (length slots) in
-      let told = adds_reply Live refusal result slots reply slots' adds ∙ ap (reply_of answer refusal) answered in
-      attempt_unasked refusal e loud rules answer (λ x p. p) made (alone l) (alone l') 0 outcome attempt
+      let told = adds_reply Live refusal result slots o.reply o.part adds ∙ ap (reply_of answer refusal) answered in
+      attempt_unasked refusal e loud rules (record { answer = answer; value = made; loud = λ p. p }) (alone l)
+      (alone o.limiter) 0 outcome attempt
       (subst IsPlainRefusal told plain)
 
   -- any creation
   creates_unasked : {X E : Type 0} (refusal : E → Reply) (e : Request (Unit {0}) E) → AllLoud refusal e → (made : X)
-      → (slots : List (Slot X)) (l : S) (reply : Reply) (slots' : List (Slot X)) (l' : S)
-      → Creates refusal (Makes rules e made) slots l reply slots' l' → IsPlainRefusal reply → l' ≡ l
-  creates_unasked refusal e loud made slots l reply slots' l' (inl none) plain = none.2
-  creates_unasked refusal e loud made slots l reply slots' l' (inr (result, makes, adds)) plain =
-      (makes_unasked refusal e loud made slots l reply slots' l' result makes adds plain).same
+      → (slots : List (Slot X)) (l : S) (o : Creation (List (Slot X)) S)
+      → Creates refusal (Makes rules e made) slots l o.reply o.part o.limiter → IsPlainRefusal o.reply → o.limiter ≡ l
+  creates_unasked refusal e loud made slots l o (inl none) plain = none.2
+  creates_unasked refusal e loud made slots l o (inr (result, makes, adds)) plain =
+      (makes_unasked refusal e loud made slots l o result makes adds plain).same
 
   -- a growth
   grows_unasked : {V E : Type 0} (refusal : E → Reply) (g : Growth V E) → AllLoud refusal g.request
@@ -130,8 +136,8 @@ module _ {S : Type 0} (rules : Rules S) where
   grows_unasked {V} refusal g loud s s' result charge (inl none) plain =
       ap (λ (t : MeteredValue V S). t.limiter) none.same
   grows_unasked refusal g loud s s' result charge (inr some) plain =
-      (attempt_unasked refusal g.request loud rules replied.Number (λ n p. p) g.size s s' charge some.outcome
-      some.attempt
+      (attempt_unasked refusal g.request loud rules
+      (record { answer = replied.Number; value = g.size; loud = λ p. p }) s s' charge some.outcome some.attempt
       (subst (λ r. IsPlainRefusal (reply_of replied.Number refusal r)) some.answered plain)).same
 
   -- a growth of what an index names
@@ -202,21 +208,27 @@ table_grown_loud x n reference = record {
 }
 
 module _ {S : Type 0} (rules : Rules S) where
-  -- a memory in the spare region leaves the limiter, and the region too: its early cause is no plain refusal
+  -- a memory isn't made in a region: there was no place for its slot, since its early cause is no plain refusal
+  region_unasked : (region : List ℕ) (ty : MemoryTypeValue) (slots : List (Slot MemoryValue)) (l : S)
+      (o : Creation (List (Slot MemoryValue)) S)
+      → Creates replied.Memory (MakesMemory rules (Lent region) ty) slots l o.reply o.part o.limiter
+      → IsPlainRefusal o.reply → (o.limiter ≡ l) × (o.reply ≡ replied.NoRoom)
+  region_unasked region ty slots l o (inl none) plain = (none.2, none.0)
+  region_unasked region ty slots l o (inr (result, makes, adds)) plain =
+      let unasked = makes_unasked rules replied.Memory (memory.creation_of (Lent region) ty)
+      (memory_made_loud (Lent region) ty) (new_memory (Lent region) ty) slots l o result makes adds plain in
+      absurd (tested_loud replied.Memory _ memory_error.MinimumSizeOverflow (λ p. p) unasked.cause unasked.early
+      unasked.plain)
+
+  -- so the limiter stays, and the spare region too
   lent_unasked : (ty : MemoryTypeValue) (part : MemoryPart) (l : S) (reply : Reply) (part' : MemoryPart) (l' : S)
       → CreatesLent rules ty part l reply part' l' → IsPlainRefusal reply
       → (l' ≡ l) × (part'.spare ≡ part.spare)
   lent_unasked ty part l reply part' l' creates plain =
       on_live part.spare _ _ creates (λ h. (h.2, ap (λ (p : MemoryPart). p.spare) h.1))
-      (λ region found h. elim (h.0) as (λ _. (l' ≡ l) × (part'.spare ≡ part.spare)) [
-        inl none ↦ (none.2, h.1 ∙ ap (λ r. spare_after r part.spare) none.0)
-      | inr made ↦ (
-        let unasked = makes_unasked rules replied.Memory (memory.creation_of (Lent region) ty)
-        (memory_made_loud (Lent region) ty) (new_memory (Lent region) ty) part.slots l reply part'.slots l' made.0 made.1
-        made.2 plain in
-        absurd (tested_loud replied.Memory _ memory_error.MinimumSizeOverflow (λ p. p) unasked.cause unasked.early
-        unasked.plain))
-      ])
+      (λ region found h.
+      let same = region_unasked region ty part.slots l (record { reply = reply; part = part'.slots; limiter = l' }) h.0
+      plain in (same.0, h.1 ∙ ap (λ r. spare_after r part.spare) same.1))
 
   -- a growth of a table, whose type is tested first
   table_grows_unasked : (n : ℕ) (init : TypedRawRef) (s s' : MeteredValue TableValue S) (result : Result ℕ TableError)
@@ -235,7 +247,8 @@ module _ {S : Type 0} (rules : Rules S) where
     limiter_stays (MemoryMade ty) step =
         ap (λ (v : World S). v.limiter) step.after
         ∙ creates_unasked rules replied.Memory (memory.creation_of Owned ty) (memory_made_loud Owned ty)
-        (new_memory Owned ty) w.state.memories w.limiter turn.reply step.part step.limiter step.effect plain
+        (new_memory Owned ty) w.state.memories w.limiter
+        (record { reply = turn.reply; part = step.part; limiter = step.limiter }) step.effect plain
     limiter_stays (LentMemoryMade ty) step =
         ap (λ (v : World S). v.limiter) step.after
         ∙ (lent_unasked ty (memory_part w.state) w.limiter turn.reply step.part step.limiter step.effect plain).0
@@ -249,7 +262,8 @@ module _ {S : Type 0} (rules : Rules S) where
     limiter_stays (TableMade ty init) step =
         ap (λ (v : World S). v.limiter) step.after
         ∙ creates_unasked rules replied.Table (table.creation_of ty init.ty) (table_made_loud ty init.ty)
-        (new_table ty init.raw) w.state.tables w.limiter turn.reply step.part step.limiter step.effect plain
+        (new_table ty init.raw) w.state.tables w.limiter
+        (record { reply = turn.reply; part = step.part; limiter = step.limiter }) step.effect plain
     limiter_stays (TableGrown k n init) step =
         ap (λ (v : World S). v.limiter) step.after
         ∙ acts_unasked rules k replied.Table (GrowsTableCharging rules n init) _ _ turn.reply turn.charge
@@ -295,10 +309,11 @@ same_world rules w turn w' keeps meter spare limiter =
       limiter = limiter i;
     }
 
--- a new index and an index that is there are places
+-- a new index is a place
 new_place : New ≡ Nowhere → ⊥
 new_place is = cc
 
+-- an index that is there is a place
 old_place : (k : ℕ) → At k ≡ Nowhere → ⊥
 old_place k is = cc
 
@@ -318,8 +333,8 @@ other_spare s s' (NewLentMemory ty) reply is keeps = absurd (new_place is)
 other_spare s s' call reply is keeps = keeps
 
 -- where nothing is asked, the limiter stays
-unasked_limiter : {S : Type 0} (rules : Rules S) (question : Option _) (l : S) (reply : Reply) (l' : S) → question ≡ None
-    → (exchange : Exchange) → AsksFor question exchange reply → Passes rules l exchange l' → l' ≡ l
+unasked_limiter : {S : Type 0} (rules : Rules S) (question : Option _) (l : S) (reply : Reply) (l' : S)
+    → question ≡ None → (exchange : Exchange) → AsksFor question exchange reply → Passes rules l exchange l' → l' ≡ l
 unasked_limiter rules question l reply l' none Nothing asks passes = passes
 unasked_limiter rules question l reply l' none (Denial q answer) asks passes = absurd (none-some q (sym none ∙ asks))
 unasked_limiter rules question l reply l' none (Permission q) asks passes = absurd (none-some q (sym none ∙ asks))

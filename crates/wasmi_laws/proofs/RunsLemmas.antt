@@ -1,5 +1,5 @@
 -- Runs that are cut, and sizes in runs.
-use Rattle.std.proofs.Common.{◌≡◌, ◌∙◌, ◌≤◌, ◌<◌, ◌++◌, ◌+◌, ℕ, zero, suc, Some, None, List, [], ◌∷◌, length, map, take, drop, sum, refl, sym, ap, subst, arith}
+use Rattle.std.proofs.Common.{◌≡◌, ◌∙◌, ◌≤◌, ◌++◌, ℕ, zero, suc, Some, List, [], ◌∷◌, length, map, take, drop, sum, refl, sym, ap, subst, arith}
 use Rattle.std.proofs.lemmas.Option.{none-some, same_Some}
 use Rattle.std.proofs.lemmas.List.{take-map, drop-map, take_at, drop_at, take-append-drop}
 use Rattle.std.proofs.lemmas.List.Sums.{sum_by-cons}
@@ -9,25 +9,24 @@ use Rattle.wasmi_meter.specs.declared.limiter.Kind.TheVariants.{Bytes, Elements}
 use Rattle.wasmi_meter.specs.Limiter.{Question, Rules, optional_rules}
 use Rattle.wasmi_meter.specs.declared.quota.Quota.{Quota}
 use Rattle.wasmi_meter.specs.Quota.{IsWithinCaps, SameCaps, holdings, quota_rules}
-use Rattle.wasmi_core.specs.declared.calls.Call.{Call}
-use Rattle.wasmi_core.specs.declared.calls.Reply.{Reply}
 use Rattle.wasmi_core.specs.State.{State}
 use Rattle.wasmi_core.specs.World.{World, Turn, world}
 use Rattle.wasmi_core.specs.Steps.{Step}
-use Rattle.wasmi_core.specs.Runs.{Sequence, Run, IsRunOf}
-use Rattle.wasmi_core.specs.Totals.{sizes, total, HoldsTotals}
+use Rattle.wasmi_core.specs.Runs.{Sequence, Run}
+use Rattle.wasmi_core.specs.Totals.{sizes, HoldsTotals}
 use Rattle.wasmi_core.specs.Laws.{HoldsTotalsAlways, QuotasStayWithin}
 use Rattle.wasmi_core.specs.Exchange.{Exchange, Nothing, Denial, Permission, Notice, Place, Nowhere, New, At, place_of, GrowsAsAsked, GrowsBy}
 use Rattle.wasmi_core.proofs.ExchangeLemmas.{growths_are_permitted}
 use Rattle.wasmi_core.proofs.TurnLemmas.{Run-push}
 use Rattle.wasmi_laws.specs.Runs.{CapsHoldInRuns, IsWithinCapsOf, RunsOfCallsAreCut, SizesNeverShrink, TotalsNeverShrink}
 
--- a list is made of as many as another: so many at first, and the others
+-- where two lists are made of one, the first is made of as many as it has
 made_first : {X Y : Type 0} (f : X → Y) (xs : List X) (ys zs : List Y) → map f xs ≡ ys ++ zs
     → map f (take (length ys) xs) ≡ ys
 made_first f xs ys zs made =
     sym (take-map f (length ys) xs) ∙ ap (take (length ys)) made ∙ take_at ys zs (length ys) refl
 
+-- and the other of those that follow
 made_rest : {X Y : Type 0} (f : X → Y) (xs : List X) (ys zs : List Y) → map f xs ≡ ys ++ zs
     → map f (drop (length ys) xs) ≡ zs
 made_rest f xs ys zs made =
@@ -136,7 +135,8 @@ module _ {S : Type 0} (rules : Rules S) where
       (n, ap (λ (v : World S). slice_get (sizes v.state kind) k) ran ∙ found, omega arith)
   sizes_never_shrink w (turn ∷ turns) w' (v, step, ran) kind k n found =
       let x = growths_are_permitted rules w turn v step in
-      let next = exchange_shrinks (sizes w.state) (sizes v.state) (place_of turn.call) x.exchange x.grows kind k n found in
+      let next =
+      exchange_shrinks (sizes w.state) (sizes v.state) (place_of turn.call) x.exchange x.grows kind k n found in
       let last = sizes_never_shrink v turns w' ran kind k next.0 next.1 in
       (last.0, last.1, omega (arith, next.2, last.2))
 

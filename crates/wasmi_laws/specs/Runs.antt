@@ -23,8 +23,8 @@ pub record IsRunInTwo {S : Type 0} (rules : Rules S) (first rest : List Call) (u
   pub first_run : IsRunOf rules first u (take (length first) replies) between
   pub rest_run : IsRunOf rules rest between (drop (length first) replies) w
 
--- The reply is a refusal that is found before the limiter is asked and before anything is charged: a trap, an index that
--- names nothing, an access past the end, another type, metering that is off, and no place for a new slot.
+-- The reply is a refusal that is found before the limiter is asked and before anything is charged: a trap, an index
+-- that names nothing, an access past the end, another type, metering that is off, or no place for a new slot.
 abbrev pub IsPlainRefusal : Reply → Type 0
 IsPlainRefusal (reply.Memory memory.OutOfBoundsAccess) = Unit {0}
 IsPlainRefusal (reply.Table table.InitOutOfBounds) = Unit {0}
@@ -72,13 +72,14 @@ module _ {S : Type 0} (rules : Rules S) where
   PlainRefusalsChangeNothing =
       (w : World S) (turn : Turn) (w' : World S) → Step rules w turn w' → IsPlainRefusal turn.reply → w' ≡ w
 
-  -- so does each turn that is refused of a call that makes nothing and lets nothing grow
+  -- a refused turn of a call that makes nothing and lets nothing grow leaves the machine, its meter and the limiter as
+  -- they were
   abbrev pub OtherRefusalsChangeNothing : Type 0
   OtherRefusalsChangeNothing =
       (w : World S) (turn : Turn) (w' : World S) → Step rules w turn w' → place_of turn.call ≡ Nowhere
       → IsRefusal turn.reply → w' ≡ w
 
-  -- so does a run in which each reply is a plain refusal
+  -- a run in which each reply is a plain refusal leaves the machine, its meter and the limiter as they were
   abbrev pub PlainlyRefusedRunsChangeNothing : Type 0
   PlainlyRefusedRunsChangeNothing =
       (w : World S) (turns : List Turn) (w' : World S) → Run rules w turns w'

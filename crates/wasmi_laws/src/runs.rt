@@ -23,11 +23,11 @@ pub fn sizes_never_shrink<L: ResourceLimiter>()
 {}
 
 /// A plain refusal changes nothing at all: not the machine, nor its meter, nor the limiter. It is a
-/// trap, an index that names nothing, an access past the end, another type, metering that is off, or
-/// no place for a new slot (`IsPlainRefusal`), and a run of such turns changes nothing either.
+/// trap, an index that names nothing, an access past the end, another type, metering that is off,
+/// or no place for a new slot (`IsPlainRefusal`). A run of such turns changes nothing either.
 ///
-/// So does any refusal of a call that makes nothing and lets nothing grow, as one that is short of
-/// fuel to write over a part of a table.
+/// Nor does any refusal of a call that makes nothing and lets nothing grow, such as one that lacks
+/// the fuel to write over a part of a table.
 pub fn plain_refusals_change_nothing<L: ResourceLimiter>()
     ensures turn { PlainRefusalsChangeNothing (optional_rules L.rules) }
     ensures others { OtherRefusalsChangeNothing (optional_rules L.rules) }
