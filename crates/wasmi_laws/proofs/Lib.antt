@@ -2,3 +2,7 @@ pub mod RunsLemmas
 pub mod RefusalLemmas
 pub mod MeterLemmas
 pub mod MoreFuelLemmas
+mod ListLemmas
+mod LocationLemmas
+mod ReadBackLemmas
+mod IndependenceLemmas

@@ -1,1 +1,251 @@
--- Laws of the memories, tables, globals and registers that calls name.
+-- What is at an index of a machine, what a call may change there, and what holds of that in every turn and run.
+use Rattle.std.specs.Prelude.{◌≡◌, ◌⊎◌, ◌*◌, ◌+◌, ◌%◌, ◌^◌, ℕ, List, [], ◌∷◌, Option, Some, None, length, map, All, slice_get}
+use Rattle.wasmi_raw.specs.declared.raw.RawVal.{RawVal}
+use Rattle.wasmi_raw.specs.RawVal.{raw_of}
+use Rattle.wasmi_access.specs.LoadStore.{IsSameOutside}
+use Rattle.wasmi_ops.specs.declared.scalar.access.LoadOp.{LoadOp}
+use Rattle.wasmi_ops.specs.declared.scalar.access.LoadOp.TheVariants as load
+use Rattle.wasmi_ops.specs.declared.scalar.access.StoreOp.{StoreOp}
+use Rattle.wasmi_ops.specs.declared.scalar.access.StoreOp.TheVariants as store
+use Rattle.wasmi_typed.specs.Global.{GlobalInstance}
+use Rattle.wasmi_typed.specs.declared.global.Mutability.TheVariants.{Const}
+use Rattle.wasmi_meter.specs.Limiter.{Rules}
+use Rattle.wasmi_store.specs.Memory.{MemoryValue}
+use Rattle.wasmi_store.specs.Segment.{SegmentValue}
+use Rattle.wasmi_store.specs.Table.{TableValue}
+use Rattle.wasmi_core.specs.declared.calls.Call.{Call}
+use Rattle.wasmi_core.specs.declared.calls.Call.TheVariants as call
+use Rattle.wasmi_core.specs.declared.slots.Slot.{Slot}
+use Rattle.wasmi_core.specs.declared.slots.Slot.TheVariants.{Live, Gone}
+use Rattle.wasmi_core.specs.declared.calls.Reply.{Reply}
+use Rattle.wasmi_core.specs.declared.calls.Reply.TheVariants.{Done, Value}
+use Rattle.wasmi_core.specs.State.{State, live_at}
+use Rattle.wasmi_core.specs.World.{World, Turn}
+use Rattle.wasmi_core.specs.Steps.{Step, Answers}
+use Rattle.wasmi_core.specs.Runs.{Run}
+
+-- an index of a machine: of a memory, a table, an element segment or a global, by the order of their making, or of a
+-- register
+pub data Location : Type 0 where
+  MemoryAt : ℕ → Location
+  TableAt : ℕ → Location
+  SegmentAt : ℕ → Location
+  GlobalAt : ℕ → Location
+  RegisterAt : ℕ → Location
+
+-- what can be at an index: of a memory or a table its slot, live or dropped
+abbrev pub Content : Location → Type 0
+Content (MemoryAt k) = Slot MemoryValue
+Content (TableAt k) = Slot TableValue
+Content (SegmentAt k) = SegmentValue
+Content (GlobalAt k) = GlobalInstance
+Content (RegisterAt k) = RawVal
+
+-- what a machine in this state has at an index, if it has anything there
+abbrev pub content_at : (location : Location) → State → Option (Content location)
+content_at (MemoryAt k) s = slice_get s.memories k
+content_at (TableAt k) s = slice_get s.tables k
+content_at (SegmentAt k) s = slice_get s.segments k
+content_at (GlobalAt k) s = slice_get s.globals k
+content_at (RegisterAt k) s = slice_get s.registers k
+
+-- the one index at which a call may change what is there: none of a call that makes something, and none of one that
+-- only reads
+abbrev pub changed_location : Call → Option Location
+changed_location (call.GrowMemory k pages) = Some (MemoryAt k)
+changed_location (call.DropMemory k) = Some (MemoryAt k)
+changed_location (call.Write k offset bytes) = Some (MemoryAt k)
+changed_location (call.Store op k ptr offset value) = Some (MemoryAt k)
+changed_location (call.VectorStore a k ptr offset) = Some (MemoryAt k)
+changed_location (call.StoreLane op a k ptr offset) = Some (MemoryAt k)
+changed_location (call.GrowTable k n init) = Some (TableAt k)
+changed_location (call.DropTable k) = Some (TableAt k)
+changed_location (call.SetElement k index value) = Some (TableAt k)
+changed_location (call.InitTable k j dst src len) = Some (TableAt k)
+changed_location (call.CopyTable k dst j src len) = Some (TableAt k)
+changed_location (call.FillTable k dst value len) = Some (TableAt k)
+changed_location (call.DropItems k) = Some (SegmentAt k)
+changed_location (call.SetGlobal k value) = Some (GlobalAt k)
+changed_location (call.SetRegister dst value) = Some (RegisterAt dst)
+changed_location (call.Make op dst a) = Some (RegisterAt dst)
+changed_location (call.Unary op dst a) = Some (RegisterAt dst)
+changed_location (call.Binary op dst a b) = Some (RegisterAt dst)
+changed_location (call.Ternary op dst a b c) = Some (RegisterAt dst)
+changed_location (call.Shift op dst a amount) = Some (RegisterAt dst)
+changed_location (call.Replace op dst a item) = Some (RegisterAt dst)
+changed_location (call.Shuffle dst a b lanes) = Some (RegisterAt dst)
+changed_location (call.VectorLoad op dst k ptr offset) = Some (RegisterAt dst)
+changed_location (call.LoadLane op dst a k ptr offset) = Some (RegisterAt dst)
+changed_location call = None
+
+-- the index at which a call drops a memory or a table
+abbrev pub dropped_location : Call → Option Location
+dropped_location (call.DropMemory k) = Some (MemoryAt k)
+dropped_location (call.DropTable k) = Some (TableAt k)
+dropped_location call = None
+
+-- the other indices of which a call reads what is there
+abbrev pub read_locations : Call → List Location
+read_locations (call.Read k offset len) = MemoryAt k ∷ []
+read_locations (call.Load op k ptr offset) = MemoryAt k ∷ []
+read_locations (call.GetElement k index) = TableAt k ∷ []
+read_locations (call.InitTable k j dst src len) = SegmentAt j ∷ []
+read_locations (call.CopyTable k dst j src len) = TableAt j ∷ []
+read_locations (call.GetGlobal k) = GlobalAt k ∷ []
+read_locations (call.GetRegister a) = RegisterAt a ∷ []
+read_locations (call.Make op dst a) = RegisterAt a ∷ []
+read_locations (call.Unary op dst a) = RegisterAt a ∷ []
+read_locations (call.Binary op dst a b) = RegisterAt a ∷ RegisterAt b ∷ []
+read_locations (call.Ternary op dst a b c) = RegisterAt a ∷ RegisterAt b ∷ RegisterAt c ∷ []
+read_locations (call.Shift op dst a amount) = RegisterAt a ∷ []
+read_locations (call.Test op a) = RegisterAt a ∷ []
+read_locations (call.Extract op a) = RegisterAt a ∷ []
+read_locations (call.Replace op dst a item) = RegisterAt a ∷ RegisterAt item ∷ []
+read_locations (call.Shuffle dst a b lanes) = RegisterAt a ∷ RegisterAt b ∷ []
+read_locations (call.VectorLoad op dst k ptr offset) = MemoryAt k ∷ []
+read_locations (call.LoadLane op dst a k ptr offset) = RegisterAt a ∷ MemoryAt k ∷ []
+read_locations (call.VectorStore a k ptr offset) = RegisterAt a ∷ []
+read_locations (call.StoreLane op a k ptr offset) = RegisterAt a ∷ []
+read_locations call = []
+
+-- a call acts on what is at indices alone: it makes nothing, is never charged, and reaches neither the meter nor the
+-- limiter
+abbrev pub IsLocal : Call → Type 0
+IsLocal (call.SetFuel fuel) = ⊥
+IsLocal call.GetFuel = ⊥
+IsLocal (call.NewMemory ty) = ⊥
+IsLocal (call.NewLentMemory ty) = ⊥
+IsLocal (call.GrowMemory k pages) = ⊥
+IsLocal (call.NewTable ty init) = ⊥
+IsLocal (call.GrowTable k n init) = ⊥
+IsLocal (call.InitTable k j dst src len) = ⊥
+IsLocal (call.CopyTable k dst j src len) = ⊥
+IsLocal (call.FillTable k dst value len) = ⊥
+IsLocal (call.NewSegment ty items) = ⊥
+IsLocal (call.NewGlobal value ty) = ⊥
+IsLocal call = Unit {0}
+
+-- a call may not change what is at this index
+abbrev pub LeavesAlone : Location → Call → Type 0
+LeavesAlone location call = changed_location call ≡ Some location → ⊥
+
+-- a call doesn't drop what is at this index
+abbrev pub DropsNot : Location → Call → Type 0
+DropsNot location call = dropped_location call ≡ Some location → ⊥
+
+-- neither of two calls may change what the other may change or reads
+pub record IsIndependent (first second : Call) : Type 0 where
+  pub changes : (location : Location) → changed_location first ≡ Some location → LeavesAlone location second
+  pub first_leaves : All (λ location. LeavesAlone location first) (read_locations second)
+  pub second_leaves : All (λ location. LeavesAlone location second) (read_locations first)
+
+-- what was at an index is there
+abbrev pub StaysAt : Location → State → State → Type 0
+StaysAt location s s' =
+    (x : Content location) → content_at location s ≡ Some x → content_at location s' ≡ Some x
+
+-- what may become of a slot: a live value stays of its type or is dropped, and one that was dropped stays so, with its
+-- size
+abbrev pub IsLaterSlot : {X T : Type 0} → (X → T) → Slot X → Slot X → Type 0
+IsLaterSlot type (Live x) (Live x') = type x' ≡ type x
+IsLaterSlot type (Live x) (Gone size) = Unit {0}
+IsLaterSlot type (Gone size) later = later ≡ Gone size
+
+-- what may become of what is at an index: an element segment keeps its items or has none, and a constant global its
+-- value
+abbrev pub IsLater : (location : Location) → Content location → Content location → Type 0
+IsLater (MemoryAt k) x x' = IsLaterSlot (λ (m : MemoryValue). m.ty) x x'
+IsLater (TableAt k) x x' = IsLaterSlot (λ (t : TableValue). t.ty) x x'
+IsLater (SegmentAt k) x x' = (x'.ty ≡ x.ty) × ((x'.items ≡ x.items) ⊎ (x'.items ≡ []))
+IsLater (GlobalAt k) x x' = (x'.ty ≡ x.ty) × (x.ty.mutability ≡ Const → x' ≡ x)
+IsLater (RegisterAt k) x x' = Unit {0}
+
+-- a slot isn't dropped
+abbrev pub IsLiveSlot : {X : Type 0} → Slot X → Type 0
+IsLiveSlot (Live x) = Unit {0}
+IsLiveSlot (Gone size) = ⊥
+
+-- what is at an index isn't dropped, as only memories and tables are
+abbrev pub IsLive : (location : Location) → Content location → Type 0
+IsLive (MemoryAt k) x = IsLiveSlot x
+IsLive (TableAt k) x = IsLiveSlot x
+IsLive location x = Unit {0}
+
+-- something is at an index, and this holds of it
+abbrev pub HasAt : (location : Location) → State → (Content location → Type 0) → Type 0
+HasAt location s Holds = (x : Content location) × (content_at location s ≡ Some x) × Holds x
+
+-- the load that reads as many bytes as a store of a number writes, without a sign
+abbrev pub load_of : StoreOp → LoadOp
+load_of store.I32Store8 = load.I32Load8U
+load_of store.I32Store16 = load.I32Load16U
+load_of store.I64Store8 = load.I64Load8U
+load_of store.I64Store16 = load.I64Load16U
+load_of store.I64Store32 = load.I64Load32U
+load_of store.Store32 = load.LoadU32
+load_of store.Store64 = load.LoadU64
+
+-- the bytes that a store of a number writes
+abbrev pub stored_size : StoreOp → ℕ
+stored_size store.I32Store8 = 1
+stored_size store.I32Store16 = 2
+stored_size store.I64Store8 = 1
+stored_size store.I64Store16 = 2
+stored_size store.I64Store32 = 4
+stored_size store.Store32 = 4
+stored_size store.Store64 = 8
+
+-- the number of a raw value's low bits, as many as a store writes
+abbrev pub stored_part : StoreOp → RawVal → RawVal
+stored_part op value = raw_of (value.lo % 2 ^ (8 * stored_size op))
+
+module _ {S : Type 0} (rules : Rules S) where
+  -- a turn leaves what is at each index but the one that its call may change
+  abbrev pub OthersStay : Type 0
+  OthersStay =
+      (w : World S) (turn : Turn) (w' : World S) → Step rules w turn w' → (location : Location)
+      → LeavesAlone location turn.call → StaysAt location w.state w'.state
+
+  -- a run leaves what is at each index that none of its calls may change
+  abbrev pub OthersStayInRuns : Type 0
+  OthersStayInRuns =
+      (w : World S) (turns : List Turn) (w' : World S) → Run rules w turns w' → (location : Location)
+      → All (LeavesAlone location) (map Turn.call turns) → StaysAt location w.state w'.state
+
+  -- after a run, what was at an index is there, as it may have become
+  abbrev pub IndicesLast : Type 0
+  IndicesLast =
+      (w : World S) (turns : List Turn) (w' : World S) → Run rules w turns w' → (location : Location)
+      → (x : Content location) → content_at location w.state ≡ Some x → HasAt location w'.state (IsLater location x)
+
+  -- after a run none of whose calls drops it, what was live at an index is live
+  abbrev pub LiveUntilDropped : Type 0
+  LiveUntilDropped =
+      (w : World S) (turns : List Turn) (w' : World S) → Run rules w turns w' → (location : Location)
+      → All (DropsNot location) (map Turn.call turns) → HasAt location w.state (IsLive location)
+      → HasAt location w'.state (IsLive location)
+
+  -- an accepted store to a memory is read back by the load of the same size, after whatever turns whose calls don't
+  -- change that memory
+  abbrev pub StoresAreReadBack : Type 0
+  StoresAreReadBack =
+      (op : StoreOp) (value : RawVal) (k ptr offset : ℕ) (t u v w : World S) (turns : List Turn) (reply : Reply)
+      → Answers rules (call.Store op k ptr offset value) t Done u → Run rules u turns v
+      → All (LeavesAlone (MemoryAt k)) (map Turn.call turns)
+      → Answers rules (call.Load (load_of op) k ptr offset) v reply w
+      → (reply ≡ Value (stored_part op value)) × (w ≡ v)
+
+  -- an accepted store keeps all other bytes of its memory, and how many there are
+  abbrev pub StoresKeepOtherBytes : Type 0
+  StoresKeepOtherBytes =
+      (op : StoreOp) (value : RawVal) (k ptr offset : ℕ) (t u : World S)
+      → Answers rules (call.Store op k ptr offset value) t Done u
+      → (x x' : MemoryValue) → live_at t.state.memories k ≡ Some x → live_at u.state.memories k ≡ Some x'
+      → IsSameOutside x.bytes x'.bytes (ptr + offset) (stored_size op) × (length x'.bytes ≡ length x.bytes)
+
+  -- two turns one after the other whose calls are local and independent may be exchanged
+  abbrev pub IndependentTurnsSwap : Type 0
+  IndependentTurnsSwap =
+      (w : World S) (first second : Turn) (w' : World S) → IsLocal first.call → IsLocal second.call
+      → IsIndependent first.call second.call → Run rules w (first ∷ second ∷ []) w'
+      → Run rules w (second ∷ first ∷ []) w'

@@ -3,7 +3,7 @@
 #![tactic(auto)]
 
 mod meters;
-mod places;
+pub mod places;
 mod runs;
 
 pub use meters::{meters_are_kept, more_fuel_changes_nothing};

@@ -1,0 +1,570 @@
+-- Turns whose calls are local and independent may be exchanged.
+use Rattle.std.proofs.Common.{Err, List, None, Ok, Option, Result, Some, [], ap, ap₂, map, refl, set, subst, suc, sym, zero, ℕ, ◌+◌, ◌∙◌, ◌∷◌, ◌≡◌}
+use Rattle.std.proofs.lemmas.List.Elements.{All-head, All-tail}
+use Rattle.std.proofs.lemmas.Option.{same_Some}
+use Rattle.std.specs.Option.{option_and_then, option_map}
+use Rattle.std.specs.Prelude.{All, slice_get, slice_set}
+use Rattle.wasmi_core.specs.Effects.{ChangesAt, ChangesItem, ChangesPart, DropsAt, OnLive, reply_of}
+use Rattle.wasmi_core.specs.MemoryEffects.{ReadsBytes, StoresMemory, WritesMemoryAt, load_reply}
+use Rattle.wasmi_core.specs.RegisterEffects.{StoresVectorAt, TakesAt, TakesRegister, given_vector, lane_loaded, of_one, of_three, of_two, raw_reply, vector_at, vector_loaded}
+use Rattle.wasmi_core.specs.Runs.{Run}
+use Rattle.wasmi_core.specs.State.{State, live_at, live_value, with_globals, with_memories, with_registers, with_segments, with_tables}
+use Rattle.wasmi_core.specs.Steps.{BytesRead, BytesStored, BytesWritten, Change, Changed, Effect, ElementSet, FuelSet, GlobalMade, GlobalSet, ItemsDropped, LentMemoryMade, MemoryDropped, MemoryGrown, MemoryMade, RangeWritten, RegisterSet, SegmentMade, Step, TableDropped, TableGrown, TableMade, TakesChange, TakesEffect, Told, effect_of}
+use Rattle.wasmi_core.specs.TableEffects.{SetsElementAt, element_reply}
+use Rattle.wasmi_core.specs.Totals.{byte_count}
+use Rattle.wasmi_core.specs.ValueEffects.{DropsItemsAt, SetsGlobalAt, global_reply}
+use Rattle.wasmi_core.specs.World.{Turn, World}
+use Rattle.wasmi_core.specs.declared.calls.Call.{Call}
+use Rattle.wasmi_core.specs.declared.calls.Call.TheVariants as call
+use Rattle.wasmi_core.specs.declared.calls.Reply.{Reply}
+use Rattle.wasmi_core.specs.declared.calls.Reply.TheVariants.{Done, NoSuch, Trap}
+use Rattle.wasmi_core.specs.declared.slots.Slot.{Slot}
+use Rattle.wasmi_core.specs.declared.slots.Slot.TheVariants.{Gone, Live}
+use Rattle.wasmi_laws.proofs.ListLemmas.{set_other}
+use Rattle.wasmi_laws.proofs.LocationLemmas.{changed_by, changed_in, changed_is}
+use Rattle.wasmi_laws.specs.Places.{Content, GlobalAt, IndependentTurnsSwap, IsIndependent, IsLocal, LeavesAlone, Location, MemoryAt, RegisterAt, SegmentAt, TableAt, changed_location, content_at, read_locations}
+use Rattle.wasmi_meter.specs.Limiter.{Rules}
+use Rattle.wasmi_lanewise.specs.VectorTable.{shuffle}
+use Rattle.wasmi_ops.specs.BinaryOps.{binary_vector}
+use Rattle.wasmi_ops.specs.LaneOps.{extracted_raw, replaced_vector}
+use Rattle.wasmi_ops.specs.MakeOps.{made_vector}
+use Rattle.wasmi_ops.specs.ShiftOps.{shifted_vector}
+use Rattle.wasmi_ops.specs.TernaryOps.{ternary_vector}
+use Rattle.wasmi_ops.specs.TestOps.{tested_raw}
+use Rattle.wasmi_ops.specs.UnaryOps.{unary_vector}
+use Rattle.wasmi_ops.specs.VectorAccessOps.{stored_lane}
+use Rattle.wasmi_raw.specs.RawVal.{vector_in}
+use Rattle.wasmi_raw.specs.declared.raw.RawVal.{RawVal}
+use Rattle.wasmi_store.specs.Memory.{MemoryValue}
+use Rattle.wasmi_store.specs.Table.{size_of}
+use Rattle.wasmi_types.specs.Access.{at}
+use Rattle.wasmi_types.specs.Bytes.{le_bytes}
+use Rattle.wasmi_types.specs.declared.trap.TrapCode.{TrapCode}
+
+-- what a call does to a state: nothing, or it puts something at an index
+data Edit : Type 0 where
+  Keep : Edit
+  Put : (location : Location) → Content location → Edit
+
+-- a state with something at an index
+abbrev put_at : (location : Location) → Content location → State → State
+put_at (MemoryAt k) x s = with_memories s (slice_set s.memories k x)
+put_at (TableAt k) x s = with_tables s (slice_set s.tables k x)
+put_at (SegmentAt k) x s = with_segments s (slice_set s.segments k x)
+put_at (GlobalAt k) x s = with_globals s (slice_set s.globals k x)
+put_at (RegisterAt k) x s = with_registers s (slice_set s.registers k x)
+
+-- a state after an edit
+abbrev edited : Edit → State → State
+edited Keep s = s
+edited (Put location x) s = put_at location x s
+
+-- an edit puts nothing but at this index
+abbrev IsEditAt : Option Location → Edit → Type 0
+IsEditAt changed Keep = Unit {0}
+IsEditAt changed (Put location x) = changed ≡ Some location
+
+-- two states have the same at an index, if there is one
+abbrev SameIn : Option Location → State → State → Type 0
+SameIn None s t = Unit {0}
+SameIn (Some location) s t = content_at location t ≡ content_at location s
+
+-- so at each of some indices
+abbrev SameAll : List Location → State → State → Type 0
+SameAll [] s t = Unit {0}
+SameAll (location ∷ locations) s t = (content_at location t ≡ content_at location s) × SameAll locations s t
+
+-- so the other way around
+back_in : (changed : Option Location) (s t : State) → SameIn changed s t → SameIn changed t s
+back_in None s t same = tt
+back_in (Some location) s t same = sym same
+
+-- at each of some
+back_all : (locations : List Location) (s t : State) → SameAll locations s t → SameAll locations t s
+back_all [] s t same = tt
+back_all (location ∷ locations) s t (same, rest) = (sym same, back_all locations s t rest)
+
+-- two items are set
+set_twice : {X : Type 0} (xs : List X) (k j : ℕ) (x y : X) → (k ≡ j → ⊥)
+    → set (set xs j y) k x ≡ set (set xs k x) j y
+set_twice [] k j x y other = refl
+set_twice (z ∷ zs) zero zero x y other = absurd (other refl)
+set_twice (z ∷ zs) zero (suc j) x y other = refl
+set_twice (z ∷ zs) (suc k) zero x y other = refl
+set_twice (z ∷ zs) (suc k) (suc j) x y other = ap (λ ws. z ∷ ws) (set_twice zs k j x y (λ same. other (ap suc same)))
+
+-- what is put at an index leaves another one
+put_outside : (location : Location) (x : Content location) (other : Location) (s : State) → (location ≡ other → ⊥)
+    → content_at other (put_at location x s) ≡ content_at other s
+put_outside (MemoryAt k) x (MemoryAt j) s apart = set_other s.memories k j x (λ same. apart (ap MemoryAt same))
+put_outside (TableAt k) x (TableAt j) s apart = set_other s.tables k j x (λ same. apart (ap TableAt same))
+put_outside (SegmentAt k) x (SegmentAt j) s apart = set_other s.segments k j x (λ same. apart (ap SegmentAt same))
+put_outside (GlobalAt k) x (GlobalAt j) s apart = set_other s.globals k j x (λ same. apart (ap GlobalAt same))
+put_outside (RegisterAt k) x (RegisterAt j) s apart = set_other s.registers k j x (λ same. apart (ap RegisterAt same))
+put_outside location x other s apart = refl
+
+-- two puts at different indices
+puts_swap : (location other : Location) (x : Content location) (y : Content other) (s : State)
+    → (location ≡ other → ⊥) → put_at location x (put_at other y s) ≡ put_at other y (put_at location x s)
+puts_swap (MemoryAt k) (MemoryAt j) x y s apart =
+    ap (with_memories s) (set_twice s.memories k j x y (λ same. apart (ap MemoryAt same)))
+puts_swap (TableAt k) (TableAt j) x y s apart =
+    ap (with_tables s) (set_twice s.tables k j x y (λ same. apart (ap TableAt same)))
+puts_swap (SegmentAt k) (SegmentAt j) x y s apart =
+    ap (with_segments s) (set_twice s.segments k j x y (λ same. apart (ap SegmentAt same)))
+puts_swap (GlobalAt k) (GlobalAt j) x y s apart =
+    ap (with_globals s) (set_twice s.globals k j x y (λ same. apart (ap GlobalAt same)))
+puts_swap (RegisterAt k) (RegisterAt j) x y s apart =
+    ap (with_registers s) (set_twice s.registers k j x y (λ same. apart (ap RegisterAt same)))
+puts_swap location other x y s apart = refl
+
+-- two edits at different indices
+edits_swap : (changed changed' : Option Location) (e f : Edit) (s : State) → IsEditAt changed e → IsEditAt changed' f
+    → ((location : Location) → changed ≡ Some location → changed' ≡ Some location → ⊥)
+    → edited e (edited f s) ≡ edited f (edited e s)
+edits_swap changed changed' Keep f s here there apart = refl
+edits_swap changed changed' (Put location x) Keep s here there apart = refl
+edits_swap changed changed' (Put location x) (Put other y) s here there apart =
+    puts_swap location other x y s (λ same. apart location here (there ∙ ap Some (sym same)))
+
+-- an edit leaves what is at another index
+edit_outside : (changed : Option Location) (e : Edit) (s : State) (location : Location) → IsEditAt changed e
+    → (changed ≡ Some location → ⊥) → content_at location (edited e s) ≡ content_at location s
+edit_outside changed Keep s location here apart = refl
+edit_outside changed (Put other x) s location here apart =
+    put_outside other x location s (λ same. apart (here ∙ ap Some same))
+
+-- so at one that may be there
+edit_leaves_in : (changed changed' : Option Location) (e : Edit) (s : State) → IsEditAt changed e
+    → ((location : Location) → changed' ≡ Some location → changed ≡ Some location → ⊥)
+    → SameIn changed' s (edited e s)
+edit_leaves_in changed None e s here apart = tt
+edit_leaves_in changed (Some location) e s here apart =
+    edit_outside changed e s location here (λ is. apart location refl is)
+
+-- and at each of some
+edit_leaves_all : (changed : Option Location) (locations : List Location) (e : Edit) (s : State) → IsEditAt changed e
+    → All (λ location. changed ≡ Some location → ⊥) locations → SameAll locations s (edited e s)
+edit_leaves_all changed [] e s here apart = tt
+edit_leaves_all changed (location ∷ locations) e s here apart = (
+  edit_outside changed e s location here (All-head (λ l. changed ≡ Some l → ⊥) location locations apart),
+  edit_leaves_all changed locations e s here (All-tail (λ l. changed ≡ Some l → ⊥) location locations apart),
+)
+
+-- a list with an item at an index, if there is one to put
+abbrev put_in : {X : Type 0} → ℕ → Option X → List X → List X
+put_in k None xs = xs
+put_in k (Some x) xs = slice_set xs k x
+
+-- an effect on a list goes by what is at an index: on each list with the same there it puts the same
+record ListMoves {X : Type 0} (k : ℕ) (Effect : List X → Reply → List X → Type 0) (xs : List X) (reply : Reply)
+    (xs' : List X) : Type 0 where
+  put : Option X
+  after : xs' ≡ put_in k put xs
+  too : (ys : List X) → slice_get ys k ≡ slice_get xs k → Effect ys reply (put_in k put ys)
+
+module _ {X : Type 0} (k : ℕ) (Change : Reply → X → X → Type 0) where
+  -- so a change of an item
+  item_moves_by : (items : List X) (reply : Reply) (items' : List X) (found : Option X) → slice_get items k ≡ found
+      → OnLive found ((reply ≡ NoSuch) × (items' ≡ items))
+      (λ x. (x' : X) × Change reply x x' × (items' ≡ slice_set items k x'))
+      → ListMoves k (λ xs r xs'. ChangesItem k xs r xs' (Change r)) items reply items'
+  item_moves_by items reply items' None is h =
+      record { put = None; after = h.1; too = λ ys same. rw (same ∙ is) (h.0, refl) }
+  item_moves_by items reply items' (Some x) is h =
+      record { put = Some h.0; after = h.2; too = λ ys same. rw (same ∙ is) (h.0, h.1, refl) }
+
+  -- by what is there
+  item_moves : (items : List X) (reply : Reply) (items' : List X)
+      → ChangesItem k items reply items' (Change reply)
+      → ListMoves k (λ xs r xs'. ChangesItem k xs r xs' (Change r)) items reply items'
+  item_moves items reply items' changes = item_moves_by items reply items' (slice_get items k) refl changes
+
+  -- so a change of a live value
+  slot_moves_by : (slots : List (Slot X)) (reply : Reply) (slots' : List (Slot X)) (found : Option X)
+      → live_at slots k ≡ found
+      → OnLive found ((reply ≡ NoSuch) × (slots' ≡ slots))
+      (λ x. (x' : X) × Change reply x x' × (slots' ≡ slice_set slots k (Live x')))
+      → ListMoves k (λ xs r xs'. ChangesAt k xs r xs' (Change r)) slots reply slots'
+  slot_moves_by slots reply slots' None is h = record {
+    put = None;
+    after = h.1;
+    too = λ ys same. rw (ap (option_and_then live_value) same ∙ is) (h.0, refl);
+  }
+  slot_moves_by slots reply slots' (Some x) is h = record {
+    put = Some (Live h.0);
+    after = h.2;
+    too = λ ys same. rw (ap (option_and_then live_value) same ∙ is) (h.0, h.1, refl);
+  }
+
+  -- by what is there
+  slot_moves : (slots : List (Slot X)) (reply : Reply) (slots' : List (Slot X))
+      → ChangesAt k slots reply slots' (Change reply)
+      → ListMoves k (λ xs r xs'. ChangesAt k xs r xs' (Change r)) slots reply slots'
+  slot_moves slots reply slots' changes = slot_moves_by slots reply slots' (live_at slots k) refl changes
+
+module _ {X : Type 0} (count : X → ℕ) (k : ℕ) (slots : List (Slot X)) (reply : Reply) (slots' : List (Slot X)) where
+  -- so a drop
+  drop_moves_by : (found : Option X) → live_at slots k ≡ found
+      → OnLive found ((reply ≡ NoSuch) × (slots' ≡ slots))
+      (λ x. (reply ≡ Done) × (slots' ≡ slice_set slots k (Gone (count x))))
+      → ListMoves k (DropsAt count k) slots reply slots'
+  drop_moves_by None is h = record {
+    put = None;
+    after = h.1;
+    too = λ ys same. rw (ap (option_and_then live_value) same ∙ is) (h.0, refl);
+  }
+  drop_moves_by (Some x) is h = record {
+    put = Some (Gone (count x));
+    after = h.1;
+    too = λ ys same. rw (ap (option_and_then live_value) same ∙ is) (h.0, refl);
+  }
+
+  -- by what is there
+  drop_moves : DropsAt count k slots reply slots' → ListMoves k (DropsAt count k) slots reply slots'
+  drop_moves drops = drop_moves_by (live_at slots k) refl drops
+
+-- so a store to a memory, whose bytes may be missing
+store_moves : (k a : ℕ) (slots : List (Slot MemoryValue)) (reply : Reply) (slots' : List (Slot MemoryValue))
+    (stored : Option (List ℕ)) → StoresVectorAt k a stored slots reply slots'
+    → ListMoves k (StoresVectorAt k a stored) slots reply slots'
+store_moves k a slots reply slots' None stores =
+    record { put = None; after = stores.1; too = λ ys same. (stores.0, refl) }
+store_moves k a slots reply slots' (Some stored) stores =
+    slot_moves k (λ r x x'. (result : Result (Unit {0}) TrapCode) × StoresMemory x a stored result x'
+    × (r ≡ reply_of (λ _. Done) Trap result)) slots reply slots' stores
+
+module _ (dst : ℕ) (registers : List RawVal) (reply : Reply) (registers' : List RawVal) where
+  -- so a register that takes what it is given
+  register_moves_by : (given : Option (Result RawVal TrapCode)) (old : Option RawVal) → slice_get registers dst ≡ old
+      → TakesAt given old dst registers reply registers'
+      → ListMoves dst (TakesRegister dst given) registers reply registers'
+  register_moves_by None old is takes =
+      record { put = None; after = takes.1; too = λ ys same. (takes.0, refl) }
+  register_moves_by (Some given) None is takes =
+      record { put = None; after = takes.1; too = λ ys same. rw (same ∙ is) (takes.0, refl) }
+  register_moves_by (Some (Ok value)) (Some old) is takes =
+      record { put = Some value; after = takes.1; too = λ ys same. rw (same ∙ is) (takes.0, refl) }
+  register_moves_by (Some (Err trap)) (Some old) is takes =
+      record { put = None; after = takes.1; too = λ ys same. rw (same ∙ is) (takes.0, refl) }
+
+  -- by what it has
+  register_moves : (given : Option (Result RawVal TrapCode)) → TakesRegister dst given registers reply registers'
+      → ListMoves dst (TakesRegister dst given) registers reply registers'
+  register_moves given takes = register_moves_by given (slice_get registers dst) refl takes
+
+-- what is done to a state goes by what is at an index: each state with the same there is edited in the same way
+record Moves (changed : Option Location) (Becomes : State → State → Type 0) (s s' : State) : Type 0 where
+  edit : Edit
+  here : IsEditAt changed edit
+  after : s' ≡ edited edit s
+  too : (t : State) → SameIn changed s t → Becomes t (edited edit t)
+
+-- a part of a state is a list whose item at an index is what is there
+record PartAt {X : Type 0} (changed : Option Location) (k : ℕ) (read : State → List X)
+    (with_part : State → List X → State) : Type 0 where
+  put : X → Edit
+  here : (x : X) → IsEditAt changed (put x)
+  puts : (x : X) (s : State) → edited (put x) s ≡ with_part s (slice_set (read s) k x)
+  whole : (s : State) → with_part s (read s) ≡ s
+  found : (s t : State) → SameIn changed s t → slice_get (read t) k ≡ slice_get (read s) k
+
+-- memories
+the_memory : (k : ℕ) → PartAt (Some (MemoryAt k)) k (λ s. s.memories) with_memories
+the_memory k = record {
+  put = Put (MemoryAt k);
+  here = λ x. refl;
+  puts = λ x s. refl;
+  whole = λ s. refl;
+  found = λ s t same. same;
+}
+
+-- tables
+the_table : (k : ℕ) → PartAt (Some (TableAt k)) k (λ s. s.tables) with_tables
+the_table k = record {
+  put = Put (TableAt k);
+  here = λ x. refl;
+  puts = λ x s. refl;
+  whole = λ s. refl;
+  found = λ s t same. same;
+}
+
+-- element segments
+the_segment : (k : ℕ) → PartAt (Some (SegmentAt k)) k (λ s. s.segments) with_segments
+the_segment k = record {
+  put = Put (SegmentAt k);
+  here = λ x. refl;
+  puts = λ x s. refl;
+  whole = λ s. refl;
+  found = λ s t same. same;
+}
+
+-- globals
+the_global : (k : ℕ) → PartAt (Some (GlobalAt k)) k (λ s. s.globals) with_globals
+the_global k = record {
+  put = Put (GlobalAt k);
+  here = λ x. refl;
+  puts = λ x s. refl;
+  whole = λ s. refl;
+  found = λ s t same. same;
+}
+
+-- registers
+the_register : (k : ℕ) → PartAt (Some (RegisterAt k)) k (λ s. s.registers) with_registers
+the_register k = record {
+  put = Put (RegisterAt k);
+  here = λ x. refl;
+  puts = λ x s. refl;
+  whole = λ s. refl;
+  found = λ s t same. same;
+}
+
+module _ {X : Type 0} (changed : Option Location) (k : ℕ) (read : State → List X)
+    (with_part : State → List X → State) (p : PartAt changed k read with_part)
+    (Effect : List X → Reply → List X → Type 0) (s : State) (reply : Reply) (s' : State) where
+  -- a change of a part, as an effect on its list goes by what is at an index
+  part_moves_by : (part : List X) → s' ≡ with_part s part → (put : Option X) → part ≡ put_in k put (read s)
+      → ((ys : List X) → slice_get ys k ≡ slice_get (read s) k → Effect ys reply (put_in k put ys))
+      → Moves changed (λ t t'. ChangesPart (with_part t) (Effect (read t)) reply t') s s'
+  part_moves_by part is None after too = record {
+    edit = Keep;
+    here = tt;
+    after = is ∙ ap (with_part s) after ∙ p.whole s;
+    too = λ t same. record { part = read t; effect = too (read t) (p.found s t same); after = sym (p.whole t) };
+  }
+  part_moves_by part is (Some x) after too = record {
+    edit = p.put x;
+    here = p.here x;
+    after = is ∙ ap (with_part s) after ∙ sym (p.puts x s);
+    too = λ t same. record {
+      part = slice_set (read t) k x;
+      effect = too (read t) (p.found s t same);
+      after = p.puts x t;
+    };
+  }
+
+  -- by what it puts
+  part_moves : (c : ChangesPart (with_part s) (Effect (read s)) reply s')
+      → ListMoves k Effect (read s) reply c.part
+      → Moves changed (λ t t'. ChangesPart (with_part t) (Effect (read t)) reply t') s s'
+  part_moves c moves = part_moves_by c.part c.after moves.put moves.after moves.too
+
+-- a change that makes nothing
+abbrev IsLocalChange : Change → Type 0
+IsLocalChange (SegmentMade ty items) = ⊥
+IsLocalChange (GlobalMade global) = ⊥
+IsLocalChange change = Unit {0}
+
+-- each such change goes by what is at its index
+change_moves : (s : State) (reply : Reply) (s' : State) (change : Change) → IsLocalChange change
+    → TakesChange change s reply s' → Moves (changed_by change) (λ t t'. TakesChange change t reply t') s s'
+change_moves s reply s' (BytesWritten k offset bytes) local c =
+    part_moves _ k (λ t. t.memories) with_memories (the_memory k) (WritesMemoryAt k offset bytes) s reply s' c
+    (slot_moves k _ s.memories reply c.part c.effect)
+change_moves s reply s' (BytesStored k a stored) local c =
+    part_moves _ k (λ t. t.memories) with_memories (the_memory k) (StoresVectorAt k a stored) s reply s' c
+    (store_moves k a s.memories reply c.part stored c.effect)
+change_moves s reply s' (RegisterSet dst given) local c =
+    part_moves _ dst (λ t. t.registers) with_registers (the_register dst) (TakesRegister dst given) s reply s' c
+    (register_moves dst s.registers reply c.part given c.effect)
+change_moves s reply s' (MemoryDropped k) local c =
+    part_moves _ k (λ t. t.memories) with_memories (the_memory k) (DropsAt byte_count k) s reply s' c
+    (drop_moves byte_count k s.memories reply c.part c.effect)
+change_moves s reply s' (TableDropped k) local c =
+    part_moves _ k (λ t. t.tables) with_tables (the_table k) (DropsAt size_of k) s reply s' c
+    (drop_moves size_of k s.tables reply c.part c.effect)
+change_moves s reply s' (ElementSet k index value) local c =
+    part_moves _ k (λ t. t.tables) with_tables (the_table k) (SetsElementAt k index value) s reply s' c
+    (slot_moves k _ s.tables reply c.part c.effect)
+change_moves s reply s' (SegmentMade ty items) local c = absurd local
+change_moves s reply s' (ItemsDropped k) local c =
+    part_moves _ k (λ t. t.segments) with_segments (the_segment k) (DropsItemsAt k) s reply s' c
+    (item_moves k _ s.segments reply c.part c.effect)
+change_moves s reply s' (GlobalMade global) local c = absurd local
+change_moves s reply s' (GlobalSet k value) local c =
+    part_moves _ k (λ t. t.globals) with_globals (the_global k) (SetsGlobalAt k value) s reply s' c
+    (item_moves k _ s.globals reply c.part c.effect)
+
+-- an effect that is local
+abbrev IsLocalEffect : Effect → Type 0
+IsLocalEffect (Told told) = Unit {0}
+IsLocalEffect (BytesRead k offset len) = Unit {0}
+IsLocalEffect (Changed change) = IsLocalChange change
+IsLocalEffect effect = ⊥
+
+-- what the effect of a read needs to know
+abbrev read_in : Effect → List Location
+read_in (BytesRead k offset len) = MemoryAt k ∷ []
+read_in effect = []
+
+-- a turn goes by what is at indices: in each world with the same there it edits the state in the same way, and nothing
+-- else
+record TurnMoves {S : Type 0} (Becomes : World S → World S → Type 0) (changed : Option Location)
+    (reads : List Location) (w w' : World S) : Type 0 where
+  edit : Edit
+  here : IsEditAt changed edit
+  after : w' ≡ record w { state = edited edit w.state }
+  too : (u : World S) → SameIn changed w.state u.state → SameAll reads w.state u.state
+      → Becomes u (record u { state = edited edit u.state })
+
+module _ {S : Type 0} (rules : Rules S) (w : World S) (turn : Turn) (w' : World S) where
+  -- a local effect
+  effect_moves : (effect : Effect) → IsLocalEffect effect → TakesEffect rules effect w turn w'
+      → TurnMoves (λ u u'. TakesEffect rules effect u turn u') (changed_in effect) (read_in effect) w w'
+  effect_moves (Told told) local step = record {
+    edit = Keep;
+    here = tt;
+    after = step.after;
+    too = λ u same reads. record { free = step.free; effect = step.effect; after = refl };
+  }
+  effect_moves (BytesRead k offset len) local step = record {
+    edit = Keep;
+    here = tt;
+    after = step.after;
+    too = λ u same reads. record {
+      free = step.free;
+      effect = subst (λ slot. OnLive (option_and_then live_value slot) (turn.reply ≡ NoSuch)
+          (λ x. ReadsBytes (at x.bytes offset len) turn.reply)) (sym reads.0) step.effect;
+      after = refl;
+    };
+  }
+  effect_moves (Changed change) local step =
+      let moves = change_moves w.state turn.reply step.machine change local step.effect in
+      record {
+        edit = moves.edit;
+        here = moves.here;
+        after = step.after ∙ ap (λ (s : State). let v : World S = record w { state = s } in v) moves.after;
+        too = λ u same reads. record {
+          free = step.free;
+          machine = edited moves.edit u.state;
+          effect = moves.too u.state same;
+          after = refl;
+        };
+      }
+  effect_moves effect local step = absurd local
+
+-- a call that is local has such an effect
+local_effect : (s : State) (c : Call) → IsLocal c → IsLocalEffect (effect_of s c)
+local_effect s (call.SetFuel fuel) local = absurd local
+local_effect s call.GetFuel local = tt
+local_effect s (call.NewMemory ty) local = absurd local
+local_effect s (call.NewLentMemory ty) local = absurd local
+local_effect s (call.GrowMemory k pages) local = absurd local
+local_effect s (call.NewTable ty init) local = absurd local
+local_effect s (call.GrowTable k n init) local = absurd local
+local_effect s (call.InitTable k j dst src len) local = absurd local
+local_effect s (call.CopyTable k dst j src len) local = absurd local
+local_effect s (call.FillTable k dst value len) local = absurd local
+local_effect s (call.NewSegment ty items) local = absurd local
+local_effect s (call.NewGlobal value ty) local = absurd local
+local_effect s c local = tt
+
+-- what its effect reads is what the call reads
+reads_in : (s t : State) (c : Call) → SameAll (read_locations c) s t → SameAll (read_in (effect_of s c)) s t
+reads_in s t (call.Read k offset len) same = same
+reads_in s t c same = tt
+
+module _ (s t : State) where
+  -- the effect of a local call goes by what the call reads
+  same_effect : (c : Call) → IsLocal c → SameAll (read_locations c) s t → effect_of t c ≡ effect_of s c
+  same_effect call.GetFuel local same = absurd local
+  same_effect (call.Load op k ptr offset) local same =
+      ap (λ slot. Told (load_reply op (ptr + offset) (option_and_then live_value slot))) same.0
+  same_effect (call.GetElement k index) local same =
+      ap (λ slot. Told (element_reply index (option_and_then live_value slot))) same.0
+  same_effect (call.InitTable k j dst src len) local same = absurd local
+  same_effect (call.CopyTable k dst j src len) local same = absurd local
+  same_effect (call.GetGlobal k) local same = ap (λ global. Told (global_reply global)) same.0
+  same_effect (call.GetRegister a) local same = ap (λ raw. Told (raw_reply raw)) same.0
+  same_effect (call.Make op dst a) local same =
+      ap (λ raw. Changed (RegisterSet dst (option_map (λ x. given_vector (made_vector op x)) raw))) same.0
+  same_effect (call.Unary op dst a) local same =
+      ap (λ raw. Changed (RegisterSet dst (of_one (unary_vector op) (option_map vector_in raw)))) same.0
+  same_effect (call.Binary op dst a b) local same =
+      ap₂ (λ x y. Changed (RegisterSet dst (of_two (binary_vector op) (option_map vector_in x)
+      (option_map vector_in y)))) same.0 same.1.0
+  same_effect (call.Ternary op dst a b c) local same =
+      ap₂ (λ x y. Changed (RegisterSet dst (of_three (ternary_vector op) (option_map vector_in x)
+      (option_map vector_in y) (vector_at t.registers c)))) same.0 same.1.0
+      ∙ ap (λ z. Changed (RegisterSet dst (of_three (ternary_vector op) (vector_at s.registers a)
+      (vector_at s.registers b) (option_map vector_in z)))) same.1.1.0
+  same_effect (call.Shift op dst a amount) local same =
+      ap (λ raw. Changed (RegisterSet dst (of_one (λ v. shifted_vector op v amount) (option_map vector_in raw)))) same.0
+  same_effect (call.Test op a) local same =
+      ap (λ raw. Told (raw_reply (option_map (tested_raw op) (option_map vector_in raw)))) same.0
+  same_effect (call.Extract op a) local same =
+      ap (λ raw. Told (raw_reply (option_map (extracted_raw op) (option_map vector_in raw)))) same.0
+  same_effect (call.Replace op dst a item) local same =
+      ap₂ (λ x y. Changed (RegisterSet dst (option_and_then (λ raw. of_one (λ v. replaced_vector op v raw)
+      (option_map vector_in x)) y))) same.0 same.1.0
+  same_effect (call.Shuffle dst a b lanes) local same =
+      ap₂ (λ x y. Changed (RegisterSet dst (of_two (λ v w. shuffle v w lanes) (option_map vector_in x)
+      (option_map vector_in y)))) same.0 same.1.0
+  same_effect (call.VectorLoad op dst k ptr offset) local same =
+      ap (λ slot. Changed (RegisterSet dst (vector_loaded op (ptr + offset) (option_and_then live_value slot)))) same.0
+  same_effect (call.LoadLane op dst a k ptr offset) local same =
+      ap₂ (λ x slot. Changed (RegisterSet dst (lane_loaded op (ptr + offset) (option_map vector_in x)
+      (option_and_then live_value slot)))) same.0 same.1.0
+  same_effect (call.VectorStore a k ptr offset) local same =
+      ap (λ raw. Changed (BytesStored k (ptr + offset) (option_map (le_bytes 16) (option_map vector_in raw)))) same.0
+  same_effect (call.StoreLane op a k ptr offset) local same =
+      ap (λ raw. Changed (BytesStored k (ptr + offset) (option_map (stored_lane op) (option_map vector_in raw)))) same.0
+  same_effect c local same = refl
+
+module _ {S : Type 0} (rules : Rules S) where
+  -- the turn of a local call
+  turn_moves : (w : World S) (turn : Turn) (w' : World S) → IsLocal turn.call → Step rules w turn w'
+      → TurnMoves (λ u u'. Step rules u turn u') (changed_location turn.call) (read_locations turn.call) w w'
+  turn_moves w turn w' local step =
+      let moves = effect_moves rules w turn w' (effect_of w.state turn.call)
+      (local_effect w.state turn.call local) step in
+      let changed = changed_is w.state turn.call in
+      record {
+        edit = moves.edit;
+        here = subst (λ l. IsEditAt l moves.edit) changed moves.here;
+        after = moves.after;
+        too = λ u same reads. subst (λ effect. TakesEffect rules effect u turn (record u {
+          state = edited moves.edit
+              u.state;
+        })) (sym (same_effect w.state u.state turn.call local reads))
+            (moves.too u (subst (λ l. SameIn l w.state u.state) (sym changed) same)
+            (reads_in w.state u.state turn.call reads));
+      }
+
+  -- two such turns
+  turns_swap : (w : World S) (first second : Turn) (v w' : World S) → IsIndependent first.call second.call
+      → TurnMoves (λ u u'. Step rules u first u') (changed_location first.call) (read_locations first.call) w v
+      → TurnMoves (λ u u'. Step rules u second u') (changed_location second.call) (read_locations second.call) v w'
+      → Run rules w (second ∷ first ∷ []) w'
+  turns_swap w first second v w' apart a after =
+      let b = subst (λ x. TurnMoves (λ u u'. Step rules u second u') (changed_location second.call)
+      (read_locations second.call) x w') a.after after in
+      let one = edited a.edit w.state in
+      let two = edited b.edit w.state in (
+        record w { state = two },
+        b.too w
+            (back_in (changed_location second.call) w.state one
+            (edit_leaves_in (changed_location first.call) (changed_location second.call) a.edit w.state a.here
+            (λ location is also. apart.changes location also is)))
+            (back_all (read_locations second.call) w.state one
+            (edit_leaves_all (changed_location first.call) (read_locations second.call) a.edit w.state a.here
+            apart.first_leaves)),
+        (
+          record w { state = edited a.edit two },
+          a.too (record w { state = two })
+              (edit_leaves_in (changed_location second.call) (changed_location first.call) b.edit w.state b.here
+              apart.changes)
+              (edit_leaves_all (changed_location second.call) (read_locations first.call) b.edit w.state b.here
+              apart.second_leaves),
+          b.after
+              ∙ ap (λ (s : State). let u : World S = record w { state = s } in u)
+              (sym (edits_swap (changed_location first.call) (changed_location second.call) a.edit b.edit w.state
+              a.here b.here apart.changes)),
+        ),
+      )
+
+  -- so in a run of both
+  pub independent_turns_swap : IndependentTurnsSwap rules
+  independent_turns_swap w first second w' local local' apart (v, one, (u, two, same)) =
+      turns_swap w first second v w' apart (turn_moves w first v local one)
+      (turn_moves v second w' local' (subst (Step rules v second) (sym same) two))
