@@ -1,7 +1,8 @@
-"""Builds the bench. usage: build.py CRATE FOLDER
+"""Builds the bench. usage: build.py CRATE FOLDER [rust]
 
 CRATE is the folder of the source of the Rust crate wasmi_core 2.0.0. FOLDER, outside this repository, gets a copy of the
-repository's crates and the bench's own, which are proved and built there, and the program that runs them beside the crate."""
+repository's crates and the bench's own, which are proved and built there, and the program that runs them beside the crate.
+With `rust` nothing is proved: the program runs the Rust crate in rust/ beside the crate, both compiled for x86-64-v2."""
 import os
 import re
 import shutil
@@ -65,10 +66,11 @@ def build_libraries(to):
             subprocess.run(["rt", "lib"], cwd=f"{to}/crates/{name}", stdout=log, stderr=subprocess.STDOUT, check=True)
 
 
-def build_program(crate, libraries, to):
-    """Builds the program, in some links that place its functions in other orders: a jump across a line of 32 bytes costs time."""
+def write_program(crate, to):
+    """Writes the program and its rows."""
     shutil.copytree(f"{HERE}/program", to, dirs_exist_ok=True)
-    write(f"{to}/Cargo.toml", read(f"{HERE}/program/Cargo.toml.in").replace("CRATE", os.path.realpath(crate)))
+    manifest = read(f"{HERE}/program/Cargo.toml.in").replace("CRATE", os.path.realpath(crate))
+    write(f"{to}/Cargo.toml", manifest.replace("HERE", f"{os.path.dirname(HERE)}/rust"))
     kinds = {"vector_rows": "x, y, kept, first, low, high", "load_rows": "memory, y, low, high", "store_rows": "memory, x, first, low, high"}
     tables = {"lanewise": rows.lanewise(), "widening": rows.widening(), "loads": rows.loads(), "stores": rows.stores()}
     tables |= {"number_loads": rows.number_loads(), "number_stores": rows.number_stores()}
@@ -80,18 +82,35 @@ def build_program(crate, libraries, to):
         text += f"pub(super) fn {table}() -> Vec<Row> {{\n    {shape}! {{\n"
         text += "".join(f"        {name} |{kinds[shape]}| {it};\n" for name, it in of) + "    }\n}\n"
     write(f"{to}/src/rows.rs", text)
-    kit = os.path.dirname(subprocess.run(["rt", "doc"], capture_output=True, text=True, check=True).stdout.strip())
+
+
+def build_program(to, flags, arguments=()):
+    """Builds the program, in some links that place its functions in other orders: a jump across a line of 32 bytes costs time."""
+    environment = dict(os.environ, CARGO_ENCODED_RUSTFLAGS="\x1f".join(flags), CARGO_TARGET_DIR=f"{to}/target")
     for link in range(LINKS):
-        print(f"link {link}: cargo build", flush=True)
-        flags = [f"-Clink-arg=-Wl,--shuffle-sections=.text*={link + 1}"]
-        flags += [f"-Lnative={libraries}/crates/{name}/out" for name in LIBRARIES] + [f"-Lnative={kit}/c"]
-        environment = dict(os.environ, CARGO_ENCODED_RUSTFLAGS="\x1f".join(flags))
-        subprocess.run(["cargo", "build", "--release", "--offline", "--target-dir", f"target/{link}"], cwd=to, env=environment, check=True)
+        print(f"link {link}: cargo rustc", flush=True)
+        shuffled = f"-Clink-arg=-Wl,--shuffle-sections=.text*={link + 1}"
+        subprocess.run(["cargo", "rustc", "--release", "--offline", *arguments, "--", shuffled], cwd=to, env=environment, check=True)
+        os.makedirs(f"{to}/links", exist_ok=True)
+        shutil.copy(f"{to}/target/release/bench", f"{to}/links/{link}")
+
+
+def flags_of_libraries(libraries):
+    """Where the linker finds the libraries, and the kit's part of libc."""
+    kit = os.path.dirname(subprocess.run(["rt", "doc"], capture_output=True, text=True, check=True).stdout.strip())
+    return [f"-Lnative={libraries}/crates/{name}/out" for name in LIBRARIES] + [f"-Lnative={kit}/c"]
+
+
+def main(crate, folder, form=None):
+    write_program(crate, f"{folder}/program")
+    if form:
+        build_program(f"{folder}/program", ["-Ctarget-cpu=x86-64-v2"], ["--features", "rust"])
+    else:
+        build_libraries(f"{folder}/repository")
+        build_program(f"{folder}/program", flags_of_libraries(f"{folder}/repository"))
 
 
 if __name__ == "__main__":
-    if len(sys.argv) != 3:
+    if len(sys.argv) not in (3, 4) or sys.argv[3:] not in ([], ["rust"]):
         sys.exit(__doc__)
-    folder = os.path.realpath(sys.argv[2])
-    build_libraries(f"{folder}/repository")
-    build_program(sys.argv[1], f"{folder}/repository", f"{folder}/program")
+    main(sys.argv[1], os.path.realpath(sys.argv[2]), *sys.argv[3:])

@@ -12,7 +12,7 @@ def measured(folder, runs, word):
     """The least times of each row, by its kind and name; and the rows whose answers differ from the crate's."""
     least, differ = {}, set()
     for _ in range(runs):
-        for link in sorted(glob.glob(f"{folder}/program/target/*/release/bench")):
+        for link in sorted(glob.glob(f"{folder}/program/links/*")):
             for line in subprocess.run([link, word], capture_output=True, text=True, check=True).stdout.splitlines():
                 kind, name, *cells = line.split()
                 if cells[-1] == "DIFFERS":

@@ -3,6 +3,10 @@ use std::hint::black_box;
 use std::time::Instant;
 use wasmi_core::*;
 
+#[cfg(feature = "rust")]
+use crate::machine_here as here;
+
+#[cfg(not(feature = "rust"))]
 mod here {
     unsafe extern "C" {
         pub fn machine_runs(kind: u64, count: u64, runs: u64) -> u64;

@@ -1,8 +1,10 @@
-//! Times of the Rust crate wasmi_core and of the same things here, in turns, in one program.
+//! Times of the Rust crate wasmi_core and of the same things here, in turns, in one program. What is here are libraries that
+//! Rattle compiled, or, with the feature `rust`, the Rust crate of this repository.
 //!
 //! usage: bench [WORD]: the rows with WORD in their names. A line has a kind, a name and times in nanoseconds, the last time
 //! that of here; DIFFERS stands where an answer is not the crate's.
 
+#[cfg(not(feature = "rust"))]
 #[link(name = "bench_lanewise", kind = "static")]
 #[link(name = "bench_widening", kind = "static")]
 #[link(name = "bench_accesses", kind = "static")]
@@ -13,6 +15,8 @@
 unsafe extern "C" {}
 
 mod machine;
+#[cfg(feature = "rust")]
+mod machine_here;
 mod timing;
 mod vectors;
 mod works;
