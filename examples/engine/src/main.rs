@@ -1,5 +1,5 @@
-//! An engine's loop over memories, tables, fuel and limits: those of the Rust crate `wasmi_core`, or the proved ones.
-//! The next two `use` lines are all that differs.
+//! An engine's loop over memories, tables, fuel and limits: those of the Rust crate `wasmi_core`, or the proved ones of
+//! `rust/`. The next two `use` lines are all that differs.
 #[cfg(feature = "crate")]
 use wasmi_core as library;
 #[cfg(not(feature = "crate"))]

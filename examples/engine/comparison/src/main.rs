@@ -1,4 +1,4 @@
-//! Compares the Rust crate and the Rust bindings: the types of the functions of instructions, and what random sequences of
+//! Compares the Rust crate and the proved one: the types of the functions of instructions, and what random sequences of
 //! calls on memories, tables and meters give under a limiter of random answers.
 //!
 //! It prints what differs. The exit status is 0 if nothing does, 1 if something does, and 2 if nothing was compared. The

@@ -1,5 +1,5 @@
 // Random calls on memories, tables and a meter under a limiter of random answers, and what each gives. This file is a part
-// of two modules, in which `library` is the Rust crate and the Rust bindings.
+// of two modules, in which `library` is the Rust crate and the proved one.
 use library::{
     ElementSegment, Fuel, FuelCostsProvider, LimiterError, Memory, MemoryError, MemoryType, RawRef, RefType,
     ResourceLimiter, ResourceLimiterRef, Table, TableError, TableType, TypedRawRef,
