@@ -40,7 +40,8 @@ fn a_table_type_of_64_bits() {
 }
 
 #[test]
-#[should_panic = "the variable is a constant"]
+#[should_panic]
+#[cfg(debug_assertions)]
 fn a_pointer_to_a_constant() {
     Global::new(
         RawVal::from(1),
