@@ -16,7 +16,8 @@ struct trial {
 
 enum { MOST_TRIALS = 32 };
 
-/* Operands on which no two instructions of one kind and of different meaning agree. */
+/* Operands on which no two instructions of one kind and of different meaning agree, and the least numbers, on which a
+   relaxed product has a choice. */
 static const wasmi_words OPERANDS[][3] = {
     {{0x26a391d7fe968f77, 0x8074514c7cb73161}, {0xdf80c7f57be56be3, 0xc6ef0106b80e0c01}, {0, 0}},
     {{0x126c7bc33ba7526d, 0x51e692737a521a7d}, {0x126c7bc33ba7526d, 0x51e69273641927c5}, {0, 1}},
@@ -29,6 +30,7 @@ static const wasmi_words OPERANDS[][3] = {
     {{0x8101010181010000, 0x8101810180018101}, {0x0c5c7fd0a6a3a450, 0xd23f0824128b2f33}, {0, 0}},
     {{0x8101010100000000, 0x8101810180018101}, {0, 0}, {0, 0}},
     {{0, 0x8101810180018101}, {0, 0}, {0, 0}},
+    {{0x8000800080008000, 0x8000800080008000}, {0x8000800080008000, 0x8000800080008000}, {0, 0}},
     {{0, 0}, {0, 0}, {0, 0}},
 };
 enum { OPERAND_COUNT = sizeof OPERANDS / sizeof OPERANDS[0] };
@@ -416,9 +418,9 @@ static void compare_binary_each(void) {
     }
 }
 
-/* Loads from each of some pointers, inside the memory, at its end, past it, and at a sum above 2^64. */
+/* Loads from each of some pointers, inside the memory, at its end, past it, and past 2^32 and 2^64. */
 static void compare_load_each(void) {
-    const uint64_t ptrs[] = {0, 2, 5, 13, 21, 25, 27, 28, 29, UINT64_MAX};
+    const uint64_t ptrs[] = {0, 2, 5, 13, 21, 25, 27, 28, 29, (uint64_t)1 << 32, UINT64_MAX};
     enum { COUNT = sizeof ptrs / sizeof ptrs[0], OFFSET = 3 };
     uint8_t memory[32];
     struct trial on = element(0);
@@ -479,19 +481,27 @@ static void compare_lanes(void) {
     compare("what no lane leaves", value.lo == 5 && value.hi == 6 && memory[0] == 9);
 }
 
-/* A load and a store past the end, also at a sum above 2^64, and the two traps of a division: nothing is written. */
+/* A load and a store past the end, also past 2^32 and 2^64, and the two traps of a division: nothing is written. */
 static void compare_traps(void) {
     const wasmi_words zero = {0, 0}, least = {0x80000000, 0}, minus_one = {UINT32_MAX, 0};
-    const uint64_t ptr = 29;
+    const uint64_t ptr = 29, beyond = (uint64_t)1 << 32;
     uint8_t memory[32] = {9};
     wasmi_words value = {5, 6};
     wasmi_result result = {{5, 6}, 7};
     uint8_t past[] = {
         wasmi_load(WASMI_LOAD_LOAD_U32, memory, 32, 29, 0, &value),
         wasmi_load(WASMI_LOAD_LOAD_U32, memory, 32, UINT64_MAX, 2, &value),
+        wasmi_load(WASMI_LOAD_LOAD_U32, memory, 32, beyond, 1, &value),
+        wasmi_load(WASMI_LOAD_LOAD_U32, memory, 32, 1, beyond, &value),
         wasmi_store(WASMI_STORE_STORE32, memory, 32, 29, 0, least),
+        wasmi_store(WASMI_STORE_STORE32, memory, 32, beyond, 1, least),
+        wasmi_store(WASMI_STORE_STORE32, memory, 32, 1, beyond, least),
         wasmi_load_lane(WASMI_LOAD_LANE_V128_LOAD32_LANE, 0, memory, 32, 29, 0, zero, &value),
+        wasmi_load_lane(WASMI_LOAD_LANE_V128_LOAD32_LANE, 0, memory, 32, beyond, 1, zero, &value),
+        wasmi_load_lane(WASMI_LOAD_LANE_V128_LOAD32_LANE, 0, memory, 32, 1, beyond, zero, &value),
         wasmi_store_lane(WASMI_STORE_LANE_V128_STORE32_LANE, 0, memory, 32, 29, 0, least),
+        wasmi_store_lane(WASMI_STORE_LANE_V128_STORE32_LANE, 0, memory, 32, beyond, 1, least),
+        wasmi_store_lane(WASMI_STORE_LANE_V128_STORE32_LANE, 0, memory, 32, 1, beyond, least),
     };
     for (size_t i = 0; i < sizeof past; i++) {
         compare("the status past the end", past[i] == WASMI_MEMORY_OUT_OF_BOUNDS);
@@ -503,7 +513,8 @@ static void compare_traps(void) {
     compare("the status of a division by zero", status == WASMI_INTEGER_DIVISION_BY_ZERO);
     status = wasmi_binary(WASMI_BINARY_I32_DIV_S, least, minus_one, &value);
     compare("the status of an overflow", status == WASMI_INTEGER_OVERFLOW);
-    compare("what a trap leaves", value.lo == 5 && value.hi == 6 && memory[29] == 0 && memory[0] == 9);
+    int is_unchanged = memory[0] == 9 && memory[4] == 0 && memory[29] == 0;
+    compare("what a trap leaves", value.lo == 5 && value.hi == 6 && is_unchanged);
 }
 
 /* The status of a script that is printed to bytes of a length, and whether what it prints is the text. */

@@ -65,10 +65,10 @@ fn main() -> ExitCode {
         let (a, b, c) = (operands.batch(), operands.batch(), operands.batch());
         compare_values(&mut tally, &engine, &a, &b, &c);
         compare_shuffles(&mut operands, &mut tally, &a, &b);
-        compare_accesses(&mut operands, &mut tally, &engine, &a);
-        // Each batch has operands for each lane.
+        // Each batch has operands for each lane, and several offsets.
         for (index, (a, b)) in a.chunks(BATCH / LANES).zip(b.chunks(BATCH / LANES)).enumerate() {
             let lane = (index % LANES) as u8;
+            compare_accesses(&mut operands, &mut tally, &engine, a);
             compare_lanes(&mut tally, &engine, lane, a, b);
             compare_lane_accesses(&mut operands, &mut tally, &engine, lane, a);
         }
@@ -147,18 +147,18 @@ fn compare_shuffles(operands: &mut Operands, tally: &mut Tally, a: &[Words], b: 
 
 fn compare_accesses(operands: &mut Operands, tally: &mut Tally, engine: &Engine, a: &[Words]) {
     let memory = operands.memory();
-    let ptrs: Vec<u64> = (0..BATCH).map(|_| operands.pointer()).collect();
-    let offset = operands.pointer() % 80;
-    let mut results = vec![InstructionResult::default(); BATCH];
+    let ptrs: Vec<u64> = a.iter().map(|_| operands.pointer()).collect();
+    let offset = operands.offset();
+    let mut results = vec![InstructionResult::default(); a.len()];
     for (number, (name, f)) in engine.loads.iter().enumerate() {
         assert_eq!(ffi::load(number as u16, &memory, &ptrs, offset, &mut results), 0);
-        for i in 0..BATCH {
+        for i in 0..a.len() {
             let on = format_args!("ptr {}, offset {offset}", ptrs[i]);
             tally.count(name, on, results[i], f(&memory, ptrs[i], offset));
         }
     }
     for (number, (name, f)) in engine.stores.iter().enumerate() {
-        for i in 0..BATCH {
+        for i in 0..a.len() {
             let (mut proved, mut theirs) = (memory, memory);
             let status = ffi::store(number as u16, &mut proved, ptrs[i], offset, a[i]);
             let proved = Stored { status, memory: proved };
@@ -178,7 +178,7 @@ fn compare_lane_accesses(
 ) {
     let memory = operands.memory();
     for vector in a {
-        let (ptr, offset) = (operands.pointer(), operands.pointer() % 80);
+        let (ptr, offset) = (operands.pointer(), operands.offset());
         for (number, (name, f)) in engine.load_lanes.iter().enumerate() {
             let proved = ffi::load_lane(number as u16, lane, &memory, ptr, offset, *vector);
             let theirs = f(lane, &memory, ptr, offset, *vector);

@@ -72,6 +72,16 @@ impl Operands {
         }
     }
 
+    /// An offset that is mostly small, and else past what 32 bits or 64 reach with a pointer.
+    pub fn offset(&mut self) -> u64 {
+        let small = self.bits() % 80;
+        match self.bits() % 16 {
+            0 => (1 << 32) + small,
+            1 => u64::MAX - small,
+            _ => small,
+        }
+    }
+
     /// A memory of random bytes.
     pub fn memory(&mut self) -> [u8; MEMORY] {
         let mut memory = [0; MEMORY];
