@@ -1,7 +1,6 @@
 -- Turns whose calls are local and independent may be exchanged.
-use Rattle.std.proofs.Common.{Err, List, None, Ok, Option, Result, Some, [], ap, ap₂, map, refl, set, subst, suc, sym, zero, ℕ, ◌+◌, ◌∙◌, ◌∷◌, ◌≡◌}
+use Rattle.std.proofs.Common.{Err, List, None, Ok, Option, Result, Some, [], ap, ap₂, refl, set, subst, suc, sym, zero, ℕ, ◌+◌, ◌∙◌, ◌∷◌, ◌≡◌}
 use Rattle.std.proofs.lemmas.List.Elements.{All-head, All-tail}
-use Rattle.std.proofs.lemmas.Option.{same_Some}
 use Rattle.std.specs.Option.{option_and_then, option_map}
 use Rattle.std.specs.Prelude.{All, slice_get, slice_set}
 use Rattle.wasmi_core.specs.Effects.{ChangesAt, ChangesItem, ChangesPart, DropsAt, OnLive, reply_of}
@@ -9,7 +8,7 @@ use Rattle.wasmi_core.specs.MemoryEffects.{ReadsBytes, StoresMemory, WritesMemor
 use Rattle.wasmi_core.specs.RegisterEffects.{StoresVectorAt, TakesAt, TakesRegister, given_vector, lane_loaded, of_one, of_three, of_two, raw_reply, vector_at, vector_loaded}
 use Rattle.wasmi_core.specs.Runs.{Run}
 use Rattle.wasmi_core.specs.State.{State, live_at, live_value, with_globals, with_memories, with_registers, with_segments, with_tables}
-use Rattle.wasmi_core.specs.Steps.{BytesRead, BytesStored, BytesWritten, Change, Changed, Effect, ElementSet, FuelSet, GlobalMade, GlobalSet, ItemsDropped, LentMemoryMade, MemoryDropped, MemoryGrown, MemoryMade, RangeWritten, RegisterSet, SegmentMade, Step, TableDropped, TableGrown, TableMade, TakesChange, TakesEffect, Told, effect_of}
+use Rattle.wasmi_core.specs.Steps.{BytesRead, BytesStored, BytesWritten, Change, Changed, Effect, ElementSet, GlobalMade, GlobalSet, ItemsDropped, MemoryDropped, RegisterSet, SegmentMade, Step, TableDropped, TakesChange, TakesEffect, Told, effect_of}
 use Rattle.wasmi_core.specs.TableEffects.{SetsElementAt, element_reply}
 use Rattle.wasmi_core.specs.Totals.{byte_count}
 use Rattle.wasmi_core.specs.ValueEffects.{DropsItemsAt, SetsGlobalAt, global_reply}
@@ -22,7 +21,7 @@ use Rattle.wasmi_core.specs.declared.slots.Slot.{Slot}
 use Rattle.wasmi_core.specs.declared.slots.Slot.TheVariants.{Gone, Live}
 use Rattle.wasmi_laws.proofs.ListLemmas.{set_other}
 use Rattle.wasmi_laws.proofs.LocationLemmas.{changed_by, changed_in, changed_is}
-use Rattle.wasmi_laws.specs.Places.{Content, GlobalAt, IndependentTurnsSwap, IsIndependent, IsLocal, LeavesAlone, Location, MemoryAt, RegisterAt, SegmentAt, TableAt, changed_location, content_at, read_locations}
+use Rattle.wasmi_laws.specs.Places.{Content, GlobalAt, IndependentTurnsSwap, IsIndependent, IsLocal, Location, MemoryAt, RegisterAt, SegmentAt, TableAt, changed_location, content_at, read_locations}
 use Rattle.wasmi_meter.specs.Limiter.{Rules}
 use Rattle.wasmi_lanewise.specs.VectorTable.{shuffle}
 use Rattle.wasmi_ops.specs.BinaryOps.{binary_vector}
@@ -36,7 +35,9 @@ use Rattle.wasmi_ops.specs.VectorAccessOps.{stored_lane}
 use Rattle.wasmi_raw.specs.RawVal.{vector_in}
 use Rattle.wasmi_raw.specs.declared.raw.RawVal.{RawVal}
 use Rattle.wasmi_store.specs.Memory.{MemoryValue}
-use Rattle.wasmi_store.specs.Table.{size_of}
+use Rattle.wasmi_store.specs.Segment.{SegmentValue}
+use Rattle.wasmi_store.specs.Table.{TableValue, size_of}
+use Rattle.wasmi_typed.specs.Global.{GlobalInstance}
 use Rattle.wasmi_types.specs.Access.{at}
 use Rattle.wasmi_types.specs.Bytes.{le_bytes}
 use Rattle.wasmi_types.specs.declared.trap.TrapCode.{TrapCode}
@@ -261,17 +262,22 @@ record Moves (changed : Option Location) (Becomes : State → State → Type 0) 
   too : (t : State) → SameIn changed s t → Becomes t (edited edit t)
 
 -- a part of a state is a list whose item at an index is what is there
-record PartAt {X : Type 0} (changed : Option Location) (k : ℕ) (read : State → List X)
-    (with_part : State → List X → State) : Type 0 where
+record Part (X : Type 0) (changed : Option Location) : Type 0 where
+  index : ℕ
+  read : State → List X
+  with_part : State → List X → State
   put : X → Edit
   here : (x : X) → IsEditAt changed (put x)
-  puts : (x : X) (s : State) → edited (put x) s ≡ with_part s (slice_set (read s) k x)
+  puts : (x : X) (s : State) → edited (put x) s ≡ with_part s (slice_set (read s) index x)
   whole : (s : State) → with_part s (read s) ≡ s
-  found : (s t : State) → SameIn changed s t → slice_get (read t) k ≡ slice_get (read s) k
+  found : (s t : State) → SameIn changed s t → slice_get (read t) index ≡ slice_get (read s) index
 
 -- memories
-the_memory : (k : ℕ) → PartAt (Some (MemoryAt k)) k (λ s. s.memories) with_memories
+abbrev the_memory : (k : ℕ) → Part (Slot MemoryValue) (Some (MemoryAt k))
 the_memory k = record {
+  index = k;
+  read = λ s. s.memories;
+  with_part = with_memories;
   put = Put (MemoryAt k);
   here = λ x. refl;
   puts = λ x s. refl;
@@ -280,8 +286,11 @@ the_memory k = record {
 }
 
 -- tables
-the_table : (k : ℕ) → PartAt (Some (TableAt k)) k (λ s. s.tables) with_tables
+abbrev the_table : (k : ℕ) → Part (Slot TableValue) (Some (TableAt k))
 the_table k = record {
+  index = k;
+  read = λ s. s.tables;
+  with_part = with_tables;
   put = Put (TableAt k);
   here = λ x. refl;
   puts = λ x s. refl;
@@ -290,8 +299,11 @@ the_table k = record {
 }
 
 -- element segments
-the_segment : (k : ℕ) → PartAt (Some (SegmentAt k)) k (λ s. s.segments) with_segments
+abbrev the_segment : (k : ℕ) → Part SegmentValue (Some (SegmentAt k))
 the_segment k = record {
+  index = k;
+  read = λ s. s.segments;
+  with_part = with_segments;
   put = Put (SegmentAt k);
   here = λ x. refl;
   puts = λ x s. refl;
@@ -300,8 +312,11 @@ the_segment k = record {
 }
 
 -- globals
-the_global : (k : ℕ) → PartAt (Some (GlobalAt k)) k (λ s. s.globals) with_globals
+abbrev the_global : (k : ℕ) → Part GlobalInstance (Some (GlobalAt k))
 the_global k = record {
+  index = k;
+  read = λ s. s.globals;
+  with_part = with_globals;
   put = Put (GlobalAt k);
   here = λ x. refl;
   puts = λ x s. refl;
@@ -310,8 +325,11 @@ the_global k = record {
 }
 
 -- registers
-the_register : (k : ℕ) → PartAt (Some (RegisterAt k)) k (λ s. s.registers) with_registers
+abbrev the_register : (k : ℕ) → Part RawVal (Some (RegisterAt k))
 the_register k = record {
+  index = k;
+  read = λ s. s.registers;
+  with_part = with_registers;
   put = Put (RegisterAt k);
   here = λ x. refl;
   puts = λ x s. refl;
@@ -319,34 +337,37 @@ the_register k = record {
   found = λ s t same. same;
 }
 
-module _ {X : Type 0} (changed : Option Location) (k : ℕ) (read : State → List X)
-    (with_part : State → List X → State) (p : PartAt changed k read with_part)
-    (Effect : List X → Reply → List X → Type 0) (s : State) (reply : Reply) (s' : State) where
+module _ {X : Type 0} (changed : Option Location) (p : Part X changed) (Effect : List X → Reply → List X → Type 0)
+    (s : State) (reply : Reply) (s' : State) where
   -- a change of a part, as an effect on its list goes by what is at an index
-  part_moves_by : (part : List X) → s' ≡ with_part s part → (put : Option X) → part ≡ put_in k put (read s)
-      → ((ys : List X) → slice_get ys k ≡ slice_get (read s) k → Effect ys reply (put_in k put ys))
-      → Moves changed (λ t t'. ChangesPart (with_part t) (Effect (read t)) reply t') s s'
+  part_moves_by : (part : List X) → s' ≡ p.with_part s part → (put : Option X) → part ≡ put_in p.index put (p.read s)
+      → ((ys : List X) → slice_get ys p.index ≡ slice_get (p.read s) p.index → Effect ys reply (put_in p.index put ys))
+      → Moves changed (λ t t'. ChangesPart (p.with_part t) (Effect (p.read t)) reply t') s s'
   part_moves_by part is None after too = record {
     edit = Keep;
     here = tt;
-    after = is ∙ ap (with_part s) after ∙ p.whole s;
-    too = λ t same. record { part = read t; effect = too (read t) (p.found s t same); after = sym (p.whole t) };
+    after = is ∙ ap (p.with_part s) after ∙ p.whole s;
+    too = λ t same. record {
+      part = p.read t;
+      effect = too (p.read t) (p.found s t same);
+      after = sym (p.whole t);
+    };
   }
   part_moves_by part is (Some x) after too = record {
     edit = p.put x;
     here = p.here x;
-    after = is ∙ ap (with_part s) after ∙ sym (p.puts x s);
+    after = is ∙ ap (p.with_part s) after ∙ sym (p.puts x s);
     too = λ t same. record {
-      part = slice_set (read t) k x;
-      effect = too (read t) (p.found s t same);
+      part = slice_set (p.read t) p.index x;
+      effect = too (p.read t) (p.found s t same);
       after = p.puts x t;
     };
   }
 
   -- by what it puts
-  part_moves : (c : ChangesPart (with_part s) (Effect (read s)) reply s')
-      → ListMoves k Effect (read s) reply c.part
-      → Moves changed (λ t t'. ChangesPart (with_part t) (Effect (read t)) reply t') s s'
+  part_moves : (c : ChangesPart (p.with_part s) (Effect (p.read s)) reply s')
+      → ListMoves p.index Effect (p.read s) reply c.part
+      → Moves changed (λ t t'. ChangesPart (p.with_part t) (Effect (p.read t)) reply t') s s'
   part_moves c moves = part_moves_by c.part c.after moves.put moves.after moves.too
 
 -- a change that makes nothing
@@ -359,30 +380,30 @@ IsLocalChange change = Unit {0}
 change_moves : (s : State) (reply : Reply) (s' : State) (change : Change) → IsLocalChange change
     → TakesChange change s reply s' → Moves (changed_by change) (λ t t'. TakesChange change t reply t') s s'
 change_moves s reply s' (BytesWritten k offset bytes) local c =
-    part_moves _ k (λ t. t.memories) with_memories (the_memory k) (WritesMemoryAt k offset bytes) s reply s' c
+    part_moves _ (the_memory k) (WritesMemoryAt k offset bytes) s reply s' c
     (slot_moves k _ s.memories reply c.part c.effect)
 change_moves s reply s' (BytesStored k a stored) local c =
-    part_moves _ k (λ t. t.memories) with_memories (the_memory k) (StoresVectorAt k a stored) s reply s' c
+    part_moves _ (the_memory k) (StoresVectorAt k a stored) s reply s' c
     (store_moves k a s.memories reply c.part stored c.effect)
 change_moves s reply s' (RegisterSet dst given) local c =
-    part_moves _ dst (λ t. t.registers) with_registers (the_register dst) (TakesRegister dst given) s reply s' c
+    part_moves _ (the_register dst) (TakesRegister dst given) s reply s' c
     (register_moves dst s.registers reply c.part given c.effect)
 change_moves s reply s' (MemoryDropped k) local c =
-    part_moves _ k (λ t. t.memories) with_memories (the_memory k) (DropsAt byte_count k) s reply s' c
+    part_moves _ (the_memory k) (DropsAt byte_count k) s reply s' c
     (drop_moves byte_count k s.memories reply c.part c.effect)
 change_moves s reply s' (TableDropped k) local c =
-    part_moves _ k (λ t. t.tables) with_tables (the_table k) (DropsAt size_of k) s reply s' c
+    part_moves _ (the_table k) (DropsAt size_of k) s reply s' c
     (drop_moves size_of k s.tables reply c.part c.effect)
 change_moves s reply s' (ElementSet k index value) local c =
-    part_moves _ k (λ t. t.tables) with_tables (the_table k) (SetsElementAt k index value) s reply s' c
+    part_moves _ (the_table k) (SetsElementAt k index value) s reply s' c
     (slot_moves k _ s.tables reply c.part c.effect)
 change_moves s reply s' (SegmentMade ty items) local c = absurd local
 change_moves s reply s' (ItemsDropped k) local c =
-    part_moves _ k (λ t. t.segments) with_segments (the_segment k) (DropsItemsAt k) s reply s' c
+    part_moves _ (the_segment k) (DropsItemsAt k) s reply s' c
     (item_moves k _ s.segments reply c.part c.effect)
 change_moves s reply s' (GlobalMade global) local c = absurd local
 change_moves s reply s' (GlobalSet k value) local c =
-    part_moves _ k (λ t. t.globals) with_globals (the_global k) (SetsGlobalAt k value) s reply s' c
+    part_moves _ (the_global k) (SetsGlobalAt k value) s reply s' c
     (item_moves k _ s.globals reply c.part c.effect)
 
 -- an effect that is local

@@ -63,27 +63,39 @@ module _ {X : Type 0} (Becomes : ℕ → X → X → Type 0) (xs xs' : List X) w
     how = inl refl;
   }
 
-  module _ (k : ℕ) (x y : X) (found : slice_get xs k ≡ Some x) (becomes : Becomes k x y)
-      (is : xs' ≡ slice_set xs k y) where
-    -- the item that was set, and each other one
-    put_by : (j : ℕ) (z : X) → slice_get xs j ≡ Some z → (k ≡ j) ⊎ (k ≡ j → ⊥)
-        → ItemAfter (Becomes j) z (slice_get xs' j)
-    put_by j z there (inl same) =
-        let one : x ≡ z = same_Some x z (sym found ∙ ap (slice_get xs) same ∙ there) in
-        record {
-          now = y;
-          here = ap (λ ys. slice_get ys j) is ∙ ap (slice_get (set xs k y)) (sym same) ∙ set_same xs k y x found;
-          how = inr (subst (λ i. Becomes i z y) same (subst (λ v. Becomes k v y) one becomes));
-        }
-    put_by j z there (inr other) = record {
-      now = z;
-      here = ap (λ ys. slice_get ys j) is ∙ set_other xs k j y other ∙ there;
-      how = inl refl;
-    }
+-- an item of a list was set to what it may become
+record IsSet {X : Type 0} (Becomes : ℕ → X → X → Type 0) (xs xs' : List X) : Type 0 where
+  index : ℕ
+  old : X
+  new : X
+  found : slice_get xs index ≡ Some old
+  becomes : Becomes index old new
+  after : xs' ≡ slice_set xs index new
 
-    -- one item was set
-    pub put : EachAfter Becomes xs xs'
-    put j z there = put_by j z there (cases_eq k j)
+module _ {X : Type 0} (Becomes : ℕ → X → X → Type 0) (xs xs' : List X) where
+  -- what becomes of it, and of each other one
+  put_by : (is : IsSet Becomes xs xs') (j : ℕ) (z : X) → slice_get xs j ≡ Some z
+      → (is.index ≡ j) ⊎ (is.index ≡ j → ⊥) → ItemAfter (Becomes j) z (slice_get xs' j)
+  put_by is j z there (inl same) =
+      let one : is.old ≡ z = same_Some is.old z (sym is.found ∙ ap (slice_get xs) same ∙ there) in
+      record {
+        now = is.new;
+        here = ap (λ ys. slice_get ys j) is.after ∙ ap (slice_get (set xs is.index is.new)) (sym same)
+            ∙ set_same xs is.index is.new is.old is.found;
+        how = inr (subst (λ i. Becomes i z is.new) same (subst (λ v. Becomes is.index v is.new) one is.becomes));
+      }
+  put_by is j z there (inr other) = record {
+    now = z;
+    here = ap (λ ys. slice_get ys j) is.after ∙ set_other xs is.index j is.new other ∙ there;
+    how = inl refl;
+  }
+
+  -- one item was set
+  pub put : (k : ℕ) (x y : X) → slice_get xs k ≡ Some x → Becomes k x y → xs' ≡ slice_set xs k y
+      → EachAfter Becomes xs xs'
+  put k x y found becomes after j z there =
+      put_by (record { index = k; old = x; new = y; found = found; becomes = becomes; after = after }) j z there
+      (cases_eq k j)
 
 -- an entry that is made
 pub entry_added : {X A E : Type 0} (Becomes : ℕ → A → A → Type 0) (entry : X → A) (refusal : E → Reply)

@@ -1,18 +1,16 @@
 -- What becomes of what is at each index of a machine, in a step and in a run.
 use Rattle.std.proofs.Common.{Bool, Err, List, None, Ok, Option, Result, Some, [], ap, false, ⊎_elim, inl, inr, map, refl, subst, sym, true, ℕ, ◌∙◌, ◌∷◌, ◌≡◌, ◌⊎◌}
 use Rattle.std.proofs.lemmas.List.Elements.{All-head, All-tail}
-use Rattle.std.specs.Prelude.{All, slice_get}
+use Rattle.std.specs.Prelude.{slice_get}
 use Rattle.wasmi_core.proofs.EffectLemmas.{on_live}
-use Rattle.wasmi_core.specs.Effects.{ActsAt, OnLive, reply_of}
-use Rattle.wasmi_core.specs.FuelEffects.{SetsFuel}
-use Rattle.wasmi_core.specs.MemoryEffects.{CreatesLent, StoresMemory, StoresMemoryAt}
+use Rattle.wasmi_core.specs.Effects.{reply_of}
+use Rattle.wasmi_core.specs.MemoryEffects.{CreatesLent}
 use Rattle.wasmi_core.specs.RegisterEffects.{StoresVectorAt, TakesAt}
-use Rattle.wasmi_core.specs.Runs.{Run}
-use Rattle.wasmi_core.specs.State.{MemoryPart, State, live_at, memory_part, with_globals, with_memories, with_memory_part, with_registers, with_segments, with_tables}
+use Rattle.wasmi_core.specs.State.{MemoryPart, State, memory_part, with_globals, with_registers, with_segments}
 use Rattle.wasmi_core.specs.Steps.{BytesRead, BytesStored, BytesWritten, Change, Changed, Effect, ElementSet, FuelSet, GlobalMade, GlobalSet, ItemsDropped, LentMemoryMade, MemoryDropped, MemoryGrown, MemoryMade, RangeWritten, RegisterSet, SegmentMade, Step, TableDropped, TableGrown, TableMade, TakesChange, TakesEffect, Told, effect_of}
-use Rattle.wasmi_core.specs.TableEffects.{Metered, Source, WritesRangeAt, WritesTableAt, write_of}
+use Rattle.wasmi_core.specs.TableEffects.{Metered, WritesRangeAt, write_of}
 use Rattle.wasmi_core.specs.Totals.{byte_count}
-use Rattle.wasmi_core.specs.ValueEffects.{CreatesGlobal, CreatesSegment, DropsItemsAt, SetsGlobalAt}
+use Rattle.wasmi_core.specs.ValueEffects.{CreatesGlobal, CreatesSegment}
 use Rattle.wasmi_core.specs.World.{Turn, World}
 use Rattle.wasmi_core.specs.declared.calls.Call.{Call}
 use Rattle.wasmi_core.specs.declared.calls.Call.TheVariants.{SetFuel}
@@ -20,8 +18,8 @@ use Rattle.wasmi_core.specs.declared.calls.Reply.{Reply}
 use Rattle.wasmi_core.specs.declared.slots.Slot.{Slot}
 use Rattle.wasmi_core.specs.declared.slots.Slot.TheVariants.{Gone, Live}
 use Rattle.wasmi_laws.proofs.ListLemmas.{EachAfter, ItemAfter, appended, entry_added, item_changed, put, slot_acted, slot_changed, slot_dropped, slot_made, unchanged}
-use Rattle.wasmi_laws.specs.Places.{Content, DropsNot, GlobalAt, HasAt, IndicesLast, IsLater, IsLaterSlot, IsLive, LeavesAlone, LiveUntilDropped, Location, MemoryAt, OthersStay, OthersStayInRuns, RegisterAt, SegmentAt, StaysAt, TableAt, changed_location, content_at, dropped_location}
-use Rattle.wasmi_meter.specs.Attempt.{AttemptOutcome, Denied, Failed, Met, MeteredValue, Unasked, covers, value_after, with_value}
+use Rattle.wasmi_laws.specs.Places.{Content, DropsNot, GlobalAt, IndicesLast, IsLater, IsLaterSlot, IsLive, LeavesAlone, LiveUntilDropped, Location, MemoryAt, OthersStay, OthersStayInRuns, RegisterAt, SegmentAt, TableAt, changed_location, content_at, dropped_location}
+use Rattle.wasmi_meter.specs.Attempt.{AttemptOutcome, Met, MeteredValue, value_after, with_value}
 use Rattle.wasmi_meter.specs.Limiter.{Rules}
 use Rattle.wasmi_meter.specs.Meter.{Meter}
 use Rattle.wasmi_meter.specs.declared.error.MemoryError.{MemoryError}
@@ -34,7 +32,7 @@ use Rattle.wasmi_store.specs.Memory.{GrowsMemoryCharging, MakesMemory, MemoryVal
 use Rattle.wasmi_store.specs.MemoryType.{MemoryTypeValue}
 use Rattle.wasmi_store.specs.Segment.{SegmentValue}
 use Rattle.wasmi_store.specs.Table.{EndsBy, GrowsTableCharging, MakesTable, MeteredTable, SetsTable, TableValue, TableWrite, WritesTableCharging, size_of}
-use Rattle.wasmi_store.specs.TableType.{TableTypeValue, same_type}
+use Rattle.wasmi_store.specs.TableType.{same_type}
 use Rattle.wasmi_typed.specs.Global.{GlobalInstance, SetsGlobal}
 use Rattle.wasmi_typed.specs.declared.global.GlobalError.{GlobalError}
 use Rattle.wasmi_typed.specs.declared.global.GlobalError.TheVariants.{ImmutableWrite, TypeMismatch}
@@ -521,7 +519,8 @@ later_twice : (location : Location) (x y z : Content location) → IsLater locat
     → IsLater location x z
 later_twice (MemoryAt k) x y z first second = later_twice_slot (λ (m : MemoryValue). m.ty) x y z first second
 later_twice (TableAt k) x y z first second = later_twice_slot (λ (t : TableValue). t.ty) x y z first second
-later_twice (SegmentAt k) x y z first second = (second.0 ∙ first.0, items_twice x.items y.items z.items first.1 second.1)
+later_twice (SegmentAt k) x y z first second =
+    (second.0 ∙ first.0, items_twice x.items y.items z.items first.1 second.1)
 later_twice (GlobalAt k) x y z first second = (
   second.0 ∙ first.0,
   λ const. second.1 (ap (λ (t : GlobalType). t.mutability) first.0 ∙ const) ∙ first.1 const,

@@ -1,28 +1,25 @@
 -- What was stored to a memory of a machine is read back.
-use Rattle.std.proofs.Common.{Err, List, None, Ok, Option, Result, Some, ap, length, map, mod-eq_of_lt, pos, pow_pos, refl, subst, sym, ℕ, ◌%◌, ◌*◌, ◌+◌, ◌^◌, ◌∙◌, ◌≡◌}
+use Rattle.std.proofs.Common.{Err, List, Ok, Result, Some, ap, length, mod-eq_of_lt, pos, pow_pos, refl, subst, sym, ℕ, ◌%◌, ◌*◌, ◌+◌, ◌^◌, ◌∙◌, ◌≡◌}
 use Rattle.std.proofs.lemmas.Nat.{mod_below}
 use Rattle.std.proofs.lemmas.Option.{same_Some}
 use Rattle.std.specs.Int.{Width, w32, w64}
 use Rattle.std.specs.Option.{option_and_then}
-use Rattle.std.specs.Prelude.{All, slice_get, slice_set}
+use Rattle.std.specs.Prelude.{slice_get}
 use Rattle.wasmi_access.proofs.AccessLemmas.{loaded-stored, outside-stored}
 use Rattle.wasmi_access.specs.LoadStore.{IsSameOutside, IsStore, loaded}
 use Rattle.wasmi_core.proofs.EffectLemmas.{on_live}
 use Rattle.wasmi_core.proofs.MemoryEffectsLemmas.{stored_count}
 use Rattle.wasmi_core.specs.Effects.{reply_of}
 use Rattle.wasmi_core.specs.MemoryEffects.{StoresMemory, load_reply}
-use Rattle.wasmi_core.specs.Runs.{Run}
 use Rattle.wasmi_core.specs.State.{State, live_at, live_value}
 use Rattle.wasmi_core.specs.Steps.{Answers}
-use Rattle.wasmi_core.specs.World.{Turn, World}
-use Rattle.wasmi_core.specs.declared.calls.Call.TheVariants.{Load, Store}
-use Rattle.wasmi_core.specs.declared.calls.Reply.{Reply}
+use Rattle.wasmi_core.specs.World.{World}
+use Rattle.wasmi_core.specs.declared.calls.Call.TheVariants.{Store}
 use Rattle.wasmi_core.specs.declared.calls.Reply.TheVariants.{Done, NoSuch, Trap, Value}
-use Rattle.wasmi_core.specs.declared.slots.Slot.{Slot}
 use Rattle.wasmi_core.specs.declared.slots.Slot.TheVariants.{Live}
 use Rattle.wasmi_laws.proofs.ListLemmas.{live_slot, set_same}
 use Rattle.wasmi_laws.proofs.LocationLemmas.{others_stay_in_runs}
-use Rattle.wasmi_laws.specs.Places.{LeavesAlone, MemoryAt, StoresAreReadBack, StoresKeepOtherBytes, load_of, stored_part, stored_size}
+use Rattle.wasmi_laws.specs.Places.{MemoryAt, StoresAreReadBack, StoresKeepOtherBytes, load_of, stored_part, stored_size}
 use Rattle.wasmi_meter.specs.Limiter.{Rules}
 use Rattle.wasmi_ops.specs.RawResults.{as_raw, signed_raw}
 use Rattle.wasmi_ops.specs.ScalarAccessOps.{loaded_raw, stored_bytes}
