@@ -34,10 +34,10 @@ if_ok_too (Err e) h too = tt
 
 -- what holds of a state, and after each run from it, holds after a run that was accepted or refused
 pub holds_after : {S R E Other : Type 0} (rules : Rules S) (items : R → List Reply) (calls : List Call) (w w' : World S)
-    (Holds : State → Type 0) (result : Result R E) → ((turns : List Turn) → Run rules w turns w' → Holds w'.state)
-    → Holds w.state → IfOk result (λ replies. IsRunOf rules calls w (items replies) w')
-    → OnErr result ((w'.state ≡ w.state) × Other) → Holds w'.state
-holds_after rules items calls w w' Holds (Ok replies) runs first ran same = runs ran.0 ran.3
+    (Holds : State → Type 0) (result : Result R E)
+    → ((turns : List Turn) → map Turn.call turns ≡ calls → Run rules w turns w' → Holds w'.state) → Holds w.state
+    → IfOk result (λ replies. IsRunOf rules calls w (items replies) w') → OnErr result ((w'.state ≡ w.state) × Other) → Holds w'.state
+holds_after rules items calls w w' Holds (Ok replies) runs first ran same = runs ran.0 ran.1 ran.3
 holds_after rules items calls w w' Holds (Err error) runs first ran same = subst Holds (sym same.0) first
 
 -- the parts of a world that is the same

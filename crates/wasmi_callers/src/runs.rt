@@ -260,8 +260,7 @@ pub fn call_plainly_refused<L: ResourceLimiter>(
     machine.step_lending(call, limiter)
 }
 
-/// Makes calls that may each be refused plainly. If all are, neither the machine nor the limiter has
-/// changed.
+/// Makes calls. If each is refused plainly, neither the machine nor the limiter has changed.
 pub fn run_plainly_refused<L: ResourceLimiter>(
     machine: &mut Machine,
     calls: &[Call],
@@ -274,8 +273,8 @@ pub fn run_plainly_refused<L: ResourceLimiter>(
     run_lending(machine, calls, limiter)
 }
 
-/// Makes calls. Wherever they are cut, the first ones with as many replies are a run, and the others
-/// are a run from where that ends: so what holds of each run holds up to each place of this one.
+/// Makes calls. Wherever they are cut, the first ones with as many replies are a run, and the
+/// others are a run from where that ends: so what holds of each run holds up to each place of it.
 pub fn run_in_parts<L: ResourceLimiter>(
     machine: &mut Machine,
     calls: &[Call],
@@ -289,9 +288,9 @@ pub fn run_in_parts<L: ResourceLimiter>(
     run_lending(machine, calls, limiter)
 }
 
-/// Makes calls, whether there is memory for the replies or not. Each memory and each table that was
-/// there, dropped or not, is at its index and has at least the size that it had, and the machine has
-/// no less in all.
+/// Makes calls. Whether or not there is memory for the replies, each memory and each table that was
+/// there is at its index, with at least the size that it had, and the totals are at least what they
+/// were. One that was dropped counts with its last size.
 pub fn run_growing<L: ResourceLimiter>(
     machine: &mut Machine,
     calls: &[Call],
@@ -314,7 +313,7 @@ pub fn run_within_caps(
 ) -> Result<Vec<Reply>, AllocError>
     requires held { HoldsTotals (holdings quota.old) machine.old }
     requires within { IsWithinCaps quota.old }
-    ensures { IfOk result (λ replies. StaysWithin (optional_rules quota_rules) quota.old calls.now
+    ensures turns { IfOk result (λ replies. StaysWithin (optional_rules quota_rules) quota.old calls.now
         (world machine.old (Some quota.old)) replies.items
         (world machine.new (Some quota.new))) }
 {
