@@ -34,15 +34,17 @@ impl From<TypedRawVal> for TypedRawRef {
 }
 
 impl Global {
-    /// A pointer to the value, to be used while nothing else borrows the global.
+    /// A pointer to the value, to be used while nothing else borrows the global. A constant must not
+    /// be written through it.
     ///
     /// No contract speaks of it: see [`Global::set`] for what is proved.
     ///
     /// # Panics
     ///
-    /// If the global is a constant.
+    /// With debug assertions, if the global is a constant.
     pub fn get_raw_ptr(&mut self) -> NonNull<RawVal> {
-        NonNull::from(self.get_raw_mut())
+        debug_assert!(self.ty().mutability().is_mut());
+        NonNull::from(&mut self.value)
     }
 }
 

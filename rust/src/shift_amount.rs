@@ -8,11 +8,10 @@ pub trait IntoShiftAmount {
     /// The type in which the amount is given.
     type ShiftSource: Copy;
 
-    /// The remainder of `source` by the number of bits of the number, or of a lane of the vector;
-    /// `None` if that is 0 and nothing is shifted.
+    /// The remainder of `source` by the number of bits of the number, or of a lane of the vector.
     ///
-    /// The fourteen types below keep the contract of the proved function. Of another type it says
-    /// nothing.
+    /// It is never `None`, as in the Rust crate. The proved function returns `None` if the remainder
+    /// is 0, and else the same amount:
     ///
     #[doc = include_str!("proved/docs/typed/IntoShiftAmount.into_shift_amount.contract.md")]
     fn into_shift_amount(source: Self::ShiftSource) -> Option<ShiftAmount>;
@@ -25,7 +24,8 @@ macro_rules! amounts {
 
             #[inline]
             fn into_shift_amount(source: Self::ShiftSource) -> Option<ShiftAmount> {
-                <$ty as Into>::into_shift_amount(source)
+                // The proved function has `None` for 0.
+                Some(<$ty as Into>::into_shift_amount(source).unwrap_or(ShiftAmount::from(0)))
             }
         }
     )* };

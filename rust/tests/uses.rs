@@ -325,3 +325,17 @@ fn what_a_limiter_is_asked_and_told() {
     ];
     assert_eq!(notes.0, told);
 }
+
+#[test]
+fn amounts_of_shifts() {
+    let amounts = [
+        i32::into_shift_amount(33),
+        i32::into_shift_amount(-1),
+        i32::into_shift_amount(64),
+        <[u8; 16]>::into_shift_amount(8),
+    ];
+    assert_eq!(
+        amounts.map(|amount| amount.map(u8::from)),
+        [Some(1), Some(31), Some(0), Some(0)]
+    );
+}

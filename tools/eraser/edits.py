@@ -19,6 +19,7 @@ EDITS = [
     ("typed/typed.rs", "    pub raw: RawVal", "    pub(crate) raw: RawVal", 1),
     ("typed/typed_ref.rs", "    pub raw: RawRef", "    pub(crate) raw: RawRef", 1),
     ("typed/typed_ref.rs", "    pub ty: RefType", "    pub(crate) ty: RefType", 1),
+    ("typed/global.rs", "pub struct Global {\n    value: RawVal", "pub struct Global {\n    pub(crate) value: RawVal", 1),
     ("typed/global.rs", "    pub content: ValType", "    pub(crate) content: ValType", 1),
     ("typed/global.rs", "    pub mutability: Mutability", "    pub(crate) mutability: Mutability", 1),
     # Rust derives `TryFrom` from upstream's `From`, which panics: Rattle's conversion, an answer in its place, becomes a function.

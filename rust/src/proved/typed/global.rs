@@ -140,7 +140,7 @@ impl GlobalType {
 /// [GlobalInstance]: crate::specs::typed::Global#GlobalInstance "a global variable: its present value and its type"
 #[derive(Debug)]
 pub struct Global {
-    value: RawVal,
+    pub(crate) value: RawVal,
     ty: GlobalType,
 }
 
