@@ -1,6 +1,7 @@
 //! The language of scripts (docs/SCRIPT.md) over the Rust crate's own memories, tables, instructions and meter, and random scripts.
-//! Nothing here knows the proved library but `bin/compare.rs`, which runs both.
+//! Nothing here knows the proved library but `bin/compare.rs`, which has `comparison` run both.
 pub mod calls;
+pub mod comparison;
 pub mod generator;
 pub mod limits;
 pub mod machine;
