@@ -4,7 +4,7 @@
    It is built with -fsanitize=address,undefined. */
 #include "hostile.h"
 
-enum { MEMORIES = 2, SMALL = 96, PAGE = 65536, MOST = 3 * PAGE };
+enum { MEMORIES = 2, SMALL = 96, LONG = 70000, PAGE = 65536, MOST = 3 * PAGE };
 
 /* All that lies with the caller. */
 typedef struct {
@@ -178,6 +178,8 @@ static void begin(state *s, state *model) {
         size_t length = below(4) ? below(SMALL) : below(MOST + 1);
         s->length[i] = length;
         s->region[i] = length > 0 ? end[i] - length : NULL;
+        if (length > 0)
+            memset(s->region[i], (int)(1 + below(255)), length);
         for (size_t k = 0; k < length; k += 1 + k / SMALL)
             s->region[i][k] = (uint8_t)any();
         s->memory[i] = any_memory(length);
@@ -223,10 +225,22 @@ static uint64_t some_pages(const state *s, int i) {
     return below(3) ? below(left / 2 + 3) : number();
 }
 
+/* How many bytes are read or written. */
+static size_t some_length(void) {
+    static const size_t edges[] = {PAGE - 1, PAGE, PAGE + 1, LONG};
+    return below(12) ? below(SMALL) : below(2) ? edges[below(4)] : 1 + below(LONG);
+}
+
+/* Where they begin: mostly where they fit. */
+static size_t some_offset(const wasmi_memory *m, size_t length) {
+    size_t size = m->size % (MOST + 1);
+    return below(4) ? below((size > length ? size - length : size) + 2) : (size_t)number();
+}
+
 /* Bytes that are read or written, with those of the model. */
 static bool access_agrees(state *s, state *model, int i, bool is_write) {
-    uint8_t expected[SMALL];
-    size_t length = below(SMALL), offset = below(4) ? below(s->memory[i].size % MOST + 2) : (size_t)number();
+    static uint8_t expected[LONG];
+    size_t length = some_length(), offset = some_offset(&s->memory[i], length);
     uint8_t *bytes = length > 0 ? bytes_end - length : NULL;
     for (size_t k = 0; k < length; k++)
         bytes[k] = expected[k] = (uint8_t)any();
@@ -289,13 +303,13 @@ static bool call_agrees(state *s, state *model) {
 }
 
 int main(int count, char **words) {
-    uint64_t sequences = count > 1 ? strtoull(words[1], NULL, 10) : 20000, calls = 0, differ = 0;
-    uint64_t first = count > 2 ? strtoull(words[2], NULL, 10) : 1;
+    uint64_t sequences = argument(count, words, 1, 20000), calls = 0, differ = 0;
+    uint64_t first = argument(count, words, 2, 1);
     for (int i = 0; i < MEMORIES; i++) {
         end[i] = fenced(MOST);
         model_end[i] = fenced(MOST);
     }
-    bytes_end = fenced(SMALL);
+    bytes_end = fenced(LONG);
     for (uint64_t n = 0; n < sequences; n++) {
         state s, model;
         seed = (first + n) * 0x9e3779b97f4a7c15u | 1;

@@ -131,8 +131,8 @@ static bool call_agrees(state *s, state *model) {
 }
 
 int main(int count, char **words) {
-    uint64_t sequences = count > 1 ? strtoull(words[1], NULL, 10) : 20000, calls = 0, differ = 0;
-    uint64_t first = count > 2 ? strtoull(words[2], NULL, 10) : 1;
+    uint64_t sequences = argument(count, words, 1, 20000), calls = 0, differ = 0;
+    uint64_t first = argument(count, words, 2, 1);
     for (int i = 0; i < TABLES; i++) {
         end[i] = (uint32_t *)(void *)fenced(MOST * sizeof(uint32_t));
         model_end[i] = (uint32_t *)(void *)fenced(MOST * sizeof(uint32_t));
