@@ -3,10 +3,8 @@
    Each array ends where a page begins which can't be touched. usage: lines SCRIPTS [SEED]. The last line is
    `N scripts, M differ`; the exit status is 0 if M is 0. */
 #define _DEFAULT_SOURCE
+#include "argument.h"
 #include "wasmi_machine.h"
-#include <inttypes.h>
-#include <stdio.h>
-#include <stdlib.h>
 #include <string.h>
 #include <sys/mman.h>
 
@@ -50,10 +48,11 @@ static uint64_t number(void) {
 
 static const char *const FORMS[] = {
     "fuel N", "left", "memory K M 16 32", "memory B M 0 64", "memory X none 0 64", "lent 1 M 16 32", "grow K K", "grow K X", "drop memory K",
-    "read K N B", "write K N B B B", "write K N", "load i64_load32_s K N K", "store i64_store K N K N",
+    "read K N B", "write K N B B B", "write K K B B B B B B B B B B B B B B B B", "write K N",
+    "load i64_load32_s K N K", "store store64 K N K N",
     "table T K M 32 T N", "table T B M 64 T N", "tgrow K K T N", "tgrow K X T N", "drop table K", "get K K", "tset K K T N",
     "init K K K K K", "copy K K K K K", "fill K K T N K", "segment T N N N", "segment T", "empty K", "global V var N N",
-    "global V const N N", "gset K V N N", "gget K", "set D N N", "show D", "make i32x4_splat D D", "unary f32x4_sqrt D D",
+    "global V const N N", "gset K V N N", "gget K", "set D N N", "show D", "make i32x4_splat D D", "unary i32x4_neg D D",
     "binary i16x8_mul D D D", "ternary v128_bitselect D D D D", "shift i64x2_shl D D K", "test i8x16_bitmask D",
     "extract i64x2_extract_lane D L", "replace i64x2_replace_lane D D L D", "vload v128_load D K N K",
     "vloadlane v128_load64_lane D D L K N K", "vstore D K N K", "vstorelane v128_store64_lane D L K N K",
@@ -219,8 +218,8 @@ static void one_script(uint64_t seed) {
 }
 
 int main(int count, char **arguments) {
-    long scripts = count > 1 ? atol(arguments[1]) : 2000;
-    uint64_t seed = count > 2 ? strtoull(arguments[2], NULL, 10) : 1;
+    long scripts = (long)argument(count, arguments, 1, 2000);
+    uint64_t seed = argument(count, arguments, 2, 1);
     memset(dots, '.', sizeof dots);
     for (long i = 0; i < scripts; i++) {
         one_script(seed + (uint64_t)i * 1000003);

@@ -2,18 +2,16 @@
    with the same calls as a script (docs/SCRIPT.md). usage: machine CALLS [SEED]. It prints a line for each part, and
    last `N calls, M differ`; the exit status is 0 if M is 0. Link it with --wrap for malloc, realloc and free. */
 #define _DEFAULT_SOURCE
+#include "argument.h"
 #include "wasmi_machine.h"
-#include <inttypes.h>
 #include <pthread.h>
 #include <stdarg.h>
 #include <stddef.h>
-#include <stdio.h>
-#include <stdlib.h>
 #include <string.h>
 #include <sys/mman.h>
 
 enum { PAGE = 65536, TEXT = 1 << 16, SEQUENCE = 60, THREADS = 4, KINDS = 29, REGISTERS = 5, MOST_LINE = 512 };
-enum { MOST_ANSWERS = 24 };
+enum { MOST_ANSWERS = 24, FRONT = 1024 };
 
 static _Thread_local long calls, differing;
 
@@ -439,10 +437,9 @@ static void one_call(struct sequence *s, wasmi_call call) {
     take(s, line, (size_t)(end - line), reply, text_of(s->expected_end, &call, reply));
 }
 
-static void some_write(struct sequence *s) {
-    char line[2 * MOST_LINE];
-    uint8_t bytes[32];
-    size_t len = (size_t)below(sizeof bytes), memory = (size_t)below(3), offset = (size_t)number();
+static void one_write(struct sequence *s, size_t memory, size_t offset, size_t len) {
+    char line[16 * MOST_LINE];
+    uint8_t bytes[FRONT];
     char *end = put(line, "write %zu %zu", memory, offset);
     for (size_t i = 0; i < len; i++) {
         bytes[i] = (uint8_t)next();
@@ -453,6 +450,11 @@ static void some_write(struct sequence *s) {
     wasmi_reply reply = wasmi_machine_write(&s->machine, memory, offset, at_edge(OF_ARRAY, bytes, len), len);
     char *at = s->expected_end;
     take(s, line, (size_t)(end - line), reply, reply.status ? refusal_text(at, reply) : put(at, "done\n"));
+}
+
+static void some_write(struct sequence *s) {
+    size_t len = (size_t)below(32), memory = (size_t)below(3), offset = (size_t)number();
+    one_write(s, memory, offset, len);
 }
 
 static void one_read(struct sequence *s, size_t memory, size_t offset, size_t len) {
@@ -519,11 +521,12 @@ static wasmi_call of_kind(uint16_t kind) {
     return call;
 }
 
-/* A memory, a table and an element segment to begin with, and numbers in the registers. */
+/* A memory whose front has random bytes, a table and an element segment to begin with, and numbers in the registers. */
 static void fill(struct sequence *s) {
     wasmi_call table = of_kind(WASMI_CALL_NEW_TABLE), set = of_kind(WASMI_CALL_SET_REGISTER);
     table.count = 6;
     one_call(s, of_kind(WASMI_CALL_NEW_MEMORY));
+    one_write(s, 0, 0, FRONT);
     one_call(s, table);
     some_segment(s);
     for (set.dst = 0; set.dst < REGISTERS; set.dst++) {
@@ -890,8 +893,8 @@ static void refuse(size_t answers) {
 }
 
 int main(int count, char **words) {
-    long wanted = count > 1 ? atol(words[1]) : 10000;
-    uint64_t seed = count > 2 ? strtoull(words[2], NULL, 10) : 1;
+    long wanted = (long)argument(count, words, 1, 10000);
+    uint64_t seed = argument(count, words, 2, 1);
     state = seed;
     without_machine();
     forge(wanted / 10);
