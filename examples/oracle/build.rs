@@ -1,8 +1,8 @@
-//! Links the static library, and makes a table of the crate's functions from the names of the header.
+//! Makes a table of the functions of both crates from the names of the header.
 use std::path::Path;
 use std::{env, fs};
 
-/// Names of the header that the crate has no function for.
+/// Names of the header that the engine's crate has no function for.
 const LACKING: [&str; 0] = [];
 
 /// The rows of a table of the header, as a call of `of` for each name.
@@ -30,30 +30,9 @@ fn rows(header: &str, shape: &str, of: &str) -> String {
     made
 }
 
-/// Ends the build with a message.
-fn stop(message: &str) -> ! {
-    eprintln!("{message}");
-    std::process::exit(1)
-}
-
 fn main() {
     let here = env::var("CARGO_MANIFEST_DIR").unwrap();
     let top = Path::new(&here).join("../..");
-    let Ok(kit) = env::var("RATTLE_C") else {
-        stop("RATTLE_C isn't set: it names the folder c of the kit, beside the page that `rt doc` prints");
-    };
-    let library = top.join("crates/wasmi_ffi/out");
-    if !library.join("libwasmi_ffi.a").exists() {
-        stop("crates/wasmi_ffi/out/libwasmi_ffi.a isn't there: run `rt lib` in crates/wasmi_ffi first");
-    }
-    println!("cargo:rustc-link-search=native={}", library.display());
-    println!("cargo:rustc-link-search=native={kit}");
-    println!("cargo:rustc-link-lib=static=wasmi_ffi");
-    println!("cargo:rustc-link-lib=static=libc_c");
-    println!("cargo:rerun-if-env-changed=RATTLE_C");
-    println!("cargo:rerun-if-env-changed=WASMI_LIBRARY");
-    println!("cargo:rerun-if-changed={}", library.join("libwasmi_ffi.a").display());
-
     let path = top.join("include/wasmi_core.h");
     println!("cargo:rerun-if-changed={}", path.display());
     let header = fs::read_to_string(path).unwrap();

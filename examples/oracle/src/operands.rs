@@ -1,7 +1,7 @@
 //! Operands: random ones, and those on which instructions tend to go wrong.
-use crate::ffi::Words;
+use crate::values::Words;
 
-/// How many operands one call on arrays takes.
+/// How many operands are tried at once.
 pub const BATCH: usize = 1000;
 /// The bytes of the memory that loads and stores are tried on.
 pub const MEMORY: usize = 64;

@@ -1,5 +1,5 @@
 //! What was compared, and what differs.
-use crate::ffi::{InstructionResult, NO_LANE, Words};
+use crate::values::{InstructionResult, NO_LANE, Words};
 use crate::operands::MEMORY;
 use std::fmt;
 

@@ -1,16 +1,23 @@
-//! The functions of the crate, on the same words.
-use crate::ffi::{InstructionResult, Words};
-use wasmi_core::{RawVal, TrapCode, V128, simd, wasm};
+// The functions of a library, on words. This file is a part of two modules, in which `library` is the engine's crate and the
+// proved one.
+use crate::values::*;
+use library::{RawVal, TrapCode, V128, simd, wasm};
 
-pub type Unary = Box<dyn Fn(Words) -> InstructionResult>;
-pub type Binary = Box<dyn Fn(Words, Words) -> InstructionResult>;
-pub type Ternary = Box<dyn Fn(Words, Words, Words) -> InstructionResult>;
-pub type Extract = Box<dyn Fn(u8, Words) -> Option<InstructionResult>>;
-pub type Replace = Box<dyn Fn(u8, Words, Words) -> Option<InstructionResult>>;
-pub type Load = Box<dyn Fn(&[u8], u64, u64) -> InstructionResult>;
-pub type Store = Box<dyn Fn(&mut [u8], u64, u64, Words) -> u8>;
-pub type LoadLane = Box<dyn Fn(u8, &[u8], u64, u64, Words) -> Option<InstructionResult>>;
-pub type StoreLane = Box<dyn Fn(u8, &mut [u8], u64, u64, Words) -> Option<u8>>;
+/// All functions of the library.
+pub fn functions() -> Functions {
+    Functions {
+        unaries: unary_table(),
+        binaries: binary_table(),
+        ternaries: ternary_table(),
+        extracts: extract_table(),
+        replaces: replace_table(),
+        loads: load_table(),
+        stores: store_table(),
+        load_lanes: load_lane_table(),
+        store_lanes: store_lane_table(),
+        shuffle,
+    }
+}
 
 fn vector(words: Words) -> V128 {
     V128::from(u128::from(words.hi) << 64 | u128::from(words.lo))
@@ -21,8 +28,8 @@ fn value<A: From<RawVal>>(words: Words) -> A {
     A::from(RawVal::from(vector(words)))
 }
 
-/// What a function of the crate gives.
-pub trait Gives {
+/// What a function gives.
+trait Gives {
     fn answer(self) -> InstructionResult;
 }
 
@@ -109,8 +116,7 @@ fn store_lane<L: TryFrom<u8>>(
     })
 }
 
-/// A shuffle by indices that are below 32.
-pub fn shuffle(a: Words, b: Words, lanes: [u8; 16]) -> InstructionResult {
+fn shuffle(a: Words, b: Words, lanes: [u8; 16]) -> InstructionResult {
     let lanes = lanes.map(|lane| simd::ImmLaneIdx32::try_from(lane).ok().unwrap());
     simd::i8x16_shuffle(vector(a), vector(b), lanes).answer()
 }
