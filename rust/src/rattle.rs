@@ -63,7 +63,7 @@ impl<T: Copy, const N: usize> ArrayExt<T, N> for [T; N] {
 }
 
 /// What only tests use: texts whose memory can be refused.
-#[cfg(test)]
+#[cfg(all(test, feature = "std", feature = "memory64"))]
 mod texts {
     use super::alloc::AllocError;
     use std::string::String;
@@ -98,11 +98,11 @@ mod texts {
         Ok(std::fmt::format(arguments))
     }
 }
-#[cfg(test)]
+#[cfg(all(test, feature = "std", feature = "memory64"))]
 pub(crate) use texts::{StrExt, TextExt, text};
 
 /// What a test ends with.
-#[cfg(test)]
+#[cfg(all(test, feature = "std", feature = "memory64"))]
 pub(crate) mod test {
     pub type Fail = std::boxed::Box<dyn core::error::Error>;
 }

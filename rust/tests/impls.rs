@@ -1,4 +1,5 @@
 //! Each impl of upstream by its name; also those that are an impl for each type of a trait here.
+#![cfg(all(feature = "std", feature = "simd", feature = "memory64"))]
 use std::error::Error;
 use std::fmt::{Debug, Display};
 use std::hash::Hash;

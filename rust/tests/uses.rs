@@ -1,4 +1,5 @@
 //! What an engine does with the API that a narrower one wouldn't let it: generic values, errors of the host, `dyn` limiters, memories without a lifetime.
+#![cfg(all(feature = "std", feature = "simd", feature = "memory64"))]
 use std::fmt::{self, Display};
 use wasmi_core_proved::*;
 

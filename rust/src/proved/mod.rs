@@ -17,7 +17,7 @@ pub mod scalar;
 #[cfg(feature = "std")]
 pub mod script;
 pub mod store;
-#[cfg(test)]
+#[cfg(all(test, feature = "std", feature = "memory64"))]
 mod tests;
 pub mod typed;
 pub mod types;
