@@ -1,6 +1,8 @@
 //! Compares the proved library with the Rust crate on random scripts and mutants of them, in one process.
 //!
-//! usage: compare PROFILE|all SEED COUNT MUTANTS FOLDER, as `conformance::comparison` has it
+//! usage: compare PROFILE|all SEED COUNT MUTANTS FOLDER
+//!
+//! `conformance::comparison` says what they are.
 use conformance::comparison::run;
 
 unsafe extern "C" {
