@@ -1,111 +1,165 @@
 """Contracts and models as sections of an item's docs, each word a link to its definition."""
 
-import collections
+import functools
 import re
-import urllib.parse
 
-from .definitions import Specs
+from .definitions import NAME, OF_LANGUAGE, Place, brought_in, pieces
+from .tokens import Unknown
 
-LINKS = collections.Counter()
+# What markdown would take for a sign of its own.
+MARKS = re.compile(r"""[\\*\[\]`"']|<(?=[A-Za-z/!?])|&(?=#?\w+;)|~(?=~)|(?<=~)~|(?<!\w)_|_(?!\w)|-(?=-)|(?<=-)-|\.(?=\.)""")
+LABEL = re.compile(r"(?:(?:requires|ensures)\*?(?: \w+)?|\w+)(?::| =)")
+MEMBER = re.compile(r"\.([A-Za-z_]\w*)")
+CLAUSE = re.compile(r"(.*?)\{(.*)\}[;,]?\Z", re.S)
 
 
-def quoted(text): return re.sub(r"""[\\*\[\]`"']|<(?=[A-Za-z/!?])|&(?=#?\w+;)|~(?=~)|(?<=~)~|(?<!\w)_|_(?!\w)|-(?=-)|(?<=-)-|\.(?=\.)""", r'\\\g<0>', text)
+def quoted(text):
+    return MARKS.sub(r"\\\g<0>", text)
+
+
+class Links:
+    """The links of one section: reference links, with their places below it, so that its lines can be read."""
+
+    def __init__(self):
+        self.places = {}
+
+    def link(self, word, place):
+        """A word with its link. Markdown takes labels that differ in their case for one."""
+        label = self.places.setdefault(word.lower(), (word, place))
+        return f"[{quoted(word)}]" if label == (word, place) else f"[{quoted(word)}]({place.path})"
+
+    def lines(self):
+        for word, place in self.places.values():
+            said = f' "{quoted(place.said)}"' if place.said else ""
+            yield f"[{quoted(word)}]: {place.path}{said}"
 
 
 class Contracts:
     """The part of a file's eraser that writes docs."""
 
-    def contract(self, before, lines, bounds, title='Contract'):
+    def contract(self, before, lines, bounds, title="Contract"):
         """Puts lines into the doc comment of the item whose first token begins at `before`."""
-        indent = re.search(r'[ \t]*\Z', self.text[:before]).group()
-        block = ['', f'# {title}', ''] + self.clauses(lines, bounds)
-        has_doc = re.search(r'///[^\n]*\n\s*\Z', self.text[:before])
-        if not has_doc: block = block[1:]
-        self.replace(before, before, ''.join(f'/// {line}'.rstrip() + '\n' + indent for line in block))
-
-    def bounds(self, i):
-        """The traits with ghost members that bound the type parameters of an item, and of what it stands in."""
-        heads, found = [i], {}
-        while True:
-            around = [o for o, c in self.close.items() if self.at(o) == '{' and o < heads[-1] < c]
-            if not around: break
-            o = k = max(around)
-            opens = {c: a for a, c in self.close.items()}
-            while k > 0 and self.at(k - 1) not in (';', '}', '{'): k = opens.get(k - 1, k - 1)
-            h = next((j for j in range(k, o) if self.at(j) in ('impl', 'trait')), None)
-            if h is None: break
-            heads.append(h)
-        for h in heads:
-            k = h
-            if self.at(h) == 'trait' and self.at(h + 1) in self.ghostly: found.setdefault('Self', self.at(h + 1))
-            while k < len(self.t) and self.at(k) not in ('{', ';'):
-                if self.t[k].kind == 'word' and self.at(k + 1) == ':' and self.at(k + 2) != ':' and self.at(k - 1) in ('<', ',', 'where'):
-                    j = k + 2
-                    while self.t[j].kind == 'word' or self.at(j) in ('+', ':'):
-                        if self.at(j) in self.ghostly and self.at(j + 1) != ':': found.setdefault(self.at(k), self.at(j)); break
-                        j += 1
-                k += 1
-        return found
-
-    def brought_in(self):
-        """The words of specs/ that this file imports: each name, and its page and anchor."""
-        found = {}
-        for x in self.all:
-            m = x.kind == 'ghost_use' and re.fullmatch(r'ghost\s+use\s+Rattle\.(\w+)\.specs\.(\w+)(?:\.\{(.*)\}|\s+as\s+(\w+))?;', x.text, re.S)
-            d = x.kind == 'ghost_use' and re.fullmatch(r'ghost\s+use\s+Rattle\.(\w+)\.specs\.declared\.([\w.]+?)(\.TheVariants)?\.\{(.*)\};', x.text, re.S)
-            if d and d[1] in self.prefix:                                    # a type of Rust, or its variants
-                for it in d[4].split(','):
-                    word, _, alias = it.strip().partition(' as ')
-                    found[(alias or word).strip()] = ('declared', f'{self.prefix[d[1]]}::{d[2].split(".")[-1]}', d[3] and word.strip())
-            if not m: continue
-            for it in (m[3] or '').split(','):
-                word, _, alias = it.strip().partition(' as ')
-                found[(alias or word).strip()] = (m[1], m[2], word.strip())
-            if m[3] is None: found[(m[4] or m[2]) + '.'] = (m[1], m[2], None)
-        return found
-
-    def clauses(self, lines, bounds):
-        """Lines of antt as one `pre` of inline HTML, in which rustdoc still resolves links: so it isn't the first tag of its line."""
-        brought, made, places = self.brought_in(), [], {}
-        def link(word, to, said=''):
-            label = places.setdefault(word.lower(), (word, to, said))
-            return f'[{quoted(word)}]' if label == (word, to, said) else f'[{quoted(word)}]({to})'         # labels are the same in both cases
-        for line in lines:
-            out, last = [], 0
-            if line.startswith('-- '): made.append(f'<i>{quoted(line)}</i>'); continue
-            for m in Specs.NAME.finditer(line):
-                word = m[0]
-                if m.start() < last: continue
-                out.append(quoted(line[last:m.start()])); last = m.end()
-                found = None
-                if word + '.' in brought and line[last:last + 1] == '.':
-                    rest = Specs.NAME.match(line, last + 1)
-                    if rest: found, word, last = brought[word + '.'][:2] + (rest[0],), word + '.' + rest[0], rest.end()
-                elif line[m.start() - 1:m.start()] != '.': found = brought.get(word)
-                place = found and self.specs.place(found)
-                is_public = found and found[0] == 'declared' and any(re.search(rf'\bpub (?:struct|enum) {found[1].split("::")[-1]}\b', p.read_text()) for p in self.mentions[found[1].split("::")[-1]])
-                member = word in bounds and re.compile(r'\.[A-Za-z_]\w*').match(line, last)
-                if place:
-                    out.append(link(word, f'crate::specs::{place[0]}#{urllib.parse.quote(place[1])}', place[2]))
-                    LINKS['of the library' if place[0] == 'library' else 'defined'] += 1
-                elif is_public:
-                    out.append(link(word, f'{found[1]}{"::" + found[2] if found[2] else ""}'))
-                    LINKS['types of Rust'] += 1
-                elif member:
-                    last = member.end()
-                    out.append(link(word + member[0], f'trait@{bounds[word]}#contract'))
-                    LINKS['members of traits'] += 1
-                else: out.append(quoted(word)); LINKS['without a page' if found else 'bound, Rust\'s or numbers'] += 1
-                if out[-1][-1:] in '])' and line[last:last + 1] in ('(', '[', ':'): out.append('\\'); 
-            made.append(''.join(out) + quoted(line[last:]))
-        made = [re.sub(r'^ +', lambda m: '&#32;' * len(m[0]), line) for line in made]
-        made[0] = '<span></span><pre><code>' + made[0]
-        made[-1] += '</code></pre>'
-        title = lambda said: f' "{quoted(said)}"' if said else ''
-        return made + [''] * bool(places) + [f'[{quoted(word)}]: {to}{title(said)}' for word, to, said in places.values()]
+        indent = re.search(r"[ \t]*\Z", self.text[:before]).group()
+        block = ["", f"# {title}", ""] + (self.plain(lines) if self.is_test else self.clauses(lines, bounds))
+        if not re.search(r"///[^\n]*\n\s*\Z", self.text[:before]):
+            block = block[1:]
+        self.replace(before, before, "".join(f"/// {line}".rstrip() + "\n" + indent for line in block))
 
     def tidy(self, text):
         """A clause or ghost item without its braces."""
-        m = re.match(r'(.*?)\{(.*)\}[;,]?\Z', text, re.S)
-        head, body = m.group(1).strip(), re.sub(r'\s*\n\s*', '\n    ', m.group(2).strip())
-        return f'{head} {body}' if head[-1] in ':=' else f'{head}: {body}'
+        head, body = CLAUSE.match(text).groups()
+        head, body = head.strip(), re.sub(r"\s*\n\s*", "\n    ", body.strip())
+        return f"{head} {body}" if head[-1] in ":=" else f"{head}: {body}"
+
+    # The lines of a section.
+
+    def plain(self, lines):
+        """Lines of antt for a test or a program, of which there are no pages."""
+        return ["```text", *lines, "```"]
+
+    def clauses(self, lines, bounds):
+        """Lines of antt as one `pre` of inline HTML, in which rustdoc still resolves links: so it isn't the first tag of its line."""
+        links, made = Links(), []
+        for line in lines:
+            if line.startswith("-- "):
+                made.append(f"<i>{quoted(line)}</i>")
+                continue
+            label = LABEL.match(line)
+            start = label.end() if label else len(line) - len(line.lstrip())
+            head = quoted(line[:start]) if label else "&#32;" * start
+            made.append(head + self.linked(line[start:], bounds, links))
+        made[0] = "<span></span><pre><code>" + made[0]
+        made[-1] += "</code></pre>"
+        below = list(links.lines())
+        return made + [""] * bool(below) + below
+
+    def linked(self, line, bounds, links):
+        """A line with its links."""
+        out = ""
+        for text, place in pieces(line, functools.partial(self.look_up, bounds)):
+            if place:
+                out += links.link(text, place)
+            else:
+                out += ("\\" if out.endswith(("]", ")")) and text[:1] in ("(", "[", ":") else "") + quoted(text)
+        return out
+
+    # Where the words of clauses lead.
+
+    @functools.cached_property
+    def brought(self):
+        """What this file's `ghost use` brings in."""
+        return brought_in("\n".join(token.text for token in self.all if token.kind == "ghost_use"))
+
+    def look_up(self, bounds, word, rest, is_member):
+        """How much of what follows belongs to a word, and the place that both lead to, if they do."""
+        member = MEMBER.match(rest)
+        if is_member:
+            return 0, None
+        if word + "." in self.brought and member:
+            inner, (module, _) = NAME.match(rest, 1), self.brought[word + "."]
+            return inner.end(), self.specs.place(module, inner[0]) if self.is_variable(inner[0]) else self.meant(module, inner[0])
+        if member and word[0].isupper() and member[1] in self.specs.members:
+            return member.end(), self.specs.of_kit(member[1])
+        if member and word in bounds:
+            return member.end(), Place(f"trait@{bounds[word]}#contract", "")
+        if word in self.brought:
+            return 0, self.meant(*self.brought[word])
+        if member and member[1][0].isupper():
+            return self.of_rust(word, member)
+        is_known = word[0].isupper() and word not in bounds or word in OF_LANGUAGE
+        return 0, self.specs.of_kit(word) if is_known else None
+
+    def meant(self, module, word):
+        """The place of a word that is brought in. It has one, unless it is a type of Rust that users don't see."""
+        place = self.specs.place(module, word)
+        if not place and ".declared." not in module:
+            raise Unknown(f"{word} of {module} leads nowhere: tools/eraser/kit.tsv has no line for it")
+        return place
+
+    @staticmethod
+    def is_variable(member):
+        """Whether a name with this member is a parameter's, although an import has the name too."""
+        return member in ("now", "old", "new", "entry", "exit")
+
+    def is_evidence(self, text):
+        """Whether a ghost member of an `impl` is a proof of what its trait asks for, and no value."""
+        name = re.match(r"\w+", text)[0]
+        proofs = (module for word, (module, _) in self.brought.items() if word.removesuffix(".") in NAME.findall(text))
+        return name in self.specs.relations or any(".proofs" in module or module.endswith("Proofs") for module in proofs)
+
+    def of_rust(self, word, member):
+        """The place of a variant of a type that Rust's names bring in, or of a constant of an integer type."""
+        if member[1] in self.specs.said_of_kit and word[0].islower():
+            return member.end(), self.specs.of_kit(member[1])
+        path = self.specs.of_type(word, self.prefix[self.crate])
+        return (member.end(), Place(f"{path}::{member[1]}", "")) if path else (0, self.specs.of_kit(word))
+
+    def bounds(self, i):
+        """The traits with ghost members that bound the type parameters of an item, and of what it stands in."""
+        found = {}
+        for head in [i, *filter(None, map(self.head_of, self.around(i)))]:
+            if self.at(head) == "trait" and self.at(head + 1) in self.ghostly:
+                found.setdefault("Self", self.at(head + 1))
+            k = head
+            while k < len(self.t) and self.at(k) not in ("{", ";"):
+                is_bound = self.at(k + 1) == ":" and self.at(k + 2) != ":" and self.at(k - 1) in ("<", ",", "where")
+                trait = self.t[k].kind == "word" and is_bound and self.ghostly_bound(k + 2)
+                if trait:
+                    found.setdefault(self.at(k), trait)
+                k += 1
+        return found
+
+    def head_of(self, brace):
+        """The `impl` or `trait` whose body begins at a brace, or none."""
+        k = brace
+        while k > 0 and self.at(k - 1) not in (";", "}", "{"):
+            k = self.open.get(k - 1, k - 1)
+        return next((j for j in range(k, brace) if self.at(j) in ("impl", "trait")), None)
+
+    def ghostly_bound(self, k):
+        """The first trait with ghost members among bounds that begin at `k`, or none."""
+        while self.t[k].kind == "word" or self.at(k) in ("+", ":"):
+            if self.at(k) in self.ghostly and self.at(k + 1) != ":":
+                return self.at(k)
+            k += 1
+        return None

@@ -16,6 +16,7 @@ PATTERN = re.compile(r'include_str!\(concat!\("proved/docs/", \$\w+, "/", string
 PLACE = re.compile(r'^ +"(\w+)";\n((?:    \w.*\n)+)', re.M)        # of a macro that documents each of its rows by its name
 DEFINITION = re.compile(r"\[(?P<label>(?:[^\[\]\\]|\\.)+)\]: (?P<kind>\w+@)?(?P<path>\w[\w:]*)(?P<rest>.*)$")
 SECTION = ".contract"       # how the name of a file ends that has this section alone
+TYPE = re.compile(r'<a href="rust:(crate::proved::(\w+)::(\w+))(?:::(\w+))?">([^<]*)</a>')
 LONG = re.compile(r"\[`crate::proved::([\w:]+)`\](?![:(])")
 
 # What the fields of calls are, whose variants' sentences use them by name.
@@ -34,6 +35,33 @@ EXAMPLES = pathlib.Path(__file__).parent / "examples"       # for each item that
 FUNCTIONS = ("accesses/wasm.rs", "scalar/wasm.rs", "lanewise/simd", "widening/simd", "vector_access/simd")
 
 
+def brought_in(text, only_public=False):
+    """The names that the imports of a text bring in, with their paths."""
+    found = {}
+    for use in re.findall(r"^pub use ([^;]+);" if only_public else r"^(?:pub )?use ([^;]+);", text, re.M):
+        for path, alias in leaves("", re.sub(r"\s+", " ", use)):
+            found.setdefault(alias or path.split("::")[-1], path)
+    return found
+
+
+def leaves(before, use):
+    """The paths of a `use`, each with its other name, if it has one."""
+    path, brace, rest = use.partition("{")
+    if not brace:
+        path, _, alias = use.partition(" as ")
+        yield before + path, alias
+        return
+    depth, part = 0, ""
+    for sign in rest.strip().removesuffix("}") + ",":
+        depth += (sign == "{") - (sign == "}")
+        if sign == "," and depth == 0:
+            if part.strip():
+                yield from leaves(before + path.strip(), part.strip())
+            part = ""
+        else:
+            part += sign
+
+
 class Source:
     """A generated file: its items by name, with the lines of their docs."""
 
@@ -41,7 +69,8 @@ class Source:
         self.path, self.lines = path, path.read_text().split("\n")
         inside = path.relative_to(folder).with_suffix("")
         self.crate, self.module = inside.parts[0], "::".join(it for it in inside.parts if it != "mod")
-        self.items, self.names = {}, {}
+        self.items, self.kinds = {}, {}
+        self.names = brought_in("\n".join(self.lines))
         self.read()
 
     def read(self):
@@ -55,10 +84,9 @@ class Source:
             own = not found["indent"]
             if own:
                 around = found["name"] if found["kind"] in ("trait", "enum", "struct") else ""
+                self.kinds.setdefault(found["name"], found["kind"])
                 self.names.setdefault(found["name"], f"crate::proved::{self.module}::{found['name']}")
             self.items.setdefault(found["name"] if own else f"{around}.{found['name']}", at)
-        for use in re.findall(r"^(?:pub )?use ([^;]+);", "\n".join(self.lines), re.M):
-            self.brings_in("", re.sub(r"\s+", " ", use))
 
     def subject(self, at):
         """The type of an `impl` that begins at a line."""
@@ -73,23 +101,6 @@ class Source:
             plain += sign if depth == 0 else ""
             depth -= sign == ">" and before != "-"
         return re.findall(r"\w+", plain)[-1]
-
-    def brings_in(self, before, use):
-        """Notes the names that a `use` brings in."""
-        path, brace, rest = use.partition("{")
-        if brace:
-            depth, part = 0, ""
-            for sign in rest.strip().removesuffix("}") + ",":
-                depth += (sign == "{") - (sign == "}")
-                if sign == "," and depth == 0:
-                    if part.strip():
-                        self.brings_in(before + path.strip(), part.strip())
-                    part = ""
-                else:
-                    part += sign
-            return
-        path, _, alias = use.partition(" as ")
-        self.names.setdefault(alias or path.split("::")[-1], before + path)
 
     def docs(self, at):
         """The docs above a line."""
@@ -240,6 +251,38 @@ class Docs:
             for place, name in sorted(wanted):
                 self.write(place, name)
 
+    def link_types(self, api):
+        """Gives the types of Rust in pages of definitions their links, or none if users don't see them."""
+        pages = self.pages_of_types(api)
+
+        def linked(found):
+            path, crate, name, inner, text = found.groups()
+            if path not in pages:
+                return text
+            anchor = f"#variant.{inner}" if inner else ""
+            return f'<a href="../../../{pages[path]}{anchor}">{text}</a>'
+
+        for page in self.folder.glob("specs/*/*.md"):
+            page.write_text(TYPE.sub(linked, page.read_text()))
+
+    def pages_of_types(self, api):
+        """The page of each public type of the generated text, by its path."""
+        found = {}
+        for file, folder in (("machine", "machine/"), ("lib", "")):
+            for name, path in brought_in((api / f"{file}.rs").read_text(), only_public=True).items():
+                crate, _, inner = path.removeprefix("crate::proved::").partition("::")
+                names = [inner] if inner else next(it for it in self.sources if it.module == crate).names if path != "crate::proved" else []
+                for it in names:
+                    kind = self.kind_of(crate, it)
+                    if kind:
+                        found[f"crate::proved::{crate}::{it}"] = f"{folder if inner else f'{name}/'}{kind}.{it}.html"
+        return found
+
+    def kind_of(self, crate, name):
+        """Whether a name is that of a struct, an enum, a trait or an alias."""
+        kinds = (it.kinds[name] for it in self.sources if it.crate == crate and name in it.kinds)
+        return next((kind for kind in kinds if kind in ("struct", "enum", "trait", "type")), None)
+
     def source_of(self, place, name):
         return next((it for it in self.sources if it.crate == place and name in it.items), None)
 
@@ -258,4 +301,6 @@ def complete(folder):
 
 
 def include(folder, api):
-    Docs(folder).include(api)
+    docs = Docs(folder)
+    docs.include(api)
+    docs.link_types(api)

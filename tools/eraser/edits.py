@@ -30,9 +30,11 @@ EDITS = [
     ("tests/store/errors.rs", "TableError::try_from(", "TableError::of_fuel(", 2),
     ("tests/value/references.rs", "TypedRawRef::try_from(", "TypedRawRef::of_value(", 3),
     # Rust knows the size of each type.
-    ("meter/fuel.rs", "impl ValueSize for u8 {", "impl<T> ValueSize for T {", 1),
-    ("meter/fuel.rs", "    const SIZE: u64 = 1;", "    const SIZE: u64 = size_of::<T>() as u64;", 1),
-    ("meter/fuel.rs", "impl ValueSize for RawRef {\n    const SIZE: u64 = 4;\n}\n", "", 1),
+    ("meter/fuel.rs", "/// # Contract\n///\n/// <span></span><pre><code>SIZE = 1</code></pre>\nimpl ValueSize for u8 {\n    const SIZE: u64 = 1;",
+     "/// The size in memory. Proved are the 1 of a byte and the 4 of a reference.\n"
+     "impl<T> ValueSize for T {\n    const SIZE: u64 = size_of::<T>() as u64;", 1),
+    ("meter/fuel.rs", "/// # Contract\n///\n/// <span></span><pre><code>SIZE = 4</code></pre>\n"
+     "impl ValueSize for RawRef {\n    const SIZE: u64 = 4;\n}\n", "", 1),
     ("meter/fuel.rs", "pub fn fuel_for_copying_values<T: ValueSize>", "pub fn fuel_for_copying_values<T>", 1),
     # `impl Trait` as upstream's.
     ("meter/fuel.rs", "<C: FnOnce(&FuelCostsProvider) -> u64>", "", 2),

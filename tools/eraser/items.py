@@ -93,7 +93,11 @@ class Items:
                 raise Unknown(f"the model of {name}")
             lines = [line for _, text in items for line in text.split("\n")]
             self.contract(self.t[self.item_start(struct)].start, lines, self.bounds(i), "Model")
-        elif not self.is_dead(self.t[i].start) and self.at(i) != "impl":  # the docs of an impl are its trait's
+        elif not self.is_dead(self.t[i].start):
+            if self.at(i) == "impl":
+                items = [(doc, text) for doc, text in items if not self.is_evidence(text)]
+                if self.is_test or not items:
+                    return
             lines = [line for doc, text in items for line in ([f"-- {doc}"] if doc else []) + text.split("\n")]
             self.contract(self.t[self.item_start(i)].start, lines, self.bounds(i))
 

@@ -7,11 +7,11 @@ use wasmi_core_proved::machine::{Fuel, FuelCostsProvider, Memory, MemoryError, M
 ///
 /// # Contract
 ///
-/// <span></span><pre><code>ensures: GrowsMemory (optional_rules quota_rules) pages
-/// &#32;&#32;&#32;&#32;(metered_value memory.old ([Some] fuel.old) ([Some] quota.old)) result
-/// &#32;&#32;&#32;&#32;(metered_value memory.new ([Some] fuel.new) ([Some] quota.new))</code></pre>
-///
-/// [Some]: crate::specs::library#Some "the value x, of an \`Option\`"
+/// ```text
+/// ensures: GrowsMemory (optional_rules quota_rules) pages
+///     (metered_value memory.old (Some fuel.old) (Some quota.old)) result
+///     (metered_value memory.new (Some fuel.new) (Some quota.new))
+/// ```
 pub fn grow(
     memory: &mut Memory,
     pages: u64,

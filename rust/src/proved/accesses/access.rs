@@ -62,6 +62,10 @@ pub trait ExtendInto<T: Number>: Number {
 /// [List]: crate::specs::library#List "the finite lists"
 pub trait ByteArray: sealed::Sealed {}
 
+/// # Contract
+///
+/// <span></span><pre><code>LEN = N
+/// bytes_of = λ bytes. bytes</code></pre>
 impl<const N: usize> ByteArray for [u8; N] {}
 
 /// Bytes that are read from a memory.
@@ -76,7 +80,7 @@ pub trait LoadInto: ByteArray {
     ///
     /// <span></span><pre><code>ensures copied: [IsCopy] memory.now address Self.LEN (Self.bytes_of self.old)
     /// &#32;&#32;&#32;&#32;(Self.bytes_of self.new) result
-    /// ensures [length]\: [length] (Self.bytes_of self.new) ≡ Self.LEN</code></pre>
+    /// ensures length: [length] (Self.bytes_of self.new) ≡ Self.LEN</code></pre>
     ///
     /// [IsCopy]: crate::specs::accesses::LoadStore#IsCopy "the n bytes into which a load copies the memory at a: they are those, or the load traps and they are the same"
     /// [length]: crate::specs::library#length "the number of elements of a list"
@@ -109,7 +113,7 @@ pub trait StoreFrom: ByteArray {
     /// # Contract
     ///
     /// <span></span><pre><code>ensures stored: [IsStore] memory.old address (Self.bytes_of self.now) memory.new result
-    /// ensures [length]\: [length] (Self.bytes_of self.now) ≡ Self.LEN</code></pre>
+    /// ensures length: [length] (Self.bytes_of self.now) ≡ Self.LEN</code></pre>
     ///
     /// [IsStore]: crate::specs::accesses::LoadStore#IsStore "a store of ys at a: the memory has them there, or the store traps and the memory is the same"
     /// [length]: crate::specs::library#length "the number of elements of a list"
@@ -149,9 +153,10 @@ fn put<const N: usize>(memory: &mut [u8], address: usize, bytes: &[u8; N]) {
 /// # Contract
 ///
 /// <span></span><pre><code><i>\-\- The bytes have the bits of the number.</i>
-/// is_as_wide: [Self.Bytes].LEN \* 8 ≡ bits [Self.width]</code></pre>
+/// is_as_wide: [Self.Bytes].LEN \* 8 ≡ [bits] [Self.width]</code></pre>
 ///
 /// [Self.Bytes]: trait@LittleEndianConvert#contract
+/// [bits]: crate::specs::library#bits "the number of bits of a width"
 /// [Self.width]: trait@LittleEndianConvert#contract
 pub trait LittleEndianConvert: Number {
     /// As many bytes as the number has.
@@ -215,9 +220,10 @@ pub trait LittleEndianConvert: Number {
 ///
 /// <span></span><pre><code>ensures: [MatchResult] result
 /// &#32;&#32;&#32;&#32;(λ address. address ≡ ptr + offset)
-/// &#32;&#32;&#32;&#32;(λ trap. (trap ≡ TrapCode.MemoryOutOfBounds) × (2 ^ 64 ≤ ptr + offset))</code></pre>
+/// &#32;&#32;&#32;&#32;(λ trap. (trap ≡ [TrapCode.MemoryOutOfBounds]) × (2 ^ 64 ≤ ptr + offset))</code></pre>
 ///
 /// [MatchResult]: crate::specs::library#MatchResult "P of the value, or Q of the error"
+/// [TrapCode.MemoryOutOfBounds]: crate::proved::types::TrapCode::MemoryOutOfBounds
 #[inline(always)]
 pub fn effective_address(ptr: u64, offset: u64) -> Result<usize, TrapCode> {
     let address = ptr.wrapping_add(offset);

@@ -9,13 +9,13 @@ use crate::proved::accesses::access::LittleEndianConvert;
 /// # Contract
 ///
 /// <span></span><pre><code>ensures integer: (k n a : [ℕ]) (old new : [List] [ℕ]) (value : [ℕ] → [ℤ])
-/// &#32;&#32;&#32;&#32;→ [IsStore] old a ([le_bytes] k n) new ([Ok] (tt {0}))
+/// &#32;&#32;&#32;&#32;→ [IsStore] old a ([le_bytes] k n) new ([Ok] ([tt] {0}))
 /// &#32;&#32;&#32;&#32;→ [loaded] k value new a ≡ [Ok] (value (n % 2 ^ (8 \* k)))
 /// ensures natural: (k n a : [ℕ]) (old new : [List] [ℕ]) (value : [ℕ] → [ℕ])
-/// &#32;&#32;&#32;&#32;→ [IsStore] old a ([le_bytes] k n) new ([Ok] (tt {0}))
+/// &#32;&#32;&#32;&#32;→ [IsStore] old a ([le_bytes] k n) new ([Ok] ([tt] {0}))
 /// &#32;&#32;&#32;&#32;→ [loaded] k value new a ≡ [Ok] (value (n % 2 ^ (8 \* k)))
 /// ensures outside: (k n a : [ℕ]) (old new : [List] [ℕ])
-/// &#32;&#32;&#32;&#32;→ [IsStore] old a ([le_bytes] k n) new ([Ok] (tt {0}))
+/// &#32;&#32;&#32;&#32;→ [IsStore] old a ([le_bytes] k n) new ([Ok] ([tt] {0}))
 /// &#32;&#32;&#32;&#32;→ [IsSameOutside] old new a k</code></pre>
 ///
 /// [ℕ]: crate::specs::library#%E2%84%95 "the whole numbers from 0 on"
@@ -24,6 +24,7 @@ use crate::proved::accesses::access::LittleEndianConvert;
 /// [IsStore]: crate::specs::accesses::LoadStore#IsStore "a store of ys at a: the memory has them there, or the store traps and the memory is the same"
 /// [le_bytes]: crate::specs::types::Bytes#le_bytes "the k bytes of a number below 256 to the power k"
 /// [Ok]: crate::specs::library#Ok "the value x, of a \`Result\`"
+/// [tt]: crate::specs::library#tt "the value \`()\`"
 /// [loaded]: crate::specs::accesses::LoadStore#loaded "what a load of n bytes at a gives"
 /// [IsSameOutside]: crate::specs::accesses::LoadStore#IsSameOutside "the bytes before a and those from a + n on are the same"
 #[inline]

@@ -12,6 +12,12 @@ pub enum AddError {
     NoRoom,
 }
 
+/// # Contract
+///
+/// <span></span><pre><code>output = λ error. [Some] ([add_error_text] error)</code></pre>
+///
+/// [Some]: crate::specs::library#Some "the value x, of an \`Option\`"
+/// [add_error_text]: crate::specs::budget::Texts#add_error_text "the text of why a machine isn\'t added to a pool"
 impl fmt::Display for AddError {
     #[inline]
     fn fmt(&self, f: &mut fmt::Formatter<'_>) -> fmt::Result {
@@ -35,6 +41,12 @@ pub enum PoolError {
     OutOfMemory,
 }
 
+/// # Contract
+///
+/// <span></span><pre><code>output = λ error. [Some] ([pool_error_text] error)</code></pre>
+///
+/// [Some]: crate::specs::library#Some "the value x, of an \`Option\`"
+/// [pool_error_text]: crate::specs::budget::Texts#pool_error_text "the text of why a pool makes no run"
 impl fmt::Display for PoolError {
     #[inline]
     fn fmt(&self, f: &mut fmt::Formatter<'_>) -> fmt::Result {
@@ -47,6 +59,9 @@ impl fmt::Display for PoolError {
 
 impl core::error::Error for PoolError {}
 
+/// # Contract
+///
+/// <span></span><pre><code>from_gives = λ \_ error. error ≡ OutOfMemory</code></pre>
 impl From<AllocError> for PoolError {
     #[inline]
     fn from(_: AllocError) -> Self {

@@ -143,13 +143,14 @@ impl<'r> Pool<'r> {
     ///
     /// <span></span><pre><code>ensures ran: [IfOk] result
     /// &#32;&#32;&#32;&#32;(λ replies. [RunsTenant] self.old index calls.now replies.items self.new)
-    /// ensures no_tenant: [IsErrOf] result PoolError.NoTenant ↔ ([length] self.old.machines ≤ index)
+    /// ensures no_tenant: [IsErrOf] result [PoolError.NoTenant] ↔ ([length] self.old.machines ≤ index)
     /// ensures refused: [OnErr] result (self.new ≡ self.old)
     /// ensures within: [IsWithinCaps] self.new</code></pre>
     ///
     /// [IfOk]: crate::specs::library#IfOk "P of the value, if r is a value"
     /// [RunsTenant]: crate::specs::budget::Pool#RunsTenant "the machine of an index has run these calls under its limiter by a tenant\'s rules, and all else is the same"
     /// [IsErrOf]: crate::specs::library#IsErrOf "r is the error e"
+    /// [PoolError.NoTenant]: crate::proved::budget::PoolError::NoTenant
     /// [length]: crate::specs::library#length "the number of elements of a list"
     /// [OnErr]: crate::specs::library#OnErr "P, if r is an error"
     /// [IsWithinCaps]: crate::specs::budget::Pool#IsWithinCaps "all machines together are within the caps"
@@ -187,11 +188,10 @@ impl<'r> Pool<'r> {
     ///
     /// # Contract
     ///
-    /// <span></span><pre><code>ensures: result ≡ [option_map] (λ s. [total] s [Bytes]) ([slice_get] self.now.machines index)</code></pre>
+    /// <span></span><pre><code>ensures: result ≡ [option_map] (λ s. [total] s Bytes) ([slice_get] self.now.machines index)</code></pre>
     ///
     /// [option_map]: crate::specs::library#option_map "f of the value, if there is one"
     /// [total]: crate::specs::machine::Totals#total "their sum"
-    /// [Bytes]: crate::proved::meter::Kind::Bytes
     /// [slice_get]: crate::specs::library#slice_get "element i, if there is one"
     #[inline]
     pub fn held_bytes(&self, index: usize) -> Option<u64> {
@@ -205,11 +205,10 @@ impl<'r> Pool<'r> {
     ///
     /// # Contract
     ///
-    /// <span></span><pre><code>ensures: result ≡ [option_map] (λ s. [total] s [Elements]) ([slice_get] self.now.machines index)</code></pre>
+    /// <span></span><pre><code>ensures: result ≡ [option_map] (λ s. [total] s Elements) ([slice_get] self.now.machines index)</code></pre>
     ///
     /// [option_map]: crate::specs::library#option_map "f of the value, if there is one"
     /// [total]: crate::specs::machine::Totals#total "their sum"
-    /// [Elements]: crate::proved::meter::Kind::Elements
     /// [slice_get]: crate::specs::library#slice_get "element i, if there is one"
     #[inline]
     pub fn held_elements(&self, index: usize) -> Option<u64> {

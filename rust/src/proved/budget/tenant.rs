@@ -82,6 +82,11 @@ impl Tenant {
     }
 }
 
+/// # Contract
+///
+/// <span></span><pre><code>kind_rules = [tenant_rules]</code></pre>
+///
+/// [tenant_rules]: crate::specs::budget::Tenant#tenant_rules "the rules of a tenant"
 impl LimiterByKind for Tenant {
     #[inline]
     fn growing(
@@ -104,6 +109,11 @@ impl LimiterByKind for Tenant {
     }
 }
 
+/// # Contract
+///
+/// <span></span><pre><code>holdings = [holdings]</code></pre>
+///
+/// [holdings]: crate::specs::budget::Tenant#holdings "what a tenant holds"
 impl Reserving for Tenant {
     #[inline]
     fn held_bytes(&self) -> u64 {

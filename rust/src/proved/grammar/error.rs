@@ -14,6 +14,9 @@ pub enum ParseError {
     OutOfMemory,
 }
 
+/// # Contract
+///
+/// <span></span><pre><code>from_gives = λ \_ error. error ≡ OutOfMemory</code></pre>
 impl From<AllocError> for ParseError {
     #[inline]
     fn from(_: AllocError) -> Self {

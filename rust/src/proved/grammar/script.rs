@@ -211,12 +211,13 @@ impl Script {
     /// # Contract
     ///
     /// <span></span><pre><code>ensures ok: [OnOk] result ([AddsWords] self.old words.now self.new)
-    /// ensures refused: [IfErr] result (λ error. error ≡ LineError.BadCommand
+    /// ensures refused: [IfErr] result (λ error. error ≡ [LineError.BadCommand]
     /// &#32;&#32;&#32;&#32;→ (new : Script) → ¬ ([AddsWords] self.old words.now new))</code></pre>
     ///
     /// [OnOk]: crate::specs::library#OnOk "P, if r is a value"
     /// [AddsWords]: crate::specs::grammar::Lines#AddsWords "the words of a line add what they say, and no words add nothing"
     /// [IfErr]: crate::specs::library#IfErr "P of the error, if r is an error"
+    /// [LineError.BadCommand]: crate::proved::operands::LineError::BadCommand
     #[inline]
     fn take_line(&mut self, words: &[&str]) -> Result<(), LineError> {
         let [name, operands @ ..] = words else {
@@ -231,12 +232,13 @@ impl Script {
     /// # Contract
     ///
     /// <span></span><pre><code>ensures ok: [OnOk] result ([AddsLine] self.old line self.new)
-    /// ensures refused: [IfErr] result (λ error. error ≡ LineError.BadCommand
+    /// ensures refused: [IfErr] result (λ error. error ≡ [LineError.BadCommand]
     /// &#32;&#32;&#32;&#32;→ (new : Script) → ¬ ([AddsLine] self.old line new))</code></pre>
     ///
     /// [OnOk]: crate::specs::library#OnOk "P, if r is a value"
     /// [AddsLine]: crate::specs::grammar::Lines#AddsLine "what a line says, added to the lines before"
     /// [IfErr]: crate::specs::library#IfErr "P of the error, if r is an error"
+    /// [LineError.BadCommand]: crate::proved::operands::LineError::BadCommand
     #[inline]
     fn take(&mut self, line: Line) -> Result<(), LineError> {
         match line {
@@ -254,13 +256,14 @@ impl Script {
     ///
     /// <span></span><pre><code>ensures ok: [OnOk] result ([AddsMeter] self.old line self.new)
     /// ensures err: [OnErr] result (self.new ≡ self.old)
-    /// ensures bad: [IfErr] result (λ error. error ≡ LineError.BadCommand)
+    /// ensures bad: [IfErr] result (λ error. error ≡ [LineError.BadCommand])
     /// ensures refused: [OnErr] result ((new : Script) → ¬ ([AddsMeter] self.old line new))</code></pre>
     ///
     /// [OnOk]: crate::specs::library#OnOk "P, if r is a value"
     /// [AddsMeter]: crate::specs::grammar::Lines#AddsMeter "a \`meter\` line, the first one and before all commands"
     /// [OnErr]: crate::specs::library#OnErr "P, if r is an error"
     /// [IfErr]: crate::specs::library#IfErr "P of the error, if r is an error"
+    /// [LineError.BadCommand]: crate::proved::operands::LineError::BadCommand
     #[inline]
     fn take_meter(&mut self, line: MeterLine) -> Result<(), LineError> {
         self.expect_no_commands()?;
@@ -277,13 +280,14 @@ impl Script {
     ///
     /// <span></span><pre><code>ensures ok: [OnOk] result ([AddsLimiter] self.old line self.new)
     /// ensures err: [OnErr] result (self.new ≡ self.old)
-    /// ensures bad: [IfErr] result (λ error. error ≡ LineError.BadCommand)
+    /// ensures bad: [IfErr] result (λ error. error ≡ [LineError.BadCommand])
     /// ensures refused: [OnErr] result ((new : Script) → ¬ ([AddsLimiter] self.old line new))</code></pre>
     ///
     /// [OnOk]: crate::specs::library#OnOk "P, if r is a value"
     /// [AddsLimiter]: crate::specs::grammar::Lines#AddsLimiter "a limiter line, the first one of any kind and before all commands"
     /// [OnErr]: crate::specs::library#OnErr "P, if r is an error"
     /// [IfErr]: crate::specs::library#IfErr "P of the error, if r is an error"
+    /// [LineError.BadCommand]: crate::proved::operands::LineError::BadCommand
     #[inline]
     fn take_limiter(&mut self, line: LimiterLine) -> Result<(), LineError> {
         self.expect_no_commands()?;
@@ -303,13 +307,14 @@ impl Script {
     ///
     /// <span></span><pre><code>ensures ok: [OnOk] result ([AddsRegion] self.old line self.new)
     /// ensures err: [OnErr] result (self.new ≡ self.old)
-    /// ensures bad: [IfErr] result (λ error. error ≡ LineError.BadCommand)
+    /// ensures bad: [IfErr] result (λ error. error ≡ [LineError.BadCommand])
     /// ensures refused: [OnErr] result ((new : Script) → ¬ ([AddsRegion] self.old line new))</code></pre>
     ///
     /// [OnOk]: crate::specs::library#OnOk "P, if r is a value"
     /// [AddsRegion]: crate::specs::grammar::Lines#AddsRegion "a \`region\` line, the first one and before all commands"
     /// [OnErr]: crate::specs::library#OnErr "P, if r is an error"
     /// [IfErr]: crate::specs::library#IfErr "P of the error, if r is an error"
+    /// [LineError.BadCommand]: crate::proved::operands::LineError::BadCommand
     #[inline]
     fn take_region(&mut self, line: RegionLine) -> Result<(), LineError> {
         self.expect_no_commands()?;
@@ -328,11 +333,12 @@ impl Script {
     ///
     /// <span></span><pre><code>ensures ok: [OnOk] result ([HasNoCommands] self.now)
     /// ensures err: [IfErr] result
-    /// &#32;&#32;&#32;&#32;(λ error. (error ≡ LineError.BadCommand) × ¬ ([HasNoCommands] self.now))</code></pre>
+    /// &#32;&#32;&#32;&#32;(λ error. (error ≡ [LineError.BadCommand]) × ¬ ([HasNoCommands] self.now))</code></pre>
     ///
     /// [OnOk]: crate::specs::library#OnOk "P, if r is a value"
     /// [HasNoCommands]: crate::specs::grammar::Lines#HasNoCommands "no command was taken yet"
     /// [IfErr]: crate::specs::library#IfErr "P of the error, if r is an error"
+    /// [LineError.BadCommand]: crate::proved::operands::LineError::BadCommand
     #[inline]
     fn expect_no_commands(&self) -> Result<(), LineError> {
         if self.parts.is_empty() {
@@ -347,11 +353,12 @@ impl Script {
     /// # Contract
     ///
     /// <span></span><pre><code>ensures ok: [OnOk] result ([AddsCall] self.old call self.new)
-    /// ensures memory: [IfErr] result (λ error. error ≡ LineError.OutOfMemory)</code></pre>
+    /// ensures memory: [IfErr] result (λ error. error ≡ [LineError.OutOfMemory])</code></pre>
     ///
     /// [OnOk]: crate::specs::library#OnOk "P, if r is a value"
     /// [AddsCall]: crate::specs::grammar::Lines#AddsCall "a command, whose call comes after those of the lines before"
     /// [IfErr]: crate::specs::library#IfErr "P of the error, if r is an error"
+    /// [LineError.OutOfMemory]: crate::proved::operands::LineError::OutOfMemory
     #[inline]
     fn take_call(&mut self, call: Call) -> Result<(), LineError> {
         self.parts.push(call)?;
@@ -363,12 +370,13 @@ impl Script {
     /// # Contract
     ///
     /// <span></span><pre><code>ensures ok: [OnOk] result ([AddsPart] self.old tenant self.new)
-    /// ensures refused: [IfErr] result (λ error. error ≡ LineError.BadCommand
+    /// ensures refused: [IfErr] result (λ error. error ≡ [LineError.BadCommand]
     /// &#32;&#32;&#32;&#32;→ (new : Script) → ¬ ([AddsPart] self.old tenant new))</code></pre>
     ///
     /// [OnOk]: crate::specs::library#OnOk "P, if r is a value"
     /// [AddsPart]: crate::specs::grammar::Lines#AddsPart "an \`as\` line: the calls before it are a part, and those after it are another tenant\'s, of whom there is one"
     /// [IfErr]: crate::specs::library#IfErr "P of the error, if r is an error"
+    /// [LineError.BadCommand]: crate::proved::operands::LineError::BadCommand
     #[inline]
     fn take_part(&mut self, tenant: usize) -> Result<(), LineError> {
         if tenant >= self.header.tenants() {
@@ -490,7 +498,7 @@ fn command(name: &str, operands: &[&str]) -> Result<Call, LineError> {
 /// ensures calls: [IfOk] result (λ script. [length] ([calls_of] script) ≤ [length] bytes.now + 1)
 /// ensures refused: [IfErr] result ([IsParseError] bytes.now)
 /// ensures line: [IfErr] result
-/// &#32;&#32;&#32;&#32;(λ error. (line : [ℕ]) → error ≡ ParseError.BadCommand line
+/// &#32;&#32;&#32;&#32;(λ error. (line : [ℕ]) → error ≡ [ParseError.BadCommand] line
 /// &#32;&#32;&#32;&#32;→ (0 < line) × (line ≤ [length] bytes.now + 1))</code></pre>
 ///
 /// [IfOk]: crate::specs::library#IfOk "P of the value, if r is a value"
@@ -500,6 +508,7 @@ fn command(name: &str, operands: &[&str]) -> Result<Call, LineError> {
 /// [IfErr]: crate::specs::library#IfErr "P of the error, if r is an error"
 /// [IsParseError]: crate::specs::grammar::Refusals#IsParseError "why a text isn\'t parsed"
 /// [ℕ]: crate::specs::library#%E2%84%95 "the whole numbers from 0 on"
+/// [ParseError.BadCommand]: crate::proved::grammar::ParseError::BadCommand
 #[inline]
 pub fn parse(bytes: &[u8]) -> Result<Script, ParseError> {
     let mut script = Script::new();

@@ -7,8 +7,9 @@
 ///
 /// # Contract
 ///
-/// <span></span><pre><code>ensures: result ≡ clamp_signed [w8] number</code></pre>
+/// <span></span><pre><code>ensures: result ≡ [clamp_signed] [w8] number</code></pre>
 ///
+/// [clamp_signed]: crate::specs::library#clamp_signed "the number of the signed range of a width that is nearest to z"
 /// [w8]: crate::specs::library#w8 "the widths of integers in bits"
 #[inline]
 pub fn clamped_i8(number: i16) -> i8 {
@@ -19,8 +20,9 @@ pub fn clamped_i8(number: i16) -> i8 {
 ///
 /// # Contract
 ///
-/// <span></span><pre><code>ensures: result ≡ clamp_signed [w16] number</code></pre>
+/// <span></span><pre><code>ensures: result ≡ [clamp_signed] [w16] number</code></pre>
 ///
+/// [clamp_signed]: crate::specs::library#clamp_signed "the number of the signed range of a width that is nearest to z"
 /// [w16]: crate::specs::library#w16 "the widths of integers in bits"
 #[inline]
 pub fn clamped_i16(number: i32) -> i16 {

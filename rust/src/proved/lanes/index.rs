@@ -56,6 +56,9 @@ impl CountsLanes<16> for ImmLaneIdx16 {}
 
 impl CountsLanes<32> for ImmLaneIdx32 {}
 
+/// # Contract
+///
+/// <span></span><pre><code>from_gives = λ lane number. (number ≡ lane) × (number < N)</code></pre>
 impl<const N: usize> From<ImmLaneIdx<N>> for u8 {
     #[inline]
     fn from(lane: ImmLaneIdx<N>) -> u8 {
@@ -63,6 +66,11 @@ impl<const N: usize> From<ImmLaneIdx<N>> for u8 {
     }
 }
 
+/// # Contract
+///
+/// <span></span><pre><code>try_from_gives = λ number lane. [OkIff] lane (number < N) number</code></pre>
+///
+/// [OkIff]: crate::specs::library#OkIff "if P, r is the value x; else it is an error"
 impl<const N: usize> TryFrom<u8> for ImmLaneIdx<N>
 where
     ImmLaneIdx<N>: CountsLanes<N>,
@@ -98,12 +106,16 @@ where
 /// refused: (n : [ℕ]) (error : \_) → [Self.try_from_gives] n ([Err] error) → COUNT ≤ n</code></pre>
 ///
 /// [ℕ]: crate::specs::library#%E2%84%95 "the whole numbers from 0 on"
-/// [Self.converts]: trait@LaneIndex#contract
-/// [Self.try_from_gives]: trait@LaneIndex#contract
+/// [Self.converts]: crate::specs::library#converts "what \`From\` or \`Into\` gives for x may be y"
+/// [Self.try_from_gives]: crate::specs::library#try_from_gives "what \`TryFrom\` gives for x may be r"
 /// [Ok]: crate::specs::library#Ok "the value x, of a \`Result\`"
 /// [Err]: crate::specs::library#Err "the error e, of a \`Result\`"
 pub trait LaneIndex: Copy + Into<u8> + TryFrom<u8, Error = OutOfBoundsLaneIdx> {}
 
+/// # Contract
+///
+/// <span></span><pre><code>COUNT = N
+/// number = λ lane. lane</code></pre>
 impl<const N: usize> LaneIndex for ImmLaneIdx<N> where ImmLaneIdx<N>: CountsLanes<N> {}
 
 /// An integer with the index of one of its lanes in a vector, of which there are 128 divided by its
@@ -112,9 +124,10 @@ impl<const N: usize> LaneIndex for ImmLaneIdx<N> where ImmLaneIdx<N>: CountsLane
 /// # Contract
 ///
 /// <span></span><pre><code><i>\-\- As many lanes as there are indices make 128 bits.</i>
-/// count: [Self.LaneIdx].COUNT \* bits [Self.width] ≡ 128</code></pre>
+/// count: [Self.LaneIdx].COUNT \* [bits] [Self.width] ≡ 128</code></pre>
 ///
 /// [Self.LaneIdx]: trait@IntoLaneIdx#contract
+/// [bits]: crate::specs::library#bits "the number of bits of a width"
 /// [Self.width]: trait@IntoLaneIdx#contract
 pub trait IntoLaneIdx: LaneInteger {
     /// The index of a lane of these integers.

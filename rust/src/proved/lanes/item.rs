@@ -39,8 +39,9 @@ pub trait LaneInteger: Copy {
 /// # Contract
 ///
 /// <span></span><pre><code><i>\-\- \`N\` lanes make 128 bits.</i>
-/// filled: N \* bits [Self.width] ≡ 128</code></pre>
+/// filled: N \* [bits] [Self.width] ≡ 128</code></pre>
 ///
+/// [bits]: crate::specs::library#bits "the number of bits of a width"
 /// [Self.width]: trait@LaneItem#contract
 pub trait LaneItem<const N: usize>: LaneInteger {
     /// Fills `items` with the lanes of a vector, lane 0 first.
@@ -75,6 +76,17 @@ pub trait LaneItem<const N: usize>: LaneInteger {
     fn write_from(items: &[Self; N]) -> V128;
 }
 
+/// # Contract
+///
+/// <span></span><pre><code>ALL_ONES = 255
+/// ALL_ZEROS = 0
+/// width = [w8]
+/// read = [unsigned]
+/// image = λ item. item
+/// Fits = λ item. item < 2 ^ 8</code></pre>
+///
+/// [w8]: crate::specs::library#w8 "the widths of integers in bits"
+/// [unsigned]: crate::specs::lanes::Lane#unsigned "a lane\'s number as it is; \`signed\` reads it as a signed number"
 impl LaneInteger for u8 {
     const ALL_ONES: u8 = u8::MAX;
 
@@ -94,6 +106,21 @@ impl LaneItem<16> for u8 {
     }
 }
 
+/// # Contract
+///
+/// <span></span><pre><code>ALL_ONES = [negsuc] 0
+/// ALL_ZEROS = [pos] 0
+/// width = [w8]
+/// read = [signed] [w8]
+/// image = [cast_unsigned] [w8]
+/// Fits = [FitsSigned] [w8]</code></pre>
+///
+/// [negsuc]: crate::specs::library#negsuc "the number -(n + 1)"
+/// [pos]: crate::specs::library#pos "the number n, as one with a sign"
+/// [w8]: crate::specs::library#w8 "the widths of integers in bits"
+/// [signed]: crate::specs::library#cast_signed "the number from 0 up to 2 ^ w read as signed, in two\'s complement"
+/// [cast_unsigned]: crate::specs::library#cast_unsigned "the signed number as one from 0 up to 2 ^ w, in two\'s complement"
+/// [FitsSigned]: crate::specs::library#FitsSigned "z is in the range of the signed integers of a width"
 impl LaneInteger for i8 {
     const ALL_ONES: i8 = -1;
 
@@ -120,6 +147,17 @@ impl LaneItem<16> for i8 {
     }
 }
 
+/// # Contract
+///
+/// <span></span><pre><code>ALL_ONES = 65535
+/// ALL_ZEROS = 0
+/// width = [w16]
+/// read = [unsigned]
+/// image = λ item. item
+/// Fits = λ item. item < 2 ^ 16</code></pre>
+///
+/// [w16]: crate::specs::library#w16 "the widths of integers in bits"
+/// [unsigned]: crate::specs::lanes::Lane#unsigned "a lane\'s number as it is; \`signed\` reads it as a signed number"
 impl LaneInteger for u16 {
     const ALL_ONES: u16 = u16::MAX;
 
@@ -139,6 +177,21 @@ impl LaneItem<8> for u16 {
     }
 }
 
+/// # Contract
+///
+/// <span></span><pre><code>ALL_ONES = [negsuc] 0
+/// ALL_ZEROS = [pos] 0
+/// width = [w16]
+/// read = [signed] [w16]
+/// image = [cast_unsigned] [w16]
+/// Fits = [FitsSigned] [w16]</code></pre>
+///
+/// [negsuc]: crate::specs::library#negsuc "the number -(n + 1)"
+/// [pos]: crate::specs::library#pos "the number n, as one with a sign"
+/// [w16]: crate::specs::library#w16 "the widths of integers in bits"
+/// [signed]: crate::specs::library#cast_signed "the number from 0 up to 2 ^ w read as signed, in two\'s complement"
+/// [cast_unsigned]: crate::specs::library#cast_unsigned "the signed number as one from 0 up to 2 ^ w, in two\'s complement"
+/// [FitsSigned]: crate::specs::library#FitsSigned "z is in the range of the signed integers of a width"
 impl LaneInteger for i16 {
     const ALL_ONES: i16 = -1;
 
@@ -165,6 +218,17 @@ impl LaneItem<8> for i16 {
     }
 }
 
+/// # Contract
+///
+/// <span></span><pre><code>ALL_ONES = 4294967295
+/// ALL_ZEROS = 0
+/// width = [w32]
+/// read = [unsigned]
+/// image = λ item. item
+/// Fits = λ item. item < 2 ^ 32</code></pre>
+///
+/// [w32]: crate::specs::library#w32 "the widths of integers in bits"
+/// [unsigned]: crate::specs::lanes::Lane#unsigned "a lane\'s number as it is; \`signed\` reads it as a signed number"
 impl LaneInteger for u32 {
     const ALL_ONES: u32 = u32::MAX;
 
@@ -184,6 +248,21 @@ impl LaneItem<4> for u32 {
     }
 }
 
+/// # Contract
+///
+/// <span></span><pre><code>ALL_ONES = [negsuc] 0
+/// ALL_ZEROS = [pos] 0
+/// width = [w32]
+/// read = [signed] [w32]
+/// image = [cast_unsigned] [w32]
+/// Fits = [FitsSigned] [w32]</code></pre>
+///
+/// [negsuc]: crate::specs::library#negsuc "the number -(n + 1)"
+/// [pos]: crate::specs::library#pos "the number n, as one with a sign"
+/// [w32]: crate::specs::library#w32 "the widths of integers in bits"
+/// [signed]: crate::specs::library#cast_signed "the number from 0 up to 2 ^ w read as signed, in two\'s complement"
+/// [cast_unsigned]: crate::specs::library#cast_unsigned "the signed number as one from 0 up to 2 ^ w, in two\'s complement"
+/// [FitsSigned]: crate::specs::library#FitsSigned "z is in the range of the signed integers of a width"
 impl LaneInteger for i32 {
     const ALL_ONES: i32 = -1;
 
@@ -210,6 +289,17 @@ impl LaneItem<4> for i32 {
     }
 }
 
+/// # Contract
+///
+/// <span></span><pre><code>ALL_ONES = 18446744073709551615
+/// ALL_ZEROS = 0
+/// width = [w64]
+/// read = [unsigned]
+/// image = λ item. item
+/// Fits = λ item. item < 2 ^ 64</code></pre>
+///
+/// [w64]: crate::specs::library#w64 "the widths of integers in bits"
+/// [unsigned]: crate::specs::lanes::Lane#unsigned "a lane\'s number as it is; \`signed\` reads it as a signed number"
 impl LaneInteger for u64 {
     const ALL_ONES: u64 = u64::MAX;
 
@@ -229,6 +319,21 @@ impl LaneItem<2> for u64 {
     }
 }
 
+/// # Contract
+///
+/// <span></span><pre><code>ALL_ONES = [negsuc] 0
+/// ALL_ZEROS = [pos] 0
+/// width = [w64]
+/// read = [signed] [w64]
+/// image = [cast_unsigned] [w64]
+/// Fits = [FitsSigned] [w64]</code></pre>
+///
+/// [negsuc]: crate::specs::library#negsuc "the number -(n + 1)"
+/// [pos]: crate::specs::library#pos "the number n, as one with a sign"
+/// [w64]: crate::specs::library#w64 "the widths of integers in bits"
+/// [signed]: crate::specs::library#cast_signed "the number from 0 up to 2 ^ w read as signed, in two\'s complement"
+/// [cast_unsigned]: crate::specs::library#cast_unsigned "the signed number as one from 0 up to 2 ^ w, in two\'s complement"
+/// [FitsSigned]: crate::specs::library#FitsSigned "z is in the range of the signed integers of a width"
 impl LaneInteger for i64 {
     const ALL_ONES: i64 = -1;
 

@@ -101,21 +101,25 @@ pub trait Lanes: Copy {
     ///
     /// # Contract
     ///
-    /// <span></span><pre><code>requires callable: F.IsAlwaysCallable f
-    /// ensures lanes: (i : [ℕ]) → i < LANES → F.post f (item self i) (item result i)</code></pre>
+    /// <span></span><pre><code>requires callable: [F.IsAlwaysCallable] f
+    /// ensures lanes: (i : [ℕ]) → i < LANES → [F.post] f (item self i) (item result i)</code></pre>
     ///
+    /// [F.IsAlwaysCallable]: crate::specs::library#IsAlwaysCallable "the closure may be called on all arguments"
     /// [ℕ]: crate::specs::library#%E2%84%95 "the whole numbers from 0 on"
+    /// [F.post]: crate::specs::library#post "the closure, called on x, may return y"
     fn lanewise_unary<F: Fn(Self::Item) -> Self::Item>(self, f: F) -> Self;
 
     /// What `f` gives for the lanes of two vectors at each index.
     ///
     /// # Contract
     ///
-    /// <span></span><pre><code>requires callable: F.IsAlwaysCallable f
+    /// <span></span><pre><code>requires callable: [F.IsAlwaysCallable] f
     /// ensures lanes: (i : [ℕ]) → i < LANES
-    /// &#32;&#32;&#32;&#32;→ F.post f (item self i) (item other i) (item result i)</code></pre>
+    /// &#32;&#32;&#32;&#32;→ [F.post] f (item self i) (item other i) (item result i)</code></pre>
     ///
+    /// [F.IsAlwaysCallable]: crate::specs::library#IsAlwaysCallable "the closure may be called on all arguments"
     /// [ℕ]: crate::specs::library#%E2%84%95 "the whole numbers from 0 on"
+    /// [F.post]: crate::specs::library#post "the closure, called on x, may return y"
     fn lanewise_binary<F: Fn(Self::Item, Self::Item) -> Self::Item>(
         self,
         other: Self,
@@ -126,11 +130,13 @@ pub trait Lanes: Copy {
     ///
     /// # Contract
     ///
-    /// <span></span><pre><code>requires callable: F.IsAlwaysCallable f
+    /// <span></span><pre><code>requires callable: [F.IsAlwaysCallable] f
     /// ensures lanes: (i : [ℕ]) → i < LANES
-    /// &#32;&#32;&#32;&#32;→ F.post f (item self i) (item b i) (item c i) (item result i)</code></pre>
+    /// &#32;&#32;&#32;&#32;→ [F.post] f (item self i) (item b i) (item c i) (item result i)</code></pre>
     ///
+    /// [F.IsAlwaysCallable]: crate::specs::library#IsAlwaysCallable "the closure may be called on all arguments"
     /// [ℕ]: crate::specs::library#%E2%84%95 "the whole numbers from 0 on"
+    /// [F.post]: crate::specs::library#post "the closure, called on x, may return y"
     fn lanewise_ternary<F: Fn(Self::Item, Self::Item, Self::Item) -> Self::Item>(
         self,
         b: Self,
@@ -142,25 +148,29 @@ pub trait Lanes: Copy {
     ///
     /// # Contract
     ///
-    /// <span></span><pre><code>requires callable: F.IsAlwaysCallable f
+    /// <span></span><pre><code>requires callable: [F.IsAlwaysCallable] f
     /// ensures lanes: (i : [ℕ]) → i < LANES
-    /// &#32;&#32;&#32;&#32;→ (holds : [Bool]) × F.post f (item self i) (item other i) holds
+    /// &#32;&#32;&#32;&#32;→ (holds : [Bool]) × [F.post] f (item self i) (item other i) holds
     /// &#32;&#32;&#32;&#32;× (item result i ≡ (if holds then ALL_ONES else ALL_ZEROS))</code></pre>
     ///
+    /// [F.IsAlwaysCallable]: crate::specs::library#IsAlwaysCallable "the closure may be called on all arguments"
     /// [ℕ]: crate::specs::library#%E2%84%95 "the whole numbers from 0 on"
     /// [Bool]: crate::specs::library#Bool "the Booleans \`true\` and \`false\`"
+    /// [F.post]: crate::specs::library#post "the closure, called on x, may return y"
     fn lanewise_comparison<F: Fn(Self::Item, Self::Item) -> bool>(self, other: Self, f: F) -> Self;
 
     /// Turns `acc` into `f(i, lane i, acc)` for each lane index from 0 upwards.
     ///
     /// # Contract
     ///
-    /// <span></span><pre><code>requires callable: F.IsAlwaysCallable f
+    /// <span></span><pre><code>requires callable: [F.IsAlwaysCallable] f
     /// ensures steps: [ReducesTo]
-    /// &#32;&#32;&#32;&#32;(λ i before after. F.post f i (item self i) before after) LANES acc
+    /// &#32;&#32;&#32;&#32;(λ i before after. [F.post] f i (item self i) before after) LANES acc
     /// &#32;&#32;&#32;&#32;result</code></pre>
     ///
+    /// [F.IsAlwaysCallable]: crate::specs::library#IsAlwaysCallable "the closure may be called on all arguments"
     /// [ReducesTo]: crate::specs::lanes::Lane#ReducesTo "the steps at 0, 1 and so on, n of them, lead from \`first\` to \`last\`"
+    /// [F.post]: crate::specs::library#post "the closure, called on x, may return y"
     fn lanewise_reduce<T, F: Fn(u8, Self::Item, T) -> T>(self, acc: T, f: F) -> T;
 }
 
@@ -182,6 +192,16 @@ fn ones_if<T: LaneInteger>(holds: bool) -> T {
     if holds { T::ALL_ONES } else { T::ALL_ZEROS }
 }
 
+/// # Contract
+///
+/// <span></span><pre><code>item = λ lanes i. [slice_index_or] lanes.items i [T.ALL_ZEROS]
+/// LANES = N
+/// ALL_ONES = [T.ALL_ONES]
+/// ALL_ZEROS = [T.ALL_ZEROS]</code></pre>
+///
+/// [slice_index_or]: crate::specs::library#slice_index_or "element i of a list; x past its end"
+/// [T.ALL_ZEROS]: trait@LaneItem#contract
+/// [T.ALL_ONES]: trait@LaneItem#contract
 impl<T: LaneItem<N>, const N: usize> Lanes for LaneArray<T, N>
 where
     ImmLaneIdx<N>: CountsLanes<N>,

@@ -22,15 +22,16 @@ pub fn lanes_there_and_back<L: Lanes>(lanes: L) -> L {
 ///
 /// # Contract
 ///
-/// <span></span><pre><code>ensures made: (w : [Width]) (f : [ℕ] → [ℕ]) (i : [ℕ]) → i < 128 / bits w
-/// &#32;&#32;&#32;&#32;→ [lane] w ([from_lanes] w f) i ≡ f i % 2 ^ bits w
-/// ensures splat: (w : [Width]) (n i : [ℕ]) → i < 128 / bits w → n < 2 ^ bits w
+/// <span></span><pre><code>ensures made: (w : [Width]) (f : [ℕ] → [ℕ]) (i : [ℕ]) → i < 128 / [bits] w
+/// &#32;&#32;&#32;&#32;→ [lane] w ([from_lanes] w f) i ≡ f i % 2 ^ [bits] w
+/// ensures splat: (w : [Width]) (n i : [ℕ]) → i < 128 / [bits] w → n < 2 ^ [bits] w
 /// &#32;&#32;&#32;&#32;→ [lane] w ([splat_of] w n) i ≡ n
-/// ensures [with_lane]\: (w : [Width]) (v k n i : [ℕ]) → i < 128 / bits w → n < 2 ^ bits w
+/// ensures with_lane: (w : [Width]) (v k n i : [ℕ]) → i < 128 / [bits] w → n < 2 ^ [bits] w
 /// &#32;&#32;&#32;&#32;→ [lane] w ([with_lane] w v k n) i ≡ (if i == k then n else [lane] w v i)</code></pre>
 ///
 /// [Width]: crate::specs::library#Width "the widths of integers: 8, 16, 32, 64 or 128 bits"
 /// [ℕ]: crate::specs::library#%E2%84%95 "the whole numbers from 0 on"
+/// [bits]: crate::specs::library#bits "the number of bits of a width"
 /// [lane]: crate::specs::lanes::Lane#lane "lane i of the vector v"
 /// [from_lanes]: crate::specs::lanes::Vector#from_lanes "the vector whose lane i is f i"
 /// [splat_of]: crate::specs::lanes::Vector#splat_of "n in each lane"
@@ -45,22 +46,23 @@ pub fn lanes_of_made_vector() {}
 ///
 /// <span></span><pre><code>ensures unary: (read : [ℕ] → [L.Item]) (row : [L.Item] → [ℕ]) (a i : [ℕ]) → i < [L.LANES]
 /// &#32;&#32;&#32;&#32;→ [lane] [L.Item].width ([unary_of_lanes] [L.Item].width read row a) i
-/// &#32;&#32;&#32;&#32;≡ row (read ([lane] [L.Item].width a i)) % 2 ^ bits [L.Item].width
+/// &#32;&#32;&#32;&#32;≡ row (read ([lane] [L.Item].width a i)) % 2 ^ [bits] [L.Item].width
 /// ensures binary: (read : [ℕ] → [L.Item]) (row : [L.Item] → [L.Item] → [ℕ]) (a b i : [ℕ]) → i < [L.LANES]
 /// &#32;&#32;&#32;&#32;→ [lane] [L.Item].width ([binary_of_lanes] [L.Item].width read row a b) i
 /// &#32;&#32;&#32;&#32;≡ row (read ([lane] [L.Item].width a i))
-/// &#32;&#32;&#32;&#32;(read ([lane] [L.Item].width b i)) % 2 ^ bits [L.Item].width
+/// &#32;&#32;&#32;&#32;(read ([lane] [L.Item].width b i)) % 2 ^ [bits] [L.Item].width
 /// ensures comparison: (read : [ℕ] → [L.Item]) (test : [L.Item] → [L.Item] → [Bool]) (a b i : [ℕ])
 /// &#32;&#32;&#32;&#32;→ i < [L.LANES]
 /// &#32;&#32;&#32;&#32;→ [lane] [L.Item].width ([comparison_of_lanes] [L.Item].width read test a b) i
 /// &#32;&#32;&#32;&#32;≡ (if test (read ([lane] [L.Item].width a i))
-/// &#32;&#32;&#32;&#32;(read ([lane] [L.Item].width b i)) then 2 ^ bits [L.Item].width - 1 else 0)</code></pre>
+/// &#32;&#32;&#32;&#32;(read ([lane] [L.Item].width b i)) then 2 ^ [bits] [L.Item].width - 1 else 0)</code></pre>
 ///
 /// [ℕ]: crate::specs::library#%E2%84%95 "the whole numbers from 0 on"
 /// [L.Item]: trait@Lanes#contract
 /// [L.LANES]: trait@Lanes#contract
 /// [lane]: crate::specs::lanes::Lane#lane "lane i of the vector v"
 /// [unary_of_lanes]: crate::specs::lanes::Vector#unary_of_lanes "the vector whose lane i is the row of the operands\' lanes i"
+/// [bits]: crate::specs::library#bits "the number of bits of a width"
 /// [binary_of_lanes]: crate::specs::lanes::Vector#binary_of_lanes "the vector whose lane i is the row of lanes i of two vectors, read in one way"
 /// [Bool]: crate::specs::library#Bool "the Booleans \`true\` and \`false\`"
 /// [comparison_of_lanes]: crate::specs::lanes::Vector#comparison_of_lanes "all ones where the test of the operands\' lanes i holds, else all zeros"

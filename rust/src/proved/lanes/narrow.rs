@@ -38,13 +38,15 @@ pub trait FromWide<W: Lanes>: Lanes {
     ///
     /// # Contract
     ///
-    /// <span></span><pre><code>requires callable: F.IsAlwaysCallable f
-    /// ensures low: (i : [ℕ]) → i < [W.LANES] → F.post f ([W.item] low i) ([Self.item] result i)
+    /// <span></span><pre><code>requires callable: [F.IsAlwaysCallable] f
+    /// ensures low: (i : [ℕ]) → i < [W.LANES] → [F.post] f ([W.item] low i) ([Self.item] result i)
     /// ensures high: (i : [ℕ]) → i < [W.LANES]
-    /// &#32;&#32;&#32;&#32;→ F.post f ([W.item] high i) ([Self.item] result ([W.LANES] + i))</code></pre>
+    /// &#32;&#32;&#32;&#32;→ [F.post] f ([W.item] high i) ([Self.item] result ([W.LANES] + i))</code></pre>
     ///
+    /// [F.IsAlwaysCallable]: crate::specs::library#IsAlwaysCallable "the closure may be called on all arguments"
     /// [ℕ]: crate::specs::library#%E2%84%95 "the whole numbers from 0 on"
     /// [W.LANES]: trait@Lanes#contract
+    /// [F.post]: crate::specs::library#post "the closure, called on x, may return y"
     /// [W.item]: trait@Lanes#contract
     /// [Self.item]: trait@FromWide#contract
     fn from_low_high<F: Fn(W::Item) -> Self::Item>(low: W, high: W, f: F) -> Self;
@@ -74,11 +76,13 @@ pub trait FromNarrow<S: FromWide<Self>>: Lanes {
     ///
     /// # Contract
     ///
-    /// <span></span><pre><code>requires callable: F.IsAlwaysCallable f
+    /// <span></span><pre><code>requires callable: [F.IsAlwaysCallable] f
     /// ensures lanes: (i : [ℕ]) → i < Self.LANES
-    /// &#32;&#32;&#32;&#32;→ F.post f ([S.item] narrow (2 \* i)) ([S.item] narrow (2 \* i + 1)) (Self.item result i)</code></pre>
+    /// &#32;&#32;&#32;&#32;→ [F.post] f ([S.item] narrow (2 \* i)) ([S.item] narrow (2 \* i + 1)) (Self.item result i)</code></pre>
     ///
+    /// [F.IsAlwaysCallable]: crate::specs::library#IsAlwaysCallable "the closure may be called on all arguments"
     /// [ℕ]: crate::specs::library#%E2%84%95 "the whole numbers from 0 on"
+    /// [F.post]: crate::specs::library#post "the closure, called on x, may return y"
     /// [S.item]: trait@FromWide#contract
     fn pairwise_unary<F: Fn(S::Item, S::Item) -> Self::Item>(narrow: S, f: F) -> Self;
 
@@ -86,12 +90,14 @@ pub trait FromNarrow<S: FromWide<Self>>: Lanes {
     ///
     /// # Contract
     ///
-    /// <span></span><pre><code>requires callable: F.IsAlwaysCallable f
+    /// <span></span><pre><code>requires callable: [F.IsAlwaysCallable] f
     /// ensures lanes: (i : [ℕ]) → i < Self.LANES
-    /// &#32;&#32;&#32;&#32;→ F.post f ([S.item] a (2 \* i) ∷ [S.item] a (2 \* i + 1) ∷ \[\])
+    /// &#32;&#32;&#32;&#32;→ [F.post] f ([S.item] a (2 \* i) ∷ [S.item] a (2 \* i + 1) ∷ \[\])
     /// &#32;&#32;&#32;&#32;([S.item] b (2 \* i) ∷ [S.item] b (2 \* i + 1) ∷ \[\]) (Self.item result i)</code></pre>
     ///
+    /// [F.IsAlwaysCallable]: crate::specs::library#IsAlwaysCallable "the closure may be called on all arguments"
     /// [ℕ]: crate::specs::library#%E2%84%95 "the whole numbers from 0 on"
+    /// [F.post]: crate::specs::library#post "the closure, called on x, may return y"
     /// [S.item]: trait@FromWide#contract
     fn pairwise_binary<F: Fn([S::Item; 2], [S::Item; 2]) -> Self::Item>(a: S, b: S, f: F) -> Self;
 
@@ -99,11 +105,13 @@ pub trait FromNarrow<S: FromWide<Self>>: Lanes {
     ///
     /// # Contract
     ///
-    /// <span></span><pre><code>requires callable: F.IsAlwaysCallable f
+    /// <span></span><pre><code>requires callable: [F.IsAlwaysCallable] f
     /// ensures lanes: (i : [ℕ]) → i < Self.LANES
-    /// &#32;&#32;&#32;&#32;→ F.post f ([S.item] narrow i) (Self.item result i)</code></pre>
+    /// &#32;&#32;&#32;&#32;→ [F.post] f ([S.item] narrow i) (Self.item result i)</code></pre>
     ///
+    /// [F.IsAlwaysCallable]: crate::specs::library#IsAlwaysCallable "the closure may be called on all arguments"
     /// [ℕ]: crate::specs::library#%E2%84%95 "the whole numbers from 0 on"
+    /// [F.post]: crate::specs::library#post "the closure, called on x, may return y"
     /// [S.item]: trait@FromWide#contract
     fn low_unary<F: Fn(S::Item) -> Self::Item>(narrow: S, f: F) -> Self;
 
@@ -111,11 +119,13 @@ pub trait FromNarrow<S: FromWide<Self>>: Lanes {
     ///
     /// # Contract
     ///
-    /// <span></span><pre><code>requires callable: F.IsAlwaysCallable f
+    /// <span></span><pre><code>requires callable: [F.IsAlwaysCallable] f
     /// ensures lanes: (i : [ℕ]) → i < Self.LANES
-    /// &#32;&#32;&#32;&#32;→ F.post f ([S.item] narrow (Self.LANES + i)) (Self.item result i)</code></pre>
+    /// &#32;&#32;&#32;&#32;→ [F.post] f ([S.item] narrow (Self.LANES + i)) (Self.item result i)</code></pre>
     ///
+    /// [F.IsAlwaysCallable]: crate::specs::library#IsAlwaysCallable "the closure may be called on all arguments"
     /// [ℕ]: crate::specs::library#%E2%84%95 "the whole numbers from 0 on"
+    /// [F.post]: crate::specs::library#post "the closure, called on x, may return y"
     /// [S.item]: trait@FromWide#contract
     fn high_unary<F: Fn(S::Item) -> Self::Item>(narrow: S, f: F) -> Self;
 
@@ -123,11 +133,13 @@ pub trait FromNarrow<S: FromWide<Self>>: Lanes {
     ///
     /// # Contract
     ///
-    /// <span></span><pre><code>requires callable: F.IsAlwaysCallable f
+    /// <span></span><pre><code>requires callable: [F.IsAlwaysCallable] f
     /// ensures lanes: (i : [ℕ]) → i < Self.LANES
-    /// &#32;&#32;&#32;&#32;→ F.post f ([S.item] a i) ([S.item] b i) (Self.item result i)</code></pre>
+    /// &#32;&#32;&#32;&#32;→ [F.post] f ([S.item] a i) ([S.item] b i) (Self.item result i)</code></pre>
     ///
+    /// [F.IsAlwaysCallable]: crate::specs::library#IsAlwaysCallable "the closure may be called on all arguments"
     /// [ℕ]: crate::specs::library#%E2%84%95 "the whole numbers from 0 on"
+    /// [F.post]: crate::specs::library#post "the closure, called on x, may return y"
     /// [S.item]: trait@FromWide#contract
     fn low_binary<F: Fn(S::Item, S::Item) -> Self::Item>(a: S, b: S, f: F) -> Self;
 
@@ -135,12 +147,14 @@ pub trait FromNarrow<S: FromWide<Self>>: Lanes {
     ///
     /// # Contract
     ///
-    /// <span></span><pre><code>requires callable: F.IsAlwaysCallable f
+    /// <span></span><pre><code>requires callable: [F.IsAlwaysCallable] f
     /// ensures lanes: (i : [ℕ]) → i < Self.LANES
-    /// &#32;&#32;&#32;&#32;→ F.post f ([S.item] a (Self.LANES + i)) ([S.item] b (Self.LANES + i))
+    /// &#32;&#32;&#32;&#32;→ [F.post] f ([S.item] a (Self.LANES + i)) ([S.item] b (Self.LANES + i))
     /// &#32;&#32;&#32;&#32;(Self.item result i)</code></pre>
     ///
+    /// [F.IsAlwaysCallable]: crate::specs::library#IsAlwaysCallable "the closure may be called on all arguments"
     /// [ℕ]: crate::specs::library#%E2%84%95 "the whole numbers from 0 on"
+    /// [F.post]: crate::specs::library#post "the closure, called on x, may return y"
     /// [S.item]: trait@FromWide#contract
     fn high_binary<F: Fn(S::Item, S::Item) -> Self::Item>(a: S, b: S, f: F) -> Self;
 }

@@ -8,16 +8,18 @@ use crate::proved::raw::V128;
 ///
 /// # Contract
 ///
-/// <span></span><pre><code>requires callable: F.IsAlwaysCallable f
+/// <span></span><pre><code>requires callable: [F.IsAlwaysCallable] f
 /// ensures each: (i : [ℕ]) → i < [L.LANES]
-/// &#32;&#32;&#32;&#32;→ F.post f ([L.Item].read ([lane] [L.Item].width a i))
+/// &#32;&#32;&#32;&#32;→ [F.post] f ([L.Item].read ([lane] [L.Item].width a i))
 /// &#32;&#32;&#32;&#32;([L.Item].read ([lane] [L.Item].width result i))
 /// ensures lanes: (row : [L.Item] → [ℕ])
-/// &#32;&#32;&#32;&#32;→ [ComputesLane] [L.Item].Fits [L.Item].image (λ x z. F.post f x z) row
+/// &#32;&#32;&#32;&#32;→ [ComputesLane] [L.Item].Fits [L.Item].image (λ x z. [F.post] f x z) row
 /// &#32;&#32;&#32;&#32;→ result ≡ [unary_of_lanes] [L.Item].width [L.Item].read row a</code></pre>
 ///
+/// [F.IsAlwaysCallable]: crate::specs::library#IsAlwaysCallable "the closure may be called on all arguments"
 /// [ℕ]: crate::specs::library#%E2%84%95 "the whole numbers from 0 on"
 /// [L.LANES]: trait@Lanes#contract
+/// [F.post]: crate::specs::library#post "the closure, called on x, may return y"
 /// [L.Item]: trait@Lanes#contract
 /// [lane]: crate::specs::lanes::Lane#lane "lane i of the vector v"
 /// [ComputesLane]: crate::specs::lanes::Vector#ComputesLane "what is made of an item in range has the number that the row names; \`Makes\` relates the item to what is made of it"
@@ -31,16 +33,18 @@ pub fn unary<L: Lanes, F: Fn(L::Item) -> L::Item>(a: V128, f: F) -> V128 {
 ///
 /// # Contract
 ///
-/// <span></span><pre><code>requires callable: F.IsAlwaysCallable f
+/// <span></span><pre><code>requires callable: [F.IsAlwaysCallable] f
 /// ensures each: (i : [ℕ]) → i < [L.LANES]
-/// &#32;&#32;&#32;&#32;→ F.post f ([L.Item].read ([lane] [L.Item].width a i)) ([L.Item].read ([lane] [L.Item].width b i))
+/// &#32;&#32;&#32;&#32;→ [F.post] f ([L.Item].read ([lane] [L.Item].width a i)) ([L.Item].read ([lane] [L.Item].width b i))
 /// &#32;&#32;&#32;&#32;([L.Item].read ([lane] [L.Item].width result i))
 /// ensures lanes: (row : [L.Item] → [L.Item] → [ℕ])
-/// &#32;&#32;&#32;&#32;→ [ComputesLaneOfTwo] [L.Item].Fits [L.Item].image (λ x y z. F.post f x y z) row
+/// &#32;&#32;&#32;&#32;→ [ComputesLaneOfTwo] [L.Item].Fits [L.Item].image (λ x y z. [F.post] f x y z) row
 /// &#32;&#32;&#32;&#32;→ result ≡ [binary_of_lanes] [L.Item].width [L.Item].read row a b</code></pre>
 ///
+/// [F.IsAlwaysCallable]: crate::specs::library#IsAlwaysCallable "the closure may be called on all arguments"
 /// [ℕ]: crate::specs::library#%E2%84%95 "the whole numbers from 0 on"
 /// [L.LANES]: trait@Lanes#contract
+/// [F.post]: crate::specs::library#post "the closure, called on x, may return y"
 /// [L.Item]: trait@Lanes#contract
 /// [lane]: crate::specs::lanes::Lane#lane "lane i of the vector v"
 /// [ComputesLaneOfTwo]: crate::specs::lanes::Vector#ComputesLaneOfTwo "what is made of two items in range has the number that the row names for them"
@@ -56,21 +60,24 @@ pub fn binary<L: Lanes, F: Fn(L::Item, L::Item) -> L::Item>(a: V128, b: V128, f:
 ///
 /// # Contract
 ///
-/// <span></span><pre><code>requires callable: F.IsAlwaysCallable f
+/// <span></span><pre><code>requires callable: [F.IsAlwaysCallable] f
 /// ensures each: (i : [ℕ]) → i < [L.LANES]
 /// &#32;&#32;&#32;&#32;→ (holds : [Bool])
-/// &#32;&#32;&#32;&#32;× F.post f ([L.Item].read ([lane] [L.Item].width a i))
+/// &#32;&#32;&#32;&#32;× [F.post] f ([L.Item].read ([lane] [L.Item].width a i))
 /// &#32;&#32;&#32;&#32;([L.Item].read ([lane] [L.Item].width b i)) holds
-/// &#32;&#32;&#32;&#32;× ([lane] [L.Item].width result i ≡ (if holds then 2 ^ bits [L.Item].width - 1 else 0))
+/// &#32;&#32;&#32;&#32;× ([lane] [L.Item].width result i ≡ (if holds then 2 ^ [bits] [L.Item].width - 1 else 0))
 /// ensures lanes: (test : [L.Item] → [L.Item] → [Bool])
-/// &#32;&#32;&#32;&#32;→ [DecidesTest] [L.Item].Fits (λ x y holds. F.post f x y holds) test
+/// &#32;&#32;&#32;&#32;→ [DecidesTest] [L.Item].Fits (λ x y holds. [F.post] f x y holds) test
 /// &#32;&#32;&#32;&#32;→ result ≡ [comparison_of_lanes] [L.Item].width [L.Item].read test a b</code></pre>
 ///
+/// [F.IsAlwaysCallable]: crate::specs::library#IsAlwaysCallable "the closure may be called on all arguments"
 /// [ℕ]: crate::specs::library#%E2%84%95 "the whole numbers from 0 on"
 /// [L.LANES]: trait@Lanes#contract
 /// [Bool]: crate::specs::library#Bool "the Booleans \`true\` and \`false\`"
+/// [F.post]: crate::specs::library#post "the closure, called on x, may return y"
 /// [L.Item]: trait@Lanes#contract
 /// [lane]: crate::specs::lanes::Lane#lane "lane i of the vector v"
+/// [bits]: crate::specs::library#bits "the number of bits of a width"
 /// [DecidesTest]: crate::specs::lanes::Vector#DecidesTest "the Boolean that is made of two items in range is that of the test"
 /// [comparison_of_lanes]: crate::specs::lanes::Vector#comparison_of_lanes "all ones where the test of the operands\' lanes i holds, else all zeros"
 #[inline(always)]

@@ -63,11 +63,12 @@ pub trait SimdLane: LaneInteger {
     /// # Contract
     ///
     /// <span></span><pre><code>ensures lanes: (i : [ℕ]) → i < [lane_count] [Self.width]
-    /// &#32;&#32;&#32;&#32;→ at result i ≡ (at items i + 2 ^ (bits [Self.width] - 1)) % 2 ^ bits [Self.width]</code></pre>
+    /// &#32;&#32;&#32;&#32;→ at result i ≡ (at items i + 2 ^ ([bits] [Self.width] - 1)) % 2 ^ [bits] [Self.width]</code></pre>
     ///
     /// [ℕ]: crate::specs::library#%E2%84%95 "the whole numbers from 0 on"
     /// [lane_count]: crate::specs::lanes::Lane#lane_count "how many lanes of a width a vector has"
     /// [Self.width]: trait@SimdLane#contract
+    /// [bits]: crate::specs::library#bits "the number of bits of a width"
     fn biased(items: Self::Vector) -> Self::Vector;
 
     /// The lanes of `chosen` where that of `a` is less than that of `b`, else those of `other`.
@@ -89,6 +90,11 @@ pub trait SimdLane: LaneInteger {
     ) -> Self::Vector;
 }
 
+/// # Contract
+///
+/// <span></span><pre><code>at = λ items i. [slice_index] items i</code></pre>
+///
+/// [slice_index]: crate::specs::library#slice_index "element i of a list of numbers; 0 past its end"
 impl SimdLane for u8 {
     type Vector = u8x16;
 
@@ -118,6 +124,11 @@ impl SimdLane for u8 {
     }
 }
 
+/// # Contract
+///
+/// <span></span><pre><code>at = λ items i. [slice_index] items i</code></pre>
+///
+/// [slice_index]: crate::specs::library#slice_index "element i of a list of numbers; 0 past its end"
 impl SimdLane for u16 {
     type Vector = u16x8;
 
@@ -147,6 +158,11 @@ impl SimdLane for u16 {
     }
 }
 
+/// # Contract
+///
+/// <span></span><pre><code>at = λ items i. [slice_index] items i</code></pre>
+///
+/// [slice_index]: crate::specs::library#slice_index "element i of a list of numbers; 0 past its end"
 impl SimdLane for u32 {
     type Vector = u32x4;
 
@@ -176,6 +192,11 @@ impl SimdLane for u32 {
     }
 }
 
+/// # Contract
+///
+/// <span></span><pre><code>at = λ items i. [slice_index] items i</code></pre>
+///
+/// [slice_index]: crate::specs::library#slice_index "element i of a list of numbers; 0 past its end"
 impl SimdLane for u64 {
     type Vector = u64x2;
 

@@ -116,7 +116,7 @@ fn picked_inside(table: u8x16, indices: u8x16) -> u8x16 {
 // The index of a lane of 8 bits.
 /// # Contract
 ///
-/// <span></span><pre><code>requires [lane]\: [lane] < 16
+/// <span></span><pre><code>requires lane: [lane] < 16
 /// ensures first: [slice_index] result 0 ≡ [lane]
 /// ensures inside: (i : [ℕ]) → i < 16 → [slice_index] result i < 16</code></pre>
 ///
@@ -135,7 +135,7 @@ const BYTES_OF_U16: [u32; 8] = [
 // The indices of the two bytes of a lane of 16 bits.
 /// # Contract
 ///
-/// <span></span><pre><code>requires [lane]\: [lane] < 8
+/// <span></span><pre><code>requires lane: [lane] < 8
 /// ensures first: [slice_index] result 0 ≡ 2 \* [lane]
 /// ensures second: [slice_index] result 1 ≡ 2 \* [lane] + 1
 /// ensures inside: (i : [ℕ]) → i < 16 → [slice_index] result i < 16</code></pre>
@@ -153,7 +153,7 @@ const BYTES_OF_U32: [u32; 4] = [0x0302_0100, 0x0706_0504, 0x0b0a_0908, 0x0f0e_0d
 // The indices of the four bytes of a lane of 32 bits.
 /// # Contract
 ///
-/// <span></span><pre><code>requires [lane]\: [lane] < 4
+/// <span></span><pre><code>requires lane: [lane] < 4
 /// ensures lanes: (i : [ℕ]) → i < 4 → [slice_index] result i ≡ 4 \* [lane] + i
 /// ensures inside: (i : [ℕ]) → i < 16 → [slice_index] result i < 16</code></pre>
 ///
@@ -179,7 +179,7 @@ const IN_EACH_U16: [u64; 8] = [
 // The index of a lane of 16 bits, in each lane.
 /// # Contract
 ///
-/// <span></span><pre><code>requires [lane]\: [lane] < 8
+/// <span></span><pre><code>requires lane: [lane] < 8
 /// ensures lanes: result ≡ [replicate] 8 [lane]</code></pre>
 ///
 /// [lane]: crate::specs::lanes::Lane#lane "lane i of the vector v"

@@ -7,9 +7,10 @@ use crate::rattle::simd::prelude::*;
 ///
 /// # Contract
 ///
-/// <span></span><pre><code>ensures number: number_l (2 ^ 8) result ≡ vector
+/// <span></span><pre><code>ensures number: [number_l] (2 ^ 8) result ≡ vector
 /// ensures lanes: (i : [ℕ]) → i < 16 → [slice_index_or] result i 0 ≡ [lane] [w8] vector i</code></pre>
 ///
+/// [number_l]: crate::specs::library#number_l "the number of digits of base p, the lowest first"
 /// [ℕ]: crate::specs::library#%E2%84%95 "the whole numbers from 0 on"
 /// [slice_index_or]: crate::specs::library#slice_index_or "element i of a list; x past its end"
 /// [lane]: crate::specs::lanes::Lane#lane "lane i of the vector v"
@@ -27,9 +28,10 @@ pub fn bytes_of(vector: V128) -> u8x16 {
 ///
 /// # Contract
 ///
-/// <span></span><pre><code>ensures number: number_l (2 ^ 8) result ≡ vector
+/// <span></span><pre><code>ensures number: [number_l] (2 ^ 8) result ≡ vector
 /// ensures lanes: (i : [ℕ]) → i < 16 → [slice_index_or] result i 0 ≡ [lane] [w8] vector i</code></pre>
 ///
+/// [number_l]: crate::specs::library#number_l "the number of digits of base p, the lowest first"
 /// [ℕ]: crate::specs::library#%E2%84%95 "the whole numbers from 0 on"
 /// [slice_index_or]: crate::specs::library#slice_index_or "element i of a list; x past its end"
 /// [lane]: crate::specs::lanes::Lane#lane "lane i of the vector v"
@@ -46,10 +48,11 @@ pub(crate) fn bytes_to_take_out(vector: V128) -> u8x16 {
 ///
 /// # Contract
 ///
-/// <span></span><pre><code>ensures number: result ≡ number_l (2 ^ 8) bytes
+/// <span></span><pre><code>ensures number: result ≡ [number_l] (2 ^ 8) bytes
 /// ensures lanes: (i : [ℕ]) → i < 16 → [lane] [w8] result i ≡ [slice_index_or] bytes i 0
 /// ensures in_range: result < 2 ^ 128</code></pre>
 ///
+/// [number_l]: crate::specs::library#number_l "the number of digits of base p, the lowest first"
 /// [ℕ]: crate::specs::library#%E2%84%95 "the whole numbers from 0 on"
 /// [lane]: crate::specs::lanes::Lane#lane "lane i of the vector v"
 /// [w8]: crate::specs::library#w8 "the widths of integers in bits"

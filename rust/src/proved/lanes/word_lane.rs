@@ -29,6 +29,11 @@ pub trait WordLane: LaneInteger {
     const ONES: u64;
 }
 
+/// # Contract
+///
+/// <span></span><pre><code>BITS = 8
+/// TOPS = 0x8080_8080_8080_8080
+/// ONES = 0x0101_0101_0101_0101</code></pre>
 impl WordLane for u8 {
     const BITS: u32 = 8;
 
@@ -37,6 +42,11 @@ impl WordLane for u8 {
     const ONES: u64 = 0x0101_0101_0101_0101;
 }
 
+/// # Contract
+///
+/// <span></span><pre><code>BITS = 16
+/// TOPS = 0x8000_8000_8000_8000
+/// ONES = 0x0001_0001_0001_0001</code></pre>
 impl WordLane for u16 {
     const BITS: u32 = 16;
 
@@ -45,6 +55,11 @@ impl WordLane for u16 {
     const ONES: u64 = 0x0001_0001_0001_0001;
 }
 
+/// # Contract
+///
+/// <span></span><pre><code>BITS = 32
+/// TOPS = 0x8000_0000_8000_0000
+/// ONES = 0x0000_0001_0000_0001</code></pre>
 impl WordLane for u32 {
     const BITS: u32 = 32;
 
@@ -53,6 +68,11 @@ impl WordLane for u32 {
     const ONES: u64 = 0x0000_0001_0000_0001;
 }
 
+/// # Contract
+///
+/// <span></span><pre><code>BITS = 64
+/// TOPS = 0x8000_0000_0000_0000
+/// ONES = 1</code></pre>
 impl WordLane for u64 {
     const BITS: u32 = 64;
 

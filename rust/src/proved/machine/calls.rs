@@ -507,6 +507,9 @@ pub struct ByteList {
     bytes: Vec<u8>,
 }
 
+/// # Contract
+///
+/// <span></span><pre><code>from_gives = λ bytes list. list ≡ bytes.items</code></pre>
 impl From<Vec<u8>> for ByteList {
     #[inline]
     fn from(bytes: Vec<u8>) -> Self {
@@ -526,6 +529,12 @@ impl ByteList {
     }
 }
 
+/// # Contract
+///
+/// <span></span><pre><code>eq = [pointwise] [nat_eq]</code></pre>
+///
+/// [pointwise]: crate::specs::library#pointwise "the lists are as long, and eq of each two elements"
+/// [nat_eq]: crate::specs::library#nat_eq "whether two numbers are equal, as a Boolean"
 impl PartialEq for ByteList {
     #[inline]
     fn eq(&self, other: &Self) -> bool {

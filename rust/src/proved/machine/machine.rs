@@ -132,7 +132,7 @@ impl<'r> Machine<'r> {
     /// &#32;&#32;&#32;&#32;→ [ConsumesFuel] self.old.meter amount ([amount_left] self.old.meter - amount) result
     /// &#32;&#32;&#32;&#32;self.new.meter
     /// ensures off: self.old.meter.left ≡ [None]
-    /// &#32;&#32;&#32;&#32;→ (result ≡ [Err] FuelError.FuelMeteringDisabled) × (self.new ≡ self.old)
+    /// &#32;&#32;&#32;&#32;→ (result ≡ [Err] [FuelError.FuelMeteringDisabled]) × (self.new ≡ self.old)
     /// ensures rest: self.new ≡ record self.old { meter = self.new.meter }
     /// ensures balance: [MatchResult] result
     /// &#32;&#32;&#32;&#32;(λ left. (self.new.meter.left ≡ [Some] left)
@@ -145,6 +145,7 @@ impl<'r> Machine<'r> {
     /// [amount_left]: crate::specs::meter::Meter#amount_left "what is left; nothing where the meter is off"
     /// [None]: crate::specs::library#None "no value, of an \`Option\`"
     /// [Err]: crate::specs::library#Err "the error e, of a \`Result\`"
+    /// [FuelError.FuelMeteringDisabled]: crate::proved::meter::FuelError::FuelMeteringDisabled
     /// [MatchResult]: crate::specs::library#MatchResult "P of the value, or Q of the error"
     /// [Some]: crate::specs::library#Some "the value x, of an \`Option\`"
     /// [meter_after]: crate::specs::meter::Meter#meter_after "the meter with an amount taken; one that is off stays"
@@ -254,10 +255,9 @@ impl<'r> Machine<'r> {
     ///
     /// # Contract
     ///
-    /// <span></span><pre><code>ensures: result ≡ [total] self.now [Bytes]</code></pre>
+    /// <span></span><pre><code>ensures: result ≡ [total] self.now Bytes</code></pre>
     ///
     /// [total]: crate::specs::machine::Totals#total "their sum"
-    /// [Bytes]: crate::proved::meter::Kind::Bytes
     #[inline]
     pub fn total_bytes(&self) -> u128 {
         self.store.memories.total()
@@ -268,10 +268,9 @@ impl<'r> Machine<'r> {
     ///
     /// # Contract
     ///
-    /// <span></span><pre><code>ensures: result ≡ [total] self.now [Elements]</code></pre>
+    /// <span></span><pre><code>ensures: result ≡ [total] self.now Elements</code></pre>
     ///
     /// [total]: crate::specs::machine::Totals#total "their sum"
-    /// [Elements]: crate::proved::meter::Kind::Elements
     #[inline]
     pub fn total_elements(&self) -> u128 {
         self.store.tables.total()

@@ -16,12 +16,13 @@ impl<'r> Slots<Memory<'r>> {
     /// # Contract
     ///
     /// <span></span><pre><code>ensures loan: [KeepsLoan] limiter.old limiter.new
-    /// ensures made: [Creates] Reply.Memory
+    /// ensures made: [Creates] [Reply.Memory]
     /// &#32;&#32;&#32;&#32;([MakesMemory] ([optional_rules] [L.rules]) [Owned] ty) self.old.slots.items
     /// &#32;&#32;&#32;&#32;([lent_limiter] limiter.old) result self.new.slots.items ([lent_limiter] limiter.new)</code></pre>
     ///
     /// [KeepsLoan]: crate::specs::meter::LimiterRef#KeepsLoan "r\' leads to what r leads to"
     /// [Creates]: crate::specs::machine::Effects#Creates "a creation under a limiter: without room for a slot nothing is asked"
+    /// [Reply.Memory]: crate::proved::machine::Reply::Memory
     /// [MakesMemory]: crate::specs::store::Memory#MakesMemory "a memory of a type is made in a room"
     /// [optional_rules]: crate::specs::meter::Limiter#optional_rules "the rules of a limiter that may be absent"
     /// [L.rules]: trait@ResourceLimiter#contract
@@ -87,7 +88,7 @@ impl<'r> Slots<Memory<'r>> {
     ///
     /// <span></span><pre><code>ensures loan: [KeepsLoan] limiter.old limiter.new
     /// ensures grown: [WithCharge]
-    /// &#32;&#32;&#32;&#32;([ActsAt] index ([reply_of] Reply.Number Reply.Memory)
+    /// &#32;&#32;&#32;&#32;([ActsAt] index ([reply_of] [Reply.Number] [Reply.Memory])
     /// &#32;&#32;&#32;&#32;([GrowsMemoryCharging] ([optional_rules] [L.rules]) pages))
     /// &#32;&#32;&#32;&#32;([metered_value] self.old.slots.items ([Some] fuel.old) ([lent_limiter] limiter.old)) result
     /// &#32;&#32;&#32;&#32;([metered_value] self.new.slots.items ([Some] fuel.new) ([lent_limiter] limiter.new))</code></pre>
@@ -96,6 +97,8 @@ impl<'r> Slots<Memory<'r>> {
     /// [WithCharge]: crate::specs::store::Growth#WithCharge "a call on a value takes place, with some charge"
     /// [ActsAt]: crate::specs::machine::Effects#ActsAt "a call with a charge on the live value of an index, with the reply to each result"
     /// [reply_of]: crate::specs::machine::Effects#reply_of "the reply to a call that returns a value or is refused"
+    /// [Reply.Number]: crate::proved::machine::Reply::Number
+    /// [Reply.Memory]: crate::proved::machine::Reply::Memory
     /// [GrowsMemoryCharging]: crate::specs::store::Memory#GrowsMemoryCharging "a memory grows by so many pages, with this charge; it returns the old size in pages"
     /// [optional_rules]: crate::specs::meter::Limiter#optional_rules "the rules of a limiter that may be absent"
     /// [L.rules]: trait@ResourceLimiter#contract
@@ -258,9 +261,11 @@ impl<'r> Slots<Memory<'r>> {
 ///
 /// # Contract
 ///
-/// <span></span><pre><code>ensures: result ≡ [reply_of] (λ \_. Reply.Done) Reply.Trap answer</code></pre>
+/// <span></span><pre><code>ensures: result ≡ [reply_of] (λ \_. [Reply.Done]) [Reply.Trap] answer</code></pre>
 ///
 /// [reply_of]: crate::specs::machine::Effects#reply_of "the reply to a call that returns a value or is refused"
+/// [Reply.Done]: crate::proved::machine::Reply::Done
+/// [Reply.Trap]: crate::proved::machine::Reply::Trap
 #[inline(always)]
 fn stored(answer: Result<(), TrapCode>) -> Reply {
     answer.map_or_else(Reply::Trap, |()| Reply::Done)

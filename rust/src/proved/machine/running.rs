@@ -43,7 +43,7 @@ impl<'r> Machine<'r> {
     /// # Contract
     ///
     /// <span></span><pre><code>ensures loan: [KeepsLoan] limiter.old limiter.new
-    /// ensures step: [Answers] ([optional_rules] [L.rules]) ([GrowMemory] memory pages)
+    /// ensures step: [Answers] ([optional_rules] [L.rules]) (GrowMemory memory pages)
     /// &#32;&#32;&#32;&#32;([world] self.old ([lent_limiter] limiter.old)) result
     /// &#32;&#32;&#32;&#32;([world] self.new ([lent_limiter] limiter.new))
     /// ensures valid: [IsValid] self.new</code></pre>
@@ -52,7 +52,6 @@ impl<'r> Machine<'r> {
     /// [Answers]: crate::specs::machine::Steps#Answers "a call is answered by a reply: there is a step by it, with some charge and some bytes written"
     /// [optional_rules]: crate::specs::meter::Limiter#optional_rules "the rules of a limiter that may be absent"
     /// [L.rules]: trait@ResourceLimiter#contract
-    /// [GrowMemory]: crate::proved::machine::Call::GrowMemory
     /// [world]: crate::specs::machine::World#world "a machine in this state with this limiter"
     /// [lent_limiter]: crate::specs::meter::LimiterRef#lent_limiter "the present value of the limiter that is lent, or none"
     /// [IsValid]: crate::specs::machine::Validity#IsValid "memories and tables have valid types and as many whole pages and elements as these allow, segments aren\'t too long, and there are 16 registers"
@@ -71,14 +70,13 @@ impl<'r> Machine<'r> {
     ///
     /// # Contract
     ///
-    /// <span></span><pre><code>ensures step: [Answers] ([optional_rules] [L.rules]) ([GrowMemory] memory pages)
+    /// <span></span><pre><code>ensures step: [Answers] ([optional_rules] [L.rules]) (GrowMemory memory pages)
     /// &#32;&#32;&#32;&#32;([world] self.old ([Some] limiter.old)) result ([world] self.new ([Some] limiter.new))
     /// ensures valid: [IsValid] self.new</code></pre>
     ///
     /// [Answers]: crate::specs::machine::Steps#Answers "a call is answered by a reply: there is a step by it, with some charge and some bytes written"
     /// [optional_rules]: crate::specs::meter::Limiter#optional_rules "the rules of a limiter that may be absent"
     /// [L.rules]: trait@ResourceLimiter#contract
-    /// [GrowMemory]: crate::proved::machine::Call::GrowMemory
     /// [world]: crate::specs::machine::World#world "a machine in this state with this limiter"
     /// [Some]: crate::specs::library#Some "the value x, of an \`Option\`"
     /// [IsValid]: crate::specs::machine::Validity#IsValid "memories and tables have valid types and as many whole pages and elements as these allow, segments aren\'t too long, and there are 16 registers"

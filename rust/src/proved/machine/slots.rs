@@ -44,13 +44,15 @@ impl<T> Slot<T> {
     /// # Contract
     ///
     /// <span></span><pre><code>requires live: [IsSome] ([live_value] self.old)
-    /// ensures\* writes_back: [sem] 𝓛 ([Lends] (the_row T.row) T.row self.entry result Live)
+    /// ensures\* writes_back: [sem] 𝓛 ([Lends] ([the_row] [T.row]) [T.row] self.entry result Live)
     /// ensures value: [live_value] self.old ≡ [Some] result.now</code></pre>
     ///
     /// [IsSome]: crate::specs::library#IsSome "there is a value"
     /// [live_value]: crate::specs::machine::State#live_value "the value in a slot, if it wasn\'t dropped"
     /// [sem]: crate::specs::library#sem "the fixed form of a clause on a loan"
     /// [Lends]: crate::specs::library#Lends "the result r borrows from x: what is written through r last, w, makes x the value F w"
+    /// [the_row]: crate::specs::library#the_row "the type itself, in a clause on a loan"
+    /// [T.row]: crate::specs::library#row "a type, in a clause on a loan"
     /// [Some]: crate::specs::library#Some "the value x, of an \`Option\`"
     #[inline]
     fn value_mut(&mut self) -> &mut T {
@@ -117,12 +119,14 @@ impl<T> Slots<T> {
     ///
     /// # Contract
     ///
-    /// <span></span><pre><code>ensures\* writes_back: [sem] 𝓛 ([LendsIf] (the_row T.row) T.row self.entry result
+    /// <span></span><pre><code>ensures\* writes_back: [sem] 𝓛 ([LendsIf] ([the_row] [T.row]) [T.row] self.entry result
     /// &#32;&#32;&#32;&#32;([with_live] self.old index) self.old)
     /// ensures value: [option_copied_mut] result ≡ [live_at] self.old.slots.items index</code></pre>
     ///
     /// [sem]: crate::specs::library#sem "the fixed form of a clause on a loan"
     /// [LendsIf]: crate::specs::library#LendsIf "as \`Lends\` where the result is a value; else x is v"
+    /// [the_row]: crate::specs::library#the_row "the type itself, in a clause on a loan"
+    /// [T.row]: crate::specs::library#row "a type, in a clause on a loan"
     /// [with_live]: crate::specs::machine::State#with_live "the slots with this live value at an index"
     /// [option_copied_mut]: crate::specs::library#option_copied_mut "the value behind an optional \`&mut\`, if there is one"
     /// [live_at]: crate::specs::machine::State#live_at "the live value of an index, if there is one"
@@ -139,13 +143,15 @@ impl<T> Slots<T> {
     ///
     /// <span></span><pre><code>requires live: [IsSome] ([live_at] self.old.slots.items index)
     /// ensures\* writes_back: [sem] 𝓛
-    /// &#32;&#32;&#32;&#32;([Lends] (the_row T.row) T.row self.entry result ([with_live] self.old index))
+    /// &#32;&#32;&#32;&#32;([Lends] ([the_row] [T.row]) [T.row] self.entry result ([with_live] self.old index))
     /// ensures value: [live_at] self.old.slots.items index ≡ [Some] result.now</code></pre>
     ///
     /// [IsSome]: crate::specs::library#IsSome "there is a value"
     /// [live_at]: crate::specs::machine::State#live_at "the live value of an index, if there is one"
     /// [sem]: crate::specs::library#sem "the fixed form of a clause on a loan"
     /// [Lends]: crate::specs::library#Lends "the result r borrows from x: what is written through r last, w, makes x the value F w"
+    /// [the_row]: crate::specs::library#the_row "the type itself, in a clause on a loan"
+    /// [T.row]: crate::specs::library#row "a type, in a clause on a loan"
     /// [with_live]: crate::specs::machine::State#with_live "the slots with this live value at an index"
     /// [Some]: crate::specs::library#Some "the value x, of an \`Option\`"
     #[inline]

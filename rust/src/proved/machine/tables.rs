@@ -12,12 +12,13 @@ impl Slots<Table> {
     /// # Contract
     ///
     /// <span></span><pre><code>ensures loan: [KeepsLoan] limiter.old limiter.new
-    /// ensures made: [Creates] Reply.Table
+    /// ensures made: [Creates] [Reply.Table]
     /// &#32;&#32;&#32;&#32;([MakesTable] ([optional_rules] [L.rules]) ty init) self.old.slots.items
     /// &#32;&#32;&#32;&#32;([lent_limiter] limiter.old) result self.new.slots.items ([lent_limiter] limiter.new)</code></pre>
     ///
     /// [KeepsLoan]: crate::specs::meter::LimiterRef#KeepsLoan "r\' leads to what r leads to"
     /// [Creates]: crate::specs::machine::Effects#Creates "a creation under a limiter: without room for a slot nothing is asked"
+    /// [Reply.Table]: crate::proved::machine::Reply::Table
     /// [MakesTable]: crate::specs::store::Table#MakesTable "a table of a type is made of a reference"
     /// [optional_rules]: crate::specs::meter::Limiter#optional_rules "the rules of a limiter that may be absent"
     /// [L.rules]: trait@ResourceLimiter#contract
@@ -44,7 +45,7 @@ impl Slots<Table> {
     ///
     /// <span></span><pre><code>ensures loan: [KeepsLoan] limiter.old limiter.new
     /// ensures grown: [WithCharge]
-    /// &#32;&#32;&#32;&#32;([ActsAt] index ([reply_of] Reply.Number Reply.Table)
+    /// &#32;&#32;&#32;&#32;([ActsAt] index ([reply_of] [Reply.Number] [Reply.Table])
     /// &#32;&#32;&#32;&#32;([GrowsTableCharging] ([optional_rules] [L.rules]) delta init))
     /// &#32;&#32;&#32;&#32;([metered_value] self.old.slots.items ([Some] fuel.old) ([lent_limiter] limiter.old)) result
     /// &#32;&#32;&#32;&#32;([metered_value] self.new.slots.items ([Some] fuel.new) ([lent_limiter] limiter.new))</code></pre>
@@ -53,6 +54,8 @@ impl Slots<Table> {
     /// [WithCharge]: crate::specs::store::Growth#WithCharge "a call on a value takes place, with some charge"
     /// [ActsAt]: crate::specs::machine::Effects#ActsAt "a call with a charge on the live value of an index, with the reply to each result"
     /// [reply_of]: crate::specs::machine::Effects#reply_of "the reply to a call that returns a value or is refused"
+    /// [Reply.Number]: crate::proved::machine::Reply::Number
+    /// [Reply.Table]: crate::proved::machine::Reply::Table
     /// [GrowsTableCharging]: crate::specs::store::Table#GrowsTableCharging "a growth by a reference that has a type, with this charge: the type is tested first, also for no element, and where it is another, nothing is touched"
     /// [optional_rules]: crate::specs::meter::Limiter#optional_rules "the rules of a limiter that may be absent"
     /// [L.rules]: trait@ResourceLimiter#contract
@@ -308,9 +311,11 @@ fn copy_from_slot(
 ///
 /// # Contract
 ///
-/// <span></span><pre><code>ensures: result ≡ [reply_of] (λ \_. Reply.Done) Reply.Table answer</code></pre>
+/// <span></span><pre><code>ensures: result ≡ [reply_of] (λ \_. [Reply.Done]) [Reply.Table] answer</code></pre>
 ///
 /// [reply_of]: crate::specs::machine::Effects#reply_of "the reply to a call that returns a value or is refused"
+/// [Reply.Done]: crate::proved::machine::Reply::Done
+/// [Reply.Table]: crate::proved::machine::Reply::Table
 #[inline(always)]
 fn done(answer: Result<(), TableError>) -> Reply {
     answer.map_or_else(Reply::Table, |()| Reply::Done)

@@ -12,6 +12,12 @@ pub enum LimiterError {
     ResourceLimiterDeniedAllocation,
 }
 
+/// # Contract
+///
+/// <span></span><pre><code>output = λ error. [Some] ([limiter_error_text] error)</code></pre>
+///
+/// [Some]: crate::specs::library#Some "the value x, of an \`Option\`"
+/// [limiter_error_text]: crate::specs::meter::Texts#limiter_error_text "the text of a limiter\'s error"
 impl fmt::Display for LimiterError {
     #[inline]
     fn fmt(&self, f: &mut fmt::Formatter<'_>) -> fmt::Result {
@@ -50,6 +56,12 @@ pub enum MemoryError {
     },
 }
 
+/// # Contract
+///
+/// <span></span><pre><code>output = λ error. [Some] ([memory_error_text] error)</code></pre>
+///
+/// [Some]: crate::specs::library#Some "the value x, of an \`Option\`"
+/// [memory_error_text]: crate::specs::meter::Texts#memory_error_text "the text of an error of a memory"
 impl fmt::Display for MemoryError {
     #[inline]
     fn fmt(&self, f: &mut fmt::Formatter<'_>) -> fmt::Result {
@@ -114,6 +126,12 @@ pub enum TableError {
     },
 }
 
+/// # Contract
+///
+/// <span></span><pre><code>output = λ error. [Some] ([table_error_text] error)</code></pre>
+///
+/// [Some]: crate::specs::library#Some "the value x, of an \`Option\`"
+/// [table_error_text]: crate::specs::meter::Texts#table_error_text "the text of an error of a table"
 impl fmt::Display for TableError {
     #[inline]
     fn fmt(&self, f: &mut fmt::Formatter<'_>) -> fmt::Result {
@@ -142,6 +160,9 @@ impl fmt::Display for TableError {
 
 impl core::error::Error for TableError {}
 
+/// # Contract
+///
+/// <span></span><pre><code>from_gives = λ \_ error. error ≡ memory.ResourceLimiterDeniedAllocation</code></pre>
 impl From<LimiterError> for MemoryError {
     #[inline]
     fn from(_: LimiterError) -> Self {
@@ -149,6 +170,9 @@ impl From<LimiterError> for MemoryError {
     }
 }
 
+/// # Contract
+///
+/// <span></span><pre><code>from_gives = λ \_ error. error ≡ table.ResourceLimiterDeniedAllocation</code></pre>
 impl From<LimiterError> for TableError {
     #[inline]
     fn from(_: LimiterError) -> Self {
@@ -156,6 +180,11 @@ impl From<LimiterError> for TableError {
     }
 }
 
+/// # Contract
+///
+/// <span></span><pre><code>try_from_gives = [IsOfFuel]</code></pre>
+///
+/// [IsOfFuel]: crate::specs::meter::Errors#IsOfFuel "too little fuel is an error of a table; that a meter is off is none, and is handed back"
 impl TableError {
     // The error of a meter that is off is handed back. Upstream panics there.
     #[inline]

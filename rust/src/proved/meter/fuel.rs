@@ -18,6 +18,7 @@ pub trait ValueSize {
     const SIZE: u64;
 }
 
+/// The size in memory. Proved are the 1 of a byte and the 4 of a reference.
 impl<T> ValueSize for T {
     const SIZE: u64 = size_of::<T>() as u64;
 }
@@ -68,6 +69,9 @@ pub struct CustomFuelCosts {
     pub fuel_per_bytes_validated: u32,
 }
 
+/// # Contract
+///
+/// <span></span><pre><code>costs = λ c. c</code></pre>
 impl FuelCosts for CustomFuelCosts {
     #[inline]
     fn bytes_copied_per_fuel(&self) -> u32 {
@@ -193,7 +197,9 @@ impl FuelError {
     ///
     /// # Contract
     ///
-    /// <span></span><pre><code>ensures: result ≡ FuelError.FuelMeteringDisabled</code></pre>
+    /// <span></span><pre><code>ensures: result ≡ [FuelError.FuelMeteringDisabled]</code></pre>
+    ///
+    /// [FuelError.FuelMeteringDisabled]: crate::proved::meter::FuelError::FuelMeteringDisabled
     #[cold]
     pub fn fuel_metering_disabled() -> Self {
         FuelError::FuelMeteringDisabled
@@ -203,13 +209,21 @@ impl FuelError {
     ///
     /// # Contract
     ///
-    /// <span></span><pre><code>ensures: result ≡ FuelError.OutOfFuel required_fuel</code></pre>
+    /// <span></span><pre><code>ensures: result ≡ [FuelError.OutOfFuel] required_fuel</code></pre>
+    ///
+    /// [FuelError.OutOfFuel]: crate::proved::meter::FuelError::OutOfFuel
     #[cold]
     pub fn out_of_fuel(required_fuel: u64) -> Self {
         FuelError::OutOfFuel { required_fuel }
     }
 }
 
+/// # Contract
+///
+/// <span></span><pre><code>output = λ error. [Some] ([fuel_error_text] error)</code></pre>
+///
+/// [Some]: crate::specs::library#Some "the value x, of an \`Option\`"
+/// [fuel_error_text]: crate::specs::meter::Texts#fuel_error_text "the text of an error of the meter"
 impl fmt::Display for FuelError {
     #[inline]
     fn fmt(&self, f: &mut fmt::Formatter<'_>) -> fmt::Result {
@@ -300,13 +314,15 @@ impl Fuel {
 
     /// # Contract
     ///
-    /// <span></span><pre><code>ensures on: [IsSome] self.now.left → result ≡ [Ok] tt
-    /// ensures off: self.now.left ≡ [None] → result ≡ [Err] FuelError.FuelMeteringDisabled</code></pre>
+    /// <span></span><pre><code>ensures on: [IsSome] self.now.left → result ≡ [Ok] [tt]
+    /// ensures off: self.now.left ≡ [None] → result ≡ [Err] [FuelError.FuelMeteringDisabled]</code></pre>
     ///
     /// [IsSome]: crate::specs::library#IsSome "there is a value"
     /// [Ok]: crate::specs::library#Ok "the value x, of a \`Result\`"
+    /// [tt]: crate::specs::library#tt "the value \`()\`"
     /// [None]: crate::specs::library#None "no value, of an \`Option\`"
     /// [Err]: crate::specs::library#Err "the error e, of a \`Result\`"
+    /// [FuelError.FuelMeteringDisabled]: crate::proved::meter::FuelError::FuelMeteringDisabled
     #[inline]
     fn check_fuel_metering_enabled(&self) -> Result<(), FuelError> {
         if !self.enabled {
@@ -320,15 +336,17 @@ impl Fuel {
     /// # Contract
     ///
     /// <span></span><pre><code>ensures on: [IsSome] self.old.left
-    /// &#32;&#32;&#32;&#32;→ (result ≡ [Ok] tt) × (self.new ≡ [meter_set] self.old fuel)
+    /// &#32;&#32;&#32;&#32;→ (result ≡ [Ok] [tt]) × (self.new ≡ [meter_set] self.old fuel)
     /// ensures off: self.old.left ≡ [None]
-    /// &#32;&#32;&#32;&#32;→ (result ≡ [Err] FuelError.FuelMeteringDisabled) × (self.new ≡ self.old)</code></pre>
+    /// &#32;&#32;&#32;&#32;→ (result ≡ [Err] [FuelError.FuelMeteringDisabled]) × (self.new ≡ self.old)</code></pre>
     ///
     /// [IsSome]: crate::specs::library#IsSome "there is a value"
     /// [Ok]: crate::specs::library#Ok "the value x, of a \`Result\`"
+    /// [tt]: crate::specs::library#tt "the value \`()\`"
     /// [meter_set]: crate::specs::meter::Meter#meter_set "the meter set to an amount; one that is off stays"
     /// [None]: crate::specs::library#None "no value, of an \`Option\`"
     /// [Err]: crate::specs::library#Err "the error e, of a \`Result\`"
+    /// [FuelError.FuelMeteringDisabled]: crate::proved::meter::FuelError::FuelMeteringDisabled
     #[inline]
     pub fn set_fuel(&mut self, fuel: u64) -> Result<(), FuelError> {
         self.check_fuel_metering_enabled()?;
@@ -341,13 +359,14 @@ impl Fuel {
     /// # Contract
     ///
     /// <span></span><pre><code>ensures on: [IsSome] self.now.left → result ≡ [Ok] ([amount_left] self.now)
-    /// ensures off: self.now.left ≡ [None] → result ≡ [Err] FuelError.FuelMeteringDisabled</code></pre>
+    /// ensures off: self.now.left ≡ [None] → result ≡ [Err] [FuelError.FuelMeteringDisabled]</code></pre>
     ///
     /// [IsSome]: crate::specs::library#IsSome "there is a value"
     /// [Ok]: crate::specs::library#Ok "the value x, of a \`Result\`"
     /// [amount_left]: crate::specs::meter::Meter#amount_left "what is left; nothing where the meter is off"
     /// [None]: crate::specs::library#None "no value, of an \`Option\`"
     /// [Err]: crate::specs::library#Err "the error e, of a \`Result\`"
+    /// [FuelError.FuelMeteringDisabled]: crate::proved::meter::FuelError::FuelMeteringDisabled
     #[inline]
     pub fn get_fuel(&self) -> Result<u64, FuelError> {
         self.check_fuel_metering_enabled()?;
@@ -379,20 +398,23 @@ impl Fuel {
     ///
     /// # Contract
     ///
-    /// <span></span><pre><code>requires callable: [IsSome] self.old.left → C.IsAlwaysCallable f
+    /// <span></span><pre><code>requires callable: [IsSome] self.old.left → [C.IsAlwaysCallable] f
     /// ensures on: [IsSome] self.old.left
-    /// &#32;&#32;&#32;&#32;→ (amount : [ℕ]) × [Computes] C.FnOnce f self.old.costs amount
+    /// &#32;&#32;&#32;&#32;→ (amount : [ℕ]) × [Computes] [C.FnOnce] f self.old.costs amount
     /// &#32;&#32;&#32;&#32;× [ConsumesFuel] self.old amount ([amount_left] self.old - amount) result self.new
     /// ensures off: self.old.left ≡ [None]
-    /// &#32;&#32;&#32;&#32;→ (result ≡ [Err] FuelError.FuelMeteringDisabled) × (self.new ≡ self.old)</code></pre>
+    /// &#32;&#32;&#32;&#32;→ (result ≡ [Err] [FuelError.FuelMeteringDisabled]) × (self.new ≡ self.old)</code></pre>
     ///
     /// [IsSome]: crate::specs::library#IsSome "there is a value"
+    /// [C.IsAlwaysCallable]: crate::specs::library#IsAlwaysCallable "the closure may be called on all arguments"
     /// [ℕ]: crate::specs::library#%E2%84%95 "the whole numbers from 0 on"
     /// [Computes]: crate::specs::meter::Costs#Computes "f, called with a provider of these costs, returns the amount"
+    /// [C.FnOnce]: crate::specs::library#FnOnce "the calls of a closure"
     /// [ConsumesFuel]: crate::specs::meter::Meter#ConsumesFuel "an amount is taken where that much is left, and is refused else"
     /// [amount_left]: crate::specs::meter::Meter#amount_left "what is left; nothing where the meter is off"
     /// [None]: crate::specs::library#None "no value, of an \`Option\`"
     /// [Err]: crate::specs::library#Err "the error e, of a \`Result\`"
+    /// [FuelError.FuelMeteringDisabled]: crate::proved::meter::FuelError::FuelMeteringDisabled
     #[inline]
     pub fn consume_fuel(
         &mut self,
@@ -408,16 +430,19 @@ impl Fuel {
     ///
     /// # Contract
     ///
-    /// <span></span><pre><code>requires callable: [IsSome] self.old.left → C.IsAlwaysCallable f
+    /// <span></span><pre><code>requires callable: [IsSome] self.old.left → [C.IsAlwaysCallable] f
     /// ensures on: [IsSome] self.old.left
-    /// &#32;&#32;&#32;&#32;→ (amount : [ℕ]) × [Computes] C.FnOnce f self.old.costs amount
-    /// &#32;&#32;&#32;&#32;× [ConsumesFuel] self.old amount tt result self.new
-    /// ensures off: self.old.left ≡ [None] → (result ≡ [Ok] tt) × (self.new ≡ self.old)</code></pre>
+    /// &#32;&#32;&#32;&#32;→ (amount : [ℕ]) × [Computes] [C.FnOnce] f self.old.costs amount
+    /// &#32;&#32;&#32;&#32;× [ConsumesFuel] self.old amount [tt] result self.new
+    /// ensures off: self.old.left ≡ [None] → (result ≡ [Ok] [tt]) × (self.new ≡ self.old)</code></pre>
     ///
     /// [IsSome]: crate::specs::library#IsSome "there is a value"
+    /// [C.IsAlwaysCallable]: crate::specs::library#IsAlwaysCallable "the closure may be called on all arguments"
     /// [ℕ]: crate::specs::library#%E2%84%95 "the whole numbers from 0 on"
     /// [Computes]: crate::specs::meter::Costs#Computes "f, called with a provider of these costs, returns the amount"
+    /// [C.FnOnce]: crate::specs::library#FnOnce "the calls of a closure"
     /// [ConsumesFuel]: crate::specs::meter::Meter#ConsumesFuel "an amount is taken where that much is left, and is refused else"
+    /// [tt]: crate::specs::library#tt "the value \`()\`"
     /// [None]: crate::specs::library#None "no value, of an \`Option\`"
     /// [Ok]: crate::specs::library#Ok "the value x, of a \`Result\`"
     #[inline]

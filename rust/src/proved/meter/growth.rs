@@ -56,6 +56,11 @@ pub trait GrowthError {
     ) -> Result<(), LimiterError>;
 }
 
+/// # Contract
+///
+/// <span></span><pre><code>notice = [MemoryFailure]</code></pre>
+///
+/// [MemoryFailure]: crate::specs::meter::Limiter#MemoryFailure
 impl GrowthError for MemoryError {
     #[inline]
     fn notify<L: ResourceLimiter>(
@@ -66,6 +71,11 @@ impl GrowthError for MemoryError {
     }
 }
 
+/// # Contract
+///
+/// <span></span><pre><code>notice = [TableFailure]</code></pre>
+///
+/// [TableFailure]: crate::specs::meter::Limiter#TableFailure
 impl GrowthError for TableError {
     #[inline]
     fn notify<L: ResourceLimiter>(

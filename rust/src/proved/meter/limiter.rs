@@ -47,10 +47,8 @@ pub trait ResourceLimiter {
     ///
     /// <span></span><pre><code>requires grows: current ≤ desired
     /// ensures asked: rules.asked self.old
-    /// &#32;&#32;&#32;&#32;(record { kind = [Bytes]; current = current; desired = desired; maximum = maximum })
+    /// &#32;&#32;&#32;&#32;(record { kind = Bytes; current = current; desired = desired; maximum = maximum })
     /// &#32;&#32;&#32;&#32;result self.new</code></pre>
-    ///
-    /// [Bytes]: crate::proved::meter::Kind::Bytes
     fn memory_growing(
         &mut self,
         current: usize,
@@ -65,10 +63,8 @@ pub trait ResourceLimiter {
     ///
     /// <span></span><pre><code>requires grows: current ≤ desired
     /// ensures asked: rules.asked self.old
-    /// &#32;&#32;&#32;&#32;(record { kind = [Elements]; current = current; desired = desired; maximum = maximum })
+    /// &#32;&#32;&#32;&#32;(record { kind = Elements; current = current; desired = desired; maximum = maximum })
     /// &#32;&#32;&#32;&#32;result self.new</code></pre>
-    ///
-    /// [Elements]: crate::proved::meter::Kind::Elements
     fn table_growing(
         &mut self,
         current: usize,
@@ -172,6 +168,11 @@ pub trait LimiterByKind {
     fn grow_failed(&mut self, kind: Kind) -> Result<(), LimiterError>;
 }
 
+/// # Contract
+///
+/// <span></span><pre><code>rules = [L.kind_rules]</code></pre>
+///
+/// [L.kind_rules]: trait@LimiterByKind#contract
 impl<L: LimiterByKind> ResourceLimiter for L {
     #[inline]
     fn memory_growing(
@@ -205,7 +206,9 @@ impl<L: LimiterByKind> ResourceLimiter for L {
 
     /// # Contract
     ///
-    /// <span></span><pre><code>ensures: result ≡ usize.MAX</code></pre>
+    /// <span></span><pre><code>ensures: result ≡ [usize.MAX]</code></pre>
+    ///
+    /// [usize.MAX]: crate::specs::library#MAX "the greatest value of an integer type"
     #[inline]
     fn instances(&self) -> usize {
         usize::MAX
@@ -213,7 +216,9 @@ impl<L: LimiterByKind> ResourceLimiter for L {
 
     /// # Contract
     ///
-    /// <span></span><pre><code>ensures: result ≡ usize.MAX</code></pre>
+    /// <span></span><pre><code>ensures: result ≡ [usize.MAX]</code></pre>
+    ///
+    /// [usize.MAX]: crate::specs::library#MAX "the greatest value of an integer type"
     #[inline]
     fn tables(&self) -> usize {
         usize::MAX
@@ -221,7 +226,9 @@ impl<L: LimiterByKind> ResourceLimiter for L {
 
     /// # Contract
     ///
-    /// <span></span><pre><code>ensures: result ≡ usize.MAX</code></pre>
+    /// <span></span><pre><code>ensures: result ≡ [usize.MAX]</code></pre>
+    ///
+    /// [usize.MAX]: crate::specs::library#MAX "the greatest value of an integer type"
     #[inline]
     fn memories(&self) -> usize {
         usize::MAX
@@ -234,6 +241,11 @@ impl<L: LimiterByKind> ResourceLimiter for L {
 #[derive(Clone, Copy, Debug)]
 pub struct NoLimits;
 
+/// # Contract
+///
+/// <span></span><pre><code>kind_rules = [unlimited_rules]</code></pre>
+///
+/// [unlimited_rules]: crate::specs::meter::Limiter#unlimited_rules "the rules of a limiter that permits everything, accepts each notice, and stays the same"
 impl LimiterByKind for NoLimits {
     #[inline]
     fn growing(

@@ -36,11 +36,17 @@ pub trait Lender: sealed::Sealed {
     ///
     /// [sem]: crate::specs::library#sem "the fixed form of a clause on a loan"
     /// [Lends]: crate::specs::library#Lends "the result r borrows from x: what is written through r last, w, makes x the value F w"
-    /// [Self.row]: trait@Lender#contract
+    /// [Self.row]: crate::specs::library#row "a type, in a clause on a loan"
     /// [Self.Lent]: trait@Lender#contract
     fn lend(&mut self) -> &mut Self::Lent;
 }
 
+/// # Contract
+///
+/// <span></span><pre><code>shown = λ l. l.now
+/// last = [at_last]</code></pre>
+///
+/// [at_last]: crate::specs::library#at_last "the reference r, whose last value is x"
 impl<'a, L> Lender for &'a mut L {
     type Lent = L;
 
@@ -73,6 +79,12 @@ impl<R> fmt::Debug for LimiterRef<R> {
 /// Upstream: `wasmi_core::ResourceLimiterRef`.
 pub type ResourceLimiterRef<'a, L> = LimiterRef<&'a mut L>;
 
+/// # Contract
+///
+/// <span></span><pre><code>is_default = λ r. [loan] r ≡ [None]</code></pre>
+///
+/// [loan]: crate::specs::meter::LimiterRef#loan "what is lent, if anything"
+/// [None]: crate::specs::library#None "no value, of an \`Option\`"
 impl<'a, L> Default for LimiterRef<&'a mut L> {
     #[inline]
     fn default() -> Self {
@@ -80,6 +92,12 @@ impl<'a, L> Default for LimiterRef<&'a mut L> {
     }
 }
 
+/// # Contract
+///
+/// <span></span><pre><code>from_gives = λ l r. [loan] r ≡ [Some] l</code></pre>
+///
+/// [loan]: crate::specs::meter::LimiterRef#loan "what is lent, if anything"
+/// [Some]: crate::specs::library#Some "the value x, of an \`Option\`"
 impl<'a, L> From<&'a mut L> for LimiterRef<&'a mut L> {
     #[inline]
     fn from(limiter: &'a mut L) -> Self {
@@ -114,7 +132,7 @@ impl<R> LimiterRef<R> {
     ///
     /// [sem]: crate::specs::library#sem "the fixed form of a clause on a loan"
     /// [LendsLimiter]: crate::specs::meter::Lending#LendsLimiter "r lends the limiter out of s, and s ends with the last value that was written through it"
-    /// [R.row]: trait@Lender#contract
+    /// [R.row]: crate::specs::library#row "a type, in a clause on a loan"
     /// [R.Lent]: trait@Lender#contract
     /// [R.Lender]: trait@Lender#contract
     /// [option_copied_mut]: crate::specs::library#option_copied_mut "the value behind an optional \`&mut\`, if there is one"
@@ -143,17 +161,15 @@ impl<'a, L: ResourceLimiter> LimiterRef<&'a mut L> {
     /// # Contract
     ///
     /// <span></span><pre><code>requires grows: current ≤ desired
-    /// ensures [loan]\: [KeepsLoan] self.old self.new
+    /// ensures loan: [KeepsLoan] self.old self.new
     /// ensures asked: ([optional_rules] [L.rules]).asked ([lent_limiter] self.old)
-    /// &#32;&#32;&#32;&#32;(record { kind = [Bytes]; current = current; desired = desired; maximum = maximum })
+    /// &#32;&#32;&#32;&#32;(record { kind = Bytes; current = current; desired = desired; maximum = maximum })
     /// &#32;&#32;&#32;&#32;result ([lent_limiter] self.new)</code></pre>
     ///
-    /// [loan]: crate::specs::meter::LimiterRef#loan "what is lent, if anything"
     /// [KeepsLoan]: crate::specs::meter::LimiterRef#KeepsLoan "r\' leads to what r leads to"
     /// [optional_rules]: crate::specs::meter::Limiter#optional_rules "the rules of a limiter that may be absent"
     /// [L.rules]: trait@ResourceLimiter#contract
     /// [lent_limiter]: crate::specs::meter::LimiterRef#lent_limiter "the present value of the limiter that is lent, or none"
-    /// [Bytes]: crate::proved::meter::Kind::Bytes
     #[inline]
     pub fn memory_growing(
         &mut self,
@@ -181,17 +197,15 @@ impl<'a, L: ResourceLimiter> LimiterRef<&'a mut L> {
     /// # Contract
     ///
     /// <span></span><pre><code>requires grows: current ≤ desired
-    /// ensures [loan]\: [KeepsLoan] self.old self.new
+    /// ensures loan: [KeepsLoan] self.old self.new
     /// ensures asked: ([optional_rules] [L.rules]).asked ([lent_limiter] self.old)
-    /// &#32;&#32;&#32;&#32;(record { kind = [Elements]; current = current; desired = desired; maximum = maximum })
+    /// &#32;&#32;&#32;&#32;(record { kind = Elements; current = current; desired = desired; maximum = maximum })
     /// &#32;&#32;&#32;&#32;result ([lent_limiter] self.new)</code></pre>
     ///
-    /// [loan]: crate::specs::meter::LimiterRef#loan "what is lent, if anything"
     /// [KeepsLoan]: crate::specs::meter::LimiterRef#KeepsLoan "r\' leads to what r leads to"
     /// [optional_rules]: crate::specs::meter::Limiter#optional_rules "the rules of a limiter that may be absent"
     /// [L.rules]: trait@ResourceLimiter#contract
     /// [lent_limiter]: crate::specs::meter::LimiterRef#lent_limiter "the present value of the limiter that is lent, or none"
-    /// [Elements]: crate::proved::meter::Kind::Elements
     #[inline]
     pub fn table_growing(
         &mut self,
@@ -214,11 +228,10 @@ impl<'a, L: ResourceLimiter> LimiterRef<&'a mut L> {
     ///
     /// # Contract
     ///
-    /// <span></span><pre><code>ensures [loan]\: [KeepsLoan] self.old self.new
+    /// <span></span><pre><code>ensures loan: [KeepsLoan] self.old self.new
     /// ensures noticed: ([optional_rules] [L.rules]).noticed ([lent_limiter] self.old)
     /// &#32;&#32;&#32;&#32;([MemoryFailure] error.now) result ([lent_limiter] self.new)</code></pre>
     ///
-    /// [loan]: crate::specs::meter::LimiterRef#loan "what is lent, if anything"
     /// [KeepsLoan]: crate::specs::meter::LimiterRef#KeepsLoan "r\' leads to what r leads to"
     /// [optional_rules]: crate::specs::meter::Limiter#optional_rules "the rules of a limiter that may be absent"
     /// [L.rules]: trait@ResourceLimiter#contract
@@ -237,11 +250,10 @@ impl<'a, L: ResourceLimiter> LimiterRef<&'a mut L> {
     ///
     /// # Contract
     ///
-    /// <span></span><pre><code>ensures [loan]\: [KeepsLoan] self.old self.new
+    /// <span></span><pre><code>ensures loan: [KeepsLoan] self.old self.new
     /// ensures noticed: ([optional_rules] [L.rules]).noticed ([lent_limiter] self.old)
     /// &#32;&#32;&#32;&#32;([TableFailure] error.now) result ([lent_limiter] self.new)</code></pre>
     ///
-    /// [loan]: crate::specs::meter::LimiterRef#loan "what is lent, if anything"
     /// [KeepsLoan]: crate::specs::meter::LimiterRef#KeepsLoan "r\' leads to what r leads to"
     /// [optional_rules]: crate::specs::meter::Limiter#optional_rules "the rules of a limiter that may be absent"
     /// [L.rules]: trait@ResourceLimiter#contract

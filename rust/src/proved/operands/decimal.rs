@@ -8,16 +8,18 @@ use crate::proved::operands::error::LineError;
 /// # Contract
 ///
 /// <span></span><pre><code>ensures digits: [IfOk] result (λ \_. [IsDecimal] word.now)
-/// ensures value: [IfOk] result (λ number. T.try_from_gives ([decimal_value] word.now) ([Ok] number))
-/// ensures refused: [IfErr] result (λ error. error ≡ LineError.BadCommand)
+/// ensures value: [IfOk] result (λ number. [T.try_from_gives] ([decimal_value] word.now) ([Ok] number))
+/// ensures refused: [IfErr] result (λ error. error ≡ [LineError.BadCommand])
 /// ensures unfit: [IfErr] result (λ \_. [IsDecimal] word.now → [decimal_value] word.now < 2 ^ 64
-/// &#32;&#32;&#32;&#32;→ (error : T.Error) × T.try_from_gives ([decimal_value] word.now) ([Err] error))</code></pre>
+/// &#32;&#32;&#32;&#32;→ (error : T.Error) × [T.try_from_gives] ([decimal_value] word.now) ([Err] error))</code></pre>
 ///
 /// [IfOk]: crate::specs::library#IfOk "P of the value, if r is a value"
 /// [IsDecimal]: crate::specs::operands::Decimal#IsDecimal "a word of one decimal digit or more, and nothing else"
+/// [T.try_from_gives]: crate::specs::library#try_from_gives "what \`TryFrom\` gives for x may be r"
 /// [decimal_value]: crate::specs::operands::Decimal#decimal_value "the number that the digits of a word write"
 /// [Ok]: crate::specs::library#Ok "the value x, of a \`Result\`"
 /// [IfErr]: crate::specs::library#IfErr "P of the error, if r is an error"
+/// [LineError.BadCommand]: crate::proved::operands::LineError::BadCommand
 /// [Err]: crate::specs::library#Err "the error e, of a \`Result\`"
 #[inline]
 pub fn number<T: TryFrom<u64>>(word: &str) -> Result<T, LineError>
@@ -46,13 +48,15 @@ pub fn number_or_none(word: &str) -> Result<Option<u64>, LineError> {
 ///
 /// # Contract
 ///
-/// <span></span><pre><code>ensures value: OkIff result ([IsDecimal] word.now × ([decimal_value] word.now < 2 ^ 64))
+/// <span></span><pre><code>ensures value: [OkIff] result ([IsDecimal] word.now × ([decimal_value] word.now < 2 ^ 64))
 /// &#32;&#32;&#32;&#32;([decimal_value] word.now)
-/// ensures refused: [IfErr] result (λ error. error ≡ LineError.BadCommand)</code></pre>
+/// ensures refused: [IfErr] result (λ error. error ≡ [LineError.BadCommand])</code></pre>
 ///
+/// [OkIff]: crate::specs::library#OkIff "if P, r is the value x; else it is an error"
 /// [IsDecimal]: crate::specs::operands::Decimal#IsDecimal "a word of one decimal digit or more, and nothing else"
 /// [decimal_value]: crate::specs::operands::Decimal#decimal_value "the number that the digits of a word write"
 /// [IfErr]: crate::specs::library#IfErr "P of the error, if r is an error"
+/// [LineError.BadCommand]: crate::proved::operands::LineError::BadCommand
 #[inline]
 fn decimal(word: &str) -> Result<u64, LineError> {
     if word.is_empty() {
@@ -72,9 +76,13 @@ fn decimal(word: &str) -> Result<u64, LineError> {
 ///
 /// # Contract
 ///
-/// <span></span><pre><code>ensures: SomeIff result
-/// &#32;&#32;&#32;&#32;(IsInRange 48 57 byte × (number \* 10 + digit_value byte < 2 ^ 64))
-/// &#32;&#32;&#32;&#32;(number \* 10 + digit_value byte)</code></pre>
+/// <span></span><pre><code>ensures: [SomeIff] result
+/// &#32;&#32;&#32;&#32;([IsInRange] 48 57 byte × (number \* 10 + [digit_value] byte < 2 ^ 64))
+/// &#32;&#32;&#32;&#32;(number \* 10 + [digit_value] byte)</code></pre>
+///
+/// [SomeIff]: crate::specs::library#SomeIff "if P, o is the value x; else there is none"
+/// [IsInRange]: crate::specs::library#IsInRange "n is from a to b"
+/// [digit_value]: crate::specs::library#digit_value "the value of a character as a digit of a base up to 36; 36 if it is none"
 #[inline(always)]
 fn appended(number: u64, byte: u8) -> Option<u64> {
     let digit = byte.wrapping_sub(b'0');

@@ -11,6 +11,9 @@ pub enum LineError {
     OutOfMemory,
 }
 
+/// # Contract
+///
+/// <span></span><pre><code>from_gives = λ \_ error. error ≡ OutOfMemory</code></pre>
 impl From<AllocError> for LineError {
     #[inline]
     fn from(_: AllocError) -> Self {
@@ -18,6 +21,9 @@ impl From<AllocError> for LineError {
     }
 }
 
+/// # Contract
+///
+/// <span></span><pre><code>from_gives = λ \_ error. error ≡ OutOfMemory</code></pre>
 impl<T> From<AllocFailed<T>> for LineError {
     #[inline]
     fn from(_: AllocFailed<T>) -> Self {

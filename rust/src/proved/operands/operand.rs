@@ -35,6 +35,11 @@ pub trait Operand: Sized + Copy {
     fn from_word(word: &str) -> Result<Self, LineError>;
 }
 
+/// # Contract
+///
+/// <span></span><pre><code>writes = [WritesNumber] 64</code></pre>
+///
+/// [WritesNumber]: crate::specs::operands::Decimal#WritesNumber "the word writes this number, which fits so many bits"
 impl Operand for u64 {
     #[inline]
     fn from_word(word: &str) -> Result<Self, LineError> {
@@ -42,6 +47,11 @@ impl Operand for u64 {
     }
 }
 
+/// # Contract
+///
+/// <span></span><pre><code>writes = [WritesNumber] 64</code></pre>
+///
+/// [WritesNumber]: crate::specs::operands::Decimal#WritesNumber "the word writes this number, which fits so many bits"
 impl Operand for usize {
     #[inline]
     fn from_word(word: &str) -> Result<Self, LineError> {
@@ -49,6 +59,11 @@ impl Operand for usize {
     }
 }
 
+/// # Contract
+///
+/// <span></span><pre><code>writes = [WritesNumber] 32</code></pre>
+///
+/// [WritesNumber]: crate::specs::operands::Decimal#WritesNumber "the word writes this number, which fits so many bits"
 impl Operand for u32 {
     #[inline]
     fn from_word(word: &str) -> Result<Self, LineError> {
@@ -56,6 +71,11 @@ impl Operand for u32 {
     }
 }
 
+/// # Contract
+///
+/// <span></span><pre><code>writes = [WritesNumber] 8</code></pre>
+///
+/// [WritesNumber]: crate::specs::operands::Decimal#WritesNumber "the word writes this number, which fits so many bits"
 impl Operand for u8 {
     #[inline]
     fn from_word(word: &str) -> Result<Self, LineError> {
@@ -63,6 +83,11 @@ impl Operand for u8 {
     }
 }
 
+/// # Contract
+///
+/// <span></span><pre><code>writes = [WritesNumber] 32</code></pre>
+///
+/// [WritesNumber]: crate::specs::operands::Decimal#WritesNumber "the word writes this number, which fits so many bits"
 impl Operand for RawRef {
     #[inline]
     fn from_word(word: &str) -> Result<Self, LineError> {
@@ -71,6 +96,11 @@ impl Operand for RawRef {
     }
 }
 
+/// # Contract
+///
+/// <span></span><pre><code>writes = λ word ty. word ≡ [reference_word] ty</code></pre>
+///
+/// [reference_word]: crate::specs::operands::TypeWords#reference_word "the word of a reference type"
 impl Operand for RefType {
     #[inline]
     fn from_word(word: &str) -> Result<Self, LineError> {
@@ -78,6 +108,11 @@ impl Operand for RefType {
     }
 }
 
+/// # Contract
+///
+/// <span></span><pre><code>writes = λ word ty. word ≡ [value_word] ty</code></pre>
+///
+/// [value_word]: crate::specs::operands::TypeWords#value_word "the word of a value type"
 impl Operand for ValType {
     #[inline]
     fn from_word(word: &str) -> Result<Self, LineError> {
@@ -94,6 +129,11 @@ impl Operand for ValType {
     }
 }
 
+/// # Contract
+///
+/// <span></span><pre><code>writes = λ word mutability. word ≡ [mutability_word] mutability</code></pre>
+///
+/// [mutability_word]: crate::specs::operands::TypeWords#mutability_word "whether a global can be written"
 impl Operand for Mutability {
     #[inline]
     fn from_word(word: &str) -> Result<Self, LineError> {
@@ -105,6 +145,12 @@ impl Operand for Mutability {
     }
 }
 
+/// # Contract
+///
+/// <span></span><pre><code>writes = [IsName] [scalar_unary_name]</code></pre>
+///
+/// [IsName]: crate::specs::operands::Names#IsName "a word is the name of this op"
+/// [scalar_unary_name]: crate::specs::ops::ScalarUnaryOps#scalar_unary_name "the name of a scalar instruction of one operand"
 impl Operand for ScalarUnaryOp {
     #[inline]
     fn from_word(word: &str) -> Result<Self, LineError> {
@@ -112,6 +158,12 @@ impl Operand for ScalarUnaryOp {
     }
 }
 
+/// # Contract
+///
+/// <span></span><pre><code>writes = [IsName] [scalar_binary_name]</code></pre>
+///
+/// [IsName]: crate::specs::operands::Names#IsName "a word is the name of this op"
+/// [scalar_binary_name]: crate::specs::ops::ScalarBinaryOps#scalar_binary_name "the name of a scalar instruction of two operands"
 impl Operand for ScalarBinaryOp {
     #[inline]
     fn from_word(word: &str) -> Result<Self, LineError> {
@@ -119,6 +171,12 @@ impl Operand for ScalarBinaryOp {
     }
 }
 
+/// # Contract
+///
+/// <span></span><pre><code>writes = [IsName] [load_name]</code></pre>
+///
+/// [IsName]: crate::specs::operands::Names#IsName "a word is the name of this op"
+/// [load_name]: crate::specs::ops::ScalarAccessOps#load_name "the name of a scalar load"
 impl Operand for LoadOp {
     #[inline]
     fn from_word(word: &str) -> Result<Self, LineError> {
@@ -126,6 +184,12 @@ impl Operand for LoadOp {
     }
 }
 
+/// # Contract
+///
+/// <span></span><pre><code>writes = [IsName] [store_name]</code></pre>
+///
+/// [IsName]: crate::specs::operands::Names#IsName "a word is the name of this op"
+/// [store_name]: crate::specs::ops::ScalarAccessOps#store_name "the name of a scalar store"
 impl Operand for StoreOp {
     #[inline]
     fn from_word(word: &str) -> Result<Self, LineError> {
@@ -133,6 +197,12 @@ impl Operand for StoreOp {
     }
 }
 
+/// # Contract
+///
+/// <span></span><pre><code>writes = [IsName] [make_name]</code></pre>
+///
+/// [IsName]: crate::specs::operands::Names#IsName "a word is the name of this op"
+/// [make_name]: crate::specs::ops::MakeOps#make_name "the name of what makes a vector of an item"
 impl Operand for MakeOp {
     #[inline]
     fn from_word(word: &str) -> Result<Self, LineError> {
@@ -140,6 +210,12 @@ impl Operand for MakeOp {
     }
 }
 
+/// # Contract
+///
+/// <span></span><pre><code>writes = [IsName] [unary_name]</code></pre>
+///
+/// [IsName]: crate::specs::operands::Names#IsName "a word is the name of this op"
+/// [unary_name]: crate::specs::ops::UnaryOps#unary_name "the name of an instruction of one vector"
 impl Operand for UnaryOp {
     #[inline]
     fn from_word(word: &str) -> Result<Self, LineError> {
@@ -147,6 +223,12 @@ impl Operand for UnaryOp {
     }
 }
 
+/// # Contract
+///
+/// <span></span><pre><code>writes = [IsName] [binary_name]</code></pre>
+///
+/// [IsName]: crate::specs::operands::Names#IsName "a word is the name of this op"
+/// [binary_name]: crate::specs::ops::BinaryOps#binary_name "the name of an instruction of two vectors"
 impl Operand for BinaryOp {
     #[inline]
     fn from_word(word: &str) -> Result<Self, LineError> {
@@ -154,6 +236,12 @@ impl Operand for BinaryOp {
     }
 }
 
+/// # Contract
+///
+/// <span></span><pre><code>writes = [IsName] [ternary_name]</code></pre>
+///
+/// [IsName]: crate::specs::operands::Names#IsName "a word is the name of this op"
+/// [ternary_name]: crate::specs::ops::TernaryOps#ternary_name "the name of an instruction of three vectors"
 impl Operand for TernaryOp {
     #[inline]
     fn from_word(word: &str) -> Result<Self, LineError> {
@@ -161,6 +249,12 @@ impl Operand for TernaryOp {
     }
 }
 
+/// # Contract
+///
+/// <span></span><pre><code>writes = [IsName] [shift_name]</code></pre>
+///
+/// [IsName]: crate::specs::operands::Names#IsName "a word is the name of this op"
+/// [shift_name]: crate::specs::ops::ShiftOps#shift_name "the name of a shift of lanes"
 impl Operand for ShiftOp {
     #[inline]
     fn from_word(word: &str) -> Result<Self, LineError> {
@@ -168,6 +262,12 @@ impl Operand for ShiftOp {
     }
 }
 
+/// # Contract
+///
+/// <span></span><pre><code>writes = [IsName] [test_name]</code></pre>
+///
+/// [IsName]: crate::specs::operands::Names#IsName "a word is the name of this op"
+/// [test_name]: crate::specs::ops::TestOps#test_name "the name of a test of a vector, or of its mask"
 impl Operand for TestOp {
     #[inline]
     fn from_word(word: &str) -> Result<Self, LineError> {
@@ -175,6 +275,12 @@ impl Operand for TestOp {
     }
 }
 
+/// # Contract
+///
+/// <span></span><pre><code>writes = [IsName] [extract_name]</code></pre>
+///
+/// [IsName]: crate::specs::operands::Names#IsName "a word is the name of this op"
+/// [extract_name]: crate::specs::ops::LaneKinds#extract_name "the name of an extraction of a lane"
 impl Operand for ExtractKind {
     #[inline]
     fn from_word(word: &str) -> Result<Self, LineError> {
@@ -182,6 +288,12 @@ impl Operand for ExtractKind {
     }
 }
 
+/// # Contract
+///
+/// <span></span><pre><code>writes = [IsName] [replace_name]</code></pre>
+///
+/// [IsName]: crate::specs::operands::Names#IsName "a word is the name of this op"
+/// [replace_name]: crate::specs::ops::LaneKinds#replace_name "the name of a replacement of a lane"
 impl Operand for ReplaceKind {
     #[inline]
     fn from_word(word: &str) -> Result<Self, LineError> {
@@ -189,6 +301,12 @@ impl Operand for ReplaceKind {
     }
 }
 
+/// # Contract
+///
+/// <span></span><pre><code>writes = [IsName] [vector_load_name]</code></pre>
+///
+/// [IsName]: crate::specs::operands::Names#IsName "a word is the name of this op"
+/// [vector_load_name]: crate::specs::ops::VectorAccessOps#vector_load_name "the name of a load of a vector"
 impl Operand for VectorLoadOp {
     #[inline]
     fn from_word(word: &str) -> Result<Self, LineError> {
@@ -196,6 +314,12 @@ impl Operand for VectorLoadOp {
     }
 }
 
+/// # Contract
+///
+/// <span></span><pre><code>writes = [IsName] [load_lane_name]</code></pre>
+///
+/// [IsName]: crate::specs::operands::Names#IsName "a word is the name of this op"
+/// [load_lane_name]: crate::specs::ops::LaneKinds#load_lane_name "the name of a load of a lane"
 impl Operand for LoadLaneKind {
     #[inline]
     fn from_word(word: &str) -> Result<Self, LineError> {
@@ -203,6 +327,12 @@ impl Operand for LoadLaneKind {
     }
 }
 
+/// # Contract
+///
+/// <span></span><pre><code>writes = [IsName] [store_lane_name]</code></pre>
+///
+/// [IsName]: crate::specs::operands::Names#IsName "a word is the name of this op"
+/// [store_lane_name]: crate::specs::ops::LaneKinds#store_lane_name "the name of a store of a lane"
 impl Operand for StoreLaneKind {
     #[inline]
     fn from_word(word: &str) -> Result<Self, LineError> {

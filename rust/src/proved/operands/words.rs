@@ -71,12 +71,13 @@ fn without_spaces(line: &str) -> &str {
 ///
 /// <span></span><pre><code>requires some: 0 < [length] line.now
 /// requires word: [slice_index] line.now 0 ≢ 32
-/// ensures boundary: IsCharBoundary line.now result
+/// ensures boundary: [IsCharBoundary] line.now result
 /// ensures nonzero: 0 < result
 /// ensures words: [words_in] line.now ≡ [take] result line.now ∷ [words_in] ([drop] result line.now)</code></pre>
 ///
 /// [length]: crate::specs::library#length "the number of elements of a list"
 /// [slice_index]: crate::specs::library#slice_index "element i of a list of numbers; 0 past its end"
+/// [IsCharBoundary]: crate::specs::library#IsCharBoundary "a character of the text begins at byte i, or the text ends there"
 /// [words_in]: crate::specs::operands::LineWords#words_in "the words of a line: what stands between its spaces"
 /// [take]: crate::specs::library#take "the first n elements"
 /// [drop]: crate::specs::library#drop "all but the first n elements"

@@ -4,6 +4,12 @@ use crate::proved::raw::float::{F32, F64};
 use crate::proved::raw::raw::{OneWord, RawVal, ReadAs, WriteAs};
 use crate::proved::raw::vector::V128;
 
+/// # Contract
+///
+/// <span></span><pre><code>from_gives = λ raw value. value ≡ [signed_in] [w8] raw</code></pre>
+///
+/// [signed_in]: crate::specs::raw::RawVal#signed_in "the low bits of a raw value, as many as a width has, read signed"
+/// [w8]: crate::specs::library#w8 "the widths of integers in bits"
 impl From<RawVal> for i8 {
     #[inline]
     fn from(raw: RawVal) -> i8 {
@@ -11,6 +17,12 @@ impl From<RawVal> for i8 {
     }
 }
 
+/// # Contract
+///
+/// <span></span><pre><code>from_gives = λ raw value. value ≡ [signed_in] [w16] raw</code></pre>
+///
+/// [signed_in]: crate::specs::raw::RawVal#signed_in "the low bits of a raw value, as many as a width has, read signed"
+/// [w16]: crate::specs::library#w16 "the widths of integers in bits"
 impl From<RawVal> for i16 {
     #[inline]
     fn from(raw: RawVal) -> i16 {
@@ -18,6 +30,12 @@ impl From<RawVal> for i16 {
     }
 }
 
+/// # Contract
+///
+/// <span></span><pre><code>from_gives = λ raw value. value ≡ [signed_in] [w32] raw</code></pre>
+///
+/// [signed_in]: crate::specs::raw::RawVal#signed_in "the low bits of a raw value, as many as a width has, read signed"
+/// [w32]: crate::specs::library#w32 "the widths of integers in bits"
 impl From<RawVal> for i32 {
     #[inline]
     fn from(raw: RawVal) -> i32 {
@@ -25,6 +43,12 @@ impl From<RawVal> for i32 {
     }
 }
 
+/// # Contract
+///
+/// <span></span><pre><code>from_gives = λ raw value. value ≡ [signed_in] [w64] raw</code></pre>
+///
+/// [signed_in]: crate::specs::raw::RawVal#signed_in "the low bits of a raw value, as many as a width has, read signed"
+/// [w64]: crate::specs::library#w64 "the widths of integers in bits"
 impl From<RawVal> for i64 {
     #[inline]
     fn from(raw: RawVal) -> i64 {
@@ -32,6 +56,12 @@ impl From<RawVal> for i64 {
     }
 }
 
+/// # Contract
+///
+/// <span></span><pre><code>from_gives = λ raw value. value ≡ [unsigned_in] [w8] raw</code></pre>
+///
+/// [unsigned_in]: crate::specs::raw::RawVal#unsigned_in "the low word cut to a width: the unsigned integer, and the signed one"
+/// [w8]: crate::specs::library#w8 "the widths of integers in bits"
 impl From<RawVal> for u8 {
     #[inline]
     fn from(raw: RawVal) -> u8 {
@@ -39,6 +69,12 @@ impl From<RawVal> for u8 {
     }
 }
 
+/// # Contract
+///
+/// <span></span><pre><code>from_gives = λ raw value. value ≡ [unsigned_in] [w16] raw</code></pre>
+///
+/// [unsigned_in]: crate::specs::raw::RawVal#unsigned_in "the low word cut to a width: the unsigned integer, and the signed one"
+/// [w16]: crate::specs::library#w16 "the widths of integers in bits"
 impl From<RawVal> for u16 {
     #[inline]
     fn from(raw: RawVal) -> u16 {
@@ -46,6 +82,12 @@ impl From<RawVal> for u16 {
     }
 }
 
+/// # Contract
+///
+/// <span></span><pre><code>from_gives = λ raw value. value ≡ [unsigned_in] [w32] raw</code></pre>
+///
+/// [unsigned_in]: crate::specs::raw::RawVal#unsigned_in "the low word cut to a width: the unsigned integer, and the signed one"
+/// [w32]: crate::specs::library#w32 "the widths of integers in bits"
 impl From<RawVal> for u32 {
     #[inline]
     fn from(raw: RawVal) -> u32 {
@@ -53,6 +95,12 @@ impl From<RawVal> for u32 {
     }
 }
 
+/// # Contract
+///
+/// <span></span><pre><code>from_gives = λ raw value. value ≡ [unsigned_in] [w64] raw</code></pre>
+///
+/// [unsigned_in]: crate::specs::raw::RawVal#unsigned_in "the low word cut to a width: the unsigned integer, and the signed one"
+/// [w64]: crate::specs::library#w64 "the widths of integers in bits"
 impl From<RawVal> for u64 {
     #[inline]
     fn from(raw: RawVal) -> u64 {
@@ -60,6 +108,11 @@ impl From<RawVal> for u64 {
     }
 }
 
+/// # Contract
+///
+/// <span></span><pre><code>from_gives = λ raw value. value ≡ [bool_in] raw</code></pre>
+///
+/// [bool_in]: crate::specs::raw::RawVal#bool_in "whether the low word is not 0"
 impl From<RawVal> for bool {
     #[inline]
     fn from(raw: RawVal) -> bool {
@@ -67,6 +120,12 @@ impl From<RawVal> for bool {
     }
 }
 
+/// # Contract
+///
+/// <span></span><pre><code>from_gives = λ raw value. value ≡ [unsigned_in] [w32] raw</code></pre>
+///
+/// [unsigned_in]: crate::specs::raw::RawVal#unsigned_in "the low word cut to a width: the unsigned integer, and the signed one"
+/// [w32]: crate::specs::library#w32 "the widths of integers in bits"
 impl From<RawVal> for F32 {
     #[inline]
     fn from(raw: RawVal) -> F32 {
@@ -74,6 +133,12 @@ impl From<RawVal> for F32 {
     }
 }
 
+/// # Contract
+///
+/// <span></span><pre><code>from_gives = λ raw value. value ≡ [unsigned_in] [w64] raw</code></pre>
+///
+/// [unsigned_in]: crate::specs::raw::RawVal#unsigned_in "the low word cut to a width: the unsigned integer, and the signed one"
+/// [w64]: crate::specs::library#w64 "the widths of integers in bits"
 impl From<RawVal> for F64 {
     #[inline]
     fn from(raw: RawVal) -> F64 {
@@ -81,6 +146,11 @@ impl From<RawVal> for F64 {
     }
 }
 
+/// # Contract
+///
+/// <span></span><pre><code>from_gives = λ raw value. value ≡ [vector_in] raw</code></pre>
+///
+/// [vector_in]: crate::specs::raw::RawVal#vector_in "the vector of both words"
 impl From<RawVal> for V128 {
     #[inline]
     fn from(raw: RawVal) -> V128 {
@@ -89,6 +159,12 @@ impl From<RawVal> for V128 {
 }
 
 // The words of the vector, which give it back.
+/// # Contract
+///
+/// <span></span><pre><code>from_gives = λ value raw. (raw ≡ [raw_of_vector] value) × ([vector_in] raw ≡ value)</code></pre>
+///
+/// [raw_of_vector]: crate::specs::raw::RawVal#raw_of_vector "the words of a vector"
+/// [vector_in]: crate::specs::raw::RawVal#vector_in "the vector of both words"
 impl From<V128> for RawVal {
     #[inline]
     fn from(value: V128) -> RawVal {
@@ -98,6 +174,11 @@ impl From<V128> for RawVal {
 }
 
 // A value in one word is written over the raw value 0.
+/// # Contract
+///
+/// <span></span><pre><code>from_gives = λ value raw. raw ≡ ⟦\<RawVal as WriteAs\<T>>⟧.written ([raw_of] 0) value</code></pre>
+///
+/// [raw_of]: crate::specs::raw::RawVal#raw_of "the low word is n, and the high word is 0"
 impl<T: OneWord> From<T> for RawVal
 where
     RawVal: WriteAs<T>,
@@ -110,6 +191,11 @@ where
     }
 }
 
+/// # Contract
+///
+/// <span></span><pre><code>from_gives = λ value raw. raw ≡ [raw_of] value</code></pre>
+///
+/// [raw_of]: crate::specs::raw::RawVal#raw_of "the low word is n, and the high word is 0"
 impl From<F32> for RawVal {
     #[inline]
     fn from(value: F32) -> RawVal {
@@ -117,6 +203,11 @@ impl From<F32> for RawVal {
     }
 }
 
+/// # Contract
+///
+/// <span></span><pre><code>from_gives = λ value raw. raw ≡ [raw_of] value</code></pre>
+///
+/// [raw_of]: crate::specs::raw::RawVal#raw_of "the low word is n, and the high word is 0"
 impl From<F64> for RawVal {
     #[inline]
     fn from(value: F64) -> RawVal {

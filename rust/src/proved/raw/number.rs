@@ -49,22 +49,122 @@ mod sealed {
 /// [AreNumbers]: crate::specs::raw::Number#AreNumbers "a type\'s values and their numbers: \`number\` gives the number of a value, \`of_number\` the value of a number of the type"
 pub trait Number: sealed::Sealed {}
 
+/// # Contract
+///
+/// <span></span><pre><code>width = [w8]
+/// is_signed = [true]
+/// number = λ value. value
+/// of_number = λ number. number</code></pre>
+///
+/// [w8]: crate::specs::library#w8 "the widths of integers in bits"
+/// [true]: crate::specs::library#true "the Boolean"
 impl Number for i8 {}
 
+/// # Contract
+///
+/// <span></span><pre><code>width = [w16]
+/// is_signed = [true]
+/// number = λ value. value
+/// of_number = λ number. number</code></pre>
+///
+/// [w16]: crate::specs::library#w16 "the widths of integers in bits"
+/// [true]: crate::specs::library#true "the Boolean"
 impl Number for i16 {}
 
+/// # Contract
+///
+/// <span></span><pre><code>width = [w32]
+/// is_signed = [true]
+/// number = λ value. value
+/// of_number = λ number. number</code></pre>
+///
+/// [w32]: crate::specs::library#w32 "the widths of integers in bits"
+/// [true]: crate::specs::library#true "the Boolean"
 impl Number for i32 {}
 
+/// # Contract
+///
+/// <span></span><pre><code>width = [w64]
+/// is_signed = [true]
+/// number = λ value. value
+/// of_number = λ number. number</code></pre>
+///
+/// [w64]: crate::specs::library#w64 "the widths of integers in bits"
+/// [true]: crate::specs::library#true "the Boolean"
 impl Number for i64 {}
 
+/// # Contract
+///
+/// <span></span><pre><code>width = [w128]
+/// is_signed = [true]
+/// number = λ value. value
+/// of_number = λ number. number</code></pre>
+///
+/// [w128]: crate::specs::library#w128 "the widths of integers in bits"
+/// [true]: crate::specs::library#true "the Boolean"
 impl Number for i128 {}
 
+/// # Contract
+///
+/// <span></span><pre><code>width = [w8]
+/// is_signed = [false]
+/// number = [pos]
+/// of_number = [unsigned_abs]</code></pre>
+///
+/// [w8]: crate::specs::library#w8 "the widths of integers in bits"
+/// [false]: crate::specs::library#false "the Boolean"
+/// [pos]: crate::specs::library#pos "the number n, as one with a sign"
+/// [unsigned_abs]: crate::specs::library#unsigned_abs "the number without its sign"
 impl Number for u8 {}
 
+/// # Contract
+///
+/// <span></span><pre><code>width = [w16]
+/// is_signed = [false]
+/// number = [pos]
+/// of_number = [unsigned_abs]</code></pre>
+///
+/// [w16]: crate::specs::library#w16 "the widths of integers in bits"
+/// [false]: crate::specs::library#false "the Boolean"
+/// [pos]: crate::specs::library#pos "the number n, as one with a sign"
+/// [unsigned_abs]: crate::specs::library#unsigned_abs "the number without its sign"
 impl Number for u16 {}
 
+/// # Contract
+///
+/// <span></span><pre><code>width = [w32]
+/// is_signed = [false]
+/// number = [pos]
+/// of_number = [unsigned_abs]</code></pre>
+///
+/// [w32]: crate::specs::library#w32 "the widths of integers in bits"
+/// [false]: crate::specs::library#false "the Boolean"
+/// [pos]: crate::specs::library#pos "the number n, as one with a sign"
+/// [unsigned_abs]: crate::specs::library#unsigned_abs "the number without its sign"
 impl Number for u32 {}
 
+/// # Contract
+///
+/// <span></span><pre><code>width = [w64]
+/// is_signed = [false]
+/// number = [pos]
+/// of_number = [unsigned_abs]</code></pre>
+///
+/// [w64]: crate::specs::library#w64 "the widths of integers in bits"
+/// [false]: crate::specs::library#false "the Boolean"
+/// [pos]: crate::specs::library#pos "the number n, as one with a sign"
+/// [unsigned_abs]: crate::specs::library#unsigned_abs "the number without its sign"
 impl Number for u64 {}
 
+/// # Contract
+///
+/// <span></span><pre><code>width = [w128]
+/// is_signed = [false]
+/// number = [pos]
+/// of_number = [unsigned_abs]</code></pre>
+///
+/// [w128]: crate::specs::library#w128 "the widths of integers in bits"
+/// [false]: crate::specs::library#false "the Boolean"
+/// [pos]: crate::specs::library#pos "the number n, as one with a sign"
+/// [unsigned_abs]: crate::specs::library#unsigned_abs "the number without its sign"
 impl Number for u128 {}

@@ -43,6 +43,9 @@ impl RawRef {
     }
 }
 
+/// # Contract
+///
+/// <span></span><pre><code>from_gives = λ bits reference. reference ≡ bits</code></pre>
 impl From<u32> for RawRef {
     #[inline]
     fn from(bits: u32) -> RawRef {
@@ -50,6 +53,9 @@ impl From<u32> for RawRef {
     }
 }
 
+/// # Contract
+///
+/// <span></span><pre><code>from_gives = λ reference bits. bits ≡ reference</code></pre>
 impl From<RawRef> for u32 {
     #[inline]
     fn from(reference: RawRef) -> u32 {
@@ -57,6 +63,12 @@ impl From<RawRef> for u32 {
     }
 }
 
+/// # Contract
+///
+/// <span></span><pre><code>from_gives = λ raw reference. reference ≡ [unsigned_in] [w32] raw</code></pre>
+///
+/// [unsigned_in]: crate::specs::raw::RawVal#unsigned_in "the low word cut to a width: the unsigned integer, and the signed one"
+/// [w32]: crate::specs::library#w32 "the widths of integers in bits"
 impl From<RawVal> for RawRef {
     #[inline]
     fn from(raw: RawVal) -> RawRef {
@@ -64,6 +76,12 @@ impl From<RawVal> for RawRef {
     }
 }
 
+/// # Contract
+///
+/// <span></span><pre><code>read = [unsigned_in] [w32]</code></pre>
+///
+/// [unsigned_in]: crate::specs::raw::RawVal#unsigned_in "the low word cut to a width: the unsigned integer, and the signed one"
+/// [w32]: crate::specs::library#w32 "the widths of integers in bits"
 impl ReadAs<RawRef> for RawVal {
     #[inline]
     fn read_as(&self) -> RawRef {
@@ -72,12 +90,20 @@ impl ReadAs<RawRef> for RawVal {
     }
 }
 
+/// # Contract
+///
+/// <span></span><pre><code>read_back = λ value. value</code></pre>
 impl ReadBack for RawRef {
     type Read = RawRef;
 }
 
 impl OneWord for RawRef {}
 
+/// # Contract
+///
+/// <span></span><pre><code>written = [with_low]</code></pre>
+///
+/// [with_low]: crate::specs::raw::RawVal#with_low "the low word becomes n, and the high word is kept"
 impl WriteAs<RawRef> for RawVal {
     #[inline]
     fn write_as(&mut self, value: RawRef) {

@@ -69,6 +69,9 @@ impl V128 {
     }
 }
 
+/// # Contract
+///
+/// <span></span><pre><code>from_gives = λ number vector. vector ≡ number</code></pre>
 impl From<u128> for V128 {
     #[inline]
     fn from(number: u128) -> V128 {

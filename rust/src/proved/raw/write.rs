@@ -4,6 +4,9 @@ use crate::proved::raw::raw::{RawVal, WriteAs};
 use crate::proved::raw::vector::V128;
 use core::num::NonZero;
 
+/// # Contract
+///
+/// <span></span><pre><code>written = λ \_ value. value</code></pre>
 impl WriteAs<RawVal> for RawVal {
     #[inline]
     fn write_as(&mut self, value: RawVal) {
@@ -11,6 +14,13 @@ impl WriteAs<RawVal> for RawVal {
     }
 }
 
+/// # Contract
+///
+/// <span></span><pre><code>written = λ raw value. [with_low] raw ([cast_unsigned] [w8] value)</code></pre>
+///
+/// [with_low]: crate::specs::raw::RawVal#with_low "the low word becomes n, and the high word is kept"
+/// [cast_unsigned]: crate::specs::library#cast_unsigned "the signed number as one from 0 up to 2 ^ w, in two\'s complement"
+/// [w8]: crate::specs::library#w8 "the widths of integers in bits"
 impl WriteAs<i8> for RawVal {
     #[inline]
     fn write_as(&mut self, value: i8) {
@@ -18,6 +28,14 @@ impl WriteAs<i8> for RawVal {
     }
 }
 
+/// # Contract
+///
+/// <span></span><pre><code>written = λ raw value. [with_low] raw ([cast_unsigned] [w8] ([non_zero_i8_get] value))</code></pre>
+///
+/// [with_low]: crate::specs::raw::RawVal#with_low "the low word becomes n, and the high word is kept"
+/// [cast_unsigned]: crate::specs::library#cast_unsigned "the signed number as one from 0 up to 2 ^ w, in two\'s complement"
+/// [w8]: crate::specs::library#w8 "the widths of integers in bits"
+/// [non_zero_i8_get]: crate::specs::library#non_zero_i8_get "the number of a \`NonZero\<u8>\`, and of those of the other integer types"
 impl WriteAs<NonZero<i8>> for RawVal {
     #[inline]
     fn write_as(&mut self, value: NonZero<i8>) {
@@ -25,6 +43,13 @@ impl WriteAs<NonZero<i8>> for RawVal {
     }
 }
 
+/// # Contract
+///
+/// <span></span><pre><code>written = λ raw value. [with_low] raw ([cast_unsigned] [w16] value)</code></pre>
+///
+/// [with_low]: crate::specs::raw::RawVal#with_low "the low word becomes n, and the high word is kept"
+/// [cast_unsigned]: crate::specs::library#cast_unsigned "the signed number as one from 0 up to 2 ^ w, in two\'s complement"
+/// [w16]: crate::specs::library#w16 "the widths of integers in bits"
 impl WriteAs<i16> for RawVal {
     #[inline]
     fn write_as(&mut self, value: i16) {
@@ -32,6 +57,14 @@ impl WriteAs<i16> for RawVal {
     }
 }
 
+/// # Contract
+///
+/// <span></span><pre><code>written = λ raw value. [with_low] raw ([cast_unsigned] [w16] ([non_zero_i16_get] value))</code></pre>
+///
+/// [with_low]: crate::specs::raw::RawVal#with_low "the low word becomes n, and the high word is kept"
+/// [cast_unsigned]: crate::specs::library#cast_unsigned "the signed number as one from 0 up to 2 ^ w, in two\'s complement"
+/// [w16]: crate::specs::library#w16 "the widths of integers in bits"
+/// [non_zero_i16_get]: crate::specs::library#non_zero_i16_get "the number of a \`NonZero\<u8>\`, and of those of the other integer types"
 impl WriteAs<NonZero<i16>> for RawVal {
     #[inline]
     fn write_as(&mut self, value: NonZero<i16>) {
@@ -39,6 +72,13 @@ impl WriteAs<NonZero<i16>> for RawVal {
     }
 }
 
+/// # Contract
+///
+/// <span></span><pre><code>written = λ raw value. [with_low] raw ([cast_unsigned] [w32] value)</code></pre>
+///
+/// [with_low]: crate::specs::raw::RawVal#with_low "the low word becomes n, and the high word is kept"
+/// [cast_unsigned]: crate::specs::library#cast_unsigned "the signed number as one from 0 up to 2 ^ w, in two\'s complement"
+/// [w32]: crate::specs::library#w32 "the widths of integers in bits"
 impl WriteAs<i32> for RawVal {
     #[inline]
     fn write_as(&mut self, value: i32) {
@@ -46,6 +86,14 @@ impl WriteAs<i32> for RawVal {
     }
 }
 
+/// # Contract
+///
+/// <span></span><pre><code>written = λ raw value. [with_low] raw ([cast_unsigned] [w32] ([non_zero_i32_get] value))</code></pre>
+///
+/// [with_low]: crate::specs::raw::RawVal#with_low "the low word becomes n, and the high word is kept"
+/// [cast_unsigned]: crate::specs::library#cast_unsigned "the signed number as one from 0 up to 2 ^ w, in two\'s complement"
+/// [w32]: crate::specs::library#w32 "the widths of integers in bits"
+/// [non_zero_i32_get]: crate::specs::library#non_zero_i32_get "the number of a \`NonZero\<u8>\`, and of those of the other integer types"
 impl WriteAs<NonZero<i32>> for RawVal {
     #[inline]
     fn write_as(&mut self, value: NonZero<i32>) {
@@ -53,6 +101,13 @@ impl WriteAs<NonZero<i32>> for RawVal {
     }
 }
 
+/// # Contract
+///
+/// <span></span><pre><code>written = λ raw value. [with_low] raw ([cast_unsigned] [w64] value)</code></pre>
+///
+/// [with_low]: crate::specs::raw::RawVal#with_low "the low word becomes n, and the high word is kept"
+/// [cast_unsigned]: crate::specs::library#cast_unsigned "the signed number as one from 0 up to 2 ^ w, in two\'s complement"
+/// [w64]: crate::specs::library#w64 "the widths of integers in bits"
 impl WriteAs<i64> for RawVal {
     #[inline]
     fn write_as(&mut self, value: i64) {
@@ -60,6 +115,14 @@ impl WriteAs<i64> for RawVal {
     }
 }
 
+/// # Contract
+///
+/// <span></span><pre><code>written = λ raw value. [with_low] raw ([cast_unsigned] [w64] ([non_zero_i64_get] value))</code></pre>
+///
+/// [with_low]: crate::specs::raw::RawVal#with_low "the low word becomes n, and the high word is kept"
+/// [cast_unsigned]: crate::specs::library#cast_unsigned "the signed number as one from 0 up to 2 ^ w, in two\'s complement"
+/// [w64]: crate::specs::library#w64 "the widths of integers in bits"
+/// [non_zero_i64_get]: crate::specs::library#non_zero_i64_get "the number of a \`NonZero\<u8>\`, and of those of the other integer types"
 impl WriteAs<NonZero<i64>> for RawVal {
     #[inline]
     fn write_as(&mut self, value: NonZero<i64>) {
@@ -67,6 +130,11 @@ impl WriteAs<NonZero<i64>> for RawVal {
     }
 }
 
+/// # Contract
+///
+/// <span></span><pre><code>written = [with_low]</code></pre>
+///
+/// [with_low]: crate::specs::raw::RawVal#with_low "the low word becomes n, and the high word is kept"
 impl WriteAs<u8> for RawVal {
     #[inline]
     fn write_as(&mut self, value: u8) {
@@ -74,6 +142,12 @@ impl WriteAs<u8> for RawVal {
     }
 }
 
+/// # Contract
+///
+/// <span></span><pre><code>written = λ raw value. [with_low] raw ([non_zero_u8_get] value)</code></pre>
+///
+/// [with_low]: crate::specs::raw::RawVal#with_low "the low word becomes n, and the high word is kept"
+/// [non_zero_u8_get]: crate::specs::library#non_zero_u8_get "the number of a \`NonZero\<u8>\`, and of those of the other integer types"
 impl WriteAs<NonZero<u8>> for RawVal {
     #[inline]
     fn write_as(&mut self, value: NonZero<u8>) {
@@ -81,6 +155,11 @@ impl WriteAs<NonZero<u8>> for RawVal {
     }
 }
 
+/// # Contract
+///
+/// <span></span><pre><code>written = [with_low]</code></pre>
+///
+/// [with_low]: crate::specs::raw::RawVal#with_low "the low word becomes n, and the high word is kept"
 impl WriteAs<u16> for RawVal {
     #[inline]
     fn write_as(&mut self, value: u16) {
@@ -88,6 +167,12 @@ impl WriteAs<u16> for RawVal {
     }
 }
 
+/// # Contract
+///
+/// <span></span><pre><code>written = λ raw value. [with_low] raw ([non_zero_u16_get] value)</code></pre>
+///
+/// [with_low]: crate::specs::raw::RawVal#with_low "the low word becomes n, and the high word is kept"
+/// [non_zero_u16_get]: crate::specs::library#non_zero_u16_get "the number of a \`NonZero\<u8>\`, and of those of the other integer types"
 impl WriteAs<NonZero<u16>> for RawVal {
     #[inline]
     fn write_as(&mut self, value: NonZero<u16>) {
@@ -95,6 +180,11 @@ impl WriteAs<NonZero<u16>> for RawVal {
     }
 }
 
+/// # Contract
+///
+/// <span></span><pre><code>written = [with_low]</code></pre>
+///
+/// [with_low]: crate::specs::raw::RawVal#with_low "the low word becomes n, and the high word is kept"
 impl WriteAs<u32> for RawVal {
     #[inline]
     fn write_as(&mut self, value: u32) {
@@ -102,6 +192,12 @@ impl WriteAs<u32> for RawVal {
     }
 }
 
+/// # Contract
+///
+/// <span></span><pre><code>written = λ raw value. [with_low] raw ([non_zero_u32_get] value)</code></pre>
+///
+/// [with_low]: crate::specs::raw::RawVal#with_low "the low word becomes n, and the high word is kept"
+/// [non_zero_u32_get]: crate::specs::library#non_zero_u32_get "the number of a \`NonZero\<u8>\`, and of those of the other integer types"
 impl WriteAs<NonZero<u32>> for RawVal {
     #[inline]
     fn write_as(&mut self, value: NonZero<u32>) {
@@ -109,6 +205,11 @@ impl WriteAs<NonZero<u32>> for RawVal {
     }
 }
 
+/// # Contract
+///
+/// <span></span><pre><code>written = [with_low]</code></pre>
+///
+/// [with_low]: crate::specs::raw::RawVal#with_low "the low word becomes n, and the high word is kept"
 impl WriteAs<u64> for RawVal {
     #[inline]
     fn write_as(&mut self, value: u64) {
@@ -116,6 +217,12 @@ impl WriteAs<u64> for RawVal {
     }
 }
 
+/// # Contract
+///
+/// <span></span><pre><code>written = λ raw value. [with_low] raw ([non_zero_u64_get] value)</code></pre>
+///
+/// [with_low]: crate::specs::raw::RawVal#with_low "the low word becomes n, and the high word is kept"
+/// [non_zero_u64_get]: crate::specs::library#non_zero_u64_get "the number of a \`NonZero\<u8>\`, and of those of the other integer types"
 impl WriteAs<NonZero<u64>> for RawVal {
     #[inline]
     fn write_as(&mut self, value: NonZero<u64>) {
@@ -123,6 +230,12 @@ impl WriteAs<NonZero<u64>> for RawVal {
     }
 }
 
+/// # Contract
+///
+/// <span></span><pre><code>written = λ raw value. [with_low] raw ([from_bool] value)</code></pre>
+///
+/// [with_low]: crate::specs::raw::RawVal#with_low "the low word becomes n, and the high word is kept"
+/// [from_bool]: crate::specs::library#from_bool "1 for true, 0 for false"
 impl WriteAs<bool> for RawVal {
     #[inline]
     fn write_as(&mut self, value: bool) {
@@ -130,6 +243,11 @@ impl WriteAs<bool> for RawVal {
     }
 }
 
+/// # Contract
+///
+/// <span></span><pre><code>written = λ \_ value. [raw_of_vector] value</code></pre>
+///
+/// [raw_of_vector]: crate::specs::raw::RawVal#raw_of_vector "the words of a vector"
 impl WriteAs<V128> for RawVal {
     #[inline]
     fn write_as(&mut self, value: V128) {

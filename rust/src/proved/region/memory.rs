@@ -212,7 +212,7 @@ pub fn question(ty: MemoryType, size: usize, additional: u64) -> Option<(usize, 
 /// &#32;&#32;&#32;&#32;(([overwrite] ([take] size region.old) offset source.now ≡ [Some] ([take] size region.new))
 /// &#32;&#32;&#32;&#32;× ([drop] size region.new ≡ [drop] size region.old))
 /// ensures err: [IfErr] result
-/// &#32;&#32;&#32;&#32;(λ error. (error ≡ MemoryError.OutOfBoundsAccess)
+/// &#32;&#32;&#32;&#32;(λ error. (error ≡ [MemoryError.OutOfBoundsAccess])
 /// &#32;&#32;&#32;&#32;× ([overwrite] ([take] size region.old) offset source.now ≡ [None])
 /// &#32;&#32;&#32;&#32;× (region.new ≡ region.old))
 /// ensures len: [length] region.new ≡ [length] region.old</code></pre>
@@ -224,6 +224,7 @@ pub fn question(ty: MemoryType, size: usize, additional: u64) -> Option<(usize, 
 /// [Some]: crate::specs::library#Some "the value x, of an \`Option\`"
 /// [drop]: crate::specs::library#drop "all but the first n elements"
 /// [IfErr]: crate::specs::library#IfErr "P of the error, if r is an error"
+/// [MemoryError.OutOfBoundsAccess]: crate::proved::meter::MemoryError::OutOfBoundsAccess
 /// [None]: crate::specs::library#None "no value, of an \`Option\`"
 #[inline]
 pub fn write(

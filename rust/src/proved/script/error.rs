@@ -15,6 +15,12 @@ pub enum ReplayError {
     ReadFault,
 }
 
+/// # Contract
+///
+/// <span></span><pre><code>output = λ error. [Some] ([error_text] error)</code></pre>
+///
+/// [Some]: crate::specs::library#Some "the value x, of an \`Option\`"
+/// [error_text]: crate::specs::script::Texts#error_text "why a script isn\'t run"
 impl fmt::Display for ReplayError {
     #[inline]
     fn fmt(&self, f: &mut fmt::Formatter<'_>) -> fmt::Result {
@@ -29,6 +35,9 @@ impl fmt::Display for ReplayError {
 
 impl std::error::Error for ReplayError {}
 
+/// # Contract
+///
+/// <span></span><pre><code>from_gives = λ \_ error. error ≡ Parse OutOfMemory</code></pre>
 impl From<AllocError> for ReplayError {
     #[inline]
     fn from(_: AllocError) -> Self {
@@ -36,6 +45,9 @@ impl From<AllocError> for ReplayError {
     }
 }
 
+/// # Contract
+///
+/// <span></span><pre><code>from_gives = λ \_ error. error ≡ Parse OutOfMemory</code></pre>
 impl<T> From<AllocFailed<T>> for ReplayError {
     #[inline]
     fn from(_: AllocFailed<T>) -> Self {
@@ -43,6 +55,9 @@ impl<T> From<AllocFailed<T>> for ReplayError {
     }
 }
 
+/// # Contract
+///
+/// <span></span><pre><code>from_gives = λ error replayed. replayed ≡ Parse error</code></pre>
 impl From<ParseError> for ReplayError {
     #[inline]
     fn from(error: ParseError) -> Self {

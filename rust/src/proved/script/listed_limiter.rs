@@ -79,6 +79,11 @@ impl<'w> AnswerList<'w> {
     }
 }
 
+/// # Contract
+///
+/// <span></span><pre><code>kind_rules = [answer_rules]</code></pre>
+///
+/// [answer_rules]: crate::specs::script::ListedLimiter#answer_rules "the rules of such a limiter: a notice is answered by the word of the last question, and takes none"
 impl LimiterByKind for AnswerList<'_> {
     #[inline]
     fn growing(&mut self, _: Kind, _: usize, _: usize) -> Result<bool, LimiterError> {

@@ -29,11 +29,13 @@ pub struct Replayed {
 /// # Contract
 ///
 /// <span></span><pre><code>ensures ok: [OnOk] result
-/// &#32;&#32;&#32;&#32;(Appends (W.contents writer.old) (W.contents writer.new) ([outcome_text] outcome.now))
+/// &#32;&#32;&#32;&#32;([Appends] ([W.contents] writer.old) ([W.contents] writer.new) ([outcome_text] outcome.now))
 /// ensures front: [OnErr] result
-/// &#32;&#32;&#32;&#32;([AppendsFront] (W.contents writer.old) (W.contents writer.new) ([outcome_text] outcome.now))</code></pre>
+/// &#32;&#32;&#32;&#32;([AppendsFront] ([W.contents] writer.old) ([W.contents] writer.new) ([outcome_text] outcome.now))</code></pre>
 ///
 /// [OnOk]: crate::specs::library#OnOk "P, if r is a value"
+/// [Appends]: crate::specs::library#Appends "\`new\` is \`old\` followed by the bytes of the text"
+/// [W.contents]: crate::specs::library#contents "the bytes that a writer holds, where they are known"
 /// [outcome_text]: crate::specs::script::Outcomes#outcome_text "what is printed: the replies and what is held then, or why the script isn\'t run"
 /// [OnErr]: crate::specs::library#OnErr "P, if r is an error"
 /// [AppendsFront]: crate::specs::script::Printing#AppendsFront "known bytes grow by the front of a text, up to some place in it"
@@ -50,12 +52,14 @@ pub fn print<W: io::Write>(writer: &mut W, outcome: &Result<Replayed, ReplayErro
 ///
 /// # Contract
 ///
-/// <span></span><pre><code>ensures ok: [OnOk] result (Appends (W.contents writer.old) (W.contents writer.new)
+/// <span></span><pre><code>ensures ok: [OnOk] result ([Appends] ([W.contents] writer.old) ([W.contents] writer.new)
 /// &#32;&#32;&#32;&#32;([replies_text] calls.now replies.now))
-/// ensures front: [OnErr] result ([AppendsFront] (W.contents writer.old) (W.contents writer.new)
+/// ensures front: [OnErr] result ([AppendsFront] ([W.contents] writer.old) ([W.contents] writer.new)
 /// &#32;&#32;&#32;&#32;([replies_text] calls.now replies.now))</code></pre>
 ///
 /// [OnOk]: crate::specs::library#OnOk "P, if r is a value"
+/// [Appends]: crate::specs::library#Appends "\`new\` is \`old\` followed by the bytes of the text"
+/// [W.contents]: crate::specs::library#contents "the bytes that a writer holds, where they are known"
 /// [replies_text]: crate::specs::script::Outcomes#replies_text "a line for each call, with its reply"
 /// [OnErr]: crate::specs::library#OnErr "P, if r is an error"
 /// [AppendsFront]: crate::specs::script::Printing#AppendsFront "known bytes grow by the front of a text, up to some place in it"
@@ -73,12 +77,13 @@ pub fn print_lines<W: io::Write>(writer: &mut W, calls: &[Call], replies: &[Repl
 /// # Contract
 ///
 /// <span></span><pre><code>ensures ok: [OnOk] result
-/// &#32;&#32;&#32;&#32;([PrintsOut] W.contents printer.old printer.new ([replies_text] calls.now replies.now))
+/// &#32;&#32;&#32;&#32;([PrintsOut] [W.contents] printer.old printer.new ([replies_text] calls.now replies.now))
 /// ensures front: [OnErr] result
-/// &#32;&#32;&#32;&#32;([PrintsFront] W.contents printer.old printer.new ([replies_text] calls.now replies.now))</code></pre>
+/// &#32;&#32;&#32;&#32;([PrintsFront] [W.contents] printer.old printer.new ([replies_text] calls.now replies.now))</code></pre>
 ///
 /// [OnOk]: crate::specs::library#OnOk "P, if r is a value"
 /// [PrintsOut]: crate::specs::script::Printing#PrintsOut "a text is out: the writer gets what waits and the text"
+/// [W.contents]: crate::specs::library#contents "the bytes that a writer holds, where they are known"
 /// [replies_text]: crate::specs::script::Outcomes#replies_text "a line for each call, with its reply"
 /// [OnErr]: crate::specs::library#OnErr "P, if r is an error"
 /// [PrintsFront]: crate::specs::script::Printing#PrintsFront "a text is printed in part: the writer gets the front of what waits and of the text"
@@ -97,12 +102,13 @@ fn print_all_replies<W: io::Write>(
 /// # Contract
 ///
 /// <span></span><pre><code>ensures ok: [OnOk] result
-/// &#32;&#32;&#32;&#32;([PrintsOut] W.contents printer.old printer.new ([outcome_text] outcome.now))
+/// &#32;&#32;&#32;&#32;([PrintsOut] [W.contents] printer.old printer.new ([outcome_text] outcome.now))
 /// ensures front: [OnErr] result
-/// &#32;&#32;&#32;&#32;([PrintsFront] W.contents printer.old printer.new ([outcome_text] outcome.now))</code></pre>
+/// &#32;&#32;&#32;&#32;([PrintsFront] [W.contents] printer.old printer.new ([outcome_text] outcome.now))</code></pre>
 ///
 /// [OnOk]: crate::specs::library#OnOk "P, if r is a value"
 /// [PrintsOut]: crate::specs::script::Printing#PrintsOut "a text is out: the writer gets what waits and the text"
+/// [W.contents]: crate::specs::library#contents "the bytes that a writer holds, where they are known"
 /// [outcome_text]: crate::specs::script::Outcomes#outcome_text "what is printed: the replies and what is held then, or why the script isn\'t run"
 /// [OnErr]: crate::specs::library#OnErr "P, if r is an error"
 /// [PrintsFront]: crate::specs::script::Printing#PrintsFront "a text is printed in part: the writer gets the front of what waits and of the text"
@@ -120,12 +126,13 @@ fn print_all<W: io::Write>(
 /// # Contract
 ///
 /// <span></span><pre><code>ensures ok: [OnOk] result
-/// &#32;&#32;&#32;&#32;([Prints] W.contents printer.old printer.new ([outcome_text] outcome.now))
+/// &#32;&#32;&#32;&#32;([Prints] [W.contents] printer.old printer.new ([outcome_text] outcome.now))
 /// ensures front: [OnErr] result
-/// &#32;&#32;&#32;&#32;([PrintsFront] W.contents printer.old printer.new ([outcome_text] outcome.now))</code></pre>
+/// &#32;&#32;&#32;&#32;([PrintsFront] [W.contents] printer.old printer.new ([outcome_text] outcome.now))</code></pre>
 ///
 /// [OnOk]: crate::specs::library#OnOk "P, if r is a value"
 /// [Prints]: crate::specs::script::Printing#Prints "A printer before and after a text is printed, by the bytes that its writer is known to have: it keeps its writer, and the text comes after what waits."
+/// [W.contents]: crate::specs::library#contents "the bytes that a writer holds, where they are known"
 /// [outcome_text]: crate::specs::script::Outcomes#outcome_text "what is printed: the replies and what is held then, or why the script isn\'t run"
 /// [OnErr]: crate::specs::library#OnErr "P, if r is an error"
 /// [PrintsFront]: crate::specs::script::Printing#PrintsFront "a text is printed in part: the writer gets the front of what waits and of the text"
@@ -149,12 +156,13 @@ fn print_outcome<W: io::Write>(
 /// # Contract
 ///
 /// <span></span><pre><code>ensures ok: [OnOk] result
-/// &#32;&#32;&#32;&#32;([Prints] W.contents printer.old printer.new ([replies_text] calls.now replies.now))
+/// &#32;&#32;&#32;&#32;([Prints] [W.contents] printer.old printer.new ([replies_text] calls.now replies.now))
 /// ensures front: [OnErr] result
-/// &#32;&#32;&#32;&#32;([PrintsFront] W.contents printer.old printer.new ([replies_text] calls.now replies.now))</code></pre>
+/// &#32;&#32;&#32;&#32;([PrintsFront] [W.contents] printer.old printer.new ([replies_text] calls.now replies.now))</code></pre>
 ///
 /// [OnOk]: crate::specs::library#OnOk "P, if r is a value"
 /// [Prints]: crate::specs::script::Printing#Prints "A printer before and after a text is printed, by the bytes that its writer is known to have: it keeps its writer, and the text comes after what waits."
+/// [W.contents]: crate::specs::library#contents "the bytes that a writer holds, where they are known"
 /// [replies_text]: crate::specs::script::Outcomes#replies_text "a line for each call, with its reply"
 /// [OnErr]: crate::specs::library#OnErr "P, if r is an error"
 /// [PrintsFront]: crate::specs::script::Printing#PrintsFront "a text is printed in part: the writer gets the front of what waits and of the text"
@@ -175,12 +183,13 @@ fn print_replies<W: io::Write>(
 /// # Contract
 ///
 /// <span></span><pre><code>ensures ok: [OnOk] result
-/// &#32;&#32;&#32;&#32;([Prints] W.contents printer.old printer.new ([line] ([reply_text] call.now reply.now)))
+/// &#32;&#32;&#32;&#32;([Prints] [W.contents] printer.old printer.new ([line] ([reply_text] call.now reply.now)))
 /// ensures front: [OnErr] result
-/// &#32;&#32;&#32;&#32;([PrintsFront] W.contents printer.old printer.new ([line] ([reply_text] call.now reply.now)))</code></pre>
+/// &#32;&#32;&#32;&#32;([PrintsFront] [W.contents] printer.old printer.new ([line] ([reply_text] call.now reply.now)))</code></pre>
 ///
 /// [OnOk]: crate::specs::library#OnOk "P, if r is a value"
 /// [Prints]: crate::specs::script::Printing#Prints "A printer before and after a text is printed, by the bytes that its writer is known to have: it keeps its writer, and the text comes after what waits."
+/// [W.contents]: crate::specs::library#contents "the bytes that a writer holds, where they are known"
 /// [line]: crate::specs::script::Printing#line "a text as a line"
 /// [reply_text]: crate::specs::script::Texts#reply_text "the reply to a call: its head, and a number for each byte that it tells"
 /// [OnErr]: crate::specs::library#OnErr "P, if r is an error"
@@ -217,12 +226,13 @@ fn bytes_of(reply: &Reply) -> &[u8] {
 ///
 /// # Contract
 ///
-/// <span></span><pre><code>ensures ok: [OnOk] result ([Prints] W.contents printer.old printer.new ([held_text] held.now))
+/// <span></span><pre><code>ensures ok: [OnOk] result ([Prints] [W.contents] printer.old printer.new ([held_text] held.now))
 /// ensures front: [OnErr] result
-/// &#32;&#32;&#32;&#32;([PrintsFront] W.contents printer.old printer.new ([held_text] held.now))</code></pre>
+/// &#32;&#32;&#32;&#32;([PrintsFront] [W.contents] printer.old printer.new ([held_text] held.now))</code></pre>
 ///
 /// [OnOk]: crate::specs::library#OnOk "P, if r is a value"
 /// [Prints]: crate::specs::script::Printing#Prints "A printer before and after a text is printed, by the bytes that its writer is known to have: it keeps its writer, and the text comes after what waits."
+/// [W.contents]: crate::specs::library#contents "the bytes that a writer holds, where they are known"
 /// [held_text]: crate::specs::script::Outcomes#held_text "what is held after a run"
 /// [OnErr]: crate::specs::library#OnErr "P, if r is an error"
 /// [PrintsFront]: crate::specs::script::Printing#PrintsFront "a text is printed in part: the writer gets the front of what waits and of the text"
@@ -242,12 +252,13 @@ fn print_held<W: io::Write>(printer: &mut Printer<'_, W>, held: &Held) -> fmt::R
 /// # Contract
 ///
 /// <span></span><pre><code>ensures ok: [OnOk] result
-/// &#32;&#32;&#32;&#32;([Prints] W.contents printer.old printer.new ([tenants_text] pool.now.machines))
+/// &#32;&#32;&#32;&#32;([Prints] [W.contents] printer.old printer.new ([tenants_text] pool.now.machines))
 /// ensures front: [OnErr] result
-/// &#32;&#32;&#32;&#32;([PrintsFront] W.contents printer.old printer.new ([tenants_text] pool.now.machines))</code></pre>
+/// &#32;&#32;&#32;&#32;([PrintsFront] [W.contents] printer.old printer.new ([tenants_text] pool.now.machines))</code></pre>
 ///
 /// [OnOk]: crate::specs::library#OnOk "P, if r is a value"
 /// [Prints]: crate::specs::script::Printing#Prints "A printer before and after a text is printed, by the bytes that its writer is known to have: it keeps its writer, and the text comes after what waits."
+/// [W.contents]: crate::specs::library#contents "the bytes that a writer holds, where they are known"
 /// [tenants_text]: crate::specs::script::Outcomes#tenants_text "a line for each tenant"
 /// [OnErr]: crate::specs::library#OnErr "P, if r is an error"
 /// [PrintsFront]: crate::specs::script::Printing#PrintsFront "a text is printed in part: the writer gets the front of what waits and of the text"
@@ -270,6 +281,12 @@ pub struct ReplyHead<'a> {
     pub reply: &'a Reply,
 }
 
+/// # Contract
+///
+/// <span></span><pre><code>output = λ head. [Some] ([head_text] head.call.now head.reply.now)</code></pre>
+///
+/// [Some]: crate::specs::library#Some "the value x, of an \`Option\`"
+/// [head_text]: crate::specs::script::Texts#head_text "the reply to a call, but for the numbers of its bytes"
 impl crate::rattle::arrayvec::Show for ReplyHead<'_> {
     #[inline]
     fn show<W: crate::rattle::arrayvec::Sink>(&self, f: &mut W) -> fmt::Result {
@@ -385,16 +402,18 @@ impl<'w, W: io::Write> Printer<'w, W> {
     ///
     /// # Contract
     ///
-    /// <span></span><pre><code>requires short: [IsShort] (D.output text)
+    /// <span></span><pre><code>requires short: [IsShort] ([D.output] text)
     /// ensures ok: [OnOk] result
-    /// &#32;&#32;&#32;&#32;([IfSome] (D.output text) (λ bytes. [Prints] W.contents self.old self.new bytes))
+    /// &#32;&#32;&#32;&#32;([IfSome] ([D.output] text) (λ bytes. [Prints] [W.contents] self.old self.new bytes))
     /// ensures front: [OnErr] result
-    /// &#32;&#32;&#32;&#32;([IfSome] (D.output text) (λ bytes. [PrintsFront] W.contents self.old self.new bytes))</code></pre>
+    /// &#32;&#32;&#32;&#32;([IfSome] ([D.output] text) (λ bytes. [PrintsFront] [W.contents] self.old self.new bytes))</code></pre>
     ///
     /// [IsShort]: crate::specs::script::Printing#IsShort "a text, where it is known, that may be printed at once"
+    /// [D.output]: crate::specs::library#output "what \`Display\` prints of x, if it is known"
     /// [OnOk]: crate::specs::library#OnOk "P, if r is a value"
     /// [IfSome]: crate::specs::library#IfSome "P of the value, if there is one"
     /// [Prints]: crate::specs::script::Printing#Prints "A printer before and after a text is printed, by the bytes that its writer is known to have: it keeps its writer, and the text comes after what waits."
+    /// [W.contents]: crate::specs::library#contents "the bytes that a writer holds, where they are known"
     /// [OnErr]: crate::specs::library#OnErr "P, if r is an error"
     /// [PrintsFront]: crate::specs::script::Printing#PrintsFront "a text is printed in part: the writer gets the front of what waits and of the text"
     #[inline]
@@ -407,17 +426,19 @@ impl<'w, W: io::Write> Printer<'w, W> {
     ///
     /// # Contract
     ///
-    /// <span></span><pre><code>requires short: [IsShort] (D.output text)
+    /// <span></span><pre><code>requires short: [IsShort] ([D.output] text)
     /// ensures ok: [OnOk] result
-    /// &#32;&#32;&#32;&#32;([IfSome] (D.output text) (λ bytes. [Prints] W.contents self.old self.new ([line] bytes)))
+    /// &#32;&#32;&#32;&#32;([IfSome] ([D.output] text) (λ bytes. [Prints] [W.contents] self.old self.new ([line] bytes)))
     /// ensures front: [OnErr] result
-    /// &#32;&#32;&#32;&#32;([IfSome] (D.output text)
-    /// &#32;&#32;&#32;&#32;(λ bytes. [PrintsFront] W.contents self.old self.new ([line] bytes)))</code></pre>
+    /// &#32;&#32;&#32;&#32;([IfSome] ([D.output] text)
+    /// &#32;&#32;&#32;&#32;(λ bytes. [PrintsFront] [W.contents] self.old self.new ([line] bytes)))</code></pre>
     ///
     /// [IsShort]: crate::specs::script::Printing#IsShort "a text, where it is known, that may be printed at once"
+    /// [D.output]: crate::specs::library#output "what \`Display\` prints of x, if it is known"
     /// [OnOk]: crate::specs::library#OnOk "P, if r is a value"
     /// [IfSome]: crate::specs::library#IfSome "P of the value, if there is one"
     /// [Prints]: crate::specs::script::Printing#Prints "A printer before and after a text is printed, by the bytes that its writer is known to have: it keeps its writer, and the text comes after what waits."
+    /// [W.contents]: crate::specs::library#contents "the bytes that a writer holds, where they are known"
     /// [line]: crate::specs::script::Printing#line "a text as a line"
     /// [OnErr]: crate::specs::library#OnErr "P, if r is an error"
     /// [PrintsFront]: crate::specs::script::Printing#PrintsFront "a text is printed in part: the writer gets the front of what waits and of the text"
@@ -431,12 +452,13 @@ impl<'w, W: io::Write> Printer<'w, W> {
     ///
     /// # Contract
     ///
-    /// <span></span><pre><code>ensures ok: [OnOk] result ([Prints] W.contents self.old self.new \[\])
-    /// ensures front: [OnErr] result ([SendsFront] W.contents self.old self.new)
+    /// <span></span><pre><code>ensures ok: [OnOk] result ([Prints] [W.contents] self.old self.new \[\])
+    /// ensures front: [OnErr] result ([SendsFront] [W.contents] self.old self.new)
     /// ensures room: [OnOk] result ([length] self.new.chunk.bytes + LONGEST ≤ CHUNK)</code></pre>
     ///
     /// [OnOk]: crate::specs::library#OnOk "P, if r is a value"
     /// [Prints]: crate::specs::script::Printing#Prints "A printer before and after a text is printed, by the bytes that its writer is known to have: it keeps its writer, and the text comes after what waits."
+    /// [W.contents]: crate::specs::library#contents "the bytes that a writer holds, where they are known"
     /// [OnErr]: crate::specs::library#OnErr "P, if r is an error"
     /// [SendsFront]: crate::specs::script::Printing#SendsFront "a front of what waits is out"
     /// [length]: crate::specs::library#length "the number of elements of a list"
@@ -452,11 +474,12 @@ impl<'w, W: io::Write> Printer<'w, W> {
     ///
     /// # Contract
     ///
-    /// <span></span><pre><code>ensures ok: [OnOk] result ([Sends] W.contents self.old self.new)
-    /// ensures front: [OnErr] result ([SendsFront] W.contents self.old self.new)</code></pre>
+    /// <span></span><pre><code>ensures ok: [OnOk] result ([Sends] [W.contents] self.old self.new)
+    /// ensures front: [OnErr] result ([SendsFront] [W.contents] self.old self.new)</code></pre>
     ///
     /// [OnOk]: crate::specs::library#OnOk "P, if r is a value"
     /// [Sends]: crate::specs::script::Printing#Sends "what waits is out"
+    /// [W.contents]: crate::specs::library#contents "the bytes that a writer holds, where they are known"
     /// [OnErr]: crate::specs::library#OnErr "P, if r is an error"
     /// [SendsFront]: crate::specs::script::Printing#SendsFront "a front of what waits is out"
     #[inline]
@@ -479,12 +502,13 @@ impl<'w, W: io::Write> Printer<'w, W> {
     ///
     /// # Contract
     ///
-    /// <span></span><pre><code>ensures ok: [OnOk] result ([Sends] W.contents self.old self.new)
+    /// <span></span><pre><code>ensures ok: [OnOk] result ([Sends] [W.contents] self.old self.new)
     /// ensures empty: [OnOk] result (self.new.chunk.bytes ≡ \[\])
-    /// ensures front: [OnErr] result ([SendsFront] W.contents self.old self.new)</code></pre>
+    /// ensures front: [OnErr] result ([SendsFront] [W.contents] self.old self.new)</code></pre>
     ///
     /// [OnOk]: crate::specs::library#OnOk "P, if r is a value"
     /// [Sends]: crate::specs::script::Printing#Sends "what waits is out"
+    /// [W.contents]: crate::specs::library#contents "the bytes that a writer holds, where they are known"
     /// [OnErr]: crate::specs::library#OnErr "P, if r is an error"
     /// [SendsFront]: crate::specs::script::Printing#SendsFront "a front of what waits is out"
     #[inline]
@@ -499,9 +523,12 @@ impl<'w, W: io::Write> Printer<'w, W> {
 ///
 /// # Contract
 ///
-/// <span></span><pre><code>ensures ok: IsOk result → Appends (W.contents writer.old) (W.contents writer.new) text.now
-/// ensures front: [AppendsFront] (W.contents writer.old) (W.contents writer.new) text.now</code></pre>
+/// <span></span><pre><code>ensures ok: [IsOk] result → [Appends] ([W.contents] writer.old) ([W.contents] writer.new) text.now
+/// ensures front: [AppendsFront] ([W.contents] writer.old) ([W.contents] writer.new) text.now</code></pre>
 ///
+/// [IsOk]: crate::specs::library#IsOk "r is a value"
+/// [Appends]: crate::specs::library#Appends "\`new\` is \`old\` followed by the bytes of the text"
+/// [W.contents]: crate::specs::library#contents "the bytes that a writer holds, where they are known"
 /// [AppendsFront]: crate::specs::script::Printing#AppendsFront "known bytes grow by the front of a text, up to some place in it"
 #[inline]
 fn send_all<W: io::Write>(writer: &mut W, text: &str) -> fmt::Result {

@@ -61,10 +61,12 @@ impl Status {
 ///
 /// # Contract
 ///
-/// <span></span><pre><code>ensures ends: [Replays] (R.remaining reader.old) (W.contents writer.old)
-/// &#32;&#32;&#32;&#32;(W.contents writer.new) result</code></pre>
+/// <span></span><pre><code>ensures ends: [Replays] ([R.remaining] reader.old) ([W.contents] writer.old)
+/// &#32;&#32;&#32;&#32;([W.contents] writer.new) result</code></pre>
 ///
 /// [Replays]: crate::specs::script::Outcomes#Replays "the bytes of a reader have an outcome, and a writer has got it"
+/// [R.remaining]: crate::specs::library#remaining "the bytes that a reader still has"
+/// [W.contents]: crate::specs::library#contents "the bytes that a writer holds, where they are known"
 #[inline]
 pub fn replay<R: io::Read, W: io::Write>(reader: &mut R, writer: &mut W) -> Status {
     let outcome = outcome_of(reader);
@@ -78,9 +80,10 @@ pub fn replay<R: io::Read, W: io::Write>(reader: &mut R, writer: &mut W) -> Stat
 ///
 /// # Contract
 ///
-/// <span></span><pre><code>ensures outcome: [IsOutcomeOfReader] (R.remaining reader.old) result</code></pre>
+/// <span></span><pre><code>ensures outcome: [IsOutcomeOfReader] ([R.remaining] reader.old) result</code></pre>
 ///
 /// [IsOutcomeOfReader]: crate::specs::script::Outcomes#IsOutcomeOfReader "an outcome of some bytes, which are those of a reader where it tells them"
+/// [R.remaining]: crate::specs::library#remaining "the bytes that a reader still has"
 #[inline]
 fn outcome_of<R: io::Read>(reader: &mut R) -> Result<Replayed, ReplayError> {
     let bytes = read(&mut Turns::new(reader))?;
@@ -133,9 +136,13 @@ impl<'r, R: io::Read> Turns<'r, R> {
     ///
     /// <span></span><pre><code>requires turns: self.old.taken ≤ LIMIT
     /// ensures taken: self.new.taken ≡ self.old.taken + 1
-    /// ensures bound: ReadsAtMost result buffer.new
-    /// ensures bytes: ReadConsumes (R.remaining self.old.reader.now)
-    /// &#32;&#32;&#32;&#32;(R.remaining self.new.reader.now) result buffer.new</code></pre>
+    /// ensures bound: [ReadsAtMost] result buffer.new
+    /// ensures bytes: [ReadConsumes] ([R.remaining] self.old.reader.now)
+    /// &#32;&#32;&#32;&#32;([R.remaining] self.new.reader.now) result buffer.new</code></pre>
+    ///
+    /// [ReadsAtMost]: crate::specs::library#ReadsAtMost "if r is a number, there are so many bytes"
+    /// [ReadConsumes]: crate::specs::library#ReadConsumes "a reader gave the bytes that r counts, and has the rest"
+    /// [R.remaining]: crate::specs::library#remaining "the bytes that a reader still has"
     #[inline]
     fn turn(&mut self, buffer: &mut [u8]) -> io::Result<usize> {
         self.taken += 1;
@@ -149,14 +156,16 @@ impl<'r, R: io::Read> Turns<'r, R> {
 /// # Contract
 ///
 /// <span></span><pre><code>requires fresh: reader.old.taken ≡ 0
-/// ensures bounded: [IfOk] result (λ script. vec_len script ≤ LIMIT)
+/// ensures bounded: [IfOk] result (λ script. [vec_len] script ≤ LIMIT)
 /// ensures whole: [IfOk] result
-/// &#32;&#32;&#32;&#32;(λ script. [IfSome] (R.remaining reader.old.reader.now) (λ bytes. script.items ≡ bytes))
-/// ensures refused: [IfErr] result ([IsReadError] (R.remaining reader.old.reader.now))
+/// &#32;&#32;&#32;&#32;(λ script. [IfSome] ([R.remaining] reader.old.reader.now) (λ bytes. script.items ≡ bytes))
+/// ensures refused: [IfErr] result ([IsReadError] ([R.remaining] reader.old.reader.now))
 /// ensures turns: reader.new.taken ≤ LIMIT + 1</code></pre>
 ///
 /// [IfOk]: crate::specs::library#IfOk "P of the value, if r is a value"
+/// [vec_len]: crate::specs::library#vec_len "the length of a \`Vec\`"
 /// [IfSome]: crate::specs::library#IfSome "P of the value, if there is one"
+/// [R.remaining]: crate::specs::library#remaining "the bytes that a reader still has"
 /// [IfErr]: crate::specs::library#IfErr "P of the error, if r is an error"
 /// [IsReadError]: crate::specs::script::Refusals#IsReadError "why the bytes that a reader has left aren\'t read"
 #[inline]

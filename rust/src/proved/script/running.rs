@@ -135,11 +135,12 @@ fn run_freely(header: &Header, calls: &[Call]) -> Result<Ran, AllocError> {
 ///
 /// # Contract
 ///
-/// <span></span><pre><code>ensures: [IfOk] result ([IsReplayOnOne] ([Some] (LimiterLine.Quota caps)) header.now calls.now)</code></pre>
+/// <span></span><pre><code>ensures: [IfOk] result ([IsReplayOnOne] ([Some] ([LimiterLine.Quota] caps)) header.now calls.now)</code></pre>
 ///
 /// [IfOk]: crate::specs::library#IfOk "P of the value, if r is a value"
 /// [IsReplayOnOne]: crate::specs::script::ScriptRuns#IsReplayOnOne "the replies are those of a run of the calls on a new machine with the meter and the region of these header lines"
 /// [Some]: crate::specs::library#Some "the value x, of an \`Option\`"
+/// [LimiterLine.Quota]: crate::proved::grammar::LimiterLine::Quota
 #[inline]
 fn run_under_quota(header: &Header, calls: &[Call], caps: Amounts) -> Result<Ran, AllocError> {
     let mut region = region_of(header)?;

@@ -60,13 +60,13 @@ pub fn permitted_minimum<L: ResourceLimiter>(
 /// &#32;&#32;&#32;&#32;([size_question] old_size size maximum) ([Ok] [true]) ([lent_limiter] limiter.new))
 /// ensures room: [OnOk] result (has_room ≡ [true])
 /// ensures paid: [OnOk] result ([Charges] fuel.old
-/// &#32;&#32;&#32;&#32;([due] fuel.old (λ costs. [copy_cost] costs (size - old_size) 1)) ([Ok] tt) fuel.new)
+/// &#32;&#32;&#32;&#32;([due] fuel.old (λ costs. [copy_cost] costs (size - old_size) 1)) ([Ok] [tt]) fuel.new)
 /// ensures refused: [IfErr] result (λ error. (x : [MemoryValue]) (pages : [ℕ]) → 0 < pages
 /// &#32;&#32;&#32;&#32;→ [IsAsked] ([growth_of] x pages) ([size_question] old_size size maximum)
 /// &#32;&#32;&#32;&#32;→ [fits_room] x.room (size - old_size) ≡ has_room
 /// &#32;&#32;&#32;&#32;→ [GrowsMemory] ([optional_rules] [L.rules]) pages
-/// &#32;&#32;&#32;&#32;([metered_value] x (Some fuel.old) ([lent_limiter] limiter.old)) ([Err] error)
-/// &#32;&#32;&#32;&#32;([metered_value] x (Some fuel.new) ([lent_limiter] limiter.new)))</code></pre>
+/// &#32;&#32;&#32;&#32;([metered_value] x ([Some] fuel.old) ([lent_limiter] limiter.old)) ([Err] error)
+/// &#32;&#32;&#32;&#32;([metered_value] x ([Some] fuel.new) ([lent_limiter] limiter.new)))</code></pre>
 ///
 /// [KeepsLoan]: crate::specs::meter::LimiterRef#KeepsLoan "r\' leads to what r leads to"
 /// [OnOk]: crate::specs::library#OnOk "P, if r is a value"
@@ -79,6 +79,7 @@ pub fn permitted_minimum<L: ResourceLimiter>(
 /// [Charges]: crate::specs::meter::Meter#Charges "a charge is taken where that much is left, and refused else with what it needs"
 /// [due]: crate::specs::meter::Meter#due "what a meter is due for a price by its costs: nothing where it is off"
 /// [copy_cost]: crate::specs::meter::Costs#copy_cost "the fuel for copying so many values of so many bytes each"
+/// [tt]: crate::specs::library#tt "the value \`()\`"
 /// [IfErr]: crate::specs::library#IfErr "P of the error, if r is an error"
 /// [MemoryValue]: crate::specs::store::Memory#MemoryValue "a memory: its type, its bytes, and the room that these may grow into"
 /// [ℕ]: crate::specs::library#%E2%84%95 "the whole numbers from 0 on"
@@ -87,6 +88,7 @@ pub fn permitted_minimum<L: ResourceLimiter>(
 /// [fits_room]: crate::specs::store::Buffer#fits_room "whether a room has place for n more bytes: what is left of a lent region may be too short"
 /// [GrowsMemory]: crate::specs::store::Memory#GrowsMemory "a memory grows by so many pages; it returns the old size in pages"
 /// [metered_value]: crate::specs::store::Growth#metered_value "a value with its meter, if there is one, and its limiter"
+/// [Some]: crate::specs::library#Some "the value x, of an \`Option\`"
 /// [Err]: crate::specs::library#Err "the error e, of a \`Result\`"
 #[inline]
 pub fn decide_growth<L: ResourceLimiter>(

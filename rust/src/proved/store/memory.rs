@@ -239,13 +239,14 @@ impl<R: Region> LinearMemory<R> {
     ///
     /// # Contract
     ///
-    /// <span></span><pre><code>ensures\* writes_back: [sem] 𝓛 ([Lends] (the_row [R.row] [R.Region]) ([Array] [u8] 0) self.entry result
+    /// <span></span><pre><code>ensures\* writes_back: [sem] 𝓛 ([Lends] ([the_row] [R.row] [R.Region]) ([Array] [u8] 0) self.entry result
     /// &#32;&#32;&#32;&#32;(λ ws. [memory_of] self.old.ty ([with_bytes] ([buffer_of] self.old) ws)))
     /// ensures value: result.now ≡ self.old.bytes</code></pre>
     ///
     /// [sem]: crate::specs::library#sem "the fixed form of a clause on a loan"
     /// [Lends]: crate::specs::library#Lends "the result r borrows from x: what is written through r last, w, makes x the value F w"
-    /// [R.row]: trait@Region#contract
+    /// [the_row]: crate::specs::library#the_row "the type itself, in a clause on a loan"
+    /// [R.row]: crate::specs::library#row "a type, in a clause on a loan"
     /// [R.Region]: trait@Region#contract
     /// [Array]: crate::specs::library#Array "in a clause on a loan: the type of a slice of T"
     /// [u8]: crate::specs::library#u8 "the bytes, in a clause on a loan"
@@ -374,7 +375,7 @@ impl<R: Region> LinearMemory<R> {
     ///
     /// <span></span><pre><code>ensures ok: [OnOk] result ([at] self.now.bytes offset ([length] buffer.old) ≡ [Some] buffer.new)
     /// ensures err: [IfErr] result
-    /// &#32;&#32;&#32;&#32;(λ error. (error ≡ MemoryError.OutOfBoundsAccess)
+    /// &#32;&#32;&#32;&#32;(λ error. (error ≡ [MemoryError.OutOfBoundsAccess])
     /// &#32;&#32;&#32;&#32;× ([at] self.now.bytes offset ([length] buffer.old) ≡ [None]) × (buffer.new ≡ buffer.old))</code></pre>
     ///
     /// [OnOk]: crate::specs::library#OnOk "P, if r is a value"
@@ -382,6 +383,7 @@ impl<R: Region> LinearMemory<R> {
     /// [length]: crate::specs::library#length "the number of elements of a list"
     /// [Some]: crate::specs::library#Some "the value x, of an \`Option\`"
     /// [IfErr]: crate::specs::library#IfErr "P of the error, if r is an error"
+    /// [MemoryError.OutOfBoundsAccess]: crate::proved::meter::MemoryError::OutOfBoundsAccess
     /// [None]: crate::specs::library#None "no value, of an \`Option\`"
     #[inline]
     pub fn read(&self, offset: usize, buffer: &mut [u8]) -> Result<(), MemoryError> {

@@ -26,7 +26,7 @@ pub fn lies_within<T>(items: &[T], index: u64, len: u64) -> bool {
 ///
 /// <span></span><pre><code>ensures ok: [OnOk] result ([at] bytes.now offset ([length] buffer.old) ≡ [Some] buffer.new)
 /// ensures err: [IfErr] result
-/// &#32;&#32;&#32;&#32;(λ error. (error ≡ MemoryError.OutOfBoundsAccess)
+/// &#32;&#32;&#32;&#32;(λ error. (error ≡ [MemoryError.OutOfBoundsAccess])
 /// &#32;&#32;&#32;&#32;× ([at] bytes.now offset ([length] buffer.old) ≡ [None]) × (buffer.new ≡ buffer.old))</code></pre>
 ///
 /// [OnOk]: crate::specs::library#OnOk "P, if r is a value"
@@ -34,6 +34,7 @@ pub fn lies_within<T>(items: &[T], index: u64, len: u64) -> bool {
 /// [length]: crate::specs::library#length "the number of elements of a list"
 /// [Some]: crate::specs::library#Some "the value x, of an \`Option\`"
 /// [IfErr]: crate::specs::library#IfErr "P of the error, if r is an error"
+/// [MemoryError.OutOfBoundsAccess]: crate::proved::meter::MemoryError::OutOfBoundsAccess
 /// [None]: crate::specs::library#None "no value, of an \`Option\`"
 #[inline]
 pub fn read_bytes(bytes: &[u8], offset: usize, buffer: &mut [u8]) -> Result<(), MemoryError> {

@@ -17,6 +17,12 @@ pub enum GlobalError {
     TypeMismatch,
 }
 
+/// # Contract
+///
+/// <span></span><pre><code>output = λ error. [Some] ([global_error_text] error)</code></pre>
+///
+/// [Some]: crate::specs::library#Some "the value x, of an \`Option\`"
+/// [global_error_text]: crate::specs::typed::GlobalError#global_error_text "the text of an error of a global variable"
 impl fmt::Display for GlobalError {
     #[inline]
     fn fmt(&self, f: &mut fmt::Formatter<'_>) -> fmt::Result {
@@ -45,9 +51,10 @@ impl Mutability {
     ///
     /// # Contract
     ///
-    /// <span></span><pre><code>ensures: [IsTrue] result ↔ (self.now ≡ Mutability.Const)</code></pre>
+    /// <span></span><pre><code>ensures: [IsTrue] result ↔ (self.now ≡ [Mutability.Const])</code></pre>
     ///
     /// [IsTrue]: crate::specs::library#IsTrue "b is true"
+    /// [Mutability.Const]: crate::proved::typed::Mutability::Const
     #[inline]
     pub fn is_const(&self) -> bool {
         matches!(self, Mutability::Const)
@@ -57,9 +64,10 @@ impl Mutability {
     ///
     /// # Contract
     ///
-    /// <span></span><pre><code>ensures: [IsTrue] result ↔ (self.now ≡ Mutability.Var)</code></pre>
+    /// <span></span><pre><code>ensures: [IsTrue] result ↔ (self.now ≡ [Mutability.Var])</code></pre>
     ///
     /// [IsTrue]: crate::specs::library#IsTrue "b is true"
+    /// [Mutability.Var]: crate::proved::typed::Mutability::Var
     #[inline]
     pub fn is_mut(&self) -> bool {
         matches!(self, Mutability::Var)
@@ -216,10 +224,11 @@ impl Global {
     ///
     /// # Contract
     ///
-    /// <span></span><pre><code>requires variable: self.old.ty.mutability ≡ Mutability.Var
+    /// <span></span><pre><code>requires variable: self.old.ty.mutability ≡ [Mutability.Var]
     /// ensures\* writes_back: [sem] 𝓛 ([LendsValue] self.entry result)
     /// ensures value: result.now ≡ self.old.value</code></pre>
     ///
+    /// [Mutability.Var]: crate::proved::typed::Mutability::Var
     /// [sem]: crate::specs::library#sem "the fixed form of a clause on a loan"
     /// [LendsValue]: crate::specs::typed::Lending#LendsValue "the global variable ends with the last value behind r"
     #[inline]

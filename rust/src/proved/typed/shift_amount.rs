@@ -20,14 +20,20 @@ mod sealed {
 ///
 /// <span></span><pre><code>Value = [ℕ]
 /// view = λ amount. amount.bits
-/// inverse = λ bits. record { bits = bits }</code></pre>
+/// inverse = λ [bits]. record { [bits] = [bits] }</code></pre>
 ///
 /// [ℕ]: crate::specs::library#%E2%84%95 "the whole numbers from 0 on"
+/// [bits]: crate::specs::library#bits "the number of bits of a width"
 #[derive(Clone, Copy, PartialEq, Eq)]
 pub struct ShiftAmount {
     bits: u8,
 }
 
+/// # Contract
+///
+/// <span></span><pre><code>from_gives = λ [bits] amount. amount ≡ [bits]</code></pre>
+///
+/// [bits]: crate::specs::library#bits "the number of bits of a width"
 impl From<u8> for ShiftAmount {
     #[inline]
     fn from(bits: u8) -> ShiftAmount {
@@ -35,6 +41,11 @@ impl From<u8> for ShiftAmount {
     }
 }
 
+/// # Contract
+///
+/// <span></span><pre><code>from_gives = λ amount [bits]. [bits] ≡ amount</code></pre>
+///
+/// [bits]: crate::specs::library#bits "the number of bits of a width"
 impl From<ShiftAmount> for u8 {
     #[inline]
     fn from(amount: ShiftAmount) -> u8 {
@@ -58,15 +69,20 @@ pub trait IntoShiftAmount: sealed::Sealed<<Self as IntoShiftAmount>::Lane> {
     ///
     /// # Contract
     ///
-    /// <span></span><pre><code>ensures: result ≡ [shift_amount] (bits Self.Lane.width) (Self.ShiftSource.number source)</code></pre>
+    /// <span></span><pre><code>ensures: result ≡ [shift_amount] ([bits] Self.Lane.width) (Self.ShiftSource.number source)</code></pre>
     ///
     /// [shift_amount]: crate::specs::typed::ShiftAmount#shift_amount "the remainder of a number by a width in bits, 0 or more; none where that is 0"
+    /// [bits]: crate::specs::library#bits "the number of bits of a width"
     fn into_shift_amount(source: Self::ShiftSource) -> Option<ShiftAmount>;
 }
 
 /// # Contract
 ///
-/// <span></span><pre><code>ensures: result ≡ (if bits == 0 then None else Some bits)</code></pre>
+/// <span></span><pre><code>ensures: result ≡ (if [bits] == 0 then [None] else [Some] [bits])</code></pre>
+///
+/// [bits]: crate::specs::library#bits "the number of bits of a width"
+/// [None]: crate::specs::library#None "no value, of an \`Option\`"
+/// [Some]: crate::specs::library#Some "the value x, of an \`Option\`"
 #[inline]
 fn unless_zero(bits: u8) -> Option<ShiftAmount> {
     if bits == 0 {

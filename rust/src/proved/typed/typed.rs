@@ -23,6 +23,9 @@ pub trait Typed {
 /// A type whose values are of the value type `I32`. Only this crate's `Typed` names it.
 pub trait TypedI32 {}
 
+/// # Contract
+///
+/// <span></span><pre><code>TY = types.I32</code></pre>
 impl<T: TypedI32> Typed for T {
     const TY: ValType = ValType::I32;
 }
@@ -47,30 +50,51 @@ impl TypedI32 for NonZero<i32> {}
 
 impl TypedI32 for NonZero<u32> {}
 
+/// # Contract
+///
+/// <span></span><pre><code>TY = types.I64</code></pre>
 impl Typed for i64 {
     const TY: ValType = ValType::I64;
 }
 
+/// # Contract
+///
+/// <span></span><pre><code>TY = types.I64</code></pre>
 impl Typed for u64 {
     const TY: ValType = ValType::I64;
 }
 
+/// # Contract
+///
+/// <span></span><pre><code>TY = types.I64</code></pre>
 impl Typed for NonZero<i64> {
     const TY: ValType = ValType::I64;
 }
 
+/// # Contract
+///
+/// <span></span><pre><code>TY = types.I64</code></pre>
 impl Typed for NonZero<u64> {
     const TY: ValType = ValType::I64;
 }
 
+/// # Contract
+///
+/// <span></span><pre><code>TY = types.F32</code></pre>
 impl Typed for F32 {
     const TY: ValType = ValType::F32;
 }
 
+/// # Contract
+///
+/// <span></span><pre><code>TY = types.F64</code></pre>
 impl Typed for F64 {
     const TY: ValType = ValType::F64;
 }
 
+/// # Contract
+///
+/// <span></span><pre><code>TY = types.V128</code></pre>
 impl Typed for V128 {
     const TY: ValType = ValType::V128;
 }
@@ -129,6 +153,12 @@ impl TypedRawVal {
     }
 }
 
+/// # Contract
+///
+/// <span></span><pre><code>from_gives = λ value typed. (typed.ty ≡ [T.TY]) × ([T.converts] value typed.raw)</code></pre>
+///
+/// [T.TY]: trait@Typed#contract
+/// [T.converts]: crate::specs::library#converts "what \`From\` or \`Into\` gives for x may be y"
 impl<T: Typed + Into<RawVal>> From<T> for TypedRawVal {
     #[inline]
     fn from(value: T) -> TypedRawVal {
@@ -139,6 +169,9 @@ impl<T: Typed + Into<RawVal>> From<T> for TypedRawVal {
     }
 }
 
+/// # Contract
+///
+/// <span></span><pre><code>from_gives = λ typed raw. raw ≡ typed.raw</code></pre>
 impl From<TypedRawVal> for RawVal {
     #[inline]
     fn from(typed: TypedRawVal) -> RawVal {
@@ -146,6 +179,11 @@ impl From<TypedRawVal> for RawVal {
     }
 }
 
+/// # Contract
+///
+/// <span></span><pre><code>from_gives = λ typed value. value ≡ [bool_in] typed.raw</code></pre>
+///
+/// [bool_in]: crate::specs::raw::RawVal#bool_in "whether the low word is not 0"
 impl From<TypedRawVal> for bool {
     #[inline]
     fn from(typed: TypedRawVal) -> bool {
@@ -153,6 +191,12 @@ impl From<TypedRawVal> for bool {
     }
 }
 
+/// # Contract
+///
+/// <span></span><pre><code>from_gives = λ typed value. value ≡ [signed_in] [w8] typed.raw</code></pre>
+///
+/// [signed_in]: crate::specs::raw::RawVal#signed_in "the low bits of a raw value, as many as a width has, read signed"
+/// [w8]: crate::specs::library#w8 "the widths of integers in bits"
 impl From<TypedRawVal> for i8 {
     #[inline]
     fn from(typed: TypedRawVal) -> i8 {
@@ -160,6 +204,12 @@ impl From<TypedRawVal> for i8 {
     }
 }
 
+/// # Contract
+///
+/// <span></span><pre><code>from_gives = λ typed value. value ≡ [signed_in] [w16] typed.raw</code></pre>
+///
+/// [signed_in]: crate::specs::raw::RawVal#signed_in "the low bits of a raw value, as many as a width has, read signed"
+/// [w16]: crate::specs::library#w16 "the widths of integers in bits"
 impl From<TypedRawVal> for i16 {
     #[inline]
     fn from(typed: TypedRawVal) -> i16 {
@@ -167,6 +217,12 @@ impl From<TypedRawVal> for i16 {
     }
 }
 
+/// # Contract
+///
+/// <span></span><pre><code>from_gives = λ typed value. value ≡ [signed_in] [w32] typed.raw</code></pre>
+///
+/// [signed_in]: crate::specs::raw::RawVal#signed_in "the low bits of a raw value, as many as a width has, read signed"
+/// [w32]: crate::specs::library#w32 "the widths of integers in bits"
 impl From<TypedRawVal> for i32 {
     #[inline]
     fn from(typed: TypedRawVal) -> i32 {
@@ -174,6 +230,12 @@ impl From<TypedRawVal> for i32 {
     }
 }
 
+/// # Contract
+///
+/// <span></span><pre><code>from_gives = λ typed value. value ≡ [signed_in] [w64] typed.raw</code></pre>
+///
+/// [signed_in]: crate::specs::raw::RawVal#signed_in "the low bits of a raw value, as many as a width has, read signed"
+/// [w64]: crate::specs::library#w64 "the widths of integers in bits"
 impl From<TypedRawVal> for i64 {
     #[inline]
     fn from(typed: TypedRawVal) -> i64 {
@@ -181,6 +243,12 @@ impl From<TypedRawVal> for i64 {
     }
 }
 
+/// # Contract
+///
+/// <span></span><pre><code>from_gives = λ typed value. value ≡ [unsigned_in] [w8] typed.raw</code></pre>
+///
+/// [unsigned_in]: crate::specs::raw::RawVal#unsigned_in "the low word cut to a width: the unsigned integer, and the signed one"
+/// [w8]: crate::specs::library#w8 "the widths of integers in bits"
 impl From<TypedRawVal> for u8 {
     #[inline]
     fn from(typed: TypedRawVal) -> u8 {
@@ -188,6 +256,12 @@ impl From<TypedRawVal> for u8 {
     }
 }
 
+/// # Contract
+///
+/// <span></span><pre><code>from_gives = λ typed value. value ≡ [unsigned_in] [w16] typed.raw</code></pre>
+///
+/// [unsigned_in]: crate::specs::raw::RawVal#unsigned_in "the low word cut to a width: the unsigned integer, and the signed one"
+/// [w16]: crate::specs::library#w16 "the widths of integers in bits"
 impl From<TypedRawVal> for u16 {
     #[inline]
     fn from(typed: TypedRawVal) -> u16 {
@@ -195,6 +269,12 @@ impl From<TypedRawVal> for u16 {
     }
 }
 
+/// # Contract
+///
+/// <span></span><pre><code>from_gives = λ typed value. value ≡ [unsigned_in] [w32] typed.raw</code></pre>
+///
+/// [unsigned_in]: crate::specs::raw::RawVal#unsigned_in "the low word cut to a width: the unsigned integer, and the signed one"
+/// [w32]: crate::specs::library#w32 "the widths of integers in bits"
 impl From<TypedRawVal> for u32 {
     #[inline]
     fn from(typed: TypedRawVal) -> u32 {
@@ -202,6 +282,12 @@ impl From<TypedRawVal> for u32 {
     }
 }
 
+/// # Contract
+///
+/// <span></span><pre><code>from_gives = λ typed value. value ≡ [unsigned_in] [w64] typed.raw</code></pre>
+///
+/// [unsigned_in]: crate::specs::raw::RawVal#unsigned_in "the low word cut to a width: the unsigned integer, and the signed one"
+/// [w64]: crate::specs::library#w64 "the widths of integers in bits"
 impl From<TypedRawVal> for u64 {
     #[inline]
     fn from(typed: TypedRawVal) -> u64 {
@@ -209,6 +295,11 @@ impl From<TypedRawVal> for u64 {
     }
 }
 
+/// # Contract
+///
+/// <span></span><pre><code>from_gives = λ typed value. value ≡ [vector_in] typed.raw</code></pre>
+///
+/// [vector_in]: crate::specs::raw::RawVal#vector_in "the vector of both words"
 impl From<TypedRawVal> for V128 {
     #[inline]
     fn from(typed: TypedRawVal) -> V128 {

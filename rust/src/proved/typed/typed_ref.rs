@@ -61,6 +61,13 @@ impl TypedRawRef {
     }
 }
 
+/// # Contract
+///
+/// <span></span><pre><code>from_gives = λ reference typed. typed
+/// &#32;&#32;&#32;&#32;≡ record { ty = [value_of] reference.ty; raw = [raw_of] reference.raw }</code></pre>
+///
+/// [value_of]: crate::specs::types::Value#value_of "the value type of a reference type"
+/// [raw_of]: crate::specs::raw::RawVal#raw_of "the low word is n, and the high word is 0"
 impl From<TypedRawRef> for TypedRawVal {
     #[inline]
     fn from(reference: TypedRawRef) -> TypedRawVal {
@@ -74,6 +81,12 @@ impl From<TypedRawRef> for TypedRawVal {
 #[derive(Debug, PartialEq, Eq)]
 pub struct NotAReference;
 
+/// # Contract
+///
+/// <span></span><pre><code>output = λ \_. [Some] [not_a_reference_text]</code></pre>
+///
+/// [Some]: crate::specs::library#Some "the value x, of an \`Option\`"
+/// [not_a_reference_text]: crate::specs::typed::NotAReference#not_a_reference_text "the text of the error where a value is no reference"
 impl fmt::Display for NotAReference {
     #[inline]
     fn fmt(&self, f: &mut fmt::Formatter<'_>) -> fmt::Result {
@@ -83,6 +96,11 @@ impl fmt::Display for NotAReference {
 
 impl core::error::Error for NotAReference {}
 
+/// # Contract
+///
+/// <span></span><pre><code>try_from_gives = [IsReference]</code></pre>
+///
+/// [IsReference]: crate::specs::typed::TypedRef#IsReference "the answer is the reference that a typed raw value is, or the error where its type is none of references"
 impl TypedRawRef {
     #[inline]
     pub(crate) fn of_value(typed: TypedRawVal) -> Result<TypedRawRef, NotAReference> {

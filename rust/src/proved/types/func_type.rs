@@ -22,6 +22,12 @@ pub enum FuncTypeError {
     OutOfMemory,
 }
 
+/// # Contract
+///
+/// <span></span><pre><code>output = λ error. [Some] ([func_type_error_text] error)</code></pre>
+///
+/// [Some]: crate::specs::library#Some "the value x, of an \`Option\`"
+/// [func_type_error_text]: crate::specs::types::FuncTypeError#func_type_error_text "the text of an error of a function type"
 impl fmt::Display for FuncTypeError {
     #[inline]
     fn fmt(&self, f: &mut fmt::Formatter<'_>) -> fmt::Result {
@@ -85,15 +91,19 @@ impl FuncType {
     ///
     /// # Contract
     ///
-    /// <span></span><pre><code>requires params: [EachBecomes] P.into_iter_gives params P.IntoIter.can_next
-    /// requires results: [EachBecomes] P.into_iter_gives params
-    /// &#32;&#32;&#32;&#32;(λ first. [EachBecomes] R.into_iter_gives results
-    /// &#32;&#32;&#32;&#32;(λ second. [AfterAll] P.IntoIter.next_gives first (R.IntoIter.can_next second)))
-    /// ensures reading: [IsReadingOf] P.into_iter_gives P.IntoIter.next_gives R.into_iter_gives
-    /// &#32;&#32;&#32;&#32;R.IntoIter.next_gives params results result</code></pre>
+    /// <span></span><pre><code>requires params: [EachBecomes] [P.into_iter_gives] params [P.IntoIter].can_next
+    /// requires results: [EachBecomes] [P.into_iter_gives] params
+    /// &#32;&#32;&#32;&#32;(λ first. [EachBecomes] [R.into_iter_gives] results
+    /// &#32;&#32;&#32;&#32;(λ second. [AfterAll] [P.IntoIter].next_gives first ([R.IntoIter].can_next second)))
+    /// ensures reading: [IsReadingOf] [P.into_iter_gives] [P.IntoIter].next_gives [R.into_iter_gives]
+    /// &#32;&#32;&#32;&#32;[R.IntoIter].next_gives params results result</code></pre>
     ///
     /// [EachBecomes]: crate::specs::types::Iteration#EachBecomes "each iterator that a value becomes has a fact"
+    /// [P.into_iter_gives]: crate::specs::library#into_iter_gives "what \`into_iter\` gives for xs may be it"
+    /// [P.IntoIter]: crate::specs::library#IntoIter "the iterator that \`into_iter\` gives"
+    /// [R.into_iter_gives]: crate::specs::library#into_iter_gives "what \`into_iter\` gives for xs may be it"
     /// [AfterAll]: crate::specs::types::Reading#AfterAll "a fact that holds once calls from s gave all types, and then the end"
+    /// [R.IntoIter]: crate::specs::library#IntoIter "the iterator that \`into_iter\` gives"
     /// [IsReadingOf]: crate::specs::types::Reading#IsReadingOf "the answer after reading the iterators that x and y become"
     #[inline]
     pub fn new<P, R>(params: P, results: R) -> Result<Self, FuncTypeError>
@@ -119,14 +129,18 @@ impl FuncType {
     ///
     /// # Contract
     ///
-    /// <span></span><pre><code>requires params: P.can_next params.old
-    /// requires results: [AfterAll] P.next_gives params.old (R.can_next results.old)
-    /// ensures reading: [IsReading] P.next_gives R.next_gives params.old results.old result
+    /// <span></span><pre><code>requires params: [P.can_next] params.old
+    /// requires results: [AfterAll] [P.next_gives] params.old ([R.can_next] results.old)
+    /// ensures reading: [IsReading] [P.next_gives] [R.next_gives] params.old results.old result
     /// &#32;&#32;&#32;&#32;params.new
     /// &#32;&#32;&#32;&#32;results.new</code></pre>
     ///
+    /// [P.can_next]: crate::specs::library#can_next "whether \`next\` may be called on the iterator"
     /// [AfterAll]: crate::specs::types::Reading#AfterAll "a fact that holds once calls from s gave all types, and then the end"
+    /// [P.next_gives]: crate::specs::library#next_gives "\`next\` on it may give x and leave it\'"
+    /// [R.can_next]: crate::specs::library#can_next "whether \`next\` may be called on the iterator"
     /// [IsReading]: crate::specs::types::Reading#IsReading "the answer after calls from p to p\' and from r to r\': the function type of all that came, or the refusal"
+    /// [R.next_gives]: crate::specs::library#next_gives "\`next\` on it may give x and leave it\'"
     #[inline]
     pub fn read<P, R>(params: &mut P, results: &mut R) -> Result<Self, FuncTypeError>
     where
@@ -256,7 +270,7 @@ impl FuncType {
     /// ensures params: result.1 ≡ [length] self.now.params
     /// ensures results: result.2
     /// &#32;&#32;&#32;&#32;≡ (if [nat_le] ([entry_count] self.now) 21 then [length] self.now.results else 0)
-    /// ensures [entries]\: result.3.now ≡ [entries] self.now</code></pre>
+    /// ensures entries: result.3.now ≡ [entries] self.now</code></pre>
     ///
     /// [not]: crate::specs::library#not "the other Boolean"
     /// [nat_le]: crate::specs::library#nat_le "whether m is at most n, as a Boolean"
@@ -291,6 +305,9 @@ impl FuncType {
     }
 }
 
+/// # Contract
+///
+/// <span></span><pre><code>is_clone = λ ty copy. copy ≡ ty</code></pre>
 impl crate::rattle::TryClone for FuncType {
     /// The same function type. Memory can be refused only where it has more than 21 entries.
     ///
@@ -327,6 +344,11 @@ impl crate::rattle::TryClone for FuncType {
     }
 }
 
+/// # Contract
+///
+/// <span></span><pre><code>eq = [same_lists] ⟦\<ValType as PartialEq>⟧.eq</code></pre>
+///
+/// [same_lists]: crate::specs::types::FunctionType#same_lists "whether both lists are the same, by a test of value types"
 impl PartialEq for FuncType {
     /// # Contract
     ///
@@ -343,19 +365,34 @@ impl PartialEq for FuncType {
 
 impl Eq for FuncType {}
 
+/// # Contract
+///
+/// <span></span><pre><code>cmp = [function_type_cmp]
+/// total = [on_texts] [order_key]</code></pre>
+///
+/// [function_type_cmp]: crate::specs::types::FunctionType#function_type_cmp "the order of two function types"
+/// [on_texts]: crate::specs::library#on_texts "the order of lists, element by element, by a number for each"
+/// [order_key]: crate::specs::types::FunctionType#order_key "what function types are ordered by, place by place: small ones (at most 21 entries) come first, then the number of parameters counts, among small ones then that of results, then the entries"
 impl Ord for FuncType {
     /// # Contract
     ///
     /// <span></span><pre><code>ensures cmp: result ≡ [function_type_cmp] self.now other.now
-    /// ensures equal: (result ≡ Ordering.Equal) ↔ (self.now ≡ other.now)</code></pre>
+    /// ensures equal: (result ≡ [Ordering].Equal) ↔ (self.now ≡ other.now)</code></pre>
     ///
     /// [function_type_cmp]: crate::specs::types::FunctionType#function_type_cmp "the order of two function types"
+    /// [Ordering]: crate::specs::library#Ordering "less, equal or greater"
     #[inline]
     fn cmp(&self, other: &Self) -> Ordering {
         self.order_key().cmp(&other.order_key())
     }
 }
 
+/// # Contract
+///
+/// <span></span><pre><code>partial_cmp = [as_partial_cmp] [function_type_cmp]</code></pre>
+///
+/// [as_partial_cmp]: crate::specs::library#as_partial_cmp "the order \`cmp\`, as \`partial_cmp\` gives it"
+/// [function_type_cmp]: crate::specs::types::FunctionType#function_type_cmp "the order of two function types"
 impl PartialOrd for FuncType {
     #[inline]
     fn partial_cmp(&self, other: &Self) -> Option<Ordering> {
@@ -363,6 +400,11 @@ impl PartialOrd for FuncType {
     }
 }
 
+/// # Contract
+///
+/// <span></span><pre><code>hash_input = [lists_input] ⟦\<ValType as Hash>⟧.hash_input</code></pre>
+///
+/// [lists_input]: crate::specs::types::FunctionType#lists_input "what a function type gives to a hasher: the parameters, then the results"
 impl Hash for FuncType {
     #[inline]
     fn hash<H: Hasher>(&self, state: &mut H) {
@@ -442,11 +484,13 @@ impl Entries {
     ///
     /// # Contract
     ///
-    /// <span></span><pre><code>requires readable: I.can_next types.old
-    /// ensures read: [ReadsNextType] I.next_gives I.can_next types.old self.old result types.new
+    /// <span></span><pre><code>requires readable: [I.can_next] types.old
+    /// ensures read: [ReadsNextType] [I.next_gives] [I.can_next] types.old self.old result types.new
     /// &#32;&#32;&#32;&#32;self.new</code></pre>
     ///
+    /// [I.can_next]: crate::specs::library#can_next "whether \`next\` may be called on the iterator"
     /// [ReadsNextType]: crate::specs::types::Reading#ReadsNextType "a call from s to t gave a type that was appended, or was refused memory after 21, or gave the end"
+    /// [I.next_gives]: crate::specs::library#next_gives "\`next\` on it may give x and leave it\'"
     #[inline]
     fn push_next<I>(&mut self, types: &mut I) -> Result<bool, AllocError>
     where
@@ -465,14 +509,16 @@ impl Entries {
     ///
     /// # Contract
     ///
-    /// <span></span><pre><code>requires readable: I.can_next types.old
+    /// <span></span><pre><code>requires readable: [I.can_next] types.old
     /// ensures ok: [IfOk] result
-    /// &#32;&#32;&#32;&#32;(λ count. [ReadsTypes] I.next_gives types.old self.old count types.new self.new)
+    /// &#32;&#32;&#32;&#32;(λ count. [ReadsTypes] [I.next_gives] types.old self.old count types.new self.new)
     /// ensures err: [IfErr] result
-    /// &#32;&#32;&#32;&#32;(λ error. [IsReadingRefusal] I.next_gives too_many types.old self.old error types.new)</code></pre>
+    /// &#32;&#32;&#32;&#32;(λ error. [IsReadingRefusal] [I.next_gives] too_many types.old self.old error types.new)</code></pre>
     ///
+    /// [I.can_next]: crate::specs::library#can_next "whether \`next\` may be called on the iterator"
     /// [IfOk]: crate::specs::library#IfOk "P of the value, if r is a value"
     /// [ReadsTypes]: crate::specs::types::Reading#ReadsTypes "calls from s to t gave so many types, at most 1,000, and then the end; they follow those before"
+    /// [I.next_gives]: crate::specs::library#next_gives "\`next\` on it may give x and leave it\'"
     /// [IfErr]: crate::specs::library#IfErr "P of the error, if r is an error"
     /// [IsReadingRefusal]: crate::specs::types::Reading#IsReadingRefusal "why a part was not read"
     #[inline]

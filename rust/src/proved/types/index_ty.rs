@@ -33,9 +33,10 @@ impl IndexType {
     ///
     /// # Contract
     ///
-    /// <span></span><pre><code>ensures: [IsTrue] result ↔ (self.now ≡ IndexType.I64)</code></pre>
+    /// <span></span><pre><code>ensures: [IsTrue] result ↔ (self.now ≡ [IndexType.I64])</code></pre>
     ///
     /// [IsTrue]: crate::specs::library#IsTrue "b is true"
+    /// [IndexType.I64]: crate::proved::types::IndexType::I64
     #[inline]
     pub fn is_64(&self) -> bool {
         matches!(self, Self::I64)

@@ -102,12 +102,14 @@ impl<H: HostError> Trap<H> {
     ///
     /// # Contract
     ///
-    /// <span></span><pre><code>ensures\* writes_back: [sem] 𝓛 ([LendsIf] (the_row H.row) H.row self.entry result
+    /// <span></span><pre><code>ensures\* writes_back: [sem] 𝓛 ([LendsIf] ([the_row] [H.row]) [H.row] self.entry result
     /// &#32;&#32;&#32;&#32;([with_host_error] self.old) self.old)
     /// ensures value: [option_copied_mut] result ≡ [host_error_of] self.old</code></pre>
     ///
     /// [sem]: crate::specs::library#sem "the fixed form of a clause on a loan"
     /// [LendsIf]: crate::specs::library#LendsIf "as \`Lends\` where the result is a value; else x is v"
+    /// [the_row]: crate::specs::library#the_row "the type itself, in a clause on a loan"
+    /// [H.row]: crate::specs::library#row "a type, in a clause on a loan"
     /// [with_host_error]: crate::specs::types::TrapReason#with_host_error "the reason with another error of the host, if it carries one"
     /// [option_copied_mut]: crate::specs::library#option_copied_mut "the value behind an optional \`&mut\`, if there is one"
     /// [host_error_of]: crate::specs::types::TrapReason#host_error_of "the host\'s error of a reason, if it is one"
@@ -135,12 +137,14 @@ impl<H: HostError> Trap<H> {
 impl<H> TrapReason<H> {
     /// # Contract
     ///
-    /// <span></span><pre><code>ensures\* writes_back: [sem] 𝓛 ([LendsIf] (the_row H.row) H.row self.entry result
+    /// <span></span><pre><code>ensures\* writes_back: [sem] 𝓛 ([LendsIf] ([the_row] [H.row]) [H.row] self.entry result
     /// &#32;&#32;&#32;&#32;([with_host_error] self.old) self.old)
     /// ensures value: [option_copied_mut] result ≡ [host_error_of] self.old</code></pre>
     ///
     /// [sem]: crate::specs::library#sem "the fixed form of a clause on a loan"
     /// [LendsIf]: crate::specs::library#LendsIf "as \`Lends\` where the result is a value; else x is v"
+    /// [the_row]: crate::specs::library#the_row "the type itself, in a clause on a loan"
+    /// [H.row]: crate::specs::library#row "a type, in a clause on a loan"
     /// [with_host_error]: crate::specs::types::TrapReason#with_host_error "the reason with another error of the host, if it carries one"
     /// [option_copied_mut]: crate::specs::library#option_copied_mut "the value behind an optional \`&mut\`, if there is one"
     /// [host_error_of]: crate::specs::types::TrapReason#host_error_of "the host\'s error of a reason, if it is one"
@@ -153,6 +157,12 @@ impl<H> TrapReason<H> {
     }
 }
 
+/// # Contract
+///
+/// <span></span><pre><code>output = [text_of] [H.output]</code></pre>
+///
+/// [text_of]: crate::specs::types::TrapReason#text_of "the text of a reason, where \`host_text\` is that of the host\'s error"
+/// [H.output]: crate::specs::library#output "what \`Display\` prints of x, if it is known"
 impl<H: HostError> fmt::Display for Trap<H> {
     #[inline]
     fn fmt(&self, f: &mut fmt::Formatter<'_>) -> fmt::Result {
@@ -167,6 +177,9 @@ impl<H: HostError> fmt::Display for Trap<H> {
 
 impl<H: HostError> Error for Trap<H> {}
 
+/// # Contract
+///
+/// <span></span><pre><code>from_gives = λ code trap. trap ≡ reason.InstructionTrap code</code></pre>
 impl<H: HostError> From<TrapCode> for Trap<H> {
     #[inline]
     fn from(code: TrapCode) -> Self {
@@ -176,6 +189,9 @@ impl<H: HostError> From<TrapCode> for Trap<H> {
     }
 }
 
+/// # Contract
+///
+/// <span></span><pre><code>from_gives = λ error trap. trap ≡ reason.Host error</code></pre>
 impl<H: HostError> From<H> for Trap<H> {
     #[inline]
     fn from(error: H) -> Self {
@@ -250,6 +266,12 @@ impl TrapCode {
     }
 }
 
+/// # Contract
+///
+/// <span></span><pre><code>output = λ code. [Some] ([code_message] code)</code></pre>
+///
+/// [Some]: crate::specs::library#Some "the value x, of an \`Option\`"
+/// [code_message]: crate::specs::types::Trap#code_message "the text of a trap code"
 impl fmt::Display for TrapCode {
     #[inline]
     fn fmt(&self, f: &mut fmt::Formatter<'_>) -> fmt::Result {
@@ -257,6 +279,11 @@ impl fmt::Display for TrapCode {
     }
 }
 
+/// # Contract
+///
+/// <span></span><pre><code>from_gives = λ code number. number ≡ [code_number] code</code></pre>
+///
+/// [code_number]: crate::specs::types::Trap#code_number "the number that stands for a trap code"
 impl From<TrapCode> for u8 {
     #[inline]
     fn from(code: TrapCode) -> u8 {
@@ -264,6 +291,11 @@ impl From<TrapCode> for u8 {
     }
 }
 
+/// # Contract
+///
+/// <span></span><pre><code>try_from_gives = [IsCodeOf]</code></pre>
+///
+/// [IsCodeOf]: crate::specs::types::Trap#IsCodeOf "the answer is the trap code with this number, or the error where no trap code has it"
 impl TryFrom<u8> for TrapCode {
     type Error = InvalidTrapCode;
 

@@ -75,6 +75,11 @@ pub enum RefType {
     Extern,
 }
 
+/// # Contract
+///
+/// <span></span><pre><code>from_gives = λ ty value. value ≡ [value_of] ty</code></pre>
+///
+/// [value_of]: crate::specs::types::Value#value_of "the value type of a reference type"
 impl From<RefType> for ValType {
     #[inline]
     fn from(ty: RefType) -> ValType {

@@ -9,18 +9,19 @@
 /// <span></span><pre><code>ensures unary: (narrow wide : [Width]) (first : [ℕ]) (read : [ℕ] → A) (row : A → [ℕ]) (v i : [ℕ])
 /// &#32;&#32;&#32;&#32;→ i < [lane_count] wide
 /// &#32;&#32;&#32;&#32;→ [lane] wide ([half_unary] narrow wide first read row v) i
-/// &#32;&#32;&#32;&#32;≡ row (read ([lane] narrow v (first + i))) % 2 ^ bits wide
+/// &#32;&#32;&#32;&#32;≡ row (read ([lane] narrow v (first + i))) % 2 ^ [bits] wide
 /// ensures binary: (narrow wide : [Width]) (first : [ℕ]) (read : [ℕ] → A) (row : A → A → [ℕ]) (a b i : [ℕ])
 /// &#32;&#32;&#32;&#32;→ i < [lane_count] wide
 /// &#32;&#32;&#32;&#32;→ [lane] wide ([half_binary] narrow wide first read row a b) i
 /// &#32;&#32;&#32;&#32;≡ row (read ([lane] narrow a (first + i)))
-/// &#32;&#32;&#32;&#32;(read ([lane] narrow b (first + i))) % 2 ^ bits wide</code></pre>
+/// &#32;&#32;&#32;&#32;(read ([lane] narrow b (first + i))) % 2 ^ [bits] wide</code></pre>
 ///
 /// [Width]: crate::specs::library#Width "the widths of integers: 8, 16, 32, 64 or 128 bits"
 /// [ℕ]: crate::specs::library#%E2%84%95 "the whole numbers from 0 on"
 /// [lane_count]: crate::specs::widening::Widening#lane_count "how many lanes of a width a vector has"
 /// [lane]: crate::specs::lanes::Lane#lane "lane i of the vector v"
 /// [half_unary]: crate::specs::widening::Widening#half_unary "lane i is the row of the narrow lanes first + i: 0 is the first one of the lower half, \`lane_count wide\` that of the upper"
+/// [bits]: crate::specs::library#bits "the number of bits of a width"
 /// [half_binary]: crate::specs::widening::Widening#half_binary "the wide vector whose lane i is the row of the narrow lanes at first + i of two vectors"
 #[inline]
 pub fn lanes_of_halves<A>() {}
@@ -30,19 +31,20 @@ pub fn lanes_of_halves<A>() {}
 ///
 /// # Contract
 ///
-/// <span></span><pre><code>ensures low_s: (narrow wide : [Width]) (v i : [ℕ]) → bits narrow ≤ bits wide → i < [lane_count] wide
+/// <span></span><pre><code>ensures low_s: (narrow wide : [Width]) (v i : [ℕ]) → [bits] narrow ≤ [bits] wide → i < [lane_count] wide
 /// &#32;&#32;&#32;&#32;→ [signed] wide ([lane] wide ([vector.extend_low_s] narrow wide v) i)
 /// &#32;&#32;&#32;&#32;≡ [signed] narrow ([lane] narrow v i)
-/// ensures low_u: (narrow wide : [Width]) (v i : [ℕ]) → bits narrow ≤ bits wide → i < [lane_count] wide
+/// ensures low_u: (narrow wide : [Width]) (v i : [ℕ]) → [bits] narrow ≤ [bits] wide → i < [lane_count] wide
 /// &#32;&#32;&#32;&#32;→ [lane] wide ([vector.extend_low_u] narrow wide v) i ≡ [lane] narrow v i
-/// ensures high_s: (narrow wide : [Width]) (v i : [ℕ]) → bits narrow ≤ bits wide → i < [lane_count] wide
+/// ensures high_s: (narrow wide : [Width]) (v i : [ℕ]) → [bits] narrow ≤ [bits] wide → i < [lane_count] wide
 /// &#32;&#32;&#32;&#32;→ [signed] wide ([lane] wide ([vector.extend_high_s] narrow wide v) i)
 /// &#32;&#32;&#32;&#32;≡ [signed] narrow ([lane] narrow v ([lane_count] wide + i))
-/// ensures high_u: (narrow wide : [Width]) (v i : [ℕ]) → bits narrow ≤ bits wide → i < [lane_count] wide
+/// ensures high_u: (narrow wide : [Width]) (v i : [ℕ]) → [bits] narrow ≤ [bits] wide → i < [lane_count] wide
 /// &#32;&#32;&#32;&#32;→ [lane] wide ([vector.extend_high_u] narrow wide v) i ≡ [lane] narrow v ([lane_count] wide + i)</code></pre>
 ///
 /// [Width]: crate::specs::library#Width "the widths of integers: 8, 16, 32, 64 or 128 bits"
 /// [ℕ]: crate::specs::library#%E2%84%95 "the whole numbers from 0 on"
+/// [bits]: crate::specs::library#bits "the number of bits of a width"
 /// [lane_count]: crate::specs::widening::Widening#lane_count "how many lanes of a width a vector has"
 /// [signed]: crate::specs::library#cast_signed "the number from 0 up to 2 ^ w read as signed, in two\'s complement"
 /// [lane]: crate::specs::lanes::Lane#lane "lane i of the vector v"
@@ -58,14 +60,15 @@ pub fn extended_lanes() {}
 ///
 /// # Contract
 ///
-/// <span></span><pre><code>ensures below: (w : [Width]) (z : [ℤ]) → [wrap] w z < 2 ^ bits w
-/// ensures [signed]\: (w : [Width]) (z : [ℤ]) → [FitsSigned] w z → [signed] w ([wrap] w z) ≡ z</code></pre>
+/// <span></span><pre><code>ensures below: (w : [Width]) (z : [ℤ]) → [wrap] w z < 2 ^ [bits] w
+/// ensures signed: (w : [Width]) (z : [ℤ]) → [FitsSigned] w z → [signed] w ([wrap] w z) ≡ z</code></pre>
 ///
 /// [Width]: crate::specs::library#Width "the widths of integers: 8, 16, 32, 64 or 128 bits"
 /// [ℤ]: crate::specs::library#%E2%84%A4 "the whole numbers, with a sign"
 /// [wrap]: crate::specs::types::Wrapping#wrap "the number below 2 ^ w that differs from z by a multiple of 2 ^ w"
-/// [signed]: crate::specs::library#cast_signed "the number from 0 up to 2 ^ w read as signed, in two\'s complement"
+/// [bits]: crate::specs::library#bits "the number of bits of a width"
 /// [FitsSigned]: crate::specs::library#FitsSigned "z is in the range of the signed integers of a width"
+/// [signed]: crate::specs::library#cast_signed "the number from 0 up to 2 ^ w read as signed, in two\'s complement"
 #[inline]
 pub fn wrapped_numbers() {}
 
@@ -78,18 +81,19 @@ pub fn wrapped_numbers() {}
 /// &#32;&#32;&#32;&#32;→ i < [lane_count] wide
 /// &#32;&#32;&#32;&#32;→ [lane] wide ([pairwise_unary] narrow wide read row v) i
 /// &#32;&#32;&#32;&#32;≡ row (read ([lane] narrow v (2 \* i)))
-/// &#32;&#32;&#32;&#32;(read ([lane] narrow v (2 \* i + 1))) % 2 ^ bits wide
+/// &#32;&#32;&#32;&#32;(read ([lane] narrow v (2 \* i + 1))) % 2 ^ [bits] wide
 /// ensures binary: (narrow wide : [Width]) (read : [ℕ] → A) (row : A → A → A → A → [ℕ]) (a b i : [ℕ])
 /// &#32;&#32;&#32;&#32;→ i < [lane_count] wide
 /// &#32;&#32;&#32;&#32;→ [lane] wide ([pairwise_binary] narrow wide read row a b) i
 /// &#32;&#32;&#32;&#32;≡ row (read ([lane] narrow a (2 \* i))) (read ([lane] narrow a (2 \* i + 1)))
-/// &#32;&#32;&#32;&#32;(read ([lane] narrow b (2 \* i))) (read ([lane] narrow b (2 \* i + 1))) % 2 ^ bits wide</code></pre>
+/// &#32;&#32;&#32;&#32;(read ([lane] narrow b (2 \* i))) (read ([lane] narrow b (2 \* i + 1))) % 2 ^ [bits] wide</code></pre>
 ///
 /// [Width]: crate::specs::library#Width "the widths of integers: 8, 16, 32, 64 or 128 bits"
 /// [ℕ]: crate::specs::library#%E2%84%95 "the whole numbers from 0 on"
 /// [lane_count]: crate::specs::widening::Widening#lane_count "how many lanes of a width a vector has"
 /// [lane]: crate::specs::lanes::Lane#lane "lane i of the vector v"
 /// [pairwise_unary]: crate::specs::widening::Widening#pairwise_unary "lane i is the row of the narrow lanes 2 \* i and 2 \* i + 1, of the first operand and then of the second"
+/// [bits]: crate::specs::library#bits "the number of bits of a width"
 /// [pairwise_binary]: crate::specs::widening::Widening#pairwise_binary "the wide vector whose lane i is the row of the narrow lanes 2 \* i and 2 \* i + 1 of two vectors"
 #[inline]
 pub fn pairwise_lanes<A>() {}
@@ -103,17 +107,18 @@ pub fn pairwise_lanes<A>() {}
 /// <span></span><pre><code>ensures low: (wide narrow : [Width]) (read : [ℕ] → A) (row : A → [ℕ]) (low high i : [ℕ])
 /// &#32;&#32;&#32;&#32;→ i < [lane_count] wide → i < [lane_count] narrow
 /// &#32;&#32;&#32;&#32;→ [lane] narrow ([from_low_high] wide narrow read row low high) i
-/// &#32;&#32;&#32;&#32;≡ row (read ([lane] wide low i)) % 2 ^ bits narrow
+/// &#32;&#32;&#32;&#32;≡ row (read ([lane] wide low i)) % 2 ^ [bits] narrow
 /// ensures high: (wide narrow : [Width]) (read : [ℕ] → A) (row : A → [ℕ]) (low high i : [ℕ])
 /// &#32;&#32;&#32;&#32;→ [lane_count] wide + i < [lane_count] narrow
 /// &#32;&#32;&#32;&#32;→ [lane] narrow ([from_low_high] wide narrow read row low high) ([lane_count] wide + i)
-/// &#32;&#32;&#32;&#32;≡ row (read ([lane] wide high i)) % 2 ^ bits narrow</code></pre>
+/// &#32;&#32;&#32;&#32;≡ row (read ([lane] wide high i)) % 2 ^ [bits] narrow</code></pre>
 ///
 /// [Width]: crate::specs::library#Width "the widths of integers: 8, 16, 32, 64 or 128 bits"
 /// [ℕ]: crate::specs::library#%E2%84%95 "the whole numbers from 0 on"
 /// [lane_count]: crate::specs::widening::Widening#lane_count "how many lanes of a width a vector has"
 /// [lane]: crate::specs::lanes::Lane#lane "lane i of the vector v"
 /// [from_low_high]: crate::specs::widening::Widening#from_low_high "the rows of the wide lanes of \`low\`, then those of \`high\`"
+/// [bits]: crate::specs::library#bits "the number of bits of a width"
 #[inline]
 pub fn lanes_of_wide_lanes<A>() {}
 

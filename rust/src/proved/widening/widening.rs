@@ -8,15 +8,17 @@ use crate::proved::raw::V128;
 ///
 /// # Contract
 ///
-/// <span></span><pre><code>requires callable: F.IsAlwaysCallable f
+/// <span></span><pre><code>requires callable: [F.IsAlwaysCallable] f
 /// ensures lanes: (row : [W.Item] → [ℕ])
-/// &#32;&#32;&#32;&#32;→ ((x : [W.Item]) (z : [L.Item]) → [W.Item].Fits x → [L.Item].Fits z → F.post f x z
+/// &#32;&#32;&#32;&#32;→ ((x : [W.Item]) (z : [L.Item]) → [W.Item].Fits x → [L.Item].Fits z → [F.post] f x z
 /// &#32;&#32;&#32;&#32;→ [L.Item].image z ≡ row x)
 /// &#32;&#32;&#32;&#32;→ result ≡ [made.from_low_high] [W.Item].width [L.Item].width [W.Item].read row low high</code></pre>
 ///
+/// [F.IsAlwaysCallable]: crate::specs::library#IsAlwaysCallable "the closure may be called on all arguments"
 /// [W.Item]: trait@Lanes#contract
 /// [ℕ]: crate::specs::library#%E2%84%95 "the whole numbers from 0 on"
 /// [L.Item]: trait@FromWide#contract
+/// [F.post]: crate::specs::library#post "the closure, called on x, may return y"
 /// [made.from_low_high]: crate::specs::widening::Widening#from_low_high "the rows of the wide lanes of \`low\`, then those of \`high\`"
 #[inline(always)]
 pub(crate) fn from_low_high<W: Lanes, L: FromWide<W>, F: Fn(W::Item) -> L::Item>(

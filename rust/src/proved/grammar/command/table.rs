@@ -231,10 +231,12 @@ fn type_of(
 ///
 /// # Contract
 ///
-/// <span></span><pre><code>ensures value: OkIff result (limit < 2 ^ 32) limit
-/// ensures refused: [IfErr] result (λ error. error ≡ LineError.BadCommand)</code></pre>
+/// <span></span><pre><code>ensures value: [OkIff] result (limit < 2 ^ 32) limit
+/// ensures refused: [IfErr] result (λ error. error ≡ [LineError.BadCommand])</code></pre>
 ///
+/// [OkIff]: crate::specs::library#OkIff "if P, r is the value x; else it is an error"
 /// [IfErr]: crate::specs::library#IfErr "P of the error, if r is an error"
+/// [LineError.BadCommand]: crate::proved::operands::LineError::BadCommand
 #[inline]
 fn index32(limit: u64) -> Result<u32, LineError> {
     match u32::try_from(limit) {

@@ -16,6 +16,11 @@ pub enum AnswerWord {
     Complain,
 }
 
+/// # Contract
+///
+/// <span></span><pre><code>writes = [WritesAnswer]</code></pre>
+///
+/// [WritesAnswer]: crate::specs::grammar::Answers#WritesAnswer "the word stands for this answer"
 impl Operand for AnswerWord {
     #[inline]
     fn from_word(word: &str) -> Result<Self, LineError> {

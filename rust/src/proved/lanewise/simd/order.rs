@@ -169,7 +169,7 @@ pub(super) fn larger_s<T: SimdLane>(lhs: V128, rhs: V128) -> V128 {
 ///
 /// <span></span><pre><code>ensures lanes: (i : [ℕ]) → i < [lane_count] [T.width]
 /// &#32;&#32;&#32;&#32;→ [lane] [T.width] result i
-/// &#32;&#32;&#32;&#32;≡ (if [nat_lt] ([T.at] a i) ([T.at] b i) then 2 ^ bits [T.width] - 1 else 0)
+/// &#32;&#32;&#32;&#32;≡ (if [nat_lt] ([T.at] a i) ([T.at] b i) then 2 ^ [bits] [T.width] - 1 else 0)
 /// ensures in_range: result < 2 ^ 128</code></pre>
 ///
 /// [ℕ]: crate::specs::library#%E2%84%95 "the whole numbers from 0 on"
@@ -178,6 +178,7 @@ pub(super) fn larger_s<T: SimdLane>(lhs: V128, rhs: V128) -> V128 {
 /// [lane]: crate::specs::lanes::Lane#lane "lane i of the vector v"
 /// [nat_lt]: crate::specs::library#nat_lt "whether m is below n, as a Boolean"
 /// [T.at]: trait@SimdLane#contract
+/// [bits]: crate::specs::library#bits "the number of bits of a width"
 #[inline(always)]
 fn ones_if_less<T: SimdLane>(a: T::Vector, b: T::Vector) -> V128 {
     T::vector_of(T::choose_if_less(a, b, ones::<T>(), zeros::<T>()))
@@ -187,7 +188,7 @@ fn ones_if_less<T: SimdLane>(a: T::Vector, b: T::Vector) -> V128 {
 ///
 /// <span></span><pre><code>ensures lanes: (i : [ℕ]) → i < [lane_count] [T.width]
 /// &#32;&#32;&#32;&#32;→ [lane] [T.width] result i
-/// &#32;&#32;&#32;&#32;≡ (if [nat_lt] ([T.at] a i) ([T.at] b i) then 0 else 2 ^ bits [T.width] - 1)
+/// &#32;&#32;&#32;&#32;≡ (if [nat_lt] ([T.at] a i) ([T.at] b i) then 0 else 2 ^ [bits] [T.width] - 1)
 /// ensures in_range: result < 2 ^ 128</code></pre>
 ///
 /// [ℕ]: crate::specs::library#%E2%84%95 "the whole numbers from 0 on"
@@ -196,6 +197,7 @@ fn ones_if_less<T: SimdLane>(a: T::Vector, b: T::Vector) -> V128 {
 /// [lane]: crate::specs::lanes::Lane#lane "lane i of the vector v"
 /// [nat_lt]: crate::specs::library#nat_lt "whether m is below n, as a Boolean"
 /// [T.at]: trait@SimdLane#contract
+/// [bits]: crate::specs::library#bits "the number of bits of a width"
 #[inline(always)]
 fn zeros_if_less<T: SimdLane>(a: T::Vector, b: T::Vector) -> V128 {
     T::vector_of(T::choose_if_less(a, b, zeros::<T>(), ones::<T>()))
@@ -204,12 +206,13 @@ fn zeros_if_less<T: SimdLane>(a: T::Vector, b: T::Vector) -> V128 {
 // All ones in each lane.
 /// # Contract
 ///
-/// <span></span><pre><code>ensures lanes: (i : [ℕ]) → i < [lane_count] [T.width] → [T.at] result i ≡ 2 ^ bits [T.width] - 1</code></pre>
+/// <span></span><pre><code>ensures lanes: (i : [ℕ]) → i < [lane_count] [T.width] → [T.at] result i ≡ 2 ^ [bits] [T.width] - 1</code></pre>
 ///
 /// [ℕ]: crate::specs::library#%E2%84%95 "the whole numbers from 0 on"
 /// [lane_count]: crate::specs::lanes::Lane#lane_count "how many lanes of a width a vector has"
 /// [T.width]: trait@SimdLane#contract
 /// [T.at]: trait@SimdLane#contract
+/// [bits]: crate::specs::library#bits "the number of bits of a width"
 #[inline(always)]
 fn ones<T: SimdLane>() -> T::Vector {
     T::splat(T::ALL_ONES)

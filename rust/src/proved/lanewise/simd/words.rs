@@ -12,10 +12,11 @@ use crate::rattle::simd::prelude::*;
 // end of the word, and without it LLVM makes one step of it where a word is one lane.
 /// # Contract
 ///
-/// <span></span><pre><code>ensures: result ≡ [in_each_lane] [T.width] (2 ^ (bits [T.width] - 1)) % 2 ^ 63</code></pre>
+/// <span></span><pre><code>ensures: result ≡ [in_each_lane] [T.width] (2 ^ ([bits] [T.width] - 1)) % 2 ^ 63</code></pre>
 ///
 /// [in_each_lane]: crate::specs::lanes::Words#in_each_lane "the word with n in each lane of one width"
 /// [T.width]: trait@WordLane#contract
+/// [bits]: crate::specs::library#bits "the number of bits of a width"
 #[inline(always)]
 fn inner_tops<T: WordLane>() -> u64 {
     T::TOPS % (1 << 63)

@@ -73,16 +73,18 @@ pub fn store_lane_op(name: &str, lane: &str) -> Result<StoreLaneOp, LineError> {
 /// # Contract
 ///
 /// <span></span><pre><code>ensures digits: [IfOk] result (λ \_. [IsDecimal] word.now)
-/// ensures value: [IfOk] result (λ lane. L.try_from_gives ([decimal_value] word.now) ([Ok] lane))
-/// ensures refused: [IfErr] result (λ error. error ≡ LineError.BadCommand)
+/// ensures value: [IfOk] result (λ lane. [L.try_from_gives] ([decimal_value] word.now) ([Ok] lane))
+/// ensures refused: [IfErr] result (λ error. error ≡ [LineError.BadCommand])
 /// ensures unfit: [IfErr] result (λ \_. [IsDecimal] word.now → [decimal_value] word.now < 2 ^ 8
-/// &#32;&#32;&#32;&#32;→ (error : L.Error) × L.try_from_gives ([decimal_value] word.now) ([Err] error))</code></pre>
+/// &#32;&#32;&#32;&#32;→ (error : L.Error) × [L.try_from_gives] ([decimal_value] word.now) ([Err] error))</code></pre>
 ///
 /// [IfOk]: crate::specs::library#IfOk "P of the value, if r is a value"
 /// [IsDecimal]: crate::specs::operands::Decimal#IsDecimal "a word of one decimal digit or more, and nothing else"
+/// [L.try_from_gives]: crate::specs::library#try_from_gives "what \`TryFrom\` gives for x may be r"
 /// [decimal_value]: crate::specs::operands::Decimal#decimal_value "the number that the digits of a word write"
 /// [Ok]: crate::specs::library#Ok "the value x, of a \`Result\`"
 /// [IfErr]: crate::specs::library#IfErr "P of the error, if r is an error"
+/// [LineError.BadCommand]: crate::proved::operands::LineError::BadCommand
 /// [Err]: crate::specs::library#Err "the error e, of a \`Result\`"
 #[inline]
 pub fn index<L: TryFrom<u8>>(word: &str) -> Result<L, LineError>

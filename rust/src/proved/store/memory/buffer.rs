@@ -35,7 +35,7 @@ impl<R: Region> Storage<R> {
     /// # Contract
     ///
     /// <span></span><pre><code>requires inside: end ≤ [length] ([block] [R.bytes] self.old)
-    /// ensures\* writes_back: [sem] 𝓛 ([Lends] (the_row [R.row]) ([Array] [u8] 0) self.entry result
+    /// ensures\* writes_back: [sem] 𝓛 ([Lends] ([the_row] [R.row]) ([Array] [u8] 0) self.entry result
     /// &#32;&#32;&#32;&#32;([block_refilled] [R.refilled] self.old end))
     /// ensures value: result.now ≡ [take] end ([block] [R.bytes] self.old)</code></pre>
     ///
@@ -44,7 +44,8 @@ impl<R: Region> Storage<R> {
     /// [R.bytes]: trait@Region#contract
     /// [sem]: crate::specs::library#sem "the fixed form of a clause on a loan"
     /// [Lends]: crate::specs::library#Lends "the result r borrows from x: what is written through r last, w, makes x the value F w"
-    /// [R.row]: trait@Region#contract
+    /// [the_row]: crate::specs::library#the_row "the type itself, in a clause on a loan"
+    /// [R.row]: crate::specs::library#row "a type, in a clause on a loan"
     /// [Array]: crate::specs::library#Array "in a clause on a loan: the type of a slice of T"
     /// [u8]: crate::specs::library#u8 "the bytes, in a clause on a loan"
     /// [block_refilled]: crate::specs::store::Storage#block_refilled "the storage once the front of its block, up to an end, was written over"
@@ -98,13 +99,14 @@ impl<R: Region> Buffer<R> {
     ///
     /// # Contract
     ///
-    /// <span></span><pre><code>ensures\* writes_back: [sem] 𝓛 ([Lends] (the_row [R.row] [R.Region]) ([Array] [u8] 0) self.entry result
+    /// <span></span><pre><code>ensures\* writes_back: [sem] 𝓛 ([Lends] ([the_row] [R.row] [R.Region]) ([Array] [u8] 0) self.entry result
     /// &#32;&#32;&#32;&#32;([with_bytes] self.old))
     /// ensures value: result.now ≡ self.old.bytes</code></pre>
     ///
     /// [sem]: crate::specs::library#sem "the fixed form of a clause on a loan"
     /// [Lends]: crate::specs::library#Lends "the result r borrows from x: what is written through r last, w, makes x the value F w"
-    /// [R.row]: trait@Region#contract
+    /// [the_row]: crate::specs::library#the_row "the type itself, in a clause on a loan"
+    /// [R.row]: crate::specs::library#row "a type, in a clause on a loan"
     /// [R.Region]: trait@Region#contract
     /// [Array]: crate::specs::library#Array "in a clause on a loan: the type of a slice of T"
     /// [u8]: crate::specs::library#u8 "the bytes, in a clause on a loan"
@@ -198,12 +200,13 @@ impl<'r> Buffer<&'r mut [u8]> {
     /// # Contract
     ///
     /// <span></span><pre><code>ensures ok: [IfOk] result (λ b. b ≡ [zeros_in] [Owned] size)
-    /// ensures err: [IfErr] result (λ e. e ≡ MemoryError.OutOfSystemMemory)</code></pre>
+    /// ensures err: [IfErr] result (λ e. e ≡ [MemoryError.OutOfSystemMemory])</code></pre>
     ///
     /// [IfOk]: crate::specs::library#IfOk "P of the value, if r is a value"
     /// [zeros_in]: crate::specs::store::Buffer#zeros_in "a buffer of n zeros in a room"
     /// [Owned]: crate::specs::store::Buffer#Owned
     /// [IfErr]: crate::specs::library#IfErr "P of the error, if r is an error"
+    /// [MemoryError.OutOfSystemMemory]: crate::proved::meter::MemoryError::OutOfSystemMemory
     #[inline]
     pub fn new(size: usize) -> Result<ByteBuffer<'r>, MemoryError> {
         match Vec::filled(0u8, size) {
@@ -228,7 +231,7 @@ impl<'r> Buffer<&'r mut [u8]> {
     /// &#32;&#32;&#32;&#32;× (b ≡ [zeros_in] ([Lent] region.entry.now) size))
     /// ensures err: [IfErr] result
     /// &#32;&#32;&#32;&#32;(λ e. ([fits_room] ([Lent] region.entry.now) size ≡ [false])
-    /// &#32;&#32;&#32;&#32;× (e ≡ MemoryError.InvalidStaticBufferSize))</code></pre>
+    /// &#32;&#32;&#32;&#32;× (e ≡ [MemoryError.InvalidStaticBufferSize]))</code></pre>
     ///
     /// [IfOk]: crate::specs::library#IfOk "P of the value, if r is a value"
     /// [fits_room]: crate::specs::store::Buffer#fits_room "whether a room has place for n more bytes: what is left of a lent region may be too short"
@@ -237,6 +240,7 @@ impl<'r> Buffer<&'r mut [u8]> {
     /// [zeros_in]: crate::specs::store::Buffer#zeros_in "a buffer of n zeros in a room"
     /// [IfErr]: crate::specs::library#IfErr "P of the error, if r is an error"
     /// [false]: crate::specs::library#false "the Boolean"
+    /// [MemoryError.InvalidStaticBufferSize]: crate::proved::meter::MemoryError::InvalidStaticBufferSize
     #[inline]
     pub fn new_static(region: &'r mut [u8], size: usize) -> Result<ByteBuffer<'r>, MemoryError> {
         if region.len() < size {

@@ -41,13 +41,19 @@ pub trait Region: sealed::Sealed {
     /// [length]: crate::specs::library#length "the number of elements of a list"
     /// [sem]: crate::specs::library#sem "the fixed form of a clause on a loan"
     /// [Lends]: crate::specs::library#Lends "the result r borrows from x: what is written through r last, w, makes x the value F w"
-    /// [Self.row]: trait@Region#contract
+    /// [Self.row]: crate::specs::library#row "a type, in a clause on a loan"
     /// [Array]: crate::specs::library#Array "in a clause on a loan: the type of a slice of T"
     /// [u8]: crate::specs::library#u8 "the bytes, in a clause on a loan"
     /// [take]: crate::specs::library#take "the first n elements"
     fn front_mut(&mut self, end: usize) -> &mut [u8];
 }
 
+/// # Contract
+///
+/// <span></span><pre><code>bytes = λ r. r.now
+/// refilled = [region_refilled]</code></pre>
+///
+/// [region_refilled]: crate::specs::store::Lending#region_refilled "the reference to a region whose front was written over"
 impl<'r> Region for &'r mut [u8] {
     #[inline]
     fn whole(&self) -> &[u8] {

@@ -111,10 +111,9 @@ impl MemoryType {
     ///
     /// # Contract
     ///
-    /// <span></span><pre><code>ensures: [IsTrue] result ↔ (self.now.index ≡ [I64])</code></pre>
+    /// <span></span><pre><code>ensures: [IsTrue] result ↔ (self.now.index ≡ I64)</code></pre>
     ///
     /// [IsTrue]: crate::specs::library#IsTrue "b is true"
-    /// [I64]: crate::proved::types::IndexType::I64
     #[inline]
     pub fn is_64(&self) -> bool {
         self.index.is_64()
@@ -348,6 +347,11 @@ pub struct MemoryTypeBuilder {
     maximum: Option<u64>,
 }
 
+/// # Contract
+///
+/// <span></span><pre><code>is_default = λ b. b ≡ [default_settings]</code></pre>
+///
+/// [default_settings]: crate::specs::store::MemoryType#default_settings "what a builder begins with"
 impl Default for MemoryTypeBuilder {
     #[inline]
     fn default() -> Self {
@@ -366,10 +370,7 @@ impl MemoryTypeBuilder {
     /// # Contract
     ///
     /// <span></span><pre><code>ensures same_reference: result.ghost_name ≡ self.entry.ghost_name
-    /// ensures value: result.now ≡ record self.old { index = (if memory64 then [I64] else [I32]) }</code></pre>
-    ///
-    /// [I64]: crate::proved::types::IndexType::I64
-    /// [I32]: crate::proved::types::IndexType::I32
+    /// ensures value: result.now ≡ record self.old { index = (if memory64 then I64 else I32) }</code></pre>
     #[inline]
     pub fn memory64(&mut self, memory64: bool) -> &mut Self {
         self.index = if memory64 {
@@ -423,13 +424,14 @@ impl MemoryTypeBuilder {
     ///
     /// <span></span><pre><code>ensures: [MatchResult] result
     /// &#32;&#32;&#32;&#32;(λ ty. ([named_type] self ≡ [Some] ty) × [IsValid] ty)
-    /// &#32;&#32;&#32;&#32;(λ error. (error ≡ MemoryError.InvalidMemoryType)
+    /// &#32;&#32;&#32;&#32;(λ error. (error ≡ [MemoryError.InvalidMemoryType])
     /// &#32;&#32;&#32;&#32;× ¬ ([IsSomeAnd] ([named_type] self) [IsValid]))</code></pre>
     ///
     /// [MatchResult]: crate::specs::library#MatchResult "P of the value, or Q of the error"
     /// [named_type]: crate::specs::store::MemoryType#named_type "the type that the settings name, if there is a page of that size"
     /// [Some]: crate::specs::library#Some "the value x, of an \`Option\`"
     /// [IsValid]: crate::specs::store::MemoryType#IsValid "the limits are within what the address type reaches, the minimum not above the maximum"
+    /// [MemoryError.InvalidMemoryType]: crate::proved::meter::MemoryError::InvalidMemoryType
     /// [IsSomeAnd]: crate::specs::library#IsSomeAnd "there is a value, and P of it"
     #[inline]
     pub fn build(self) -> Result<MemoryType, MemoryError> {

@@ -16,6 +16,12 @@ pub enum SegmentError {
     OutOfSystemMemory,
 }
 
+/// # Contract
+///
+/// <span></span><pre><code>output = λ error. [Some] ([segment_error_text] error)</code></pre>
+///
+/// [Some]: crate::specs::library#Some "the value x, of an \`Option\`"
+/// [segment_error_text]: crate::specs::store::SegmentError#segment_error_text "the text of an error of an element segment"
 impl fmt::Display for SegmentError {
     #[inline]
     fn fmt(&self, f: &mut fmt::Formatter<'_>) -> fmt::Result {
@@ -72,10 +78,12 @@ impl ElementSegment {
     ///
     /// # Contract
     ///
-    /// <span></span><pre><code>requires readable: [EachBecomes] I.into_iter_gives items I.IntoIter.can_next
-    /// ensures reading: [IsReadingOf] I.into_iter_gives I.IntoIter.next_gives ty items result</code></pre>
+    /// <span></span><pre><code>requires readable: [EachBecomes] [I.into_iter_gives] items [I.IntoIter].can_next
+    /// ensures reading: [IsReadingOf] [I.into_iter_gives] [I.IntoIter].next_gives ty items result</code></pre>
     ///
     /// [EachBecomes]: crate::specs::types::Iteration#EachBecomes "each iterator that a value becomes has a fact"
+    /// [I.into_iter_gives]: crate::specs::library#into_iter_gives "what \`into_iter\` gives for xs may be it"
+    /// [I.IntoIter]: crate::specs::library#IntoIter "the iterator that \`into_iter\` gives"
     /// [IsReadingOf]: crate::specs::store::Segment#IsReadingOf "the answer after reading the iterator that x becomes"
     #[inline]
     pub fn new<I>(ty: RefType, items: I) -> Result<Self, SegmentError>
@@ -95,10 +103,12 @@ impl ElementSegment {
     ///
     /// # Contract
     ///
-    /// <span></span><pre><code>requires readable: I.can_next items.old
-    /// ensures reading: [IsReading] I.next_gives items.old ty result items.new</code></pre>
+    /// <span></span><pre><code>requires readable: [I.can_next] items.old
+    /// ensures reading: [IsReading] [I.next_gives] items.old ty result items.new</code></pre>
     ///
+    /// [I.can_next]: crate::specs::library#can_next "whether \`next\` may be called on the iterator"
     /// [IsReading]: crate::specs::store::Segment#IsReading "the answer after calls from s to t: the segment of all items that came, or the refusal"
+    /// [I.next_gives]: crate::specs::library#next_gives "\`next\` on it may give x and leave it\'"
     #[inline]
     pub fn read<I>(ty: RefType, items: &mut I) -> Result<Self, SegmentError>
     where
@@ -176,6 +186,11 @@ impl ElementSegment {
     }
 }
 
+/// # Contract
+///
+/// <span></span><pre><code>from_gives = λ segment shared. [segment_of] shared ≡ segment.now</code></pre>
+///
+/// [segment_of]: crate::specs::store::Segment#segment_of "the segment that is shared"
 impl<'a> From<&'a ElementSegment> for ElementSegmentRef<'a> {
     #[inline]
     fn from(segment: &'a ElementSegment) -> Self {

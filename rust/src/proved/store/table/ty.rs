@@ -45,10 +45,9 @@ impl TableType {
     ///
     /// <span></span><pre><code>requires ordered: [IfSome] maximum (λ most. minimum ≤ most)
     /// ensures value: result
-    /// &#32;&#32;&#32;&#32;≡ record { index = [I32]; element = element; minimum = minimum; maximum = maximum }</code></pre>
+    /// &#32;&#32;&#32;&#32;≡ record { index = I32; element = element; minimum = minimum; maximum = maximum }</code></pre>
     ///
     /// [IfSome]: crate::specs::library#IfSome "P of the value, if there is one"
-    /// [I32]: crate::proved::types::IndexType::I32
     #[inline]
     pub fn new(element: RefType, minimum: u32, maximum: Option<u32>) -> Self {
         assert!(
@@ -73,10 +72,9 @@ impl TableType {
     ///
     /// <span></span><pre><code>requires ordered: [IfSome] maximum (λ most. minimum ≤ most)
     /// ensures value: result
-    /// &#32;&#32;&#32;&#32;≡ record { index = [I64]; element = element; minimum = minimum; maximum = maximum }</code></pre>
+    /// &#32;&#32;&#32;&#32;≡ record { index = I64; element = element; minimum = minimum; maximum = maximum }</code></pre>
     ///
     /// [IfSome]: crate::specs::library#IfSome "P of the value, if there is one"
-    /// [I64]: crate::proved::types::IndexType::I64
     #[inline]
     pub fn new64(element: RefType, minimum: u64, maximum: Option<u64>) -> Self {
         assert!(
@@ -95,10 +93,9 @@ impl TableType {
     ///
     /// # Contract
     ///
-    /// <span></span><pre><code>ensures: [IsTrue] result ↔ (self.now.index ≡ [I64])</code></pre>
+    /// <span></span><pre><code>ensures: [IsTrue] result ↔ (self.now.index ≡ I64)</code></pre>
     ///
     /// [IsTrue]: crate::specs::library#IsTrue "b is true"
-    /// [I64]: crate::proved::types::IndexType::I64
     #[inline]
     pub fn is_64(&self) -> bool {
         self.index.is_64()
@@ -171,12 +168,13 @@ impl TableType {
     ///
     /// <span></span><pre><code>ensures: [MatchResult] result
     /// &#32;&#32;&#32;&#32;(λ \_. [same_type] self.element ty ≡ [true])
-    /// &#32;&#32;&#32;&#32;(λ error. (error ≡ TableError.ElementTypeMismatch)
+    /// &#32;&#32;&#32;&#32;(λ error. (error ≡ [TableError.ElementTypeMismatch])
     /// &#32;&#32;&#32;&#32;× ([same_type] self.element ty ≡ [false]))</code></pre>
     ///
     /// [MatchResult]: crate::specs::library#MatchResult "P of the value, or Q of the error"
     /// [same_type]: crate::specs::store::TableType#same_type "whether two reference types are the same"
     /// [true]: crate::specs::library#true "the Boolean"
+    /// [TableError.ElementTypeMismatch]: crate::proved::meter::TableError::ElementTypeMismatch
     /// [false]: crate::specs::library#false "the Boolean"
     #[inline]
     pub(crate) fn ensure_element_type_matches(self, ty: RefType) -> Result<(), TableError> {

@@ -7,13 +7,12 @@ use crate::proved::machine::{Memory, NoLimits, ResourceLimiterRef};
 ///
 /// # Contract
 ///
-/// <span></span><pre><code>ensures bytes: 0 < [length] memory.old.bytes
-/// &#32;&#32;&#32;&#32;→ memory.new.bytes ≡ [slice_set] memory.old.bytes 0 7
+/// ```text
+/// ensures bytes: 0 < length memory.old.bytes
+///     → memory.new.bytes ≡ slice_set memory.old.bytes 0 7
 /// ensures same_type: memory.new.ty ≡ memory.old.ty
-/// ensures room: memory.new.room ≡ memory.old.room</code></pre>
-///
-/// [length]: crate::specs::library#length "the number of elements of a list"
-/// [slice_set]: crate::specs::library#slice_set "the list with x in place of element i"
+/// ensures room: memory.new.room ≡ memory.old.room
+/// ```
 fn put_first(memory: &mut Memory) {
     let data = memory.data_mut();
     if 0 < data.len() {

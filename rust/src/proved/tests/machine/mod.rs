@@ -211,11 +211,9 @@ fn runs_to(machine: &mut Machine, steps: &[Step]) {
 ///
 /// # Contract
 ///
-/// <span></span><pre><code>ensures: [HoldsTotals] (record { held = [nothing]; last = [None] }) result</code></pre>
-///
-/// [HoldsTotals]: crate::specs::machine::Totals#HoldsTotals "exactly these totals are held"
-/// [nothing]: crate::specs::meter::Amounts#nothing "nothing of either kind"
-/// [None]: crate::specs::library#None "no value, of an \`Option\`"
+/// ```text
+/// ensures: HoldsTotals (record { held = nothing; last = None }) result
+/// ```
 fn unmetered() -> Machine<'static> {
     Machine::new(Fuel::unmetered())
 }
@@ -234,11 +232,9 @@ fn meter(is_on: bool) -> Fuel {
 ///
 /// # Contract
 ///
-/// <span></span><pre><code>ensures: [HoldsTotals] (record { held = [nothing]; last = [None] }) result</code></pre>
-///
-/// [HoldsTotals]: crate::specs::machine::Totals#HoldsTotals "exactly these totals are held"
-/// [nothing]: crate::specs::meter::Amounts#nothing "nothing of either kind"
-/// [None]: crate::specs::library#None "no value, of an \`Option\`"
+/// ```text
+/// ensures: HoldsTotals (record { held = nothing; last = None }) result
+/// ```
 fn metered() -> Machine<'static> {
     Machine::new(meter(true))
 }

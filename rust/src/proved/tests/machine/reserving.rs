@@ -12,11 +12,10 @@ use crate::proved::meter::{Amounts, Holdings};
 ///
 /// # Contract
 ///
-/// <span></span><pre><code>requires: [HoldsTotals] ([L.Reserving].holdings limiter.old) machine.old
-/// ensures: [HoldsTotals] ([L.Reserving].holdings limiter.new) machine.new</code></pre>
-///
-/// [HoldsTotals]: crate::specs::machine::Totals#HoldsTotals "exactly these totals are held"
-/// [L.Reserving]: trait@Reserving#contract
+/// ```text
+/// requires: HoldsTotals (L.Reserving.holdings limiter.old) machine.old
+/// ensures: HoldsTotals (L.Reserving.holdings limiter.new) machine.new
+/// ```
 fn reserves<L: Reserving>(machine: &mut Machine, steps: &[Step], limiter: &mut L) {
     let (calls, expected) = split(steps).expect("there is room");
     let replies = run_reserving(machine, &calls, limiter).ok();

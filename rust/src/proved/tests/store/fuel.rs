@@ -25,10 +25,9 @@ fn costs(provider: &FuelCostsProvider, number: u64) -> [u64; 3] {
 ///
 /// # Contract
 ///
-/// <span></span><pre><code>ensures: [IfOk] result (λ same. [costs_of] same ≡ [costs_of] provider.now)</code></pre>
-///
-/// [IfOk]: crate::specs::library#IfOk "P of the value, if r is a value"
-/// [costs_of]: crate::specs::meter::Costs#costs_of "the costs that are chosen, or the default ones"
+/// ```text
+/// ensures: IfOk result (λ same. costs_of same ≡ costs_of provider.now)
+/// ```
 fn same_costs(provider: &FuelCostsProvider) -> Result<FuelCostsProvider, AllocError> {
     provider.try_clone()
 }
@@ -37,11 +36,9 @@ fn same_costs(provider: &FuelCostsProvider) -> Result<FuelCostsProvider, AllocEr
 ///
 /// # Contract
 ///
-/// <span></span><pre><code>ensures: result ≡ record { left = (if enabled then [Some] 0 else [None]); costs = [default_costs] }</code></pre>
-///
-/// [Some]: crate::specs::library#Some "the value x, of an \`Option\`"
-/// [None]: crate::specs::library#None "no value, of an \`Option\`"
-/// [default_costs]: crate::specs::meter::Costs#default_costs "the costs that stand where none are chosen"
+/// ```text
+/// ensures: result ≡ record { left = (if enabled then Some 0 else None); costs = default_costs }
+/// ```
 fn default_meter(enabled: bool) -> Fuel {
     Fuel::new(enabled, FuelCostsProvider::default())
 }

@@ -10,12 +10,10 @@ use crate::proved::meter::{
 ///
 /// # Contract
 ///
-/// <span></span><pre><code>ensures: [L.rules].asked limiter.old
-/// &#32;&#32;&#32;&#32;(record { kind = [Bytes]; current = 0; desired = 5; maximum = [None] }) result limiter.new</code></pre>
-///
-/// [L.rules]: trait@ResourceLimiter#contract
-/// [Bytes]: crate::proved::meter::Kind::Bytes
-/// [None]: crate::specs::library#None "no value, of an \`Option\`"
+/// ```text
+/// ensures: L.rules.asked limiter.old
+///     (record { kind = Bytes; current = 0; desired = 5; maximum = None }) result limiter.new
+/// ```
 fn ask_once<L: ResourceLimiter>(limiter: &mut L) -> Result<bool, LimiterError> {
     let mut lent = ResourceLimiterRef::from(limiter);
     let answer = lent.memory_growing(0, 5, None);
@@ -29,17 +27,12 @@ fn ask_once<L: ResourceLimiter>(limiter: &mut L) -> Result<bool, LimiterError> {
 ///
 /// # Contract
 ///
-/// <span></span><pre><code>ensures loan: [KeepsLoan] lent.old lent.new
-/// ensures asked: ([optional_rules] [L.rules]).asked ([lent_limiter] lent.old)
-/// &#32;&#32;&#32;&#32;(record { kind = [Bytes]; current = 0; desired = 5; maximum = [None] }) result
-/// &#32;&#32;&#32;&#32;([lent_limiter] lent.new)</code></pre>
-///
-/// [KeepsLoan]: crate::specs::meter::LimiterRef#KeepsLoan "r\' leads to what r leads to"
-/// [optional_rules]: crate::specs::meter::Limiter#optional_rules "the rules of a limiter that may be absent"
-/// [L.rules]: trait@ResourceLimiter#contract
-/// [lent_limiter]: crate::specs::meter::LimiterRef#lent_limiter "the present value of the limiter that is lent, or none"
-/// [Bytes]: crate::proved::meter::Kind::Bytes
-/// [None]: crate::specs::library#None "no value, of an \`Option\`"
+/// ```text
+/// ensures loan: KeepsLoan lent.old lent.new
+/// ensures asked: (optional_rules L.rules).asked (lent_limiter lent.old)
+///     (record { kind = Bytes; current = 0; desired = 5; maximum = None }) result
+///     (lent_limiter lent.new)
+/// ```
 fn ask_through<L: ResourceLimiter>(lent: &mut ResourceLimiterRef<L>) -> Result<bool, LimiterError> {
     match lent.as_resource_limiter() {
         Some(limiter) => limiter.memory_growing(0, 5, None),

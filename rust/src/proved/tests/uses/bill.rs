@@ -27,22 +27,14 @@ pub enum BillError {
 ///
 /// # Contract
 ///
-/// <span></span><pre><code>requires sets_no_fuel: [All] [SetsNoFuel] calls.now
-/// ensures bill: [IfOk] result (λ bill. IsBill ([optional_rules] [L.rules]) calls.now
-/// &#32;&#32;&#32;&#32;([world] machine.old ([Some] limiter.old)) bill.replies.items bill.charged
-/// &#32;&#32;&#32;&#32;([world] machine.new ([Some] limiter.new)))
-/// ensures off: machine.old.meter.left ≡ [None] → [IfOk] result (λ bill. bill.charged ≡ 0)
-/// ensures err: [OnErr] result ((machine.new ≡ machine.old) × (limiter.new ≡ limiter.old))</code></pre>
-///
-/// [All]: crate::specs::library#All "P of each element"
-/// [SetsNoFuel]: crate::specs::machine::Account#SetsNoFuel "the call doesn\'t set the fuel"
-/// [IfOk]: crate::specs::library#IfOk "P of the value, if r is a value"
-/// [optional_rules]: crate::specs::meter::Limiter#optional_rules "the rules of a limiter that may be absent"
-/// [L.rules]: trait@ResourceLimiter#contract
-/// [world]: crate::specs::machine::World#world "a machine in this state with this limiter"
-/// [Some]: crate::specs::library#Some "the value x, of an \`Option\`"
-/// [None]: crate::specs::library#None "no value, of an \`Option\`"
-/// [OnErr]: crate::specs::library#OnErr "P, if r is an error"
+/// ```text
+/// requires sets_no_fuel: All SetsNoFuel calls.now
+/// ensures bill: IfOk result (λ bill. IsBill (optional_rules L.rules) calls.now
+///     (world machine.old (Some limiter.old)) bill.replies.items bill.charged
+///     (world machine.new (Some limiter.new)))
+/// ensures off: machine.old.meter.left ≡ None → IfOk result (λ bill. bill.charged ≡ 0)
+/// ensures err: OnErr result ((machine.new ≡ machine.old) × (limiter.new ≡ limiter.old))
+/// ```
 pub fn run_and_bill<L: ResourceLimiter>(
     machine: &mut Machine,
     calls: &[Call],
@@ -59,23 +51,14 @@ pub fn run_and_bill<L: ResourceLimiter>(
 ///
 /// # Contract
 ///
-/// <span></span><pre><code>ensures bill: [IfOk] result (λ bill. IsBill ([optional_rules] [L.rules]) calls.now
-/// &#32;&#32;&#32;&#32;([world] machine.old ([Some] limiter.old)) bill.replies.items bill.charged
-/// &#32;&#32;&#32;&#32;([world] machine.new ([Some] limiter.new)))
-/// ensures off: machine.old.meter.left ≡ [None] → [IfOk] result (λ bill. bill.charged ≡ 0)
-/// ensures sets_fuel: [IsErrOf] result BillError.SetsFuel ↔ ¬ ([All] [SetsNoFuel] calls.now)
-/// ensures err: [OnErr] result ((machine.new ≡ machine.old) × (limiter.new ≡ limiter.old))</code></pre>
-///
-/// [IfOk]: crate::specs::library#IfOk "P of the value, if r is a value"
-/// [optional_rules]: crate::specs::meter::Limiter#optional_rules "the rules of a limiter that may be absent"
-/// [L.rules]: trait@ResourceLimiter#contract
-/// [world]: crate::specs::machine::World#world "a machine in this state with this limiter"
-/// [Some]: crate::specs::library#Some "the value x, of an \`Option\`"
-/// [None]: crate::specs::library#None "no value, of an \`Option\`"
-/// [IsErrOf]: crate::specs::library#IsErrOf "r is the error e"
-/// [All]: crate::specs::library#All "P of each element"
-/// [SetsNoFuel]: crate::specs::machine::Account#SetsNoFuel "the call doesn\'t set the fuel"
-/// [OnErr]: crate::specs::library#OnErr "P, if r is an error"
+/// ```text
+/// ensures bill: IfOk result (λ bill. IsBill (optional_rules L.rules) calls.now
+///     (world machine.old (Some limiter.old)) bill.replies.items bill.charged
+///     (world machine.new (Some limiter.new)))
+/// ensures off: machine.old.meter.left ≡ None → IfOk result (λ bill. bill.charged ≡ 0)
+/// ensures sets_fuel: IsErrOf result BillError.SetsFuel ↔ ¬ (All SetsNoFuel calls.now)
+/// ensures err: OnErr result ((machine.new ≡ machine.old) × (limiter.new ≡ limiter.old))
+/// ```
 pub fn run_if_billable<L: ResourceLimiter>(
     machine: &mut Machine,
     calls: &[Call],
@@ -91,11 +74,9 @@ pub fn run_if_billable<L: ResourceLimiter>(
 ///
 /// # Contract
 ///
-/// <span></span><pre><code>ensures: [IsTrue] result ↔ [All] [SetsNoFuel] calls.now</code></pre>
-///
-/// [IsTrue]: crate::specs::library#IsTrue "b is true"
-/// [All]: crate::specs::library#All "P of each element"
-/// [SetsNoFuel]: crate::specs::machine::Account#SetsNoFuel "the call doesn\'t set the fuel"
+/// ```text
+/// ensures: IsTrue result ↔ All SetsNoFuel calls.now
+/// ```
 fn is_billable(calls: &[Call]) -> bool {
     for call in calls {
         if call.sets_fuel() {
@@ -109,9 +90,9 @@ fn is_billable(calls: &[Call]) -> bool {
 ///
 /// # Contract
 ///
-/// <span></span><pre><code>ensures: result ≡ [amount_left] machine.now.meter</code></pre>
-///
-/// [amount_left]: crate::specs::meter::Meter#amount_left "what is left; nothing where the meter is off"
+/// ```text
+/// ensures: result ≡ amount_left machine.now.meter
+/// ```
 fn left(machine: &Machine) -> u64 {
     machine.fuel().get_fuel().unwrap_or(0)
 }

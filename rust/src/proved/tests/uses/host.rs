@@ -20,15 +20,12 @@ pub struct Plugin<'r> {
 ///
 /// # Contract
 ///
-/// <span></span><pre><code>ensures run: [IfOk] result
-/// &#32;&#32;&#32;&#32;(λ ran. RunsUnderQuota bytes elements fuel calls.now ran.replies.items ran.machine)
-/// ensures bytes: [IfOk] result (λ ran. [total] ran.machine [Bytes] ≤ bytes)
-/// ensures elements: [IfOk] result (λ ran. [total] ran.machine [Elements] ≤ elements)</code></pre>
-///
-/// [IfOk]: crate::specs::library#IfOk "P of the value, if r is a value"
-/// [total]: crate::specs::machine::Totals#total "their sum"
-/// [Bytes]: crate::proved::meter::Kind::Bytes
-/// [Elements]: crate::proved::meter::Kind::Elements
+/// ```text
+/// ensures run: IfOk result
+///     (λ ran. RunsUnderQuota bytes elements fuel calls.now ran.replies.items ran.machine)
+/// ensures bytes: IfOk result (λ ran. total ran.machine Bytes ≤ bytes)
+/// ensures elements: IfOk result (λ ran. total ran.machine Elements ≤ elements)
+/// ```
 pub fn run_plugin<'r>(
     fuel: Fuel,
     calls: &[Call],
@@ -48,20 +45,14 @@ pub fn run_plugin<'r>(
 ///
 /// # Contract
 ///
-/// <span></span><pre><code>ensures run: [IfOk] result (λ replies. [PoolRun] pool.old
-/// &#32;&#32;&#32;&#32;([Ran] 0 first.now replies.0.items ∷ [Ran] 1 second.now replies.1.items ∷ \[\]) pool.new)
-/// ensures no_tenant: [IsErrOf] result PoolError.NoTenant → [length] pool.old.machines < 2
-/// ensures few: [length] pool.old.machines < 2 → [IsErr] result
-/// ensures within: [IsWithinCaps] pool.new
-/// ensures caps: pool.new.caps ≡ pool.old.caps</code></pre>
-///
-/// [IfOk]: crate::specs::library#IfOk "P of the value, if r is a value"
-/// [PoolRun]: crate::specs::budget::Runs#PoolRun "calls one after another lead a pool to another"
-/// [Ran]: crate::specs::budget::Runs#Ran
-/// [IsErrOf]: crate::specs::library#IsErrOf "r is the error e"
-/// [length]: crate::specs::library#length "the number of elements of a list"
-/// [IsErr]: crate::specs::library#IsErr "r is an error"
-/// [IsWithinCaps]: crate::specs::budget::Pool#IsWithinCaps "all machines together are within the caps"
+/// ```text
+/// ensures run: IfOk result (λ replies. PoolRun pool.old
+///     (Ran 0 first.now replies.0.items ∷ Ran 1 second.now replies.1.items ∷ []) pool.new)
+/// ensures no_tenant: IsErrOf result PoolError.NoTenant → length pool.old.machines < 2
+/// ensures few: length pool.old.machines < 2 → IsErr result
+/// ensures within: IsWithinCaps pool.new
+/// ensures caps: pool.new.caps ≡ pool.old.caps
+/// ```
 pub fn run_two_tenants(
     pool: &mut Pool,
     first: &[Call],

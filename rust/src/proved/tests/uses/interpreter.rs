@@ -84,7 +84,9 @@ impl Instruction {
     ///
     /// # Contract
     ///
-    /// <span></span><pre><code>ensures: result ≡ action_of self machine.now</code></pre>
+    /// ```text
+    /// ensures: result ≡ action_of self machine.now
+    /// ```
     pub fn action(self, machine: &Machine) -> Option<Action> {
         match self {
             Instruction::Constant { dst, number } => Some(set(dst, RawVal::from(number))),
@@ -146,7 +148,9 @@ impl Instruction {
 ///
 /// # Contract
 ///
-/// <span></span><pre><code>ensures: result ≡ Action.Calls (Call.SetRegister dst value)</code></pre>
+/// ```text
+/// ensures: result ≡ Action.Calls (Call.SetRegister dst value)
+/// ```
 fn set(dst: u8, value: RawVal) -> Action {
     Action::Calls(Call::SetRegister { dst, value })
 }
@@ -155,11 +159,10 @@ fn set(dst: u8, value: RawVal) -> Action {
 ///
 /// # Contract
 ///
-/// <span></span><pre><code>ensures action: result ≡ action_at program.now place machine.now
-/// ensures there: [IsSome] result → place < [length] program.now</code></pre>
-///
-/// [IsSome]: crate::specs::library#IsSome "there is a value"
-/// [length]: crate::specs::library#length "the number of elements of a list"
+/// ```text
+/// ensures action: result ≡ action_at program.now place machine.now
+/// ensures there: IsSome result → place < length program.now
+/// ```
 fn action_at(program: &[Instruction], place: usize, machine: &Machine) -> Option<Action> {
     program.get(place)?.action(machine)
 }
@@ -168,13 +171,11 @@ fn action_at(program: &[Instruction], place: usize, machine: &Machine) -> Option
 ///
 /// # Contract
 ///
-/// <span></span><pre><code>ensures: [MatchBool] result
-/// &#32;&#32;&#32;&#32;((is_out_of_fuel machine.old.meter ≡ [false]) × (machine.new ≡ fuel_taken machine.old))
-/// &#32;&#32;&#32;&#32;((is_out_of_fuel machine.old.meter ≡ [true]) × (machine.new ≡ machine.old))</code></pre>
-///
-/// [MatchBool]: crate::specs::library#MatchBool "P where b is true, else Q"
-/// [false]: crate::specs::library#false "the Boolean"
-/// [true]: crate::specs::library#true "the Boolean"
+/// ```text
+/// ensures: MatchBool result
+///     ((is_out_of_fuel machine.old.meter ≡ false) × (machine.new ≡ fuel_taken machine.old))
+///     ((is_out_of_fuel machine.old.meter ≡ true) × (machine.new ≡ machine.old))
+/// ```
 fn take_fuel(machine: &mut Machine) -> bool {
     match machine.consume_fuel(1) {
         Ok(_) => true,
@@ -189,7 +190,9 @@ fn take_fuel(machine: &mut Machine) -> bool {
 ///
 /// # Contract
 ///
-/// <span></span><pre><code>ensures: result ≡ place_after reply next</code></pre>
+/// ```text
+/// ensures: result ≡ place_after reply next
+/// ```
 fn place_after(reply: Reply, next: usize) -> Result<usize, Ending> {
     match reply {
         Reply::Done => Ok(next),
@@ -202,17 +205,11 @@ fn place_after(reply: Reply, next: usize) -> Result<usize, Ending> {
 ///
 /// # Contract
 ///
-/// <span></span><pre><code>ensures: (turns : [List] [Turn]) × [Run] ([optional_rules] [L.rules])
-/// &#32;&#32;&#32;&#32;([world] machine.old ([Some] limiter.old)) turns ([world] machine.new ([Some] limiter.new))
-/// &#32;&#32;&#32;&#32;× IsGrowth dst pages turns result</code></pre>
-///
-/// [List]: crate::specs::library#List "the finite lists"
-/// [Turn]: crate::specs::machine::World#Turn "one call: its reply, the fuel that it was charged and the bytes that it has written by growing or copying"
-/// [Run]: crate::specs::machine::Runs#Run "a run: each turn is a step"
-/// [optional_rules]: crate::specs::meter::Limiter#optional_rules "the rules of a limiter that may be absent"
-/// [L.rules]: trait@ResourceLimiter#contract
-/// [world]: crate::specs::machine::World#world "a machine in this state with this limiter"
-/// [Some]: crate::specs::library#Some "the value x, of an \`Option\`"
+/// ```text
+/// ensures: (turns : List Turn) × Run (optional_rules L.rules)
+///     (world machine.old (Some limiter.old)) turns (world machine.new (Some limiter.new))
+///     × IsGrowth dst pages turns result
+/// ```
 fn grow<L: ResourceLimiter>(dst: u8, pages: u64, machine: &mut Machine, limiter: &mut L) -> Reply {
     let size = match machine.step_lending(&Call::GrowMemory { memory: 0, pages }, limiter) {
         Reply::Number(size) => size,
@@ -227,17 +224,11 @@ fn grow<L: ResourceLimiter>(dst: u8, pages: u64, machine: &mut Machine, limiter:
 ///
 /// # Contract
 ///
-/// <span></span><pre><code>ensures: (turns : [List] [Turn]) × [Run] ([optional_rules] [L.rules])
-/// &#32;&#32;&#32;&#32;([world] machine.old ([Some] limiter.old)) turns ([world] machine.new ([Some] limiter.new))
-/// &#32;&#32;&#32;&#32;× CarriesOut action next turns result</code></pre>
-///
-/// [List]: crate::specs::library#List "the finite lists"
-/// [Turn]: crate::specs::machine::World#Turn "one call: its reply, the fuel that it was charged and the bytes that it has written by growing or copying"
-/// [Run]: crate::specs::machine::Runs#Run "a run: each turn is a step"
-/// [optional_rules]: crate::specs::meter::Limiter#optional_rules "the rules of a limiter that may be absent"
-/// [L.rules]: trait@ResourceLimiter#contract
-/// [world]: crate::specs::machine::World#world "a machine in this state with this limiter"
-/// [Some]: crate::specs::library#Some "the value x, of an \`Option\`"
+/// ```text
+/// ensures: (turns : List Turn) × Run (optional_rules L.rules)
+///     (world machine.old (Some limiter.old)) turns (world machine.new (Some limiter.new))
+///     × CarriesOut action next turns result
+/// ```
 fn act<L: ResourceLimiter>(
     action: Action,
     next: usize,
@@ -259,16 +250,11 @@ fn act<L: ResourceLimiter>(
 ///
 /// # Contract
 ///
-/// <span></span><pre><code>ensures: (turns : [List] [Turn]) × StepsAt ([optional_rules] [L.rules]) program.now place
-/// &#32;&#32;&#32;&#32;([world] machine.old ([Some] limiter.old)) turns result
-/// &#32;&#32;&#32;&#32;([world] machine.new ([Some] limiter.new))</code></pre>
-///
-/// [List]: crate::specs::library#List "the finite lists"
-/// [Turn]: crate::specs::machine::World#Turn "one call: its reply, the fuel that it was charged and the bytes that it has written by growing or copying"
-/// [optional_rules]: crate::specs::meter::Limiter#optional_rules "the rules of a limiter that may be absent"
-/// [L.rules]: trait@ResourceLimiter#contract
-/// [world]: crate::specs::machine::World#world "a machine in this state with this limiter"
-/// [Some]: crate::specs::library#Some "the value x, of an \`Option\`"
+/// ```text
+/// ensures: (turns : List Turn) × StepsAt (optional_rules L.rules) program.now place
+///     (world machine.old (Some limiter.old)) turns result
+///     (world machine.new (Some limiter.new))
+/// ```
 pub fn step<L: ResourceLimiter>(
     program: &[Instruction],
     place: usize,
@@ -296,19 +282,14 @@ pub fn step<L: ResourceLimiter>(
 ///
 /// # Contract
 ///
-/// <span></span><pre><code>ensures executed: (turns : [List] [Turn]) × ExecutesProgram ([optional_rules] [L.rules]) program.now
-/// &#32;&#32;&#32;&#32;([world] machine.old ([Some] limiter.old)) turns result ([world] machine.new ([Some] limiter.new))
-/// &#32;&#32;&#32;&#32;× TakesProgramFuel machine.old.meter turns result machine.new.meter
+/// ```text
+/// ensures executed: (turns : List Turn) × ExecutesProgram (optional_rules L.rules) program.now
+///     (world machine.old (Some limiter.old)) turns result (world machine.new (Some limiter.new))
+///     × TakesProgramFuel machine.old.meter turns result machine.new.meter
 /// ensures steps: IsWithinSteps steps result
-/// ensures run: HasRun ([optional_rules] [L.rules]) ([world] machine.old ([Some] limiter.old))
-/// &#32;&#32;&#32;&#32;([world] machine.new ([Some] limiter.new))</code></pre>
-///
-/// [List]: crate::specs::library#List "the finite lists"
-/// [Turn]: crate::specs::machine::World#Turn "one call: its reply, the fuel that it was charged and the bytes that it has written by growing or copying"
-/// [optional_rules]: crate::specs::meter::Limiter#optional_rules "the rules of a limiter that may be absent"
-/// [L.rules]: trait@ResourceLimiter#contract
-/// [world]: crate::specs::machine::World#world "a machine in this state with this limiter"
-/// [Some]: crate::specs::library#Some "the value x, of an \`Option\`"
+/// ensures run: HasRun (optional_rules L.rules) (world machine.old (Some limiter.old))
+///     (world machine.new (Some limiter.new))
+/// ```
 pub fn execute<L: ResourceLimiter>(
     program: &[Instruction],
     machine: &mut Machine,

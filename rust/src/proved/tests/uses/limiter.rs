@@ -58,18 +58,14 @@ impl ResourceLimiter for AtMost {
 ///
 /// # Contract
 ///
-/// <span></span><pre><code>ensures grown: [GrowsMemory] ([optional_rules] at_most_rules) pages
-/// &#32;&#32;&#32;&#32;([metered_value] memory.old ([Some] fuel.old) ([Some] limiter.old)) result
-/// &#32;&#32;&#32;&#32;([metered_value] memory.new ([Some] fuel.new) ([Some] limiter.new))
-/// ensures within: [length] memory.old.bytes ≤ limiter.old.bytes
-/// &#32;&#32;&#32;&#32;→ [length] memory.new.bytes ≤ limiter.old.bytes
-/// ensures limiter: limiter.new ≡ limiter.old</code></pre>
-///
-/// [GrowsMemory]: crate::specs::store::Memory#GrowsMemory "a memory grows by so many pages; it returns the old size in pages"
-/// [optional_rules]: crate::specs::meter::Limiter#optional_rules "the rules of a limiter that may be absent"
-/// [metered_value]: crate::specs::store::Growth#metered_value "a value with its meter, if there is one, and its limiter"
-/// [Some]: crate::specs::library#Some "the value x, of an \`Option\`"
-/// [length]: crate::specs::library#length "the number of elements of a list"
+/// ```text
+/// ensures grown: GrowsMemory (optional_rules at_most_rules) pages
+///     (metered_value memory.old (Some fuel.old) (Some limiter.old)) result
+///     (metered_value memory.new (Some fuel.new) (Some limiter.new))
+/// ensures within: length memory.old.bytes ≤ limiter.old.bytes
+///     → length memory.new.bytes ≤ limiter.old.bytes
+/// ensures limiter: limiter.new ≡ limiter.old
+/// ```
 pub fn grow(
     memory: &mut Memory,
     pages: u64,

@@ -47,11 +47,11 @@ fn global_types_are_constant_or_variable() {
 ///
 /// # Contract
 ///
-/// <span></span><pre><code>requires: global.old.ty.mutability ≡ Mutability.Var
-/// ensures after: global.new ≡ [with_value] global.old value
-/// ensures before: result ≡ global.old.value</code></pre>
-///
-/// [with_value]: crate::specs::typed::Global#with_value "the global variable with another value"
+/// ```text
+/// requires: global.old.ty.mutability ≡ Mutability.Var
+/// ensures after: global.new ≡ with_value global.old value
+/// ensures before: result ≡ global.old.value
+/// ```
 fn replace(global: &mut Global, value: RawVal) -> RawVal {
     let raw = global.get_raw_mut();
     let before = *raw;

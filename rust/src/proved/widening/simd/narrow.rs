@@ -66,10 +66,11 @@ pub fn i16x8_narrow_i32x4_u(low: V128, high: V128) -> V128 {
 // The item of a lane that holds the number, clamped to the unsigned range of 8 bits.
 /// # Contract
 ///
-/// <span></span><pre><code>ensures: [cast_unsigned] [w8] result ≡ clamp_unsigned [w8] x</code></pre>
+/// <span></span><pre><code>ensures: [cast_unsigned] [w8] result ≡ [clamp_unsigned] [w8] x</code></pre>
 ///
 /// [cast_unsigned]: crate::specs::library#cast_unsigned "the signed number as one from 0 up to 2 ^ w, in two\'s complement"
 /// [w8]: crate::specs::library#w8 "the widths of integers in bits"
+/// [clamp_unsigned]: crate::specs::library#clamp_unsigned "the number from 0 up to 2 ^ w that is nearest to z"
 #[inline]
 fn clamped_u8(x: i16) -> i8 {
     (x.clamp(0, 255) as u8).cast_signed()
@@ -78,10 +79,11 @@ fn clamped_u8(x: i16) -> i8 {
 // The item of a lane that holds the number, clamped to the unsigned range of 16 bits.
 /// # Contract
 ///
-/// <span></span><pre><code>ensures: [cast_unsigned] [w16] result ≡ clamp_unsigned [w16] x</code></pre>
+/// <span></span><pre><code>ensures: [cast_unsigned] [w16] result ≡ [clamp_unsigned] [w16] x</code></pre>
 ///
 /// [cast_unsigned]: crate::specs::library#cast_unsigned "the signed number as one from 0 up to 2 ^ w, in two\'s complement"
 /// [w16]: crate::specs::library#w16 "the widths of integers in bits"
+/// [clamp_unsigned]: crate::specs::library#clamp_unsigned "the number from 0 up to 2 ^ w that is nearest to z"
 #[inline]
 fn clamped_u16(x: i32) -> i16 {
     (x.clamp(0, 65535) as u16).cast_signed()

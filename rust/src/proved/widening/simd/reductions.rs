@@ -145,7 +145,7 @@ fn no_zero<T: WordLane>(v: V128) -> bool {
 ///
 /// <span></span><pre><code>ensures: result
 /// &#32;&#32;&#32;&#32;≡ [holds_below] ([lanes_in_word] [T.width])
-/// &#32;&#32;&#32;&#32;(λ i. [not] ([nat_eq] ([field] (bits [T.width] \* i) (bits [T.width]) word) 0))</code></pre>
+/// &#32;&#32;&#32;&#32;(λ i. [not] ([nat_eq] ([field] ([bits] [T.width] \* i) ([bits] [T.width]) word) 0))</code></pre>
 ///
 /// [holds_below]: crate::specs::widening::Widening#holds_below "whether the test holds of each number below n"
 /// [lanes_in_word]: crate::specs::lanes::Words#lanes_in_word "how many lanes of a width a word has"
@@ -153,6 +153,7 @@ fn no_zero<T: WordLane>(v: V128) -> bool {
 /// [not]: crate::specs::library#not "the other Boolean"
 /// [nat_eq]: crate::specs::library#nat_eq "whether two numbers are equal, as a Boolean"
 /// [field]: crate::specs::lanes::Words#field "the number in the bits of v from start to start + width - 1"
+/// [bits]: crate::specs::library#bits "the number of bits of a width"
 #[inline(always)]
 fn no_zero_in_word<T: WordLane>(word: u64) -> bool {
     word.wrapping_sub(T::ONES) & !word & T::TOPS == 0

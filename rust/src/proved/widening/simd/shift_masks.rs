@@ -12,10 +12,11 @@ pub(super) trait NarrowLane: WordLane {
     ///
     /// # Contract
     ///
-    /// <span></span><pre><code>requires dropped: dropped < bits Self.width
+    /// <span></span><pre><code>requires dropped: dropped < [bits] Self.width
     /// ensures masks: result
-    /// &#32;&#32;&#32;&#32;≡ [replicate] 2 ([in_each_lane] Self.width (2 ^ (bits Self.width - dropped) - 1))</code></pre>
+    /// &#32;&#32;&#32;&#32;≡ [replicate] 2 ([in_each_lane] Self.width (2 ^ ([bits] Self.width - dropped) - 1))</code></pre>
     ///
+    /// [bits]: crate::specs::library#bits "the number of bits of a width"
     /// [replicate]: crate::specs::library#replicate "the list of n times x"
     /// [in_each_lane]: crate::specs::lanes::Words#in_each_lane "the word with n in each lane of one width"
     fn shift_masks(dropped: u64) -> u64x2;
