@@ -1,5 +1,5 @@
 -- One call of a run, and facts of what is answered.
-use Rattle.std.proofs.Common.{◌≡◌, ◌≤◌, Some, OnErr, Result, Ok, Err, List, [], ◌∷◌, length, map, refl, sym, ap, subst, ◌∙◌, arith, IfOk}
+use Rattle.std.proofs.Common.{◌≡◌, ◌≤◌, Option, Some, OnErr, Result, Ok, Err, List, [], ◌∷◌, length, map, refl, sym, ap, subst, ◌∙◌, arith, IfOk}
 use Rattle.std.proofs.lemmas.List.Elements.{All-cons, All-head, All-nil, All-tail}
 use Rattle.std.proofs.lemmas.Option.{same_Some}
 use Rattle.std.specs.Prelude.{All, slice_get}
@@ -15,9 +15,9 @@ use Rattle.wasmi_core.specs.Validity.{IsValid, IsValidCall}
 use Rattle.wasmi_core.specs.State.{State}
 use Rattle.wasmi_core.specs.LentMemory.{RunInRegions, owned_world, unlent_world}
 use Rattle.wasmi_core.specs.Determinism.{HasMemory, HaveMemory}
-use Rattle.wasmi_laws.specs.Runs.{IsWithinCapsOf}
+use Rattle.wasmi_laws.specs.Runs.{IsWithinCapsOf, RunsOfCallsAreCut}
 use Rattle.wasmi_laws.proofs.RunsLemmas.{held_within}
-use Rattle.wasmi_callers.specs.Runs.{FitsAnyRegions, HasRegionFor}
+use Rattle.wasmi_callers.specs.Runs.{FitsAnyRegions, HasRegionFor, IsRunInParts}
 use Rattle.wasmi_core.specs.Laws.{LentRunsAreOwned, LentCreationsAreOwned, HoldsTotalsAlways, QuotasStayWithin, RunsKeepValidity}
 use Rattle.wasmi_meter.specs.declared.limiter.Kind.{Kind}
 use Rattle.wasmi_meter.specs.declared.limiter.Kind.TheVariants.{Bytes, Elements}
@@ -33,12 +33,19 @@ if_ok_too (Ok x) h too = too x h
 if_ok_too (Err e) h too = tt
 
 -- what holds of a state, and after each run from it, holds after a run that was accepted or refused
-pub holds_after : {S R E Other : Type 0} (rules : Rules S) (items : R → List Reply) (calls : List Call) (w w' : World S)
+pub holds_after : {S R E : Type 0} (Other : Type 0) (rules : Rules S) (items : R → List Reply) (calls : List Call) (w w' : World S)
     (Holds : State → Type 0) (result : Result R E)
     → ((turns : List Turn) → map Turn.call turns ≡ calls → Run rules w turns w' → Holds w'.state) → Holds w.state
-    → IfOk result (λ replies. IsRunOf rules calls w (items replies) w') → OnErr result ((w'.state ≡ w.state) × Other) → Holds w'.state
-holds_after rules items calls w w' Holds (Ok replies) runs first ran same = runs ran.0 ran.1 ran.3
-holds_after rules items calls w w' Holds (Err error) runs first ran same = subst Holds (sym same.0) first
+    → IfOk result (λ replies. IsRunOf rules calls w (items replies) w')
+    → OnErr result ((w'.state ≡ w.state) × Other) → Holds w'.state
+holds_after Other rules items calls w w' Holds (Ok replies) runs first ran same = runs ran.0 ran.1 ran.3
+holds_after Other rules items calls w w' Holds (Err error) runs first ran same = subst Holds (sym same.0) first
+
+-- a run, wherever it is cut
+pub in_parts : {S : Type 0} (rules : Rules S) → RunsOfCallsAreCut rules → (calls : List Call) (w w' : World S)
+    (replies : List Reply) → IsRunOf rules calls w replies w' → IsRunInParts rules calls w replies w'
+in_parts rules cut calls w w' replies ran first rest is =
+    cut first rest w replies w' (subst (λ cs. IsRunOf rules cs w replies w') is ran)
 
 -- the parts of a world that is the same
 pub same_parts : {L : Type 0} (s s' : State) (l l' : L) → world s' (Some l') ≡ world s (Some l)

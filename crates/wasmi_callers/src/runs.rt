@@ -313,8 +313,8 @@ pub fn run_within_caps(
 ) -> Result<Vec<Reply>, AllocError>
     requires held { HoldsTotals (holdings quota.old) machine.old }
     requires within { IsWithinCaps quota.old }
-    ensures turns { IfOk result (λ replies. StaysWithin (optional_rules quota_rules) quota.old calls.now
-        (world machine.old (Some quota.old)) replies.items
+    ensures turns { IfOk result (λ replies. StaysWithin (optional_rules quota_rules) quota.old
+        calls.now (world machine.old (Some quota.old)) replies.items
         (world machine.new (Some quota.new))) }
 {
     wasmi_laws::caps_hold_in_runs();

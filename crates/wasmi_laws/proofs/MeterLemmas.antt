@@ -1,14 +1,13 @@
 -- What a run keeps of its meter.
-use Rattle.std.proofs.Common.{◌≡◌, ◌∙◌, ◌≤◌, ◌-◌, ℕ, Option, Some, None, List, [], ◌∷◌, map, refl, sym, ap, subst, arith}
+use Rattle.std.proofs.Common.{◌≡◌, ◌∙◌, ◌≤◌, ◌-◌, ℕ, Option, Some, None, [], ◌∷◌, map, refl, sym, ap, subst, arith}
 use Rattle.std.proofs.lemmas.List.Elements.{All-head, All-tail}
 use Rattle.std.specs.Option.{option_map, unwrap_or}
-use Rattle.std.specs.Prelude.{All, is_some}
+use Rattle.std.specs.Prelude.{is_some}
 use Rattle.wasmi_meter.specs.Limiter.{Rules}
 use Rattle.wasmi_meter.specs.Meter.{Meter, amount_left}
 use Rattle.wasmi_core.specs.declared.calls.Call.{Call}
 use Rattle.wasmi_core.specs.declared.calls.Call.TheVariants.{SetFuel}
 use Rattle.wasmi_core.specs.Account.{ChangesMeter, SetsNoFuel}
-use Rattle.wasmi_core.specs.Runs.{Run}
 use Rattle.wasmi_core.specs.World.{Turn, World}
 use Rattle.wasmi_core.proofs.AccountLemmas.{step_meter}
 use Rattle.wasmi_laws.specs.Meters.{CostsAreKept, FuelNeverRises, SwitchIsKept}

@@ -8,7 +8,7 @@ use Rattle.wasmi_callers.proofs.runs.run_growing.Goals as goal
 
 pub returns-clause-sizes : goal.returns-clause-sizes
 returns-clause-sizes g c =
-    holds_after (optional_rules g.L.ResourceLimiter.rules) (λ replies. replies.items) _ _ _
+    holds_after _ (optional_rules g.L.ResourceLimiter.rules) (λ replies. replies.items) _ _ _
     (λ s. (kind : Kind) (k n : ℕ) → slice_get (sizes c.args.machine.now kind) k ≡ Some n
     → (m : ℕ) × (slice_get (sizes s kind) k ≡ Some m) × (n ≤ m)) c.run_lending.result
     (λ turns made ran. c.sizes_never_shrink.ensures.sizes _ turns _ ran)
@@ -16,7 +16,7 @@ returns-clause-sizes g c =
 
 pub returns-clause-totals : goal.returns-clause-totals
 returns-clause-totals g c =
-    holds_after (optional_rules g.L.ResourceLimiter.rules) (λ replies. replies.items) _ _ _
+    holds_after _ (optional_rules g.L.ResourceLimiter.rules) (λ replies. replies.items) _ _ _
     (λ s. (kind : Kind) → total c.args.machine.now kind ≤ total s kind) c.run_lending.result
     (λ turns made ran. c.sizes_never_shrink.ensures.totals _ turns _ ran)
     (λ kind. omega arith) c.run_lending.ensures.run c.run_lending.ensures.err
