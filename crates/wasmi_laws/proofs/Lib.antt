@@ -2,7 +2,7 @@ pub mod RunsLemmas
 pub mod RefusalLemmas
 pub mod MeterLemmas
 pub mod MoreFuelLemmas
-mod ListLemmas
-mod LocationLemmas
-mod ReadBackLemmas
-mod IndependenceLemmas
+pub mod ListLemmas
+pub mod LocationLemmas
+pub mod ReadBackLemmas
+pub mod IndependenceLemmas

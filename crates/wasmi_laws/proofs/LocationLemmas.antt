@@ -493,7 +493,7 @@ later_same_slot type (Live x) = refl
 later_same_slot type (Gone size) = refl
 
 -- so anywhere
-later_same : (location : Location) (x : Content location) → IsLater location x x
+pub later_same : (location : Location) (x : Content location) → IsLater location x x
 later_same (MemoryAt k) x = later_same_slot (λ (m : MemoryValue). m.ty) x
 later_same (TableAt k) x = later_same_slot (λ (t : TableValue). t.ty) x
 later_same (SegmentAt k) x = (refl, inl refl)

@@ -19,7 +19,7 @@ use Rattle.wasmi_core.specs.declared.calls.Reply.TheVariants.{Done, NoSuch, Trap
 use Rattle.wasmi_core.specs.declared.slots.Slot.TheVariants.{Live}
 use Rattle.wasmi_laws.proofs.ListLemmas.{live_slot, set_same}
 use Rattle.wasmi_laws.proofs.LocationLemmas.{others_stay_in_runs}
-use Rattle.wasmi_laws.specs.Places.{MemoryAt, StoresAreReadBack, StoresKeepOtherBytes, load_of, stored_part, stored_size}
+use Rattle.wasmi_laws.specs.Places.{MemoryAt, NumberStore, StoresAreReadBack, StoresKeepOtherBytes, load_of, store_call, stored_part, stored_size}
 use Rattle.wasmi_meter.specs.Limiter.{Rules}
 use Rattle.wasmi_ops.specs.RawResults.{as_raw, signed_raw}
 use Rattle.wasmi_ops.specs.ScalarAccessOps.{loaded_raw, stored_bytes}
@@ -87,50 +87,58 @@ accepted x x' a stored (Err trap) is stores = absurd cc
 none_done : Done ≡ NoSuch → ⊥
 none_done is = cc
 
-module _ {S : Type 0} (rules : Rules S) where
+module _ {S : Type 0} (rules : Rules S) (it : NumberStore) where
+  -- where it is stored
+  abbrev address : ℕ
+  address = it.ptr + it.offset
+
+  -- what is stored
+  abbrev bytes : List ℕ
+  bytes = stored_bytes it.op it.value
+
   -- by its step
-  stored_by : (op : StoreOp) (value : RawVal) (k ptr offset : ℕ) (t u : World S)
-      → Answers rules (Store op k ptr offset value) t Done u
-      → Stored k (ptr + offset) (stored_bytes op value) t.state u.state
-  stored_by op value k ptr offset t u (charge, written, step) =
-      on_live (live_at t.state.memories k) _ _ step.effect.effect
+  stored_by : (t u : World S) → Answers rules (store_call it) t Done u → Stored it.memory address bytes t.state u.state
+  stored_by t u (charge, written, step) =
+      on_live (live_at t.state.memories it.memory) _ _ step.effect.effect
       (λ missing. absurd (none_done missing.0))
       (λ x found h. record {
         before = x;
         after = h.0;
         was = found;
-        here = ap (λ (v : World S). slice_get v.state.memories k) step.after
-            ∙ ap (λ (s : State). slice_get s.memories k) step.effect.after
-            ∙ ap (λ slots. slice_get slots k) h.2
-            ∙ set_same t.state.memories k (Live h.0) (Live x) (live_slot (slice_get t.state.memories k) x found);
-        store = accepted x h.0 (ptr + offset) (stored_bytes op value) h.1.0 h.1.2 h.1.1;
+        here = ap (λ (v : World S). slice_get v.state.memories it.memory) step.after
+            ∙ ap (λ (s : State). slice_get s.memories it.memory) step.effect.after
+            ∙ ap (λ slots. slice_get slots it.memory) h.2
+            ∙ set_same t.state.memories it.memory (Live h.0) (Live x)
+            (live_slot (slice_get t.state.memories it.memory) x found);
+        store = accepted x h.0 address bytes h.1.0 h.1.2 h.1.1;
       })
 
-  -- what is loaded of it
-  pub stores_are_read_back : StoresAreReadBack rules
-  stores_are_read_back op value k ptr offset t u v w turns reply stores ran leaves (charge, written, step) =
-      let stored = stored_by op value k ptr offset t u stores in
-      let there = others_stay_in_runs rules u turns v ran (MemoryAt k) leaves (Live stored.after) stored.here in (
-        step.effect
-            ∙ ap (λ slot. load_reply (load_of op) (ptr + offset) (option_and_then live_value slot)) there
-            ∙ ap (reply_of Value Trap)
-            (read_back value (ptr + offset) stored.before.bytes stored.after.bytes op stored.store.0),
-        step.after,
-      )
+-- what is loaded of it
+pub stores_are_read_back : {S : Type 0} (rules : Rules S) → StoresAreReadBack rules
+stores_are_read_back rules it t u v w turns reply stores ran leaves (charge, written, step) =
+    let stored = stored_by rules it t u stores in
+    let there = others_stay_in_runs rules u turns v ran (MemoryAt it.memory) leaves (Live stored.after) stored.here in (
+      step.effect
+          ∙ ap (λ slot. load_reply (load_of it.op) (it.ptr + it.offset) (option_and_then live_value slot)) there
+          ∙ ap (reply_of Value Trap)
+          (read_back it.value (it.ptr + it.offset) stored.before.bytes stored.after.bytes it.op stored.store.0),
+      step.after,
+    )
 
-  -- what it leaves
-  pub stores_keep_other_bytes : StoresKeepOtherBytes rules
-  stores_keep_other_bytes op value k ptr offset t u stores x x' found found' =
-      let stored = stored_by op value k ptr offset t u stores in
-      let before : stored.before ≡ x = same_Some stored.before x (sym stored.was ∙ found) in
-      let after : stored.after ≡ x' =
-      same_Some stored.after x' (sym (ap (option_and_then live_value) stored.here) ∙ found') in
-      let left : IsSameOutside stored.before.bytes stored.after.bytes (ptr + offset) (stored_size op)
-      × (length stored.after.bytes ≡ length stored.before.bytes) = (
-        outside value (ptr + offset) stored.before.bytes stored.after.bytes op stored.store.0,
-        stored_count stored.before stored.after (ptr + offset) (stored_bytes op value) (Ok tt) stored.store,
-      ) in
-      subst (λ (y : MemoryValue). IsSameOutside y.bytes x'.bytes (ptr + offset) (stored_size op)
-      × (length x'.bytes ≡ length y.bytes)) before
-      (subst (λ (y : MemoryValue). IsSameOutside stored.before.bytes y.bytes (ptr + offset) (stored_size op)
-      × (length y.bytes ≡ length stored.before.bytes)) after left)
+-- what it leaves
+pub stores_keep_other_bytes : {S : Type 0} (rules : Rules S) → StoresKeepOtherBytes rules
+stores_keep_other_bytes rules it t u stores x x' found found' =
+    let a = it.ptr + it.offset in
+    let stored = stored_by rules it t u stores in
+    let before : stored.before ≡ x = same_Some stored.before x (sym stored.was ∙ found) in
+    let after : stored.after ≡ x' =
+    same_Some stored.after x' (sym (ap (option_and_then live_value) stored.here) ∙ found') in
+    let left : IsSameOutside stored.before.bytes stored.after.bytes a (stored_size it.op)
+    × (length stored.after.bytes ≡ length stored.before.bytes) = (
+      outside it.value a stored.before.bytes stored.after.bytes it.op stored.store.0,
+      stored_count stored.before stored.after a (stored_bytes it.op it.value) (Ok tt) stored.store,
+    ) in
+    subst (λ (y : MemoryValue). IsSameOutside y.bytes x'.bytes a (stored_size it.op)
+    × (length x'.bytes ≡ length y.bytes)) before
+    (subst (λ (y : MemoryValue). IsSameOutside stored.before.bytes y.bytes a (stored_size it.op)
+    × (length y.bytes ≡ length stored.before.bytes)) after left)

@@ -199,6 +199,22 @@ stored_size store.Store64 = 8
 abbrev pub stored_part : StoreOp → RawVal → RawVal
 stored_part op value = raw_of (value.lo % 2 ^ (8 * stored_size op))
 
+-- a store of a number to a memory: the instruction, the memory's index, the two parts of the address, and the value
+pub record NumberStore : Type 0 where
+  pub op : StoreOp
+  pub memory : ℕ
+  pub ptr : ℕ
+  pub offset : ℕ
+  pub value : RawVal
+
+-- the call that makes it
+abbrev pub store_call : NumberStore → Call
+store_call it = call.Store it.op it.memory it.ptr it.offset it.value
+
+-- the call that loads as many bytes from the same address, without a sign
+abbrev pub load_call : NumberStore → Call
+load_call it = call.Load (load_of it.op) it.memory it.ptr it.offset
+
 module _ {S : Type 0} (rules : Rules S) where
   -- a turn leaves what is at each index but the one that its call may change
   abbrev pub OthersStay : Type 0
@@ -229,19 +245,18 @@ module _ {S : Type 0} (rules : Rules S) where
   -- change that memory
   abbrev pub StoresAreReadBack : Type 0
   StoresAreReadBack =
-      (op : StoreOp) (value : RawVal) (k ptr offset : ℕ) (t u v w : World S) (turns : List Turn) (reply : Reply)
-      → Answers rules (call.Store op k ptr offset value) t Done u → Run rules u turns v
-      → All (LeavesAlone (MemoryAt k)) (map Turn.call turns)
-      → Answers rules (call.Load (load_of op) k ptr offset) v reply w
-      → (reply ≡ Value (stored_part op value)) × (w ≡ v)
+      (it : NumberStore) (t u v w : World S) (turns : List Turn) (reply : Reply)
+      → Answers rules (store_call it) t Done u → Run rules u turns v
+      → All (LeavesAlone (MemoryAt it.memory)) (map Turn.call turns) → Answers rules (load_call it) v reply w
+      → (reply ≡ Value (stored_part it.op it.value)) × (w ≡ v)
 
   -- an accepted store keeps all other bytes of its memory, and how many there are
   abbrev pub StoresKeepOtherBytes : Type 0
   StoresKeepOtherBytes =
-      (op : StoreOp) (value : RawVal) (k ptr offset : ℕ) (t u : World S)
-      → Answers rules (call.Store op k ptr offset value) t Done u
-      → (x x' : MemoryValue) → live_at t.state.memories k ≡ Some x → live_at u.state.memories k ≡ Some x'
-      → IsSameOutside x.bytes x'.bytes (ptr + offset) (stored_size op) × (length x'.bytes ≡ length x.bytes)
+      (it : NumberStore) (t u : World S) → Answers rules (store_call it) t Done u
+      → (x x' : MemoryValue) → live_at t.state.memories it.memory ≡ Some x → live_at u.state.memories it.memory ≡ Some x'
+      → IsSameOutside x.bytes x'.bytes (it.ptr + it.offset) (stored_size it.op)
+      × (length x'.bytes ≡ length x.bytes)
 
   -- two turns one after the other whose calls are local and independent may be exchanged
   abbrev pub IndependentTurnsSwap : Type 0
