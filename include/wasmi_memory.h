@@ -26,7 +26,8 @@
 
    Statuses are those of wasmi_core.h and wasmi_machine.h and the four below. After a status other than WASMI_DONE the
    structs, the regions and the numbers are as they were, except where a call says otherwise, and except that a quota
-   may have another `last`, and 1 for an is_on that isn't 0, where the state was valid.
+   that is on may have another `last` and last_kind where the state was valid. No call writes a flag that it reads
+   (is_on, has_maximum, is_64), and none writes a meter or a quota that is off.
 
    What is promised, by proof: a growth is a growth of the library's memory or table, between the states that the
    structs stand for before and after the call, with the same charge, the same question to the quota and the same
@@ -44,7 +45,7 @@ enum {
     WASMI_MEMORY_REGION_TOO_SHORT = 36, /* the region is shorter than the new size */
     WASMI_INVALID_STATE = 96,           /* a struct stands for no memory or table on its region */
     WASMI_ASKS = 97,                    /* of a question: a limiter is asked */
-    WASMI_OTHER_SIZE = 98               /* of a settlement: the limiter was asked about another size */
+    WASMI_OTHER_SIZE = 98               /* of a settlement: the limiter was asked about other sizes */
 };
 
 /* A linear memory, except its bytes. The caller sets all except size before wasmi_memory_new. Zeros are a memory of pages
@@ -111,11 +112,12 @@ typedef struct {
 
 /* What a limiter of the caller's own answered. */
 typedef struct {
-    size_t current;        /* the size that it was asked about */
+    size_t current;        /* of the question */
     uint8_t answer;        /* to the question: 1 permits, 0 is no, another number is an error */
     uint8_t notice_answer; /* to the notice, if there is one: 0 accepts it, another number is an error */
     uint8_t asked;         /* out: 1 where the growth asked the limiter, else 0 */
     uint8_t told;          /* out: 1 where it was permitted and failed, so that the limiter is told; else 0 */
+    size_t desired;        /* of the question; not read where the growth asks nothing */
 } wasmi_answers;
 
 /* A growth under a limiter of the caller's own takes two calls. This one gives the question, and changes nothing else:
@@ -125,9 +127,10 @@ uint8_t wasmi_memory_question(const wasmi_memory *memory, const uint8_t *region,
                               wasmi_question *question);
 
 /* This one grows as wasmi_memory_grow does, under a limiter that answers so. Refusals in their order: INVALID_STATE;
-   OTHER_SIZE where the memory's size isn't answers->current (any more); then those of wasmi_memory_grow, where
-   MEMORY_GROWTH is also an answer of 0, and MEMORY_DENIED is an error, to the question or to the notice. At the first
-   two nothing is written; else asked and told are set, and the other answers stay.
+   OTHER_SIZE where the answers are to another question, so that the memory's size isn't answers->current (any more), or
+   its size after the growth isn't answers->desired; then those of wasmi_memory_grow, where MEMORY_GROWTH is also an
+   answer of 0, and MEMORY_DENIED is an error, to the question or to the notice. At the first two nothing is written;
+   else asked and told are set, and the other answers stay.
    Where told is 1 the growth has failed, by REGION_TOO_SHORT or OUT_OF_FUEL (or MEMORY_DENIED, where notice_answer was
    an error; *number stays then); the limiter is told then. Where its answer depends on the cause, settle with a
    notice_answer of 0, tell it, and take its error for MEMORY_DENIED. */

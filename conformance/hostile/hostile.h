@@ -37,7 +37,6 @@ static void gives_back(wasmi_quota *quota, uint8_t kind) {
 static void written_back(wasmi_quota *quota) {
     if (!quota->is_on)
         return;
-    quota->is_on = 1;
     if (quota->last_kind != 1 && quota->last_kind != 2) {
         quota->last_kind = 0;
         quota->last = 0;

@@ -70,11 +70,12 @@ static uint8_t grow_by_model(state *s, int i, uint64_t pages, bool by_answers) {
     wasmi_memory *m = &s->memory[i];
     if (!is_state(m, s->length[i]))
         return WASMI_INVALID_STATE;
-    if (by_answers && m->size != s->answers.current)
+    uint64_t old = m->size / page_of(m);
+    bool asks = pages != 0 && in_bounds(m, (wide)old + pages);
+    if (by_answers && (m->size != s->answers.current || (asks && m->size + pages * page_of(m) != s->answers.desired)))
         return WASMI_OTHER_SIZE;
     if (by_answers)
         s->answers.asked = s->answers.told = 0;
-    uint64_t old = m->size / page_of(m);
     if (pages != 0 && !in_bounds(m, (wide)old + pages))
         return WASMI_MEMORY_GROWTH;
     if (!by_answers)
@@ -186,7 +187,7 @@ static void begin(state *s, state *model) {
     }
     const wasmi_meter meter = {number(), below(2) ? 64 : (uint32_t)number(), 7, 2, flag()};
     const wasmi_quota quota = {number(), number(), below(2) ? 0 : number(), number(), number(), (uint8_t)below(4), flag()};
-    const wasmi_answers answers = {(size_t)number(), flag(), flag(), flag(), flag()};
+    const wasmi_answers answers = {(size_t)number(), flag(), flag(), flag(), flag(), (size_t)number()};
     memset(&s->question, 0, sizeof s->question);
     s->meter = meter;
     s->quota = quota;
@@ -213,14 +214,20 @@ static bool same(const state *a, const state *b) {
     return a->meter.left == b->meter.left && a->meter.is_on == b->meter.is_on && same_quota(&a->quota, &b->quota) &&
            a->answers.current == b->answers.current && a->answers.answer == b->answers.answer &&
            a->answers.notice_answer == b->answers.notice_answer && a->answers.asked == b->answers.asked &&
-           a->answers.told == b->answers.told && a->question.current == b->question.current &&
+           a->answers.told == b->answers.told && a->answers.desired == b->answers.desired &&
+           a->question.current == b->question.current &&
            a->question.desired == b->question.desired && a->question.maximum == b->question.maximum &&
            a->question.has_maximum == b->question.has_maximum && a->number == b->number;
 }
 
+/* The size of a page, or 1 where the struct has none. */
+static size_t some_page(const wasmi_memory *m) {
+    return m->page_size_log2 == 16 ? PAGE : 1;
+}
+
 /* A number of pages that is often one that fits. */
 static uint64_t some_pages(const state *s, int i) {
-    size_t page = s->memory[i].page_size_log2 == 16 ? PAGE : 1;
+    size_t page = some_page(&s->memory[i]);
     size_t left = s->memory[i].size <= s->length[i] ? (s->length[i] - s->memory[i].size) / page : 0;
     return below(3) ? below(left / 2 + 3) : number();
 }
@@ -289,6 +296,7 @@ static bool call_agrees(state *s, state *model) {
                question_by_model(model, i, pages);
     case 5:
         s->answers.current = model->answers.current = below(8) ? m->size : (size_t)number();
+        s->answers.desired = model->answers.desired = below(8) ? m->size + pages * some_page(m) : (size_t)number();
         s->answers.answer = model->answers.answer = flag();
         s->answers.notice_answer = model->answers.notice_answer = flag();
         return wasmi_memory_settle(m, s->region[i], s->length[i], pages, &s->meter, &s->answers, &s->number) ==

@@ -26,7 +26,7 @@ static void begin(state *s, state *model) {
     }
     const wasmi_meter meter = {number(), below(2) ? 1 : (uint32_t)number(), 7, 2, flag()};
     const wasmi_quota quota = {number(), number(), number(), below(2) ? 0 : number(), number(), (uint8_t)below(4), flag()};
-    const wasmi_answers answers = {(size_t)number(), flag(), flag(), flag(), flag()};
+    const wasmi_answers answers = {(size_t)number(), flag(), flag(), flag(), flag(), (size_t)number()};
     memset(&s->question, 0, sizeof s->question);
     s->meter = meter;
     s->quota = quota;
@@ -53,7 +53,8 @@ static bool same(const state *a, const state *b) {
     return a->meter.left == b->meter.left && a->meter.is_on == b->meter.is_on && same_quota(&a->quota, &b->quota) &&
            a->answers.current == b->answers.current && a->answers.answer == b->answers.answer &&
            a->answers.notice_answer == b->answers.notice_answer && a->answers.asked == b->answers.asked &&
-           a->answers.told == b->answers.told && a->question.current == b->question.current &&
+           a->answers.told == b->answers.told && a->answers.desired == b->answers.desired &&
+           a->question.current == b->question.current &&
            a->question.desired == b->question.desired && a->question.maximum == b->question.maximum &&
            a->question.has_maximum == b->question.has_maximum && a->number == b->number;
 }
@@ -98,6 +99,7 @@ static bool growth_agrees(state *s, state *model, int i) {
                question_by_model(model, i, delta);
     case 2:
         s->answers.current = model->answers.current = below(8) ? t->size : (size_t)number();
+        s->answers.desired = model->answers.desired = below(8) ? t->size + delta : (size_t)number();
         s->answers.answer = model->answers.answer = flag();
         s->answers.notice_answer = model->answers.notice_answer = flag();
         return wasmi_table_settle(t, s->region[i], s->length[i], delta, reference, &s->meter, &s->answers, &s->number) ==

@@ -78,13 +78,14 @@ static uint8_t grow_by_model(state *s, int i, uint64_t delta, uint32_t reference
     wasmi_table *t = &s->table[i];
     if (!is_state(t, s->length[i]))
         return WASMI_INVALID_STATE;
-    if (by_answers && t->size != s->answers.current)
+    uint64_t old = t->size;
+    bool asks = delta != 0 && (wide)old + delta < indices_of(t);
+    if (by_answers && (old != s->answers.current || (asks && old + delta != s->answers.desired)))
         return WASMI_OTHER_SIZE;
     if (by_answers)
         s->answers.asked = s->answers.told = 0;
     else
         written_back(&s->quota);
-    uint64_t old = t->size;
     if (delta == 0) {
         s->number = old;
         return WASMI_DONE;

@@ -87,6 +87,7 @@ static void settle(const char *name, uint64_t pages) {
     uint8_t status = wasmi_memory_question(&memory, region, reserved, pages, &question);
     if (status == WASMI_ASKS) {
         answers.current = question.current;
+        answers.desired = question.desired;
         answers.answer = (question.desired - question.current) / PAGE % 2 == 0;
         answers.notice_answer = 2;
         status = wasmi_memory_settle(&memory, region, reserved, pages, &meter, &answers, &number);

@@ -61,6 +61,7 @@ static void settled(const char *name, uint64_t delta) {
     uint8_t status = wasmi_table_question(&table, elements, ROOM, delta, &question);
     if (status == WASMI_ASKS) {
         answers.current = question.current;
+        answers.desired = question.desired;
         answers.answer = 1;
         answers.notice_answer = 1;
         status = wasmi_table_settle(&table, elements, ROOM, delta, 8, &meter, &answers, &number);

@@ -6,7 +6,7 @@ use Rattle.wasmi_meter.specs.declared.fuel.CustomFuelCosts.{CustomFuelCosts}
 use Rattle.wasmi_meter.specs.Limiter.{Rules}
 use Rattle.wasmi_meter.specs.Meter.{Meter, meter_after}
 use Rattle.wasmi_store.specs.Growth.{Growth, Grows, metered_value}
-use Rattle.wasmi_embed.specs.Headers.{meter_of, with_left}
+use Rattle.wasmi_embed.specs.Headers.{meter_of, with_left, KeepsMeter}
 use Rattle.wasmi_embed.specs.declared.headers.MeterHeader.{MeterHeader}
 
 -- a meter of which nothing is taken
@@ -44,3 +44,11 @@ kept h m' charge after =
     rw after
     (ap (λ (left : Option ℕ). (let m : Meter = record { left = left; costs = (meter_of h).costs } in m))
     (kept_number (nat_eq h.is_on 0) h.left charge))
+
+-- and all else, and all of it if the meter is off
+pub keeps : (h : MeterHeader) (m' : Meter) (charge : ℕ) → m' ≡ meter_after (meter_of h) charge
+    → KeepsMeter h (with_left h m'.left)
+keeps h m' charge after = record {
+  others = refl;
+  off = λ is_off. (let none : m'.left ≡ None = rw (after, is_off) refl in ap (with_left h) none);
+}

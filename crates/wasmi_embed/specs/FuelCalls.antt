@@ -5,11 +5,12 @@ use Rattle.wasmi_embed.specs.Headers.{meter_of}
 use Rattle.wasmi_embed.specs.Status.{done_status, metering_disabled_status, out_of_fuel_status}
 use Rattle.wasmi_embed.specs.declared.headers.MeterHeader.{MeterHeader}
 
--- the fuel of a meter that is on is set to an amount
+-- the fuel of a meter that is on is set to an amount; nothing else of its header changes
 abbrev pub SetsFuel : ℕ → MeterHeader → ℕ → MeterHeader → Type 0
 SetsFuel amount h status h' = MatchOption (meter_of h).left
     ((status ≡ metering_disabled_status) × (h' ≡ h))
-    (λ left. (status ≡ done_status) × (meter_of h' ≡ meter_set (meter_of h) amount))
+    (λ left. (status ≡ done_status) × (meter_of h' ≡ meter_set (meter_of h) amount)
+    × (h' ≡ record h { left = amount }))
 
 -- the fuel that is left of a meter that is on
 abbrev pub TellsFuel : MeterHeader → ℕ → ℕ → ℕ → Type 0
@@ -18,10 +19,11 @@ TellsFuel h number status number' = MatchOption (meter_of h).left
     (λ left. (status ≡ done_status) × (number' ≡ left))
 
 -- an amount is taken of a meter that is on where so much is left, and the number is what is left then; else the number
--- is the amount, and nothing is taken
+-- is the amount, and nothing is taken; nothing else of its header changes
 abbrev pub TakesFuel : ℕ → MeterHeader → ℕ → ℕ → MeterHeader → ℕ → Type 0
 TakesFuel amount h number status h' number' = MatchOption (meter_of h).left
     ((status ≡ metering_disabled_status) × (h' ≡ h) × (number' ≡ number))
     (λ left. MatchBool (nat_le amount left)
-    ((status ≡ done_status) × (number' ≡ left - amount) × (meter_of h' ≡ meter_after (meter_of h) amount))
+    ((status ≡ done_status) × (number' ≡ left - amount) × (meter_of h' ≡ meter_after (meter_of h) amount)
+    × (h' ≡ record h { left = left - amount }))
     ((status ≡ out_of_fuel_status) × (number' ≡ amount) × (h' ≡ h)))

@@ -47,6 +47,11 @@ meter_of h = record {
 abbrev pub with_left : MeterHeader → Option ℕ → MeterHeader
 with_left h left = record h { left = unwrap_or left h.left }
 
+-- what a call keeps of a meter: all but what is left, and that too if the meter is off
+pub record KeepsMeter (h h' : MeterHeader) : Type 0 where
+  pub others : h' ≡ record h { left = h'.left }
+  pub off : h.is_on ≡ 0 → h' ≡ h
+
 -- the last difference that was permitted, by the number of its kind
 abbrev pub last_of : ℕ → ℕ → Option (Kind × ℕ)
 last_of kind n = if nat_eq kind 1 then Some (Bytes, n) else (if nat_eq kind 2 then Some (Elements, n) else None)
@@ -64,3 +69,8 @@ quota_of h = record {
 -- the limiter of a header, which may be absent
 abbrev pub limiter_of : QuotaHeader → Option Quota
 limiter_of h = if_flag h.is_on (quota_of h)
+
+-- what a call keeps of a quota: its flag, and all of it if the quota is off
+pub record KeepsQuota (h h' : QuotaHeader) : Type 0 where
+  pub flag : h'.is_on ≡ h.is_on
+  pub off : h.is_on ≡ 0 → h' ≡ h

@@ -1,8 +1,14 @@
 -- A limiter of the host's own: what it answers to a question, and what it answers to a notice.
-use Rattle.std.specs.Prelude.{◌≡◌, ℕ, true, false, nat_eq, if◌then◌else◌, Ok, Err}
+use Rattle.std.specs.Prelude.{◌≡◌, ℕ, Bool, true, false, nat_eq, nat_lt, is_none, is_some, ◌&&◌, if◌then◌else◌, Ok, Err}
+use Rattle.std.specs.Option.{unwrap_or}
 use Rattle.wasmi_meter.specs.declared.error.LimiterError.TheVariants.{ResourceLimiterDeniedAllocation}
+use Rattle.wasmi_meter.specs.declared.error.MemoryError.{MemoryError}
 use Rattle.wasmi_meter.specs.Limiter.{Answer, NoticeAnswer, Rules}
+use Rattle.wasmi_meter.specs.Limiter as limiter
+use Rattle.wasmi_store.specs.Growth.{Growth}
+use Rattle.wasmi_store.specs.Memory.{MemoryValue, growth_of, pages_of}
 use Rattle.wasmi_embed.specs.declared.host.HostAnswers.{HostAnswers}
+use Rattle.wasmi_embed.specs.declared.host.Question.{Question}
 
 -- 1 is yes, 0 is no, any other number is an error
 abbrev pub answer_of : ℕ → Answer
@@ -23,3 +29,26 @@ host_rules = record {
   noticed = λ h failure notice_answer h'.
       (notice_answer ≡ notice_answer_of h.notice_answer) × (h' ≡ record h { told = 1 });
 }
+
+-- a question to a limiter, as C reads it: without a maximum both of its fields are 0
+abbrev pub plain_question : limiter.Question → Question
+plain_question q = record {
+  current = q.current;
+  desired = q.desired;
+  maximum = unwrap_or q.maximum 0;
+  has_maximum = if is_some q.maximum then 1 else 0;
+}
+
+-- a growth of a memory by so many pages
+abbrev pub memory_growth : MemoryValue → ℕ → Growth MemoryValue MemoryError
+memory_growth x pages = record { amount = pages; size = pages_of x; request = growth_of x pages }
+
+-- whether a growth asks a limiter: it is by 1 or more, and no early cause stands against it
+abbrev pub asks : {V E : Type 0} → Growth V E → Bool
+asks g = nat_lt 0 g.amount && is_none g.request.early
+
+-- whether the host's answers are to what a growth asks: about the present size, and about the new one if it asks at all
+abbrev pub is_about : {V E : Type 0} → HostAnswers → Growth V E → Bool
+is_about a g =
+    nat_eq a.current g.request.question.current
+    && (if asks g then nat_eq a.desired g.request.question.desired else true)

@@ -4,6 +4,7 @@ pub mod Headers
 pub mod Host
 pub mod Laws
 pub mod MemoryCalls
+pub mod Quotas
 pub mod State
 pub mod Status
 pub mod TableCalls

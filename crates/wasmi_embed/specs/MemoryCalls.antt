@@ -1,20 +1,18 @@
 -- What the calls on a memory do to what lies with C.
-use Rattle.std.specs.Prelude.{◌≡◌, ◌+◌, ◌/◌, true, false, ◌<◌, ◌⊎◌, ℕ, List, take, drop, length, nat_eq, MatchBool, Option, Some, None, Result, Ok, Err}
+use Rattle.std.specs.Prelude.{◌≡◌, ◌+◌, ◌/◌, true, false, ◌<◌, ◌⊎◌, ℕ, List, take, drop, length, MatchBool, Option, Some, None, Result, Ok, Err}
 use Rattle.wasmi_types.specs.Access.{at, overwrite}
 use Rattle.wasmi_meter.specs.declared.error.MemoryError.{MemoryError}
 use Rattle.wasmi_meter.specs.declared.error.MemoryError.TheVariants as error
-use Rattle.wasmi_meter.specs.declared.limiter.Kind.TheVariants.{Bytes}
 use Rattle.wasmi_meter.specs.declared.quota.Quota.{Quota}
 use Rattle.wasmi_meter.specs.Limiter.{optional_rules, Rules}
-use Rattle.wasmi_meter.specs.Limiter as limiter
 use Rattle.wasmi_meter.specs.Quota.{quota_rules}
 use Rattle.wasmi_store.specs.Buffer.{Lent}
 use Rattle.wasmi_store.specs.Growth.{metered_value}
 use Rattle.wasmi_store.specs.Memory.{MemoryValue, MakesMemory, GrowsMemory, growth_of, pages_of}
 use Rattle.wasmi_store.specs.MemoryType.{MemoryTypeValue, IsValid, named_type, page_bytes, in_bounds}
 use Rattle.wasmi_region.specs.Memory.{memory_in, made_in}
-use Rattle.wasmi_embed.specs.Headers.{settings_of, IsState, meter_of, if_flag}
-use Rattle.wasmi_embed.specs.Host.{fresh, host_rules}
+use Rattle.wasmi_embed.specs.Headers.{settings_of, IsState, meter_of, KeepsMeter}
+use Rattle.wasmi_embed.specs.Host.{fresh, host_rules, is_about, plain_question, memory_growth}
 use Rattle.wasmi_embed.specs.State.{Embedded, Placed}
 use Rattle.wasmi_embed.specs.Status.{done_status, memory_growth_status, memory_access_status, invalid_state_status, asks_status, other_size_status}
 use Rattle.wasmi_embed.specs.declared.host.HostAnswers.{HostAnswers}
@@ -51,12 +49,16 @@ number_of (Err error.ResourceLimiterDeniedAllocation) before = before
 number_of (Err error.MinimumSizeOverflow) before = before
 number_of (Err error.MaximumSizeOverflow) before = before
 
+-- a header has no valid type
+abbrev pub IsNoType : MemoryHeader → Type 0
+IsNoType h = (ty : MemoryTypeValue) → named_type (settings_of h) ≡ Some ty → IsValid ty → ⊥
+
 -- a header stands for no memory on a region
 abbrev pub IsNoState : MemoryHeader → List ℕ → Type 0
 IsNoState h region = (ty : MemoryTypeValue) → IsState h region ty → ⊥
 
 -- a memory grows by so many pages, as a memory of the library on the region does, with its charge; its header stays
--- except for the size, and stands for the memory again
+-- except for the size, and stands for the memory again; the meter's header stays except for what is left
 pub record GrowsAs {S : Type 0} (rules : Rules S) (ty : MemoryTypeValue) (pages : ℕ) (s : Embedded MemoryHeader S)
     (status : ℕ) (s' : Embedded MemoryHeader S) : Type 0 where
   pub result : Result ℕ MemoryError
@@ -65,6 +67,7 @@ pub record GrowsAs {S : Type 0} (rules : Rules S) (ty : MemoryTypeValue) (pages 
       (metered_value (memory_in ty s'.region s'.header.size) (Some (meter_of s'.meter)) s'.limiter)
   pub state : IsState s'.header s'.region ty
   pub header : s'.header ≡ record s.header { size = s'.header.size }
+  pub meter : KeepsMeter s.meter s'.meter
   pub status_is : status ≡ status_of result
   pub number_is : s'.number ≡ number_of result s.number
 
@@ -80,10 +83,11 @@ abbrev pub GrowsEmbedded : {S : Type 0} → Rules S → ℕ → Embedded MemoryH
 GrowsEmbedded rules pages s status s' =
     IsRefused s status s' ⊎ ((ty : MemoryTypeValue) × IsState s.header s.region ty × GrowsAs rules ty pages s status s')
 
--- a growth by the host's answers, where the limiter was asked about the memory's size; else nothing is written
+-- a growth by the host's answers, where they are to what it asks; else nothing is written
 abbrev pub SettlesAs : MemoryTypeValue → ℕ → HostAnswers → Embedded MemoryHeader HostAnswers → ℕ
     → Embedded MemoryHeader HostAnswers → Type 0
-SettlesAs ty pages answers s status s' = MatchBool (nat_eq s.header.size answers.current)
+SettlesAs ty pages answers s status s' =
+    MatchBool (is_about answers (memory_growth (memory_in ty s.region s.header.size) pages))
     (GrowsAs host_rules ty pages (record s { limiter = Some (fresh answers) }) status s')
     ((status ≡ other_size_status) × (s' ≡ s))
 
@@ -94,18 +98,13 @@ SettlesEmbedded pages answers s status s' =
     IsRefused s status s'
     ⊎ ((ty : MemoryTypeValue) × IsState s.header s.region ty × SettlesAs ty pages answers s status s')
 
--- a question as C reads it
-abbrev pub question_of : Question → limiter.Question
-question_of q =
-    record { kind = Bytes; current = q.current; desired = q.desired; maximum = if_flag q.has_maximum q.maximum }
-
 -- what a growth of a memory asks: nothing where it is by 0 and where the type refuses it, and then the question stays
 abbrev pub AsksAs : MemoryValue → ℕ → ℕ → Question → Question → Type 0
 AsksAs x pages status q q' =
     ((pages ≡ 0) × (status ≡ done_status) × (q' ≡ q))
     ⊎ ((0 < pages) × (in_bounds x.ty (pages_of x + pages) ≡ false) × (status ≡ memory_growth_status) × (q' ≡ q))
     ⊎ ((0 < pages) × (in_bounds x.ty (pages_of x + pages) ≡ true) × (status ≡ asks_status)
-    × ((growth_of x pages).question ≡ question_of q'))
+    × (q' ≡ plain_question (growth_of x pages).question))
 
 -- what a growth asks, by a call; where the header stands for no memory, it asks nothing
 abbrev pub AsksEmbedded : MemoryHeader → List ℕ → ℕ → ℕ → Question → Question → Type 0
@@ -129,8 +128,7 @@ pub record MakesAs (ty : MemoryTypeValue) (p : Placed MemoryHeader) (l : Option 
 -- a memory is made by a call, or the header has no type, and then nothing is written
 abbrev pub MakesEmbedded : Placed MemoryHeader → Option Quota → ℕ → Placed MemoryHeader → Option Quota → Type 0
 MakesEmbedded p l status p' l' =
-    (((ty : MemoryTypeValue) → named_type (settings_of p.header) ≡ Some ty → IsValid ty → ⊥)
-    × (status ≡ invalid_state_status) × (p' ≡ p) × (l' ≡ l))
+    (IsNoType p.header × (status ≡ invalid_state_status) × (p' ≡ p) × (l' ≡ l))
     ⊎ ((ty : MemoryTypeValue) × (named_type (settings_of p.header) ≡ Some ty) × MakesAs ty p l status p' l')
 
 -- the size of a memory in pages, by a call

@@ -1,19 +1,16 @@
 -- What the calls on a table do to what lies with C.
-use Rattle.std.specs.Prelude.{◌≡◌, ◌+◌, ◌<◌, ◌⊎◌, ℕ, true, false, List, take, drop, nat_eq, MatchBool, MatchOption, Option, Some, Result, Ok, Err, slice_get}
-use Rattle.wasmi_typed.specs.declared.typed_ref.TypedRawRef.{TypedRawRef}
+use Rattle.std.specs.Prelude.{◌≡◌, ◌+◌, ◌<◌, ◌⊎◌, ℕ, true, false, List, take, drop, length, MatchBool, MatchOption, OnErr, Option, Some, Result, Ok, Err, slice_get}
 use Rattle.wasmi_meter.specs.declared.error.TableError.{TableError}
 use Rattle.wasmi_meter.specs.declared.error.TableError.TheVariants as error
-use Rattle.wasmi_meter.specs.declared.limiter.Kind.TheVariants.{Elements}
 use Rattle.wasmi_meter.specs.declared.quota.Quota.{Quota}
 use Rattle.wasmi_meter.specs.Limiter.{optional_rules, Rules}
-use Rattle.wasmi_meter.specs.Limiter as limiter
 use Rattle.wasmi_meter.specs.Quota.{quota_rules}
 use Rattle.wasmi_store.specs.Growth.{metered_value, metered}
-use Rattle.wasmi_store.specs.Table.{TableValue, TableWrite, MakesTable, GrowsTableRaw, SetsTableRaw, WritesTable, growth_of, size_of, copy_of}
+use Rattle.wasmi_store.specs.Table.{TableValue, TableWrite, SetsTableRaw, WritesTable, growth_of, size_of, copy_of}
 use Rattle.wasmi_store.specs.TableType.{TableTypeValue, is_indexable}
-use Rattle.wasmi_region.specs.Table.{table_in, made_in, typed_as}
-use Rattle.wasmi_embed.specs.Headers.{meter_of, if_flag}
-use Rattle.wasmi_embed.specs.Host.{fresh, host_rules}
+use Rattle.wasmi_region.specs.Table.{table_in, made_in, region_growth, MakesTableIn, GrowsTableIn}
+use Rattle.wasmi_embed.specs.Headers.{meter_of, KeepsMeter}
+use Rattle.wasmi_embed.specs.Host.{fresh, host_rules, is_about, plain_question}
 use Rattle.wasmi_embed.specs.State.{Embedded, Placed}
 use Rattle.wasmi_embed.specs.TableHeaders.{table_type_of, IsTable}
 use Rattle.wasmi_embed.specs.Status.{done_status, no_element_status, table_growth_status, invalid_state_status, asks_status, other_size_status}
@@ -70,22 +67,30 @@ written_number (Err e) before = needed_of e before
 abbrev pub IsNoTable : TableHeader → List ℕ → Type 0
 IsNoTable h region = (ty : TableTypeValue) → IsTable h region ty → ⊥
 
+-- a region whose first elements are others, and the rest the same
+abbrev pub SameRest : ℕ → List ℕ → List ℕ → Type 0
+SameRest size region region' = drop size region' ≡ drop size region
+
 -- a growth of a table: by how many elements, and of which reference
 pub record TableGrowth : Type 0 where
   pub ty : TableTypeValue
   pub delta : ℕ
   pub reference : ℕ
 
--- a table grows, as a table of the library does, with its charge; its header stays except for the size, and stands for
--- the table again
+-- a table grows, as a table of the library on the region does, with its charge; its header stays except for the size,
+-- and stands for the table again; the meter's header stays except for what is left; the region past the table stays,
+-- or all of it after an error
 pub record GrowsTableAs {S : Type 0} (rules : Rules S) (g : TableGrowth) (s : Embedded TableHeader S) (status : ℕ)
     (s' : Embedded TableHeader S) : Type 0 where
   pub result : Result ℕ TableError
-  pub grows : GrowsTableRaw (optional_rules rules) g.delta g.reference
+  pub grows : GrowsTableIn (optional_rules rules) (length s.region) g.delta g.reference
       (metered_value (table_in g.ty s.region s.header.size) (Some (meter_of s.meter)) s.limiter) result
       (metered_value (table_in g.ty s'.region s'.header.size) (Some (meter_of s'.meter)) s'.limiter)
   pub state : IsTable s'.header s'.region g.ty
   pub header : s'.header ≡ record s.header { size = s'.header.size }
+  pub meter : KeepsMeter s.meter s'.meter
+  pub rest : SameRest s'.header.size s.region s'.region
+  pub refused : OnErr result (s'.region ≡ s.region)
   pub status_is : status ≡ table_status_of result
   pub number_is : s'.number ≡ grown_number result s.number
 
@@ -104,10 +109,12 @@ GrowsTableEmbedded rules delta reference s status s' =
     ⊎ ((ty : TableTypeValue) × IsTable s.header s.region ty
     × GrowsTableAs rules (record { ty = ty; delta = delta; reference = reference }) s status s')
 
--- a growth by the host's answers, where the limiter was asked about the table's size; else nothing is written
+-- a growth by the host's answers, where they are to what it asks; else nothing is written
 abbrev pub SettlesTableAs : TableGrowth → HostAnswers → Embedded TableHeader HostAnswers → ℕ
     → Embedded TableHeader HostAnswers → Type 0
-SettlesTableAs g answers s status s' = MatchBool (nat_eq s.header.size answers.current)
+SettlesTableAs g answers s status s' =
+    MatchBool (is_about answers
+    (region_growth (length s.region) g.delta g.reference (table_in g.ty s.region s.header.size)))
     (GrowsTableAs host_rules g (record s { limiter = Some (fresh answers) }) status s')
     ((status ≡ other_size_status) × (s' ≡ s))
 
@@ -119,18 +126,13 @@ SettlesTableEmbedded delta reference answers s status s' =
     ⊎ ((ty : TableTypeValue) × IsTable s.header s.region ty
     × SettlesTableAs (record { ty = ty; delta = delta; reference = reference }) answers s status s')
 
--- a question of a table as C reads it
-abbrev pub table_question_of : Question → limiter.Question
-table_question_of q =
-    record { kind = Elements; current = q.current; desired = q.desired; maximum = if_flag q.has_maximum q.maximum }
-
 -- what a growth of a table asks: nothing where it is by 0, and where there would be as many elements as indices
 abbrev pub AsksTableAs : TableValue → ℕ → ℕ → Question → Question → Type 0
 AsksTableAs x delta status q q' =
     ((delta ≡ 0) × (status ≡ done_status) × (q' ≡ q))
     ⊎ ((0 < delta) × (is_indexable x.ty (size_of x + delta) ≡ false) × (status ≡ table_growth_status) × (q' ≡ q))
     ⊎ ((0 < delta) × (is_indexable x.ty (size_of x + delta) ≡ true) × (status ≡ asks_status)
-    × ((growth_of x delta 0).question ≡ table_question_of q'))
+    × (q' ≡ plain_question (growth_of x delta 0).question))
 
 -- what a growth of a table asks, by a call; where the header stands for no table, it asks nothing
 abbrev pub AsksTableEmbedded : TableHeader → List ℕ → ℕ → ℕ → Question → Question → Type 0
@@ -138,16 +140,18 @@ AsksTableEmbedded h region delta status q q' =
     (IsNoTable h region × (status ≡ invalid_state_status) × (q' ≡ q))
     ⊎ ((ty : TableTypeValue) × IsTable h region ty × AsksTableAs (table_in ty region h.size) delta status q q')
 
--- what a creation leaves: a header that stands for the new table, or all as it was
+-- what a creation leaves: a header that stands for the new table, and the region past it; or all as it was
 abbrev pub LeavesTableAs : TableTypeValue → Placed TableHeader → Result ℕ TableError → Placed TableHeader → Type 0
-LeavesTableAs ty p (Ok size) p' = (p'.header ≡ record p.header { size = size }) × IsTable p'.header p'.region ty
+LeavesTableAs ty p (Ok size) p' =
+    (p'.header ≡ record p.header { size = size }) × IsTable p'.header p'.region ty × SameRest size p.region p'.region
 LeavesTableAs ty p (Err e) p' = p' ≡ p
 
--- a table is made at the front of a region, as a table of the library is
-pub record MakesTableAs (made : TypedRawRef) (ty : TableTypeValue) (p : Placed TableHeader) (l : Option Quota)
+-- a table is made at the front of a region, as a table of the library on the region is
+pub record MakesTableAs (reference : ℕ) (ty : TableTypeValue) (p : Placed TableHeader) (l : Option Quota)
     (status : ℕ) (p' : Placed TableHeader) (l' : Option Quota) : Type 0 where
   pub result : Result ℕ TableError
-  pub makes : MakesTable (optional_rules quota_rules) ty made l (made_in ty p'.region result) l'
+  pub makes : MakesTableIn (optional_rules quota_rules) ty (length p.region) reference l
+      (made_in ty p'.region result) l'
   pub status_is : status ≡ table_status_of result
   pub left : LeavesTableAs ty p result p'
 
@@ -164,11 +168,7 @@ GetsElement p index old status new =
 abbrev pub MakesTableEmbedded : ℕ → Placed TableHeader → Option Quota → ℕ → Placed TableHeader → Option Quota → Type 0
 MakesTableEmbedded reference p l status p' l' = MatchOption (table_type_of p.header)
     ((status ≡ invalid_state_status) × (p' ≡ p) × (l' ≡ l))
-    (λ ty. MakesTableAs (typed_as ty reference) ty p l status p' l')
-
--- a region whose first elements are others, and the rest the same
-abbrev pub SameRest : ℕ → List ℕ → List ℕ → Type 0
-SameRest size region region' = drop size region' ≡ drop size region
+    (λ ty. MakesTableAs reference ty p l status p' l')
 
 -- an element is set by a call
 abbrev pub SetsElement : Placed TableHeader → ℕ → ℕ → ℕ → List ℕ → Type 0
@@ -185,7 +185,8 @@ pub record TableRegion : Type 0 where
   pub meter : MeterHeader
   pub number : ℕ
 
--- a part of a table is written over, as of a table of the library; the rest of the region stays
+-- a part of a table is written over, as of a table of the library; the rest of the region stays, and the meter's header
+-- except for what is left
 pub record WritesTableAs (write : TableValue → TableWrite) (ty : TableTypeValue) (size : ℕ) (s : TableRegion)
     (status : ℕ) (s' : TableRegion) : Type 0 where
   pub result : Result (Unit {0}) TableError
@@ -193,6 +194,7 @@ pub record WritesTableAs (write : TableValue → TableWrite) (ty : TableTypeValu
       (metered (table_in ty s.region size) (Some (meter_of s.meter))) result
       (metered (table_in ty s'.region size) (Some (meter_of s'.meter)))
   pub rest : SameRest size s.region s'.region
+  pub kept : KeepsMeter s.meter s'.meter
   pub status_is : status ≡ table_status_of result
   pub number_is : s'.number ≡ written_number result s.number
 

@@ -1,5 +1,5 @@
 //! What lies with C from call to call: plain numbers, which may be any.
-ghost use Rattle.std.specs.Prelude.{◌≡◌, MatchOption, Some, length};
+ghost use Rattle.std.specs.Prelude.{◌≡◌, MatchOption, OnSome, Some, length};
 ghost use Rattle.wasmi_store.specs.MemoryType.{MemoryTypeValue, IsValid, named_type};
 ghost use Rattle.wasmi_embed.specs.Headers.{settings_of, IsState, meter_of, quota_of, limiter_of, with_left};
 
@@ -135,7 +135,8 @@ pub struct QuotaHeader {
 impl QuotaHeader {
     /// The quota, if there is one.
     pub fn limiter(&self) -> Option<Quota>
-        ensures { result ≡ limiter_of self.now }
+        ensures value { result ≡ limiter_of self.now }
+        ensures on { OnSome result (self.now.is_on ≡ 0 → ⊥) }
     {
         if self.is_on == 0 {
             return None;
@@ -166,9 +167,21 @@ impl QuotaHeader {
         )
     }
 
-    /// The header of a quota.
+    /// Keeps what a quota that is on has become; the flag stays.
+    pub fn keep(&mut self, quota: &Quota)
+        requires on { self.old.is_on ≡ 0 → ⊥ }
+        ensures limiter { limiter_of self.new ≡ Some quota.now }
+        ensures flag { self.new.is_on ≡ self.old.is_on }
+    {
+        let is_on = self.is_on;
+        *self = QuotaHeader::of(quota);
+        self.is_on = is_on;
+    }
+
+    /// The header of a quota that is on.
     pub fn of(quota: &Quota) -> QuotaHeader
-        ensures { limiter_of result ≡ Some quota.now }
+        ensures quota { quota_of result ≡ quota.now }
+        ensures on { limiter_of result ≡ Some quota.now }
     {
         let caps = quota.caps();
         let holdings = quota.holdings();

@@ -8,7 +8,7 @@ use wasmi_meter::{Kind, LimiterByKind, LimiterError};
 #[repr(C)]
 #[derive(Clone, Copy)]
 pub struct HostAnswers {
-    /// The size that it was asked about.
+    /// The present size that it was asked about.
     pub current: usize,
     /// To the question: 1 for yes, 0 for no, any other number for an error.
     pub answer: u8,
@@ -18,6 +18,8 @@ pub struct HostAnswers {
     pub asked: u8,
     /// 1 where it is told of a growth that was permitted and failed, else 0.
     pub told: u8,
+    /// The size after the growth that it was asked about. It isn't read if nothing is asked.
+    pub desired: usize,
 }
 
 impl HostAnswers {

@@ -1,19 +1,26 @@
-//! A growth by the answers of a limiter that this crate doesn't see.
-ghost use Rattle.std.specs.Prelude.{Option};
+//! Growths and creations by the answers of a limiter that this crate doesn't see.
+ghost use Rattle.std.specs.Prelude.{Option, length};
 ghost use Rattle.wasmi_meter.specs.Limiter.{optional_rules};
-ghost use Rattle.wasmi_store.specs.Memory.{growth_of};
+ghost use Rattle.wasmi_store.specs.Buffer.{Lent};
+ghost use Rattle.wasmi_store.specs.Memory.{MakesMemory, creation_of, growth_of};
+ghost use Rattle.wasmi_region.specs.Memory as memory;
 ghost use Rattle.wasmi_region.specs.Memory.{memory_in};
+ghost use Rattle.wasmi_region.specs.Table as table;
+ghost use Rattle.wasmi_region.specs.Table.{table_in, creation_in, growth_in, MakesTableIn};
 ghost use Rattle.wasmi_embed.specs.Headers.{IsState};
 ghost use Rattle.wasmi_embed.specs.Laws.{Limited, Allows, limiter_after};
 ghost use Rattle.wasmi_embed.specs.MemoryCalls.{GrowsAs};
 ghost use Rattle.wasmi_embed.specs.State.{embedded};
+ghost use Rattle.wasmi_embed.specs.TableCalls.{GrowsTableAs};
+ghost use Rattle.wasmi_embed.specs.TableHeaders.{IsTable};
 
 use crate::headers::{MemoryHeader, MeterHeader};
 use crate::host::HostAnswers;
-use crate::laws::settlements_are_growths;
-use crate::memory::grow_lending;
-use wasmi_meter::ResourceLimiter;
-use wasmi_store::MemoryType;
+use crate::laws::{settlements_are_creations, settlements_are_growths};
+use crate::table_header::TableHeader;
+use crate::{memory as memory_calls, table as table_calls};
+use wasmi_meter::{MemoryError, ResourceLimiter, TableError};
+use wasmi_store::{MemoryType, TableType};
 
 /// Grows a memory of this type by so many pages by the answers of a limiter of any type. If the
 /// rules of that limiter allow the answers, this is a growth under that limiter.
@@ -28,12 +35,74 @@ pub fn grow_as_answered<L: ResourceLimiter>(
 ) -> u8
     requires state { IsState header.old region.old ty }
     ensures grown { (l : Limited (Option L)) → Allows (optional_rules L.rules)
-        (growth_of (memory_in ty region.old header.old.size) pages).question answers.new l
+        (growth_of (memory_in ty region.old header.old.size) pages) answers.new l
         → GrowsAs L.rules ty pages
         (embedded header.old region.old meter.old l.before number.old) result
         (embedded header.new region.new meter.new (limiter_after answers.new l) number.new) }
 {
     settlements_are_growths::<L>();
     answers.begin();
-    grow_lending(header, ty, region, pages, meter, answers, number)
+    memory_calls::grow_lending(header, ty, region, pages, meter, answers, number)
+}
+
+/// Grows a table of this type by so many elements by the answers of a limiter of any type, as
+/// `grow_as_answered` does a memory.
+pub fn grow_table_as_answered<L: ResourceLimiter>(
+    header: &mut TableHeader,
+    ty: TableType,
+    region: &mut [u32],
+    delta: u64,
+    reference: u32,
+    meter: &mut MeterHeader,
+    answers: &mut HostAnswers,
+    number: &mut u64,
+) -> u8
+    requires state { IsTable header.old region.old ty }
+    ensures grown { (l : Limited (Option L)) → Allows (optional_rules L.rules)
+        (growth_in (length region.old) (table_in ty region.old header.old.size) delta reference)
+        answers.new l
+        → GrowsTableAs L.rules (record { ty = ty; delta = delta; reference = reference })
+        (embedded header.old region.old meter.old l.before number.old) result
+        (embedded header.new region.new meter.new (limiter_after answers.new l) number.new) }
+{
+    settlements_are_growths::<L>();
+    answers.begin();
+    table_calls::grow_lending(header, ty, region, delta, reference, meter, answers, number)
+}
+
+/// Makes a memory of this type at the front of a region by the answers of a limiter of any type,
+/// and returns its size in bytes. If the rules of that limiter allow the answers, this is a
+/// creation under that limiter. The errors are those of [`wasmi_region::memory::make`].
+pub fn make_as_answered<L: ResourceLimiter>(
+    ty: MemoryType,
+    region: &mut [u8],
+    answers: &mut HostAnswers,
+) -> Result<usize, MemoryError>
+    ensures made { (l : Limited (Option L)) → Allows (optional_rules L.rules)
+        (creation_of (Lent region.old) ty) answers.new l
+        → MakesMemory (optional_rules L.rules) (Lent region.old) ty l.before
+        (memory.made_in ty region.new result) (limiter_after answers.new l) }
+{
+    settlements_are_creations::<L>();
+    answers.begin();
+    memory_calls::make_lending(ty, region, answers)
+}
+
+/// Makes a table of this type at the front of a region by the answers of a limiter of any type, as
+/// `make_as_answered` does a memory, and returns its size. The errors are those of
+/// [`wasmi_region::table::make`].
+pub fn make_table_as_answered<L: ResourceLimiter>(
+    ty: TableType,
+    region: &mut [u32],
+    reference: u32,
+    answers: &mut HostAnswers,
+) -> Result<usize, TableError>
+    ensures made { (l : Limited (Option L)) → Allows (optional_rules L.rules)
+        (creation_in ty (length region.old)) answers.new l
+        → MakesTableIn (optional_rules L.rules) ty (length region.old) reference l.before
+        (table.made_in ty region.new result) (limiter_after answers.new l) }
+{
+    settlements_are_creations::<L>();
+    answers.begin();
+    table_calls::make_lending(ty, region, reference, answers)
 }

@@ -5,10 +5,11 @@ ghost use Rattle.wasmi_meter.specs.LimiterRef.{lent_limiter, KeepsLoan};
 ghost use Rattle.wasmi_meter.specs.Quota.{quota_rules};
 ghost use Rattle.wasmi_store.specs.Buffer.{Lent};
 ghost use Rattle.wasmi_store.specs.Memory.{IsSized, MakesMemory};
-ghost use Rattle.wasmi_region.specs.Memory.{made_in};
-ghost use Rattle.wasmi_embed.specs.Headers.{IsState, limiter_of};
+ghost use Rattle.wasmi_region.specs.Memory.{memory_in, made_in};
+ghost use Rattle.wasmi_embed.specs.Headers.{IsState, limiter_of, KeepsQuota};
+ghost use Rattle.wasmi_embed.specs.Host.{is_about, memory_growth};
 ghost use Rattle.wasmi_embed.specs.State.{embedded};
-ghost use Rattle.wasmi_embed.specs.MemoryCalls.{status_of, number_of, error_status, GrowsAs, GrowsEmbedded, SettlesEmbedded, AsksEmbedded, MakesEmbedded, CountsEmbedded, ReadsEmbedded, WritesEmbedded};
+ghost use Rattle.wasmi_embed.specs.MemoryCalls.{status_of, number_of, error_status, IsNoState, IsNoType, GrowsAs, GrowsEmbedded, SettlesEmbedded, AsksEmbedded, MakesEmbedded, CountsEmbedded, ReadsEmbedded, WritesEmbedded};
 
 use crate::headers::{MemoryHeader, MeterHeader, QuotaHeader};
 use crate::host::{HostAnswers, Question};
@@ -133,9 +134,11 @@ pub extern "C" fn wasmi_memory_grow(
     quota: &mut QuotaHeader,
     number: &mut u64,
 ) -> u8
-    ensures { GrowsEmbedded quota_rules pages
+    ensures grown { GrowsEmbedded quota_rules pages
         (embedded header.old region.old meter.old (limiter_of quota.old) number.old) result
         (embedded header.new region.new meter.new (limiter_of quota.new) number.new) }
+    ensures quota { KeepsQuota quota.old quota.new }
+    ensures invalid { IsNoState header.old region.old → quota.new ≡ quota.old }
 {
     let Some(ty) = header.state(region) else {
         return INVALID_STATE;
@@ -150,7 +153,7 @@ pub extern "C" fn wasmi_memory_grow(
         None => grow_unlimited(header, ty, region, pages, meter, number),
         Some(mut limiter) => {
             let status = grow_lending(header, ty, region, pages, meter, &mut limiter, number);
-            *quota = QuotaHeader::of(&limiter);
+            quota.keep(&limiter);
             status
         }
     }
@@ -189,9 +192,9 @@ pub extern "C" fn wasmi_memory_question(
     ASKS
 }
 
-/// Grows a memory by so many pages of zeros, under a limiter that answers as the host says. Where
-/// the answers are about another size, nothing is written; else `answers` says whether the limiter
-/// was asked and is told.
+/// Grows a memory by so many pages of zeros, under a limiter that answers as the host says. If the
+/// answers are about other sizes than the growth's, nothing is written; else `answers` says whether
+/// the limiter was asked and is told.
 #[unsafe(no_mangle)]
 pub extern "C" fn wasmi_memory_settle(
     header: &mut MemoryHeader,
@@ -208,11 +211,35 @@ pub extern "C" fn wasmi_memory_settle(
     let Some(ty) = header.state(region) else {
         return INVALID_STATE;
     };
-    if header.size != answers.current {
+    if !are_about(header, ty, region, pages, answers) {
         return OTHER_SIZE;
     }
     answers.begin();
     grow_lending(header, ty, region, pages, meter, answers, number)
+}
+
+/// Whether the host's answers are to what a growth by so many pages asks.
+fn are_about(
+    header: &MemoryHeader,
+    ty: MemoryType,
+    region: &[u8],
+    pages: u64,
+    answers: &HostAnswers,
+) -> bool
+    requires state { IsState header.now region.now ty }
+    ensures about { result ≡ is_about answers.now
+        (memory_growth (memory_in ty region.now header.now.size) pages) }
+{
+    if header.size != answers.current {
+        return false;
+    }
+    if pages == 0 {
+        return true;
+    }
+    match region_memory::question(ty, header.size, pages) {
+        Some((desired, _)) => desired == answers.desired,
+        None => true,
+    }
 }
 
 /// Makes a memory under a quota, or without one.
@@ -221,24 +248,25 @@ fn make(ty: MemoryType, region: &mut [u8], quota: &mut QuotaHeader) -> Result<us
         (limiter_of quota.old) (made_in ty region.new result) (limiter_of quota.new) }
     ensures sized { IfOk result (λ size. IsSized ty size × (size ≤ length region.new)) }
     ensures refused { OnErr result (region.new ≡ region.old) }
+    ensures quota { KeepsQuota quota.old quota.new }
 {
     match quota.limiter() {
         None => make_unlimited(ty, region),
         Some(mut limiter) => {
             let made = make_lending(ty, region, &mut limiter);
-            *quota = QuotaHeader::of(&limiter);
+            quota.keep(&limiter);
             made
         }
     }
 }
 
-/// Makes a memory under a quota that is lent for this call alone.
-fn make_lending(
+/// Makes a memory under a limiter that is lent for this call alone.
+pub(crate) fn make_lending<L: ResourceLimiter>(
     ty: MemoryType,
     region: &mut [u8],
-    limiter: &mut Quota,
+    limiter: &mut L,
 ) -> Result<usize, MemoryError>
-    ensures made { MakesMemory (optional_rules quota_rules) (Lent region.old) ty
+    ensures made { MakesMemory (optional_rules L.rules) (Lent region.old) ty
         (Some limiter.old) (made_in ty region.new result) (Some limiter.new) }
     ensures sized { IfOk result (λ size. IsSized ty size × (size ≤ length region.new)) }
     ensures refused { OnErr result (region.new ≡ region.old) }
@@ -270,9 +298,11 @@ pub extern "C" fn wasmi_memory_new(
     region: &mut [u8],
     quota: &mut QuotaHeader,
 ) -> u8
-    ensures { MakesEmbedded (record { header = header.old; region = region.old })
+    ensures made { MakesEmbedded (record { header = header.old; region = region.old })
         (limiter_of quota.old) result (record { header = header.new; region = region.new })
         (limiter_of quota.new) }
+    ensures quota { KeepsQuota quota.old quota.new }
+    ensures invalid { IsNoType header.old → quota.new ≡ quota.old }
 {
     let Some(ty) = header.ty() else {
         return INVALID_STATE;

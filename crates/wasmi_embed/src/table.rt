@@ -1,14 +1,15 @@
 //! The calls on a table.
-ghost use Rattle.std.specs.Prelude.{◌≡◌, ◌≤◌, None, Some, OnErr, IfOk, length};
+ghost use Rattle.std.specs.Prelude.{◌≡◌, ◌≤◌, ℕ, None, Some, OnErr, IfOk, length};
 ghost use Rattle.wasmi_meter.specs.Limiter.{optional_rules};
 ghost use Rattle.wasmi_meter.specs.LimiterRef.{lent_limiter, KeepsLoan};
 ghost use Rattle.wasmi_meter.specs.Quota.{quota_rules};
-ghost use Rattle.wasmi_region.specs.Table.{made_in, typed_as, table_in, items_of};
-ghost use Rattle.wasmi_store.specs.Table.{IsSized, MakesTable, raw_filling_of, copy_of, initialization_of};
-ghost use Rattle.wasmi_embed.specs.Headers.{limiter_of};
+ghost use Rattle.wasmi_region.specs.Table.{made_in, table_in, items_of, region_growth, MakesTableIn};
+ghost use Rattle.wasmi_store.specs.Table.{IsSized, raw_filling_of, copy_of, initialization_of};
+ghost use Rattle.wasmi_embed.specs.Headers.{limiter_of, KeepsQuota};
+ghost use Rattle.wasmi_embed.specs.Host.{is_about};
 ghost use Rattle.wasmi_embed.specs.State.{embedded};
-ghost use Rattle.wasmi_embed.specs.TableHeaders.{IsTable};
-ghost use Rattle.wasmi_embed.specs.TableCalls.{table_status, table_status_of, needed_of, grown_number, written_number, GrowsTableAs, GrowsTableEmbedded, SettlesTableEmbedded, AsksTableEmbedded, MakesTableEmbedded, GetsElement, SetsElement, WritesTableEmbedded, CopiesEmbedded};
+ghost use Rattle.wasmi_embed.specs.TableHeaders.{table_type_of, IsTable};
+ghost use Rattle.wasmi_embed.specs.TableCalls.{table_status, table_status_of, needed_of, grown_number, written_number, SameRest, IsNoTable, GrowsTableAs, GrowsTableEmbedded, SettlesTableEmbedded, AsksTableEmbedded, MakesTableEmbedded, GetsElement, SetsElement, WritesTableEmbedded, CopiesEmbedded};
 
 use crate::headers::{MeterHeader, QuotaHeader};
 use crate::host::{HostAnswers, Question};
@@ -93,7 +94,7 @@ fn grow<L: ResourceLimiter>(
 }
 
 /// As `grow`, under a limiter that is lent for this call alone: what it becomes is known.
-fn grow_lending<L: ResourceLimiter>(
+pub(crate) fn grow_lending<L: ResourceLimiter>(
     header: &mut TableHeader,
     ty: TableType,
     region: &mut [u32],
@@ -160,9 +161,11 @@ pub extern "C" fn wasmi_table_grow(
     quota: &mut QuotaHeader,
     number: &mut u64,
 ) -> u8
-    ensures { GrowsTableEmbedded quota_rules delta reference
+    ensures grown { GrowsTableEmbedded quota_rules delta reference
         (embedded header.old region.old meter.old (limiter_of quota.old) number.old) result
         (embedded header.new region.new meter.new (limiter_of quota.new) number.new) }
+    ensures quota { KeepsQuota quota.old quota.new }
+    ensures invalid { IsNoTable header.old region.old → quota.new ≡ quota.old }
 {
     let Some(ty) = header.state(region) else {
         return INVALID_STATE;
@@ -180,7 +183,7 @@ pub extern "C" fn wasmi_table_grow(
                 &mut limiter,
                 number,
             );
-            *quota = QuotaHeader::of(&limiter);
+            quota.keep(&limiter);
             status
         }
     }
@@ -221,8 +224,8 @@ pub extern "C" fn wasmi_table_question(
 }
 
 /// Grows a table by so many elements of one reference, under a limiter that answers as the host
-/// says. Where the answers are about another size, nothing is written; else `answers` says whether
-/// the limiter was asked and is told.
+/// says. If the answers are about other sizes than the growth's, nothing is written; else `answers`
+/// says whether the limiter was asked and is told.
 #[unsafe(no_mangle)]
 pub extern "C" fn wasmi_table_settle(
     header: &mut TableHeader,
@@ -240,11 +243,36 @@ pub extern "C" fn wasmi_table_settle(
     let Some(ty) = header.state(region) else {
         return INVALID_STATE;
     };
-    if header.size != answers.current {
+    if !are_about(header, ty, region, delta, answers) {
         return OTHER_SIZE;
     }
     answers.begin();
     grow_lending(header, ty, region, delta, reference, meter, answers, number)
+}
+
+/// Whether the host's answers are to what a growth by so many elements asks.
+fn are_about(
+    header: &TableHeader,
+    ty: TableType,
+    region: &[u32],
+    delta: u64,
+    answers: &HostAnswers,
+) -> bool
+    requires state { IsTable header.now region.now ty }
+    ensures about { (reference : ℕ) → result ≡ is_about answers.now
+        (region_growth (length region.now) delta reference
+        (table_in ty region.now header.now.size)) }
+{
+    if header.size != answers.current {
+        return false;
+    }
+    if delta == 0 {
+        return true;
+    }
+    match region_table::question(ty, header.size, delta) {
+        Some((desired, _)) => desired == answers.desired,
+        None => true,
+    }
 }
 
 /// The element at an index.
@@ -416,31 +444,34 @@ fn make(
     reference: u32,
     quota: &mut QuotaHeader,
 ) -> Result<usize, TableError>
-    ensures made { MakesTable (optional_rules quota_rules) ty (typed_as ty reference)
+    ensures made { MakesTableIn (optional_rules quota_rules) ty (length region.old) reference
         (limiter_of quota.old) (made_in ty region.new result) (limiter_of quota.new) }
     ensures sized { IfOk result (λ size. IsSized ty size × (size ≤ length region.new)) }
+    ensures rest { IfOk result (λ size. SameRest size region.old region.new) }
     ensures refused { OnErr result (region.new ≡ region.old) }
+    ensures quota { KeepsQuota quota.old quota.new }
 {
     match quota.limiter() {
         None => make_unlimited(ty, region, reference),
         Some(mut limiter) => {
             let made = make_lending(ty, region, reference, &mut limiter);
-            *quota = QuotaHeader::of(&limiter);
+            quota.keep(&limiter);
             made
         }
     }
 }
 
-/// Makes a table under a quota that is lent for this call alone.
-fn make_lending(
+/// Makes a table under a limiter that is lent for this call alone.
+pub(crate) fn make_lending<L: ResourceLimiter>(
     ty: TableType,
     region: &mut [u32],
     reference: u32,
-    limiter: &mut Quota,
+    limiter: &mut L,
 ) -> Result<usize, TableError>
-    ensures made { MakesTable (optional_rules quota_rules) ty (typed_as ty reference)
+    ensures made { MakesTableIn (optional_rules L.rules) ty (length region.old) reference
         (Some limiter.old) (made_in ty region.new result) (Some limiter.new) }
     ensures sized { IfOk result (λ size. IsSized ty size × (size ≤ length region.new)) }
+    ensures rest { IfOk result (λ size. SameRest size region.old region.new) }
     ensures refused { OnErr result (region.new ≡ region.old) }
 {
     let mut lent = ResourceLimiterRef::from(limiter);
@@ -452,10 +483,15 @@ fn make_lending(
 }
 
 /// Makes a table without a limiter.
-fn make_unlimited(ty: TableType, region: &mut [u32], reference: u32) -> Result<usize, TableError>
-    ensures made { MakesTable (optional_rules quota_rules) ty (typed_as ty reference) None
+pub(crate) fn make_unlimited(
+    ty: TableType,
+    region: &mut [u32],
+    reference: u32,
+) -> Result<usize, TableError>
+    ensures made { MakesTableIn (optional_rules quota_rules) ty (length region.old) reference None
         (made_in ty region.new result) None }
     ensures sized { IfOk result (λ size. IsSized ty size × (size ≤ length region.new)) }
+    ensures rest { IfOk result (λ size. SameRest size region.old region.new) }
     ensures refused { OnErr result (region.new ≡ region.old) }
 {
     let mut absent: ResourceLimiterRef<Quota> = ResourceLimiterRef::default();
@@ -471,9 +507,11 @@ pub extern "C" fn wasmi_table_new(
     reference: u32,
     quota: &mut QuotaHeader,
 ) -> u8
-    ensures { MakesTableEmbedded reference
+    ensures made { MakesTableEmbedded reference
         (record { header = header.old; region = region.old }) (limiter_of quota.old) result
         (record { header = header.new; region = region.new }) (limiter_of quota.new) }
+    ensures quota { KeepsQuota quota.old quota.new }
+    ensures invalid { table_type_of header.old ≡ None → quota.new ≡ quota.old }
 {
     let Some(ty) = header.table_type() else {
         return INVALID_STATE;

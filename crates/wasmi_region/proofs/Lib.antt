@@ -1,2 +1,3 @@
+mod LawsLemmas
 mod MemoryLemmas
 mod TableLemmas

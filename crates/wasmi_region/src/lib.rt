@@ -1,5 +1,6 @@
 //! Linear memories and tables that are the first of a region, which lies with the caller.
 #![tactic(auto)]
 
+pub mod laws;
 pub mod memory;
 pub mod table;

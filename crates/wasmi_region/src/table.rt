@@ -3,13 +3,13 @@
 //! region is room to grow in place. A reference is a number, whose type is the caller's matter.
 //!
 //! Own: upstream's table owns its elements.
-ghost use Rattle.std.specs.Prelude.{◌≡◌, ◌≤◌, ◌<◌, ◌+◌, ◌-◌, ℕ, length, OnErr, IfOk, Some, MatchOption, true, false};
+ghost use Rattle.std.specs.Prelude.{◌≡◌, ◌≤◌, ◌<◌, ◌+◌, ◌-◌, ℕ, length, drop, OnErr, IfOk, Some, MatchOption, true, false};
 ghost use Rattle.wasmi_meter.specs.Limiter.{optional_rules};
 ghost use Rattle.wasmi_meter.specs.LimiterRef.{lent_limiter, KeepsLoan};
 ghost use Rattle.wasmi_store.specs.Growth.{metered_value, metered};
-ghost use Rattle.wasmi_store.specs.Table.{table_of, IsSized, MakesTable, GrowsTableRaw, SetsTableRaw, WritesTable, raw_filling_of, copy_of, initialization_of};
+ghost use Rattle.wasmi_store.specs.Table.{table_of, IsSized, SetsTableRaw, WritesTable, raw_filling_of, copy_of, initialization_of};
 ghost use Rattle.wasmi_store.specs.TableType.{is_indexable};
-ghost use Rattle.wasmi_region.specs.Table.{table_in, made_in, typed_as, items_of};
+ghost use Rattle.wasmi_region.specs.Table.{table_in, made_in, items_of, MakesTableIn, GrowsTableIn};
 
 use wasmi_meter::growth::{charge, permission, tell};
 use wasmi_meter::{Fuel, ResourceLimiter, ResourceLimiterRef, TableError};
@@ -38,10 +38,12 @@ pub fn make<L: ResourceLimiter>(
     limiter: &mut ResourceLimiterRef<L>,
 ) -> Result<usize, TableError>
     ensures loan { KeepsLoan limiter.old limiter.new }
-    ensures made { MakesTable (optional_rules L.rules) ty (typed_as ty reference)
+    ensures made { MakesTableIn (optional_rules L.rules) ty (length region.old) reference
         (lent_limiter limiter.old) (made_in ty region.new result) (lent_limiter limiter.new) }
     ensures sized { IfOk result (λ size. IsSized ty size × (size ≤ length region.new)) }
+    ensures rest { IfOk result (λ size. drop size region.new ≡ drop size region.old) }
     ensures refused { OnErr result (region.new ≡ region.old) }
+    ensures len { length region.new ≡ length region.old }
 {
     let size = ty.minimum() as usize;
     let answer = limiter.table_growing(0, size, ty.maximum_size());
@@ -58,8 +60,9 @@ pub fn make<L: ResourceLimiter>(
 /// and returns the old size; `size` becomes the new one. A growth by 0 changes nothing and asks no
 /// limiter.
 ///
-/// The errors are those of [`wasmi_store::Table::grow_raw`], of which `OutOfSystemMemory` means
-/// that the region is shorter than the new size.
+/// The errors are those of [`wasmi_store::Table::grow_raw`], of which `OutOfSystemMemory` comes
+/// only if the region is shorter than the new size. The elements past the table are unchanged, and
+/// after an error the whole region is.
 pub fn grow<L: ResourceLimiter>(
     ty: TableType,
     size: &mut usize,
@@ -72,13 +75,17 @@ pub fn grow<L: ResourceLimiter>(
     requires sized { IsSized ty size.old }
     requires within { size.old ≤ length region.old }
     ensures loan { KeepsLoan limiter.old limiter.new }
-    ensures grown { GrowsTableRaw (optional_rules L.rules) delta reference
+    ensures grown { GrowsTableIn (optional_rules L.rules) (length region.old) delta reference
         (metered_value (table_in ty region.old size.old) (Some fuel.old)
         (lent_limiter limiter.old)) result
         (metered_value (table_in ty region.new size.new) (Some fuel.new)
         (lent_limiter limiter.new)) }
     ensures sized { IsSized ty size.new }
     ensures within { size.new ≤ length region.new }
+    ensures len { length region.new ≡ length region.old }
+    ensures rest { drop size.new region.new ≡ drop size.new region.old }
+    ensures refused { OnErr result (region.new ≡ region.old) }
+    ensures size { OnErr result (size.new ≡ size.old) }
 {
     let old_size = *size as u64;
     if delta == 0 {

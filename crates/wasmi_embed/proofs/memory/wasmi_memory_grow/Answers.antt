@@ -9,8 +9,8 @@ use Rattle.wasmi_region.specs.Memory.{memory_in}
 use Rattle.wasmi_embed.specs.Headers.{meter_of, limiter_of}
 use Rattle.wasmi_embed.proofs.memory.wasmi_memory_grow.Goals as goal
 
-pub returns-in_default-question : goal.returns-in_default-question
-returns-in_default-question c =
+pub returns-in_default-question-clause-grown : goal.returns-in_default-question-clause-grown
+returns-in_default-question-clause-grown c =
     let ty = c.in-Some.ty in
     let state = c.in-Some.ensures in
     let size = c.args.header.now.size in
@@ -26,6 +26,7 @@ returns-in_default-question c =
             (limiter_of c.args.quota.now) c.args.pages c.if-pages-ne0.true outside;
         state = state;
         header = refl;
+        meter = record { others = refl; off = λ off. refl };
         status_is = refl;
         number_is = refl;
       },

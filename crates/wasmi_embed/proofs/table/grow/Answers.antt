@@ -1,7 +1,7 @@
 use Rattle.std.proofs.Common.{refl}
 use Rattle.wasmi_meter.specs.Limiter.{optional_rules}
 use Rattle.wasmi_embed.specs.Headers.{meter_of}
-use Rattle.wasmi_embed.proofs.MeterLemmas.{meter_charged, kept}
+use Rattle.wasmi_embed.proofs.MeterLemmas.{meter_charged, kept, keeps}
 use Rattle.wasmi_embed.proofs.table.grow.Goals as goal
 
 pub returns-clause-grown : goal.returns-clause-grown
@@ -18,6 +18,9 @@ returns-clause-grown g c =
         within = c.grow-grown.ensures.within;
       };
       header = refl;
+      meter = rw c.keep.ensures (keeps c.args.meter.now _ grown.0 charged);
+      rest = c.grow-grown.ensures.rest;
+      refused = c.grow-grown.ensures.refused;
       status_is = c.answer.ensures.status;
       number_is = c.answer.ensures.number;
     }

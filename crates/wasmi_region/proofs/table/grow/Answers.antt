@@ -1,59 +1,79 @@
-use Rattle.std.proofs.Common.{false, refl, sym}
+use Rattle.std.proofs.Common.{sym}
 use Rattle.std.proofs.lemmas.Result.{err_from_is_err_and}
 use Rattle.wasmi_meter.specs.Limiter.{optional_rules}
-use Rattle.wasmi_region.specs.Table.{table_in}
+use Rattle.wasmi_meter.specs.LimiterRef.{lent_limiter}
 use Rattle.wasmi_store.proofs.GrowthLemmas.{grows_denied}
-use Rattle.wasmi_store.proofs.TableLemmas.{growing, grows_unasked, grows_above, grows_unpaid, grows_refused, grows_met}
-use Rattle.wasmi_region.proofs.TableLemmas.{sized, indexed, asked_in, permitted_in, grown}
+use Rattle.wasmi_region.proofs.TableLemmas as table
 use Rattle.wasmi_region.proofs.table.grow.Goals as goal
 
 pub returns-in_default-clause-grown : goal.returns-in_default-clause-grown
 returns-in_default-clause-grown g c =
-    grows_unasked (optional_rules g.L.ResourceLimiter.rules) (table_in c.args.ty c.args.region.now c.args.size.now)
-    c.args.fuel.now _ c.args.delta c.args.reference c.if-delta-eq0.false
-    (indexed c.args.ty c.args.region.now c.args.size.now c.requires.within c.args.delta false c.in_default.ensures)
+    let t =
+    table.growth_at (optional_rules g.L.ResourceLimiter.rules) c.args.ty c.args.region.now c.args.size.now
+    c.requires.within c.args.fuel.now (lent_limiter c.args.limiter.now) c.args.delta c.args.reference
+    c.if-delta-eq0.false in
+    table.grows_unasked t c.in_default.ensures
 
 pub returns-in_err-permission-clause-grown : goal.returns-in_err-permission-clause-grown
 returns-in_err-permission-clause-grown g c =
+    let t =
+    table.growth_at (optional_rules g.L.ResourceLimiter.rules) c.args.ty c.args.region.now c.args.size.now
+    c.requires.within c.args.fuel.now (lent_limiter c.args.limiter.now) c.args.delta c.args.reference
+    c.if-delta-eq0.false in
     let p = err_from_is_err_and c.from_residual.result c.from_residual.ensures.1 in
     rw (p.1, p.2) (
-    grows_denied
-    (growing (optional_rules g.L.ResourceLimiter.rules) (table_in c.args.ty c.args.region.now c.args.size.now)
-    c.args.fuel.now _ c.args.delta c.args.reference c.if-delta-eq0.false)
-    _ (asked_in c.args.ty c.args.region.now c.args.size.now c.requires.within c.args.delta c.args.reference
-    c.in-Some.ensures c.maximum_size.ensures)
+    grows_denied (table.attempt t) _ (table.asked_in t c.in-Some.ensures c.maximum_size.ensures)
     _ _ c.table_growing-answer.ensures.asked _ c.in_err-permission.ensures
     )
 
 pub returns-then-not-allows_size-clause-grown : goal.returns-then-not-allows_size-clause-grown
 returns-then-not-allows_size-clause-grown g c =
-    let permits = permitted_in c.args.ty c.args.region.now c.args.size.now c.requires.within
-    (optional_rules g.L.ResourceLimiter.rules) c.args.fuel.now c.args.delta c.args.reference c.if-delta-eq0.false
-    c.in-Some.ensures c.maximum_size.ensures c.in_ok-permission.ensures c.table_growing-answer.ensures.asked in
-    grows_above permits (sym c.if-not-allows_size.ensures) _ _ c.tell.ensures.told
+    let t =
+    table.growth_at (optional_rules g.L.ResourceLimiter.rules) c.args.ty c.args.region.now c.args.size.now
+    c.requires.within c.args.fuel.now (lent_limiter c.args.limiter.now) c.args.delta c.args.reference
+    c.if-delta-eq0.false in
+    let is = table.permits t c.in-Some.ensures c.maximum_size.ensures c.in_ok-permission.ensures
+    c.table_growing-answer.ensures.asked in
+    table.grows_above t is (sym c.if-not-allows_size.ensures) _ _ c.tell.ensures.told
 
 pub returns-in-Err-clause-grown : goal.returns-in-Err-clause-grown
 returns-in-Err-clause-grown g c =
-    let permits = permitted_in c.args.ty c.args.region.now c.args.size.now c.requires.within
-    (optional_rules g.L.ResourceLimiter.rules) c.args.fuel.now c.args.delta c.args.reference c.if-delta-eq0.false
-    c.in-Some.ensures c.maximum_size.ensures c.in_ok-permission.ensures c.table_growing-answer.ensures.asked in
-    grows_unpaid permits (sym c.if-not-allows_size.ensures) c.charge.new.fuel _ c.in-Err.ensures _ _
+    let t =
+    table.growth_at (optional_rules g.L.ResourceLimiter.rules) c.args.ty c.args.region.now c.args.size.now
+    c.requires.within c.args.fuel.now (lent_limiter c.args.limiter.now) c.args.delta c.args.reference
+    c.if-delta-eq0.false in
+    let is = table.permits t c.in-Some.ensures c.maximum_size.ensures c.in_ok-permission.ensures
+    c.table_growing-answer.ensures.asked in
+    table.grows_unpaid t is (sym c.if-not-allows_size.ensures) c.charge.new.fuel _ c.in-Err.ensures _ _
     c.tell-in-Err.ensures.told
 
 pub returns-then-region-desired-clause-grown : goal.returns-then-region-desired-clause-grown
 returns-then-region-desired-clause-grown g c =
-    let permits = permitted_in c.args.ty c.args.region.now c.args.size.now c.requires.within
-    (optional_rules g.L.ResourceLimiter.rules) c.args.fuel.now c.args.delta c.args.reference c.if-delta-eq0.false
-    c.in-Some.ensures c.maximum_size.ensures c.in_ok-permission.ensures c.table_growing-answer.ensures.asked in
-    grows_refused permits (sym c.if-not-allows_size.ensures) c.charge.new.fuel c.in_default-charge.ensures _ refl _ _
+    let t =
+    table.growth_at (optional_rules g.L.ResourceLimiter.rules) c.args.ty c.args.region.now c.args.size.now
+    c.requires.within c.args.fuel.now (lent_limiter c.args.limiter.now) c.args.delta c.args.reference
+    c.if-delta-eq0.false in
+    let is = table.permits t c.in-Some.ensures c.maximum_size.ensures c.in_ok-permission.ensures
+    c.table_growing-answer.ensures.asked in
+    table.grows_short t is (sym c.if-not-allows_size.ensures) c.charge.new.fuel c.in_default-charge.ensures
+    c.if-region-desired.true _ _
     c.tell-then-region-desired.ensures.told
 
 pub returns-clause-grown : goal.returns-clause-grown
 returns-clause-grown g c =
-    let permits = permitted_in c.args.ty c.args.region.now c.args.size.now c.requires.within
-    (optional_rules g.L.ResourceLimiter.rules) c.args.fuel.now c.args.delta c.args.reference c.if-delta-eq0.false
-    c.in-Some.ensures c.maximum_size.ensures c.in_ok-permission.ensures c.table_growing-answer.ensures.asked in
-    grows_met permits (sym c.if-not-allows_size.ensures) c.charge.new.fuel c.in_default-charge.ensures _
-    (grown c.args.ty c.args.region.now c.args.size.now c.requires.within c.args.delta c.args.reference _
-    c.in-Some.ensures.1 _ c.fill_range.ensures.filled) _
-    (sized c.args.ty c.args.region.now c.args.size.now c.requires.within)
+    let t =
+    table.growth_at (optional_rules g.L.ResourceLimiter.rules) c.args.ty c.args.region.now c.args.size.now
+    c.requires.within c.args.fuel.now (lent_limiter c.args.limiter.now) c.args.delta c.args.reference
+    c.if-delta-eq0.false in
+    let is = table.permits t c.in-Some.ensures c.maximum_size.ensures c.in_ok-permission.ensures
+    c.table_growing-answer.ensures.asked in
+    table.grows_met t is (sym c.if-not-allows_size.ensures) c.charge.new.fuel c.in_default-charge.ensures _
+    (table.grown t _ c.in-Some.ensures.1 _ c.fill_range.ensures.filled)
+
+pub returns-clause-rest : goal.returns-clause-rest
+returns-clause-rest g c =
+    let t =
+    table.growth_at (optional_rules g.L.ResourceLimiter.rules) c.args.ty c.args.region.now c.args.size.now
+    c.requires.within c.args.fuel.now (lent_limiter c.args.limiter.now) c.args.delta c.args.reference
+    c.if-delta-eq0.false in
+    table.kept_past t _ c.in-Some.ensures.1 _ c.fill_range.ensures.filled
