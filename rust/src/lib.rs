@@ -68,7 +68,7 @@
 //! Each word leads to its definition, whose sentence shows when the pointer rests on it. Here is the
 //! contract of [`Fuel::get_fuel`]:
 //!
-#![doc = include_str!("proved/docs/meter/Fuel.get_fuel.contract.md")]
+#![doc = include_str!("proved/docs/meter/Fuel.get_fuel.clauses.md")]
 //!
 //! A section *Model* says what a contract sees of a type: `Value` is the type of its values there,
 //! `view` how one is read off the fields, `invariant` what holds at any time.

@@ -14,7 +14,9 @@ use core::panic::UnwindSafe;
 /// # Examples
 ///
 /// ```
-/// use wasmi_core_proved::{Fuel, FuelCostsProvider, Memory, MemoryError, MemoryType, ResourceLimiterRef};
+/// use wasmi_core_proved::{
+///     Fuel, FuelCostsProvider, Memory, MemoryError, MemoryType, ResourceLimiterRef,
+/// };
 ///
 /// let mut builder = MemoryType::builder();
 /// builder.min(1).max(Some(3));

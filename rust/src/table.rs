@@ -16,7 +16,9 @@ use crate::{
 /// # Examples
 ///
 /// ```
-/// use wasmi_core_proved::{RawRef, RefType, ResourceLimiterRef, Table, TableError, TableType, TypedRawRef};
+/// use wasmi_core_proved::{
+///     RawRef, RefType, ResourceLimiterRef, Table, TableError, TableType, TypedRawRef,
+/// };
 ///
 /// let mut limiter = ResourceLimiterRef::default();
 /// let null = TypedRawRef::null(RefType::Func);

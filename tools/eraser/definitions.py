@@ -14,7 +14,7 @@ USE = re.compile(r"^(?:pub |ghost )?use ([\w.]+?)(?:\.\{(.*?)\}|\s+as\s+(\w+))?\
 HEAD = re.compile(r"^( *)((?:(?:abbrev|unfoldable|opaque|pub|record|data) )*)([^\s:(){}=]+)(?= |$)")
 NO_HEAD = ("--", "use ", "module ", "let ", "in ")
 OF_LANGUAGE = ("tt", "Unit")             # words that nothing brings in
-DECLARED = re.compile(r"Rattle\.(\w+)\.specs\.declared\.(?:[\w.]+\.)?(\w+)(\.TheVariants|\.TheConstants)?")
+DECLARED = re.compile(r"Rattle\.(\w+)\.specs\.declared\.(?:[\w.]+\.)?(?!The[VC])(\w+)(\.TheVariants|\.TheConstants)?")
 ASKED = re.compile(r"ghost\s+(\w+)\s*:\s*\{(.*?)\}\s*;", re.S)
 PUBLIC_TYPE = re.compile(r"(?m)^pub (?:struct|enum|trait|type) (\w+)")
 

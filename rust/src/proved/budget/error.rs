@@ -61,7 +61,9 @@ impl core::error::Error for PoolError {}
 
 /// # Contract
 ///
-/// <span></span><pre><code>from_gives = λ \_ error. error ≡ OutOfMemory</code></pre>
+/// <span></span><pre><code>from_gives = λ \_ error. error ≡ [OutOfMemory]</code></pre>
+///
+/// [OutOfMemory]: crate::proved::budget::PoolError::OutOfMemory
 impl From<AllocError> for PoolError {
     #[inline]
     fn from(_: AllocError) -> Self {

@@ -188,10 +188,11 @@ impl<'r> Pool<'r> {
     ///
     /// # Contract
     ///
-    /// <span></span><pre><code>ensures: result ≡ [option_map] (λ s. [total] s Bytes) ([slice_get] self.now.machines index)</code></pre>
+    /// <span></span><pre><code>ensures: result ≡ [option_map] (λ s. [total] s [Bytes]) ([slice_get] self.now.machines index)</code></pre>
     ///
     /// [option_map]: crate::specs::library#option_map "f of the value, if there is one"
     /// [total]: crate::specs::machine::Totals#total "their sum"
+    /// [Bytes]: crate::proved::meter::Kind::Bytes
     /// [slice_get]: crate::specs::library#slice_get "element i, if there is one"
     #[inline]
     pub fn held_bytes(&self, index: usize) -> Option<u64> {
@@ -205,10 +206,11 @@ impl<'r> Pool<'r> {
     ///
     /// # Contract
     ///
-    /// <span></span><pre><code>ensures: result ≡ [option_map] (λ s. [total] s Elements) ([slice_get] self.now.machines index)</code></pre>
+    /// <span></span><pre><code>ensures: result ≡ [option_map] (λ s. [total] s [Elements]) ([slice_get] self.now.machines index)</code></pre>
     ///
     /// [option_map]: crate::specs::library#option_map "f of the value, if there is one"
     /// [total]: crate::specs::machine::Totals#total "their sum"
+    /// [Elements]: crate::proved::meter::Kind::Elements
     /// [slice_get]: crate::specs::library#slice_get "element i, if there is one"
     #[inline]
     pub fn held_elements(&self, index: usize) -> Option<u64> {

@@ -16,7 +16,9 @@ pub enum ParseError {
 
 /// # Contract
 ///
-/// <span></span><pre><code>from_gives = λ \_ error. error ≡ OutOfMemory</code></pre>
+/// <span></span><pre><code>from_gives = λ \_ error. error ≡ [OutOfMemory]</code></pre>
+///
+/// [OutOfMemory]: crate::proved::grammar::ParseError::OutOfMemory
 impl From<AllocError> for ParseError {
     #[inline]
     fn from(_: AllocError) -> Self {

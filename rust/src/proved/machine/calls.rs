@@ -23,19 +23,38 @@ use core::fmt::{Debug, Formatter};
 /// Replies are listed in the order of the tests: the first that applies is the reply. `Memory` and
 /// `Table` carry the error that the method of `Memory` or `Table` returns.
 pub enum Call {
-    /// Sets the fuel that is left: `Done`, or `Fuel` if metering is off.
+    /// Sets the fuel that is left: [`Done`], or [`Fuel`] if metering is off.
+    ///
+    /// [`Done`]: crate::proved::machine::Reply::Done
+    /// [`Fuel`]: crate::proved::machine::Reply::Fuel
     SetFuel(u64),
-    /// Returns the fuel that is left: `Number`, or `Fuel` if metering is off.
+    /// Returns the fuel that is left: [`Number`], or [`Fuel`] if metering is off.
+    ///
+    /// [`Number`]: crate::proved::machine::Reply::Number
+    /// [`Fuel`]: crate::proved::machine::Reply::Fuel
     GetFuel,
-    /// Makes a memory of zeros: `Made` with its index, `NoRoom` if there is no memory for its slot,
-    /// or `Memory`.
+    /// Makes a memory of zeros: [`Made`] with its index, [`NoRoom`] if there is no memory for its slot,
+    /// or [`Memory`].
+    ///
+    /// [`Made`]: crate::proved::machine::Reply::Made
+    /// [`NoRoom`]: crate::proved::machine::Reply::NoRoom
+    /// [`Memory`]: crate::proved::machine::Reply::Memory
     NewMemory(MemoryType),
-    /// Makes a memory of zeros at the front of the machine's spare region: `Made` with its index,
-    /// `NoRegion` if there is no spare region, `NoRoom` if there is no memory for its slot, or
-    /// `Memory`. Any reply except `NoRegion` and `NoRoom` uses up the region.
+    /// Makes a memory of zeros at the front of the machine's spare region: [`Made`] with its index,
+    /// [`NoRegion`] if there is no spare region, [`NoRoom`] if there is no memory for its slot, or
+    /// [`Memory`]. Any reply except [`NoRegion`] and [`NoRoom`] uses up the region.
+    ///
+    /// [`Made`]: crate::proved::machine::Reply::Made
+    /// [`NoRegion`]: crate::proved::machine::Reply::NoRegion
+    /// [`NoRoom`]: crate::proved::machine::Reply::NoRoom
+    /// [`Memory`]: crate::proved::machine::Reply::Memory
     NewLentMemory(MemoryType),
-    /// Grows a memory by `pages` pages: `Number` of the old size in pages, `NoSuch` if there is no
-    /// such memory, or `Memory`.
+    /// Grows a memory by `pages` pages: [`Number`] of the old size in pages, [`NoSuch`] if there is no
+    /// such memory, or [`Memory`].
+    ///
+    /// [`Number`]: crate::proved::machine::Reply::Number
+    /// [`NoSuch`]: crate::proved::machine::Reply::NoSuch
+    /// [`Memory`]: crate::proved::machine::Reply::Memory
     GrowMemory {
         /// The index of the memory.
         memory: usize,
@@ -43,10 +62,18 @@ pub enum Call {
         pages: u64,
     },
     /// Drops a memory, whose bytes are given back; its size still counts in the machine's total:
-    /// `Done`, or `NoSuch` if there is no such memory.
+    /// [`Done`], or [`NoSuch`] if there is no such memory.
+    ///
+    /// [`Done`]: crate::proved::machine::Reply::Done
+    /// [`NoSuch`]: crate::proved::machine::Reply::NoSuch
     DropMemory(usize),
-    /// Reads `len` bytes of a memory: `Bytes`, `NoSuch` if there is no such memory, `Memory` if
-    /// they end past it, or then `NoRoom` if there is no memory for the reply.
+    /// Reads `len` bytes of a memory: [`Bytes`], [`NoSuch`] if there is no such memory, [`Memory`] if
+    /// they end past it, or then [`NoRoom`] if there is no memory for the reply.
+    ///
+    /// [`Bytes`]: crate::proved::machine::Reply::Bytes
+    /// [`NoSuch`]: crate::proved::machine::Reply::NoSuch
+    /// [`Memory`]: crate::proved::machine::Reply::Memory
+    /// [`NoRoom`]: crate::proved::machine::Reply::NoRoom
     Read {
         /// The index of the memory.
         memory: usize,
@@ -55,8 +82,12 @@ pub enum Call {
         /// How many there are.
         len: usize,
     },
-    /// Writes bytes over those of a memory from an offset on: `Done`, `NoSuch` if there is no such
-    /// memory, or `Memory` if they would end past it.
+    /// Writes bytes over those of a memory from an offset on: [`Done`], [`NoSuch`] if there is no such
+    /// memory, or [`Memory`] if they would end past it.
+    ///
+    /// [`Done`]: crate::proved::machine::Reply::Done
+    /// [`NoSuch`]: crate::proved::machine::Reply::NoSuch
+    /// [`Memory`]: crate::proved::machine::Reply::Memory
     Write {
         /// The index of the memory.
         memory: usize,
@@ -65,8 +96,12 @@ pub enum Call {
         /// The bytes to be written.
         bytes: Vec<u8>,
     },
-    /// Loads a number from a memory at `ptr + offset`: `Value`, `NoSuch` if there is no such
-    /// memory, or `Trap` if it ends past it.
+    /// Loads a number from a memory at `ptr + offset`: [`Value`], [`NoSuch`] if there is no such
+    /// memory, or [`Trap`] if it ends past it.
+    ///
+    /// [`Value`]: crate::proved::machine::Reply::Value
+    /// [`NoSuch`]: crate::proved::machine::Reply::NoSuch
+    /// [`Trap`]: crate::proved::machine::Reply::Trap
     Load {
         /// The instruction.
         op: LoadOp,
@@ -77,8 +112,12 @@ pub enum Call {
         /// The offset in bytes.
         offset: u64,
     },
-    /// Stores a number to a memory at `ptr + offset`: `Done`, `NoSuch` if there is no such memory,
-    /// or `Trap` if it would end past it.
+    /// Stores a number to a memory at `ptr + offset`: [`Done`], [`NoSuch`] if there is no such memory,
+    /// or [`Trap`] if it would end past it.
+    ///
+    /// [`Done`]: crate::proved::machine::Reply::Done
+    /// [`NoSuch`]: crate::proved::machine::Reply::NoSuch
+    /// [`Trap`]: crate::proved::machine::Reply::Trap
     Store {
         /// The instruction.
         op: StoreOp,
@@ -91,16 +130,24 @@ pub enum Call {
         /// The value that is written or set.
         value: RawVal,
     },
-    /// Makes a table of one reference: `Made` with its index, `NoRoom` if there is no memory for
-    /// its slot, or `Table`.
+    /// Makes a table of one reference: [`Made`] with its index, [`NoRoom`] if there is no memory for
+    /// its slot, or [`Table`].
+    ///
+    /// [`Made`]: crate::proved::machine::Reply::Made
+    /// [`NoRoom`]: crate::proved::machine::Reply::NoRoom
+    /// [`Table`]: crate::proved::machine::Reply::Table
     NewTable {
         /// The type.
         ty: TableType,
         /// The reference in each new element.
         init: TypedRawRef,
     },
-    /// Grows a table by `delta` elements: `Number` of the old size in elements, `NoSuch` if there
-    /// is no such table, or `Table`.
+    /// Grows a table by `delta` elements: [`Number`] of the old size in elements, [`NoSuch`] if there
+    /// is no such table, or [`Table`].
+    ///
+    /// [`Number`]: crate::proved::machine::Reply::Number
+    /// [`NoSuch`]: crate::proved::machine::Reply::NoSuch
+    /// [`Table`]: crate::proved::machine::Reply::Table
     GrowTable {
         /// The index of the table.
         table: usize,
@@ -110,19 +157,29 @@ pub enum Call {
         init: TypedRawRef,
     },
     /// Drops a table, whose elements are given back; its size still counts in the machine's total:
-    /// `Done`, or `NoSuch` if there is no such table.
+    /// [`Done`], or [`NoSuch`] if there is no such table.
+    ///
+    /// [`Done`]: crate::proved::machine::Reply::Done
+    /// [`NoSuch`]: crate::proved::machine::Reply::NoSuch
     DropTable(usize),
-    /// Returns the element of a table, if there is one: `Reference`, or `NoSuch` if there is no
+    /// Returns the element of a table, if there is one: [`Reference`], or [`NoSuch`] if there is no
     /// such table.
+    ///
+    /// [`Reference`]: crate::proved::machine::Reply::Reference
+    /// [`NoSuch`]: crate::proved::machine::Reply::NoSuch
     GetElement {
         /// The index of the table.
         table: usize,
         /// The index of the element.
         index: u64,
     },
-    /// Sets an element of a table: `Done`, `NoSuch` if there is no such table, or `Table` with
+    /// Sets an element of a table: [`Done`], [`NoSuch`] if there is no such table, or [`Table`] with
     /// `ElementTypeMismatch` if the reference isn't of the type of the elements, then
     /// `SetOutOfBounds` if the index is past the end.
+    ///
+    /// [`Done`]: crate::proved::machine::Reply::Done
+    /// [`NoSuch`]: crate::proved::machine::Reply::NoSuch
+    /// [`Table`]: crate::proved::machine::Reply::Table
     SetElement {
         /// The index of the table.
         table: usize,
@@ -132,9 +189,13 @@ pub enum Call {
         value: TypedRawRef,
     },
     /// Copies `len` items of an element segment, from `src` on, over the elements of a table from
-    /// `dst` on: `Done`, `NoSuch` if there is no such segment or table, or `Table` with
+    /// `dst` on: [`Done`], [`NoSuch`] if there is no such segment or table, or [`Table`] with
     /// `ElementTypeMismatch` if their types differ, then `InitOutOfBounds` if a range ends past the
     /// segment or the table, then `OutOfFuel`; copying no items costs no fuel.
+    ///
+    /// [`Done`]: crate::proved::machine::Reply::Done
+    /// [`NoSuch`]: crate::proved::machine::Reply::NoSuch
+    /// [`Table`]: crate::proved::machine::Reply::Table
     InitTable {
         /// The index of the table.
         table: usize,
@@ -148,10 +209,14 @@ pub enum Call {
         len: u32,
     },
     /// Copies `len` elements of a table, from `src` on, over those of another or of itself from
-    /// `dst` on: `Done`, `NoSuch` if there is no such table, or `Table` with `ElementTypeMismatch`
+    /// `dst` on: [`Done`], [`NoSuch`] if there is no such table, or [`Table`] with `ElementTypeMismatch`
     /// if their types differ, then `CopyOutOfBounds` if a range ends past its table, then
     /// `OutOfFuel`, which is tested also for no element. If ranges of one table overlap, the old
     /// elements are copied.
+    ///
+    /// [`Done`]: crate::proved::machine::Reply::Done
+    /// [`NoSuch`]: crate::proved::machine::Reply::NoSuch
+    /// [`Table`]: crate::proved::machine::Reply::Table
     CopyTable {
         /// The index of the table that is written.
         dst_table: usize,
@@ -164,10 +229,14 @@ pub enum Call {
         /// How many there are.
         len: u64,
     },
-    /// Fills `len` elements of a table with a reference, from `dst` on: `Done`, `NoSuch` if there
-    /// is no such table, or `Table` with `ElementTypeMismatch` if the reference isn't of the type
+    /// Fills `len` elements of a table with a reference, from `dst` on: [`Done`], [`NoSuch`] if there
+    /// is no such table, or [`Table`] with `ElementTypeMismatch` if the reference isn't of the type
     /// of the elements, then `FillOutOfBounds` if they end past the table, then `OutOfFuel`, which
     /// is tested also for no element.
+    ///
+    /// [`Done`]: crate::proved::machine::Reply::Done
+    /// [`NoSuch`]: crate::proved::machine::Reply::NoSuch
+    /// [`Table`]: crate::proved::machine::Reply::Table
     FillTable {
         /// The index of the table.
         table: usize,
@@ -178,45 +247,71 @@ pub enum Call {
         /// How many there are.
         len: u64,
     },
-    /// Makes an element segment: `Made` with its index, `NoRoom` if there is no memory for its
-    /// slot, or `Segment`.
+    /// Makes an element segment: [`Made`] with its index, [`NoRoom`] if there is no memory for its
+    /// slot, or [`Segment`].
+    ///
+    /// [`Made`]: crate::proved::machine::Reply::Made
+    /// [`NoRoom`]: crate::proved::machine::Reply::NoRoom
+    /// [`Segment`]: crate::proved::machine::Reply::Segment
     NewSegment {
         /// The type.
         ty: RefType,
         /// The references.
         items: Vec<RawRef>,
     },
-    /// Drops the items of an element segment, which stays: `Done`, or `NoSuch` if there is no such
+    /// Drops the items of an element segment, which stays: [`Done`], or [`NoSuch`] if there is no such
     /// segment.
+    ///
+    /// [`Done`]: crate::proved::machine::Reply::Done
+    /// [`NoSuch`]: crate::proved::machine::Reply::NoSuch
     DropItems(usize),
-    /// Makes a global: `Made` with its index, or `NoRoom` if there is no memory for its slot.
+    /// Makes a global: [`Made`] with its index, or [`NoRoom`] if there is no memory for its slot.
+    ///
+    /// [`Made`]: crate::proved::machine::Reply::Made
+    /// [`NoRoom`]: crate::proved::machine::Reply::NoRoom
     NewGlobal {
         /// The value that is written or set.
         value: RawVal,
         /// The type.
         ty: GlobalType,
     },
-    /// Sets a global: `Done`, `NoSuch` if there is no such global, or `Global` with
+    /// Sets a global: [`Done`], [`NoSuch`] if there is no such global, or [`Global`] with
     /// `ImmutableWrite` if it is a constant, then `TypeMismatch` if the value isn't of its type.
+    ///
+    /// [`Done`]: crate::proved::machine::Reply::Done
+    /// [`NoSuch`]: crate::proved::machine::Reply::NoSuch
+    /// [`Global`]: crate::proved::machine::Reply::Global
     SetGlobal {
         /// The index of the global.
         global: usize,
         /// The value that is written or set.
         value: TypedRawVal,
     },
-    /// Returns the value of a global: `Value`, or `NoSuch` if there is no such global.
+    /// Returns the value of a global: [`Value`], or [`NoSuch`] if there is no such global.
+    ///
+    /// [`Value`]: crate::proved::machine::Reply::Value
+    /// [`NoSuch`]: crate::proved::machine::Reply::NoSuch
     GetGlobal(usize),
-    /// Sets a register: `Done`, or `NoSuch` if there is no such register.
+    /// Sets a register: [`Done`], or [`NoSuch`] if there is no such register.
+    ///
+    /// [`Done`]: crate::proved::machine::Reply::Done
+    /// [`NoSuch`]: crate::proved::machine::Reply::NoSuch
     SetRegister {
         /// Where the result goes.
         dst: u8,
         /// The value that is written or set.
         value: RawVal,
     },
-    /// Returns the value of a register: `Value`, or `NoSuch` if there is no such register.
+    /// Returns the value of a register: [`Value`], or [`NoSuch`] if there is no such register.
+    ///
+    /// [`Value`]: crate::proved::machine::Reply::Value
+    /// [`NoSuch`]: crate::proved::machine::Reply::NoSuch
     GetRegister(u8),
-    /// Makes a vector of the item in register `a`: `Done`, or `NoSuch` if there is no such
+    /// Makes a vector of the item in register `a`: [`Done`], or [`NoSuch`] if there is no such
     /// register.
+    ///
+    /// [`Done`]: crate::proved::machine::Reply::Done
+    /// [`NoSuch`]: crate::proved::machine::Reply::NoSuch
     Make {
         /// The instruction.
         op: MakeOp,
@@ -225,7 +320,10 @@ pub enum Call {
         /// The register of the first operand.
         a: u8,
     },
-    /// Executes an instruction of one vector: `Done`, or `NoSuch` if there is no such register.
+    /// Executes an instruction of one vector: [`Done`], or [`NoSuch`] if there is no such register.
+    ///
+    /// [`Done`]: crate::proved::machine::Reply::Done
+    /// [`NoSuch`]: crate::proved::machine::Reply::NoSuch
     Unary {
         /// The instruction.
         op: UnaryOp,
@@ -234,7 +332,10 @@ pub enum Call {
         /// The register of the first operand.
         a: u8,
     },
-    /// Executes an instruction of two vectors: `Done`, or `NoSuch` if there is no such register.
+    /// Executes an instruction of two vectors: [`Done`], or [`NoSuch`] if there is no such register.
+    ///
+    /// [`Done`]: crate::proved::machine::Reply::Done
+    /// [`NoSuch`]: crate::proved::machine::Reply::NoSuch
     Binary {
         /// The instruction.
         op: BinaryOp,
@@ -245,7 +346,10 @@ pub enum Call {
         /// The register of the second operand.
         b: u8,
     },
-    /// Executes an instruction of three vectors: `Done`, or `NoSuch` if there is no such register.
+    /// Executes an instruction of three vectors: [`Done`], or [`NoSuch`] if there is no such register.
+    ///
+    /// [`Done`]: crate::proved::machine::Reply::Done
+    /// [`NoSuch`]: crate::proved::machine::Reply::NoSuch
     Ternary {
         /// The instruction.
         op: TernaryOp,
@@ -258,8 +362,11 @@ pub enum Call {
         /// The register of the third operand.
         c: u8,
     },
-    /// Shifts the lanes of a vector by `amount` modulo their width: `Done`, or `NoSuch` if there is
+    /// Shifts the lanes of a vector by `amount` modulo their width: [`Done`], or [`NoSuch`] if there is
     /// no such register.
+    ///
+    /// [`Done`]: crate::proved::machine::Reply::Done
+    /// [`NoSuch`]: crate::proved::machine::Reply::NoSuch
     Shift {
         /// The instruction.
         op: ShiftOp,
@@ -270,22 +377,31 @@ pub enum Call {
         /// By how many bits.
         amount: u32,
     },
-    /// Tests a vector, or takes its mask: `Value`, or `NoSuch` if there is no such register.
+    /// Tests a vector, or takes its mask: [`Value`], or [`NoSuch`] if there is no such register.
+    ///
+    /// [`Value`]: crate::proved::machine::Reply::Value
+    /// [`NoSuch`]: crate::proved::machine::Reply::NoSuch
     Test {
         /// The instruction.
         op: TestOp,
         /// The register of the first operand.
         a: u8,
     },
-    /// Takes a lane from a vector: `Value`, or `NoSuch` if there is no such register.
+    /// Takes a lane from a vector: [`Value`], or [`NoSuch`] if there is no such register.
+    ///
+    /// [`Value`]: crate::proved::machine::Reply::Value
+    /// [`NoSuch`]: crate::proved::machine::Reply::NoSuch
     Extract {
         /// The instruction.
         op: ExtractOp,
         /// The register of the first operand.
         a: u8,
     },
-    /// Puts the item in register `item` into a lane of a vector: `Done`, or `NoSuch` if there is no
+    /// Puts the item in register `item` into a lane of a vector: [`Done`], or [`NoSuch`] if there is no
     /// such register.
+    ///
+    /// [`Done`]: crate::proved::machine::Reply::Done
+    /// [`NoSuch`]: crate::proved::machine::Reply::NoSuch
     Replace {
         /// The instruction.
         op: ReplaceOp,
@@ -296,7 +412,10 @@ pub enum Call {
         /// The register of the item.
         item: u8,
     },
-    /// Picks bytes of two vectors: `Done`, or `NoSuch` if there is no such register.
+    /// Picks bytes of two vectors: [`Done`], or [`NoSuch`] if there is no such register.
+    ///
+    /// [`Done`]: crate::proved::machine::Reply::Done
+    /// [`NoSuch`]: crate::proved::machine::Reply::NoSuch
     Shuffle {
         /// Where the result goes.
         dst: u8,
@@ -307,8 +426,12 @@ pub enum Call {
         /// The index of the byte for each lane.
         lanes: [ImmLaneIdx32; 16],
     },
-    /// Loads a vector from a memory at `ptr + offset`: `Done`, `NoSuch` if there is no such memory
-    /// or register, or `Trap` if it ends past it.
+    /// Loads a vector from a memory at `ptr + offset`: [`Done`], [`NoSuch`] if there is no such memory
+    /// or register, or [`Trap`] if it ends past it.
+    ///
+    /// [`Done`]: crate::proved::machine::Reply::Done
+    /// [`NoSuch`]: crate::proved::machine::Reply::NoSuch
+    /// [`Trap`]: crate::proved::machine::Reply::Trap
     VectorLoad {
         /// The instruction.
         op: VectorLoadOp,
@@ -321,8 +444,12 @@ pub enum Call {
         /// The offset in bytes.
         offset: u64,
     },
-    /// Loads a lane of a vector from a memory at `ptr + offset`: `Done`, `NoSuch` if there is no
-    /// such memory or register, or `Trap` if it ends past it.
+    /// Loads a lane of a vector from a memory at `ptr + offset`: [`Done`], [`NoSuch`] if there is no
+    /// such memory or register, or [`Trap`] if it ends past it.
+    ///
+    /// [`Done`]: crate::proved::machine::Reply::Done
+    /// [`NoSuch`]: crate::proved::machine::Reply::NoSuch
+    /// [`Trap`]: crate::proved::machine::Reply::Trap
     LoadLane {
         /// The instruction.
         op: LoadLaneOp,
@@ -337,8 +464,12 @@ pub enum Call {
         /// The offset in bytes.
         offset: u64,
     },
-    /// Stores a vector to a memory at `ptr + offset`: `Done`, `NoSuch` if there is no such memory
-    /// or register, or `Trap` if it would end past it.
+    /// Stores a vector to a memory at `ptr + offset`: [`Done`], [`NoSuch`] if there is no such memory
+    /// or register, or [`Trap`] if it would end past it.
+    ///
+    /// [`Done`]: crate::proved::machine::Reply::Done
+    /// [`NoSuch`]: crate::proved::machine::Reply::NoSuch
+    /// [`Trap`]: crate::proved::machine::Reply::Trap
     VectorStore {
         /// The register of the first operand.
         a: u8,
@@ -349,8 +480,12 @@ pub enum Call {
         /// The offset in bytes.
         offset: u64,
     },
-    /// Stores a lane of a vector to a memory at `ptr + offset`: `Done`, `NoSuch` if there is no
-    /// such memory or register, or `Trap` if it would end past it.
+    /// Stores a lane of a vector to a memory at `ptr + offset`: [`Done`], [`NoSuch`] if there is no
+    /// such memory or register, or [`Trap`] if it would end past it.
+    ///
+    /// [`Done`]: crate::proved::machine::Reply::Done
+    /// [`NoSuch`]: crate::proved::machine::Reply::NoSuch
+    /// [`Trap`]: crate::proved::machine::Reply::Trap
     StoreLane {
         /// The instruction.
         op: StoreLaneOp,

@@ -118,8 +118,8 @@ impl<'r> Machine<'r> {
         &self.store.fuel
     }
 
-    /// Takes an amount of fuel, and returns what is left. The error is `FuelMeteringDisabled` if
-    /// the meter is off, and `OutOfFuel` with the amount if less is left; then nothing is taken.
+    /// Takes an amount of fuel, and returns what is left. The error is [`FuelMeteringDisabled`] if
+    /// the meter is off, and [`OutOfFuel`] with the amount if less is left; then nothing is taken.
     ///
     /// It isn't a call, so a run has no turn for it: an interpreter pays by it for the instructions
     /// that it executes between calls.
@@ -149,6 +149,8 @@ impl<'r> Machine<'r> {
     /// [MatchResult]: crate::specs::library#MatchResult "P of the value, or Q of the error"
     /// [Some]: crate::specs::library#Some "the value x, of an \`Option\`"
     /// [meter_after]: crate::specs::meter::Meter#meter_after "the meter with an amount taken; one that is off stays"
+    /// [`FuelMeteringDisabled`]: crate::proved::meter::FuelError::FuelMeteringDisabled
+    /// [`OutOfFuel`]: crate::proved::meter::FuelError::OutOfFuel
     #[inline]
     pub fn consume_fuel(&mut self, amount: u64) -> Result<u64, FuelError> {
         self.store.fuel.get_fuel()?;
@@ -169,7 +171,7 @@ impl<'r> Machine<'r> {
     }
 
     /// Stores an item to a memory at `ptr + offset`, as `Call::Store` does, which reaches no
-    /// limiter. The reply is `Done`, `NoSuch` if there is no such memory, or `Trap` with
+    /// limiter. The reply is [`Done`], [`NoSuch`] if there is no such memory, or [`Trap`] with
     /// `MemoryOutOfBounds`; after the last two nothing has changed.
     ///
     /// Own: upstream's interpreter has the memory itself.
@@ -183,6 +185,9 @@ impl<'r> Machine<'r> {
     /// [StoresMemoryAt]: crate::specs::machine::MemoryEffects#StoresMemoryAt "the memory of an index has the stored bytes at the address, or the store traps"
     /// [stored_bytes]: crate::specs::ops::ScalarAccessOps#stored_bytes "the bytes that a store writes: the low ones of the value"
     /// [with_memories]: crate::specs::machine::State#with_memories "the state with other memories"
+    /// [`Done`]: crate::proved::machine::Reply::Done
+    /// [`NoSuch`]: crate::proved::machine::Reply::NoSuch
+    /// [`Trap`]: crate::proved::machine::Reply::Trap
     #[inline(always)]
     pub fn store_item(
         &mut self,
@@ -255,9 +260,10 @@ impl<'r> Machine<'r> {
     ///
     /// # Contract
     ///
-    /// <span></span><pre><code>ensures: result ≡ [total] self.now Bytes</code></pre>
+    /// <span></span><pre><code>ensures: result ≡ [total] self.now [Bytes]</code></pre>
     ///
     /// [total]: crate::specs::machine::Totals#total "their sum"
+    /// [Bytes]: crate::proved::meter::Kind::Bytes
     #[inline]
     pub fn total_bytes(&self) -> u128 {
         self.store.memories.total()
@@ -268,9 +274,10 @@ impl<'r> Machine<'r> {
     ///
     /// # Contract
     ///
-    /// <span></span><pre><code>ensures: result ≡ [total] self.now Elements</code></pre>
+    /// <span></span><pre><code>ensures: result ≡ [total] self.now [Elements]</code></pre>
     ///
     /// [total]: crate::specs::machine::Totals#total "their sum"
+    /// [Elements]: crate::proved::meter::Kind::Elements
     #[inline]
     pub fn total_elements(&self) -> u128 {
         self.store.tables.total()

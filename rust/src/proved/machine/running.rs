@@ -35,7 +35,7 @@ impl<'r> Machine<'r> {
     }
 
     /// Grows a memory by so many pages, as `step` does for `Call::GrowMemory`. The reply is
-    /// `Number` with the old size in pages, `NoSuch` if there is no such memory, or `Memory` with
+    /// [`Number`] with the old size in pages, [`NoSuch`] if there is no such memory, or [`Memory`] with
     /// an error of [`LinearMemory::grow`](crate::proved::store::LinearMemory::grow).
     ///
     /// Own: upstream's interpreter has the memory itself.
@@ -43,7 +43,7 @@ impl<'r> Machine<'r> {
     /// # Contract
     ///
     /// <span></span><pre><code>ensures loan: [KeepsLoan] limiter.old limiter.new
-    /// ensures step: [Answers] ([optional_rules] [L.rules]) (GrowMemory memory pages)
+    /// ensures step: [Answers] ([optional_rules] [L.rules]) ([GrowMemory] memory pages)
     /// &#32;&#32;&#32;&#32;([world] self.old ([lent_limiter] limiter.old)) result
     /// &#32;&#32;&#32;&#32;([world] self.new ([lent_limiter] limiter.new))
     /// ensures valid: [IsValid] self.new</code></pre>
@@ -52,9 +52,13 @@ impl<'r> Machine<'r> {
     /// [Answers]: crate::specs::machine::Steps#Answers "a call is answered by a reply: there is a step by it, with some charge and some bytes written"
     /// [optional_rules]: crate::specs::meter::Limiter#optional_rules "the rules of a limiter that may be absent"
     /// [L.rules]: trait@ResourceLimiter#contract
+    /// [GrowMemory]: crate::proved::machine::Call::GrowMemory
     /// [world]: crate::specs::machine::World#world "a machine in this state with this limiter"
     /// [lent_limiter]: crate::specs::meter::LimiterRef#lent_limiter "the present value of the limiter that is lent, or none"
     /// [IsValid]: crate::specs::machine::Validity#IsValid "memories and tables have valid types and as many whole pages and elements as these allow, segments aren\'t too long, and there are 16 registers"
+    /// [`Number`]: crate::proved::machine::Reply::Number
+    /// [`NoSuch`]: crate::proved::machine::Reply::NoSuch
+    /// [`Memory`]: crate::proved::machine::Reply::Memory
     #[inline(always)]
     pub fn grow_memory<L: ResourceLimiter>(
         &mut self,
@@ -70,13 +74,14 @@ impl<'r> Machine<'r> {
     ///
     /// # Contract
     ///
-    /// <span></span><pre><code>ensures step: [Answers] ([optional_rules] [L.rules]) (GrowMemory memory pages)
+    /// <span></span><pre><code>ensures step: [Answers] ([optional_rules] [L.rules]) ([GrowMemory] memory pages)
     /// &#32;&#32;&#32;&#32;([world] self.old ([Some] limiter.old)) result ([world] self.new ([Some] limiter.new))
     /// ensures valid: [IsValid] self.new</code></pre>
     ///
     /// [Answers]: crate::specs::machine::Steps#Answers "a call is answered by a reply: there is a step by it, with some charge and some bytes written"
     /// [optional_rules]: crate::specs::meter::Limiter#optional_rules "the rules of a limiter that may be absent"
     /// [L.rules]: trait@ResourceLimiter#contract
+    /// [GrowMemory]: crate::proved::machine::Call::GrowMemory
     /// [world]: crate::specs::machine::World#world "a machine in this state with this limiter"
     /// [Some]: crate::specs::library#Some "the value x, of an \`Option\`"
     /// [IsValid]: crate::specs::machine::Validity#IsValid "memories and tables have valid types and as many whole pages and elements as these allow, segments aren\'t too long, and there are 16 registers"

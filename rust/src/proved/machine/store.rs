@@ -97,7 +97,7 @@ impl<'r> Store<'r> {
     /// # Contract
     ///
     /// <span></span><pre><code>ensures loan: [KeepsLoan] limiter.old limiter.new
-    /// ensures step: [Answers] ([optional_rules] [L.rules]) (GrowMemory memory pages)
+    /// ensures step: [Answers] ([optional_rules] [L.rules]) ([GrowMemory] memory pages)
     /// &#32;&#32;&#32;&#32;([world] self.old ([lent_limiter] limiter.old)) result
     /// &#32;&#32;&#32;&#32;([world] self.new ([lent_limiter] limiter.new))</code></pre>
     ///
@@ -105,6 +105,7 @@ impl<'r> Store<'r> {
     /// [Answers]: crate::specs::machine::Steps#Answers "a call is answered by a reply: there is a step by it, with some charge and some bytes written"
     /// [optional_rules]: crate::specs::meter::Limiter#optional_rules "the rules of a limiter that may be absent"
     /// [L.rules]: trait@ResourceLimiter#contract
+    /// [GrowMemory]: crate::proved::machine::Call::GrowMemory
     /// [world]: crate::specs::machine::World#world "a machine in this state with this limiter"
     /// [lent_limiter]: crate::specs::meter::LimiterRef#lent_limiter "the present value of the limiter that is lent, or none"
     #[inline(always)]

@@ -162,7 +162,9 @@ impl core::error::Error for TableError {}
 
 /// # Contract
 ///
-/// <span></span><pre><code>from_gives = λ \_ error. error ≡ memory.ResourceLimiterDeniedAllocation</code></pre>
+/// <span></span><pre><code>from_gives = λ \_ error. error ≡ [memory.ResourceLimiterDeniedAllocation]</code></pre>
+///
+/// [memory.ResourceLimiterDeniedAllocation]: crate::proved::meter::MemoryError::ResourceLimiterDeniedAllocation
 impl From<LimiterError> for MemoryError {
     #[inline]
     fn from(_: LimiterError) -> Self {
@@ -172,7 +174,9 @@ impl From<LimiterError> for MemoryError {
 
 /// # Contract
 ///
-/// <span></span><pre><code>from_gives = λ \_ error. error ≡ table.ResourceLimiterDeniedAllocation</code></pre>
+/// <span></span><pre><code>from_gives = λ \_ error. error ≡ [table.ResourceLimiterDeniedAllocation]</code></pre>
+///
+/// [table.ResourceLimiterDeniedAllocation]: crate::proved::meter::TableError::ResourceLimiterDeniedAllocation
 impl From<LimiterError> for TableError {
     #[inline]
     fn from(_: LimiterError) -> Self {

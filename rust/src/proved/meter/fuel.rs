@@ -331,7 +331,7 @@ impl Fuel {
         Ok(())
     }
 
-    /// Sets the fuel that is left. The error is `FuelMeteringDisabled` if the meter is off.
+    /// Sets the fuel that is left. The error is [`FuelMeteringDisabled`] if the meter is off.
     ///
     /// # Contract
     ///
@@ -347,6 +347,7 @@ impl Fuel {
     /// [None]: crate::specs::library#None "no value, of an \`Option\`"
     /// [Err]: crate::specs::library#Err "the error e, of a \`Result\`"
     /// [FuelError.FuelMeteringDisabled]: crate::proved::meter::FuelError::FuelMeteringDisabled
+    /// [`FuelMeteringDisabled`]: crate::proved::meter::FuelError::FuelMeteringDisabled
     #[inline]
     pub fn set_fuel(&mut self, fuel: u64) -> Result<(), FuelError> {
         self.check_fuel_metering_enabled()?;
@@ -354,7 +355,7 @@ impl Fuel {
         Ok(())
     }
 
-    /// Returns the fuel that is left. The error is `FuelMeteringDisabled` if the meter is off.
+    /// Returns the fuel that is left. The error is [`FuelMeteringDisabled`] if the meter is off.
     ///
     /// # Contract
     ///
@@ -367,13 +368,14 @@ impl Fuel {
     /// [None]: crate::specs::library#None "no value, of an \`Option\`"
     /// [Err]: crate::specs::library#Err "the error e, of a \`Result\`"
     /// [FuelError.FuelMeteringDisabled]: crate::proved::meter::FuelError::FuelMeteringDisabled
+    /// [`FuelMeteringDisabled`]: crate::proved::meter::FuelError::FuelMeteringDisabled
     #[inline]
     pub fn get_fuel(&self) -> Result<u64, FuelError> {
         self.check_fuel_metering_enabled()?;
         Ok(self.remaining)
     }
 
-    /// Consumes `delta` fuel, and returns what is left. If less is left, the error is `OutOfFuel`
+    /// Consumes `delta` fuel, and returns what is left. If less is left, the error is [`OutOfFuel`]
     /// with `delta`, and nothing is consumed. It doesn't test whether the meter is on: one that is
     /// off has no fuel left.
     ///
@@ -383,6 +385,7 @@ impl Fuel {
     ///
     /// [ConsumesFuel]: crate::specs::meter::Meter#ConsumesFuel "an amount is taken where that much is left, and is refused else"
     /// [amount_left]: crate::specs::meter::Meter#amount_left "what is left; nothing where the meter is off"
+    /// [`OutOfFuel`]: crate::proved::meter::FuelError::OutOfFuel
     #[inline]
     pub fn consume_fuel_unchecked(&mut self, delta: u64) -> Result<u64, FuelError> {
         let Some(left) = self.remaining.checked_sub(delta) else {
@@ -393,8 +396,8 @@ impl Fuel {
     }
 
     /// Consumes the fuel that `f` computes from the costs, and returns what is left. If the meter
-    /// is off, the error is `FuelMeteringDisabled`, and `f` isn't called. If less is left, the
-    /// error is `OutOfFuel`, and nothing is consumed.
+    /// is off, the error is [`FuelMeteringDisabled`], and `f` isn't called. If less is left, the
+    /// error is [`OutOfFuel`], and nothing is consumed.
     ///
     /// # Contract
     ///
@@ -415,6 +418,8 @@ impl Fuel {
     /// [None]: crate::specs::library#None "no value, of an \`Option\`"
     /// [Err]: crate::specs::library#Err "the error e, of a \`Result\`"
     /// [FuelError.FuelMeteringDisabled]: crate::proved::meter::FuelError::FuelMeteringDisabled
+    /// [`FuelMeteringDisabled`]: crate::proved::meter::FuelError::FuelMeteringDisabled
+    /// [`OutOfFuel`]: crate::proved::meter::FuelError::OutOfFuel
     #[inline]
     pub fn consume_fuel(
         &mut self,
@@ -426,7 +431,7 @@ impl Fuel {
     }
 
     /// Consumes the fuel that `f` computes from the costs if the meter is on. If it is off, `f`
-    /// isn't called. If less is left, the error is `OutOfFuel`, and nothing is consumed.
+    /// isn't called. If less is left, the error is [`OutOfFuel`], and nothing is consumed.
     ///
     /// # Contract
     ///
@@ -445,6 +450,7 @@ impl Fuel {
     /// [tt]: crate::specs::library#tt "the value \`()\`"
     /// [None]: crate::specs::library#None "no value, of an \`Option\`"
     /// [Ok]: crate::specs::library#Ok "the value x, of a \`Result\`"
+    /// [`OutOfFuel`]: crate::proved::meter::FuelError::OutOfFuel
     #[inline]
     pub fn consume_fuel_if(
         &mut self,

@@ -47,8 +47,10 @@ pub trait ResourceLimiter {
     ///
     /// <span></span><pre><code>requires grows: current ≤ desired
     /// ensures asked: rules.asked self.old
-    /// &#32;&#32;&#32;&#32;(record { kind = Bytes; current = current; desired = desired; maximum = maximum })
+    /// &#32;&#32;&#32;&#32;(record { kind = [Bytes]; current = current; desired = desired; maximum = maximum })
     /// &#32;&#32;&#32;&#32;result self.new</code></pre>
+    ///
+    /// [Bytes]: crate::proved::meter::Kind::Bytes
     fn memory_growing(
         &mut self,
         current: usize,
@@ -63,8 +65,10 @@ pub trait ResourceLimiter {
     ///
     /// <span></span><pre><code>requires grows: current ≤ desired
     /// ensures asked: rules.asked self.old
-    /// &#32;&#32;&#32;&#32;(record { kind = Elements; current = current; desired = desired; maximum = maximum })
+    /// &#32;&#32;&#32;&#32;(record { kind = [Elements]; current = current; desired = desired; maximum = maximum })
     /// &#32;&#32;&#32;&#32;result self.new</code></pre>
+    ///
+    /// [Elements]: crate::proved::meter::Kind::Elements
     fn table_growing(
         &mut self,
         current: usize,
@@ -156,7 +160,7 @@ pub trait LimiterByKind {
     -> Result<bool, LimiterError>;
 
     /// Something of this kind was permitted to grow and did not. After `Err` the call returns
-    /// `ResourceLimiterDeniedAllocation` instead of its error.
+    /// [`ResourceLimiterDeniedAllocation`] instead of its error.
     ///
     /// # Contract
     ///
@@ -165,6 +169,7 @@ pub trait LimiterByKind {
     ///
     /// [Failure]: crate::specs::meter::Limiter#Failure "why a growth failed that was permitted"
     /// [kind_of]: crate::specs::meter::Limiter#kind_of "the kind of what failed to grow"
+    /// [`ResourceLimiterDeniedAllocation`]: crate::proved::meter::LimiterError::ResourceLimiterDeniedAllocation
     fn grow_failed(&mut self, kind: Kind) -> Result<(), LimiterError>;
 }
 

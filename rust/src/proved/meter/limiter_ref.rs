@@ -163,13 +163,14 @@ impl<'a, L: ResourceLimiter> LimiterRef<&'a mut L> {
     /// <span></span><pre><code>requires grows: current ≤ desired
     /// ensures loan: [KeepsLoan] self.old self.new
     /// ensures asked: ([optional_rules] [L.rules]).asked ([lent_limiter] self.old)
-    /// &#32;&#32;&#32;&#32;(record { kind = Bytes; current = current; desired = desired; maximum = maximum })
+    /// &#32;&#32;&#32;&#32;(record { kind = [Bytes]; current = current; desired = desired; maximum = maximum })
     /// &#32;&#32;&#32;&#32;result ([lent_limiter] self.new)</code></pre>
     ///
     /// [KeepsLoan]: crate::specs::meter::LimiterRef#KeepsLoan "r\' leads to what r leads to"
     /// [optional_rules]: crate::specs::meter::Limiter#optional_rules "the rules of a limiter that may be absent"
     /// [L.rules]: trait@ResourceLimiter#contract
     /// [lent_limiter]: crate::specs::meter::LimiterRef#lent_limiter "the present value of the limiter that is lent, or none"
+    /// [Bytes]: crate::proved::meter::Kind::Bytes
     #[inline]
     pub fn memory_growing(
         &mut self,
@@ -199,13 +200,14 @@ impl<'a, L: ResourceLimiter> LimiterRef<&'a mut L> {
     /// <span></span><pre><code>requires grows: current ≤ desired
     /// ensures loan: [KeepsLoan] self.old self.new
     /// ensures asked: ([optional_rules] [L.rules]).asked ([lent_limiter] self.old)
-    /// &#32;&#32;&#32;&#32;(record { kind = Elements; current = current; desired = desired; maximum = maximum })
+    /// &#32;&#32;&#32;&#32;(record { kind = [Elements]; current = current; desired = desired; maximum = maximum })
     /// &#32;&#32;&#32;&#32;result ([lent_limiter] self.new)</code></pre>
     ///
     /// [KeepsLoan]: crate::specs::meter::LimiterRef#KeepsLoan "r\' leads to what r leads to"
     /// [optional_rules]: crate::specs::meter::Limiter#optional_rules "the rules of a limiter that may be absent"
     /// [L.rules]: trait@ResourceLimiter#contract
     /// [lent_limiter]: crate::specs::meter::LimiterRef#lent_limiter "the present value of the limiter that is lent, or none"
+    /// [Elements]: crate::proved::meter::Kind::Elements
     #[inline]
     pub fn table_growing(
         &mut self,

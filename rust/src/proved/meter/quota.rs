@@ -42,12 +42,14 @@ impl Quota {
     ///
     /// # Contract
     ///
-    /// <span></span><pre><code>ensures bytes: [cap_of] result Bytes ≡ bytes
-    /// ensures elements: [cap_of] result Elements ≡ elements
+    /// <span></span><pre><code>ensures bytes: [cap_of] result [Bytes] ≡ bytes
+    /// ensures elements: [cap_of] result [Elements] ≡ elements
     /// ensures nothing_held: [holdings] result ≡ record { held = [nothing]; last = [None] }
     /// ensures within: [IsWithinCaps] result</code></pre>
     ///
     /// [cap_of]: crate::specs::meter::Quota#cap_of "the most that it may hold of a kind"
+    /// [Bytes]: crate::proved::meter::Kind::Bytes
+    /// [Elements]: crate::proved::meter::Kind::Elements
     /// [holdings]: crate::specs::meter::Quota#holdings "what a quota holds"
     /// [nothing]: crate::specs::meter::Amounts#nothing "nothing of either kind"
     /// [None]: crate::specs::library#None "no value, of an \`Option\`"

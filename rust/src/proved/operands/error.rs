@@ -13,7 +13,9 @@ pub enum LineError {
 
 /// # Contract
 ///
-/// <span></span><pre><code>from_gives = λ \_ error. error ≡ OutOfMemory</code></pre>
+/// <span></span><pre><code>from_gives = λ \_ error. error ≡ [OutOfMemory]</code></pre>
+///
+/// [OutOfMemory]: crate::proved::operands::LineError::OutOfMemory
 impl From<AllocError> for LineError {
     #[inline]
     fn from(_: AllocError) -> Self {
@@ -23,7 +25,9 @@ impl From<AllocError> for LineError {
 
 /// # Contract
 ///
-/// <span></span><pre><code>from_gives = λ \_ error. error ≡ OutOfMemory</code></pre>
+/// <span></span><pre><code>from_gives = λ \_ error. error ≡ [OutOfMemory]</code></pre>
+///
+/// [OutOfMemory]: crate::proved::operands::LineError::OutOfMemory
 impl<T> From<AllocFailed<T>> for LineError {
     #[inline]
     fn from(_: AllocFailed<T>) -> Self {

@@ -41,8 +41,8 @@ pub fn pages(ty: MemoryType, size: usize) -> u64 {
 /// Makes a memory of zeros at the front of a region, at the minimum of its type, and returns its
 /// size in bytes. It takes no fuel, and leaves the bytes past the minimum alone.
 ///
-/// Errors, in the order of the tests: `MinimumSizeOverflow` if the minimum has 2^64 bytes or more;
-/// `ResourceLimiterDeniedAllocation` if the limiter doesn't permit it; `InvalidStaticBufferSize` if
+/// Errors, in the order of the tests: [`MinimumSizeOverflow`] if the minimum has 2^64 bytes or more;
+/// [`ResourceLimiterDeniedAllocation`] if the limiter doesn't permit it; [`InvalidStaticBufferSize`] if
 /// the region is shorter than the minimum, of which the limiter is notified. After an error the
 /// bytes of the region are unchanged.
 ///
@@ -88,6 +88,9 @@ pub fn pages(ty: MemoryType, size: usize) -> u64 {
 /// [IsSized]: crate::specs::store::Memory#IsSized "so many bytes are whole pages, as many as the type allows"
 /// [length]: crate::specs::library#length "the number of elements of a list"
 /// [OnErr]: crate::specs::library#OnErr "P, if r is an error"
+/// [`MinimumSizeOverflow`]: crate::proved::meter::MemoryError::MinimumSizeOverflow
+/// [`ResourceLimiterDeniedAllocation`]: crate::proved::meter::MemoryError::ResourceLimiterDeniedAllocation
+/// [`InvalidStaticBufferSize`]: crate::proved::meter::MemoryError::InvalidStaticBufferSize
 #[inline]
 pub fn make<L: ResourceLimiter>(
     ty: MemoryType,
@@ -199,7 +202,7 @@ pub fn question(ty: MemoryType, size: usize, additional: u64) -> Option<(usize, 
 }
 
 /// Writes bytes over those from an offset on, of a memory of `size` bytes at the front of a region.
-/// The error is `OutOfBoundsAccess` if they would end past the memory; then nothing is written.
+/// The error is [`OutOfBoundsAccess`] if they would end past the memory; then nothing is written.
 ///
 /// # Panics
 ///
@@ -226,6 +229,7 @@ pub fn question(ty: MemoryType, size: usize, additional: u64) -> Option<(usize, 
 /// [IfErr]: crate::specs::library#IfErr "P of the error, if r is an error"
 /// [MemoryError.OutOfBoundsAccess]: crate::proved::meter::MemoryError::OutOfBoundsAccess
 /// [None]: crate::specs::library#None "no value, of an \`Option\`"
+/// [`OutOfBoundsAccess`]: crate::proved::meter::MemoryError::OutOfBoundsAccess
 #[inline]
 pub fn write(
     region: &mut [u8],

@@ -27,8 +27,8 @@ pub fn is_sized(ty: TableType, size: usize) -> bool {
 /// Makes a table with one reference in each place at the front of a region, at the minimum of its
 /// type, and returns its size. It takes no fuel, and leaves the elements past the minimum alone.
 ///
-/// Errors, in the order of the tests: `ResourceLimiterDeniedAllocation` if the limiter doesn't
-/// permit it; `OutOfSystemMemory` if the region is shorter than the minimum, of which the limiter
+/// Errors, in the order of the tests: [`ResourceLimiterDeniedAllocation`] if the limiter doesn't
+/// permit it; [`OutOfSystemMemory`] if the region is shorter than the minimum, of which the limiter
 /// is notified. After an error the region is unchanged.
 ///
 /// # Contract
@@ -50,6 +50,8 @@ pub fn is_sized(ty: TableType, size: usize) -> bool {
 /// [IsSized]: crate::specs::store::Table#IsSized "so many elements are as many as the type allows"
 /// [length]: crate::specs::library#length "the number of elements of a list"
 /// [OnErr]: crate::specs::library#OnErr "P, if r is an error"
+/// [`ResourceLimiterDeniedAllocation`]: crate::proved::meter::TableError::ResourceLimiterDeniedAllocation
+/// [`OutOfSystemMemory`]: crate::proved::meter::TableError::OutOfSystemMemory
 #[inline]
 pub fn make<L: ResourceLimiter>(
     ty: TableType,
@@ -72,7 +74,7 @@ pub fn make<L: ResourceLimiter>(
 /// and returns the old size; `size` becomes the new one. A growth by 0 changes nothing and asks no
 /// limiter.
 ///
-/// The errors are those of [`Table::grow_raw`](crate::proved::store::Table::grow_raw), of which `OutOfSystemMemory` means
+/// The errors are those of [`Table::grow_raw`](crate::proved::store::Table::grow_raw), of which [`OutOfSystemMemory`] means
 /// that the region is shorter than the new size.
 ///
 /// # Panics
@@ -102,6 +104,7 @@ pub fn make<L: ResourceLimiter>(
 /// [table_in]: crate::specs::region::Table#table_in "the table of a type that has so many elements at the front of a region"
 /// [Some]: crate::specs::library#Some "the value x, of an \`Option\`"
 /// [lent_limiter]: crate::specs::meter::LimiterRef#lent_limiter "the present value of the limiter that is lent, or none"
+/// [`OutOfSystemMemory`]: crate::proved::meter::TableError::OutOfSystemMemory
 #[inline]
 pub fn grow<L: ResourceLimiter>(
     ty: TableType,
@@ -164,7 +167,7 @@ pub fn question(ty: TableType, size: usize, delta: u64) -> Option<(usize, Option
     Some((desired, ty.maximum_size()))
 }
 
-/// Sets the element at an index. The error is `SetOutOfBounds` past the end.
+/// Sets the element at an index. The error is [`SetOutOfBounds`] past the end.
 ///
 /// # Contract
 ///
@@ -173,6 +176,7 @@ pub fn question(ty: TableType, size: usize, delta: u64) -> Option<(usize, Option
 ///
 /// [SetsTableRaw]: crate::specs::store::Table#SetsTableRaw "the element at an index is set to a reference; past the end it is refused, and the table stays"
 /// [table_of]: crate::specs::store::Table#table_of "the table of a type with these elements"
+/// [`SetOutOfBounds`]: crate::proved::meter::TableError::SetOutOfBounds
 #[inline]
 pub fn set(
     ty: TableType,

@@ -37,7 +37,10 @@ impl std::error::Error for ReplayError {}
 
 /// # Contract
 ///
-/// <span></span><pre><code>from_gives = λ \_ error. error ≡ Parse OutOfMemory</code></pre>
+/// <span></span><pre><code>from_gives = λ \_ error. error ≡ [Parse] [OutOfMemory]</code></pre>
+///
+/// [Parse]: crate::proved::script::ReplayError::Parse
+/// [OutOfMemory]: crate::proved::grammar::ParseError::OutOfMemory
 impl From<AllocError> for ReplayError {
     #[inline]
     fn from(_: AllocError) -> Self {
@@ -47,7 +50,10 @@ impl From<AllocError> for ReplayError {
 
 /// # Contract
 ///
-/// <span></span><pre><code>from_gives = λ \_ error. error ≡ Parse OutOfMemory</code></pre>
+/// <span></span><pre><code>from_gives = λ \_ error. error ≡ [Parse] [OutOfMemory]</code></pre>
+///
+/// [Parse]: crate::proved::script::ReplayError::Parse
+/// [OutOfMemory]: crate::proved::grammar::ParseError::OutOfMemory
 impl<T> From<AllocFailed<T>> for ReplayError {
     #[inline]
     fn from(_: AllocFailed<T>) -> Self {
@@ -57,7 +63,9 @@ impl<T> From<AllocFailed<T>> for ReplayError {
 
 /// # Contract
 ///
-/// <span></span><pre><code>from_gives = λ error replayed. replayed ≡ Parse error</code></pre>
+/// <span></span><pre><code>from_gives = λ error replayed. replayed ≡ [Parse] error</code></pre>
+///
+/// [Parse]: crate::proved::script::ReplayError::Parse
 impl From<ParseError> for ReplayError {
     #[inline]
     fn from(error: ParseError) -> Self {

@@ -43,7 +43,7 @@ impl Status {
 }
 
 /// Reads the script, runs it and prints its replies, or prints why it isn't run. A line that can't
-/// be printed makes the status `Fault`; what went out before it stays.
+/// be printed makes the status [`Fault`]; what went out before it stays.
 ///
 /// # Examples
 ///
@@ -67,6 +67,7 @@ impl Status {
 /// [Replays]: crate::specs::script::Outcomes#Replays "the bytes of a reader have an outcome, and a writer has got it"
 /// [R.remaining]: crate::specs::library#remaining "the bytes that a reader still has"
 /// [W.contents]: crate::specs::library#contents "the bytes that a writer holds, where they are known"
+/// [`Fault`]: crate::proved::script::Status::Fault
 #[inline]
 pub fn replay<R: io::Read, W: io::Write>(reader: &mut R, writer: &mut W) -> Status {
     let outcome = outcome_of(reader);

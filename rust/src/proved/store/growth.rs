@@ -12,8 +12,8 @@ pub const TABLE_DENIED: TableError = TableError::ResourceLimiterDeniedAllocation
 
 /// Asks whether a memory of a type may be made, and returns its minimum in bytes.
 ///
-/// Errors, in the order of the tests: `MinimumSizeOverflow` if the minimum has 2^64 bytes or more;
-/// `ResourceLimiterDeniedAllocation` if the limiter doesn't permit it.
+/// Errors, in the order of the tests: [`MinimumSizeOverflow`] if the minimum has 2^64 bytes or more;
+/// [`ResourceLimiterDeniedAllocation`] if the limiter doesn't permit it.
 ///
 /// # Contract
 ///
@@ -29,6 +29,8 @@ pub const TABLE_DENIED: TableError = TableError::ResourceLimiterDeniedAllocation
 /// [lent_limiter]: crate::specs::meter::LimiterRef#lent_limiter "the present value of the limiter that is lent, or none"
 /// [IfOk]: crate::specs::library#IfOk "P of the value, if r is a value"
 /// [IsSized]: crate::specs::store::Memory#IsSized "so many bytes are whole pages, as many as the type allows"
+/// [`MinimumSizeOverflow`]: crate::proved::meter::MemoryError::MinimumSizeOverflow
+/// [`ResourceLimiterDeniedAllocation`]: crate::proved::meter::MemoryError::ResourceLimiterDeniedAllocation
 #[inline]
 pub fn permitted_minimum<L: ResourceLimiter>(
     ty: MemoryType,
@@ -46,7 +48,7 @@ pub fn permitted_minimum<L: ResourceLimiter>(
 /// is room for them, and the added ones are paid, in this order. The fuel is taken if they may; no
 /// byte is written yet, so it is the same wherever the bytes lie.
 ///
-/// The errors are those of [`LinearMemory::grow`](crate::proved::store::LinearMemory::grow) from the limiter's denial to `OutOfFuel`.
+/// The errors are those of [`LinearMemory::grow`](crate::proved::store::LinearMemory::grow) from the limiter's denial to [`OutOfFuel`].
 ///
 /// # Panics
 ///
@@ -90,6 +92,7 @@ pub fn permitted_minimum<L: ResourceLimiter>(
 /// [metered_value]: crate::specs::store::Growth#metered_value "a value with its meter, if there is one, and its limiter"
 /// [Some]: crate::specs::library#Some "the value x, of an \`Option\`"
 /// [Err]: crate::specs::library#Err "the error e, of a \`Result\`"
+/// [`OutOfFuel`]: crate::proved::meter::MemoryError::OutOfFuel
 #[inline]
 pub fn decide_growth<L: ResourceLimiter>(
     old_size: usize,

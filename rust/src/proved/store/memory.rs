@@ -41,9 +41,9 @@ pub type Memory<'r> = LinearMemory<&'r mut [u8]>;
 impl<'r> LinearMemory<&'r mut [u8]> {
     /// A memory of zeros, at the minimum of its type. It takes no fuel.
     ///
-    /// Errors, in the order of the tests: `MinimumSizeOverflow` if the minimum has 2^64 bytes or
-    /// more; `ResourceLimiterDeniedAllocation` if the limiter doesn't permit it;
-    /// `OutOfSystemMemory`, of which the limiter is notified.
+    /// Errors, in the order of the tests: [`MinimumSizeOverflow`] if the minimum has 2^64 bytes or
+    /// more; [`ResourceLimiterDeniedAllocation`] if the limiter doesn't permit it;
+    /// [`OutOfSystemMemory`], of which the limiter is notified.
     ///
     /// # Contract
     ///
@@ -57,6 +57,9 @@ impl<'r> LinearMemory<&'r mut [u8]> {
     /// [L.rules]: trait@ResourceLimiter#contract
     /// [Owned]: crate::specs::store::Buffer#Owned
     /// [lent_limiter]: crate::specs::meter::LimiterRef#lent_limiter "the present value of the limiter that is lent, or none"
+    /// [`MinimumSizeOverflow`]: crate::proved::meter::MemoryError::MinimumSizeOverflow
+    /// [`ResourceLimiterDeniedAllocation`]: crate::proved::meter::MemoryError::ResourceLimiterDeniedAllocation
+    /// [`OutOfSystemMemory`]: crate::proved::meter::MemoryError::OutOfSystemMemory
     #[inline]
     pub fn new<L: ResourceLimiter>(
         ty: MemoryType,
@@ -72,9 +75,9 @@ impl<'r> LinearMemory<&'r mut [u8]> {
     /// A memory of zeros at the front of a borrowed buffer, at the minimum of its type. It takes no
     /// fuel and allocates nothing, and the bytes past the minimum stay as they are.
     ///
-    /// Errors, in the order of the tests: `MinimumSizeOverflow` if the minimum has 2^64 bytes or
-    /// more; `ResourceLimiterDeniedAllocation` if the limiter doesn't permit it;
-    /// `InvalidStaticBufferSize` if the buffer is shorter than the minimum, of which the limiter is
+    /// Errors, in the order of the tests: [`MinimumSizeOverflow`] if the minimum has 2^64 bytes or
+    /// more; [`ResourceLimiterDeniedAllocation`] if the limiter doesn't permit it;
+    /// [`InvalidStaticBufferSize`] if the buffer is shorter than the minimum, of which the limiter is
     /// notified. After an error the loan has ended, and the bytes of the buffer are unchanged.
     ///
     /// # Contract
@@ -89,6 +92,9 @@ impl<'r> LinearMemory<&'r mut [u8]> {
     /// [L.rules]: trait@ResourceLimiter#contract
     /// [Lent]: crate::specs::store::Buffer#Lent
     /// [lent_limiter]: crate::specs::meter::LimiterRef#lent_limiter "the present value of the limiter that is lent, or none"
+    /// [`MinimumSizeOverflow`]: crate::proved::meter::MemoryError::MinimumSizeOverflow
+    /// [`ResourceLimiterDeniedAllocation`]: crate::proved::meter::MemoryError::ResourceLimiterDeniedAllocation
+    /// [`InvalidStaticBufferSize`]: crate::proved::meter::MemoryError::InvalidStaticBufferSize
     #[inline]
     pub fn new_static<L: ResourceLimiter>(
         ty: MemoryType,
@@ -261,13 +267,13 @@ impl<R: Region> LinearMemory<R> {
     /// Grows by `additional` pages of zeros, and returns the old size in pages. A growth by 0 pages
     /// changes nothing and asks no limiter.
     ///
-    /// Errors, in the order of the tests: `OutOfBoundsGrowth` above the greatest number of pages or
-    /// the maximum, or at 2^64 bytes or more; the limiter's denial (`OutOfBoundsGrowth` if it says
-    /// no, `ResourceLimiterDeniedAllocation` if it returns an error); `InvalidStaticBufferSize` if
-    /// a borrowed buffer is shorter than the new size, which charges nothing; `OutOfFuel` if the
-    /// meter is on and the added bytes cost more than is left; `OutOfSystemMemory`, after which the
+    /// Errors, in the order of the tests: [`OutOfBoundsGrowth`] above the greatest number of pages or
+    /// the maximum, or at 2^64 bytes or more; the limiter's denial ([`OutOfBoundsGrowth`] if it says
+    /// no, [`ResourceLimiterDeniedAllocation`] if it returns an error); [`InvalidStaticBufferSize`] if
+    /// a borrowed buffer is shorter than the new size, which charges nothing; [`OutOfFuel`] if the
+    /// meter is on and the added bytes cost more than is left; [`OutOfSystemMemory`], after which the
     /// fuel stays spent, and which doesn't occur on a borrowed buffer. The limiter is notified of
-    /// the last three, and if it returns an error, the error is `ResourceLimiterDeniedAllocation`
+    /// the last three, and if it returns an error, the error is [`ResourceLimiterDeniedAllocation`]
     /// instead. Bytes of a borrowed buffer past the new size stay as they are.
     ///
     /// # Contract
@@ -285,6 +291,11 @@ impl<R: Region> LinearMemory<R> {
     /// [meter_at_entry]: crate::specs::meter::Meter#meter_at_entry "the meter that an optional reference leads to when a call begins, if there is one"
     /// [lent_limiter]: crate::specs::meter::LimiterRef#lent_limiter "the present value of the limiter that is lent, or none"
     /// [meter_at_exit]: crate::specs::meter::Meter#meter_at_exit "the meter that an optional reference leaves behind it when a call ends, if there is one, in the terms of a clause\'s \`.exit\`"
+    /// [`OutOfBoundsGrowth`]: crate::proved::meter::MemoryError::OutOfBoundsGrowth
+    /// [`ResourceLimiterDeniedAllocation`]: crate::proved::meter::MemoryError::ResourceLimiterDeniedAllocation
+    /// [`InvalidStaticBufferSize`]: crate::proved::meter::MemoryError::InvalidStaticBufferSize
+    /// [`OutOfFuel`]: crate::proved::meter::MemoryError::OutOfFuel
+    /// [`OutOfSystemMemory`]: crate::proved::meter::MemoryError::OutOfSystemMemory
     #[inline]
     pub fn grow<L: ResourceLimiter>(
         &mut self,
@@ -368,7 +379,7 @@ impl<R: Region> LinearMemory<R> {
         grown
     }
 
-    /// Fills a buffer with the bytes from an offset on. The error is `OutOfBoundsAccess` if they
+    /// Fills a buffer with the bytes from an offset on. The error is [`OutOfBoundsAccess`] if they
     /// end past the memory; then nothing is copied.
     ///
     /// # Contract
@@ -385,12 +396,13 @@ impl<R: Region> LinearMemory<R> {
     /// [IfErr]: crate::specs::library#IfErr "P of the error, if r is an error"
     /// [MemoryError.OutOfBoundsAccess]: crate::proved::meter::MemoryError::OutOfBoundsAccess
     /// [None]: crate::specs::library#None "no value, of an \`Option\`"
+    /// [`OutOfBoundsAccess`]: crate::proved::meter::MemoryError::OutOfBoundsAccess
     #[inline]
     pub fn read(&self, offset: usize, buffer: &mut [u8]) -> Result<(), MemoryError> {
         read_bytes(self.buffer.data(), offset, buffer)
     }
 
-    /// Writes bytes over those from an offset on. The error is `OutOfBoundsAccess` if they would
+    /// Writes bytes over those from an offset on. The error is [`OutOfBoundsAccess`] if they would
     /// end past the memory; then nothing is written.
     ///
     /// # Contract
@@ -398,6 +410,7 @@ impl<R: Region> LinearMemory<R> {
     /// <span></span><pre><code>ensures: [WritesMemory] self.old offset buffer.now result self.new</code></pre>
     ///
     /// [WritesMemory]: crate::specs::store::Memory#WritesMemory "bytes are written over those from an offset on where they end within the memory, and nothing is written else"
+    /// [`OutOfBoundsAccess`]: crate::proved::meter::MemoryError::OutOfBoundsAccess
     #[inline]
     pub fn write(&mut self, offset: usize, buffer: &[u8]) -> Result<(), MemoryError> {
         let size = self.buffer.len();

@@ -19,7 +19,7 @@ pub fn lies_within<T>(items: &[T], index: u64, len: u64) -> bool {
     index <= size && len <= size - index
 }
 
-/// Fills a buffer with the bytes from an offset on. The error is `OutOfBoundsAccess` if they end
+/// Fills a buffer with the bytes from an offset on. The error is [`OutOfBoundsAccess`] if they end
 /// past the bytes; then nothing is copied.
 ///
 /// # Contract
@@ -36,6 +36,7 @@ pub fn lies_within<T>(items: &[T], index: u64, len: u64) -> bool {
 /// [IfErr]: crate::specs::library#IfErr "P of the error, if r is an error"
 /// [MemoryError.OutOfBoundsAccess]: crate::proved::meter::MemoryError::OutOfBoundsAccess
 /// [None]: crate::specs::library#None "no value, of an \`Option\`"
+/// [`OutOfBoundsAccess`]: crate::proved::meter::MemoryError::OutOfBoundsAccess
 #[inline]
 pub fn read_bytes(bytes: &[u8], offset: usize, buffer: &mut [u8]) -> Result<(), MemoryError> {
     if bytes.len() < offset || bytes.len() - offset < buffer.len() {

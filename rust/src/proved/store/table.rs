@@ -43,8 +43,8 @@ impl Table {
     /// A table at the minimum of its type, each element of which is the given reference. It takes
     /// no fuel.
     ///
-    /// Errors, in the order of the tests: `ElementTypeMismatch`; `ResourceLimiterDeniedAllocation`
-    /// if the limiter doesn't permit it; `OutOfSystemMemory`, of which the limiter is notified.
+    /// Errors, in the order of the tests: [`ElementTypeMismatch`]; [`ResourceLimiterDeniedAllocation`]
+    /// if the limiter doesn't permit it; [`OutOfSystemMemory`], of which the limiter is notified.
     ///
     /// # Contract
     ///
@@ -57,6 +57,9 @@ impl Table {
     /// [optional_rules]: crate::specs::meter::Limiter#optional_rules "the rules of a limiter that may be absent"
     /// [L.rules]: trait@ResourceLimiter#contract
     /// [lent_limiter]: crate::specs::meter::LimiterRef#lent_limiter "the present value of the limiter that is lent, or none"
+    /// [`ElementTypeMismatch`]: crate::proved::meter::TableError::ElementTypeMismatch
+    /// [`ResourceLimiterDeniedAllocation`]: crate::proved::meter::TableError::ResourceLimiterDeniedAllocation
+    /// [`OutOfSystemMemory`]: crate::proved::meter::TableError::OutOfSystemMemory
     #[inline]
     pub fn new<L: ResourceLimiter>(
         ty: TableType,
@@ -153,7 +156,7 @@ impl Table {
     }
 
     /// Grows by `delta` elements, each the given reference, and returns the old size. The type of
-    /// the reference is tested first, also in a growth by 0 (`ElementTypeMismatch`); the rest is as
+    /// the reference is tested first, also in a growth by 0 ([`ElementTypeMismatch`]); the rest is as
     /// in `grow_raw`.
     ///
     /// # Contract
@@ -171,6 +174,7 @@ impl Table {
     /// [meter_at_entry]: crate::specs::meter::Meter#meter_at_entry "the meter that an optional reference leads to when a call begins, if there is one"
     /// [lent_limiter]: crate::specs::meter::LimiterRef#lent_limiter "the present value of the limiter that is lent, or none"
     /// [meter_at_exit]: crate::specs::meter::Meter#meter_at_exit "the meter that an optional reference leaves behind it when a call ends, if there is one, in the terms of a clause\'s \`.exit\`"
+    /// [`ElementTypeMismatch`]: crate::proved::meter::TableError::ElementTypeMismatch
     #[inline]
     pub fn grow<L: ResourceLimiter>(
         &mut self,
@@ -247,12 +251,12 @@ impl Table {
     /// Grows by `delta` elements, each the given reference, and returns the old size. A growth by 0
     /// changes nothing and asks no limiter.
     ///
-    /// Errors, in the order of the tests: `GrowOutOfBounds` if there would be as many elements as
-    /// indices, 2^32 or 2^64; the limiter's denial (`GrowOutOfBounds` if it says no,
-    /// `ResourceLimiterDeniedAllocation` if it returns an error); `GrowOutOfBounds` above the
-    /// maximum; `OutOfFuel` if the meter is on and the new elements cost more than is left;
-    /// `OutOfSystemMemory`, after which the fuel stays spent. The limiter is notified of the last
-    /// three, and if it returns an error, the error is `ResourceLimiterDeniedAllocation` instead.
+    /// Errors, in the order of the tests: [`GrowOutOfBounds`] if there would be as many elements as
+    /// indices, 2^32 or 2^64; the limiter's denial ([`GrowOutOfBounds`] if it says no,
+    /// [`ResourceLimiterDeniedAllocation`] if it returns an error); [`GrowOutOfBounds`] above the
+    /// maximum; [`OutOfFuel`] if the meter is on and the new elements cost more than is left;
+    /// [`OutOfSystemMemory`], after which the fuel stays spent. The limiter is notified of the last
+    /// three, and if it returns an error, the error is [`ResourceLimiterDeniedAllocation`] instead.
     ///
     /// # Contract
     ///
@@ -269,6 +273,10 @@ impl Table {
     /// [meter_at_entry]: crate::specs::meter::Meter#meter_at_entry "the meter that an optional reference leads to when a call begins, if there is one"
     /// [lent_limiter]: crate::specs::meter::LimiterRef#lent_limiter "the present value of the limiter that is lent, or none"
     /// [meter_at_exit]: crate::specs::meter::Meter#meter_at_exit "the meter that an optional reference leaves behind it when a call ends, if there is one, in the terms of a clause\'s \`.exit\`"
+    /// [`GrowOutOfBounds`]: crate::proved::meter::TableError::GrowOutOfBounds
+    /// [`ResourceLimiterDeniedAllocation`]: crate::proved::meter::TableError::ResourceLimiterDeniedAllocation
+    /// [`OutOfFuel`]: crate::proved::meter::TableError::OutOfFuel
+    /// [`OutOfSystemMemory`]: crate::proved::meter::TableError::OutOfSystemMemory
     #[inline]
     pub fn grow_raw<L: ResourceLimiter>(
         &mut self,
@@ -372,21 +380,23 @@ impl Table {
         Some(TypedRawRef::new(raw, self.ty.element()))
     }
 
-    /// Sets the element at an index. Errors, in the order of the tests: `ElementTypeMismatch`,
-    /// `SetOutOfBounds`.
+    /// Sets the element at an index. Errors, in the order of the tests: [`ElementTypeMismatch`],
+    /// [`SetOutOfBounds`].
     ///
     /// # Contract
     ///
     /// <span></span><pre><code>ensures: [SetsTable] index value self.old result self.new</code></pre>
     ///
     /// [SetsTable]: crate::specs::store::Table#SetsTable "the element at an index is set to a reference that has a type, which is tested first"
+    /// [`ElementTypeMismatch`]: crate::proved::meter::TableError::ElementTypeMismatch
+    /// [`SetOutOfBounds`]: crate::proved::meter::TableError::SetOutOfBounds
     #[inline]
     pub fn set(&mut self, index: u64, value: TypedRawRef) -> Result<(), TableError> {
         self.ty.ensure_element_type_matches(value.ty)?;
         self.set_raw(index, value.raw)
     }
 
-    /// Sets the element at an index. The error is `SetOutOfBounds` past the end. The type of the
+    /// Sets the element at an index. The error is [`SetOutOfBounds`] past the end. The type of the
     /// reference isn't tested: that is up to the caller.
     ///
     /// # Contract
@@ -394,6 +404,7 @@ impl Table {
     /// <span></span><pre><code>ensures: [SetsTableRaw] index value self.old result self.new</code></pre>
     ///
     /// [SetsTableRaw]: crate::specs::store::Table#SetsTableRaw "the element at an index is set to a reference; past the end it is refused, and the table stays"
+    /// [`SetOutOfBounds`]: crate::proved::meter::TableError::SetOutOfBounds
     #[inline]
     pub fn set_raw(&mut self, index: u64, value: RawRef) -> Result<(), TableError> {
         let index = index as usize;
@@ -406,8 +417,8 @@ impl Table {
 
     /// Copies `len` items of an element segment, from `src` on, over the elements from `dst` on.
     ///
-    /// Errors, in the order of the tests: `ElementTypeMismatch`; `InitOutOfBounds` if a range ends
-    /// past the segment or the table; `OutOfFuel`. Copying no items costs no fuel.
+    /// Errors, in the order of the tests: [`ElementTypeMismatch`]; [`InitOutOfBounds`] if a range ends
+    /// past the segment or the table; [`OutOfFuel`]. Copying no items costs no fuel.
     ///
     /// # Contract
     ///
@@ -421,6 +432,9 @@ impl Table {
     /// [metered]: crate::specs::store::Growth#metered "a value with its meter, if there is one, and no limiter to ask"
     /// [meter_at_entry]: crate::specs::meter::Meter#meter_at_entry "the meter that an optional reference leads to when a call begins, if there is one"
     /// [meter_at_exit]: crate::specs::meter::Meter#meter_at_exit "the meter that an optional reference leaves behind it when a call ends, if there is one, in the terms of a clause\'s \`.exit\`"
+    /// [`ElementTypeMismatch`]: crate::proved::meter::TableError::ElementTypeMismatch
+    /// [`InitOutOfBounds`]: crate::proved::meter::TableError::InitOutOfBounds
+    /// [`OutOfFuel`]: crate::proved::meter::TableError::OutOfFuel
     #[inline]
     pub fn init(
         &mut self,
@@ -475,8 +489,8 @@ impl Table {
     /// Copies `len` elements of another table, from `src` on, over the elements of a table from
     /// `dst` on.
     ///
-    /// Errors, in the order of the tests: `ElementTypeMismatch`; `CopyOutOfBounds` if a range ends
-    /// past its table; `OutOfFuel`, which is tested also if no element is copied.
+    /// Errors, in the order of the tests: [`ElementTypeMismatch`]; [`CopyOutOfBounds`] if a range ends
+    /// past its table; [`OutOfFuel`], which is tested also if no element is copied.
     ///
     /// # Contract
     ///
@@ -489,6 +503,9 @@ impl Table {
     /// [metered]: crate::specs::store::Growth#metered "a value with its meter, if there is one, and no limiter to ask"
     /// [meter_at_entry]: crate::specs::meter::Meter#meter_at_entry "the meter that an optional reference leads to when a call begins, if there is one"
     /// [meter_at_exit]: crate::specs::meter::Meter#meter_at_exit "the meter that an optional reference leaves behind it when a call ends, if there is one, in the terms of a clause\'s \`.exit\`"
+    /// [`ElementTypeMismatch`]: crate::proved::meter::TableError::ElementTypeMismatch
+    /// [`CopyOutOfBounds`]: crate::proved::meter::TableError::CopyOutOfBounds
+    /// [`OutOfFuel`]: crate::proved::meter::TableError::OutOfFuel
     #[inline]
     pub fn copy(
         dst_table: &mut Table,
@@ -540,8 +557,8 @@ impl Table {
     /// Copies `len` elements from `src` on over those from `dst` on. If the ranges overlap, the old
     /// elements are copied.
     ///
-    /// Errors, in the order of the tests: `CopyOutOfBounds` if a range ends past the table;
-    /// `OutOfFuel`, which is tested also if no element is copied.
+    /// Errors, in the order of the tests: [`CopyOutOfBounds`] if a range ends past the table;
+    /// [`OutOfFuel`], which is tested also if no element is copied.
     ///
     /// # Contract
     ///
@@ -554,6 +571,8 @@ impl Table {
     /// [metered]: crate::specs::store::Growth#metered "a value with its meter, if there is one, and no limiter to ask"
     /// [meter_at_entry]: crate::specs::meter::Meter#meter_at_entry "the meter that an optional reference leads to when a call begins, if there is one"
     /// [meter_at_exit]: crate::specs::meter::Meter#meter_at_exit "the meter that an optional reference leaves behind it when a call ends, if there is one, in the terms of a clause\'s \`.exit\`"
+    /// [`CopyOutOfBounds`]: crate::proved::meter::TableError::CopyOutOfBounds
+    /// [`OutOfFuel`]: crate::proved::meter::TableError::OutOfFuel
     #[inline]
     pub fn copy_within(
         &mut self,
@@ -599,7 +618,7 @@ impl Table {
     }
 
     /// Fills `len` elements from `dst` on with a reference. The type of the reference is tested
-    /// first (`ElementTypeMismatch`); the rest is as in `fill_raw`.
+    /// first ([`ElementTypeMismatch`]); the rest is as in `fill_raw`.
     ///
     /// # Contract
     ///
@@ -612,6 +631,7 @@ impl Table {
     /// [metered]: crate::specs::store::Growth#metered "a value with its meter, if there is one, and no limiter to ask"
     /// [meter_at_entry]: crate::specs::meter::Meter#meter_at_entry "the meter that an optional reference leads to when a call begins, if there is one"
     /// [meter_at_exit]: crate::specs::meter::Meter#meter_at_exit "the meter that an optional reference leaves behind it when a call ends, if there is one, in the terms of a clause\'s \`.exit\`"
+    /// [`ElementTypeMismatch`]: crate::proved::meter::TableError::ElementTypeMismatch
     #[inline]
     pub fn fill(
         &mut self,
@@ -649,7 +669,7 @@ impl Table {
     }
 
     /// Fills `len` elements from `dst` on with a reference. Errors, in the order of the tests:
-    /// `FillOutOfBounds` if they end past the table; `OutOfFuel`, which is tested also if no
+    /// [`FillOutOfBounds`] if they end past the table; [`OutOfFuel`], which is tested also if no
     /// element is filled.
     ///
     /// # Contract
@@ -663,6 +683,8 @@ impl Table {
     /// [metered]: crate::specs::store::Growth#metered "a value with its meter, if there is one, and no limiter to ask"
     /// [meter_at_entry]: crate::specs::meter::Meter#meter_at_entry "the meter that an optional reference leads to when a call begins, if there is one"
     /// [meter_at_exit]: crate::specs::meter::Meter#meter_at_exit "the meter that an optional reference leaves behind it when a call ends, if there is one, in the terms of a clause\'s \`.exit\`"
+    /// [`FillOutOfBounds`]: crate::proved::meter::TableError::FillOutOfBounds
+    /// [`OutOfFuel`]: crate::proved::meter::TableError::OutOfFuel
     #[inline]
     pub fn fill_raw(
         &mut self,

@@ -175,13 +175,15 @@ impl Global {
 
     /// Writes `new_value`, where the variable is no constant and the value is of its type.
     ///
-    /// Errors, in this order: `ImmutableWrite`, `TypeMismatch`.
+    /// Errors, in this order: [`ImmutableWrite`], [`TypeMismatch`].
     ///
     /// # Contract
     ///
     /// <span></span><pre><code>ensures: [SetsGlobal] self.old new_value result self.new</code></pre>
     ///
     /// [SetsGlobal]: crate::specs::typed::Global#SetsGlobal "a global variable is set, unless it is a constant or the value is of another type, in this order"
+    /// [`ImmutableWrite`]: crate::proved::typed::GlobalError::ImmutableWrite
+    /// [`TypeMismatch`]: crate::proved::typed::GlobalError::TypeMismatch
     #[inline]
     pub fn set(&mut self, new_value: TypedRawVal) -> Result<(), GlobalError> {
         if self.ty.mutability.is_const() {

@@ -25,7 +25,9 @@ pub trait TypedI32 {}
 
 /// # Contract
 ///
-/// <span></span><pre><code>TY = types.I32</code></pre>
+/// <span></span><pre><code>TY = [types.I32]</code></pre>
+///
+/// [types.I32]: crate::proved::types::ValType::I32
 impl<T: TypedI32> Typed for T {
     const TY: ValType = ValType::I32;
 }
@@ -52,49 +54,63 @@ impl TypedI32 for NonZero<u32> {}
 
 /// # Contract
 ///
-/// <span></span><pre><code>TY = types.I64</code></pre>
+/// <span></span><pre><code>TY = [types.I64]</code></pre>
+///
+/// [types.I64]: crate::proved::types::ValType::I64
 impl Typed for i64 {
     const TY: ValType = ValType::I64;
 }
 
 /// # Contract
 ///
-/// <span></span><pre><code>TY = types.I64</code></pre>
+/// <span></span><pre><code>TY = [types.I64]</code></pre>
+///
+/// [types.I64]: crate::proved::types::ValType::I64
 impl Typed for u64 {
     const TY: ValType = ValType::I64;
 }
 
 /// # Contract
 ///
-/// <span></span><pre><code>TY = types.I64</code></pre>
+/// <span></span><pre><code>TY = [types.I64]</code></pre>
+///
+/// [types.I64]: crate::proved::types::ValType::I64
 impl Typed for NonZero<i64> {
     const TY: ValType = ValType::I64;
 }
 
 /// # Contract
 ///
-/// <span></span><pre><code>TY = types.I64</code></pre>
+/// <span></span><pre><code>TY = [types.I64]</code></pre>
+///
+/// [types.I64]: crate::proved::types::ValType::I64
 impl Typed for NonZero<u64> {
     const TY: ValType = ValType::I64;
 }
 
 /// # Contract
 ///
-/// <span></span><pre><code>TY = types.F32</code></pre>
+/// <span></span><pre><code>TY = [types.F32]</code></pre>
+///
+/// [types.F32]: crate::proved::types::ValType::F32
 impl Typed for F32 {
     const TY: ValType = ValType::F32;
 }
 
 /// # Contract
 ///
-/// <span></span><pre><code>TY = types.F64</code></pre>
+/// <span></span><pre><code>TY = [types.F64]</code></pre>
+///
+/// [types.F64]: crate::proved::types::ValType::F64
 impl Typed for F64 {
     const TY: ValType = ValType::F64;
 }
 
 /// # Contract
 ///
-/// <span></span><pre><code>TY = types.V128</code></pre>
+/// <span></span><pre><code>TY = [types.V128]</code></pre>
+///
+/// [types.V128]: crate::proved::types::ValType::V128
 impl Typed for V128 {
     const TY: ValType = ValType::V128;
 }

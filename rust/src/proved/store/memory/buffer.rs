@@ -147,8 +147,8 @@ impl<R: Region> Buffer<R> {
 
     /// Appends zeros up to `new_size` bytes, which isn't below the present number.
     ///
-    /// If the bytes are owned, the only error is `OutOfSystemMemory`. If they are borrowed, the
-    /// only error is `InvalidStaticBufferSize`, if the borrowed buffer is shorter; nothing is
+    /// If the bytes are owned, the only error is [`OutOfSystemMemory`]. If they are borrowed, the
+    /// only error is [`InvalidStaticBufferSize`], if the borrowed buffer is shorter; nothing is
     /// allocated, and the bytes past the new size stay as they are.
     ///
     /// # Panics
@@ -173,6 +173,8 @@ impl<R: Region> Buffer<R> {
     /// [OnErr]: crate::specs::library#OnErr "P, if r is an error"
     /// [IfErr]: crate::specs::library#IfErr "P of the error, if r is an error"
     /// [CanFail]: crate::specs::store::Buffer#CanFail "why n more bytes could not be had: a lent region is too short, or memory is refused"
+    /// [`OutOfSystemMemory`]: crate::proved::meter::MemoryError::OutOfSystemMemory
+    /// [`InvalidStaticBufferSize`]: crate::proved::meter::MemoryError::InvalidStaticBufferSize
     #[inline]
     pub fn grow(&mut self, new_size: usize) -> Result<(), MemoryError> {
         assert!(
@@ -195,7 +197,7 @@ impl<R: Region> Buffer<R> {
 }
 
 impl<'r> Buffer<&'r mut [u8]> {
-    /// A buffer of `size` zeros in memory of its own. The only error is `OutOfSystemMemory`.
+    /// A buffer of `size` zeros in memory of its own. The only error is [`OutOfSystemMemory`].
     ///
     /// # Contract
     ///
@@ -207,6 +209,7 @@ impl<'r> Buffer<&'r mut [u8]> {
     /// [Owned]: crate::specs::store::Buffer#Owned
     /// [IfErr]: crate::specs::library#IfErr "P of the error, if r is an error"
     /// [MemoryError.OutOfSystemMemory]: crate::proved::meter::MemoryError::OutOfSystemMemory
+    /// [`OutOfSystemMemory`]: crate::proved::meter::MemoryError::OutOfSystemMemory
     #[inline]
     pub fn new(size: usize) -> Result<ByteBuffer<'r>, MemoryError> {
         match Vec::filled(0u8, size) {
@@ -221,7 +224,7 @@ impl<'r> Buffer<&'r mut [u8]> {
     /// A buffer of `size` zeros at the front of a borrowed one. It allocates nothing, and the bytes
     /// past them stay as they are.
     ///
-    /// The only error is `InvalidStaticBufferSize`, if the borrowed buffer is shorter. Then the
+    /// The only error is [`InvalidStaticBufferSize`], if the borrowed buffer is shorter. Then the
     /// loan has ended, and its bytes are unchanged.
     ///
     /// # Contract
@@ -241,6 +244,7 @@ impl<'r> Buffer<&'r mut [u8]> {
     /// [IfErr]: crate::specs::library#IfErr "P of the error, if r is an error"
     /// [false]: crate::specs::library#false "the Boolean"
     /// [MemoryError.InvalidStaticBufferSize]: crate::proved::meter::MemoryError::InvalidStaticBufferSize
+    /// [`InvalidStaticBufferSize`]: crate::proved::meter::MemoryError::InvalidStaticBufferSize
     #[inline]
     pub fn new_static(region: &'r mut [u8], size: usize) -> Result<ByteBuffer<'r>, MemoryError> {
         if region.len() < size {

@@ -111,9 +111,10 @@ impl MemoryType {
     ///
     /// # Contract
     ///
-    /// <span></span><pre><code>ensures: [IsTrue] result ↔ (self.now.index ≡ I64)</code></pre>
+    /// <span></span><pre><code>ensures: [IsTrue] result ↔ (self.now.index ≡ [I64])</code></pre>
     ///
     /// [IsTrue]: crate::specs::library#IsTrue "b is true"
+    /// [I64]: crate::proved::types::IndexType::I64
     #[inline]
     pub fn is_64(&self) -> bool {
         self.index.is_64()
@@ -370,7 +371,10 @@ impl MemoryTypeBuilder {
     /// # Contract
     ///
     /// <span></span><pre><code>ensures same_reference: result.ghost_name ≡ self.entry.ghost_name
-    /// ensures value: result.now ≡ record self.old { index = (if memory64 then I64 else I32) }</code></pre>
+    /// ensures value: result.now ≡ record self.old { index = (if memory64 then [I64] else [I32]) }</code></pre>
+    ///
+    /// [I64]: crate::proved::types::IndexType::I64
+    /// [I32]: crate::proved::types::IndexType::I32
     #[inline]
     pub fn memory64(&mut self, memory64: bool) -> &mut Self {
         self.index = if memory64 {
@@ -417,7 +421,7 @@ impl MemoryTypeBuilder {
         self
     }
 
-    /// Builds the type. The error is `InvalidMemoryType` for a page size other than 1 byte and 64
+    /// Builds the type. The error is [`InvalidMemoryType`] for a page size other than 1 byte and 64
     /// KiB, for limits above what the address type reaches, and for a minimum above the maximum.
     ///
     /// # Contract
@@ -433,6 +437,7 @@ impl MemoryTypeBuilder {
     /// [IsValid]: crate::specs::store::MemoryType#IsValid "the limits are within what the address type reaches, the minimum not above the maximum"
     /// [MemoryError.InvalidMemoryType]: crate::proved::meter::MemoryError::InvalidMemoryType
     /// [IsSomeAnd]: crate::specs::library#IsSomeAnd "there is a value, and P of it"
+    /// [`InvalidMemoryType`]: crate::proved::meter::MemoryError::InvalidMemoryType
     #[inline]
     pub fn build(self) -> Result<MemoryType, MemoryError> {
         if cfg!(not(feature = "memory64")) && self.index.is_64() {

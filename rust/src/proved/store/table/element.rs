@@ -96,8 +96,8 @@ impl ElementSegment {
 
     /// Reads references of a type up to the first `None`, which counts as the end.
     ///
-    /// It reads at most 2^32 items, and none after the end or after an error: `TooManyItems` at the
-    /// last of those items, `OutOfSystemMemory` at the item for which memory was refused.
+    /// It reads at most 2^32 items, and none after the end or after an error: [`TooManyItems`] at the
+    /// last of those items, [`OutOfSystemMemory`] at the item for which memory was refused.
     ///
     /// Own: `new` takes its iterator by value, so its contract can't say what is left of it.
     ///
@@ -109,6 +109,8 @@ impl ElementSegment {
     /// [I.can_next]: crate::specs::library#can_next "whether \`next\` may be called on the iterator"
     /// [IsReading]: crate::specs::store::Segment#IsReading "the answer after calls from s to t: the segment of all items that came, or the refusal"
     /// [I.next_gives]: crate::specs::library#next_gives "\`next\` on it may give x and leave it\'"
+    /// [`TooManyItems`]: crate::proved::store::SegmentError::TooManyItems
+    /// [`OutOfSystemMemory`]: crate::proved::store::SegmentError::OutOfSystemMemory
     #[inline]
     pub fn read<I>(ty: RefType, items: &mut I) -> Result<Self, SegmentError>
     where

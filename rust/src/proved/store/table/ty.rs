@@ -45,9 +45,10 @@ impl TableType {
     ///
     /// <span></span><pre><code>requires ordered: [IfSome] maximum (λ most. minimum ≤ most)
     /// ensures value: result
-    /// &#32;&#32;&#32;&#32;≡ record { index = I32; element = element; minimum = minimum; maximum = maximum }</code></pre>
+    /// &#32;&#32;&#32;&#32;≡ record { index = [I32]; element = element; minimum = minimum; maximum = maximum }</code></pre>
     ///
     /// [IfSome]: crate::specs::library#IfSome "P of the value, if there is one"
+    /// [I32]: crate::proved::types::IndexType::I32
     #[inline]
     pub fn new(element: RefType, minimum: u32, maximum: Option<u32>) -> Self {
         assert!(
@@ -72,9 +73,10 @@ impl TableType {
     ///
     /// <span></span><pre><code>requires ordered: [IfSome] maximum (λ most. minimum ≤ most)
     /// ensures value: result
-    /// &#32;&#32;&#32;&#32;≡ record { index = I64; element = element; minimum = minimum; maximum = maximum }</code></pre>
+    /// &#32;&#32;&#32;&#32;≡ record { index = [I64]; element = element; minimum = minimum; maximum = maximum }</code></pre>
     ///
     /// [IfSome]: crate::specs::library#IfSome "P of the value, if there is one"
+    /// [I64]: crate::proved::types::IndexType::I64
     #[inline]
     pub fn new64(element: RefType, minimum: u64, maximum: Option<u64>) -> Self {
         assert!(
@@ -93,9 +95,10 @@ impl TableType {
     ///
     /// # Contract
     ///
-    /// <span></span><pre><code>ensures: [IsTrue] result ↔ (self.now.index ≡ I64)</code></pre>
+    /// <span></span><pre><code>ensures: [IsTrue] result ↔ (self.now.index ≡ [I64])</code></pre>
     ///
     /// [IsTrue]: crate::specs::library#IsTrue "b is true"
+    /// [I64]: crate::proved::types::IndexType::I64
     #[inline]
     pub fn is_64(&self) -> bool {
         self.index.is_64()

@@ -1,0 +1,115 @@
+"""The docs of proved items as files, which the API in rust/src includes for what it calls; and the links of definitions to types of
+Rust, whose pages the API decides."""
+
+import re
+
+from .generated import all_generated, brought_in, passed_on
+from .tokens import Unknown
+
+INCLUDED = re.compile(r'include_str!\("proved/docs/(\w+)/([\w.]+)\.md"\)')
+# A macro that documents each of its rows by its name, and the rows of a call.
+PATTERN = re.compile(r'include_str!\(concat!\("proved/docs/", \$\w+, "/", stringify!\(\$\w+\), "\.md"\)\)')
+ROWS = re.compile(r'^ +"(\w+)";\n((?:    \w.*\n)+)', re.M)
+DEFINITION = re.compile(r"\[(?P<label>(?:[^\[\]\\]|\\.)+)\]: (?P<kind>\w+@)?(?P<path>\w[\w:]*)(?P<rest>.*)$")
+TYPE = re.compile(r'<a href="rust:(crate::proved::(\w+)::(\w+))(?:::(\w+))?">([^<]*)</a>')
+SECTION, CLAUSES = ".contract", ".clauses"     # how the name of a file ends that has this section alone, and that has it without its heading
+
+
+def fragment(source, name, part, passed_on):
+    """The docs of an item, or a part of them, with links that lead on from any file."""
+    lines = source.docs(source.items[name])
+    links = [it for it in lines if DEFINITION.match(it)]
+    said = [it for it in lines if not DEFINITION.match(it)]
+    if part:
+        first = next((k for k, it in enumerate(said) if re.match(r"# (Contract|Model)$", it)), None)
+        if first is None:
+            raise Unknown(f"{source.path.name}: {name} has no contract, which rust/src includes")
+        said = said[first + (part == CLAUSES):]
+    text = "\n".join(said).strip()
+    labels = {DEFINITION.match(it)["label"] for it in links}
+    for path in dict.fromkeys(re.findall(r"\[`([\w:]+)`\](?![:(])", text)):
+        meant = f"`{path}`" not in labels and source.meant(path, passed_on)
+        if meant:
+            links.append(f"[`{path}`]: {meant}")
+    return text + "\n\n" + "\n".join(absolute(source, it, passed_on) for it in links) + "\n"
+
+
+def absolute(source, line, passed_on):
+    found = DEFINITION.match(line)
+    path = found["path"]
+    if not path.startswith("crate::"):
+        path = source.meant(path, passed_on) or path
+    return f"[{found['label']}]: {found['kind'] or ''}{path}{found['rest']}"
+
+
+class Fragments:
+    """Writes the files."""
+
+    def __init__(self, folder):
+        self.folder = folder
+        self.sources = all_generated(folder)
+        self.passed_on = passed_on(self.sources)
+
+    def include(self, api):
+        """Writes a file for each of the docs that the files of the API include."""
+        for path in sorted(api.glob("*.rs")):
+            text = path.read_text()
+            wanted = {(place, name) for place, name in INCLUDED.findall(text)}
+            for place, rows in ROWS.findall(text) if PATTERN.search(text) else ():
+                wanted |= {(place, name) for name in re.findall(r"^    (\w+)\(", rows, re.M)}
+            for place, name in sorted(wanted):
+                self.write(place, name)
+
+    def link_types(self, api):
+        """Gives the types of Rust in pages of definitions their links, or none if users don't see them."""
+        pages = self.pages_of_types(api)
+
+        def linked(found):
+            path, crate, name, inner, text = found.groups()
+            if path not in pages:
+                return text
+            is_variant = any(inner in it.variants.get(name, ()) for it in self.sources if it.crate == crate)
+            anchor = f"#variant.{inner}" if is_variant else ""
+            return f'<a href="../../../{pages[path]}{anchor}">{text}</a>'
+
+        for page in self.folder.glob("specs/*/*.md"):
+            page.write_text(TYPE.sub(linked, page.read_text()))
+
+    def pages_of_types(self, api):
+        """The page of each public type of the generated text, by its path."""
+        found = {}
+        for file, folder in (("machine", "machine/"), ("lib", "")):
+            for name, path in brought_in((api / f"{file}.rs").read_text(), only_public=True).items():
+                crate, _, inner = path.removeprefix("crate::proved::").partition("::")
+                names = [inner] if inner else next(it for it in self.sources if it.module == crate).names if path != "crate::proved" else []
+                for it in names:
+                    kind = self.kind_of(crate, it)
+                    if kind:
+                        found[f"crate::proved::{crate}::{it}"] = f"{folder if inner else f'{name}/'}{kind}.{it}.html"
+        return found
+
+    def kind_of(self, crate, name):
+        """Whether a name is that of a struct, an enum, a trait or an alias."""
+        kinds = (it.kinds[name] for it in self.sources if it.crate == crate and name in it.kinds)
+        return next((kind for kind in kinds if kind in ("struct", "enum", "trait", "type")), None)
+
+    def source_of(self, place, name):
+        return next((it for it in self.sources if it.crate == place and name in it.items), None)
+
+    def write(self, place, name):
+        item, part = name, ""
+        for ending in (SECTION, CLAUSES):
+            if name.endswith(ending):
+                item, part = name.removesuffix(ending), ending
+        source = self.source_of(place, item)
+        if source is None:
+            raise Unknown(f"no {place}/{item}, whose docs rust/src includes")
+        target = self.folder / "docs" / place / f"{name}.md"
+        target.parent.mkdir(parents=True, exist_ok=True)
+        target.write_text(fragment(source, item, part, self.passed_on))
+
+
+def include(folder, api):
+    fragments = Fragments(folder)
+    fragments.include(api)
+    fragments.link_types(api)
