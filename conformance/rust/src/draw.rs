@@ -9,8 +9,8 @@ const KIB_64: u8 = 16;
 
 pub fn limits(random: &mut Random) -> Limits {
     Limits {
-        bytes: random.pick(&[0, 1, 300, 65536, 200_000, 1 << 20, u64::MAX]),
-        elements: random.pick(&[0, 1, 10, 100, 1000, u64::MAX]),
+        bytes: random.pick(&[0, 300, 65536, 200_000, 1 << 20, u64::MAX, u64::MAX]),
+        elements: random.pick(&[0, 10, 100, 1000, 1000, u64::MAX, u64::MAX]),
         bytes_copied_per_fuel: random.pick(&[0, 1, 3, 64, 64, u32::MAX]),
         fuel_per_bytes_translated: 7,
         fuel_per_bytes_validated: 2,
@@ -30,7 +30,7 @@ impl<'r> Draw<'r> {
     }
 
     pub fn index(&mut self) -> usize {
-        self.random.pick(&[0, 0, 0, 0, 1, 1, 2, 3, 4, usize::MAX])
+        self.random.pick(&[0, 0, 0, 0, 0, 0, 0, 0, 1, 1, 1, 1, 2, 3, 4, usize::MAX])
     }
 
     /// A number below 300, small ones more often.
@@ -42,6 +42,11 @@ impl<'r> Draw<'r> {
     /// A number that is mostly small.
     pub fn amount(&mut self) -> u64 {
         if self.random.chance(12) { self.random.edge() } else { self.small() }
+    }
+
+    /// A place in a table, or how many elements are written, which mostly fit.
+    fn place(&mut self) -> u64 {
+        if self.random.chance(6) { self.random.edge() } else { self.random.below(12) }
     }
 
     /// How many pages or elements a memory or a table has or gets.
@@ -58,13 +63,28 @@ impl<'r> Draw<'r> {
         if self.random.chance(4) { 16 + self.random.below(240) as u8 } else { self.random.below(16) as u8 }
     }
 
+    /// A kind of calls: one of those that drop something more seldom than the others, and now and then none.
+    fn kind(&mut self) -> u16 {
+        match self.random.below(29) as u16 {
+            _ if self.random.chance(2) => self.random.edge() as u16,
+            4 | 11 | 17 if self.random.chance(80) => self.random.pick(&[2, 9, 10, 14, 15, 16]),
+            kind => kind,
+        }
+    }
+
     /// A call of any kind, each field of which is filled.
     pub fn call(&mut self) -> PlainCall {
-        let kind = if self.random.chance(2) { self.random.edge() as u16 } else { self.random.below(29) as u16 };
+        let kind = self.kind();
+        self.call_of(kind)
+    }
+
+    /// A call of a kind.
+    pub fn call_of(&mut self, kind: u16) -> PlainCall {
         let log2 = self.random.pick(&[0, 0, 0, KIB_64, KIB_64, 12]);
         let count = match kind {
             2 | 9 => self.size(log2),
             3 | 10 => self.size(0) / 40,
+            12..=16 => self.place(),
             _ => self.amount(),
         };
         let most = self.size(log2);
@@ -89,8 +109,8 @@ impl<'r> Draw<'r> {
             maximum: if self.random.chance(90) { most.max(count) } else { most },
             ptr,
             offset,
-            to: self.amount(),
-            from: self.amount(),
+            to: self.place(),
+            from: self.place(),
             value: words(self.random),
             lanes: std::array::from_fn(|_| self.random.below(32) as u8),
         }
