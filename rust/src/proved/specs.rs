@@ -251,6 +251,8 @@ pub mod budget {
 
 /// Definitions of `wasmi_region`.
 pub mod region {
+    #[doc = include_str!("specs/region/Laws.md")]
+    pub mod Laws {}
     #[doc = include_str!("specs/region/Memory.md")]
     pub mod Memory {}
     #[doc = include_str!("specs/region/Table.md")]

@@ -34,21 +34,23 @@ pub fn is_sized(ty: TableType, size: usize) -> bool {
 /// # Contract
 ///
 /// <span></span><pre><code>ensures loan: [KeepsLoan] limiter.old limiter.new
-/// ensures made: [MakesTable] ([optional_rules] [L.rules]) ty ([typed_as] ty reference)
+/// ensures made: [MakesTableIn] ([optional_rules] [L.rules]) ty ([length] region.old) reference
 /// &#32;&#32;&#32;&#32;([lent_limiter] limiter.old) ([made_in] ty region.new result) ([lent_limiter] limiter.new)
 /// ensures sized: [IfOk] result (λ size. [IsSized] ty size × (size ≤ [length] region.new))
-/// ensures refused: [OnErr] result (region.new ≡ region.old)</code></pre>
+/// ensures rest: [IfOk] result (λ size. [drop] size region.new ≡ [drop] size region.old)
+/// ensures refused: [OnErr] result (region.new ≡ region.old)
+/// ensures len: [length] region.new ≡ [length] region.old</code></pre>
 ///
 /// [KeepsLoan]: crate::specs::meter::LimiterRef#KeepsLoan "r\' leads to what r leads to"
-/// [MakesTable]: crate::specs::store::Table#MakesTable "a table of a type is made of a reference"
+/// [MakesTableIn]: crate::specs::region::Table#MakesTableIn "a table of a type is made of one reference on a region of so many"
 /// [optional_rules]: crate::specs::meter::Limiter#optional_rules "the rules of a limiter that may be absent"
 /// [L.rules]: trait@ResourceLimiter#contract
-/// [typed_as]: crate::specs::region::Table#typed_as "a reference of the type of a table\'s elements"
+/// [length]: crate::specs::library#length "the number of elements of a list"
 /// [lent_limiter]: crate::specs::meter::LimiterRef#lent_limiter "the present value of the limiter that is lent, or none"
 /// [made_in]: crate::specs::region::Table#made_in "what a call makes in a region, by the size that it returns"
 /// [IfOk]: crate::specs::library#IfOk "P of the value, if r is a value"
 /// [IsSized]: crate::specs::store::Table#IsSized "so many elements are as many as the type allows"
-/// [length]: crate::specs::library#length "the number of elements of a list"
+/// [drop]: crate::specs::library#drop "all but the first n elements"
 /// [OnErr]: crate::specs::library#OnErr "P, if r is an error"
 /// [`ResourceLimiterDeniedAllocation`]: crate::proved::meter::TableError::ResourceLimiterDeniedAllocation
 /// [`OutOfSystemMemory`]: crate::proved::meter::TableError::OutOfSystemMemory
@@ -74,8 +76,9 @@ pub fn make<L: ResourceLimiter>(
 /// and returns the old size; `size` becomes the new one. A growth by 0 changes nothing and asks no
 /// limiter.
 ///
-/// The errors are those of [`Table::grow_raw`](crate::proved::store::Table::grow_raw), of which [`OutOfSystemMemory`] means
-/// that the region is shorter than the new size.
+/// The errors are those of [`Table::grow_raw`](crate::proved::store::Table::grow_raw), of which [`OutOfSystemMemory`] comes
+/// only if the region is shorter than the new size. The elements past the table are unchanged, and
+/// after an error the whole region is.
 ///
 /// # Panics
 ///
@@ -86,24 +89,30 @@ pub fn make<L: ResourceLimiter>(
 /// <span></span><pre><code>requires sized: [IsSized] ty size.old
 /// requires within: size.old ≤ [length] region.old
 /// ensures loan: [KeepsLoan] limiter.old limiter.new
-/// ensures grown: [GrowsTableRaw] ([optional_rules] [L.rules]) delta reference
+/// ensures grown: [GrowsTableIn] ([optional_rules] [L.rules]) ([length] region.old) delta reference
 /// &#32;&#32;&#32;&#32;([metered_value] ([table_in] ty region.old size.old) ([Some] fuel.old)
 /// &#32;&#32;&#32;&#32;([lent_limiter] limiter.old)) result
 /// &#32;&#32;&#32;&#32;([metered_value] ([table_in] ty region.new size.new) ([Some] fuel.new)
 /// &#32;&#32;&#32;&#32;([lent_limiter] limiter.new))
 /// ensures sized: [IsSized] ty size.new
-/// ensures within: size.new ≤ [length] region.new</code></pre>
+/// ensures within: size.new ≤ [length] region.new
+/// ensures len: [length] region.new ≡ [length] region.old
+/// ensures rest: [drop] size.new region.new ≡ [drop] size.new region.old
+/// ensures refused: [OnErr] result (region.new ≡ region.old)
+/// ensures size: [OnErr] result (size.new ≡ size.old)</code></pre>
 ///
 /// [IsSized]: crate::specs::store::Table#IsSized "so many elements are as many as the type allows"
 /// [length]: crate::specs::library#length "the number of elements of a list"
 /// [KeepsLoan]: crate::specs::meter::LimiterRef#KeepsLoan "r\' leads to what r leads to"
-/// [GrowsTableRaw]: crate::specs::store::Table#GrowsTableRaw "a table grows by n elements; it returns the old size"
+/// [GrowsTableIn]: crate::specs::region::Table#GrowsTableIn "a table on a region of so many references grows by n elements; it returns the old size"
 /// [optional_rules]: crate::specs::meter::Limiter#optional_rules "the rules of a limiter that may be absent"
 /// [L.rules]: trait@ResourceLimiter#contract
 /// [metered_value]: crate::specs::store::Growth#metered_value "a value with its meter, if there is one, and its limiter"
 /// [table_in]: crate::specs::region::Table#table_in "the table of a type that has so many elements at the front of a region"
 /// [Some]: crate::specs::library#Some "the value x, of an \`Option\`"
 /// [lent_limiter]: crate::specs::meter::LimiterRef#lent_limiter "the present value of the limiter that is lent, or none"
+/// [drop]: crate::specs::library#drop "all but the first n elements"
+/// [OnErr]: crate::specs::library#OnErr "P, if r is an error"
 /// [`OutOfSystemMemory`]: crate::proved::meter::TableError::OutOfSystemMemory
 #[inline]
 pub fn grow<L: ResourceLimiter>(
