@@ -1,6 +1,7 @@
 mod LanesLemmas
 mod LendingLemmas
 mod LentGrowthLemmas
+mod PlacesLemmas
 mod PoolsLemmas
 mod RecorderLemmas
 mod RunsLemmas

@@ -1,5 +1,5 @@
 -- One call of a run, and facts of what is answered.
-use Rattle.std.proofs.Common.{◌≡◌, ◌≤◌, Option, Some, OnErr, Result, Ok, Err, List, [], ◌∷◌, length, map, refl, sym, ap, subst, ◌∙◌, arith, IfOk}
+use Rattle.std.proofs.Common.{◌≡◌, Option, Some, OnErr, Result, Ok, Err, List, [], ◌∷◌, length, map, refl, sym, ap, subst, ◌∙◌, arith, IfOk}
 use Rattle.std.proofs.lemmas.List.Elements.{All-cons, All-head, All-nil, All-tail}
 use Rattle.std.proofs.lemmas.Option.{same_Some}
 use Rattle.std.specs.Prelude.{All, slice_get}
@@ -19,13 +19,11 @@ use Rattle.wasmi_laws.specs.Runs.{IsWithinCapsOf, RunsOfCallsAreCut}
 use Rattle.wasmi_laws.proofs.RunsLemmas.{held_within}
 use Rattle.wasmi_callers.specs.Runs.{FitsAnyRegions, HasRegionFor, IsRunInParts}
 use Rattle.wasmi_core.specs.Laws.{LentRunsAreOwned, LentCreationsAreOwned, HoldsTotalsAlways, QuotasStayWithin, RunsKeepValidity}
-use Rattle.wasmi_meter.specs.declared.limiter.Kind.{Kind}
-use Rattle.wasmi_meter.specs.declared.limiter.Kind.TheVariants.{Bytes, Elements}
 use Rattle.wasmi_meter.specs.declared.quota.Quota.{Quota}
 use Rattle.wasmi_meter.specs.Quota.{holdings, cap_of, IsWithinCaps, SameCaps, quota_rules}
 use Rattle.wasmi_meter.specs.Limiter.{optional_rules}
 use Rattle.wasmi_core.specs.World.{world}
-use Rattle.wasmi_core.specs.Totals.{total, HoldsTotals}
+use Rattle.wasmi_core.specs.Totals.{HoldsTotals}
 
 -- from a fact of a value to another
 pub if_ok_too : {T E : Type 0} {P Q : T → Type 0} (r : Result T E) → IfOk r P → ((x : T) → P x → Q x) → IfOk r Q
@@ -33,8 +31,8 @@ if_ok_too (Ok x) h too = too x h
 if_ok_too (Err e) h too = tt
 
 -- what holds of a state, and after each run from it, holds after a run that was accepted or refused
-pub holds_after : {S R E : Type 0} (Other : Type 0) (rules : Rules S) (items : R → List Reply) (calls : List Call) (w w' : World S)
-    (Holds : State → Type 0) (result : Result R E)
+pub holds_after : {S R E : Type 0} (Other : Type 0) (rules : Rules S) (items : R → List Reply) (calls : List Call)
+    (w w' : World S) (Holds : State → Type 0) (result : Result R E)
     → ((turns : List Turn) → map Turn.call turns ≡ calls → Run rules w turns w' → Holds w'.state) → Holds w.state
     → IfOk result (λ replies. IsRunOf rules calls w (items replies) w')
     → OnErr result ((w'.state ≡ w.state) × Other) → Holds w'.state

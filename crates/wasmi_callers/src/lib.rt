@@ -5,6 +5,7 @@
 pub mod lanes;
 pub mod lending;
 pub mod meters;
+pub mod places;
 pub mod pools;
 pub mod recorder;
 pub mod runs;

@@ -254,7 +254,8 @@ module _ {S : Type 0} (rules : Rules S) where
   abbrev pub StoresKeepOtherBytes : Type 0
   StoresKeepOtherBytes =
       (it : NumberStore) (t u : World S) → Answers rules (store_call it) t Done u
-      → (x x' : MemoryValue) → live_at t.state.memories it.memory ≡ Some x → live_at u.state.memories it.memory ≡ Some x'
+      → (x x' : MemoryValue) → live_at t.state.memories it.memory ≡ Some x
+      → live_at u.state.memories it.memory ≡ Some x'
       → IsSameOutside x.bytes x'.bytes (it.ptr + it.offset) (stored_size it.op)
       × (length x'.bytes ≡ length x.bytes)
 

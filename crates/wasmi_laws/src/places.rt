@@ -17,8 +17,8 @@ pub fn others_stay<L: ResourceLimiter>()
 {}
 
 /// What was made stays at the index of its making. A memory or a table keeps its type until it is
-/// dropped, and then stays dropped, with the size that it had; an element segment keeps its type
-/// and its items until they are dropped; a global keeps its type, and a constant one its value.
+/// dropped, and then stays dropped, with its last size; an element segment keeps its type, and its
+/// items until they are dropped; a global keeps its type, and a constant one its value.
 ///
 /// A memory or a table is live until a call drops it.
 pub fn indices_last<L: ResourceLimiter>()
@@ -26,9 +26,9 @@ pub fn indices_last<L: ResourceLimiter>()
     ensures live { LiveUntilDropped (optional_rules L.rules) }
 {}
 
-/// A number that was stored to a memory is what the load of as many bytes at the same address
-/// returns, cut to that many bytes, whatever calls that may not change this memory come between the
-/// two. An accepted store keeps all other bytes of the memory, and its size.
+/// A load without a sign returns the number that a store of as many bytes has written to the same
+/// address of the same memory, cut to these bytes, whatever calls come between the two that may not
+/// change this memory. An accepted store keeps all other bytes of the memory, and its size.
 pub fn stores_are_read_back<L: ResourceLimiter>()
     ensures read { StoresAreReadBack (optional_rules L.rules) }
     ensures others { StoresKeepOtherBytes (optional_rules L.rules) }
