@@ -51,7 +51,7 @@ other Bytes = Elements
 other Elements = Bytes
 
 -- from one quota to another, so much more of a kind is held and the same of the other, and the caps are kept
-pub record Counts (kind : Kind) (size size' : ℕ) (quota quota' : Quota) : Type 0 where
+record Counts (kind : Kind) (size size' : ℕ) (quota quota' : Quota) : Type 0 where
   pub held : amount_held (holdings quota') kind + size ≡ amount_held (holdings quota) kind + size'
   pub others : amount_held (holdings quota') (other kind) ≡ amount_held (holdings quota) (other kind)
   pub within : IsWithinCaps quota → IsWithinCaps quota'
@@ -168,7 +168,7 @@ module _ {T E : Type 0} (e : Request (Unit {0}) E) (made : T) (size : Result T E
   size_made (Failed cause notice_answer) = sym (empty _)
 
   -- a creation counts as the size of what it answers
-  pub creation_counts : TellsOfKind e → (quota quota' : Quota) (result : Result T E)
+  creation_counts : TellsOfKind e → (quota quota' : Quota) (result : Result T E)
       → Makes (optional_rules quota_rules) e made (Some quota) result (Some quota')
       → Counts (kind e) 0 (size result) quota quota'
   creation_counts tells quota quota' result (outcome, attempt, answered) =
@@ -189,7 +189,7 @@ module _ {V E : Type 0} (g : Growth V E) (size : V → ℕ) (x : V) (counted : I
   size_grown (Failed cause notice_answer) = omega arith
 
   -- a growth counts as the difference of the sizes, however it ends
-  pub growth_counts : (m m' : Option Meter) (quota quota' : Quota) (x' : V) (result : Result ℕ E) (charge : ℕ)
+  growth_counts : (m m' : Option Meter) (quota quota' : Quota) (x' : V) (result : Result ℕ E) (charge : ℕ)
       → Grows (optional_rules quota_rules) g (metered_value x m (Some quota)) result charge
       (metered_value x' m' (Some quota'))
       → Counts (kind g.request) (size x) (size x') quota quota'
