@@ -114,7 +114,8 @@ impl From<V128> for RawVal {
     }
 }
 
-// A value in one word is written over the raw value 0.
+/// An integer of up to 64 bits, one that isn't 0 (`NonZero`), a `bool` or a `RawRef`: its unsigned
+/// image at its own width in the low word, and 0 in the high word.
 impl<T: OneWord> From<T> for RawVal
 where
     RawVal: WriteAs<T>,

@@ -173,7 +173,9 @@ impl From<V128> for RawVal {
     }
 }
 
-// A value in one word is written over the raw value 0.
+/// An integer of up to 64 bits, one that isn't 0 (`NonZero`), a `bool` or a `RawRef`: its unsigned
+/// image at its own width in the low word, and 0 in the high word.
+///
 /// # Contract
 ///
 /// <span></span><pre><code>from_gives = λ value raw. raw ≡ ⟦\<RawVal as WriteAs\<T>>⟧.written ([raw_of] 0) value</code></pre>
