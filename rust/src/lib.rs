@@ -91,8 +91,12 @@
 //!
 //! - Floats have no arithmetic: what moves their bits is there, and the other 120 functions aren't.
 //! - If the system refuses memory, a memory or table isn't made or doesn't grow, and an error says so.
+//!   [`FuncType::new`] and [`ElementSegment::new`] panic. A [`Trap`], and a [`FuncType`] of more than
+//!   21 types, may abort.
 //! - [`Memory::data_ptr`] may be read through, and not written.
 //! - A target has a `usize` of 64 bits.
+//!
+//! The repository's `docs/DIFFERENCES.md` has the whole list.
 //!
 //! # Features
 //!

@@ -82,6 +82,11 @@ impl Memory {
     }
 
     #[doc = include_str!("proved/docs/store/LinearMemory.grow.md")]
+    ///
+    /// # Differences
+    ///
+    /// `wasmi_core` panics if the maximum has 2^48 pages of 64 KiB, which is cut at 2^64 - 1 bytes here.
+    /// There a growth past a static buffer takes its fuel before it is refused.
     #[inline]
     pub fn grow(
         &mut self,

@@ -98,35 +98,35 @@ macro_rules! lanes {
 }
 lanes! {
     "lanewise";
-    i8x16_extract_lane_s(v128: V128; lane: ImmLaneIdx16) -> i32;
-    i8x16_extract_lane_u(v128: V128; lane: ImmLaneIdx16) -> u32;
-    i8x16_replace_lane(v128: V128; lane: ImmLaneIdx16, item: i8) -> V128;
-    i16x8_extract_lane_s(v128: V128; lane: ImmLaneIdx8) -> i32;
-    i16x8_extract_lane_u(v128: V128; lane: ImmLaneIdx8) -> u32;
-    i16x8_replace_lane(v128: V128; lane: ImmLaneIdx8, item: i16) -> V128;
-    i32x4_extract_lane(v128: V128; lane: ImmLaneIdx4) -> i32;
-    i32x4_replace_lane(v128: V128; lane: ImmLaneIdx4, item: i32) -> V128;
-    i64x2_extract_lane(v128: V128; lane: ImmLaneIdx2) -> i64;
-    i64x2_replace_lane(v128: V128; lane: ImmLaneIdx2, item: i64) -> V128;
+    i8x16_extract_lane_s(v: V128; lane: ImmLaneIdx16) -> i32;
+    i8x16_extract_lane_u(v: V128; lane: ImmLaneIdx16) -> u32;
+    i8x16_replace_lane(v: V128; lane: ImmLaneIdx16, item: i8) -> V128;
+    i16x8_extract_lane_s(v: V128; lane: ImmLaneIdx8) -> i32;
+    i16x8_extract_lane_u(v: V128; lane: ImmLaneIdx8) -> u32;
+    i16x8_replace_lane(v: V128; lane: ImmLaneIdx8, item: i16) -> V128;
+    i32x4_extract_lane(v: V128; lane: ImmLaneIdx4) -> i32;
+    i32x4_replace_lane(v: V128; lane: ImmLaneIdx4, item: i32) -> V128;
+    i64x2_extract_lane(v: V128; lane: ImmLaneIdx2) -> i64;
+    i64x2_replace_lane(v: V128; lane: ImmLaneIdx2, item: i64) -> V128;
 }
 lanes! {
     "vector_access";
-    v128_load8_lane(memory: &[u8], ptr: u64, offset: u64, x: V128; lane: ImmLaneIdx16) -> Result<V128, TrapCode>;
-    v128_load8_lane_at(memory: &[u8], address: usize, x: V128; lane: ImmLaneIdx16) -> Result<V128, TrapCode>;
-    v128_store8_lane(memory: &mut [u8], ptr: u64, offset: u64, value: V128; imm: ImmLaneIdx16) -> Result<(), TrapCode>;
-    v128_store8_lane_at(memory: &mut [u8], address: usize, value: V128; imm: ImmLaneIdx16) -> Result<(), TrapCode>;
-    v128_load16_lane(memory: &[u8], ptr: u64, offset: u64, x: V128; lane: ImmLaneIdx8) -> Result<V128, TrapCode>;
-    v128_load16_lane_at(memory: &[u8], address: usize, x: V128; lane: ImmLaneIdx8) -> Result<V128, TrapCode>;
-    v128_store16_lane(memory: &mut [u8], ptr: u64, offset: u64, value: V128; imm: ImmLaneIdx8) -> Result<(), TrapCode>;
-    v128_store16_lane_at(memory: &mut [u8], address: usize, value: V128; imm: ImmLaneIdx8) -> Result<(), TrapCode>;
-    v128_load32_lane(memory: &[u8], ptr: u64, offset: u64, x: V128; lane: ImmLaneIdx4) -> Result<V128, TrapCode>;
-    v128_load32_lane_at(memory: &[u8], address: usize, x: V128; lane: ImmLaneIdx4) -> Result<V128, TrapCode>;
-    v128_store32_lane(memory: &mut [u8], ptr: u64, offset: u64, value: V128; imm: ImmLaneIdx4) -> Result<(), TrapCode>;
-    v128_store32_lane_at(memory: &mut [u8], address: usize, value: V128; imm: ImmLaneIdx4) -> Result<(), TrapCode>;
-    v128_load64_lane(memory: &[u8], ptr: u64, offset: u64, x: V128; lane: ImmLaneIdx2) -> Result<V128, TrapCode>;
-    v128_load64_lane_at(memory: &[u8], address: usize, x: V128; lane: ImmLaneIdx2) -> Result<V128, TrapCode>;
-    v128_store64_lane(memory: &mut [u8], ptr: u64, offset: u64, value: V128; imm: ImmLaneIdx2) -> Result<(), TrapCode>;
-    v128_store64_lane_at(memory: &mut [u8], address: usize, value: V128; imm: ImmLaneIdx2) -> Result<(), TrapCode>;
+    v128_load8_lane(memory: &[u8], ptr: u64, offset: u64, v: V128; lane: ImmLaneIdx16) -> Result<V128, TrapCode>;
+    v128_load8_lane_at(memory: &[u8], address: usize, v: V128; lane: ImmLaneIdx16) -> Result<V128, TrapCode>;
+    v128_store8_lane(memory: &mut [u8], ptr: u64, offset: u64, v: V128; lane: ImmLaneIdx16) -> Result<(), TrapCode>;
+    v128_store8_lane_at(memory: &mut [u8], address: usize, v: V128; lane: ImmLaneIdx16) -> Result<(), TrapCode>;
+    v128_load16_lane(memory: &[u8], ptr: u64, offset: u64, v: V128; lane: ImmLaneIdx8) -> Result<V128, TrapCode>;
+    v128_load16_lane_at(memory: &[u8], address: usize, v: V128; lane: ImmLaneIdx8) -> Result<V128, TrapCode>;
+    v128_store16_lane(memory: &mut [u8], ptr: u64, offset: u64, v: V128; lane: ImmLaneIdx8) -> Result<(), TrapCode>;
+    v128_store16_lane_at(memory: &mut [u8], address: usize, v: V128; lane: ImmLaneIdx8) -> Result<(), TrapCode>;
+    v128_load32_lane(memory: &[u8], ptr: u64, offset: u64, v: V128; lane: ImmLaneIdx4) -> Result<V128, TrapCode>;
+    v128_load32_lane_at(memory: &[u8], address: usize, v: V128; lane: ImmLaneIdx4) -> Result<V128, TrapCode>;
+    v128_store32_lane(memory: &mut [u8], ptr: u64, offset: u64, v: V128; lane: ImmLaneIdx4) -> Result<(), TrapCode>;
+    v128_store32_lane_at(memory: &mut [u8], address: usize, v: V128; lane: ImmLaneIdx4) -> Result<(), TrapCode>;
+    v128_load64_lane(memory: &[u8], ptr: u64, offset: u64, v: V128; lane: ImmLaneIdx2) -> Result<V128, TrapCode>;
+    v128_load64_lane_at(memory: &[u8], address: usize, v: V128; lane: ImmLaneIdx2) -> Result<V128, TrapCode>;
+    v128_store64_lane(memory: &mut [u8], ptr: u64, offset: u64, v: V128; lane: ImmLaneIdx2) -> Result<(), TrapCode>;
+    v128_store64_lane_at(memory: &mut [u8], address: usize, v: V128; lane: ImmLaneIdx2) -> Result<(), TrapCode>;
 }
 
 #[doc = include_str!("proved/docs/lanewise/i8x16_shuffle.md")]

@@ -34,6 +34,19 @@ def fragment(source, name, part, passed_on):
     return text + "\n\n" + "\n".join(absolute(source, it, passed_on) for it in links) + "\n"
 
 
+def parameters(text, name):
+    """The names of the parameters of a function whose head is next in a text."""
+    found = re.match(rf"[^{{}};]*?\bfn {name}(?:<[^()]*>)?\(", text)
+    depth, names, end = 1, [], found.end() if found else 0
+    while found and depth:
+        own = re.match(r"(?:mut )?(\w+): ", text[end:]) if depth == 1 and text[end - 1] in "( \n" else None
+        if own:
+            names.append(own[1])
+        depth += (text[end] in "([") - (text[end] in ")]")
+        end += own.end() if own else 1
+    return names
+
+
 def absolute(source, line, passed_on):
     found = DEFINITION.match(line)
     path = found["path"]
@@ -54,11 +67,12 @@ class Fragments:
         """Writes a file for each of the docs that the files of the API include."""
         for path in sorted(api.glob("*.rs")):
             text = path.read_text()
-            wanted = {(place, name) for place, name in INCLUDED.findall(text)}
+            for found in INCLUDED.finditer(text):
+                self.write(found[1], found[2], parameters(text[found.end():], found[2].removesuffix(SECTION).split(".")[-1]))
             for place, rows in ROWS.findall(text) if PATTERN.search(text) else ():
-                wanted |= {(place, name) for name in re.findall(r"^    (\w+)\(", rows, re.M)}
-            for place, name in sorted(wanted):
-                self.write(place, name)
+                for row in rows.splitlines():
+                    name = row.strip().partition("(")[0]
+                    self.write(place, name, parameters(f"fn {row.strip()}", name))
 
     def link_types(self, api):
         """Gives the types of Rust in pages of definitions their links, or none if users don't see them."""
@@ -96,7 +110,8 @@ class Fragments:
     def source_of(self, place, name):
         return next((it for it in self.sources if it.crate == place and name in it.items), None)
 
-    def write(self, place, name):
+    def write(self, place, name, names):
+        """Writes the docs of an item for a function of the API with these parameters, or for something else without any."""
         item, part = name, ""
         for ending in (SECTION, CLAUSES):
             if name.endswith(ending):
@@ -104,6 +119,9 @@ class Fragments:
         source = self.source_of(place, item)
         if source is None:
             raise Unknown(f"no {place}/{item}, whose docs rust/src includes")
+        own = parameters("\n".join(source.lines[source.items[item]:]), item.split(".")[-1])
+        if names and own and names != own:
+            raise Unknown(f"{place}/{item} is documented in rust/src with the parameters {', '.join(names)} for {', '.join(own)}")
         target = self.folder / "docs" / place / f"{name}.md"
         target.parent.mkdir(parents=True, exist_ok=True)
         target.write_text(fragment(source, item, part, self.passed_on))
