@@ -25,8 +25,8 @@ pub trait Typed {
 /// A type whose values are of the value type `I32`. Only this crate's `Typed` names it.
 pub trait TypedI32 {}
 
-/// Of type `I32` are `bool`, `i8`, `u8`, `i16`, `u16`, `i32`, `u32`, `NonZero<i32>`, `NonZero<u32>` and
-/// [`ShiftAmount`].
+/// Of type `I32` are `bool`, `i8`, `u8`, `i16`, `u16`, `i32`, `u32`, `NonZero<i32>`,
+/// `NonZero<u32>` and [`ShiftAmount`].
 impl<T: TypedI32> Typed for T {
     ghost TY = { types.I32 };
 
