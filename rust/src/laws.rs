@@ -8,6 +8,7 @@ pub use crate::proved::budget::laws as pool;
 #[cfg(feature = "std")]
 pub use crate::proved::grammar::laws as grammar;
 pub use crate::proved::lanes::laws as lanes;
+pub use crate::proved::laws::*;
 pub use crate::proved::machine::laws as machine;
 pub use crate::proved::raw::laws as raw;
 #[cfg(feature = "std")]

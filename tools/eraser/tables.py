@@ -63,6 +63,9 @@ UNTESTED = {
 
 # The module of each crate under `proved` is its name without the prefix, except these.
 MODULES = {"wasmi_core": "machine", "wasmi_simd": "widening", "wasmi_access": "accesses"}
+# The crates that have laws alone: pages of the reference.
+CRATES_OF_LAWS = {"wasmi_laws"}
+
 # The modules of the Rust crate's root that have another name than under `proved`.
 PUBLIC = {"wasmi_budget": "pool"}
 # The crates that pass on names of others for their users.

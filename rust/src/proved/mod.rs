@@ -6,6 +6,8 @@ pub mod budget;
 pub mod grammar;
 pub mod lanes;
 pub mod lanewise;
+#[cfg(doc)]
+pub mod laws;
 pub mod machine;
 pub mod meter;
 #[cfg(feature = "std")]

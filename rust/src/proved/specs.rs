@@ -233,6 +233,16 @@ pub mod machine {
     pub mod Writing {}
 }
 
+/// Definitions of `wasmi_laws`.
+pub mod laws {
+    #[doc = include_str!("specs/laws/Meters.md")]
+    pub mod Meters {}
+    #[doc = include_str!("specs/laws/Places.md")]
+    pub mod Places {}
+    #[doc = include_str!("specs/laws/Runs.md")]
+    pub mod Runs {}
+}
+
 /// Definitions of `wasmi_budget`.
 pub mod budget {
     #[doc = include_str!("specs/budget/Isolation.md")]
