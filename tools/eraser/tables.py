@@ -74,7 +74,8 @@ PASSING_ON = {"wasmi_core"}
 # Texts that rustc's LLVM compiles badly, or that older compilers lack, and what stands for them in Rust. Each has to be found.
 TEXTS = {
     "let Some(words) = words.as_array::<16>() else {": "let Ok(words) = <&[&str; 16]>::try_from(words) else {",
-    "for i in 0..N { memory[address + i] = bytes[i]; }": "memory[address..address + N].copy_from_slice(bytes);",
+    "for i in 0..N { memory[address + i] = bytes[i]; }": "memory[address..][..N].copy_from_slice(bytes);",
+    "memory[address..address + N].split_first_chunk::<N>()": "memory[address..].split_first_chunk::<N>()",
 }
 
 # Functions that return one of these are inlined always: a value that a call returns through memory is stored by words and read as a

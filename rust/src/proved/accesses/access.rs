@@ -93,7 +93,7 @@ impl<const N: usize> LoadInto for [u8; N] {
         if memory.len() < N || address > memory.len() - N {
             return Err(TrapCode::MemoryOutOfBounds);
         }
-        let Some((bytes, _)) = memory[address..address + N].split_first_chunk::<N>() else {
+        let Some((bytes, _)) = memory[address..].split_first_chunk::<N>() else {
             return Err(TrapCode::MemoryOutOfBounds);
         };
         *self = *bytes;
@@ -143,7 +143,7 @@ impl<const N: usize> StoreFrom for [u8; N] {
 /// [Some]: crate::specs::library#Some "the value x, of an \`Option\`"
 #[inline]
 fn put<const N: usize>(memory: &mut [u8], address: usize, bytes: &[u8; N]) {
-    memory[address..address + N].copy_from_slice(bytes);
+    memory[address..][..N].copy_from_slice(bytes);
 }
 
 /// A number that is stored in little-endian bytes.
