@@ -23,8 +23,8 @@ use crate::proved::machine::ResourceLimiter;
 pub fn others_stay<L: ResourceLimiter>() {}
 
 /// What was made stays at the index of its making. A memory or a table keeps its type until it is
-/// dropped, and then stays dropped, with the size that it had; an element segment keeps its type
-/// and its items until they are dropped; a global keeps its type, and a constant one its value.
+/// dropped, and then stays dropped, with its last size; an element segment keeps its type, and its
+/// items until they are dropped; a global keeps its type, and a constant one its value.
 ///
 /// A memory or a table is live until a call drops it.
 ///
@@ -40,9 +40,9 @@ pub fn others_stay<L: ResourceLimiter>() {}
 #[inline]
 pub fn indices_last<L: ResourceLimiter>() {}
 
-/// A number that was stored to a memory is what the load of as many bytes at the same address
-/// returns, cut to that many bytes, whatever calls that may not change this memory come between the
-/// two. An accepted store keeps all other bytes of the memory, and its size.
+/// A load without a sign returns the number that a store of as many bytes has written to the same
+/// address of the same memory, cut to these bytes, whatever calls come between the two that may not
+/// change this memory. An accepted store keeps all other bytes of the memory, and its size.
 ///
 /// # Contract
 ///
