@@ -1,4 +1,5 @@
 pub mod PrintingLemmas
+pub mod FrontsLemmas
 pub mod OutcomesLemmas
 pub mod ReadersLemmas
 pub mod RunningLemmas

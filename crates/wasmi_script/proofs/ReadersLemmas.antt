@@ -6,8 +6,7 @@ use Rattle.wasmi_grammar.specs.declared.error.ParseError.TheVariants.{BadCommand
 use Rattle.wasmi_grammar.specs.Refusals.{IsParseError}
 use Rattle.wasmi_script.specs.declared.error.ReplayError.{ReplayError}
 use Rattle.wasmi_script.specs.declared.error.ReplayError.TheVariants.{Parse, TooLong, ReadFault}
-use Rattle.wasmi_script.specs.declared.replaying.TheConstants.{LIMIT}
-use Rattle.wasmi_script.specs.Refusals.{IsReadError}
+use Rattle.wasmi_script.specs.Refusals.{IsReadError, script_limit}
 use Rattle.wasmi_script.specs.Outcomes.{IsOutcomeOfReader}
 
 -- bytes that are those which a reader tells, seen from the other side
@@ -30,14 +29,14 @@ pub unread : (given : Option (List ℕ)) (error : ReplayError) → IsReadError g
     → IsOutcomeOfReader given (Err error)
 unread given (Parse (BadCommand number)) is = absurd is
 unread given (Parse OutOfMemory) is = wanting given
-unread None TooLong is = let bytes = longer LIMIT in (bytes.0, tt, bytes.1)
+unread None TooLong is = let bytes = longer script_limit in (bytes.0, tt, bytes.1)
 unread (Some bytes) TooLong is = (bytes, refl, is)
 unread None ReadFault is = ([], tt, tt)
 unread (Some bytes) ReadFault is = (bytes, refl, tt)
 
 -- bytes that are read and not parsed have an outcome
 pub unparsed : (given : Option (List ℕ)) (bytes : List ℕ) (error : ParseError) → IfSome given (λ told. bytes ≡ told)
-    → length bytes ≤ LIMIT → IsParseError bytes error → IsOutcomeOfReader given (Err (Parse error))
+    → length bytes ≤ script_limit → IsParseError bytes error → IsOutcomeOfReader given (Err (Parse error))
 unparsed given bytes OutOfMemory known short is = wanting given
 unparsed None bytes (BadCommand number) known short is = (bytes, tt, (short, is))
 unparsed (Some told) bytes (BadCommand number) known short is = (bytes, sym known, (short, is))

@@ -1,6 +1,8 @@
 pub mod ListedLimiter
 pub mod Refusals
 pub mod Printing
+pub mod Fronts
+pub mod Wording
 pub mod ScriptRuns
 pub mod Status
 pub mod Texts

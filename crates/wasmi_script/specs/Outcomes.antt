@@ -13,13 +13,13 @@ use Rattle.wasmi_script.specs.declared.running.Held.TheVariants.{Nothing, Quota,
 use Rattle.wasmi_script.specs.declared.printing.Replayed.{Replayed}
 use Rattle.wasmi_script.specs.declared.error.ReplayError.{ReplayError}
 use Rattle.wasmi_script.specs.declared.error.ReplayError.TheVariants.{Parse, TooLong, ReadFault}
-use Rattle.wasmi_script.specs.declared.replaying.TheConstants.{LIMIT}
 use Rattle.wasmi_script.specs.declared.replaying.Status.{Status}
 use Rattle.wasmi_script.specs.declared.replaying.Status.TheVariants.{Fault}
 use Rattle.wasmi_grammar.specs.Lines.{WritesScript, calls_of}
 use Rattle.wasmi_grammar.specs.Refusals.{IsFirstBadLine}
 use Rattle.wasmi_grammar.specs.declared.error.ParseError.TheVariants.{BadCommand, OutOfMemory}
 use Rattle.wasmi_script.specs.Printing.{AppendsFront, line}
+use Rattle.wasmi_script.specs.Refusals.{script_limit}
 use Rattle.wasmi_script.specs.ScriptRuns.{IsReplayOf}
 use Rattle.wasmi_script.specs.Status.{status_after}
 use Rattle.wasmi_script.specs.Texts.{reply_text, error_text}
@@ -62,10 +62,10 @@ outcome_text (Err error) = line (error_text error)
 -- are too many. Memory may be refused at any script, and the reader may fail.
 abbrev pub IsOutcomeOf : List ℕ → ReplayOutcome → Type 0
 IsOutcomeOf bytes (Ok replayed) =
-    (length bytes ≤ LIMIT) × WritesScript bytes replayed.script × IsReplayOf replayed.script replayed.ran
-IsOutcomeOf bytes (Err (Parse (BadCommand number))) = (length bytes ≤ LIMIT) × IsFirstBadLine bytes number
+    (length bytes ≤ script_limit) × WritesScript bytes replayed.script × IsReplayOf replayed.script replayed.ran
+IsOutcomeOf bytes (Err (Parse (BadCommand number))) = (length bytes ≤ script_limit) × IsFirstBadLine bytes number
 IsOutcomeOf bytes (Err (Parse OutOfMemory)) = ⊤
-IsOutcomeOf bytes (Err TooLong) = LIMIT < length bytes
+IsOutcomeOf bytes (Err TooLong) = script_limit < length bytes
 IsOutcomeOf bytes (Err ReadFault) = ⊤
 
 -- the writer has got the whole text and the status is the outcome's, or it has got a front of the text and failed

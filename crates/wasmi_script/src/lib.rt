@@ -2,13 +2,17 @@
 #![tactic(auto)]
 
 mod error;
+mod front;
 pub mod laws;
+mod lines;
 mod listed_limiter;
 mod printing;
 mod replaying;
 mod running;
+mod wording;
 
 pub use error::ReplayError;
+pub use lines::write_lines;
 pub use listed_limiter::{answer_by, notice_answer_by};
 pub use printing::{ReplyHead, print_lines};
 pub use replaying::{LIMIT, Status, replay};

@@ -2,17 +2,17 @@
 ghost use Rattle.std.specs.Prelude.{◌≡◌, ◌+◌, ◌≤◌, [], length, Some, IsOk, OnOk, OnErr, IfSome};
 ghost use Rattle.std.specs.Io.KnownBytes.{Appends};
 ghost use Rattle.wasmi_script.specs.Printing.{AppendsFront, IsShort, Prints, PrintsFront, PrintsOut, Sends, SendsFront, line};
-ghost use Rattle.wasmi_script.specs.Texts.{reply_text, head_text, bytes_in, kind_text};
-ghost use Rattle.wasmi_operands.specs.TypeWords.{reference_word};
+ghost use Rattle.wasmi_script.specs.Texts.{reply_text, head_text, bytes_in};
 ghost use Rattle.wasmi_script.specs.Outcomes.{replies_text, tenants_text, held_text, outcome_text};
 
 use crate::error::ReplayError;
 use crate::running::{Held, Ran};
+use crate::wording::Wording;
 use arrayvec::ArrayString;
 use std::fmt::{Display, Write};
 use std::{fmt, io};
 use wasmi_budget::Pool;
-use wasmi_core::{Call, RefType, Reply};
+use wasmi_core::{Call, Reply};
 use wasmi_grammar::Script;
 use wasmi_meter::Amounts;
 
@@ -144,7 +144,7 @@ fn print_reply<W: io::Write>(
 }
 
 /// The bytes of a reply: none unless some were read.
-fn bytes_of(reply: &Reply) -> &[u8]
+pub fn bytes_of(reply: &Reply) -> &[u8]
     ensures { result.now ≡ bytes_in reply.now }
 {
     match reply {
@@ -196,56 +196,16 @@ impl fmt::Display for ReplyHead<'_> {
     ghost output = { λ head. Some (head_text head.call.now head.reply.now) };
 
     fn fmt<W: fmt::Write>(&self, f: &mut fmt::Formatter<W>) -> fmt::Result {
-        let text = match self.reply {
-            Reply::Done => "done",
-            Reply::Bytes(_) => "bytes",
-            Reply::Reference(None) => "none",
-            Reply::NoSuch => "no such",
-            Reply::NoRegion => "no region",
-            Reply::NoRoom => "no room",
-            Reply::Made(index) => {
-                let kind = made_word(self.call);
-                return write!(f, "{kind} {index}");
-            }
-            Reply::Value(value) => return write!(f, "raw {} {}", value.lo, value.hi),
-            Reply::Number(number) => return write!(f, "value {number}"),
-            Reply::Reference(Some(reference)) => {
-                let ty = reference_word_of(reference.ty);
-                let raw = u32::from(reference.raw);
-                return write!(f, "{ty} {raw}");
-            }
-            Reply::Memory(error) => return write!(f, "error {error}"),
-            Reply::Table(error) => return write!(f, "error {error}"),
-            Reply::Fuel(error) => return write!(f, "error {error}"),
-            Reply::Global(error) => return write!(f, "error {error}"),
-            Reply::Segment(error) => return write!(f, "error {error}"),
-            Reply::Trap(code) => return write!(f, "error {code}"),
-        };
-        f.write_str(text)
-    }
-}
-
-/// The word for what the call makes. Only creations make anything, and `Made` answers no other
-/// call.
-fn made_word(call: &Call) -> &'static str
-    ensures { result.now ≡ kind_text call.now }
-{
-    match call {
-        Call::NewMemory(_) | Call::NewLentMemory(_) => "memory",
-        Call::NewTable { .. } => "table",
-        Call::NewSegment { .. } => "segment",
-        Call::NewGlobal { .. } => "global",
-        _ => "nothing",
-    }
-}
-
-/// The word of a reference type.
-fn reference_word_of(ty: RefType) -> &'static str
-    ensures { result.now ≡ reference_word ty }
-{
-    match ty {
-        RefType::Func => "func",
-        RefType::Extern => "extern",
+        let wording = Wording::of(self.call, self.reply);
+        f.write_str(wording.start)?;
+        f.write_str(wording.words)?;
+        if let Some(first) = wording.first {
+            write!(f, "{first}")?;
+        }
+        match wording.second {
+            Some(second) => write!(f, " {second}"),
+            None => Ok(()),
+        }
     }
 }
 

@@ -2,7 +2,7 @@
 ghost use Rattle.std.specs.Prelude.{◌≡◌, ◌+◌, ◌≤◌, vec_len, IfOk, IfErr, IfSome};
 ghost use Rattle.std.specs.Io.KnownBytes.{ReadConsumes};
 ghost use Rattle.std.specs.Io.{ReadsAtMost};
-ghost use Rattle.wasmi_script.specs.Refusals.{IsReadError};
+ghost use Rattle.wasmi_script.specs.Refusals.{IsReadError, script_limit};
 ghost use Rattle.wasmi_script.specs.Status.{status_number, status_after};
 ghost use Rattle.wasmi_script.specs.Outcomes.{IsOutcomeOfReader, Replays};
 
@@ -99,7 +99,7 @@ impl<'r, R: io::Read> Turns<'r, R> {
 
     /// One turn more.
     fn turn(&mut self, buffer: &mut [u8]) -> io::Result<usize>
-        requires turns { self.old.taken ≤ LIMIT }
+        requires turns { self.old.taken ≤ script_limit }
         ensures taken { self.new.taken ≡ self.old.taken + 1 }
         ensures bound { ReadsAtMost result buffer.new }
         ensures bytes { ReadConsumes (R.remaining self.old.reader.now)
@@ -118,7 +118,7 @@ fn read<R: io::Read>(alloc: Global, reader: &mut Turns<'_, R>) -> Result<Vec<u8>
     ensures whole { IfOk result
         (λ script. IfSome (R.remaining reader.old.reader.now) (λ bytes. script.items ≡ bytes)) }
     ensures refused { IfErr result (IsReadError (R.remaining reader.old.reader.now)) }
-    ensures turns { reader.new.taken ≤ LIMIT + 1 }
+    ensures turns { reader.new.taken ≤ script_limit + 1 }
 {
     let mut script = Vec::new(alloc);
     let mut chunk = [0u8; 4096];

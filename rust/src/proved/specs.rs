@@ -313,6 +313,8 @@ pub mod grammar {
 pub mod script {
     #[doc = include_str!("specs/script/Decided.md")]
     pub mod Decided {}
+    #[doc = include_str!("specs/script/Fronts.md")]
+    pub mod Fronts {}
     #[doc = include_str!("specs/script/ListedLimiter.md")]
     pub mod ListedLimiter {}
     #[doc = include_str!("specs/script/Outcomes.md")]
@@ -327,6 +329,8 @@ pub mod script {
     pub mod Status {}
     #[doc = include_str!("specs/script/Texts.md")]
     pub mod Texts {}
+    #[doc = include_str!("specs/script/Wording.md")]
+    pub mod Wording {}
 }
 
 #[doc = include_str!("specs/library.md")]

@@ -2,10 +2,11 @@
 
 use crate::proved::budget::Pool;
 use crate::proved::grammar::Script;
-use crate::proved::machine::{Call, RefType, Reply};
+use crate::proved::machine::{Call, Reply};
 use crate::proved::meter::Amounts;
 use crate::proved::script::error::ReplayError;
 use crate::proved::script::running::{Held, Ran};
+use crate::proved::script::wording::Wording;
 use crate::rattle::arrayvec::ArrayString;
 use std::fmt::Display;
 use std::{fmt, io};
@@ -215,7 +216,7 @@ fn print_reply<W: io::Write>(
 ///
 /// [bytes_in]: crate::specs::script::Texts#bytes_in "the bytes that a reply tells"
 #[inline]
-fn bytes_of(reply: &Reply) -> &[u8] {
+pub fn bytes_of(reply: &Reply) -> &[u8] {
     match reply {
         Reply::Bytes(bytes) => bytes.as_slice(),
         _ => &[],
@@ -290,89 +291,22 @@ pub struct ReplyHead<'a> {
 impl crate::rattle::arrayvec::Show for ReplyHead<'_> {
     #[inline]
     fn show<W: crate::rattle::arrayvec::Sink>(&self, f: &mut W) -> fmt::Result {
-        let text = match self.reply {
-            Reply::Done => "done",
-            Reply::Bytes(_) => "bytes",
-            Reply::Reference(None) => "none",
-            Reply::NoSuch => "no such",
-            Reply::NoRegion => "no region",
-            Reply::NoRoom => "no room",
-            Reply::Made(index) => {
-                let kind = made_word(self.call);
-                return crate::rattle::arrayvec::Show::show(&(&kind, " ", &index), f);
-            }
-            Reply::Value(value) => {
-                return crate::rattle::arrayvec::Show::show(
-                    &("raw ", &value.lo, " ", &value.hi),
-                    f,
-                );
-            }
-            Reply::Number(number) => {
-                return crate::rattle::arrayvec::Show::show(&("value ", &number), f);
-            }
-            Reply::Reference(Some(reference)) => {
-                let ty = reference_word_of(reference.ty);
-                let raw = u32::from(reference.raw);
-                return crate::rattle::arrayvec::Show::show(&(&ty, " ", &raw), f);
-            }
-            Reply::Memory(error) => {
-                return crate::rattle::arrayvec::Show::show(&("error ", &error), f);
-            }
-            Reply::Table(error) => {
-                return crate::rattle::arrayvec::Show::show(&("error ", &error), f);
-            }
-            Reply::Fuel(error) => {
-                return crate::rattle::arrayvec::Show::show(&("error ", &error), f);
-            }
-            Reply::Global(error) => {
-                return crate::rattle::arrayvec::Show::show(&("error ", &error), f);
-            }
-            Reply::Segment(error) => {
-                return crate::rattle::arrayvec::Show::show(&("error ", &error), f);
-            }
-            Reply::Trap(code) => return crate::rattle::arrayvec::Show::show(&("error ", &code), f),
-        };
-        f.write_str(text)
+        let wording = Wording::of(self.call, self.reply);
+        f.write_str(wording.start)?;
+        f.write_str(wording.words)?;
+        if let Some(first) = wording.first {
+            crate::rattle::arrayvec::Show::show(&&first, f)?;
+        }
+        match wording.second {
+            Some(second) => crate::rattle::arrayvec::Show::show(&(" ", &second), f),
+            None => Ok(()),
+        }
     }
 }
 
 impl std::fmt::Display for ReplyHead<'_> {
     fn fmt(&self, f: &mut std::fmt::Formatter<'_>) -> std::fmt::Result {
         crate::rattle::arrayvec::Show::show(self, f)
-    }
-}
-
-/// The word for what the call makes. Only creations make anything, and `Made` answers no other
-/// call.
-///
-/// # Contract
-///
-/// <span></span><pre><code>ensures: result.now ≡ [kind_text] call.now</code></pre>
-///
-/// [kind_text]: crate::specs::script::Texts#kind_text "the word for what a call makes; only creations make anything"
-#[inline]
-fn made_word(call: &Call) -> &'static str {
-    match call {
-        Call::NewMemory(_) | Call::NewLentMemory(_) => "memory",
-        Call::NewTable { .. } => "table",
-        Call::NewSegment { .. } => "segment",
-        Call::NewGlobal { .. } => "global",
-        _ => "nothing",
-    }
-}
-
-/// The word of a reference type.
-///
-/// # Contract
-///
-/// <span></span><pre><code>ensures: result.now ≡ [reference_word] ty</code></pre>
-///
-/// [reference_word]: crate::specs::operands::TypeWords#reference_word "the word of a reference type"
-#[inline]
-fn reference_word_of(ty: RefType) -> &'static str {
-    match ty {
-        RefType::Func => "func",
-        RefType::Extern => "extern",
     }
 }
 

@@ -135,12 +135,13 @@ impl<'r, R: io::Read> Turns<'r, R> {
     ///
     /// # Contract
     ///
-    /// <span></span><pre><code>requires turns: self.old.taken ≤ LIMIT
+    /// <span></span><pre><code>requires turns: self.old.taken ≤ [script_limit]
     /// ensures taken: self.new.taken ≡ self.old.taken + 1
     /// ensures bound: [ReadsAtMost] result buffer.new
     /// ensures bytes: [ReadConsumes] ([R.remaining] self.old.reader.now)
     /// &#32;&#32;&#32;&#32;([R.remaining] self.new.reader.now) result buffer.new</code></pre>
     ///
+    /// [script_limit]: crate::specs::script::Refusals#script_limit "the most bytes that a script may have"
     /// [ReadsAtMost]: crate::specs::library#ReadsAtMost "if r is a number, there are so many bytes"
     /// [ReadConsumes]: crate::specs::library#ReadConsumes "a reader gave the bytes that r counts, and has the rest"
     /// [R.remaining]: crate::specs::library#remaining "the bytes that a reader still has"
@@ -161,7 +162,7 @@ impl<'r, R: io::Read> Turns<'r, R> {
 /// ensures whole: [IfOk] result
 /// &#32;&#32;&#32;&#32;(λ script. [IfSome] ([R.remaining] reader.old.reader.now) (λ bytes. script.items ≡ bytes))
 /// ensures refused: [IfErr] result ([IsReadError] ([R.remaining] reader.old.reader.now))
-/// ensures turns: reader.new.taken ≤ LIMIT + 1</code></pre>
+/// ensures turns: reader.new.taken ≤ [script_limit] + 1</code></pre>
 ///
 /// [IfOk]: crate::specs::library#IfOk "P of the value, if r is a value"
 /// [vec_len]: crate::specs::library#vec_len "the length of a \`Vec\`"
@@ -169,6 +170,7 @@ impl<'r, R: io::Read> Turns<'r, R> {
 /// [R.remaining]: crate::specs::library#remaining "the bytes that a reader still has"
 /// [IfErr]: crate::specs::library#IfErr "P of the error, if r is an error"
 /// [IsReadError]: crate::specs::script::Refusals#IsReadError "why the bytes that a reader has left aren\'t read"
+/// [script_limit]: crate::specs::script::Refusals#script_limit "the most bytes that a script may have"
 #[inline]
 fn read<R: io::Read>(reader: &mut Turns<'_, R>) -> Result<Vec<u8>, ReplayError> {
     let mut script = Vec::new();

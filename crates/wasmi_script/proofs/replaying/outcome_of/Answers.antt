@@ -1,8 +1,7 @@
 use Rattle.std.proofs.Common.{◌≡◌, ◌≤◌, Err, IfSome, length, arith, rules, sym, ap, subst}
 use Rattle.wasmi_grammar.specs.declared.error.ParseError.TheVariants.{OutOfMemory}
 use Rattle.wasmi_script.specs.declared.error.ReplayError.TheVariants.{Parse}
-use Rattle.wasmi_script.specs.declared.replaying.TheConstants.{LIMIT}
-use Rattle.wasmi_script.specs.Refusals.{IsReadError}
+use Rattle.wasmi_script.specs.Refusals.{IsReadError, script_limit}
 use Rattle.wasmi_script.specs.Outcomes.{IsOutcomeOfReader}
 use Rattle.wasmi_script.proofs.ReadersLemmas.{told_by, wanting, unread, unparsed}
 use Rattle.wasmi_script.proofs.replaying.outcome_of.Goals as goal
@@ -26,7 +25,7 @@ returns-in_err-script g c =
     c.in_ok-bytes.ensures.whole in
     let known : IfSome given (λ told. bytes ≡ told) =
     subst (λ bs. IfSome given (λ told. bs ≡ told)) (sym c.as_slice.ensures.value) whole in
-    let short : length bytes ≤ LIMIT =
+    let short : length bytes ≤ script_limit =
     omega (arith, c.in_ok-bytes.ensures.bounded, ap length c.as_slice.ensures.value, c.in_ok-bytes.bytes.ok.0) in
     record {
       outcome = subst (IsOutcomeOfReader given) (sym same)
@@ -48,7 +47,7 @@ returns g c =
     c.in_ok-bytes.ensures.whole in
     let known : IfSome given (λ told. bytes ≡ told) =
     subst (λ bs. IfSome given (λ told. bs ≡ told)) (sym c.as_slice.ensures.value) whole in
-    let short : length bytes ≤ LIMIT =
+    let short : length bytes ≤ script_limit =
     omega (arith, c.in_ok-bytes.ensures.bounded, ap length c.as_slice.ensures.value, c.in_ok-bytes.bytes.ok.0) in
     record {
       outcome = (bytes, told_by given bytes known, (short, c.in_ok-script.ensures.script, c.in_ok-ran.ensures));

@@ -1,7 +1,7 @@
 use Rattle.std.proofs.Common.{ℕ, ◌+◌, ◌<◌, ◌≤◌, ◌≡◌, ◌∙◌, ◌++◌, List, [], Some, None, IfSome, length, length-append, length-take-le, take, append-nil, rules, sym, ap, arith}
 use Rattle.std.specs.declared.option.Option.{Option}
 use Rattle.std.specs.Io.KnownBytes.{Consumes, IsAtEnd}
-use Rattle.wasmi_script.specs.declared.replaying.TheConstants.{LIMIT}
+use Rattle.wasmi_script.specs.Refusals.{script_limit}
 use Rattle.wasmi_script.proofs.replaying.read.Goals as goal
 
 -- a turn that gives nothing is the end
@@ -18,7 +18,7 @@ all_read (Some xs) (Some ys) (Some zs) so_far buffer n taken turn none ended =
 -- a turn that gives more than there is room for
 too_many : (a b c : Option (List ℕ)) (so_far buffer : List ℕ) (n : ℕ) → Consumes a b so_far
     → Consumes b c (take n buffer) → n ≤ length buffer
-    → LIMIT < length so_far + n → IfSome a (λ bytes. LIMIT < length bytes)
+    → script_limit < length so_far + n → IfSome a (λ bytes. script_limit < length bytes)
 too_many None b c so_far buffer n taken turn fits more = tt
 too_many (Some xs) None c so_far buffer n taken turn fits more = absurd taken
 too_many (Some xs) (Some ys) None so_far buffer n taken turn fits more = absurd turn

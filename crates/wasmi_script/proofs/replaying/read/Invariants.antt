@@ -1,13 +1,13 @@
 use Rattle.std.proofs.Common.{◌≡◌, ◌≤◌, vec_len}
 use Rattle.std.specs.Io.KnownBytes.{Consumes}
-use Rattle.wasmi_script.specs.declared.replaying.TheConstants.{LIMIT}
+use Rattle.wasmi_script.specs.Refusals.{script_limit}
 use Rattle.wasmi_script.proofs.replaying.read.Given as goal
 
 abbrev pub invariant-loop-turn : goal.invariant-loop-turn
 invariant-loop-turn g l = record {
   counted : l.reader.taken ≡ l._turn;
   turned : l._turn ≤ vec_len l.script;
-  bounded : vec_len l.script ≤ LIMIT;
+  bounded : vec_len l.script ≤ script_limit;
   taken : Consumes (g.R.Read.remaining l.initial.reader.reader.now)
       (g.R.Read.remaining l.reader.reader.now) l.script.items;
 }

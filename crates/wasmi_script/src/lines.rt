@@ -1,0 +1,53 @@
+//! The lines that a script prints for calls and their replies, in bytes that are there already.
+ghost use Rattle.std.specs.Prelude.{◌≡◌, ◌-◌, ◌^◌, length, min};
+ghost use Rattle.wasmi_script.specs.Fronts.{AddsToFront, FillsFront};
+ghost use Rattle.wasmi_script.specs.Outcomes.{replies_text};
+ghost use Rattle.wasmi_script.specs.Printing.{line};
+ghost use Rattle.wasmi_script.specs.Texts.{bytes_text, reply_text};
+
+use crate::front::{put, put_number};
+use crate::printing::bytes_of;
+use crate::wording::Wording;
+use wasmi_core::{Call, Reply};
+
+/// Writes a line for each call with its reply to the front of bytes, as much of the lines as fits.
+/// It returns the length of all the lines, or 2^64 - 1 if they are longer. It takes no memory.
+pub fn write_lines(bytes: &mut [u8], calls: &[Call], replies: &[Reply]) -> usize
+    ensures front { FillsFront (replies_text calls.now replies.now) bytes.old bytes.new }
+    ensures length { result ≡ min (length (replies_text calls.now replies.now)) (2 ^ 64 - 1) }
+{
+    put_lines(bytes, 0, calls, replies)
+}
+
+/// A line for each call with its reply, as [`put`] does a text.
+fn put_lines(bytes: &mut [u8], written: usize, calls: &[Call], replies: &[Reply]) -> usize
+    ensures { AddsToFront (replies_text calls.now replies.now) bytes.old written bytes.new result }
+{
+    let mut end = written;
+    for (call, reply) in calls.iter().zip(replies) {
+        end = put_line(bytes, end, call, reply);
+    }
+    end
+}
+
+/// A call's reply and a line feed, as [`put`] does a text.
+fn put_line(bytes: &mut [u8], written: usize, call: &Call, reply: &Reply) -> usize
+    ensures { AddsToFront (line (reply_text call.now reply.now)) bytes.old written bytes.new
+        result }
+{
+    let worded = Wording::of(call, reply).put(bytes, written);
+    let told = put_bytes(bytes, worded, bytes_of(reply));
+    put(bytes, told, b"\n")
+}
+
+/// A space and a number for each of the bytes that were told, as [`put`] does a text.
+fn put_bytes(bytes: &mut [u8], written: usize, told: &[u8]) -> usize
+    ensures { AddsToFront (bytes_text told.now) bytes.old written bytes.new result }
+{
+    let mut end = written;
+    for byte in told {
+        let spaced = put(bytes, end, b" ");
+        end = put_number(bytes, spaced, u64::from(*byte));
+    }
+    end
+}
