@@ -30,11 +30,11 @@ class Items:
                 shown.setdefault(self.t[function].start, []).append(("", self.tidy(token.text)))
         self.tell_panics()
         for owner, items in shown.items():
-            self.show_ghost(next(i for i, token in enumerate(self.t) if token.start == owner), items)
+            self.show_ghost(self.first_from(owner), items)
 
     def erase_clause(self, clause):
         """Leaves a clause out, and returns the function that has it."""
-        i = max(i for i, token in enumerate(self.t) if token.start < clause.start)
+        i = self.first_from(clause.start) - 1
         function = next(j for j in range(i, -1, -1) if self.at(j) == "fn" and self.t[j + 1].kind == "word")
         if any(self.words[o] == "{" and function < o < i for o in self.close):
             raise Unknown("a clause inside a body")
@@ -49,7 +49,7 @@ class Items:
         """A public function tests what it requires: no proof covers its callers in Rust."""
         name, body = self.at(function + 1), self.body(function)
         if self.at(body) == ";":
-            trait = next(i for i, token in enumerate(self.t) if token.start == self.owner(self.t[function].start))
+            trait = self.first_from(self.owner(self.t[function].start))
             if self.at(trait - 1) == "pub" and name not in OF_TRAITS:
                 raise Unknown(f"{name} of a trait requires {text}")
         elif self.at(function - 1) == "pub":

@@ -1,5 +1,6 @@
 """A source with its tokens and brackets, and the edits that make Rust of it."""
 
+import bisect
 import re
 
 from .tokens import PAIRS, Unknown, lex
@@ -17,6 +18,7 @@ class Source:
         self.all = lex(text)
         self.t = [token for token in self.all if token.kind not in NOT_CODE]
         self.words = [token.text for token in self.t]
+        self.starts = [token.start for token in self.t]
         self.close = self.matched_brackets()
         self.open = {close: opening for opening, close in self.close.items()}
         self.edits, self.dead = [], []
@@ -38,13 +40,18 @@ class Source:
 
     # What stands where.
 
+    def first_from(self, position):
+        """The first token that begins at a place of the text or after it."""
+        return bisect.bisect_left(self.starts, position)
+
     def at(self, i):
         """The text of a token, or an empty one past the ends."""
         return self.words[i] if 0 <= i < len(self.words) else ""
 
     def is_(self, i, *words):
         """Whether these tokens stand from `i` on."""
-        return i >= 0 and tuple(self.words[i:i + len(words)]) == words
+        is_first = 0 <= i < len(self.words) and self.words[i] == words[0]
+        return is_first and tuple(self.words[i:i + len(words)]) == words
 
     def next_of(self, i, *words):
         """The first token from `i` on that is one of these."""

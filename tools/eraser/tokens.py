@@ -1,5 +1,6 @@
 """Tokens of a source in Rattle. A clause and a ghost item are one token each."""
 
+import functools
 import re
 
 PAIRS = {"(": ")", "[": "]", "{": "}"}
@@ -80,6 +81,7 @@ def clause(text, at):
     return end_of_braces(text, head.end(), "clause")
 
 
+@functools.cache
 def lex(text):
     """The tokens of a source. They cover it whole."""
     tokens, at = [], 0
