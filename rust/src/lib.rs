@@ -65,8 +65,8 @@
 //! - a function is applied by writing its arguments after it, without parentheses: `f x y`;
 //! - `≡` is "is", `×` is "and", `→` is "if .. then", and `λ x. e` is a function.
 //!
-//! Each word leads to its definition, whose sentence shows when the pointer rests on it. Here is the
-//! contract of [`Fuel::get_fuel`]:
+//! Each word leads to its definition, whose sentence shows when the pointer rests on it; words and
+//! signs of Rattle's own library are in `specs::library`. Here is the contract of [`Fuel::get_fuel`]:
 //!
 #![doc = include_str!("proved/docs/meter/Fuel.get_fuel.clauses.md")]
 //!

@@ -8,20 +8,26 @@
 /// # Examples
 ///
 /// ```
-/// use wasmi_core_proved::{RawVal, ReadAs, V128, WriteAs};
+/// use wasmi_core_proved::{RawVal, ReadAs, WriteAs};
 ///
 /// let raw = RawVal::from(-1_i32);
 /// assert_eq!(raw.to_bits64(), 0xffff_ffff);
 /// assert_eq!(i32::from(raw), -1);
 ///
 /// let mut register = RawVal::default();
-/// register.write_as(V128::from(7_u128 << 64));
-/// let vector: V128 = register.read_as();
-/// assert_eq!(vector.as_u128(), 7 << 64);
+/// register.write_as(3_u64);
+/// let read: u8 = register.read_as();
+/// assert_eq!(read, 3);
+/// # #[cfg(feature = "simd")]
+/// # {
+/// use wasmi_core_proved::V128;
+///
 /// // An integer is written over the low word alone.
+/// register.write_as(V128::from(7_u128 << 64));
 /// register.write_as(3_u64);
 /// let vector: V128 = register.read_as();
 /// assert_eq!(vector.as_u128(), (7 << 64) + 3);
+/// # }
 /// ```
 #[repr(C)]
 #[derive(Clone, Copy, Default, PartialEq, Eq, PartialOrd, Ord)]

@@ -7,12 +7,18 @@
 /// # Examples
 ///
 /// ```
-/// use wasmi_core_proved::{V128, simd};
+/// use wasmi_core_proved::V128;
+///
+/// let vector = V128::from(0x0004_0003_0002_0001_u128);
+/// assert_eq!(vector.as_u128(), 0x0004_0003_0002_0001);
+/// # #[cfg(feature = "simd")]
+/// # {
+/// use wasmi_core_proved::simd;
 ///
 /// // Lane 0 is the lowest.
-/// let vector = V128::from(0x0004_0003_0002_0001_u128);
 /// assert_eq!(simd::i16x8_add(vector, vector).as_u128(), 0x0008_0006_0004_0002);
 /// assert_eq!(simd::v128_xor(vector, vector).as_u128(), 0);
+/// # }
 /// ```
 ///
 /// # Model
