@@ -76,7 +76,8 @@ enum {
 uint8_t wasmi_machine_new_with_answers(wasmi_machine *machine, const wasmi_limits *limits, const uint8_t *answers,
                                        size_t len);
 
-/* Ends the machine, if there is one, and gives all of its memory back. The handle may be used for a new one. */
+/* Ends the machine, if there is one, and gives all of its memory back, which is tested and not proved. The handle may be
+   used for a new one. */
 void wasmi_machine_drop(wasmi_machine *machine);
 
 /* The kinds of calls. Behind each stands what it reads of a wasmi_call, then what its reply has, and then its refusals
@@ -175,7 +176,7 @@ enum {
     WASMI_HAS_MACHINE = 22, /* the handle has one */
     WASMI_BAD_LINE = 23,    /* of wasmi_machine_run_lines, as the next two: nothing was run */
     WASMI_HEADER_LINE = 24, /* nothing was run */
-    WASMI_TEXT_CUT = 25,    /* the lines were run; out of memory for the text */
+    WASMI_TEXT_CUT = 25,    /* the lines were run; their text has 2^64 - 1 bytes or more */
     WASMI_NO_ANSWER = 26,   /* of wasmi_machine_new_with_answers: a byte is no number of an answer */
     WASMI_MEMORY_OUT_OF_MEMORY = 32,
     WASMI_MEMORY_GROWTH = 33,        /* beyond the type, or denied, as beyond the caps */
@@ -260,8 +261,8 @@ wasmi_totals wasmi_machine_totals(wasmi_machine *machine);
    front of text, as much as text_len has room for -> number: the length of the whole text. First NO_MACHINE. Then, with
    nothing run and text unchanged: BAD_LINE (number: the first line that is no command, from 1; an `as` line is one),
    HEADER_LINE if there are header lines, since the machine has its meter and its limiter already, or NO_ROOM if memory
-   is refused for the calls, for their replies or for text_len bytes. After the run TEXT_CUT, if memory is refused for a
-   text longer than text_len (number: the length of its beginning, for which there was memory). */
+   is refused for the calls or for their replies. The text takes no memory. After the run TEXT_CUT, if the text has
+   2^64 - 1 bytes or more (number: 2^64 - 1). */
 wasmi_reply wasmi_machine_run_lines(wasmi_machine *machine, const uint8_t *lines, size_t lines_len, uint8_t *text,
                                     size_t text_len);
 

@@ -1,9 +1,11 @@
 /* Runs random scripts twice: whole by wasmi_script_run, and in parts by wasmi_machine_run_lines on a machine that lives
    from part to part; both have to print the same. A second machine gets each part with less room than its text needs.
-   Each array ends where a page begins which can't be touched. usage: lines SCRIPTS [SEED]. The last line is
-   `N scripts, M differ`; the exit status is 0 if M is 0. */
+   Each array ends where a page begins which can't be touched, and a block that is left after the machines of a script
+   have ended is a difference. usage: lines SCRIPTS [SEED]. The last line is `N scripts, M differ`; the exit status is 0
+   if M is 0. Link it with --wrap for malloc, realloc and free. */
 #define _DEFAULT_SOURCE
 #include "argument.h"
+#include "blocks.h"
 #include "wasmi_machine.h"
 #include <string.h>
 #include <sys/mman.h>
@@ -29,12 +31,6 @@ static uint64_t below(uint64_t most) {
     z = (z ^ (z >> 30)) * UINT64_C(0xbf58476d1ce4e5b9);
     z = (z ^ (z >> 27)) * UINT64_C(0x94d049bb133111eb);
     return (z ^ (z >> 31)) % most;
-}
-
-/* The sanitizer gives no memory where there is none, in place of ending the program. */
-const char *__asan_default_options(void);
-const char *__asan_default_options(void) {
-    return "allocator_may_return_null=1";
 }
 
 static uint64_t number(void) {
@@ -214,6 +210,10 @@ static void one_script(uint64_t seed) {
     uint8_t ended = wasmi_script_run((uint8_t *)script, (size_t)(at - script), (uint8_t *)whole, TEXT, &needed);
     if (ended != 0 || needed != len || memcmp(whole, printed, len) != 0) {
         differs("a whole script", script);
+    }
+    if (blocks != 0) {
+        differs("memory wasn't given back", script);
+        blocks = 0;
     }
 }
 

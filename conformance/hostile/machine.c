@@ -1,8 +1,10 @@
 /* Calls the machines of include/wasmi_machine.h as a hostile host would, and compares each random sequence of calls
    with the same calls as a script (docs/SCRIPT.md). usage: machine CALLS [SEED]. It prints a line for each part, and
-   last `N calls, M differ`; the exit status is 0 if M is 0. Link it with --wrap for malloc, realloc and free. */
+   last `N calls, M differ`; the exit status is 0 if M is 0. A block that is left after the last drop of a part is a
+   difference. Link it with --wrap for malloc, realloc and free. */
 #define _DEFAULT_SOURCE
 #include "argument.h"
+#include "blocks.h"
 #include "wasmi_machine.h"
 #include <pthread.h>
 #include <stdarg.h>
@@ -14,41 +16,6 @@ enum { PAGE = 65536, TEXT = 1 << 16, SEQUENCE = 60, THREADS = 4, KINDS = 29, REG
 enum { MOST_ANSWERS = 24, FRONT = 1024 };
 
 static _Thread_local long calls, differing;
-
-/* Requests for memory: one of them can be refused, by its number, and each of more than 4 MiB is. */
-
-enum { MOST_BYTES = 1 << 22 };
-
-extern void *__real_malloc(size_t size);
-extern void *__real_realloc(void *old, size_t size);
-extern void __real_free(void *old);
-void *__wrap_malloc(size_t size);
-void *__wrap_realloc(void *old, size_t size);
-void __wrap_free(void *old);
-
-static _Thread_local long requests, refused, blocks;
-
-static int is_refused(size_t size) {
-    requests++;
-    return requests == refused || size > MOST_BYTES;
-}
-
-void *__wrap_malloc(size_t size) {
-    void *block = is_refused(size) ? NULL : __real_malloc(size);
-    blocks += block != NULL;
-    return block;
-}
-
-void *__wrap_realloc(void *old, size_t size) {
-    void *block = is_refused(size) ? NULL : __real_realloc(old, size);
-    blocks += block != NULL && old == NULL;
-    return block;
-}
-
-void __wrap_free(void *old) {
-    blocks -= old != NULL;
-    __real_free(old);
-}
 
 /* A copy that ends where a page begins which can't be touched; there is one copy of each use at a time. */
 
@@ -89,6 +56,14 @@ static void differs(const char *what, const char *more) {
     differing++;
     if (differing < 5) {
         printf("%s\n%s\n", what, more);
+    }
+}
+
+/* After the machines of a part have ended, their memory has been given back. */
+static void nothing_left(const char *part) {
+    if (blocks != 0) {
+        differs(part, "memory wasn't given back");
+        blocks = 0;
     }
 }
 
@@ -876,7 +851,7 @@ static int run_refused(long request, wasmi_reply replies[STEPS], size_t answers)
 
 static void refuse(size_t answers) {
     wasmi_reply plain[STEPS], replies[STEPS];
-    long blocks_before = blocks, request = 1;
+    long request = 1;
     run_refused(0, plain, answers);
     while (run_refused(request, replies, answers)) {
         for (int step = 0; step < STEPS; step++) {
@@ -886,9 +861,7 @@ static void refuse(size_t answers) {
         }
         request++;
     }
-    if (blocks != blocks_before) {
-        differs("refused", "memory wasn't given back");
-    }
+    nothing_left("refused");
     printf("refused: %ld requests, each in turn\n", request - 1);
 }
 
@@ -897,12 +870,17 @@ int main(int count, char **words) {
     uint64_t seed = argument(count, words, 2, 1);
     state = seed;
     without_machine();
+    nothing_left("a handle of zeros");
     forge(wanted / 10);
+    nothing_left("forged");
     long before = calls, sequences = wanted / 100 + 1;
     run_sequences(seed, sequences);
+    nothing_left("random");
     printf("random: %ld calls beside %ld scripts\n", calls - before, sequences);
     run_threads(seed, sequences / 40 + 1);
+    nothing_left("threads");
     pass_on();
+    nothing_left("a handle that goes from thread to thread");
     printf("threads: %d with a handle each, and a handle that goes from one to another\n", THREADS);
     refuse(0);
     refuse(STEPS);

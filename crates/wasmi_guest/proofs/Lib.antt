@@ -3,5 +3,6 @@ mod DirectLemmas
 mod GuestBoxLemmas
 mod GuestsLemmas
 mod LanesLemmas
+mod LawsLemmas
 mod LinesLemmas
 mod SegmentLemmas

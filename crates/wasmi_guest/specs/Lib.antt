@@ -5,6 +5,7 @@ pub mod DirectCalls
 pub mod GuestBox
 pub mod GuestLending
 pub mod Guests
+pub mod Laws
 pub mod Lines
 pub mod Ops
 pub mod Plain

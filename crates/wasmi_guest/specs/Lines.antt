@@ -1,5 +1,5 @@
 -- Lines of calls on a machine, and the text that is made of their replies.
-use Rattle.std.specs.Prelude.{◌≡◌, ◌≢◌, ◌⊎◌, ℕ, List, ◌++◌, None, length, take, drop}
+use Rattle.std.specs.Prelude.{◌≡◌, ◌≢◌, ◌⊎◌, ◌-◌, ◌^◌, ℕ, List, None, length, nat_lt, if◌then◌else◌}
 use Rattle.wasmi_core.specs.Runs.{IsRunOf}
 use Rattle.wasmi_core.specs.declared.calls.Call.{Call}
 use Rattle.wasmi_core.specs.declared.calls.Reply.{Reply}
@@ -7,6 +7,7 @@ use Rattle.wasmi_grammar.specs.declared.header.Header.{Header}
 use Rattle.wasmi_grammar.specs.Lines.{WritesScript, calls_of}
 use Rattle.wasmi_grammar.specs.Refusals.{IsFirstBadLine}
 use Rattle.wasmi_grammar.specs.declared.script.Script.{Script}
+use Rattle.wasmi_script.specs.Fronts.{FillsFront}
 use Rattle.wasmi_script.specs.Outcomes.{replies_text}
 use Rattle.wasmi_guest.specs.Caps.{GuestValue}
 use Rattle.wasmi_guest.specs.Guests.{RelatesUnder}
@@ -21,19 +22,20 @@ bad_line_status = 23
 abbrev pub header_line_status : ℕ
 header_line_status = 24
 
--- the lines were run, and memory for the whole text of their replies was refused
+-- the lines were run, and their text has 2 ^ 64 - 1 bytes or more
 abbrev pub text_cut_status : ℕ
 text_cut_status = 25
 
--- as much of a text as fits stands at the front of bytes, and those after it stay
-abbrev pub FillsFront : List ℕ → List ℕ → List ℕ → Type 0
-FillsFront text old new = new ≡ take (length old) text ++ drop (length text) old
+-- the reply that has the length of a text, or says that the text has 2 ^ 64 - 1 bytes or more
+abbrev pub length_reply : ℕ → PlainReply
+length_reply count = if nat_lt count (2 ^ 64 - 1)
+    then with_number done_status count
+    else with_number text_cut_status (2 ^ 64 - 1)
 
--- bytes are filled with a text, and the reply has its length; or so with the beginning that there is memory for
-abbrev pub WritesOut : List ℕ → List ℕ → PlainReply → List ℕ → Type 0
-WritesOut text old reply new = (FillsFront text old new × (reply ≡ with_number done_status (length text)))
-    ⊎ ((front : List ℕ) × (rest : List ℕ) × (text ≡ front ++ rest) × FillsFront front old new
-    × (reply ≡ with_number text_cut_status (length front)))
+-- as much of a text as fits stands at the front of bytes, those after it stay, and the reply has the text's length
+pub record WritesOut (text old : List ℕ) (reply : PlainReply) (new : List ℕ) : Type 0 where
+  pub front : FillsFront text old new
+  pub length_told : reply ≡ length_reply (length text)
 
 -- a guest replies to calls: a run of its machine under its limiter
 abbrev pub GuestRuns : List Call → GuestValue → List Reply → GuestValue → Type 0
@@ -53,7 +55,7 @@ pub record RunsScript (script : Script) (guest : GuestValue) (old : List ℕ) (r
   pub text : WritesOut (replies_text (calls_of script) replies) old reply new
 
 -- Lines that aren't run have a first bad line, or are a script with header lines, or memory is refused for their calls
--- or replies, or for as many bytes as the caller has.
+-- or replies.
 abbrev pub RefusesLines : List ℕ → PlainReply → Type 0
 RefusesLines lines reply = ((number : ℕ) × IsFirstBadLine lines number × (reply ≡ with_number bad_line_status number))
     ⊎ ((script : Script) × WritesScript lines script × (script.header ≢ no_header) × (reply ≡ only header_line_status))

@@ -71,11 +71,3 @@ impl Handle {
         guest.end();
     }
 }
-
-/// Does nothing: that it is proved says that a handle may go to another thread.
-pub fn handles_may_move() {
-    may_move::<Handle>();
-}
-
-/// Does nothing: it can be called at a type that may go to another thread, and at no other.
-fn may_move<T: Send>() {}

@@ -6,6 +6,7 @@
 mod answer_numbers;
 mod answer_queue;
 mod box_fields;
+mod callers;
 mod calls;
 mod decode;
 mod direct;
@@ -16,6 +17,7 @@ mod guest_limiter;
 mod handle;
 mod instructions;
 mod kind;
+pub mod laws;
 mod lines;
 mod plain;
 mod replies;
@@ -25,5 +27,6 @@ mod stepping;
 mod types;
 
 pub use guest::Guest;
-pub use handle::{Handle, handles_may_move};
+pub use handle::Handle;
+pub use laws::handles_may_move;
 pub use plain::{Limits, PlainCall, PlainReply, Totals, Words};

@@ -1,5 +1,5 @@
 //! Lines of a script on a machine that lives on.
-ghost use Rattle.std.specs.Prelude.{◌≡◌, ◌↔◌, IsTrue, ℕ, List, [], None, Some, IfOk, IfSome, OnErr};
+ghost use Rattle.std.specs.Prelude.{◌≡◌, ◌↔◌, IsTrue, ℕ, List, None, Some, IfOk, IfSome, OnErr};
 ghost use Rattle.wasmi_meter.specs.Limiter.{optional_rules};
 ghost use Rattle.wasmi_meter.specs.Quota.{quota_rules};
 ghost use Rattle.wasmi_core.specs.Runs.{IsRunOf};
@@ -7,7 +7,7 @@ ghost use Rattle.wasmi_core.specs.World.{world};
 ghost use Rattle.wasmi_guest.specs.AnswerQueue.{queue_rules};
 ghost use Rattle.wasmi_guest.specs.Caps.{IsKept, StaysWithinCaps, caps_of, quota_of};
 ghost use Rattle.wasmi_guest.specs.Guests.{InPlace, guest_of};
-ghost use Rattle.wasmi_guest.specs.Lines.{FillsFront, GuestRuns, RunsLines, WritesOut, no_header};
+ghost use Rattle.wasmi_guest.specs.Lines.{GuestRuns, RunsLines, WritesOut, no_header};
 ghost use Rattle.wasmi_guest.specs.Replies.{only, no_machine_status};
 ghost use Rattle.wasmi_guest.specs.declared.plain.PlainReply.{PlainReply};
 ghost use Rattle.wasmi_grammar.specs.Lines.{WritesScript};
@@ -23,18 +23,18 @@ use std::alloc::{AllocError, Global};
 use wasmi_core::{Call, Machine, Reply, laws, run, run_lending, run_reserving};
 use wasmi_grammar::{Header, ParseError, Script, parse};
 use wasmi_meter::{Quota, ResourceLimiterRef};
-use wasmi_script::print_lines;
+use wasmi_script::write_lines;
 
-/// Runs lines of calls, one after the other, and writes what a script prints for them to `text`,
-/// as much of it as `text` holds. The number of the reply is the length of the whole text.
+/// Runs lines of calls, one after the other, and writes what a script prints for them to the front
+/// of `text`, as much of it as fits. The number of the reply is the length of the whole text.
 ///
 /// The status is `NO_MACHINE` if the handle has no machine; then, with nothing run and `text`
 /// unchanged, `BAD_LINE` with the number of the first line that is no command of a script,
 /// `HEADER_LINE` if the lines are a script with header lines, or `NO_ROOM` if memory is refused for
-/// the calls, for their replies or for as many bytes as `text` has.
+/// the calls or for their replies.
 ///
-/// Then the lines are run. The status is `TEXT_CUT` if memory is refused for a text that is longer
-/// than `text`: then the number is the length of the beginning that there is memory for.
+/// Then the lines are run. Their text takes no memory. The status is `TEXT_CUT` if it has 2^64 - 1
+/// bytes or more, and this is the number then.
 #[unsafe(no_mangle)]
 pub extern "C" fn wasmi_machine_run_lines(
     alloc: Global,
@@ -63,14 +63,14 @@ impl Guest {
         ensures caps { caps_of self.new.limiter ≡ caps_of self.old.limiter }
     {
         match parse(alloc, lines) {
-            Ok(script) => self.run_script(alloc, &script, text),
+            Ok(script) => self.run_script(&script, text),
             Err(ParseError::BadCommand { line }) => PlainReply::with_number(BAD_LINE, line as u64),
             Err(ParseError::OutOfMemory) => PlainReply::only(NO_ROOM),
         }
     }
 
     /// Runs a script without header lines, whatever lines write it.
-    fn run_script(&mut self, alloc: Global, script: &Script, text: &mut [u8]) -> PlainReply
+    fn run_script(&mut self, script: &Script, text: &mut [u8]) -> PlainReply
         ensures lines { (lines : List ℕ) → WritesScript lines script.now
             → RunsLines lines self.old text.old result text.new self.new }
         ensures caps { caps_of self.new.limiter ≡ caps_of self.old.limiter }
@@ -78,14 +78,11 @@ impl Guest {
         if !is_empty(&script.header) {
             return PlainReply::only(HEADER_LINE);
         }
-        let Ok(printed) = Vec::with_capacity(alloc, text.len()) else {
-            return PlainReply::only(NO_ROOM);
-        };
         let calls = script.parts.calls();
         let Ok(replies) = self.run(calls) else {
             return PlainReply::only(NO_ROOM);
         };
-        write_out(calls, &replies, printed, text)
+        write_out(calls, &replies, text)
     }
 
     /// Runs calls. If memory for the replies is refused, nothing has happened.
@@ -168,25 +165,13 @@ fn run_freely(machine: &mut Machine, calls: &[Call]) -> Result<Vec<Reply>, Alloc
     run(machine, calls, &mut limiter)
 }
 
-/// Writes the replies to calls to the front of the bytes, as much of their text as fits. The text
-/// is made in a buffer without bytes.
-fn write_out(calls: &[Call], replies: &[Reply], mut buffer: Vec<u8>, bytes: &mut [u8]) -> PlainReply
-    requires empty { buffer.items ≡ [] }
+/// Writes the replies to calls to the front of the bytes, as much of their text as fits.
+fn write_out(calls: &[Call], replies: &[Reply], bytes: &mut [u8]) -> PlainReply
     ensures text { WritesOut (replies_text calls.now replies.now) bytes.old result bytes.new }
 {
-    let printed = print_lines(&mut buffer, calls, replies);
-    fill_front(bytes, buffer.as_slice());
-    let length = buffer.len() as u64;
-    match printed {
-        Ok(()) => PlainReply::with_number(DONE, length),
-        Err(_) => PlainReply::with_number(TEXT_CUT, length),
+    let length = write_lines(bytes, calls, replies);
+    if length == usize::MAX {
+        return PlainReply::with_number(TEXT_CUT, u64::MAX);
     }
-}
-
-/// Copies as much of a text as fits to the front of the bytes.
-fn fill_front(bytes: &mut [u8], text: &[u8])
-    ensures { FillsFront text.now bytes.old bytes.new }
-{
-    let count = text.len().min(bytes.len());
-    bytes[..count].copy_from_slice(&text[..count]);
+    PlainReply::with_number(DONE, length as u64)
 }

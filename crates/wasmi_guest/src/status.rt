@@ -21,7 +21,7 @@ pub const HAS_MACHINE: u8 = 22;
 pub const BAD_LINE: u8 = 23;
 /// There is a header line, which only a whole script has.
 pub const HEADER_LINE: u8 = 24;
-/// The lines were run, and memory for the whole text was refused: there is its beginning.
+/// The lines were run, and their text has 2^64 - 1 bytes or more.
 pub const TEXT_CUT: u8 = 25;
 /// A number stands for no answer of a limiter.
 pub const NO_ANSWER: u8 = 26;

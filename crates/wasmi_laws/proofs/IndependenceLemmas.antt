@@ -60,7 +60,7 @@ abbrev edited : Edit → State → State
 edited Keep s = s
 edited (Put location x) s = put_at location x s
 
--- an edit puts nothing but at this index
+-- an edit puts something at this index at most
 abbrev IsEditAt : Option Location → Edit → Type 0
 IsEditAt changed Keep = Unit {0}
 IsEditAt changed (Put location x) = changed ≡ Some location

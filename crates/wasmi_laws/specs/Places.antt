@@ -49,8 +49,8 @@ content_at (SegmentAt k) s = slice_get s.segments k
 content_at (GlobalAt k) s = slice_get s.globals k
 content_at (RegisterAt k) s = slice_get s.registers k
 
--- the one index at which a call may change what is there: none of a call that makes something, and none of one that
--- only reads
+-- the one index at which a call may change what is there; a call that makes something, or that only reads, changes what
+-- is at none
 abbrev pub changed_location : Call → Option Location
 changed_location (call.GrowMemory k pages) = Some (MemoryAt k)
 changed_location (call.DropMemory k) = Some (MemoryAt k)
@@ -216,7 +216,7 @@ abbrev pub load_call : NumberStore → Call
 load_call it = call.Load (load_of it.op) it.memory it.ptr it.offset
 
 module _ {S : Type 0} (rules : Rules S) where
-  -- a turn leaves what is at each index but the one that its call may change
+  -- a turn leaves what is at each index except the one that its call may change
   abbrev pub OthersStay : Type 0
   OthersStay =
       (w : World S) (turn : Turn) (w' : World S) → Step rules w turn w' → (location : Location)

@@ -4,8 +4,8 @@ ghost use Rattle.wasmi_laws.specs.Places.{IndependentTurnsSwap, OthersStay, Othe
 
 use wasmi_core::ResourceLimiter;
 
-/// A call changes what is at no index but one, that of the memory, table, element segment, global
-/// or register that it names for that (`changed_location`): all other memories, tables, element
+/// A call changes what is at one index at most: that of the memory, table, element segment, global
+/// or register that it names for that (`changed_location`). All other memories, tables, element
 /// segments, globals and registers are as they were. A call that makes something, and one that only
 /// reads, changes none.
 ///

@@ -2,8 +2,8 @@
 
 use crate::proved::machine::ResourceLimiter;
 
-/// A call changes what is at no index but one, that of the memory, table, element segment, global
-/// or register that it names for that (`changed_location`): all other memories, tables, element
+/// A call changes what is at one index at most: that of the memory, table, element segment, global
+/// or register that it names for that (`changed_location`). All other memories, tables, element
 /// segments, globals and registers are as they were. A call that makes something, and one that only
 /// reads, changes none.
 ///
@@ -15,7 +15,7 @@ use crate::proved::machine::ResourceLimiter;
 /// <span></span><pre><code>ensures turn: [OthersStay] ([optional_rules] [L.rules])
 /// ensures run: [OthersStayInRuns] ([optional_rules] [L.rules])</code></pre>
 ///
-/// [OthersStay]: crate::specs::laws::Places#OthersStay "a turn leaves what is at each index but the one that its call may change"
+/// [OthersStay]: crate::specs::laws::Places#OthersStay "a turn leaves what is at each index except the one that its call may change"
 /// [optional_rules]: crate::specs::meter::Limiter#optional_rules "the rules of a limiter that may be absent"
 /// [L.rules]: trait@ResourceLimiter#contract
 /// [OthersStayInRuns]: crate::specs::laws::Places#OthersStayInRuns "a run leaves what is at each index that none of its calls may change"

@@ -1,0 +1,45 @@
+/* Requests for memory, for programs that are linked with --wrap for malloc, realloc and free: the blocks that weren't
+   given back are counted, one request can be refused by its number, and each of more than 4 MiB is refused. */
+#ifndef BLOCKS_H
+#define BLOCKS_H
+
+#include <stdatomic.h>
+#include <stddef.h>
+
+enum { MOST_BYTES = 1 << 22 };
+
+extern void *__real_malloc(size_t size);
+extern void *__real_realloc(void *old, size_t size);
+extern void __real_free(void *old);
+void *__wrap_malloc(size_t size);
+void *__wrap_realloc(void *old, size_t size);
+void __wrap_free(void *old);
+
+/* The blocks that any thread asked for and none has given back. */
+static atomic_long blocks;
+/* The requests of this thread, and the number of the one that is refused, if any is. */
+static _Thread_local long requests, refused;
+
+static int is_refused(size_t size) {
+    requests++;
+    return requests == refused || size > MOST_BYTES;
+}
+
+void *__wrap_malloc(size_t size) {
+    void *block = is_refused(size) ? NULL : __real_malloc(size);
+    blocks += block != NULL;
+    return block;
+}
+
+void *__wrap_realloc(void *old, size_t size) {
+    void *block = is_refused(size) ? NULL : __real_realloc(old, size);
+    blocks += block != NULL && old == NULL;
+    return block;
+}
+
+void __wrap_free(void *old) {
+    blocks -= old != NULL;
+    __real_free(old);
+}
+
+#endif
