@@ -4,6 +4,10 @@ use std::env::var;
 use std::fmt::Write;
 use std::{fs, path};
 
+/// The kinds of the rows that are instructions; others are statuses, kinds of calls, types, answers and functions.
+const INSTRUCTIONS: [&str; 9] =
+    ["unary", "binary", "ternary", "extract_lane", "replace_lane", "load", "store", "load_lane", "store_lane"];
+
 fn main() {
     println!("cargo:rustc-env=CRATE_VERSION=2.0.0");
     let numbers = "../../include/numbers.tsv";
@@ -36,7 +40,7 @@ fn by_name(rows: &str) -> String {
         let is_scalar = ["i32_", "i64_", "load_", "store"].iter().any(|front| name.starts_with(front));
         let function = format!("{}::{name}", if is_scalar { "wasm" } else { "simd" });
         let call = match kind {
-            "status" => continue,
+            _ if !INSTRUCTIONS.contains(&kind) => continue,
             "binary" if name.ends_with("128") => format!("shapes::binary_128({function}, operands)"),
             "load" | "store" | "load_lane" | "store_lane" => {
                 format!("shapes::{kind}({function}, {function}_at, operands)")

@@ -2,6 +2,10 @@
 use std::path::Path;
 use std::{env, fs};
 
+/// The kinds of the rows that are instructions; others are statuses, kinds of calls, types, answers and functions.
+const INSTRUCTIONS: [&str; 9] =
+    ["unary", "binary", "ternary", "extract_lane", "replace_lane", "load", "store", "load_lane", "store_lane"];
+
 /// Names of instructions that the Rust crate has no function for.
 const LACKING: [&str; 0] = [];
 
@@ -13,7 +17,7 @@ fn main() {
     for line in fs::read_to_string(numbers).unwrap().lines() {
         let cells: Vec<&str> = line.split('\t').collect();
         let [kind, _, name] = cells[..] else { continue };
-        if ["status", "machine_status", "memory_status", "call", "type", "answer", "function"].contains(&kind) || LACKING.contains(&name) {
+        if !INSTRUCTIONS.contains(&kind) || LACKING.contains(&name) {
             continue;
         }
         let kind = if name.ends_with("128") { "wide" } else { kind };
