@@ -1,5 +1,6 @@
 //! Writes what calls each instruction by its name, from include/numbers.tsv. With the feature `library` it links the static libraries of C,
 //! which are in crates/*/out, or else in the folder that WASMI_ARCHIVES names, and the C part of the kit, of which RATTLE_C names the folder.
+//! It links anew if the variable WASMI_LIBRARY has another text.
 use std::env::var;
 use std::fmt::Write;
 use std::{fs, path};
@@ -24,7 +25,7 @@ fn main() {
     for folder in given.iter().chain([&kit]) {
         println!("cargo:rustc-link-search=native={}", fs::canonicalize(folder).expect("a folder").display());
     }
-    for name in ["WASMI_ARCHIVES", "RATTLE_C"] {
+    for name in ["WASMI_ARCHIVES", "WASMI_LIBRARY", "RATTLE_C"] {
         println!("cargo:rerun-if-env-changed={name}");
     }
     for library in ["wasmi_guest", "wasmi_embed", "wasmi_ffi", "libc_c"] {
