@@ -1,4 +1,4 @@
-use Rattle.std.proofs.Common.{◌≡◌, ◌∙◌, ◌+◌, ◌-◌, ◌<◌, ◌^◌, ap, arith, length, rules, subst, sym, take}
+use Rattle.std.proofs.Common.{◌≡◌, ◌+◌, ◌-◌, ◌<◌, ◌^◌, arith, length, rules, subst, sym, take}
 use Rattle.wasmi_script.specs.Fronts.{AddsToFront}
 use Rattle.wasmi_script.proofs.FrontsLemmas.{added}
 use borrow.Rule.Slice.PartMut.{put_mid}

@@ -1,5 +1,4 @@
 use Rattle.std.proofs.Common.{Bor, ℕ, List, ap, flat_map, subst, sym, ◌∙◌}
-use Rattle.std.specs.List.{zip}
 use Rattle.std.proofs.lemmas.Iterator.{YieldsList-from_slice, YieldsList-from_zip}
 use Rattle.std.proofs.lemmas.Iterator.Consumers.{YieldsList-end}
 use Rattle.std.proofs.lemmas.List.Folds.{flat_map-map}
