@@ -1,5 +1,5 @@
 -- Calls and runs of a guest, one after the other.
-use Rattle.std.proofs.Common.{◌≡◌, ◌++◌, ◌∷◌, [], List, Option, None, Some, refl, subst}
+use Rattle.std.proofs.Common.{◌≡◌, ◌++◌, ◌∷◌, [], List, Option, Some, refl, subst}
 use Rattle.std.specs.Prelude.{MatchOption}
 use Rattle.wasmi_meter.specs.Limiter.{Rules, optional_rules}
 use Rattle.wasmi_meter.specs.Quota.{quota_rules}
@@ -7,14 +7,13 @@ use Rattle.wasmi_core.specs.Laws.{RunsOfCallsJoin}
 use Rattle.wasmi_core.specs.Runs.{IsRunOf}
 use Rattle.wasmi_core.specs.State.{State}
 use Rattle.wasmi_core.specs.Steps.{Answers}
-use Rattle.wasmi_core.specs.World.{World, world}
+use Rattle.wasmi_core.specs.World.{World}
 use Rattle.wasmi_core.specs.declared.calls.Call.{Call}
 use Rattle.wasmi_core.specs.declared.calls.Reply.{Reply}
 use Rattle.wasmi_guest.specs.AnswerQueue.{queue_rules}
 use Rattle.wasmi_guest.specs.Caps.{GuestValue}
-use Rattle.wasmi_guest.specs.Guests.{GuestReplies, InPlace, RelatesUnder, RepliesInNumbers, RepliesPlainly}
+use Rattle.wasmi_guest.specs.Guests.{InPlace, RelatesUnder, RepliesInNumbers, RepliesPlainly}
 use Rattle.wasmi_guest.specs.Laws.{CallsAreRuns, GuestRunsJoin, RunsBoth}
-use Rattle.wasmi_guest.specs.Lines.{GuestRuns}
 use Rattle.wasmi_guest.specs.PlainCalls.{call_of}
 use Rattle.wasmi_guest.specs.Replies.{no_call_status, no_machine_status, only}
 use Rattle.wasmi_guest.specs.declared.guest_limiter.GuestLimiter.{GuestLimiter}
