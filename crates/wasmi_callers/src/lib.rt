@@ -8,6 +8,7 @@ pub mod meters;
 pub mod places;
 pub mod pools;
 pub mod recorder;
+pub mod regions;
 pub mod runs;
 pub mod types;
 pub mod values;

@@ -1,3 +1,4 @@
+mod AloneLemmas
 pub mod RunsLemmas
 pub mod RefusalLemmas
 pub mod MeterLemmas

@@ -1,3 +1,4 @@
+pub mod Alone
 pub mod Runs
 pub mod Meters
 pub mod Places

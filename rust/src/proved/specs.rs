@@ -235,6 +235,8 @@ pub mod machine {
 
 /// Definitions of `wasmi_laws`.
 pub mod laws {
+    #[doc = include_str!("specs/laws/Alone.md")]
+    pub mod Alone {}
     #[doc = include_str!("specs/laws/Meters.md")]
     pub mod Meters {}
     #[doc = include_str!("specs/laws/Places.md")]
