@@ -6,7 +6,8 @@
 //! of calls. What holds of all runs is proved of all lists of calls, whoever wrote them: [`laws`](crate::laws) has the laws.
 //!
 //! Names are those of the Rattle library. What the root has too is the same type, except [`Memory`], [`Table`],
-//! [`ElementSegment`], [`ResourceLimiter`], [`ResourceLimiterRef`], [`ReadAs`] and [`WriteAs`], which are generic here.
+//! [`ElementSegment`], [`ResourceLimiter`], [`ResourceLimiterRef`], [`ReadAs`] and [`WriteAs`], which are generic here, and
+//! the indices of lanes, such as [`ImmLaneIdx32`], whose number of lanes is a `usize` here.
 //!
 //! # Examples
 //!
@@ -47,6 +48,9 @@ pub use crate::{
     TrapCode, Typed, TypedRawRef, TypedRawVal, V128, ValType, hint,
 };
 
+pub use crate::proved::lanes::{
+    ImmLaneIdx, ImmLaneIdx2, ImmLaneIdx4, ImmLaneIdx8, ImmLaneIdx16, ImmLaneIdx32,
+};
 pub use crate::proved::machine::{ByteList, Call, Machine, Reply, run, run_lending, run_reserving};
 pub use crate::proved::meter::{
     Amounts, Holdings, Kind, Lender, LimiterByKind, LimiterRef, NoLimits, Quota, Reserving,
