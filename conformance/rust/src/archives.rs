@@ -139,6 +139,7 @@ pub struct Answers {
     pub notice_answer: u8,
     pub asked: u8,
     pub told: u8,
+    pub desired: usize,
 }
 
 #[derive(Debug, Clone, Copy, Default, PartialEq, Eq)]

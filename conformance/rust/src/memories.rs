@@ -106,7 +106,8 @@ impl Thrice {
     fn settle(&mut self, pages: u64, answers: [u8; 2]) -> [(Status, u8, u8); 2] {
         let current = self.plain.size;
         let [answer, notice_answer] = answers;
-        let mut settled = Answers { current, answer, notice_answer, asked: 0, told: 0 };
+        let desired = region::memory::question(self.ty, self.size, pages).map_or(0, |(desired, _)| desired);
+        let mut settled = Answers { current, answer, notice_answer, asked: 0, told: 0, desired };
         let (at, len, mut number) = (self.region.as_mut_ptr(), self.region.len(), 0);
         let meters = &mut self.meters;
         let first = unsafe {

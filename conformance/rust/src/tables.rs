@@ -103,7 +103,8 @@ impl Thrice {
     fn settle(&mut self, delta: u64, answers: [u8; 2], meters: &mut Meters) -> [(Status, u8, u8); 2] {
         let current = self.plain.size;
         let [answer, notice_answer] = answers;
-        let mut settled = Answers { current, answer, notice_answer, asked: 0, told: 0 };
+        let desired = region::table::question(self.ty, self.size, delta).map_or(0, |(desired, _)| desired);
+        let mut settled = Answers { current, answer, notice_answer, asked: 0, told: 0, desired };
         let (at, len, mut number) = (self.region.as_mut_ptr(), self.region.len(), 0);
         let plain = &mut meters.plain;
         let first = unsafe { wasmi_table_settle(&mut self.plain, at, len, delta, 5, plain, &mut settled, &mut number) };
