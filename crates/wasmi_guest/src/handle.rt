@@ -71,3 +71,11 @@ impl Handle {
         guest.end();
     }
 }
+
+/// Does nothing: that it compiles says that a handle may go to another thread.
+pub fn handles_may_move() {
+    may_move::<Handle>();
+}
+
+/// Does nothing: it can be called at a type that may go to another thread, and at no other.
+fn may_move<T: Send>() {}

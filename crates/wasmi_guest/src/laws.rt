@@ -1,8 +1,6 @@
-//! What holds of all handles, and of all calls and lines by a handle. These functions do nothing:
-//! each states a law as its contract.
-ghost use Rattle.std.specs.Thread.{IsSend};
+//! What holds of all calls and lines by a handle. This function does nothing: it states a law as
+//! its contract.
 ghost use Rattle.wasmi_guest.specs.Laws.{CallsAreRuns, GuestRunsJoin};
-ghost use Rattle.wasmi_guest.specs.contracts.handle.Handle.{the_row};
 
 use crate::answer_queue::AnswerQueue;
 use wasmi_core::laws;
@@ -18,8 +16,3 @@ pub fn calls_are_runs()
     laws::runs_join::<Quota>();
     laws::runs_join::<AnswerQueue>();
 }
-
-/// A handle may go to another thread.
-pub fn handles_may_move()
-    ensures { IsSend the_row }
-{}

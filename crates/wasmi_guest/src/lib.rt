@@ -27,6 +27,5 @@ mod stepping;
 mod types;
 
 pub use guest::Guest;
-pub use handle::Handle;
-pub use laws::handles_may_move;
+pub use handle::{Handle, handles_may_move};
 pub use plain::{Limits, PlainCall, PlainReply, Totals, Words};
