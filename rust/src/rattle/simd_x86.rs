@@ -8,11 +8,13 @@ pub mod prelude {
     pub use super::{i16x8, i32x4, u8x16, u16x8, u32x4, u32x8, u64x2};
 }
 
-// The instructions used. Each is a function of its operands alone, and SSE2 is part of x86-64: this is the crate's only unsafe code.
+// The instructions used. The unsafe blocks of this file are the crate's only ones.
 macro_rules! instructions {
     ($($name:ident($($operand:ident),*);)*) => { $(
         #[inline(always)]
         fn $name($($operand: __m128i),*) -> __m128i {
+            // SAFETY: the instruction is a function of its operands alone, and is there: SSE2 is part of x86-64, and what is
+            // younger stands under its target feature.
             unsafe { arch::$name($($operand),*) }
         }
     )* };
@@ -39,6 +41,7 @@ instructions! { _mm_mullo_epi32(a, b); _mm_cvtepi32_epi64(a); }
 
 #[inline(always)]
 fn of_words(low: u64, high: u64) -> __m128i {
+    // SAFETY: as in `instructions`.
     unsafe { arch::_mm_set_epi64x(high as i64, low as i64) }
 }
 
