@@ -1,0 +1,81 @@
+/* Wrong calls in front of the proved ones, which `plant` links in one at a time: FAULT is the number of the fault. Each
+   function takes the place of the library's by --wrap, and passes on everything but what its fault changes. */
+#include "wasmi_core.h"
+#include "wasmi_machine.h"
+
+uint8_t __real_wasmi_binary(uint16_t number, wasmi_words a, wasmi_words b, wasmi_words *value);
+uint8_t __real_wasmi_binary_each(uint16_t number, const wasmi_words *a, size_t a_len, const wasmi_words *b, size_t b_len,
+                                 wasmi_result *results, size_t results_len);
+uint8_t __real_wasmi_ternary_each(uint16_t number, const wasmi_words *a, size_t a_len, const wasmi_words *b,
+                                  size_t b_len, const wasmi_words *c, size_t c_len, wasmi_words *values,
+                                  size_t values_len);
+uint8_t __real_wasmi_load_each(uint16_t number, const uint8_t *memory, size_t memory_len, const uint64_t *ptrs,
+                               size_t ptrs_len, uint64_t offset, wasmi_result *results, size_t results_len);
+uint8_t __real_wasmi_extract_lane_each(uint16_t number, uint8_t lane, const wasmi_words *a, size_t a_len,
+                                       wasmi_words *values, size_t values_len);
+uint8_t __real_wasmi_machine_load(wasmi_machine *machine, uint16_t op, size_t memory, uint64_t ptr, uint64_t offset,
+                                  uint64_t *value);
+uint8_t __real_wasmi_machine_store(wasmi_machine *machine, uint16_t op, size_t memory, uint64_t ptr, uint64_t offset,
+                                   uint64_t value);
+wasmi_reply __real_wasmi_machine_write(wasmi_machine *machine, size_t memory, size_t offset, const uint8_t *bytes,
+                                       size_t len);
+
+uint8_t __wrap_wasmi_machine_load(wasmi_machine *machine, uint16_t op, size_t memory, uint64_t ptr, uint64_t offset,
+                                  uint64_t *value) {
+    uint8_t status = __real_wasmi_machine_load(machine, op, memory, ptr, offset, value);
+    if (FAULT == 1 && status == WASMI_DONE && op == WASMI_LOAD_I64_LOAD32_S)
+        *value &= UINT32_MAX;
+    return status;
+}
+
+uint8_t __wrap_wasmi_machine_store(wasmi_machine *machine, uint16_t op, size_t memory, uint64_t ptr, uint64_t offset,
+                                   uint64_t value) {
+    return __real_wasmi_machine_store(machine, op, memory, ptr, FAULT == 2 ? (uint32_t)offset : offset, value);
+}
+
+wasmi_reply __wrap_wasmi_machine_write(wasmi_machine *machine, size_t memory, size_t offset, const uint8_t *bytes,
+                                       size_t len) {
+    return __real_wasmi_machine_write(machine, memory, offset, bytes, FAULT == 3 && len > 40 ? 40 : len);
+}
+
+#if FAULT == 4
+void __wrap_wasmi_machine_drop(wasmi_machine *machine) {
+    *machine = (wasmi_machine){0};
+}
+#endif
+
+uint8_t __wrap_wasmi_ternary_each(uint16_t number, const wasmi_words *a, size_t a_len, const wasmi_words *b, size_t b_len,
+                                  const wasmi_words *c, size_t c_len, wasmi_words *values, size_t values_len) {
+    if (FAULT == 5)
+        return __real_wasmi_ternary_each(number, b, b_len, a, a_len, c, c_len, values, values_len);
+    return __real_wasmi_ternary_each(number, a, a_len, b, b_len, c, c_len, values, values_len);
+}
+
+uint8_t __wrap_wasmi_load_each(uint16_t number, const uint8_t *memory, size_t memory_len, const uint64_t *ptrs,
+                               size_t ptrs_len, uint64_t offset, wasmi_result *results, size_t results_len) {
+    return __real_wasmi_load_each(number, memory, memory_len, ptrs, ptrs_len, FAULT == 6 ? 0 : offset, results,
+                                  results_len);
+}
+
+uint8_t __wrap_wasmi_extract_lane_each(uint16_t number, uint8_t lane, const wasmi_words *a, size_t a_len,
+                                       wasmi_words *values, size_t values_len) {
+    return __real_wasmi_extract_lane_each(number, FAULT == 7 && lane == 1 ? 0 : lane, a, a_len, values, values_len);
+}
+
+uint8_t __wrap_wasmi_binary_each(uint16_t number, const wasmi_words *a, size_t a_len, const wasmi_words *b, size_t b_len,
+                                 wasmi_result *results, size_t results_len) {
+    uint8_t status = __real_wasmi_binary_each(number, a, a_len, b, b_len, results, results_len);
+    for (size_t i = 0; FAULT == 8 && status == WASMI_DONE && i < results_len; i++)
+        if (results[i].status != WASMI_DONE)
+            results[i].value.lo = 7;
+    return status;
+}
+
+uint8_t __wrap_wasmi_binary(uint16_t number, wasmi_words a, wasmi_words b, wasmi_words *value) {
+    uint8_t status = __real_wasmi_binary(number, a, b, value);
+    if (FAULT == 9 && number == WASMI_BINARY_I32_DIV_S && status == WASMI_INTEGER_OVERFLOW) {
+        *value = a;
+        return WASMI_DONE;
+    }
+    return status;
+}
