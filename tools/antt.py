@@ -1,4 +1,4 @@
-"""What tools/definitions and tools/lint read of a file of specs/ or proofs/: its declarations, with their comments."""
+"""What tools/lint reads of a file of specs/ or proofs/: its declarations, with their comments."""
 import re
 from dataclasses import dataclass
 
