@@ -8,7 +8,7 @@ ghost use Rattle.wasmi_lanewise.specs.VectorTable as vector;
 
 use std::simd::prelude::*;
 use wasmi_lanes::{
-    I8x16, I16x8, I32x4, ImmLaneIdx2, ImmLaneIdx4, ImmLaneIdx8, ImmLaneIdx16, SimdLane,
+    I8x16, I32x4, ImmLaneIdx2, ImmLaneIdx4, ImmLaneIdx8, ImmLaneIdx16, SimdLane,
     VariableLane, from_bytes, on_vectors,
 };
 use wasmi_raw::V128;
@@ -24,7 +24,15 @@ pub fn i8x16_splat(item: i8) -> V128
 pub fn i16x8_splat(item: i16) -> V128
     ensures { result ≡ vector.splat w16 item }
 {
-    on_vectors::splat::<I16x8>(item)
+    same_lanes(item.cast_unsigned())
+}
+
+// By a `std::simd` vector: LLVM puts eight plain lanes together by shifts.
+#[inline(always)]
+fn same_lanes(item: u16) -> V128
+    ensures { result ≡ splat_of w16 item }
+{
+    u16::vector_of(u16::splat(item))
 }
 
 /// The item in every lane.

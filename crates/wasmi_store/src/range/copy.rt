@@ -45,7 +45,9 @@ pub fn copy_overlapping<T: Chunk>(elements: &mut [T], dst: usize, src: usize, le
     ensures copied { overwrite elements.old dst (take len (drop src elements.old))
         ≡ Some elements.new }
 {
-    if dst <= src {
+    if len <= CHUNK {
+        T::copy_chunk(elements, dst, src, len);
+    } else if dst <= src {
         let mut done = 0;
         while done < len {
             let count = CHUNK.min(len - done);

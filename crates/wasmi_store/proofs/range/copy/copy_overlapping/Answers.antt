@@ -8,7 +8,7 @@ loop-done-preserved g c =
     let within : c.loop-done.done + c.min-count.result ≤ c.args.len = omega (arith, c.loop-done-test.true) in
     record {
       within = within;
-      copied = c.copy_chunk.ensures.copied
+      copied = c.copy_chunk-in-loop-done.ensures.copied
           ∙ copied_down c.args.elements.now c.loop-done.elements c.args.dst c.args.src c.loop-done.done
           c.min-count.result c.if-dst-src.true (omega (arith, within, c.requires.src)) c.loop-done.invariant.copied;
     }

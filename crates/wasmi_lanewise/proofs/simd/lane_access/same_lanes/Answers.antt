@@ -1,0 +1,11 @@
+use Rattle.std.proofs.Common.{◌∙◌, refl}
+use Rattle.wasmi_types.specs.Wrapping.{w16}
+use Rattle.wasmi_lanes.specs.Vector.{splat_of}
+use Rattle.wasmi_lanes.proofs.LaneVectorLemmas.{lanes_make_vector}
+use Rattle.wasmi_lanewise.proofs.simd.lane_access.same_lanes.Goals as goal
+
+pub returns : goal.returns
+unfolding splat_of
+returns c =
+    lanes_make_vector w16 8 c.vector_of.result (λ _. c.args.item) refl c.vector_of.ensures.in_range
+    (λ i inside. c.vector_of.ensures.lanes i inside ∙ c.splat.ensures.lanes i inside)
