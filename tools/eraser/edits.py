@@ -52,6 +52,24 @@ EDITS = [
      "        if cfg!(not(feature = \"memory64\")) && self.index.is_64() {\n            return Err(MemoryError::InvalidMemoryType);\n        }\n        let Some(page) = PageSize::from_log2(", 1),
 ]
 
+# Calls of a machine that `Store::step` passes on by groups, to a function with a jump table of its own. Where each call has an
+# arm of its own, LLVM makes one table of the two. Where all are named, rustc knows that there are no others, and tests nothing.
+GROUPS = {
+    "step_memory(call, limiter)": "NewMemory(_) NewLentMemory(_) GrowMemory{..} DropMemory(_) Read{..} Write{..} Load{..} Store{..}",
+    "step_table(call, limiter)":
+        "NewTable{..} GrowTable{..} DropTable(_) GetElement{..} SetElement{..} InitTable{..} CopyTable{..} FillTable{..}",
+}
+REGISTERS = "SetRegister{..} GetRegister(_) Make{..} Unary{..} Binary{..} Ternary{..} Shift{..} Test{..} Extract{..} Replace{..} Shuffle{..}"
+
+
+def patterns(calls):
+    return ["Call::" + call.replace("{", " { ").replace("}", " }") for call in calls.split()]
+
+
+EDITS += [("machine/store.rs", "\n            | ".join(patterns(calls)) + f" => self.{step},\n",
+           "".join(f"{pattern} => self.{step},\n" for pattern in patterns(calls)), 1) for step, calls in GROUPS.items()]
+EDITS += [("machine/store.rs", "            _ => self.step_register", " | ".join(patterns(REGISTERS)) + " => self.step_register", 1)]
+
 # Functions that upstream hasn't got, for this crate alone.
 HIDDEN = {
     "meter/fuel.rs": ["unmetered"],

@@ -76,6 +76,9 @@ TEXTS = {
     "let Some(words) = words.as_array::<16>() else {": "let Ok(words) = <&[&str; 16]>::try_from(words) else {",
     "for i in 0..N { memory[address + i] = bytes[i]; }": "memory[address..][..N].copy_from_slice(bytes);",
     "memory[address..address + N].split_first_chunk::<N>()": "memory[address..].split_first_chunk::<N>()",
+    # The bounds one by one, as they were tested before: LLVM tests their sum once more.
+    "elements[index..index + items.len()]": "elements[index..][..items.len()]",
+    "memory[offset..offset + len]": "memory[offset..][..len]",
 }
 
 # Functions that return one of these are inlined always: a value that a call returns through memory is stored by words and read as a
