@@ -284,7 +284,7 @@ fn read_bytes(memory: &[u8], offset: usize, len: usize) -> Reply {
     if memory.len() < offset || memory.len() - offset < len {
         return Reply::Memory(MemoryError::OutOfBoundsAccess);
     }
-    match memory[offset..offset + len].try_to_vec() {
+    match memory[offset..][..len].try_to_vec() {
         Ok(bytes) => Reply::Bytes(ByteList::from(bytes)),
         Err(_) => Reply::NoRoom,
     }

@@ -142,32 +142,42 @@ impl<'r> Store<'r> {
         match call {
             Call::SetFuel(fuel) => self.set_fuel(*fuel),
             Call::GetFuel => self.get_fuel(),
-            Call::NewMemory(_)
-            | Call::NewLentMemory(_)
-            | Call::GrowMemory { .. }
-            | Call::DropMemory(_)
-            | Call::Read { .. }
-            | Call::Write { .. }
-            | Call::Load { .. }
-            | Call::Store { .. } => self.step_memory(call, limiter),
+            Call::NewMemory(_) => self.step_memory(call, limiter),
+            Call::NewLentMemory(_) => self.step_memory(call, limiter),
+            Call::GrowMemory { .. } => self.step_memory(call, limiter),
+            Call::DropMemory(_) => self.step_memory(call, limiter),
+            Call::Read { .. } => self.step_memory(call, limiter),
+            Call::Write { .. } => self.step_memory(call, limiter),
+            Call::Load { .. } => self.step_memory(call, limiter),
+            Call::Store { .. } => self.step_memory(call, limiter),
             Call::NewSegment { ty, items } => create_segment(&mut self.segments, *ty, items),
             Call::DropItems(segment) => drop_items(&mut self.segments, *segment),
             Call::NewGlobal { value, ty } => create_global(&mut self.globals, *value, *ty),
             Call::SetGlobal { global, value } => set_global(&mut self.globals, *global, *value),
             Call::GetGlobal(global) => get_global(&self.globals, *global),
-            Call::NewTable { .. }
-            | Call::GrowTable { .. }
-            | Call::DropTable(_)
-            | Call::GetElement { .. }
-            | Call::SetElement { .. }
-            | Call::InitTable { .. }
-            | Call::CopyTable { .. }
-            | Call::FillTable { .. } => self.step_table(call, limiter),
+            Call::NewTable { .. } => self.step_table(call, limiter),
+            Call::GrowTable { .. } => self.step_table(call, limiter),
+            Call::DropTable(_) => self.step_table(call, limiter),
+            Call::GetElement { .. } => self.step_table(call, limiter),
+            Call::SetElement { .. } => self.step_table(call, limiter),
+            Call::InitTable { .. } => self.step_table(call, limiter),
+            Call::CopyTable { .. } => self.step_table(call, limiter),
+            Call::FillTable { .. } => self.step_table(call, limiter),
             Call::VectorLoad { .. }
             | Call::LoadLane { .. }
             | Call::VectorStore { .. }
             | Call::StoreLane { .. } => self.step_vector_access::<L>(call),
-            _ => self.step_register::<L>(call),
+            Call::SetRegister { .. }
+            | Call::GetRegister(_)
+            | Call::Make { .. }
+            | Call::Unary { .. }
+            | Call::Binary { .. }
+            | Call::Ternary { .. }
+            | Call::Shift { .. }
+            | Call::Test { .. }
+            | Call::Extract { .. }
+            | Call::Replace { .. }
+            | Call::Shuffle { .. } => self.step_register::<L>(call),
         }
     }
 

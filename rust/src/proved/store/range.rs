@@ -60,7 +60,7 @@ pub fn read_bytes(bytes: &[u8], offset: usize, buffer: &mut [u8]) -> Result<(), 
 /// [Some]: crate::specs::library#Some "the value x, of an \`Option\`"
 #[inline]
 pub fn write_range<T: Copy>(elements: &mut [T], index: usize, items: &[T]) {
-    let part = &mut elements[index..index + items.len()];
+    let part = &mut elements[index..][..items.len()];
     part.copy_from_slice(items);
 }
 

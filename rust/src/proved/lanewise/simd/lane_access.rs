@@ -1,8 +1,8 @@
 //! Vectors of one item, and one lane of a vector: `splat`, `extract_lane` and `replace_lane`.
 
 use crate::proved::lanes::{
-    I8x16, I16x8, I32x4, ImmLaneIdx2, ImmLaneIdx4, ImmLaneIdx8, ImmLaneIdx16, SimdLane,
-    VariableLane, from_bytes, on_vectors,
+    I8x16, I32x4, ImmLaneIdx2, ImmLaneIdx4, ImmLaneIdx8, ImmLaneIdx16, SimdLane, VariableLane,
+    from_bytes, on_vectors,
 };
 use crate::proved::raw::V128;
 use crate::rattle::simd::prelude::*;
@@ -30,7 +30,19 @@ pub fn i8x16_splat(item: i8) -> V128 {
 /// [w16]: crate::specs::library#w16 "the widths of integers in bits"
 #[inline]
 pub fn i16x8_splat(item: i16) -> V128 {
-    on_vectors::splat::<I16x8>(item)
+    same_lanes(item.cast_unsigned())
+}
+
+// By a `core::simd` vector: LLVM puts eight plain lanes together by shifts.
+/// # Contract
+///
+/// <span></span><pre><code>ensures: result ≡ [splat_of] [w16] item</code></pre>
+///
+/// [splat_of]: crate::specs::lanes::Vector#splat_of "n in each lane"
+/// [w16]: crate::specs::library#w16 "the widths of integers in bits"
+#[inline(always)]
+fn same_lanes(item: u16) -> V128 {
+    u16::vector_of(u16::splat(item))
 }
 
 /// The item in every lane.

@@ -61,7 +61,9 @@ impl Chunk for u32 {
 /// [Some]: crate::specs::library#Some "the value x, of an \`Option\`"
 #[inline]
 pub fn copy_overlapping<T: Chunk>(elements: &mut [T], dst: usize, src: usize, len: usize) {
-    if dst <= src {
+    if len <= CHUNK {
+        T::copy_chunk(elements, dst, src, len);
+    } else if dst <= src {
         let mut done = 0;
         while done < len {
             let count = CHUNK.min(len - done);
