@@ -8,8 +8,8 @@ ghost use Rattle.wasmi_lanewise.specs.VectorTable as vector;
 
 use std::simd::prelude::*;
 use wasmi_lanes::{
-    I8x16, I32x4, ImmLaneIdx2, ImmLaneIdx4, ImmLaneIdx8, ImmLaneIdx16, SimdLane,
-    VariableLane, from_bytes, on_vectors,
+    I8x16, I32x4, ImmLaneIdx2, ImmLaneIdx4, ImmLaneIdx8, ImmLaneIdx16, SimdLane, VariableLane,
+    from_bytes, on_vectors,
 };
 use wasmi_raw::V128;
 
