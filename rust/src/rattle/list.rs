@@ -43,9 +43,23 @@ impl<T> Vec<T> {
     where
         T: Copy,
     {
-        let mut list = Vec::with_capacity(items.len())?;
-        list.0.extend_from_slice(items);
+        let mut list = Vec::new();
+        list.append_slice(items)?;
         Ok(list)
+    }
+
+    /// Appends the items of a slice, with room for no more. In a long `match` LLVM doesn't inline what `extend_from_slice`
+    /// calls, so that both requests stand in one call.
+    #[inline]
+    fn append_slice(&mut self, items: &[T]) -> Result<(), AllocError>
+    where
+        T: Copy,
+    {
+        self.0
+            .try_reserve_exact(items.len())
+            .map_err(|_| AllocError)?;
+        self.0.extend_from_slice(items);
+        Ok(())
     }
 
     /// A list of the items of an array.
