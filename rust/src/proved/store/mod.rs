@@ -1,4 +1,5 @@
 //! Linear memories and tables: their types, what they contain, and how they are made and grow.
+pub mod bulk;
 pub mod growth;
 #[cfg(any(doc, test))]
 pub mod laws;
