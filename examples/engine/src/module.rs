@@ -159,8 +159,9 @@ impl Module {
         if reader.take(4).ok() != Some(b"\0asm") {
             return begin.malformed("this isn't a WebAssembly module");
         }
+        let version = reader;
         if reader.take(4)? != [1, 0, 0, 0] {
-            return begin.malformed("the version of the binary format isn't 1");
+            return version.malformed("the version of the binary format isn't 1");
         }
         let mut module = Module::default();
         let (mut last, mut has_data) = (0, false);

@@ -143,10 +143,5 @@ fn name(text: &str) -> Result<String, String> {
 }
 
 #[cfg(test)]
-mod tests {
-    #[test]
-    fn names() {
-        assert_eq!(super::name("a%20b%c3%A9%"), Ok("a b\u{e9}%".into()));
-        assert!(super::name("%c3").is_err());
-    }
-}
+#[path = "../tests/unit/script.rs"]
+mod tests;

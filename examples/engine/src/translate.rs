@@ -932,11 +932,11 @@ impl<'m> Translator<'m, '_> {
             return begin.malformed("the alignment of an access is beyond 64 bits");
         }
         let (memory, address) = self.memory_of(number)?;
+        let offset = if address == I64 { self.reader.u64()? } else { self.reader.u32()?.into() };
+        let lane = lanes.map_or(Ok(0), |lanes| self.lane(lanes))?;
         if align > bytes.trailing_zeros() {
             return self.invalid("an alignment is above the bytes of its access");
         }
-        let offset = if address == I64 { self.reader.u64()? } else { self.reader.u32()?.into() };
-        let lane = lanes.map_or(Ok(0), |lanes| self.lane(lanes))?;
         let b = value.map_or(Ok(0), |ty| self.pop(ty))?;
         let mut a = self.pop(address)?;
         let imm = u32::try_from(offset).unwrap_or(0);
