@@ -868,8 +868,8 @@ impl<'m> Translator<'m, '_> {
 
     /// Instructions with two results, which lie where their operands lay.
     fn wide(&mut self, opcode: u32) -> Read<()> {
-        let code =
-            [Code::i64_add128, Code::i64_sub128, Code::i64_mul_wide_s, Code::i64_mul_wide_u][opcode as usize & 0xf - 3];
+        let codes = [Code::i64_add128, Code::i64_sub128, Code::i64_mul_wide_s, Code::i64_mul_wide_u];
+        let code = codes[opcode as usize - 0xfc013];
         let operands = &[I64; 4][..if opcode < 0xfc015 { 4 } else { 2 }];
         self.check(operands)?;
         self.settle_last(operands.len());

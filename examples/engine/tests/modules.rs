@@ -176,3 +176,18 @@ fn references_and_indirect_calls() {
     assert_eq!(reply(-1), Err(TrapCode::TableOutOfBounds.to_string()));
     assert!(values::parse("null", ValType::FuncRef).is_some());
 }
+
+#[test]
+fn wide_arithmetic() {
+    // The upper half of -1 times 2, of 2^64 - 1 times 2, and of 2^64 minus 1; each result is checked by its two halves.
+    let reply = |code: &[u8], place: u8| {
+        let code = [code, &[0x21, 1, 0x21, 0, 0x20, place]].concat();
+        called(&Wasm::default().function(&[], &[I64], &[(2, I64)], &code), &mut store(1000), &[])
+    };
+    let product = |opcode| [0x42, 0x7f, 0x42, 2, 0xfc, opcode];
+    assert_eq!((reply(&product(0x15), 0), reply(&product(0x15), 1)), (Ok(-2), Ok(-1)));
+    assert_eq!((reply(&product(0x16), 0), reply(&product(0x16), 1)), (Ok(-2), Ok(1)));
+    let of_four = |opcode| [0x42, 0, 0x42, 1, 0x42, 1, 0x42, 0, 0xfc, opcode];
+    assert_eq!((reply(&of_four(0x13), 0), reply(&of_four(0x13), 1)), (Ok(1), Ok(1)));
+    assert_eq!((reply(&of_four(0x14), 0), reply(&of_four(0x14), 1)), (Ok(-1), Ok(0)));
+}
