@@ -12,7 +12,7 @@
 //!
 //! Each instance has a memory, tables and globals of its own.
 
-use crate::instance::{Instance, NotInstantiated, of_memory, of_table};
+use crate::instance::{Failure, Instance, of_memory, of_table};
 use crate::library::{
     Global, GlobalType, HostError, Memory, MemoryType, Mutability, RawVal, RefType, Table, TableType, Trap, TrapCode,
     TypedRawRef, ValType,
@@ -53,8 +53,8 @@ pub(crate) enum Provided {
 }
 
 /// Makes what a module imports.
-pub(crate) fn provide(module: &Module, import: &Import, caps: &mut Caps) -> Result<Provided, NotInstantiated> {
-    let refuse = |what: &str| Err(NotInstantiated::Unlinkable(format!("{}.{}: {what}", import.module, import.name)));
+pub(crate) fn provide(module: &Module, import: &Import, caps: &mut Caps) -> Result<Provided, Failure> {
+    let refuse = |what: &str| Err(Failure::Unlinkable(format!("{}.{}: {what}", import.module, import.name)));
     if !matches!(import.module.as_str(), "host" | "spectest") {
         return refuse("there is no such module");
     }

@@ -6,6 +6,7 @@ use crate::execute::{self, Exit};
 use crate::host::{self, HostFunction, Provided};
 use crate::library::{
     ElementSegment, Global, Memory, MemoryError, RawVal, Table, TableError, Trap, TrapCode, TypedRawRef, TypedRawVal,
+    V128, ValType,
 };
 use crate::module::{Extern, Mode, Module};
 use crate::store::{self, Frame, Store};
@@ -23,52 +24,28 @@ pub struct Instance {
     pub(crate) is_dropped: Vec<bool>,
 }
 
-/// Why there is no instance.
+/// Why there is no instance, or why a call gives no results.
 #[derive(Debug)]
-pub enum NotInstantiated {
+pub enum Failure {
     /// The host lacks an import, or has it with another type.
     Unlinkable(String),
-    /// A memory or a table can't be made, a segment doesn't fit, or the start function stops.
+    /// The instance exports no such function, or the function takes other arguments.
+    Misused(&'static str),
+    /// The guest stops: also where a memory or a table can't be made, or a segment doesn't fit.
     Trapped(Trap),
 }
 
-/// Why a call gives no results.
-#[derive(Debug)]
-pub enum NotCalled {
-    /// The instance exports no function of this name.
-    NoFunction,
-    /// The arguments are of other types than the parameters.
-    Arguments,
-    /// The guest stops.
-    Trapped(Trap),
-}
-
-impl<T: Into<Trap>> From<T> for NotInstantiated {
+impl<T: Into<Trap>> From<T> for Failure {
     fn from(trap: T) -> Self {
         Self::Trapped(trap.into())
     }
 }
 
-impl<T: Into<Trap>> From<T> for NotCalled {
-    fn from(trap: T) -> Self {
-        Self::Trapped(trap.into())
-    }
-}
-
-impl fmt::Display for NotInstantiated {
+impl fmt::Display for Failure {
     fn fmt(&self, f: &mut fmt::Formatter<'_>) -> fmt::Result {
         match self {
             Self::Unlinkable(what) => f.write_str(what),
-            Self::Trapped(trap) => trap.fmt(f),
-        }
-    }
-}
-
-impl fmt::Display for NotCalled {
-    fn fmt(&self, f: &mut fmt::Formatter<'_>) -> fmt::Result {
-        match self {
-            Self::NoFunction => f.write_str("there is no exported function of this name"),
-            Self::Arguments => f.write_str("the arguments aren't those of the function's type"),
+            Self::Misused(what) => f.write_str(what),
             Self::Trapped(trap) => trap.fmt(f),
         }
     }
@@ -79,7 +56,7 @@ impl Instance {
     ///
     /// Active segments are charged as `table.init` and `memory.init` are. If there is no instance, what its memories and
     /// tables took of the caps is given back.
-    pub fn new(module: &Arc<Module>, store: &mut Store) -> Result<Instance, NotInstantiated> {
+    pub fn new(module: &Arc<Module>, store: &mut Store) -> Result<Instance, Failure> {
         let caps = store.caps;
         let made = Self::allocate(module, store).and_then(|mut it| it.initialize(store).map(|()| it));
         if made.is_err() {
@@ -88,7 +65,7 @@ impl Instance {
         made
     }
 
-    fn allocate(module: &Arc<Module>, store: &mut Store) -> Result<Instance, NotInstantiated> {
+    fn allocate(module: &Arc<Module>, store: &mut Store) -> Result<Instance, Failure> {
         let mut it = Instance {
             module: module.clone(),
             host: vec![],
@@ -124,7 +101,7 @@ impl Instance {
         Ok(it)
     }
 
-    fn initialize(&mut self, store: &mut Store) -> Result<(), NotInstantiated> {
+    fn initialize(&mut self, store: &mut Store) -> Result<(), Failure> {
         let module = self.module.clone();
         let fuel = &mut store.fuel;
         for (segment, items) in module.elements.iter().zip(&mut self.elements) {
@@ -151,12 +128,14 @@ impl Instance {
     }
 
     /// Calls an exported function.
-    pub fn call(&mut self, store: &mut Store, name: &str, args: &[TypedRawVal]) -> Result<Vec<TypedRawVal>, NotCalled> {
+    pub fn call(&mut self, store: &mut Store, name: &str, args: &[TypedRawVal]) -> Result<Vec<TypedRawVal>, Failure> {
         let module = self.module.clone();
-        let Some(Extern::Function(function)) = module.exports.get(name) else { return Err(NotCalled::NoFunction) };
+        let Some(Extern::Function(function)) = module.exports.get(name) else {
+            return Err(Failure::Misused("there is no exported function of this name"));
+        };
         let ty = module.type_of(*function);
         if !args.iter().map(TypedRawVal::ty).eq(ty.params().iter().copied()) {
-            return Err(NotCalled::Arguments);
+            return Err(Failure::Misused("the arguments aren't those of the function's type"));
         }
         let raw: Vec<RawVal> = args.iter().map(TypedRawVal::raw).collect();
         self.run(store, *function, &raw)?;
@@ -207,7 +186,11 @@ impl Instance {
             let elements = (0..table.size()).map(|i| table.get(i).map_or(0, |it| u32::from(it.raw())));
             words.push(format!("table {} {:016x}", table.size(), fnv(elements.flat_map(u32::to_le_bytes))));
         }
-        let globals = self.globals.iter().map(|it| crate::library::V128::from(*it.get_raw()).as_u128());
+        let globals = self.globals.iter().map(|it| (it.ty().content(), *it.get_raw())).map(|(ty, raw)| match ty {
+            ValType::V128 => V128::from(raw).as_u128(),
+            ValType::I64 | ValType::F64 => u64::from(raw).into(),
+            _ => u32::from(raw).into(),
+        });
         words.push(format!("globals {} {:016x}", self.globals.len(), fnv(globals.flat_map(u128::to_le_bytes))));
         words.join(" ")
     }

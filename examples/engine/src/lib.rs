@@ -15,7 +15,9 @@
 //! | `instance` | instances, calls |
 //! | `execute` | the loop |
 //! | `bulk` | fills and copies of memories, for a library that lacks them |
-//! | `values`, `script` | values as text, and a mode in which lines of text drive the engine |
+//! | `values` | values as text |
+//!
+//! The program stands in `program/`.
 #![forbid(unsafe_code)]
 #![warn(missing_docs)]
 
@@ -33,13 +35,12 @@ mod instructions;
 mod limits;
 mod module;
 mod reader;
-pub mod script;
 mod store;
 mod translate;
 pub mod values;
 
 pub use host::Stopped;
-pub use instance::{Instance, NotCalled, NotInstantiated};
+pub use instance::{Failure, Instance};
 pub use module::{Extern, Module};
 pub use reader::{Refusal, RefusalKind};
 pub use store::{Caps, Store};

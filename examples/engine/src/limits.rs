@@ -3,8 +3,6 @@
 //!
 //! A function's slots are numbered by 16 bits: [`LOCALS`], [`CONSTANTS`] and [`OPERANDS`] together have fewer than 2^16.
 
-use crate::reader::{Read, Reader};
-
 /// Of a module.
 pub(crate) const TYPES: usize = 1_000_000;
 pub(crate) const FUNCTIONS: usize = 1_000_000;
@@ -26,8 +24,3 @@ pub(crate) const CALLS: usize = 1 << 15;
 
 /// The number of no function of the host: that of a function that is left out for its floats.
 pub(crate) const NO_HOST: u32 = u32::MAX;
-
-/// Refuses what has more than the most.
-pub(crate) fn check(reader: &Reader, count: usize, most: usize, what: &'static str) -> Read<()> {
-    if count > most { reader.unsupported(what) } else { Ok(()) }
-}

@@ -4,7 +4,7 @@
 
 use crate::library::{FuncType, Global, GlobalType, MemoryType, RawRef, RawVal, RefType, TableType, ValType, wasm};
 use crate::limits;
-use crate::reader::{Read, Reader, Refusal, RefusalKind};
+use crate::reader::{Read, Reader, Refusal, RefusalKind, ensure};
 use crate::translate::{self, Function};
 use std::collections::{BTreeMap, HashMap};
 
@@ -156,13 +156,9 @@ impl Module {
 
     fn read(mut reader: Reader) -> Read<Module> {
         let begin = reader;
-        if reader.take(4).ok() != Some(b"\0asm") {
-            return begin.malformed("this isn't a WebAssembly module");
-        }
-        let version = reader;
-        if reader.take(4)? != [1, 0, 0, 0] {
-            return version.malformed("the version of the binary format isn't 1");
-        }
+        ensure(reader.take(4).ok() == Some(b"\0asm"), begin.malformed("this isn't a WebAssembly module"))?;
+        let version = reader.malformed("the version of the binary format isn't 1");
+        ensure(reader.take(4)? == [1, 0, 0, 0], version)?;
         let mut module = Module::default();
         let (mut last, mut has_data) = (0, false);
         while !reader.is_empty() {
@@ -174,23 +170,17 @@ impl Module {
                 continue;
             }
             let order = [0, 1, 2, 3, 4, 5, 6, 7, 8, 9, 11, 12, 10];
-            match order.get(usize::from(id)) {
-                Some(place) if *place > last => last = *place,
-                Some(_) => return begin.malformed("a section is out of order or comes twice"),
-                None => return begin.malformed("a section is unknown"),
-            }
+            let place = *order.get(usize::from(id)).ok_or(begin.malformed("a section is unknown"))?;
+            ensure(place > last, begin.malformed("a section is out of order or comes twice"))?;
+            last = place;
             has_data |= id == 11;
             module.section(id, &mut section)?;
-            if !section.is_empty() {
-                return section.malformed("a section is longer than what it has");
-            }
+            ensure(section.is_empty(), section.malformed("a section is longer than what it has"))?;
         }
-        if module.code.len() != module.functions.len() {
-            return reader.malformed("functions and their bodies differ in number");
-        }
-        if !has_data && module.data_count.is_some_and(|count| count > 0) {
-            return reader.malformed("the data count section and the data section differ");
-        }
+        let has_bodies = module.code.len() == module.functions.len();
+        ensure(has_bodies, reader.malformed("functions and their bodies differ in number"))?;
+        let is_counted = has_data || module.data_count.is_none_or(|count| count == 0);
+        ensure(is_counted, reader.malformed("the data count section and the data section differ"))?;
         Ok(module)
     }
 
@@ -200,7 +190,7 @@ impl Module {
             2 => reader.list(|it| self.import(it)).map(|imports| self.imports = imports)?,
             3 => {
                 let types = reader.list(|it| self.known(it, |module| module.types.len(), "a type is unknown"))?;
-                limits::check(reader, types.len(), limits::FUNCTIONS, "there are too many functions")?;
+                ensure(types.len() <= limits::FUNCTIONS, reader.unsupported("there are too many functions"))?;
                 self.functions.extend(types);
             }
             4 => drop(reader.list(|it| self.table(it))?),
@@ -216,15 +206,13 @@ impl Module {
             11 => self.section_of_data(reader)?,
             _ => self.data_count = Some(reader.u32()?),
         }
-        let items = [(self.memories.len(), limits::MEMORIES), (self.tables.len(), limits::TABLES)];
-        items
-            .iter()
-            .try_for_each(|(count, most)| limits::check(reader, *count, *most, "there are too many memories or tables"))
+        let is_bounded = self.memories.len() <= limits::MEMORIES && self.tables.len() <= limits::TABLES;
+        ensure(is_bounded, reader.unsupported("there are too many memories or tables"))
     }
 
     fn section_of_types(&mut self, reader: &mut Reader) -> Read<()> {
         self.types = reader.list(Reader::func_type)?;
-        limits::check(reader, self.types.len(), limits::TYPES, "there are too many types")?;
+        ensure(self.types.len() <= limits::TYPES, reader.unsupported("there are too many types"))?;
         let mut first = HashMap::new();
         self.same = (0..).zip(&self.types).map(|(number, ty)| *first.entry(ty).or_insert(number)).collect();
         Ok(())
@@ -234,7 +222,7 @@ impl Module {
     fn known(&self, reader: &mut Reader, count: impl Fn(&Self) -> usize, what: &'static str) -> Read<u32> {
         let begin = *reader;
         let number = reader.u32()?;
-        if (number as usize) < count(self) { Ok(number) } else { begin.invalid(what) }
+        ensure((number as usize) < count(self), begin.invalid(what)).map(|()| number)
     }
 
     fn known_function(&mut self, reader: &mut Reader) -> Read<u32> {
@@ -266,7 +254,7 @@ impl Module {
                 self.globals.push((reader.global_type()?, Constant::Value(RawVal::default())));
                 &mut self.imported.globals
             }
-            _ => return begin.malformed("an import is of an unknown kind"),
+            _ => return Err(begin.malformed("an import is of an unknown kind")),
         };
         let number = *count as u32;
         *count += 1;
@@ -276,9 +264,7 @@ impl Module {
 
     fn table(&mut self, reader: &mut Reader) -> Read<()> {
         let has_value = reader.peek() == Some(0x40);
-        if has_value && reader.take(2)?[1] != 0 {
-            return reader.malformed("a table is of an unknown kind");
-        }
+        ensure(!has_value || reader.take(2)?[1] == 0, reader.malformed("a table is of an unknown kind"))?;
         let ty = reader.table_type()?;
         let init = match has_value {
             true => self.constant(reader, ty.element().into())?,
@@ -304,22 +290,17 @@ impl Module {
             1 => Extern::Table(self.known(reader, |it| it.tables.len(), "a table is unknown")?),
             2 => Extern::Memory(self.known(reader, |it| it.memories.len(), "a memory is unknown")?),
             3 => Extern::Global(self.known(reader, |it| it.globals.len(), "a global is unknown")?),
-            _ => return kind.malformed("an export is of an unknown kind"),
+            _ => return Err(kind.malformed("an export is of an unknown kind")),
         };
-        match self.exports.insert(name, item) {
-            None => Ok(()),
-            Some(_) => begin.invalid("two exports have one name"),
-        }
+        ensure(self.exports.insert(name, item).is_none(), begin.invalid("two exports have one name"))
     }
 
     fn section_of_start(&mut self, reader: &mut Reader) -> Read<()> {
         let begin = *reader;
         let start = self.known(reader, |it| it.functions.len(), "a function is unknown")?;
-        if self.type_of(start).len_params() + self.type_of(start).len_results() > 0 {
-            return begin.invalid("the start function has parameters or results");
-        }
         self.start = Some(start);
-        Ok(())
+        let is_plain = self.type_of(start).len_params() + self.type_of(start).len_results() == 0;
+        ensure(is_plain, begin.invalid("the start function has parameters or results"))
     }
 
     /// An element segment. Flag 0 of its kind is for one that isn't active, 1 for a table's number or for a declared one,
@@ -327,18 +308,14 @@ impl Module {
     fn element(&mut self, reader: &mut Reader) -> Read<()> {
         let begin = *reader;
         let kind = reader.u32()?;
-        if kind > 7 {
-            return begin.malformed("an element segment is of an unknown kind");
-        }
+        ensure(kind <= 7, begin.malformed("an element segment is of an unknown kind"))?;
         let mut table = None;
         let mode = match kind & 3 {
             1 => Mode::Passive,
             3 => Mode::Declared,
             has_number => {
                 let number = if has_number == 2 { reader.u32()? } else { 0 };
-                let Some((ty, _)) = self.tables.get(number as usize) else {
-                    return begin.invalid("a table is unknown");
-                };
+                let (ty, _) = self.tables.get(number as usize).ok_or(begin.invalid("a table is unknown"))?;
                 table = Some(ty.element());
                 Mode::Active(number, self.constant(reader, ty.index_ty().ty())?)
             }
@@ -346,17 +323,16 @@ impl Module {
         let ty = match (kind & 3, kind & 4) {
             (0, _) => RefType::Func,
             (_, 0) if reader.byte()? == 0 => RefType::Func,
-            (_, 0) => return reader.malformed("an element segment has elements of an unknown kind"),
+            (_, 0) => return Err(reader.malformed("an element segment has elements of an unknown kind")),
             _ => reader.ref_type()?,
         };
-        if table.is_some_and(|table| table != ty) {
-            return begin.invalid("an element segment has another type than its table");
-        }
+        let is_right = table.is_none_or(|table| table == ty);
+        ensure(is_right, begin.invalid("an element segment has another type than its table"))?;
         let items = match kind & 4 {
             0 => reader.list(|it| Ok(Constant::Value(reference(self.known_function(it)?).into())))?,
             _ => reader.list(|it| self.constant(it, ty.into()))?,
         };
-        limits::check(&begin, items.len(), limits::ELEMENTS, "an element segment is too long")?;
+        ensure(items.len() <= limits::ELEMENTS, begin.unsupported("an element segment is too long"))?;
         self.elements.push(Elements { mode, ty, items });
         Ok(())
     }
@@ -365,9 +341,8 @@ impl Module {
         let begin = *reader;
         self.is_declared.resize(self.functions.len(), false);
         let bodies = reader.list(Reader::part)?;
-        if bodies.len() != self.functions.len() - self.imported.functions {
-            return begin.malformed("functions and their bodies differ in number");
-        }
+        let is_right = bodies.len() == self.functions.len() - self.imported.functions;
+        ensure(is_right, begin.malformed("functions and their bodies differ in number"))?;
         for body in bodies {
             let number = self.code.len() as u32;
             let function = match translate::function(self, number, body) {
@@ -386,23 +361,17 @@ impl Module {
         self.data = reader.list(|it| {
             let begin = *it;
             let kind = it.u32()?;
-            if kind > 2 {
-                return begin.malformed("a data segment is of an unknown kind");
-            }
+            ensure(kind <= 2, begin.malformed("a data segment is of an unknown kind"))?;
             let number = if kind == 2 { it.u32()? } else { 0 };
             let mode = match self.memories.get(number as usize) {
                 _ if kind == 1 => Mode::Passive,
                 Some(ty) => Mode::Active(number, self.constant(it, ty.index_ty().ty())?),
-                None => return begin.invalid("a memory is unknown"),
+                None => return Err(begin.invalid("a memory is unknown")),
             };
             Ok(Data { mode, bytes: it.bytes()?.to_vec() })
         })?;
-        match self.data_count {
-            Some(count) if count as usize != self.data.len() => {
-                begin.malformed("the data count section and the data section differ")
-            }
-            _ => Ok(()),
-        }
+        let is_counted = self.data_count.is_none_or(|count| count as usize == self.data.len());
+        ensure(is_counted, begin.malformed("the data count section and the data section differ"))
     }
 
     /// A constant expression that gives a value of this type.
@@ -417,9 +386,8 @@ impl Module {
                 0x23 => {
                     let global = self.known(reader, |it| it.imported.globals, "a global is unknown")?;
                     let ty = self.globals[global as usize].0;
-                    if ty.mutability().is_mut() {
-                        return at.invalid("a constant expression reads a mutable global");
-                    }
+                    let is_const = ty.mutability().is_const();
+                    ensure(is_const, at.invalid("a constant expression reads a mutable global"))?;
                     (ty.content(), Term::Global(global))
                 }
                 0x41 => (ValType::I32, Term::Value(reader.i32()?.into())),
@@ -428,24 +396,23 @@ impl Module {
                 0x44 => (ValType::F64, Term::Value(reader.float(8)?.into())),
                 0x6a..=0x6c | 0x7c..=0x7e => {
                     let ty = if opcode < 0x70 { ValType::I32 } else { ValType::I64 };
-                    if types.pop() != Some(ty) || types.pop() != Some(ty) {
-                        return at.invalid("an operand is missing or has another type");
-                    }
+                    let are_right = types.pop() == Some(ty) && types.pop() == Some(ty);
+                    ensure(are_right, at.invalid("an operand is missing or has another type"))?;
                     (ty, Term::Operator(opcode))
                 }
                 0xd0 => (reader.ref_type()?.into(), Term::Value(RawRef::null().into())),
                 0xd2 => (ValType::FuncRef, Term::Value(reference(self.known_function(reader)?).into())),
                 0xfd if reader.u32()? == 12 => (ValType::V128, Term::Value(reader.v128()?.into())),
-                _ => return at.invalid("a constant expression has another instruction"),
+                _ => return Err(at.invalid("a constant expression has another instruction")),
             };
             types.push(ty);
             terms.push(term);
         }
         match (&types[..], &terms[..]) {
-            ([ty], _) if *ty != wanted => begin.invalid("a constant expression has another type"),
+            ([ty], _) if *ty != wanted => Err(begin.invalid("a constant expression has another type")),
             ([_], [Term::Value(value)]) => Ok(Constant::Value(*value)),
             ([_], _) => Ok(Constant::Terms(terms)),
-            _ => begin.invalid("a constant expression doesn't give one value"),
+            _ => Err(begin.invalid("a constant expression doesn't give one value")),
         }
     }
 }

@@ -37,6 +37,11 @@ impl std::error::Error for Refusal {}
 
 pub(crate) type Read<T> = Result<T, Refusal>;
 
+/// Refuses what doesn't hold.
+pub(crate) fn ensure(holds: bool, refusal: Refusal) -> Read<()> {
+    if holds { Ok(()) } else { Err(refusal) }
+}
+
 /// The unread bytes of a file, or of a part of it.
 #[derive(Clone, Copy)]
 pub(crate) struct Reader<'a> {
@@ -69,26 +74,20 @@ impl<'a> Reader<'a> {
         self.is_lenient
     }
 
-    fn refuse<T>(&self, kind: RefusalKind, what: &'static str) -> Read<T> {
-        Err(Refusal { kind, offset: self.at, what })
+    pub fn malformed(&self, what: &'static str) -> Refusal {
+        Refusal { kind: RefusalKind::Malformed, offset: self.at, what }
     }
 
-    pub fn malformed<T>(&self, what: &'static str) -> Read<T> {
-        self.refuse(RefusalKind::Malformed, what)
+    pub fn invalid(&self, what: &'static str) -> Refusal {
+        Refusal { kind: RefusalKind::Invalid, offset: self.at, what }
     }
 
-    pub fn invalid<T>(&self, what: &'static str) -> Read<T> {
-        self.refuse(RefusalKind::Invalid, what)
-    }
-
-    pub fn unsupported<T>(&self, what: &'static str) -> Read<T> {
-        self.refuse(RefusalKind::Unsupported, what)
+    pub fn unsupported(&self, what: &'static str) -> Refusal {
+        Refusal { kind: RefusalKind::Unsupported, offset: self.at, what }
     }
 
     pub fn take(&mut self, len: usize) -> Read<&'a [u8]> {
-        if len > self.len() {
-            return self.malformed("the file or the section ends too soon");
-        }
+        ensure(len <= self.len(), self.malformed("the file or the section ends too soon"))?;
         self.at += len;
         Ok(&self.file[self.at - len..self.at])
     }
@@ -111,12 +110,9 @@ impl<'a> Reader<'a> {
             let rest = bits - shift;
             if rest <= 7 {
                 let high = (byte & 0x7f) >> (rest - u32::from(is_signed));
-                if byte & 0x80 != 0 {
-                    return begin.malformed("a number has too many bytes");
-                }
-                if high != 0 && !(is_signed && high == 0x7f >> (rest - 1)) {
-                    return begin.malformed("a number is too great");
-                }
+                let is_sign = high == 0 || is_signed && high == 0x7f >> (rest - 1);
+                ensure(byte & 0x80 == 0, begin.malformed("a number has too many bytes"))?;
+                ensure(is_sign, begin.malformed("a number is too great"))?;
             }
             shift += 7;
             if byte & 0x80 == 0 {
@@ -153,9 +149,7 @@ impl<'a> Reader<'a> {
 
     /// The bits of a float of so many bytes.
     pub fn float(&mut self, bytes: usize) -> Read<u64> {
-        if !self.is_lenient {
-            return self.unsupported("a constant is a float");
-        }
+        ensure(self.is_lenient, self.unsupported("a constant is a float"))?;
         Ok(self.take(bytes)?.iter().rev().fold(0, |bits, byte| bits << 8 | u64::from(*byte)))
     }
 
@@ -174,15 +168,13 @@ impl<'a> Reader<'a> {
 
     pub fn name(&mut self) -> Read<&'a str> {
         let begin = *self;
-        str::from_utf8(self.bytes()?).or_else(|_| begin.malformed("a name isn't UTF-8"))
+        str::from_utf8(self.bytes()?).or(Err(begin.malformed("a name isn't UTF-8")))
     }
 
     /// A vector: its length, and then its items, which have at least a byte each.
     pub fn list<T>(&mut self, mut item: impl FnMut(&mut Self) -> Read<T>) -> Read<Vec<T>> {
         let count = self.u32()? as usize;
-        if count > self.len() {
-            return self.malformed("the file or the section ends too soon");
-        }
+        ensure(count <= self.len(), self.malformed("the file or the section ends too soon"))?;
         (0..count).map(|_| item(self)).collect()
     }
 
@@ -196,8 +188,8 @@ impl<'a> Reader<'a> {
             0x7b => ValType::V128,
             0x70 => ValType::FuncRef,
             0x6f => ValType::ExternRef,
-            0x7c | 0x7d => return begin.unsupported("a type is one of floats"),
-            _ => return begin.malformed("a type of values is unknown"),
+            0x7c | 0x7d => return Err(begin.unsupported("a type is one of floats")),
+            _ => return Err(begin.malformed("a type of values is unknown")),
         })
     }
 
@@ -205,33 +197,27 @@ impl<'a> Reader<'a> {
         match self.byte()? {
             0x70 => Ok(RefType::Func),
             0x6f => Ok(RefType::Extern),
-            _ => self.malformed("a type of references is unknown"),
+            _ => Err(self.malformed("a type of references is unknown")),
         }
     }
 
     pub fn func_type(&mut self) -> Read<FuncType> {
         let begin = *self;
-        if self.byte()? != 0x60 {
-            return begin.malformed("a type isn't one of functions");
-        }
+        ensure(self.byte()? == 0x60, begin.malformed("a type isn't one of functions"))?;
         let (params, results) = (self.list(Self::val_type)?, self.list(Self::val_type)?);
-        FuncType::new(params, results)
-            .or_else(|_| begin.unsupported("a type has more than 1,000 parameters or results"))
+        let refusal = begin.unsupported("a type has more than 1,000 parameters or results");
+        FuncType::new(params, results).or(Err(refusal))
     }
 
     /// Limits: their flags, the least and the greatest size. Flag 0 is for a greatest size, 2 for addresses of 64 bits.
     fn limits(&mut self, most_flags: u8) -> Read<(u8, u64, Option<u64>)> {
         let begin = *self;
         let flags = self.byte()?;
-        if flags & !most_flags != 0 {
-            return begin.malformed("the flags of limits are unknown");
-        }
+        ensure(flags & !most_flags == 0, begin.malformed("the flags of limits are unknown"))?;
         let size = |it: &mut Self| if flags & 4 != 0 { it.u64() } else { it.u32().map(u64::from) };
         let min = size(self)?;
         let max = if flags & 1 != 0 { Some(size(self)?) } else { None };
-        if max.is_some_and(|max| max < min) {
-            return begin.invalid("the least size is above the greatest one");
-        }
+        ensure(max.is_none_or(|max| min <= max), begin.invalid("the least size is above the greatest one"))?;
         Ok((flags, min, max))
     }
 
@@ -243,9 +229,8 @@ impl<'a> Reader<'a> {
         if flags & 8 != 0 {
             builder.page_size_log2(self.u32()?.try_into().unwrap_or(u8::MAX));
         }
-        builder
-            .build()
-            .or_else(|_| begin.invalid("a memory has a size beyond its addresses or an unknown size of pages"))
+        let refusal = begin.invalid("a memory has a size beyond its addresses or an unknown size of pages");
+        builder.build().or(Err(refusal))
     }
 
     pub fn table_type(&mut self) -> Read<TableType> {
@@ -263,7 +248,7 @@ impl<'a> Reader<'a> {
         let mutability = match self.byte()? {
             0 => Mutability::Const,
             1 => Mutability::Var,
-            _ => return self.malformed("a global is neither constant nor mutable"),
+            _ => return Err(self.malformed("a global is neither constant nor mutable")),
         };
         Ok(GlobalType::new(content, mutability))
     }

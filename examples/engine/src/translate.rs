@@ -11,10 +11,10 @@
 
 use crate::instructions::{self, Code, Form, Op};
 use crate::library::simd::ImmLaneIdx32;
-use crate::library::{FuelCostsProvider, FuncType, RawRef, RawVal, ValType, ValType::*};
+use crate::library::{self, FuelCostsProvider, FuncType, RawRef, RawVal, ValType, ValType::*};
 use crate::limits;
 use crate::module::{self, Module};
-use crate::reader::{Read, Reader, Refusal, RefusalKind};
+use crate::reader::{Read, Reader, Refusal, RefusalKind, ensure};
 use std::collections::HashMap;
 
 /// The code of a function, and what its frame begins with.
@@ -108,7 +108,7 @@ struct Translator<'m, 'b> {
 
 /// Validates and translates the body of a function.
 pub(crate) fn function(module: &Module, number: u32, mut reader: Reader) -> Read<Function> {
-    limits::check(&reader, reader.len(), limits::BODY, "the body of a function is too long")?;
+    ensure(reader.len() <= limits::BODY, reader.unsupported("the body of a function is too long"))?;
     let ty = module.type_of(number);
     let locals = locals(ty, &mut reader)?;
     let mut it = Translator {
@@ -133,9 +133,7 @@ pub(crate) fn function(module: &Module, number: u32, mut reader: Reader) -> Read
         it.at = it.reader.at();
         it.instruction()?;
     }
-    if !it.reader.is_empty() {
-        return it.reader.malformed("the body of a function is longer than its code");
-    }
+    ensure(it.reader.is_empty(), it.reader.malformed("the body of a function is longer than its code"))?;
     Ok(it.finish(ty))
 }
 
@@ -150,11 +148,9 @@ fn locals(ty: &FuncType, reader: &mut Reader) -> Read<Vec<ValType>> {
             locals.extend(std::iter::repeat_n(ty, count as usize));
         }
     }
-    match all {
-        _ if all > u64::from(u32::MAX) => begin.malformed("a function has 2^32 locals or more"),
-        _ if locals.len() as u64 != all => begin.unsupported("a function has too many locals"),
-        _ => Ok(locals),
-    }
+    ensure(all <= u32::MAX.into(), begin.malformed("a function has 2^32 locals or more"))?;
+    ensure(all == locals.len() as u64, begin.unsupported("a function has too many locals"))?;
+    Ok(locals)
 }
 
 /// A type as a list of one.
@@ -200,8 +196,8 @@ impl<'m> Translator<'m, '_> {
         }
     }
 
-    fn invalid<T>(&self, what: &'static str) -> Read<T> {
-        Err(Refusal { kind: RefusalKind::Invalid, offset: self.at, what })
+    fn invalid(&self, what: &'static str) -> Refusal {
+        Refusal { kind: RefusalKind::Invalid, offset: self.at, what }
     }
 
     fn block(&mut self) -> &mut Block<'m> {
@@ -253,8 +249,8 @@ impl<'m> Translator<'m, '_> {
         }
         self.stack.push(Operand { ty, place });
         self.height = self.height.max(self.stack.len());
-        limits::check(&self.reader, self.height, limits::OPERANDS, "a function has too many operands at once")?;
-        Ok(self.own(self.stack.len() - 1))
+        let refusal = self.reader.unsupported("a function has too many operands at once");
+        ensure(self.height <= limits::OPERANDS, refusal).map(|()| self.own(self.stack.len() - 1))
     }
 
     fn push_all(&mut self, types: &[ValType]) -> Read<()> {
@@ -264,17 +260,14 @@ impl<'m> Translator<'m, '_> {
     /// An operand of any type, and its slot.
     fn pop_any(&mut self) -> Read<(Option<ValType>, u16)> {
         let (height, is_open) = (self.block().height, self.block().is_open);
-        match self.stack.len() > height {
-            true => {
-                let operand = self.stack[self.stack.len() - 1];
-                let slot = self.slot(operand, self.stack.len() - 1);
-                self.forget(operand.place);
-                self.stack.pop();
-                Ok((operand.ty, slot))
-            }
-            false if is_open => Ok((None, 0)),
-            false => self.invalid("an operand is missing"),
+        if self.stack.len() == height {
+            return ensure(is_open, self.invalid("an operand is missing")).map(|()| (None, 0));
         }
+        let operand = self.stack[self.stack.len() - 1];
+        let slot = self.slot(operand, self.stack.len() - 1);
+        self.forget(operand.place);
+        self.stack.pop();
+        Ok((operand.ty, slot))
     }
 
     fn forget(&mut self, place: Place) {
@@ -285,10 +278,8 @@ impl<'m> Translator<'m, '_> {
     }
 
     fn pop(&mut self, wanted: ValType) -> Read<u16> {
-        match self.pop_any()? {
-            (Some(ty), _) if ty != wanted => self.invalid("an operand has another type"),
-            (_, slot) => Ok(slot),
-        }
+        let (ty, slot) = self.pop_any()?;
+        ensure(ty.is_none_or(|ty| ty == wanted), self.invalid("an operand has another type")).map(|()| slot)
     }
 
     fn pop_all(&mut self, types: &[ValType]) -> Read<()> {
@@ -301,16 +292,11 @@ impl<'m> Translator<'m, '_> {
             self.pop_all(types)?;
             return self.push_all(types);
         }
-        match (self.stack.len() - self.block().height).checked_sub(types.len()) {
-            None => self.invalid("an operand is missing"),
-            Some(_) => {
-                let last = &self.stack[self.stack.len() - types.len()..];
-                match last.iter().zip(types).all(|(operand, ty)| operand.ty.is_none_or(|it| it == *ty)) {
-                    true => Ok(()),
-                    false => self.invalid("an operand has another type"),
-                }
-            }
-        }
+        let count = self.stack.len() - self.block().height;
+        ensure(types.len() <= count, self.invalid("an operand is missing"))?;
+        let mut last = self.stack[self.stack.len() - types.len()..].iter().zip(types);
+        let are_right = last.all(|(operand, ty)| operand.ty.is_none_or(|it| it == *ty));
+        ensure(are_right, self.invalid("an operand has another type"))
     }
 
     /// An instruction with a result.
@@ -330,12 +316,17 @@ impl<'m> Translator<'m, '_> {
             *slot = self.pop(*ty)?;
         }
         let [a, b, c] = slots;
-        let op = Op { a, b, c, ..op };
+        self.finish_plain(Op { a, b, c, ..op }, result)
+    }
+
+    fn finish_plain(&mut self, op: Op, result: Option<ValType>) -> Read<()> {
         match result {
-            Some(_) => self.result(op, result)?,
-            None => self.emit(op),
+            Some(_) => self.result(op, result),
+            None => {
+                self.emit(op);
+                Ok(())
+            }
         }
-        Ok(())
     }
 
     /// The slot of a constant.
@@ -343,21 +334,16 @@ impl<'m> Translator<'m, '_> {
         let next = self.constants.len() as u16;
         let number = *self.numbers.entry(bits).or_insert(next);
         if number == next {
-            limits::check(
-                &self.reader,
-                self.constants.len(),
-                limits::CONSTANTS - 1,
-                "a function has too many constants",
-            )?;
+            let refusal = self.reader.unsupported("a function has too many constants");
+            ensure(self.constants.len() < limits::CONSTANTS, refusal)?;
             let low = bits as u64;
-            let is_wide = bits > u128::from(low);
-            self.constants.push(if is_wide { crate::library::V128::from(bits).into() } else { low.into() });
+            self.constants.push(if bits > low.into() { library::V128::from(bits).into() } else { low.into() });
         }
         Ok(number)
     }
 
-    fn constant(&mut self, ty: ValType, bits: u128) -> Read<()> {
-        let number = self.constant_slot(bits)?;
+    fn constant(&mut self, ty: ValType, bits: impl Into<u128>) -> Read<()> {
+        let number = self.constant_slot(bits.into())?;
         self.push_at(Some(ty), Place::Constant(number)).map(drop)
     }
 
@@ -397,7 +383,8 @@ impl<'m> Translator<'m, '_> {
         let is_dead = self.blocks.last().is_some_and(|it| it.is_dead);
         let height = self.stack.len() - ty.params.len();
         self.blocks.push(Block { kind, ty, height, is_dead, was_dead: is_dead, is_open: false, exits: vec![] });
-        limits::check(&self.reader, self.blocks.len(), limits::BLOCKS, "a function has too many blocks in each other")
+        let refusal = self.reader.unsupported("a function has too many blocks in each other");
+        ensure(self.blocks.len() <= limits::BLOCKS, refusal)
     }
 
     /// What follows isn't reached.
@@ -412,9 +399,7 @@ impl<'m> Translator<'m, '_> {
 
     /// A block that a jump leads to, and the operands that the jump takes.
     fn target(&self, depth: u32) -> Read<(usize, &'m [ValType])> {
-        let Some(index) = (self.blocks.len() - 1).checked_sub(depth as usize) else {
-            return self.invalid("a label is unknown");
-        };
+        let index = (self.blocks.len() - 1).checked_sub(depth as usize).ok_or(self.invalid("a label is unknown"))?;
         let block = &self.blocks[index];
         Ok((index, if matches!(block.kind, Kind::Loop(_)) { block.ty.params } else { block.ty.results }))
     }
@@ -431,13 +416,22 @@ impl<'m> Translator<'m, '_> {
         }
         let d = self.own(self.blocks[index].height);
         match count {
-            0 => {}
-            _ if a == d => {}
+            _ if count == 0 || a == d => {}
             1 => self.emit(Op { d, a, ..Op::new(Code::copy) }),
             _ => self.emit_for(Op { d, a, ..Op::of(Code::copy_many, count as u32) }, 1 + price(count)),
         }
         self.emit(Op::new(Code::branch));
         self.leave(index, self.code.len() - 1);
+    }
+
+    /// A jump with operands of these types.
+    fn jump_with(&mut self, index: usize, types: &[ValType]) -> Read<()> {
+        self.check(types)?;
+        if types.len() > 1 {
+            self.settle_last(types.len());
+        }
+        self.jump(index, types.len());
+        Ok(())
     }
 
     /// An instruction jumps to the end of a block, whose place isn't known yet, or to the beginning of a loop.
@@ -448,33 +442,24 @@ impl<'m> Translator<'m, '_> {
         }
     }
 
-    fn leave_function(&mut self) -> Read<()> {
-        let results = self.blocks[0].ty.results;
-        self.check(results)?;
-        if results.len() > 1 {
-            self.settle_last(results.len());
-        }
-        self.jump(0, results.len());
-        Ok(())
-    }
-
     /// Closes a block or the first half of an `if`: its results lie in slots of their own.
     fn close(&mut self) -> Read<()> {
         let results = self.block().ty.results;
         self.check(results)?;
         self.settle_last(results.len());
         self.pop_all(results)?;
-        if self.stack.len() == self.block().height { Ok(()) } else { self.invalid("an operand is left") }
+        ensure(self.stack.len() == self.block().height, self.invalid("an operand is left"))
     }
 
     fn block_type(&mut self) -> Read<BlockType<'m>> {
         match self.reader.peek() {
             Some(0x40) => self.reader.byte().map(|_| BlockType::default()),
             Some(byte) if byte & 0xc0 == 0x40 => Ok(BlockType { params: &[], results: one(self.reader.val_type()?) }),
-            _ => match self.reader.type_of_block()?.and_then(|ty| self.module.types.get(ty as usize)) {
-                Some(ty) => Ok(BlockType { params: ty.params(), results: ty.results() }),
-                None => self.invalid("a type is unknown"),
-            },
+            _ => {
+                let ty = self.reader.type_of_block()?.and_then(|ty| self.module.types.get(ty as usize));
+                let ty = ty.ok_or(self.invalid("a type is unknown"))?;
+                Ok(BlockType { params: ty.params(), results: ty.results() })
+            }
         }
     }
 
@@ -486,20 +471,20 @@ impl<'m> Translator<'m, '_> {
         self.settle_locals(None);
         self.pop_all(ty.params)?;
         self.push_all(ty.params)?;
+        if opcode == 4 {
+            self.emit(Op { a, ..Op::new(Code::branch_unless) });
+        }
         let kind = match opcode {
             2 => Kind::Block,
             3 => Kind::Loop(self.label()),
-            _ => {
-                self.emit(Op { a, ..Op::new(Code::branch_unless) });
-                Kind::If(self.label() as usize - 1)
-            }
+            _ => Kind::If(self.label() as usize - 1),
         };
         self.open(kind, ty)
     }
 
     fn begin_else(&mut self) -> Read<()> {
         let Kind::If(test) = self.block().kind else {
-            return self.reader.malformed("an else has no if");
+            return Err(self.reader.malformed("an else has no if"));
         };
         self.close()?;
         self.block().kind = Kind::Block;
@@ -515,20 +500,17 @@ impl<'m> Translator<'m, '_> {
 
     fn end(&mut self) -> Read<()> {
         if self.blocks.len() == 1 {
-            self.leave_function()?;
-            if self.stack.len() != self.block().ty.results.len() {
-                return self.invalid("an operand is left");
-            }
+            let results = self.block().ty.results;
+            self.jump_with(0, results)?;
             self.blocks.pop();
-            return Ok(());
+            return ensure(self.stack.len() == results.len(), self.invalid("an operand is left"));
         }
         self.close()?;
         let label = self.label();
         if let Some(block) = self.blocks.pop() {
             if let Kind::If(test) = block.kind {
-                if block.ty.params != block.ty.results {
-                    return self.invalid("an if without an else changes the stack");
-                }
+                let is_kept = block.ty.params == block.ty.results;
+                ensure(is_kept, self.invalid("an if without an else changes the stack"))?;
                 if !block.was_dead {
                     self.code[test].imm = label;
                 }
@@ -570,9 +552,7 @@ impl<'m> Translator<'m, '_> {
         let count = self.target(depths[depths.len() - 1])?.1.len();
         for depth in &depths {
             let (_, types) = self.target(*depth)?;
-            if types.len() != count {
-                return self.invalid("labels of one table take different operands");
-            }
+            ensure(types.len() == count, self.invalid("labels of one table take different operands"))?;
             self.check(types)?;
         }
         if !self.block().is_dead {
@@ -614,29 +594,28 @@ impl<'m> Translator<'m, '_> {
             return self.of_the_library(Op::new(code), form);
         }
         match opcode {
-            0x00..=0x0f => self.control(opcode, begin),
+            0x00..=0x05 | 0x0b..=0x0f => self.control(opcode),
             0x10 | 0x11 => self.call(opcode),
-            0x1a..=0x1c => self.parametric(opcode),
+            0x1a => self.pop_any().map(drop),
+            0x1b | 0x1c => self.select(opcode),
             0x20..=0x24 => self.variable(opcode),
-            0x25 | 0x26 | 0xfc00c..=0xfc011 => self.of_tables(opcode),
-            0x3f | 0x40 | 0xfc008..=0xfc00b => self.of_memories(opcode),
-            0x41 => self.reader.i32().and_then(|value| self.constant(I32, value.cast_unsigned().into())),
-            0x42 => self.reader.i64().and_then(|value| self.constant(I64, value.cast_unsigned().into())),
+            0x25 | 0x26 | 0xfc00e..=0xfc011 => self.of_tables(opcode),
+            0x3f | 0x40 | 0xfc00a | 0xfc00b => self.of_memories(opcode),
+            0xfc008 | 0xfc009 | 0xfc00c | 0xfc00d => self.of_segments(opcode),
+            0x41 => self.reader.i32().and_then(|value| self.constant(I32, value.cast_unsigned())),
+            0x42 => self.reader.i64().and_then(|value| self.constant(I64, value.cast_unsigned())),
             0xd0..=0xd2 => self.reference(opcode),
             0xfc013..=0xfc016 => self.wide(opcode),
             0xfd00c => self.reader.v128().and_then(|value| self.constant(V128, value.as_u128())),
             0xfd00d => self.shuffle(),
-            _ if instructions::is_of_floats(opcode) => begin.unsupported("an instruction is one on floats"),
-            _ => begin.malformed("an instruction is unknown"),
+            _ if instructions::is_of_floats(opcode) => Err(begin.unsupported("an instruction is one on floats")),
+            _ => Err(begin.malformed("an instruction is unknown")),
         }
     }
 
-    fn control(&mut self, opcode: u32, begin: Reader) -> Read<()> {
+    fn control(&mut self, opcode: u32) -> Read<()> {
         match opcode {
-            0x00 => {
-                self.emit(Op::new(Code::unreachable));
-                self.end_here();
-            }
+            0x00 => self.emit(Op::new(Code::unreachable)),
             0x01 => {}
             0x02..=0x04 => self.begin_block(opcode)?,
             0x05 => self.begin_else()?,
@@ -644,43 +623,29 @@ impl<'m> Translator<'m, '_> {
             0x0c => {
                 let depth = self.reader.u32()?;
                 let (index, types) = self.target(depth)?;
-                self.check(types)?;
-                if types.len() > 1 {
-                    self.settle_last(types.len());
-                }
-                self.jump(index, types.len());
-                self.end_here();
+                self.jump_with(index, types)?;
             }
             0x0d => self.branch_if()?,
             0x0e => self.branch_table()?,
-            0x0f => {
-                self.leave_function()?;
-                self.end_here();
-            }
-            _ => return begin.malformed("an instruction is unknown"),
+            _ => self.jump_with(0, self.blocks[0].ty.results)?,
+        }
+        if matches!(opcode, 0x00 | 0x0c | 0x0f) {
+            self.end_here();
         }
         Ok(())
     }
 
     fn call(&mut self, opcode: u32) -> Read<()> {
         let module = self.module;
-        let number = self.reader.u32()? as usize;
+        let number = self.reader.u32()?;
         let (ty, op) = if opcode == 0x10 {
-            match module.functions.get(number) {
-                Some(ty) => (*ty as usize, Op::of(Code::call, number as u32)),
-                None => return self.invalid("a function is unknown"),
-            }
+            let ty = module.functions.get(number as usize).ok_or(self.invalid("a function is unknown"))?;
+            (*ty as usize, Op::of(Code::call, number))
         } else {
             let (table, index, element) = self.table()?;
-            if element != FuncRef {
-                return self.invalid("a call goes through a table of no functions");
-            }
-            match module.same.get(number) {
-                Some(same) => {
-                    (number, Op { b: self.pop(index)?, lane: table as u16, ..Op::of(Code::call_indirect, *same) })
-                }
-                None => return self.invalid("a type is unknown"),
-            }
+            ensure(element == FuncRef, self.invalid("a call goes through a table of no functions"))?;
+            let same = *module.same.get(number as usize).ok_or(self.invalid("a type is unknown"))?;
+            (number as usize, Op { b: self.pop(index)?, lane: table as u16, ..Op::of(Code::call_indirect, same) })
         };
         let ty = &module.types[ty];
         self.check(ty.params())?;
@@ -691,44 +656,33 @@ impl<'m> Translator<'m, '_> {
         self.push_all(ty.results())
     }
 
-    fn parametric(&mut self, opcode: u32) -> Read<()> {
-        if opcode == 0x1a {
-            return self.pop_any().map(drop);
-        }
+    fn select(&mut self, opcode: u32) -> Read<()> {
         let given = if opcode == 0x1c { self.reader.list(Reader::val_type)? } else { vec![] };
-        if opcode == 0x1c && given.len() != 1 {
-            return self.invalid("a select has another number of types than one");
-        }
+        ensure(opcode == 0x1b || given.len() == 1, self.invalid("a select has another number of types than one"))?;
         let (c, (right, b), (left, a)) = (self.pop(I32)?, self.pop_any()?, self.pop_any()?);
         let ty = given.first().copied().or(left).or(right);
-        if [left, right].iter().any(|it| it.is_some() && *it != ty) {
-            return self.invalid("a select has operands of two types");
-        }
-        if given.is_empty() && ty.is_some_and(|it| it.is_ref()) {
-            return self.invalid("a select of references doesn't name their type");
-        }
+        let are_same = [left, right].iter().all(|it| it.is_none() || *it == ty);
+        ensure(are_same, self.invalid("a select has operands of two types"))?;
+        let is_named = !given.is_empty() || ty.is_none_or(|it| !it.is_ref());
+        ensure(is_named, self.invalid("a select of references doesn't name their type"))?;
         self.result(Op { a, b, c, ..Op::new(Code::select) }, ty)
     }
 
     fn variable(&mut self, opcode: u32) -> Read<()> {
         let number = self.reader.u32()?;
         if opcode < 0x23 {
-            let Some(ty) = self.locals.get(number as usize).copied() else {
-                return self.invalid("a local is unknown");
-            };
+            let ty = *self.locals.get(number as usize).ok_or(self.invalid("a local is unknown"))?;
             return match opcode {
                 0x20 => self.push_at(Some(ty), Place::Local(number as u16)).map(drop),
                 _ => self.set_local(number as u16, ty, opcode == 0x22),
             };
         }
-        let Some((ty, _)) = self.module.globals.get(number as usize) else {
-            return self.invalid("a global is unknown");
-        };
-        match opcode {
-            0x23 => self.plain(Op::of(Code::global_get, number), &[], Some(ty.content())),
-            _ if ty.mutability().is_mut() => self.plain(Op::of(Code::global_set, number), &[ty.content()], None),
-            _ => self.invalid("a constant global is set"),
+        let (ty, _) = self.module.globals.get(number as usize).ok_or(self.invalid("a global is unknown"))?;
+        if opcode == 0x23 {
+            return self.plain(Op::of(Code::global_get, number), &[], Some(ty.content()));
         }
+        ensure(ty.mutability().is_mut(), self.invalid("a constant global is set"))?;
+        self.plain(Op::of(Code::global_set, number), &[ty.content()], None)
     }
 
     /// Writes an operand to a local, or lets the instruction before write it there.
@@ -751,72 +705,27 @@ impl<'m> Translator<'m, '_> {
     }
 
     fn reference(&mut self, opcode: u32) -> Read<()> {
-        match opcode {
-            0xd0 => {
-                let ty = self.reader.ref_type()?;
-                self.constant(ty.into(), u32::from(RawRef::null()).into())
-            }
-            0xd1 => match self.pop_any()? {
-                (Some(ty), _) if !ty.is_ref() => self.invalid("an operand isn't a reference"),
-                (_, a) => self.result(Op { a, ..Op::new(Code::is_null) }, Some(I32)),
-            },
-            _ => {
-                let function = self.reader.u32()?;
-                match self.module.is_declared.get(function as usize) {
-                    Some(true) => self.constant(FuncRef, u32::from(module::reference(function)).into()),
-                    Some(false) => self.invalid("a reference is to a function that isn't declared"),
-                    None => self.invalid("a function is unknown"),
-                }
-            }
+        if opcode == 0xd0 {
+            let ty = self.reader.ref_type()?;
+            return self.constant(ty.into(), u32::from(RawRef::null()));
         }
+        if opcode == 0xd1 {
+            let (ty, a) = self.pop_any()?;
+            ensure(ty.is_none_or(|it| it.is_ref()), self.invalid("an operand isn't a reference"))?;
+            return self.result(Op { a, ..Op::new(Code::is_null) }, Some(I32));
+        }
+        let function = self.reader.u32()?;
+        let is_declared =
+            self.module.is_declared.get(function as usize).ok_or(self.invalid("a function is unknown"))?;
+        ensure(*is_declared, self.invalid("a reference is to a function that isn't declared"))?;
+        self.constant(FuncRef, u32::from(module::reference(function)))
     }
 
     /// A table, with the types of its indices and of its elements.
     fn table(&mut self) -> Read<(u32, ValType, ValType)> {
         let number = self.reader.u32()?;
-        match self.module.tables.get(number as usize) {
-            Some((ty, _)) => Ok((number, ty.index_ty().ty(), ty.element().into())),
-            None => self.invalid("a table is unknown"),
-        }
-    }
-
-    fn of_tables(&mut self, opcode: u32) -> Read<()> {
-        if opcode == 0xfc00c || opcode == 0xfc00d {
-            let segment = self.reader.u32()?;
-            let Some(elements) = self.module.elements.get(segment as usize) else {
-                return self.invalid("an element segment is unknown");
-            };
-            if opcode == 0xfc00d {
-                self.emit(Op::of(Code::elem_drop, segment));
-                return Ok(());
-            }
-            let (table, index, element) = self.table()?;
-            if element != elements.ty.into() {
-                return self.invalid("an element segment has another type than the table");
-            }
-            return self.plain(
-                Op { lane: table as u16, ..Op::of(Code::table_init, segment) },
-                &[index, I32, I32],
-                None,
-            );
-        }
-        let (imm, index, element) = self.table()?;
-        match opcode {
-            0x25 => self.plain(Op::of(Code::table_get, imm), &[index], Some(element)),
-            0x26 => self.plain(Op::of(Code::table_set, imm), &[index, element], None),
-            0xfc00e => {
-                let (from, index_of_source, ty) = self.table()?;
-                if ty != element {
-                    return self.invalid("two tables have different types");
-                }
-                let count = if index == I64 { index_of_source } else { I32 };
-                let op = Op { lane: from as u16, ..Op::of(Code::table_copy, imm) };
-                self.plain(op, &[index, index_of_source, count], None)
-            }
-            0xfc00f => self.plain(Op::of(Code::table_grow, imm), &[element, index], Some(index)),
-            0xfc010 => self.plain(Op::of(Code::table_size, imm), &[], Some(index)),
-            _ => self.plain(Op::of(Code::table_fill, imm), &[index, element, index], None),
-        }
+        let (ty, _) = self.module.tables.get(number as usize).ok_or(self.invalid("a table is unknown"))?;
+        Ok((number, ty.index_ty().ty(), ty.element().into()))
     }
 
     /// A memory, with the type of its addresses.
@@ -826,66 +735,88 @@ impl<'m> Translator<'m, '_> {
     }
 
     fn memory_of(&self, number: u32) -> Read<(u32, ValType)> {
-        match self.module.memories.get(number as usize) {
-            Some(ty) => Ok((number, ty.index_ty().ty())),
-            None => self.invalid("a memory is unknown"),
+        let ty = self.module.memories.get(number as usize).ok_or(self.invalid("a memory is unknown"))?;
+        Ok((number, ty.index_ty().ty()))
+    }
+
+    fn of_tables(&mut self, opcode: u32) -> Read<()> {
+        let (imm, index, element) = self.table()?;
+        match opcode {
+            0x25 => self.plain(Op::of(Code::table_get, imm), &[index], Some(element)),
+            0x26 => self.plain(Op::of(Code::table_set, imm), &[index, element], None),
+            0xfc00f => self.plain(Op::of(Code::table_grow, imm), &[element, index], Some(index)),
+            0xfc010 => self.plain(Op::of(Code::table_size, imm), &[], Some(index)),
+            0xfc011 => self.plain(Op::of(Code::table_fill, imm), &[index, element, index], None),
+            _ => {
+                let (from, index_of_source, ty) = self.table()?;
+                ensure(ty == element, self.invalid("two tables have different types"))?;
+                let count = if index == I64 { index_of_source } else { I32 };
+                let op = Op { lane: from as u16, ..Op::of(Code::table_copy, imm) };
+                self.plain(op, &[index, index_of_source, count], None)
+            }
         }
     }
 
     fn of_memories(&mut self, opcode: u32) -> Read<()> {
-        if opcode == 0xfc008 || opcode == 0xfc009 {
-            let segment = self.reader.u32()?;
-            let Some(count) = self.module.data_count else {
-                return self.reader.malformed("the data count section is missing");
-            };
-            if segment >= count {
-                return self.invalid("a data segment is unknown");
-            }
-            if opcode == 0xfc009 {
-                self.emit(Op::of(Code::data_drop, segment));
-                return Ok(());
-            }
-            let (memory, address) = self.memory()?;
-            return self.plain(
-                Op { lane: memory as u16, ..Op::of(Code::memory_init, segment) },
-                &[address, I32, I32],
-                None,
-            );
-        }
         let (imm, address) = self.memory()?;
         match opcode {
             0x3f => self.plain(Op::of(Code::memory_size, imm), &[], Some(address)),
             0x40 => self.plain(Op::of(Code::memory_grow, imm), &[address], Some(address)),
-            0xfc00a => {
+            0xfc00b => self.plain(Op::of(Code::memory_fill, imm), &[address, I32, address], None),
+            _ => {
                 let (from, address_of_source) = self.memory()?;
                 let count = if address == I64 { address_of_source } else { I32 };
                 let op = Op { lane: from as u16, ..Op::of(Code::memory_copy, imm) };
                 self.plain(op, &[address, address_of_source, count], None)
             }
-            _ => self.plain(Op::of(Code::memory_fill, imm), &[address, I32, address], None),
         }
+    }
+
+    /// Segments that are copied from, to a memory or a table, or dropped.
+    fn of_segments(&mut self, opcode: u32) -> Read<()> {
+        let segment = self.reader.u32()?;
+        let elements = self.module.elements.get(segment as usize);
+        if opcode < 0xfc00c {
+            let count = self.module.data_count.ok_or(self.reader.malformed("the data count section is missing"))?;
+            ensure(segment < count, self.invalid("a data segment is unknown"))?;
+        } else {
+            ensure(elements.is_some(), self.invalid("an element segment is unknown"))?;
+        }
+        let (code, number, index) = match opcode {
+            0xfc008 => {
+                let (memory, address) = self.memory()?;
+                (Code::memory_init, memory, address)
+            }
+            0xfc00c => {
+                let (table, index, ty) = self.table()?;
+                let is_right = elements.is_some_and(|it| ty == it.ty.into());
+                ensure(is_right, self.invalid("an element segment has another type than the table"))?;
+                (Code::table_init, table, index)
+            }
+            _ => {
+                self.emit(Op::of(if opcode == 0xfc009 { Code::data_drop } else { Code::elem_drop }, segment));
+                return Ok(());
+            }
+        };
+        self.plain(Op { lane: number as u16, ..Op::of(code, segment) }, &[index, I32, I32], None)
     }
 
     /// Instructions with two results, which lie where their operands lay.
     fn wide(&mut self, opcode: u32) -> Read<()> {
         let codes = [Code::i64_add128, Code::i64_sub128, Code::i64_mul_wide_s, Code::i64_mul_wide_u];
-        let code = codes[opcode as usize - 0xfc013];
         let operands = &[I64; 4][..if opcode < 0xfc015 { 4 } else { 2 }];
         self.check(operands)?;
         self.settle_last(operands.len());
         self.pop_all(operands)?;
         let a = self.own(self.stack.len());
-        self.emit(Op { a, ..Op::new(code) });
+        self.emit(Op { a, ..Op::new(codes[opcode as usize - 0xfc013]) });
         self.push_all(&[I64, I64])
     }
 
     fn shuffle(&mut self) -> Read<()> {
         let lanes = self.reader.take(16)?;
         let indices: Vec<_> = lanes.iter().filter_map(|lane| ImmLaneIdx32::try_from(*lane).ok()).collect();
-        let Ok(indices) = indices.try_into() else {
-            return self.invalid("there is no such lane");
-        };
-        self.shuffles.push(indices);
+        self.shuffles.push(indices.try_into().or(Err(self.invalid("there is no such lane")))?);
         self.plain(Op::of(Code::shuffle, self.shuffles.len() as u32 - 1), &[V128, V128], Some(V128))
     }
 
@@ -911,7 +842,7 @@ impl<'m> Translator<'m, '_> {
 
     fn lane(&mut self, lanes: u8) -> Read<u16> {
         let lane = self.reader.byte()?;
-        if lane < lanes { Ok(lane.into()) } else { self.invalid("there is no such lane") }
+        ensure(lane < lanes, self.invalid("there is no such lane")).map(|()| lane.into())
     }
 
     /// A load or a store of so many bytes, with the value that it takes. An access to another memory than the first one
@@ -926,17 +857,12 @@ impl<'m> Translator<'m, '_> {
     ) -> Read<()> {
         let begin = self.reader;
         let flags = self.reader.u32()?;
-        let number = if flags & 0x40 != 0 { self.reader.u32()? } else { 0 };
+        let (memory, address) = if flags & 0x40 != 0 { self.memory()? } else { self.memory_of(0)? };
         let align = flags & !0x40;
-        if align >= 0x40 {
-            return begin.malformed("the alignment of an access is beyond 64 bits");
-        }
-        let (memory, address) = self.memory_of(number)?;
+        ensure(align < 0x40, begin.malformed("the alignment of an access is beyond 64 bits"))?;
         let offset = if address == I64 { self.reader.u64()? } else { self.reader.u32()?.into() };
         let lane = lanes.map_or(Ok(0), |lanes| self.lane(lanes))?;
-        if align > bytes.trailing_zeros() {
-            return self.invalid("an alignment is above the bytes of its access");
-        }
+        ensure(align <= bytes.trailing_zeros(), self.invalid("an alignment is above the bytes of its access"))?;
         let b = value.map_or(Ok(0), |ty| self.pop(ty))?;
         let mut a = self.pop(address)?;
         let imm = u32::try_from(offset).unwrap_or(0);
@@ -948,11 +874,7 @@ impl<'m> Translator<'m, '_> {
         if memory != 0 {
             self.emit(Op::of(Code::memory_use, memory));
         }
-        let op = Op { a, b, imm, lane, ..op };
-        match result {
-            Some(_) => self.result(op, result)?,
-            None => self.emit(op),
-        }
+        self.finish_plain(Op { a, b, imm, lane, ..op }, result)?;
         if memory != 0 {
             self.emit(Op::new(Code::memory_use));
         }

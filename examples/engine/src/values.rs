@@ -1,6 +1,5 @@
 //! Values as text: what a user writes as an argument, and what a result is printed as.
 
-use crate::instance::NotCalled;
 use crate::library::{RawRef, RawVal, TypedRawVal, V128, ValType};
 use crate::module::Module;
 
@@ -24,7 +23,7 @@ pub fn arguments<'a>(
     function: &str,
     words: impl Iterator<Item = &'a str>,
 ) -> Result<Vec<TypedRawVal>, String> {
-    let ty = module.function_type(function).ok_or(NotCalled::NoFunction.to_string())?;
+    let ty = module.function_type(function).ok_or("there is no exported function of this name")?;
     let words: Vec<&str> = words.collect();
     if words.len() != ty.params().len() {
         return Err(format!("{function} takes {} arguments", ty.params().len()));

@@ -2,7 +2,7 @@
 #![allow(dead_code, reason = "each file of tests takes a part")]
 
 use engine::library::{Fuel, FuelCostsProvider, TypedRawVal};
-use engine::{Caps, Instance, Module, NotCalled, NotInstantiated, Refusal, Store};
+use engine::{Caps, Failure, Instance, Module, Refusal, Store};
 use std::sync::Arc;
 
 pub const I32: u8 = 0x7f;
@@ -93,7 +93,7 @@ pub fn store_with(fuel: u64, caps: Caps) -> Store {
 /// What a call of `f` gives: its first result, or why it stops.
 pub fn called(wasm: &Wasm, store: &mut Store, args: &[TypedRawVal]) -> Result<i64, String> {
     let module = wasm.module().map_err(|it| it.to_string())?;
-    let mut instance = Instance::new(&module, store).map_err(|it: NotInstantiated| it.to_string())?;
+    let mut instance = Instance::new(&module, store).map_err(|it| it.to_string())?;
     call(&mut instance, store, "f", args)
 }
 
@@ -103,7 +103,7 @@ pub fn call(instance: &mut Instance, store: &mut Store, name: &str, args: &[Type
             engine::library::ValType::I32 => i32::from(*it).into(),
             _ => i64::from(*it),
         })),
-        Err(it @ (NotCalled::NoFunction | NotCalled::Arguments)) => panic!("{it}"),
-        Err(NotCalled::Trapped(trap)) => Err(trap.to_string()),
+        Err(Failure::Trapped(trap)) => Err(trap.to_string()),
+        Err(it) => panic!("{it}"),
     }
 }

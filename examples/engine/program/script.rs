@@ -1,11 +1,11 @@
-//! A mode in which lines of text drive the engine, for programs that compare it with others.
+//! A mode of the program in which lines of text drive the engine, for programs that compare it with others.
 //!
 //! | Line | Reply, if all is well |
 //! |---|---|
 //! | `module FILE` | `ok:`; the module is instantiated, and the one before is dropped |
 //! | `invoke FUNCTION ARGS..` | `ok: V..`, the results |
 //! | `get GLOBAL` | `ok: V` |
-//! | `digest` | `ok:` and the line of [`Instance::digest`] |
+//! | `digest` | `ok:` and the line of `Instance::digest` |
 //! | `fuel N` | `ok:`; from now on fuel is charged, and so much is there |
 //! | `left` | `ok: N`, the fuel that is left |
 //! | `lenient` | `ok:`; from now on a module may have functions with floats, which stop when they are called |
@@ -14,13 +14,8 @@
 //! Other replies than `ok:` are `malformed:`, `invalid:`, `unsupported:` (floats, or beyond a limit), `unlinkable:`,
 //! `trap:`, and `error:` for a line that makes no sense; after one of them the module is the one before.
 
-use crate::host::Stopped;
-use crate::instance::{Instance, NotCalled, NotInstantiated};
-use crate::library::{Fuel, FuelCostsProvider, Trap};
-use crate::module::Module;
-use crate::reader::{Refusal, RefusalKind};
-use crate::store::{Caps, Store};
-use crate::values;
+use engine::library::{Fuel, FuelCostsProvider};
+use engine::{Caps, Failure, Instance, Module, Refusal, RefusalKind, Stopped, Store, values};
 use std::fmt::Display;
 use std::fs;
 use std::io::{BufRead, Write};
@@ -86,10 +81,7 @@ impl Script {
         let bytes = fs::read(file).map_err(|it| format!("error: {file} can't be read: {it}"))?;
         let module = if self.is_lenient { Module::new_lenient(&bytes) } else { Module::new(&bytes) };
         let module = Arc::new(module.map_err(refused)?);
-        let made = Instance::new(&module, &mut self.store).map_err(|it| match it {
-            NotInstantiated::Unlinkable(what) => format!("unlinkable: {what}"),
-            NotInstantiated::Trapped(trap) => trapped(&trap),
-        })?;
+        let made = Instance::new(&module, &mut self.store).map_err(failed)?;
         if let Some(before) = self.instance.replace(made) {
             before.release(&mut self.store);
         }
@@ -101,11 +93,8 @@ impl Script {
         let mut words = rest.split_whitespace();
         let function = name(words.next().unwrap_or(""))?;
         let args = values::arguments(instance.module(), &function, words).map_err(error)?;
-        match instance.call(&mut self.store, &function, &args) {
-            Ok(results) => Ok(results.iter().fold("ok:".into(), |line, it| line + " " + &values::print(*it))),
-            Err(NotCalled::Trapped(trap)) => Err(trapped(&trap)),
-            Err(it) => Err(error(it)),
-        }
+        let results = instance.call(&mut self.store, &function, &args).map_err(failed)?;
+        Ok(results.iter().fold("ok:".into(), |line, it| line + " " + &values::print(*it)))
     }
 }
 
@@ -122,10 +111,14 @@ fn refused(refusal: Refusal) -> String {
     format!("{kind}: {refusal}")
 }
 
-fn trapped(trap: &Trap) -> String {
-    match trap.downcast_ref::<Stopped>() {
-        Some(Stopped::Unsupported) => format!("unsupported: {trap}"),
-        _ => format!("trap: {trap}"),
+fn failed(failure: Failure) -> String {
+    match failure {
+        Failure::Unlinkable(what) => format!("unlinkable: {what}"),
+        Failure::Misused(what) => error(what),
+        Failure::Trapped(trap) => match trap.downcast_ref::<Stopped>() {
+            Some(Stopped::Unsupported) => format!("unsupported: {trap}"),
+            _ => format!("trap: {trap}"),
+        },
     }
 }
 

@@ -1,12 +1,14 @@
 //! The program: runs an exported function of a module.
 
 use engine::library::{Fuel, FuelCostsProvider};
-use engine::script::Script;
-use engine::{Caps, Instance, Module, NotCalled, NotInstantiated, Store, values};
+use engine::{Caps, Failure, Instance, Module, Store, values};
+use script::Script;
 use std::process::ExitCode;
 use std::sync::Arc;
 use std::time::Duration;
 use std::{env, fs, io, thread};
+
+mod script;
 
 const HELP: &str = "\
 usage: engine FILE.wasm FUNCTION ARGS.. [OPTION..]
@@ -35,7 +37,7 @@ struct Options {
 }
 
 /// Why there are no results: the exit status, and what is printed.
-struct Failure(u8, String);
+struct Failed(u8, String);
 
 fn main() -> ExitCode {
     let args: Vec<String> = env::args().skip(1).collect();
@@ -45,22 +47,22 @@ fn main() -> ExitCode {
     }
     match options(args.into_iter()).and_then(|options| run(&options)) {
         Ok(()) => ExitCode::SUCCESS,
-        Err(Failure(1, what)) => {
+        Err(Failed(1, what)) => {
             println!("trap: {what}");
             ExitCode::from(1)
         }
-        Err(Failure(status, what)) => {
+        Err(Failed(status, what)) => {
             eprintln!("{what}");
             ExitCode::from(status)
         }
     }
 }
 
-fn misused(what: impl Into<String>) -> Failure {
-    Failure(2, format!("engine: {} (engine --help says how it is used)", what.into()))
+fn misused(what: impl Into<String>) -> Failed {
+    Failed(2, format!("engine: {} (engine --help says how it is used)", what.into()))
 }
 
-fn options(mut args: impl Iterator<Item = String>) -> Result<Options, Failure> {
+fn options(mut args: impl Iterator<Item = String>) -> Result<Options, Failed> {
     let caps = Caps { bytes: 1 << 30, elements: 10_000_000 };
     let mut options = Options { words: vec![], fuel: None, caps, has_time: false, is_script: false };
     while let Some(arg) = args.next() {
@@ -81,7 +83,7 @@ fn options(mut args: impl Iterator<Item = String>) -> Result<Options, Failure> {
     Ok(options)
 }
 
-fn run(options: &Options) -> Result<(), Failure> {
+fn run(options: &Options) -> Result<(), Failed> {
     if options.is_script {
         let script = Script::new(options.caps);
         return script.run(io::stdin().lock(), io::stdout()).map_err(|it| misused(it.to_string()));
@@ -90,23 +92,20 @@ fn run(options: &Options) -> Result<(), Failure> {
         return Err(misused("a file and a function are missing"));
     };
     let bytes = fs::read(file).map_err(|it| misused(format!("{file} can't be read: {it}")))?;
-    let refused = |what: String| Failure(3, format!("{file}: {what}"));
+    let refused = |what: String| Failed(3, format!("{file}: {what}"));
     let module = Arc::new(Module::new(&bytes).map_err(|it| refused(it.to_string()))?);
     let args = values::arguments(&module, function, words.iter().map(String::as_str)).map_err(misused)?;
     let mut fuel = Fuel::new(options.fuel.is_some(), FuelCostsProvider::default());
     let _ = fuel.set_fuel(options.fuel.unwrap_or(0));
     let mut store = Store::new(fuel, options.caps);
-    let made = Instance::new(&module, &mut store).map_err(|it| match it {
-        NotInstantiated::Unlinkable(what) => refused(what),
-        NotInstantiated::Trapped(trap) => Failure(1, trap.to_string()),
-    });
+    let failed = |it| match it {
+        Failure::Unlinkable(what) => refused(what),
+        Failure::Misused(what) => misused(what),
+        Failure::Trapped(trap) => Failed(1, trap.to_string()),
+    };
+    let made = Instance::new(&module, &mut store);
     let begun = processor_time();
-    let results = made.and_then(|mut it| {
-        it.call(&mut store, function, &args).map_err(|it| match it {
-            NotCalled::Trapped(trap) => Failure(1, trap.to_string()),
-            it => misused(it.to_string()),
-        })
-    });
+    let results = made.and_then(|mut it| it.call(&mut store, function, &args)).map_err(failed);
     let time = processor_time() - begun;
     let printed = results.map(|results| results.into_iter().for_each(|it| println!("{}", values::print(it))));
     if options.has_time {
