@@ -1,7 +1,7 @@
 //! The program: runs an exported function of a module.
 
 use engine::library::{Fuel, FuelCostsProvider};
-use engine::{Caps, Failure, Instance, Module, Store, values};
+use engine::{Caps, Failure, Instance, Module, Store};
 use script::Script;
 use std::process::ExitCode;
 use std::sync::Arc;
@@ -9,6 +9,7 @@ use std::time::Duration;
 use std::{env, fs, io, thread};
 
 mod script;
+mod values;
 
 const HELP: &str = "\
 usage: engine FILE.wasm FUNCTION ARGS.. [OPTION..]

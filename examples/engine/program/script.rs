@@ -14,8 +14,9 @@
 //! Other replies than `ok:` are `malformed:`, `invalid:`, `unsupported:` (floats, or beyond a limit), `unlinkable:`,
 //! `trap:`, and `error:` for a line that makes no sense; after one of them the module is the one before.
 
+use crate::values;
 use engine::library::{Fuel, FuelCostsProvider};
-use engine::{Caps, Failure, Instance, Module, Refusal, RefusalKind, Stopped, Store, values};
+use engine::{Caps, Failure, Instance, Module, Refusal, RefusalKind, Stopped, Store};
 use std::fmt::Display;
 use std::fs;
 use std::io::{BufRead, Write};

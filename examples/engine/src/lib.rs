@@ -15,7 +15,6 @@
 //! | `instance` | instances, calls |
 //! | `execute` | the loop |
 //! | `bulk` | fills and copies of memories, for a library that lacks them |
-//! | `values` | values as text |
 //!
 //! The program stands in `program/`.
 #![forbid(unsafe_code)]
@@ -37,7 +36,6 @@ mod module;
 mod reader;
 mod store;
 mod translate;
-pub mod values;
 
 pub use host::Stopped;
 pub use instance::{Failure, Instance};

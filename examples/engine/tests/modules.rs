@@ -2,8 +2,8 @@
 
 mod common;
 use common::*;
-use engine::library::{TrapCode, ValType};
-use engine::{Caps, Instance, Module, RefusalKind, values};
+use engine::library::TrapCode;
+use engine::{Caps, Instance, Module, RefusalKind};
 use std::thread;
 
 fn refused(bytes: &[u8]) -> (RefusalKind, usize) {
@@ -174,7 +174,6 @@ fn references_and_indirect_calls() {
     assert_eq!(reply(0), Err(TrapCode::IndirectCallToNull.to_string()));
     assert_eq!(reply(4), Err(TrapCode::TableOutOfBounds.to_string()));
     assert_eq!(reply(-1), Err(TrapCode::TableOutOfBounds.to_string()));
-    assert!(values::parse("null", ValType::FuncRef).is_some());
 }
 
 #[test]

@@ -1,7 +1,7 @@
 //! Values as text: what a user writes as an argument, and what a result is printed as.
 
-use crate::library::{RawRef, RawVal, TypedRawVal, V128, ValType};
-use crate::module::Module;
+use engine::Module;
+use engine::library::{RawRef, RawVal, TypedRawVal, V128, ValType};
 
 /// Reads an argument of this type: a number in decimal or, after `0x`, in hexadecimal, or `null`. A number of a reference
 /// is that of a function or of an object of the host.
