@@ -85,20 +85,16 @@ fn lane<T: TryFrom<u8>>(op: &Op) -> Result<T, TrapCode> {
     T::try_from(op.lane as u8).map_err(|_| TrapCode::UnreachableCodeReached)
 }
 
-fn copy_memory(memories: &mut [Memory], op: &Op, range: (u64, u64, u64), fuel: &mut Fuel) -> Result<(), MemoryError> {
-    let (target, source, (dst, src, len)) = (op.imm as usize, usize::from(op.lane), range);
-    match memories.get_disjoint_mut([target, source]) {
-        Ok([target, source]) => Memory::copy(target, dst, source, src, len, Some(fuel)),
-        Err(_) => memories[target].copy_within(dst, src, len, Some(fuel)),
-    }
-}
-
-fn copy_table(tables: &mut [Table], op: &Op, range: (u64, u64, u64), fuel: &mut Fuel) -> Result<(), TableError> {
-    let (target, source, (dst, src, len)) = (op.imm as usize, usize::from(op.lane), range);
-    match tables.get_disjoint_mut([target, source]) {
-        Ok([target, source]) => Table::copy(target, dst, source, src, len, Some(fuel)),
-        Err(_) => tables[target].copy_within(dst, src, len, Some(fuel)),
-    }
+/// Copies between two memories or tables, or within one.
+macro_rules! copy {
+    ($kind:ident, $items:ident, $slots:ident, $op:ident, $fuel:ident) => {{
+        let (target, source) = ($op.imm as usize, usize::from($op.lane));
+        let (dst, src, len) = $slots.numbers($op);
+        match $items.get_disjoint_mut([target, source]) {
+            Ok([target, source]) => $kind::copy(target, dst, source, src, len, Some($fuel)),
+            Err(_) => $items[target].copy_within(dst, src, len, Some($fuel)),
+        }
+    }};
 }
 
 /// Runs code from a place on, until the first call returns or a function of the host is called.
@@ -106,7 +102,7 @@ pub(crate) fn execute(instance: &mut Instance, store: &mut Store, frame: Frame) 
     let Instance { module, memories, tables, globals, elements, is_dropped, .. } = instance;
     let module = &**module;
     let Store { fuel, caps, values, frames, .. } = store;
-    let (mut function, mut next, mut base) = (frame.function as usize, frame.next as usize, frame.base as usize);
+    let Frame { mut function, mut next, mut base } = frame;
     let mut current = 0;
     'frame: loop {
         let body = &module.code[function];
@@ -179,8 +175,7 @@ pub(crate) fn execute(instance: &mut Instance, store: &mut Store, frame: Frame) 
                                 count => slots.copy(0, op.a, count),
                             }
                             let Some(frame) = frames.pop() else { return Ok(Exit::Done) };
-                            (function, next, base) =
-                                (frame.function as usize, frame.next as usize, frame.base as usize);
+                            Frame { function, next, base } = frame;
                             continue 'frame;
                         }
                         Code::call | Code::call_indirect => {
@@ -196,15 +191,12 @@ pub(crate) fn execute(instance: &mut Instance, store: &mut Store, frame: Frame) 
                             if frames.len() == limits::CALLS {
                                 return Err(TrapCode::StackOverflow);
                             }
-                            frames.push(Frame { function: function as u32, next: next as u32, base: base as u32 });
+                            frames.push(Frame { function, next, base });
                             (function, next, base) = (callee as usize, 0, base + usize::from(op.a));
                             store::enter(values, &module.code[function], base)?;
                             continue 'frame;
                         }
-                        Code::host => {
-                            let frame = Frame { function: function as u32, next: next as u32, base: base as u32 };
-                            return Ok(Exit::Host(op.imm, frame));
-                        }
+                        Code::host => return Ok(Exit::Host(op.imm, Frame { function, next, base })),
                         Code::unreachable => return Err(TrapCode::UnreachableCodeReached),
                         Code::global_get => slots.set(op.d, *globals[op.imm as usize].get_raw()),
                         Code::global_set => {
@@ -255,7 +247,7 @@ pub(crate) fn execute(instance: &mut Instance, store: &mut Store, frame: Frame) 
                             continue 'frame;
                         }
                         Code::memory_copy => {
-                            copy_memory(memories, op, slots.numbers(op), fuel).map_err(of_memory)?;
+                            copy!(Memory, memories, slots, op, fuel).map_err(of_memory)?;
                             continue 'frame;
                         }
                         Code::memory_init => {
@@ -289,7 +281,7 @@ pub(crate) fn execute(instance: &mut Instance, store: &mut Store, frame: Frame) 
                             let table = &mut tables[op.imm as usize];
                             table.fill_raw(dst, slots.reference(op.b), len, Some(fuel)).map_err(of_table)?;
                         }
-                        Code::table_copy => copy_table(tables, op, slots.numbers(op), fuel).map_err(of_table)?,
+                        Code::table_copy => copy!(Table, tables, slots, op, fuel).map_err(of_table)?,
                         Code::table_init => {
                             let (dst, src, len) = slots.numbers(op);
                             let (table, items) = (&mut tables[usize::from(op.lane)], elements[op.imm as usize].as_ref());

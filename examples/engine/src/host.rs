@@ -54,50 +54,60 @@ pub(crate) enum Provided {
 
 /// Makes what a module imports.
 pub(crate) fn provide(module: &Module, import: &Import, caps: &mut Caps) -> Result<Provided, Failure> {
-    let refuse = |what: &str| Err(Failure::Unlinkable(format!("{}.{}: {what}", import.module, import.name)));
-    if !matches!(import.module.as_str(), "host" | "spectest") {
-        return refuse("there is no such module");
-    }
-    let provided = match (import.item, import.name.as_str()) {
-        (Extern::Function(function), name) => match HostFunction::named(name) {
-            Some((host, params)) => {
-                let ty = module.type_of(function);
-                (ty.params() == params && ty.results().is_empty()).then_some(Provided::Function(host))
-            }
-            None => return refuse("there is no such function"),
+    let is_ours = matches!(import.module.as_str(), "host" | "spectest");
+    let name = if is_ours { import.name.as_str() } else { "" };
+    let provided = match import.item {
+        Extern::Function(function) => HostFunction::named(name).map(|(host, params)| {
+            let ty = module.type_of(function);
+            (ty.params() == params && ty.results().is_empty()).then_some(Provided::Function(host))
+        }),
+        Extern::Memory(memory) => match name {
+            "memory" => Some(provide_memory(module.memories[memory as usize], caps)?),
+            _ => None,
         },
-        (Extern::Memory(memory), "memory") => {
-            let mut builder = MemoryType::builder();
-            builder.min(1).max(Some(2));
-            let ours = builder.build().map_err(of_memory)?;
-            let is_right = ours.is_subtype_of(&module.memories[memory as usize]);
-            is_right.then(|| Memory::new(ours, &mut caps.lent())).transpose().map_err(of_memory)?.map(Provided::Memory)
-        }
-        (Extern::Table(table), "table" | "table64") => {
-            let ours = match import.name.as_str() {
-                "table" => TableType::new(RefType::Func, 10, Some(20)),
-                _ => TableType::new64(RefType::Func, 10, Some(20)),
+        Extern::Table(table) => {
+            let ours = match name {
+                "table" => Some(TableType::new(RefType::Func, 10, Some(20))),
+                "table64" => Some(TableType::new64(RefType::Func, 10, Some(20))),
+                _ => None,
             };
-            let is_right = ours.is_subtype_of(&module.tables[table as usize].0);
-            let null = TypedRawRef::null(RefType::Func);
-            is_right
-                .then(|| Table::new(ours, null, &mut caps.lent()))
-                .transpose()
-                .map_err(of_table)?
-                .map(Provided::Table)
+            ours.map(|ours| provide_table(ours, &module.tables[table as usize].0, caps)).transpose()?
         }
-        (Extern::Global(global), "global_i32" | "global_i64" | "counter") => {
-            let (value, ty, mutability) = match import.name.as_str() {
-                "global_i32" => (RawVal::from(666_i32), ValType::I32, Mutability::Const),
-                "global_i64" => (RawVal::from(666_i64), ValType::I64, Mutability::Const),
-                _ => (RawVal::from(0_i64), ValType::I64, Mutability::Var),
-            };
-            let ty = GlobalType::new(ty, mutability);
-            (ty == module.globals[global as usize].0).then(|| Provided::Global(Global::new(value, ty)))
-        }
-        _ => return refuse("there is no such item"),
+        Extern::Global(global) => provided_global(name).map(|ours| {
+            let is_right = ours.ty() == module.globals[global as usize].0;
+            is_right.then_some(Provided::Global(ours))
+        }),
     };
-    provided.map_or_else(|| refuse("the item has another type"), Ok)
+    let refuse = |what: &str| Failure::Unlinkable(format!("{}.{}: {what}", import.module, import.name));
+    provided.ok_or_else(|| refuse("the host has no such item"))?.ok_or_else(|| refuse("the item has another type"))
+}
+
+fn provide_memory(wanted: MemoryType, caps: &mut Caps) -> Result<Option<Provided>, Failure> {
+    let mut builder = MemoryType::builder();
+    builder.min(1).max(Some(2));
+    let ours = builder.build().map_err(of_memory)?;
+    if !ours.is_subtype_of(&wanted) {
+        return Ok(None);
+    }
+    Ok(Some(Provided::Memory(Memory::new(ours, &mut caps.lent()).map_err(of_memory)?)))
+}
+
+fn provide_table(ours: TableType, wanted: &TableType, caps: &mut Caps) -> Result<Option<Provided>, Failure> {
+    if !ours.is_subtype_of(wanted) {
+        return Ok(None);
+    }
+    let null = TypedRawRef::null(RefType::Func);
+    Ok(Some(Provided::Table(Table::new(ours, null, &mut caps.lent()).map_err(of_table)?)))
+}
+
+fn provided_global(name: &str) -> Option<Global> {
+    let (value, ty, mutability) = match name {
+        "global_i32" => (RawVal::from(666_i32), ValType::I32, Mutability::Const),
+        "global_i64" => (RawVal::from(666_i64), ValType::I64, Mutability::Const),
+        "counter" => (RawVal::from(0_i64), ValType::I64, Mutability::Var),
+        _ => return None,
+    };
+    Some(Global::new(value, GlobalType::new(ty, mutability)))
 }
 
 /// Why a guest stops that called what the engine has no code for, or that printed where nothing can be written.

@@ -146,10 +146,11 @@ impl Instance {
     fn run(&mut self, store: &mut Store, function: u32, args: &[RawVal]) -> Result<(), Trap> {
         store.frames.clear();
         store.values[..args.len()].copy_from_slice(args);
-        store::enter(&mut store.values, &self.module.code[function as usize], 0)?;
+        let function = function as usize;
+        store::enter(&mut store.values, &self.module.code[function], 0)?;
         let mut frame = Frame { function, next: 0, base: 0 };
         while let Exit::Host(number, at) = execute::execute(self, store, frame)? {
-            host::call(self, store, number, at.base as usize)?;
+            host::call(self, store, number, at.base)?;
             frame = at;
         }
         Ok(())

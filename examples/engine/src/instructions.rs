@@ -153,16 +153,16 @@ macro_rules! codes {
         pub fn row(opcode: u32) -> Option<(Code, Form)> {
             use crate::library::ValType::*;
             Some(match opcode {
-                $($($un => (Code::$u, Form::Unary($ua, $ur)),)*)*
-                $($($bn => (Code::$b, Form::Binary($ba, $bb, $br)),)*)*
-                $($tn => (Code::$t, Form::Ternary),)*
-                $($($dn => (Code::$d, Form::Binary($dt, $dt, $dt)),)*)*
-                $($($ln => (Code::$l, Form::Load($lt, $lw)),)*)*
-                $($($sn => (Code::$s, Form::Store($st, $sw)),)*)*
-                $($($en => (Code::$e, Form::ExtractLane($et, $el)),)*)*
-                $($($rn => (Code::$r, Form::ReplaceLane($rt, $rl)),)*)*
-                $($lln => (Code::$ll, Form::LoadLane($lll)),)*
-                $($sln => (Code::$sl, Form::StoreLane($sll)),)*
+                $($($un => (Code::$u, Form::Plain(&[$ua], $ur)),)*)*
+                $($($bn => (Code::$b, Form::Plain(&[$ba, $bb], $br)),)*)*
+                $($tn => (Code::$t, Form::Plain(&[V128; 3], V128)),)*
+                $($($dn => (Code::$d, Form::Plain(&[$dt, $dt], $dt)),)*)*
+                $($($ln => (Code::$l, Form::Access($lw, None, None, Some($lt))),)*)*
+                $($($sn => (Code::$s, Form::Access($sw, None, Some($st), None)),)*)*
+                $($($en => (Code::$e, Form::Lane($el, &[V128], $et)),)*)*
+                $($($rn => (Code::$r, Form::Lane($rl, &[V128, $rt], V128)),)*)*
+                $($lln => (Code::$ll, Form::Access(16 / $lll, Some($lll), Some(V128), Some(V128))),)*
+                $($sln => (Code::$sl, Form::Access(16 / $sll, Some($sll), Some(V128), None)),)*
                 _ => return None,
             })
         }
@@ -184,18 +184,11 @@ pub fn is_of_floats(opcode: u32) -> bool {
 /// Operands, immediates and result of an instruction of the library.
 #[derive(Clone, Copy)]
 pub enum Form {
-    Unary(ValType, ValType),
-    Binary(ValType, ValType, ValType),
-    /// Of three vectors.
-    Ternary,
-    /// With the number of bytes, which bounds the alignment.
-    Load(ValType, u32),
-    Store(ValType, u32),
+    Plain(&'static [ValType], ValType),
     /// With the number of lanes.
-    ExtractLane(ValType, u8),
-    ReplaceLane(ValType, u8),
-    LoadLane(u8),
-    StoreLane(u8),
+    Lane(u8, &'static [ValType], ValType),
+    /// Of an address and perhaps a value, with the number of bytes, and of lanes if one is accessed.
+    Access(u8, Option<u8>, Option<ValType>, Option<ValType>),
 }
 
 /// An internal instruction. `d` is the slot of the result in the function's frame, `a`, `b` and `c` are those of operands.

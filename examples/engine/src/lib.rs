@@ -39,6 +39,6 @@ mod translate;
 
 pub use host::Stopped;
 pub use instance::{Failure, Instance};
-pub use module::{Extern, Module};
+pub use module::Module;
 pub use reader::{Refusal, RefusalKind};
 pub use store::{Caps, Store};

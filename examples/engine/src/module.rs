@@ -10,7 +10,7 @@ use std::collections::{BTreeMap, HashMap};
 
 /// What a module imports or exports, by its number in the module.
 #[derive(Clone, Copy, Debug, PartialEq, Eq)]
-pub enum Extern {
+pub(crate) enum Extern {
     /// A function.
     Function(u32),
     /// A table.
@@ -137,11 +137,6 @@ impl Module {
         Self::read(Reader::new(bytes, true))
     }
 
-    /// The exported items by their names.
-    pub fn exports(&self) -> impl Iterator<Item = (&str, Extern)> {
-        self.exports.iter().map(|(name, item)| (name.as_str(), *item))
-    }
-
     /// The type of an exported function.
     pub fn function_type(&self, name: &str) -> Option<&FuncType> {
         match self.exports.get(name)? {
@@ -189,7 +184,7 @@ impl Module {
             1 => self.section_of_types(reader)?,
             2 => reader.list(|it| self.import(it)).map(|imports| self.imports = imports)?,
             3 => {
-                let types = reader.list(|it| self.known(it, |module| module.types.len(), "a type is unknown"))?;
+                let types = reader.list(|it| self.known(it, self.types.len(), "a type is unknown"))?;
                 ensure(types.len() <= limits::FUNCTIONS, reader.unsupported("there are too many functions"))?;
                 self.functions.extend(types);
             }
@@ -219,14 +214,14 @@ impl Module {
     }
 
     /// A number of something, which is below the count of what there is.
-    fn known(&self, reader: &mut Reader, count: impl Fn(&Self) -> usize, what: &'static str) -> Read<u32> {
+    fn known(&self, reader: &mut Reader, count: usize, what: &'static str) -> Read<u32> {
         let begin = *reader;
         let number = reader.u32()?;
-        ensure((number as usize) < count(self), begin.invalid(what)).map(|()| number)
+        ensure((number as usize) < count, begin.invalid(what)).map(|()| number)
     }
 
     fn known_function(&mut self, reader: &mut Reader) -> Read<u32> {
-        let function = self.known(reader, |it| it.functions.len(), "a function is unknown")?;
+        let function = self.known(reader, self.functions.len(), "a function is unknown")?;
         self.is_declared.resize(self.functions.len(), false);
         self.is_declared[function as usize] = true;
         Ok(function)
@@ -237,7 +232,7 @@ impl Module {
         let begin = *reader;
         let count = match reader.byte()? {
             0 => {
-                let ty = self.known(reader, |it| it.types.len(), "a type is unknown")?;
+                let ty = self.known(reader, self.types.len(), "a type is unknown")?;
                 self.functions.push(ty);
                 self.code.push(Function::of_host(self.imported.functions as u32, &self.types[ty as usize]));
                 &mut self.imported.functions
@@ -266,10 +261,8 @@ impl Module {
         let has_value = reader.peek() == Some(0x40);
         ensure(!has_value || reader.take(2)?[1] == 0, reader.malformed("a table is of an unknown kind"))?;
         let ty = reader.table_type()?;
-        let init = match has_value {
-            true => self.constant(reader, ty.element().into())?,
-            false => Constant::Value(RawVal::from(RawRef::null())),
-        };
+        let null = Constant::Value(RawRef::null().into());
+        let init = if has_value { self.constant(reader, ty.element().into())? } else { null };
         self.tables.push((ty, init));
         Ok(())
     }
@@ -287,9 +280,9 @@ impl Module {
         let kind = *reader;
         let item = match reader.byte()? {
             0 => Extern::Function(self.known_function(reader)?),
-            1 => Extern::Table(self.known(reader, |it| it.tables.len(), "a table is unknown")?),
-            2 => Extern::Memory(self.known(reader, |it| it.memories.len(), "a memory is unknown")?),
-            3 => Extern::Global(self.known(reader, |it| it.globals.len(), "a global is unknown")?),
+            1 => Extern::Table(self.known(reader, self.tables.len(), "a table is unknown")?),
+            2 => Extern::Memory(self.known(reader, self.memories.len(), "a memory is unknown")?),
+            3 => Extern::Global(self.known(reader, self.globals.len(), "a global is unknown")?),
             _ => return Err(kind.malformed("an export is of an unknown kind")),
         };
         ensure(self.exports.insert(name, item).is_none(), begin.invalid("two exports have one name"))
@@ -297,7 +290,7 @@ impl Module {
 
     fn section_of_start(&mut self, reader: &mut Reader) -> Read<()> {
         let begin = *reader;
-        let start = self.known(reader, |it| it.functions.len(), "a function is unknown")?;
+        let start = self.known(reader, self.functions.len(), "a function is unknown")?;
         self.start = Some(start);
         let is_plain = self.type_of(start).len_params() + self.type_of(start).len_results() == 0;
         ensure(is_plain, begin.invalid("the start function has parameters or results"))
@@ -346,7 +339,7 @@ impl Module {
         for body in bodies {
             let number = self.code.len() as u32;
             let function = match translate::function(self, number, body) {
-                Err(refusal) if begin.is_lenient() && refusal.kind == RefusalKind::Unsupported => {
+                Err(refusal) if begin.is_lenient && refusal.kind == RefusalKind::Unsupported => {
                     Function::of_host(limits::NO_HOST, self.type_of(number))
                 }
                 function => function?,
@@ -378,41 +371,45 @@ impl Module {
     fn constant(&mut self, reader: &mut Reader, wanted: ValType) -> Read<Constant> {
         let begin = *reader;
         let (mut terms, mut types) = (vec![], vec![]);
-        loop {
-            let at = *reader;
-            let opcode = reader.byte()?;
-            let (ty, term) = match opcode {
-                0x0b => break,
-                0x23 => {
-                    let global = self.known(reader, |it| it.imported.globals, "a global is unknown")?;
-                    let ty = self.globals[global as usize].0;
-                    let is_const = ty.mutability().is_const();
-                    ensure(is_const, at.invalid("a constant expression reads a mutable global"))?;
-                    (ty.content(), Term::Global(global))
-                }
-                0x41 => (ValType::I32, Term::Value(reader.i32()?.into())),
-                0x42 => (ValType::I64, Term::Value(reader.i64()?.into())),
-                0x43 => (ValType::F32, Term::Value(reader.float(4)?.into())),
-                0x44 => (ValType::F64, Term::Value(reader.float(8)?.into())),
-                0x6a..=0x6c | 0x7c..=0x7e => {
-                    let ty = if opcode < 0x70 { ValType::I32 } else { ValType::I64 };
-                    let are_right = types.pop() == Some(ty) && types.pop() == Some(ty);
-                    ensure(are_right, at.invalid("an operand is missing or has another type"))?;
-                    (ty, Term::Operator(opcode))
-                }
-                0xd0 => (reader.ref_type()?.into(), Term::Value(RawRef::null().into())),
-                0xd2 => (ValType::FuncRef, Term::Value(reference(self.known_function(reader)?).into())),
-                0xfd if reader.u32()? == 12 => (ValType::V128, Term::Value(reader.v128()?.into())),
-                _ => return Err(at.invalid("a constant expression has another instruction")),
-            };
+        while reader.peek() != Some(0x0b) {
+            let (ty, term) = self.term(reader, &mut types)?;
             types.push(ty);
             terms.push(term);
         }
+        reader.byte()?;
         match (&types[..], &terms[..]) {
             ([ty], _) if *ty != wanted => Err(begin.invalid("a constant expression has another type")),
             ([_], [Term::Value(value)]) => Ok(Constant::Value(*value)),
             ([_], _) => Ok(Constant::Terms(terms)),
             _ => Err(begin.invalid("a constant expression doesn't give one value")),
         }
+    }
+
+    fn term(&mut self, reader: &mut Reader, types: &mut Vec<ValType>) -> Read<(ValType, Term)> {
+        let at = *reader;
+        let opcode = reader.byte()?;
+        Ok(match opcode {
+            0x23 => {
+                let global = self.known(reader, self.imported.globals, "a global is unknown")?;
+                let ty = self.globals[global as usize].0;
+                let is_const = ty.mutability().is_const();
+                ensure(is_const, at.invalid("a constant expression reads a mutable global"))?;
+                (ty.content(), Term::Global(global))
+            }
+            0x41 => (ValType::I32, Term::Value(reader.i32()?.into())),
+            0x42 => (ValType::I64, Term::Value(reader.i64()?.into())),
+            0x43 => (ValType::F32, Term::Value(reader.float(4)?.into())),
+            0x44 => (ValType::F64, Term::Value(reader.float(8)?.into())),
+            0x6a..=0x6c | 0x7c..=0x7e => {
+                let ty = if opcode < 0x70 { ValType::I32 } else { ValType::I64 };
+                let are_right = types.pop() == Some(ty) && types.pop() == Some(ty);
+                ensure(are_right, at.invalid("an operand is missing or has another type"))?;
+                (ty, Term::Operator(opcode))
+            }
+            0xd0 => (reader.ref_type()?.into(), Term::Value(RawRef::null().into())),
+            0xd2 => (ValType::FuncRef, Term::Value(reference(self.known_function(reader)?).into())),
+            0xfd if reader.u32()? == 12 => (ValType::V128, Term::Value(reader.v128()?.into())),
+            _ => return Err(at.invalid("a constant expression has another instruction")),
+        })
     }
 }

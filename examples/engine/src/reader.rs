@@ -46,20 +46,16 @@ pub(crate) fn ensure(holds: bool, refusal: Refusal) -> Read<()> {
 #[derive(Clone, Copy)]
 pub(crate) struct Reader<'a> {
     file: &'a [u8],
-    at: usize,
+    /// The place of the next byte in the file.
+    pub at: usize,
     end: usize,
     /// Whether types of floats may be read.
-    is_lenient: bool,
+    pub is_lenient: bool,
 }
 
 impl<'a> Reader<'a> {
     pub fn new(file: &'a [u8], is_lenient: bool) -> Self {
         Self { file, at: 0, end: file.len(), is_lenient }
-    }
-
-    /// The place of the next byte in the file.
-    pub fn at(&self) -> usize {
-        self.at
     }
 
     pub fn is_empty(&self) -> bool {
@@ -68,10 +64,6 @@ impl<'a> Reader<'a> {
 
     pub fn len(&self) -> usize {
         self.end - self.at
-    }
-
-    pub fn is_lenient(&self) -> bool {
-        self.is_lenient
     }
 
     pub fn malformed(&self, what: &'static str) -> Refusal {

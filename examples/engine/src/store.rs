@@ -41,9 +41,9 @@ impl ResourceLimiter for Caps {
 /// Where a call goes on: a function, the number of its next instruction, and the first of the values of its frame.
 #[derive(Clone, Copy)]
 pub(crate) struct Frame {
-    pub function: u32,
-    pub next: u32,
-    pub base: u32,
+    pub function: usize,
+    pub next: usize,
+    pub base: usize,
 }
 
 /// How many slots an instruction can name.

@@ -65,15 +65,10 @@ enum Kind {
     If(usize),
 }
 
-#[derive(Clone, Copy, Default)]
-struct BlockType<'m> {
-    params: &'m [ValType],
-    results: &'m [ValType],
-}
-
 struct Block<'m> {
     kind: Kind,
-    ty: BlockType<'m>,
+    params: &'m [ValType],
+    results: &'m [ValType],
     height: usize,
     /// Whether nothing is emitted, now and at the beginning.
     is_dead: bool,
@@ -114,7 +109,7 @@ pub(crate) fn function(module: &Module, number: u32, mut reader: Reader) -> Read
     let mut it = Translator {
         module,
         reader,
-        at: reader.at(),
+        at: reader.at,
         uses: vec![0; locals.len()],
         locals,
         lent: 0,
@@ -128,9 +123,9 @@ pub(crate) fn function(module: &Module, number: u32, mut reader: Reader) -> Read
         last: None,
         fuel: Some(0),
     };
-    it.open(Kind::Block, BlockType { params: &[], results: ty.results() })?;
+    it.open(Kind::Block, (&[], ty.results()))?;
     while !it.blocks.is_empty() {
-        it.at = it.reader.at();
+        it.at = it.reader.at;
         it.instruction()?;
     }
     ensure(it.reader.is_empty(), it.reader.malformed("the body of a function is longer than its code"))?;
@@ -362,6 +357,18 @@ impl<'m> Translator<'m, '_> {
         (self.stack.len().saturating_sub(count)..self.stack.len()).for_each(|height| self.settle(height));
     }
 
+    /// The same, but a single operand is copied by the jump.
+    fn settle_several(&mut self, count: usize) {
+        self.settle_last(if count == 1 { 0 } else { count });
+    }
+
+    /// Takes operands that lie in their own slots then.
+    fn take_settled(&mut self, types: &[ValType]) -> Read<()> {
+        self.check(types)?;
+        self.settle_last(types.len());
+        self.pop_all(types)
+    }
+
     /// Copies the operands that lie in a local, or in any, to their own slots. Returns whether there was one.
     fn settle_locals(&mut self, local: Option<u16>) -> bool {
         let count = |it: &Self| local.map_or(it.lent, |local| it.uses[usize::from(local)]);
@@ -379,10 +386,19 @@ impl<'m> Translator<'m, '_> {
 
     // Blocks.
 
-    fn open(&mut self, kind: Kind, ty: BlockType<'m>) -> Read<()> {
+    fn open(&mut self, kind: Kind, (params, results): (&'m [ValType], &'m [ValType])) -> Read<()> {
         let is_dead = self.blocks.last().is_some_and(|it| it.is_dead);
-        let height = self.stack.len() - ty.params.len();
-        self.blocks.push(Block { kind, ty, height, is_dead, was_dead: is_dead, is_open: false, exits: vec![] });
+        let height = self.stack.len() - params.len();
+        self.blocks.push(Block {
+            kind,
+            params,
+            results,
+            height,
+            is_dead,
+            was_dead: is_dead,
+            is_open: false,
+            exits: vec![],
+        });
         let refusal = self.reader.unsupported("a function has too many blocks in each other");
         ensure(self.blocks.len() <= limits::BLOCKS, refusal)
     }
@@ -401,7 +417,7 @@ impl<'m> Translator<'m, '_> {
     fn target(&self, depth: u32) -> Read<(usize, &'m [ValType])> {
         let index = (self.blocks.len() - 1).checked_sub(depth as usize).ok_or(self.invalid("a label is unknown"))?;
         let block = &self.blocks[index];
-        Ok((index, if matches!(block.kind, Kind::Loop(_)) { block.ty.params } else { block.ty.results }))
+        Ok((index, if matches!(block.kind, Kind::Loop(_)) { block.params } else { block.results }))
     }
 
     /// A jump, with the last operands copied to where the block has them.
@@ -427,9 +443,7 @@ impl<'m> Translator<'m, '_> {
     /// A jump with operands of these types.
     fn jump_with(&mut self, index: usize, types: &[ValType]) -> Read<()> {
         self.check(types)?;
-        if types.len() > 1 {
-            self.settle_last(types.len());
-        }
+        self.settle_several(types.len());
         self.jump(index, types.len());
         Ok(())
     }
@@ -444,21 +458,18 @@ impl<'m> Translator<'m, '_> {
 
     /// Closes a block or the first half of an `if`: its results lie in slots of their own.
     fn close(&mut self) -> Read<()> {
-        let results = self.block().ty.results;
-        self.check(results)?;
-        self.settle_last(results.len());
-        self.pop_all(results)?;
+        let results = self.block().results;
+        self.take_settled(results)?;
         ensure(self.stack.len() == self.block().height, self.invalid("an operand is left"))
     }
 
-    fn block_type(&mut self) -> Read<BlockType<'m>> {
+    fn block_type(&mut self) -> Read<(&'m [ValType], &'m [ValType])> {
         match self.reader.peek() {
-            Some(0x40) => self.reader.byte().map(|_| BlockType::default()),
-            Some(byte) if byte & 0xc0 == 0x40 => Ok(BlockType { params: &[], results: one(self.reader.val_type()?) }),
+            Some(0x40) => self.reader.byte().map(|_| (&[][..], &[][..])),
+            Some(byte) if byte & 0xc0 == 0x40 => Ok((&[], one(self.reader.val_type()?))),
             _ => {
                 let ty = self.reader.type_of_block()?.and_then(|ty| self.module.types.get(ty as usize));
-                let ty = ty.ok_or(self.invalid("a type is unknown"))?;
-                Ok(BlockType { params: ty.params(), results: ty.results() })
+                Ok(ty.ok_or(self.invalid("a type is unknown"))?.params_results())
             }
         }
     }
@@ -466,11 +477,9 @@ impl<'m> Translator<'m, '_> {
     fn begin_block(&mut self, opcode: u32) -> Read<()> {
         let ty = self.block_type()?;
         let a = if opcode == 4 { self.pop(I32)? } else { 0 };
-        self.check(ty.params)?;
-        self.settle_last(ty.params.len());
+        self.take_settled(ty.0)?;
         self.settle_locals(None);
-        self.pop_all(ty.params)?;
-        self.push_all(ty.params)?;
+        self.push_all(ty.0)?;
         if opcode == 4 {
             self.emit(Op { a, ..Op::new(Code::branch_unless) });
         }
@@ -490,7 +499,7 @@ impl<'m> Translator<'m, '_> {
         self.block().kind = Kind::Block;
         self.jump(self.blocks.len() - 1, 0);
         let label = self.label();
-        let (is_dead, params) = (self.block().was_dead, self.block().ty.params);
+        let (is_dead, params) = (self.block().was_dead, self.block().params);
         if !is_dead {
             self.code[test].imm = label;
         }
@@ -500,7 +509,7 @@ impl<'m> Translator<'m, '_> {
 
     fn end(&mut self) -> Read<()> {
         if self.blocks.len() == 1 {
-            let results = self.block().ty.results;
+            let results = self.block().results;
             self.jump_with(0, results)?;
             self.blocks.pop();
             return ensure(self.stack.len() == results.len(), self.invalid("an operand is left"));
@@ -509,14 +518,14 @@ impl<'m> Translator<'m, '_> {
         let label = self.label();
         if let Some(block) = self.blocks.pop() {
             if let Kind::If(test) = block.kind {
-                let is_kept = block.ty.params == block.ty.results;
+                let is_kept = block.params == block.results;
                 ensure(is_kept, self.invalid("an if without an else changes the stack"))?;
                 if !block.was_dead {
                     self.code[test].imm = label;
                 }
             }
             block.exits.iter().for_each(|exit| self.code[*exit].imm = label);
-            self.push_all(block.ty.results)?;
+            self.push_all(block.results)?;
         }
         Ok(())
     }
@@ -534,9 +543,7 @@ impl<'m> Translator<'m, '_> {
             self.leave(index, self.code.len() - 1);
             return Ok(());
         }
-        if types.len() > 1 {
-            self.settle_last(types.len());
-        }
+        self.settle_several(types.len());
         self.emit(Op { a, ..Op::new(Code::branch_unless) });
         let test = self.code.len() - 1;
         self.jump(index, types.len());
@@ -627,7 +634,7 @@ impl<'m> Translator<'m, '_> {
             }
             0x0d => self.branch_if()?,
             0x0e => self.branch_table()?,
-            _ => self.jump_with(0, self.blocks[0].ty.results)?,
+            _ => self.jump_with(0, self.blocks[0].results)?,
         }
         if matches!(opcode, 0x00 | 0x0c | 0x0f) {
             self.end_here();
@@ -648,9 +655,7 @@ impl<'m> Translator<'m, '_> {
             (number as usize, Op { b: self.pop(index)?, lane: table as u16, ..Op::of(Code::call_indirect, same) })
         };
         let ty = &module.types[ty];
-        self.check(ty.params())?;
-        self.settle_last(ty.params().len());
-        self.pop_all(ty.params())?;
+        self.take_settled(ty.params())?;
         let a = self.own(self.stack.len());
         self.emit(Op { a, ..op });
         self.push_all(ty.results())
@@ -805,9 +810,7 @@ impl<'m> Translator<'m, '_> {
     fn wide(&mut self, opcode: u32) -> Read<()> {
         let codes = [Code::i64_add128, Code::i64_sub128, Code::i64_mul_wide_s, Code::i64_mul_wide_u];
         let operands = &[I64; 4][..if opcode < 0xfc015 { 4 } else { 2 }];
-        self.check(operands)?;
-        self.settle_last(operands.len());
-        self.pop_all(operands)?;
+        self.take_settled(operands)?;
         let a = self.own(self.stack.len());
         self.emit(Op { a, ..Op::new(codes[opcode as usize - 0xfc013]) });
         self.push_all(&[I64, I64])
@@ -822,20 +825,21 @@ impl<'m> Translator<'m, '_> {
 
     fn of_the_library(&mut self, op: Op, form: Form) -> Read<()> {
         match form {
-            Form::Unary(operand, result) => self.plain(op, &[operand], Some(result)),
-            Form::Binary(left, right, result) => self.plain(op, &[left, right], Some(result)),
-            Form::Ternary => self.plain(op, &[V128; 3], Some(V128)),
-            Form::Load(ty, bytes) => self.access(op, bytes, None, None, Some(ty)),
-            Form::Store(ty, bytes) => self.access(op, bytes, None, Some(ty), None),
-            Form::LoadLane(lanes) => self.access(op, 16 / u32::from(lanes), Some(lanes), Some(V128), Some(V128)),
-            Form::StoreLane(lanes) => self.access(op, 16 / u32::from(lanes), Some(lanes), Some(V128), None),
-            Form::ExtractLane(ty, lanes) => {
+            Form::Plain(operands, result) => self.plain(op, operands, Some(result)),
+            Form::Lane(lanes, operands, result) => {
                 let lane = self.lane(lanes)?;
-                self.plain(Op { lane, ..op }, &[V128], Some(ty))
+                self.plain(Op { lane, ..op }, operands, Some(result))
             }
-            Form::ReplaceLane(ty, lanes) => {
-                let lane = self.lane(lanes)?;
-                self.plain(Op { lane, ..op }, &[V128, ty], Some(V128))
+            Form::Access(bytes, lanes, value, result) => {
+                let (op, memory) = self.access(op, bytes, lanes, value)?;
+                if memory != 0 {
+                    self.emit(Op::of(Code::memory_use, memory));
+                }
+                self.finish_plain(op, result)?;
+                if memory != 0 {
+                    self.emit(Op::new(Code::memory_use));
+                }
+                Ok(())
             }
         }
     }
@@ -845,16 +849,9 @@ impl<'m> Translator<'m, '_> {
         ensure(lane < lanes, self.invalid("there is no such lane")).map(|()| lane.into())
     }
 
-    /// A load or a store of so many bytes, with the value that it takes. An access to another memory than the first one
-    /// stands between two instructions that change the memory; an offset beyond 32 bits is added before.
-    fn access(
-        &mut self,
-        op: Op,
-        bytes: u32,
-        lanes: Option<u8>,
-        value: Option<ValType>,
-        result: Option<ValType>,
-    ) -> Read<()> {
+    /// A load or a store of so many bytes, with the value that it takes, and its memory. An access to another memory than
+    /// the first one stands between two instructions that change the memory; an offset beyond 32 bits is added before.
+    fn access(&mut self, op: Op, bytes: u8, lanes: Option<u8>, value: Option<ValType>) -> Read<(Op, u32)> {
         let begin = self.reader;
         let flags = self.reader.u32()?;
         let (memory, address) = if flags & 0x40 != 0 { self.memory()? } else { self.memory_of(0)? };
@@ -871,13 +868,6 @@ impl<'m> Translator<'m, '_> {
             self.emit(Op { d, a, b, ..Op::new(Code::add_offset) });
             a = d;
         }
-        if memory != 0 {
-            self.emit(Op::of(Code::memory_use, memory));
-        }
-        self.finish_plain(Op { a, b, imm, lane, ..op }, result)?;
-        if memory != 0 {
-            self.emit(Op::new(Code::memory_use));
-        }
-        Ok(())
+        Ok((Op { a, b, imm, lane, ..op }, memory))
     }
 }
