@@ -1,0 +1,141 @@
+//! A mode of the program in which lines of text drive the engine, for programs that compare it with others.
+//!
+//! | Line | Reply, if all is well |
+//! |---|---|
+//! | `module FILE` | `ok:`; the module is instantiated, and the one before is dropped |
+//! | `invoke FUNCTION ARGS..` | `ok: V..`, the results |
+//! | `get GLOBAL` | `ok: V` |
+//! | `digest` | `ok:` and the line of `Instance::digest` |
+//! | `fuel N` | `ok:`; from now on fuel is charged, and so much is there |
+//! | `left` | `ok: N`, the fuel that is left |
+//! | `lenient` | `ok:`; from now on a module may have functions with floats, which stop when they are called |
+//!
+//! A name may have `%` and two hexadecimal digits in place of a byte. A line has one reply, after what the guest prints.
+//! Other replies than `ok:` are `malformed:`, `invalid:`, `unsupported:` (floats, or beyond a limit), `unlinkable:`,
+//! `trap:`, and `error:` for a line that makes no sense; after one of them the module is the one before.
+
+use crate::values;
+use engine::library::{Fuel, FuelCostsProvider};
+use engine::{Caps, Failure, Instance, Module, Refusal, RefusalKind, Stopped, Store};
+use std::fmt::Display;
+use std::fs;
+use std::io::{BufRead, Write};
+use std::sync::Arc;
+
+/// A script while it runs.
+pub struct Script {
+    store: Store,
+    instance: Option<Instance>,
+    is_lenient: bool,
+}
+
+impl Script {
+    /// A script whose modules share these caps. No fuel is charged.
+    pub fn new(caps: Caps) -> Script {
+        let store = Store::new(Fuel::new(false, FuelCostsProvider::default()), caps);
+        Script { store, instance: None, is_lenient: false }
+    }
+
+    /// Replies to each line of the input.
+    pub fn run(mut self, input: impl BufRead, mut output: impl Write) -> std::io::Result<()> {
+        for line in input.lines() {
+            let reply = self.reply(&line?).unwrap_or_else(|reply| reply);
+            self.store.output.flush()?;
+            writeln!(output, "{reply}")?;
+            output.flush()?;
+        }
+        Ok(())
+    }
+
+    /// The reply to a line.
+    pub fn reply(&mut self, line: &str) -> Result<String, String> {
+        let (word, rest) = line.trim().split_once(' ').unwrap_or((line.trim(), ""));
+        match word {
+            "module" => self.module(rest),
+            "invoke" => self.invoke(rest),
+            "get" => {
+                let value =
+                    self.instance()?.global(&name(rest)?).ok_or("error: there is no exported global of this name")?;
+                Ok(format!("ok: {}", values::print(value)))
+            }
+            "digest" => Ok(format!("ok: {}", self.instance()?.digest())),
+            "fuel" => {
+                let fuel = rest.parse().or(Err("error: fuel is a number"))?;
+                self.store.fuel = Fuel::new(true, FuelCostsProvider::default());
+                self.store.fuel.set_fuel(fuel).map_err(error)?;
+                Ok("ok:".into())
+            }
+            "left" => Ok(format!("ok: {}", self.store.fuel.get_fuel().map_err(error)?)),
+            "lenient" => {
+                self.is_lenient = true;
+                Ok("ok:".into())
+            }
+            _ => Err(format!("error: {word} is no command")),
+        }
+    }
+
+    fn instance(&self) -> Result<&Instance, String> {
+        self.instance.as_ref().ok_or("error: there is no module".into())
+    }
+
+    fn module(&mut self, file: &str) -> Result<String, String> {
+        let bytes = fs::read(file).map_err(|it| format!("error: {file} can't be read: {it}"))?;
+        let module = if self.is_lenient { Module::new_lenient(&bytes) } else { Module::new(&bytes) };
+        let module = Arc::new(module.map_err(refused)?);
+        let made = Instance::new(&module, &mut self.store).map_err(failed)?;
+        if let Some(before) = self.instance.replace(made) {
+            before.release(&mut self.store);
+        }
+        Ok("ok:".into())
+    }
+
+    fn invoke(&mut self, rest: &str) -> Result<String, String> {
+        let instance = self.instance.as_mut().ok_or("error: there is no module")?;
+        let mut words = rest.split_whitespace();
+        let function = name(words.next().unwrap_or(""))?;
+        let args = values::arguments(instance.module(), &function, words).map_err(error)?;
+        let results = instance.call(&mut self.store, &function, &args).map_err(failed)?;
+        Ok(results.iter().fold("ok:".into(), |line, it| line + " " + &values::print(*it)))
+    }
+}
+
+fn error(what: impl Display) -> String {
+    format!("error: {what}")
+}
+
+fn refused(refusal: Refusal) -> String {
+    let kind = match refusal.kind {
+        RefusalKind::Malformed => "malformed",
+        RefusalKind::Invalid => "invalid",
+        RefusalKind::Unsupported => "unsupported",
+    };
+    format!("{kind}: {refusal}")
+}
+
+fn failed(failure: Failure) -> String {
+    match failure {
+        Failure::Unlinkable(what) => format!("unlinkable: {what}"),
+        Failure::Misused(what) => error(what),
+        Failure::Trapped(trap) => match trap.downcast_ref::<Stopped>() {
+            Some(Stopped::Unsupported) => format!("unsupported: {trap}"),
+            _ => format!("trap: {trap}"),
+        },
+    }
+}
+
+/// A name with `%` and two digits in place of some bytes.
+fn name(text: &str) -> Result<String, String> {
+    let mut bytes = vec![];
+    let mut rest = text.as_bytes();
+    while let Some((first, after)) = rest.split_first() {
+        let digits = after.get(..2).and_then(|it| str::from_utf8(it).ok()).filter(|_| *first == b'%');
+        let byte = digits.and_then(|it| u8::from_str_radix(it, 16).ok());
+        bytes.push(byte.unwrap_or(*first));
+        rest = if byte.is_some() { &after[2..] } else { after };
+    }
+    String::from_utf8(bytes).or(Err("error: a name isn't UTF-8".into()))
+}
+
+#[cfg(test)]
+#[path = "../tests/unit/script.rs"]
+mod tests;

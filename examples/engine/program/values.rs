@@ -1,0 +1,67 @@
+//! Values as text: what a user writes as an argument, and what a result is printed as.
+
+use engine::Module;
+use engine::library::{RawRef, RawVal, TypedRawVal, V128, ValType};
+
+/// Reads an argument of this type: a number in decimal or, after `0x`, in hexadecimal, or `null`. A number of a reference
+/// is that of a function or of an object of the host.
+pub fn parse(text: &str, ty: ValType) -> Option<TypedRawVal> {
+    let raw: RawVal = match ty {
+        ValType::I32 => (integer(text, 32)? as u32).into(),
+        ValType::I64 => (integer(text, 64)? as u64).into(),
+        ValType::V128 => V128::from(integer(text, 128)?).into(),
+        ValType::FuncRef | ValType::ExternRef if text == "null" => RawRef::null().into(),
+        ValType::FuncRef | ValType::ExternRef => RawRef::from(text.parse::<u32>().ok()?.checked_add(1)?).into(),
+        ValType::F32 | ValType::F64 => return None,
+    };
+    Some(TypedRawVal::new(ty, raw))
+}
+
+/// Reads the arguments of an exported function. An error is a sentence.
+pub fn arguments<'a>(
+    module: &Module,
+    function: &str,
+    words: impl Iterator<Item = &'a str>,
+) -> Result<Vec<TypedRawVal>, String> {
+    let ty = module.function_type(function).ok_or("there is no exported function of this name")?;
+    let words: Vec<&str> = words.collect();
+    if words.len() != ty.params().len() {
+        return Err(format!("{function} takes {} arguments", ty.params().len()));
+    }
+    let read = |(word, ty): (&&str, _)| parse(word, ty).ok_or(format!("{word} is no {ty:?}"));
+    words.iter().zip(ty.params().iter().copied()).map(read).collect()
+}
+
+/// A signed or unsigned number of so many bits, as the unsigned number that has its bits.
+fn integer(text: &str, bits: u32) -> Option<u128> {
+    let (is_negative, digits) = text.strip_prefix('-').map_or((false, text), |digits| (true, digits));
+    let size = match digits.strip_prefix("0x") {
+        Some(digits) if !digits.starts_with('+') => u128::from_str_radix(digits, 16).ok()?,
+        _ if digits.starts_with('+') => return None,
+        _ => digits.parse().ok()?,
+    };
+    let (most, least) = (u128::MAX >> (128 - bits), 1 << (bits - 1));
+    match is_negative {
+        true => (size <= least).then(|| size.wrapping_neg() & most),
+        false => (size <= most).then_some(size),
+    }
+}
+
+/// A value as text: an integer in signed decimal, a vector as `0x` and 32 digits, a reference as `null` or by its number.
+pub fn print(value: TypedRawVal) -> String {
+    let reference = RawRef::from(value.raw());
+    let number = u32::from(reference).wrapping_sub(1);
+    match value.ty() {
+        ValType::I32 => i32::from(value).to_string(),
+        ValType::I64 => i64::from(value).to_string(),
+        ValType::V128 => format!("0x{:032x}", V128::from(value).as_u128()),
+        ValType::FuncRef | ValType::ExternRef if reference.is_null() => "null".into(),
+        ValType::FuncRef => format!("func {number}"),
+        ValType::ExternRef => format!("extern {number}"),
+        ValType::F32 | ValType::F64 => format!("0x{:x}", u64::from(value)),
+    }
+}
+
+#[cfg(test)]
+#[path = "../tests/unit/values.rs"]
+mod tests;

@@ -1,0 +1,222 @@
+//! Instances: made from a module, called, and read. WebAssembly core specification, 4.5.
+
+#[allow(unused_imports, reason = "a library may have these methods itself")]
+use crate::bulk::Bulk;
+use crate::execute::{self, Exit};
+use crate::host::{self, HostFunction, Provided};
+use crate::library::{
+    ElementSegment, Global, Memory, MemoryError, RawVal, Table, TableError, Trap, TrapCode, TypedRawRef, TypedRawVal,
+    V128, ValType,
+};
+use crate::module::{Extern, Mode, Module};
+use crate::store::{self, Frame, Store};
+use std::fmt;
+use std::sync::Arc;
+
+/// An instance of a module: its memories, tables and globals, and what is left of its segments.
+pub struct Instance {
+    pub(crate) module: Arc<Module>,
+    pub(crate) host: Vec<HostFunction>,
+    pub(crate) memories: Vec<Memory>,
+    pub(crate) tables: Vec<Table>,
+    pub(crate) globals: Vec<Global>,
+    pub(crate) elements: Vec<ElementSegment>,
+    pub(crate) is_dropped: Vec<bool>,
+}
+
+/// Why there is no instance, or why a call gives no results.
+#[derive(Debug)]
+pub enum Failure {
+    /// The host lacks an import, or has it with another type.
+    Unlinkable(String),
+    /// The instance exports no such function, or the function takes other arguments.
+    Misused(&'static str),
+    /// The guest stops: also where a memory or a table can't be made, or a segment doesn't fit.
+    Trapped(Trap),
+}
+
+impl<T: Into<Trap>> From<T> for Failure {
+    fn from(trap: T) -> Self {
+        Self::Trapped(trap.into())
+    }
+}
+
+impl fmt::Display for Failure {
+    fn fmt(&self, f: &mut fmt::Formatter<'_>) -> fmt::Result {
+        match self {
+            Self::Unlinkable(what) => f.write_str(what),
+            Self::Misused(what) => f.write_str(what),
+            Self::Trapped(trap) => trap.fmt(f),
+        }
+    }
+}
+
+impl Instance {
+    /// Makes an instance: imports, memories, tables, globals, segments, and then the start function.
+    ///
+    /// Active segments are charged as `table.init` and `memory.init` are. If there is no instance, what its memories and
+    /// tables took of the caps is given back.
+    pub fn new(module: &Arc<Module>, store: &mut Store) -> Result<Instance, Failure> {
+        let caps = store.caps;
+        let made = Self::allocate(module, store).and_then(|mut it| it.initialize(store).map(|()| it));
+        if made.is_err() {
+            store.caps = caps;
+        }
+        made
+    }
+
+    fn allocate(module: &Arc<Module>, store: &mut Store) -> Result<Instance, Failure> {
+        let mut it = Instance {
+            module: module.clone(),
+            host: vec![],
+            memories: vec![],
+            tables: vec![],
+            globals: vec![],
+            elements: vec![],
+            is_dropped: vec![false; module.data.len()],
+        };
+        for import in &module.imports {
+            match host::provide(module, import, &mut store.caps)? {
+                Provided::Function(function) => it.host.push(function),
+                Provided::Table(table) => it.tables.push(table),
+                Provided::Memory(memory) => it.memories.push(memory),
+                Provided::Global(global) => it.globals.push(global),
+            }
+        }
+        let imported = module.imported;
+        for (ty, init) in &module.globals[imported.globals..] {
+            it.globals.push(Global::new(init.value(&it.globals), *ty));
+        }
+        for ty in &module.memories[imported.memories..] {
+            it.memories.push(Memory::new(*ty, &mut store.caps.lent()).map_err(of_memory)?);
+        }
+        for (ty, init) in &module.tables[imported.tables..] {
+            let init = TypedRawRef::new(init.value(&it.globals).into(), ty.element());
+            it.tables.push(Table::new(*ty, init, &mut store.caps.lent()).map_err(of_table)?);
+        }
+        for segment in &module.elements {
+            let items = segment.items.iter().map(|item| item.value(&it.globals).into());
+            it.elements.push(ElementSegment::new(segment.ty, items));
+        }
+        Ok(it)
+    }
+
+    fn initialize(&mut self, store: &mut Store) -> Result<(), Failure> {
+        let module = self.module.clone();
+        let fuel = &mut store.fuel;
+        for (segment, items) in module.elements.iter().zip(&mut self.elements) {
+            if let Mode::Active(table, offset) = &segment.mode {
+                let (table, offset) = (&mut self.tables[*table as usize], offset.value(&self.globals));
+                table.init(items.as_ref(), offset.into(), 0, items.size(), Some(fuel)).map_err(of_table)?;
+            }
+            if !matches!(segment.mode, Mode::Passive) {
+                items.drop_items();
+            }
+        }
+        for (segment, is_dropped) in module.data.iter().zip(&mut self.is_dropped) {
+            if let Mode::Active(memory, offset) = &segment.mode {
+                let (memory, offset) = (&mut self.memories[*memory as usize], offset.value(&self.globals));
+                let len = segment.bytes.len() as u32;
+                memory.init(&segment.bytes, offset.into(), 0, len, Some(fuel)).map_err(of_memory)?;
+                *is_dropped = true;
+            }
+        }
+        match module.start {
+            Some(start) => Ok(self.run(store, start, &[])?),
+            None => Ok(()),
+        }
+    }
+
+    /// Calls an exported function.
+    pub fn call(&mut self, store: &mut Store, name: &str, args: &[TypedRawVal]) -> Result<Vec<TypedRawVal>, Failure> {
+        let module = self.module.clone();
+        let Some(Extern::Function(function)) = module.exports.get(name) else {
+            return Err(Failure::Misused("there is no exported function of this name"));
+        };
+        let ty = module.type_of(*function);
+        if !args.iter().map(TypedRawVal::ty).eq(ty.params().iter().copied()) {
+            return Err(Failure::Misused("the arguments aren't those of the function's type"));
+        }
+        let raw: Vec<RawVal> = args.iter().map(TypedRawVal::raw).collect();
+        self.run(store, *function, &raw)?;
+        Ok(ty.results().iter().zip(&store.values).map(|(ty, value)| TypedRawVal::new(*ty, *value)).collect())
+    }
+
+    /// Runs a function. Its results are the first values of the store.
+    fn run(&mut self, store: &mut Store, function: u32, args: &[RawVal]) -> Result<(), Trap> {
+        store.frames.clear();
+        store.values[..args.len()].copy_from_slice(args);
+        let function = function as usize;
+        store::enter(&mut store.values, &self.module.code[function], 0)?;
+        let mut frame = Frame { function, next: 0, base: 0 };
+        while let Exit::Host(number, at) = execute::execute(self, store, frame)? {
+            host::call(self, store, number, at.base)?;
+            frame = at;
+        }
+        Ok(())
+    }
+
+    /// The value of an exported global.
+    pub fn global(&self, name: &str) -> Option<TypedRawVal> {
+        match self.module.exports.get(name)? {
+            Extern::Global(global) => Some(self.globals[*global as usize].get()),
+            _ => None,
+        }
+    }
+
+    /// The module.
+    pub fn module(&self) -> &Module {
+        &self.module
+    }
+
+    /// Drops the instance, and gives back what its memories and tables took of the store's caps.
+    pub fn release(self, store: &mut Store) {
+        store.caps.bytes += self.memories.iter().map(Memory::data_size).sum::<usize>();
+        store.caps.elements += self.tables.iter().map(|it| it.size() as usize).sum::<usize>();
+    }
+
+    /// One line that tells contents apart: of each memory its pages, of each table its elements, of the globals their
+    /// number, and of each of these the FNV-1a of 64 bits of its bytes. An element has 4 bytes, 0 or the number of its
+    /// function and 1; a global has 16. The least byte comes first.
+    pub fn digest(&self) -> String {
+        let mut words = vec![];
+        for memory in &self.memories {
+            words.push(format!("memory {} {:016x}", memory.size(), fnv(memory.data().iter().copied())));
+        }
+        for table in &self.tables {
+            let elements = (0..table.size()).map(|i| table.get(i).map_or(0, |it| u32::from(it.raw())));
+            words.push(format!("table {} {:016x}", table.size(), fnv(elements.flat_map(u32::to_le_bytes))));
+        }
+        let globals = self.globals.iter().map(|it| (it.ty().content(), *it.get_raw())).map(|(ty, raw)| match ty {
+            ValType::V128 => V128::from(raw).as_u128(),
+            ValType::I64 | ValType::F64 => u64::from(raw).into(),
+            _ => u32::from(raw).into(),
+        });
+        words.push(format!("globals {} {:016x}", self.globals.len(), fnv(globals.flat_map(u128::to_le_bytes))));
+        words.join(" ")
+    }
+}
+
+fn fnv(bytes: impl Iterator<Item = u8>) -> u64 {
+    bytes.fold(0xcbf2_9ce4_8422_2325, |hash, byte| (hash ^ u64::from(byte)).wrapping_mul(0x100_0000_01b3))
+}
+
+#[cold]
+pub(crate) fn of_memory(error: MemoryError) -> TrapCode {
+    match error {
+        MemoryError::OutOfFuel { .. } => TrapCode::OutOfFuel,
+        MemoryError::ResourceLimiterDeniedAllocation => TrapCode::GrowthOperationLimited,
+        MemoryError::OutOfSystemMemory => TrapCode::OutOfSystemMemory,
+        _ => TrapCode::MemoryOutOfBounds,
+    }
+}
+
+#[cold]
+pub(crate) fn of_table(error: TableError) -> TrapCode {
+    match error {
+        TableError::OutOfFuel { .. } => TrapCode::OutOfFuel,
+        TableError::ResourceLimiterDeniedAllocation => TrapCode::GrowthOperationLimited,
+        TableError::OutOfSystemMemory => TrapCode::OutOfSystemMemory,
+        _ => TrapCode::TableOutOfBounds,
+    }
+}

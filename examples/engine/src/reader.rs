@@ -1,0 +1,251 @@
+//! Reads the primitive parts of the binary format: bytes, numbers, names, vectors and types.
+//!
+//! WebAssembly core specification, 5.1 to 5.3.
+
+use crate::library::{FuncType, GlobalType, MemoryType, Mutability, RefType, TableType, V128, ValType};
+use std::fmt;
+
+/// Why a module is refused, and where.
+#[derive(Clone, Copy, Debug, PartialEq, Eq)]
+pub struct Refusal {
+    /// Which rules the module breaks.
+    pub kind: RefusalKind,
+    /// The byte of the file at which that was seen.
+    pub offset: usize,
+    /// What is wrong there, as a clause without a full stop.
+    pub what: &'static str,
+}
+
+/// Which rules a module breaks.
+#[derive(Clone, Copy, Debug, PartialEq, Eq)]
+pub enum RefusalKind {
+    /// Those of the binary format.
+    Malformed,
+    /// Those of validation.
+    Invalid,
+    /// Those of this engine, which has no floats and bounds what a module may have.
+    Unsupported,
+}
+
+impl fmt::Display for Refusal {
+    fn fmt(&self, f: &mut fmt::Formatter<'_>) -> fmt::Result {
+        write!(f, "offset {}: {}", self.offset, self.what)
+    }
+}
+
+impl std::error::Error for Refusal {}
+
+pub(crate) type Read<T> = Result<T, Refusal>;
+
+/// Refuses what doesn't hold.
+pub(crate) fn ensure(holds: bool, refusal: Refusal) -> Read<()> {
+    if holds { Ok(()) } else { Err(refusal) }
+}
+
+/// The unread bytes of a file, or of a part of it.
+#[derive(Clone, Copy)]
+pub(crate) struct Reader<'a> {
+    file: &'a [u8],
+    /// The place of the next byte in the file.
+    pub at: usize,
+    end: usize,
+    /// Whether types of floats may be read.
+    pub is_lenient: bool,
+}
+
+impl<'a> Reader<'a> {
+    pub fn new(file: &'a [u8], is_lenient: bool) -> Self {
+        Self { file, at: 0, end: file.len(), is_lenient }
+    }
+
+    pub fn is_empty(&self) -> bool {
+        self.at == self.end
+    }
+
+    pub fn len(&self) -> usize {
+        self.end - self.at
+    }
+
+    pub fn malformed(&self, what: &'static str) -> Refusal {
+        Refusal { kind: RefusalKind::Malformed, offset: self.at, what }
+    }
+
+    pub fn invalid(&self, what: &'static str) -> Refusal {
+        Refusal { kind: RefusalKind::Invalid, offset: self.at, what }
+    }
+
+    pub fn unsupported(&self, what: &'static str) -> Refusal {
+        Refusal { kind: RefusalKind::Unsupported, offset: self.at, what }
+    }
+
+    pub fn take(&mut self, len: usize) -> Read<&'a [u8]> {
+        ensure(len <= self.len(), self.malformed("the file or the section ends too soon"))?;
+        self.at += len;
+        Ok(&self.file[self.at - len..self.at])
+    }
+
+    pub fn peek(&self) -> Option<u8> {
+        self.file[self.at..self.end].first().copied()
+    }
+
+    pub fn byte(&mut self) -> Read<u8> {
+        Ok(self.take(1)?[0])
+    }
+
+    /// A number of so many bits in LEB128, of at most as many bytes as they need.
+    fn leb128(&mut self, bits: u32, is_signed: bool) -> Read<u64> {
+        let (mut value, mut shift) = (0, 0);
+        loop {
+            let begin = *self;
+            let byte = self.byte()?;
+            value |= u64::from(byte & 0x7f) << shift;
+            let rest = bits - shift;
+            if rest <= 7 {
+                let high = (byte & 0x7f) >> (rest - u32::from(is_signed));
+                let is_sign = high == 0 || is_signed && high == 0x7f >> (rest - 1);
+                ensure(byte & 0x80 == 0, begin.malformed("a number has too many bytes"))?;
+                ensure(is_sign, begin.malformed("a number is too great"))?;
+            }
+            shift += 7;
+            if byte & 0x80 == 0 {
+                let is_negative = is_signed && byte & 0x40 != 0 && shift < 64;
+                return Ok(if is_negative { value | u64::MAX << shift } else { value });
+            }
+        }
+    }
+
+    pub fn u32(&mut self) -> Read<u32> {
+        Ok(self.leb128(32, false)? as u32)
+    }
+
+    pub fn u64(&mut self) -> Read<u64> {
+        self.leb128(64, false)
+    }
+
+    pub fn i32(&mut self) -> Read<i32> {
+        Ok(self.leb128(32, true)? as i32)
+    }
+
+    pub fn i64(&mut self) -> Read<i64> {
+        Ok(self.leb128(64, true)? as i64)
+    }
+
+    /// A number of 33 bits, which names the type of a block.
+    pub fn type_of_block(&mut self) -> Read<Option<u32>> {
+        Ok(u32::try_from(self.leb128(33, true)?).ok())
+    }
+
+    pub fn v128(&mut self) -> Read<V128> {
+        Ok(V128::from(self.take(16)?.iter().rev().fold(0, |bits, byte| bits << 8 | u128::from(*byte))))
+    }
+
+    /// The bits of a float of so many bytes.
+    pub fn float(&mut self, bytes: usize) -> Read<u64> {
+        ensure(self.is_lenient, self.unsupported("a constant is a float"))?;
+        Ok(self.take(bytes)?.iter().rev().fold(0, |bits, byte| bits << 8 | u64::from(*byte)))
+    }
+
+    /// A part that begins with its length in bytes.
+    pub fn part(&mut self) -> Read<Reader<'a>> {
+        let len = self.u32()? as usize;
+        let at = self.at;
+        self.take(len)?;
+        Ok(Reader { at, end: self.at, ..*self })
+    }
+
+    pub fn bytes(&mut self) -> Read<&'a [u8]> {
+        let len = self.u32()?;
+        self.take(len as usize)
+    }
+
+    pub fn name(&mut self) -> Read<&'a str> {
+        let begin = *self;
+        str::from_utf8(self.bytes()?).or(Err(begin.malformed("a name isn't UTF-8")))
+    }
+
+    /// A vector: its length, and then its items, which have at least a byte each.
+    pub fn list<T>(&mut self, mut item: impl FnMut(&mut Self) -> Read<T>) -> Read<Vec<T>> {
+        let count = self.u32()? as usize;
+        ensure(count <= self.len(), self.malformed("the file or the section ends too soon"))?;
+        (0..count).map(|_| item(self)).collect()
+    }
+
+    pub fn val_type(&mut self) -> Read<ValType> {
+        let begin = *self;
+        Ok(match self.byte()? {
+            0x7f => ValType::I32,
+            0x7e => ValType::I64,
+            0x7d if self.is_lenient => ValType::F32,
+            0x7c if self.is_lenient => ValType::F64,
+            0x7b => ValType::V128,
+            0x70 => ValType::FuncRef,
+            0x6f => ValType::ExternRef,
+            0x7c | 0x7d => return Err(begin.unsupported("a type is one of floats")),
+            _ => return Err(begin.malformed("a type of values is unknown")),
+        })
+    }
+
+    pub fn ref_type(&mut self) -> Read<RefType> {
+        match self.byte()? {
+            0x70 => Ok(RefType::Func),
+            0x6f => Ok(RefType::Extern),
+            _ => Err(self.malformed("a type of references is unknown")),
+        }
+    }
+
+    pub fn func_type(&mut self) -> Read<FuncType> {
+        let begin = *self;
+        ensure(self.byte()? == 0x60, begin.malformed("a type isn't one of functions"))?;
+        let (params, results) = (self.list(Self::val_type)?, self.list(Self::val_type)?);
+        let refusal = begin.unsupported("a type has more than 1,000 parameters or results");
+        FuncType::new(params, results).or(Err(refusal))
+    }
+
+    /// Limits: their flags, the least and the greatest size. Flag 0 is for a greatest size, 2 for addresses of 64 bits.
+    fn limits(&mut self, most_flags: u8) -> Read<(u8, u64, Option<u64>)> {
+        let begin = *self;
+        let flags = self.byte()?;
+        ensure(flags & !most_flags == 0, begin.malformed("the flags of limits are unknown"))?;
+        let size = |it: &mut Self| if flags & 4 != 0 { it.u64() } else { it.u32().map(u64::from) };
+        let min = size(self)?;
+        let max = if flags & 1 != 0 { Some(size(self)?) } else { None };
+        ensure(max.is_none_or(|max| min <= max), begin.invalid("the least size is above the greatest one"))?;
+        Ok((flags, min, max))
+    }
+
+    pub fn memory_type(&mut self) -> Read<MemoryType> {
+        let begin = *self;
+        let (flags, min, max) = self.limits(0b1101)?;
+        let mut builder = MemoryType::builder();
+        builder.min(min).max(max).memory64(flags & 4 != 0);
+        if flags & 8 != 0 {
+            builder.page_size_log2(self.u32()?.try_into().unwrap_or(u8::MAX));
+        }
+        let refusal = begin.invalid("a memory has a size beyond its addresses or an unknown size of pages");
+        builder.build().or(Err(refusal))
+    }
+
+    pub fn table_type(&mut self) -> Read<TableType> {
+        let element = self.ref_type()?;
+        let (flags, min, max) = self.limits(0b101)?;
+        let cut = |size: u64| size as u32;
+        Ok(match flags & 4 {
+            0 => TableType::new(element, cut(min), max.map(cut)),
+            _ => TableType::new64(element, min, max),
+        })
+    }
+
+    pub fn global_type(&mut self) -> Read<GlobalType> {
+        let content = self.val_type()?;
+        let mutability = match self.byte()? {
+            0 => Mutability::Const,
+            1 => Mutability::Var,
+            _ => return Err(self.malformed("a global is neither constant nor mutable")),
+        };
+        Ok(GlobalType::new(content, mutability))
+    }
+}
+
+#[cfg(test)]
+#[path = "../tests/unit/reader.rs"]
+mod tests;

@@ -1,0 +1,192 @@
+//! Modules that are refused, and where; what instances share; memories beyond the first one and beyond 32 bits.
+
+mod common;
+use common::*;
+use engine::library::TrapCode;
+use engine::{Caps, Instance, Module, RefusalKind};
+use std::thread;
+
+fn refused(bytes: &[u8]) -> (RefusalKind, usize) {
+    Module::new(bytes).map(drop).map_err(|it| (it.kind, it.offset)).unwrap_err()
+}
+
+#[test]
+fn what_is_no_module() {
+    assert_eq!(refused(b""), (RefusalKind::Malformed, 0));
+    assert_eq!(refused(b"\x7fELF"), (RefusalKind::Malformed, 0));
+    assert_eq!(refused(b"\0asm\x02\0\0\0"), (RefusalKind::Malformed, 4));
+    assert_eq!(refused(b"\0asm\x01\0\0\0\x01\x05"), (RefusalKind::Malformed, 10));
+    assert!(Module::new(b"\0asm\x01\0\0\0").is_ok());
+}
+
+#[test]
+fn floats_are_refused_with_their_place() {
+    let add = [0x43, 0, 0, 0, 0, 0x43, 0, 0, 0, 0, 0x92, 0x1a];
+    let wasm = Wasm::default().function(&[], &[], &[], &add).function(&[], &[I32], &[], &[0x41, 7]);
+    let bytes = wasm.bytes();
+    let place = bytes.iter().position(|it| *it == 0x43).unwrap();
+    assert_eq!(refused(&bytes), (RefusalKind::Unsupported, place));
+    assert_eq!(refused(&Wasm::default().function(&[0x7d], &[], &[], &[]).bytes()), (RefusalKind::Unsupported, 13));
+
+    let module = Module::new_lenient(&bytes).unwrap().into();
+    let mut store = store(1000);
+    let mut instance = Instance::new(&module, &mut store).unwrap();
+    assert_eq!(call(&mut instance, &mut store, "f", &[]), Err("a function with floats was called".into()));
+    assert_eq!(call(&mut instance, &mut store, "g", &[]), Ok(7));
+}
+
+#[test]
+fn limits_of_a_function() {
+    let many = |count: usize, code: &[u8]| code.repeat(count);
+    let blocks = |count: usize| [many(count, &[0x02, 0x40]), many(count, &[0x0b])].concat();
+    let operands = |count: usize| [many(count, &[0x41, 0]), many(count, &[0x1a])].concat();
+    let constants = |count: u64| {
+        (0..count).flat_map(|it| [vec![0x41], leb(it), vec![0x1a]].concat()).filter(|_| true).collect::<Vec<u8>>()
+    };
+    let is_refused = |locals, code: &[u8]| match Wasm::default().function(&[], &[], &[(locals, I32)], code).module() {
+        Ok(_) => false,
+        Err(it) => it.kind == RefusalKind::Unsupported,
+    };
+    assert!(!is_refused(16_000, &[]) && is_refused(16_001, &[]));
+    assert!(!is_refused(0, &blocks(15_000)) && is_refused(0, &blocks(16_000)));
+    assert!(!is_refused(0, &operands(16_000)) && is_refused(0, &operands(16_001)));
+    assert!(!is_refused(0, &constants(63)) && is_refused(0, &constants(1 << 15)));
+    let all = [operands(16_000), blocks(15_000)].concat();
+    assert!(!is_refused(16_000, &all));
+}
+
+/// A module costs about what its bytes are worth: no instruction makes a long list again and again.
+#[test]
+fn hostile_functions_are_read_in_time() {
+    let results = sized(&[I32; 1000]);
+    let deep = [0x20, 0].repeat(15_000);
+    for (params, code) in [
+        (&[I32][..], [&deep[..], &[0x20, 0, 0x21, 0].repeat(100_000), &[0x1a].repeat(15_000)].concat()),
+        (&[I32], [&deep[..], &[0x02, 0x40, 0x0b].repeat(100_000), &[0x1a].repeat(15_000)].concat()),
+        (&[I32], [&[0x20, 0][..], &[0x41, 1, 0x0d, 0].repeat(100_000), &[0x1a]].concat()),
+    ] {
+        assert!(Wasm::default().function(params, &[], &[], &code).module().is_ok());
+    }
+    // Jumps with 1,000 operands that lie elsewhere.
+    let ty = [vec![0x60, 0], results].concat();
+    let branches = [&[0x20, 0].repeat(1001)[..], &[0x20, 0, 0x0d, 0].repeat(2000), &[0x00]].concat();
+    let code = [&[0x02, 1][..], &branches, &[0x0b, 0x00]].concat();
+    let wasm = Wasm::default().function(&[I32], &[], &[], &code).item(1, ty);
+    assert!(wasm.module().is_ok());
+}
+
+#[test]
+fn ten_thousand_instances_under_one_limiter() {
+    let code = [0x41, 0, 0x41, 0, 0x28, 2, 0, 0x41, 1, 0x6a, 0x36, 2, 0, 0x41, 0, 0x28, 2, 0];
+    let module = Wasm::default().function(&[], &[I32], &[], &code).memory(&[0, 1]).table(&[0, 10]).module().unwrap();
+    let caps = Caps { bytes: 3 << 16, elements: 30 };
+    let mut store = store_with(u64::MAX, caps);
+    for _ in 0..10_000 {
+        let mut instance = Instance::new(&module, &mut store).unwrap();
+        assert_eq!(call(&mut instance, &mut store, "f", &[]), Ok(1));
+        instance.release(&mut store);
+        assert_eq!(store.caps, caps);
+    }
+    let kept: Vec<_> = (0..3).map(|_| Instance::new(&module, &mut store).unwrap()).collect();
+    let refused = Instance::new(&module, &mut store).map(drop).unwrap_err().to_string();
+    assert_eq!(refused, TrapCode::GrowthOperationLimited.to_string());
+    kept.into_iter().for_each(|it| it.release(&mut store));
+    assert_eq!(store.caps, caps);
+}
+
+#[test]
+fn four_threads() {
+    // The sum of the numbers below the argument.
+    let code = [0x03, 0x40, 0x20, 1, 0x20, 0, 0x41, 1, 0x6b, 0x22, 0, 0x6a, 0x21, 1, 0x20, 0, 0x0d, 0, 0x0b, 0x20, 1];
+    let module = Wasm::default().function(&[I32], &[I32], &[(1, I32)], &code).module().unwrap();
+    thread::scope(|scope| {
+        let threads: Vec<_> = (1..5_i32)
+            .map(|thread| {
+                let module = &module;
+                scope.spawn(move || {
+                    let mut store = store(u64::MAX);
+                    let mut instance = Instance::new(module, &mut store).unwrap();
+                    call(&mut instance, &mut store, "f", &[(thread * 10_000).into()])
+                })
+            })
+            .collect();
+        for (thread, reply) in (1..).zip(threads) {
+            let count = thread * 10_000;
+            assert_eq!(reply.join().unwrap(), Ok(count * (count - 1) / 2));
+        }
+    });
+}
+
+#[test]
+fn a_failed_instance_gives_back_what_it_took() {
+    let start = Wasm::default().function(&[], &[], &[], &[0x41, 1, 0x40, 0, 0x1a, 0x00]).memory(&[0, 1]).item(8, [0]);
+    let mut store = store(1_000_000);
+    let caps = store.caps;
+    assert_eq!(called(&start, &mut store, &[]), Err(TrapCode::UnreachableCodeReached.to_string()));
+    assert_eq!(store.caps, caps);
+    let data = Wasm::default().memory(&[0, 1]).item(11, [&[0, 0x41, 0xff, 0xff, 3, 0x0b][..], &[2, 1, 2]].concat());
+    assert_eq!(called(&data, &mut store, &[]), Err(TrapCode::MemoryOutOfBounds.to_string()));
+    assert_eq!(store.caps, caps);
+}
+
+#[test]
+fn several_memories() {
+    // Writes 7 to the second memory, copies it to the first one, and adds what both have.
+    let code = [
+        &[0x41, 8, 0x41, 7, 0x36, 0x42, 1, 0][..],    // i32.store of memory 1
+        &[0x41, 0, 0x41, 8, 0x41, 4, 0xfc, 10, 0, 1], // memory.copy 0 1
+        &[0x41, 0, 0x28, 2, 0, 0x41, 0, 0x28, 0x42, 1, 8, 0x6a],
+    ]
+    .concat();
+    let wasm = Wasm::default().function(&[], &[I32], &[], &code).memory(&[0, 1]).memory(&[0, 1]);
+    assert_eq!(called(&wasm, &mut store(1000), &[]), Ok(14));
+}
+
+#[test]
+fn addresses_of_64_bits() {
+    let load = |offset: u64| [vec![0x20, 0, 0x28, 2], leb(offset)].concat();
+    let reply = |offset, address: i64| {
+        let wasm = Wasm::default().function(&[I64], &[I32], &[], &load(offset)).memory(&[4, 1]);
+        called(&wasm, &mut store(1000), &[address.into()])
+    };
+    let past = Err(TrapCode::MemoryOutOfBounds.to_string());
+    assert_eq!(reply(0, 65_532), Ok(0));
+    assert_eq!(reply(1, 65_532), past);
+    assert_eq!(reply(1 << 33, -(1 << 33)), past);
+    assert_eq!(reply(u64::MAX, 1), past);
+    assert_eq!(reply(0, -4), past);
+}
+
+#[test]
+fn references_and_indirect_calls() {
+    let element = [&[0, 0x41, 1, 0x0b][..], &[2, 0, 1]].concat();
+    let call = |ty: u8| [&[0x20, 0, 0x11][..], &[ty, 0]].concat();
+    let wasm = |ty| {
+        Wasm::default()
+            .function(&[I32], &[I32], &[], &call(ty))
+            .function(&[], &[I32], &[], &[0x41, 42])
+            .table(&[0, 4])
+            .item(9, element.clone())
+    };
+    let reply = |index: i32| called(&wasm(1), &mut store(1000), &[index.into()]);
+    assert_eq!(reply(2), Ok(42));
+    assert_eq!(reply(1), Err(TrapCode::BadSignature.to_string()));
+    assert_eq!(reply(0), Err(TrapCode::IndirectCallToNull.to_string()));
+    assert_eq!(reply(4), Err(TrapCode::TableOutOfBounds.to_string()));
+    assert_eq!(reply(-1), Err(TrapCode::TableOutOfBounds.to_string()));
+}
+
+#[test]
+fn wide_arithmetic() {
+    // The upper half of -1 times 2, of 2^64 - 1 times 2, and of 2^64 minus 1; each result is checked by its two halves.
+    let reply = |code: &[u8], place: u8| {
+        let code = [code, &[0x21, 1, 0x21, 0, 0x20, place]].concat();
+        called(&Wasm::default().function(&[], &[I64], &[(2, I64)], &code), &mut store(1000), &[])
+    };
+    let product = |opcode| [0x42, 0x7f, 0x42, 2, 0xfc, opcode];
+    assert_eq!((reply(&product(0x15), 0), reply(&product(0x15), 1)), (Ok(-2), Ok(-1)));
+    assert_eq!((reply(&product(0x16), 0), reply(&product(0x16), 1)), (Ok(-2), Ok(1)));
+    let of_four = |opcode| [0x42, 0, 0x42, 1, 0x42, 1, 0x42, 0, 0xfc, opcode];
+    assert_eq!((reply(&of_four(0x13), 0), reply(&of_four(0x13), 1)), (Ok(1), Ok(1)));
+    assert_eq!((reply(&of_four(0x14), 0), reply(&of_four(0x14), 1)), (Ok(-1), Ok(0)));
+}
