@@ -1,0 +1,239 @@
+// Runs scripts in V8 and replies as `engine --script` does. usage: node [FLAG..] check.mjs < SCRIPT
+// V8 has no fuel, and it doesn't tell a module that is malformed from one that is invalid: that is `refused`. Memories, tables and globals
+// that a module doesn't export are exported in the copy that is run, so that the digest can see them.
+import fs from 'node:fs';
+
+const I32 = 0x7f, I64 = 0x7e, V128 = 0x7b;
+const SECTIONS_BEFORE = { 1: [], 3: [1, 2], 7: [1, 2, 3, 4, 5, 6], 10: [1, 2, 3, 4, 5, 6, 7, 8, 9, 12] };
+
+class Reader {
+  constructor(bytes) { this.bytes = bytes; this.at = 0; }
+  byte() { return this.bytes[this.at++]; }
+  u64() {
+    for (let value = 0n, shift = 0n; ; shift += 7n) {
+      const byte = this.byte();
+      value |= BigInt(byte & 127) << shift;
+      if (byte < 128) return value;
+    }
+  }
+  u32() { return Number(this.u64()); }
+  take(count) { const from = this.at; this.at += count; return this.bytes.subarray(from, this.at); }
+  name() { return Buffer.from(this.take(this.u32())).toString(); }
+  limits() {
+    const kind = this.byte();
+    this.u64();
+    if (kind & 1) this.u64();
+  }
+  constant() {
+    for (;;) {
+      const code = this.byte();
+      if (code === 0x0b) return;
+      if (code === 0xfd) { this.u32(); this.take(16); }
+      else if (code === 0x43) this.take(4);
+      else if (code === 0x44) this.take(8);
+      else if (code < 0x6a || code > 0x7e) this.u64();
+    }
+  }
+}
+
+function leb(value) {
+  const bytes = [];
+  for (; value > 127; value = Math.floor(value / 128)) bytes.push(value & 127 | 128);
+  return [...bytes, value];
+}
+
+function sections(bytes) {
+  const reader = new Reader(bytes), found = [];
+  reader.take(8);
+  while (reader.at < bytes.length) { const id = reader.byte(); found.push({ id, content: Buffer.from(reader.take(reader.u32())) }); }
+  return found;
+}
+
+// What a module has: imports first, as in the spaces of indices.
+function shape(found) {
+  const it = { types: 0, functions: 0, memories: 0, tables: 0, globals: [] };
+  for (const { id, content } of found) {
+    const reader = new Reader(content);
+    if (![1, 2, 3, 4, 5, 6].includes(id)) continue;
+    for (let count = reader.u32(); count > 0; count--) {
+      let kind = { 3: 0, 4: 1, 5: 2, 6: 3 }[id];
+      if (id === 1) { it.types++; continue; }
+      if (id === 2) { reader.name(); reader.name(); kind = reader.byte(); }
+      if (kind === 0) { reader.u32(); it.functions++; }
+      if (kind === 1) { reader.byte(); reader.limits(); it.tables++; }
+      if (kind === 2) { reader.limits(); it.memories++; }
+      if (kind === 3) { it.globals.push(reader.byte()); reader.byte(); if (id === 6) reader.constant(); }
+    }
+  }
+  return it;
+}
+
+function append(found, id, items) {
+  if (!items.length) return;
+  let section = found.find((it) => it.id === id);
+  if (!section) {
+    section = { id, content: Buffer.from([0]) };
+    const before = found.findLastIndex((it) => SECTIONS_BEFORE[id].includes(it.id));
+    found.splice(before + 1, 0, section);
+  }
+  const reader = new Reader(section.content), count = reader.u32();
+  section.content = Buffer.from([...leb(count + items.length), ...section.content.subarray(reader.at), ...items.flat()]);
+}
+
+// The module with all exported, and with two functions for each global that is a vector, which give its halves.
+function exposed(bytes) {
+  const found = sections(bytes), it = shape(found), exports = [], bodies = [];
+  const add = (name, kind, index) => exports.push([...leb(name.length), ...Buffer.from(name), kind, ...leb(index)]);
+  for (let i = 0; i < it.memories; i++) add(`~m${i}`, 2, i);
+  for (let i = 0; i < it.tables; i++) add(`~t${i}`, 1, i);
+  it.globals.forEach((type, i) => {
+    if (type !== V128) { add(`~g${i}`, 3, i); return; }
+    for (const half of [0, 1]) {
+      add(`~v${i}.${half}`, 0, it.functions + bodies.length);
+      const body = [0, 0x23, ...leb(i), 0xfd, 0x1d, half, 0x0b];
+      bodies.push([...leb(body.length), ...body]);
+    }
+  });
+  if (bodies.length) append(found, 1, [[0x60, 0, 1, I64]]);
+  append(found, 3, bodies.map(() => leb(it.types)));
+  append(found, 7, exports);
+  append(found, 10, bodies);
+  const all = found.flatMap(({ id, content }) => [Buffer.from([id, ...leb(content.length)]), content]);
+  return { bytes: Buffer.concat([bytes.subarray(0, 8), ...all]), shape: it };
+}
+
+// FNV-1a of 64 bits, in two halves of 32.
+class Sum {
+  constructor() { this.high = 0xcbf29ce4; this.low = 0x84222325; }
+  bytes(bytes) {
+    let { high, low } = this;
+    for (let i = 0; i < bytes.length; i++) {
+      low = (low ^ bytes[i]) >>> 0;
+      const product = low * 435;
+      high = (Math.imul(high, 435) + Math.floor(product / 4294967296) + (low << 8)) >>> 0;
+      low = product >>> 0;
+    }
+    this.high = high; this.low = low;
+  }
+  // A number as so many bytes, the least first.
+  number(value, count) {
+    const bytes = Buffer.alloc(16);
+    bytes.writeBigUInt64LE(BigInt.asUintN(64, BigInt(value)));
+    this.bytes(bytes.subarray(0, count));
+  }
+  text() { return [this.high, this.low].map((it) => it.toString(16).padStart(8, '0')).join(''); }
+}
+
+const TRAPS = [
+  [/^unreachable$/, 'wasm `unreachable` instruction executed'],
+  [/memory access|data segment/, 'out of bounds memory access'],
+  [/signature mismatch/, 'indirect call type mismatch'],
+  [/table|element segment/, 'undefined element: out of bounds table access'],
+  [/divide by zero|remainder by zero/, 'integer divide by zero'],
+  [/unrepresentable|divide result/, 'integer overflow'],
+  [/call stack size/, 'call stack exhausted'],
+];
+function trap(error) {
+  if (!(error instanceof WebAssembly.RuntimeError || error instanceof RangeError)) return `error: ${error.message}`;
+  const known = TRAPS.find(([form]) => form.test(error.message));
+  return `trap: ${known ? known[1] : `?${error.message}`}`;
+}
+
+const reference = (value) => value === null ? 'null' : typeof value === 'function' ? `func ${value.name}` : 'extern';
+const number = (value) => value === null ? 0 : typeof value === 'function' ? Number(value.name) + 1 : typeof value === 'object' ? 0xffffffff : value;
+const shown = (value) => typeof value === 'number' || typeof value === 'bigint' ? String(value) : reference(value);
+
+let instance = null, of = null;
+// What a call printed comes before its reply.
+const host = {
+  print_i32: (value) => console.log(String(value)),
+  print_i64: (value) => console.log(String(value)),
+  print_bytes: (at, len) => process.stdout.write(Buffer.from(instance.exports['~m0'].buffer, at >>> 0, len >>> 0)),
+  memory: new WebAssembly.Memory({ initial: 1, maximum: 2 }),
+  table: new WebAssembly.Table({ element: 'anyfunc', initial: 10, maximum: 20 }),
+};
+
+// Operands by the type that a function takes: V8 takes an i64 as a BigInt only.
+function called(f, words) {
+  const numbers = words.map((word) => BigInt(word.replace('-0x', '0x')) * (word.startsWith('-0x') ? -1n : 1n));
+  const types = of.params.get(f) ?? [];
+  return f(...numbers.map((value, i) => types[i] === I64 ? BigInt.asIntN(64, value) : types[i] === I32 ? Number(BigInt.asIntN(32, value)) : null));
+}
+
+// The types of the operands of each exported function.
+function operands(bytes, exports) {
+  const types = [], functions = [], params = new Map();
+  for (const { id, content } of sections(bytes)) {
+    const reader = new Reader(content);
+    for (let count = [1, 2, 3, 7].includes(id) ? reader.u32() : 0; count > 0; count--) {
+      if (id === 1) { reader.byte(); types.push([...reader.take(reader.u32())]); reader.take(reader.u32()); }
+      if (id === 3) functions.push(types[reader.u32()]);
+      if (id === 2) {
+        reader.name(); reader.name();
+        const kind = reader.byte();
+        if (kind === 0) functions.push(types[reader.u32()]);
+        if (kind === 1) { reader.byte(); reader.limits(); }
+        if (kind === 2) reader.limits();
+        if (kind === 3) reader.take(2);
+      }
+      if (id === 7) {
+        const name = reader.name(), kind = reader.byte(), index = reader.u32();
+        if (kind === 0) params.set(exports[name], functions[index]);
+      }
+    }
+  }
+  return params;
+}
+
+function digest() {
+  const words = [], { exports } = instance;
+  for (let i = 0; i < of.memories; i++) {
+    const sum = new Sum(), bytes = new Uint8Array(exports[`~m${i}`].buffer);
+    sum.bytes(bytes);
+    words.push('memory', bytes.length / 65536, sum.text());
+  }
+  for (let i = 0; i < of.tables; i++) {
+    const sum = new Sum(), table = exports[`~t${i}`];
+    for (let k = 0; k < table.length; k++) sum.number(number(table.get(k)), 4);
+    words.push('table', table.length, sum.text());
+  }
+  const sum = new Sum();
+  of.globals.forEach((type, i) => {
+    if (type === V128) for (const half of [0, 1]) sum.number(exports[`~v${i}.${half}`](), 8);
+    else {
+      const value = number(exports[`~g${i}`].value);
+      sum.number(type === I32 ? value >>> 0 : value, 16);
+    }
+  });
+  words.push('globals', of.globals.length, sum.text());
+  return `ok: ${words.join(' ')}`;
+}
+
+function load(file) {
+  instance = null;
+  const bytes = fs.readFileSync(file);
+  if (!WebAssembly.validate(bytes)) return 'refused: by V8';
+  const copy = exposed(bytes);
+  of = copy.shape;
+  try { instance = new WebAssembly.Instance(new WebAssembly.Module(copy.bytes), { host }); }
+  catch (error) { return error instanceof WebAssembly.LinkError ? 'unlinkable: by V8' : trap(error); }
+  of.params = operands(bytes, instance.exports);
+  return 'ok:';
+}
+
+function reply(line) {
+  const [command, ...words] = line.split(' ');
+  if (command === 'module') return load(words.join(' '));
+  if (command === 'fuel') return 'ok:';
+  if (command === 'left') return 'none: V8 has no fuel';
+  if (!instance) return 'error: there is no instance';
+  if (command === 'digest') return digest();
+  const f = instance.exports[words[0]];
+  if (typeof f !== 'function') return `error: there is no function ${words[0]}`;
+  try { return `ok: ${[called(f, words.slice(1)) ?? []].flat().map(shown).join(' ')}`.trimEnd(); }
+  catch (error) { return trap(error); }
+}
+
+const lines = fs.readFileSync(0, 'utf8').split('\n');
+if (lines.at(-1) === '') lines.pop();
+for (const line of lines) console.log(reply(line));

@@ -1,0 +1,57 @@
+//! Runs a script of several cases in an engine, which is a program that reads a line and writes a reply, and tells the replies of the cases.
+use std::fs::File;
+use std::process::{Command, Stdio};
+
+/// A module's file and the lines that follow its `module` line.
+pub struct Case {
+    pub seed: u64,
+    pub file: String,
+    pub lines: Vec<String>,
+}
+
+/// The replies of a case. If the engine ended before the last of them, the last text is what it wrote to standard error.
+pub struct Replies {
+    pub lines: Vec<String>,
+    pub has_ended: bool,
+}
+
+/// Runs the cases in one process, and after one in which the engine ended the others in another process.
+pub fn run(command: &str, fuel: u64, cases: &[Case], script: &str) -> Vec<Replies> {
+    let mut all: Vec<Replies> = vec![];
+    while all.len() < cases.len() {
+        let left = &cases[all.len()..];
+        let lines = left.iter().flat_map(|it| {
+            let head = [format!("fuel {fuel}"), format!("module {}", it.file)];
+            head.into_iter().chain(it.lines.iter().cloned())
+        });
+        std::fs::write(script, lines.map(|it| it + "\n").collect::<String>()).expect("a file for the script");
+        let mut words = command.split(' ');
+        let mut program = Command::new(words.next().unwrap_or(""));
+        program.args(words).stdin(Stdio::from(File::open(script).expect("the script")));
+        let done = program.output().unwrap_or_else(|error| crate::stop(&format!("{command}: {error}")));
+        let text = String::from_utf8_lossy(&done.stdout);
+        let mut replies = text.lines().map(String::from);
+        for case in left {
+            // The reply to the fuel says nothing.
+            let mut lines: Vec<String> = replies.by_ref().take(case.lines.len() + 2).collect();
+            let has_ended = lines.len() < case.lines.len() + 2;
+            lines.drain(..1.min(lines.len()));
+            if has_ended {
+                lines.push(format!("ended: {} {}", done.status, String::from_utf8_lossy(&done.stderr).trim()));
+            }
+            all.push(Replies { lines, has_ended });
+            if has_ended {
+                break;
+            }
+        }
+    }
+    all
+}
+
+/// A checksum of texts (FNV-1a of 64 bits).
+pub fn checksum(mut sum: u64, text: &str) -> u64 {
+    for byte in text.bytes().chain([b'\n']) {
+        sum = (sum ^ u64::from(byte)).wrapping_mul(0x100_0000_01b3);
+    }
+    sum
+}

@@ -1,0 +1,221 @@
+//! Random modules and damaged ones, run in several engines whose replies have to be the same.
+#![forbid(unsafe_code)]
+mod body;
+mod encode;
+mod engines;
+mod instructions;
+mod module;
+mod mutate;
+mod random;
+
+use engines::{Case, Replies, checksum};
+use instructions::{Instruction, instructions};
+use random::Random;
+use std::path::{Path, PathBuf};
+
+const USAGE: &str = "usage: fuzz ENGINE.. [--v8 ENGINE] [--seed N] [--count N] [--mutants FOLDER] [--found FOLDER] [--expected FILE]
+
+Each ENGINE is a command that reads a script as `engine --script` does; the first one is compared with the others. COUNT modules (1,000) are
+made from SEED (1) on. With --mutants they are damaged ones, of these modules and of the .wasm files in FOLDER. V8 has no fuel, and
+runs a damaged module only if the first engine ended for another reason. Modules on which something differs are written to the folder
+after --found. FILE has the checksums of results and of fuel that the first engine has to give. The status is 1 if something differs.";
+
+pub fn stop(text: &str) -> ! {
+    eprintln!("fuzz: {text}");
+    std::process::exit(2)
+}
+
+struct Options {
+    engines: Vec<String>,
+    v8: Option<String>,
+    seed: u64,
+    count: u64,
+    guests: Option<Vec<Vec<u8>>>,
+    found: Option<PathBuf>,
+    expected: Option<String>,
+}
+
+fn options() -> Options {
+    let mut it = Options { engines: vec![], v8: None, seed: 1, count: 1000, guests: None, found: None, expected: None };
+    let mut words = std::env::args().skip(1);
+    while let Some(word) = words.next() {
+        let mut next = || words.next().unwrap_or_else(|| stop(&format!("{word} takes a word")));
+        let number = |text: String| text.parse::<u64>().unwrap_or_else(|_| stop(&format!("{text} is no number")));
+        match word.as_str() {
+            "--v8" => it.v8 = Some(next()),
+            "--seed" => it.seed = number(next()),
+            "--count" => it.count = number(next()),
+            "--mutants" => it.guests = Some(guests(&next())),
+            "--found" => it.found = Some(next().into()),
+            "--expected" => it.expected = Some(next()),
+            "--help" => {
+                println!("{USAGE}");
+                std::process::exit(0)
+            }
+            _ if word.starts_with("--") => stop(USAGE),
+            _ => it.engines.push(word),
+        }
+    }
+    if it.engines.is_empty() || it.count == 0 {
+        stop(USAGE);
+    }
+    it
+}
+
+fn guests(folder: &str) -> Vec<Vec<u8>> {
+    let entries = std::fs::read_dir(folder).unwrap_or_else(|error| stop(&format!("{folder}: {error}")));
+    let mut files: Vec<_> = entries.filter_map(|it| Some(it.ok()?.path())).filter(|it| it.extension().is_some_and(|it| it == "wasm")).collect();
+    files.sort();
+    if files.is_empty() {
+        stop(&format!("{folder} has no .wasm file"));
+    }
+    files.iter().map(|it| std::fs::read(it).unwrap_or_else(|error| stop(&format!("{}: {error}", it.display())))).collect()
+}
+
+/// The modules of a batch, written to a folder.
+fn batch(options: &Options, instructions: &[Instruction], seeds: std::ops::Range<u64>, folder: &Path) -> Vec<Case> {
+    let made = seeds.map(|seed| {
+        let mut case = module::case(seed, instructions);
+        if let Some(guests) = &options.guests {
+            let random = &mut Random::new(!seed);
+            if random.once_in(2) {
+                case.bytes = random.of(guests).clone();
+                case.lines = vec!["invoke run 3".into(), "left".into(), "digest".into()];
+            }
+            let other = random.of(guests).clone();
+            case.bytes = mutate::mutant(&case.bytes, &other, random);
+        }
+        let file = folder.join(format!("{seed}.wasm")).display().to_string();
+        std::fs::write(&file, &case.bytes).unwrap_or_else(|error| stop(&format!("{file}: {error}")));
+        Case { seed, file, lines: case.lines }
+    });
+    made.collect()
+}
+
+/// What is compared of two replies. A reply says more than WebAssembly does about why a module is refused, and V8 has one text for two traps.
+fn compared(reply: &str, is_with_v8: bool) -> &str {
+    match reply.split(':').next().unwrap_or("") {
+        "invalid" | "malformed" | "unsupported" | "unlinkable" | "refused" if is_with_v8 => "refused",
+        "error" => "error",
+        _ if is_with_v8 && reply == "trap: uninitialized element 2" => "trap: indirect call type mismatch",
+        _ => reply,
+    }
+}
+
+/// The first line on which two engines differ.
+fn difference(case: &Case, one: &Replies, other: &Replies, is_with_v8: bool) -> Option<String> {
+    let names = std::iter::once("module").chain(case.lines.iter().map(String::as_str)).chain(["the end"]);
+    let (mut left, mut right) = (one.lines.iter(), other.lines.iter());
+    names.into_iter().find_map(|name| {
+        let (a, b) = (left.next().map_or("", |it| it), right.next().map_or("", |it| it));
+        let is_same = (is_with_v8 && name == "left") || compared(a, is_with_v8) == compared(b, is_with_v8);
+        (!is_same).then(|| format!("{name}: {a} | {b}"))
+    })
+}
+
+#[derive(Default)]
+struct Counts {
+    accepted: u64,
+    lines: u64,
+    returned: u64,
+    trapped: u64,
+    with_v8: u64,
+    differ: u64,
+    results: u64,
+    fuel: u64,
+}
+
+impl Counts {
+    fn add(&mut self, case: &Case, replies: &Replies) {
+        self.accepted += u64::from(replies.lines.first().is_some_and(|it| it.starts_with("ok")));
+        for (name, reply) in case.lines.iter().zip(replies.lines.iter().skip(1)) {
+            self.lines += 1;
+            self.returned += u64::from(name.starts_with("invoke") && reply.starts_with("ok"));
+            self.trapped += u64::from(name.starts_with("invoke") && reply.starts_with("trap"));
+            let sum = if name == "left" { &mut self.fuel } else { &mut self.results };
+            *sum = checksum(*sum, compared(reply, false));
+        }
+    }
+}
+
+fn report(options: &Options, counts: &mut Counts, case: &Case, engine: &str, text: &str) {
+    counts.differ += 1;
+    println!("{}: {engine}: {text}", case.seed);
+    if let Some(folder) = &options.found {
+        let written = std::fs::create_dir_all(folder).and_then(|()| std::fs::copy(&case.file, folder.join(format!("{}.wasm", case.seed))));
+        let script = case.lines.iter().map(|it| format!("{it}\n")).collect::<String>();
+        written.and_then(|_| std::fs::write(folder.join(format!("{}.lines", case.seed)), script)).unwrap_or_else(|error| stop(&error.to_string()));
+    }
+}
+
+/// Whether V8 may run a module: it has no fuel, and no limiter.
+fn ends(replies: &Replies) -> bool {
+    let is_limited = |it: &String| it.contains("all fuel consumed") || it.contains("growth operation limited");
+    !replies.has_ended && replies.lines.first().is_some_and(|it| it.starts_with("ok")) && !replies.lines.iter().any(is_limited)
+}
+
+fn compare(options: &Options, counts: &mut Counts, cases: Vec<Case>, script: &str) {
+    let fuel = if options.guests.is_some() { 300_000 } else { 100_000_000 };
+    let first = engines::run(&options.engines[0], fuel, &cases, script);
+    for (case, replies) in cases.iter().zip(&first) {
+        counts.add(case, replies);
+        if replies.has_ended {
+            report(options, counts, case, &options.engines[0], replies.lines.last().map_or("", |it| it));
+        }
+    }
+    for engine in &options.engines[1..] {
+        let other = engines::run(engine, fuel, &cases, script);
+        for ((case, one), other) in cases.iter().zip(&first).zip(&other) {
+            if let Some(text) = difference(case, one, other, false) {
+                report(options, counts, case, engine, &text);
+            }
+        }
+    }
+    if let Some(v8) = &options.v8 {
+        let is_run = |replies: &Replies| options.guests.is_none() || ends(replies);
+        let (cases, first): (Vec<_>, Vec<_>) = cases.into_iter().zip(first).filter(|(_, it)| is_run(it)).unzip();
+        counts.with_v8 += cases.len() as u64;
+        let other = engines::run(v8, fuel, &cases, script);
+        for ((case, one), other) in cases.iter().zip(&first).zip(&other) {
+            // V8 may accept what this engine doesn't have, and refuse what it lacks itself.
+            let is_foreign = options.guests.is_some() && other.lines.first().is_some_and(|it| it.starts_with("refused"));
+            if let Some(text) = difference(case, one, other, true).filter(|_| !is_foreign) {
+                report(options, counts, case, v8, &text);
+            }
+        }
+    }
+}
+
+fn main() {
+    let options = options();
+    let instructions = instructions();
+    let folder = std::env::temp_dir().join(format!("fuzz.{}", std::process::id()));
+    std::fs::create_dir_all(&folder).unwrap_or_else(|error| stop(&error.to_string()));
+    let script = folder.join("script").display().to_string();
+    let mut counts = Counts::default();
+    let end = options.seed + options.count;
+    let mut from = options.seed;
+    while from < end {
+        let cases = batch(&options, &instructions, from..end.min(from + 250), &folder);
+        let files: Vec<_> = cases.iter().map(|it| it.file.clone()).collect();
+        compare(&options, &mut counts, cases, &script);
+        files.iter().for_each(|it| drop(std::fs::remove_file(it)));
+        from += 250;
+    }
+    drop(std::fs::remove_dir_all(&folder));
+    let found = format!("results {:016x}, fuel {:016x}", counts.results, counts.fuel);
+    println!("{found}");
+    let is_expected = options.expected.as_ref().is_none_or(|file| std::fs::read_to_string(file).is_ok_and(|it| it.trim() == found));
+    if !is_expected {
+        println!("{} has other checksums", options.expected.as_deref().unwrap_or(""));
+    }
+    let (modules, v8) = (options.count, counts.with_v8);
+    println!(
+        "{modules} modules, {} accepted, {} with V8, {} calls returned, {} trapped: {} differ",
+        counts.accepted, v8, counts.returned, counts.trapped, counts.differ
+    );
+    if counts.returned + counts.trapped == 0 {
+        stop("no call was compared");
+    }
+    std::process::exit(i32::from(counts.differ > 0 || !is_expected));
+}

@@ -1,0 +1,29 @@
+// A text of names of instructions, deflated by zlib and written in base64, its length and its CRC-32.
+#define INFLATED 6932
+#define CRC 0x82372079u
+static const char DEFLATED[] =
+    "fVnNjuM2DL7PUxjooS2wM4gTJ5PprS+wpwI9Bo4teYw6dla2dzTz9KX4J9lJFgggiqTITxQtUcpv2T/vJquG2ozZYLN/zfnvcTSXc/f5+5i1/T"
+    "i5uZraoR//ysqs6soR1drLxdRtOZnxWzbBeNu6cUIr2R+2/v79r+z796y0k3HZxtv6z29Z2ddZX15MMIpDBleDFGyh72/Zc2YHl/VDb16erl0J"
+    "WptNNvfOlNV7ee4MiK4isJkz0+x67udlVrvhmo2mM9XEzGKftbvti/nxxS02vcGmm06jEDMSjXAa4XRGdIzoCKdBzqEg69hiE6xDE6wzin0hHB"
+    "pAboggDrkhgnWEg24sgbcE3iJmbBpqOmI20BAQS0AsumUYhwL7YQh6oh7FouooQtVE7XW4Vv2EZFnX2I7zGdvL3GFbtz85EoGi4DhzYV6giBcW"
+    "PbSDYxyvO+x7WGm0+95x63hsoNjeMHVCOAwHAg3tRK0ABRKBQotAoUWg0DJQpmZGccyRxYiZotgjYmgHcum5RaDYOh7CQMNgBEqEw7UozyOvV4"
+    "NtZdoOCdsNGoqjRRZ8X33F2qUzIy3q+MMRESZmeQUsr4CluFMfLGFbenI1XD/HtulxgREHZkODLeEAIsXxViOLcaA24wizRBwcYMsBthxgS2Gl"
+    "fksuEUdwJTjCCn648nqCCGEHHZ0Aq34j5dtKMKf9Q8GpEfv87fnJ9PWpDZbWDNJIXK36C3nwwFDO+Uowc1T7n8ZN7GvNWekg4DWHdGpzGSYTDH"
+    "OQErOC4Hgjmpccsr/ikM7VDeRgt+Uvse1hD77Cbkk8zPWEF4Cs9GCcQLFodCHkRaRQH3llqJcfFutwXPRWwmTCdQ6buX1px1M/d91TWVUGzpjt"
+    "kbbeoaTvEQkrHCsc0REkRM9Kk9vYmdWYwNMRTIcRAmK3S9lRRxOKO+RvnAZH+z9RVnlWeap3jGR+iIOOkcwPCiOxCovT9rXx2abKzg5+p9bC0f"
+    "mcVWXXQUPn4in0WHG7yboB+rDdT0yNSk3GZE03nFnMZJBP4cxFJlHAY4M7m10gj93ny9h+GaEbN3ywQr3FFbXwDQVOC5PI8hwRnkLfwSG9hKps"
+    "zglbb2DOR58fXsaP9uur0x7IYcfPD/4o9G7rC6EPhd8ybRO+jXx1sN2xyXB0I9GLEyoOhJyZbCK3iVw6vYVU3cilUgEBB09I9CbCsMwjp0LKkC"
+    "Zym8glp0KqbuQ2XLH4guseX3Dl4wutfYicFcruzNwmKkgx5Asth3yhBZEvtCTysVohp1acWvbERCNEJ6ImRqN45bWiMsZvuZDxVPQg0QjRiQjq"
+    "mJ/5FsI6TESEQ1wIZcJJjq0X4txOi4LR1vudDPs8wREQce0Fa9zA/fb0ZdzAEGTj7YaPE2ry6ocTWLKrYUrKFlKA5A+uuAuYLuX4nzo+7GV46e"
+    "ADO+Hyam4tmBJ7KTY8H/NMa53h4wnP31SobZhyahvrm4hDAGKhJdRpLONHIX35BrAUE2qhKf2ZgydliecCidWgpNBDwtavrwlbfEC1oVYDLRZp"
+    "sozrZ+PiJ+ingPNatu6jHc0JVfSzuS+NUXiVT+hGUZblF1KBgCnB20DD1I98DwWVkyiRHmeGej8WLOEkESucBMG1Dl4wk8mH+ijk6M28g+C9bd"
+    "5FEr2+PRo9PxwtEswsppx648qZJhnSSajl9CWdFMlbLgZCZgm1GLTOLE10lOKlgKiQWgktcDiflJ6z5+henK4TCszej2kQpDF9NGR+OER2WcgZ"
+    "xVHmuqE3cIqygm4j2JUMeVaFdPXWyRpX754kDolLUZYPRwtkvtr5Il7ufBGvd56uFBEgLJ2aP++ZyfdNX8iKKS1GeMWUFn49TDqdJAYaeBJFj/"
+    "VS5344lqPnh0NmrkTwU+dExLUirq4VdtdbfrWnqNA5mKyBfOCpgJzek3Tp5/9giEj4duv5Ih6h1AlbJyXLRpJk2eo9M/n2Tee4BICJblKkTSTl"
+    "EcRv9fWDEGvI13OMISdJRGEejZ4fjpazky/u+nFxEcmXcc5ZK/nKFF/JPV6GFQaU8layVSi6owN1jcwr35g5XWySLly28hWcQ28l7EzxRdxv5S"
+    "ru8VFAcdi9MNXPlS/rSAK3jQUC7p5WYn2Xr3VGvKF6vvHecOOOYatbc1hEjVRG3RfOaY0lptN0eCSJjvPNhgsBZ7rSGzhV5EaBLoWrbwPJ1O/J"
+    "5vuyZC6J6+IXyjK3hcIlJpiw+ktc9qXagoVqieu31ay7sjdU7vJpc0+wcJwKFq4SwQp9knf5xtzMza+noXmY6izhaWm04uMGj4dk+7qsWPJ8t5"
+    "rJWhdri6cwjaAuJTZsC66sJpyeVpUL5qwxBV+VQWY8uxeDb5mzTiAOVgzneJboCJ1E6kw2sESLA5ho2Vtb9saW+N7mcuda6N9YldcIuJtv6JqE"
+    "LzBKHfGsXHTn2IWpF6kY+4kc4G1TOfYTOdjG63sEcUyNkTQdvuaEV7PIwbeUaGxfLYbih5mOxM8aVzEOKVJwGLMUz5IBNpcMsBkZ9PKzZiyM8N"
+    "tPXLgEyDlRYbvyLVRh89OnU97DF8+pwpvXvNWzq/DSh9PE3g3vRu9Q3OoFe/xmBFDfsrqcyhf8J+dZnpVsi89asNtcRMIvU3C/kaep8AxFZFDX"
+    "NyeweRQ7bd9O0Wp4nVZLLKJOkDz9Dw";
