@@ -143,15 +143,24 @@ const reference = (value) => value === null ? 'null' : typeof value === 'functio
 const number = (value) => value === null ? 0 : typeof value === 'function' ? Number(value.name) + 1 : typeof value === 'object' ? 0xffffffff : value;
 const shown = (value) => typeof value === 'number' || typeof value === 'bigint' ? String(value) : reference(value);
 
+const print = (text) => fs.writeSync(1, `${text}\n`);
 let instance = null, of = null;
-// What a call printed comes before its reply.
-const host = {
-  print_i32: (value) => console.log(String(value)),
-  print_i64: (value) => console.log(String(value)),
-  print_bytes: (at, len) => process.stdout.write(Buffer.from(instance.exports['~m0'].buffer, at >>> 0, len >>> 0)),
+// The host of an instance, as src/host.rs has it. What a call prints comes before its reply.
+const host = () => ({
+  print: () => print(''),
+  print_i32: (value) => print(String(value)),
+  print_i64: (value) => print(String(value)),
+  print_bytes: (at, len) => {
+    const { buffer } = instance.exports['~m0'];
+    if ((at >>> 0) + (len >>> 0) > buffer.byteLength) throw new WebAssembly.RuntimeError('memory access out of bounds');
+    fs.writeSync(1, Buffer.from(buffer, at >>> 0, len >>> 0));
+  },
   memory: new WebAssembly.Memory({ initial: 1, maximum: 2 }),
   table: new WebAssembly.Table({ element: 'anyfunc', initial: 10, maximum: 20 }),
-};
+  global_i32: 666,
+  global_i64: 666n,
+  counter: new WebAssembly.Global({ value: 'i64', mutable: true }, 0n),
+});
 
 // Operands by the type that a function takes: V8 takes an i64 as a BigInt only.
 function called(f, words) {
@@ -215,7 +224,7 @@ function load(file) {
   if (!WebAssembly.validate(bytes)) return 'refused: by V8';
   const copy = exposed(bytes);
   of = copy.shape;
-  try { instance = new WebAssembly.Instance(new WebAssembly.Module(copy.bytes), { host }); }
+  try { instance = new WebAssembly.Instance(new WebAssembly.Module(copy.bytes), { host: host() }); }
   catch (error) { return error instanceof WebAssembly.LinkError ? 'unlinkable: by V8' : trap(error); }
   of.params = operands(bytes, instance.exports);
   return 'ok:';
@@ -236,4 +245,4 @@ function reply(line) {
 
 const lines = fs.readFileSync(0, 'utf8').split('\n');
 if (lines.at(-1) === '') lines.pop();
-for (const line of lines) console.log(reply(line));
+for (const line of lines) print(reply(line));

@@ -1,0 +1,23 @@
+;; A memory with addresses of 64 bits: accesses, sizes, bulk memory, and what lies past the end by any sum of address and offset.
+(module
+  (memory (export "memory") i64 1 5)
+  (data (i64.const 16) "0123456789abcdef")
+  (data $passive "passive bytes")
+  (func (export "run") (param $n i32) (result i64) (local $i i64) (local $sum i64)
+    (memory.init $passive (i64.const 100) (i32.const 2) (i32.const 11))
+    (memory.copy (i64.const 200) (i64.const 10) (i64.const 150))
+    (memory.fill (i64.const 190) (i32.const 0x5a) (i64.const 20))
+    (local.set $sum (i64.add (memory.grow (i64.const 2)) (memory.size)))
+    (loop $l
+      (local.set $sum (i64.add (i64.rotl (local.get $sum) (i64.const 5)) (i64.load offset=8 align=1 (i64.and (local.get $i) (i64.const 255)))))
+      (i64.store16 offset=131000 (i64.shl (i64.and (local.get $i) (i64.const 1023)) (i64.const 1)) (local.get $sum))
+      (i32.store8 offset=300 (i64.and (local.get $i) (i64.const 127)) (i32.load16_s offset=131001 (i64.and (local.get $i) (i64.const 511))))
+      (v128.store offset=500 (i64.shl (i64.and (local.get $i) (i64.const 63)) (i64.const 4)) (v128.load8x8_s offset=130990 (i64.and (local.get $i) (i64.const 99))))
+      (br_if $l (i64.lt_u (local.tee $i (i64.add (local.get $i) (i64.const 1))) (i64.extend_i32_u (local.get $n)))))
+    (local.get $sum))
+  (func (export "load") (param $address i64) (result i64) (i64.load (local.get $address)))
+  (func (export "load_at_4_gigabytes") (param $address i64) (result i32) (i32.load8_u offset=0xffffffff (local.get $address)))
+  (func (export "store") (param $address i64) (i32.store offset=65532 (local.get $address) (i32.const -1)))
+  (func (export "grow") (param $pages i64) (result i64) (memory.grow (local.get $pages)))
+  (func (export "fill") (param $to i64) (param $len i64) (result i64) (memory.fill (local.get $to) (i32.const 3) (local.get $len)) (memory.size))
+  (func (export "copy") (param $to i64) (param $from i64) (param $len i64) (memory.copy (local.get $to) (local.get $from) (local.get $len))))
