@@ -239,7 +239,10 @@ function reply(line) {
   if (command === 'digest') return digest();
   const f = instance.exports[words[0]];
   if (typeof f !== 'function') return `error: there is no function ${words[0]}`;
-  try { return `ok: ${[called(f, words.slice(1)) ?? []].flat().map(shown).join(' ')}`.trimEnd(); }
+  try {
+    const results = called(f, words.slice(1));
+    return ['ok:', ...(results === undefined ? [] : [results].flat()).map(shown)].join(' ');
+  }
   catch (error) { return trap(error); }
 }
 
