@@ -128,9 +128,9 @@ const TRAPS = [
   [/^unreachable$/, 'wasm `unreachable` instruction executed'],
   [/memory access|data segment/, 'out of bounds memory access'],
   [/signature mismatch/, 'indirect call type mismatch'],
-  [/table|element segment/, 'undefined element: out of bounds table access'],
   [/divide by zero|remainder by zero/, 'integer divide by zero'],
-  [/unrepresentable|divide result/, 'integer overflow'],
+  [/unrepresentable/, 'integer overflow'],
+  [/table|element segment/, 'undefined element: out of bounds table access'],
   [/call stack size/, 'call stack exhausted'],
 ];
 function trap(error) {
