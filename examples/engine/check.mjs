@@ -197,9 +197,10 @@ function operands(bytes, exports) {
 function digest() {
   const words = [], { exports } = instance;
   for (let i = 0; i < of.memories; i++) {
-    const sum = new Sum(), bytes = new Uint8Array(exports[`~m${i}`].buffer);
-    sum.bytes(bytes);
-    words.push('memory', bytes.length / 65536, sum.text());
+    const sum = new Sum(), bytes = new Uint8Array(exports[`~m${i}`].buffer), pages = bytes.length / 65536;
+    // A memory of gigabytes, which a damaged module may have, isn't read.
+    if (pages <= 1024) sum.bytes(bytes);
+    words.push('memory', pages, sum.text());
   }
   for (let i = 0; i < of.tables; i++) {
     const sum = new Sum(), table = exports[`~t${i}`];
