@@ -79,7 +79,8 @@ impl Body<'_> {
     }
 
     fn global(&mut self, ty: Type, is_written: bool) -> Option<usize> {
-        let is_fit = |it: &usize| *it != BUDGET && self.shape.globals[*it].0 == ty && (self.shape.globals[*it].1 || !is_written);
+        let is_fit =
+            |it: &usize| *it != BUDGET && self.shape.globals[*it].0 == ty && (self.shape.globals[*it].1 || !is_written);
         let fitting: Vec<_> = (0..self.shape.globals.len()).filter(is_fit).collect();
         (!fitting.is_empty()).then(|| *self.random.of(&fitting))
     }
@@ -182,8 +183,9 @@ impl Body<'_> {
     }
 
     fn call_for(&mut self, ty: Type, depth: usize) {
-        let fitting: Vec<_> =
-            (1..self.shape.functions.len()).filter(|it| self.shape.signature(*it).results.first() == Some(&ty)).collect();
+        let fitting: Vec<_> = (1..self.shape.functions.len())
+            .filter(|it| self.shape.signature(*it).results.first() == Some(&ty))
+            .collect();
         if fitting.is_empty() {
             return self.instruction_for(Some(ty), depth);
         }
@@ -231,7 +233,8 @@ impl Body<'_> {
 
     /// How much something grows. Without a maximum it is little, since what memory there is isn't for WebAssembly to say.
     fn growth(&mut self, ty: Type, has_most: bool) {
-        let count = if has_most && self.random.once_in(8) { self.random.number() as i64 } else { self.random.below(3) as i64 };
+        let count =
+            if has_most && self.random.once_in(8) { self.random.number() as i64 } else { self.random.below(3) as i64 };
         self.number(ty, if ty == I32 { i64::from(count as i32) } else { count });
     }
 
@@ -279,8 +282,12 @@ impl Body<'_> {
     fn instruction_for(&mut self, result: Option<Type>, depth: usize) {
         let has_memory = self.shape.memory.is_some();
         let touches = |it: &Instruction| matches!(it.immediate, Immediate::Access(_) | Immediate::LaneOfAccess(..));
-        let fitting: Vec<_> =
-            self.instructions.iter().filter(|it| it.result == result && (has_memory || !touches(it))).cloned().collect();
+        let fitting: Vec<_> = self
+            .instructions
+            .iter()
+            .filter(|it| it.result == result && (has_memory || !touches(it)))
+            .cloned()
+            .collect();
         match (fitting.is_empty(), result) {
             (true, Some(ty)) => return self.leaf(ty),
             (true, None) => return,
@@ -518,7 +525,8 @@ impl Body<'_> {
                 unsigned(&mut self.code, from as u64);
             }
             4 => {
-                let fitting: Vec<_> = (0..self.shape.elements.len()).filter(|it| self.shape.elements[*it].ty == ty).collect();
+                let fitting: Vec<_> =
+                    (0..self.shape.elements.len()).filter(|it| self.shape.elements[*it].ty == ty).collect();
                 if fitting.is_empty() {
                     return self.dropped(I32, depth);
                 }

@@ -35,7 +35,7 @@ pub fn signed(code: &mut Vec<u8>, mut value: i64) {
     loop {
         let byte = value as u8 & 0x7f;
         value >>= 7;
-        if value == i64::from(byte & 0x40 != 0) * -1 {
+        if value == -i64::from(byte & 0x40 != 0) {
             return code.push(byte);
         }
         code.push(byte | 0x80);

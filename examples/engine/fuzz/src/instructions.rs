@@ -25,7 +25,12 @@ pub struct Instruction {
 /// All that have neither floats nor results that an implementation may choose.
 pub fn instructions() -> Vec<Instruction> {
     let text = include_str!("../../../../conformance/instructions.txt");
-    let shuffle = Instruction { code: vec![0xfd, 13], operands: vec![V128, V128], result: Some(V128), immediate: Immediate::Shuffle };
+    let shuffle = Instruction {
+        code: vec![0xfd, 13],
+        operands: vec![V128, V128],
+        result: Some(V128),
+        immediate: Immediate::Shuffle,
+    };
     let rows = text.lines().filter(|line| !line.starts_with('#')).flat_map(|line| {
         let mut words = line.split(' ');
         let (class, first) = (words.next().unwrap_or(""), words.next().unwrap_or(""));
@@ -90,7 +95,7 @@ fn access(shape: &str, does: &str, scalar: Type) -> (Vec<Type>, Option<Type>, Im
 fn plain(shape: &str, does: &str, lane: Type) -> Option<(Vec<Type>, Option<Type>, Immediate)> {
     let is_vector = shape.contains('x') || shape == "v128";
     let ty = if is_vector { V128 } else { lane };
-    let is = |words: &[&str]| words.iter().any(|it| does == *it);
+    let is = |words: &[&str]| words.contains(&does);
     let starts = |words: &[&str]| words.iter().any(|it| does.starts_with(it));
     let (operands, result) = match does {
         "wrap_i64" => (vec![I64], I32),

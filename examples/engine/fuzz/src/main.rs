@@ -64,7 +64,10 @@ fn options() -> Options {
 
 fn guests(folder: &str) -> Vec<Vec<u8>> {
     let entries = std::fs::read_dir(folder).unwrap_or_else(|error| stop(&format!("{folder}: {error}")));
-    let mut files: Vec<_> = entries.filter_map(|it| Some(it.ok()?.path())).filter(|it| it.extension().is_some_and(|it| it == "wasm")).collect();
+    let mut files: Vec<_> = entries
+        .filter_map(|it| Some(it.ok()?.path()))
+        .filter(|it| it.extension().is_some_and(|it| it == "wasm"))
+        .collect();
     files.sort();
     let read = |it: &PathBuf| std::fs::read(it).unwrap_or_else(|error| stop(&format!("{}: {error}", it.display())));
     // What a guest prints would stand between the replies.
@@ -162,16 +165,21 @@ fn report(options: &Options, counts: &mut Counts, case: &Case, engine: &str, tex
     counts.differ += 1;
     println!("{}: {engine}: {text}", case.seed);
     if let Some(folder) = &options.found {
-        let written = std::fs::create_dir_all(folder).and_then(|()| std::fs::copy(&case.file, folder.join(format!("{}.wasm", case.seed))));
+        let written = std::fs::create_dir_all(folder)
+            .and_then(|()| std::fs::copy(&case.file, folder.join(format!("{}.wasm", case.seed))));
         let script = case.lines.iter().map(|it| format!("{it}\n")).collect::<String>();
-        written.and_then(|_| std::fs::write(folder.join(format!("{}.lines", case.seed)), script)).unwrap_or_else(|error| stop(&error.to_string()));
+        written
+            .and_then(|_| std::fs::write(folder.join(format!("{}.lines", case.seed)), script))
+            .unwrap_or_else(|error| stop(&error.to_string()));
     }
 }
 
 /// Whether V8 may run a module: it has no fuel, and no limiter.
 fn ends(replies: &Replies) -> bool {
     let is_limited = |it: &String| it.contains("all fuel consumed") || it.contains("growth operation limited");
-    !replies.has_ended && replies.lines.first().is_some_and(|it| it.starts_with("ok")) && !replies.lines.iter().any(is_limited)
+    !replies.has_ended
+        && replies.lines.first().is_some_and(|it| it.starts_with("ok"))
+        && !replies.lines.iter().any(is_limited)
 }
 
 fn compare(options: &Options, counts: &mut Counts, cases: Vec<Case>, script: &str) {
@@ -198,7 +206,8 @@ fn compare(options: &Options, counts: &mut Counts, cases: Vec<Case>, script: &st
         let other = engines::run(v8, fuel, &cases, script);
         for ((case, one), other) in cases.iter().zip(&first).zip(&other) {
             // V8 may accept what this engine doesn't have, and refuse what it lacks itself.
-            let is_foreign = options.guests.is_some() && other.lines.first().is_some_and(|it| it.starts_with("refused"));
+            let is_foreign =
+                options.guests.is_some() && other.lines.first().is_some_and(|it| it.starts_with("refused"));
             if let Some(text) = difference(case, one, other, true).filter(|_| !is_foreign && !is_great(other)) {
                 report(options, counts, case, v8, &text);
             }
@@ -225,7 +234,8 @@ fn main() {
     drop(std::fs::remove_dir_all(&folder));
     let found = format!("results {:016x}, fuel {:016x}", counts.results, counts.fuel);
     println!("{found}");
-    let is_expected = options.expected.as_ref().is_none_or(|file| std::fs::read_to_string(file).is_ok_and(|it| it.trim() == found));
+    let is_expected =
+        options.expected.as_ref().is_none_or(|file| std::fs::read_to_string(file).is_ok_and(|it| it.trim() == found));
     if !is_expected {
         println!("{} has other checksums", options.expected.as_deref().unwrap_or(""));
     }

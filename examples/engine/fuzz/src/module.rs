@@ -84,7 +84,8 @@ fn shape(random: &mut Random) -> Shape {
     let nothing = Signature { params: vec![], results: vec![] };
     let mut signatures = vec![nothing, Signature { params: vec![I32], results: vec![I64] }];
     signatures.extend((0..1 + random.below(5)).map(|_| signature(random)));
-    let functions: Vec<_> = [0].into_iter().chain((0..2 + random.below(5)).map(|_| random.below(signatures.len()))).collect();
+    let functions: Vec<_> =
+        [0].into_iter().chain((0..2 + random.below(5)).map(|_| random.below(signatures.len()))).collect();
     let count = functions.len();
     let mut budget = vec![0x41];
     signed(&mut budget, BUDGETED);
@@ -97,11 +98,23 @@ fn shape(random: &mut Random) -> Shape {
     let memory = (!random.once_in(8)).then(|| limits(random, 3));
     let mut tables = vec![(Func, limits(random, 12))];
     tables.extend((0..random.below(3)).map(|_| (if random.once_in(3) { Extern } else { Func }, limits(random, 12))));
-    let segment = |random: &mut Random| Segment { ty: if random.once_in(4) { Extern } else { Func }, len: random.below(8) as u64 };
+    let segment = |random: &mut Random| Segment {
+        ty: if random.once_in(4) { Extern } else { Func },
+        len: random.below(8) as u64,
+    };
     let elements = (0..random.below(4)).map(|_| segment(random)).collect();
     let data = (0..random.below(4)).map(|_| random.below(40) as u64).collect();
     let is_wide = random.once_in(8);
-    Shape { signatures, functions, data: if memory.is_some() { data } else { vec![] }, memory, is_wide, tables, globals, elements }
+    Shape {
+        signatures,
+        functions,
+        data: if memory.is_some() { data } else { vec![] },
+        memory,
+        is_wide,
+        tables,
+        globals,
+        elements,
+    }
 }
 
 impl Shape {
@@ -117,7 +130,8 @@ impl Shape {
     /// Whether a caller from outside can hand over the operands and take the results.
     fn is_called(&self, function: usize) -> bool {
         let signature = self.signature(function);
-        !signature.params.iter().any(|it| it.is_reference()) && !signature.params.iter().chain(&signature.results).any(|it| *it == V128)
+        !signature.params.iter().any(|it| it.is_reference())
+            && !signature.params.iter().chain(&signature.results).any(|it| *it == V128)
     }
 }
 
@@ -193,7 +207,8 @@ fn exports(shape: &Shape) -> Vec<Vec<u8>> {
         unsigned(&mut code, index as u64);
         code
     };
-    let functions = (0..shape.functions.len()).filter(|it| shape.is_called(*it)).map(|it| export(format!("f{it}"), 0, it));
+    let functions =
+        (0..shape.functions.len()).filter(|it| shape.is_called(*it)).map(|it| export(format!("f{it}"), 0, it));
     functions.collect()
 }
 
@@ -204,11 +219,17 @@ fn module(shape: &Shape, random: &mut Random, instructions: &[Instruction]) -> V
         types(&mut code, &it.results);
         code
     };
-    let global = |(ty, is_mutable, first): &(Type, bool, Vec<u8>)| [&[*ty as u8, u8::from(*is_mutable)], &first[..], &[0x0b]].concat();
+    let global = |(ty, is_mutable, first): &(Type, bool, Vec<u8>)| {
+        [&[*ty as u8, u8::from(*is_mutable)], &first[..], &[0x0b]].concat()
+    };
     let mut bytes = b"\0asm\x01\0\0\0".to_vec();
     section(&mut bytes, 1, &shape.signatures.iter().map(signature).collect::<Vec<_>>());
     section(&mut bytes, 3, &shape.functions.iter().map(|it| vec![*it as u8]).collect::<Vec<_>>());
-    section(&mut bytes, 4, &shape.tables.iter().map(|it| [vec![it.0 as u8], encoded(&it.1, false)].concat()).collect::<Vec<_>>());
+    section(
+        &mut bytes,
+        4,
+        &shape.tables.iter().map(|it| [vec![it.0 as u8], encoded(&it.1, false)].concat()).collect::<Vec<_>>(),
+    );
     section(&mut bytes, 5, &shape.memory.iter().map(|it| encoded(it, shape.is_wide)).collect::<Vec<_>>());
     section(&mut bytes, 6, &shape.globals.iter().map(global).collect::<Vec<_>>());
     section(&mut bytes, 7, &exports(shape));

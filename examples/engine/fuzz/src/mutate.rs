@@ -39,8 +39,17 @@ pub fn mutant(bytes: &[u8], other: &[u8], random: &mut Random) -> Vec<u8> {
 }
 
 /// The codes of instructions with the same operands and results.
-const ALIKE: [std::ops::RangeInclusive<u8>; 9] =
-    [0x46..=0x4f, 0x51..=0x5a, 0x67..=0x69, 0x6a..=0x78, 0x79..=0x7b, 0x7c..=0x8a, 0x2c..=0x2f, 0x30..=0x35, 0x3c..=0x3e];
+const ALIKE: [std::ops::RangeInclusive<u8>; 9] = [
+    0x46..=0x4f,
+    0x51..=0x5a,
+    0x67..=0x69,
+    0x6a..=0x78,
+    0x79..=0x7b,
+    0x7c..=0x8a,
+    0x2c..=0x2f,
+    0x30..=0x35,
+    0x3c..=0x3e,
+];
 
 /// Exchanges an instruction for one that is alike, if the byte that is tried is a code. Such modules are mostly accepted.
 fn exchange(bytes: &mut [u8], random: &mut Random) -> bool {
