@@ -125,11 +125,11 @@ fn difference(case: &Case, one: &Replies, other: &Replies, is_with_v8: bool) -> 
 
 const EXHAUSTED: &str = "trap: call stack exhausted";
 
-/// Whether a memory has grown to more than 64 MiB: there V8 has more memory than the engine is given.
+/// Whether a memory has grown to more than 4 MiB: there V8 has more memory than the engine is given.
 fn is_great(replies: &Replies) -> bool {
     let digest = replies.lines.last().map_or("", |it| it);
     let pages = digest.split("memory ").skip(1).filter_map(|it| it.split(' ').next()?.parse::<u64>().ok());
-    pages.max().is_some_and(|pages| pages > 1024)
+    pages.max().is_some_and(|pages| pages > 64)
 }
 
 #[derive(Default)]
