@@ -1,4 +1,4 @@
-// Runs scripts in V8 and replies as `engine --script` does. usage: node [FLAG..] check.mjs < SCRIPT
+// Runs scripts in V8 and replies as `engine --script` does, and to `validate FILE` whether a module is valid. usage: node [FLAG..] check.mjs < SCRIPT
 // V8 has no fuel, and it doesn't tell a module that is malformed from one that is invalid: that is `refused`. Memories, tables and globals
 // that a module doesn't export are exported in the copy that is run, so that the digest can see them.
 import fs from 'node:fs';
@@ -219,6 +219,12 @@ function digest() {
   return `ok: ${words.join(' ')}`;
 }
 
+// Whether a module is valid, without an instance of it.
+function validated(file) {
+  try { new WebAssembly.Module(fs.readFileSync(file)); } catch (error) { return `refused: ${error.message}`; }
+  return 'ok:';
+}
+
 function load(file) {
   instance = null;
   const bytes = fs.readFileSync(file);
@@ -234,6 +240,7 @@ function load(file) {
 function reply(line) {
   const [command, ...words] = line.split(' ');
   if (command === 'module') return load(words.join(' '));
+  if (command === 'validate') return validated(words.join(' '));
   if (command === 'fuel') return 'ok:';
   if (command === 'left') return 'none: V8 has no fuel';
   if (!instance) return 'error: there is no instance';

@@ -137,7 +137,7 @@ impl Instance {
         if !args.iter().map(TypedRawVal::ty).eq(ty.params().iter().copied()) {
             return Err(Failure::Misused("the arguments aren't those of the function's type"));
         }
-        let raw: Vec<RawVal> = args.iter().map(TypedRawVal::raw).collect();
+        let raw: Vec<RawVal> = args.iter().copied().map(canonical).collect();
         self.run(store, *function, &raw)?;
         Ok(ty.results().iter().zip(&store.values).map(|(ty, value)| TypedRawVal::new(*ty, *value)).collect())
     }
@@ -187,13 +187,18 @@ impl Instance {
             let elements = (0..table.size()).map(|i| table.get(i).map_or(0, |it| u32::from(it.raw())));
             words.push(format!("table {} {:016x}", table.size(), fnv(elements.flat_map(u32::to_le_bytes))));
         }
-        let globals = self.globals.iter().map(|it| (it.ty().content(), *it.get_raw())).map(|(ty, raw)| match ty {
-            ValType::V128 => V128::from(raw).as_u128(),
-            ValType::I64 | ValType::F64 => u64::from(raw).into(),
-            _ => u32::from(raw).into(),
-        });
+        let globals = self.globals.iter().map(|it| V128::from(canonical(it.get())).as_u128());
         words.push(format!("globals {} {:016x}", self.globals.len(), fnv(globals.flat_map(u128::to_le_bytes))));
         words.join(" ")
+    }
+}
+
+/// A raw value that is zero above the width of its type, as code takes addresses, indices and lengths to be.
+fn canonical(value: TypedRawVal) -> RawVal {
+    match value.ty() {
+        ValType::V128 => value.raw(),
+        ValType::I64 | ValType::F64 => u64::from(value.raw()).into(),
+        _ => u32::from(value.raw()).into(),
     }
 }
 

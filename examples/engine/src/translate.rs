@@ -273,8 +273,12 @@ impl<'m> Translator<'m, '_> {
     }
 
     fn pop(&mut self, wanted: ValType) -> Read<u16> {
+        self.pop_typed(wanted).map(|(_, slot)| slot)
+    }
+
+    fn pop_typed(&mut self, wanted: ValType) -> Read<(Option<ValType>, u16)> {
         let (ty, slot) = self.pop_any()?;
-        ensure(ty.is_none_or(|ty| ty == wanted), self.invalid("an operand has another type")).map(|()| slot)
+        ensure(ty.is_none_or(|ty| ty == wanted), self.invalid("an operand has another type")).map(|()| (ty, slot))
     }
 
     fn pop_all(&mut self, types: &[ValType]) -> Read<()> {
@@ -292,6 +296,15 @@ impl<'m> Translator<'m, '_> {
         let mut last = self.stack[self.stack.len() - types.len()..].iter().zip(types);
         let are_right = last.all(|(operand, ty)| operand.ty.is_none_or(|it| it == *ty));
         ensure(are_right, self.invalid("an operand has another type"))
+    }
+
+    /// The same for one label of several, of which an operand of an unknown type may meet all.
+    fn check_label(&mut self, types: &[ValType]) -> Read<()> {
+        if !self.block().is_open {
+            return self.check(types);
+        }
+        let kept = types.iter().rev().map(|ty| self.pop_typed(*ty)).collect::<Read<Vec<_>>>()?;
+        kept.into_iter().rev().try_for_each(|(ty, _)| self.push_at(ty, Place::Own).map(drop))
     }
 
     /// An instruction with a result.
@@ -560,7 +573,7 @@ impl<'m> Translator<'m, '_> {
         for depth in &depths {
             let (_, types) = self.target(*depth)?;
             ensure(types.len() == count, self.invalid("labels of one table take different operands"))?;
-            self.check(types)?;
+            self.check_label(types)?;
         }
         if !self.block().is_dead {
             self.settle_last(count);
@@ -733,13 +746,9 @@ impl<'m> Translator<'m, '_> {
         Ok((number, ty.index_ty().ty(), ty.element().into()))
     }
 
-    /// A memory, with the type of its addresses.
-    fn memory(&mut self) -> Read<(u32, ValType)> {
-        let number = self.reader.u32()?;
-        self.memory_of(number)
-    }
-
-    fn memory_of(&self, number: u32) -> Read<(u32, ValType)> {
+    /// A memory, the first one if none is named, with the type of its addresses.
+    fn memory(&mut self, is_named: bool) -> Read<(u32, ValType)> {
+        let number = if is_named { self.reader.u32()? } else { 0 };
         let ty = self.module.memories.get(number as usize).ok_or(self.invalid("a memory is unknown"))?;
         Ok((number, ty.index_ty().ty()))
     }
@@ -763,13 +772,13 @@ impl<'m> Translator<'m, '_> {
     }
 
     fn of_memories(&mut self, opcode: u32) -> Read<()> {
-        let (imm, address) = self.memory()?;
+        let (imm, address) = self.memory(true)?;
         match opcode {
             0x3f => self.plain(Op::of(Code::memory_size, imm), &[], Some(address)),
             0x40 => self.plain(Op::of(Code::memory_grow, imm), &[address], Some(address)),
             0xfc00b => self.plain(Op::of(Code::memory_fill, imm), &[address, I32, address], None),
             _ => {
-                let (from, address_of_source) = self.memory()?;
+                let (from, address_of_source) = self.memory(true)?;
                 let count = if address == I64 { address_of_source } else { I32 };
                 let op = Op { lane: from as u16, ..Op::of(Code::memory_copy, imm) };
                 self.plain(op, &[address, address_of_source, count], None)
@@ -789,7 +798,7 @@ impl<'m> Translator<'m, '_> {
         }
         let (code, number, index) = match opcode {
             0xfc008 => {
-                let (memory, address) = self.memory()?;
+                let (memory, address) = self.memory(true)?;
                 (Code::memory_init, memory, address)
             }
             0xfc00c => {
@@ -854,7 +863,7 @@ impl<'m> Translator<'m, '_> {
     fn access(&mut self, op: Op, bytes: u8, lanes: Option<u8>, value: Option<ValType>) -> Read<(Op, u32)> {
         let begin = self.reader;
         let flags = self.reader.u32()?;
-        let (memory, address) = if flags & 0x40 != 0 { self.memory()? } else { self.memory_of(0)? };
+        let (memory, address) = self.memory(flags & 0x40 != 0)?;
         let align = flags & !0x40;
         ensure(align < 0x40, begin.malformed("the alignment of an access is beyond 64 bits"))?;
         let offset = if address == I64 { self.reader.u64()? } else { self.reader.u32()?.into() };

@@ -36,6 +36,16 @@ fn floats_are_refused_with_their_place() {
 }
 
 #[test]
+fn code_that_is_not_reached() {
+    // A table whose two labels take an i64 and an i32, and a br_if whose operand is an i32 afterwards.
+    let table = [0x02, I32, 0x02, I64, 0x00, 0x0e, 1, 0, 1, 0x0b, 0x1a, 0x41, 0, 0x0b, 0x1a];
+    assert!(Wasm::default().function(&[], &[], &[], &table).module().is_ok());
+    let test = |after: u8| [0x02, I32, 0x00, 0x0d, 0, after, 0x1a, 0x41, 0, 0x0b, 0x1a];
+    assert!(Wasm::default().function(&[], &[], &[], &test(0x45)).module().is_ok());
+    assert!(Wasm::default().function(&[], &[], &[], &test(0x50)).module().is_err());
+}
+
+#[test]
 fn limits_of_a_function() {
     let many = |count: usize, code: &[u8]| code.repeat(count);
     let blocks = |count: usize| [many(count, &[0x02, 0x40]), many(count, &[0x0b])].concat();

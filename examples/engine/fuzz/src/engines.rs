@@ -17,14 +17,27 @@ pub struct Replies {
 
 /// Runs the cases in one process, and after one in which the engine ended the others in another process.
 pub fn run(command: &str, fuel: u64, cases: &[Case], script: &str) -> Vec<Replies> {
+    replies(command, cases, script, |case| {
+        [format!("fuel {fuel}"), format!("module {}", case.file)]
+            .into_iter()
+            .chain(case.lines.iter().cloned())
+            .collect()
+    })
+}
+
+/// Whether V8 finds the modules valid, without running them: `ok:`, or why not.
+pub fn validate(command: &str, cases: &[Case], script: &str) -> Vec<String> {
+    let all = replies(command, cases, script, |case| vec!["left".into(), format!("validate {}", case.file)]);
+    all.into_iter().map(|mut it| it.lines.pop().unwrap_or_default()).collect()
+}
+
+/// The replies to the lines of each case but the first.
+fn replies(command: &str, cases: &[Case], script: &str, lines_of: impl Fn(&Case) -> Vec<String>) -> Vec<Replies> {
     let mut all: Vec<Replies> = vec![];
     while all.len() < cases.len() {
         let left = &cases[all.len()..];
-        let lines = left.iter().flat_map(|it| {
-            let head = [format!("fuel {fuel}"), format!("module {}", it.file)];
-            head.into_iter().chain(it.lines.iter().cloned())
-        });
-        std::fs::write(script, lines.map(|it| it + "\n").collect::<String>()).expect("a file for the script");
+        std::fs::write(script, left.iter().flat_map(&lines_of).map(|it| it + "\n").collect::<String>())
+            .expect("a file for the script");
         let mut words = command.split(' ');
         let mut program = Command::new(words.next().unwrap_or(""));
         program.args(words).stdin(Stdio::from(File::open(script).expect("the script")));
@@ -32,9 +45,10 @@ pub fn run(command: &str, fuel: u64, cases: &[Case], script: &str) -> Vec<Replie
         let text = String::from_utf8_lossy(&done.stdout);
         let mut replies = text.lines().map(String::from);
         for case in left {
-            // The reply to the fuel says nothing.
-            let mut lines: Vec<String> = replies.by_ref().take(case.lines.len() + 2).collect();
-            let has_ended = lines.len() < case.lines.len() + 2;
+            // The reply to the first line says nothing.
+            let count = lines_of(case).len();
+            let mut lines: Vec<String> = replies.by_ref().take(count).collect();
+            let has_ended = lines.len() < count;
             lines.drain(..1.min(lines.len()));
             if has_ended {
                 lines.push(format!("ended: {} {}", done.status, String::from_utf8_lossy(&done.stderr).trim()));

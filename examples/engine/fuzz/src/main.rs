@@ -17,7 +17,7 @@ const USAGE: &str = "usage: fuzz ENGINE.. [--v8 ENGINE] [--seed N] [--count N] [
 
 Each ENGINE is a command that reads a script as `engine --script` does; the first one is compared with the others. COUNT modules (1,000) are
 made from SEED (1) on. With --mutants they are damaged ones, of these modules and of the .wasm files in FOLDER. V8 has no fuel, and
-runs a damaged module only if the first engine ended for another reason. Modules on which something differs are written to the folder
+runs a damaged module only if the first engine ended for another reason; but it says of each whether it is valid. Modules on which something differs are written to the folder
 after --found. FILE has the checksums of results and of fuel that the first engine has to give. The status is 1 if something differs.";
 
 pub fn stop(text: &str) -> ! {
@@ -123,13 +123,25 @@ fn difference(case: &Case, one: &Replies, other: &Replies, is_with_v8: bool) -> 
     (!is_last(a, b)).then(|| format!("{name}: {a} | {b}"))
 }
 
+/// Whether both accept a module, or both refuse it, or one of them lacks what the other has: V8 several memories and wide arithmetic,
+/// the engine floats, exceptions and tail calls.
+fn is_accepted_alike(reply: &str, of_v8: &str) -> bool {
+    let is_accepted = ["ok:", "trap:", "unlinkable:"].iter().any(|it| reply.starts_with(it));
+    let has = |text: &str, words: &[&str]| words.iter().any(|it| text.contains(it));
+    match (is_accepted, of_v8.starts_with("ok:")) {
+        (true, false) => has(of_v8, &["memory count", "invalid numeric opcode: 0xfc1"]),
+        (false, true) => has(reply, &["unsupported:", "instruction is unknown", "section is unknown", "ended:"]),
+        _ => true,
+    }
+}
+
 const EXHAUSTED: &str = "trap: call stack exhausted";
 
-/// Whether a memory has grown to more than 64 MiB: there V8 has more memory than the engine is given.
+/// Whether a memory has grown to more than 4 MiB: there V8 has more memory than the engine is given.
 fn is_great(replies: &Replies) -> bool {
     let digest = replies.lines.last().map_or("", |it| it);
     let pages = digest.split("memory ").skip(1).filter_map(|it| it.split(' ').next()?.parse::<u64>().ok());
-    pages.max().is_some_and(|pages| pages > 1024)
+    pages.max().is_some_and(|pages| pages > 64)
 }
 
 #[derive(Default)]
@@ -200,15 +212,22 @@ fn compare(options: &Options, counts: &mut Counts, cases: Vec<Case>, script: &st
         }
     }
     if let Some(v8) = &options.v8 {
+        let found = if options.guests.is_some() { engines::validate(v8, &cases, script) } else { vec![] };
+        for ((case, one), found) in cases.iter().zip(&first).zip(&found) {
+            let reply = one.lines.first().map_or("", |it| it);
+            if !is_accepted_alike(reply, found) {
+                report(options, counts, case, v8, &format!("module: {reply} | {found}"));
+            }
+        }
         let is_run = |replies: &Replies| options.guests.is_none() || ends(replies);
         let (cases, first): (Vec<_>, Vec<_>) = cases.into_iter().zip(first).filter(|(_, it)| is_run(it)).unzip();
         counts.with_v8 += cases.len() as u64;
         let other = engines::run(v8, fuel, &cases, script);
         for ((case, one), other) in cases.iter().zip(&first).zip(&other) {
-            // V8 may accept what this engine doesn't have, and refuse what it lacks itself.
-            let is_foreign =
+            // A damaged module that V8 refuses was compared above.
+            let is_refused =
                 options.guests.is_some() && other.lines.first().is_some_and(|it| it.starts_with("refused"));
-            if let Some(text) = difference(case, one, other, true).filter(|_| !is_foreign && !is_great(other)) {
+            if let Some(text) = difference(case, one, other, true).filter(|_| !is_refused && !is_great(other)) {
                 report(options, counts, case, v8, &text);
             }
         }
