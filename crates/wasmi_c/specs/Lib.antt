@@ -1,0 +1,3 @@
+-- What the calls for C take and give.
+pub mod Status
+pub mod Types

@@ -1,0 +1,7 @@
+//! The calls for C, as a plain library: `wasmi_c_lib` exports each of them.
+//!
+//! What the calls take and give stands in the headers of `include/`.
+#![tactic(auto)]
+
+pub mod status;
+pub mod types;
