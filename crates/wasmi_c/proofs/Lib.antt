@@ -1,0 +1,2 @@
+mod InstructionLemmas
+mod ScriptLemmas

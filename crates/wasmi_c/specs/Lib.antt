@@ -1,3 +1,5 @@
 -- What the calls for C take and give.
+pub mod Instruction
+pub mod Script
 pub mod Status
 pub mod Types

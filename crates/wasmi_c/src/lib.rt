@@ -3,5 +3,7 @@
 //! What the calls take and give stands in the headers of `include/`.
 #![tactic(auto)]
 
+pub mod instruction;
+pub mod script;
 pub mod status;
 pub mod types;

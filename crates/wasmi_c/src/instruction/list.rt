@@ -1,0 +1,14 @@
+//! Lists of instructions.
+ghost use Rattle.std.specs.Prelude.{◌≡◌};
+ghost use Rattle.wasmi_c.specs.Instruction.Calls.{op_numbered};
+
+/// The instruction at a place of a list of names with their instructions, if it isn't past its end.
+#[tactic(auto, unfolding(crate::specs::Instruction::Calls::op_numbered))]
+pub fn op_numbered<Op: Copy>(list: &[(&str, Op)], number: u16) -> Option<Op>
+    ensures { result ≡ op_numbered list.now number }
+{
+    match list.get(usize::from(number)) {
+        Some((_, op)) => Some(*op),
+        None => None,
+    }
+}

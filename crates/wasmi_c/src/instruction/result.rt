@@ -1,0 +1,60 @@
+//! What an instruction gives, as C reads it.
+ghost use Rattle.std.specs.Prelude.{◌≡◌};
+ghost use Rattle.wasmi_c.specs.Instruction.Calls.{Leaves, or_trap};
+ghost use Rattle.wasmi_c.specs.Instruction.Results.{result_of};
+
+use crate::instruction::refusal::Refusal;
+use crate::status::DONE;
+use wasmi_raw::RawVal;
+use wasmi_types::TrapCode;
+
+/// What an instruction gives for one element of an array.
+#[repr(C)]
+#[derive(Clone, Copy)]
+pub struct InstructionResult {
+    /// The value, or 0 if the instruction traps.
+    pub value: RawVal,
+    /// 0, or the number of the trap.
+    pub status: u8,
+}
+
+/// The result with a value, or with the number of a trap.
+pub fn result_of(given: Result<RawVal, TrapCode>) -> InstructionResult
+    ensures { result ≡ result_of given }
+{
+    match given {
+        Ok(value) => InstructionResult {
+            value,
+            status: DONE,
+        },
+        Err(trap) => InstructionResult {
+            value: RawVal::from_bits64(0),
+            status: u8::from(trap),
+        },
+    }
+}
+
+/// What an instruction gives, with its trap as a refusal.
+pub fn or_trap<T>(given: Result<T, TrapCode>) -> Result<T, Refusal>
+    ensures { result ≡ or_trap given }
+{
+    match given {
+        Ok(value) => Ok(value),
+        Err(trap) => Err(Refusal::Trap(trap)),
+    }
+}
+
+/// Writes the value that a call gives, or nothing if it is refused, and returns the status.
+pub fn leave(given: Result<RawVal, Refusal>, value: &mut RawVal) -> u8
+    ensures { Leaves given value.old value.new result }
+{
+    match given {
+        Ok(new) => {
+            // By its words, since LLVM would copy it as a whole through memory.
+            value.lo = new.lo;
+            value.hi = new.hi;
+            DONE
+        }
+        Err(refusal) => refusal.into(),
+    }
+}
