@@ -2,3 +2,6 @@
 //!
 //! The headers of `include/` declare them.
 #![tactic(auto)]
+
+mod instructions;
+mod script;
