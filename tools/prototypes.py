@@ -2,7 +2,7 @@
 import re
 
 CRATE_TYPES = {
-    "bool": "bool", "u8": "uint8_t", "u16": "uint16_t", "u32": "uint32_t", "u64": "uint64_t", "usize": "size_t",
+    "bool": "bool", "i32": "int32_t", "i64": "int64_t", "u8": "uint8_t", "u16": "uint16_t", "u32": "uint32_t", "u64": "uint64_t", "usize": "size_t",
     "RawVal": "wasmi_words", "Words": "wasmi_words", "InstructionResult": "wasmi_result",
     "Handle": "wasmi_machine", "Limits": "wasmi_limits", "PlainCall": "wasmi_call", "PlainReply": "wasmi_reply", "Totals": "wasmi_totals",
     "MemoryHeader": "wasmi_memory", "TableHeader": "wasmi_table", "MeterHeader": "wasmi_meter", "QuotaHeader": "wasmi_quota",
@@ -36,7 +36,7 @@ def spaced(text):
 
 def prototypes(header):
     """The calls of a header: by name, what they return and their parameters."""
-    found = re.findall(r"^([\w ]+?) (wasmi_\w+)\(([^)]*)\);", without_comments(header), re.M)
+    found = re.findall(r"^([\w ]+?) (wasmi?_\w+)\(([^)]*)\);", without_comments(header), re.M)
     return {name: [given, *(spaced(it) for it in parameters.split(","))] for given, name, parameters in found}
 
 
@@ -48,14 +48,14 @@ def type_in_c(word):
 
 def parameter_in_c(name, word, is_only_array):
     """The declarations that a parameter has in C: two for an array, of its first element and its length."""
-    found = re.fullmatch(r"(&mut |&|)(\[)?(\w+)(\])?", word)
+    found = re.fullmatch(r"(&mut |&|)(\[)?(\w+)(?:; \d+)?(\])?", word)
     if not found:
         raise Unread(f"the parameter {name}: {word}")
     reference, is_array, item = found[1], found[2], type_in_c(found[3])
     kind = f"{item} *" if reference else item
     name = OTHER_NAMES.get((name, kind), name)
     first = ("const " if reference == "&" else "") + (f"{item} *{name}" if reference else f"{item} {name}")
-    if not is_array:
+    if not is_array or ";" in word:
         return [first]
     return [first, "size_t len" if is_only_array else f"size_t {LENGTHS.get(name, name + '_len')}"]
 
@@ -64,7 +64,7 @@ def signature_in_c(parameters, given, prototype):
     """A signature as C would write it. The length of the last array may be called `len`."""
     pairs = [tuple(it.strip().split(": ", 1)) for it in parameters.split(",") if it.strip()]
     pairs = [(name, word) for name, word in pairs if word != "Global"]
-    arrays = [name for name, word in pairs if "[" in word]
+    arrays = [name for name, word in pairs if "[" in word and ";" not in word]
     made = [type_in_c(given) if given else "void"]
     for name, word in pairs:
         made += parameter_in_c(name, word, "size_t len" in prototype and [name] == arrays[-1:])

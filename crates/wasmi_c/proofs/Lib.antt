@@ -1,2 +1,3 @@
 mod InstructionLemmas
+mod LanesLemmas
 mod ScriptLemmas

@@ -4,5 +4,6 @@ pub mod Binary
 pub mod Calls
 pub mod Lanes
 pub mod Results
+pub mod Shuffle
 pub mod Ternary
 pub mod Unary

@@ -10,6 +10,7 @@ pub mod numbers;
 pub mod refusal;
 pub mod result;
 mod rows;
+pub mod shuffle;
 pub mod store;
 pub mod ternary;
 pub mod unary;

@@ -130,7 +130,7 @@ pub extern "C" fn wasmi_store(
     ensures { Leaves (store_result number memory.old (ptr + offset) value)
         memory.old memory.new result }
 {
-    store::store(number, memory, ptr, offset, value)
+    store::store_by_number(number, memory, ptr, offset, value)
 }
 
 /// Extracts a lane of a vector. Returns 0; 255 if no extraction has the number; or 253 if no lane

@@ -4,4 +4,9 @@
 #![tactic(auto)]
 
 mod instructions;
+mod loads;
+mod scalar;
 mod script;
+mod stores;
+mod vector_loads;
+mod vectors;
