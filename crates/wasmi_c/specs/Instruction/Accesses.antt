@@ -50,11 +50,15 @@ load_result number memory a = do
   op ← known (load_numbered number)
   or_trap (loaded_value op memory a)
 
+-- what a load gives for one pointer of an array, plus an offset
+unfoldable pub load_outcome : Load → List ℕ → ℕ → ℕ → InstructionResult
+load_outcome op memory offset ptr = result_of (loaded_value op memory (ptr + offset))
+
 -- what a load gives by its number for each pointer of an array, with one offset
 abbrev pub load_results : ℕ → List ℕ → List ℕ → ℕ → ℕ → Result (List InstructionResult) Refusal
 load_results number memory ptrs offset count = do
   op ← known (load_numbered number)
-  each_of (λ ptr. result_of (loaded_value op memory (ptr + offset))) ptrs count
+  each_of (load_outcome op memory offset) ptrs count
 
 -- the memory after a store by its number
 abbrev pub store_result : ℕ → List ℕ → ℕ → RawVal → Result (List ℕ) Refusal

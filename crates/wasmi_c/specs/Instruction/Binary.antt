@@ -31,8 +31,12 @@ binary_result number a b = do
   op ← known (binary_numbered number)
   or_trap (binary_value op a b)
 
+-- what an instruction of two operands gives for one element of an array
+unfoldable pub binary_outcome : Binary → RawVal → RawVal → InstructionResult
+binary_outcome op a b = result_of (binary_value op a b)
+
 -- what an instruction of two operands gives by its number for the elements of two arrays at each index
 abbrev pub binary_results : ℕ → List RawVal → List RawVal → ℕ → Result (List InstructionResult) Refusal
 binary_results number a b count = do
   op ← known (binary_numbered number)
-  each_of_two (λ x y. result_of (binary_value op x y)) a b count
+  each_of_two (binary_outcome op) a b count

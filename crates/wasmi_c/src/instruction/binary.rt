@@ -1,9 +1,9 @@
 //! The instructions of two operands.
 ghost use Rattle.std.specs.Prelude.{◌≡◌, length};
 ghost use Rattle.wasmi_c.specs.Instruction.Calls.{Leaves, each_of_two};
-ghost use Rattle.wasmi_c.specs.Instruction.Results.{result_of};
-ghost use Rattle.wasmi_c.specs.Instruction.Binary.{binary_numbered, binary_result, binary_results, binary_value};
+ghost use Rattle.wasmi_c.specs.Instruction.Binary.{binary_numbered, binary_outcome, binary_result, binary_results, binary_value};
 
+use crate::instruction::list::numbered;
 use crate::instruction::numbers::{BINARY_INSTRUCTIONS, binary_numbers};
 use crate::instruction::refusal::Refusal;
 use crate::instruction::result::{InstructionResult, or_trap, result_of};
@@ -36,19 +36,26 @@ impl Binary {
         }
     }
 
+    #[inline(always)]
+    #[tactic(auto, unfolding(crate::specs::Instruction::Binary::binary_outcome))]
+    fn outcome(self, a: RawVal, b: RawVal) -> InstructionResult
+        ensures { result ≡ binary_outcome self a b }
+    {
+        result_of(self.apply(a, b))
+    }
+
     // The code of each instruction has its own loop.
     #[inline(always)]
     #[tactic(auto, using(crate::proofs::InstructionLemmas::arrays))]
     fn each(self, a: &[RawVal], b: &[RawVal], results: &mut [InstructionResult]) -> u8
-        ensures { Leaves
-            (each_of_two (λ x y. result_of (binary_value self x y)) a.now b.now (length results.old))
+        ensures { Leaves (each_of_two (binary_outcome self) a.now b.now (length results.old))
             results.old results.new result }
     {
         if b.len() != a.len() || results.len() != a.len() {
             return Refusal::LengthsDiffer.into();
         }
         for i in 0..a.len() {
-            results[i] = result_of(self.apply(a[i], b[i]));
+            results[i] = self.outcome(a[i], b[i]);
         }
         DONE
     }
@@ -59,7 +66,7 @@ impl Binary {
 pub fn binary_numbered(number: u16) -> Option<Binary>
     ensures { result ≡ binary_numbered number }
 {
-    BINARY_INSTRUCTIONS.get(usize::from(number)).copied()
+    numbered(&BINARY_INSTRUCTIONS, number)
 }
 
 /// What the instruction of a number gives. The refusals are `Unknown` and the instruction's trap.
@@ -90,8 +97,7 @@ pub fn binary_each(
 
 // The instruction is looked at once, and not at each element.
 fn each_by_op(op: Binary, a: &[RawVal], b: &[RawVal], results: &mut [InstructionResult]) -> u8
-    ensures { Leaves
-        (each_of_two (λ x y. result_of (binary_value op x y)) a.now b.now (length results.old))
+    ensures { Leaves (each_of_two (binary_outcome op) a.now b.now (length results.old))
         results.old results.new result }
 {
     binary_numbers!(op_once! op Binary each(a, b, results))

@@ -1,9 +1,9 @@
 //! The loads.
 ghost use Rattle.std.specs.Prelude.{◌≡◌, ◌+◌, length};
 ghost use Rattle.wasmi_c.specs.Instruction.Calls.{Leaves, each_of};
-ghost use Rattle.wasmi_c.specs.Instruction.Results.{result_of};
-ghost use Rattle.wasmi_c.specs.Instruction.Accesses.{load_numbered, load_result, load_results, loaded_value};
+ghost use Rattle.wasmi_c.specs.Instruction.Accesses.{load_numbered, load_outcome, load_result, load_results, loaded_value};
 
+use crate::instruction::list::numbered;
 use crate::instruction::numbers::{LOAD_INSTRUCTIONS, load_numbers};
 use crate::instruction::refusal::Refusal;
 use crate::instruction::result::{InstructionResult, or_trap, result_of};
@@ -33,19 +33,26 @@ impl Load {
         }
     }
 
+    #[inline(always)]
+    #[tactic(auto, unfolding(crate::specs::Instruction::Accesses::load_outcome))]
+    fn outcome(self, memory: &[u8], offset: u64, ptr: u64) -> InstructionResult
+        ensures { result ≡ load_outcome self memory.now offset ptr }
+    {
+        result_of(self.load(memory, ptr, offset))
+    }
+
     // The code of each instruction has its own loop.
     #[inline(always)]
     #[tactic(auto, using(crate::proofs::InstructionLemmas::arrays))]
     fn each(self, memory: &[u8], ptrs: &[u64], offset: u64, results: &mut [InstructionResult]) -> u8
-        ensures { Leaves
-            (each_of (λ ptr. result_of (loaded_value self memory.now (ptr + offset))) ptrs.now
+        ensures { Leaves (each_of (load_outcome self memory.now offset) ptrs.now
             (length results.old)) results.old results.new result }
     {
         if results.len() != ptrs.len() {
             return Refusal::LengthsDiffer.into();
         }
         for i in 0..ptrs.len() {
-            results[i] = result_of(self.load(memory, ptrs[i], offset));
+            results[i] = self.outcome(memory, offset, ptrs[i]);
         }
         DONE
     }
@@ -56,7 +63,7 @@ impl Load {
 pub fn load_numbered(number: u16) -> Option<Load>
     ensures { result ≡ load_numbered number }
 {
-    LOAD_INSTRUCTIONS.get(usize::from(number)).copied()
+    numbered(&LOAD_INSTRUCTIONS, number)
 }
 
 /// What the load of a number gives from `ptr + offset`. The refusals are `Unknown` and the trap past
@@ -95,9 +102,8 @@ fn each_by_op(
     offset: u64,
     results: &mut [InstructionResult],
 ) -> u8
-    ensures { Leaves
-        (each_of (λ ptr. result_of (loaded_value op memory.now (ptr + offset))) ptrs.now
-        (length results.old)) results.old results.new result }
+    ensures { Leaves (each_of (load_outcome op memory.now offset) ptrs.now (length results.old))
+        results.old results.new result }
 {
     load_numbers!(op_once! op Load each(memory, ptrs, offset, results))
 }

@@ -4,6 +4,7 @@ ghost use Rattle.wasmi_access.specs.LoadStore.{IsStore};
 ghost use Rattle.wasmi_c.specs.Instruction.Accesses.{memory_after, store_numbered, store_result, stored_value};
 ghost use Rattle.wasmi_c.specs.Instruction.Calls.{Leaves};
 
+use crate::instruction::list::numbered;
 use crate::instruction::numbers::STORE_INSTRUCTIONS;
 use crate::instruction::refusal::Refusal;
 use crate::status::DONE;
@@ -37,7 +38,7 @@ impl Store {
 pub fn store_numbered(number: u16) -> Option<Store>
     ensures { result ≡ store_numbered number }
 {
-    STORE_INSTRUCTIONS.get(usize::from(number)).copied()
+    numbered(&STORE_INSTRUCTIONS, number)
 }
 
 /// Stores a value at `ptr + offset`, by the store that has the number. Returns 0; 255 if there is

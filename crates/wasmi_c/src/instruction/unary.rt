@@ -3,6 +3,7 @@ ghost use Rattle.std.specs.Prelude.{◌≡◌, length};
 ghost use Rattle.wasmi_c.specs.Instruction.Calls.{Leaves, each_of};
 ghost use Rattle.wasmi_c.specs.Instruction.Unary.{unary_numbered, unary_result, unary_results, unary_value};
 
+use crate::instruction::list::numbered;
 use crate::instruction::numbers::{UNARY_INSTRUCTIONS, unary_numbers};
 use crate::instruction::refusal::Refusal;
 use crate::instruction::rows::op_once;
@@ -40,7 +41,7 @@ impl Unary {
     #[inline(always)]
     #[tactic(auto, using(crate::proofs::InstructionLemmas::arrays))]
     fn each(self, a: &[RawVal], values: &mut [RawVal]) -> u8
-        ensures { Leaves (each_of (unary_value op) a.now (length values.old))
+        ensures { Leaves (each_of (unary_value self) a.now (length values.old))
             values.old values.new result }
     {
         if values.len() != a.len() {
@@ -58,7 +59,7 @@ impl Unary {
 pub fn unary_numbered(number: u16) -> Option<Unary>
     ensures { result ≡ unary_numbered number }
 {
-    UNARY_INSTRUCTIONS.get(usize::from(number)).copied()
+    numbered(&UNARY_INSTRUCTIONS, number)
 }
 
 /// What the instruction of a number gives. The only refusal is `Unknown`.
