@@ -1,3 +1,9 @@
+mod HostLemmas
 mod InstructionLemmas
 mod LanesLemmas
+mod MeterLemmas
+mod QuotaNumbersLemmas
 mod ScriptLemmas
+mod SettlementLemmas
+mod SharedQuotaLemmas
+mod ViewLemmas

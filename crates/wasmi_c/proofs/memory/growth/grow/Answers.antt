@@ -1,0 +1,28 @@
+use Rattle.std.proofs.Common.{Some, inr}
+use Rattle.wasmi_region.specs.Memory.{memory_in}
+use Rattle.wasmi_c.specs.Host.{memory_growth}
+use Rattle.wasmi_c.proofs.QuotaNumbersLemmas.{as_quota, lent_rules, keeps_quota}
+use Rattle.wasmi_c.proofs.ViewLemmas.{seen_growth, kept_by_growth}
+use Rattle.wasmi_c.proofs.memory.growth.grow.Goals as goal
+
+pub returns-clause-grown : goal.returns-clause-grown
+returns-clause-grown c =
+    let growth = c.grow_under.ensures.grown in
+    inr (
+      c.in-Some.ty,
+      c.in-Some.ensures,
+      record {
+        result = growth.result;
+        grows = (growth.grows.0, seen_growth as_quota _ _ _ _ _ _ _ growth.result growth.grows.0 growth.grows.1);
+        state = growth.state;
+        numbers = growth.numbers;
+        meter = growth.meter;
+        status_is = growth.status_is;
+        number_is = growth.number_is;
+      },
+    )
+
+pub returns-clause-quota : goal.returns-clause-quota
+returns-clause-quota c =
+    let growth = c.grow_under.ensures.grown in
+    kept_by_growth lent_rules keeps_quota _ _ _ growth.result growth.grows.0 growth.grows.1
