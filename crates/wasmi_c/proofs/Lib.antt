@@ -6,4 +6,3 @@ mod QuotaNumbersLemmas
 mod ScriptLemmas
 mod SettlementLemmas
 mod SharedQuotaLemmas
-mod ViewLemmas

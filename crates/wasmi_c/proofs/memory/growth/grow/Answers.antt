@@ -1,8 +1,5 @@
-use Rattle.std.proofs.Common.{Some, inr}
-use Rattle.wasmi_region.specs.Memory.{memory_in}
-use Rattle.wasmi_c.specs.Host.{memory_growth}
-use Rattle.wasmi_c.proofs.QuotaNumbersLemmas.{as_quota, lent_rules, keeps_quota}
-use Rattle.wasmi_c.proofs.ViewLemmas.{seen_growth, kept_by_growth}
+use Rattle.std.proofs.Common.{inr}
+use Rattle.wasmi_c.proofs.QuotaNumbersLemmas.{growth_as_quota}
 use Rattle.wasmi_c.proofs.memory.growth.grow.Goals as goal
 
 pub returns-clause-grown : goal.returns-clause-grown
@@ -13,7 +10,7 @@ returns-clause-grown c =
       c.in-Some.ensures,
       record {
         result = growth.result;
-        grows = (growth.grows.0, seen_growth as_quota _ _ _ _ _ _ _ growth.result growth.grows.0 growth.grows.1);
+        grows = (growth.grows.0, growth_as_quota _ _ _ _ _ _ _ growth.result growth.grows.0 growth.grows.1);
         state = growth.state;
         numbers = growth.numbers;
         meter = growth.meter;
@@ -21,8 +18,3 @@ returns-clause-grown c =
         number_is = growth.number_is;
       },
     )
-
-pub returns-clause-quota : goal.returns-clause-quota
-returns-clause-quota c =
-    let growth = c.grow_under.ensures.grown in
-    kept_by_growth lent_rules keeps_quota _ _ _ growth.result growth.grows.0 growth.grows.1

@@ -1,7 +1,5 @@
-use Rattle.std.proofs.Common.{Some, inr}
-use Rattle.wasmi_region.specs.Table.{table_in}
-use Rattle.wasmi_c.proofs.QuotaNumbersLemmas.{as_quota, lent_rules, keeps_quota}
-use Rattle.wasmi_c.proofs.ViewLemmas.{seen_growth, kept_by_growth}
+use Rattle.std.proofs.Common.{inr}
+use Rattle.wasmi_c.proofs.QuotaNumbersLemmas.{growth_as_quota}
 use Rattle.wasmi_c.proofs.table.growth.grow.Goals as goal
 
 pub returns-clause-grown : goal.returns-clause-grown
@@ -12,7 +10,7 @@ returns-clause-grown c =
       c.in-Some.ensures,
       record {
         result = growth.result;
-        grows = (growth.grows.0, seen_growth as_quota _ _ _ _ _ _ _ growth.result growth.grows.0 growth.grows.1);
+        grows = (growth.grows.0, growth_as_quota _ _ _ _ _ _ _ growth.result growth.grows.0 growth.grows.1);
         state = growth.state;
         numbers = growth.numbers;
         meter = growth.meter;
@@ -22,8 +20,3 @@ returns-clause-grown c =
         number_is = growth.number_is;
       },
     )
-
-pub returns-clause-quota : goal.returns-clause-quota
-returns-clause-quota c =
-    let growth = c.grow_under.ensures.grown in
-    kept_by_growth lent_rules keeps_quota _ _ _ growth.result growth.grows.0 growth.grows.1
