@@ -1,3 +1,4 @@
+mod BulkLemmas
 mod HostLemmas
 mod InstructionLemmas
 mod LanesLemmas

@@ -10,7 +10,7 @@ use Rattle.wasmi_c.specs.Numbers.{meter_of, with_left, KeepsMeter}
 use Rattle.wasmi_c.specs.declared.fuel.MeterNumbers.{MeterNumbers}
 
 -- a meter of which nothing is taken
-none_taken : (left : Option ℕ) (costs : CustomFuelCosts)
+pub none_taken : (left : Option ℕ) (costs : CustomFuelCosts)
     → (let m : Meter = record { left = left; costs = costs } in meter_after m 0 ≡ m)
 none_taken None costs = refl
 none_taken (Some n) costs = ap (λ (k : ℕ). (let m : Meter = record { left = Some k; costs = costs } in m)) (omega arith)

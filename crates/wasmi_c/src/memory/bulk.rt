@@ -1,5 +1,5 @@
 //! A range of a memory is written over.
-ghost use Rattle.std.specs.Prelude.{◌≡◌, take};
+ghost use Rattle.std.specs.Prelude.{◌≡◌};
 ghost use Rattle.wasmi_store.specs.Bulk.{copied, filled};
 ghost use Rattle.wasmi_c.specs.BulkCalls.{memory_written_number, CopiesBytesEmbedded, WritesBytesEmbedded};
 ghost use Rattle.wasmi_c.specs.MemoryCalls.{memory_status_of};
@@ -10,7 +10,7 @@ use crate::range::Range;
 use crate::refusal::memory_refusal;
 use crate::status::{DONE, INVALID_STATE};
 use wasmi_meter::MemoryError;
-use wasmi_store::bulk;
+use wasmi_region::memory as region_memory;
 
 /// Leaves the fuel that is needed where a write is refused for it, and returns the write's status.
 fn leave_write(written: Result<(), MemoryError>, number: &mut u64) -> u8
@@ -42,8 +42,8 @@ pub fn fill(
         return INVALID_STATE;
     };
     let mut fuel = meter.fuel();
-    let front = &mut region[..memory.size];
-    let written = bulk::fill_bytes(front, range.to, value, range.count, &mut fuel);
+    let (to, count) = (range.to, range.count);
+    let written = region_memory::fill(region, memory.size, to, value, count, &mut fuel);
     meter.store_left(&fuel);
     leave_write(written, number)
 }
@@ -67,9 +67,8 @@ pub fn copy_within(
         return INVALID_STATE;
     };
     let mut fuel = meter.fuel();
-    let front = &mut region[..memory.size];
     let (to, from, count) = (range.to, range.from, range.count);
-    let written = bulk::copy_bytes_within(front, to, from, count, &mut fuel);
+    let written = region_memory::copy_within(region, memory.size, to, from, count, &mut fuel);
     meter.store_left(&fuel);
     leave_write(written, number)
 }
@@ -97,10 +96,9 @@ pub fn copy(
         return INVALID_STATE;
     };
     let mut fuel = meter.fuel();
-    let front = &mut region[..memory.size];
     let bytes = &source_region[..source.size];
     let (to, from, count) = (range.to, range.from, range.count);
-    let written = bulk::copy_bytes(front, to, bytes, from, count, &mut fuel);
+    let written = region_memory::copy(region, memory.size, bytes, to, from, count, &mut fuel);
     meter.store_left(&fuel);
     leave_write(written, number)
 }
@@ -125,9 +123,8 @@ pub fn init(
         return INVALID_STATE;
     };
     let mut fuel = meter.fuel();
-    let front = &mut region[..memory.size];
     let (to, from, count) = (range.to, range.from, range.count);
-    let written = bulk::copy_bytes(front, to, bytes, from, count, &mut fuel);
+    let written = region_memory::copy(region, memory.size, bytes, to, from, count, &mut fuel);
     meter.store_left(&fuel);
     leave_write(written, number)
 }
