@@ -24,6 +24,7 @@ bulk_charged (Some written) count bytes bytes' m m' result writes = by_test (cov
   where
     amount : ℕ
     amount = bytes_due (Some m) count
+
     by_test : (test : Bool)
         → MatchBool test
         ((result ≡ Ok tt) × (metered bytes' (Some m') ≡ metered written (Some (meter_after m amount))))

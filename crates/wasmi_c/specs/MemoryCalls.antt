@@ -72,7 +72,8 @@ pub record IsRefused {S : Type 0} (s : Embedded MemoryNumbers S) (status : ℕ) 
 -- a growth by a call
 abbrev pub GrowsEmbedded : {S : Type 0} → Rules S → ℕ → Embedded MemoryNumbers S → ℕ → Embedded MemoryNumbers S → Type 0
 GrowsEmbedded rules pages s status s' =
-    IsRefused s status s' ⊎ ((ty : MemoryTypeValue) × IsState s.numbers s.region ty × GrowsAs rules ty pages s status s')
+    IsRefused s status s'
+        ⊎ ((ty : MemoryTypeValue) × IsState s.numbers s.region ty × GrowsAs rules ty pages s status s')
 
 -- a growth by the host's answers, where they are to what it asks; else nothing is written
 abbrev pub SettlesAs : MemoryTypeValue → ℕ → HostAnswers → Embedded MemoryNumbers HostAnswers → ℕ
@@ -83,7 +84,8 @@ SettlesAs ty pages answers s status s' =
     ((status ≡ other_size_status) × (s' ≡ s))
 
 -- a growth by the host's answers by a call; where the numbers stand for no memory, nothing is written
-abbrev pub SettlesEmbedded : ℕ → HostAnswers → Embedded MemoryNumbers HostAnswers → ℕ → Embedded MemoryNumbers HostAnswers
+abbrev pub SettlesEmbedded : ℕ → HostAnswers → Embedded MemoryNumbers HostAnswers → ℕ
+    → Embedded MemoryNumbers HostAnswers
     → Type 0
 SettlesEmbedded pages answers s status s' =
     IsRefused s status s'

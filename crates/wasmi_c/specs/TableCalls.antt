@@ -74,7 +74,8 @@ pub record GrowsTableAs {S : Type 0} (rules : Rules S) (g : TableGrowth) (s : Em
   pub number_is : s'.number ≡ grown_number result s.number
 
 -- numbers that stand for no table: nothing is written
-pub record IsTableRefused {S : Type 0} (s : Embedded TableNumbers S) (status : ℕ) (s' : Embedded TableNumbers S) : Type 0
+pub record IsTableRefused {S : Type 0} (s : Embedded TableNumbers S) (status : ℕ)
+    (s' : Embedded TableNumbers S) : Type 0
   where
     pub none : IsNoTable s.numbers s.region
     pub status_is : status ≡ invalid_state_status
@@ -158,8 +159,8 @@ SetsElement p index reference status region' =
     (table_in ty p.region p.numbers.size) result (table_in ty region' p.numbers.size)
     × (status ≡ table_status_of result)))
 
--- a part of a table is written over, as of a table of the library; the rest of the region stays, and the meter's numbers
--- except for what is left
+-- a part of a table is written over, as of a table of the library; the rest of the region stays, and the meter's
+-- numbers except for what is left
 pub record WritesTableAs (write : TableValue → TableWrite) (ty : TableTypeValue) (size : ℕ) (s : MeteredRegion)
     (status : ℕ) (s' : MeteredRegion) : Type 0 where
   pub result : Result (Unit {0}) TableError

@@ -40,7 +40,11 @@ pub extern "C" fn wasmi_fuel_copy_cost(meter: &MeterNumbers, bytes: u64) -> u64
 
 /// Takes the price of a copy of so many bytes.
 #[unsafe(no_mangle)]
-pub extern "C" fn wasmi_fuel_consume_copy(meter: &mut MeterNumbers, bytes: u64, number: &mut u64) -> u8
+pub extern "C" fn wasmi_fuel_consume_copy(
+    meter: &mut MeterNumbers,
+    bytes: u64,
+    number: &mut u64,
+) -> u8
     ensures { TakesFuel (copy_cost (meter_of meter.old).costs bytes 1) meter.old number.old result
         meter.new number.new }
 {

@@ -12,7 +12,11 @@ use wasmi_c::{HostAnswers, MemoryNumbers, MeterNumbers, Question, QuotaNumbers, 
 
 /// Makes a memory of zeros at its minimum, under a quota.
 #[unsafe(no_mangle)]
-pub extern "C" fn wasmi_memory_new(memory: &mut MemoryNumbers, region: &mut [u8], quota: &mut QuotaNumbers) -> u8
+pub extern "C" fn wasmi_memory_new(
+    memory: &mut MemoryNumbers,
+    region: &mut [u8],
+    quota: &mut QuotaNumbers,
+) -> u8
     ensures made { MakesEmbedded (record { numbers = memory.old; region = region.old })
         (limiter_of quota.old) result (record { numbers = memory.new; region = region.new })
         (limiter_of quota.new) }
@@ -46,7 +50,12 @@ pub extern "C" fn wasmi_memory_grow(
 
 /// What a growth asks a limiter of the caller's own.
 #[unsafe(no_mangle)]
-pub extern "C" fn wasmi_memory_question(memory: &MemoryNumbers, region: &[u8], pages: u64, question: &mut Question) -> u8
+pub extern "C" fn wasmi_memory_question(
+    memory: &MemoryNumbers,
+    region: &[u8],
+    pages: u64,
+    question: &mut Question,
+) -> u8
     ensures { AsksEmbedded memory.now region.now pages result question.old question.new }
 {
     growth::question(memory, region, pages, question)
@@ -79,7 +88,12 @@ pub extern "C" fn wasmi_memory_size(memory: &MemoryNumbers, region: &[u8], pages
 
 /// Reads bytes of a memory.
 #[unsafe(no_mangle)]
-pub extern "C" fn wasmi_memory_read(memory: &MemoryNumbers, region: &[u8], offset: usize, bytes: &mut [u8]) -> u8
+pub extern "C" fn wasmi_memory_read(
+    memory: &MemoryNumbers,
+    region: &[u8],
+    offset: usize,
+    bytes: &mut [u8],
+) -> u8
     ensures { ReadsEmbedded (record { numbers = memory.now; region = region.now }) offset bytes.old
         result bytes.new }
 {
@@ -88,7 +102,12 @@ pub extern "C" fn wasmi_memory_read(memory: &MemoryNumbers, region: &[u8], offse
 
 /// Writes bytes of a memory.
 #[unsafe(no_mangle)]
-pub extern "C" fn wasmi_memory_write(memory: &MemoryNumbers, region: &mut [u8], offset: usize, bytes: &[u8]) -> u8
+pub extern "C" fn wasmi_memory_write(
+    memory: &MemoryNumbers,
+    region: &mut [u8],
+    offset: usize,
+    bytes: &[u8],
+) -> u8
     ensures { WritesEmbedded (record { numbers = memory.now; region = region.old }) offset bytes.now
         result region.new }
 {

@@ -1,5 +1,5 @@
-//! Callers of the laws of `wasmi_core`, its parts, `wasmi_budget` and `wasmi_c`: each law is called by
-//! a function whose contract a user of the law would want.
+//! Callers of the laws of `wasmi_core`, its parts, `wasmi_budget` and `wasmi_c`: each law is called
+//! by a function whose contract a user of the law would want.
 #![tactic(auto)]
 
 pub mod lanes;

@@ -5,8 +5,9 @@ ghost use Rattle.wasmi_c.specs.Numbers.{quota_of};
 
 use wasmi_c::laws::one_quota_holds_all;
 use wasmi_c::status::DONE;
-use wasmi_c::{MemoryNumbers, QuotaNumbers, TableNumbers};
-use wasmi_c::{memory as memory_calls, table as table_calls};
+use wasmi_c::{
+    MemoryNumbers, QuotaNumbers, TableNumbers, memory as memory_calls, table as table_calls,
+};
 
 /// Makes a memory, and a table of null references, under one quota that is on and holds nothing,
 /// and returns whether both were made. If so, the quota holds the bytes of the one and the elements

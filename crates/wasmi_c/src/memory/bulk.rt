@@ -23,8 +23,8 @@ fn leave_write(written: Result<(), MemoryError>, number: &mut u64) -> u8
     }
 }
 
-/// Fills the bytes of a range with a value. `number` is set to the fuel that is needed where less is
-/// left.
+/// Fills the bytes of a range with a value. `number` is set to the fuel that is needed where less
+/// is left.
 pub fn fill(
     memory: &MemoryNumbers,
     region: &mut [u8],
@@ -48,8 +48,8 @@ pub fn fill(
     leave_write(written, number)
 }
 
-/// Copies bytes of a memory over others of it. `number` is set to the fuel that is needed where less
-/// is left.
+/// Copies bytes of a memory over others of it. `number` is set to the fuel that is needed where
+/// less is left.
 pub fn copy_within(
     memory: &MemoryNumbers,
     region: &mut [u8],
@@ -73,8 +73,8 @@ pub fn copy_within(
     leave_write(written, number)
 }
 
-/// Copies bytes of another memory over those of a memory. `number` is set to the fuel that is needed
-/// where less is left.
+/// Copies bytes of another memory over those of a memory. `number` is set to the fuel that is
+/// needed where less is left.
 pub fn copy(
     memory: &MemoryNumbers,
     region: &mut [u8],

@@ -7,7 +7,8 @@ use crate::types;
 use wasmi_region::memory::is_sized;
 use wasmi_store::MemoryType;
 
-/// A linear memory, except its bytes: `size` bytes at the front of a region. The numbers may be any.
+/// A linear memory, except its bytes: `size` bytes at the front of a region. The numbers may be
+/// any.
 #[repr(C)]
 #[derive(Clone, Copy)]
 pub struct MemoryNumbers {

@@ -18,12 +18,7 @@ pub fn size(table: &TableNumbers, region: &[u32], size: &mut u64) -> u8
 }
 
 /// The element at an index.
-pub fn get(
-    table: &TableNumbers,
-    region: &[u32],
-    index: u64,
-    reference: &mut u32,
-) -> u8
+pub fn get(table: &TableNumbers, region: &[u32], index: u64, reference: &mut u32) -> u8
     ensures { GetsElement (record { numbers = table.now; region = region.now }) index reference.old
         result reference.new }
 {
@@ -39,12 +34,7 @@ pub fn get(
 }
 
 /// Sets the element at an index.
-pub fn set(
-    table: &TableNumbers,
-    region: &mut [u32],
-    index: u64,
-    reference: u32,
-) -> u8
+pub fn set(table: &TableNumbers, region: &mut [u32], index: u64, reference: u32) -> u8
     ensures { SetsElement (record { numbers = table.now; region = region.old }) index reference
         result region.new }
 {

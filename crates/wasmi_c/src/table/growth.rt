@@ -51,7 +51,9 @@ pub fn grow_under<L: ResourceLimiter>(
     let mut fuel = meter.fuel();
     let mut size = table.size;
     let mut lent = ResourceLimiterRef::from(limiter);
-    let grown = region_table::grow(ty, &mut size, region, delta, reference, &mut fuel, &mut lent);
+    let grown = region_table::grow(
+        ty, &mut size, region, delta, reference, &mut fuel, &mut lent,
+    );
     let Some(_limiter) = lent.into_resource_limiter() else {
         unreachable!()
     };
@@ -88,12 +90,7 @@ pub fn grow(
 /// What a growth by so many elements asks a limiter, with the status `ASKS`; it asks nothing where
 /// it is by 0 (`DONE`), where there would be as many elements as indices, and where the
 /// numbers stand for no table.
-pub fn question(
-    table: &TableNumbers,
-    region: &[u32],
-    delta: u64,
-    question: &mut Question,
-) -> u8
+pub fn question(table: &TableNumbers, region: &[u32], delta: u64, question: &mut Question) -> u8
     ensures { AsksTableEmbedded table.now region.now delta result question.old question.new }
 {
     let Some(ty) = table.type_if_valid(region) else {

@@ -7,7 +7,8 @@ use crate::types;
 use wasmi_region::table::is_sized;
 use wasmi_store::TableType;
 
-/// A table, except its elements: `size` references at the front of a region. The numbers may be any.
+/// A table, except its elements: `size` references at the front of a region. The numbers may be
+/// any.
 #[repr(C)]
 #[derive(Clone, Copy)]
 pub struct TableNumbers {
