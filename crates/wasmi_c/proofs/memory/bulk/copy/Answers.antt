@@ -14,9 +14,9 @@ returns c =
       c.in-Some-type_if_valid.ensures,
       record {
         result = c.copy-written.result;
-        writes = rw (c.store_left.ensures, kept c.args.meter.now _ charged.0 charged.1) written;
+        writes = rw (c.store_left.ensures, kept c.args.meter.now c.copy-written.new.fuel charged.0 charged.1) written;
         rest = c.copy-written.ensures.rest;
-        kept = rw c.store_left.ensures (keeps c.args.meter.now _ charged.0 charged.1);
+        kept = rw c.store_left.ensures (keeps c.args.meter.now c.copy-written.new.fuel charged.0 charged.1);
         status_is = c.leave_write.ensures.status;
         number_is = c.leave_write.ensures.number;
       },
