@@ -1,4 +1,4 @@
-/* The calls of wasmi_core for C and C++, in libwasmi_ffi.a (x86-64 Linux).
+/* The calls of wasmi_core for C and C++, in libwasmi_core.a (x86-64 Linux).
 
    State: there is none. Instructions work on values and bytes of the caller's, and a script is run as a whole
    (wasmi_script_run). A machine with memories, fuel and limits that lives across calls is in wasmi_machine.h.

@@ -2,23 +2,21 @@
 import re
 
 CRATE_TYPES = {
-    "bool": "bool", "u8": "uint8_t", "u16": "uint16_t", "u32": "uint32_t", "u64": "uint64_t", "usize": "size_t",
+    "bool": "bool", "i32": "int32_t", "i64": "int64_t", "u8": "uint8_t", "u16": "uint16_t", "u32": "uint32_t", "u64": "uint64_t", "usize": "size_t",
     "RawVal": "wasmi_words", "Words": "wasmi_words", "InstructionResult": "wasmi_result",
     "Handle": "wasmi_machine", "Limits": "wasmi_limits", "PlainCall": "wasmi_call", "PlainReply": "wasmi_reply", "Totals": "wasmi_totals",
-    "MemoryHeader": "wasmi_memory", "TableHeader": "wasmi_table", "MeterHeader": "wasmi_meter", "QuotaHeader": "wasmi_quota",
+    "MemoryNumbers": "wasmi_memory", "TableNumbers": "wasmi_table", "MeterNumbers": "wasmi_meter", "QuotaNumbers": "wasmi_quota",
     "HostAnswers": "wasmi_answers", "Question": "wasmi_question", "Range": "wasmi_range",
 }
 # Parameters and fields that C calls by another name: (name in the crate, type in C without const) -> name in C.
 OTHER_NAMES = {
     ("handle", "wasmi_machine *"): "machine",
-    ("header", "wasmi_memory *"): "memory",
-    ("header", "wasmi_table *"): "table",
     ("region", "uint32_t *"): "elements",
     ("source_region", "uint32_t *"): "source_elements",
     ("ty", "uint8_t"): "type",
 }
 # Lengths that aren't named after their array.
-LENGTHS = {"source_elements": "source_len"}
+LENGTHS = {"source_elements": "source_len", "source_region": "source_len"}
 
 
 class Unread(Exception):
@@ -36,7 +34,7 @@ def spaced(text):
 
 def prototypes(header):
     """The calls of a header: by name, what they return and their parameters."""
-    found = re.findall(r"^([\w ]+?) (wasmi_\w+)\(([^)]*)\);", without_comments(header), re.M)
+    found = re.findall(r"^([\w ]+?) (wasmi?_\w+)\(([^)]*)\);", without_comments(header), re.M)
     return {name: [given, *(spaced(it) for it in parameters.split(","))] for given, name, parameters in found}
 
 
@@ -48,14 +46,14 @@ def type_in_c(word):
 
 def parameter_in_c(name, word, is_only_array):
     """The declarations that a parameter has in C: two for an array, of its first element and its length."""
-    found = re.fullmatch(r"(&mut |&|)(\[)?(\w+)(\])?", word)
+    found = re.fullmatch(r"(&mut |&|)(\[)?(\w+)(?:; \d+)?(\])?", word)
     if not found:
         raise Unread(f"the parameter {name}: {word}")
     reference, is_array, item = found[1], found[2], type_in_c(found[3])
     kind = f"{item} *" if reference else item
     name = OTHER_NAMES.get((name, kind), name)
     first = ("const " if reference == "&" else "") + (f"{item} *{name}" if reference else f"{item} {name}")
-    if not is_array:
+    if not is_array or ";" in word:
         return [first]
     return [first, "size_t len" if is_only_array else f"size_t {LENGTHS.get(name, name + '_len')}"]
 
@@ -64,7 +62,7 @@ def signature_in_c(parameters, given, prototype):
     """A signature as C would write it. The length of the last array may be called `len`."""
     pairs = [tuple(it.strip().split(": ", 1)) for it in parameters.split(",") if it.strip()]
     pairs = [(name, word) for name, word in pairs if word != "Global"]
-    arrays = [name for name, word in pairs if "[" in word]
+    arrays = [name for name, word in pairs if "[" in word and ";" not in word]
     made = [type_in_c(given) if given else "void"]
     for name, word in pairs:
         made += parameter_in_c(name, word, "size_t len" in prototype and [name] == arrays[-1:])

@@ -1,4 +1,4 @@
-//! Tells the programs the version of the crate. With the feature `library` it links libwasmi_ffi.a, of which WASMI_FFI names
+//! Tells the programs the version of the crate. With the feature `library` it links libwasmi_core.a, of which WASMI_CORE names
 //! the folder, and the C part of the kit, of which RATTLE_C does. It links anew if that library has a later date, or the
 //! variable WASMI_LIBRARY another text.
 use std::env::var;
@@ -11,13 +11,13 @@ fn main() {
     if var("CARGO_FEATURE_LIBRARY").is_err() {
         return;
     }
-    for name in ["WASMI_FFI", "RATTLE_C"] {
+    for name in ["WASMI_CORE", "RATTLE_C"] {
         let folder = var(name).unwrap_or_else(|_| panic!("{name} has to name a folder"));
         println!("cargo:rustc-link-search=native={folder}");
         println!("cargo:rerun-if-env-changed={name}");
     }
-    println!("cargo:rerun-if-changed={}/libwasmi_ffi.a", var("WASMI_FFI").expect("a folder"));
+    println!("cargo:rerun-if-changed={}/libwasmi_core.a", var("WASMI_CORE").expect("a folder"));
     println!("cargo:rerun-if-env-changed=WASMI_LIBRARY");
-    println!("cargo:rustc-link-lib=static=wasmi_ffi");
+    println!("cargo:rustc-link-lib=static=wasmi_core");
     println!("cargo:rustc-link-lib=static=libc_c");
 }

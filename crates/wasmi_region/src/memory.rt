@@ -26,9 +26,8 @@ use wasmi_store::range::{fill_range, write_range};
 pub fn is_sized(ty: MemoryType, size: usize) -> bool
     ensures { (result ≡ true → IsSized ty size) × (IsSized ty size → result ≡ true) }
 {
-    let page = u64::from(ty.page_size());
-    let pages = size as u64 / page;
-    size as u64 % page == 0 && ty.minimum() <= pages && ty.size_of_pages(pages).is_some()
+    let pages = ty.pages_in(size);
+    ty.minimum() <= pages && ty.size_of_pages(pages) == Some(size)
 }
 
 /// The number of whole pages in `size` bytes.
@@ -101,7 +100,7 @@ pub fn grow<L: ResourceLimiter>(
         return Err(MemoryError::OutOfBoundsGrowth);
     };
     let maximum = ty.maximum_size();
-    let has_room = has_place(region, new_size);
+    let has_room = has_room(region, new_size);
     decide_growth(old_size, new_size, maximum, has_room, fuel, limiter)?;
     fill_range(region, old_size, new_size, 0);
     *size = new_size;
@@ -233,7 +232,7 @@ pub fn init(
 }
 
 /// Whether a region has `size` bytes.
-fn has_place(region: &[u8], size: usize) -> bool
+fn has_room(region: &[u8], size: usize) -> bool
     ensures { result ≡ nat_le size (length region.now) }
 {
     size <= region.len()

@@ -15,8 +15,11 @@ use wasmi_meter::growth::{charge, permission, tell};
 use wasmi_meter::{Fuel, ResourceLimiter, ResourceLimiterRef, TableError};
 use wasmi_raw::RawRef;
 use wasmi_store::TableType;
+use wasmi_store::elements::{
+    copy_elements, copy_elements_within, fill_elements, init_elements,
+};
 use wasmi_store::growth::TABLE_DENIED as DENIED;
-use wasmi_store::range::{copy_overlapping, fill_range, lies_within, write_range};
+use wasmi_store::range::{fill_range, write_range};
 
 /// Whether a table of a type may have `size` elements.
 pub fn is_sized(ty: TableType, size: usize) -> bool
@@ -154,15 +157,7 @@ pub fn fill(
         (metered (table_of ty elements.old) (Some fuel.old)) result
         (metered (table_of ty elements.new) (Some fuel.new)) }
 {
-    if !lies_within(elements, dst, len) {
-        return Err(TableError::FillOutOfBounds);
-    }
-    if let Err(required_fuel) = charge::<RawRef>(fuel, len) {
-        return Err(TableError::OutOfFuel { required_fuel });
-    }
-    let (start, end) = (dst as usize, (dst + len) as usize);
-    fill_range(elements, start, end, reference);
-    Ok(())
+    fill_elements(elements, dst, reference, len, fuel)
 }
 
 /// Copies `len` elements from `src` on over those from `dst` on. The errors are those of
@@ -179,14 +174,7 @@ pub fn copy_within(
         (metered (table_of ty elements.old) (Some fuel.old)) result
         (metered (table_of ty elements.new) (Some fuel.new)) }
 {
-    if !lies_within(elements, src, len) || !lies_within(elements, dst, len) {
-        return Err(TableError::CopyOutOfBounds);
-    }
-    if let Err(required_fuel) = charge::<RawRef>(fuel, len) {
-        return Err(TableError::OutOfFuel { required_fuel });
-    }
-    copy_overlapping(elements, dst as usize, src as usize, len as usize);
-    Ok(())
+    copy_elements_within(elements, dst, src, len, fuel)
 }
 
 /// Copies `len` items of a table, from `src` on, over the elements of another table from `dst` on.
@@ -206,15 +194,8 @@ pub fn copy(
         (metered (table_of ty elements.new) (Some fuel.new)) }
 {
     ty.ensure_element_type_matches(source.element())?;
-    if !lies_within(items, src, len) || !lies_within(elements, dst, len) {
-        return Err(TableError::CopyOutOfBounds);
-    }
-    if let Err(required_fuel) = charge::<RawRef>(fuel, len) {
-        return Err(TableError::OutOfFuel { required_fuel });
-    }
-    let (dst, src, len) = (dst as usize, src as usize, len as usize);
-    write_range(elements, dst, &items[src..src + len]);
-    Ok(())
+    let outside = TableError::CopyOutOfBounds;
+    copy_elements(elements, dst, items, src, len, outside, fuel)
 }
 
 /// Copies `len` items of the type of a table's elements, from `src` on, over the elements from
@@ -232,16 +213,5 @@ pub fn init(
         (metered (table_of ty elements.old) (Some fuel.old)) result
         (metered (table_of ty elements.new) (Some fuel.new)) }
 {
-    if !lies_within(items, src, len) || !lies_within(elements, dst, len) {
-        return Err(TableError::InitOutOfBounds);
-    }
-    if len == 0 {
-        return Ok(());
-    }
-    if let Err(required_fuel) = charge::<RawRef>(fuel, len) {
-        return Err(TableError::OutOfFuel { required_fuel });
-    }
-    let (dst, src, len) = (dst as usize, src as usize, len as usize);
-    write_range(elements, dst, &items[src..src + len]);
-    Ok(())
+    init_elements(elements, dst, items, src, len, fuel)
 }

@@ -11,12 +11,12 @@ use Rattle.wasmi_meter.specs.Meter.{Meter, meter_after}
 use Rattle.wasmi_store.specs.Growth.{metered}
 
 -- items of which so many, from dst on, are each filled with a value, or none where they end too early
-abbrev pub filled : List ℕ → ℕ → ℕ → ℕ → Option (List ℕ)
+abbrev pub filled : {A : Type 0} → List A → ℕ → A → ℕ → Option (List A)
 filled items dst value len = overwrite items dst (replicate len value)
 
 -- items whose part from dst on is written over by so many items of a list from src on, or none where a list ends too
 -- early
-abbrev pub copied : List ℕ → ℕ → List ℕ → ℕ → ℕ → Option (List ℕ)
+abbrev pub copied : {A : Type 0} → List A → ℕ → List A → ℕ → ℕ → Option (List A)
 copied items dst source src len = option_and_then (λ part. overwrite items dst part) (at source src len)
 
 -- the fuel that is due for writing so many bytes

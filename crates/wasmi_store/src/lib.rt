@@ -2,6 +2,7 @@
 #![tactic(auto)]
 
 pub mod bulk;
+pub mod elements;
 pub mod growth;
 pub mod laws;
 mod limits;

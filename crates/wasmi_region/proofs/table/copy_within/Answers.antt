@@ -1,9 +1,6 @@
-use Rattle.std.proofs.Common.{sym}
-use Rattle.wasmi_store.proofs.WriteLemmas.{writes_unpaid, same_as_itself, copied_part}
+use Rattle.wasmi_store.specs.Table.{copy_of, table_of}
+use Rattle.wasmi_store.proofs.WriteLemmas.{writes_elements, same_as_itself}
 use Rattle.wasmi_region.proofs.table.copy_within.Goals as goal
 
-pub returns-in-Err : goal.returns-in-Err
-returns-in-Err c =
-    writes_unpaid _ _ _ (same_as_itself _)
-    _ (copied_part _ _ _ _ _ (sym c.if-not-lies_within.ensures) (sym c.if-not-lies_within-2.ensures))
-    _ _ c.in-Err.ensures
+pub returns : goal.returns
+returns c = writes_elements (copy_of c.args.dst c.args.src c.args.len (table_of c.args.ty c.args.elements.now)) c.args.ty _ _ (same_as_itself _) _ _ _ c.copy_elements_within.ensures.written

@@ -1,25 +1,11 @@
-use Rattle.std.proofs.Common.{sym}
-use Rattle.wasmi_store.proofs.WriteLemmas.{writes_outside, writes_unpaid, copied_past_source, copied_past_end, copied_part}
-use Rattle.wasmi_store.proofs.table.Table.copy_metered.Goals.{then-not-lies_within-via-then-not-lies_within, then-not-lies_within-via-else-not-lies_within+then-not-lies_within-2}
+use Rattle.std.proofs.Common.{◌∙◌, ap, length, refl, sym}
+use Rattle.std.proofs.lemmas.List.{with_items_is}
+use Rattle.wasmi_store.proofs.WriteLemmas.{writes_elements}
 use Rattle.wasmi_store.proofs.table.Table.copy_metered.Goals as goal
 
-pub returns-then-not-lies_within : goal.returns-then-not-lies_within
-returns-then-not-lies_within c =
-    rw (← c.self.view_is, ← c.src_table.view_is)
-    (writes_outside _ _ _ (rw c.element.ensures at c.in_ok-ensure_element_type_matches.ensures)
-    (elim c.then-not-lies_within.branch [
-      | then-not-lies_within-via-then-not-lies_within w ↦ copied_past_source _ _ _ _ _
-          (sym (rw c.as_slice-items.ensures.value at w.if-not-lies_within.ensures))
-      | then-not-lies_within-via-else-not-lies_within+then-not-lies_within-2 w ↦
-          copied_past_end _ _ _ _ _ (sym (rw c.as_slice-items.ensures.value at w.if-not-lies_within.ensures))
-          (sym (rw w.as_slice.ensures.value at w.if-not-lies_within-2.ensures))
-    ]))
-
-pub returns-in-Err : goal.returns-in-Err
-returns-in-Err c =
-    rw (← c.self.view_is, ← c.src_table.view_is) (
-    writes_unpaid _ _ _ (rw c.element.ensures at c.in_ok-ensure_element_type_matches.ensures)
-    _ (copied_part _ _ _ _ _ (sym (rw c.as_slice-items.ensures.value at c.if-not-lies_within.ensures))
-    (sym (rw c.as_slice.ensures.value at c.if-not-lies_within-2.ensures)))
-    _ _ c.in-Err.ensures
-    )
+pub returns : goal.returns
+returns c =
+    let long = c.copy_elements.ensures.len ∙ ap length c.as_mut_slice.ensures.value ∙ sym c.self.inside.elements.ok.0 in
+    rw (← c.self.view_is, ← c.src_table.view_is, with_items_is c.self.inside.elements _ long)
+    (writes_elements _ c.self.inside.ty _ _ (rw c.element.ensures at c.in_ok-ensure_element_type_matches.ensures) _ _ _
+    (rw (c.as_mut_slice.ensures.value, c.as_slice-items.ensures.value) at c.copy_elements.ensures.written))

@@ -1,12 +1,11 @@
-use Rattle.std.proofs.Common.{sym}
-use Rattle.wasmi_store.proofs.WriteLemmas.{writes_unpaid, same_as_itself, copied_part}
+use Rattle.std.proofs.Common.{◌∙◌, ap, length, refl, sym}
+use Rattle.std.proofs.lemmas.List.{with_items_is}
+use Rattle.wasmi_store.proofs.WriteLemmas.{writes_elements, same_as_itself}
 use Rattle.wasmi_store.proofs.table.Table.copy_within_metered.Goals as goal
 
-pub returns-in-Err : goal.returns-in-Err
-returns-in-Err c =
-    rw (← c.self.view_is) (
-    writes_unpaid _ _ _ (same_as_itself _)
-    _ (copied_part _ _ _ _ _ (sym (rw c.as_slice-items.ensures.value at c.if-not-lies_within.ensures))
-    (sym (rw c.as_slice-items.ensures.value at c.if-not-lies_within-2.ensures)))
-    _ _ c.in-Err.ensures
-    )
+pub returns : goal.returns
+returns c =
+    let long = c.copy_elements_within.ensures.len ∙ ap length c.as_mut_slice.ensures.value ∙ sym c.self.inside.elements.ok.0 in
+    rw (← c.self.view_is, with_items_is c.self.inside.elements _ long)
+    (writes_elements _ c.self.inside.ty _ _ (same_as_itself _) _ _ _
+    (rw c.as_mut_slice.ensures.value at c.copy_elements_within.ensures.written))

@@ -1,0 +1,120 @@
+-- Arrays that a call of an instruction writes, and refusals of such calls.
+use Rattle.std.proofs.Common.{◌≡◌, ◌≢◌, ℕ, suc, ◌<◌, ◌⊎◌, ◌&&◌, Bool, true, false, List, [], ◌∷◌, length, map, get_or, refl, arith, rules, tests}
+use Rattle.std.specs.Prelude.{◌==◌, Ok, Err, if◌then◌else◌}
+use Rattle.std.specs.Simd.Lanes.{zip2}
+use Rattle.wasmi_c.specs.Instruction.Calls.{Leaves, each_of, each_of_two, each_of_three, zip3}
+use Rattle.wasmi_c.specs.declared.instruction.refusal.Refusal.TheVariants.{LengthsDiffer}
+
+-- what passes a test is written
+written : {V : Type 0} (test : Bool) (value old new : V) → test ≡ true → new ≡ value
+    → Leaves (if test then Ok value else Err LengthsDiffer) old new 0
+written true value old new passes is = (refl, is)
+written false value old new passes is = cc
+
+-- what doesn't pass a test isn't written
+refused : {V : Type 0} (test : Bool) (value old new : V) (status : ℕ) → test ≡ false → status ≡ 254 → new ≡ old
+    → Leaves (if test then Ok value else Err LengthsDiffer) old new status
+refused true value old new status fails differs kept = cc
+refused false value old new status fails differs kept = (differs, kept)
+
+-- a list is what a function gives of another one, since each element is what it gives of that at its index
+mapped : {A B : Type 0} (f : A → B) (xs : List A) (ys : List B) → length ys ≡ length xs
+    → ((k : ℕ) (x : A) (y : B) → k < length xs → get_or ys k y ≡ f (get_or xs k x)) → ys ≡ map f xs
+mapped f [] [] same each = refl
+mapped f [] (y ∷ ys) same each = absurd (omega arith)
+mapped f (x ∷ xs) [] same each = absurd (omega arith)
+mapped f (x ∷ xs) (y ∷ ys) same each =
+    let first = each 0 x y (omega arith) in
+    let rest = mapped f xs ys (omega arith) (λ k u v below. each (suc k) u v (omega arith)) in
+    cc
+
+-- the same of two lists
+mapped_two : {A B C : Type 0} (f : A → B → C) (xs : List A) (ys : List B) (zs : List C)
+    → length ys ≡ length xs → length zs ≡ length xs
+    → ((k : ℕ) (x : A) (y : B) (z : C) → k < length xs → get_or zs k z ≡ f (get_or xs k x) (get_or ys k y))
+    → zs ≡ zip2 f xs ys
+mapped_two f [] ys [] seconds same each = refl
+mapped_two f [] ys (z ∷ zs) seconds same each = absurd (omega arith)
+mapped_two f (x ∷ xs) [] zs seconds same each = absurd (omega arith)
+mapped_two f (x ∷ xs) (y ∷ ys) [] seconds same each = absurd (omega arith)
+mapped_two f (x ∷ xs) (y ∷ ys) (z ∷ zs) seconds same each =
+    let first = each 0 x y z (omega arith) in
+    let rest = mapped_two f xs ys zs (omega arith) (omega arith)
+    (λ k u v w below. each (suc k) u v w (omega arith)) in
+    cc
+
+-- the same of three lists
+mapped_three : {A B C D : Type 0} (f : A → B → C → D) (xs : List A) (ys : List B) (zs : List C) (us : List D)
+    → length ys ≡ length xs → length zs ≡ length xs → length us ≡ length xs
+    → ((k : ℕ) (x : A) (y : B) (z : C) (u : D) → k < length xs
+    → get_or us k u ≡ f (get_or xs k x) (get_or ys k y) (get_or zs k z))
+    → us ≡ zip3 f xs ys zs
+mapped_three f [] ys zs [] seconds thirds same each = refl
+mapped_three f [] ys zs (u ∷ us) seconds thirds same each = absurd (omega arith)
+mapped_three f (x ∷ xs) [] zs us seconds thirds same each = absurd (omega arith)
+mapped_three f (x ∷ xs) (y ∷ ys) [] us seconds thirds same each = absurd (omega arith)
+mapped_three f (x ∷ xs) (y ∷ ys) (z ∷ zs) [] seconds thirds same each = absurd (omega arith)
+mapped_three f (x ∷ xs) (y ∷ ys) (z ∷ zs) (u ∷ us) seconds thirds same each =
+    let first = each 0 x y z u (omega arith) in
+    let rest = mapped_three f xs ys zs us (omega arith) (omega arith) (omega arith)
+    (λ k a b c d below. each (suc k) a b c d (omega arith)) in
+    cc
+
+-- an array is written where each element is what the function gives
+pub each_written : {A B : Type 0} (f : A → B) (a : List A) (old new : List B) → length old ≡ length a
+    → length new ≡ length old
+    → ((k : ℕ) (x : A) (y : B) → k < length a → get_or new k y ≡ f (get_or a k x))
+    → Leaves (each_of f a (length old)) old new 0
+unfolding each_of
+each_written f a old new same kept each =
+    written (length old == length a) (map f a) old new (search (rules, tests)) (mapped f a new (omega arith) each)
+
+-- one of another length isn't
+pub each_refused : {A B : Type 0} (f : A → B) (a : List A) (old new : List B) (status : ℕ)
+    → length old ≢ length a → status ≡ 254 → new ≡ old → Leaves (each_of f a (length old)) old new status
+unfolding each_of
+each_refused f a old new status differs unequal kept =
+    refused (length old == length a) (map f a) old new status (search (rules, tests)) unequal kept
+
+-- an array is written where each element is what the function gives of the elements of two arrays
+pub each_two_written : {A B C : Type 0} (f : A → B → C) (a : List A) (b : List B) (old new : List C)
+    → length b ≡ length a → length old ≡ length a → length new ≡ length old
+    → ((k : ℕ) (x : A) (y : B) (z : C) → k < length a → get_or new k z ≡ f (get_or a k x) (get_or b k y))
+    → Leaves (each_of_two f a b (length old)) old new 0
+unfolding each_of_two
+each_two_written f a b old new seconds same kept each =
+    written ((length b == length a) && (length old == length a)) (zip2 f a b) old new (search (rules, tests))
+    (mapped_two f a b new seconds (omega arith) each)
+
+-- one isn't where a length is another
+pub each_two_refused : {A B C : Type 0} (f : A → B → C) (a : List A) (b : List B) (old new : List C) (status : ℕ)
+    → (length b ≢ length a) ⊎ (length old ≢ length a) → status ≡ 254 → new ≡ old
+    → Leaves (each_of_two f a b (length old)) old new status
+unfolding each_of_two
+each_two_refused f a b old new status differs unequal kept =
+    refused ((length b == length a) && (length old == length a)) (zip2 f a b) old new status
+    (search (rules, tests)) unequal kept
+
+-- an array is written where each element is what the function gives of the elements of three arrays
+pub each_three_written : {A B C D : Type 0} (f : A → B → C → D) (a : List A) (b : List B) (c : List C)
+    (old new : List D) → length b ≡ length a → length c ≡ length a → length old ≡ length a → length new ≡ length old
+    → ((k : ℕ) (x : A) (y : B) (z : C) (u : D) → k < length a
+    → get_or new k u ≡ f (get_or a k x) (get_or b k y) (get_or c k z))
+    → Leaves (each_of_three f a b c (length old)) old new 0
+unfolding each_of_three
+each_three_written f a b c old new seconds thirds same kept each =
+    written ((length b == length a) && (length c == length a) && (length old == length a)) (zip3 f a b c) old new
+    (search (rules, tests)) (mapped_three f a b c new seconds thirds (omega arith) each)
+
+-- one isn't where a length is another
+pub each_three_refused : {A B C D : Type 0} (f : A → B → C → D) (a : List A) (b : List B) (c : List C)
+    (old new : List D) (status : ℕ) → (length b ≢ length a) ⊎ (length c ≢ length a) ⊎ (length old ≢ length a)
+    → status ≡ 254 → new ≡ old → Leaves (each_of_three f a b c (length old)) old new status
+unfolding each_of_three
+each_three_refused f a b c old new status differs unequal kept =
+    refused ((length b == length a) && (length c == length a) && (length old == length a)) (zip3 f a b c) old new status
+    (search (rules, tests)) unequal kept
+
+-- what an array of results is left with
+pub ruleset arrays =
+    (each_written, each_refused, each_two_written, each_two_refused, each_three_written, each_three_refused)

@@ -1,0 +1,9 @@
+use Rattle.std.proofs.Common.{◌≡◌, ℕ, ◌<◌, get_or}
+use Rattle.wasmi_c.specs.Instruction.Unary.{unary_value}
+use Rattle.wasmi_raw.specs.declared.raw.RawVal.{RawVal}
+use Rattle.wasmi_c.proofs.instruction.unary.Unary.each.Given as goal
+
+abbrev pub invariant-loop-i : goal.invariant-loop-i
+invariant-loop-i l =
+    (k : ℕ) (x y : RawVal) → k < l.i
+    → get_or l.values k y ≡ unary_value l.self (get_or l.a k x)

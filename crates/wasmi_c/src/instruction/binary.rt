@@ -1,0 +1,104 @@
+//! The instructions of two operands.
+ghost use Rattle.std.specs.Prelude.{◌≡◌, length};
+ghost use Rattle.wasmi_c.specs.Instruction.Calls.{Leaves, each_of_two};
+ghost use Rattle.wasmi_c.specs.Instruction.Binary.{binary_numbered, binary_outcome, binary_result, binary_results, binary_value};
+
+use crate::instruction::list::numbered;
+use crate::instruction::numbers::{BINARY_INSTRUCTIONS, binary_numbers};
+use crate::instruction::refusal::Refusal;
+use crate::instruction::result::{InstructionResult, or_trap, result_of};
+use crate::instruction::rows::op_once;
+use crate::status::DONE;
+use wasmi_ops::{BinaryOp, ScalarBinaryOp, ShiftOp};
+use wasmi_raw::{RawVal, ReadAs};
+use wasmi_types::TrapCode;
+
+/// An instruction of two operands.
+#[derive(Clone, Copy)]
+pub enum Binary {
+    /// It takes two items and gives an item. Operands and results of 128 bits take both words.
+    Scalar(ScalarBinaryOp),
+    /// It takes two vectors and gives a vector.
+    Vector(BinaryOp),
+    /// It takes a vector and an amount of 32 bits, and gives a vector.
+    Shift(ShiftOp),
+}
+
+impl Binary {
+    #[inline(always)]
+    fn apply(self, a: RawVal, b: RawVal) -> Result<RawVal, TrapCode>
+        ensures { result ≡ binary_value self a b }
+    {
+        match self {
+            Binary::Scalar(op) => op.apply(a, b),
+            Binary::Vector(op) => Ok(op.apply(a.into(), b.into()).into()),
+            Binary::Shift(op) => Ok(op.apply(a.into(), b.read_as()).into()),
+        }
+    }
+
+    #[inline(always)]
+    #[tactic(auto, unfolding(crate::specs::Instruction::Binary::binary_outcome))]
+    fn outcome(self, a: RawVal, b: RawVal) -> InstructionResult
+        ensures { result ≡ binary_outcome self a b }
+    {
+        result_of(self.apply(a, b))
+    }
+
+    // The code of each instruction has its own loop.
+    #[inline(always)]
+    #[tactic(auto, using(crate::proofs::InstructionLemmas::arrays))]
+    fn each(self, a: &[RawVal], b: &[RawVal], results: &mut [InstructionResult]) -> u8
+        ensures { Leaves (each_of_two (binary_outcome self) a.now b.now (length results.old))
+            results.old results.new result }
+    {
+        if b.len() != a.len() || results.len() != a.len() {
+            return Refusal::LengthsDiffer.into();
+        }
+        for i in 0..a.len() {
+            results[i] = self.outcome(a[i], b[i]);
+        }
+        DONE
+    }
+}
+
+/// The instruction that has a number, if there is one.
+#[tactic(auto, unfolding(crate::specs::Instruction::Binary::binary_numbered))]
+pub fn binary_numbered(number: u16) -> Option<Binary>
+    ensures { result ≡ binary_numbered number }
+{
+    numbered(&BINARY_INSTRUCTIONS, number)
+}
+
+/// What the instruction of a number gives. The refusals are `Unknown` and the instruction's trap.
+pub fn binary_result(number: u16, a: RawVal, b: RawVal) -> Result<RawVal, Refusal>
+    ensures { result ≡ binary_result number a b }
+{
+    let op = binary_numbered(number).ok_or(Refusal::Unknown)?;
+    or_trap(op.apply(a, b))
+}
+
+/// Writes what the instruction of a number gives for each two elements of two arrays, or its trap,
+/// and returns 0; 255 if there is none; or 254 if the arrays differ in length. After 254 and 255
+/// nothing is written.
+pub fn binary_each(
+    number: u16,
+    a: &[RawVal],
+    b: &[RawVal],
+    results: &mut [InstructionResult],
+) -> u8
+    ensures { Leaves (binary_results number a.now b.now (length results.old))
+        results.old results.new result }
+{
+    match binary_numbered(number) {
+        Some(op) => each_by_op(op, a, b, results),
+        None => Refusal::Unknown.into(),
+    }
+}
+
+// The instruction is looked at once, and not at each element.
+fn each_by_op(op: Binary, a: &[RawVal], b: &[RawVal], results: &mut [InstructionResult]) -> u8
+    ensures { Leaves (each_of_two (binary_outcome op) a.now b.now (length results.old))
+        results.old results.new result }
+{
+    binary_numbers!(op_once! op Binary each(a, b, results))
+}

@@ -1,0 +1,175 @@
+//! The instructions on one lane.
+ghost use Rattle.std.specs.Prelude.{◌≡◌, ◌+◌, length};
+ghost use Rattle.wasmi_c.specs.Instruction.Calls.{Leaves, each_of, each_of_two};
+ghost use Rattle.wasmi_c.specs.Instruction.Lanes.{extract_result, extract_results, extracted_value, extraction_of, lane_load_of, lane_store_of, load_lane_result, replace_result, replace_results, replaced_value, replacement_of, store_lane_result};
+
+use crate::instruction::list::op_numbered;
+use crate::instruction::refusal::Refusal;
+use crate::status::DONE;
+use wasmi_ops::{
+    EXTRACTIONS, ExtractOp, LANE_LOADS, LANE_STORES, LoadLaneOp, REPLACEMENTS, ReplaceOp,
+    StoreLaneOp,
+};
+use wasmi_raw::RawVal;
+
+/// The extraction that has a number, at the lane of an index.
+#[tactic(auto, unfolding(crate::specs::Instruction::Lanes::extraction_of))]
+pub fn extraction(number: u16, lane: u8) -> Result<ExtractOp, Refusal>
+    ensures { result ≡ extraction_of number lane }
+{
+    let kind = op_numbered(&EXTRACTIONS, number).ok_or(Refusal::Unknown)?;
+    kind.on(lane).ok_or(Refusal::NoLane)
+}
+
+/// The replacement that has a number, at the lane of an index.
+#[tactic(auto, unfolding(crate::specs::Instruction::Lanes::replacement_of))]
+pub fn replacement(number: u16, lane: u8) -> Result<ReplaceOp, Refusal>
+    ensures { result ≡ replacement_of number lane }
+{
+    let kind = op_numbered(&REPLACEMENTS, number).ok_or(Refusal::Unknown)?;
+    kind.on(lane).ok_or(Refusal::NoLane)
+}
+
+/// The load of a lane that has a number, at the lane of an index.
+#[tactic(auto, unfolding(crate::specs::Instruction::Lanes::lane_load_of))]
+pub fn lane_load(number: u16, lane: u8) -> Result<LoadLaneOp, Refusal>
+    ensures { result ≡ lane_load_of number lane }
+{
+    let kind = op_numbered(&LANE_LOADS, number).ok_or(Refusal::Unknown)?;
+    kind.on(lane).ok_or(Refusal::NoLane)
+}
+
+/// The store of a lane that has a number, at the lane of an index.
+#[tactic(auto, unfolding(crate::specs::Instruction::Lanes::lane_store_of))]
+pub fn lane_store(number: u16, lane: u8) -> Result<StoreLaneOp, Refusal>
+    ensures { result ≡ lane_store_of number lane }
+{
+    let kind = op_numbered(&LANE_STORES, number).ok_or(Refusal::Unknown)?;
+    kind.on(lane).ok_or(Refusal::NoLane)
+}
+
+fn extracted(op: &ExtractOp, a: RawVal) -> RawVal
+    ensures { result ≡ extracted_value op.now a }
+{
+    op.apply(a.into())
+}
+
+#[tactic(auto, unfolding(crate::specs::Instruction::Lanes::replaced_value))]
+fn replaced(op: &ReplaceOp, a: RawVal, item: RawVal) -> RawVal
+    ensures { result ≡ replaced_value op.now a item }
+{
+    op.apply(a.into(), item).into()
+}
+
+/// The lane of a vector that the extraction of a number takes. The refusals are `Unknown`, then
+/// `NoLane`.
+pub fn extract_result(number: u16, lane: u8, a: RawVal) -> Result<RawVal, Refusal>
+    ensures { result ≡ extract_result number lane a }
+{
+    let op = extraction(number, lane)?;
+    Ok(extracted(&op, a))
+}
+
+/// Writes the lane of each vector of an array, and returns 0; 255 if no extraction has the number;
+/// 253 if no lane has the index; or 254 if the arrays differ in length. After 253, 254 and 255
+/// nothing is written.
+pub fn extract_each(number: u16, lane: u8, a: &[RawVal], values: &mut [RawVal]) -> u8
+    ensures { Leaves (extract_results number lane a.now (length values.old))
+        values.old values.new result }
+{
+    match extraction(number, lane) {
+        Ok(op) => extract_each_by_op(&op, a, values),
+        Err(refusal) => refusal.into(),
+    }
+}
+
+#[tactic(auto, using(crate::proofs::InstructionLemmas::arrays))]
+fn extract_each_by_op(op: &ExtractOp, a: &[RawVal], values: &mut [RawVal]) -> u8
+    ensures { Leaves (each_of (extracted_value op.now) a.now (length values.old))
+        values.old values.new result }
+{
+    if values.len() != a.len() {
+        return Refusal::LengthsDiffer.into();
+    }
+    for i in 0..a.len() {
+        values[i] = extracted(op, a[i]);
+    }
+    DONE
+}
+
+/// A vector with a lane replaced by an item, by the replacement of a number. The refusals are
+/// `Unknown`, then `NoLane`.
+pub fn replace_result(number: u16, lane: u8, a: RawVal, item: RawVal) -> Result<RawVal, Refusal>
+    ensures { result ≡ replace_result number lane a item }
+{
+    let op = replacement(number, lane)?;
+    Ok(replaced(&op, a, item))
+}
+
+/// Writes each vector of an array with a lane replaced by the item at its index, and returns 0; 255
+/// if no replacement has the number; 253 if no lane has the index; or 254 if the arrays differ in
+/// length. After 253, 254 and 255 nothing is written.
+pub fn replace_each(
+    number: u16,
+    lane: u8,
+    a: &[RawVal],
+    items: &[RawVal],
+    values: &mut [RawVal],
+) -> u8
+    ensures { Leaves (replace_results number lane a.now items.now (length values.old))
+        values.old values.new result }
+{
+    match replacement(number, lane) {
+        Ok(op) => replace_each_by_op(&op, a, items, values),
+        Err(refusal) => refusal.into(),
+    }
+}
+
+#[tactic(auto, using(crate::proofs::InstructionLemmas::arrays))]
+fn replace_each_by_op(op: &ReplaceOp, a: &[RawVal], items: &[RawVal], values: &mut [RawVal]) -> u8
+    ensures { Leaves (each_of_two (replaced_value op.now) a.now items.now (length values.old))
+        values.old values.new result }
+{
+    if items.len() != a.len() || values.len() != a.len() {
+        return Refusal::LengthsDiffer.into();
+    }
+    for i in 0..a.len() {
+        values[i] = replaced(op, a[i], items[i]);
+    }
+    DONE
+}
+
+/// A vector with a lane loaded from `ptr + offset`, by the load of a number. The refusals are
+/// `Unknown`, then `NoLane`, then the trap past the end.
+pub fn load_lane_result(
+    number: u16,
+    lane: u8,
+    memory: &[u8],
+    ptr: u64,
+    offset: u64,
+    a: RawVal,
+) -> Result<RawVal, Refusal>
+    ensures { result ≡ load_lane_result number lane memory.now (ptr + offset) a }
+{
+    let op = lane_load(number, lane)?;
+    match op.load(memory, ptr, offset, a.into()) {
+        Ok(vector) => Ok(vector.into()),
+        Err(trap) => Err(Refusal::Trap(trap)),
+    }
+}
+
+/// Stores a lane of a vector at `ptr + offset`. Returns 0; 255 if no store of a lane has the
+/// number; 253 if no lane has the index; or the number of the trap past the end. After any status
+/// except 0 nothing is written.
+pub fn store_lane(number: u16, lane: u8, memory: &mut [u8], ptr: u64, offset: u64, a: RawVal) -> u8
+    ensures { Leaves (store_lane_result number lane memory.old (ptr + offset) a)
+        memory.old memory.new result }
+{
+    match lane_store(number, lane) {
+        Ok(op) => match op.store(memory, ptr, offset, a.into()) {
+            Ok(()) => DONE,
+            Err(trap) => u8::from(trap),
+        },
+        Err(refusal) => refusal.into(),
+    }
+}

@@ -1,0 +1,21 @@
+//! Lists of instructions.
+ghost use Rattle.std.specs.Prelude.{◌≡◌, slice_get};
+ghost use Rattle.wasmi_c.specs.Instruction.Calls.{op_numbered};
+
+/// The instruction at a place of a list, if it isn't past its end.
+pub fn numbered<Op: Copy>(list: &[Op], number: u16) -> Option<Op>
+    ensures { result ≡ slice_get list.now number }
+{
+    list.get(usize::from(number)).copied()
+}
+
+/// The instruction at a place of a list of names with their instructions, if it isn't past its end.
+#[tactic(auto, unfolding(crate::specs::Instruction::Calls::op_numbered))]
+pub fn op_numbered<Op: Copy>(list: &[(&str, Op)], number: u16) -> Option<Op>
+    ensures { result ≡ op_numbered list.now number }
+{
+    match list.get(usize::from(number)) {
+        Some((_, op)) => Some(*op),
+        None => None,
+    }
+}

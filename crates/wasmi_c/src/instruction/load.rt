@@ -1,0 +1,109 @@
+//! The loads.
+ghost use Rattle.std.specs.Prelude.{◌≡◌, ◌+◌, length};
+ghost use Rattle.wasmi_c.specs.Instruction.Calls.{Leaves, each_of};
+ghost use Rattle.wasmi_c.specs.Instruction.Accesses.{load_numbered, load_outcome, load_result, load_results, loaded_value};
+
+use crate::instruction::list::numbered;
+use crate::instruction::numbers::{LOAD_INSTRUCTIONS, load_numbers};
+use crate::instruction::refusal::Refusal;
+use crate::instruction::result::{InstructionResult, or_trap, result_of};
+use crate::instruction::rows::op_once;
+use crate::status::DONE;
+use wasmi_ops::{LoadOp, VectorLoadOp};
+use wasmi_raw::RawVal;
+use wasmi_types::TrapCode;
+
+/// A load instruction.
+#[derive(Clone, Copy)]
+pub enum Load {
+    /// A load of an item.
+    Scalar(LoadOp),
+    /// A load of a vector.
+    Vector(VectorLoadOp),
+}
+
+impl Load {
+    #[inline(always)]
+    fn load(self, memory: &[u8], ptr: u64, offset: u64) -> Result<RawVal, TrapCode>
+        ensures { result ≡ loaded_value self memory.now (ptr + offset) }
+    {
+        match self {
+            Load::Scalar(op) => op.load(memory, ptr, offset),
+            Load::Vector(op) => Ok(op.load(memory, ptr, offset)?.into()),
+        }
+    }
+
+    #[inline(always)]
+    #[tactic(auto, unfolding(crate::specs::Instruction::Accesses::load_outcome))]
+    fn outcome(self, memory: &[u8], offset: u64, ptr: u64) -> InstructionResult
+        ensures { result ≡ load_outcome self memory.now offset ptr }
+    {
+        result_of(self.load(memory, ptr, offset))
+    }
+
+    // The code of each instruction has its own loop.
+    #[inline(always)]
+    #[tactic(auto, using(crate::proofs::InstructionLemmas::arrays))]
+    fn each(self, memory: &[u8], ptrs: &[u64], offset: u64, results: &mut [InstructionResult]) -> u8
+        ensures { Leaves (each_of (load_outcome self memory.now offset) ptrs.now
+            (length results.old)) results.old results.new result }
+    {
+        if results.len() != ptrs.len() {
+            return Refusal::LengthsDiffer.into();
+        }
+        for i in 0..ptrs.len() {
+            results[i] = self.outcome(memory, offset, ptrs[i]);
+        }
+        DONE
+    }
+}
+
+/// The load that has a number, if there is one.
+#[tactic(auto, unfolding(crate::specs::Instruction::Accesses::load_numbered))]
+pub fn load_numbered(number: u16) -> Option<Load>
+    ensures { result ≡ load_numbered number }
+{
+    numbered(&LOAD_INSTRUCTIONS, number)
+}
+
+/// What the load of a number gives from `ptr + offset`. The refusals are `Unknown` and the trap past
+/// the end.
+pub fn load_result(number: u16, memory: &[u8], ptr: u64, offset: u64) -> Result<RawVal, Refusal>
+    ensures { result ≡ load_result number memory.now (ptr + offset) }
+{
+    let op = load_numbered(number).ok_or(Refusal::Unknown)?;
+    or_trap(op.load(memory, ptr, offset))
+}
+
+/// Writes what the load of a number gives from each pointer of an array, plus the offset, or its
+/// trap, and returns 0; 255 if there is none; or 254 if the arrays differ in length. After 254 and
+/// 255 nothing is written.
+pub fn load_each(
+    number: u16,
+    memory: &[u8],
+    ptrs: &[u64],
+    offset: u64,
+    results: &mut [InstructionResult],
+) -> u8
+    ensures { Leaves (load_results number memory.now ptrs.now offset (length results.old))
+        results.old results.new result }
+{
+    match load_numbered(number) {
+        Some(op) => each_by_op(op, memory, ptrs, offset, results),
+        None => Refusal::Unknown.into(),
+    }
+}
+
+// The load is looked at once, and not at each element.
+fn each_by_op(
+    op: Load,
+    memory: &[u8],
+    ptrs: &[u64],
+    offset: u64,
+    results: &mut [InstructionResult],
+) -> u8
+    ensures { Leaves (each_of (load_outcome op memory.now offset) ptrs.now (length results.old))
+        results.old results.new result }
+{
+    load_numbers!(op_once! op Load each(memory, ptrs, offset, results))
+}

@@ -1,0 +1,110 @@
+//! What an instruction gives, as C reads it.
+ghost use Rattle.std.specs.Prelude.{◌≡◌, MatchResult};
+ghost use Rattle.wasmi_types.specs.Trap.{code_number};
+ghost use Rattle.wasmi_raw.specs.RawVal.{raw_of_vector};
+ghost use Rattle.wasmi_ops.specs.RawResults.{as_raw};
+ghost use Rattle.wasmi_c.specs.Status.{done_status};
+ghost use Rattle.wasmi_c.specs.Instruction.Calls.{Leaves, or_trap};
+ghost use Rattle.wasmi_c.specs.Instruction.Results.{result_of};
+
+use crate::instruction::refusal::Refusal;
+use crate::status::DONE;
+use wasmi_raw::{RawVal, V128};
+use wasmi_types::TrapCode;
+
+/// What an instruction gives for one element of an array.
+#[repr(C)]
+#[derive(Clone, Copy)]
+pub struct InstructionResult {
+    /// The value, or 0 if the instruction traps.
+    pub value: RawVal,
+    /// 0, or the number of the trap.
+    pub status: u8,
+}
+
+/// The result with a value, or with the number of a trap.
+pub fn result_of(given: Result<RawVal, TrapCode>) -> InstructionResult
+    ensures { result ≡ result_of given }
+{
+    match given {
+        Ok(value) => InstructionResult {
+            value,
+            status: DONE,
+        },
+        Err(trap) => InstructionResult {
+            value: RawVal::from_bits64(0),
+            status: u8::from(trap),
+        },
+    }
+}
+
+/// What an instruction gives, with its trap as a refusal.
+pub fn or_trap<T>(given: Result<T, TrapCode>) -> Result<T, Refusal>
+    ensures { result ≡ or_trap given }
+{
+    match given {
+        Ok(value) => Ok(value),
+        Err(trap) => Err(Refusal::Trap(trap)),
+    }
+}
+
+/// Writes the value that a call gives, or nothing if it is refused, and returns the status.
+pub fn leave(given: Result<RawVal, Refusal>, value: &mut RawVal) -> u8
+    ensures { Leaves given value.old value.new result }
+{
+    match given {
+        Ok(new) => {
+            // By its words, since LLVM would copy it as a whole through memory.
+            value.lo = new.lo;
+            value.hi = new.hi;
+            DONE
+        }
+        Err(refusal) => refusal.into(),
+    }
+}
+
+/// Writes the item that an instruction gives, or nothing if it traps, and returns the status.
+#[inline(always)]
+pub fn leave_item<T: Copy>(given: Result<T, TrapCode>, value: &mut T) -> u8
+    ensures { Leaves (or_trap given) value.old value.new result }
+{
+    match given {
+        Ok(new) => {
+            *value = new;
+            DONE
+        }
+        Err(trap) => u8::from(trap),
+    }
+}
+
+/// Writes the vector that an instruction gives, or nothing if it traps, and returns the status.
+#[inline(always)]
+pub fn leave_vector(given: Result<V128, TrapCode>, value: &mut RawVal) -> u8
+    ensures { Leaves (or_trap (as_raw raw_of_vector given)) value.old value.new result }
+{
+    match given {
+        Ok(new) => leave(Ok(new.into()), value),
+        Err(trap) => u8::from(trap),
+    }
+}
+
+/// Writes two words.
+#[inline(always)]
+pub fn leave_pair(given: (i64, i64), lo: &mut i64, hi: &mut i64)
+    ensures low { lo.new ≡ given.0 }
+    ensures high { hi.new ≡ given.1 }
+{
+    *lo = given.0;
+    *hi = given.1;
+}
+
+/// The status of an instruction without a value.
+#[inline(always)]
+pub fn status_of(given: Result<(), TrapCode>) -> u8
+    ensures { MatchResult given (λ _. result ≡ done_status) (λ trap. result ≡ code_number trap) }
+{
+    match given {
+        Ok(()) => DONE,
+        Err(trap) => u8::from(trap),
+    }
+}

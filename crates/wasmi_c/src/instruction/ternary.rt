@@ -1,0 +1,65 @@
+//! The instructions of three vectors.
+ghost use Rattle.std.specs.Prelude.{◌≡◌, length};
+ghost use Rattle.wasmi_c.specs.Instruction.Calls.{Leaves, each_of_three, op_numbered};
+ghost use Rattle.wasmi_c.specs.Instruction.Ternary.{ternary_result, ternary_results, ternary_value};
+ghost use Rattle.wasmi_ops.specs.declared.vector.ternary.TheConstants.{TERNARIES};
+
+use crate::instruction::list::op_numbered;
+use crate::instruction::refusal::Refusal;
+use crate::status::DONE;
+use wasmi_ops::{TERNARIES, TernaryOp};
+use wasmi_raw::RawVal;
+
+fn apply(op: TernaryOp, a: RawVal, b: RawVal, c: RawVal) -> RawVal
+    ensures { result ≡ ternary_value op a b c }
+{
+    op.apply(a.into(), b.into(), c.into()).into()
+}
+
+/// The instruction that has a number, if there is one.
+pub fn ternary_numbered(number: u16) -> Option<TernaryOp>
+    ensures { result ≡ op_numbered TERNARIES number }
+{
+    op_numbered(&TERNARIES, number)
+}
+
+/// What the instruction of a number gives. The only refusal is `Unknown`.
+pub fn ternary_result(number: u16, a: RawVal, b: RawVal, c: RawVal) -> Result<RawVal, Refusal>
+    ensures { result ≡ ternary_result number a b c }
+{
+    let op = ternary_numbered(number).ok_or(Refusal::Unknown)?;
+    Ok(apply(op, a, b, c))
+}
+
+/// Writes what the instruction of a number gives for each three elements of three arrays, and
+/// returns 0; 255 if there is none; or 254 if the arrays differ in length. After 254 and 255 nothing
+/// is written.
+pub fn ternary_each(
+    number: u16,
+    a: &[RawVal],
+    b: &[RawVal],
+    c: &[RawVal],
+    values: &mut [RawVal],
+) -> u8
+    ensures { Leaves (ternary_results number a.now b.now c.now (length values.old))
+        values.old values.new result }
+{
+    match ternary_numbered(number) {
+        Some(op) => each(op, a, b, c, values),
+        None => Refusal::Unknown.into(),
+    }
+}
+
+#[tactic(auto, using(crate::proofs::InstructionLemmas::arrays))]
+fn each(op: TernaryOp, a: &[RawVal], b: &[RawVal], c: &[RawVal], values: &mut [RawVal]) -> u8
+    ensures { Leaves (each_of_three (ternary_value op) a.now b.now c.now (length values.old))
+        values.old values.new result }
+{
+    if b.len() != a.len() || c.len() != a.len() || values.len() != a.len() {
+        return Refusal::LengthsDiffer.into();
+    }
+    for i in 0..a.len() {
+        values[i] = apply(op, a[i], b[i], c[i]);
+    }
+    DONE
+}

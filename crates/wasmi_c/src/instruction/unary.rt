@@ -1,0 +1,90 @@
+//! The instructions of one operand.
+ghost use Rattle.std.specs.Prelude.{◌≡◌, length};
+ghost use Rattle.wasmi_c.specs.Instruction.Calls.{Leaves, each_of};
+ghost use Rattle.wasmi_c.specs.Instruction.Unary.{unary_numbered, unary_result, unary_results, unary_value};
+
+use crate::instruction::list::numbered;
+use crate::instruction::numbers::{UNARY_INSTRUCTIONS, unary_numbers};
+use crate::instruction::refusal::Refusal;
+use crate::instruction::rows::op_once;
+use crate::status::DONE;
+use wasmi_ops::{MakeOp, ScalarUnaryOp, TestOp, UnaryOp};
+use wasmi_raw::RawVal;
+
+/// An instruction of one operand.
+#[derive(Clone, Copy)]
+pub enum Unary {
+    /// It takes an item and gives an item.
+    Scalar(ScalarUnaryOp),
+    /// It takes an item and gives a vector.
+    Make(MakeOp),
+    /// It takes a vector and gives a vector.
+    Vector(UnaryOp),
+    /// It takes a vector and gives a Boolean or a mask.
+    Test(TestOp),
+}
+
+impl Unary {
+    #[inline(always)]
+    fn apply(self, a: RawVal) -> RawVal
+        ensures { result ≡ unary_value self a }
+    {
+        match self {
+            Unary::Scalar(op) => op.apply(a),
+            Unary::Make(op) => op.apply(a).into(),
+            Unary::Vector(op) => op.apply(a.into()).into(),
+            Unary::Test(op) => op.apply(a.into()),
+        }
+    }
+
+    // The code of each instruction has its own loop.
+    #[inline(always)]
+    #[tactic(auto, using(crate::proofs::InstructionLemmas::arrays))]
+    fn each(self, a: &[RawVal], values: &mut [RawVal]) -> u8
+        ensures { Leaves (each_of (unary_value self) a.now (length values.old))
+            values.old values.new result }
+    {
+        if values.len() != a.len() {
+            return Refusal::LengthsDiffer.into();
+        }
+        for i in 0..a.len() {
+            values[i] = self.apply(a[i]);
+        }
+        DONE
+    }
+}
+
+/// The instruction that has a number, if there is one.
+#[tactic(auto, unfolding(crate::specs::Instruction::Unary::unary_numbered))]
+pub fn unary_numbered(number: u16) -> Option<Unary>
+    ensures { result ≡ unary_numbered number }
+{
+    numbered(&UNARY_INSTRUCTIONS, number)
+}
+
+/// What the instruction of a number gives. The only refusal is `Unknown`.
+pub fn unary_result(number: u16, a: RawVal) -> Result<RawVal, Refusal>
+    ensures { result ≡ unary_result number a }
+{
+    let op = unary_numbered(number).ok_or(Refusal::Unknown)?;
+    Ok(op.apply(a))
+}
+
+/// Writes what the instruction of a number gives for each element of an array, and returns 0; 255
+/// if there is none; or 254 if the arrays differ in length. After 254 and 255 nothing is written.
+pub fn unary_each(number: u16, a: &[RawVal], values: &mut [RawVal]) -> u8
+    ensures { Leaves (unary_results number a.now (length values.old)) values.old values.new result }
+{
+    match unary_numbered(number) {
+        Some(op) => each_by_op(op, a, values),
+        None => Refusal::Unknown.into(),
+    }
+}
+
+// The instruction is looked at once, and not at each element.
+fn each_by_op(op: Unary, a: &[RawVal], values: &mut [RawVal]) -> u8
+    ensures { Leaves (each_of (unary_value op) a.now (length values.old))
+        values.old values.new result }
+{
+    unary_numbers!(op_once! op Unary each(a, values))
+}

@@ -1,0 +1,226 @@
+//! Each instruction by its number, on values and on arrays.
+ghost use Rattle.std.specs.Prelude.{◌+◌, length};
+ghost use Rattle.wasmi_c.specs.Instruction.Calls.{Leaves};
+ghost use Rattle.wasmi_c.specs.Instruction.Unary.{unary_result, unary_results};
+ghost use Rattle.wasmi_c.specs.Instruction.Binary.{binary_result, binary_results};
+ghost use Rattle.wasmi_c.specs.Instruction.Ternary.{ternary_result, ternary_results};
+ghost use Rattle.wasmi_c.specs.Instruction.Accesses.{load_result, load_results, store_result};
+ghost use Rattle.wasmi_c.specs.Instruction.Lanes.{extract_result, extract_results, load_lane_result, replace_result, replace_results, store_lane_result};
+
+use wasmi_c::instruction::result::{InstructionResult, leave};
+use wasmi_c::instruction::{binary, lanes, load, store, ternary, unary};
+use wasmi_raw::RawVal;
+
+/// Gives the result of the instruction of one operand that has the number. Returns 0, or 255 if
+/// there is none; then nothing is written.
+#[unsafe(no_mangle)]
+pub extern "C" fn wasmi_unary(number: u16, a: RawVal, value: &mut RawVal) -> u8
+    ensures { Leaves (unary_result number a) value.old value.new result }
+{
+    leave(unary::unary_result(number, a), value)
+}
+
+/// As `wasmi_unary` on each element of an array. Returns 254 if the arrays differ in length, which
+/// is tested last; then nothing is written.
+#[unsafe(no_mangle)]
+pub extern "C" fn wasmi_unary_each(number: u16, a: &[RawVal], values: &mut [RawVal]) -> u8
+    ensures { Leaves (unary_results number a.now (length values.old)) values.old values.new result }
+{
+    unary::unary_each(number, a, values)
+}
+
+/// Gives the result of the instruction of two operands that has the number. Returns 0; 255 if there
+/// is none; or the number of its trap. After any status except 0 nothing is written.
+#[unsafe(no_mangle)]
+pub extern "C" fn wasmi_binary(number: u16, a: RawVal, b: RawVal, value: &mut RawVal) -> u8
+    ensures { Leaves (binary_result number a b) value.old value.new result }
+{
+    leave(binary::binary_result(number, a, b), value)
+}
+
+/// As `wasmi_binary` on each two elements of two arrays; each result has its own trap. Returns 0;
+/// 255 if no instruction has the number; or 254 if the arrays differ in length. After 254 and 255
+/// nothing is written.
+#[unsafe(no_mangle)]
+pub extern "C" fn wasmi_binary_each(
+    number: u16,
+    a: &[RawVal],
+    b: &[RawVal],
+    results: &mut [InstructionResult],
+) -> u8
+    ensures { Leaves (binary_results number a.now b.now (length results.old))
+        results.old results.new result }
+{
+    binary::binary_each(number, a, b, results)
+}
+
+/// Gives the result of the instruction of three vectors that has the number. Returns 0, or 255 if
+/// there is none; then nothing is written.
+#[unsafe(no_mangle)]
+pub extern "C" fn wasmi_ternary(
+    number: u16,
+    a: RawVal,
+    b: RawVal,
+    c: RawVal,
+    value: &mut RawVal,
+) -> u8
+    ensures { Leaves (ternary_result number a b c) value.old value.new result }
+{
+    leave(ternary::ternary_result(number, a, b, c), value)
+}
+
+/// As `wasmi_ternary` on each three elements of three arrays. Returns 254 if the arrays differ in
+/// length, which is tested last; then nothing is written.
+#[unsafe(no_mangle)]
+pub extern "C" fn wasmi_ternary_each(
+    number: u16,
+    a: &[RawVal],
+    b: &[RawVal],
+    c: &[RawVal],
+    values: &mut [RawVal],
+) -> u8
+    ensures { Leaves (ternary_results number a.now b.now c.now (length values.old))
+        values.old values.new result }
+{
+    ternary::ternary_each(number, a, b, c, values)
+}
+
+/// Loads a value from `ptr + offset`, by the load that has the number. Returns 0; 255 if there is
+/// none; or the number of the trap past the end. After any status except 0 nothing is written.
+#[unsafe(no_mangle)]
+pub extern "C" fn wasmi_load(
+    number: u16,
+    memory: &[u8],
+    ptr: u64,
+    offset: u64,
+    value: &mut RawVal,
+) -> u8
+    ensures { Leaves (load_result number memory.now (ptr + offset)) value.old value.new result }
+{
+    leave(load::load_result(number, memory, ptr, offset), value)
+}
+
+/// As `wasmi_load` from each pointer of an array, plus the offset; each result has its own trap.
+/// Returns 0; 255 if no load has the number; or 254 if the arrays differ in length. After 254 and
+/// 255 nothing is written.
+#[unsafe(no_mangle)]
+pub extern "C" fn wasmi_load_each(
+    number: u16,
+    memory: &[u8],
+    ptrs: &[u64],
+    offset: u64,
+    results: &mut [InstructionResult],
+) -> u8
+    ensures { Leaves (load_results number memory.now ptrs.now offset (length results.old))
+        results.old results.new result }
+{
+    load::load_each(number, memory, ptrs, offset, results)
+}
+
+/// Stores a value at `ptr + offset`, by the store that has the number. Returns 0; 255 if there is
+/// none; or the number of the trap past the end. After any status except 0 nothing is written.
+#[unsafe(no_mangle)]
+pub extern "C" fn wasmi_store(
+    number: u16,
+    memory: &mut [u8],
+    ptr: u64,
+    offset: u64,
+    value: RawVal,
+) -> u8
+    ensures { Leaves (store_result number memory.old (ptr + offset) value)
+        memory.old memory.new result }
+{
+    store::store_by_number(number, memory, ptr, offset, value)
+}
+
+/// Extracts a lane of a vector. Returns 0; 255 if no extraction has the number; or 253 if no lane
+/// has the index. After 253 and 255 nothing is written.
+#[unsafe(no_mangle)]
+pub extern "C" fn wasmi_extract_lane(number: u16, lane: u8, a: RawVal, value: &mut RawVal) -> u8
+    ensures { Leaves (extract_result number lane a) value.old value.new result }
+{
+    leave(lanes::extract_result(number, lane, a), value)
+}
+
+/// As `wasmi_extract_lane` on each vector of an array. Returns 254 if the arrays differ in length,
+/// which is tested last; then nothing is written.
+#[unsafe(no_mangle)]
+pub extern "C" fn wasmi_extract_lane_each(
+    number: u16,
+    lane: u8,
+    a: &[RawVal],
+    values: &mut [RawVal],
+) -> u8
+    ensures { Leaves (extract_results number lane a.now (length values.old))
+        values.old values.new result }
+{
+    lanes::extract_each(number, lane, a, values)
+}
+
+/// Replaces a lane of a vector by an item. Returns 0; 255 if no replacement has the number; or 253
+/// if no lane has the index. After 253 and 255 nothing is written.
+#[unsafe(no_mangle)]
+pub extern "C" fn wasmi_replace_lane(
+    number: u16,
+    lane: u8,
+    a: RawVal,
+    item: RawVal,
+    value: &mut RawVal,
+) -> u8
+    ensures { Leaves (replace_result number lane a item) value.old value.new result }
+{
+    leave(lanes::replace_result(number, lane, a, item), value)
+}
+
+/// As `wasmi_replace_lane` on each two elements of two arrays. Returns 254 if the arrays differ in
+/// length, which is tested last; then nothing is written.
+#[unsafe(no_mangle)]
+pub extern "C" fn wasmi_replace_lane_each(
+    number: u16,
+    lane: u8,
+    a: &[RawVal],
+    items: &[RawVal],
+    values: &mut [RawVal],
+) -> u8
+    ensures { Leaves (replace_results number lane a.now items.now (length values.old))
+        values.old values.new result }
+{
+    lanes::replace_each(number, lane, a, items, values)
+}
+
+/// Loads a lane of a vector from `ptr + offset`. Returns 0; 255 if no load of a lane has the
+/// number; 253 if no lane has the index; or the number of the trap past the end. After any status
+/// except 0 nothing is written.
+#[unsafe(no_mangle)]
+pub extern "C" fn wasmi_load_lane(
+    number: u16,
+    lane: u8,
+    memory: &[u8],
+    ptr: u64,
+    offset: u64,
+    a: RawVal,
+    value: &mut RawVal,
+) -> u8
+    ensures { Leaves (load_lane_result number lane memory.now (ptr + offset) a)
+        value.old value.new result }
+{
+    leave(lanes::load_lane_result(number, lane, memory, ptr, offset, a), value)
+}
+
+/// Stores a lane of a vector at `ptr + offset`. Returns 0; 255 if no store of a lane has the
+/// number; 253 if no lane has the index; or the number of the trap past the end. After any status
+/// except 0 nothing is written.
+#[unsafe(no_mangle)]
+pub extern "C" fn wasmi_store_lane(
+    number: u16,
+    lane: u8,
+    memory: &mut [u8],
+    ptr: u64,
+    offset: u64,
+    a: RawVal,
+) -> u8
+    ensures { Leaves (store_lane_result number lane memory.old (ptr + offset) a)
+        memory.old memory.new result }
+{
+    lanes::store_lane(number, lane, memory, ptr, offset, a)
+}

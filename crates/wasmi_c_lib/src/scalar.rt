@@ -1,0 +1,617 @@
+//! The scalar instructions by name. `tools/header` writes this file.
+ghost use Rattle.std.specs.Int.{w8, w16, w32, w64, cast_unsigned, int_wrap};
+ghost use Rattle.std.specs.Prelude.{◌≡◌, ◌*◌, ◌*ℤ◌};
+ghost use Rattle.wasmi_c.specs.Instruction.Calls.{Leaves, or_trap};
+ghost use Rattle.wasmi_scalar.specs.Numerics.{iadd, isub, imul, idiv_s, idiv_u, irem_s, irem_u, iand, ior, ixor, ishl, ishr_s, ishr_u, irotl, irotr, iclz, ictz, ipopcnt, ieqz, ieq, ine, ilt_s, ilt_u, igt_s, igt_u, ile_s, ile_u, ige_s, ige_u};
+ghost use Rattle.wasmi_scalar.specs.Wide.{unsigned_of, signed_of, add128, sub128};
+
+use wasmi_c::instruction::result::{leave_item, leave_pair};
+use wasmi_scalar::wasm;
+
+/// The zeros above the highest bit that is set, 32 for 0.
+#[unsafe(no_mangle)]
+pub extern "C" fn wasm_i32_clz(value: i32) -> i32
+    ensures { result ≡ iclz w32 value }
+{
+    wasm::i32_clz(value)
+}
+
+/// The zeros below the lowest bit that is set, 32 for 0.
+#[unsafe(no_mangle)]
+pub extern "C" fn wasm_i32_ctz(value: i32) -> i32
+    ensures { result ≡ ictz w32 value }
+{
+    wasm::i32_ctz(value)
+}
+
+/// The bits that are set.
+#[unsafe(no_mangle)]
+pub extern "C" fn wasm_i32_popcnt(value: i32) -> i32
+    ensures { result ≡ ipopcnt w32 value }
+{
+    wasm::i32_popcnt(value)
+}
+
+/// Whether the number is 0.
+#[unsafe(no_mangle)]
+pub extern "C" fn wasm_i32_eqz(value: i32) -> bool
+    ensures { result ≡ ieqz value }
+{
+    wasm::i32_eqz(value)
+}
+
+/// The zeros above the highest bit that is set, 64 for 0.
+#[unsafe(no_mangle)]
+pub extern "C" fn wasm_i64_clz(value: i64) -> i64
+    ensures { result ≡ iclz w64 value }
+{
+    wasm::i64_clz(value)
+}
+
+/// The zeros below the lowest bit that is set, 64 for 0.
+#[unsafe(no_mangle)]
+pub extern "C" fn wasm_i64_ctz(value: i64) -> i64
+    ensures { result ≡ ictz w64 value }
+{
+    wasm::i64_ctz(value)
+}
+
+/// The bits that are set.
+#[unsafe(no_mangle)]
+pub extern "C" fn wasm_i64_popcnt(value: i64) -> i64
+    ensures { result ≡ ipopcnt w64 value }
+{
+    wasm::i64_popcnt(value)
+}
+
+/// Whether the number is 0.
+#[unsafe(no_mangle)]
+pub extern "C" fn wasm_i64_eqz(value: i64) -> bool
+    ensures { result ≡ ieqz value }
+{
+    wasm::i64_eqz(value)
+}
+
+/// The low 32 bits.
+#[unsafe(no_mangle)]
+pub extern "C" fn wasm_i32_wrap_i64(value: i64) -> i32
+    ensures { result ≡ int_wrap w32 value }
+{
+    wasm::i32_wrap_i64(value)
+}
+
+/// The same number.
+#[unsafe(no_mangle)]
+pub extern "C" fn wasm_i64_extend_i32_s(value: i32) -> i64
+    ensures { result ≡ value }
+{
+    wasm::i64_extend_i32_s(value)
+}
+
+/// The same number.
+#[unsafe(no_mangle)]
+pub extern "C" fn wasm_i64_extend_i32_u(value: u32) -> u64
+    ensures { result ≡ value }
+{
+    wasm::i64_extend_i32_u(value)
+}
+
+/// The low 8 bits, extended by their sign.
+#[unsafe(no_mangle)]
+pub extern "C" fn wasm_i32_extend8_s(value: i32) -> i32
+    ensures { result ≡ int_wrap w8 value }
+{
+    wasm::i32_extend8_s(value)
+}
+
+/// The low 16 bits, extended by their sign.
+#[unsafe(no_mangle)]
+pub extern "C" fn wasm_i32_extend16_s(value: i32) -> i32
+    ensures { result ≡ int_wrap w16 value }
+{
+    wasm::i32_extend16_s(value)
+}
+
+/// The low 8 bits, extended by their sign.
+#[unsafe(no_mangle)]
+pub extern "C" fn wasm_i64_extend8_s(value: i64) -> i64
+    ensures { result ≡ int_wrap w8 value }
+{
+    wasm::i64_extend8_s(value)
+}
+
+/// The low 16 bits, extended by their sign.
+#[unsafe(no_mangle)]
+pub extern "C" fn wasm_i64_extend16_s(value: i64) -> i64
+    ensures { result ≡ int_wrap w16 value }
+{
+    wasm::i64_extend16_s(value)
+}
+
+/// The low 32 bits, extended by their sign.
+#[unsafe(no_mangle)]
+pub extern "C" fn wasm_i64_extend32_s(value: i64) -> i64
+    ensures { result ≡ int_wrap w32 value }
+{
+    wasm::i64_extend32_s(value)
+}
+
+/// The sum modulo 2 to the power 32.
+#[unsafe(no_mangle)]
+pub extern "C" fn wasm_i32_add(lhs: i32, rhs: i32) -> i32
+    ensures { result ≡ iadd w32 lhs rhs }
+{
+    wasm::i32_add(lhs, rhs)
+}
+
+/// The difference modulo 2 to the power 32.
+#[unsafe(no_mangle)]
+pub extern "C" fn wasm_i32_sub(lhs: i32, rhs: i32) -> i32
+    ensures { result ≡ isub w32 lhs rhs }
+{
+    wasm::i32_sub(lhs, rhs)
+}
+
+/// The product modulo 2 to the power 32.
+#[unsafe(no_mangle)]
+pub extern "C" fn wasm_i32_mul(lhs: i32, rhs: i32) -> i32
+    ensures { result ≡ imul w32 lhs rhs }
+{
+    wasm::i32_mul(lhs, rhs)
+}
+
+/// Bitwise and.
+#[unsafe(no_mangle)]
+pub extern "C" fn wasm_i32_bitand(lhs: i32, rhs: i32) -> i32
+    ensures { result ≡ iand w32 lhs rhs }
+{
+    wasm::i32_bitand(lhs, rhs)
+}
+
+/// Bitwise or.
+#[unsafe(no_mangle)]
+pub extern "C" fn wasm_i32_bitor(lhs: i32, rhs: i32) -> i32
+    ensures { result ≡ ior w32 lhs rhs }
+{
+    wasm::i32_bitor(lhs, rhs)
+}
+
+/// Bitwise exclusive or.
+#[unsafe(no_mangle)]
+pub extern "C" fn wasm_i32_bitxor(lhs: i32, rhs: i32) -> i32
+    ensures { result ≡ ixor w32 lhs rhs }
+{
+    wasm::i32_bitxor(lhs, rhs)
+}
+
+/// Shifts to the left; the amount is taken modulo 32.
+#[unsafe(no_mangle)]
+pub extern "C" fn wasm_i32_shl(lhs: i32, rhs: i32) -> i32
+    ensures { result ≡ ishl w32 lhs rhs }
+{
+    wasm::i32_shl(lhs, rhs)
+}
+
+/// Shifts to the right and fills with the highest bit; the amount is taken modulo 32.
+#[unsafe(no_mangle)]
+pub extern "C" fn wasm_i32_shr_s(lhs: i32, rhs: i32) -> i32
+    ensures { result ≡ ishr_s w32 lhs rhs }
+{
+    wasm::i32_shr_s(lhs, rhs)
+}
+
+/// Shifts to the right and fills with zeros; the amount is taken modulo 32.
+#[unsafe(no_mangle)]
+pub extern "C" fn wasm_i32_shr_u(lhs: u32, rhs: u32) -> u32
+    ensures { result ≡ ishr_u w32 lhs rhs }
+{
+    wasm::i32_shr_u(lhs, rhs)
+}
+
+/// Rotates to the left; the amount is taken modulo 32.
+#[unsafe(no_mangle)]
+pub extern "C" fn wasm_i32_rotl(lhs: i32, rhs: i32) -> i32
+    ensures { result ≡ irotl w32 lhs rhs }
+{
+    wasm::i32_rotl(lhs, rhs)
+}
+
+/// Rotates to the right; the amount is taken modulo 32.
+#[unsafe(no_mangle)]
+pub extern "C" fn wasm_i32_rotr(lhs: i32, rhs: i32) -> i32
+    ensures { result ≡ irotr w32 lhs rhs }
+{
+    wasm::i32_rotr(lhs, rhs)
+}
+
+/// The quotient towards zero.
+///
+/// `IntegerDivisionByZero` for a divisor of 0, then `IntegerOverflow` for the least number by -1.
+///
+/// Returns 0, or the number of the trap; then nothing is written.
+#[unsafe(no_mangle)]
+pub extern "C" fn wasm_i32_div_s(lhs: i32, rhs: i32, value: &mut i32) -> u8
+    ensures { Leaves (or_trap (idiv_s w32 lhs rhs)) value.old value.new result }
+{
+    leave_item(wasm::i32_div_s(lhs, rhs), value)
+}
+
+/// The quotient.
+///
+/// `IntegerDivisionByZero` for a divisor of 0.
+///
+/// Returns 0, or the number of the trap; then nothing is written.
+#[unsafe(no_mangle)]
+pub extern "C" fn wasm_i32_div_u(lhs: u32, rhs: u32, value: &mut u32) -> u8
+    ensures { Leaves (or_trap (idiv_u lhs rhs)) value.old value.new result }
+{
+    leave_item(wasm::i32_div_u(lhs, rhs), value)
+}
+
+/// The remainder, with the sign of `lhs`; 0 for the least number by -1.
+///
+/// `IntegerDivisionByZero` for a divisor of 0.
+///
+/// Returns 0, or the number of the trap; then nothing is written.
+#[unsafe(no_mangle)]
+pub extern "C" fn wasm_i32_rem_s(lhs: i32, rhs: i32, value: &mut i32) -> u8
+    ensures { Leaves (or_trap (irem_s lhs rhs)) value.old value.new result }
+{
+    leave_item(wasm::i32_rem_s(lhs, rhs), value)
+}
+
+/// The remainder.
+///
+/// `IntegerDivisionByZero` for a divisor of 0.
+///
+/// Returns 0, or the number of the trap; then nothing is written.
+#[unsafe(no_mangle)]
+pub extern "C" fn wasm_i32_rem_u(lhs: u32, rhs: u32, value: &mut u32) -> u8
+    ensures { Leaves (or_trap (irem_u lhs rhs)) value.old value.new result }
+{
+    leave_item(wasm::i32_rem_u(lhs, rhs), value)
+}
+
+/// Whether `lhs` is `rhs`.
+#[unsafe(no_mangle)]
+pub extern "C" fn wasm_i32_eq(lhs: i32, rhs: i32) -> bool
+    ensures { result ≡ ieq lhs rhs }
+{
+    wasm::i32_eq(lhs, rhs)
+}
+
+/// Whether `lhs` isn't `rhs`.
+#[unsafe(no_mangle)]
+pub extern "C" fn wasm_i32_ne(lhs: i32, rhs: i32) -> bool
+    ensures { result ≡ ine lhs rhs }
+{
+    wasm::i32_ne(lhs, rhs)
+}
+
+/// Whether `lhs` is below `rhs`, read signed.
+#[unsafe(no_mangle)]
+pub extern "C" fn wasm_i32_lt_s(lhs: i32, rhs: i32) -> bool
+    ensures { result ≡ ilt_s lhs rhs }
+{
+    wasm::i32_lt_s(lhs, rhs)
+}
+
+/// Whether `lhs` is below `rhs`, read unsigned.
+#[unsafe(no_mangle)]
+pub extern "C" fn wasm_i32_lt_u(lhs: u32, rhs: u32) -> bool
+    ensures { result ≡ ilt_u lhs rhs }
+{
+    wasm::i32_lt_u(lhs, rhs)
+}
+
+/// Whether `lhs` is at most `rhs`, read signed.
+#[unsafe(no_mangle)]
+pub extern "C" fn wasm_i32_le_s(lhs: i32, rhs: i32) -> bool
+    ensures { result ≡ ile_s lhs rhs }
+{
+    wasm::i32_le_s(lhs, rhs)
+}
+
+/// Whether `lhs` is at most `rhs`, read unsigned.
+#[unsafe(no_mangle)]
+pub extern "C" fn wasm_i32_le_u(lhs: u32, rhs: u32) -> bool
+    ensures { result ≡ ile_u lhs rhs }
+{
+    wasm::i32_le_u(lhs, rhs)
+}
+
+/// Whether `lhs` is above `rhs`, read signed.
+#[unsafe(no_mangle)]
+pub extern "C" fn wasm_i32_gt_s(lhs: i32, rhs: i32) -> bool
+    ensures { result ≡ igt_s lhs rhs }
+{
+    wasm::i32_gt_s(lhs, rhs)
+}
+
+/// Whether `lhs` is above `rhs`, read unsigned.
+#[unsafe(no_mangle)]
+pub extern "C" fn wasm_i32_gt_u(lhs: u32, rhs: u32) -> bool
+    ensures { result ≡ igt_u lhs rhs }
+{
+    wasm::i32_gt_u(lhs, rhs)
+}
+
+/// Whether `lhs` is at least `rhs`, read signed.
+#[unsafe(no_mangle)]
+pub extern "C" fn wasm_i32_ge_s(lhs: i32, rhs: i32) -> bool
+    ensures { result ≡ ige_s lhs rhs }
+{
+    wasm::i32_ge_s(lhs, rhs)
+}
+
+/// Whether `lhs` is at least `rhs`, read unsigned.
+#[unsafe(no_mangle)]
+pub extern "C" fn wasm_i32_ge_u(lhs: u32, rhs: u32) -> bool
+    ensures { result ≡ ige_u lhs rhs }
+{
+    wasm::i32_ge_u(lhs, rhs)
+}
+
+/// The sum modulo 2 to the power 64.
+#[unsafe(no_mangle)]
+pub extern "C" fn wasm_i64_add(lhs: i64, rhs: i64) -> i64
+    ensures { result ≡ iadd w64 lhs rhs }
+{
+    wasm::i64_add(lhs, rhs)
+}
+
+/// The difference modulo 2 to the power 64.
+#[unsafe(no_mangle)]
+pub extern "C" fn wasm_i64_sub(lhs: i64, rhs: i64) -> i64
+    ensures { result ≡ isub w64 lhs rhs }
+{
+    wasm::i64_sub(lhs, rhs)
+}
+
+/// The product modulo 2 to the power 64.
+#[unsafe(no_mangle)]
+pub extern "C" fn wasm_i64_mul(lhs: i64, rhs: i64) -> i64
+    ensures { result ≡ imul w64 lhs rhs }
+{
+    wasm::i64_mul(lhs, rhs)
+}
+
+/// Bitwise and.
+#[unsafe(no_mangle)]
+pub extern "C" fn wasm_i64_bitand(lhs: i64, rhs: i64) -> i64
+    ensures { result ≡ iand w64 lhs rhs }
+{
+    wasm::i64_bitand(lhs, rhs)
+}
+
+/// Bitwise or.
+#[unsafe(no_mangle)]
+pub extern "C" fn wasm_i64_bitor(lhs: i64, rhs: i64) -> i64
+    ensures { result ≡ ior w64 lhs rhs }
+{
+    wasm::i64_bitor(lhs, rhs)
+}
+
+/// Bitwise exclusive or.
+#[unsafe(no_mangle)]
+pub extern "C" fn wasm_i64_bitxor(lhs: i64, rhs: i64) -> i64
+    ensures { result ≡ ixor w64 lhs rhs }
+{
+    wasm::i64_bitxor(lhs, rhs)
+}
+
+/// Shifts to the left; the amount is taken modulo 64.
+#[unsafe(no_mangle)]
+pub extern "C" fn wasm_i64_shl(lhs: i64, rhs: i64) -> i64
+    ensures { result ≡ ishl w64 lhs rhs }
+{
+    wasm::i64_shl(lhs, rhs)
+}
+
+/// Shifts to the right and fills with the highest bit; the amount is taken modulo 64.
+#[unsafe(no_mangle)]
+pub extern "C" fn wasm_i64_shr_s(lhs: i64, rhs: i64) -> i64
+    ensures { result ≡ ishr_s w64 lhs rhs }
+{
+    wasm::i64_shr_s(lhs, rhs)
+}
+
+/// Shifts to the right and fills with zeros; the amount is taken modulo 64.
+#[unsafe(no_mangle)]
+pub extern "C" fn wasm_i64_shr_u(lhs: u64, rhs: u64) -> u64
+    ensures { result ≡ ishr_u w64 lhs rhs }
+{
+    wasm::i64_shr_u(lhs, rhs)
+}
+
+/// Rotates to the left; the amount is taken modulo 64.
+#[unsafe(no_mangle)]
+pub extern "C" fn wasm_i64_rotl(lhs: i64, rhs: i64) -> i64
+    ensures { result ≡ irotl w64 lhs rhs }
+{
+    wasm::i64_rotl(lhs, rhs)
+}
+
+/// Rotates to the right; the amount is taken modulo 64.
+#[unsafe(no_mangle)]
+pub extern "C" fn wasm_i64_rotr(lhs: i64, rhs: i64) -> i64
+    ensures { result ≡ irotr w64 lhs rhs }
+{
+    wasm::i64_rotr(lhs, rhs)
+}
+
+/// The quotient towards zero.
+///
+/// `IntegerDivisionByZero` for a divisor of 0, then `IntegerOverflow` for the least number by -1.
+///
+/// Returns 0, or the number of the trap; then nothing is written.
+#[unsafe(no_mangle)]
+pub extern "C" fn wasm_i64_div_s(lhs: i64, rhs: i64, value: &mut i64) -> u8
+    ensures { Leaves (or_trap (idiv_s w64 lhs rhs)) value.old value.new result }
+{
+    leave_item(wasm::i64_div_s(lhs, rhs), value)
+}
+
+/// The quotient.
+///
+/// `IntegerDivisionByZero` for a divisor of 0.
+///
+/// Returns 0, or the number of the trap; then nothing is written.
+#[unsafe(no_mangle)]
+pub extern "C" fn wasm_i64_div_u(lhs: u64, rhs: u64, value: &mut u64) -> u8
+    ensures { Leaves (or_trap (idiv_u lhs rhs)) value.old value.new result }
+{
+    leave_item(wasm::i64_div_u(lhs, rhs), value)
+}
+
+/// The remainder, with the sign of `lhs`; 0 for the least number by -1.
+///
+/// `IntegerDivisionByZero` for a divisor of 0.
+///
+/// Returns 0, or the number of the trap; then nothing is written.
+#[unsafe(no_mangle)]
+pub extern "C" fn wasm_i64_rem_s(lhs: i64, rhs: i64, value: &mut i64) -> u8
+    ensures { Leaves (or_trap (irem_s lhs rhs)) value.old value.new result }
+{
+    leave_item(wasm::i64_rem_s(lhs, rhs), value)
+}
+
+/// The remainder.
+///
+/// `IntegerDivisionByZero` for a divisor of 0.
+///
+/// Returns 0, or the number of the trap; then nothing is written.
+#[unsafe(no_mangle)]
+pub extern "C" fn wasm_i64_rem_u(lhs: u64, rhs: u64, value: &mut u64) -> u8
+    ensures { Leaves (or_trap (irem_u lhs rhs)) value.old value.new result }
+{
+    leave_item(wasm::i64_rem_u(lhs, rhs), value)
+}
+
+/// Whether `lhs` is `rhs`.
+#[unsafe(no_mangle)]
+pub extern "C" fn wasm_i64_eq(lhs: i64, rhs: i64) -> bool
+    ensures { result ≡ ieq lhs rhs }
+{
+    wasm::i64_eq(lhs, rhs)
+}
+
+/// Whether `lhs` isn't `rhs`.
+#[unsafe(no_mangle)]
+pub extern "C" fn wasm_i64_ne(lhs: i64, rhs: i64) -> bool
+    ensures { result ≡ ine lhs rhs }
+{
+    wasm::i64_ne(lhs, rhs)
+}
+
+/// Whether `lhs` is below `rhs`, read signed.
+#[unsafe(no_mangle)]
+pub extern "C" fn wasm_i64_lt_s(lhs: i64, rhs: i64) -> bool
+    ensures { result ≡ ilt_s lhs rhs }
+{
+    wasm::i64_lt_s(lhs, rhs)
+}
+
+/// Whether `lhs` is below `rhs`, read unsigned.
+#[unsafe(no_mangle)]
+pub extern "C" fn wasm_i64_lt_u(lhs: u64, rhs: u64) -> bool
+    ensures { result ≡ ilt_u lhs rhs }
+{
+    wasm::i64_lt_u(lhs, rhs)
+}
+
+/// Whether `lhs` is at most `rhs`, read signed.
+#[unsafe(no_mangle)]
+pub extern "C" fn wasm_i64_le_s(lhs: i64, rhs: i64) -> bool
+    ensures { result ≡ ile_s lhs rhs }
+{
+    wasm::i64_le_s(lhs, rhs)
+}
+
+/// Whether `lhs` is at most `rhs`, read unsigned.
+#[unsafe(no_mangle)]
+pub extern "C" fn wasm_i64_le_u(lhs: u64, rhs: u64) -> bool
+    ensures { result ≡ ile_u lhs rhs }
+{
+    wasm::i64_le_u(lhs, rhs)
+}
+
+/// Whether `lhs` is above `rhs`, read signed.
+#[unsafe(no_mangle)]
+pub extern "C" fn wasm_i64_gt_s(lhs: i64, rhs: i64) -> bool
+    ensures { result ≡ igt_s lhs rhs }
+{
+    wasm::i64_gt_s(lhs, rhs)
+}
+
+/// Whether `lhs` is above `rhs`, read unsigned.
+#[unsafe(no_mangle)]
+pub extern "C" fn wasm_i64_gt_u(lhs: u64, rhs: u64) -> bool
+    ensures { result ≡ igt_u lhs rhs }
+{
+    wasm::i64_gt_u(lhs, rhs)
+}
+
+/// Whether `lhs` is at least `rhs`, read signed.
+#[unsafe(no_mangle)]
+pub extern "C" fn wasm_i64_ge_s(lhs: i64, rhs: i64) -> bool
+    ensures { result ≡ ige_s lhs rhs }
+{
+    wasm::i64_ge_s(lhs, rhs)
+}
+
+/// Whether `lhs` is at least `rhs`, read unsigned.
+#[unsafe(no_mangle)]
+pub extern "C" fn wasm_i64_ge_u(lhs: u64, rhs: u64) -> bool
+    ensures { result ≡ ige_u lhs rhs }
+{
+    wasm::i64_ge_u(lhs, rhs)
+}
+
+/// The sum of two numbers modulo 2 to the power 128, as the words `(lo, hi)`.
+#[unsafe(no_mangle)]
+pub extern "C" fn wasm_i64_add128(
+    lhs_lo: i64,
+    lhs_hi: i64,
+    rhs_lo: i64,
+    rhs_hi: i64,
+    lo: &mut i64,
+    hi: &mut i64,
+)
+    ensures { unsigned_of lo.new hi.new
+        ≡ add128 (unsigned_of lhs_lo lhs_hi) (unsigned_of rhs_lo rhs_hi) }
+{
+    leave_pair(wasm::i64_add128(lhs_lo, lhs_hi, rhs_lo, rhs_hi), lo, hi)
+}
+
+/// The difference of two numbers modulo 2 to the power 128, as the words `(lo, hi)`.
+#[unsafe(no_mangle)]
+pub extern "C" fn wasm_i64_sub128(
+    lhs_lo: i64,
+    lhs_hi: i64,
+    rhs_lo: i64,
+    rhs_hi: i64,
+    lo: &mut i64,
+    hi: &mut i64,
+)
+    ensures { unsigned_of lo.new hi.new
+        ≡ sub128 (unsigned_of lhs_lo lhs_hi) (unsigned_of rhs_lo rhs_hi) }
+{
+    leave_pair(wasm::i64_sub128(lhs_lo, lhs_hi, rhs_lo, rhs_hi), lo, hi)
+}
+
+/// The whole product of two numbers read signed, as the words `(lo, hi)` of a signed number.
+#[unsafe(no_mangle)]
+pub extern "C" fn wasm_i64_mul_wide_s(lhs: i64, rhs: i64, lo: &mut i64, hi: &mut i64)
+    ensures { signed_of lo.new hi.new ≡ lhs *ℤ rhs }
+{
+    leave_pair(wasm::i64_mul_wide_s(lhs, rhs), lo, hi)
+}
+
+/// The whole product of two numbers read unsigned, as the words `(lo, hi)` of an unsigned number.
+#[unsafe(no_mangle)]
+pub extern "C" fn wasm_i64_mul_wide_u(lhs: i64, rhs: i64, lo: &mut i64, hi: &mut i64)
+    ensures { unsigned_of lo.new hi.new ≡ cast_unsigned w64 lhs * cast_unsigned w64 rhs }
+{
+    leave_pair(wasm::i64_mul_wide_u(lhs, rhs), lo, hi)
+}

@@ -1,0 +1,158 @@
+/* Each scalar instruction, load and store by name, for C and C++, in libwasmi_core.a (x86-64 Linux).
+
+   Names: wasm_i32_add is i32.add, and so on. bitand, bitor and bitxor are and, or and xor; the loads and stores of whole
+   integers (i32.load, i64.load, i32.store, i64.store) are load_u32, load_u64, store32 and store64. The other instructions
+   on vectors are called by number (wasmi_core.h).
+
+   Results: a function that returns a value, or nothing, doesn't trap. One that returns uint8_t returns WASMI_DONE, or the
+   number of its trap, as in wasmi_core.h; after a trap nothing is written. A result of 128 bits is written as two words.
+
+   Pointers and threads: as in wasmi_core.h. A load or a store is at ptr + offset, a sum that does not wrap. */
+#ifndef WASMI_INSTRUCTIONS_H
+#define WASMI_INSTRUCTIONS_H
+
+#include <stdbool.h>
+
+#include "wasmi_core.h"
+
+#ifdef __cplusplus
+extern "C" {
+#endif
+
+/* The bytes of a and b that lanes has the indices of: those of a are 0 to 15, those of b 16 to 31. WASMI_NO_LANE if an
+   index is greater. There are 16 lanes. */
+uint8_t wasm_i8x16_shuffle(wasmi_words a, wasmi_words b, const uint8_t *lanes, wasmi_words *value);
+
+/* Stores a vector. */
+uint8_t wasm_v128_store(uint8_t *memory, size_t memory_len, uint64_t ptr, uint64_t offset, wasmi_words value);
+
+/* The table of tools/header begins. */
+/* The scalar instructions by name. */
+int32_t wasm_i32_clz(int32_t value);
+int32_t wasm_i32_ctz(int32_t value);
+int32_t wasm_i32_popcnt(int32_t value);
+bool wasm_i32_eqz(int32_t value);
+int64_t wasm_i64_clz(int64_t value);
+int64_t wasm_i64_ctz(int64_t value);
+int64_t wasm_i64_popcnt(int64_t value);
+bool wasm_i64_eqz(int64_t value);
+int32_t wasm_i32_wrap_i64(int64_t value);
+int64_t wasm_i64_extend_i32_s(int32_t value);
+uint64_t wasm_i64_extend_i32_u(uint32_t value);
+int32_t wasm_i32_extend8_s(int32_t value);
+int32_t wasm_i32_extend16_s(int32_t value);
+int64_t wasm_i64_extend8_s(int64_t value);
+int64_t wasm_i64_extend16_s(int64_t value);
+int64_t wasm_i64_extend32_s(int64_t value);
+int32_t wasm_i32_add(int32_t lhs, int32_t rhs);
+int32_t wasm_i32_sub(int32_t lhs, int32_t rhs);
+int32_t wasm_i32_mul(int32_t lhs, int32_t rhs);
+int32_t wasm_i32_bitand(int32_t lhs, int32_t rhs);
+int32_t wasm_i32_bitor(int32_t lhs, int32_t rhs);
+int32_t wasm_i32_bitxor(int32_t lhs, int32_t rhs);
+int32_t wasm_i32_shl(int32_t lhs, int32_t rhs);
+int32_t wasm_i32_shr_s(int32_t lhs, int32_t rhs);
+uint32_t wasm_i32_shr_u(uint32_t lhs, uint32_t rhs);
+int32_t wasm_i32_rotl(int32_t lhs, int32_t rhs);
+int32_t wasm_i32_rotr(int32_t lhs, int32_t rhs);
+uint8_t wasm_i32_div_s(int32_t lhs, int32_t rhs, int32_t *value);
+uint8_t wasm_i32_div_u(uint32_t lhs, uint32_t rhs, uint32_t *value);
+uint8_t wasm_i32_rem_s(int32_t lhs, int32_t rhs, int32_t *value);
+uint8_t wasm_i32_rem_u(uint32_t lhs, uint32_t rhs, uint32_t *value);
+bool wasm_i32_eq(int32_t lhs, int32_t rhs);
+bool wasm_i32_ne(int32_t lhs, int32_t rhs);
+bool wasm_i32_lt_s(int32_t lhs, int32_t rhs);
+bool wasm_i32_lt_u(uint32_t lhs, uint32_t rhs);
+bool wasm_i32_le_s(int32_t lhs, int32_t rhs);
+bool wasm_i32_le_u(uint32_t lhs, uint32_t rhs);
+bool wasm_i32_gt_s(int32_t lhs, int32_t rhs);
+bool wasm_i32_gt_u(uint32_t lhs, uint32_t rhs);
+bool wasm_i32_ge_s(int32_t lhs, int32_t rhs);
+bool wasm_i32_ge_u(uint32_t lhs, uint32_t rhs);
+int64_t wasm_i64_add(int64_t lhs, int64_t rhs);
+int64_t wasm_i64_sub(int64_t lhs, int64_t rhs);
+int64_t wasm_i64_mul(int64_t lhs, int64_t rhs);
+int64_t wasm_i64_bitand(int64_t lhs, int64_t rhs);
+int64_t wasm_i64_bitor(int64_t lhs, int64_t rhs);
+int64_t wasm_i64_bitxor(int64_t lhs, int64_t rhs);
+int64_t wasm_i64_shl(int64_t lhs, int64_t rhs);
+int64_t wasm_i64_shr_s(int64_t lhs, int64_t rhs);
+uint64_t wasm_i64_shr_u(uint64_t lhs, uint64_t rhs);
+int64_t wasm_i64_rotl(int64_t lhs, int64_t rhs);
+int64_t wasm_i64_rotr(int64_t lhs, int64_t rhs);
+uint8_t wasm_i64_div_s(int64_t lhs, int64_t rhs, int64_t *value);
+uint8_t wasm_i64_div_u(uint64_t lhs, uint64_t rhs, uint64_t *value);
+uint8_t wasm_i64_rem_s(int64_t lhs, int64_t rhs, int64_t *value);
+uint8_t wasm_i64_rem_u(uint64_t lhs, uint64_t rhs, uint64_t *value);
+bool wasm_i64_eq(int64_t lhs, int64_t rhs);
+bool wasm_i64_ne(int64_t lhs, int64_t rhs);
+bool wasm_i64_lt_s(int64_t lhs, int64_t rhs);
+bool wasm_i64_lt_u(uint64_t lhs, uint64_t rhs);
+bool wasm_i64_le_s(int64_t lhs, int64_t rhs);
+bool wasm_i64_le_u(uint64_t lhs, uint64_t rhs);
+bool wasm_i64_gt_s(int64_t lhs, int64_t rhs);
+bool wasm_i64_gt_u(uint64_t lhs, uint64_t rhs);
+bool wasm_i64_ge_s(int64_t lhs, int64_t rhs);
+bool wasm_i64_ge_u(uint64_t lhs, uint64_t rhs);
+void wasm_i64_add128(int64_t lhs_lo, int64_t lhs_hi, int64_t rhs_lo, int64_t rhs_hi, int64_t *lo, int64_t *hi);
+void wasm_i64_sub128(int64_t lhs_lo, int64_t lhs_hi, int64_t rhs_lo, int64_t rhs_hi, int64_t *lo, int64_t *hi);
+void wasm_i64_mul_wide_s(int64_t lhs, int64_t rhs, int64_t *lo, int64_t *hi);
+void wasm_i64_mul_wide_u(int64_t lhs, int64_t rhs, int64_t *lo, int64_t *hi);
+
+/* The loads by name. */
+uint8_t wasm_i32_load8_s(const uint8_t *memory, size_t memory_len, uint64_t ptr, uint64_t offset, int32_t *value);
+uint8_t wasm_i32_load8_u(const uint8_t *memory, size_t memory_len, uint64_t ptr, uint64_t offset, int32_t *value);
+uint8_t wasm_i32_load16_s(const uint8_t *memory, size_t memory_len, uint64_t ptr, uint64_t offset, int32_t *value);
+uint8_t wasm_i32_load16_u(const uint8_t *memory, size_t memory_len, uint64_t ptr, uint64_t offset, int32_t *value);
+uint8_t wasm_i64_load8_s(const uint8_t *memory, size_t memory_len, uint64_t ptr, uint64_t offset, int64_t *value);
+uint8_t wasm_i64_load8_u(const uint8_t *memory, size_t memory_len, uint64_t ptr, uint64_t offset, int64_t *value);
+uint8_t wasm_i64_load16_s(const uint8_t *memory, size_t memory_len, uint64_t ptr, uint64_t offset, int64_t *value);
+uint8_t wasm_i64_load16_u(const uint8_t *memory, size_t memory_len, uint64_t ptr, uint64_t offset, int64_t *value);
+uint8_t wasm_i64_load32_s(const uint8_t *memory, size_t memory_len, uint64_t ptr, uint64_t offset, int64_t *value);
+uint8_t wasm_i64_load32_u(const uint8_t *memory, size_t memory_len, uint64_t ptr, uint64_t offset, int64_t *value);
+uint8_t wasm_load_u32(const uint8_t *memory, size_t memory_len, uint64_t ptr, uint64_t offset, uint32_t *value);
+uint8_t wasm_load_u64(const uint8_t *memory, size_t memory_len, uint64_t ptr, uint64_t offset, uint64_t *value);
+
+/* The loads of vectors by name. */
+uint8_t wasm_v128_load(const uint8_t *memory, size_t memory_len, uint64_t ptr, uint64_t offset, wasmi_words *value);
+uint8_t wasm_v128_load8x8_s(const uint8_t *memory, size_t memory_len, uint64_t ptr, uint64_t offset,
+                            wasmi_words *value);
+uint8_t wasm_v128_load8x8_u(const uint8_t *memory, size_t memory_len, uint64_t ptr, uint64_t offset,
+                            wasmi_words *value);
+uint8_t wasm_v128_load16x4_s(const uint8_t *memory, size_t memory_len, uint64_t ptr, uint64_t offset,
+                             wasmi_words *value);
+uint8_t wasm_v128_load16x4_u(const uint8_t *memory, size_t memory_len, uint64_t ptr, uint64_t offset,
+                             wasmi_words *value);
+uint8_t wasm_v128_load32x2_s(const uint8_t *memory, size_t memory_len, uint64_t ptr, uint64_t offset,
+                             wasmi_words *value);
+uint8_t wasm_v128_load32x2_u(const uint8_t *memory, size_t memory_len, uint64_t ptr, uint64_t offset,
+                             wasmi_words *value);
+uint8_t wasm_v128_load8_splat(const uint8_t *memory, size_t memory_len, uint64_t ptr, uint64_t offset,
+                              wasmi_words *value);
+uint8_t wasm_v128_load16_splat(const uint8_t *memory, size_t memory_len, uint64_t ptr, uint64_t offset,
+                               wasmi_words *value);
+uint8_t wasm_v128_load32_splat(const uint8_t *memory, size_t memory_len, uint64_t ptr, uint64_t offset,
+                               wasmi_words *value);
+uint8_t wasm_v128_load64_splat(const uint8_t *memory, size_t memory_len, uint64_t ptr, uint64_t offset,
+                               wasmi_words *value);
+uint8_t wasm_v128_load32_zero(const uint8_t *memory, size_t memory_len, uint64_t ptr, uint64_t offset,
+                              wasmi_words *value);
+uint8_t wasm_v128_load64_zero(const uint8_t *memory, size_t memory_len, uint64_t ptr, uint64_t offset,
+                              wasmi_words *value);
+
+/* The stores by name. */
+uint8_t wasm_i32_store8(uint8_t *memory, size_t memory_len, uint64_t ptr, uint64_t offset, int32_t value);
+uint8_t wasm_i32_store16(uint8_t *memory, size_t memory_len, uint64_t ptr, uint64_t offset, int32_t value);
+uint8_t wasm_i64_store8(uint8_t *memory, size_t memory_len, uint64_t ptr, uint64_t offset, int64_t value);
+uint8_t wasm_i64_store16(uint8_t *memory, size_t memory_len, uint64_t ptr, uint64_t offset, int64_t value);
+uint8_t wasm_i64_store32(uint8_t *memory, size_t memory_len, uint64_t ptr, uint64_t offset, int64_t value);
+uint8_t wasm_store32(uint8_t *memory, size_t memory_len, uint64_t ptr, uint64_t offset, uint32_t value);
+uint8_t wasm_store64(uint8_t *memory, size_t memory_len, uint64_t ptr, uint64_t offset, uint64_t value);
+
+/* The table of tools/header ends. */
+
+#ifdef __cplusplus
+}
+#endif
+
+#endif
