@@ -73,7 +73,7 @@ pub record IsRefused {S : Type 0} (s : Embedded MemoryNumbers S) (status : ℕ) 
 abbrev pub GrowsEmbedded : {S : Type 0} → Rules S → ℕ → Embedded MemoryNumbers S → ℕ → Embedded MemoryNumbers S → Type 0
 GrowsEmbedded rules pages s status s' =
     IsRefused s status s'
-        ⊎ ((ty : MemoryTypeValue) × IsState s.numbers s.region ty × GrowsAs rules ty pages s status s')
+    ⊎ ((ty : MemoryTypeValue) × IsState s.numbers s.region ty × GrowsAs rules ty pages s status s')
 
 -- a growth by the host's answers, where they are to what it asks; else nothing is written
 abbrev pub SettlesAs : MemoryTypeValue → ℕ → HostAnswers → Embedded MemoryNumbers HostAnswers → ℕ
