@@ -22,9 +22,8 @@ use crate::proved::store::range::{fill_range, write_range};
 /// [IsSized]: crate::specs::store::Memory#IsSized "so many bytes are whole pages, as many as the type allows"
 #[inline]
 pub fn is_sized(ty: MemoryType, size: usize) -> bool {
-    let page = u64::from(ty.page_size());
-    let pages = size as u64 / page;
-    size as u64 % page == 0 && ty.minimum() <= pages && ty.size_of_pages(pages).is_some()
+    let pages = ty.pages_in(size);
+    ty.minimum() <= pages && ty.size_of_pages(pages) == Some(size)
 }
 
 /// The number of whole pages in `size` bytes.
@@ -166,7 +165,7 @@ pub fn grow<L: ResourceLimiter>(
         return Err(MemoryError::OutOfBoundsGrowth);
     };
     let maximum = ty.maximum_size();
-    let has_room = has_place(region, new_size);
+    let has_room = has_room(region, new_size);
     decide_growth(old_size, new_size, maximum, has_room, fuel, limiter)?;
     fill_range(region, old_size, new_size, 0);
     *size = new_size;
@@ -420,6 +419,6 @@ pub fn init(
 /// [nat_le]: crate::specs::library#nat_le "whether m is at most n, as a Boolean"
 /// [length]: crate::specs::library#length "the number of elements of a list"
 #[inline]
-fn has_place(region: &[u8], size: usize) -> bool {
+fn has_room(region: &[u8], size: usize) -> bool {
     size <= region.len()
 }
