@@ -87,12 +87,7 @@ fn apply_by_op(op: Binary, a: RawVal, b: RawVal) -> Result<RawVal, TrapCode>
 /// Writes what the instruction of a number gives for each two elements of two arrays, or its trap,
 /// and returns 0; 255 if there is none; or 254 if the arrays differ in length. After 254 and 255
 /// nothing is written.
-pub fn binary_each(
-    number: u16,
-    a: &[RawVal],
-    b: &[RawVal],
-    results: &mut [InstructionResult],
-) -> u8
+pub fn binary_each(number: u16, a: &[RawVal], b: &[RawVal], results: &mut [InstructionResult]) -> u8
     ensures { Leaves (binary_results number a.now b.now (length results.old))
         results.old results.new result }
 {

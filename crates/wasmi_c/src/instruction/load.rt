@@ -66,8 +66,8 @@ pub fn load_numbered(number: u16) -> Option<Load>
     numbered(&LOAD_INSTRUCTIONS, number)
 }
 
-/// What the load of a number gives from `ptr + offset`. The refusals are `Unknown` and the trap past
-/// the end.
+/// What the load of a number gives from `ptr + offset`. The refusals are `Unknown` and the trap
+/// past the end.
 pub fn load_result(number: u16, memory: &[u8], ptr: u64, offset: u64) -> Result<RawVal, Refusal>
     ensures { result ≡ load_result number memory.now (ptr + offset) }
 {
