@@ -135,4 +135,78 @@ impl Memory {
     pub fn write(&mut self, offset: usize, buffer: &[u8]) -> Result<(), MemoryError> {
         self.0.write(offset, buffer)
     }
+
+    #[doc = include_str!("proved/docs/store/LinearMemory.fill.md")]
+    ///
+    /// # Examples
+    ///
+    /// ```
+    /// use wasmi_core_proved::{Memory, MemoryError, MemoryType, ResourceLimiterRef};
+    ///
+    /// let mut builder = MemoryType::builder();
+    /// builder.min(1);
+    /// let ty = builder.build()?;
+    /// let mut memory = Memory::new(ty, &mut ResourceLimiterRef::default())?;
+    ///
+    /// memory.fill(65_530, 7, 6, None)?;
+    /// memory.init(&[1, 2, 3, 4], 0, 1, 3, None)?;
+    /// memory.copy_within(1, 0, 3, None)?;
+    /// assert_eq!(memory.data()[..5], [2, 2, 3, 4, 0]);
+    ///
+    /// let mut other = Memory::new(ty, &mut ResourceLimiterRef::default())?;
+    /// Memory::copy(&mut other, 0, &memory, 65_535, 1, None)?;
+    /// assert_eq!(other.data()[..2], [7, 0]);
+    ///
+    /// let past = Memory::copy(&mut other, 0, &memory, 65_535, 2, None);
+    /// assert!(matches!(past, Err(MemoryError::OutOfBoundsAccess)));
+    /// # Ok::<(), MemoryError>(())
+    /// ```
+    #[inline]
+    pub fn fill(
+        &mut self,
+        dst: u64,
+        value: u8,
+        len: u64,
+        fuel: Option<&mut Fuel>,
+    ) -> Result<(), MemoryError> {
+        self.0.fill(dst, value, len, fuel)
+    }
+
+    #[doc = include_str!("proved/docs/store/LinearMemory.copy_within.md")]
+    #[inline]
+    pub fn copy_within(
+        &mut self,
+        dst: u64,
+        src: u64,
+        len: u64,
+        fuel: Option<&mut Fuel>,
+    ) -> Result<(), MemoryError> {
+        self.0.copy_within(dst, src, len, fuel)
+    }
+
+    #[doc = include_str!("proved/docs/store/LinearMemory.copy.md")]
+    #[inline]
+    pub fn copy(
+        dst_memory: &mut Self,
+        dst: u64,
+        src_memory: &Self,
+        src: u64,
+        len: u64,
+        fuel: Option<&mut Fuel>,
+    ) -> Result<(), MemoryError> {
+        Proved::copy(&mut dst_memory.0, dst, &src_memory.0, src, len, fuel)
+    }
+
+    #[doc = include_str!("proved/docs/store/LinearMemory.init.md")]
+    #[inline]
+    pub fn init(
+        &mut self,
+        segment: &[u8],
+        dst: u64,
+        src: u32,
+        len: u32,
+        fuel: Option<&mut Fuel>,
+    ) -> Result<(), MemoryError> {
+        self.0.init(segment, dst, src, len, fuel)
+    }
 }

@@ -1,7 +1,7 @@
 //! The bulk instructions on bytes, wherever these lie.
 //!
 //! Own: upstream's crate has none for memories. They are tested and charged as its calls on tables:
-//! the bounds first, then the fuel. If one is refused, no byte and no fuel is taken.
+//! the bounds first, then the fuel. One that is refused writes no byte and takes no fuel.
 ghost use Rattle.std.specs.Prelude.{◌≡◌, length, Some};
 ghost use Rattle.wasmi_store.specs.Bulk.{filled, copied, BulkWrites};
 ghost use Rattle.wasmi_store.specs.Growth.{metered};

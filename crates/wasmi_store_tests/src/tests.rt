@@ -24,6 +24,7 @@ macro_rules! complained {
 }
 
 mod buffers;
+mod bulk;
 mod creations;
 mod errors;
 mod fuel;

@@ -165,6 +165,8 @@ pub mod meter {
 pub mod store {
     #[doc = include_str!("specs/store/Buffer.md")]
     pub mod Buffer {}
+    #[doc = include_str!("specs/store/Bulk.md")]
+    pub mod Bulk {}
     #[doc = include_str!("specs/store/Front.md")]
     pub mod Front {}
     #[doc = include_str!("specs/store/Growth.md")]

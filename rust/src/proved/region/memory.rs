@@ -7,6 +7,7 @@
 use crate::proved::meter::growth::tell;
 use crate::proved::meter::{Fuel, MemoryError, ResourceLimiter, ResourceLimiterRef};
 use crate::proved::store::MemoryType;
+use crate::proved::store::bulk::{copy_bytes, copy_bytes_within, fill_bytes};
 use crate::proved::store::growth::{MEMORY_DENIED as DENIED, decide_growth, permitted_minimum};
 pub use crate::proved::store::range::read_bytes;
 use crate::proved::store::range::{fill_range, write_range};
@@ -21,9 +22,8 @@ use crate::proved::store::range::{fill_range, write_range};
 /// [IsSized]: crate::specs::store::Memory#IsSized "so many bytes are whole pages, as many as the type allows"
 #[inline]
 pub fn is_sized(ty: MemoryType, size: usize) -> bool {
-    let page = u64::from(ty.page_size());
-    let pages = size as u64 / page;
-    size as u64 % page == 0 && ty.minimum() <= pages && ty.size_of_pages(pages).is_some()
+    let pages = ty.pages_in(size);
+    ty.minimum() <= pages && ty.size_of_pages(pages) == Some(size)
 }
 
 /// The number of whole pages in `size` bytes.
@@ -165,7 +165,7 @@ pub fn grow<L: ResourceLimiter>(
         return Err(MemoryError::OutOfBoundsGrowth);
     };
     let maximum = ty.maximum_size();
-    let has_room = has_place(region, new_size);
+    let has_room = has_room(region, new_size);
     decide_growth(old_size, new_size, maximum, has_room, fuel, limiter)?;
     fill_range(region, old_size, new_size, 0);
     *size = new_size;
@@ -248,6 +248,168 @@ pub fn write(
     Ok(())
 }
 
+/// Fills `len` bytes from `dst` on with a value, of a memory of `size` bytes at the front of a
+/// region. The errors are those of [`LinearMemory::fill`](crate::proved::store::LinearMemory::fill).
+///
+/// # Panics
+///
+/// Panics if the size is above the length of the region.
+///
+/// # Contract
+///
+/// <span></span><pre><code>requires within: size ≤ [length] region.old
+/// ensures written: [BulkWrites] ([filled] ([take] size region.old) dst value len) len
+/// &#32;&#32;&#32;&#32;([metered] ([take] size region.old) ([Some] fuel.old)) result
+/// &#32;&#32;&#32;&#32;([metered] ([take] size region.new) ([Some] fuel.new))
+/// ensures rest: [drop] size region.new ≡ [drop] size region.old
+/// ensures len: [length] region.new ≡ [length] region.old</code></pre>
+///
+/// [length]: crate::specs::library#length "the number of elements of a list"
+/// [BulkWrites]: crate::specs::store::Bulk#BulkWrites "A bulk instruction writes so many bytes, by what the bytes become, or none where a range ends past its list. That is tested first, then the fuel; an instruction that is refused writes and takes nothing."
+/// [filled]: crate::specs::store::Bulk#filled "items of which so many, from dst on, are each filled with a value, or none where they end too early"
+/// [take]: crate::specs::library#take "the first n elements"
+/// [metered]: crate::specs::store::Growth#metered "a value with its meter, if there is one, and no limiter to ask"
+/// [Some]: crate::specs::library#Some "the value x, of an \`Option\`"
+/// [drop]: crate::specs::library#drop "all but the first n elements"
+#[inline]
+pub fn fill(
+    region: &mut [u8],
+    size: usize,
+    dst: u64,
+    value: u8,
+    len: u64,
+    fuel: &mut Fuel,
+) -> Result<(), MemoryError> {
+    assert!(
+        size <= region.len(),
+        "the size is above the length of the region"
+    );
+    fill_bytes(&mut region[..size], dst, value, len, fuel)
+}
+
+/// Copies `len` bytes from `src` on over those from `dst` on, of a memory of `size` bytes at the
+/// front of a region. The errors are those of [`LinearMemory::copy_within`](crate::proved::store::LinearMemory::copy_within).
+///
+/// # Panics
+///
+/// Panics if the size is above the length of the region.
+///
+/// # Contract
+///
+/// <span></span><pre><code>requires within: size ≤ [length] region.old
+/// ensures written: [BulkWrites]
+/// &#32;&#32;&#32;&#32;([copied] ([take] size region.old) dst ([take] size region.old) src len) len
+/// &#32;&#32;&#32;&#32;([metered] ([take] size region.old) ([Some] fuel.old)) result
+/// &#32;&#32;&#32;&#32;([metered] ([take] size region.new) ([Some] fuel.new))
+/// ensures rest: [drop] size region.new ≡ [drop] size region.old
+/// ensures len: [length] region.new ≡ [length] region.old</code></pre>
+///
+/// [length]: crate::specs::library#length "the number of elements of a list"
+/// [BulkWrites]: crate::specs::store::Bulk#BulkWrites "A bulk instruction writes so many bytes, by what the bytes become, or none where a range ends past its list. That is tested first, then the fuel; an instruction that is refused writes and takes nothing."
+/// [copied]: crate::specs::store::Bulk#copied "items whose part from dst on is written over by so many items of a list from src on, or none where a list ends too early"
+/// [take]: crate::specs::library#take "the first n elements"
+/// [metered]: crate::specs::store::Growth#metered "a value with its meter, if there is one, and no limiter to ask"
+/// [Some]: crate::specs::library#Some "the value x, of an \`Option\`"
+/// [drop]: crate::specs::library#drop "all but the first n elements"
+#[inline]
+pub fn copy_within(
+    region: &mut [u8],
+    size: usize,
+    dst: u64,
+    src: u64,
+    len: u64,
+    fuel: &mut Fuel,
+) -> Result<(), MemoryError> {
+    assert!(
+        size <= region.len(),
+        "the size is above the length of the region"
+    );
+    copy_bytes_within(&mut region[..size], dst, src, len, fuel)
+}
+
+/// Copies `len` bytes of another memory, from `src` on, over those from `dst` on, of a memory of
+/// `size` bytes at the front of a region. The errors are those of
+/// [`LinearMemory::copy`](crate::proved::store::LinearMemory::copy).
+///
+/// # Panics
+///
+/// Panics if the size is above the length of the region.
+///
+/// # Contract
+///
+/// <span></span><pre><code>requires within: size ≤ [length] region.old
+/// ensures written: [BulkWrites] ([copied] ([take] size region.old) dst source.now src len) len
+/// &#32;&#32;&#32;&#32;([metered] ([take] size region.old) ([Some] fuel.old)) result
+/// &#32;&#32;&#32;&#32;([metered] ([take] size region.new) ([Some] fuel.new))
+/// ensures rest: [drop] size region.new ≡ [drop] size region.old
+/// ensures len: [length] region.new ≡ [length] region.old</code></pre>
+///
+/// [length]: crate::specs::library#length "the number of elements of a list"
+/// [BulkWrites]: crate::specs::store::Bulk#BulkWrites "A bulk instruction writes so many bytes, by what the bytes become, or none where a range ends past its list. That is tested first, then the fuel; an instruction that is refused writes and takes nothing."
+/// [copied]: crate::specs::store::Bulk#copied "items whose part from dst on is written over by so many items of a list from src on, or none where a list ends too early"
+/// [take]: crate::specs::library#take "the first n elements"
+/// [metered]: crate::specs::store::Growth#metered "a value with its meter, if there is one, and no limiter to ask"
+/// [Some]: crate::specs::library#Some "the value x, of an \`Option\`"
+/// [drop]: crate::specs::library#drop "all but the first n elements"
+#[inline]
+pub fn copy(
+    region: &mut [u8],
+    size: usize,
+    source: &[u8],
+    dst: u64,
+    src: u64,
+    len: u64,
+    fuel: &mut Fuel,
+) -> Result<(), MemoryError> {
+    assert!(
+        size <= region.len(),
+        "the size is above the length of the region"
+    );
+    copy_bytes(&mut region[..size], dst, source, src, len, fuel)
+}
+
+/// Copies `len` bytes of a data segment, from `src` on, over those from `dst` on, of a memory of
+/// `size` bytes at the front of a region. The errors are those of
+/// [`LinearMemory::init`](crate::proved::store::LinearMemory::init).
+///
+/// # Panics
+///
+/// Panics if the size is above the length of the region.
+///
+/// # Contract
+///
+/// <span></span><pre><code>requires within: size ≤ [length] region.old
+/// ensures written: [BulkWrites] ([copied] ([take] size region.old) dst segment.now src len) len
+/// &#32;&#32;&#32;&#32;([metered] ([take] size region.old) ([Some] fuel.old)) result
+/// &#32;&#32;&#32;&#32;([metered] ([take] size region.new) ([Some] fuel.new))
+/// ensures rest: [drop] size region.new ≡ [drop] size region.old
+/// ensures len: [length] region.new ≡ [length] region.old</code></pre>
+///
+/// [length]: crate::specs::library#length "the number of elements of a list"
+/// [BulkWrites]: crate::specs::store::Bulk#BulkWrites "A bulk instruction writes so many bytes, by what the bytes become, or none where a range ends past its list. That is tested first, then the fuel; an instruction that is refused writes and takes nothing."
+/// [copied]: crate::specs::store::Bulk#copied "items whose part from dst on is written over by so many items of a list from src on, or none where a list ends too early"
+/// [take]: crate::specs::library#take "the first n elements"
+/// [metered]: crate::specs::store::Growth#metered "a value with its meter, if there is one, and no limiter to ask"
+/// [Some]: crate::specs::library#Some "the value x, of an \`Option\`"
+/// [drop]: crate::specs::library#drop "all but the first n elements"
+#[inline]
+pub fn init(
+    region: &mut [u8],
+    size: usize,
+    segment: &[u8],
+    dst: u64,
+    src: u32,
+    len: u32,
+    fuel: &mut Fuel,
+) -> Result<(), MemoryError> {
+    assert!(
+        size <= region.len(),
+        "the size is above the length of the region"
+    );
+    let (src, len) = (u64::from(src), u64::from(len));
+    copy_bytes(&mut region[..size], dst, segment, src, len, fuel)
+}
+
 /// Whether a region has `size` bytes.
 ///
 /// # Contract
@@ -257,6 +419,6 @@ pub fn write(
 /// [nat_le]: crate::specs::library#nat_le "whether m is at most n, as a Boolean"
 /// [length]: crate::specs::library#length "the number of elements of a list"
 #[inline]
-fn has_place(region: &[u8], size: usize) -> bool {
+fn has_room(region: &[u8], size: usize) -> bool {
     size <= region.len()
 }

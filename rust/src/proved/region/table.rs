@@ -8,8 +8,11 @@ use crate::proved::meter::growth::{charge, permission, tell};
 use crate::proved::meter::{Fuel, ResourceLimiter, ResourceLimiterRef, TableError};
 use crate::proved::raw::RawRef;
 use crate::proved::store::TableType;
+use crate::proved::store::elements::{
+    copy_elements, copy_elements_within, fill_elements, init_elements,
+};
 use crate::proved::store::growth::TABLE_DENIED as DENIED;
-use crate::proved::store::range::{copy_overlapping, fill_range, lies_within, write_range};
+use crate::proved::store::range::{fill_range, write_range};
 
 /// Whether a table of a type may have `size` elements.
 ///
@@ -226,15 +229,7 @@ pub fn fill(
     fuel: &mut Fuel,
 ) -> Result<(), TableError> {
     let _ = ty;
-    if !lies_within(elements, dst, len) {
-        return Err(TableError::FillOutOfBounds);
-    }
-    if let Err(required_fuel) = charge::<RawRef>(fuel, len) {
-        return Err(TableError::OutOfFuel { required_fuel });
-    }
-    let (start, end) = (dst as usize, (dst + len) as usize);
-    fill_range(elements, start, end, reference);
-    Ok(())
+    fill_elements(elements, dst, reference, len, fuel)
 }
 
 /// Copies `len` elements from `src` on over those from `dst` on. The errors are those of
@@ -261,14 +256,7 @@ pub fn copy_within(
     fuel: &mut Fuel,
 ) -> Result<(), TableError> {
     let _ = ty;
-    if !lies_within(elements, src, len) || !lies_within(elements, dst, len) {
-        return Err(TableError::CopyOutOfBounds);
-    }
-    if let Err(required_fuel) = charge::<RawRef>(fuel, len) {
-        return Err(TableError::OutOfFuel { required_fuel });
-    }
-    copy_overlapping(elements, dst as usize, src as usize, len as usize);
-    Ok(())
+    copy_elements_within(elements, dst, src, len, fuel)
 }
 
 /// Copies `len` items of a table, from `src` on, over the elements of another table from `dst` on.
@@ -297,15 +285,8 @@ pub fn copy(
     fuel: &mut Fuel,
 ) -> Result<(), TableError> {
     ty.ensure_element_type_matches(source.element())?;
-    if !lies_within(items, src, len) || !lies_within(elements, dst, len) {
-        return Err(TableError::CopyOutOfBounds);
-    }
-    if let Err(required_fuel) = charge::<RawRef>(fuel, len) {
-        return Err(TableError::OutOfFuel { required_fuel });
-    }
-    let (dst, src, len) = (dst as usize, src as usize, len as usize);
-    write_range(elements, dst, &items[src..src + len]);
-    Ok(())
+    let outside = TableError::CopyOutOfBounds;
+    copy_elements(elements, dst, items, src, len, outside, fuel)
 }
 
 /// Copies `len` items of the type of a table's elements, from `src` on, over the elements from
@@ -334,16 +315,5 @@ pub fn init(
     fuel: &mut Fuel,
 ) -> Result<(), TableError> {
     let _ = ty;
-    if !lies_within(items, src, len) || !lies_within(elements, dst, len) {
-        return Err(TableError::InitOutOfBounds);
-    }
-    if len == 0 {
-        return Ok(());
-    }
-    if let Err(required_fuel) = charge::<RawRef>(fuel, len) {
-        return Err(TableError::OutOfFuel { required_fuel });
-    }
-    let (dst, src, len) = (dst as usize, src as usize, len as usize);
-    write_range(elements, dst, &items[src..src + len]);
-    Ok(())
+    init_elements(elements, dst, items, src, len, fuel)
 }

@@ -6,6 +6,7 @@ mod ty;
 
 use crate::proved::meter::growth::tell;
 use crate::proved::meter::{Fuel, MemoryError, ResourceLimiter, ResourceLimiterRef};
+use crate::proved::store::bulk::{copy_bytes, copy_bytes_within, fill_bytes};
 use crate::proved::store::growth::{MEMORY_DENIED as DENIED, decide_growth, permitted_minimum};
 use crate::proved::store::optional_meter::with_meter;
 use crate::proved::store::range::{read_bytes, write_range};
@@ -419,5 +420,260 @@ impl<R: Region> LinearMemory<R> {
         }
         write_range(self.buffer.data_mut(), offset, buffer);
         Ok(())
+    }
+
+    /// Fills `len` bytes from `dst` on with a value.
+    ///
+    /// Errors, in the order of the tests: [`OutOfBoundsAccess`] if they end past the memory;
+    /// [`OutOfFuel`], which is tested also if no byte is filled. Then no byte is written, and no fuel
+    /// taken.
+    ///
+    /// Core specification, memory.fill. Own: upstream's memories have no bulk instructions. This
+    /// one is charged as a table's `fill`, by the bytes.
+    ///
+    /// # Contract
+    ///
+    /// <span></span><pre><code>ensures written: [BulkWrites] ([filled] self.old.bytes dst value len) len
+    /// &#32;&#32;&#32;&#32;([metered] self.old.bytes ([meter_at_entry] fuel.entry)) result
+    /// &#32;&#32;&#32;&#32;([metered] self.new.bytes ([meter_at_exit] fuel.exit))
+    /// ensures kept: [KeepsPlace] self.old self.new</code></pre>
+    ///
+    /// [BulkWrites]: crate::specs::store::Bulk#BulkWrites "A bulk instruction writes so many bytes, by what the bytes become, or none where a range ends past its list. That is tested first, then the fuel; an instruction that is refused writes and takes nothing."
+    /// [filled]: crate::specs::store::Bulk#filled "items of which so many, from dst on, are each filled with a value, or none where they end too early"
+    /// [metered]: crate::specs::store::Growth#metered "a value with its meter, if there is one, and no limiter to ask"
+    /// [meter_at_entry]: crate::specs::meter::Meter#meter_at_entry "the meter that an optional reference leads to when a call begins, if there is one"
+    /// [meter_at_exit]: crate::specs::meter::Meter#meter_at_exit "the meter that an optional reference leaves behind it when a call ends, if there is one, in the terms of a clause\'s \`.exit\`"
+    /// [KeepsPlace]: crate::specs::store::Memory#KeepsPlace "bytes are written over, and the type of the memory and its room stay"
+    /// [`OutOfBoundsAccess`]: crate::proved::meter::MemoryError::OutOfBoundsAccess
+    /// [`OutOfFuel`]: crate::proved::meter::MemoryError::OutOfFuel
+    #[inline]
+    pub fn fill(
+        &mut self,
+        dst: u64,
+        value: u8,
+        len: u64,
+        fuel: Option<&mut Fuel>,
+    ) -> Result<(), MemoryError> {
+        with_meter!(fuel => self.fill_metered(dst, value, len, fuel))
+    }
+
+    /// As `fill`, with a meter that isn't optional.
+    ///
+    /// # Contract
+    ///
+    /// <span></span><pre><code>ensures written: [BulkWrites] ([filled] self.old.bytes dst value len) len
+    /// &#32;&#32;&#32;&#32;([metered] self.old.bytes ([Some] fuel.old)) result
+    /// &#32;&#32;&#32;&#32;([metered] self.new.bytes ([Some] fuel.new))
+    /// ensures kept: [KeepsPlace] self.old self.new</code></pre>
+    ///
+    /// [BulkWrites]: crate::specs::store::Bulk#BulkWrites "A bulk instruction writes so many bytes, by what the bytes become, or none where a range ends past its list. That is tested first, then the fuel; an instruction that is refused writes and takes nothing."
+    /// [filled]: crate::specs::store::Bulk#filled "items of which so many, from dst on, are each filled with a value, or none where they end too early"
+    /// [metered]: crate::specs::store::Growth#metered "a value with its meter, if there is one, and no limiter to ask"
+    /// [Some]: crate::specs::library#Some "the value x, of an \`Option\`"
+    /// [KeepsPlace]: crate::specs::store::Memory#KeepsPlace "bytes are written over, and the type of the memory and its room stay"
+    #[inline]
+    pub fn fill_metered(
+        &mut self,
+        dst: u64,
+        value: u8,
+        len: u64,
+        fuel: &mut Fuel,
+    ) -> Result<(), MemoryError> {
+        fill_bytes(self.buffer.data_mut(), dst, value, len, fuel)
+    }
+
+    /// Copies `len` bytes from `src` on over those from `dst` on. If the ranges overlap, the old
+    /// bytes are copied.
+    ///
+    /// Errors, in the order of the tests: [`OutOfBoundsAccess`] if a range ends past the memory;
+    /// [`OutOfFuel`], which is tested also if no byte is copied. Then no byte is written, and no fuel
+    /// taken.
+    ///
+    /// Core specification, memory.copy within a memory. Own: upstream's memories have no bulk
+    /// instructions.
+    ///
+    /// # Contract
+    ///
+    /// <span></span><pre><code>ensures written: [BulkWrites] ([copied] self.old.bytes dst self.old.bytes src len) len
+    /// &#32;&#32;&#32;&#32;([metered] self.old.bytes ([meter_at_entry] fuel.entry)) result
+    /// &#32;&#32;&#32;&#32;([metered] self.new.bytes ([meter_at_exit] fuel.exit))
+    /// ensures kept: [KeepsPlace] self.old self.new</code></pre>
+    ///
+    /// [BulkWrites]: crate::specs::store::Bulk#BulkWrites "A bulk instruction writes so many bytes, by what the bytes become, or none where a range ends past its list. That is tested first, then the fuel; an instruction that is refused writes and takes nothing."
+    /// [copied]: crate::specs::store::Bulk#copied "items whose part from dst on is written over by so many items of a list from src on, or none where a list ends too early"
+    /// [metered]: crate::specs::store::Growth#metered "a value with its meter, if there is one, and no limiter to ask"
+    /// [meter_at_entry]: crate::specs::meter::Meter#meter_at_entry "the meter that an optional reference leads to when a call begins, if there is one"
+    /// [meter_at_exit]: crate::specs::meter::Meter#meter_at_exit "the meter that an optional reference leaves behind it when a call ends, if there is one, in the terms of a clause\'s \`.exit\`"
+    /// [KeepsPlace]: crate::specs::store::Memory#KeepsPlace "bytes are written over, and the type of the memory and its room stay"
+    /// [`OutOfBoundsAccess`]: crate::proved::meter::MemoryError::OutOfBoundsAccess
+    /// [`OutOfFuel`]: crate::proved::meter::MemoryError::OutOfFuel
+    #[inline]
+    pub fn copy_within(
+        &mut self,
+        dst: u64,
+        src: u64,
+        len: u64,
+        fuel: Option<&mut Fuel>,
+    ) -> Result<(), MemoryError> {
+        with_meter!(fuel => self.copy_within_metered(dst, src, len, fuel))
+    }
+
+    /// As `copy_within`, with a meter that isn't optional.
+    ///
+    /// # Contract
+    ///
+    /// <span></span><pre><code>ensures written: [BulkWrites] ([copied] self.old.bytes dst self.old.bytes src len) len
+    /// &#32;&#32;&#32;&#32;([metered] self.old.bytes ([Some] fuel.old)) result
+    /// &#32;&#32;&#32;&#32;([metered] self.new.bytes ([Some] fuel.new))
+    /// ensures kept: [KeepsPlace] self.old self.new</code></pre>
+    ///
+    /// [BulkWrites]: crate::specs::store::Bulk#BulkWrites "A bulk instruction writes so many bytes, by what the bytes become, or none where a range ends past its list. That is tested first, then the fuel; an instruction that is refused writes and takes nothing."
+    /// [copied]: crate::specs::store::Bulk#copied "items whose part from dst on is written over by so many items of a list from src on, or none where a list ends too early"
+    /// [metered]: crate::specs::store::Growth#metered "a value with its meter, if there is one, and no limiter to ask"
+    /// [Some]: crate::specs::library#Some "the value x, of an \`Option\`"
+    /// [KeepsPlace]: crate::specs::store::Memory#KeepsPlace "bytes are written over, and the type of the memory and its room stay"
+    #[inline]
+    pub fn copy_within_metered(
+        &mut self,
+        dst: u64,
+        src: u64,
+        len: u64,
+        fuel: &mut Fuel,
+    ) -> Result<(), MemoryError> {
+        copy_bytes_within(self.buffer.data_mut(), dst, src, len, fuel)
+    }
+
+    /// Copies `len` bytes of another memory, from `src` on, over the bytes of a memory from `dst`
+    /// on.
+    ///
+    /// Errors, in the order of the tests: [`OutOfBoundsAccess`] if a range ends past its memory;
+    /// [`OutOfFuel`], which is tested also if no byte is copied. Then no byte is written, and no fuel
+    /// taken.
+    ///
+    /// Core specification, memory.copy of two memories. Own: upstream's memories have no bulk
+    /// instructions.
+    ///
+    /// # Contract
+    ///
+    /// <span></span><pre><code>ensures written: [BulkWrites]
+    /// &#32;&#32;&#32;&#32;([copied] dst_memory.old.bytes dst src_memory.now.bytes src len) len
+    /// &#32;&#32;&#32;&#32;([metered] dst_memory.old.bytes ([meter_at_entry] fuel.entry)) result
+    /// &#32;&#32;&#32;&#32;([metered] dst_memory.new.bytes ([meter_at_exit] fuel.exit))
+    /// ensures kept: [KeepsPlace] dst_memory.old dst_memory.new</code></pre>
+    ///
+    /// [BulkWrites]: crate::specs::store::Bulk#BulkWrites "A bulk instruction writes so many bytes, by what the bytes become, or none where a range ends past its list. That is tested first, then the fuel; an instruction that is refused writes and takes nothing."
+    /// [copied]: crate::specs::store::Bulk#copied "items whose part from dst on is written over by so many items of a list from src on, or none where a list ends too early"
+    /// [metered]: crate::specs::store::Growth#metered "a value with its meter, if there is one, and no limiter to ask"
+    /// [meter_at_entry]: crate::specs::meter::Meter#meter_at_entry "the meter that an optional reference leads to when a call begins, if there is one"
+    /// [meter_at_exit]: crate::specs::meter::Meter#meter_at_exit "the meter that an optional reference leaves behind it when a call ends, if there is one, in the terms of a clause\'s \`.exit\`"
+    /// [KeepsPlace]: crate::specs::store::Memory#KeepsPlace "bytes are written over, and the type of the memory and its room stay"
+    /// [`OutOfBoundsAccess`]: crate::proved::meter::MemoryError::OutOfBoundsAccess
+    /// [`OutOfFuel`]: crate::proved::meter::MemoryError::OutOfFuel
+    #[inline]
+    pub fn copy<S: Region>(
+        dst_memory: &mut LinearMemory<R>,
+        dst: u64,
+        src_memory: &LinearMemory<S>,
+        src: u64,
+        len: u64,
+        fuel: Option<&mut Fuel>,
+    ) -> Result<(), MemoryError> {
+        with_meter!(fuel => dst_memory.copy_metered(dst, src_memory, src, len, fuel))
+    }
+
+    /// As `copy`, with a meter that isn't optional.
+    ///
+    /// # Contract
+    ///
+    /// <span></span><pre><code>ensures written: [BulkWrites] ([copied] self.old.bytes dst src_memory.now.bytes src len) len
+    /// &#32;&#32;&#32;&#32;([metered] self.old.bytes ([Some] fuel.old)) result
+    /// &#32;&#32;&#32;&#32;([metered] self.new.bytes ([Some] fuel.new))
+    /// ensures kept: [KeepsPlace] self.old self.new</code></pre>
+    ///
+    /// [BulkWrites]: crate::specs::store::Bulk#BulkWrites "A bulk instruction writes so many bytes, by what the bytes become, or none where a range ends past its list. That is tested first, then the fuel; an instruction that is refused writes and takes nothing."
+    /// [copied]: crate::specs::store::Bulk#copied "items whose part from dst on is written over by so many items of a list from src on, or none where a list ends too early"
+    /// [metered]: crate::specs::store::Growth#metered "a value with its meter, if there is one, and no limiter to ask"
+    /// [Some]: crate::specs::library#Some "the value x, of an \`Option\`"
+    /// [KeepsPlace]: crate::specs::store::Memory#KeepsPlace "bytes are written over, and the type of the memory and its room stay"
+    #[inline]
+    pub fn copy_metered<S: Region>(
+        &mut self,
+        dst: u64,
+        src_memory: &LinearMemory<S>,
+        src: u64,
+        len: u64,
+        fuel: &mut Fuel,
+    ) -> Result<(), MemoryError> {
+        copy_bytes(
+            self.buffer.data_mut(),
+            dst,
+            src_memory.data(),
+            src,
+            len,
+            fuel,
+        )
+    }
+
+    /// Copies `len` bytes of a data segment, from `src` on, over the bytes from `dst` on. A segment
+    /// that was dropped has no bytes.
+    ///
+    /// Errors, in the order of the tests: [`OutOfBoundsAccess`] if a range ends past the segment or
+    /// the memory; [`OutOfFuel`], which is tested also if no byte is copied. Then no byte is written,
+    /// and no fuel taken.
+    ///
+    /// Core specification, memory.init. Own: upstream's memories have no bulk instructions.
+    ///
+    /// # Contract
+    ///
+    /// <span></span><pre><code>ensures written: [BulkWrites] ([copied] self.old.bytes dst segment.now src len) len
+    /// &#32;&#32;&#32;&#32;([metered] self.old.bytes ([meter_at_entry] fuel.entry)) result
+    /// &#32;&#32;&#32;&#32;([metered] self.new.bytes ([meter_at_exit] fuel.exit))
+    /// ensures kept: [KeepsPlace] self.old self.new</code></pre>
+    ///
+    /// [BulkWrites]: crate::specs::store::Bulk#BulkWrites "A bulk instruction writes so many bytes, by what the bytes become, or none where a range ends past its list. That is tested first, then the fuel; an instruction that is refused writes and takes nothing."
+    /// [copied]: crate::specs::store::Bulk#copied "items whose part from dst on is written over by so many items of a list from src on, or none where a list ends too early"
+    /// [metered]: crate::specs::store::Growth#metered "a value with its meter, if there is one, and no limiter to ask"
+    /// [meter_at_entry]: crate::specs::meter::Meter#meter_at_entry "the meter that an optional reference leads to when a call begins, if there is one"
+    /// [meter_at_exit]: crate::specs::meter::Meter#meter_at_exit "the meter that an optional reference leaves behind it when a call ends, if there is one, in the terms of a clause\'s \`.exit\`"
+    /// [KeepsPlace]: crate::specs::store::Memory#KeepsPlace "bytes are written over, and the type of the memory and its room stay"
+    /// [`OutOfBoundsAccess`]: crate::proved::meter::MemoryError::OutOfBoundsAccess
+    /// [`OutOfFuel`]: crate::proved::meter::MemoryError::OutOfFuel
+    #[inline]
+    pub fn init(
+        &mut self,
+        segment: &[u8],
+        dst: u64,
+        src: u32,
+        len: u32,
+        fuel: Option<&mut Fuel>,
+    ) -> Result<(), MemoryError> {
+        with_meter!(fuel => self.init_metered(segment, dst, src, len, fuel))
+    }
+
+    /// As `init`, with a meter that isn't optional.
+    ///
+    /// # Contract
+    ///
+    /// <span></span><pre><code>ensures written: [BulkWrites] ([copied] self.old.bytes dst segment.now src len) len
+    /// &#32;&#32;&#32;&#32;([metered] self.old.bytes ([Some] fuel.old)) result
+    /// &#32;&#32;&#32;&#32;([metered] self.new.bytes ([Some] fuel.new))
+    /// ensures kept: [KeepsPlace] self.old self.new</code></pre>
+    ///
+    /// [BulkWrites]: crate::specs::store::Bulk#BulkWrites "A bulk instruction writes so many bytes, by what the bytes become, or none where a range ends past its list. That is tested first, then the fuel; an instruction that is refused writes and takes nothing."
+    /// [copied]: crate::specs::store::Bulk#copied "items whose part from dst on is written over by so many items of a list from src on, or none where a list ends too early"
+    /// [metered]: crate::specs::store::Growth#metered "a value with its meter, if there is one, and no limiter to ask"
+    /// [Some]: crate::specs::library#Some "the value x, of an \`Option\`"
+    /// [KeepsPlace]: crate::specs::store::Memory#KeepsPlace "bytes are written over, and the type of the memory and its room stay"
+    #[inline]
+    pub fn init_metered(
+        &mut self,
+        segment: &[u8],
+        dst: u64,
+        src: u32,
+        len: u32,
+        fuel: &mut Fuel,
+    ) -> Result<(), MemoryError> {
+        let (src, len) = (u64::from(src), u64::from(len));
+        copy_bytes(self.buffer.data_mut(), dst, segment, src, len, fuel)
     }
 }

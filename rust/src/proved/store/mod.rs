@@ -1,4 +1,6 @@
 //! Linear memories and tables: their types, what they contain, and how they are made and grow.
+pub mod bulk;
+pub mod elements;
 pub mod growth;
 #[cfg(any(doc, test))]
 pub mod laws;

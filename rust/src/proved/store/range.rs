@@ -3,7 +3,7 @@
 mod copy;
 
 use crate::proved::meter::MemoryError;
-pub use copy::copy_overlapping;
+pub use copy::{Chunk, copy_overlapping, copy_range};
 
 /// Whether `len` items from an index on lie within a list.
 ///

@@ -7,9 +7,11 @@ mod ty;
 use crate::proved::meter::growth::{charge, permission, tell};
 use crate::proved::meter::{Fuel, ResourceLimiter, ResourceLimiterRef, TableError};
 use crate::proved::raw::RawRef;
+use crate::proved::store::elements::{
+    copy_elements, copy_elements_within, fill_elements, init_elements,
+};
 use crate::proved::store::growth::TABLE_DENIED as DENIED;
 use crate::proved::store::optional_meter::with_meter;
-use crate::proved::store::range::{copy_overlapping, fill_range, lies_within, write_range};
 use crate::proved::typed::TypedRawRef;
 pub use element::{ElementSegment, ElementSegmentRef, SegmentError};
 pub use ty::TableType;
@@ -472,18 +474,7 @@ impl Table {
     ) -> Result<(), TableError> {
         self.ty.ensure_element_type_matches(element.ty())?;
         let (items, src, len) = (element.items(), u64::from(src), u64::from(len));
-        if !lies_within(items, src, len) || !lies_within(self.elements.as_slice(), dst, len) {
-            return Err(TableError::InitOutOfBounds);
-        }
-        if len == 0 {
-            return Ok(());
-        }
-        if let Err(required_fuel) = charge::<RawRef>(fuel, len) {
-            return Err(TableError::OutOfFuel { required_fuel });
-        }
-        let (dst, src, len) = (dst as usize, src as usize, len as usize);
-        write_range(self.elements.as_mut_slice(), dst, &items[src..src + len]);
-        Ok(())
+        init_elements(self.elements.as_mut_slice(), dst, items, src, len, fuel)
     }
 
     /// Copies `len` elements of another table, from `src` on, over the elements of a table from
@@ -543,15 +534,16 @@ impl Table {
         self.ty
             .ensure_element_type_matches(src_table.ty.element())?;
         let items = src_table.elements.as_slice();
-        if !lies_within(items, src, len) || !lies_within(self.elements.as_slice(), dst, len) {
-            return Err(TableError::CopyOutOfBounds);
-        }
-        if let Err(required_fuel) = charge::<RawRef>(fuel, len) {
-            return Err(TableError::OutOfFuel { required_fuel });
-        }
-        let (dst, src, len) = (dst as usize, src as usize, len as usize);
-        write_range(self.elements.as_mut_slice(), dst, &items[src..src + len]);
-        Ok(())
+        let outside = TableError::CopyOutOfBounds;
+        copy_elements(
+            self.elements.as_mut_slice(),
+            dst,
+            items,
+            src,
+            len,
+            outside,
+            fuel,
+        )
     }
 
     /// Copies `len` elements from `src` on over those from `dst` on. If the ranges overlap, the old
@@ -605,16 +597,7 @@ impl Table {
         len: u64,
         fuel: &mut Fuel,
     ) -> Result<(), TableError> {
-        let items = self.elements.as_slice();
-        if !lies_within(items, src, len) || !lies_within(items, dst, len) {
-            return Err(TableError::CopyOutOfBounds);
-        }
-        if let Err(required_fuel) = charge::<RawRef>(fuel, len) {
-            return Err(TableError::OutOfFuel { required_fuel });
-        }
-        let elements = self.elements.as_mut_slice();
-        copy_overlapping(elements, dst as usize, src as usize, len as usize);
-        Ok(())
+        copy_elements_within(self.elements.as_mut_slice(), dst, src, len, fuel)
     }
 
     /// Fills `len` elements from `dst` on with a reference. The type of the reference is tested
@@ -713,15 +696,7 @@ impl Table {
         len: u64,
         fuel: &mut Fuel,
     ) -> Result<(), TableError> {
-        if !lies_within(self.elements.as_slice(), dst, len) {
-            return Err(TableError::FillOutOfBounds);
-        }
-        if let Err(required_fuel) = charge::<RawRef>(fuel, len) {
-            return Err(TableError::OutOfFuel { required_fuel });
-        }
-        let (start, end) = (dst as usize, (dst + len) as usize);
-        fill_range(self.elements.as_mut_slice(), start, end, val);
-        Ok(())
+        fill_elements(self.elements.as_mut_slice(), dst, val, len, fuel)
     }
 }
 

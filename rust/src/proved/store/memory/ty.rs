@@ -39,6 +39,21 @@ impl PageSize {
         }
     }
 
+    /// The number of whole pages in so many bytes. Each arm divides by a number that LLVM knows.
+    ///
+    /// # Contract
+    ///
+    /// <span></span><pre><code>ensures: result ≡ bytes / [page_bytes] self</code></pre>
+    ///
+    /// [page_bytes]: crate::specs::store::MemoryType#page_bytes "the bytes of a page, and the power of two that they are"
+    #[inline]
+    fn pages_in(self, bytes: u64) -> u64 {
+        match self {
+            PageSize::Byte => bytes,
+            PageSize::Wasm => bytes / 65536,
+        }
+    }
+
     /// # Contract
     ///
     /// <span></span><pre><code>ensures: result ≡ [page_log2] self</code></pre>
@@ -252,7 +267,7 @@ impl MemoryType {
     /// [page_bytes]: crate::specs::store::MemoryType#page_bytes "the bytes of a page, and the power of two that they are"
     #[inline]
     pub(crate) fn pages_in(self, size: usize) -> u64 {
-        size as u64 / u64::from(self.page.bytes())
+        self.page.pages_in(size as u64)
     }
 
     /// The number of bytes after a growth by `additional` pages, if the type allows it.

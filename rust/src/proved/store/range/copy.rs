@@ -1,5 +1,6 @@
 //! Copies of a range of a list over another range of it.
 
+use super::write_range;
 use crate::proved::raw::RawRef;
 
 /// How many items are copied at once.
@@ -30,6 +31,15 @@ impl Chunk for RawRef {
     #[inline]
     fn copy_chunk(elements: &mut [RawRef], dst: usize, src: usize, len: usize) {
         let mut few = [RawRef::null(); CHUNK];
+        few[..len].copy_from_slice(&elements[src..src + len]);
+        elements[dst..dst + len].copy_from_slice(&few[..len]);
+    }
+}
+
+impl Chunk for u8 {
+    #[inline]
+    fn copy_chunk(elements: &mut [u8], dst: usize, src: usize, len: usize) {
+        let mut few = [0; CHUNK];
         few[..len].copy_from_slice(&elements[src..src + len]);
         elements[dst..dst + len].copy_from_slice(&few[..len]);
     }
@@ -75,5 +85,33 @@ pub fn copy_overlapping<T: Chunk>(elements: &mut [T], dst: usize, src: usize, le
             left -= count;
             T::copy_chunk(elements, dst + left, src + left, count);
         }
+    }
+}
+
+/// Copies `len` items from `src` on over those from `dst` on: at once if the ranges are apart, and
+/// in parts if they overlap.
+///
+/// # Contract
+///
+/// <span></span><pre><code>requires dst: dst + len ≤ [length] elements.old
+/// requires src: src + len ≤ [length] elements.old
+/// ensures copied: [overwrite] elements.old dst ([take] len ([drop] src elements.old))
+/// &#32;&#32;&#32;&#32;≡ [Some] elements.new</code></pre>
+///
+/// [length]: crate::specs::library#length "the number of elements of a list"
+/// [overwrite]: crate::specs::types::Access#overwrite "xs with ys at a, or none where the list ends before them"
+/// [take]: crate::specs::library#take "the first n elements"
+/// [drop]: crate::specs::library#drop "all but the first n elements"
+/// [Some]: crate::specs::library#Some "the value x, of an \`Option\`"
+#[inline]
+pub fn copy_range<T: Chunk>(elements: &mut [T], dst: usize, src: usize, len: usize) {
+    if src + len <= dst {
+        let (front, back) = elements.split_at_mut(dst);
+        write_range(back, 0, &front[src..src + len]);
+    } else if dst + len <= src {
+        let (front, back) = elements.split_at_mut(src);
+        write_range(front, dst, &back[..len]);
+    } else {
+        copy_overlapping(elements, dst, src, len);
     }
 }
