@@ -1,3 +1,9 @@
+mod ByArgumentsLemmas
 mod InstructionLemmas
 mod LanesLemmas
+mod MachineBoxLemmas
+mod MachineCapsLemmas
+mod MachineLinesLemmas
+mod MachineRunsLemmas
 mod ScriptLemmas
+mod SegmentLemmas

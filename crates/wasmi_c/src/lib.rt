@@ -4,6 +4,7 @@
 #![tactic(auto)]
 
 pub mod instruction;
+pub mod machine;
 pub mod script;
 pub mod status;
 pub mod types;

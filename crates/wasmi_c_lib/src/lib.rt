@@ -5,6 +5,7 @@
 
 mod instructions;
 mod loads;
+mod machine;
 mod scalar;
 mod script;
 mod stores;

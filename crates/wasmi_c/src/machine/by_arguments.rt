@@ -1,0 +1,257 @@
+//! What a machine replies to the calls that engines make most, with plain arguments. Each is one
+//! call of the machine's list; it leaves a status, and some a word in the caller's place.
+ghost use Rattle.std.specs.Prelude.{◌≡◌, ◌+◌, Some};
+ghost use Rattle.wasmi_meter.specs.AnyLimiter.{caps_of};
+ghost use Rattle.wasmi_core.specs.FuelEffects.{get_fuel_reply};
+ghost use Rattle.wasmi_core.specs.MemoryEffects.{load_reply};
+ghost use Rattle.wasmi_core.specs.State.{live_at};
+ghost use Rattle.wasmi_core.specs.declared.calls.Call.TheVariants.{GetFuel, GrowMemory, Store};
+ghost use Rattle.wasmi_core.specs.declared.calls.Reply.TheVariants.{Memory};
+ghost use Rattle.wasmi_c.specs.Machine.ByArguments.{RepliesInStatus, RepliesInWord, item_load, item_load_in, item_load_numbered, item_store, item_store_in, item_store_numbered, vector_binary, vector_binary_numbered, word_after};
+ghost use Rattle.wasmi_c.specs.Machine.Calls.{MachineReplies};
+ghost use Rattle.wasmi_c.specs.Machine.Replies.{status_of};
+
+use crate::instruction::binary::{Binary, binary_numbered};
+use crate::instruction::load::{Load, load_numbered};
+use crate::instruction::store::{Store, store_numbered};
+use crate::machine::laws;
+use crate::machine::limited_machine::LimitedMachine;
+use crate::machine::reply_struct::status_of;
+use crate::status::{DONE, NO_CALL, NO_SUCH, fuel_status, memory_status};
+use wasmi_core::{Call, Reply};
+use wasmi_meter::MemoryError;
+use wasmi_ops::{BinaryOp, LoadOp, StoreOp};
+use wasmi_raw::RawVal;
+
+impl LimitedMachine {
+    /// Loads an item by the load that has the number, if there is one.
+    #[inline(always)]
+    pub fn load(&self, number: u16, memory: usize, ptr: u64, offset: u64, value: &mut u64) -> u8
+        ensures { RepliesInWord (item_load number memory ptr offset) value.old self.now
+            (result, value.new) self.now }
+    {
+        match item_load_numbered(number) {
+            Some(op) => self.load_item(op, memory, ptr, offset, value),
+            None => NO_CALL,
+        }
+    }
+
+    /// Loads an item, and returns the status of the reply to it.
+    #[inline(always)]
+    fn load_item(&self, op: LoadOp, memory: usize, ptr: u64, offset: u64, value: &mut u64) -> u8
+        ensures status { result
+            ≡ status_of (load_reply op (ptr + offset) (live_at self.now.state.memories memory)) }
+        ensures value { value.new ≡ word_after
+            (load_reply op (ptr + offset) (live_at self.now.state.memories memory)) value.old }
+    {
+        let Some(memory) = self.machine.memory(memory) else {
+            return NO_SUCH;
+        };
+        match op.load(memory.data(), ptr, offset) {
+            Ok(raw) => {
+                *value = raw.lo;
+                DONE
+            }
+            Err(trap) => u8::from(trap),
+        }
+    }
+
+    /// Tells the fuel that is left.
+    #[inline(always)]
+    pub fn fuel_left(&self, left: &mut u64) -> u8
+        ensures { RepliesInWord (Some GetFuel) left.old self.now (result, left.new) self.now }
+    {
+        self.tell_fuel(left)
+    }
+
+    /// Tells the fuel that is left, and returns the status of the reply to it.
+    #[inline(always)]
+    fn tell_fuel(&self, left: &mut u64) -> u8
+        ensures status { result ≡ status_of (get_fuel_reply self.now.state.meter) }
+        ensures left { left.new ≡ word_after (get_fuel_reply self.now.state.meter) left.old }
+    {
+        match self.machine.fuel().get_fuel() {
+            Ok(amount) => {
+                *left = amount;
+                DONE
+            }
+            Err(error) => fuel_status(&error),
+        }
+    }
+
+    /// Stores an item by the store that has the number, if there is one.
+    #[inline(always)]
+    pub fn store(&mut self, number: u16, memory: usize, ptr: u64, offset: u64, value: u64) -> u8
+        ensures step { RepliesInStatus (item_store number memory ptr offset value) self.old result
+            self.new }
+        ensures caps { caps_of self.new.limiter ≡ caps_of self.old.limiter }
+    {
+        let Some(op) = item_store_numbered(number) else {
+            return NO_CALL;
+        };
+        let value = RawVal::from_bits64(value);
+        match self.store_item(op, memory, ptr, offset, value) {
+            Reply::Done => DONE,
+            Reply::NoSuch => NO_SUCH,
+            Reply::Trap(trap) => u8::from(trap),
+            other => status_of(&other),
+        }
+    }
+
+    /// Stores an item, which asks no limiter.
+    #[inline(always)]
+    fn store_item(
+        &mut self,
+        op: StoreOp,
+        memory: usize,
+        ptr: u64,
+        offset: u64,
+        value: RawVal,
+    ) -> Reply
+        ensures step { MachineReplies (Store op memory ptr offset value) self.old result self.new }
+        ensures caps { caps_of self.new.limiter ≡ caps_of self.old.limiter }
+    {
+        self.machine.store_item(op, memory, ptr, offset, value)
+    }
+
+    /// Executes the instruction on two vectors that has the number, if there is one.
+    #[inline(always)]
+    pub fn binary(&mut self, number: u16, dst: u8, a: u8, b: u8) -> u8
+        ensures step { RepliesInStatus (vector_binary number dst a b) self.old result self.new }
+        ensures caps { caps_of self.new.limiter ≡ caps_of self.old.limiter }
+    {
+        let Some(op) = vector_binary_numbered(number) else {
+            return NO_CALL;
+        };
+        match self.reply(&Call::Binary { op, dst, a, b }) {
+            Reply::Done => DONE,
+            other => status_of(&other),
+        }
+    }
+
+    /// Grows a memory by so many pages, and leaves a status and a word of the reply.
+    #[inline(always)]
+    pub fn grow(&mut self, memory: usize, pages: u64, number: &mut u64) -> u8
+        ensures step { RepliesInWord (Some (GrowMemory memory pages)) number.old self.old
+            (result, number.new) self.new }
+        ensures caps { caps_of self.new.limiter ≡ caps_of self.old.limiter }
+    {
+        match self.grow_memory(memory, pages) {
+            Reply::Number(size) => {
+                *number = size;
+                DONE
+            }
+            Reply::Memory(error) => leave_refusal(error, number),
+            other => leave(&other, number),
+        }
+    }
+
+    /// Grows a memory by so many pages.
+    #[inline(always)]
+    fn grow_memory(&mut self, memory: usize, pages: u64) -> Reply
+        ensures step { MachineReplies (GrowMemory memory pages) self.old result self.new }
+        ensures caps { caps_of self.new.limiter ≡ caps_of self.old.limiter }
+    {
+        laws::quotas_are_kept();
+        self.machine
+            .grow_memory_lending(memory, pages, &mut self.limiter)
+    }
+}
+
+/// The load of an item that has a number, if there is one.
+#[tactic(auto, unfolding(crate::specs::Machine::ByArguments::item_load_numbered, crate::specs::Instruction::Accesses::load_numbered))]
+fn item_load_numbered(number: u16) -> Option<LoadOp>
+    ensures { result ≡ item_load_numbered number }
+{
+    match number {
+        // Each of the first by itself, so that a load's code is reached by one jump.
+        0 => Some(LoadOp::I32Load8S),
+        1 => Some(LoadOp::I32Load8U),
+        2 => Some(LoadOp::I32Load16S),
+        3 => Some(LoadOp::I32Load16U),
+        4 => Some(LoadOp::I64Load8S),
+        5 => Some(LoadOp::I64Load8U),
+        6 => Some(LoadOp::I64Load16S),
+        7 => Some(LoadOp::I64Load16U),
+        8 => Some(LoadOp::I64Load32S),
+        9 => Some(LoadOp::I64Load32U),
+        10 => Some(LoadOp::LoadU32),
+        11 => Some(LoadOp::LoadU64),
+        _ => item_load_in(load_numbered(number)?),
+    }
+}
+
+/// The load of an item that a load is, if it is one.
+fn item_load_in(load: Load) -> Option<LoadOp>
+    ensures { result ≡ item_load_in load }
+{
+    match load {
+        Load::Scalar(op) => Some(op),
+        Load::Vector(_) => None,
+    }
+}
+
+/// The store of an item that has a number, if there is one.
+#[tactic(auto, unfolding(crate::specs::Machine::ByArguments::item_store_numbered, crate::specs::Instruction::Accesses::store_numbered))]
+fn item_store_numbered(number: u16) -> Option<StoreOp>
+    ensures { result ≡ item_store_numbered number }
+{
+    match number {
+        // As for the loads.
+        0 => Some(StoreOp::I32Store8),
+        1 => Some(StoreOp::I32Store16),
+        2 => Some(StoreOp::I64Store8),
+        3 => Some(StoreOp::I64Store16),
+        4 => Some(StoreOp::I64Store32),
+        5 => Some(StoreOp::Store32),
+        6 => Some(StoreOp::Store64),
+        _ => item_store_in(store_numbered(number)?),
+    }
+}
+
+/// The store of an item that a store is, if it is one.
+fn item_store_in(store: Store) -> Option<StoreOp>
+    ensures { result ≡ item_store_in store }
+{
+    match store {
+        Store::Scalar(op) => Some(op),
+        Store::V128Store => None,
+    }
+}
+
+/// The instruction on two vectors that has a number, if there is one.
+#[tactic(auto, unfolding(crate::specs::Machine::ByArguments::vector_binary_numbered))]
+fn vector_binary_numbered(number: u16) -> Option<BinaryOp>
+    ensures { result ≡ vector_binary_numbered number }
+{
+    match binary_numbered(number)? {
+        Binary::Vector(op) => Some(op),
+        _ => None,
+    }
+}
+
+/// Leaves the fuel that a growth lacks with the caller, and returns the status of a refusal.
+#[inline(always)]
+fn leave_refusal(error: MemoryError, word: &mut u64) -> u8
+    ensures status { result ≡ status_of (Memory error) }
+    ensures word { word.new ≡ word_after (Memory error) word.old }
+{
+    if let MemoryError::OutOfFuel { required_fuel } = error {
+        *word = required_fuel;
+    }
+    memory_status(error)
+}
+
+/// Leaves the word of a reply with the caller, and returns the status.
+fn leave(reply: &Reply, word: &mut u64) -> u8
+    ensures status { result ≡ status_of reply.now }
+    ensures word { word.new ≡ word_after reply.now word.old }
+{
+    match reply {
+        Reply::Value(value) => *word = value.lo,
+        Reply::Number(number) => *word = *number,
+        Reply::Memory(MemoryError::OutOfFuel { required_fuel }) => *word = *required_fuel,
+        _ => {}
+    }
+    status_of(reply)
+}
