@@ -9,5 +9,7 @@ pub mod Holdings
 pub mod Capped
 pub mod CappedProofs
 pub mod Quota
+pub mod AnswerList
+pub mod AnyLimiter
 pub mod Texts
 pub mod Errors
