@@ -10,6 +10,7 @@ mod calls;
 mod decode;
 pub mod handle;
 mod instructions;
+mod item_instructions;
 mod kind;
 pub mod laws;
 pub mod limited_machine;

@@ -1,7 +1,8 @@
-//! Callers of the laws of `wasmi_core`, its parts and `wasmi_budget`: each law is called by a
-//! function whose contract a user of the law would want.
+//! Callers of the laws of `wasmi_core`, its parts, `wasmi_budget` and `wasmi_c`: each law is called
+//! by a function whose contract a user of the law would want.
 #![tactic(auto)]
 
+pub mod handles;
 pub mod lanes;
 pub mod lending;
 pub mod meters;

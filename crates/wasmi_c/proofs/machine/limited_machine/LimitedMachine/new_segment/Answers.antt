@@ -13,4 +13,4 @@ pub returns-clause-step : goal.returns-clause-step
 unfolding RepliesToCopy
 returns-clause-step c =
     replies_of_type c.args.ty c.in-Some.ty _ _ _ _ (sym c.reference_type.ensures ∙ c.in-Some.is)
-    (inr (c.in-Ok.items, c.in-Ok.ensures, c.reply.result, c.reply.ensures.step, c.of.ensures))
+    (inr (c.in-Ok.items, c.in-Ok.ensures, c.reply_in_struct.ensures.step))

@@ -14,4 +14,4 @@ pub returns-in-Memory-clause-step : goal.returns-in-Memory-clause-step
 returns-in-Memory-clause-step c = (c.reply.result, c.reply.ensures.step, search rules)
 
 pub returns-in_default-clause-step : goal.returns-in_default-clause-step
-returns-in_default-clause-step c = (c.reply.result, c.reply.ensures.step, c.of.ensures)
+returns-in_default-clause-step c = (c.reply.result, c.reply.ensures.step, c.from_reply.ensures)

@@ -1,6 +1,6 @@
 use Rattle.std.proofs.Common.{◌≡◌, inl, inr, refl, rules}
 use Rattle.wasmi_grammar.specs.Refusals.{IsFirstBadLine}
-use Rattle.wasmi_c.specs.Machine.Lines.{bad_line_status}
+use Rattle.wasmi_c.specs.Status.{bad_line_status}
 use Rattle.wasmi_c.specs.Machine.Replies.{with_number}
 use Rattle.wasmi_c.proofs.MachineLinesLemmas.{refused}
 use Rattle.wasmi_c.proofs.machine.limited_machine.LimitedMachine.run_lines.Goals as goal

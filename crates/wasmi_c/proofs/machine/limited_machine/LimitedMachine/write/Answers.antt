@@ -9,4 +9,4 @@ returns-in_default-clause-step c = inl (c.only.ensures, refl)
 pub returns-clause-step : goal.returns-clause-step
 unfolding RepliesToCopy
 returns-clause-step c =
-    inr (c.in-Ok.bytes, c.in-Ok.ensures.items, c.reply.result, c.reply.ensures.step, c.of.ensures)
+    inr (c.in-Ok.bytes, c.in-Ok.ensures.items, c.reply_in_struct.ensures.step)
