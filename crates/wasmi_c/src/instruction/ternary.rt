@@ -17,6 +17,7 @@ fn apply(op: TernaryOp, a: RawVal, b: RawVal, c: RawVal) -> RawVal
 }
 
 /// The instruction that has a number, if there is one.
+#[tactic(auto, unfolding(crate::specs::Instruction::Calls::op_numbered))]
 pub fn ternary_numbered(number: u16) -> Option<TernaryOp>
     ensures { result ≡ op_numbered TERNARIES number }
 {
