@@ -17,6 +17,7 @@ pub mod Writing
 pub mod Determinism
 pub mod LentMemory
 pub mod Laws
+pub mod Kinds
 pub mod Types
 pub use Rattle.wasmi_types.specs.Bytes
 pub use Rattle.wasmi_types.specs.Access
@@ -65,6 +66,8 @@ pub use Rattle.wasmi_meter.specs.Meter
 pub use Rattle.wasmi_meter.specs.Attempt
 pub use Rattle.wasmi_meter.specs.Holdings
 pub use Rattle.wasmi_meter.specs.Quota
+pub use Rattle.wasmi_meter.specs.AnswerList
+pub use Rattle.wasmi_meter.specs.AnyLimiter
 pub use Rattle.wasmi_meter.specs.Texts
 pub use Rattle.wasmi_meter.specs.Errors
 pub use Rattle.wasmi_store.specs.Limits

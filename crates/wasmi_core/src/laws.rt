@@ -6,6 +6,7 @@ ghost use Rattle.wasmi_meter.specs.Limiter.{optional_rules, unlimited_rules};
 ghost use Rattle.wasmi_meter.specs.declared.limiter.NoLimits.{NoLimits};
 ghost use Rattle.wasmi_meter.specs.Quota.{quota_rules};
 ghost use Rattle.wasmi_core.specs.Determinism.{IsDeterministic, AcceptsNotices};
+ghost use Rattle.wasmi_core.specs.Kinds.{RepliesKeepKind, RunsKeepKind, RunsOfCallsKeepKind};
 ghost use Rattle.wasmi_core.specs.Validity.{IsValid};
 ghost use Rattle.wasmi_core.specs.Laws.{RunsJoin, RunsOfCallsJoin, RefusalsKeepContents, RefusalsInRunsKeepContents, RefusedRunsKeepContents, GrowsAsPermitted, RunsGrowAsPermitted, RepliesPermit, RunsKeepValidity, ChargesAreSpent, QuotasStayWithin, FuelBalances, FuelBoundsWriting, HoldsTotalsAlways, LentRunsAreOwned, LentCreationsAreOwned, LentGrowthsSucceed, RunsAreOne, RepliesTell, RepliesAreOne};
 
@@ -89,6 +90,14 @@ pub fn replies_permit<L: ResourceLimiter>()
 /// A quota that holds at most its caps before a run does so after it, and has the same caps.
 pub fn quotas_stay_within()
     ensures { QuotasStayWithin }
+{}
+
+/// A run under a limiter whose kind was chosen while the program ran is one by the rules of its
+/// kind, and the kind stays. So are a run of calls with its replies, and a reply to one call.
+pub fn kinds_stay()
+    ensures turns { RunsKeepKind }
+    ensures calls { RunsOfCallsKeepKind }
+    ensures reply { RepliesKeepKind }
 {}
 
 /// A reserving limiter that holds a machine's totals before a run holds them after it.

@@ -21,9 +21,10 @@ pub use running::{run, run_lending, run_reserving};
 pub use wasmi_access::{access, laws as access_laws};
 pub use wasmi_lanes::{laws as lane_laws, on_vectors, words};
 pub use wasmi_meter::{
-    Amounts, CustomFuelCosts, Fuel, FuelCosts, FuelCostsProvider, FuelError, Holdings, Kind,
-    Lender, LimiterByKind, LimiterError, LimiterRef, MemoryError, NoLimits, Quota, Reserving,
-    ResourceLimiter, ResourceLimiterRef, TableError, ValueSize, growth,
+    Amounts, AnswerList, AnyLimiter, CustomFuelCosts, Fuel, FuelCosts, FuelCostsProvider,
+    FuelError, Holdings, Kind, Lender, LimiterAnswer, LimiterByKind, LimiterError, LimiterRef,
+    MemoryError, NoLimits, Quota, Reserving, ResourceLimiter, ResourceLimiterRef, TableError,
+    ValueSize, growth,
 };
 pub use wasmi_ops::{
     BinaryOp, ExtractOp, LoadLaneOp, LoadOp, MakeOp, ReplaceOp, ScalarBinaryOp, ScalarUnaryOp,
