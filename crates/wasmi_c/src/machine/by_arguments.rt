@@ -90,12 +90,7 @@ impl LimitedMachine {
             return NO_CALL;
         };
         let value = RawVal::from_bits64(value);
-        match self.store_item(op, memory, ptr, offset, value) {
-            Reply::Done => DONE,
-            Reply::NoSuch => NO_SUCH,
-            Reply::Trap(trap) => u8::from(trap),
-            other => status_of(&other),
-        }
+        common_status(self.store_item(op, memory, ptr, offset, value))
     }
 
     /// Stores an item, which asks no limiter.
@@ -123,10 +118,7 @@ impl LimitedMachine {
         let Some(op) = vector_binary_numbered(number) else {
             return NO_CALL;
         };
-        match self.reply(&Call::Binary { op, dst, a, b }) {
-            Reply::Done => DONE,
-            other => status_of(&other),
-        }
+        common_status(self.reply(&Call::Binary { op, dst, a, b }))
     }
 
     /// Grows a memory by so many pages, and leaves a status and a word of the reply.
@@ -155,6 +147,20 @@ impl LimitedMachine {
         laws::quotas_are_kept();
         self.machine
             .grow_memory_lending(memory, pages, &mut self.limiter)
+    }
+}
+
+/// The status of a reply. The replies of stores and of instructions are looked at first, since a
+/// reply that is kept in a variable is copied, which takes longer than what it tells.
+#[inline(always)]
+fn common_status(reply: Reply) -> u8
+    ensures { result ≡ status_of reply }
+{
+    match reply {
+        Reply::Done => DONE,
+        Reply::NoSuch => NO_SUCH,
+        Reply::Trap(trap) => u8::from(trap),
+        other => status_of(&other),
     }
 }
 

@@ -9,3 +9,9 @@ pub returns-in_default-clause-step : goal.returns-in_default-clause-step
 returns-in_default-clause-step c =
     no_call_left _ _ (ap (option_map (λ op. Store op c.args.memory c.args.ptr c.args.offset (raw_of c.args.value)))
     (sym c.item_store_numbered.ensures ∙ c.in_default.is))
+
+pub returns-clause-step : goal.returns-clause-step
+returns-clause-step c =
+    status_left _ _ _ _ _ _
+    (ap (option_map (λ op. Store op c.args.memory c.args.ptr c.args.offset (raw_of c.args.value)))
+    (sym c.item_store_numbered.ensures ∙ c.in-Some.is)) c.store_item.ensures.step c.common_status.ensures
