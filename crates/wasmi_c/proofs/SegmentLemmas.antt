@@ -10,7 +10,8 @@ use Rattle.wasmi_c.specs.Types.{reference_type_of}
 use Rattle.wasmi_c.specs.declared.machine.reply_struct.ReplyStruct.{ReplyStruct}
 
 -- a machine that replies to the making of a segment of a type replies to that of the type's number
-pub replies_of_type : (number : ℕ) (ref : RefType) (items : List ℕ) (machine : LimitedMachineValue) (reply : ReplyStruct)
+pub replies_of_type : (number : ℕ) (ref : RefType) (items : List ℕ) (machine : LimitedMachineValue)
+    (reply : ReplyStruct)
     (machine' : LimitedMachineValue) → reference_type_of number ≡ Some ref
     → RepliesToCopy (NewSegment ref) items machine reply machine' → RepliesToSegment number items machine reply machine'
 replies_of_type number ref items machine reply machine' is replies =

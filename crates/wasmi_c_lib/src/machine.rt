@@ -86,7 +86,8 @@ pub extern "C" fn wasmi_machine_write(
 ) -> ReplyStruct
     ensures step { ActsOnHeld (only no_machine_status) handle.old.machine.held
         result handle.new.machine.held
-        (λ machine machine'. RepliesToCopy (Write memory offset) bytes.now machine result machine') }
+        (λ machine machine'. RepliesToCopy
+        (Write memory offset) bytes.now machine result machine') }
     ensures caps { StaysWithinCaps handle.old.machine.held handle.new.machine.held }
 {
     handle.write(alloc, memory, offset, bytes)
@@ -158,8 +159,10 @@ pub extern "C" fn wasmi_machine_store(
     offset: u64,
     value: u64,
 ) -> u8
-    ensures step { ActsOnHeld no_machine_status handle.old.machine.held result handle.new.machine.held
-        (λ machine machine'. RepliesInStatus (item_store number memory ptr offset value) machine result
+    ensures step { ActsOnHeld no_machine_status handle.old.machine.held result
+        handle.new.machine.held
+        (λ machine machine'. RepliesInStatus
+        (item_store number memory ptr offset value) machine result
         machine') }
     ensures caps { StaysWithinCaps handle.old.machine.held handle.new.machine.held }
 {
@@ -175,8 +178,10 @@ pub extern "C" fn wasmi_machine_binary(
     a: u8,
     b: u8,
 ) -> u8
-    ensures step { ActsOnHeld no_machine_status handle.old.machine.held result handle.new.machine.held
-        (λ machine machine'. RepliesInStatus (vector_binary number dst a b) machine result machine') }
+    ensures step { ActsOnHeld no_machine_status handle.old.machine.held result
+        handle.new.machine.held
+        (λ machine machine'. RepliesInStatus
+        (vector_binary number dst a b) machine result machine') }
     ensures caps { StaysWithinCaps handle.old.machine.held handle.new.machine.held }
 {
     handle.binary(number, dst, a, b)
@@ -204,7 +209,8 @@ pub extern "C" fn wasmi_machine_grow(
 pub extern "C" fn wasmi_machine_fuel_left(handle: &mut Handle, left: &mut u64) -> u8
     ensures step { ActsOnHeld {R = ℕ × ℕ} (no_machine_status, left.old) handle.old.machine.held
         (result, left.new) handle.new.machine.held
-        (λ machine machine'. RepliesInWord (Some GetFuel) left.old machine (result, left.new) machine') }
+        (λ machine machine'. RepliesInWord (Some GetFuel) left.old machine
+        (result, left.new) machine') }
     ensures caps { StaysWithinCaps handle.old.machine.held handle.new.machine.held }
 {
     handle.fuel_left(left)

@@ -39,15 +39,15 @@ vector_binary_in (binary.Vector op) = Some op
 vector_binary_in other = None
 
 -- the load of an item that has a number, if there is one
-unfoldable pub item_load_numbered : ℕ → Option LoadOp
+abbrev pub item_load_numbered : ℕ → Option LoadOp
 item_load_numbered number = option_and_then item_load_in (load_numbered number)
 
 -- the store of an item that has a number, if there is one
-unfoldable pub item_store_numbered : ℕ → Option StoreOp
+abbrev pub item_store_numbered : ℕ → Option StoreOp
 item_store_numbered number = option_and_then item_store_in (store_numbered number)
 
 -- the instruction on two vectors that has a number, if there is one
-unfoldable pub vector_binary_numbered : ℕ → Option BinaryOp
+abbrev pub vector_binary_numbered : ℕ → Option BinaryOp
 vector_binary_numbered number = option_and_then vector_binary_in (binary_numbered number)
 
 -- the load of an item that a number stands for, if there is one

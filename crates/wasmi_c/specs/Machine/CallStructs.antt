@@ -56,14 +56,17 @@ memory_call memory.StoreLane numbers = store_lane_call numbers
 abbrev pub table_call : TableCall → CallStruct → Option Call
 table_call table.NewTable numbers =
     option_and_then (λ ty. option_map (call.NewTable ty) (typed_reference_of numbers)) (table_type_in numbers)
-table_call table.GrowTable numbers = option_map (call.GrowTable numbers.index numbers.count) (typed_reference_of numbers)
+table_call table.GrowTable numbers =
+    option_map (call.GrowTable numbers.index numbers.count) (typed_reference_of numbers)
 table_call table.DropTable numbers = Some (call.DropTable numbers.index)
 table_call table.GetElement numbers = Some (call.GetElement numbers.index numbers.to)
 table_call table.SetElement numbers = option_map (call.SetElement numbers.index numbers.to) (typed_reference_of numbers)
 table_call table.InitTable numbers =
-    option_and_then (λ src. option_map (call.InitTable numbers.index numbers.source numbers.to src) (u32_of numbers.count))
+    option_and_then
+    (λ src. option_map (call.InitTable numbers.index numbers.source numbers.to src) (u32_of numbers.count))
     (u32_of numbers.from)
-table_call table.CopyTable numbers = Some (call.CopyTable numbers.index numbers.to numbers.source numbers.from numbers.count)
+table_call table.CopyTable numbers =
+    Some (call.CopyTable numbers.index numbers.to numbers.source numbers.from numbers.count)
 table_call table.FillTable numbers =
     option_map (λ value. call.FillTable numbers.index numbers.to value numbers.count) (typed_reference_of numbers)
 table_call table.DropItems numbers = Some (call.DropItems numbers.index)

@@ -24,7 +24,8 @@ Keeps state limiter = IfSome (quota_of limiter) (IsKept state)
 
 -- the machine has no more bytes and no more elements than its caps, if it has caps
 abbrev pub IsCapped : LimitedMachineValue → Type 0
-IsCapped machine = (kind : Kind) → IfSome (quota_of machine.limiter) (λ quota. total machine.state kind ≤ cap_of quota kind)
+IsCapped machine =
+    (kind : Kind) → IfSome (quota_of machine.limiter) (λ quota. total machine.state kind ≤ cap_of quota kind)
 
 -- the machine of a handle is within its caps, and they are those of the machine that was there before, if one was
 abbrev pub StaysWithinCaps : Option LimitedMachineValue → Option LimitedMachineValue → Type 0

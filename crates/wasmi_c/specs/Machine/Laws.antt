@@ -32,7 +32,8 @@ MachineRunsJoin = (calls calls' : List Call) (u v w : LimitedMachineValue) (repl
     → MachineRuns (calls ++ calls') u (replies ++ replies') w
 
 -- a machine replies to two calls with numbers, which are those of the replies of one run of both
-abbrev pub RunsBoth : Call → Call → LimitedMachineValue → ReplyStruct × ReplyStruct → Option LimitedMachineValue → Type 0
+abbrev pub RunsBoth : Call → Call → LimitedMachineValue → ReplyStruct × ReplyStruct → Option LimitedMachineValue
+    → Type 0
 RunsBoth call call' machine replies held' = (reply : Reply) × (reply' : Reply) × (machine' : LimitedMachineValue)
     × MachineRuns (call ∷ call' ∷ []) machine (reply ∷ reply' ∷ []) machine'
     × (replies ≡ (reply_struct reply, reply_struct reply')) × (held' ≡ Some machine')

@@ -38,7 +38,8 @@ abbrev pub no_header : Header
 no_header = record { meter = None; limiter = None; region = None }
 
 -- a script without header lines is run on a machine, and bytes are filled with the text of the replies
-pub record RunsScript (script : Script) (machine : LimitedMachineValue) (old : List ℕ) (reply : ReplyStruct) (new : List ℕ)
+pub record RunsScript (script : Script) (machine : LimitedMachineValue) (old : List ℕ) (reply : ReplyStruct)
+    (new : List ℕ)
     (machine' : LimitedMachineValue) : Type 0 where
   pub headless : script.header ≡ no_header
   pub replies : List Reply

@@ -2,8 +2,8 @@
 ghost use Rattle.std.specs.Prelude.{◌≡◌};
 ghost use Rattle.wasmi_c.specs.Machine.CallStructs.{call_of, global_call, memory_call, meter_call, register_call, table_call};
 
-use crate::machine::kind::{GlobalCall, Kind, MemoryCall, MeterCall, RegisterCall, TableCall};
 use crate::machine::call_struct::CallStruct;
+use crate::machine::kind::{GlobalCall, Kind, MemoryCall, MeterCall, RegisterCall, TableCall};
 use crate::types::{to_u32, val_type};
 use wasmi_core::Call;
 use wasmi_typed::{GlobalType, TypedRawVal};

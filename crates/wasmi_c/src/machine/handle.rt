@@ -67,7 +67,10 @@ impl Handle {
         ensures within { IsCapped machine.entry.value }
     {
         machine.show_within();
-        let Handle { machine, is_made: _ } = mem::replace(self, Handle::from_box(machine));
+        let Handle {
+            machine,
+            is_made: _,
+        } = mem::replace(self, Handle::from_box(machine));
         machine.end();
     }
 }

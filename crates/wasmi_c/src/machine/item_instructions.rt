@@ -8,7 +8,7 @@ use crate::instruction::store::{Store, store_numbered};
 use wasmi_ops::{BinaryOp, LoadOp, StoreOp};
 
 /// The load of an item that has a number, if there is one.
-#[tactic(auto, unfolding(crate::specs::Machine::ByArguments::item_load_numbered, crate::specs::Instruction::Accesses::load_numbered))]
+#[tactic(auto, unfolding(crate::specs::Instruction::Accesses::load_numbered))]
 pub fn item_load_numbered(number: u16) -> Option<LoadOp>
     ensures { result ≡ item_load_numbered number }
 {
@@ -41,7 +41,7 @@ fn item_load_in(load: Load) -> Option<LoadOp>
 }
 
 /// The store of an item that has a number, if there is one.
-#[tactic(auto, unfolding(crate::specs::Machine::ByArguments::item_store_numbered, crate::specs::Instruction::Accesses::store_numbered))]
+#[tactic(auto, unfolding(crate::specs::Instruction::Accesses::store_numbered))]
 pub fn item_store_numbered(number: u16) -> Option<StoreOp>
     ensures { result ≡ item_store_numbered number }
 {
@@ -69,7 +69,6 @@ fn item_store_in(store: Store) -> Option<StoreOp>
 }
 
 /// The instruction on two vectors that has a number, if there is one.
-#[tactic(auto, unfolding(crate::specs::Machine::ByArguments::vector_binary_numbered))]
 pub fn vector_binary_numbered(number: u16) -> Option<BinaryOp>
     ensures { result ≡ vector_binary_numbered number }
 {

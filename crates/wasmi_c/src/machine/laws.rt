@@ -1,5 +1,5 @@
-//! What holds of all calls and lines by a handle. Each function does nothing: it states a law as its
-//! contract.
+//! What holds of all calls and lines by a handle. Each function does nothing: it states a law as
+//! its contract.
 ghost use Rattle.wasmi_c.specs.Machine.Laws.{CallsAreRuns, MachineRunsJoin, QuotasAreKept};
 
 use wasmi_core::laws;

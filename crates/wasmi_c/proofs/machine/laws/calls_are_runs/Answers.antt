@@ -5,4 +5,5 @@ pub returns-clause-call : goal.returns-clause-call
 returns-clause-call c = calls_run
 
 pub returns-clause-join : goal.returns-clause-join
-returns-clause-join c = λ calls calls' u v w replies replies'. c.runs_join.ensures.calls calls calls' _ _ _ replies replies'
+returns-clause-join c =
+    λ calls calls' u v w replies replies'. c.runs_join.ensures.calls calls calls' _ _ _ replies replies'

@@ -19,8 +19,8 @@ returns-in-Memory c = record {
   caps = c.grow_memory.ensures.caps;
 }
 
-pub returns-in_default-grow_memory : goal.returns-in_default-grow_memory
-returns-in_default-grow_memory c = record {
+pub returns-in_default : goal.returns-in_default
+returns-in_default c = record {
   step = word_left (GrowMemory c.args.memory c.args.pages) c.args.self.now c.grow_memory.result c.args.number.now
       c.leave.result c.leave.new.word c.grow_memory.new.self c.grow_memory.ensures.step c.leave.ensures.status
       c.leave.ensures.word;

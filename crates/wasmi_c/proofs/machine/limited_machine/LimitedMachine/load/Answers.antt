@@ -4,7 +4,8 @@ use Rattle.wasmi_c.proofs.machine.limited_machine.LimitedMachine.load.Goals as g
 
 pub returns-in-Some : goal.returns-in-Some
 returns-in-Some c =
-    load_leaves _ _ _ _ c.in-Some.op _ _ _ _ (sym c.item_load_numbered.ensures ∙ c.in-Some.is) c.load_item.ensures.status
+    load_leaves _ _ _ _ c.in-Some.op _ _ _ _
+    (sym c.item_load_numbered.ensures ∙ c.in-Some.is) c.load_item.ensures.status
     c.load_item.ensures.value
 
 pub returns-in-None : goal.returns-in-None
