@@ -65,7 +65,7 @@ def machine_numbers(guest):
     made = constants(read("status.rt")) | refusal_numbers(read("replies.rt"))
     made |= {f"CALL_{capitals(name)}": number for number, name in enumerate(re.findall(r"Call::(\w+)\)", kinds))}
     made |= {f"TYPE_{name.upper()}": number for number, name in enumerate(re.findall(r"ValType::(\w+),", types))}
-    answers = re.findall(r"(?:\d+|_) => AnswerWord::(\w+),", read("answer_numbers.rt"))
+    answers = re.findall(r"(?:\d+|_) => LimiterAnswer::(\w+),", read("answer_numbers.rt"))
     return made | {f"ANSWER_{name.upper()}": number for number, name in enumerate(answers)}
 
 

@@ -1,12 +1,8 @@
 -- A quota holds what its machine has, whatever is called.
-use Rattle.std.proofs.Common.{◌≡◌, Option, Some, None, [], ◌∷◌, refl, sym, subst, ap, arith}
+use Rattle.std.proofs.Common.{◌≡◌, Some, None, [], ◌∷◌, refl, sym, subst, arith}
 use Rattle.std.proofs.lemmas.Option.{same_Some}
 use Rattle.std.specs.Prelude.{IfSome}
-use Rattle.std.specs.Borrow.{MutBor}
-use Rattle.std.specs.Option.{option_copied_mut}
 use Rattle.wasmi_meter.specs.Limiter.{optional_rules}
-use Rattle.wasmi_meter.specs.LimiterRef.{loan, lent_limiter, KeepsLoan, SameLoan}
-use Rattle.wasmi_meter.specs.declared.limiter_ref.LimiterRef.{LimiterRef}
 use Rattle.wasmi_meter.specs.Quota.{holdings, quota_rules, IsWithinCaps, SameCaps}
 use Rattle.wasmi_meter.specs.declared.limiter.Kind.TheVariants.{Bytes, Elements}
 use Rattle.wasmi_meter.specs.declared.quota.Quota.{Quota}
@@ -17,10 +13,11 @@ use Rattle.wasmi_core.specs.Totals.{HoldsTotals}
 use Rattle.wasmi_core.specs.World.{world}
 use Rattle.wasmi_core.specs.declared.calls.Call.{Call}
 use Rattle.wasmi_core.specs.declared.calls.Reply.{Reply}
-use Rattle.wasmi_guest.specs.Caps.{IsKept, IsCapped, caps_of, quota_of}
-use Rattle.wasmi_guest.specs.Guests.{guest_of}
-use Rattle.wasmi_guest.specs.declared.guest_limiter.GuestLimiter.{GuestLimiter}
-use Rattle.wasmi_guest.specs.declared.guest_limiter.GuestLimiter.TheVariants as limiter
+use Rattle.wasmi_meter.specs.AnyLimiter.{caps_of, quota_of}
+use Rattle.wasmi_guest.specs.Caps.{IsKept, IsCapped}
+use Rattle.wasmi_guest.specs.Guests.{GuestReplies, guest_of}
+use Rattle.wasmi_meter.specs.declared.any_limiter.AnyLimiter.{AnyLimiter}
+use Rattle.wasmi_meter.specs.declared.any_limiter.AnyLimiter.TheVariants as limiter
 
 -- the same caps, kind by kind, are the same caps
 pub equal_caps : (quota quota' : Quota) → SameCaps quota quota'
@@ -44,26 +41,22 @@ kept_by_call holds stays call s quota reply s' quota' kept (charge, written, ste
       equal_caps quota quota' (subst (SameCaps quota) same within.3),
     )
 
+-- so does a limiter that is one
+pub kept_by_reply : HoldsTotalsAlways quota_rules holdings → QuotasStayWithin
+    → (call : Call) (s : State) (l : AnyLimiter) (reply : Reply) (s' : State) (l' : AnyLimiter)
+    → IfSome (quota_of l) (IsKept s) → GuestReplies call (guest_of s l) reply (guest_of s' l')
+    → IfSome (quota_of l') (IsKept s') × (caps_of l' ≡ caps_of l)
+kept_by_reply holds stays call s limiter.Unlimited reply s' l' kept (same, answers) =
+    subst (λ l. IfSome (quota_of l) (IsKept s') × (caps_of l ≡ None)) (sym same) (tt, refl)
+kept_by_reply holds stays call s (limiter.Quota quota) reply s' l' kept (quota', same, answers) =
+    subst (λ l. IfSome (quota_of l) (IsKept s') × (caps_of l ≡ caps_of (limiter.Quota quota))) (sym same)
+    (kept_by_call holds stays call s quota reply s' quota' kept answers)
+kept_by_reply holds stays call s (limiter.Answers list) reply s' l' kept (list', same, answers) =
+    subst (λ l. IfSome (quota_of l) (IsKept s') × (caps_of l ≡ None)) (sym same) (tt, refl)
+
 -- a machine whose quota holds what it has is within the caps
-pub kept_within : (s : State) (l : GuestLimiter) → IfSome (quota_of l) (IsKept s) → IsCapped (guest_of s l)
+pub kept_within : (s : State) (l : AnyLimiter) → IfSome (quota_of l) (IsKept s) → IsCapped (guest_of s l)
 kept_within s limiter.Unlimited kept kind = tt
 kept_within s (limiter.Quota quota) kept Bytes = omega (arith, kept.totals.bytes, kept.within Bytes)
 kept_within s (limiter.Quota quota) kept Elements = omega (arith, kept.totals.elements, kept.within Elements)
 kept_within s (limiter.Answers answers) kept kind = tt
-
--- a limiter that isn't lent before a call isn't lent after it
-absent_after : (lent lent' : Option (MutBor Quota)) → lent ≡ None → SameLoan lent lent' → option_copied_mut lent' ≡ None
-absent_after None None absent same = refl
-absent_after None (Some l') absent same = absurd same
-absent_after (Some l) lent' absent same = absurd cc
-
--- a call without a limiter is one before and after which there is none
-pub answers_freely : (call : Call) (s s' : State) (reply : Reply) (r r' : LimiterRef (MutBor Quota)) → loan r ≡ None
-    → KeepsLoan r r'
-    → Answers (optional_rules quota_rules) call (world s (lent_limiter r)) reply (world s' (lent_limiter r'))
-    → Answers (optional_rules quota_rules) call (world s None) reply (world s' None)
-answers_freely call s s' reply r r' absent same answers =
-    subst (λ l. Answers (optional_rules quota_rules) call (world s l) reply (world s' None))
-    (ap option_copied_mut absent)
-    (subst (λ l. Answers (optional_rules quota_rules) call (world s (lent_limiter r)) reply (world s' l))
-    (absent_after r.limiter r'.limiter absent same) answers)

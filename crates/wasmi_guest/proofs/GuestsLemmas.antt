@@ -8,11 +8,11 @@ use Rattle.wasmi_core.specs.declared.calls.Call.{Call}
 use Rattle.wasmi_core.specs.declared.calls.Reply.{Reply}
 use Rattle.wasmi_guest.specs.Caps.{GuestValue}
 use Rattle.wasmi_guest.specs.Guests.{GuestReplies, RelatesUnder, guest_of}
-use Rattle.wasmi_guest.specs.declared.guest_limiter.GuestLimiter.{GuestLimiter}
-use Rattle.wasmi_guest.specs.declared.guest_limiter.GuestLimiter.TheVariants as limiter
+use Rattle.wasmi_meter.specs.declared.any_limiter.AnyLimiter.{AnyLimiter}
+use Rattle.wasmi_meter.specs.declared.any_limiter.AnyLimiter.TheVariants as limiter
 
 -- two states that are related by the rules of any limiter, which stays, are so under a guest's
-pub related_under : (Relates : (L : Type 0) → Rules L → World L → World L → Type 0) (s s' : State) (l : GuestLimiter)
+pub related_under : (Relates : (L : Type 0) → Rules L → World L → World L → Type 0) (s s' : State) (l : AnyLimiter)
     → ((L : Type 0) (rules : Rules L) (m : L) → Relates L rules (world s m) (world s' m))
     → RelatesUnder Relates s l (guest_of s' l)
 related_under Relates s s' limiter.Unlimited related = (refl, related _ _ _)

@@ -10,14 +10,14 @@ use Rattle.wasmi_core.specs.Steps.{Answers}
 use Rattle.wasmi_core.specs.World.{World}
 use Rattle.wasmi_core.specs.declared.calls.Call.{Call}
 use Rattle.wasmi_core.specs.declared.calls.Reply.{Reply}
-use Rattle.wasmi_guest.specs.AnswerQueue.{queue_rules}
+use Rattle.wasmi_meter.specs.AnswerList.{answer_list_rules}
 use Rattle.wasmi_guest.specs.Caps.{GuestValue}
 use Rattle.wasmi_guest.specs.Guests.{InPlace, RelatesUnder, RepliesInNumbers, RepliesPlainly}
 use Rattle.wasmi_guest.specs.Laws.{CallsAreRuns, GuestRunsJoin, RunsBoth}
 use Rattle.wasmi_guest.specs.PlainCalls.{call_of}
 use Rattle.wasmi_guest.specs.Replies.{no_call_status, no_machine_status, only}
-use Rattle.wasmi_guest.specs.declared.guest_limiter.GuestLimiter.{GuestLimiter}
-use Rattle.wasmi_guest.specs.declared.guest_limiter.GuestLimiter.TheVariants as limiter
+use Rattle.wasmi_meter.specs.declared.any_limiter.AnyLimiter.{AnyLimiter}
+use Rattle.wasmi_meter.specs.declared.any_limiter.AnyLimiter.TheVariants as limiter
 use Rattle.wasmi_guest.specs.declared.plain.PlainCall.{PlainCall}
 use Rattle.wasmi_guest.specs.declared.plain.PlainReply.{PlainReply}
 
@@ -40,22 +40,22 @@ answered_is_run rules call w reply w' (charge, written, step) = (
 )
 
 -- and so under a guest's limiter
-under_limiter : (call : Call) (reply : Reply) (s : State) (l : GuestLimiter) (guest' : GuestValue)
+under_limiter : (call : Call) (reply : Reply) (s : State) (l : AnyLimiter) (guest' : GuestValue)
     → RelatesUnder (Replying call reply) s l guest' → RelatesUnder (Running (call ∷ []) (reply ∷ [])) s l guest'
 under_limiter call reply s limiter.Unlimited guest' (same, answers) =
     (same, answered_is_run (optional_rules quota_rules) call _ reply _ answers)
 under_limiter call reply s (limiter.Quota quota) guest' (quota', same, answers) =
     (quota', same, answered_is_run (optional_rules quota_rules) call _ reply _ answers)
 under_limiter call reply s (limiter.Answers words) guest' (words', same, answers) =
-    (words', same, answered_is_run (optional_rules queue_rules) call _ reply _ answers)
+    (words', same, answered_is_run (optional_rules answer_list_rules) call _ reply _ answers)
 
 -- a call on a guest is a run of it alone
 pub calls_run : CallsAreRuns
 calls_run call guest reply guest' = under_limiter call reply guest.machine guest.limiter guest'
 
 -- runs in a row are one, under a guest's limiter
-joined_under : RunsOfCallsJoin (optional_rules quota_rules) → RunsOfCallsJoin (optional_rules queue_rules)
-    → (calls calls' : List Call) (replies replies' : List Reply) (s : State) (l : GuestLimiter) (v w : GuestValue)
+joined_under : RunsOfCallsJoin (optional_rules quota_rules) → RunsOfCallsJoin (optional_rules answer_list_rules)
+    → (calls calls' : List Call) (replies replies' : List Reply) (s : State) (l : AnyLimiter) (v w : GuestValue)
     → RelatesUnder (Running calls replies) s l v → RelatesUnder (Running calls' replies') v.machine v.limiter w
     → RelatesUnder (Running (calls ++ calls') (replies ++ replies')) s l w
 joined_under quotas queues calls calls' replies replies' s limiter.Unlimited v w (same, run) later =
@@ -69,7 +69,7 @@ joined_under quotas queues calls calls' replies replies' s (limiter.Answers word
     (second.0, second.1, queues calls calls' _ _ _ replies replies' run second.2)
 
 -- runs of a guest in a row are one
-pub runs_joined : RunsOfCallsJoin (optional_rules quota_rules) → RunsOfCallsJoin (optional_rules queue_rules)
+pub runs_joined : RunsOfCallsJoin (optional_rules quota_rules) → RunsOfCallsJoin (optional_rules answer_list_rules)
     → GuestRunsJoin
 runs_joined quotas queues calls calls' u v w replies replies' =
     joined_under quotas queues calls calls' replies replies' u.machine u.limiter v w

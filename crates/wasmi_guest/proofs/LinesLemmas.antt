@@ -16,8 +16,9 @@ use Rattle.wasmi_core.specs.declared.calls.Call.{Call}
 use Rattle.wasmi_core.specs.declared.calls.Reply.{Reply}
 use Rattle.wasmi_grammar.specs.Lines.{WritesScript}
 use Rattle.wasmi_grammar.specs.declared.script.Script.{Script}
-use Rattle.wasmi_guest.specs.Caps.{GuestValue, IsKept, caps_of}
-use Rattle.wasmi_guest.specs.declared.guest_limiter.GuestLimiter.TheVariants as limiter
+use Rattle.wasmi_meter.specs.AnyLimiter.{caps_of}
+use Rattle.wasmi_guest.specs.Caps.{GuestValue, IsKept}
+use Rattle.wasmi_meter.specs.declared.any_limiter.AnyLimiter.TheVariants as limiter
 use Rattle.wasmi_guest.specs.declared.plain.PlainReply.{PlainReply}
 use Rattle.wasmi_guest.specs.Lines.{RefusesLines, RunsLines, RunsScript}
 use Rattle.wasmi_guest.proofs.CapsLemmas.{equal_caps}

@@ -1,35 +1,22 @@
 -- A machine with the limiter that it asks, and the caps that it stays within.
 use Rattle.std.specs.Prelude.{◌≡◌, ◌≤◌, ⊤, Option, Some, None, IfSome}
-use Rattle.std.specs.Option.{option_map}
-use Rattle.wasmi_meter.specs.Amounts.{amounts_of}
+use Rattle.wasmi_meter.specs.AnyLimiter.{caps_of, quota_of}
 use Rattle.wasmi_meter.specs.Quota.{cap_of, holdings, IsWithinCaps}
-use Rattle.wasmi_meter.specs.declared.amounts.Amounts.{Amounts}
 use Rattle.wasmi_meter.specs.declared.limiter.Kind.{Kind}
 use Rattle.wasmi_meter.specs.declared.quota.Quota.{Quota}
 use Rattle.wasmi_core.specs.State.{State}
 use Rattle.wasmi_core.specs.Totals.{total, HoldsTotals}
-use Rattle.wasmi_guest.specs.declared.guest_limiter.GuestLimiter.{GuestLimiter}
-use Rattle.wasmi_guest.specs.declared.guest_limiter.GuestLimiter.TheVariants as limiter
+use Rattle.wasmi_meter.specs.declared.any_limiter.AnyLimiter.{AnyLimiter}
 
 -- a guest: a machine, and the limiter that it asks
 pub record GuestValue : Type 0 where
   pub machine : State
-  pub limiter : GuestLimiter
-
--- the quota that a limiter is, if it is one
-abbrev pub quota_of : GuestLimiter → Option Quota
-quota_of limiter.Unlimited = None
-quota_of (limiter.Quota quota) = Some quota
-quota_of (limiter.Answers answers) = None
+  pub limiter : AnyLimiter
 
 -- the quota holds what the machine has, and no more than its caps
 pub record IsKept (machine : State) (quota : Quota) : Type 0 where
   pub totals : HoldsTotals (holdings quota) machine
   pub within : IsWithinCaps quota
-
--- the caps of a limiter, if it is a quota
-abbrev pub caps_of : GuestLimiter → Option Amounts
-caps_of limiter = option_map (λ quota. amounts_of (cap_of quota)) (quota_of limiter)
 
 -- the machine has no more bytes and no more elements than its caps, if it has caps
 abbrev pub IsCapped : GuestValue → Type 0

@@ -1,28 +1,29 @@
 -- A machine with its limiter, and what a call does to it.
 use Rattle.std.specs.Prelude.{◌≡◌, ◌≢◌, ◌⊎◌, ◌≤◌, ◌<◌, ◌-◌, ℕ, nat_eq, if◌then◌else◌, All, List, length, map, Option, Some, None, MatchOption, Vec}
 use Rattle.wasmi_meter.specs.Amounts.{nothing}
-use Rattle.wasmi_meter.specs.Limiter.{Rules, optional_rules}
+use Rattle.wasmi_meter.specs.Limiter.{Rules}
 use Rattle.wasmi_meter.specs.Meter.{Meter, meter_after}
 use Rattle.wasmi_meter.specs.declared.error.MemoryError.TheVariants.{OutOfBoundsAccess}
 use Rattle.wasmi_meter.specs.declared.fuel.FuelError.TheVariants.{FuelMeteringDisabled, OutOfFuel}
 use Rattle.wasmi_types.specs.Access.{at}
 use Rattle.std.specs.Global.{Global}
-use Rattle.wasmi_meter.specs.Quota.{quota_rules, holdings, cap_of}
+use Rattle.wasmi_meter.specs.Quota.{holdings, cap_of}
 use Rattle.wasmi_meter.specs.declared.limiter.Kind.TheVariants.{Bytes, Elements}
 use Rattle.wasmi_meter.specs.declared.quota.Quota.{Quota}
 use Rattle.wasmi_core.specs.State.{State, new_state, live_at}
 use Rattle.wasmi_core.specs.Totals.{total}
 use Rattle.wasmi_core.specs.Steps.{Answers}
-use Rattle.wasmi_core.specs.World.{World, world}
+use Rattle.wasmi_core.specs.Kinds.{RelatesByKind}
+use Rattle.wasmi_core.specs.World.{World}
 use Rattle.wasmi_core.specs.declared.calls.Call.{Call}
 use Rattle.wasmi_core.specs.declared.calls.Call.TheVariants.{NewSegment}
 use Rattle.wasmi_core.specs.declared.calls.Reply.{Reply}
-use Rattle.wasmi_grammar.specs.declared.header.answers.AnswerWord.{AnswerWord}
+use Rattle.wasmi_meter.specs.declared.answer_list.LimiterAnswer.{LimiterAnswer}
 use Rattle.wasmi_guest.specs.AnswerNumbers.{IsAnswer, answer_of}
-use Rattle.wasmi_guest.specs.AnswerQueue.{AnswersAhead, queue_rules, new_answers}
+use Rattle.wasmi_meter.specs.AnswerList.{new_answers}
 use Rattle.wasmi_guest.specs.Caps.{GuestValue}
-use Rattle.wasmi_guest.specs.declared.guest_limiter.GuestLimiter.{GuestLimiter}
-use Rattle.wasmi_guest.specs.declared.guest_limiter.GuestLimiter.TheVariants as limiter
+use Rattle.wasmi_meter.specs.declared.any_limiter.AnyLimiter.{AnyLimiter}
+use Rattle.wasmi_meter.specs.declared.any_limiter.AnyLimiter.TheVariants as limiter
 use Rattle.wasmi_guest.specs.declared.plain.Limits.{Limits}
 use Rattle.wasmi_guest.specs.declared.plain.PlainCall.{PlainCall}
 use Rattle.wasmi_guest.specs.declared.plain.PlainReply.{PlainReply}
@@ -33,22 +34,13 @@ use Rattle.wasmi_guest.specs.Types.{reference_type_of}
 use Rattle.wasmi_guest.specs.Replies.{only, no_words, with_number, done_status, no_machine_status, no_call_status, no_such_status, no_room_status, has_machine_status, no_answer_status, memory_refusal, fuel_refusal, plain_reply}
 
 -- a machine with a limiter
-abbrev pub guest_of : State → GuestLimiter → GuestValue
+abbrev pub guest_of : State → AnyLimiter → GuestValue
 guest_of machine limiter = record { machine = machine; limiter = limiter }
 
 module _ (Relates : (L : Type 0) → Rules L → World L → World L → Type 0) where
-  -- A machine with its limiter and a guest are related by the limiter's rules: without a limiter, under its quota or
-  -- under its answers. The guest's limiter is of the same kind.
-  abbrev pub RelatesUnder : State → GuestLimiter → GuestValue → Type 0
-  RelatesUnder machine limiter.Unlimited guest' = (guest'.limiter ≡ limiter.Unlimited)
-      × Relates (Option Quota) (optional_rules quota_rules) (world machine None) (world guest'.machine None)
-  RelatesUnder machine (limiter.Quota quota) guest' = (quota' : Quota) × (guest'.limiter ≡ limiter.Quota quota')
-      × Relates (Option Quota) (optional_rules quota_rules) (world machine (Some quota))
-      (world guest'.machine (Some quota'))
-  RelatesUnder machine (limiter.Answers answers) guest' =
-      (answers' : AnswersAhead) × (guest'.limiter ≡ limiter.Answers answers')
-      × Relates (Option AnswersAhead) (optional_rules queue_rules) (world machine (Some answers))
-      (world guest'.machine (Some answers'))
+  -- a machine with its limiter and a guest are related by the rules of the limiter's kind, which stays
+  abbrev pub RelatesUnder : State → AnyLimiter → GuestValue → Type 0
+  RelatesUnder machine limiter guest' = RelatesByKind Relates machine limiter guest'.machine guest'.limiter
 
 -- the meter that a machine is made with
 abbrev pub meter_of : Limits → Meter
@@ -69,7 +61,7 @@ pub record IsNewQuota (limits : Limits) (quota : Quota) : Type 0 where
   pub nothing_held : holdings quota ≡ record { held = nothing; last = None }
 
 -- there is a quota of these caps that holds nothing, or no limiter if there are no caps
-abbrev pub IsNewLimiter : Limits → GuestLimiter → Type 0
+abbrev pub IsNewLimiter : Limits → AnyLimiter → Type 0
 IsNewLimiter limits limiter.Unlimited = limits.is_unlimited ≢ 0
 IsNewLimiter limits (limiter.Quota quota) = IsNewQuota limits quota
 IsNewLimiter limits (limiter.Answers answers) = ⊥
@@ -80,7 +72,7 @@ pub record IsNewGuest (limits : Limits) (guest : GuestValue) : Type 0 where
   pub limiter : IsNewLimiter limits guest.limiter
 
 -- a machine with nothing on it, and with these answers, of which none was taken
-pub record IsNewWithAnswers (limits : Limits) (words : List AnswerWord) (guest : GuestValue) : Type 0 where
+pub record IsNewWithAnswers (limits : Limits) (words : List LimiterAnswer) (guest : GuestValue) : Type 0 where
   pub machine : guest.machine ≡ new_state (meter_of limits)
   pub limiter : guest.limiter ≡ limiter.Answers (new_answers words)
 

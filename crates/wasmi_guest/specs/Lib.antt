@@ -1,5 +1,4 @@
 pub mod AnswerNumbers
-pub mod AnswerQueue
 pub mod Caps
 pub mod DirectCalls
 pub mod GuestBox

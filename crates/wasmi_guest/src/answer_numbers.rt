@@ -3,7 +3,7 @@ ghost use Rattle.std.specs.Prelude.{◌≡◌, ◌↔◌, All, IfOk, IsTrue, map
 ghost use Rattle.wasmi_guest.specs.AnswerNumbers.{IsAnswer, answer_of};
 
 use std::alloc::{AllocError, Global};
-use wasmi_grammar::AnswerWord;
+use wasmi_meter::LimiterAnswer;
 
 /// Whether each number stands for an answer.
 pub fn are_answers(numbers: &[u8]) -> bool
@@ -13,7 +13,7 @@ pub fn are_answers(numbers: &[u8]) -> bool
 }
 
 /// The answers that numbers stand for.
-pub fn answers_of(alloc: Global, numbers: &[u8]) -> Result<Vec<AnswerWord>, AllocError>
+pub fn answers_of(alloc: Global, numbers: &[u8]) -> Result<Vec<LimiterAnswer>, AllocError>
     requires known { All IsAnswer numbers.now }
     ensures answers { IfOk result (λ answers. answers.items ≡ map answer_of numbers.now) }
 {
@@ -25,13 +25,13 @@ pub fn answers_of(alloc: Global, numbers: &[u8]) -> Result<Vec<AnswerWord>, Allo
 }
 
 /// The answer that a number below 4 stands for.
-fn answer(number: u8) -> AnswerWord
+fn answer(number: u8) -> LimiterAnswer
     ensures { result ≡ answer_of number }
 {
     match number {
-        0 => AnswerWord::Permit,
-        1 => AnswerWord::Deny,
-        2 => AnswerWord::Error,
-        _ => AnswerWord::Complain,
+        0 => LimiterAnswer::Permit,
+        1 => LimiterAnswer::Deny,
+        2 => LimiterAnswer::Error,
+        _ => LimiterAnswer::Complain,
     }
 }

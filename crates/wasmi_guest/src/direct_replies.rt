@@ -5,19 +5,18 @@ ghost use Rattle.wasmi_core.specs.MemoryEffects.{load_reply};
 ghost use Rattle.wasmi_core.specs.State.{live_at};
 ghost use Rattle.wasmi_core.specs.declared.calls.Call.TheVariants.{GetFuel, GrowMemory, Store};
 ghost use Rattle.wasmi_core.specs.declared.calls.Reply.TheVariants.{Memory};
-ghost use Rattle.wasmi_guest.specs.Caps.{caps_of};
+ghost use Rattle.wasmi_meter.specs.AnyLimiter.{caps_of};
 ghost use Rattle.wasmi_guest.specs.DirectCalls.{RepliesInStatus, RepliesInWord, item_load, item_store, status_of, vector_binary, word_after};
 ghost use Rattle.wasmi_guest.specs.Guests.{GuestReplies};
 
 use crate::guest::Guest;
-use crate::guest_limiter::GuestLimiter;
 use crate::instructions::{binary_at, load_at, store_at};
 use crate::plain::PlainReply;
 use crate::replies::{fuel_refusal, memory_refusal};
 use crate::status::{DONE, NO_CALL, NO_SUCH};
 use crate::stepping::grow_memory;
 use wasmi_core::{Call, Reply};
-use wasmi_meter::MemoryError;
+use wasmi_meter::{AnyLimiter, MemoryError};
 use wasmi_ops::{LoadOp, StoreOp};
 use wasmi_raw::RawVal;
 
@@ -126,7 +125,7 @@ impl Guest {
             (result, number.new) self.new }
         ensures caps { caps_of self.new.limiter ≡ caps_of self.old.limiter }
     {
-        if let GuestLimiter::Answers(_) = &self.limiter {
+        if let AnyLimiter::Answers(_) = &self.limiter {
             return self.reply_under_answers(&Call::GrowMemory { memory, pages }, number);
         }
         match self.grow_memory(memory, pages) {
@@ -156,7 +155,7 @@ impl Guest {
     {
         // Under answers by a call of its own: if each kind of limiter had its step here, the reply
         // would be copied.
-        if let GuestLimiter::Answers(_) = &self.limiter {
+        if let AnyLimiter::Answers(_) = &self.limiter {
             return self.reply_under_answers(call, word);
         }
         self.step_in_word(call, word)

@@ -2,9 +2,8 @@
 //! its contract.
 ghost use Rattle.wasmi_guest.specs.Laws.{CallsAreRuns, GuestRunsJoin};
 
-use crate::answer_queue::AnswerQueue;
 use wasmi_core::laws;
-use wasmi_meter::Quota;
+use wasmi_meter::{AnswerList, Quota};
 
 /// A call on a machine that is held by a handle is a run of this call alone, and two runs in a row
 /// are one. So calls and lines by a handle, one after the other, are one run of its machine, of
@@ -14,5 +13,5 @@ pub fn calls_are_runs()
     ensures join { GuestRunsJoin }
 {
     laws::runs_join::<Quota>();
-    laws::runs_join::<AnswerQueue>();
+    laws::runs_join::<AnswerList>();
 }

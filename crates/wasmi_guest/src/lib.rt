@@ -4,7 +4,6 @@
 #![tactic(auto)]
 
 mod answer_numbers;
-mod answer_queue;
 mod box_fields;
 mod callers;
 mod calls;
@@ -13,7 +12,6 @@ mod direct;
 mod direct_replies;
 mod guest;
 mod guest_box;
-mod guest_limiter;
 mod handle;
 mod instructions;
 mod kind;

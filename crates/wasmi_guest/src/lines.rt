@@ -4,8 +4,9 @@ ghost use Rattle.wasmi_meter.specs.Limiter.{optional_rules};
 ghost use Rattle.wasmi_meter.specs.Quota.{quota_rules};
 ghost use Rattle.wasmi_core.specs.Runs.{IsRunOf};
 ghost use Rattle.wasmi_core.specs.World.{world};
-ghost use Rattle.wasmi_guest.specs.AnswerQueue.{queue_rules};
-ghost use Rattle.wasmi_guest.specs.Caps.{IsKept, StaysWithinCaps, caps_of, quota_of};
+ghost use Rattle.wasmi_meter.specs.AnswerList.{answer_list_rules};
+ghost use Rattle.wasmi_meter.specs.AnyLimiter.{caps_of, quota_of};
+ghost use Rattle.wasmi_guest.specs.Caps.{IsKept, StaysWithinCaps};
 ghost use Rattle.wasmi_guest.specs.Guests.{InPlace, guest_of};
 ghost use Rattle.wasmi_guest.specs.Lines.{GuestRuns, RunsLines, WritesOut, no_header};
 ghost use Rattle.wasmi_guest.specs.Replies.{only, no_machine_status};
@@ -13,16 +14,14 @@ ghost use Rattle.wasmi_guest.specs.declared.plain.PlainReply.{PlainReply};
 ghost use Rattle.wasmi_grammar.specs.Lines.{WritesScript};
 ghost use Rattle.wasmi_script.specs.Outcomes.{replies_text};
 
-use crate::answer_queue::AnswerQueue;
 use crate::guest::Guest;
-use crate::guest_limiter::GuestLimiter;
 use crate::handle::Handle;
 use crate::plain::PlainReply;
 use crate::status::{BAD_LINE, DONE, HEADER_LINE, NO_MACHINE, NO_ROOM, TEXT_CUT};
 use std::alloc::{AllocError, Global};
 use wasmi_core::{Call, Machine, Reply, laws, run, run_lending, run_reserving};
 use wasmi_grammar::{Header, ParseError, Script, parse};
-use wasmi_meter::{Quota, ResourceLimiterRef};
+use wasmi_meter::{AnswerList, AnyLimiter, Quota, ResourceLimiterRef};
 use wasmi_script::write_lines;
 
 /// Runs lines of calls, one after the other, and writes what a script prints for them to the front
@@ -107,7 +106,7 @@ fn is_empty(header: &Header) -> bool
 fn run_calls(
     machine: &mut Machine,
     calls: &[Call],
-    limiter: &mut GuestLimiter,
+    limiter: &mut AnyLimiter,
 ) -> Result<Vec<Reply>, AllocError>
     requires kept { IfSome (quota_of limiter.old) (IsKept machine.old) }
     ensures run { IfOk result (λ replies. GuestRuns calls.now (guest_of machine.old limiter.old)
@@ -117,9 +116,9 @@ fn run_calls(
     ensures caps { caps_of limiter.new ≡ caps_of limiter.old }
 {
     match limiter {
-        GuestLimiter::Unlimited => run_freely(machine, calls),
-        GuestLimiter::Quota(quota) => run_within(machine, calls, quota),
-        GuestLimiter::Answers(answers) => run_answered(machine, calls, answers),
+        AnyLimiter::Unlimited => run_freely(machine, calls),
+        AnyLimiter::Quota(quota) => run_within(machine, calls, quota),
+        AnyLimiter::Answers(answers) => run_answered(machine, calls, answers),
     }
 }
 
@@ -135,7 +134,7 @@ fn run_within(
         (world machine.old (Some quota.old)) replies.items (world machine.new (Some quota.new))) }
     ensures err { OnErr result ((machine.new ≡ machine.old) × (quota.new ≡ quota.old)) }
     ensures kept { IsKept machine.new quota.new }
-    ensures caps { caps_of (GuestLimiter.Quota quota.new) ≡ caps_of (GuestLimiter.Quota quota.old) }
+    ensures caps { caps_of (AnyLimiter.Quota quota.new) ≡ caps_of (AnyLimiter.Quota quota.old) }
 {
     laws::quotas_stay_within();
     run_reserving(machine, calls, quota)
@@ -145,9 +144,9 @@ fn run_within(
 fn run_answered(
     machine: &mut Machine,
     calls: &[Call],
-    answers: &mut AnswerQueue,
+    answers: &mut AnswerList,
 ) -> Result<Vec<Reply>, AllocError>
-    ensures run { IfOk result (λ replies. IsRunOf (optional_rules queue_rules) calls.now
+    ensures run { IfOk result (λ replies. IsRunOf (optional_rules answer_list_rules) calls.now
         (world machine.old (Some answers.old)) replies.items
         (world machine.new (Some answers.new))) }
     ensures err { OnErr result ((machine.new ≡ machine.old) × (answers.new ≡ answers.old)) }

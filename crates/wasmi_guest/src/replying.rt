@@ -1,12 +1,10 @@
 //! What a machine with its limiter does.
 ghost use Rattle.std.specs.Prelude.{◌≡◌, IfOk};
 ghost use Rattle.wasmi_core.specs.declared.calls.Call.TheVariants.{NewSegment, Write};
-ghost use Rattle.wasmi_guest.specs.Caps.{caps_of};
+ghost use Rattle.wasmi_meter.specs.AnyLimiter.{caps_of};
 ghost use Rattle.wasmi_guest.specs.Guests.{GuestReplies, IsNewWithAnswers, IsNewGuest, IsNewLimiter, ReadsOut, RepliesInNumbers, RepliesPlainly, RepliesToCopy, RepliesToSegment, TakesFuel, meter_of, totals_in, totals_of};
 
-use crate::answer_queue::AnswerQueue;
 use crate::guest::Guest;
-use crate::guest_limiter::GuestLimiter;
 use crate::plain::{Limits, PlainCall, PlainReply, Totals, Words};
 use crate::replies::{fuel_refusal, memory_refusal};
 use crate::status::{DONE, NO_CALL, NO_ROOM, NO_SUCH};
@@ -14,8 +12,9 @@ use crate::stepping::step;
 use crate::types::reference_type;
 use std::alloc::{AllocError, Global};
 use wasmi_core::{Call, Machine, Reply};
-use wasmi_grammar::AnswerWord;
-use wasmi_meter::{CustomFuelCosts, Fuel, FuelCostsProvider, Quota};
+use wasmi_meter::{
+    AnswerList, AnyLimiter, CustomFuelCosts, Fuel, FuelCostsProvider, LimiterAnswer, Quota,
+};
 use wasmi_raw::RawRef;
 
 impl Limits {
@@ -32,13 +31,13 @@ impl Limits {
     }
 
     /// The quota of the caps, if there are caps.
-    fn limiter(&self) -> GuestLimiter
+    fn limiter(&self) -> AnyLimiter
         ensures { IsNewLimiter self.now result }
     {
         if self.is_unlimited == 0 {
-            GuestLimiter::Quota(Quota::new(self.bytes, self.elements))
+            AnyLimiter::Quota(Quota::new(self.bytes, self.elements))
         } else {
-            GuestLimiter::Unlimited
+            AnyLimiter::Unlimited
         }
     }
 }
@@ -56,12 +55,12 @@ impl Guest {
 
     /// A machine with nothing on it, and with a list of answers, of which none was taken. Its
     /// limits have the meter, and their caps aren't read. It takes no memory.
-    pub fn with_answers(alloc: Global, limits: &Limits, answers: Vec<AnswerWord>) -> Guest
+    pub fn with_answers(alloc: Global, limits: &Limits, answers: Vec<LimiterAnswer>) -> Guest
         ensures { IsNewWithAnswers limits.now answers.items result }
     {
         Guest {
             machine: Machine::new(alloc, limits.fuel()),
-            limiter: GuestLimiter::Answers(AnswerQueue::new(answers)),
+            limiter: AnyLimiter::Answers(AnswerList::new(answers)),
         }
     }
 
@@ -149,7 +148,7 @@ impl Guest {
         ensures { result ≡ totals_of self.now }
     {
         match &self.limiter {
-            GuestLimiter::Quota(quota) => {
+            AnyLimiter::Quota(quota) => {
                 Totals::of(
                     u128::from(quota.held_bytes()),
                     u128::from(quota.held_elements()),

@@ -1,7 +1,8 @@
 use Rattle.std.proofs.Common.{◌+◌, subst}
 use Rattle.wasmi_core.specs.declared.calls.Call.TheVariants.{Store}
 use Rattle.wasmi_ops.specs.ScalarAccessOps.{stored_bytes}
-use Rattle.wasmi_guest.specs.Caps.{GuestValue, quota_of}
+use Rattle.wasmi_meter.specs.AnyLimiter.{quota_of}
+use Rattle.wasmi_guest.specs.Caps.{GuestValue}
 use Rattle.wasmi_guest.specs.Guests.{GuestReplies}
 use Rattle.wasmi_guest.proofs.DirectLemmas.{kept_by_store, replies_to_store}
 use Rattle.wasmi_guest.proofs.guest.Guest.store_item.Goals as goal
