@@ -217,8 +217,8 @@ unlimited_run {T} rules s turns s' l' ran =
 pub runs_keep_kind : RunsKeepKind
 runs_keep_kind turns s limiter.Unlimited s' l' ran = unlimited_run quota_rules s turns s' l' ran
 runs_keep_kind turns s (limiter.Quota quota) s' l' ran =
-    let within = run_within IsQuota quota_of any_limiter_rules quota_rules quota_carries s (limiter.Quota quota) turns s'
-    l' tt ran in
+    let within = run_within IsQuota quota_of any_limiter_rules quota_rules quota_carries s (limiter.Quota quota)
+    turns s' l' tt ran in
     after l' within.0 within.1
   where
     after : (l' : AnyLimiter) → IsQuota l'

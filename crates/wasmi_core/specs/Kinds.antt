@@ -35,11 +35,11 @@ module _ (Relates : (L : Type 0) → Rules L → World L → World L → Type 0)
 abbrev pub RunsKeepKind : Type 0
 RunsKeepKind = (turns : List Turn) → KindStays (λ L rules w w'. Run rules w turns w')
 
--- so is a run of calls, by its replies
+-- a run of calls with these replies under such a limiter is one by the rules of its kind
 abbrev pub RunsOfCallsKeepKind : Type 0
 RunsOfCallsKeepKind = (calls : List Call) (replies : List Reply)
     → KindStays (λ L rules w w'. IsRunOf rules calls w replies w')
 
--- so is a reply to a call
+-- a reply to a call under such a limiter is one by the rules of its kind
 abbrev pub RepliesKeepKind : Type 0
 RepliesKeepKind = (call : Call) (reply : Reply) → KindStays (λ L rules w w'. Answers rules call w reply w')

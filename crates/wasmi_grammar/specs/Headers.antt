@@ -12,7 +12,7 @@ use Rattle.wasmi_grammar.specs.declared.header.LimiterLine.TheVariants.{Quota, A
 use Rattle.wasmi_grammar.specs.declared.header.RegionLine.{RegionLine}
 use Rattle.wasmi_operands.specs.LineWords.{LineWords, WritesEach, word_at}
 use Rattle.wasmi_operands.specs.Decimal.{WritesNumber}
-use Rattle.wasmi_grammar.specs.Answers.{WritesAnswer}
+use Rattle.wasmi_operands.specs.Answers.{WritesAnswer}
 
 -- the words after the first write what the meter line says
 abbrev pub WritesMeter : LineWords → MeterLine → Type 0

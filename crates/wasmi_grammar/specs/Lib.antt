@@ -2,7 +2,6 @@ pub mod LimitWords
 pub mod MemoryWords
 pub mod TableWords
 pub mod Commands
-pub mod Answers
 pub mod Headers
 pub mod Parts
 pub mod Lines

@@ -9,7 +9,7 @@ use Rattle.wasmi_grammar.specs.declared.header.MeterLine.{MeterLine}
 use Rattle.wasmi_grammar.specs.declared.header.RegionLine.{RegionLine}
 use Rattle.wasmi_grammar.specs.declared.header.LimiterLine.{LimiterLine}
 use Rattle.wasmi_grammar.specs.declared.header.LimiterLine.TheVariants.{Answers}
-use Rattle.wasmi_grammar.specs.declared.header.answers.AnswerWord.{AnswerWord}
+use Rattle.wasmi_meter.specs.declared.answer_list.LimiterAnswer.{LimiterAnswer}
 use Rattle.wasmi_grammar.specs.Parts.{TenantRun, parts_in}
 use Rattle.wasmi_grammar.specs.Lines.{WritesScript}
 use Rattle.wasmi_grammar.specs.Refusals.{IsFirstBadLine}
@@ -28,7 +28,7 @@ call_said call = OtherCall call
 
 -- a limiter line, with its answers as a list
 pub data LimiterSaid : Type 0 where
-  AnswersSaid : List AnswerWord → LimiterSaid
+  AnswersSaid : List LimiterAnswer → LimiterSaid
   OtherLimiter : LimiterLine → LimiterSaid
 
 -- what a limiter line says

@@ -3,11 +3,8 @@ ghost use Rattle.std.specs.Prelude.{◌≡◌, codes};
 ghost use Rattle.wasmi_operands.specs.Acceptance.{Accepts, AcceptsWithMemory};
 ghost use Rattle.wasmi_grammar.specs.Headers.{WritesMeter, NamesLimiterAfter, WritesRegion, tenants_of};
 
-mod answers;
-
-pub use answers::AnswerWord;
 use std::alloc::Global;
-use wasmi_meter::Amounts;
+use wasmi_meter::{Amounts, LimiterAnswer};
 use wasmi_operands::operand::{self, list_of};
 use wasmi_operands::{LineError, number};
 
@@ -30,7 +27,7 @@ pub enum LimiterLine {
     /// and of all tables together.
     Quota(Amounts),
     /// `answers W ...`, which may have no word: one for each question, in order.
-    Answers(Vec<AnswerWord>),
+    Answers(Vec<LimiterAnswer>),
     /// `tenants N B E`.
     Tenants(TenantsLine),
 }

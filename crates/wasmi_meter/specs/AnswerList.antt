@@ -22,7 +22,7 @@ pub record AnswersAhead : Type 0 where
   pub ahead : List LimiterAnswer
   pub last : LimiterAnswer
 
--- such a limiter that was asked nothing yet
+-- a limiter with these answers that was asked nothing yet
 abbrev pub new_answers : List LimiterAnswer → AnswersAhead
 new_answers answers = record { ahead = answers; last = Permit }
 
@@ -35,7 +35,8 @@ pub record TakesAnswer (list : AnswersAhead) (answer : Answer) (list' : AnswersA
   pub answered : answer ≡ answer_by (next_answer list)
   pub taken : list' ≡ record { ahead = drop 1 list.ahead; last = next_answer list }
 
--- the rules of such a limiter, whatever is asked: a notice is answered by the answer to the last question, and takes none
+-- the rules of such a limiter, whatever is asked: a notice is answered as the last question's answer says, and takes
+-- none
 abbrev pub answer_list_rules : Rules AnswersAhead
 answer_list_rules = record {
   asked = λ list question answer list'. TakesAnswer list answer list';

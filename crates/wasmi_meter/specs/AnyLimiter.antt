@@ -36,6 +36,6 @@ quota_of limiter.Unlimited = None
 quota_of (limiter.Quota quota) = Some quota
 quota_of (limiter.Answers list) = None
 
--- its caps, if it is a quota
+-- the caps of such a limiter, if it is a quota
 abbrev pub caps_of : AnyLimiter → Option Amounts
 caps_of l = option_map (λ quota. amounts_of (cap_of quota)) (quota_of l)

@@ -65,7 +65,8 @@ impl Model for AnswerList {
 
     ghost Value = { AnswersAhead };
 
-    ghost view = { λ list. record { ahead = drop list.taken list.answers.items; last = list.last } };
+    ghost view = { λ list.
+        record { ahead = drop list.taken list.answers.items; last = list.last } };
 }
 
 impl AnswerList {

@@ -4,3 +4,4 @@ pub mod Acceptance
 pub mod TypeWords
 pub mod Names
 pub mod LaneNames
+pub mod Answers

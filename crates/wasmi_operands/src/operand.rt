@@ -1,5 +1,6 @@
 //! What words write as the operands of a command: one word, two to five words, or a list.
 ghost use Rattle.std.specs.Prelude.{◌≡◌, ℕ, List, length};
+ghost use Rattle.wasmi_operands.specs.Answers.{WritesAnswer};
 ghost use Rattle.wasmi_operands.specs.Acceptance.{Accepts, AcceptsWithMemory};
 ghost use Rattle.wasmi_operands.specs.Decimal.{WritesNumber};
 ghost use Rattle.wasmi_operands.specs.Names.{IsName};
@@ -22,6 +23,7 @@ use crate::error::LineError;
 use crate::names::op_named;
 use crate::types::ref_type;
 use std::alloc::Global;
+use wasmi_meter::LimiterAnswer;
 use wasmi_ops::{
     BINARIES, BinaryOp, EXTRACTIONS, ExtractKind, LANE_LOADS, LANE_STORES, LOADS, LoadLaneKind,
     LoadOp, MAKES, MakeOp, REPLACEMENTS, ReplaceKind, SCALAR_BINARIES, SCALAR_UNARIES, SHIFTS,
@@ -115,6 +117,20 @@ impl Operand for Mutability {
         match word {
             "const" => Ok(Mutability::Const),
             "var" => Ok(Mutability::Var),
+            _ => Err(LineError::BadCommand),
+        }
+    }
+}
+
+impl Operand for LimiterAnswer {
+    ghost writes = { WritesAnswer };
+
+    fn from_word(word: &str) -> Result<Self, LineError> {
+        match word {
+            "permit" => Ok(LimiterAnswer::Permit),
+            "deny" => Ok(LimiterAnswer::Deny),
+            "error" => Ok(LimiterAnswer::Error),
+            "complain" => Ok(LimiterAnswer::Complain),
             _ => Err(LineError::BadCommand),
         }
     }

@@ -22,7 +22,6 @@ use Rattle.wasmi_core.specs.Steps.{TableMade}
 use Rattle.wasmi_core.specs.Steps.{TableGrown, RangeWritten, effect_of, TakesEffect, Step}
 use Rattle.wasmi_core.specs.Runs.{Run, IsRunOf}
 use Rattle.wasmi_core.specs.Determinism.{IsDeterministic, AcceptsNotices, HasMemory}
-use Rattle.wasmi_core.proofs.CarryingLemmas.{carried}
 use Rattle.wasmi_core.proofs.DeterminismLemmas.{unlimited_once, quota_once}
 use Rattle.wasmi_core.proofs.ToldLemmas.{SeenRun, replies_are_one, unlimited_accepts, quota_accepts}
 use Rattle.wasmi_budget.specs.Pool.{PoolValue, RunsTenant, tenant_at}
@@ -40,8 +39,7 @@ use Rattle.wasmi_grammar.specs.declared.header.LimiterLine.TheVariants.{Quota, A
 use Rattle.wasmi_grammar.specs.Headers.{meter_said, meter_off, meter_of, region_bytes, start_of}
 use Rattle.wasmi_script.specs.Printing.{line}
 use Rattle.wasmi_script.specs.Texts.{kind_text, reply_text, error_text}
-use Rattle.wasmi_script.specs.declared.listed_limiter.AnswerList.{AnswerList}
-use Rattle.wasmi_grammar.specs.declared.header.answers.AnswerWord.{AnswerWord}
+use Rattle.wasmi_meter.specs.declared.answer_list.LimiterAnswer.{LimiterAnswer}
 use Rattle.wasmi_script.specs.ScriptRuns.{IsNewQuota, IsListedReplay, IsReplayUnder, IsReplayOnOne}
 use Rattle.wasmi_script.specs.ScriptRuns.{IsReplayBy, IsReplayOf, AnswersParts, new_pool}
 use Rattle.wasmi_grammar.specs.Parts.{TenantRun, parts_in, calls_in}
@@ -50,9 +48,9 @@ use Rattle.wasmi_script.specs.Outcomes.{replies_text, held_text}
 use Rattle.wasmi_grammar.specs.Sayings.{CallSaid, WriteSaid, SegmentSaid, OtherCall, call_said, limiter_said, PartSaid}
 use Rattle.wasmi_grammar.specs.Sayings.{part_said}
 use Rattle.wasmi_grammar.specs.Sayings.{ScriptSaid, SayTheSame}
-use Rattle.wasmi_script.specs.ListedLimiter.{answer_rules, notice_answer_by}
+use Rattle.wasmi_meter.specs.AnswerList.{answer_list_rules, new_answers, notice_answer_by}
 use Rattle.wasmi_script.specs.Decided.{HasNoComplain, OutcomesAreOne}
-use Rattle.wasmi_script.proofs.ListedRunsLemmas.{placed, placed_run, new_lists, quiet_new, quiet_lists_decide}
+use Rattle.wasmi_script.proofs.QuietListsLemmas.{quiet_lists_decide}
 use Rattle.wasmi_grammar.proofs.OneScriptLemmas.{texts_once, bad_lines_once, no_bad_line}
 
 -- a call by what it says
@@ -237,22 +235,17 @@ abbrev HasNoAnswers : Option LimiterLine → Type 0
 HasNoAnswers (Some (Answers words)) = ⊥
 HasNoAnswers limiter = Unit {0}
 
--- so it is under limiters of the same words, of which none is `complain`
-listed_once : (words : List AnswerWord) (start : State) (calls calls' : List Call) (replies replies' : List Reply)
+-- so it is under limiters of the same answers, of which none is `Complain`
+listed_once : (words : List LimiterAnswer) (start : State) (calls calls' : List Call) (replies replies' : List Reply)
     (held held' : Held) → All (λ word. notice_answer_by word ≡ Ok tt) words → map call_said calls ≡ map call_said calls'
     → IsListedReplay words start calls replies held × IsListedReplay words start calls' replies' held'
     → HaveBoth replies replies' → SameReplies replies replies' held held'
 listed_once words start calls calls' replies replies' held held' quiet same
-    ((none, list, new, after, run), (none', list', new', after', run')) has =
-    let here = placed_run calls _ after replies run in
-    let there = placed_run calls _ after' replies'
-    (retold (optional_rules answer_rules) calls calls' _ after' replies' same run') in
-    let again = subst (λ (l : AnswerList). IsRunOf (optional_rules answer_rules) calls
-    (record { state = start; limiter = Some l }) replies' (carried (option_map placed) after'))
-    (new_lists words list' list new' new) there in
+    ((none, after, run), (none', after', run')) has =
+    let again = retold (optional_rules answer_list_rules) calls calls' _ after' replies' same run' in
     record {
-      answers = (quiet_lists_decide calls start (placed list) (quiet_new words list quiet new) replies replies' _ _
-          has.0 has.1 here again).0;
+      answers = (quiet_lists_decide calls start (new_answers words) (record { ahead = quiet; last = refl }) replies
+          replies' _ _ has.0 has.1 run again).0;
       text = ap held_text (none ∙ sym none');
     }
 
@@ -423,7 +416,7 @@ module _ (once : IsDeterministic tenant_rules) where
           listed_once words.items (start_of script.header) (calls_of script) calls' ran.replies.items
           ran'.replies.items ran.held ran'.held quiet (calls_same script script' same) (
             replay,
-            subst (λ (g : List AnswerWord).
+            subst (λ (g : List LimiterAnswer).
                 IsListedReplay g (start_of script.header) calls' ran'.replies.items ran'.held) (sym given)
                 (subst (λ (s : State). IsListedReplay words'.items s calls' ran'.replies.items ran'.held) (sym start)
                 replay'),

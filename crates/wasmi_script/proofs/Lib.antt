@@ -4,7 +4,6 @@ pub mod OutcomesLemmas
 pub mod ReadersLemmas
 pub mod RunningLemmas
 pub mod PoolLemmas
-pub mod ListedLimiterLemmas
-pub mod ListedRunsLemmas
+pub mod QuietListsLemmas
 pub mod LengthLemmas
 pub mod DecidedLemmas

@@ -5,7 +5,7 @@ use Rattle.wasmi_script.specs.declared.error.ReplayError.TheVariants.{Parse, Rea
 use Rattle.wasmi_grammar.specs.declared.error.ParseError.TheVariants.{OutOfMemory}
 use Rattle.wasmi_grammar.specs.declared.header.LimiterLine.{LimiterLine}
 use Rattle.wasmi_grammar.specs.declared.header.LimiterLine.TheVariants.{Answers}
-use Rattle.wasmi_script.specs.ListedLimiter.{notice_answer_by}
+use Rattle.wasmi_meter.specs.AnswerList.{notice_answer_by}
 use Rattle.wasmi_script.specs.Outcomes.{ReplayOutcome, IsOutcomeOf, outcome_text}
 use Rattle.wasmi_script.specs.Status.{status_after}
 

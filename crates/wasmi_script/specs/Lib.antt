@@ -1,4 +1,4 @@
-pub mod ListedLimiter
+pub mod QuietLists
 pub mod Refusals
 pub mod Printing
 pub mod Fronts

@@ -26,9 +26,8 @@ use Rattle.wasmi_script.specs.declared.running.Held.TheVariants.{Nothing}
 use Rattle.wasmi_script.specs.declared.running.Held.TheVariants as Holding
 use Rattle.wasmi_script.specs.declared.running.Held.{Held}
 use Rattle.wasmi_script.specs.declared.running.Ran.{Ran}
-use Rattle.wasmi_script.specs.declared.listed_limiter.AnswerList.{AnswerList}
-use Rattle.wasmi_grammar.specs.declared.header.answers.AnswerWord.{AnswerWord}
-use Rattle.wasmi_script.specs.ListedLimiter.{IsNewList, answer_rules}
+use Rattle.wasmi_meter.specs.declared.answer_list.LimiterAnswer.{LimiterAnswer}
+use Rattle.wasmi_meter.specs.AnswerList.{AnswersAhead, answer_list_rules, new_answers}
 use Rattle.wasmi_grammar.specs.Headers.{meter_of, start_of}
 
 -- what a limiter holds that has permitted nothing yet
@@ -41,12 +40,12 @@ pub record IsNewQuota (caps : Amounts) (quota : Quota) : Type 0 where
   pub elements : cap_of quota Elements ≡ caps.elements
   pub nothing : holdings quota ≡ nothing_held
 
--- The replies, with what is held, are those of a run of the calls from a machine, under a limiter that answers by these
--- words.
-abbrev pub IsListedReplay : List AnswerWord → State → List Call → List Reply → Held → Type 0
-IsListedReplay words start calls replies held =
-    (held ≡ Nothing) × (list : AnswerList) × IsNewList words list × (after : World (Option AnswerList))
-    × IsRunOf (optional_rules answer_rules) calls (record { state = start; limiter = Some list }) replies after
+-- The replies, with what is held, are those of a run of the calls from a machine, under a limiter that has these
+-- answers.
+abbrev pub IsListedReplay : List LimiterAnswer → State → List Call → List Reply → Held → Type 0
+IsListedReplay answers start calls replies held = (held ≡ Nothing) × (after : World (Option AnswersAhead))
+    × IsRunOf (optional_rules answer_list_rules) calls
+    (record { state = start; limiter = Some (new_answers answers) }) replies after
 
 -- The replies are those of a run of the calls from a machine, without a limiter or under the one that a line asks for.
 -- What is held is what a quota then holds, which is all that the machine has.
@@ -58,8 +57,8 @@ IsReplayUnder (Some (Lines.Quota caps)) start calls replies held =
     × IsRunOf (optional_rules quota_rules) calls (record { state = start; limiter = Some quota }) replies
     (record { state = end; limiter = Some after })
     × HoldsTotals (holdings after) end × (held ≡ Holding.Quota (holdings after).held)
-IsReplayUnder (Some (Lines.Answers words)) start calls replies held =
-    IsListedReplay words.items start calls replies held
+IsReplayUnder (Some (Lines.Answers answers)) start calls replies held =
+    IsListedReplay answers.items start calls replies held
 IsReplayUnder (Some (Lines.Tenants line)) start calls replies held = ⊥
 
 -- the replies are those of a run of the calls on a new machine with the meter and the region of these header lines

@@ -1,11 +1,8 @@
 //! What holds of all scripts and of all that run them. These functions do nothing: each states a
 //! law as its contract.
 ghost use Rattle.wasmi_core.specs.Determinism.{IsDeterministic};
-ghost use Rattle.wasmi_script.specs.ListedLimiter.{
-  QuietListsAcceptNotices,
-  QuietListsDecideReplies,
-  answer_rules,
-};
+ghost use Rattle.wasmi_meter.specs.AnswerList.{answer_list_rules};
+ghost use Rattle.wasmi_script.specs.QuietLists.{QuietListsAcceptNotices, QuietListsDecideReplies};
 ghost use Rattle.wasmi_script.specs.Decided.{OutcomesAreOne};
 
 use wasmi_budget::laws::tenants_leave_no_choice;
@@ -13,12 +10,12 @@ pub use wasmi_grammar::laws::{
     first_bad_lines_are_one, texts_write_one_script, written_texts_have_no_bad_line,
 };
 
-/// A limiter that answers from a list of words is deterministic.
+/// A limiter that answers from a list is deterministic.
 pub fn answers_leave_no_choice()
-    ensures { IsDeterministic answer_rules }
+    ensures { IsDeterministic answer_list_rules }
 {}
 
-/// A limiter of words without `complain` accepts each notice, and stays such a limiter.
+/// A limiter whose list has no `Complain` accepts each notice, and stays such a limiter.
 pub fn quiet_lists_accept_notices()
     ensures { QuietListsAcceptNotices }
 {}

@@ -5,7 +5,6 @@ mod error;
 mod front;
 pub mod laws;
 mod lines;
-mod listed_limiter;
 mod printing;
 mod replaying;
 mod running;
@@ -13,7 +12,6 @@ mod wording;
 
 pub use error::ReplayError;
 pub use lines::write_lines;
-pub use listed_limiter::{answer_by, notice_answer_by};
 pub use printing::{ReplyHead, print_lines};
 pub use replaying::{LIMIT, Status, replay};
 pub use wasmi_grammar::ParseError;

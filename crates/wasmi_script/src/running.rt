@@ -6,15 +6,14 @@ ghost use Rattle.wasmi_core.specs.State.{new_state};
 ghost use Rattle.wasmi_budget.specs.Pool.{RunsTenant};
 ghost use Rattle.wasmi_script.specs.ScriptRuns.{IsReplayOf, IsReplayOnOne, IsListedReplay, IsPoolReplay, new_pool};
 
-use crate::listed_limiter::AnswerList;
 use std::alloc::{AllocError, Global};
 use wasmi_budget::Pool;
 use wasmi_core::{
     Call, CustomFuelCosts, Fuel, FuelCostsProvider, Machine, NoLimits, Quota, Reply,
     ResourceLimiterRef, run, run_lending, run_reserving,
 };
-use wasmi_grammar::{AnswerWord, Header, LimiterLine, MeterLine, RegionLine, Script, TenantsLine};
-use wasmi_meter::Amounts;
+use wasmi_grammar::{Header, LimiterLine, MeterLine, RegionLine, Script, TenantsLine};
+use wasmi_meter::{Amounts, AnswerList, LimiterAnswer};
 
 /// The replies of a script's run, and what is held afterwards.
 #[derive(Drop)]
@@ -46,7 +45,7 @@ pub fn run_script(alloc: Global, script: &Script) -> Result<Ran, AllocError>
     match &header.limiter {
         None => run_freely(alloc, header, calls),
         Some(LimiterLine::Quota(caps)) => run_under_quota(alloc, header, calls, *caps),
-        Some(LimiterLine::Answers(words)) => run_answered(alloc, header, calls, words),
+        Some(LimiterLine::Answers(answers)) => run_answered(alloc, header, calls, answers),
         Some(LimiterLine::Tenants(line)) => run_pool(alloc, script, *line),
     }
 }
@@ -123,19 +122,19 @@ fn run_under_quota(
     Ok(Ran { replies, held })
 }
 
-/// Runs the calls on a new machine under a limiter that answers from a list of words.
+/// Runs the calls on a new machine under a limiter that answers from a list.
 fn run_answered(
     alloc: Global,
     header: &Header,
     calls: &[Call],
-    words: &[AnswerWord],
+    answers: &[LimiterAnswer],
 ) -> Result<Ran, AllocError>
     ensures { IfOk result (λ ran.
-        IsListedReplay words.now (start_of header.now) calls.now ran.replies.items ran.held) }
+        IsListedReplay answers.now (start_of header.now) calls.now ran.replies.items ran.held) }
 {
     let mut region = region_of(alloc, header)?;
     let mut machine = machine_of(alloc, header, region.as_mut());
-    let mut limiter = AnswerList::new(words);
+    let mut limiter = AnswerList::new(answers.to_vec(alloc)?);
     let replies = run_lending(&mut machine, calls, &mut limiter)?;
     let held = Held::Nothing;
     Ok(Ran { replies, held })

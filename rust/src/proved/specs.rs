@@ -135,6 +135,10 @@ pub mod ops {
 pub mod meter {
     #[doc = include_str!("specs/meter/Amounts.md")]
     pub mod Amounts {}
+    #[doc = include_str!("specs/meter/AnswerList.md")]
+    pub mod AnswerList {}
+    #[doc = include_str!("specs/meter/AnyLimiter.md")]
+    pub mod AnyLimiter {}
     #[doc = include_str!("specs/meter/Attempt.md")]
     pub mod Attempt {}
     #[doc = include_str!("specs/meter/Capped.md")]
@@ -201,6 +205,8 @@ pub mod machine {
     pub mod Exchange {}
     #[doc = include_str!("specs/machine/FuelEffects.md")]
     pub mod FuelEffects {}
+    #[doc = include_str!("specs/machine/Kinds.md")]
+    pub mod Kinds {}
     #[doc = include_str!("specs/machine/Laws.md")]
     pub mod Laws {}
     #[doc = include_str!("specs/machine/LentMemory.md")]
@@ -275,6 +281,8 @@ pub mod region {
 pub mod operands {
     #[doc = include_str!("specs/operands/Acceptance.md")]
     pub mod Acceptance {}
+    #[doc = include_str!("specs/operands/Answers.md")]
+    pub mod Answers {}
     #[doc = include_str!("specs/operands/Decimal.md")]
     pub mod Decimal {}
     #[doc = include_str!("specs/operands/LaneNames.md")]
@@ -289,8 +297,6 @@ pub mod operands {
 
 /// Definitions of `wasmi_grammar`.
 pub mod grammar {
-    #[doc = include_str!("specs/grammar/Answers.md")]
-    pub mod Answers {}
     #[doc = include_str!("specs/grammar/Commands.md")]
     pub mod Commands {}
     #[doc = include_str!("specs/grammar/Headers.md")]
@@ -317,12 +323,12 @@ pub mod script {
     pub mod Decided {}
     #[doc = include_str!("specs/script/Fronts.md")]
     pub mod Fronts {}
-    #[doc = include_str!("specs/script/ListedLimiter.md")]
-    pub mod ListedLimiter {}
     #[doc = include_str!("specs/script/Outcomes.md")]
     pub mod Outcomes {}
     #[doc = include_str!("specs/script/Printing.md")]
     pub mod Printing {}
+    #[doc = include_str!("specs/script/QuietLists.md")]
+    pub mod QuietLists {}
     #[doc = include_str!("specs/script/Refusals.md")]
     pub mod Refusals {}
     #[doc = include_str!("specs/script/ScriptRuns.md")]

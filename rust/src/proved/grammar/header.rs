@@ -1,12 +1,9 @@
 //! The header lines of a script.
 
-use crate::rattle::Vec;
-mod answers;
-
-use crate::proved::meter::Amounts;
+use crate::proved::meter::{Amounts, LimiterAnswer};
 use crate::proved::operands::operand::{self, list_of};
 use crate::proved::operands::{LineError, number};
-pub use answers::AnswerWord;
+use crate::rattle::Vec;
 
 /// The most tenants that a script may have.
 const MOST_TENANTS: usize = 1024;
@@ -26,7 +23,7 @@ pub enum LimiterLine {
     /// and of all tables together.
     Quota(Amounts),
     /// `answers W ...`, which may have no word: one for each question, in order.
-    Answers(Vec<AnswerWord>),
+    Answers(Vec<LimiterAnswer>),
     /// `tenants N B E`.
     Tenants(TenantsLine),
 }

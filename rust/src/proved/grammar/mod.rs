@@ -7,5 +7,5 @@ pub mod laws;
 mod script;
 
 pub use error::ParseError;
-pub use header::{AnswerWord, Header, LimiterLine, MeterLine, RegionLine, TenantsLine};
+pub use header::{Header, LimiterLine, MeterLine, RegionLine, TenantsLine};
 pub use script::{Parts, Script, parse};

@@ -148,6 +148,21 @@ pub fn replies_permit<L: ResourceLimiter>() {}
 #[inline]
 pub fn quotas_stay_within() {}
 
+/// A run under a limiter whose kind was chosen while the program ran is one by the rules of its
+/// kind, and the kind stays. So are a run of calls with its replies, and a reply to one call.
+///
+/// # Contract
+///
+/// <span></span><pre><code>ensures turns: [RunsKeepKind]
+/// ensures calls: [RunsOfCallsKeepKind]
+/// ensures reply: [RepliesKeepKind]</code></pre>
+///
+/// [RunsKeepKind]: crate::specs::machine::Kinds#RunsKeepKind "a run under such a limiter is one by the rules of its kind"
+/// [RunsOfCallsKeepKind]: crate::specs::machine::Kinds#RunsOfCallsKeepKind "a run of calls with these replies under such a limiter is one by the rules of its kind"
+/// [RepliesKeepKind]: crate::specs::machine::Kinds#RepliesKeepKind "a reply to a call under such a limiter is one by the rules of its kind"
+#[inline]
+pub fn kinds_stay() {}
+
 /// A reserving limiter that holds a machine's totals before a run holds them after it.
 ///
 /// # Contract

@@ -21,9 +21,10 @@ pub use crate::proved::accesses::laws as access_laws;
 pub use crate::proved::lanes::laws as lane_laws;
 pub use crate::proved::lanes::{on_vectors, words};
 pub use crate::proved::meter::{
-    Amounts, CustomFuelCosts, Fuel, FuelCosts, FuelCostsProvider, FuelError, Holdings, Kind,
-    Lender, LimiterByKind, LimiterError, LimiterRef, MemoryError, NoLimits, Quota, Reserving,
-    ResourceLimiter, ResourceLimiterRef, TableError, ValueSize, growth,
+    Amounts, AnswerList, AnyLimiter, CustomFuelCosts, Fuel, FuelCosts, FuelCostsProvider,
+    FuelError, Holdings, Kind, Lender, LimiterAnswer, LimiterByKind, LimiterError, LimiterRef,
+    MemoryError, NoLimits, Quota, Reserving, ResourceLimiter, ResourceLimiterRef, TableError,
+    ValueSize, growth,
 };
 pub use crate::proved::ops::{
     BinaryOp, ExtractOp, LoadLaneOp, LoadOp, MakeOp, ReplaceOp, ScalarBinaryOp, ScalarUnaryOp,

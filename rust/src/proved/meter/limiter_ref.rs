@@ -107,6 +107,18 @@ impl<'a, L> From<&'a mut L> for LimiterRef<&'a mut L> {
     }
 }
 
+/// # Contract
+///
+/// <span></span><pre><code>from_gives = λ limiter r. [loan] r ≡ limiter</code></pre>
+///
+/// [loan]: crate::specs::meter::LimiterRef#loan "what is lent, if anything"
+impl<'a, L> From<Option<&'a mut L>> for LimiterRef<&'a mut L> {
+    #[inline]
+    fn from(limiter: Option<&'a mut L>) -> Self {
+        LimiterRef { limiter }
+    }
+}
+
 impl<R> LimiterRef<R> {
     /// Ends the loan, and returns the reference to the limiter, if there is one. From then on the
     /// state of the limiter is known.

@@ -1,15 +1,20 @@
 //! Fuel metering, resource limits of growth, and the errors of memories and tables.
 mod amounts;
+mod answer_list;
+mod any_limiter;
 mod error;
 mod fuel;
 pub mod growth;
 mod holdings;
 mod limiter;
 mod limiter_ref;
+mod optional_limiter;
 mod quota;
 mod reserving;
 
 pub use amounts::Amounts;
+pub use answer_list::{AnswerList, LimiterAnswer};
+pub use any_limiter::AnyLimiter;
 pub use error::{LimiterError, MemoryError, TableError};
 pub use fuel::{CustomFuelCosts, Fuel, FuelCosts, FuelCostsProvider, FuelError, ValueSize};
 pub use holdings::Holdings;

@@ -1,5 +1,6 @@
 //! What words write as the operands of a command: one word, two to five words, or a list.
 
+use crate::proved::meter::LimiterAnswer;
 use crate::proved::operands::decimal::number;
 use crate::proved::operands::error::LineError;
 use crate::proved::operands::names::op_named;
@@ -140,6 +141,24 @@ impl Operand for Mutability {
         match word {
             "const" => Ok(Mutability::Const),
             "var" => Ok(Mutability::Var),
+            _ => Err(LineError::BadCommand),
+        }
+    }
+}
+
+/// # Contract
+///
+/// <span></span><pre><code>writes = [WritesAnswer]</code></pre>
+///
+/// [WritesAnswer]: crate::specs::operands::Answers#WritesAnswer "the word stands for this answer"
+impl Operand for LimiterAnswer {
+    #[inline]
+    fn from_word(word: &str) -> Result<Self, LineError> {
+        match word {
+            "permit" => Ok(LimiterAnswer::Permit),
+            "deny" => Ok(LimiterAnswer::Deny),
+            "error" => Ok(LimiterAnswer::Error),
+            "complain" => Ok(LimiterAnswer::Complain),
             _ => Err(LineError::BadCommand),
         }
     }

@@ -3,24 +3,24 @@
 
 use crate::proved::budget::laws::tenants_leave_no_choice;
 
-/// A limiter that answers from a list of words is deterministic.
+/// A limiter that answers from a list is deterministic.
 ///
 /// # Contract
 ///
-/// <span></span><pre><code>ensures: [IsDeterministic] [answer_rules]</code></pre>
+/// <span></span><pre><code>ensures: [IsDeterministic] [answer_list_rules]</code></pre>
 ///
 /// [IsDeterministic]: crate::specs::machine::Determinism#IsDeterministic "each question and each notice has one answer, and leaves one state"
-/// [answer_rules]: crate::specs::script::ListedLimiter#answer_rules "the rules of such a limiter: a notice is answered by the word of the last question, and takes none"
+/// [answer_list_rules]: crate::specs::meter::AnswerList#answer_list_rules "the rules of such a limiter, whatever is asked: a notice is answered as the last question\'s answer says, and takes none"
 #[inline]
 pub fn answers_leave_no_choice() {}
 
-/// A limiter of words without `complain` accepts each notice, and stays such a limiter.
+/// A limiter whose list has no `Complain` accepts each notice, and stays such a limiter.
 ///
 /// # Contract
 ///
 /// <span></span><pre><code>ensures: [QuietListsAcceptNotices]</code></pre>
 ///
-/// [QuietListsAcceptNotices]: crate::specs::script::ListedLimiter#QuietListsAcceptNotices "such a limiter accepts each notice, and stays one"
+/// [QuietListsAcceptNotices]: crate::specs::script::QuietLists#QuietListsAcceptNotices "such a limiter accepts each notice, and stays one"
 #[inline]
 pub fn quiet_lists_accept_notices() {}
 
@@ -31,7 +31,7 @@ pub fn quiet_lists_accept_notices() {}
 ///
 /// <span></span><pre><code>ensures: [QuietListsDecideReplies]</code></pre>
 ///
-/// [QuietListsDecideReplies]: crate::specs::script::ListedLimiter#QuietListsDecideReplies "two runs of one list of calls from one machine under such a limiter, in which no reply says out of memory, have the same replies and end in one world"
+/// [QuietListsDecideReplies]: crate::specs::script::QuietLists#QuietListsDecideReplies "two runs of one list of calls from one machine under such a limiter, in which no reply says out of memory, have the same replies and end in one world"
 #[inline]
 pub fn quiet_lists_decide_replies() {}
 

@@ -4,7 +4,6 @@ mod front;
 #[cfg(any(doc, test))]
 pub mod laws;
 mod lines;
-mod listed_limiter;
 mod printing;
 mod replaying;
 mod running;
@@ -13,6 +12,5 @@ mod wording;
 pub use crate::proved::grammar::ParseError;
 pub use error::ReplayError;
 pub use lines::write_lines;
-pub use listed_limiter::{answer_by, notice_answer_by};
 pub use printing::{ReplyHead, print_lines};
 pub use replaying::{LIMIT, Status, replay};

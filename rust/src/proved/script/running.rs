@@ -1,17 +1,14 @@
 //! The run of a script's calls.
 
 use crate::proved::budget::Pool;
-use crate::proved::grammar::{
-    AnswerWord, Header, LimiterLine, MeterLine, RegionLine, Script, TenantsLine,
-};
+use crate::proved::grammar::{Header, LimiterLine, MeterLine, RegionLine, Script, TenantsLine};
 use crate::proved::machine::{
     Call, CustomFuelCosts, Fuel, FuelCostsProvider, Machine, NoLimits, Quota, Reply,
     ResourceLimiterRef, run, run_lending, run_reserving,
 };
-use crate::proved::meter::Amounts;
-use crate::proved::script::listed_limiter::AnswerList;
-use crate::rattle::Vec;
+use crate::proved::meter::{Amounts, AnswerList, LimiterAnswer};
 use crate::rattle::alloc::AllocError;
+use crate::rattle::{SliceExt, Vec};
 
 /// The replies of a script's run, and what is held afterwards.
 pub struct Ran {
@@ -47,7 +44,7 @@ pub fn run_script(script: &Script) -> Result<Ran, AllocError> {
     match &header.limiter {
         None => run_freely(header, calls),
         Some(LimiterLine::Quota(caps)) => run_under_quota(header, calls, *caps),
-        Some(LimiterLine::Answers(words)) => run_answered(header, calls, words),
+        Some(LimiterLine::Answers(answers)) => run_answered(header, calls, answers),
         Some(LimiterLine::Tenants(line)) => run_pool(script, *line),
     }
 }
@@ -154,21 +151,25 @@ fn run_under_quota(header: &Header, calls: &[Call], caps: Amounts) -> Result<Ran
     Ok(Ran { replies, held })
 }
 
-/// Runs the calls on a new machine under a limiter that answers from a list of words.
+/// Runs the calls on a new machine under a limiter that answers from a list.
 ///
 /// # Contract
 ///
 /// <span></span><pre><code>ensures: [IfOk] result (λ ran.
-/// &#32;&#32;&#32;&#32;[IsListedReplay] words.now ([start_of] header.now) calls.now ran.replies.items ran.held)</code></pre>
+/// &#32;&#32;&#32;&#32;[IsListedReplay] answers.now ([start_of] header.now) calls.now ran.replies.items ran.held)</code></pre>
 ///
 /// [IfOk]: crate::specs::library#IfOk "P of the value, if r is a value"
-/// [IsListedReplay]: crate::specs::script::ScriptRuns#IsListedReplay "The replies, with what is held, are those of a run of the calls from a machine, under a limiter that answers by these words."
+/// [IsListedReplay]: crate::specs::script::ScriptRuns#IsListedReplay "The replies, with what is held, are those of a run of the calls from a machine, under a limiter that has these answers."
 /// [start_of]: crate::specs::grammar::Headers#start_of "the machine that a script starts with: new, with its meter and its region"
 #[inline]
-fn run_answered(header: &Header, calls: &[Call], words: &[AnswerWord]) -> Result<Ran, AllocError> {
+fn run_answered(
+    header: &Header,
+    calls: &[Call],
+    answers: &[LimiterAnswer],
+) -> Result<Ran, AllocError> {
     let mut region = region_of(header)?;
     let mut machine = machine_of(header, region.as_mut());
-    let mut limiter = AnswerList::new(words);
+    let mut limiter = AnswerList::new(answers.try_to_vec()?);
     let replies = run_lending(&mut machine, calls, &mut limiter)?;
     let held = Held::Nothing;
     Ok(Ran { replies, held })

@@ -1,10 +1,10 @@
 use Rattle.std.proofs.Common.{◌≡◌, Err, codes, rules, tests, sym, subst}
 use Rattle.std.specs.Global.{Vec}
-use Rattle.wasmi_grammar.specs.declared.header.answers.AnswerWord.{AnswerWord}
+use Rattle.wasmi_meter.specs.declared.answer_list.LimiterAnswer.{LimiterAnswer}
 use Rattle.wasmi_grammar.specs.declared.header.LimiterLine.{LimiterLine}
 use Rattle.wasmi_grammar.specs.declared.header.LimiterLine.TheVariants.{Quota, Answers, Tenants}
 use Rattle.wasmi_operands.specs.Acceptance.{AcceptsWithMemory}
-use Rattle.wasmi_grammar.specs.Answers.{WritesAnswer}
+use Rattle.wasmi_operands.specs.Answers.{WritesAnswer}
 use Rattle.wasmi_grammar.specs.Headers.{NamesLimiterAfter}
 use Rattle.wasmi_operands.specs.LineWords.{LineWords, WritesEach}
 use Rattle.wasmi_operands.proofs.AcceptanceLemmas.{refused_with_memory}
@@ -12,7 +12,7 @@ use Rattle.wasmi_grammar.proofs.header.listed.Goals as goal
 
 -- a line of answers has the words of answers
 answers_of_line : (words : LineWords) (line : LimiterLine) → NamesLimiterAfter (codes "answers") words line
-    → (answers : Vec AnswerWord) × WritesEach WritesAnswer words answers.items
+    → (answers : Vec LimiterAnswer) × WritesEach WritesAnswer words answers.items
 answers_of_line words (Answers answers) names = (answers, names.1)
 answers_of_line words (Quota line) names = absurd (search (rules, tests, names))
 answers_of_line words (Tenants line) names = absurd (search (rules, tests, names))

@@ -1,4 +1,4 @@
-use Rattle.wasmi_script.proofs.ListedLimiterLemmas.{answers_once}
+use Rattle.wasmi_script.proofs.QuietListsLemmas.{answers_once}
 use Rattle.wasmi_script.proofs.laws.answers_leave_no_choice.Goals as goal
 
 pub returns : goal.returns

@@ -1,8 +1,9 @@
-use Rattle.std.proofs.Common.{Some, refl, subst}
+use Rattle.std.proofs.Common.{◌≡◌, Some, refl, rules, subst}
 use Rattle.wasmi_core.specs.World.{world}
 use Rattle.wasmi_core.specs.Runs.{IsRunOf}
+use Rattle.wasmi_grammar.specs.Headers.{start_of}
+use Rattle.wasmi_meter.specs.AnswerList.{answer_list_rules, new_answers}
 use Rattle.wasmi_meter.specs.Limiter.{optional_rules}
-use Rattle.wasmi_script.specs.ListedLimiter.{answer_rules}
 use Rattle.wasmi_script.proofs.RunningLemmas.{starts}
 use Rattle.wasmi_script.proofs.running.run_answered.Goals as goal
 
@@ -10,7 +11,11 @@ pub returns : goal.returns
 returns c =
     let start = starts c.args.header.now c.machine_of-machine.result _ _ c.machine_of-machine.ensures
     c.as_mut.ensures.value c.in_ok-region.ensures in
-    let ran = subst (λ s. IsRunOf (optional_rules answer_rules) c.args.calls.now (world s (Some c.new-limiter.result))
-    c.in_ok-replies.replies.items
+    let new : c.new-limiter.result ≡ new_answers c.args.answers.now = search rules in
+    let ran = subst (λ s. IsRunOf (optional_rules answer_list_rules) c.args.calls.now
+    (world s (Some c.new-limiter.result)) c.in_ok-replies.replies.items
     (world c.run_lending.new.machine (Some c.run_lending.new.limiter))) start c.in_ok-replies.ensures.run in
-    (refl, c.new-limiter.result, c.new-limiter.ensures, _, ran)
+    let listed = subst (λ l. IsRunOf (optional_rules answer_list_rules) c.args.calls.now
+    (world (start_of c.args.header.now) (Some l)) c.in_ok-replies.replies.items
+    (world c.run_lending.new.machine (Some c.run_lending.new.limiter))) new ran in
+    (refl, _, listed)

@@ -8,5 +8,6 @@ returns-in-Quota c = record {
 
 pub returns-in-Answers : goal.returns-in-Answers
 returns-in-Answers c = record {
-  asked = λ maximum. rw c.in-Answers.is (c.growing-in-Answers.new.self, refl, c.growing-in-Answers.ensures.asked maximum);
+  asked = λ maximum. rw c.in-Answers.is
+      (c.growing-in-Answers.new.self, refl, c.growing-in-Answers.ensures.asked maximum);
 }
