@@ -24,9 +24,9 @@ extern "C" {
 
 /* The version of this header, wasmi_machine.h and wasmi_memory.h: MAJOR counts what breaks a program, and MINOR what is
    new, such as a call or a status. 1.0.0 had this header without a version, and 1.1.0 came with the other two. */
-#define WASMI_CORE_VERSION "1.1.0"
+#define WASMI_CORE_VERSION "1.2.0"
 #define WASMI_CORE_VERSION_MAJOR 1
-#define WASMI_CORE_VERSION_MINOR 1
+#define WASMI_CORE_VERSION_MINOR 2
 #define WASMI_CORE_VERSION_PATCH 0
 
 /* A value: an item of up to 64 bits in lo, or bits 0 to 63 and bits 64 to 127 of a vector. An instruction on 32 bits
